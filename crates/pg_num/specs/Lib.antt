@@ -1,0 +1,4 @@
+pub mod Decimal
+pub mod Numbers
+pub mod Places
+pub mod Pointers
