@@ -1,0 +1,2 @@
+pub mod Tokenize
+pub mod Escapes

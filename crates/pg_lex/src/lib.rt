@@ -1,0 +1,15 @@
+//! The tokens of a program text, with the places of each.
+#![tactic(auto)]
+
+mod lexer;
+mod names;
+mod places;
+mod token;
+
+pub use lexer::lex;
+pub use names::token_bytes;
+pub use places::position;
+pub use token::{LexFault, Span, Token, TokenKind};
+
+#[cfg(test)]
+mod tests;
