@@ -1,0 +1,24 @@
+//! The syntax of a program text as a tree, and its canonical text.
+#![tactic(auto)]
+
+mod names;
+mod nodes;
+mod ops;
+mod print;
+mod types;
+mod values;
+
+pub use names::{Bytes, Literal, Name};
+pub use nodes::{
+    BlockNode, DeclareItem, DefineItem, DparamNode, GlobalItem, LineNode, Module, ParamNode,
+    TypeItem,
+};
+pub use ops::{
+    ArgNode, BinaryOp, CallTypes, CaseNode, CastOp, CountNode, IncomingNode, OpNode, Predicate,
+};
+pub use print::print_module;
+pub use types::TypeNode;
+pub use values::{ConstNode, TypedConst, TypedVal, ValNode};
+
+#[cfg(test)]
+mod tests;
