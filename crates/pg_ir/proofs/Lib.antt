@@ -1,0 +1,16 @@
+pub mod Blocks
+pub mod Decide
+pub mod EdgesDecide
+pub mod Globals
+pub mod GlobalsDecide
+pub mod Leading
+pub mod Operand
+pub mod PlaceDecide
+pub mod Places
+pub mod Prefix
+pub mod ProgramDecide
+pub mod SmallAgain
+pub mod SmallFits
+pub mod SmallFound
+pub mod SmallNumbered
+pub mod TypesDecide

@@ -1,0 +1,14 @@
+pub mod Edges
+pub mod Lists
+pub mod Operands
+pub mod PlaceTests
+pub mod Program
+pub mod Signatures
+pub mod SmallProgram
+pub mod SmallReading
+pub mod SmallSyntax
+pub mod SmallTokens
+pub mod SmallViews
+pub mod TrapNames
+pub mod TypeTests
+pub mod WellFormed
