@@ -1,0 +1,5 @@
+pub mod Deltas
+pub mod InitialBytes
+pub mod ReadsAndWrites
+pub mod Parts
+pub mod Places

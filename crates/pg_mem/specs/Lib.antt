@@ -1,0 +1,4 @@
+pub mod Bytes
+pub mod Initial
+pub mod Memory
+pub mod Words
