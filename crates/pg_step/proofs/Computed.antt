@@ -1,0 +1,19 @@
+-- A pointer moved along indices by the numbers of an operation's operands.
+use Rattle.std.proofs.Common.{◌≡◌, ℕ, ◌+◌, List, [], ◌∷◌, Option, suc, map, refl, ap, ◌∙◌, sym, arith, add-one}
+use Rattle.pg_num.specs.Pointers.{moved_by}
+use Rattle.pg_ir.specs.declared.value.Index.{Index}
+use Rattle.pg_ir.specs.declared.value.Value.{Value}
+use Rattle.pg_ir.specs.Program.{NumberedProgram}
+use Rattle.pg_step.specs.Operands.{operand, given, number_at}
+use Rattle.pg_step.specs.Compute.{moved_along, index_bytes}
+use Rattle.pg_step.specs.Needs.{moved_each}
+
+along_each : (p : NumberedProgram) (rs : List (Option ℕ)) (word : ℕ) (is : List Index) (n : ℕ → ℕ) (k : ℕ) → ((j : ℕ) → n (k + j) ≡ number_at p rs (map (λ (i : Index). i.value) is) j) → moved_along word is n k ≡ moved_each p rs word is
+along_each p rs word [] n k h = refl
+along_each p rs word (i ∷ is) n k h =
+    let here : n k ≡ given (operand p rs i.value) = let z : k + 0 ≡ k = omega arith in ap n (sym z) ∙ h 0 in
+    along_each p rs (moved_by word (index_bytes i i.scale (n k))) is n (k + 1) (λ j. let z : k + 1 + j ≡ k + (j + 1) = omega arith in ap n z ∙ h (j + 1) ∙ rw (add-one) refl)
+    ∙ ap (λ (m : ℕ). moved_each p rs (moved_by word (index_bytes i i.scale m)) is) here
+
+pub along_operands : (p : NumberedProgram) (rs : List (Option ℕ)) (word : ℕ) (base : Value) (is : List Index) → moved_along word is (number_at p rs (base ∷ map (λ (i : Index). i.value) is)) 1 ≡ moved_each p rs word is
+along_operands p rs word base is = along_each p rs word is (number_at p rs (base ∷ map (λ (i : Index). i.value) is)) 1 (λ j. let z : 1 + j ≡ suc j = omega arith in rw z refl)

@@ -1,0 +1,15 @@
+pub mod Computed
+pub mod Named
+pub mod Goes
+pub mod Stacks
+pub mod Leaves
+pub mod Straight
+pub mod Nexts
+pub mod Afters
+pub mod Typed
+pub mod Presents
+pub mod Rooms
+pub mod Ranges
+pub mod Results
+pub mod Frames
+pub mod Still

@@ -1,0 +1,23 @@
+use Rattle.std.proofs.Common.{◌≡◌, ◌∙◌, ap, sym, rules}
+use Rattle.pg_step.specs.LocalState.{region_of}
+use Rattle.pg_step.specs.Step.{result_number, top_registers}
+use Rattle.pg_step.specs.Told.{or_zero}
+use Rattle.pg_step.specs.Needs.{IsStraight}
+use Rattle.pg_step.proofs.Goes.{case_enters}
+use Rattle.pg_step.proofs.Straight.{goes_straight, straight_state}
+use Rattle.pg_step.proofs.fiber.Fiber.act.Goals as goal
+
+pub go-requires-in-Switch-clause-enters : goal.go-requires-in-Switch-clause-enters
+go-requires-in-Switch-clause-enters c =
+    let h = rw c.in-Switch.is at c.requires.present.edges in
+    rw (c.case_of.ensures, c.as_slice.ensures.items) (case_enters c.args.p.now _ c.in-Switch.cases c.in-Switch.other.0 _ h)
+
+pub returns-in_default : goal.returns-in_default
+returns-in_default c =
+    let l = c.args.self.now in
+    let straight : IsStraight c.args.instr.now.op = search rules in
+    let n : c.plain_number-n.result ≡ result_number c.args.p.now (region_of l) (top_registers l.frames) c.args.instr.now.op c.args.reply = rw c.top-in_default.ensures at (c.plain_number-n.ensures (region_of l)) in
+    record {
+      state = c.put_number.ensures.state ∙ straight_state c.args.p.now l c.args.instr.now c.args.reply c.plain_number-n.result c.args.instr.now.op straight n;
+      number = c.put_number.ensures.number ∙ ap (or_zero c.args.instr.now.result) (n ∙ sym ((goes_straight c.args.p.now l c.args.instr.now c.args.reply c.args.instr.now.op straight).own));
+    }

@@ -1,0 +1,9 @@
+pub mod Compute
+pub mod EdgeStep
+pub mod LocalState
+pub mod Needs
+pub mod Operands
+pub mod Stack
+pub mod Step
+pub mod Told
+pub mod States
