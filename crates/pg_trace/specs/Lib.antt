@@ -1,0 +1,3 @@
+pub mod KindNames
+pub mod Kinds
+pub mod Recording
