@@ -1,0 +1,9 @@
+pub mod ClassTests
+pub mod Rules
+pub mod Whole
+pub mod Loops
+pub mod Rests
+pub mod Rows
+pub mod StateLoops
+pub mod Linear
+pub mod Attributed
