@@ -1,0 +1,11 @@
+pub mod Actions
+pub mod Asks
+pub mod Effects
+pub mod FitActions
+pub mod Goes
+pub mod Keeps
+pub mod PhaseActions
+pub mod Rotations
+pub mod Runs
+pub mod Steps
+pub mod Threads

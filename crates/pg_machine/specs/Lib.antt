@@ -1,0 +1,11 @@
+pub mod Bound
+pub mod Fits
+pub mod Guided
+pub mod Machine
+pub mod MachineStep
+pub mod Phases
+pub mod Rotation
+pub mod Run
+pub mod State
+pub mod Taken
+pub mod Texts

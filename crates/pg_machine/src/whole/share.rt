@@ -1,0 +1,8 @@
+use pg_ir::ThreadNo;
+
+/// Whose steps are taken in a rotation run, and how many more it has before the next thread's.
+#[derive(Clone, Copy, Debug, PartialEq, Eq)]
+pub struct Share {
+    pub thread: ThreadNo,
+    pub left: u32,
+}
