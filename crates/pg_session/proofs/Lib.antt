@@ -1,0 +1,4 @@
+pub mod Known
+pub mod Mapped
+pub mod OnceWords
+pub mod ReplyKinds

@@ -1,0 +1,5 @@
+pub mod Replies
+pub mod Statuses
+pub mod Streams
+pub mod Texts
+pub mod Words

@@ -1,0 +1,82 @@
+-- What a command writes: the text of `once`, and the line of a program that is refused.
+use Rattle.std.specs.Prelude.{◌≡◌, ℕ, ◌<◌, ◌≤◌, ◌⊎◌, List, ◌++◌, length, codes, ℤ, Option}
+use Rattle.std.specs.Fmt.{decimal, signed_decimal}
+use Rattle.std.specs.Io.KnownBytes.{Appends}
+use Rattle.pg_num.specs.declared.limits.TheConstants.{PROGRAM_TEXT_LIMIT}
+use Rattle.pg_ir.specs.Program.{NumberedProgram}
+use Rattle.pg_ir.specs.SmallProgram.{Accepts}
+use Rattle.pg_ir.specs.TrapNames.{trap_text}
+use Rattle.pg_machine.specs.Run.{State, run_of}
+use Rattle.pg_machine.specs.declared.outcome.Outcome.{Outcome}
+use Rattle.pg_machine.specs.declared.outcome.Outcome.TheVariants.{Exit, Trap, Budget}
+use Rattle.pg_session.specs.Words.{IsOnce}
+use Rattle.pg_session.specs.Streams.{AppendsFront}
+
+-- ---- the text of a run
+
+-- how a run of this many events ended
+abbrev pub end_line : ℕ → Outcome → List ℕ
+end_line events (Exit value) = codes "exit " ++ (signed_decimal value ++ (codes " after " ++ (decimal events ++ codes " turns\n")))
+end_line events (Trap name id) = codes "trap " ++ (trap_text name ++ (codes " at " ++ (decimal id.0 ++ codes "\n")))
+end_line events Budget = codes "budget\n"
+
+-- the run's output, and then its end
+abbrev pub run_text : State × Outcome → List ℕ
+run_text r = r.0.printed ++ end_line r.0.events r.1
+
+-- the text of `once` for a program and an input
+unfoldable pub once_text : NumberedProgram → List ℤ → List ℕ
+once_text p input = run_text (run_of p input)
+
+-- ---- which texts are run
+
+-- a program text that is run: it is no longer than the limit, and a program is accepted
+pub record IsAccepted (text : List ℕ) (p : NumberedProgram) : Type 0 where
+  pub within : length text ≤ PROGRAM_TEXT_LIMIT
+  pub program : Accepts text p
+
+-- no program is accepted
+abbrev pub HasNoProgram : List ℕ → Type 0
+HasNoProgram text = (p : NumberedProgram) → Accepts text p → ⊥
+
+abbrev pub IsRefused : List ℕ → Type 0
+IsRefused text = (PROGRAM_TEXT_LIMIT < length text) ⊎ HasNoProgram text
+
+-- ---- what is written
+
+-- the text of `once` for a program text and an input
+pub record IsOnceText (text : List ℕ) (input : List ℤ) (written : List ℕ) : Type 0 where
+  pub program : NumberedProgram
+  pub accepted : IsAccepted text program
+  pub whole : written ≡ once_text program input
+
+-- a refusal by name, at the text's first place
+abbrev pub refusal_line : List ℕ → List ℕ
+refusal_line name = codes "program refused 1:1 " ++ (name ++ codes "\n")
+
+-- the line for a program text that is refused; its length is asked first
+abbrev pub IsRefusalLine : List ℕ → List ℕ → Type 0
+IsRefusalLine text written =
+    ((PROGRAM_TEXT_LIMIT < length text) × (written ≡ refusal_line (codes "TooLong")))
+    ⊎ ((length text ≤ PROGRAM_TEXT_LIMIT) × HasNoProgram text × (written ≡ refusal_line (codes "NotYet")))
+
+-- the text of these words for a program text was put behind what the sink told
+pub record WritesOnce (words : List (List ℕ)) (old new : Option (List ℕ)) (text : List ℕ) : Type 0 where
+  pub input : List ℤ
+  pub command : IsOnce words input
+  pub written : List ℕ
+  pub once : IsOnceText text input written
+  pub appended : Appends old new written
+
+pub record WritesRefusal (old new : Option (List ℕ)) (text : List ℕ) : Type 0 where
+  pub written : List ℕ
+  pub refusal : IsRefusalLine text written
+  pub appended : Appends old new written
+
+-- a front of what is to be written was put behind what the sink told
+pub record WritesFront (words : List (List ℕ)) (old new : Option (List ℕ)) (text : List ℕ) : Type 0 where
+  pub input : List ℤ
+  pub command : IsOnce words input
+  pub written : List ℕ
+  pub reply : IsOnceText text input written ⊎ IsRefusalLine text written
+  pub appended : AppendsFront old new written

@@ -1,0 +1,69 @@
+//! The call that does all that the program does.
+ghost use Rattle.std.specs.Prelude.{◌≡◌, ◌≤◌, ◌+◌, ◌⊎◌, ℤ, List, map, string_bytes, IfSome};
+ghost use Rattle.pg_io.specs.Faults.{Rose};
+ghost use Rattle.pg_num.specs.declared.limits.TheConstants.{PROGRAM_TEXT_LIMIT};
+ghost use Rattle.pg_ir.specs.Program.{NumberedProgram};
+ghost use Rattle.pg_session.specs.Streams.{TakesAtMost};
+ghost use Rattle.pg_session.specs.Words.{IsOnce, NoCommand};
+ghost use Rattle.pg_session.specs.Texts.{IsAccepted, IsRefused, WritesOnce, WritesRefusal, WritesFront};
+
+use crate::replies::{NoReply, read_reply};
+use crate::status::Status;
+use crate::streams::write_all;
+use crate::words::command;
+use pg_io::{Sink, Source};
+use std::alloc::Global;
+
+/// Runs the command that the words are, without the program's own name, on the program text that is
+/// all that the source has, and writes its whole text to the sink.
+///
+/// `once` and up to 512 numbers writes what the program prints on this input, and then how its run
+/// ended. The words are read first, then the program text, of which at most the limit and one more
+/// byte are taken.
+pub fn peregrine<S: Source, K: Sink>(
+    alloc: Global,
+    words: &[String],
+    src: &mut S,
+    out: &mut K,
+) -> Status
+    ensures usage { result ≡ Status.Usage → NoCommand (map string_bytes words.now) }
+    ensures no_command { NoCommand (map string_bytes words.now) →
+        (result ≡ Status.Usage) ⊎ (result ≡ Status.OutOfMemory) }
+    ensures usage_calls_nothing { result ≡ Status.Usage → (src.new ≡ src.old) × (out.new ≡ out.old) }
+    ensures done { result ≡ Status.Done →
+        IfSome (S.rest src.old) (WritesOnce (map string_bytes words.now) (K.taken out.old) (K.taken out.new)) }
+    ensures refused { result ≡ Status.ProgramRefused →
+        IfSome (S.rest src.old) (WritesRefusal (K.taken out.old) (K.taken out.new)) }
+    ensures read_fault { result ≡ Status.ReadFault → Rose (S.faults src.old) (S.faults src.new) }
+    ensures read_fault_within { result ≡ Status.ReadFault →
+        TakesAtMost (S.rest src.old) (S.rest src.new) PROGRAM_TEXT_LIMIT }
+    ensures read_fault_writes_nothing { result ≡ Status.ReadFault → out.new ≡ out.old }
+    ensures write_fault { result ≡ Status.WriteFault → Rose (K.faults out.old) (K.faults out.new) }
+    ensures write_fault_cuts { result ≡ Status.WriteFault →
+        IfSome (S.rest src.old) (WritesFront (map string_bytes words.now) (K.taken out.old) (K.taken out.new)) }
+    ensures out_of_memory_writes_nothing { result ≡ Status.OutOfMemory → out.new ≡ out.old }
+    ensures complete { (input : List ℤ) → IsOnce (map string_bytes words.now) input →
+        (Rose (S.faults src.old) (S.faults src.new) → ⊥) → (Rose (K.faults out.old) (K.faults out.new) → ⊥) →
+        IfSome (S.rest src.old) (λ text. (p : NumberedProgram) → IsAccepted text p →
+        (result ≡ Status.Done) ⊎ (result ≡ Status.OutOfMemory)) }
+    ensures refuses { (input : List ℤ) → IsOnce (map string_bytes words.now) input →
+        (Rose (S.faults src.old) (S.faults src.new) → ⊥) → (Rose (K.faults out.old) (K.faults out.new) → ⊥) →
+        IfSome (S.rest src.old) (λ text. IsRefused text →
+        (result ≡ Status.ProgramRefused) ⊎ (result ≡ Status.OutOfMemory)) }
+    ensures takes { TakesAtMost (S.rest src.old) (S.rest src.new) (PROGRAM_TEXT_LIMIT + 1) }
+{
+    let once = match command(alloc, words) {
+        Ok(Some(once)) => once,
+        Ok(None) => return Status::Usage,
+        Err(_) => return Status::OutOfMemory,
+    };
+    let reply = match read_reply(alloc, &once.numbers, src) {
+        Ok(reply) => reply,
+        Err(NoReply::ReadFault) => return Status::ReadFault,
+        Err(NoReply::OutOfMemory) => return Status::OutOfMemory,
+    };
+    match write_all(out, &reply.text) {
+        Ok(()) => reply.status,
+        Err(_) => Status::WriteFault,
+    }
+}

@@ -1,0 +1,35 @@
+ghost use Rattle.std.specs.Prelude.{◌≡◌};
+ghost use Rattle.pg_session.specs.Statuses.{status_code};
+
+/// How the program ended.
+#[derive(Clone, Copy, Debug, PartialEq, Eq)]
+pub enum Status {
+    /// The whole text was written.
+    Done,
+    /// The words are no command.
+    Usage,
+    /// The program text is too long, or no program. A line that says so was written.
+    ProgramRefused,
+    /// The source failed.
+    ReadFault,
+    /// The sink failed.
+    WriteFault,
+    /// There was no memory.
+    OutOfMemory,
+}
+
+impl Status {
+    /// The exit status of the process.
+    pub fn code(self) -> u8
+        ensures code { result ≡ status_code self }
+    {
+        match self {
+            Status::Done => 0,
+            Status::Usage => 2,
+            Status::ProgramRefused => 3,
+            Status::ReadFault => 5,
+            Status::WriteFault => 6,
+            Status::OutOfMemory => 8,
+        }
+    }
+}
