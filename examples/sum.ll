@@ -1,0 +1,11 @@
+; Prints the sum of the first two numbers of the input.
+declare i64 @pg_in(i64)
+declare void @pg_out(i64)
+
+define i32 @main() {
+  %a = call i64 @pg_in(i64 0)
+  %b = call i64 @pg_in(i64 1)
+  %c = add i64 %a, %b
+  call void @pg_out(i64 %c)
+  ret i32 0
+}
