@@ -1,4 +1,5 @@
-/* Makes the rows of vectors.txt: 300 for each operation, an operation, a width, two operands and the result.
+/* Makes the rows of vectors.txt: 300 for each operation, an operation, a width, two operands and the result;
+   and at the end 30 rows that are wrong on purpose, one for each answer that an operation may get wrong.
    gcc -O1 -o vectors vectors.c && ./vectors > vectors.txt
    The results are those of C's own 64-bit arithmetic on operands that are cut or sign-extended first. */
 #include <inttypes.h>
@@ -107,5 +108,18 @@ int main(void) {
         else if (offset % bytes) printf("aligned\n");
         else printf("%" PRIu64 "\n", at);
     }
+    for (size_t o = 0; o < sizeof binary / sizeof *binary; o++) {
+        uint64_t r = 0;
+        result(binary[o], 8, 200, 3, &r);
+        printf("%s 8 200 3 %" PRIu64 "\n", binary[o], r ^ 1);
+    }
+    /* a cause that isn't there, or isn't the first; bits that are cut or extended; places one off */
+    puts("udiv 8 200 0 overflow");
+    puts("sdiv 8 128 255 zero");
+    puts("trunc 8 511 0 511");
+    puts("sext 8 255 16 255");
+    puts("move 64 1 1 3");
+    puts("place 64 0 1 0");
+    puts("place 64 33554433 2 range");
     return 0;
 }

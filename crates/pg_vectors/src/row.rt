@@ -1,6 +1,6 @@
 use pg_num::{
     Bits, Compare, DivideFault, Division, PlaceFault, Shift, Width, add, bits, compare,
-    digits_in_u64, divide, move_by, mul, place, sext, shift, sub, trunc,
+    digits_in_u64, divide, move_by, mul, place, sext, shift, sub, to_signed, trunc,
 };
 
 /// What a row says of an operation: its number, or the word for why there is none.
@@ -53,7 +53,7 @@ fn result_of(op: &str, w: Width, a: u64, b: u64) -> Option<Answer> {
     match op {
         "trunc" => return Some(Answer::Number(trunc(w, a))),
         "sext" => return extended(w, a, b),
-        "move" => return Some(Answer::Number(move_by(a, signed(b)))),
+        "move" => return Some(Answer::Number(move_by(a, to_signed(Width::W64, b)))),
         "place" => return placed(a, b),
         _ => {}
     }
@@ -133,9 +133,4 @@ fn placed(word: u64, bytes: u64) -> Option<Answer> {
         Err(PlaceFault::OutOfRange) => Answer::Nothing("range"),
         Err(PlaceFault::Misaligned) => Answer::Nothing("aligned"),
     })
-}
-
-/// The signed reading of a number of 64 bits.
-fn signed(n: u64) -> i64 {
-    i64::from_le_bytes(n.to_le_bytes())
 }
