@@ -14,9 +14,6 @@ use Rattle.pg_ast.specs.Digits.{IsPlain, padded}
 use Rattle.pg_lex.specs.Bytes.{is_name_byte}
 use Rattle.pg_ast.specs.Text.{name_text, is_bare, quoted}
 
-text_digit : ℕ → ℕ
-text_digit d = 48 + d
-
 -- one more digit at the end
 pub text_step : (n d : ℕ) → d < 10 → 0 < n * 10 + d → digits_text (n * 10 + d) ≡ digits_text n ++ (48 + d) ∷ []
 unfolding digits_text

@@ -10,10 +10,6 @@ flat_map-more f (y ∷ ys) (suc i) x h e =
     let s : suc i + 1 ≡ suc (i + 1) = omega arith in
     ap (λ n. flat_map f (take n (y ∷ ys))) s ∙ ap (λ t. f y ++ t) (flat_map-more f ys i x (omega (arith, h)) e) ∙ sym (append_assoc (f y) (flat_map f (take i ys)) (f x))
 
--- one more piece behind what is written
-pub written_more : {X Y : Type 0} (f : X → List Y) (xs : List X) (i : ℕ) (x : X) (old new now : List Y) → i < length xs → x ≡ get_or xs i x → now ≡ old ++ flat_map f (take i xs) → new ≡ now ++ f x → new ≡ old ++ flat_map f (take (i + 1) xs)
-written_more f xs i x old new now h e w n = n ∙ ap (λ t. t ++ f x) w ∙ append_assoc old (flat_map f (take i xs)) (f x) ∙ ap (λ t. old ++ t) (sym (flat_map-more f xs i x h e))
-
 -- what stands behind the first
 abbrev pub behind_first : {X : Type 0} → List X → List X
 behind_first xs = take (length xs - 1) (drop 1 xs)

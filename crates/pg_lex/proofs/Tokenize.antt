@@ -13,7 +13,8 @@ use Rattle.pg_lex.specs.declared.token.LexFault.TheVariants.{BadByte, OpenString
 use Rattle.pg_lex.specs.declared.token.Piece.{Piece}
 use Rattle.pg_lex.specs.declared.token.Piece.TheVariants.{Gap, Whole, Bad, Open}
 use Rattle.pg_lex.specs.Bytes.{is_blank, is_run_byte, is_quote, is_colon, begins, is_line_feed}
-use Rattle.pg_lex.specs.Tokens.{IsWithin, piece_of, marked_piece, run_piece, is_name, is_int, is_dots, is_c, begins_word, string_piece, named_piece, mark_piece, mark_of, with_string, run, string_length, string_end, tokens_from, placed, ahead, IsAscending}
+use Rattle.pg_num.specs.Decimal.{is_decimal}
+use Rattle.pg_lex.specs.Tokens.{IsWithin, piece_of, marked_piece, run_piece, is_name, is_dots, is_c, begins_word, string_piece, named_piece, mark_piece, mark_of, with_string, run, string_length, string_end, tokens_from, placed, ahead, IsAscending}
 
 gap_in : (n size : ℕ) → 1 ≤ n → n ≤ size → IsWithin (Gap n) size
 unfolding IsWithin
@@ -65,7 +66,7 @@ within_run : (r after : List ℕ) → 1 ≤ length r → IsWithin (run_piece r a
 unfolding run_piece
 within_run r after h =
     pick (is_name r && begins is_colon after) _ _ _ (λ e. whole_in Label (length r + 1) (length r + length after) (omega arith) (omega (arith, some_first is_colon after (first_of (is_name r) (begins is_colon after) e))))
-    (λ _. pick (is_int r) _ _ _ (λ _. all Int)
+    (λ _. pick (is_decimal r) _ _ _ (λ _. all Int)
     (λ _. pick (is_dots r) _ _ _ (λ _. all Dots)
     (λ _. pick (is_c r && begins is_quote after) _ _ _ (λ _. within_with CStr 1 after (length r + length after) (omega (arith, h)) (string_length after) refl)
     (λ _. pick (begins begins_word r) _ _ _ (λ _. all Word) (λ _. all Odd)))))

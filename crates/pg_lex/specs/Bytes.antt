@@ -1,5 +1,6 @@
 -- The bytes of which tokens are made.
 use Rattle.std.specs.Prelude.{ℕ, Bool, false, ◌||◌, ◌&&◌, ◌==◌, nat_le, List, [], ◌∷◌}
+use Rattle.pg_num.specs.Decimal.{is_digit}
 
 -- blank, tab, carriage return, line feed
 abbrev pub is_blank : ℕ → Bool
@@ -19,9 +20,6 @@ is_colon b = b == 58
 -- +
 abbrev pub is_plus : ℕ → Bool
 is_plus b = b == 43
-
-abbrev pub is_digit : ℕ → Bool
-is_digit b = nat_le 48 b && nat_le b 57
 
 abbrev pub is_letter : ℕ → Bool
 is_letter b = (nat_le 65 b && nat_le b 90) || (nat_le 97 b && nat_le b 122)

@@ -1,8 +1,9 @@
 -- The bytes that a token stands for: a name without its mark, a string without its quotes and with its escapes read.
-use Rattle.std.specs.Prelude.{ℕ, zero, suc, ◌+◌, ◌-◌, ◌*◌, Bool, true, false, ◌&&◌, ◌||◌, ◌==◌, nat_le, List, [], ◌∷◌, length, take, drop, if◌then◌else◌}
+use Rattle.std.specs.Prelude.{ℕ, zero, suc, ◌+◌, ◌-◌, ◌*◌, Bool, ◌&&◌, ◌||◌, ◌==◌, nat_le, List, [], ◌∷◌, length, take, drop, if◌then◌else◌}
 use Rattle.pg_lex.specs.declared.token.TokenKind.{TokenKind}
 use Rattle.pg_lex.specs.declared.token.TokenKind.TheVariants.{Label, CStr, Str, Local, Global}
-use Rattle.pg_lex.specs.Bytes.{is_digit, is_quote, begins}
+use Rattle.pg_num.specs.Decimal.{is_digit}
+use Rattle.pg_lex.specs.Bytes.{is_quote, begins}
 
 abbrev pub is_hexadecimal : ℕ → Bool
 is_hexadecimal b = is_digit b || (nat_le 65 b && nat_le b 70) || (nat_le 97 b && nat_le b 102)

@@ -1,6 +1,7 @@
 -- The tokens of a text: at each place the longest one of the forms below, and no token in blank space and comments.
 use Rattle.std.specs.Prelude.{ℕ, zero, suc, ◌+◌, ◌-◌, Bool, false, ◌&&◌, ◌||◌, ◌==◌, not, List, [], ◌∷◌, length, drop, Option, Some, None, if◌then◌else◌, take_while, position, Result, Ok, Err, ◌≤◌, ◌<◌}
 use Rattle.std.specs.List.{list_all, list_any}
+use Rattle.pg_num.specs.Decimal.{is_decimal}
 use Rattle.pg_lex.specs.declared.token.TokenKind.{TokenKind}
 use Rattle.pg_lex.specs.declared.token.TokenKind.TheVariants.{Label, Int, Dots, CStr, Word, Odd, Str, Local, Global, Meta, Attr, OpenRound, CloseRound, OpenBrace, CloseBrace, OpenSquare, CloseSquare, Less, Greater, Comma, Equals, Star, Bar, Colon}
 use Rattle.pg_lex.specs.declared.token.Token.{Token}
@@ -8,7 +9,7 @@ use Rattle.pg_lex.specs.declared.token.LexFault.{LexFault}
 use Rattle.pg_lex.specs.declared.token.LexFault.TheVariants.{BadByte, OpenString}
 use Rattle.pg_lex.specs.declared.token.Piece.{Piece}
 use Rattle.pg_lex.specs.declared.token.Piece.TheVariants.{Gap, Whole, Bad, Open}
-use Rattle.pg_lex.specs.Bytes.{is_blank, is_line_feed, is_quote, is_colon, is_plus, is_digit, is_letter, is_run_byte, begins}
+use Rattle.pg_lex.specs.Bytes.{is_blank, is_line_feed, is_quote, is_colon, is_plus, is_letter, is_run_byte, begins}
 
 -- the longest run that the bytes begin with
 abbrev pub run : List ℕ → List ℕ
@@ -27,15 +28,6 @@ string_length (b ∷ bs) = string_end (position is_quote bs)
 abbrev pub is_name : List ℕ → Bool
 is_name [] = false
 is_name (b ∷ bs) = not (list_any is_plus (b ∷ bs))
-
-abbrev pub is_digits : List ℕ → Bool
-is_digits [] = false
-is_digits (b ∷ bs) = list_all is_digit (b ∷ bs)
-
--- digits, with a minus in front or not
-abbrev pub is_int : List ℕ → Bool
-is_int [] = false
-is_int (b ∷ bs) = if b == 45 then is_digits bs else is_digits (b ∷ bs)
 
 -- ...
 abbrev pub is_dots : List ℕ → Bool
@@ -57,7 +49,7 @@ with_string kind before (Some n) = Whole kind (before + n)
 unfoldable pub run_piece : List ℕ → List ℕ → Piece
 run_piece r after =
     if is_name r && begins is_colon after then Whole Label (length r + 1)
-    else if is_int r then Whole Int (length r)
+    else if is_decimal r then Whole Int (length r)
     else if is_dots r then Whole Dots (length r)
     else if is_c r && begins is_quote after then with_string CStr 1 (string_length after)
     else if begins begins_word r then Whole Word (length r)

@@ -1,7 +1,8 @@
 ghost use Rattle.std.specs.Prelude.{◌≡◌, ◌≤◌, ◌<◌, ◌+◌, ◌-◌, ◌≢◌, length, drop, IfOk, IfErr, IfSome, Ok, Err, not, take_while, position};
 ghost use Rattle.std.specs.List.{list_all, list_any};
-ghost use Rattle.pg_lex.specs.Bytes.{is_blank, is_line_feed, is_quote, is_colon, is_plus, is_digit, is_letter, is_run_byte, begins};
-ghost use Rattle.pg_lex.specs.Tokens.{run, string_length, is_name, is_digits, is_int, is_dots, is_c, begins_word, with_string, run_piece, string_piece, named_piece, mark_of, marked_piece, piece_of, IsWithin, tokens, IsAscending};
+ghost use Rattle.pg_lex.specs.Bytes.{is_blank, is_line_feed, is_quote, is_colon, is_plus, is_letter, is_run_byte, begins};
+ghost use Rattle.pg_lex.specs.Tokens.{run, string_length, is_name, is_dots, is_c, begins_word, with_string, run_piece, string_piece, named_piece, mark_of, marked_piece, piece_of, IsWithin, tokens, IsAscending};
+ghost use Rattle.pg_num.specs.Decimal.{are_digits, is_decimal, is_digit};
 ghost use Rattle.pg_num.specs.declared.limits.TheConstants.{PROGRAM_TEXT_LIMIT};
 
 use crate::token::{LexFault, Piece, Span, Token, TokenKind};
@@ -241,7 +242,7 @@ fn has_plus(run: &[u8]) -> bool
 }
 
 fn is_integer(run: &[u8]) -> bool
-    ensures { result ≡ is_int run.now }
+    ensures { result ≡ is_decimal run.now }
 {
     match run {
         [] => false,
@@ -256,18 +257,15 @@ fn is_integer(run: &[u8]) -> bool
 }
 
 fn are_digits(run: &[u8]) -> bool
-    ensures { result ≡ is_digits run.now }
+    ensures { result ≡ are_digits run.now }
 {
-    match run {
-        [] => false,
-        [_, ..] => all_decimal(run),
-    }
+    !run.is_empty() && all_decimal(run)
 }
 
 fn all_decimal(run: &[u8]) -> bool
     ensures { result ≡ list_all is_digit run.now }
 {
-    run.iter().all(|b| is_decimal(*b))
+    run.iter().all(|b| is_decimal_digit(*b))
 }
 
 fn are_dots(run: &[u8]) -> bool
@@ -308,7 +306,7 @@ fn is_blank_byte(byte: u8) -> bool
     byte == b' ' || byte == b'\t' || byte == b'\r' || byte == b'\n'
 }
 
-fn is_decimal(byte: u8) -> bool
+fn is_decimal_digit(byte: u8) -> bool
     ensures { result ≡ is_digit byte }
 {
     byte >= b'0' && byte <= b'9'
@@ -324,7 +322,7 @@ fn is_run(byte: u8) -> bool
     ensures { result ≡ is_run_byte byte }
 {
     is_latin(byte)
-        || is_decimal(byte)
+        || is_decimal_digit(byte)
         || byte == b'-'
         || byte == b'$'
         || byte == b'.'

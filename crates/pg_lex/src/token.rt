@@ -1,7 +1,3 @@
-ghost use Rattle.std.specs.Prelude.{◌≡◌};
-ghost use Rattle.pg_lex.specs.declared.token.LexFault.TheVariants.{OutOfMemory};
-
-use std::alloc::AllocError;
 use thiserror::Error;
 
 /// A part of the text: the bytes from `start` to before `end`.
@@ -69,14 +65,6 @@ pub enum LexFault {
     OpenString(u32),
     #[error("out of memory")]
     OutOfMemory,
-}
-
-impl From<AllocError> for LexFault {
-    ghost from_gives = { λ _ e. e ≡ OutOfMemory };
-
-    fn from(_error: AllocError) -> LexFault {
-        LexFault::OutOfMemory
-    }
 }
 
 /// What a text begins with, and its number of bytes.
