@@ -161,13 +161,12 @@ fn moved(p: &Program, registers: &[Option<u64>], word: u64, indices: &[Index]) -
     requires widths { AllByRecursion (λ (i : Index). HasWidth p.now registers.now i.width i.value) indices.now }
     ensures { result ≡ moved_each p.now registers.now word indices.now }
 {
-    match indices {
-        [] => word,
-        [first, rest @ ..] => {
-            let n = number_of(p, registers, first.value);
-            moved(p, registers, moved_once(word, first, n), rest)
-        }
+    let mut word = word;
+    for index in indices {
+        let n = number_of(p, registers, index.value);
+        word = moved_once(word, index, n);
     }
+    word
 }
 
 /// The first block where the condition isn't 0, else the second.

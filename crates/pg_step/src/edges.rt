@@ -1,5 +1,6 @@
 ghost use Rattle.std.specs.Prelude.{◌≡◌, ◌<◌, ◌≤◌, ◌∷◌, length, map, IfSome, vec_capacity};
 ghost use Rattle.std.specs.List.{AllByRecursion};
+ghost use Rattle.pg_num.specs.declared.limits.TheConstants.{FUNCTION_REGISTER_LIMIT};
 ghost use Rattle.pg_ir.specs.declared.edge.Case.{Case};
 ghost use Rattle.pg_ir.specs.declared.edge.Incoming.{Incoming};
 ghost use Rattle.pg_ir.specs.Edges.{incoming_of};
@@ -21,15 +22,12 @@ fn incoming_value(
     requires { AllByRecursion (λ (i : Incoming). CanRead p.now (length registers.now) i.value) incoming.now }
     ensures { result ≡ optional_operand p.now registers.now (incoming_from incoming.now from.0) }
 {
-    match incoming {
-        [] => None,
-        [first, rest @ ..] => {
-            if first.block == from {
-                return value_of(p, registers, first.value);
-            }
-            incoming_value(p, registers, rest, from)
+    for listed in incoming {
+        if listed.block == from {
+            return value_of(p, registers, listed.value);
         }
     }
+    None
 }
 
 /// The value that a `phi` takes where this block is left.
@@ -53,15 +51,12 @@ pub(crate) fn have_values(
     requires { AllByRecursion (CanTakePhi p.now (length registers.now)) phis.now }
     ensures { result ≡ have_values p.now registers.now from.0 phis.now }
 {
-    match phis {
-        [] => true,
-        [first, rest @ ..] => {
-            if phi_value(p, registers, from, first).is_none() {
-                return false;
-            }
-            have_values(p, registers, from, rest)
+    for phi in phis {
+        if phi_value(p, registers, from, phi).is_none() {
+            return false;
         }
     }
+    true
 }
 
 /// Puts the values of the `phi`s into the room.
@@ -95,18 +90,12 @@ pub(crate) fn set_register(registers: &mut [Option<u64>], target: Option<u32>, v
 
 /// Gives the `phi`s these values.
 fn assign(p: &Program, registers: &mut [Option<u64>], phis: &[Instr], values: &[Option<u64>])
-    requires { AllByRecursion (CanTakePhi p.now (length registers.old)) phis.now }
+    requires fits { AllByRecursion (CanTakePhi p.now (length registers.old)) phis.now }
+    requires each { length values.now ≡ length phis.now }
     ensures { registers.new ≡ set_each registers.old phis.now values.now }
 {
-    match phis {
-        [] => {}
-        [phi, phis @ ..] => match values {
-            [] => {}
-            [value, values @ ..] => {
-                set_register(registers, phi.result, *value);
-                assign(p, registers, phis, values);
-            }
-        },
+    for i in 0..phis.len() {
+        set_register(registers, phis[i].result, values[i]);
     }
 }
 
@@ -120,7 +109,7 @@ pub(crate) fn take_edge(
     to: BlockNo,
 )
     requires enters { CanEnter p.now (length registers.old) to.0 }
-    requires room { 4096 ≤ vec_capacity room.old }
+    requires room { FUNCTION_REGISTER_LIMIT ≤ vec_capacity room.old }
     ensures registers { registers.new ≡ over_edge p.now registers.old from.0 to.0 }
     ensures room { vec_capacity room.old ≤ vec_capacity room.new }
 {
@@ -133,13 +122,10 @@ pub(crate) fn take_edge(
 pub(crate) fn case_of(cases: &[Case], other: BlockNo, n: u64) -> BlockNo
     ensures { result.0 ≡ case_of cases.now other.0 n }
 {
-    match cases {
-        [] => other,
-        [first, rest @ ..] => {
-            if first.value == n {
-                return first.to;
-            }
-            case_of(rest, other, n)
+    for case in cases {
+        if case.value == n {
+            return case.to;
         }
     }
+    other
 }

@@ -65,15 +65,12 @@ pub(crate) fn have_values(p: &Program, registers: &[Option<u64>], args: &[Value]
     requires { AllByRecursion (CanRead p.now (length registers.now)) args.now }
     ensures { result ≡ are_set p.now registers.now args.now }
 {
-    match args {
-        [] => true,
-        [first, rest @ ..] => {
-            if !has_value(p, registers, *first) {
-                return false;
-            }
-            have_values(p, registers, rest)
+    for arg in args {
+        if !has_value(p, registers, *arg) {
+            return false;
         }
     }
+    true
 }
 
 /// Whether each of the indices has a value.
@@ -81,15 +78,12 @@ pub(crate) fn have_index_values(p: &Program, registers: &[Option<u64>], indices:
     requires { AllByRecursion (λ (i : Index). CanRead p.now (length registers.now) i.value) indices.now }
     ensures { result ≡ are_set p.now registers.now (map (λ (i : Index). i.value) indices.now) }
 {
-    match indices {
-        [] => true,
-        [first, rest @ ..] => {
-            if !has_value(p, registers, first.value) {
-                return false;
-            }
-            have_index_values(p, registers, rest)
+    for index in indices {
+        if !has_value(p, registers, index.value) {
+            return false;
         }
     }
+    true
 }
 
 /// The value of the argument with this index, none where there is no such argument or it was never
@@ -103,14 +97,9 @@ pub(crate) fn argument_of(
     requires { AllByRecursion (CanRead p.now (length registers.now)) args.now }
     ensures { result ≡ argument p.now registers.now args.now i }
 {
-    match args {
-        [] => None,
-        [first, rest @ ..] => {
-            if i == 0 {
-                return value_of(p, registers, *first);
-            }
-            argument_of(p, registers, rest, i - 1)
-        }
+    match args.get(i) {
+        Some(arg) => value_of(p, registers, *arg),
+        None => None,
     }
 }
 
@@ -135,14 +124,9 @@ fn index_number(p: &Program, registers: &[Option<u64>], indices: &[Index], i: us
     requires { AllByRecursion (λ (x : Index). CanRead p.now (length registers.now) x.value) indices.now }
     ensures { result ≡ number_at p.now registers.now (map (λ (x : Index). x.value) indices.now) i }
 {
-    match indices {
-        [] => 0,
-        [first, rest @ ..] => {
-            if i == 0 {
-                return number_of(p, registers, first.value);
-            }
-            index_number(p, registers, rest, i - 1)
-        }
+    match indices.get(i) {
+        Some(index) => number_of(p, registers, index.value),
+        None => 0,
     }
 }
 
@@ -151,14 +135,9 @@ fn incoming_number(p: &Program, registers: &[Option<u64>], from: &[Incoming], i:
     requires { AllByRecursion (λ (x : Incoming). CanRead p.now (length registers.now) x.value) from.now }
     ensures { result ≡ number_at p.now registers.now (map (λ (x : Incoming). x.value) from.now) i }
 {
-    match from {
-        [] => 0,
-        [first, rest @ ..] => {
-            if i == 0 {
-                return number_of(p, registers, first.value);
-            }
-            incoming_number(p, registers, rest, i - 1)
-        }
+    match from.get(i) {
+        Some(listed) => number_of(p, registers, listed.value),
+        None => 0,
     }
 }
 
@@ -166,14 +145,9 @@ fn incoming_number(p: &Program, registers: &[Option<u64>], from: &[Incoming], i:
 fn case_number(p: &Program, registers: &[Option<u64>], cases: &[Case], i: usize) -> u64
     ensures { result ≡ number_at p.now registers.now (map (λ (x : Case). Const x.value) cases.now) i }
 {
-    match cases {
-        [] => 0,
-        [first, rest @ ..] => {
-            if i == 0 {
-                return first.value;
-            }
-            case_number(p, registers, rest, i - 1)
-        }
+    match cases.get(i) {
+        Some(case) => case.value,
+        None => 0,
     }
 }
 
@@ -189,6 +163,28 @@ fn four(p: &Program, registers: &[Option<u64>], args: &[Value]) -> [u64; 4]
     ]
 }
 
+/// The values of one operand.
+fn one(p: &Program, registers: &[Option<u64>], of: Value) -> [u64; 4]
+    requires { CanRead p.now (length registers.now) of }
+    ensures { result ≡ first_four p.now registers.now (of ∷ []) }
+{
+    [number_of(p, registers, of), 0, 0, 0]
+}
+
+/// The values of two operands.
+fn two(p: &Program, registers: &[Option<u64>], left: Value, right: Value) -> [u64; 4]
+    requires left { CanRead p.now (length registers.now) left }
+    requires right { CanRead p.now (length registers.now) right }
+    ensures { result ≡ first_four p.now registers.now (left ∷ right ∷ []) }
+{
+    [
+        number_of(p, registers, left),
+        number_of(p, registers, right),
+        0,
+        0,
+    ]
+}
+
 /// The values of an operation's first four operands.
 pub(crate) fn operand_numbers(p: &Program, registers: &[Option<u64>], op: &Op) -> [u64; 4]
     requires { CanReadAll p.now (length registers.now) op.now }
@@ -201,17 +197,17 @@ pub(crate) fn operand_numbers(p: &Program, registers: &[Option<u64>], op: &Op) -
         | Op::Divide { left, right, .. }
         | Op::Shift { left, right, .. }
         | Op::Bits { left, right, .. }
-        | Op::Compare { left, right, .. } => four(p, registers, &[*left, *right]),
+        | Op::Compare { left, right, .. } => two(p, registers, *left, *right),
         Op::Trunc { of, .. }
         | Op::Zext { of, .. }
         | Op::Sext { of, .. }
         | Op::PtrToInt { of, .. }
-        | Op::IntToPtr { of, .. } => four(p, registers, &[*of]),
+        | Op::IntToPtr { of, .. } => one(p, registers, *of),
         Op::Select { cond, yes, no } => four(p, registers, &[*cond, *yes, *no]),
-        Op::CondBr { cond, .. } => four(p, registers, &[*cond]),
-        Op::Load { from, .. } => four(p, registers, &[*from]),
-        Op::Store { value, at, .. } => four(p, registers, &[*value, *at]),
-        Op::Ret { value: Some(value) } => four(p, registers, &[*value]),
+        Op::CondBr { cond, .. } => one(p, registers, *cond),
+        Op::Load { from, .. } => one(p, registers, *from),
+        Op::Store { value, at, .. } => two(p, registers, *value, *at),
+        Op::Ret { value: Some(value) } => one(p, registers, *value),
         Op::Ret { value: None } | Op::Br { .. } | Op::Unreachable | Op::Alloca { .. } => [0; 4],
         Op::Call { args, .. } | Op::CallKnown { args, .. } => four(p, registers, args.as_slice()),
         Op::Phi { from } => incoming_numbers(p, registers, from.as_slice()),

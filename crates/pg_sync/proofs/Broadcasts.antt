@@ -1,9 +1,9 @@
 -- A broadcast is a signal for each that waits.
-use Rattle.std.proofs.Common.{◌≡◌, ℕ, ◌+◌, ◌<◌, ◌≤◌, List, [], ◌∷◌, ◌++◌, length, Bool, true, false, not, Option, Some, None, refl, sym, ap, ◌∙◌, arith}
+use Rattle.std.proofs.Common.{◌≡◌, ℕ, ◌<◌, List, [], ◌∷◌, ◌++◌, length, Bool, true, false, not, Option, Some, None, refl, sym, ap, ◌∙◌, arith}
 use Rattle.std.specs.Prelude.{find, filter, is_some, if◌then◌else◌}
 use Rattle.pg_sync.specs.declared.status.Waiter.{Waiter}
 use Rattle.pg_sync.specs.declared.status.Status.{Status}
-use Rattle.pg_sync.specs.Sync.{Sync, waits_on, without_first, first_of, signal, broadcast, signal_each, signalled}
+use Rattle.pg_sync.specs.Sync.{Sync, waits_on, without_first, first_of, signal, broadcast, signal_each}
 use Rattle.pg_sync.proofs.Waits.{nobody_leaves}
 
 -- the first leaves, and then all others

@@ -1,5 +1,5 @@
 -- The waiters are at most as many as the threads that wait for a signal.
-use Rattle.std.proofs.Common.{◌≡◌, ℕ, ◌+◌, ◌^◌, ◌<◌, Fits, w8, rules, ◌≤◌, List, [], ◌∷◌, ◌++◌, length, take, drop, Bool, true, false, not, Option, Some, None, refl, sym, ap, ◌∙◌, arith, get_or, zero, suc, length-append, length-set}
+use Rattle.std.proofs.Common.{◌≡◌, ℕ, ◌+◌, ◌^◌, ◌<◌, Fits, w8, rules, ◌≤◌, List, [], ◌∷◌, ◌++◌, length, Bool, true, false, Option, Some, None, refl, sym, ap, arith, zero, suc, length-append, length-set}
 use Rattle.std.specs.Prelude.{slice_get, slice_set, map, find, if◌then◌else◌}
 use Rattle.std.proofs.lemmas.List.{length-map}
 use Rattle.pg_num.specs.declared.limits.TheConstants.{THREAD_LIMIT}
@@ -15,11 +15,6 @@ pub count_set : (ss : List Status) (t : ℕ) (s : Status) → t < length ss → 
 count_set [] t s l = absurd (omega arith)
 count_set (x ∷ ss) zero s l = omega arith
 count_set (x ∷ ss) (suc t) s l = omega (arith, count_set ss t s (omega (arith, l)))
-
-pub set_beyond : (ss : List Status) (t : ℕ) (s : Status) → length ss ≤ t → slice_set ss t s ≡ ss
-set_beyond [] t s l = refl
-set_beyond (x ∷ ss) zero s l = absurd (omega arith)
-set_beyond (x ∷ ss) (suc t) s l = ap (λ (xs : List Status). x ∷ xs) (set_beyond ss t s (omega (arith, l)))
 
 stage_set_in : (o : Option Status) (s : Stage) → (set_stage_in o s).stage ≡ s
 stage_set_in None s = refl

@@ -1,17 +1,16 @@
 -- What a request whose checks hold may rely on.
-use Rattle.std.proofs.Common.{◌≡◌, ℕ, ◌+◌, ◌<◌, ◌≤◌, ◌==◌, ◌||◌, ◌&&◌, not, List, [], ◌∷◌, length, Bool, true, false, Option, Some, None, refl, sym, ap, ◌∙◌, arith, zero, suc}
-use Rattle.std.specs.Prelude.{slice_get, nat_le, nat_lt, map}
+use Rattle.std.proofs.Common.{◌≡◌, ℕ, ◌+◌, ◌<◌, ◌≤◌, ◌==◌, ◌&&◌, not, List, [], ◌∷◌, length, Bool, true, false, Option, Some, None, refl, sym, ap, ◌∙◌, arith, zero, suc}
+use Rattle.std.specs.Prelude.{slice_get, map}
 use Rattle.std.proofs.lemmas.Bool.Decides.{nat_tests}
-use Rattle.pg_num.specs.declared.limits.TheConstants.{OBJECT_LIMIT, THREAD_LIMIT}
+use Rattle.pg_num.specs.declared.limits.TheConstants.{OBJECT_LIMIT}
 use Rattle.pg_ir.specs.declared.request.TrapName.{TrapName}
 use Rattle.pg_ir.specs.declared.request.Request.{Request}
 use Rattle.pg_sync.specs.declared.object.Object.{Object}
-use Rattle.pg_sync.specs.declared.object.Entry.{Entry}
 use Rattle.pg_sync.specs.declared.status.Stage.{Stage}
 use Rattle.pg_sync.specs.declared.status.Stage.TheVariants.{Made, Running, Waiting, Arrived, Ended}
 use Rattle.pg_sync.specs.declared.status.Status.{Status}
-use Rattle.pg_sync.specs.Objects.{object_at, put_object, is_missing, may_be_condition, may_be_mutex}
-use Rattle.pg_sync.specs.Stages.{is_unsignalled, unsignalled, may_ask, is_wake}
+use Rattle.pg_sync.specs.Objects.{object_at, put_object, is_missing}
+use Rattle.pg_sync.specs.Stages.{is_unsignalled, may_ask, is_wake}
 use Rattle.pg_sync.specs.Sync.{Sync, check_one, check_two, first_trap, unless, room_for, one_if, missing_of, is_signalled, may_join, stage_in, release}
 use Rattle.pg_sync.proofs.Counts.{release_waits}
 use Rattle.pg_sync.proofs.Tables.{length_put}

@@ -1,6 +1,6 @@
 -- The list of threads after one or all of them have changed.
-use Rattle.std.proofs.Common.{◌≡◌, ℕ, ◌+◌, ◌<◌, ◌≤◌, List, [], ◌∷◌, ◌++◌, length, take, drop, Bool, true, false, Option, Some, None, refl, sym, ap, ◌∙◌, arith, get_or, zero, suc, add-one}
-use Rattle.std.specs.Prelude.{slice_get, slice_set, map}
+use Rattle.std.proofs.Common.{◌≡◌, ℕ, ◌+◌, ◌<◌, List, [], ◌∷◌, ◌++◌, length, take, drop, refl, ap, ◌∙◌, arith, get_or, zero, suc, add-one}
+use Rattle.std.specs.Prelude.{slice_set, map}
 use Rattle.pg_sync.specs.declared.status.Status.{Status}
 
 get_mapped : (f : Status → Status) (xs : List Status) (i : ℕ) (d : Status) → i < length xs → get_or (map f (take i xs) ++ drop i xs) i d ≡ get_or xs i d

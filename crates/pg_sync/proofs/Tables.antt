@@ -1,11 +1,10 @@
 -- The table of objects by index: what finding, putting and taking away come to.
-use Rattle.std.proofs.Common.{◌≡◌, ℕ, Bool, ◌+◌, ◌<◌, ◌≤◌, ◌==◌, List, [], ◌∷◌, ◌++◌, length, take, drop, Option, Some, None, refl, sym, ap, ◌∙◌, arith, IfSome, true, false, drop-cons, get_or, ◌≢◌, add-one, inl, inr, ◌⊎◌, zero, suc}
-use Rattle.std.proofs.lemmas.Bool.{cases_eq}
-use Rattle.std.specs.Prelude.{slice_get, slice_set, nat_lt, nat_le, if◌then◌else◌}
+use Rattle.std.proofs.Common.{◌≡◌, ℕ, Bool, ◌+◌, ◌<◌, ◌≤◌, ◌==◌, List, [], ◌∷◌, ◌++◌, length, take, drop, Option, Some, None, refl, sym, ap, ◌∙◌, arith, IfSome, true, false, get_or, add-one, zero, suc}
+use Rattle.std.specs.Prelude.{slice_get, slice_set, nat_lt, if◌then◌else◌}
 use Rattle.std.specs.List.{insert, remove}
-use Rattle.std.proofs.lemmas.Option.{gets, slice_get-get_or, slice_get_within, slice_get_cases, same_Some}
+use Rattle.std.proofs.lemmas.Option.{gets, slice_get-get_or, slice_get_within, same_Some}
 use Rattle.std.proofs.lemmas.Grind.{common_steps}
-use Rattle.std.proofs.lemmas.List.{drop_all, take_all, take-append-drop, take-set, drop-set}
+use Rattle.std.proofs.lemmas.List.{take-append-drop, take-set, drop-set}
 use Rattle.std.proofs.lemmas.Bool.Decides.{nat_tests}
 use Rattle.pg_sync.specs.declared.object.Object.{Object}
 use Rattle.pg_sync.specs.declared.object.Entry.{Entry}
@@ -187,10 +186,6 @@ length_drop_object b (e ∷ es) = go (length_drop_object b es) (nat_lt e.place b
     go k true y = omega (arith, k)
     go k false true = omega arith
     go k false false = omega arith
-
-pub room_of_one : (n : ℕ) (x : Option Object) (limit : ℕ) → n ≤ limit → (is_missing x ≡ true → n < limit) → n + one_if (is_missing x) ≤ limit
-room_of_one n None limit l h = omega (arith, h refl)
-room_of_one n (Some o) limit l h = omega (arith, l)
 
 pub lookup_missing : (b : ℕ) (xs : List Entry) (i : ℕ) → AllBelow b (take i xs) → IfSome (slice_get xs i) (λ e. b ≤ e.place) → place_is b (slice_get xs i) ≡ false → object_at b xs ≡ None
 lookup_missing b xs i f h n = lookup_is b xs i f h ∙ go (slice_get xs i) n

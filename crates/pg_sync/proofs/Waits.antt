@@ -1,11 +1,10 @@
 -- Those that wait on conditions.
-use Rattle.std.proofs.Common.{◌≡◌, ℕ, ◌+◌, ◌<◌, ◌≤◌, List, [], ◌∷◌, ◌++◌, length, take, drop, Bool, true, false, not, Option, Some, None, refl, sym, ap, ◌∙◌, arith, get_or, zero, suc}
+use Rattle.std.proofs.Common.{◌≡◌, ℕ, ◌+◌, ◌<◌, ◌≤◌, List, [], ◌∷◌, length, Bool, true, false, not, Some, None, refl, sym, ap, ◌∙◌, arith, get_or, suc}
 use Rattle.std.specs.Prelude.{slice_get, nat_lt, find, position, if◌then◌else◌}
 use Rattle.std.specs.List.{position_or_len, remove}
 use Rattle.std.proofs.lemmas.List.Folds.{find_at}
 use Rattle.std.proofs.lemmas.Bool.Decides.{nat_tests}
-use Rattle.std.proofs.lemmas.Grind.{common_steps}
-use Rattle.std.proofs.lemmas.Option.{gets, slice_get-get_or, same_Some}
+use Rattle.std.proofs.lemmas.Option.{slice_get-get_or, same_Some}
 use Rattle.pg_sync.specs.declared.status.Waiter.{Waiter}
 use Rattle.pg_sync.specs.Sync.{waits_on, without_first}
 

@@ -1,6 +1,5 @@
 -- The table of objects: a finite map from byte places, as a list in ascending order of its places.
 use Rattle.std.specs.Prelude.{ℕ, ◌+◌, ◌≤◌, ◌==◌, nat_lt, Bool, true, false, List, [], ◌∷◌, Option, Some, None, if◌then◌else◌}
-use Rattle.pg_ir.specs.declared.ids.ThreadNo.{ThreadNo}
 use Rattle.pg_sync.specs.declared.object.Object.{Object}
 use Rattle.pg_sync.specs.declared.object.Object.TheVariants.{Mutex, Condition, Barrier}
 use Rattle.pg_sync.specs.declared.object.Entry.{Entry}

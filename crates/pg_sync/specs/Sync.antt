@@ -1,14 +1,14 @@
 -- Synchronisation by the table of POSIX.1-2017: for each request, the check that fails first, whether it
 -- is ready, and what it does. Checks come in this order: the kinds of the named objects, room for those
 -- that are missing, and their state.
-use Rattle.std.specs.Prelude.{ℕ, ◌+◌, ◌-◌, ◌%◌, ◌==◌, ◌&&◌, ◌||◌, not, nat_lt, nat_le, List, [], ◌∷◌, ◌++◌, length, filter, find, map, Bool, true, false, Option, Some, None, is_some, Result, Ok, Err, slice_get, slice_set, if◌then◌else◌}
-use Rattle.std.specs.List.{list_any}
+use Rattle.std.specs.Prelude.{ℕ, ◌+◌, ◌%◌, ◌==◌, ◌&&◌, ◌||◌, not, nat_lt, nat_le, List, [], ◌∷◌, ◌++◌, length, filter, find, map, Bool, true, false, Option, Some, None, is_some, Result, Ok, Err, slice_get, slice_set, if◌then◌else◌}
+use Rattle.std.specs.List.{list_all, list_any}
 use Rattle.pg_num.specs.declared.limits.TheConstants.{THREAD_LIMIT, OBJECT_LIMIT}
-use Rattle.pg_ir.specs.declared.ids.ThreadNo.{ThreadNo}
 use Rattle.pg_ir.specs.declared.request.Request.{Request}
 use Rattle.pg_ir.specs.declared.request.Request.TheVariants.{Start, Exit, Create, Join, MutexInit, Lock, Trylock, Unlock, MutexDestroy, CondInit, Wait, Wake, Signal, Broadcast, CondDestroy, BarrierInit, Arrive, Leave, BarrierDestroy, Out, Putchar}
 use Rattle.pg_ir.specs.declared.request.TrapName.{TrapName}
 use Rattle.pg_ir.specs.declared.request.TrapName.TheVariants.{NotOwner, WrongObject, BusyObject, TooManyObjects, TooManyThreads, BadJoin}
+use Rattle.pg_sync.specs.declared.errno.TheConstants.{EBUSY, EINVAL, PTHREAD_BARRIER_SERIAL_THREAD}
 use Rattle.pg_sync.specs.declared.object.Object.{Object}
 use Rattle.pg_sync.specs.declared.object.Object.TheVariants.{Mutex, Condition, Barrier}
 use Rattle.pg_sync.specs.declared.object.Entry.{Entry}
@@ -61,8 +61,7 @@ was_last (Arrived barrier released last) = last
 was_last s = false
 
 abbrev pub all_ended : List Status → Bool
-all_ended [] = true
-all_ended (s ∷ ss) = has_ended s.stage && all_ended ss
+all_ended ss = list_all (λ s. has_ended s.stage) ss
 
 -- the run is over: main has returned, or every thread has ended
 unfoldable pub over : Sync → Bool
@@ -242,7 +241,7 @@ done y t (Create at f a) = (record y { threads = y.threads ++ made ∷ [] }, ans
 done y t (Join n at) = (record y { threads = slice_set y.threads n (joined_in (slice_get y.threads n)) }, record { value = 0; exit_of = Some (record { 0 = n }) })
 done y t (MutexInit o) = (record y { objects = give_back o y.objects }, answer 0)
 done y t (Lock o) = (record y { objects = hold y t o }, answer 0)
-done y t (Trylock o) = if is_free (object_at o y.objects) then (record y { objects = hold y t o }, answer 0) else (y, answer 16)
+done y t (Trylock o) = if is_free (object_at o y.objects) then (record y { objects = hold y t o }, answer 0) else (y, answer EBUSY)
 done y t (Unlock o) = (record y { objects = give_back o y.objects }, answer 0)
 done y t (MutexDestroy o) = (record y { objects = drop_object o y.objects }, answer 0)
 done y t (CondInit o) = (record y { objects = put_object o Condition y.objects }, answer 0)
@@ -251,9 +250,9 @@ done y t (Wake c m) = (wake y t c m, answer 0)
 done y t (Signal o) = (signal (record y { objects = put_object o Condition y.objects }) o, answer 0)
 done y t (Broadcast o) = (broadcast (record y { objects = put_object o Condition y.objects }) o, answer 0)
 done y t (CondDestroy o) = (record y { objects = drop_object o y.objects }, answer 0)
-done y t (BarrierInit o n) = if n == 0 then (y, answer 22) else (record y { objects = put_object o (Barrier n 0) y.objects }, answer 0)
+done y t (BarrierInit o n) = if n == 0 then (y, answer EINVAL) else (record y { objects = put_object o (Barrier n 0) y.objects }, answer 0)
 done y t (Arrive o) = (arrive_at y t o (object_at o y.objects), answer 0)
-done y t (Leave o) = (record y { threads = at_stage t Running y.threads }, answer (if was_last (stage_of y t) then 4294967295 else 0))
+done y t (Leave o) = (record y { threads = at_stage t Running y.threads }, answer (if was_last (stage_of y t) then PTHREAD_BARRIER_SERIAL_THREAD else 0))
 done y t (BarrierDestroy o) = (record y { objects = drop_object o y.objects }, answer 0)
 done y t (Out n) = (y, answer 0)
 done y t (Putchar n) = (y, answer (n % 256))

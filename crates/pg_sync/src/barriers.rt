@@ -5,6 +5,7 @@ ghost use Rattle.pg_sync.specs.Stages.{is_unsignalled};
 ghost use Rattle.pg_sync.specs.declared.reply.Reply.{Reply};
 ghost use Rattle.pg_sync.specs.Sync.{Sync, answer, arrive_at, at_stage, release, stage_of, was_last};
 
+use crate::errno::{EINVAL, PTHREAD_BARRIER_SERIAL_THREAD};
 use crate::object::Object;
 use crate::reply::{Reply, answer};
 use crate::state::SyncState;
@@ -12,15 +13,10 @@ use crate::status::Stage;
 use crate::threads::came_last;
 use pg_ir::ThreadNo;
 
-/// The error number of POSIX for an argument that isn't allowed.
-const EINVAL: u64 = 22;
-/// `PTHREAD_BARRIER_SERIAL_THREAD`, which is -1, as a number of 32 bits.
-const SERIAL_THREAD: u64 = 4_294_967_295;
-
 impl SyncState {
     pub(crate) fn make_barrier(&mut self, place: u32, count: u32) -> Reply
         requires { is_missing (object_at place self.old.objects) ≡ true → length self.old.objects < OBJECT_LIMIT }
-        ensures { ◌≡◌ {A = Sync × Reply} (self.new, result) (if count == 0 then (self.old, answer 22) else (record self.old { objects = put_object place (Object.Barrier count 0) self.old.objects }, answer 0)) }
+        ensures { ◌≡◌ {A = Sync × Reply} (self.new, result) (if count == 0 then (self.old, answer EINVAL) else (record self.old { objects = put_object place (Object.Barrier count 0) self.old.objects }, answer 0)) }
     {
         if count == 0 {
             return answer(EINVAL);
@@ -91,10 +87,14 @@ impl SyncState {
     pub(crate) fn leave(&mut self, t: ThreadNo) -> Reply
         requires { is_unsignalled (stage_of self.old t.0) ≡ false }
         ensures state { self.new ≡ record self.old { threads = at_stage t.0 Stage.Running self.old.threads } }
-        ensures answer { result ≡ answer (if was_last (stage_of self.old t.0) then 4294967295 else 0) }
+        ensures answer { result ≡ answer (if was_last (stage_of self.old t.0) then PTHREAD_BARRIER_SERIAL_THREAD else 0) }
     {
         let last = came_last(self.stage(u64::from(t.0)));
         self.come_to(t, Stage::Running);
-        answer(if last { SERIAL_THREAD } else { 0 })
+        answer(if last {
+            PTHREAD_BARRIER_SERIAL_THREAD
+        } else {
+            0
+        })
     }
 }

@@ -147,7 +147,7 @@ impl SyncState {
 
     /// The trap of the first check of a request that fails.
     #[tactic(auto, unfolding(crate::specs::Sync::check))]
-    pub(crate) fn check(&self, t: ThreadNo, r: &Request) -> Option<TrapName>
+    pub fn check(&self, t: ThreadNo, r: &Request) -> Option<TrapName>
         ensures { result ≡ check self.now t.0 r.now }
     {
         match *r {

@@ -6,6 +6,7 @@ mod asks;
 mod barriers;
 mod check;
 mod conditions;
+pub mod errno;
 mod kinds;
 pub mod laws;
 mod lifecycle;

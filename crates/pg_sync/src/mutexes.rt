@@ -4,14 +4,12 @@ ghost use Rattle.pg_sync.specs.Objects.{drop_object, is_free, is_missing, object
 ghost use Rattle.pg_sync.specs.declared.reply.Reply.{Reply};
 ghost use Rattle.pg_sync.specs.Sync.{Sync, answer, give_back, hold};
 
+use crate::errno::EBUSY;
 use crate::kinds::free;
 use crate::object::Object;
 use crate::reply::{Reply, answer};
 use crate::state::SyncState;
 use pg_ir::ThreadNo;
-
-/// The error number of POSIX for a resource that is busy.
-const EBUSY: u64 = 16;
 
 impl SyncState {
     /// No thread holds the mutex from now on.
@@ -35,7 +33,7 @@ impl SyncState {
 
     pub(crate) fn try_hold(&mut self, t: ThreadNo, place: u32) -> Reply
         requires { is_missing (object_at place self.old.objects) ≡ true → length self.old.objects < OBJECT_LIMIT }
-        ensures { ◌≡◌ {A = Sync × Reply} (self.new, result) (if is_free (object_at place self.old.objects) then (record self.old { objects = hold self.old t.0 place }, answer 0) else (self.old, answer 16)) }
+        ensures { ◌≡◌ {A = Sync × Reply} (self.new, result) (if is_free (object_at place self.old.objects) then (record self.old { objects = hold self.old t.0 place }, answer 0) else (self.old, answer EBUSY)) }
     {
         if !free(self.object(place)) {
             return answer(EBUSY);

@@ -62,10 +62,7 @@ pub(crate) fn came_last(stage: Stage) -> bool
 pub(crate) fn each_ended(threads: &[Status]) -> bool
     ensures { result ≡ all_ended threads.now }
 {
-    match threads {
-        [] => true,
-        [status, rest @ ..] => ended(status.stage) && each_ended(rest),
-    }
+    threads.iter().all(|status| ended(status.stage))
 }
 
 /// Thread `t` comes to a stage.

@@ -1,6 +1,5 @@
 -- The kind and the object of a request.
 use Rattle.std.specs.Prelude.{ℕ}
-use Rattle.pg_num.specs.Places.{ByteRange}
 use Rattle.pg_ir.specs.declared.request.Request.{Request}
 use Rattle.pg_ir.specs.declared.request.Request.TheVariants as requests
 use Rattle.pg_trace.specs.declared.turn.TurnKind.{TurnKind}

@@ -23,7 +23,7 @@ impl Model for Trace {
     ghost invariant = { λ t. (length t.list.items ≤ t.room) × (t.room ≤ vec_capacity t.list) };
 }
 
-/// Pushes where there is room, and gives the step back where there is none.
+/// Adds a step where there is room, so that none is given back.
 fn push_step(steps: &mut Vec<Step>, step: Step) -> Option<Step>
     requires { vec_len steps.old < vec_capacity steps.old }
     ensures items { steps.new.items ≡ steps.old.items ++ step ∷ [] }

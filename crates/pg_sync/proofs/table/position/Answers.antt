@@ -1,4 +1,4 @@
-use Rattle.std.proofs.Common.{◌<◌, ◌≤◌, length, arith}
+use Rattle.std.proofs.Common.{arith}
 use Rattle.pg_sync.proofs.Tables.{below_up_to, stops_at}
 use Rattle.pg_sync.proofs.table.position.Goals as goal
 

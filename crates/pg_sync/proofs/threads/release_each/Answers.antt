@@ -1,4 +1,4 @@
-use Rattle.std.proofs.Common.{◌<◌, ◌∙◌, length, arith, ap, length-set}
+use Rattle.std.proofs.Common.{◌∙◌, arith, ap, length-set}
 use Rattle.std.specs.Prelude.{slice_set}
 use Rattle.pg_sync.specs.Sync.{release}
 use Rattle.pg_sync.specs.declared.status.Status.{Status}

@@ -1,4 +1,4 @@
-use Rattle.std.proofs.Common.{◌≡◌, ◌++◌, take, drop, length, vec_len}
+use Rattle.std.proofs.Common.{◌≡◌, ◌++◌, take, drop, length}
 use Rattle.std.specs.Prelude.{map, vec_capacity}
 use Rattle.pg_sync.specs.Sync.{release}
 use Rattle.pg_sync.proofs.threads.release_each.Given as goal

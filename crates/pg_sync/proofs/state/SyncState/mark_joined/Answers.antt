@@ -1,4 +1,4 @@
-use Rattle.std.proofs.Common.{◌≡◌, ◌<◌, length, ap, arith}
+use Rattle.std.proofs.Common.{length, ap, arith}
 use Rattle.pg_sync.specs.Sync.{Sync}
 use Rattle.pg_sync.proofs.Counts.{number_is_small}
 use Rattle.pg_sync.proofs.state.SyncState.mark_joined.Goals as goal

@@ -1,4 +1,4 @@
-use Rattle.std.proofs.Common.{◌≡◌, ◌<◌, ◌≤◌, ◌+◌, ◌∙◌, sym, rules, arith, length, false, true, ap}
+use Rattle.std.proofs.Common.{◌≡◌, ◌<◌, ◌∙◌, sym, arith, length, false, true, ap}
 use Rattle.std.specs.Prelude.{slice_get, None}
 use Rattle.pg_sync.specs.Objects.{object_at, is_missing}
 use Rattle.pg_sync.specs.Places.{place_is}
