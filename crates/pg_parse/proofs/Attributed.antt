@@ -3,18 +3,21 @@ use Rattle.std.proofs.Common.{◌≡◌, ℕ, zero, suc, List, Option, Bool, tru
 use Rattle.pg_parse.specs.declared.token.Token.{Token}
 use Rattle.pg_parse.specs.declared.class.Class.{Class}
 use Rattle.pg_parse.specs.declared.token.Fault.{Fault}
-use Rattle.pg_parse.specs.declared.token.Fault.TheVariants.{Unsupported, TooDeep}
-use Rattle.pg_parse.specs.declared.class.Class.TheVariants.{Refused, OtherWord, Attr, Meta, Int, Str, Equals, OpenRound, CloseRound, OpenSquare, CloseSquare, OpenBrace, CloseBrace}
+use Rattle.pg_parse.specs.declared.token.Fault.TheVariants.{Unsupported}
+use Rattle.pg_parse.specs.declared.class.Class.TheVariants.{Refused, OtherWord, Attr, Meta, Int, Str, Equals, OpenRound, CloseRound}
 use Rattle.pg_parse.specs.Classes.{is, none, ◌∪◌}
 use Rattle.pg_parse.specs.Language.{Gram, Lang, one, give, refused, ◌or◌, ◌>>=◌, times}
-use Rattle.pg_parse.specs.Grammar.{opens, plain, skip_to, attribute, attribute_word, attribute_name, metadata_name, attributes, argument, no_type, drop_value, other_value_in, value_in, literal_of}
+use Rattle.pg_parse.specs.Grammar.{skip_to, attribute, attribute_word, attribute_name, metadata_name, attributes, argument, no_type, drop_value, other_value_in, value_in, literal_of}
 use Rattle.pg_parse.specs.Reading.{Good, run}
-use Rattle.pg_parse.specs.Reader.{Pending, Fresh, Bare, Quoted, Held, fresh_at, pending_at, begins_fresh, begins_pending, begins_value, settled_at, value_at, attributed_at, argument_at}
-use Rattle.pg_parse.proofs.ClassTests.{within, apart, apart_none}
-use Rattle.pg_parse.proofs.Rules.{Piece, Item, first, next, give_it, token, choose_piece, unless_it, recast, item_first, item_case, item_or, token_of, alike}
+use Rattle.pg_parse.specs.Reader.{Pending, Fresh, Bare, Quoted, Held, fresh_at, pending_at, begins_fresh, begins_pending, begins_type, begins_value, settled_at, value_at, attributed_at, argument_at}
+use Rattle.pg_parse.proofs.ClassTests.{within, apart, apart_none, apart_from_none}
+use Rattle.pg_parse.proofs.Pieces.{Piece, Item}
+use Rattle.pg_parse.proofs.Choices.{choose_piece}
+use Rattle.pg_parse.proofs.Rules.{first, next, give_it, token, unless_it, recast, item_first, item_case, item_or, token_of, alike}
 use Rattle.pg_parse.proofs.StateLoops.{loop, loops, States, loop_piece}
-use Rattle.pg_parse.proofs.Linear.{Linear, linear_give, linear_one, linear_refused, linear_then, linear_or, linear_many}
-use Rattle.pg_parse.proofs.Rows.{type_piece, starts_type, skip_piece, value_piece, other_value_piece, begins_other, value_gets}
+use Rattle.pg_parse.proofs.Linear.{Linear, linear_give, linear_one, linear_then, linear_or}
+use Rattle.pg_parse.proofs.LinearRows.{linear_skip, linear_attribute}
+use Rattle.pg_parse.proofs.Rows.{type_piece, skip_piece, value_piece, other_value_piece, begins_other, value_gets}
 use Rattle.pg_ast.specs.Syntax.{Val}
 use Rattle.pg_ast.specs.Syntax as syntax
 
@@ -83,14 +86,18 @@ settled_piece Bare = recast begins_other (is Refused) (unless_it (is Refused) (o
 settled_piece Quoted = recast begins_value (is Refused) (unless_it (is Refused) (value_piece 64) refl refl) refl refl
 settled_piece (Held n) = recast begins_value (is Refused) (unless_it (is Refused) (choose_piece (value_at 64) (value_in 64) begins_value behind_argument (λ ts. Good (syntax.Int (literal_of n)) ts) (give (syntax.Int (literal_of n))) none none true behind_argument behind_argument (value_piece 64) (value_gets 63) give_it refl refl refl refl) refl refl) refl refl
 
-states : States pending_at pending begins_pending settled_at settled begins_settled (λ s. is Refused) may_settle behind_argument
-states = record { items = λ s. (pending_item s).piece; gets = λ s. (pending_item s).gets; tails = settled_piece; clear = clear; ends = ends }
+states : States pending_at pending begins_pending none settled_at settled begins_settled (λ s. is Refused) may_settle behind_argument
+states = record { items = λ s. (pending_item s).piece; gets = λ s. (pending_item s).gets; tails = settled_piece; clear = clear; ends = ends; items_behind = λ s. apart_from_none (begins_pending s); tails_behind = λ s. apart_from_none (begins_settled s); ends_behind = λ s. either (may_settle s) }
   where
     clear : (s : Pending) → apart (begins_pending s) (begins_settled s) ≡ true
     clear Fresh = refl
     clear Bare = refl
     clear Quoted = refl
     clear (Held n) = refl
+
+    either : (v : Bool) → (if v then within none behind_argument else true) ≡ true
+    either true = refl
+    either false = refl
 
     ends : (s : Pending) → (if may_settle s then within (begins_pending s) behind_argument else true) ≡ true
     ends Fresh = refl
@@ -100,24 +107,9 @@ states = record { items = λ s. (pending_item s).piece; gets = λ s. (pending_it
 
 -- the attributes and the value, read from state to state
 pub settled_loop : Piece (λ ts. run begins_pending pending_at settled_at (length ts) Fresh ts) (loops pending settled Fresh) (begins_fresh ∪ begins_value) (is Refused) false behind_argument
-settled_loop = loop_piece pending_at pending begins_pending settled_at settled begins_settled (λ s. is Refused) may_settle behind_argument states Fresh
+settled_loop = loop_piece pending_at pending begins_pending none settled_at settled begins_settled (λ s. is Refused) may_settle behind_argument states Fresh
 
 -- ---- the same lists as the grammar's attributes and value
-
-linear_done : Linear {A = Unit {0}} (give tt)
-linear_done = linear_give tt
-
-linear_skip : (d : ℕ) (close : Class) → Linear (skip_to d close)
-unfolding skip_to
-linear_skip zero close = linear_then (linear_then (linear_many (linear_one plain)) (λ all. linear_done)) (λ u. linear_or (linear_then (linear_one (is close)) (λ t. linear_done)) (linear_refused TooDeep opens))
-linear_skip (suc d) close = linear_then (linear_then (linear_many (linear_or (linear_then (linear_one (is OpenRound)) (λ t. linear_skip d CloseRound))
-    (linear_or (linear_then (linear_one (is OpenSquare)) (λ t. linear_skip d CloseSquare)) (linear_or (linear_then (linear_one (is OpenBrace)) (λ t. linear_skip d CloseBrace)) (linear_then (linear_one plain) (λ t. linear_done)))))) (λ all. linear_done))
-    (λ u. linear_then (linear_one (is close)) (λ t. linear_done))
-
-linear_attribute : Linear attribute
-linear_attribute = linear_or (linear_then (linear_one attribute_word) (λ t. linear_or (linear_then (linear_one (is Int)) (λ n. linear_done)) (linear_or (linear_then (linear_one (is OpenRound)) (λ o. linear_skip 63 CloseRound)) (linear_done))))
-    (linear_or (linear_then (linear_one attribute_name) (λ t. linear_done)) (linear_or (linear_then (linear_one (is Str)) (λ t. linear_or (linear_then (linear_one (is Equals)) (λ e. linear_then (linear_one (is Str)) (λ u. linear_done))) (linear_done)))
-    (linear_then (linear_one metadata_name) (λ t. linear_then (linear_one metadata_name) (λ u. linear_done)))))
 
 linear_fresh : Linear fresh
 linear_fresh = linear_or (linear_then (linear_one attribute_word) (λ t. linear_give Bare)) (linear_or (linear_then (linear_one attribute_name) (λ t. linear_give Fresh)) (linear_or (linear_then (linear_one (is Str)) (λ t. linear_give Quoted))
@@ -227,5 +219,5 @@ pub attributed_piece : Piece attributed_at attributed (begins_fresh ∪ begins_v
 unfolding attributed_at
 attributed_piece = alike attributed (λ m K us j. loop_left j.0 Fresh m K us j.1) (λ m K us j. times_loops j.0 m K us j.1) settled_loop
 
-pub argument_piece : {av : Class → Bool} → within behind_argument av ≡ true → Piece argument_at argument starts_type no_type false av
-argument_piece {av} w = recast starts_type no_type (first (type_piece 64) (λ t. next attributed_piece (λ v. give_it) (apart_none behind_argument) w)) refl refl
+pub argument_piece : {av : Class → Bool} → within behind_argument av ≡ true → Piece argument_at argument begins_type no_type false av
+argument_piece {av} w = recast begins_type no_type (first (type_piece 64) (λ t. next attributed_piece (λ v. give_it) (apart_none behind_argument) w)) refl refl

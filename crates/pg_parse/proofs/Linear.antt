@@ -40,7 +40,7 @@ linear_or {A} {g} {h} e k = record { mono = mono; pick = pick }
     pick m K us (inl j) = let q = e.pick m K us j in (q.0, inl q.1)
     pick m K us (inr j) = let q = k.pick m K us j in (q.0, inr q.1)
 
-linear_times : {A : Type 0} {g : Gram A} → Linear g → (n : ℕ) → Linear (times g n)
+pub linear_times : {A : Type 0} {g : Gram A} → Linear g → (n : ℕ) → Linear (times g n)
 linear_times {A} {g} e zero = linear_give []
 linear_times {A} {g} e (suc n) = linear_then e (λ a. linear_then (linear_times e n) (λ more. linear_give (a ∷ more)))
 

@@ -1,12 +1,13 @@
 -- A loop over a list, against the reading that repeats.
-use Rattle.std.proofs.Common.{◌≡◌, ℕ, zero, suc, ◌+◌, ◌<◌, ◌≤◌, List, [], ◌∷◌, ◌++◌, length, drop, map, length-drop, Bool, true, false, refl, sym, ap, subst, ◌∙◌, arith, append_assoc, append-nil, if◌then◌else◌, Option}
+use Rattle.std.proofs.Common.{◌≡◌, ℕ, zero, suc, ◌+◌, ◌<◌, ◌≤◌, List, [], ◌∷◌, ◌++◌, length, drop, map, length-drop, Bool, true, false, refl, sym, ap, subst, ◌∙◌, arith, append_assoc, append-nil, if◌then◌else◌, Option, Result, Ok, Err}
 use Rattle.pg_parse.specs.declared.token.Token.{Token}
 use Rattle.pg_parse.specs.declared.class.Class.{Class}
 use Rattle.pg_parse.specs.declared.token.Fault.{Fault}
+use Rattle.pg_parse.specs.declared.token.Refusal.{Refusal}
 use Rattle.pg_parse.specs.declared.token.ReadError.{ReadError}
 use Rattle.pg_parse.specs.declared.token.ReadError.TheVariants.{Memory, Refused}
 use Rattle.pg_parse.specs.Reading.{Read, Good, Bad, ◌>>=◌, repeat, run, onto, comes, take_one}
-use Rattle.pg_parse.specs.Views.{Fails}
+use Rattle.pg_parse.specs.Views.{Fails, Refuses, Reads}
 
 -- with front read, the rest of the list is whole
 abbrev pub Left : {A : Type 0} → (Class → Bool) → (List Token → Read A) → List A → List Token → Read (List A) → Type 0
@@ -49,15 +50,23 @@ left_bad test r front ts rest fault whole (suc n, l, e) h g = sym e ∙ ap (λ x
 pub left_fails : {A : Type 0} (test : Class → Bool) (r : List Token → Read A) (front : List A) (ts : List Token) (at place : ℕ) (whole : Read (List A)) (e : ReadError)
     → Left test r front (drop place ts) whole → comes test (drop place ts) ≡ true → at ≤ place → Fails ts place e (r (drop place ts)) → Fails ts at e whole
 left_fails test r front ts at place whole Memory l h s g = tt
-left_fails test r front ts at place whole (Refused fault p) l h s g = (left_bad test r front (drop place ts) (drop p ts) fault whole l h g.0, omega (arith, s, g.1), g.2)
+left_fails test r front ts at place whole (Refused f) l h s g = (left_bad test r front (drop place ts) (drop f.at ts) f.fault whole l h g.0, omega (arith, s, g.1), g.2)
 
-map_push : {X A : Type 0} (v : X → A) (xs : List X) (x : X) → map v (xs ++ x ∷ []) ≡ map v xs ++ v x ∷ []
+pub map_push : {X A : Type 0} (v : X → A) (xs : List X) (x : X) → map v (xs ++ x ∷ []) ≡ map v xs ++ v x ∷ []
 map_push v [] x = refl
 map_push v (y ∷ xs) x = ap (λ ys. v y ∷ ys) (map_push v xs x)
 
-chosen : {A : Type 0} (b : Bool) (xs ys zs : A) → zs ≡ (if b then xs else ys) → b ≡ true → zs ≡ xs
+pub chosen : {A : Type 0} (b : Bool) (xs ys zs : A) → zs ≡ (if b then xs else ys) → b ≡ true → zs ≡ xs
 chosen true xs ys zs e h = e
 chosen false xs ys zs e h = absurd cc
+
+onto_nothing : {A : Type 0} (x : Read (List A)) → onto [] x ≡ x
+onto_nothing (Good more rest) = refl
+onto_nothing (Bad fault rest) = refl
+
+-- at first nothing is read
+pub left_start : {A : Type 0} (test : Class → Bool) (r : List Token → Read A) (ts : List Token) → Left test r [] ts (repeat test r (length ts) ts)
+left_start test r ts = (length ts, omega arith, onto_nothing (repeat test r (length ts) ts))
 
 -- one more was read and pushed
 pub left_next : {X A : Type 0} (test : Class → Bool) (r : List Token → Read A) (v : X → A) (xs zs : List X) (x : X) (ts : List Token) (place to : ℕ) (whole : Read (List A)) (b : Bool)
@@ -102,10 +111,9 @@ rests_bad : {A : Type 0} (test : Class → Bool) (r : List Token → Read A) (ts
 rests_bad test r ts rest fault whole (zero, l, e) h g = absurd (omega (arith, l, some_left test ts h))
 rests_bad test r ts rest fault whole (suc n, l, e) h g = sym e ∙ ap (λ x. bare x) (repeat_more test r n ts (Bad fault rest) h g)
 
-pub rests_fails : {A : Type 0} (test : Class → Bool) (r : List Token → Read A) (ts : List Token) (at place : ℕ) (whole : Read (Unit {0})) (e : ReadError)
-    → Rests test r (drop place ts) whole → comes test (drop place ts) ≡ true → at ≤ place → Fails ts place e (r (drop place ts)) → Fails ts at e whole
-rests_fails test r ts at place whole Memory l h s g = tt
-rests_fails test r ts at place whole (Refused fault p) l h s g = (rests_bad test r (drop place ts) (drop p ts) fault whole l h g.0, omega (arith, s, g.1), g.2)
+pub rests_refuses : {A : Type 0} (test : Class → Bool) (r : List Token → Read A) (ts : List Token) (at place : ℕ) (whole : Read (Unit {0})) (f : Refusal)
+    → Rests test r (drop place ts) whole → comes test (drop place ts) ≡ true → at ≤ place → Refuses ts place f (r (drop place ts)) → Refuses ts at f whole
+rests_refuses test r ts at place whole f l h s g = (rests_bad test r (drop place ts) (drop f.at ts) f.fault whole l h g.0, omega (arith, s, g.1), g.2)
 
 pub rests_next : {A : Type 0} (test : Class → Bool) (r : List Token → Read A) (ts : List Token) (place to : ℕ) (a : A) (whole : Read (Unit {0}))
     → Rests test r (drop place ts) whole → comes test (drop place ts) ≡ true → r (drop place ts) ≡ Good a (drop to ts) → place < to → to ≤ length ts → Rests test r (drop to ts) whole
@@ -117,14 +125,14 @@ rests_next test r ts place to a whole l h g s w = rests_more test r (drop place 
 abbrev pub Runs : {S B : Type 0} → (S → Class → Bool) → (S → List Token → Read S) → (S → List Token → Read B) → S → List Token → Read B → Type 0
 Runs test r tail s ts whole = (n : ℕ) × (length ts ≤ n) × (run test r tail n s ts ≡ whole)
 
-abbrev ran : {S B : Type 0} → (S → Class → Bool) → (S → List Token → Read S) → (S → List Token → Read B) → ℕ → Read S → Read B
+abbrev pub ran : {S B : Type 0} → (S → Class → Bool) → (S → List Token → Read S) → (S → List Token → Read B) → ℕ → Read S → Read B
 ran test r tail n x = x >>= λ next rest. run test r tail n next rest
 
-run_more : {S B : Type 0} (test : S → Class → Bool) (r : S → List Token → Read S) (tail : S → List Token → Read B) (n : ℕ) (s : S) (ts : List Token) (x : Read S) → comes (test s) ts ≡ true → r s ts ≡ x → run test r tail (suc n) s ts ≡ ran test r tail n x
+pub run_more : {S B : Type 0} (test : S → Class → Bool) (r : S → List Token → Read S) (tail : S → List Token → Read B) (n : ℕ) (s : S) (ts : List Token) (x : Read S) → comes (test s) ts ≡ true → r s ts ≡ x → run test r tail (suc n) s ts ≡ ran test r tail n x
 unfolding run
 run_more test r tail n s ts x h e = rw h (ap (λ y. ran test r tail n y) e)
 
-run_stop : {S B : Type 0} (test : S → Class → Bool) (r : S → List Token → Read S) (tail : S → List Token → Read B) (n : ℕ) (s : S) (ts : List Token) → comes (test s) ts ≡ false → run test r tail n s ts ≡ tail s ts
+pub run_stop : {S B : Type 0} (test : S → Class → Bool) (r : S → List Token → Read S) (tail : S → List Token → Read B) (n : ℕ) (s : S) (ts : List Token) → comes (test s) ts ≡ false → run test r tail n s ts ≡ tail s ts
 unfolding run
 run_stop test r tail zero s ts h = refl
 run_stop test r tail (suc n) s ts h = rw h refl
@@ -145,4 +153,10 @@ runs_bad test r tail s ts rest fault whole (suc n, l, e) h g = sym e ∙ run_mor
 pub runs_fails : {S B : Type 0} (test : S → Class → Bool) (r : S → List Token → Read S) (tail : S → List Token → Read B) (s : S) (ts : List Token) (at place : ℕ) (whole : Read B) (e : ReadError)
     → Runs test r tail s (drop place ts) whole → comes (test s) (drop place ts) ≡ true → at ≤ place → Fails ts place e (r s (drop place ts)) → Fails ts at e whole
 runs_fails test r tail s ts at place whole Memory l h k g = tt
-runs_fails test r tail s ts at place whole (Refused fault p) l h k g = (runs_bad test r tail s (drop place ts) (drop p ts) fault whole l h g.0, omega (arith, k, g.1), g.2)
+runs_fails test r tail s ts at place whole (Refused f) l h k g = (runs_bad test r tail s (drop place ts) (drop f.at ts) f.fault whole l h g.0, omega (arith, k, g.1), g.2)
+
+-- a piece that begins later, and its reading under another name
+pub reads_on : {X Y : Type 0} (r : Result X ReadError) (v : X → Y) (to : X → ℕ) (ts : List Token) (at place : ℕ) (x y : Read Y) → Reads ts place v to r x → x ≡ y → at ≤ place → Reads ts at v to r y
+reads_on (Ok a) v to ts at place x y h e l = (sym e ∙ h.0, omega (arith, l, h.1), h.2)
+reads_on (Err Memory) v to ts at place x y h e l = tt
+reads_on (Err (Refused f)) v to ts at place x y h e l = (sym e ∙ h.0, omega (arith, l, h.1), h.2)

@@ -3,14 +3,13 @@ use Rattle.std.proofs.Common.{ℕ}
 use Rattle.pg_parse.specs.declared.token.Token.{Token}
 use Rattle.pg_parse.specs.declared.class.Class.TheVariants.{To, Int, Comma, OpenRound, CloseRound}
 use Rattle.pg_parse.specs.Classes.{is}
-use Rattle.pg_parse.specs.Language.{Gram, one, give, ◌>>=◌, many}
-use Rattle.pg_parse.specs.Grammar.{literal_of, flags, type_in, typed_in}
+use Rattle.pg_parse.specs.Language.{Gram, one, give, ◌>>=◌, ◌or◌, many}
+use Rattle.pg_parse.specs.Grammar.{literal_of, flags, plain_value, type_in, typed_in}
 use Rattle.pg_ast.specs.Syntax.{Val, vals}
 use Rattle.pg_ast.specs.Syntax as syntax
 
-abbrev pub gep_rest : ℕ → Gram Val → Token → Gram Val
-gep_rest d g o = do
-  _ ← flags
+abbrev pub gep_tail : ℕ → Gram Val → Token → Gram Val
+gep_tail d g o = do
   _ ← one (is OpenRound)
   t ← type_in d
   _ ← one (is Comma)
@@ -21,8 +20,13 @@ gep_rest d g o = do
   _ ← one (is CloseRound)
   give (syntax.GepVal o.span t p.ty p.value (vals all))
 
-abbrev pub int_to_ptr_rest : ℕ → Token → Gram Val
-int_to_ptr_rest d o = do
+abbrev pub gep_rest : ℕ → Gram Val → Token → Gram Val
+gep_rest d g o = do
+  _ ← flags
+  gep_tail d g o
+
+abbrev pub int_to_ptr_tail : ℕ → Token → Gram Val
+int_to_ptr_tail d o = do
   _ ← one (is OpenRound)
   t ← type_in d
   n ← one (is Int)
@@ -30,3 +34,9 @@ int_to_ptr_rest d o = do
   u ← type_in d
   _ ← one (is CloseRound)
   give (syntax.IntToPtrVal o.span t (literal_of n) u)
+
+-- an integer, one word or a global
+abbrev pub certain_value : Gram Val
+certain_value = (do
+  n ← one (is Int)
+  give (syntax.Int (literal_of n))) or plain_value

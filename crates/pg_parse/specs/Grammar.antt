@@ -1,12 +1,12 @@
 -- The grammar of program texts.
 use Rattle.std.specs.Prelude.{ℕ, zero, suc, List, [], ◌∷◌, Bool, true, false, ◌&&◌, ◌||◌, not}
 use Rattle.pg_parse.specs.declared.class.Class.{Class}
-use Rattle.pg_parse.specs.declared.class.Class.TheVariants.{I1, I8, I16, I32, I64, Ptr, Void, X, To, Align, Volatile, Flag, Eq, Ne, Ugt, Uge, Ult, Ule, Sgt, Sge, Slt, Sle, TypeWord, Distinct, OtherWord, Refused, True, False, Null, Undef, Poison, ZeroInitializer, GetElementPtr, IntToPtr, Int, Str, Local, Global, DroppedGlobal, Meta, Bang, Attr, DebugAttr, Less, Comma, Equals, OpenRound, CloseRound, OpenBrace, CloseBrace, OpenSquare, CloseSquare}
+use Rattle.pg_parse.specs.declared.class.Class.TheVariants.{I1, I8, I16, I32, I64, Ptr, Void, X, To, Align, Volatile, Flag, Eq, Ne, Ugt, Uge, Ult, Ule, Sgt, Sge, Slt, Sle, TypeWord, Distinct, OtherWord, Refused, True, False, Null, Undef, Poison, ZeroInitializer, GetElementPtr, IntToPtr, Int, Str, CStr, Local, Global, DroppedGlobal, Meta, Bang, Attr, DebugAttr, Less, Comma, Equals, OpenRound, CloseRound, OpenBrace, CloseBrace, OpenSquare, CloseSquare}
 use Rattle.pg_parse.specs.declared.token.Token.{Token}
 use Rattle.pg_parse.specs.declared.token.Fault.TheVariants.{Unsupported, TooDeep}
 use Rattle.pg_parse.specs.Classes.{is, is_word, ◌∪◌}
 use Rattle.pg_parse.specs.Language.{Gram, give, one, refused, ◌or◌, ◌>>=◌, many}
-use Rattle.pg_ast.specs.Syntax.{Ty, tys, Val, Typed, vals}
+use Rattle.pg_ast.specs.Syntax.{Ty, tys, Val, Typed, vals, Const, TypedC, consts}
 use Rattle.pg_ast.specs.Syntax as syntax
 use Rattle.pg_ast.specs.declared.names.Name.{Name}
 use Rattle.pg_ast.specs.declared.names.Literal.{Literal}
@@ -35,6 +35,9 @@ name_of t = record { text = t.text; span = t.span }
 
 abbrev pub literal_of : Token → Literal
 literal_of t = record { text = t.text; span = t.span }
+
+abbrev pub global_name : Class → Bool
+global_name = is Global ∪ is DroppedGlobal
 
 -- ---- types
 
@@ -168,9 +171,9 @@ attributes = do
 abbrev pub flags : Gram (Unit {0})
 flags = drop_value (many (one (is Flag)))
 
--- any value but an integer and a constant instruction
-abbrev pub named_value : Gram Val
-named_value = (do
+-- a value that is one word, or a global
+abbrev pub plain_value : Gram Val
+plain_value = (do
   t ← one (is True)
   give (syntax.True t.span)) or ((do
     t ← one (is False)
@@ -182,11 +185,15 @@ named_value = (do
           t ← one (is Poison)
           give (syntax.Poison t.span)) or ((do
             t ← one (is ZeroInitializer)
-            give (syntax.ZeroInitializer t.span)) or ((do
-              t ← one (is Local)
-              give (syntax.Local (name_of t))) or (do
-                t ← one (is Global ∪ is DroppedGlobal)
-                give (syntax.Global (name_of t)))))))))
+            give (syntax.ZeroInitializer t.span)) or (do
+              t ← one global_name
+              give (syntax.Global (name_of t))))))))
+
+-- any value but an integer and a constant instruction
+abbrev pub named_value : Gram Val
+named_value = (do
+  t ← one (is Local)
+  give (syntax.Local (name_of t))) or plain_value
 
 -- a value and the type before it
 abbrev pub typed_in : ℕ → Gram Val → Gram Typed
@@ -236,6 +243,44 @@ abbrev pub value_in : ℕ → Gram Val
 value_in d = (do
   n ← one (is Int)
   give (syntax.Int (literal_of n))) or other_value_in d
+
+-- ---- constants
+
+-- a constant and the type before it
+abbrev pub typed_const_in : ℕ → Gram Const → Gram TypedC
+typed_const_in d g = do
+  t ← type_in d
+  c ← g
+  give (record { ty = t; value = c })
+
+-- [ [type const (, type const)*] ]
+abbrev pub array_const_of : ℕ → Gram Const → Gram Const
+array_const_of d g = do
+  o ← one (is OpenSquare)
+  all ← listed CloseSquare (typed_const_in d g)
+  give (syntax.ArrayConst o.span (consts all))
+
+-- { [type const (, type const)*] }
+abbrev pub struct_const_of : ℕ → Gram Const → Gram Const
+struct_const_of d g = do
+  o ← one (is OpenBrace)
+  all ← listed CloseBrace (typed_const_in d g)
+  give (syntax.StructConst o.span (consts all))
+
+-- val | CStr
+abbrev pub simple_const_in : ℕ → Gram Const
+simple_const_in d = (do
+  t ← one (is CStr)
+  give (syntax.BytesConst (literal_of t))) or (do
+    v ← value_in d
+    give (syntax.ValConst v))
+
+-- a constant in which at most this many brackets are open at once
+unfoldable pub const_in : ℕ → Gram Const
+const_in zero = simple_const_in zero or refused TooDeep opens_type
+const_in (suc d) = array_const_of d (const_in d) or (struct_const_of d (const_in d) or simple_const_in (suc d))
+
+-- ---- arguments
 
 -- type attrs val
 abbrev pub argument : Gram Typed

@@ -3,5 +3,15 @@ pub mod Language
 pub mod Reading
 pub mod Verdict
 pub mod Grammar
+pub mod GrammarOps
+pub mod GrammarItems
 pub mod Reader
+pub mod ReaderOps
+pub mod ReaderItems
 pub mod Views
+pub mod Words
+pub mod Sets
+pub mod Accepted
+pub mod Splits
+pub mod Endings
+pub mod ItemStates

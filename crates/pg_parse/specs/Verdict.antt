@@ -18,11 +18,13 @@ abbrev pub Cut : List Token → List Token → Type 0
 Cut [] us = us ≡ []
 Cut (t ∷ rest) us = (more : List Token) × (us ≡ t ∷ more)
 
--- The tokens of front begin a list of the grammar, and with the next one, or with none left, they don't. The fault is that of the refused token.
+-- The tokens of front begin a list of the grammar, and with the next one, or with none left, they don't. The fault is
+-- that of the refused token, and there is none where no token is left.
 pub record Refused {A : Type 0} (g : Gram A) (fault : Option Fault) (front rest : List Token) : Type 0 where
   pub alive : (us : List Token) × (a : A) × IsRead g (front ++ us) a
   pub dead : (us : List Token) (a : A) → Cut rest us → IsRead g (front ++ us) a → ⊥
   pub cause : (f : Fault) (t : Token) (us : List Token) → rest ≡ t ∷ us → IsMarked g f (front ++ t ∷ []) ↔ (fault ≡ Some f)
+  pub at_end : rest ≡ [] → fault ≡ None
 
 -- a whole list is read as the value, and as no other, or its first refused token stands at a place
 abbrev pub Answers : {A : Type 0} → Gram A → List Token → Read A → Type 0

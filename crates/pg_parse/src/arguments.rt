@@ -1,13 +1,18 @@
-ghost use Rattle.std.specs.Prelude.{◌≡◌, ◌≤◌, ◌<◌, ◌+◌, ◌-◌, length, drop, IfOk};
-ghost use Rattle.pg_parse.specs.Reading.{comes, take_one};
-ghost use Rattle.pg_parse.specs.Reader.{fresh_at, pending_at, begins_fresh, begins_pending};
-ghost use Rattle.pg_parse.specs.Grammar.{attribute_word, attribute_name, metadata_name};
-ghost use Rattle.pg_parse.specs.Views.{Reads, pending_of};
+ghost use Rattle.std.specs.Prelude.{◌≡◌, ◌≤◌, ◌<◌, length, drop, IfOk};
+ghost use Rattle.pg_parse.specs.Reader.{fresh_at, pending_at, begins_pending, settled_at, attributed_at, argument_at, Bare};
+ghost use Rattle.pg_parse.specs.Reading.{comes};
+ghost use Rattle.pg_parse.specs.Views.{Reads, Takes, pending_of};
+ghost use Rattle.pg_ast.specs.Views.{val_of, typed_of};
 
 use crate::class::Class;
-use crate::reader::{is_class, next_is, take};
+use crate::reader::{is_class, literal, next_is, take, unsupported};
+use crate::sets::{ClassSet, contains, next_in, take_in};
 use crate::skips::skip_to;
-use crate::token::{ReadError, Token};
+use crate::token::{ReadError, Refusal, Token};
+use crate::types::type_node;
+use crate::value::{other_value, value};
+use pg_ast::{ArgNode, TypedVal, ValNode};
+use std::alloc::Global;
 
 /// What stands before a place among the attributes of an argument: nothing that goes on, a word, a string,
 /// or a word and this integer.
@@ -19,113 +24,25 @@ pub enum Pending<'a> {
     Held(&'a Token),
 }
 
-fn is_attribute_word(class: Class) -> bool
-    ensures { result ≡ attribute_word class }
-{
-    match class {
-        Class::X
-        | Class::To
-        | Class::Align
-        | Class::Volatile
-        | Class::Flag
-        | Class::Eq
-        | Class::Ne
-        | Class::Ugt
-        | Class::Uge
-        | Class::Ult
-        | Class::Ule
-        | Class::Sgt
-        | Class::Sge
-        | Class::Slt
-        | Class::Sle
-        | Class::TypeWord
-        | Class::Distinct
-        | Class::OtherWord => true,
-        _ => false,
-    }
-}
-
-fn word_next(tokens: &[Token], at: usize) -> bool
+fn take_fresh<'a>(tokens: &'a [Token], at: usize) -> Result<(Pending<'a>, usize), Refusal>
     requires { at ≤ length tokens.now }
-    ensures { result ≡ comes attribute_word (drop at tokens.now) }
-{
-    at < tokens.len() && is_attribute_word(tokens[at].class)
-}
-
-fn name_next(tokens: &[Token], at: usize) -> bool
-    requires { at ≤ length tokens.now }
-    ensures { result ≡ comes attribute_name (drop at tokens.now) }
-{
-    at < tokens.len() && is_attribute_name(tokens[at].class)
-}
-
-fn is_attribute_name(class: Class) -> bool
-    ensures { result ≡ attribute_name class }
-{
-    is_class(class, Class::Attr) || is_class(class, Class::DebugAttr)
-}
-
-fn is_metadata_name(class: Class) -> bool
-    ensures { result ≡ metadata_name class }
-{
-    is_class(class, Class::Meta) || is_class(class, Class::Bang)
-}
-
-fn take_word(tokens: &[Token], at: usize) -> Result<(&Token, usize), ReadError>
-    requires { at ≤ length tokens.now }
-    ensures read { Reads tokens.now at (λ x. x.0.now) (λ x. x.1) result (take_one attribute_word (drop at tokens.now)) }
-    ensures step { IfOk result (λ x. x.1 ≡ at + 1) }
-{
-    if at < tokens.len() && is_attribute_word(tokens[at].class) {
-        Ok((&tokens[at], at + 1))
-    } else {
-        Err(ReadError::Refused(None, at))
-    }
-}
-
-fn take_name(tokens: &[Token], at: usize) -> Result<(&Token, usize), ReadError>
-    requires { at ≤ length tokens.now }
-    ensures read { Reads tokens.now at (λ x. x.0.now) (λ x. x.1) result (take_one attribute_name (drop at tokens.now)) }
-    ensures step { IfOk result (λ x. x.1 ≡ at + 1) }
-{
-    if at < tokens.len() && is_attribute_name(tokens[at].class) {
-        Ok((&tokens[at], at + 1))
-    } else {
-        Err(ReadError::Refused(None, at))
-    }
-}
-
-fn take_metadata(tokens: &[Token], at: usize) -> Result<(&Token, usize), ReadError>
-    requires { at ≤ length tokens.now }
-    ensures read { Reads tokens.now at (λ x. x.0.now) (λ x. x.1) result (take_one metadata_name (drop at tokens.now)) }
-    ensures step { IfOk result (λ x. x.1 ≡ at + 1) }
-{
-    if at < tokens.len() && is_metadata_name(tokens[at].class) {
-        Ok((&tokens[at], at + 1))
-    } else {
-        Err(ReadError::Refused(None, at))
-    }
-}
-
-fn take_fresh<'a>(tokens: &'a [Token], at: usize) -> Result<(Pending<'a>, usize), ReadError>
-    requires { at ≤ length tokens.now }
-    ensures read { Reads tokens.now at (λ x. pending_of x.0) (λ x. x.1) result (fresh_at (drop at tokens.now)) }
+    ensures read { Takes tokens.now at (λ x. pending_of x.0) (λ x. x.1) result (fresh_at (drop at tokens.now)) }
     ensures on { IfOk result (λ x. at < x.1) }
 {
-    if word_next(tokens, at) {
-        let (_, to) = take_word(tokens, at)?;
+    if next_in(tokens, at, ClassSet::AttributeWord) {
+        let (_, to) = take_in(tokens, at, ClassSet::AttributeWord)?;
         return Ok((Pending::Bare, to));
     }
-    if name_next(tokens, at) {
-        let (_, to) = take_name(tokens, at)?;
+    if next_in(tokens, at, ClassSet::AttributeName) {
+        let (_, to) = take_in(tokens, at, ClassSet::AttributeName)?;
         return Ok((Pending::Fresh, to));
     }
     if next_is(tokens, at, Class::Str) {
         let (_, to) = take(tokens, at, Class::Str)?;
         return Ok((Pending::Quoted, to));
     }
-    let (_, at) = take_metadata(tokens, at)?;
-    let (_, to) = take_metadata(tokens, at)?;
+    let (_, at) = take_in(tokens, at, ClassSet::MetadataName)?;
+    let (_, to) = take_in(tokens, at, ClassSet::MetadataName)?;
     Ok((Pending::Fresh, to))
 }
 
@@ -134,9 +51,9 @@ fn take_pending<'a>(
     tokens: &'a [Token],
     at: usize,
     state: Pending<'a>,
-) -> Result<(Pending<'a>, usize), ReadError>
+) -> Result<(Pending<'a>, usize), Refusal>
     requires { at ≤ length tokens.now }
-    ensures read { Reads tokens.now at (λ x. pending_of x.0) (λ x. x.1) result (pending_at (pending_of state.entry) (drop at tokens.now)) }
+    ensures read { Takes tokens.now at (λ x. pending_of x.0) (λ x. x.1) result (pending_at (pending_of state.entry) (drop at tokens.now)) }
     ensures on { IfOk result (λ x. at < x.1) }
 {
     match state {
@@ -162,4 +79,85 @@ fn take_pending<'a>(
         }
         _ => take_fresh(tokens, at),
     }
+}
+
+/// A token goes on with what stands before the place.
+fn begins(state: &Pending<'_>, class: Class) -> bool
+    ensures { result ≡ begins_pending (pending_of state.now) class }
+{
+    match state {
+        Pending::Bare => bare_goes_on(class),
+        Pending::Quoted => is_class(class, Class::Equals) || contains(ClassSet::Attribute, class),
+        _ => contains(ClassSet::Attribute, class),
+    }
+}
+
+fn bare_goes_on(class: Class) -> bool
+    ensures { result ≡ begins_pending Bare class }
+{
+    match class {
+        Class::Int | Class::OpenRound => true,
+        _ => contains(ClassSet::Attribute, class),
+    }
+}
+
+fn pending_next(tokens: &[Token], at: usize, state: &Pending<'_>) -> bool
+    requires { at ≤ length tokens.now }
+    ensures { result ≡ comes (begins_pending (pending_of state.now)) (drop at tokens.now) }
+{
+    at < tokens.len() && begins(state, tokens[at].class)
+}
+
+#[tactic(auto, unfolding(crate::specs::Reader::settled_at))]
+fn settled(
+    alloc: Global,
+    tokens: &[Token],
+    at: usize,
+    state: Pending<'_>,
+) -> Result<(ValNode, usize), ReadError>
+    requires { at ≤ length tokens.now }
+    ensures { Reads tokens.now at (λ x. val_of x.0) (λ x. x.1) result (settled_at (pending_of state.entry) (drop at tokens.now)) }
+{
+    if next_is(tokens, at, Class::Refused) {
+        return Err(ReadError::Refused(unsupported(at)));
+    }
+    match state {
+        Pending::Bare => other_value(alloc, tokens, at, 64),
+        Pending::Held(number) => {
+            if next_in(tokens, at, ClassSet::Value) {
+                return value(alloc, tokens, at, 64);
+            }
+            Ok((ValNode::Int(literal(alloc, number)?), at))
+        }
+        _ => value(alloc, tokens, at, 64),
+    }
+}
+
+#[tactic(auto, unfolding(crate::specs::Reader::attributed_at))]
+fn attributed(alloc: Global, tokens: &[Token], at: usize) -> Result<(ValNode, usize), ReadError>
+    requires { at ≤ length tokens.now }
+    ensures { Reads tokens.now at (λ x. val_of x.0) (λ x. x.1) result (attributed_at (drop at tokens.now)) }
+{
+    let mut state = Pending::Fresh;
+    let mut place = at;
+    'items: while pending_next(tokens, place, &state) {
+        match take_pending(tokens, place, state) {
+            Err(refusal) => return Err(ReadError::Refused(refusal)),
+            Ok((next, to)) => {
+                state = next;
+                place = to;
+            }
+        }
+    }
+    settled(alloc, tokens, place, state)
+}
+
+/// An argument of a call.
+pub fn argument(alloc: Global, tokens: &[Token], at: usize) -> Result<(ArgNode, usize), ReadError>
+    requires { at ≤ length tokens.now }
+    ensures { Reads tokens.now at (λ x. typed_of x.0) (λ x. x.1) result (argument_at (drop at tokens.now)) }
+{
+    let (ty, at) = type_node(alloc, tokens, at, 64)?;
+    let (value, at) = attributed(alloc, tokens, at)?;
+    Ok((TypedVal { ty, value }, at))
 }

@@ -113,123 +113,481 @@ pub enum Class {
     Colon,
 }
 
-/// The words of the grammar, and their classes.
-pub const WORDS: [(&[u8], Class); 117] = [
-    (b"i1", Class::I1),
-    (b"i8", Class::I8),
-    (b"i16", Class::I16),
-    (b"i32", Class::I32),
-    (b"i64", Class::I64),
-    (b"ptr", Class::Ptr),
-    (b"void", Class::Void),
-    (b"metadata", Class::MetadataWord),
-    (b"label", Class::LabelWord),
-    (b"token", Class::OtherType),
-    (b"opaque", Class::OtherType),
-    (b"half", Class::OtherType),
-    (b"bfloat", Class::OtherType),
-    (b"float", Class::OtherType),
-    (b"double", Class::OtherType),
-    (b"fp128", Class::OtherType),
-    (b"x86_fp80", Class::OtherType),
-    (b"ppc_fp128", Class::OtherType),
-    (b"x86_mmx", Class::OtherType),
-    (b"x86_amx", Class::OtherType),
-    (b"x", Class::X),
-    (b"to", Class::To),
-    (b"align", Class::Align),
-    (b"volatile", Class::Volatile),
-    (b"nsw", Class::Flag),
-    (b"nuw", Class::Flag),
-    (b"exact", Class::Flag),
-    (b"inbounds", Class::Flag),
-    (b"nusw", Class::Flag),
-    (b"disjoint", Class::Flag),
-    (b"nneg", Class::Flag),
-    (b"samesign", Class::Flag),
-    (b"eq", Class::Eq),
-    (b"ne", Class::Ne),
-    (b"ugt", Class::Ugt),
-    (b"uge", Class::Uge),
-    (b"ult", Class::Ult),
-    (b"ule", Class::Ule),
-    (b"sgt", Class::Sgt),
-    (b"sge", Class::Sge),
-    (b"slt", Class::Slt),
-    (b"sle", Class::Sle),
-    (b"type", Class::TypeWord),
-    (b"distinct", Class::Distinct),
-    (b"global", Class::GlobalWord),
-    (b"constant", Class::ConstantWord),
-    (b"true", Class::True),
-    (b"false", Class::False),
-    (b"null", Class::Null),
-    (b"undef", Class::Undef),
-    (b"poison", Class::Poison),
-    (b"zeroinitializer", Class::ZeroInitializer),
-    (b"source_filename", Class::SourceFilename),
-    (b"target", Class::Target),
-    (b"declare", Class::Declare),
-    (b"define", Class::Define),
-    (b"attributes", Class::Attributes),
-    (b"add", Class::Add),
-    (b"sub", Class::Sub),
-    (b"mul", Class::Mul),
-    (b"udiv", Class::Udiv),
-    (b"sdiv", Class::Sdiv),
-    (b"urem", Class::Urem),
-    (b"srem", Class::Srem),
-    (b"shl", Class::Shl),
-    (b"lshr", Class::Lshr),
-    (b"ashr", Class::Ashr),
-    (b"and", Class::And),
-    (b"or", Class::Or),
-    (b"xor", Class::Xor),
-    (b"icmp", Class::Icmp),
-    (b"trunc", Class::Trunc),
-    (b"zext", Class::Zext),
-    (b"sext", Class::Sext),
-    (b"ptrtoint", Class::PtrToInt),
-    (b"inttoptr", Class::IntToPtr),
-    (b"select", Class::Select),
-    (b"phi", Class::Phi),
-    (b"br", Class::Br),
-    (b"switch", Class::Switch),
-    (b"tail", Class::TailWord),
-    (b"musttail", Class::TailWord),
-    (b"notail", Class::TailWord),
-    (b"call", Class::Call),
-    (b"ret", Class::Ret),
-    (b"unreachable", Class::Unreachable),
-    (b"alloca", Class::Alloca),
-    (b"load", Class::Load),
-    (b"store", Class::Store),
-    (b"getelementptr", Class::GetElementPtr),
-    (b"fence", Class::OtherLeading),
-    (b"cmpxchg", Class::OtherLeading),
-    (b"atomicrmw", Class::OtherLeading),
-    (b"invoke", Class::OtherLeading),
-    (b"callbr", Class::OtherLeading),
-    (b"indirectbr", Class::OtherLeading),
-    (b"resume", Class::OtherLeading),
-    (b"cleanupret", Class::OtherLeading),
-    (b"catchret", Class::OtherLeading),
-    (b"freeze", Class::OtherLeading),
-    (b"extractvalue", Class::OtherLeading),
-    (b"insertvalue", Class::OtherLeading),
-    (b"module", Class::OtherLeading),
-    (b"uselistorder", Class::OtherLeading),
-    (b"thread_local", Class::Refused),
-    (b"byval", Class::Refused),
-    (b"byref", Class::Refused),
-    (b"sret", Class::Refused),
-    (b"inalloca", Class::Refused),
-    (b"preallocated", Class::Refused),
-    (b"external", Class::Refused),
-    (b"extern_weak", Class::Refused),
-    (b"alias", Class::Refused),
-    (b"ifunc", Class::Refused),
-    (b"addrspace", Class::Refused),
-    (b"personality", Class::Refused),
-    (b"gc", Class::Refused),
+/// A word of the grammar and its class.
+#[derive(Clone, Copy, Debug)]
+pub struct WordClass {
+    pub word: &'static [u8],
+    pub class: Class,
+}
+
+/// The words of the grammar, each with its class.
+pub const WORDS: [WordClass; 117] = [
+    WordClass {
+        word: b"i1",
+        class: Class::I1,
+    },
+    WordClass {
+        word: b"i8",
+        class: Class::I8,
+    },
+    WordClass {
+        word: b"i16",
+        class: Class::I16,
+    },
+    WordClass {
+        word: b"i32",
+        class: Class::I32,
+    },
+    WordClass {
+        word: b"i64",
+        class: Class::I64,
+    },
+    WordClass {
+        word: b"ptr",
+        class: Class::Ptr,
+    },
+    WordClass {
+        word: b"void",
+        class: Class::Void,
+    },
+    WordClass {
+        word: b"metadata",
+        class: Class::MetadataWord,
+    },
+    WordClass {
+        word: b"label",
+        class: Class::LabelWord,
+    },
+    WordClass {
+        word: b"token",
+        class: Class::OtherType,
+    },
+    WordClass {
+        word: b"opaque",
+        class: Class::OtherType,
+    },
+    WordClass {
+        word: b"half",
+        class: Class::OtherType,
+    },
+    WordClass {
+        word: b"bfloat",
+        class: Class::OtherType,
+    },
+    WordClass {
+        word: b"float",
+        class: Class::OtherType,
+    },
+    WordClass {
+        word: b"double",
+        class: Class::OtherType,
+    },
+    WordClass {
+        word: b"fp128",
+        class: Class::OtherType,
+    },
+    WordClass {
+        word: b"x86_fp80",
+        class: Class::OtherType,
+    },
+    WordClass {
+        word: b"ppc_fp128",
+        class: Class::OtherType,
+    },
+    WordClass {
+        word: b"x86_mmx",
+        class: Class::OtherType,
+    },
+    WordClass {
+        word: b"x86_amx",
+        class: Class::OtherType,
+    },
+    WordClass {
+        word: b"x",
+        class: Class::X,
+    },
+    WordClass {
+        word: b"to",
+        class: Class::To,
+    },
+    WordClass {
+        word: b"align",
+        class: Class::Align,
+    },
+    WordClass {
+        word: b"volatile",
+        class: Class::Volatile,
+    },
+    WordClass {
+        word: b"nsw",
+        class: Class::Flag,
+    },
+    WordClass {
+        word: b"nuw",
+        class: Class::Flag,
+    },
+    WordClass {
+        word: b"exact",
+        class: Class::Flag,
+    },
+    WordClass {
+        word: b"inbounds",
+        class: Class::Flag,
+    },
+    WordClass {
+        word: b"nusw",
+        class: Class::Flag,
+    },
+    WordClass {
+        word: b"disjoint",
+        class: Class::Flag,
+    },
+    WordClass {
+        word: b"nneg",
+        class: Class::Flag,
+    },
+    WordClass {
+        word: b"samesign",
+        class: Class::Flag,
+    },
+    WordClass {
+        word: b"eq",
+        class: Class::Eq,
+    },
+    WordClass {
+        word: b"ne",
+        class: Class::Ne,
+    },
+    WordClass {
+        word: b"ugt",
+        class: Class::Ugt,
+    },
+    WordClass {
+        word: b"uge",
+        class: Class::Uge,
+    },
+    WordClass {
+        word: b"ult",
+        class: Class::Ult,
+    },
+    WordClass {
+        word: b"ule",
+        class: Class::Ule,
+    },
+    WordClass {
+        word: b"sgt",
+        class: Class::Sgt,
+    },
+    WordClass {
+        word: b"sge",
+        class: Class::Sge,
+    },
+    WordClass {
+        word: b"slt",
+        class: Class::Slt,
+    },
+    WordClass {
+        word: b"sle",
+        class: Class::Sle,
+    },
+    WordClass {
+        word: b"type",
+        class: Class::TypeWord,
+    },
+    WordClass {
+        word: b"distinct",
+        class: Class::Distinct,
+    },
+    WordClass {
+        word: b"global",
+        class: Class::GlobalWord,
+    },
+    WordClass {
+        word: b"constant",
+        class: Class::ConstantWord,
+    },
+    WordClass {
+        word: b"true",
+        class: Class::True,
+    },
+    WordClass {
+        word: b"false",
+        class: Class::False,
+    },
+    WordClass {
+        word: b"null",
+        class: Class::Null,
+    },
+    WordClass {
+        word: b"undef",
+        class: Class::Undef,
+    },
+    WordClass {
+        word: b"poison",
+        class: Class::Poison,
+    },
+    WordClass {
+        word: b"zeroinitializer",
+        class: Class::ZeroInitializer,
+    },
+    WordClass {
+        word: b"source_filename",
+        class: Class::SourceFilename,
+    },
+    WordClass {
+        word: b"target",
+        class: Class::Target,
+    },
+    WordClass {
+        word: b"declare",
+        class: Class::Declare,
+    },
+    WordClass {
+        word: b"define",
+        class: Class::Define,
+    },
+    WordClass {
+        word: b"attributes",
+        class: Class::Attributes,
+    },
+    WordClass {
+        word: b"add",
+        class: Class::Add,
+    },
+    WordClass {
+        word: b"sub",
+        class: Class::Sub,
+    },
+    WordClass {
+        word: b"mul",
+        class: Class::Mul,
+    },
+    WordClass {
+        word: b"udiv",
+        class: Class::Udiv,
+    },
+    WordClass {
+        word: b"sdiv",
+        class: Class::Sdiv,
+    },
+    WordClass {
+        word: b"urem",
+        class: Class::Urem,
+    },
+    WordClass {
+        word: b"srem",
+        class: Class::Srem,
+    },
+    WordClass {
+        word: b"shl",
+        class: Class::Shl,
+    },
+    WordClass {
+        word: b"lshr",
+        class: Class::Lshr,
+    },
+    WordClass {
+        word: b"ashr",
+        class: Class::Ashr,
+    },
+    WordClass {
+        word: b"and",
+        class: Class::And,
+    },
+    WordClass {
+        word: b"or",
+        class: Class::Or,
+    },
+    WordClass {
+        word: b"xor",
+        class: Class::Xor,
+    },
+    WordClass {
+        word: b"icmp",
+        class: Class::Icmp,
+    },
+    WordClass {
+        word: b"trunc",
+        class: Class::Trunc,
+    },
+    WordClass {
+        word: b"zext",
+        class: Class::Zext,
+    },
+    WordClass {
+        word: b"sext",
+        class: Class::Sext,
+    },
+    WordClass {
+        word: b"ptrtoint",
+        class: Class::PtrToInt,
+    },
+    WordClass {
+        word: b"inttoptr",
+        class: Class::IntToPtr,
+    },
+    WordClass {
+        word: b"select",
+        class: Class::Select,
+    },
+    WordClass {
+        word: b"phi",
+        class: Class::Phi,
+    },
+    WordClass {
+        word: b"br",
+        class: Class::Br,
+    },
+    WordClass {
+        word: b"switch",
+        class: Class::Switch,
+    },
+    WordClass {
+        word: b"tail",
+        class: Class::TailWord,
+    },
+    WordClass {
+        word: b"musttail",
+        class: Class::TailWord,
+    },
+    WordClass {
+        word: b"notail",
+        class: Class::TailWord,
+    },
+    WordClass {
+        word: b"call",
+        class: Class::Call,
+    },
+    WordClass {
+        word: b"ret",
+        class: Class::Ret,
+    },
+    WordClass {
+        word: b"unreachable",
+        class: Class::Unreachable,
+    },
+    WordClass {
+        word: b"alloca",
+        class: Class::Alloca,
+    },
+    WordClass {
+        word: b"load",
+        class: Class::Load,
+    },
+    WordClass {
+        word: b"store",
+        class: Class::Store,
+    },
+    WordClass {
+        word: b"getelementptr",
+        class: Class::GetElementPtr,
+    },
+    WordClass {
+        word: b"fence",
+        class: Class::OtherLeading,
+    },
+    WordClass {
+        word: b"cmpxchg",
+        class: Class::OtherLeading,
+    },
+    WordClass {
+        word: b"atomicrmw",
+        class: Class::OtherLeading,
+    },
+    WordClass {
+        word: b"invoke",
+        class: Class::OtherLeading,
+    },
+    WordClass {
+        word: b"callbr",
+        class: Class::OtherLeading,
+    },
+    WordClass {
+        word: b"indirectbr",
+        class: Class::OtherLeading,
+    },
+    WordClass {
+        word: b"resume",
+        class: Class::OtherLeading,
+    },
+    WordClass {
+        word: b"cleanupret",
+        class: Class::OtherLeading,
+    },
+    WordClass {
+        word: b"catchret",
+        class: Class::OtherLeading,
+    },
+    WordClass {
+        word: b"freeze",
+        class: Class::OtherLeading,
+    },
+    WordClass {
+        word: b"extractvalue",
+        class: Class::OtherLeading,
+    },
+    WordClass {
+        word: b"insertvalue",
+        class: Class::OtherLeading,
+    },
+    WordClass {
+        word: b"module",
+        class: Class::OtherLeading,
+    },
+    WordClass {
+        word: b"uselistorder",
+        class: Class::OtherLeading,
+    },
+    WordClass {
+        word: b"thread_local",
+        class: Class::Refused,
+    },
+    WordClass {
+        word: b"byval",
+        class: Class::Refused,
+    },
+    WordClass {
+        word: b"byref",
+        class: Class::Refused,
+    },
+    WordClass {
+        word: b"sret",
+        class: Class::Refused,
+    },
+    WordClass {
+        word: b"inalloca",
+        class: Class::Refused,
+    },
+    WordClass {
+        word: b"preallocated",
+        class: Class::Refused,
+    },
+    WordClass {
+        word: b"external",
+        class: Class::Refused,
+    },
+    WordClass {
+        word: b"extern_weak",
+        class: Class::Refused,
+    },
+    WordClass {
+        word: b"alias",
+        class: Class::Refused,
+    },
+    WordClass {
+        word: b"ifunc",
+        class: Class::Refused,
+    },
+    WordClass {
+        word: b"addrspace",
+        class: Class::Refused,
+    },
+    WordClass {
+        word: b"personality",
+        class: Class::Refused,
+    },
+    WordClass {
+        word: b"gc",
+        class: Class::Refused,
+    },
 ];

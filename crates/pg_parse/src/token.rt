@@ -1,5 +1,5 @@
 ghost use Rattle.std.specs.Prelude.{◌≡◌};
-ghost use Rattle.pg_parse.specs.declared.token.ReadError.TheVariants.{Memory};
+ghost use Rattle.pg_parse.specs.declared.token.ReadError.TheVariants.{Memory, Refused};
 
 use crate::class::Class;
 use pg_ast::Bytes;
@@ -21,11 +21,26 @@ pub enum Fault {
     TooDeep,
 }
 
-/// No memory, or the number of the refused token and its fault.
+/// The number of the refused token, and its fault.
+#[derive(Clone, Copy, Debug)]
+pub struct Refusal {
+    pub fault: Option<Fault>,
+    pub at: usize,
+}
+
+/// No memory, or a token that is refused.
 #[derive(Debug, Drop)]
 pub enum ReadError {
     Memory,
-    Refused(Option<Fault>, usize),
+    Refused(Refusal),
+}
+
+impl From<Refusal> for ReadError {
+    ghost from_gives = { λ r e. e ≡ Refused r };
+
+    fn from(refusal: Refusal) -> ReadError {
+        ReadError::Refused(refusal)
+    }
 }
 
 impl From<AllocError> for ReadError {

@@ -1,48 +1,17 @@
 ghost use Rattle.std.specs.Prelude.{◌≡◌, ◌≤◌, ◌<◌, ◌+◌, length, drop, map, IfOk};
 ghost use Rattle.pg_parse.specs.declared.class.Class.TheVariants.{CloseBrace, Comma};
 ghost use Rattle.pg_parse.specs.Classes.{is};
-ghost use Rattle.pg_parse.specs.Grammar.{no_type, opens_type};
-ghost use Rattle.pg_parse.specs.Reading.{comes, onto, all_of};
+ghost use Rattle.pg_parse.specs.Reading.{onto, all_of};
 ghost use Rattle.pg_parse.specs.Reader.{simple_type_at, type_at, array_at, struct_at, listed_at, behind_comma};
 ghost use Rattle.pg_parse.specs.Views.{Reads};
 ghost use Rattle.pg_ast.specs.Views.{ty_of};
 
 use crate::class::Class;
-use crate::reader::{is_any_word, is_class, literal, name, next_is, take};
-use crate::token::{Fault, ReadError, Token};
+use crate::reader::{literal, name, next_is, take, too_deep, unsupported};
+use crate::sets::{ClassSet, next_in};
+use crate::token::{ReadError, Token};
 use pg_ast::TypeNode;
 use std::alloc::Global;
-
-fn no_type_next(tokens: &[Token], at: usize) -> bool
-    requires { at ≤ length tokens.now }
-    ensures { result ≡ comes no_type (drop at tokens.now) }
-{
-    at < tokens.len() && is_no_type(tokens[at].class)
-}
-
-/// A word that isn't a type's, or `<`.
-fn is_no_type(class: Class) -> bool
-    ensures { result ≡ no_type class }
-{
-    match class {
-        Class::I1 | Class::I8 | Class::I16 | Class::I32 | Class::I64 | Class::Ptr | Class::Void =>
-            false,
-        Class::Less => true,
-        _ => is_any_word(class),
-    }
-}
-
-fn opens_type_next(tokens: &[Token], at: usize) -> bool
-    requires { at ≤ length tokens.now }
-    ensures { result ≡ comes opens_type (drop at tokens.now) }
-{
-    if at < tokens.len() {
-        let class = tokens[at].class;
-        is_class(class, Class::OpenSquare) || is_class(class, Class::OpenBrace)
-    } else {
-        false
-    }
-}
 
 fn simple_type(alloc: Global, tokens: &[Token], at: usize) -> Result<(TypeNode, usize), ReadError>
     requires { at ≤ length tokens.now }
@@ -117,12 +86,12 @@ pub fn type_node(
     requires { at ≤ length tokens.now }
     ensures { Reads tokens.now at (λ x. ty_of x.0) (λ x. x.1) result (type_at depth (drop at tokens.now)) }
 {
-    if no_type_next(tokens, at) {
-        return Err(ReadError::Refused(Some(Fault::Unsupported), at));
+    if next_in(tokens, at, ClassSet::NoType) {
+        return Err(ReadError::Refused(unsupported(at)));
     }
     if depth == 0 {
-        if opens_type_next(tokens, at) {
-            return Err(ReadError::Refused(Some(Fault::TooDeep), at));
+        if next_in(tokens, at, ClassSet::OpensType) {
+            return Err(ReadError::Refused(too_deep(at)));
         }
         return simple_type(alloc, tokens, at);
     }
@@ -203,8 +172,9 @@ fn more_types(
     Ok((types, place))
 }
 
+/// A type behind a comma.
 #[cycle(types)]
-fn comma_type(
+pub fn comma_type(
     alloc: Global,
     tokens: &[Token],
     at: usize,

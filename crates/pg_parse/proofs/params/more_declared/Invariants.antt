@@ -1,0 +1,15 @@
+use Rattle.std.proofs.Common.{◌≤◌, ◌-◌, length, drop, map}
+use Rattle.pg_parse.specs.declared.class.Class.TheVariants.{Comma}
+use Rattle.pg_parse.specs.Classes.{is}
+use Rattle.pg_parse.specs.Reading.{onto, all_of}
+use Rattle.pg_parse.specs.Reader.{behind_comma}
+use Rattle.pg_parse.specs.ReaderItems.{dparam_at}
+use Rattle.pg_ast.specs.Views.{dparam_of}
+use Rattle.pg_parse.proofs.Loops.{Left}
+use Rattle.pg_parse.proofs.params.more_declared.Given as goal
+
+abbrev pub invariant-items : goal.invariant-items
+invariant-items l = (l.at ≤ l.place) × (l.place ≤ length l.tokens) × Left (is Comma) (behind_comma dparam_at) (map dparam_of l.all.items) (drop l.place l.tokens) (onto (map dparam_of l.fn.all.items) (all_of (is Comma) (behind_comma dparam_at) (drop l.at l.tokens)))
+
+abbrev pub decreases-items : goal.decreases-items
+decreases-items l = length l.tokens - l.place

@@ -1,0 +1,31 @@
+-- What the code keeps between two items.
+use Rattle.std.specs.Prelude.{List, Option, Some, None}
+use Rattle.pg_parse.specs.declared.class.Class.TheVariants.{Distinct, Local}
+use Rattle.pg_parse.specs.declared.token.Token.{Token}
+use Rattle.pg_parse.specs.declared.items.AfterItem.{AfterItem}
+use Rattle.pg_parse.specs.declared.items.AfterItem.TheVariants as after
+use Rattle.pg_parse.specs.declared.items.Items.{Items}
+use Rattle.pg_parse.specs.Classes.{is}
+use Rattle.pg_parse.specs.Grammar.{name_of}
+use Rattle.pg_parse.specs.Reading.{Read, Good, ◌>>=◌, take_one, choose}
+use Rattle.pg_parse.specs.Reader.{drop_value_at}
+use Rattle.pg_parse.specs.ReaderItems as reader
+use Rattle.pg_ast.specs.declared.names.Name.{Name}
+use Rattle.pg_ast.specs.Views.{tree_of}
+
+-- a Local, or none
+abbrev pub maybe_name_at : List Token → Read (Option Name)
+maybe_name_at = choose (is Local) (λ ts. take_one (is Local) ts >>= λ n. Good (Some (name_of n))) (Good None)
+
+-- the word distinct, or none
+abbrev pub distinct_at : List Token → Read (Unit {0})
+distinct_at = choose (is Distinct) (drop_value_at (take_one (is Distinct))) (Good tt)
+
+abbrev pub after_of : AfterItem → reader.AfterItem
+after_of after.Done = reader.Done
+after_of after.Declared = reader.Declared
+after_of after.Valued = reader.Valued
+after_of after.Tailed = reader.Tailed
+
+abbrev pub items_of : Items → reader.Items
+items_of s = reader.items (tree_of s.tree) (after_of s.after)

@@ -1,0 +1,71 @@
+ghost use Rattle.std.specs.Prelude.{◌≡◌, ◌≤◌, ◌<◌, length, drop, IfOk};
+ghost use Rattle.pg_parse.specs.ReaderItems.{constancy_at, global_item_at, type_item_at};
+ghost use Rattle.pg_parse.specs.Views.{Reads, Takes};
+ghost use Rattle.pg_ast.specs.Views.{global_of, type_item_of};
+
+use crate::attributes::attributes;
+use crate::class::Class;
+use crate::constants::constant;
+use crate::reader::{name, next_is, take};
+use crate::sets::{ClassSet, take_in};
+use crate::token::{ReadError, Refusal, Token};
+use crate::types::type_node;
+use pg_ast::{GlobalItem, TypeItem};
+use std::alloc::Global;
+
+/// A named type.
+#[tactic(auto, unfolding(crate::specs::ReaderItems::type_item_at))]
+pub fn type_item(alloc: Global, tokens: &[Token], at: usize) -> Result<(TypeItem, usize), ReadError>
+    requires { at ≤ length tokens.now }
+    ensures read { Reads tokens.now at (λ x. type_item_of x.0) (λ x. x.1) result (type_item_at (drop at tokens.now)) }
+    ensures on { IfOk result (λ x. at < x.1) }
+{
+    let (token, at) = take(tokens, at, Class::Local)?;
+    let (_, at) = take(tokens, at, Class::Equals)?;
+    let (_, at) = take(tokens, at, Class::TypeWord)?;
+    let (ty, at) = type_node(alloc, tokens, at, 64)?;
+    let name = name(alloc, token)?;
+    Ok((TypeItem { name, ty }, at))
+}
+
+/// Whether a global is a constant.
+fn constancy(tokens: &[Token], at: usize) -> Result<(bool, usize), Refusal>
+    requires { at ≤ length tokens.now }
+    ensures { Takes tokens.now at (λ x. x.0) (λ x. x.1) result (constancy_at (drop at tokens.now)) }
+{
+    if next_is(tokens, at, Class::GlobalWord) {
+        let (_, to) = take(tokens, at, Class::GlobalWord)?;
+        return Ok((false, to));
+    }
+    let (_, to) = take(tokens, at, Class::ConstantWord)?;
+    Ok((true, to))
+}
+
+/// A global, up to its constant.
+#[tactic(auto, unfolding(crate::specs::ReaderItems::global_item_at))]
+pub fn global_item(
+    alloc: Global,
+    tokens: &[Token],
+    at: usize,
+) -> Result<(GlobalItem, usize), ReadError>
+    requires { at ≤ length tokens.now }
+    ensures read { Reads tokens.now at (λ x. global_of x.0) (λ x. x.1) result (global_item_at (drop at tokens.now)) }
+    ensures on { IfOk result (λ x. at < x.1) }
+{
+    let (token, at) = take_in(tokens, at, ClassSet::GlobalName)?;
+    let (_, at) = take(tokens, at, Class::Equals)?;
+    let at = attributes(tokens, at)?;
+    let (is_constant, at) = constancy(tokens, at)?;
+    let (ty, at) = type_node(alloc, tokens, at, 64)?;
+    let (value, at) = constant(alloc, tokens, at, 64)?;
+    let name = name(alloc, token)?;
+    Ok((
+        GlobalItem {
+            name,
+            is_constant,
+            ty,
+            value,
+        },
+        at,
+    ))
+}
