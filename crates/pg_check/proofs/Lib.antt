@@ -1,0 +1,15 @@
+mod Examples
+mod RefusalExamples
+mod Capping
+mod Shapes
+mod TypeNumbers
+mod SameTypes
+mod NameIndexes
+mod Resolutions
+mod StructView
+mod ItemExamples
+mod Fuel
+mod ItemNumbers
+mod ItemSteps
+mod ItemPasses
+mod ItemNames
