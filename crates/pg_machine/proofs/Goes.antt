@@ -91,9 +91,6 @@ taken_more p input s z t a k = let l = no_fewer p input s z t (Ok a) k in omega 
 pub taken_is : (p : NumberedProgram) (input : List ℤ) (s z : State) (t a : ℕ) → ready p s t ≡ true → Path Answered (answered p input s t (next_of p s t)) (z, Ok a) → Path Answered (record z { locals = local_after p z.locals t a (slice_get z.locals t) }, Ok (number_in p (slice_get z.locals t) a)) (taken p s t (answered p input s t (next_of p s t)))
 taken_is p input s z t a g k = rw (k, local_is p input s z t (Ok a) g k) refl
 
-pub trapped_taken : (p : NumberedProgram) (input : List ℤ) (s z : State) (t : ℕ) (name : TrapName) → Path Answered (answered p input s t (next_of p s t)) (z, Err name) → Path Answered (z, Err name) (taken p s t (answered p input s t (next_of p s t)))
-trapped_taken p input s z t name k = rw k refl
-
 -- what is known of an answer, for a result that is this one
 pub seen : (p : NumberedProgram) (input : List ℤ) (s z : State) (t : ℕ) (x y : Result ℕ TrapName) (act : Action) → act ≡ next_of p s t → Path Answered (z, x) (answered p input s t act) → x ≡ y → Path Answered (answered p input s t (next_of p s t)) (z, y)
 seen p input s z t x y act a k e = ap (answered p input s t) (sym a) ∙ sym k ∙ ap (λ (q : Result ℕ TrapName). (z, q)) e

@@ -1,10 +1,10 @@
 -- A run's state with the input and the gated instructions of the run.
 use Rattle.std.specs.Prelude.{ℕ, ℤ, List, length, nat_lt, Option, Some, None, if◌then◌else◌}
 use Rattle.pg_ir.specs.declared.ids.InstrId.{InstrId}
-use Rattle.pg_machine.specs.declared.whole.machine.Stepped.{Stepped}
-use Rattle.pg_machine.specs.declared.whole.machine.Stepped.TheVariants as answers
-use Rattle.pg_machine.specs.declared.whole.machine.Next.{Next}
-use Rattle.pg_machine.specs.declared.whole.machine.Next.TheVariants as nexts
+use Rattle.pg_machine.specs.declared.machine.Stepped.{Stepped}
+use Rattle.pg_machine.specs.declared.machine.Stepped.TheVariants as answers
+use Rattle.pg_machine.specs.declared.machine.Next.{Next}
+use Rattle.pg_machine.specs.declared.machine.Next.TheVariants as nexts
 use Rattle.pg_machine.specs.State.{State, next_of, instr_of}
 use Rattle.pg_machine.specs.MachineStep as steps
 use Rattle.pg_ir.specs.Program.{NumberedProgram}

@@ -1,11 +1,16 @@
 pub mod Bound
 pub mod Fits
+pub mod Follow
+pub mod FullGuided
 pub mod Guided
+pub mod Locality
 pub mod Machine
 pub mod MachineStep
+pub mod Permitted
 pub mod Phases
 pub mod Rotation
-pub mod Run
+pub mod Runs
 pub mod State
 pub mod Taken
 pub mod Texts
+pub mod Walked

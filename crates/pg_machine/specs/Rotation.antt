@@ -9,7 +9,7 @@ use Rattle.pg_sync.specs.Sync as sync
 use Rattle.pg_trace.specs.declared.step.Step.{Step}
 use Rattle.pg_machine.specs.declared.outcome.Outcome.{Outcome}
 use Rattle.pg_machine.specs.declared.outcome.Outcome.TheVariants as ends
-use Rattle.pg_machine.specs.declared.whole.share.Share.{Share}
+use Rattle.pg_machine.specs.declared.share.Share.{Share}
 use Rattle.pg_machine.specs.State.{State, initial, next_of, instr_of}
 use Rattle.pg_machine.specs.MachineStep.{Stepped, Did, Trapped, is_ended, ready, step}
 

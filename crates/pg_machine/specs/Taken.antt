@@ -1,9 +1,11 @@
 -- A step of a rotation run, as the trace, the state and the end that it leaves.
-use Rattle.std.specs.Prelude.{List, [], ◌∷◌, ◌++◌, Option, Some, None}
+use Rattle.std.specs.Prelude.{List, [], ◌∷◌, ◌++◌, Option, Some, None, Result, Ok, Err}
 use Rattle.pg_trace.specs.declared.step.Step.{Step}
 use Rattle.pg_machine.specs.declared.outcome.Outcome.{Outcome}
 use Rattle.pg_machine.specs.declared.outcome.Outcome.TheVariants as ends
+use Rattle.pg_machine.specs.declared.share.Share.{Share}
 use Rattle.pg_machine.specs.State.{State}
+use Rattle.pg_machine.specs.Rotation.{RunResult, onto}
 use Rattle.pg_machine.specs.MachineStep.{Stepped, Did, Trapped}
 
 -- a step that was done is recorded; a trap leaves all as it was, and ends the run
@@ -18,3 +20,8 @@ state_with s (Trapped name id) = s
 abbrev pub end_with : Stepped → Option Outcome
 end_with (Did x s) = None
 end_with (Trapped name id) = Some (ends.Trap name (record { 0 = id }))
+
+-- the run after a step that left this share, or where its end comes in place of the step
+abbrev pub on_turn : Result Share Outcome → List Step → State → (State → Share → RunResult) → RunResult
+on_turn (Ok v) xs s more = onto xs (more s v)
+on_turn (Err end) xs s more = record { trace = xs; state = s; end = end }

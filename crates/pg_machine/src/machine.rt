@@ -1,166 +1,155 @@
-ghost use Rattle.std.specs.Prelude.{◌≡◌, ◌+◌, ◌-◌, ◌<◌, ◌≤◌, ◌^◌, ◌++◌, length, IfOk, OnOk};
-ghost use Rattle.pg_step.specs.States.{IsOf, CanStep};
-ghost use Rattle.pg_step.specs.Step.{next};
-ghost use Rattle.pg_machine.specs.Run.{initial, step, input_at, answer_to, line_of, printed_by, events_of, value_after, exit_of, end_before, end_at_limit};
+ghost use Rattle.std.specs.Prelude.{◌≡◌, ◌≤◌, length, true, IfOk, OnOk};
+ghost use Rattle.std.specs.List.{All};
+ghost use Rattle.pg_num.specs.Numbers.{signed, truncated};
+ghost use Rattle.pg_num.specs.declared.width.Width.TheVariants.{W32};
+ghost use Rattle.pg_step.specs.States.{IsOf};
+ghost use Rattle.pg_machine.specs.State.{initial, next_of};
+ghost use Rattle.pg_machine.specs.MachineStep.{ready, step};
+ghost use Rattle.pg_machine.specs.Machine.{IsMachine};
+ghost use Rattle.pg_machine.specs.Bound.{next_by, next_step, stepped_as, IfTrapped};
 
-use crate::outcome::Outcome;
-use pg_ir::{Program, Request, ThreadNo};
-use pg_num::{Width, from_signed, to_signed, trunc};
-use pg_step::{Action, Fiber};
+use crate::gated::{Gated, listed};
+use crate::state::MachineState;
+use pg_ir::{InstrId, Program, ThreadNo, TrapName};
+use pg_num::{Width, to_signed, trunc};
+use pg_step::Action;
+use pg_trace::{Step, Turn};
 use std::alloc::{AllocError, Global};
 use std::marker::Model;
 
-/// The state of a run: main, what was printed, how many events were done, and main's value.
+/// What a step was: done, or the trap of the thread's next action at its instruction.
+#[derive(Clone, Copy, Debug, PartialEq, Eq)]
+pub enum Stepped {
+    Did(Step),
+    Trapped(TrapName, InstrId),
+}
+
+/// What a thread's next step is.
+#[derive(Clone, Copy, Debug, PartialEq, Eq)]
+pub enum Next {
+    /// There is no thread of this number.
+    NotMade,
+    /// The thread has ended.
+    Ended,
+    /// The thread's own state makes it trap, at this instruction.
+    Trap(TrapName, InstrId),
+    /// An event, as the turn that it would be.
+    Event(Turn),
+    /// A step that is no event, at this instruction.
+    Other(InstrId),
+}
+
+/// The machine of a program's run on an input, with the instructions whose loads and stores are events.
 #[derive(Drop)]
-pub(crate) struct Machine {
-    main: Fiber,
-    printed: Vec<u8>,
-    events: u32,
-    value: u64,
+pub struct Machine {
+    state: MachineState,
+    input: Vec<i64>,
+    gated: Gated,
 }
 
 impl Model for Machine {
-    ghost use Rattle.pg_machine.specs.Run.{State};
+    ghost use Rattle.pg_machine.specs.Bound.{BoundState};
 
-    ghost Value = { State };
+    ghost Value = { BoundState };
 
-    ghost view = { λ m. record { local = m.main; printed = m.printed.items; events = m.events; value = m.value } };
+    ghost view = { λ m. record { state = m.state; input = m.input.items; gated = m.gated } };
 }
 
-/// The input's number at an index, 0 outside of the input.
-fn number_at(input: &[i64], index: i64) -> u64
-    ensures { result ≡ input_at input.now index }
-{
-    if index < 0 {
-        return 0;
-    }
-    match input.get(index as usize) {
-        Some(&n) => from_signed(Width::W64, n),
-        None => 0,
-    }
-}
-
-/// What the machine answers to an action.
-fn answer(input: &[i64], action: &Action) -> u64
-    ensures { result ≡ answer_to input.now action.now }
-{
-    match action {
-        Action::In(index) => number_at(input, *index),
-        Action::InLen => input.len() as u64,
-        _ => 0,
+impl MachineState {
+    /// What an action of a thread is as its next step.
+    fn next_by(&self, gated: &Gated, t: ThreadNo, action: &Action) -> Next
+        ensures { result ≡ next_by gated.now self.now t.0 action.now }
+    {
+        match action {
+            Action::Ended => Next::Ended,
+            Action::Trap(name) => Next::Trap(*name, self.id(t)),
+            _ => match self.happening(gated, t, action) {
+                None => Next::Other(self.id(t)),
+                Some(event) => Next::Event(Turn {
+                    thread: t,
+                    instr: self.id(t),
+                    kind: event.kind,
+                    object: event.object,
+                }),
+            },
+        }
     }
 }
 
 impl Machine {
-    /// The first state of a run.
-    #[tactic(auto, unfolding(crate::specs::Run::initial))]
-    pub(crate) fn new(alloc: Global, p: &Program) -> Result<Machine, AllocError>
-        ensures state { IfOk result (λ m. m ≡ initial p.now) }
-        ensures of { IfOk result (λ m. IsOf p.now m.local) }
-        ensures events { IfOk result (λ m. m.events ≡ 0) }
-    {
-        Ok(Machine {
-            main: Fiber::new(alloc, p, ThreadNo(0), p.main())?,
-            printed: Vec::new(alloc),
-            events: 0,
-            value: 0,
-        })
-    }
-
-    /// What main's next step is.
-    pub(crate) fn next(&self, p: &Program) -> Action
-        requires { IsOf p.now self.now.local }
-        ensures { result ≡ next p.now self.now.local }
-    {
-        self.main.next(p)
-    }
-
-    fn exit(&self) -> Outcome
-        ensures { result ≡ exit_of self.now }
-    {
-        Outcome::Exit(to_signed(Width::W32, trunc(Width::W32, self.value)) as i32)
-    }
-
-    /// The end that comes before this next action, if one does.
-    pub(crate) fn end_before(&self, action: &Action) -> Option<Outcome>
-        ensures { result ≡ end_before action.now self.now }
-    {
-        match action {
-            Action::Ended => Some(self.exit()),
-            Action::Trap(name) => Some(Outcome::Trap(*name, self.main.id())),
-            _ => None,
-        }
-    }
-
-    /// The end where no step is left for this next action.
-    pub(crate) fn end_at_limit(&self, action: &Action) -> Outcome
-        ensures { result ≡ end_at_limit action.now self.now }
-    {
-        match action {
-            Action::Ended => self.exit(),
-            _ => Outcome::Budget,
-        }
-    }
-
-    /// Prints and keeps what an action leaves beside main's local state.
-    fn keep(&mut self, alloc: Global, action: &Action) -> Result<(), AllocError>
-        requires { self.old.events < 2 ^ 32 - 1 }
-        ensures { OnOk result (self.new ≡ record self.old {
-          printed = self.old.printed ++ printed_by action.now;
-          events = self.old.events + events_of action.now;
-          value = value_after action.now self.old.value;
-        }) }
-    {
-        let Action::Event(request) = action else {
-            return Ok(());
-        };
-        self.events += 1;
-        match request {
-            Request::Out { value } => self.print(alloc, to_signed(Width::W64, *value)),
-            Request::Exit { value, .. } => {
-                self.value = *value;
-                Ok(())
-            }
-            _ => Ok(()),
-        }
-    }
-
-    /// Prints a number in decimal, and a line feed.
-    fn print(&mut self, alloc: Global, number: i64) -> Result<(), AllocError>
-        ensures { OnOk result (self.new ≡ record self.old { printed = self.old.printed ++ line_of number }) }
-    {
-        let line = format!(in alloc; "{number}\n")?;
-        self.printed.extend_from_slice(line.as_bytes())
-    }
-
-    /// Does main's next step, which is this action.
-    #[tactic(auto, unfolding(crate::specs::Run::step))]
-    pub(crate) fn step(
-        &mut self,
+    /// The machine of a program before the first step of its run on an input. The loads and stores of
+    /// the gated instructions are events.
+    ///
+    /// # Errors
+    ///
+    /// Where no memory is left for it.
+    pub fn new(
         alloc: Global,
         p: &Program,
         input: &[i64],
-        action: &Action,
-    ) -> Result<(), AllocError>
-        requires of { IsOf p.now self.old.local }
-        requires next { action.now ≡ next p.now self.old.local }
-        requires can { CanStep action.now }
-        requires room { self.old.events < 2 ^ 32 - 1 }
-        ensures state { OnOk result (self.new ≡ step p.now input.now self.old) }
-        ensures of { OnOk result (IsOf p.now self.new.local) }
-        ensures events { OnOk result (self.new.events ≤ self.old.events + 1) }
+        gated: &[InstrId],
+    ) -> Result<Machine, AllocError>
+        ensures state { IfOk result (λ m. m ≡ record { state = initial p.now; input = input.now; gated = gated.now }) }
+        ensures of { IfOk result (λ m. IsMachine p.now m.state) }
     {
-        self.keep(alloc, action)?;
-        let reply = answer(input, action);
-        self.main.resume(p, reply);
-        Ok(())
+        Ok(Machine {
+            state: MachineState::new(alloc, p)?,
+            input: listed(alloc, input)?,
+            gated: Gated::new(alloc, p, gated)?,
+        })
     }
 
-    /// The printed bytes and the number of events.
-    pub(crate) fn into_parts(self) -> (Vec<u8>, u32)
-        ensures printed { result.0.items ≡ self.printed }
-        ensures events { result.1 ≡ self.events }
+    /// Whether a thread's next step can be taken now, or traps: the run isn't over, the thread is made
+    /// and hasn't ended, and what it waits for has come.
+    pub fn ready(&self, p: &Program, t: ThreadNo) -> bool
+        requires of { IsMachine p.now self.now.state }
+        ensures ready { result ≡ ready p.now self.now.state t.0 }
     {
-        (self.printed, self.events)
+        self.state.ready(p, t)
+    }
+
+    /// Takes the next step of a thread that is ready: one instruction of one thread. Where it traps
+    /// the machine is as before.
+    ///
+    /// # Errors
+    ///
+    /// Where no memory is left for it.
+    pub fn step(&mut self, alloc: Global, p: &Program, t: ThreadNo) -> Result<Stepped, AllocError>
+        requires of { IsMachine p.now self.old.state }
+        requires ready { ready p.now self.old.state t.0 ≡ true }
+        ensures step { IfOk result (λ r. stepped_as r self.new.state ≡ step self.old.gated p.now self.old.input self.old.state t.0) }
+        ensures of { OnOk result (IsMachine p.now self.new.state) }
+        ensures trap { IfOk result (λ r. IfTrapped r (self.new ≡ self.old)) }
+        ensures input { self.new.input ≡ self.old.input }
+        ensures gated { self.new.gated ≡ self.old.gated }
+    {
+        self.state
+            .step(alloc, p, self.input.as_slice(), &self.gated, t)
+    }
+
+    /// What a thread's next step is.
+    pub fn next(&self, p: &Program, t: ThreadNo) -> Next
+        requires of { IsMachine p.now self.now.state }
+        ensures next { result ≡ next_step p.now self.now t.0 }
+    {
+        if (t.0 as usize) < self.state.count() {
+            self.state.next_by(&self.gated, t, &self.state.next(p, t))
+        } else {
+            Next::NotMade
+        }
+    }
+
+    /// The bytes that were printed so far.
+    pub fn output(&self) -> &[u8]
+        ensures bytes { result.now ≡ self.now.state.printed }
+    {
+        self.state.printed()
+    }
+
+    /// Main's value, 0 before it has one.
+    pub fn value(&self) -> i32
+        ensures value { result ≡ signed W32 (truncated W32 self.now.state.value) }
+    {
+        to_signed(Width::W32, trunc(Width::W32, self.state.main_value())) as i32
     }
 }

@@ -1,0 +1,25 @@
+use Rattle.std.proofs.Common.{[], ◌∙◌, ap}
+use Rattle.pg_machine.specs.MachineStep.{Stepped}
+use Rattle.pg_machine.specs.Taken.{end_with, state_with, steps_with}
+use Rattle.pg_machine.proofs.Goes.{did_is, trapped_step}
+use Rattle.pg_machine.proofs.rotation.record_step.Goals as goal
+
+pub returns-in-Err-clause-end : goal.returns-in-Err-clause-end
+returns-in-Err-clause-end c = ap end_with (trapped_step [] c.args.p.now c.args.input.now c.args.state.now c.take.new.self c.args.t.0 c.id-id.result.0 c.in-Err.name _ c.id-id.ensures c.in_ok-name.ensures.state c.in-Err.is)
+
+pub returns-in-Err-clause-trace : goal.returns-in-Err-clause-trace
+returns-in-Err-clause-trace c = ap (λ (o : Stepped). record c.args.trace.now { steps = steps_with c.args.trace.now.steps o }) (trapped_step [] c.args.p.now c.args.input.now c.args.state.now c.take.new.self c.args.t.0 c.id-id.result.0 c.in-Err.name _ c.id-id.ensures c.in_ok-name.ensures.state c.in-Err.is)
+
+pub returns-in-Err-clause-state : goal.returns-in-Err-clause-state
+returns-in-Err-clause-state c =
+    let same = rw c.in-Err.is at c.in_ok-name.ensures.trap in
+    same ∙ ap (state_with c.args.state.now) (trapped_step [] c.args.p.now c.args.input.now c.args.state.now c.take.new.self c.args.t.0 c.id-id.result.0 c.in-Err.name _ c.id-id.ensures c.in_ok-name.ensures.state c.in-Err.is)
+
+pub returns-in-Ok-clause-end : goal.returns-in-Ok-clause-end
+returns-in-Ok-clause-end c = ap end_with (did_is [] c.args.p.now c.args.input.now c.args.state.now c.take.new.self c.args.t.0 c.in-Ok.number _ _ (rw c.none.ensures at (c.tell-told.ensures c.in-Ok.number)) c.in_ok-name.ensures.state c.in-Ok.is)
+
+pub returns-in-Ok-clause-trace : goal.returns-in-Ok-clause-trace
+returns-in-Ok-clause-trace c = c.push.ensures ∙ ap (λ (o : Stepped). record c.args.trace.now { steps = steps_with c.args.trace.now.steps o }) (did_is [] c.args.p.now c.args.input.now c.args.state.now c.take.new.self c.args.t.0 c.in-Ok.number _ _ (rw c.none.ensures at (c.tell-told.ensures c.in-Ok.number)) c.in_ok-name.ensures.state c.in-Ok.is)
+
+pub returns-in-Ok-clause-state : goal.returns-in-Ok-clause-state
+returns-in-Ok-clause-state c = ap (state_with c.args.state.now) (did_is [] c.args.p.now c.args.input.now c.args.state.now c.take.new.self c.args.t.0 c.in-Ok.number _ _ (rw c.none.ensures at (c.tell-told.ensures c.in-Ok.number)) c.in_ok-name.ensures.state c.in-Ok.is)

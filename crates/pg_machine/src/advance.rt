@@ -1,0 +1,69 @@
+ghost use Rattle.std.specs.Prelude.{◌≡◌, ◌≤◌, length, true, IfOk, OnErr, OnOk};
+ghost use Rattle.pg_machine.specs.State.{next_of};
+ghost use Rattle.pg_machine.specs.MachineStep.{answered, ready, step, taken};
+ghost use Rattle.pg_machine.specs.Machine.{IsMachine};
+ghost use Rattle.pg_machine.specs.Bound.{stepped_as, IfTrapped};
+
+use crate::gated::Gated;
+use crate::machine::Stepped;
+use crate::state::MachineState;
+use pg_ir::{Program, ThreadNo, TrapName};
+use pg_step::Action;
+use pg_trace::Step;
+use std::alloc::{AllocError, Global};
+
+impl MachineState {
+    /// Takes the next step of a thread that is ready, which is this action, and gives the number that
+    /// its instruction's own register got, or its trap.
+    pub(crate) fn take(
+        &mut self,
+        alloc: Global,
+        p: &Program,
+        input: &[i64],
+        t: ThreadNo,
+        action: &Action,
+    ) -> Result<Result<u64, TrapName>, AllocError>
+        requires of { IsMachine p.now self.old }
+        requires next { action.now ≡ next_of p.now self.old t.0 }
+        requires ready { ready p.now self.old t.0 ≡ true }
+        ensures state { IfOk result (λ r. (self.new, r) ≡ taken p.now self.old t.0 (answered p.now input.now self.old t.0 (next_of p.now self.old t.0))) }
+        ensures of { OnOk result (IsMachine p.now self.new) }
+        ensures trap { IfOk result (λ r. OnErr r (self.new ≡ self.old)) }
+        ensures more { OnOk result (length self.old.locals ≤ length self.new.locals) }
+    {
+        p.facts();
+        match self.answer(alloc, p, input, t, action)? {
+            Err(name) => Ok(Err(name)),
+            Ok(answer) => Ok(Ok(self.advance(p, t, answer))),
+        }
+    }
+
+    /// Takes the next step of a thread that is ready, and tells what it was.
+    #[tactic(auto, unfolding(crate::specs::MachineStep::step))]
+    pub(crate) fn step(
+        &mut self,
+        alloc: Global,
+        p: &Program,
+        input: &[i64],
+        gated: &Gated,
+        t: ThreadNo,
+    ) -> Result<Stepped, AllocError>
+        requires of { IsMachine p.now self.old }
+        requires ready { ready p.now self.old t.0 ≡ true }
+        ensures step { IfOk result (λ r. stepped_as r self.new ≡ step gated.now p.now input.now self.old t.0) }
+        ensures of { OnOk result (IsMachine p.now self.new) }
+        ensures trap { IfOk result (λ r. IfTrapped r (self.new ≡ self.old)) }
+        ensures more { OnOk result (length self.old.locals ≤ length self.new.locals) }
+    {
+        let action = self.next(p, t);
+        let id = self.id(t);
+        let told = self.tell(p, gated, t, &action);
+        match self.take(alloc, p, input, t, &action)? {
+            Err(name) => Ok(Stepped::Trapped(name, id)),
+            Ok(number) => Ok(Stepped::Did(Step {
+                result: number,
+                ..told
+            })),
+        }
+    }
+}

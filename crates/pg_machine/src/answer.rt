@@ -1,0 +1,168 @@
+ghost use Rattle.std.specs.Prelude.{◌≡◌, ◌<◌, ◌≤◌, ◌+◌, ◌*◌, ◌^◌, ◌++◌, ◌∷◌, [], length, slice_get, slice_set, slice_index, IfOk, IfSome, OnOk};
+ghost use Rattle.pg_num.specs.declared.limits.TheConstants.{THREAD_LIMIT};
+ghost use Rattle.pg_ir.specs.WellFormed.{BeginsThread};
+ghost use Rattle.pg_mem.specs.Memory.{written};
+ghost use Rattle.pg_sync.specs.Sync.{applied};
+ghost use Rattle.pg_step.specs.LocalState.{fresh};
+ghost use Rattle.pg_machine.specs.Fits.{RequestFits};
+ghost use Rattle.pg_machine.specs.Machine.{HasRoom, MayAsk, MayDo};
+ghost use Rattle.pg_machine.specs.MachineStep.{answer_of, answered, input_at, on_applied, requested, written_if};
+ghost use Rattle.pg_machine.specs.Texts.{printed_by};
+
+use crate::state::MachineState;
+use pg_ir::{Program, Request, ThreadNo, TrapName};
+use pg_num::{Place, Width, from_signed, to_signed};
+use pg_step::Action;
+use pg_sync::Reply;
+use std::alloc::{AllocError, Global};
+
+/// The input's number at an index, 0 outside of the input.
+fn number_at(input: &[i64], index: i64) -> u64
+    ensures { result ≡ input_at input.now index }
+{
+    if index < 0 {
+        return 0;
+    }
+    match input.get(index as usize) {
+        Some(&n) => from_signed(Width::W64, n),
+        None => 0,
+    }
+}
+
+impl MachineState {
+    /// Makes a thread, and writes its number to a place.
+    fn create(
+        &mut self,
+        alloc: Global,
+        p: &Program,
+        at: Place,
+        function: u32,
+        argument: u64,
+    ) -> Result<(), AllocError>
+        requires few { length self.old.locals < THREAD_LIMIT }
+        requires begins { BeginsThread (slice_get p.now.functions function) }
+        requires place { at.bytes ≡ 8 }
+        ensures { OnOk result (self.new ≡ record self.old { locals = self.old.locals ++ fresh p.now (length self.old.locals) function ∷ []; memory = written self.old.memory at (length self.old.locals); words = self.old.words ++ argument ∷ [] }) }
+    {
+        let n = self.count() as u64;
+        self.add_thread(alloc, p, function, argument)?;
+        self.write(at, n);
+        Ok(())
+    }
+
+    /// Writes the exit value of a thread to a place, if there is one.
+    fn write_exit(&mut self, target: u64, at: Option<Place>)
+        requires { IfSome at (λ r. r.bytes ≡ 8) }
+        ensures { self.new ≡ record self.old { memory = written_if at (slice_index self.old.words target) self.old.memory } }
+    {
+        if let Some(place) = at {
+            let word = self.word(target);
+            self.write(place, word);
+        }
+    }
+
+    /// Prints what a request prints.
+    fn print_request(&mut self, alloc: Global, r: &Request) -> Result<(), AllocError>
+        ensures { OnOk result (self.new ≡ record self.old { printed = self.old.printed ++ printed_by r.now }) }
+    {
+        match *r {
+            Request::Out { value } => {
+                let number = to_signed(Width::W64, value);
+                let line = format!(in alloc; "{number}\n")?;
+                self.print(alloc, line.as_bytes())
+            }
+            Request::Putchar { value } => self.print(alloc, &[(value % 256) as u8]),
+            _ => Ok(()),
+        }
+    }
+
+    /// Does what a request does beside the objects.
+    fn complete(
+        &mut self,
+        alloc: Global,
+        p: &Program,
+        t: ThreadNo,
+        r: &Request,
+    ) -> Result<(), AllocError>
+        requires made { t.0 < length self.old.words }
+        requires fits { RequestFits p.now r.now }
+        requires room { HasRoom self.old r.now }
+        ensures { OnOk result (self.new ≡ requested p.now self.old t.0 r.now) }
+    {
+        match *r {
+            Request::Exit { value, .. } => {
+                self.keep_exit(t, value);
+                Ok(())
+            }
+            Request::Create {
+                at,
+                function,
+                argument,
+            } => self.create(alloc, p, at, function, argument),
+            Request::Join { target, at } => {
+                self.write_exit(target, at);
+                Ok(())
+            }
+            _ => self.print_request(alloc, r),
+        }
+    }
+
+    /// The number that answers a request: for a start the thread's argument, else the reply's.
+    fn answer_to(&self, t: ThreadNo, reply: &Reply, r: &Request) -> u64
+        ensures { result ≡ answer_of self.now t.0 reply.now r.now }
+    {
+        match r {
+            Request::Start => self.word(t.0 as u64),
+            _ => reply.value,
+        }
+    }
+
+    /// Does a request, and gives the number that answers it, or its trap.
+    fn event(
+        &mut self,
+        alloc: Global,
+        p: &Program,
+        t: ThreadNo,
+        r: &Request,
+    ) -> Result<Result<u64, TrapName>, AllocError>
+        requires { MayAsk p.now self.old t.0 r.now }
+        ensures { IfOk result (λ a. (self.new, a) ≡ on_applied p.now self.old t.0 r.now (applied self.old.sync t.0 r.now)) }
+    {
+        match self.apply(t, r) {
+            Err(trap) => Ok(Err(trap.0)),
+            Ok(reply) => {
+                let answer = self.answer_to(t, &reply, r);
+                self.complete(alloc, p, t, r)?;
+                Ok(Ok(answer))
+            }
+        }
+    }
+
+    /// Does what an action does but for the thread's own state, and gives the number that answers it,
+    /// or its trap.
+    #[tactic(auto, unfolding(crate::specs::MachineStep::answered))]
+    pub(crate) fn answer(
+        &mut self,
+        alloc: Global,
+        p: &Program,
+        input: &[i64],
+        t: ThreadNo,
+        action: &Action,
+    ) -> Result<Result<u64, TrapName>, AllocError>
+        requires { MayDo p.now self.old t.0 action.now }
+        ensures { IfOk result (λ a. (self.new, a) ≡ answered p.now input.now self.old t.0 action.now) }
+    {
+        match action {
+            Action::In(index) => Ok(Ok(number_at(input, *index))),
+            Action::InLen => Ok(Ok(input.len() as u64)),
+            Action::Load(at) => Ok(Ok(self.read(*at))),
+            Action::Store(at, number) => {
+                self.write(*at, *number);
+                Ok(Ok(0))
+            }
+            Action::Event(r) => self.event(alloc, p, t, r),
+            Action::Trap(name) => Ok(Err(*name)),
+            _ => Ok(Ok(0)),
+        }
+    }
+}

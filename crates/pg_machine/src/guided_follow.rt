@@ -1,0 +1,221 @@
+ghost use Rattle.std.specs.Prelude.{◌≡◌, ◌<◌, ◌≤◌, ◌+◌, length, true, IfNone, IfOk, IfSome, OnOk};
+ghost use Rattle.pg_num.specs.declared.limits.TheConstants.{RECORDING_STEP_LIMIT};
+ghost use Rattle.pg_machine.specs.Machine.{IsMachine};
+ghost use Rattle.pg_machine.specs.State.{next_of};
+ghost use Rattle.pg_machine.specs.MachineStep.{ready, step};
+ghost use Rattle.pg_machine.specs.Taken.{state_with, steps_with};
+ghost use Rattle.pg_machine.specs.Guided.{behind, guided_of, walk};
+ghost use Rattle.pg_machine.specs.Walked.{EndsAs, end_of_step};
+ghost use Rattle.pg_machine.specs.Follow.{followed_as, following_of, reached};
+
+use crate::gated::Gated;
+use crate::guided_end::GuidedEnd;
+use crate::guided_left::{all_left, left_of, set_left};
+use crate::guided_walked::Walked;
+use crate::state::MachineState;
+use pg_ir::{Program, ThreadNo};
+use pg_num::limits::RECORDING_STEP_LIMIT;
+use pg_step::Action;
+use pg_trace::{Schedule, Step, Trace, Turn};
+use std::alloc::{AllocError, Global};
+
+/// What following a schedule gives.
+#[derive(Drop)]
+pub enum Followed {
+    /// The guided run exits: its steps, what it printed, and main's value.
+    Exit {
+        trace: Trace,
+        output: Vec<u8>,
+        value: i32,
+    },
+    /// The guided run strays at this turn.
+    Strayed(u32),
+    /// The guided run ends by a trap or a spent budget, or would take one step more than a recording may
+    /// have.
+    Unfinished,
+}
+
+/// A guided run with its steps: its last state, how many turns it did, and how it ended.
+#[derive(Drop)]
+struct Traced {
+    trace: Trace,
+    state: MachineState,
+    turns: u32,
+    end: GuidedEnd,
+}
+
+/// Takes the next step of a thread that is ready, which is this action, and records it, or gives the end where it traps.
+fn record_on(
+    alloc: Global,
+    p: &Program,
+    input: &[i64],
+    gated: &Gated,
+    state: &mut MachineState,
+    trace: &mut Trace,
+    t: ThreadNo,
+    action: &Action,
+) -> Result<Option<GuidedEnd>, AllocError>
+    requires of { IsMachine p.now state.old }
+    requires next { action.now ≡ next_of p.now state.old t.0 }
+    requires ready { ready p.now state.old t.0 ≡ true }
+    requires room { length trace.old.steps < trace.old.room }
+    ensures end { IfOk result (λ e. e ≡ end_of_step (step gated.now p.now input.now state.old t.0)) }
+    ensures trace { OnOk result (trace.new ≡ record trace.old { steps = steps_with trace.old.steps (step gated.now p.now input.now state.old t.0) }) }
+    ensures state { OnOk result (state.new ≡ state_with state.old (step gated.now p.now input.now state.old t.0)) }
+    ensures of { OnOk result (IsMachine p.now state.new) }
+    ensures few { OnOk result (length trace.new.steps ≤ length trace.old.steps + 1) }
+    ensures more { IfOk result (λ e. IfNone e (length trace.old.steps < length trace.new.steps)) }
+{
+    let id = state.id(t);
+    let told = state.tell(p, gated, t, action);
+    match state.take(alloc, p, input, t, action)? {
+        Err(name) => Ok(Some(GuidedEnd::Trap(name, id))),
+        Ok(number) => {
+            trace.push(Step {
+                result: number,
+                ..told
+            });
+            Ok(None)
+        }
+    }
+}
+
+/// The owner of a turn, with so many steps left, steps until it has done an event, and its steps are
+/// recorded; none where there is no room for the next one.
+fn walk_recorded(
+    alloc: Global,
+    p: &Program,
+    input: &[i64],
+    gated: &Gated,
+    state: &mut MachineState,
+    trace: &mut Trace,
+    turn: &Turn,
+    left: u32,
+) -> Result<Option<Walked>, AllocError>
+    requires of { IsMachine p.now state.old }
+    requires few { length trace.old.steps ≤ trace.old.room }
+    ensures walk { IfOk result (λ o. IfSome o (λ w. behind trace.old.steps (walk left gated.now p.now input.now turn.now state.old) ≡ record { trace = trace.new.steps; state = state.new; left = w.left; end = w.end })) }
+    ensures full { IfOk result (λ o. IfNone o (trace.old.room < length (behind trace.old.steps (walk left gated.now p.now input.now turn.now state.old)).trace)) }
+    ensures more { IfOk result (λ o. IfSome o (λ w. IfNone w.end (length trace.old.steps < length trace.new.steps))) }
+    ensures of { OnOk result (IsMachine p.now state.new) }
+    ensures room { OnOk result (trace.new.room ≡ trace.old.room) }
+    ensures fits { OnOk result (length trace.new.steps ≤ trace.new.room) }
+{
+    for spent in 0..left {
+        let action = state.next(p, turn.thread);
+        let is_due = match state.due(p, gated, turn, &action) {
+            Ok(is_due) => is_due,
+            Err(end) => {
+                return Ok(Some(Walked {
+                    left: left - spent,
+                    end: Some(end),
+                }));
+            }
+        };
+        if trace.room_left() == 0 {
+            return Ok(None);
+        }
+        if let Some(end) = record_on(alloc, p, input, gated, state, trace, turn.thread, &action)? {
+            return Ok(Some(Walked {
+                left: left - spent,
+                end: Some(end),
+            }));
+        }
+        if is_due {
+            return Ok(Some(Walked {
+                left: left - spent - 1,
+                end: None,
+            }));
+        }
+    }
+    Ok(Some(Walked {
+        left: 0,
+        end: Some(state.spent(p, turn)),
+    }))
+}
+
+/// The guided run along turns with its trace; none where it would take one step more than a recording
+/// may have.
+fn follow_along(
+    alloc: Global,
+    p: &Program,
+    input: &[i64],
+    turns: &[Turn],
+    gated: &Gated,
+) -> Result<Option<Traced>, AllocError>
+    ensures full { IfOk result (λ o. IfNone o (RECORDING_STEP_LIMIT < length (guided_of p.now input.now turns.now gated.now).trace)) }
+    ensures few { IfOk result (λ o. IfSome o (λ r. length r.trace.steps ≤ RECORDING_STEP_LIMIT)) }
+    ensures trace { IfOk result (λ o. IfSome o (λ r. (guided_of p.now input.now turns.now gated.now).trace ≡ r.trace.steps)) }
+    ensures end { IfOk result (λ o. IfSome o (λ r. EndsAs (guided_of p.now input.now turns.now gated.now) r.state r.turns r.end)) }
+{
+    let mut state = MachineState::new(alloc, p)?;
+    let mut trace = Trace::with_room(alloc, RECORDING_STEP_LIMIT as usize)?;
+    let mut left = all_left(alloc)?;
+    let mut done: u32 = 0;
+    for turn in turns {
+        let most = left_of(left.as_slice(), turn.thread);
+        let walked = match walk_recorded(
+            alloc, p, input, gated, &mut state, &mut trace, turn, most,
+        )? {
+            Some(walked) => walked,
+            None => {
+                return Ok(None);
+            }
+        };
+        set_left(&mut left, turn.thread, walked.left);
+        if let Some(end) = walked.end {
+            return Ok(Some(Traced {
+                trace,
+                state,
+                turns: done,
+                end,
+            }));
+        }
+        done += 1;
+    }
+    let end = state.end_after();
+    Ok(Some(Traced {
+        trace,
+        state,
+        turns: done,
+        end,
+    }))
+}
+
+/// What a guided run of few enough steps gives.
+fn answer(run: Traced) -> Followed
+    ensures { followed_as result ≡ reached run.trace.steps run.state.printed run.turns run.end }
+{
+    match run.end {
+        GuidedEnd::Exit(value) => Followed::Exit {
+            trace: run.trace,
+            output: run.state.into_printed(),
+            value,
+        },
+        GuidedEnd::Strayed => Followed::Strayed(run.turns),
+        _ => Followed::Unfinished,
+    }
+}
+
+/// The guided run of a program on an input along a schedule, with its trace: exits, strays at a turn, or
+/// is unfinished, where it ends by a trap or a spent budget, or would take one step more than a
+/// recording may have.
+///
+/// # Errors
+///
+/// Where no memory is left for it.
+#[tactic(auto, unfolding(crate::specs::Follow::following_of))]
+pub fn follow(
+    alloc: Global,
+    p: &Program,
+    input: &[i64],
+    s: &Schedule,
+) -> Result<Followed, AllocError>
+    ensures followed { IfOk result (λ f. followed_as f ≡ following_of p.now input.now s.now.turns.items s.now.gated.items) }
+{
+    let gated = Gated::new(alloc, p, s.gated.as_slice())?;
+    match follow_along(alloc, p, input, s.turns.as_slice(), &gated)? {
+        Some(run) => Ok(answer(run)),
+        None => Ok(Followed::Unfinished),
+    }
+}

@@ -1,0 +1,303 @@
+ghost use Rattle.std.specs.Prelude.{◌≡◌, ◌<◌, ◌≤◌, ◌+◌, [], ℕ, suc, length, not, true, IfOk, IfSome, OnOk};
+ghost use Rattle.pg_num.specs.declared.limits.TheConstants.{RECORDING_STEP_LIMIT, THREAD_LIMIT, QUANTUM_LIMIT};
+ghost use Rattle.pg_machine.specs.State.{State, initial, next_of};
+ghost use Rattle.pg_machine.specs.MachineStep.{is_ended, ready, step};
+ghost use Rattle.pg_machine.specs.Machine.{IsMachine};
+ghost use Rattle.pg_machine.specs.Runs.{IsRun};
+ghost use Rattle.pg_machine.specs.Taken.{end_with, on_turn, state_with, steps_with};
+ghost use Rattle.pg_machine.specs.Rotation.{around, chosen, deadlock_of, exit_of, first_share, first_true, hasnt_ended, lowest, next_share, on_step, onto, rotation_of, run, stop, RunResult};
+
+use crate::gated::Gated;
+use crate::outcome::Outcome;
+use crate::share::Share;
+use crate::state::MachineState;
+use pg_ir::{InstrId, Program, ThreadNo, TrapName};
+use pg_num::limits::RECORDING_STEP_LIMIT;
+use pg_num::{Width, to_signed, trunc};
+use pg_step::Action;
+use pg_trace::{Step, Trace};
+use std::alloc::{AllocError, Global};
+
+/// The steps of a rotation run, what it printed, and how it ended.
+#[derive(Drop)]
+pub struct Recorded {
+    pub trace: Trace,
+    pub output: Vec<u8>,
+    pub end: Outcome,
+}
+
+/// The steps of a run, its last state, and how it ended.
+#[derive(Drop)]
+struct Rotated {
+    trace: Trace,
+    state: MachineState,
+    end: Outcome,
+}
+
+/// Whether a thread has no action left.
+fn is_ended(action: &Action) -> bool
+    ensures { result ≡ is_ended action.now }
+{
+    match action {
+        Action::Ended => true,
+        _ => false,
+    }
+}
+
+/// How far behind a thread the next one is that is ready, going round.
+#[tactic(auto, using(crate::proofs::Rotations::first_none, crate::proofs::Rotations::first_found, crate::proofs::Rotations::first_past, crate::proofs::Rotations::first_zero))]
+fn next_ready(state: &MachineState, p: &Program, t: ThreadNo) -> Option<usize>
+    requires { IsMachine p.now state.now }
+    ensures bound { IfSome result (λ d. d < length state.now.locals) }
+    ensures ready { IfSome result (λ d. ready p.now state.now (around state.now t.0 d) ≡ true) }
+    ensures least { result ≡ first_true (λ d. ready p.now state.now (around state.now t.0 d)) (length state.now.locals) }
+{
+    let n = state.count();
+    for d in 0..n {
+        let u = (t.0 as usize + 1 + d) % n;
+        if state.ready(p, ThreadNo(u as u8)) {
+            return Some(d);
+        }
+    }
+    None
+}
+
+/// The lowest-numbered thread that hasn't ended.
+#[tactic(auto, using(crate::proofs::Rotations::first_none, crate::proofs::Rotations::first_found, crate::proofs::Rotations::first_past, crate::proofs::Rotations::first_zero))]
+fn first_going(state: &MachineState, p: &Program) -> Option<usize>
+    requires { IsMachine p.now state.now }
+    ensures bound { IfSome result (λ t. t < length state.now.locals) }
+    ensures least { result ≡ first_true (hasnt_ended p.now state.now) (length state.now.locals) }
+{
+    let n = state.count();
+    for t in 0..n {
+        if !is_ended(&state.next(p, ThreadNo(t as u8))) {
+            return Some(t);
+        }
+    }
+    None
+}
+
+/// Whose step is next: the present thread's while it is ready and has steps left, else that of the
+/// next that is ready.
+#[tactic(auto, unfolding(crate::specs::Rotation::next_share))]
+fn next_share(state: &MachineState, p: &Program, q: u32, u: Share) -> Option<Share>
+    requires of { IsMachine p.now state.now }
+    requires some { 0 < q }
+    ensures ready { IfSome result (λ v. ready p.now state.now v.thread.0 ≡ true) }
+    ensures left { IfSome result (λ v. 0 < v.left) }
+    ensures share { result ≡ next_share p.now q state.now u }
+{
+    if state.ready(p, u.thread) && 0 < u.left {
+        return Some(u);
+    }
+    match next_ready(state, p, u.thread) {
+        None => None,
+        Some(d) => {
+            let thread = (u.thread.0 as usize + 1 + d) % state.count();
+            Some(Share {
+                thread: ThreadNo(thread as u8),
+                left: q,
+            })
+        }
+    }
+}
+
+/// The end where no thread is ready.
+#[tactic(auto, unfolding(crate::specs::Rotation::deadlock_of))]
+fn deadlock(state: &MachineState, p: &Program) -> Outcome
+    requires { IsMachine p.now state.now }
+    ensures { result ≡ deadlock_of p.now state.now }
+{
+    let lowest = match first_going(state, p) {
+        Some(t) => t as u8,
+        None => 0,
+    };
+    Outcome::Trap(TrapName::Deadlock, state.id(ThreadNo(lowest)))
+}
+
+/// The end where the run is over.
+fn exit(state: &MachineState) -> Outcome
+    ensures { result ≡ exit_of state.now }
+{
+    Outcome::Exit(to_signed(Width::W32, trunc(Width::W32, state.main_value())) as i32)
+}
+
+/// Whose step is next, or the end that comes before it.
+#[tactic(auto, unfolding(crate::specs::Rotation::chosen))]
+fn choose(state: &MachineState, p: &Program, q: u32, u: Share) -> Result<Share, Outcome>
+    requires of { IsMachine p.now state.now }
+    requires some { 0 < q }
+    ensures ready { IfOk result (λ v. ready p.now state.now v.thread.0 ≡ true) }
+    ensures left { IfOk result (λ v. 0 < v.left) }
+    ensures chosen { result ≡ chosen p.now q state.now u }
+{
+    if state.is_over() {
+        return Err(exit(state));
+    }
+    match next_share(state, p, q, u) {
+        None => Err(deadlock(state, p)),
+        Some(v) => Ok(v),
+    }
+}
+
+/// The end where no step is left.
+#[tactic(auto, unfolding(crate::specs::Rotation::run))]
+fn at_limit(state: &MachineState, p: &Program, input: &[i64], q: u32, u: Share) -> Outcome
+    requires of { IsMachine p.now state.now }
+    requires some { 0 < q }
+    ensures { run 0 p.now input.now q state.now u ≡ stop state.now result }
+{
+    match choose(state, p, q, u) {
+        Ok(_) => Outcome::Budget,
+        Err(end) => end,
+    }
+}
+
+/// Takes a step and records it, or gives the end where it traps.
+fn record_step(
+    alloc: Global,
+    p: &Program,
+    input: &[i64],
+    state: &mut MachineState,
+    trace: &mut Trace,
+    t: ThreadNo,
+    action: &Action,
+) -> Result<Option<Outcome>, AllocError>
+    requires of { IsMachine p.now state.old }
+    requires next { action.now ≡ next_of p.now state.old t.0 }
+    requires ready { ready p.now state.old t.0 ≡ true }
+    requires room { length trace.old.steps < trace.old.room }
+    ensures end { IfOk result (λ o. o ≡ end_with (step [] p.now input.now state.old t.0)) }
+    ensures trace { OnOk result (trace.new ≡ record trace.old { steps = steps_with trace.old.steps (step [] p.now input.now state.old t.0) }) }
+    ensures state { OnOk result (state.new ≡ state_with state.old (step [] p.now input.now state.old t.0)) }
+    ensures of { OnOk result (IsMachine p.now state.new) }
+    ensures more { OnOk result (length trace.new.steps ≤ length trace.old.steps + 1) }
+{
+    let id = state.id(t);
+    let told = state.tell(p, &Gated::none(alloc), t, action);
+    match state.take(alloc, p, input, t, action)? {
+        Err(name) => Ok(Some(Outcome::Trap(name, id))),
+        Ok(number) => {
+            trace.push(Step {
+                result: number,
+                ..told
+            });
+            Ok(None)
+        }
+    }
+}
+
+/// Takes a step of a thread that is ready, which is this action, and gives what is left of its share,
+/// or the end where it traps.
+fn step_of(
+    alloc: Global,
+    p: &Program,
+    input: &[i64],
+    state: &mut MachineState,
+    trace: &mut Trace,
+    u: Share,
+    action: &Action,
+) -> Result<Result<Share, Outcome>, AllocError>
+    requires of { IsMachine p.now state.old }
+    requires next { action.now ≡ next_of p.now state.old u.thread.0 }
+    requires ready { ready p.now state.old u.thread.0 ≡ true }
+    requires left { 0 < u.left }
+    requires room { length trace.old.steps < trace.old.room }
+    ensures turn { IfOk result (λ r. (more : State → Share → RunResult) → onto trace.old.steps (on_step state.old u (step [] p.now input.now state.old u.thread.0) more) ≡ on_turn r trace.new.steps state.new more) }
+    ensures of { OnOk result (IsMachine p.now state.new) }
+    ensures room { OnOk result (trace.new.room ≡ trace.old.room) }
+    ensures more { OnOk result (length trace.new.steps ≤ length trace.old.steps + 1) }
+{
+    match record_step(alloc, p, input, state, trace, u.thread, action)? {
+        Some(end) => Ok(Err(end)),
+        None => Ok(Ok(Share {
+            thread: u.thread,
+            left: u.left - 1,
+        })),
+    }
+}
+
+/// Takes the next step of the run, and gives what is left of its thread's share, or the end that comes
+/// in its place. While a thread goes on, nothing is asked of the others.
+fn turn(
+    alloc: Global,
+    p: &Program,
+    input: &[i64],
+    q: u32,
+    state: &mut MachineState,
+    trace: &mut Trace,
+    u: Share,
+) -> Result<Result<Share, Outcome>, AllocError>
+    requires of { IsMachine p.now state.old }
+    requires some { 0 < q }
+    requires room { length trace.old.steps < trace.old.room }
+    ensures turn { IfOk result (λ r. (n : ℕ) → onto trace.old.steps (run (suc n) p.now input.now q state.old u) ≡ on_turn r trace.new.steps state.new (run n p.now input.now q)) }
+    ensures of { OnOk result (IsMachine p.now state.new) }
+    ensures room { OnOk result (trace.new.room ≡ trace.old.room) }
+    ensures more { OnOk result (length trace.new.steps ≤ length trace.old.steps + 1) }
+{
+    let action = state.next(p, u.thread);
+    if state.can_take(p, u.thread, &action) && 0 < u.left {
+        return step_of(alloc, p, input, state, trace, u, &action);
+    }
+    match choose(state, p, q, u) {
+        Err(end) => Ok(Err(end)),
+        Ok(v) => {
+            let action = state.next(p, v.thread);
+            step_of(alloc, p, input, state, trace, v, &action)
+        }
+    }
+}
+
+/// The rotation run, up to a number of steps.
+fn rotate_within(
+    alloc: Global,
+    p: &Program,
+    input: &[i64],
+    q: u32,
+    limit: u32,
+) -> Result<Rotated, AllocError>
+    requires some { 0 < q }
+    ensures { IfOk result (λ r. run limit p.now input.now q (initial p.now) (first_share q) ≡ record { trace = r.trace.steps; state = r.state; end = r.end }) }
+{
+    let mut state = MachineState::new(alloc, p)?;
+    let mut trace = Trace::with_room(alloc, limit as usize)?;
+    let mut share = Share {
+        thread: ThreadNo(0),
+        left: q,
+    };
+    for _ in 0..limit {
+        match turn(alloc, p, input, q, &mut state, &mut trace, share)? {
+            Ok(left) => share = left,
+            Err(end) => {
+                return Ok(Rotated { trace, state, end });
+            }
+        }
+    }
+    let end = at_limit(&state, p, input, q, share);
+    Ok(Rotated { trace, state, end })
+}
+
+/// The rotation run of a program on an input: threads take their turns in number order, each with a
+/// quantum of up to `q` steps.
+///
+/// # Errors
+///
+/// Where no memory is left for it.
+#[tactic(auto, unfolding(crate::specs::Rotation::rotation_of))]
+pub fn rotate(alloc: Global, p: &Program, input: &[i64], q: u32) -> Result<Recorded, AllocError>
+    requires some { 1 ≤ q }
+    requires few { q ≤ QUANTUM_LIMIT }
+    ensures trace { IfOk result (λ r. r.trace.steps ≡ (rotation_of p.now input.now q).trace) }
+    ensures run { IfOk result (λ r. IsRun [] p.now input.now (initial p.now) r.trace.steps (rotation_of p.now input.now q).state) }
+    ensures output { IfOk result (λ r. r.output.items ≡ (rotation_of p.now input.now q).state.printed) }
+    ensures end { IfOk result (λ r. r.end ≡ (rotation_of p.now input.now q).end) }
+{
+    let Rotated { trace, state, end } = rotate_within(alloc, p, input, q, RECORDING_STEP_LIMIT)?;
+    Ok(Recorded {
+        trace,
+        output: state.into_printed(),
+        end,
+    })
+}

@@ -1,0 +1,5 @@
+//! Runs of small programs, built by number.
+
+mod draft;
+mod programs;
+mod rotation;
