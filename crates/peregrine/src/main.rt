@@ -1,7 +1,7 @@
 //! The program: its command line, its standard input and its standard output.
 #![tactic(auto)]
 
-ghost use Rattle.std.specs.Prelude.{◌≡◌};
+ghost use Rattle.std.specs.Prelude.{◌≡◌, ◌⊎◌, IfErr};
 ghost use Rattle.std.specs.Process.{exit_status};
 ghost use Rattle.pg_session.specs.Statuses.{status_code};
 
@@ -10,9 +10,15 @@ use pg_session::{Status, peregrine};
 use std::process::ExitCode;
 use std::{env, io};
 
-/// The words of the command line after the program's own name. A word that isn't UTF-8 is no word of
-/// a command.
-fn words(rt: &HostRuntime) -> Result<Vec<String>, Status> {
+/// The words of the command line after the program's own name.
+///
+/// # Errors
+///
+/// `Usage` where a word isn't UTF-8, which no word of a command is; `OutOfMemory` where the words find no
+/// memory.
+fn words(rt: &HostRuntime) -> Result<Vec<String>, Status>
+    ensures { IfErr result (λ s. (s ≡ Status.Usage) ⊎ (s ≡ Status.OutOfMemory)) }
+{
     let words = match env::args(rt) {
         Ok(words) => words,
         Err(fault) if fault.kind() == io::ErrorKind::InvalidData => return Err(Status::Usage),

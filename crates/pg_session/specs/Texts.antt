@@ -1,18 +1,24 @@
 -- What a command writes: the text of `once`, and the line of a program that is refused.
-use Rattle.std.specs.Prelude.{◌≡◌, ℕ, ◌<◌, ◌≤◌, ◌⊎◌, List, ◌++◌, length, codes, ℤ, Option}
+use Rattle.std.specs.Prelude.{◌≡◌, ℕ, ◌<◌, ◌≤◌, ◌⊎◌, List, ◌++◌, length, count_by, codes, ℤ, Option, is_some}
 use Rattle.std.specs.Fmt.{decimal, signed_decimal}
 use Rattle.std.specs.Io.KnownBytes.{Appends}
 use Rattle.pg_num.specs.declared.limits.TheConstants.{PROGRAM_TEXT_LIMIT}
 use Rattle.pg_ir.specs.Program.{NumberedProgram}
 use Rattle.pg_ir.specs.SmallProgram.{Accepts}
 use Rattle.pg_ir.specs.TrapNames.{trap_text}
-use Rattle.pg_machine.specs.Run.{State, run_of}
+use Rattle.pg_trace.specs.declared.step.Step.{Step}
+use Rattle.pg_machine.specs.Rotation.{RunResult, rotation_of}
 use Rattle.pg_machine.specs.declared.outcome.Outcome.{Outcome}
 use Rattle.pg_machine.specs.declared.outcome.Outcome.TheVariants.{Exit, Trap, Budget}
+use Rattle.pg_session.specs.declared.texts.TheConstants.{QUANTUM}
 use Rattle.pg_session.specs.Words.{IsOnce}
 use Rattle.pg_session.specs.Streams.{AppendsFront}
 
 -- ---- the text of a run
+
+-- how many steps of a run are events
+abbrev pub event_count : List Step → ℕ
+event_count xs = count_by (λ (x : Step). is_some x.event) xs
 
 -- how a run of this many events ended
 abbrev pub end_line : ℕ → Outcome → List ℕ
@@ -21,12 +27,12 @@ end_line events (Trap name id) = codes "trap " ++ (trap_text name ++ (codes " at
 end_line events Budget = codes "budget\n"
 
 -- the run's output, and then its end
-abbrev pub run_text : State × Outcome → List ℕ
-run_text r = r.0.printed ++ end_line r.0.events r.1
+abbrev pub run_text : RunResult → List ℕ
+run_text r = r.state.printed ++ end_line (event_count r.trace) r.end
 
 -- the text of `once` for a program and an input
 unfoldable pub once_text : NumberedProgram → List ℤ → List ℕ
-once_text p input = run_text (run_of p input)
+once_text p input = run_text (rotation_of p input QUANTUM)
 
 -- ---- which texts are run
 

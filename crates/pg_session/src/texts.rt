@@ -1,13 +1,24 @@
 //! The texts that are written.
 ghost use Rattle.std.specs.Prelude.{◌≡◌, IfOk, OnOk, ◌++◌, string_bytes};
-ghost use Rattle.pg_session.specs.Texts.{end_line, once_text};
+ghost use Rattle.pg_session.specs.Texts.{end_line, event_count, once_text};
 
 use pg_ir::Program;
 use pg_machine::{Outcome, Recorded, rotate};
+use pg_trace::Step;
 use std::alloc::{AllocError, Global};
 
+/// How many steps in a row a thread takes before the next thread's turn, where the words name no quantum.
+pub const QUANTUM: u32 = 100;
+
+/// How many of these steps are events.
+fn event_count(steps: &[Step]) -> usize
+    ensures { result ≡ event_count steps.now }
+{
+    steps.iter().filter(|step| step.event.is_some()).count()
+}
+
 /// The line that says how a run of this many events ended.
-fn end_line(alloc: Global, events: u32, end: Outcome) -> Result<String, AllocError>
+fn end_line(alloc: Global, events: usize, end: Outcome) -> Result<String, AllocError>
     ensures { IfOk result (λ line. string_bytes line ≡ end_line events end) }
 {
     match end {
@@ -29,12 +40,8 @@ pub(crate) fn once_text(
 ) -> Result<Vec<u8>, AllocError>
     ensures { IfOk result (λ v. v.items ≡ once_text program.now input.now) }
 {
-    let Recorded {
-        output,
-        events,
-        end,
-    } = rotate(alloc, program, input)?;
-    let line = end_line(alloc, events, end)?;
+    let Recorded { trace, output, end } = rotate(alloc, program, input, QUANTUM)?;
+    let line = end_line(alloc, event_count(trace.steps()), end)?;
     let mut text = output;
     text.extend_from_slice(line.as_bytes())?;
     Ok(text)
