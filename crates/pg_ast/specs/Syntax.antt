@@ -101,7 +101,7 @@ pub data Op : Type 0 where
   CondBr : Span → Typed → Name → Name → Op
   Switch : Span → Typed → Name → List Case → Op
   Call : Span → Ty → Option Written → Name → List Typed → Op
-  RetVoid : Span → Op
+  RetVoid : Span → Span → Op
   Ret : Span → Typed → Op
   Unreachable : Span → Op
   Alloca : Span → Ty → Option Count → Op

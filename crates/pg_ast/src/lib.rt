@@ -16,7 +16,7 @@ pub use nodes::{
 pub use ops::{
     ArgNode, BinaryOp, CallTypes, CaseNode, CastOp, CountNode, IncomingNode, OpNode, Predicate,
 };
-pub use print::print_module;
+pub use print::{NextNumber, has_result, print_module};
 pub use types::TypeNode;
 pub use values::{ConstNode, TypedConst, TypedVal, ValNode};
 

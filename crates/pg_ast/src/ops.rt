@@ -92,7 +92,8 @@ pub enum OpNode {
     Switch(Span, TypedVal, Name, Vec<CaseNode>),
     /// The result type, the written types, the callee, and the arguments.
     Call(Span, TypeNode, Option<CallTypes>, Name, Vec<ArgNode>),
-    RetVoid(Span),
+    /// A return without a value, and the place of its `void`.
+    RetVoid(Span, Span),
     Ret(Span, TypedVal),
     Unreachable(Span),
     Alloca(Span, TypeNode, Option<CountNode>),

@@ -9,3 +9,5 @@ mod values;
 mod voids;
 
 pub use modules::print_module;
+pub use numbers::NextNumber;
+pub use voids::has_result;

@@ -98,7 +98,7 @@ fn counting(alloc: Global) -> Result<DefineItem, AllocError> {
         line(None, call(alloc, TypeNode::I8(SPAN))?),
     ]?;
     let label = name(alloc, b"0099999999999999999999999999999999999999999999")?;
-    let more = vec![in alloc; line(None, OpNode::RetVoid(SPAN))]?;
+    let more = vec![in alloc; line(None, OpNode::RetVoid(SPAN, SPAN))]?;
     let blocks = vec![in alloc; block(Some(label), lines), block(None, more)]?;
     let params = vec![in alloc; param(Some(name(alloc, b"007")?)), param(None)]?;
     function(alloc, b"h", params, blocks)

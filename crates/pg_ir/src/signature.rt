@@ -7,7 +7,7 @@ use pg_num::Width;
 
 impl Known {
     /// The types of the function's parameters.
-    pub(crate) fn parameters(self) -> &'static [Scalar]
+    pub fn parameters(self) -> &'static [Scalar]
         ensures { result.now ≡ parameters_of self }
     {
         match self {
@@ -26,7 +26,7 @@ impl Known {
     }
 
     /// The type of the function's result, if it has one.
-    pub(crate) fn returned(self) -> Option<Scalar>
+    pub fn returned(self) -> Option<Scalar>
         ensures { result ≡ returned_by self }
     {
         match self {

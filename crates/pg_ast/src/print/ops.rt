@@ -327,7 +327,7 @@ pub fn put_op(out: &mut Vec<u8>, node: &OpNode) -> Result<(), AllocError>
             put_types_written(out, types)?;
             put_called(out, callee, args.as_slice())
         }
-        OpNode::RetVoid(_) => put_text(out, "ret void"),
+        OpNode::RetVoid(_, _) => put_text(out, "ret void"),
         OpNode::Ret(_, value) => {
             put_text(out, "ret ")?;
             put_typed(out, value)

@@ -120,7 +120,7 @@ pub fn has_result(types: &[TypeItem], op: &OpNode) -> bool
         OpNode::CondBr(_, _, _, _) => false,
         OpNode::Switch(_, _, _, _) => false,
         OpNode::Call(_, ty, _, _, _) => !is_void_type(types, ty),
-        OpNode::RetVoid(_) => false,
+        OpNode::RetVoid(_, _) => false,
         OpNode::Ret(_, _) => false,
         OpNode::Unreachable(_) => false,
         OpNode::Alloca(_, _, _) => true,
