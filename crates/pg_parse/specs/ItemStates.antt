@@ -1,16 +1,17 @@
 -- What the code keeps between two items.
 use Rattle.std.specs.Prelude.{List, Option, Some, None}
-use Rattle.pg_parse.specs.declared.class.Class.TheVariants.{Distinct, Local}
-use Rattle.pg_parse.specs.declared.token.Token.{Token}
+use Rattle.pg_grammar.specs.declared.class.Class.TheVariants.{Distinct, Local, Comma}
+use Rattle.pg_grammar.specs.declared.token.Token.{Token}
 use Rattle.pg_parse.specs.declared.items.AfterItem.{AfterItem}
 use Rattle.pg_parse.specs.declared.items.AfterItem.TheVariants as after
 use Rattle.pg_parse.specs.declared.items.Items.{Items}
-use Rattle.pg_parse.specs.Classes.{is}
-use Rattle.pg_parse.specs.Grammar.{name_of}
-use Rattle.pg_parse.specs.Reading.{Read, Good, ◌>>=◌, take_one, choose}
-use Rattle.pg_parse.specs.Reader.{drop_value_at}
-use Rattle.pg_parse.specs.ReaderItems as reader
+use Rattle.pg_grammar.specs.Classes.{is}
+use Rattle.pg_grammar.specs.Grammar.{name_of}
+use Rattle.pg_grammar.specs.Reading.{Read, Good, ◌>>=◌, take_one, choose}
+use Rattle.pg_grammar.specs.Reader.{drop_value_at}
+use Rattle.pg_grammar.specs.ReaderItems as reader
 use Rattle.pg_ast.specs.declared.names.Name.{Name}
+use Rattle.pg_ast.specs.Syntax.{Tree}
 use Rattle.pg_ast.specs.Views.{tree_of}
 
 -- a Local, or none
@@ -29,3 +30,7 @@ after_of after.Tailed = reader.Tailed
 
 abbrev pub items_of : Items → reader.Items
 items_of s = reader.items (tree_of s.tree) (after_of s.after)
+
+-- a comma behind a global
+abbrev pub comma_at : Tree → List Token → Read reader.Items
+comma_at t ts = take_one (is Comma) ts >>= λ _. Good (reader.items t reader.Tailed)

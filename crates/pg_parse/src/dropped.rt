@@ -1,13 +1,10 @@
 ghost use Rattle.std.specs.Prelude.{◌≡◌, ◌≤◌, ◌<◌, length, drop, IfOk};
-ghost use Rattle.pg_parse.specs.ReaderItems.{node_at, metadata_item_tail_at, attributes_item_at, text_item_at};
+ghost use Rattle.pg_grammar.specs.ReaderItems.{node_at, metadata_item_tail_at, attributes_item_at, text_item_at};
 ghost use Rattle.pg_parse.specs.ItemStates.{distinct_at};
-ghost use Rattle.pg_parse.specs.Views.{Takes};
+ghost use Rattle.pg_grammar.specs.Views.{Takes};
 
-use crate::class::Class;
-use crate::reader::{next_is, take};
-use crate::sets::{ClassSet, take_in};
-use crate::skips::skip_to;
-use crate::token::{Refusal, Token};
+use pg_grammar::{Class, Refusal, Token};
+use pg_operations::{ClassSet, next_is, skip_to, take, take_in};
 
 fn node(tokens: &[Token], at: usize) -> Result<usize, Refusal>
     requires { at ≤ length tokens.now }
@@ -39,7 +36,7 @@ fn distinct(tokens: &[Token], at: usize) -> Result<usize, Refusal>
 }
 
 /// Metadata behind its name.
-#[tactic(auto, unfolding(crate::specs::ReaderItems::metadata_item_tail_at))]
+#[tactic(auto, unfolding(pg_grammar::specs::ReaderItems::metadata_item_tail_at))]
 pub fn metadata_item_tail(tokens: &[Token], at: usize) -> Result<usize, Refusal>
     requires { at ≤ length tokens.now }
     ensures { Takes tokens.now at (λ x. tt) (λ x. x) result (metadata_item_tail_at (drop at tokens.now)) }
@@ -50,7 +47,7 @@ pub fn metadata_item_tail(tokens: &[Token], at: usize) -> Result<usize, Refusal>
 }
 
 /// A group of attributes.
-#[tactic(auto, unfolding(crate::specs::ReaderItems::attributes_item_at))]
+#[tactic(auto, unfolding(pg_grammar::specs::ReaderItems::attributes_item_at))]
 pub fn attributes_item(tokens: &[Token], at: usize) -> Result<usize, Refusal>
     requires { at ≤ length tokens.now }
     ensures read { Takes tokens.now at (λ x. tt) (λ x. x) result (attributes_item_at (drop at tokens.now)) }
@@ -64,7 +61,7 @@ pub fn attributes_item(tokens: &[Token], at: usize) -> Result<usize, Refusal>
 }
 
 /// The name of the text's source, or a property of its target.
-#[tactic(auto, unfolding(crate::specs::ReaderItems::text_item_at))]
+#[tactic(auto, unfolding(pg_grammar::specs::ReaderItems::text_item_at))]
 pub fn text_item(tokens: &[Token], at: usize) -> Result<usize, Refusal>
     requires { at ≤ length tokens.now }
     ensures read { Takes tokens.now at (λ x. tt) (λ x. x) result (text_item_at (drop at tokens.now)) }

@@ -1,20 +1,15 @@
 ghost use Rattle.std.specs.Prelude.{◌≡◌, ◌≤◌, ◌<◌, length, drop, IfOk};
-ghost use Rattle.pg_parse.specs.ReaderItems.{constancy_at, global_item_at, type_item_at};
-ghost use Rattle.pg_parse.specs.Views.{Reads, Takes};
+ghost use Rattle.pg_grammar.specs.ReaderItems.{constancy_at, global_item_at, type_item_at};
+ghost use Rattle.pg_grammar.specs.Views.{Reads, Takes};
 ghost use Rattle.pg_ast.specs.Views.{global_of, type_item_of};
 
-use crate::attributes::attributes;
-use crate::class::Class;
-use crate::constants::constant;
-use crate::reader::{name, next_is, take};
-use crate::sets::{ClassSet, take_in};
-use crate::token::{ReadError, Refusal, Token};
-use crate::types::type_node;
 use pg_ast::{GlobalItem, TypeItem};
+use pg_grammar::{Class, ReadError, Refusal, Token};
+use pg_operations::{ClassSet, attributes, constant, name, next_is, take, take_in, type_node};
 use std::alloc::Global;
 
 /// A named type.
-#[tactic(auto, unfolding(crate::specs::ReaderItems::type_item_at))]
+#[tactic(auto, unfolding(pg_grammar::specs::ReaderItems::type_item_at))]
 pub fn type_item(alloc: Global, tokens: &[Token], at: usize) -> Result<(TypeItem, usize), ReadError>
     requires { at ≤ length tokens.now }
     ensures read { Reads tokens.now at (λ x. type_item_of x.0) (λ x. x.1) result (type_item_at (drop at tokens.now)) }
@@ -42,7 +37,7 @@ fn constancy(tokens: &[Token], at: usize) -> Result<(bool, usize), Refusal>
 }
 
 /// A global, up to its constant.
-#[tactic(auto, unfolding(crate::specs::ReaderItems::global_item_at))]
+#[tactic(auto, unfolding(pg_grammar::specs::ReaderItems::global_item_at))]
 pub fn global_item(
     alloc: Global,
     tokens: &[Token],

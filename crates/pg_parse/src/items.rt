@@ -1,15 +1,13 @@
 ghost use Rattle.std.specs.Prelude.{◌≡◌, ◌≤◌, length, drop, IfOk};
-ghost use Rattle.pg_parse.specs.Reading.{comes};
-ghost use Rattle.pg_parse.specs.GrammarItems as grammar;
-ghost use Rattle.pg_parse.specs.ReaderItems.{empty, add_item, begins_after_item};
+ghost use Rattle.pg_grammar.specs.Reading.{comes};
+ghost use Rattle.pg_grammar.specs.GrammarItems as grammar;
+ghost use Rattle.pg_grammar.specs.ReaderItems.{empty, add_item, begins_after_item};
 ghost use Rattle.pg_parse.specs.ItemStates.{after_of};
 ghost use Rattle.pg_ast.specs.Views.{tree_of, type_item_of, global_of, declare_of, define_of};
 
-use crate::class::Class;
-use crate::reader::is_class;
-use crate::sets::{ClassSet, contains};
-use crate::token::Token;
 use pg_ast::{DeclareItem, DefineItem, GlobalItem, Module, TypeItem};
+use pg_grammar::{Class, Token};
+use pg_operations::{ClassSet, contains, is_class};
 use std::alloc::{AllocError, Global};
 
 /// What stands before a place among the items: complete items, a declaration whose attributes may go on, the

@@ -1,19 +1,16 @@
 ghost use Rattle.std.specs.Prelude.{◌≡◌, ◌≤◌, ◌<◌, length, drop, map, IfOk};
-ghost use Rattle.pg_parse.specs.declared.class.Class.TheVariants.{CloseRound, Comma};
-ghost use Rattle.pg_parse.specs.Classes.{is};
-ghost use Rattle.pg_parse.specs.Reading.{onto, all_of};
-ghost use Rattle.pg_parse.specs.Reader.{listed_at, behind_comma};
-ghost use Rattle.pg_parse.specs.ReaderItems.{param_at, dparam_at, defined_param_at};
+ghost use Rattle.pg_grammar.specs.declared.class.Class.TheVariants.{CloseRound, Comma};
+ghost use Rattle.pg_grammar.specs.Classes.{is};
+ghost use Rattle.pg_grammar.specs.Reading.{onto, all_of};
+ghost use Rattle.pg_grammar.specs.Reader.{listed_at, behind_comma};
+ghost use Rattle.pg_grammar.specs.ReaderItems.{param_at, dparam_at, defined_param_at};
 ghost use Rattle.pg_parse.specs.ItemStates.{maybe_name_at};
-ghost use Rattle.pg_parse.specs.Views.{Reads};
+ghost use Rattle.pg_grammar.specs.Views.{Reads};
 ghost use Rattle.pg_ast.specs.Views.{param_of, dparam_of};
 
-use crate::attributes::attributes;
-use crate::class::Class;
-use crate::reader::{name, next_is, take, unsupported};
-use crate::token::{ReadError, Token};
-use crate::types::type_node;
 use pg_ast::{DparamNode, Name, ParamNode};
+use pg_grammar::{Class, ReadError, Token};
+use pg_operations::{attributes, name, next_is, take, type_node, unsupported};
 use std::alloc::Global;
 
 fn maybe_name(
@@ -31,7 +28,7 @@ fn maybe_name(
     Ok((None, at))
 }
 
-#[tactic(auto, unfolding(crate::specs::ReaderItems::param_at))]
+#[tactic(auto, unfolding(pg_grammar::specs::ReaderItems::param_at))]
 fn param(alloc: Global, tokens: &[Token], at: usize) -> Result<(ParamNode, usize), ReadError>
     requires { at ≤ length tokens.now }
     ensures { Reads tokens.now at (λ x. param_of x.0) (λ x. x.1) result (param_at (drop at tokens.now)) }

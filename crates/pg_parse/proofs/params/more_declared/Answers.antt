@@ -1,11 +1,11 @@
 use Rattle.std.proofs.Common.{drop, map, sym, ◌∙◌, arith}
-use Rattle.pg_parse.specs.declared.class.Class.TheVariants.{Comma}
-use Rattle.pg_parse.specs.Classes.{is}
-use Rattle.pg_parse.specs.Reading.{onto, all_of}
-use Rattle.pg_parse.specs.Reader.{behind_comma}
-use Rattle.pg_parse.specs.ReaderItems.{dparam_at}
+use Rattle.pg_grammar.specs.declared.class.Class.TheVariants.{Comma}
+use Rattle.pg_grammar.specs.Classes.{is}
+use Rattle.pg_grammar.specs.Reading.{onto, all_of}
+use Rattle.pg_grammar.specs.Reader.{behind_comma}
+use Rattle.pg_grammar.specs.ReaderItems.{dparam_at}
 use Rattle.pg_ast.specs.Views.{dparam_of}
-use Rattle.pg_parse.proofs.Loops.{left_fails, left_next, left_stop}
+use Rattle.pg_grammar.proofs.Loops.{left_fails, left_next, left_stop}
 use Rattle.pg_parse.proofs.params.more_declared.Goals as goal
 
 pub returns-in-Err : goal.returns-in-Err

@@ -1,11 +1,11 @@
 use Rattle.std.proofs.Common.{◌≤◌, ◌-◌, length, drop, map}
-use Rattle.pg_parse.specs.declared.class.Class.TheVariants.{Comma}
-use Rattle.pg_parse.specs.Classes.{is}
-use Rattle.pg_parse.specs.Reading.{onto, all_of}
-use Rattle.pg_parse.specs.Reader.{behind_comma}
-use Rattle.pg_parse.specs.ReaderItems.{defined_param_at}
+use Rattle.pg_grammar.specs.declared.class.Class.TheVariants.{Comma}
+use Rattle.pg_grammar.specs.Classes.{is}
+use Rattle.pg_grammar.specs.Reading.{onto, all_of}
+use Rattle.pg_grammar.specs.Reader.{behind_comma}
+use Rattle.pg_grammar.specs.ReaderItems.{defined_param_at}
 use Rattle.pg_ast.specs.Views.{param_of}
-use Rattle.pg_parse.proofs.Loops.{Left}
+use Rattle.pg_grammar.proofs.Loops.{Left}
 use Rattle.pg_parse.proofs.params.more_params.Given as goal
 
 abbrev pub invariant-items : goal.invariant-items

@@ -1,0 +1,17 @@
+pub mod Classes
+pub mod Language
+pub mod Reading
+pub mod Verdict
+pub mod Grammar
+pub mod GrammarOps
+pub mod GrammarItems
+pub mod Reader
+pub mod ReaderOps
+pub mod ReaderItems
+pub mod Views
+pub mod Words
+pub mod Accepted
+pub mod Told
+pub mod Splits
+pub mod Endings
+pub mod NameOrder

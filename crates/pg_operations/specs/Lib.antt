@@ -1,0 +1,4 @@
+pub mod Sets
+pub mod Pending
+pub mod Listings
+pub mod Rows

@@ -1,0 +1,74 @@
+ghost use Rattle.std.specs.Prelude.{◌≡◌, ◌≤◌, ◌<◌, length, drop, IfOk};
+ghost use Rattle.pg_grammar.specs.Reading.{all_of};
+ghost use Rattle.pg_grammar.specs.Reader.{attribute_at, attributes_at, begins_attribute, drop_value_at};
+ghost use Rattle.pg_grammar.specs.Views.{Takes};
+
+use crate::reader::{next_is, take, unsupported};
+use crate::sets::{ClassSet, next_in, take_in};
+use crate::skips::skip_to;
+use pg_grammar::{Class, Refusal, Token};
+
+/// An attribute: a word with an integer, a skip or nothing behind it, the name of a group, a string with a
+/// value or none, or two metadata names.
+#[tactic(auto, unfolding(pg_grammar::specs::Reader::attribute_at))]
+pub fn attribute(tokens: &[Token], at: usize) -> Result<usize, Refusal>
+    requires { at ≤ length tokens.now }
+    ensures read { Takes tokens.now at (λ x. tt) (λ x. x) result (attribute_at (drop at tokens.now)) }
+    ensures on { IfOk result (λ x. at < x) }
+{
+    if next_in(tokens, at, ClassSet::AttributeWord) {
+        let (_, at) = take_in(tokens, at, ClassSet::AttributeWord)?;
+        if next_is(tokens, at, Class::Int) {
+            let (_, to) = take(tokens, at, Class::Int)?;
+            return Ok(to);
+        }
+        if next_is(tokens, at, Class::OpenRound) {
+            let (_, at) = take(tokens, at, Class::OpenRound)?;
+            return skip_to(tokens, at, 63, Class::CloseRound);
+        }
+        return Ok(at);
+    }
+    if next_in(tokens, at, ClassSet::AttributeName) {
+        let (_, to) = take_in(tokens, at, ClassSet::AttributeName)?;
+        return Ok(to);
+    }
+    if next_is(tokens, at, Class::Str) {
+        let (_, at) = take(tokens, at, Class::Str)?;
+        if next_is(tokens, at, Class::Equals) {
+            let (_, at) = take(tokens, at, Class::Equals)?;
+            let (_, to) = take(tokens, at, Class::Str)?;
+            return Ok(to);
+        }
+        return Ok(at);
+    }
+    let (_, at) = take_in(tokens, at, ClassSet::MetadataName)?;
+    let (_, to) = take_in(tokens, at, ClassSet::MetadataName)?;
+    Ok(to)
+}
+
+fn attribute_list(tokens: &[Token], at: usize) -> Result<usize, Refusal>
+    requires { at ≤ length tokens.now }
+    ensures { Takes tokens.now at (λ x. tt) (λ x. x) result (drop_value_at (all_of begins_attribute attribute_at) (drop at tokens.now)) }
+{
+    let mut place = at;
+    while next_in(tokens, place, ClassSet::Attribute) {
+        match attribute(tokens, place) {
+            Err(error) => return Err(error),
+            Ok(to) => place = to,
+        }
+    }
+    Ok(place)
+}
+
+/// Attributes are dropped.
+#[tactic(auto, unfolding(pg_grammar::specs::Reader::attributes_at))]
+pub fn attributes(tokens: &[Token], at: usize) -> Result<usize, Refusal>
+    requires { at ≤ length tokens.now }
+    ensures { Takes tokens.now at (λ x. tt) (λ x. x) result (attributes_at (drop at tokens.now)) }
+{
+    let at = attribute_list(tokens, at)?;
+    if next_is(tokens, at, Class::Refused) {
+        return Err(unsupported(at));
+    }
+    Ok(at)
+}

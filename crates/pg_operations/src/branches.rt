@@ -1,0 +1,102 @@
+ghost use Rattle.std.specs.Prelude.{◌≤◌, ◌<◌, length, drop, map, IfOk};
+ghost use Rattle.pg_grammar.specs.Reading.{all_of};
+ghost use Rattle.pg_grammar.specs.Reader.{begins_type};
+ghost use Rattle.pg_grammar.specs.ReaderOps.{target_at, branch_at, case_at, switch_at, unreachable_at};
+ghost use Rattle.pg_grammar.specs.Views.{Reads, Takes};
+ghost use Rattle.pg_ast.specs.Views.{op_of, case_of};
+
+use crate::reader::{name, next_is, take, unsupported};
+use crate::sets::{ClassSet, next_in};
+use crate::values::typed_value_in;
+use pg_ast::{CaseNode, Name, OpNode};
+use pg_grammar::{Class, ReadError, Refusal, Token};
+use std::alloc::Global;
+
+fn target(alloc: Global, tokens: &[Token], at: usize) -> Result<(Name, usize), ReadError>
+    requires { at ≤ length tokens.now }
+    ensures read { Reads tokens.now at (λ x. x.0) (λ x. x.1) result (target_at (drop at tokens.now)) }
+    ensures on { IfOk result (λ x. at < x.1) }
+{
+    let (_, at) = take(tokens, at, Class::LabelWord)?;
+    let (label, at) = take(tokens, at, Class::Local)?;
+    Ok((name(alloc, label)?, at))
+}
+
+/// A branch, with a condition or without.
+pub fn branch(alloc: Global, tokens: &[Token], at: usize) -> Result<(OpNode, usize), ReadError>
+    requires { at ≤ length tokens.now }
+    ensures read { Reads tokens.now at (λ x. op_of x.0) (λ x. x.1) result (branch_at (drop at tokens.now)) }
+    ensures on { IfOk result (λ x. at < x.1) }
+{
+    let (word, at) = take(tokens, at, Class::Br)?;
+    if next_is(tokens, at, Class::LabelWord) {
+        let (block, at) = target(alloc, tokens, at)?;
+        return Ok((OpNode::Br(word.span, block), at));
+    }
+    let (condition, at) = typed_value_in(alloc, tokens, at, 64)?;
+    let (_, at) = take(tokens, at, Class::Comma)?;
+    let (yes, at) = target(alloc, tokens, at)?;
+    let (_, at) = take(tokens, at, Class::Comma)?;
+    let (no, at) = target(alloc, tokens, at)?;
+    Ok((OpNode::CondBr(word.span, condition, yes, no), at))
+}
+
+fn case(alloc: Global, tokens: &[Token], at: usize) -> Result<(CaseNode, usize), ReadError>
+    requires { at ≤ length tokens.now }
+    ensures read { Reads tokens.now at (λ x. case_of x.0) (λ x. x.1) result (case_at (drop at tokens.now)) }
+    ensures on { IfOk result (λ x. at < x.1) }
+{
+    let (value, at) = typed_value_in(alloc, tokens, at, 64)?;
+    let (_, at) = take(tokens, at, Class::Comma)?;
+    let (block, at) = target(alloc, tokens, at)?;
+    Ok((CaseNode { value, block }, at))
+}
+
+fn cases(alloc: Global, tokens: &[Token], at: usize) -> Result<(Vec<CaseNode>, usize), ReadError>
+    requires { at ≤ length tokens.now }
+    ensures { Reads tokens.now at (λ x. map case_of x.0.items) (λ x. x.1) result (all_of begins_type case_at (drop at tokens.now)) }
+{
+    let mut all = Vec::new(alloc);
+    let mut place = at;
+    'items: while next_in(tokens, place, ClassSet::Type) {
+        match case(alloc, tokens, place) {
+            Err(error) => return Err(error),
+            Ok((next, to)) => {
+                if all.push(next).is_err() {
+                    return Err(ReadError::Memory);
+                }
+                place = to;
+            }
+        }
+    }
+    Ok((all, place))
+}
+
+/// A choice of a block by a value.
+pub fn switch(alloc: Global, tokens: &[Token], at: usize) -> Result<(OpNode, usize), ReadError>
+    requires { at ≤ length tokens.now }
+    ensures read { Reads tokens.now at (λ x. op_of x.0) (λ x. x.1) result (switch_at (drop at tokens.now)) }
+    ensures on { IfOk result (λ x. at < x.1) }
+{
+    let (word, at) = take(tokens, at, Class::Switch)?;
+    let (value, at) = typed_value_in(alloc, tokens, at, 64)?;
+    let (_, at) = take(tokens, at, Class::Comma)?;
+    let (other, at) = target(alloc, tokens, at)?;
+    let (_, at) = take(tokens, at, Class::OpenSquare)?;
+    let (all, at) = cases(alloc, tokens, at)?;
+    if next_in(tokens, at, ClassSet::NoType) {
+        return Err(ReadError::Refused(unsupported(at)));
+    }
+    let (_, at) = take(tokens, at, Class::CloseSquare)?;
+    Ok((OpNode::Switch(word.span, value, other, all), at))
+}
+
+/// A place that is never reached.
+pub fn unreachable_op(tokens: &[Token], at: usize) -> Result<(OpNode, usize), Refusal>
+    requires { at ≤ length tokens.now }
+    ensures read { Takes tokens.now at (λ x. op_of x.0) (λ x. x.1) result (unreachable_at (drop at tokens.now)) }
+    ensures on { IfOk result (λ x. at < x.1) }
+{
+    let (word, at) = take(tokens, at, Class::Unreachable)?;
+    Ok((OpNode::Unreachable(word.span), at))
+}

@@ -1,0 +1,159 @@
+ghost use Rattle.std.specs.Prelude.{◌≤◌, ◌<◌, length, drop, map, IfOk};
+ghost use Rattle.std.specs.Option.{option_map};
+ghost use Rattle.pg_grammar.specs.declared.class.Class.TheVariants.{Comma};
+ghost use Rattle.pg_grammar.specs.Classes.{is};
+ghost use Rattle.pg_grammar.specs.Reading.{all_of, onto};
+ghost use Rattle.pg_grammar.specs.Reader.{argument_at, listed_at, behind_comma};
+ghost use Rattle.pg_grammar.specs.ReaderOps.{call_word_at, callee_at, dropped_callee_at, call_at};
+ghost use Rattle.pg_operations.specs.Rows.{written_or_none_at};
+ghost use Rattle.pg_grammar.specs.Views.{Reads, Takes};
+ghost use Rattle.pg_ast.specs.Views.{op_of, ty_of, typed_of, written_of};
+
+use crate::arguments::argument;
+use crate::attribute_lists::attributes;
+use crate::reader::{name, next_is, take, unsupported};
+use crate::sets::{ClassSet, next_in};
+use crate::skips::skip_to;
+use crate::types::type_node;
+use crate::written::written;
+use pg_ast::{ArgNode, CallTypes, OpNode, TypeNode};
+use pg_grammar::{Class, ReadError, Refusal, Token};
+use std::alloc::Global;
+
+fn call_word(tokens: &[Token], at: usize) -> Result<(&Token, usize), Refusal>
+    requires { at ≤ length tokens.now }
+    ensures read { Takes tokens.now at (λ x. x.0.now) (λ x. x.1) result (call_word_at (drop at tokens.now)) }
+    ensures on { IfOk result (λ x. at < x.1) }
+{
+    if next_is(tokens, at, Class::Call) {
+        return take(tokens, at, Class::Call);
+    }
+    let (word, at) = take(tokens, at, Class::TailWord)?;
+    let (_, at) = take(tokens, at, Class::Call)?;
+    Ok((word, at))
+}
+
+fn written_or_none(
+    alloc: Global,
+    tokens: &[Token],
+    at: usize,
+) -> Result<(Option<CallTypes>, usize), ReadError>
+    requires { at ≤ length tokens.now }
+    ensures { Reads tokens.now at (λ x. option_map written_of x.0) (λ x. x.1) result (written_or_none_at (drop at tokens.now)) }
+{
+    if next_is(tokens, at, Class::OpenRound) {
+        let (types, at) = written(alloc, tokens, at)?;
+        return Ok((Some(types), at));
+    }
+    Ok((None, at))
+}
+
+fn callee(
+    alloc: Global,
+    tokens: &[Token],
+    at: usize,
+    word: &Token,
+    ty: TypeNode,
+    written: Option<CallTypes>,
+) -> Result<(OpNode, usize), ReadError>
+    requires { at ≤ length tokens.now }
+    ensures { Reads tokens.now at (λ x. op_of x.0) (λ x. x.1) result (callee_at word.now (ty_of ty) (option_map written_of written) (drop at tokens.now)) }
+{
+    if next_in(tokens, at, ClassSet::NoCallee) {
+        return Err(ReadError::Refused(unsupported(at)));
+    }
+    let (global, at) = take(tokens, at, Class::Global)?;
+    let (_, at) = take(tokens, at, Class::OpenRound)?;
+    let (arguments, at) = arguments_to(alloc, tokens, at, Class::CloseRound)?;
+    let callee = name(alloc, global)?;
+    Ok((OpNode::Call(word.span, ty, written, callee, arguments), at))
+}
+
+fn dropped_callee(tokens: &[Token], at: usize) -> Result<usize, Refusal>
+    requires { at ≤ length tokens.now }
+    ensures { Takes tokens.now at (λ x. tt) (λ x. x) result (dropped_callee_at (drop at tokens.now)) }
+{
+    let (_, at) = take(tokens, at, Class::DroppedGlobal)?;
+    let (_, at) = take(tokens, at, Class::OpenRound)?;
+    skip_to(tokens, at, 63, Class::CloseRound)
+}
+
+/// A call without the attributes behind it, or nothing where it is dropped.
+#[tactic(auto, unfolding(pg_grammar::specs::ReaderOps::call_at))]
+pub fn call(
+    alloc: Global,
+    tokens: &[Token],
+    at: usize,
+) -> Result<(Option<OpNode>, usize), ReadError>
+    requires { at ≤ length tokens.now }
+    ensures read { Reads tokens.now at (λ x. option_map op_of x.0) (λ x. x.1) result (call_at (drop at tokens.now)) }
+    ensures on { IfOk result (λ x. at < x.1) }
+{
+    let (word, at) = call_word(tokens, at)?;
+    let at = attributes(tokens, at)?;
+    let (ty, at) = type_node(alloc, tokens, at, 64)?;
+    let (written, at) = written_or_none(alloc, tokens, at)?;
+    if next_is(tokens, at, Class::DroppedGlobal) {
+        let at = dropped_callee(tokens, at)?;
+        return Ok((None, at));
+    }
+    let (op, at) = callee(alloc, tokens, at, word, ty, written)?;
+    Ok((Some(op), at))
+}
+
+fn arguments_to(
+    alloc: Global,
+    tokens: &[Token],
+    at: usize,
+    close: Class,
+) -> Result<(Vec<ArgNode>, usize), ReadError>
+    requires { at ≤ length tokens.now }
+    ensures { Reads tokens.now at (λ x. map typed_of x.0.items) (λ x. x.1) result (listed_at close argument_at (drop at tokens.now)) }
+{
+    let mut all = Vec::new(alloc);
+    if next_is(tokens, at, close) {
+        let (_, to) = take(tokens, at, close)?;
+        return Ok((all, to));
+    }
+    let (first, at) = argument(alloc, tokens, at)?;
+    if all.push(first).is_err() {
+        return Err(ReadError::Memory);
+    }
+    let (all, at) = more_arguments(alloc, tokens, at, all)?;
+    let (_, at) = take(tokens, at, close)?;
+    Ok((all, at))
+}
+
+fn more_arguments(
+    alloc: Global,
+    tokens: &[Token],
+    at: usize,
+    all: Vec<ArgNode>,
+) -> Result<(Vec<ArgNode>, usize), ReadError>
+    requires { at ≤ length tokens.now }
+    ensures { Reads tokens.now at (λ x. map typed_of x.0.items) (λ x. x.1) result (onto (map typed_of all.items) (all_of (is Comma) (behind_comma argument_at) (drop at tokens.now))) }
+{
+    let mut all = all;
+    let mut place = at;
+    'items: while next_is(tokens, place, Class::Comma) {
+        match comma_argument(alloc, tokens, place) {
+            Err(error) => return Err(error),
+            Ok((next, to)) => {
+                if all.push(next).is_err() {
+                    return Err(ReadError::Memory);
+                }
+                place = to;
+            }
+        }
+    }
+    Ok((all, place))
+}
+
+fn comma_argument(alloc: Global, tokens: &[Token], at: usize) -> Result<(ArgNode, usize), ReadError>
+    requires { at ≤ length tokens.now }
+    ensures read { Reads tokens.now at (λ x. typed_of x.0) (λ x. x.1) result (behind_comma argument_at (drop at tokens.now)) }
+    ensures on { IfOk result (λ x. at < x.1) }
+{
+    let (_, to) = take(tokens, at, Class::Comma)?;
+    argument(alloc, tokens, to)
+}

@@ -1,0 +1,171 @@
+ghost use Rattle.std.specs.Prelude.{◌≡◌, ◌≤◌, ◌<◌, length, drop, map, IfOk};
+ghost use Rattle.pg_grammar.specs.declared.class.Class.TheVariants.{Comma};
+ghost use Rattle.pg_grammar.specs.Classes.{is};
+ghost use Rattle.pg_grammar.specs.Reading.{onto, all_of};
+ghost use Rattle.pg_grammar.specs.Reader.{const_at, simple_const_at, array_const_at, struct_const_at, typed_const_at, listed_at, behind_comma};
+ghost use Rattle.pg_grammar.specs.Views.{Reads};
+ghost use Rattle.pg_ast.specs.Views.{const_of, typed_const_of};
+
+use crate::reader::{literal, next_is, take, too_deep};
+use crate::sets::{ClassSet, next_in};
+use crate::types::type_node;
+use crate::values::value;
+use pg_ast::{ConstNode, TypedConst};
+use pg_grammar::{Class, ReadError, Token};
+use std::alloc::Global;
+
+fn simple_const(
+    alloc: Global,
+    tokens: &[Token],
+    at: usize,
+    depth: u32,
+) -> Result<(ConstNode, usize), ReadError>
+    requires { at ≤ length tokens.now }
+    ensures { Reads tokens.now at (λ x. const_of x.0) (λ x. x.1) result (simple_const_at depth (drop at tokens.now)) }
+{
+    if next_is(tokens, at, Class::CStr) {
+        let (token, to) = take(tokens, at, Class::CStr)?;
+        return Ok((ConstNode::Bytes(literal(alloc, token)?), to));
+    }
+    let (value, to) = value(alloc, tokens, at, depth)?;
+    Ok((ConstNode::Val(value), to))
+}
+
+/// A constant in which at most `depth` brackets are open at once.
+#[cycle(constants)]
+#[tactic(auto, unfolding(pg_grammar::specs::Reader::const_at))]
+pub fn constant(
+    alloc: Global,
+    tokens: &[Token],
+    at: usize,
+    depth: u32,
+) -> Result<(ConstNode, usize), ReadError>
+    requires { at ≤ length tokens.now }
+    ensures { Reads tokens.now at (λ x. const_of x.0) (λ x. x.1) result (const_at depth (drop at tokens.now)) }
+{
+    if depth == 0 {
+        if next_in(tokens, at, ClassSet::OpensType) {
+            return Err(ReadError::Refused(too_deep(at)));
+        }
+        return simple_const(alloc, tokens, at, depth);
+    }
+    if next_is(tokens, at, Class::OpenSquare) {
+        return array_const(alloc, tokens, at, depth - 1);
+    }
+    if next_is(tokens, at, Class::OpenBrace) {
+        return struct_const(alloc, tokens, at, depth - 1);
+    }
+    simple_const(alloc, tokens, at, depth)
+}
+
+#[cycle(constants)]
+fn array_const(
+    alloc: Global,
+    tokens: &[Token],
+    at: usize,
+    depth: u32,
+) -> Result<(ConstNode, usize), ReadError>
+    requires { at ≤ length tokens.now }
+    ensures { Reads tokens.now at (λ x. const_of x.0) (λ x. x.1) result (array_const_at depth (const_at depth) (drop at tokens.now)) }
+{
+    let (first, at) = take(tokens, at, Class::OpenSquare)?;
+    let (all, at) = constants_to(alloc, tokens, at, depth, Class::CloseSquare)?;
+    Ok((ConstNode::Array(first.span, all), at))
+}
+
+#[cycle(constants)]
+fn struct_const(
+    alloc: Global,
+    tokens: &[Token],
+    at: usize,
+    depth: u32,
+) -> Result<(ConstNode, usize), ReadError>
+    requires { at ≤ length tokens.now }
+    ensures { Reads tokens.now at (λ x. const_of x.0) (λ x. x.1) result (struct_const_at depth (const_at depth) (drop at tokens.now)) }
+{
+    let (first, at) = take(tokens, at, Class::OpenBrace)?;
+    let (all, at) = constants_to(alloc, tokens, at, depth, Class::CloseBrace)?;
+    Ok((ConstNode::Struct(first.span, all), at))
+}
+
+#[cycle(constants)]
+fn typed_const(
+    alloc: Global,
+    tokens: &[Token],
+    at: usize,
+    depth: u32,
+) -> Result<(TypedConst, usize), ReadError>
+    requires { at ≤ length tokens.now }
+    ensures { Reads tokens.now at (λ x. typed_const_of x.0) (λ x. x.1) result (typed_const_at depth (const_at depth) (drop at tokens.now)) }
+{
+    let (ty, at) = type_node(alloc, tokens, at, depth)?;
+    let (value, at) = constant(alloc, tokens, at, depth)?;
+    Ok((TypedConst { ty, value }, at))
+}
+
+#[cycle(constants)]
+fn constants_to(
+    alloc: Global,
+    tokens: &[Token],
+    at: usize,
+    depth: u32,
+    close: Class,
+) -> Result<(Vec<TypedConst>, usize), ReadError>
+    requires { at ≤ length tokens.now }
+    ensures { Reads tokens.now at (λ x. map typed_const_of x.0.items) (λ x. x.1) result (listed_at close (typed_const_at depth (const_at depth)) (drop at tokens.now)) }
+{
+    let mut all = Vec::new(alloc);
+    if next_is(tokens, at, close) {
+        let (_, to) = take(tokens, at, close)?;
+        return Ok((all, to));
+    }
+    let (first, at) = typed_const(alloc, tokens, at, depth)?;
+    if all.push(first).is_err() {
+        return Err(ReadError::Memory);
+    }
+    let (all, at) = more_constants(alloc, tokens, at, depth, all)?;
+    let (_, at) = take(tokens, at, close)?;
+    Ok((all, at))
+}
+
+#[cycle(constants)]
+fn more_constants(
+    alloc: Global,
+    tokens: &[Token],
+    at: usize,
+    depth: u32,
+    all: Vec<TypedConst>,
+) -> Result<(Vec<TypedConst>, usize), ReadError>
+    requires { at ≤ length tokens.now }
+    ensures { Reads tokens.now at (λ x. map typed_const_of x.0.items) (λ x. x.1) result (onto (map typed_const_of all.items) (all_of (is Comma) (behind_comma (typed_const_at depth (const_at depth))) (drop at tokens.now))) }
+{
+    let mut all = all;
+    let mut place = at;
+    'items: while next_is(tokens, place, Class::Comma) {
+        match comma_constant(alloc, tokens, place, depth) {
+            Err(error) => return Err(error),
+            Ok((next, to)) => {
+                if all.push(next).is_err() {
+                    return Err(ReadError::Memory);
+                }
+                place = to;
+            }
+        }
+    }
+    Ok((all, place))
+}
+
+#[cycle(constants)]
+fn comma_constant(
+    alloc: Global,
+    tokens: &[Token],
+    at: usize,
+    depth: u32,
+) -> Result<(TypedConst, usize), ReadError>
+    requires { at ≤ length tokens.now }
+    ensures read { Reads tokens.now at (λ x. typed_const_of x.0) (λ x. x.1) result (behind_comma (typed_const_at depth (const_at depth)) (drop at tokens.now)) }
+    ensures on { IfOk result (λ x. at < x.1) }
+{
+    let (_, to) = take(tokens, at, Class::Comma)?;
+    typed_const(alloc, tokens, to, depth)
+}

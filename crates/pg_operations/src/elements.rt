@@ -1,0 +1,134 @@
+ghost use Rattle.std.specs.Prelude.{◌≤◌, ◌<◌, length, drop, IfOk};
+ghost use Rattle.pg_grammar.specs.declared.token.Fault.TheVariants.{Unsupported};
+ghost use Rattle.pg_grammar.specs.Grammar.{no_type};
+ghost use Rattle.pg_grammar.specs.Reading.{unless};
+ghost use Rattle.pg_grammar.specs.Reader.{begins_type};
+ghost use Rattle.pg_grammar.specs.ReaderOps.{gep_op_at, gep_op_tail_at, typed_value_at, listing_at, listing_end_at, more_at, metadata_tail_at};
+ghost use Rattle.pg_operations.specs.Listings.{listing_of};
+ghost use Rattle.pg_grammar.specs.Views.{Reads};
+ghost use Rattle.pg_ast.specs.Views.{op_of, typed_of};
+
+use crate::line_metadata::metadata_tail;
+use crate::listing::{Listing, type_goes_on};
+use crate::reader::{take, unsupported};
+use crate::sets::{ClassSet, next_in};
+use crate::skips::flags;
+use crate::types::type_node;
+use crate::values::typed_value_in;
+use pg_ast::{OpNode, TypedVal};
+use pg_grammar::{Class, ReadError, Token};
+use std::alloc::Global;
+
+/// The address of an element, and the metadata behind it.
+pub fn gep_op(alloc: Global, tokens: &[Token], at: usize) -> Result<(OpNode, usize), ReadError>
+    requires { at ≤ length tokens.now }
+    ensures read { Reads tokens.now at (λ x. op_of x.0) (λ x. x.1) result (gep_op_at (drop at tokens.now)) }
+    ensures on { IfOk result (λ x. at < x.1) }
+{
+    let (word, at) = take(tokens, at, Class::GetElementPtr)?;
+    let at = flags(tokens, at);
+    gep_op_tail(alloc, tokens, at, word)
+}
+
+/// What stands behind the first token of such an operation and its flags.
+pub fn gep_op_tail(
+    alloc: Global,
+    tokens: &[Token],
+    at: usize,
+    word: &Token,
+) -> Result<(OpNode, usize), ReadError>
+    requires { at ≤ length tokens.now }
+    ensures { Reads tokens.now at (λ x. op_of x.0) (λ x. x.1) result (gep_op_tail_at word.now (drop at tokens.now)) }
+{
+    let (ty, at) = type_node(alloc, tokens, at, 64)?;
+    let (_, at) = take(tokens, at, Class::Comma)?;
+    let (pointer, at) = typed_value_in(alloc, tokens, at, 64)?;
+    let (more, at) = more_indices(alloc, tokens, at)?;
+    Ok((
+        OpNode::GetElementPtr(word.span, ty, pointer, more.items),
+        at,
+    ))
+}
+
+/// The indices, and the metadata behind them.
+fn more_indices(
+    alloc: Global,
+    tokens: &[Token],
+    at: usize,
+) -> Result<(Listing<TypedVal>, usize), ReadError>
+    requires { at ≤ length tokens.now }
+    ensures { Reads tokens.now at (λ x. listing_of typed_of x.0) (λ x. x.1) result (more_at begins_type typed_value_at (unless Unsupported no_type metadata_tail_at) (drop at tokens.now)) }
+{
+    let mut listing = Listing {
+        items: Vec::new(alloc),
+        comma: false,
+    };
+    let mut place = at;
+    'items: while type_goes_on(tokens, place, listing.comma) {
+        match index_or_comma(alloc, tokens, place, listing) {
+            Err(error) => return Err(error),
+            Ok((next, to)) => {
+                listing = next;
+                place = to;
+            }
+        }
+    }
+    indices_end(tokens, place, listing)
+}
+
+/// A comma, or the index behind one.
+fn index_or_comma(
+    alloc: Global,
+    tokens: &[Token],
+    at: usize,
+    listing: Listing<TypedVal>,
+) -> Result<(Listing<TypedVal>, usize), ReadError>
+    requires { at ≤ length tokens.now }
+    ensures read { Reads tokens.now at (λ x. listing_of typed_of x.0) (λ x. x.1) result (listing_at typed_value_at (listing_of typed_of listing) (drop at tokens.now)) }
+    ensures on { IfOk result (λ x. at < x.1) }
+{
+    let Listing { mut items, comma } = listing;
+    if comma {
+        let (next, to) = index(alloc, tokens, at)?;
+        if items.push(next).is_err() {
+            return Err(ReadError::Memory);
+        }
+        return Ok((
+            Listing {
+                items,
+                comma: false,
+            },
+            to,
+        ));
+    }
+    let (_, to) = take(tokens, at, Class::Comma)?;
+    Ok((Listing { items, comma: true }, to))
+}
+
+/// An index, which is a token at least.
+fn index(alloc: Global, tokens: &[Token], at: usize) -> Result<(TypedVal, usize), ReadError>
+    requires { at ≤ length tokens.now }
+    ensures read { Reads tokens.now at (λ x. typed_of x.0) (λ x. x.1) result (typed_value_at (drop at tokens.now)) }
+    ensures on { IfOk result (λ x. at < x.1) }
+{
+    typed_value_in(alloc, tokens, at, 64)
+}
+
+/// Metadata behind a comma that stands behind the indices.
+fn indices_end(
+    tokens: &[Token],
+    at: usize,
+    listing: Listing<TypedVal>,
+) -> Result<(Listing<TypedVal>, usize), ReadError>
+    requires { at ≤ length tokens.now }
+    ensures { Reads tokens.now at (λ x. listing_of typed_of x.0) (λ x. x.1) result (listing_end_at (unless Unsupported no_type metadata_tail_at) (listing_of typed_of listing) (drop at tokens.now)) }
+{
+    if listing.comma {
+        if next_in(tokens, at, ClassSet::NoType) {
+            return Err(ReadError::Refused(unsupported(at)));
+        }
+        let to = metadata_tail(tokens, at)?;
+        return Ok((listing, to));
+    }
+    Ok((listing, at))
+}

@@ -1,0 +1,41 @@
+ghost use Rattle.std.specs.Prelude.{◌≡◌, ◌≤◌, length, drop};
+ghost use Rattle.pg_grammar.specs.declared.class.Class.TheVariants.{OpenSquare};
+ghost use Rattle.pg_grammar.specs.Classes.{is};
+ghost use Rattle.pg_grammar.specs.Reading.{comes};
+ghost use Rattle.pg_grammar.specs.Reader.{begins_type};
+ghost use Rattle.pg_grammar.specs.ReaderOps.{begins_by};
+
+use crate::reader::next_is;
+use crate::sets::{ClassSet, next_in};
+use pg_grammar::{Class, Token};
+
+/// Items behind commas, and whether a comma stands behind the last of them.
+#[derive(Debug, Drop)]
+pub struct Listing<T> {
+    pub items: Vec<T>,
+    pub comma: bool,
+}
+
+/// A type goes on behind a comma, or a comma where none stands.
+pub fn type_goes_on(tokens: &[Token], at: usize, comma: bool) -> bool
+    requires { at ≤ length tokens.now }
+    ensures { result ≡ comes (begins_by begins_type comma) (drop at tokens.now) }
+{
+    if comma {
+        next_in(tokens, at, ClassSet::Type)
+    } else {
+        next_is(tokens, at, Class::Comma)
+    }
+}
+
+/// The same of an opening square bracket.
+pub fn square_goes_on(tokens: &[Token], at: usize, comma: bool) -> bool
+    requires { at ≤ length tokens.now }
+    ensures { result ≡ comes (begins_by (is OpenSquare) comma) (drop at tokens.now) }
+{
+    if comma {
+        next_is(tokens, at, Class::OpenSquare)
+    } else {
+        next_is(tokens, at, Class::Comma)
+    }
+}

@@ -1,0 +1,130 @@
+ghost use Rattle.std.specs.Prelude.{◌≤◌, ◌<◌, length, drop, IfOk};
+ghost use Rattle.std.specs.Option.{option_map};
+ghost use Rattle.pg_grammar.specs.declared.token.Fault.TheVariants.{Unsupported};
+ghost use Rattle.pg_grammar.specs.declared.class.Class.TheVariants.{Int, Local};
+ghost use Rattle.pg_grammar.specs.Classes.{is};
+ghost use Rattle.pg_grammar.specs.Reading.{unless, take_one};
+ghost use Rattle.pg_grammar.specs.ReaderOps.{alignment_at, count_at, alloca_at, volatile_at, load_at, store_at};
+ghost use Rattle.pg_grammar.specs.Views.{Reads, Takes};
+ghost use Rattle.pg_ast.specs.Views.{op_of, count_of};
+
+use crate::line_metadata::{metadata, metadata_tail};
+use crate::reader::{literal, next_is, take, unsupported};
+use crate::sets::{ClassSet, next_in};
+use crate::types::type_node;
+use crate::values::typed_value_in;
+use pg_ast::{CountNode, OpNode};
+use pg_grammar::{Class, ReadError, Refusal, Token};
+use std::alloc::Global;
+
+/// An alignment, or none, and metadata are dropped.
+#[tactic(auto, unfolding(pg_grammar::specs::ReaderOps::alignment_at))]
+fn alignment(tokens: &[Token], at: usize) -> Result<usize, Refusal>
+    requires { at ≤ length tokens.now }
+    ensures { Takes tokens.now at (λ x. tt) (λ x. x) result (alignment_at (drop at tokens.now)) }
+{
+    if next_is(tokens, at, Class::Comma) {
+        let (_, at) = take(tokens, at, Class::Comma)?;
+        if next_is(tokens, at, Class::Align) {
+            let (_, at) = take(tokens, at, Class::Align)?;
+            let (_, at) = take(tokens, at, Class::Int)?;
+            return metadata(tokens, at);
+        }
+        return metadata_tail(tokens, at);
+    }
+    Ok(at)
+}
+
+/// An integer; a local isn't supported in its place.
+fn count_number(tokens: &[Token], at: usize) -> Result<(&Token, usize), Refusal>
+    requires { at ≤ length tokens.now }
+    ensures { Takes tokens.now at (λ x. x.0.now) (λ x. x.1) result (unless Unsupported (is Local) (take_one (is Int)) (drop at tokens.now)) }
+{
+    if next_is(tokens, at, Class::Local) {
+        return Err(unsupported(at));
+    }
+    take(tokens, at, Class::Int)
+}
+
+#[tactic(auto, unfolding(pg_grammar::specs::ReaderOps::count_at))]
+fn count(
+    alloc: Global,
+    tokens: &[Token],
+    at: usize,
+) -> Result<(Option<CountNode>, usize), ReadError>
+    requires { at ≤ length tokens.now }
+    ensures { Reads tokens.now at (λ x. option_map count_of x.0) (λ x. x.1) result (count_at (drop at tokens.now)) }
+{
+    if next_is(tokens, at, Class::Comma) {
+        let (_, at) = take(tokens, at, Class::Comma)?;
+        if next_is(tokens, at, Class::Align) {
+            let (_, at) = take(tokens, at, Class::Align)?;
+            let (_, at) = take(tokens, at, Class::Int)?;
+            let at = metadata(tokens, at)?;
+            return Ok((None, at));
+        }
+        if next_in(tokens, at, ClassSet::MetadataName) {
+            let at = metadata_tail(tokens, at)?;
+            return Ok((None, at));
+        }
+        let (ty, at) = type_node(alloc, tokens, at, 64)?;
+        let (number, at) = count_number(tokens, at)?;
+        let at = alignment(tokens, at)?;
+        let count = literal(alloc, number)?;
+        return Ok((Some(CountNode { ty, count }), at));
+    }
+    Ok((None, at))
+}
+
+/// Memory of the frame, and the metadata behind it.
+pub fn alloca(alloc: Global, tokens: &[Token], at: usize) -> Result<(OpNode, usize), ReadError>
+    requires { at ≤ length tokens.now }
+    ensures read { Reads tokens.now at (λ x. op_of x.0) (λ x. x.1) result (alloca_at (drop at tokens.now)) }
+    ensures on { IfOk result (λ x. at < x.1) }
+{
+    let (word, at) = take(tokens, at, Class::Alloca)?;
+    let (ty, at) = type_node(alloc, tokens, at, 64)?;
+    let (count, at) = count(alloc, tokens, at)?;
+    Ok((OpNode::Alloca(word.span, ty, count), at))
+}
+
+fn volatile_word(tokens: &[Token], at: usize) -> Result<usize, Refusal>
+    requires { at ≤ length tokens.now }
+    ensures { Takes tokens.now at (λ x. tt) (λ x. x) result (volatile_at (drop at tokens.now)) }
+{
+    if next_is(tokens, at, Class::Volatile) {
+        let (_, to) = take(tokens, at, Class::Volatile)?;
+        return Ok(to);
+    }
+    Ok(at)
+}
+
+/// A load, and the metadata behind it.
+pub fn load(alloc: Global, tokens: &[Token], at: usize) -> Result<(OpNode, usize), ReadError>
+    requires { at ≤ length tokens.now }
+    ensures read { Reads tokens.now at (λ x. op_of x.0) (λ x. x.1) result (load_at (drop at tokens.now)) }
+    ensures on { IfOk result (λ x. at < x.1) }
+{
+    let (word, at) = take(tokens, at, Class::Load)?;
+    let at = volatile_word(tokens, at)?;
+    let (ty, at) = type_node(alloc, tokens, at, 64)?;
+    let (_, at) = take(tokens, at, Class::Comma)?;
+    let (pointer, at) = typed_value_in(alloc, tokens, at, 64)?;
+    let at = alignment(tokens, at)?;
+    Ok((OpNode::Load(word.span, ty, pointer), at))
+}
+
+/// A store, and the metadata behind it.
+pub fn store(alloc: Global, tokens: &[Token], at: usize) -> Result<(OpNode, usize), ReadError>
+    requires { at ≤ length tokens.now }
+    ensures read { Reads tokens.now at (λ x. op_of x.0) (λ x. x.1) result (store_at (drop at tokens.now)) }
+    ensures on { IfOk result (λ x. at < x.1) }
+{
+    let (word, at) = take(tokens, at, Class::Store)?;
+    let at = volatile_word(tokens, at)?;
+    let (value, at) = typed_value_in(alloc, tokens, at, 64)?;
+    let (_, at) = take(tokens, at, Class::Comma)?;
+    let (pointer, at) = typed_value_in(alloc, tokens, at, 64)?;
+    let at = alignment(tokens, at)?;
+    Ok((OpNode::Store(word.span, value, pointer), at))
+}

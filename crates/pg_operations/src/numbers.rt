@@ -1,0 +1,139 @@
+ghost use Rattle.std.specs.Prelude.{◌≡◌, ◌≤◌, ◌<◌, length, drop, IfOk};
+ghost use Rattle.pg_grammar.specs.GrammarOps.{binary_of, predicate_of, cast_of};
+ghost use Rattle.pg_grammar.specs.ReaderOps.{binary_at, icmp_at, cast_at, cast_tail_at, select_at};
+ghost use Rattle.pg_grammar.specs.Views.{Reads};
+ghost use Rattle.pg_ast.specs.Views.{op_of};
+
+use crate::reader::take;
+use crate::sets::{ClassSet, take_in};
+use crate::skips::flags;
+use crate::types::type_node;
+use crate::values::{typed_value_in, value};
+use pg_ast::{BinaryOp, CastOp, OpNode, Predicate};
+use pg_grammar::{Class, ReadError, Token};
+use std::alloc::Global;
+
+fn binary_op(class: Class) -> BinaryOp
+    ensures { result ≡ binary_of class }
+{
+    match class {
+        Class::Add => BinaryOp::Add,
+        Class::Sub => BinaryOp::Sub,
+        Class::Mul => BinaryOp::Mul,
+        Class::Udiv => BinaryOp::Udiv,
+        Class::Sdiv => BinaryOp::Sdiv,
+        Class::Urem => BinaryOp::Urem,
+        Class::Srem => BinaryOp::Srem,
+        Class::Shl => BinaryOp::Shl,
+        Class::Lshr => BinaryOp::Lshr,
+        Class::Ashr => BinaryOp::Ashr,
+        Class::And => BinaryOp::And,
+        Class::Or => BinaryOp::Or,
+        _ => BinaryOp::Xor,
+    }
+}
+
+fn predicate_op(class: Class) -> Predicate
+    ensures { result ≡ predicate_of class }
+{
+    match class {
+        Class::Eq => Predicate::Eq,
+        Class::Ne => Predicate::Ne,
+        Class::Ugt => Predicate::Ugt,
+        Class::Uge => Predicate::Uge,
+        Class::Ult => Predicate::Ult,
+        Class::Ule => Predicate::Ule,
+        Class::Sgt => Predicate::Sgt,
+        Class::Sge => Predicate::Sge,
+        Class::Slt => Predicate::Slt,
+        _ => Predicate::Sle,
+    }
+}
+
+fn cast_op(class: Class) -> CastOp
+    ensures { result ≡ cast_of class }
+{
+    match class {
+        Class::Trunc => CastOp::Trunc,
+        Class::Zext => CastOp::Zext,
+        Class::Sext => CastOp::Sext,
+        Class::PtrToInt => CastOp::PtrToInt,
+        _ => CastOp::IntToPtr,
+    }
+}
+
+/// An operation on two integers.
+pub fn binary(alloc: Global, tokens: &[Token], at: usize) -> Result<(OpNode, usize), ReadError>
+    requires { at ≤ length tokens.now }
+    ensures read { Reads tokens.now at (λ x. op_of x.0) (λ x. x.1) result (binary_at (drop at tokens.now)) }
+    ensures on { IfOk result (λ x. at < x.1) }
+{
+    let (word, at) = take_in(tokens, at, ClassSet::Binary)?;
+    let at = flags(tokens, at);
+    let (ty, at) = type_node(alloc, tokens, at, 64)?;
+    let (left, at) = value(alloc, tokens, at, 64)?;
+    let (_, at) = take(tokens, at, Class::Comma)?;
+    let (right, at) = value(alloc, tokens, at, 64)?;
+    let op = binary_op(word.class);
+    Ok((OpNode::Binary(word.span, op, ty, left, right), at))
+}
+
+/// A comparison.
+pub fn comparison(alloc: Global, tokens: &[Token], at: usize) -> Result<(OpNode, usize), ReadError>
+    requires { at ≤ length tokens.now }
+    ensures read { Reads tokens.now at (λ x. op_of x.0) (λ x. x.1) result (icmp_at (drop at tokens.now)) }
+    ensures on { IfOk result (λ x. at < x.1) }
+{
+    let (word, at) = take(tokens, at, Class::Icmp)?;
+    let at = flags(tokens, at);
+    let (predicate, at) = take_in(tokens, at, ClassSet::Predicate)?;
+    let (ty, at) = type_node(alloc, tokens, at, 64)?;
+    let (left, at) = value(alloc, tokens, at, 64)?;
+    let (_, at) = take(tokens, at, Class::Comma)?;
+    let (right, at) = value(alloc, tokens, at, 64)?;
+    let op = predicate_op(predicate.class);
+    Ok((OpNode::Icmp(word.span, op, ty, left, right), at))
+}
+
+/// A conversion.
+pub fn cast(alloc: Global, tokens: &[Token], at: usize) -> Result<(OpNode, usize), ReadError>
+    requires { at ≤ length tokens.now }
+    ensures read { Reads tokens.now at (λ x. op_of x.0) (λ x. x.1) result (cast_at (drop at tokens.now)) }
+    ensures on { IfOk result (λ x. at < x.1) }
+{
+    let (word, at) = take_in(tokens, at, ClassSet::Cast)?;
+    cast_tail(alloc, tokens, at, word)
+}
+
+/// What stands behind the first token of a conversion.
+pub fn cast_tail(
+    alloc: Global,
+    tokens: &[Token],
+    at: usize,
+    word: &Token,
+) -> Result<(OpNode, usize), ReadError>
+    requires { at ≤ length tokens.now }
+    ensures { Reads tokens.now at (λ x. op_of x.0) (λ x. x.1) result (cast_tail_at word.now (drop at tokens.now)) }
+{
+    let at = flags(tokens, at);
+    let (value, at) = typed_value_in(alloc, tokens, at, 64)?;
+    let (_, at) = take(tokens, at, Class::To)?;
+    let (ty, at) = type_node(alloc, tokens, at, 64)?;
+    let op = cast_op(word.class);
+    Ok((OpNode::Cast(word.span, op, value, ty), at))
+}
+
+/// A choice of two values.
+pub fn select(alloc: Global, tokens: &[Token], at: usize) -> Result<(OpNode, usize), ReadError>
+    requires { at ≤ length tokens.now }
+    ensures read { Reads tokens.now at (λ x. op_of x.0) (λ x. x.1) result (select_at (drop at tokens.now)) }
+    ensures on { IfOk result (λ x. at < x.1) }
+{
+    let (word, at) = take(tokens, at, Class::Select)?;
+    let (condition, at) = typed_value_in(alloc, tokens, at, 64)?;
+    let (_, at) = take(tokens, at, Class::Comma)?;
+    let (yes, at) = typed_value_in(alloc, tokens, at, 64)?;
+    let (_, at) = take(tokens, at, Class::Comma)?;
+    let (no, at) = typed_value_in(alloc, tokens, at, 64)?;
+    Ok((OpNode::Select(word.span, condition, yes, no), at))
+}

@@ -1,0 +1,101 @@
+ghost use Rattle.std.specs.Prelude.{◌≤◌, ◌<◌, length, drop, IfOk};
+ghost use Rattle.pg_grammar.specs.ReaderOps.{simple_op_at, plain_op_at};
+ghost use Rattle.pg_grammar.specs.Views.{Reads, Takes};
+ghost use Rattle.pg_operations.specs.Rows.{behind_op_at, other_op_at, memory_op_at};
+ghost use Rattle.pg_ast.specs.Views.{op_of};
+
+use crate::branches::{branch, switch, unreachable_op};
+use crate::elements::gep_op;
+use crate::line_metadata::metadata;
+use crate::memory::{alloca, load, store};
+use crate::numbers::{binary, cast, comparison, select};
+use crate::phi::phi;
+use crate::reader::next_is;
+use crate::sets::{ClassSet, next_in};
+use pg_ast::OpNode;
+use pg_grammar::{Class, ReadError, Refusal, Token};
+use std::alloc::Global;
+
+/// The metadata behind an operation.
+fn lined_op(tokens: &[Token], at: usize, op: OpNode) -> Result<(OpNode, usize), Refusal>
+    requires { at ≤ length tokens.now }
+    ensures { Takes tokens.now at (λ x. op_of x.0) (λ x. x.1) result (behind_op_at (op_of op) (drop at tokens.now)) }
+{
+    let at = metadata(tokens, at)?;
+    Ok((op, at))
+}
+
+/// Any operation but a call and a return, and the metadata behind it.
+#[tactic(auto, unfolding(pg_grammar::specs::ReaderOps::simple_op_at))]
+pub fn simple_op(alloc: Global, tokens: &[Token], at: usize) -> Result<(OpNode, usize), ReadError>
+    requires { at ≤ length tokens.now }
+    ensures read { Reads tokens.now at (λ x. op_of x.0) (λ x. x.1) result (simple_op_at (drop at tokens.now)) }
+    ensures on { IfOk result (λ x. at < x.1) }
+{
+    if next_is(tokens, at, Class::GetElementPtr) {
+        return gep_op(alloc, tokens, at);
+    }
+    if next_in(tokens, at, ClassSet::Cast) {
+        let (op, at) = cast(alloc, tokens, at)?;
+        return Ok(lined_op(tokens, at, op)?);
+    }
+    plain_op(alloc, tokens, at)
+}
+
+#[tactic(auto, unfolding(pg_grammar::specs::ReaderOps::plain_op_at))]
+fn plain_op(alloc: Global, tokens: &[Token], at: usize) -> Result<(OpNode, usize), ReadError>
+    requires { at ≤ length tokens.now }
+    ensures read { Reads tokens.now at (λ x. op_of x.0) (λ x. x.1) result (plain_op_at (drop at tokens.now)) }
+    ensures on { IfOk result (λ x. at < x.1) }
+{
+    if next_in(tokens, at, ClassSet::Binary) {
+        let (op, at) = binary(alloc, tokens, at)?;
+        return Ok(lined_op(tokens, at, op)?);
+    }
+    if next_is(tokens, at, Class::Icmp) {
+        let (op, at) = comparison(alloc, tokens, at)?;
+        return Ok(lined_op(tokens, at, op)?);
+    }
+    if next_is(tokens, at, Class::Select) {
+        let (op, at) = select(alloc, tokens, at)?;
+        return Ok(lined_op(tokens, at, op)?);
+    }
+    other_op(alloc, tokens, at)
+}
+
+fn other_op(alloc: Global, tokens: &[Token], at: usize) -> Result<(OpNode, usize), ReadError>
+    requires { at ≤ length tokens.now }
+    ensures read { Reads tokens.now at (λ x. op_of x.0) (λ x. x.1) result (other_op_at (drop at tokens.now)) }
+    ensures on { IfOk result (λ x. at < x.1) }
+{
+    if next_is(tokens, at, Class::Phi) {
+        return phi(alloc, tokens, at);
+    }
+    if next_is(tokens, at, Class::Br) {
+        let (op, at) = branch(alloc, tokens, at)?;
+        return Ok(lined_op(tokens, at, op)?);
+    }
+    if next_is(tokens, at, Class::Switch) {
+        let (op, at) = switch(alloc, tokens, at)?;
+        return Ok(lined_op(tokens, at, op)?);
+    }
+    if next_is(tokens, at, Class::Unreachable) {
+        let (op, at) = unreachable_op(tokens, at)?;
+        return Ok(lined_op(tokens, at, op)?);
+    }
+    memory_op(alloc, tokens, at)
+}
+
+fn memory_op(alloc: Global, tokens: &[Token], at: usize) -> Result<(OpNode, usize), ReadError>
+    requires { at ≤ length tokens.now }
+    ensures read { Reads tokens.now at (λ x. op_of x.0) (λ x. x.1) result (memory_op_at (drop at tokens.now)) }
+    ensures on { IfOk result (λ x. at < x.1) }
+{
+    if next_is(tokens, at, Class::Alloca) {
+        return alloca(alloc, tokens, at);
+    }
+    if next_is(tokens, at, Class::Load) {
+        return load(alloc, tokens, at);
+    }
+    store(alloc, tokens, at)
+}

@@ -1,0 +1,114 @@
+ghost use Rattle.std.specs.Prelude.{◌≤◌, ◌<◌, length, drop, IfOk};
+ghost use Rattle.pg_grammar.specs.declared.class.Class.TheVariants.{OpenSquare};
+ghost use Rattle.pg_grammar.specs.Classes.{is};
+ghost use Rattle.pg_grammar.specs.ReaderOps.{incoming_at, phi_at, listing_at, listing_end_at, more_at, metadata_tail_at};
+ghost use Rattle.pg_operations.specs.Listings.{listing_of};
+ghost use Rattle.pg_grammar.specs.Views.{Reads};
+ghost use Rattle.pg_ast.specs.Views.{op_of, incoming_of};
+
+use crate::line_metadata::metadata_tail;
+use crate::listing::{Listing, square_goes_on};
+use crate::reader::{name, take};
+use crate::types::type_node;
+use crate::values::value;
+use pg_ast::{IncomingNode, OpNode};
+use pg_grammar::{Class, ReadError, Token};
+use std::alloc::Global;
+
+fn incoming(alloc: Global, tokens: &[Token], at: usize) -> Result<(IncomingNode, usize), ReadError>
+    requires { at ≤ length tokens.now }
+    ensures read { Reads tokens.now at (λ x. incoming_of x.0) (λ x. x.1) result (incoming_at (drop at tokens.now)) }
+    ensures on { IfOk result (λ x. at < x.1) }
+{
+    let (_, at) = take(tokens, at, Class::OpenSquare)?;
+    let (value, at) = value(alloc, tokens, at, 64)?;
+    let (_, at) = take(tokens, at, Class::Comma)?;
+    let (label, at) = take(tokens, at, Class::Local)?;
+    let (_, at) = take(tokens, at, Class::CloseSquare)?;
+    let block = name(alloc, label)?;
+    Ok((IncomingNode { value, block }, at))
+}
+
+/// A comma, or the value behind one.
+fn incoming_or_comma(
+    alloc: Global,
+    tokens: &[Token],
+    at: usize,
+    listing: Listing<IncomingNode>,
+) -> Result<(Listing<IncomingNode>, usize), ReadError>
+    requires { at ≤ length tokens.now }
+    ensures read { Reads tokens.now at (λ x. listing_of incoming_of x.0) (λ x. x.1) result (listing_at incoming_at (listing_of incoming_of listing) (drop at tokens.now)) }
+    ensures on { IfOk result (λ x. at < x.1) }
+{
+    let Listing { mut items, comma } = listing;
+    if comma {
+        let (next, to) = incoming(alloc, tokens, at)?;
+        if items.push(next).is_err() {
+            return Err(ReadError::Memory);
+        }
+        return Ok((
+            Listing {
+                items,
+                comma: false,
+            },
+            to,
+        ));
+    }
+    let (_, to) = take(tokens, at, Class::Comma)?;
+    Ok((Listing { items, comma: true }, to))
+}
+
+/// Metadata behind a comma that stands behind the values.
+fn incoming_end(
+    tokens: &[Token],
+    at: usize,
+    listing: Listing<IncomingNode>,
+) -> Result<(Listing<IncomingNode>, usize), ReadError>
+    requires { at ≤ length tokens.now }
+    ensures { Reads tokens.now at (λ x. listing_of incoming_of x.0) (λ x. x.1) result (listing_end_at metadata_tail_at (listing_of incoming_of listing) (drop at tokens.now)) }
+{
+    if listing.comma {
+        let to = metadata_tail(tokens, at)?;
+        return Ok((listing, to));
+    }
+    Ok((listing, at))
+}
+
+/// The values behind the first one, and the metadata behind them.
+fn more_incoming(
+    alloc: Global,
+    tokens: &[Token],
+    at: usize,
+) -> Result<(Listing<IncomingNode>, usize), ReadError>
+    requires { at ≤ length tokens.now }
+    ensures { Reads tokens.now at (λ x. listing_of incoming_of x.0) (λ x. x.1) result (more_at (is OpenSquare) incoming_at metadata_tail_at (drop at tokens.now)) }
+{
+    let mut listing = Listing {
+        items: Vec::new(alloc),
+        comma: false,
+    };
+    let mut place = at;
+    'items: while square_goes_on(tokens, place, listing.comma) {
+        match incoming_or_comma(alloc, tokens, place, listing) {
+            Err(error) => return Err(error),
+            Ok((next, to)) => {
+                listing = next;
+                place = to;
+            }
+        }
+    }
+    incoming_end(tokens, place, listing)
+}
+
+/// The choice of a value by the block before, and the metadata behind it.
+pub fn phi(alloc: Global, tokens: &[Token], at: usize) -> Result<(OpNode, usize), ReadError>
+    requires { at ≤ length tokens.now }
+    ensures read { Reads tokens.now at (λ x. op_of x.0) (λ x. x.1) result (phi_at (drop at tokens.now)) }
+    ensures on { IfOk result (λ x. at < x.1) }
+{
+    let (word, at) = take(tokens, at, Class::Phi)?;
+    let (ty, at) = type_node(alloc, tokens, at, 64)?;
+    let (first, at) = incoming(alloc, tokens, at)?;
+    let (more, at) = more_incoming(alloc, tokens, at)?;
+    Ok((OpNode::Phi(word.span, ty, first, more.items), at))
+}

@@ -1,0 +1,77 @@
+ghost use Rattle.std.specs.Prelude.{◌≡◌, ◌≤◌, ◌+◌, length, drop, IfOk, Some};
+ghost use Rattle.pg_grammar.specs.Classes.{is};
+ghost use Rattle.pg_grammar.specs.Reading.{comes, take_one};
+ghost use Rattle.pg_grammar.specs.Views.{Takes};
+ghost use Rattle.pg_grammar.specs.Grammar.{name_of, literal_of};
+
+use pg_ast::{Literal, Name};
+use pg_grammar::{Class, Fault, Refusal, Token};
+use std::alloc::{AllocError, Global};
+
+/// The class is the wanted one.
+pub fn is_class(class: Class, wanted: Class) -> bool
+    ensures { result ≡ is wanted class }
+{
+    class == wanted
+}
+
+/// A token of this class comes.
+pub fn next_is(tokens: &[Token], at: usize, wanted: Class) -> bool
+    requires { at ≤ length tokens.now }
+    ensures { result ≡ comes (is wanted) (drop at tokens.now) }
+{
+    at < tokens.len() && is_class(tokens[at].class, wanted)
+}
+
+/// The token of this class that comes, and the place after it.
+pub fn take(tokens: &[Token], at: usize, wanted: Class) -> Result<(&Token, usize), Refusal>
+    requires { at ≤ length tokens.now }
+    ensures read { Takes tokens.now at (λ x. x.0.now) (λ x. x.1) result (take_one (is wanted) (drop at tokens.now)) }
+    ensures step { IfOk result (λ x. x.1 ≡ at + 1) }
+{
+    if at < tokens.len() && is_class(tokens[at].class, wanted) {
+        Ok((&tokens[at], at + 1))
+    } else {
+        Err(Refusal { fault: None, at })
+    }
+}
+
+/// A token that isn't supported at its place.
+pub fn unsupported(at: usize) -> Refusal
+    ensures { result ≡ record { fault = Some Fault.Unsupported; at = at } }
+{
+    Refusal {
+        fault: Some(Fault::Unsupported),
+        at,
+    }
+}
+
+/// A token that opens one bracket more than may be open.
+pub fn too_deep(at: usize) -> Refusal
+    ensures { result ≡ record { fault = Some Fault.TooDeep; at = at } }
+{
+    Refusal {
+        fault: Some(Fault::TooDeep),
+        at,
+    }
+}
+
+/// The name that a token is.
+pub fn name(alloc: Global, token: &Token) -> Result<Name, AllocError>
+    ensures { IfOk result (λ n. n ≡ name_of token.now) }
+{
+    Ok(Name {
+        text: token.text.copy(alloc)?,
+        span: token.span,
+    })
+}
+
+/// The literal that a token is.
+pub fn literal(alloc: Global, token: &Token) -> Result<Literal, AllocError>
+    ensures { IfOk result (λ n. n ≡ literal_of token.now) }
+{
+    Ok(Literal {
+        text: token.text.copy(alloc)?,
+        span: token.span,
+    })
+}

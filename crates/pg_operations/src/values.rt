@@ -1,0 +1,247 @@
+ghost use Rattle.std.specs.Prelude.{◌≡◌, ◌≤◌, ◌<◌, length, drop, map, IfOk};
+ghost use Rattle.pg_grammar.specs.declared.class.Class.TheVariants.{Comma};
+ghost use Rattle.pg_grammar.specs.Classes.{is};
+ghost use Rattle.pg_grammar.specs.Reading.{all_of};
+ghost use Rattle.pg_grammar.specs.Reader.{plain_value_at, named_value_at, typed_in_at, value_at, other_value_at, gep_at, gep_tail_at, int_to_ptr_at, int_to_ptr_tail_at, behind_comma};
+ghost use Rattle.pg_grammar.specs.Views.{Reads};
+ghost use Rattle.pg_ast.specs.Views.{val_of, typed_of};
+
+use crate::reader::{literal, name, next_is, take, too_deep};
+use crate::sets::{ClassSet, next_in, take_in};
+use crate::skips::flags;
+use crate::types::type_node;
+use pg_ast::{TypedVal, ValNode};
+use pg_grammar::{Class, ReadError, Token};
+use std::alloc::Global;
+
+/// A value that is one word, or a global.
+pub fn plain_value(
+    alloc: Global,
+    tokens: &[Token],
+    at: usize,
+) -> Result<(ValNode, usize), ReadError>
+    requires { at ≤ length tokens.now }
+    ensures { Reads tokens.now at (λ x. val_of x.0) (λ x. x.1) result (plain_value_at (drop at tokens.now)) }
+{
+    if next_is(tokens, at, Class::True) {
+        let (token, to) = take(tokens, at, Class::True)?;
+        return Ok((ValNode::True(token.span), to));
+    }
+    if next_is(tokens, at, Class::False) {
+        let (token, to) = take(tokens, at, Class::False)?;
+        return Ok((ValNode::False(token.span), to));
+    }
+    if next_is(tokens, at, Class::Null) {
+        let (token, to) = take(tokens, at, Class::Null)?;
+        return Ok((ValNode::Null(token.span), to));
+    }
+    if next_is(tokens, at, Class::Undef) {
+        let (token, to) = take(tokens, at, Class::Undef)?;
+        return Ok((ValNode::Undef(token.span), to));
+    }
+    if next_is(tokens, at, Class::Poison) {
+        let (token, to) = take(tokens, at, Class::Poison)?;
+        return Ok((ValNode::Poison(token.span), to));
+    }
+    if next_is(tokens, at, Class::ZeroInitializer) {
+        let (token, to) = take(tokens, at, Class::ZeroInitializer)?;
+        return Ok((ValNode::ZeroInitializer(token.span), to));
+    }
+    let (token, to) = take_in(tokens, at, ClassSet::GlobalName)?;
+    Ok((ValNode::Global(name(alloc, token)?), to))
+}
+
+fn named_value(alloc: Global, tokens: &[Token], at: usize) -> Result<(ValNode, usize), ReadError>
+    requires { at ≤ length tokens.now }
+    ensures { Reads tokens.now at (λ x. val_of x.0) (λ x. x.1) result (named_value_at (drop at tokens.now)) }
+{
+    if next_is(tokens, at, Class::Local) {
+        let (token, to) = take(tokens, at, Class::Local)?;
+        return Ok((ValNode::Local(name(alloc, token)?), to));
+    }
+    plain_value(alloc, tokens, at)
+}
+
+/// A value in which at most `depth` brackets are open at once.
+#[cycle(values)]
+pub fn value(
+    alloc: Global,
+    tokens: &[Token],
+    at: usize,
+    depth: u32,
+) -> Result<(ValNode, usize), ReadError>
+    requires { at ≤ length tokens.now }
+    ensures { Reads tokens.now at (λ x. val_of x.0) (λ x. x.1) result (value_at depth (drop at tokens.now)) }
+{
+    if next_is(tokens, at, Class::Int) {
+        let (token, to) = take(tokens, at, Class::Int)?;
+        return Ok((ValNode::Int(literal(alloc, token)?), to));
+    }
+    other_value(alloc, tokens, at, depth)
+}
+
+/// Such a value, but no integer.
+#[cycle(values)]
+#[tactic(auto, unfolding(pg_grammar::specs::Reader::other_value_at))]
+pub fn other_value(
+    alloc: Global,
+    tokens: &[Token],
+    at: usize,
+    depth: u32,
+) -> Result<(ValNode, usize), ReadError>
+    requires { at ≤ length tokens.now }
+    ensures { Reads tokens.now at (λ x. val_of x.0) (λ x. x.1) result (other_value_at depth (drop at tokens.now)) }
+{
+    if depth == 0 {
+        if next_in(tokens, at, ClassSet::OpensValue) {
+            return Err(ReadError::Refused(too_deep(at)));
+        }
+        return named_value(alloc, tokens, at);
+    }
+    if next_is(tokens, at, Class::GetElementPtr) {
+        return gep(alloc, tokens, at, depth - 1);
+    }
+    if next_is(tokens, at, Class::IntToPtr) {
+        return int_to_ptr(alloc, tokens, at, depth - 1);
+    }
+    named_value(alloc, tokens, at)
+}
+
+/// A value and the type before it.
+#[cycle(values)]
+pub fn typed_value_in(
+    alloc: Global,
+    tokens: &[Token],
+    at: usize,
+    depth: u32,
+) -> Result<(TypedVal, usize), ReadError>
+    requires { at ≤ length tokens.now }
+    ensures { Reads tokens.now at (λ x. typed_of x.0) (λ x. x.1) result (typed_in_at depth (value_at depth) (drop at tokens.now)) }
+{
+    let (ty, at) = type_node(alloc, tokens, at, depth)?;
+    let (value, at) = value(alloc, tokens, at, depth)?;
+    Ok((TypedVal { ty, value }, at))
+}
+
+#[cycle(values)]
+fn gep(
+    alloc: Global,
+    tokens: &[Token],
+    at: usize,
+    depth: u32,
+) -> Result<(ValNode, usize), ReadError>
+    requires { at ≤ length tokens.now }
+    ensures { Reads tokens.now at (λ x. val_of x.0) (λ x. x.1) result (gep_at depth (value_at depth) (drop at tokens.now)) }
+{
+    let (word, at) = take(tokens, at, Class::GetElementPtr)?;
+    let at = flags(tokens, at);
+    gep_tail(alloc, tokens, at, depth, word)
+}
+
+/// What stands behind the first token of a constant `getelementptr` and its flags.
+#[cycle(values)]
+pub fn gep_tail(
+    alloc: Global,
+    tokens: &[Token],
+    at: usize,
+    depth: u32,
+    word: &Token,
+) -> Result<(ValNode, usize), ReadError>
+    requires { at ≤ length tokens.now }
+    ensures { Reads tokens.now at (λ x. val_of x.0) (λ x. x.1) result (gep_tail_at depth (value_at depth) word.now (drop at tokens.now)) }
+{
+    let (_, at) = take(tokens, at, Class::OpenRound)?;
+    let (ty, at) = type_node(alloc, tokens, at, depth)?;
+    let (_, at) = take(tokens, at, Class::Comma)?;
+    let (pointer, at) = typed_value_in(alloc, tokens, at, depth)?;
+    let (indices, at) = more_values(alloc, tokens, at, depth)?;
+    let (_, at) = take(tokens, at, Class::CloseRound)?;
+    let TypedVal {
+        ty: pointer_ty,
+        value,
+    } = pointer;
+    let boxed = match Box::new(alloc, value) {
+        Ok(boxed) => boxed,
+        Err(_) => return Err(ReadError::Memory),
+    };
+    Ok((
+        ValNode::GetElementPtr(word.span, ty, pointer_ty, boxed, indices),
+        at,
+    ))
+}
+
+#[cycle(values)]
+fn more_values(
+    alloc: Global,
+    tokens: &[Token],
+    at: usize,
+    depth: u32,
+) -> Result<(Vec<TypedVal>, usize), ReadError>
+    requires { at ≤ length tokens.now }
+    ensures { Reads tokens.now at (λ x. map typed_of x.0.items) (λ x. x.1) result (all_of (is Comma) (behind_comma (typed_in_at depth (value_at depth))) (drop at tokens.now)) }
+{
+    let mut values = Vec::new(alloc);
+    let mut place = at;
+    'items: while next_is(tokens, place, Class::Comma) {
+        match comma_value(alloc, tokens, place, depth) {
+            Err(error) => return Err(error),
+            Ok((next, to)) => {
+                if values.push(next).is_err() {
+                    return Err(ReadError::Memory);
+                }
+                place = to;
+            }
+        }
+    }
+    Ok((values, place))
+}
+
+/// A value and the type before it, behind a comma.
+#[cycle(values)]
+pub fn comma_value(
+    alloc: Global,
+    tokens: &[Token],
+    at: usize,
+    depth: u32,
+) -> Result<(TypedVal, usize), ReadError>
+    requires { at ≤ length tokens.now }
+    ensures read { Reads tokens.now at (λ x. typed_of x.0) (λ x. x.1) result (behind_comma (typed_in_at depth (value_at depth)) (drop at tokens.now)) }
+    ensures on { IfOk result (λ x. at < x.1) }
+{
+    let (_, to) = take(tokens, at, Class::Comma)?;
+    typed_value_in(alloc, tokens, to, depth)
+}
+
+fn int_to_ptr(
+    alloc: Global,
+    tokens: &[Token],
+    at: usize,
+    depth: u32,
+) -> Result<(ValNode, usize), ReadError>
+    requires { at ≤ length tokens.now }
+    ensures { Reads tokens.now at (λ x. val_of x.0) (λ x. x.1) result (int_to_ptr_at depth (drop at tokens.now)) }
+{
+    let (word, at) = take(tokens, at, Class::IntToPtr)?;
+    int_to_ptr_tail(alloc, tokens, at, depth, word)
+}
+
+/// What stands behind the first token of a constant `inttoptr`.
+pub fn int_to_ptr_tail(
+    alloc: Global,
+    tokens: &[Token],
+    at: usize,
+    depth: u32,
+    word: &Token,
+) -> Result<(ValNode, usize), ReadError>
+    requires { at ≤ length tokens.now }
+    ensures { Reads tokens.now at (λ x. val_of x.0) (λ x. x.1) result (int_to_ptr_tail_at depth word.now (drop at tokens.now)) }
+{
+    let (_, at) = take(tokens, at, Class::OpenRound)?;
+    let (from, at) = type_node(alloc, tokens, at, depth)?;
+    let (number, at) = take(tokens, at, Class::Int)?;
+    let (_, at) = take(tokens, at, Class::To)?;
+    let (to, at) = type_node(alloc, tokens, at, depth)?;
+    let (_, at) = take(tokens, at, Class::CloseRound)?;
+    let number = literal(alloc, number)?;
+    Ok((ValNode::IntToPtr(word.span, from, number, to), at))
+}

@@ -1,0 +1,11 @@
+use Rattle.std.proofs.Common.{◌≤◌, ◌-◌, length, drop}
+use Rattle.pg_grammar.specs.ReaderItems.{begins_next, next_part_at, body_end_at}
+use Rattle.pg_parse.specs.BodyParts.{body_of, parts_at}
+use Rattle.pg_grammar.proofs.Loops.{Runs}
+use Rattle.pg_parse.proofs.body.body_parts.Given as goal
+
+abbrev pub invariant-reading : goal.invariant-reading
+invariant-reading l = (l.at ≤ l.place) × (l.place ≤ length l.tokens) × Runs begins_next next_part_at body_end_at (body_of l.body) (drop l.place l.tokens) (parts_at (drop l.at l.tokens))
+
+abbrev pub decreases-reading : goal.decreases-reading
+decreases-reading l = length l.tokens - l.place

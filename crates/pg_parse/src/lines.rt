@@ -1,0 +1,127 @@
+ghost use Rattle.std.specs.Prelude.{◌≡◌, ◌≤◌, ◌<◌, Some, None, length, drop, map, IfOk};
+ghost use Rattle.pg_grammar.specs.Grammar.{name_of};
+ghost use Rattle.pg_grammar.specs.ReaderItems.{op_at, called_at, debug_tail_at, named_tail_at, part_at};
+ghost use Rattle.pg_parse.specs.BodyParts.{body_of};
+ghost use Rattle.pg_grammar.specs.Views.{Reads};
+ghost use Rattle.pg_ast.specs.Views.{block_of};
+
+use crate::parts::{AfterPart, Body, BodyPart, add_call, add_line, add_part};
+use crate::returns::return_line;
+use pg_ast::{BlockNode, Name};
+use pg_grammar::{Class, ReadError, Token};
+use pg_operations::{
+    ClassSet, call, metadata_tail, name, next_in, next_is, simple_op, skip_to, take, unsupported,
+};
+use std::alloc::Global;
+
+/// What is certain behind a call, or behind one of its attributes.
+pub fn called(
+    tokens: &[Token],
+    at: usize,
+    blocks: Vec<BlockNode>,
+) -> Result<(Body, usize), ReadError>
+    requires { at ≤ length tokens.now }
+    ensures { Reads tokens.now at (λ x. body_of x.0) (λ x. x.1) result (called_at (map block_of blocks.items) (drop at tokens.now)) }
+{
+    if next_is(tokens, at, Class::Comma) {
+        let (_, at) = take(tokens, at, Class::Comma)?;
+        let to = metadata_tail(tokens, at)?;
+        let after = AfterPart::Complete;
+        return Ok((Body { blocks, after }, to));
+    }
+    let after = AfterPart::Called;
+    Ok((Body { blocks, after }, at))
+}
+
+/// An operation, as far as it is certain.
+#[tactic(auto, unfolding(pg_grammar::specs::ReaderItems::op_at))]
+fn op(
+    alloc: Global,
+    tokens: &[Token],
+    at: usize,
+    blocks: Vec<BlockNode>,
+    name: Option<Name>,
+) -> Result<(Body, usize), ReadError>
+    requires { at ≤ length tokens.now }
+    ensures read { Reads tokens.now at (λ x. body_of x.0) (λ x. x.1) result (op_at (map block_of blocks.items) name (drop at tokens.now)) }
+    ensures on { IfOk result (λ x. at < x.1) }
+{
+    if next_in(tokens, at, ClassSet::Call) {
+        let (op, at) = call(alloc, tokens, at)?;
+        let blocks = add_call(alloc, blocks, name, op)?;
+        return called(tokens, at, blocks);
+    }
+    if next_is(tokens, at, Class::Ret) {
+        return return_line(alloc, tokens, at, blocks, name);
+    }
+    let (op, to) = simple_op(alloc, tokens, at)?;
+    let blocks = add_line(alloc, blocks, name, op)?;
+    let after = AfterPart::Complete;
+    Ok((Body { blocks, after }, to))
+}
+
+/// A line that is dropped, behind its first token.
+pub fn debug_tail(
+    alloc: Global,
+    tokens: &[Token],
+    at: usize,
+    blocks: Vec<BlockNode>,
+) -> Result<(Body, usize), ReadError>
+    requires { at ≤ length tokens.now }
+    ensures { Reads tokens.now at (λ x. body_of x.0) (λ x. x.1) result (debug_tail_at (map block_of blocks.items) (drop at tokens.now)) }
+{
+    let (_, at) = take(tokens, at, Class::OpenRound)?;
+    let to = skip_to(tokens, at, 63, Class::CloseRound)?;
+    let blocks = add_part(alloc, blocks, BodyPart::Dropped)?;
+    let after = AfterPart::Complete;
+    Ok((Body { blocks, after }, to))
+}
+
+/// A line behind the name of its result.
+pub fn named_tail(
+    alloc: Global,
+    tokens: &[Token],
+    at: usize,
+    blocks: Vec<BlockNode>,
+    result_name: Name,
+) -> Result<(Body, usize), ReadError>
+    requires { at ≤ length tokens.now }
+    ensures { Reads tokens.now at (λ x. body_of x.0) (λ x. x.1) result (named_tail_at (map block_of blocks.items) result_name (drop at tokens.now)) }
+{
+    let (_, at) = take(tokens, at, Class::Equals)?;
+    if next_in(tokens, at, ClassSet::NoOperation) {
+        return Err(ReadError::Refused(unsupported(at)));
+    }
+    op(alloc, tokens, at, blocks, Some(result_name))
+}
+
+/// A label or a line, as far as it is certain.
+#[tactic(auto, unfolding(pg_grammar::specs::ReaderItems::part_at))]
+pub fn part(
+    alloc: Global,
+    tokens: &[Token],
+    at: usize,
+    blocks: Vec<BlockNode>,
+) -> Result<(Body, usize), ReadError>
+    requires { at ≤ length tokens.now }
+    ensures read { Reads tokens.now at (λ x. body_of x.0) (λ x. x.1) result (part_at (map block_of blocks.items) (drop at tokens.now)) }
+    ensures on { IfOk result (λ x. at < x.1) }
+{
+    if next_is(tokens, at, Class::Label) {
+        let (token, to) = take(tokens, at, Class::Label)?;
+        let label = name(alloc, token)?;
+        let blocks = add_part(alloc, blocks, BodyPart::Label(label))?;
+        let after = AfterPart::Complete;
+        return Ok((Body { blocks, after }, to));
+    }
+    if next_is(tokens, at, Class::DebugAttr) {
+        let (_, at) = take(tokens, at, Class::DebugAttr)?;
+        return debug_tail(alloc, tokens, at, blocks);
+    }
+    if next_is(tokens, at, Class::Local) {
+        let (token, at) = take(tokens, at, Class::Local)?;
+        let result_name = name(alloc, token)?;
+        return named_tail(alloc, tokens, at, blocks, result_name);
+    }
+    op(alloc, tokens, at, blocks, None)
+}

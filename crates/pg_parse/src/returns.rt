@@ -1,0 +1,103 @@
+ghost use Rattle.std.specs.Prelude.{◌≡◌, ◌≤◌, ◌<◌, length, drop, map, IfOk};
+ghost use Rattle.pg_grammar.specs.Reader.{int_or, plain_value_at};
+ghost use Rattle.pg_grammar.specs.ReaderItems.{void_at, return_at};
+ghost use Rattle.pg_parse.specs.BodyParts.{body_of, void_line_at};
+ghost use Rattle.pg_grammar.specs.Views.{Reads};
+ghost use Rattle.pg_ast.specs.Views.{val_of, block_of};
+
+use crate::parts::{AfterPart, Body, VoidReturn, add_line, add_return};
+use pg_ast::{BlockNode, Name, OpNode, TypeNode, TypedVal, ValNode};
+use pg_grammar::{Class, ReadError, Token};
+use pg_operations::{
+    ClassSet, literal, metadata, metadata_tail, next_in, next_is, plain_value, take, typed_value_in,
+};
+use std::alloc::Global;
+
+/// An integer, or a value that is one word or a global.
+fn certain_value(alloc: Global, tokens: &[Token], at: usize) -> Result<(ValNode, usize), ReadError>
+    requires { at ≤ length tokens.now }
+    ensures { Reads tokens.now at (λ x. val_of x.0) (λ x. x.1) result (int_or plain_value_at (drop at tokens.now)) }
+{
+    if next_is(tokens, at, Class::Int) {
+        let (token, to) = take(tokens, at, Class::Int)?;
+        return Ok((ValNode::Int(literal(alloc, token)?), to));
+    }
+    plain_value(alloc, tokens, at)
+}
+
+/// The metadata behind a value of `ret void`, and the line.
+pub fn void_line(
+    alloc: Global,
+    tokens: &[Token],
+    at: usize,
+    blocks: Vec<BlockNode>,
+    line: VoidReturn,
+    value: ValNode,
+) -> Result<(Body, usize), ReadError>
+    requires { at ≤ length tokens.now }
+    ensures { Reads tokens.now at (λ x. body_of x.0) (λ x. x.1) result (void_line_at (map block_of blocks.items) line.name line.word line.void (val_of value) (drop at tokens.now)) }
+{
+    let to = metadata(tokens, at)?;
+    let VoidReturn { name, word, void } = line;
+    let ty = TypeNode::Void(void);
+    let op = OpNode::Ret(word, TypedVal { ty, value });
+    let blocks = add_line(alloc, blocks, name, op)?;
+    let after = AfterPart::Complete;
+    Ok((Body { blocks, after }, to))
+}
+
+/// What is certain behind `ret void`.
+fn void_tail(
+    alloc: Global,
+    tokens: &[Token],
+    at: usize,
+    blocks: Vec<BlockNode>,
+    line: VoidReturn,
+) -> Result<(Body, usize), ReadError>
+    requires { at ≤ length tokens.now }
+    ensures { Reads tokens.now at (λ x. body_of x.0) (λ x. x.1) result (void_at (map block_of blocks.items) line.name line.word line.void (drop at tokens.now)) }
+{
+    if next_in(tokens, at, ClassSet::CertainValue) {
+        let (value, at) = certain_value(alloc, tokens, at)?;
+        return void_line(alloc, tokens, at, blocks, line, value);
+    }
+    if next_is(tokens, at, Class::Comma) {
+        let (_, at) = take(tokens, at, Class::Comma)?;
+        let to = metadata_tail(tokens, at)?;
+        let blocks = add_return(alloc, blocks, line)?;
+        let after = AfterPart::Complete;
+        return Ok((Body { blocks, after }, to));
+    }
+    let after = AfterPart::Returned(line);
+    Ok((Body { blocks, after }, at))
+}
+
+/// A `ret`, as far as it is certain.
+#[tactic(auto, unfolding(pg_grammar::specs::ReaderItems::return_at))]
+pub fn return_line(
+    alloc: Global,
+    tokens: &[Token],
+    at: usize,
+    blocks: Vec<BlockNode>,
+    name: Option<Name>,
+) -> Result<(Body, usize), ReadError>
+    requires { at ≤ length tokens.now }
+    ensures read { Reads tokens.now at (λ x. body_of x.0) (λ x. x.1) result (return_at (map block_of blocks.items) name (drop at tokens.now)) }
+    ensures on { IfOk result (λ x. at < x.1) }
+{
+    let (word, at) = take(tokens, at, Class::Ret)?;
+    if next_is(tokens, at, Class::Void) {
+        let (void, at) = take(tokens, at, Class::Void)?;
+        let line = VoidReturn {
+            name,
+            word: word.span,
+            void: void.span,
+        };
+        return void_tail(alloc, tokens, at, blocks, line);
+    }
+    let (value, at) = typed_value_in(alloc, tokens, at, 64)?;
+    let to = metadata(tokens, at)?;
+    let blocks = add_line(alloc, blocks, name, OpNode::Ret(word.span, value))?;
+    let after = AfterPart::Complete;
+    Ok((Body { blocks, after }, to))
+}
