@@ -6,7 +6,7 @@ use Rattle.pg_ast.specs.declared.names.Literal.{Literal}
 use Rattle.pg_ast.specs.declared.ops.BinaryOp.TheVariants as binary
 use Rattle.pg_ast.specs.declared.ops.Predicate.TheVariants as predicate
 use Rattle.pg_ast.specs.Syntax as syntax
-use Rattle.pg_ast.specs.Syntax.{Ty, tys, Val, vals, Typed, Const, consts, Op, Line, Block, Param, NamedType, Variable, Declaration, Definition, Tree}
+use Rattle.pg_ast.specs.Syntax.{Ty, tys, Val, vals, Typed, Const, consts, Op, Line, Block, Param, NamedType, Variable, Definition, Tree}
 use Rattle.pg_ast.specs.Numbers.{numbered, gives, is_void, name_void, decimal_text, digits_text, after_name, behind_block, block_at}
 use Rattle.pg_num.specs.declared.operations.Compare.TheVariants as compare
 use Rattle.pg_num.specs.declared.width.Width.TheVariants.{W1, W8, W32, W64}
@@ -18,8 +18,8 @@ use Rattle.pg_ir.specs.declared.known.Known.TheVariants as known
 use Rattle.pg_ir.specs.Program.{numbered_program}
 use Rattle.pg_check.specs.declared.fault.CheckKind.{CheckKind}
 use Rattle.pg_check.specs.declared.fault.CheckKind.TheVariants.{UnknownName, Doubled, WrongType, NoBlock, BadPhi, Unsupported, BadSignature, TooLarge, NoMain}
-use Rattle.pg_check.specs.Resolved.{ResolvedType, IntegerType, NoFields, MoreFields, resolved, type_within, type_by, fields_by, same_type}
-use Rattle.pg_check.specs.Layout.{size_of, fields_end, alignment_of, field_offsets}
+use Rattle.pg_types.specs.Resolved.{ResolvedType, IntegerType, NoFields, MoreFields, resolved, type_within, type_by, fields_by, same_type}
+use Rattle.pg_types.specs.Layout.{size_of, fields_end, alignment_of, field_offsets}
 use Rattle.pg_check.specs.KnownNames.{known_name, known_named}
 use Rattle.pg_check.specs.Names.{symbol, registers_of, register_named, register_number, label_number, first_block, first_line, doubled}
 use Rattle.pg_check.specs.Written.{inner_uses, index_uses, operands, types_within, types_within_all, op_types, op_demands, const_uses, part_uses, const_types, part_types, label_targets, label_sources}

@@ -2,12 +2,12 @@
 use Rattle.std.proofs.Common.{◌≡◌, ℕ, ◌+◌, List, [], ◌∷◌, Some, None, refl, codes, map, false}
 use Rattle.std.specs.List.{enumerate_from}
 use Rattle.pg_ast.specs.Syntax as syntax
-use Rattle.pg_ast.specs.Syntax.{Ty, tys, Val, vals, Const, consts, Dparam, NamedType, Variable, Declaration, Definition, Tree}
+use Rattle.pg_ast.specs.Syntax.{Ty, tys, Val, vals, Const, consts, NamedType, Variable, Declaration, Definition, Tree}
 use Rattle.pg_ast.specs.Numbers.{numbered, decimal_text, digits_text, after_name, behind_block, block_at}
 use Rattle.pg_check.specs.declared.fault.CheckKind.{CheckKind}
 use Rattle.pg_check.specs.declared.fault.CheckKind.TheVariants.{UnknownName, Doubled, WrongType, Unsupported, BadSignature, TooLarge}
-use Rattle.pg_check.specs.Resolved.{resolved, type_within, type_by, fields_by, same_type}
-use Rattle.pg_check.specs.Layout.{size_of, fields_end, alignment_of}
+use Rattle.pg_types.specs.Resolved.{resolved, type_within, type_by, fields_by, same_type}
+use Rattle.pg_types.specs.Layout.{size_of, fields_end, alignment_of}
 use Rattle.pg_check.specs.KnownNames.{known_name, known_named}
 use Rattle.pg_check.specs.Names.{symbol, register_named, doubled}
 use Rattle.pg_check.specs.Written.{inner_uses, index_uses, types_within, types_within_all, const_uses, part_uses, const_types, part_types}

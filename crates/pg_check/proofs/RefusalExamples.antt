@@ -3,12 +3,12 @@ use Rattle.std.proofs.Common.{◌≡◌, ℕ, List, [], ◌∷◌, ◌++◌, Som
 use Rattle.pg_ast.specs.declared.ops.BinaryOp.TheVariants as binary
 use Rattle.pg_ast.specs.declared.ops.CastOp.TheVariants as cast
 use Rattle.pg_ast.specs.Syntax as syntax
-use Rattle.pg_ast.specs.Syntax.{Ty, tys, Val, vals, Typed, Op, Line, Block, Definition, Tree}
+use Rattle.pg_ast.specs.Syntax.{Ty, Val, Typed, Op, Line, Block, Definition}
 use Rattle.pg_ast.specs.Numbers.{numbered, gives, is_void, name_void, decimal_text, digits_text, after_name, behind_block, block_at}
 use Rattle.pg_check.specs.declared.fault.CheckKind.{CheckKind}
 use Rattle.pg_check.specs.declared.fault.CheckKind.TheVariants.{UnknownName, Doubled, WrongType, NoBlock, BadPhi, Unsupported, TooLarge}
-use Rattle.pg_check.specs.Resolved.{resolved, type_within, type_by, fields_by, same_type}
-use Rattle.pg_check.specs.Layout.{size_of, fields_end, alignment_of}
+use Rattle.pg_types.specs.Resolved.{resolved, type_within, type_by, fields_by, same_type}
+use Rattle.pg_types.specs.Layout.{size_of, fields_end, alignment_of}
 use Rattle.pg_check.specs.KnownNames.{known_name, known_named}
 use Rattle.pg_check.specs.Names.{symbol, registers_of, register_named, label_number, doubled}
 use Rattle.pg_check.specs.Written.{inner_uses, index_uses, operands, types_within, types_within_all, op_types, op_demands, label_targets, label_sources}
@@ -187,7 +187,7 @@ refused_more :
     of_value (path (syntax.I64 (at 22)) (typed i64 (two (codes "0")) ∷ typed other (two (codes "0")) ∷ [])) ∷
     of_end (syntax.Br (at 11) (name 14 (codes "nowhere"))) ∷
     of_end (syntax.Switch (at 11) (typed i8 (one (codes "1"))) (name 14 (codes "0")) (case 23 (codes "-1") (codes "0") ∷ case 24 (codes "255") (codes "0") ∷ [])) ∷
-    of_end (syntax.RetVoid (at 11)) ∷
+    of_end (syntax.RetVoid (at 11) (at 12)) ∷
     of_end (syntax.Ret (at 11) (typed i8 (one (codes "1")))) ∷
     of_blocks [] ∷
     of_blocks (block [] ∷ []) ∷
@@ -219,7 +219,7 @@ refused_more :
     ((WrongType, 16) ∷ []) ∷
     ((NoBlock, 14) ∷ []) ∷
     ((Doubled, 24) ∷ []) ∷
-    ((WrongType, 11) ∷ []) ∷
+    ((WrongType, 12) ∷ []) ∷
     ((WrongType, 12) ∷ []) ∷
     ((NoBlock, 1) ∷ []) ∷
     ((NoBlock, 1) ∷ []) ∷

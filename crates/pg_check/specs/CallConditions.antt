@@ -6,12 +6,12 @@ use Rattle.pg_ir.specs.declared.known.Known.{Known}
 use Rattle.pg_ir.specs.declared.known.Known.TheVariants.{PthreadCreate}
 use Rattle.pg_ast.specs.declared.names.Name.{Name}
 use Rattle.pg_ast.specs.Syntax.{Ty, Val, Local, Global, Typed, Written, Op, Call, Param, Dparam, ParamOf, Dots, Declaration, Definition, NamedType}
-use Rattle.pg_check.specs.Resolved.{resolved, is_pointer}
+use Rattle.pg_types.specs.Resolved.{resolved, is_pointer}
+use Rattle.pg_types.specs.Kinds.{fails, is_as}
 use Rattle.pg_check.specs.KnownNames.{known_named}
 use Rattle.pg_check.specs.Names.{Symbol, VariableOf, DefinitionOf, DeclarationOf, symbol, register_named}
 use Rattle.pg_check.specs.Places.{type_span, val_span}
-use Rattle.pg_check.specs.Written.{Use, operands, typed_operand, Demand, asks_typed, is_as}
-use Rattle.pg_check.specs.TypeConditions.{fails}
+use Rattle.pg_check.specs.Written.{Use, operands, typed_operand, Demand, asks_typed}
 use Rattle.pg_check.specs.ValueConditions.{Scope}
 
 -- ---- the types of functions

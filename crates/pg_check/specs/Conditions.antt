@@ -16,12 +16,13 @@ use Rattle.pg_ast.specs.Syntax.{Ty, Named, Line, Block, Param, Dparam, ParamOf, 
 use Rattle.pg_ast.specs.Numbers.{type_named, numbered}
 use Rattle.pg_check.specs.declared.fault.CheckKind.{CheckKind}
 use Rattle.pg_check.specs.declared.fault.CheckKind.TheVariants.{UnknownName, Doubled, WrongType, NoBlock, BadPhi, Unsupported, BadSignature, TooLarge, NoMain}
-use Rattle.pg_check.specs.Resolved.{ResolvedType, IntegerType, PointerType, VoidType, resolved, same_width, is_scalar, is_void_type}
-use Rattle.pg_check.specs.Layout.{size_or_none}
+use Rattle.pg_types.specs.Resolved.{ResolvedType, IntegerType, PointerType, VoidType, resolved, same_width, is_scalar, is_void_type}
+use Rattle.pg_types.specs.Layout.{size_or_none}
+use Rattle.pg_types.specs.Kinds.{fails}
 use Rattle.pg_check.specs.KnownNames.{known_named}
 use Rattle.pg_check.specs.Names.{symbol_names, doubled, registers_of, labels_of, line_count, Register}
 use Rattle.pg_check.specs.Written.{types_within, const_uses, const_types, with_inner, own_types, isnt_void, Use, asks}
-use Rattle.pg_check.specs.TypeConditions.{fails, unknown_types, wrong_types, any_large, unmet}
+use Rattle.pg_check.specs.TypeConditions.{unknown_types, wrong_types, any_large, unmet}
 use Rattle.pg_check.specs.ValueConditions.{Scope, unknown_value, function_value, wrong_use, wrong_const}
 use Rattle.pg_check.specs.CallConditions.{Header, definition_header, declaration_header, param_types, is_resolved}
 use Rattle.pg_check.specs.LineConditions.{line_refused, line_types}

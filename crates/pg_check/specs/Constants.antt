@@ -6,8 +6,8 @@ use Rattle.pg_ir.specs.WellFormed.{granules_for}
 use Rattle.pg_ir.specs.declared.value.Scale.{Scale}
 use Rattle.pg_ir.specs.declared.value.Scale.TheVariants.{Times, Field}
 use Rattle.pg_ast.specs.Syntax.{Ty, Val, Int, Global, GepVal, IntToPtrVal, Typed, Const, Consts, ValConst, BytesConst, ArrayConst, StructConst, NoConsts, MoreConsts, NamedType, Variable, Tree}
-use Rattle.pg_check.specs.Resolved.{ResolvedType, IntegerType, PointerType, ArrayType, MoreFields, resolved}
-use Rattle.pg_check.specs.Layout.{size_of, alignment_of, round_up, field_list, field_offsets, size_or_none, bytes_of}
+use Rattle.pg_types.specs.Resolved.{ResolvedType, IntegerType, PointerType, ArrayType, MoreFields, resolved}
+use Rattle.pg_types.specs.Layout.{size_of, alignment_of, round_up, field_list, field_offsets, size_or_none, bytes_of}
 use Rattle.pg_check.specs.Names.{Symbol, VariableOf, symbol}
 use Rattle.pg_check.specs.Written.{typed_list}
 use Rattle.pg_check.specs.ValueConditions.{number_at, signed_at, chosen_field}

@@ -1,6 +1,3 @@
-pub mod Resolved
-pub mod Layout
-pub mod Literals
 pub mod KnownNames
 pub mod Names
 pub mod Places
@@ -13,8 +10,14 @@ pub mod BlockConditions
 pub mod Conditions
 pub mod Constants
 pub mod Numbered
-pub mod Capped
-pub mod Table
-pub mod NameIndex
-pub mod Known
-pub mod Items
+pub mod Earliest
+pub mod Nodes
+pub mod Starts
+pub mod Symbols
+pub mod Indices
+pub mod Fields
+pub mod Signatures
+pub mod Numbering
+pub mod Checked
+pub mod Words
+pub mod ScopeNames

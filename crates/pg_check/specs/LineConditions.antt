@@ -7,11 +7,12 @@ use Rattle.pg_ast.specs.Syntax.{Ty, Val, Case, Op, Call, Switch, RetVoid, GetEle
 use Rattle.pg_ast.specs.Numbers.{gives}
 use Rattle.pg_check.specs.declared.fault.CheckKind.{CheckKind}
 use Rattle.pg_check.specs.declared.fault.CheckKind.TheVariants.{UnknownName, Doubled, WrongType, NoBlock, Unsupported}
-use Rattle.pg_check.specs.Resolved.{resolved, is_void_type}
+use Rattle.pg_types.specs.Resolved.{resolved, is_void_type}
+use Rattle.pg_types.specs.Kinds.{fails}
 use Rattle.pg_check.specs.Names.{symbol, label_number}
 use Rattle.pg_check.specs.Places.{val_span}
 use Rattle.pg_check.specs.Written.{Use, with_inner, operands, op_types, own_types, op_demands, label_targets, label_sources}
-use Rattle.pg_check.specs.TypeConditions.{unknown_types, wrong_types, unmet, fails}
+use Rattle.pg_check.specs.TypeConditions.{unknown_types, wrong_types, unmet}
 use Rattle.pg_check.specs.ValueConditions.{Scope, unknown_symbol, unknown_value, function_value, wrong_use, wrong_indices, number_at}
 use Rattle.pg_check.specs.CallConditions.{header_of, variable_symbol, unsupported_symbol, wrong_header, call_demands, callee_params, is_callable, wrong_number, thread_functions, value_operands, wrong_thread, unsupported_thread}
 
@@ -55,7 +56,7 @@ wrong_call g _ = []
 
 -- nothing is returned where the function has a result
 abbrev pub wrong_return : Scope → Op → List Span
-wrong_return g (RetVoid s) = if fails is_void_type g.result then s ∷ [] else []
+wrong_return g (RetVoid s v) = if fails is_void_type g.result then v ∷ [] else []
 wrong_return g _ = []
 
 abbrev pub wrong_path : Scope → Op → List Span

@@ -8,7 +8,7 @@ use Rattle.pg_lex.specs.declared.token.Span.{Span}
 use Rattle.pg_ast.specs.declared.names.Name.{Name}
 use Rattle.pg_ast.specs.Syntax.{Op, Binary, Icmp, Cast, Select, Phi, Br, CondBr, Switch, Call, RetVoid, Ret, Unreachable, Alloca, Load, Store, GetElementPtr, Line, Block, Param, NamedType, Variable, Declaration, Definition, Tree}
 use Rattle.pg_ast.specs.Numbers.{gives}
-use Rattle.pg_check.specs.Resolved.{ResolvedType, IntegerType, PointerType, resolved}
+use Rattle.pg_types.specs.Resolved.{ResolvedType, IntegerType, PointerType, resolved}
 
 -- ---- globals and functions
 
@@ -59,7 +59,7 @@ result_type types (Br s b) = None
 result_type types (CondBr s c a b) = None
 result_type types (Switch s v b all) = None
 result_type types (Call s t w f all) = resolved types t
-result_type types (RetVoid s) = None
+result_type types (RetVoid s v) = None
 result_type types (Ret s v) = None
 result_type types (Unreachable s) = None
 result_type types (Alloca s t n) = Some PointerType

@@ -36,8 +36,8 @@ use Rattle.pg_ast.specs.declared.ops.CastOp.{CastOp}
 use Rattle.pg_ast.specs.declared.ops.CastOp.TheVariants.{Trunc, Zext, Sext, PtrToInt, IntToPtr}
 use Rattle.pg_ast.specs.Syntax.{Ty, Val, Int, Local, Global, Typed, Incoming, Case, Count, Op, Binary, Icmp, Cast, Select, Phi, Br, CondBr, Switch, Call, RetVoid, Ret, Unreachable, Alloca, Load, Store, GetElementPtr, Line, Block, Variable, Definition, Tree}
 use Rattle.pg_ast.specs.Numbers.{gives, numbered}
-use Rattle.pg_check.specs.Resolved.{ResolvedType, IntegerType, PointerType, resolved}
-use Rattle.pg_check.specs.Layout.{size_or_none}
+use Rattle.pg_types.specs.Resolved.{ResolvedType, IntegerType, PointerType, resolved}
+use Rattle.pg_types.specs.Layout.{size_or_none}
 use Rattle.pg_check.specs.Names.{Symbol, VariableOf, DefinitionOf, symbol, Register, registers_of, register_number, label_number, first_block, first_line}
 use Rattle.pg_check.specs.CallConditions.{known_of}
 use Rattle.pg_check.specs.Conditions.{scope_of, main_name}
@@ -154,7 +154,7 @@ op_at g first (Br s b) = op.Br (block_at g first b)
 op_at g first (CondBr s c a b) = op.CondBr (typed_value g c) (block_at g first a) (block_at g first b)
 op_at g first (Switch s v b all) = op.Switch (width_in (type_in g v.ty)) (typed_value g v) (block_at g first b) (map (case_at g first v.ty) all)
 op_at g first (Call s t w f all) = call_of (symbol g.tree f.text) (map (typed_value g) all)
-op_at g first (RetVoid s) = op.Ret None
+op_at g first (RetVoid s v) = op.Ret None
 op_at g first (Ret s v) = op.Ret (Some (typed_value g v))
 op_at g first (Unreachable s) = op.Unreachable
 op_at g first (Alloca s t n) = op.Alloca (size_or_none (type_in g t) * count_in g n)

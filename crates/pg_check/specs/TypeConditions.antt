@@ -1,19 +1,15 @@
 -- When a type that is written is refused.
-use Rattle.std.specs.Prelude.{ℕ, nat_lt, Bool, false, not, if◌then◌else◌, List, [], ◌∷◌, ◌++◌, Option, Some, None, is_some}
+use Rattle.std.specs.Prelude.{ℕ, nat_lt, Bool, false, if◌then◌else◌, List, [], ◌∷◌, ◌++◌, Option, Some, None, is_some}
 use Rattle.std.specs.List.{flat_map, list_any}
 use Rattle.pg_lex.specs.declared.token.Span.{Span}
 use Rattle.pg_num.specs.declared.limits.TheConstants.{SIZE_LIMIT}
 use Rattle.pg_ast.specs.Syntax.{Ty, Array, Struct, Named, NamedType}
 use Rattle.pg_ast.specs.Numbers.{type_named}
-use Rattle.pg_check.specs.Resolved.{ResolvedType, resolved, element_count, is_void_type}
-use Rattle.pg_check.specs.Layout.{size_or_none}
+use Rattle.pg_types.specs.Resolved.{ResolvedType, resolved, element_count, is_void_type}
+use Rattle.pg_types.specs.Layout.{size_or_none}
+use Rattle.pg_types.specs.Kinds.{fails}
 use Rattle.pg_check.specs.Places.{type_span}
 use Rattle.pg_check.specs.Written.{type_list, types_within, Demand}
-
--- a type that is one, and doesn't pass: what isn't resolved isn't judged
-abbrev pub fails : (ResolvedType → Bool) → Option ResolvedType → Bool
-fails test (Some t) = not (test t)
-fails test None = false
 
 abbrev pub is_void_part : Option ResolvedType → Bool
 is_void_part (Some t) = is_void_type t

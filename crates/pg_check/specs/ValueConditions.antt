@@ -8,13 +8,14 @@ use Rattle.pg_num.specs.declared.width.Width.{Width}
 use Rattle.pg_ast.specs.declared.names.Name.{Name}
 use Rattle.pg_ast.specs.Syntax.{Ty, Val, Int, True, False, Null, Undef, Poison, ZeroInitializer, Local, Global, GepVal, IntToPtrVal, Typed, Const, Consts, ValConst, BytesConst, ArrayConst, StructConst, NoConsts, MoreConsts, NamedType, Tree}
 use Rattle.pg_num.specs.declared.width.Width.TheVariants.{W8}
-use Rattle.pg_check.specs.Resolved.{ResolvedType, IntegerType, ArrayType, NoFields, MoreFields, resolved, is_bit, is_pointer}
-use Rattle.pg_check.specs.Layout.{field_list}
-use Rattle.pg_check.specs.Literals.{literal_in}
+use Rattle.pg_types.specs.Resolved.{ResolvedType, IntegerType, ArrayType, NoFields, MoreFields, resolved, is_bit, is_pointer}
+use Rattle.pg_types.specs.Layout.{field_list}
+use Rattle.pg_types.specs.Literals.{literal_in}
+use Rattle.pg_types.specs.Kinds.{fails, is_as}
 use Rattle.pg_check.specs.Names.{Register, register_named, Symbol, DefinitionOf, DeclarationOf, NoSymbol, symbol}
 use Rattle.pg_check.specs.Places.{type_span, val_span}
-use Rattle.pg_check.specs.Written.{Use, typed_list, own_demands, is_as, isnt_void}
-use Rattle.pg_check.specs.TypeConditions.{fails, unmet}
+use Rattle.pg_check.specs.Written.{Use, typed_list, own_demands, isnt_void}
+use Rattle.pg_check.specs.TypeConditions.{unmet}
 
 -- what the names of a function's lines are looked up in; outside of functions no register and no label
 pub record Scope : Type 0 where

@@ -6,7 +6,8 @@ use Rattle.pg_ast.specs.declared.names.Name.{Name}
 use Rattle.pg_ast.specs.declared.ops.CastOp.{CastOp}
 use Rattle.pg_ast.specs.declared.ops.CastOp.TheVariants.{Trunc, Zext, Sext, PtrToInt, IntToPtr}
 use Rattle.pg_ast.specs.Syntax.{Ty, Tys, Array, Struct, NoTys, MoreTys, Val, Vals, Int, GepVal, IntToPtrVal, NoVals, MoreVals, Typed, Const, Consts, ValConst, BytesConst, ArrayConst, StructConst, NoConsts, MoreConsts, Incoming, Case, Written, Count, Op, Binary, Icmp, Cast, Select, Phi, Br, CondBr, Switch, Call, RetVoid, Ret, Unreachable, Alloca, Load, Store, GetElementPtr, NamedType}
-use Rattle.pg_check.specs.Resolved.{ResolvedType, IntegerType, VoidType, resolved, same_type, is_integer, is_pointer, is_bit, is_scalar}
+use Rattle.pg_types.specs.Resolved.{ResolvedType, IntegerType, VoidType, resolved, same_type, is_integer, is_pointer, is_bit, is_scalar}
+use Rattle.pg_types.specs.Kinds.{is_as}
 
 -- ---- lists of the grammar
 
@@ -65,7 +66,7 @@ operands (Br s b) = []
 operands (CondBr s c a b) = typed_operand c ∷ []
 operands (Switch s v b all) = typed_operand v ∷ map (λ (c : Case). constant_at c.value.ty c.value.value) all
 operands (Call s t w f all) = map typed_operand all
-operands (RetVoid s) = []
+operands (RetVoid s v) = []
 operands (Ret s v) = typed_operand v ∷ []
 operands (Unreachable s) = []
 operands (Alloca s t n) = count_uses n
@@ -111,7 +112,7 @@ op_types (Br s b) = []
 op_types (CondBr s c a b) = c.ty ∷ []
 op_types (Switch s v b all) = v.ty ∷ map (λ (c : Case). c.value.ty) all
 op_types (Call s t w f all) = t ∷ (written_types w ++ map (λ (a : Typed). a.ty) all)
-op_types (RetVoid s) = []
+op_types (RetVoid s v) = []
 op_types (Ret s v) = v.ty ∷ []
 op_types (Unreachable s) = []
 op_types (Alloca s t n) = t ∷ count_types n
@@ -131,11 +132,6 @@ asks test t = record { ty = t; test = test }
 
 abbrev pub asks_typed : (ResolvedType → Bool) → Typed → Demand
 asks_typed test v = asks test v.ty
-
--- the same as another type, where that is one
-abbrev pub is_as : Option ResolvedType → ResolvedType → Bool
-is_as None t = true
-is_as (Some u) t = same_type u t
 
 abbrev pub isnt_void : ResolvedType → Bool
 isnt_void VoidType = false
@@ -181,7 +177,7 @@ op_demands types r (Br s b) = []
 op_demands types r (CondBr s c a b) = asks_typed is_bit c ∷ []
 op_demands types r (Switch s v b all) = asks_typed is_integer v ∷ map (λ (c : Case). asks_typed (is_as (resolved types v.ty)) c.value) all
 op_demands types r (Call s t w f all) = []
-op_demands types r (RetVoid s) = []
+op_demands types r (RetVoid s v) = []
 op_demands types r (Ret s v) = asks_typed (returns_as r) v ∷ []
 op_demands types r (Unreachable s) = []
 op_demands types r (Alloca s t n) = asks isnt_void t ∷ count_demands n
@@ -243,7 +239,7 @@ abbrev pub is_ending : Op → Bool
 is_ending (Br s b) = true
 is_ending (CondBr s c a b) = true
 is_ending (Switch s v b all) = true
-is_ending (RetVoid s) = true
+is_ending (RetVoid s v) = true
 is_ending (Ret s v) = true
 is_ending (Unreachable s) = true
 is_ending _ = false

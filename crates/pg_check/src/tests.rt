@@ -1,76 +1,96 @@
-use crate::items::{index_items, item_numbers};
-use crate::resolving::type_number;
-use crate::table::TypeTable;
-use pg_ast::{Bytes, Literal, Name, TypeItem, TypeNode};
+use crate::fault::CheckKind;
+use crate::phases::heads_refusals;
+use crate::refusals::{Refusal, first_refusal};
+use crate::symbol_names::symbol_starts;
+use pg_ast::{Bytes, DeclareItem, DefineItem, DparamNode, Module, Name, ParamNode, TypeNode};
 use pg_lex::Span;
+use pg_types::TypeNumbers;
 use std::alloc::{AllocError, Global};
 use std::test::Fail;
 
-const SPAN: Span = Span { start: 0, end: 1 };
+fn at(start: u32) -> Span {
+    Span { start, end: start }
+}
 
-fn name(alloc: Global, text: &[u8]) -> Result<Name, AllocError> {
+fn name(alloc: Global, text: &[u8], start: u32) -> Result<Name, AllocError> {
     let text = Bytes::new(text.to_vec(alloc)?);
-    Ok(Name { text, span: SPAN })
-}
-
-fn named(alloc: Global, text: &[u8]) -> Result<TypeNode, AllocError> {
-    Ok(TypeNode::Named(name(alloc, text)?))
-}
-
-fn item(alloc: Global, text: &[u8], ty: TypeNode) -> Result<TypeItem, AllocError> {
-    Ok(TypeItem {
-        name: name(alloc, text)?,
-        ty,
+    Ok(Name {
+        text,
+        span: at(start),
     })
 }
 
-fn array(alloc: Global, count: &[u8], element: TypeNode) -> Result<TypeNode, AllocError> {
-    let text = Bytes::new(count.to_vec(alloc)?);
-    let element = Box::new(alloc, element)?;
-    Ok(TypeNode::Array(SPAN, Literal { text, span: SPAN }, element))
+/// `declare i64 @NAME(TYPE)`, whose name begins at a place.
+fn declared(
+    alloc: Global,
+    text: &[u8],
+    start: u32,
+    ty: TypeNode,
+) -> Result<DeclareItem, AllocError> {
+    let param = DparamNode::Param(ParamNode { ty, name: None });
+    Ok(DeclareItem {
+        result: TypeNode::I64(at(start)),
+        name: name(alloc, text, start)?,
+        params: vec![in alloc; param]?,
+    })
 }
 
-/// `%m = type { %s, [2 x %n] }`, `%s = type { i8, i64, i32 }`, `%n = type %s`, `%c = type { %d }`, `%d = type %c`.
-fn items(alloc: Global) -> Result<Vec<TypeItem>, AllocError> {
-    let scalars = vec![in alloc;
-        TypeNode::I8(SPAN),
-        TypeNode::I64(SPAN),
-        TypeNode::I32(SPAN),
-    ]?;
-    let parts = vec![in alloc;
-        named(alloc, b"s")?,
-        array(alloc, b"2", named(alloc, b"n")?)?,
-    ]?;
-    let circle = vec![in alloc; named(alloc, b"d")?]?;
-    Ok(vec![in alloc;
-        item(alloc, b"m", TypeNode::Struct(SPAN, parts))?,
-        item(alloc, b"s", TypeNode::Struct(SPAN, scalars))?,
-        item(alloc, b"n", named(alloc, b"s")?)?,
-        item(alloc, b"c", TypeNode::Struct(SPAN, circle))?,
-        item(alloc, b"d", named(alloc, b"c")?)?,
-    ]?)
+/// `define void @NAME(i8 %a, i8 %a)`, whose name begins at a place.
+fn defined(alloc: Global, text: &[u8], start: u32) -> Result<DefineItem, AllocError> {
+    let first = ParamNode {
+        ty: TypeNode::I8(at(start)),
+        name: Some(name(alloc, b"a", 50)?),
+    };
+    let second = ParamNode {
+        ty: TypeNode::I8(at(start)),
+        name: Some(name(alloc, b"a", 60)?),
+    };
+    Ok(DefineItem {
+        result: TypeNode::Void(at(start)),
+        name: name(alloc, text, start)?,
+        params: vec![in alloc; first, second]?,
+        blocks: Vec::new(alloc),
+    })
+}
+
+fn first_of_heads(
+    alloc: Global,
+    declares: Vec<DeclareItem>,
+    functions: Vec<DefineItem>,
+) -> Result<Option<Refusal>, AllocError> {
+    let module = Module {
+        types: Vec::new(alloc),
+        globals: Vec::new(alloc),
+        declares,
+        functions,
+    };
+    let mut types = TypeNumbers::new(alloc, module.types.as_slice())?;
+    let starts = symbol_starts(alloc, &module)?;
+    Ok(first_refusal(heads_refusals(alloc, &mut types, &starts, &module)?))
 }
 
 #[test]
-fn numbers_types(rt: HostRuntime) -> Result<(), Fail> {
+fn refuses_heads(rt: HostRuntime) -> Result<(), Fail> {
     let alloc = rt.alloc();
-    let types = items(alloc)?;
-    let places = index_items(alloc, types.as_slice())?;
-    let mut table = TypeTable::new(alloc);
-    let numbers = item_numbers(alloc, &mut table, &places, types.as_slice())?;
-    let whole = type_number(
-        &mut table,
-        &places,
-        numbers.as_slice(),
-        &named(alloc, b"m")?,
-    )?;
-    assert_eq!(rt; numbers.get(0).copied(), Some(whole));
-    assert_eq!(rt; numbers.get(1), numbers.get(2));
-    assert_eq!(rt; numbers.get(3).copied(), Some(None));
-    assert_eq!(rt; numbers.get(4).copied(), Some(None));
-    match whole {
-        Some(number) => assert_eq!(rt; table.layout(number).size, 72),
-        None => assert!(rt; false),
-    }
+    let same = vec![in alloc; declared(alloc, b"pg_in", 10, TypeNode::I64(at(20)))?]?;
+    let found = first_of_heads(alloc, same, Vec::new(alloc))?;
+    assert_eq!(rt; found, None);
+    let other = vec![in alloc; declared(alloc, b"pg_in", 10, TypeNode::I32(at(20)))?]?;
+    let found = first_of_heads(alloc, other, Vec::new(alloc))?;
+    let expected = Refusal {
+        kind: CheckKind::BadSignature,
+        span: at(10),
+    };
+    assert_eq!(rt; found, Some(expected));
+    let twice = vec![in alloc;
+        declared(alloc, b"f", 10, TypeNode::Named(name(alloc, b"x", 40)?))?,
+        declared(alloc, b"f", 30, TypeNode::I8(at(35)))?,
+    ]?;
+    let found = first_of_heads(alloc, twice, vec![in alloc; defined(alloc, b"g", 5)?]?)?;
+    let expected = Refusal {
+        kind: CheckKind::Doubled,
+        span: at(30),
+    };
+    assert_eq!(rt; found, Some(expected));
     Ok(())
 }

@@ -1,0 +1,10 @@
+pub mod Resolved
+pub mod Layout
+pub mod Literals
+pub mod Capped
+pub mod Table
+pub mod NameIndex
+pub mod Known
+pub mod Items
+pub mod NumberedTypes
+pub mod Kinds

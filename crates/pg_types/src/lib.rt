@@ -1,0 +1,27 @@
+//! Types with their names read through: their numbers in a table, how they lie in memory, and literals of a width.
+#![tactic(auto)]
+
+mod items;
+mod kind;
+mod layout;
+mod literals;
+mod measures;
+mod names;
+mod resolving;
+mod shape;
+mod table;
+mod types;
+
+pub use items::{index_items, item_numbers};
+pub use kind::TypeKind;
+pub use layout::Layout;
+pub use literals::{element_count, literal_in};
+pub use measures::round_up;
+pub use names::{index_names, place_of_name};
+pub use resolving::type_number;
+pub use shape::Shape;
+pub use table::TypeTable;
+pub use types::TypeNumbers;
+
+#[cfg(test)]
+mod tests;
