@@ -1,0 +1,4 @@
+//! The numbered program of an accepted module is a program.
+#![tactic(auto)]
+
+pub mod laws;
