@@ -3,6 +3,8 @@ use Rattle.std.specs.Prelude.{IfOk, not, ◌&&◌, nat_lt, length, if◌then◌e
 use Rattle.std.proofs.lemmas.Bool.Decides.{nat_tests}
 use Rattle.pg_sync.specs.Sync as sync
 use Rattle.std.proofs.Common.{◌≡◌, ℕ, ℤ, zero, suc, ◌+◌, ◌-◌, ◌<◌, ◌≤◌, List, [], ◌∷◌, ◌++◌, Bool, true, false, Some, None, Result, Ok, Err, refl, sym, ap, ◌∙◌, arith, append_assoc, append-nil}
+use Rattle.pg_ir.specs.declared.ids.InstrId.{InstrId}
+use Rattle.pg_ir.specs.declared.request.TrapName.{TrapName}
 use Rattle.pg_ir.specs.Program.{NumberedProgram}
 use Rattle.pg_trace.specs.declared.step.Step.{Step}
 use Rattle.pg_machine.specs.declared.outcome.Outcome.{Outcome}
@@ -11,7 +13,7 @@ use Rattle.pg_machine.specs.declared.share.Share.{Share}
 use Rattle.pg_machine.specs.State.{State}
 use Rattle.pg_machine.specs.MachineStep.{Stepped, Did, Trapped, ready, step}
 use Rattle.std.proofs.lemmas.Option.{same_Some}
-use Rattle.pg_machine.specs.Taken.{steps_with, state_with, end_with, on_turn}
+use Rattle.pg_machine.specs.Taken.{steps_with, state_with, trapped_in, on_turn}
 use Rattle.pg_machine.specs.Rotation.{RunResult, run, onto, stop, chosen, next_share, or_deadlock, share_to, around, on_chosen, on_step, first_true, or_at}
 
 -- ---- the least that holds
@@ -96,15 +98,15 @@ pub turn_from : {E : Type 0} (p : NumberedProgram) (input : List ℤ) (q : ℕ) 
 turn_from p input q s z u v ts us (Ok x) c h = λ n. turn_steps p input q n s u v ts (on_turn x us z (run n p input q)) c (h (run n p input q))
 turn_from p input q s z u v ts us (Err e) c h = tt
 
-pub step_goes : (s : State) (v : Share) (o : Stepped) (ts : List Step) (more : State → Share → RunResult) → end_with o ≡ None → onto ts (on_step s v o more) ≡ onto (steps_with ts o) (more (state_with s o) (record { thread = v.thread; left = v.left - 1 }))
+pub step_goes : (s : State) (v : Share) (o : Stepped) (ts : List Step) (more : State → Share → RunResult) → trapped_in o ≡ None → onto ts (on_step s v o more) ≡ onto (steps_with ts o) (more (state_with s o) (record { thread = v.thread; left = v.left - 1 }))
 step_goes s v (Did x t) ts more e = onto_onto ts (x ∷ []) (more t (record { thread = v.thread; left = v.left - 1 }))
 step_goes s v (Trapped name id) ts more e = absurd cc
 
-pub step_ends : (s : State) (v : Share) (o : Stepped) (end : Outcome) (ts : List Step) (more : State → Share → RunResult) → end_with o ≡ Some end → onto ts (on_step s v o more) ≡ record { trace = steps_with ts o; state = state_with s o; end = end }
-step_ends s v (Did x t) end ts more e = absurd cc
-step_ends s v (Trapped name id) end ts more e =
-    let same : ends.Trap name (record { 0 = id }) ≡ end = same_Some _ _ e in
-    onto_stop ts s (ends.Trap name (record { 0 = id })) ∙ ap (λ (x : Outcome). record { trace = ts; state = s; end = x }) same
+pub step_ends : (s : State) (v : Share) (o : Stepped) (name : TrapName) (at : InstrId) (ts : List Step) (more : State → Share → RunResult) → trapped_in o ≡ Some (name, at) → onto ts (on_step s v o more) ≡ record { trace = steps_with ts o; state = state_with s o; end = ends.Trap name at }
+step_ends s v (Did x t) name at ts more e = absurd cc
+step_ends s v (Trapped n id) name at ts more e =
+    let same : Path (TrapName × InstrId) (n, record { 0 = id }) (name, at) = same_Some _ _ e in
+    onto_stop ts s (ends.Trap n (record { 0 = id })) ∙ ap (λ (x : TrapName × InstrId). record { trace = ts; state = s; end = ends.Trap x.0 x.1 }) same
 
 -- ---- the loop
 

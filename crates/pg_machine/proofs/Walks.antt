@@ -14,8 +14,8 @@ use Rattle.pg_machine.specs.State.{State, initial}
 use Rattle.pg_machine.specs.MachineStep.{Stepped, Did, Trapped, step}
 use Rattle.pg_machine.specs.Guided.{GuidedRun, Walk, all_left, behind, due, end_after, guided, guided_of, here, on_due, on_step, on_walk, onto, spent, walk}
 use Rattle.std.proofs.lemmas.Option.{same_Some}
-use Rattle.pg_machine.specs.Taken.{state_with, steps_with}
-use Rattle.pg_machine.specs.Walked.{EndsAs, end_of_step, untraced}
+use Rattle.pg_machine.specs.Taken.{state_with, steps_with, trapped_in}
+use Rattle.pg_machine.specs.Walked.{EndsAs, untraced}
 
 behind_behind : (a b : List Step) (w : Walk) → behind a (behind b w) ≡ behind (a ++ b) w
 behind_behind a b w = ap (λ (ts : List Step). record w { trace = ts }) (sym (append_assoc a b w.trace))
@@ -72,19 +72,19 @@ module _ (gated : List InstrId) (p : NumberedProgram) (input : List ℤ) (u : Tu
 
   -- by what a step leaves
 
-  pub walk_on : (n i : ℕ) (s : State) (o : Stepped) (w : Walk) (ts : List Step) → i < n → due gated p u s ≡ Ok false → step gated p input s u.thread.0 ≡ o → end_of_step o ≡ None → IsOn n i s w ts → IsOn n (i + 1) (state_with s o) w (steps_with ts o)
+  pub walk_on : (n i : ℕ) (s : State) (o : Stepped) (w : Walk) (ts : List Step) → i < n → due gated p u s ≡ Ok false → step gated p input s u.thread.0 ≡ o → trapped_in o ≡ None → IsOn n i s w ts → IsOn n (i + 1) (state_with s o) w (steps_with ts o)
   walk_on n i s (Did x t) w ts h d e k o = walk_more n i s t x w ts h d e o
   walk_on n i s (Trapped name id) w ts h d e k o = absurd cc
 
-  pub walk_done : (n i : ℕ) (s : State) (o : Stepped) (w : Walk) (ts : List Step) → i < n → due gated p u s ≡ Ok true → step gated p input s u.thread.0 ≡ o → end_of_step o ≡ None → IsOn n i s w ts → w ≡ record { trace = steps_with ts o; state = state_with s o; left = n - i - 1; end = None }
+  pub walk_done : (n i : ℕ) (s : State) (o : Stepped) (w : Walk) (ts : List Step) → i < n → due gated p u s ≡ Ok true → step gated p input s u.thread.0 ≡ o → trapped_in o ≡ None → IsOn n i s w ts → w ≡ record { trace = steps_with ts o; state = state_with s o; left = n - i - 1; end = None }
   walk_done n i s (Did x t) w ts h d e k o = walk_turn n i s t x w ts h d e o
   walk_done n i s (Trapped name id) w ts h d e k o = absurd cc
 
-  pub walk_end : (n i : ℕ) (s : State) (b : Bool) (o : Stepped) (end : GuidedEnd) (w : Walk) (ts : List Step) → i < n → due gated p u s ≡ Ok b → step gated p input s u.thread.0 ≡ o → end_of_step o ≡ Some end → IsOn n i s w ts → w ≡ record { trace = steps_with ts o; state = state_with s o; left = n - i; end = Some end }
-  walk_end n i s b (Did x t) end w ts h d e k o = absurd cc
-  walk_end n i s b (Trapped name id) end w ts h d e k o =
-      let same : ends.Trap name (record { 0 = id }) ≡ end = same_Some _ _ k in
-      walk_trap n i s b name id w ts h d e o ∙ ap (λ (x : GuidedEnd). record { trace = ts; state = s; left = n - i; end = Some x }) same
+  pub walk_end : (n i : ℕ) (s : State) (b : Bool) (o : Stepped) (name : TrapName) (at : InstrId) (w : Walk) (ts : List Step) → i < n → due gated p u s ≡ Ok b → step gated p input s u.thread.0 ≡ o → trapped_in o ≡ Some (name, at) → IsOn n i s w ts → w ≡ record { trace = steps_with ts o; state = state_with s o; left = n - i; end = Some (ends.Trap name at) }
+  walk_end n i s b (Did x t) name at w ts h d e k o = absurd cc
+  walk_end n i s b (Trapped m id) name at w ts h d e k o =
+      let same : Path (TrapName × InstrId) (m, record { 0 = id }) (name, at) = same_Some _ _ k in
+      walk_trap n i s b m id w ts h d e o ∙ ap (λ (x : TrapName × InstrId). record { trace = ts; state = s; left = n - i; end = Some (ends.Trap x.0 x.1) }) same
 
   at_zero : (n i : ℕ) (s : State) → n ≤ i → walk (n - i) gated p input u s ≡ here s 0 (Some (spent p u s))
   unfolding walk

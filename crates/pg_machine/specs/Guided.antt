@@ -1,9 +1,7 @@
 -- The guided run along a list of turns: the owner of the next turn alone takes steps until it has done an
 -- event.
 use Rattle.std.specs.Prelude.{ℕ, zero, suc, ◌+◌, ◌==◌, ◌&&◌, ◌||◌, ℤ, List, [], ◌∷◌, ◌++◌, replicate, Bool, true, false, Option, Some, None, Result, Ok, Err, slice_set, slice_index, if◌then◌else◌}
-use Rattle.pg_num.specs.Numbers.{signed, truncated}
 use Rattle.pg_num.specs.declared.limits.TheConstants.{THREAD_LIMIT, GUIDED_STEP_LIMIT}
-use Rattle.pg_num.specs.declared.width.Width.TheVariants.{W32}
 use Rattle.pg_ir.specs.declared.ids.InstrId.{InstrId}
 use Rattle.pg_ir.specs.declared.request.TrapName.{TrapName}
 use Rattle.pg_ir.specs.Program.{NumberedProgram}
@@ -14,7 +12,7 @@ use Rattle.pg_trace.specs.declared.step.Step.{Step}
 use Rattle.pg_trace.specs.Kinds.{kind_number}
 use Rattle.pg_machine.specs.declared.guided_end.GuidedEnd.{GuidedEnd}
 use Rattle.pg_machine.specs.declared.guided_end.GuidedEnd.TheVariants as ends
-use Rattle.pg_machine.specs.State.{State, initial, next_of, instr_of}
+use Rattle.pg_machine.specs.State.{State, initial, exit_value_of, next_of, instr_of}
 use Rattle.pg_machine.specs.MachineStep.{Stepped, Did, Trapped, trap_of, is_ended, may_act, happening_of, turn_with, step}
 
 -- ---- the tests before a step
@@ -97,7 +95,7 @@ pub record GuidedRun : Type 0 where
 
 -- main's value where the run is over
 abbrev pub end_after : State → GuidedEnd
-end_after s = if sync.over s.sync then ends.Exit (signed W32 (truncated W32 s.value)) else ends.Strayed
+end_after s = if sync.over s.sync then ends.Exit (exit_value_of s) else ends.Strayed
 
 abbrev pub onto : List Step → GuidedRun → GuidedRun
 onto xs r = record r { trace = xs ++ r.trace }

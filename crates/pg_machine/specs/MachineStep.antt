@@ -24,7 +24,7 @@ use Rattle.pg_trace.specs.declared.turn.Turn.{Turn}
 use Rattle.pg_trace.specs.declared.step.Step.{Step}
 use Rattle.pg_trace.specs.declared.step.Access.{Access}
 use Rattle.pg_trace.specs.declared.step.Happening.{Happening}
-use Rattle.pg_trace.specs.Kinds.{kind_of, object_of}
+use Rattle.pg_trace.specs.Recording.{happening_of as request_happening}
 use Rattle.pg_machine.specs.State.{State, next_of, instr_of}
 use Rattle.pg_machine.specs.Texts.{printed_by}
 
@@ -62,7 +62,7 @@ happening_if false kind object = None
 
 -- the event that an action is, if it is one: what is asked of other threads, and gated accesses
 abbrev pub happening_of : List InstrId → State → ℕ → Action → Option Happening
-happening_of gated s t (actions.Event r) = Some (record { kind = kind_of r; object = object_of t (length s.sync.threads) r })
+happening_of gated s t (actions.Event r) = Some (request_happening t (length s.sync.threads) r)
 happening_of gated s t (actions.Load r) = happening_if (is_gated gated (instr_of s t)) kinds.Load r.start
 happening_of gated s t (actions.Store r n) = happening_if (is_gated gated (instr_of s t)) kinds.Store r.start
 happening_of gated s t action = None

@@ -1,8 +1,6 @@
 -- The rotation run: threads take their turns in number order, each with up to a quantum of steps.
 use Rattle.std.specs.Prelude.{ℕ, zero, suc, ◌+◌, ◌-◌, ◌%◌, ◌&&◌, not, nat_lt, ℤ, List, [], ◌∷◌, ◌++◌, length, Bool, Option, Some, None, Result, Ok, Err, if◌then◌else◌}
-use Rattle.pg_num.specs.Numbers.{signed, truncated}
 use Rattle.pg_num.specs.declared.limits.TheConstants.{RECORDING_STEP_LIMIT}
-use Rattle.pg_num.specs.declared.width.Width.TheVariants.{W32}
 use Rattle.pg_ir.specs.declared.request.TrapName.TheVariants.{Deadlock}
 use Rattle.pg_ir.specs.Program.{NumberedProgram}
 use Rattle.pg_sync.specs.Sync as sync
@@ -10,7 +8,7 @@ use Rattle.pg_trace.specs.declared.step.Step.{Step}
 use Rattle.pg_machine.specs.declared.outcome.Outcome.{Outcome}
 use Rattle.pg_machine.specs.declared.outcome.Outcome.TheVariants as ends
 use Rattle.pg_machine.specs.declared.share.Share.{Share}
-use Rattle.pg_machine.specs.State.{State, initial, next_of, instr_of}
+use Rattle.pg_machine.specs.State.{State, initial, exit_value_of, next_of, instr_of}
 use Rattle.pg_machine.specs.MachineStep.{Stepped, Did, Trapped, is_ended, ready, step}
 
 -- ---- whose step is next
@@ -40,9 +38,8 @@ next_share p q s u =
 
 -- ---- how a run ends
 
--- main's value is an integer of 32 bits
 abbrev pub exit_of : State → Outcome
-exit_of s = ends.Exit (signed W32 (truncated W32 s.value))
+exit_of s = ends.Exit (exit_value_of s)
 
 abbrev pub lowest : Option ℕ → ℕ
 lowest None = 0

@@ -1,5 +1,7 @@
 -- The state of a run.
-use Rattle.std.specs.Prelude.{ℕ, List, [], ◌∷◌, Option, Some, None, slice_get}
+use Rattle.std.specs.Prelude.{ℕ, ℤ, List, [], ◌∷◌, Option, Some, None, slice_get}
+use Rattle.pg_num.specs.Numbers.{signed, truncated}
+use Rattle.pg_num.specs.declared.width.Width.TheVariants.{W32}
 use Rattle.pg_ir.specs.Program.{NumberedProgram}
 use Rattle.pg_mem.specs.Memory.{Words}
 use Rattle.pg_mem.specs.Initial as memory
@@ -29,6 +31,10 @@ initial p = record {
   printed = [];
   value = 0;
 }
+
+-- main's value as an integer of 32 bits
+abbrev pub exit_value_of : State → ℤ
+exit_value_of s = signed W32 (truncated W32 s.value)
 
 -- ---- a thread of the run by its number
 

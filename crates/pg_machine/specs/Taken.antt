@@ -1,8 +1,9 @@
--- A step of a rotation run, as the trace, the state and the end that it leaves.
+-- A step that is recorded, as the trace, the state and the trap that it leaves.
 use Rattle.std.specs.Prelude.{List, [], ◌∷◌, ◌++◌, Option, Some, None, Result, Ok, Err}
+use Rattle.pg_ir.specs.declared.ids.InstrId.{InstrId}
+use Rattle.pg_ir.specs.declared.request.TrapName.{TrapName}
 use Rattle.pg_trace.specs.declared.step.Step.{Step}
 use Rattle.pg_machine.specs.declared.outcome.Outcome.{Outcome}
-use Rattle.pg_machine.specs.declared.outcome.Outcome.TheVariants as ends
 use Rattle.pg_machine.specs.declared.share.Share.{Share}
 use Rattle.pg_machine.specs.State.{State}
 use Rattle.pg_machine.specs.Rotation.{RunResult, onto}
@@ -17,9 +18,10 @@ abbrev pub state_with : State → Stepped → State
 state_with s (Did x t) = t
 state_with s (Trapped name id) = s
 
-abbrev pub end_with : Stepped → Option Outcome
-end_with (Did x s) = None
-end_with (Trapped name id) = Some (ends.Trap name (record { 0 = id }))
+-- the trap in place of the step, and its instruction
+abbrev pub trapped_in : Stepped → Option (TrapName × InstrId)
+trapped_in (Did x s) = None
+trapped_in (Trapped name id) = Some (name, record { 0 = id })
 
 -- the run after a step that left this share, or where its end comes in place of the step
 abbrev pub on_turn : Result Share Outcome → List Step → State → (State → Share → RunResult) → RunResult

@@ -1,9 +1,7 @@
 -- Walks and guided runs without their traces.
 use Rattle.std.specs.Prelude.{◌≡◌, ℕ, [], Option, Some, None}
 use Rattle.pg_machine.specs.declared.guided_end.GuidedEnd.{GuidedEnd}
-use Rattle.pg_machine.specs.declared.guided_end.GuidedEnd.TheVariants as ends
 use Rattle.pg_machine.specs.State.{State}
-use Rattle.pg_machine.specs.MachineStep.{Stepped, Did, Trapped}
 use Rattle.pg_machine.specs.Guided.{GuidedRun, Walk}
 
 abbrev pub untraced : Walk → Walk
@@ -14,8 +12,3 @@ pub record EndsAs (r : GuidedRun) (s : State) (k : ℕ) (e : GuidedEnd) : Type 0
   pub state_is : r.state ≡ s
   pub turns_is : r.turns ≡ k
   pub end_is : r.end ≡ e
-
--- the end of a run at a step that traps
-abbrev pub end_of_step : Stepped → Option GuidedEnd
-end_of_step (Did x s) = None
-end_of_step (Trapped name id) = Some (ends.Trap name (record { 0 = id }))

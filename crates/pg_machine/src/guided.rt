@@ -54,10 +54,10 @@ fn walk(
                 });
             }
         };
-        if let Some(end) = step_on(alloc, p, input, state, turn.thread, &action)? {
+        if let Some((name, id)) = step_on(alloc, p, input, state, turn.thread, &action)? {
             return Ok(Walked {
                 left: left - spent,
-                end: Some(end),
+                end: Some(GuidedEnd::Trap(name, id)),
             });
         }
         if is_due {

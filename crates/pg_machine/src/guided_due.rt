@@ -1,14 +1,13 @@
 ghost use Rattle.std.specs.Prelude.{◌≡◌, true, IfOk};
 ghost use Rattle.pg_machine.specs.Machine.{IsMachine};
 ghost use Rattle.pg_machine.specs.State.{next_of};
-ghost use Rattle.pg_machine.specs.MachineStep.{happening_of, is_ended, ready, trap_of, turn_with};
+ghost use Rattle.pg_machine.specs.MachineStep.{ready, trap_of};
 ghost use Rattle.pg_machine.specs.Guided.{cannot_go, due, due_by, end_after, is_turn, spent};
 
 use crate::gated::Gated;
 use crate::guided_end::GuidedEnd;
-use crate::state::MachineState;
+use crate::state::{MachineState, is_ended};
 use pg_ir::{Program, ThreadNo, TrapName};
-use pg_num::{Width, to_signed, trunc};
 use pg_step::Action;
 use pg_trace::Turn;
 
@@ -17,16 +16,6 @@ fn is_turn(a: &Turn, b: &Turn) -> bool
     ensures { result ≡ is_turn a.now b.now }
 {
     a.thread.0 == b.thread.0 && a.instr.0 == b.instr.0 && a.kind == b.kind && a.object == b.object
-}
-
-/// Whether a thread has no action left.
-fn is_ended(action: &Action) -> bool
-    ensures { result ≡ is_ended action.now }
-{
-    match action {
-        Action::Ended => true,
-        _ => false,
-    }
 }
 
 impl MachineState {
@@ -38,21 +27,6 @@ impl MachineState {
             Action::Trap(name) => Some(*name),
             Action::Event(r) => self.check(t, r),
             _ => None,
-        }
-    }
-
-    /// The turn that a thread's action is, if it is an event.
-    fn turn(&self, gated: &Gated, t: ThreadNo, action: &Action) -> Option<Turn>
-        ensures { result ≡ turn_with self.now t.0 (happening_of gated.now self.now t.0 action.now) }
-    {
-        match self.happening(gated, t, action) {
-            None => None,
-            Some(event) => Some(Turn {
-                thread: t,
-                instr: self.id(t),
-                kind: event.kind,
-                object: event.object,
-            }),
         }
     }
 
@@ -119,7 +93,7 @@ impl MachineState {
         ensures { result ≡ end_after self.now }
     {
         if self.is_over() {
-            GuidedEnd::Exit(to_signed(Width::W32, trunc(Width::W32, self.main_value())) as i32)
+            GuidedEnd::Exit(self.exit_value())
         } else {
             GuidedEnd::Strayed
         }

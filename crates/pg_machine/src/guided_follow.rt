@@ -1,22 +1,19 @@
 ghost use Rattle.std.specs.Prelude.{◌≡◌, ◌<◌, ◌≤◌, ◌+◌, length, true, IfNone, IfOk, IfSome, OnOk};
 ghost use Rattle.pg_num.specs.declared.limits.TheConstants.{RECORDING_STEP_LIMIT};
 ghost use Rattle.pg_machine.specs.Machine.{IsMachine};
-ghost use Rattle.pg_machine.specs.State.{next_of};
-ghost use Rattle.pg_machine.specs.MachineStep.{ready, step};
-ghost use Rattle.pg_machine.specs.Taken.{state_with, steps_with};
 ghost use Rattle.pg_machine.specs.Guided.{behind, guided_of, walk};
-ghost use Rattle.pg_machine.specs.Walked.{EndsAs, end_of_step};
+ghost use Rattle.pg_machine.specs.Walked.{EndsAs};
 ghost use Rattle.pg_machine.specs.Follow.{followed_as, following_of, reached};
 
 use crate::gated::Gated;
 use crate::guided_end::GuidedEnd;
 use crate::guided_left::{all_left, left_of, set_left};
 use crate::guided_walked::Walked;
+use crate::recording::record_step;
 use crate::state::MachineState;
-use pg_ir::{Program, ThreadNo};
+use pg_ir::Program;
 use pg_num::limits::RECORDING_STEP_LIMIT;
-use pg_step::Action;
-use pg_trace::{Schedule, Step, Trace, Turn};
+use pg_trace::{Schedule, Trace, Turn};
 use std::alloc::{AllocError, Global};
 
 /// What following a schedule gives.
@@ -42,42 +39,6 @@ struct Traced {
     state: MachineState,
     turns: u32,
     end: GuidedEnd,
-}
-
-/// Takes the next step of a thread that is ready, which is this action, and records it, or gives the end where it traps.
-fn record_on(
-    alloc: Global,
-    p: &Program,
-    input: &[i64],
-    gated: &Gated,
-    state: &mut MachineState,
-    trace: &mut Trace,
-    t: ThreadNo,
-    action: &Action,
-) -> Result<Option<GuidedEnd>, AllocError>
-    requires of { IsMachine p.now state.old }
-    requires next { action.now ≡ next_of p.now state.old t.0 }
-    requires ready { ready p.now state.old t.0 ≡ true }
-    requires room { length trace.old.steps < trace.old.room }
-    ensures end { IfOk result (λ e. e ≡ end_of_step (step gated.now p.now input.now state.old t.0)) }
-    ensures trace { OnOk result (trace.new ≡ record trace.old { steps = steps_with trace.old.steps (step gated.now p.now input.now state.old t.0) }) }
-    ensures state { OnOk result (state.new ≡ state_with state.old (step gated.now p.now input.now state.old t.0)) }
-    ensures of { OnOk result (IsMachine p.now state.new) }
-    ensures few { OnOk result (length trace.new.steps ≤ length trace.old.steps + 1) }
-    ensures more { IfOk result (λ e. IfNone e (length trace.old.steps < length trace.new.steps)) }
-{
-    let id = state.id(t);
-    let told = state.tell(p, gated, t, action);
-    match state.take(alloc, p, input, t, action)? {
-        Err(name) => Ok(Some(GuidedEnd::Trap(name, id))),
-        Ok(number) => {
-            trace.push(Step {
-                result: number,
-                ..told
-            });
-            Ok(None)
-        }
-    }
 }
 
 /// The owner of a turn, with so many steps left, steps until it has done an event, and its steps are
@@ -115,10 +76,19 @@ fn walk_recorded(
         if trace.room_left() == 0 {
             return Ok(None);
         }
-        if let Some(end) = record_on(alloc, p, input, gated, state, trace, turn.thread, &action)? {
+        if let Some((name, id)) = record_step(
+            alloc,
+            p,
+            input,
+            gated,
+            state,
+            trace,
+            turn.thread,
+            &action,
+        )? {
             return Ok(Some(Walked {
                 left: left - spent,
-                end: Some(end),
+                end: Some(GuidedEnd::Trap(name, id)),
             }));
         }
         if is_due {

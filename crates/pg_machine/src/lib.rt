@@ -14,6 +14,7 @@ mod guided_walked;
 pub mod laws;
 mod machine;
 mod outcome;
+mod recording;
 mod rotation;
 mod share;
 mod state;

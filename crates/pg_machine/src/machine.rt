@@ -1,9 +1,7 @@
 ghost use Rattle.std.specs.Prelude.{◌≡◌, ◌≤◌, length, true, IfOk, OnOk};
 ghost use Rattle.std.specs.List.{All};
-ghost use Rattle.pg_num.specs.Numbers.{signed, truncated};
-ghost use Rattle.pg_num.specs.declared.width.Width.TheVariants.{W32};
 ghost use Rattle.pg_step.specs.States.{IsOf};
-ghost use Rattle.pg_machine.specs.State.{initial, next_of};
+ghost use Rattle.pg_machine.specs.State.{exit_value_of, initial, next_of};
 ghost use Rattle.pg_machine.specs.MachineStep.{ready, step};
 ghost use Rattle.pg_machine.specs.Machine.{IsMachine};
 ghost use Rattle.pg_machine.specs.Bound.{next_by, next_step, stepped_as, IfTrapped};
@@ -11,7 +9,6 @@ ghost use Rattle.pg_machine.specs.Bound.{next_by, next_step, stepped_as, IfTrapp
 use crate::gated::{Gated, listed};
 use crate::state::MachineState;
 use pg_ir::{InstrId, Program, ThreadNo, TrapName};
-use pg_num::{Width, to_signed, trunc};
 use pg_step::Action;
 use pg_trace::{Step, Turn};
 use std::alloc::{AllocError, Global};
@@ -63,14 +60,9 @@ impl MachineState {
         match action {
             Action::Ended => Next::Ended,
             Action::Trap(name) => Next::Trap(*name, self.id(t)),
-            _ => match self.happening(gated, t, action) {
+            _ => match self.turn(gated, t, action) {
                 None => Next::Other(self.id(t)),
-                Some(event) => Next::Event(Turn {
-                    thread: t,
-                    instr: self.id(t),
-                    kind: event.kind,
-                    object: event.object,
-                }),
+                Some(turn) => Next::Event(turn),
             },
         }
     }
@@ -148,8 +140,8 @@ impl Machine {
 
     /// Main's value, 0 before it has one.
     pub fn value(&self) -> i32
-        ensures value { result ≡ signed W32 (truncated W32 self.now.state.value) }
+        ensures value { result ≡ exit_value_of self.now.state }
     {
-        to_signed(Width::W32, trunc(Width::W32, self.state.main_value())) as i32
+        self.state.exit_value()
     }
 }

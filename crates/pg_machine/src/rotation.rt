@@ -1,21 +1,21 @@
 ghost use Rattle.std.specs.Prelude.{◌≡◌, ◌<◌, ◌≤◌, ◌+◌, [], ℕ, suc, length, not, true, IfOk, IfSome, OnOk};
 ghost use Rattle.pg_num.specs.declared.limits.TheConstants.{RECORDING_STEP_LIMIT, THREAD_LIMIT, QUANTUM_LIMIT};
 ghost use Rattle.pg_machine.specs.State.{State, initial, next_of};
-ghost use Rattle.pg_machine.specs.MachineStep.{is_ended, ready, step};
+ghost use Rattle.pg_machine.specs.MachineStep.{ready, step};
 ghost use Rattle.pg_machine.specs.Machine.{IsMachine};
 ghost use Rattle.pg_machine.specs.Runs.{IsRun};
-ghost use Rattle.pg_machine.specs.Taken.{end_with, on_turn, state_with, steps_with};
+ghost use Rattle.pg_machine.specs.Taken.{on_turn};
 ghost use Rattle.pg_machine.specs.Rotation.{around, chosen, deadlock_of, exit_of, first_share, first_true, hasnt_ended, lowest, next_share, on_step, onto, rotation_of, run, stop, RunResult};
 
 use crate::gated::Gated;
 use crate::outcome::Outcome;
+use crate::recording::record_step;
 use crate::share::Share;
-use crate::state::MachineState;
-use pg_ir::{InstrId, Program, ThreadNo, TrapName};
+use crate::state::{MachineState, is_ended};
+use pg_ir::{Program, ThreadNo, TrapName};
 use pg_num::limits::RECORDING_STEP_LIMIT;
-use pg_num::{Width, to_signed, trunc};
 use pg_step::Action;
-use pg_trace::{Step, Trace};
+use pg_trace::Trace;
 use std::alloc::{AllocError, Global};
 
 /// The steps of a rotation run, what it printed, and how it ended.
@@ -32,16 +32,6 @@ struct Rotated {
     trace: Trace,
     state: MachineState,
     end: Outcome,
-}
-
-/// Whether a thread has no action left.
-fn is_ended(action: &Action) -> bool
-    ensures { result ≡ is_ended action.now }
-{
-    match action {
-        Action::Ended => true,
-        _ => false,
-    }
 }
 
 /// How far behind a thread the next one is that is ready, going round.
@@ -120,7 +110,7 @@ fn deadlock(state: &MachineState, p: &Program) -> Outcome
 fn exit(state: &MachineState) -> Outcome
     ensures { result ≡ exit_of state.now }
 {
-    Outcome::Exit(to_signed(Width::W32, trunc(Width::W32, state.main_value())) as i32)
+    Outcome::Exit(state.exit_value())
 }
 
 /// Whose step is next, or the end that comes before it.
@@ -154,46 +144,13 @@ fn at_limit(state: &MachineState, p: &Program, input: &[i64], q: u32, u: Share) 
     }
 }
 
-/// Takes a step and records it, or gives the end where it traps.
-fn record_step(
-    alloc: Global,
-    p: &Program,
-    input: &[i64],
-    state: &mut MachineState,
-    trace: &mut Trace,
-    t: ThreadNo,
-    action: &Action,
-) -> Result<Option<Outcome>, AllocError>
-    requires of { IsMachine p.now state.old }
-    requires next { action.now ≡ next_of p.now state.old t.0 }
-    requires ready { ready p.now state.old t.0 ≡ true }
-    requires room { length trace.old.steps < trace.old.room }
-    ensures end { IfOk result (λ o. o ≡ end_with (step [] p.now input.now state.old t.0)) }
-    ensures trace { OnOk result (trace.new ≡ record trace.old { steps = steps_with trace.old.steps (step [] p.now input.now state.old t.0) }) }
-    ensures state { OnOk result (state.new ≡ state_with state.old (step [] p.now input.now state.old t.0)) }
-    ensures of { OnOk result (IsMachine p.now state.new) }
-    ensures more { OnOk result (length trace.new.steps ≤ length trace.old.steps + 1) }
-{
-    let id = state.id(t);
-    let told = state.tell(p, &Gated::none(alloc), t, action);
-    match state.take(alloc, p, input, t, action)? {
-        Err(name) => Ok(Some(Outcome::Trap(name, id))),
-        Ok(number) => {
-            trace.push(Step {
-                result: number,
-                ..told
-            });
-            Ok(None)
-        }
-    }
-}
-
 /// Takes a step of a thread that is ready, which is this action, and gives what is left of its share,
 /// or the end where it traps.
 fn step_of(
     alloc: Global,
     p: &Program,
     input: &[i64],
+    gated: &Gated,
     state: &mut MachineState,
     trace: &mut Trace,
     u: Share,
@@ -203,14 +160,15 @@ fn step_of(
     requires next { action.now ≡ next_of p.now state.old u.thread.0 }
     requires ready { ready p.now state.old u.thread.0 ≡ true }
     requires left { 0 < u.left }
+    requires gated { gated.now ≡ [] }
     requires room { length trace.old.steps < trace.old.room }
     ensures turn { IfOk result (λ r. (more : State → Share → RunResult) → onto trace.old.steps (on_step state.old u (step [] p.now input.now state.old u.thread.0) more) ≡ on_turn r trace.new.steps state.new more) }
     ensures of { OnOk result (IsMachine p.now state.new) }
     ensures room { OnOk result (trace.new.room ≡ trace.old.room) }
     ensures more { OnOk result (length trace.new.steps ≤ length trace.old.steps + 1) }
 {
-    match record_step(alloc, p, input, state, trace, u.thread, action)? {
-        Some(end) => Ok(Err(end)),
+    match record_step(alloc, p, input, gated, state, trace, u.thread, action)? {
+        Some((name, id)) => Ok(Err(Outcome::Trap(name, id))),
         None => Ok(Ok(Share {
             thread: u.thread,
             left: u.left - 1,
@@ -225,12 +183,14 @@ fn turn(
     p: &Program,
     input: &[i64],
     q: u32,
+    gated: &Gated,
     state: &mut MachineState,
     trace: &mut Trace,
     u: Share,
 ) -> Result<Result<Share, Outcome>, AllocError>
     requires of { IsMachine p.now state.old }
     requires some { 0 < q }
+    requires gated { gated.now ≡ [] }
     requires room { length trace.old.steps < trace.old.room }
     ensures turn { IfOk result (λ r. (n : ℕ) → onto trace.old.steps (run (suc n) p.now input.now q state.old u) ≡ on_turn r trace.new.steps state.new (run n p.now input.now q)) }
     ensures of { OnOk result (IsMachine p.now state.new) }
@@ -239,13 +199,13 @@ fn turn(
 {
     let action = state.next(p, u.thread);
     if state.can_take(p, u.thread, &action) && 0 < u.left {
-        return step_of(alloc, p, input, state, trace, u, &action);
+        return step_of(alloc, p, input, gated, state, trace, u, &action);
     }
     match choose(state, p, q, u) {
         Err(end) => Ok(Err(end)),
         Ok(v) => {
             let action = state.next(p, v.thread);
-            step_of(alloc, p, input, state, trace, v, &action)
+            step_of(alloc, p, input, gated, state, trace, v, &action)
         }
     }
 }
@@ -263,12 +223,13 @@ fn rotate_within(
 {
     let mut state = MachineState::new(alloc, p)?;
     let mut trace = Trace::with_room(alloc, limit as usize)?;
+    let gated = Gated::none(alloc);
     let mut share = Share {
         thread: ThreadNo(0),
         left: q,
     };
     for _ in 0..limit {
-        match turn(alloc, p, input, q, &mut state, &mut trace, share)? {
+        match turn(alloc, p, input, q, &gated, &mut state, &mut trace, share)? {
             Ok(left) => share = left,
             Err(end) => {
                 return Ok(Rotated { trace, state, end });

@@ -8,13 +8,13 @@ ghost use Rattle.pg_sync.specs.Sync.{applied, check, named, over, stage_of};
 ghost use Rattle.pg_sync.specs.Sync.{ready as sync_ready};
 ghost use Rattle.pg_step.specs.LocalState.{fresh};
 ghost use Rattle.pg_step.specs.States.{IsOf};
-ghost use Rattle.pg_machine.specs.State.{initial, next_of, instr_of};
-ghost use Rattle.pg_machine.specs.MachineStep.{may_act, ready, operands_in, value_with, local_after, number_in};
+ghost use Rattle.pg_machine.specs.State.{exit_value_of, initial, next_of, instr_of};
+ghost use Rattle.pg_machine.specs.MachineStep.{is_ended, may_act, ready, operands_in, value_with, local_after, number_in};
 ghost use Rattle.pg_machine.specs.Machine.{HasRoom, IsMachine, MayGoOn};
 
 use pg_ir::{InstrId, Program, Request, ThreadNo, TrapName};
 use pg_mem::Memory;
-use pg_num::Place;
+use pg_num::{Place, Width, to_signed, trunc};
 use pg_step::{Action, Fiber};
 use pg_sync::{Reply, SyncState, SyncTrap};
 use std::alloc::{AllocError, Global};
@@ -52,6 +52,16 @@ fn one<T: Drop>(alloc: Global, item: T) -> Result<Vec<T>, AllocError>
     let mut items = Vec::new(alloc);
     items.push(item)?;
     Ok(items)
+}
+
+/// Whether a thread has no action left.
+pub(crate) fn is_ended(action: &Action) -> bool
+    ensures { result ≡ is_ended action.now }
+{
+    match action {
+        Action::Ended => true,
+        _ => false,
+    }
 }
 
 impl MachineState {
@@ -262,9 +272,10 @@ impl MachineState {
         self.printed
     }
 
-    pub(crate) fn main_value(&self) -> u64
-        ensures { result ≡ self.now.value }
+    /// Main's value as an integer of 32 bits.
+    pub(crate) fn exit_value(&self) -> i32
+        ensures { result ≡ exit_value_of self.now }
     {
-        self.value
+        to_signed(Width::W32, trunc(Width::W32, self.value)) as i32
     }
 }

@@ -2,14 +2,14 @@ ghost use Rattle.std.specs.Prelude.{◌≡◌, ℕ};
 ghost use Rattle.std.specs.List.{All};
 ghost use Rattle.pg_step.specs.States.{IsOf};
 ghost use Rattle.pg_machine.specs.State.{next_of};
-ghost use Rattle.pg_machine.specs.MachineStep.{access_by, access_of, happening_if, happening_of, request_access, step_told};
+ghost use Rattle.pg_machine.specs.MachineStep.{access_by, access_of, happening_if, happening_of, request_access, step_told, turn_with};
 
 use crate::gated::Gated;
 use crate::state::MachineState;
 use pg_ir::{Program, Request, ThreadNo};
 use pg_num::{Place, Pointer, unpack};
 use pg_step::Action;
-use pg_trace::{Access, Happening, Step, TurnKind, kind_of, object_of};
+use pg_trace::{Access, Happening, Step, Turn, TurnKind, happening_of};
 
 /// The access to a place by the pointer that is this word.
 fn access_by(word: u64, at: Place, writes: bool, event: bool) -> Access
@@ -65,10 +65,7 @@ impl MachineState {
         ensures { result ≡ happening_of gated.now self.now t.0 action.now }
     {
         match action {
-            Action::Event(r) => Some(Happening {
-                kind: kind_of(r),
-                object: object_of(t, self.thread_count(), r),
-            }),
+            Action::Event(r) => Some(happening_of(t, self.thread_count(), r)),
             Action::Load(at) => happening_if(
                 gated.has(self.id(t)),
                 TurnKind::Load,
@@ -80,6 +77,21 @@ impl MachineState {
                 at.start() as u64,
             ),
             _ => None,
+        }
+    }
+
+    /// The turn that a thread's action is, if it is an event.
+    pub(crate) fn turn(&self, gated: &Gated, t: ThreadNo, action: &Action) -> Option<Turn>
+        ensures { result ≡ turn_with self.now t.0 (happening_of gated.now self.now t.0 action.now) }
+    {
+        match self.happening(gated, t, action) {
+            None => None,
+            Some(event) => Some(Turn {
+                thread: t,
+                instr: self.id(t),
+                kind: event.kind,
+                object: event.object,
+            }),
         }
     }
 

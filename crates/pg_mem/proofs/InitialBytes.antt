@@ -11,7 +11,7 @@ use Rattle.pg_mem.specs.Initial.{initial_byte, with_bytes_at}
 use Rattle.pg_mem.specs.Memory.{byte_at}
 use Rattle.pg_mem.proofs.Places.{inside, outside}
 
-zero_word : (n g : ℕ) → slice_index (replicate n 0) g ≡ 0
+pub zero_word : (n g : ℕ) → slice_index (replicate n 0) g ≡ 0
 zero_word n g = go (cases_lt g n)
   where
     go : (g < n) ⊎ (n ≤ g) → slice_index (replicate n 0) g ≡ 0

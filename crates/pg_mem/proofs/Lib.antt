@@ -1,5 +1,6 @@
 pub mod Deltas
 pub mod InitialBytes
+pub mod Padding
 pub mod ReadsAndWrites
 pub mod Parts
 pub mod Places

@@ -1,4 +1,5 @@
 pub mod Bytes
 pub mod Initial
 pub mod Memory
+pub mod Parts
 pub mod Words

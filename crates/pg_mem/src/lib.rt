@@ -4,6 +4,7 @@
 mod delta;
 mod field;
 mod globals;
+mod granules;
 pub mod laws;
 mod memory;
 mod words;

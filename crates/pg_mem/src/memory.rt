@@ -1,47 +1,48 @@
-ghost use Rattle.std.specs.Prelude.{◌≡◌, ℕ, ◌<◌, ◌≤◌, ◌+◌, ◌*◌, ◌/◌, ◌%◌, ◌^◌, IfOk, replicate, slice_index};
-ghost use Rattle.pg_num.specs.declared.layout.TheConstants.{GRANULE_COUNT, MEMORY_BYTES};
+ghost use Rattle.std.specs.Prelude.{◌≡◌, ℕ, ◌<◌, ◌≤◌, ◌+◌, ◌-◌, ◌*◌, ◌/◌, ◌%◌, ◌^◌, IfOk, slice_index, slice_set};
+ghost use Rattle.pg_num.specs.declared.layout.TheConstants.{GLOBALS_END, GRANULE_COUNT, MEMORY_BYTES};
 ghost use Rattle.pg_mem.specs.Bytes.{with_bytes};
 ghost use Rattle.pg_mem.specs.Initial.{initial};
 ghost use Rattle.pg_mem.specs.Memory.{IsMemory, byte_at, read, written};
 
 use crate::globals::lay_globals;
+use crate::granules::Granules;
 use crate::words::{part, replaced};
 use pg_ir::Program;
 use pg_num::Place;
-use pg_num::layout::GRANULE_COUNT;
+use pg_num::layout::{GLOBALS_END, GRANULE_COUNT};
 use std::alloc::{AllocError, Global};
 use std::marker::Model;
 
 /// The memory of a run: 32 MiB, a byte at each place.
 #[derive(Drop)]
 pub struct Memory {
-    words: Vec<u64>,
+    globals: Granules,
+    regions: Granules,
 }
 
 impl Model for Memory {
-    ghost use Rattle.pg_mem.specs.Memory.{Words, IsMemory};
+    ghost use Rattle.std.specs.Prelude.{◌++◌};
+    ghost use Rattle.pg_mem.specs.Memory.{Words};
+    ghost use Rattle.pg_mem.specs.Parts.{AreParts};
 
     ghost Value = { Words };
 
-    ghost view = { λ m. m.words.items };
+    ghost view = { λ m. m.globals ++ m.regions };
 
-    ghost invariant = { λ m. IsMemory m.words.items };
+    ghost invariant = { λ m. AreParts m.globals m.regions };
 }
 
-/// Granules of zeros, as many as memory has.
-#[tactic(auto, using(crate::proofs::InitialBytes::zero_bytes))]
-fn zero_granules(alloc: Global, count: usize) -> Result<Vec<u64>, AllocError>
-    requires { count ≡ GRANULE_COUNT }
-    ensures memory { IfOk result (λ v. IsMemory v.items) }
-    ensures zero { IfOk result (λ v. (b : ℕ) → byte_at v.items b ≡ 0) }
+/// Memory in parts of these lengths, in which each byte is zero.
+#[tactic(auto, using(crate::proofs::Padding::zero_parts, crate::proofs::Padding::zero_both))]
+fn zero_parts(alloc: Global, globals: usize, regions: usize) -> Result<Memory, AllocError>
+    requires globals { globals ≡ GLOBALS_END }
+    requires regions { regions ≡ GRANULE_COUNT - GLOBALS_END }
+    ensures { IfOk result (λ m. (b : ℕ) → byte_at m b ≡ 0) }
 {
-    zeros(alloc, count)
-}
-
-fn zeros(alloc: Global, count: usize) -> Result<Vec<u64>, AllocError>
-    ensures { IfOk result (λ v. v.items ≡ replicate count 0) }
-{
-    vec![in alloc; 0; count]
+    Ok(Memory {
+        globals: Granules::zeros(alloc, globals)?,
+        regions: Granules::zeros(alloc, regions)?,
+    })
 }
 
 impl Memory {
@@ -64,9 +65,11 @@ impl Memory {
     pub(crate) fn blank(alloc: Global) -> Result<Memory, AllocError>
         ensures { IfOk result (λ m. (b : ℕ) → byte_at m b ≡ 0) }
     {
-        Ok(Memory {
-            words: zero_granules(alloc, GRANULE_COUNT as usize)?,
-        })
+        zero_parts(
+            alloc,
+            GLOBALS_END as usize,
+            (GRANULE_COUNT - GLOBALS_END) as usize,
+        )
     }
 
     /// The number at a place, low byte first.
@@ -90,15 +93,32 @@ impl Memory {
     pub fn facts(&self)
         ensures { IsMemory self.now }
     {
-        let _words = &self.words;
+        let _globals = &self.globals;
     }
 
     /// The number of the eight bytes of a granule.
+    #[tactic(auto, using(crate::proofs::Padding::low_word, crate::proofs::Padding::high_word))]
     fn word(&self, granule: u32) -> u64
-        requires { granule < GRANULE_COUNT }
         ensures { result ≡ slice_index self.now granule }
     {
-        self.words[granule as usize]
+        if granule < GLOBALS_END {
+            self.globals.get(granule)
+        } else {
+            self.regions.get(granule - GLOBALS_END)
+        }
+    }
+
+    /// Puts a number into the eight bytes of a granule.
+    #[tactic(auto, using(crate::proofs::Padding::low_set, crate::proofs::Padding::high_set))]
+    fn put_word(&mut self, granule: u32, word: u64)
+        requires { granule < GRANULE_COUNT }
+        ensures { self.new ≡ slice_set self.old granule word }
+    {
+        if granule < GLOBALS_END {
+            self.globals.set(granule, word);
+        } else {
+            self.regions.set(granule - GLOBALS_END, word);
+        }
     }
 
     /// Puts one byte at a place.
@@ -119,7 +139,8 @@ impl Memory {
         ensures bytes { (b : ℕ) → byte_at self.new b ≡ with_bytes (byte_at self.old) (record { start = start; bytes = bytes }) number b }
     {
         let granule = start / 8;
+        self.facts();
         let word = self.word(granule);
-        self.words[granule as usize] = replaced(word, (start % 8) as u8, bytes, number);
+        self.put_word(granule, replaced(word, (start % 8) as u8, bytes, number));
     }
 }

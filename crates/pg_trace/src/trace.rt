@@ -1,4 +1,4 @@
-ghost use Rattle.std.specs.Prelude.{◌≡◌, ◌<◌, ◌-◌, ◌++◌, ◌∷◌, [], length, None, IfOk, vec_len, vec_capacity, ◌≤◌};
+ghost use Rattle.std.specs.Prelude.{◌≡◌, ◌<◌, ◌-◌, ◌++◌, ◌∷◌, [], length, IfOk};
 ghost use Rattle.pg_trace.specs.Recording.{empty_with};
 
 use crate::step::Step;
@@ -21,19 +21,6 @@ impl Model for Trace {
     ghost view = { λ t. record { steps = t.list.items; room = t.room } };
 
     ghost invariant = { λ t. (length t.list.items ≤ t.room) × (t.room ≤ vec_capacity t.list) };
-}
-
-/// Adds a step where there is room, so that none is given back.
-fn push_step(steps: &mut Vec<Step>, step: Step) -> Option<Step>
-    requires { vec_len steps.old < vec_capacity steps.old }
-    ensures items { steps.new.items ≡ steps.old.items ++ step ∷ [] }
-    ensures room { vec_capacity steps.old ≤ vec_capacity steps.new }
-    ensures pushed { result ≡ None }
-{
-    match steps.push(step) {
-        Ok(()) => None,
-        Err(failed) => Some(failed.value),
-    }
 }
 
 impl Trace {
@@ -63,9 +50,8 @@ impl Trace {
         requires { length self.old.steps < self.old.room }
         ensures { self.new ≡ record self.old { steps = self.old.steps ++ step ∷ [] } }
     {
-        if let Some(_) = push_step(&mut self.list, step) {
-            unreachable!();
-        }
+        let (_access, _event) = (step.access, step.event);
+        self.list.push_reserved(step);
     }
 
     /// The steps from the first on.

@@ -15,9 +15,9 @@ loop-spent-init c = record {
 
 pub loop-spent-preserved : goal.loop-spent-preserved
 loop-spent-preserved c = record {
-  of = c.in_ok-end.ensures.of;
+  of = c.in_ok-name.ensures.of;
   on = let o : Stepped = step c.args.gated.now c.args.p.now c.args.input.now c.loop-spent.state c.args.turn.now.thread.0 in
-      (steps_with c.loop-spent.invariant.on.0 o, rw (c.in_ok-end.ensures.state c.args.gated.now) (walk_on c.args.gated.now c.args.p.now c.args.input.now c.args.turn.now c.args.left c.loop-spent.spent c.loop-spent.state o _ c.loop-spent.invariant.on.0 (omega arith) (sym c.due.ensures.due ∙ c.in-Ok.is ∙ ap Ok c.if-is_due.false) refl (sym (c.in_ok-end.ensures.end c.args.gated.now) ∙ c.in_default.is) c.loop-spent.invariant.on.1));
+      (steps_with c.loop-spent.invariant.on.0 o, rw (c.in_ok-name.ensures.state c.args.gated.now) (walk_on c.args.gated.now c.args.p.now c.args.input.now c.args.turn.now c.args.left c.loop-spent.spent c.loop-spent.state o _ c.loop-spent.invariant.on.0 (omega arith) (sym c.due.ensures.due ∙ c.in-Ok.is ∙ ap Ok c.if-is_due.false) refl (sym (c.in_ok-name.ensures.trap c.args.gated.now) ∙ c.in_default.is) c.loop-spent.invariant.on.1));
 }
 
 pub returns-in-Err-clause-walk : goal.returns-in-Err-clause-walk
@@ -26,12 +26,12 @@ returns-in-Err-clause-walk c = ap untraced (walk_stop c.args.gated.now c.args.p.
 pub returns-in-Some-clause-walk : goal.returns-in-Some-clause-walk
 returns-in-Some-clause-walk c =
     let o : Stepped = step c.args.gated.now c.args.p.now c.args.input.now c.loop-spent.state c.args.turn.now.thread.0 in
-    rw (c.in_ok-end.ensures.state c.args.gated.now) (ap untraced (walk_end c.args.gated.now c.args.p.now c.args.input.now c.args.turn.now c.args.left c.loop-spent.spent c.loop-spent.state c.in-Ok.is_due o c.in-Some.end _ c.loop-spent.invariant.on.0 (omega arith) (sym c.due.ensures.due ∙ c.in-Ok.is) refl (sym (c.in_ok-end.ensures.end c.args.gated.now) ∙ c.in-Some.is) c.loop-spent.invariant.on.1))
+    rw (c.in_ok-name.ensures.state c.args.gated.now) (ap untraced (walk_end c.args.gated.now c.args.p.now c.args.input.now c.args.turn.now c.args.left c.loop-spent.spent c.loop-spent.state c.in-Ok.is_due o c.in-Some.name c.in-Some.id _ c.loop-spent.invariant.on.0 (omega arith) (sym c.due.ensures.due ∙ c.in-Ok.is) refl (sym (c.in_ok-name.ensures.trap c.args.gated.now) ∙ c.in-Some.is) c.loop-spent.invariant.on.1))
 
 pub returns-then-is_due-clause-walk : goal.returns-then-is_due-clause-walk
 returns-then-is_due-clause-walk c =
     let o : Stepped = step c.args.gated.now c.args.p.now c.args.input.now c.loop-spent.state c.args.turn.now.thread.0 in
-    rw (c.in_ok-end.ensures.state c.args.gated.now) (ap untraced (walk_done c.args.gated.now c.args.p.now c.args.input.now c.args.turn.now c.args.left c.loop-spent.spent c.loop-spent.state o _ c.loop-spent.invariant.on.0 (omega arith) (sym c.due.ensures.due ∙ c.in-Ok.is ∙ ap Ok c.if-is_due.true) refl (sym (c.in_ok-end.ensures.end c.args.gated.now) ∙ c.in_default.is) c.loop-spent.invariant.on.1))
+    rw (c.in_ok-name.ensures.state c.args.gated.now) (ap untraced (walk_done c.args.gated.now c.args.p.now c.args.input.now c.args.turn.now c.args.left c.loop-spent.spent c.loop-spent.state o _ c.loop-spent.invariant.on.0 (omega arith) (sym c.due.ensures.due ∙ c.in-Ok.is ∙ ap Ok c.if-is_due.true) refl (sym (c.in_ok-name.ensures.trap c.args.gated.now) ∙ c.in_default.is) c.loop-spent.invariant.on.1))
 
 pub returns-clause-walk : goal.returns-clause-walk
 returns-clause-walk c = ap untraced (walk_spent c.args.gated.now c.args.p.now c.args.input.now c.args.turn.now c.args.left _ c.loop-spent.state _ c.loop-spent.invariant.on.0 (omega arith) c.loop-spent.invariant.on.1) ∙ ap (λ (e : GuidedEnd). here c.loop-spent.state 0 (Some e)) (sym c.spent.ensures)

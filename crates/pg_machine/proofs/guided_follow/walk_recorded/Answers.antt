@@ -15,24 +15,24 @@ returns-then-room_left-eq0-clause-full c = walk_full c.args.gated.now c.args.p.n
 pub returns-in-Some-clause-walk : goal.returns-in-Some-clause-walk
 returns-in-Some-clause-walk c =
     let o : Stepped = step c.args.gated.now c.args.p.now c.args.input.now c.loop-spent.state c.args.turn.now.thread.0 in
-    rw (c.in_ok-end.ensures.trace, c.in_ok-end.ensures.state) (walk_end c.args.gated.now c.args.p.now c.args.input.now c.args.turn.now c.args.left c.loop-spent.spent c.loop-spent.state c.in-Ok.is_due o c.in-Some.end _ c.loop-spent.trace.steps (omega arith) (sym c.due.ensures.due ∙ c.in-Ok.is) refl (sym c.in_ok-end.ensures.end ∙ c.in-Some.is) c.loop-spent.invariant.on)
+    rw (c.in_ok-name.ensures.trace, c.in_ok-name.ensures.state) (walk_end c.args.gated.now c.args.p.now c.args.input.now c.args.turn.now c.args.left c.loop-spent.spent c.loop-spent.state c.in-Ok.is_due o c.in-Some.name c.in-Some.id _ c.loop-spent.trace.steps (omega arith) (sym c.due.ensures.due ∙ c.in-Ok.is) refl (sym c.in_ok-name.ensures.trap ∙ c.in-Some.is) c.loop-spent.invariant.on)
 
 pub returns-then-is_due-clause-walk : goal.returns-then-is_due-clause-walk
 returns-then-is_due-clause-walk c =
     let o : Stepped = step c.args.gated.now c.args.p.now c.args.input.now c.loop-spent.state c.args.turn.now.thread.0 in
-    rw (c.in_ok-end.ensures.trace, c.in_ok-end.ensures.state) (walk_done c.args.gated.now c.args.p.now c.args.input.now c.args.turn.now c.args.left c.loop-spent.spent c.loop-spent.state o _ c.loop-spent.trace.steps (omega arith) (sym c.due.ensures.due ∙ c.in-Ok.is ∙ ap Ok c.if-is_due.true) refl (sym c.in_ok-end.ensures.end ∙ c.in_default.is) c.loop-spent.invariant.on)
+    rw (c.in_ok-name.ensures.trace, c.in_ok-name.ensures.state) (walk_done c.args.gated.now c.args.p.now c.args.input.now c.args.turn.now c.args.left c.loop-spent.spent c.loop-spent.state o _ c.loop-spent.trace.steps (omega arith) (sym c.due.ensures.due ∙ c.in-Ok.is ∙ ap Ok c.if-is_due.true) refl (sym c.in_ok-name.ensures.trap ∙ c.in_default.is) c.loop-spent.invariant.on)
 
 pub loop-spent-preserved : goal.loop-spent-preserved
 loop-spent-preserved c =
     let o : Stepped = step c.args.gated.now c.args.p.now c.args.input.now c.loop-spent.state c.args.turn.now.thread.0 in
-    let room = ap (λ (t : Recording). t.room) c.in_ok-end.ensures.trace in
-    let longer = rw c.in_default.is at c.in_ok-end.ensures.more in
+    let room = ap (λ (t : Recording). t.room) c.in_ok-name.ensures.trace in
+    let longer = rw c.in_default.is at c.in_ok-name.ensures.more in
     record {
-      of = c.in_ok-end.ensures.of;
+      of = c.in_ok-name.ensures.of;
       room = room ∙ c.loop-spent.invariant.room;
-      fits = omega (arith, c.in_ok-end.ensures.few, room);
+      fits = omega (arith, c.in_ok-name.ensures.few, room);
       more = omega (arith, longer);
-      on = rw (c.in_ok-end.ensures.trace, c.in_ok-end.ensures.state) (walk_on c.args.gated.now c.args.p.now c.args.input.now c.args.turn.now c.args.left c.loop-spent.spent c.loop-spent.state o _ c.loop-spent.trace.steps (omega arith) (sym c.due.ensures.due ∙ c.in-Ok.is ∙ ap Ok c.if-is_due.false) refl (sym c.in_ok-end.ensures.end ∙ c.in_default.is) c.loop-spent.invariant.on);
+      on = rw (c.in_ok-name.ensures.trace, c.in_ok-name.ensures.state) (walk_on c.args.gated.now c.args.p.now c.args.input.now c.args.turn.now c.args.left c.loop-spent.spent c.loop-spent.state o _ c.loop-spent.trace.steps (omega arith) (sym c.due.ensures.due ∙ c.in-Ok.is ∙ ap Ok c.if-is_due.false) refl (sym c.in_ok-name.ensures.trap ∙ c.in_default.is) c.loop-spent.invariant.on);
     }
 
 pub returns-clause-walk : goal.returns-clause-walk

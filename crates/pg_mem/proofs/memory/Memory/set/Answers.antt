@@ -1,17 +1,15 @@
 use Rattle.std.proofs.Common.{◌∙◌, sym, ap}
-use Rattle.pg_mem.specs.Memory.{IsMemory, Words, byte_at}
+use Rattle.pg_mem.specs.Memory.{Words, byte_at}
 use Rattle.pg_mem.proofs.Places.{written_is_put, byte_at-written}
 use Rattle.pg_mem.proofs.memory.Memory.set.Goals as goal
 
 pub returns-clause-value : goal.returns-clause-value
 returns-clause-value c =
-    let m : IsMemory c.args.self.now = rw c.self.view_is at c.self.invariant in
-    rw (c.self.view_is, c.replaced.ensures, c.word-word.ensures)
-    (sym (written_is_put c.args.self.now (record { start = c.args.start; bytes = c.args.bytes }) c.args.number m c.requires.within c.requires.fits c.requires.small))
+    rw (c.put_word.ensures, c.replaced.ensures, c.word-word.ensures)
+    (sym (written_is_put c.args.self.now (record { start = c.args.start; bytes = c.args.bytes }) c.args.number c.facts.ensures c.requires.within c.requires.fits c.requires.small))
 
 pub returns-clause-bytes : goal.returns-clause-bytes
 returns-clause-bytes c = λ b.
-    let m : IsMemory c.args.self.now = rw c.self.view_is at c.self.invariant in
-    rw (c.self.view_is, c.replaced.ensures, c.word-word.ensures)
-    (ap (λ (w : Words). byte_at w b) (sym (written_is_put c.args.self.now (record { start = c.args.start; bytes = c.args.bytes }) c.args.number m c.requires.within c.requires.fits c.requires.small))
-    ∙ byte_at-written c.args.self.now (record { start = c.args.start; bytes = c.args.bytes }) c.args.number b m c.requires.within c.requires.fits c.requires.small)
+    rw (c.put_word.ensures, c.replaced.ensures, c.word-word.ensures)
+    (ap (λ (w : Words). byte_at w b) (sym (written_is_put c.args.self.now (record { start = c.args.start; bytes = c.args.bytes }) c.args.number c.facts.ensures c.requires.within c.requires.fits c.requires.small))
+    ∙ byte_at-written c.args.self.now (record { start = c.args.start; bytes = c.args.bytes }) c.args.number b c.facts.ensures c.requires.within c.requires.fits c.requires.small)

@@ -1,0 +1,84 @@
+//! Guided runs with their traces.
+
+use crate::tests::guided_programs::racing_stores;
+use crate::tests::programs::{Case, program};
+use crate::tests::schedules::{ALL, recorded, start_then, turn, turns_of};
+use crate::{Followed, follow};
+use pg_ir::InstrId;
+use pg_trace::{Schedule, Turn, TurnKind};
+use std::alloc::{AllocError, Global};
+use std::test::Fail;
+
+/// The stores that race are turns, the thread's before main's.
+fn racing_turns(alloc: Global) -> Result<Vec<Turn>, AllocError> {
+    let turns = vec![in alloc;
+        turn(0, 12, TurnKind::Start, 0),
+        turn(0, 12, TurnKind::Create, 1),
+        turn(1, 0, TurnKind::Start, 1),
+        turn(1, 10, TurnKind::Store, 8),
+        turn(1, 11, TurnKind::Exit, 1),
+        turn(0, 18, TurnKind::Store, 8),
+        turn(0, 20, TurnKind::Join, 1),
+        turn(0, 22, TurnKind::Out, 0),
+        turn(0, 23, TurnKind::Exit, 0),
+    ]?;
+    Ok(turns)
+}
+
+#[test]
+fn a_run_with_its_trace(rt: HostRuntime) -> Result<(), Fail> {
+    let p = racing_stores(rt.alloc())?;
+    let s = Schedule {
+        turns: racing_turns(rt.alloc())?,
+        replies: Vec::new(rt.alloc()),
+        gated: vec![in rt.alloc(); InstrId(10), InstrId(18)]?,
+    };
+    match follow(rt.alloc(), &p, &[0], &s)? {
+        Followed::Exit {
+            trace,
+            output,
+            value,
+        } => {
+            assert_eq!(rt; output.as_slice(), b"100\n".as_slice());
+            assert_eq!(rt; value, 0);
+            assert_eq!(rt; trace.steps().len(), 28);
+            let events = turns_of(rt.alloc(), trace.steps(), ALL)?;
+            assert_eq!(rt; events.as_slice(), s.turns.as_slice());
+            Ok(())
+        }
+        _ => Err("no exit".into()),
+    }
+}
+
+fn strays_at(f: &Followed) -> Option<u32> {
+    match f {
+        Followed::Strayed(k) => Some(*k),
+        _ => None,
+    }
+}
+
+fn is_unfinished(f: &Followed) -> bool {
+    match f {
+        Followed::Unfinished => true,
+        _ => false,
+    }
+}
+
+#[test]
+fn a_run_that_strays(rt: HostRuntime) -> Result<(), Fail> {
+    let p = program(rt.alloc(), Case::PrintIfStored)?;
+    let s = recorded(rt.alloc(), &p, &[], 100, ALL, None)?;
+    assert_eq!(rt; strays_at(&follow(rt.alloc(), &p, &[], &s)?), Some(4));
+    Ok(())
+}
+
+/// One that traps, and one that would take a step more than a recording may have.
+#[test]
+fn unfinished_runs(rt: HostRuntime) -> Result<(), Fail> {
+    let s = start_then(rt.alloc(), turn(0, 3, TurnKind::Out, 0))?;
+    let traps = program(rt.alloc(), Case::SkippedBlock)?;
+    assert!(rt; is_unfinished(&follow(rt.alloc(), &traps, &[], &s)?));
+    let goes_round = program(rt.alloc(), Case::Circle)?;
+    assert!(rt; is_unfinished(&follow(rt.alloc(), &goes_round, &[], &s)?));
+    Ok(())
+}
