@@ -1,4 +1,2 @@
 pub mod Known
-pub mod Mapped
-pub mod OnceWords
 pub mod ReplyKinds

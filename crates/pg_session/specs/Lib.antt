@@ -2,4 +2,3 @@ pub mod Replies
 pub mod Statuses
 pub mod Streams
 pub mod Texts
-pub mod Words

@@ -10,8 +10,7 @@ use Rattle.pg_trace.specs.declared.step.Step.{Step}
 use Rattle.pg_machine.specs.Rotation.{RunResult, rotation_of}
 use Rattle.pg_machine.specs.declared.outcome.Outcome.{Outcome}
 use Rattle.pg_machine.specs.declared.outcome.Outcome.TheVariants.{Exit, Trap, Budget}
-use Rattle.pg_session.specs.declared.texts.TheConstants.{QUANTUM}
-use Rattle.pg_session.specs.Words.{IsOnce}
+use Rattle.pg_command.specs.Once.{IsOnce}
 use Rattle.pg_session.specs.Streams.{AppendsFront}
 
 -- ---- the text of a run
@@ -30,9 +29,9 @@ end_line events Budget = codes "budget\n"
 abbrev pub run_text : RunResult → List ℕ
 run_text r = r.state.printed ++ end_line (event_count r.trace) r.end
 
--- the text of `once` for a program and an input
-unfoldable pub once_text : NumberedProgram → List ℤ → List ℕ
-once_text p input = run_text (rotation_of p input QUANTUM)
+-- the text of `once` for a program, a quantum and an input
+unfoldable pub once_text : NumberedProgram → ℕ → List ℤ → List ℕ
+once_text p quantum input = run_text (rotation_of p input quantum)
 
 -- ---- which texts are run
 
@@ -50,11 +49,11 @@ IsRefused text = (PROGRAM_TEXT_LIMIT < length text) ⊎ HasNoProgram text
 
 -- ---- what is written
 
--- the text of `once` for a program text and an input
-pub record IsOnceText (text : List ℕ) (input : List ℤ) (written : List ℕ) : Type 0 where
+-- the text of `once` for a program text, a quantum and an input
+pub record IsOnceText (text : List ℕ) (quantum : ℕ) (input : List ℤ) (written : List ℕ) : Type 0 where
   pub program : NumberedProgram
   pub accepted : IsAccepted text program
-  pub whole : written ≡ once_text program input
+  pub whole : written ≡ once_text program quantum input
 
 -- a refusal by name, at the text's first place
 abbrev pub refusal_line : List ℕ → List ℕ
@@ -68,10 +67,11 @@ IsRefusalLine text written =
 
 -- the text of these words for a program text was put behind what the sink told
 pub record WritesOnce (words : List (List ℕ)) (old new : Option (List ℕ)) (text : List ℕ) : Type 0 where
+  pub quantum : ℕ
   pub input : List ℤ
-  pub command : IsOnce words input
+  pub command : IsOnce words quantum input
   pub written : List ℕ
-  pub once : IsOnceText text input written
+  pub once : IsOnceText text quantum input written
   pub appended : Appends old new written
 
 pub record WritesRefusal (old new : Option (List ℕ)) (text : List ℕ) : Type 0 where
@@ -81,8 +81,9 @@ pub record WritesRefusal (old new : Option (List ℕ)) (text : List ℕ) : Type 
 
 -- a front of what is to be written was put behind what the sink told
 pub record WritesFront (words : List (List ℕ)) (old new : Option (List ℕ)) (text : List ℕ) : Type 0 where
+  pub quantum : ℕ
   pub input : List ℤ
-  pub command : IsOnce words input
+  pub command : IsOnce words quantum input
   pub written : List ℕ
-  pub reply : IsOnceText text input written ⊎ IsRefusalLine text written
+  pub reply : IsOnceText text quantum input written ⊎ IsRefusalLine text written
   pub appended : AppendsFront old new written

@@ -1,7 +1,7 @@
 //! The answer to a program text.
 ghost use Rattle.std.specs.Prelude.{◌≡◌, ◌≤◌, ◌+◌, length, IfOk, IfSome, IfNone, IsErrOf};
 ghost use Rattle.pg_io.specs.Faults.{Rose};
-ghost use Rattle.pg_num.specs.declared.limits.TheConstants.{PROGRAM_TEXT_LIMIT};
+ghost use Rattle.pg_num.specs.declared.limits.TheConstants.{PROGRAM_TEXT_LIMIT, QUANTUM_LIMIT};
 ghost use Rattle.pg_ir.specs.SmallProgram.{Accepts};
 ghost use Rattle.pg_session.specs.Streams.{TakesAtMost};
 ghost use Rattle.pg_session.specs.Texts.{refusal_line, HasNoProgram};
@@ -11,6 +11,7 @@ ghost use Rattle.pg_session.specs.declared.replies.NoReply.TheVariants.{OutOfMem
 use crate::status::Status;
 use crate::streams::{ReadAllFault, read_all};
 use crate::texts::once_text;
+use pg_command::Once;
 use pg_io::Source;
 use pg_ir::{Program, SmallFault, read_small};
 use pg_num::limits::PROGRAM_TEXT_LIMIT;
@@ -61,15 +62,17 @@ fn accepted(alloc: Global, text: &[u8]) -> Result<Option<Program>, AllocError>
 }
 
 /// The reply to a program text that isn't too long.
-fn reply_to(alloc: Global, text: &[u8], input: &[i64]) -> Result<Reply, AllocError>
-    requires { length text.now ≤ PROGRAM_TEXT_LIMIT }
+fn reply_to(alloc: Global, text: &[u8], once: &Once) -> Result<Reply, AllocError>
+    requires within { length text.now ≤ PROGRAM_TEXT_LIMIT }
+    requires least { 1 ≤ once.now.quantum }
+    requires most { once.now.quantum ≤ QUANTUM_LIMIT }
     ensures status { IfOk result (λ r. IsReplyStatus r.status) }
-    ensures reply { IfOk result (λ r. IsReply r.status text.now input.now r.text.items) }
+    ensures reply { IfOk result (λ r. IsReply r.status text.now once.now.quantum once.now.numbers.items r.text.items) }
 {
     match accepted(alloc, text)? {
         Some(program) => Ok(Reply {
             status: Status::Done,
-            text: once_text(alloc, &program, input)?,
+            text: once_text(alloc, &program, once.quantum, &once.numbers)?,
         }),
         None => Ok(Reply {
             status: Status::ProgramRefused,
@@ -81,12 +84,14 @@ fn reply_to(alloc: Global, text: &[u8], input: &[i64]) -> Result<Reply, AllocErr
 /// Reads the program text, and gives the reply to it.
 pub(crate) fn read_reply<S: Source>(
     alloc: Global,
-    input: &[i64],
+    once: &Once,
     src: &mut S,
 ) -> Result<Reply, NoReply>
+    requires least { 1 ≤ once.now.quantum }
+    requires most { once.now.quantum ≤ QUANTUM_LIMIT }
     ensures status { IfOk result (λ r. IsReplyStatus r.status) }
     ensures reply { IfOk result (λ r.
-        IfSome (S.rest src.old) (λ text. IsReply r.status text input.now r.text.items)) }
+        IfSome (S.rest src.old) (λ text. IsReply r.status text once.now.quantum once.now.numbers.items r.text.items)) }
     ensures takes { TakesAtMost (S.rest src.old) (S.rest src.new) (PROGRAM_TEXT_LIMIT + 1) }
     ensures cause { IsErrOf result NoReply.ReadFault → Rose (S.faults src.old) (S.faults src.new) }
     ensures fault_within { IsErrOf result NoReply.ReadFault →
@@ -94,7 +99,7 @@ pub(crate) fn read_reply<S: Source>(
     ensures count_never_falls { S.faults src.old ≤ S.faults src.new }
 {
     match read_all(alloc, src, PROGRAM_TEXT_LIMIT) {
-        Ok(text) => Ok(reply_to(alloc, &text, input)?),
+        Ok(text) => Ok(reply_to(alloc, &text, once)?),
         Err(ReadAllFault::TooLong) => Ok(Reply {
             status: Status::ProgramRefused,
             text: refusal_line(alloc, "TooLong")?,

@@ -1,24 +1,25 @@
 //! The call that does all that the program does.
-ghost use Rattle.std.specs.Prelude.{◌≡◌, ◌≤◌, ◌+◌, ◌⊎◌, ℤ, List, map, string_bytes, IfSome};
+ghost use Rattle.std.specs.Prelude.{◌≡◌, ◌≤◌, ◌+◌, ◌⊎◌, ℕ, ℤ, List, map, string_bytes, IfSome};
 ghost use Rattle.pg_io.specs.Faults.{Rose};
+ghost use Rattle.pg_command.specs.Once.{IsOnce, NoCommand};
 ghost use Rattle.pg_num.specs.declared.limits.TheConstants.{PROGRAM_TEXT_LIMIT};
 ghost use Rattle.pg_ir.specs.Program.{NumberedProgram};
 ghost use Rattle.pg_session.specs.Streams.{TakesAtMost};
-ghost use Rattle.pg_session.specs.Words.{IsOnce, NoCommand};
 ghost use Rattle.pg_session.specs.Texts.{IsAccepted, IsRefused, WritesOnce, WritesRefusal, WritesFront};
 
 use crate::replies::{NoReply, read_reply};
 use crate::status::Status;
 use crate::streams::write_all;
-use crate::words::command;
+use pg_command::command;
 use pg_io::{Sink, Source};
 use std::alloc::Global;
 
 /// Runs the command that the words are, without the program's own name, on the program text that is
 /// all that the source has, and writes its whole text to the sink.
 ///
-/// `once` and up to 512 numbers writes what the program prints on this input, and then how its run
-/// ended. The words are read first, then the program text, of which at most the limit and one more
+/// `once` and up to 512 numbers, with `--quantum` and the steps of a thread's turn, from 1 to 10,000 and 100
+/// without it, writes what the program prints on this input, and then how its run ended. A number that begins
+/// with `-` stands after `--`. The words are read first, then the program text, of which at most the limit and one more
 /// byte are taken.
 pub fn peregrine<S: Source, K: Sink>(
     alloc: Global,
@@ -42,11 +43,11 @@ pub fn peregrine<S: Source, K: Sink>(
     ensures write_fault_cuts { result ≡ Status.WriteFault →
         IfSome (S.rest src.old) (WritesFront (map string_bytes words.now) (K.taken out.old) (K.taken out.new)) }
     ensures out_of_memory_writes_nothing { result ≡ Status.OutOfMemory → out.new ≡ out.old }
-    ensures complete { (input : List ℤ) → IsOnce (map string_bytes words.now) input →
+    ensures complete { (quantum : ℕ) (input : List ℤ) → IsOnce (map string_bytes words.now) quantum input →
         (Rose (S.faults src.old) (S.faults src.new) → ⊥) → (Rose (K.faults out.old) (K.faults out.new) → ⊥) →
         IfSome (S.rest src.old) (λ text. (p : NumberedProgram) → IsAccepted text p →
         (result ≡ Status.Done) ⊎ (result ≡ Status.OutOfMemory)) }
-    ensures refuses { (input : List ℤ) → IsOnce (map string_bytes words.now) input →
+    ensures refuses { (quantum : ℕ) (input : List ℤ) → IsOnce (map string_bytes words.now) quantum input →
         (Rose (S.faults src.old) (S.faults src.new) → ⊥) → (Rose (K.faults out.old) (K.faults out.new) → ⊥) →
         IfSome (S.rest src.old) (λ text. IsRefused text →
         (result ≡ Status.ProgramRefused) ⊎ (result ≡ Status.OutOfMemory)) }
@@ -57,7 +58,7 @@ pub fn peregrine<S: Source, K: Sink>(
         Ok(None) => return Status::Usage,
         Err(_) => return Status::OutOfMemory,
     };
-    let reply = match read_reply(alloc, &once.numbers, src) {
+    let reply = match read_reply(alloc, &once, src) {
         Ok(reply) => reply,
         Err(NoReply::ReadFault) => return Status::ReadFault,
         Err(NoReply::OutOfMemory) => return Status::OutOfMemory,

@@ -2,9 +2,8 @@
 
 mod session;
 
-use crate::{ReadAllFault, command, read_all, write_all};
+use crate::{ReadAllFault, read_all, write_all};
 use pg_io::{MemorySink, MemorySource};
-use std::alloc::{AllocError, Global};
 use std::test::Fail;
 
 #[test]
@@ -36,36 +35,5 @@ fn writes_all(rt: HostRuntime) -> Result<(), Fail> {
     assert!(rt; write_all(&mut out, b"d").is_err());
     assert!(rt; write_all(&mut out, b"de").is_ok());
     assert_eq!(rt; out.bytes(), b"abcde".as_slice());
-    Ok(())
-}
-
-fn texts(alloc: Global, words: &[&str]) -> Result<Vec<String>, AllocError> {
-    let mut all = Vec::new(alloc);
-    for word in words {
-        all.push(String::from_str(alloc, word)?)?;
-    }
-    Ok(all)
-}
-
-#[test]
-fn words(rt: HostRuntime) -> Result<(), Fail> {
-    let rows: [(&[&str], Option<&[i64]>); 8] = [
-        (&["once"], Some(&[])),
-        (&["once", "3", "5"], Some(&[3, 5])),
-        (
-            &["once", "007", "9223372036854775807"],
-            Some(&[7, 9223372036854775807]),
-        ),
-        (&["once", "9223372036854775808"], None),
-        (&["once", "-5"], None),
-        (&["once", ""], None),
-        (&["Once", "3"], None),
-        (&[], None),
-    ];
-    for (words, want) in rows {
-        let words = texts(rt.alloc(), words)?;
-        let found = command(rt.alloc(), &words)?;
-        assert_eq!(rt; found.as_ref().map(|once| once.numbers.as_slice()), want);
-    }
     Ok(())
 }

@@ -1,14 +1,12 @@
 //! The texts that are written.
-ghost use Rattle.std.specs.Prelude.{◌≡◌, IfOk, OnOk, ◌++◌, string_bytes};
+ghost use Rattle.std.specs.Prelude.{◌≡◌, ◌≤◌, IfOk, OnOk, ◌++◌, string_bytes};
+ghost use Rattle.pg_num.specs.declared.limits.TheConstants.{QUANTUM_LIMIT};
 ghost use Rattle.pg_session.specs.Texts.{end_line, event_count, once_text};
 
 use pg_ir::Program;
 use pg_machine::{Outcome, Recorded, rotate};
 use pg_trace::Step;
 use std::alloc::{AllocError, Global};
-
-/// How many steps in a row a thread takes before the next thread's turn, where the words name no quantum.
-pub const QUANTUM: u32 = 100;
 
 /// How many of these steps are events.
 fn event_count(steps: &[Step]) -> usize
@@ -31,16 +29,19 @@ fn end_line(alloc: Global, events: usize, end: Outcome) -> Result<String, AllocE
     }
 }
 
-/// The text of `once`: the run's output and its end line.
+/// The text of `once`: the output of the rotation run with this quantum, and its end line.
 #[tactic(auto, unfolding(crate::specs::Texts::once_text))]
 pub(crate) fn once_text(
     alloc: Global,
     program: &Program,
+    quantum: u32,
     input: &[i64],
 ) -> Result<Vec<u8>, AllocError>
-    ensures { IfOk result (λ v. v.items ≡ once_text program.now input.now) }
+    requires least { 1 ≤ quantum }
+    requires most { quantum ≤ QUANTUM_LIMIT }
+    ensures { IfOk result (λ v. v.items ≡ once_text program.now quantum input.now) }
 {
-    let Recorded { trace, output, end } = rotate(alloc, program, input, QUANTUM)?;
+    let Recorded { trace, output, end } = rotate(alloc, program, input, quantum)?;
     let line = end_line(alloc, event_count(trace.steps()), end)?;
     let mut text = output;
     text.extend_from_slice(line.as_bytes())?;

@@ -100,6 +100,12 @@ fn runs_once(rt: HostRuntime) -> Result<(), Fail> {
         sure("once 9223372036854775807", SUM, Status::Done, GREATEST),
         sure("once 9223372036854775808", SUM, Status::Usage, b""),
         sure("once -1", SUM, Status::Usage, b""),
+        sure("once -- -3 11", SUM, Status::Done, EIGHT),
+        sure("once --quantum 1 3 5", SUM, Status::Done, EIGHT),
+        sure("once 3 --quantum=10000 5", SUM, Status::Done, EIGHT),
+        sure("once 1 --quantum 0", SUM, Status::Usage, b""),
+        sure("once --quantum 10001", SUM, Status::Usage, b""),
+        sure("serve x", SUM, Status::Usage, b""),
         sure("once +1", SUM, Status::Usage, b""),
         sure("", SUM, Status::Usage, b""),
         Row {

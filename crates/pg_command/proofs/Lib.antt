@@ -1,0 +1,6 @@
+pub mod Walks
+pub mod Rows
+pub mod Lines
+pub mod Mapped
+pub mod Found
+pub mod Commands
