@@ -61,6 +61,8 @@ fn happening_if(is_event: bool, kind: TurnKind, object: u64) -> Option<Happening
 
 impl MachineState {
     /// The event that an action of a thread is, if it is one.
+    // Most actions are no event, which a step that isn't told finds out here.
+    #[inline(always)]
     pub(crate) fn happening(&self, gated: &Gated, t: ThreadNo, action: &Action) -> Option<Happening>
         ensures { result ≡ happening_of gated.now self.now t.0 action.now }
     {

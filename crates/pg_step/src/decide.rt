@@ -254,7 +254,7 @@ pub(crate) fn action_of(p: &Program, here: &Present, instr: &Instr) -> Action
         Op::Alloca { bytes } => alloca_action(here.region, *bytes),
         Op::Load { width, from } => load_action(p, registers, *width, *from),
         Op::Store { width, value, at } => store_action(p, registers, *width, *value, *at),
-        Op::CallKnown { function, args } => known_action(p, here, *function, args.as_slice()),
+        Op::CallKnown { function, args } => known_action(p, *here, *function, args.as_slice()),
         op => plain_action(p, registers, op),
     }
 }

@@ -235,11 +235,12 @@ fn number_action(p: &Program, here: &Present, function: Known, args: &[Value]) -
     }
 }
 
-/// The action of a call of a known function.
-pub(crate) fn known_action(p: &Program, here: &Present, function: Known, args: &[Value]) -> Action
-    requires operands { AllByRecursion (CanRead p.now (length here.now.registers.now)) args.now }
-    requires width { KnownWidths p.now here.now.registers.now function args.now }
-    ensures { result ≡ known_action p.now here.now.region.thread here.now.halfway here.now.registers.now function args.now }
+/// The action of a call of a known function. `here` comes by its value: by reference, each step of the
+/// machine would have to put it into memory.
+pub(crate) fn known_action(p: &Program, here: Present, function: Known, args: &[Value]) -> Action
+    requires operands { AllByRecursion (CanRead p.now (length here.registers.now)) args.now }
+    requires width { KnownWidths p.now here.registers.now function args.now }
+    ensures { result ≡ known_action p.now here.entry.region.thread here.entry.halfway here.entry.registers.now function args.now }
 {
     match function {
         Known::PgInLen => Action::InLen,
@@ -248,14 +249,14 @@ pub(crate) fn known_action(p: &Program, here: &Present, function: Known, args: &
         | Known::Putchar
         | Known::Malloc
         | Known::Free
-        | Known::PthreadExit => { number_action(p, here, function, args) }
-        Known::PthreadCreate => create_action(p, here, args),
-        Known::PthreadJoin => join_action(p, here, args),
-        Known::PthreadMutexInit => init_action(p, here, Known::PthreadMutexInit, args),
-        Known::PthreadCondInit => init_action(p, here, Known::PthreadCondInit, args),
-        Known::PthreadCondWait => wait_action(p, here, args),
-        Known::PthreadBarrierInit => barrier_init_action(p, here, args),
-        _ => object_action(p, here, function, args),
+        | Known::PthreadExit => { number_action(p, &here, function, args) }
+        Known::PthreadCreate => create_action(p, &here, args),
+        Known::PthreadJoin => join_action(p, &here, args),
+        Known::PthreadMutexInit => init_action(p, &here, Known::PthreadMutexInit, args),
+        Known::PthreadCondInit => init_action(p, &here, Known::PthreadCondInit, args),
+        Known::PthreadCondWait => wait_action(p, &here, args),
+        Known::PthreadBarrierInit => barrier_init_action(p, &here, args),
+        _ => object_action(p, &here, function, args),
     }
 }
 

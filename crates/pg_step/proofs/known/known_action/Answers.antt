@@ -6,4 +6,4 @@ use Rattle.pg_step.proofs.known.known_action.Goals as goal
 pub returns-in_default : goal.returns-in_default
 returns-in_default c =
     let names : NamesObject c.args.function = search rules in
-    c.object_action.ensures ∙ object_is c.args.p.now c.args.here.now.region.thread c.args.here.now.halfway c.args.here.now.registers.now c.args.function c.args.args.now names
+    c.object_action.ensures ∙ object_is c.args.p.now c.args.here.region.thread c.args.here.halfway c.args.here.registers.now c.args.function c.args.args.now names
