@@ -1,4 +1,2 @@
-pub mod Sets
-pub mod Pending
 pub mod Listings
 pub mod Rows

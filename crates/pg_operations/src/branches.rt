@@ -5,11 +5,9 @@ ghost use Rattle.pg_grammar.specs.ReaderOps.{target_at, branch_at, case_at, swit
 ghost use Rattle.pg_grammar.specs.Views.{Reads, Takes};
 ghost use Rattle.pg_ast.specs.Views.{op_of, case_of};
 
-use crate::reader::{name, next_is, take, unsupported};
-use crate::sets::{ClassSet, next_in};
-use crate::values::typed_value_in;
 use pg_ast::{CaseNode, Name, OpNode};
 use pg_grammar::{Class, ReadError, Refusal, Token};
+use pg_terms::{ClassSet, name, next_in, next_is, take, typed_value_in, unsupported};
 use std::alloc::Global;
 
 fn target(alloc: Global, tokens: &[Token], at: usize) -> Result<(Name, usize), ReadError>

@@ -9,15 +9,12 @@ ghost use Rattle.pg_operations.specs.Rows.{written_or_none_at};
 ghost use Rattle.pg_grammar.specs.Views.{Reads, Takes};
 ghost use Rattle.pg_ast.specs.Views.{op_of, ty_of, typed_of, written_of};
 
-use crate::arguments::argument;
-use crate::attribute_lists::attributes;
-use crate::reader::{name, next_is, take, unsupported};
-use crate::sets::{ClassSet, next_in};
-use crate::skips::skip_to;
-use crate::types::type_node;
 use crate::written::written;
 use pg_ast::{ArgNode, CallTypes, OpNode, TypeNode};
 use pg_grammar::{Class, ReadError, Refusal, Token};
+use pg_terms::{
+    ClassSet, argument, attributes, name, next_in, next_is, skip_to, take, type_node, unsupported,
+};
 use std::alloc::Global;
 
 fn call_word(tokens: &[Token], at: usize) -> Result<(&Token, usize), Refusal>

@@ -8,15 +8,12 @@ ghost use Rattle.pg_operations.specs.Listings.{listing_of};
 ghost use Rattle.pg_grammar.specs.Views.{Reads};
 ghost use Rattle.pg_ast.specs.Views.{op_of, typed_of};
 
-use crate::line_metadata::metadata_tail;
 use crate::listing::{Listing, type_goes_on};
-use crate::reader::{take, unsupported};
-use crate::sets::{ClassSet, next_in};
-use crate::skips::flags;
-use crate::types::type_node;
-use crate::values::typed_value_in;
 use pg_ast::{OpNode, TypedVal};
 use pg_grammar::{Class, ReadError, Token};
+use pg_terms::{
+    ClassSet, flags, metadata_tail, next_in, take, type_node, typed_value_in, unsupported,
+};
 use std::alloc::Global;
 
 /// The address of an element, and the metadata behind it.

@@ -1,37 +1,20 @@
-//! The reader of types, values, constants, attributes and operations.
+//! The reader of operations.
 //!
 //! A function reads from a place in the tokens and gives what it read and the place after it. It fails where
 //! memory runs out, and else with the first token with which what it reads can't go on, and its fault.
 #![tactic(auto)]
 
-mod arguments;
-mod attribute_lists;
 mod branches;
 mod calls;
-mod constants;
 mod elements;
-mod line_metadata;
 mod listing;
 mod memory;
 mod numbers;
 mod operations;
 mod phi;
-mod reader;
-mod sets;
-mod skips;
-mod types;
-mod values;
 mod written;
 
-pub use attribute_lists::{attribute, attributes};
 pub use calls::call;
-pub use constants::constant;
 pub use elements::gep_op_tail;
-pub use line_metadata::{metadata, metadata_tail};
 pub use numbers::cast_tail;
 pub use operations::simple_op;
-pub use reader::{is_class, literal, name, next_is, take, too_deep, unsupported};
-pub use sets::{ClassSet, contains, next_in, take_in};
-pub use skips::{flags, skip_to};
-pub use types::{type_node, types_to};
-pub use values::{gep_tail, int_to_ptr_tail, plain_value, typed_value_in, value};

@@ -5,9 +5,8 @@ ghost use Rattle.pg_grammar.specs.Reading.{comes};
 ghost use Rattle.pg_grammar.specs.Reader.{begins_type};
 ghost use Rattle.pg_grammar.specs.ReaderOps.{begins_by};
 
-use crate::reader::next_is;
-use crate::sets::{ClassSet, next_in};
 use pg_grammar::{Class, Token};
+use pg_terms::{ClassSet, next_in, next_is};
 
 /// Items behind commas, and whether a comma stands behind the last of them.
 #[derive(Debug, Drop)]

@@ -8,13 +8,12 @@ ghost use Rattle.pg_grammar.specs.ReaderOps.{alignment_at, count_at, alloca_at, 
 ghost use Rattle.pg_grammar.specs.Views.{Reads, Takes};
 ghost use Rattle.pg_ast.specs.Views.{op_of, count_of};
 
-use crate::line_metadata::{metadata, metadata_tail};
-use crate::reader::{literal, next_is, take, unsupported};
-use crate::sets::{ClassSet, next_in};
-use crate::types::type_node;
-use crate::values::typed_value_in;
 use pg_ast::{CountNode, OpNode};
 use pg_grammar::{Class, ReadError, Refusal, Token};
+use pg_terms::{
+    ClassSet, literal, metadata, metadata_tail, next_in, next_is, take, type_node, typed_value_in,
+    unsupported,
+};
 use std::alloc::Global;
 
 /// An alignment, or none, and metadata are dropped.

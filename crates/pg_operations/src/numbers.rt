@@ -4,13 +4,9 @@ ghost use Rattle.pg_grammar.specs.ReaderOps.{binary_at, icmp_at, cast_at, cast_t
 ghost use Rattle.pg_grammar.specs.Views.{Reads};
 ghost use Rattle.pg_ast.specs.Views.{op_of};
 
-use crate::reader::take;
-use crate::sets::{ClassSet, take_in};
-use crate::skips::flags;
-use crate::types::type_node;
-use crate::values::{typed_value_in, value};
 use pg_ast::{BinaryOp, CastOp, OpNode, Predicate};
 use pg_grammar::{Class, ReadError, Token};
+use pg_terms::{ClassSet, flags, take, take_in, type_node, typed_value_in, value};
 use std::alloc::Global;
 
 fn binary_op(class: Class) -> BinaryOp

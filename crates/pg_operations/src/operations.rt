@@ -6,14 +6,12 @@ ghost use Rattle.pg_ast.specs.Views.{op_of};
 
 use crate::branches::{branch, switch, unreachable_op};
 use crate::elements::gep_op;
-use crate::line_metadata::metadata;
 use crate::memory::{alloca, load, store};
 use crate::numbers::{binary, cast, comparison, select};
 use crate::phi::phi;
-use crate::reader::next_is;
-use crate::sets::{ClassSet, next_in};
 use pg_ast::OpNode;
 use pg_grammar::{Class, ReadError, Refusal, Token};
+use pg_terms::{ClassSet, metadata, next_in, next_is};
 use std::alloc::Global;
 
 /// The metadata behind an operation.

@@ -6,13 +6,10 @@ ghost use Rattle.pg_operations.specs.Listings.{listing_of};
 ghost use Rattle.pg_grammar.specs.Views.{Reads};
 ghost use Rattle.pg_ast.specs.Views.{op_of, incoming_of};
 
-use crate::line_metadata::metadata_tail;
 use crate::listing::{Listing, square_goes_on};
-use crate::reader::{name, take};
-use crate::types::type_node;
-use crate::values::value;
 use pg_ast::{IncomingNode, OpNode};
 use pg_grammar::{Class, ReadError, Token};
+use pg_terms::{metadata_tail, name, take, type_node, value};
 use std::alloc::Global;
 
 fn incoming(alloc: Global, tokens: &[Token], at: usize) -> Result<(IncomingNode, usize), ReadError>

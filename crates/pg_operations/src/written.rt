@@ -11,11 +11,9 @@ ghost use Rattle.pg_grammar.specs.Views.{Reads};
 ghost use Rattle.pg_ast.specs.Views.{ty_of, written_of};
 
 use crate::listing::{Listing, type_goes_on};
-use crate::reader::{next_is, take, unsupported};
-use crate::sets::{ClassSet, next_in};
-use crate::types::type_node;
 use pg_ast::{CallTypes, TypeNode};
 use pg_grammar::{Class, ReadError, Token};
+use pg_terms::{ClassSet, next_in, next_is, take, type_node, unsupported};
 use std::alloc::{AllocError, Global};
 
 /// The types that a call writes for its callee's parameters.

@@ -9,7 +9,7 @@ use crate::next::next_part;
 use crate::parts::{AfterPart, Body, add_return};
 use pg_ast::BlockNode;
 use pg_grammar::{Class, ReadError, Token};
-use pg_operations::{ClassSet, contains, is_class, next_in, take, unsupported};
+use pg_terms::{ClassSet, contains, is_class, next_in, take, unsupported};
 use std::alloc::{AllocError, Global};
 
 /// A token goes on with what stands before the place, or begins the next part.

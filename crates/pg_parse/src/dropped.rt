@@ -4,7 +4,7 @@ ghost use Rattle.pg_parse.specs.ItemStates.{distinct_at};
 ghost use Rattle.pg_grammar.specs.Views.{Takes};
 
 use pg_grammar::{Class, Refusal, Token};
-use pg_operations::{ClassSet, next_is, skip_to, take, take_in};
+use pg_terms::{ClassSet, next_is, skip_to, take, take_in};
 
 fn node(tokens: &[Token], at: usize) -> Result<usize, Refusal>
     requires { at ≤ length tokens.now }

@@ -7,7 +7,7 @@ use crate::body::body;
 use crate::params::{declared_params, params};
 use pg_ast::{DeclareItem, DefineItem};
 use pg_grammar::{Class, ReadError, Token};
-use pg_operations::{ClassSet, attributes, name, take, take_in, type_node};
+use pg_terms::{ClassSet, attributes, name, take, take_in, type_node};
 use std::alloc::Global;
 
 /// A function that is declared, up to its parameters.

@@ -5,7 +5,7 @@ ghost use Rattle.pg_ast.specs.Views.{global_of, type_item_of};
 
 use pg_ast::{GlobalItem, TypeItem};
 use pg_grammar::{Class, ReadError, Refusal, Token};
-use pg_operations::{ClassSet, attributes, constant, name, next_is, take, take_in, type_node};
+use pg_terms::{ClassSet, attributes, constant, name, next_is, take, take_in, type_node};
 use std::alloc::Global;
 
 /// A named type.

@@ -7,7 +7,7 @@ ghost use Rattle.pg_ast.specs.Views.{tree_of, type_item_of, global_of, declare_o
 
 use pg_ast::{DeclareItem, DefineItem, GlobalItem, Module, TypeItem};
 use pg_grammar::{Class, Token};
-use pg_operations::{ClassSet, contains, is_class};
+use pg_terms::{ClassSet, contains, is_class};
 use std::alloc::{AllocError, Global};
 
 /// What stands before a place among the items: complete items, a declaration whose attributes may go on, the

@@ -9,9 +9,8 @@ use crate::parts::{AfterPart, Body, BodyPart, add_call, add_line, add_part};
 use crate::returns::return_line;
 use pg_ast::{BlockNode, Name};
 use pg_grammar::{Class, ReadError, Token};
-use pg_operations::{
-    ClassSet, call, metadata_tail, name, next_in, next_is, simple_op, skip_to, take, unsupported,
-};
+use pg_operations::{call, simple_op};
+use pg_terms::{ClassSet, metadata_tail, name, next_in, next_is, skip_to, take, unsupported};
 use std::alloc::Global;
 
 /// What is certain behind a call, or behind one of its attributes.

@@ -9,9 +9,9 @@ use crate::parts::{AfterPart, Body, VoidReturn, add_line, add_return};
 use crate::returns::void_line;
 use pg_ast::{BlockNode, ValNode};
 use pg_grammar::{Class, ReadError, Token};
-use pg_operations::{
-    ClassSet, attribute, cast_tail, flags, gep_op_tail, gep_tail, int_to_ptr_tail, metadata, name,
-    next_in, next_is, take,
+use pg_operations::{cast_tail, gep_op_tail};
+use pg_terms::{
+    ClassSet, attribute, flags, gep_tail, int_to_ptr_tail, metadata, name, next_in, next_is, take,
 };
 use std::alloc::Global;
 

@@ -10,7 +10,7 @@ ghost use Rattle.pg_ast.specs.Views.{param_of, dparam_of};
 
 use pg_ast::{DparamNode, Name, ParamNode};
 use pg_grammar::{Class, ReadError, Token};
-use pg_operations::{attributes, name, next_is, take, type_node, unsupported};
+use pg_terms::{attributes, name, next_is, take, type_node, unsupported};
 use std::alloc::Global;
 
 fn maybe_name(

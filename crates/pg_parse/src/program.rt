@@ -12,7 +12,7 @@ use crate::items::{
 };
 use pg_ast::Module;
 use pg_grammar::{Class, ReadError, Token};
-use pg_operations::{ClassSet, attribute, next_in, next_is, take, take_in, unsupported};
+use pg_terms::{ClassSet, attribute, next_in, next_is, take, take_in, unsupported};
 use std::alloc::Global;
 
 /// An item, but for what may still go on with it.

@@ -8,7 +8,7 @@ ghost use Rattle.pg_ast.specs.Views.{val_of, block_of};
 use crate::parts::{AfterPart, Body, VoidReturn, add_line, add_return};
 use pg_ast::{BlockNode, Name, OpNode, TypeNode, TypedVal, ValNode};
 use pg_grammar::{Class, ReadError, Token};
-use pg_operations::{
+use pg_terms::{
     ClassSet, literal, metadata, metadata_tail, next_in, next_is, plain_value, take, typed_value_in,
 };
 use std::alloc::Global;

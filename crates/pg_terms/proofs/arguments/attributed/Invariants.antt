@@ -1,0 +1,11 @@
+use Rattle.std.proofs.Common.{◌≤◌, ◌-◌, length, drop}
+use Rattle.pg_grammar.specs.Reader.{begins_pending, pending_at, settled_at, attributed_at}
+use Rattle.pg_terms.specs.Pending.{pending_of}
+use Rattle.pg_grammar.proofs.Loops.{Runs}
+use Rattle.pg_terms.proofs.arguments.attributed.Given as goal
+
+abbrev pub invariant-items : goal.invariant-items
+invariant-items l = (l.at ≤ l.place) × (l.place ≤ length l.tokens) × Runs begins_pending pending_at settled_at (pending_of l.state) (drop l.place l.tokens) (attributed_at (drop l.at l.tokens))
+
+abbrev pub decreases-items : goal.decreases-items
+decreases-items l = length l.tokens - l.place

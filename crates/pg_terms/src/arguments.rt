@@ -1,0 +1,163 @@
+ghost use Rattle.std.specs.Prelude.{◌≡◌, ◌≤◌, ◌<◌, length, drop, IfOk};
+ghost use Rattle.pg_grammar.specs.Reader.{fresh_at, pending_at, begins_pending, settled_at, attributed_at, argument_at, Bare};
+ghost use Rattle.pg_grammar.specs.Reading.{comes};
+ghost use Rattle.pg_grammar.specs.Views.{Reads, Takes};
+ghost use Rattle.pg_terms.specs.Pending.{pending_of};
+ghost use Rattle.pg_ast.specs.Views.{val_of, typed_of};
+
+use crate::reader::{is_class, literal, next_is, take, unsupported};
+use crate::sets::{ClassSet, contains, next_in, take_in};
+use crate::skips::skip_to;
+use crate::types::type_node;
+use crate::values::{other_value, value};
+use pg_ast::{ArgNode, TypedVal, ValNode};
+use pg_grammar::{Class, ReadError, Refusal, Token};
+use std::alloc::Global;
+
+/// What stands before a place among the attributes of an argument: nothing that goes on, a word, a string,
+/// or a word and this integer.
+#[derive(Clone, Copy, Debug)]
+pub enum Pending<'a> {
+    Fresh,
+    Bare,
+    Quoted,
+    Held(&'a Token),
+}
+
+fn take_fresh<'a>(tokens: &'a [Token], at: usize) -> Result<(Pending<'a>, usize), Refusal>
+    requires { at ≤ length tokens.now }
+    ensures read { Takes tokens.now at (λ x. pending_of x.0) (λ x. x.1) result (fresh_at (drop at tokens.now)) }
+    ensures on { IfOk result (λ x. at < x.1) }
+{
+    if next_in(tokens, at, ClassSet::AttributeWord) {
+        let (_, to) = take_in(tokens, at, ClassSet::AttributeWord)?;
+        return Ok((Pending::Bare, to));
+    }
+    if next_in(tokens, at, ClassSet::AttributeName) {
+        let (_, to) = take_in(tokens, at, ClassSet::AttributeName)?;
+        return Ok((Pending::Fresh, to));
+    }
+    if next_is(tokens, at, Class::Str) {
+        let (_, to) = take(tokens, at, Class::Str)?;
+        return Ok((Pending::Quoted, to));
+    }
+    let (_, at) = take_in(tokens, at, ClassSet::MetadataName)?;
+    let (_, to) = take_in(tokens, at, ClassSet::MetadataName)?;
+    Ok((Pending::Fresh, to))
+}
+
+#[tactic(auto, unfolding(pg_grammar::specs::Reader::pending_at))]
+fn take_pending<'a>(
+    tokens: &'a [Token],
+    at: usize,
+    state: Pending<'a>,
+) -> Result<(Pending<'a>, usize), Refusal>
+    requires { at ≤ length tokens.now }
+    ensures read { Takes tokens.now at (λ x. pending_of x.0) (λ x. x.1) result (pending_at (pending_of state.entry) (drop at tokens.now)) }
+    ensures on { IfOk result (λ x. at < x.1) }
+{
+    match state {
+        Pending::Bare => {
+            if next_is(tokens, at, Class::Int) {
+                let (number, to) = take(tokens, at, Class::Int)?;
+                return Ok((Pending::Held(number), to));
+            }
+            if next_is(tokens, at, Class::OpenRound) {
+                let (_, at) = take(tokens, at, Class::OpenRound)?;
+                let to = skip_to(tokens, at, 63, Class::CloseRound)?;
+                return Ok((Pending::Fresh, to));
+            }
+            take_fresh(tokens, at)
+        }
+        Pending::Quoted => {
+            if next_is(tokens, at, Class::Equals) {
+                let (_, at) = take(tokens, at, Class::Equals)?;
+                let (_, to) = take(tokens, at, Class::Str)?;
+                return Ok((Pending::Fresh, to));
+            }
+            take_fresh(tokens, at)
+        }
+        _ => take_fresh(tokens, at),
+    }
+}
+
+/// A token goes on with what stands before the place.
+fn begins(state: &Pending<'_>, class: Class) -> bool
+    ensures { result ≡ begins_pending (pending_of state.now) class }
+{
+    match state {
+        Pending::Bare => bare_goes_on(class),
+        Pending::Quoted => is_class(class, Class::Equals) || contains(ClassSet::Attribute, class),
+        _ => contains(ClassSet::Attribute, class),
+    }
+}
+
+fn bare_goes_on(class: Class) -> bool
+    ensures { result ≡ begins_pending Bare class }
+{
+    match class {
+        Class::Int | Class::OpenRound => true,
+        _ => contains(ClassSet::Attribute, class),
+    }
+}
+
+fn pending_next(tokens: &[Token], at: usize, state: &Pending<'_>) -> bool
+    requires { at ≤ length tokens.now }
+    ensures { result ≡ comes (begins_pending (pending_of state.now)) (drop at tokens.now) }
+{
+    at < tokens.len() && begins(state, tokens[at].class)
+}
+
+#[tactic(auto, unfolding(pg_grammar::specs::Reader::settled_at))]
+fn settled(
+    alloc: Global,
+    tokens: &[Token],
+    at: usize,
+    state: Pending<'_>,
+) -> Result<(ValNode, usize), ReadError>
+    requires { at ≤ length tokens.now }
+    ensures { Reads tokens.now at (λ x. val_of x.0) (λ x. x.1) result (settled_at (pending_of state.entry) (drop at tokens.now)) }
+{
+    if next_is(tokens, at, Class::Refused) {
+        return Err(ReadError::Refused(unsupported(at)));
+    }
+    match state {
+        Pending::Bare => other_value(alloc, tokens, at, 64),
+        Pending::Held(number) => {
+            if next_in(tokens, at, ClassSet::Value) {
+                return value(alloc, tokens, at, 64);
+            }
+            Ok((ValNode::Int(literal(alloc, number)?), at))
+        }
+        _ => value(alloc, tokens, at, 64),
+    }
+}
+
+#[tactic(auto, unfolding(pg_grammar::specs::Reader::attributed_at))]
+fn attributed(alloc: Global, tokens: &[Token], at: usize) -> Result<(ValNode, usize), ReadError>
+    requires { at ≤ length tokens.now }
+    ensures { Reads tokens.now at (λ x. val_of x.0) (λ x. x.1) result (attributed_at (drop at tokens.now)) }
+{
+    let mut state = Pending::Fresh;
+    let mut place = at;
+    'items: while pending_next(tokens, place, &state) {
+        match take_pending(tokens, place, state) {
+            Err(refusal) => return Err(ReadError::Refused(refusal)),
+            Ok((next, to)) => {
+                state = next;
+                place = to;
+            }
+        }
+    }
+    settled(alloc, tokens, place, state)
+}
+
+/// An argument of a call.
+pub fn argument(alloc: Global, tokens: &[Token], at: usize) -> Result<(ArgNode, usize), ReadError>
+    requires { at ≤ length tokens.now }
+    ensures { Reads tokens.now at (λ x. typed_of x.0) (λ x. x.1) result (argument_at (drop at tokens.now)) }
+{
+    let (ty, at) = type_node(alloc, tokens, at, 64)?;
+    let (value, at) = attributed(alloc, tokens, at)?;
+    Ok((TypedVal { ty, value }, at))
+}
