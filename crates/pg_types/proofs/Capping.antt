@@ -4,7 +4,7 @@ use Rattle.std.proofs.lemmas.Bool.{cases_lt}
 use Rattle.std.proofs.Math.Nat.{zero-mul, suc-mul, min-eq_left, min-eq_right}
 use Rattle.pg_num.specs.declared.width.Width.{Width}
 use Rattle.pg_num.specs.declared.width.Width.TheVariants.{W1, W8, W16, W32, W64}
-use Rattle.pg_num.specs.declared.limits.TheConstants.{SIZE_LIMIT}
+use Rattle.pg_types.specs.declared.cap.TheConstants.{LAYOUT_CAP}
 use Rattle.pg_types.specs.declared.layout.Layout.{Layout}
 use Rattle.pg_types.specs.Resolved.{ResolvedType, IntegerType, PointerType, VoidType, ArrayType, NoFields, MoreFields}
 use Rattle.pg_types.specs.Layout.{bytes_of, round_up, size_of, fields_end, alignment_of}
@@ -54,7 +54,7 @@ min_times n s c = by_order n (cases_lt s c)
 
 pub array_layout : (n : ℕ) (l r : Layout) → r.size ≡ capped (n * l.size) → r.fields_end ≡ 0 → r.alignment ≡ l.alignment → (t : ResolvedType) → IsLayout l t → IsLayout r (ArrayType n t)
 unfolding size_of fields_end alignment_of
-array_layout n l r s e a t h = record { size = s ∙ ap (λ s. capped (n * s)) h.size ∙ min_times n (size_of t) (SIZE_LIMIT + 1); fields_end = e; alignment = a ∙ h.alignment }
+array_layout n l r s e a t h = record { size = s ∙ ap (λ s. capped (n * s)) h.size ∙ min_times n (size_of t) LAYOUT_CAP; fields_end = e; alignment = a ∙ h.alignment }
 
 -- ---- structures
 
@@ -91,11 +91,11 @@ rounds_up n a (inr (inl e)) = subst (λ b. n ≤ round_up n b) (sym e) (omega ar
 rounds_up n a (inr (inr (inl e))) = subst (λ b. n ≤ round_up n b) (sym e) (omega arith)
 rounds_up n a (inr (inr (inr e))) = subst (λ b. n ≤ round_up n b) (sym e) (omega arith)
 
-limit_rounds : (a : ℕ) → IsAlignment a → round_up (SIZE_LIMIT + 1) a ≡ SIZE_LIMIT + 1
-limit_rounds a (inl e) = ap (λ b. round_up (SIZE_LIMIT + 1) b) e
-limit_rounds a (inr (inl e)) = ap (λ b. round_up (SIZE_LIMIT + 1) b) e
-limit_rounds a (inr (inr (inl e))) = ap (λ b. round_up (SIZE_LIMIT + 1) b) e
-limit_rounds a (inr (inr (inr e))) = ap (λ b. round_up (SIZE_LIMIT + 1) b) e
+limit_rounds : (a : ℕ) → IsAlignment a → round_up LAYOUT_CAP a ≡ LAYOUT_CAP
+limit_rounds a (inl e) = ap (λ b. round_up LAYOUT_CAP b) e
+limit_rounds a (inr (inl e)) = ap (λ b. round_up LAYOUT_CAP b) e
+limit_rounds a (inr (inr (inl e))) = ap (λ b. round_up LAYOUT_CAP b) e
+limit_rounds a (inr (inr (inr e))) = ap (λ b. round_up LAYOUT_CAP b) e
 
 -- a further part at the next multiple of its alignment
 min_placed : (x y a c : ℕ) → round_up c a ≡ c → x ≤ round_up x a → min (round_up (min x c) a + min y c) c ≡ min (round_up x a + y) c
@@ -124,10 +124,10 @@ min_rounded x a c r u = by_order (cases_lt x c)
         ap (λ z. min (round_up z a) c) (min-eq_right l) ∙ ap (λ z. min z c) r ∙ min-eq_right d ∙ sym (min-eq_right b)
 
 placed : (x y a : ℕ) → IsAlignment a → capped (round_up (capped x) a + capped y) ≡ capped (round_up x a + y)
-placed x y a h = min_placed x y a (SIZE_LIMIT + 1) (limit_rounds a h) (rounds_up x a h)
+placed x y a h = min_placed x y a LAYOUT_CAP (limit_rounds a h) (rounds_up x a h)
 
 rounded : (x a : ℕ) → IsAlignment a → capped (round_up (capped x) a) ≡ capped (round_up x a)
-rounded x a h = min_rounded x a (SIZE_LIMIT + 1) (limit_rounds a h) (rounds_up x a h)
+rounded x a h = min_rounded x a LAYOUT_CAP (limit_rounds a h) (rounds_up x a h)
 
 pub field_layout : (f l r : Layout) → r.fields_end ≡ capped (round_up f.fields_end l.alignment + l.size) → r.alignment ≡ max f.alignment l.alignment → r.size ≡ capped (round_up r.fields_end r.alignment)
     → (s t : ResolvedType) → IsLayout f s → IsLayout l t → IsLayout r (MoreFields s t)

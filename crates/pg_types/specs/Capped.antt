@@ -1,12 +1,12 @@
--- Layouts as they are kept: exact up to the largest size that a type may have, and one more for all that is larger.
-use Rattle.std.specs.Prelude.{◌≡◌, ℕ, ◌+◌, min}
-use Rattle.pg_num.specs.declared.limits.TheConstants.{SIZE_LIMIT}
+-- Layouts as they are kept: exact up to a number of bytes, and this number for all that is larger.
+use Rattle.std.specs.Prelude.{◌≡◌, ℕ, min}
+use Rattle.pg_types.specs.declared.cap.TheConstants.{LAYOUT_CAP}
 use Rattle.pg_types.specs.declared.layout.Layout.{Layout}
 use Rattle.pg_types.specs.Resolved.{ResolvedType}
 use Rattle.pg_types.specs.Layout.{size_of, fields_end, alignment_of}
 
 abbrev pub capped : ℕ → ℕ
-capped n = min n (SIZE_LIMIT + 1)
+capped n = min n LAYOUT_CAP
 
 -- the layout of a type
 pub record IsLayout (l : Layout) (t : ResolvedType) : Type 0 where

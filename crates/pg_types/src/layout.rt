@@ -1,16 +1,15 @@
-ghost use Rattle.std.specs.Prelude.{◌≤◌, ◌+◌};
-ghost use Rattle.pg_num.specs.declared.limits.TheConstants.{SIZE_LIMIT};
+ghost use Rattle.std.specs.Prelude.{◌≤◌};
+ghost use Rattle.pg_types.specs.declared.cap.TheConstants.{LAYOUT_CAP};
 
-/// How a type lies in memory, in bytes. A size or an end that is over the limit of types is kept as one more than the
-/// limit.
+/// How a type lies in memory, in bytes. A size or an end over `LAYOUT_CAP` is kept as that number.
 #[derive(Clone, Copy, Debug, PartialEq, Eq)]
 pub struct Layout {
     pub size: u32,
     /// Where the last field of a structure ends, before its end is rounded up; 0 of other types.
     pub fields_end: u32,
     pub alignment: u32,
-    ghost size_fits: { size ≤ SIZE_LIMIT + 1 },
-    ghost end_fits: { fields_end ≤ SIZE_LIMIT + 1 },
+    ghost size_fits: { size ≤ LAYOUT_CAP },
+    ghost end_fits: { fields_end ≤ LAYOUT_CAP },
     ghost aligned: { 1 ≤ alignment },
     ghost alignment_fits: { alignment ≤ 8 },
 }

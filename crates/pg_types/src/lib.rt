@@ -1,6 +1,7 @@
 //! Types with their names read through: their numbers in a table, how they lie in memory, and literals of a width.
 #![tactic(auto)]
 
+mod cap;
 mod items;
 mod kind;
 mod layout;
@@ -12,11 +13,12 @@ mod shape;
 mod table;
 mod types;
 
+pub use cap::LAYOUT_CAP;
 pub use items::{index_items, item_numbers};
 pub use kind::TypeKind;
 pub use layout::Layout;
 pub use literals::{element_count, literal_in};
-pub use measures::round_up;
+pub use measures::{bytes_of, round_up};
 pub use names::{index_names, place_of_name};
 pub use resolving::type_number;
 pub use shape::Shape;

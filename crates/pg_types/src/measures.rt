@@ -1,31 +1,33 @@
 ghost use Rattle.std.specs.Prelude.{◌≡◌, ◌≤◌, ◌<◌, ◌+◌};
+ghost use Rattle.pg_types.specs.declared.cap.TheConstants.{LAYOUT_CAP};
 ghost use Rattle.pg_types.specs.Resolved.{ResolvedType, ArrayType, NoFields, MoreFields, PointerType, VoidType, IntegerType};
 ghost use Rattle.pg_types.specs.Layout.{round_up, bytes_of};
 ghost use Rattle.pg_types.specs.Capped.{capped, IsLayout};
 
+use crate::cap::LAYOUT_CAP;
 use crate::layout::Layout;
 use pg_num::Width;
-use pg_num::limits::SIZE_LIMIT;
 
 fn capped(bytes: u128) -> u32
     ensures value { result ≡ capped bytes }
-    ensures small { result ≤ SIZE_LIMIT + 1 }
+    ensures small { result ≤ LAYOUT_CAP }
 {
-    bytes.min(SIZE_LIMIT as u128 + 1) as u32
+    bytes.min(LAYOUT_CAP as u128) as u32
 }
 
 /// The next multiple of an alignment.
 pub fn round_up(at: u32, alignment: u32) -> u32
     requires least { 1 ≤ alignment }
     requires greatest { alignment ≤ 8 }
-    requires small { at ≤ SIZE_LIMIT + 1 }
+    requires small { at ≤ LAYOUT_CAP }
     ensures value { result ≡ round_up at alignment }
     ensures near { result < at + alignment }
 {
     (at + (alignment - 1)) / alignment * alignment
 }
 
-fn bytes_of(width: Width) -> u32
+/// The bytes that an integer of a width takes in memory.
+pub fn bytes_of(width: Width) -> u32
     ensures value { result ≡ bytes_of width }
     ensures least { 1 ≤ result }
     ensures greatest { result ≤ 8 }

@@ -117,7 +117,7 @@ impl<'a> TypeNumbers<'a> {
     }
 
     /// Whether the types of two numbers are the same; so they are where there is no number.
-    fn agree_by_number(&self, one: Option<usize>, other: Option<usize>) -> bool
+    pub fn agree_by_number(&self, one: Option<usize>, other: Option<usize>) -> bool
         requires one { IsWithin (table_of self.now) one }
         requires other { IsWithin (table_of self.now) other }
         ensures { result ≡ agree (denoted (table_of self.now) one) (denoted (table_of self.now) other) }
