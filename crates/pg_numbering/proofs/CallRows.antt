@@ -18,13 +18,13 @@ use Rattle.pg_ast.specs.declared.names.Name.{Name}
 use Rattle.pg_ast.specs.Syntax.{Ty, Val, Int, True, False, Null, Undef, Poison, ZeroInitializer, Local, Global, GepVal, IntToPtrVal, Typed, Written, Op, Call, Param, Dparam, ParamOf, Metadata, Dots, NamedType, Definition, Tree}
 use Rattle.pg_ast.specs.Numbers.{is_void, gives, numbered}
 use Rattle.pg_types.specs.Resolved.{ResolvedType, PointerType, resolved, is_pointer}
-use Rattle.pg_check.specs.Names.{Symbol, VariableOf, DefinitionOf, DeclarationOf, NoSymbol, symbol, registers_of, register_named, result_type, first_block}
-use Rattle.pg_check.specs.Places.{type_span}
-use Rattle.pg_check.specs.Written.{typed_operand, op_types, written_types, asks_typed, op_demands}
-use Rattle.pg_check.specs.ValueConditions.{unknown_symbol, unknown_value}
-use Rattle.pg_check.specs.CallConditions.{definition_header, declaration_header, header_of, param_type, param_types, known_of, is_create_known, is_create, variable_symbol, callee_params, is_callable, wrong_header, argument_demands, call_demands, wrong_number, thread_functions, value_operands, is_pointer_param, is_thread_header, wrong_thread, unsupported_thread, unsupported_thread_symbol}
-use Rattle.pg_check.specs.Conditions.{scope_of, is_scalar_type, are_params, IsAccepted}
-use Rattle.pg_check.specs.Numbered.{scalar_in, value_of, symbol_value, typed_value, known_call, call_of, op_at, named_functions, program_of}
+use Rattle.pg_rules.specs.Names.{Symbol, VariableOf, DefinitionOf, DeclarationOf, NoSymbol, symbol, registers_of, register_named, result_type, first_block}
+use Rattle.pg_rules.specs.Places.{type_span}
+use Rattle.pg_rules.specs.Written.{typed_operand, op_types, written_types, asks_typed, op_demands}
+use Rattle.pg_rules.specs.ValueConditions.{unknown_symbol, unknown_value}
+use Rattle.pg_rules.specs.CallConditions.{definition_header, declaration_header, header_of, param_type, param_types, known_of, is_create_known, is_create, variable_symbol, callee_params, is_callable, wrong_header, argument_demands, call_demands, wrong_number, thread_functions, value_operands, is_pointer_param, is_thread_header, wrong_thread, unsupported_thread, unsupported_thread_symbol}
+use Rattle.pg_rules.specs.Conditions.{scope_of, is_scalar_type, are_params, IsAccepted}
+use Rattle.pg_rules.specs.Numbered.{scalar_in, value_of, symbol_value, typed_value, known_call, call_of, op_at, named_functions, program_of}
 use Rattle.pg_types.specs.Kinds.{is_as, fails}
 use Rattle.pg_numbering.proofs.Flat.{some_is, behind_get, there_at, map_count, front_at, in_front}
 use Rattle.pg_numbering.proofs.Unrefused.{front_none, behind_none, else_none, then_none}

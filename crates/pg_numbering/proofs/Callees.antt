@@ -7,13 +7,13 @@ use Rattle.pg_ir.specs.declared.known.Known.{Known}
 use Rattle.pg_ir.specs.Signatures.{parameters_of, returned_by}
 use Rattle.pg_ast.specs.Syntax.{Ty, Written, Declaration, Definition, NamedType, Tree}
 use Rattle.pg_ast.specs.Numbers.{numbered}
-use Rattle.pg_check.specs.KnownNames.{known_named}
+use Rattle.pg_rules.specs.KnownNames.{known_named}
 use Rattle.pg_types.specs.Resolved.{resolved}
-use Rattle.pg_check.specs.Names.{Symbol, VariableOf, DefinitionOf, DeclarationOf, NoSymbol}
-use Rattle.pg_check.specs.Places.{type_span}
-use Rattle.pg_check.specs.ValueConditions.{unknown_symbol}
-use Rattle.pg_check.specs.CallConditions.{agree, Header, definition_header, declaration_header, written_fit, variable_symbol, unsupported_symbol, wrong_header}
-use Rattle.pg_check.specs.Conditions.{is_result, are_params, IsAccepted}
+use Rattle.pg_rules.specs.Names.{Symbol, VariableOf, DefinitionOf, DeclarationOf, NoSymbol}
+use Rattle.pg_rules.specs.Places.{type_span}
+use Rattle.pg_rules.specs.ValueConditions.{unknown_symbol}
+use Rattle.pg_rules.specs.CallConditions.{agree, Header, definition_header, declaration_header, written_fit, variable_symbol, unsupported_symbol, wrong_header}
+use Rattle.pg_rules.specs.Conditions.{is_result, are_params, IsAccepted}
 use Rattle.pg_numbering.proofs.Unrefused.{else_none}
 use Rattle.pg_numbering.proofs.Resolves.{Has}
 use Rattle.pg_numbering.proofs.Scalars.{agreed}

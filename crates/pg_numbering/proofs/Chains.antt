@@ -14,11 +14,11 @@ use Rattle.std.proofs.lemmas.Option.{slice_get-map}
 use Rattle.pg_ast.specs.declared.names.Name.{Name}
 use Rattle.pg_ast.specs.Syntax.{Ty, NamedType, Tree}
 use Rattle.pg_ast.specs.Numbers.{type_named}
-use Rattle.pg_check.specs.declared.fault.CheckKind.TheVariants.{UnknownName, WrongType}
+use Rattle.pg_rules.specs.declared.fault.CheckKind.TheVariants.{UnknownName, WrongType}
 use Rattle.pg_types.specs.Resolved.{type_by, type_within, resolved}
-use Rattle.pg_check.specs.Written.{types_within}
-use Rattle.pg_check.specs.TypeConditions.{unknown_type, wrong_type, unknown_types, wrong_types}
-use Rattle.pg_check.specs.Conditions.{names_in, names_of_item, meets, self_contained, item_refused, IsAccepted}
+use Rattle.pg_rules.specs.Written.{types_within}
+use Rattle.pg_rules.specs.TypeConditions.{unknown_type, wrong_type, unknown_types, wrong_types}
+use Rattle.pg_rules.specs.Conditions.{names_in, names_of_item, meets, self_contained, item_refused, IsAccepted}
 use Rattle.pg_numbering.proofs.Fuel.{Below, within_plus}
 use Rattle.pg_numbering.proofs.Flat.{some_is}
 use Rattle.pg_numbering.proofs.Unrefused.{front_none, behind_none, items_pass}

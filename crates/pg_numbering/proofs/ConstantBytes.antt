@@ -9,10 +9,10 @@ use Rattle.pg_num.specs.declared.width.Width.TheVariants.{W1, W8, W16, W32, W64}
 use Rattle.pg_ast.specs.Syntax.{Ty, Val, Const, Consts, ValConst, BytesConst, ArrayConst, StructConst, NoConsts, MoreConsts, NamedType, Tree}
 use Rattle.pg_types.specs.Resolved.{ResolvedType, IntegerType, PointerType, VoidType, ArrayType, NoFields, MoreFields, same_type, resolved}
 use Rattle.pg_types.specs.Layout.{bytes_of, round_up, alignment_of, size_of, fields_end, field_list}
-use Rattle.pg_check.specs.Places.{type_span}
-use Rattle.pg_check.specs.Written.{const_types, part_types}
-use Rattle.pg_check.specs.ValueConditions.{part_count, fits_bytes, fits_elements, wrong_part, wrong_const, wrong_elements, wrong_fields}
-use Rattle.pg_check.specs.Constants.{constant_word, pointer_word, little_endian, filled, value_bytes, const_bytes, element_bytes, field_bytes, unless_zero, trimmed}
+use Rattle.pg_rules.specs.Places.{type_span}
+use Rattle.pg_rules.specs.Written.{const_types, part_types}
+use Rattle.pg_rules.specs.ValueConditions.{part_count, fits_bytes, fits_elements, wrong_part, wrong_const, wrong_elements, wrong_fields}
+use Rattle.pg_rules.specs.Constants.{constant_word, pointer_word, little_endian, filled, value_bytes, const_bytes, element_bytes, field_bytes, unless_zero, trimmed}
 use Rattle.pg_types.specs.Kinds.{is_as, fails}
 use Rattle.pg_numbering.proofs.Unrefused.{front_none, behind_none, then_none}
 use Rattle.pg_numbering.proofs.SameTypes.{same_type_is}

@@ -5,9 +5,9 @@ use Rattle.std.specs.List.{list_any}
 use Rattle.std.proofs.lemmas.Bool.{and_parts}
 use Rattle.pg_ast.specs.Syntax.{Op, Binary, Icmp, Cast, Select, Phi, Br, CondBr, Switch, Call, RetVoid, Ret, Unreachable, Alloca, Load, Store, GetElementPtr, Line, Block, NamedType, Definition, Tree}
 use Rattle.pg_ast.specs.Numbers.{each_at, line_at, behind_line, block_at, after}
-use Rattle.pg_check.specs.Written.{is_ending}
-use Rattle.pg_check.specs.Conditions.{IsAccepted}
-use Rattle.pg_check.specs.Numbered.{named_functions}
+use Rattle.pg_rules.specs.Written.{is_ending}
+use Rattle.pg_rules.specs.Conditions.{IsAccepted}
+use Rattle.pg_rules.specs.Numbered.{named_functions}
 use Rattle.pg_grammar.specs.GrammarItems.{ends_block}
 use Rattle.pg_grammar.specs.Endings.{ends_last, end_last}
 use Rattle.pg_numbering.specs.Parsed.{IsInOrder}

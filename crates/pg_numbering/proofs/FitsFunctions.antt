@@ -19,16 +19,16 @@ use Rattle.pg_ir.specs.Edges.{is_phi, instrs_of, phis_of}
 use Rattle.pg_ir.specs.WellFormed.{FitsFunction, FitsBlock, IsInFunction, IsInBlock, IsMain}
 use Rattle.pg_ast.specs.Syntax.{Line, Block, Param, ParamOf, Definition, Tree}
 use Rattle.pg_ast.specs.Numbers.{gives, numbered}
-use Rattle.pg_check.specs.declared.fault.CheckKind.TheVariants.{NoBlock, TooLarge}
-use Rattle.pg_check.specs.Names.{Register, line_register, block_registers, param_register, registers_of, register, result_type, line_count, first_block, first_line}
-use Rattle.pg_check.specs.Written.{is_ending, is_phi_op}
+use Rattle.pg_rules.specs.declared.fault.CheckKind.TheVariants.{NoBlock, TooLarge}
+use Rattle.pg_rules.specs.Names.{Register, line_register, block_registers, param_register, registers_of, register, result_type, line_count, first_block, first_line}
+use Rattle.pg_rules.specs.Written.{is_ending, is_phi_op}
 use Rattle.pg_types.specs.Resolved.{resolved}
-use Rattle.pg_check.specs.BlockConditions.{is_endless}
-use Rattle.pg_check.specs.TypeConditions.{any_large}
-use Rattle.pg_check.specs.CallConditions.{definition_header}
-use Rattle.pg_check.specs.LineConditions.{line_refused}
-use Rattle.pg_check.specs.Conditions.{all_of, head_types, scope_of, all_lines, is_unfinished, body_refused, definition_refused, main_name, is_result, are_params, IsAccepted}
-use Rattle.pg_check.specs.Numbered.{named_functions, function_at, instr_at, program_of}
+use Rattle.pg_rules.specs.BlockConditions.{is_endless}
+use Rattle.pg_rules.specs.TypeConditions.{any_large}
+use Rattle.pg_rules.specs.CallConditions.{definition_header}
+use Rattle.pg_rules.specs.LineConditions.{line_refused}
+use Rattle.pg_rules.specs.Conditions.{all_of, head_types, scope_of, all_lines, is_unfinished, body_refused, definition_refused, main_name, is_result, are_params, IsAccepted}
+use Rattle.pg_rules.specs.Numbered.{named_functions, function_at, instr_at, program_of}
 use Rattle.pg_numbering.proofs.Flat.{some_is, sum_within, there_at, front_at, rest_at}
 use Rattle.pg_numbering.proofs.Unrefused.{front_none, at_if_none, bodies_pass, definitions_pass, named_from, main_is}
 use Rattle.pg_numbering.proofs.Naming.{block_count, first_block_named, first_line_named, all_lines_named, has_name}

@@ -12,10 +12,10 @@ use Rattle.pg_ast.specs.declared.names.Name.{Name}
 use Rattle.pg_ast.specs.Syntax.{Line, Block, Op, Binary, Icmp, Cast, Select, Phi, Br, CondBr, Switch, Call, RetVoid, Ret, Unreachable, Alloca, Load, Store, GetElementPtr, Definition, Tree}
 use Rattle.pg_ast.specs.Numbers.{gives}
 use Rattle.pg_types.specs.Resolved.{resolved}
-use Rattle.pg_check.specs.Names.{result_type, first_block, first_line}
-use Rattle.pg_check.specs.Written.{is_ending}
-use Rattle.pg_check.specs.Conditions.{scope_of, IsAccepted}
-use Rattle.pg_check.specs.Numbered.{scalar_in, number_of_name, result_at, instr_at, op_at, named_functions, program_of}
+use Rattle.pg_rules.specs.Names.{result_type, first_block, first_line}
+use Rattle.pg_rules.specs.Written.{is_ending}
+use Rattle.pg_rules.specs.Conditions.{scope_of, IsAccepted}
+use Rattle.pg_rules.specs.Numbered.{scalar_in, number_of_name, result_at, instr_at, op_at, named_functions, program_of}
 use Rattle.pg_numbering.specs.Parsed.{IsInOrder}
 use Rattle.pg_numbering.proofs.Placed.{lines_in, line_found, block_there}
 use Rattle.pg_numbering.proofs.Lines.{IsLine}

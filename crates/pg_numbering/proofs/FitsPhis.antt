@@ -14,13 +14,13 @@ use Rattle.pg_ir.specs.Edges.{is_phi, successors, sources_of}
 use Rattle.pg_ir.specs.WellFormed.{FitsPhi, IsPhi, IsInFunction}
 use Rattle.pg_ast.specs.declared.names.Name.{Name}
 use Rattle.pg_ast.specs.Syntax.{Line, Block, Definition, Tree}
-use Rattle.pg_check.specs.declared.fault.CheckKind.TheVariants.{BadPhi}
-use Rattle.pg_check.specs.Names.{labels_of, label_number, first_block, first_line}
-use Rattle.pg_check.specs.Written.{label_targets, label_sources, is_phi_op, is_ending}
-use Rattle.pg_check.specs.BlockConditions.{phi_span, has_text, goes_to, label_if, predecessors, same_labels, are_labels, wrong_sources, behind_phis, bad_phis}
-use Rattle.pg_check.specs.LineConditions.{no_block}
-use Rattle.pg_check.specs.Conditions.{scope_of, body_refused, IsAccepted}
-use Rattle.pg_check.specs.Numbered.{named_functions, instr_at, op_at, program_of}
+use Rattle.pg_rules.specs.declared.fault.CheckKind.TheVariants.{BadPhi}
+use Rattle.pg_rules.specs.Names.{labels_of, label_number, first_block, first_line}
+use Rattle.pg_rules.specs.Written.{label_targets, label_sources, is_phi_op, is_ending}
+use Rattle.pg_rules.specs.BlockConditions.{phi_span, has_text, goes_to, label_if, predecessors, same_labels, are_labels, wrong_sources, behind_phis, bad_phis}
+use Rattle.pg_rules.specs.LineConditions.{no_block}
+use Rattle.pg_rules.specs.Conditions.{scope_of, body_refused, IsAccepted}
+use Rattle.pg_rules.specs.Numbered.{named_functions, instr_at, op_at, program_of}
 use Rattle.pg_numbering.specs.Parsed.{IsInOrder}
 use Rattle.pg_numbering.proofs.Flat.{some_is, Numbered, enumerate_get, behind_get, there_at, rest_at, in_front}
 use Rattle.pg_numbering.proofs.Unrefused.{front_none, behind_none, each_none, else_none, bodies_pass}

@@ -10,7 +10,7 @@ use Rattle.pg_ast.specs.declared.names.Name.{Name}
 use Rattle.pg_ast.specs.Syntax.{Line, Block, Param, NamedType, Definition}
 use Rattle.pg_ast.specs.Numbers.{decimal_text, name_at, after_name, after, each_at, behind_all, param_at, behind_param, gives, result_at, after_result, line_at, behind_line, block_at, behind_block, numbered}
 use Rattle.pg_types.specs.Resolved.{ResolvedType}
-use Rattle.pg_check.specs.Names.{Register, register, result_type, param_register, line_register, block_registers, registers_of, labels_of}
+use Rattle.pg_rules.specs.Names.{Register, register, result_type, param_register, line_register, block_registers, registers_of, labels_of}
 use Rattle.pg_grammar.specs.NameOrder.{written, lines_names, block_names, written_names, ascend}
 use Rattle.pg_numbering.proofs.Decimals.{decimal_number, decimal_digits}
 use Rattle.pg_numbering.proofs.Each.{all_both, all_on}

@@ -8,15 +8,15 @@ use Rattle.pg_num.specs.declared.limits.TheConstants.{SIZE_LIMIT, GLOBAL_LIMIT}
 use Rattle.pg_num.specs.declared.layout.TheConstants.{GLOBALS_END}
 use Rattle.pg_ir.specs.WellFormed.{LieFrom, granules_for}
 use Rattle.pg_ast.specs.Syntax.{Ty, Variable, Tree}
-use Rattle.pg_check.specs.declared.fault.CheckKind.TheVariants.{UnknownName, WrongType, TooLarge}
+use Rattle.pg_rules.specs.declared.fault.CheckKind.TheVariants.{UnknownName, WrongType, TooLarge}
 use Rattle.pg_types.specs.Resolved.{ResolvedType, resolved}
 use Rattle.pg_types.specs.Layout.{size_or_none}
-use Rattle.pg_check.specs.Written.{Use, const_types, own_types, asks, isnt_void}
-use Rattle.pg_check.specs.TypeConditions.{unknown_types, wrong_types, any_large, unmet}
-use Rattle.pg_check.specs.ValueConditions.{wrong_const, wrong_use, unknown_value}
-use Rattle.pg_check.specs.Constants.{start_granule, const_bytes, bytes_at, trimmed}
-use Rattle.pg_check.specs.Numbered.{global_at, program_of}
-use Rattle.pg_check.specs.Conditions.{global_uses, global_types, granules_of, globals_end, outside, global_refused, IsAccepted}
+use Rattle.pg_rules.specs.Written.{Use, const_types, own_types, asks, isnt_void}
+use Rattle.pg_rules.specs.TypeConditions.{unknown_types, wrong_types, any_large, unmet}
+use Rattle.pg_rules.specs.ValueConditions.{wrong_const, wrong_use, unknown_value}
+use Rattle.pg_rules.specs.Constants.{start_granule, const_bytes, bytes_at, trimmed}
+use Rattle.pg_rules.specs.Numbered.{global_at, program_of}
+use Rattle.pg_rules.specs.Conditions.{global_uses, global_types, granules_of, globals_end, outside, global_refused, IsAccepted}
 use Rattle.pg_numbering.proofs.Flat.{Numbered, take_more, there_at}
 use Rattle.pg_numbering.proofs.Unrefused.{front_none, behind_none, at_if_none, globals_pass}
 use Rattle.pg_numbering.proofs.Resolves.{Has}

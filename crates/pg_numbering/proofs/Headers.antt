@@ -12,12 +12,12 @@ use Rattle.pg_ir.specs.declared.value.Scalar.TheVariants as scalar
 use Rattle.pg_ir.specs.Signatures.{parameters_of, returned_by}
 use Rattle.pg_ast.specs.Syntax.{Ty, Param, ParamOf, Declaration, Definition, Tree}
 use Rattle.pg_ast.specs.Numbers.{numbered}
-use Rattle.pg_check.specs.declared.fault.CheckKind.TheVariants.{UnknownName, WrongType, BadSignature}
-use Rattle.pg_check.specs.KnownNames.{known_named}
+use Rattle.pg_rules.specs.declared.fault.CheckKind.TheVariants.{UnknownName, WrongType, BadSignature}
+use Rattle.pg_rules.specs.KnownNames.{known_named}
 use Rattle.pg_types.specs.Resolved.{ResolvedType, resolved, is_scalar}
-use Rattle.pg_check.specs.CallConditions.{definition_header, declaration_header, param_type, is_resolved}
-use Rattle.pg_check.specs.Conditions.{head_types, is_returnable, has_header, has_other_header, main_name, wrong_main, wrong_known, wrong_definition, definition_refused, declaration_refused, IsAccepted}
-use Rattle.pg_check.specs.Numbered.{named_functions}
+use Rattle.pg_rules.specs.CallConditions.{definition_header, declaration_header, param_type, is_resolved}
+use Rattle.pg_rules.specs.Conditions.{head_types, is_returnable, has_header, has_other_header, main_name, wrong_main, wrong_known, wrong_definition, definition_refused, declaration_refused, IsAccepted}
+use Rattle.pg_rules.specs.Numbered.{named_functions}
 use Rattle.pg_types.specs.Kinds.{fails}
 use Rattle.pg_numbering.proofs.Unrefused.{at_if_none, declarations_pass, definitions_pass}
 use Rattle.pg_numbering.proofs.Resolves.{Has}

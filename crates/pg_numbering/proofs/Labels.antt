@@ -16,12 +16,12 @@ use Rattle.pg_ast.specs.declared.ops.BinaryOp.TheVariants as binary
 use Rattle.pg_ast.specs.declared.ops.CastOp.{CastOp}
 use Rattle.pg_ast.specs.declared.ops.CastOp.TheVariants as cast
 use Rattle.pg_ast.specs.Syntax.{Ty, Case, Block, Op, Binary, Icmp, Cast, Select, Phi, Br, CondBr, Switch, Call, RetVoid, Ret, Unreachable, Alloca, Load, Store, GetElementPtr, Definition, Tree}
-use Rattle.pg_check.specs.Names.{Symbol, VariableOf, DefinitionOf, DeclarationOf, NoSymbol, symbol, labels_of, label_number, first_block}
-use Rattle.pg_check.specs.Written.{label_targets, label_sources, is_ending}
-use Rattle.pg_check.specs.CallConditions.{known_of}
-use Rattle.pg_check.specs.LineConditions.{no_block}
-use Rattle.pg_check.specs.Conditions.{scope_of, IsAccepted}
-use Rattle.pg_check.specs.Numbered.{named_functions, case_at, binary_op, cast_op, known_call, call_of, op_at, program_of}
+use Rattle.pg_rules.specs.Names.{Symbol, VariableOf, DefinitionOf, DeclarationOf, NoSymbol, symbol, labels_of, label_number, first_block}
+use Rattle.pg_rules.specs.Written.{label_targets, label_sources, is_ending}
+use Rattle.pg_rules.specs.CallConditions.{known_of}
+use Rattle.pg_rules.specs.LineConditions.{no_block}
+use Rattle.pg_rules.specs.Conditions.{scope_of, IsAccepted}
+use Rattle.pg_rules.specs.Numbered.{named_functions, case_at, binary_op, cast_op, known_call, call_of, op_at, program_of}
 use Rattle.pg_numbering.specs.Parsed.{IsInOrder}
 use Rattle.pg_numbering.proofs.Flat.{some_is, there_at}
 use Rattle.pg_numbering.proofs.Unrefused.{else_none, named_from}

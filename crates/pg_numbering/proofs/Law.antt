@@ -1,8 +1,8 @@
 -- The numbered program of an accepted tree, whose names and ending lines stand in order, is a program.
 use Rattle.pg_ir.specs.WellFormed.{IsProgram}
 use Rattle.pg_ast.specs.Syntax.{Tree}
-use Rattle.pg_check.specs.Conditions.{IsAccepted}
-use Rattle.pg_check.specs.Numbered.{program_of}
+use Rattle.pg_rules.specs.Conditions.{IsAccepted}
+use Rattle.pg_rules.specs.Numbered.{program_of}
 use Rattle.pg_numbering.specs.Parsed.{IsInOrder}
 use Rattle.pg_numbering.proofs.Globals.{globals_lie, few_globals}
 use Rattle.pg_numbering.proofs.FitsFunctions.{fits_function, fits_block, fits_main, few_functions, few_instrs}

@@ -4,19 +4,19 @@ use Rattle.std.specs.Prelude.{slice_get, Option, Some}
 use Rattle.std.specs.List.{flat_map}
 use Rattle.pg_ast.specs.Syntax.{Ty, Line, Block, NamedType, Definition, Tree}
 use Rattle.pg_ast.specs.Numbers.{gives}
-use Rattle.pg_check.specs.declared.fault.CheckKind.{CheckKind}
-use Rattle.pg_check.specs.declared.fault.CheckKind.TheVariants.{UnknownName, Doubled, WrongType, NoBlock, BadPhi, Unsupported, BadSignature, TooLarge, NoMain}
-use Rattle.pg_check.specs.Names.{labels_of}
+use Rattle.pg_rules.specs.declared.fault.CheckKind.{CheckKind}
+use Rattle.pg_rules.specs.declared.fault.CheckKind.TheVariants.{UnknownName, Doubled, WrongType, NoBlock, BadPhi, Unsupported, BadSignature, TooLarge, NoMain}
+use Rattle.pg_rules.specs.Names.{labels_of}
 use Rattle.pg_types.specs.Resolved.{ResolvedType, resolved}
-use Rattle.pg_check.specs.Places.{type_span}
-use Rattle.pg_check.specs.Written.{Use, Demand, op_demands, label_targets, label_sources}
-use Rattle.pg_check.specs.TypeConditions.{unknown_types, wrong_types, unmet}
-use Rattle.pg_check.specs.ValueConditions.{unknown_value, function_value, wrong_use}
-use Rattle.pg_check.specs.CallConditions.{call_demands, thread_functions, wrong_thread, unsupported_thread}
-use Rattle.pg_check.specs.LineConditions.{line_types, line_uses, unknown_callee, unsupported_callee, wrong_call, wrong_return, wrong_path, wrong_name, no_block, line_refused}
-use Rattle.pg_check.specs.Conditions.{at_if, all_of, own_names, body_names, scope_of, all_lines, is_unfinished, body_refused, IsAccepted}
-use Rattle.pg_check.specs.Names.{doubled}
-use Rattle.pg_check.specs.Numbered.{named_functions}
+use Rattle.pg_rules.specs.Places.{type_span}
+use Rattle.pg_rules.specs.Written.{Use, Demand, op_demands, label_targets, label_sources}
+use Rattle.pg_rules.specs.TypeConditions.{unknown_types, wrong_types, unmet}
+use Rattle.pg_rules.specs.ValueConditions.{unknown_value, function_value, wrong_use}
+use Rattle.pg_rules.specs.CallConditions.{call_demands, thread_functions, wrong_thread, unsupported_thread}
+use Rattle.pg_rules.specs.LineConditions.{line_types, line_uses, unknown_callee, unsupported_callee, wrong_call, wrong_return, wrong_path, wrong_name, no_block, line_refused}
+use Rattle.pg_rules.specs.Conditions.{at_if, all_of, own_names, body_names, scope_of, all_lines, is_unfinished, body_refused, IsAccepted}
+use Rattle.pg_rules.specs.Names.{doubled}
+use Rattle.pg_rules.specs.Numbered.{named_functions}
 use Rattle.pg_types.specs.Kinds.{fails}
 use Rattle.pg_numbering.proofs.Unrefused.{front_none, behind_none, each_none, then_none, bodies_pass}
 use Rattle.pg_numbering.proofs.Resolves.{Has}

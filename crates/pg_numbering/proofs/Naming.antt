@@ -5,8 +5,8 @@ use Rattle.std.proofs.lemmas.List.Sums.{sum_by-cons}
 use Rattle.pg_ast.specs.Syntax.{Line, Block, Param, NamedType, Definition, Tree}
 use Rattle.pg_ast.specs.declared.names.Name.{Name}
 use Rattle.pg_ast.specs.Numbers.{each_at, behind_all, name_at, param_at, behind_param, gives, result_at, line_at, behind_line, block_at, behind_block, after, numbered}
-use Rattle.pg_check.specs.Names.{line_count, first_block, first_line}
-use Rattle.pg_check.specs.Numbered.{named_functions}
+use Rattle.pg_rules.specs.Names.{line_count, first_block, first_line}
+use Rattle.pg_rules.specs.Numbered.{named_functions}
 use Rattle.pg_numbering.proofs.Flat.{some_is, sum_map, take_map}
 
 pub each_length : {X Y : Type 0} (behind : ℕ → X → ℕ) (give : ℕ → X → Y) (n : ℕ) (xs : List X) → length (each_at behind give n xs) ≡ length xs

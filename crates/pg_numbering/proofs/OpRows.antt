@@ -22,14 +22,14 @@ use Rattle.pg_ast.specs.declared.ops.CastOp.TheVariants as cast
 use Rattle.pg_ast.specs.Syntax.{Ty, Typed, Incoming, Case, Count, Op, Binary, Icmp, Cast, Select, Phi, Br, CondBr, Switch, RetVoid, Ret, Unreachable, Alloca, Load, Store, GetElementPtr, NamedType, Definition, Tree}
 use Rattle.pg_ast.specs.Numbers.{is_void, gives}
 use Rattle.pg_types.specs.Resolved.{ResolvedType, IntegerType, PointerType, VoidType, ArrayType, NoFields, MoreFields, resolved, is_integer, is_pointer, is_bit, is_scalar, is_void_type, same_type}
-use Rattle.pg_check.specs.Names.{result_type, labels_of, first_block}
-use Rattle.pg_check.specs.Written.{operand, typed_operand, operands, op_types, asks, asks_typed, is_narrower, is_wider, cast_from, cast_to, returns_as, op_demands, label_targets, label_sources}
-use Rattle.pg_check.specs.ValueConditions.{number_at}
-use Rattle.pg_check.specs.CallConditions.{value_operands}
-use Rattle.pg_check.specs.LineConditions.{no_block}
-use Rattle.pg_check.specs.Constants.{index_scales}
-use Rattle.pg_check.specs.Conditions.{scope_of, IsAccepted}
-use Rattle.pg_check.specs.Numbered.{scalar_in, width_in, value_of, binary_op, cast_op, incoming_at, case_at, indices_at, op_at, named_functions, program_of}
+use Rattle.pg_rules.specs.Names.{result_type, labels_of, first_block}
+use Rattle.pg_rules.specs.Written.{operand, typed_operand, operands, op_types, asks, asks_typed, is_narrower, is_wider, cast_from, cast_to, returns_as, op_demands, label_targets, label_sources}
+use Rattle.pg_rules.specs.ValueConditions.{number_at}
+use Rattle.pg_rules.specs.CallConditions.{value_operands}
+use Rattle.pg_rules.specs.LineConditions.{no_block}
+use Rattle.pg_rules.specs.Constants.{index_scales}
+use Rattle.pg_rules.specs.Conditions.{scope_of, IsAccepted}
+use Rattle.pg_rules.specs.Numbered.{scalar_in, width_in, value_of, binary_op, cast_op, incoming_at, case_at, indices_at, op_at, named_functions, program_of}
 use Rattle.pg_types.specs.Kinds.{is_as, fails}
 use Rattle.pg_numbering.specs.Parsed.{IsInOrder}
 use Rattle.pg_numbering.proofs.Flat.{some_is, in_front}

@@ -10,13 +10,13 @@ use Rattle.pg_ir.specs.WellFormed.{HasType}
 use Rattle.pg_ast.specs.declared.names.Name.{Name}
 use Rattle.pg_ast.specs.Syntax.{Ty, Val, Int, True, False, Null, Undef, Poison, ZeroInitializer, Local, Global, GepVal, IntToPtrVal, Op, Definition, Tree}
 use Rattle.pg_types.specs.Resolved.{ResolvedType, PointerType, resolved, is_pointer}
-use Rattle.pg_check.specs.Names.{Register, Symbol, VariableOf, DefinitionOf, DeclarationOf, NoSymbol, symbol, registers_of, register_named, register_number}
-use Rattle.pg_check.specs.Places.{val_span}
-use Rattle.pg_check.specs.Written.{Use, with_inner}
-use Rattle.pg_check.specs.ValueConditions.{unknown_symbol, function_symbol, unknown_value, function_value, wrong_register, wrong_symbol, is_wrong, wrong_use}
-use Rattle.pg_check.specs.CallConditions.{value_operands}
-use Rattle.pg_check.specs.Conditions.{scope_of, IsAccepted}
-use Rattle.pg_check.specs.Numbered.{scalar_in, symbol_value, value_of, named_functions, program_of}
+use Rattle.pg_rules.specs.Names.{Register, Symbol, VariableOf, DefinitionOf, DeclarationOf, NoSymbol, symbol, registers_of, register_named, register_number}
+use Rattle.pg_rules.specs.Places.{val_span}
+use Rattle.pg_rules.specs.Written.{Use, with_inner}
+use Rattle.pg_rules.specs.ValueConditions.{unknown_symbol, function_symbol, unknown_value, function_value, wrong_register, wrong_symbol, is_wrong, wrong_use}
+use Rattle.pg_rules.specs.CallConditions.{value_operands}
+use Rattle.pg_rules.specs.Conditions.{scope_of, IsAccepted}
+use Rattle.pg_rules.specs.Numbered.{scalar_in, symbol_value, value_of, named_functions, program_of}
 use Rattle.pg_numbering.proofs.Flat.{some_is, behind_get}
 use Rattle.pg_numbering.proofs.Unrefused.{front_none, else_none, then_none}
 use Rattle.pg_numbering.proofs.Scalars.{passes_from, pointer_is, same_from}

@@ -3,13 +3,13 @@ use Rattle.std.proofs.Common.{◌≡◌, ℕ, [], ◌++◌, true}
 use Rattle.std.specs.Prelude.{slice_get, Some}
 use Rattle.pg_ast.specs.declared.names.Name.{Name}
 use Rattle.pg_ast.specs.Syntax.{Ty, Val, Line, Op, Definition, Tree}
-use Rattle.pg_check.specs.Names.{labels_of}
+use Rattle.pg_rules.specs.Names.{labels_of}
 use Rattle.pg_types.specs.Resolved.{ResolvedType, resolved}
-use Rattle.pg_check.specs.Written.{Use, Demand, op_demands, label_targets, label_sources}
-use Rattle.pg_check.specs.ValueConditions.{unknown_value, function_value, wrong_use}
-use Rattle.pg_check.specs.CallConditions.{call_demands, thread_functions, wrong_thread, unsupported_thread}
-use Rattle.pg_check.specs.LineConditions.{line_types, line_uses, unknown_callee, unsupported_callee, wrong_call, wrong_return, no_block}
-use Rattle.pg_check.specs.Conditions.{scope_of, IsAccepted}
+use Rattle.pg_rules.specs.Written.{Use, Demand, op_demands, label_targets, label_sources}
+use Rattle.pg_rules.specs.ValueConditions.{unknown_value, function_value, wrong_use}
+use Rattle.pg_rules.specs.CallConditions.{call_demands, thread_functions, wrong_thread, unsupported_thread}
+use Rattle.pg_rules.specs.LineConditions.{line_types, line_uses, unknown_callee, unsupported_callee, wrong_call, wrong_return, no_block}
+use Rattle.pg_rules.specs.Conditions.{scope_of, IsAccepted}
 use Rattle.pg_numbering.proofs.Unrefused.{each_none}
 use Rattle.pg_numbering.proofs.Resolves.{Has}
 use Rattle.pg_numbering.proofs.Lines.{IsLine, unknown_values, known_callee, known_threads, line_type, line_demand, line_use, line_call, line_threads, line_return, line_labels, no_functions, supported_callee, supported_threads}

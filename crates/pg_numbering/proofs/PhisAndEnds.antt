@@ -12,12 +12,12 @@ use Rattle.pg_ast.specs.declared.ops.CastOp.TheVariants as cast
 use Rattle.pg_ast.specs.Syntax.{Op, Binary, Icmp, Cast, Select, Phi, Br, CondBr, Switch, Call, RetVoid, Ret, Unreachable, Alloca, Load, Store, GetElementPtr, Definition, Tree}
 use Rattle.pg_ast.specs.Numbers.{gives, is_void}
 use Rattle.pg_types.specs.Resolved.{ResolvedType, VoidType, is_scalar}
-use Rattle.pg_check.specs.Names.{Symbol, VariableOf, DefinitionOf, DeclarationOf, NoSymbol, symbol}
-use Rattle.pg_check.specs.Written.{asks, op_types, op_demands, is_phi_op, is_ending}
-use Rattle.pg_check.specs.ValueConditions.{Scope}
-use Rattle.pg_check.specs.CallConditions.{known_of, variable_symbol, wrong_header, header_of}
-use Rattle.pg_check.specs.Conditions.{scope_of}
-use Rattle.pg_check.specs.Numbered.{binary_op, cast_op, known_call, call_of, op_at}
+use Rattle.pg_rules.specs.Names.{Symbol, VariableOf, DefinitionOf, DeclarationOf, NoSymbol, symbol}
+use Rattle.pg_rules.specs.Written.{asks, op_types, op_demands, is_phi_op, is_ending}
+use Rattle.pg_rules.specs.ValueConditions.{Scope}
+use Rattle.pg_rules.specs.CallConditions.{known_of, variable_symbol, wrong_header, header_of}
+use Rattle.pg_rules.specs.Conditions.{scope_of}
+use Rattle.pg_rules.specs.Numbered.{binary_op, cast_op, known_call, call_of, op_at}
 use Rattle.pg_numbering.proofs.Flat.{some_is}
 use Rattle.pg_numbering.proofs.Unrefused.{front_none, behind_none}
 use Rattle.pg_numbering.proofs.Voids.{void_resolved}

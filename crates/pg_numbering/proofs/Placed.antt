@@ -10,9 +10,9 @@ use Rattle.pg_ir.specs.declared.function.Function.{Function}
 use Rattle.pg_ir.specs.declared.function.Block as numbered_block
 use Rattle.pg_ir.specs.declared.instr.Instr.{Instr}
 use Rattle.pg_ast.specs.Syntax.{Line, Block, Definition, Tree}
-use Rattle.pg_check.specs.Names.{line_count, first_block, first_line}
-use Rattle.pg_check.specs.Conditions.{scope_of}
-use Rattle.pg_check.specs.Numbered.{named_functions, blocks_from, function_at, function_instrs, instr_at, program_of}
+use Rattle.pg_rules.specs.Names.{line_count, first_block, first_line}
+use Rattle.pg_rules.specs.Conditions.{scope_of}
+use Rattle.pg_rules.specs.Numbered.{named_functions, blocks_from, function_at, function_instrs, instr_at, program_of}
 use Rattle.pg_numbering.proofs.Flat.{some_is, Numbered, enumerate_get, IsIn, HaveSize, pieces, found, stands, pieces_length, sum_within, map_count}
 use Rattle.pg_numbering.proofs.Naming.{block_count, first_block_named, first_line_named, all_lines_named}
 

@@ -13,11 +13,11 @@ use Rattle.pg_ir.specs.Program.{end_of}
 use Rattle.pg_ir.specs.Edges.{targets_in, successors, sources_of}
 use Rattle.pg_ast.specs.declared.names.Name.{Name}
 use Rattle.pg_ast.specs.Syntax.{Ty, Incoming, Line, Block, Op, Binary, Icmp, Cast, Select, Phi, Br, CondBr, Switch, Call, RetVoid, Ret, Unreachable, Alloca, Load, Store, GetElementPtr, Definition, Tree}
-use Rattle.pg_check.specs.Names.{labels_of, label_number, first_block, first_line}
-use Rattle.pg_check.specs.Written.{label_targets, label_sources, is_phi_op, is_ending}
-use Rattle.pg_check.specs.BlockConditions.{phi_word, block_targets, has_text, goes_to}
-use Rattle.pg_check.specs.Conditions.{scope_of, IsAccepted}
-use Rattle.pg_check.specs.Numbered.{named_functions, incoming_at, op_at, program_of}
+use Rattle.pg_rules.specs.Names.{labels_of, label_number, first_block, first_line}
+use Rattle.pg_rules.specs.Written.{label_targets, label_sources, is_phi_op, is_ending}
+use Rattle.pg_rules.specs.BlockConditions.{phi_word, block_targets, has_text, goes_to}
+use Rattle.pg_rules.specs.Conditions.{scope_of, IsAccepted}
+use Rattle.pg_rules.specs.Numbered.{named_functions, incoming_at, op_at, program_of}
 use Rattle.pg_numbering.specs.Parsed.{IsInOrder}
 use Rattle.pg_numbering.proofs.Flat.{some_is, there_at, in_front}
 use Rattle.pg_numbering.proofs.Placed.{lines_in, line_there}

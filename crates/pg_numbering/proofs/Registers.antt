@@ -12,12 +12,12 @@ use Rattle.pg_ir.specs.Program.{types_of, types_in, result_of, result_in}
 use Rattle.pg_ast.specs.declared.names.Name.{Name}
 use Rattle.pg_ast.specs.Syntax.{Line, Block, Param, Definition, Tree}
 use Rattle.pg_ast.specs.Numbers.{gives}
-use Rattle.pg_check.specs.declared.fault.CheckKind.TheVariants.{TooLarge}
+use Rattle.pg_rules.specs.declared.fault.CheckKind.TheVariants.{TooLarge}
 use Rattle.pg_types.specs.Resolved.{ResolvedType, resolved}
-use Rattle.pg_check.specs.Names.{Register, register, result_type, param_register, line_register, block_registers, registers_of, is_called, register_named, register_number, first_line, line_count}
-use Rattle.pg_check.specs.TypeConditions.{any_large}
-use Rattle.pg_check.specs.Conditions.{body_types, is_too_large, body_refused, IsAccepted}
-use Rattle.pg_check.specs.Numbered.{scalar_in, named_functions, program_of}
+use Rattle.pg_rules.specs.Names.{Register, register, result_type, param_register, line_register, block_registers, registers_of, is_called, register_named, register_number, first_line, line_count}
+use Rattle.pg_rules.specs.TypeConditions.{any_large}
+use Rattle.pg_rules.specs.Conditions.{body_types, is_too_large, body_refused, IsAccepted}
+use Rattle.pg_rules.specs.Numbered.{scalar_in, named_functions, program_of}
 use Rattle.pg_numbering.specs.Parsed.{IsInOrder}
 use Rattle.pg_numbering.proofs.Flat.{some_is, append_cases, front_get, behind_get}
 use Rattle.pg_numbering.proofs.Unrefused.{at_if_none, bodies_pass, named_from}

@@ -10,10 +10,10 @@ use Rattle.pg_ast.specs.declared.names.Name.{Name}
 use Rattle.pg_ast.specs.Syntax.{Ty, Tys, I1, I8, I16, I32, I64, Ptr, Void, Array, Struct, Named, NoTys, MoreTys, NamedType}
 use Rattle.pg_ast.specs.Numbers.{type_named}
 use Rattle.pg_types.specs.Resolved.{ResolvedType, IntegerType, PointerType, VoidType, ArrayType, NoFields, MoreFields, part_type, array_type, with_field, element_count, type_by, fields_by, type_within, resolved}
-use Rattle.pg_check.specs.Written.{type_list, types_within, types_within_all}
-use Rattle.pg_check.specs.TypeConditions.{is_void_part, unknown_type, void_part, wrong_count, wrong_type}
-use Rattle.pg_check.specs.Places.{type_span}
-use Rattle.pg_check.specs.Conditions.{names_in_types}
+use Rattle.pg_rules.specs.Written.{type_list, types_within, types_within_all}
+use Rattle.pg_rules.specs.TypeConditions.{is_void_part, unknown_type, void_part, wrong_count, wrong_type}
+use Rattle.pg_rules.specs.Places.{type_span}
+use Rattle.pg_rules.specs.Conditions.{names_in_types}
 use Rattle.pg_numbering.proofs.Fuel.{Below, type_keeps}
 use Rattle.pg_numbering.proofs.Flat.{some_is}
 use Rattle.pg_numbering.proofs.Unrefused.{front_none, behind_none, else_none, then_none}

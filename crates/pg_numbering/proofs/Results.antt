@@ -11,11 +11,11 @@ use Rattle.pg_ast.specs.declared.ops.CastOp.TheVariants.{Trunc, Zext, Sext, PtrT
 use Rattle.pg_ast.specs.Syntax.{Ty, Written, Op, Binary, Icmp, Cast, Select, Phi, Br, CondBr, Switch, Call, RetVoid, Ret, Unreachable, Alloca, Load, Store, GetElementPtr, Definition, Tree}
 use Rattle.pg_ast.specs.Numbers.{is_void, gives, numbered}
 use Rattle.pg_types.specs.Resolved.{ResolvedType, IntegerType, PointerType, VoidType, ArrayType, NoFields, MoreFields, resolved, is_integer, is_scalar, is_void_type}
-use Rattle.pg_check.specs.Names.{Symbol, symbol, result_type}
-use Rattle.pg_check.specs.Written.{asks, asks_typed, is_narrower, is_wider, cast_to, op_types, op_demands}
-use Rattle.pg_check.specs.CallConditions.{header_of, variable_symbol, wrong_header}
-use Rattle.pg_check.specs.Conditions.{is_result, IsAccepted}
-use Rattle.pg_check.specs.Numbered.{scalar_in}
+use Rattle.pg_rules.specs.Names.{Symbol, symbol, result_type}
+use Rattle.pg_rules.specs.Written.{asks, asks_typed, is_narrower, is_wider, cast_to, op_types, op_demands}
+use Rattle.pg_rules.specs.CallConditions.{header_of, variable_symbol, wrong_header}
+use Rattle.pg_rules.specs.Conditions.{is_result, IsAccepted}
+use Rattle.pg_rules.specs.Numbered.{scalar_in}
 use Rattle.pg_numbering.proofs.Unrefused.{front_none, behind_none}
 use Rattle.pg_numbering.proofs.Resolves.{Has}
 use Rattle.pg_numbering.proofs.Voids.{resolved_void}

@@ -8,9 +8,9 @@ use Rattle.pg_ir.specs.declared.value.Scalar.{Scalar}
 use Rattle.pg_ir.specs.declared.value.Scalar.TheVariants as scalar
 use Rattle.pg_ast.specs.Syntax.{Ty, NamedType}
 use Rattle.pg_types.specs.Resolved.{ResolvedType, IntegerType, PointerType, VoidType, ArrayType, NoFields, MoreFields, resolved, is_integer, is_pointer, is_scalar, is_void_type}
-use Rattle.pg_check.specs.CallConditions.{agree, is_resolved}
-use Rattle.pg_check.specs.Conditions.{is_scalar_type, is_result, is_returnable}
-use Rattle.pg_check.specs.Numbered.{scalar_in}
+use Rattle.pg_rules.specs.CallConditions.{agree, is_resolved}
+use Rattle.pg_rules.specs.Conditions.{is_scalar_type, is_result, is_returnable}
+use Rattle.pg_rules.specs.Numbered.{scalar_in}
 use Rattle.pg_types.specs.Kinds.{is_as, fails}
 use Rattle.pg_numbering.proofs.SameTypes.{same_type_is, same_width_is}
 use Rattle.pg_numbering.proofs.Resolves.{Has}

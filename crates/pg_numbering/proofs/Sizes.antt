@@ -9,12 +9,12 @@ use Rattle.pg_num.specs.declared.limits.TheConstants.{SIZE_LIMIT}
 use Rattle.pg_num.specs.declared.width.Width.TheVariants.{W1, W8, W16, W32, W64}
 use Rattle.pg_ast.specs.Syntax.{Ty, I1, I8, I16, I32, I64, Ptr, Void, Array, Struct, Named, NamedType, Tree}
 use Rattle.pg_ast.specs.Numbers.{type_named}
-use Rattle.pg_check.specs.declared.fault.CheckKind.TheVariants.{TooLarge}
+use Rattle.pg_rules.specs.declared.fault.CheckKind.TheVariants.{TooLarge}
 use Rattle.pg_types.specs.Resolved.{ResolvedType, IntegerType, PointerType, VoidType, type_by, type_within, resolved}
 use Rattle.pg_types.specs.Layout.{size_of, size_or_none}
-use Rattle.pg_check.specs.Written.{types_within}
-use Rattle.pg_check.specs.TypeConditions.{is_large, any_large}
-use Rattle.pg_check.specs.Conditions.{item_refused, IsAccepted}
+use Rattle.pg_rules.specs.Written.{types_within}
+use Rattle.pg_rules.specs.TypeConditions.{is_large, any_large}
+use Rattle.pg_rules.specs.Conditions.{item_refused, IsAccepted}
 use Rattle.pg_numbering.proofs.Fuel.{Below, type_keeps, within_plus}
 use Rattle.pg_numbering.proofs.Flat.{some_is}
 use Rattle.pg_numbering.proofs.Unrefused.{at_if_none, items_pass}

@@ -4,7 +4,7 @@ use Rattle.std.specs.Prelude.{slice_get, Option, Some, None}
 use Rattle.std.specs.List.{find, enumerate_from}
 use Rattle.std.specs.Str.{bytes_eq}
 use Rattle.pg_ast.specs.Syntax.{Variable, Declaration, Definition, Tree}
-use Rattle.pg_check.specs.Names.{Symbol, VariableOf, DefinitionOf, DeclarationOf, NoSymbol, declared_as, defined_as, variable_as, symbol}
+use Rattle.pg_rules.specs.Names.{Symbol, VariableOf, DefinitionOf, DeclarationOf, NoSymbol, declared_as, defined_as, variable_as, symbol}
 use Rattle.pg_numbering.proofs.Flat.{Numbered}
 use Rattle.pg_numbering.proofs.Firsts.{from_find, enumerate_found}
 

@@ -11,11 +11,11 @@ use Rattle.std.proofs.lemmas.List.{map-append}
 use Rattle.pg_ast.specs.declared.names.Name.{Name}
 use Rattle.pg_ast.specs.Syntax.{Param, NamedType, Definition, Tree}
 use Rattle.pg_ast.specs.Numbers.{each_at, param_at, behind_param, name_at, numbered}
-use Rattle.pg_check.specs.declared.fault.CheckKind.TheVariants.{Doubled}
-use Rattle.pg_check.specs.Names.{Register, param_register, block_registers, registers_of, labels_of, doubled, symbol_names}
-use Rattle.pg_check.specs.LineConditions.{line_refused}
-use Rattle.pg_check.specs.Conditions.{all_of, own_names, body_names, param_names, scope_of, all_lines, definition_refused, body_refused, IsAccepted}
-use Rattle.pg_check.specs.Numbered.{named_functions}
+use Rattle.pg_rules.specs.declared.fault.CheckKind.TheVariants.{Doubled}
+use Rattle.pg_rules.specs.Names.{Register, param_register, block_registers, registers_of, labels_of, doubled, symbol_names}
+use Rattle.pg_rules.specs.LineConditions.{line_refused}
+use Rattle.pg_rules.specs.Conditions.{all_of, own_names, body_names, param_names, scope_of, all_lines, definition_refused, body_refused, IsAccepted}
+use Rattle.pg_rules.specs.Numbered.{named_functions}
 use Rattle.pg_grammar.specs.NameOrder.{written_names, ascend}
 use Rattle.pg_numbering.specs.Parsed.{IsInOrder}
 use Rattle.pg_numbering.proofs.Flat.{some_is, front_get, behind_get, map_count}

@@ -8,11 +8,11 @@ use Rattle.std.proofs.lemmas.Option.{slice_get-map}
 use Rattle.pg_lex.specs.declared.token.Span.{Span}
 use Rattle.pg_ast.specs.Syntax.{NamedType, Variable, Declaration, Definition, Tree}
 use Rattle.pg_ast.specs.Numbers.{numbered}
-use Rattle.pg_check.specs.declared.fault.CheckKind.{CheckKind}
-use Rattle.pg_check.specs.declared.fault.CheckKind.TheVariants.{NoMain}
-use Rattle.pg_check.specs.Names.{line_count, first_line}
-use Rattle.pg_check.specs.Numbered.{named_functions}
-use Rattle.pg_check.specs.Conditions.{Part, at_if, all_of, item_refused, global_refused, declaration_refused, definition_refused, body_refused, bodies, has_main, main_refused, heads_refused, phases, RefuseNothing, IsAccepted}
+use Rattle.pg_rules.specs.declared.fault.CheckKind.{CheckKind}
+use Rattle.pg_rules.specs.declared.fault.CheckKind.TheVariants.{NoMain}
+use Rattle.pg_rules.specs.Names.{line_count, first_line}
+use Rattle.pg_rules.specs.Numbered.{named_functions}
+use Rattle.pg_rules.specs.Conditions.{Part, at_if, all_of, item_refused, global_refused, declaration_refused, definition_refused, body_refused, bodies, has_main, main_refused, heads_refused, phases, RefuseNothing, IsAccepted}
 use Rattle.pg_numbering.proofs.Flat.{enumerate_get, some_is, Numbered}
 use Rattle.pg_numbering.proofs.Tests.{not_false}
 

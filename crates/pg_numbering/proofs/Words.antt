@@ -14,11 +14,11 @@ use Rattle.pg_ir.specs.WellFormed.{width_of}
 use Rattle.pg_ast.specs.Syntax.{Val, Int, True, False, Null, Undef, Poison, ZeroInitializer, Local, Global, GepVal, IntToPtrVal, Variable, Tree}
 use Rattle.pg_types.specs.Resolved.{ResolvedType, IntegerType, PointerType, VoidType, ArrayType, NoFields, MoreFields, resolved}
 use Rattle.pg_types.specs.Layout.{size_or_none}
-use Rattle.pg_check.specs.Names.{Symbol, VariableOf, DefinitionOf, DeclarationOf, NoSymbol, symbol}
-use Rattle.pg_check.specs.ValueConditions.{constant_number, number_at}
-use Rattle.pg_check.specs.Constants.{start_granule, global_pointer, symbol_word, pointer_word, constant_word}
-use Rattle.pg_check.specs.Conditions.{IsAccepted}
-use Rattle.pg_check.specs.Numbered.{scalar_in}
+use Rattle.pg_rules.specs.Names.{Symbol, VariableOf, DefinitionOf, DeclarationOf, NoSymbol, symbol}
+use Rattle.pg_rules.specs.ValueConditions.{constant_number, number_at}
+use Rattle.pg_rules.specs.Constants.{start_granule, global_pointer, symbol_word, pointer_word, constant_word}
+use Rattle.pg_rules.specs.Conditions.{IsAccepted}
+use Rattle.pg_rules.specs.Numbered.{scalar_in}
 use Rattle.pg_numbering.proofs.Flat.{some_is}
 use Rattle.pg_numbering.proofs.Symbols.{variable_there}
 use Rattle.pg_numbering.proofs.Globals.{start_below, size_fits}

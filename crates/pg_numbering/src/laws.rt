@@ -4,8 +4,8 @@ ghost use Rattle.std.specs.Prelude.{ℕ, List};
 ghost use Rattle.pg_ast.specs.Syntax.{Tree};
 ghost use Rattle.pg_grammar.specs.Accepted.{IsModule};
 ghost use Rattle.pg_ir.specs.WellFormed.{IsProgram};
-ghost use Rattle.pg_check.specs.Conditions.{IsAccepted};
-ghost use Rattle.pg_check.specs.Numbered.{program_of};
+ghost use Rattle.pg_rules.specs.Conditions.{IsAccepted};
+ghost use Rattle.pg_rules.specs.Numbered.{program_of};
 ghost use Rattle.pg_numbering.specs.Parsed.{IsInOrder};
 
 use pg_grammar::laws::{a_module_ends_its_blocks, a_module_orders_its_names};

@@ -1,0 +1,11 @@
+mod Examples
+mod RefusalExamples
+mod ItemExamples
+pub mod ConstantNumbers
+pub mod Doubles
+mod EarliestPlaces
+mod OtherLengths
+pub mod Parts
+pub mod Rows
+pub mod SymbolPlaces
+pub mod TypeLists

@@ -1,0 +1,12 @@
+use Rattle.std.proofs.Common.{◌≡◌, drop}
+use Rattle.std.specs.List.{list_all}
+use Rattle.pg_types.specs.NumberedTypes.{named_types}
+use Rattle.pg_rules.specs.Nodes.{tys_behind}
+use Rattle.pg_rules.specs.CallConditions.{is_resolved}
+use Rattle.pg_rules.proofs.signatures.are_types.Given as goal
+
+abbrev pub invariant-loop-ty : goal.invariant-loop-ty
+invariant-loop-ty l = record {
+  whole : list_all (is_resolved (named_types l.fn.types)) (tys_behind l.all) ≡ list_all (is_resolved (named_types l.fn.types)) (tys_behind (drop l.ty-index l.all));
+  items : l.types.items ≡ l.fn.types.items;
+}

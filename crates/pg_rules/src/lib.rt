@@ -1,0 +1,33 @@
+//! The rules of program texts: what is refused, and which numbered program an accepted text stands for; and what each part
+//! of the checks looks up.
+#![tactic(auto)]
+
+mod earliest;
+mod fault;
+mod integers;
+mod known;
+mod own_names;
+mod places;
+mod refusals;
+mod signatures;
+mod starts;
+mod symbol_names;
+mod symbols;
+mod type_rows;
+mod values;
+mod within;
+
+pub use earliest::{earlier, place_if};
+pub use fault::{CheckFault, CheckKind};
+pub use integers::{constant_number, index_numbers, literal_at, number_at};
+pub use known::known_named;
+pub use own_names::{param_names, references};
+pub use places::{type_span, val_span};
+pub use refusals::{Refusal, Refusals, earlier_places, first_refusal, no_refusals};
+pub use signatures::{are_params, are_types, is_result};
+pub use starts::{doubled, doubled_among, doubled_names, index_starts};
+pub use symbol_names::symbol_starts;
+pub use symbols::{SymbolNode, Symbols, index_symbols, symbol};
+pub use type_rows::{any_large, unknown_types, wrong_types};
+pub use values::is_misplaced;
+pub use within::{add_types_within, all_within};

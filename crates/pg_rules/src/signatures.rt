@@ -1,0 +1,121 @@
+ghost use Rattle.std.specs.Prelude.{◌≡◌, IfOk, Option, not, ◌&&◌, map, length, ◌<◌};
+ghost use Rattle.std.specs.List.{list_all};
+ghost use Rattle.std.specs.Option.{option_map};
+ghost use Rattle.pg_ast.specs.Syntax.{Dparam};
+ghost use Rattle.pg_ast.specs.Views.{ty_of, dparam_of};
+ghost use Rattle.pg_types.specs.Resolved.{ResolvedType, resolved, same_width};
+ghost use Rattle.pg_types.specs.Kinds.{kind_of};
+ghost use Rattle.pg_types.specs.NumberedTypes.{named_types};
+ghost use Rattle.pg_rules.specs.Nodes.{tys_behind};
+ghost use Rattle.pg_rules.specs.CallConditions.{is_resolved};
+ghost use Rattle.pg_rules.specs.Conditions.{is_scalar_type, is_result, are_params};
+ghost use Rattle.pg_rules.specs.Signatures.{is_param};
+
+use pg_ast::{DparamNode, TypeNode};
+use pg_ir::Scalar;
+use pg_num::Width;
+use pg_types::{TypeKind, TypeNumbers};
+use std::alloc::AllocError;
+
+fn same_width(one: Width, other: Width) -> bool
+    ensures { result ≡ same_width one other }
+{
+    one.bits() == other.bits()
+}
+
+fn is_scalar_kind(scalar: Scalar, kind: Option<TypeKind>) -> bool
+    ensures { (t : Option ResolvedType) → kind ≡ option_map kind_of t → result ≡ is_scalar_type scalar t }
+{
+    match (scalar, kind) {
+        (Scalar::Int(one), Some(TypeKind::Integer(other))) => same_width(one, other),
+        (Scalar::Ptr, Some(TypeKind::Pointer)) => true,
+        _ => false,
+    }
+}
+
+/// Whether a type is this scalar.
+fn is_scalar_type(
+    types: &mut TypeNumbers<'_>,
+    scalar: Scalar,
+    ty: &TypeNode,
+) -> Result<bool, AllocError>
+    ensures same { IfOk result (λ b. b ≡ is_scalar_type scalar (resolved (named_types types.old) (ty_of ty.now))) }
+    ensures items { types.new.items ≡ types.old.items }
+{
+    let kind = types.kind(ty)?;
+    Ok(is_scalar_kind(scalar, kind))
+}
+
+/// Whether a type is this result, or `void` where there is none.
+pub fn is_result(
+    types: &mut TypeNumbers<'_>,
+    scalar: Option<Scalar>,
+    ty: &TypeNode,
+) -> Result<bool, AllocError>
+    ensures same { IfOk result (λ b. b ≡ is_result scalar (resolved (named_types types.old) (ty_of ty.now))) }
+    ensures items { types.new.items ≡ types.old.items }
+{
+    match scalar {
+        Some(scalar) => is_scalar_type(types, scalar, ty),
+        None => match types.kind(ty)? {
+            Some(TypeKind::Void) => Ok(true),
+            _ => Ok(false),
+        },
+    }
+}
+
+fn is_param(
+    types: &mut TypeNumbers<'_>,
+    scalar: Scalar,
+    param: &DparamNode,
+) -> Result<bool, AllocError>
+    ensures same { IfOk result (λ b. b ≡ is_param (named_types types.old) scalar (dparam_of param.now)) }
+    ensures items { types.new.items ≡ types.old.items }
+{
+    match param {
+        DparamNode::Param(param) => is_scalar_type(types, scalar, &param.ty),
+        DparamNode::Metadata(_) => Ok(false),
+        DparamNode::Dots(_) => Ok(false),
+    }
+}
+
+/// Whether parameters have just these types.
+pub fn are_params(
+    types: &mut TypeNumbers<'_>,
+    scalars: &[Scalar],
+    params: &[DparamNode],
+) -> Result<bool, AllocError>
+    ensures same { IfOk result (λ b. b ≡ are_params (named_types types.old) scalars.now (map dparam_of params.now)) }
+    ensures items { types.new.items ≡ types.old.items }
+{
+    if scalars.len() != params.len() {
+        return Ok(false);
+    }
+    for index in 0..scalars.len() {
+        if !is_param(types, scalars[index], &params[index])? {
+            return Ok(false);
+        }
+    }
+    Ok(true)
+}
+
+fn is_type(types: &mut TypeNumbers<'_>, ty: &TypeNode) -> Result<bool, AllocError>
+    ensures same { IfOk result (λ b. b ≡ is_resolved (named_types types.old) (ty_of ty.now)) }
+    ensures items { types.new.items ≡ types.old.items }
+{
+    let kind = types.kind(ty)?;
+    Ok(kind.is_some())
+}
+
+/// Whether each of these is a type.
+pub fn are_types(types: &mut TypeNumbers<'_>, all: &[&TypeNode]) -> Result<bool, AllocError>
+    ensures same { IfOk result (λ b. b ≡ list_all (is_resolved (named_types types.old)) (tys_behind all.now)) }
+    ensures items { types.new.items ≡ types.old.items }
+{
+    for ty in all {
+        if !is_type(types, ty)? {
+            return Ok(false);
+        }
+    }
+    Ok(true)
+}
