@@ -1,0 +1,2 @@
+mod RegisterLists
+pub mod Voids

@@ -1,0 +1,10 @@
+//! The names of a function's own: its labels and its registers.
+#![tactic(auto)]
+
+mod naming;
+mod numbered_names;
+mod register_type;
+mod results;
+
+pub use naming::{OwnNames, own_names};
+pub use register_type::RegisterType;

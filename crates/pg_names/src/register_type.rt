@@ -1,0 +1,9 @@
+use pg_ast::TypeNode;
+
+/// The type of a register: the one that is written for it, or what its instruction always gives.
+#[derive(Clone, Copy, Debug)]
+pub enum RegisterType<'a> {
+    Written(&'a TypeNode),
+    Bit,
+    Pointer,
+}

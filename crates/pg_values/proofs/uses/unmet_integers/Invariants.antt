@@ -1,0 +1,13 @@
+use Rattle.std.proofs.Common.{◌≡◌, map, take}
+use Rattle.std.specs.List.{flat_map}
+use Rattle.pg_ast.specs.Views.{typed_of}
+use Rattle.pg_types.specs.NumberedTypes.{named_types}
+use Rattle.pg_rules.specs.Earliest.{earliest}
+use Rattle.pg_values.specs.Uses.{integer_row}
+use Rattle.pg_values.proofs.uses.unmet_integers.Given as goal
+
+abbrev pub invariant-loop-index : goal.invariant-loop-index
+invariant-loop-index l = record {
+  found : l.found ≡ earliest (flat_map (integer_row (named_types l.fn.types)) (map typed_of (take l.index-index l.indices)));
+  items : l.types.items ≡ l.fn.types.items;
+}

@@ -1,0 +1,19 @@
+use Rattle.std.proofs.Common.{map, sym, ap, ◌∙◌}
+use Rattle.pg_ast.specs.Views.{ty_of, val_of, typed_of}
+use Rattle.pg_types.specs.NumberedTypes.{named_types}
+use Rattle.pg_types.proofs.Resolutions.{if_ok}
+use Rattle.pg_rules.specs.ValueConditions.{wrong_indices, inner_indices}
+use Rattle.pg_rules.specs.Earliest.{earliest}
+use Rattle.pg_values.proofs.Inner.{gep_indices}
+use Rattle.pg_values.proofs.uses.wrong_own_indices.Goals as goal
+
+pub returns-in-GetElementPtr-clause-place : goal.returns-in-GetElementPtr-clause-place
+returns-in-GetElementPtr-clause-place c =
+    let types = named_types c.args.types.now in
+    let p = c.in-GetElementPtr in
+    if_ok c.wrong_indices.result
+    (λ o h. h
+    ∙ ap (λ is. earliest (wrong_indices types (ty_of p.ty) (map typed_of is))) c.as_slice.ensures.value
+    ∙ ap (λ xs. earliest xs) (sym (gep_indices types p.field-0 p.ty p.field-2 p.field-3 p.indices))
+    ∙ ap (λ x. earliest (inner_indices types (val_of x))) (sym p.is))
+    c.wrong_indices.ensures.place

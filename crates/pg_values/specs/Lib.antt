@@ -1,0 +1,5 @@
+pub mod Scopes
+pub mod Tests
+pub mod Fields
+pub mod Steps
+pub mod Uses

@@ -1,0 +1,19 @@
+//! What values are refused for, at the types at which they stand.
+#![tactic(auto)]
+
+mod fields;
+mod indices;
+mod names;
+mod own_types;
+mod registers;
+mod scope;
+mod type_tests;
+mod uses;
+
+pub use fields::fields_of;
+pub use indices::wrong_indices;
+pub use names::{function_values, unknown_values};
+pub use own_types::add_own_types;
+pub use scope::ValueScope;
+pub use type_tests::{TypeTest, unmet, unmet_as};
+pub use uses::wrong_values;

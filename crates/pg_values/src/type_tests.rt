@@ -1,0 +1,103 @@
+ghost use Rattle.std.specs.Prelude.{◌≡◌, IfOk, Option};
+ghost use Rattle.std.specs.Option.{option_map};
+ghost use Rattle.pg_ast.specs.Views.{ty_of};
+ghost use Rattle.pg_types.specs.Resolved.{ResolvedType, resolved};
+ghost use Rattle.pg_types.specs.Kinds.{kind_of, fails, is_as};
+ghost use Rattle.pg_types.specs.NumberedTypes.{named_types};
+ghost use Rattle.pg_rules.specs.Written.{asks};
+ghost use Rattle.pg_rules.specs.TypeConditions.{unmet};
+ghost use Rattle.pg_rules.specs.Earliest.{earliest};
+ghost use Rattle.pg_values.specs.Tests.{test_of};
+
+use pg_ast::TypeNode;
+use pg_lex::Span;
+use pg_num::Width;
+use pg_rules::type_span;
+use pg_types::{TypeKind, TypeNumbers};
+use std::alloc::AllocError;
+
+/// What is asked of a type.
+#[derive(Clone, Copy, Debug, PartialEq, Eq)]
+pub enum TypeTest {
+    Integer,
+    /// An integer or a pointer.
+    Scalar,
+    Pointer,
+    /// `i1`, the type of conditions.
+    Bit,
+    NotVoid,
+}
+
+/// Whether a type of this kind is what is asked for.
+fn passes(test: TypeTest, kind: TypeKind) -> bool
+    ensures { (t : ResolvedType) → kind ≡ kind_of t → result ≡ test_of test t }
+{
+    match test {
+        TypeTest::Integer => match kind {
+            TypeKind::Integer(_) => true,
+            _ => false,
+        },
+        TypeTest::Scalar => match kind {
+            TypeKind::Integer(_) => true,
+            TypeKind::Pointer => true,
+            _ => false,
+        },
+        TypeTest::Pointer => match kind {
+            TypeKind::Pointer => true,
+            _ => false,
+        },
+        TypeTest::Bit => match kind {
+            TypeKind::Integer(Width::W1) => true,
+            _ => false,
+        },
+        TypeTest::NotVoid => match kind {
+            TypeKind::Void => false,
+            _ => true,
+        },
+    }
+}
+
+/// Whether a type that is one isn't what is asked for.
+pub(crate) fn fails_kind(test: TypeTest, kind: Option<TypeKind>) -> bool
+    ensures { (t : Option ResolvedType) → kind ≡ option_map kind_of t → result ≡ fails (test_of test) t }
+{
+    match kind {
+        Some(kind) => !passes(test, kind),
+        None => false,
+    }
+}
+
+/// The place of a type that isn't what is asked for.
+#[tactic(auto, unfolding(pg_rules::specs::Earliest::earliest))]
+pub fn unmet(
+    types: &mut TypeNumbers<'_>,
+    test: TypeTest,
+    ty: &TypeNode,
+) -> Result<Option<Span>, AllocError>
+    ensures place { IfOk result (λ o. o ≡ earliest (unmet (named_types types.old) (asks (test_of test) (ty_of ty.now)))) }
+    ensures items { types.new.items ≡ types.old.items }
+{
+    let kind = types.kind(ty)?;
+    if fails_kind(test, kind) {
+        Ok(Some(type_span(ty)))
+    } else {
+        Ok(None)
+    }
+}
+
+/// The place of a type that isn't the one that is expected.
+#[tactic(auto, unfolding(pg_rules::specs::Earliest::earliest))]
+pub fn unmet_as(
+    types: &mut TypeNumbers<'_>,
+    expected: &TypeNode,
+    ty: &TypeNode,
+) -> Result<Option<Span>, AllocError>
+    ensures place { IfOk result (λ o. o ≡ earliest (unmet (named_types types.old) (asks (is_as (resolved (named_types types.old) (ty_of expected.now))) (ty_of ty.now)))) }
+    ensures items { types.new.items ≡ types.old.items }
+{
+    if types.agree(expected, ty)? {
+        Ok(None)
+    } else {
+        Ok(Some(type_span(ty)))
+    }
+}

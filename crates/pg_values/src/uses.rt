@@ -1,0 +1,277 @@
+ghost use Rattle.std.specs.Prelude.{◌≡◌, ◌++◌, [], ◌∷◌, IfOk, Bool, Option, true, map, if◌then◌else◌};
+ghost use Rattle.std.specs.List.{flat_map};
+ghost use Rattle.std.specs.Option.{option_map};
+ghost use Rattle.pg_ast.specs.Syntax.{Int};
+ghost use Rattle.pg_ast.specs.Views.{ty_of, val_of, typed_of};
+ghost use Rattle.pg_types.specs.Resolved.{ResolvedType, resolved, is_integer, is_pointer};
+ghost use Rattle.pg_types.specs.Kinds.{kind_of, fails};
+ghost use Rattle.pg_types.specs.NumberedTypes.{named_types};
+ghost use Rattle.pg_rules.specs.Names.{symbol};
+ghost use Rattle.pg_rules.specs.Places.{val_span};
+ghost use Rattle.pg_rules.specs.TypeConditions.{unmet};
+ghost use Rattle.pg_rules.specs.Written.{Use, asks, isnt_void, with_inner, inner_uses, constant_at, own_demands};
+ghost use Rattle.pg_rules.specs.ValueConditions.{Scope, fits, is_wrong, wrong_symbol, inner_indices, wrong_use};
+ghost use Rattle.pg_rules.specs.Earliest.{earliest};
+ghost use Rattle.pg_values.specs.Scopes.{IsScope};
+ghost use Rattle.pg_values.specs.Steps.{index_row};
+ghost use Rattle.pg_values.specs.Uses.{integer_row};
+
+use crate::indices::wrong_indices;
+use crate::registers::wrong_register;
+use crate::scope::ValueScope;
+use crate::type_tests::{TypeTest, fails_kind, unmet};
+use pg_ast::{Literal, Name, TypeNode, TypedVal, ValNode};
+use pg_lex::Span;
+use pg_rules::{SymbolNode, earlier, is_misplaced, symbol, val_span};
+use pg_types::{TypeKind, TypeNumbers, literal_in};
+use std::alloc::{AllocError, Global};
+
+/// Whether a global or a function of a name, if there is one, stands where no pointer may.
+fn wrong_symbol(
+    scope: &ValueScope<'_>,
+    types: &mut TypeNumbers<'_>,
+    ty: &TypeNode,
+    name: &Name,
+) -> Result<bool, AllocError>
+    ensures wrong { (g : Scope) → IsScope scope.now g → g.tree.types ≡ named_types types.old →
+        IfOk result (λ b. b ≡ wrong_symbol (resolved g.tree.types (ty_of ty.now)) (symbol g.tree name.now.text)) }
+    ensures items { types.new.items ≡ types.old.items }
+{
+    match symbol(scope.symbols, name.text.as_slice()) {
+        SymbolNode::Unknown => Ok(false),
+        _ => {
+            let kind = types.kind(ty)?;
+            Ok(fails_kind(TypeTest::Pointer, kind))
+        }
+    }
+}
+
+/// Whether a value may not stand at a type.
+fn is_wrong(
+    scope: &ValueScope<'_>,
+    types: &mut TypeNumbers<'_>,
+    constant: bool,
+    ty: &TypeNode,
+    value: &ValNode,
+) -> Result<bool, AllocError>
+    ensures wrong { (g : Scope) → IsScope scope.now g → g.tree.types ≡ named_types types.old →
+        IfOk result (λ b. b ≡ is_wrong g constant (resolved g.tree.types (ty_of ty.now)) (val_of value.now)) }
+    ensures items { types.new.items ≡ types.old.items }
+{
+    match value {
+        ValNode::Local(name) => wrong_register(scope, types, constant, ty, name),
+        ValNode::Global(name) => wrong_symbol(scope, types, ty, name),
+        _ => is_misplaced(types, ty, value),
+    }
+}
+
+/// The place of a value that may not stand at its type.
+#[tactic(auto, unfolding(pg_rules::specs::Earliest::earliest))]
+fn wrong_place(
+    scope: &ValueScope<'_>,
+    types: &mut TypeNumbers<'_>,
+    constant: bool,
+    ty: &TypeNode,
+    value: &ValNode,
+) -> Result<Option<Span>, AllocError>
+    ensures place { (g : Scope) → IsScope scope.now g → g.tree.types ≡ named_types types.old →
+        IfOk result (λ o. o ≡ earliest (if is_wrong g constant (resolved g.tree.types (ty_of ty.now)) (val_of value.now) then val_span (val_of value.now) ∷ [] else [])) }
+    ensures items { types.new.items ≡ types.old.items }
+{
+    if is_wrong(scope, types, constant, ty, value)? {
+        Ok(Some(val_span(value)))
+    } else {
+        Ok(None)
+    }
+}
+
+/// The earliest index whose type isn't an integer.
+fn unmet_integers(
+    types: &mut TypeNumbers<'_>,
+    indices: &[TypedVal],
+) -> Result<Option<Span>, AllocError>
+    ensures place { IfOk result (λ o. o ≡ earliest (flat_map (integer_row (named_types types.old)) (map typed_of indices.now))) }
+    ensures items { types.new.items ≡ types.old.items }
+{
+    let mut found = None;
+    for index in indices {
+        found = earlier(found, unmet(types, TypeTest::Integer, &index.ty)?);
+    }
+    Ok(found)
+}
+
+/// The earliest type of a `getelementptr` that isn't what it asks for.
+fn unmet_walk(
+    types: &mut TypeNumbers<'_>,
+    ty: &TypeNode,
+    pointer: &TypeNode,
+    indices: &[TypedVal],
+) -> Result<Option<Span>, AllocError>
+    ensures place { IfOk result (λ o. o ≡ earliest (unmet (named_types types.old) (asks isnt_void (ty_of ty.now))
+        ++ (unmet (named_types types.old) (asks is_pointer (ty_of pointer.now)) ++ flat_map (integer_row (named_types types.old)) (map typed_of indices.now)))) }
+    ensures items { types.new.items ≡ types.old.items }
+{
+    let first = unmet(types, TypeTest::NotVoid, ty)?;
+    let second = unmet(types, TypeTest::Pointer, pointer)?;
+    let others = unmet_integers(types, indices)?;
+    Ok(earlier(first, earlier(second, others)))
+}
+
+/// The earliest type of an `inttoptr` that isn't what it asks for.
+fn unmet_cast(
+    types: &mut TypeNumbers<'_>,
+    ty: &TypeNode,
+    pointer: &TypeNode,
+) -> Result<Option<Span>, AllocError>
+    ensures place { IfOk result (λ o. o ≡ earliest (unmet (named_types types.old) (asks is_integer (ty_of ty.now))
+        ++ (unmet (named_types types.old) (asks is_pointer (ty_of pointer.now)) ++ []))) }
+    ensures items { types.new.items ≡ types.old.items }
+{
+    let first = unmet(types, TypeTest::Integer, ty)?;
+    let second = unmet(types, TypeTest::Pointer, pointer)?;
+    Ok(earlier(first, second))
+}
+
+/// The earliest type in a value that isn't what the value asks for.
+#[tactic(auto, unfolding(pg_rules::specs::Earliest::earliest))]
+fn unmet_own(types: &mut TypeNumbers<'_>, value: &ValNode) -> Result<Option<Span>, AllocError>
+    ensures place { IfOk result (λ o. o ≡ earliest (flat_map (unmet (named_types types.old)) (own_demands (val_of value.now)))) }
+    ensures items { types.new.items ≡ types.old.items }
+{
+    match value {
+        ValNode::GetElementPtr(_, ty, pointer, _, indices) => {
+            unmet_walk(types, ty, pointer, indices.as_slice())
+        }
+        ValNode::IntToPtr(_, ty, _, pointer) => unmet_cast(types, ty, pointer),
+        _ => Ok(None),
+    }
+}
+
+/// The earliest index in a value that chooses no field, or goes into what has no parts.
+#[tactic(auto, unfolding(pg_rules::specs::Earliest::earliest))]
+fn wrong_own_indices(
+    alloc: Global,
+    types: &mut TypeNumbers<'_>,
+    value: &ValNode,
+) -> Result<Option<Span>, AllocError>
+    ensures place { IfOk result (λ o. o ≡ earliest (inner_indices (named_types types.old) (val_of value.now))) }
+    ensures items { types.new.items ≡ types.old.items }
+{
+    match value {
+        ValNode::GetElementPtr(_, ty, _, _, indices) => {
+            wrong_indices(alloc, types, ty, indices.as_slice())
+        }
+        _ => Ok(None),
+    }
+}
+
+/// The earliest place at which a value, those within it aside, doesn't fit.
+fn wrong_use(
+    alloc: Global,
+    scope: &ValueScope<'_>,
+    types: &mut TypeNumbers<'_>,
+    constant: bool,
+    ty: &TypeNode,
+    value: &ValNode,
+) -> Result<Option<Span>, AllocError>
+    ensures place { (g : Scope) → IsScope scope.now g → g.tree.types ≡ named_types types.old →
+        IfOk result (λ o. o ≡ earliest (wrong_use g (record { constant = constant; ty = ty_of ty.now; value = val_of value.now }))) }
+    ensures items { types.new.items ≡ types.old.items }
+{
+    let own = wrong_place(scope, types, constant, ty, value)?;
+    let asked = unmet_own(types, value)?;
+    let indices = wrong_own_indices(alloc, types, value)?;
+    Ok(earlier(own, earlier(asked, indices)))
+}
+
+fn misfit_literal(kind: Option<TypeKind>, literal: &Literal) -> bool
+    ensures { (t : Option ResolvedType) → kind ≡ option_map kind_of t → result ≡ fails (λ u. fits u (Int literal.now)) t }
+{
+    match kind {
+        Some(TypeKind::Integer(width)) => literal_in(width, literal.text.as_slice()).is_none(),
+        Some(_) => true,
+        None => false,
+    }
+}
+
+/// The place of an integer that doesn't fit the type that is written before it.
+#[tactic(auto, unfolding(pg_rules::specs::Earliest::earliest, pg_rules::specs::ValueConditions::wrong_use))]
+fn wrong_literal(
+    types: &mut TypeNumbers<'_>,
+    ty: &TypeNode,
+    literal: &Literal,
+) -> Result<Option<Span>, AllocError>
+    ensures place { (g : Scope) → g.tree.types ≡ named_types types.old →
+        IfOk result (λ o. o ≡ earliest (wrong_use g (constant_at (ty_of ty.now) (Int literal.now)))) }
+    ensures items { types.new.items ≡ types.old.items }
+{
+    let kind = types.kind(ty)?;
+    if misfit_literal(kind, literal) {
+        Ok(Some(literal.span))
+    } else {
+        Ok(None)
+    }
+}
+
+/// The earliest place at which a value within a value doesn't fit.
+#[cycle(wrong)]
+#[tactic(auto, unfolding(pg_rules::specs::Earliest::earliest, pg_rules::specs::Written::inner_uses, pg_rules::specs::Written::index_uses))]
+fn wrong_within(
+    alloc: Global,
+    scope: &ValueScope<'_>,
+    types: &mut TypeNumbers<'_>,
+    value: &ValNode,
+) -> Result<Option<Span>, AllocError>
+    ensures place { (g : Scope) → IsScope scope.now g → g.tree.types ≡ named_types types.old →
+        IfOk result (λ o. o ≡ earliest (flat_map (wrong_use g) (inner_uses (val_of value.now)))) }
+    ensures items { types.new.items ≡ types.old.items }
+{
+    match value {
+        ValNode::GetElementPtr(_, _, pointer, base, indices) => {
+            let own = wrong_use(alloc, scope, types, true, pointer, base)?;
+            let within = wrong_within(alloc, scope, types, base)?;
+            let others = wrong_index_uses(alloc, scope, types, indices.as_slice())?;
+            Ok(earlier(earlier(own, within), others))
+        }
+        ValNode::IntToPtr(_, ty, literal, _) => wrong_literal(types, ty, literal),
+        _ => Ok(None),
+    }
+}
+
+#[cycle(wrong)]
+fn wrong_index_uses(
+    alloc: Global,
+    scope: &ValueScope<'_>,
+    types: &mut TypeNumbers<'_>,
+    indices: &[TypedVal],
+) -> Result<Option<Span>, AllocError>
+    ensures place { (g : Scope) → IsScope scope.now g → g.tree.types ≡ named_types types.old →
+        IfOk result (λ o. o ≡ earliest (flat_map (index_row (wrong_use g)) (map typed_of indices.now))) }
+    ensures items { types.new.items ≡ types.old.items }
+{
+    let mut found = None;
+    for index in indices {
+        let own = wrong_use(alloc, scope, types, true, &index.ty, &index.value)?;
+        let within = wrong_within(alloc, scope, types, &index.value)?;
+        found = earlier(found, earlier(own, within));
+    }
+    Ok(found)
+}
+
+/// The earliest place at which a value or one within it doesn't fit.
+pub fn wrong_values(
+    alloc: Global,
+    scope: &ValueScope<'_>,
+    types: &mut TypeNumbers<'_>,
+    constant: bool,
+    ty: &TypeNode,
+    value: &ValNode,
+) -> Result<Option<Span>, AllocError>
+    ensures place { (g : Scope) → IsScope scope.now g → g.tree.types ≡ named_types types.old →
+        IfOk result (λ o. o ≡ earliest (flat_map (wrong_use g) (with_inner (record { constant = constant; ty = ty_of ty.now; value = val_of value.now })))) }
+    ensures items { types.new.items ≡ types.old.items }
+{
+    let own = wrong_use(alloc, scope, types, constant, ty, value)?;
+    let within = wrong_within(alloc, scope, types, value)?;
+    Ok(earlier(own, within))
+}
