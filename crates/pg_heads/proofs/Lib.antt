@@ -1,0 +1,11 @@
+mod NumberedHeads
+mod Reaching
+mod Searching
+mod NextPlaces
+mod PlaceLists
+mod NoCircles
+mod ConstantRows
+mod PartPlaces
+mod GlobalEnds
+mod GlobalParts
+mod OutsideScopes

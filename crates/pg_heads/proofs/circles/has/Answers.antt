@@ -1,0 +1,1 @@
+use Rattle.pg_heads.proofs.circles.has.Goals as goal

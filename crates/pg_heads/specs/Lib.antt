@@ -1,0 +1,4 @@
+pub mod Circles
+pub mod Initialisers
+pub mod Ends
+pub mod ConstantParts

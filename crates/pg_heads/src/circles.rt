@@ -1,0 +1,294 @@
+ghost use Rattle.std.specs.Prelude.{◌≡◌, ◌<◌, ◌++◌, ◌∷◌, [], ℕ, List, IfOk, OnOk, Some, true, false, length, map, get_or, replicate, is_some, slice_get};
+ghost use Rattle.std.specs.List.{flat_map, filter_map, cons_option};
+ghost use Rattle.pg_ast.specs.Syntax.{NamedType};
+ghost use Rattle.pg_ast.specs.Views.{ty_of, type_item_of};
+ghost use Rattle.pg_types.specs.NameIndex.{known_place};
+ghost use Rattle.pg_types.specs.NumberedTypes.{named_types};
+ghost use Rattle.pg_types.specs.Resolved.{resolved};
+ghost use Rattle.pg_rules.specs.Nodes.{tys_behind};
+ghost use Rattle.pg_rules.specs.Written.{types_within};
+ghost use Rattle.pg_rules.specs.Earliest.{earliest};
+ghost use Rattle.pg_rules.specs.Conditions.{names_in, names_in_types, meets, self_contained};
+ghost use Rattle.pg_heads.specs.Circles.{has, Noted, noted_seen, noted_next, place_of, place_of_name, places_in, places_of_item, next_places, arrives, circle_at};
+
+use indexmap::IndexMap;
+use pg_ast::{Name, TypeItem, TypeNode};
+use pg_lex::Span;
+use pg_rules::{add_types_within, earlier, place_if};
+use pg_types::{TypeNumbers, place_of_name};
+use std::alloc::{AllocError, Global};
+
+/// Notes a place that wasn't seen.
+fn note(seen: &mut Vec<bool>, next: &mut Vec<usize>, place: usize) -> Result<(), AllocError>
+    ensures seen { OnOk result (seen.new.items ≡ noted_seen seen.old.items place) }
+    ensures next { OnOk result (next.new.items ≡ noted_next seen.old.items next.old.items place) }
+{
+    if place < seen.len() {
+        if !seen[place] {
+            seen[place] = true;
+            next.push(place)?;
+        }
+    }
+    Ok(())
+}
+
+/// Notes places, and gives those that weren't seen.
+fn note_all(alloc: Global, seen: &mut Vec<bool>, all: &[usize]) -> Result<Vec<usize>, AllocError>
+    ensures { IfOk result (λ next. Noted all.now seen.old.items seen.new.items next.items) }
+{
+    let mut next = Vec::new(alloc);
+    for index in 0..all.len() {
+        note(seen, &mut next, all[index])?;
+    }
+    Ok(next)
+}
+
+/// Adds where the item stands that a type is the name of.
+fn add_place(
+    places: &IndexMap<&[u8], usize>,
+    found: &mut Vec<usize>,
+    ty: &TypeNode,
+) -> Result<(), AllocError>
+    ensures { (types : List NamedType) → ((text : List ℕ) → known_place places.now text ≡ place_of types text) →
+        OnOk result (found.new.items ≡ found.old.items ++ filter_map (place_of_name types) (names_in_types (ty_of ty.now ∷ []))) }
+{
+    match ty {
+        TypeNode::Named(name) => match place_of_name(places, name.text.as_slice()) {
+            Some(place) => {
+                found.push(place)?;
+                Ok(())
+            }
+            None => Ok(()),
+        },
+        _ => Ok(()),
+    }
+}
+
+/// Adds where the items stand that types are the names of.
+fn add_all(
+    places: &IndexMap<&[u8], usize>,
+    found: &mut Vec<usize>,
+    all: &[&TypeNode],
+) -> Result<(), AllocError>
+    ensures { (types : List NamedType) → ((text : List ℕ) → known_place places.now text ≡ place_of types text) →
+        OnOk result (found.new.items ≡ found.old.items ++ filter_map (place_of_name types) (names_in_types (tys_behind all.now))) }
+{
+    for ty in all {
+        add_place(places, found, ty)?;
+    }
+    Ok(())
+}
+
+/// Adds where the items stand that a type names.
+fn add_places(
+    alloc: Global,
+    places: &IndexMap<&[u8], usize>,
+    found: &mut Vec<usize>,
+    ty: &TypeNode,
+) -> Result<(), AllocError>
+    ensures { (types : List NamedType) → ((text : List ℕ) → known_place places.now text ≡ place_of types text) →
+        OnOk result (found.new.items ≡ found.old.items ++ places_in types (ty_of ty.now)) }
+{
+    let mut within = Vec::new(alloc);
+    add_types_within(&mut within, ty)?;
+    add_all(places, found, within.as_slice())
+}
+
+/// Adds where the items stand that the item at a place names.
+#[tactic(auto, unfolding(crate::specs::Circles::next_places))]
+fn add_next(
+    alloc: Global,
+    places: &IndexMap<&[u8], usize>,
+    items: &[TypeItem],
+    found: &mut Vec<usize>,
+    place: usize,
+) -> Result<(), AllocError>
+    ensures { ((text : List ℕ) → known_place places.now text ≡ place_of (map type_item_of items.now) text) →
+        OnOk result (found.new.items ≡ found.old.items ++ next_places (map type_item_of items.now) place) }
+{
+    match items.get(place) {
+        Some(item) => add_places(alloc, places, found, &item.ty),
+        None => Ok(()),
+    }
+}
+
+/// Where the items stand that the items of a front name.
+fn behind(
+    alloc: Global,
+    places: &IndexMap<&[u8], usize>,
+    items: &[TypeItem],
+    front: &[usize],
+) -> Result<Vec<usize>, AllocError>
+    ensures { ((text : List ℕ) → known_place places.now text ≡ place_of (map type_item_of items.now) text) →
+        IfOk result (λ v. v.items ≡ flat_map (next_places (map type_item_of items.now)) front.now) }
+{
+    let mut found = Vec::new(alloc);
+    for index in 0..front.len() {
+        add_next(alloc, places, items, &mut found, front[index])?;
+    }
+    Ok(found)
+}
+
+fn has(all: &[usize], place: usize) -> bool
+    ensures { result ≡ has all.now place }
+{
+    for index in 0..all.len() {
+        if all[index] == place {
+            return true;
+        }
+    }
+    false
+}
+
+fn none_seen(alloc: Global, count: usize) -> Result<Vec<bool>, AllocError>
+    ensures { IfOk result (λ v. v.items ≡ replicate count false) }
+{
+    let mut seen = Vec::new(alloc);
+    seen.resize(count, false)?;
+    Ok(seen)
+}
+
+/// Whether the item at a place is another one, or leads to it.
+fn reaches(
+    alloc: Global,
+    places: &IndexMap<&[u8], usize>,
+    items: &[TypeItem],
+    target: usize,
+    start: usize,
+) -> Result<bool, AllocError>
+    requires { start < length items.now }
+    ensures { ((text : List ℕ) → known_place places.now text ≡ place_of (map type_item_of items.now) text) →
+        IfOk result (λ b. b ≡ arrives (length items.now) (next_places (map type_item_of items.now)) target start) }
+{
+    if start == target {
+        return Ok(true);
+    }
+    let mut seen = none_seen(alloc, items.len())?;
+    let mut front = note_all(alloc, &mut seen, &[start])?;
+    for round in 0..items.len() {
+        if front.is_empty() {
+            return Ok(false);
+        }
+        let all = behind(alloc, places, items, front.as_slice())?;
+        if has(all.as_slice(), target) {
+            return Ok(true);
+        }
+        front = note_all(alloc, &mut seen, all.as_slice())?;
+    }
+    Ok(false)
+}
+
+/// Whether a name is that of the item at a place, or leads to it.
+fn leads_back(
+    alloc: Global,
+    places: &IndexMap<&[u8], usize>,
+    items: &[TypeItem],
+    target: usize,
+    name: &Name,
+) -> Result<bool, AllocError>
+    requires { (text : List ℕ) → known_place places.now text ≡ place_of (map type_item_of items.now) text }
+    ensures { (text : List ℕ) → place_of (map type_item_of items.now) text ≡ Some target →
+        IfOk result (λ b. b ≡ meets (length (map type_item_of items.now)) (map type_item_of items.now) text name.now.text) }
+{
+    match place_of_name(places, name.text.as_slice()) {
+        Some(start) => reaches(alloc, places, items, target, start),
+        None => Ok(false),
+    }
+}
+
+/// A name in a type that is that of the item at a place, or leads to it.
+#[tactic(auto, unfolding(pg_rules::specs::Earliest::earliest))]
+fn circle_at(
+    alloc: Global,
+    places: &IndexMap<&[u8], usize>,
+    items: &[TypeItem],
+    target: usize,
+    ty: &TypeNode,
+) -> Result<Option<Span>, AllocError>
+    requires { (text : List ℕ) → known_place places.now text ≡ place_of (map type_item_of items.now) text }
+    ensures { (text : List ℕ) → place_of (map type_item_of items.now) text ≡ Some target →
+        IfOk result (λ o. o ≡ earliest (circle_at (map type_item_of items.now) text (ty_of ty.now))) }
+{
+    match ty {
+        TypeNode::Named(name) => {
+            let back = leads_back(alloc, places, items, target, name)?;
+            Ok(place_if(back, name.span))
+        }
+        _ => Ok(None),
+    }
+}
+
+/// The earliest of types that is the name of the item at a place, or leads to it.
+fn circles_among(
+    alloc: Global,
+    places: &IndexMap<&[u8], usize>,
+    items: &[TypeItem],
+    target: usize,
+    all: &[&TypeNode],
+) -> Result<Option<Span>, AllocError>
+    requires { (text : List ℕ) → known_place places.now text ≡ place_of (map type_item_of items.now) text }
+    ensures { (text : List ℕ) → place_of (map type_item_of items.now) text ≡ Some target →
+        IfOk result (λ o. o ≡ earliest (flat_map (circle_at (map type_item_of items.now) text) (tys_behind all.now))) }
+{
+    let mut found = None;
+    for ty in all {
+        let one = circle_at(alloc, places, items, target, ty)?;
+        found = earlier(found, one);
+    }
+    Ok(found)
+}
+
+/// The earliest name in a type that is that of the item at a place, or leads to it.
+fn circles_in(
+    alloc: Global,
+    places: &IndexMap<&[u8], usize>,
+    items: &[TypeItem],
+    target: usize,
+    ty: &TypeNode,
+) -> Result<Option<Span>, AllocError>
+    requires { (text : List ℕ) → known_place places.now text ≡ place_of (map type_item_of items.now) text }
+    ensures { (text : List ℕ) → place_of (map type_item_of items.now) text ≡ Some target →
+        IfOk result (λ o. o ≡ earliest (flat_map (circle_at (map type_item_of items.now) text) (types_within (ty_of ty.now)))) }
+{
+    let mut within = Vec::new(alloc);
+    add_types_within(&mut within, ty)?;
+    circles_among(alloc, places, items, target, within.as_slice())
+}
+
+/// Whether what is written is a type.
+fn is_type(types: &mut TypeNumbers<'_>, ty: &TypeNode) -> Result<bool, AllocError>
+    ensures same { IfOk result (λ b. b ≡ is_some (resolved (named_types types.old) (ty_of ty.now))) }
+    ensures items { types.new.items ≡ types.old.items }
+{
+    let kind = types.kind(ty)?;
+    Ok(kind.is_some())
+}
+
+/// The earliest name in a type item through which it contains itself. The first item of a name contains itself in no
+/// type that is one.
+pub(crate) fn self_contained(
+    alloc: Global,
+    types: &mut TypeNumbers<'_>,
+    places: &IndexMap<&[u8], usize>,
+    items: &[TypeItem],
+    place: usize,
+    item: &TypeItem,
+) -> Result<Option<Span>, AllocError>
+    requires known { (text : List ℕ) → known_place places.now text ≡ place_of (map type_item_of items.now) text }
+    requires at { slice_get (map type_item_of items.now) place ≡ Some (type_item_of item.now) }
+    requires items { types.old.items ≡ items.now }
+    ensures place { IfOk result (λ o. o ≡ earliest (self_contained (map type_item_of items.now) (type_item_of item.now))) }
+    ensures items { types.new.items ≡ types.old.items }
+{
+    match place_of_name(places, item.name.text.as_slice()) {
+        Some(target) => {
+            let whole = is_type(types, &item.ty)?;
+            if whole && target == place {
+                Ok(None)
+            } else {
+                circles_in(alloc, places, items, target, &item.ty)
+            }
+        }
+        None => Ok(None),
+    }
+}

@@ -1,0 +1,198 @@
+ghost use Rattle.std.specs.Prelude.{◌≡◌, ◌++◌, [], ◌∷◌, IfOk, OnOk, not, ◌&&◌, ◌||◌, List, ℕ, Option, None, Some, map};
+ghost use Rattle.std.specs.List.{flat_map, filter_map, cons_option};
+ghost use Rattle.std.specs.Str.{bytes_eq};
+ghost use Rattle.pg_num.specs.declared.width.Width.TheVariants.{W32};
+ghost use Rattle.pg_ir.specs.declared.value.Scalar.TheVariants.{Int};
+ghost use Rattle.pg_ast.specs.Syntax.{Tree};
+ghost use Rattle.pg_ast.specs.Views.{ty_of, dparam_of, declare_of};
+ghost use Rattle.pg_types.specs.NameIndex.{known_place};
+ghost use Rattle.pg_types.specs.NumberedTypes.{named_types};
+ghost use Rattle.pg_rules.specs.Nodes.{tys_behind};
+ghost use Rattle.pg_rules.specs.CallConditions.{declaration_header, param_type};
+ghost use Rattle.pg_rules.specs.Names.{symbol_names};
+ghost use Rattle.pg_rules.specs.KnownNames.{known_named};
+ghost use Rattle.pg_rules.specs.Starts.{first_start};
+ghost use Rattle.pg_rules.specs.Earliest.{AreEarliest};
+ghost use Rattle.pg_rules.specs.Conditions.{head_types, main_name, has_header, has_other_header, wrong_main, wrong_known, declaration_refused};
+
+use indexmap::IndexMap;
+use pg_ast::{DeclareItem, DparamNode, TypeNode};
+use pg_ir::{Known, Scalar};
+use pg_num::Width;
+use pg_rules::{
+    Refusals, all_within, any_large, are_params, are_types, doubled, is_result, known_named,
+    place_if, unknown_types, wrong_types,
+};
+use pg_types::TypeNumbers;
+use std::alloc::{AllocError, Global};
+
+/// Adds the type of a parameter that has one.
+fn add_param_type<'a>(all: &mut Vec<&'a TypeNode>, param: &'a DparamNode) -> Result<(), AllocError>
+    ensures { OnOk result (tys_behind all.new.items ≡ tys_behind all.old.items ++ cons_option (param_type (dparam_of param.now)) []) }
+{
+    match param {
+        DparamNode::Param(param) => {
+            all.push(&param.ty)?;
+            Ok(())
+        }
+        DparamNode::Metadata(_) => Ok(()),
+        DparamNode::Dots(_) => Ok(()),
+    }
+}
+
+fn add_param_types<'a>(
+    all: &mut Vec<&'a TypeNode>,
+    params: &'a [DparamNode],
+) -> Result<(), AllocError>
+    ensures { OnOk result (tys_behind all.new.items ≡ tys_behind all.old.items ++ filter_map param_type (map dparam_of params.now)) }
+{
+    for param in params {
+        add_param_type(all, param)?;
+    }
+    Ok(())
+}
+
+/// The types of the head of a declared function.
+fn declaration_types<'a>(
+    alloc: Global,
+    item: &'a DeclareItem,
+) -> Result<Vec<&'a TypeNode>, AllocError>
+    ensures { IfOk result (λ v. tys_behind v.items ≡ head_types (declaration_header (declare_of item.now))) }
+{
+    let mut all = Vec::new(alloc);
+    all.push(&item.result)?;
+    add_param_types(&mut all, item.params.as_slice())?;
+    Ok(all)
+}
+
+/// Whether the head of a declared function has just these types.
+fn has_header(
+    types: &mut TypeNumbers<'_>,
+    scalars: &[Scalar],
+    returned: Option<Scalar>,
+    item: &DeclareItem,
+) -> Result<bool, AllocError>
+    ensures same { IfOk result (λ b. b ≡ has_header (named_types types.old) scalars.now returned (declaration_header (declare_of item.now))) }
+    ensures items { types.new.items ≡ types.old.items }
+{
+    if is_result(types, returned, &item.result)? {
+        are_params(types, scalars, item.params.as_slice())
+    } else {
+        Ok(false)
+    }
+}
+
+/// Whether the head of a declared function, whose types these are, has other types.
+fn has_other_header(
+    types: &mut TypeNumbers<'_>,
+    scalars: &[Scalar],
+    returned: Option<Scalar>,
+    item: &DeclareItem,
+    head: &[&TypeNode],
+) -> Result<bool, AllocError>
+    requires { tys_behind head.now ≡ head_types (declaration_header (declare_of item.now)) }
+    ensures same { IfOk result (λ b. b ≡ has_other_header (named_types types.old) scalars.now returned (declaration_header (declare_of item.now))) }
+    ensures items { types.new.items ≡ types.old.items }
+{
+    if are_types(types, head)? {
+        let same = has_header(types, scalars, returned, item)?;
+        Ok(!same)
+    } else {
+        Ok(false)
+    }
+}
+
+/// Whether a name is that of the function with which a program begins.
+pub(crate) fn is_main(text: &[u8]) -> bool
+    ensures { result ≡ bytes_eq text.now main_name }
+{
+    text == b"main".as_slice()
+}
+
+/// Whether a declared function is called `main` and has other types than that.
+fn wrong_main(
+    types: &mut TypeNumbers<'_>,
+    item: &DeclareItem,
+    head: &[&TypeNode],
+) -> Result<bool, AllocError>
+    requires { tys_behind head.now ≡ head_types (declaration_header (declare_of item.now)) }
+    ensures same { IfOk result (λ b. b ≡ wrong_main (named_types types.old) item.now.name.text (declaration_header (declare_of item.now))) }
+    ensures items { types.new.items ≡ types.old.items }
+{
+    if is_main(item.name.text.as_slice()) {
+        has_other_header(types, &[], Some(Scalar::Int(Width::W32)), item, head)
+    } else {
+        Ok(false)
+    }
+}
+
+/// Whether a declared function is known and has other types than the known one.
+fn wrong_known(
+    types: &mut TypeNumbers<'_>,
+    known: Option<Known>,
+    item: &DeclareItem,
+    head: &[&TypeNode],
+) -> Result<bool, AllocError>
+    requires { tys_behind head.now ≡ head_types (declaration_header (declare_of item.now)) }
+    ensures same { IfOk result (λ b. b ≡ wrong_known (named_types types.old) known (declaration_header (declare_of item.now))) }
+    ensures items { types.new.items ≡ types.old.items }
+{
+    match known {
+        Some(function) => has_other_header(
+            types,
+            function.parameters(),
+            function.returned(),
+            item,
+            head,
+        ),
+        None => Ok(false),
+    }
+}
+
+/// Whether a declared function has types that its name may not have.
+fn wrong_signature(
+    types: &mut TypeNumbers<'_>,
+    item: &DeclareItem,
+    head: &[&TypeNode],
+) -> Result<bool, AllocError>
+    requires { tys_behind head.now ≡ head_types (declaration_header (declare_of item.now)) }
+    ensures same { IfOk result (λ b. b ≡ (wrong_known (named_types types.old) (known_named item.now.name.text) (declaration_header (declare_of item.now))
+        || wrong_main (named_types types.old) item.now.name.text (declaration_header (declare_of item.now)))) }
+    ensures items { types.new.items ≡ types.old.items }
+{
+    let known = known_named(item.name.text.as_slice());
+    if wrong_known(types, known, item, head)? {
+        Ok(true)
+    } else {
+        wrong_main(types, item, head)
+    }
+}
+
+/// What a declared function is refused for.
+pub(crate) fn declaration_refusals(
+    alloc: Global,
+    types: &mut TypeNumbers<'_>,
+    starts: &IndexMap<&[u8], u32>,
+    item: &DeclareItem,
+) -> Result<Refusals, AllocError>
+    ensures places { (m : Tree) → m.types ≡ named_types types.old → ((text : List ℕ) → known_place starts.now text ≡ first_start (symbol_names m) text) →
+        IfOk result (λ r. AreEarliest r (declaration_refused m (declare_of item.now))) }
+    ensures items { types.new.items ≡ types.old.items }
+{
+    let head = declaration_types(alloc, item)?;
+    let within = all_within(alloc, head.as_slice())?;
+    let wrong_type = wrong_types(types, within.as_slice())?;
+    let signature = wrong_signature(types, item, head.as_slice())?;
+    let large = any_large(types, within.as_slice())?;
+    Ok(Refusals {
+        unknown_name: unknown_types(types, within.as_slice()),
+        doubled: doubled(starts, &item.name),
+        wrong_type,
+        no_block: None,
+        bad_phi: None,
+        unsupported: None,
+        bad_signature: place_if(signature, item.name.span),
+        too_large: place_if(large, item.name.span),
+        no_main: None,
+    })
+}

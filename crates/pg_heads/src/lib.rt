@@ -1,0 +1,20 @@
+//! What the type items, the globals and the heads of functions of a program text are refused for.
+#![tactic(auto)]
+
+mod circles;
+mod definitions;
+mod global_ends;
+mod globals;
+mod heads;
+mod initialiser_rows;
+mod initialisers;
+mod phases;
+mod type_items;
+mod wrong_constants;
+
+pub use globals::globals_refusals;
+pub use phases::heads_refusals;
+pub use type_items::types_refusals;
+
+#[cfg(test)]
+mod tests;
