@@ -1,0 +1,89 @@
+ghost use Rattle.std.specs.Prelude.{◌≡◌, IfOk, map};
+ghost use Rattle.std.specs.List.{list_any};
+ghost use Rattle.pg_ast.specs.Views.{line_of, block_of};
+ghost use Rattle.pg_types.specs.NumberedTypes.{named_types};
+ghost use Rattle.pg_rules.specs.ValueConditions.{Scope};
+ghost use Rattle.pg_rules.specs.LineConditions.{line_refused};
+ghost use Rattle.pg_rules.specs.Earliest.{AreEarliest};
+ghost use Rattle.pg_rules.specs.Conditions.{all_of};
+ghost use Rattle.pg_bodies.specs.Scopes.{IsLineScope};
+ghost use Rattle.pg_bodies.specs.BodyParts.{block_refused, is_large_line, is_large_block};
+
+use crate::lines::{line_is_large, line_refusals};
+use crate::scope::LineScope;
+use pg_ast::{BlockNode, LineNode};
+use pg_rules::{Refusals, earlier_places, no_refusals};
+use pg_types::TypeNumbers;
+use std::alloc::{AllocError, Global};
+
+/// What lines are refused for.
+fn lines_refusals(
+    alloc: Global,
+    scope: &LineScope<'_>,
+    types: &mut TypeNumbers<'_>,
+    lines: &[LineNode],
+) -> Result<Refusals, AllocError>
+    ensures places { (g : Scope) → IsLineScope scope.now g → g.tree.types ≡ named_types types.old →
+        IfOk result (λ r. AreEarliest r (all_of (line_refused g) (map line_of lines.now))) }
+    ensures items { types.new.items ≡ types.old.items }
+{
+    let mut found = no_refusals();
+    for line in lines {
+        let own = line_refusals(alloc, scope, types, line)?;
+        found = earlier_places(found, own);
+    }
+    Ok(found)
+}
+
+/// What the lines of blocks are refused for.
+pub(crate) fn blocks_refusals(
+    alloc: Global,
+    scope: &LineScope<'_>,
+    types: &mut TypeNumbers<'_>,
+    blocks: &[BlockNode],
+) -> Result<Refusals, AllocError>
+    ensures places { (g : Scope) → IsLineScope scope.now g → g.tree.types ≡ named_types types.old →
+        IfOk result (λ r. AreEarliest r (all_of (block_refused g) (map block_of blocks.now))) }
+    ensures items { types.new.items ≡ types.old.items }
+{
+    let mut found = no_refusals();
+    for block in blocks {
+        let own = lines_refusals(alloc, scope, types, block.lines.as_slice())?;
+        found = earlier_places(found, own);
+    }
+    Ok(found)
+}
+
+/// Whether one of the lines writes an aggregate that is larger than types may be.
+fn is_large_among(
+    alloc: Global,
+    types: &mut TypeNumbers<'_>,
+    lines: &[LineNode],
+) -> Result<bool, AllocError>
+    ensures large { IfOk result (λ b. b ≡ list_any (is_large_line (named_types types.old)) (map line_of lines.now)) }
+    ensures items { types.new.items ≡ types.old.items }
+{
+    for line in lines {
+        if line_is_large(alloc, types, line)? {
+            return Ok(true);
+        }
+    }
+    Ok(false)
+}
+
+/// Whether a line of the blocks writes an aggregate that is larger than types may be.
+pub(crate) fn are_large(
+    alloc: Global,
+    types: &mut TypeNumbers<'_>,
+    blocks: &[BlockNode],
+) -> Result<bool, AllocError>
+    ensures large { IfOk result (λ b. b ≡ list_any (is_large_block (named_types types.old)) (map block_of blocks.now)) }
+    ensures items { types.new.items ≡ types.old.items }
+{
+    for block in blocks {
+        if is_large_among(alloc, types, block.lines.as_slice())? {
+            return Ok(true);
+        }
+    }
+    Ok(false)
+}
