@@ -1,0 +1,12 @@
+use Rattle.std.proofs.Common.{◌≡◌, take}
+use Rattle.std.specs.List.{filter_map}
+use Rattle.pg_types.specs.NumberedTypes.{named_types}
+use Rattle.pg_rules.specs.Numbered.{scalar_in}
+use Rattle.pg_names.specs.Registers.{register_type}
+use Rattle.pg_program.proofs.function_rows.register_scalars.Given as goal
+
+abbrev pub invariant-loop-place : goal.invariant-loop-place
+invariant-loop-place l = record {
+  scalars : l.found.items ≡ filter_map (λ t. scalar_in (register_type (named_types l.fn.types) t)) (take l.place l.all);
+  items : l.types.items ≡ l.fn.types.items;
+}

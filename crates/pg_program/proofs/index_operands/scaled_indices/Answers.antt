@@ -1,0 +1,22 @@
+use Rattle.std.proofs.Common.{◌+◌, ◌++◌, map, drop, refl, ap, ◌∙◌}
+use Rattle.pg_ast.specs.Views.{typed_of}
+use Rattle.pg_rules.specs.Numbered.{indices_at}
+use Rattle.pg_program.specs.ScopeNames.{scope_in}
+use Rattle.pg_program.proofs.IndexLists.{index_step, indices_end}
+use Rattle.pg_program.proofs.index_operands.scaled_indices.Goals as goal
+
+pub loop-place-preserved : goal.loop-place-preserved
+loop-place-preserved c = record {
+  found = λ names.
+      let g = scope_in c.args.scope.now names in
+      ap (λ xs. xs ++ indices_at g (map typed_of (drop (c.loop-place.place + 1) c.args.indices.now)) (drop (c.loop-place.place + 1) c.args.scales.now)) c.in_ok-push.ensures.items
+      ∙ index_step g c.loop-place.found.items c.in_ok-one.one c.args.indices.now c.args.scales.now c.loop-place.place c.index-indices-place.result _ _ _
+      c.requires.lengths c.loop-place-test.true c.index-indices-place.is refl (c.in_ok-one.ensures.index names)
+      ∙ c.loop-place.invariant.found names;
+  items = c.index_at.ensures.items ∙ c.loop-place.invariant.items;
+}
+
+pub returns-clause-indices : goal.returns-clause-indices
+returns-clause-indices c = λ names.
+    indices_end (scope_in c.args.scope.now names) c.loop-place.found.items c.args.indices.now c.args.scales.now c.loop-place.place c.loop-place-test.false
+    ∙ c.loop-place.invariant.found names

@@ -1,0 +1,23 @@
+use Rattle.std.proofs.Common.{map, ap, ◌∙◌}
+use Rattle.pg_ast.specs.Views.{define_of, tree_of}
+use Rattle.pg_rules.specs.Numbered.{function_instrs}
+use Rattle.pg_program.specs.FunctionRows.{instr_row, numbered_item}
+use Rattle.pg_program.proofs.Rows.{rows_pushed, rows_all, first_block_step}
+use Rattle.pg_program.proofs.program.instrs_of.Goals as goal
+
+pub loop-item-preserved : goal.loop-item-preserved
+loop-item-preserved c =
+    let m = tree_of c.args.globals.now.symbols.tree.now in
+    let all = c.args.all.now in
+    record {
+      instrs =
+          rows_pushed (instr_row m (map define_of all)) all c.loop-item.item-index c.item-item.result _ c.loop-item.found.items _ (function_instrs m c.loop-item.first (numbered_item m.types c.item-item.result))
+          c.loop-item-test.true c.item-item.is c.in_ok-add_function.ensures.instrs c.loop-item.invariant.instrs
+          (ap (λ n. function_instrs m n (numbered_item m.types c.item-item.result)) c.loop-item.invariant.first);
+      first = first_block_step all c.loop-item.item-index c.item-item.result _ c.loop-item.first c.in_ok-first.first c.loop-item-test.true c.item-item.is c.loop-item.invariant.first c.in_ok-first.ensures;
+      items = c.add_function.ensures.items ∙ c.loop-item.invariant.items;
+    }
+
+pub returns-clause-instrs : goal.returns-clause-instrs
+returns-clause-instrs c =
+    rows_all (instr_row (tree_of c.args.globals.now.symbols.tree.now) (map define_of c.args.all.now)) c.args.all.now c.loop-item.item-index c.loop-item.found.items c.loop-item-test.false c.loop-item.invariant.instrs

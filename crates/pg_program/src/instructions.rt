@@ -1,0 +1,389 @@
+ghost use Rattle.std.specs.Prelude.{◌≡◌, ◌∷◌, ◌*◌, IfOk, None, Some, map};
+ghost use Rattle.std.specs.Option.{option_map};
+ghost use Rattle.pg_ast.specs.Views.{ty_of, val_of, typed_of, incoming_of, case_of, count_of, op_of, tree_of};
+ghost use Rattle.pg_ir.specs.declared.instr.Op.TheVariants as operation;
+ghost use Rattle.pg_types.specs.Layout.{size_or_none};
+ghost use Rattle.pg_rules.specs.Names.{symbol};
+ghost use Rattle.pg_rules.specs.Constants.{index_scales};
+ghost use Rattle.pg_rules.specs.Numbered.{type_in, width_in, value_at, typed_value, block_at, binary_op, comparison_of, indices_at, cast_op, incoming_at, case_at, count_in, call_of, op_at};
+ghost use Rattle.pg_program.specs.ScopeNames.{ScopeNames, scope_in};
+
+use crate::calls::call_of;
+use crate::edges::{cases_at, incomings_at};
+use crate::index_operands::indices_at;
+use crate::number_fault::NumberFault;
+use crate::operands::{size_at, typed_value, typed_width, value_at, values_at, width_at};
+use crate::operations::{binary_op, cast_op, comparison_of};
+use crate::scope::{FunctionScope, block_at};
+use pg_ast::{
+    BinaryOp, CaseNode, CastOp, CountNode, IncomingNode, Name, OpNode, Predicate, TypeNode,
+    TypedVal, ValNode,
+};
+use pg_ir::{Cases, Incomings, Indices, Op};
+use pg_rules::{literal_at, symbol};
+use pg_types::TypeNumbers;
+use std::alloc::{AllocError, Global};
+
+/// An operation on two integers.
+fn binary_at(
+    alloc: Global,
+    scope: &FunctionScope<'_>,
+    types: &mut TypeNumbers<'_>,
+    op: BinaryOp,
+    ty: &TypeNode,
+    left: &ValNode,
+    right: &ValNode,
+) -> Result<Op, NumberFault>
+    requires { types.old.items ≡ scope.now.globals.now.symbols.tree.now.types.items }
+    ensures op { (names : ScopeNames scope.now) → IfOk result (λ o. o ≡
+        binary_op op (width_in (type_in (scope_in scope.now names) (ty_of ty.now))) (value_at (scope_in scope.now names) (ty_of ty.now) (val_of left.now)) (value_at (scope_in scope.now names) (ty_of ty.now) (val_of right.now))) }
+    ensures items { types.new.items ≡ types.old.items }
+{
+    let width = width_at(scope, types, ty)?;
+    let left = value_at(alloc, scope, types, ty, left)?;
+    let right = value_at(alloc, scope, types, ty, right)?;
+    let found = binary_op(op, width, left, right);
+    Ok(found)
+}
+
+/// A comparison.
+fn compare_at(
+    alloc: Global,
+    scope: &FunctionScope<'_>,
+    types: &mut TypeNumbers<'_>,
+    predicate: Predicate,
+    ty: &TypeNode,
+    left: &ValNode,
+    right: &ValNode,
+) -> Result<Op, NumberFault>
+    requires { types.old.items ≡ scope.now.globals.now.symbols.tree.now.types.items }
+    ensures op { (names : ScopeNames scope.now) → IfOk result (λ o. o ≡
+        operation.Compare (comparison_of predicate) (width_in (type_in (scope_in scope.now names) (ty_of ty.now))) (value_at (scope_in scope.now names) (ty_of ty.now) (val_of left.now)) (value_at (scope_in scope.now names) (ty_of ty.now) (val_of right.now))) }
+    ensures items { types.new.items ≡ types.old.items }
+{
+    let width = width_at(scope, types, ty)?;
+    let left = value_at(alloc, scope, types, ty, left)?;
+    let right = value_at(alloc, scope, types, ty, right)?;
+    let op = comparison_of(predicate);
+    Ok(Op::Compare {
+        op,
+        width,
+        left,
+        right,
+    })
+}
+
+/// A conversion.
+fn cast_at(
+    alloc: Global,
+    scope: &FunctionScope<'_>,
+    types: &mut TypeNumbers<'_>,
+    op: CastOp,
+    value: &TypedVal,
+    ty: &TypeNode,
+) -> Result<Op, NumberFault>
+    requires { types.old.items ≡ scope.now.globals.now.symbols.tree.now.types.items }
+    ensures op { (names : ScopeNames scope.now) → IfOk result (λ o. o ≡
+        cast_op op (width_in (type_in (scope_in scope.now names) (typed_of value.now).ty)) (width_in (type_in (scope_in scope.now names) (ty_of ty.now))) (typed_value (scope_in scope.now names) (typed_of value.now))) }
+    ensures items { types.new.items ≡ types.old.items }
+{
+    let from = typed_width(scope, types, value)?;
+    let to = width_at(scope, types, ty)?;
+    let of = typed_value(alloc, scope, types, value)?;
+    let found = cast_op(op, from, to, of);
+    Ok(found)
+}
+
+/// A choice between two values.
+fn select_at(
+    alloc: Global,
+    scope: &FunctionScope<'_>,
+    types: &mut TypeNumbers<'_>,
+    cond: &TypedVal,
+    first: &TypedVal,
+    second: &TypedVal,
+) -> Result<Op, NumberFault>
+    requires { types.old.items ≡ scope.now.globals.now.symbols.tree.now.types.items }
+    ensures op { (names : ScopeNames scope.now) → IfOk result (λ o. o ≡
+        operation.Select (typed_value (scope_in scope.now names) (typed_of cond.now)) (typed_value (scope_in scope.now names) (typed_of first.now)) (typed_value (scope_in scope.now names) (typed_of second.now))) }
+    ensures items { types.new.items ≡ types.old.items }
+{
+    let cond = typed_value(alloc, scope, types, cond)?;
+    let first = typed_value(alloc, scope, types, first)?;
+    let second = typed_value(alloc, scope, types, second)?;
+    Ok(Op::Select {
+        cond,
+        yes: first,
+        no: second,
+    })
+}
+
+/// A `phi`.
+fn phi_at(
+    alloc: Global,
+    scope: &FunctionScope<'_>,
+    types: &mut TypeNumbers<'_>,
+    ty: &TypeNode,
+    first: &IncomingNode,
+    others: &[IncomingNode],
+) -> Result<Op, NumberFault>
+    requires { types.old.items ≡ scope.now.globals.now.symbols.tree.now.types.items }
+    ensures op { (names : ScopeNames scope.now) → IfOk result (λ o. o ≡
+        operation.Phi (map (incoming_at (scope_in scope.now names) scope.now.first (ty_of ty.now)) (incoming_of first.now ∷ map incoming_of others.now))) }
+    ensures items { types.new.items ≡ types.old.items }
+{
+    let from = incomings_at(alloc, scope, types, ty, first, others)?;
+    Ok(Op::Phi {
+        from: Incomings::from_vec(from),
+    })
+}
+
+/// A branch.
+fn branch_at(scope: &FunctionScope<'_>, block: &Name) -> Result<Op, NumberFault>
+    ensures { (names : ScopeNames scope.now) → IfOk result (λ o. o ≡
+        operation.Br (block_at (scope_in scope.now names) scope.now.first block.now)) }
+{
+    let to = block_at(scope, block)?;
+    Ok(Op::Br { to })
+}
+
+/// A branch on a condition.
+fn conditional_branch_at(
+    alloc: Global,
+    scope: &FunctionScope<'_>,
+    types: &mut TypeNumbers<'_>,
+    cond: &TypedVal,
+    first: &Name,
+    second: &Name,
+) -> Result<Op, NumberFault>
+    requires { types.old.items ≡ scope.now.globals.now.symbols.tree.now.types.items }
+    ensures op { (names : ScopeNames scope.now) → IfOk result (λ o. o ≡
+        operation.CondBr (typed_value (scope_in scope.now names) (typed_of cond.now)) (block_at (scope_in scope.now names) scope.now.first first.now) (block_at (scope_in scope.now names) scope.now.first second.now)) }
+    ensures items { types.new.items ≡ types.old.items }
+{
+    let cond = typed_value(alloc, scope, types, cond)?;
+    let first = block_at(scope, first)?;
+    let second = block_at(scope, second)?;
+    Ok(Op::CondBr {
+        cond,
+        yes: first,
+        no: second,
+    })
+}
+
+/// A branch on an integer.
+fn switch_at(
+    alloc: Global,
+    scope: &FunctionScope<'_>,
+    types: &mut TypeNumbers<'_>,
+    value: &TypedVal,
+    block: &Name,
+    cases: &[CaseNode],
+) -> Result<Op, NumberFault>
+    requires { types.old.items ≡ scope.now.globals.now.symbols.tree.now.types.items }
+    ensures op { (names : ScopeNames scope.now) → IfOk result (λ o. o ≡
+        operation.Switch (width_in (type_in (scope_in scope.now names) (typed_of value.now).ty)) (typed_value (scope_in scope.now names) (typed_of value.now)) (block_at (scope_in scope.now names) scope.now.first block.now) (map (case_at (scope_in scope.now names) scope.now.first (typed_of value.now).ty) (map case_of cases.now))) }
+    ensures items { types.new.items ≡ types.old.items }
+{
+    let width = typed_width(scope, types, value)?;
+    let on = typed_value(alloc, scope, types, value)?;
+    let other = block_at(scope, block)?;
+    let found = cases_at(alloc, scope, types, &value.ty, cases)?;
+    let cases = Cases::from_vec(found);
+    Ok(Op::Switch {
+        width,
+        on,
+        other,
+        cases,
+    })
+}
+
+/// A call.
+fn call_at(
+    alloc: Global,
+    scope: &FunctionScope<'_>,
+    types: &mut TypeNumbers<'_>,
+    callee: &Name,
+    args: &[TypedVal],
+) -> Result<Op, NumberFault>
+    requires { types.old.items ≡ scope.now.globals.now.symbols.tree.now.types.items }
+    ensures op { (names : ScopeNames scope.now) → IfOk result (λ o. o ≡
+        call_of (symbol (tree_of scope.now.globals.now.symbols.tree.now) callee.now.text) (map (typed_value (scope_in scope.now names)) (map typed_of args.now))) }
+    ensures items { types.new.items ≡ types.old.items }
+{
+    let values = values_at(alloc, scope, types, args)?;
+    call_of(
+        symbol(&scope.globals.symbols, callee.text.as_slice()),
+        values,
+    )
+}
+
+/// A return of a value.
+fn return_at(
+    alloc: Global,
+    scope: &FunctionScope<'_>,
+    types: &mut TypeNumbers<'_>,
+    value: &TypedVal,
+) -> Result<Op, NumberFault>
+    requires { types.old.items ≡ scope.now.globals.now.symbols.tree.now.types.items }
+    ensures op { (names : ScopeNames scope.now) → IfOk result (λ o. o ≡
+        operation.Ret (Some (typed_value (scope_in scope.now names) (typed_of value.now)))) }
+    ensures items { types.new.items ≡ types.old.items }
+{
+    let value = typed_value(alloc, scope, types, value)?;
+    Ok(Op::Ret { value: Some(value) })
+}
+
+/// How many elements an `alloca` takes.
+fn count_in(
+    scope: &FunctionScope<'_>,
+    types: &mut TypeNumbers<'_>,
+    count: &Option<CountNode>,
+) -> Result<u64, AllocError>
+    requires { types.old.items ≡ scope.now.globals.now.symbols.tree.now.types.items }
+    ensures count { (names : ScopeNames scope.now) → IfOk result (λ n. n ≡
+        count_in (scope_in scope.now names) (option_map count_of count.now)) }
+    ensures items { types.new.items ≡ types.old.items }
+{
+    match count {
+        Some(count) => {
+            let number = literal_at(types, &count.ty, &count.count)?;
+            Ok(number.unwrap_or(0))
+        }
+        None => Ok(1),
+    }
+}
+
+/// The size of so many elements in bytes.
+fn size_of_all(size: u32, count: u64) -> u128
+    ensures { result ≡ size * count }
+{
+    size as u128 * count as u128
+}
+
+/// Memory of a frame.
+fn alloca_at(
+    scope: &FunctionScope<'_>,
+    types: &mut TypeNumbers<'_>,
+    ty: &TypeNode,
+    count: &Option<CountNode>,
+) -> Result<Op, NumberFault>
+    requires { types.old.items ≡ scope.now.globals.now.symbols.tree.now.types.items }
+    ensures op { (names : ScopeNames scope.now) → IfOk result (λ o. o ≡
+        operation.Alloca (size_or_none (type_in (scope_in scope.now names) (ty_of ty.now)) * count_in (scope_in scope.now names) (option_map count_of count.now))) }
+    ensures items { types.new.items ≡ types.old.items }
+{
+    let size = size_at(scope, types, ty)?;
+    let count = count_in(scope, types, count)?;
+    let bytes = size_of_all(size, count);
+    Ok(Op::Alloca { bytes })
+}
+
+/// A load.
+fn load_at(
+    alloc: Global,
+    scope: &FunctionScope<'_>,
+    types: &mut TypeNumbers<'_>,
+    ty: &TypeNode,
+    pointer: &TypedVal,
+) -> Result<Op, NumberFault>
+    requires { types.old.items ≡ scope.now.globals.now.symbols.tree.now.types.items }
+    ensures op { (names : ScopeNames scope.now) → IfOk result (λ o. o ≡
+        operation.Load (width_in (type_in (scope_in scope.now names) (ty_of ty.now))) (typed_value (scope_in scope.now names) (typed_of pointer.now))) }
+    ensures items { types.new.items ≡ types.old.items }
+{
+    let width = width_at(scope, types, ty)?;
+    let from = typed_value(alloc, scope, types, pointer)?;
+    Ok(Op::Load { width, from })
+}
+
+/// A store.
+fn store_at(
+    alloc: Global,
+    scope: &FunctionScope<'_>,
+    types: &mut TypeNumbers<'_>,
+    value: &TypedVal,
+    pointer: &TypedVal,
+) -> Result<Op, NumberFault>
+    requires { types.old.items ≡ scope.now.globals.now.symbols.tree.now.types.items }
+    ensures op { (names : ScopeNames scope.now) → IfOk result (λ o. o ≡
+        operation.Store (width_in (type_in (scope_in scope.now names) (typed_of value.now).ty)) (typed_value (scope_in scope.now names) (typed_of value.now)) (typed_value (scope_in scope.now names) (typed_of pointer.now))) }
+    ensures items { types.new.items ≡ types.old.items }
+{
+    let width = typed_width(scope, types, value)?;
+    let value = typed_value(alloc, scope, types, value)?;
+    let at = typed_value(alloc, scope, types, pointer)?;
+    Ok(Op::Store { width, value, at })
+}
+
+/// A pointer that indices move.
+fn element_pointer_at(
+    alloc: Global,
+    scope: &FunctionScope<'_>,
+    types: &mut TypeNumbers<'_>,
+    ty: &TypeNode,
+    pointer: &TypedVal,
+    indices: &[TypedVal],
+) -> Result<Op, NumberFault>
+    requires { types.old.items ≡ scope.now.globals.now.symbols.tree.now.types.items }
+    ensures op { (names : ScopeNames scope.now) → IfOk result (λ o. o ≡
+        operation.Gep (typed_value (scope_in scope.now names) (typed_of pointer.now)) (indices_at (scope_in scope.now names) (map typed_of indices.now)
+        (index_scales (tree_of scope.now.globals.now.symbols.tree.now).types (ty_of ty.now) (map typed_of indices.now)))) }
+    ensures items { types.new.items ≡ types.old.items }
+{
+    let base = typed_value(alloc, scope, types, pointer)?;
+    let indices = indices_at(alloc, scope, types, ty, indices)?;
+    Ok(Op::Gep {
+        base,
+        indices: Indices::from_vec(indices),
+    })
+}
+
+/// What an instruction does, its registers, basic blocks, globals and functions by their numbers.
+#[tactic(auto, unfolding(pg_rules::specs::Numbered::op_at))]
+pub(crate) fn op_at(
+    alloc: Global,
+    scope: &FunctionScope<'_>,
+    types: &mut TypeNumbers<'_>,
+    op: &OpNode,
+) -> Result<Op, NumberFault>
+    requires { types.old.items ≡ scope.now.globals.now.symbols.tree.now.types.items }
+    ensures op { (names : ScopeNames scope.now) → IfOk result (λ o. o ≡
+        op_at (scope_in scope.now names) scope.now.first (op_of op.now)) }
+    ensures items { types.new.items ≡ types.old.items }
+{
+    match op {
+        OpNode::Binary(_, op, ty, left, right) => {
+            binary_at(alloc, scope, types, *op, ty, left, right)
+        }
+        OpNode::Icmp(_, predicate, ty, left, right) => {
+            compare_at(alloc, scope, types, *predicate, ty, left, right)
+        }
+        OpNode::Cast(_, op, value, ty) => cast_at(alloc, scope, types, *op, value, ty),
+        OpNode::Select(_, cond, first, second) => {
+            select_at(alloc, scope, types, cond, first, second)
+        }
+        OpNode::Phi(_, ty, first, others) => {
+            phi_at(alloc, scope, types, ty, first, others.as_slice())
+        }
+        OpNode::Br(_, block) => branch_at(scope, block),
+        OpNode::CondBr(_, cond, first, second) => {
+            conditional_branch_at(alloc, scope, types, cond, first, second)
+        }
+        OpNode::Switch(_, value, block, cases) => {
+            switch_at(alloc, scope, types, value, block, cases.as_slice())
+        }
+        OpNode::Call(_, _, _, callee, args) => {
+            call_at(alloc, scope, types, callee, args.as_slice())
+        }
+        OpNode::RetVoid(_, _) => Ok(Op::Ret { value: None }),
+        OpNode::Ret(_, value) => return_at(alloc, scope, types, value),
+        OpNode::Unreachable(_) => Ok(Op::Unreachable),
+        OpNode::Alloca(_, ty, count) => alloca_at(scope, types, ty, count),
+        OpNode::Load(_, ty, pointer) => load_at(alloc, scope, types, ty, pointer),
+        OpNode::Store(_, value, pointer) => store_at(alloc, scope, types, value, pointer),
+        OpNode::GetElementPtr(_, ty, pointer, indices) => {
+            element_pointer_at(alloc, scope, types, ty, pointer, indices.as_slice())
+        }
+    }
+}

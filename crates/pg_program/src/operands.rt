@@ -1,0 +1,162 @@
+ghost use Rattle.std.specs.Prelude.{◌≡◌, IfOk, map};
+ghost use Rattle.pg_ast.specs.Views.{ty_of, val_of, typed_of, tree_of};
+ghost use Rattle.pg_types.specs.NumberedTypes.{named_types};
+ghost use Rattle.pg_rules.specs.Numbered.{symbol_value, value_at, typed_value, type_in, width_in};
+ghost use Rattle.pg_types.specs.Layout.{size_or_none};
+ghost use Rattle.pg_rules.specs.Symbols.{symbol_of};
+ghost use Rattle.pg_rules.specs.Constants.{constant_word};
+ghost use Rattle.pg_ir.specs.declared.value.Value.TheVariants.{Const};
+ghost use Rattle.pg_program.specs.ScopeNames.{ScopeNames, scope_in};
+ghost use Rattle.pg_program.specs.Words.{kind_width};
+ghost use Rattle.pg_types.specs.Resolved.{resolved};
+
+use crate::constants::kind_word;
+use crate::fields::size_or_none;
+use crate::number_fault::NumberFault;
+use crate::scope::{FunctionScope, register_number, short_number};
+use pg_ast::{TypeNode, TypedVal, ValNode};
+use pg_ir::Value;
+use pg_num::Width;
+use pg_rules::{SymbolNode, symbol};
+use pg_types::{TypeKind, TypeNumbers};
+use std::alloc::{AllocError, Global};
+
+/// A global or a function by its number.
+fn symbol_value(symbol: SymbolNode<'_>) -> Result<Value, NumberFault>
+    ensures { IfOk result (λ v. v ≡ symbol_value (symbol_of symbol.entry)) }
+{
+    match symbol {
+        SymbolNode::Variable(place, _) => Ok(Value::Global(short_number(place)?)),
+        SymbolNode::Definition(place, _) => Ok(Value::Function(short_number(place)?)),
+        _ => Ok(Value::Const(0)),
+    }
+}
+
+/// A constant of a type.
+#[tactic(auto, using(crate::proofs::KindWords::word_of_kind))]
+fn constant_at(
+    alloc: Global,
+    scope: &FunctionScope<'_>,
+    types: &mut TypeNumbers<'_>,
+    ty: &TypeNode,
+    value: &ValNode,
+) -> Result<Value, NumberFault>
+    requires { types.old.items ≡ scope.now.globals.now.symbols.tree.now.types.items }
+    ensures value { IfOk result (λ v. v ≡ Const (constant_word (tree_of scope.now.globals.now.symbols.tree.now)
+        (resolved (named_types types.old) (ty_of ty.now)) (val_of value.now))) }
+    ensures items { types.new.items ≡ types.old.items }
+{
+    let kind = types.kind(ty)?;
+    let word = kind_word(alloc, scope.globals, types, kind, value)?;
+    Ok(Value::Const(word))
+}
+
+/// A value at a type: a register, a global or a function by its number, and else a constant.
+#[tactic(auto, unfolding(pg_rules::specs::Numbered::value_of))]
+pub(crate) fn value_at(
+    alloc: Global,
+    scope: &FunctionScope<'_>,
+    types: &mut TypeNumbers<'_>,
+    ty: &TypeNode,
+    value: &ValNode,
+) -> Result<Value, NumberFault>
+    requires { types.old.items ≡ scope.now.globals.now.symbols.tree.now.types.items }
+    ensures value { (names : ScopeNames scope.now) →
+        IfOk result (λ v. v ≡ value_at (scope_in scope.now names) (ty_of ty.now) (val_of value.now)) }
+    ensures items { types.new.items ≡ types.old.items }
+{
+    match value {
+        ValNode::Local(name) => Ok(Value::Register(register_number(scope, name)?)),
+        ValNode::Global(name) => symbol_value(symbol(&scope.globals.symbols, name.text.as_slice())),
+        _ => constant_at(alloc, scope, types, ty, value),
+    }
+}
+
+/// A value at the type that is written before it.
+pub(crate) fn typed_value(
+    alloc: Global,
+    scope: &FunctionScope<'_>,
+    types: &mut TypeNumbers<'_>,
+    value: &TypedVal,
+) -> Result<Value, NumberFault>
+    requires { types.old.items ≡ scope.now.globals.now.symbols.tree.now.types.items }
+    ensures value { (names : ScopeNames scope.now) →
+        IfOk result (λ v. v ≡ typed_value (scope_in scope.now names) (typed_of value.now)) }
+    ensures items { types.new.items ≡ types.old.items }
+{
+    value_at(alloc, scope, types, &value.ty, &value.value)
+}
+
+fn kind_width(kind: Option<TypeKind>) -> Width
+    ensures { result ≡ kind_width kind }
+{
+    match kind {
+        Some(TypeKind::Integer(width)) => width,
+        _ => Width::W64,
+    }
+}
+
+/// The width of a type's values: of an integer its own, and else 64 bits.
+#[tactic(auto, using(crate::proofs::KindWords::width_of_kind))]
+pub(crate) fn width_at(
+    scope: &FunctionScope<'_>,
+    types: &mut TypeNumbers<'_>,
+    ty: &TypeNode,
+) -> Result<Width, AllocError>
+    requires { types.old.items ≡ scope.now.globals.now.symbols.tree.now.types.items }
+    ensures width { (names : ScopeNames scope.now) →
+        IfOk result (λ w. w ≡ width_in (type_in (scope_in scope.now names) (ty_of ty.now))) }
+    ensures items { types.new.items ≡ types.old.items }
+{
+    let kind = types.kind(ty)?;
+    Ok(kind_width(kind))
+}
+
+/// The width of the type that is written before a value.
+pub(crate) fn typed_width(
+    scope: &FunctionScope<'_>,
+    types: &mut TypeNumbers<'_>,
+    value: &TypedVal,
+) -> Result<Width, AllocError>
+    requires { types.old.items ≡ scope.now.globals.now.symbols.tree.now.types.items }
+    ensures width { (names : ScopeNames scope.now) →
+        IfOk result (λ w. w ≡ width_in (type_in (scope_in scope.now names) (typed_of value.now).ty)) }
+    ensures items { types.new.items ≡ types.old.items }
+{
+    width_at(scope, types, &value.ty)
+}
+
+/// The size of a type in bytes, and 0 of one that is none.
+pub(crate) fn size_at(
+    scope: &FunctionScope<'_>,
+    types: &mut TypeNumbers<'_>,
+    ty: &TypeNode,
+) -> Result<u32, NumberFault>
+    requires { types.old.items ≡ scope.now.globals.now.symbols.tree.now.types.items }
+    ensures size { (names : ScopeNames scope.now) →
+        IfOk result (λ n. n ≡ size_or_none (type_in (scope_in scope.now names) (ty_of ty.now))) }
+    ensures items { types.new.items ≡ types.old.items }
+{
+    let number = types.number(ty)?;
+    size_or_none(types, number)
+}
+
+/// The values of arguments.
+pub(crate) fn values_at(
+    alloc: Global,
+    scope: &FunctionScope<'_>,
+    types: &mut TypeNumbers<'_>,
+    values: &[TypedVal],
+) -> Result<Vec<Value>, NumberFault>
+    requires { types.old.items ≡ scope.now.globals.now.symbols.tree.now.types.items }
+    ensures values { (names : ScopeNames scope.now) →
+        IfOk result (λ v. v.items ≡ map (typed_value (scope_in scope.now names)) (map typed_of values.now)) }
+    ensures items { types.new.items ≡ types.old.items }
+{
+    let mut found = Vec::new(alloc);
+    for value in values {
+        let one = typed_value(alloc, scope, types, value)?;
+        found.push(one)?;
+    }
+    Ok(found)
+}

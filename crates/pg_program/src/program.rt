@@ -1,0 +1,154 @@
+ghost use Rattle.std.specs.Prelude.{◌≡◌, ◌+◌, IfOk, length, map, unwrap_or};
+ghost use Rattle.std.specs.List.{position_from};
+ghost use Rattle.pg_ir.specs.Program.{numbered_program};
+ghost use Rattle.pg_ast.specs.Views.{define_of, tree_of};
+ghost use Rattle.pg_rules.specs.Numbered.{program_of};
+ghost use Rattle.pg_program.specs.FunctionRows.{rows_from, function_row, block_row, instr_row, is_main_item};
+
+use crate::block_rows::add_blocks;
+use crate::function_rows::{add_function, function_at};
+use crate::global_rows::add_globals;
+use crate::globals::{Globals, index_globals};
+use crate::number_fault::NumberFault;
+use crate::scope::{number_behind, short_number};
+use pg_ast::{DefineItem, Module};
+use pg_ir::{Block, Function, GlobalInfo, Instr};
+use pg_types::TypeNumbers;
+use std::alloc::Global;
+
+/// The parts of a numbered program, each kind in text order, and the number of its `main`.
+#[derive(Drop)]
+pub struct ProgramParts {
+    pub functions: Vec<Function>,
+    pub blocks: Vec<Block>,
+    pub instrs: Vec<Instr>,
+    pub globals: Vec<GlobalInfo>,
+    pub main: u32,
+}
+
+/// The number of the basic block behind those of a function, whose first has this number.
+#[tactic(auto, using(crate::proofs::Rows::count_blocks))]
+fn block_behind(first: u32, item: &DefineItem) -> Result<u32, NumberFault>
+    ensures { IfOk result (λ n. n ≡ first + length (define_of item.now).blocks) }
+{
+    let blocks = item.blocks.len();
+    let count = short_number(blocks)?;
+    let behind = number_behind(first, count)?;
+    Ok(behind)
+}
+
+/// The functions of a module by number.
+#[tactic(auto, using(crate::proofs::Rows::rows_none, crate::proofs::Rows::first_block_none))]
+fn functions_of(
+    alloc: Global,
+    types: &mut TypeNumbers<'_>,
+    tree: &Module,
+    all: &[DefineItem],
+) -> Result<Vec<Function>, NumberFault>
+    requires { types.old.items ≡ tree.now.types.items }
+    ensures functions { IfOk result (λ v. v.items ≡ rows_from (function_row (tree_of tree.now) (map define_of all.now)) 0 all.now) }
+    ensures items { types.new.items ≡ types.old.items }
+{
+    let mut found = Vec::new(alloc);
+    let mut first = 0;
+    for item in all {
+        let one = function_at(alloc, types, tree, item, first)?;
+        found.push(one)?;
+        first = block_behind(first, item)?;
+    }
+    Ok(found)
+}
+
+/// The basic blocks of functions by number.
+#[tactic(auto, using(crate::proofs::Rows::rows_none, crate::proofs::Rows::first_line_none))]
+fn blocks_of(alloc: Global, all: &[DefineItem]) -> Result<Vec<Block>, NumberFault>
+    ensures { IfOk result (λ v. v.items ≡ rows_from (block_row (map define_of all.now)) 0 all.now) }
+{
+    let mut found = Vec::new(alloc);
+    let mut function = 0;
+    let mut first = 0;
+    for item in all {
+        let blocks = item.blocks.as_slice();
+        first = add_blocks(&mut found, function, first, blocks)?;
+        function = number_behind(function, 1)?;
+    }
+    Ok(found)
+}
+
+/// The instructions of functions by number.
+#[tactic(auto, using(crate::proofs::Rows::rows_none, crate::proofs::Rows::first_block_none))]
+fn instrs_of(
+    alloc: Global,
+    globals: &Globals<'_>,
+    types: &mut TypeNumbers<'_>,
+    all: &[DefineItem],
+) -> Result<Vec<Instr>, NumberFault>
+    requires { types.old.items ≡ globals.now.symbols.tree.now.types.items }
+    ensures instrs { IfOk result (λ v. v.items ≡ rows_from (instr_row (tree_of globals.now.symbols.tree.now) (map define_of all.now)) 0 all.now) }
+    ensures items { types.new.items ≡ types.old.items }
+{
+    let mut found = Vec::new(alloc);
+    let mut first = 0;
+    for item in all {
+        add_function(alloc, globals, types, &mut found, item, first)?;
+        first = block_behind(first, item)?;
+    }
+    Ok(found)
+}
+
+/// Whether a function is `main`.
+fn is_main(item: &DefineItem) -> bool
+    ensures { result ≡ is_main_item item.now }
+{
+    item.name.text.as_slice() == b"main".as_slice()
+}
+
+/// The number of the first function that is `main`.
+#[tactic(auto, using(crate::proofs::MainPlace::main_begin, crate::proofs::MainPlace::main_skip, crate::proofs::MainPlace::main_here, crate::proofs::MainPlace::main_none))]
+fn main_place(all: &[DefineItem]) -> Option<usize>
+    ensures { result ≡ position_from is_main_item 0 all.now }
+{
+    let mut place = 0;
+    while place < all.len() {
+        if is_main(&all[place]) {
+            return Some(place);
+        }
+        place += 1;
+    }
+    None
+}
+
+/// The number of `main`, and 0 where there is none.
+fn main_number(all: &[DefineItem]) -> usize
+    ensures { result ≡ unwrap_or (position_from is_main_item 0 all.now) 0 }
+{
+    main_place(all).unwrap_or(0)
+}
+
+/// The numbered program of a module that isn't refused: functions, basic blocks, instructions, globals, registers and
+/// labels by their numbers. It is an error where there is no memory left, or a number has more than 32 bits.
+pub fn program_parts(
+    alloc: Global,
+    types: &mut TypeNumbers<'_>,
+    tree: &Module,
+) -> Result<ProgramParts, NumberFault>
+    requires { types.old.items ≡ tree.now.types.items }
+    ensures program { IfOk result (λ p. numbered_program p.functions.items p.blocks.items p.instrs.items p.globals.items p.main ≡ program_of (tree_of tree.now)) }
+    ensures items { types.new.items ≡ types.old.items }
+{
+    let globals = index_globals(alloc, types, tree)?;
+    let all = tree.functions.as_slice();
+    let functions = functions_of(alloc, types, tree, all)?;
+    let blocks = blocks_of(alloc, all)?;
+    let instrs = instrs_of(alloc, &globals, types, all)?;
+    let variables = add_globals(alloc, &globals, types)?;
+    let place = main_number(all);
+    let main = short_number(place)?;
+    Ok(ProgramParts {
+        functions,
+        blocks,
+        instrs,
+        globals: variables,
+        main,
+    })
+}
