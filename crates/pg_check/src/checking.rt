@@ -1,0 +1,65 @@
+ghost use Rattle.std.specs.Prelude.{◌≡◌, IfOk, IfErr};
+ghost use Rattle.pg_ast.specs.Views.{tree_of};
+ghost use Rattle.pg_rules.specs.Conditions.{IsAccepted};
+ghost use Rattle.pg_rules.specs.Numbered.{program_of};
+ghost use Rattle.pg_rules.specs.declared.fault.CheckFault.TheVariants.{OutOfMemory};
+ghost use Rattle.pg_numbering.specs.Parsed.{IsInOrder};
+ghost use Rattle.pg_check.specs.Checked.{IsProgramOf, IsFaultOf};
+
+use crate::first::first_of_module;
+use pg_ast::Module;
+use pg_ir::Program;
+use pg_numbering::laws::an_accepted_tree_is_a_program;
+use pg_program::{NumberFault, ProgramParts, program_parts};
+use pg_rules::CheckFault;
+use pg_types::TypeNumbers;
+use std::alloc::Global;
+
+/// The numbered program of a module that isn't refused.
+fn numbered(
+    alloc: Global,
+    types: &mut TypeNumbers<'_>,
+    tree: &Module,
+) -> Result<Program, CheckFault>
+    requires items { types.old.items ≡ tree.now.types.items }
+    requires order { IsInOrder (tree_of tree.now) }
+    requires accepted { IsAccepted (tree_of tree.now) }
+    ensures program { IfOk result (λ p. p ≡ program_of (tree_of tree.now)) }
+    ensures fault { IfErr result (λ e. e ≡ OutOfMemory) }
+{
+    let parts = match program_parts(alloc, types, tree) {
+        Ok(parts) => parts,
+        Err(_) => return Err(CheckFault::OutOfMemory),
+    };
+    an_accepted_tree_is_a_program();
+    let ProgramParts {
+        functions,
+        blocks,
+        instrs,
+        globals,
+        main,
+    } = parts;
+    match Program::new(functions, blocks, instrs, globals, main) {
+        Ok(program) => Ok(program),
+        Err(_) => unreachable!(),
+    }
+}
+
+/// The numbered program of a module that isn't refused, or else its first refusal.
+///
+/// The module's ending lines end their blocks and its names stand in the order of the text, as in each module that
+/// was read from a text.
+pub fn check(alloc: Global, tree: &Module) -> Result<Program, CheckFault>
+    requires { IsInOrder (tree_of tree.now) }
+    ensures program { IfOk result (λ p. IsProgramOf (tree_of tree.now) p) }
+    ensures fault { IfErr result (λ e. IsFaultOf (tree_of tree.now) e) }
+{
+    let mut types = TypeNumbers::new(alloc, tree.types.as_slice())?;
+    match first_of_module(alloc, &mut types, tree)? {
+        Some(refusal) => Err(CheckFault::At {
+            kind: refusal.kind,
+            span: refusal.span,
+        }),
+        None => numbered(alloc, &mut types, tree),
+    }
+}

@@ -1,0 +1,9 @@
+//! The checks of a program text's syntax tree, and the numbered program that it stands for.
+#![tactic(auto)]
+
+mod checking;
+mod first;
+mod main_function;
+
+pub use checking::check;
+pub use pg_rules::{CheckFault, CheckKind};
