@@ -1,2 +1,5 @@
+mod Examples
+mod FirstRefusals
 pub mod Known
 pub mod ReplyKinds
+pub mod TextVerdicts

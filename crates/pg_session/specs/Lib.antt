@@ -1,4 +1,6 @@
+pub mod Refusals
 pub mod Replies
 pub mod Statuses
 pub mod Streams
 pub mod Texts
+pub mod Verdicts

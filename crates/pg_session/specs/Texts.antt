@@ -1,16 +1,21 @@
 -- What a command writes: the text of `once`, and the line of a program that is refused.
-use Rattle.std.specs.Prelude.{◌≡◌, ℕ, ◌<◌, ◌≤◌, ◌⊎◌, List, ◌++◌, length, count_by, codes, ℤ, Option, is_some}
+use Rattle.std.specs.Prelude.{◌≡◌, ℕ, ◌≤◌, ◌⊎◌, List, ◌++◌, length, count_by, codes, ℤ, Option, is_some}
 use Rattle.std.specs.Fmt.{decimal, signed_decimal}
 use Rattle.std.specs.Io.KnownBytes.{Appends}
 use Rattle.pg_num.specs.declared.limits.TheConstants.{PROGRAM_TEXT_LIMIT}
+use Rattle.pg_ast.specs.Syntax.{Tree}
+use Rattle.pg_grammar.specs.Accepted.{IsModule}
 use Rattle.pg_ir.specs.Program.{NumberedProgram}
-use Rattle.pg_ir.specs.SmallProgram.{Accepts}
 use Rattle.pg_ir.specs.TrapNames.{trap_text}
+use Rattle.pg_rules.specs.Conditions.{IsAccepted as IsUnrefused}
+use Rattle.pg_rules.specs.Numbered.{program_of}
 use Rattle.pg_trace.specs.declared.step.Step.{Step}
 use Rattle.pg_machine.specs.Rotation.{RunResult, rotation_of}
 use Rattle.pg_machine.specs.declared.outcome.Outcome.{Outcome}
 use Rattle.pg_machine.specs.declared.outcome.Outcome.TheVariants.{Exit, Trap, Budget}
 use Rattle.pg_command.specs.Once.{IsOnce}
+use Rattle.pg_session.specs.declared.refusals.Refusal.{Refusal}
+use Rattle.pg_session.specs.Refusals.{IsRefusedFor, refusal_line}
 use Rattle.pg_session.specs.Streams.{AppendsFront}
 
 -- ---- the text of a run
@@ -35,17 +40,13 @@ once_text p quantum input = run_text (rotation_of p input quantum)
 
 -- ---- which texts are run
 
--- a program text that is run: it is no longer than the limit, and a program is accepted
+-- a program text that is run: no longer than the limit, and a module that no check refuses, with its numbered program
 pub record IsAccepted (text : List ℕ) (p : NumberedProgram) : Type 0 where
   pub within : length text ≤ PROGRAM_TEXT_LIMIT
-  pub program : Accepts text p
-
--- no program is accepted
-abbrev pub HasNoProgram : List ℕ → Type 0
-HasNoProgram text = (p : NumberedProgram) → Accepts text p → ⊥
-
-abbrev pub IsRefused : List ℕ → Type 0
-IsRefused text = (PROGRAM_TEXT_LIMIT < length text) ⊎ HasNoProgram text
+  pub tree : Tree
+  pub is_module : IsModule text tree
+  pub unrefused : IsUnrefused tree
+  pub program : p ≡ program_of tree
 
 -- ---- what is written
 
@@ -55,15 +56,11 @@ pub record IsOnceText (text : List ℕ) (quantum : ℕ) (input : List ℤ) (writ
   pub accepted : IsAccepted text program
   pub whole : written ≡ once_text program quantum input
 
--- a refusal by name, at the text's first place
-abbrev pub refusal_line : List ℕ → List ℕ
-refusal_line name = codes "program refused 1:1 " ++ (name ++ codes "\n")
-
--- the line for a program text that is refused; its length is asked first
-abbrev pub IsRefusalLine : List ℕ → List ℕ → Type 0
-IsRefusalLine text written =
-    ((PROGRAM_TEXT_LIMIT < length text) × (written ≡ refusal_line (codes "TooLong")))
-    ⊎ ((length text ≤ PROGRAM_TEXT_LIMIT) × HasNoProgram text × (written ≡ refusal_line (codes "NotYet")))
+-- the line of a program text that is refused
+pub record IsRefusalLine (text written : List ℕ) : Type 0 where
+  pub refusal : Refusal
+  pub cause : IsRefusedFor text refusal
+  pub whole : written ≡ refusal_line text refusal
 
 -- the text of these words for a program text was put behind what the sink told
 pub record WritesOnce (words : List (List ℕ)) (old new : Option (List ℕ)) (text : List ℕ) : Type 0 where

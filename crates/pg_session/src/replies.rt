@@ -1,19 +1,18 @@
 //! The answer to a program text.
-ghost use Rattle.std.specs.Prelude.{◌≡◌, ◌≤◌, ◌+◌, length, IfOk, IfSome, IfNone, IsErrOf};
+ghost use Rattle.std.specs.Prelude.{◌≡◌, ◌≤◌, ◌<◌, ◌+◌, ℕ, ℤ, List, length, IfOk, IfSome, IsErrOf};
 ghost use Rattle.pg_io.specs.Faults.{Rose};
 ghost use Rattle.pg_num.specs.declared.limits.TheConstants.{PROGRAM_TEXT_LIMIT, QUANTUM_LIMIT};
-ghost use Rattle.pg_ir.specs.SmallProgram.{Accepts};
 ghost use Rattle.pg_session.specs.Streams.{TakesAtMost};
-ghost use Rattle.pg_session.specs.Texts.{refusal_line, HasNoProgram};
 ghost use Rattle.pg_session.specs.Replies.{IsReply, IsReplyStatus};
 ghost use Rattle.pg_session.specs.declared.replies.NoReply.TheVariants.{OutOfMemory};
 
+use crate::refusals::{Refusal, refusal_line};
 use crate::status::Status;
 use crate::streams::{ReadAllFault, read_all};
 use crate::texts::once_text;
+use crate::verdicts::{Verdict, verdict_of};
 use pg_command::Once;
 use pg_io::Source;
-use pg_ir::{Program, SmallFault, read_small};
 use pg_num::limits::PROGRAM_TEXT_LIMIT;
 use std::alloc::{AllocError, Global};
 
@@ -41,26 +40,6 @@ impl From<AllocError> for NoReply {
     }
 }
 
-/// The line that refuses a program text, by the name of the reason.
-fn refusal_line(alloc: Global, name: &str) -> Result<Vec<u8>, AllocError>
-    ensures { IfOk result (λ line. line.items ≡ refusal_line name.now) }
-{
-    let line = format!(in alloc; "program refused 1:1 {name}\n")?;
-    Ok(line.into_bytes())
-}
-
-/// The program of a text, or `None` where no program is accepted.
-fn accepted(alloc: Global, text: &[u8]) -> Result<Option<Program>, AllocError>
-    ensures some { IfOk result (λ found. IfSome found (λ p. Accepts text.now p)) }
-    ensures none { IfOk result (λ found. IfNone found (HasNoProgram text.now)) }
-{
-    match read_small(alloc, text) {
-        Ok(program) => Ok(Some(program)),
-        Err(SmallFault::NotYet) => Ok(None),
-        Err(SmallFault::OutOfMemory) => Err(AllocError),
-    }
-}
-
 /// The reply to a program text that isn't too long.
 fn reply_to(alloc: Global, text: &[u8], once: &Once) -> Result<Reply, AllocError>
     requires within { length text.now ≤ PROGRAM_TEXT_LIMIT }
@@ -69,16 +48,28 @@ fn reply_to(alloc: Global, text: &[u8], once: &Once) -> Result<Reply, AllocError
     ensures status { IfOk result (λ r. IsReplyStatus r.status) }
     ensures reply { IfOk result (λ r. IsReply r.status text.now once.now.quantum once.now.numbers.items r.text.items) }
 {
-    match accepted(alloc, text)? {
-        Some(program) => Ok(Reply {
+    match verdict_of(alloc, text)? {
+        Verdict::Accepted(program) => Ok(Reply {
             status: Status::Done,
             text: once_text(alloc, &program, once.quantum, &once.numbers)?,
         }),
-        None => Ok(Reply {
+        Verdict::Refused(refusal) => Ok(Reply {
             status: Status::ProgramRefused,
-            text: refusal_line(alloc, "NotYet")?,
+            text: refusal_line(alloc, text, refusal)?,
         }),
     }
+}
+
+/// The reply to a program text that is too long.
+fn too_long_reply(alloc: Global) -> Result<Reply, AllocError>
+    ensures status { IfOk result (λ r. IsReplyStatus r.status) }
+    ensures reply { IfOk result (λ r. (text : List ℕ) (quantum : ℕ) (input : List ℤ) → PROGRAM_TEXT_LIMIT < length text →
+        IsReply r.status text quantum input r.text.items) }
+{
+    Ok(Reply {
+        status: Status::ProgramRefused,
+        text: refusal_line(alloc, &[], Refusal::TooLong)?,
+    })
 }
 
 /// Reads the program text, and gives the reply to it.
@@ -100,10 +91,7 @@ pub(crate) fn read_reply<S: Source>(
 {
     match read_all(alloc, src, PROGRAM_TEXT_LIMIT) {
         Ok(text) => Ok(reply_to(alloc, &text, once)?),
-        Err(ReadAllFault::TooLong) => Ok(Reply {
-            status: Status::ProgramRefused,
-            text: refusal_line(alloc, "TooLong")?,
-        }),
+        Err(ReadAllFault::TooLong) => Ok(too_long_reply(alloc)?),
         Err(ReadAllFault::Failed) => Err(NoReply::ReadFault),
         Err(ReadAllFault::OutOfMemory) => Err(NoReply::OutOfMemory),
     }

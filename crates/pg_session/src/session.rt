@@ -5,7 +5,8 @@ ghost use Rattle.pg_command.specs.Once.{IsOnce, NoCommand};
 ghost use Rattle.pg_num.specs.declared.limits.TheConstants.{PROGRAM_TEXT_LIMIT};
 ghost use Rattle.pg_ir.specs.Program.{NumberedProgram};
 ghost use Rattle.pg_session.specs.Streams.{TakesAtMost};
-ghost use Rattle.pg_session.specs.Texts.{IsAccepted, IsRefused, WritesOnce, WritesRefusal, WritesFront};
+ghost use Rattle.pg_session.specs.Refusals.{IsRefused};
+ghost use Rattle.pg_session.specs.Texts.{IsAccepted, WritesOnce, WritesRefusal, WritesFront};
 
 use crate::replies::{NoReply, read_reply};
 use crate::status::Status;
@@ -20,7 +21,8 @@ use std::alloc::Global;
 /// `once` and up to 512 numbers, with `--quantum` and the steps of a thread's turn, from 1 to 10,000 and 100
 /// without it, writes what the program prints on this input, and then how its run ended. A number that begins
 /// with `-` stands after `--`. The words are read first, then the program text, of which at most the limit and one more
-/// byte are taken.
+/// byte are taken. In place of the text of a run, a text that is refused gives the line `program refused L:C NAME` with the
+/// line, the column and the name of its first refusal, and behind them the text of a token that isn't supported.
 pub fn peregrine<S: Source, K: Sink>(
     alloc: Global,
     words: &[String],

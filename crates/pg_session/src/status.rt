@@ -8,7 +8,7 @@ pub enum Status {
     Done,
     /// The words are no command.
     Usage,
-    /// The program text is too long, or no program. A line that says so was written.
+    /// The program text is refused. The line that says why was written.
     ProgramRefused,
     /// The source failed.
     ReadFault,

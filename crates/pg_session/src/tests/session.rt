@@ -18,7 +18,9 @@ define i32 @main() {\n\
 
 const TOO_LONG: &[u8] = b"program refused 1:1 TooLong\n";
 
-const NOT_YET: &[u8] = b"program refused 1:1 NotYet\n";
+const UNSUPPORTED: &[u8] = b"program refused 1:1 Unsupported x\n";
+
+const NO_MAIN: &[u8] = b"program refused 1:1 NoMain\n";
 
 const EIGHT: &[u8] = b"8\nexit 0 after 3 turns\n";
 
@@ -93,8 +95,8 @@ fn runs_once(rt: HostRuntime) -> Result<(), Fail> {
     let rows = [
         sure("once 3 5", SUM, Status::Done, EIGHT),
         sure("once", &long, Status::ProgramRefused, TOO_LONG),
-        sure("once", b"x", Status::ProgramRefused, NOT_YET),
-        sure("once", b"", Status::ProgramRefused, NOT_YET),
+        sure("once", b"x", Status::ProgramRefused, UNSUPPORTED),
+        sure("once", b"", Status::ProgramRefused, NO_MAIN),
         sure(most.as_str(), SUM, Status::Done, TWO),
         sure(more.as_str(), SUM, Status::Usage, b""),
         sure("once 9223372036854775807", SUM, Status::Done, GREATEST),

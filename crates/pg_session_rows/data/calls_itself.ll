@@ -1,0 +1,1 @@
+define i32 @main() { %a = call i32 @main() ret i32 0 }

@@ -1,0 +1,2 @@
+@a = global i64 0
+@a = global i64 1

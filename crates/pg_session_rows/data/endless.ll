@@ -1,0 +1,5 @@
+define i32 @main() {
+  br label %a
+a:
+  br label %a
+}

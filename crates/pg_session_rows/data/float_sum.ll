@@ -1,0 +1,1 @@
+define i32 @main() { %a = fadd i32 1, 2 ret i32 0 }
