@@ -9,8 +9,4 @@ pub mod PlaceDecide
 pub mod Places
 pub mod Prefix
 pub mod ProgramDecide
-pub mod SmallAgain
-pub mod SmallFits
-pub mod SmallFound
-pub mod SmallNumbered
 pub mod TypesDecide

@@ -4,11 +4,6 @@ pub mod Operands
 pub mod PlaceTests
 pub mod Program
 pub mod Signatures
-pub mod SmallProgram
-pub mod SmallReading
-pub mod SmallSyntax
-pub mod SmallTokens
-pub mod SmallViews
 pub mod TrapNames
 pub mod TypeTests
 pub mod WellFormed

@@ -14,7 +14,6 @@ mod placed;
 mod program;
 mod request;
 mod signature;
-mod small;
 mod typed;
 mod value;
 
@@ -27,7 +26,6 @@ pub use lists::{Bytes, Cases, Incomings, Indices, Scalars, Values};
 pub use malformed::Malformed;
 pub use program::Program;
 pub use request::{Request, TrapName};
-pub use small::{SMALL_INSTRUCTION_LIMIT, SmallFault, read_small};
 pub use value::{Index, Scalar, Scale, Value};
 
 #[cfg(test)]

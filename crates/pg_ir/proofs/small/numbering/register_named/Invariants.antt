@@ -1,9 +1,0 @@
-use Rattle.std.proofs.Common.{◌≡◌, drop}
-use Rattle.std.specs.List.{position_from}
-use Rattle.std.specs.Str.{bytes_eq}
-use Rattle.pg_ir.specs.SmallViews.{texts_of}
-use Rattle.pg_ir.proofs.small.numbering.register_named.Given as goal
-
-abbrev pub invariant-loop-i : goal.invariant-loop-i
-invariant-loop-i l =
-    position_from (λ n. bytes_eq n l.name) l.i (texts_of (drop l.i l.names)) ≡ position_from (λ n. bytes_eq n l.name) 0 (texts_of l.names)
