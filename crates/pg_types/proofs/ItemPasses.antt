@@ -10,14 +10,14 @@ use Rattle.pg_types.specs.Known.{item_number}
 use Rattle.pg_types.specs.Items.{found_count, AreFound, IsStuck, AreStuck}
 use Rattle.pg_types.proofs.ItemSteps.{still_stuck}
 
-pub count_no_less : (m : Bool) (a b : List (Option ℕ)) → OnTrue m (found_count b ≡ found_count a + 1) → OnFalse m (b ≡ a) → found_count a ≤ found_count b
+pub count_no_less : (m : Bool) (a b : List (Option ℕ)) → OnTrue m (found_count a < found_count b) → OnFalse m (b ≡ a) → found_count a ≤ found_count b
 count_no_less true a b e s = omega (arith, e)
 count_no_less false a b e s = let h = ap (λ x. found_count x) s in omega (arith, h)
 
-pub more_now : (f m r : Bool) (n : ℕ) (a b : List (Option ℕ)) → r ≡ (f || m) → n ≤ found_count a → OnTrue f (n < found_count a) → OnTrue m (found_count b ≡ found_count a + 1) → OnFalse m (b ≡ a) → OnTrue r (n < found_count b)
+pub more_now : (f m r : Bool) (n : ℕ) (a b : List (Option ℕ)) → r ≡ (f || m) → n ≤ found_count a → OnTrue f (n < found_count a) → OnTrue m (found_count a < found_count b) → OnFalse m (b ≡ a) → OnTrue r (n < found_count b)
 more_now f m r n a b e l h k s = subst (λ x. OnTrue x (n < found_count b)) (sym e) (by f m h k s)
   where
-    by : (f m : Bool) → OnTrue f (n < found_count a) → OnTrue m (found_count b ≡ found_count a + 1) → OnFalse m (b ≡ a) → OnTrue (f || m) (n < found_count b)
+    by : (f m : Bool) → OnTrue f (n < found_count a) → OnTrue m (found_count a < found_count b) → OnFalse m (b ≡ a) → OnTrue (f || m) (n < found_count b)
     by true true h k s = omega (arith, h, k)
     by true false h k s = let q = ap (λ x. found_count x) s in omega (arith, h, q)
     by false true h k s = omega (arith, l, k)

@@ -81,7 +81,7 @@ fn find_item(
     requires found { AreFound types.now (types_of table.old) (item_number places.now items.old) (found_count items.old) }
     ensures grows { Grows (types_of table.old) (types_of table.new) }
     ensures found { OnOk result (AreFound types.now (types_of table.new) (item_number places.now items.new) (found_count items.new)) }
-    ensures more { IfOk result (λ b. OnTrue b (found_count items.new ≡ found_count items.old + 1)) }
+    ensures more { IfOk result (λ b. OnTrue b (found_count items.old < found_count items.new)) }
     ensures same { IfOk result (λ b. OnFalse b (items.new ≡ items.old)) }
     ensures stuck { IfOk result (λ b.
         OnFalse b (IsStuck types.now (types_of table.new) (item_number places.now items.new) items.new place)) }
@@ -101,7 +101,33 @@ fn either(one: bool, other: bool) -> bool
     one || other
 }
 
-/// Notes the numbers of the types of items, in one pass over them. Whether there was one more.
+/// Notes the numbers of the types of two items, one so far from the start as the other is from the end,
+/// so that one pass is enough for a chain of items, whether each stands before what it names or behind it.
+fn find_from_both_ends(
+    table: &mut TypeTable,
+    places: &IndexMap<&[u8], usize>,
+    types: &[TypeItem],
+    items: &mut [Option<usize>],
+    place: usize,
+) -> Result<bool, AllocError>
+    requires place { place < length types.now }
+    requires lengths { length items.old ≡ length types.now }
+    requires places { (text : List ℕ) → known_place places.now text ≡
+        first_place (item_texts types.now) text }
+    requires found { AreFound types.now (types_of table.old) (item_number places.now items.old) (found_count items.old) }
+    ensures grows { Grows (types_of table.old) (types_of table.new) }
+    ensures found { OnOk result (AreFound types.now (types_of table.new) (item_number places.now items.new) (found_count items.new)) }
+    ensures more { IfOk result (λ b. OnTrue b (found_count items.old < found_count items.new)) }
+    ensures same { IfOk result (λ b. OnFalse b (items.new ≡ items.old)) }
+    ensures stuck { IfOk result (λ b.
+        OnFalse b (IsStuck types.now (types_of table.new) (item_number places.now items.new) items.new place)) }
+{
+    let last = find_item(table, places, types, items, types.len() - 1 - place)?;
+    let first = find_item(table, places, types, items, place)?;
+    Ok(either(last, first))
+}
+
+/// Notes the numbers of the types of items, in one pass over them from both ends. Whether there was one more.
 fn find_items(
     table: &mut TypeTable,
     places: &IndexMap<&[u8], usize>,
@@ -120,7 +146,7 @@ fn find_items(
 {
     let mut found = false;
     for place in 0..types.len() {
-        let more = find_item(table, places, types, items, place)?;
+        let more = find_from_both_ends(table, places, types, items, place)?;
         found = either(found, more);
     }
     Ok(found)

@@ -1,4 +1,4 @@
-use Rattle.std.proofs.Common.{subst, IfSome}
+use Rattle.std.proofs.Common.{subst, IfSome, arith}
 use Rattle.pg_types.specs.Table.{types_of}
 use Rattle.pg_types.specs.Known.{item_number}
 use Rattle.pg_types.specs.Items.{found_count, IsFoundAt}
@@ -14,7 +14,8 @@ pub returns-in-Some-clause-more : goal.returns-in-Some-clause-more
 returns-in-Some-clause-more c =
     let f : IsFoundAt c.args.types.now (types_of c.found_number.new.table) c.args.items.now c.args.place c.in-Some.number =
     subst (λ o. IfSome o (λ t. IsFoundAt c.args.types.now (types_of c.found_number.new.table) c.args.items.now c.args.place t)) c.in-Some.is c.in_ok-number.ensures.found in
-    count_more c.args.items.now c.args.place c.in-Some.number f.is_open.none
+    let more = count_more c.args.items.now c.args.place c.in-Some.number f.is_open.none in
+    omega (arith, more)
 
 pub returns-in-None-clause-found : goal.returns-in-None-clause-found
 returns-in-None-clause-found c =

@@ -8,9 +8,9 @@ use Rattle.pg_types.proofs.items.find_items.Goals as goal
 pub loop-place-preserved : goal.loop-place-preserved
 loop-place-preserved c =
     let before = types_of c.loop-place.table in
-    let after = types_of c.find_item.new.table in
+    let after = types_of c.find_from_both_ends.new.table in
     let a = c.loop-place.items in
-    let b = c.find_item.new.items in
+    let b = c.find_from_both_ends.new.items in
     let l = count_no_less c.in_ok-more.more a b c.in_ok-more.ensures.more c.in_ok-more.ensures.same in
     record {
       grows = grows_again (types_of c.args.table.now) before after c.loop-place.invariant.grows c.in_ok-more.ensures.grows;
