@@ -23,8 +23,8 @@ use Rattle.pg_rules.specs.LineConditions.{line_refused}
 use Rattle.pg_rules.specs.BlockConditions.{bad_phis, is_endless}
 use Rattle.pg_rules.specs.Conditions.{all_of, all_lines, body_types, scope_of, own_names, body_names, is_unfinished, is_too_large, body_refused}
 use Rattle.pg_rules.proofs.Rows.{earliest_more}
-use Rattle.pg_bodies.specs.declared.scope.LineScope.{LineScope}
-use Rattle.pg_bodies.specs.Scopes.{IsLineScope}
+use Rattle.pg_calls.specs.declared.scope.LineScope.{LineScope}
+use Rattle.pg_calls.specs.Scopes.{IsLineScope}
 use Rattle.pg_bodies.specs.BodyBlocks.{bare_blocks}
 use Rattle.pg_bodies.specs.BodyParts.{is_large_block, whole_refused, AreOwn}
 use Rattle.pg_bodies.proofs.LabelPlaces.{register_place}

@@ -3,15 +3,3 @@ mod BodyRows
 mod LabelPlaces
 mod NumberedBodies
 mod PhiRows
-mod Arguments
-mod CaseStarts
-mod Joined
-mod LeftOut
-mod LineRows
-mod Misfits
-mod Params
-mod Registers
-mod ResultKinds
-mod Returned
-mod ThreadFunctions
-mod UseRows

@@ -1,12 +1,2 @@
-pub mod Calls
-pub mod Cases
-pub mod Headers
-pub mod Returns
-pub mod Lines
-pub mod Misfits
-pub mod Results
-pub mod Scopes
 pub mod BodyBlocks
 pub mod BodyParts
-pub mod Threads
-pub mod Uses

@@ -6,12 +6,12 @@ ghost use Rattle.pg_rules.specs.ValueConditions.{Scope};
 ghost use Rattle.pg_rules.specs.LineConditions.{line_refused};
 ghost use Rattle.pg_rules.specs.Earliest.{AreEarliest};
 ghost use Rattle.pg_rules.specs.Conditions.{all_of};
-ghost use Rattle.pg_bodies.specs.Scopes.{IsLineScope};
+ghost use Rattle.pg_calls.specs.Scopes.{IsLineScope};
 ghost use Rattle.pg_bodies.specs.BodyParts.{block_refused, is_large_line, is_large_block};
 
-use crate::lines::{line_is_large, line_refusals};
-use crate::scope::LineScope;
 use pg_ast::{BlockNode, LineNode};
+use pg_calls::LineScope;
+use pg_lines::{line_is_large, line_refusals};
 use pg_rules::{Refusals, earlier_places, no_refusals};
 use pg_types::TypeNumbers;
 use std::alloc::{AllocError, Global};

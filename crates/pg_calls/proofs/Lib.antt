@@ -1,0 +1,5 @@
+pub mod Arguments
+pub mod Joined
+pub mod Params
+pub mod Registers
+pub mod ThreadFunctions

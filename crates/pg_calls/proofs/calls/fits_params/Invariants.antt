@@ -1,0 +1,12 @@
+use Rattle.std.proofs.Common.{◌≡◌, drop, map}
+use Rattle.pg_ast.specs.Views.{ty_of}
+use Rattle.pg_types.specs.NumberedTypes.{named_types}
+use Rattle.pg_rules.specs.CallConditions.{fits_params}
+use Rattle.pg_calls.specs.Headers.{params_behind}
+use Rattle.pg_calls.proofs.calls.fits_params.Given as goal
+
+abbrev pub invariant-loop-place : goal.invariant-loop-place
+invariant-loop-place l = record {
+  whole : fits_params (named_types l.fn.types) (params_behind (drop l.place l.params)) (map ty_of (drop l.place l.written)) l.dots ≡ fits_params (named_types l.fn.types) (params_behind l.params) (map ty_of l.written) l.dots;
+  items : l.types.items ≡ l.fn.types.items;
+}

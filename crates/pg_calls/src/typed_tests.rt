@@ -1,0 +1,88 @@
+ghost use Rattle.std.specs.Prelude.{◌≡◌, [], ◌∷◌, IfOk};
+ghost use Rattle.std.specs.List.{flat_map};
+ghost use Rattle.pg_ast.specs.Views.{ty_of, typed_of};
+ghost use Rattle.pg_types.specs.Resolved.{resolved};
+ghost use Rattle.pg_types.specs.Kinds.{is_as};
+ghost use Rattle.pg_types.specs.NumberedTypes.{named_types};
+ghost use Rattle.pg_rules.specs.Earliest.{earliest};
+ghost use Rattle.pg_rules.specs.TypeConditions.{unmet};
+ghost use Rattle.pg_rules.specs.Written.{asks, asks_typed};
+ghost use Rattle.pg_values.specs.Tests.{test_of};
+
+use pg_ast::{TypeNode, TypedVal};
+use pg_lex::Span;
+use pg_types::TypeNumbers;
+use pg_values::{TypeTest, unmet, unmet_as};
+use std::alloc::AllocError;
+
+/// The place of a type that isn't what is asked, alone.
+pub fn unmet_one(
+    types: &mut TypeNumbers<'_>,
+    test: TypeTest,
+    ty: &TypeNode,
+) -> Result<Option<Span>, AllocError>
+    ensures place { IfOk result (λ o. o ≡ earliest (flat_map (unmet (named_types types.old)) (asks (test_of test) (ty_of ty.now) ∷ []))) }
+    ensures items { types.new.items ≡ types.old.items }
+{
+    unmet(types, test, ty)
+}
+
+/// The place of a value's type that isn't what is asked.
+pub fn unmet_typed(
+    types: &mut TypeNumbers<'_>,
+    test: TypeTest,
+    value: &TypedVal,
+) -> Result<Option<Span>, AllocError>
+    ensures place { IfOk result (λ o. o ≡ earliest (unmet (named_types types.old) (asks_typed (test_of test) (typed_of value.now)))) }
+    ensures items { types.new.items ≡ types.old.items }
+{
+    unmet(types, test, &value.ty)
+}
+
+/// The place of a value's type that isn't what is asked, alone.
+pub fn unmet_value(
+    types: &mut TypeNumbers<'_>,
+    test: TypeTest,
+    value: &TypedVal,
+) -> Result<Option<Span>, AllocError>
+    ensures place { IfOk result (λ o. o ≡ earliest (flat_map (unmet (named_types types.old)) (asks_typed (test_of test) (typed_of value.now) ∷ []))) }
+    ensures items { types.new.items ≡ types.old.items }
+{
+    unmet_typed(types, test, value)
+}
+
+/// The place of a value's type that isn't the same as another.
+pub(crate) fn unmet_typed_as(
+    types: &mut TypeNumbers<'_>,
+    expected: &TypeNode,
+    value: &TypedVal,
+) -> Result<Option<Span>, AllocError>
+    ensures place { IfOk result (λ o. o ≡ earliest (unmet (named_types types.old) (asks_typed (is_as (resolved (named_types types.old) (ty_of expected.now))) (typed_of value.now)))) }
+    ensures items { types.new.items ≡ types.old.items }
+{
+    unmet_as(types, expected, &value.ty)
+}
+
+/// The place of a value's type that isn't the same as another value's.
+pub fn unmet_like(
+    types: &mut TypeNumbers<'_>,
+    expected: &TypedVal,
+    value: &TypedVal,
+) -> Result<Option<Span>, AllocError>
+    ensures place { IfOk result (λ o. o ≡ earliest (unmet (named_types types.old) (asks_typed (is_as (resolved (named_types types.old) (typed_of expected.now).ty)) (typed_of value.now)))) }
+    ensures items { types.new.items ≡ types.old.items }
+{
+    unmet_typed_as(types, &expected.ty, value)
+}
+
+/// The place of a value's type that isn't the same as another value's, alone.
+pub fn unmet_same(
+    types: &mut TypeNumbers<'_>,
+    expected: &TypedVal,
+    value: &TypedVal,
+) -> Result<Option<Span>, AllocError>
+    ensures place { IfOk result (λ o. o ≡ earliest (flat_map (unmet (named_types types.old)) (asks_typed (is_as (resolved (named_types types.old) (typed_of expected.now).ty)) (typed_of value.now) ∷ []))) }
+    ensures items { types.new.items ≡ types.old.items }
+{
+    unmet_like(types, expected, value)
+}

@@ -1,0 +1,12 @@
+use Rattle.std.proofs.Common.{◌≡◌, map, take}
+use Rattle.pg_ast.specs.Views.{ty_of, case_of}
+use Rattle.pg_types.specs.NumberedTypes.{named_types}
+use Rattle.pg_types.specs.Resolved.{resolved}
+use Rattle.pg_lines.specs.Cases.{case_place}
+use Rattle.pg_lines.proofs.cases.case_places.Given as goal
+
+abbrev pub invariant-loop-case : goal.invariant-loop-case
+invariant-loop-case l = record {
+  places : l.places.items ≡ map (case_place (resolved (named_types l.fn.types) (ty_of l.ty))) (map case_of (take l.case-index l.cases));
+  items : l.types.items ≡ l.fn.types.items;
+}

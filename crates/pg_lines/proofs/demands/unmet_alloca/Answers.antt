@@ -1,0 +1,15 @@
+use Rattle.std.proofs.Common.{[], ◌∷◌}
+use Rattle.std.specs.Option.{option_map}
+use Rattle.pg_ast.specs.Views.{ty_of, count_of}
+use Rattle.pg_rules.specs.Written.{asks, count_demands}
+use Rattle.pg_values.specs.declared.type_tests.TypeTest.TheVariants.{NotVoid}
+use Rattle.pg_values.specs.Tests.{test_of}
+use Rattle.pg_calls.proofs.Joined.{two_demands}
+use Rattle.pg_lines.proofs.demands.unmet_alloca.Goals as goal
+
+pub returns-clause-place : goal.returns-clause-place
+returns-clause-place c =
+    two_demands c.args.types.now.items c.unmet_one.new.types.items
+    (λ types. asks (test_of NotVoid) (ty_of c.args.ty.now) ∷ [])
+    (λ types. count_demands (option_map count_of c.args.count.now))
+    c.in_ok-void.void c.in_ok-number.number c.earlier.result c.unmet_one.ensures.items c.in_ok-void.ensures.place c.in_ok-number.ensures.place c.earlier.ensures

@@ -1,0 +1,450 @@
+ghost use Rattle.std.specs.Prelude.{◌≡◌, [], ◌∷◌, ◌++◌, ◌&&◌, map, IfOk, Option, is_some};
+ghost use Rattle.std.specs.List.{flat_map};
+ghost use Rattle.std.specs.Option.{option_map};
+ghost use Rattle.pg_ast.specs.Syntax.{Case};
+ghost use Rattle.pg_ast.specs.declared.ops.CaseNode.{CaseNode};
+ghost use Rattle.pg_ast.specs.declared.values.TypedVal.{TypedVal};
+ghost use Rattle.pg_ast.specs.Views.{ty_of, typed_of, op_of, case_of, count_of};
+ghost use Rattle.pg_types.specs.Resolved.{ResolvedType, resolved, is_integer, is_pointer};
+ghost use Rattle.pg_types.specs.Kinds.{kind_of, fails, is_as};
+ghost use Rattle.pg_types.specs.NumberedTypes.{named_types};
+ghost use Rattle.pg_rules.specs.Earliest.{earliest};
+ghost use Rattle.pg_rules.specs.TypeConditions.{unmet};
+ghost use Rattle.pg_rules.specs.ValueConditions.{Scope};
+ghost use Rattle.pg_rules.specs.CallConditions.{call_demands};
+ghost use Rattle.pg_rules.specs.Written.{asks, asks_typed, is_narrower, is_wider, cast_from, cast_to, returns_as, count_demands, op_demands};
+ghost use Rattle.pg_values.specs.declared.type_tests.TypeTest.TheVariants.{Integer, Scalar, Pointer, Bit, NotVoid};
+ghost use Rattle.pg_values.specs.Tests.{test_of};
+ghost use Rattle.pg_lines.specs.Returns.{is_scalar_one};
+ghost use Rattle.pg_calls.specs.Scopes.{IsLineScope};
+
+use pg_ast::{CaseNode, CastOp, CountNode, OpNode, TypeNode, TypedVal};
+use pg_calls::{
+    LineScope, call_demands, unmet_like, unmet_one, unmet_same, unmet_typed, unmet_value,
+};
+use pg_lex::Span;
+use pg_rules::{earlier, type_span};
+use pg_types::{TypeKind, TypeNumbers};
+use pg_values::TypeTest;
+use std::alloc::{AllocError, Global};
+
+// ---- conversions
+
+fn is_narrower(from: Option<TypeKind>, to: TypeKind) -> bool
+    ensures { (s : Option ResolvedType) (t : ResolvedType) → from ≡ option_map kind_of s → to ≡ kind_of t → result ≡ is_narrower s t }
+{
+    match (from, to) {
+        (Some(TypeKind::Integer(from)), TypeKind::Integer(to)) => to.bits() < from.bits(),
+        (_, TypeKind::Integer(_)) => true,
+        _ => false,
+    }
+}
+
+fn is_wider(from: Option<TypeKind>, to: TypeKind) -> bool
+    ensures { (s : Option ResolvedType) (t : ResolvedType) → from ≡ option_map kind_of s → to ≡ kind_of t → result ≡ is_wider s t }
+{
+    match (from, to) {
+        (Some(TypeKind::Integer(from)), TypeKind::Integer(to)) => from.bits() < to.bits(),
+        (_, TypeKind::Integer(_)) => true,
+        _ => false,
+    }
+}
+
+fn is_integer(kind: TypeKind) -> bool
+    ensures { (t : ResolvedType) → kind ≡ kind_of t → result ≡ is_integer t }
+{
+    match kind {
+        TypeKind::Integer(_) => true,
+        _ => false,
+    }
+}
+
+fn is_pointer(kind: TypeKind) -> bool
+    ensures { (t : ResolvedType) → kind ≡ kind_of t → result ≡ is_pointer t }
+{
+    match kind {
+        TypeKind::Pointer => true,
+        _ => false,
+    }
+}
+
+fn casts_to(op: CastOp, from: Option<TypeKind>, to: TypeKind) -> bool
+    ensures { (s : Option ResolvedType) (t : ResolvedType) → from ≡ option_map kind_of s → to ≡ kind_of t → result ≡ cast_to op s t }
+{
+    match op {
+        CastOp::Trunc => is_narrower(from, to),
+        CastOp::Zext => is_wider(from, to),
+        CastOp::Sext => is_wider(from, to),
+        CastOp::PtrToInt => is_integer(to),
+        CastOp::IntToPtr => is_pointer(to),
+    }
+}
+
+fn fails_cast(op: CastOp, from: Option<TypeKind>, to: Option<TypeKind>) -> bool
+    ensures { (s t : Option ResolvedType) → from ≡ option_map kind_of s → to ≡ option_map kind_of t → result ≡ fails (cast_to op s) t }
+{
+    match to {
+        Some(to) => !casts_to(op, from, to),
+        None => false,
+    }
+}
+
+/// Whether a conversion doesn't give a type.
+fn is_wrong_cast(
+    types: &mut TypeNumbers<'_>,
+    op: CastOp,
+    value: &TypedVal,
+    ty: &TypeNode,
+) -> Result<bool, AllocError>
+    ensures same { IfOk result (λ b. b ≡ fails (cast_to op (resolved (named_types types.old) (typed_of value.now).ty)) (resolved (named_types types.old) (ty_of ty.now))) }
+    ensures items { types.new.items ≡ types.old.items }
+{
+    let from = types.kind(&value.ty)?;
+    let to = types.kind(ty)?;
+    Ok(fails_cast(op, from, to))
+}
+
+/// The type that a conversion gives, where it can't.
+#[tactic(auto, unfolding(pg_rules::specs::Earliest::earliest))]
+fn unmet_target(
+    types: &mut TypeNumbers<'_>,
+    op: CastOp,
+    value: &TypedVal,
+    ty: &TypeNode,
+) -> Result<Option<Span>, AllocError>
+    ensures place { IfOk result (λ o. o ≡ earliest (flat_map (unmet (named_types types.old)) (asks (cast_to op (resolved (named_types types.old) (typed_of value.now).ty)) (ty_of ty.now) ∷ []))) }
+    ensures items { types.new.items ≡ types.old.items }
+{
+    if is_wrong_cast(types, op, value, ty)? {
+        Ok(Some(type_span(ty)))
+    } else {
+        Ok(None)
+    }
+}
+
+/// The type of the value that a conversion takes, where it can't.
+fn unmet_source(
+    types: &mut TypeNumbers<'_>,
+    op: CastOp,
+    value: &TypedVal,
+) -> Result<Option<Span>, AllocError>
+    ensures place { IfOk result (λ o. o ≡ earliest (flat_map (unmet (named_types types.old)) (asks_typed (cast_from op) (typed_of value.now) ∷ []))) }
+    ensures items { types.new.items ≡ types.old.items }
+{
+    match op {
+        CastOp::Trunc => unmet_value(types, TypeTest::Integer, value),
+        CastOp::Zext => unmet_value(types, TypeTest::Integer, value),
+        CastOp::Sext => unmet_value(types, TypeTest::Integer, value),
+        CastOp::PtrToInt => unmet_value(types, TypeTest::Pointer, value),
+        CastOp::IntToPtr => unmet_value(types, TypeTest::Integer, value),
+    }
+}
+
+fn unmet_cast(
+    types: &mut TypeNumbers<'_>,
+    op: CastOp,
+    value: &TypedVal,
+    ty: &TypeNode,
+) -> Result<Option<Span>, AllocError>
+    ensures place { IfOk result (λ o. o ≡ earliest (flat_map (unmet (named_types types.old))
+        (asks_typed (cast_from op) (typed_of value.now) ∷ asks (cast_to op (resolved (named_types types.old) (typed_of value.now).ty)) (ty_of ty.now) ∷ []))) }
+    ensures items { types.new.items ≡ types.old.items }
+{
+    let source = unmet_source(types, op, value)?;
+    let target = unmet_target(types, op, value, ty)?;
+    Ok(earlier(source, target))
+}
+
+// ---- returns
+
+/// Whether a type is one.
+fn is_type(types: &mut TypeNumbers<'_>, ty: &TypeNode) -> Result<bool, AllocError>
+    ensures same { IfOk result (λ b. b ≡ is_some (resolved (named_types types.old) (ty_of ty.now))) }
+    ensures items { types.new.items ≡ types.old.items }
+{
+    let kind = types.kind(ty)?;
+    Ok(kind.is_some())
+}
+
+/// Whether a type is other than another.
+fn is_other(
+    types: &mut TypeNumbers<'_>,
+    expected: &TypeNode,
+    ty: &TypeNode,
+) -> Result<bool, AllocError>
+    ensures same { IfOk result (λ b. b ≡ fails (is_as (resolved (named_types types.old) (ty_of expected.now))) (resolved (named_types types.old) (ty_of ty.now))) }
+    ensures items { types.new.items ≡ types.old.items }
+{
+    let same = types.agree(expected, ty)?;
+    Ok(!same)
+}
+
+fn is_scalar_kind(kind: Option<TypeKind>) -> bool
+    ensures { (t : Option ResolvedType) → kind ≡ option_map kind_of t → result ≡ is_scalar_one t }
+{
+    match kind {
+        Some(TypeKind::Integer(_)) => true,
+        Some(TypeKind::Pointer) => true,
+        _ => false,
+    }
+}
+
+/// Whether two types are both types.
+fn are_types(
+    types: &mut TypeNumbers<'_>,
+    one: &TypeNode,
+    other: &TypeNode,
+) -> Result<bool, AllocError>
+    ensures same { IfOk result (λ b. b ≡ (is_some (resolved (named_types types.old) (ty_of one.now)) && is_some (resolved (named_types types.old) (ty_of other.now)))) }
+    ensures items { types.new.items ≡ types.old.items }
+{
+    if is_type(types, one)? {
+        is_type(types, other)
+    } else {
+        Ok(false)
+    }
+}
+
+/// Whether a value of a type can't be returned as a function's result.
+fn is_wrong_return(
+    types: &mut TypeNumbers<'_>,
+    expected: &TypeNode,
+    ty: &TypeNode,
+) -> Result<bool, AllocError>
+    ensures same { IfOk result (λ b. b ≡ fails (returns_as (resolved (named_types types.old) (ty_of expected.now))) (resolved (named_types types.old) (ty_of ty.now))) }
+    ensures items { types.new.items ≡ types.old.items }
+{
+    let kind = types.kind(expected)?;
+    let scalar = is_scalar_kind(kind);
+    if scalar {
+        is_other(types, expected, ty)
+    } else {
+        are_types(types, expected, ty)
+    }
+}
+
+/// The type of a value that is returned, where the function has another result.
+#[tactic(auto, unfolding(pg_rules::specs::Earliest::earliest))]
+fn unmet_return(
+    types: &mut TypeNumbers<'_>,
+    expected: &TypeNode,
+    value: &TypedVal,
+) -> Result<Option<Span>, AllocError>
+    ensures place { IfOk result (λ o. o ≡ earliest (flat_map (unmet (named_types types.old)) (asks_typed (returns_as (resolved (named_types types.old) (ty_of expected.now))) (typed_of value.now) ∷ []))) }
+    ensures items { types.new.items ≡ types.old.items }
+{
+    if is_wrong_return(types, expected, &value.ty)? {
+        Ok(Some(type_span(&value.ty)))
+    } else {
+        Ok(None)
+    }
+}
+
+// ---- several types of an instruction
+
+/// The types of the two values between which a `select` chooses: a scalar, and the same.
+fn unmet_choices(
+    types: &mut TypeNumbers<'_>,
+    one: &TypedVal,
+    other: &TypedVal,
+) -> Result<Option<Span>, AllocError>
+    ensures place { IfOk result (λ o. o ≡ earliest (flat_map (unmet (named_types types.old))
+        (asks_typed (test_of Scalar) (typed_of one.now) ∷ asks_typed (is_as (resolved (named_types types.old) (typed_of one.now).ty)) (typed_of other.now) ∷ []))) }
+    ensures items { types.new.items ≡ types.old.items }
+{
+    let scalar = unmet_value(types, TypeTest::Scalar, one)?;
+    let same = unmet_same(types, one, other)?;
+    Ok(earlier(scalar, same))
+}
+
+fn unmet_select(
+    types: &mut TypeNumbers<'_>,
+    condition: &TypedVal,
+    one: &TypedVal,
+    other: &TypedVal,
+) -> Result<Option<Span>, AllocError>
+    ensures place { IfOk result (λ o. o ≡ earliest (flat_map (unmet (named_types types.old))
+        (asks_typed (test_of Bit) (typed_of condition.now) ∷ asks_typed (test_of Scalar) (typed_of one.now) ∷ asks_typed (is_as (resolved (named_types types.old) (typed_of one.now).ty)) (typed_of other.now) ∷ []))) }
+    ensures items { types.new.items ≡ types.old.items }
+{
+    let bit = unmet_value(types, TypeTest::Bit, condition)?;
+    let choices = unmet_choices(types, one, other)?;
+    Ok(earlier(bit, choices))
+}
+
+fn unmet_case(
+    types: &mut TypeNumbers<'_>,
+    expected: &TypedVal,
+    case: &CaseNode,
+) -> Result<Option<Span>, AllocError>
+    ensures place { IfOk result (λ o. o ≡ earliest (unmet (named_types types.old) (asks_typed (is_as (resolved (named_types types.old) (typed_of expected.now).ty)) (case_of case.now).value))) }
+    ensures items { types.new.items ≡ types.old.items }
+{
+    unmet_like(types, expected, &case.value)
+}
+
+/// The types of the cases of a `switch`: that of its value.
+fn unmet_cases(
+    types: &mut TypeNumbers<'_>,
+    expected: &TypedVal,
+    cases: &[CaseNode],
+) -> Result<Option<Span>, AllocError>
+    ensures place { IfOk result (λ o. o ≡ earliest (flat_map (unmet (named_types types.old))
+        (map (λ (c : CaseNode). asks_typed (is_as (resolved (named_types types.old) (typed_of expected.now).ty)) (case_of c).value) cases.now))) }
+    ensures items { types.new.items ≡ types.old.items }
+{
+    let mut found = None;
+    for case in cases {
+        found = earlier(found, unmet_case(types, expected, case)?);
+    }
+    Ok(found)
+}
+
+fn unmet_switch(
+    types: &mut TypeNumbers<'_>,
+    value: &TypedVal,
+    cases: &[CaseNode],
+) -> Result<Option<Span>, AllocError>
+    ensures place { IfOk result (λ o. o ≡ earliest (flat_map (unmet (named_types types.old))
+        (asks_typed (test_of Integer) (typed_of value.now) ∷ map (λ (c : Case). asks_typed (is_as (resolved (named_types types.old) (typed_of value.now).ty)) c.value) (map case_of cases.now)))) }
+    ensures items { types.new.items ≡ types.old.items }
+{
+    let integer = unmet_value(types, TypeTest::Integer, value)?;
+    let same = unmet_cases(types, value, cases)?;
+    Ok(earlier(integer, same))
+}
+
+#[tactic(auto, unfolding(pg_rules::specs::Earliest::earliest))]
+fn unmet_count(
+    types: &mut TypeNumbers<'_>,
+    count: &Option<CountNode>,
+) -> Result<Option<Span>, AllocError>
+    ensures place { IfOk result (λ o. o ≡ earliest (flat_map (unmet (named_types types.old)) (count_demands (option_map count_of count.now)))) }
+    ensures items { types.new.items ≡ types.old.items }
+{
+    match count {
+        Some(count) => unmet_one(types, TypeTest::Integer, &count.ty),
+        None => Ok(None),
+    }
+}
+
+fn unmet_alloca(
+    types: &mut TypeNumbers<'_>,
+    ty: &TypeNode,
+    count: &Option<CountNode>,
+) -> Result<Option<Span>, AllocError>
+    ensures place { IfOk result (λ o. o ≡ earliest (flat_map (unmet (named_types types.old)) (asks (test_of NotVoid) (ty_of ty.now) ∷ count_demands (option_map count_of count.now)))) }
+    ensures items { types.new.items ≡ types.old.items }
+{
+    let void = unmet_one(types, TypeTest::NotVoid, ty)?;
+    let number = unmet_count(types, count)?;
+    Ok(earlier(void, number))
+}
+
+/// What a type is asked, and the type of a pointer.
+fn unmet_pointed(
+    types: &mut TypeNumbers<'_>,
+    test: TypeTest,
+    ty: &TypeNode,
+    pointer: &TypedVal,
+) -> Result<Option<Span>, AllocError>
+    ensures place { IfOk result (λ o. o ≡ earliest (flat_map (unmet (named_types types.old)) (asks (test_of test) (ty_of ty.now) ∷ asks_typed (test_of Pointer) (typed_of pointer.now) ∷ []))) }
+    ensures items { types.new.items ≡ types.old.items }
+{
+    let own = unmet_one(types, test, ty)?;
+    let place = unmet_value(types, TypeTest::Pointer, pointer)?;
+    Ok(earlier(own, place))
+}
+
+fn unmet_store(
+    types: &mut TypeNumbers<'_>,
+    value: &TypedVal,
+    pointer: &TypedVal,
+) -> Result<Option<Span>, AllocError>
+    ensures place { IfOk result (λ o. o ≡ earliest (flat_map (unmet (named_types types.old)) (asks_typed (test_of Scalar) (typed_of value.now) ∷ asks_typed (test_of Pointer) (typed_of pointer.now) ∷ []))) }
+    ensures items { types.new.items ≡ types.old.items }
+{
+    let own = unmet_value(types, TypeTest::Scalar, value)?;
+    let place = unmet_value(types, TypeTest::Pointer, pointer)?;
+    Ok(earlier(own, place))
+}
+
+/// The types of the indices of a `getelementptr`.
+fn unmet_indices(
+    types: &mut TypeNumbers<'_>,
+    indices: &[TypedVal],
+) -> Result<Option<Span>, AllocError>
+    ensures place { IfOk result (λ o. o ≡ earliest (flat_map (unmet (named_types types.old)) (map (λ (i : TypedVal). asks_typed (test_of Integer) (typed_of i)) indices.now))) }
+    ensures items { types.new.items ≡ types.old.items }
+{
+    let mut found = None;
+    for index in indices {
+        found = earlier(found, unmet_typed(types, TypeTest::Integer, index)?);
+    }
+    Ok(found)
+}
+
+fn unmet_path(
+    types: &mut TypeNumbers<'_>,
+    ty: &TypeNode,
+    pointer: &TypedVal,
+    indices: &[TypedVal],
+) -> Result<Option<Span>, AllocError>
+    ensures place { IfOk result (λ o. o ≡ earliest (flat_map (unmet (named_types types.old))
+        (asks (test_of NotVoid) (ty_of ty.now) ∷ asks_typed (test_of Pointer) (typed_of pointer.now) ∷ map (asks_typed (test_of Integer)) (map typed_of indices.now)))) }
+    ensures items { types.new.items ≡ types.old.items }
+{
+    let front = unmet_pointed(types, TypeTest::NotVoid, ty, pointer)?;
+    let path = unmet_indices(types, indices)?;
+    Ok(earlier(front, path))
+}
+
+// ---- all instructions
+
+/// The earliest type that isn't what an instruction asks by itself, in a function with this result.
+#[tactic(auto, unfolding(pg_rules::specs::Written::op_demands, pg_rules::specs::Earliest::earliest))]
+fn op_demands(
+    types: &mut TypeNumbers<'_>,
+    returned: &TypeNode,
+    op: &OpNode,
+) -> Result<Option<Span>, AllocError>
+    ensures place { IfOk result (λ o. o ≡ earliest (flat_map (unmet (named_types types.old)) (op_demands (named_types types.old) (resolved (named_types types.old) (ty_of returned.now)) (op_of op.now)))) }
+    ensures items { types.new.items ≡ types.old.items }
+{
+    match op {
+        OpNode::Binary(_, _, ty, _, _) => unmet_one(types, TypeTest::Integer, ty),
+        OpNode::Icmp(_, _, ty, _, _) => unmet_one(types, TypeTest::Scalar, ty),
+        OpNode::Cast(_, cast, value, ty) => unmet_cast(types, *cast, value, ty),
+        OpNode::Select(_, condition, one, other) => unmet_select(types, condition, one, other),
+        OpNode::Phi(_, ty, _, _) => unmet_one(types, TypeTest::Scalar, ty),
+        OpNode::Br(_, _) => Ok(None),
+        OpNode::CondBr(_, condition, _, _) => unmet_value(types, TypeTest::Bit, condition),
+        OpNode::Switch(_, value, _, cases) => unmet_switch(types, value, cases.as_slice()),
+        OpNode::Call(_, _, _, _, _) => Ok(None),
+        OpNode::RetVoid(_, _) => Ok(None),
+        OpNode::Ret(_, value) => unmet_return(types, returned, value),
+        OpNode::Unreachable(_) => Ok(None),
+        OpNode::Alloca(_, ty, count) => unmet_alloca(types, ty, count),
+        OpNode::Load(_, ty, pointer) => unmet_pointed(types, TypeTest::Scalar, ty, pointer),
+        OpNode::Store(_, value, pointer) => unmet_store(types, value, pointer),
+        OpNode::GetElementPtr(_, ty, pointer, indices) => {
+            unmet_path(types, ty, pointer, indices.as_slice())
+        }
+    }
+}
+
+/// The earliest type that isn't what an instruction asks by itself, or as a call.
+pub(crate) fn unmet_demands(
+    alloc: Global,
+    scope: &LineScope<'_>,
+    types: &mut TypeNumbers<'_>,
+    op: &OpNode,
+) -> Result<Option<Span>, AllocError>
+    ensures place { (g : Scope) → IsLineScope scope.now g → g.tree.types ≡ named_types types.old →
+        IfOk result (λ o. o ≡ earliest (flat_map (unmet g.tree.types) (op_demands g.tree.types g.result (op_of op.now) ++ call_demands g (op_of op.now)))) }
+    ensures items { types.new.items ≡ types.old.items }
+{
+    let own = op_demands(types, scope.result, op)?;
+    let arguments = call_demands(alloc, scope, types, op)?;
+    Ok(earlier(own, arguments))
+}

@@ -1,0 +1,125 @@
+ghost use Rattle.std.specs.Prelude.{◌≡◌, IfOk};
+ghost use Rattle.std.specs.List.{flat_map};
+ghost use Rattle.pg_ast.specs.Syntax.{Int};
+ghost use Rattle.pg_ast.specs.Views.{count_of};
+ghost use Rattle.pg_types.specs.NumberedTypes.{named_types};
+ghost use Rattle.pg_rules.specs.Written.{with_inner, constant_at};
+ghost use Rattle.pg_rules.specs.ValueConditions.{Scope, wrong_use};
+ghost use Rattle.pg_rules.specs.Earliest.{earliest};
+ghost use Rattle.pg_calls.specs.Scopes.{IsLineScope};
+ghost use Rattle.pg_lines.specs.Misfits.{misfits};
+ghost use Rattle.pg_lines.specs.Uses.{use_of, uses_of, unknown_row, function_row, row_within};
+
+use crate::operands::UseNode;
+use pg_ast::{CountNode, Literal};
+use pg_calls::LineScope;
+use pg_lex::Span;
+use pg_rules::{earlier, place_if};
+use pg_types::{TypeKind, TypeNumbers, literal_in};
+use pg_values::{function_values, unknown_values, wrong_values};
+use std::alloc::{AllocError, Global};
+
+/// The earliest unknown name in a value and those within it.
+#[tactic(auto, unfolding(pg_rules::specs::Written::inner_uses, pg_rules::specs::Earliest::earliest))]
+fn unknown_use(scope: &LineScope<'_>, one: UseNode<'_>) -> Option<Span>
+    ensures { (g : Scope) → IsLineScope scope.now g → result ≡ earliest (row_within (unknown_row g) (use_of one.entry)) }
+{
+    match one {
+        UseNode::Value(_, _, value) => unknown_values(&scope.values, value),
+        UseNode::Count(_) => None,
+    }
+}
+
+/// The earliest unknown name in values and those within them.
+pub(crate) fn unknown_uses(scope: &LineScope<'_>, uses: &[UseNode<'_>]) -> Option<Span>
+    ensures { (g : Scope) → IsLineScope scope.now g → result ≡ earliest (flat_map (unknown_row g) (flat_map with_inner (uses_of uses.now))) }
+{
+    let mut found = None;
+    for one in uses {
+        found = earlier(found, unknown_use(scope, *one));
+    }
+    found
+}
+
+/// The earliest name of a function in a value and those within it.
+#[tactic(auto, unfolding(pg_rules::specs::Written::inner_uses, pg_rules::specs::Earliest::earliest))]
+fn function_use(scope: &LineScope<'_>, one: UseNode<'_>) -> Option<Span>
+    ensures { (g : Scope) → IsLineScope scope.now g → result ≡ earliest (row_within (function_row g) (use_of one.entry)) }
+{
+    match one {
+        UseNode::Value(_, _, value) => function_values(&scope.values, value),
+        UseNode::Count(_) => None,
+    }
+}
+
+/// The earliest name of a function in values and those within them.
+pub(crate) fn function_uses(scope: &LineScope<'_>, uses: &[UseNode<'_>]) -> Option<Span>
+    ensures { (g : Scope) → IsLineScope scope.now g → result ≡ earliest (flat_map (function_row g) (flat_map with_inner (uses_of uses.now))) }
+{
+    let mut found = None;
+    for one in uses {
+        found = earlier(found, function_use(scope, *one));
+    }
+    found
+}
+
+/// Whether an integer that is written doesn't fit a type of a kind.
+fn misfits(kind: Option<TypeKind>, literal: &Literal) -> bool
+    ensures { result ≡ misfits kind literal.now }
+{
+    match kind {
+        Some(TypeKind::Integer(width)) => literal_in(width, literal.text.as_slice()).is_none(),
+        Some(_) => true,
+        None => false,
+    }
+}
+
+/// The place of a number of elements that doesn't fit its type.
+fn wrong_count_use(
+    types: &mut TypeNumbers<'_>,
+    count: &CountNode,
+) -> Result<Option<Span>, AllocError>
+    ensures place { (g : Scope) → g.tree.types ≡ named_types types.old →
+        IfOk result (λ o. o ≡ earliest (row_within (wrong_use g) (constant_at (count_of count.now).ty (Int (count_of count.now).count)))) }
+    ensures items { types.new.items ≡ types.old.items }
+{
+    let kind = types.kind(&count.ty)?;
+    Ok(place_if(misfits(kind, &count.count), count.count.span))
+}
+
+/// The earliest place at which a value or one within it doesn't fit.
+fn wrong_use(
+    alloc: Global,
+    scope: &LineScope<'_>,
+    types: &mut TypeNumbers<'_>,
+    one: UseNode<'_>,
+) -> Result<Option<Span>, AllocError>
+    ensures place { (g : Scope) → IsLineScope scope.now g → g.tree.types ≡ named_types types.old →
+        IfOk result (λ o. o ≡ earliest (row_within (wrong_use g) (use_of one.entry))) }
+    ensures items { types.new.items ≡ types.old.items }
+{
+    match one {
+        UseNode::Value(constant, ty, value) => {
+            wrong_values(alloc, &scope.values, types, constant, ty, value)
+        }
+        UseNode::Count(count) => wrong_count_use(types, count),
+    }
+}
+
+/// The earliest place at which one of these values or one within them doesn't fit.
+pub(crate) fn wrong_uses(
+    alloc: Global,
+    scope: &LineScope<'_>,
+    types: &mut TypeNumbers<'_>,
+    uses: &[UseNode<'_>],
+) -> Result<Option<Span>, AllocError>
+    ensures place { (g : Scope) → IsLineScope scope.now g → g.tree.types ≡ named_types types.old →
+        IfOk result (λ o. o ≡ earliest (flat_map (wrong_use g) (flat_map with_inner (uses_of uses.now)))) }
+    ensures items { types.new.items ≡ types.old.items }
+{
+    let mut found = None;
+    for one in uses {
+        found = earlier(found, wrong_use(alloc, scope, types, *one)?);
+    }
+    Ok(found)
+}

@@ -1,0 +1,245 @@
+ghost use Rattle.std.specs.Prelude.{◌≡◌, [], ◌∷◌, ◌++◌, IfOk, OnOk, Some, map};
+ghost use Rattle.std.specs.Option.{option_map};
+ghost use Rattle.pg_ast.specs.Syntax.{Incoming, Case};
+ghost use Rattle.pg_ast.specs.Views.{ty_of, typed_of, incoming_of, case_of, count_of, op_of};
+ghost use Rattle.pg_rules.specs.Written.{operand, constant_at, typed_operand, count_uses, operands};
+ghost use Rattle.pg_rules.specs.ValueConditions.{Scope};
+ghost use Rattle.pg_rules.specs.CallConditions.{value_operands};
+ghost use Rattle.pg_calls.specs.Scopes.{IsLineScope};
+ghost use Rattle.pg_calls.specs.Threads.{left_out};
+ghost use Rattle.pg_lines.specs.Uses.{use_of, uses_of};
+
+use pg_ast::{CaseNode, CountNode, IncomingNode, OpNode, TypeNode, TypedVal, ValNode};
+use pg_calls::{LineScope, thread_argument};
+use std::alloc::{AllocError, Global};
+
+/// A value that stands in a line.
+#[derive(Clone, Copy)]
+pub(crate) enum UseNode<'a> {
+    /// Whether it stands where no register may, the type at which it stands, and the value.
+    Value(bool, &'a TypeNode, &'a ValNode),
+    /// The number of elements of an `alloca`.
+    Count(&'a CountNode),
+}
+
+/// A value at the type that is written before it.
+fn typed_use<'a>(value: &'a TypedVal) -> UseNode<'a>
+    ensures { use_of result ≡ typed_operand (typed_of value.now) }
+{
+    UseNode::Value(false, &value.ty, &value.value)
+}
+
+/// A case's value, which is a constant.
+fn case_use<'a>(case: &'a CaseNode) -> UseNode<'a>
+    ensures { use_of result ≡ constant_at (case_of case.now).value.ty (case_of case.now).value.value }
+{
+    UseNode::Value(true, &case.value.ty, &case.value.value)
+}
+
+/// Adds values at the types that are written before them.
+fn add_typed_uses<'a>(all: &mut Vec<UseNode<'a>>, values: &'a [TypedVal]) -> Result<(), AllocError>
+    ensures { OnOk result (uses_of all.new.items ≡ uses_of all.old.items ++ map typed_operand (map typed_of values.now)) }
+{
+    for value in values {
+        all.push(typed_use(value))?;
+    }
+    Ok(())
+}
+
+/// Adds the values of cases.
+fn add_case_uses<'a>(all: &mut Vec<UseNode<'a>>, cases: &'a [CaseNode]) -> Result<(), AllocError>
+    ensures { OnOk result (uses_of all.new.items ≡ uses_of all.old.items
+        ++ map (λ (c : Case). constant_at c.value.ty c.value.value) (map case_of cases.now)) }
+{
+    for case in cases {
+        all.push(case_use(case))?;
+    }
+    Ok(())
+}
+
+/// Adds the values of a `phi` at its type.
+fn add_incoming_uses<'a>(
+    all: &mut Vec<UseNode<'a>>,
+    ty: &'a TypeNode,
+    incomings: &'a [IncomingNode],
+) -> Result<(), AllocError>
+    ensures { OnOk result (uses_of all.new.items ≡ uses_of all.old.items
+        ++ map (λ (j : Incoming). operand (ty_of ty.now) j.value) (map incoming_of incomings.now)) }
+{
+    for incoming in incomings {
+        all.push(UseNode::Value(false, ty, &incoming.value))?;
+    }
+    Ok(())
+}
+
+fn one_use<'a>(alloc: Global, one: UseNode<'a>) -> Result<Vec<UseNode<'a>>, AllocError>
+    ensures { IfOk result (λ v. uses_of v.items ≡ use_of one.entry ∷ []) }
+{
+    let mut all = Vec::new(alloc);
+    all.push(one)?;
+    Ok(all)
+}
+
+fn two_uses<'a>(
+    alloc: Global,
+    one: UseNode<'a>,
+    other: UseNode<'a>,
+) -> Result<Vec<UseNode<'a>>, AllocError>
+    ensures { IfOk result (λ v. uses_of v.items ≡ use_of one.entry ∷ use_of other.entry ∷ []) }
+{
+    let mut all = Vec::new(alloc);
+    all.push(one)?;
+    all.push(other)?;
+    Ok(all)
+}
+
+fn three_uses<'a>(
+    alloc: Global,
+    one: UseNode<'a>,
+    other: UseNode<'a>,
+    last: UseNode<'a>,
+) -> Result<Vec<UseNode<'a>>, AllocError>
+    ensures { IfOk result (λ v. uses_of v.items ≡ use_of one.entry ∷ use_of other.entry ∷ use_of last.entry ∷ []) }
+{
+    let mut all = Vec::new(alloc);
+    all.push(one)?;
+    all.push(other)?;
+    all.push(last)?;
+    Ok(all)
+}
+
+/// The values of a `phi`: the first and the others.
+fn incoming_uses<'a>(
+    alloc: Global,
+    ty: &'a TypeNode,
+    first: &'a IncomingNode,
+    others: &'a [IncomingNode],
+) -> Result<Vec<UseNode<'a>>, AllocError>
+    ensures { IfOk result (λ v. uses_of v.items ≡
+        map (λ (j : Incoming). operand (ty_of ty.now) j.value) (incoming_of first.now ∷ map incoming_of others.now)) }
+{
+    let mut all = one_use(alloc, UseNode::Value(false, ty, &first.value))?;
+    add_incoming_uses(&mut all, ty, others)?;
+    Ok(all)
+}
+
+/// The value of a `switch` and those of its cases.
+fn switch_uses<'a>(
+    alloc: Global,
+    value: &'a TypedVal,
+    cases: &'a [CaseNode],
+) -> Result<Vec<UseNode<'a>>, AllocError>
+    ensures { IfOk result (λ v. uses_of v.items ≡ typed_operand (typed_of value.now)
+        ∷ map (λ (c : Case). constant_at c.value.ty c.value.value) (map case_of cases.now)) }
+{
+    let mut all = one_use(alloc, typed_use(value))?;
+    add_case_uses(&mut all, cases)?;
+    Ok(all)
+}
+
+/// The pointer of a `getelementptr` and its indices.
+fn path_uses<'a>(
+    alloc: Global,
+    pointer: &'a TypedVal,
+    indices: &'a [TypedVal],
+) -> Result<Vec<UseNode<'a>>, AllocError>
+    ensures { IfOk result (λ v. uses_of v.items ≡ typed_operand (typed_of pointer.now) ∷ map typed_operand (map typed_of indices.now)) }
+{
+    let mut all = one_use(alloc, typed_use(pointer))?;
+    add_typed_uses(&mut all, indices)?;
+    Ok(all)
+}
+
+fn typed_uses<'a>(alloc: Global, values: &'a [TypedVal]) -> Result<Vec<UseNode<'a>>, AllocError>
+    ensures { IfOk result (λ v. uses_of v.items ≡ map typed_operand (map typed_of values.now)) }
+{
+    let mut all = Vec::new(alloc);
+    add_typed_uses(&mut all, values)?;
+    Ok(all)
+}
+
+/// The number of elements of an `alloca`, if one is written.
+fn count_uses<'a>(
+    alloc: Global,
+    count: &'a Option<CountNode>,
+) -> Result<Vec<UseNode<'a>>, AllocError>
+    ensures { IfOk result (λ v. uses_of v.items ≡ count_uses (option_map count_of count.now)) }
+{
+    match count {
+        Some(count) => one_use(alloc, UseNode::Count(count)),
+        None => Ok(Vec::new(alloc)),
+    }
+}
+
+/// The operands of an instruction, in order.
+#[tactic(auto, unfolding(pg_rules::specs::Written::operands))]
+pub(crate) fn operands<'a>(alloc: Global, op: &'a OpNode) -> Result<Vec<UseNode<'a>>, AllocError>
+    ensures { IfOk result (λ v. uses_of v.items ≡ operands (op_of op.now)) }
+{
+    match op {
+        OpNode::Binary(_, _, ty, one, other) => two_uses(
+            alloc,
+            UseNode::Value(false, ty, one),
+            UseNode::Value(false, ty, other),
+        ),
+        OpNode::Icmp(_, _, ty, one, other) => two_uses(
+            alloc,
+            UseNode::Value(false, ty, one),
+            UseNode::Value(false, ty, other),
+        ),
+        OpNode::Cast(_, _, value, _) => one_use(alloc, typed_use(value)),
+        OpNode::Select(_, test, yes, no) => {
+            three_uses(alloc, typed_use(test), typed_use(yes), typed_use(no))
+        }
+        OpNode::Phi(_, ty, first, others) => incoming_uses(alloc, ty, first, others.as_slice()),
+        OpNode::Br(_, _) => Ok(Vec::new(alloc)),
+        OpNode::CondBr(_, test, _, _) => one_use(alloc, typed_use(test)),
+        OpNode::Switch(_, value, _, cases) => switch_uses(alloc, value, cases.as_slice()),
+        OpNode::Call(_, _, _, _, arguments) => typed_uses(alloc, arguments.as_slice()),
+        OpNode::RetVoid(_, _) => Ok(Vec::new(alloc)),
+        OpNode::Ret(_, value) => one_use(alloc, typed_use(value)),
+        OpNode::Unreachable(_) => Ok(Vec::new(alloc)),
+        OpNode::Alloca(_, _, count) => count_uses(alloc, count),
+        OpNode::Load(_, _, pointer) => one_use(alloc, typed_use(pointer)),
+        OpNode::Store(_, value, pointer) => {
+            two_uses(alloc, typed_use(value), typed_use(pointer))
+        }
+        OpNode::GetElementPtr(_, _, pointer, indices) => {
+            path_uses(alloc, pointer, indices.as_slice())
+        }
+    }
+}
+
+/// Leaves out the value at a place, if there are so many.
+#[tactic(auto, using(crate::proofs::LeftOut::left_one, crate::proofs::LeftOut::left_none))]
+fn leave_out(all: &mut Vec<UseNode<'_>>, place: usize)
+    ensures { uses_of all.new.items ≡ left_out (Some place) (uses_of all.old.items) }
+{
+    if place < all.len() {
+        let _left = all.remove(place);
+    }
+}
+
+/// Leaves out the value at a place, if one is given.
+fn leave_out_if(all: &mut Vec<UseNode<'_>>, place: Option<usize>)
+    ensures { uses_of all.new.items ≡ left_out place (uses_of all.old.items) }
+{
+    match place {
+        Some(place) => leave_out(all, place),
+        None => (),
+    }
+}
+
+/// The operands of an instruction that are judged as values: without the function with which a thread begins.
+pub(crate) fn value_operands<'a>(
+    alloc: Global,
+    scope: &LineScope<'_>,
+    op: &'a OpNode,
+) -> Result<Vec<UseNode<'a>>, AllocError>
+    ensures { (g : Scope) → IsLineScope scope.now g → IfOk result (λ v. uses_of v.items ≡ value_operands g (op_of op.now)) }
+{
+    let mut all = operands(alloc, op)?;
+    let place = thread_argument(scope, op);
+    leave_out_if(&mut all, place);
+    Ok(all)
+}

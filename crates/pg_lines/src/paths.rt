@@ -1,0 +1,151 @@
+ghost use Rattle.std.specs.Prelude.{◌≡◌, IfOk, Some, not};
+ghost use Rattle.pg_ast.specs.Numbers.{is_void, gives};
+ghost use Rattle.pg_ast.specs.Views.{ty_of, op_of};
+ghost use Rattle.pg_types.specs.NumberedTypes.{named_types};
+ghost use Rattle.pg_types.specs.Kinds.{fails};
+ghost use Rattle.pg_types.specs.Resolved.{is_void_type};
+ghost use Rattle.pg_rules.specs.Conditions.{at_if};
+ghost use Rattle.pg_rules.specs.ValueConditions.{Scope};
+ghost use Rattle.pg_rules.specs.LineConditions.{wrong_return, wrong_path, wrong_name};
+ghost use Rattle.pg_rules.specs.Earliest.{earliest};
+ghost use Rattle.pg_calls.specs.Scopes.{IsLineScope};
+ghost use Rattle.pg_lines.specs.Results.{is_value_kind, is_void_kind};
+
+use crate::line_types::value_type;
+use pg_ast::{Name, OpNode, TypeNode};
+use pg_calls::LineScope;
+use pg_lex::Span;
+use pg_rules::place_if;
+use pg_types::{TypeKind, TypeNumbers};
+use pg_values::wrong_indices;
+use std::alloc::{AllocError, Global};
+
+/// The earliest index of a `getelementptr` that chooses no field, or goes into what has no parts.
+#[tactic(auto, unfolding(pg_rules::specs::Earliest::earliest))]
+pub(crate) fn wrong_path(
+    alloc: Global,
+    types: &mut TypeNumbers<'_>,
+    op: &OpNode,
+) -> Result<Option<Span>, AllocError>
+    ensures place { (g : Scope) → g.tree.types ≡ named_types types.old → IfOk result (λ o. o ≡ earliest (wrong_path g (op_of op.now))) }
+    ensures items { types.new.items ≡ types.old.items }
+{
+    match op {
+        OpNode::GetElementPtr(_, ty, _, indices) => {
+            wrong_indices(alloc, types, ty, indices.as_slice())
+        }
+        _ => Ok(None),
+    }
+}
+
+/// Whether a type of a kind is one that has values.
+fn is_value_kind(kind: Option<TypeKind>) -> bool
+    ensures { result ≡ is_value_kind kind }
+{
+    match kind {
+        Some(TypeKind::Void) => false,
+        Some(_) => true,
+        None => false,
+    }
+}
+
+/// The place of a `void` that is returned where the function has a result.
+#[tactic(auto, using(crate::proofs::ResultKinds::fails_void))]
+fn void_return(
+    scope: &LineScope<'_>,
+    types: &mut TypeNumbers<'_>,
+    void: Span,
+) -> Result<Option<Span>, AllocError>
+    ensures place { (g : Scope) → IsLineScope scope.now g → g.tree.types ≡ named_types types.old →
+        IfOk result (λ o. o ≡ earliest (at_if (fails is_void_type g.result) void)) }
+    ensures items { types.new.items ≡ types.old.items }
+{
+    let kind = types.kind(scope.result)?;
+    Ok(place_if(is_value_kind(kind), void))
+}
+
+/// The place at which nothing is returned where the function has a result.
+#[tactic(auto, unfolding(pg_rules::specs::Earliest::earliest))]
+pub(crate) fn wrong_return(
+    scope: &LineScope<'_>,
+    types: &mut TypeNumbers<'_>,
+    op: &OpNode,
+) -> Result<Option<Span>, AllocError>
+    ensures place { (g : Scope) → IsLineScope scope.now g → g.tree.types ≡ named_types types.old →
+        IfOk result (λ o. o ≡ earliest (wrong_return g (op_of op.now))) }
+    ensures items { types.new.items ≡ types.old.items }
+{
+    match op {
+        OpNode::RetVoid(_, void) => void_return(scope, types, *void),
+        _ => Ok(None),
+    }
+}
+
+#[tactic(auto, unfolding(pg_rules::specs::Earliest::earliest))]
+fn misplaced_name(gives: bool, name: &Name) -> Option<Span>
+    ensures { result ≡ earliest (wrong_name gives (Some name.now)) }
+{
+    if gives { None } else { Some(name.span) }
+}
+
+fn is_void_kind(kind: Option<TypeKind>) -> bool
+    ensures { result ≡ is_void_kind kind }
+{
+    match kind {
+        Some(TypeKind::Void) => true,
+        _ => false,
+    }
+}
+
+/// Whether a type is one that may have values: neither `void` nor a name for it.
+#[tactic(auto, using(crate::proofs::ResultKinds::void_by_kind))]
+fn isnt_void(types: &mut TypeNumbers<'_>, ty: &TypeNode) -> Result<bool, AllocError>
+    ensures same { IfOk result (λ b. b ≡ not (is_void (named_types types.old) (ty_of ty.now))) }
+    ensures items { types.new.items ≡ types.old.items }
+{
+    let kind = types.kind(ty)?;
+    Ok(!is_void_kind(kind))
+}
+
+/// Whether an instruction has a result that isn't `void`.
+#[tactic(auto, unfolding(pg_ast::specs::Numbers::gives))]
+fn gives(types: &mut TypeNumbers<'_>, op: &OpNode) -> Result<bool, AllocError>
+    ensures same { IfOk result (λ b. b ≡ gives (named_types types.old) (op_of op.now)) }
+    ensures items { types.new.items ≡ types.old.items }
+{
+    match op {
+        OpNode::Binary(_, _, ty, _, _) => isnt_void(types, ty),
+        OpNode::Icmp(_, _, _, _, _) => Ok(true),
+        OpNode::Cast(_, _, _, ty) => isnt_void(types, ty),
+        OpNode::Select(_, _, yes, _) => isnt_void(types, value_type(yes)),
+        OpNode::Phi(_, ty, _, _) => isnt_void(types, ty),
+        OpNode::Br(_, _) => Ok(false),
+        OpNode::CondBr(_, _, _, _) => Ok(false),
+        OpNode::Switch(_, _, _, _) => Ok(false),
+        OpNode::Call(_, ty, _, _, _) => isnt_void(types, ty),
+        OpNode::RetVoid(_, _) => Ok(false),
+        OpNode::Ret(_, _) => Ok(false),
+        OpNode::Unreachable(_) => Ok(false),
+        OpNode::Alloca(_, _, _) => Ok(true),
+        OpNode::Load(_, ty, _) => isnt_void(types, ty),
+        OpNode::Store(_, _, _) => Ok(false),
+        OpNode::GetElementPtr(_, _, _, _) => Ok(true),
+    }
+}
+
+/// A name before an instruction without a result.
+#[tactic(auto, unfolding(pg_rules::specs::Earliest::earliest))]
+pub(crate) fn wrong_name(
+    types: &mut TypeNumbers<'_>,
+    name: &Option<Name>,
+    op: &OpNode,
+) -> Result<Option<Span>, AllocError>
+    ensures place { (g : Scope) → g.tree.types ≡ named_types types.old →
+        IfOk result (λ o. o ≡ earliest (wrong_name (gives g.tree.types (op_of op.now)) name.now)) }
+    ensures items { types.new.items ≡ types.old.items }
+{
+    match name {
+        Some(name) => Ok(misplaced_name(gives(types, op)?, name)),
+        None => Ok(None),
+    }
+}
