@@ -10,7 +10,7 @@ use crate::first::first_of_module;
 use pg_ast::Module;
 use pg_ir::Program;
 use pg_numbering::laws::an_accepted_tree_is_a_program;
-use pg_program::{NumberFault, ProgramParts, program_parts};
+use pg_program::{ProgramParts, program_parts};
 use pg_rules::CheckFault;
 use pg_types::TypeNumbers;
 use std::alloc::Global;
@@ -27,10 +27,7 @@ fn numbered(
     ensures program { IfOk result (λ p. p ≡ program_of (tree_of tree.now)) }
     ensures fault { IfErr result (λ e. e ≡ OutOfMemory) }
 {
-    let parts = match program_parts(alloc, types, tree) {
-        Ok(parts) => parts,
-        Err(_) => return Err(CheckFault::OutOfMemory),
-    };
+    let parts = program_parts(alloc, types, tree)?;
     an_accepted_tree_is_a_program();
     let ProgramParts {
         functions,

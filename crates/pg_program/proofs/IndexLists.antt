@@ -3,7 +3,7 @@ use Rattle.std.proofs.Common.{◌≡◌, ℕ, zero, suc, ◌+◌, ◌<◌, ◌�
 use Rattle.std.proofs.lemmas.List.{append_assoc, append-nil}
 use Rattle.pg_ast.specs.declared.values.TypedVal.{TypedVal}
 use Rattle.pg_ast.specs.Syntax.{Typed}
-use Rattle.pg_ast.specs.Views.{ty_of, typed_of}
+use Rattle.pg_ast.specs.Views.{typed_of}
 use Rattle.pg_num.specs.declared.width.Width.{Width}
 use Rattle.pg_ir.specs.declared.value.Value.{Value}
 use Rattle.pg_ir.specs.declared.value.Index.{Index}

@@ -6,7 +6,7 @@ use Rattle.pg_types.specs.Kinds.{kind_of}
 use Rattle.pg_types.specs.Resolved.{ResolvedType, IntegerType, PointerType, VoidType, ArrayType, NoFields, MoreFields}
 use Rattle.pg_rules.specs.Constants.{constant_word}
 use Rattle.pg_rules.specs.Numbered.{width_in}
-use Rattle.pg_program.specs.Words.{kind_word, kind_width}
+use Rattle.pg_constants.specs.Words.{kind_word, kind_width}
 
 pub word_of_kind : (m : Tree) (t : Option ResolvedType) (v : Val) → kind_word m (option_map kind_of t) v ≡ constant_word m t v
 word_of_kind m None v = refl

@@ -1,5 +1,5 @@
 -- The instructions of a function whose lines are numbered, by the names of its registers.
-use Rattle.std.proofs.Common.{◌≡◌, ℕ, zero, suc, ◌+◌, Bool, true, false, if◌then◌else◌, List, [], ◌∷◌, ◌++◌, length, map, drop, Option, Some, None, refl, sym, ap, ◌∙◌, arith}
+use Rattle.std.proofs.Common.{◌≡◌, ℕ, ◌+◌, Bool, true, false, if◌then◌else◌, List, [], ◌∷◌, ◌++◌, length, map, drop, Option, Some, None, refl, ap, ◌∙◌, arith}
 use Rattle.std.specs.Option.{option_map}
 use Rattle.std.specs.List.{flat_map, filter_map, cons_option, enumerate_from}
 use Rattle.std.proofs.lemmas.List.{map-append}
@@ -7,8 +7,8 @@ use Rattle.pg_ir.specs.declared.instr.Op as numbered_op
 use Rattle.pg_ir.specs.declared.instr.Instr.{Instr}
 use Rattle.pg_ast.specs.declared.names.Name.{Name}
 use Rattle.pg_ast.specs.Syntax.{NamedType, Line, Block, Param, Definition, Tree}
-use Rattle.pg_ast.specs.Numbers.{gives, numbered, name_at, after, each_at, behind_all, result_at, line_at, behind_line, block_at, behind_block, param_at, behind_param}
-use Rattle.pg_types.specs.Resolved.{ResolvedType, resolved}
+use Rattle.pg_ast.specs.Numbers.{gives, numbered, after, each_at, behind_all, result_at, line_at, behind_line, block_at, behind_block, param_at, behind_param}
+use Rattle.pg_types.specs.Resolved.{ResolvedType}
 use Rattle.pg_rules.specs.Names.{Register, register, registers_of, result_type, line_register, block_registers, param_register}
 use Rattle.pg_rules.specs.ValueConditions.{Scope}
 use Rattle.pg_rules.specs.Numbered.{op_at, number_of_name, instr_at, function_instrs}

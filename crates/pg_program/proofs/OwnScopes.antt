@@ -1,7 +1,6 @@
 -- A function's names as its lines look them up, and what follows for its instructions and its row.
-use Rattle.std.proofs.Common.{◌≡◌, ℕ, zero, suc, ◌+◌, List, [], ◌∷◌, ◌++◌, length, map, drop, Option, refl, sym, ap, ◌∙◌}
+use Rattle.std.proofs.Common.{◌≡◌, ℕ, suc, List, [], ◌∷◌, ◌++◌, length, map, drop, Option, refl, sym, ap, ◌∙◌}
 use Rattle.std.specs.List.{filter_map}
-use Rattle.pg_ir.specs.declared.ids.BlockNo.{BlockNo}
 use Rattle.pg_ir.specs.declared.value.Scalar.{Scalar}
 use Rattle.pg_ir.specs.declared.function.Function.{Function}
 use Rattle.pg_ir.specs.declared.instr.Instr.{Instr}
@@ -16,7 +15,7 @@ use Rattle.pg_types.specs.Resolved.{resolved}
 use Rattle.pg_rules.specs.Names.{Register, registers_of, labels_of, label_number}
 use Rattle.pg_rules.specs.Conditions.{scope_of}
 use Rattle.pg_rules.specs.Numbered.{scalar_in, function_at, function_instrs}
-use Rattle.pg_program.specs.declared.scope.FunctionScope.{FunctionScope}
+use Rattle.pg_program.specs.declared.function_scope.FunctionScope.{FunctionScope}
 use Rattle.pg_program.specs.ScopeNames.{ScopeNames, scope_in}
 use Rattle.pg_program.specs.LineRows.{blocks_by, name_in}
 use Rattle.pg_program.specs.FunctionRows.{numbered_item}
@@ -37,7 +36,7 @@ own_scope s d registers labels r l a b = record {
   label_known = λ text. l text ∙ ap (λ ns. label_number ns text) b;
 }
 
-map_count : {X Y : Type 0} (f : X → Y) (xs : List X) → length (map f xs) ≡ length xs
+pub map_count : {X Y : Type 0} (f : X → Y) (xs : List X) → length (map f xs) ≡ length xs
 map_count f [] = refl
 map_count f (x ∷ xs) = ap (λ n. suc n) (map_count f xs)
 

@@ -7,12 +7,13 @@ use Rattle.pg_ir.specs.declared.function.Function.{Function}
 use Rattle.pg_ir.specs.declared.function.Block as numbered_block
 use Rattle.pg_ast.specs.declared.nodes.BlockNode.{BlockNode}
 use Rattle.pg_ast.specs.declared.nodes.DefineItem.{DefineItem}
-use Rattle.pg_ast.specs.Syntax.{Definition, NamedType, Line, Block, Tree}
+use Rattle.pg_ast.specs.Syntax.{Definition, NamedType, Line, Block}
 use Rattle.pg_ast.specs.Numbers.{numbered, each_at, behind_all, after, line_at, behind_line, block_at, behind_block, behind_param}
 use Rattle.pg_ast.specs.Views.{block_of, define_of}
 use Rattle.pg_rules.specs.Names.{line_count, first_block, first_line}
 use Rattle.pg_rules.specs.Numbered.{blocks_from}
 use Rattle.pg_program.specs.FunctionRows.{rows_from, numbered_item, block_row}
+use Rattle.pg_program.specs.Room.{blocks_in}
 
 -- ---- one more
 
@@ -66,6 +67,23 @@ pub first_line_step : (xs : List DefineItem) (k : ℕ) (x d : DefineItem) (first
 unfolding first_line
 first_line_step xs k x d first next l e a b =
     b ∙ ap (λ n. n + line_count (define_of x)) a ∙ sym (total_step line_count xs k x d l e)
+
+-- ---- room for one more
+
+sum_front : (f : Definition → ℕ) (ds : List Definition) (k : ℕ) → sum_by f (take k ds) ≤ sum_by f ds
+sum_front f ds zero = omega arith
+sum_front f [] (suc k) = omega arith
+sum_front f (d ∷ ds) (suc k) = omega (arith, sum_by-cons f d (take k ds), sum_by-cons f d ds, sum_front f ds k)
+
+pub blocks_room : (xs : List DefineItem) (k : ℕ) (x d : DefineItem) (first limit : ℕ) → k < length xs → x ≡ get_or xs k d
+    → first ≡ first_block (map define_of xs) k → sum_by blocks_in (map define_of xs) ≤ limit → first + length (define_of x).blocks ≤ limit
+unfolding first_block
+blocks_room xs k x d first limit l e a h = omega (arith, total_step blocks_in xs k x d l e, sum_front blocks_in (map define_of xs) (k + 1), a, h)
+
+pub lines_room : (xs : List DefineItem) (k : ℕ) (x d : DefineItem) (first limit : ℕ) → k < length xs → x ≡ get_or xs k d
+    → first ≡ first_line (map define_of xs) k → sum_by line_count (map define_of xs) ≤ limit → first + line_count (define_of x) ≤ limit
+unfolding first_line
+lines_room xs k x d first limit l e a h = omega (arith, total_step line_count xs k x d l e, sum_front line_count (map define_of xs) (k + 1), a, h)
 
 pub first_block_none : (fs : List Definition) → first_block fs 0 ≡ 0
 unfolding first_block

@@ -1,5 +1,5 @@
 -- The parts of a program are those of the numbered program.
-use Rattle.std.proofs.Common.{◌≡◌, ℕ, ◌+◌, List, map, unwrap_or, sym, ap, ◌∙◌}
+use Rattle.std.proofs.Common.{◌≡◌, ℕ, List, map, unwrap_or, sym, ap, ◌∙◌}
 use Rattle.std.specs.List.{position, position_from, enumerate_from}
 use Rattle.std.specs.Str.{bytes_eq}
 use Rattle.std.proofs.lemmas.Iterator.Adapters.{position_from-zero}

@@ -1,7 +1,5 @@
-pub mod Fields
 pub mod FunctionRows
-pub mod Indices
-pub mod Initialisers
 pub mod LineRows
+pub mod Room
 pub mod ScopeNames
-pub mod Words
+pub mod ScopeSizes

@@ -1,5 +1,5 @@
 -- Instructions whose results take their names from a row, one after the other.
-use Rattle.std.specs.Prelude.{ℕ, ◌+◌, Bool, true, false, List, [], ◌∷◌, ◌++◌, Option, Some, None}
+use Rattle.std.specs.Prelude.{ℕ, ◌+◌, Bool, true, false, List, [], ◌∷◌, ◌++◌, Option, None}
 use Rattle.pg_ir.specs.declared.ids.BlockNo.{BlockNo}
 use Rattle.pg_ir.specs.declared.instr.Instr.{Instr}
 use Rattle.pg_ast.specs.declared.names.Name.{Name}

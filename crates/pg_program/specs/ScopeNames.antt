@@ -4,7 +4,7 @@ use Rattle.pg_ast.specs.declared.names.Name.{Name}
 use Rattle.pg_ast.specs.Views.{tree_of}
 use Rattle.pg_types.specs.Resolved.{ResolvedType}
 use Rattle.pg_types.specs.NameIndex.{known_place}
-use Rattle.pg_program.specs.declared.scope.FunctionScope.{FunctionScope}
+use Rattle.pg_program.specs.declared.function_scope.FunctionScope.{FunctionScope}
 use Rattle.pg_rules.specs.Names.{Register, register_number, label_number}
 use Rattle.pg_rules.specs.ValueConditions.{Scope}
 

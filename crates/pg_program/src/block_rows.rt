@@ -1,12 +1,12 @@
-ghost use Rattle.std.specs.Prelude.{◌≡◌, ◌++◌, ◌+◌, OnOk, IfOk, length, map, sum_by};
+ghost use Rattle.std.specs.Prelude.{◌≡◌, ◌++◌, ◌+◌, ◌≤◌, OnOk, IfOk, length, map, sum_by};
+ghost use Rattle.pg_num.specs.declared.limits.TheConstants.{INSTRUCTION_LIMIT};
 ghost use Rattle.pg_ast.specs.Syntax as syntax;
 ghost use Rattle.pg_ast.specs.Views.{block_of};
 ghost use Rattle.pg_rules.specs.Numbered.{blocks_from};
 
-use crate::number_fault::NumberFault;
-use crate::scope::{number_behind, short_number};
 use pg_ast::BlockNode;
 use pg_ir::{Block, InstrId};
+use std::alloc::AllocError;
 
 /// Adds the basic blocks of a function, whose instructions are numbered from `first` on, and gives the number of the
 /// instruction behind them.
@@ -15,20 +15,21 @@ pub(crate) fn add_blocks(
     function: u32,
     first: u32,
     blocks: &[BlockNode],
-) -> Result<u32, NumberFault>
+) -> Result<u32, AllocError>
+    requires { first + sum_by (λ (b : syntax.Block). length b.lines) (map block_of blocks.now) ≤ INSTRUCTION_LIMIT }
     ensures blocks { OnOk result (found.new.items ≡ found.old.items ++ blocks_from function first (map block_of blocks.now)) }
     ensures next { IfOk result (λ n. n ≡ first + sum_by (λ (b : syntax.Block). length b.lines) (map block_of blocks.now)) }
 {
     let mut at = first;
     for block in blocks {
         let lines = block.lines.as_slice();
-        let count = short_number(lines.len())?;
+        let count = lines.len() as u32;
         found.push(Block {
             function,
             first: InstrId(at),
             count,
         })?;
-        at = number_behind(at, count)?;
+        at += count;
     }
     Ok(at)
 }

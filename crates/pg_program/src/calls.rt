@@ -1,10 +1,8 @@
-ghost use Rattle.std.specs.Prelude.{◌≡◌, IfOk};
-ghost use Rattle.pg_ir.specs.declared.instr.Op.TheVariants as operation;
+ghost use Rattle.std.specs.Prelude.{◌≡◌};
 ghost use Rattle.pg_rules.specs.Numbered.{call_of, known_call};
 ghost use Rattle.pg_rules.specs.Symbols.{symbol_of};
+ghost use Rattle.pg_program.specs.Room.{IsShort};
 
-use crate::number_fault::NumberFault;
-use crate::scope::short_number;
 use pg_ir::{Known, Op, Value, Values};
 use pg_rules::{SymbolNode, known_named};
 
@@ -20,25 +18,17 @@ fn known_call(known: Option<Known>, args: Vec<Value>) -> Op
     }
 }
 
-fn numbered_call(place: usize, args: Vec<Value>) -> Result<Op, NumberFault>
-    ensures { IfOk result (λ o. o ≡ operation.Call place args.items) }
-{
-    let function = short_number(place)?;
-    Ok(Op::Call {
-        function,
-        args: Values::from_vec(args),
-    })
-}
-
 /// A call of what a name stands for.
-pub(crate) fn call_of(symbol: SymbolNode<'_>, args: Vec<Value>) -> Result<Op, NumberFault>
-    ensures { IfOk result (λ o. o ≡ call_of (symbol_of symbol.entry) args.items) }
+pub(crate) fn call_of(symbol: SymbolNode<'_>, args: Vec<Value>) -> Op
+    requires { IsShort (symbol_of symbol) }
+    ensures { result ≡ call_of (symbol_of symbol.entry) args.items }
 {
     match symbol {
-        SymbolNode::Definition(place, _) => numbered_call(place, args),
-        SymbolNode::Declaration(item) => {
-            Ok(known_call(known_named(item.name.text.as_slice()), args))
-        }
-        _ => Ok(Op::Unreachable),
+        SymbolNode::Definition(place, _) => Op::Call {
+            function: place as u32,
+            args: Values::from_vec(args),
+        },
+        SymbolNode::Declaration(item) => known_call(known_named(item.name.text.as_slice()), args),
+        _ => Op::Unreachable,
     }
 }

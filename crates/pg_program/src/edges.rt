@@ -4,11 +4,13 @@ ghost use Rattle.pg_types.specs.Resolved.{resolved};
 ghost use Rattle.pg_types.specs.NumberedTypes.{named_types};
 ghost use Rattle.pg_rules.specs.ValueConditions.{number_at};
 ghost use Rattle.pg_rules.specs.Numbered.{incoming_at, case_at};
+ghost use Rattle.pg_program.specs.Room.{Each};
 ghost use Rattle.pg_program.specs.ScopeNames.{ScopeNames, scope_in};
+ghost use Rattle.pg_program.specs.ScopeSizes.{IncomingIsSmall};
 
-use crate::number_fault::NumberFault;
+use crate::function_scope::FunctionScope;
 use crate::operands::value_at;
-use crate::scope::{FunctionScope, block_at};
+use crate::scope::block_at;
 use pg_ast::{CaseNode, IncomingNode, TypeNode, TypedVal};
 use pg_ir::{Case, Incoming};
 use pg_rules::number_at;
@@ -22,13 +24,14 @@ fn incoming_at(
     types: &mut TypeNumbers<'_>,
     ty: &TypeNode,
     incoming: &IncomingNode,
-) -> Result<Incoming, NumberFault>
-    requires { types.old.items ≡ scope.now.globals.now.symbols.tree.now.types.items }
+) -> Result<Incoming, AllocError>
+    requires items { types.old.items ≡ scope.now.globals.now.symbols.tree.now.types.items }
+    requires value { IncomingIsSmall scope.now (incoming_of incoming.now) }
     ensures incoming { (names : ScopeNames scope.now) →
         IfOk result (λ i. i ≡ incoming_at (scope_in scope.now names) scope.now.first (ty_of ty.now) (incoming_of incoming.now)) }
     ensures items { types.new.items ≡ types.old.items }
 {
-    let block = block_at(scope, &incoming.block)?;
+    let block = block_at(scope, &incoming.block);
     let value = value_at(alloc, scope, types, ty, &incoming.value)?;
     Ok(Incoming { block, value })
 }
@@ -41,8 +44,9 @@ fn add_incomings(
     ty: &TypeNode,
     found: &mut Vec<Incoming>,
     all: &[IncomingNode],
-) -> Result<(), NumberFault>
-    requires { types.old.items ≡ scope.now.globals.now.symbols.tree.now.types.items }
+) -> Result<(), AllocError>
+    requires items { types.old.items ≡ scope.now.globals.now.symbols.tree.now.types.items }
+    requires values { Each (IncomingIsSmall scope.now) (map incoming_of all.now) }
     ensures incomings { (names : ScopeNames scope.now) → OnOk result (found.new.items ≡ found.old.items
         ++ map (incoming_at (scope_in scope.now names) scope.now.first (ty_of ty.now)) (map incoming_of all.now)) }
     ensures items { types.new.items ≡ types.old.items }
@@ -62,8 +66,10 @@ pub(crate) fn incomings_at(
     ty: &TypeNode,
     first: &IncomingNode,
     others: &[IncomingNode],
-) -> Result<Vec<Incoming>, NumberFault>
-    requires { types.old.items ≡ scope.now.globals.now.symbols.tree.now.types.items }
+) -> Result<Vec<Incoming>, AllocError>
+    requires items { types.old.items ≡ scope.now.globals.now.symbols.tree.now.types.items }
+    requires first { IncomingIsSmall scope.now (incoming_of first.now) }
+    requires others { Each (IncomingIsSmall scope.now) (map incoming_of others.now) }
     ensures incomings { (names : ScopeNames scope.now) → IfOk result (λ v. v.items ≡
         map (incoming_at (scope_in scope.now names) scope.now.first (ty_of ty.now)) (incoming_of first.now ∷ map incoming_of others.now)) }
     ensures items { types.new.items ≡ types.old.items }
@@ -94,14 +100,14 @@ fn case_at(
     types: &mut TypeNumbers<'_>,
     ty: &TypeNode,
     case: &CaseNode,
-) -> Result<Case, NumberFault>
+) -> Result<Case, AllocError>
     requires { types.old.items ≡ scope.now.globals.now.symbols.tree.now.types.items }
     ensures case { (names : ScopeNames scope.now) →
         IfOk result (λ i. i ≡ case_at (scope_in scope.now names) scope.now.first (ty_of ty.now) (case_of case.now)) }
     ensures items { types.new.items ≡ types.old.items }
 {
     let value = case_number(types, ty, &case.value)?;
-    let to = block_at(scope, &case.block)?;
+    let to = block_at(scope, &case.block);
     Ok(Case { value, to })
 }
 
@@ -112,7 +118,7 @@ pub(crate) fn cases_at(
     types: &mut TypeNumbers<'_>,
     ty: &TypeNode,
     cases: &[CaseNode],
-) -> Result<Vec<Case>, NumberFault>
+) -> Result<Vec<Case>, AllocError>
     requires { types.old.items ≡ scope.now.globals.now.symbols.tree.now.types.items }
     ensures cases { (names : ScopeNames scope.now) → IfOk result (λ v. v.items ≡
         map (case_at (scope_in scope.now names) scope.now.first (ty_of ty.now)) (map case_of cases.now)) }

@@ -1,7 +1,8 @@
-ghost use Rattle.std.specs.Prelude.{◌≡◌, ◌++◌, ℕ, List, IfOk, OnOk, map};
+ghost use Rattle.std.specs.Prelude.{◌≡◌, ◌++◌, ◌+◌, ◌≤◌, ℕ, List, IfOk, OnOk, length, map};
 ghost use Rattle.std.specs.List.{filter_map};
 ghost use Rattle.std.specs.Option.{option_to_list};
-ghost use Rattle.pg_ast.specs.Views.{ty_of, tree_of};
+ghost use Rattle.pg_num.specs.declared.limits.TheConstants.{FUNCTION_REGISTER_LIMIT, INSTRUCTION_LIMIT};
+ghost use Rattle.pg_ast.specs.Views.{ty_of, define_of, tree_of};
 ghost use Rattle.pg_types.specs.NameIndex.{known_place, texts_of};
 ghost use Rattle.pg_types.specs.NumberedTypes.{named_types};
 ghost use Rattle.pg_types.specs.Resolved.{resolved};
@@ -9,13 +10,13 @@ ghost use Rattle.pg_rules.specs.Names.{label_number};
 ghost use Rattle.pg_rules.specs.Numbered.{scalar_in, function_at, function_instrs};
 ghost use Rattle.pg_names.specs.Registers.{register_type};
 ghost use Rattle.pg_program.specs.FunctionRows.{numbered_item, text_in, kind_scalar};
+ghost use Rattle.pg_program.specs.Room.{FewSymbols, FunctionFits};
 
-use crate::globals::Globals;
+use crate::function_scope::FunctionScope;
 use crate::line_rows::add_block_lines;
-use crate::number_fault::NumberFault;
-use crate::scope::{FunctionScope, short_number};
 use indexmap::IndexMap;
 use pg_ast::{DefineItem, Module, Name, TypeNode};
+use pg_constants::Globals;
 use pg_ir::{BlockNo, Function, Instr, Scalar, Scalars};
 use pg_names::{RegisterType, own_names};
 use pg_num::Width;
@@ -53,8 +54,11 @@ pub(crate) fn add_function(
     found: &mut Vec<Instr>,
     item: &DefineItem,
     first: u32,
-) -> Result<(), NumberFault>
-    requires { types.old.items ≡ globals.now.symbols.tree.now.types.items }
+) -> Result<(), AllocError>
+    requires items { types.old.items ≡ globals.now.symbols.tree.now.types.items }
+    requires symbols { FewSymbols (tree_of globals.now.symbols.tree.now) }
+    requires fits { FunctionFits (tree_of globals.now.symbols.tree.now).types (define_of item.now) }
+    requires room { first + length (define_of item.now).blocks ≤ INSTRUCTION_LIMIT }
     ensures instrs { OnOk result (found.new.items ≡ found.old.items ++ function_instrs (tree_of globals.now.symbols.tree.now) first
         (numbered_item (tree_of globals.now.symbols.tree.now).types item.now)) }
     ensures items { types.new.items ≡ types.old.items }
@@ -148,8 +152,10 @@ pub(crate) fn function_at(
     tree: &Module,
     item: &DefineItem,
     first: u32,
-) -> Result<Function, NumberFault>
-    requires { types.old.items ≡ tree.now.types.items }
+) -> Result<Function, AllocError>
+    requires items { types.old.items ≡ tree.now.types.items }
+    requires params { length (define_of item.now).params ≤ FUNCTION_REGISTER_LIMIT }
+    requires blocks { length (define_of item.now).blocks ≤ INSTRUCTION_LIMIT }
     ensures function { IfOk result (λ f. f ≡ function_at (tree_of tree.now) first (numbered_item (tree_of tree.now).types item.now)) }
     ensures items { types.new.items ≡ types.old.items }
 {
@@ -160,8 +166,8 @@ pub(crate) fn function_at(
     let result = scalar_at(types, &item.result)?;
     let params = item.params.as_slice();
     let blocks = item.blocks.as_slice();
-    let param_count = short_number(params.len())?;
-    let block_count = short_number(blocks.len())?;
+    let param_count = params.len() as u32;
+    let block_count = blocks.len() as u32;
     Ok(Function {
         params: param_count,
         registers: scalars,

@@ -2,17 +2,18 @@ ghost use Rattle.std.specs.Prelude.{◌≡◌, IfOk, length, map};
 ghost use Rattle.pg_ast.specs.Views.{ty_of, typed_of, tree_of};
 ghost use Rattle.pg_rules.specs.Constants.{index_scales};
 ghost use Rattle.pg_rules.specs.Numbered.{index_at, indices_at};
+ghost use Rattle.pg_program.specs.Room.{Each};
 ghost use Rattle.pg_program.specs.ScopeNames.{ScopeNames, scope_in};
+ghost use Rattle.pg_program.specs.ScopeSizes.{TyIsSmall, TypedIsSmall};
 
-use crate::indices::index_scales;
-use crate::number_fault::NumberFault;
+use crate::function_scope::FunctionScope;
 use crate::operands::{typed_value, typed_width};
-use crate::scope::FunctionScope;
 use pg_ast::{TypeNode, TypedVal};
+use pg_constants::index_scales;
 use pg_ir::{Index, Scale};
 use pg_rules::index_numbers;
 use pg_types::TypeNumbers;
-use std::alloc::Global;
+use std::alloc::{AllocError, Global};
 
 /// An index of a `getelementptr`.
 fn index_at(
@@ -21,8 +22,9 @@ fn index_at(
     types: &mut TypeNumbers<'_>,
     index: &TypedVal,
     scale: Scale,
-) -> Result<Index, NumberFault>
-    requires { types.old.items ≡ scope.now.globals.now.symbols.tree.now.types.items }
+) -> Result<Index, AllocError>
+    requires items { types.old.items ≡ scope.now.globals.now.symbols.tree.now.types.items }
+    requires value { TypedIsSmall scope.now (typed_of index.now) }
     ensures index { (names : ScopeNames scope.now) →
         IfOk result (λ i. i ≡ index_at (scope_in scope.now names) (typed_of index.now) scale) }
     ensures items { types.new.items ≡ types.old.items }
@@ -43,9 +45,10 @@ fn scaled_indices(
     types: &mut TypeNumbers<'_>,
     indices: &[TypedVal],
     scales: &[Scale],
-) -> Result<Vec<Index>, NumberFault>
+) -> Result<Vec<Index>, AllocError>
     requires lengths { length indices.now ≡ length scales.now }
     requires items { types.old.items ≡ scope.now.globals.now.symbols.tree.now.types.items }
+    requires values { Each (TypedIsSmall scope.now) (map typed_of indices.now) }
     ensures indices { (names : ScopeNames scope.now) →
         IfOk result (λ v. v.items ≡ indices_at (scope_in scope.now names) (map typed_of indices.now) scales.now) }
     ensures items { types.new.items ≡ types.old.items }
@@ -59,15 +62,16 @@ fn scaled_indices(
 }
 
 /// The scales of indices, constants or not.
-#[tactic(auto, using(crate::proofs::ScaleSteps::index_scales_are))]
+#[tactic(auto, using(pg_constants::proofs::ScaleSteps::index_scales_are))]
 fn scales_at(
     alloc: Global,
     scope: &FunctionScope<'_>,
     types: &mut TypeNumbers<'_>,
     ty: &TypeNode,
     indices: &[TypedVal],
-) -> Result<Vec<Scale>, NumberFault>
-    requires { types.old.items ≡ scope.now.globals.now.symbols.tree.now.types.items }
+) -> Result<Vec<Scale>, AllocError>
+    requires items { types.old.items ≡ scope.now.globals.now.symbols.tree.now.types.items }
+    requires ty { TyIsSmall scope.now (ty_of ty.now) }
     ensures scales { IfOk result (λ v. v.items ≡
         index_scales (tree_of scope.now.globals.now.symbols.tree.now).types (ty_of ty.now) (map typed_of indices.now)) }
     ensures items { types.new.items ≡ types.old.items }
@@ -83,8 +87,10 @@ pub(crate) fn indices_at(
     types: &mut TypeNumbers<'_>,
     ty: &TypeNode,
     indices: &[TypedVal],
-) -> Result<Vec<Index>, NumberFault>
-    requires { types.old.items ≡ scope.now.globals.now.symbols.tree.now.types.items }
+) -> Result<Vec<Index>, AllocError>
+    requires items { types.old.items ≡ scope.now.globals.now.symbols.tree.now.types.items }
+    requires ty { TyIsSmall scope.now (ty_of ty.now) }
+    requires values { Each (TypedIsSmall scope.now) (map typed_of indices.now) }
     ensures indices { (names : ScopeNames scope.now) → IfOk result (λ v. v.items ≡
         indices_at (scope_in scope.now names) (map typed_of indices.now)
         (index_scales (tree_of scope.now.globals.now.symbols.tree.now).types (ty_of ty.now) (map typed_of indices.now))) }

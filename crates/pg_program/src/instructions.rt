@@ -6,15 +6,17 @@ ghost use Rattle.pg_types.specs.Layout.{size_or_none};
 ghost use Rattle.pg_rules.specs.Names.{symbol};
 ghost use Rattle.pg_rules.specs.Constants.{index_scales};
 ghost use Rattle.pg_rules.specs.Numbered.{type_in, width_in, value_at, typed_value, block_at, binary_op, comparison_of, indices_at, cast_op, incoming_at, case_at, count_in, call_of, op_at};
+ghost use Rattle.pg_program.specs.Room.{OpFits, Each};
 ghost use Rattle.pg_program.specs.ScopeNames.{ScopeNames, scope_in};
+ghost use Rattle.pg_program.specs.ScopeSizes.{types_in, TyIsSmall, ValIsSmall, TypedIsSmall, IncomingIsSmall};
 
 use crate::calls::call_of;
 use crate::edges::{cases_at, incomings_at};
+use crate::function_scope::FunctionScope;
 use crate::index_operands::indices_at;
-use crate::number_fault::NumberFault;
 use crate::operands::{size_at, typed_value, typed_width, value_at, values_at, width_at};
 use crate::operations::{binary_op, cast_op, comparison_of};
-use crate::scope::{FunctionScope, block_at};
+use crate::scope::block_at;
 use pg_ast::{
     BinaryOp, CaseNode, CastOp, CountNode, IncomingNode, Name, OpNode, Predicate, TypeNode,
     TypedVal, ValNode,
@@ -33,8 +35,10 @@ fn binary_at(
     ty: &TypeNode,
     left: &ValNode,
     right: &ValNode,
-) -> Result<Op, NumberFault>
-    requires { types.old.items ≡ scope.now.globals.now.symbols.tree.now.types.items }
+) -> Result<Op, AllocError>
+    requires items { types.old.items ≡ scope.now.globals.now.symbols.tree.now.types.items }
+    requires left { ValIsSmall scope.now (val_of left.now) }
+    requires right { ValIsSmall scope.now (val_of right.now) }
     ensures op { (names : ScopeNames scope.now) → IfOk result (λ o. o ≡
         binary_op op (width_in (type_in (scope_in scope.now names) (ty_of ty.now))) (value_at (scope_in scope.now names) (ty_of ty.now) (val_of left.now)) (value_at (scope_in scope.now names) (ty_of ty.now) (val_of right.now))) }
     ensures items { types.new.items ≡ types.old.items }
@@ -55,8 +59,10 @@ fn compare_at(
     ty: &TypeNode,
     left: &ValNode,
     right: &ValNode,
-) -> Result<Op, NumberFault>
-    requires { types.old.items ≡ scope.now.globals.now.symbols.tree.now.types.items }
+) -> Result<Op, AllocError>
+    requires items { types.old.items ≡ scope.now.globals.now.symbols.tree.now.types.items }
+    requires left { ValIsSmall scope.now (val_of left.now) }
+    requires right { ValIsSmall scope.now (val_of right.now) }
     ensures op { (names : ScopeNames scope.now) → IfOk result (λ o. o ≡
         operation.Compare (comparison_of predicate) (width_in (type_in (scope_in scope.now names) (ty_of ty.now))) (value_at (scope_in scope.now names) (ty_of ty.now) (val_of left.now)) (value_at (scope_in scope.now names) (ty_of ty.now) (val_of right.now))) }
     ensures items { types.new.items ≡ types.old.items }
@@ -81,8 +87,9 @@ fn cast_at(
     op: CastOp,
     value: &TypedVal,
     ty: &TypeNode,
-) -> Result<Op, NumberFault>
-    requires { types.old.items ≡ scope.now.globals.now.symbols.tree.now.types.items }
+) -> Result<Op, AllocError>
+    requires items { types.old.items ≡ scope.now.globals.now.symbols.tree.now.types.items }
+    requires value { TypedIsSmall scope.now (typed_of value.now) }
     ensures op { (names : ScopeNames scope.now) → IfOk result (λ o. o ≡
         cast_op op (width_in (type_in (scope_in scope.now names) (typed_of value.now).ty)) (width_in (type_in (scope_in scope.now names) (ty_of ty.now))) (typed_value (scope_in scope.now names) (typed_of value.now))) }
     ensures items { types.new.items ≡ types.old.items }
@@ -102,8 +109,11 @@ fn select_at(
     cond: &TypedVal,
     first: &TypedVal,
     second: &TypedVal,
-) -> Result<Op, NumberFault>
-    requires { types.old.items ≡ scope.now.globals.now.symbols.tree.now.types.items }
+) -> Result<Op, AllocError>
+    requires items { types.old.items ≡ scope.now.globals.now.symbols.tree.now.types.items }
+    requires cond { TypedIsSmall scope.now (typed_of cond.now) }
+    requires first { TypedIsSmall scope.now (typed_of first.now) }
+    requires second { TypedIsSmall scope.now (typed_of second.now) }
     ensures op { (names : ScopeNames scope.now) → IfOk result (λ o. o ≡
         operation.Select (typed_value (scope_in scope.now names) (typed_of cond.now)) (typed_value (scope_in scope.now names) (typed_of first.now)) (typed_value (scope_in scope.now names) (typed_of second.now))) }
     ensures items { types.new.items ≡ types.old.items }
@@ -126,8 +136,10 @@ fn phi_at(
     ty: &TypeNode,
     first: &IncomingNode,
     others: &[IncomingNode],
-) -> Result<Op, NumberFault>
-    requires { types.old.items ≡ scope.now.globals.now.symbols.tree.now.types.items }
+) -> Result<Op, AllocError>
+    requires items { types.old.items ≡ scope.now.globals.now.symbols.tree.now.types.items }
+    requires first { IncomingIsSmall scope.now (incoming_of first.now) }
+    requires others { Each (IncomingIsSmall scope.now) (map incoming_of others.now) }
     ensures op { (names : ScopeNames scope.now) → IfOk result (λ o. o ≡
         operation.Phi (map (incoming_at (scope_in scope.now names) scope.now.first (ty_of ty.now)) (incoming_of first.now ∷ map incoming_of others.now))) }
     ensures items { types.new.items ≡ types.old.items }
@@ -139,12 +151,12 @@ fn phi_at(
 }
 
 /// A branch.
-fn branch_at(scope: &FunctionScope<'_>, block: &Name) -> Result<Op, NumberFault>
-    ensures { (names : ScopeNames scope.now) → IfOk result (λ o. o ≡
-        operation.Br (block_at (scope_in scope.now names) scope.now.first block.now)) }
+fn branch_at(scope: &FunctionScope<'_>, block: &Name) -> Op
+    ensures { (names : ScopeNames scope.now) →
+        result ≡ operation.Br (block_at (scope_in scope.now names) scope.now.first block.now) }
 {
-    let to = block_at(scope, block)?;
-    Ok(Op::Br { to })
+    let to = block_at(scope, block);
+    Op::Br { to }
 }
 
 /// A branch on a condition.
@@ -155,15 +167,16 @@ fn conditional_branch_at(
     cond: &TypedVal,
     first: &Name,
     second: &Name,
-) -> Result<Op, NumberFault>
-    requires { types.old.items ≡ scope.now.globals.now.symbols.tree.now.types.items }
+) -> Result<Op, AllocError>
+    requires items { types.old.items ≡ scope.now.globals.now.symbols.tree.now.types.items }
+    requires cond { TypedIsSmall scope.now (typed_of cond.now) }
     ensures op { (names : ScopeNames scope.now) → IfOk result (λ o. o ≡
         operation.CondBr (typed_value (scope_in scope.now names) (typed_of cond.now)) (block_at (scope_in scope.now names) scope.now.first first.now) (block_at (scope_in scope.now names) scope.now.first second.now)) }
     ensures items { types.new.items ≡ types.old.items }
 {
     let cond = typed_value(alloc, scope, types, cond)?;
-    let first = block_at(scope, first)?;
-    let second = block_at(scope, second)?;
+    let first = block_at(scope, first);
+    let second = block_at(scope, second);
     Ok(Op::CondBr {
         cond,
         yes: first,
@@ -179,15 +192,16 @@ fn switch_at(
     value: &TypedVal,
     block: &Name,
     cases: &[CaseNode],
-) -> Result<Op, NumberFault>
-    requires { types.old.items ≡ scope.now.globals.now.symbols.tree.now.types.items }
+) -> Result<Op, AllocError>
+    requires items { types.old.items ≡ scope.now.globals.now.symbols.tree.now.types.items }
+    requires value { TypedIsSmall scope.now (typed_of value.now) }
     ensures op { (names : ScopeNames scope.now) → IfOk result (λ o. o ≡
         operation.Switch (width_in (type_in (scope_in scope.now names) (typed_of value.now).ty)) (typed_value (scope_in scope.now names) (typed_of value.now)) (block_at (scope_in scope.now names) scope.now.first block.now) (map (case_at (scope_in scope.now names) scope.now.first (typed_of value.now).ty) (map case_of cases.now))) }
     ensures items { types.new.items ≡ types.old.items }
 {
     let width = typed_width(scope, types, value)?;
     let on = typed_value(alloc, scope, types, value)?;
-    let other = block_at(scope, block)?;
+    let other = block_at(scope, block);
     let found = cases_at(alloc, scope, types, &value.ty, cases)?;
     let cases = Cases::from_vec(found);
     Ok(Op::Switch {
@@ -205,17 +219,18 @@ fn call_at(
     types: &mut TypeNumbers<'_>,
     callee: &Name,
     args: &[TypedVal],
-) -> Result<Op, NumberFault>
-    requires { types.old.items ≡ scope.now.globals.now.symbols.tree.now.types.items }
+) -> Result<Op, AllocError>
+    requires items { types.old.items ≡ scope.now.globals.now.symbols.tree.now.types.items }
+    requires values { Each (TypedIsSmall scope.now) (map typed_of args.now) }
     ensures op { (names : ScopeNames scope.now) → IfOk result (λ o. o ≡
         call_of (symbol (tree_of scope.now.globals.now.symbols.tree.now) callee.now.text) (map (typed_value (scope_in scope.now names)) (map typed_of args.now))) }
     ensures items { types.new.items ≡ types.old.items }
 {
     let values = values_at(alloc, scope, types, args)?;
-    call_of(
+    Ok(call_of(
         symbol(&scope.globals.symbols, callee.text.as_slice()),
         values,
-    )
+    ))
 }
 
 /// A return of a value.
@@ -224,8 +239,9 @@ fn return_at(
     scope: &FunctionScope<'_>,
     types: &mut TypeNumbers<'_>,
     value: &TypedVal,
-) -> Result<Op, NumberFault>
-    requires { types.old.items ≡ scope.now.globals.now.symbols.tree.now.types.items }
+) -> Result<Op, AllocError>
+    requires items { types.old.items ≡ scope.now.globals.now.symbols.tree.now.types.items }
+    requires value { TypedIsSmall scope.now (typed_of value.now) }
     ensures op { (names : ScopeNames scope.now) → IfOk result (λ o. o ≡
         operation.Ret (Some (typed_value (scope_in scope.now names) (typed_of value.now)))) }
     ensures items { types.new.items ≡ types.old.items }
@@ -267,8 +283,9 @@ fn alloca_at(
     types: &mut TypeNumbers<'_>,
     ty: &TypeNode,
     count: &Option<CountNode>,
-) -> Result<Op, NumberFault>
-    requires { types.old.items ≡ scope.now.globals.now.symbols.tree.now.types.items }
+) -> Result<Op, AllocError>
+    requires items { types.old.items ≡ scope.now.globals.now.symbols.tree.now.types.items }
+    requires ty { TyIsSmall scope.now (ty_of ty.now) }
     ensures op { (names : ScopeNames scope.now) → IfOk result (λ o. o ≡
         operation.Alloca (size_or_none (type_in (scope_in scope.now names) (ty_of ty.now)) * count_in (scope_in scope.now names) (option_map count_of count.now))) }
     ensures items { types.new.items ≡ types.old.items }
@@ -286,8 +303,9 @@ fn load_at(
     types: &mut TypeNumbers<'_>,
     ty: &TypeNode,
     pointer: &TypedVal,
-) -> Result<Op, NumberFault>
-    requires { types.old.items ≡ scope.now.globals.now.symbols.tree.now.types.items }
+) -> Result<Op, AllocError>
+    requires items { types.old.items ≡ scope.now.globals.now.symbols.tree.now.types.items }
+    requires pointer { TypedIsSmall scope.now (typed_of pointer.now) }
     ensures op { (names : ScopeNames scope.now) → IfOk result (λ o. o ≡
         operation.Load (width_in (type_in (scope_in scope.now names) (ty_of ty.now))) (typed_value (scope_in scope.now names) (typed_of pointer.now))) }
     ensures items { types.new.items ≡ types.old.items }
@@ -304,8 +322,10 @@ fn store_at(
     types: &mut TypeNumbers<'_>,
     value: &TypedVal,
     pointer: &TypedVal,
-) -> Result<Op, NumberFault>
-    requires { types.old.items ≡ scope.now.globals.now.symbols.tree.now.types.items }
+) -> Result<Op, AllocError>
+    requires items { types.old.items ≡ scope.now.globals.now.symbols.tree.now.types.items }
+    requires value { TypedIsSmall scope.now (typed_of value.now) }
+    requires pointer { TypedIsSmall scope.now (typed_of pointer.now) }
     ensures op { (names : ScopeNames scope.now) → IfOk result (λ o. o ≡
         operation.Store (width_in (type_in (scope_in scope.now names) (typed_of value.now).ty)) (typed_value (scope_in scope.now names) (typed_of value.now)) (typed_value (scope_in scope.now names) (typed_of pointer.now))) }
     ensures items { types.new.items ≡ types.old.items }
@@ -324,8 +344,11 @@ fn element_pointer_at(
     ty: &TypeNode,
     pointer: &TypedVal,
     indices: &[TypedVal],
-) -> Result<Op, NumberFault>
-    requires { types.old.items ≡ scope.now.globals.now.symbols.tree.now.types.items }
+) -> Result<Op, AllocError>
+    requires items { types.old.items ≡ scope.now.globals.now.symbols.tree.now.types.items }
+    requires ty { TyIsSmall scope.now (ty_of ty.now) }
+    requires pointer { TypedIsSmall scope.now (typed_of pointer.now) }
+    requires values { Each (TypedIsSmall scope.now) (map typed_of indices.now) }
     ensures op { (names : ScopeNames scope.now) → IfOk result (λ o. o ≡
         operation.Gep (typed_value (scope_in scope.now names) (typed_of pointer.now)) (indices_at (scope_in scope.now names) (map typed_of indices.now)
         (index_scales (tree_of scope.now.globals.now.symbols.tree.now).types (ty_of ty.now) (map typed_of indices.now)))) }
@@ -340,14 +363,15 @@ fn element_pointer_at(
 }
 
 /// What an instruction does, its registers, basic blocks, globals and functions by their numbers.
-#[tactic(auto, unfolding(pg_rules::specs::Numbered::op_at))]
+#[tactic(auto, unfolding(pg_rules::specs::Numbered::op_at, crate::specs::Room::OpFits))]
 pub(crate) fn op_at(
     alloc: Global,
     scope: &FunctionScope<'_>,
     types: &mut TypeNumbers<'_>,
     op: &OpNode,
-) -> Result<Op, NumberFault>
-    requires { types.old.items ≡ scope.now.globals.now.symbols.tree.now.types.items }
+) -> Result<Op, AllocError>
+    requires items { types.old.items ≡ scope.now.globals.now.symbols.tree.now.types.items }
+    requires fits { OpFits (types_in scope.now) (op_of op.now) }
     ensures op { (names : ScopeNames scope.now) → IfOk result (λ o. o ≡
         op_at (scope_in scope.now names) scope.now.first (op_of op.now)) }
     ensures items { types.new.items ≡ types.old.items }
@@ -366,7 +390,7 @@ pub(crate) fn op_at(
         OpNode::Phi(_, ty, first, others) => {
             phi_at(alloc, scope, types, ty, first, others.as_slice())
         }
-        OpNode::Br(_, block) => branch_at(scope, block),
+        OpNode::Br(_, block) => Ok(branch_at(scope, block)),
         OpNode::CondBr(_, cond, first, second) => {
             conditional_branch_at(alloc, scope, types, cond, first, second)
         }

@@ -1,59 +1,51 @@
-ghost use Rattle.std.specs.Prelude.{◌≡◌, ◌++◌, true, IfOk, OnOk, map, drop};
+ghost use Rattle.std.specs.Prelude.{◌≡◌, ◌≤◌, ◌+◌, ◌++◌, true, IfOk, OnOk, length, map, drop};
 ghost use Rattle.pg_ast.specs.Numbers.{gives};
 ghost use Rattle.pg_ast.specs.Views.{op_of, line_of, block_of, tree_of};
 ghost use Rattle.pg_rules.specs.Names.{register_number};
+ghost use Rattle.pg_num.specs.declared.limits.TheConstants.{INSTRUCTION_LIMIT};
+ghost use Rattle.pg_program.specs.Room.{OpFits, LineFits, BlockFits, Each};
 ghost use Rattle.pg_program.specs.ScopeNames.{ScopeNames, scope_in};
+ghost use Rattle.pg_program.specs.ScopeSizes.{types_in};
 ghost use Rattle.pg_program.specs.LineRows.{result_by, names_after, op_instr, lines_by, names_after_lines, blocks_by};
 
+use crate::function_scope::FunctionScope;
 use crate::instructions::op_at;
-use crate::number_fault::NumberFault;
-use crate::scope::{FunctionScope, number_behind, short_number};
 use pg_ast::{BlockNode, LineNode, Name, OpNode, has_result};
 use pg_ir::{BlockNo, Instr};
 use pg_types::{TypeNumbers, place_of_name};
-use std::alloc::Global;
+use std::alloc::{AllocError, Global};
 
 /// The number of a register, if one has this name.
-fn number_of_name(scope: &FunctionScope<'_>, name: &Name) -> Result<Option<u32>, NumberFault>
-    ensures { (own : ScopeNames scope.now) →
-        IfOk result (λ r. r ≡ register_number own.registers name.now.text) }
+fn number_of_name(scope: &FunctionScope<'_>, name: &Name) -> Option<u32>
+    ensures { (own : ScopeNames scope.now) → result ≡ register_number own.registers name.now.text }
 {
     match place_of_name(scope.registers, name.text.as_slice()) {
-        Some(place) => Ok(Some(short_number(place)?)),
-        None => Ok(None),
+        Some(place) => Some(place as u32),
+        None => None,
     }
 }
 
 /// The register whose name stands at a place.
-fn named_result(
-    scope: &FunctionScope<'_>,
-    names: &[Name],
-    at: usize,
-) -> Result<Option<u32>, NumberFault>
+fn named_result(scope: &FunctionScope<'_>, names: &[Name], at: usize) -> Option<u32>
     ensures { (own : ScopeNames scope.now) →
-        IfOk result (λ r. r ≡ result_by (scope_in scope.now own) true (drop at names.now)) }
+        result ≡ result_by (scope_in scope.now own) true (drop at names.now) }
 {
     if at < names.len() {
         number_of_name(scope, &names[at])
     } else {
-        Ok(None)
+        None
     }
 }
 
 /// The register of a line's result, if it gives one: its name stands at a place.
-fn result_by(
-    scope: &FunctionScope<'_>,
-    gives: bool,
-    names: &[Name],
-    at: usize,
-) -> Result<Option<u32>, NumberFault>
+fn result_by(scope: &FunctionScope<'_>, gives: bool, names: &[Name], at: usize) -> Option<u32>
     ensures { (own : ScopeNames scope.now) →
-        IfOk result (λ r. r ≡ result_by (scope_in scope.now own) gives (drop at names.now)) }
+        result ≡ result_by (scope_in scope.now own) gives (drop at names.now) }
 {
     if gives {
         named_result(scope, names, at)
     } else {
-        Ok(None)
+        None
     }
 }
 
@@ -90,14 +82,15 @@ fn op_instr(
     names: &[Name],
     at: usize,
     op: &OpNode,
-) -> Result<Instr, NumberFault>
-    requires { types.old.items ≡ scope.now.globals.now.symbols.tree.now.types.items }
+) -> Result<Instr, AllocError>
+    requires items { types.old.items ≡ scope.now.globals.now.symbols.tree.now.types.items }
+    requires fits { OpFits (types_in scope.now) (op_of op.now) }
     ensures instr { (own : ScopeNames scope.now) → IfOk result (λ i. i ≡
         op_instr (scope_in scope.now own) scope.now.first block (drop at names.now) (op_of op.now)) }
     ensures items { types.new.items ≡ types.old.items }
 {
     let gives = gives(scope, op);
-    let result = result_by(scope, gives, names, at)?;
+    let result = result_by(scope, gives, names, at);
     let op = op_at(alloc, scope, types, op)?;
     Ok(Instr {
         op,
@@ -117,8 +110,9 @@ fn add_lines(
     names: &[Name],
     start: usize,
     lines: &[LineNode],
-) -> Result<usize, NumberFault>
-    requires { types.old.items ≡ scope.now.globals.now.symbols.tree.now.types.items }
+) -> Result<usize, AllocError>
+    requires items { types.old.items ≡ scope.now.globals.now.symbols.tree.now.types.items }
+    requires fits { Each (LineFits (types_in scope.now)) (map line_of lines.now) }
     ensures instrs { (own : ScopeNames scope.now) → OnOk result (found.new.items ≡ found.old.items
         ++ lines_by (scope_in scope.now own) scope.now.first block (drop start names.now) (map line_of lines.now)) }
     ensures names { IfOk result (λ at. drop at names.now ≡
@@ -144,8 +138,10 @@ pub(crate) fn add_block_lines(
     names: &[Name],
     start: usize,
     blocks: &[BlockNode],
-) -> Result<(), NumberFault>
-    requires { types.old.items ≡ scope.now.globals.now.symbols.tree.now.types.items }
+) -> Result<(), AllocError>
+    requires items { types.old.items ≡ scope.now.globals.now.symbols.tree.now.types.items }
+    requires room { scope.now.first + length blocks.now ≤ INSTRUCTION_LIMIT }
+    requires fits { Each (BlockFits (types_in scope.now)) (map block_of blocks.now) }
     ensures instrs { (own : ScopeNames scope.now) → OnOk result (found.new.items ≡ found.old.items
         ++ blocks_by (scope_in scope.now own) scope.now.first scope.now.first (drop start names.now) (map block_of blocks.now)) }
     ensures items { types.new.items ≡ types.old.items }
@@ -155,7 +151,7 @@ pub(crate) fn add_block_lines(
     for block in blocks {
         let lines = block.lines.as_slice();
         at = add_lines(alloc, scope, types, found, number, names, at, lines)?;
-        number = number_behind(number, 1)?;
+        number += 1;
     }
     Ok(())
 }

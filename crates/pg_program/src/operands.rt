@@ -6,15 +6,16 @@ ghost use Rattle.pg_types.specs.Layout.{size_or_none};
 ghost use Rattle.pg_rules.specs.Symbols.{symbol_of};
 ghost use Rattle.pg_rules.specs.Constants.{constant_word};
 ghost use Rattle.pg_ir.specs.declared.value.Value.TheVariants.{Const};
+ghost use Rattle.pg_program.specs.Room.{IsShort, Each};
 ghost use Rattle.pg_program.specs.ScopeNames.{ScopeNames, scope_in};
-ghost use Rattle.pg_program.specs.Words.{kind_width};
+ghost use Rattle.pg_program.specs.ScopeSizes.{TyIsSmall, ValIsSmall, TypedIsSmall};
+ghost use Rattle.pg_constants.specs.Words.{kind_width};
 ghost use Rattle.pg_types.specs.Resolved.{resolved};
 
-use crate::constants::kind_word;
-use crate::fields::size_or_none;
-use crate::number_fault::NumberFault;
-use crate::scope::{FunctionScope, register_number, short_number};
+use crate::function_scope::FunctionScope;
+use crate::scope::register_number;
 use pg_ast::{TypeNode, TypedVal, ValNode};
+use pg_constants::{kind_word, size_or_none};
 use pg_ir::Value;
 use pg_num::Width;
 use pg_rules::{SymbolNode, symbol};
@@ -22,13 +23,14 @@ use pg_types::{TypeKind, TypeNumbers};
 use std::alloc::{AllocError, Global};
 
 /// A global or a function by its number.
-fn symbol_value(symbol: SymbolNode<'_>) -> Result<Value, NumberFault>
-    ensures { IfOk result (λ v. v ≡ symbol_value (symbol_of symbol.entry)) }
+fn symbol_value(symbol: SymbolNode<'_>) -> Value
+    requires { IsShort (symbol_of symbol) }
+    ensures { result ≡ symbol_value (symbol_of symbol.entry) }
 {
     match symbol {
-        SymbolNode::Variable(place, _) => Ok(Value::Global(short_number(place)?)),
-        SymbolNode::Definition(place, _) => Ok(Value::Function(short_number(place)?)),
-        _ => Ok(Value::Const(0)),
+        SymbolNode::Variable(place, _) => Value::Global(place as u32),
+        SymbolNode::Definition(place, _) => Value::Function(place as u32),
+        _ => Value::Const(0),
     }
 }
 
@@ -40,8 +42,9 @@ fn constant_at(
     types: &mut TypeNumbers<'_>,
     ty: &TypeNode,
     value: &ValNode,
-) -> Result<Value, NumberFault>
-    requires { types.old.items ≡ scope.now.globals.now.symbols.tree.now.types.items }
+) -> Result<Value, AllocError>
+    requires items { types.old.items ≡ scope.now.globals.now.symbols.tree.now.types.items }
+    requires value { ValIsSmall scope.now (val_of value.now) }
     ensures value { IfOk result (λ v. v ≡ Const (constant_word (tree_of scope.now.globals.now.symbols.tree.now)
         (resolved (named_types types.old) (ty_of ty.now)) (val_of value.now))) }
     ensures items { types.new.items ≡ types.old.items }
@@ -59,15 +62,19 @@ pub(crate) fn value_at(
     types: &mut TypeNumbers<'_>,
     ty: &TypeNode,
     value: &ValNode,
-) -> Result<Value, NumberFault>
-    requires { types.old.items ≡ scope.now.globals.now.symbols.tree.now.types.items }
+) -> Result<Value, AllocError>
+    requires items { types.old.items ≡ scope.now.globals.now.symbols.tree.now.types.items }
+    requires value { ValIsSmall scope.now (val_of value.now) }
     ensures value { (names : ScopeNames scope.now) →
         IfOk result (λ v. v ≡ value_at (scope_in scope.now names) (ty_of ty.now) (val_of value.now)) }
     ensures items { types.new.items ≡ types.old.items }
 {
     match value {
-        ValNode::Local(name) => Ok(Value::Register(register_number(scope, name)?)),
-        ValNode::Global(name) => symbol_value(symbol(&scope.globals.symbols, name.text.as_slice())),
+        ValNode::Local(name) => Ok(Value::Register(register_number(scope, name))),
+        ValNode::Global(name) => Ok(symbol_value(symbol(
+            &scope.globals.symbols,
+            name.text.as_slice(),
+        ))),
         _ => constant_at(alloc, scope, types, ty, value),
     }
 }
@@ -78,8 +85,9 @@ pub(crate) fn typed_value(
     scope: &FunctionScope<'_>,
     types: &mut TypeNumbers<'_>,
     value: &TypedVal,
-) -> Result<Value, NumberFault>
-    requires { types.old.items ≡ scope.now.globals.now.symbols.tree.now.types.items }
+) -> Result<Value, AllocError>
+    requires items { types.old.items ≡ scope.now.globals.now.symbols.tree.now.types.items }
+    requires value { TypedIsSmall scope.now (typed_of value.now) }
     ensures value { (names : ScopeNames scope.now) →
         IfOk result (λ v. v ≡ typed_value (scope_in scope.now names) (typed_of value.now)) }
     ensures items { types.new.items ≡ types.old.items }
@@ -131,14 +139,15 @@ pub(crate) fn size_at(
     scope: &FunctionScope<'_>,
     types: &mut TypeNumbers<'_>,
     ty: &TypeNode,
-) -> Result<u32, NumberFault>
-    requires { types.old.items ≡ scope.now.globals.now.symbols.tree.now.types.items }
+) -> Result<u32, AllocError>
+    requires items { types.old.items ≡ scope.now.globals.now.symbols.tree.now.types.items }
+    requires ty { TyIsSmall scope.now (ty_of ty.now) }
     ensures size { (names : ScopeNames scope.now) →
         IfOk result (λ n. n ≡ size_or_none (type_in (scope_in scope.now names) (ty_of ty.now))) }
     ensures items { types.new.items ≡ types.old.items }
 {
     let number = types.number(ty)?;
-    size_or_none(types, number)
+    Ok(size_or_none(types, number))
 }
 
 /// The values of arguments.
@@ -147,8 +156,9 @@ pub(crate) fn values_at(
     scope: &FunctionScope<'_>,
     types: &mut TypeNumbers<'_>,
     values: &[TypedVal],
-) -> Result<Vec<Value>, NumberFault>
-    requires { types.old.items ≡ scope.now.globals.now.symbols.tree.now.types.items }
+) -> Result<Vec<Value>, AllocError>
+    requires items { types.old.items ≡ scope.now.globals.now.symbols.tree.now.types.items }
+    requires values { Each (TypedIsSmall scope.now) (map typed_of values.now) }
     ensures values { (names : ScopeNames scope.now) →
         IfOk result (λ v. v.items ≡ map (typed_value (scope_in scope.now names)) (map typed_of values.now)) }
     ensures items { types.new.items ≡ types.old.items }

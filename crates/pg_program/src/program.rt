@@ -1,20 +1,21 @@
-ghost use Rattle.std.specs.Prelude.{◌≡◌, ◌+◌, IfOk, length, map, unwrap_or};
+ghost use Rattle.std.specs.Prelude.{◌≡◌, ◌+◌, ◌≤◌, IfOk, length, map, sum_by, unwrap_or};
 ghost use Rattle.std.specs.List.{position_from};
 ghost use Rattle.pg_ir.specs.Program.{numbered_program};
 ghost use Rattle.pg_ast.specs.Views.{define_of, tree_of};
+ghost use Rattle.pg_num.specs.declared.limits.TheConstants.{FUNCTION_LIMIT, INSTRUCTION_LIMIT};
+ghost use Rattle.pg_rules.specs.Names.{line_count};
+ghost use Rattle.pg_rules.specs.Conditions.{IsAccepted};
 ghost use Rattle.pg_rules.specs.Numbered.{program_of};
 ghost use Rattle.pg_program.specs.FunctionRows.{rows_from, function_row, block_row, instr_row, is_main_item};
+ghost use Rattle.pg_program.specs.Room.{FewSymbols, FunctionsFit, ProgramFits};
 
 use crate::block_rows::add_blocks;
 use crate::function_rows::{add_function, function_at};
-use crate::global_rows::add_globals;
-use crate::globals::{Globals, index_globals};
-use crate::number_fault::NumberFault;
-use crate::scope::{number_behind, short_number};
 use pg_ast::{DefineItem, Module};
+use pg_constants::{Globals, add_globals, index_globals};
 use pg_ir::{Block, Function, GlobalInfo, Instr};
 use pg_types::TypeNumbers;
-use std::alloc::Global;
+use std::alloc::{AllocError, Global};
 
 /// The parts of a numbered program, each kind in text order, and the number of its `main`.
 #[derive(Drop)]
@@ -28,13 +29,12 @@ pub struct ProgramParts {
 
 /// The number of the basic block behind those of a function, whose first has this number.
 #[tactic(auto, using(crate::proofs::Rows::count_blocks))]
-fn block_behind(first: u32, item: &DefineItem) -> Result<u32, NumberFault>
-    ensures { IfOk result (λ n. n ≡ first + length (define_of item.now).blocks) }
+fn block_behind(first: u32, item: &DefineItem) -> u32
+    requires { first + length (define_of item.now).blocks ≤ INSTRUCTION_LIMIT }
+    ensures { result ≡ first + length (define_of item.now).blocks }
 {
-    let blocks = item.blocks.len();
-    let count = short_number(blocks)?;
-    let behind = number_behind(first, count)?;
-    Ok(behind)
+    let count = item.blocks.len() as u32;
+    first + count
 }
 
 /// The functions of a module by number.
@@ -44,8 +44,9 @@ fn functions_of(
     types: &mut TypeNumbers<'_>,
     tree: &Module,
     all: &[DefineItem],
-) -> Result<Vec<Function>, NumberFault>
-    requires { types.old.items ≡ tree.now.types.items }
+) -> Result<Vec<Function>, AllocError>
+    requires items { types.old.items ≡ tree.now.types.items }
+    requires fits { FunctionsFit (tree_of tree.now).types (map define_of all.now) }
     ensures functions { IfOk result (λ v. v.items ≡ rows_from (function_row (tree_of tree.now) (map define_of all.now)) 0 all.now) }
     ensures items { types.new.items ≡ types.old.items }
 {
@@ -54,14 +55,16 @@ fn functions_of(
     for item in all {
         let one = function_at(alloc, types, tree, item, first)?;
         found.push(one)?;
-        first = block_behind(first, item)?;
+        first = block_behind(first, item);
     }
     Ok(found)
 }
 
 /// The basic blocks of functions by number.
 #[tactic(auto, using(crate::proofs::Rows::rows_none, crate::proofs::Rows::first_line_none))]
-fn blocks_of(alloc: Global, all: &[DefineItem]) -> Result<Vec<Block>, NumberFault>
+fn blocks_of(alloc: Global, all: &[DefineItem]) -> Result<Vec<Block>, AllocError>
+    requires few { length all.now ≤ FUNCTION_LIMIT }
+    requires lines { sum_by line_count (map define_of all.now) ≤ INSTRUCTION_LIMIT }
     ensures { IfOk result (λ v. v.items ≡ rows_from (block_row (map define_of all.now)) 0 all.now) }
 {
     let mut found = Vec::new(alloc);
@@ -70,7 +73,7 @@ fn blocks_of(alloc: Global, all: &[DefineItem]) -> Result<Vec<Block>, NumberFaul
     for item in all {
         let blocks = item.blocks.as_slice();
         first = add_blocks(&mut found, function, first, blocks)?;
-        function = number_behind(function, 1)?;
+        function += 1;
     }
     Ok(found)
 }
@@ -82,8 +85,10 @@ fn instrs_of(
     globals: &Globals<'_>,
     types: &mut TypeNumbers<'_>,
     all: &[DefineItem],
-) -> Result<Vec<Instr>, NumberFault>
-    requires { types.old.items ≡ globals.now.symbols.tree.now.types.items }
+) -> Result<Vec<Instr>, AllocError>
+    requires items { types.old.items ≡ globals.now.symbols.tree.now.types.items }
+    requires symbols { FewSymbols (tree_of globals.now.symbols.tree.now) }
+    requires fits { FunctionsFit (tree_of globals.now.symbols.tree.now).types (map define_of all.now) }
     ensures instrs { IfOk result (λ v. v.items ≡ rows_from (instr_row (tree_of globals.now.symbols.tree.now) (map define_of all.now)) 0 all.now) }
     ensures items { types.new.items ≡ types.old.items }
 {
@@ -91,7 +96,7 @@ fn instrs_of(
     let mut first = 0;
     for item in all {
         add_function(alloc, globals, types, &mut found, item, first)?;
-        first = block_behind(first, item)?;
+        first = block_behind(first, item);
     }
     Ok(found)
 }
@@ -119,20 +124,24 @@ fn main_place(all: &[DefineItem]) -> Option<usize>
 }
 
 /// The number of `main`, and 0 where there is none.
-fn main_number(all: &[DefineItem]) -> usize
+fn main_number(all: &[DefineItem]) -> u32
+    requires { length all.now ≤ FUNCTION_LIMIT }
     ensures { result ≡ unwrap_or (position_from is_main_item 0 all.now) 0 }
 {
-    main_place(all).unwrap_or(0)
+    match main_place(all) {
+        Some(place) => place as u32,
+        None => 0,
+    }
 }
 
-/// The numbered program of a module that isn't refused: functions, basic blocks, instructions, globals, registers and
-/// labels by their numbers. It is an error where there is no memory left, or a number has more than 32 bits.
-pub fn program_parts(
+/// The parts of a module's numbered program, where its numbers and sizes fit.
+fn parts_of(
     alloc: Global,
     types: &mut TypeNumbers<'_>,
     tree: &Module,
-) -> Result<ProgramParts, NumberFault>
-    requires { types.old.items ≡ tree.now.types.items }
+) -> Result<ProgramParts, AllocError>
+    requires items { types.old.items ≡ tree.now.types.items }
+    requires fits { ProgramFits (tree_of tree.now) }
     ensures program { IfOk result (λ p. numbered_program p.functions.items p.blocks.items p.instrs.items p.globals.items p.main ≡ program_of (tree_of tree.now)) }
     ensures items { types.new.items ≡ types.old.items }
 {
@@ -142,8 +151,7 @@ pub fn program_parts(
     let blocks = blocks_of(alloc, all)?;
     let instrs = instrs_of(alloc, &globals, types, all)?;
     let variables = add_globals(alloc, &globals, types)?;
-    let place = main_number(all);
-    let main = short_number(place)?;
+    let main = main_number(all);
     Ok(ProgramParts {
         functions,
         blocks,
@@ -151,4 +159,19 @@ pub fn program_parts(
         globals: variables,
         main,
     })
+}
+
+/// The numbered program of a module that isn't refused: functions, basic blocks, instructions, globals, registers and
+/// labels by their numbers. It is an error where there is no memory left.
+pub fn program_parts(
+    alloc: Global,
+    types: &mut TypeNumbers<'_>,
+    tree: &Module,
+) -> Result<ProgramParts, AllocError>
+    requires items { types.old.items ≡ tree.now.types.items }
+    requires accepted { IsAccepted (tree_of tree.now) }
+    ensures program { IfOk result (λ p. numbered_program p.functions.items p.blocks.items p.instrs.items p.globals.items p.main ≡ program_of (tree_of tree.now)) }
+    ensures items { types.new.items ≡ types.old.items }
+{
+    parts_of(alloc, types, tree)
 }

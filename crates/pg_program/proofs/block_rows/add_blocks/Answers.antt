@@ -1,4 +1,4 @@
-use Rattle.std.proofs.Common.{◌+◌, ◌++◌, length, map, drop, ap, ◌∙◌}
+use Rattle.std.proofs.Common.{◌+◌, ◌++◌, length, map, drop, refl, ap, ◌∙◌}
 use Rattle.pg_ast.specs.Views.{block_of}
 use Rattle.pg_rules.specs.Numbered.{blocks_from}
 use Rattle.pg_program.proofs.BlockLists.{block_step, blocks_end, count_step, count_end}
@@ -7,13 +7,13 @@ use Rattle.pg_program.proofs.block_rows.add_blocks.Goals as goal
 pub loop-block-preserved : goal.loop-block-preserved
 loop-block-preserved c = record {
   blocks =
-      ap (λ xs. xs ++ blocks_from c.args.function c.in_ok-at.at (map block_of (drop (c.loop-block.block-index + 1) c.args.blocks.now))) c.in_ok-push.ensures.items
-      ∙ block_step c.args.function c.loop-block.at c.in_ok-at.at c.in_ok-count.count c.loop-block.found.items c.args.blocks.now c.loop-block.block-index c.block-item.result _
-      c.loop-block-test.true c.block-item.is (c.in_ok-count.ensures ∙ ap (λ ls. length ls) c.as_slice-lines.ensures.value) c.in_ok-at.ensures
+      ap (λ xs. xs ++ blocks_from c.args.function (c.loop-block.at + length c.as_slice-lines.result.now) (map block_of (drop (c.loop-block.block-index + 1) c.args.blocks.now))) c.in_ok-push.ensures.items
+      ∙ block_step c.args.function c.loop-block.at (c.loop-block.at + length c.as_slice-lines.result.now) (length c.as_slice-lines.result.now) c.loop-block.found.items c.args.blocks.now c.loop-block.block-index c.block-item.result _
+      c.loop-block-test.true c.block-item.is (ap (λ ls. length ls) c.as_slice-lines.ensures.value) refl
       ∙ c.loop-block.invariant.blocks;
   next =
-      count_step c.loop-block.at c.in_ok-at.at c.in_ok-count.count c.args.blocks.now c.loop-block.block-index c.block-item.result _
-      c.loop-block-test.true c.block-item.is (c.in_ok-count.ensures ∙ ap (λ ls. length ls) c.as_slice-lines.ensures.value) c.in_ok-at.ensures
+      count_step c.loop-block.at (c.loop-block.at + length c.as_slice-lines.result.now) (length c.as_slice-lines.result.now) c.args.blocks.now c.loop-block.block-index c.block-item.result _
+      c.loop-block-test.true c.block-item.is (ap (λ ls. length ls) c.as_slice-lines.ensures.value) refl
       ∙ c.loop-block.invariant.next;
 }
 

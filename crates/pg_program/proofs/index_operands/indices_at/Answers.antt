@@ -1,6 +1,6 @@
 use Rattle.std.proofs.Common.{length, sym, ap, ◌∙◌}
 use Rattle.pg_ast.specs.Views.{ty_of, tree_of}
-use Rattle.pg_program.proofs.ScaleSteps.{written_count}
+use Rattle.pg_constants.proofs.ScaleSteps.{written_count}
 use Rattle.pg_program.proofs.index_operands.indices_at.Goals as goal
 
 pub scaled_indices-requires-clause-lengths : goal.scaled_indices-requires-clause-lengths

@@ -1,9 +1,16 @@
-use Rattle.std.proofs.Common.{◌+◌, ◌++◌, map, drop, refl, ap, ◌∙◌}
+use Rattle.std.proofs.Common.{◌<◌, ◌+◌, ◌++◌, length, map, drop, refl, ap, ◌∙◌, arith}
 use Rattle.pg_ast.specs.Views.{typed_of}
 use Rattle.pg_rules.specs.Numbered.{indices_at}
 use Rattle.pg_program.specs.ScopeNames.{scope_in}
 use Rattle.pg_program.proofs.IndexLists.{index_step, indices_end}
+use Rattle.pg_program.specs.ScopeSizes.{TypedIsSmall}
+use Rattle.pg_program.proofs.Places.{one_fits}
 use Rattle.pg_program.proofs.index_operands.scaled_indices.Goals as goal
+
+pub index_at-requires-clause-value : goal.index_at-requires-clause-value
+index_at-requires-clause-value c =
+    let l : c.loop-place.place < length c.args.indices.now = omega (arith, c.requires.lengths, c.loop-place-test.true) in
+    one_fits (TypedIsSmall c.args.scope.now) typed_of c.args.indices.now c.loop-place.place c.index-indices-place.result _ c.requires.values l c.index-indices-place.is
 
 pub loop-place-preserved : goal.loop-place-preserved
 loop-place-preserved c = record {

@@ -1,4 +1,4 @@
-use Rattle.std.proofs.Common.{◌≡◌, ◌++◌, map, drop}
+use Rattle.std.proofs.Common.{◌≡◌, ◌+◌, ◌++◌, map, drop}
 use Rattle.pg_ast.specs.Views.{block_of}
 use Rattle.pg_program.specs.ScopeNames.{ScopeNames, scope_in}
 use Rattle.pg_program.specs.LineRows.{blocks_by}
@@ -8,4 +8,5 @@ abbrev pub invariant-loop-block : goal.invariant-loop-block
 invariant-loop-block l = record {
   instrs : (own : ScopeNames l.scope) → l.found.items ++ blocks_by (scope_in l.scope own) l.scope.first l.number (drop l.at l.names) (map block_of (drop l.block-index l.blocks)) ≡ l.fn.found.items ++ blocks_by (scope_in l.scope own) l.scope.first l.scope.first (drop l.start l.names) (map block_of l.blocks);
   items : l.types.items ≡ l.fn.types.items;
+  number : l.number ≡ l.scope.first + l.block-index;
 }

@@ -1,9 +1,16 @@
-use Rattle.std.proofs.Common.{◌+◌, ◌++◌, map, drop, sym, ap, ◌∙◌}
+use Rattle.std.proofs.Common.{◌+◌, ◌++◌, map, drop, ap, ◌∙◌}
 use Rattle.pg_ast.specs.Views.{line_of, tree_of}
 use Rattle.pg_program.specs.ScopeNames.{scope_in}
 use Rattle.pg_program.specs.LineRows.{lines_by, names_after}
 use Rattle.pg_program.proofs.LineSteps.{line_step, line_names_step, lines_end, line_names_end}
+use Rattle.pg_program.specs.Room.{LineFits}
+use Rattle.pg_program.specs.ScopeSizes.{types_in}
+use Rattle.pg_program.proofs.Places.{one_fits}
 use Rattle.pg_program.proofs.line_rows.add_lines.Goals as goal
+
+pub op_instr-requires-clause-fits : goal.op_instr-requires-clause-fits
+op_instr-requires-clause-fits c =
+    one_fits (LineFits (types_in c.args.scope.now)) line_of c.args.lines.now c.loop-line.line-index c.line-item.result _ c.requires.fits c.loop-line-test.true c.line-item.is
 
 pub loop-line-preserved : goal.loop-line-preserved
 loop-line-preserved c =

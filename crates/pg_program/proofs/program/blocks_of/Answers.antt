@@ -1,11 +1,17 @@
-use Rattle.std.proofs.Common.{◌+◌, length, map, sum_by, ap, ◌∙◌}
+use Rattle.std.proofs.Common.{◌+◌, ◌≤◌, length, map, sum_by, sym, ap, subst, ◌∙◌}
+use Rattle.pg_num.specs.declared.limits.TheConstants.{INSTRUCTION_LIMIT}
 use Rattle.pg_ast.specs.Syntax.{Block}
 use Rattle.pg_ast.specs.Views.{block_of, define_of}
 use Rattle.pg_rules.specs.Names.{first_line}
 use Rattle.pg_rules.specs.Numbered.{blocks_from}
 use Rattle.pg_program.specs.FunctionRows.{block_row}
-use Rattle.pg_program.proofs.Rows.{rows_pushed, rows_all, first_line_step}
+use Rattle.pg_program.proofs.Rows.{rows_pushed, rows_all, first_line_step, lines_room}
 use Rattle.pg_program.proofs.program.blocks_of.Goals as goal
+
+pub add_blocks-requires : goal.add_blocks-requires
+add_blocks-requires c =
+    let room = lines_room c.args.all.now c.loop-item.item-index c.item-item.result _ c.loop-item.first INSTRUCTION_LIMIT c.loop-item-test.true c.item-item.is c.loop-item.invariant.first c.requires.lines in
+    subst (λ xs. c.loop-item.first + sum_by (λ (b : Block). length b.lines) (map block_of xs) ≤ INSTRUCTION_LIMIT) (sym c.as_slice-blocks.ensures.value) room
 
 pub loop-item-preserved : goal.loop-item-preserved
 loop-item-preserved c =
@@ -19,7 +25,7 @@ loop-item-preserved c =
           (ap (λ n. blocks_from n c.loop-item.first (map block_of bs)) c.loop-item.invariant.number
           ∙ ap (λ n. blocks_from index n (map block_of bs)) c.loop-item.invariant.first
           ∙ ap (λ xs. blocks_from index (first_line (map define_of all) index) (map block_of xs)) c.as_slice-blocks.ensures.value);
-      number = c.in_ok-function.ensures ∙ ap (λ n. n + 1) c.loop-item.invariant.number;
+      number = ap (λ n. n + 1) c.loop-item.invariant.number;
       first = first_line_step all index c.item-item.result _ c.loop-item.first c.in_ok-first.first c.loop-item-test.true c.item-item.is c.loop-item.invariant.first
           (c.in_ok-first.ensures.next ∙ ap (λ xs. c.loop-item.first + sum_by (λ (b : Block). length b.lines) (map block_of xs)) c.as_slice-blocks.ensures.value);
     }

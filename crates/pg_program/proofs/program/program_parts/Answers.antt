@@ -1,8 +1,6 @@
-use Rattle.std.proofs.Common.{◌∙◌}
-use Rattle.pg_program.proofs.WholeProgram.{program_made}
+use Rattle.pg_ast.specs.Views.{tree_of}
+use Rattle.pg_program.proofs.Accepted.{program_fits}
 use Rattle.pg_program.proofs.program.program_parts.Goals as goal
 
-pub returns-clause-program : goal.returns-clause-program
-returns-clause-program c =
-    program_made c.args.tree.now c.in_ok-globals.globals.symbols.tree.now c.as_slice-all.result.now _ _ _ _ _
-    c.in_ok-globals.ensures.same c.as_slice-all.ensures.value c.in_ok-functions.ensures.functions c.in_ok-blocks.ensures c.in_ok-instrs.ensures.instrs c.in_ok-variables.ensures.rows (c.in_ok-main.ensures ∙ c.main_number-place.ensures)
+pub parts_of-requires-clause-fits : goal.parts_of-requires-clause-fits
+parts_of-requires-clause-fits c = program_fits (tree_of c.args.tree.now) c.requires.accepted

@@ -1,0 +1,12 @@
+pub mod ByteLists
+pub mod ConstantBytes
+pub mod ConstantSizes
+pub mod ConstantViews
+pub mod FieldLists
+pub mod FieldPlaces
+pub mod GlobalRows
+pub mod GlobalSizes
+pub mod Offsets
+pub mod PointerWords
+pub mod ScaleSteps
+pub mod Sizes

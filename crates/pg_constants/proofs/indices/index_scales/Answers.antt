@@ -1,0 +1,8 @@
+use Rattle.pg_constants.proofs.Sizes.{size_fits, written_fits}
+use Rattle.pg_constants.proofs.indices.index_scales.Goals as goal
+
+pub size_or_none-size-requires-clause-fits : goal.size_or_none-size-requires-clause-fits
+size_or_none-size-requires-clause-fits c = size_fits _ (written_fits _ _ c.in_ok-number.ensures.value c.requires)
+
+pub scales_within-requires-clause-fits : goal.scales_within-requires-clause-fits
+scales_within-requires-clause-fits c = written_fits _ _ c.in_ok-number.ensures.value c.requires

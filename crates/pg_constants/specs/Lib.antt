@@ -1,0 +1,5 @@
+pub mod Fields
+pub mod Indices
+pub mod Initialisers
+pub mod Sizes
+pub mod Words

@@ -1,0 +1,94 @@
+ghost use Rattle.std.specs.Prelude.{◌≡◌, IfOk, map, unwrap_or};
+ghost use Rattle.pg_num.specs.Pointers.{moved_by};
+ghost use Rattle.pg_ast.specs.Syntax.{Int};
+ghost use Rattle.pg_ast.specs.Views.{ty_of, val_of, typed_of, tree_of};
+ghost use Rattle.pg_types.specs.Resolved.{resolved};
+ghost use Rattle.pg_types.specs.NumberedTypes.{named_types};
+ghost use Rattle.pg_rules.specs.ValueConditions.{number_at};
+ghost use Rattle.pg_rules.specs.Constants.{index_scales, moves, pointer_word};
+ghost use Rattle.pg_constants.specs.Words.{kind_word};
+ghost use Rattle.pg_constants.specs.Sizes.{TypeFits, ValFits};
+
+use crate::globals::{Globals, symbol_word};
+use crate::indices::{index_scales, moved_along};
+use pg_ast::{Literal, TypeNode, TypedVal, ValNode};
+use pg_rules::{constant_number, index_numbers, literal_at};
+use pg_types::{TypeKind, TypeNumbers};
+use std::alloc::{AllocError, Global};
+
+/// A pointer's word that constant indices move.
+#[tactic(auto, using(crate::proofs::ScaleSteps::index_scales_are, crate::proofs::ScaleSteps::moves_are))]
+fn moved_word(
+    alloc: Global,
+    types: &mut TypeNumbers<'_>,
+    word: u64,
+    ty: &TypeNode,
+    indices: &[TypedVal],
+) -> Result<u64, AllocError>
+    requires { TypeFits (named_types types.old) (ty_of ty.now) }
+    ensures word { IfOk result (λ w. w ≡ moved_by word (moves (named_types types.old)
+        (index_scales (named_types types.old) (ty_of ty.now) (map typed_of indices.now)) (map typed_of indices.now))) }
+    ensures items { types.new.items ≡ types.old.items }
+{
+    let numbers = index_numbers(alloc, types, indices)?;
+    let scales = index_scales(alloc, types, ty, numbers.as_slice())?;
+    Ok(moved_along(word, scales.as_slice(), numbers.as_slice()))
+}
+
+/// The word of a pointer that is written as an integer.
+fn integer_word(
+    types: &mut TypeNumbers<'_>,
+    ty: &TypeNode,
+    literal: &Literal,
+) -> Result<u64, AllocError>
+    ensures word { IfOk result (λ w. w ≡ unwrap_or (number_at (resolved (named_types types.old) (ty_of ty.now)) (Int literal.now)) 0) }
+    ensures items { types.new.items ≡ types.old.items }
+{
+    let number = literal_at(types, ty, literal)?;
+    Ok(number.unwrap_or(0))
+}
+
+/// The word of a pointer constant.
+#[cycle(words)]
+#[tactic(auto, unfolding(pg_rules::specs::Constants::pointer_word))]
+pub(crate) fn pointer_word(
+    alloc: Global,
+    globals: &Globals<'_>,
+    types: &mut TypeNumbers<'_>,
+    value: &ValNode,
+) -> Result<u64, AllocError>
+    requires items { types.old.items ≡ globals.now.symbols.tree.now.types.items }
+    requires fits { ValFits (tree_of globals.now.symbols.tree.now).types (val_of value.now) }
+    ensures word { IfOk result (λ w. w ≡ pointer_word (tree_of globals.now.symbols.tree.now) (val_of value.now)) }
+    ensures items { types.new.items ≡ types.old.items }
+{
+    match value {
+        ValNode::Global(name) => Ok(symbol_word(globals, name.text.as_slice())),
+        ValNode::GetElementPtr(_, ty, _, base, indices) => {
+            let word = pointer_word(alloc, globals, types, base)?;
+            moved_word(alloc, types, word, ty, indices.as_slice())
+        }
+        ValNode::IntToPtr(_, ty, literal, _) => integer_word(types, ty, literal),
+        _ => Ok(0),
+    }
+}
+
+/// The number of a constant by the kind of its type.
+pub fn kind_word(
+    alloc: Global,
+    globals: &Globals<'_>,
+    types: &mut TypeNumbers<'_>,
+    kind: Option<TypeKind>,
+    value: &ValNode,
+) -> Result<u64, AllocError>
+    requires items { types.old.items ≡ globals.now.symbols.tree.now.types.items }
+    requires fits { ValFits (tree_of globals.now.symbols.tree.now).types (val_of value.now) }
+    ensures word { IfOk result (λ w. w ≡ kind_word (tree_of globals.now.symbols.tree.now) kind (val_of value.now)) }
+    ensures items { types.new.items ≡ types.old.items }
+{
+    match kind {
+        Some(TypeKind::Integer(width)) => Ok(constant_number(width, value).unwrap_or(0)),
+        Some(TypeKind::Pointer) => pointer_word(alloc, globals, types, value),
+        _ => Ok(0),
+    }
+}
