@@ -1,6 +1,7 @@
 //! Runs the top call on small programs. For each line of `rows.txt`, which has the words of a command line and the files that
 //! stand one behind the other as its program text, it prints the exit status and what was written. What comes of each
-//! row was written down by hand.
+//! row was written down by hand. Then it runs `once` on each line of `checks.txt`, a text that the checks refuse or nearly
+//! refuse, and prints what was written, and the text. `data/checks.py` made the output that is wanted of these.
 #![tactic(auto)]
 
 use anyhow::Result;
@@ -65,6 +66,30 @@ fn print_outcome(rt: &HostRuntime, line: &str, name: &str, text: Vec<u8>) -> Res
     print_bytes(rt, written.as_slice())
 }
 
+/// Runs `once` on a text in which `⏎` stands for a line feed, and prints what was written, and then the text.
+fn print_check(rt: &HostRuntime, text: &str) -> Result<()> {
+    let lines = text.replace(rt.alloc(), "⏎", "\n")?;
+    let (_, written) = outcome(rt.alloc(), "once", lines.as_bytes().to_vec(rt.alloc())?)?;
+    match str::from_utf8(written.as_slice()) {
+        Ok(said) => {
+            let said = said.trim_end();
+            println!(rt; "{said}: {text}")?;
+        }
+        Err(_) => println!(rt; "bytes that are no text: {text}")?,
+    }
+    Ok(())
+}
+
+/// Prints what comes of each line of `checks.txt`.
+fn print_checks(rt: &HostRuntime) -> Result<()> {
+    let texts = fs::read_to_string(rt, "checks.txt")?;
+    println!(rt; "checks.txt")?;
+    for text in texts.lines() {
+        print_check(rt, text)?;
+    }
+    Ok(())
+}
+
 /// Whether `once` answers anything else on a front of the text than that the program ran or was refused.
 fn has_other_front(alloc: Global, text: &[u8]) -> Result<bool, AllocError> {
     for len in 0..text.len() {
@@ -103,5 +128,6 @@ fn main(rt: HostRuntime) -> Result<()> {
     print_outcome(&rt, "once", "1048577 blanks", blanks)?;
     let other = has_other_front(rt.alloc(), joined(&rt, SHORTENED)?.as_slice())?;
     println!(rt; "a proper prefix of {SHORTENED} has another status than 0 and 3: {other}")?;
-    print_canonical(&rt, joined(&rt, "least.ll")?.as_slice())
+    print_canonical(&rt, joined(&rt, "least.ll")?.as_slice())?;
+    print_checks(&rt)
 }
