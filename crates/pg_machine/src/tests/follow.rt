@@ -72,13 +72,16 @@ fn a_run_that_strays(rt: HostRuntime) -> Result<(), Fail> {
     Ok(())
 }
 
+fn ends_early(alloc: Global, case: Case) -> Result<bool, Fail> {
+    let p = program(alloc, case)?;
+    let s = start_then(alloc, turn(0, 3, TurnKind::Out, 0))?;
+    Ok(is_unfinished(&follow(alloc, &p, &[], &s)?))
+}
+
 /// One that traps, and one that would take a step more than a recording may have.
 #[test]
 fn unfinished_runs(rt: HostRuntime) -> Result<(), Fail> {
-    let s = start_then(rt.alloc(), turn(0, 3, TurnKind::Out, 0))?;
-    let traps = program(rt.alloc(), Case::SkippedBlock)?;
-    assert!(rt; is_unfinished(&follow(rt.alloc(), &traps, &[], &s)?));
-    let goes_round = program(rt.alloc(), Case::Circle)?;
-    assert!(rt; is_unfinished(&follow(rt.alloc(), &goes_round, &[], &s)?));
+    assert!(rt; ends_early(rt.alloc(), Case::SkippedBlock)?);
+    assert!(rt; ends_early(rt.alloc(), Case::Circle)?);
     Ok(())
 }

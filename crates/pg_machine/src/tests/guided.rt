@@ -109,14 +109,19 @@ fn traps_by_a_check(rt: HostRuntime) -> Result<(), Fail> {
     Ok(())
 }
 
+/// The run of two threads that divide, along the turns of that on 5 and 10.
+fn divided(alloc: Global, input: &[i64]) -> Result<Guided, Fail> {
+    let p = two_that_divide(alloc)?;
+    let s = recorded(alloc, &p, &[5, 10], 10, ALL, None)?;
+    Ok(guide(alloc, &p, input, &s)?)
+}
+
 /// Both threads divide by zero; the one that owns the next turn gives the end.
 #[test]
 fn the_next_owner_traps(rt: HostRuntime) -> Result<(), Fail> {
-    let p = two_that_divide(rt.alloc())?;
-    let s = recorded(rt.alloc(), &p, &[5, 10], 10, ALL, None)?;
-    let run = guide(rt.alloc(), &p, &[5, 10], &s)?;
+    let run = divided(rt.alloc(), &[5, 10])?;
     assert!(rt; ends_as(&run, b"7\n30\n", GuidedEnd::Exit(0), 12));
-    let run = guide(rt.alloc(), &p, &[5, 0], &s)?;
+    let run = divided(rt.alloc(), &[5, 0])?;
     let end = GuidedEnd::Trap(TrapName::DivideByZero, InstrId(24));
     assert!(rt; ends_as(&run, b"7\n", end, 6));
     Ok(())

@@ -1,61 +1,29 @@
 //! Two more programs: one whose threads race, and one whose threads trap.
 
-use crate::tests::draft::{
-    Draft, I1, I32, I64, NULL, PTR, add, branch, branch_if, load, ret, store,
-};
-use pg_ir::{BlockNo, Incoming, Incomings, Known, Op, Program, Value};
-use pg_num::{Compare, Division, Width};
-use std::alloc::{AllocError, Global};
+use crate::tests::draft::{Head, I1, I32, I64, Line, NULL, PTR, Parts, build};
+use pg_ir::{Known, Program, Value};
+use std::alloc::Global;
 use std::test::Fail;
 
-fn register(r: u32) -> Value {
-    Value::Register(r)
-}
-
-fn below(left: Value, right: Value) -> Op {
-    Op::Compare {
-        op: Compare::Slt,
-        width: Width::W64,
-        left,
-        right,
-    }
-}
-
-fn divide(left: u64, right: Value) -> Op {
-    Op::Divide {
-        op: Division::Sdiv,
-        width: Width::W64,
-        left: Value::Const(left),
-        right,
-    }
-}
-
-/// `phi i64 [ 0, first block ], [ value, second block ]`.
-fn counter(alloc: Global, first: u32, second: u32, value: u32) -> Result<Op, AllocError> {
-    let from = vec![in alloc;
-        Incoming {
-            block: BlockNo(first),
-            value: Value::Const(0),
+const RACING_STORES: Parts = Parts {
+    globals: &[(1, 8), (2, 8)],
+    functions: &[
+        Head {
+            params: 1,
+            registers: &[PTR, I64, PTR, I64, I1, I64],
+            first_block: 0,
+            blocks: 4,
+            returned: PTR,
         },
-        Incoming {
-            block: BlockNo(second),
-            value: register(value),
+        Head {
+            params: 0,
+            registers: &[I32, I64, I64, I1, I64, I32, I64],
+            first_block: 4,
+            blocks: 3,
+            returned: I32,
         },
-    ]?;
-    Ok(Op::Phi {
-        from: Incomings::from_vec(from),
-    })
-}
-
-/// A thread counts up to the input's first number and stores it, and main stores 100 at the same place,
-/// joins the thread and prints what it reads there.
-pub(crate) fn racing_stores(alloc: Global) -> Result<Program, Fail> {
-    let mut d = Draft::new(alloc);
-    d.global(1, 8)?;
-    d.global(2, 8)?;
-    d.function(1, &[PTR, I64, PTR, I64, I1, I64], 0, 4, PTR)?;
-    d.function(0, &[I32, I64, I64, I1, I64, I32, I64], 4, 3, I32)?;
-    for (function, first, count) in [
+    ],
+    blocks: &[
         (0, 0, 4),
         (0, 4, 3),
         (0, 7, 3),
@@ -63,95 +31,152 @@ pub(crate) fn racing_stores(alloc: Global) -> Result<Program, Fail> {
         (1, 12, 2),
         (1, 14, 4),
         (1, 18, 6),
-    ] {
-        d.block(function, first, count)?;
-    }
-    d.call(0, Some(1), Known::PgIn, &[Value::Const(0)])?;
-    d.put(0, Some(2), Op::Alloca { bytes: 8 })?;
-    d.put(0, None, store(Value::Const(0), register(2)))?;
-    d.put(0, None, branch(1))?;
-    d.put(1, Some(3), load(register(2)))?;
-    d.put(1, Some(4), below(register(3), register(1)))?;
-    d.put(1, None, branch_if(register(4), 2, 3))?;
-    d.put(2, Some(5), add(register(3), Value::Const(1)))?;
-    d.put(2, None, store(register(5), register(2)))?;
-    d.put(2, None, branch(1))?;
-    d.put(3, None, store(register(3), Value::Global(0)))?;
-    d.put(3, None, ret(NULL))?;
-    let thread = [Value::Global(1), NULL, Value::Function(0), NULL];
-    d.call(4, Some(0), Known::PthreadCreate, &thread)?;
-    d.put(4, None, branch(5))?;
-    d.put(5, Some(1), counter(alloc, 4, 5, 2)?)?;
-    d.put(5, Some(2), add(register(1), Value::Const(1)))?;
-    d.put(5, Some(3), below(register(2), Value::Const(3)))?;
-    d.put(5, None, branch_if(register(3), 5, 6))?;
-    d.put(6, None, store(Value::Const(100), Value::Global(0)))?;
-    d.put(6, Some(4), load(Value::Global(1)))?;
-    d.call(6, Some(5), Known::PthreadJoin, &[register(4), NULL])?;
-    d.put(6, Some(6), load(Value::Global(0)))?;
-    d.call(6, None, Known::PgOut, &[register(6)])?;
-    d.put(6, None, ret(Value::Const(0)))?;
-    d.finish(1)
-}
+    ],
+    lines: &[
+        (0, Some(1), Line::Known(Known::PgIn, &[Value::Const(0)])),
+        (0, Some(2), Line::Alloca),
+        (0, None, Line::Store(Value::Const(0), Value::Register(2))),
+        (0, None, Line::Branch(1)),
+        (1, Some(3), Line::Load(Value::Register(2))),
+        (
+            1,
+            Some(4),
+            Line::Below(Value::Register(3), Value::Register(1)),
+        ),
+        (1, None, Line::BranchIf(Value::Register(4), 2, 3)),
+        (2, Some(5), Line::Add(Value::Register(3), Value::Const(1))),
+        (2, None, Line::Store(Value::Register(5), Value::Register(2))),
+        (2, None, Line::Branch(1)),
+        (3, None, Line::Store(Value::Register(3), Value::Global(0))),
+        (3, None, Line::Return(NULL)),
+        (
+            4,
+            Some(0),
+            Line::Known(
+                Known::PthreadCreate,
+                &[Value::Global(1), NULL, Value::Function(0), NULL],
+            ),
+        ),
+        (4, None, Line::Branch(5)),
+        (5, Some(1), Line::Counter(4, 5, 2)),
+        (5, Some(2), Line::Add(Value::Register(1), Value::Const(1))),
+        (5, Some(3), Line::Below(Value::Register(2), Value::Const(3))),
+        (5, None, Line::BranchIf(Value::Register(3), 5, 6)),
+        (6, None, Line::Store(Value::Const(100), Value::Global(0))),
+        (6, Some(4), Line::Load(Value::Global(1))),
+        (
+            6,
+            Some(5),
+            Line::Known(Known::PthreadJoin, &[Value::Register(4), NULL]),
+        ),
+        (6, Some(6), Line::Load(Value::Global(0))),
+        (6, None, Line::Known(Known::PgOut, &[Value::Register(6)])),
+        (6, None, Line::Return(Value::Const(0))),
+    ],
+    main: 1,
+};
 
-/// Main prints 7, and one thread divides 100 by each of the input's numbers, another 1 by the second.
-pub(crate) fn two_that_divide(alloc: Global) -> Result<Program, Fail> {
-    let mut d = Draft::new(alloc);
-    d.global(1, 8)?;
-    d.global(2, 8)?;
-    d.global(3, 8)?;
-    d.function(
-        1,
-        &[PTR, I64, I64, I64, I1, I64, I64, I64, I64, PTR],
-        0,
-        4,
-        PTR,
-    )?;
-    d.function(0, &[I32, I32, I64, I64, I32, I32, I64], 4, 1, I32)?;
-    d.function(1, &[PTR, I64, I64], 5, 1, PTR)?;
-    for (function, first, count) in [
+const TWO_THAT_DIVIDE: Parts = Parts {
+    globals: &[(1, 8), (2, 8), (3, 8)],
+    functions: &[
+        Head {
+            params: 1,
+            registers: &[PTR, I64, I64, I64, I1, I64, I64, I64, I64, PTR],
+            first_block: 0,
+            blocks: 4,
+            returned: PTR,
+        },
+        Head {
+            params: 0,
+            registers: &[I32, I32, I64, I64, I32, I32, I64],
+            first_block: 4,
+            blocks: 1,
+            returned: I32,
+        },
+        Head {
+            params: 1,
+            registers: &[PTR, I64, I64],
+            first_block: 5,
+            blocks: 1,
+            returned: PTR,
+        },
+    ],
+    blocks: &[
         (0, 0, 2),
         (0, 2, 4),
         (0, 6, 5),
         (0, 11, 2),
         (1, 13, 10),
         (2, 23, 3),
-    ] {
-        d.block(function, first, count)?;
-    }
-    d.call(0, Some(1), Known::PgInLen, &[])?;
-    d.put(0, None, branch(1))?;
-    d.put(1, Some(2), counter(alloc, 0, 2, 8)?)?;
-    d.put(1, Some(3), counter(alloc, 0, 2, 7)?)?;
-    d.put(1, Some(4), below(register(2), register(1)))?;
-    d.put(1, None, branch_if(register(4), 2, 3))?;
-    d.call(2, Some(5), Known::PgIn, &[register(2)])?;
-    d.put(2, Some(6), divide(100, register(5)))?;
-    d.put(2, Some(7), add(register(3), register(6)))?;
-    d.put(2, Some(8), add(register(2), Value::Const(1)))?;
-    d.put(2, None, branch(1))?;
-    let pointer = Op::IntToPtr {
-        from: Width::W64,
-        to: Width::W64,
-        of: register(3),
-    };
-    d.put(3, Some(9), pointer)?;
-    d.put(3, None, ret(register(9)))?;
-    d.call(4, None, Known::PgOut, &[Value::Const(7)])?;
-    let first = [Value::Global(0), NULL, Value::Function(0), NULL];
-    d.call(4, Some(0), Known::PthreadCreate, &first)?;
-    let second = [Value::Global(1), NULL, Value::Function(2), NULL];
-    d.call(4, Some(1), Known::PthreadCreate, &second)?;
-    d.put(4, Some(2), load(Value::Global(0)))?;
-    d.put(4, Some(3), load(Value::Global(1)))?;
-    let joined = [register(2), Value::Global(2)];
-    d.call(4, Some(4), Known::PthreadJoin, &joined)?;
-    d.call(4, Some(5), Known::PthreadJoin, &[register(3), NULL])?;
-    d.put(4, Some(6), load(Value::Global(2)))?;
-    d.call(4, None, Known::PgOut, &[register(6)])?;
-    d.put(4, None, ret(Value::Const(0)))?;
-    d.call(5, Some(1), Known::PgIn, &[Value::Const(1)])?;
-    d.put(5, Some(2), divide(1, register(1)))?;
-    d.put(5, None, ret(NULL))?;
-    d.finish(1)
+    ],
+    lines: &[
+        (0, Some(1), Line::Known(Known::PgInLen, &[])),
+        (0, None, Line::Branch(1)),
+        (1, Some(2), Line::Counter(0, 2, 8)),
+        (1, Some(3), Line::Counter(0, 2, 7)),
+        (
+            1,
+            Some(4),
+            Line::Below(Value::Register(2), Value::Register(1)),
+        ),
+        (1, None, Line::BranchIf(Value::Register(4), 2, 3)),
+        (2, Some(5), Line::Known(Known::PgIn, &[Value::Register(2)])),
+        (2, Some(6), Line::Divide(100, Value::Register(5))),
+        (
+            2,
+            Some(7),
+            Line::Add(Value::Register(3), Value::Register(6)),
+        ),
+        (2, Some(8), Line::Add(Value::Register(2), Value::Const(1))),
+        (2, None, Line::Branch(1)),
+        (3, Some(9), Line::ToPointer(Value::Register(3))),
+        (3, None, Line::Return(Value::Register(9))),
+        (4, None, Line::Known(Known::PgOut, &[Value::Const(7)])),
+        (
+            4,
+            Some(0),
+            Line::Known(
+                Known::PthreadCreate,
+                &[Value::Global(0), NULL, Value::Function(0), NULL],
+            ),
+        ),
+        (
+            4,
+            Some(1),
+            Line::Known(
+                Known::PthreadCreate,
+                &[Value::Global(1), NULL, Value::Function(2), NULL],
+            ),
+        ),
+        (4, Some(2), Line::Load(Value::Global(0))),
+        (4, Some(3), Line::Load(Value::Global(1))),
+        (
+            4,
+            Some(4),
+            Line::Known(Known::PthreadJoin, &[Value::Register(2), Value::Global(2)]),
+        ),
+        (
+            4,
+            Some(5),
+            Line::Known(Known::PthreadJoin, &[Value::Register(3), NULL]),
+        ),
+        (4, Some(6), Line::Load(Value::Global(2))),
+        (4, None, Line::Known(Known::PgOut, &[Value::Register(6)])),
+        (4, None, Line::Return(Value::Const(0))),
+        (5, Some(1), Line::Known(Known::PgIn, &[Value::Const(1)])),
+        (5, Some(2), Line::Divide(1, Value::Register(1))),
+        (5, None, Line::Return(NULL)),
+    ],
+    main: 1,
+};
+
+/// A thread counts up to the input's first number and stores it, and main stores 100 at the same place,
+/// joins the thread and prints what it reads there.
+pub(crate) fn racing_stores(alloc: Global) -> Result<Program, Fail> {
+    build(alloc, &RACING_STORES)
+}
+
+/// Main prints 7, and one thread divides 100 by each of the input's numbers, another 1 by the second.
+pub(crate) fn two_that_divide(alloc: Global) -> Result<Program, Fail> {
+    build(alloc, &TWO_THAT_DIVIDE)
 }

@@ -1,11 +1,8 @@
 //! The programs of the rows.
 
-use crate::tests::draft::{
-    Draft, I1, I32, I64, NULL, PTR, add, branch, branch_if, load, ret, store,
-};
-use pg_ir::{BlockNo, Incoming, Incomings, Known, Op, Program, Value, Values};
-use pg_num::{Compare, Width};
-use std::alloc::{AllocError, Global};
+use crate::tests::draft::{Head, I1, I32, I64, Line, NULL, PTR, Parts, build};
+use pg_ir::{Known, Program, Value};
+use std::alloc::Global;
 use std::test::Fail;
 
 /// A program of the rows.
@@ -35,295 +32,415 @@ pub(crate) enum Case {
     FourThreads,
 }
 
+/// The function of the threads.
 const THREAD: Value = Value::Function(0);
 
-fn register(r: u32) -> Value {
-    Value::Register(r)
-}
+const TWO_UNDER_MUTEX: Parts = Parts {
+    globals: &[(1, 40), (6, 8), (7, 8)],
+    functions: &[
+        Head {
+            params: 1,
+            registers: &[PTR, I32, I64, I64, I64, I32],
+            first_block: 0,
+            blocks: 1,
+            returned: PTR,
+        },
+        Head {
+            params: 0,
+            registers: &[I32, I32, I64, I64, I32, I64, I32, I64],
+            first_block: 1,
+            blocks: 1,
+            returned: I32,
+        },
+    ],
+    blocks: &[(0, 0, 7), (1, 7, 11)],
+    lines: &[
+        (
+            0,
+            Some(1),
+            Line::Known(Known::PthreadMutexLock, &[Value::Global(0)]),
+        ),
+        (0, Some(2), Line::Load(Value::Global(2))),
+        (0, Some(3), Line::Known(Known::PgIn, &[Value::Const(0)])),
+        (
+            0,
+            Some(4),
+            Line::Add(Value::Register(2), Value::Register(3)),
+        ),
+        (0, None, Line::Store(Value::Register(4), Value::Global(2))),
+        (
+            0,
+            Some(5),
+            Line::Known(Known::PthreadMutexUnlock, &[Value::Global(0)]),
+        ),
+        (0, None, Line::Return(NULL)),
+        (
+            1,
+            Some(0),
+            Line::Known(
+                Known::PthreadCreate,
+                &[Value::Global(1), NULL, THREAD, Value::Const(0)],
+            ),
+        ),
+        (
+            1,
+            Some(1),
+            Line::Known(Known::PthreadMutexLock, &[Value::Global(0)]),
+        ),
+        (1, Some(2), Line::Load(Value::Global(2))),
+        (1, Some(3), Line::Add(Value::Register(2), Value::Const(1))),
+        (1, None, Line::Store(Value::Register(3), Value::Global(2))),
+        (
+            1,
+            Some(4),
+            Line::Known(Known::PthreadMutexUnlock, &[Value::Global(0)]),
+        ),
+        (1, Some(5), Line::Load(Value::Global(1))),
+        (
+            1,
+            Some(6),
+            Line::Known(Known::PthreadJoin, &[Value::Register(5), NULL]),
+        ),
+        (1, Some(7), Line::Load(Value::Global(2))),
+        (1, None, Line::Known(Known::PgOut, &[Value::Register(7)])),
+        (1, None, Line::Return(Value::Const(0))),
+    ],
+    main: 1,
+};
 
-/// A number under a mutex is read, changed and written. The registers from `r` on are the lock's
-/// answer, the old number and the new one, and the unlock's answer.
-fn add_under_mutex(
-    d: &mut Draft,
-    block: u32,
-    r: [u32; 4],
-    by: Value,
-    from_input: Option<u32>,
-) -> Result<(), AllocError> {
-    d.call(
-        block,
-        Some(r[0]),
-        Known::PthreadMutexLock,
-        &[Value::Global(0)],
-    )?;
-    d.put(block, Some(r[1]), load(Value::Global(2)))?;
-    if from_input.is_some() {
-        d.call(block, from_input, Known::PgIn, &[Value::Const(0)])?;
-    }
-    d.put(block, Some(r[2]), add(register(r[1]), by))?;
-    d.put(block, None, store(register(r[2]), Value::Global(2)))?;
-    d.call(
-        block,
-        Some(r[3]),
-        Known::PthreadMutexUnlock,
-        &[Value::Global(0)],
-    )
-}
+const PRINT_IF_STORED: Parts = Parts {
+    globals: &[(1, 8), (2, 8)],
+    functions: &[
+        Head {
+            params: 1,
+            registers: &[PTR],
+            first_block: 0,
+            blocks: 1,
+            returned: PTR,
+        },
+        Head {
+            params: 0,
+            registers: &[I32, I64, I1, I32],
+            first_block: 1,
+            blocks: 3,
+            returned: I32,
+        },
+    ],
+    blocks: &[(0, 0, 2), (1, 2, 4), (1, 6, 2), (1, 8, 2)],
+    lines: &[
+        (0, None, Line::Store(Value::Const(1), Value::Global(1))),
+        (0, None, Line::Return(NULL)),
+        (
+            1,
+            Some(0),
+            Line::Known(
+                Known::PthreadCreate,
+                &[Value::Global(0), NULL, THREAD, Value::Const(0)],
+            ),
+        ),
+        (1, Some(1), Line::Load(Value::Global(1))),
+        (1, Some(2), Line::NotZero(Value::Register(1))),
+        (1, None, Line::BranchIf(Value::Register(2), 2, 3)),
+        (2, None, Line::Known(Known::PgOut, &[Value::Register(1)])),
+        (2, None, Line::Branch(3)),
+        (
+            3,
+            Some(3),
+            Line::Known(Known::PthreadJoin, &[Value::Const(1), NULL]),
+        ),
+        (3, None, Line::Return(Value::Const(0))),
+    ],
+    main: 1,
+};
 
-fn create(
-    d: &mut Draft,
-    block: u32,
-    target: u32,
-    place: u32,
-    argument: u64,
-) -> Result<(), AllocError> {
-    let args = [Value::Global(place), NULL, THREAD, Value::Const(argument)];
-    d.call(block, Some(target), Known::PthreadCreate, &args)
-}
+const PRINT_BOTH: Parts = Parts {
+    globals: &[(1, 8), (2, 8)],
+    functions: &[
+        Head {
+            params: 1,
+            registers: &[PTR, I32],
+            first_block: 0,
+            blocks: 1,
+            returned: PTR,
+        },
+        Head {
+            params: 0,
+            registers: &[I32, I64],
+            first_block: 1,
+            blocks: 1,
+            returned: I32,
+        },
+    ],
+    blocks: &[(0, 0, 3), (1, 3, 4)],
+    lines: &[
+        (0, None, Line::Store(Value::Const(5), Value::Global(1))),
+        (0, Some(1), Line::Known(Known::Putchar, &[Value::Const(65)])),
+        (0, None, Line::Return(NULL)),
+        (
+            1,
+            Some(0),
+            Line::Known(
+                Known::PthreadCreate,
+                &[Value::Global(0), NULL, THREAD, Value::Const(0)],
+            ),
+        ),
+        (1, Some(1), Line::Load(Value::Global(1))),
+        (1, None, Line::Known(Known::PgOut, &[Value::Register(1)])),
+        (1, None, Line::Return(Value::Const(0))),
+    ],
+    main: 1,
+};
 
-fn two_under_mutex(alloc: Global) -> Result<Program, Fail> {
-    let mut d = Draft::new(alloc);
-    d.global(1, 40)?;
-    d.global(6, 8)?;
-    d.global(7, 8)?;
-    d.function(1, &[PTR, I32, I64, I64, I64, I32], 0, 1, PTR)?;
-    d.function(0, &[I32, I32, I64, I64, I32, I64, I32, I64], 1, 1, I32)?;
-    d.block(0, 0, 7)?;
-    d.block(1, 7, 11)?;
-    add_under_mutex(&mut d, 0, [1, 2, 4, 5], register(3), Some(3))?;
-    d.put(0, None, ret(NULL))?;
-    create(&mut d, 1, 0, 1, 0)?;
-    add_under_mutex(&mut d, 1, [1, 2, 3, 4], Value::Const(1), None)?;
-    d.put(1, Some(5), load(Value::Global(1)))?;
-    d.call(1, Some(6), Known::PthreadJoin, &[register(5), NULL])?;
-    d.put(1, Some(7), load(Value::Global(2)))?;
-    d.call(1, None, Known::PgOut, &[register(7)])?;
-    d.put(1, None, ret(Value::Const(0)))?;
-    d.finish(1)
-}
+const CIRCLE: Parts = Parts {
+    globals: &[],
+    functions: &[Head {
+        params: 0,
+        registers: &[I32],
+        first_block: 0,
+        blocks: 2,
+        returned: I32,
+    }],
+    blocks: &[(0, 0, 1), (0, 1, 1)],
+    lines: &[(0, None, Line::Branch(1)), (1, None, Line::Branch(1))],
+    main: 0,
+};
 
-fn not_zero(of: Value) -> Op {
-    Op::Compare {
-        op: Compare::Ne,
-        width: Width::W64,
-        left: of,
-        right: Value::Const(0),
-    }
-}
+const SKIPPED_BLOCK: Parts = Parts {
+    globals: &[],
+    functions: &[Head {
+        params: 0,
+        registers: &[I64],
+        first_block: 0,
+        blocks: 3,
+        returned: I32,
+    }],
+    blocks: &[(0, 0, 1), (0, 1, 2), (0, 3, 2)],
+    lines: &[
+        (0, None, Line::Branch(2)),
+        (1, Some(0), Line::Add(Value::Const(1), Value::Const(2))),
+        (1, None, Line::Branch(2)),
+        (2, None, Line::Known(Known::PgOut, &[Value::Register(0)])),
+        (2, None, Line::Return(Value::Const(0))),
+    ],
+    main: 0,
+};
 
-fn print_if_stored(alloc: Global) -> Result<Program, Fail> {
-    let mut d = Draft::new(alloc);
-    d.global(1, 8)?;
-    d.global(2, 8)?;
-    d.function(1, &[PTR], 0, 1, PTR)?;
-    d.function(0, &[I32, I64, I1, I32], 1, 3, I32)?;
-    d.block(0, 0, 2)?;
-    d.block(1, 2, 4)?;
-    d.block(1, 6, 2)?;
-    d.block(1, 8, 2)?;
-    d.put(0, None, store(Value::Const(1), Value::Global(1)))?;
-    d.put(0, None, ret(NULL))?;
-    create(&mut d, 1, 0, 0, 0)?;
-    d.put(1, Some(1), load(Value::Global(1)))?;
-    d.put(1, Some(2), not_zero(register(1)))?;
-    d.put(1, None, branch_if(register(2), 2, 3))?;
-    d.call(2, None, Known::PgOut, &[register(1)])?;
-    d.put(2, None, branch(3))?;
-    d.call(3, Some(3), Known::PthreadJoin, &[Value::Const(1), NULL])?;
-    d.put(3, None, ret(Value::Const(0)))?;
-    d.finish(1)
-}
+const LOCK_TWICE: Parts = Parts {
+    globals: &[(1, 40)],
+    functions: &[Head {
+        params: 0,
+        registers: &[I32, I32],
+        first_block: 0,
+        blocks: 1,
+        returned: I32,
+    }],
+    blocks: &[(0, 0, 3)],
+    lines: &[
+        (
+            0,
+            Some(0),
+            Line::Known(Known::PthreadMutexLock, &[Value::Global(0)]),
+        ),
+        (
+            0,
+            Some(1),
+            Line::Known(Known::PthreadMutexLock, &[Value::Global(0)]),
+        ),
+        (0, None, Line::Return(Value::Const(0))),
+    ],
+    main: 0,
+};
 
-fn print_both(alloc: Global) -> Result<Program, Fail> {
-    let mut d = Draft::new(alloc);
-    d.global(1, 8)?;
-    d.global(2, 8)?;
-    d.function(1, &[PTR, I32], 0, 1, PTR)?;
-    d.function(0, &[I32, I64], 1, 1, I32)?;
-    d.block(0, 0, 3)?;
-    d.block(1, 3, 4)?;
-    d.put(0, None, store(Value::Const(5), Value::Global(1)))?;
-    d.call(0, Some(1), Known::Putchar, &[Value::Const(65)])?;
-    d.put(0, None, ret(NULL))?;
-    create(&mut d, 1, 0, 0, 0)?;
-    d.put(1, Some(1), load(Value::Global(1)))?;
-    d.call(1, None, Known::PgOut, &[register(1)])?;
-    d.put(1, None, ret(Value::Const(0)))?;
-    d.finish(1)
-}
+const EMPTY_BARRIER: Parts = Parts {
+    globals: &[(1, 32)],
+    functions: &[Head {
+        params: 0,
+        registers: &[I32, I64],
+        first_block: 0,
+        blocks: 1,
+        returned: I32,
+    }],
+    blocks: &[(0, 0, 4)],
+    lines: &[
+        (
+            0,
+            Some(0),
+            Line::Known(
+                Known::PthreadBarrierInit,
+                &[Value::Global(0), NULL, Value::Const(0)],
+            ),
+        ),
+        (0, Some(1), Line::Widen(Value::Register(0))),
+        (0, None, Line::Known(Known::PgOut, &[Value::Register(1)])),
+        (0, None, Line::Return(Value::Const(0))),
+    ],
+    main: 0,
+};
 
-fn circle(alloc: Global) -> Result<Program, Fail> {
-    let mut d = Draft::new(alloc);
-    d.function(0, &[I32], 0, 2, I32)?;
-    d.block(0, 0, 1)?;
-    d.block(0, 1, 1)?;
-    d.put(0, None, branch(1))?;
-    d.put(1, None, branch(1))?;
-    d.finish(0)
-}
+const RECURSION: Parts = Parts {
+    globals: &[],
+    functions: &[Head {
+        params: 0,
+        registers: &[I32],
+        first_block: 0,
+        blocks: 1,
+        returned: I32,
+    }],
+    blocks: &[(0, 0, 2)],
+    lines: &[
+        (0, Some(0), Line::Call(0)),
+        (0, None, Line::Return(Value::Const(0))),
+    ],
+    main: 0,
+};
 
-fn skipped_block(alloc: Global) -> Result<Program, Fail> {
-    let mut d = Draft::new(alloc);
-    d.function(0, &[I64], 0, 3, I32)?;
-    d.block(0, 0, 1)?;
-    d.block(0, 1, 2)?;
-    d.block(0, 3, 2)?;
-    d.put(0, None, branch(2))?;
-    d.put(1, Some(0), add(Value::Const(1), Value::Const(2)))?;
-    d.put(1, None, branch(2))?;
-    d.call(2, None, Known::PgOut, &[register(0)])?;
-    d.put(2, None, ret(Value::Const(0)))?;
-    d.finish(0)
-}
+const PLACE_BY_NUMBER: Parts = Parts {
+    globals: &[],
+    functions: &[Head {
+        params: 0,
+        registers: &[PTR, I64],
+        first_block: 0,
+        blocks: 1,
+        returned: I32,
+    }],
+    blocks: &[(0, 0, 4)],
+    lines: &[
+        (
+            0,
+            Some(0),
+            Line::ToPointer(Value::Const(4_611_686_018_444_165_120)),
+        ),
+        (0, Some(1), Line::Load(Value::Register(0))),
+        (0, None, Line::Known(Known::PgOut, &[Value::Register(1)])),
+        (0, None, Line::Return(Value::Const(0))),
+    ],
+    main: 0,
+};
 
-fn lock_twice(alloc: Global) -> Result<Program, Fail> {
-    let mut d = Draft::new(alloc);
-    d.global(1, 40)?;
-    d.function(0, &[I32, I32], 0, 1, I32)?;
-    d.block(0, 0, 3)?;
-    d.call(0, Some(0), Known::PthreadMutexLock, &[Value::Global(0)])?;
-    d.call(0, Some(1), Known::PthreadMutexLock, &[Value::Global(0)])?;
-    d.put(0, None, ret(Value::Const(0)))?;
-    d.finish(0)
-}
+const MANY_THREADS: Parts = Parts {
+    globals: &[(1, 8)],
+    functions: &[
+        Head {
+            params: 1,
+            registers: &[PTR],
+            first_block: 0,
+            blocks: 1,
+            returned: PTR,
+        },
+        Head {
+            params: 0,
+            registers: &[I64, I64, I32, I64, I1],
+            first_block: 1,
+            blocks: 3,
+            returned: I32,
+        },
+    ],
+    blocks: &[(0, 0, 1), (1, 1, 2), (1, 3, 5), (1, 8, 1)],
+    lines: &[
+        (0, None, Line::Return(NULL)),
+        (1, Some(0), Line::Known(Known::PgIn, &[Value::Const(0)])),
+        (1, None, Line::Branch(2)),
+        (2, Some(1), Line::Counter(1, 2, 3)),
+        (
+            2,
+            Some(2),
+            Line::Known(
+                Known::PthreadCreate,
+                &[Value::Global(0), NULL, THREAD, Value::Const(0)],
+            ),
+        ),
+        (2, Some(3), Line::Add(Value::Register(1), Value::Const(1))),
+        (
+            2,
+            Some(4),
+            Line::Below(Value::Register(3), Value::Register(0)),
+        ),
+        (2, None, Line::BranchIf(Value::Register(4), 2, 3)),
+        (3, None, Line::Return(Value::Const(0))),
+    ],
+    main: 1,
+};
 
-fn empty_barrier(alloc: Global) -> Result<Program, Fail> {
-    let mut d = Draft::new(alloc);
-    d.global(1, 32)?;
-    d.function(0, &[I32, I64], 0, 1, I32)?;
-    d.block(0, 0, 4)?;
-    let args = [Value::Global(0), NULL, Value::Const(0)];
-    d.call(0, Some(0), Known::PthreadBarrierInit, &args)?;
-    let widened = Op::Sext {
-        from: Width::W32,
-        to: Width::W64,
-        of: register(0),
-    };
-    d.put(0, Some(1), widened)?;
-    d.call(0, None, Known::PgOut, &[register(1)])?;
-    d.put(0, None, ret(Value::Const(0)))?;
-    d.finish(0)
-}
-
-fn recursion(alloc: Global) -> Result<Program, Fail> {
-    let mut d = Draft::new(alloc);
-    d.function(0, &[I32], 0, 1, I32)?;
-    d.block(0, 0, 2)?;
-    let call = Op::Call {
-        function: 0,
-        args: Values::from_vec(Vec::new(alloc)),
-    };
-    d.put(0, Some(0), call)?;
-    d.put(0, None, ret(Value::Const(0)))?;
-    d.finish(0)
-}
-
-fn place_by_number(alloc: Global) -> Result<Program, Fail> {
-    let mut d = Draft::new(alloc);
-    d.function(0, &[PTR, I64], 0, 1, I32)?;
-    d.block(0, 0, 4)?;
-    let pointer = Op::IntToPtr {
-        from: Width::W64,
-        to: Width::W64,
-        of: Value::Const(4_611_686_018_444_165_120),
-    };
-    d.put(0, Some(0), pointer)?;
-    d.put(0, Some(1), load(register(0)))?;
-    d.call(0, None, Known::PgOut, &[register(1)])?;
-    d.put(0, None, ret(Value::Const(0)))?;
-    d.finish(0)
-}
-
-/// `phi i64 [ 0, %entry ], [ next, this block ]`.
-fn counter(alloc: Global, next: u32) -> Result<Op, AllocError> {
-    let mut from = Vec::new(alloc);
-    from.push(Incoming {
-        block: BlockNo(1),
-        value: Value::Const(0),
-    })?;
-    from.push(Incoming {
-        block: BlockNo(2),
-        value: register(next),
-    })?;
-    Ok(Op::Phi {
-        from: Incomings::from_vec(from),
-    })
-}
-
-fn many_threads(alloc: Global) -> Result<Program, Fail> {
-    let mut d = Draft::new(alloc);
-    d.global(1, 8)?;
-    d.function(1, &[PTR], 0, 1, PTR)?;
-    d.function(0, &[I64, I64, I32, I64, I1], 1, 3, I32)?;
-    d.block(0, 0, 1)?;
-    d.block(1, 1, 2)?;
-    d.block(1, 3, 5)?;
-    d.block(1, 8, 1)?;
-    d.put(0, None, ret(NULL))?;
-    d.call(1, Some(0), Known::PgIn, &[Value::Const(0)])?;
-    d.put(1, None, branch(2))?;
-    d.put(2, Some(1), counter(alloc, 3)?)?;
-    create(&mut d, 2, 2, 0, 0)?;
-    d.put(2, Some(3), add(register(1), Value::Const(1)))?;
-    let test = Op::Compare {
-        op: Compare::Slt,
-        width: Width::W64,
-        left: register(3),
-        right: register(0),
-    };
-    d.put(2, Some(4), test)?;
-    d.put(2, None, branch_if(register(4), 2, 3))?;
-    d.put(3, None, ret(Value::Const(0)))?;
-    d.finish(1)
-}
-
-fn join(d: &mut Draft, target: u32, thread: u64) -> Result<(), AllocError> {
-    d.call(
-        1,
-        Some(target),
-        Known::PthreadJoin,
-        &[Value::Const(thread), NULL],
-    )
-}
-
-fn four_threads(alloc: Global) -> Result<Program, Fail> {
-    let mut d = Draft::new(alloc);
-    d.global(1, 8)?;
-    d.function(1, &[PTR, I64], 0, 1, PTR)?;
-    d.function(0, &[I32, I32, I32, I32, I32, I32], 1, 1, I32)?;
-    d.block(0, 0, 4)?;
-    d.block(1, 4, 7)?;
-    let number = Op::PtrToInt {
-        from: Width::W64,
-        to: Width::W64,
-        of: register(0),
-    };
-    d.put(0, Some(1), number)?;
-    d.call(0, None, Known::PgOut, &[register(1)])?;
-    d.call(0, None, Known::PgOut, &[register(1)])?;
-    d.put(0, None, ret(register(0)))?;
-    create(&mut d, 1, 0, 0, 1)?;
-    create(&mut d, 1, 1, 0, 2)?;
-    create(&mut d, 1, 2, 0, 3)?;
-    join(&mut d, 3, 1)?;
-    join(&mut d, 4, 2)?;
-    join(&mut d, 5, 3)?;
-    d.put(1, None, ret(Value::Const(0)))?;
-    d.finish(1)
-}
+const FOUR_THREADS: Parts = Parts {
+    globals: &[(1, 8)],
+    functions: &[
+        Head {
+            params: 1,
+            registers: &[PTR, I64],
+            first_block: 0,
+            blocks: 1,
+            returned: PTR,
+        },
+        Head {
+            params: 0,
+            registers: &[I32, I32, I32, I32, I32, I32],
+            first_block: 1,
+            blocks: 1,
+            returned: I32,
+        },
+    ],
+    blocks: &[(0, 0, 4), (1, 4, 7)],
+    lines: &[
+        (0, Some(1), Line::ToNumber(Value::Register(0))),
+        (0, None, Line::Known(Known::PgOut, &[Value::Register(1)])),
+        (0, None, Line::Known(Known::PgOut, &[Value::Register(1)])),
+        (0, None, Line::Return(Value::Register(0))),
+        (
+            1,
+            Some(0),
+            Line::Known(
+                Known::PthreadCreate,
+                &[Value::Global(0), NULL, THREAD, Value::Const(1)],
+            ),
+        ),
+        (
+            1,
+            Some(1),
+            Line::Known(
+                Known::PthreadCreate,
+                &[Value::Global(0), NULL, THREAD, Value::Const(2)],
+            ),
+        ),
+        (
+            1,
+            Some(2),
+            Line::Known(
+                Known::PthreadCreate,
+                &[Value::Global(0), NULL, THREAD, Value::Const(3)],
+            ),
+        ),
+        (
+            1,
+            Some(3),
+            Line::Known(Known::PthreadJoin, &[Value::Const(1), NULL]),
+        ),
+        (
+            1,
+            Some(4),
+            Line::Known(Known::PthreadJoin, &[Value::Const(2), NULL]),
+        ),
+        (
+            1,
+            Some(5),
+            Line::Known(Known::PthreadJoin, &[Value::Const(3), NULL]),
+        ),
+        (1, None, Line::Return(Value::Const(0))),
+    ],
+    main: 1,
+};
 
 pub(crate) fn program(alloc: Global, case: Case) -> Result<Program, Fail> {
     match case {
-        Case::TwoUnderMutex => two_under_mutex(alloc),
-        Case::PrintIfStored => print_if_stored(alloc),
-        Case::PrintBoth => print_both(alloc),
-        Case::Circle => circle(alloc),
-        Case::SkippedBlock => skipped_block(alloc),
-        Case::LockTwice => lock_twice(alloc),
-        Case::EmptyBarrier => empty_barrier(alloc),
-        Case::Recursion => recursion(alloc),
-        Case::PlaceByNumber => place_by_number(alloc),
-        Case::ManyThreads => many_threads(alloc),
-        Case::FourThreads => four_threads(alloc),
+        Case::TwoUnderMutex => build(alloc, &TWO_UNDER_MUTEX),
+        Case::PrintIfStored => build(alloc, &PRINT_IF_STORED),
+        Case::PrintBoth => build(alloc, &PRINT_BOTH),
+        Case::Circle => build(alloc, &CIRCLE),
+        Case::SkippedBlock => build(alloc, &SKIPPED_BLOCK),
+        Case::LockTwice => build(alloc, &LOCK_TWICE),
+        Case::EmptyBarrier => build(alloc, &EMPTY_BARRIER),
+        Case::Recursion => build(alloc, &RECURSION),
+        Case::PlaceByNumber => build(alloc, &PLACE_BY_NUMBER),
+        Case::ManyThreads => build(alloc, &MANY_THREADS),
+        Case::FourThreads => build(alloc, &FOUR_THREADS),
     }
 }

@@ -8,71 +8,145 @@ use crate::{Outcome, Recorded, rotate};
 use pg_ir::{InstrId, TrapName};
 use pg_num::limits::QUANTUM_LIMIT;
 use pg_trace::Step;
+use std::alloc::{AllocError, Global};
+use std::process::Abort;
 use std::test::Fail;
 
 /// A program, its input and its quantum; what it prints, how many events it does, and how it ends.
 #[derive(Clone, Copy)]
-struct Row<'a> {
+struct Row {
     case: Case,
-    input: &'a [i64],
+    input: &'static [i64],
     quantum: u32,
-    output: &'a [u8],
+    output: &'static [u8],
     events: usize,
     end: Outcome,
 }
 
-fn row_of<'a>(
-    case: Case,
-    input: &'a [i64],
-    output: &'a [u8],
-    events: usize,
-    end: Outcome,
-) -> Row<'a> {
+const ROWS: [Row; 12] = [
     Row {
-        case,
-        input,
+        case: Case::TwoUnderMutex,
+        input: &[4],
         quantum: 100,
-        output,
-        events,
-        end,
-    }
-}
+        output: b"5\n",
+        events: 11,
+        end: Outcome::Exit(0),
+    },
+    Row {
+        case: Case::PrintIfStored,
+        input: &[],
+        quantum: 100,
+        output: b"",
+        events: 6,
+        end: Outcome::Exit(0),
+    },
+    Row {
+        case: Case::PrintBoth,
+        input: &[],
+        quantum: 100,
+        output: b"0\n",
+        events: 4,
+        end: Outcome::Exit(0),
+    },
+    Row {
+        case: Case::PrintBoth,
+        input: &[],
+        quantum: 1,
+        output: b"0\nA",
+        events: 6,
+        end: Outcome::Exit(0),
+    },
+    Row {
+        case: Case::Circle,
+        input: &[],
+        quantum: 100,
+        output: b"",
+        events: 1,
+        end: Outcome::Budget,
+    },
+    Row {
+        case: Case::SkippedBlock,
+        input: &[],
+        quantum: 100,
+        output: b"",
+        events: 1,
+        end: Outcome::Trap(TrapName::Unset, InstrId(3)),
+    },
+    Row {
+        case: Case::LockTwice,
+        input: &[],
+        quantum: 100,
+        output: b"",
+        events: 2,
+        end: Outcome::Trap(TrapName::Deadlock, InstrId(1)),
+    },
+    Row {
+        case: Case::EmptyBarrier,
+        input: &[],
+        quantum: 100,
+        output: b"22\n",
+        events: 4,
+        end: Outcome::Exit(0),
+    },
+    Row {
+        case: Case::Recursion,
+        input: &[],
+        quantum: 100,
+        output: b"",
+        events: 1,
+        end: Outcome::Trap(TrapName::CallDepth, InstrId(0)),
+    },
+    Row {
+        case: Case::PlaceByNumber,
+        input: &[],
+        quantum: 100,
+        output: b"0\n",
+        events: 3,
+        end: Outcome::Exit(0),
+    },
+    Row {
+        case: Case::ManyThreads,
+        input: &[2],
+        quantum: 100,
+        output: b"",
+        events: 4,
+        end: Outcome::Exit(0),
+    },
+    Row {
+        case: Case::FourThreads,
+        input: &[],
+        quantum: 100,
+        output: b"1\n1\n2\n2\n3\n3\n",
+        events: 20,
+        end: Outcome::Exit(0),
+    },
+];
 
-fn trap(name: TrapName, at: u32) -> Outcome {
-    Outcome::Trap(name, InstrId(at))
-}
+/// A quantum, and whose steps a run of four threads has.
+const TURNS: [(u32, &[u8]); 3] = [
+    (1, b"00101201231231230230300"),
+    (3, b"00011122201122333003300"),
+    (100, b"00001111122222333330000"),
+];
 
 fn event_count(steps: &[Step]) -> usize {
     steps.iter().filter(|step| step.event.is_some()).count()
 }
 
+fn expect_run(rt: &impl Abort, alloc: Global, row: &Row) -> Result<(), Fail> {
+    assert!(rt; row.quantum > 0 && row.quantum <= QUANTUM_LIMIT);
+    let p = program(alloc, row.case)?;
+    let Recorded { trace, output, end } = rotate(alloc, &p, row.input, row.quantum)?;
+    assert_eq!(rt; output.as_slice(), row.output, "of {:?}", row.case);
+    assert_eq!(rt; event_count(trace.steps()), row.events, "of {:?}", row.case);
+    assert_eq!(rt; end, row.end, "of {:?}", row.case);
+    Ok(())
+}
+
 #[test]
 fn runs_of_the_rows(rt: HostRuntime) -> Result<(), Fail> {
-    let exit = Outcome::Exit(0);
-    let rows = [
-        row_of(Case::TwoUnderMutex, &[4], b"5\n", 11, exit),
-        row_of(Case::PrintIfStored, &[], b"", 6, exit),
-        row_of(Case::PrintBoth, &[], b"0\n", 4, exit),
-        Row {
-            quantum: 1,
-            ..row_of(Case::PrintBoth, &[], b"0\nA", 6, exit)
-        },
-        row_of(Case::Circle, &[], b"", 1, Outcome::Budget),
-        row_of(Case::SkippedBlock, &[], b"", 1, trap(TrapName::Unset, 3)),
-        row_of(Case::LockTwice, &[], b"", 2, trap(TrapName::Deadlock, 1)),
-        row_of(Case::EmptyBarrier, &[], b"22\n", 4, exit),
-        row_of(Case::Recursion, &[], b"", 1, trap(TrapName::CallDepth, 0)),
-        row_of(Case::PlaceByNumber, &[], b"0\n", 3, exit),
-        row_of(Case::ManyThreads, &[2], b"", 4, exit),
-        row_of(Case::FourThreads, &[], b"1\n1\n2\n2\n3\n3\n", 20, exit),
-    ];
-    for row in rows {
-        assert!(rt; row.quantum > 0 && row.quantum <= QUANTUM_LIMIT);
-        let p = program(rt.alloc(), row.case)?;
-        let Recorded { trace, output, end } = rotate(rt.alloc(), &p, row.input, row.quantum)?;
-        assert_eq!(rt; output.as_slice(), row.output, "of {:?}", row.case);
-        assert_eq!(rt; event_count(trace.steps()), row.events, "of {:?}", row.case);
-        assert_eq!(rt; end, row.end, "of {:?}", row.case);
+    for row in &ROWS {
+        expect_run(&rt, rt.alloc(), row)?;
     }
     Ok(())
 }
@@ -82,27 +156,35 @@ fn runs_of_the_rows(rt: HostRuntime) -> Result<(), Fail> {
 fn too_many_threads(rt: HostRuntime) -> Result<(), Fail> {
     let p = program(rt.alloc(), Case::ManyThreads)?;
     let recorded = rotate(rt.alloc(), &p, &[64], 100)?;
-    assert_eq!(rt; recorded.end, trap(TrapName::TooManyThreads, 4));
+    assert_eq!(rt;
+        recorded.end,
+        Outcome::Trap(TrapName::TooManyThreads, InstrId(4))
+    );
     Ok(())
 }
 
-/// Whose steps a run of four threads has.
+/// The threads of steps, in digits.
+fn digits(alloc: Global, steps: &[Step]) -> Result<Vec<u8>, AllocError> {
+    let mut digits = Vec::new(alloc);
+    for step in steps {
+        digits.push(b'0' + step.thread.0 % 10)?;
+    }
+    Ok(digits)
+}
+
+fn expect_turns(rt: &impl Abort, alloc: Global, quantum: u32, threads: &[u8]) -> Result<(), Fail> {
+    assert!(rt; quantum > 0 && quantum <= QUANTUM_LIMIT);
+    let p = program(alloc, Case::FourThreads)?;
+    let recorded = rotate(alloc, &p, &[], quantum)?;
+    let found = digits(alloc, recorded.trace.steps())?;
+    assert_eq!(rt; found.as_slice(), threads, "with quantum {quantum}");
+    Ok(())
+}
+
 #[test]
 fn turns_of_four_threads(rt: HostRuntime) -> Result<(), Fail> {
-    let rows: [(u32, &[u8]); 3] = [
-        (1, b"00101201231231230230300"),
-        (3, b"00011122201122333003300"),
-        (100, b"00001111122222333330000"),
-    ];
-    for (quantum, threads) in rows {
-        assert!(rt; quantum > 0 && quantum <= QUANTUM_LIMIT);
-        let p = program(rt.alloc(), Case::FourThreads)?;
-        let recorded = rotate(rt.alloc(), &p, &[], quantum)?;
-        let mut digits = Vec::new(rt.alloc());
-        for step in recorded.trace.steps() {
-            digits.push(b'0' + step.thread.0 % 10)?;
-        }
-        assert_eq!(rt; digits.as_slice(), threads, "with quantum {quantum}");
+    for (quantum, threads) in &TURNS {
+        expect_turns(&rt, rt.alloc(), *quantum, threads)?;
     }
     Ok(())
 }
