@@ -26,47 +26,139 @@ enum Change {
     MainWithParameter,
 }
 
-fn int_32() -> Scalar {
-    Scalar::Int(Width::W32)
+const INT_32: Scalar = Scalar::Int(Width::W32);
+
+/// What an instruction does.
+#[derive(Clone, Copy)]
+enum Line {
+    /// Of a value and 2.
+    Sum(Value),
+    Phi(&'static [Incoming]),
+    Branch(u32),
+    BranchIf(Value, u32, u32),
+    Return(Value),
+    Unreachable,
 }
 
-fn instr(block: u32, register: Option<u32>, op: Op) -> Instr {
-    Instr {
-        op,
-        block: BlockNo(block),
-        result: register,
+/// `[ %0, first ]`, `[ 7, second ]`, and `[ 7, third ]`.
+const FROM_FIRST: Incoming = Incoming {
+    block: BlockNo(0),
+    value: Value::Register(0),
+};
+
+const FROM_SECOND: Incoming = Incoming {
+    block: BlockNo(1),
+    value: Value::Const(7),
+};
+
+const FROM_THIRD: Incoming = Incoming {
+    block: BlockNo(2),
+    value: Value::Const(7),
+};
+
+/// `%0 = add i32 1, 2`, and the register that it sets.
+fn first(change: Change) -> (Option<u32>, Line) {
+    match change {
+        Change::PhiInFirstBlock => (Some(0), Line::Phi(&[])),
+        Change::TerminatorInside => (None, Line::Unreachable),
+        Change::LargeConstant => (Some(0), Line::Sum(Value::Const(0x1_0000_0000))),
+        Change::UnknownRegister => (Some(3), Line::Sum(Value::Const(1))),
+        _ => (Some(0), Line::Sum(Value::Const(1))),
     }
 }
 
-fn sum(left: Value) -> Op {
-    Op::Add {
-        width: Width::W32,
-        left,
-        right: Value::Const(2),
+/// The end of the second block.
+fn second(change: Change) -> Line {
+    Line::Branch(if change == Change::UnknownBlock { 3 } else { 2 })
+}
+
+/// `%1 = phi i32 [ %0, first ], [ 7, second ]`.
+fn third(change: Change) -> Line {
+    match change {
+        Change::PhiBehindOther => Line::Sum(Value::Const(1)),
+        Change::MissingPredecessor => Line::Phi(&[FROM_FIRST]),
+        Change::ListedStranger => Line::Phi(&[FROM_FIRST, FROM_SECOND, FROM_THIRD]),
+        _ => Line::Phi(&[FROM_FIRST, FROM_SECOND]),
     }
 }
 
-fn from(block: u32, value: Value) -> Incoming {
-    Incoming {
-        block: BlockNo(block),
-        value,
+/// The end of the third block, and the register that it sets.
+fn ending(change: Change) -> (Option<u32>, Line) {
+    match change {
+        Change::NoTerminator => (Some(1), Line::Sum(Value::Const(1))),
+        Change::WrongType => (None, Line::Return(Value::Global(0))),
+        _ => (None, Line::Return(Value::Register(1))),
     }
+}
+
+fn phi(alloc: Global, from: &[Incoming]) -> Result<Op, AllocError> {
+    let from = from.to_vec(alloc)?;
+    Ok(Op::Phi {
+        from: Incomings::from_vec(from),
+    })
+}
+
+fn op(alloc: Global, line: Line) -> Result<Op, AllocError> {
+    match line {
+        Line::Sum(left) => Ok(Op::Add {
+            width: Width::W32,
+            left,
+            right: Value::Const(2),
+        }),
+        Line::Phi(from) => phi(alloc, from),
+        Line::Branch(to) => Ok(Op::Br { to: BlockNo(to) }),
+        Line::BranchIf(cond, yes, no) => Ok(Op::CondBr {
+            cond,
+            yes: BlockNo(yes),
+            no: BlockNo(no),
+        }),
+        Line::Return(value) => Ok(Op::Ret { value: Some(value) }),
+        Line::Unreachable => Ok(Op::Unreachable),
+    }
+}
+
+fn instrs_of(alloc: Global, lines: &[(u32, Option<u32>, Line)]) -> Result<Vec<Instr>, AllocError> {
+    let mut instrs = Vec::new(alloc);
+    for (block, result, line) in lines {
+        let op = op(alloc, *line)?;
+        instrs.push(Instr {
+            op,
+            block: BlockNo(*block),
+            result: *result,
+        })?;
+    }
+    Ok(instrs)
+}
+
+fn instrs(alloc: Global, change: Change) -> Result<Vec<Instr>, AllocError> {
+    let (first_register, first) = first(change);
+    let (last_register, last) = ending(change);
+    let lines = [
+        (0, first_register, first),
+        (0, None, Line::BranchIf(Value::Const(1), 1, 2)),
+        (1, None, second(change)),
+        (2, Some(1), third(change)),
+        (2, Some(2), Line::Phi(&[FROM_FIRST, FROM_SECOND])),
+        (2, last_register, last),
+    ];
+    instrs_of(alloc, &lines)
 }
 
 fn functions(alloc: Global, change: Change) -> Result<Vec<Function>, AllocError> {
-    Ok(vec![in alloc;
-        Function {
-            params: if change == Change::MainWithParameter {
-                1
-            } else {
-                0
-            },
-            registers: Scalars::from_vec(vec![in alloc; int_32(), int_32(), int_32()]?),
-            first_block: BlockNo(0),
-            blocks: 3,
-            result: Some(int_32()),
-        },
-    ]?)
+    let params = if change == Change::MainWithParameter {
+        1
+    } else {
+        0
+    };
+    let registers = [INT_32; 3].to_vec(alloc)?;
+    let main = Function {
+        params,
+        registers: Scalars::from_vec(registers),
+        first_block: BlockNo(0),
+        blocks: 3,
+        result: Some(INT_32),
+    };
+    Ok(vec![in alloc; main]?)
 }
 
 fn block(first: u32, count: u32) -> Block {
@@ -77,105 +169,53 @@ fn block(first: u32, count: u32) -> Block {
     }
 }
 
-/// `%0 = add i32 1, 2`, and then to the second or the third block.
-fn first_block(change: Change, empty: Incomings) -> (Instr, Instr) {
-    let first = match change {
-        Change::PhiInFirstBlock => instr(0, Some(0), Op::Phi { from: empty }),
-        Change::TerminatorInside => instr(0, None, Op::Unreachable),
-        Change::LargeConstant => instr(0, Some(0), sum(Value::Const(0x1_0000_0000))),
-        Change::UnknownRegister => instr(0, Some(3), sum(Value::Const(1))),
-        _ => instr(0, Some(0), sum(Value::Const(1))),
-    };
-    let branch = Op::CondBr {
-        cond: Value::Const(1),
-        yes: BlockNo(1),
-        no: BlockNo(2),
-    };
-    (first, instr(0, None, branch))
-}
-
-/// `%1 = phi i32 [ %0, first ], [ 7, second ]`.
-fn phi(alloc: Global, change: Change) -> Result<Op, AllocError> {
-    let first = from(0, Value::Register(0));
-    let second = from(1, Value::Const(7));
-    let listed = match change {
-        Change::MissingPredecessor => vec![in alloc; first]?,
-        Change::ListedStranger => vec![in alloc; first, second, from(2, Value::Const(7))]?,
-        _ => vec![in alloc; first, second]?,
-    };
-    Ok(Op::Phi {
-        from: Incomings::from_vec(listed),
+fn global(alloc: Global, start: u32, size: u32, bytes: &[u8]) -> Result<GlobalInfo, AllocError> {
+    let bytes = bytes.to_vec(alloc)?;
+    Ok(GlobalInfo {
+        start,
+        size,
+        bytes: Bytes::from_vec(bytes),
     })
 }
 
-fn instrs(alloc: Global, change: Change) -> Result<Vec<Instr>, AllocError> {
-    let (first, branch) = first_block(change, Incomings::from_vec(vec![in alloc]?));
-    let second = Op::Br {
-        to: BlockNo(if change == Change::UnknownBlock { 3 } else { 2 }),
-    };
-    let ending = match change {
-        Change::NoTerminator => instr(2, Some(1), sum(Value::Const(1))),
-        Change::WrongType => instr(
-            2,
-            None,
-            Op::Ret {
-                value: Some(Value::Global(0)),
-            },
-        ),
-        _ => instr(
-            2,
-            None,
-            Op::Ret {
-                value: Some(Value::Register(1)),
-            },
-        ),
-    };
-    let third = match change {
-        Change::PhiBehindOther => sum(Value::Const(1)),
-        _ => phi(alloc, change)?,
-    };
-    let fourth = phi(alloc, Change::Nothing)?;
-    Ok(vec![in alloc;
-        first,
-        branch,
-        instr(1, None, second),
-        instr(2, Some(1), third),
-        instr(2, Some(2), fourth),
-        ending,
-    ]?)
-}
-
 fn globals(alloc: Global, change: Change) -> Result<Vec<GlobalInfo>, AllocError> {
-    let bytes = if change == Change::ManyBytes {
-        vec![in alloc; 1, 0, 0, 0, 0]?
+    let count = if change == Change::ManyBytes { 5 } else { 1 };
+    let first = global(alloc, 1, 4, &[1, 0, 0, 0, 0][..count])?;
+    let start = if change == Change::GlobalsOverlap {
+        1
     } else {
-        vec![in alloc; 1]?
+        2
     };
-    let first = GlobalInfo {
-        start: 1,
-        size: 4,
-        bytes: Bytes::from_vec(bytes),
-    };
-    let second = GlobalInfo {
-        start: if change == Change::GlobalsOverlap {
-            1
-        } else {
-            2
-        },
-        size: 9,
-        bytes: Bytes::from_vec(vec![in alloc]?),
-    };
+    let second = global(alloc, start, 9, &[])?;
     Ok(vec![in alloc; first, second]?)
 }
 
 fn program(alloc: Global, change: Change) -> Result<Result<Program, Malformed>, AllocError> {
-    Ok(Program::new(
-        functions(alloc, change)?,
-        vec![in alloc; block(0, 2), block(2, 1), block(3, 3)]?,
-        instrs(alloc, change)?,
-        globals(alloc, change)?,
-        0,
-    ))
+    let functions = functions(alloc, change)?;
+    let blocks = [block(0, 2), block(2, 1), block(3, 3)].to_vec(alloc)?;
+    let instrs = instrs(alloc, change)?;
+    let globals = globals(alloc, change)?;
+    Ok(Program::new(functions, blocks, instrs, globals, 0))
+}
+
+const CHANGES: [Change; 13] = [
+    Change::UnknownBlock,
+    Change::UnknownRegister,
+    Change::LargeConstant,
+    Change::MissingPredecessor,
+    Change::ListedStranger,
+    Change::PhiInFirstBlock,
+    Change::PhiBehindOther,
+    Change::NoTerminator,
+    Change::TerminatorInside,
+    Change::WrongType,
+    Change::GlobalsOverlap,
+    Change::ManyBytes,
+    Change::MainWithParameter,
+];
+
+fn is_refused(alloc: Global, change: Change) -> Result<bool, AllocError> {
+    Ok(program(alloc, change)?.is_err())
 }
 
 #[test]
@@ -185,22 +225,8 @@ fn one_change_each(rt: HostRuntime) -> Result<(), Fail> {
     assert_eq!(rt; whole.instr_count(), 6);
     assert_eq!(rt; whole.global_count(), 2);
     assert_eq!(rt; whole.main(), 0);
-    for change in [
-        Change::UnknownBlock,
-        Change::UnknownRegister,
-        Change::LargeConstant,
-        Change::MissingPredecessor,
-        Change::ListedStranger,
-        Change::PhiInFirstBlock,
-        Change::PhiBehindOther,
-        Change::NoTerminator,
-        Change::TerminatorInside,
-        Change::WrongType,
-        Change::GlobalsOverlap,
-        Change::ManyBytes,
-        Change::MainWithParameter,
-    ] {
-        assert!(rt; program(rt.alloc(), change)?.is_err(), "at {change:?}");
+    for change in CHANGES {
+        assert!(rt; is_refused(rt.alloc(), change)?, "at {change:?}");
     }
     Ok(())
 }
