@@ -4,6 +4,7 @@ ghost use Rattle.pg_grammar.specs.Classes.{is};
 ghost use Rattle.pg_grammar.specs.Reading.{onto, all_of};
 ghost use Rattle.pg_grammar.specs.Reader.{simple_type_at, type_at, array_at, struct_at, listed_at, behind_comma};
 ghost use Rattle.pg_grammar.specs.Views.{Reads};
+ghost use Rattle.pg_terms.specs.Sets.{wide_type_at, other_type_at};
 ghost use Rattle.pg_ast.specs.Views.{ty_of};
 
 use crate::reader::{literal, name, next_is, take, too_deep, unsupported};
@@ -28,6 +29,13 @@ fn simple_type(alloc: Global, tokens: &[Token], at: usize) -> Result<(TypeNode, 
         let (token, to) = take(tokens, at, Class::I16)?;
         return Ok((TypeNode::I16(token.span), to));
     }
+    wide_type(alloc, tokens, at)
+}
+
+fn wide_type(alloc: Global, tokens: &[Token], at: usize) -> Result<(TypeNode, usize), ReadError>
+    requires { at ≤ length tokens.now }
+    ensures { Reads tokens.now at (λ x. ty_of x.0) (λ x. x.1) result (wide_type_at (drop at tokens.now)) }
+{
     if next_is(tokens, at, Class::I32) {
         let (token, to) = take(tokens, at, Class::I32)?;
         return Ok((TypeNode::I32(token.span), to));
@@ -36,6 +44,13 @@ fn simple_type(alloc: Global, tokens: &[Token], at: usize) -> Result<(TypeNode, 
         let (token, to) = take(tokens, at, Class::I64)?;
         return Ok((TypeNode::I64(token.span), to));
     }
+    other_type(alloc, tokens, at)
+}
+
+fn other_type(alloc: Global, tokens: &[Token], at: usize) -> Result<(TypeNode, usize), ReadError>
+    requires { at ≤ length tokens.now }
+    ensures { Reads tokens.now at (λ x. ty_of x.0) (λ x. x.1) result (other_type_at (drop at tokens.now)) }
+{
     if next_is(tokens, at, Class::Ptr) {
         let (token, to) = take(tokens, at, Class::Ptr)?;
         return Ok((TypeNode::Ptr(token.span), to));

@@ -6,6 +6,7 @@ use Rattle.pg_grammar.specs.Reading.{onto, all_of, comes}
 use Rattle.pg_grammar.specs.Reader.{typed_const_at, const_at, simple_const_at, behind_comma}
 use Rattle.pg_ast.specs.Views.{typed_const_of}
 use Rattle.pg_grammar.proofs.Loops.{left_fails, left_next, left_stop}
+use Rattle.pg_terms.proofs.Listed.{listed}
 use Rattle.pg_terms.proofs.constants.+constants.Goals as goal
 
 -- with a bracket to spare, a constant that opens none is read as one
@@ -34,3 +35,11 @@ more_constants-items-preserved t c = let i = c.items.invariant in let o = c.in-O
 pub more_constants-returns : goal.more_constants-returns
 more_constants-returns t c = let i = c.items.invariant in
     (left_stop (is Comma) (behind_comma (typed_const_at c.args.depth (const_at c.args.depth))) (map typed_const_of c.items.all.items) (drop c.items.place c.args.tokens.now) (onto (map typed_const_of c.args.all.items) (all_of (is Comma) (behind_comma (typed_const_at c.args.depth (const_at c.args.depth))) (drop c.args.at c.args.tokens.now))) i.2 (sym c.next_is.ensures ∙ c.items-test.false), i.0, i.1)
+
+pub constants_to-returns : goal.constants_to-returns
+constants_to-returns t c = let a = c.in_ok-first.ensures in let b = c.in_ok-all.ensures in let d = c.in_ok-at.ensures.read in (
+  listed typed_const_of c.args.close (typed_const_at c.args.depth (const_at c.args.depth)) c.in_ok-first.first c.new-all.result.items c.push.new.self.items c.in_ok-all.all.items _ _ (drop c.args.at c.args.tokens.now) _ _ _
+      c.new-all.ensures.items c.push.ensures.items c.if-is_err.ensures.negation (sym c.next_is.ensures ∙ c.if-next_is.false) a.0 b.0 d.0,
+  omega (arith, a.1, b.1, d.1),
+  d.2,
+)
