@@ -11,7 +11,7 @@ use crate::types::TypeNode;
 use crate::values::TypedVal;
 
 /// What a type is, where a name is looked up once.
-#[derive(Clone, Copy, Debug, PartialEq, Eq)]
+#[derive(Clone, Copy)]
 pub enum Resolved {
     Void,
     Item(usize),
