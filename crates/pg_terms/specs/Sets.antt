@@ -54,8 +54,8 @@ wide_type_at = choose (is I32) (λ ts. take_one (is I32) ts >>= λ t. Good (synt
     (choose (is I64) (λ ts. take_one (is I64) ts >>= λ t. Good (syntax.I64 t.span)) other_type_at)
 
 -- `plain_value_at` behind `null`
-abbrev pub empty_value_at : List Token → Read Val
-empty_value_at = choose (is Undef) (λ ts. take_one (is Undef) ts >>= λ t. Good (syntax.Undef t.span))
+abbrev pub other_plain_value_at : List Token → Read Val
+other_plain_value_at = choose (is Undef) (λ ts. take_one (is Undef) ts >>= λ t. Good (syntax.Undef t.span))
     (choose (is Poison) (λ ts. take_one (is Poison) ts >>= λ t. Good (syntax.Poison t.span))
     (choose (is ZeroInitializer) (λ ts. take_one (is ZeroInitializer) ts >>= λ t. Good (syntax.ZeroInitializer t.span))
     (λ ts. take_one global_name ts >>= λ t. Good (syntax.Global (name_of t)))))

@@ -4,7 +4,7 @@ ghost use Rattle.pg_grammar.specs.Classes.{is};
 ghost use Rattle.pg_grammar.specs.Reading.{all_of};
 ghost use Rattle.pg_grammar.specs.Reader.{plain_value_at, named_value_at, typed_in_at, value_at, other_value_at, gep_at, gep_tail_at, int_to_ptr_at, int_to_ptr_tail_at, behind_comma};
 ghost use Rattle.pg_grammar.specs.Views.{Reads};
-ghost use Rattle.pg_terms.specs.Sets.{empty_value_at};
+ghost use Rattle.pg_terms.specs.Sets.{other_plain_value_at};
 ghost use Rattle.pg_ast.specs.Views.{val_of, typed_of};
 
 use crate::reader::{literal, name, next_is, take, too_deep};
@@ -36,12 +36,16 @@ pub fn plain_value(
         let (token, to) = take(tokens, at, Class::Null)?;
         return Ok((ValNode::Null(token.span), to));
     }
-    empty_value(alloc, tokens, at)
+    other_plain_value(alloc, tokens, at)
 }
 
-fn empty_value(alloc: Global, tokens: &[Token], at: usize) -> Result<(ValNode, usize), ReadError>
+fn other_plain_value(
+    alloc: Global,
+    tokens: &[Token],
+    at: usize,
+) -> Result<(ValNode, usize), ReadError>
     requires { at ≤ length tokens.now }
-    ensures { Reads tokens.now at (λ x. val_of x.0) (λ x. x.1) result (empty_value_at (drop at tokens.now)) }
+    ensures { Reads tokens.now at (λ x. val_of x.0) (λ x. x.1) result (other_plain_value_at (drop at tokens.now)) }
 {
     if next_is(tokens, at, Class::Undef) {
         let (token, to) = take(tokens, at, Class::Undef)?;
