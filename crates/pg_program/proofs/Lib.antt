@@ -5,6 +5,7 @@ mod IndexLists
 mod KindWords
 mod LineSteps
 mod MainPlace
+mod MappedLists
 mod NamePlaces
 mod NumberedLines
 mod OwnScopes

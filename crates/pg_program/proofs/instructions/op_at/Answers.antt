@@ -1,15 +1,113 @@
-use Rattle.std.proofs.Common.{◌≡◌, IfOk, sym, subst}
+use Rattle.std.proofs.Common.{◌≡◌, ℕ, List, Result, IfOk, sym, subst}
+use Rattle.pg_ir.specs.declared.instr.Op as numbered_op
+use Rattle.pg_ast.specs.declared.ops.OpNode.{OpNode}
+use Rattle.pg_ast.specs.Syntax.{NamedType}
 use Rattle.pg_ast.specs.Views.{op_of}
+use Rattle.pg_rules.specs.ValueConditions.{Scope}
 use Rattle.pg_rules.specs.Numbered.{op_at}
+use Rattle.pg_program.specs.Room.{OpFits}
 use Rattle.pg_program.specs.ScopeNames.{scope_in}
+use Rattle.pg_program.specs.ScopeSizes.{types_in}
 use Rattle.pg_program.proofs.instructions.op_at.Goals as goal
+
+fits_as : (types : List NamedType) {a b : OpNode} → a ≡ b → OpFits types (op_of a) → OpFits types (op_of b)
+fits_as types e h = subst (λ o. OpFits types (op_of o)) e h
+
+made_as : {E : Type 0} (g : Scope) (first : ℕ) (r : Result numbered_op.Op E) {a b : OpNode} → a ≡ b → IfOk r (λ o. o ≡ op_at g first (op_of b)) → IfOk r (λ o. o ≡ op_at g first (op_of a))
+made_as g first r e h = subst (λ o. IfOk r (λ x. x ≡ op_at g first (op_of o))) (sym e) h
 
 pub returns-in-Binary-clause-op : goal.returns-in-Binary-clause-op
 unfolding op_at
-returns-in-Binary-clause-op c = λ names.
-    subst (λ o. IfOk c.binary_at.result (λ r. r ≡ op_at (scope_in c.args.scope.now names) c.args.scope.now.first (op_of o))) (sym c.in-Binary.is) (c.binary_at.ensures.op names)
+returns-in-Binary-clause-op c = λ names. made_as (scope_in c.args.scope.now names) c.args.scope.now.first c.binary_at.result c.in-Binary.is (c.binary_at.ensures.op names)
+
+pub returns-in-Icmp-clause-op : goal.returns-in-Icmp-clause-op
+unfolding op_at
+returns-in-Icmp-clause-op c = λ names. made_as (scope_in c.args.scope.now names) c.args.scope.now.first c.compare_at.result c.in-Icmp.is (c.compare_at.ensures.op names)
 
 pub returns-in-Cast-clause-op : goal.returns-in-Cast-clause-op
 unfolding op_at
-returns-in-Cast-clause-op c = λ names.
-    subst (λ o. IfOk c.cast_at.result (λ r. r ≡ op_at (scope_in c.args.scope.now names) c.args.scope.now.first (op_of o))) (sym c.in-Cast.is) (c.cast_at.ensures.op names)
+returns-in-Cast-clause-op c = λ names. made_as (scope_in c.args.scope.now names) c.args.scope.now.first c.cast_at.result c.in-Cast.is (c.cast_at.ensures.op names)
+
+pub returns-in-Select-clause-op : goal.returns-in-Select-clause-op
+unfolding op_at
+returns-in-Select-clause-op c = λ names. made_as (scope_in c.args.scope.now names) c.args.scope.now.first c.select_at.result c.in-Select.is (c.select_at.ensures.op names)
+
+pub returns-in-CondBr-clause-op : goal.returns-in-CondBr-clause-op
+unfolding op_at
+returns-in-CondBr-clause-op c = λ names. made_as (scope_in c.args.scope.now names) c.args.scope.now.first c.conditional_branch_at.result c.in-CondBr.is (c.conditional_branch_at.ensures.op names)
+
+pub returns-in-Ret-clause-op : goal.returns-in-Ret-clause-op
+unfolding op_at
+returns-in-Ret-clause-op c = λ names. made_as (scope_in c.args.scope.now names) c.args.scope.now.first c.return_at.result c.in-Ret.is (c.return_at.ensures.op names)
+
+pub returns-in-Alloca-clause-op : goal.returns-in-Alloca-clause-op
+unfolding op_at
+returns-in-Alloca-clause-op c = λ names. made_as (scope_in c.args.scope.now names) c.args.scope.now.first c.alloca_at.result c.in-Alloca.is (c.alloca_at.ensures.op names)
+
+pub returns-in-Load-clause-op : goal.returns-in-Load-clause-op
+unfolding op_at
+returns-in-Load-clause-op c = λ names. made_as (scope_in c.args.scope.now names) c.args.scope.now.first c.load_at.result c.in-Load.is (c.load_at.ensures.op names)
+
+pub returns-in-Store-clause-op : goal.returns-in-Store-clause-op
+unfolding op_at
+returns-in-Store-clause-op c = λ names. made_as (scope_in c.args.scope.now names) c.args.scope.now.first c.store_at.result c.in-Store.is (c.store_at.ensures.op names)
+
+pub binary_at-requires-clause-left : goal.binary_at-requires-clause-left
+unfolding OpFits
+binary_at-requires-clause-left c = (fits_as (types_in c.args.scope.now) c.in-Binary.is c.requires.fits).0
+
+pub binary_at-requires-clause-right : goal.binary_at-requires-clause-right
+unfolding OpFits
+binary_at-requires-clause-right c = (fits_as (types_in c.args.scope.now) c.in-Binary.is c.requires.fits).1
+
+pub compare_at-requires-clause-left : goal.compare_at-requires-clause-left
+unfolding OpFits
+compare_at-requires-clause-left c = (fits_as (types_in c.args.scope.now) c.in-Icmp.is c.requires.fits).0
+
+pub compare_at-requires-clause-right : goal.compare_at-requires-clause-right
+unfolding OpFits
+compare_at-requires-clause-right c = (fits_as (types_in c.args.scope.now) c.in-Icmp.is c.requires.fits).1
+
+pub cast_at-requires-clause-value : goal.cast_at-requires-clause-value
+unfolding OpFits
+cast_at-requires-clause-value c = fits_as (types_in c.args.scope.now) c.in-Cast.is c.requires.fits
+
+pub select_at-requires-clause-cond : goal.select_at-requires-clause-cond
+unfolding OpFits
+select_at-requires-clause-cond c = (fits_as (types_in c.args.scope.now) c.in-Select.is c.requires.fits).0
+
+pub select_at-requires-clause-first : goal.select_at-requires-clause-first
+unfolding OpFits
+select_at-requires-clause-first c = (fits_as (types_in c.args.scope.now) c.in-Select.is c.requires.fits).1
+
+pub select_at-requires-clause-second : goal.select_at-requires-clause-second
+unfolding OpFits
+select_at-requires-clause-second c = (fits_as (types_in c.args.scope.now) c.in-Select.is c.requires.fits).2
+
+pub conditional_branch_at-requires-clause-cond : goal.conditional_branch_at-requires-clause-cond
+unfolding OpFits
+conditional_branch_at-requires-clause-cond c = fits_as (types_in c.args.scope.now) c.in-CondBr.is c.requires.fits
+
+pub switch_at-requires-clause-value : goal.switch_at-requires-clause-value
+unfolding OpFits
+switch_at-requires-clause-value c = fits_as (types_in c.args.scope.now) c.in-Switch.is c.requires.fits
+
+pub return_at-requires-clause-value : goal.return_at-requires-clause-value
+unfolding OpFits
+return_at-requires-clause-value c = fits_as (types_in c.args.scope.now) c.in-Ret.is c.requires.fits
+
+pub alloca_at-requires-clause-ty : goal.alloca_at-requires-clause-ty
+unfolding OpFits
+alloca_at-requires-clause-ty c = fits_as (types_in c.args.scope.now) c.in-Alloca.is c.requires.fits
+
+pub load_at-requires-clause-pointer : goal.load_at-requires-clause-pointer
+unfolding OpFits
+load_at-requires-clause-pointer c = fits_as (types_in c.args.scope.now) c.in-Load.is c.requires.fits
+
+pub store_at-requires-clause-value : goal.store_at-requires-clause-value
+unfolding OpFits
+store_at-requires-clause-value c = (fits_as (types_in c.args.scope.now) c.in-Store.is c.requires.fits).0
+
+pub store_at-requires-clause-pointer : goal.store_at-requires-clause-pointer
+unfolding OpFits
+store_at-requires-clause-pointer c = (fits_as (types_in c.args.scope.now) c.in-Store.is c.requires.fits).1
