@@ -50,3 +50,6 @@ returns-clause-places c = λ m t s.
     ∙ ap (λ b. b || c.is_past_limit.result) (c.in_ok-large.ensures.large ∙ ap (λ types. list_any (is_large types) (tys_behind c.as_slice-5.result.now)) signature_items ∙ ap (λ ts. list_any (is_large m.types) ts) slice_large)
     ∙ ap (λ b. list_any (is_large m.types) (flat_map types_within head) || b) c.is_past_limit.ensures))
     no_place
+
+pub returns-clause-items : goal.returns-clause-items
+returns-clause-items c = c.any_large.ensures.items ∙ c.wrong_signature.ensures.items ∙ c.wrong_types.ensures.items

@@ -44,3 +44,6 @@ returns-clause-places c = λ m s t e k.
     ∙ ap (λ b. list_any (is_large m.types) all || b || c.args.past_end) c.is_past_limit.ensures
     ∙ ap (λ b. list_any (is_large m.types) all || nat_le GLOBAL_LIMIT c.args.number || b) e))
     no_place
+
+pub returns-clause-items : goal.returns-clause-items
+returns-clause-items c = c.any_large.ensures.items ∙ c.wrong_places.ensures.items

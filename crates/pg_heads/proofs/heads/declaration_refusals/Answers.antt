@@ -38,3 +38,6 @@ returns-clause-places c = λ m t s.
     (c.place_if.ensures ∙ ap (λ b. earliest (at_if b span)) (c.in_ok-signature.ensures.same ∙ ap (λ types. wrong_known types (known_named text) header || wrong_main types text header) wrong_items))
     (c.place_if-2.ensures ∙ ap (λ b. earliest (at_if b span)) (c.in_ok-large.ensures.large ∙ ap (λ types. list_any (is_large types) (tys_behind c.as_slice-4.result.now)) signature_items ∙ ap (λ ts. list_any (is_large m.types) ts) slice_4))
     no_place
+
+pub returns-clause-items : goal.returns-clause-items
+returns-clause-items c = c.any_large.ensures.items ∙ c.wrong_signature.ensures.items ∙ c.wrong_types.ensures.items
