@@ -5,8 +5,9 @@ use crate::tests::programs::{Case, program};
 use crate::tests::schedules::{ALL, recorded, start_then, turn, turns_of};
 use crate::{Followed, follow};
 use pg_ir::InstrId;
-use pg_trace::{Schedule, Turn, TurnKind};
+use pg_trace::{Schedule, Step, Turn, TurnKind};
 use std::alloc::{AllocError, Global};
+use std::process::Abort;
 use std::test::Fail;
 
 /// The stores that race are turns, the thread's before main's.
@@ -25,26 +26,47 @@ fn racing_turns(alloc: Global) -> Result<Vec<Turn>, AllocError> {
     Ok(turns)
 }
 
+fn racing_schedule(alloc: Global) -> Result<Schedule, AllocError> {
+    let turns = racing_turns(alloc)?;
+    let gated = [InstrId(10), InstrId(18)].to_vec(alloc)?;
+    Ok(Schedule {
+        turns,
+        replies: Vec::new(alloc),
+        gated,
+    })
+}
+
+/// The run of the racing stores along a schedule.
+fn raced(alloc: Global, s: &Schedule) -> Result<Followed, Fail> {
+    let p = racing_stores(alloc)?;
+    Ok(follow(alloc, &p, &[0], s)?)
+}
+
+fn expect_turns(
+    rt: &impl Abort,
+    alloc: Global,
+    steps: &[Step],
+    turns: &[Turn],
+) -> Result<(), Fail> {
+    assert_eq!(rt; steps.len(), 28);
+    let events = turns_of(alloc, steps, ALL)?;
+    assert_eq!(rt; events.as_slice(), turns);
+    Ok(())
+}
+
 #[test]
 fn a_run_with_its_trace(rt: HostRuntime) -> Result<(), Fail> {
-    let p = racing_stores(rt.alloc())?;
-    let s = Schedule {
-        turns: racing_turns(rt.alloc())?,
-        replies: Vec::new(rt.alloc()),
-        gated: vec![in rt.alloc(); InstrId(10), InstrId(18)]?,
-    };
-    match follow(rt.alloc(), &p, &[0], &s)? {
+    let s = racing_schedule(rt.alloc())?;
+    let run = raced(rt.alloc(), &s)?;
+    match &run {
         Followed::Exit {
             trace,
             output,
             value,
         } => {
             assert_eq!(rt; output.as_slice(), b"100\n".as_slice());
-            assert_eq!(rt; value, 0);
-            assert_eq!(rt; trace.steps().len(), 28);
-            let events = turns_of(rt.alloc(), trace.steps(), ALL)?;
-            assert_eq!(rt; events.as_slice(), s.turns.as_slice());
-            Ok(())
+            assert_eq!(rt; *value, 0);
+            expect_turns(&rt, rt.alloc(), trace.steps(), s.turns.as_slice())
         }
         _ => Err("no exit".into()),
     }

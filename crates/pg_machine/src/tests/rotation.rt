@@ -133,13 +133,25 @@ fn event_count(steps: &[Step]) -> usize {
     steps.iter().filter(|step| step.event.is_some()).count()
 }
 
+fn rotated(alloc: Global, case: Case, input: &[i64], quantum: u32) -> Result<Recorded, Fail>
+    requires some { 0 < quantum }
+    requires few { quantum ≤ QUANTUM_LIMIT }
+{
+    let p = program(alloc, case)?;
+    Ok(rotate(alloc, &p, input, quantum)?)
+}
+
 fn expect_run(rt: &impl Abort, alloc: Global, row: &Row) -> Result<(), Fail> {
     assert!(rt; row.quantum > 0 && row.quantum <= QUANTUM_LIMIT);
-    let p = program(alloc, row.case)?;
-    let Recorded { trace, output, end } = rotate(alloc, &p, row.input, row.quantum)?;
-    assert_eq!(rt; output.as_slice(), row.output, "of {:?}", row.case);
-    assert_eq!(rt; event_count(trace.steps()), row.events, "of {:?}", row.case);
-    assert_eq!(rt; end, row.end, "of {:?}", row.case);
+    let run = rotated(alloc, row.case, row.input, row.quantum)?;
+    assert_eq!(rt; run.output.as_slice(), row.output, "of {:?}", row.case);
+    assert_eq!(rt;
+        event_count(run.trace.steps()),
+        row.events,
+        "of {:?}",
+        row.case
+    );
+    assert_eq!(rt; run.end, row.end, "of {:?}", row.case);
     Ok(())
 }
 
@@ -154,10 +166,9 @@ fn runs_of_the_rows(rt: HostRuntime) -> Result<(), Fail> {
 /// The 64th thread that main makes is one too many.
 #[test]
 fn too_many_threads(rt: HostRuntime) -> Result<(), Fail> {
-    let p = program(rt.alloc(), Case::ManyThreads)?;
-    let recorded = rotate(rt.alloc(), &p, &[64], 100)?;
+    let run = rotated(rt.alloc(), Case::ManyThreads, &[64], 100)?;
     assert_eq!(rt;
-        recorded.end,
+        run.end,
         Outcome::Trap(TrapName::TooManyThreads, InstrId(4))
     );
     Ok(())
@@ -174,9 +185,8 @@ fn digits(alloc: Global, steps: &[Step]) -> Result<Vec<u8>, AllocError> {
 
 fn expect_turns(rt: &impl Abort, alloc: Global, quantum: u32, threads: &[u8]) -> Result<(), Fail> {
     assert!(rt; quantum > 0 && quantum <= QUANTUM_LIMIT);
-    let p = program(alloc, Case::FourThreads)?;
-    let recorded = rotate(alloc, &p, &[], quantum)?;
-    let found = digits(alloc, recorded.trace.steps())?;
+    let run = rotated(alloc, Case::FourThreads, &[], quantum)?;
+    let found = digits(alloc, run.trace.steps())?;
     assert_eq!(rt; found.as_slice(), threads, "with quantum {quantum}");
     Ok(())
 }
