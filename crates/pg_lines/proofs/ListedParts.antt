@@ -1,20 +1,10 @@
--- Lists of what is read behind each part of a list, one more and all of them.
-use Rattle.std.proofs.Common.{◌≡◌, ℕ, ◌+◌, ◌<◌, ◌≤◌, List, [], ◌∷◌, ◌++◌, length, map, take, get_or, sym, ap, ◌∙◌}
-use Rattle.std.proofs.lemmas.List.{append_assoc, map-append, take_more, take_all}
+-- What is read behind each part of a list, one more.
+use Rattle.std.proofs.Common.{◌≡◌, ℕ, ◌+◌, ◌<◌, List, [], ◌∷◌, ◌++◌, length, map, take, get_or, ap, ◌∙◌}
+use Rattle.std.proofs.lemmas.List.{map-append}
+use Rattle.pg_rules.proofs.MappedLists.{mapped_more}
 
 pub listed_more : {N X Y Z : Type 0} (view : N → Z) (f : Y → Z) (g : X → Y) (front : List Z) (xs : List X) (i : ℕ) (x d : X) (found pushed : List N) (one : N)
     → i < length xs → x ≡ get_or xs i d → map view found ≡ front ++ map f (map g (take i xs)) → view one ≡ f (g x) → pushed ≡ found ++ one ∷ []
     → map view pushed ≡ front ++ map f (map g (take (i + 1) xs))
 listed_more view f g front xs i x d found pushed one l e h o p =
-    ap (λ ns. map view ns) p
-    ∙ map-append view found (one ∷ [])
-    ∙ ap (λ zs. zs ++ view one ∷ []) h
-    ∙ append_assoc front (map f (map g (take i xs))) (view one ∷ [])
-    ∙ ap (λ z. front ++ (map f (map g (take i xs)) ++ z ∷ [])) (o ∙ ap (λ y. f (g y)) e)
-    ∙ ap (λ zs. front ++ zs) (sym (map-append f (map g (take i xs)) (g (get_or xs i d) ∷ [])))
-    ∙ ap (λ ys. front ++ map f ys) (sym (map-append g (take i xs) (get_or xs i d ∷ [])))
-    ∙ ap (λ ys. front ++ map f (map g ys)) (sym (take_more xs i d l))
-
-pub listed_all : {X Y Z : Type 0} (f : Y → Z) (g : X → Y) (front : List Z) (xs : List X) (i : ℕ) (found : List Z)
-    → length xs ≤ i → found ≡ front ++ map f (map g (take i xs)) → found ≡ front ++ map f (map g xs)
-listed_all f g front xs i found l h = h ∙ ap (λ ys. front ++ map f (map g ys)) (take_all i xs l)
+    mapped_more f g front xs i x d (map view found) (map view pushed) (view one) l e h o (ap (λ ns. map view ns) p ∙ map-append view found (one ∷ []))

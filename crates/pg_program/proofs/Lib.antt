@@ -5,7 +5,6 @@ mod IndexLists
 mod KindWords
 mod LineSteps
 mod MainPlace
-mod MappedLists
 mod NamePlaces
 mod NumberedLines
 mod OwnScopes

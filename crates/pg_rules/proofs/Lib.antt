@@ -4,6 +4,7 @@ mod ItemExamples
 pub mod ConstantNumbers
 pub mod Doubles
 mod EarliestPlaces
+pub mod MappedLists
 mod OtherLengths
 pub mod Parts
 pub mod Rows

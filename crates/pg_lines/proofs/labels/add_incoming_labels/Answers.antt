@@ -4,7 +4,8 @@ use Rattle.pg_ast.specs.declared.names.Name.{Name}
 use Rattle.pg_ast.specs.Syntax.{Incoming}
 use Rattle.pg_ast.specs.Views.{incoming_of}
 use Rattle.pg_rules.specs.Starts.{names_behind}
-use Rattle.pg_lines.proofs.ListedParts.{listed_more, listed_all}
+use Rattle.pg_rules.proofs.MappedLists.{mapped_all}
+use Rattle.pg_lines.proofs.ListedParts.{listed_more}
 use Rattle.pg_lines.proofs.labels.add_incoming_labels.Goals as goal
 
 pub loop-incoming-preserved : goal.loop-incoming-preserved
@@ -13,4 +14,4 @@ loop-incoming-preserved c =
     c.loop-incoming-test.true c.incoming-item.is c.loop-incoming.invariant refl c.in_ok-push.ensures.items
 
 pub returns : goal.returns
-returns c = listed_all (λ (j : Incoming). j.block) incoming_of (names_behind c.args.all.now.items) c.args.incomings.now c.loop-incoming.incoming-index (names_behind c.loop-incoming.all.items) c.loop-incoming-test.false c.loop-incoming.invariant
+returns c = mapped_all (λ (j : Incoming). j.block) incoming_of (names_behind c.args.all.now.items) c.args.incomings.now c.loop-incoming.incoming-index (names_behind c.loop-incoming.all.items) c.loop-incoming-test.false c.loop-incoming.invariant

@@ -1,7 +1,8 @@
 use Rattle.pg_ast.specs.Syntax.{Typed}
 use Rattle.pg_ast.specs.Views.{typed_of}
 use Rattle.pg_rules.specs.Nodes.{ty_behind, tys_behind}
-use Rattle.pg_lines.proofs.ListedParts.{listed_more, listed_all}
+use Rattle.pg_rules.proofs.MappedLists.{mapped_all}
+use Rattle.pg_lines.proofs.ListedParts.{listed_more}
 use Rattle.pg_lines.proofs.line_types.add_value_types.Goals as goal
 
 pub loop-value-preserved : goal.loop-value-preserved
@@ -10,4 +11,4 @@ loop-value-preserved c =
     c.loop-value-test.true c.value-item.is c.loop-value.invariant c.value_type.ensures c.in_ok-push.ensures.items
 
 pub returns : goal.returns
-returns c = listed_all (λ (i : Typed). i.ty) typed_of (tys_behind c.args.all.now.items) c.args.values.now c.loop-value.value-index (tys_behind c.loop-value.all.items) c.loop-value-test.false c.loop-value.invariant
+returns c = mapped_all (λ (i : Typed). i.ty) typed_of (tys_behind c.args.all.now.items) c.args.values.now c.loop-value.value-index (tys_behind c.loop-value.all.items) c.loop-value-test.false c.loop-value.invariant

@@ -2,7 +2,8 @@ use Rattle.pg_ast.specs.Syntax.{Case}
 use Rattle.pg_ast.specs.Views.{case_of}
 use Rattle.pg_rules.specs.Written.{constant_at}
 use Rattle.pg_lines.specs.Uses.{use_of, uses_of}
-use Rattle.pg_lines.proofs.ListedParts.{listed_more, listed_all}
+use Rattle.pg_rules.proofs.MappedLists.{mapped_all}
+use Rattle.pg_lines.proofs.ListedParts.{listed_more}
 use Rattle.pg_lines.proofs.operands.add_case_uses.Goals as goal
 
 pub loop-case-preserved : goal.loop-case-preserved
@@ -11,4 +12,4 @@ loop-case-preserved c =
     c.loop-case-test.true c.case-item.is c.loop-case.invariant c.case_use.ensures c.in_ok-push.ensures.items
 
 pub returns : goal.returns
-returns c = listed_all (λ (k : Case). constant_at k.value.ty k.value.value) case_of (uses_of c.args.all.now.items) c.args.cases.now c.loop-case.case-index (uses_of c.loop-case.all.items) c.loop-case-test.false c.loop-case.invariant
+returns c = mapped_all (λ (k : Case). constant_at k.value.ty k.value.value) case_of (uses_of c.args.all.now.items) c.args.cases.now c.loop-case.case-index (uses_of c.loop-case.all.items) c.loop-case-test.false c.loop-case.invariant

@@ -3,7 +3,8 @@ use Rattle.pg_ast.specs.Syntax.{Incoming}
 use Rattle.pg_ast.specs.Views.{ty_of, incoming_of}
 use Rattle.pg_rules.specs.Written.{operand}
 use Rattle.pg_lines.specs.Uses.{use_of, uses_of}
-use Rattle.pg_lines.proofs.ListedParts.{listed_more, listed_all}
+use Rattle.pg_rules.proofs.MappedLists.{mapped_all}
+use Rattle.pg_lines.proofs.ListedParts.{listed_more}
 use Rattle.pg_lines.proofs.operands.add_incoming_uses.Goals as goal
 
 pub loop-incoming-preserved : goal.loop-incoming-preserved
@@ -12,4 +13,4 @@ loop-incoming-preserved c =
     c.loop-incoming-test.true c.incoming-item.is c.loop-incoming.invariant refl c.in_ok-push.ensures.items
 
 pub returns : goal.returns
-returns c = listed_all (λ (j : Incoming). operand (ty_of c.args.ty.now) j.value) incoming_of (uses_of c.args.all.now.items) c.args.incomings.now c.loop-incoming.incoming-index (uses_of c.loop-incoming.all.items) c.loop-incoming-test.false c.loop-incoming.invariant
+returns c = mapped_all (λ (j : Incoming). operand (ty_of c.args.ty.now) j.value) incoming_of (uses_of c.args.all.now.items) c.args.incomings.now c.loop-incoming.incoming-index (uses_of c.loop-incoming.all.items) c.loop-incoming-test.false c.loop-incoming.invariant

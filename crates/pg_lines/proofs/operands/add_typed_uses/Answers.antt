@@ -1,7 +1,8 @@
 use Rattle.pg_ast.specs.Views.{typed_of}
 use Rattle.pg_rules.specs.Written.{typed_operand}
 use Rattle.pg_lines.specs.Uses.{use_of, uses_of}
-use Rattle.pg_lines.proofs.ListedParts.{listed_more, listed_all}
+use Rattle.pg_rules.proofs.MappedLists.{mapped_all}
+use Rattle.pg_lines.proofs.ListedParts.{listed_more}
 use Rattle.pg_lines.proofs.operands.add_typed_uses.Goals as goal
 
 pub loop-value-preserved : goal.loop-value-preserved
@@ -10,4 +11,4 @@ loop-value-preserved c =
     c.loop-value-test.true c.value-item.is c.loop-value.invariant c.typed_use.ensures c.in_ok-push.ensures.items
 
 pub returns : goal.returns
-returns c = listed_all typed_operand typed_of (uses_of c.args.all.now.items) c.args.values.now c.loop-value.value-index (uses_of c.loop-value.all.items) c.loop-value-test.false c.loop-value.invariant
+returns c = mapped_all typed_operand typed_of (uses_of c.args.all.now.items) c.args.values.now c.loop-value.value-index (uses_of c.loop-value.all.items) c.loop-value-test.false c.loop-value.invariant

@@ -4,7 +4,7 @@ use Rattle.pg_rules.specs.Numbered.{incoming_at}
 use Rattle.pg_program.specs.ScopeNames.{scope_in}
 use Rattle.pg_program.specs.ScopeSizes.{IncomingIsSmall}
 use Rattle.pg_program.proofs.Places.{one_fits}
-use Rattle.pg_program.proofs.MappedLists.{mapped_more, mapped_all}
+use Rattle.pg_rules.proofs.MappedLists.{mapped_more, mapped_all}
 use Rattle.pg_program.proofs.edges.add_incomings.Goals as goal
 
 pub incoming_at-requires-clause-value : goal.incoming_at-requires-clause-value

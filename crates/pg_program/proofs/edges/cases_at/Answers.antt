@@ -2,7 +2,7 @@ use Rattle.std.proofs.Common.{[], ◌∙◌}
 use Rattle.pg_ast.specs.Views.{ty_of, case_of}
 use Rattle.pg_rules.specs.Numbered.{case_at}
 use Rattle.pg_program.specs.ScopeNames.{scope_in}
-use Rattle.pg_program.proofs.MappedLists.{mapped_more, mapped_all}
+use Rattle.pg_rules.proofs.MappedLists.{mapped_more, mapped_all}
 use Rattle.pg_program.proofs.edges.cases_at.Goals as goal
 
 pub loop-case-preserved : goal.loop-case-preserved

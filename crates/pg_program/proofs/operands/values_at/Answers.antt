@@ -4,7 +4,7 @@ use Rattle.pg_rules.specs.Numbered.{typed_value}
 use Rattle.pg_program.specs.ScopeNames.{scope_in}
 use Rattle.pg_program.specs.ScopeSizes.{TypedIsSmall}
 use Rattle.pg_program.proofs.Places.{one_fits}
-use Rattle.pg_program.proofs.MappedLists.{mapped_more, mapped_all}
+use Rattle.pg_rules.proofs.MappedLists.{mapped_more, mapped_all}
 use Rattle.pg_program.proofs.operands.values_at.Goals as goal
 
 pub typed_value-requires-clause-value : goal.typed_value-requires-clause-value

@@ -1,4 +1,4 @@
--- Lists of what is made of each thing of a list, one more and all of them.
+-- What is made of each thing of a list, one more and all of them.
 use Rattle.std.proofs.Common.{◌≡◌, ℕ, ◌+◌, ◌<◌, ◌≤◌, List, [], ◌∷◌, ◌++◌, length, map, take, get_or, sym, ap, ◌∙◌}
 use Rattle.std.proofs.lemmas.List.{append_assoc, map-append, take_more, take_all}
 
