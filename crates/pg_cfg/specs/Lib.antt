@@ -1,0 +1,5 @@
+pub mod Graphs
+pub mod Searches
+pub mod Separators
+pub mod Separator
+pub mod Nested

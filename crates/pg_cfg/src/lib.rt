@@ -1,0 +1,14 @@
+//! Directed graphs: what walks meet before a vertex, and the nearest vertex that separates from others.
+#![tactic(auto)]
+
+mod graph;
+pub mod laws;
+mod marks;
+mod rank;
+mod reach;
+mod separator;
+
+pub use graph::Graph;
+pub use rank::ranks;
+pub use reach::reach_without;
+pub use separator::{Separator, nearest_separator};

@@ -1,0 +1,10 @@
+//! Root paths: pointers by the roots from which they are loaded.
+#![tactic(auto)]
+
+mod entry;
+mod known;
+pub mod laws;
+mod path;
+
+pub use known::Known;
+pub use path::{Loads, Path, Root, RootPath};

@@ -1,0 +1,12 @@
+pub mod Lists
+pub mod Turns
+pub mod Times
+pub mod Owners
+pub mod Cuts
+pub mod Effects
+pub mod Places
+pub mod Follows
+pub mod Chains
+pub mod Runs
+pub mod Counts
+pub mod Words
