@@ -19,6 +19,3 @@ pub use ops::{
 pub use print::{NextNumber, has_result, print_module};
 pub use types::TypeNode;
 pub use values::{ConstNode, TypedConst, TypedVal, ValNode};
-
-#[cfg(test)]
-mod tests;

@@ -6,7 +6,7 @@ use pg_ir::{
     Scalar, Scalars, ThreadNo, Value,
 };
 use pg_num::{Compare, Width};
-use pg_trace::{Schedule, Turn, TurnKind};
+use pg_trace::{InstrIds, Replies, Schedule, Turn, TurnKind, Turns};
 use std::alloc::Global;
 
 /// An instruction of a block, with the register that it sets.
@@ -132,7 +132,7 @@ pub(crate) fn counting(alloc: Global, count: u64) -> Result<Program> {
     let instrs = instrs(alloc, count)?;
     let functions = vec![in alloc; function]?;
     let globals = vec![in alloc; global]?;
-    Ok(Program::new(functions, blocks, instrs, globals, 0)?)
+    Ok(Program::new(alloc, functions, blocks, instrs, globals, 0)?)
 }
 
 /// A block of so many instructions.
@@ -152,9 +152,9 @@ fn block(first: u32, count: u32) -> Block {
 pub(crate) fn start_and_exit(alloc: Global) -> Result<Schedule> {
     let turns = vec![in alloc; turn(0, TurnKind::Start), turn(8, TurnKind::Exit)]?;
     Ok(Schedule {
-        turns,
-        replies: Vec::new(alloc),
-        gated: Vec::new(alloc),
+        turns: Turns::from_vec(turns),
+        replies: Replies::from_vec(Vec::new(alloc)),
+        gated: InstrIds::from_vec(Vec::new(alloc)),
     })
 }
 

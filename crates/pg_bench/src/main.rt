@@ -19,7 +19,7 @@ fn rotated(alloc: Global, p: &Program, runs: u32) -> Result<u64> {
     let mut steps: u64 = 0;
     for _ in 0..runs {
         let recorded = rotate(alloc, p, &[], QUANTUM)?;
-        steps = steps.wrapping_add(recorded.trace.steps().len() as u64);
+        steps = steps.wrapping_add(recorded.trace.len() as u64);
     }
     Ok(steps)
 }

@@ -8,7 +8,7 @@ ghost use Rattle.pg_check.specs.Checked.{IsProgramOf, IsFaultOf};
 
 use crate::first::first_of_module;
 use pg_ast::Module;
-use pg_ir::Program;
+use pg_ir::{Program, ProgramError};
 use pg_numbering::laws::an_accepted_tree_is_a_program;
 use pg_program::{ProgramParts, program_parts};
 use pg_rules::CheckFault;
@@ -36,9 +36,10 @@ fn numbered(
         globals,
         main,
     } = parts;
-    match Program::new(functions, blocks, instrs, globals, main) {
+    match Program::new(alloc, functions, blocks, instrs, globals, main) {
         Ok(program) => Ok(program),
-        Err(_) => unreachable!(),
+        Err(ProgramError::OutOfMemory) => Err(CheckFault::OutOfMemory),
+        Err(ProgramError::Malformed) => unreachable!(),
     }
 }
 

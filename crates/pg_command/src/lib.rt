@@ -9,6 +9,3 @@ mod values;
 
 pub use once::{Once, command};
 pub use values::DEFAULT_QUANTUM;
-
-#[cfg(test)]
-mod tests;

@@ -15,6 +15,3 @@ mod wrong_constants;
 pub use globals::globals_refusals;
 pub use phases::heads_refusals;
 pub use type_items::types_refusals;
-
-#[cfg(test)]
-mod tests;

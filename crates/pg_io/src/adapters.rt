@@ -1,7 +1,7 @@
 //! Sources and sinks over the readers and writers of `std::io`. They do not tell the bytes that are
 //! left or taken, since the outside does not. That they hand on what the reader or the writer did is
 //! proved where that one's bytes are known.
-ghost use Rattle.std.specs.Prelude.{◌≡◌, ◌<◌, ◌≤◌, ◌↔◌, false, length, None, IsTrue, IsFalse, IsOk, IfOk, OnErr};
+ghost use Rattle.std.specs.Prelude.{◌≡◌, ◌<◌, ◌≤◌, ◌↔◌, false, length, None, IsTrue, IsFalse, IfOk, OnErr, OnOk};
 ghost use Rattle.std.specs.Io.KnownBytes.{ReadConsumes, WriteAppends};
 ghost use Rattle.pg_io.specs.Faults.{raised};
 
@@ -54,7 +54,8 @@ impl<R: Read> Source for ReaderSource<R> {
             ReadConsumes (R.remaining self.old.reader) (R.remaining self.new.reader) result buf.new }
         ensures ends { IfOk result (λ n. IsTrue self.new.ended ↔ (n ≡ 0)) }
         ensures gives_none { IsTrue self.old.ended → (result ≡ Ok 0) × (self.new ≡ self.old) }
-        ensures count_stays { IsOk result → self.new.count ≡ self.old.count }
+        ensures no_end { OnErr result (IsFalse self.new.ended) }
+        ensures count_stays { OnOk result (self.new.count ≡ self.old.count) }
         ensures count_rises { OnErr result (self.new.count ≡ raised self.old.count) }
         ensures count_never_falls { self.old.count ≤ self.new.count }
     {
@@ -109,7 +110,7 @@ impl<W: Write> Sink for WriterSink<W> {
         ensures some { IfOk result (λ n. 0 < n) }
         ensures bound { IfOk result (λ n. n ≤ length piece.now) }
         ensures passes { WriteAppends (W.contents self.old.writer) (W.contents self.new.writer) result piece.now }
-        ensures count_stays { IsOk result → self.new.count ≡ self.old.count }
+        ensures count_stays { OnOk result (self.new.count ≡ self.old.count) }
         ensures count_rises { OnErr result (self.new.count ≡ raised self.old.count) }
         ensures count_never_falls { self.old.count ≤ self.new.count }
     {

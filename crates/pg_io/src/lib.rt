@@ -14,6 +14,3 @@ pub use fault::Failed;
 pub use memory::{MemorySink, MemorySource, SureSource};
 pub use sink::Sink;
 pub use source::Source;
-
-#[cfg(test)]
-mod tests;

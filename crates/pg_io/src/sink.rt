@@ -1,5 +1,5 @@
 //! Where bytes go.
-ghost use Rattle.std.specs.Prelude.{◌≡◌, ℕ, ◌<◌, ◌≤◌, List, length, take, Option, IfOk, OnErr, is_some};
+ghost use Rattle.std.specs.Prelude.{◌≡◌, ℕ, ◌<◌, ◌≤◌, List, length, take, Option, IfOk, OnErr, OnOk, is_some};
 ghost use Rattle.std.specs.Io.KnownBytes.{Appends, Keeps};
 ghost use Rattle.pg_io.specs.Faults.{Rose};
 
@@ -14,7 +14,7 @@ pub trait Sink {
     ghost faults: { Self → ℕ };
 
     /// Takes bytes from the front of `piece`, at least one, and gives their number. A call that
-    /// fails takes none.
+    /// fails takes none. The count of faults rises at a call that fails and at no other.
     fn write(&mut self, piece: &[u8]) -> Result<usize, Failed>
         requires { 0 < length piece.now }
         ensures some { IfOk result (λ n. 0 < n) }
@@ -22,6 +22,7 @@ pub trait Sink {
         ensures takes { IfOk result (λ n. Appends (taken self.old) (taken self.new) (take n piece.now)) }
         ensures keeps { OnErr result (Keeps (taken self.old) (taken self.new)) }
         ensures tells { is_some (taken self.new) ≡ is_some (taken self.old) }
+        ensures count_stays { OnOk result (faults self.new ≡ faults self.old) }
         ensures count_never_falls { faults self.old ≤ faults self.new }
         ensures cause { OnErr result (Rose (faults self.old) (faults self.new)) };
 }

@@ -1,5 +1,5 @@
 //! Where bytes come from.
-ghost use Rattle.std.specs.Prelude.{◌≡◌, ℕ, ◌<◌, ◌≤◌, List, length, take, Option, IfOk, OnErr, is_some};
+ghost use Rattle.std.specs.Prelude.{◌≡◌, ℕ, ◌<◌, ◌≤◌, List, length, take, Option, IfOk, OnErr, OnOk, is_some};
 ghost use Rattle.std.specs.Io.KnownBytes.{Consumes, IsAtEnd, Keeps};
 ghost use Rattle.pg_io.specs.Faults.{Rose};
 
@@ -18,7 +18,8 @@ pub trait Source {
 
     /// Puts the next bytes into the front of `buf`, takes them from the source, and gives their number.
     ///
-    /// Where the source tells its bytes, 0 comes exactly at their end. A call that fails takes none.
+    /// Where the source tells its bytes, 0 comes exactly at their end. A call that fails takes none, and is no end.
+    /// The count of faults rises at a call that fails and at no other.
     fn read(&mut self, buf: &mut [u8]) -> Result<usize, Failed>
         requires { 0 < length buf.old }
         ensures bound { IfOk result (λ n. n ≤ length buf.new) }
@@ -28,7 +29,8 @@ pub trait Source {
         ensures at_end { result ≡ Ok 0 → IsAtEnd (rest self.old) }
         ensures ends { result ≡ Ok 0 → has_ended self.new }
         ensures gives_none { has_ended self.old → result ≡ Ok 0 }
-        ensures count_stays { has_ended self.old → faults self.new ≡ faults self.old }
+        ensures no_end { OnErr result (has_ended self.new → has_ended self.old) }
+        ensures count_stays { OnOk result (faults self.new ≡ faults self.old) }
         ensures count_never_falls { faults self.old ≤ faults self.new }
         ensures cause { OnErr result (Rose (faults self.old) (faults self.new)) };
 }

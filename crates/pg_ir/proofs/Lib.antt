@@ -1,4 +1,5 @@
 pub mod Blocks
+pub mod CaseTables
 pub mod Decide
 pub mod EdgesDecide
 pub mod Globals
@@ -9,4 +10,5 @@ pub mod PlaceDecide
 pub mod Places
 pub mod Prefix
 pub mod ProgramDecide
+pub mod Prepared
 pub mod TypesDecide

@@ -1,10 +1,11 @@
 -- Edges between basic blocks, and the `phi`s with which a block begins (LLVM Language Reference).
-use Rattle.std.specs.Prelude.{ℕ, ◌+◌, ◌-◌, List, [], ◌∷◌, length, map, take_while, slice_range, slice_get, Bool, true, false, Option, Some, None}
+use Rattle.std.specs.Prelude.{ℕ, ◌+◌, ◌-◌, ◌==◌, List, [], ◌∷◌, length, map, take_while, slice_range, slice_get, Bool, true, false, Option, Some, None, if◌then◌else◌}
 use Rattle.pg_ir.specs.declared.edge.Case.{Case}
 use Rattle.pg_ir.specs.declared.edge.Incoming.{Incoming}
 use Rattle.pg_ir.specs.declared.instr.Op.{Op}
 use Rattle.pg_ir.specs.declared.instr.Op.TheVariants.{Phi, Br, CondBr, Switch, Ret, Unreachable}
 use Rattle.pg_ir.specs.declared.instr.Instr.{Instr}
+use Rattle.pg_ir.specs.declared.value.Value.{Value}
 use Rattle.pg_ir.specs.Program.{NumberedProgram, first_of, end_of}
 
 -- these end a basic block
@@ -56,3 +57,19 @@ phis_of p b = take_while (λ (x : Instr). is_phi x.op) (instrs_of p b)
 -- the first instruction of a block that is no phi
 unfoldable pub body_of : NumberedProgram → ℕ → ℕ
 body_of p b = first_of p b + length (phis_of p b)
+
+-- ---- what an edge gives
+
+-- the value that is listed first for the block that is left
+abbrev pub incoming_from : List Incoming → ℕ → Option Value
+incoming_from [] from = None
+incoming_from (i ∷ is) from = if i.block.0 == from then Some i.value else incoming_from is from
+
+-- the values that the phis of a block take, where block `from` is left
+unfoldable pub values_along : NumberedProgram → ℕ → ℕ → List (Option Value)
+values_along p from to = map (λ (x : Instr). incoming_from (incoming_of x.op) from) (phis_of p to)
+
+-- the case of a switch that is first equal to the operand, else the default
+abbrev pub case_of : List Case → ℕ → ℕ → ℕ
+case_of [] other n = other
+case_of (c ∷ cs) other n = if c.value == n then c.to.0 else case_of cs other n

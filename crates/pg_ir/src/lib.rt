@@ -3,30 +3,30 @@
 
 mod build;
 mod edge;
+mod error;
 mod function;
 mod ids;
 mod instr;
 mod known;
+pub mod laws;
 mod lists;
-mod malformed;
 mod parts;
 mod placed;
+mod prepare;
 mod program;
 mod request;
 mod signature;
+mod tables;
 mod typed;
 mod value;
 
 pub use edge::{Case, Incoming};
+pub use error::ProgramError;
 pub use function::{Block, Function, GlobalInfo};
 pub use ids::{BlockNo, InstrId, ThreadNo};
 pub use instr::{Instr, Op};
 pub use known::Known;
 pub use lists::{Bytes, Cases, Incomings, Indices, Scalars, Values};
-pub use malformed::Malformed;
-pub use program::Program;
+pub use program::{Edge, Program};
 pub use request::{Request, TrapName};
 pub use value::{Index, Scalar, Scale, Value};
-
-#[cfg(test)]
-mod program_tests;

@@ -39,7 +39,7 @@ fn lists_block(block: u32, x: &Instr) -> bool
 }
 
 #[tactic(auto, using(crate::proofs::Prefix::prefix_more, crate::proofs::Prefix::prefix_stop))]
-fn count_phis(xs: &[Instr]) -> usize
+pub(crate) fn count_phis(xs: &[Instr]) -> usize
     ensures { result ≡ prefix_len (λ x. is_phi x.op) xs.now }
 {
     for (i, x) in xs.iter().enumerate() {
@@ -104,7 +104,7 @@ impl Parts {
 
     /// The instructions of a basic block, as far as there are such.
     #[tactic(auto, unfolding(crate::specs::Edges::instrs_of))]
-    fn instrs_of(&self, block: usize) -> &[Instr]
+    pub(crate) fn instrs_of(&self, block: usize) -> &[Instr]
         ensures { result.now ≡ instrs_of self.now block }
     {
         let rest = self.instrs_from(self.first_of(block));

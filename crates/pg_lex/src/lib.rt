@@ -10,6 +10,3 @@ pub use lexer::lex;
 pub use names::token_bytes;
 pub use places::position;
 pub use token::{LexFault, Span, Token, TokenKind};
-
-#[cfg(test)]
-mod tests;

@@ -42,7 +42,7 @@ begins p input s z t a l program h e g small k = record {
   small = small;
 }
 
-local_is : (p : NumberedProgram) (input : List ℤ) (s z : State) (t : ℕ) (x : Result ℕ TrapName) → ready p s t ≡ true → Path Answered (answered p input s t (next_of p s t)) (z, x) → slice_get z.locals t ≡ slice_get s.locals t
+pub local_is : (p : NumberedProgram) (input : List ℤ) (s z : State) (t : ℕ) (x : Result ℕ TrapName) → ready p s t ≡ true → Path Answered (answered p input s t (next_of p s t)) (z, x) → slice_get z.locals t ≡ slice_get s.locals t
 local_is p input s z t x g k = ap (λ (q : Answered). slice_get q.0.locals t) (sym k) ∙ same_local p input s t t (next_of p s t) (ready_made p s t g)
 
 pub stands : (p : NumberedProgram) (input : List ℤ) (s z : State) (t a : ℕ) → IsProgram p → IsMachine p s → ready p s t ≡ true → a < 2 ^ 64 → Path Answered (answered p input s t (next_of p s t)) (z, Ok a) → IsMachine p (record z { locals = local_after p z.locals t a (slice_get z.locals t) })
@@ -88,7 +88,7 @@ after_length p ls t a (Some l) = set_length ls t (after p l a)
 pub taken_more : (p : NumberedProgram) (input : List ℤ) (s z : State) (t a : ℕ) → Path Answered (answered p input s t (next_of p s t)) (z, Ok a) → length s.locals ≤ length (local_after p z.locals t a (slice_get z.locals t))
 taken_more p input s z t a k = let l = no_fewer p input s z t (Ok a) k in omega (arith, l, after_length p z.locals t a (slice_get z.locals t))
 
-pub taken_is : (p : NumberedProgram) (input : List ℤ) (s z : State) (t a : ℕ) → ready p s t ≡ true → Path Answered (answered p input s t (next_of p s t)) (z, Ok a) → Path Answered (record z { locals = local_after p z.locals t a (slice_get z.locals t) }, Ok (number_in p (slice_get z.locals t) a)) (taken p s t (answered p input s t (next_of p s t)))
+pub taken_is : (p : NumberedProgram) (input : List ℤ) (s z : State) (t a : ℕ) → ready p s t ≡ true → Path Answered (answered p input s t (next_of p s t)) (z, Ok a) → Path Answered (record z { locals = local_after p z.locals t a (slice_get z.locals t) }, Ok a) (taken p s t (answered p input s t (next_of p s t)))
 taken_is p input s z t a g k = rw (k, local_is p input s z t (Ok a) g k) refl
 
 -- what is known of an answer, for a result that is this one
@@ -96,10 +96,10 @@ pub seen : (p : NumberedProgram) (input : List ℤ) (s z : State) (t : ℕ) (x y
 seen p input s z t x y act a k e = ap (answered p input s t) (sym a) ∙ sym k ∙ ap (λ (q : Result ℕ TrapName). (z, q)) e
 
 -- the step that is told is the one that was taken
-pub did_is : (gated : List InstrId) (p : NumberedProgram) (input : List ℤ) (s z : State) (t n : ℕ) (told : Step) (x : Result ℕ TrapName) → told ≡ step_told gated p s t n → Path Answered (z, x) (taken p s t (answered p input s t (next_of p s t))) → x ≡ Ok n → Did told z ≡ step gated p input s t
+pub did_is : (gated : List InstrId) (p : NumberedProgram) (input : List ℤ) (s z : State) (t answer : ℕ) (told : Step) (x : Result ℕ TrapName) → told ≡ step_told gated p s t answer → Path Answered (z, x) (taken p s t (answered p input s t (next_of p s t))) → x ≡ Ok answer → Did told z ≡ step gated p input s t
 unfolding step
-did_is gated p input s z t n told x a k e =
-    let h : Path Answered (z, Ok n) (taken p s t (answered p input s t (next_of p s t))) = ap (λ (q : Result ℕ TrapName). (z, q)) (sym e) ∙ k in
+did_is gated p input s z t answer told x a k e =
+    let h : Path Answered (z, Ok answer) (taken p s t (answered p input s t (next_of p s t))) = ap (λ (q : Result ℕ TrapName). (z, q)) (sym e) ∙ k in
     ap (λ (y : Step). Did y z) a ∙ ap (settled gated p s t) h
 
 pub trapped_step : (gated : List InstrId) (p : NumberedProgram) (input : List ℤ) (s z : State) (t id : ℕ) (name : TrapName) (x : Result ℕ TrapName) → id ≡ instr_of s t → Path Answered (z, x) (taken p s t (answered p input s t (next_of p s t))) → x ≡ Err name → Trapped name id ≡ step gated p input s t

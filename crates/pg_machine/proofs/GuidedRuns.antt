@@ -10,15 +10,15 @@ use Rattle.pg_trace.specs.declared.turn.Turn.{Turn}
 use Rattle.pg_trace.specs.declared.turn.TurnKind.{TurnKind}
 use Rattle.pg_trace.specs.declared.turn.TurnKind.TheVariants as kinds
 use Rattle.pg_trace.specs.declared.step.Step.{Step}
-use Rattle.pg_trace.specs.declared.step.Happening.{Happening}
 use Rattle.pg_trace.specs.Kinds.{kind_number}
 use Rattle.pg_machine.specs.declared.guided_end.GuidedEnd.{GuidedEnd}
 use Rattle.pg_machine.specs.declared.guided_end.GuidedEnd.TheVariants as ends
 use Rattle.pg_machine.specs.State.{State, initial, next_of}
 use Rattle.pg_machine.specs.MachineStep.{Answered, Stepped, Did, Trapped, happening_of, settled, step, step_told, trap_of, turn_with, ready}
 use Rattle.pg_machine.specs.Guided.{GuidedRun, Walk, all_left, due, ended_at, guided, guided_of, is_turn, on_due, on_event, on_step, trap_or, walk}
-use Rattle.pg_machine.specs.Runs.{IsRun, Takes, event_of, events, turn_at}
+use Rattle.pg_machine.specs.Runs.{IsRun, Takes, event_of, events}
 use Rattle.pg_machine.proofs.Dues.{due_ready}
+use Rattle.pg_machine.proofs.Told.{event_told_is}
 
 -- ---- runs one behind the other
 
@@ -131,10 +131,6 @@ module _ (gated : List InstrId) (p : NumberedProgram) (input : List ℤ) (u : Tu
   unfolding step
   told s z t x e = told_by s z t x _ e
 
-  turn_told : (s : State) (t n : ℕ) (h : Option Happening) → turn_at (step_told gated p s t n) h ≡ turn_with s t h
-  turn_told s t n None = refl
-  turn_told s t n (Some h) = refl
-
   -- x is a step from s to z
   pub record IsStep (s : State) (x : Step) (z : State) : Type 0 where
     pub goes : ready p s x.thread.0 ≡ true
@@ -149,7 +145,7 @@ module _ (gated : List InstrId) (p : NumberedProgram) (input : List ℤ) (u : Tu
       let k = told s z u.thread.0 x e in
       let own : IsStep s (step_told gated p s u.thread.0 k.0) z × (event_of (step_told gated p s u.thread.0 k.0) ≡ turn_if b) = (
         record { goes = due_ready gated p u s b d; did = e ∙ ap (λ (y : Step). Did y z) (sym k.1) },
-        turn_told s u.thread.0 k.0 (happening_of gated s u.thread.0 (next_of p s u.thread.0)) ∙ due_turn s b d,
+        event_told_is gated p s u.thread.0 k.0 ∙ due_turn s b d,
       ) in
       subst (λ (y : Step). IsStep s y z × (event_of y ≡ turn_if b)) k.1 own
 

@@ -11,9 +11,11 @@ pub mod GuidedRuns
 pub mod Keeps
 pub mod Locality
 pub mod Marks
+pub mod Named
 pub mod PhaseActions
 pub mod Rotations
 pub mod Runs
 pub mod Steps
 pub mod Threads
+pub mod Told
 pub mod Walks

@@ -1,4 +1,6 @@
+pub mod Answer
 pub mod Bound
+pub mod Filled
 pub mod Fits
 pub mod Follow
 pub mod FullGuided
@@ -6,6 +8,7 @@ pub mod Guided
 pub mod Locality
 pub mod Machine
 pub mod MachineStep
+pub mod Named
 pub mod Permitted
 pub mod Phases
 pub mod Rotation

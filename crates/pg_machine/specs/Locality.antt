@@ -1,6 +1,5 @@
 -- What a step of the machine depends on, and what it changes.
 use Rattle.std.specs.Prelude.{◌≡◌, ℕ, length, Bool, true, false, Option, Some, None, slice_get, slice_index}
-use Rattle.pg_num.specs.Places.{ByteRange}
 use Rattle.pg_ir.specs.declared.request.Request.{Request}
 use Rattle.pg_ir.specs.declared.request.Request.TheVariants as requests
 use Rattle.pg_mem.specs.Memory.{Words, read, written}
@@ -8,6 +7,7 @@ use Rattle.pg_step.specs.declared.action.Action.{Action}
 use Rattle.pg_step.specs.declared.action.Action.TheVariants as actions
 use Rattle.pg_trace.specs.declared.step.Access.{Access}
 use Rattle.pg_trace.specs.declared.step.Step.{Step}
+use Rattle.pg_trace.specs.Steps.{range_of}
 use Rattle.pg_machine.specs.State.{State}
 use Rattle.pg_machine.specs.MachineStep.{Stepped, Did, Trapped}
 
@@ -41,14 +41,15 @@ AreAlike t _ _ = ⊥
 
 -- ---- what a step changes
 
-abbrev pub WrittenIf : Bool → ByteRange → Words → Words → Type 0
-WrittenIf true r m n = (number : ℕ) × (n ≡ written m r number)
-WrittenIf false r m n = n ≡ m
+-- memory is written or read as an access tells: a read gives the number of its bytes and changes nothing
+abbrev pub AsAccessed : Bool → Access → Words → Words → Type 0
+AsAccessed true a m n = n ≡ written m (range_of a) a.number
+AsAccessed false a m n = (n ≡ m) × (a.number ≡ read m (range_of a))
 
--- memory changes by one write, at the place of an access that writes, or not at all
-abbrev pub ChangesBy : Option Access → Words → Words → Type 0
-ChangesBy None m n = n ≡ m
-ChangesBy (Some a) m n = WrittenIf a.writes a.at m n
+-- without an access memory is as before
+abbrev pub AsTold : Option Access → Words → Words → Type 0
+AsTold None m n = n ≡ m
+AsTold (Some a) m n = AsAccessed a.writes a m n
 
 abbrev pub is_request : Action → Bool
 is_request (actions.Event r) = true

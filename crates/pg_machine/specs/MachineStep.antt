@@ -1,11 +1,15 @@
 -- One step of the machine: one instruction of one thread.
-use Rattle.std.specs.Prelude.{ℕ, ◌==◌, ◌&&◌, not, ℤ, pos, negsuc, List, [], ◌∷◌, ◌++◌, length, Bool, true, false, Option, Some, None, is_some, Result, Ok, Err, slice_get, slice_set, slice_index, if◌then◌else◌}
+use Rattle.std.specs.Prelude.{ℕ, ◌==◌, ◌&&◌, not, ℤ, pos, negsuc, List, [], ◌∷◌, ◌++◌, length, Bool, true, false, Option, Some, None, Result, Ok, Err, slice_get, slice_set, slice_index, if◌then◌else◌}
 use Rattle.std.specs.List.{list_any}
 use Rattle.pg_num.specs.Numbers.{residue}
 use Rattle.pg_num.specs.Places.{ByteRange}
-use Rattle.pg_num.specs.Pointers.{pointer_of}
 use Rattle.pg_num.specs.declared.width.Width.TheVariants.{W64}
 use Rattle.pg_ir.specs.declared.ids.InstrId.{InstrId}
+use Rattle.pg_ir.specs.declared.known.Known.{Known}
+use Rattle.pg_ir.specs.declared.known.Known.TheVariants as known
+use Rattle.pg_ir.specs.declared.instr.Op.{Op}
+use Rattle.pg_ir.specs.declared.instr.Op.TheVariants as op
+use Rattle.pg_ir.specs.declared.instr.Instr.{Instr}
 use Rattle.pg_ir.specs.declared.request.Request.{Request}
 use Rattle.pg_ir.specs.declared.request.Request.TheVariants as requests
 use Rattle.pg_ir.specs.declared.request.TrapName.{TrapName}
@@ -22,8 +26,11 @@ use Rattle.pg_trace.specs.declared.turn.TurnKind.{TurnKind}
 use Rattle.pg_trace.specs.declared.turn.TurnKind.TheVariants as kinds
 use Rattle.pg_trace.specs.declared.turn.Turn.{Turn}
 use Rattle.pg_trace.specs.declared.step.Step.{Step}
-use Rattle.pg_trace.specs.declared.step.Access.{Access}
+use Rattle.pg_trace.specs.declared.step.StepKind.{StepKind}
+use Rattle.pg_trace.specs.declared.step.StepKind.TheVariants as told
+use Rattle.pg_trace.specs.declared.step.Write.{Write}
 use Rattle.pg_trace.specs.declared.step.Happening.{Happening}
+use Rattle.pg_trace.specs.Kinds.{kind_of, object_of}
 use Rattle.pg_trace.specs.Recording.{happening_of as request_happening}
 use Rattle.pg_machine.specs.State.{State, next_of, instr_of}
 use Rattle.pg_machine.specs.Texts.{printed_by}
@@ -74,24 +81,6 @@ turn_with s t (Some h) = Some (record { thread = record { 0 = t }; instr = recor
 -- the turn that the next step of thread t is, if it is an event
 unfoldable pub turn_of : List InstrId → NumberedProgram → State → ℕ → Option Turn
 turn_of gated p s t = turn_with s t (happening_of gated s t (next_of p s t))
-
--- ---- accesses
-
--- an access by the pointer that is this word
-abbrev pub access_by : ℕ → ByteRange → Bool → Bool → Access
-access_by word r writes event = record { at = r; frame_start = (pointer_of word).start; frame_length = (pointer_of word).length; writes = writes; event = event }
-
--- the write of a create at its first operand, and of a join with a place at its second
-abbrev pub request_access : List ℕ → Request → Option Access
-request_access ns (requests.Create r f a) = Some (access_by (slice_index ns 0) r true true)
-request_access ns (requests.Join n (Some r)) = Some (access_by (slice_index ns 1) r true true)
-request_access ns r = None
-
-abbrev pub access_of : List ℕ → Bool → Action → Option Access
-access_of ns event (actions.Load r) = Some (access_by (slice_index ns 0) r false event)
-access_of ns event (actions.Store r n) = Some (access_by (slice_index ns 1) r true event)
-access_of ns event (actions.Event r) = request_access ns r
-access_of ns event action = None
 
 -- ---- what an action leaves, and its answer
 
@@ -145,12 +134,7 @@ answered p input s t (actions.Event r) = on_applied p s t r (sync.applied s.sync
 answered p input s t (actions.Trap name) = (s, Err name)
 answered p input s t action = (s, Ok 0)
 
--- ---- the step
-
--- the step that was done and the state after it, or the trap and the state
-pub data Stepped : Type 0 where
-  Did : Step → State → Stepped
-  Trapped : TrapName → ℕ → Stepped
+-- ---- the thread's own part
 
 abbrev pub local_after : NumberedProgram → List LocalState → ℕ → ℕ → Option LocalState → List LocalState
 local_after p ls t answer None = ls
@@ -164,30 +148,70 @@ abbrev pub number_in : NumberedProgram → Option LocalState → ℕ → ℕ
 number_in p None answer = 0
 number_in p (Some l) answer = number_given p l answer
 
--- what the trace tells of the step of thread t, whose instruction's own register gets this number
+-- ---- what the trace tells of a step, by the numbers of its operands, the answer to its action, and the number
+-- that its instruction's own register gets
+
+-- an access through the pointer that is this word
+abbrev pub access_told : List InstrId → State → ℕ → ℕ → ByteRange → Bool → ℕ → StepKind
+access_told gated s t pointer r writes number = told.Access (record { pointer = pointer; number = number; bytes = r.bytes; writes = writes; event = is_gated gated (instr_of s t) })
+
+-- the write of a create through its first operand, and of a join with a place through its second
+abbrev pub write_told : State → List ℕ → Request → Option Write
+write_told s ns (requests.Create r f n) = Some (record { pointer = slice_index ns 0; number = length s.locals })
+write_told s ns (requests.Join n (Some r)) = Some (record { pointer = slice_index ns 1; number = slice_index s.words n })
+write_told s ns r = None
+
+abbrev pub event_told : State → ℕ → List ℕ → ℕ → Request → StepKind
+event_told s t ns number r = told.Event (record { kind = kind_of r; object = object_of t (length s.sync.threads) r; operands = ns; reply = number; write = write_told s ns r })
+
+abbrev pub known_told : List ℕ → ℕ → Known → StepKind
+known_told ns number known.Malloc = told.Allocation (slice_index ns 0) number
+known_told ns number k = told.Other
+
+-- of the steps that only the thread's own state decides: a branch by its condition, and an allocation
+abbrev pub op_told : List ℕ → ℕ → Op → StepKind
+op_told ns number (op.CondBr c a b) = told.Branch (slice_index ns 0)
+op_told ns number (op.Switch w on other cases) = told.Branch (slice_index ns 0)
+op_told ns number (op.Alloca bytes) = told.Allocation 0 number
+op_told ns number (op.CallKnown k args) = known_told ns number k
+op_told ns number o = told.Other
+
+abbrev pub instr_told : List ℕ → ℕ → Option Instr → StepKind
+instr_told ns number None = told.Other
+instr_told ns number (Some x) = op_told ns number x.op
+
+abbrev pub kind_told : List InstrId → NumberedProgram → State → ℕ → List ℕ → ℕ → ℕ → Action → StepKind
+kind_told gated p s t ns answer number actions.Local = instr_told ns number (slice_get p.instrs (instr_of s t))
+kind_told gated p s t ns answer number (actions.Load r) = access_told gated s t (slice_index ns 0) r false answer
+kind_told gated p s t ns answer number (actions.Store r n) = access_told gated s t (slice_index ns 1) r true n
+kind_told gated p s t ns answer number (actions.Event r) = event_told s t ns number r
+kind_told gated p s t ns answer number action = told.Other
+
+-- what the trace tells of the step of thread t, whose action is answered so
 abbrev pub step_told : List InstrId → NumberedProgram → State → ℕ → ℕ → Step
-step_told gated p s t number =
-    let ns = operands_in p (slice_get s.locals t) in
-    let event = happening_of gated s t (next_of p s t) in
+step_told gated p s t answer =
+    let o = slice_get s.locals t in
     record {
       thread = record { 0 = t };
       instr = record { 0 = instr_of s t };
-      operands = ns;
-      result = number;
-      access = access_of ns (is_some event) (next_of p s t);
-      event = event;
+      kind = kind_told gated p s t (operands_in p o) answer (number_in p o answer) (next_of p s t);
     }
 
--- after the answer the thread goes on: the state after its step, and the number that its instruction's own
--- register got
+-- ---- the step
+
+-- the step that was done and the state after it, or the trap and the state
+pub data Stepped : Type 0 where
+  Did : Step → State → Stepped
+  Trapped : TrapName → ℕ → Stepped
+
+-- after the answer the thread goes on
 abbrev pub taken : NumberedProgram → State → ℕ → Answered → Answered
 taken p s t (s', Err name) = (s', Err name)
-taken p s t (s', Ok answer) =
-    (record s' { locals = local_after p s'.locals t answer (slice_get s.locals t) }, Ok (number_in p (slice_get s.locals t) answer))
+taken p s t (s', Ok answer) = (record s' { locals = local_after p s'.locals t answer (slice_get s.locals t) }, Ok answer)
 
 abbrev pub settled : List InstrId → NumberedProgram → State → ℕ → Answered → Stepped
 settled gated p s t (s', Err name) = Trapped name (instr_of s t)
-settled gated p s t (s', Ok number) = Did (step_told gated p s t number) s'
+settled gated p s t (s', Ok answer) = Did (step_told gated p s t answer) s'
 
 -- the step of thread t, where it is ready
 unfoldable pub step : List InstrId → NumberedProgram → List ℤ → State → ℕ → Stepped

@@ -1,20 +1,29 @@
-ghost use Rattle.std.specs.Prelude.{◌≡◌, ◌≤◌, length, true, IfOk, OnErr, OnOk};
+ghost use Rattle.std.specs.Prelude.{◌≡◌, ◌≤◌, length, slice_get, true, IfOk, OnErr, OnOk};
 ghost use Rattle.pg_machine.specs.State.{next_of};
-ghost use Rattle.pg_machine.specs.MachineStep.{answered, ready, step, taken};
+ghost use Rattle.pg_machine.specs.MachineStep.{answered, number_in, ready, step, taken};
+ghost use Rattle.pg_machine.specs.Answer.{answer_in};
 ghost use Rattle.pg_machine.specs.Machine.{IsMachine};
 ghost use Rattle.pg_machine.specs.Bound.{stepped_as, IfTrapped};
 
 use crate::gated::Gated;
 use crate::machine::Stepped;
 use crate::state::MachineState;
+use crate::tell::filled;
 use pg_ir::{Program, ThreadNo, TrapName};
 use pg_step::Action;
 use pg_trace::Step;
 use std::alloc::{AllocError, Global};
 
+/// The answer to the action of a step, and the number that its instruction's own register got.
+#[derive(Clone, Copy, Debug, PartialEq, Eq)]
+pub(crate) struct Advanced {
+    pub(crate) answer: u64,
+    pub(crate) number: u64,
+}
+
 impl MachineState {
-    /// Takes the next step of a thread that is ready, which is this action, and gives the number that
-    /// its instruction's own register got, or its trap.
+    /// Takes the next step of a thread that is ready, which is this action, and gives the answer to it
+    /// and the number that its instruction's own register got, or its trap.
     pub(crate) fn take(
         &mut self,
         alloc: Global,
@@ -22,11 +31,12 @@ impl MachineState {
         input: &[i64],
         t: ThreadNo,
         action: &Action,
-    ) -> Result<Result<u64, TrapName>, AllocError>
+    ) -> Result<Result<Advanced, TrapName>, AllocError>
         requires of { IsMachine p.now self.old }
         requires next { action.now ≡ next_of p.now self.old t.0 }
         requires ready { ready p.now self.old t.0 ≡ true }
-        ensures state { IfOk result (λ r. (self.new, r) ≡ taken p.now self.old t.0 (answered p.now input.now self.old t.0 (next_of p.now self.old t.0))) }
+        ensures state { IfOk result (λ r. (self.new, answer_in r) ≡ taken p.now self.old t.0 (answered p.now input.now self.old t.0 (next_of p.now self.old t.0))) }
+        ensures number { IfOk result (λ r. IfOk r (λ a. a.number ≡ number_in p.now (slice_get self.old.locals t.0) a.answer)) }
         ensures of { OnOk result (IsMachine p.now self.new) }
         ensures trap { IfOk result (λ r. OnErr r (self.new ≡ self.old)) }
         ensures more { OnOk result (length self.old.locals ≤ length self.new.locals) }
@@ -34,7 +44,10 @@ impl MachineState {
         p.facts();
         match self.answer(alloc, p, input, t, action)? {
             Err(name) => Ok(Err(name)),
-            Ok(answer) => Ok(Ok(self.advance(p, t, answer))),
+            Ok(answer) => {
+                let number = self.advance(p, t, answer);
+                Ok(Ok(Advanced { answer, number }))
+            }
         }
     }
 
@@ -60,9 +73,10 @@ impl MachineState {
         let told = self.tell(p, gated, t, &action);
         match self.take(alloc, p, input, t, &action)? {
             Err(name) => Ok(Stepped::Trapped(name, id)),
-            Ok(number) => Ok(Stepped::Did(Step {
-                result: number,
-                ..told
+            Ok(done) => Ok(Stepped::Did(Step {
+                thread: t,
+                instr: id,
+                kind: filled(told, done.answer, done.number),
             })),
         }
     }

@@ -114,9 +114,9 @@ fn guide_along(
 ///
 /// Where no memory is left for it.
 pub fn guide(alloc: Global, p: &Program, input: &[i64], s: &Schedule) -> Result<Guided, AllocError>
-    ensures output { IfOk result (λ g. g.output.items ≡ (guided_of p.now input.now s.now.turns.items s.now.gated.items).state.printed) }
-    ensures end { IfOk result (λ g. g.end ≡ (guided_of p.now input.now s.now.turns.items s.now.gated.items).end) }
-    ensures turns { IfOk result (λ g. g.turns ≡ (guided_of p.now input.now s.now.turns.items s.now.gated.items).turns) }
+    ensures output { IfOk result (λ g. g.output.items ≡ (guided_of p.now input.now s.now.turns s.now.gated).state.printed) }
+    ensures end { IfOk result (λ g. g.end ≡ (guided_of p.now input.now s.now.turns s.now.gated).end) }
+    ensures turns { IfOk result (λ g. g.turns ≡ (guided_of p.now input.now s.now.turns s.now.gated).turns) }
 {
     let gated = Gated::new(alloc, p, s.gated.as_slice())?;
     let Stopped { state, turns, end } = guide_along(alloc, p, input, s.turns.as_slice(), &gated)?;

@@ -181,7 +181,7 @@ pub fn follow(
     input: &[i64],
     s: &Schedule,
 ) -> Result<Followed, AllocError>
-    ensures followed { IfOk result (λ f. followed_as f ≡ following_of p.now input.now s.now.turns.items s.now.gated.items) }
+    ensures followed { IfOk result (λ f. followed_as f ≡ following_of p.now input.now s.now.turns s.now.gated) }
 {
     let gated = Gated::new(alloc, p, s.gated.as_slice())?;
     match follow_along(alloc, p, input, s.turns.as_slice(), &gated)? {

@@ -4,10 +4,11 @@ ghost use Rattle.std.specs.Prelude.{◌≡◌, ℕ, ◌<◌, ℤ, List, [], leng
 ghost use Rattle.pg_ir.specs.declared.ids.InstrId.{InstrId};
 ghost use Rattle.pg_ir.specs.Program.{NumberedProgram};
 ghost use Rattle.pg_machine.specs.State.{State, initial, next_of};
-ghost use Rattle.pg_machine.specs.MachineStep.{step};
+ghost use Rattle.pg_machine.specs.MachineStep.{step, turn_of};
 ghost use Rattle.pg_machine.specs.Rotation.{rotation_of};
-ghost use Rattle.pg_machine.specs.Locality.{Agree, AreAlike, ChangesBy, IfDid, LeavesRest, is_request};
+ghost use Rattle.pg_machine.specs.Locality.{Agree, AreAlike, AsTold, IfDid, LeavesRest, is_request};
 ghost use Rattle.pg_machine.specs.Runs.{IsRun};
+ghost use Rattle.pg_trace.specs.Steps.{access_of, event_of};
 
 /// A step changes the local state of its own thread alone, of those that were made.
 pub fn a_step_is_of_one_thread()
@@ -15,13 +16,19 @@ pub fn a_step_is_of_one_thread()
         → IfDid (step gated p input s t) (λ x z. slice_get z.locals u ≡ slice_get s.locals u) }
 {}
 
-/// A step changes memory by one write at the place of its access, or not at all; a step that asks
-/// nothing of other threads leaves the objects, the words, the printed bytes and main's value.
+/// A step reads and changes memory as its access tells, or leaves it; a step that asks nothing of other
+/// threads leaves the objects, the words, the printed bytes and main's value.
 pub fn a_step_changes_little()
     ensures memory { (gated : List InstrId) (p : NumberedProgram) (input : List ℤ) (s : State) (t : ℕ)
-        → IfDid (step gated p input s t) (λ x z. ChangesBy x.access s.memory z.memory) }
+        → IfDid (step gated p input s t) (λ x z. AsTold (access_of x) s.memory z.memory) }
     ensures rest { (gated : List InstrId) (p : NumberedProgram) (input : List ℤ) (s : State) (t : ℕ) → is_request (next_of p s t) ≡ false
         → IfDid (step gated p input s t) (λ x z. LeavesRest s z) }
+{}
+
+/// The event that a step tells is the turn that it was.
+pub fn a_step_tells_its_event()
+    ensures { (gated : List InstrId) (p : NumberedProgram) (input : List ℤ) (s : State) (t : ℕ)
+        → IfDid (step gated p input s t) (λ x z. event_of x ≡ turn_of gated p s t) }
 {}
 
 /// A step depends on its thread's local state, on the bytes that it loads, and, where it asks something

@@ -26,6 +26,3 @@ pub use guided_follow::{Followed, follow};
 pub use machine::{Machine, Next, Stepped};
 pub use outcome::Outcome;
 pub use rotation::{Recorded, rotate};
-
-#[cfg(test)]
-mod tests;

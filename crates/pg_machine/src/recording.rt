@@ -6,6 +6,7 @@ ghost use Rattle.pg_machine.specs.Taken.{state_with, steps_with, trapped_in};
 
 use crate::gated::Gated;
 use crate::state::MachineState;
+use crate::tell::filled;
 use pg_ir::{InstrId, Program, ThreadNo, TrapName};
 use pg_step::Action;
 use pg_trace::{Step, Trace};
@@ -38,10 +39,11 @@ pub(crate) fn record_step(
     let told = state.tell(p, gated, t, action);
     match state.take(alloc, p, input, t, action)? {
         Err(name) => Ok(Some((name, id))),
-        Ok(number) => {
+        Ok(done) => {
             trace.push(Step {
-                result: number,
-                ..told
+                thread: t,
+                instr: id,
+                kind: filled(told, done.answer, done.number),
             });
             Ok(None)
         }

@@ -1,52 +1,18 @@
-ghost use Rattle.std.specs.Prelude.{◌≡◌, ℕ};
+ghost use Rattle.std.specs.Prelude.{◌≡◌, slice_get};
 ghost use Rattle.std.specs.List.{All};
 ghost use Rattle.pg_step.specs.States.{IsOf};
-ghost use Rattle.pg_machine.specs.State.{next_of};
-ghost use Rattle.pg_machine.specs.MachineStep.{access_by, access_of, happening_if, happening_of, request_access, step_told, turn_with};
+ghost use Rattle.pg_machine.specs.State.{instr_of, next_of};
+ghost use Rattle.pg_machine.specs.Filled.{filled};
+ghost use Rattle.pg_machine.specs.MachineStep.{access_told, event_told, happening_if, happening_of, instr_told, kind_told, op_told, operands_in, turn_with, write_told};
 
 use crate::gated::Gated;
 use crate::state::MachineState;
-use pg_ir::{Program, Request, ThreadNo};
-use pg_num::{Place, Pointer, unpack};
+use pg_ir::{InstrId, Known, Op, Program, Request, ThreadNo};
+use pg_num::Place;
 use pg_step::Action;
-use pg_trace::{Access, Happening, Step, Turn, TurnKind, happening_of};
-
-/// The access to a place by the pointer that is this word.
-fn access_by(word: u64, at: Place, writes: bool, event: bool) -> Access
-    ensures { result ≡ access_by word at writes event }
-{
-    let Pointer { start, length, .. } = unpack(word);
-    Access {
-        at,
-        frame_start: start,
-        frame_length: length,
-        writes,
-        event,
-    }
-}
-
-/// The write of a create at its first operand, and of a join with a place at its second.
-fn request_access(operands: &[u64; 4], r: &Request) -> Option<Access>
-    ensures { result ≡ request_access operands.now r.now }
-{
-    match *r {
-        Request::Create { at, .. } => Some(access_by(operands[0], at, true, true)),
-        Request::Join { at: Some(at), .. } => Some(access_by(operands[1], at, true, true)),
-        _ => None,
-    }
-}
-
-/// The access of an action, by the numbers of its operands and whether it is an event.
-fn access_of(operands: &[u64; 4], event: bool, action: &Action) -> Option<Access>
-    ensures { result ≡ access_of operands.now event action.now }
-{
-    match action {
-        Action::Load(at) => Some(access_by(operands[0], *at, false, event)),
-        Action::Store(at, _) => Some(access_by(operands[1], *at, true, event)),
-        Action::Event(r) => request_access(operands, r),
-        _ => None,
-    }
-}
+use pg_trace::{
+    Access, Event, Happening, StepKind, Turn, TurnKind, Write, happening_of, kind_of, object_of,
+};
 
 /// An event of this kind and object, where it is one.
 fn happening_if(is_event: bool, kind: TurnKind, object: u64) -> Option<Happening>
@@ -56,6 +22,28 @@ fn happening_if(is_event: bool, kind: TurnKind, object: u64) -> Option<Happening
         Some(Happening { kind, object })
     } else {
         None
+    }
+}
+
+/// What is told of a step with the answer to its action, and the number that its register got.
+#[inline(always)]
+pub(crate) fn filled(kind: StepKind, answer: u64, number: u64) -> StepKind
+    ensures { result ≡ filled kind answer number }
+{
+    match kind {
+        StepKind::Allocation { operand, .. } => StepKind::Allocation {
+            operand,
+            result: number,
+        },
+        StepKind::Access(access) if !access.writes => StepKind::Access(Access {
+            number: answer,
+            ..access
+        }),
+        StepKind::Event(event) => StepKind::Event(Event {
+            reply: number,
+            ..event
+        }),
+        _ => kind,
     }
 }
 
@@ -97,22 +85,111 @@ impl MachineState {
         }
     }
 
-    /// What the trace tells of the next step of a thread, which is this action, but for the number that
-    /// its register gets.
-    pub(crate) fn tell(&self, p: &Program, gated: &Gated, t: ThreadNo, action: &Action) -> Step
-        requires of { All (IsOf p.now) self.now.locals }
-        requires next { action.now ≡ next_of p.now self.now t.0 }
-        ensures { (n : ℕ) → record result { result = n } ≡ step_told gated.now p.now self.now t.0 n }
+    /// The access of a thread through the pointer that this word is.
+    fn tell_access(
+        &self,
+        gated: &Gated,
+        t: ThreadNo,
+        pointer: u64,
+        at: Place,
+        writes: bool,
+        number: u64,
+    ) -> StepKind
+        ensures { result ≡ access_told gated.now self.now t.0 pointer at writes number }
     {
-        let operands = self.operands(p, t);
-        let event = self.happening(gated, t, action);
-        Step {
-            thread: t,
-            instr: self.id(t),
+        StepKind::Access(Access {
+            pointer,
+            number,
+            bytes: at.bytes(),
+            writes,
+            event: gated.has(self.id(t)),
+        })
+    }
+
+    /// The write of a create through its first operand, and of a join with a place through its second.
+    fn tell_write(&self, operands: &[u64; 4], r: &Request) -> Option<Write>
+        ensures { result ≡ write_told self.now operands.now r.now }
+    {
+        match *r {
+            Request::Create { .. } => Some(Write {
+                pointer: operands[0],
+                number: self.count() as u64,
+            }),
+            Request::Join {
+                target,
+                at: Some(_),
+            } => Some(Write {
+                pointer: operands[1],
+                number: self.word(target),
+            }),
+            _ => None,
+        }
+    }
+
+    /// What a request is, but for the number that its register gets.
+    fn tell_event(&self, t: ThreadNo, operands: [u64; 4], r: &Request) -> StepKind
+        ensures { result ≡ event_told self.now t.0 operands 0 r.now }
+    {
+        StepKind::Event(Event {
+            kind: kind_of(r),
+            object: object_of(t, self.thread_count(), r),
             operands,
-            result: 0,
-            access: access_of(&operands, event.is_some(), action),
-            event,
+            reply: 0,
+            write: self.tell_write(&operands, r),
+        })
+    }
+
+    /// What an operation is that only the thread's own state decides, but for the number that its register
+    /// gets.
+    fn tell_operation(&self, p: &Program, t: ThreadNo, op: &Op) -> StepKind
+        requires { All (IsOf p.now) self.now.locals }
+        ensures { result ≡ op_told (operands_in p.now (slice_get self.now.locals t.0)) 0 op.now }
+    {
+        match op {
+            Op::CondBr { .. } | Op::Switch { .. } => StepKind::Branch {
+                condition: self.operands(p, t)[0],
+            },
+            Op::Alloca { .. } => StepKind::Allocation {
+                operand: 0,
+                result: 0,
+            },
+            Op::CallKnown {
+                function: Known::Malloc,
+                ..
+            } => StepKind::Allocation {
+                operand: self.operands(p, t)[0],
+                result: 0,
+            },
+            _ => StepKind::Other,
+        }
+    }
+
+    /// As `tell_operation` of the instruction of this number.
+    fn tell_instr(&self, p: &Program, t: ThreadNo, id: InstrId) -> StepKind
+        requires { All (IsOf p.now) self.now.locals }
+        ensures { result ≡ instr_told (operands_in p.now (slice_get self.now.locals t.0)) 0 (slice_get p.now.instrs id.0) }
+    {
+        if id.0 < p.instr_count() {
+            self.tell_operation(p, t, &p.instr(id).op)
+        } else {
+            StepKind::Other
+        }
+    }
+
+    /// What the trace tells of the next step of a thread, which is this action, but for the answer to it
+    /// and the number that its register gets.
+    pub(crate) fn tell(&self, p: &Program, gated: &Gated, t: ThreadNo, action: &Action) -> StepKind
+        requires { All (IsOf p.now) self.now.locals }
+        ensures { result ≡ kind_told gated.now p.now self.now t.0 (operands_in p.now (slice_get self.now.locals t.0)) 0 0 action.now }
+    {
+        match action {
+            Action::Local => self.tell_instr(p, t, self.id(t)),
+            Action::Load(at) => self.tell_access(gated, t, self.operands(p, t)[0], *at, false, 0),
+            Action::Store(at, number) => {
+                self.tell_access(gated, t, self.operands(p, t)[1], *at, true, *number)
+            }
+            Action::Event(r) => self.tell_event(t, self.operands(p, t), r),
+            _ => StepKind::Other,
         }
     }
 }

@@ -12,6 +12,3 @@ mod words;
 pub use delta::Delta;
 pub use field::field_delta;
 pub use memory::Memory;
-
-#[cfg(test)]
-mod tests;

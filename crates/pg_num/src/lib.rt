@@ -9,6 +9,7 @@ mod casts;
 mod comparison;
 mod decimal;
 mod division;
+pub mod laws;
 pub mod layout;
 pub mod limits;
 mod operations;
@@ -31,6 +32,3 @@ pub use pointer::{Pointer, move_by, move_by_index, pack, unpack};
 pub use shifts::shift;
 pub use signed::{from_signed, to_signed};
 pub use width::Width;
-
-#[cfg(test)]
-mod tests;

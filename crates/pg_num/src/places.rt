@@ -47,6 +47,14 @@ impl Place {
         }
     }
 
+    /// All eight bytes of a granule of memory.
+    pub fn whole_granule(granule: u32) -> Place
+        requires { granule < GRANULE_COUNT }
+        ensures { result ≡ record { start = 8 * granule; bytes = 8 } }
+    {
+        Place::new(granule, 0, 8)
+    }
+
     /// The place of the first byte.
     pub fn start(self) -> u32
         ensures value { result ≡ self.start }

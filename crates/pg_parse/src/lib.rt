@@ -15,6 +15,3 @@ mod returns;
 mod text;
 
 pub use text::parse;
-
-#[cfg(test)]
-mod tests;

@@ -1,5 +1,5 @@
 -- What a command writes: the text of `once`, and the line of a program that is refused.
-use Rattle.std.specs.Prelude.{◌≡◌, ℕ, ◌≤◌, ◌⊎◌, List, ◌++◌, length, count_by, codes, ℤ, Option, is_some}
+use Rattle.std.specs.Prelude.{◌≡◌, ℕ, ◌≤◌, ◌⊎◌, List, ◌++◌, length, codes, ℤ, Option}
 use Rattle.std.specs.Fmt.{decimal, signed_decimal}
 use Rattle.std.specs.Io.KnownBytes.{Appends}
 use Rattle.pg_num.specs.declared.limits.TheConstants.{PROGRAM_TEXT_LIMIT}
@@ -9,7 +9,7 @@ use Rattle.pg_ir.specs.Program.{NumberedProgram}
 use Rattle.pg_ir.specs.TrapNames.{trap_text}
 use Rattle.pg_rules.specs.Conditions.{IsAccepted as IsUnrefused}
 use Rattle.pg_rules.specs.Numbered.{program_of}
-use Rattle.pg_trace.specs.declared.step.Step.{Step}
+use Rattle.pg_trace.specs.Steps.{event_count}
 use Rattle.pg_machine.specs.Rotation.{RunResult, rotation_of}
 use Rattle.pg_machine.specs.declared.outcome.Outcome.{Outcome}
 use Rattle.pg_machine.specs.declared.outcome.Outcome.TheVariants.{Exit, Trap, Budget}
@@ -19,10 +19,6 @@ use Rattle.pg_session.specs.Refusals.{IsRefusedFor, refusal_line}
 use Rattle.pg_session.specs.Streams.{AppendsFront}
 
 -- ---- the text of a run
-
--- how many steps of a run are events
-abbrev pub event_count : List Step → ℕ
-event_count xs = count_by (λ (x : Step). is_some x.event) xs
 
 -- how a run of this many events ended
 abbrev pub end_line : ℕ → Outcome → List ℕ

@@ -14,6 +14,3 @@ pub use refusals::Refusal;
 pub use session::peregrine;
 pub use status::Status;
 pub use streams::{ReadAllFault, read_all, write_all};
-
-#[cfg(test)]
-mod tests;

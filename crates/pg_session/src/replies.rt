@@ -1,5 +1,5 @@
 //! The answer to a program text.
-ghost use Rattle.std.specs.Prelude.{◌≡◌, ◌≤◌, ◌<◌, ◌+◌, ℕ, ℤ, List, length, IfOk, IfSome, IsErrOf};
+ghost use Rattle.std.specs.Prelude.{◌≡◌, ◌≤◌, ◌<◌, ◌+◌, ℕ, ℤ, List, length, IfOk, IfSome, IsErrOf, OnOk};
 ghost use Rattle.pg_io.specs.Faults.{Rose};
 ghost use Rattle.pg_num.specs.declared.limits.TheConstants.{PROGRAM_TEXT_LIMIT, QUANTUM_LIMIT};
 ghost use Rattle.pg_session.specs.Streams.{TakesAtMost};
@@ -84,6 +84,8 @@ pub(crate) fn read_reply<S: Source>(
     ensures reply { IfOk result (λ r.
         IfSome (S.rest src.old) (λ text. IsReply r.status text once.now.quantum once.now.numbers.items r.text.items)) }
     ensures takes { TakesAtMost (S.rest src.old) (S.rest src.new) (PROGRAM_TEXT_LIMIT + 1) }
+    ensures count_stays { OnOk result (S.faults src.new ≡ S.faults src.old) }
+    ensures out_of_memory_count { IsErrOf result NoReply.OutOfMemory → S.faults src.new ≡ S.faults src.old }
     ensures cause { IsErrOf result NoReply.ReadFault → Rose (S.faults src.old) (S.faults src.new) }
     ensures fault_within { IsErrOf result NoReply.ReadFault →
         TakesAtMost (S.rest src.old) (S.rest src.new) PROGRAM_TEXT_LIMIT }

@@ -53,6 +53,8 @@ pub fn peregrine<S: Source, K: Sink>(
         (Rose (S.faults src.old) (S.faults src.new) → ⊥) → (Rose (K.faults out.old) (K.faults out.new) → ⊥) →
         IfSome (S.rest src.old) (λ text. IsRefused text →
         (result ≡ Status.ProgramRefused) ⊎ (result ≡ Status.OutOfMemory)) }
+    ensures read_faults_are_told { (result ≡ Status.ReadFault) ⊎ (S.faults src.new ≡ S.faults src.old) }
+    ensures write_faults_are_told { (result ≡ Status.WriteFault) ⊎ (K.faults out.new ≡ K.faults out.old) }
     ensures takes { TakesAtMost (S.rest src.old) (S.rest src.new) (PROGRAM_TEXT_LIMIT + 1) }
 {
     let once = match command(alloc, words) {

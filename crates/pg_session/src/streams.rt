@@ -21,7 +21,8 @@ pub enum ReadAllFault {
     OutOfMemory,
 }
 
-/// All bytes of a source that has at most `limit` of them. No more than `limit + 1` bytes are taken.
+/// All bytes of a source that has at most `limit` of them. No more than `limit + 1` bytes are taken. A read that
+/// failed is not tried again, so the count of faults rises where the answer is `Failed`, and nowhere else.
 pub fn read_all<S: Source>(
     alloc: Global,
     src: &mut S,
@@ -34,6 +35,9 @@ pub fn read_all<S: Source>(
     ensures too_long { IsErrOf result ReadAllFault.TooLong →
         IfSome (S.rest src.old) (λ text. limit < length text) }
     ensures takes { TakesAtMost (S.rest src.old) (S.rest src.new) (limit + 1) }
+    ensures count_stays { OnOk result (S.faults src.new ≡ S.faults src.old) }
+    ensures too_long_count { IsErrOf result ReadAllFault.TooLong → S.faults src.new ≡ S.faults src.old }
+    ensures out_of_memory_count { IsErrOf result ReadAllFault.OutOfMemory → S.faults src.new ≡ S.faults src.old }
     ensures cause { IsErrOf result ReadAllFault.Failed → Rose (S.faults src.old) (S.faults src.new) }
     ensures fault_within { IsErrOf result ReadAllFault.Failed →
         TakesAtMost (S.rest src.old) (S.rest src.new) limit }
@@ -57,10 +61,11 @@ pub fn read_all<S: Source>(
 }
 
 /// Hands the whole text to the sink, and what it did not take once more. After a write that failed,
-/// a front of the text was taken.
+/// a front of the text was taken. A write that failed is not tried again.
 pub fn write_all<K: Sink>(out: &mut K, text: &[u8]) -> Result<(), Failed>
     ensures written { OnOk result (Appends (K.taken out.old) (K.taken out.new) text.now) }
     ensures cut { OnErr result (AppendsFront (K.taken out.old) (K.taken out.new) text.now) }
+    ensures count_stays { OnOk result (K.faults out.new ≡ K.faults out.old) }
     ensures cause { OnErr result (Rose (K.faults out.old) (K.faults out.new)) }
     ensures count_never_falls { K.faults out.old ≤ K.faults out.new }
 {

@@ -1,19 +1,11 @@
 //! The texts that are written.
 ghost use Rattle.std.specs.Prelude.{◌≡◌, ◌≤◌, IfOk, OnOk, ◌++◌, string_bytes};
 ghost use Rattle.pg_num.specs.declared.limits.TheConstants.{QUANTUM_LIMIT};
-ghost use Rattle.pg_session.specs.Texts.{end_line, event_count, once_text};
+ghost use Rattle.pg_session.specs.Texts.{end_line, once_text};
 
 use pg_ir::Program;
 use pg_machine::{Outcome, Recorded, rotate};
-use pg_trace::Step;
 use std::alloc::{AllocError, Global};
-
-/// How many of these steps are events.
-fn event_count(steps: &[Step]) -> usize
-    ensures { result ≡ event_count steps.now }
-{
-    steps.iter().filter(|step| step.event.is_some()).count()
-}
 
 /// The line that says how a run of this many events ended.
 fn end_line(alloc: Global, events: usize, end: Outcome) -> Result<String, AllocError>
@@ -42,7 +34,7 @@ pub(crate) fn once_text(
     ensures { IfOk result (λ v. v.items ≡ once_text program.now quantum input.now) }
 {
     let Recorded { trace, output, end } = rotate(alloc, program, input, quantum)?;
-    let line = end_line(alloc, event_count(trace.steps()), end)?;
+    let line = end_line(alloc, trace.event_count(), end)?;
     let mut text = output;
     text.extend_from_slice(line.as_bytes())?;
     Ok(text)

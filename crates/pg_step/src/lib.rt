@@ -18,6 +18,3 @@ mod steps;
 pub use action::Action;
 pub use fiber::Fiber;
 pub use region::Region;
-
-#[cfg(test)]
-mod tests;

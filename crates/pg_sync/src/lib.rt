@@ -23,6 +23,3 @@ pub use object::{Entry, Object};
 pub use reply::{Reply, SyncTrap};
 pub use state::SyncState;
 pub use status::{Stage, Status, Waiter};
-
-#[cfg(test)]
-mod tests;

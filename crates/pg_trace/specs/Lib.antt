@@ -1,3 +1,7 @@
+pub mod Cells
 pub mod KindNames
 pub mod Kinds
+pub mod Lists
+pub mod Races
 pub mod Recording
+pub mod Steps

@@ -1,17 +1,17 @@
 //! Steps, turns and schedules, as plain data.
 #![tactic(auto)]
 
+mod cell;
 mod kinds;
+mod lists;
 mod schedule;
 mod step;
 mod trace;
 mod turn;
 
 pub use kinds::{happening_of, kind_of, object_of};
+pub use lists::{InstrIds, Replies, Turns};
 pub use schedule::Schedule;
-pub use step::{Access, Happening, Step};
+pub use step::{Access, Event, Happening, Step, StepKind, Write};
 pub use trace::Trace;
 pub use turn::{Race, Turn, TurnKind};
-
-#[cfg(test)]
-mod tests;

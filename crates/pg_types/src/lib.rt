@@ -4,6 +4,7 @@
 mod cap;
 mod items;
 mod kind;
+pub mod laws;
 mod layout;
 mod literals;
 mod measures;
@@ -24,6 +25,3 @@ pub use resolving::type_number;
 pub use shape::Shape;
 pub use table::TypeTable;
 pub use types::TypeNumbers;
-
-#[cfg(test)]
-mod tests;

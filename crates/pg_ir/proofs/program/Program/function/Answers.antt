@@ -4,4 +4,4 @@ use Rattle.std.proofs.lemmas.Option.{gets}
 use Rattle.pg_ir.proofs.program.Program.function.Goals as goal
 
 pub returns-clause-fits : goal.returns-clause-fits
-returns-clause-fits c = rw (← c.self.view_is) (c.self.invariant.functions c.args.f _ (grind (arith, common_steps, gets)))
+returns-clause-fits c = rw (← c.self.view_is) (c.self.invariant.program.functions c.args.f _ (grind (arith, common_steps, gets)))

@@ -5,4 +5,4 @@ use Rattle.pg_ir.proofs.Globals.{global_fits}
 use Rattle.pg_ir.proofs.program.Program.global.Goals as goal
 
 pub returns-clause-fits : goal.returns-clause-fits
-returns-clause-fits c = global_fits 1 c.self.inside.globals.items c.args.g _ c.self.invariant.globals (grind (arith, common_steps, gets))
+returns-clause-fits c = global_fits 1 c.self.inside.globals.items c.args.g _ c.self.invariant.program.globals (grind (arith, common_steps, gets))

@@ -1,15 +1,15 @@
-use Rattle.std.proofs.Common.{rules, ◌<◌, ◌^◌, ap, length, arith}
+use Rattle.std.proofs.Common.{rules, Ok, refl, ◌<◌, ◌^◌, ap, length, arith}
 use Rattle.pg_machine.specs.State.{next_of}
 use Rattle.pg_machine.proofs.Asks.{may_do, ready_made}
 use Rattle.pg_machine.proofs.Steps.{trapped_is}
-use Rattle.pg_machine.proofs.Goes.{seen, may_go_on, stands, taken_is, taken_more}
+use Rattle.pg_machine.proofs.Goes.{local_is, seen, may_go_on, stands, taken_is, taken_more}
 use Rattle.pg_machine.proofs.state.MachineState.take.Goals as goal
 
 pub answer-requires : goal.answer-requires
 answer-requires c = rw c.requires.next (may_do c.args.p.now c.args.self.now c.args.t.0 c.facts.ensures.holds c.requires.of (ready_made c.args.p.now c.args.self.now c.args.t.0 c.requires.ready) c.requires.ready)
 
-pub advance-requires : goal.advance-requires
-advance-requires c = may_go_on c.args.p.now c.args.input.now c.args.self.now c.answer.new.self c.args.t.0 c.in-Ok.answer c.requires.of c.requires.ready (seen _ _ _ _ _ _ _ _ c.requires.next c.in_ok-name.ensures c.in-Ok.is)
+pub advance-number-requires : goal.advance-number-requires
+advance-number-requires c = may_go_on c.args.p.now c.args.input.now c.args.self.now c.answer.new.self c.args.t.0 c.in-Ok.answer c.requires.of c.requires.ready (seen _ _ _ _ _ _ _ _ c.requires.next c.in_ok-name.ensures c.in-Ok.is)
 
 pub returns-in-Err-clause-trap : goal.returns-in-Err-clause-trap
 returns-in-Err-clause-trap c = trapped_is c.args.p.now c.args.input.now c.args.self.now c.answer.new.self c.args.t.0 c.in-Err.name (next_of c.args.p.now c.args.self.now c.args.t.0) (seen _ _ _ _ _ _ _ _ c.requires.next c.in_ok-name.ensures c.in-Err.is)
@@ -21,12 +21,15 @@ pub returns-in-Err-clause-more : goal.returns-in-Err-clause-more
 returns-in-Err-clause-more c = omega (arith, ap (λ s. length s.locals) (returns-in-Err-clause-trap c))
 
 pub returns-in-Ok-clause-state : goal.returns-in-Ok-clause-state
-returns-in-Ok-clause-state c = rw (c.advance.ensures.state, c.advance.ensures.number) (taken_is c.args.p.now c.args.input.now c.args.self.now c.answer.new.self c.args.t.0 c.in-Ok.answer c.requires.ready (seen _ _ _ _ _ _ _ _ c.requires.next c.in_ok-name.ensures c.in-Ok.is))
+returns-in-Ok-clause-state c = rw c.advance-number.ensures.state (taken_is c.args.p.now c.args.input.now c.args.self.now c.answer.new.self c.args.t.0 c.in-Ok.answer c.requires.ready (seen _ _ _ _ _ _ _ _ c.requires.next c.in_ok-name.ensures c.in-Ok.is))
 
 pub returns-in-Ok-clause-of : goal.returns-in-Ok-clause-of
 returns-in-Ok-clause-of c =
     let small : c.in-Ok.answer < 2 ^ 64 = search rules in
-    rw c.advance.ensures.state (stands c.args.p.now c.args.input.now c.args.self.now c.answer.new.self c.args.t.0 c.in-Ok.answer c.facts.ensures.holds c.requires.of c.requires.ready small (seen _ _ _ _ _ _ _ _ c.requires.next c.in_ok-name.ensures c.in-Ok.is))
+    rw c.advance-number.ensures.state (stands c.args.p.now c.args.input.now c.args.self.now c.answer.new.self c.args.t.0 c.in-Ok.answer c.facts.ensures.holds c.requires.of c.requires.ready small (seen _ _ _ _ _ _ _ _ c.requires.next c.in_ok-name.ensures c.in-Ok.is))
 
 pub returns-in-Ok-clause-more : goal.returns-in-Ok-clause-more
-returns-in-Ok-clause-more c = rw c.advance.ensures.state (taken_more c.args.p.now c.args.input.now c.args.self.now c.answer.new.self c.args.t.0 c.in-Ok.answer (seen _ _ _ _ _ _ _ _ c.requires.next c.in_ok-name.ensures c.in-Ok.is))
+returns-in-Ok-clause-more c = rw c.advance-number.ensures.state (taken_more c.args.p.now c.args.input.now c.args.self.now c.answer.new.self c.args.t.0 c.in-Ok.answer (seen _ _ _ _ _ _ _ _ c.requires.next c.in_ok-name.ensures c.in-Ok.is))
+
+pub returns-in-Ok-clause-number : goal.returns-in-Ok-clause-number
+returns-in-Ok-clause-number c = rw (c.advance-number.ensures.number, local_is c.args.p.now c.args.input.now c.args.self.now c.answer.new.self c.args.t.0 (Ok c.in-Ok.answer) c.requires.ready (seen _ _ _ _ _ _ _ _ c.requires.next c.in_ok-name.ensures c.in-Ok.is)) refl

@@ -1,0 +1,17 @@
+pub mod Agrees
+pub mod Along
+pub mod Apart
+pub mod Bytes
+pub mod Cross
+pub mod Effects
+pub mod Few
+pub mod FullEnds
+pub mod FullGuides
+pub mod Gating
+pub mod Permits
+pub mod Reaches
+pub mod Seen
+pub mod SmallActions
+pub mod Tells
+pub mod Threads
+pub mod Walks

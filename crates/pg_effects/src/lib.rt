@@ -1,0 +1,9 @@
+//! Laws on what the steps of the machine do, and on its runs: nothing here runs.
+#![tactic(auto)]
+
+pub mod gates;
+pub mod laws;
+pub mod permitted;
+pub mod reached;
+pub mod runs;
+pub mod views;
