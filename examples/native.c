@@ -1,5 +1,5 @@
 /* The calls of a program's input and output, so that an example can be built and run natively:
-   cc -o counter counter.c native.c -lpthread && ./counter 3 5 */
+   cc -Dmain=program -c counter.c && cc -o counter counter.o native.c -lpthread && ./counter 3 5 */
 #include <inttypes.h>
 #include <stdio.h>
 #include <stdlib.h>

@@ -1,0 +1,3 @@
+/* The bank without its locks. */
+#define RACY
+#include "bank.c"

@@ -1,0 +1,5 @@
+#include "peregrine.h"
+#include <assert.h>
+int main(void) {
+assert(pg_in(0) == 0); pg_out(1); return 0;
+}

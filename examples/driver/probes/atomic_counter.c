@@ -1,0 +1,5 @@
+#include "peregrine.h"
+#include <stdatomic.h>
+int main(void) {
+atomic_long n = 0; n++; pg_out(n); return 0;
+}

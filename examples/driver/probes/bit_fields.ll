@@ -1,0 +1,55 @@
+; ModuleID = 'driver/probes/bit_fields.c'
+source_filename = "driver/probes/bit_fields.c"
+target datalayout = "e-m:e-p270:32:32-p271:32:32-p272:64:64-i64:64-f80:128-n8:16:32:64-S128"
+target triple = "x86_64-pc-linux-gnu"
+
+%struct.s = type { i16, [2 x i8] }
+
+@__const.main.x = private unnamed_addr constant { i8, i8, [2 x i8] } { i8 0, i8 0, [2 x i8] undef }, align 4
+
+; Function Attrs: noinline nounwind optnone uwtable
+define dso_local i32 @main() #0 {
+  %1 = alloca i32, align 4
+  %2 = alloca %struct.s, align 4
+  store i32 0, ptr %1, align 4
+  call void @llvm.memcpy.p0.p0.i64(ptr align 4 %2, ptr align 4 @__const.main.x, i64 4, i1 false)
+  %3 = load i16, ptr %2, align 4
+  %4 = and i16 %3, -8
+  %5 = or i16 %4, 5
+  store i16 %5, ptr %2, align 4
+  %6 = load i16, ptr %2, align 4
+  %7 = and i16 %6, -121
+  %8 = or i16 %7, 24
+  store i16 %8, ptr %2, align 4
+  %9 = load i16, ptr %2, align 4
+  %10 = and i16 %9, 7
+  %11 = zext i16 %10 to i32
+  %12 = mul nsw i32 %11, 10
+  %13 = load i16, ptr %2, align 4
+  %14 = lshr i16 %13, 3
+  %15 = and i16 %14, 15
+  %16 = zext i16 %15 to i32
+  %17 = add nsw i32 %12, %16
+  %18 = sext i32 %17 to i64
+  call void @pg_out(i64 noundef %18)
+  ret i32 0
+}
+
+; Function Attrs: nocallback nofree nounwind willreturn memory(argmem: readwrite)
+declare void @llvm.memcpy.p0.p0.i64(ptr noalias nocapture writeonly, ptr noalias nocapture readonly, i64, i1 immarg) #1
+
+declare void @pg_out(i64 noundef) #2
+
+attributes #0 = { noinline nounwind optnone uwtable "frame-pointer"="all" "min-legal-vector-width"="0" "no-trapping-math"="true" "stack-protector-buffer-size"="8" "target-cpu"="x86-64" "target-features"="+cx8,+fxsr,+mmx,+sse,+sse2,+x87" "tune-cpu"="generic" }
+attributes #1 = { nocallback nofree nounwind willreturn memory(argmem: readwrite) }
+attributes #2 = { "frame-pointer"="all" "no-trapping-math"="true" "stack-protector-buffer-size"="8" "target-cpu"="x86-64" "target-features"="+cx8,+fxsr,+mmx,+sse,+sse2,+x87" "tune-cpu"="generic" }
+
+!llvm.module.flags = !{!0, !1, !2, !3, !4}
+!llvm.ident = !{!5}
+
+!0 = !{i32 1, !"wchar_size", i32 4}
+!1 = !{i32 8, !"PIC Level", i32 2}
+!2 = !{i32 7, !"PIE Level", i32 2}
+!3 = !{i32 7, !"uwtable", i32 2}
+!4 = !{i32 7, !"frame-pointer", i32 2}
+!5 = !{!"Debian clang version 16.0.6 (15~deb12u1)"}

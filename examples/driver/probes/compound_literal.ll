@@ -1,0 +1,40 @@
+; ModuleID = 'driver/probes/compound_literal.c'
+source_filename = "driver/probes/compound_literal.c"
+target datalayout = "e-m:e-p270:32:32-p271:32:32-p272:64:64-i64:64-f80:128-n8:16:32:64-S128"
+target triple = "x86_64-pc-linux-gnu"
+
+%struct.s = type { i32, i32 }
+
+; Function Attrs: noinline nounwind optnone uwtable
+define dso_local i32 @main() #0 {
+  %1 = alloca i32, align 4
+  %2 = alloca ptr, align 8
+  %3 = alloca %struct.s, align 4
+  store i32 0, ptr %1, align 4
+  %4 = getelementptr inbounds %struct.s, ptr %3, i32 0, i32 0
+  store i32 1, ptr %4, align 4
+  %5 = getelementptr inbounds %struct.s, ptr %3, i32 0, i32 1
+  store i32 2, ptr %5, align 4
+  store ptr %3, ptr %2, align 8
+  %6 = load ptr, ptr %2, align 8
+  %7 = getelementptr inbounds %struct.s, ptr %6, i32 0, i32 1
+  %8 = load i32, ptr %7, align 4
+  %9 = sext i32 %8 to i64
+  call void @pg_out(i64 noundef %9)
+  ret i32 0
+}
+
+declare void @pg_out(i64 noundef) #1
+
+attributes #0 = { noinline nounwind optnone uwtable "frame-pointer"="all" "min-legal-vector-width"="0" "no-trapping-math"="true" "stack-protector-buffer-size"="8" "target-cpu"="x86-64" "target-features"="+cx8,+fxsr,+mmx,+sse,+sse2,+x87" "tune-cpu"="generic" }
+attributes #1 = { "frame-pointer"="all" "no-trapping-math"="true" "stack-protector-buffer-size"="8" "target-cpu"="x86-64" "target-features"="+cx8,+fxsr,+mmx,+sse,+sse2,+x87" "tune-cpu"="generic" }
+
+!llvm.module.flags = !{!0, !1, !2, !3, !4}
+!llvm.ident = !{!5}
+
+!0 = !{i32 1, !"wchar_size", i32 4}
+!1 = !{i32 8, !"PIC Level", i32 2}
+!2 = !{i32 7, !"PIE Level", i32 2}
+!3 = !{i32 7, !"uwtable", i32 2}
+!4 = !{i32 7, !"frame-pointer", i32 2}
+!5 = !{!"Debian clang version 16.0.6 (15~deb12u1)"}

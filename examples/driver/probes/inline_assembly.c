@@ -1,0 +1,5 @@
+#include "peregrine.h"
+
+int main(void) {
+__asm__("nop"); return 0;
+}

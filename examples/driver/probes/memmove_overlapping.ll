@@ -1,0 +1,68 @@
+; ModuleID = 'driver/probes/memmove_overlapping.c'
+source_filename = "driver/probes/memmove_overlapping.c"
+target datalayout = "e-m:e-p270:32:32-p271:32:32-p272:64:64-i64:64-f80:128-n8:16:32:64-S128"
+target triple = "x86_64-pc-linux-gnu"
+
+@__const.main.b = private unnamed_addr constant [7 x i8] c"abcdef\00", align 1
+
+; Function Attrs: noinline nounwind optnone uwtable
+define dso_local i32 @main() #0 {
+  %1 = alloca i32, align 4
+  %2 = alloca [7 x i8], align 1
+  %3 = alloca i32, align 4
+  store i32 0, ptr %1, align 4
+  call void @llvm.memcpy.p0.p0.i64(ptr align 1 %2, ptr align 1 @__const.main.b, i64 7, i1 false)
+  %4 = getelementptr inbounds [7 x i8], ptr %2, i64 0, i64 0
+  %5 = getelementptr inbounds i8, ptr %4, i64 1
+  %6 = getelementptr inbounds [7 x i8], ptr %2, i64 0, i64 0
+  call void @llvm.memmove.p0.p0.i64(ptr align 1 %5, ptr align 1 %6, i64 5, i1 false)
+  store i32 0, ptr %3, align 4
+  br label %7
+
+7:                                                ; preds = %16, %0
+  %8 = load i32, ptr %3, align 4
+  %9 = icmp slt i32 %8, 6
+  br i1 %9, label %10, label %19
+
+10:                                               ; preds = %7
+  %11 = load i32, ptr %3, align 4
+  %12 = sext i32 %11 to i64
+  %13 = getelementptr inbounds [7 x i8], ptr %2, i64 0, i64 %12
+  %14 = load i8, ptr %13, align 1
+  %15 = sext i8 %14 to i64
+  call void @pg_out(i64 noundef %15)
+  br label %16
+
+16:                                               ; preds = %10
+  %17 = load i32, ptr %3, align 4
+  %18 = add nsw i32 %17, 1
+  store i32 %18, ptr %3, align 4
+  br label %7, !llvm.loop !6
+
+19:                                               ; preds = %7
+  ret i32 0
+}
+
+; Function Attrs: nocallback nofree nounwind willreturn memory(argmem: readwrite)
+declare void @llvm.memcpy.p0.p0.i64(ptr noalias nocapture writeonly, ptr noalias nocapture readonly, i64, i1 immarg) #1
+
+; Function Attrs: nocallback nofree nounwind willreturn memory(argmem: readwrite)
+declare void @llvm.memmove.p0.p0.i64(ptr nocapture writeonly, ptr nocapture readonly, i64, i1 immarg) #1
+
+declare void @pg_out(i64 noundef) #2
+
+attributes #0 = { noinline nounwind optnone uwtable "frame-pointer"="all" "min-legal-vector-width"="0" "no-trapping-math"="true" "stack-protector-buffer-size"="8" "target-cpu"="x86-64" "target-features"="+cx8,+fxsr,+mmx,+sse,+sse2,+x87" "tune-cpu"="generic" }
+attributes #1 = { nocallback nofree nounwind willreturn memory(argmem: readwrite) }
+attributes #2 = { "frame-pointer"="all" "no-trapping-math"="true" "stack-protector-buffer-size"="8" "target-cpu"="x86-64" "target-features"="+cx8,+fxsr,+mmx,+sse,+sse2,+x87" "tune-cpu"="generic" }
+
+!llvm.module.flags = !{!0, !1, !2, !3, !4}
+!llvm.ident = !{!5}
+
+!0 = !{i32 1, !"wchar_size", i32 4}
+!1 = !{i32 8, !"PIC Level", i32 2}
+!2 = !{i32 7, !"PIE Level", i32 2}
+!3 = !{i32 7, !"uwtable", i32 2}
+!4 = !{i32 7, !"frame-pointer", i32 2}
+!5 = !{!"Debian clang version 16.0.6 (15~deb12u1)"}
+!6 = distinct !{!6, !7}
+!7 = !{!"llvm.loop.mustprogress"}

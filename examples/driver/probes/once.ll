@@ -1,0 +1,43 @@
+; ModuleID = 'driver/probes/once.c'
+source_filename = "driver/probes/once.c"
+target datalayout = "e-m:e-p270:32:32-p271:32:32-p272:64:64-i64:64-f80:128-n8:16:32:64-S128"
+target triple = "x86_64-pc-linux-gnu"
+
+@o = internal global i32 0, align 4
+@n = internal global i64 0, align 8
+
+; Function Attrs: noinline nounwind optnone uwtable
+define dso_local i32 @main() #0 {
+  %1 = alloca i32, align 4
+  store i32 0, ptr %1, align 4
+  %2 = call i32 @pthread_once(ptr noundef @o, ptr noundef @f)
+  %3 = call i32 @pthread_once(ptr noundef @o, ptr noundef @f)
+  %4 = load i64, ptr @n, align 8
+  call void @pg_out(i64 noundef %4)
+  ret i32 0
+}
+
+declare i32 @pthread_once(ptr noundef, ptr noundef) #1
+
+; Function Attrs: noinline nounwind optnone uwtable
+define internal void @f() #0 {
+  %1 = load i64, ptr @n, align 8
+  %2 = add nsw i64 %1, 1
+  store i64 %2, ptr @n, align 8
+  ret void
+}
+
+declare void @pg_out(i64 noundef) #1
+
+attributes #0 = { noinline nounwind optnone uwtable "frame-pointer"="all" "min-legal-vector-width"="0" "no-trapping-math"="true" "stack-protector-buffer-size"="8" "target-cpu"="x86-64" "target-features"="+cx8,+fxsr,+mmx,+sse,+sse2,+x87" "tune-cpu"="generic" }
+attributes #1 = { "frame-pointer"="all" "no-trapping-math"="true" "stack-protector-buffer-size"="8" "target-cpu"="x86-64" "target-features"="+cx8,+fxsr,+mmx,+sse,+sse2,+x87" "tune-cpu"="generic" }
+
+!llvm.module.flags = !{!0, !1, !2, !3, !4}
+!llvm.ident = !{!5}
+
+!0 = !{i32 1, !"wchar_size", i32 4}
+!1 = !{i32 8, !"PIC Level", i32 2}
+!2 = !{i32 7, !"PIE Level", i32 2}
+!3 = !{i32 7, !"uwtable", i32 2}
+!4 = !{i32 7, !"frame-pointer", i32 2}
+!5 = !{!"Debian clang version 16.0.6 (15~deb12u1)"}

@@ -1,0 +1,5 @@
+#include <stdio.h>
+
+int main(void) {
+int n = printf("abc\n"); printf("%d\n", n); return 0;
+}

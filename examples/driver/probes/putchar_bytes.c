@@ -1,0 +1,5 @@
+#include <stdio.h>
+
+int main(void) {
+putchar('o'); putchar('k'); putchar(10); return 0;
+}

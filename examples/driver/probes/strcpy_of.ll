@@ -1,0 +1,54 @@
+; ModuleID = 'driver/probes/strcpy_of.c'
+source_filename = "driver/probes/strcpy_of.c"
+target datalayout = "e-m:e-p270:32:32-p271:32:32-p272:64:64-i64:64-f80:128-n8:16:32:64-S128"
+target triple = "x86_64-pc-linux-gnu"
+
+@.str = private unnamed_addr constant [3 x i8] c"ab\00", align 1
+@.str.1 = private unnamed_addr constant [3 x i8] c"cd\00", align 1
+
+; Function Attrs: noinline nounwind optnone uwtable
+define dso_local i32 @main() #0 {
+  %1 = alloca i32, align 4
+  %2 = alloca [16 x i8], align 16
+  store i32 0, ptr %1, align 4
+  %3 = getelementptr inbounds [16 x i8], ptr %2, i64 0, i64 0
+  %4 = call ptr @strcpy(ptr noundef %3, ptr noundef @.str) #4
+  %5 = getelementptr inbounds [16 x i8], ptr %2, i64 0, i64 0
+  %6 = call ptr @strcat(ptr noundef %5, ptr noundef @.str.1) #4
+  %7 = getelementptr inbounds [16 x i8], ptr %2, i64 0, i64 0
+  %8 = call i64 @strlen(ptr noundef %7) #5
+  call void @pg_out(i64 noundef %8)
+  %9 = getelementptr inbounds [16 x i8], ptr %2, i64 0, i64 3
+  %10 = load i8, ptr %9, align 1
+  %11 = sext i8 %10 to i64
+  call void @pg_out(i64 noundef %11)
+  ret i32 0
+}
+
+; Function Attrs: nounwind
+declare ptr @strcpy(ptr noundef, ptr noundef) #1
+
+; Function Attrs: nounwind
+declare ptr @strcat(ptr noundef, ptr noundef) #1
+
+declare void @pg_out(i64 noundef) #2
+
+; Function Attrs: nounwind willreturn memory(read)
+declare i64 @strlen(ptr noundef) #3
+
+attributes #0 = { noinline nounwind optnone uwtable "frame-pointer"="all" "min-legal-vector-width"="0" "no-trapping-math"="true" "stack-protector-buffer-size"="8" "target-cpu"="x86-64" "target-features"="+cx8,+fxsr,+mmx,+sse,+sse2,+x87" "tune-cpu"="generic" }
+attributes #1 = { nounwind "frame-pointer"="all" "no-trapping-math"="true" "stack-protector-buffer-size"="8" "target-cpu"="x86-64" "target-features"="+cx8,+fxsr,+mmx,+sse,+sse2,+x87" "tune-cpu"="generic" }
+attributes #2 = { "frame-pointer"="all" "no-trapping-math"="true" "stack-protector-buffer-size"="8" "target-cpu"="x86-64" "target-features"="+cx8,+fxsr,+mmx,+sse,+sse2,+x87" "tune-cpu"="generic" }
+attributes #3 = { nounwind willreturn memory(read) "frame-pointer"="all" "no-trapping-math"="true" "stack-protector-buffer-size"="8" "target-cpu"="x86-64" "target-features"="+cx8,+fxsr,+mmx,+sse,+sse2,+x87" "tune-cpu"="generic" }
+attributes #4 = { nounwind }
+attributes #5 = { nounwind willreturn memory(read) }
+
+!llvm.module.flags = !{!0, !1, !2, !3, !4}
+!llvm.ident = !{!5}
+
+!0 = !{i32 1, !"wchar_size", i32 4}
+!1 = !{i32 8, !"PIC Level", i32 2}
+!2 = !{i32 7, !"PIE Level", i32 2}
+!3 = !{i32 7, !"uwtable", i32 2}
+!4 = !{i32 7, !"frame-pointer", i32 2}
+!5 = !{!"Debian clang version 16.0.6 (15~deb12u1)"}

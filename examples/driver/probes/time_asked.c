@@ -1,0 +1,5 @@
+#include "peregrine.h"
+#include <time.h>
+int main(void) {
+pg_out(time(0)); return 0;
+}
