@@ -1,0 +1,95 @@
+//! Command lines and what they are.
+
+use pg_command::command;
+use std::alloc::{AllocError, Global};
+use std::test::Fail;
+
+fn texts(alloc: Global, words: &[&str]) -> Result<Vec<String>, AllocError> {
+    let mut all = Vec::new(alloc);
+    for word in words {
+        all.push(String::from_str(alloc, word)?)?;
+    }
+    Ok(all)
+}
+
+#[test]
+fn command_lines(rt: HostRuntime) -> Result<(), Fail> {
+    let rows: [(&[&str], Option<(u32, &[i64])>); 40] = [
+        (&["once", "3", "5"], Some((100, &[3, 5]))),
+        (&["once", "--quantum", "1", "1"], Some((1, &[1]))),
+        (&["serve"], None),
+        (&["once", "-5"], None),
+        (&["once", "1", "--quantum", "0"], None),
+        (&["once"], Some((100, &[]))),
+        (&["once", "--", "-5"], Some((100, &[-5]))),
+        (
+            &["once", "--quantum=7", "1", "--", "-2"],
+            Some((7, &[1, -2])),
+        ),
+        (&["once", "1", "--quantum", "5", "2"], Some((5, &[1, 2]))),
+        (
+            &["once", "1", "2", "--quantum=10000"],
+            Some((10_000, &[1, 2])),
+        ),
+        (
+            &["once", "--quantum=007", "007", "--", "-0"],
+            Some((7, &[7, 0])),
+        ),
+        (&["once", "1", "--"], Some((100, &[1]))),
+        (
+            &["once", "--", "9223372036854775807", "-9223372036854775808"],
+            Some((100, &[i64::MAX, i64::MIN])),
+        ),
+        (&["once", "--quantum"], None),
+        (&["once", "1", "--quantum"], None),
+        (&["once", "--quantum", "--", "5"], None),
+        (&["once", "--quantum", "-5"], None),
+        (&["once", "--quantum="], None),
+        (&["once", "--quantum", "5", "--quantum", "6"], None),
+        (&["once", "--quantum=5", "1", "--quantum=5"], None),
+        (&["once", "--quantum", "10001"], None),
+        (&["once", "--quantum", "+5"], None),
+        (&["once", "--", "--quantum", "5"], None),
+        (&["once", "--", "--"], None),
+        (&["once", "1", "--", "2", "--", "3"], None),
+        (&["--quantum", "5", "once"], None),
+        (&["--", "once"], None),
+        (&["once", "-"], None),
+        (&["once", ""], None),
+        (&["once", "+1"], None),
+        (&["once", "1 2"], None),
+        (&["once", "99999999999999999999"], None),
+        (&["once", "9223372036854775808"], None),
+        (&["once", "--", "-9223372036854775809"], None),
+        (&["once", "--help"], None),
+        (&["once", "--quant", "5"], None),
+        (&["once", "--quantum5"], None),
+        (&["once", "-q", "5"], None),
+        (&["once", "once"], None),
+        (&[], None),
+    ];
+    for (words, want) in rows {
+        let words = texts(rt.alloc(), words)?;
+        match command(rt.alloc(), &words)? {
+            Some(once) => assert_eq!(rt; Some((once.quantum, once.numbers.as_slice())), want),
+            None => assert!(rt; want.is_none()),
+        }
+    }
+    Ok(())
+}
+
+#[test]
+fn how_many_numbers(rt: HostRuntime) -> Result<(), Fail> {
+    let rows: [(usize, bool); 4] = [(0, true), (511, true), (512, true), (513, false)];
+    for (count, is_command) in rows {
+        let mut words = texts(rt.alloc(), &["once", "--"])?;
+        for _ in 0..count {
+            words.push(String::from_str(rt.alloc(), "1")?)?;
+        }
+        match command(rt.alloc(), &words)? {
+            Some(once) => assert!(rt; is_command && once.numbers.len() == count),
+            None => assert!(rt; !is_command),
+        }
+    }
+    Ok(())
+}

@@ -1,0 +1,7 @@
+//! Tests of the top call, and of what it reads and writes with.
+#![tactic(auto)]
+
+#[cfg(test)]
+mod session;
+#[cfg(test)]
+mod streams;
