@@ -36,6 +36,17 @@ pub fn same(n: u8) -> u8
     copy
 }
 
+/// What `stepped` adds.
+pub const STEP: u8 = 1;
+
+/// One step more.
+pub fn stepped(n: u8) -> u8
+    requires { n ≤ 100 }
+    ensures { result ≡ n + 1 }
+{
+    n + STEP
+}
+
 /// Twice as much.
 pub fn twice(n: u8) -> u8
     requires { n ≤ 100 }
@@ -46,7 +57,11 @@ pub fn twice(n: u8) -> u8
 """
 
 # each edit, by name: its old and its new text
-REFUSED = {"a_wrong_body": ("    n + 1", "    n")}
+REFUSED = {
+    "a_wrong_body": ("    n + 1", "    n"),
+    "a_wrong_constant": ("STEP: u8 = 1;", "STEP: u8 = 2;"),
+    "a_wrong_contract": ("ensures { result ≡ n + n }", "ensures { result ≡ n }"),
+}
 FAILED = {
     "it_changes_nothing": ("let copy = n;", "let copy = n;"),
     "it_is_a_correct_body": ("next(next(n))", "next(n) + 1"),
