@@ -1,5 +1,6 @@
 pub mod Actions
 pub mod Asks
+pub mod Completed
 pub mod Dues
 pub mod Effects
 pub mod FitActions

@@ -1,5 +1,6 @@
 pub mod Answer
 pub mod Bound
+pub mod Completed
 pub mod Filled
 pub mod Fits
 pub mod Follow

@@ -39,6 +39,7 @@ impl MachineState {
         ensures number { IfOk result (λ r. IfOk r (λ a. a.number ≡ number_in p.now (slice_get self.old.locals t.0) a.answer)) }
         ensures of { OnOk result (IsMachine p.now self.new) }
         ensures trap { IfOk result (λ r. OnErr r (self.new ≡ self.old)) }
+        ensures kept { OnErr result (self.new ≡ self.old) }
         ensures more { OnOk result (length self.old.locals ≤ length self.new.locals) }
     {
         p.facts();
@@ -66,6 +67,7 @@ impl MachineState {
         ensures step { IfOk result (λ r. stepped_as r self.new ≡ step gated.now p.now input.now self.old t.0) }
         ensures of { OnOk result (IsMachine p.now self.new) }
         ensures trap { IfOk result (λ r. IfTrapped r (self.new ≡ self.old)) }
+        ensures kept { OnErr result (self.new ≡ self.old) }
         ensures more { OnOk result (length self.old.locals ≤ length self.new.locals) }
     {
         let action = self.next(p, t);

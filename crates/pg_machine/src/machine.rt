@@ -1,4 +1,4 @@
-ghost use Rattle.std.specs.Prelude.{◌≡◌, ◌≤◌, length, true, IfOk, OnOk};
+ghost use Rattle.std.specs.Prelude.{◌≡◌, ◌≤◌, length, true, IfOk, OnErr, OnOk};
 ghost use Rattle.std.specs.List.{All};
 ghost use Rattle.pg_step.specs.States.{IsOf};
 ghost use Rattle.pg_machine.specs.State.{exit_value_of, initial, next_of};
@@ -100,8 +100,8 @@ impl Machine {
         self.state.ready(p, t)
     }
 
-    /// Takes the next step of a thread that is ready: one instruction of one thread. Where it traps
-    /// the machine is as before.
+    /// Takes the next step of a thread that is ready: one instruction of one thread. Where it traps,
+    /// and where no memory is left for it, the machine is as before.
     ///
     /// # Errors
     ///
@@ -112,6 +112,7 @@ impl Machine {
         ensures step { IfOk result (λ r. stepped_as r self.new.state ≡ step self.old.gated p.now self.old.input self.old.state t.0) }
         ensures of { OnOk result (IsMachine p.now self.new.state) }
         ensures trap { IfOk result (λ r. IfTrapped r (self.new ≡ self.old)) }
+        ensures kept { OnErr result (self.new ≡ self.old) }
         ensures input { self.new.input ≡ self.old.input }
         ensures gated { self.new.gated ≡ self.old.gated }
     {
