@@ -1,5 +1,9 @@
+pub mod Along
+pub mod Advances
 pub mod Computed
 pub mod Named
+pub mod Ties
+pub mod ComputedSteps
 pub mod Goes
 pub mod Stacks
 pub mod Leaves

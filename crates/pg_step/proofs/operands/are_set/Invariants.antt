@@ -2,7 +2,7 @@ use Rattle.std.proofs.Common.{◌≡◌, length, drop}
 use Rattle.std.specs.List.{AllByRecursion}
 use Rattle.pg_ir.specs.Operands.{CanRead}
 use Rattle.pg_step.specs.Step.{are_set}
-use Rattle.pg_step.proofs.operands.have_values.Given as goal
+use Rattle.pg_step.proofs.operands.are_set.Given as goal
 
 abbrev pub invariant-loop-arg : goal.invariant-loop-arg
 invariant-loop-arg l = record {
