@@ -1,8 +1,6 @@
 -- The step of an instruction that only computes, by what it computes.
 use Rattle.std.proofs.Common.{◌≡◌, ℕ, ◌<◌, length, true, false, Some, None, refl, sym, ap, ◌∙◌}
 use Rattle.std.specs.Prelude.{slice_get}
-use Rattle.pg_ir.specs.declared.instr.Op.{Op}
-use Rattle.pg_ir.specs.declared.instr.Op.TheVariants as op
 use Rattle.pg_ir.specs.declared.instr.Instr.{Instr}
 use Rattle.pg_ir.specs.Program.{NumberedProgram}
 use Rattle.pg_step.specs.declared.action.Action.{Action}
@@ -12,25 +10,14 @@ use Rattle.pg_step.specs.Operands.{argument, operands_of}
 use Rattle.pg_step.specs.Compute.{computed_if, computes}
 use Rattle.pg_step.specs.Step.{next, after, if_local, result_number, on_top, stepped, top_registers, total}
 use Rattle.pg_step.specs.Told.{id_of}
-use Rattle.pg_step.specs.Needs.{IsStraight}
 use Rattle.pg_step.proofs.Nexts.{next_at}
 use Rattle.pg_step.proofs.Afters.{after_at}
 use Rattle.pg_step.proofs.Straight.{straight_state}
-use Rattle.pg_step.proofs.Ties.{tie}
+use Rattle.pg_step.proofs.Ties.{tie, computes_straight}
 
 local_some : (a : Action) (m n : ℕ) → if_local a m ≡ Some n → (a ≡ actions.Local) × (m ≡ n)
 local_some actions.Local m n e = (refl, cc)
 local_some a m n e = absurd cc
-
-computes_straight : (o : Op) → computes o ≡ true → IsStraight o
-computes_straight (op.Br to) h = absurd cc
-computes_straight (op.CondBr c a b) h = absurd cc
-computes_straight (op.Switch w on other cases) h = absurd cc
-computes_straight (op.Call g args) h = absurd cc
-computes_straight (op.Ret v) h = absurd cc
-computes_straight (op.Alloca bytes) h = absurd cc
-computes_straight (op.CallKnown k args) h = absurd cc
-computes_straight o h = tt
 
 tie_at : (p : NumberedProgram) (l : LocalState) (x : Instr) (answer : ℕ) → l.begun ≡ true → 0 < length l.frames → slice_get p.instrs (id_of l) ≡ Some x → computes x.op ≡ true → computed_if x.op (argument p (top_registers l.frames) (operands_of x.op)) ≡ if_local (next p l) (result_number p (region_of l) (top_registers l.frames) x.op answer)
 tie_at p l x answer b g e h =

@@ -19,7 +19,7 @@ use Rattle.pg_step.specs.Operands.{operand, argument, given, number_at, operands
 use Rattle.pg_step.specs.Compute.{computed_if, computes, with_value, with_values, index_bytes, quotient_of, quotient_or_zero}
 use Rattle.pg_step.specs.EdgeStep.{is_set}
 use Rattle.pg_step.specs.Step.{if_local, on_value, are_set, divided_action, op_action, result_number, instr_after, on_top, stepped, top_registers, total}
-use Rattle.pg_step.specs.Needs.{moved_each, moved_each_if, IsPlain, IsStraight}
+use Rattle.pg_step.specs.Needs.{moved_each, moved_each_if, IsStraight}
 use Rattle.pg_step.specs.declared.advance.Advance.TheVariants.{Done, Asks}
 use Rattle.pg_step.specs.declared.advance.LocalStep.{LocalStep}
 use Rattle.pg_step.specs.declared.advance.LocalStep.TheVariants as told
@@ -93,99 +93,49 @@ tie p r halfway rs depth used block answer (op.Gep base indices) h =
     ∙ ap (if_local (op_action p r halfway rs depth used block (op.Gep base indices))) (sym (along_operands p rs (given (operand p rs base)) base indices))
 tie p r halfway rs depth used block answer o h = absurd cc
 
--- ---- operations that only compute, and have no trap of their own
+-- ---- where an operation computes a number, the step is done with it; else it asks
 
-plain_computes : (o : Op) → IsPlain o → computes o ≡ true
-plain_computes (op.Add w a b) h = refl
-plain_computes (op.Sub w a b) h = refl
-plain_computes (op.Mul w a b) h = refl
-plain_computes (op.Shift s w a b) h = refl
-plain_computes (op.Bits k w a b) h = refl
-plain_computes (op.Compare c w a b) h = refl
-plain_computes (op.Trunc from to v) h = refl
-plain_computes (op.Zext from to v) h = refl
-plain_computes (op.Sext from to v) h = refl
-plain_computes (op.PtrToInt from to v) h = refl
-plain_computes (op.IntToPtr from to v) h = refl
-plain_computes (op.Select c a b) h = refl
-plain_computes (op.Gep base indices) h = refl
-plain_computes o h = absurd h
+local_some : (a : Action) (m n : ℕ) → if_local a m ≡ Some n → (a ≡ actions.Local) × (m ≡ n)
+local_some actions.Local m n e = (refl, cc)
+local_some a m n e = absurd cc
 
-plain_straight : (o : Op) → IsPlain o → IsStraight o
-plain_straight (op.Add w a b) h = tt
-plain_straight (op.Sub w a b) h = tt
-plain_straight (op.Mul w a b) h = tt
-plain_straight (op.Shift s w a b) h = tt
-plain_straight (op.Bits k w a b) h = tt
-plain_straight (op.Compare c w a b) h = tt
-plain_straight (op.Trunc from to v) h = tt
-plain_straight (op.Zext from to v) h = tt
-plain_straight (op.Sext from to v) h = tt
-plain_straight (op.PtrToInt from to v) h = tt
-plain_straight (op.IntToPtr from to v) h = tt
-plain_straight (op.Select c a b) h = tt
-plain_straight (op.Gep base indices) h = tt
-plain_straight o h = absurd h
+asked : (a : Action) (m : ℕ) (l next_l : LocalState) (t : LocalStep) → if_local a m ≡ None → done_if a l next_l t ≡ (l, Asks a)
+asked actions.Local m l next_l t e = absurd cc
+asked a m l next_l t e = refl
 
-plain_told : (first number : ℕ) (o : Op) → IsPlain o → op_local first number o ≡ told.Other
-plain_told first number (op.Add w a b) h = refl
-plain_told first number (op.Sub w a b) h = refl
-plain_told first number (op.Mul w a b) h = refl
-plain_told first number (op.Shift s w a b) h = refl
-plain_told first number (op.Bits k w a b) h = refl
-plain_told first number (op.Compare c w a b) h = refl
-plain_told first number (op.Trunc from to v) h = refl
-plain_told first number (op.Zext from to v) h = refl
-plain_told first number (op.Sext from to v) h = refl
-plain_told first number (op.PtrToInt from to v) h = refl
-plain_told first number (op.IntToPtr from to v) h = refl
-plain_told first number (op.Select c a b) h = refl
-plain_told first number (op.Gep base indices) h = refl
-plain_told first number o h = absurd h
+pub computes_straight : (o : Op) → computes o ≡ true → IsStraight o
+computes_straight (op.Br to) h = absurd cc
+computes_straight (op.CondBr c a b) h = absurd cc
+computes_straight (op.Switch w on other cases) h = absurd cc
+computes_straight (op.Call g args) h = absurd cc
+computes_straight (op.Ret v) h = absurd cc
+computes_straight (op.Alloca bytes) h = absurd cc
+computes_straight (op.CallKnown k args) h = absurd cc
+computes_straight o h = tt
 
-plain_action : (p : NumberedProgram) (r : Region) (halfway : Bool) (rs : List (Option ℕ)) (depth used block : ℕ) (o : Op) → IsPlain o → op_action p r halfway rs depth used block o ≡ (if are_set p rs (operands_of o) then actions.Local else actions.Trap traps.Unset)
-plain_action p r halfway rs depth used block (op.Add w a b) h = refl
-plain_action p r halfway rs depth used block (op.Sub w a b) h = refl
-plain_action p r halfway rs depth used block (op.Mul w a b) h = refl
-plain_action p r halfway rs depth used block (op.Shift s w a b) h = refl
-plain_action p r halfway rs depth used block (op.Bits k w a b) h = refl
-plain_action p r halfway rs depth used block (op.Compare c w a b) h = refl
-plain_action p r halfway rs depth used block (op.Trunc from to v) h = refl
-plain_action p r halfway rs depth used block (op.Zext from to v) h = refl
-plain_action p r halfway rs depth used block (op.Sext from to v) h = refl
-plain_action p r halfway rs depth used block (op.PtrToInt from to v) h = refl
-plain_action p r halfway rs depth used block (op.IntToPtr from to v) h = refl
-plain_action p r halfway rs depth used block (op.Select c a b) h = refl
-plain_action p r halfway rs depth used block (op.Gep base indices) h = refl
-plain_action p r halfway rs depth used block o h = absurd h
+computes_told : (first number : ℕ) (o : Op) → computes o ≡ true → op_local first number o ≡ told.Other
+computes_told first number (op.CondBr c a b) h = absurd cc
+computes_told first number (op.Switch w on other cases) h = absurd cc
+computes_told first number (op.Alloca bytes) h = absurd cc
+computes_told first number (op.CallKnown k args) h = absurd cc
+computes_told first number o h = refl
 
-some_local : (t : Bool) (m n : ℕ) → if_local (if t then actions.Local else actions.Trap traps.Unset) m ≡ Some n → (t ≡ true) × (m ≡ n)
-some_local true m n e = (refl, cc)
-some_local false m n e = absurd cc
+module _ (p : NumberedProgram) (l : LocalState) (x : Instr) (h : computes x.op ≡ true) where
+  -- the step's action
+  abbrev pub action_at : Action
+  action_at = op_action p (region_of l) l.halfway (top_registers l.frames) (length l.frames) (total l.frames) x.block.0 x.op
 
-none_local : (t : Bool) (m : ℕ) → if_local (if t then actions.Local else actions.Trap traps.Unset) m ≡ None → t ≡ false
-none_local true m e = absurd cc
-none_local false m e = refl
+  tie_here : computed_if x.op (argument p (top_registers l.frames) (operands_of x.op)) ≡ if_local action_at (result_number p (region_of l) (top_registers l.frames) x.op 0)
+  tie_here = tie p (region_of l) l.halfway (top_registers l.frames) (length l.frames) (total l.frames) x.block.0 0 x.op h
 
--- what such an operation computes says whether it is set
-plain_is : (p : NumberedProgram) (l : LocalState) (block : ℕ) (o : Op) → IsPlain o → computed_if o (argument p (top_registers l.frames) (operands_of o)) ≡ if_local (if are_set p (top_registers l.frames) (operands_of o) then actions.Local else actions.Trap traps.Unset) (result_number p (region_of l) (top_registers l.frames) o 0)
-plain_is p l block o h =
-    tie p (region_of l) l.halfway (top_registers l.frames) (length l.frames) (total l.frames) block 0 o (plain_computes o h)
-    ∙ ap (λ (a : Action). if_local a (result_number p (region_of l) (top_registers l.frames) o 0)) (plain_action p (region_of l) l.halfway (top_registers l.frames) (length l.frames) (total l.frames) block o h)
+  pub computes_done : (n : ℕ) → computed_if x.op (argument p (top_registers l.frames) (operands_of x.op)) ≡ Some n → instr_done p l x ≡ (record l { halfway = false; frames = on_top (λ f. stepped f x.result n) l.frames }, Done told.Other)
+  computes_done n e =
+      let rs = top_registers l.frames in
+      let both = local_some action_at (result_number p (region_of l) rs x.op 0) n (sym tie_here ∙ e) in
+      let state : record l { halfway = false; frames = on_top (λ f. stepped f x.result n) l.frames } ≡ instr_after p l 0 (Some x) = straight_state p l x 0 n x.op (computes_straight x.op h) (sym both.1) in
+      ap (λ (a : Action). done_if a l (instr_after p l 0 (Some x)) (op_local (number_at p rs (operands_of x.op) 0) (or_zero x.result (op_own p l rs 0 x.op)) x.op)) both.0
+      ∙ ap (λ (t : LocalStep). (instr_after p l 0 (Some x), Done t)) (computes_told (number_at p rs (operands_of x.op) 0) (or_zero x.result (op_own p l rs 0 x.op)) x.op h)
+      ∙ ap (λ (m : LocalState). (m, Done told.Other)) (sym state)
 
-pub plain_done : (p : NumberedProgram) (l : LocalState) (x : Instr) (n : ℕ) → IsPlain x.op → computed_if x.op (argument p (top_registers l.frames) (operands_of x.op)) ≡ Some n → instr_done p l x ≡ (record l { halfway = false; frames = on_top (λ f. stepped f x.result n) l.frames }, Done told.Other)
-plain_done p l x n h e =
-    let rs = top_registers l.frames in
-    let both = some_local (are_set p rs (operands_of x.op)) (result_number p (region_of l) rs x.op 0) n (sym (plain_is p l x.block.0 x.op h) ∙ e) in
-    let action : op_action p (region_of l) l.halfway rs (length l.frames) (total l.frames) x.block.0 x.op ≡ actions.Local = plain_action p (region_of l) l.halfway rs (length l.frames) (total l.frames) x.block.0 x.op h ∙ ap (λ (t : Bool). if t then actions.Local else actions.Trap traps.Unset) both.0 in
-    let state : record l { halfway = false; frames = on_top (λ f. stepped f x.result n) l.frames } ≡ instr_after p l 0 (Some x) = straight_state p l x 0 n x.op (plain_straight x.op h) (sym both.1) in
-    ap (λ (a : Action). done_if a l (instr_after p l 0 (Some x)) (op_local (number_at p rs (operands_of x.op) 0) (or_zero x.result (op_own p l rs 0 x.op)) x.op)) action
-    ∙ ap (λ (t : LocalStep). (instr_after p l 0 (Some x), Done t)) (plain_told (number_at p rs (operands_of x.op) 0) (or_zero x.result (op_own p l rs 0 x.op)) x.op h)
-    ∙ ap (λ (m : LocalState). (m, Done told.Other)) (sym state)
-
-pub plain_asks : (p : NumberedProgram) (l : LocalState) (x : Instr) → IsPlain x.op → computed_if x.op (argument p (top_registers l.frames) (operands_of x.op)) ≡ None → instr_done p l x ≡ (l, Asks (actions.Trap traps.Unset))
-plain_asks p l x h e =
-    let rs = top_registers l.frames in
-    let unset = none_local (are_set p rs (operands_of x.op)) (result_number p (region_of l) rs x.op 0) (sym (plain_is p l x.block.0 x.op h) ∙ e) in
-    let action : op_action p (region_of l) l.halfway rs (length l.frames) (total l.frames) x.block.0 x.op ≡ actions.Trap traps.Unset = plain_action p (region_of l) l.halfway rs (length l.frames) (total l.frames) x.block.0 x.op h ∙ ap (λ (t : Bool). if t then actions.Local else actions.Trap traps.Unset) unset in
-    ap (λ (a : Action). done_if a l (instr_after p l 0 (Some x)) (op_local (number_at p rs (operands_of x.op) 0) (or_zero x.result (op_own p l rs 0 x.op)) x.op)) action
+  pub computes_asks : computed_if x.op (argument p (top_registers l.frames) (operands_of x.op)) ≡ None → instr_done p l x ≡ (l, Asks action_at)
+  computes_asks e = asked action_at (result_number p (region_of l) (top_registers l.frames) x.op 0) l _ _ (sym tie_here ∙ e)

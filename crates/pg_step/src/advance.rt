@@ -1,10 +1,11 @@
-ghost use Rattle.std.specs.Prelude.{◌≡◌, ℕ, false, length};
+ghost use Rattle.std.specs.Prelude.{◌≡◌, ℕ, true, false, length};
 ghost use Rattle.pg_ir.specs.Operands.{CanReadAll};
 ghost use Rattle.pg_step.specs.LocalState.{region_of};
+ghost use Rattle.pg_step.specs.Compute.{computes};
 ghost use Rattle.pg_step.specs.Operands.{number_at, operands_of};
 ghost use Rattle.pg_step.specs.Step.{edge_action, instr_after, moved, next, on_top, op_action, top_registers, total};
 ghost use Rattle.pg_step.specs.Told.{op_own, or_zero};
-ghost use Rattle.pg_step.specs.Needs.{CanDo, IsBranch, IsNoBranch, IsPlain, IsPresent, block_taken};
+ghost use Rattle.pg_step.specs.Needs.{CanDo, IsBranch, IsNoBranch, IsPresent, block_taken};
 ghost use Rattle.pg_step.specs.States.{CanStep, IsOf};
 ghost use Rattle.pg_step.specs.Advance.{advanced, done_if, instr_done, op_local};
 
@@ -86,10 +87,10 @@ impl Fiber {
         }
     }
 
-    /// Does an operation that only computes.
+    /// Does an operation that only computes, or gives its trap.
     fn compute(&mut self, p: &Program, instr: &Instr) -> Advance
         requires present { IsPresent p.now self.old instr.now }
-        requires plain { IsPlain instr.now.op }
+        requires computes { computes instr.now.op ≡ true }
         ensures { (self.new, result) ≡ instr_done p.now self.old instr.now }
     {
         match computed_if(p, self.top(), &instr.op) {
@@ -97,7 +98,7 @@ impl Fiber {
                 self.put(instr.result, n);
                 Advance::Done(LocalStep::Other)
             }
-            None => Advance::Asks(Action::Trap(TrapName::Unset)),
+            None => Advance::Asks(action_of(p, &self.present(), instr)),
         }
     }
 
@@ -133,8 +134,7 @@ impl Fiber {
                     None => Advance::Asks(Action::Trap(TrapName::Unset)),
                 }
             }
-            Op::Divide { .. }
-            | Op::Phi { .. }
+            Op::Phi { .. }
             | Op::Call { .. }
             | Op::Ret { .. }
             | Op::Unreachable
