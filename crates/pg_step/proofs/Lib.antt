@@ -17,3 +17,4 @@ pub mod Ranges
 pub mod Results
 pub mod Frames
 pub mod Still
+pub mod Registers

@@ -14,6 +14,7 @@ mod numbers;
 mod operands;
 mod optional;
 mod present;
+mod readers;
 mod region;
 mod room;
 mod steps;
