@@ -13,6 +13,7 @@ pub mod Keeps
 pub mod Locality
 pub mod Marks
 pub mod Named
+pub mod OwnTurns
 pub mod PhaseActions
 pub mod Rotations
 pub mod Runs
@@ -20,3 +21,5 @@ pub mod Steps
 pub mod Threads
 pub mod Told
 pub mod Walks
+pub mod Wents
+pub mod WithSteps

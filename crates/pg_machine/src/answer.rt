@@ -15,8 +15,8 @@ use pg_step::{Action, Fiber};
 use pg_sync::Reply;
 use std::alloc::{AllocError, Global};
 
-/// The input's number at an index, 0 outside of the input.
-fn number_at(input: &[i64], index: i64) -> u64
+/// The input's number at an index, as a word, and 0 outside of the input.
+pub fn number_at(input: &[i64], index: i64) -> u64
     ensures { result ≡ input_at input.now index }
 {
     if index < 0 {

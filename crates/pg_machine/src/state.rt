@@ -6,15 +6,17 @@ ghost use Rattle.pg_sync.specs.Stages.{may_ask};
 ghost use Rattle.pg_sync.specs.Sync.{applied, check, named, over, stage_of};
 ghost use Rattle.pg_sync.specs.Sync.{ready as sync_ready};
 ghost use Rattle.pg_step.specs.States.{IsOf};
+ghost use Rattle.pg_machine.specs.Readers.{depth_of, register_of};
 ghost use Rattle.pg_machine.specs.State.{exit_value_of, initial, next_of, instr_of};
 ghost use Rattle.pg_machine.specs.MachineStep.{is_ended, may_act, ready, operands_in, value_with, local_after, number_in};
 ghost use Rattle.pg_machine.specs.Machine.{HasRoom, IsMachine, MayGoOn};
+ghost use Rattle.pg_machine.specs.Went.{advance_in, locals_advanced};
 
 use pg_ir::{InstrId, Program, Request, ThreadNo, TrapName};
 use pg_mem::Memory;
 use pg_num::limits::THREAD_LIMIT;
 use pg_num::{Place, Width, to_signed, trunc};
-use pg_step::{Action, Fiber};
+use pg_step::{Action, Advance, Fiber};
 use pg_sync::{Reply, SyncState, SyncTrap};
 use std::alloc::{AllocError, Global};
 use std::marker::Model;
@@ -66,6 +68,26 @@ pub(crate) fn is_ended(action: &Action) -> bool
 }
 
 impl MachineState {
+    /// The value of a register of a thread's present call.
+    pub(crate) fn register(&self, t: ThreadNo, r: u32) -> Option<u64>
+        ensures { result ≡ register_of self.now t.0 r }
+    {
+        match self.fibers.get(t.0 as usize) {
+            Some(fiber) => fiber.register(r),
+            None => None,
+        }
+    }
+
+    /// How many calls of a thread are open.
+    pub(crate) fn depth(&self, t: ThreadNo) -> u32
+        ensures { result ≡ depth_of self.now t.0 }
+    {
+        match self.fibers.get(t.0 as usize) {
+            Some(fiber) => fiber.open_calls(),
+            None => 0,
+        }
+    }
+
     /// The first state of a run.
     #[tactic(auto, using(crate::proofs::Steps::initial_is), unfolding(crate::specs::State::initial))]
     pub(crate) fn new(alloc: Global, p: &Program) -> Result<MachineState, AllocError>
@@ -210,6 +232,23 @@ impl MachineState {
     {
         let fiber = &mut self.fibers[t.0 as usize];
         fiber.resume(p, answer)
+    }
+
+    /// Does the next step of a thread if only its own state decides and sees it, and gives what is told of
+    /// it; else nothing changes, and it gives what the step asks.
+    // Most steps of a run are of this kind.
+    #[inline(always)]
+    pub(crate) fn advance_thread(&mut self, p: &Program, t: ThreadNo) -> Advance
+        requires { All (IsOf p.now) self.old.locals }
+        ensures state { self.new ≡ record self.old { locals = locals_advanced p.now self.old.locals t.0 (slice_get self.old.locals t.0) } }
+        ensures answer { result ≡ advance_in p.now (slice_get self.old.locals t.0) }
+    {
+        if (t.0 as usize) < self.fibers.len() {
+            let fiber = &mut self.fibers[t.0 as usize];
+            fiber.advance(p)
+        } else {
+            Advance::Asks(Action::Ended)
+        }
     }
 
     pub(crate) fn read(&self, at: Place) -> u64
