@@ -1,5 +1,6 @@
 pub mod Actions
 pub mod Asks
+pub mod Completed
 pub mod Dues
 pub mod Effects
 pub mod FitActions
@@ -12,6 +13,7 @@ pub mod Keeps
 pub mod Locality
 pub mod Marks
 pub mod Named
+pub mod OwnTurns
 pub mod PhaseActions
 pub mod Rotations
 pub mod Runs
@@ -19,3 +21,5 @@ pub mod Steps
 pub mod Threads
 pub mod Told
 pub mod Walks
+pub mod Wents
+pub mod WithSteps

@@ -69,7 +69,7 @@ settled_thread gated p s z t x (y, Ok n) h = sym (ap (thread_in t) h)
     thread_in n (Trapped name id) = n
 settled_thread gated p s z t x (y, Err name) h = absurd cc
 
-step_thread : (gated : List InstrId) (p : NumberedProgram) (input : List ℤ) (s z : State) (t : ℕ) (x : Step) → step gated p input s t ≡ Did x z → x.thread.0 ≡ t
+pub step_thread : (gated : List InstrId) (p : NumberedProgram) (input : List ℤ) (s z : State) (t : ℕ) (x : Step) → step gated p input s t ≡ Did x z → x.thread.0 ≡ t
 unfolding step
 step_thread gated p input s z t x h = settled_thread gated p s z t x (taken p s t (answered p input s t (next_of p s t))) h
 

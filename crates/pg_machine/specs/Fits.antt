@@ -7,6 +7,11 @@ use Rattle.pg_ir.specs.WellFormed.{BeginsThread}
 use Rattle.pg_step.specs.declared.action.Action.{Action}
 use Rattle.pg_step.specs.declared.action.Action.TheVariants as actions
 
+-- the place of a join is one of eight bytes
+abbrev pub JoinFits : Request → Type 0
+JoinFits (requests.Join n (Some r)) = r.bytes ≡ 8
+JoinFits r = Unit {0}
+
 -- a thread can begin with the function of a create, whose place is one of eight bytes, as that of a join
 abbrev pub RequestFits : NumberedProgram → Request → Type 0
 RequestFits p (requests.Create r f n) = BeginsThread (slice_get p.functions f) × (r.bytes ≡ 8)

@@ -8,6 +8,8 @@ use Rattle.pg_trace.specs.declared.turn.Turn.{Turn}
 use Rattle.pg_trace.specs.declared.step.Step.{Step}
 use Rattle.pg_machine.specs.declared.guided_end.GuidedEnd.{GuidedEnd}
 use Rattle.pg_machine.specs.declared.guided_end.GuidedEnd.TheVariants as ends
+use Rattle.pg_machine.specs.declared.guided_follow.FollowEnd.{FollowEnd}
+use Rattle.pg_machine.specs.declared.guided_follow.FollowEnd.TheVariants as follow
 use Rattle.pg_machine.specs.declared.guided_follow.Followed.{Followed}
 use Rattle.pg_machine.specs.declared.guided_follow.Followed.TheVariants as answers
 use Rattle.pg_machine.specs.Guided.{GuidedRun, guided_of}
@@ -36,3 +38,9 @@ abbrev pub followed_as : Followed → Following
 followed_as (answers.Exit trace output value) = Exits trace.steps output.items value
 followed_as (answers.Strayed k) = Strays k
 followed_as answers.Unfinished = Breaks
+
+-- how an answer with these steps reads
+abbrev pub end_as : FollowEnd → List Step → Following
+end_as (follow.Exit output value) xs = Exits xs output.items value
+end_as (follow.Strayed k) xs = Strays k
+end_as follow.Unfinished xs = Breaks

@@ -1,5 +1,6 @@
 pub mod Answer
 pub mod Bound
+pub mod Completed
 pub mod Filled
 pub mod Fits
 pub mod Follow
@@ -11,9 +12,12 @@ pub mod MachineStep
 pub mod Named
 pub mod Permitted
 pub mod Phases
+pub mod Readers
 pub mod Rotation
 pub mod Runs
 pub mod State
 pub mod Taken
 pub mod Texts
 pub mod Walked
+pub mod Went
+pub mod WithSteps

@@ -1,5 +1,7 @@
-ghost use Rattle.std.specs.Prelude.{◌≡◌, ◌≤◌, length, slice_get, true, IfOk, OnErr, OnOk};
+ghost use Rattle.std.specs.Prelude.{◌≡◌, ◌≤◌, length, slice_get, false, true, IfOk, OnErr, OnOk};
+ghost use Rattle.pg_sync.specs.Sync.{over};
 ghost use Rattle.pg_machine.specs.State.{next_of};
+ghost use Rattle.pg_machine.specs.Went.{GoesOn};
 ghost use Rattle.pg_machine.specs.MachineStep.{answered, number_in, ready, step, taken};
 ghost use Rattle.pg_machine.specs.Answer.{answer_in};
 ghost use Rattle.pg_machine.specs.Machine.{IsMachine};
@@ -10,7 +12,7 @@ use crate::machine::Stepped;
 use crate::state::MachineState;
 use crate::tell::filled;
 use pg_ir::{Program, ThreadNo, TrapName};
-use pg_step::Action;
+use pg_step::{Action, Advance};
 use pg_trace::Step;
 use std::alloc::{AllocError, Global};
 
@@ -22,6 +24,19 @@ pub(crate) struct Advanced {
 }
 
 impl MachineState {
+    /// Takes the next step of a thread, while the run isn't over, if only the thread's own state decides and
+    /// sees it, and gives what is told of it; else nothing changes, and it gives what the step asks.
+    #[inline(always)]
+    pub(crate) fn go_on(&mut self, p: &Program, t: ThreadNo) -> Advance
+        requires of { IsMachine p.now self.old }
+        requires going { over self.old.sync ≡ false }
+        ensures step { GoesOn p.now self.old self.new t.0 result }
+        ensures of { IsMachine p.now self.new }
+    {
+        p.facts();
+        self.advance_thread(p, t)
+    }
+
     /// Takes the next step of a thread that is ready, which is this action, and gives the answer to it
     /// and the number that its instruction's own register got, or its trap.
     pub(crate) fn take(
@@ -39,6 +54,7 @@ impl MachineState {
         ensures number { IfOk result (λ r. IfOk r (λ a. a.number ≡ number_in p.now (slice_get self.old.locals t.0) a.answer)) }
         ensures of { OnOk result (IsMachine p.now self.new) }
         ensures trap { IfOk result (λ r. OnErr r (self.new ≡ self.old)) }
+        ensures kept { OnErr result (self.new ≡ self.old) }
         ensures more { OnOk result (length self.old.locals ≤ length self.new.locals) }
     {
         p.facts();
@@ -66,6 +82,7 @@ impl MachineState {
         ensures step { IfOk result (λ r. stepped_as r self.new ≡ step gated.now p.now input.now self.old t.0) }
         ensures of { OnOk result (IsMachine p.now self.new) }
         ensures trap { IfOk result (λ r. IfTrapped r (self.new ≡ self.old)) }
+        ensures kept { OnErr result (self.new ≡ self.old) }
         ensures more { OnOk result (length self.old.locals ≤ length self.new.locals) }
     {
         let action = self.next(p, t);

@@ -1,23 +1,22 @@
-ghost use Rattle.std.specs.Prelude.{◌≡◌, ◌<◌, ◌≤◌, ◌+◌, ◌*◌, ◌^◌, ◌++◌, ◌∷◌, [], length, slice_get, slice_set, slice_index, IfOk, IfSome, OnOk};
+ghost use Rattle.std.specs.Prelude.{◌≡◌, ◌<◌, ◌≤◌, ◌+◌, ◌*◌, ◌^◌, ◌++◌, ◌∷◌, [], length, slice_get, slice_set, slice_index, IfOk, IfSome, OnErr};
 ghost use Rattle.pg_num.specs.declared.limits.TheConstants.{THREAD_LIMIT};
-ghost use Rattle.pg_ir.specs.WellFormed.{BeginsThread};
+ghost use Rattle.pg_ir.specs.declared.request.Request.TheVariants as requests;
 ghost use Rattle.pg_mem.specs.Memory.{written};
 ghost use Rattle.pg_sync.specs.Sync.{applied};
-ghost use Rattle.pg_step.specs.LocalState.{fresh};
-ghost use Rattle.pg_machine.specs.Fits.{RequestFits};
-ghost use Rattle.pg_machine.specs.Machine.{HasRoom, MayAsk, MayDo};
-ghost use Rattle.pg_machine.specs.MachineStep.{answer_of, answered, input_at, on_applied, requested, written_if};
-ghost use Rattle.pg_machine.specs.Texts.{printed_by};
+ghost use Rattle.pg_machine.specs.Completed.{completed, on_completed};
+ghost use Rattle.pg_machine.specs.Fits.{JoinFits};
+ghost use Rattle.pg_machine.specs.Machine.{MayAsk, MayDo};
+ghost use Rattle.pg_machine.specs.MachineStep.{answer_of, answered, input_at, on_applied, written_if};
 
 use crate::state::MachineState;
 use pg_ir::{Program, Request, ThreadNo, TrapName};
 use pg_num::{Place, Width, from_signed, to_signed};
-use pg_step::Action;
+use pg_step::{Action, Fiber};
 use pg_sync::Reply;
 use std::alloc::{AllocError, Global};
 
-/// The input's number at an index, 0 outside of the input.
-fn number_at(input: &[i64], index: i64) -> u64
+/// The input's number at an index, as a word, and 0 outside of the input.
+pub fn number_at(input: &[i64], index: i64) -> u64
     ensures { result ≡ input_at input.now index }
 {
     if index < 0 {
@@ -30,24 +29,48 @@ fn number_at(input: &[i64], index: i64) -> u64
 }
 
 impl MachineState {
-    /// Makes a thread, and writes its number to a place.
+    /// Makes a thread, and writes its number to a place, or gives the trap of the create.
+    // The thread is made before the objects know of it, so nothing is changed where no memory is left.
     fn create(
         &mut self,
         alloc: Global,
         p: &Program,
+        t: ThreadNo,
         at: Place,
         function: u32,
         argument: u64,
-    ) -> Result<(), AllocError>
+    ) -> Result<Result<u64, TrapName>, AllocError>
+        requires { MayAsk p.now self.old t.0 (requests.Create at function argument) }
+        ensures answer { IfOk result (λ a. (self.new, a) ≡ on_applied p.now self.old t.0 (requests.Create at function argument) (applied self.old.sync t.0 (requests.Create at function argument))) }
+        ensures kept { OnErr result (self.new ≡ self.old) }
+    {
+        let r = Request::Create {
+            at,
+            function,
+            argument,
+        };
+        if let Some(name) = self.check(t, &r) {
+            return Ok(Err(name));
+        }
+        let fiber = Fiber::new(alloc, p, ThreadNo(self.count() as u8), function)?;
+        match self.apply(t, &r) {
+            Err(trap) => Ok(Err(trap.0)),
+            Ok(reply) => {
+                self.begin(fiber, at, argument);
+                Ok(Ok(reply.value))
+            }
+        }
+    }
+
+    /// Adds a thread that was made, and writes its number to a place.
+    fn begin(&mut self, fiber: Fiber, at: Place, argument: u64)
         requires few { length self.old.locals < THREAD_LIMIT }
-        requires begins { BeginsThread (slice_get p.now.functions function) }
         requires place { at.bytes ≡ 8 }
-        ensures { OnOk result (self.new ≡ record self.old { locals = self.old.locals ++ fresh p.now (length self.old.locals) function ∷ []; memory = written self.old.memory at (length self.old.locals); words = self.old.words ++ argument ∷ [] }) }
+        ensures { self.new ≡ record self.old { locals = self.old.locals ++ fiber ∷ []; memory = written self.old.memory at (length self.old.locals); words = self.old.words ++ argument ∷ [] } }
     {
         let n = self.count() as u64;
-        self.add_thread(alloc, p, function, argument)?;
+        self.add_thread(fiber, argument);
         self.write(at, n);
-        Ok(())
     }
 
     /// Writes the exit value of a thread to a place, if there is one.
@@ -61,49 +84,16 @@ impl MachineState {
         }
     }
 
-    /// Prints what a request prints.
-    fn print_request(&mut self, alloc: Global, r: &Request) -> Result<(), AllocError>
-        ensures { OnOk result (self.new ≡ record self.old { printed = self.old.printed ++ printed_by r.now }) }
-    {
-        match *r {
-            Request::Out { value } => {
-                let number = to_signed(Width::W64, value);
-                let line = format!(in alloc; "{number}\n")?;
-                self.print(alloc, line.as_bytes())
-            }
-            Request::Putchar { value } => self.print(alloc, &[(value % 256) as u8]),
-            _ => Ok(()),
-        }
-    }
-
-    /// Does what a request does beside the objects.
-    fn complete(
-        &mut self,
-        alloc: Global,
-        p: &Program,
-        t: ThreadNo,
-        r: &Request,
-    ) -> Result<(), AllocError>
+    /// Keeps the exit value of an exit, and writes that of a join.
+    fn complete(&mut self, t: ThreadNo, r: &Request)
         requires made { t.0 < length self.old.words }
-        requires fits { RequestFits p.now r.now }
-        requires room { HasRoom self.old r.now }
-        ensures { OnOk result (self.new ≡ requested p.now self.old t.0 r.now) }
+        requires fits { JoinFits r.now }
+        ensures { self.new ≡ completed self.old t.0 r.now }
     {
         match *r {
-            Request::Exit { value, .. } => {
-                self.keep_exit(t, value);
-                Ok(())
-            }
-            Request::Create {
-                at,
-                function,
-                argument,
-            } => self.create(alloc, p, at, function, argument),
-            Request::Join { target, at } => {
-                self.write_exit(target, at);
-                Ok(())
-            }
-            _ => self.print_request(alloc, r),
+            Request::Exit { value, .. } => self.keep_exit(t, value),
+            Request::Join { target, at } => self.write_exit(target, at),
+            _ => {}
         }
     }
 
@@ -117,6 +107,22 @@ impl MachineState {
         }
     }
 
+    /// Does a request that makes no thread, but for what it prints, and gives the number that answers it,
+    /// or its trap.
+    fn settle(&mut self, p: &Program, t: ThreadNo, r: &Request) -> Result<u64, TrapName>
+        requires { MayAsk p.now self.old t.0 r.now }
+        ensures { (self.new, result) ≡ on_completed self.old t.0 r.now (applied self.old.sync t.0 r.now) }
+    {
+        match self.apply(t, r) {
+            Err(trap) => Err(trap.0),
+            Ok(reply) => {
+                let answer = self.answer_to(t, &reply, r);
+                self.complete(t, r);
+                Ok(answer)
+            }
+        }
+    }
+
     /// Does a request, and gives the number that answers it, or its trap.
     fn event(
         &mut self,
@@ -126,15 +132,26 @@ impl MachineState {
         r: &Request,
     ) -> Result<Result<u64, TrapName>, AllocError>
         requires { MayAsk p.now self.old t.0 r.now }
-        ensures { IfOk result (λ a. (self.new, a) ≡ on_applied p.now self.old t.0 r.now (applied self.old.sync t.0 r.now)) }
+        ensures answer { IfOk result (λ a. (self.new, a) ≡ on_applied p.now self.old t.0 r.now (applied self.old.sync t.0 r.now)) }
+        ensures kept { OnErr result (self.new ≡ self.old) }
     {
-        match self.apply(t, r) {
-            Err(trap) => Ok(Err(trap.0)),
-            Ok(reply) => {
-                let answer = self.answer_to(t, &reply, r);
-                self.complete(alloc, p, t, r)?;
-                Ok(Ok(answer))
+        match *r {
+            Request::Create {
+                at,
+                function,
+                argument,
+            } => self.create(alloc, p, t, at, function, argument),
+            Request::Out { value } => {
+                let number = to_signed(Width::W64, value);
+                let line = format!(in alloc; "{number}\n")?;
+                self.print(alloc, line.as_bytes())?;
+                Ok(self.settle(p, t, r))
             }
+            Request::Putchar { value } => {
+                self.print(alloc, &[(value % 256) as u8])?;
+                Ok(self.settle(p, t, r))
+            }
+            _ => Ok(self.settle(p, t, r)),
         }
     }
 
@@ -150,7 +167,8 @@ impl MachineState {
         action: &Action,
     ) -> Result<Result<u64, TrapName>, AllocError>
         requires { MayDo p.now self.old t.0 action.now }
-        ensures { IfOk result (λ a. (self.new, a) ≡ answered p.now input.now self.old t.0 action.now) }
+        ensures answer { IfOk result (λ a. (self.new, a) ≡ answered p.now input.now self.old t.0 action.now) }
+        ensures kept { OnErr result (self.new ≡ self.old) }
     {
         match action {
             Action::In(index) => Ok(Ok(number_at(input, *index))),

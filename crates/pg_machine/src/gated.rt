@@ -89,8 +89,8 @@ impl Gated {
     }
 }
 
-/// Whether an instruction is among these.
-fn is_among(ids: &[InstrId], id: InstrId) -> bool
+/// Whether an instruction is among these, so that its loads and stores are events.
+pub fn is_among(ids: &[InstrId], id: InstrId) -> bool
     ensures { result ≡ is_gated ids.now id.0 }
 {
     ids.iter().any(|g| g.0 == id.0)

@@ -1,14 +1,17 @@
-ghost use Rattle.std.specs.Prelude.{◌≡◌, ◌≤◌, length, true, IfOk, OnOk};
+ghost use Rattle.std.specs.Prelude.{◌≡◌, ◌≤◌, length, true, IfOk, OnErr, OnOk};
 ghost use Rattle.std.specs.List.{All};
 ghost use Rattle.pg_step.specs.States.{IsOf};
 ghost use Rattle.pg_machine.specs.State.{exit_value_of, initial, next_of};
-ghost use Rattle.pg_machine.specs.MachineStep.{ready, step};
+ghost use Rattle.pg_mem.specs.Memory.{read};
+ghost use Rattle.pg_machine.specs.Readers.{depth_of, register_of};
+ghost use Rattle.pg_machine.specs.MachineStep.{is_gated, ready, step};
 ghost use Rattle.pg_machine.specs.Machine.{IsMachine};
 ghost use Rattle.pg_machine.specs.Bound.{next_by, next_step, stepped_as, IfTrapped};
 
 use crate::gated::{Gated, listed};
 use crate::state::MachineState;
 use pg_ir::{InstrId, Program, ThreadNo, TrapName};
+use pg_num::Place;
 use pg_step::Action;
 use pg_trace::{Step, Turn};
 use std::alloc::{AllocError, Global};
@@ -100,8 +103,8 @@ impl Machine {
         self.state.ready(p, t)
     }
 
-    /// Takes the next step of a thread that is ready: one instruction of one thread. Where it traps
-    /// the machine is as before.
+    /// Takes the next step of a thread that is ready: one instruction of one thread. Where it traps,
+    /// and where no memory is left for it, the machine is as before.
     ///
     /// # Errors
     ///
@@ -112,6 +115,7 @@ impl Machine {
         ensures step { IfOk result (λ r. stepped_as r self.new.state ≡ step self.old.gated p.now self.old.input self.old.state t.0) }
         ensures of { OnOk result (IsMachine p.now self.new.state) }
         ensures trap { IfOk result (λ r. IfTrapped r (self.new ≡ self.old)) }
+        ensures kept { OnErr result (self.new ≡ self.old) }
         ensures input { self.new.input ≡ self.old.input }
         ensures gated { self.new.gated ≡ self.old.gated }
     {
@@ -129,6 +133,35 @@ impl Machine {
         } else {
             Next::NotMade
         }
+    }
+
+    /// The value of a register of a thread's present call; none where it was never set or isn't there, and
+    /// where the thread isn't made or has ended.
+    pub fn register(&self, t: ThreadNo, r: u32) -> Option<u64>
+        ensures value { result ≡ register_of self.now.state t.0 r }
+    {
+        self.state.register(t, r)
+    }
+
+    /// How many calls of a thread are open; none where it isn't made or has ended.
+    pub fn depth(&self, t: ThreadNo) -> u32
+        ensures count { result ≡ depth_of self.now.state t.0 }
+    {
+        self.state.depth(t)
+    }
+
+    /// The number that stands in these bytes of memory.
+    pub fn read(&self, at: Place) -> u64
+        ensures number { result ≡ read self.now.state.memory at }
+    {
+        self.state.read(at)
+    }
+
+    /// Whether the loads and stores of an instruction are events.
+    pub fn is_gated(&self, id: InstrId) -> bool
+        ensures gated { result ≡ is_gated self.now.gated id.0 }
+    {
+        self.gated.has(id)
     }
 
     /// The bytes that were printed so far.

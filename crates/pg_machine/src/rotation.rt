@@ -1,15 +1,17 @@
 ghost use Rattle.std.specs.Prelude.{◌≡◌, ◌<◌, ◌≤◌, ◌+◌, [], ℕ, suc, length, not, true, IfOk, IfSome, OnOk};
 ghost use Rattle.pg_num.specs.declared.limits.TheConstants.{RECORDING_STEP_LIMIT, THREAD_LIMIT, QUANTUM_LIMIT};
+ghost use Rattle.pg_trace.specs.Recording.{empty_with};
 ghost use Rattle.pg_machine.specs.State.{State, initial, next_of};
 ghost use Rattle.pg_machine.specs.MachineStep.{ready, step};
 ghost use Rattle.pg_machine.specs.Machine.{IsMachine};
 ghost use Rattle.pg_machine.specs.Runs.{IsRun};
 ghost use Rattle.pg_machine.specs.Taken.{on_turn};
-ghost use Rattle.pg_machine.specs.Rotation.{around, chosen, deadlock_of, exit_of, first_share, first_true, hasnt_ended, lowest, next_share, on_step, onto, rotation_of, run, stop, RunResult};
+ghost use Rattle.pg_machine.specs.Rotation.{around, chosen, deadlock_of, exit_of, first_share, first_true, hasnt_ended, lowest, next_share, on_step, onto, rotation_of, run as run_from, stop, RunResult};
 
 use crate::gated::Gated;
 use crate::outcome::Outcome;
-use crate::recording::record_step;
+use crate::recording::{record_own, record_step};
+use crate::run::Run;
 use crate::share::Share;
 use crate::state::{MachineState, is_ended};
 use pg_ir::{Program, ThreadNo, TrapName};
@@ -26,10 +28,16 @@ pub struct Recorded {
     pub end: Outcome,
 }
 
-/// The steps of a run, its last state, and how it ended.
+/// What a rotation run printed, and how it ended.
+#[derive(Drop)]
+pub struct Ended {
+    pub output: Vec<u8>,
+    pub end: Outcome,
+}
+
+/// The last state of a run, and how it ended.
 #[derive(Drop)]
 struct Rotated {
-    trace: Trace,
     state: MachineState,
     end: Outcome,
 }
@@ -136,7 +144,7 @@ fn choose(state: &MachineState, p: &Program, q: u32, u: Share) -> Result<Share, 
 fn at_limit(state: &MachineState, p: &Program, input: &[i64], q: u32, u: Share) -> Outcome
     requires of { IsMachine p.now state.now }
     requires some { 0 < q }
-    ensures { run 0 p.now input.now q state.now u ≡ stop state.now result }
+    ensures { run_from 0 p.now input.now q state.now u ≡ stop state.now result }
 {
     match choose(state, p, q, u) {
         Ok(_) => Outcome::Budget,
@@ -148,26 +156,24 @@ fn at_limit(state: &MachineState, p: &Program, input: &[i64], q: u32, u: Share) 
 /// or the end where it traps.
 fn step_of(
     alloc: Global,
-    p: &Program,
-    input: &[i64],
-    gated: &Gated,
+    run: &Run,
     state: &mut MachineState,
     trace: &mut Trace,
     u: Share,
     action: &Action,
 ) -> Result<Result<Share, Outcome>, AllocError>
-    requires of { IsMachine p.now state.old }
-    requires next { action.now ≡ next_of p.now state.old u.thread.0 }
-    requires ready { ready p.now state.old u.thread.0 ≡ true }
+    requires of { IsMachine run.now.program.now state.old }
+    requires next { action.now ≡ next_of run.now.program.now state.old u.thread.0 }
+    requires ready { ready run.now.program.now state.old u.thread.0 ≡ true }
     requires left { 0 < u.left }
-    requires gated { gated.now ≡ [] }
+    requires gated { run.now.gated.now ≡ [] }
     requires room { length trace.old.steps < trace.old.room }
-    ensures turn { IfOk result (λ r. (more : State → Share → RunResult) → onto trace.old.steps (on_step state.old u (step [] p.now input.now state.old u.thread.0) more) ≡ on_turn r trace.new.steps state.new more) }
-    ensures of { OnOk result (IsMachine p.now state.new) }
+    ensures turn { IfOk result (λ r. (more : State → Share → RunResult) → onto trace.old.steps (on_step state.old u (step [] run.now.program.now run.now.input.now state.old u.thread.0) more) ≡ on_turn r trace.new.steps state.new more) }
+    ensures of { OnOk result (IsMachine run.now.program.now state.new) }
     ensures room { OnOk result (trace.new.room ≡ trace.old.room) }
     ensures more { OnOk result (length trace.new.steps ≤ length trace.old.steps + 1) }
 {
-    match record_step(alloc, p, input, gated, state, trace, u.thread, action)? {
+    match record_step(alloc, run, state, trace, u.thread, action)? {
         Some((name, id)) => Ok(Err(Outcome::Trap(name, id))),
         None => Ok(Ok(Share {
             thread: u.thread,
@@ -176,68 +182,140 @@ fn step_of(
     }
 }
 
-/// Takes the next step of the run, and gives what is left of its thread's share, or the end that comes
-/// in its place. While a thread goes on, nothing is asked of the others.
-fn turn(
+/// As `turn`, by what the next step of the thread is whose share it is.
+fn asked_turn(
     alloc: Global,
-    p: &Program,
-    input: &[i64],
+    run: &Run,
     q: u32,
-    gated: &Gated,
     state: &mut MachineState,
     trace: &mut Trace,
     u: Share,
+    action: &Action,
 ) -> Result<Result<Share, Outcome>, AllocError>
-    requires of { IsMachine p.now state.old }
+    requires of { IsMachine run.now.program.now state.old }
+    requires next { action.now ≡ next_of run.now.program.now state.old u.thread.0 }
     requires some { 0 < q }
-    requires gated { gated.now ≡ [] }
+    requires gated { run.now.gated.now ≡ [] }
     requires room { length trace.old.steps < trace.old.room }
-    ensures turn { IfOk result (λ r. (n : ℕ) → onto trace.old.steps (run (suc n) p.now input.now q state.old u) ≡ on_turn r trace.new.steps state.new (run n p.now input.now q)) }
-    ensures of { OnOk result (IsMachine p.now state.new) }
+    ensures turn { IfOk result (λ r. (n : ℕ) → onto trace.old.steps (run_from (suc n) run.now.program.now run.now.input.now q state.old u) ≡ on_turn r trace.new.steps state.new (run_from n run.now.program.now run.now.input.now q)) }
+    ensures of { OnOk result (IsMachine run.now.program.now state.new) }
     ensures room { OnOk result (trace.new.room ≡ trace.old.room) }
     ensures more { OnOk result (length trace.new.steps ≤ length trace.old.steps + 1) }
 {
-    let action = state.next(p, u.thread);
-    if state.can_take(p, u.thread, &action) && 0 < u.left {
-        return step_of(alloc, p, input, gated, state, trace, u, &action);
+    if state.can_take(run.program, u.thread, action) && 0 < u.left {
+        return step_of(alloc, run, state, trace, u, action);
     }
-    match choose(state, p, q, u) {
+    match choose(state, run.program, q, u) {
         Err(end) => Ok(Err(end)),
         Ok(v) => {
-            let action = state.next(p, v.thread);
-            step_of(alloc, p, input, gated, state, trace, v, &action)
+            let action = state.next(run.program, v.thread);
+            step_of(alloc, run, state, trace, v, &action)
         }
     }
 }
 
-/// The rotation run, up to a number of steps.
+/// Takes the next step of the run, and gives what is left of its thread's share, or the end that comes
+/// in its place. While a thread goes on, nothing is asked of the others.
+#[inline(always)]
+fn turn(
+    alloc: Global,
+    run: &Run,
+    q: u32,
+    state: &mut MachineState,
+    trace: &mut Trace,
+    u: Share,
+) -> Result<Result<Share, Outcome>, AllocError>
+    requires of { IsMachine run.now.program.now state.old }
+    requires some { 0 < q }
+    requires gated { run.now.gated.now ≡ [] }
+    requires room { length trace.old.steps < trace.old.room }
+    ensures turn { IfOk result (λ r. (n : ℕ) → onto trace.old.steps (run_from (suc n) run.now.program.now run.now.input.now q state.old u) ≡ on_turn r trace.new.steps state.new (run_from n run.now.program.now run.now.input.now q)) }
+    ensures of { OnOk result (IsMachine run.now.program.now state.new) }
+    ensures room { OnOk result (trace.new.room ≡ trace.old.room) }
+    ensures more { OnOk result (length trace.new.steps ≤ length trace.old.steps + 1) }
+{
+    if u.left == 0 || state.is_over() {
+        let action = state.next(run.program, u.thread);
+        return asked_turn(alloc, run, q, state, trace, u, &action);
+    }
+    match record_own(run.program, state, trace, true, u.thread) {
+        None => {
+            let left = u.left - 1;
+            Ok(Ok(Share {
+                thread: u.thread,
+                left,
+            }))
+        }
+        Some(action) => asked_turn(alloc, run, q, state, trace, u, &action),
+    }
+}
+
+/// The rotation run, up to a number of steps, which are recorded.
 fn rotate_within(
     alloc: Global,
     p: &Program,
     input: &[i64],
     q: u32,
     limit: u32,
+    trace: &mut Trace,
 ) -> Result<Rotated, AllocError>
     requires some { 0 < q }
-    ensures { IfOk result (λ r. run limit p.now input.now q (initial p.now) (first_share q) ≡ record { trace = r.trace.steps; state = r.state; end = r.end }) }
+    requires empty { trace.old ≡ empty_with limit }
+    ensures run { IfOk result (λ r. run_from limit p.now input.now q (initial p.now) (first_share q) ≡ record { trace = trace.new.steps; state = r.state; end = r.end }) }
+    ensures room { OnOk result (trace.new.room ≡ limit) }
 {
     let mut state = MachineState::new(alloc, p)?;
-    let mut trace = Trace::with_room(alloc, limit as usize)?;
     let gated = Gated::none(alloc);
+    let run = Run {
+        program: p,
+        input,
+        gated: &gated,
+    };
     let mut share = Share {
         thread: ThreadNo(0),
         left: q,
     };
     for _ in 0..limit {
-        match turn(alloc, p, input, q, &gated, &mut state, &mut trace, share)? {
+        match turn(alloc, &run, q, &mut state, trace, share)? {
             Ok(left) => share = left,
             Err(end) => {
-                return Ok(Rotated { trace, state, end });
+                return Ok(Rotated { state, end });
             }
         }
     }
     let end = at_limit(&state, p, input, q, share);
-    Ok(Rotated { trace, state, end })
+    Ok(Rotated { state, end })
+}
+
+/// As `rotate`, with its steps in a trace that is there, which has room for as many as a recording may have.
+/// The steps that it had are gone.
+///
+/// # Errors
+///
+/// Where no memory is left for it.
+#[tactic(auto, unfolding(crate::specs::Rotation::rotation_of))]
+pub fn rotate_into(
+    alloc: Global,
+    p: &Program,
+    input: &[i64],
+    q: u32,
+    trace: &mut Trace,
+) -> Result<Ended, AllocError>
+    requires some { 1 ≤ q }
+    requires few { q ≤ QUANTUM_LIMIT }
+    requires room { trace.old.room ≡ RECORDING_STEP_LIMIT }
+    ensures trace { OnOk result (trace.new.steps ≡ (rotation_of p.now input.now q).trace) }
+    ensures run { OnOk result (IsRun [] p.now input.now (initial p.now) trace.new.steps (rotation_of p.now input.now q).state) }
+    ensures output { IfOk result (λ r. r.output.items ≡ (rotation_of p.now input.now q).state.printed) }
+    ensures end { IfOk result (λ r. r.end ≡ (rotation_of p.now input.now q).end) }
+    ensures room { OnOk result (trace.new.room ≡ RECORDING_STEP_LIMIT) }
+{
+    trace.clear();
+    let Rotated { state, end } = rotate_within(alloc, p, input, q, RECORDING_STEP_LIMIT, trace)?;
+    Ok(Ended {
+        output: state.into_printed(),
+        end,
+    })
 }
 
 /// The rotation run of a program on an input: threads take their turns in number order, each with a
@@ -246,7 +324,6 @@ fn rotate_within(
 /// # Errors
 ///
 /// Where no memory is left for it.
-#[tactic(auto, unfolding(crate::specs::Rotation::rotation_of))]
 pub fn rotate(alloc: Global, p: &Program, input: &[i64], q: u32) -> Result<Recorded, AllocError>
     requires some { 1 ≤ q }
     requires few { q ≤ QUANTUM_LIMIT }
@@ -255,10 +332,7 @@ pub fn rotate(alloc: Global, p: &Program, input: &[i64], q: u32) -> Result<Recor
     ensures output { IfOk result (λ r. r.output.items ≡ (rotation_of p.now input.now q).state.printed) }
     ensures end { IfOk result (λ r. r.end ≡ (rotation_of p.now input.now q).end) }
 {
-    let Rotated { trace, state, end } = rotate_within(alloc, p, input, q, RECORDING_STEP_LIMIT)?;
-    Ok(Recorded {
-        trace,
-        output: state.into_printed(),
-        end,
-    })
+    let mut trace = Trace::with_room(alloc, RECORDING_STEP_LIMIT as usize)?;
+    let Ended { output, end } = rotate_into(alloc, p, input, q, &mut trace)?;
+    Ok(Recorded { trace, output, end })
 }

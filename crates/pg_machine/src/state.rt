@@ -1,21 +1,22 @@
-ghost use Rattle.std.specs.Prelude.{◌≡◌, ◌<◌, ◌≤◌, ◌+◌, ◌*◌, ◌^◌, ◌++◌, ◌∷◌, [], length, slice_get, slice_set, slice_index, true, IfOk, OnOk};
+ghost use Rattle.std.specs.Prelude.{◌≡◌, ◌<◌, ◌≤◌, ◌+◌, ◌*◌, ◌^◌, ◌++◌, ◌∷◌, [], length, slice_get, slice_set, slice_index, true, vec_capacity, IfOk, OnErr, OnOk};
 ghost use Rattle.std.specs.List.{All};
 ghost use Rattle.pg_num.specs.declared.limits.TheConstants.{THREAD_LIMIT};
-ghost use Rattle.pg_ir.specs.WellFormed.{BeginsThread};
 ghost use Rattle.pg_mem.specs.Memory.{read, written};
 ghost use Rattle.pg_sync.specs.Stages.{may_ask};
 ghost use Rattle.pg_sync.specs.Sync.{applied, check, named, over, stage_of};
 ghost use Rattle.pg_sync.specs.Sync.{ready as sync_ready};
-ghost use Rattle.pg_step.specs.LocalState.{fresh};
 ghost use Rattle.pg_step.specs.States.{IsOf};
+ghost use Rattle.pg_machine.specs.Readers.{depth_of, register_of};
 ghost use Rattle.pg_machine.specs.State.{exit_value_of, initial, next_of, instr_of};
 ghost use Rattle.pg_machine.specs.MachineStep.{is_ended, may_act, ready, operands_in, value_with, local_after, number_in};
 ghost use Rattle.pg_machine.specs.Machine.{HasRoom, IsMachine, MayGoOn};
+ghost use Rattle.pg_machine.specs.Went.{advance_in, locals_advanced};
 
 use pg_ir::{InstrId, Program, Request, ThreadNo, TrapName};
 use pg_mem::Memory;
+use pg_num::limits::THREAD_LIMIT;
 use pg_num::{Place, Width, to_signed, trunc};
-use pg_step::{Action, Fiber};
+use pg_step::{Action, Advance, Fiber};
 use pg_sync::{Reply, SyncState, SyncTrap};
 use std::alloc::{AllocError, Global};
 use std::marker::Model;
@@ -34,7 +35,8 @@ pub(crate) struct MachineState {
 }
 
 impl Model for MachineState {
-    ghost use Rattle.std.specs.Prelude.{◌≡◌};
+    ghost use Rattle.std.specs.Prelude.{◌≡◌, ◌≤◌, length, vec_capacity};
+    ghost use Rattle.pg_num.specs.declared.limits.TheConstants.{THREAD_LIMIT};
     ghost use Rattle.pg_sync.specs.Sync.{over};
     ghost use Rattle.pg_machine.specs.State.{State};
 
@@ -42,15 +44,16 @@ impl Model for MachineState {
 
     ghost view = { λ m. record { locals = m.fibers.items; memory = m.memory; sync = m.sync; words = m.words.items; printed = m.printed.items; value = m.value } };
 
-    ghost invariant = { λ m. m.ended ≡ over m.sync };
+    ghost invariant = { λ m. (m.ended ≡ over m.sync) × (length m.words.items ≡ length m.fibers.items) × (THREAD_LIMIT ≤ vec_capacity m.fibers) × (THREAD_LIMIT ≤ vec_capacity m.words) };
 }
 
-/// A list of one item.
+/// A list of one item, with room for one of each thread that a run may have.
 fn one<T: Drop>(alloc: Global, item: T) -> Result<Vec<T>, AllocError>
-    ensures { IfOk result (λ v. v.items ≡ item ∷ []) }
+    ensures items { IfOk result (λ v. v.items ≡ item ∷ []) }
+    ensures room { IfOk result (λ v. THREAD_LIMIT ≤ vec_capacity v) }
 {
-    let mut items = Vec::new(alloc);
-    items.push(item)?;
+    let mut items = Vec::with_capacity(alloc, THREAD_LIMIT as usize)?;
+    items.push_reserved(item);
     Ok(items)
 }
 
@@ -65,6 +68,26 @@ pub(crate) fn is_ended(action: &Action) -> bool
 }
 
 impl MachineState {
+    /// The value of a register of a thread's present call.
+    pub(crate) fn register(&self, t: ThreadNo, r: u32) -> Option<u64>
+        ensures { result ≡ register_of self.now t.0 r }
+    {
+        match self.fibers.get(t.0 as usize) {
+            Some(fiber) => fiber.register(r),
+            None => None,
+        }
+    }
+
+    /// How many calls of a thread are open.
+    pub(crate) fn depth(&self, t: ThreadNo) -> u32
+        ensures { result ≡ depth_of self.now t.0 }
+    {
+        match self.fibers.get(t.0 as usize) {
+            Some(fiber) => fiber.open_calls(),
+            None => 0,
+        }
+    }
+
     /// The first state of a run.
     #[tactic(auto, using(crate::proofs::Steps::initial_is), unfolding(crate::specs::State::initial))]
     pub(crate) fn new(alloc: Global, p: &Program) -> Result<MachineState, AllocError>
@@ -211,6 +234,23 @@ impl MachineState {
         fiber.resume(p, answer)
     }
 
+    /// Does the next step of a thread if only its own state decides and sees it, and gives what is told of
+    /// it; else nothing changes, and it gives what the step asks.
+    // Most steps of a run are of this kind.
+    #[inline(always)]
+    pub(crate) fn advance_thread(&mut self, p: &Program, t: ThreadNo) -> Advance
+        requires { All (IsOf p.now) self.old.locals }
+        ensures state { self.new ≡ record self.old { locals = locals_advanced p.now self.old.locals t.0 (slice_get self.old.locals t.0) } }
+        ensures answer { result ≡ advance_in p.now (slice_get self.old.locals t.0) }
+    {
+        if (t.0 as usize) < self.fibers.len() {
+            let fiber = &mut self.fibers[t.0 as usize];
+            fiber.advance(p)
+        } else {
+            Advance::Asks(Action::Ended)
+        }
+    }
+
     pub(crate) fn read(&self, at: Place) -> u64
         ensures { result ≡ read self.now.memory at }
     {
@@ -236,27 +276,19 @@ impl MachineState {
     }
 
     pub(crate) fn print(&mut self, alloc: Global, text: &[u8]) -> Result<(), AllocError>
-        ensures { OnOk result (self.new ≡ record self.old { printed = self.old.printed ++ text.now }) }
+        ensures printed { OnOk result (self.new ≡ record self.old { printed = self.old.printed ++ text.now }) }
+        ensures kept { OnErr result (self.new ≡ self.old) }
     {
         self.printed.extend_from_slice(text)
     }
 
-    /// Makes a thread that will begin with this function and this argument.
-    pub(crate) fn add_thread(
-        &mut self,
-        alloc: Global,
-        p: &Program,
-        function: u32,
-        argument: u64,
-    ) -> Result<(), AllocError>
-        requires few { length self.old.locals < THREAD_LIMIT }
-        requires begins { BeginsThread (slice_get p.now.functions function) }
-        ensures { OnOk result (self.new ≡ record self.old { locals = self.old.locals ++ fresh p.now (length self.old.locals) function ∷ []; words = self.old.words ++ argument ∷ [] }) }
+    /// Adds a thread, which will begin with this argument. Takes no memory.
+    pub(crate) fn add_thread(&mut self, fiber: Fiber, argument: u64)
+        requires { length self.old.locals < THREAD_LIMIT }
+        ensures { self.new ≡ record self.old { locals = self.old.locals ++ fiber ∷ []; words = self.old.words ++ argument ∷ [] } }
     {
-        let t = ThreadNo(self.fibers.len() as u8);
-        self.fibers.push(Fiber::new(alloc, p, t, function)?)?;
-        self.words.push(argument)?;
-        Ok(())
+        self.fibers.push_reserved(fiber);
+        self.words.push_reserved(argument);
     }
 
     pub(crate) fn printed(&self) -> &[u8]

@@ -3,13 +3,14 @@ ghost use Rattle.std.specs.List.{All};
 ghost use Rattle.pg_step.specs.States.{IsOf};
 ghost use Rattle.pg_machine.specs.State.{instr_of, next_of};
 ghost use Rattle.pg_machine.specs.Filled.{filled};
+ghost use Rattle.pg_machine.specs.Went.{kind_of};
 ghost use Rattle.pg_machine.specs.MachineStep.{access_told, event_told, happening_if, happening_of, instr_told, kind_told, op_told, operands_in, turn_with, write_told};
 
 use crate::gated::Gated;
 use crate::state::MachineState;
 use pg_ir::{InstrId, Known, Op, Program, Request, ThreadNo};
 use pg_num::Place;
-use pg_step::Action;
+use pg_step::{Action, LocalStep};
 use pg_trace::{
     Access, Event, Happening, StepKind, Turn, TurnKind, Write, happening_of, kind_of, object_of,
 };
@@ -44,6 +45,18 @@ pub(crate) fn filled(kind: StepKind, answer: u64, number: u64) -> StepKind
             ..event
         }),
         _ => kind,
+    }
+}
+
+/// What the trace tells of a step that only its thread's own state decides and sees.
+#[inline(always)]
+pub(crate) fn told_as(step: LocalStep) -> StepKind
+    ensures { result ≡ kind_of step }
+{
+    match step {
+        LocalStep::Other => StepKind::Other,
+        LocalStep::Branch { condition } => StepKind::Branch { condition },
+        LocalStep::Allocation { operand, result } => StepKind::Allocation { operand, result },
     }
 }
 

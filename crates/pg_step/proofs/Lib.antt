@@ -1,5 +1,9 @@
+pub mod Along
+pub mod Advances
 pub mod Computed
 pub mod Named
+pub mod Ties
+pub mod ComputedSteps
 pub mod Goes
 pub mod Stacks
 pub mod Leaves
@@ -13,3 +17,4 @@ pub mod Ranges
 pub mod Results
 pub mod Frames
 pub mod Still
+pub mod Registers

@@ -14,6 +14,7 @@ use Rattle.pg_step.specs.Step.{top_registers, top_function}
 use Rattle.pg_step.specs.Told.{id_of, place_in}
 use Rattle.pg_step.specs.States.{IsOf, AreFramesOf, AreValuesOf, StandsAt}
 use Rattle.pg_step.specs.Needs.{IsPresent}
+use Rattle.pg_step.proofs.Along.{ends_block}
 use Rattle.pg_step.proofs.Typed.{length_values, operands_fit}
 
 stands_below : (p : NumberedProgram) (f i : ℕ) (o : Option Instr) → slice_get p.instrs i ≡ o → StandsAt p f o → i < length p.instrs
@@ -53,6 +54,7 @@ is_present p l x program h g e =
       widths = operands_fit p types (top_registers l.frames) (result_of p (function_of p x.block.0)) (type_at types x.result) x.op program values fits.op;
       thread = h.thread;
       region = h.region;
+      ends = ends_block p (place_in l.frames) x fits e;
     }
 
 frames_function : (p : NumberedProgram) (fs : List Frame) → IsProgram p → AreFramesOf p fs → 0 < length fs → top_function fs < length p.functions

@@ -16,10 +16,14 @@ use Rattle.pg_ir.specs.WellFormed.{IsProgram, FitsOp, HaveTypes, parameter_types
 use Rattle.pg_step.specs.declared.action.Action.{Action}
 use Rattle.pg_step.specs.declared.action.Action.TheVariants as actions
 use Rattle.pg_step.specs.LocalState.{Frame, LocalState, region_of}
-use Rattle.pg_step.specs.Step.{next, op_action, are_set, call_action, has_room, total, top_registers, under_top}
+use Rattle.pg_step.specs.Step.{next, op_action, edge_action, on_value, are_set, call_action, has_room, total, top_registers, under_top}
 use Rattle.pg_step.specs.Told.{id_of}
+use Rattle.pg_step.specs.Compute.{chosen}
+use Rattle.pg_step.specs.Operands.{operand, given}
+use Rattle.pg_step.specs.EdgeStep.{have_values, case_of}
+use Rattle.pg_ir.specs.Edges.{phis_of}
 use Rattle.pg_step.specs.States.{IsOf, AreFramesOf, AreValuesOf, StandsAt, WaitFor, CanStep}
-use Rattle.pg_step.specs.Needs.{CanDo, CanCall, CallerFits, ResultFits}
+use Rattle.pg_step.specs.Needs.{CanDo, CanTake, CanCall, CallerFits, ResultFits}
 use Rattle.pg_step.proofs.Typed.{length_values}
 use Rattle.pg_step.proofs.Nexts.{next_at}
 
@@ -87,3 +91,26 @@ unfolding IsOf
 can_do p l x program h b g e can =
     let types = types_of p (function_of p x.block.0) in
     room_of_op p l types (result_of p (function_of p x.block.0)) (type_at types x.result) x.block.0 x.op program h.frames (program.instrs (id_of l) x e).op (subst CanStep (next_at p l x b g e) can)
+
+-- ---- a branch that can be done has a value for each phi
+
+set_there : (t : Bool) → CanStep (if t then actions.Local else actions.Trap traps.Unset) → t ≡ true
+set_there true h = refl
+set_there false h = absurd h
+
+edge_there : (p : NumberedProgram) (rs : List (Option ℕ)) (from to : ℕ) → CanStep (edge_action p rs from to) → have_values p rs from (phis_of p to) ≡ true
+unfolding edge_action
+edge_there p rs from to h = set_there (have_values p rs from (phis_of p to)) h
+
+edge_given : (p : NumberedProgram) (rs : List (Option ℕ)) (from : ℕ) (o : Option ℕ) (to : ℕ → ℕ) → CanStep (on_value o (λ n. edge_action p rs from (to n))) → have_values p rs from (phis_of p (to (given o))) ≡ true
+edge_given p rs from None to h = absurd h
+edge_given p rs from (Some n) to h = edge_there p rs from (to n) h
+
+take_of_op : (p : NumberedProgram) (l : LocalState) (block : ℕ) (o : Op) → CanStep (op_action p (region_of l) l.halfway (top_registers l.frames) (length l.frames) (total l.frames) block o) → CanTake p l block o
+take_of_op p l block (op.Br to) can = edge_there p (top_registers l.frames) block to.0 can
+take_of_op p l block (op.CondBr c a b) can = edge_given p (top_registers l.frames) block (operand p (top_registers l.frames) c) (λ n. chosen n a.0 b.0) can
+take_of_op p l block (op.Switch w on other cases) can = edge_given p (top_registers l.frames) block (operand p (top_registers l.frames) on) (λ n. case_of cases other.0 n) can
+take_of_op p l block o can = tt
+
+pub can_take : (p : NumberedProgram) (l : LocalState) (x : Instr) → l.begun ≡ true → 0 < length l.frames → slice_get p.instrs (id_of l) ≡ Some x → CanStep (next p l) → CanTake p l x.block.0 x.op
+can_take p l x b g e can = take_of_op p l x.block.0 x.op (subst CanStep (next_at p l x b g e) can)

@@ -1,6 +1,6 @@
 -- The result of an instruction that neither reads memory nor asks anything outside of its operands
 -- (LLVM Language Reference). The same function gives the values along a slice.
-use Rattle.std.specs.Prelude.{ℕ, ◌+◌, ◌==◌, ℤ, pos, ◌*ℤ◌, List, [], ◌∷◌, Bool, true, false, Result, Ok, Err, if◌then◌else◌}
+use Rattle.std.specs.Prelude.{ℕ, ◌+◌, ◌==◌, ℤ, pos, ◌*ℤ◌, List, [], ◌∷◌, Bool, true, false, Option, Some, None, Result, Ok, Err, if◌then◌else◌}
 use Rattle.pg_num.specs.Numbers.{signed, sum_of, difference_of, product_of, divided, shifted, bits_of, compared, truncated, sign_extended}
 use Rattle.pg_num.specs.Pointers.{moved_by}
 use Rattle.pg_num.specs.declared.operations.DivideFault.{DivideFault}
@@ -50,3 +50,58 @@ computed (op.IntToPtr from to v) n = n 0
 computed (op.Select c a b) n = chosen (n 0) (n 1) (n 2)
 computed (op.Gep base indices) n = moved_along (n 0) indices n 1
 computed _ n = 0
+
+-- ---- the same where an operand may have no value
+
+abbrev pub quotient_of : Result ℕ DivideFault → Option ℕ
+quotient_of (Ok n) = Some n
+quotient_of (Err e) = None
+
+abbrev pub with_value : Option ℕ → (ℕ → Option ℕ) → Option ℕ
+with_value None f = None
+with_value (Some n) f = f n
+
+abbrev pub with_values : Option ℕ → Option ℕ → (ℕ → ℕ → Option ℕ) → Option ℕ
+with_values u v f = with_value u (λ m. with_value v (λ n. f m n))
+
+-- none where an index has no value
+abbrev pub moved_if : ℕ → List Index → (ℕ → Option ℕ) → ℕ → Option ℕ
+moved_if word [] v k = Some word
+moved_if word (i ∷ is) v k = with_value (v k) (λ n. moved_if (moved_by word (index_bytes i i.scale n)) is v (k + 1))
+
+-- the result, by the value of each operand: none where one that is read has none, where a division has none,
+-- or for an instruction of another kind
+abbrev pub computed_if : Op → (ℕ → Option ℕ) → Option ℕ
+computed_if (op.Add w a b) v = with_values (v 0) (v 1) (λ m n. Some (sum_of w m n))
+computed_if (op.Sub w a b) v = with_values (v 0) (v 1) (λ m n. Some (difference_of w m n))
+computed_if (op.Mul w a b) v = with_values (v 0) (v 1) (λ m n. Some (product_of w m n))
+computed_if (op.Divide d w a b) v = with_values (v 0) (v 1) (λ m n. quotient_of (divided d w m n))
+computed_if (op.Shift s w a b) v = with_values (v 0) (v 1) (λ m n. Some (shifted s w m n))
+computed_if (op.Bits o w a b) v = with_values (v 0) (v 1) (λ m n. Some (bits_of o m n))
+computed_if (op.Compare c w a b) v = with_values (v 0) (v 1) (λ m n. Some (number_of_bool (compared c w m n)))
+computed_if (op.Trunc from to w) v = with_value (v 0) (λ n. Some (truncated to n))
+computed_if (op.Zext from to w) v = with_value (v 0) (λ n. Some n)
+computed_if (op.Sext from to w) v = with_value (v 0) (λ n. Some (sign_extended from to n))
+computed_if (op.PtrToInt from to w) v = with_value (v 0) (λ n. Some (truncated to n))
+computed_if (op.IntToPtr from to w) v = with_value (v 0) (λ n. Some n)
+computed_if (op.Select c a b) v = with_value (v 0) (λ k. with_values (v 1) (v 2) (λ m n. Some (chosen k m n)))
+computed_if (op.Gep base indices) v = with_value (v 0) (λ word. moved_if word indices v 1)
+computed_if _ v = None
+
+-- instructions that only compute with their operands
+abbrev pub computes : Op → Bool
+computes (op.Add w a b) = true
+computes (op.Sub w a b) = true
+computes (op.Mul w a b) = true
+computes (op.Divide d w a b) = true
+computes (op.Shift s w a b) = true
+computes (op.Bits o w a b) = true
+computes (op.Compare c w a b) = true
+computes (op.Trunc from to v) = true
+computes (op.Zext from to v) = true
+computes (op.Sext from to v) = true
+computes (op.PtrToInt from to v) = true
+computes (op.IntToPtr from to v) = true
+computes (op.Select c a b) = true
+computes (op.Gep base indices) = true
+computes _ = false

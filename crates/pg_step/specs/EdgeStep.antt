@@ -1,17 +1,10 @@
 -- Taking an edge: all `phi`s of the block that is entered take their values together.
-use Rattle.std.specs.Prelude.{ℕ, ◌==◌, ◌&&◌, List, [], ◌∷◌, map, Bool, true, false, Option, Some, None, slice_set, if◌then◌else◌}
-use Rattle.pg_ir.specs.declared.value.Value.{Value}
-use Rattle.pg_ir.specs.declared.edge.Case.{Case}
-use Rattle.pg_ir.specs.declared.edge.Incoming.{Incoming}
+use Rattle.std.specs.Prelude.{ℕ, ◌&&◌, List, [], ◌∷◌, map, Bool, true, false, Option, Some, None, slice_set}
 use Rattle.pg_ir.specs.declared.instr.Instr.{Instr}
 use Rattle.pg_ir.specs.Program.{NumberedProgram}
 use Rattle.pg_ir.specs.Edges.{incoming_of, phis_of}
+pub use Rattle.pg_ir.specs.Edges.{incoming_from, case_of}
 use Rattle.pg_step.specs.Operands.{optional_operand}
-
--- the value that is listed first for the block that is left
-abbrev pub incoming_from : List Incoming → ℕ → Option Value
-incoming_from [] from = None
-incoming_from (i ∷ is) from = if i.block.0 == from then Some i.value else incoming_from is from
 
 abbrev pub phi_value : NumberedProgram → List (Option ℕ) → ℕ → Instr → Option ℕ
 phi_value p rs from x = optional_operand p rs (incoming_from (incoming_of x.op) from)
@@ -40,8 +33,3 @@ set_each rs (x ∷ xs) (v ∷ vs) = set_each (set_register rs x.result v) xs vs
 -- the registers after the edge from one block to another
 unfoldable pub over_edge : NumberedProgram → List (Option ℕ) → ℕ → ℕ → List (Option ℕ)
 over_edge p rs from to = set_each rs (phis_of p to) (phi_values p rs from (phis_of p to))
-
--- the case of a switch that is first equal to the operand, else the default
-abbrev pub case_of : List Case → ℕ → ℕ → ℕ
-case_of [] other n = other
-case_of (c ∷ cs) other n = if c.value == n then c.to.0 else case_of cs other n

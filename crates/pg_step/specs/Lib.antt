@@ -1,3 +1,4 @@
+pub mod Advance
 pub mod Compute
 pub mod EdgeStep
 pub mod LocalState

@@ -1,6 +1,6 @@
 -- What the code of a step asks of the operands and of the state: that each number has its width, and
 -- that the step can be taken.
-use Rattle.std.specs.Prelude.{ℕ, ◌+◌, ◌<◌, ◌≤◌, ◌^◌, List, [], ◌∷◌, length, Bool, IsTrue, Option, Some, None, IfSome, slice_get, if◌then◌else◌}
+use Rattle.std.specs.Prelude.{◌≡◌, ℕ, ◌+◌, ◌<◌, ◌&&◌, true, ◌≤◌, ◌^◌, List, [], ◌∷◌, length, Bool, IsTrue, Option, Some, None, IfSome, slice_get, if◌then◌else◌}
 use Rattle.std.specs.List.{AllByRecursion}
 use Rattle.pg_num.specs.Numbers.{modulus}
 use Rattle.pg_num.specs.declared.layout.TheConstants.{REGION_GRANULES}
@@ -18,10 +18,13 @@ use Rattle.pg_ir.specs.declared.instr.Instr.{Instr}
 use Rattle.pg_ir.specs.Program.{NumberedProgram, types_of}
 use Rattle.pg_ir.specs.Operands.{CanReadAll, CanGoOn}
 use Rattle.pg_ir.specs.WellFormed.{granules_for}
+use Rattle.pg_ir.specs.Edges.{is_terminator, successors, targets_of, case_of, phis_of}
+use Rattle.pg_ir.specs.Tables.{block_cases, cases_of}
 use Rattle.pg_num.specs.Pointers.{moved_by}
 use Rattle.pg_step.specs.LocalState.{Frame, LocalState, region_of, top_height}
 use Rattle.pg_step.specs.Operands.{operand, given, number_at}
-use Rattle.pg_step.specs.Compute.{index_bytes}
+use Rattle.pg_step.specs.Compute.{index_bytes, chosen, with_value}
+use Rattle.pg_step.specs.EdgeStep.{is_set, have_values}
 use Rattle.pg_step.specs.Told.{place_in}
 use Rattle.pg_step.specs.Step.{total, has_room, top_registers, under_top}
 
@@ -52,6 +55,11 @@ OperandsFit p rs _ = Unit {0}
 abbrev pub moved_each : NumberedProgram → List (Option ℕ) → ℕ → List Index → ℕ
 moved_each p rs word [] = word
 moved_each p rs word (i ∷ is) = moved_each p rs (moved_by word (index_bytes i i.scale (given (operand p rs i.value)))) is
+
+-- the same where an index may have no value
+abbrev pub moved_each_if : NumberedProgram → List (Option ℕ) → ℕ → List Index → Option ℕ
+moved_each_if p rs word [] = Some word
+moved_each_if p rs word (i ∷ is) = with_value (operand p rs i.value) (λ n. moved_each_if p rs (moved_by word (index_bytes i i.scale n)) is)
 
 -- operations that have a kind of their own
 abbrev pub HasKind : Op → Type 0
@@ -115,6 +123,38 @@ object_request halfway known.PthreadCondDestroy o = requests.CondDestroy o
 object_request halfway known.PthreadBarrierDestroy o = requests.BarrierDestroy o
 object_request halfway k o = if halfway then requests.Leave o else requests.Arrive o
 
+-- ---- edges
+
+-- whether each of them is a value
+abbrev pub are_given : List (Option ℕ) → Bool
+are_given [] = true
+are_given (v ∷ vs) = is_set v && are_given vs
+
+abbrev pub IsBranch : Op → Type 0
+IsBranch (op.Br to) = Unit {0}
+IsBranch (op.CondBr c a b) = Unit {0}
+IsBranch (op.Switch w on other cases) = Unit {0}
+IsBranch _ = ⊥
+
+abbrev pub IsNoBranch : Op → Type 0
+IsNoBranch (op.Br to) = ⊥
+IsNoBranch (op.CondBr c a b) = ⊥
+IsNoBranch (op.Switch w on other cases) = ⊥
+IsNoBranch _ = Unit {0}
+
+-- the block to which a branch goes on, by the number of its condition
+abbrev pub block_taken : ℕ → Op → ℕ
+block_taken n (op.Br to) = to.0
+block_taken n (op.CondBr c a b) = chosen n a.0 b.0
+block_taken n (op.Switch w on other cases) = case_of cases other.0 n
+block_taken n _ = 0
+
+-- an instruction of a block of the program, which tells its targets where it ends it
+pub record EndsBlock (p : NumberedProgram) (x : Instr) : Type 0 where
+  pub block : x.block.0 < length p.blocks
+  pub targets : is_terminator x.op ≡ true → successors p x.block.0 ≡ targets_of x.op
+  pub cases : is_terminator x.op ≡ true → block_cases p x.block.0 ≡ cases_of x.op
+
 -- ---- the state
 
 -- the present instruction of a thread that has begun
@@ -127,6 +167,7 @@ pub record IsPresent (p : NumberedProgram) (l : LocalState) (x : Instr) : Type 0
   pub widths : OperandsFit p (top_registers l.frames) x.op
   pub thread : l.thread < THREAD_LIMIT
   pub region : top_height l.frames + l.heap ≤ REGION_GRANULES
+  pub ends : EndsBlock p x
 
 -- a new frame has room
 pub record CanCall (p : NumberedProgram) (l : LocalState) (g : ℕ) (vs : List Value) : Type 0 where
@@ -152,6 +193,13 @@ CanDo p l (op.Ret v) = CallerFits p (under_top l.frames)
 CanDo p l (op.Alloca bytes) = IsTrue (has_room (region_of l) (granules_for bytes))
 CanDo p l op.Unreachable = ⊥
 CanDo p l _ = Unit {0}
+
+-- each phi of the block that is entered has a value
+abbrev pub CanTake : NumberedProgram → LocalState → ℕ → Op → Type 0
+CanTake p l block (op.Br to) = have_values p (top_registers l.frames) block (phis_of p to.0) ≡ true
+CanTake p l block (op.CondBr c a b) = have_values p (top_registers l.frames) block (phis_of p (chosen (given (operand p (top_registers l.frames) c)) a.0 b.0)) ≡ true
+CanTake p l block (op.Switch w on other cases) = have_values p (top_registers l.frames) block (phis_of p (case_of cases other.0 (given (operand p (top_registers l.frames) on)))) ≡ true
+CanTake p l block _ = Unit {0}
 
 -- operations whose number doesn't depend on the thread's region
 abbrev pub NeedsNoRegion : Op → Type 0

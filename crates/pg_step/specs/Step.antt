@@ -204,6 +204,11 @@ frames_action p l true (f ∷ fs) = instr_action p l f fs (slice_get p.instrs f.
 unfoldable pub next : NumberedProgram → LocalState → Action
 next p l = frames_action p l l.begun l.frames
 
+-- a number, where the action is a step by itself
+abbrev pub if_local : Action → ℕ → Option ℕ
+if_local actions.Local n = Some n
+if_local _ n = None
+
 -- ---- the number that an instruction gives its register
 
 -- the pointer to a new range of the stack

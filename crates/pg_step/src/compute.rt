@@ -9,7 +9,7 @@ ghost use Rattle.pg_step.specs.Compute.{computed, chosen, number_of_bool, quotie
 ghost use Rattle.pg_step.specs.Needs.{HasKind, HasWidth, OperandsFit, moved_each};
 
 use crate::operands::number_of;
-use pg_ir::{BlockNo, Index, Op, Program, Scale, Value};
+use pg_ir::{Index, Op, Program, Scale, Value};
 use pg_num::{
     Division, Width, add, bits, compare, divide, move_by, move_by_index, mul, sext, shift, sub,
     trunc,
@@ -131,21 +131,21 @@ fn quotient(op: Division, width: Width, a: u64, b: u64) -> u64
     }
 }
 
-fn number_of_bool(holds: bool) -> u64
+pub(crate) fn number_of_bool(holds: bool) -> u64
     ensures { result ≡ number_of_bool holds }
 {
     if holds { 1 } else { 0 }
 }
 
 /// The first number where the condition isn't 0, else the second.
-fn chosen(cond: u64, first: u64, second: u64) -> u64
+pub(crate) fn chosen(cond: u64, first: u64, second: u64) -> u64
     ensures { result ≡ chosen cond first second }
 {
     if cond == 0 { second } else { first }
 }
 
 /// A pointer moved by an index.
-fn moved_once(word: u64, index: &Index, n: u64) -> u64
+pub(crate) fn moved_once(word: u64, index: &Index, n: u64) -> u64
     requires { n < modulus index.now.width }
     ensures { result ≡ moved_by word (index_bytes index.now index.now.scale n) }
 {
@@ -167,11 +167,4 @@ fn moved(p: &Program, registers: &[Option<u64>], word: u64, indices: &[Index]) -
         word = moved_once(word, index, n);
     }
     word
-}
-
-/// The first block where the condition isn't 0, else the second.
-pub(crate) fn chosen_block(cond: u64, first: BlockNo, second: BlockNo) -> BlockNo
-    ensures { result.0 ≡ chosen cond first.0 second.0 }
-{
-    if cond == 0 { second } else { first }
 }

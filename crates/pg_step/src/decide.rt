@@ -3,22 +3,20 @@ ghost use Rattle.std.specs.List.{AllByRecursion};
 ghost use Rattle.pg_num.specs.Numbers.{divided, modulus};
 ghost use Rattle.pg_num.specs.declared.limits.TheConstants.{THREAD_REGISTER_LIMIT};
 ghost use Rattle.pg_ir.specs.declared.request.TrapName.TheVariants as traps;
-ghost use Rattle.pg_ir.specs.Operands.{CanRead, CanReadAll, CanReadReturned, CanEnter, CanGoOn};
-ghost use Rattle.pg_ir.specs.Edges.{phis_of};
+ghost use Rattle.pg_ir.specs.Operands.{CanRead, CanReadAll, CanReadReturned, CanGoOn};
 ghost use Rattle.pg_step.specs.declared.action.Action.TheVariants as actions;
 ghost use Rattle.pg_step.specs.Operands.{operand, operands_of};
 ghost use Rattle.pg_step.specs.Step.{bytes_of, edge_action, call_action, return_action, returning_action, divided_action, op_action, on_all, on_value, on_place, has_room};
 ghost use Rattle.pg_ir.specs.WellFormed.{granules_for};
-ghost use Rattle.pg_step.specs.Needs.{HasWidth, OperandsFit, IsPlain};
+ghost use Rattle.pg_step.specs.Needs.{EndsBlock, HasWidth, OperandsFit, IsBranch, IsPlain, block_taken};
 
 use crate::action::Action;
-use crate::compute::chosen_block;
-use crate::edges;
+use crate::edges::{edge_of, have_values};
 use crate::known::{fault_action, known_action};
-use crate::operands::{has_value, have_index_values, have_values, value_of};
+use crate::operands::{are_set, has_value, have_index_values, value_of};
 use crate::present::Present;
 use crate::region::{Region, granules_for, has_room};
-use pg_ir::{BlockNo, Instr, Op, Program, Request, TrapName, Value};
+use pg_ir::{Instr, Op, Program, Request, TrapName, Value};
 use pg_num::limits::{CALL_DEPTH_LIMIT, THREAD_REGISTER_LIMIT};
 use pg_num::{DivideFault, Division, Width, divide, place};
 
@@ -45,13 +43,13 @@ fn plain_action(p: &Program, registers: &[Option<u64>], op: &Op) -> Action
         | Op::Mul { left, right, .. }
         | Op::Shift { left, right, .. }
         | Op::Bits { left, right, .. }
-        | Op::Compare { left, right, .. } => local_if(have_values(p, registers, &[*left, *right])),
+        | Op::Compare { left, right, .. } => local_if(are_set(p, registers, &[*left, *right])),
         Op::Trunc { of, .. }
         | Op::Zext { of, .. }
         | Op::Sext { of, .. }
         | Op::PtrToInt { of, .. }
         | Op::IntToPtr { of, .. } => local_if(has_value(p, registers, *of)),
-        Op::Select { cond, yes, no } => local_if(have_values(p, registers, &[*cond, *yes, *no])),
+        Op::Select { cond, yes, no } => local_if(are_set(p, registers, &[*cond, *yes, *no])),
         Op::Gep { base, indices } => {
             local_if(
                 has_value(p, registers, *base)
@@ -90,13 +88,17 @@ fn divide_action(
     }
 }
 
-/// The action of an edge: the `phi`s of the target are read at the branch.
-#[tactic(auto, unfolding(crate::specs::Step::edge_action))]
-fn edge_action(p: &Program, registers: &[Option<u64>], from: BlockNo, to: BlockNo) -> Action
-    requires { CanEnter p.now (length registers.now) to.0 }
-    ensures { result ≡ edge_action p.now registers.now from.0 to.0 }
+/// The action of a branch, by the number of its condition: the `phi`s of the block that is entered are
+/// read at the branch.
+#[tactic(auto, using(crate::proofs::Along::along_set, crate::proofs::Along::along_reads, crate::proofs::Goes::taken_enters), unfolding(crate::specs::Step::edge_action))]
+fn branch_action(p: &Program, registers: &[Option<u64>], instr: &Instr, n: u64) -> Action
+    requires branch { IsBranch instr.now.op }
+    requires ends { EndsBlock p.now instr.now }
+    requires edges { CanGoOn p.now (length registers.now) instr.now.op }
+    ensures { result ≡ edge_action p.now registers.now instr.now.block.0 (block_taken n instr.now.op) }
 {
-    local_if(edges::have_values(p, registers, from, p.phis(to)))
+    let edge = edge_of(p, instr, n);
+    local_if(have_values(p, registers, p.values_along(instr.block, edge)))
 }
 
 /// The action of a call of a function, whose operands have values.
@@ -209,11 +211,11 @@ fn store_action(
 }
 
 /// The action of the present instruction.
-#[tactic(auto, using(crate::proofs::Goes::chosen_enters, crate::proofs::Goes::case_enters))]
 pub(crate) fn action_of(p: &Program, here: &Present, instr: &Instr) -> Action
     requires operands { CanReadAll p.now (length here.now.registers.now) instr.now.op }
     requires edges { CanGoOn p.now (length here.now.registers.now) instr.now.op }
     requires widths { OperandsFit p.now here.now.registers.now instr.now.op }
+    requires ends { EndsBlock p.now instr.now }
     requires used { here.now.used ≤ THREAD_REGISTER_LIMIT }
     ensures { result ≡ op_action p.now here.now.region here.now.halfway here.now.registers.now here.now.depth here.now.used instr.now.block.0 instr.now.op }
 {
@@ -226,26 +228,16 @@ pub(crate) fn action_of(p: &Program, here: &Present, instr: &Instr) -> Action
             right,
         } => divide_action(p, registers, *op, *width, *left, *right),
         Op::Phi { .. } => Action::Ended,
-        Op::Br { to } => edge_action(p, registers, instr.block, *to),
-        Op::CondBr { cond, yes, no } => match value_of(p, registers, *cond) {
-            Some(n) => edge_action(p, registers, instr.block, chosen_block(n, *yes, *no)),
+        Op::Br { .. } => branch_action(p, registers, instr, 0),
+        Op::CondBr { cond, .. } => match value_of(p, registers, *cond) {
+            Some(n) => branch_action(p, registers, instr, n),
             None => Action::Trap(TrapName::Unset),
         },
-        Op::Switch {
-            on,
-            other,
-            cases,
-            ..
-        } => match value_of(p, registers, *on) {
-            Some(n) => edge_action(
-                p,
-                registers,
-                instr.block,
-                edges::case_of(cases.as_slice(), *other, n),
-            ),
+        Op::Switch { on, .. } => match value_of(p, registers, *on) {
+            Some(n) => branch_action(p, registers, instr, n),
             None => Action::Trap(TrapName::Unset),
         },
-        Op::Call { args, .. } if !have_values(p, registers, args.as_slice()) => Action::Trap(
+        Op::Call { args, .. } if !are_set(p, registers, args.as_slice()) => Action::Trap(
             TrapName::Unset,
         ),
         Op::Call { function, .. } => call_action(p, *function, here.depth, here.used),

@@ -1,81 +1,62 @@
-ghost use Rattle.std.specs.Prelude.{◌≡◌, ◌<◌, ◌≤◌, ◌∷◌, length, map, IfSome, vec_capacity};
+ghost use Rattle.std.specs.Prelude.{◌≡◌, ◌<◌, ◌≤◌, ◌∷◌, [], length, map, true, false, Some, slice_get, IfSome, vec_capacity};
 ghost use Rattle.std.specs.List.{AllByRecursion};
+ghost use Rattle.pg_ir.specs.Edges.{phis_of, successors};
 ghost use Rattle.pg_num.specs.declared.limits.TheConstants.{FUNCTION_REGISTER_LIMIT};
-ghost use Rattle.pg_ir.specs.declared.edge.Case.{Case};
-ghost use Rattle.pg_ir.specs.declared.edge.Incoming.{Incoming};
-ghost use Rattle.pg_ir.specs.Edges.{incoming_of};
-ghost use Rattle.pg_ir.specs.Operands.{CanRead, CanTakePhi, CanEnter};
+ghost use Rattle.pg_ir.specs.Operands.{CanEnter, CanReadReturned, CanTakePhi};
 ghost use Rattle.pg_step.specs.Operands.{optional_operand};
-ghost use Rattle.pg_step.specs.EdgeStep.{incoming_from, phi_value, phi_values, have_values, set_register, set_each, over_edge, case_of};
+ghost use Rattle.pg_step.specs.EdgeStep.{have_values, over_edge, set_register, set_each};
+ghost use Rattle.pg_step.specs.Compute.{chosen};
+ghost use Rattle.pg_step.specs.Needs.{EndsBlock, IsBranch, are_given, block_taken};
 
 use crate::operands::value_of;
 use crate::room::push_value;
-use pg_ir::{BlockNo, Case, Incoming, Instr, Op, Program};
+use pg_ir::{BlockNo, Edge, Instr, Op, Program, Value};
 
-/// The value that is listed first for the block that is left.
-fn incoming_value(
-    p: &Program,
-    registers: &[Option<u64>],
-    incoming: &[Incoming],
-    from: BlockNo,
-) -> Option<u64>
-    requires { AllByRecursion (λ (i : Incoming). CanRead p.now (length registers.now) i.value) incoming.now }
-    ensures { result ≡ optional_operand p.now registers.now (incoming_from incoming.now from.0) }
+/// The value of an operand that there may be.
+fn optional_value(p: &Program, registers: &[Option<u64>], of: Option<Value>) -> Option<u64>
+    requires { CanReadReturned p.now (length registers.now) of }
+    ensures { result ≡ optional_operand p.now registers.now of }
 {
-    for listed in incoming {
-        if listed.block == from {
-            return value_of(p, registers, listed.value);
-        }
-    }
-    None
-}
-
-/// The value that a `phi` takes where this block is left.
-fn phi_value(p: &Program, registers: &[Option<u64>], from: BlockNo, phi: &Instr) -> Option<u64>
-    requires { AllByRecursion (λ (i : Incoming). CanRead p.now (length registers.now) i.value) (incoming_of phi.now.op) }
-    ensures { result ≡ phi_value p.now registers.now from.0 phi.now }
-{
-    match &phi.op {
-        Op::Phi { from: incoming } => incoming_value(p, registers, incoming.as_slice(), from),
-        _ => None,
+    match of {
+        Some(value) => value_of(p, registers, value),
+        None => None,
     }
 }
 
-/// Whether each `phi` has a value where this block is left.
-pub(crate) fn have_values(
-    p: &Program,
-    registers: &[Option<u64>],
-    from: BlockNo,
-    phis: &[Instr],
-) -> bool
-    requires { AllByRecursion (CanTakePhi p.now (length registers.now)) phis.now }
-    ensures { result ≡ have_values p.now registers.now from.0 phis.now }
+/// Whether each operand along an edge has a value.
+pub(crate) fn have_values(p: &Program, registers: &[Option<u64>], row: &[Option<Value>]) -> bool
+    requires { AllByRecursion (CanReadReturned p.now (length registers.now)) row.now }
+    ensures { result ≡ are_given (map (optional_operand p.now registers.now) row.now) }
 {
-    for phi in phis {
-        if phi_value(p, registers, from, phi).is_none() {
+    for of in row {
+        if optional_value(p, registers, *of).is_none() {
             return false;
         }
     }
     true
 }
 
-/// Puts the values of the `phi`s into the room.
+/// Puts the values of the operands along an edge into the room, and says whether each has one.
 fn gather(
     p: &Program,
     registers: &[Option<u64>],
-    from: BlockNo,
-    phis: &[Instr],
+    row: &[Option<Value>],
     room: &mut Vec<Option<u64>>,
-)
-    requires fits { AllByRecursion (CanTakePhi p.now (length registers.now)) phis.now }
-    requires room { length phis.now ≤ vec_capacity room.old }
-    ensures values { room.new.items ≡ phi_values p.now registers.now from.0 phis.now }
+) -> bool
+    requires fits { AllByRecursion (CanReadReturned p.now (length registers.now)) row.now }
+    requires room { length row.now ≤ vec_capacity room.old }
+    ensures values { room.new.items ≡ map (optional_operand p.now registers.now) row.now }
+    ensures given { result ≡ are_given (map (optional_operand p.now registers.now) row.now) }
     ensures room { vec_capacity room.old ≤ vec_capacity room.new }
 {
     room.clear();
-    for phi in phis {
-        push_value(room, phi_value(p, registers, from, phi));
+    let mut given = true;
+    for of in row {
+        let value = optional_value(p, registers, *of);
+        given = given && value.is_some();
+        push_value(room, value);
     }
+    given
 }
 
 /// Sets a register, if there is one.
@@ -99,33 +80,56 @@ fn assign(p: &Program, registers: &mut [Option<u64>], phis: &[Instr], values: &[
     }
 }
 
-/// Takes an edge: all `phi`s of the block that is entered take their values together.
-#[tactic(auto, unfolding(crate::specs::EdgeStep::over_edge))]
+/// Takes an edge, if each `phi` of the block that is entered has a value: they take their values together.
+/// Says whether each has one; else no register changes.
+#[tactic(auto, using(crate::proofs::Along::along_values, crate::proofs::Along::along_set, crate::proofs::Along::along_reads, crate::proofs::Along::along_few, pg_ir::proofs::Prepared::values_count), unfolding(crate::specs::EdgeStep::over_edge))]
 pub(crate) fn take_edge(
     p: &Program,
     registers: &mut [Option<u64>],
     room: &mut Vec<Option<u64>>,
     from: BlockNo,
-    to: BlockNo,
-)
-    requires enters { CanEnter p.now (length registers.old) to.0 }
+    edge: Edge,
+) -> bool
+    requires from { from.0 < length p.now.blocks }
+    requires target { slice_get (successors p.now from.0) edge.target ≡ Some edge.to.0 }
+    requires enters { CanEnter p.now (length registers.old) edge.to.0 }
     requires room { FUNCTION_REGISTER_LIMIT ≤ vec_capacity room.old }
-    ensures registers { registers.new ≡ over_edge p.now registers.old from.0 to.0 }
+    ensures given { result ≡ have_values p.now registers.old from.0 (phis_of p.now edge.to.0) }
+    ensures goes { result ≡ true → registers.new ≡ over_edge p.now registers.old from.0 edge.to.0 }
+    ensures stays { result ≡ false → registers.new ≡ registers.old }
     ensures room { vec_capacity room.old ≤ vec_capacity room.new }
 {
-    let phis = p.phis(to);
-    gather(p, registers, from, phis, room);
-    assign(p, registers, phis, room.as_slice());
+    let given = gather(p, registers, p.values_along(from, edge), room);
+    if given {
+        assign(p, registers, p.phis(edge.to), room.as_slice());
+    }
+    given
 }
 
-/// The case of a `switch` that is first equal to the operand, else the default.
-pub(crate) fn case_of(cases: &[Case], other: BlockNo, n: u64) -> BlockNo
-    ensures { result.0 ≡ case_of cases.now other.0 n }
+/// The edge that a conditional branch takes, by the number of its condition.
+fn cond_edge(n: u64, yes: BlockNo, no: BlockNo) -> Edge
+    ensures to { result.to.0 ≡ chosen n yes.0 no.0 }
+    ensures target { slice_get (yes.0 ∷ no.0 ∷ []) result.target ≡ Some result.to.0 }
 {
-    for case in cases {
-        if case.value == n {
-            return case.to;
-        }
+    if n == 0 {
+        Edge { target: 1, to: no }
+    } else {
+        Edge { target: 0, to: yes }
     }
-    other
+}
+
+/// The edge that a branch takes, by the number of its condition.
+#[inline(always)]
+pub(crate) fn edge_of(p: &Program, instr: &Instr, n: u64) -> Edge
+    requires branch { IsBranch instr.now.op }
+    requires ends { EndsBlock p.now instr.now }
+    ensures to { result.to.0 ≡ block_taken n instr.now.op }
+    ensures target { slice_get (successors p.now instr.now.block.0) result.target ≡ Some result.to.0 }
+{
+    match &instr.op {
+        Op::CondBr { yes, no, .. } => cond_edge(n, *yes, *no),
+        Op::Switch { other, cases, .. } => p.switched(instr.block, cases.as_slice(), *other, n),
+        Op::Br { to } => Edge { target: 0, to: *to },
+        _ => unreachable!(),
+    }
 }

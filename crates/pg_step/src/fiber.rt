@@ -1,9 +1,11 @@
-ghost use Rattle.std.specs.Prelude.{◌≡◌, ◌<◌, ◌≤◌, ◌+◌, ◌∷◌, ◌==◌, [], length, map, IfOk, IfSome, true, false};
+ghost use Rattle.std.specs.Prelude.{◌≡◌, ◌<◌, ◌≤◌, ◌+◌, ◌∷◌, ◌==◌, [], length, map, slice_get, IfOk, IfSome, Some, true, false};
 ghost use Rattle.pg_num.specs.declared.layout.TheConstants.{REGION_GRANULES};
 ghost use Rattle.pg_num.specs.declared.limits.TheConstants.{CALL_DEPTH_LIMIT, FUNCTION_REGISTER_LIMIT, INSTRUCTION_LIMIT, THREAD_LIMIT, THREAD_REGISTER_LIMIT};
+ghost use Rattle.pg_ir.specs.Edges.{phis_of, successors};
 ghost use Rattle.pg_ir.specs.Program.{types_of, entry_of};
 ghost use Rattle.std.specs.List.{AllByRecursion};
 ghost use Rattle.pg_ir.specs.Operands.{CanEnter, CanRead};
+ghost use Rattle.pg_step.specs.EdgeStep.{have_values};
 ghost use Rattle.pg_step.specs.Operands.{operand};
 ghost use Rattle.pg_ir.specs.WellFormed.{StartsAs};
 ghost use Rattle.pg_step.specs.LocalState.{fresh, region_of, top_height};
@@ -17,7 +19,7 @@ use crate::head::Head;
 use crate::present::Present;
 use crate::region::Region;
 use crate::room::{push_call, push_head, reserved};
-use pg_ir::{BlockNo, InstrId, Program, ThreadNo, Value};
+use pg_ir::{BlockNo, Edge, InstrId, Program, ThreadNo, Value};
 use pg_num::limits::{CALL_DEPTH_LIMIT, FUNCTION_REGISTER_LIMIT, THREAD_REGISTER_LIMIT};
 use std::alloc::{AllocError, Global};
 use std::marker::Model;
@@ -260,23 +262,26 @@ impl Fiber {
         self.halfway = true;
     }
 
-    /// Goes on to another block of the function.
-    #[tactic(auto, unfolding(crate::specs::Stack::frames_of))]
-    pub(crate) fn go(&mut self, p: &Program, from: BlockNo, to: BlockNo)
+    /// Goes on to another block of the function, if each `phi` there has a value; else nothing changes.
+    /// Says whether it goes on.
+    #[tactic(auto, using(crate::proofs::Along::along_values, crate::proofs::Along::along_set, crate::proofs::Along::along_reads, crate::proofs::Along::along_few), unfolding(crate::specs::Stack::frames_of, crate::specs::EdgeStep::over_edge))]
+    pub(crate) fn go(&mut self, p: &Program, from: BlockNo, edge: Edge) -> bool
         requires going { 0 < length self.old.frames }
-        requires enters { CanEnter p.now (length (top_registers self.old.frames)) to.0 }
-        ensures { self.new ≡ record self.old { halfway = false; frames = on_top (λ f. moved p.now f from.0 to.0) self.old.frames } }
+        requires from { from.0 < length p.now.blocks }
+        requires target { slice_get (successors p.now from.0) edge.target ≡ Some edge.to.0 }
+        requires enters { CanEnter p.now (length (top_registers self.old.frames)) edge.to.0 }
+        ensures given { result ≡ have_values p.now (top_registers self.old.frames) from.0 (phis_of p.now edge.to.0) }
+        ensures goes { result ≡ true → self.new ≡ record self.old { halfway = false; frames = on_top (λ f. moved p.now f from.0 edge.to.0) self.old.frames } }
+        ensures stays { result ≡ false → self.new ≡ self.old }
     {
         let _ended = self.ended;
-        take_edge(
-            p,
-            &mut self.registers[self.base as usize..],
-            &mut self.room,
-            from,
-            to,
-        );
-        self.top.place = p.body(to).0;
-        self.halfway = false;
+        let registers = &mut self.registers[self.base as usize..];
+        let given = take_edge(p, registers, &mut self.room, from, edge);
+        if given {
+            self.top.place = p.body(edge.to).0;
+            self.halfway = false;
+        }
+        given
     }
 
     /// Ends the thread.

@@ -2,19 +2,24 @@
 #![tactic(auto)]
 
 mod action;
+mod advance;
 mod compute;
 mod decide;
 mod edges;
 mod fiber;
 mod head;
 mod known;
+pub mod laws;
 mod numbers;
 mod operands;
+mod optional;
 mod present;
+mod readers;
 mod region;
 mod room;
 mod steps;
 
 pub use action::Action;
+pub use advance::{Advance, LocalStep};
 pub use fiber::Fiber;
 pub use region::Region;

@@ -61,7 +61,7 @@ pub(crate) fn has_value(p: &Program, registers: &[Option<u64>], of: Value) -> bo
 }
 
 /// Whether each of the operands has a value.
-pub(crate) fn have_values(p: &Program, registers: &[Option<u64>], args: &[Value]) -> bool
+pub(crate) fn are_set(p: &Program, registers: &[Option<u64>], args: &[Value]) -> bool
     requires { AllByRecursion (CanRead p.now (length registers.now)) args.now }
     ensures { result ≡ are_set p.now registers.now args.now }
 {

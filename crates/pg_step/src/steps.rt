@@ -8,14 +8,13 @@ ghost use Rattle.pg_step.specs.LocalState.{region_of};
 ghost use Rattle.pg_step.specs.Operands.{number_at, operands_of};
 ghost use Rattle.pg_step.specs.Step.{on_top, under_top, top_registers, stepped, returned, result_number, known_after, known_halfway, known_heap, instr_after, next, after};
 ghost use Rattle.pg_step.specs.Told.{place_in, operand_values, number_given, or_zero, known_own, op_own};
-ghost use Rattle.pg_step.specs.Needs.{IsPresent, CallerFits, CanDo};
+ghost use Rattle.pg_step.specs.Needs.{IsPresent, CallerFits, CanDo, CanTake};
 ghost use Rattle.pg_step.specs.States.{IsOf, CanStep};
 ghost use Rattle.pg_ir.specs.Program.{parameter_count};
 
 use crate::action::Action;
-use crate::compute::chosen_block;
 use crate::decide::action_of;
-use crate::edges::case_of;
+use crate::edges::edge_of;
 use crate::fiber::Fiber;
 use crate::known::known_number;
 use crate::numbers::{own_number, plain_number, returned_number};
@@ -108,31 +107,27 @@ impl Fiber {
     }
 
     /// Does the present instruction, and gives the number that its own register got.
-    #[tactic(auto, using(crate::proofs::Leaves::or_zero_zero, crate::proofs::Goes::chosen_enters))]
-    fn act(&mut self, p: &Program, instr: &Instr, reply: u64) -> u64
+    #[tactic(auto, using(crate::proofs::Leaves::or_zero_zero, crate::proofs::Goes::taken_enters))]
+    pub(crate) fn act(&mut self, p: &Program, instr: &Instr, reply: u64) -> u64
         requires present { IsPresent p.now self.old instr.now }
         requires room { CanDo p.now self.old instr.now.op }
+        requires edge { CanTake p.now self.old instr.now.block.0 instr.now.op }
         ensures state { self.new ≡ instr_after p.now self.old reply (Some instr.now) }
         ensures number { result ≡ or_zero instr.now.result (op_own p.now self.old (top_registers self.old.frames) reply instr.now.op) }
     {
         match &instr.op {
-            Op::Br { to } => {
-                self.go(p, instr.block, *to);
+            Op::Br { .. } => {
+                self.go(p, instr.block, edge_of(p, instr, 0));
                 0
             }
-            Op::CondBr { cond, yes, no } => {
+            Op::CondBr { cond, .. } => {
                 let n = number_of(p, self.top(), *cond);
-                self.go(p, instr.block, chosen_block(n, *yes, *no));
+                self.go(p, instr.block, edge_of(p, instr, n));
                 0
             }
-            Op::Switch {
-                on,
-                other,
-                cases,
-                ..
-            } => {
+            Op::Switch { on, .. } => {
                 let n = number_of(p, self.top(), *on);
-                self.go(p, instr.block, case_of(cases.as_slice(), *other, n));
+                self.go(p, instr.block, edge_of(p, instr, n));
                 0
             }
             Op::Call { function, args } => {
@@ -209,7 +204,7 @@ impl Fiber {
 
     /// Does the step with the answer to it, and gives the number that the instruction's own register
     /// got in it, 0 where it got none.
-    #[tactic(auto, using(crate::proofs::Nexts::can_go, crate::proofs::Presents::place_below, crate::proofs::Presents::is_present, crate::proofs::Rooms::can_do, crate::proofs::Afters::after_at, crate::proofs::Afters::number_of, crate::proofs::Still::still_of), unfolding(crate::specs::Step::after, crate::specs::Told::number_given))]
+    #[tactic(auto, using(crate::proofs::Nexts::can_go, crate::proofs::Presents::place_below, crate::proofs::Presents::is_present, crate::proofs::Rooms::can_do, crate::proofs::Rooms::can_take, crate::proofs::Afters::after_at, crate::proofs::Afters::number_of, crate::proofs::Still::still_of), unfolding(crate::specs::Step::after, crate::specs::Told::number_given))]
     pub fn resume(&mut self, p: &Program, reply: u64) -> u64
         requires of { IsOf p.now self.old }
         requires can { CanStep (next p.now self.old) }

@@ -1,15 +1,16 @@
-use Rattle.std.proofs.Common.{◌≡◌, ◌+◌, ◌*◌, ◌≤◌, List, sum}
+use Rattle.std.proofs.Common.{◌≡◌, ◌+◌, ◌*◌, ◌≤◌, length, sum}
 use Rattle.pg_num.specs.declared.limits.TheConstants.{GUIDED_STEP_LIMIT, THREAD_LIMIT}
-use Rattle.pg_trace.specs.declared.step.Step.{Step}
 use Rattle.pg_machine.specs.Machine.{IsMachine}
 use Rattle.pg_machine.specs.Guided.{guided_of}
-use Rattle.pg_machine.proofs.Walks.{IsAlong}
+use Rattle.pg_machine.proofs.WithSteps.{AlongWith}
 use Rattle.pg_machine.proofs.guided.guide_along.Given as goal
 
 abbrev pub invariant-loop-turn : goal.invariant-loop-turn
 invariant-loop-turn l = record {
-  of : IsMachine l.p l.state;
+  of : IsMachine l.run.program.now l.state;
   done : l.done ≡ l.turn-index;
   few : l.done + sum l.left.items ≤ THREAD_LIMIT * GUIDED_STEP_LIMIT;
-  along : (ts : List Step) × IsAlong l.gated l.p l.input l.turns l.turn-index l.state l.left.items (guided_of l.p l.input l.turns l.gated) ts;
+  room : l.trace.room ≡ l.initial.trace.room;
+  fits : length l.trace.steps ≤ l.trace.room;
+  along : AlongWith l.run.gated.now l.run.program.now l.run.input.now l.turns (guided_of l.run.program.now l.run.input.now l.turns l.run.gated.now) l.records l.initial.trace l.turn-index l.state l.left.items l.trace;
 }

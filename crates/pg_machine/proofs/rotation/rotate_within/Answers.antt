@@ -2,8 +2,8 @@ use Rattle.std.proofs.Common.{arith}
 use Rattle.pg_machine.proofs.Rotations.{loop_ends, loop_goes}
 use Rattle.pg_machine.proofs.rotation.rotate_within.Goals as goal
 
-pub returns-in-Err : goal.returns-in-Err
-returns-in-Err c = loop_ends c.args.p.now c.args.input.now c.args.q c.args.limit c.loop.counter c.loop.state c.turn.new.state c.loop.share c.loop.trace.steps c.turn.new.trace.steps c.in_ok-left.field-0 c.in-Err.end _ (omega arith) c.in_ok-left.ensures.turn c.in-Err.is c.loop.invariant.same
+pub returns-in-Err-clause-run : goal.returns-in-Err-clause-run
+returns-in-Err-clause-run c = loop_ends c.args.p.now c.args.input.now c.args.q c.args.limit c.loop.counter c.loop.state c.turn.new.state c.loop.share c.loop.trace.steps c.turn.new.trace.steps c.in_ok-left.field-0 c.in-Err.end _ (omega arith) c.in_ok-left.ensures.turn c.in-Err.is c.loop.invariant.same
 
 pub loop-preserved : goal.loop-preserved
 loop-preserved c = record {

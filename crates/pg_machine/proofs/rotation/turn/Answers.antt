@@ -1,13 +1,29 @@
-use Rattle.std.proofs.Common.{sym, ◌∙◌}
-use Rattle.pg_machine.proofs.Rotations.{chosen_stays, turn_stops, turn_from}
+use Rattle.std.proofs.Common.{sym, ◌∙◌, subst, arith, true}
+use Rattle.pg_machine.specs.Went.{WentRecorded}
+use Rattle.pg_machine.proofs.OwnTurns.{own_turn, own_more, own_room}
 use Rattle.pg_machine.proofs.rotation.turn.Goals as goal
 
-pub returns-in-Err-clause-turn : goal.returns-in-Err-clause-turn
-returns-in-Err-clause-turn c = λ n. turn_stops c.args.p.now c.args.input.now c.args.q n c.args.state.now c.args.u c.in-Err.end c.args.trace.now.steps (sym c.choose.ensures.chosen ∙ c.in-Err.is)
+pub returns-in-None-clause-turn : goal.returns-in-None-clause-turn
+returns-in-None-clause-turn c =
+    let w = subst (WentRecorded c.args.run.now.program.now c.args.state.now c.record_own.new.state c.args.u.thread.0 true c.args.trace.now c.record_own.new.trace) c.in-None.is c.record_own.ensures.step in
+    λ n. own_turn c.args.run.now.program.now c.args.state.now c.record_own.new.state c.args.run.now.input.now c.args.q n c.args.u c.args.trace.now c.record_own.new.trace w (omega arith)
 
-pub returns-in-Ok-clause-turn : goal.returns-in-Ok-clause-turn
-returns-in-Ok-clause-turn c = turn_from c.args.p.now c.args.input.now c.args.q c.args.state.now c.step_of-in-Ok.new.state c.args.u c.in-Ok.v c.args.trace.now.steps c.step_of-in-Ok.new.trace.steps c.step_of-in-Ok.result (sym c.choose.ensures.chosen ∙ c.in-Ok.is) c.step_of-in-Ok.ensures.turn
+pub returns-in-None-clause-room : goal.returns-in-None-clause-room
+returns-in-None-clause-room c =
+    let w = subst (WentRecorded c.args.run.now.program.now c.args.state.now c.record_own.new.state c.args.u.thread.0 true c.args.trace.now c.record_own.new.trace) c.in-None.is c.record_own.ensures.step in
+    own_room c.args.run.now.program.now c.args.state.now c.record_own.new.state c.args.u.thread.0 c.args.trace.now c.record_own.new.trace w
 
--- the thread goes on
-pub returns-then-u-gt0-clause-turn : goal.returns-then-u-gt0-clause-turn
-returns-then-u-gt0-clause-turn c = turn_from c.args.p.now c.args.input.now c.args.q c.args.state.now c.step_of.new.state c.args.u c.args.u c.args.trace.now.steps c.step_of.new.trace.steps c.step_of.result (chosen_stays c.args.p.now c.args.q c.args.state.now c.args.u (sym c.can_take.ensures ∙ c.if-can_take.true) c.if-u-gt0.true) c.step_of.ensures.turn
+pub returns-in-None-clause-more : goal.returns-in-None-clause-more
+returns-in-None-clause-more c =
+    let w = subst (WentRecorded c.args.run.now.program.now c.args.state.now c.record_own.new.state c.args.u.thread.0 true c.args.trace.now c.record_own.new.trace) c.in-None.is c.record_own.ensures.step in
+    own_more c.args.run.now.program.now c.args.state.now c.record_own.new.state c.args.u.thread.0 c.args.trace.now c.record_own.new.trace w
+
+pub asked_turn-requires-in-Some-clause-next : goal.asked_turn-requires-in-Some-clause-next
+asked_turn-requires-in-Some-clause-next c =
+    let w = subst (WentRecorded c.args.run.now.program.now c.args.state.now c.record_own.new.state c.args.u.thread.0 true c.args.trace.now c.record_own.new.trace) c.in-Some.is c.record_own.ensures.step in
+    rw w.1 w.0
+
+pub returns-in-Some-clause-turn : goal.returns-in-Some-clause-turn
+returns-in-Some-clause-turn c =
+    let w = subst (WentRecorded c.args.run.now.program.now c.args.state.now c.record_own.new.state c.args.u.thread.0 true c.args.trace.now c.record_own.new.trace) c.in-Some.is c.record_own.ensures.step in
+    rw (w.1, w.2) at c.asked_turn-in-Some.ensures.turn

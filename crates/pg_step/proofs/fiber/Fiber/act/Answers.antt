@@ -3,14 +3,8 @@ use Rattle.pg_step.specs.LocalState.{region_of}
 use Rattle.pg_step.specs.Step.{result_number, top_registers}
 use Rattle.pg_step.specs.Told.{or_zero}
 use Rattle.pg_step.specs.Needs.{IsStraight}
-use Rattle.pg_step.proofs.Goes.{case_enters}
 use Rattle.pg_step.proofs.Straight.{goes_straight, straight_state}
 use Rattle.pg_step.proofs.fiber.Fiber.act.Goals as goal
-
-pub go-requires-in-Switch-clause-enters : goal.go-requires-in-Switch-clause-enters
-go-requires-in-Switch-clause-enters c =
-    let h = rw c.in-Switch.is at c.requires.present.edges in
-    rw (c.case_of.ensures, c.as_slice.ensures.items) (case_enters c.args.p.now _ c.in-Switch.cases c.in-Switch.other.0 _ h)
 
 pub returns-in_default : goal.returns-in_default
 returns-in_default c =

@@ -16,3 +16,8 @@ pub action_of-requires-clause-widths : goal.action_of-requires-clause-widths
 action_of-requires-clause-widths c =
     let g : 0 < length c.args.self.now.frames = grind (arith, c.if-is_ended.false, c.is_ended.ensures) in
     rw c.present.ensures.registers (is_present c.args.p.now c.args.self.now c.instr-instr.result.now c.facts.ensures.holds c.requires g (rw c.id.ensures.id at c.instr-instr.ensures.at)).widths
+
+pub action_of-requires-clause-ends : goal.action_of-requires-clause-ends
+action_of-requires-clause-ends c =
+    let g : 0 < length c.args.self.now.frames = grind (arith, c.if-is_ended.false, c.is_ended.ensures) in
+    (is_present c.args.p.now c.args.self.now c.instr-instr.result.now c.facts.ensures.holds c.requires g (rw c.id.ensures.id at c.instr-instr.ensures.at)).ends
