@@ -4,6 +4,7 @@ pub mod Apart
 pub mod Bytes
 pub mod Cross
 pub mod Effects
+pub mod Examples
 pub mod Few
 pub mod FullEnds
 pub mod FullGuides

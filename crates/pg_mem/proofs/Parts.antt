@@ -115,11 +115,14 @@ replace_is w first n v old h k fit e =
     done o x w r a b c d = omega arith
 
 -- a number by its own bytes
-pub number_again : (n v : ℕ) → v < 2 ^ (8 * n) → number_of (byte_of v) 0 n ≡ v
-number_again n v h = sym (part_number v 0 n) ∙ whole v (2 ^ (8 * n)) h
+pub number_cut : (n v : ℕ) → number_of (byte_of v) 0 n ≡ v % 2 ^ (8 * n)
+number_cut n v = sym (part_number v 0 n) ∙ whole v (2 ^ (8 * n))
   where
-    whole : (v m : ℕ) → v < m → v / 2 ^ (8 * 0) % m ≡ v
-    whole v m h = let e : v / 2 ^ (8 * 0) ≡ v = omega arith in rw e (mod-eq_of_lt h)
+    whole : (v m : ℕ) → v / 2 ^ (8 * 0) % m ≡ v % m
+    whole v m = let e : v / 2 ^ (8 * 0) ≡ v = omega arith in ap (λ x. x % m) e
+
+pub number_again : (n v : ℕ) → v < 2 ^ (8 * n) → number_of (byte_of v) 0 n ≡ v
+number_again n v h = number_cut n v ∙ mod-eq_of_lt h
 
 pub part_small : (w first n : ℕ) → part_of w first n < 2 ^ (8 * n)
 part_small w first n = mod_below (w / 2 ^ (8 * first)) (2 ^ (8 * n)) (pow_pos (8 * n))

@@ -1,113 +1,16 @@
 -- Reads and writes of memory as a map of bytes.
-use Rattle.std.proofs.Common.{◌≡◌, ℕ, zero, suc, ◌+◌, ◌-◌, ◌*◌, ◌/◌, ◌%◌, ◌^◌, ◌<◌, ◌≤◌, false, ◌&&◌, nat_le, nat_lt, if◌then◌else◌, length, refl, sym, ap, ◌∙◌, arith, inl, inr, ◌⊎◌, add-zero, slice_index}
+use Rattle.std.proofs.Common.{◌≡◌, ℕ, zero, suc, ◌+◌, ◌-◌, ◌*◌, ◌/◌, ◌%◌, ◌^◌, ◌<◌, ◌≤◌, Bool, true, false, ◌&&◌, nat_le, nat_lt, if◌then◌else◌, length, refl, sym, ap, ◌∙◌, arith, inl, inr, ◌⊎◌, add-zero, slice_index}
 use Rattle.std.proofs.lemmas.Bool.{cases_lt}
 use Rattle.std.proofs.lemmas.Bool.Decides.{nat_tests}
 use Rattle.std.proofs.lemmas.Nat.{shr_high, mod_low, pow-add, mul-add-lt}
 use Rattle.std.proofs.lemmas.List.{get_or_past}
-use Rattle.pg_num.specs.Places.{ByteRange, IsPlace, meet}
+use Rattle.std.proofs.Math.Nat.{zero-div}
+use Rattle.pg_num.specs.Places.{ByteRange, meet}
 use Rattle.pg_num.specs.declared.layout.TheConstants.{GRANULE_COUNT, MEMORY_BYTES}
-use Rattle.pg_num.proofs.Granules.{IsPlace-in_granule, IsPlace-in_memory}
 use Rattle.pg_mem.specs.Bytes.{byte_of, number_of, with_bytes}
 use Rattle.pg_mem.specs.Memory.{Words, IsMemory, byte_at, words_from, memory_of, read, written}
-use Rattle.pg_mem.proofs.Parts.{number_again, byte_shifted}
-use Rattle.pg_mem.proofs.Places.{same_number, inside, outside, memory_of_is, byte_at-written, written_memory}
-
--- two ranges that don't meet lie one before the other
-apart : (r s : ByteRange) → meet r s ≡ false → (s.start + s.bytes ≤ r.start) ⊎ (r.start + r.bytes ≤ s.start)
-apart r s h = go (cases_lt r.start (s.start + s.bytes)) (cases_lt s.start (r.start + r.bytes))
-  where
-    go : (r.start < s.start + s.bytes) ⊎ (s.start + s.bytes ≤ r.start) → (s.start < r.start + r.bytes) ⊎ (r.start + r.bytes ≤ s.start) → (s.start + s.bytes ≤ r.start) ⊎ (r.start + r.bytes ≤ s.start)
-    go (inr a) _ = inl a
-    go (inl a) (inr b) = inr b
-    go (inl a) (inl b) = absurd (both a b h)
-      where
-        both : r.start < s.start + s.bytes → s.start < r.start + r.bytes → meet r s ≡ false → ⊥
-        both a b h = grind (arith, nat_tests)
-
-pub byte_at-written_law : (m : Words) (r : ByteRange) (v at : ℕ) → IsMemory m → IsPlace r → v < 2 ^ (8 * r.bytes) → byte_at (written m r v) at ≡ with_bytes (byte_at m) r v at
-byte_at-written_law m r v at h p small = byte_at-written m r v at h (IsPlace-in_memory r p) (IsPlace-in_granule r p) small
-
-pub written_memory_law : (m : Words) (r : ByteRange) (v : ℕ) → IsMemory m → IsPlace r → v < 2 ^ (8 * r.bytes) → IsMemory (written m r v)
-written_memory_law m r v h p small = written_memory m r v h (IsPlace-in_memory r p) (IsPlace-in_granule r p) small
-
-pub read-written_same : (m : Words) (r : ByteRange) (v : ℕ) → IsMemory m → IsPlace r → v < 2 ^ (8 * r.bytes) → read (written m r v) r ≡ v
-unfolding read
-read-written_same m r v h p small =
-    same_number (byte_at (written m r v)) (byte_of v) r.start 0 r.bytes each ∙ number_again r.bytes v small
-  where
-    each : (i : ℕ) → i < r.bytes → byte_at (written m r v) (r.start + i) ≡ byte_of v (0 + i)
-    each i l =
-        let a : r.start + i - r.start ≡ 0 + i = omega arith in
-        byte_at-written_law m r v (r.start + i) h p small
-        ∙ inside (byte_at m) r v (r.start + i) (omega arith) (omega arith)
-        ∙ ap (byte_of v) a
-
-pub read-written_apart : (m : Words) (r s : ByteRange) (v : ℕ) → IsMemory m → IsPlace r → v < 2 ^ (8 * r.bytes) → meet r s ≡ false → read (written m r v) s ≡ read m s
-unfolding read
-read-written_apart m r s v h p small e = same_number (byte_at (written m r v)) (byte_at m) s.start s.start s.bytes (each (apart r s e))
-  where
-    each : (s.start + s.bytes ≤ r.start) ⊎ (r.start + r.bytes ≤ s.start) → (i : ℕ) → i < s.bytes → byte_at (written m r v) (s.start + i) ≡ byte_at m (s.start + i)
-    each (inl a) i l = byte_at-written_law m r v (s.start + i) h p small ∙ outside (byte_at m) r v (s.start + i) (inl (omega arith))
-    each (inr a) i l = byte_at-written_law m r v (s.start + i) h p small ∙ outside (byte_at m) r v (s.start + i) (inr (omega arith))
-
-pub read-written_overlapping : (m : Words) (r s : ByteRange) (v : ℕ) → IsMemory m → IsPlace r → v < 2 ^ (8 * r.bytes)
-    → read (written m r v) s ≡ number_of (with_bytes (byte_at m) r v) s.start s.bytes
-unfolding read
-read-written_overlapping m r s v h p small =
-    same_number (byte_at (written m r v)) (with_bytes (byte_at m) r v) s.start s.start s.bytes (λ i l. byte_at-written_law m r v (s.start + i) h p small)
-
--- memories with the same bytes are the same
-pub same_bytes : (m n : Words) → IsMemory m → IsMemory n → ((at : ℕ) → byte_at m at ≡ byte_at n at) → m ≡ n
-same_bytes m n h k e = sym (memory_of_is (byte_at m) m h (λ at. refl)) ∙ memory_of_is (byte_at m) n k e
-
-with_bytes_same : (f g : ℕ → ℕ) (r : ByteRange) (v at : ℕ) → f at ≡ g at → with_bytes f r v at ≡ with_bytes g r v at
-with_bytes_same f g r v at e = ap (λ x. if nat_le r.start at && nat_lt at (r.start + r.bytes) then byte_of v (at - r.start) else x) e
-
-in_or_out : (r : ByteRange) (at : ℕ) → ((r.start ≤ at) × (at < r.start + r.bytes)) ⊎ ((at < r.start) ⊎ (r.start + r.bytes ≤ at))
-in_or_out r at = go (cases_lt at r.start) (cases_lt at (r.start + r.bytes))
-  where
-    go : (at < r.start) ⊎ (r.start ≤ at) → (at < r.start + r.bytes) ⊎ (r.start + r.bytes ≤ at) → ((r.start ≤ at) × (at < r.start + r.bytes)) ⊎ ((at < r.start) ⊎ (r.start + r.bytes ≤ at))
-    go (inl a) _ = inr (inl a)
-    go (inr a) (inl b) = inl (a, b)
-    go (inr a) (inr b) = inr (inr b)
-
-with_bytes_apart : (f : ℕ → ℕ) (r s : ByteRange) (v w at : ℕ) → meet r s ≡ false → with_bytes (with_bytes f r v) s w at ≡ with_bytes (with_bytes f s w) r v at
-with_bytes_apart f r s v w at e = go (apart r s e) (in_or_out r at)
-  where
-    go : (s.start + s.bytes ≤ r.start) ⊎ (r.start + r.bytes ≤ s.start) → ((r.start ≤ at) × (at < r.start + r.bytes)) ⊎ ((at < r.start) ⊎ (r.start + r.bytes ≤ at)) → with_bytes (with_bytes f r v) s w at ≡ with_bytes (with_bytes f s w) r v at
-    go x (inl y) =
-        outside (with_bytes f r v) s w at (out_of_s x)
-        ∙ inside f r v at y.0 y.1
-        ∙ sym (inside (with_bytes f s w) r v at y.0 y.1)
-      where
-        out_of_s : (s.start + s.bytes ≤ r.start) ⊎ (r.start + r.bytes ≤ s.start) → (at < s.start) ⊎ (s.start + s.bytes ≤ at)
-        out_of_s (inl a) = inr (omega arith)
-        out_of_s (inr a) = inl (omega arith)
-    go x (inr y) =
-        with_bytes_same (with_bytes f r v) f s w at (outside f r v at y)
-        ∙ sym (outside (with_bytes f s w) r v at y)
-
--- two writes that don't meet may change places
-pub written-written_apart : (m : Words) (r s : ByteRange) (v w : ℕ) → IsMemory m → IsPlace r → IsPlace s → v < 2 ^ (8 * r.bytes) → w < 2 ^ (8 * s.bytes) → meet r s ≡ false → written (written m r v) s w ≡ written (written m s w) r v
-written-written_apart m r s v w h p q small small' e =
-    same_bytes (written (written m r v) s w) (written (written m s w) r v)
-    (written_memory_law (written m r v) s w hr q small')
-    (written_memory_law (written m s w) r v hs p small)
-    each
-  where
-    hr : IsMemory (written m r v)
-    hr = written_memory_law m r v h p small
-
-    hs : IsMemory (written m s w)
-    hs = written_memory_law m s w h q small'
-
-    each : (at : ℕ) → byte_at (written (written m r v) s w) at ≡ byte_at (written (written m s w) r v) at
-    each at =
-        byte_at-written_law (written m r v) s w at hr q small'
-        ∙ with_bytes_same (byte_at (written m r v)) (with_bytes (byte_at m) r v) s w at (byte_at-written_law m r v at h p small)
-        ∙ with_bytes_apart (byte_at m) r s v w at e
-        ∙ sym (with_bytes_same (byte_at (written m s w)) (with_bytes (byte_at m) s w) r v at (byte_at-written_law m s w at h q small'))
-        ∙ sym (byte_at-written_law (written m s w) r v at hs p small)
+use Rattle.pg_mem.proofs.Parts.{number_cut, byte_shifted}
+use Rattle.pg_mem.proofs.Places.{same_number, inside, outside, memory_of_is}
 
 -- ---- the memory whose bytes are given
 
@@ -166,3 +69,132 @@ memory_of_memory f h = record {
     each g (inr l) =
         let past : slice_index (words_from f 0 GRANULE_COUNT) g ≡ 0 = get_or_past (words_from f 0 GRANULE_COUNT) g 0 (rw (length-words_from f 0 GRANULE_COUNT) l) in
         rw past (omega arith)
+
+-- ---- a write to any list of granules
+
+byte_small : (number k : ℕ) → byte_of number k < 2 ^ 8
+byte_small number k = omega arith
+
+byte_at-small : (m : Words) (at : ℕ) → byte_at m at < 2 ^ 8
+unfolding byte_at
+byte_at-small m at = byte_small (slice_index m (at / 8)) (at % 8)
+
+with_bytes-small : (m : Words) (r : ByteRange) (v at : ℕ) → with_bytes (byte_at m) r v at < 2 ^ 8
+with_bytes-small m r v at = either (nat_le r.start at && nat_lt at (r.start + r.bytes))
+  where
+    either : (inside : Bool) → (if inside then byte_of v (at - r.start) else byte_at m at) < 2 ^ 8
+    either true = byte_small v (at - r.start)
+    either false = byte_at-small m at
+
+pub byte_at-written_law : (m : Words) (r : ByteRange) (v at : ℕ) → at < MEMORY_BYTES → byte_at (written m r v) at ≡ with_bytes (byte_at m) r v at
+unfolding written
+byte_at-written_law m r v at l = byte_at-memory_of (with_bytes (byte_at m) r v) at (with_bytes-small m r v) l
+
+pub written_memory_law : (m : Words) (r : ByteRange) (v : ℕ) → IsMemory (written m r v)
+unfolding written
+written_memory_law m r v = memory_of_memory (with_bytes (byte_at m) r v) (with_bytes-small m r v)
+
+-- past memory's size each byte is zero
+pub byte_at-past : (m : Words) (at : ℕ) → IsMemory m → MEMORY_BYTES ≤ at → byte_at m at ≡ 0
+unfolding byte_at
+byte_at-past m at h l =
+    let g : length m ≤ at / 8 = let n = h.granules in omega (arith, n) in
+    ap (λ w. byte_of w (at % 8)) (get_or_past m (at / 8) 0 g) ∙ zero_byte (at % 8)
+  where
+    zero_byte : (k : ℕ) → byte_of 0 k ≡ 0
+    zero_byte k = rw (zero-div (2 ^ (8 * k))) refl
+
+-- ---- a read
+
+-- two ranges that don't meet lie one before the other
+apart : (r s : ByteRange) → meet r s ≡ false → (s.start + s.bytes ≤ r.start) ⊎ (r.start + r.bytes ≤ s.start)
+apart r s h = go (cases_lt r.start (s.start + s.bytes)) (cases_lt s.start (r.start + r.bytes))
+  where
+    go : (r.start < s.start + s.bytes) ⊎ (s.start + s.bytes ≤ r.start) → (s.start < r.start + r.bytes) ⊎ (r.start + r.bytes ≤ s.start) → (s.start + s.bytes ≤ r.start) ⊎ (r.start + r.bytes ≤ s.start)
+    go (inr a) _ = inl a
+    go (inl a) (inr b) = inr b
+    go (inl a) (inl b) = absurd (both a b h)
+      where
+        both : r.start < s.start + s.bytes → s.start < r.start + r.bytes → meet r s ≡ false → ⊥
+        both a b h = grind (arith, nat_tests)
+
+pub read-small : (m : Words) (r : ByteRange) → read m r < 2 ^ (8 * r.bytes)
+unfolding read
+read-small m r = number_of-small (byte_at m) r.start r.bytes (byte_at-small m)
+
+pub read-written_overlapping : (m : Words) (r s : ByteRange) (v : ℕ) → s.start + s.bytes ≤ MEMORY_BYTES
+    → read (written m r v) s ≡ number_of (with_bytes (byte_at m) r v) s.start s.bytes
+unfolding read
+read-written_overlapping m r s v l =
+    same_number (byte_at (written m r v)) (with_bytes (byte_at m) r v) s.start s.start s.bytes (λ i k. byte_at-written_law m r v (s.start + i) (omega arith))
+
+pub read-written_same : (m : Words) (r : ByteRange) (v : ℕ) → r.start + r.bytes ≤ MEMORY_BYTES → read (written m r v) r ≡ v % 2 ^ (8 * r.bytes)
+unfolding read
+read-written_same m r v l =
+    same_number (byte_at (written m r v)) (byte_of v) r.start 0 r.bytes each ∙ number_cut r.bytes v
+  where
+    each : (i : ℕ) → i < r.bytes → byte_at (written m r v) (r.start + i) ≡ byte_of v (0 + i)
+    each i k =
+        let a : r.start + i - r.start ≡ 0 + i = omega arith in
+        byte_at-written_law m r v (r.start + i) (omega arith)
+        ∙ inside (byte_at m) r v (r.start + i) (omega arith) (omega arith)
+        ∙ ap (byte_of v) a
+
+pub read-written_apart : (m : Words) (r s : ByteRange) (v : ℕ) → s.start + s.bytes ≤ MEMORY_BYTES → meet r s ≡ false → read (written m r v) s ≡ read m s
+unfolding read
+read-written_apart m r s v l e = same_number (byte_at (written m r v)) (byte_at m) s.start s.start s.bytes (each (apart r s e))
+  where
+    each : (s.start + s.bytes ≤ r.start) ⊎ (r.start + r.bytes ≤ s.start) → (i : ℕ) → i < s.bytes → byte_at (written m r v) (s.start + i) ≡ byte_at m (s.start + i)
+    each (inl a) i k = byte_at-written_law m r v (s.start + i) (omega arith) ∙ outside (byte_at m) r v (s.start + i) (inl (omega arith))
+    each (inr a) i k = byte_at-written_law m r v (s.start + i) (omega arith) ∙ outside (byte_at m) r v (s.start + i) (inr (omega arith))
+
+-- memories with the same bytes are the same
+pub same_bytes : (m n : Words) → IsMemory m → IsMemory n → ((at : ℕ) → at < MEMORY_BYTES → byte_at m at ≡ byte_at n at) → m ≡ n
+same_bytes m n h k e = sym (memory_of_is (byte_at m) m h (λ at. refl)) ∙ memory_of_is (byte_at m) n k (λ at. each at (cases_lt at MEMORY_BYTES))
+  where
+    each : (at : ℕ) → (at < MEMORY_BYTES) ⊎ (MEMORY_BYTES ≤ at) → byte_at m at ≡ byte_at n at
+    each at (inl l) = e at l
+    each at (inr l) = byte_at-past m at h l ∙ sym (byte_at-past n at k l)
+
+with_bytes_same : (f g : ℕ → ℕ) (r : ByteRange) (v at : ℕ) → f at ≡ g at → with_bytes f r v at ≡ with_bytes g r v at
+with_bytes_same f g r v at e = ap (λ x. if nat_le r.start at && nat_lt at (r.start + r.bytes) then byte_of v (at - r.start) else x) e
+
+in_or_out : (r : ByteRange) (at : ℕ) → ((r.start ≤ at) × (at < r.start + r.bytes)) ⊎ ((at < r.start) ⊎ (r.start + r.bytes ≤ at))
+in_or_out r at = go (cases_lt at r.start) (cases_lt at (r.start + r.bytes))
+  where
+    go : (at < r.start) ⊎ (r.start ≤ at) → (at < r.start + r.bytes) ⊎ (r.start + r.bytes ≤ at) → ((r.start ≤ at) × (at < r.start + r.bytes)) ⊎ ((at < r.start) ⊎ (r.start + r.bytes ≤ at))
+    go (inl a) _ = inr (inl a)
+    go (inr a) (inl b) = inl (a, b)
+    go (inr a) (inr b) = inr (inr b)
+
+with_bytes_apart : (f : ℕ → ℕ) (r s : ByteRange) (v w at : ℕ) → meet r s ≡ false → with_bytes (with_bytes f r v) s w at ≡ with_bytes (with_bytes f s w) r v at
+with_bytes_apart f r s v w at e = go (apart r s e) (in_or_out r at)
+  where
+    go : (s.start + s.bytes ≤ r.start) ⊎ (r.start + r.bytes ≤ s.start) → ((r.start ≤ at) × (at < r.start + r.bytes)) ⊎ ((at < r.start) ⊎ (r.start + r.bytes ≤ at)) → with_bytes (with_bytes f r v) s w at ≡ with_bytes (with_bytes f s w) r v at
+    go x (inl y) =
+        outside (with_bytes f r v) s w at (out_of_s x)
+        ∙ inside f r v at y.0 y.1
+        ∙ sym (inside (with_bytes f s w) r v at y.0 y.1)
+      where
+        out_of_s : (s.start + s.bytes ≤ r.start) ⊎ (r.start + r.bytes ≤ s.start) → (at < s.start) ⊎ (s.start + s.bytes ≤ at)
+        out_of_s (inl a) = inr (omega arith)
+        out_of_s (inr a) = inl (omega arith)
+    go x (inr y) =
+        with_bytes_same (with_bytes f r v) f s w at (outside f r v at y)
+        ∙ sym (outside (with_bytes f s w) r v at y)
+
+-- two writes that don't meet may change places
+pub written-written_apart : (m : Words) (r s : ByteRange) (v w : ℕ) → meet r s ≡ false → written (written m r v) s w ≡ written (written m s w) r v
+written-written_apart m r s v w e =
+    same_bytes (written (written m r v) s w) (written (written m s w) r v)
+    (written_memory_law (written m r v) s w)
+    (written_memory_law (written m s w) r v)
+    each
+  where
+    each : (at : ℕ) → at < MEMORY_BYTES → byte_at (written (written m r v) s w) at ≡ byte_at (written (written m s w) r v) at
+    each at l =
+        byte_at-written_law (written m r v) s w at l
+        ∙ with_bytes_same (byte_at (written m r v)) (with_bytes (byte_at m) r v) s w at (byte_at-written_law m r v at l)
+        ∙ with_bytes_apart (byte_at m) r s v w at e
+        ∙ sym (with_bytes_same (byte_at (written m s w)) (with_bytes (byte_at m) s w) r v at (byte_at-written_law m s w at l))
+        ∙ sym (byte_at-written_law (written m s w) r v at l)
