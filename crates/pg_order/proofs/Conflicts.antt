@@ -1,6 +1,6 @@
 -- Two steps conflict exactly where they meet at a byte.
-use Rattle.std.proofs.Common.{◌≡◌, ◌≢◌, ℕ, ◌==◌, ◌+◌, ◌<◌, ◌≤◌, ◌⊎◌, Bool, true, false, Option, Some, None, refl, sym, ap, ◌∙◌, arith, inl, inr}
-use Rattle.std.specs.Prelude.{◌&&◌, ◌||◌, ◌↔◌, not, max, nat_lt, nat_le}
+use Rattle.std.proofs.Common.{◌≡◌, ℕ, ◌==◌, ◌+◌, Bool, true, false, Option, Some, None, refl, sym, ◌∙◌, arith}
+use Rattle.std.specs.Prelude.{◌&&◌, ◌||◌, not, max, nat_lt, nat_le}
 use Rattle.std.proofs.lemmas.Bool.{true≢false, eq-eqb, ne_eqb, ltb-true, leb-true, lt-ltb, le-leb, and_parts, and_from, not-true, not_from_false}
 use Rattle.pg_num.specs.Places.{ByteRange}
 use Rattle.pg_plans.specs.Steps.{Conflict}

@@ -1,13 +1,13 @@
 -- A trace has no first unordered pair exactly where it is ordered.
-use Rattle.std.proofs.Common.{◌≡◌, ℕ, ◌+◌, ◌<◌, ◌≤◌, ◌⊎◌, Bool, true, false, List, [], ◌∷◌, ◌++◌, Option, Some, None, refl, sym, ap, ◌∙◌, subst, arith, inl, inr, append_assoc, append-nil}
-use Rattle.std.specs.Prelude.{◌&&◌, ◌↔◌, not, nat_lt}
+use Rattle.std.proofs.Common.{◌≡◌, ℕ, ◌+◌, ◌⊎◌, Bool, true, false, List, [], ◌∷◌, ◌++◌, Option, Some, None, refl, sym, ◌∙◌, subst, inl, inr, append_assoc, append-nil}
+use Rattle.std.specs.Prelude.{◌↔◌, not, nat_lt}
 use Rattle.std.specs.List.{AllByRecursion as AllOf, position_from}
 use Rattle.std.proofs.lemmas.Bool.{true≢false, cases_Bool, ltb-true, lt-ltb, and_cases, and_left, and_right, not-false, not_from_true}
-use Rattle.pg_plans.specs.Steps.{View, Conflict, EachPair}
+use Rattle.pg_plans.specs.Steps.{Conflict, EachPair}
 use Rattle.pg_plans.specs.Intervals.{Timed, AreOrdered, IsOrdered, owners}
 use Rattle.pg_plans.proofs.Lists.{all_map, pairs_before, pairs_more}
 use Rattle.pg_trace.specs.declared.step.Step.{Step}
-use Rattle.pg_trace.specs.Races.{conflict, first_unordered, is_unordered, overlap, pair_or, recorded, steps_by, timed_by, unordered_in}
+use Rattle.pg_trace.specs.Races.{conflict, first_unordered, is_unordered, overlap, recorded, steps_by, timed_by, unordered_in}
 use Rattle.pg_order.proofs.Conflicts.{at_a_byte, in_conflict}
 
 none_passes : {A : Type 0} (test : A → Bool) (k : ℕ) (xs : List A) → position_from test k xs ≡ None → AllOf (λ x. test x ≡ false) xs
@@ -26,7 +26,7 @@ module _ (is_event : Step → Bool) where
   abbrev Settled : Timed Step → Timed Step → Type 0
   Settled x y = Conflict (steps_by is_event) x.did y.did → AreOrdered x y
 
-  settled_of : (x y : Timed Step) → is_unordered x y ≡ false → Settled x y
+  pub settled_of : (x y : Timed Step) → is_unordered x y ≡ false → Settled x y
   settled_of x y h c = go (and_cases (conflict x.did y.did) (overlap x y) h)
     where
       apart : (not (nat_lt x.high y.low) ≡ false) ⊎ (not (nat_lt y.high x.low) ≡ false) → AreOrdered x y

@@ -2,6 +2,7 @@
 
 ghost use Rattle.std.specs.Prelude.{◌≡◌, ◌∷◌, [], None, Some, length, map};
 ghost use Rattle.pg_order.specs.Examples.{created, joined, locked, unlocked};
+ghost use Rattle.pg_order.specs.Schedules.{along};
 ghost use Rattle.pg_trace.specs.Races.{first_unordered, races_of, schedule_of};
 
 /// Two stores under a mutex are ordered.
@@ -28,4 +29,9 @@ pub fn a_create_and_a_join_order()
 pub fn a_create_writes()
     ensures order { first_unordered created ≡ Some (3, 4) }
     ensures races { races_of created ≡ record { instr = record { 0 = 11 }; step = 3; with = 4 } ∷ [] }
+{}
+
+/// The store behind the join is behind its thread's last turn, and left out of the run along the schedule.
+pub fn a_step_behind_the_last_turn_is_left_out()
+    ensures { length (along (schedule_of joined) joined) ≡ 7 }
 {}

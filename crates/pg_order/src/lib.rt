@@ -3,6 +3,9 @@
 #![tactic(auto)]
 
 pub mod examples;
+pub mod guided;
+pub mod law_a;
+pub mod recorded;
 
 ghost use Rattle.std.specs.Prelude.{◌≡◌, ◌↔◌, Bool, List, None, true};
 ghost use Rattle.pg_plans.specs.Intervals.{IsOrdered, owners};

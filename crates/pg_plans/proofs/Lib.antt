@@ -5,8 +5,10 @@ pub mod Owners
 pub mod Cuts
 pub mod Effects
 pub mod Places
+pub mod Firsts
 pub mod Follows
 pub mod Chains
 pub mod Runs
+pub mod Kept
 pub mod Counts
 pub mod Words

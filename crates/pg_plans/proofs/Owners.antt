@@ -1,5 +1,5 @@
 -- The turns of a list of steps along its own events.
-use Rattle.std.proofs.Common.{◌≡◌, ℕ, ◌+◌, ◌≤◌, Bool, true, false, List, [], ◌∷◌, ◌++◌, length, Some, refl, sym, ap, ◌∙◌, subst, arith, zero, suc}
+use Rattle.std.proofs.Common.{◌≡◌, ℕ, ◌+◌, Bool, true, false, List, [], ◌∷◌, ◌++◌, length, Some, refl, ap, subst, arith, suc}
 use Rattle.std.specs.Prelude.{slice_get}
 use Rattle.pg_plans.specs.Steps.{View}
 use Rattle.pg_plans.specs.Intervals.{done_after, turns_done, timed, times, AreTurns, owners}

@@ -7,7 +7,8 @@ use Rattle.pg_plans.specs.Cuts.{Mark, kept, whole, IsCut, IsBelow}
 use Rattle.pg_plans.specs.Effects.{State, Deed, deeds, effect, effects, Same, IsSame}
 use Rattle.pg_plans.specs.Plans.{is_of_thread}
 
-pub record Machine (L B Y E : Type 0) : Type 0 where
+-- which threads may step: by their local states and the objects
+pub record Rules (L Y : Type 0) : Type 0 where
   -- no thread takes a step any more
   pub over : Y → Bool
   -- the thread has a next step: it is made, hasn't ended, doesn't trap by itself and has steps left
@@ -16,32 +17,31 @@ pub record Machine (L B Y E : Type 0) : Type 0 where
   pub is_event : L → Bool
   -- the thread of this number may do the event: it is ready and doesn't trap
   pub ready : ℕ → L → Y → Bool
-  pub step : State L B Y → ℕ → Deed L B Y E
 
-module _ {L B Y E : Type 0} (M : Machine L B Y E) where
-  -- a step rests on its thread's local state, the cells that it reads, and, where it is an event, the objects
-  pub record IsDeterministic : Type 0 where
-    pub thread : (s : State L B Y) (t : ℕ) → (M.step s t).thread ≡ t
-    pub event : (s : State L B Y) (t : ℕ) → deeds.is_event (M.step s t) ≡ M.is_event (s.locals t)
-    pub same : (s z : State L B Y) (t : ℕ) → s.locals t ≡ z.locals t →
-        ((b : ℕ) → (M.step s t).reads b ≡ true → s.cells b ≡ z.cells b) →
-        (M.is_event (s.locals t) ≡ true → s.objects ≡ z.objects) → IsSame (M.step s t) (M.step z t)
-
+module _ {L Y : Type 0} (R : Rules L Y) where
   -- thread t may take a step in the state s along the turns T, of which g are done: the run isn't over, the
   -- thread has a next step and a turn left, and an event is the next turn and is ready
-  pub record May (T : List ℕ) (s : State L B Y) (g t : ℕ) : Type 0 where
-    pub going : M.over s.objects ≡ false
-    pub can : M.can (s.locals t) ≡ true
+  pub record May {B : Type 0} (T : List ℕ) (s : State L B Y) (g t : ℕ) : Type 0 where
+    pub going : R.over s.objects ≡ false
+    pub can : R.can (s.locals t) ≡ true
     pub turn : ℕ
     pub left : g ≤ turn
     pub own : slice_get T turn ≡ Some t
-    pub next : M.is_event (s.locals t) ≡ true → slice_get T g ≡ Some t
-    pub ready : M.is_event (s.locals t) ≡ true → M.ready t (s.locals t) s.objects ≡ true
+    pub next : R.is_event (s.locals t) ≡ true → slice_get T g ≡ Some t
+    pub ready : R.is_event (s.locals t) ≡ true → R.ready t (s.locals t) s.objects ≡ true
+
+-- Does s d says that d is what the next step of its thread does in the state s
+module _ {L B Y E : Type 0} (R : Rules L Y) (Does : State L B Y → Deed L B Y E → Type 0) where
+  -- a step rests on its thread's local state, the cells that it reads, and, where it is an event, the objects
+  pub record AreDetermined : Type 0 where
+    pub event : (s : State L B Y) (d : Deed L B Y E) → Does s d → deeds.is_event d ≡ R.is_event (s.locals d.thread)
+    pub same : (s z : State L B Y) (p d : Deed L B Y E) → Does s p → Does z d → d.thread ≡ p.thread → s.locals p.thread ≡ z.locals p.thread →
+        ((b : ℕ) → p.reads b ≡ true → s.cells b ≡ z.cells b) → (deeds.is_event p ≡ true → s.objects ≡ z.objects) → IsSame p d
 
   -- d is a permitted step
   pub record Takes (T : List ℕ) (s : State L B Y) (g : ℕ) (d : Deed L B Y E) : Type 0 where
-    pub may : May T s g d.thread
-    pub is_step : IsSame d (M.step s d.thread)
+    pub may : May R T s g d.thread
+    pub is_step : Does s d
 
   -- a permitted run from s on, where g turns are done
   abbrev pub IsPermitted : List ℕ → State L B Y → ℕ → List (Deed L B Y E) → Type 0
@@ -51,8 +51,25 @@ module _ {L B Y E : Type 0} (M : Machine L B Y E) where
   -- a permitted run that can't be prolonged; where it is over it has all turns
   pub record IsFull (T : List ℕ) (s : State L B Y) (ds : List (Deed L B Y E)) : Type 0 where
     pub permitted : IsPermitted T s 0 ds
-    pub all_turns : M.over (effects s ds).objects ≡ true → length T ≤ turns_done deeds 0 ds
-    pub maximal : (t : ℕ) → May T (effects s ds) (turns_done deeds 0 ds) t → ⊥
+    pub all_turns : R.over (effects s ds).objects ≡ true → length T ≤ turns_done deeds 0 ds
+    pub maximal : (t : ℕ) → May R T (effects s ds) (turns_done deeds 0 ds) t → ⊥
+
+-- a machine whose steps are a function of the state and the thread
+pub record Machine (L B Y E : Type 0) : Type 0 where
+  pub rules : Rules L Y
+  pub step : State L B Y → ℕ → Deed L B Y E
+
+abbrev pub does : {L B Y E : Type 0} → Machine L B Y E → State L B Y → Deed L B Y E → Type 0
+does M s d = IsSame d (M.step s d.thread)
+
+module _ {L B Y E : Type 0} (M : Machine L B Y E) where
+  -- a step rests on its thread's local state, the cells that it reads, and, where it is an event, the objects
+  pub record IsDeterministic : Type 0 where
+    pub thread : (s : State L B Y) (t : ℕ) → (M.step s t).thread ≡ t
+    pub event : (s : State L B Y) (t : ℕ) → deeds.is_event (M.step s t) ≡ M.rules.is_event (s.locals t)
+    pub same : (s z : State L B Y) (t : ℕ) → s.locals t ≡ z.locals t →
+        ((b : ℕ) → (M.step s t).reads b ≡ true → s.cells b ≡ z.cells b) →
+        (M.rules.is_event (s.locals t) ≡ true → s.objects ≡ z.objects) → IsSame (M.step s t) (M.step z t)
 
 -- ---- the law
 
@@ -81,20 +98,30 @@ module _ {L B Y E : Type 0} (T : List ℕ) (s : State L B Y) where
     pub steps : IsRearranged run full
     pub same : Same (effects s run) (effects s full)
 
-module _ {L B Y E : Type 0} (M : Machine L B Y E) (T : List ℕ) (s : State L B Y) where
-  -- some full run is ordered
-  pub record HasOrdered (full : List (Deed L B Y E)) : Type 0 where
-    pub machine : IsDeterministic M
-    pub is_full : IsFull M T s full
-    pub ordered : IsOrdered deeds T full
+module _ {L B Y E : Type 0} (s : State L B Y) where
+  -- all turns of the full run are done, and thread t stands where it stands at that run's end, with the same objects
+  pub record IsAtEnd (full run : List (Deed L B Y E)) (t : ℕ) : Type 0 where
+    pub turns : turns_done deeds 0 full ≤ turns_done deeds 0 run
+    pub local : (effects s run).locals t ≡ (effects s full).locals t
+    pub objects : (effects s run).objects ≡ (effects s full).objects
 
-  -- what holds of each permitted run then
+-- what holds of a permitted run where some full run is ordered
+module _ {L B Y E : Type 0} (R : Rules L Y) (T : List ℕ) (s : State L B Y) where
   pub record IsPart (full run : List (Deed L B Y E)) : Type 0 where
     pub cut : IsAtCut T s full run
     pub ordered : IsOrdered deeds T run
     -- it has at most as many steps
     pub short : length run ≤ length full
     -- it can be prolonged by a step, or it is the full run but for the order of the steps
-    pub goes_on : ((t : ℕ) × May M T (effects s run) (turns_done deeds 0 run) t) ⊎ EndsAs T s full run
+    pub goes_on : ((t : ℕ) × May R T (effects s run) (turns_done deeds 0 run) t) ⊎ EndsAs T s full run
     -- where the full run has the next turn, its owner may step
-    pub owner : (t : ℕ) → turns_done deeds 0 run < turns_done deeds 0 full → slice_get T (turns_done deeds 0 run) ≡ Some t → May M T (effects s run) (turns_done deeds 0 run) t
+    pub owner : (t : ℕ) → turns_done deeds 0 run < turns_done deeds 0 full → slice_get T (turns_done deeds 0 run) ≡ Some t → May R T (effects s run) (turns_done deeds 0 run) t
+    -- the owner of the next turn may step, or stands where the full run leaves it
+    pub rests : (t : ℕ) → slice_get T (turns_done deeds 0 run) ≡ Some t → May R T (effects s run) (turns_done deeds 0 run) t ⊎ IsAtEnd s full run t
+
+module _ {L B Y E : Type 0} (M : Machine L B Y E) (T : List ℕ) (s : State L B Y) where
+  -- some full run is ordered
+  pub record HasOrdered (full : List (Deed L B Y E)) : Type 0 where
+    pub machine : IsDeterministic M
+    pub is_full : IsFull M.rules (does M) T s full
+    pub ordered : IsOrdered deeds T full

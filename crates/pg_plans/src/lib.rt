@@ -7,7 +7,7 @@ ghost use Rattle.pg_plans.specs.Chains.{IsChained, IsFiner, IsOrderedOrEvents};
 ghost use Rattle.pg_plans.specs.Cuts.{IsCut, Mark, count_done, marked, whole};
 ghost use Rattle.pg_plans.specs.Effects.{Deed, State};
 ghost use Rattle.pg_plans.specs.Intervals.{AreTurns, EndsBefore, IsOrdered, Timed, timed};
-ghost use Rattle.pg_plans.specs.Machines.{HasOrdered, IsPart, IsPermitted, Machine};
+ghost use Rattle.pg_plans.specs.Machines.{HasOrdered, IsPart, IsPermitted, Machine, does};
 ghost use Rattle.pg_plans.specs.Steps.{View};
 
 /// One comparison of numbers says that the interval of one step ends no later than that of another begins.
@@ -38,5 +38,5 @@ pub fn cuts_are_counts()
 /// a cut, is ordered, and goes on until it is that run but for the order of the steps.
 pub fn permitted_runs_are_parts()
     ensures { (M : Machine ℕ ℕ ℕ ℕ) (turns : List ℕ) (s : State ℕ ℕ ℕ) (full run : List (Deed ℕ ℕ ℕ ℕ))
-        → HasOrdered M turns s full → IsPermitted M turns s 0 run → IsPart M turns s full run }
+        → HasOrdered M turns s full → IsPermitted M.rules (does M) turns s 0 run → IsPart M.rules turns s full run }
 {}

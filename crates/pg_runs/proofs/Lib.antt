@@ -1,0 +1,14 @@
+pub mod Rules
+pub mod Deeds
+pub mod Along
+pub mod Maximal
+pub mod Ordered
+pub mod Tells
+pub mod SameStates
+pub mod Parts
+pub mod Free
+pub mod CutRun
+pub mod Law
+pub mod Permitted
+pub mod Ends
+pub mod Last
