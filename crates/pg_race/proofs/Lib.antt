@@ -1,2 +1,5 @@
-pub mod Races
+pub mod Answered
+pub mod Below
+pub mod Earlier
 pub mod Steps
+pub mod Table

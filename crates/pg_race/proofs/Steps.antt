@@ -11,7 +11,7 @@ use Rattle.pg_intervals.specs.Intervals.{interval_of}
 use Rattle.pg_intervals.proofs.Positions.{timed_get, timed_length}
 use Rattle.pg_race.specs.Partners.{is_racing_at, partner_of}
 
-length_map : {A B : Type 0} (f : A → B) (zs : List A) → length (map f zs) ≡ length zs
+pub length_map : {A B : Type 0} (f : A → B) (zs : List A) → length (map f zs) ≡ length zs
 length_map f [] = refl
 length_map f (z ∷ zs) = ap suc (length_map f zs)
 
@@ -23,7 +23,7 @@ get_some [] i h = absurd (omega arith)
 get_some (z ∷ zs) zero h = (z, refl)
 get_some (z ∷ zs) (suc i) h = get_some zs i (omega arith)
 
-position_any : {A : Type 0} (test : A → Bool) (k : ℕ) (zs : List A) → is_some (position_from test k zs) ≡ list_any test zs
+pub position_any : {A : Type 0} (test : A → Bool) (k : ℕ) (zs : List A) → is_some (position_from test k zs) ≡ list_any test zs
 position_any test k [] = refl
 position_any test k (z ∷ zs) = go (test z) refl (position_any test (k + 1) zs)
   where

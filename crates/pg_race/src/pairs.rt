@@ -61,12 +61,13 @@ fn first_racing(t: &Trace, intervals: &[Interval], id: InstrId) -> Option<usize>
     None
 }
 
-/// The race of an instruction, if it has a racing load or store.
-fn race_in(t: &Trace, intervals: &[Interval], id: InstrId) -> Option<Race>
+/// The race of an instruction with this first racing load or store, if it has one.
+pub(crate) fn race_from(t: &Trace, intervals: &[Interval], id: InstrId, first: Option<usize>) -> Option<Race>
     requires intervals { intervals.now ≡ intervals_of turns.Asked t.now.steps }
+    requires first { first ≡ position_from (races.is_racing (races.timed_by races.asked t.now.steps) id.0) 0 (races.timed_by races.asked t.now.steps) }
     ensures { result ≡ races.race_in (races.timed_by races.asked t.now.steps) id.0 }
 {
-    match first_racing(t, intervals, id) {
+    match first {
         Some(step) => match partner(t, intervals, step) {
             Some(with) => Some(Race {
                 instr: id,
@@ -77,6 +78,14 @@ fn race_in(t: &Trace, intervals: &[Interval], id: InstrId) -> Option<Race>
         },
         None => None,
     }
+}
+
+/// The race of an instruction, if it has a racing load or store.
+fn race_in(t: &Trace, intervals: &[Interval], id: InstrId) -> Option<Race>
+    requires intervals { intervals.now ≡ intervals_of turns.Asked t.now.steps }
+    ensures { result ≡ races.race_in (races.timed_by races.asked t.now.steps) id.0 }
+{
+    race_from(t, intervals, id, first_racing(t, intervals, id))
 }
 
 /// The greater of the two.

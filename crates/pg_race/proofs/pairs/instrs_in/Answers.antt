@@ -1,6 +1,6 @@
 use Rattle.std.proofs.Common.{◌≡◌, ◌-◌, Some, rules, arith, ◌∙◌, subst}
 use Rattle.std.specs.Prelude.{slice_get}
-use Rattle.pg_race.proofs.Races.{instrs_more}
+use Rattle.pg_race.proofs.Below.{instrs_more}
 use Rattle.pg_race.proofs.pairs.instrs_in.Goals as goal
 
 pub loop-k-preserved : goal.loop-k-preserved
