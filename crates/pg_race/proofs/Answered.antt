@@ -1,13 +1,13 @@
 -- Which steps the touches of a trace's steps answer: those that are unordered with them.
 use Rattle.std.proofs.Common.{◌≡◌, ℕ, ◌==◌, ◌+◌, ◌-◌, ◌<◌, ◌≤◌, ◌⊎◌, Bool, true, false, List, [], ◌∷◌, ◌++◌, length, map, take, drop, Option, Some, None, refl, sym, ap, ◌∙◌, subst, arith, zero, suc, inl, inr}
-use Rattle.std.specs.Prelude.{◌&&◌, ◌||◌, not, max, nat_le, nat_lt, slice_get}
+use Rattle.std.specs.Prelude.{◌&&◌, ◌||◌, not, max, nat_lt, slice_get}
 use Rattle.std.specs.List.{AllByRecursion as AllOf, list_any}
 use Rattle.std.proofs.lemmas.Bool.{cases_lt, eqb-true, eqb-false, eq-eqb, ne_eqb, lt-ltb, le-ltb, and_from, and_left, and_right, not_from_true, not_from_false}
 use Rattle.std.proofs.lemmas.List.Folds.{list_any-append}
 use Rattle.pg_num.specs.Places.{ByteRange}
 use Rattle.pg_ir.specs.declared.ids.ThreadNo.{ThreadNo}
 use Rattle.pg_plans.specs.Steps.{View, EachPair}
-use Rattle.pg_plans.specs.Intervals.{AreTurns, Timed, done_after, did_of, owners, timed, times}
+use Rattle.pg_plans.specs.Intervals.{AreTurns, Timed, done_after, did_of, owners, times}
 use Rattle.pg_plans.proofs.Lists.{all_map, all_right, pairs_after, pairs_before}
 use Rattle.pg_plans.proofs.Turns.{next_from_end}
 use Rattle.pg_plans.proofs.Times.{did_times, low_high, low_up, within_after}
@@ -18,10 +18,10 @@ use Rattle.pg_trace.specs.Steps.{access_of, range_of}
 use Rattle.pg_trace.specs.Races.{accesses_conflict, conflict, is_unordered, overlap, share, timed_by}
 use Rattle.pg_intervals.specs.declared.interval.Interval.{Interval}
 use Rattle.pg_intervals.specs.Intervals.{interval_of}
-use Rattle.pg_intervals.proofs.Walk.{drop_get, take_get}
-use Rattle.pg_tables.specs.Touches.{answers, before_in, behind_in}
+use Rattle.pg_intervals.proofs.Walk.{drop_get}
+use Rattle.pg_tables.specs.Touches.{answers}
 use Rattle.pg_tables.proofs.Walk.{before_get, behind_get}
-use Rattle.pg_race.specs.Touching.{AreWithin, IsWithin, backward, beside, forward, touch_of, touch_with}
+use Rattle.pg_race.specs.Touching.{backward, beside, forward, touch_with}
 use Rattle.pg_race.specs.Firsts.{before_of, behind_of}
 
 -- ---- lists
@@ -184,8 +184,8 @@ module _ (ys : List (Timed Step)) (pairs : EachPair (λ x y. x.low ≤ y.high) y
   before_at =
       before_get [] (map forward ys) i (forward y) (get_map forward ys i y h)
       ∙ ap Some (ap (list_any (λ x. answers x (forward y))) (take_map forward i ys) ∙ any_map (λ x. answers x (forward y)) forward (take i ys)
-                 ∙ any_same (λ x. answers (forward x) (forward y)) (λ x. is_unordered x y) (take i ys)
-                   (all_map (λ x l. forward_answers x y l) (take i ys) (pairs_before (λ x y. x.low ≤ y.high) (take i ys) y (drop (i + 1) ys) parts)))
+      ∙ any_same (λ x. answers (forward x) (forward y)) (λ x. is_unordered x y) (take i ys)
+      (all_map (λ x l. forward_answers x y l) (take i ys) (pairs_before (λ x y. x.low ≤ y.high) (take i ys) y (drop (i + 1) ys) parts)))
 
   before_same : list_any (λ x. is_unordered x y) (take i ys) ≡ list_any (is_unordered y) (take i ys)
   before_same = go (take i ys)
@@ -201,8 +201,8 @@ module _ (ys : List (Timed Step)) (pairs : EachPair (λ x y. x.low ≤ y.high) y
       let w = all_right (Within n) (take i ys) (y ∷ drop (i + 1) ys) (subst (AllOf (Within n)) (sym (split_at ys i y h)) within) in
       behind_get (map (backward n) ys) i (backward n y) (get_map (backward n) ys i y h)
       ∙ ap Some (ap (list_any (λ x. answers x (backward n y))) (drop_map (backward n) (i + 1) ys) ∙ any_map (λ x. answers x (backward n y)) (backward n) (drop (i + 1) ys)
-                 ∙ any_same (λ x. answers (backward n x) (backward n y)) (is_unordered y) (drop (i + 1) ys)
-                   (both_map (λ x. y.low ≤ x.high) (Within n) (λ x. answers (backward n x) (backward n y) ≡ is_unordered y x) (λ x l b. backward_answers n x y l b.0 w.0.1) (drop (i + 1) ys) (pairs_after (λ x y. x.low ≤ y.high) (take i ys) y (drop (i + 1) ys) parts) w.1))
+      ∙ any_same (λ x. answers (backward n x) (backward n y)) (is_unordered y) (drop (i + 1) ys)
+      (both_map (λ x. y.low ≤ x.high) (Within n) (λ x. answers (backward n x) (backward n y) ≡ is_unordered y x) (λ x l b. backward_answers n x y l b.0 w.0.1) (drop (i + 1) ys) (pairs_after (λ x y. x.low ≤ y.high) (take i ys) y (drop (i + 1) ys) parts) w.1))
 
   own_ordered : is_unordered y y ≡ false
   own_ordered = and_left (conflict y.did y.did) (overlap y y) (and_left (not (y.did.thread.0 == y.did.thread.0)) (accesses_conflict (access_of y.did) (access_of y.did)) (not_from_true (y.did.thread.0 == y.did.thread.0) (eq-eqb y.did.thread.0 y.did.thread.0 refl)))

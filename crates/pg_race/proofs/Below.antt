@@ -1,10 +1,9 @@
 -- What the loops over the steps and over the instructions keep.
-use Rattle.std.proofs.Common.{◌≡◌, ℕ, ◌+◌, ◌-◌, ◌<◌, ◌≤◌, Bool, true, false, List, [], ◌∷◌, ◌++◌, length, take, drop, Option, Some, None, refl, sym, ap, ◌∙◌, arith, zero, suc}
+use Rattle.std.proofs.Common.{◌≡◌, ℕ, ◌+◌, ◌-◌, ◌<◌, List, [], ◌∷◌, ◌++◌, length, drop, Some, refl, sym, ap, ◌∙◌, arith, zero, suc}
 use Rattle.std.specs.Prelude.{slice_get, max}
 use Rattle.std.specs.Option.{option_to_list}
 use Rattle.pg_plans.specs.Intervals.{Timed}
 use Rattle.pg_trace.specs.declared.step.Step.{Step}
-use Rattle.pg_trace.specs.declared.turn.Race.{Race}
 use Rattle.pg_trace.specs.Races.{races_below, race_in, instrs_in}
 
 pub below_none : (ys : List (Timed Step)) → races_below ys 0 ≡ []

@@ -1,21 +1,20 @@
 -- The search for the first unordered pair, by marks.
-use Rattle.std.proofs.Common.{◌≡◌, ℕ, ◌+◌, ◌<◌, ◌≤◌, Bool, true, false, List, [], ◌∷◌, ◌++◌, length, map, take, drop, Option, Some, None, refl, sym, ap, ◌∙◌, subst, arith, zero, suc}
+use Rattle.std.proofs.Common.{◌≡◌, ℕ, ◌+◌, ◌<◌, ◌≤◌, Bool, false, List, [], ◌∷◌, ◌++◌, length, map, take, drop, Option, Some, None, refl, sym, ap, ◌∙◌, subst, arith, zero, suc}
 use Rattle.std.specs.Prelude.{is_some, slice_get}
 use Rattle.std.specs.List.{list_any, position_from}
 use Rattle.std.proofs.lemmas.List.{drop_all}
-use Rattle.pg_plans.specs.Intervals.{Timed, owners, times}
-use Rattle.pg_plans.proofs.Times.{did_times}
+use Rattle.pg_plans.specs.Intervals.{Timed}
 use Rattle.pg_plans.specs.Steps.{View}
 use Rattle.pg_trace.specs.declared.step.Step.{Step}
-use Rattle.pg_trace.specs.Races.{first_unordered, is_unordered, pair_or, recorded, timed_by, unordered_in}
+use Rattle.pg_trace.specs.Races.{is_unordered, pair_or, recorded, timed_by, unordered_in}
 use Rattle.pg_intervals.specs.declared.interval.Interval.{Interval}
 use Rattle.pg_intervals.specs.Intervals.{interval_of}
 use Rattle.pg_intervals.proofs.Positions.{timed_length}
 use Rattle.pg_intervals.proofs.Walk.{drop_get, take_get}
-use Rattle.pg_race.specs.Touching.{AreWithin, IsWithin, beside, forward}
+use Rattle.pg_race.specs.Touching.{AreWithin, IsWithin, beside}
 use Rattle.pg_race.specs.Firsts.{before_of}
 use Rattle.pg_race.proofs.Answered.{all_within, before_at, lows_below}
-use Rattle.pg_race.proofs.Steps.{get_some, length_map, position_any}
+use Rattle.pg_race.proofs.Steps.{length_map, position_any}
 use Rattle.pg_tables.specs.declared.touch.Touch.{Touch}
 use Rattle.std.specs.List.{AllByRecursion as AllOf}
 

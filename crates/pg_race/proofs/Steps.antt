@@ -1,11 +1,10 @@
 -- Steps by their numbers.
-use Rattle.std.proofs.Common.{◌≡◌, ℕ, ◌==◌, ◌+◌, ◌<◌, Bool, true, false, List, [], ◌∷◌, length, map, Option, Some, None, refl, sym, ap, ◌∙◌, arith, zero, suc, get_or}
+use Rattle.std.proofs.Common.{◌≡◌, ℕ, ◌==◌, ◌+◌, ◌<◌, Bool, true, false, List, [], ◌∷◌, length, map, Some, refl, sym, ap, ◌∙◌, arith, zero, suc, get_or}
 use Rattle.std.specs.Prelude.{slice_get, is_some, ◌&&◌}
 use Rattle.std.specs.List.{list_any, position_from}
 use Rattle.std.proofs.lemmas.Bool.{true≢false}
-use Rattle.pg_plans.specs.Intervals.{Timed}
 use Rattle.pg_trace.specs.declared.step.Step.{Step}
-use Rattle.pg_trace.specs.Races.{asked, timed_by, is_access, is_racing, is_unordered}
+use Rattle.pg_trace.specs.Races.{asked, timed_by, is_access, is_unordered}
 use Rattle.pg_intervals.specs.declared.interval.Interval.{Interval}
 use Rattle.pg_intervals.specs.Intervals.{interval_of}
 use Rattle.pg_intervals.proofs.Positions.{timed_get, timed_length}

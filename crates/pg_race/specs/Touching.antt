@@ -1,6 +1,6 @@
 -- The steps of a trace as touches of bytes. Of two steps of different threads the later is unordered with the
 -- earlier where its last turn doesn't stand behind the next turn of the earlier.
-use Rattle.std.specs.Prelude.{ℕ, ◌+◌, ◌-◌, ◌≤◌, List, [], ◌∷◌, Bool, false, Option, Some, None, slice_get, ◌≡◌, length}
+use Rattle.std.specs.Prelude.{ℕ, ◌+◌, ◌-◌, ◌≤◌, List, [], ◌∷◌, false, Option, Some, None, slice_get, ◌≡◌, length}
 use Rattle.pg_num.specs.Pointers.{byte_place}
 use Rattle.pg_ir.specs.declared.ids.ThreadNo.{ThreadNo}
 use Rattle.pg_plans.specs.Intervals.{Timed}

@@ -43,7 +43,12 @@ fn first_of(firsts: &[Option<usize>], id: InstrId) -> Option<usize>
 }
 
 /// The races of a trace with these first racing steps.
-fn races_from(alloc: Global, t: &Trace, intervals: &[Interval], firsts: &[Option<usize>]) -> Result<Vec<Race>, AllocError>
+fn races_from(
+    alloc: Global,
+    t: &Trace,
+    intervals: &[Interval],
+    firsts: &[Option<usize>],
+) -> Result<Vec<Race>, AllocError>
     requires intervals { intervals.now ≡ intervals_of turns.Asked t.now.steps }
     requires instrs { length firsts.now ≡ defs.instrs_in t.now.steps }
     requires firsts { AreFirst (defs.timed_by defs.asked t.now.steps) 0 firsts.now }
@@ -61,7 +66,11 @@ fn races_from(alloc: Global, t: &Trace, intervals: &[Interval], firsts: &[Option
 }
 
 /// The first racing load or store of each instruction.
-fn first_steps(alloc: Global, t: &Trace, intervals: &[Interval]) -> Result<Vec<Option<usize>>, AllocError>
+fn first_steps(
+    alloc: Global,
+    t: &Trace,
+    intervals: &[Interval],
+) -> Result<Vec<Option<usize>>, AllocError>
     requires intervals { intervals.now ≡ intervals_of turns.Asked t.now.steps }
     ensures { IfOk result (λ v. (length v.items ≡ defs.instrs_in t.now.steps) × AreFirst (defs.timed_by defs.asked t.now.steps) 0 v.items) }
 {

@@ -63,7 +63,12 @@ fn no_firsts(alloc: Global, count: usize) -> Result<Vec<Option<usize>>, AllocErr
 }
 
 /// The number of the first racing load or store of each instruction.
-pub(crate) fn firsts(alloc: Global, t: &Trace, before: &[bool], behind: &[bool]) -> Result<Vec<Option<usize>>, AllocError>
+pub(crate) fn firsts(
+    alloc: Global,
+    t: &Trace,
+    before: &[bool],
+    behind: &[bool],
+) -> Result<Vec<Option<usize>>, AllocError>
     requires before { before.now ≡ before_of (races.timed_by races.asked t.now.steps) }
     requires behind { behind.now ≡ behind_of (races.timed_by races.asked t.now.steps) }
     ensures { IfOk result (λ v. (length v.items ≡ races.instrs_in t.now.steps) × AreFirst (races.timed_by races.asked t.now.steps) 0 v.items) }

@@ -62,7 +62,12 @@ fn first_racing(t: &Trace, intervals: &[Interval], id: InstrId) -> Option<usize>
 }
 
 /// The race of an instruction with this first racing load or store, if it has one.
-pub(crate) fn race_from(t: &Trace, intervals: &[Interval], id: InstrId, first: Option<usize>) -> Option<Race>
+pub(crate) fn race_from(
+    t: &Trace,
+    intervals: &[Interval],
+    id: InstrId,
+    first: Option<usize>,
+) -> Option<Race>
     requires intervals { intervals.now ≡ intervals_of turns.Asked t.now.steps }
     requires first { first ≡ position_from (races.is_racing (races.timed_by races.asked t.now.steps) id.0) 0 (races.timed_by races.asked t.now.steps) }
     ensures { result ≡ races.race_in (races.timed_by races.asked t.now.steps) id.0 }

@@ -40,7 +40,11 @@ fn interval_at(intervals: &[Interval], i: usize) -> Interval
 }
 
 /// The steps as touches for a pass forward.
-pub(crate) fn forward(alloc: Global, t: &Trace, intervals: &[Interval]) -> Result<Vec<Touch>, AllocError>
+pub(crate) fn forward(
+    alloc: Global,
+    t: &Trace,
+    intervals: &[Interval],
+) -> Result<Vec<Touch>, AllocError>
     requires as_many { length intervals.now ≡ length t.now.steps }
     requires within { AreWithin intervals.now }
     ensures { IfOk result (λ v. v.items ≡ map forward (beside t.now.steps intervals.now)) }
@@ -55,7 +59,11 @@ pub(crate) fn forward(alloc: Global, t: &Trace, intervals: &[Interval]) -> Resul
 }
 
 /// The steps as touches for a pass backward.
-pub(crate) fn backward(alloc: Global, t: &Trace, intervals: &[Interval]) -> Result<Vec<Touch>, AllocError>
+pub(crate) fn backward(
+    alloc: Global,
+    t: &Trace,
+    intervals: &[Interval],
+) -> Result<Vec<Touch>, AllocError>
     requires as_many { length intervals.now ≡ length t.now.steps }
     requires within { AreWithin intervals.now }
     ensures { IfOk result (λ v. v.items ≡ map (backward (length intervals.now)) (beside t.now.steps intervals.now)) }

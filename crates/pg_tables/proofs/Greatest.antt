@@ -1,15 +1,15 @@
 -- The greatest ranks of touches, and which touches are answered.
-use Rattle.std.proofs.Common.{◌≡◌, ℕ, ◌==◌, ◌+◌, ◌<◌, ◌≤◌, ◌⊎◌, Bool, true, false, cond, List, [], ◌∷◌, ◌++◌, refl, sym, ap, ◌∙◌, arith, zero, suc, inl, inr}
+use Rattle.std.proofs.Common.{◌≡◌, ℕ, ◌==◌, ◌+◌, ◌<◌, ◌≤◌, ◌⊎◌, Bool, true, false, List, [], ◌∷◌, ◌++◌, refl, sym, ap, ◌∙◌, arith, zero, suc, inl, inr}
 use Rattle.std.specs.Prelude.{◌&&◌, ◌||◌, not, max, nat_le, nat_lt}
 use Rattle.std.specs.List.{list_any}
-use Rattle.std.proofs.lemmas.Bool.{true≢false, cases_Bool, cases_lt, ltb-true, ltb-false, lt-ltb, le-ltb, leb-true, le-leb, and_parts, and_from, or_cases, or_left, or_right}
+use Rattle.std.proofs.lemmas.Bool.{true≢false, cases_lt, ltb-true, lt-ltb, le-ltb, leb-true, le-leb, and_parts, and_from, or_cases, or_left, or_right}
 use Rattle.pg_num.specs.Places.{ByteRange}
 use Rattle.pg_trace.specs.Races.{is_in, share}
 use Rattle.pg_tables.specs.declared.cell.Cell.{Cell}
 use Rattle.pg_tables.specs.declared.touch.Touch.{Touch}
 use Rattle.pg_tables.specs.Best.{other}
 use Rattle.pg_tables.specs.Touches.{answers, any_byte, greatest, range_of, rank_if}
-use Rattle.pg_tables.specs.Cells.{Keeps, holds, is_above, met_by, writes_at}
+use Rattle.pg_tables.specs.Cells.{Keeps, holds, is_above, met_by}
 
 pub greatest_push : (p : Touch → Bool) (xs : List Touch) (y : Touch) → greatest p (xs ++ y ∷ []) ≡ max (greatest p xs) (rank_if (p y) y.rank)
 greatest_push p [] y = let z : max (rank_if (p y) y.rank) 0 ≡ max 0 (rank_if (p y) y.rank) = omega arith in z

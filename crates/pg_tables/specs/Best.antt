@@ -1,5 +1,5 @@
 -- The greatest rank among those of other threads, of which a table keeps two.
-use Rattle.std.specs.Prelude.{◌≡◌, ℕ, ◌==◌, ◌≤◌, max, if◌then◌else◌}
+use Rattle.std.specs.Prelude.{ℕ, ◌==◌, ◌≤◌, if◌then◌else◌}
 use Rattle.pg_tables.specs.declared.best.Best.{Best}
 
 -- the greatest rank of a thread other than u

@@ -1,9 +1,9 @@
 -- Touches: accesses of bytes in a list, each with a rank that it gives to others, and a rank that it needs of
 -- them.
-use Rattle.std.specs.Prelude.{ℕ, zero, suc, ◌+◌, ◌==◌, ◌&&◌, ◌||◌, not, max, nat_le, nat_lt, List, [], ◌∷◌, ◌++◌, Bool, false, if◌then◌else◌}
+use Rattle.std.specs.Prelude.{ℕ, zero, suc, ◌+◌, ◌==◌, ◌&&◌, ◌||◌, not, max, nat_lt, List, [], ◌∷◌, ◌++◌, Bool, false, if◌then◌else◌}
 use Rattle.std.specs.List.{list_any}
 use Rattle.pg_num.specs.Places.{ByteRange}
-use Rattle.pg_trace.specs.Races.{is_in, share}
+use Rattle.pg_trace.specs.Races.{share}
 use Rattle.pg_tables.specs.declared.touch.Touch.{Touch}
 
 abbrev pub range_of : Touch → ByteRange

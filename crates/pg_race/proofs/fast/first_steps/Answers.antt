@@ -1,4 +1,4 @@
-use Rattle.std.proofs.Common.{◌≡◌, [], map, length, sym, ap, ◌∙◌}
+use Rattle.std.proofs.Common.{[], map, length, sym, ap, ◌∙◌}
 use Rattle.pg_trace.specs.Races as defs
 use Rattle.pg_intervals.proofs.Positions.{timed_length}
 use Rattle.pg_tables.specs.Touches.{before_in, behind_in}

@@ -1,4 +1,4 @@
-use Rattle.std.proofs.Common.{◌≡◌, None, take, arith, sym, ap, ◌∙◌}
+use Rattle.std.proofs.Common.{take, arith, sym, ap, ◌∙◌}
 use Rattle.std.specs.List.{position_from}
 use Rattle.pg_trace.specs.Races as races
 use Rattle.pg_intervals.specs.declared.interval.Turns.TheVariants as turns

@@ -1,4 +1,4 @@
-use Rattle.std.proofs.Common.{◌≡◌, ◌+◌, ◌<◌, None, drop, length, take, arith, sym, ap, ◌∙◌}
+use Rattle.std.proofs.Common.{◌+◌, drop, take, arith, sym, ap, ◌∙◌}
 use Rattle.std.specs.Prelude.{slice_get}
 use Rattle.pg_trace.specs.Races as races
 use Rattle.pg_intervals.proofs.Positions.{timed_length}

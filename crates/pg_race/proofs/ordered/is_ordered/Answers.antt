@@ -1,4 +1,4 @@
-use Rattle.std.proofs.Common.{◌≡◌, [], map, ap, ◌∙◌}
+use Rattle.std.proofs.Common.{[], map, ap, ◌∙◌}
 use Rattle.pg_trace.specs.Races as races
 use Rattle.pg_tables.specs.Touches.{before_in}
 use Rattle.pg_race.specs.Touching.{forward}

@@ -1,4 +1,4 @@
-use Rattle.std.proofs.Common.{◌≡◌, ◌+◌, ◌++◌, take, drop, sym, ap, ◌∙◌, subst}
+use Rattle.std.proofs.Common.{◌+◌, ◌++◌, take, drop, sym, ap, ◌∙◌, subst}
 use Rattle.pg_tables.specs.Cells.{Keeps, cell_at}
 use Rattle.pg_tables.specs.Touches.{before_in}
 use Rattle.pg_tables.proofs.Greatest.{met}

@@ -1,4 +1,4 @@
-use Rattle.std.proofs.Common.{◌≡◌, ◌-◌, drop, length, arith, sym, ap, ◌∙◌, subst}
+use Rattle.std.proofs.Common.{◌-◌, drop, length, arith, sym, ◌∙◌, subst}
 use Rattle.pg_tables.specs.Cells.{Keeps, cell_at}
 use Rattle.pg_tables.proofs.Greatest.{met}
 use Rattle.pg_tables.proofs.Notes.{keeps_cons}

@@ -1,4 +1,4 @@
-use Rattle.std.proofs.Common.{◌≡◌, ◌+◌, ◌==◌, sym, ap, ◌∙◌}
+use Rattle.std.proofs.Common.{◌==◌, ap, ◌∙◌}
 use Rattle.std.specs.Prelude.{◌&&◌, not, max, if◌then◌else◌}
 use Rattle.pg_tables.specs.Best.{other}
 use Rattle.pg_tables.specs.Cells.{cell_at}

@@ -1,4 +1,3 @@
-use Rattle.std.proofs.Common.{◌≡◌}
 use Rattle.pg_tables.specs.Cells.{Noted, cell_at}
 use Rattle.pg_tables.proofs.answered.note.Given as goal
 
