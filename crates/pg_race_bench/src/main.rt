@@ -54,7 +54,7 @@ fn print(number: u64) -> StepKind {
 /// A step: half of them are accesses, one in a hundred is an event.
 fn step(number: u64, threads: u8) -> Step {
     let kind = (number >> 10) % 100;
-    let thread = match ((number >> 33) as u8).checked_rem(threads) {
+    let thread = match (((number >> 33) % 256) as u8).checked_rem(threads) {
         Some(thread) => thread,
         None => 0,
     };
