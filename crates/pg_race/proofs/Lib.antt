@@ -1,0 +1,5 @@
+pub mod Answered
+pub mod Below
+pub mod Earlier
+pub mod Steps
+pub mod Table

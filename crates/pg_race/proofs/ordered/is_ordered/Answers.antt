@@ -1,0 +1,18 @@
+use Rattle.std.proofs.Common.{[], map, ap, ◌∙◌}
+use Rattle.pg_trace.specs.Races as races
+use Rattle.pg_tables.specs.Touches.{before_in}
+use Rattle.pg_race.specs.Touching.{forward}
+use Rattle.pg_race.proofs.Answered.{beside_own}
+use Rattle.pg_race.proofs.Earlier.{intervals_length_of, intervals_within}
+use Rattle.pg_race.proofs.ordered.is_ordered.Goals as goal
+
+pub forward-requires-clause-as_many : goal.forward-requires-clause-as_many
+forward-requires-clause-as_many c = intervals_length_of races.recorded c.args.t.now.steps _ (c.as_slice.ensures.value ∙ c.in_ok-intervals.ensures)
+
+pub forward-requires-clause-within : goal.forward-requires-clause-within
+forward-requires-clause-within c = intervals_within races.recorded c.args.t.now.steps _ (c.as_slice.ensures.value ∙ c.in_ok-intervals.ensures)
+
+pub first_pair-requires-clause-before : goal.first_pair-requires-clause-before
+first_pair-requires-clause-before c =
+    c.as_slice-4.ensures.value ∙ c.in_ok-before.ensures
+    ∙ ap (before_in []) (c.as_slice-2.ensures.value ∙ c.in_ok-touches.ensures ∙ ap (map forward) (beside_own races.recorded c.args.t.now.steps _ (c.as_slice.ensures.value ∙ c.in_ok-intervals.ensures)))

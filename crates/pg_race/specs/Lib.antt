@@ -1,0 +1,3 @@
+pub mod Firsts
+pub mod Partners
+pub mod Touching
