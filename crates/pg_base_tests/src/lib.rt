@@ -1,6 +1,8 @@
-//! Tests of numbers, of sources and sinks, and of command lines.
+//! Tests of numbers, of sources and sinks, of the bounded cache, and of command lines.
 #![tactic(auto)]
 
+#[cfg(test)]
+mod cached;
 #[cfg(test)]
 mod numbers;
 #[cfg(test)]
