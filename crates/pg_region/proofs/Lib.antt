@@ -1,0 +1,7 @@
+pub mod Ascending
+pub mod Parts
+pub mod Joins
+pub mod Leasts
+pub mod Flows
+pub mod Stays
+pub mod Within
