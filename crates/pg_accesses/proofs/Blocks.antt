@@ -1,7 +1,7 @@
 -- The instructions of a block, one after another.
-use Rattle.std.proofs.Common.{◌≡◌, ℕ, zero, suc, ◌+◌, ◌-◌, ◌<◌, ◌≤◌, Bool, true, false, cond, List, [], ◌∷◌, ◌++◌, length, get_or, drop, take, reverse, Option, Some, None, refl, sym, ap, ◌∙◌, subst, arith, length-drop}
+use Rattle.std.proofs.Common.{◌≡◌, ℕ, zero, suc, ◌+◌, ◌-◌, ◌<◌, ◌≤◌, Bool, true, false, cond, List, [], ◌∷◌, ◌++◌, length, drop, take, reverse, Option, Some, None, refl, sym, ap, ◌∙◌, subst, arith}
 use mathlib.Core.Path.{fun_ext}
-use Rattle.std.specs.Prelude.{slice_get, slice_range, IfSome}
+use Rattle.std.specs.Prelude.{slice_get, IfSome}
 use Rattle.std.specs.List.{AllByRecursion}
 use Rattle.std.proofs.lemmas.List.{reverse-append}
 use Rattle.pg_ir.specs.declared.function.Block.{Block}
@@ -10,20 +10,20 @@ use Rattle.pg_ir.specs.declared.value.Index.{Index}
 use Rattle.pg_ir.specs.declared.value.Value.{Value}
 use Rattle.pg_ir.specs.declared.value.Value.TheVariants as value
 use Rattle.pg_ir.specs.declared.value.Scalar.{Scalar}
-use Rattle.pg_ir.specs.declared.value.Scalar.TheVariants.{Int, Ptr}
+use Rattle.pg_ir.specs.declared.value.Scalar.TheVariants.{Int}
 use Rattle.pg_num.specs.declared.width.Width.{Width}
 use Rattle.pg_ir.specs.declared.instr.Instr.{Instr}
 use Rattle.pg_ir.specs.declared.instr.Op.{Op}
 use Rattle.pg_ir.specs.declared.instr.Op.TheVariants as op
-use Rattle.pg_ir.specs.Program.{NumberedProgram, first_of, first_in, end_of, end_in, types_of, types_in, function_of, function_in}
+use Rattle.pg_ir.specs.Program.{NumberedProgram, first_of, end_of, types_of, function_of}
 use Rattle.pg_ir.specs.Edges.{instrs_of}
 use Rattle.pg_ir.specs.WellFormed.{FitsBlock, FitsInstr, FitsOp, FitsIndex, HasType, IsInBlock}
 use Rattle.pg_paths.specs.declared.path.Path.{Path}
 use Rattle.pg_paths.specs.Fits.{FitsWidth, FitsConstant, FitsGep}
 use Rattle.pg_paths.specs.Registers.{register_path, path_by, is_register, has_pointer}
-use Rattle.pg_accesses.specs.Accesses.{RootedList, both, op_accesses, accesses_from}
+use Rattle.pg_accesses.specs.Accesses.{RootedList, op_accesses, accesses_from, block_accesses}
 use Rattle.pg_accesses.specs.Appends.{Appends, behind}
-use Rattle.pg_accesses.proofs.Gathers.{step_true, step_false}
+use Rattle.pg_accesses.proofs.Gathers.{step_true, step_false, appends_all, appends_none}
 
 get_drop : (xs : List Instr) (k : ℕ) (x : Instr) → slice_get xs k ≡ Some x → drop k xs ≡ x ∷ drop (k + 1) xs
 get_drop [] zero x e = absurd cc
@@ -31,7 +31,7 @@ get_drop [] (suc k) x e = absurd cc
 get_drop (y ∷ xs) zero x e = let q : y ≡ x = cc in ap (λ z. z ∷ xs) q
 get_drop (y ∷ xs) (suc k) x e = let q : suc k + 1 ≡ suc (k + 1) = omega arith in rw q (get_drop xs k x e)
 
-get_take : (xs : List Instr) (k : ℕ) (x : Instr) → slice_get xs k ≡ Some x → take (k + 1) xs ≡ take k xs ++ x ∷ []
+pub get_take : (xs : List Instr) (k : ℕ) (x : Instr) → slice_get xs k ≡ Some x → take (k + 1) xs ≡ take k xs ++ x ∷ []
 get_take [] zero x e = absurd cc
 get_take [] (suc k) x e = absurd cc
 get_take (y ∷ xs) zero x e = let q : y ≡ x = cc in ap (λ z. z ∷ []) q
@@ -47,10 +47,13 @@ get_past [] (suc n) (suc k) lt = refl
 get_past (x ∷ xs) (suc n) zero lt = refl
 get_past (x ∷ xs) (suc n) (suc k) lt = get_past xs n k (omega arith)
 
+get_none : (k : ℕ) → slice_get {X = Instr} [] k ≡ None
+get_none zero = refl
+get_none (suc k) = refl
+
 get_rest : (xs : List Instr) (n k : ℕ) → slice_get (drop n xs) k ≡ slice_get xs (n + k)
 get_rest xs zero k = let z : 0 + k ≡ k = omega arith in rw z refl
-get_rest [] (suc n) zero = let z : suc n + 0 ≡ suc n = omega arith in rw z refl
-get_rest [] (suc n) (suc k) = let z : suc n + suc k ≡ suc (n + suc k) = omega arith in rw z refl
+get_rest [] (suc n) k = get_none k ∙ sym (get_none (suc n + k))
 get_rest (x ∷ xs) (suc n) k = let z : suc n + k ≡ suc (n + k) = omega arith in rw z (get_rest xs n k)
 
 -- instruction k of a block, by the block's record
@@ -139,3 +142,37 @@ result_small p b i n block f x e g few h lo hi at fits =
     let q : x.block.0 ≡ b = stands_in p b i block x h lo hi at in
     let t : types_of p (function_of p x.block.0) ≡ f.registers = ap (λ z. types_of p (function_of p z)) q ∙ types_are p b block f e g in
     some_small (length (types_of p (function_of p x.block.0))) n x.result (omega (arith, ap (λ (l : List Scalar). length l) t, few)) fits.target
+
+-- ---- a block, as far as it was passed
+
+module _ (m : Bool) (p : NumberedProgram) (gated : ℕ → Bool) (sums : ℕ → Option RootedList) (is_set : ℕ → Bool) (b : ℕ) (block : Block) (e : slice_get p.blocks b ≡ Some block) where
+  -- what is accessed from instruction k of the block on
+  abbrev pub rest_from : ℕ → Option RootedList
+  rest_from k = accesses_from m gated sums is_set (types_of p (function_of p b)) (reverse (take k (instrs_of p b))) (first_of p b + k) (drop k (instrs_of p b))
+
+  module _ (k : ℕ) (x : Instr) (lt : k < block.count) (at : slice_get p.instrs (block.first.0 + k) ≡ Some x) (f : ℕ → Option Path) (h : (r : ℕ) → f r ≡ register_path is_set (types_of p (function_of p b)) (reverse (take k (instrs_of p b))) r) where
+    op_here : (cur : RootedList) (quiet : Bool) (new : RootedList) → Appends (op_accesses m gated sums f (block.first.0 + k) x.op) cur quiet new →
+        Appends (op_accesses m gated sums (register_path is_set (types_of p (function_of p b)) (reverse (take k (instrs_of p b)))) (first_of p b + k) x.op) cur quiet new
+    op_here cur quiet new a =
+        subst (λ (z : ℕ). Appends (op_accesses m gated sums (register_path is_set (types_of p (function_of p b)) (reverse (take k (instrs_of p b)))) (z + k) x.op) cur quiet new) (sym (first_is p b block e))
+        (op_same m gated sums f (register_path is_set (types_of p (function_of p b)) (reverse (take k (instrs_of p b)))) (block.first.0 + k) x.op cur quiet new h a)
+
+    pub block_more : (cur new : RootedList) → Appends (op_accesses m gated sums f (block.first.0 + k) x.op) cur true new → behind cur (rest_from k) ≡ behind new (rest_from (k + 1))
+    block_more cur new a = pass_true m gated sums is_set (types_of p (function_of p b)) (instrs_of p b) (first_of p b) k x (instr_at p b k block x e lt at) cur new (op_here cur true new a)
+
+    block_stops : (cur new : RootedList) → Appends (op_accesses m gated sums f (block.first.0 + k) x.op) cur false new → behind cur (rest_from k) ≡ None
+    block_stops cur new a = pass_false m gated sums is_set (types_of p (function_of p b)) (instrs_of p b) (first_of p b) k x (instr_at p b k block x e lt at) cur new (op_here cur false new a)
+
+    pub block_none : (old cur new : RootedList) → behind old (accesses_from m gated sums is_set (types_of p (function_of p b)) [] (first_of p b) (instrs_of p b)) ≡ behind cur (rest_from k) →
+        (quiet : Bool) → quiet ≡ false → Appends (op_accesses m gated sums f (block.first.0 + k) x.op) cur quiet new → Appends (block_accesses m p gated sums is_set b) old false new
+    unfolding block_accesses
+    block_none old cur new q quiet r a =
+        appends_none (accesses_from m gated sums is_set (types_of p (function_of p b)) [] (first_of p b) (instrs_of p b)) old new
+        (q ∙ block_stops cur new (subst (λ (z : Bool). Appends (op_accesses m gated sums f (block.first.0 + k) x.op) cur z new) r a))
+
+  pub block_all : (k : ℕ) → block.count ≤ k → (old cur : RootedList) → behind old (accesses_from m gated sums is_set (types_of p (function_of p b)) [] (first_of p b) (instrs_of p b)) ≡ behind cur (rest_from k) →
+      Appends (block_accesses m p gated sums is_set b) old true cur
+  unfolding block_accesses
+  block_all k le old cur q =
+      appends_all (accesses_from m gated sums is_set (types_of p (function_of p b)) [] (first_of p b) (instrs_of p b)) old cur
+      (q ∙ ap (λ (l : List Instr). behind cur (accesses_from m gated sums is_set (types_of p (function_of p b)) (reverse (take k (instrs_of p b))) (first_of p b + k) l)) (instrs_end p b block k e le))

@@ -1,5 +1,5 @@
 -- Elements of lists.
-use Rattle.std.proofs.Common.{◌≡◌, ℕ, zero, suc, ◌<◌, List, [], ◌∷◌, length, get_or, refl, arith, inl, inr, ◌⊎◌}
+use Rattle.std.proofs.Common.{◌≡◌, ℕ, zero, suc, ◌<◌, List, [], ◌∷◌, get_or, refl, arith, inl, inr, ◌⊎◌}
 use Rattle.std.specs.Prelude.{Contains}
 use Rattle.std.proofs.lemmas.List.Elements.{Contains-append_right, Contains-append_cases}
 
@@ -23,5 +23,5 @@ cases {A} x xs z c = go (Contains-append_cases (x ∷ []) xs z c)
     go (inl d) = inl (only_here x z d)
     go (inr d) = inr d
 
-pub none_in : {A : Type 0} (z : A) → Contains {A} [] z → ⊥
+pub none_in : {A : Type 0} (z : A) → Contains {X = A} [] z → ⊥
 none_in z c = omega (arith, c.1)

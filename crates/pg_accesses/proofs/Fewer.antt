@@ -1,6 +1,6 @@
 -- What is quiet in a set of blocks is quiet in each part of it, with the same accesses: fewer registers are set, so each
 -- root stays one.
-use Rattle.std.proofs.Common.{◌≡◌, ◌≢◌, ℕ, zero, suc, ◌+◌, ◌<◌, Bool, true, false, cond, List, [], ◌∷◌, ◌++◌, length, get_or, Option, Some, None, refl, sym, ap, ◌∙◌, subst, arith, inl, inr, ◌⊎◌}
+use Rattle.std.proofs.Common.{◌≡◌, ℕ, zero, suc, ◌+◌, ◌<◌, Bool, true, false, cond, List, [], ◌∷◌, ◌++◌, length, get_or, Option, Some, None, refl, sym, ap, ◌∙◌, arith, inl, inr, ◌⊎◌}
 use Rattle.std.specs.Prelude.{Contains, option_map, option_and_then, slice_get}
 use Rattle.std.specs.List.{list_any}
 use Rattle.std.proofs.lemmas.Bool.{true≢false}
@@ -58,9 +58,9 @@ pub register_grows : (f f' : ℕ → Bool) → ((r : ℕ) → f' r ≡ true → 
 register_grows f f' h types [] r = root_grows (f r) (f' r) (Some (rooted (root.Register r))) (h r)
 register_grows f f' h types (x ∷ before) r =
     grows_cond (is_register x.result r) (path_by (register_path f types before) (has_pointer types x.result) x.op) (register_path f types before r)
-        (path_by (register_path f' types before) (has_pointer types x.result) x.op) (register_path f' types before r)
-        (path_grows (register_path f types before) (register_path f' types before) (λ s. register_grows f f' h types before s) (has_pointer types x.result) x.op)
-        (register_grows f f' h types before r)
+    (path_by (register_path f' types before) (has_pointer types x.result) x.op) (register_path f' types before r)
+    (path_grows (register_path f types before) (register_path f' types before) (λ s. register_grows f f' h types before s) (has_pointer types x.result) x.op)
+    (register_grows f f' h types before r)
 
 both_grows : (a b c d : Option RootedList) → Grows a c → Grows b d → Grows (both a b) (both c d)
 both_grows None b c d h k x e = cc
@@ -107,9 +107,9 @@ from_grows : (m : Bool) (gated : ℕ → Bool) (sums : ℕ → Option RootedList
 from_grows m gated sums f f' h types before i [] = λ x e. e
 from_grows m gated sums f f' h types before i (x ∷ xs) =
     both_grows (op_accesses m gated sums (register_path f types before) i x.op) (accesses_from m gated sums f types (x ∷ before) (i + 1) xs)
-        (op_accesses m gated sums (register_path f' types before) i x.op) (accesses_from m gated sums f' types (x ∷ before) (i + 1) xs)
-        (op_grows m gated sums (register_path f types before) (register_path f' types before) (register_grows f f' h types before) i x.op)
-        (from_grows m gated sums f f' h types (x ∷ before) (i + 1) xs)
+    (op_accesses m gated sums (register_path f' types before) i x.op) (accesses_from m gated sums f' types (x ∷ before) (i + 1) xs)
+    (op_grows m gated sums (register_path f types before) (register_path f' types before) (register_grows f f' h types before) i x.op)
+    (from_grows m gated sums f f' h types (x ∷ before) (i + 1) xs)
 
 pub block_grows : (m : Bool) (p : NumberedProgram) (gated : ℕ → Bool) (sums : ℕ → Option RootedList) (f f' : ℕ → Bool) → ((r : ℕ) → f' r ≡ true → f r ≡ true) → (b : ℕ) → Grows (block_accesses m p gated sums f b) (block_accesses m p gated sums f' b)
 unfolding block_accesses
@@ -117,25 +117,25 @@ block_grows m p gated sums f f' h b = from_grows m gated sums f f' h (types_of p
 
 -- ---- sets of blocks
 
-pub gathered_each : {A : Type 0} (f : A → Option RootedList) (xs : List A) (as : RootedList) → gathered f xs ≡ Some as → (x : A) → Contains xs x → (y : RootedList) × (f x ≡ Some y)
-gathered_each {A} f xs as e x c = at xs as e c.0 c.1 c.2
+pub gathered_each : {A : Type 0} (f : A → Option RootedList) (xs : List A) (listed : RootedList) → gathered f xs ≡ Some listed → (x : A) → Contains xs x → (y : RootedList) × (f x ≡ Some y)
+gathered_each {A} f xs listed e x c = at xs listed e c.0 c.1 c.2
   where
     parts : (a b : Option RootedList) (ys : RootedList) → both a b ≡ Some ys → ((y : RootedList) × (a ≡ Some y)) × ((z : RootedList) × (b ≡ Some z))
     parts None b ys q = cc
     parts (Some a) None ys q = cc
     parts (Some a) (Some b) ys q = ((a, refl), (b, refl))
 
-    at : (xs : List A) (as : RootedList) → gathered f xs ≡ Some as → (k : ℕ) → k < length xs → get_or xs k x ≡ x → (y : RootedList) × (f x ≡ Some y)
-    at [] as e k lt q = absurd (omega arith)
-    at (z ∷ zs) as e zero lt q = let h = parts (f z) (gathered f zs) as e in (h.0.0, ap f (sym q) ∙ h.0.1)
-    at (z ∷ zs) as e (suc k) lt q = let h = parts (f z) (gathered f zs) as e in at zs h.1.0 h.1.1 k (omega arith) q
+    at : (xs : List A) (listed : RootedList) → gathered f xs ≡ Some listed → (k : ℕ) → k < length xs → get_or xs k x ≡ x → (y : RootedList) × (f x ≡ Some y)
+    at [] listed e k lt q = absurd (omega arith)
+    at (z ∷ zs) listed e zero lt q = let h = parts (f z) (gathered f zs) listed e in (h.0.0, ap f (sym q) ∙ h.0.1)
+    at (z ∷ zs) listed e (suc k) lt q = let h = parts (f z) (gathered f zs) listed e in at zs h.1.0 h.1.1 k (omega arith) q
 
-gathered_all : (f : ℕ → Option RootedList) (xs : List ℕ) → ((x : ℕ) → Contains xs x → (y : RootedList) × (f x ≡ Some y)) → (as : RootedList) × (gathered f xs ≡ Some as)
+gathered_all : (f : ℕ → Option RootedList) (xs : List ℕ) → ((x : ℕ) → Contains xs x → (y : RootedList) × (f x ≡ Some y)) → (listed : RootedList) × (gathered f xs ≡ Some listed)
 gathered_all f [] h = ([], refl)
 gathered_all f (x ∷ xs) h = join (h x (here x xs)) (gathered_all f xs (λ z c. h z (there x xs z c)))
   where
-    join : (y : RootedList) × (f x ≡ Some y) → (as : RootedList) × (gathered f xs ≡ Some as) → (as : RootedList) × (gathered f (x ∷ xs) ≡ Some as)
-    join y as = (y.0 ++ as.0, rw (y.1, as.1) refl)
+    join : (y : RootedList) × (f x ≡ Some y) → (listed : RootedList) × (gathered f xs ≡ Some listed) → (listed : RootedList) × (gathered f (x ∷ xs) ≡ Some listed)
+    join y listed = (y.0 ++ listed.0, rw (y.1, listed.1) refl)
 
 any_some : (f : ℕ → Bool) (xs : List ℕ) → list_any f xs ≡ true → (x : ℕ) × Contains xs x × (f x ≡ true)
 any_some f [] e = absurd (true≢false (sym e))
@@ -158,20 +158,20 @@ sets_grow : (p : NumberedProgram) (small big : List ℕ) → ((x : ℕ) → Cont
 sets_grow p small big h r e = let s = any_some (block_sets p r) small e in some_any (block_sets p r) big s.0 (h s.0 s.1) s.2
 
 -- a block of a part accesses what it accesses in the whole
-pub same_part : (m : Bool) (p : NumberedProgram) (gated : ℕ → Bool) (sums : ℕ → Option RootedList) (big small : List ℕ) (as : RootedList) → set_accesses m p gated sums big ≡ Some as → ((x : ℕ) → Contains small x → Contains big x) →
+pub same_part : (m : Bool) (p : NumberedProgram) (gated : ℕ → Bool) (sums : ℕ → Option RootedList) (big small : List ℕ) (listed : RootedList) → set_accesses m p gated sums big ≡ Some listed → ((x : ℕ) → Contains small x → Contains big x) →
     (b : ℕ) → Contains small b → block_accesses m p gated sums (sets p small) b ≡ block_accesses m p gated sums (sets p big) b
-same_part m p gated sums big small as e h b c =
-    let y = gathered_each (block_accesses m p gated sums (sets p big)) big as e b (h b c) in
+same_part m p gated sums big small listed e h b c =
+    let y = gathered_each (block_accesses m p gated sums (sets p big)) big listed e b (h b c) in
     block_grows m p gated sums (sets p big) (sets p small) (sets_grow p small big h) b y.0 y.1 ∙ sym y.1
 
 -- what is quiet in a set of blocks is quiet in a part of it
-pub quiet_part : (m : Bool) (p : NumberedProgram) (gated : ℕ → Bool) (sums : ℕ → Option RootedList) (big small : List ℕ) (as : RootedList) → set_accesses m p gated sums big ≡ Some as → ((x : ℕ) → Contains small x → Contains big x) →
+pub quiet_part : (m : Bool) (p : NumberedProgram) (gated : ℕ → Bool) (sums : ℕ → Option RootedList) (big small : List ℕ) (listed : RootedList) → set_accesses m p gated sums big ≡ Some listed → ((x : ℕ) → Contains small x → Contains big x) →
     (bs : RootedList) × (set_accesses m p gated sums small ≡ Some bs)
-quiet_part m p gated sums big small as e h = gathered_all (block_accesses m p gated sums (sets p small)) small each
+quiet_part m p gated sums big small listed e h = gathered_all (block_accesses m p gated sums (sets p small)) small each
   where
     each : (x : ℕ) → Contains small x → (y : RootedList) × (block_accesses m p gated sums (sets p small) x ≡ Some y)
     each x c =
-        let y = gathered_each (block_accesses m p gated sums (sets p big)) big as e x (h x c) in
+        let y = gathered_each (block_accesses m p gated sums (sets p big)) big listed e x (h x c) in
         (y.0, block_grows m p gated sums (sets p big) (sets p small) (sets_grow p small big h) x y.0 y.1)
 
 -- a block that isn't quiet where no register is set is quiet in no set
@@ -180,6 +180,6 @@ loud_anywhere m p gated sums unset set b none out = go (block_accesses m p gated
   where
     go : (o : Option RootedList) → block_accesses m p gated sums set b ≡ o → block_accesses m p gated sums set b ≡ None
     go None e = e
-    go (Some as) e =
-        let q : block_accesses m p gated sums unset b ≡ Some as = block_grows m p gated sums set unset (λ r t. absurd (true≢false (sym t ∙ none r))) b as e in
+    go (Some listed) e =
+        let q : block_accesses m p gated sums unset b ≡ Some listed = block_grows m p gated sums set unset (λ r t. absurd (true≢false (sym t ∙ none r))) b listed e in
         cc

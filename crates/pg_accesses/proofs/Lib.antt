@@ -5,3 +5,4 @@ pub mod Passes
 pub mod Gathers
 pub mod Blocks
 pub mod Sets
+pub mod Louds

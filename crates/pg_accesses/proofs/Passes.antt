@@ -1,5 +1,5 @@
 -- What the instructions of a quiet set of blocks are, and where their accesses begin.
-use Rattle.std.proofs.Common.{◌≡◌, ℕ, zero, suc, ◌+◌, Bool, true, false, cond, List, [], ◌∷◌, ◌++◌, Option, Some, None, refl, sym, ap, ◌∙◌, subst, arith, inl, inr, ◌⊎◌}
+use Rattle.std.proofs.Common.{◌≡◌, ℕ, zero, suc, ◌+◌, Bool, true, false, cond, List, [], ◌∷◌, ◌++◌, Option, Some, None, refl, sym, subst, arith, inl, inr, ◌⊎◌}
 use Rattle.std.specs.Prelude.{Contains, option_map, option_and_then, slice_get}
 use Rattle.std.proofs.lemmas.List.Elements.{Contains-append_cases}
 use Rattle.pg_ir.specs.declared.known.Known.{Known}
@@ -16,9 +16,8 @@ use Rattle.pg_ir.specs.Edges.{instrs_of}
 use Rattle.pg_paths.specs.declared.path.Root.{Root}
 use Rattle.pg_paths.specs.declared.path.Root.TheVariants as root
 use Rattle.pg_paths.specs.declared.path.Loads.{Loads}
-use Rattle.pg_paths.specs.declared.path.RootPath.{RootPath}
 use Rattle.pg_paths.specs.declared.path.Path.{Path}
-use Rattle.pg_paths.specs.Paths.{loaded, loaded_at, path_with, one_more, rooted, root_path_with, loads_behind, composed}
+use Rattle.pg_paths.specs.Paths.{loaded, loaded_at, path_with, one_more, rooted, root_path_with, loads_behind}
 use Rattle.pg_paths.specs.Registers.{value_path, path_by, register_path, is_register, has_pointer, moved}
 use Rattle.pg_accesses.specs.declared.rooted.Rooted.{Rooted}
 use Rattle.pg_accesses.specs.Accesses.{RootedList, both, gathered, one_access, with_path, behind_path, behind_argument, called_access, called_accesses, known_accesses, op_accesses, accesses_from, block_accesses, sets, set_accesses}
@@ -88,10 +87,10 @@ set_quiet m p gated sums blocks ys e b k x c at =
 -- ---- where accesses begin
 
 module _ (is_set : ℕ → Bool) where
-  AllOutside : RootedList → Type 0
-  AllOutside as = (a : Rooted) → Contains as a → IsOutside is_set a.path.root
+  abbrev AllOutside : RootedList → Type 0
+  AllOutside listed = (a : Rooted) → Contains listed a → IsOutside is_set a.path.root
 
-  ArePaths : (ℕ → Option Path) → Type 0
+  abbrev ArePaths : (ℕ → Option Path) → Type 0
   ArePaths f = (r : ℕ) (q : Path) → f r ≡ Some q → IsOutside is_set q.root
 
   value_outside : (f : ℕ → Option Path) → ArePaths f → (v : Value) (q : Path) → value_path f v ≡ Some q → IsOutside is_set q.root
@@ -128,11 +127,11 @@ module _ (is_set : ℕ → Bool) where
 
   register_outside : (types : List Scalar) (before : List Instr) → ArePaths (register_path is_set types before)
   register_outside types [] r q e = root_outside r (is_set r) refl q e
-  register_outside types (x ∷ before) r q e = go (is_register x.result r) e
+  register_outside types (x ∷ before) r q e = go (register_outside types before) (is_register x.result r) e
     where
-      go : (b : Bool) → cond b (path_by (register_path is_set types before) (has_pointer types x.result) x.op) (register_path is_set types before r) ≡ Some q → IsOutside is_set q.root
-      go true k = by_outside (register_path is_set types before) (register_outside types before) (has_pointer types x.result) x.op q k
-      go false k = register_outside types before r q k
+      go : ArePaths (register_path is_set types before) → (b : Bool) → cond b (path_by (register_path is_set types before) (has_pointer types x.result) x.op) (register_path is_set types before r) ≡ Some q → IsOutside is_set q.root
+      go h true k = by_outside (register_path is_set types before) h (has_pointer types x.result) x.op q k
+      go h false k = h r q k
 
   none_outside : (ys : RootedList) → Some [] ≡ Some ys → AllOutside ys
   none_outside ys e a c = let t : [] ≡ ys = cc in absurd (none_in a (subst (λ (z : RootedList). Contains z a) (sym t) c))
@@ -209,8 +208,8 @@ module _ (is_set : ℕ → Bool) where
   from_outside m gated sums types before i [] ys e = none_outside ys e
   from_outside m gated sums types before i (x ∷ xs) ys e =
       both_outside (op_accesses m gated sums (register_path is_set types before) i x.op) (accesses_from m gated sums is_set types (x ∷ before) (i + 1) xs)
-          (op_outside m gated sums (register_path is_set types before) (register_outside types before) i x.op)
-          (from_outside m gated sums types (x ∷ before) (i + 1) xs) ys e
+      (op_outside m gated sums (register_path is_set types before) (register_outside types before) i x.op)
+      (from_outside m gated sums types (x ∷ before) (i + 1) xs) ys e
 
 block_outside : (is_set : ℕ → Bool) (m : Bool) (p : NumberedProgram) (gated : ℕ → Bool) (sums : ℕ → Option RootedList) (b : ℕ) (ys : RootedList) → block_accesses m p gated sums is_set b ≡ Some ys → (a : Rooted) → Contains ys a → IsOutside is_set a.path.root
 unfolding block_accesses

@@ -1,12 +1,18 @@
 -- Sets of registers as tables.
-use Rattle.std.proofs.Common.{◌≡◌, ◌≢◌, ℕ, zero, suc, ◌+◌, ◌<◌, ◌≤◌, ◌==◌, ◌||◌, Bool, true, false, cond, List, [], ◌∷◌, ◌++◌, length, get_or, take, replicate, Option, Some, None, refl, sym, ap, ◌∙◌, subst, arith, inl, inr, ◌⊎◌, get_or-set_same, get_or-set_other}
+use Rattle.std.proofs.Common.{◌≡◌, ℕ, zero, suc, ◌+◌, ◌<◌, ◌≤◌, ◌||◌, Bool, true, false, List, [], ◌∷◌, ◌++◌, length, get_or, take, drop, replicate, Some, None, refl, sym, ap, ◌∙◌, subst, arith, inl, inr, ◌⊎◌, get_or-set_same, get_or-set_other}
 use Rattle.std.specs.List.{list_any}
 use Rattle.std.proofs.Math.ListN.{set}
 use Rattle.std.proofs.lemmas.Bool.{cases_eq, cases_lt, eq-eqb, ne_eqb}
 use Rattle.std.proofs.lemmas.List.{take_more, length-replicate, get_or-replicate, get_or_past}
+use Rattle.std.specs.Prelude.{slice_get}
+use Rattle.pg_ir.specs.declared.function.Block.{Block}
 use Rattle.pg_ir.specs.declared.instr.Instr.{Instr}
+use Rattle.pg_ir.specs.Program.{NumberedProgram}
+use Rattle.pg_ir.specs.Edges.{instrs_of}
 use Rattle.pg_paths.specs.Registers.{is_register}
+use Rattle.pg_accesses.specs.Accesses.{block_sets}
 use Rattle.pg_accesses.specs.Tables.{in_table}
+use Rattle.pg_accesses.proofs.Blocks.{get_take, instrs_end}
 
 pub added_none : (table : List Bool) (r : ℕ) → in_table table r ≡ (is_register None r || in_table table r)
 added_none table r = refl
@@ -45,3 +51,23 @@ nothing_in n r = go (cases_lt r n)
     go : (r < n) ⊎ (n ≤ r) → in_table (replicate n false) r ≡ false
     go (inl lt) = get_or-replicate n r false false lt
     go (inr le) = get_or_past (replicate n false) r false (omega (arith, length-replicate n false, le))
+
+-- ---- the registers that a block sets
+
+-- one instruction more is passed
+pub set_more : (xs : List Instr) (k : ℕ) (x : Instr) (r : ℕ) (old new rest : Bool) → slice_get xs k ≡ Some x → new ≡ (is_register x.result r || old) → old ≡ (list_any (λ (y : Instr). is_register y.result r) (take k xs) || rest) →
+    new ≡ (list_any (λ (y : Instr). is_register y.result r) (take (k + 1) xs) || rest)
+set_more xs k x r old new rest e h q =
+    let t : list_any (λ (y : Instr). is_register y.result r) (take (k + 1) xs) ≡ (is_register x.result r || list_any (λ (y : Instr). is_register y.result r) (take k xs)) =
+    ap (λ (l : List Instr). list_any (λ (y : Instr). is_register y.result r) l) (get_take xs k x e) ∙ any_push (λ (y : Instr). is_register y.result r) (take k xs) x in
+    or_more (is_register x.result r) (list_any (λ (y : Instr). is_register y.result r) (take k xs)) old new rest h q ∙ ap (λ b. b || rest) (sym t)
+
+take_all : (xs : List Instr) (k : ℕ) → drop k xs ≡ [] → take k xs ≡ xs
+take_all [] zero e = refl
+take_all [] (suc k) e = refl
+take_all (x ∷ xs) zero e = absurd cc
+take_all (x ∷ xs) (suc k) e = ap (λ l. x ∷ l) (take_all xs k e)
+
+pub sets_all : (p : NumberedProgram) (b : ℕ) (block : Block) (k r : ℕ) → slice_get p.blocks b ≡ Some block → block.count ≤ k → list_any (λ (y : Instr). is_register y.result r) (take k (instrs_of p b)) ≡ block_sets p r b
+unfolding block_sets
+sets_all p b block k r e le = ap (λ (l : List Instr). list_any (λ (y : Instr). is_register y.result r) l) (take_all (instrs_of p b) k (instrs_end p b block k e le))

@@ -1,6 +1,5 @@
 -- Laws on what sets of blocks access.
-use Rattle.std.specs.Prelude.{◌≡◌, ℕ, ◌+◌, ◌⊎◌, List, Bool, true, false, Option, Some, None, Contains, slice_get}
-use Rattle.pg_ir.specs.declared.known.Known.{Known}
+use Rattle.std.specs.Prelude.{◌≡◌, ℕ, ◌+◌, ◌⊎◌, List, Bool, true, false, Option, Some, Contains, slice_get}
 use Rattle.pg_ir.specs.declared.known.Known.TheVariants.{PgIn, PgInLen}
 use Rattle.pg_ir.specs.declared.instr.Instr.{Instr}
 use Rattle.pg_ir.specs.declared.instr.Op.{Op}

@@ -6,4 +6,4 @@ use Rattle.pg_accesses.specs.Tables.{in_table}
 
 -- these blocks are quiet within no set of blocks
 pub record AreLoud (p : NumberedProgram) (gated : ℕ → Bool) (sums : ℕ → Option RootedList) (loud : List Bool) : Type 0 where
-  pub loud : (b : ℕ) → in_table loud b ≡ true → (is_set : ℕ → Bool) → block_accesses false p gated sums is_set b ≡ None
+  pub never : (b : ℕ) → in_table loud b ≡ true → (is_set : ℕ → Bool) → block_accesses false p gated sums is_set b ≡ None

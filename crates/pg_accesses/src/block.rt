@@ -57,6 +57,7 @@ pub(crate) fn push_block(
     ensures count { count_in known.new ≡ count_in known.old }
     ensures accesses { IfOk result (λ is_quiet. Appends (block_accesses may_return p.now (in_table gated.now) (summary_of sums.now) (set_in known.old) b.0) accesses.old.items is_quiet accesses.new.items) }
 {
+    p.facts();
     let block = *p.block(b);
     let function = p.function(block.function);
     let types = function.registers.as_slice();

@@ -28,6 +28,7 @@ fn add_sets(set: &mut Vec<bool>, p: &Program, b: BlockNo)
     ensures sets { (r : ℕ) → in_table set.new.items r ≡ (block_sets p.now r b.0 || in_table set.old.items r) }
     ensures size { length set.new.items ≡ FUNCTION_REGISTER_LIMIT }
 {
+    p.facts();
     let block = *p.block(b);
     let _function = p.function(block.function);
     for k in 0..block.count {

@@ -1,5 +1,5 @@
 -- Ascending lists of numbers, as sets.
-use Rattle.std.proofs.Common.{◌≡◌, ◌≢◌, ℕ, zero, suc, ◌+◌, ◌<◌, ◌≤◌, List, [], ◌∷◌, ◌++◌, length, get_or, refl, sym, ap, ◌∙◌, subst, arith, inl, inr, ◌⊎◌}
+use Rattle.std.proofs.Common.{◌≡◌, ◌≢◌, ℕ, zero, suc, ◌+◌, ◌<◌, ◌≤◌, List, [], ◌∷◌, ◌++◌, length, get_or, take, refl, sym, ap, ◌∙◌, subst, arith, inl, inr, ◌⊎◌}
 use Rattle.std.specs.Prelude.{Contains, slice_index}
 use Rattle.std.specs.List.Sorted.{IsStrictlyIncreasing}
 use Rattle.std.proofs.lemmas.Bool.{cases_eq, cases_lt}
@@ -63,3 +63,13 @@ strictly_shorter (y ∷ ys) (x ∷ xs) v a b h c no' = go (cases y ys x (h x (he
         above : (z : ℕ) → y ≡ z → (x ≡ z) ⊎ Contains xs z → ⊥
         above z q (inl e) = omega (arith, below y ys b x d, q, e)
         above z q (inr e) = omega (arith, below y ys b x d, below x xs a z e, q)
+
+-- what stands before a place is below what stands there
+pub taken_below : (xs : List ℕ) → IsStrictlyIncreasing xs → (i : ℕ) → i < length xs → (k : ℕ) → Contains (take i xs) k → k < get_or xs i 0
+taken_below [] a i lt k c = absurd (omega (arith, lt))
+taken_below (x ∷ xs) a zero lt k c = absurd (none_in k c)
+taken_below (x ∷ xs) a (suc i) lt k c = go (cases x (take i xs) k c) (λ d. taken_below xs (tail_of x xs a) i (omega arith) k d)
+  where
+    go : (x ≡ k) ⊎ Contains (take i xs) k → (Contains (take i xs) k → k < get_or xs i 0) → k < get_or xs i 0
+    go (inl e) f = omega (arith, below_at x xs a i (omega (arith, lt)), e)
+    go (inr d) f = f d

@@ -24,15 +24,15 @@ module _ (p : NumberedProgram) (gated : ℕ → Bool) (sums : ℕ → Option Roo
   quiet : ℕ → Bool
   quiet x = is_some (block_accesses false p gated sums nothing x)
 
-  quiet_before : (c j : ℕ) (blocks : List ℕ) (as : RootedList) → IsJoin p gated sums c j blocks as → (x : ℕ) → Walk (flow_of p) j c x → quiet x ≡ true
-  quiet_before c j blocks as h x w =
-      let y = gathered_each (block_accesses false p gated sums (sets p blocks)) blocks as h.quiet x ((h.before.exact x).1 w) in
+  quiet_before : (c j : ℕ) (blocks : List ℕ) (listed : RootedList) → IsJoin p gated sums c j blocks listed → (x : ℕ) → Walk (flow_of p) j c x → quiet x ≡ true
+  quiet_before c j blocks listed h x w =
+      let y = gathered_each (block_accesses false p gated sums (sets p blocks)) blocks listed h.quiet x ((h.before.exact x).1 w) in
       let e : block_accesses false p gated sums nothing x ≡ Some y.0 = block_grows false p gated sums (sets p blocks) nothing (λ r t. absurd (true≢false (sym t))) x y.0 y.1 in
       ap (λ o. is_some o) e
 
   loud_none : (v : ℕ) → IsLoudBlock p gated sums v → (o : Option RootedList) → block_accesses false p gated sums nothing v ≡ o → is_some o ≡ false
   loud_none v l None e = refl
-  loud_none v l (Some as) e = absurd (l.loud (block_quiet false p gated sums nothing v as e l.at l.instr l.is))
+  loud_none v l (Some listed) e = absurd (l.loud (block_quiet false p gated sums nothing v listed e l.at l.instr l.is))
 
   not_met : {j c x : ℕ} → Walk (flow_of p) j c x → x ≢ j
   not_met (first e h) = h

@@ -127,3 +127,72 @@ pub(crate) const CHAINS: Parts = Parts {
     }],
     main: 0,
 };
+
+/// A branch that may set the pointer at which a later one stores.
+pub(crate) const CHOSEN_PLACE: Parts = Parts {
+    globals: &[(1, 8, b""), (2, 8, b"")],
+    functions: &[Body {
+        params: 0,
+        registers: &[I64, I1, PTR, I64, I1],
+        returned: Some(I32),
+        blocks: &[
+            &[
+                (Some(0), Knows(PgIn, &[Const(0)])),
+                (Some(1), Compares(Compare::Ne, W64, Register(0), Const(0))),
+                (None, BranchIf(Register(1), 1, 2)),
+            ],
+            &[(None, Branch(2))],
+            &[
+                (Some(2), Phi(&[(0, Global(0)), (1, Global(1))])),
+                (Some(3), Knows(PgIn, &[Const(1)])),
+                (Some(4), Compares(Compare::Ne, W64, Register(3), Const(0))),
+                (None, BranchIf(Register(4), 3, 4)),
+            ],
+            &[
+                (None, Store(W64, Const(1), Register(2))),
+                (None, Branch(4)),
+            ],
+            &[(None, Return(Some(Const(0))))],
+        ],
+    }],
+    main: 0,
+};
+
+/// Loops: at a pointer that the loop's own `phi` sets, at a global, and one with two exits; and two blocks that go on to
+/// each other for ever.
+pub(crate) const LOOPS: Parts = Parts {
+    globals: &[(1, 8, b"")],
+    functions: &[
+        Body {
+            params: 0,
+            registers: &[I64, I1, PTR],
+            returned: Some(I32),
+            blocks: &[
+                &[
+                    (Some(0), Knows(PgIn, &[Const(0)])),
+                    (Some(1), Compares(Compare::Slt, W64, Register(0), Const(9))),
+                    (None, Branch(1)),
+                ],
+                &[
+                    (Some(2), Phi(&[(0, Global(0)), (1, Register(2))])),
+                    (None, Store(W64, Register(0), Register(2))),
+                    (None, BranchIf(Register(1), 1, 2)),
+                ],
+                &[
+                    (None, Store(W64, Register(0), Global(0))),
+                    (None, BranchIf(Register(1), 2, 3)),
+                ],
+                &[(None, BranchIf(Register(1), 4, 5))],
+                &[(None, BranchIf(Register(1), 3, 5))],
+                &[(None, Return(Some(Const(0))))],
+            ],
+        },
+        Body {
+            params: 0,
+            registers: &[],
+            returned: None,
+            blocks: &[&[(None, BranchIf(Const(1), 6, 7))], &[(None, Branch(6))]],
+        },
+    ],
+    main: 0,
+};

@@ -1,9 +1,10 @@
 //! Regions of the branches of sample programs.
 
-use crate::programs::{ADDS_BY_CALLS, CHAINS};
+use crate::programs::{ADDS_BY_CALLS, CHAINS, CHOSEN_PLACE, LOOPS};
+use pg_accesses::{Rooted, Summary};
 use pg_ir::{InstrId, Program};
 use pg_paths::{Loads, Root, RootPath};
-use pg_region::{Region, Rooted, Summary, region_of};
+use pg_region::{Region, region_of};
 use pg_samples::{Parts, Sample, build};
 use std::alloc::{AllocError, Global};
 use std::test::Fail;
@@ -136,5 +137,54 @@ fn chains_of_loads(rt: HostRuntime) -> Result<(), Fail> {
     assert!(rt; is_region(&found, 7, &[], &[]), "{found:?}");
     let found = region(alloc, &p, &[], 24)?.ok_or("none")?;
     assert!(rt; is_region(&found, 9, &[8], &[]), "{found:?}");
+    Ok(())
+}
+
+/// A loop that sums in registers alone has no access.
+#[test]
+fn loop_in_registers(rt: HostRuntime) -> Result<(), Fail> {
+    let alloc = rt.alloc();
+    let p = sample(alloc, Sample::TwoThatDivide)?;
+    let found = region(alloc, &p, &[], 5)?.ok_or("none")?;
+    assert!(rt; is_region(&found, 3, &[1, 2], &[]), "{found:?}");
+    Ok(())
+}
+
+/// A register that was set before the branch is a root, though a `phi` set it.
+#[test]
+fn root_behind_a_phi(rt: HostRuntime) -> Result<(), Fail> {
+    let alloc = rt.alloc();
+    let p = of_parts(alloc, &CHOSEN_PLACE)?;
+    let found = region(alloc, &p, &[], 2)?.ok_or("none")?;
+    assert!(rt; is_region(&found, 2, &[1], &[]), "{found:?}");
+    let found = region(alloc, &p, &[], 7)?.ok_or("none")?;
+    let rows = [(8, true, REGISTER_2, Loads::Never)];
+    assert!(rt; is_region(&found, 4, &[3], &rows), "{found:?}");
+    Ok(())
+}
+
+/// A register that the region's own `phi` sets is no root; loops with one exit and with two.
+#[test]
+fn loops_with_exits(rt: HostRuntime) -> Result<(), Fail> {
+    let alloc = rt.alloc();
+    let p = of_parts(alloc, &LOOPS)?;
+    assert!(rt; region(alloc, &p, &[], 5)?.is_none());
+    let found = region(alloc, &p, &[], 7)?.ok_or("none")?;
+    let rows = [(6, true, Root::Global(0), Loads::Never)];
+    assert!(rt; is_region(&found, 3, &[2], &rows), "{found:?}");
+    let found = region(alloc, &p, &[], 8)?.ok_or("none")?;
+    assert!(rt; is_region(&found, 5, &[3, 4], &[]), "{found:?}");
+    let found = region(alloc, &p, &[], 9)?.ok_or("none")?;
+    assert!(rt; is_region(&found, 5, &[3, 4], &[]), "{found:?}");
+    Ok(())
+}
+
+/// Of two joins with as many blocks before them the first in the text counts; it is the branch's own block here.
+#[test]
+fn join_is_the_own_block(rt: HostRuntime) -> Result<(), Fail> {
+    let alloc = rt.alloc();
+    let p = of_parts(alloc, &LOOPS)?;
+    let found = region(alloc, &p, &[], 11)?.ok_or("none")?;
+    assert!(rt; is_region(&found, 6, &[7], &[]), "{found:?}");
     Ok(())
 }

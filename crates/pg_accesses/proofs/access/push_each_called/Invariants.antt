@@ -1,6 +1,6 @@
 use Rattle.std.proofs.Common.{◌≡◌, drop}
 use Rattle.pg_accesses.specs.declared.rooted.Rooted.{Rooted}
-use Rattle.pg_paths.specs.Known.{path_in, set_in, count_in}
+use Rattle.pg_paths.specs.Known.{path_in}
 use Rattle.pg_accesses.specs.Accesses.{gathered, called_access}
 use Rattle.pg_accesses.specs.Appends.{behind}
 use Rattle.pg_accesses.proofs.access.push_each_called.Given as goal

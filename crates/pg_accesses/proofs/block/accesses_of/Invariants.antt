@@ -1,7 +1,6 @@
-use Rattle.std.proofs.Common.{◌≡◌, ◌≤◌, drop, []}
-use Rattle.pg_num.specs.declared.limits.TheConstants.{FUNCTION_REGISTER_LIMIT}
-use Rattle.pg_paths.specs.Known.{path_in, set_in, count_in}
-use Rattle.pg_accesses.specs.Accesses.{gathered, block_accesses, set_accesses, sets, summary_of}
+use Rattle.std.proofs.Common.{◌≡◌, drop, []}
+use Rattle.pg_paths.specs.Known.{set_in, count_in}
+use Rattle.pg_accesses.specs.Accesses.{gathered, block_accesses, summary_of}
 use Rattle.pg_accesses.specs.Appends.{behind}
 use Rattle.pg_accesses.specs.Tables.{in_table}
 use Rattle.pg_accesses.proofs.block.accesses_of.Given as goal

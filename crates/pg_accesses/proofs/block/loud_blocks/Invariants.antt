@@ -1,5 +1,4 @@
-use Rattle.std.proofs.Common.{◌≡◌, ◌<◌, ℕ, Bool, true, false, length, None, replicate}
-use Rattle.pg_num.specs.declared.limits.TheConstants.{FUNCTION_REGISTER_LIMIT}
+use Rattle.std.proofs.Common.{◌≡◌, ℕ, Bool, true, false, length, None}
 use Rattle.pg_paths.specs.Known.{count_in}
 use Rattle.pg_accesses.specs.Accesses.{block_accesses, summary_of}
 use Rattle.pg_accesses.specs.Tables.{in_table}

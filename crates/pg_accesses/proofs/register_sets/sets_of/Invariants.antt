@@ -1,4 +1,4 @@
-use Rattle.std.proofs.Common.{◌≡◌, ◌<◌, ℕ, length, take}
+use Rattle.std.proofs.Common.{◌≡◌, ℕ, length, take}
 use Rattle.pg_num.specs.declared.limits.TheConstants.{FUNCTION_REGISTER_LIMIT}
 use Rattle.pg_accesses.specs.Accesses.{sets}
 use Rattle.pg_accesses.specs.Tables.{in_table}
