@@ -1,11 +1,10 @@
 -- The flow of control between the blocks of a program is a closed graph.
-use Rattle.std.proofs.Common.{◌≡◌, ◌≢◌, ℕ, zero, suc, ◌+◌, ◌-◌, ◌<◌, ◌≤◌, ◌^◌, Bool, true, false, List, [], ◌∷◌, ◌++◌, length, get_or, Option, Some, None, refl, sym, ap, ◌∙◌, subst, arith, inl, inr, ◌⊎◌, length-append}
+use Rattle.std.proofs.Common.{◌≡◌, ℕ, zero, suc, ◌+◌, ◌-◌, ◌<◌, ◌≤◌, ◌^◌, List, [], ◌∷◌, ◌++◌, length, get_or, Option, Some, None, refl, sym, ap, ◌∙◌, arith, inl, inr, ◌⊎◌, length-append}
 use Rattle.std.specs.Prelude.{Contains, All, slice_get}
-use Rattle.std.specs.List.{AllByRecursion}
 use Rattle.std.proofs.lemmas.Bool.{cases_eq, cases_lt}
 use Rattle.std.proofs.lemmas.List.Elements.{Contains-get_or, All-from_recursion, All-contains}
 use Rattle.std.proofs.lemmas.Option.{slice_get_within}
-use Rattle.pg_cfg.specs.Graphs.{EdgeLists, Edge, Walk, IsClosed, IsReach, targets_of, targets_in}
+use Rattle.pg_cfg.specs.Graphs.{EdgeLists, Walk, IsClosed, IsReach, targets_of, targets_in}
 use Rattle.pg_cfg.specs.Graphs.Walk.{first, then}
 use Rattle.pg_ir.specs.declared.function.Block.{Block}
 use Rattle.pg_ir.specs.declared.instr.Instr.{Instr}
@@ -82,3 +81,14 @@ walk_within {g} {j} {a} {x} closed (then {b = y} w e h) = closed.closed y x e.le
 -- the blocks before a join are blocks of the program
 pub reach_within : (p : NumberedProgram) (c j : ℕ) (xs : List ℕ) → IsClosed (flow_of p) → IsReach (flow_of p) c j xs → All (λ b. b < length p.blocks) xs
 reach_within p c j xs closed reach = λ k d lt. let w = walk_within closed ((reach.exact (get_or xs k d)).0 (Contains-get_or xs k d lt)) in omega (arith, w, flow_size p)
+
+-- the targets of a block's last instruction are its successors
+pub successors_are : (p : NumberedProgram) (b : ℕ) (block : Block) (x : Instr) → slice_get p.blocks b ≡ Some block → 0 < block.count → slice_get p.instrs (block.first.0 + (block.count - 1)) ≡ Some x → edges.targets_of x.op ≡ edges.successors p b
+unfolding edges.successors end_of
+successors_are p b block x e pos at =
+    let n : block.first.0 + block.count - 1 ≡ block.first.0 + (block.count - 1) = omega (arith, pos) in
+    rw e (sym (ap (λ (k : ℕ). edges.targets_in (slice_get p.instrs k)) n ∙ ap (λ (o : Option Instr). edges.targets_in o) at))
+
+pub flow_whole : (p : NumberedProgram) (n : ℕ) (g : EdgeLists) → g ≡ flow_between p n → n ≡ length p.blocks → g ≡ flow_of p
+unfolding flow_of
+flow_whole p n g e q = e ∙ ap (λ k. flow_between p k) q

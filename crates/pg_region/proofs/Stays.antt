@@ -2,7 +2,7 @@
 use Rattle.std.proofs.Common.{◌≡◌, ℕ, Bool, List, Option, inl, inr, ◌⊎◌}
 use Rattle.std.specs.Prelude.{Contains}
 use Rattle.std.proofs.lemmas.Bool.{cases_eq}
-use Rattle.pg_cfg.specs.Graphs.{Edge, Walk, IsReach}
+use Rattle.pg_cfg.specs.Graphs.{Edge}
 use Rattle.pg_cfg.specs.Graphs.Walk.{first, then}
 use Rattle.pg_ir.specs.Program.{NumberedProgram}
 use Rattle.pg_accesses.specs.Accesses.{RootedList}

@@ -1,5 +1,5 @@
 -- A branch in the region of another has its own region in there.
-use Rattle.std.proofs.Common.{◌≡◌, ◌≢◌, ℕ, ◌<◌, Bool, true, false, List, length, Option, Some, None, refl, sym, ap, ◌∙◌, subst, arith, inl, inr, ◌⊎◌}
+use Rattle.std.proofs.Common.{◌≡◌, ◌≢◌, ℕ, ◌<◌, Bool, true, false, List, length, Option, Some, None, refl, sym, ap, arith, inl, inr, ◌⊎◌}
 use Rattle.std.specs.Prelude.{Contains, is_some}
 use Rattle.std.proofs.lemmas.Bool.{true≢false}
 use Rattle.pg_cfg.specs.Graphs.{Walk, Path, Enters, IsReach}
@@ -8,7 +8,7 @@ use Rattle.pg_cfg.specs.Nested.{HaveRegions}
 use Rattle.pg_cfg.specs.Nested.{AreNested as VerticesNest}
 use Rattle.pg_cfg.proofs.Nesting as nesting
 use Rattle.pg_ir.specs.Program.{NumberedProgram}
-use Rattle.pg_accesses.specs.Accesses.{RootedList, block_accesses, sets, set_accesses}
+use Rattle.pg_accesses.specs.Accesses.{RootedList, block_accesses, sets}
 use Rattle.pg_accesses.proofs.Fewer.{gathered_each, quiet_part, block_grows}
 use Rattle.pg_accesses.proofs.Passes.{block_quiet}
 use Rattle.pg_region.specs.declared.region.Region.{Region}
@@ -21,7 +21,7 @@ abbrev nothing : ℕ → Bool
 nothing r = false
 
 module _ (p : NumberedProgram) (gated : ℕ → Bool) (sums : ℕ → Option RootedList) where
-  quiet : ℕ → Bool
+  abbrev quiet : ℕ → Bool
   quiet x = is_some (block_accesses false p gated sums nothing x)
 
   quiet_before : (c j : ℕ) (blocks : List ℕ) (listed : RootedList) → IsJoin p gated sums c j blocks listed → (x : ℕ) → Walk (flow_of p) j c x → quiet x ≡ true

@@ -1,15 +1,12 @@
 -- The region of a branch: the blocks that can be reached from it before the join at which its ways meet again, none of
 -- which does what another thread can see.
-use Rattle.std.specs.Prelude.{◌≡◌, ℕ, ◌+◌, ◌<◌, ◌≤◌, ◌⊎◌, List, [], ◌∷◌, ◌++◌, length, Bool, true, false, Option, Some, None, Contains, slice_get, zero, suc}
-use Rattle.pg_cfg.specs.Graphs.{EdgeLists, Walk, Enters, IsReach}
-use Rattle.pg_ir.specs.declared.ids.InstrId.{InstrId}
+use Rattle.std.specs.Prelude.{◌≡◌, ℕ, ◌<◌, ◌≤◌, ◌⊎◌, List, [], ◌∷◌, ◌++◌, length, Bool, false, Option, Some, None, slice_get, zero, suc}
+use Rattle.pg_cfg.specs.Graphs.{EdgeLists, Enters, IsReach}
 use Rattle.pg_ir.specs.declared.instr.Instr.{Instr}
 use Rattle.pg_ir.specs.Program.{NumberedProgram}
 use Rattle.pg_ir.specs.Edges.{successors}
-use Rattle.pg_accesses.specs.declared.rooted.Rooted.{Rooted}
-use Rattle.pg_accesses.specs.declared.rooted.Summary.{Summary}
 use Rattle.pg_region.specs.declared.region.Region.{Region}
-use Rattle.pg_accesses.specs.Accesses.{RootedList, is_gated, summary_of, set_accesses}
+use Rattle.pg_accesses.specs.Accesses.{RootedList, set_accesses}
 
 -- the flow of control between the first blocks of a program
 abbrev pub flow_between : NumberedProgram → ℕ → EdgeLists

@@ -37,6 +37,7 @@ fn successors(alloc: Global, p: &Program, b: BlockNo) -> Result<Vec<u32>, AllocE
     requires { b.0 < length p.now.blocks }
     ensures { IfOk result (λ xs. xs.items ≡ successors p.now b.0) }
 {
+    p.facts();
     let block = p.block(b);
     let last = InstrId(block.first.0 + (block.count - 1));
     targets(alloc, &p.instr(last).op)
@@ -48,6 +49,7 @@ pub(crate) fn flow(alloc: Global, p: &Program) -> Result<Graph, AllocError>
     ensures closed { IfOk result (λ g. IsClosed g) }
     ensures few { IfOk result (λ g. length g < 2 ^ 32) }
 {
+    p.facts();
     let count = block_count(p);
     if count > u32::MAX as u64 {
         return Err(AllocError);

@@ -148,10 +148,7 @@ pub(crate) const CHOSEN_PLACE: Parts = Parts {
                 (Some(4), Compares(Compare::Ne, W64, Register(3), Const(0))),
                 (None, BranchIf(Register(4), 3, 4)),
             ],
-            &[
-                (None, Store(W64, Const(1), Register(2))),
-                (None, Branch(4)),
-            ],
+            &[(None, Store(W64, Const(1), Register(2))), (None, Branch(4))],
             &[(None, Return(Some(Const(0))))],
         ],
     }],
