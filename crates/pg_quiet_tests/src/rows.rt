@@ -5,6 +5,7 @@ use pg_accesses::{Rooted, Summary};
 use pg_ir::{InstrId, Program};
 use pg_paths::{Loads, Root, RootPath};
 use pg_quiet::summaries;
+use pg_region::region_of;
 use pg_samples::{Parts, build};
 use std::alloc::{AllocError, Global};
 use std::test::Fail;
@@ -62,6 +63,25 @@ fn called_in_a_loop(rt: HostRuntime) -> Result<(), Fail> {
     assert!(rt; has(sums, 0, &rows));
     assert!(rt; has_none(sums, 1));
     assert!(rt; has_none(sums, 2));
+    Ok(())
+}
+
+/// With these summaries the thread's loop has a region, in which the call accesses the global.
+#[test]
+fn region_with_a_call(rt: HostRuntime) -> Result<(), Fail> {
+    let alloc = rt.alloc();
+    let p = of_parts(alloc, &ADDS_BY_CALLS)?;
+    let sums = summaries(alloc, &p, &[])?;
+    let region = region_of(alloc, &p, &[], sums.as_slice(), InstrId(8))?.ok_or("none")?;
+    assert_eq!(rt; region.join, 4);
+    assert_eq!(rt; region.blocks.as_slice(), [2, 3].as_slice());
+    let rows = [
+        (0, false, Root::Global(0), Loads::Never),
+        (2, true, Root::Global(0), Loads::Never),
+    ];
+    let accesses = region.accesses.as_slice();
+    assert!(rt; accesses.len() == 2);
+    assert!(rt; accesses.iter().zip(rows).all(|(a, row)| *a == rooted(&row)));
     Ok(())
 }
 
