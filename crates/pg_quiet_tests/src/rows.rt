@@ -72,6 +72,9 @@ fn region_with_a_call(rt: HostRuntime) -> Result<(), Fail> {
     let alloc = rt.alloc();
     let p = of_parts(alloc, &ADDS_BY_CALLS)?;
     let sums = summaries(alloc, &p, &[])?;
+    if p.instr_count() <= 8 {
+        return Err(Fail::from("few instructions"));
+    }
     let region = region_of(alloc, &p, &[], sums.as_slice(), InstrId(8))?.ok_or("none")?;
     assert_eq!(rt; region.join, 4);
     assert_eq!(rt; region.blocks.as_slice(), [2, 3].as_slice());
@@ -90,6 +93,9 @@ fn region_with_a_call(rt: HostRuntime) -> Result<(), Fail> {
 fn gated_store(rt: HostRuntime) -> Result<(), Fail> {
     let alloc = rt.alloc();
     let p = of_parts(alloc, &ADDS_BY_CALLS)?;
+    if p.instr_count() <= 2 {
+        return Err(Fail::from("few instructions"));
+    }
     let sums = summaries(alloc, &p, &[InstrId(2)])?;
     assert!(rt; has_none(sums.as_slice(), 0));
     Ok(())
