@@ -7,4 +7,4 @@ only n few zero d lt = few
 only n few (suc k) d lt = absurd (omega (arith, lt))
 
 pub summaries-requires : goal.summaries-requires
-summaries-requires g c = record { gated = only (length c.in_ok-p.p.instrs) (omega (arith, c.if-instr_count-2.false, c.instr_count.ensures.count)) }
+summaries-requires g c = record { gated = only (length c.in_ok-p.p.instrs) (omega (arith, c.if-instr_count-le2.false, c.instr_count.ensures.count)) }
