@@ -1,8 +1,9 @@
 use crate::path::Path;
 
-/// The path of a register that was set, and the number of the block, in the order in which they were entered.
+/// The path of a register that was set, if it has one, and by which block: the number that it has in the order in
+/// which blocks were entered.
 #[derive(Clone, Copy)]
-pub(crate) struct Entry {
-    pub(crate) turn: u64,
-    pub(crate) path: Option<Path>,
+pub struct Entry {
+    pub turn: u64,
+    pub path: Option<Path>,
 }

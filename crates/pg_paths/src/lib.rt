@@ -6,5 +6,6 @@ mod known;
 pub mod laws;
 mod path;
 
+pub use entry::Entry;
 pub use known::Known;
 pub use path::{Loads, Path, Root, RootPath};

@@ -1,0 +1,5 @@
+pub mod Accesses
+pub mod Appends
+pub mod Tables
+pub mod Loud
+pub mod Laws

@@ -1,0 +1,15 @@
+//! What quiet basic blocks access: each load and store with the root path of its pointer, those of a call in the place of
+//! the call.
+#![tactic(auto)]
+
+mod access;
+mod block;
+mod count;
+pub mod laws;
+mod register_sets;
+mod rooted;
+
+pub use block::{accesses_of, loud_blocks};
+pub use count::block_count;
+pub use register_sets::gated_table;
+pub use rooted::{Rooted, Summary};

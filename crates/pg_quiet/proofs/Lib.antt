@@ -1,0 +1,12 @@
+pub mod Ascending
+pub mod Spanned
+pub mod Ranges
+pub mod Places
+pub mod Walks
+pub mod Sames
+pub mod Named
+pub mod Listed
+pub mod Counted
+pub mod Worked
+pub mod Prepared
+pub mod Lawful

@@ -1,0 +1,10 @@
+pub mod Calls
+pub mod Blocks
+pub mod Summaries
+pub mod Counts
+pub mod Spans
+pub mod Callees
+pub mod Creates
+pub mod Reaches
+pub mod Work
+pub mod Laws

@@ -1,0 +1,7 @@
+//! Tests of quiet functions and their summaries.
+#![tactic(auto)]
+
+#[cfg(test)]
+mod programs;
+#[cfg(test)]
+mod rows;

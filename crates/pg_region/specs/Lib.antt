@@ -1,0 +1,4 @@
+pub mod Regions
+pub mod Finders
+pub mod Least
+pub mod Laws

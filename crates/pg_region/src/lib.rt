@@ -1,0 +1,11 @@
+//! Quiet regions: the blocks between a branch and the join at which its ways meet again, where these do nothing that
+//! another thread can see but access memory.
+#![tactic(auto)]
+
+mod finder;
+mod flow;
+pub mod laws;
+mod region;
+
+pub use finder::{Finder, region_of};
+pub use region::Region;
