@@ -1,0 +1,11 @@
+pub mod Moments
+pub mod Freeable
+pub mod Shadows
+pub mod Extents
+pub mod Known
+pub mod Rules
+pub mod Closed
+pub mod Sets
+pub mod Rooted
+pub mod Counted
+pub mod Summed

@@ -1,0 +1,73 @@
+-- A branch whose region stores through a pointer that an earlier branch chose, on an input of two zeros.
+use Rattle.std.specs.Prelude.{ℕ, ◌==◌, List, [], ◌∷◌, true, Some, None, if◌then◌else◌}
+use Rattle.pg_num.specs.declared.width.Width.TheVariants.{W1, W32, W64}
+use Rattle.pg_num.specs.declared.operations.Compare.TheVariants as compares
+use Rattle.pg_ir.specs.declared.known.Known.TheVariants as known
+use Rattle.pg_ir.specs.declared.value.Scalar.TheVariants.{Int, Ptr}
+use Rattle.pg_ir.specs.declared.value.Value.TheVariants as value
+use Rattle.pg_ir.specs.declared.instr.Op.TheVariants as op
+use Rattle.pg_ir.specs.Program.{NumberedProgram}
+use Rattle.pg_mem.specs.Initial.{initial_byte}
+use Rattle.pg_paths.specs.declared.path.Loads.TheVariants.{Never}
+use Rattle.pg_paths.specs.declared.path.Root.TheVariants as root
+use Rattle.pg_trace.specs.declared.turn.TurnKind.TheVariants as turns
+use Rattle.pg_trace.specs.declared.step.StepKind.TheVariants as kinds
+use Rattle.pg_closed.specs.Moments.{Moment}
+use Rattle.pg_closed.specs.Freeable.{Regions}
+use Rattle.pg_closed.specs.Known.{Reference}
+use Rattle.pg_closed.specs.Sets.{one_of}
+
+abbrev pub rooted_program : NumberedProgram
+rooted_program = record {
+  functions =
+      (record { params = 0; registers = ((Int W64) ∷ (Int W1) ∷ Ptr ∷ (Int W64) ∷ (Int W1) ∷ []); first_block = (record { 0 = 0 }); blocks = 5; result = (Some (Int W32)) })
+      ∷ [];
+  blocks =
+      (record { function = 0; first = (record { 0 = 0 }); count = 3 })
+      ∷ (record { function = 0; first = (record { 0 = 3 }); count = 1 })
+      ∷ (record { function = 0; first = (record { 0 = 4 }); count = 4 })
+      ∷ (record { function = 0; first = (record { 0 = 8 }); count = 2 })
+      ∷ (record { function = 0; first = (record { 0 = 10 }); count = 1 })
+      ∷ [];
+  instrs =
+      (record { op = op.CallKnown known.PgIn ((value.Const 0) ∷ []); block = (record { 0 = 0 }); result = (Some 0) })
+      ∷ (record { op = op.Compare compares.Ne W64 (value.Register 0) (value.Const 0); block = (record { 0 = 0 }); result = (Some 1) })
+      ∷ (record { op = op.CondBr (value.Register 1) (record { 0 = 1 }) (record { 0 = 2 }); block = (record { 0 = 0 }); result = None })
+      ∷ (record { op = op.Br (record { 0 = 2 }); block = (record { 0 = 1 }); result = None })
+      ∷ (record { op = op.Phi ((record { block = (record { 0 = 0 }); value = (value.Global 0) }) ∷ (record { block = (record { 0 = 1 }); value = (value.Global 1) }) ∷ []); block = (record { 0 = 2 }); result = (Some 2) })
+      ∷ (record { op = op.CallKnown known.PgIn ((value.Const 1) ∷ []); block = (record { 0 = 2 }); result = (Some 3) })
+      ∷ (record { op = op.Compare compares.Ne W64 (value.Register 3) (value.Const 0); block = (record { 0 = 2 }); result = (Some 4) })
+      ∷ (record { op = op.CondBr (value.Register 4) (record { 0 = 3 }) (record { 0 = 4 }); block = (record { 0 = 2 }); result = None })
+      ∷ (record { op = op.Store W64 (value.Const 1) (value.Register 2); block = (record { 0 = 3 }); result = None })
+      ∷ (record { op = op.Br (record { 0 = 4 }); block = (record { 0 = 3 }); result = None })
+      ∷ (record { op = op.Ret (Some (value.Const 0)); block = (record { 0 = 4 }); result = None })
+      ∷ [];
+  globals =
+      (record { start = 1; size = 8; bytes = ([]) })
+      ∷ (record { start = 2; size = 8; bytes = ([]) })
+      ∷ [];
+  main = 0;
+}
+
+abbrev pub rooted_regions : Regions
+rooted_regions b =
+    if b == 0 then Some (record { join = 2; sets = one_of (2 ∷ []); accesses = ([]) }) else
+    if b == 2 then Some (record { join = 4; sets = one_of ([]); accesses = ((record { writes = true; path = (record { root = root.Register 2; loads = Never }) }) ∷ []) }) else None
+
+abbrev pub rooted_bytes0 : ℕ → ℕ
+rooted_bytes0 = initial_byte rooted_program.globals
+
+abbrev pub rooted_moments : List Moment
+rooted_moments =
+    (record { did = record { did = record { thread = record { 0 = 0 }; instr = record { 0 = 0 }; kind = kinds.Event (record { kind = turns.Start; object = 0; operands = (0 ∷ 0 ∷ 0 ∷ 0 ∷ []); reply = 0; write = None }) }; low = 1; high = 0 }; calls = ((record { function = 0; place = 0; registers = (None ∷ None ∷ None ∷ None ∷ None ∷ []); height = 0 }) ∷ []); bytes = rooted_bytes0 })
+    ∷ (record { did = record { did = record { thread = record { 0 = 0 }; instr = record { 0 = 0 }; kind = kinds.Other }; low = 1; high = 1 }; calls = ((record { function = 0; place = 0; registers = (None ∷ None ∷ None ∷ None ∷ None ∷ []); height = 0 }) ∷ []); bytes = rooted_bytes0 })
+    ∷ (record { did = record { did = record { thread = record { 0 = 0 }; instr = record { 0 = 1 }; kind = kinds.Other }; low = 1; high = 1 }; calls = ((record { function = 0; place = 1; registers = ((Some 0) ∷ None ∷ None ∷ None ∷ None ∷ []); height = 0 }) ∷ []); bytes = rooted_bytes0 })
+    ∷ (record { did = record { did = record { thread = record { 0 = 0 }; instr = record { 0 = 2 }; kind = kinds.Branch 0 }; low = 1; high = 1 }; calls = ((record { function = 0; place = 2; registers = ((Some 0) ∷ (Some 0) ∷ None ∷ None ∷ None ∷ []); height = 0 }) ∷ []); bytes = rooted_bytes0 })
+    ∷ (record { did = record { did = record { thread = record { 0 = 0 }; instr = record { 0 = 5 }; kind = kinds.Other }; low = 1; high = 1 }; calls = ((record { function = 0; place = 5; registers = ((Some 0) ∷ (Some 0) ∷ (Some 4398063288320) ∷ None ∷ None ∷ []); height = 0 }) ∷ []); bytes = rooted_bytes0 })
+    ∷ (record { did = record { did = record { thread = record { 0 = 0 }; instr = record { 0 = 6 }; kind = kinds.Other }; low = 1; high = 1 }; calls = ((record { function = 0; place = 6; registers = ((Some 0) ∷ (Some 0) ∷ (Some 4398063288320) ∷ (Some 0) ∷ None ∷ []); height = 0 }) ∷ []); bytes = rooted_bytes0 })
+    ∷ (record { did = record { did = record { thread = record { 0 = 0 }; instr = record { 0 = 7 }; kind = kinds.Branch 0 }; low = 1; high = 1 }; calls = ((record { function = 0; place = 7; registers = ((Some 0) ∷ (Some 0) ∷ (Some 4398063288320) ∷ (Some 0) ∷ (Some 0) ∷ []); height = 0 }) ∷ []); bytes = rooted_bytes0 })
+    ∷ (record { did = record { did = record { thread = record { 0 = 0 }; instr = record { 0 = 10 }; kind = kinds.Event (record { kind = turns.Exit; object = 0; operands = (0 ∷ 0 ∷ 0 ∷ 0 ∷ []); reply = 0; write = None }) }; low = 2; high = 1 }; calls = ((record { function = 0; place = 10; registers = ((Some 0) ∷ (Some 0) ∷ (Some 4398063288320) ∷ (Some 0) ∷ (Some 0) ∷ []); height = 0 }) ∷ []); bytes = rooted_bytes0 })
+    ∷ []
+
+abbrev pub rooted : Reference
+rooted = record { program = rooted_program; regions = rooted_regions; moments = rooted_moments }

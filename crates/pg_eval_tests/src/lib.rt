@@ -1,0 +1,5 @@
+//! Worked rows of preconditions.
+#![tactic(auto)]
+
+mod quotient;
+pub mod rows;
