@@ -1,3 +1,5 @@
+//! Branches, switches and what is never reached.
+
 ghost use Rattle.std.specs.Prelude.{◌≤◌, ◌<◌, length, drop, map, IfOk};
 ghost use Rattle.pg_grammar.specs.Reading.{all_of};
 ghost use Rattle.pg_grammar.specs.Reader.{begins_type};

@@ -1,3 +1,5 @@
+//! Addresses of elements.
+
 ghost use Rattle.std.specs.Prelude.{◌≤◌, ◌<◌, length, drop, IfOk};
 ghost use Rattle.pg_grammar.specs.declared.token.Fault.TheVariants.{Unsupported};
 ghost use Rattle.pg_grammar.specs.Grammar.{no_type};
