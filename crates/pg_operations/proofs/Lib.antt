@@ -1,2 +1,3 @@
 pub mod Longer
 pub mod MoreLoops
+pub mod Grouped

@@ -1,11 +1,17 @@
 -- Parts of the readings that are functions of their own in the code.
 use Rattle.std.specs.Prelude.{List, Option, Some, None}
-use Rattle.pg_grammar.specs.declared.class.Class.TheVariants.{Phi, Br, Switch, Unreachable, Alloca, Load, OpenRound}
+use Rattle.pg_grammar.specs.declared.class.Class.TheVariants.{To, Phi, Br, Switch, Unreachable, Alloca, Load, Local, Comma, OpenRound, OpenSquare, CloseSquare}
 use Rattle.pg_grammar.specs.declared.token.Token.{Token}
+use Rattle.pg_grammar.specs.declared.token.Fault.TheVariants.{Unsupported}
 use Rattle.pg_grammar.specs.Classes.{is}
-use Rattle.pg_grammar.specs.Reading.{Read, Good, ◌>>=◌, choose}
-use Rattle.pg_grammar.specs.ReaderOps.{lined, metadata_at, phi_at, branch_at, switch_at, unreachable_at, alloca_at, load_at, store_at, written_at}
-use Rattle.pg_ast.specs.Syntax.{Op, Written}
+use Rattle.pg_grammar.specs.Reading.{Read, Good, ◌>>=◌, take_one, choose, unless, all_of}
+use Rattle.pg_grammar.specs.Grammar.{no_type, name_of}
+use Rattle.pg_grammar.specs.GrammarOps.{cast_of}
+use Rattle.pg_grammar.specs.Reader.{behind_comma, begins_type, type_at}
+use Rattle.pg_grammar.specs.ReaderOps.{lined, metadata_at, metadata_tail_at, typed_value_at, target_at, case_at, more_at, alignment_at, phi_at, branch_at, switch_at, unreachable_at, alloca_at, load_at, store_at, written_at}
+use Rattle.pg_ast.specs.Syntax.{Ty, Val, Typed, Op, Incoming, Case, Written}
+use Rattle.pg_ast.specs.Syntax as syntax
+use Rattle.pg_ast.specs.declared.names.Name.{Name}
 
 -- the types that a call writes, or none
 abbrev pub written_or_none_at : List Token → Read (Option Written)
@@ -20,3 +26,69 @@ memory_op_at = choose (is Alloca) alloca_at (choose (is Load) load_at store_at)
 
 abbrev pub other_op_at : List Token → Read Op
 other_op_at = choose (is Phi) phi_at (choose (is Br) (lined branch_at) (choose (is Switch) (lined switch_at) (choose (is Unreachable) (lined unreachable_at) memory_op_at)))
+
+-- ---- what stands behind a value that is kept, in two parts: its reading, and what is made of it
+
+-- a type behind the word to
+abbrev pub to_type_at : List Token → Read Ty
+to_type_at ts = take_one (is To) ts >>= λ _. type_at 64
+
+abbrev pub cast_end_at : Token → Typed → List Token → Read Op
+cast_end_at o v ts = to_type_at ts >>= λ t. Good (syntax.Cast o.span (cast_of o.class) v t)
+
+abbrev pub select_end_at : Token → Typed → List Token → Read Op
+select_end_at o c ts = behind_comma typed_value_at ts >>= λ a ts. behind_comma typed_value_at ts >>= λ b. Good (syntax.Select o.span c a b)
+
+-- , Local ]
+abbrev pub label_at : List Token → Read Name
+label_at ts = take_one (is Comma) ts >>= λ _ ts. take_one (is Local) ts >>= λ b ts. take_one (is CloseSquare) ts >>= λ _. Good (name_of b)
+
+abbrev pub came_by : Val → Name → Incoming
+came_by v b = record { value = v; block = b }
+
+abbrev pub incoming_tail_at : Val → List Token → Read Incoming
+incoming_tail_at v ts = label_at ts >>= λ b. Good (came_by v b)
+
+-- an address behind a comma, and the alignment and the metadata behind it
+abbrev pub address_at : List Token → Read Typed
+address_at ts = take_one (is Comma) ts >>= λ _ ts. typed_value_at ts >>= λ p ts. alignment_at ts >>= λ _. Good p
+
+abbrev pub access_end_at : (Typed → Op) → List Token → Read Op
+access_end_at k ts = address_at ts >>= λ p. Good (k p)
+
+abbrev pub load_end_at : Token → Ty → List Token → Read Op
+load_end_at o t = access_end_at (syntax.Load o.span t)
+
+abbrev pub store_end_at : Token → Typed → List Token → Read Op
+store_end_at o v = access_end_at (syntax.Store o.span v)
+
+-- a pointer behind a comma, and the indices behind it
+abbrev pub element_at : List Token → Read (Typed × List Typed)
+element_at ts = take_one (is Comma) ts >>= λ _ ts. typed_value_at ts >>= λ p ts. more_at begins_type typed_value_at (unless Unsupported no_type metadata_tail_at) ts >>= λ more. Good (p, more.items)
+
+abbrev pub gep_op_end_at : Token → Ty → List Token → Read Op
+gep_op_end_at o t ts = element_at ts >>= λ e. Good (syntax.GetElementPtr o.span t e.0 e.1)
+
+-- the two blocks behind a condition
+abbrev pub targets_at : List Token → Read (Name × Name)
+targets_at ts = take_one (is Comma) ts >>= λ _ ts. target_at ts >>= λ a ts. take_one (is Comma) ts >>= λ _ ts. target_at ts >>= λ b. Good (a, b)
+
+abbrev pub branch_end_at : Token → Typed → List Token → Read Op
+branch_end_at o c ts = targets_at ts >>= λ t. Good (syntax.CondBr o.span c t.0 t.1)
+
+abbrev pub case_by : Typed → Name → Case
+case_by v b = record { value = v; block = b }
+
+abbrev pub case_end_at : Typed → List Token → Read Case
+case_end_at v ts = behind_comma target_at ts >>= λ b. Good (case_by v b)
+
+-- the cases of a switch, and the bracket behind them
+abbrev pub closed_cases_at : List Token → Read (List Case)
+closed_cases_at ts = all_of begins_type case_at ts >>= λ all. unless Unsupported no_type (λ ts. take_one (is CloseSquare) ts >>= λ _. Good all)
+
+-- the default and the cases
+abbrev pub ways_at : List Token → Read (Name × List Case)
+ways_at ts = take_one (is Comma) ts >>= λ _ ts. target_at ts >>= λ b ts. take_one (is OpenSquare) ts >>= λ _ ts. closed_cases_at ts >>= λ all. Good (b, all)
+
+abbrev pub switch_end_at : Token → Typed → List Token → Read Op
+switch_end_at o v ts = ways_at ts >>= λ w. Good (syntax.Switch o.span v w.0 w.1)

@@ -1,11 +1,14 @@
+//! Branches, switches and what is never reached.
+
 ghost use Rattle.std.specs.Prelude.{◌≤◌, ◌<◌, length, drop, map, IfOk};
 ghost use Rattle.pg_grammar.specs.Reading.{all_of};
-ghost use Rattle.pg_grammar.specs.Reader.{begins_type};
+ghost use Rattle.pg_grammar.specs.Reader.{begins_type, behind_comma};
 ghost use Rattle.pg_grammar.specs.ReaderOps.{target_at, branch_at, case_at, switch_at, unreachable_at};
 ghost use Rattle.pg_grammar.specs.Views.{Reads, Takes};
-ghost use Rattle.pg_ast.specs.Views.{op_of, case_of};
+ghost use Rattle.pg_operations.specs.Rows.{targets_at, branch_end_at, case_end_at, closed_cases_at, ways_at, switch_end_at};
+ghost use Rattle.pg_ast.specs.Views.{op_of, typed_of, case_of};
 
-use pg_ast::{CaseNode, Name, OpNode};
+use pg_ast::{CaseNode, Name, OpNode, TypedVal};
 use pg_grammar::{Class, ReadError, Refusal, Token};
 use pg_terms::{ClassSet, name, next_in, next_is, take, typed_value_in, unsupported};
 use std::alloc::Global;
@@ -32,11 +35,34 @@ pub fn branch(alloc: Global, tokens: &[Token], at: usize) -> Result<(OpNode, usi
         return Ok((OpNode::Br(word.span, block), at));
     }
     let (condition, at) = typed_value_in(alloc, tokens, at, 64)?;
+    branch_end(alloc, tokens, at, word, condition)
+}
+
+/// What stands behind the condition of a branch.
+fn branch_end(
+    alloc: Global,
+    tokens: &[Token],
+    at: usize,
+    word: &Token,
+    condition: TypedVal,
+) -> Result<(OpNode, usize), ReadError>
+    requires { at ≤ length tokens.now }
+    ensures { Reads tokens.now at (λ x. op_of x.0) (λ x. x.1) result (branch_end_at word.now (typed_of condition) (drop at tokens.now)) }
+{
+    let (yes, no, at) = targets(alloc, tokens, at)?;
+    Ok((OpNode::CondBr(word.span, condition, yes, no), at))
+}
+
+/// Two blocks, each behind a comma.
+fn targets(alloc: Global, tokens: &[Token], at: usize) -> Result<(Name, Name, usize), ReadError>
+    requires { at ≤ length tokens.now }
+    ensures { Reads tokens.now at (λ x. (x.0, x.1)) (λ x. x.2) result (targets_at (drop at tokens.now)) }
+{
     let (_, at) = take(tokens, at, Class::Comma)?;
     let (yes, at) = target(alloc, tokens, at)?;
     let (_, at) = take(tokens, at, Class::Comma)?;
     let (no, at) = target(alloc, tokens, at)?;
-    Ok((OpNode::CondBr(word.span, condition, yes, no), at))
+    Ok((yes, no, at))
 }
 
 fn case(alloc: Global, tokens: &[Token], at: usize) -> Result<(CaseNode, usize), ReadError>
@@ -45,9 +71,32 @@ fn case(alloc: Global, tokens: &[Token], at: usize) -> Result<(CaseNode, usize),
     ensures on { IfOk result (λ x. at < x.1) }
 {
     let (value, at) = typed_value_in(alloc, tokens, at, 64)?;
-    let (_, at) = take(tokens, at, Class::Comma)?;
-    let (block, at) = target(alloc, tokens, at)?;
+    case_end(alloc, tokens, at, value)
+}
+
+/// What stands behind the value of a case.
+fn case_end(
+    alloc: Global,
+    tokens: &[Token],
+    at: usize,
+    value: TypedVal,
+) -> Result<(CaseNode, usize), ReadError>
+    requires { at ≤ length tokens.now }
+    ensures read { Reads tokens.now at (λ x. case_of x.0) (λ x. x.1) result (case_end_at (typed_of value) (drop at tokens.now)) }
+    ensures on { IfOk result (λ x. at < x.1) }
+{
+    let (block, at) = comma_target(alloc, tokens, at)?;
     Ok((CaseNode { value, block }, at))
+}
+
+/// A block behind a comma.
+fn comma_target(alloc: Global, tokens: &[Token], at: usize) -> Result<(Name, usize), ReadError>
+    requires { at ≤ length tokens.now }
+    ensures read { Reads tokens.now at (λ x. x.0) (λ x. x.1) result (behind_comma target_at (drop at tokens.now)) }
+    ensures on { IfOk result (λ x. at < x.1) }
+{
+    let (_, to) = take(tokens, at, Class::Comma)?;
+    target(alloc, tokens, to)
 }
 
 fn cases(alloc: Global, tokens: &[Token], at: usize) -> Result<(Vec<CaseNode>, usize), ReadError>
@@ -78,15 +127,55 @@ pub fn switch(alloc: Global, tokens: &[Token], at: usize) -> Result<(OpNode, usi
 {
     let (word, at) = take(tokens, at, Class::Switch)?;
     let (value, at) = typed_value_in(alloc, tokens, at, 64)?;
+    switch_end(alloc, tokens, at, word, value)
+}
+
+/// What stands behind the value of a switch.
+fn switch_end(
+    alloc: Global,
+    tokens: &[Token],
+    at: usize,
+    word: &Token,
+    value: TypedVal,
+) -> Result<(OpNode, usize), ReadError>
+    requires { at ≤ length tokens.now }
+    ensures { Reads tokens.now at (λ x. op_of x.0) (λ x. x.1) result (switch_end_at word.now (typed_of value) (drop at tokens.now)) }
+{
+    let (other, all, at) = ways(alloc, tokens, at)?;
+    Ok((OpNode::Switch(word.span, value, other, all), at))
+}
+
+/// The default behind a comma, and the cases in their brackets.
+fn ways(
+    alloc: Global,
+    tokens: &[Token],
+    at: usize,
+) -> Result<(Name, Vec<CaseNode>, usize), ReadError>
+    requires { at ≤ length tokens.now }
+    ensures { Reads tokens.now at (λ x. (x.0, map case_of x.1.items)) (λ x. x.2) result (ways_at (drop at tokens.now)) }
+{
     let (_, at) = take(tokens, at, Class::Comma)?;
     let (other, at) = target(alloc, tokens, at)?;
     let (_, at) = take(tokens, at, Class::OpenSquare)?;
+    let (all, at) = closed_cases(alloc, tokens, at)?;
+    Ok((other, all, at))
+}
+
+/// The cases of a switch, and the bracket behind them.
+fn closed_cases(
+    alloc: Global,
+    tokens: &[Token],
+    at: usize,
+) -> Result<(Vec<CaseNode>, usize), ReadError>
+    requires { at ≤ length tokens.now }
+    ensures { Reads tokens.now at (λ x. map case_of x.0.items) (λ x. x.1) result (closed_cases_at (drop at tokens.now)) }
+{
     let (all, at) = cases(alloc, tokens, at)?;
     if next_in(tokens, at, ClassSet::NoType) {
         return Err(ReadError::Refused(unsupported(at)));
     }
     let (_, at) = take(tokens, at, Class::CloseSquare)?;
-    Ok((OpNode::Switch(word.span, value, other, all), at))
+    Ok((all, at))
 }
 
 /// A place that is never reached.

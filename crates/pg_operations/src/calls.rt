@@ -1,3 +1,5 @@
+//! Calls, and the calls that are dropped.
+
 ghost use Rattle.std.specs.Prelude.{◌≤◌, ◌<◌, length, drop, map, IfOk};
 ghost use Rattle.std.specs.Option.{option_map};
 ghost use Rattle.pg_grammar.specs.declared.class.Class.TheVariants.{Comma};

@@ -1,15 +1,18 @@
-ghost use Rattle.std.specs.Prelude.{◌≤◌, ◌<◌, length, drop, IfOk};
+//! Addresses of elements.
+
+ghost use Rattle.std.specs.Prelude.{◌≤◌, ◌<◌, length, drop, map, IfOk};
 ghost use Rattle.pg_grammar.specs.declared.token.Fault.TheVariants.{Unsupported};
 ghost use Rattle.pg_grammar.specs.Grammar.{no_type};
 ghost use Rattle.pg_grammar.specs.Reading.{unless};
 ghost use Rattle.pg_grammar.specs.Reader.{begins_type};
 ghost use Rattle.pg_grammar.specs.ReaderOps.{gep_op_at, gep_op_tail_at, typed_value_at, listing_at, listing_end_at, more_at, metadata_tail_at};
 ghost use Rattle.pg_operations.specs.Listings.{listing_of};
+ghost use Rattle.pg_operations.specs.Rows.{element_at, gep_op_end_at};
 ghost use Rattle.pg_grammar.specs.Views.{Reads};
-ghost use Rattle.pg_ast.specs.Views.{op_of, typed_of};
+ghost use Rattle.pg_ast.specs.Views.{op_of, ty_of, typed_of};
 
 use crate::listing::{Listing, type_goes_on};
-use pg_ast::{OpNode, TypedVal};
+use pg_ast::{OpNode, TypeNode, TypedVal};
 use pg_grammar::{Class, ReadError, Token};
 use pg_terms::{
     ClassSet, flags, metadata_tail, next_in, take, type_node, typed_value_in, unsupported,
@@ -38,13 +41,37 @@ pub fn gep_op_tail(
     ensures { Reads tokens.now at (λ x. op_of x.0) (λ x. x.1) result (gep_op_tail_at word.now (drop at tokens.now)) }
 {
     let (ty, at) = type_node(alloc, tokens, at, 64)?;
+    gep_op_end(alloc, tokens, at, word, ty)
+}
+
+/// What stands behind the type of the elements.
+fn gep_op_end(
+    alloc: Global,
+    tokens: &[Token],
+    at: usize,
+    word: &Token,
+    ty: TypeNode,
+) -> Result<(OpNode, usize), ReadError>
+    requires { at ≤ length tokens.now }
+    ensures { Reads tokens.now at (λ x. op_of x.0) (λ x. x.1) result (gep_op_end_at word.now (ty_of ty) (drop at tokens.now)) }
+{
+    let (pointer, indices, at) = element(alloc, tokens, at)?;
+    Ok((OpNode::GetElementPtr(word.span, ty, pointer, indices), at))
+}
+
+/// A pointer behind a comma, the indices behind it, and the metadata behind them.
+fn element(
+    alloc: Global,
+    tokens: &[Token],
+    at: usize,
+) -> Result<(TypedVal, Vec<TypedVal>, usize), ReadError>
+    requires { at ≤ length tokens.now }
+    ensures { Reads tokens.now at (λ x. (typed_of x.0, map typed_of x.1.items)) (λ x. x.2) result (element_at (drop at tokens.now)) }
+{
     let (_, at) = take(tokens, at, Class::Comma)?;
     let (pointer, at) = typed_value_in(alloc, tokens, at, 64)?;
     let (more, at) = more_indices(alloc, tokens, at)?;
-    Ok((
-        OpNode::GetElementPtr(word.span, ty, pointer, more.items),
-        at,
-    ))
+    Ok((pointer, more.items, at))
 }
 
 /// The indices, and the metadata behind them.

@@ -1,3 +1,5 @@
+//! Items behind commas, where something else may stand behind the last comma.
+
 ghost use Rattle.std.specs.Prelude.{◌≡◌, ◌≤◌, length, drop};
 ghost use Rattle.pg_grammar.specs.declared.class.Class.TheVariants.{OpenSquare};
 ghost use Rattle.pg_grammar.specs.Classes.{is};

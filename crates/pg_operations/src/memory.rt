@@ -1,3 +1,5 @@
+//! Memory of a frame, loads and stores.
+
 ghost use Rattle.std.specs.Prelude.{◌≤◌, ◌<◌, length, drop, IfOk};
 ghost use Rattle.std.specs.Option.{option_map};
 ghost use Rattle.pg_grammar.specs.declared.token.Fault.TheVariants.{Unsupported};
@@ -6,9 +8,10 @@ ghost use Rattle.pg_grammar.specs.Classes.{is};
 ghost use Rattle.pg_grammar.specs.Reading.{unless, take_one};
 ghost use Rattle.pg_grammar.specs.ReaderOps.{alignment_at, count_at, alloca_at, volatile_at, load_at, store_at};
 ghost use Rattle.pg_grammar.specs.Views.{Reads, Takes};
-ghost use Rattle.pg_ast.specs.Views.{op_of, count_of};
+ghost use Rattle.pg_operations.specs.Rows.{address_at, load_end_at, store_end_at};
+ghost use Rattle.pg_ast.specs.Views.{op_of, count_of, ty_of, typed_of};
 
-use pg_ast::{CountNode, OpNode};
+use pg_ast::{CountNode, OpNode, TypeNode, TypedVal};
 use pg_grammar::{Class, ReadError, Refusal, Token};
 use pg_terms::{
     ClassSet, literal, metadata, metadata_tail, next_in, next_is, take, type_node, typed_value_in,
@@ -107,10 +110,33 @@ pub fn load(alloc: Global, tokens: &[Token], at: usize) -> Result<(OpNode, usize
     let (word, at) = take(tokens, at, Class::Load)?;
     let at = volatile_word(tokens, at)?;
     let (ty, at) = type_node(alloc, tokens, at, 64)?;
+    load_end(alloc, tokens, at, word, ty)
+}
+
+/// What stands behind the type of a load.
+fn load_end(
+    alloc: Global,
+    tokens: &[Token],
+    at: usize,
+    word: &Token,
+    ty: TypeNode,
+) -> Result<(OpNode, usize), ReadError>
+    requires { at ≤ length tokens.now }
+    ensures { Reads tokens.now at (λ x. op_of x.0) (λ x. x.1) result (load_end_at word.now (ty_of ty) (drop at tokens.now)) }
+{
+    let (pointer, at) = address(alloc, tokens, at)?;
+    Ok((OpNode::Load(word.span, ty, pointer), at))
+}
+
+/// An address behind a comma, and the alignment and the metadata behind it.
+fn address(alloc: Global, tokens: &[Token], at: usize) -> Result<(TypedVal, usize), ReadError>
+    requires { at ≤ length tokens.now }
+    ensures { Reads tokens.now at (λ x. typed_of x.0) (λ x. x.1) result (address_at (drop at tokens.now)) }
+{
     let (_, at) = take(tokens, at, Class::Comma)?;
     let (pointer, at) = typed_value_in(alloc, tokens, at, 64)?;
     let at = alignment(tokens, at)?;
-    Ok((OpNode::Load(word.span, ty, pointer), at))
+    Ok((pointer, at))
 }
 
 /// A store, and the metadata behind it.
@@ -122,8 +148,20 @@ pub fn store(alloc: Global, tokens: &[Token], at: usize) -> Result<(OpNode, usiz
     let (word, at) = take(tokens, at, Class::Store)?;
     let at = volatile_word(tokens, at)?;
     let (value, at) = typed_value_in(alloc, tokens, at, 64)?;
-    let (_, at) = take(tokens, at, Class::Comma)?;
-    let (pointer, at) = typed_value_in(alloc, tokens, at, 64)?;
-    let at = alignment(tokens, at)?;
+    store_end(alloc, tokens, at, word, value)
+}
+
+/// What stands behind the value of a store.
+fn store_end(
+    alloc: Global,
+    tokens: &[Token],
+    at: usize,
+    word: &Token,
+    value: TypedVal,
+) -> Result<(OpNode, usize), ReadError>
+    requires { at ≤ length tokens.now }
+    ensures { Reads tokens.now at (λ x. op_of x.0) (λ x. x.1) result (store_end_at word.now (typed_of value) (drop at tokens.now)) }
+{
+    let (pointer, at) = address(alloc, tokens, at)?;
     Ok((OpNode::Store(word.span, value, pointer), at))
 }

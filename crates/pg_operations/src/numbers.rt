@@ -1,10 +1,14 @@
+//! Operations on numbers, comparisons, conversions and choices.
+
 ghost use Rattle.std.specs.Prelude.{◌≡◌, ◌≤◌, ◌<◌, length, drop, IfOk};
 ghost use Rattle.pg_grammar.specs.GrammarOps.{binary_of, predicate_of, cast_of};
-ghost use Rattle.pg_grammar.specs.ReaderOps.{binary_at, icmp_at, cast_at, cast_tail_at, select_at};
+ghost use Rattle.pg_grammar.specs.Reader.{behind_comma};
+ghost use Rattle.pg_grammar.specs.ReaderOps.{binary_at, icmp_at, cast_at, cast_tail_at, select_at, typed_value_at};
 ghost use Rattle.pg_grammar.specs.Views.{Reads};
-ghost use Rattle.pg_ast.specs.Views.{op_of};
+ghost use Rattle.pg_operations.specs.Rows.{to_type_at, cast_end_at, select_end_at};
+ghost use Rattle.pg_ast.specs.Views.{op_of, ty_of, typed_of};
 
-use pg_ast::{BinaryOp, CastOp, OpNode, Predicate};
+use pg_ast::{BinaryOp, CastOp, OpNode, Predicate, TypeNode, TypedVal};
 use pg_grammar::{Class, ReadError, Token};
 use pg_terms::{ClassSet, flags, take, take_in, type_node, typed_value_in, value};
 use std::alloc::Global;
@@ -113,10 +117,32 @@ pub fn cast_tail(
 {
     let at = flags(tokens, at);
     let (value, at) = typed_value_in(alloc, tokens, at, 64)?;
-    let (_, at) = take(tokens, at, Class::To)?;
-    let (ty, at) = type_node(alloc, tokens, at, 64)?;
+    cast_end(alloc, tokens, at, word, value)
+}
+
+/// What stands behind the value of a conversion.
+fn cast_end(
+    alloc: Global,
+    tokens: &[Token],
+    at: usize,
+    word: &Token,
+    value: TypedVal,
+) -> Result<(OpNode, usize), ReadError>
+    requires { at ≤ length tokens.now }
+    ensures { Reads tokens.now at (λ x. op_of x.0) (λ x. x.1) result (cast_end_at word.now (typed_of value) (drop at tokens.now)) }
+{
+    let (ty, at) = to_type(alloc, tokens, at)?;
     let op = cast_op(word.class);
     Ok((OpNode::Cast(word.span, op, value, ty), at))
+}
+
+/// A type behind the word `to`.
+fn to_type(alloc: Global, tokens: &[Token], at: usize) -> Result<(TypeNode, usize), ReadError>
+    requires { at ≤ length tokens.now }
+    ensures { Reads tokens.now at (λ x. ty_of x.0) (λ x. x.1) result (to_type_at (drop at tokens.now)) }
+{
+    let (_, at) = take(tokens, at, Class::To)?;
+    type_node(alloc, tokens, at, 64)
 }
 
 /// A choice of two values.
@@ -127,9 +153,30 @@ pub fn select(alloc: Global, tokens: &[Token], at: usize) -> Result<(OpNode, usi
 {
     let (word, at) = take(tokens, at, Class::Select)?;
     let (condition, at) = typed_value_in(alloc, tokens, at, 64)?;
-    let (_, at) = take(tokens, at, Class::Comma)?;
-    let (yes, at) = typed_value_in(alloc, tokens, at, 64)?;
-    let (_, at) = take(tokens, at, Class::Comma)?;
-    let (no, at) = typed_value_in(alloc, tokens, at, 64)?;
+    select_end(alloc, tokens, at, word, condition)
+}
+
+/// The two values behind the condition of a choice.
+fn select_end(
+    alloc: Global,
+    tokens: &[Token],
+    at: usize,
+    word: &Token,
+    condition: TypedVal,
+) -> Result<(OpNode, usize), ReadError>
+    requires { at ≤ length tokens.now }
+    ensures { Reads tokens.now at (λ x. op_of x.0) (λ x. x.1) result (select_end_at word.now (typed_of condition) (drop at tokens.now)) }
+{
+    let (yes, at) = comma_value(alloc, tokens, at)?;
+    let (no, at) = comma_value(alloc, tokens, at)?;
     Ok((OpNode::Select(word.span, condition, yes, no), at))
+}
+
+/// A value and the type before it, behind a comma.
+fn comma_value(alloc: Global, tokens: &[Token], at: usize) -> Result<(TypedVal, usize), ReadError>
+    requires { at ≤ length tokens.now }
+    ensures { Reads tokens.now at (λ x. typed_of x.0) (λ x. x.1) result (behind_comma typed_value_at (drop at tokens.now)) }
+{
+    let (_, at) = take(tokens, at, Class::Comma)?;
+    typed_value_in(alloc, tokens, at, 64)
 }

@@ -1,3 +1,5 @@
+//! Which operation stands at a place, and the metadata behind it.
+
 ghost use Rattle.std.specs.Prelude.{◌≤◌, ◌<◌, length, drop, IfOk};
 ghost use Rattle.pg_grammar.specs.ReaderOps.{simple_op_at, plain_op_at};
 ghost use Rattle.pg_grammar.specs.Views.{Reads, Takes};

@@ -1,13 +1,16 @@
+//! Values by the block before.
+
 ghost use Rattle.std.specs.Prelude.{◌≤◌, ◌<◌, length, drop, IfOk};
 ghost use Rattle.pg_grammar.specs.declared.class.Class.TheVariants.{OpenSquare};
 ghost use Rattle.pg_grammar.specs.Classes.{is};
 ghost use Rattle.pg_grammar.specs.ReaderOps.{incoming_at, phi_at, listing_at, listing_end_at, more_at, metadata_tail_at};
 ghost use Rattle.pg_operations.specs.Listings.{listing_of};
+ghost use Rattle.pg_operations.specs.Rows.{label_at, incoming_tail_at};
 ghost use Rattle.pg_grammar.specs.Views.{Reads};
-ghost use Rattle.pg_ast.specs.Views.{op_of, incoming_of};
+ghost use Rattle.pg_ast.specs.Views.{op_of, val_of, incoming_of};
 
 use crate::listing::{Listing, square_goes_on};
-use pg_ast::{IncomingNode, OpNode};
+use pg_ast::{IncomingNode, Name, OpNode, ValNode};
 use pg_grammar::{Class, ReadError, Token};
 use pg_terms::{metadata_tail, name, take, type_node, value};
 use std::alloc::Global;
@@ -19,11 +22,33 @@ fn incoming(alloc: Global, tokens: &[Token], at: usize) -> Result<(IncomingNode,
 {
     let (_, at) = take(tokens, at, Class::OpenSquare)?;
     let (value, at) = value(alloc, tokens, at, 64)?;
-    let (_, at) = take(tokens, at, Class::Comma)?;
-    let (label, at) = take(tokens, at, Class::Local)?;
-    let (_, at) = take(tokens, at, Class::CloseSquare)?;
-    let block = name(alloc, label)?;
+    incoming_tail(alloc, tokens, at, value)
+}
+
+/// What stands behind the value that comes from a block.
+fn incoming_tail(
+    alloc: Global,
+    tokens: &[Token],
+    at: usize,
+    value: ValNode,
+) -> Result<(IncomingNode, usize), ReadError>
+    requires { at ≤ length tokens.now }
+    ensures { Reads tokens.now at (λ x. incoming_of x.0) (λ x. x.1) result (incoming_tail_at (val_of value) (drop at tokens.now)) }
+{
+    let (block, at) = label(alloc, tokens, at)?;
     Ok((IncomingNode { value, block }, at))
+}
+
+/// A block's name between a comma and a closing bracket.
+fn label(alloc: Global, tokens: &[Token], at: usize) -> Result<(Name, usize), ReadError>
+    requires { at ≤ length tokens.now }
+    ensures { Reads tokens.now at (λ x. x.0) (λ x. x.1) result (label_at (drop at tokens.now)) }
+{
+    let (_, at) = take(tokens, at, Class::Comma)?;
+    let (local, at) = take(tokens, at, Class::Local)?;
+    let (_, at) = take(tokens, at, Class::CloseSquare)?;
+    let block = name(alloc, local)?;
+    Ok((block, at))
 }
 
 /// A comma, or the value behind one.

@@ -1,3 +1,5 @@
+//! The types that a call writes for its callee.
+
 ghost use Rattle.std.specs.Prelude.{◌≡◌, ◌≤◌, ◌<◌, [], ◌∷◌, length, drop, map, IfOk};
 ghost use Rattle.pg_grammar.specs.declared.token.Fault.TheVariants.{Unsupported};
 ghost use Rattle.pg_grammar.specs.declared.class.Class.TheVariants.{Dots};

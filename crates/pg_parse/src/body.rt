@@ -1,3 +1,5 @@
+//! The body of a function, part by part.
+
 ghost use Rattle.std.specs.Prelude.{◌≡◌, ◌≤◌, length, drop, map, IfOk};
 ghost use Rattle.pg_grammar.specs.Reading.{comes};
 ghost use Rattle.pg_grammar.specs.ReaderItems.{begins_after, blocks_by, body_end_at, body_at};

@@ -1,3 +1,5 @@
+//! Named types and globals.
+
 ghost use Rattle.std.specs.Prelude.{◌≡◌, ◌≤◌, ◌<◌, length, drop, IfOk};
 ghost use Rattle.pg_grammar.specs.ReaderItems.{constancy_at, global_item_at, type_item_at};
 ghost use Rattle.pg_grammar.specs.Views.{Reads, Takes};
@@ -18,8 +20,8 @@ pub fn type_item(alloc: Global, tokens: &[Token], at: usize) -> Result<(TypeItem
     let (token, at) = take(tokens, at, Class::Local)?;
     let (_, at) = take(tokens, at, Class::Equals)?;
     let (_, at) = take(tokens, at, Class::TypeWord)?;
-    let (ty, at) = type_node(alloc, tokens, at, 64)?;
     let name = name(alloc, token)?;
+    let (ty, at) = type_node(alloc, tokens, at, 64)?;
     Ok((TypeItem { name, ty }, at))
 }
 
@@ -51,9 +53,9 @@ pub fn global_item(
     let (_, at) = take(tokens, at, Class::Equals)?;
     let at = attributes(tokens, at)?;
     let (is_constant, at) = constancy(tokens, at)?;
+    let name = name(alloc, token)?;
     let (ty, at) = type_node(alloc, tokens, at, 64)?;
     let (value, at) = constant(alloc, tokens, at, 64)?;
-    let name = name(alloc, token)?;
     Ok((
         GlobalItem {
             name,

@@ -1,3 +1,5 @@
+//! The items so far, and what may still go on with the last of them.
+
 ghost use Rattle.std.specs.Prelude.{◌≡◌, ◌≤◌, length, drop, IfOk};
 ghost use Rattle.pg_grammar.specs.Reading.{comes};
 ghost use Rattle.pg_grammar.specs.GrammarItems as grammar;

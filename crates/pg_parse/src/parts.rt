@@ -1,3 +1,5 @@
+//! The blocks of a body, with a part put behind them.
+
 ghost use Rattle.std.specs.Prelude.{◌≡◌, ◌||◌, ◌++◌, [], ◌∷◌, map, option_map, IfOk};
 ghost use Rattle.pg_grammar.specs.GrammarItems as grammar;
 ghost use Rattle.pg_grammar.specs.ReaderItems as reader;

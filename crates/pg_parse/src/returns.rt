@@ -1,3 +1,5 @@
+//! Returns, also with a value behind `ret void`.
+
 ghost use Rattle.std.specs.Prelude.{◌≡◌, ◌≤◌, ◌<◌, length, drop, map, IfOk};
 ghost use Rattle.pg_grammar.specs.Reader.{int_or, plain_value_at};
 ghost use Rattle.pg_grammar.specs.ReaderItems.{void_at, return_at};

@@ -1,3 +1,5 @@
+//! The module that a text is, or its first refusal.
+
 ghost use Rattle.std.specs.Prelude.{◌≡◌, ◌≢◌, ◌≤◌, [], length, drop, IfOk, IfErr};
 ghost use Rattle.pg_num.specs.declared.limits.TheConstants.{PROGRAM_TEXT_LIMIT};
 ghost use Rattle.pg_grammar.specs.declared.fault.ReadFault.TheVariants.{OutOfMemory};

@@ -1,3 +1,5 @@
+//! Basic blocks by number.
+
 ghost use Rattle.std.specs.Prelude.{◌≡◌, ◌++◌, ◌+◌, ◌≤◌, OnOk, IfOk, length, map, sum_by};
 ghost use Rattle.pg_num.specs.declared.limits.TheConstants.{INSTRUCTION_LIMIT};
 ghost use Rattle.pg_ast.specs.Syntax as syntax;

@@ -1,3 +1,5 @@
+//! Calls of what a name stands for.
+
 ghost use Rattle.std.specs.Prelude.{◌≡◌};
 ghost use Rattle.pg_rules.specs.Numbered.{call_of, known_call};
 ghost use Rattle.pg_rules.specs.Symbols.{symbol_of};

@@ -1,3 +1,5 @@
+//! The values of a `phi` and the cases of a `switch`.
+
 ghost use Rattle.std.specs.Prelude.{◌≡◌, ◌∷◌, ◌++◌, IfOk, OnOk, map, unwrap_or};
 ghost use Rattle.pg_ast.specs.Views.{ty_of, typed_of, incoming_of, case_of};
 ghost use Rattle.pg_types.specs.Resolved.{resolved};

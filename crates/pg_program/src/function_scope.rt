@@ -1,3 +1,5 @@
+//! What the names of a function's lines are looked up in.
+
 ghost use Rattle.pg_ast.specs.Views.{tree_of};
 ghost use Rattle.pg_program.specs.Room.{HaveRoom, FewSymbols};
 

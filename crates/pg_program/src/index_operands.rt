@@ -1,3 +1,5 @@
+//! The indices of a `getelementptr`.
+
 ghost use Rattle.std.specs.Prelude.{◌≡◌, IfOk, length, map};
 ghost use Rattle.pg_ast.specs.Views.{ty_of, typed_of, tree_of};
 ghost use Rattle.pg_rules.specs.Constants.{index_scales};

@@ -1,3 +1,5 @@
+//! Instructions by their operations.
+
 ghost use Rattle.std.specs.Prelude.{◌≡◌, ◌∷◌, ◌*◌, IfOk, None, Some, map};
 ghost use Rattle.std.specs.Option.{option_map};
 ghost use Rattle.pg_ast.specs.Views.{ty_of, val_of, typed_of, incoming_of, case_of, count_of, op_of, tree_of};

@@ -1,3 +1,5 @@
+//! A line as an instruction, and the register of its result.
+
 ghost use Rattle.std.specs.Prelude.{◌≡◌, ◌≤◌, ◌+◌, ◌++◌, true, IfOk, OnOk, length, map, drop};
 ghost use Rattle.pg_ast.specs.Numbers.{gives};
 ghost use Rattle.pg_ast.specs.Views.{op_of, line_of, block_of, tree_of};

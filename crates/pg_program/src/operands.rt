@@ -1,3 +1,5 @@
+//! Values and the widths of their types.
+
 ghost use Rattle.std.specs.Prelude.{◌≡◌, IfOk, map};
 ghost use Rattle.pg_ast.specs.Views.{ty_of, val_of, typed_of, tree_of};
 ghost use Rattle.pg_types.specs.NumberedTypes.{named_types};

@@ -1,3 +1,5 @@
+//! Operations on numbers, comparisons and conversions.
+
 ghost use Rattle.std.specs.Prelude.{◌≡◌};
 ghost use Rattle.pg_ir.specs.declared.instr.Op.TheVariants as operation;
 ghost use Rattle.pg_rules.specs.Numbered.{binary_op, comparison_of, cast_op};

@@ -1,11 +1,15 @@
-ghost use Rattle.std.specs.Prelude.{◌≡◌, ◌+◌, ◌≤◌, IfOk, length, map, sum_by, unwrap_or};
-ghost use Rattle.std.specs.List.{position_from};
+//! The parts of a module's numbered program, put together.
+
+ghost use Rattle.std.specs.Prelude.{◌≡◌, ◌+◌, ◌≤◌, ℕ, IfOk, length, map, sum_by, unwrap_or};
+ghost use Rattle.std.specs.List.{enumerate_from, position_from};
 ghost use Rattle.pg_ir.specs.Program.{numbered_program};
+ghost use Rattle.pg_ast.specs.Syntax.{Variable};
 ghost use Rattle.pg_ast.specs.Views.{define_of, tree_of};
 ghost use Rattle.pg_num.specs.declared.limits.TheConstants.{FUNCTION_LIMIT, INSTRUCTION_LIMIT};
 ghost use Rattle.pg_rules.specs.Names.{line_count};
 ghost use Rattle.pg_rules.specs.Conditions.{IsAccepted};
-ghost use Rattle.pg_rules.specs.Numbered.{program_of};
+ghost use Rattle.pg_rules.specs.Numbered.{global_at, program_of};
+ghost use Rattle.pg_constants.specs.Sizes.{GlobalsFit};
 ghost use Rattle.pg_program.specs.FunctionRows.{rows_from, function_row, block_row, instr_row, is_main_item};
 ghost use Rattle.pg_program.specs.Room.{FewSymbols, FunctionsFit, ProgramFits};
 
@@ -134,6 +138,72 @@ fn main_number(all: &[DefineItem]) -> u32
     }
 }
 
+/// The functions and the basic blocks of a module by number.
+fn function_parts(
+    alloc: Global,
+    types: &mut TypeNumbers<'_>,
+    tree: &Module,
+    all: &[DefineItem],
+) -> Result<(Vec<Function>, Vec<Block>), AllocError>
+    requires items { types.old.items ≡ tree.now.types.items }
+    requires fits { FunctionsFit (tree_of tree.now).types (map define_of all.now) }
+    requires few { length all.now ≤ FUNCTION_LIMIT }
+    requires lines { sum_by line_count (map define_of all.now) ≤ INSTRUCTION_LIMIT }
+    ensures functions { IfOk result (λ v. v.0.items ≡ rows_from (function_row (tree_of tree.now) (map define_of all.now)) 0 all.now) }
+    ensures blocks { IfOk result (λ v. v.1.items ≡ rows_from (block_row (map define_of all.now)) 0 all.now) }
+    ensures items { types.new.items ≡ types.old.items }
+{
+    let functions = functions_of(alloc, types, tree, all)?;
+    let blocks = blocks_of(alloc, all)?;
+    Ok((functions, blocks))
+}
+
+/// The instructions of functions and the globals of their module by number.
+fn instr_parts(
+    alloc: Global,
+    globals: &Globals<'_>,
+    types: &mut TypeNumbers<'_>,
+    all: &[DefineItem],
+) -> Result<(Vec<Instr>, Vec<GlobalInfo>), AllocError>
+    requires items { types.old.items ≡ globals.now.symbols.tree.now.types.items }
+    requires symbols { FewSymbols (tree_of globals.now.symbols.tree.now) }
+    requires fits { FunctionsFit (tree_of globals.now.symbols.tree.now).types (map define_of all.now) }
+    requires sizes { GlobalsFit (tree_of globals.now.symbols.tree.now).types (tree_of globals.now.symbols.tree.now).globals }
+    ensures instrs { IfOk result (λ v. v.0.items ≡ rows_from (instr_row (tree_of globals.now.symbols.tree.now) (map define_of all.now)) 0 all.now) }
+    ensures rows { IfOk result (λ v. v.1.items ≡ map (λ (v : ℕ × Variable). global_at (tree_of globals.now.symbols.tree.now) v.0 v.1) (enumerate_from 0 (tree_of globals.now.symbols.tree.now).globals)) }
+    ensures items { types.new.items ≡ types.old.items }
+{
+    let instrs = instrs_of(alloc, globals, types, all)?;
+    let variables = add_globals(alloc, globals, types)?;
+    Ok((instrs, variables))
+}
+
+/// The parts of a module's numbered program, where its globals are known.
+fn parts_among(
+    alloc: Global,
+    globals: &Globals<'_>,
+    types: &mut TypeNumbers<'_>,
+    tree: &Module,
+) -> Result<ProgramParts, AllocError>
+    requires same { globals.now.symbols.tree.now ≡ tree.now }
+    requires items { types.old.items ≡ tree.now.types.items }
+    requires fits { ProgramFits (tree_of tree.now) }
+    ensures program { IfOk result (λ p. numbered_program p.functions.items p.blocks.items p.instrs.items p.globals.items p.main ≡ program_of (tree_of tree.now)) }
+    ensures items { types.new.items ≡ types.old.items }
+{
+    let all = tree.functions.as_slice();
+    let (functions, blocks) = function_parts(alloc, types, tree, all)?;
+    let (instrs, variables) = instr_parts(alloc, globals, types, all)?;
+    let main = main_number(all);
+    Ok(ProgramParts {
+        functions,
+        blocks,
+        instrs,
+        globals: variables,
+        main,
+    })
+}
+
 /// The parts of a module's numbered program, where its numbers and sizes fit.
 fn parts_of(
     alloc: Global,
@@ -146,19 +216,7 @@ fn parts_of(
     ensures items { types.new.items ≡ types.old.items }
 {
     let globals = index_globals(alloc, types, tree)?;
-    let all = tree.functions.as_slice();
-    let functions = functions_of(alloc, types, tree, all)?;
-    let blocks = blocks_of(alloc, all)?;
-    let instrs = instrs_of(alloc, &globals, types, all)?;
-    let variables = add_globals(alloc, &globals, types)?;
-    let main = main_number(all);
-    Ok(ProgramParts {
-        functions,
-        blocks,
-        instrs,
-        globals: variables,
-        main,
-    })
+    parts_among(alloc, &globals, types, tree)
 }
 
 /// The numbered program of a module that isn't refused: functions, basic blocks, instructions, globals, registers and

@@ -1,3 +1,5 @@
+//! Registers and basic blocks by their names.
+
 ghost use Rattle.std.specs.Prelude.{◌≡◌, unwrap_or};
 ghost use Rattle.pg_rules.specs.Names.{register_number};
 ghost use Rattle.pg_rules.specs.Numbered.{block_at};

@@ -1,6 +1,12 @@
-use Rattle.std.proofs.Common.{arith, refl, sym, ◌∙◌}
+use Rattle.std.proofs.Common.{drop, arith, sym, ◌∙◌}
+use Rattle.pg_grammar.specs.ReaderOps.{branch_at}
+use Rattle.pg_ast.specs.Views.{typed_of}
+use Rattle.pg_operations.specs.Rows.{branch_end_at}
+use Rattle.pg_grammar.proofs.Loops.{reads_on}
+use Rattle.pg_operations.proofs.Grouped.{branch_grouped}
 use Rattle.pg_operations.proofs.branches.branch.Goals as goal
 
 pub returns-clause-read : goal.returns-clause-read
-returns-clause-read c = let a = c.in_ok-word.ensures.read in let n = sym c.next_is.ensures ∙ c.if-next_is.false in let b = c.in_ok-condition.ensures in let d = c.in_ok-at.ensures.read in let e = c.in_ok-yes.ensures.read in let f = c.in_ok-at-2.ensures.read in let g = c.in_ok-no.ensures.read in
-    (rw a.0 (rw n (rw b.0 (rw d.0 (rw e.0 (rw f.0 (rw g.0 refl)))))), omega (arith, a.1, b.1, d.1, e.1, f.1, g.1), g.2)
+returns-clause-read c = let a = c.in_ok-word.ensures.read in let n = sym c.next_is.ensures ∙ c.if-next_is.false in let b = c.in_ok-condition.ensures in
+    reads_on c.branch_end.result _ _ c.args.tokens.now c.args.at c.in_ok-condition.at (branch_end_at c.in_ok-word.word.now (typed_of c.in_ok-condition.condition) (drop c.in_ok-condition.at c.args.tokens.now)) (branch_at (drop c.args.at c.args.tokens.now)) c.branch_end.ensures
+    (rw a.0 (rw n (rw b.0 (sym (branch_grouped c.in_ok-word.word.now (typed_of c.in_ok-condition.condition) (drop c.in_ok-condition.at c.args.tokens.now)))))) (omega (arith, a.1, b.1))

@@ -1,6 +1,12 @@
-use Rattle.std.proofs.Common.{arith, refl}
+use Rattle.std.proofs.Common.{drop, sym}
+use Rattle.pg_grammar.specs.ReaderOps.{case_at}
+use Rattle.pg_ast.specs.Views.{typed_of}
+use Rattle.pg_operations.specs.Rows.{case_end_at}
+use Rattle.pg_grammar.proofs.Loops.{reads_on}
+use Rattle.pg_operations.proofs.Grouped.{case_grouped}
 use Rattle.pg_operations.proofs.branches.case.Goals as goal
 
 pub returns-clause-read : goal.returns-clause-read
-returns-clause-read c = let a = c.in_ok-value.ensures in let b = c.in_ok-at.ensures.read in let d = c.in_ok-block.ensures.read in
-    (rw a.0 (rw b.0 (rw d.0 refl)), omega (arith, a.1, b.1, d.1), d.2)
+returns-clause-read c = let b = c.in_ok-value.ensures in
+    reads_on c.case_end.result _ _ c.args.tokens.now c.args.at c.in_ok-value.at (case_end_at (typed_of c.in_ok-value.value) (drop c.in_ok-value.at c.args.tokens.now)) (case_at (drop c.args.at c.args.tokens.now)) c.case_end.ensures.read
+    (rw b.0 (sym (case_grouped (typed_of c.in_ok-value.value) (drop c.in_ok-value.at c.args.tokens.now)))) b.1

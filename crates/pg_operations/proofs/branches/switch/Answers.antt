@@ -1,6 +1,12 @@
-use Rattle.std.proofs.Common.{arith, refl, sym, ◌∙◌}
+use Rattle.std.proofs.Common.{drop, arith, sym}
+use Rattle.pg_grammar.specs.ReaderOps.{switch_at}
+use Rattle.pg_ast.specs.Views.{typed_of}
+use Rattle.pg_operations.specs.Rows.{switch_end_at}
+use Rattle.pg_grammar.proofs.Loops.{reads_on}
+use Rattle.pg_operations.proofs.Grouped.{switch_grouped}
 use Rattle.pg_operations.proofs.branches.switch.Goals as goal
 
 pub returns-clause-read : goal.returns-clause-read
-returns-clause-read c = let a = c.in_ok-word.ensures.read in let b = c.in_ok-value.ensures in let d = c.in_ok-at.ensures.read in let e = c.in_ok-other.ensures.read in let f = c.in_ok-at-2.ensures.read in let g = c.in_ok-all.ensures in let n = sym c.next_in.ensures ∙ c.if-next_in.false in let h = c.in_ok-at-3.ensures.read in
-    (rw a.0 (rw b.0 (rw d.0 (rw e.0 (rw f.0 (rw g.0 (rw n (rw h.0 refl))))))), omega (arith, a.1, b.1, d.1, e.1, f.1, g.1, h.1), h.2)
+returns-clause-read c = let a = c.in_ok-word.ensures.read in let b = c.in_ok-value.ensures in
+    reads_on c.switch_end.result _ _ c.args.tokens.now c.args.at c.in_ok-value.at (switch_end_at c.in_ok-word.word.now (typed_of c.in_ok-value.value) (drop c.in_ok-value.at c.args.tokens.now)) (switch_at (drop c.args.at c.args.tokens.now)) c.switch_end.ensures
+    (rw a.0 (rw b.0 (sym (switch_grouped c.in_ok-word.word.now (typed_of c.in_ok-value.value) (drop c.in_ok-value.at c.args.tokens.now))))) (omega (arith, a.1, b.1))

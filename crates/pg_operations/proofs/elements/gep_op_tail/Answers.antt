@@ -1,6 +1,12 @@
-use Rattle.std.proofs.Common.{arith, refl}
+use Rattle.std.proofs.Common.{drop, sym}
+use Rattle.pg_grammar.specs.ReaderOps.{gep_op_tail_at}
+use Rattle.pg_ast.specs.Views.{ty_of}
+use Rattle.pg_operations.specs.Rows.{gep_op_end_at}
+use Rattle.pg_grammar.proofs.Loops.{reads_on}
+use Rattle.pg_operations.proofs.Grouped.{gep_grouped}
 use Rattle.pg_operations.proofs.elements.gep_op_tail.Goals as goal
 
 pub returns : goal.returns
-returns c = let a = c.in_ok-ty.ensures in let b = c.in_ok-at.ensures.read in let d = c.in_ok-pointer.ensures in let e = c.in_ok-more.ensures in
-    (rw a.0 (rw b.0 (rw d.0 (rw e.0 refl))), omega (arith, a.1, b.1, d.1, e.1), e.2)
+returns c = let b = c.in_ok-ty.ensures in
+    reads_on c.gep_op_end.result _ _ c.args.tokens.now c.args.at c.in_ok-ty.at (gep_op_end_at c.args.word.now (ty_of c.in_ok-ty.ty) (drop c.in_ok-ty.at c.args.tokens.now)) (gep_op_tail_at c.args.word.now (drop c.args.at c.args.tokens.now)) c.gep_op_end.ensures
+    (rw b.0 (sym (gep_grouped c.args.word.now (ty_of c.in_ok-ty.ty) (drop c.in_ok-ty.at c.args.tokens.now)))) b.1

@@ -1,6 +1,13 @@
-use Rattle.std.proofs.Common.{arith, refl}
+use Rattle.std.proofs.Common.{drop, arith, sym}
+use Rattle.pg_grammar.specs.ReaderOps.{store_at}
+use Rattle.pg_ast.specs.Syntax as syntax
+use Rattle.pg_ast.specs.Views.{typed_of}
+use Rattle.pg_operations.specs.Rows.{store_end_at}
+use Rattle.pg_grammar.proofs.Loops.{reads_on}
+use Rattle.pg_operations.proofs.Grouped.{access_grouped}
 use Rattle.pg_operations.proofs.memory.store.Goals as goal
 
 pub returns-clause-read : goal.returns-clause-read
-returns-clause-read c = let a = c.in_ok-word.ensures.read in let b = c.in_ok-at.ensures in let d = c.in_ok-value.ensures in let e = c.in_ok-at-2.ensures.read in let f = c.in_ok-pointer.ensures in let g = c.in_ok-at-3.ensures in
-    (rw a.0 (rw b.0 (rw d.0 (rw e.0 (rw f.0 (rw g.0 refl))))), omega (arith, a.1, b.1, d.1, e.1, f.1, g.1), g.2)
+returns-clause-read c = let a = c.in_ok-word.ensures.read in let b = c.in_ok-at.ensures in let d = c.in_ok-value.ensures in
+    reads_on c.store_end.result _ _ c.args.tokens.now c.args.at c.in_ok-value.at (store_end_at c.in_ok-word.word.now (typed_of c.in_ok-value.value) (drop c.in_ok-value.at c.args.tokens.now)) (store_at (drop c.args.at c.args.tokens.now)) c.store_end.ensures
+    (rw a.0 (rw b.0 (rw d.0 (sym (access_grouped (syntax.Store c.in_ok-word.word.now.span (typed_of c.in_ok-value.value)) (drop c.in_ok-value.at c.args.tokens.now)))))) (omega (arith, a.1, b.1, d.1))

@@ -1,6 +1,12 @@
-use Rattle.std.proofs.Common.{arith, refl}
+use Rattle.std.proofs.Common.{drop, arith, sym}
+use Rattle.pg_grammar.specs.ReaderOps.{cast_tail_at}
+use Rattle.pg_ast.specs.Views.{typed_of}
+use Rattle.pg_operations.specs.Rows.{cast_end_at}
+use Rattle.pg_grammar.proofs.Loops.{reads_on}
+use Rattle.pg_operations.proofs.Grouped.{cast_grouped}
 use Rattle.pg_operations.proofs.numbers.cast_tail.Goals as goal
 
 pub returns : goal.returns
-returns c = let a = c.flags-at.ensures in let b = c.in_ok-value.ensures in let d = c.in_ok-at.ensures.read in let e = c.in_ok-ty.ensures in let o = c.cast_op-op.ensures in
-    (rw a.read (rw b.0 (rw d.0 (rw e.0 (rw o refl)))), omega (arith, a.from, b.1, d.1, e.1), e.2)
+returns c = let a = c.flags-at.ensures in let b = c.in_ok-value.ensures in
+    reads_on c.cast_end.result _ _ c.args.tokens.now c.args.at c.in_ok-value.at (cast_end_at c.args.word.now (typed_of c.in_ok-value.value) (drop c.in_ok-value.at c.args.tokens.now)) (cast_tail_at c.args.word.now (drop c.args.at c.args.tokens.now)) c.cast_end.ensures
+    (rw a.read (rw b.0 (sym (cast_grouped c.args.word.now (typed_of c.in_ok-value.value) (drop c.in_ok-value.at c.args.tokens.now))))) (omega (arith, a.from, b.1))

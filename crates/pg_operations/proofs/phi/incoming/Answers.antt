@@ -1,6 +1,12 @@
-use Rattle.std.proofs.Common.{arith, refl}
+use Rattle.std.proofs.Common.{drop, arith, sym}
+use Rattle.pg_grammar.specs.ReaderOps.{incoming_at}
+use Rattle.pg_ast.specs.Views.{val_of}
+use Rattle.pg_operations.specs.Rows.{incoming_tail_at}
+use Rattle.pg_grammar.proofs.Loops.{reads_on}
+use Rattle.pg_operations.proofs.Grouped.{incoming_grouped}
 use Rattle.pg_operations.proofs.phi.incoming.Goals as goal
 
 pub returns-clause-read : goal.returns-clause-read
-returns-clause-read c = let a = c.in_ok-at.ensures.read in let b = c.in_ok-value.ensures in let d = c.in_ok-at-2.ensures.read in let e = c.in_ok-label.ensures.read in let f = c.in_ok-at-3.ensures.read in let n = c.in_ok-block.ensures in
-    (rw a.0 (rw b.0 (rw d.0 (rw e.0 (rw f.0 (rw n refl))))), omega (arith, a.1, b.1, d.1, e.1, f.1), f.2)
+returns-clause-read c = let a = c.in_ok-at.ensures.read in let b = c.in_ok-value.ensures in
+    reads_on c.incoming_tail.result _ _ c.args.tokens.now c.args.at c.in_ok-value.at (incoming_tail_at (val_of c.in_ok-value.value) (drop c.in_ok-value.at c.args.tokens.now)) (incoming_at (drop c.args.at c.args.tokens.now)) c.incoming_tail.ensures
+    (rw a.0 (rw b.0 (sym (incoming_grouped (val_of c.in_ok-value.value) (drop c.in_ok-value.at c.args.tokens.now))))) (omega (arith, a.1, b.1))

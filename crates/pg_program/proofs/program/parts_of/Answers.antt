@@ -1,7 +1,0 @@
-use Rattle.pg_program.proofs.WholeProgram.{program_made}
-use Rattle.pg_program.proofs.program.parts_of.Goals as goal
-
-pub returns-clause-program : goal.returns-clause-program
-returns-clause-program c =
-    program_made c.args.tree.now c.in_ok-globals.globals.symbols.tree.now c.as_slice-all.result.now _ _ _ _ _
-    c.in_ok-globals.ensures.same c.as_slice-all.ensures.value c.in_ok-functions.ensures.functions c.in_ok-blocks.ensures c.in_ok-instrs.ensures.instrs c.in_ok-variables.ensures.rows c.main_number-main.ensures
