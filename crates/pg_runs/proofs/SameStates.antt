@@ -89,4 +89,4 @@ module _ (p : NumberedProgram) (input : List ℤ) (z w : State) (m n : ℕ → �
   words = index_same z.words w.words (hz.machine.words ∙ threads ∙ sym hw.machine.words) word
 
   pub same_state : z ≡ w
-  same_state = made_of z w locals (same_bytes z.memory w.memory hz.memory hw.memory bytes) (ap (λ (o : Objects). o.sync) objects) words (ap (λ (q : Shared). q.printed) same.objects) (hz.value ∙ word 0 ∙ sym hw.value)
+  same_state = made_of z w locals (same_bytes z.memory w.memory hz.memory hw.memory (λ at below. bytes at)) (ap (λ (o : Objects). o.sync) objects) words (ap (λ (q : Shared). q.printed) same.objects) (hz.value ∙ word 0 ∙ sym hw.value)
