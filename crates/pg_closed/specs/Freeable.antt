@@ -3,9 +3,6 @@ use Rattle.std.specs.Prelude.{ℕ, ◌*◌, ◌&&◌, List, [], ◌∷◌, Bool,
 use Rattle.std.specs.List.{list_any}
 use Rattle.pg_num.specs.Places.{ByteRange}
 use Rattle.pg_num.specs.Pointers.{pointer_of}
-use Rattle.pg_ir.specs.declared.instr.Instr.{Instr}
-use Rattle.pg_ir.specs.declared.instr.Op.{Op}
-use Rattle.pg_ir.specs.declared.instr.Op.TheVariants as op
 use Rattle.pg_ir.specs.Program.{NumberedProgram}
 use Rattle.pg_paths.specs.declared.path.RootPath.{RootPath}
 use Rattle.pg_paths.specs.Followed.{Followed, followed}
@@ -78,19 +75,3 @@ if_apart r (Some xs) = if list_any (stores_on xs) xs then None else Some (record
 abbrev pub region_at : NumberedProgram → Moment → Option BranchRegion → Option FreeRegion
 region_at p m None = None
 region_at p m (Some r) = if_apart r (accesses_at p m r.accesses)
-
--- ---- branch steps
-
-abbrev pub is_branching : Op → Bool
-is_branching (op.CondBr c a b) = true
-is_branching (op.Switch w on other cases) = true
-is_branching _ = false
-
--- a conditional branch or a switch; a thread's start is none, though it has the number of its function's first instruction
-abbrev pub is_branch_in : Option Instr → Bool
-is_branch_in None = false
-is_branch_in (Some x) = is_branching x.op
-
-abbrev pub region_in : NumberedProgram → Regions → Moment → Option Instr → Option FreeRegion
-region_in p regions m None = None
-region_in p regions m (Some x) = if is_branching x.op then region_at p m (regions x.block.0) else None

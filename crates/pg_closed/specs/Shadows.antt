@@ -1,8 +1,9 @@
 -- What is known of a value under some decisions: its number as a function of the input, or the decision that is missing.
-use Rattle.std.specs.Prelude.{ℕ, zero, suc, ◌+◌, ◌-◌, ◌*◌, ◌^◌, ◌==◌, ◌&&◌, nat_le, nat_lt, ℤ, List, [], ◌∷◌, Bool, true, false, Option, Some, None, slice_index_or, if◌then◌else◌}
+use Rattle.std.specs.Prelude.{ℕ, zero, suc, ◌+◌, ◌-◌, ◌*◌, ◌%◌, ◌^◌, ◌==◌, ◌&&◌, nat_le, nat_lt, ℤ, List, [], ◌∷◌, Bool, true, false, Option, Some, None, slice_get, slice_index_or, if◌then◌else◌}
 use Rattle.std.specs.List.{list_all}
-use Rattle.pg_num.specs.Numbers.{divided}
+use Rattle.pg_num.specs.Numbers.{divided, truncated}
 use Rattle.pg_num.specs.Places.{ByteRange}
+use Rattle.pg_ir.specs.declared.value.Index.{Index}
 use Rattle.pg_ir.specs.declared.value.Value.{Value}
 use Rattle.pg_ir.specs.declared.value.Value.TheVariants as value
 use Rattle.pg_ir.specs.declared.instr.Op.{Op}
@@ -63,11 +64,33 @@ from_all (Known g ∷ ss) f = from_all ss (λ gs. f (λ input. g input ∷ gs in
 from_all (Framed g x ∷ ss) f = Unknown x
 from_all (Unknown x ∷ ss) f = Unknown x
 
+abbrev pub index_narrowed : Option Index → ℕ → ℕ
+index_narrowed None n = n
+index_narrowed (Some i) n = truncated i.width n
+
+-- the number of an operand as the operation reads it: modulo two to the operand's width. A register of a width holds numbers
+-- of it alone, so in a run this changes none
+abbrev pub narrowed : Op → ℕ → ℕ → ℕ
+narrowed (op.Add w a b) k n = truncated w n
+narrowed (op.Sub w a b) k n = truncated w n
+narrowed (op.Mul w a b) k n = truncated w n
+narrowed (op.Divide d w a b) k n = truncated w n
+narrowed (op.Shift s w a b) k n = truncated w n
+narrowed (op.Bits o w a b) k n = truncated w n
+narrowed (op.Compare c w a b) k n = truncated w n
+narrowed (op.Trunc from to v) k n = truncated from n
+narrowed (op.Zext from to v) k n = truncated from n
+narrowed (op.Sext from to v) k n = truncated from n
+narrowed (op.PtrToInt from to v) k n = truncated from n
+narrowed (op.IntToPtr from to v) k n = truncated from n
+narrowed (op.Gep base indices) (suc k) n = index_narrowed (slice_get indices k) n
+narrowed o k n = n
+
 -- the result by the numbers of the operands: none where one that counts has none, and where a division has none
 abbrev pub applied : Op → List (Option ℕ) → Option ℕ
-applied (op.Select c a b) ns = with_one (number_of ns 0) (λ n. if n == 0 then number_of ns 2 else number_of ns 1)
-applied (op.Divide d w a b) ns = with_both (number_of ns 0) (number_of ns 1) (λ m n. if_divided (divided d w m n))
-applied o ns = if list_all is_set ns then Some (computed o (λ k. operands.given (number_of ns k))) else None
+applied (op.Select c a b) ns = with_one (number_of ns 0) (λ n. if n % 2 == 0 then number_of ns 2 else number_of ns 1)
+applied (op.Divide d w a b) ns = with_both (number_of ns 0) (number_of ns 1) (λ m n. if_divided (divided d w (truncated w m) (truncated w n)))
+applied o ns = if list_all is_set ns then Some (computed o (λ k. narrowed o k (operands.given (number_of ns k)))) else None
 
 abbrev pub result_of : Op → List Shadow → Shadow
 result_of o ss = from_all ss (λ gs. Known (λ input. applied o (gs input)))

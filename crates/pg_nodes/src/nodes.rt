@@ -24,10 +24,6 @@ impl Nodes {
     ghost use Rattle.pg_nodes.specs.Nodes.{IsNode, AreNodes};
 
     /// A list without nodes.
-    ///
-    /// # Errors
-    ///
-    /// Where no memory is left for it.
     pub fn new(alloc: Global) -> Nodes
         ensures { result ≡ [] }
     {

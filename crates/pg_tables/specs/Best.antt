@@ -9,3 +9,6 @@ other b u = if b.thread.0 == u then b.second else b.first
 -- the second isn't greater than the first
 abbrev pub IsBest : Best → Type 0
 IsBest b = b.second ≤ b.first
+
+abbrev pub no_best : Best
+no_best = record { first = 0; thread = record { 0 = 0 }; second = 0 }

@@ -4,15 +4,12 @@ use Rattle.std.specs.Option.{unwrap_or}
 use Rattle.indexmap.specs.IndexMap.{get}
 use Rattle.pg_num.specs.Places.{ByteRange}
 use Rattle.pg_trace.specs.Races.{is_in}
-use Rattle.pg_tables.specs.Best.{IsBest, other}
+use Rattle.pg_tables.specs.Best.{IsBest, no_best, other}
 use Rattle.pg_tables.specs.Touches.{greatest, range_of, rank_if}
 use Rattle.pg_tables.specs.declared.best.Best.{Best}
 use Rattle.pg_tables.specs.declared.cell.Cell.{Cell}
 use Rattle.pg_tables.specs.declared.table.Table.{Table}
 use Rattle.pg_tables.specs.declared.touch.Touch.{Touch}
-
-abbrev pub no_best : Best
-no_best = record { first = 0; thread = record { 0 = 0 }; second = 0 }
 
 abbrev pub no_cell : Cell
 no_cell = record { all = no_best; writes = no_best }

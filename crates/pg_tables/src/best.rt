@@ -1,5 +1,5 @@
 ghost use Rattle.std.specs.Prelude.{◌≡◌, ◌==◌, not, ℕ, max};
-ghost use Rattle.pg_tables.specs.Best.{IsBest, other};
+ghost use Rattle.pg_tables.specs.Best.{IsBest, no_best, other};
 ghost use Rattle.pg_tables.specs.Touches.{rank_if};
 
 use pg_ir::ThreadNo;
@@ -16,7 +16,7 @@ pub(crate) struct Best {
 impl Best {
     /// No rank.
     pub fn none() -> Best
-        ensures value { result ≡ record { first = 0; thread = record { 0 = 0 }; second = 0 } }
+        ensures value { result ≡ no_best }
     {
         Best {
             first: 0,

@@ -1,6 +1,6 @@
 ghost use Rattle.std.specs.Prelude.{◌≡◌, ◌==◌, ◌&&◌, not, ℕ, max};
 ghost use Rattle.pg_tables.specs.Best.{IsBest, other};
-ghost use Rattle.pg_tables.specs.Cells.{met_by};
+ghost use Rattle.pg_tables.specs.Cells.{met_by, no_cell};
 ghost use Rattle.pg_tables.specs.Touches.{rank_if};
 
 use crate::best::Best;
@@ -16,7 +16,7 @@ pub(crate) struct Cell {
 impl Cell {
     /// No access.
     pub fn none() -> Cell
-        ensures value { result ≡ record { all = record { first = 0; thread = record { 0 = 0 }; second = 0 }; writes = record { first = 0; thread = record { 0 = 0 }; second = 0 } } }
+        ensures value { result ≡ no_cell }
     {
         Cell {
             all: Best::none(),

@@ -1,5 +1,5 @@
 ghost use Rattle.std.specs.Prelude.{◌≡◌, ◌==◌, ℕ, IfOk, OnOk, if◌then◌else◌};
-ghost use Rattle.pg_tables.specs.Cells.{cell_at};
+ghost use Rattle.pg_tables.specs.Cells.{cell_at, no_cell};
 
 use crate::cell::Cell;
 use indexmap::IndexMap;
@@ -14,7 +14,7 @@ pub(crate) struct Table {
 impl Table {
     /// The table without accesses.
     pub fn new(alloc: Global) -> Table
-        ensures { (b : ℕ) → cell_at result b ≡ record { all = record { first = 0; thread = record { 0 = 0 }; second = 0 }; writes = record { first = 0; thread = record { 0 = 0 }; second = 0 } } }
+        ensures { (b : ℕ) → cell_at result b ≡ no_cell }
     {
         Table {
             cells: IndexMap::new(alloc),
