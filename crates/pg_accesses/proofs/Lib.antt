@@ -6,3 +6,4 @@ pub mod Gathers
 pub mod Blocks
 pub mod Sets
 pub mod Louds
+pub mod Ascending

@@ -1,6 +1,7 @@
 //! Directed graphs: what walks meet before a vertex, and the nearest vertex that separates from others.
 #![tactic(auto)]
 
+mod among;
 mod graph;
 pub mod laws;
 mod marks;
@@ -8,6 +9,7 @@ mod rank;
 mod reach;
 mod separator;
 
+pub use among::is_among;
 pub use graph::Graph;
 pub use rank::ranks;
 pub use reach::reach_without;

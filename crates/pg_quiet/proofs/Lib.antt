@@ -1,4 +1,3 @@
-pub mod Ascending
 pub mod Spanned
 pub mod Ranges
 pub mod Places

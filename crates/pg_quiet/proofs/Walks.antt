@@ -10,7 +10,7 @@ use Rattle.pg_quiet.specs.Calls.{Calls, CallsReach}
 use Rattle.pg_quiet.specs.Calls.CallsReach.{direct, further}
 use Rattle.pg_quiet.specs.Callees.{calls_of}
 use Rattle.pg_quiet.specs.Reaches.{NO_FUNCTION, AreReaches, reach_at}
-use Rattle.pg_quiet.proofs.Ascending.{strictly_shorter}
+use Rattle.pg_accesses.proofs.Ascending.{strictly_shorter}
 use Rattle.pg_quiet.proofs.Places.{calls_edge, edge_calls, callee_small}
 
 pub walk_reach : (p : NumberedProgram) (j f x : ℕ) → IsProgram p → Walk (calls_of p) j f x → CallsReach p f x

@@ -1,8 +1,8 @@
-ghost use Rattle.std.specs.Prelude.{◌≡◌, ℕ, ◌<◌, ◌≤◌, ◌^◌, ◌↔◌, length, true, Contains, IfOk};
+ghost use Rattle.std.specs.Prelude.{◌≡◌, ℕ, ◌<◌, ◌≤◌, ◌^◌, length, IfOk};
 ghost use Rattle.pg_cfg.specs.Graphs.{IsClosed, IsReach};
 ghost use Rattle.pg_quiet.specs.Reaches.{AreReaches, IsReachOf, reach_at};
 
-use pg_cfg::{Graph, reach_without};
+use pg_cfg::{Graph, is_among, reach_without};
 use std::alloc::{AllocError, Global};
 
 /// How many functions the calls of a function reach, and whether it is one of them.
@@ -10,18 +10,6 @@ use std::alloc::{AllocError, Global};
 pub struct Reach {
     pub size: usize,
     pub is_recursive: bool,
-}
-
-/// Whether a function is one of these.
-fn is_among(functions: &[u32], f: u32) -> bool
-    ensures { (result ≡ true) ↔ Contains functions.now f }
-{
-    for other in functions {
-        if *other == f {
-            return true;
-        }
-    }
-    false
 }
 
 /// Follows the calls of a function.

@@ -1,4 +1,3 @@
-pub mod Ascending
 pub mod Parts
 pub mod Joins
 pub mod Leasts

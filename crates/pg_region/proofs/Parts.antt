@@ -3,7 +3,7 @@ use Rattle.std.proofs.Common.{◌≡◌, ℕ, zero, suc, ◌+◌, ◌<◌, ◌�
 use Rattle.std.specs.Prelude.{Contains}
 use Rattle.std.specs.List.Sorted.{IsStrictlyIncreasing}
 use Rattle.pg_accesses.proofs.Elements.{here, there, cases, none_in}
-use Rattle.pg_region.proofs.Ascending.{tail_of, below}
+use Rattle.pg_accesses.proofs.Ascending.{tail_of, below}
 
 cons_ascends : (x : ℕ) (xs : List ℕ) → IsStrictlyIncreasing xs → ((z : ℕ) → Contains xs z → x < z) → IsStrictlyIncreasing (x ∷ xs)
 cons_ascends x [] a b k lt = absurd (omega (arith, lt))

@@ -14,7 +14,7 @@ use Rattle.pg_accesses.proofs.Passes.{block_quiet}
 use Rattle.pg_region.specs.declared.region.Region.{Region}
 use Rattle.pg_region.specs.Regions.{flow_of, IsJoin, IsRegion, IsSmaller}
 use Rattle.pg_region.specs.Laws.{IsLoudBlock, AreNested}
-use Rattle.pg_region.proofs.Ascending.{strictly_shorter}
+use Rattle.pg_accesses.proofs.Ascending.{strictly_shorter}
 use Rattle.pg_region.proofs.Parts.{IsPart, has_part}
 
 abbrev nothing : ℕ → Bool
