@@ -1,0 +1,12 @@
+//! Laws on sources: each is the clause of a function that does nothing.
+
+ghost use Rattle.std.specs.Prelude.{◌≡◌, length};
+ghost use Rattle.pg_nodes.specs.Nodes.{NodeList};
+ghost use Rattle.pg_sources.specs.declared.source.Source.{Source};
+ghost use Rattle.pg_sources.specs.Sources.{Grew, IsSource, shadow_by};
+
+/// A source stands for the same where nodes were added behind.
+pub fn sources_stay()
+    ensures same { (old new : NodeList) (s : Source) → Grew old new → IsSource (length old) s → shadow_by new s ≡ shadow_by old s }
+    ensures is { (old new : NodeList) (s : Source) → Grew old new → IsSource (length old) s → IsSource (length new) s }
+{}
