@@ -1,0 +1,4 @@
+pub mod Added
+pub mod Operands
+pub mod Tests
+pub mod Events

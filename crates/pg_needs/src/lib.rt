@@ -1,0 +1,8 @@
+//! What a step of a reference run asks to be known, and what an input must give of it.
+#![tactic(auto)]
+
+mod asked;
+mod step;
+
+pub use asked::Asked;
+pub use step::step_needs;
