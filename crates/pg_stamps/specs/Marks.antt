@@ -2,7 +2,7 @@
 use Rattle.std.specs.Prelude.{ℕ, zero, suc, ◌+◌, ◌-◌, ◌/◌, ◌%◌, ◌==◌, ◌&&◌, ◌||◌, Bool, max, nat_eq, nat_lt}
 use Rattle.std.specs.Option.{unwrap_or}
 use Rattle.indexmap.specs.IndexMap.{get}
-use Rattle.pg_stamps.specs.declared.stamps.TheConstants.{PLACE_COUNT}
+use Rattle.pg_stamps.specs.declared.stamps.TheConstants.{LEVELS, PLACE_COUNT}
 use Rattle.pg_stamps.specs.declared.stamps.Stamps.{Stamps}
 
 -- the number at a node, 0 where there is none
@@ -21,7 +21,7 @@ greatest_below m x (suc h) = max (greatest_below m x h) (m (node_at x h))
 
 -- the greatest number at the nodes above a place
 abbrev pub greatest_at : Stamps → ℕ → ℕ
-greatest_at s x = greatest_below (mark_of s) x 27
+greatest_at s x = greatest_below (mark_of s) x LEVELS
 
 -- a node from l to below r whose parent isn't wholly in there
 abbrev pub is_marked : ℕ → ℕ → ℕ → Bool
