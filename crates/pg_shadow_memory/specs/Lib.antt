@@ -2,3 +2,4 @@ pub mod Growing
 pub mod Sources
 pub mod Changes
 pub mod Stamped
+pub mod Loads

@@ -3,11 +3,11 @@
 #![tactic(auto)]
 
 mod change;
-//mod initial;
-//pub mod laws;
-//mod load;
+mod growing;
+mod initial;
+mod load;
 mod memory;
-//mod parts;
+mod parts;
 mod source;
 
 pub use change::Change;

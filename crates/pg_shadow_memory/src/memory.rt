@@ -1,6 +1,10 @@
 use crate::change::Change;
+use crate::load::number_node;
+use crate::parts::first_unknown;
 use crate::source::{ByteSource, Held};
 use pg_closed::Decision;
+use pg_ir::Program;
+use pg_nodes::Nodes;
 use pg_stamps::{PLACE_COUNT, Stamps};
 use std::alloc::{AllocError, Global};
 use std::marker::Model;
@@ -25,12 +29,14 @@ impl Model for ShadowMemory {
 }
 
 impl ShadowMemory {
-    ghost use Rattle.std.specs.Prelude.{◌≡◌, ◌≤◌, ◌<◌, ◌+◌, ◌-◌, ◌++◌, ◌∷◌, [], ℕ, OnErr, OnOk};
+    ghost use Rattle.std.specs.Prelude.{◌≡◌, ◌≤◌, ◌<◌, ◌+◌, ◌-◌, ◌++◌, ◌∷◌, [], ℕ, IfOk, OnErr, OnOk, length};
     ghost use Rattle.pg_ir.specs.Program.{NumberedProgram};
     ghost use Rattle.pg_nodes.specs.Nodes.{NodeList};
     ghost use Rattle.pg_closed.specs.Known.{start_of};
-    ghost use Rattle.pg_closed.specs.Shadows.{spoiled, stored};
+    ghost use Rattle.pg_closed.specs.Shadows.{loaded, spoiled, stored};
     ghost use Rattle.pg_shadow_memory.specs.declared.source.Held.TheVariants.{Unknown};
+    ghost use Rattle.pg_shadow_memory.specs.Growing.{Grew};
+    ghost use Rattle.pg_shadow_memory.specs.Loads.{source_in};
     ghost use Rattle.pg_shadow_memory.specs.Sources.{IsHeld, IsPart, IsPlaceIn, changed, held_shadow};
     ghost use Rattle.pg_shadow_memory.specs.Changes.{AreSources, range_of, shadows_of, sources_of};
 
@@ -120,5 +126,46 @@ impl ShadowMemory {
             bytes,
             to: Held::Unknown(by),
         })
+    }
+    /// The sources of the bytes from `start` on, `count` of them, before bytes as at the start.
+    fn sources(&self, start: u64, count: u8) -> [ByteSource; 8]
+        requires count { count ≤ 8 }
+        requires end { start + count ≤ PLACE_COUNT }
+        ensures sources { (k : ℕ) → k < count → source_in result k ≡ sources_of self.now (start + k) }
+        ensures parts { (k : ℕ) → k < count → IsPart (source_in result k) }
+    {
+        let mut sources = [ByteSource::Initial; 8];
+        for k in 0..count {
+            sources[k as usize] = self.at(start + k as u64);
+        }
+        sources
+    }
+
+    /// What is known of the number that the bytes from `start` on make, `count` of them, the lowest first. Nodes for it are
+    /// added. The decision of the lowest byte that isn't known is blamed.
+    ///
+    /// # Errors
+    ///
+    /// Where no memory is left. Nodes may then be added.
+    pub fn load(
+        &self,
+        p: &Program,
+        nodes: &mut Nodes,
+        start: u64,
+        count: u8,
+    ) -> Result<Held, AllocError>
+        requires some { 1 ≤ count }
+        requires count { count ≤ 8 }
+        requires end { start + count ≤ PLACE_COUNT }
+        requires names { AreSources (length nodes.old) self.now }
+        ensures grew { Grew nodes.old nodes.new }
+        ensures is { IfOk result (IsHeld (length nodes.new)) }
+        ensures value { IfOk result (λ h. held_shadow nodes.new h ≡ loaded (shadows_of p.now nodes.old self.now) start count) }
+    {
+        let sources = self.sources(start, count);
+        if let Some(by) = first_unknown(&sources, count) {
+            return Ok(Held::Unknown(by));
+        }
+        Ok(Held::Known(number_node(p, nodes, start, &sources, count)?))
     }
 }
