@@ -1,0 +1,5 @@
+pub mod Growing
+pub mod Sources
+pub mod Changes
+pub mod Stamped
+pub mod Loads

@@ -1,0 +1,15 @@
+//! What is known of each byte of memory along a reference run: the bytes of numbers of nodes, and the decisions that are
+//! blamed for the rest. Whole frames are forgotten without going over their bytes.
+#![tactic(auto)]
+
+mod change;
+mod growing;
+mod initial;
+mod load;
+mod memory;
+mod parts;
+mod source;
+
+pub use change::Change;
+pub use memory::ShadowMemory;
+pub use source::{ByteSource, Held};

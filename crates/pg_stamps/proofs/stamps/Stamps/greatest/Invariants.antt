@@ -1,0 +1,6 @@
+use Rattle.std.proofs.Common.{◌≡◌}
+use Rattle.pg_stamps.specs.Marks.{greatest_below, mark_of, node_at}
+use Rattle.pg_stamps.proofs.stamps.Stamps.greatest.Given as goal
+
+abbrev pub invariant-loop-level : goal.invariant-loop-level
+invariant-loop-level l = (l.node ≡ node_at l.place l._level) × (l.number ≡ greatest_below (mark_of l.self) l.place l._level)
