@@ -15,7 +15,7 @@ use Rattle.pg_closed.specs.Shadows as shadows
 use Rattle.pg_closed.specs.Shadows.{OnInput, Shadow, Known, Framed, Unknown, always, byte_in, is_known, loaded}
 use Rattle.pg_shadow_memory.specs.declared.source.ByteSource.{ByteSource}
 use Rattle.pg_shadow_memory.specs.declared.source.ByteSource.TheVariants as byte
-use Rattle.pg_shadow_memory.specs.Growing.{number_by}
+use Rattle.pg_sources.specs.Sources.{number_by}
 use Rattle.pg_shadow_memory.specs.Loads.{AreInitial, AreKnown, ArePartsOf, IsByteNode, is_known_byte, shadows_from, source_in}
 use Rattle.pg_shadow_memory.specs.Sources.{byte_shadow}
 

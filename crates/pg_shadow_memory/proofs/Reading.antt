@@ -12,7 +12,7 @@ use Rattle.pg_closed.specs.Shadows.{Shadow, Known, loaded}
 use Rattle.pg_shadow_memory.specs.declared.source.ByteSource.{ByteSource}
 use Rattle.pg_shadow_memory.specs.declared.source.ByteSource.TheVariants as byte
 use Rattle.pg_shadow_memory.specs.Changes.{Changes, shadows_of, sources_of}
-use Rattle.pg_shadow_memory.specs.Growing.{Grew, number_by}
+use Rattle.pg_sources.specs.Sources.{Grew, number_by}
 use Rattle.pg_shadow_memory.specs.Loads.{IsByteNode, shadows_from, source_in}
 use Rattle.pg_shadow_memory.specs.Sources.{byte_shadow}
 use Rattle.pg_shadow_memory.proofs.Grows.{byte_node_kept}

@@ -1,4 +1,3 @@
-pub mod Growing
 pub mod Sources
 pub mod Changes
 pub mod Stamped

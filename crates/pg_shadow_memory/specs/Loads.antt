@@ -5,7 +5,7 @@ use Rattle.pg_nodes.specs.Nodes.{NodeList}
 use Rattle.pg_closed.specs.Shadows.{Shadow, Known}
 use Rattle.pg_shadow_memory.specs.declared.source.ByteSource.{ByteSource}
 use Rattle.pg_shadow_memory.specs.declared.source.ByteSource.TheVariants as byte
-use Rattle.pg_shadow_memory.specs.Growing.{number_by}
+use Rattle.pg_sources.specs.Sources.{number_by}
 use Rattle.pg_shadow_memory.specs.Sources.{IsPart, IsSource, byte_shadow}
 
 -- byte k of those that were read

@@ -9,7 +9,7 @@ use Rattle.pg_shadow_memory.specs.declared.source.ByteSource.{ByteSource}
 use Rattle.pg_shadow_memory.specs.declared.source.ByteSource.TheVariants as byte
 use Rattle.pg_shadow_memory.specs.declared.source.Held.{Held}
 use Rattle.pg_shadow_memory.specs.declared.source.Held.TheVariants as held
-use Rattle.pg_shadow_memory.specs.Growing.{number_by}
+use Rattle.pg_sources.specs.Sources.{number_by}
 
 -- what is known of a number
 abbrev pub held_shadow : NodeList → Held → Shadow

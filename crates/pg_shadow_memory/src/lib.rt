@@ -3,7 +3,6 @@
 #![tactic(auto)]
 
 mod change;
-mod growing;
 mod initial;
 mod load;
 mod memory;

@@ -1,11 +1,11 @@
 ghost use Rattle.std.specs.Prelude.{◌≡◌, ◌≤◌, ◌<◌, ◌+◌, ℕ, IfOk, length, true};
 ghost use Rattle.pg_closed.specs.Shadows as shadows;
 ghost use Rattle.pg_stamps.specs.declared.stamps.TheConstants.{PLACE_COUNT};
-ghost use Rattle.pg_shadow_memory.specs.Growing.{Grew, number_by};
+ghost use Rattle.pg_sources.specs.Sources.{Grew, number_by};
 ghost use Rattle.pg_shadow_memory.specs.Loads.{AreKnown, AreNamed, IsByteNode, is_known_byte, shadows_from};
 ghost use Rattle.pg_shadow_memory.specs.Sources.{IsPart, IsSource, byte_shadow};
 
-use crate::growing::added;
+use pg_sources::added;
 use crate::initial::{initial_byte, initial_number};
 use crate::parts::{are_initial, whole};
 use crate::source::ByteSource;

@@ -35,7 +35,7 @@ impl ShadowMemory {
     ghost use Rattle.pg_closed.specs.Known.{start_of};
     ghost use Rattle.pg_closed.specs.Shadows.{loaded, spoiled, stored};
     ghost use Rattle.pg_shadow_memory.specs.declared.source.Held.TheVariants.{Unknown};
-    ghost use Rattle.pg_shadow_memory.specs.Growing.{Grew};
+    ghost use Rattle.pg_sources.specs.Sources.{Grew};
     ghost use Rattle.pg_shadow_memory.specs.Loads.{source_in};
     ghost use Rattle.pg_shadow_memory.specs.Sources.{IsHeld, IsPart, IsPlaceIn, changed, held_shadow};
     ghost use Rattle.pg_shadow_memory.specs.Changes.{AreSources, range_of, shadows_of, sources_of};

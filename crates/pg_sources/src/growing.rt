@@ -9,8 +9,12 @@ use pg_nodes::{Node, Nodes};
 use std::alloc::AllocError;
 
 /// Adds a node, and gives its number.
+///
+/// # Errors
+///
+/// Where no memory is left for it.
 #[tactic(auto, using(crate::proofs::Grows::grew_one, crate::proofs::Grows::grew_none, crate::proofs::Grows::number_of_new, crate::proofs::Grows::length_more))]
-pub(crate) fn added(nodes: &mut Nodes, node: Node) -> Result<u32, AllocError>
+pub fn added(nodes: &mut Nodes, node: Node) -> Result<u32, AllocError>
     requires { IsNode (length nodes.old) node }
     ensures grew { Grew nodes.old nodes.new }
     ensures is { IfOk result (λ k. k < length nodes.new) }

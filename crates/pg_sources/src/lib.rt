@@ -9,6 +9,7 @@ mod pointers;
 mod source;
 mod values;
 
+pub use growing::added;
 pub use operations::operation;
 pub use source::Source;
 pub use values::{constant, from_input, input_length, low_byte, offset, unset, value, within};

@@ -3,7 +3,8 @@ use Rattle.std.proofs.Math.ListN.{length-set}
 use Rattle.std.proofs.lemmas.Result.{IfOk-weaker}
 use Rattle.pg_shadow_memory.specs.Loads.{IsByteNode, source_in}
 use Rattle.pg_shadow_memory.specs.Sources.{byte_shadow}
-use Rattle.pg_shadow_memory.proofs.Grows.{byte_kept, grew_then}
+use Rattle.pg_shadow_memory.proofs.Grows.{byte_kept}
+use Rattle.pg_sources.proofs.Grows.{grew_then}
 use Rattle.pg_shadow_memory.proofs.Reading.{join_read, nodes_next}
 use Rattle.pg_shadow_memory.proofs.load.join.Goals as goal
 

@@ -1,5 +1,5 @@
 use Rattle.std.proofs.Common.{◌≡◌, ◌+◌, ◌<◌, ℕ, length, slice_index}
-use Rattle.pg_shadow_memory.specs.Growing.{Grew}
+use Rattle.pg_sources.specs.Sources.{Grew}
 use Rattle.pg_shadow_memory.specs.Loads.{IsByteNode, source_in}
 use Rattle.pg_shadow_memory.specs.Sources.{byte_shadow}
 use Rattle.pg_shadow_memory.proofs.load.join.Given as goal
