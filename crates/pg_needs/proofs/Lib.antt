@@ -2,3 +2,4 @@ pub mod Added
 pub mod Operands
 pub mod Tests
 pub mod Events
+pub mod Paths

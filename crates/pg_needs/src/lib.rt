@@ -2,7 +2,9 @@
 #![tactic(auto)]
 
 mod asked;
+mod path;
 mod step;
 
 pub use asked::Asked;
+pub use path::path_needs;
 pub use step::step_needs;

@@ -1,4 +1,4 @@
-use Rattle.std.proofs.Common.{map, ◌∷◌, [], ◌≡◌, sym, ap, subst, arith, length, slice_index}
+use Rattle.std.proofs.Common.{map, ◌∷◌, [], ◌≡◌, sym, subst, arith, length, slice_index}
 use Rattle.pg_nodes.specs.declared.check.Test.TheVariants as test
 use Rattle.pg_closed.specs.Rules.{Value}
 use Rattle.pg_sources.specs.Sources.{shadow_by}
