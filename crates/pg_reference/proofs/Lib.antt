@@ -1,0 +1,15 @@
+pub mod Present
+pub mod Uniques
+pub mod Phis
+pub mod Seeks
+pub mod Steps
+pub mod Runs
+pub mod Replays
+pub mod Shorts
+pub mod Frees
+pub mod Rows
+pub mod Told
+pub mod Kept
+pub mod TargetsKept
+pub mod Follows
+pub mod Aparts

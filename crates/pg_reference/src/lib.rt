@@ -1,0 +1,21 @@
+//! A reference run replayed: what its trace lacks of each step.
+#![tactic(auto)]
+
+mod apart;
+mod at;
+mod edge;
+mod follow;
+mod found;
+mod free;
+pub mod laws;
+mod may_set;
+mod replay;
+mod row;
+mod run;
+mod seek;
+mod step;
+mod targets;
+
+pub use follow::cell_start;
+pub use replay::reference;
+pub use run::{FreeAccess, ReferenceRun};
