@@ -1,0 +1,11 @@
+pub mod Along
+pub mod Answered
+pub mod Both
+pub mod Joining
+pub mod Keeping
+pub mod Meeting
+pub mod Notes
+pub mod Placing
+pub mod Powers
+pub mod Tests
+pub mod Walk

@@ -1,0 +1,24 @@
+ghost use Rattle.std.specs.Prelude.{◌≡◌, ◌<◌, Some, length, slice_get};
+
+use pg_ir::ThreadNo;
+
+/// A range of bytes that a step may access: the thread of the step and its interval among the turns, the first
+/// byte and how many there are, whether they may be written, and whether the range is that of a region's access.
+#[derive(Clone, Copy, Debug, PartialEq, Eq)]
+pub struct Footprint {
+    pub thread: ThreadNo,
+    pub low: u32,
+    pub high: u32,
+    pub start: u64,
+    pub bytes: u64,
+    pub writes: bool,
+    pub of_region: bool,
+}
+
+/// The print with this number.
+pub(crate) fn print_at(prints: &[Footprint], i: usize) -> Footprint
+    requires { i < length prints.now }
+    ensures { slice_get prints.now i ≡ Some result }
+{
+    prints[i]
+}

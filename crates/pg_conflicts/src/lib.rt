@@ -1,0 +1,17 @@
+//! Which of the byte ranges that steps may access conflict with one of another thread in an overlapping interval.
+#![tactic(auto)]
+
+mod best;
+mod fast;
+mod footprint;
+pub mod laws;
+mod nodes;
+mod pairs;
+mod pass;
+mod places;
+mod table;
+mod tree;
+
+pub use fast::conflicts;
+pub use footprint::Footprint;
+pub use pairs::conflicts_by_pairs;
