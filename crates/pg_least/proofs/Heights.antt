@@ -1,5 +1,5 @@
 -- How many calls are known of a thread: where it stands still those up to the branch's frame, else all.
-use Rattle.std.proofs.Common.{◌≡◌, ℕ, suc, ◌-◌, Bool, true, false, List, [], ◌∷◌, length, Option, Some, None, refl, sym, ◌∙◌, subst, arith}
+use Rattle.std.proofs.Common.{◌≡◌, ℕ, ◌-◌, Bool, true, false, List, [], ◌∷◌, length, Option, Some, None, refl, sym, ◌∙◌, subst, arith}
 use Rattle.std.specs.Prelude.{if◌then◌else◌}
 use Rattle.std.proofs.lemmas.Bool.{true≢false}
 use Rattle.pg_ir.specs.declared.instr.Instr.{Instr}
@@ -17,29 +17,12 @@ use Rattle.pg_closed.specs.Shadows.{Shadow}
 use Rattle.pg_closed.specs.Extents.{Extent, begun, edge_by, edge_in, ends, open_after}
 use Rattle.pg_closed.specs.Known.{RunShadow, Taken, after_event, after_op, edge_of, is_branch, region_of, result_in, under_top, with_top}
 use Rattle.pg_least.specs.Keeps.{AreStacked, is_branching}
+use Rattle.pg_least.specs.Along.{calls_behind, calls_by_event, calls_by_kind, calls_by_op}
 use Rattle.pg_least.proofs.Live.{calls_by}
 use Rattle.pg_least.proofs.Threads.{calls_after}
 use Rattle.pg_least.proofs.Stands.{begun_free, begun_pinned, begun_some, ends_at, height_by, own_extent, stand, stays, stays_ended, stays_none, stays_on}
 
 -- ---- how many calls there are after a live step
-
-abbrev op_height : Op → ℕ → ℕ
-op_height (op.Call g args) k = suc k
-op_height (op.Ret v) k = k - 1
-op_height o k = k
-
-abbrev event_height : TurnKind → ℕ → ℕ
-event_height turns.Exit k = 0
-event_height kind k = k
-
-abbrev kind_height : Instr → StepKind → ℕ → ℕ
-kind_height x (kinds.Access a) k = k
-kind_height x (kinds.Event v) k = event_height v.kind k
-kind_height x kind k = op_height x.op k
-
-abbrev pub height_after : Option Instr → StepKind → ℕ → ℕ
-height_after None kind k = k
-height_after (Some x) kind k = kind_height x kind k
 
 top_length : (f : List Shadow → List Shadow) (cs : List (List Shadow)) → length (with_top f cs) ≡ length cs
 top_length f [] = refl
@@ -50,7 +33,7 @@ under_length [] = omega arith
 under_length (rs ∷ cs) = omega arith
 
 module _ (p : NumberedProgram) (d : Taken) (n : ℕ) (m : Moment) (region : Option FreeRegion) (s : RunShadow) where
-  op_length : (pinned : Bool) (result : ℕ) (x : Instr) (o : Op) (cs : List (List Shadow)) → length (after_op p pinned n m region result x o cs) ≡ op_height o (length cs)
+  op_length : (pinned : Bool) (result : ℕ) (x : Instr) (o : Op) (cs : List (List Shadow)) → length (after_op p pinned n m region result x o cs) ≡ calls_by_op o (length cs)
   op_length pinned result x (op.Br to) cs = top_length _ cs
   op_length pinned result x (op.CondBr c a b) cs = top_length _ cs
   op_length pinned result x (op.Switch w on other cases) cs = top_length _ cs
@@ -61,7 +44,7 @@ module _ (p : NumberedProgram) (d : Taken) (n : ℕ) (m : Moment) (region : Opti
   op_length pinned result x (op.Gep base indices) cs = top_length _ cs
   op_length pinned result x _ cs = top_length _ cs
 
-  event_length : (v : Event) (kind : TurnKind) (a : Shadow) (x : Instr) (cs : List (List Shadow)) → length (after_event p m v kind a x cs) ≡ event_height kind (length cs)
+  event_length : (v : Event) (kind : TurnKind) (a : Shadow) (x : Instr) (cs : List (List Shadow)) → length (after_event p m v kind a x cs) ≡ calls_by_event kind (length cs)
   event_length v turns.Start a x cs = top_length _ cs
   event_length v turns.Exit a x cs = refl
   event_length v turns.Wait a x cs = refl
@@ -69,37 +52,37 @@ module _ (p : NumberedProgram) (d : Taken) (n : ℕ) (m : Moment) (region : Opti
   event_length v turns.Putchar a x cs = top_length _ cs
   event_length v _ a x cs = top_length _ cs
 
-  kind_length : (x : Instr) (kind : StepKind) (cs : List (List Shadow)) → length (calls_by p d n m region x kind s cs) ≡ kind_height x kind (length cs)
+  kind_length : (x : Instr) (kind : StepKind) (cs : List (List Shadow)) → length (calls_by p d n m region x kind s cs) ≡ calls_by_kind x kind (length cs)
   kind_length x (kinds.Access a) cs = top_length _ cs
   kind_length x (kinds.Event v) cs = event_length v v.kind _ x cs
   kind_length x kind cs = op_length (d.pinned n) (result_in kind) x x.op cs
 
-  pub calls_length : (i : Option Instr) (cs : List (List Shadow)) → length (calls_after p d n m region i s cs) ≡ height_after i m.did.did.kind (length cs)
+  pub calls_length : (i : Option Instr) (cs : List (List Shadow)) → length (calls_after p d n m region i s cs) ≡ calls_behind i m.did.did.kind (length cs)
   calls_length None cs = refl
   calls_length (Some x) cs = kind_length x m.did.did.kind cs
 
 -- ---- a step that takes an edge, and one at a branch, keep it
 
-edge_op : (p : NumberedProgram) (m : Moment) (to k : ℕ) (o : Op) → edge_by p m o ≡ Some to → op_height o k ≡ k
+edge_op : (p : NumberedProgram) (m : Moment) (to k : ℕ) (o : Op) → edge_by p m o ≡ Some to → calls_by_op o k ≡ k
 edge_op p m to k (op.Call g args) h = let z : None ≡ Some to = h in absurd (cc)
 edge_op p m to k (op.Ret v) h = let z : None ≡ Some to = h in absurd (cc)
 edge_op p m to k o h = refl
 
-edge_kind : (p : NumberedProgram) (m : Moment) (to k : ℕ) (x : Instr) (kind : StepKind) → instr_in p m ≡ Some x → edge_of p m kind ≡ Some to → kind_height x kind k ≡ k
+edge_kind : (p : NumberedProgram) (m : Moment) (to k : ℕ) (x : Instr) (kind : StepKind) → instr_in p m ≡ Some x → edge_of p m kind ≡ Some to → calls_by_kind x kind k ≡ k
 edge_kind p m to k x (kinds.Access a) q h = refl
 edge_kind p m to k x (kinds.Event v) q h = let z : None ≡ Some to = h in absurd (cc)
 edge_kind p m to k x kind q h = edge_op p m to k x.op (subst (λ (i : Option Instr). edge_in p m i ≡ Some to) q h)
 
-pub edge_height : (p : NumberedProgram) (m : Moment) (to k : ℕ) (i : Option Instr) (kind : StepKind) → instr_in p m ≡ i → edge_of p m kind ≡ Some to → height_after i kind k ≡ k
+pub edge_height : (p : NumberedProgram) (m : Moment) (to k : ℕ) (i : Option Instr) (kind : StepKind) → instr_in p m ≡ i → edge_of p m kind ≡ Some to → calls_behind i kind k ≡ k
 edge_height p m to k None kind q h = refl
 edge_height p m to k (Some x) kind q h = edge_kind p m to k x kind q h
 
-branch_op : (k : ℕ) (o : Op) → is_branching o ≡ true → op_height o k ≡ k
+branch_op : (k : ℕ) (o : Op) → is_branching o ≡ true → calls_by_op o k ≡ k
 branch_op k (op.Call g args) h = absurd (true≢false (sym h))
 branch_op k (op.Ret v) h = absurd (true≢false (sym h))
 branch_op k o h = refl
 
-branch_kind : (k : ℕ) (x : Instr) (kind : StepKind) → is_branch kind ≡ true → is_branching x.op ≡ true → kind_height x kind k ≡ k
+branch_kind : (k : ℕ) (x : Instr) (kind : StepKind) → is_branch kind ≡ true → is_branching x.op ≡ true → calls_by_kind x kind k ≡ k
 branch_kind k x (kinds.Access a) q h = refl
 branch_kind k x (kinds.Event v) q h = absurd (true≢false (sym q))
 branch_kind k x kind q h = branch_op k x.op h
@@ -115,7 +98,7 @@ region_branch p regions m x r h = go (is_branch m.did.did.kind) refl
         let y : None ≡ Some r = z in absurd (cc)
 
 pub branch_height : (p : NumberedProgram) (regions : Regions) (m : Moment) (i : Option Instr) (r : FreeRegion) (k : ℕ) → region_of p regions m i ≡ Some r →
-    ((x : Instr) → i ≡ Some x → is_branching x.op ≡ true) → height_after i m.did.did.kind k ≡ k
+    ((x : Instr) → i ≡ Some x → is_branching x.op ≡ true) → calls_behind i m.did.did.kind k ≡ k
 branch_height p regions m None r k h b = refl
 branch_height p regions m (Some x) r k h b = branch_kind k x m.did.did.kind (region_branch p regions m x r h) (b x refl)
 

@@ -16,3 +16,4 @@ pub mod Runs
 pub mod Larger
 pub mod Slices
 pub mod Admits
+pub mod Goes

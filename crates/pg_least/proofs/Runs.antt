@@ -21,13 +21,14 @@ use Rattle.pg_closed.specs.Shadows.{Shadow, Unknown, is_within, unset}
 use Rattle.pg_closed.specs.Extents.{Extent, begun, edge_in, ends, is_live, open_after}
 use Rattle.pg_closed.specs.Known.{Reference, RunShadow, Seen, Taken, ThreadShadow, after_op, after_step, edge_of, fresh_thread, is_branch, no_thread, region_of, seen_from, seen_in, start_of, thread_of}
 use Rattle.pg_least.specs.Keeps.{AreStacked, ExtentsKeep, KeepsTo, MaySetPhis, every, is_branching, is_store, may_write, steps_of}
+use Rattle.pg_least.specs.Along.{calls_behind}
 use Rattle.pg_least.proofs.Zips.{all_none, here, replicate_like, there}
 use Rattle.pg_least.proofs.Needs.{SeenLike}
 use Rattle.pg_least.proofs.Links.{IsLink, are_forgotten, forgotten_byte}
 use Rattle.pg_least.proofs.Live.{CallsLike, bytes_like, calls_by, calls_like, known_bytes, top_like, words_like}
 use Rattle.pg_least.proofs.Threads.{bytes_after, bytes_next, calls_after, extents_after, length_next, live_at, made_at, made_by, made_in, next_bytes, next_calls, next_made, own_bytes, own_calls, own_made, own_words, thread_made, thread_other, thread_own, words_behind, words_next}
 use Rattle.pg_least.proofs.Stands.{begun_free, begun_pinned, begun_some, height_by, live_every, live_more, live_stand, not_live, own_extent, stand, stand_in, stand_live, stays_ended, stays_none, stays_on}
-use Rattle.pg_least.proofs.Heights.{branch_height, calls_length, edge_height, height_after, live_height, region_branch, still_height}
+use Rattle.pg_least.proofs.Heights.{branch_height, calls_length, edge_height, live_height, region_branch, still_height}
 use Rattle.pg_least.proofs.Inside.{Above, IsTopForgotten, bytes_kept, calls_kept, made_none, none_above, plain_edge, words_kept}
 
 -- an instance leaves its registers unknown
@@ -197,10 +198,10 @@ module _ (R : Reference) (keeps : ExtentsKeep R) (d e : Taken) (bound : ℕ) (L 
     stacked : AreStacked (length m.calls) edge (begun n (length m.calls) region es)
     stacked = keeps.nested y in_run
 
-    edges : (to : ℕ) → edge ≡ Some to → height_after i kind (length cu) ≡ length cu
+    edges : (to : ℕ) → edge ≡ Some to → calls_behind i kind (length cu) ≡ length cu
     edges to q = edge_height R.program m to (length cu) i kind refl q
 
-    branches : (r : FreeRegion) → region ≡ Some r → height_after i kind (length cu) ≡ length cu
+    branches : (r : FreeRegion) → region ≡ Some r → calls_behind i kind (length cu) ≡ length cu
     branches r q = branch_height R.program R.regions m i r (length cu) q (λ x f. keeps.branches y in_run r q x f)
 
     -- of one thread under decisions c
@@ -208,7 +209,7 @@ module _ (R : Reference) (keeps : ExtentsKeep R) (d e : Taken) (bound : ℕ) (L 
         length (own_calls R.program c n m region v b i) ≡ height_by (stand c (open_after n (length m.calls) region edge es)) (length (own_calls R.program every n m region u true i))
     height_next c v b q h = go (stand c es) refl
       where
-        full : length (own_calls R.program every n m region u true i) ≡ height_after i kind (length cu)
+        full : length (own_calls R.program every n m region u true i) ≡ calls_behind i kind (length cu)
         full = calls_length R.program every n m region u i cu
 
         go : (o : Option Extent) → stand c es ≡ o →
@@ -218,15 +219,15 @@ module _ (R : Reference) (keeps : ExtentsKeep R) (d e : Taken) (bound : ℕ) (L 
             let same : length (thread_of v (thread_in m)).calls ≡ length cu = h ∙ ap (λ (o : Option Extent). height_by o (length cu)) f in
             ap (λ (b : Bool). length (own_calls R.program c n m region v b i)) live
             ∙ calls_length R.program c n m region v i (thread_of v (thread_in m)).calls
-            ∙ ap (height_after i kind) same
-            ∙ live_height c n (length m.calls) region edge es (height_after i kind) (length cu) deep stacked edges branches f
+            ∙ ap (calls_behind i kind) same
+            ∙ live_height c n (length m.calls) region edge es (calls_behind i kind) (length cu) deep stacked edges branches f
             ∙ ap (height_by (stand c (open_after n (length m.calls) region edge es))) (sym full)
         go (Some x) f =
             let in_es = stand_in c es x f in
             let dead : b ≡ false = q ∙ not_live c es x in_es.0 in_es.1 in
             ap (λ (b : Bool). length (own_calls R.program c n m region v b i)) dead
             ∙ (h ∙ ap (λ (o : Option Extent). height_by o (length cu)) f)
-            ∙ still_height c n (length m.calls) region edge es (height_after i kind) (length cu) deep stacked edges branches x f
+            ∙ still_height c n (length m.calls) region edge es (calls_behind i kind) (length cu) deep stacked edges branches x f
             ∙ ap (height_by (stand c (open_after n (length m.calls) region edge es))) (sym full)
 
     height_s : length (next_calls R d n m s) ≡ height_by (stand d (extents_after R every n m u)) (length (next_calls R every n m u))

@@ -2,6 +2,7 @@
 //! freeable branch steps.
 
 ghost use Rattle.pg_closed.specs.Known.{Reference};
+ghost use Rattle.pg_least.specs.Along.{Goes};
 ghost use Rattle.pg_least.specs.Keeps.{ExtentsKeep};
 ghost use Rattle.pg_least.specs.Laws.{AllAreClosed, AsksAreAbove, AsksAreNew, AsksAreOfSteps, ClosedAskNothing, HasSlice, KnownStays, SmallerAdmitsMore};
 
@@ -40,4 +41,9 @@ pub fn smaller_decisions_admit_more()
 /// What is known before a step under some decisions is known under more of them, with the same number on each input.
 pub fn known_values_stay_known()
     ensures { (R : Reference) → ExtentsKeep R → KnownStays R }
+{}
+
+/// What is shown along the moments of a run is what the laws above ask of it.
+pub fn extents_keep_along()
+    ensures { (R : Reference) → Goes R → ExtentsKeep R }
 {}
