@@ -12,8 +12,10 @@ pub mod Likes
 pub mod Stands
 pub mod Heights
 pub mod Inside
+pub mod Instances
 pub mod Runs
 pub mod Larger
 pub mod Slices
 pub mod Admits
 pub mod Goes
+pub mod Example

@@ -4,9 +4,7 @@ use Rattle.std.specs.Prelude.{Contains, slice_index, slice_index_or}
 use Rattle.std.specs.List.{AllZip}
 use Rattle.std.proofs.lemmas.Bool.{true≢false, cases_eq, cases_lt}
 use Rattle.pg_ir.specs.declared.instr.Instr.{Instr}
-use Rattle.pg_ir.specs.declared.instr.Op.{Op}
-use Rattle.pg_ir.specs.declared.instr.Op.TheVariants as op
-use Rattle.pg_ir.specs.Program.{NumberedProgram, types_of}
+use Rattle.pg_ir.specs.Program.{types_of}
 use Rattle.pg_trace.specs.declared.turn.TurnKind.{TurnKind}
 use Rattle.pg_trace.specs.declared.turn.TurnKind.TheVariants as turns
 use Rattle.pg_trace.specs.declared.step.StepKind.{StepKind}
@@ -19,42 +17,18 @@ use Rattle.pg_closed.specs.Moments.{Moment, instr_in, thread_in}
 use Rattle.pg_closed.specs.Freeable.{FreeRegion, frame_of}
 use Rattle.pg_closed.specs.Shadows.{Shadow, Unknown, is_within, unset}
 use Rattle.pg_closed.specs.Extents.{Extent, begun, edge_in, ends, is_live, open_after}
-use Rattle.pg_closed.specs.Known.{Reference, RunShadow, Seen, Taken, ThreadShadow, after_op, after_step, edge_of, fresh_thread, is_branch, no_thread, region_of, seen_from, seen_in, start_of, thread_of}
-use Rattle.pg_least.specs.Keeps.{AreStacked, ExtentsKeep, KeepsTo, MaySetPhis, every, is_branching, is_store, may_write, steps_of}
+use Rattle.pg_closed.specs.Known.{Reference, RunShadow, Seen, Taken, ThreadShadow, after_step, edge_of, fresh_thread, is_branch, no_thread, region_of, seen_from, seen_in, start_of, thread_of}
+use Rattle.pg_least.specs.Keeps.{AreStacked, ExtentsKeep, KeepsTo, MaySetPhis, every, is_store, may_write, steps_of}
 use Rattle.pg_least.specs.Along.{calls_behind}
 use Rattle.pg_least.proofs.Zips.{all_none, here, replicate_like, there}
 use Rattle.pg_least.proofs.Needs.{SeenLike}
-use Rattle.pg_least.proofs.Links.{IsLink, are_forgotten, forgotten_byte}
+use Rattle.pg_least.proofs.Links.{IsLink}
 use Rattle.pg_least.proofs.Live.{CallsLike, bytes_like, calls_by, calls_like, known_bytes, top_like, words_like}
 use Rattle.pg_least.proofs.Threads.{bytes_after, bytes_next, calls_after, extents_after, length_next, live_at, made_at, made_by, made_in, next_bytes, next_calls, next_made, own_bytes, own_calls, own_made, own_words, thread_made, thread_other, thread_own, words_behind, words_next}
 use Rattle.pg_least.proofs.Stands.{begun_free, begun_pinned, begun_some, height_by, live_every, live_more, live_stand, not_live, own_extent, stand, stand_in, stand_live, stays_ended, stays_none, stays_on}
 use Rattle.pg_least.proofs.Heights.{branch_height, calls_length, edge_height, live_height, region_branch, still_height}
+use Rattle.pg_least.proofs.Instances.{branch_plain, instance_bytes, instance_calls}
 use Rattle.pg_least.proofs.Inside.{Above, IsTopForgotten, bytes_kept, calls_kept, made_none, none_above, plain_edge, words_kept}
-
--- an instance leaves its registers unknown
-instance_op : (p : NumberedProgram) (n : ℕ) (m : Moment) (r : FreeRegion) (number : ℕ) (x : Instr) (o : Op) (cs : List (List Shadow)) → is_branching o ≡ true →
-    IsTopForgotten r.sets (Pinned n) (after_op p false n m (Some r) number x o cs)
-instance_op p n m r number x (op.CondBr c a b) [] h = tt
-instance_op p n m r number x (op.CondBr c a b) (rs ∷ cs) h = are_forgotten 0 r.sets (Pinned n) rs
-instance_op p n m r number x (op.Switch w on other cases) [] h = tt
-instance_op p n m r number x (op.Switch w on other cases) (rs ∷ cs) h = are_forgotten 0 r.sets (Pinned n) rs
-instance_op p n m r number x _ cs h = absurd (true≢false (sym h))
-
-instance_calls : (p : NumberedProgram) (d : Taken) (n : ℕ) (m : Moment) (r : FreeRegion) (x : Instr) (kind : StepKind) (s : RunShadow) (cs : List (List Shadow)) → is_branch kind ≡ true →
-    is_branching x.op ≡ true → d.pinned n ≡ false →
-    IsTopForgotten r.sets (Pinned n) (calls_by p d n m (Some r) x kind s cs)
-instance_calls p d n m r x (kinds.Branch c) s cs b h q = rw q (instance_op p n m r 0 x x.op cs h)
-instance_calls p d n m r x _ s cs b h q = absurd (true≢false (sym b))
-
-instance_bytes : (p : NumberedProgram) (d : Taken) (n : ℕ) (m : Moment) (r : FreeRegion) (x : Instr) (kind : StepKind) (s : RunShadow) (b : ℕ) → is_branch kind ≡ true →
-    d.pinned n ≡ false → may_write r.accesses b ≡ true →
-    known_bytes p d n m (Some r) x kind s b ≡ Unknown (Pinned n)
-instance_bytes p d n m r x (kinds.Branch c) s b h q f = rw q (forgotten_byte r.accesses (Pinned n) s.bytes b ∙ (rw f refl))
-instance_bytes p d n m r x _ s b h q f = absurd (true≢false (sym h))
-
-branch_plain : (kind : StepKind) → is_branch kind ≡ true → happening_in kind ≡ None
-branch_plain (kinds.Branch c) h = refl
-branch_plain _ h = absurd (true≢false (sym h))
 
 module _ (R : Reference) (keeps : ExtentsKeep R) (d e : Taken) (bound : ℕ) (L : Shadow → Shadow → Type 0) (k : IsLink d e bound L) where
   -- where a thread stands still: at an unpinned freeable branch step, whose instance is unknown

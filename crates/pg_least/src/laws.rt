@@ -4,6 +4,7 @@
 ghost use Rattle.pg_closed.specs.Known.{Reference};
 ghost use Rattle.pg_least.specs.Along.{Goes};
 ghost use Rattle.pg_least.specs.Keeps.{ExtentsKeep};
+ghost use Rattle.pg_least.specs.Kept.{kept};
 ghost use Rattle.pg_least.specs.Laws.{AllAreClosed, AsksAreAbove, AsksAreNew, AsksAreOfSteps, ClosedAskNothing, HasSlice, KnownStays, SmallerAdmitsMore};
 
 /// No decision that is asked for is taken, and each fixes a step of the run: decisions that take in what they ask for
@@ -46,4 +47,10 @@ pub fn known_values_stay_known()
 /// What is shown along the moments of a run is what the laws above ask of it.
 pub fn extents_keep_along()
     ensures { (R : Reference) → Goes R → ExtentsKeep R }
+{}
+
+/// There are such runs: this one stores in an extent.
+pub fn a_run_keeps_its_extents()
+    ensures along { Goes kept }
+    ensures kept { ExtentsKeep kept }
 {}
