@@ -16,7 +16,7 @@ use Rattle.pg_least.proofs.Zips.{cases_in, here, index_like, none_in, there}
 use Rattle.pg_least.proofs.Links.{IsLink}
 use Rattle.pg_least.proofs.Likes.{IsFramedBy, Likes, likes_link}
 use Rattle.pg_least.proofs.Needs.{NeedLike, NeedsWithin, SeenLike, frames_within, values_within}
-use Rattle.pg_least.proofs.Runs.{run_like}
+use Rattle.pg_least.proofs.Whole.{run_like}
 use Rattle.pg_least.proofs.Asks.{all_in, in_all_of, of_all}
 use Rattle.pg_least.proofs.Larger.{partner}
 

@@ -56,7 +56,7 @@ asks_none R d closed = all_none (all_of (asks_at R d (seen_in R d)) (seen_in R d
 pub closed_where : (R : Reference) (d : Taken) → asks R d ≡ [] → IsClosed R d
 closed_where R d h = closed_if R d (λ x c. none_in x (subst (λ (xs : List Decision). Contains xs x) h c))
 
-in_every : (x : Decision) → has every x ≡ true
+pub in_every : (x : Decision) → has every x ≡ true
 in_every (Pinned n) = refl
 in_every (Exact n) = refl
 

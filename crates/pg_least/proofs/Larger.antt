@@ -16,7 +16,7 @@ use Rattle.pg_least.proofs.Zips.{cases_in, here, none_in, there}
 use Rattle.pg_least.proofs.Links.{IsLink}
 use Rattle.pg_least.proofs.Likes.{Likes, likes_link}
 use Rattle.pg_least.proofs.Needs.{NeedLike, NeedsWithin, SeenLike, frames_within, seen_as, values_within}
-use Rattle.pg_least.proofs.Runs.{run_like}
+use Rattle.pg_least.proofs.Whole.{run_like}
 use Rattle.pg_least.proofs.Asks.{By_disturbed, By_frames, By_pins, By_shared, By_values, IsAskedBy, all_in, asked_by, asked_if, in_all_of, none_asked, of_all}
 
 -- ---- lists that are alike

@@ -14,6 +14,7 @@ pub mod Heights
 pub mod Inside
 pub mod Instances
 pub mod Runs
+pub mod Whole
 pub mod Larger
 pub mod Slices
 pub mod Admits

@@ -1,5 +1,5 @@
 -- Along a reference run, what is known under some decisions and under more of them is alike.
-use Rattle.std.proofs.Common.{◌≡◌, ℕ, zero, suc, ◌+◌, ◌-◌, ◌<◌, ◌≤◌, Bool, true, false, List, [], ◌∷◌, ◌++◌, length, Option, Some, None, refl, sym, ap, ◌∙◌, subst, inl, inr, ◌⊎◌, arith}
+use Rattle.std.proofs.Common.{◌≡◌, ℕ, zero, suc, ◌-◌, ◌<◌, ◌≤◌, Bool, true, false, List, [], ◌++◌, length, Option, Some, None, refl, sym, ap, ◌∙◌, subst, inl, inr, ◌⊎◌, arith}
 use Rattle.std.specs.Prelude.{Contains, slice_index, slice_index_or}
 use Rattle.std.specs.List.{AllZip}
 use Rattle.std.proofs.lemmas.Bool.{true≢false, cases_eq, cases_lt}
@@ -17,10 +17,10 @@ use Rattle.pg_closed.specs.Moments.{Moment, instr_in, thread_in}
 use Rattle.pg_closed.specs.Freeable.{FreeRegion, frame_of}
 use Rattle.pg_closed.specs.Shadows.{Shadow, Unknown, is_within, unset}
 use Rattle.pg_closed.specs.Extents.{Extent, begun, edge_in, ends, is_live, open_after}
-use Rattle.pg_closed.specs.Known.{Reference, RunShadow, Seen, Taken, ThreadShadow, after_step, edge_of, fresh_thread, is_branch, no_thread, region_of, seen_from, seen_in, start_of, thread_of}
+use Rattle.pg_closed.specs.Known.{Reference, RunShadow, Seen, Taken, ThreadShadow, after_step, edge_of, fresh_thread, is_branch, no_thread, region_of, start_of, thread_of}
 use Rattle.pg_least.specs.Keeps.{AreStacked, ExtentsKeep, KeepsTo, MaySetPhis, every, is_store, may_write, steps_of}
 use Rattle.pg_least.specs.Along.{calls_behind}
-use Rattle.pg_least.proofs.Zips.{all_none, here, replicate_like, there}
+use Rattle.pg_least.proofs.Zips.{all_none, replicate_like}
 use Rattle.pg_least.proofs.Needs.{SeenLike}
 use Rattle.pg_least.proofs.Links.{IsLink}
 use Rattle.pg_least.proofs.Live.{CallsLike, bytes_like, calls_by, calls_like, known_bytes, top_like, words_like}
@@ -101,7 +101,7 @@ module _ (R : Reference) (keeps : ExtentsKeep R) (d e : Taken) (bound : ℕ) (L 
   made_plain m None q = refl
   made_plain m (Some x) q = made_none R.program m.did.did.kind q
 
-  start_like : RunLike (start_of R.program) (start_of R.program) (start_of R.program)
+  pub start_like : RunLike (start_of R.program) (start_of R.program) (start_of R.program)
   start_like = record {
     fewer = refl;
     as_many = refl;
@@ -518,21 +518,14 @@ module _ (R : Reference) (keeps : ExtentsKeep R) (d e : Taken) (bound : ℕ) (L 
       words = like.words;
     }
 
-  -- ---- the run
+    -- ---- what is left out
 
-  each_like : (n : ℕ) (s t u : RunShadow) (ms : List Moment) → n + length ms ≤ bound → RunLike s t u →
-      ((z : Seen) → Contains (seen_from R every n u ms) z → Contains (steps_of R) z) → AllZip (SeenLike L) (seen_from R d n s ms) (seen_from R e n t ms)
-  unfolding seen_from
-  each_like n s t u [] l like c = tt
-  each_like n s t u (m ∷ ms) l like c =
-      let below : n < bound = omega (arith, l) in
-      let in_run = c _ (here _ (seen_from R every (suc n) (after_step R every n m u) ms)) in (
-        seen_like n below m s t u like in_run,
-        each_like (suc n) (after_step R d n m s) (after_step R e n m t) (after_step R every n m u) ms (omega (arith, l)) (step_like n below m s t u like in_run)
-            (λ z q. c z (there _ (seen_from R every (suc n) (after_step R every n m u) ms) z q)),
-      )
+    pub left_out : live_at R d n m s ≡ false → happening_in kind ≡ None
+    left_out q = go (stand d es) refl
+      where
+        go : (o : Option Extent) → stand d es ≡ o → happening_in kind ≡ None
+        go None h = absurd (true≢false (sym (stand_live d es h) ∙ sym live_s ∙ q))
+        go (Some x) h = (keep x h).plain
 
--- what is known before each step under d and under e
-pub run_like : (R : Reference) → ExtentsKeep R → (d e : Taken) (L : Shadow → Shadow → Type 0) → IsLink d e (length R.moments) L → AllZip (SeenLike L) (seen_in R d) (seen_in R e)
-run_like R keeps d e L k = each_like R keeps d e (length R.moments) L k 0 (start_of R.program) (start_of R.program) (start_of R.program) R.moments (omega arith)
-    (start_like R keeps d e (length R.moments) L k) (λ z c. c)
+    pub same_extents : (j : ℕ) → (thread_of s j).extents ≡ (thread_of t j).extents
+    same_extents j = (like.threads j).first ∙ sym (like.threads j).second

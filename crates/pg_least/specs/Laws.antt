@@ -1,13 +1,14 @@
 -- What the laws say of a reference run and its decisions.
-use Rattle.std.specs.Prelude.{◌≡◌, ◌↔◌, ℕ, ◌<◌, ℤ, List, [], length, Contains, true, false, slice_index_or}
-use Rattle.std.specs.List.{AllZip}
+use Rattle.std.specs.Prelude.{◌≡◌, ◌↔◌, ℕ, ◌<◌, ℤ, List, [], length, Contains, true, false, None, slice_index_or}
+use Rattle.std.specs.List.{AllZip, AllByRecursion}
+use Rattle.pg_trace.specs.Steps.{happening_in}
 use Rattle.pg_closed.specs.declared.decision.Decision.{Decision}
 use Rattle.pg_closed.specs.declared.decision.Decision.TheVariants.{Pinned, Exact}
 use Rattle.pg_closed.specs.Closed.{AreWithin, IsClosed, IsSlice, admits, asks}
 use Rattle.pg_closed.specs.Known.{Reference, Seen, Taken, has, seen_in}
-use Rattle.pg_closed.specs.Rules.{registers_before}
+use Rattle.pg_closed.specs.Rules.{kind_in, registers_before}
 use Rattle.pg_closed.specs.Shadows.{OnInput, Known, unset}
-use Rattle.pg_least.specs.Keeps.{every}
+use Rattle.pg_least.specs.Keeps.{every, open_in, steps_of}
 
 -- the number of the step that a decision fixes
 abbrev pub step_in : Decision → ℕ
@@ -52,3 +53,17 @@ pub record StayKnown (x y : Seen) : Type 0 where
 -- what is known before each step under some decisions is known under more of them
 abbrev pub KnownStays : Reference → Type 0
 KnownStays R = (d e : Taken) → AreWithin d e → AllZip StayKnown (seen_in R d) (seen_in R e)
+
+-- a step that is left out, since it lies in an extent whose branch step isn't pinned, is no event
+abbrev pub IsPlain : Seen → Type 0
+IsPlain x = x.live ≡ false → happening_in (kind_in x) ≡ None
+
+abbrev pub LeftOutArePlain : Reference → Type 0
+LeftOutArePlain R = (d : Taken) → AllByRecursion IsPlain (seen_in R d)
+
+-- the extents that are open before a step rest on no decision
+abbrev pub SameExtents : Seen → Seen → Type 0
+SameExtents x y = (t : ℕ) → open_in x t ≡ open_in y t
+
+abbrev pub ExtentsStay : Reference → Type 0
+ExtentsStay R = (d : Taken) → AllZip SameExtents (seen_in R d) (steps_of R)

@@ -5,7 +5,7 @@ ghost use Rattle.pg_closed.specs.Known.{Reference};
 ghost use Rattle.pg_least.specs.Along.{Goes};
 ghost use Rattle.pg_least.specs.Keeps.{ExtentsKeep};
 ghost use Rattle.pg_least.specs.Kept.{kept};
-ghost use Rattle.pg_least.specs.Laws.{AllAreClosed, AsksAreAbove, AsksAreNew, AsksAreOfSteps, ClosedAskNothing, HasSlice, KnownStays, SmallerAdmitsMore};
+ghost use Rattle.pg_least.specs.Laws.{AllAreClosed, AsksAreAbove, AsksAreNew, AsksAreOfSteps, ClosedAskNothing, ExtentsStay, HasSlice, KnownStays, LeftOutArePlain, SmallerAdmitsMore};
 
 /// No decision that is asked for is taken, and each fixes a step of the run: decisions that take in what they ask for
 /// grow, until they are closed.
@@ -42,6 +42,16 @@ pub fn smaller_decisions_admit_more()
 /// What is known before a step under some decisions is known under more of them, with the same number on each input.
 pub fn known_values_stay_known()
     ensures { (R : Reference) → ExtentsKeep R → KnownStays R }
+{}
+
+/// What is left out under some decisions is no event, so the events of a run are steps that are live.
+pub fn steps_left_out_are_no_events()
+    ensures { (R : Reference) → ExtentsKeep R → LeftOutArePlain R }
+{}
+
+/// Which extents are open before a step rests on no decision.
+pub fn extents_rest_on_no_decision()
+    ensures { (R : Reference) → ExtentsKeep R → ExtentsStay R }
 {}
 
 /// What is shown along the moments of a run is what the laws above ask of it.
