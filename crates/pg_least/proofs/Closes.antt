@@ -1,5 +1,5 @@
 -- Decisions are closed where nothing is asked for; all of them are.
-use Rattle.std.proofs.Common.{◌≡◌, true, List, [], ◌++◌, refl, subst, sym, ◌∙◌}
+use Rattle.std.proofs.Common.{◌≡◌, Bool, true, false, List, [], ◌++◌, refl, subst, sym, ◌∙◌}
 use Rattle.std.specs.Prelude.{Contains}
 use Rattle.std.proofs.lemmas.List.Elements.{Contains-append_left, Contains-append_right}
 use Rattle.std.proofs.lemmas.Bool.{true≢false}
@@ -7,7 +7,7 @@ use Rattle.pg_closed.specs.declared.decision.Decision.{Decision}
 use Rattle.pg_closed.specs.declared.decision.Decision.TheVariants.{Pinned, Exact}
 use Rattle.pg_closed.specs.Known.{Reference, Seen, Taken, has, seen_in}
 use Rattle.pg_closed.specs.Rules.{all_of, asks_disturbed, asks_frames, asks_pins, asks_shared, asks_values}
-use Rattle.pg_closed.specs.Closed.{IsClosed, asks, asks_at}
+use Rattle.pg_closed.specs.Closed.{IsClosed, IsSlice, asks, asks_at}
 use Rattle.pg_least.specs.Keeps.{every}
 use Rattle.pg_least.proofs.Zips.{all_none, none_in}
 use Rattle.pg_least.proofs.Asks.{By_disturbed, By_frames, By_pins, By_shared, By_values, IsAskedBy, asked_by, in_all_of, none_asked, of_all}
@@ -62,3 +62,12 @@ in_every (Exact n) = refl
 
 pub all_closed : (R : Reference) → IsClosed R every
 all_closed R = closed_if R every (λ x c. true≢false (sym (in_every x) ∙ (asks_new R every x c).0))
+
+-- two slices
+pub one_slice : (R : Reference) (d e : Taken) → IsSlice R d → IsSlice R e → (x : Decision) → has d x ≡ has e x
+one_slice R d e f g x = go (has d x) (has e x) refl refl
+  where
+    go : (a b : Bool) → has d x ≡ a → has e x ≡ b → has d x ≡ has e x
+    go true b p q = p ∙ sym (f.least e g.closed x p)
+    go false true p q = g.least d f.closed x q ∙ sym q
+    go false false p q = p ∙ sym q

@@ -1,5 +1,6 @@
 -- The same, followed along the moments of a run: what is to be shown of a machine's run.
-use Rattle.std.specs.Prelude.{◌≡◌, ℕ, suc, ◌+◌, ◌-◌, ◌==◌, ◌<◌, ◌≤◌, not, List, [], ◌∷◌, length, map, filter, Contains, true, Option, Some, None, if◌then◌else◌}
+use Rattle.std.specs.Prelude.{◌≡◌, ℕ, suc, ◌+◌, ◌-◌, ◌==◌, ◌<◌, ◌≤◌, not, List}
+use Rattle.std.specs.Prelude.{[], ◌∷◌, length, map, filter, Contains, true, Option, Some, None, if◌then◌else◌}
 use Rattle.pg_ir.specs.declared.instr.Instr.{Instr}
 use Rattle.pg_ir.specs.declared.instr.Op.{Op}
 use Rattle.pg_ir.specs.declared.instr.Op.TheVariants as op

@@ -39,6 +39,10 @@ AsksAreAbove R = (d e : Taken) → IsClosed R e → AreWithin d e → (x : Decis
 abbrev pub HasSlice : Reference → Type 0
 HasSlice R = (d : Taken) × IsSlice R d
 
+-- two such have the same decisions
+abbrev pub SliceIsOne : Reference → Type 0
+SliceIsOne R = (d e : Taken) → IsSlice R d → IsSlice R e → (x : Decision) → has d x ≡ has e x
+
 -- what some decisions admit fewer of them admit too
 abbrev pub SmallerAdmitsMore : Reference → Type 0
 SmallerAdmitsMore R = (d e : Taken) → AreWithin d e → (input : List ℤ) → admits R e input ≡ true → admits R d input ≡ true

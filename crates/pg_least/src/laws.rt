@@ -5,7 +5,7 @@ ghost use Rattle.pg_closed.specs.Known.{Reference};
 ghost use Rattle.pg_least.specs.Along.{Goes};
 ghost use Rattle.pg_least.specs.Keeps.{ExtentsKeep};
 ghost use Rattle.pg_least.specs.Kept.{kept};
-ghost use Rattle.pg_least.specs.Laws.{AllAreClosed, AsksAreAbove, AsksAreNew, AsksAreOfSteps, ClosedAskNothing, ExtentsStay, HasSlice, KnownStays, LeftOutArePlain, SmallerAdmitsMore};
+ghost use Rattle.pg_least.specs.Laws.{AllAreClosed, AsksAreAbove, AsksAreNew, AsksAreOfSteps, ClosedAskNothing, ExtentsStay, HasSlice, KnownStays, LeftOutArePlain, SliceIsOne, SmallerAdmitsMore};
 
 /// No decision that is asked for is taken, and each fixes a step of the run: decisions that take in what they ask for
 /// grow, until they are closed.
@@ -29,9 +29,10 @@ pub fn asks_are_above()
     ensures { (R : Reference) → ExtentsKeep R → AsksAreAbove R }
 {}
 
-/// Some closed decisions are contained in all that are closed: the slice.
+/// Some closed decisions are contained in all that are closed: the slice, of which there is one.
 pub fn some_decisions_are_least()
-    ensures { (R : Reference) → ExtentsKeep R → HasSlice R }
+    ensures some { (R : Reference) → ExtentsKeep R → HasSlice R }
+    ensures one { (R : Reference) → SliceIsOne R }
 {}
 
 /// What some decisions admit fewer of them admit too; so the slice admits the most inputs of all closed decisions.
