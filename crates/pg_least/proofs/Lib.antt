@@ -1,0 +1,22 @@
+-- Proofs of the laws.
+pub mod Zips
+pub mod Links
+pub mod Live
+pub mod Threads
+pub mod New
+pub mod Needs
+pub mod Asks
+pub mod Missing
+pub mod Closes
+pub mod Likes
+pub mod Stands
+pub mod Heights
+pub mod Inside
+pub mod Instances
+pub mod Runs
+pub mod Whole
+pub mod Larger
+pub mod Slices
+pub mod Admits
+pub mod Goes
+pub mod Example

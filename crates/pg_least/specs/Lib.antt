@@ -1,0 +1,4 @@
+pub mod Keeps
+pub mod Laws
+pub mod Along
+pub mod Kept
