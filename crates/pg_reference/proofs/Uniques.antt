@@ -10,7 +10,7 @@ use Rattle.pg_accesses.specs.Tables.{in_table}
 use Rattle.pg_accesses.proofs.Elements.{here, there, cases, none_in}
 use Rattle.pg_region.specs.declared.region.Region.{Region}
 use Rattle.pg_region.specs.Regions.{flow_of, IsRegion, IsSmaller, RegionOf}
-use Rattle.pg_region.proofs.Ascending.{below, tail_of}
+use Rattle.pg_accesses.proofs.Ascending.{below, tail_of}
 use Rattle.pg_closed.specs.Freeable.{BranchRegion}
 use Rattle.pg_reference.specs.declared.found.FoundRegion.{FoundRegion}
 use Rattle.pg_reference.specs.declared.found.Sought.{Sought}

@@ -5,13 +5,13 @@ ghost use Rattle.pg_sources.specs.Sources.{Grew, number_by};
 ghost use Rattle.pg_shadow_memory.specs.Loads.{AreKnown, AreNamed, IsByteNode, is_known_byte, shadows_from};
 ghost use Rattle.pg_shadow_memory.specs.Sources.{IsPart, IsSource, byte_shadow};
 
-use pg_sources::added;
 use crate::initial::{initial_byte, initial_number};
 use crate::parts::{are_initial, whole};
 use crate::source::ByteSource;
 use pg_ir::Program;
 use pg_nodes::{CastKind, Node, Nodes};
 use pg_num::Width;
+use pg_sources::added;
 use std::alloc::AllocError;
 
 /// The node of a byte that is known.
@@ -29,13 +29,7 @@ fn byte_node(
 {
     match source {
         ByteSource::Initial => added(nodes, Node::Const(initial_byte(p, byte) as u64)),
-        ByteSource::Part { of, at } => added(
-            nodes,
-            Node::Byte {
-                of,
-                at,
-            },
-        ),
+        ByteSource::Part { of, at } => added(nodes, Node::Byte { of, at }),
         ByteSource::Unknown(_) => unreachable!(),
     }
 }
@@ -61,13 +55,7 @@ fn join(
     for k in 0..count {
         parts[k as usize] = byte_node(p, nodes, start + k as u64, sources[k as usize])?;
     }
-    added(
-        nodes,
-        Node::Join {
-            parts,
-            count,
-        },
-    )
+    added(nodes, Node::Join { parts, count })
 }
 
 /// The node of the number that known bytes from a place on make, the lowest first.

@@ -6,10 +6,7 @@ pub enum ByteSource {
     /// It is as before the first step.
     Initial,
     /// The byte `at` of the number of node `of`, from 0 to 7, the lowest first.
-    Part {
-        of: u32,
-        at: u8,
-    },
+    Part { of: u32, at: u8 },
     /// Nothing; the decision is blamed.
     Unknown(Decision),
 }
