@@ -1,3 +1,9 @@
 pub mod Moves
 pub mod Paths
 pub mod Values
+pub mod Places
+pub mod Stepped
+pub mod Edges
+pub mod Called
+pub mod Tops
+pub mod Actions

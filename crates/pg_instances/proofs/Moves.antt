@@ -5,7 +5,7 @@ use Rattle.pg_num.specs.Pointers.{moved_by, offset_of, pointer_of}
 use Rattle.pg_num.specs.Places.{ByteRange}
 use Rattle.pg_num.proofs.Moves.{start-moved_by, length-moved_by}
 use Rattle.pg_paths.specs.Paths.{moved_offset}
-use Rattle.pg_instances.specs.Frames.{frame_of}
+use Rattle.pg_closed.specs.Freeable.{frame_of}
 
 pub frame_moved : (word : ℕ) (delta : ℤ) → frame_of (moved_by word delta) ≡ frame_of word
 frame_moved word delta = let a = start-moved_by word delta in let b = length-moved_by word delta in rw (a, b) refl

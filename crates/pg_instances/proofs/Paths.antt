@@ -31,7 +31,7 @@ use Rattle.pg_paths.specs.Followed.{Followed, followed_from, cell_at, cell_in, r
 use Rattle.pg_accesses.specs.declared.rooted.Rooted.{Rooted}
 use Rattle.pg_step.specs.Operands.{operand, number_at, argument, optional_operand, given, flat, pointer_to}
 use Rattle.pg_step.specs.Compute.{index_bytes, moved_along}
-use Rattle.pg_instances.specs.Frames.{FreeAccess, frame_of}
+use Rattle.pg_closed.specs.Freeable.{FreeAccess, frame_of}
 use Rattle.pg_instances.specs.Leads.{IsLoaded, IsReached, IsWithin, Leads, IsMoved, HasPath, KeepsCells}
 use Rattle.pg_instances.proofs.Moves.{frame_moved, moved_moved, moved_twice}
 

@@ -25,7 +25,7 @@ use Rattle.pg_accesses.specs.declared.rooted.Rooted.{Rooted}
 use Rattle.pg_accesses.proofs.Elements.{here, there, only_here, cases}
 use Rattle.pg_step.specs.Operands.{operand, number_at, flat, pointer_to}
 use Rattle.pg_step.specs.Compute.{moved_along}
-use Rattle.pg_instances.specs.Frames.{FreeAccess, frame_of}
+use Rattle.pg_closed.specs.Freeable.{FreeAccess, frame_of}
 use Rattle.pg_instances.specs.Leads.{IsLoaded, IsReached, IsWithin, Leads, IsMoved, HasPath, KeepsCells}
 use Rattle.pg_instances.proofs.Moves.{frame_moved, moved_moved, moved_twice}
 use Rattle.pg_instances.proofs.Paths.{within_memory, within_frame, same_frame, gep_moved, FollowsBoth, follows_both, LoadsFirst, loads_first, loads_again}

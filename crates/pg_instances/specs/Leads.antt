@@ -8,7 +8,7 @@ use Rattle.pg_paths.specs.declared.path.Path.{Path}
 use Rattle.pg_paths.specs.Paths.{root_path_of}
 use Rattle.pg_paths.specs.Followed.{Followed, followed}
 use Rattle.pg_accesses.specs.declared.rooted.Rooted.{Rooted}
-use Rattle.pg_instances.specs.Frames.{FreeAccess, frame_of}
+use Rattle.pg_closed.specs.Freeable.{FreeAccess, frame_of}
 
 -- ---- recorded frames
 

@@ -1,2 +1,2 @@
-pub mod Frames
 pub mod Leads
+pub mod Inside
