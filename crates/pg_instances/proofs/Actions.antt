@@ -51,21 +51,23 @@ use Rattle.pg_instances.proofs.Edges.{edge_stands, target_fits, successors_of, c
 use Rattle.pg_instances.proofs.Called.{value_has, argument_set, IsCalled, called_quiet, called_set}
 use Rattle.pg_instances.proofs.Tops.{AtJoin, Arrived, Top, top_of}
 
--- an access through this pointer lies in its frame, which is the recorded frame of an access of its kind
-pub record Accesses (I : Instance) (writes : Bool) (word : ℕ) (r : ByteRange) : Type 0 where
+-- an access through this pointer, of an instruction that isn't gated, lies in its frame, which is the recorded frame of an access
+-- of its kind
+pub record Accesses (I : Instance) (place : ℕ) (writes : Bool) (word : ℕ) (r : ByteRange) : Type 0 where
+  pub plain : I.gated place ≡ false
   pub reached : IsReached I.recorded writes (frame_of word)
   pub within : IsWithin r (frame_of word)
 
 -- where the actions of an operation lead, in a state with this memory: none is an event
-abbrev pub Goes : Instance → (ByteRange → ℕ) → LocalState → List (Option ℕ) → Instr → Op → Action → Type 0
-Goes I m l rs x o actions.Local = Arrived I (op_after I.program l x 0 o)
-Goes I m l rs x o (actions.In i) = (n : ℕ) → Arrived I (op_after I.program l x n o)
-Goes I m l rs x o actions.InLen = (n : ℕ) → Arrived I (op_after I.program l x n o)
-Goes I m l rs x o (actions.Load r) = Accesses I false (number_at I.program rs (operands_of o) 0) r × Arrived I (op_after I.program l x (m r) o)
-Goes I m l rs x o (actions.Store r n) = Accesses I true (number_at I.program rs (operands_of o) 1) r × Arrived I (op_after I.program l x 0 o)
-Goes I m l rs x o (actions.Event r) = ⊥
-Goes I m l rs x o (actions.Trap name) = Unit {0}
-Goes I m l rs x o actions.Ended = Unit {0}
+abbrev pub Goes : Instance → (ByteRange → ℕ) → LocalState → ℕ → List (Option ℕ) → Instr → Op → Action → Type 0
+Goes I m l place rs x o actions.Local = Arrived I (op_after I.program l x 0 o)
+Goes I m l place rs x o (actions.In i) = (n : ℕ) → Arrived I (op_after I.program l x n o)
+Goes I m l place rs x o actions.InLen = (n : ℕ) → Arrived I (op_after I.program l x n o)
+Goes I m l place rs x o (actions.Load r) = Accesses I place false (number_at I.program rs (operands_of o) 0) r × Arrived I (op_after I.program l x (m r) o)
+Goes I m l place rs x o (actions.Store r n) = Accesses I place true (number_at I.program rs (operands_of o) 1) r × Arrived I (op_after I.program l x 0 o)
+Goes I m l place rs x o (actions.Event r) = ⊥
+Goes I m l place rs x o (actions.Trap name) = Unit {0}
+Goes I m l place rs x o actions.Ended = Unit {0}
 
 -- ---- actions with what is known of them
 
@@ -87,15 +89,16 @@ place_known Q word bytes act t h = go (place_of word bytes) refl
 -- ---- accesses of single instructions
 
 -- a single access
-pub record OneAccess (i : ℕ) (writes : Bool) (o : Option Path) (zs : RootedList) : Type 0 where
+pub record OneAccess (gated : Bool) (i : ℕ) (writes : Bool) (o : Option Path) (zs : RootedList) : Type 0 where
+  pub plain : gated ≡ false
   pub path : Path
   pub is_path : o ≡ Some path
   pub among : zs ≡ record { instr = record { 0 = i }; writes = writes; path = root_path_of path } ∷ []
 
-one_is : (gated : Bool) (i : ℕ) (writes : Bool) (o : Option Path) (zs : RootedList) → cond gated None (one_access i writes o) ≡ Some zs → OneAccess i writes o zs
+one_is : (gated : Bool) (i : ℕ) (writes : Bool) (o : Option Path) (zs : RootedList) → cond gated None (one_access i writes o) ≡ Some zs → OneAccess gated i writes o zs
 one_is true i writes o zs e = absurd cc
 one_is false i writes None zs e = absurd cc
-one_is false i writes (Some q) zs e = record { path = q; is_path = refl; among = cc }
+one_is false i writes (Some q) zs e = record { plain = refl; path = q; is_path = refl; among = cc }
 
 may : (b : Bool) (zs : RootedList) → cond b (Some []) None ≡ Some zs → b ≡ true
 may true zs e = refl
@@ -168,7 +171,7 @@ module _ (I : Instance) (program : IsProgram I.program) (sums : AreSummaries I.p
   rs = f.registers
 
   abbrev Q : Op → Action → Type 0
-  Q o = Goes I m l rs x o
+  Q o = Goes I m l f.place rs x o
 
   abbrev paths : ℕ → Option Path
   paths = table I top.set f top.stands
@@ -222,7 +225,7 @@ module _ (I : Instance) (program : IsProgram I.program) (sums : AreSummaries I.p
   known_goes known.PgInLen args zs e q = λ n. straight (op.CallKnown known.PgInLen args) e refl _ (λ q k. absurd cc)
   known_goes _ args zs e q = absurd cc
 
-  load_goes : (w : Width) (from : Value) (zs : RootedList) → x.op ≡ op.Load w from → OneAccess f.place false (value_path paths from) zs → Leading zs → Q (op.Load w from) (op_action I.program (region_of l) halfway rs (length (f ∷ fs)) (total (f ∷ fs)) x.block.0 (op.Load w from))
+  load_goes : (w : Width) (from : Value) (zs : RootedList) → x.op ≡ op.Load w from → OneAccess (I.gated f.place) f.place false (value_path paths from) zs → Leading zs → Q (op.Load w from) (op_action I.program (region_of l) halfway rs (length (f ∷ fs)) (total (f ∷ fs)) x.block.0 (op.Load w from))
   load_goes w from zs e one h =
       on_value_is (Q (op.Load w from)) (operand I.program rs from) _ (λ n. tt) (λ a o.
       place_known (Q (op.Load w from)) a (bytes_of w) _ (λ n. tt) (λ r t. (accessed a o r t, straight (op.Load w from) e refl (m r % modulus w) (λ q k. loads a o r t q is_pointer refl k))))
@@ -236,8 +239,8 @@ module _ (I : Instance) (program : IsProgram I.program) (sums : AreSummaries I.p
       lead : Leads I.program top.set.registers I.memory I.recorded access
       lead = h access (subst (λ (l : RootedList). Contains l access) (sym one.among) (here access []))
 
-      accessed : (a : ℕ) → operand I.program rs from ≡ Some a → (r : ByteRange) → place_of a (bytes_of w) ≡ Ok r → Accesses I false (given (operand I.program rs from)) r
-      accessed a o r t = rw o (record { reached = access_reached I.program top.set.registers I.memory I.recorded access one.path a lead refl (has a o); within = within_frame a (bytes_of w) r t })
+      accessed : (a : ℕ) → operand I.program rs from ≡ Some a → (r : ByteRange) → place_of a (bytes_of w) ≡ Ok r → Accesses I f.place false (given (operand I.program rs from)) r
+      accessed a o r t = rw o (record { plain = one.plain; reached = access_reached I.program top.set.registers I.memory I.recorded access one.path a lead refl (has a o); within = within_frame a (bytes_of w) r t })
 
       width : is_pointer ≡ true → W64 ≡ w
       width p =
@@ -263,7 +266,7 @@ module _ (I : Instance) (program : IsProgram I.program) (sums : AreSummaries I.p
               go (Err g) u v = absurd cc
               go (Ok s) u v = let z : s ≡ r = cc in let n : r.bytes ≡ 8 = subst (λ (y : ByteRange). y.bytes ≡ 8) z v in let k : m r < 2 ^ (8 * 8) = subst (λ (y : ℕ). m r < 2 ^ (8 * y)) n (small r) in k
 
-  store_goes : (w : Width) (v to : Value) (zs : RootedList) → x.op ≡ op.Store w v to → OneAccess f.place true (value_path paths to) zs → Leading zs → Q (op.Store w v to) (op_action I.program (region_of l) halfway rs (length (f ∷ fs)) (total (f ∷ fs)) x.block.0 (op.Store w v to))
+  store_goes : (w : Width) (v to : Value) (zs : RootedList) → x.op ≡ op.Store w v to → OneAccess (I.gated f.place) f.place true (value_path paths to) zs → Leading zs → Q (op.Store w v to) (op_action I.program (region_of l) halfway rs (length (f ∷ fs)) (total (f ∷ fs)) x.block.0 (op.Store w v to))
   store_goes w v to zs e one h =
       on_value_is (Q (op.Store w v to)) (operand I.program rs v) _ (λ n. tt) (λ n u.
       on_value_is (Q (op.Store w v to)) (operand I.program rs to) _ (λ n. tt) (λ a o.
@@ -275,8 +278,8 @@ module _ (I : Instance) (program : IsProgram I.program) (sums : AreSummaries I.p
       lead : Leads I.program top.set.registers I.memory I.recorded access
       lead = h access (subst (λ (l : RootedList). Contains l access) (sym one.among) (here access []))
 
-      accessed : (a : ℕ) → operand I.program rs to ≡ Some a → (r : ByteRange) → place_of a (bytes_of w) ≡ Ok r → Accesses I true (given (operand I.program rs to)) r
-      accessed a o r t = rw o (record { reached = access_reached I.program top.set.registers I.memory I.recorded access one.path a lead refl (value_has I top.set f top.stands to one.path a one.is_path o); within = within_frame a (bytes_of w) r t })
+      accessed : (a : ℕ) → operand I.program rs to ≡ Some a → (r : ByteRange) → place_of a (bytes_of w) ≡ Ok r → Accesses I f.place true (given (operand I.program rs to)) r
+      accessed a o r t = rw o (record { plain = one.plain; reached = access_reached I.program top.set.registers I.memory I.recorded access one.path a lead refl (value_has I top.set f top.stands to one.path a one.is_path o); within = within_frame a (bytes_of w) r t })
 
   gep_goes : (base : Value) (indices : List Index) → x.op ≡ op.Gep base indices → Q (op.Gep base indices) (on_all I.program rs (operands_of (op.Gep base indices)) actions.Local)
   gep_goes base indices e = all_known (Q (op.Gep base indices)) I.program rs (operands_of (op.Gep base indices)) actions.Local (λ n. tt) (λ set. straight (op.Gep base indices) e refl _ (λ q k. moves set q k))

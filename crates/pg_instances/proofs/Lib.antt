@@ -7,3 +7,4 @@ pub mod Edges
 pub mod Called
 pub mod Tops
 pub mod Actions
+pub mod Inner
