@@ -4,7 +4,7 @@ use Rattle.std.specs.Prelude.{Contains, slice_get, option_map, option_and_then, 
 use Rattle.std.proofs.lemmas.Bool.Decides.{nat_tests}
 use Rattle.pg_num.specs.Numbers.{modulus, divided}
 use Rattle.pg_num.specs.Places.{ByteRange}
-use Rattle.pg_num.specs.Pointers.{place_of}
+use Rattle.pg_num.specs.Pointers.{byte_place, place_of}
 use Rattle.pg_num.specs.declared.places.PlaceFault.{PlaceFault}
 use Rattle.pg_num.specs.declared.places.PlaceFault.TheVariants as fault
 use Rattle.pg_num.specs.declared.width.Width.{Width}
@@ -43,7 +43,7 @@ use Rattle.pg_machine.proofs.Actions.{OfTraps, on_value_is, on_all_is, edge_is, 
 use Rattle.pg_closed.specs.Freeable.{FreeAccess, frame_of}
 use Rattle.pg_instances.specs.Leads.{IsReached, IsWithin, Leads, HasPath, KeepsCells}
 use Rattle.pg_instances.specs.Inside.{Instance, QuietSet, IsQuietSet, StandsIn, IsAbove, Stands, Waits}
-use Rattle.pg_instances.proofs.Paths.{within_frame}
+use Rattle.pg_instances.proofs.Paths.{within_frame, some_bytes, first_byte}
 use Rattle.pg_instances.proofs.Values.{load_has, gep_has, access_reached}
 use Rattle.pg_instances.proofs.Places.{at_block}
 use Rattle.pg_instances.proofs.Stepped.{table, types_at, stepped_stands}
@@ -57,6 +57,8 @@ pub record Accesses (I : Instance) (place : ℕ) (writes : Bool) (word : ℕ) (r
   pub plain : I.gated place ≡ false
   pub reached : IsReached I.recorded writes (frame_of word)
   pub within : IsWithin r (frame_of word)
+  pub start : r.start ≡ byte_place word
+  pub some : 0 < r.bytes
 
 -- where the actions of an operation lead, in a state with this memory: none is an event
 abbrev pub Goes : Instance → (ByteRange → ℕ) → LocalState → ℕ → List (Option ℕ) → Instr → Op → Action → Type 0
@@ -85,6 +87,13 @@ place_known Q word bytes act t h = go (place_of word bytes) refl
     go (Ok r) e = h r e
     go (Err fault.OutOfRange) e = t traps.OutOfRange
     go (Err fault.Misaligned) e = t traps.Misaligned
+
+width_bytes : (w : Width) → 0 < bytes_of w
+width_bytes W1 = omega arith
+width_bytes W8 = omega arith
+width_bytes W16 = omega arith
+width_bytes W32 = omega arith
+width_bytes W64 = omega arith
 
 -- ---- accesses of single instructions
 
@@ -240,7 +249,7 @@ module _ (I : Instance) (program : IsProgram I.program) (sums : AreSummaries I.p
       lead = h access (subst (λ (l : RootedList). Contains l access) (sym one.among) (here access []))
 
       accessed : (a : ℕ) → operand I.program rs from ≡ Some a → (r : ByteRange) → place_of a (bytes_of w) ≡ Ok r → Accesses I f.place false (given (operand I.program rs from)) r
-      accessed a o r t = rw o (record { plain = one.plain; reached = access_reached I.program top.set.registers I.memory I.recorded access one.path a lead refl (has a o); within = within_frame a (bytes_of w) r t })
+      accessed a o r t = rw o (record { plain = one.plain; reached = access_reached I.program top.set.registers I.memory I.recorded access one.path a lead refl (has a o); within = within_frame a (bytes_of w) r t; start = first_byte a (bytes_of w) r t; some = some_bytes a (bytes_of w) r (width_bytes w) t })
 
       width : is_pointer ≡ true → W64 ≡ w
       width p =
@@ -279,7 +288,7 @@ module _ (I : Instance) (program : IsProgram I.program) (sums : AreSummaries I.p
       lead = h access (subst (λ (l : RootedList). Contains l access) (sym one.among) (here access []))
 
       accessed : (a : ℕ) → operand I.program rs to ≡ Some a → (r : ByteRange) → place_of a (bytes_of w) ≡ Ok r → Accesses I f.place true (given (operand I.program rs to)) r
-      accessed a o r t = rw o (record { plain = one.plain; reached = access_reached I.program top.set.registers I.memory I.recorded access one.path a lead refl (value_has I top.set f top.stands to one.path a one.is_path o); within = within_frame a (bytes_of w) r t })
+      accessed a o r t = rw o (record { plain = one.plain; reached = access_reached I.program top.set.registers I.memory I.recorded access one.path a lead refl (value_has I top.set f top.stands to one.path a one.is_path o); within = within_frame a (bytes_of w) r t; start = first_byte a (bytes_of w) r t; some = some_bytes a (bytes_of w) r (width_bytes w) t })
 
   gep_goes : (base : Value) (indices : List Index) → x.op ≡ op.Gep base indices → Q (op.Gep base indices) (on_all I.program rs (operands_of (op.Gep base indices)) actions.Local)
   gep_goes base indices e = all_known (Q (op.Gep base indices)) I.program rs (operands_of (op.Gep base indices)) actions.Local (λ n. tt) (λ set. straight (op.Gep base indices) e refl _ (λ q k. moves set q k))

@@ -8,3 +8,5 @@ pub mod Called
 pub mod Tops
 pub mod Actions
 pub mod Inner
+pub mod Machine
+pub mod Alone

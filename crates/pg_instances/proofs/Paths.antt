@@ -54,6 +54,20 @@ within_frame w n r e = go (place_of w n) e (place_of-start w n) (place_of-in_fra
     go (Ok s) e h k = let q : s ≡ r = cc in subst (λ (z : ByteRange). IsWithin z (frame_of w)) q (record { from = omega (arith, h); end = k })
     go (Err f) e h k = absurd cc
 
+pub some_bytes : (w n : ℕ) (r : ByteRange) → 0 < n → place_of w n ≡ Ok r → 0 < r.bytes
+some_bytes w n r lt e = go (place_of w n) e (place_of-bytes w n)
+  where
+    go : (o : Result ByteRange PlaceFault) → o ≡ Ok r → IfOk o (λ r. r.bytes ≡ n) → 0 < r.bytes
+    go (Ok s) e h = let q : s ≡ r = cc in subst (λ (z : ByteRange). 0 < z.bytes) q (omega (arith, h, lt))
+    go (Err f) e h = absurd cc
+
+pub first_byte : (w n : ℕ) (r : ByteRange) → place_of w n ≡ Ok r → r.start ≡ byte_place w
+first_byte w n r e = go (place_of w n) e (place_of-start w n)
+  where
+    go : (o : Result ByteRange PlaceFault) → o ≡ Ok r → IfOk o (λ r. r.start ≡ 8 * (pointer_of w).start + (pointer_of w).offset) → r.start ≡ byte_place w
+    go (Ok s) e h = let q : s ≡ r = cc in subst (λ (z : ByteRange). z.start ≡ byte_place w) q h
+    go (Err f) e h = absurd cc
+
 -- ---- pointers that were moved
 
 pub same_frame : (last : ℕ) (added : Option ℕ) (w : ℕ) → IsMoved last added w → frame_of w ≡ frame_of last

@@ -1,5 +1,5 @@
 -- Which numbers have paths: the values of roots, what a getelementptr moves, what a load reads, and an argument in a callee.
-use Rattle.std.proofs.Common.{◌≡◌, ℕ, ◌+◌, ◌≤◌, zero, suc, Bool, true, false, List, [], ◌∷◌, ◌++◌, length, Option, Some, None, Result, Ok, Err, pos, refl, sym, ap, ◌∙◌, subst, arith, inl, inr, ◌⊎◌}
+use Rattle.std.proofs.Common.{◌≡◌, ℕ, ◌+◌, ◌≤◌, ◌<◌, zero, suc, Bool, true, false, List, [], ◌∷◌, ◌++◌, length, Option, Some, None, Result, Ok, Err, pos, refl, sym, ap, ◌∙◌, subst, arith, inl, inr, ◌⊎◌}
 use Rattle.std.specs.Prelude.{Contains, option_map, option_and_then, slice_get, map}
 use Rattle.std.proofs.lemmas.List.Elements.{Contains-append_left, Contains-append_right, Contains-append_cases}
 use Rattle.pg_num.specs.Places.{ByteRange}
@@ -28,7 +28,7 @@ use Rattle.pg_step.specs.Compute.{moved_along}
 use Rattle.pg_closed.specs.Freeable.{FreeAccess, frame_of}
 use Rattle.pg_instances.specs.Leads.{IsLoaded, IsReached, IsWithin, Leads, IsMoved, HasPath, KeepsCells}
 use Rattle.pg_instances.proofs.Moves.{frame_moved, moved_moved, moved_twice}
-use Rattle.pg_instances.proofs.Paths.{within_memory, within_frame, same_frame, gep_moved, FollowsBoth, follows_both, LoadsFirst, loads_first, loads_again}
+use Rattle.pg_instances.proofs.Paths.{within_memory, within_frame, some_bytes, same_frame, gep_moved, FollowsBoth, follows_both, LoadsFirst, loads_first, loads_again}
 
 -- ---- offsets
 
@@ -111,7 +111,7 @@ module _ (p : NumberedProgram) (registers : ℕ → Option ℕ) (memory : ByteRa
           let c : m.cell ≡ cell = cell_is (place_of w 8) m.cell cell (ap (λ (z : ℕ). cell_in (place_of z 8)) word ∙ m.is_cell) e in
           let frame : frame_of w ≡ frame_of b.first.last = same_frame b.first.last (Some k) w word in
           let within : IsWithin cell (frame_of b.first.last) = subst (λ (z : ByteRange). IsWithin cell z) frame (within_frame w 8 cell e) in
-          let held : now cell ≡ memory cell = keeps.kept (frame_of b.first.last) cell pointer within (within_memory w 8 cell e) in
+          let held : now cell ≡ memory cell = keeps.kept (frame_of b.first.last) cell pointer within (some_bytes w 8 cell (omega arith) e) (within_memory w 8 cell e) in
           let end : at.last ≡ memory cell = b.last ∙ m.last ∙ ends m.more (memory m.cell) m.is_more ∙ ap memory c in
           v ∙ held ∙ sym end ∙ sym (moved_by-zero at.last)
         where

@@ -1,5 +1,5 @@
 -- Where the accesses of a region lead from a state, beside where they are recorded to lead.
-use Rattle.std.specs.Prelude.{◌≡◌, ℕ, ◌+◌, ◌≤◌, List, Bool, Option, Some, None, Contains, pos}
+use Rattle.std.specs.Prelude.{◌≡◌, ℕ, ◌+◌, ◌≤◌, ◌<◌, List, Bool, Option, Some, None, Contains, pos}
 use Rattle.pg_num.specs.Places.{ByteRange}
 use Rattle.pg_num.specs.Pointers.{moved_by}
 use Rattle.pg_num.specs.declared.layout.TheConstants.{MEMORY_BYTES}
@@ -53,4 +53,4 @@ pub record HasPath (p : NumberedProgram) (registers : ℕ → Option ℕ) (memor
 
 -- places in the frames from which recorded paths load hold the numbers that they held in another memory
 pub record KeepsCells (xs : List FreeAccess) (before memory : ByteRange → ℕ) : Type 0 where
-  pub kept : (frame r : ByteRange) → IsLoaded xs frame → IsWithin r frame → r.start + r.bytes ≤ MEMORY_BYTES → memory r ≡ before r
+  pub kept : (frame r : ByteRange) → IsLoaded xs frame → IsWithin r frame → 0 < r.bytes → r.start + r.bytes ≤ MEMORY_BYTES → memory r ≡ before r

@@ -1,2 +1,4 @@
 pub mod Leads
 pub mod Inside
+pub mod Stays
+pub mod OfRegions

@@ -1,7 +1,15 @@
 //! What a thread does inside a region: each law is the clause of a function that does nothing.
 
-ghost use Rattle.std.specs.Prelude.{◌≡◌, ℕ};
+ghost use Rattle.pg_instances.specs.Stays.{StepsInsideStay, TheThreadAlone};
 
-pub fn nothing()
-    ensures { (n : ℕ) → n ≡ n }
+/// A step of a thread at a branch step whose region is quiet, or inside, stays inside or leads to the join: it is no event
+/// and allocates nothing, accesses recorded frames alone, and sets in the branch's frame only registers that may be set.
+pub fn a_step_inside_stays()
+    ensures { StepsInsideStay }
+{}
+
+/// The steps of a thread alone from such a branch step on stay inside, all of them or up to the first that leads to the
+/// join.
+pub fn the_thread_alone()
+    ensures { TheThreadAlone }
 {}
