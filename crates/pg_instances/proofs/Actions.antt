@@ -38,11 +38,11 @@ use Rattle.pg_step.specs.Compute.{chosen}
 use Rattle.pg_step.specs.EdgeStep.{case_of}
 use Rattle.pg_step.specs.States.{Calls, CallsFunction}
 use Rattle.pg_step.specs.Step as step
-use Rattle.pg_step.specs.Step.{op_action, op_after, on_value, on_all, on_place, placed, are_set, call_action, edge_action, return_action, divided_action, stepped, entered, bytes_of, result_number, target_in, total}
+use Rattle.pg_step.specs.Step.{op_action, op_after, on_value, on_all, on_place, placed, are_set, call_action, edge_action, return_action, divided_action, stepped, entered, bytes_of, result_number, target_in, total, under_top}
 use Rattle.pg_machine.proofs.Actions.{OfTraps, on_value_is, on_all_is, edge_is, call_is, divided_is}
 use Rattle.pg_closed.specs.Freeable.{FreeAccess, frame_of}
 use Rattle.pg_instances.specs.Leads.{IsReached, IsWithin, Leads, HasPath, KeepsCells}
-use Rattle.pg_instances.specs.Inside.{Instance, QuietSet, IsQuietSet, StandsIn, IsAbove, Stands, Waits}
+use Rattle.pg_instances.specs.Inside.{Instance, QuietSet, IsQuietSet, StandsIn, IsAbove, Stands, Waits, edge_taken}
 use Rattle.pg_instances.proofs.Paths.{within_frame, some_bytes, first_byte}
 use Rattle.pg_instances.proofs.Values.{load_has, gep_has, access_reached}
 use Rattle.pg_instances.proofs.Places.{at_block}
@@ -62,11 +62,11 @@ pub record Accesses (I : Instance) (place : ℕ) (writes : Bool) (word : ℕ) (r
 
 -- where the actions of an operation lead, in a state with this memory: none is an event
 abbrev pub Goes : Instance → (ByteRange → ℕ) → LocalState → ℕ → List (Option ℕ) → Instr → Op → Action → Type 0
-Goes I m l place rs x o actions.Local = Arrived I (op_after I.program l x 0 o)
-Goes I m l place rs x o (actions.In i) = (n : ℕ) → Arrived I (op_after I.program l x n o)
-Goes I m l place rs x o actions.InLen = (n : ℕ) → Arrived I (op_after I.program l x n o)
-Goes I m l place rs x o (actions.Load r) = Accesses I place false (number_at I.program rs (operands_of o) 0) r × Arrived I (op_after I.program l x (m r) o)
-Goes I m l place rs x o (actions.Store r n) = Accesses I place true (number_at I.program rs (operands_of o) 1) r × Arrived I (op_after I.program l x 0 o)
+Goes I m l place rs x o actions.Local = Arrived I (under_top l.frames) (edge_taken I.program rs o) (op_after I.program l x 0 o)
+Goes I m l place rs x o (actions.In i) = (n : ℕ) → Arrived I (under_top l.frames) (edge_taken I.program rs o) (op_after I.program l x n o)
+Goes I m l place rs x o actions.InLen = (n : ℕ) → Arrived I (under_top l.frames) (edge_taken I.program rs o) (op_after I.program l x n o)
+Goes I m l place rs x o (actions.Load r) = Accesses I place false (number_at I.program rs (operands_of o) 0) r × Arrived I (under_top l.frames) (edge_taken I.program rs o) (op_after I.program l x (m r) o)
+Goes I m l place rs x o (actions.Store r n) = Accesses I place true (number_at I.program rs (operands_of o) 1) r × Arrived I (under_top l.frames) (edge_taken I.program rs o) (op_after I.program l x 0 o)
 Goes I m l place rs x o (actions.Event r) = ⊥
 Goes I m l place rs x o (actions.Trap name) = Unit {0}
 Goes I m l place rs x o actions.Ended = Unit {0}
@@ -195,12 +195,12 @@ module _ (I : Instance) (program : IsProgram I.program) (sums : AreSummaries I.p
   traps_go o = λ n. tt
 
   -- an instruction that sets its register
-  straight : (o : Op) → x.op ≡ o → is_terminator o ≡ false → (n : ℕ) → ((q : Path) → path_by paths is_pointer o ≡ Some q → HasIt q n) → Arrived I (stepped f x.result n ∷ fs)
+  straight : (o : Op) → x.op ≡ o → is_terminator o ≡ false → (n : ℕ) → ((q : Path) → path_by paths is_pointer o ≡ Some q → HasIt q n) → Arrived I fs (edge_taken I.program rs o) (stepped f x.result n ∷ fs)
   straight o e t n h = inl (top.again (stepped f x.result n) refl refl (stepped_stands I top.set f x n program top.stands at (ap is_terminator e ∙ t) (subst (λ (z : Op). (q : Path) → path_by paths is_pointer z ≡ Some q → HasIt q n) (sym e) h)))
 
   -- an edge
-  edge : (o : Op) → x.op ≡ o → is_terminator o ≡ true → (to : ℕ) → Contains (targets_of o) to → Arrived I (step.moved I.program f x.block.0 to ∷ fs)
-  edge o e t to c = go (top.quiet.edges top.stands.block to top.stands.among among)
+  edge : (o : Op) → x.op ≡ o → is_terminator o ≡ true → (to : ℕ) → Contains (targets_of o) to → edge_taken I.program rs o ≡ Some to → Arrived I fs (edge_taken I.program rs o) (step.moved I.program f x.block.0 to ∷ fs)
+  edge o e t to c taken = go (top.quiet.edges top.stands.block to top.stands.among among)
     where
       here_at : Contains (targets_of x.op) to
       here_at = subst (λ (z : Op). Contains (targets_of z) to) (sym e) c
@@ -214,9 +214,9 @@ module _ (I : Instance) (program : IsProgram I.program) (sums : AreSummaries I.p
       fits : (to < length I.program.blocks) × (function_of I.program to ≡ function_of I.program x.block.0)
       fits = target_fits I.program f.place x to program at here_at
 
-      go : Contains top.set.blocks to ⊎ ((top.set.returns ≡ false) × (to ≡ I.join)) → Arrived I (step.moved I.program f x.block.0 to ∷ fs)
+      go : Contains top.set.blocks to ⊎ ((top.set.returns ≡ false) × (to ≡ I.join)) → Arrived I fs (edge_taken I.program rs o) (step.moved I.program f x.block.0 to ∷ fs)
       go (inl d) = inl (top.again (step.moved I.program f x.block.0 to) refl refl (edge_stands I top.set f x.block.0 to program fits.0 (fits.1 ∙ ap (function_of I.program) block ∙ top.stands.function) d top.stands.kept))
-      go (inr j) = inr (subst (λ (b : ℕ). AtJoin I (step.moved I.program f x.block.0 b ∷ fs)) (sym j.1) (top.joins j.0 x.block.0))
+      go (inr j) = let k = top.joins j.0 x.block.0 in inr (subst (λ (b : ℕ). AtJoin I (step.moved I.program f x.block.0 b ∷ fs)) (sym j.1) k.0, k.1, taken ∙ ap (λ (b : ℕ). Some b) j.1)
 
   -- ---- the operations, one by one
 
@@ -343,7 +343,7 @@ module _ (I : Instance) (program : IsProgram I.program) (sums : AreSummaries I.p
       by_value (Some w) = on_value_is (Q (op.Ret (Some w))) (operand I.program rs w) _ (λ n. tt) (λ n e. back (Some w) n)
 
   plain_goes : (o : Op) → x.op ≡ o → is_terminator o ≡ false → ((q : Path) → path_by paths is_pointer o ≡ Some q → ⊥) → op_after I.program l x 0 o ≡ stepped f x.result (result_number I.program (region_of l) rs o 0) ∷ fs → (vs : List Value) → Q o (on_all I.program rs vs actions.Local)
-  plain_goes o e t none s vs = on_all_is (Q o) I.program rs vs actions.Local (λ n. tt) (subst (Arrived I) (sym s) (straight o e t (result_number I.program (region_of l) rs o 0) (λ q k. absurd (none q k))))
+  plain_goes o e t none s vs = on_all_is (Q o) I.program rs vs actions.Local (λ n. tt) (subst (Arrived I fs (edge_taken I.program rs o)) (sym s) (straight o e t (result_number I.program (region_of l) rs o 0) (λ q k. absurd (none q k))))
 
   -- the action of a quiet operation: no event; an access leads to the recorded frame of an access of its kind; and the
   -- thread is inside or at the join behind it
@@ -351,11 +351,11 @@ module _ (I : Instance) (program : IsProgram I.program) (sums : AreSummaries I.p
   op_goes (op.Divide d w a b) zs e q h =
       on_value_is (Q (op.Divide d w a b)) (operand I.program rs a) _ (λ n. tt) (λ i u. on_value_is (Q (op.Divide d w a b)) (operand I.program rs b) _ (λ n. tt) (λ j v. divided_is (Q (op.Divide d w a b)) (divided d w i j) (λ n. tt) (straight (op.Divide d w a b) e refl _ (λ q k. absurd cc))))
   op_goes (op.Phi from) zs e q h = tt
-  op_goes (op.Br to) zs e q h = edge_is (Q (op.Br to)) I.program rs x.block.0 to.0 (λ n. tt) (edge (op.Br to) e refl to.0 (here to.0 []))
+  op_goes (op.Br to) zs e q h = edge_is (Q (op.Br to)) I.program rs x.block.0 to.0 (λ n. tt) (edge (op.Br to) e refl to.0 (here to.0 []) refl)
   op_goes (op.CondBr c a b) zs e q h =
-      on_value_is (Q (op.CondBr c a b)) (operand I.program rs c) _ (λ n. tt) (λ n u. edge_is (Q (op.CondBr c a b)) I.program rs x.block.0 (chosen n a.0 b.0) (λ n. tt) (edge (op.CondBr c a b) e refl (chosen (given (operand I.program rs c)) a.0 b.0) (chosen_among (given (operand I.program rs c)) a.0 b.0)))
+      on_value_is (Q (op.CondBr c a b)) (operand I.program rs c) _ (λ n. tt) (λ n u. edge_is (Q (op.CondBr c a b)) I.program rs x.block.0 (chosen n a.0 b.0) (λ n. tt) (edge (op.CondBr c a b) e refl (chosen (given (operand I.program rs c)) a.0 b.0) (chosen_among (given (operand I.program rs c)) a.0 b.0) refl))
   op_goes (op.Switch w on other cases) zs e q h =
-      on_value_is (Q (op.Switch w on other cases)) (operand I.program rs on) _ (λ n. tt) (λ n u. edge_is (Q (op.Switch w on other cases)) I.program rs x.block.0 (case_of cases other.0 n) (λ n. tt) (edge (op.Switch w on other cases) e refl (case_of cases other.0 (given (operand I.program rs on))) (switched_among cases other.0 (given (operand I.program rs on)))))
+      on_value_is (Q (op.Switch w on other cases)) (operand I.program rs on) _ (λ n. tt) (λ n u. edge_is (Q (op.Switch w on other cases)) I.program rs x.block.0 (case_of cases other.0 n) (λ n. tt) (edge (op.Switch w on other cases) e refl (case_of cases other.0 (given (operand I.program rs on))) (switched_among cases other.0 (given (operand I.program rs on))) refl))
   op_goes (op.Call g args) zs e q h = call_goes g args zs e q h
   op_goes (op.Ret v) zs e q h = return_goes v (may top.set.returns zs q)
   op_goes op.Unreachable zs e q h = tt

@@ -30,7 +30,7 @@ use Rattle.pg_machine.specs.MachineStep.{op_told, known_told}
 use Rattle.pg_machine.proofs.Actions.{on_value_is, edge_is}
 use Rattle.pg_closed.specs.Freeable.{frame_of}
 use Rattle.pg_instances.specs.Leads.{KeepsCells}
-use Rattle.pg_instances.specs.Inside.{Instance, QuietSet, IsQuietSet, StandsIn, IsBottom, Stands, IsInside, IsAtJoin, IsAtBranch, IsBranch, region_set}
+use Rattle.pg_instances.specs.Inside.{Instance, QuietSet, IsQuietSet, StandsIn, IsBottom, Stands, IsInside, IsAtJoin, Joins, IsAtBranch, IsBranch, edge_at, edge_taken, next_edge, region_set}
 use Rattle.pg_instances.proofs.Places.{quiet_at}
 use Rattle.pg_instances.proofs.Edges.{edge_stands, edge_joins, target_fits, successors_of, chosen_among, switched_among}
 use Rattle.pg_instances.proofs.Tops.{AtJoin, Arrived, Top, top_of}
@@ -61,16 +61,16 @@ quiet_calm p h r rs m gated sums f i o zs e = record { halfway = refl; heap = re
 
 -- ---- where the next action of a thread leads
 
--- inside, or at the join
-abbrev pub GoesOn : Instance → LocalState → Type 0
-GoesOn I l = IsInside I l ⊎ IsAtJoin I l
+-- from the first state to the second: inside, or by the edge to the join
+abbrev pub GoesOn : Instance → LocalState → LocalState → Type 0
+GoesOn I l z = IsInside I z ⊎ Joins I l z
 
 abbrev pub GoesFrom : Instance → (ByteRange → ℕ) → LocalState → Action → Type 0
-GoesFrom I m l actions.Local = GoesOn I (after I.program l 0)
-GoesFrom I m l (actions.In i) = (n : ℕ) → GoesOn I (after I.program l n)
-GoesFrom I m l actions.InLen = (n : ℕ) → GoesOn I (after I.program l n)
-GoesFrom I m l (actions.Load r) = Accesses I (id_of l) false (slice_index (operand_values I.program l) 0) r × GoesOn I (after I.program l (m r))
-GoesFrom I m l (actions.Store r n) = Accesses I (id_of l) true (slice_index (operand_values I.program l) 1) r × GoesOn I (after I.program l 0)
+GoesFrom I m l actions.Local = GoesOn I l (after I.program l 0)
+GoesFrom I m l (actions.In i) = (n : ℕ) → GoesOn I l (after I.program l n)
+GoesFrom I m l actions.InLen = (n : ℕ) → GoesOn I l (after I.program l n)
+GoesFrom I m l (actions.Load r) = Accesses I (id_of l) false (slice_index (operand_values I.program l) 0) r × GoesOn I l (after I.program l (m r))
+GoesFrom I m l (actions.Store r n) = Accesses I (id_of l) true (slice_index (operand_values I.program l) 1) r × GoesOn I l (after I.program l 0)
 GoesFrom I m l (actions.Event r) = ⊥
 GoesFrom I m l (actions.Trap name) = Unit {0}
 GoesFrom I m l actions.Ended = Unit {0}
@@ -84,13 +84,17 @@ module _ (I : Instance) (m : ByteRange → ℕ) (thread heap : ℕ) (halfway : B
   abbrev there : LocalState
   there = record { thread = thread; begun = true; halfway = halfway; frames = f ∷ fs; heap = heap }
 
-  arrived : thread ≡ I.state.thread → heap ≡ I.state.heap → (x : Instr) (n : ℕ) → slice_get I.program.instrs f.place ≡ Some x → IsCalm I.program halfway (region_of there) f.registers x.op → Arrived I (op_after I.program there x n x.op) → GoesOn I (after I.program there n)
+  arrived : thread ≡ I.state.thread → heap ≡ I.state.heap → (x : Instr) (n : ℕ) → slice_get I.program.instrs f.place ≡ Some x → IsCalm I.program halfway (region_of there) f.registers x.op → Arrived I fs (edge_taken I.program f.registers x.op) (op_after I.program there x n x.op) → GoesOn I there (after I.program there n)
   unfolding id_of
-  arrived t h x n at calm a = subst (GoesOn I) (sym (after_at I.program there x n refl (omega arith) at)) (go a)
+  arrived t h x n at calm a = subst (GoesOn I there) (sym (after_at I.program there x n refl (omega arith) at)) (go a)
     where
-      go : Arrived I (op_after I.program there x n x.op) → GoesOn I (instr_after I.program there n (Some x))
+      go : Arrived I fs (edge_taken I.program f.registers x.op) (op_after I.program there x n x.op) → GoesOn I there (instr_after I.program there n (Some x))
       go (inl s) = inl (record { thread = t; begun = refl; halfway = calm.halfway; heap = calm.heap ∙ h; stands = s })
-      go (inr j) = inr (record { thread = t; begun = refl; halfway = calm.halfway; heap = calm.heap ∙ h; frame = j.frame; frames = j.frames; joined = j.joined })
+      go (inr j) = inr (record {
+        lower = j.1;
+        edge = ap (edge_at I.program f.registers) at ∙ j.2;
+        there = record { thread = t; begun = refl; halfway = calm.halfway; heap = calm.heap ∙ h; frame = j.0.frame; frames = j.0.frames; joined = j.0.joined };
+      })
 
   operand_first : (x : Instr) (k : ℕ) → slice_get I.program.instrs f.place ≡ Some x → slice_index (operand_values I.program there) k ≡ slice_index (first_four I.program f.registers (operands_of x.op)) k
   unfolding id_of
@@ -150,8 +154,8 @@ module _ (I : Instance) (m : ByteRange → ℕ) (thread heap : ℕ) (halfway : B
       calm (op.Switch w on other cases) k = record { halfway = refl; heap = refl; told = λ ns n. tt }
       calm o k = absurd k
 
-      edge : (o : Op) → b.branch.op ≡ o → is_terminator o ≡ true → (to : ℕ) → Contains (targets_of o) to → Arrived I (moved I.program f b.branch.block.0 to ∷ fs)
-      edge o e t to c = go (b.first to among)
+      edge : (o : Op) → b.branch.op ≡ o → is_terminator o ≡ true → (to : ℕ) → Contains (targets_of o) to → edge_taken I.program f.registers o ≡ Some to → Arrived I fs (edge_taken I.program f.registers o) (moved I.program f b.branch.block.0 to ∷ fs)
+      edge o e t to c taken = go (b.first to among)
         where
           here_at : Contains (targets_of b.branch.op) to
           here_at = subst (λ (z : Op). Contains (targets_of z) to) (sym e) c
@@ -168,26 +172,30 @@ module _ (I : Instance) (m : ByteRange → ℕ) (thread heap : ℕ) (halfway : B
           kept : (r : ℕ) → Rattle.pg_instances.specs.Inside.registers_by f.registers r ≡ Rattle.pg_instances.specs.Inside.registers_by I.frame.registers r
           kept r = ap (λ (z : Frame). Rattle.pg_instances.specs.Inside.registers_by z.registers r) fe
 
-          go : Contains I.blocks to ⊎ (to ≡ I.join) → Arrived I (moved I.program f b.branch.block.0 to ∷ fs)
+          go : Contains I.blocks to ⊎ (to ≡ I.join) → Arrived I fs (edge_taken I.program f.registers o) (moved I.program f b.branch.block.0 to ∷ fs)
           go (inl d) = inl (inl (record {
             lower = fse;
             function = function;
             height = ap (λ (z : Frame). z.height) fe;
             stands = edge_stands I (region_set I) f b.branch.block.0 to b.program fits.0 (fits.1 ∙ b.function ∙ sym function) d (λ r u. kept r);
           }))
-          go (inr j) = inr (subst (λ (c : ℕ). AtJoin I (moved I.program f b.branch.block.0 c ∷ fs)) (sym j) (record {
-            frame = moved I.program f b.branch.block.0 I.join;
-            frames = ap (λ (l : List Frame). moved I.program f b.branch.block.0 I.join ∷ l) fse;
-            joined = edge_joins I f b.branch.block.0 function (ap (λ (z : Frame). z.height) fe) (λ r u. kept r);
-          }))
+          go (inr j) = inr (
+              subst (λ (c : ℕ). AtJoin I (moved I.program f b.branch.block.0 c ∷ fs)) (sym j) (record {
+                frame = moved I.program f b.branch.block.0 I.join;
+                frames = ap (λ (l : List Frame). moved I.program f b.branch.block.0 I.join ∷ l) fse;
+                joined = edge_joins I f b.branch.block.0 function (ap (λ (z : Frame). z.height) fe) (λ r u. kept r);
+              }),
+              fse,
+              taken ∙ ap (λ (c : ℕ). Some c) j,
+          )
 
       goes : (o : Op) → b.branch.op ≡ o → IsBranch o → Goes I m there f.place f.registers b.branch o (op_action I.program (region_of there) halfway f.registers (length (f ∷ fs)) (total (f ∷ fs)) b.branch.block.0 o)
       goes (op.CondBr c x y) e k =
           on_value_is (Goes I m there f.place f.registers b.branch (op.CondBr c x y)) (operand I.program f.registers c) _ (λ n. tt) (λ n u. edge_is (Goes I m there f.place f.registers b.branch (op.CondBr c x y)) I.program f.registers b.branch.block.0 (chosen n x.0 y.0) (λ n. tt)
-          (edge (op.CondBr c x y) e refl (chosen (given (operand I.program f.registers c)) x.0 y.0) (chosen_among (given (operand I.program f.registers c)) x.0 y.0)))
+          (edge (op.CondBr c x y) e refl (chosen (given (operand I.program f.registers c)) x.0 y.0) (chosen_among (given (operand I.program f.registers c)) x.0 y.0) refl))
       goes (op.Switch w on other cases) e k =
           on_value_is (Goes I m there f.place f.registers b.branch (op.Switch w on other cases)) (operand I.program f.registers on) _ (λ n. tt) (λ n u. edge_is (Goes I m there f.place f.registers b.branch (op.Switch w on other cases)) I.program f.registers b.branch.block.0 (case_of cases other.0 n) (λ n. tt)
-          (edge (op.Switch w on other cases) e refl (case_of cases other.0 (given (operand I.program f.registers on))) (switched_among cases other.0 (given (operand I.program f.registers on)))))
+          (edge (op.Switch w on other cases) e refl (case_of cases other.0 (given (operand I.program f.registers on))) (switched_among cases other.0 (given (operand I.program f.registers on))) refl))
       goes o e k = absurd k
 
 -- ---- a thread with these parts

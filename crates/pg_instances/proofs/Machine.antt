@@ -75,11 +75,11 @@ module _ (I : Instance) (gated : List InstrId) (input : List ℤ) (s z : State) 
   abbrev then : Words → ℕ → State
   then m n = record s { memory = m; locals = local_after p s.locals t n (slice_get s.locals t) }
 
-  stays : (m : Words) (n : ℕ) → KeepsCells I.recorded I.memory (read m) → GoesOn I (after p l n) → TellsWithin I (step_told gated p s t n).kind → Did (step_told gated p s t n) (then m n) ≡ Did x z → StaysInside I t x s z
+  stays : (m : Words) (n : ℕ) → KeepsCells I.recorded I.memory (read m) → GoesOn I l (after p l n) → TellsWithin I (step_told gated p s t n).kind → Did (step_told gated p s t n) (then m n) ≡ Did x z → StaysInside I t l x s z
   stays m n k g w e =
       let d = did (step_told gated p s t n) x (then m n) z e in
       let locals : local_after p s.locals t n (slice_get s.locals t) ≡ slice_set s.locals t (after p l n) = ap (local_after p s.locals t n) c.is_local in
-      subst (λ (y : Step). StaysInside I t y s z) d.0 (subst (λ (y : State). StaysInside I t (step_told gated p s t n) s y) d.1 (record {
+      subst (λ (y : Step). StaysInside I t l y s z) d.0 (subst (λ (y : State). StaysInside I t l (step_told gated p s t n) s y) d.1 (record {
         tells = w;
         local = after p l n;
         is_local = ap (λ (ls : List LocalState). slice_get ls t) locals ∙ set_own s.locals t (after p l n) here;
@@ -106,7 +106,7 @@ module _ (I : Instance) (gated : List InstrId) (input : List ℤ) (s z : State) 
     within = record { from = (let f = a.within.from in omega (arith, f, a.start)); end = (let f = a.within.end in omega (arith, f, a.start)) };
   }
 
-  by_action : (a : Action) → next_of p s t ≡ a → Proceeds I (read s.memory) l → GoesFrom I (read s.memory) l a → may_act s t a ≡ true → settled gated p s t (taken p s t (answered p input s t a)) ≡ Did x z → StaysInside I t x s z
+  by_action : (a : Action) → next_of p s t ≡ a → Proceeds I (read s.memory) l → GoesFrom I (read s.memory) l a → may_act s t a ≡ true → settled gated p s t (taken p s t (answered p input s t a)) ≡ Did x z → StaysInside I t l x s z
   unfolding answered
   by_action actions.Local e pr g m d = stays s.memory 0 c.cells g (tells_local 0 actions.Local e pr (λ ns i k. instr_calm pr ns k)) d
   by_action (actions.In i) e pr g m d = stays s.memory (input_at input i) c.cells (g (input_at input i)) (tells_local (input_at input i) (actions.In i) e pr (λ ns j k. tt)) d
@@ -130,7 +130,7 @@ module _ (I : Instance) (gated : List InstrId) (input : List ℤ) (s z : State) 
       go (inl e) = subst (Proceeds I (read s.memory)) (sym e) (branch_proceeds I (read s.memory) c.branch)
       go (inr i) = inside_proceeds I (read s.memory) l c.branch c.cells (λ r. read-small s.memory r) i
 
-  pub step_stays : ready p s t ≡ true → step gated p input s t ≡ Did x z → StaysInside I t x s z
+  pub step_stays : ready p s t ≡ true → step gated p input s t ≡ Did x z → StaysInside I t l x s z
   unfolding step
   step_stays r d =
       let e = next_is p s t l c.is_local in

@@ -13,9 +13,9 @@ pub record AtJoin (I : Instance) (fs : List Frame) : Type 0 where
   pub frames : fs ≡ frame ∷ I.lower
   pub joined : HasJoined I frame
 
--- where a step leads: inside, or to the join
-abbrev pub Arrived : Instance → List Frame → Type 0
-Arrived I fs = Stands I fs ⊎ AtJoin I fs
+-- where a step leads by this edge, if it takes one, from the top frame on these: inside, or by the edge to the join
+abbrev pub Arrived : Instance → List Frame → Option ℕ → List Frame → Type 0
+Arrived I below edge fs = Stands I fs ⊎ (AtJoin I fs × (below ≡ I.lower) × (edge ≡ Some I.join))
 
 -- what holds of the top frame: it may stand anew in its set, go on to the join if it is the branch's, and return if it isn't
 pub record Top (I : Instance) (f : Frame) (fs : List Frame) : Type 0 where
@@ -23,7 +23,7 @@ pub record Top (I : Instance) (f : Frame) (fs : List Frame) : Type 0 where
   pub quiet : IsQuietSet I set
   pub stands : StandsIn I set f
   pub again : (g : Frame) → g.function ≡ f.function → g.height ≡ f.height → StandsIn I set g → Stands I (g ∷ fs)
-  pub joins : set.returns ≡ false → (from : ℕ) → AtJoin I (moved I.program f from I.join ∷ fs)
+  pub joins : set.returns ≡ false → (from : ℕ) → AtJoin I (moved I.program f from I.join ∷ fs) × (fs ≡ I.lower)
   pub above : set.returns ≡ true → Waits I.program f.function fs × Stands I fs
 
 pub top_of : (I : Instance) (f : Frame) (fs : List Frame) → IsQuietSet I (region_set I) → Stands I (f ∷ fs) → Top I f fs
@@ -32,7 +32,7 @@ top_of I f fs region (inl b) = record {
   quiet = region;
   stands = b.stands;
   again = λ g fn h s. inl (record { lower = b.lower; function = fn ∙ b.function; height = h ∙ b.height; stands = s });
-  joins = λ r from. record { frame = moved I.program f from I.join; frames = ap (λ (l : List Frame). moved I.program f from I.join ∷ l) b.lower; joined = edge_joins I f from b.function b.height b.stands.kept };
+  joins = λ r from. (record { frame = moved I.program f from I.join; frames = ap (λ (l : List Frame). moved I.program f from I.join ∷ l) b.lower; joined = edge_joins I f from b.function b.height b.stands.kept }, b.lower);
   above = λ r. absurd cc;
 }
 top_of I f fs region (inr (a, s)) = record {

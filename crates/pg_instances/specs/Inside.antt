@@ -16,7 +16,11 @@ use Rattle.pg_accesses.specs.Accesses.{RootedList, sets, set_accesses}
 use Rattle.pg_quiet.specs.Blocks.{blocks_of}
 use Rattle.pg_quiet.specs.Summaries.{AreSummaries}
 use Rattle.pg_step.specs.LocalState.{Frame, LocalState}
-use Rattle.pg_step.specs.Operands.{flat}
+use Rattle.pg_step.specs.Operands.{flat, given, operand}
+use Rattle.pg_step.specs.Compute.{chosen}
+use Rattle.pg_step.specs.EdgeStep.{case_of}
+use Rattle.pg_step.specs.Step.{top_registers, under_top}
+use Rattle.pg_step.specs.Told.{id_of}
 use Rattle.pg_step.specs.States.{Calls}
 use Rattle.pg_closed.specs.Freeable.{FreeAccess}
 use Rattle.pg_instances.specs.Leads.{IsLoaded, IsReached, Leads, HasPath, KeepsCells}
@@ -143,6 +147,29 @@ pub record IsAtJoin (I : Instance) (l : LocalState) : Type 0 where
   pub frame : Frame
   pub frames : l.frames ≡ frame ∷ I.lower
   pub joined : HasJoined I frame
+
+-- ---- edges
+
+-- the block to which an operation goes on, where it takes an edge
+abbrev pub edge_taken : NumberedProgram → List (Option ℕ) → Op → Option ℕ
+edge_taken p rs (op.Br to) = Some to.0
+edge_taken p rs (op.CondBr c a b) = Some (chosen (given (operand p rs c)) a.0 b.0)
+edge_taken p rs (op.Switch w on other cases) = Some (case_of cases other.0 (given (operand p rs on)))
+edge_taken p rs _ = None
+
+abbrev pub edge_at : NumberedProgram → List (Option ℕ) → Option Instr → Option ℕ
+edge_at p rs None = None
+edge_at p rs (Some x) = edge_taken p rs x.op
+
+-- the block to which a thread goes on by its next step, where this takes an edge
+abbrev pub next_edge : NumberedProgram → LocalState → Option ℕ
+next_edge p l = edge_at p (top_registers l.frames) (slice_get p.instrs (id_of l))
+
+-- from l the thread takes the edge to the join, in the branch's frame, and is there
+pub record Joins (I : Instance) (l z : LocalState) : Type 0 where
+  pub lower : under_top l.frames ≡ I.lower
+  pub edge : next_edge I.program l ≡ Some I.join
+  pub there : IsAtJoin I z
 
 -- ---- the branch step
 

@@ -16,7 +16,7 @@ use Rattle.pg_machine.specs.Locality.{LeavesRest}
 use Rattle.pg_machine.specs.Runs.{IsRun, Takes}
 use Rattle.pg_closed.specs.Freeable.{frame_of}
 use Rattle.pg_instances.specs.Leads.{IsReached, IsWithin, KeepsCells}
-use Rattle.pg_instances.specs.Inside.{Instance, IsInside, IsAtJoin, IsAtBranch}
+use Rattle.pg_instances.specs.Inside.{Instance, IsInside, Joins, IsAtBranch}
 
 -- an access that is no event, in the frame of its pointer, which is the recorded frame of an access of its kind
 pub record AccessesWithin (I : Instance) (a : Access) : Type 0 where
@@ -35,13 +35,13 @@ TellsWithin I k = ⊥
 abbrev pub IsWithinExtent : Instance → LocalState → Type 0
 IsWithinExtent I l = (l ≡ I.state) ⊎ IsInside I l
 
--- a step of thread t from s to z tells no event and no allocation, and accesses recorded frames alone; it leaves the thread
--- inside or at the join, the other threads and all but memory as they were, and the numbers from which recorded paths load
-pub record StaysInside (I : Instance) (t : ℕ) (x : Step) (s z : State) : Type 0 where
+-- a step of thread t, whose local state is l, from s to z tells no event and no allocation, and accesses recorded frames
+-- alone; it leaves the thread inside or takes the edge to the join, and leaves the other threads and all but memory as they were, and the numbers from which recorded paths load
+pub record StaysInside (I : Instance) (t : ℕ) (l : LocalState) (x : Step) (s z : State) : Type 0 where
   pub tells : TellsWithin I x.kind
   pub local : LocalState
   pub is_local : slice_get z.locals t ≡ Some local
-  pub goes_on : IsInside I local ⊎ IsAtJoin I local
+  pub goes_on : IsInside I local ⊎ Joins I l local
   pub others : (u : ℕ) → (u ≡ t → ⊥) → slice_get z.locals u ≡ slice_get s.locals u
   pub rest : LeavesRest s z
   pub cells : KeepsCells I.recorded I.memory (read z.memory)
@@ -55,18 +55,18 @@ pub record CanStepInside (I : Instance) (gated : List InstrId) (s : State) (t : 
   pub cells : KeepsCells I.recorded I.memory (read s.memory)
 
 abbrev pub StepsInsideStay : Type 0
-StepsInsideStay = (I : Instance) (gated : List InstrId) (input : List ℤ) (s z : State) (t : ℕ) (l : LocalState) (x : Step) → CanStepInside I gated s t l → ready I.program s t ≡ true → step gated I.program input s t ≡ Did x z → StaysInside I t x s z
+StepsInsideStay = (I : Instance) (gated : List InstrId) (input : List ℤ) (s z : State) (t : ℕ) (l : LocalState) (x : Step) → CanStepInside I gated s t l → ready I.program s t ≡ true → step gated I.program input s t ≡ Did x z → StaysInside I t l x s z
 
 -- ---- a thread alone
 
 -- from s on these steps stay inside, all of them or up to the first that leads to the join
-abbrev pub StaysUntilJoin : Instance → List InstrId → List ℤ → ℕ → State → List Step → Type 0
-StaysUntilJoin I gated input t s [] = Unit {0}
-StaysUntilJoin I gated input t s (x ∷ xs) =
-    (k : Takes gated I.program input s x) × (j : StaysInside I t x s k.after) × (IsAtJoin I j.local ⊎ (IsInside I j.local × StaysUntilJoin I gated input t k.after xs))
+abbrev pub StaysUntilJoin : Instance → List InstrId → List ℤ → ℕ → LocalState → State → List Step → Type 0
+StaysUntilJoin I gated input t l s [] = Unit {0}
+StaysUntilJoin I gated input t l s (x ∷ xs) =
+    (k : Takes gated I.program input s x) × (j : StaysInside I t l x s k.after) × (Joins I l j.local ⊎ (IsInside I j.local × StaysUntilJoin I gated input t j.local k.after xs))
 
 abbrev pub AreOf : ℕ → List Step → Type 0
 AreOf t xs = AllByRecursion (λ (x : Step). x.thread.0 ≡ t) xs
 
 abbrev pub TheThreadAlone : Type 0
-TheThreadAlone = (I : Instance) (gated : List InstrId) (input : List ℤ) (s z : State) (t : ℕ) (l : LocalState) (xs : List Step) → CanStepInside I gated s t l → IsRun gated I.program input s xs z → AreOf t xs → StaysUntilJoin I gated input t s xs
+TheThreadAlone = (I : Instance) (gated : List InstrId) (input : List ℤ) (s z : State) (t : ℕ) (l : LocalState) (xs : List Step) → CanStepInside I gated s t l → IsRun gated I.program input s xs z → AreOf t xs → StaysUntilJoin I gated input t l s xs
