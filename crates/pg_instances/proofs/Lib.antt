@@ -10,3 +10,6 @@ pub mod Actions
 pub mod Inner
 pub mod Machine
 pub mod Alone
+pub mod Flow
+pub mod Free
+pub mod Together

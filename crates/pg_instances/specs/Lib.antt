@@ -2,3 +2,5 @@ pub mod Leads
 pub mod Inside
 pub mod Stays
 pub mod OfRegions
+pub mod Free
+pub mod Together

@@ -1,5 +1,6 @@
 //! What a thread does inside a region: each law is the clause of a function that does nothing.
 
+ghost use Rattle.pg_instances.specs.Together.{ExtentsStandTogether};
 ghost use Rattle.pg_instances.specs.Stays.{StepsInsideStay, TheThreadAlone};
 
 /// A step of a thread at a branch step whose region is quiet, or inside, stays inside or leads to the join: it is no event
@@ -12,4 +13,10 @@ pub fn a_step_inside_stays()
 /// join.
 pub fn the_thread_alone()
     ensures { TheThreadAlone }
+{}
+
+/// In a guided run that exits, a step that is no event is followed by a step of its thread: so the steps between a freeable
+/// branch step and the join stand together.
+pub fn extents_stand_together()
+    ensures { ExtentsStandTogether }
 {}
