@@ -13,3 +13,4 @@ pub mod Alone
 pub mod Flow
 pub mod Free
 pub mod Together
+pub mod Outcomes

@@ -4,3 +4,4 @@ pub mod Stays
 pub mod OfRegions
 pub mod Free
 pub mod Together
+pub mod Moves
