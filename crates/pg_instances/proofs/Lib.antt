@@ -14,3 +14,4 @@ pub mod Flow
 pub mod Free
 pub mod Together
 pub mod Outcomes
+pub mod Took
