@@ -15,3 +15,5 @@ pub mod Free
 pub mod Together
 pub mod Outcomes
 pub mod Took
+pub mod Quiets
+pub mod Beyond

@@ -20,6 +20,8 @@ use Rattle.pg_step.specs.Operands.{operands_of, number_at, first_four}
 use Rattle.pg_step.specs.Step.{next, after, frames_action, instr_action, op_action, op_after, total}
 use Rattle.pg_step.specs.Told.{id_of, place_in, operand_values}
 use Rattle.pg_step.proofs.Nexts.{next_at, operands_at}
+use Rattle.pg_step.specs.States.{CanStep}
+use Rattle.pg_machine.proofs.PhaseActions.{begun_after}
 use Rattle.pg_step.proofs.Afters.{after_at, after_start}
 use Rattle.pg_trace.specs.declared.step.Step.{Step}
 use Rattle.pg_trace.specs.declared.step.StepKind.{StepKind}
@@ -40,17 +42,18 @@ use Rattle.pg_instances.proofs.Outcomes.{Outcome, op_outcome, running}
 
 -- ---- what is told of a step that asks nothing of other threads
 
--- an access of a load or of a store, by its instruction
-pub record TellsAccess (o : Op) (a : Access) : Type 0 where
+-- an access of a load or of a store, by its instruction, which is an event or not
+pub record TellsAccess (event : Bool) (o : Op) (a : Access) : Type 0 where
+  pub event_is : a.event ≡ event
   pub by : (IsLoad o × (a.writes ≡ false)) ⊎ (IsStore o × (a.writes ≡ true) × IsPlacedAt a.pointer (range_of a))
 
-abbrev pub TellsPlain : Op → StepKind → Type 0
-TellsPlain o (told.Access a) = TellsAccess o a
-TellsPlain o (told.Event e) = ⊥
-TellsPlain o k = (k ≡ told.Other) ⊎ ((ns : List ℕ) × (n : ℕ) × (k ≡ op_told ns n o))
+abbrev pub TellsPlain : Bool → Op → StepKind → Type 0
+TellsPlain event o (told.Access a) = TellsAccess event o a
+TellsPlain event o (told.Event e) = ⊥
+TellsPlain event o k = (k ≡ told.Other) ⊎ ((ns : List ℕ) × (n : ℕ) × (k ≡ op_told ns n o))
 
 -- a step that asks nothing of other threads
-pub record Plain (p : NumberedProgram) (s : State) (t : ℕ) (l : LocalState) (x : Step) (z : State) (local : LocalState) : Type 0 where
+pub record Plain (gated : List InstrId) (p : NumberedProgram) (s : State) (t : ℕ) (l : LocalState) (x : Step) (z : State) (local : LocalState) : Type 0 where
   pub frame : Frame
   pub below : List Frame
   pub instr : Instr
@@ -58,7 +61,7 @@ pub record Plain (p : NumberedProgram) (s : State) (t : ℕ) (l : LocalState) (x
   pub frames : l.frames ≡ frame ∷ below
   pub is : slice_get p.instrs frame.place ≡ Some instr
   pub moves : Moves p frame below instr instr.op local.frames
-  pub tells : TellsPlain instr.op x.kind
+  pub tells : TellsPlain (is_gated gated frame.place) instr.op x.kind
   pub locals : z.locals ≡ slice_set s.locals t local
 
 abbrev pub AddsThread : Request → State → State → Type 0
@@ -75,14 +78,15 @@ pub record Requests (p : NumberedProgram) (s : State) (t : ℕ) (l : LocalState)
   pub adds : AddsThread request s z
   pub asks : next p l ≡ actions.Event request
 
-pub record Took (p : NumberedProgram) (s : State) (t : ℕ) (l : LocalState) (x : Step) (z : State) : Type 0 where
+pub record Took (gated : List InstrId) (p : NumberedProgram) (s : State) (t : ℕ) (l : LocalState) (x : Step) (z : State) : Type 0 where
   pub thread : x.thread.0 ≡ t
   pub instr : x.instr.0 ≡ id_of l
   pub local : LocalState
   pub is_local : slice_get z.locals t ≡ Some local
   pub others : (u : ℕ) → (u ≡ t → ⊥) → u < length s.locals → slice_get z.locals u ≡ slice_get s.locals u
   pub made : (u : ℕ) (m : LocalState) → length s.locals ≤ u → slice_get z.locals u ≡ Some m → (f : ℕ) × (m ≡ fresh p u f)
-  pub did : Plain p s t l x z local ⊎ Requests p s t l x z local
+  pub began : local.begun ≡ true
+  pub did : Plain gated p s t l x z local ⊎ Requests p s t l x z local
 
 -- ---- the threads behind a step
 
@@ -137,10 +141,10 @@ behind p s t a = same_behind p s t a refl
 
 -- ---- a thread that has begun
 
-tells_instr : (ns : List ℕ) (n : ℕ) (o : Op) → TellsPlain o (op_told ns n o)
-tells_instr ns n o = go (op_told ns n o) refl
+tells_instr : (b : Bool) (ns : List ℕ) (n : ℕ) (o : Op) → TellsPlain b o (op_told ns n o)
+tells_instr b ns n o = go (op_told ns n o) refl
   where
-    go : (k : StepKind) → op_told ns n o ≡ k → TellsPlain o k
+    go : (k : StepKind) → op_told ns n o ≡ k → TellsPlain b o k
     go told.Other e = inl refl
     go (told.Branch c) e = inr (ns, n, sym e)
     go (told.Allocation a r) e = inr (ns, n, sym e)
@@ -210,12 +214,33 @@ module _ (gated : List InstrId) (p : NumberedProgram) (input : List ℤ) (s z : 
   made_there : (a : Action) → next_of p s t ≡ a → (u : ℕ) (m : LocalState) → length s.locals ≤ u → slice_get z.locals u ≡ Some m → (f : ℕ) × (m ≡ fresh p u f)
   made_there a e u m le h = (behind p s t a).made u m le (sym (set_other (asked p s t a) t u (after_here a) (λ q. let k = made_here in omega (arith, k, q, le))) ∙ sym (ap (λ (ls : List LocalState). slice_get ls u) (locals_here a e)) ∙ h)
 
-  took_by : (a : Action) → next_of p s t ≡ a → Plain p s t l x z (after_here a) ⊎ Requests p s t l x z (after_here a) → Took p s t l x z
+  not_trapped : (name : TrapName) → next_of p s t ≡ actions.Trap name → ⊥
+  unfolding step answered
+  not_trapped name q = let k : settled gated p s t (taken p s t (answered p input s t (actions.Trap name))) ≡ Did x z = subst (λ (b : Action). settled gated p s t (taken p s t (answered p input s t b)) ≡ Did x z) q did_step in cc
+
+  not_ended : next p l ≡ actions.Ended → ⊥
+  not_ended e = let k : may_act s t actions.Ended ≡ true = subst (λ (b : Action). may_act s t b ≡ true) (next_here ∙ e) (ready_acts p s t goes) in cc
+
+  can_step : CanStep (next p l)
+  can_step = go (next p l) refl
+    where
+      go : (a : Action) → next p l ≡ a → CanStep a
+      go actions.Local e = tt
+      go (actions.In i) e = tt
+      go actions.InLen e = tt
+      go (actions.Load r) e = tt
+      go (actions.Store r n) e = tt
+      go (actions.Event r) e = tt
+      go (actions.Trap name) e = absurd (not_trapped name (next_here ∙ e))
+      go actions.Ended e = absurd (not_ended e)
+
+  took_by : (a : Action) → next_of p s t ≡ a → Plain gated p s t l x z (after_here a) ⊎ Requests p s t l x z (after_here a) → Took gated p s t l x z
   took_by a e d = record {
     thread = ap (λ (y : Step). y.thread.0) told_here.1;
     instr = ap (λ (y : Step). y.instr.0) told_here.1 ∙ instr_here;
     local = after_here a;
     is_local = own_there a e;
+    began = begun_after p l (answer_to input s t a) can_step;
     others = others_there a e;
     made = made_there a e;
     did = d;
@@ -228,15 +253,8 @@ module _ (gated : List InstrId) (p : NumberedProgram) (input : List ℤ) (s z : 
   adds (requests.Exit v k) e = ap (λ (ls : List LocalState). length ls) (locals_here (actions.Event (requests.Exit v k)) e) ∙ set_length s.locals t (after_here (actions.Event (requests.Exit v k)))
   adds r e = ap (λ (ls : List LocalState). length ls) (locals_here (actions.Event r) e) ∙ set_length s.locals t (after_here (actions.Event r))
 
-  not_trapped : (name : TrapName) → next_of p s t ≡ actions.Trap name → ⊥
-  unfolding step answered
-  not_trapped name q = let k : settled gated p s t (taken p s t (answered p input s t (actions.Trap name))) ≡ Did x z = subst (λ (b : Action). settled gated p s t (taken p s t (answered p input s t b)) ≡ Did x z) q did_step in cc
-
-  not_ended : next p l ≡ actions.Ended → ⊥
-  not_ended e = let k : may_act s t actions.Ended ≡ true = subst (λ (b : Action). may_act s t b ≡ true) (next_here ∙ e) (ready_acts p s t goes) in cc
-
   -- a request, with what it leaves of the calls
-  took_request : (r : Request) → next p l ≡ actions.Event r → RequestMoves l.frames r (after_here (actions.Event r)).frames → Took p s t l x z
+  took_request : (r : Request) → next p l ≡ actions.Event r → RequestMoves l.frames r (after_here (actions.Event r)).frames → Took gated p s t l x z
   took_request r e m = took_by (actions.Event r) (next_here ∙ e) (inr (record {
     request = r;
     event = record {
@@ -273,13 +291,17 @@ module _ (gated : List InstrId) (p : NumberedProgram) (input : List ℤ) (s z : 
     unfolding id_of
     operands_are = ap (operands_in p) is_local ∙ ap (operand_values p) (sym same_state) ∙ operands_at p (running l.thread l.halfway f fs l.heap) i refl (omega arith) at
 
+    gate : is_gated gated (instr_of s t) ≡ is_gated gated f.place
+    unfolding id_of
+    gate = ap (is_gated gated) (instr_here ∙ ap place_in frames)
+
     abbrev Out : Action → Type 0
     Out a = Outcome p l.thread l.halfway f fs l.heap i i.op a
 
     moved_by : (n : ℕ) → Moves p f fs i i.op (op_after p (running l.thread l.halfway f fs l.heap) i n i.op) → Moves p f fs i i.op (after p l n).frames
     moved_by n m = subst (Moves p f fs i i.op) (sym (frames_after n)) m
 
-    plain : (a : Action) → next p l ≡ a → asked p s t a ≡ s.locals → TellsPlain i.op x.kind → Moves p f fs i i.op (after_here a).frames → Took p s t l x z
+    plain : (a : Action) → next p l ≡ a → asked p s t a ≡ s.locals → TellsPlain (is_gated gated f.place) i.op x.kind → Moves p f fs i i.op (after_here a).frames → Took gated p s t l x z
     plain a e k w m = took_by a (next_here ∙ e) (inl (record {
       frame = f;
       below = fs;
@@ -292,28 +314,28 @@ module _ (gated : List InstrId) (p : NumberedProgram) (input : List ℤ) (s z : 
       locals = locals_here a (next_here ∙ e) ∙ ap (λ (ls : List LocalState). slice_set ls t (after_here a)) k;
     }))
 
-    instr_tells : (ns : List ℕ) (n : ℕ) → TellsPlain i.op (instr_told ns n (slice_get p.instrs (instr_of s t)))
-    instr_tells ns n = subst (λ (o : Option Instr). TellsPlain i.op (instr_told ns n o)) (sym (ap (slice_get p.instrs) instr_here ∙ at_id)) (tells_instr ns n i.op)
+    instr_tells : (ns : List ℕ) (n : ℕ) → TellsPlain (is_gated gated f.place) i.op (instr_told ns n (slice_get p.instrs (instr_of s t)))
+    instr_tells ns n = subst (λ (o : Option Instr). TellsPlain (is_gated gated f.place) i.op (instr_told ns n o)) (sym (ap (slice_get p.instrs) instr_here ∙ at_id)) (tells_instr (is_gated gated f.place) ns n i.op)
 
     placed : (r : ByteRange) (w : ℕ) (m : ℕ) → IsPlacedAt w r → IsPlacedAt w (range_of (record { pointer = w; number = m; bytes = r.bytes; writes = true; event = is_gated gated (instr_of s t) }))
     placed r w m h = record { start = refl; within = record { from = (let v = h.within.from in omega (arith, v, h.start)); end = (let v = h.within.end in omega (arith, v, h.start)) } }
 
-    by_action : (a : Action) → next p l ≡ a → may_act s t a ≡ true → Out a → Took p s t l x z
-    by_action actions.Local e m o = plain actions.Local e refl (subst (TellsPlain i.op) (sym (kind_here actions.Local (next_here ∙ e))) (instr_tells (operands_in p (slice_get s.locals t)) (number_in p (slice_get s.locals t) told_here.0))) (moved_by 0 o)
-    by_action (actions.In k) e m o = plain (actions.In k) e refl (subst (TellsPlain i.op) (sym (kind_here (actions.In k) (next_here ∙ e))) (inl refl)) (moved_by (input_at input k) (o (input_at input k)))
-    by_action actions.InLen e m o = plain actions.InLen e refl (subst (TellsPlain i.op) (sym (kind_here actions.InLen (next_here ∙ e))) (inl refl)) (moved_by (length input) (o (length input)))
-    by_action (actions.Load r) e m o = plain (actions.Load r) e refl (subst (TellsPlain i.op) (sym (kind_here (actions.Load r) (next_here ∙ e))) (record { by = inl (o.0, refl) })) (moved_by (read s.memory r) (o.1 (read s.memory r)))
+    by_action : (a : Action) → next p l ≡ a → may_act s t a ≡ true → Out a → Took gated p s t l x z
+    by_action actions.Local e m o = plain actions.Local e refl (subst (TellsPlain (is_gated gated f.place) i.op) (sym (kind_here actions.Local (next_here ∙ e))) (instr_tells (operands_in p (slice_get s.locals t)) (number_in p (slice_get s.locals t) told_here.0))) (moved_by 0 o)
+    by_action (actions.In k) e m o = plain (actions.In k) e refl (subst (TellsPlain (is_gated gated f.place) i.op) (sym (kind_here (actions.In k) (next_here ∙ e))) (inl refl)) (moved_by (input_at input k) (o (input_at input k)))
+    by_action actions.InLen e m o = plain actions.InLen e refl (subst (TellsPlain (is_gated gated f.place) i.op) (sym (kind_here actions.InLen (next_here ∙ e))) (inl refl)) (moved_by (length input) (o (length input)))
+    by_action (actions.Load r) e m o = plain (actions.Load r) e refl (subst (TellsPlain (is_gated gated f.place) i.op) (sym (kind_here (actions.Load r) (next_here ∙ e))) (record { event_is = gate; by = inl (o.0, refl) })) (moved_by (read s.memory r) (o.1 (read s.memory r)))
     by_action (actions.Store r n) e m o =
         plain (actions.Store r n) e refl
-        (subst (TellsPlain i.op) (sym (kind_here (actions.Store r n) (next_here ∙ e)))
-        (record { by = inr (o.1, refl, placed r (slice_index (operands_in p (slice_get s.locals t)) 1) n (subst (λ (ns : List ℕ). IsPlacedAt (slice_index ns 1) r) (sym operands_are) o.0)) }))
+        (subst (TellsPlain (is_gated gated f.place) i.op) (sym (kind_here (actions.Store r n) (next_here ∙ e)))
+        (record { event_is = gate; by = inr (o.1, refl, placed r (slice_index (operands_in p (slice_get s.locals t)) 1) n (subst (λ (ns : List ℕ). IsPlacedAt (slice_index ns 1) r) (sym operands_are) o.0)) }))
         (moved_by 0 o.2)
     by_action (actions.Event r) e m o =
         took_request r e (subst (λ (gs : List Frame). RequestMoves gs r (after_here (actions.Event r)).frames) (sym frames) (subst (λ (gs : List Frame). RequestMoves (f ∷ fs) r gs) (sym (frames_after (answer_to input s t (actions.Event r)))) (o (answer_to input s t (actions.Event r)))))
     by_action (actions.Trap name) e m o = absurd (not_trapped name (next_here ∙ e))
     by_action actions.Ended e m o = absurd cc
 
-    took_running : Took p s t l x z
+    took_running : Took gated p s t l x z
     took_running = by_action (next p l) refl (subst (λ (b : Action). may_act s t b ≡ true) next_here (ready_acts p s t goes)) (subst Out (sym action_is) (op_outcome p l.thread l.halfway f fs l.heap i i.op))
 
   start_frames : (b : Bool) (fs : List Frame) → l.begun ≡ b → l.frames ≡ fs → 0 < length fs → b ≡ false → next p l ≡ actions.Event requests.Start
@@ -334,20 +356,20 @@ module _ (gated : List InstrId) (p : NumberedProgram) (input : List ℤ) (s z : 
   unfolding next
   ended_instr f fs b e q = ap (λ (c : Bool). frames_action p l c l.frames) b ∙ ap (frames_action p l true) e ∙ ap (instr_action p l f fs) q
 
-  pub took : Took p s t l x z
+  pub took : Took gated p s t l x z
   took = by_frames l.frames refl
     where
-      by_instr : (f : Frame) (fs : List Frame) (o : Option Instr) → l.begun ≡ true → l.frames ≡ f ∷ fs → slice_get p.instrs f.place ≡ o → Took p s t l x z
+      by_instr : (f : Frame) (fs : List Frame) (o : Option Instr) → l.begun ≡ true → l.frames ≡ f ∷ fs → slice_get p.instrs f.place ≡ o → Took gated p s t l x z
       by_instr f fs None b e q = absurd (not_ended (ended_instr f fs b e q))
       by_instr f fs (Some i) b e q = took_running f fs i b e q
 
-      by_begun : (f : Frame) (fs : List Frame) (b : Bool) → l.begun ≡ b → l.frames ≡ f ∷ fs → Took p s t l x z
+      by_begun : (f : Frame) (fs : List Frame) (b : Bool) → l.begun ≡ b → l.frames ≡ f ∷ fs → Took gated p s t l x z
       by_begun f fs true b e = by_instr f fs (slice_get p.instrs f.place) b e refl
       by_begun f fs false b e =
           let q = start_frames false (f ∷ fs) b e (omega arith) refl in
           took_request requests.Start q (ap (λ (m : LocalState). length m.frames) (after_start p l (answer_to input s t (actions.Event requests.Start)) b (let n : length l.frames ≡ length (f ∷ fs) = ap (λ (gs : List Frame). length gs) e in omega (arith, n)))
           ∙ on_top_length _ l.frames)
 
-      by_frames : (gs : List Frame) → l.frames ≡ gs → Took p s t l x z
+      by_frames : (gs : List Frame) → l.frames ≡ gs → Took gated p s t l x z
       by_frames [] e = absurd (not_ended (ended_frames e))
       by_frames (f ∷ fs) e = by_begun f fs l.begun refl e
