@@ -63,7 +63,7 @@ module _ (p : NumberedProgram) (gated : ℕ → Bool) (sums : ℕ → Option Roo
       record { instr = y.0; is = y.1; path = subst (λ (b : ℕ). Path (flow_of p) j b) (sym y.2) w }
 
   -- at the body of a block
-  at_body : (g : Frame) (b : ℕ) → b < length p.blocks → g.place ≡ body_of p b → Path (flow_of p) j b → Reached g
+  pub at_body : (g : Frame) (b : ℕ) → b < length p.blocks → g.place ≡ body_of p b → Path (flow_of p) j b → Reached g
   unfolding body_of
   at_body g b lt q w =
       let y = in_block b (slice_get p.instrs g.place) (subst (λ (i : ℕ). IsInBlock b (slice_get p.instrs i)) (sym q) (block_held p b (body_of p b) program (omega arith) (body_within p b program lt))) in
@@ -115,7 +115,7 @@ module _ (p : NumberedProgram) (gated : ℕ → Bool) (sums : ℕ → Option Roo
   -- ---- a step that ends the quiet
 
   -- an instruction on top that isn't quiet, also where a return is
-  not_quiet : (fs : List Frame) (f : Frame) (gs : List Frame) (x : Instr) → fs ≡ f ∷ gs → AreFramesOf p fs → Beyond fs → slice_get p.instrs f.place ≡ Some x → (IsQuiet true gated sums f.place x.op → IsReturn x.op × (gs ≡ [])) → Loud
+  pub not_quiet : (fs : List Frame) (f : Frame) (gs : List Frame) (x : Instr) → fs ≡ f ∷ gs → AreFramesOf p fs → Beyond fs → slice_get p.instrs f.place ≡ Some x → (IsQuiet true gated sums f.place x.op → IsReturn x.op × (gs ≡ [])) → Loud
   not_quiet fs f gs x e ok b at n = go b.above b.frames
     where
       same : (r : Reached f) → r.instr ≡ x
@@ -147,7 +147,7 @@ module _ (p : NumberedProgram) (gated : ℕ → Bool) (sums : ℕ → Option Roo
   -- ---- a step that goes on
 
   -- a step that asks nothing of other threads leads on, or returns from the frame
-  moves_on : (fs : List Frame) (f : Frame) (gs : List Frame) (x : Instr) (hs : List Frame) → fs ≡ f ∷ gs → AreFramesOf p fs → Beyond fs → slice_get p.instrs f.place ≡ Some x → Moves p f gs x x.op hs → Loud ⊎ Beyond hs
+  pub moves_on : (fs : List Frame) (f : Frame) (gs : List Frame) (x : Instr) (hs : List Frame) → fs ≡ f ∷ gs → AreFramesOf p fs → Beyond fs → slice_get p.instrs f.place ≡ Some x → Moves p f gs x x.op hs → Loud ⊎ Beyond hs
   moves_on fs f gs x hs e ok b at m = go b.above b.frames
     where
       top_is : (h : Frame) (ks : List Frame) → fs ≡ h ∷ ks → (f ≡ h) × (gs ≡ ks)

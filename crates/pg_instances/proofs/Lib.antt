@@ -17,3 +17,4 @@ pub mod Outcomes
 pub mod Took
 pub mod Quiets
 pub mod Beyond
+pub mod LeadsOut
