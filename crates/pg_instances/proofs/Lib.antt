@@ -18,3 +18,4 @@ pub mod Took
 pub mod Quiets
 pub mod Beyond
 pub mod LeadsOut
+pub mod Within
