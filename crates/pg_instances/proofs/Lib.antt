@@ -19,3 +19,5 @@ pub mod Quiets
 pub mod Beyond
 pub mod LeadsOut
 pub mod Within
+pub mod Freed
+pub mod Opens

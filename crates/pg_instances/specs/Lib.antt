@@ -5,3 +5,4 @@ pub mod OfRegions
 pub mod Free
 pub mod Together
 pub mod Moves
+pub mod Keeps
