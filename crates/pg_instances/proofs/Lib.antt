@@ -21,3 +21,4 @@ pub mod LeadsOut
 pub mod Within
 pub mod Freed
 pub mod Opens
+pub mod Keeping
