@@ -22,3 +22,4 @@ pub mod Within
 pub mod Freed
 pub mod Opens
 pub mod Keeping
+pub mod Opening

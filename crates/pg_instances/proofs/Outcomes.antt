@@ -26,6 +26,7 @@ use Rattle.pg_step.specs.LocalState.{Frame, LocalState, region_of}
 use Rattle.pg_step.specs.Operands.{argument, given, operand, operands_of, number_at}
 use Rattle.pg_step.specs.Compute.{chosen}
 use Rattle.pg_step.specs.EdgeStep.{case_of}
+use Rattle.pg_step.specs.States.{CallsFunction}
 use Rattle.pg_step.specs.Step as step
 use Rattle.pg_step.specs.Step.{op_action, op_after, known_action, on_place, placed, bytes_of, entered, return_action, returning_action, returned, stepped, total, has_room, result_number}
 use Rattle.pg_machine.proofs.Actions.{OfTraps, on_value_is, on_all_is, edge_is, call_is, divided_is, room_is, number_is, object_is, init_is, barrier_init_is, wait_is, create_is, join_is, either}
@@ -73,19 +74,19 @@ module _ (p : NumberedProgram) (t : ℕ) (h : Bool) (f : Frame) (fs : List Frame
   abbrev Q : Op → Action → Type 0
   Q o = Outcome p t h f fs heap x o
 
-  past : (o : Op) (n : ℕ) → is_terminator o ≡ false → Moves p f fs x o (stepped f x.result n ∷ fs)
-  past o n e = inr (inr (inr (record { plain = e; frame = stepped f x.result n; function = refl; place = refl; is = refl })))
+  past : (o : Op) (n : ℕ) → is_terminator o ≡ false → ((g : ℕ) → CallsFunction g o → ⊥) → Moves p f fs x o (stepped f x.result n ∷ fs)
+  past o n e c = inr (inr (inr (record { plain = e; no_call = c; frame = stepped f x.result n; function = refl; place = refl; is = refl })))
 
   along : (o : Op) (to : ℕ) → is_terminator o ≡ true → Contains (targets_of o) to → edge_taken p rs o ≡ Some to → Moves p f fs x o (step.moved p f x.block.0 to ∷ fs)
   along o to k c e = inl (record { to = to; ends = k; among = c; edge = e; is = refl })
 
   known_outcome : (k : Known) (args : List Value) → Q (op.CallKnown k args) (known_action p t h rs k args)
-  known_outcome known.PgIn args = number_is (Q (op.CallKnown known.PgIn args)) p rs args _ (λ n. tt) (λ i n. past (op.CallKnown known.PgIn args) _ refl)
-  known_outcome known.PgInLen args = λ n. past (op.CallKnown known.PgInLen args) _ refl
+  known_outcome known.PgIn args = number_is (Q (op.CallKnown known.PgIn args)) p rs args _ (λ n. tt) (λ i n. past (op.CallKnown known.PgIn args) _ refl (λ g c. c))
+  known_outcome known.PgInLen args = λ n. past (op.CallKnown known.PgInLen args) _ refl (λ g c. c)
   known_outcome known.PgOut args = number_is (Q (op.CallKnown known.PgOut args)) p rs args _ (λ n. tt) (λ i n. refl)
   known_outcome known.Putchar args = number_is (Q (op.CallKnown known.Putchar args)) p rs args _ (λ n. tt) (λ i n. refl)
-  known_outcome known.Malloc args = number_is (Q (op.CallKnown known.Malloc args)) p rs args _ (λ n. tt) (λ i. past (op.CallKnown known.Malloc args) _ refl)
-  known_outcome known.Free args = number_is (Q (op.CallKnown known.Free args)) p rs args _ (λ n. tt) (λ i. past (op.CallKnown known.Free args) _ refl)
+  known_outcome known.Malloc args = number_is (Q (op.CallKnown known.Malloc args)) p rs args _ (λ n. tt) (λ i. past (op.CallKnown known.Malloc args) _ refl (λ g c. c))
+  known_outcome known.Free args = number_is (Q (op.CallKnown known.Free args)) p rs args _ (λ n. tt) (λ i. past (op.CallKnown known.Free args) _ refl (λ g c. c))
   known_outcome known.PthreadExit args = number_is (Q (op.CallKnown known.PthreadExit args)) p rs args _ (λ n. tt) (λ i n. refl)
   known_outcome known.PthreadCreate args = create_is (Q (op.CallKnown known.PthreadCreate args)) p rs args (λ n. tt) (λ r g n k q m. refl)
   known_outcome known.PthreadJoin args = join_is (Q (op.CallKnown known.PthreadJoin args)) p rs args (λ n. tt) (λ n m. refl) (λ n r k m. refl)
@@ -132,7 +133,7 @@ module _ (p : NumberedProgram) (t : ℕ) (h : Bool) (f : Frame) (fs : List Frame
   returning (Some w) = on_value_is (Q (op.Ret (Some w))) (operand p rs w) _ (λ n. tt) (λ n e. back (Some w) n)
 
   pub op_outcome : (o : Op) → Q o (op_action p (region_of (running t h f fs heap)) h rs (length (f ∷ fs)) (total (f ∷ fs)) x.block.0 o)
-  op_outcome (op.Divide d w a b) = on_value_is (Q (op.Divide d w a b)) (operand p rs a) _ (λ n. tt) (λ i u. on_value_is (Q (op.Divide d w a b)) (operand p rs b) _ (λ n. tt) (λ j v. divided_is (Q (op.Divide d w a b)) (divided d w i j) (λ n. tt) (past (op.Divide d w a b) _ refl)))
+  op_outcome (op.Divide d w a b) = on_value_is (Q (op.Divide d w a b)) (operand p rs a) _ (λ n. tt) (λ i u. on_value_is (Q (op.Divide d w a b)) (operand p rs b) _ (λ n. tt) (λ j v. divided_is (Q (op.Divide d w a b)) (divided d w i j) (λ n. tt) (past (op.Divide d w a b) _ refl (λ g c. c))))
   op_outcome (op.Phi from) = tt
   op_outcome (op.Br to) = edge_is (Q (op.Br to)) p rs x.block.0 to.0 (λ n. tt) (along (op.Br to) to.0 refl (here to.0 []) refl)
   op_outcome (op.CondBr c a b) =
@@ -146,14 +147,14 @@ module _ (p : NumberedProgram) (t : ℕ) (h : Bool) (f : Frame) (fs : List Frame
   op_outcome (op.Ret v) = returning v
   op_outcome op.Unreachable = tt
   op_outcome (op.Alloca bytes) = room_is (Q (op.Alloca bytes)) (has_room (region_of (running t h f fs heap)) (granules_for bytes)) (λ n. tt)
-      (inr (inr (inr (record { plain = refl; frame = step.taken (stepped f x.result (step.pushed (region_of (running t h f fs heap)) bytes)) (granules_for bytes); function = refl; place = refl; is = refl }))))
-  op_outcome (op.Load w from) = on_value_is (Q (op.Load w from)) (operand p rs from) _ (λ n. tt) (λ a u. place_known (Q (op.Load w from)) a (bytes_of w) _ (λ n. tt) (λ r e. (tt, λ n. past (op.Load w from) _ refl)))
+      (inr (inr (inr (record { plain = refl; no_call = λ g c. c; frame = step.taken (stepped f x.result (step.pushed (region_of (running t h f fs heap)) bytes)) (granules_for bytes); function = refl; place = refl; is = refl }))))
+  op_outcome (op.Load w from) = on_value_is (Q (op.Load w from)) (operand p rs from) _ (λ n. tt) (λ a u. place_known (Q (op.Load w from)) a (bytes_of w) _ (λ n. tt) (λ r e. (tt, λ n. past (op.Load w from) _ refl (λ g c. c))))
   op_outcome (op.Store w v at) =
       on_value_is (Q (op.Store w v at)) (operand p rs v) _ (λ n. tt) (λ n u.
       on_value_is (Q (op.Store w v at)) (operand p rs at) _ (λ n. tt) (λ a k.
       place_known (Q (op.Store w v at)) a (bytes_of w) _ (λ n. tt) (λ r e. (
       subst (λ (n : ℕ). IsPlacedAt n r) (sym (ap given k)) (record { start = first_byte a (bytes_of w) r e; within = within_frame a (bytes_of w) r e }),
       tt,
-      past (op.Store w v at) _ refl))))
+      past (op.Store w v at) _ refl (λ g c. c)))))
   op_outcome (op.CallKnown k args) = known_outcome k args
-  op_outcome o = on_all_is (Q o) p rs (operands_of o) actions.Local (λ n. tt) (past o _ refl)
+  op_outcome o = on_all_is (Q o) p rs (operands_of o) actions.Local (λ n. tt) (past o _ refl (λ g c. c))

@@ -54,6 +54,7 @@ pub record GoesBack (p : NumberedProgram) (below : List Frame) (o : Op) (fs : Li
 -- it goes on behind its instruction
 pub record GoesPast (f : Frame) (below : List Frame) (o : Op) (fs : List Frame) : Type 0 where
   pub plain : is_terminator o ≡ false
+  pub no_call : (g : ℕ) → CallsFunction g o → ⊥
   pub frame : Frame
   pub function : frame.function ≡ f.function
   pub place : frame.place ≡ f.place + 1
