@@ -23,3 +23,4 @@ pub mod Freed
 pub mod Opens
 pub mod Keeping
 pub mod Opening
+pub mod Shadows
