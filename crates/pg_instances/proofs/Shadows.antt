@@ -24,11 +24,12 @@ use Rattle.pg_machine.proofs.Threads.{set_length}
 use Rattle.pg_closed.specs.Moments.{Moment, instr_in, thread_in}
 use Rattle.pg_closed.specs.Extents.{Extent, is_live, open_after}
 use Rattle.pg_closed.specs.Freeable.{FreeRegion}
-use Rattle.pg_closed.specs.Shadows.{Shadow}
+use Rattle.pg_closed.specs.Shadows.{Shadow, unset}
 use Rattle.pg_closed.specs.Known as known
 use Rattle.pg_closed.specs.Known.{Reference, RunShadow, ThreadShadow, after_event, after_op, after_step, edge_of, fresh_thread, live_after, live_by, no_thread, on_thread, region_of, thread_of, threads_after, under_top, with_extents, with_top}
 use Rattle.pg_instances.specs.Keeps.{every}
-use Rattle.pg_instances.specs.Moves.{GoesAlong, GoesBack, GoesInto, GoesPast, Moves, RequestMoves, IsReturn}
+use Rattle.pg_trace.specs.Steps.{range_of}
+use Rattle.pg_instances.specs.Moves.{GoesAlong, GoesBack, GoesInto, GoesPast, Moves, RequestMoves, IsLoad, IsStore, IsPlacedAt, IsReturn}
 use Rattle.pg_instances.specs.Inside.{edge_taken}
 use Rattle.pg_instances.proofs.Took.{AddsThread, TellsPlain}
 
@@ -206,14 +207,107 @@ module _ (R : Reference) (n : ℕ) (m : Moment) (w : RunShadow) (i : Instr) (at 
       ap (λ (b : Bool). let z = if b then live_after p every n m region (instr_in p m) w else w in record z { threads = with_extents t es z.threads }) (live_always (thread_of w t).extents)
       ∙ ap (λ (o : Option Instr). let z = live_after p every n m region o w in record z { threads = with_extents t es z.threads }) at
 
+  -- ---- the threads of the live step, by what it tells
+
+  abbrev live_at : StepKind → RunShadow
+  live_at k = live_by p every n m region i k w
+
+  -- the threads grow to so many, this one's calls to those of the frames
+  pub record Lives (k : StepKind) (frames : List Frame) (size : ℕ) : Type 0 where
+    pub calls : List (List Shadow)
+    pub grown : Grown w.threads (live_at k).threads t calls
+    pub length_is : length calls ≡ length frames
+    pub size_is : length (live_at k).threads ≡ size
+
+  on_length : (g : List (List Shadow) → List (List Shadow)) → length (on_thread g t w.threads) ≡ length w.threads
+  on_length g = set_length w.threads t (record (slice_index_or w.threads t no_thread) { calls = g (slice_index_or w.threads t no_thread).calls })
+
+  load_moves : (f : Frame) (below fs : List Frame) (o : Op) → IsLoad o → Moves p f below i o fs → length fs ≡ length (f ∷ below)
+  load_moves f below fs (op.Load v from) h (inl a) = absurd (let e = a.edge in cc)
+  load_moves f below fs (op.Load v from) h (inr (inl a)) = absurd a.call
+  load_moves f below fs (op.Load v from) h (inr (inr (inl a))) = absurd a.back
+  load_moves f below fs (op.Load v from) h (inr (inr (inr a))) = ap (λ (l : List Frame). length l) a.is
+  load_moves f below fs o h k = absurd h
+
+  store_moves : (f : Frame) (below fs : List Frame) (o : Op) → IsStore o → Moves p f below i o fs → length fs ≡ length (f ∷ below)
+  store_moves f below fs (op.Store v u at) h (inl a) = absurd (let e = a.edge in cc)
+  store_moves f below fs (op.Store v u at) h (inr (inl a)) = absurd a.call
+  store_moves f below fs (op.Store v u at) h (inr (inr (inl a))) = absurd a.back
+  store_moves f below fs (op.Store v u at) h (inr (inr (inr a))) = ap (λ (l : List Frame). length l) a.is
+  store_moves f below fs o h k = absurd h
+
+  lives_op : (k : StepKind) (f : Frame) (below fs : List Frame) → length (thread_of w t).calls ≡ length (f ∷ below) → Moves p f below i i.op fs → (live_at k).threads ≡ on_thread (after_op p true n m region (known.result_in k) i i.op) t w.threads → Lives k fs (length w.threads)
+  lives_op k f below fs size v e = record {
+    calls = after_op p true n m region (known.result_in k) i i.op (thread_of w t).calls;
+    grown = subst (λ (ts : List ThreadShadow). Grown w.threads ts t (after_op p true n m region (known.result_in k) i i.op (thread_of w t).calls)) (sym e) (grown_on (after_op p true n m region (known.result_in k) i i.op) t w.threads lt);
+    length_is = op_length p n m region (known.result_in k) i (thread_of w t).calls f below size i.op fs v;
+    size_is = ap (λ (ts : List ThreadShadow). length ts) e ∙ on_length (after_op p true n m region (known.result_in k) i i.op);
+  }
+
+  pub lives_plain : (b : Bool) (k : StepKind) (f : Frame) (below fs : List Frame) → length (thread_of w t).calls ≡ length (f ∷ below) → TellsPlain b i.op k → Moves p f below i i.op fs → Lives k fs (length w.threads)
+  lives_plain b told.Other f below fs size h v = lives_op told.Other f below fs size v refl
+  lives_plain b (told.Branch c) f below fs size h v = lives_op (told.Branch c) f below fs size v refl
+  lives_plain b (told.Allocation a r) f below fs size h v = lives_op (told.Allocation a r) f below fs size v refl
+  lives_plain b (told.Event e) f below fs size h v = absurd h
+  lives_plain b (told.Access a) f below fs size h v = record {
+      calls = with_top (known.after_access p true n a w.bytes i i.op) (thread_of w t).calls;
+      grown = grown_on (with_top (known.after_access p true n a w.bytes i i.op)) t w.threads lt;
+      length_is = top_length (known.after_access p true n a w.bytes i i.op) (thread_of w t).calls ∙ size ∙ sym (same h.by);
+      size_is = on_length (with_top (known.after_access p true n a w.bytes i i.op));
+    }
+    where
+      same : (IsLoad i.op × (a.writes ≡ false)) ⊎ (IsStore i.op × (a.writes ≡ true) × IsPlacedAt a.pointer (range_of a)) → length fs ≡ length (f ∷ below)
+      same (inl c) = load_moves f below fs i.op c.0 v
+      same (inr c) = store_moves f below fs i.op c.0 v
+
+  -- a request
+  abbrev asked_threads : Event → TurnKind → List ThreadShadow
+  asked_threads e k = threads_after p e k (on_thread (after_event p m e k (slice_index_or w.words t unset) i) t w.threads)
+
+  abbrev asked_calls : Event → TurnKind → List (List Shadow)
+  asked_calls e k = after_event p m e k (slice_index_or w.words t unset) i (thread_of w t).calls
+
+  record Asked (e : Event) (k : TurnKind) (frames : List Frame) (size : ℕ) : Type 0 where
+    grown : Grown w.threads (asked_threads e k) t (asked_calls e k)
+    length_is : length (asked_calls e k) ≡ length frames
+    size_is : length (asked_threads e k) ≡ size
+
+  abbrev Adds : Request → ℕ → Type 0
+  Adds (requests.Create r g v) size = size ≡ length w.threads + 1
+  Adds r size = size ≡ length w.threads
+
+  asked_by : (e : Event) (r : Request) (before fs : List Frame) (size : ℕ) → length (thread_of w t).calls ≡ length before → RequestMoves before r fs → Adds r size → Asked e (kind_of r) fs size
+  asked_by e (requests.Create at g v) before fs size c h k =
+      let f : List (List Shadow) → List (List Shadow) = after_event p m e (kind_of (requests.Create at g v)) (slice_index_or w.words t unset) i in
+      record {
+        grown = grown_last p (Rattle.std.specs.Prelude.slice_index e.operands 2) w.threads (on_thread f t w.threads) t (f (thread_of w t).calls) lt (on_length f) (grown_on f t w.threads lt);
+        length_is = event_length p m e (slice_index_or w.words t unset) i (thread_of w t).calls before fs (requests.Create at g v) c h;
+        size_is = (let n = last_length (on_thread f t w.threads) (fresh_thread p (Rattle.std.specs.Prelude.slice_index e.operands 2)) in let o = on_length f in omega (arith, n, o, k));
+      }
+  asked_by e (requests.Exit v b) before fs size c h k = record {
+    grown = grown_on (after_event p m e (kind_of (requests.Exit v b)) (slice_index_or w.words t unset) i) t w.threads lt;
+    length_is = event_length p m e (slice_index_or w.words t unset) i (thread_of w t).calls before fs (requests.Exit v b) c h;
+    size_is = on_length (after_event p m e (kind_of (requests.Exit v b)) (slice_index_or w.words t unset) i) ∙ sym k;
+  }
+  asked_by e r before fs size c h k = record {
+    grown = grown_on (after_event p m e (kind_of r) (slice_index_or w.words t unset) i) t w.threads lt;
+    length_is = event_length p m e (slice_index_or w.words t unset) i (thread_of w t).calls before fs r c h;
+    size_is = on_length (after_event p m e (kind_of r) (slice_index_or w.words t unset) i) ∙ sym k;
+  }
+
+  pub lives_event : (e : Event) (r : Request) (before fs : List Frame) (size : ℕ) → length (thread_of w t).calls ≡ length before → e.kind ≡ kind_of r → RequestMoves before r fs → Adds r size → Lives (told.Event e) fs size
+  lives_event e r before fs size c q h k =
+      let a : Asked e e.kind fs size = subst (λ (z : TurnKind). Asked e z fs size) (sym q) (asked_by e r before fs size c h k) in
+      record { calls = asked_calls e e.kind; grown = a.grown; length_is = a.length_is; size_is = a.size_is }
+
   -- from the threads of the live step
-  walked_by : (calls : List (List Shadow)) (frames : List Frame) (size : ℕ) → Grown w.threads live.threads t calls → length calls ≡ length frames → length live.threads ≡ size → Walked w (after_step R every n m w) t frames es size
-  walked_by calls frames size g c k =
-      let x = extended w.threads live.threads t calls es lt g in
+  pub walked_by : (frames : List Frame) (size : ℕ) → Lives m.did.did.kind frames size → Walked w (after_step R every n m w) t frames es size
+  walked_by frames size h =
+      let x = extended w.threads live.threads t h.calls es lt h.grown in
       subst (λ (v : RunShadow). Walked w v t frames es size) (sym step_is) (record {
-        own_calls = ap (λ (l : List (List Shadow)). length l) x.own_calls ∙ c;
+        own_calls = ap (λ (l : List (List Shadow)). length l) x.own_calls ∙ h.length_is;
         own_extents = x.own_extents;
         others = x.others;
         past = x.past;
-        count = set_length live.threads t (record (slice_index_or live.threads t no_thread) { extents = es }) ∙ k;
+        count = set_length live.threads t (record (slice_index_or live.threads t no_thread) { extents = es }) ∙ h.size_is;
       })
