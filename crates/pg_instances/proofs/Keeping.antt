@@ -78,7 +78,7 @@ edge_same p m f fs (op.CondBr c a b) e = ap (λ (cs : List Frame). Some (chosen 
 edge_same p m f fs (op.Switch w on other cases) e = ap (λ (cs : List Frame). Some (case_of cases other.0 (number_at p (registers_in cs) (Rattle.pg_step.specs.Operands.operands_of (op.Switch w on other cases)) 0))) e
 edge_same p m f fs o e = refl
 
-no_store : (o : Op) → IsLoad o → is_store o ≡ true → ⊥
+pub no_store : (o : Op) → IsLoad o → is_store o ≡ true → ⊥
 no_store (op.Load w from) h e = cc
 no_store o h e = absurd h
 

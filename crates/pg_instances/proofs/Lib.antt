@@ -24,3 +24,4 @@ pub mod Opens
 pub mod Keeping
 pub mod Opening
 pub mod Shadows
+pub mod Heads

@@ -105,7 +105,7 @@ module _ (p : NumberedProgram) (gates : List InstrId) (sums : ℕ → Option Roo
     abbrev R : Rattle.pg_closed.specs.Known.Reference
     R = record { program = p; regions = regions; moments = moments }
 
-    abbrev took_it : Took gates p s t l x w
+    abbrev pub took_it : Took gates p s t l x w
     took_it = took_here p gates sums regions are moments free_of block_of program summaries input small s w z t l x xs y h run together next
 
     abbrev IsPlain : Type 0
@@ -165,14 +165,14 @@ module _ (p : NumberedProgram) (gates : List InstrId) (sums : ℕ → Option Roo
 
     -- ---- an extent that begins
 
-    abbrev freed_is : (q : IsPlain) (r : FreeRegion) → y.region ≡ Some r → (is_branch x.kind ≡ true) × Freed p (λ i. is_gated gates i) sums are.found y.moment q.instr.block.0 r
+    abbrev pub freed_is : (q : IsPlain) (r : FreeRegion) → y.region ≡ Some r → (is_branch x.kind ≡ true) × Freed p (λ i. is_gated gates i) sums are.found y.moment q.instr.block.0 r
     freed_is q r v = freed_here p gates sums regions are moments free_of block_of program summaries input small s w z t l x xs y h run together next q r v
 
     module _ (q : IsPlain) (r : FreeRegion) (v : y.region ≡ Some r) where
       abbrev g : Freed p (λ i. is_gated gates i) sums are.found y.moment q.instr.block.0 r
       g = (freed_is q r v).1
 
-      abbrev begun_instance : Instance
+      abbrev pub begun_instance : Instance
       begun_instance = instance_of p (λ i. is_gated gates i) sums g.region r s l q.frame q.below
 
       pub begins : CanStepInside begun_instance gates s t l
