@@ -217,7 +217,7 @@ module _ (p : NumberedProgram) (gates : List InstrId) (sums : ℕ → Option Roo
 
     -- ---- behind the step
 
-    abbrev left : List Extent
+    abbrev pub left : List Extent
     left = open_after y.number (depth_of y) y.region (edge_at R y) es
 
     block_plain : (q : IsPlain) → block_of y.number ≡ q.instr.block.0

@@ -25,3 +25,4 @@ pub mod Keeping
 pub mod Opening
 pub mod Shadows
 pub mod Heads
+pub mod References

@@ -167,6 +167,16 @@ extended ts us t calls es lt g =
           (ap (λ (th : ThreadShadow). th.extents) q ∙ (g.past u le).0, λ l. ap (λ (th : ThreadShadow). length th.calls) q ∙ (g.past u le).1 (omega (arith, n, l)));
     }
 
+-- a create adds a thread
+abbrev pub Adds : ℕ → Request → ℕ → Type 0
+Adds n (requests.Create r g v) size = size ≡ n + 1
+Adds n r size = size ≡ n
+
+pub adds_by : (s z : State) (n : ℕ) (r : Request) → n ≡ length s.locals → AddsThread r s z → Adds n r (length z.locals)
+adds_by s z n (requests.Create r g v) e h = omega (arith, e, h)
+adds_by s z n (requests.Exit v b) e h = omega (arith, e, h)
+adds_by s z n r e h = omega (arith, e, h)
+
 -- ---- a step
 
 pub live_always : (es : List Extent) → is_live every.pinned es ≡ true
@@ -272,11 +282,7 @@ module _ (R : Reference) (n : ℕ) (m : Moment) (w : RunShadow) (i : Instr) (at 
     length_is : length (asked_calls e k) ≡ length frames
     size_is : length (asked_threads e k) ≡ size
 
-  abbrev Adds : Request → ℕ → Type 0
-  Adds (requests.Create r g v) size = size ≡ length w.threads + 1
-  Adds r size = size ≡ length w.threads
-
-  asked_by : (e : Event) (r : Request) (before fs : List Frame) (size : ℕ) → length (thread_of w t).calls ≡ length before → RequestMoves before r fs → Adds r size → Asked e (kind_of r) fs size
+  asked_by : (e : Event) (r : Request) (before fs : List Frame) (size : ℕ) → length (thread_of w t).calls ≡ length before → RequestMoves before r fs → Adds (length w.threads) r size → Asked e (kind_of r) fs size
   asked_by e (requests.Create at g v) before fs size c h k =
       let f : List (List Shadow) → List (List Shadow) = after_event p m e (kind_of (requests.Create at g v)) (slice_index_or w.words t unset) i in
       record {
@@ -295,7 +301,7 @@ module _ (R : Reference) (n : ℕ) (m : Moment) (w : RunShadow) (i : Instr) (at 
     size_is = on_length (after_event p m e (kind_of r) (slice_index_or w.words t unset) i) ∙ sym k;
   }
 
-  pub lives_event : (e : Event) (r : Request) (before fs : List Frame) (size : ℕ) → length (thread_of w t).calls ≡ length before → e.kind ≡ kind_of r → RequestMoves before r fs → Adds r size → Lives (told.Event e) fs size
+  pub lives_event : (e : Event) (r : Request) (before fs : List Frame) (size : ℕ) → length (thread_of w t).calls ≡ length before → e.kind ≡ kind_of r → RequestMoves before r fs → Adds (length w.threads) r size → Lives (told.Event e) fs size
   lives_event e r before fs size c q h k =
       let a : Asked e e.kind fs size = subst (λ (z : TurnKind). Asked e z fs size) (sym q) (asked_by e r before fs size c h k) in
       record { calls = asked_calls e e.kind; grown = a.grown; length_is = a.length_is; size_is = a.size_is }
