@@ -26,3 +26,4 @@ pub mod Opening
 pub mod Shadows
 pub mod Heads
 pub mod References
+pub mod InnerRegions

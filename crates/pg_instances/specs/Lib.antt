@@ -6,3 +6,5 @@ pub mod Free
 pub mod Together
 pub mod Moves
 pub mod Keeps
+pub mod References
+pub mod Inner

@@ -1,5 +1,7 @@
 //! What a thread does inside a region: each law is the clause of a function that does nothing.
 
+ghost use Rattle.pg_instances.specs.Inner.{InnerRegionsLieWithin};
+ghost use Rattle.pg_instances.specs.References.{ReferenceRunsKeepExtents};
 ghost use Rattle.pg_instances.specs.Together.{ExtentsStandTogether};
 ghost use Rattle.pg_instances.specs.Stays.{StepsInsideStay, TheThreadAlone};
 
@@ -19,4 +21,17 @@ pub fn the_thread_alone()
 /// branch step and the join stand together.
 pub fn extents_stand_together()
     ensures { ExtentsStandTogether }
+{}
+
+/// A branch that a thread inside reaches, in the branch's frame or in that of a quiet function, has a region whose
+/// accesses lead to recorded frames of the outer one's; in the branch's frame that region lies in the outer one, and its
+/// join is the outer join or lies there too.
+pub fn inner_regions_lie_within()
+    ensures { InnerRegionsLieWithin }
+{}
+
+/// Each step of a reference run keeps to the regions of the extents in which it lies: it is no event, sets and stores
+/// what the regions may, and extents that end end all that began later.
+pub fn reference_runs_keep_extents()
+    ensures { ReferenceRunsKeepExtents }
 {}
