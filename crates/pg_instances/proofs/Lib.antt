@@ -27,3 +27,4 @@ pub mod Shadows
 pub mod Heads
 pub mod References
 pub mod InnerRegions
+pub mod Alike

@@ -8,3 +8,4 @@ pub mod Moves
 pub mod Keeps
 pub mod References
 pub mod Inner
+pub mod Alike

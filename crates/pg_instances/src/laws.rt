@@ -1,9 +1,16 @@
 //! What a thread does inside a region: each law is the clause of a function that does nothing.
 
+ghost use Rattle.pg_instances.specs.Alike.{AlikeStatesBeginInstances};
 ghost use Rattle.pg_instances.specs.Inner.{InnerRegionsLieWithin};
 ghost use Rattle.pg_instances.specs.References.{ReferenceRunsKeepExtents};
 ghost use Rattle.pg_instances.specs.Together.{ExtentsStandTogether};
 ghost use Rattle.pg_instances.specs.Stays.{StepsInsideStay, TheThreadAlone};
+
+/// A thread at a branch whose region was recorded as freeable begins an instance in each state that is alike in the roots and
+/// the cells of the region's paths: that which was recorded, or one on another input.
+pub fn alike_states_begin_instances()
+    ensures { AlikeStatesBeginInstances }
+{}
 
 /// A step of a thread at a branch step whose region is quiet, or inside, stays inside or leads to the join: it is no event
 /// and allocates nothing, accesses recorded frames alone, and sets in the branch's frame only registers that may be set.
