@@ -27,7 +27,7 @@ use Rattle.pg_closed.specs.Freeable as free
 use Rattle.pg_closed.specs.Freeable.{FreeAccess, FreeRegion, RegionAccess, accesses_at, frame_of, loads_from, stores_on}
 use Rattle.pg_instances.specs.Leads.{IsLoaded, IsReached, Leads}
 use Rattle.pg_instances.specs.Inside.{Instance, IsQuietSet, IsAtBranch, IsBranch, AreApart, region_set, registers_by}
-use Rattle.pg_instances.specs.OfRegions.{free_access}
+use Rattle.pg_reference.specs.OfRegions.{free_access}
 use Rattle.pg_instances.specs.Free.{instance_of}
 use Rattle.pg_instances.proofs.Places.{some_of}
 use Rattle.pg_instances.proofs.Flow.{edge_of, walk_fits}

@@ -16,7 +16,7 @@ use Rattle.pg_closed.specs.Moments.{Moment, number_in, registers_in}
 use Rattle.pg_closed.specs.Freeable.{BranchRegion, FreeAccess, FreeRegion, Regions, RegionAccess, accesses_at, if_apart, region_at, stores_on}
 use Rattle.pg_closed.specs.Freeable as free
 use Rattle.pg_instances.specs.Inside.{registers_by}
-use Rattle.pg_instances.specs.OfRegions.{AreRegions, branch_region, free_access, may_set}
+use Rattle.pg_reference.specs.OfRegions.{AreRegions, branch_region, free_access, may_set}
 use Rattle.pg_instances.proofs.Flow.{edge_fits}
 
 -- the region of a freeable branch step

@@ -42,11 +42,11 @@ use Rattle.pg_closed.specs.Known.{Reference, Seen, caller_target, edge_of, is_br
 use Rattle.pg_closed.specs.Rules.{kind_in}
 use Rattle.pg_closed.specs.Shadows.{is_within}
 use Rattle.pg_instances.specs.Inside.{Instance, IsAbove, IsBottom, IsInside, Stands, StandsIn, edge_taken, region_set, registers_by}
-use Rattle.pg_instances.specs.Keeps.{KeepsTo, MaySet, MaySetPhis, Returns, StoresBy, depth_of, edge_at, instr_of, is_store, may_write}
+use Rattle.pg_least.specs.Keeps.{KeepsTo, MaySet, MaySetPhis, Returns, StoresBy, depth_of, edge_at, instr_of, is_store, may_write}
 use Rattle.pg_instances.specs.Leads.{IsReached as LeadsTo, KeepsCells}
 use Rattle.pg_instances.specs.Moves.{IsLoad, IsStore, IsPlacedAt}
-use Rattle.pg_instances.specs.OfRegions as regions_of
-use Rattle.pg_instances.specs.OfRegions.{AreRegions}
+use Rattle.pg_reference.specs.OfRegions as regions_of
+use Rattle.pg_reference.specs.OfRegions.{AreRegions}
 use Rattle.pg_instances.specs.Stays.{AccessesWithin, StaysInside, TellsWithin}
 use Rattle.pg_instances.specs.Together.{AreTogether, IsNext}
 use Rattle.pg_instances.proofs.Freed.{Freed, Source, freed, source_of}

@@ -34,8 +34,8 @@ use Rattle.pg_closed.specs.Freeable.{FreeRegion, Regions}
 use Rattle.pg_closed.specs.Known.{Seen, is_branch}
 use Rattle.pg_instances.specs.Free.{instance_of}
 use Rattle.pg_instances.specs.Inside.{Instance, IsAtBranch, IsBottom, IsBranch, IsInside, Joins, edge_at as instr_edge, edge_taken, next_edge}
-use Rattle.pg_instances.specs.Keeps.{depth_of, edge_at, is_branching}
-use Rattle.pg_instances.specs.OfRegions.{AreRegions}
+use Rattle.pg_least.specs.Keeps.{depth_of, edge_at, is_branching}
+use Rattle.pg_reference.specs.OfRegions.{AreRegions}
 use Rattle.pg_instances.specs.Stays.{CanStepInside, StaysInside, TellsWithin}
 use Rattle.pg_instances.specs.Together.{AreTogether, IsNext}
 use Rattle.pg_instances.proofs.Alone.{inside_again}

@@ -29,9 +29,9 @@ use Rattle.pg_closed.specs.Freeable.{FreeAccess, FreeRegion, frame_of}
 use Rattle.pg_closed.specs.Shadows.{is_within}
 use Rattle.pg_instances.specs.Free.{instance_of}
 use Rattle.pg_instances.specs.Inside.{Instance, IsAbove, IsBottom, IsInside, Stands, StandsIn, edge_taken, may_set, phis_set, region_set}
-use Rattle.pg_instances.specs.Keeps.{MaySet, may_write}
+use Rattle.pg_least.specs.Keeps.{MaySet, may_write}
 use Rattle.pg_instances.specs.Leads as leads
-use Rattle.pg_instances.specs.OfRegions as regions
+use Rattle.pg_reference.specs.OfRegions as regions
 use Rattle.pg_instances.specs.Stays.{CanStepInside}
 use Rattle.pg_instances.specs.Together.{AreTogether, IsNext}
 use Rattle.pg_instances.proofs.Beyond.{Loud}

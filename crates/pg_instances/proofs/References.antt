@@ -39,9 +39,9 @@ use Rattle.pg_closed.specs.Extents.{Extent, is_live}
 use Rattle.pg_closed.specs.Freeable.{FreeRegion, Regions}
 use Rattle.pg_closed.specs.Known.{Reference, RunShadow, Seen, after_step, region_of, seen_from, start_of, thread_of}
 use Rattle.pg_closed.specs.Rules.{kind_in}
-use Rattle.pg_instances.specs.Keeps as keeps_of
-use Rattle.pg_instances.specs.Keeps.{ExtentsKeep, depth_of, edge_at, every, instr_of, open_before}
-use Rattle.pg_instances.specs.OfRegions.{AreRegions}
+use Rattle.pg_least.specs.Keeps as keeps_of
+use Rattle.pg_least.specs.Keeps.{ExtentsKeep, depth_of, edge_at, every, instr_of, open_before}
+use Rattle.pg_reference.specs.OfRegions.{AreRegions}
 use Rattle.pg_instances.specs.Together.{AreTogether, IsNext}
 use Rattle.pg_instances.proofs.Heads.{IsStack, branch_is, keeps, left, left_none, left_open, left_stack, nested, own_phis, store_frames}
 use Rattle.pg_instances.proofs.Keeping.{IsSeen, instr_here}

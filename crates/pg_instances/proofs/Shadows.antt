@@ -27,7 +27,7 @@ use Rattle.pg_closed.specs.Freeable.{FreeRegion}
 use Rattle.pg_closed.specs.Shadows.{Shadow, unset}
 use Rattle.pg_closed.specs.Known as known
 use Rattle.pg_closed.specs.Known.{Reference, RunShadow, ThreadShadow, after_event, after_op, after_step, edge_of, fresh_thread, live_after, live_by, no_thread, on_thread, region_of, thread_of, threads_after, under_top, with_extents, with_top}
-use Rattle.pg_instances.specs.Keeps.{every}
+use Rattle.pg_least.specs.Keeps.{every}
 use Rattle.pg_trace.specs.Steps.{range_of}
 use Rattle.pg_instances.specs.Moves.{GoesAlong, GoesBack, GoesInto, GoesPast, Moves, RequestMoves, IsLoad, IsStore, IsPlacedAt, IsReturn}
 use Rattle.pg_instances.specs.Inside.{edge_taken}

@@ -20,7 +20,7 @@ use Rattle.pg_closed.specs.Moments.{Moment, number_in, registers_in}
 use Rattle.pg_closed.specs.Freeable.{FreeRegion, accesses_at, frame_of, stores_on}
 use Rattle.pg_instances.specs.Free.{instance_of}
 use Rattle.pg_instances.specs.Inside.{IsAtBranch, IsBranch, registers_by}
-use Rattle.pg_instances.specs.OfRegions.{free_access}
+use Rattle.pg_reference.specs.OfRegions.{free_access}
 
 abbrev pub recorded_registers : Moment → ℕ → Option ℕ
 recorded_registers m = registers_by (registers_in m.calls)

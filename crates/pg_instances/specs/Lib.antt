@@ -1,11 +1,9 @@
 pub mod Leads
 pub mod Inside
 pub mod Stays
-pub mod OfRegions
 pub mod Free
 pub mod Together
 pub mod Moves
-pub mod Keeps
 pub mod References
 pub mod Inner
 pub mod Alike

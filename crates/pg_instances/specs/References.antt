@@ -12,8 +12,8 @@ use Rattle.pg_machine.specs.MachineStep.{is_gated}
 use Rattle.pg_effects.specs.Reached.{HoldBytes}
 use Rattle.pg_closed.specs.Freeable.{Regions}
 use Rattle.pg_closed.specs.Moments.{moments_of}
-use Rattle.pg_instances.specs.Keeps.{ExtentsKeep}
-use Rattle.pg_instances.specs.OfRegions.{AreRegions}
+use Rattle.pg_least.specs.Keeps.{ExtentsKeep}
+use Rattle.pg_reference.specs.OfRegions.{AreRegions}
 
 -- the guided run of a program along turns exits with these steps; the regions are those of the program's branches
 pub record IsReferenceRun (p : NumberedProgram) (input : List ℤ) (turns : List Turn) (gated : List InstrId) (sums : ℕ → Option RootedList) (regions : Regions) (xs : List Step) : Type 0 where
