@@ -1,0 +1,4 @@
+pub mod Likes
+pub mod Moves
+pub mod Order
+pub mod Units

@@ -1,0 +1,4 @@
+//! Laws on the plan that a reference run makes for a run on another input: nothing here runs.
+#![tactic(auto)]
+
+pub mod plan;
