@@ -1,6 +1,13 @@
+pub mod Along
+pub mod Branches
+pub mod Computing
+pub mod Good
 pub mod Here
+pub mod Inner
+pub mod Known
 pub mod Likes
 pub mod Members
+pub mod Opened
 pub mod Ordered
 pub mod Placed
 pub mod Results

@@ -28,7 +28,7 @@ use Rattle.pg_units.proofs.Turns.{intervals_are, is_some_if, turns_are}
 
 -- ---- rules that ask for nothing
 
-append_none : {A : Type 0} (xs ys : List A) → xs ++ ys ≡ [] → (xs ≡ []) × (ys ≡ [])
+pub append_none : {A : Type 0} (xs ys : List A) → xs ++ ys ≡ [] → (xs ≡ []) × (ys ≡ [])
 append_none [] ys h = (refl, h)
 append_none (x ∷ xs) ys h = absurd cc
 
