@@ -68,7 +68,7 @@ cases_same n k (c ∷ cs) other a h =
     turn : (b : Bool) → (k == c.value) ≡ false → (c.value == k) ≡ false
     turn b e = Rattle.std.proofs.lemmas.Bool.ne_eqb c.value k (λ q. true≢false (sym (eq-eqb k c.value (sym q)) ∙ e))
 
-eq_met : (n k : ℕ) → is_met (test.Eq n) (Some k) ≡ true → k ≡ n
+pub eq_met : (n k : ℕ) → is_met (test.Eq n) (Some k) ≡ true → k ≡ n
 eq_met n k h = eqb-true k n h
 
 switch_same : (w : Width) (on : Value) (other : BlockNo) (cs : List Case) (n k : ℕ) → AllOf (λ (t : Test). is_met t (Some k) ≡ true) (edge_tests (op.Switch w on other cs) n) → case_of cs other.0 k ≡ case_of cs other.0 n

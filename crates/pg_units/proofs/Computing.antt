@@ -41,7 +41,7 @@ use Rattle.pg_units.proofs.Results.{computes_number, if_done}
 
 -- ---- the registers of a thread at an instruction have their types
 
-state_of : (p : NumberedProgram) (l : LocalState) → IsOf p l → AreFramesOf p l.frames
+pub state_of : (p : NumberedProgram) (l : LocalState) → IsOf p l → AreFramesOf p l.frames
 unfolding IsOf
 state_of p l h = h.frames
 

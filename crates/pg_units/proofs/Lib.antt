@@ -1,5 +1,7 @@
+pub mod Allocations
 pub mod Along
 pub mod Branches
+pub mod Calls
 pub mod Computing
 pub mod Good
 pub mod Here

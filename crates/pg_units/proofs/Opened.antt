@@ -54,20 +54,20 @@ pub record Beginning (p : NumberedProgram) (t : ℕ) (s0 s : State) : Type 0 whe
   pub first : slice_get s0.locals t ≡ Some (fresh p t function)
   pub none : local_at s t ≡ None
 
-record Parts (input : List ℤ) (fs0 : List Frame) (known : List (List Shadow)) (gs : List Frame) : Type 0 where
-  f0 : Frame
-  more0 : List Frame
-  ks : List Shadow
-  more : List (List Shadow)
-  f : Frame
-  fs : List Frame
-  is0 : fs0 ≡ f0 ∷ more0
-  is_known : known ≡ ks ∷ more
-  is : gs ≡ f ∷ fs
-  top : IsCallLike input f0 ks f
-  rest : AreCallsLike input more0 more fs
+pub record Parts (input : List ℤ) (fs0 : List Frame) (known : List (List Shadow)) (gs : List Frame) : Type 0 where
+  pub f0 : Frame
+  pub more0 : List Frame
+  pub ks : List Shadow
+  pub more : List (List Shadow)
+  pub f : Frame
+  pub fs : List Frame
+  pub is0 : fs0 ≡ f0 ∷ more0
+  pub is_known : known ≡ ks ∷ more
+  pub is : gs ≡ f ∷ fs
+  pub top : IsCallLike input f0 ks f
+  pub rest : AreCallsLike input more0 more fs
 
-parts : (input : List ℤ) (fs0 : List Frame) (known : List (List Shadow)) (gs : List Frame) → AreCallsLike input fs0 known gs → (fs0 ≡ []) ⊎ Parts input fs0 known gs
+pub parts : (input : List ℤ) (fs0 : List Frame) (known : List (List Shadow)) (gs : List Frame) → AreCallsLike input fs0 known gs → (fs0 ≡ []) ⊎ Parts input fs0 known gs
 parts input [] known gs h = inl refl
 parts input (f ∷ fs0) [] gs h = absurd h
 parts input (f ∷ fs0) (k ∷ known) [] h = absurd h

@@ -56,6 +56,9 @@ pub value_done : (o : Option ℕ) (act : ℕ → Action) → CanStep (on_value o
 value_done None act h = absurd h
 value_done (Some n) act h = (n, refl, h)
 
+pub on_some : (o : Option ℕ) (n : ℕ) (act : ℕ → Action) → o ≡ Some n → on_value o act ≡ act n
+on_some o n act e = rw e refl
+
 pub divided_done : (r : Result ℕ DivideFault) → CanStep (divided_action r) → (n : ℕ) × (r ≡ Ok n)
 divided_done (Ok n) h = (n, refl)
 divided_done (Err divide.Zero) h = absurd h
