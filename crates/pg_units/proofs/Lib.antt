@@ -1,3 +1,4 @@
+pub mod Accesses
 pub mod Allocations
 pub mod Along
 pub mod Branches
@@ -8,10 +9,12 @@ pub mod Here
 pub mod Inner
 pub mod Known
 pub mod Likes
+pub mod Loads
 pub mod Members
 pub mod Opened
 pub mod Ordered
 pub mod Placed
 pub mod Results
 pub mod Settled
+pub mod Stores
 pub mod Turns

@@ -35,7 +35,7 @@ abbrev pub IsPlaced : Option Access → Type 0
 IsPlaced None = ⊤
 IsPlaced (Some a) = is_in_range a.pointer a.bytes ≡ true
 
-place_range : (word bytes : ℕ) (r : ByteRange) → place_of word bytes ≡ Ok r → is_in_range word bytes ≡ true
+pub place_range : (word bytes : ℕ) (r : ByteRange) → place_of word bytes ≡ Ok r → is_in_range word bytes ≡ true
 place_range word bytes r e = go (is_in_range word bytes) (is_aligned word bytes) e
   where
     go : (b c : Bool) → Path (Result ByteRange PlaceFault) (if not b then Err OutOfRange else if not c then Err Misaligned else Ok (record { start = byte_place word; bytes = bytes })) (Ok r) → b ≡ true
