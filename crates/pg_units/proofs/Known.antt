@@ -1,16 +1,19 @@
 -- What is known of a thread's calls after its live step.
-use Rattle.std.proofs.Common.{◌≡◌, ℕ, zero, suc, Bool, true, false, List, [], ◌∷◌, Option, Some, None, refl, sym, ap, ◌∙◌, subst}
+use Rattle.std.proofs.Common.{◌≡◌, ℕ, zero, suc, Bool, true, false, List, [], ◌∷◌, ◌++◌, Option, Some, None, refl, sym, ap, ◌∙◌, subst}
 use Rattle.std.specs.Prelude.{slice_index_or, slice_get, if◌then◌else◌}
 use Rattle.pg_ir.specs.declared.instr.Instr.{Instr}
 use Rattle.pg_ir.specs.Program.{NumberedProgram}
 use Rattle.pg_trace.specs.declared.step.Access.{Access}
+use Rattle.pg_trace.specs.declared.turn.TurnKind.{TurnKind}
+use Rattle.pg_trace.specs.declared.turn.TurnKind.TheVariants as turns
+use Rattle.pg_trace.specs.declared.step.Event.{Event}
 use Rattle.pg_trace.specs.declared.step.StepKind.{StepKind}
 use Rattle.pg_trace.specs.declared.step.StepKind.TheVariants as kinds
 use Rattle.pg_closed.specs.Extents.{Extent, is_live, open_after}
 use Rattle.pg_closed.specs.Freeable.{FreeRegion}
-use Rattle.pg_closed.specs.Known.{Reference, RunShadow, Taken, ThreadShadow, after_access, after_op, after_step, bytes_freed, bytes_stored, edge_of, live_after, live_by, no_thread, on_thread, region_of, registers_of, result_in, thread_of, with_extents, with_top}
+use Rattle.pg_closed.specs.Known.{Reference, RunShadow, Taken, ThreadShadow, after_access, after_event, after_op, after_step, bytes_freed, bytes_stored, edge_of, fresh_thread, live_after, live_by, no_thread, on_thread, region_of, registers_of, result_in, thread_of, threads_after, with_extents, with_top}
 use Rattle.pg_closed.specs.Moments.{Moment, instr_in, thread_in}
-use Rattle.pg_closed.specs.Shadows.{Shadow}
+use Rattle.pg_closed.specs.Shadows.{Shadow, unset}
 
 -- a step that is neither an access nor an event
 abbrev pub IsInnerKind : StepKind → Type 0
@@ -61,3 +64,16 @@ module _ (R : Reference) (d : Taken) (n : ℕ) (m : Moment) (s : RunShadow) (x :
     pub access_calls : (a : Access) → m.did.did.kind ≡ kinds.Access a → (thread_of (after_step R d n m s) (thread_in m)).calls ≡ with_top (after_access R.program (d.exact n) n a s.bytes x x.op) (ks ∷ more)
     access_calls a e = calls_after ∙ ap (λ (k : StepKind). (thread_of (live_by R.program d n m region x k s) (thread_in m)).calls) e
         ∙ thread_calls s.threads (thread_in m) (with_top (after_access R.program (d.exact n) n a s.bytes x x.op)) ks more calls
+
+    pub event_calls : (e : Event) → m.did.did.kind ≡ kinds.Event e → (thread_of (after_step R d n m s) (thread_in m)).calls ≡ after_event R.program m e e.kind (slice_index_or s.words (thread_in m) unset) x (ks ∷ more)
+    event_calls e k = calls_after ∙ ap (λ (z : StepKind). (thread_of (live_by R.program d n m region x z s) (thread_in m)).calls) k
+        ∙ by_kind e.kind (after_event R.program m e e.kind (slice_index_or s.words (thread_in m) unset) x)
+      where
+        created : (threads extra : List ThreadShadow) (t : ℕ) (F : List (List Shadow) → List (List Shadow)) → (slice_index_or threads t no_thread).calls ≡ ks ∷ more → (slice_index_or (on_thread F t threads ++ extra) t no_thread).calls ≡ F (ks ∷ more)
+        created [] extra t F h = absurd cc
+        created (x ∷ xs) extra zero F h = ap F h
+        created (x ∷ xs) extra (suc t) F h = created xs extra t F h
+
+        by_kind : (k : TurnKind) (F : List (List Shadow) → List (List Shadow)) → (slice_index_or (threads_after R.program e k (on_thread F (thread_in m) s.threads)) (thread_in m) no_thread).calls ≡ F (ks ∷ more)
+        by_kind turns.Create F = created s.threads (fresh_thread R.program (Rattle.std.specs.Prelude.slice_index e.operands 2) ∷ []) (thread_in m) F calls
+        by_kind k F = thread_calls s.threads (thread_in m) F ks more calls

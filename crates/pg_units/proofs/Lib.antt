@@ -14,7 +14,9 @@ pub mod Members
 pub mod Opened
 pub mod Ordered
 pub mod Placed
+pub mod Requests
 pub mod Results
 pub mod Settled
+pub mod Shapes
 pub mod Stores
 pub mod Turns
