@@ -57,7 +57,7 @@ room_done true h = refl
 room_done false h = absurd h
 
 -- a register, if there is one, gets the number that is told
-told_number : (input : List ℤ) (target : Option ℕ) (ks : List Shadow) (vs : List (Option ℕ)) (number n : ℕ) → AreLike input ks vs → number ≡ n → AreLike input (set_shadow target (always (or_zero target number)) ks) (set_register vs target (Some n))
+pub told_number : (input : List ℤ) (target : Option ℕ) (ks : List Shadow) (vs : List (Option ℕ)) (number n : ℕ) → AreLike input ks vs → number ≡ n → AreLike input (set_shadow target (always (or_zero target number)) ks) (set_register vs target (Some n))
 told_number input None ks vs number n h e = h
 told_number input (Some t) ks vs number n h e = set_like input (Some t) ks vs (always number) (Some n) h (ap Some (sym e))
 

@@ -107,7 +107,7 @@ module _ (r : ReferenceRun) (d : Taken) (input : List ℤ) (program : IsProgram 
   unfolding effect_of
   effect_thread = q.own
 
-  request0 : (a : Action) → next_of r.program u.state (thread_in u.seen.moment) ≡ a → (effect_of r.program r.input u.state (thread_in u.seen.moment)).request ≡ request_effect r.program u.state (thread_in u.seen.moment) a
+  pub request0 : (a : Action) → next_of r.program u.state (thread_in u.seen.moment) ≡ a → (effect_of r.program r.input u.state (thread_in u.seen.moment)).request ≡ request_effect r.program u.state (thread_in u.seen.moment) a
   unfolding effect_of
   request0 a e = ap (request_effect r.program u.state (thread_in u.seen.moment)) e
 
