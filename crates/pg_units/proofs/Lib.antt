@@ -21,3 +21,4 @@ pub mod Settled
 pub mod Shapes
 pub mod Stores
 pub mod Turns
+pub mod Words
