@@ -4,6 +4,7 @@ pub mod Along
 pub mod Branches
 pub mod Calls
 pub mod Computing
+pub mod EventCells
 pub mod Events
 pub mod Good
 pub mod Here
