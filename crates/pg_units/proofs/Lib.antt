@@ -4,6 +4,7 @@ pub mod Along
 pub mod Branches
 pub mod Calls
 pub mod Computing
+pub mod Ends
 pub mod EventCells
 pub mod Events
 pub mod Good
@@ -21,5 +22,6 @@ pub mod Results
 pub mod Settled
 pub mod Shapes
 pub mod Stores
+pub mod Threads
 pub mod Turns
 pub mod Words
