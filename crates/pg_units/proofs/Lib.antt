@@ -4,6 +4,7 @@ pub mod Along
 pub mod Branches
 pub mod Calls
 pub mod Computing
+pub mod Dispatch
 pub mod Ends
 pub mod EventCells
 pub mod Events
@@ -21,7 +22,9 @@ pub mod Requests
 pub mod Results
 pub mod Settled
 pub mod Shapes
+pub mod StepFits
 pub mod Stores
 pub mod Threads
 pub mod Turns
+pub mod Worded
 pub mod Words

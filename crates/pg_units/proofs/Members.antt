@@ -4,13 +4,9 @@ use Rattle.std.specs.Prelude.{◌||◌}
 use Rattle.std.specs.List.{AllByRecursion as AllOf, list_any}
 use Rattle.std.proofs.lemmas.Bool.{or_cases, or_left, or_right, true≢false}
 use Rattle.pg_plans.specs.Steps.{EachPair}
+use Rattle.pg_units.specs.Lists.{Has}
 
 module _ {A : Type 0} where
-  -- x is one of the list
-  abbrev pub Has : List A → A → Type 0
-  Has [] x = ⊥
-  Has (y ∷ ys) x = (y ≡ x) ⊎ Has ys x
-
   pub has_left : (xs ys : List A) (x : A) → Has xs x → Has (xs ++ ys) x
   has_left [] ys x h = absurd h
   has_left (y ∷ xs) ys x (inl e) = inl e

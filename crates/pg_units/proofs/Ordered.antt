@@ -24,7 +24,8 @@ use Rattle.pg_closed.specs.Known.{Seen, Taken}
 use Rattle.pg_closed.specs.Moments.{thread_in}
 use Rattle.pg_closed.specs.Rules.{Footprint, access_print, any_conflict, footprints_conflict, frames_meet, has_region, is_disturbed, is_plain, is_shared, kind_in, print_of, prints_in, region_prints}
 use Rattle.pg_units.specs.Units.{PlanUnit, access_touch, deed_of, event_word_read, event_word_written, instance_touch, is_event_at, is_instance, is_read_in, is_written_in, range_touched, reads_byte, reads_cell, touch_of, word_read, word_written, writes_byte, writes_cell}
-use Rattle.pg_units.proofs.Members.{Has, any_found, has_any, has_cases, has_left, has_right}
+use Rattle.pg_units.specs.Lists.{Has}
+use Rattle.pg_units.proofs.Members.{any_found, has_any, has_cases, has_left, has_right}
 use Rattle.pg_units.proofs.Placed.{IsPlaced, in_frame}
 
 -- ---- ranges that share a byte

@@ -21,7 +21,8 @@ use Rattle.pg_closed.specs.Moments.{Moment, moments_from, thread_in}
 use Rattle.pg_closed.specs.Rules.{all_of, asks_disturbed, asks_shared, is_disturbed, is_shared, kind_in}
 use Rattle.pg_units.specs.Order.{Interval, IsOrderedRun, interval_of, interval_seen}
 use Rattle.pg_units.specs.Units.{ExtentsArePlain, Met, PlanDeed, PlanUnit, ReferenceRun, behind, deed_of, is_event_at, last_from, met_in, met_with, plan_of, reads_cell, reference_of, states_from, turns_of, unit_of, units_from, units_of, writes_cell}
-use Rattle.pg_units.proofs.Members.{Has, all_of_map, has_all, pairs_both, pairs_from, pairs_of_map}
+use Rattle.pg_units.specs.Lists.{Has}
+use Rattle.pg_units.proofs.Members.{all_of_map, has_all, pairs_both, pairs_from, pairs_of_map}
 use Rattle.pg_units.proofs.Ordered.{IsFine, cells_ordered}
 use Rattle.pg_units.proofs.Placed.{IsPlaced, run_placed}
 use Rattle.pg_units.proofs.Turns.{intervals_are, is_some_if, turns_are}
