@@ -157,7 +157,7 @@ effect_thread : (p : NumberedProgram) (input : List ℤ) (s : State) (t : ℕ) �
 unfolding effect_of
 effect_thread p input s t = refl
 
-own_here : (b : Bool) (x y : Option LocalState) → b ≡ true → (if b then x else y) ≡ x
+pub own_here : (b : Bool) (x y : Option LocalState) → b ≡ true → (if b then x else y) ≡ x
 own_here true x y h = refl
 own_here false x y h = absurd (true≢false (sym h))
 

@@ -22,6 +22,7 @@ pub mod Requests
 pub mod Results
 pub mod Settled
 pub mod Shapes
+pub mod Starts
 pub mod StepFits
 pub mod Stores
 pub mod Threads
