@@ -1,6 +1,6 @@
 -- A step of a run on an admitted input fits the unit that its thread is to do.
 use Rattle.std.proofs.Common.{◌≡◌, ℕ, ℤ, ◌⊎◌, ◌<◌, ◌^◌, Bool, true, false, List, length, Option, Some, None, refl, sym, ap, ◌∙◌, subst, inl, inr}
-use Rattle.std.specs.Prelude.{is_some}
+use Rattle.std.specs.Prelude.{is_some, slice_get, ◌∷◌, []}
 use Rattle.pg_plans.specs.Effects.{IsSame, deeds, or_old}
 use Rattle.pg_plans.specs.Plans.{Fits}
 use Rattle.pg_plans.specs.Steps.{touches}
@@ -9,9 +9,9 @@ use Rattle.pg_trace.specs.declared.step.Step.{Step}
 use Rattle.pg_machine.specs.State.{State}
 use Rattle.pg_effects.specs.Views.{cell_at, local_at, objects_of}
 use Rattle.pg_closed.specs.Closed.{IsClosed, admits}
-use Rattle.pg_closed.specs.Known.{Seen, Taken, thread_of}
+use Rattle.pg_closed.specs.Known.{Seen, Taken, fresh_registers, thread_of}
 use Rattle.pg_closed.specs.Moments.{thread_in}
-use Rattle.pg_units.specs.Fits.{IsAlikeFor, thread_before}
+use Rattle.pg_units.specs.Fits.{IsAlikeFor, StartsAreFresh, thread_before}
 use Rattle.pg_units.specs.Likes.{IsCellLike, IsThreadLike, MovedThread, PlanThread, StandLike, like}
 use Rattle.pg_units.specs.Lists.{Has}
 use Rattle.pg_units.specs.Moves.{IsMove, RunDeed, RunState, deed_moved, moved}
@@ -23,6 +23,7 @@ use Rattle.pg_units.proofs.Good.{IsGood, all_good}
 use Rattle.pg_units.proofs.Members.{all_has}
 use Rattle.pg_units.proofs.Opened.{Beginning, Both, opened}
 use Rattle.pg_units.proofs.Settled.{at_units}
+use Rattle.pg_units.proofs.Starts.{start_fits}
 use Rattle.pg_units.proofs.Worded.{all_words}
 
 -- what fits is seen place by place
@@ -76,3 +77,10 @@ module _ (r : ReferenceRun) (d : Taken) (input : List ℤ) (o : IsOrderedRun r) 
 
     pub words_at : length u.seen.before.words ≡ length u.state.locals
     words_at = all_has (λ (v : PlanUnit). length v.seen.before.words ≡ length v.state.locals) (units_of r d) u (all_words r d o plain) has
+
+    module _ (fresh : StartsAreFresh r d) (single : is_instance d u.seen ≡ false) (turns : List Turn) (a : RunState) (g : ℕ) (e : RunDeed) (m : IsMove r.gated r.program input turns a g e) (alike : IsAlikeFor input d u a) (mine : e.thread ≡ thread_in u.seen.moment) where
+      pub unit_fits : Fits (like input) (deed_of d u) e
+      unit_fits = one_fits u unit_at single good_at words_at turns a g e m alike mine (λ b.
+          start_fits r d input u unit_at single m.state m.moves m.told m.reached m.may.takes (own u unit_at single good_at words_at turns a g e m alike mine) (units_alike u unit_at single good_at words_at turns a g e m alike mine)
+          (objects_alike u unit_at single good_at words_at turns a g e m alike mine) words_at (cells_alike u unit_at single good_at words_at turns a g e m alike mine) b
+          (all_has (λ (v : PlanUnit). (f : ℕ) → slice_get v.state.locals (thread_in v.seen.moment) ≡ Some (Rattle.pg_step.specs.LocalState.fresh r.program (thread_in v.seen.moment) f) → (thread_of v.seen.before (thread_in v.seen.moment)).calls ≡ fresh_registers r.program f ∷ []) (units_of r d) u fresh has b.function b.first))
