@@ -7,6 +7,7 @@ pub mod Computing
 pub mod Dispatch
 pub mod Ends
 pub mod EventCells
+pub mod EventKinds
 pub mod Events
 pub mod Good
 pub mod Here
