@@ -1,0 +1,5 @@
+//! Laws on the plan that a reference run makes for a run on another input: nothing here runs.
+#![tactic(auto)]
+
+pub mod fits;
+pub mod plan;
