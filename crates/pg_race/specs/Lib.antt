@@ -1,3 +1,4 @@
 pub mod Firsts
+pub mod Links
 pub mod Partners
 pub mod Touching

@@ -3,11 +3,14 @@ ghost use Rattle.std.specs.List.{list_all};
 ghost use Rattle.pg_intervals.specs.Intervals.{intervals_of};
 ghost use Rattle.pg_intervals.specs.declared.interval.Turns.TheVariants as turns;
 ghost use Rattle.pg_race.specs.Firsts.{AreFirst};
+ghost use Rattle.pg_race.specs.Links.{AreListed, accesses_byte, numbers_of};
 ghost use Rattle.pg_trace.specs.declared.step.Step.{Step as AStep};
 ghost use Rattle.pg_trace.specs.Races as defs;
 
 use crate::firsts::firsts;
-use crate::pairs::{instrs_in, race_from};
+use crate::links::{Links, links_of};
+use crate::pairs::instrs_in;
+use crate::partners::race_linked;
 use crate::touching;
 use pg_intervals::{Interval, Turns, intervals};
 use pg_ir::{InstrId, ThreadNo};
@@ -47,8 +50,10 @@ fn races_from(
     alloc: Global,
     t: &Trace,
     intervals: &[Interval],
+    links: &Links,
     firsts: &[Option<usize>],
 ) -> Result<Vec<Race>, AllocError>
+    requires links { AreListed (length t.now.steps) links.now (λ b. numbers_of (accesses_byte b) 0 t.now.steps) }
     requires intervals { intervals.now ≡ intervals_of turns.Asked t.now.steps }
     requires instrs { length firsts.now ≡ defs.instrs_in t.now.steps }
     requires firsts { AreFirst (defs.timed_by defs.asked t.now.steps) 0 firsts.now }
@@ -58,7 +63,7 @@ fn races_from(
     for id in 0..instrs_in(t) {
         let id = InstrId(id as u32);
         let first = first_of(firsts, id);
-        if let Some(race) = race_from(t, intervals, id, first) {
+        if let Some(race) = race_linked(t, intervals, links, id, first) {
             races.push(race)?;
         }
     }
@@ -95,5 +100,6 @@ pub fn races(alloc: Global, t: &Trace) -> Result<Vec<Race>, AllocError>
     }
     let intervals = intervals(alloc, t, Turns::Asked)?;
     let firsts = first_steps(alloc, t, intervals.as_slice())?;
-    races_from(alloc, t, intervals.as_slice(), firsts.as_slice())
+    let links = links_of(alloc, t)?;
+    races_from(alloc, t, intervals.as_slice(), &links, firsts.as_slice())
 }

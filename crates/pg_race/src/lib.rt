@@ -4,8 +4,10 @@
 
 mod fast;
 mod firsts;
+mod links;
 mod ordered;
 mod pairs;
+mod partners;
 mod touching;
 
 pub use fast::races;

@@ -11,7 +11,7 @@ use pg_trace::{Race, Step, StepKind, Trace};
 use std::alloc::{AllocError, Global};
 
 /// The number of the first step that races with step `i`, if there is one.
-pub(crate) fn partner(t: &Trace, intervals: &[Interval], i: usize) -> Option<usize>
+fn partner(t: &Trace, intervals: &[Interval], i: usize) -> Option<usize>
     requires within { i < length t.now.steps }
     requires intervals { intervals.now ≡ intervals_of turns.Asked t.now.steps }
     ensures { result ≡ partner_of (races.timed_by races.asked t.now.steps) (slice_get (races.timed_by races.asked t.now.steps) i) }
@@ -62,12 +62,7 @@ fn first_racing(t: &Trace, intervals: &[Interval], id: InstrId) -> Option<usize>
 }
 
 /// The race of an instruction with this first racing load or store, if it has one.
-pub(crate) fn race_from(
-    t: &Trace,
-    intervals: &[Interval],
-    id: InstrId,
-    first: Option<usize>,
-) -> Option<Race>
+fn race_from(t: &Trace, intervals: &[Interval], id: InstrId, first: Option<usize>) -> Option<Race>
     requires intervals { intervals.now ≡ intervals_of turns.Asked t.now.steps }
     requires first { first ≡ position_from (races.is_racing (races.timed_by races.asked t.now.steps) id.0) 0 (races.timed_by races.asked t.now.steps) }
     ensures { result ≡ races.race_in (races.timed_by races.asked t.now.steps) id.0 }

@@ -1,5 +1,8 @@
 mod Examples
 mod FirstRefusals
+pub mod ModuleBytes
+pub mod GlobalBytes
+pub mod GuidedTexts
 pub mod Known
 pub mod ReplyKinds
 pub mod TextVerdicts

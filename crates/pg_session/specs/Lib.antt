@@ -1,3 +1,4 @@
+pub mod EndLines
 pub mod Refusals
 pub mod Replies
 pub mod Statuses

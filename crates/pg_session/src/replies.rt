@@ -6,6 +6,7 @@ ghost use Rattle.pg_session.specs.Streams.{TakesAtMost};
 ghost use Rattle.pg_session.specs.Replies.{IsReply, IsReplyStatus};
 ghost use Rattle.pg_session.specs.declared.replies.NoReply.TheVariants.{OutOfMemory};
 
+use crate::laws::an_accepted_program_can_run;
 use crate::refusals::{Refusal, refusal_line};
 use crate::status::Status;
 use crate::streams::{ReadAllFault, read_all};
@@ -48,6 +49,7 @@ fn reply_to(alloc: Global, text: &[u8], once: &Once) -> Result<Reply, AllocError
     ensures status { IfOk result (λ r. IsReplyStatus r.status) }
     ensures reply { IfOk result (λ r. IsReply r.status text.now once.now.quantum once.now.numbers.items r.text.items) }
 {
+    an_accepted_program_can_run();
     match verdict_of(alloc, text)? {
         Verdict::Accepted(program) => Ok(Reply {
             status: Status::Done,

@@ -19,10 +19,11 @@ use std::alloc::Global;
 /// all that the source has, and writes its whole text to the sink.
 ///
 /// `once` and up to 512 numbers, with `--quantum` and the steps of a thread's turn, from 1 to 10,000 and 100
-/// without it, writes what the program prints on this input, and then how its run ended. A number that begins
-/// with `-` stands after `--`. The words are read first, then the program text, of which at most the limit and one more
-/// byte are taken. In place of the text of a run, a text that is refused gives the line `program refused L:C NAME` with the
-/// line, the column and the name of its first refusal, and behind them the text of a token that isn't supported.
+/// without it, writes what the program prints on this input, and then how its run ended. Where the rotation run exits,
+/// this is told of the guided run along the schedule of its trace. A number that begins with `-` stands after `--`.
+/// The words are read first, then the program text, of which at most the limit and one more byte are taken. In place
+/// of the text of a run, a text that is refused gives the line `program refused L:C NAME` with the line, the column
+/// and the name of its first refusal, and behind them the text of a token that isn't supported.
 pub fn peregrine<S: Source, K: Sink>(
     alloc: Global,
     words: &[String],

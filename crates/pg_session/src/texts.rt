@@ -1,18 +1,37 @@
 //! The texts that are written.
-ghost use Rattle.std.specs.Prelude.{◌≡◌, ◌≤◌, IfOk, OnOk, ◌++◌, string_bytes};
+ghost use Rattle.std.specs.Prelude.{◌≡◌, ◌≤◌, IfOk, length, string_bytes};
 ghost use Rattle.pg_num.specs.declared.limits.TheConstants.{QUANTUM_LIMIT};
-ghost use Rattle.pg_session.specs.Texts.{end_line, once_text};
+ghost use Rattle.pg_trace.specs.Races.{schedule_of};
+ghost use Rattle.pg_runs.specs.Cuts.{CanRun};
+ghost use Rattle.pg_session.specs.EndLines.{end_line};
+ghost use Rattle.pg_session.specs.Texts.{once_text};
 
+use crate::laws::the_guided_run_of_once_exits;
 use pg_ir::Program;
 use pg_machine::{Outcome, Recorded, rotate};
+use pg_race::races;
+use pg_sched::hybrid;
+use pg_trace::Trace;
 use std::alloc::{AllocError, Global};
 
-/// The line that says how a run of this many events ended.
-fn end_line(alloc: Global, events: usize, end: Outcome) -> Result<String, AllocError>
-    ensures { IfOk result (λ line. string_bytes line ≡ end_line events end) }
+/// How many turns the schedule of a trace has.
+fn turn_count(alloc: Global, trace: &Trace) -> Result<usize, AllocError>
+    ensures { IfOk result (λ n. n ≡ length (schedule_of trace.now.steps).turns) }
+{
+    let races = races(alloc, trace)?;
+    let schedule = hybrid(alloc, trace, races.as_slice())?;
+    Ok(schedule.turns.as_slice().len())
+}
+
+/// The line that says how a run with this trace ended.
+fn end_line(alloc: Global, trace: &Trace, end: Outcome) -> Result<String, AllocError>
+    ensures { IfOk result (λ line. string_bytes line ≡ end_line trace.now.steps end) }
 {
     match end {
-        Outcome::Exit(value) => format!(in alloc; "exit {value} after {events} turns\n"),
+        Outcome::Exit(value) => {
+            let turns = turn_count(alloc, trace)?;
+            format!(in alloc; "exit {value} after {turns} turns\n")
+        }
         Outcome::Trap(name, id) => {
             let number = id.0;
             format!(in alloc; "trap {name} at {number}\n")
@@ -21,8 +40,8 @@ fn end_line(alloc: Global, events: usize, end: Outcome) -> Result<String, AllocE
     }
 }
 
-/// The text of `once`: the output of the rotation run with this quantum, and its end line.
-#[tactic(auto, unfolding(crate::specs::Texts::once_text))]
+/// The text of `once`. Where the rotation run with this quantum exits, the guided run along the schedule of its trace
+/// prints the same, exits with the same value and does all turns of the schedule, so it isn't made.
 pub(crate) fn once_text(
     alloc: Global,
     program: &Program,
@@ -31,10 +50,12 @@ pub(crate) fn once_text(
 ) -> Result<Vec<u8>, AllocError>
     requires least { 1 ≤ quantum }
     requires most { quantum ≤ QUANTUM_LIMIT }
+    requires can_run { CanRun program.now input.now }
     ensures { IfOk result (λ v. v.items ≡ once_text program.now quantum input.now) }
 {
+    the_guided_run_of_once_exits();
     let Recorded { trace, output, end } = rotate(alloc, program, input, quantum)?;
-    let line = end_line(alloc, trace.event_count(), end)?;
+    let line = end_line(alloc, &trace, end)?;
     let mut text = output;
     text.extend_from_slice(line.as_bytes())?;
     Ok(text)

@@ -11,9 +11,9 @@ loop-id-init c = c.new-races.ensures.items ∙ sym (below_none (defs.timed_by de
 pub loop-id-preserved : goal.loop-id-preserved
 loop-id-preserved c =
     let ys = defs.timed_by defs.asked c.args.t.now.steps in
-    elim c.match-race_from.branch [
+    elim c.match-race_linked.branch [
       | in-Some+in_ok-push w ↦ ap (λ v. v.items) w.races-is ∙ w.in_ok-push.ensures.items ∙ ap (λ l. l ++ w.in-Some.race ∷ []) c.loop-id.invariant
-          ∙ sym (below_more ys c.loop-id.id ∙ ap (λ o. defs.races_below ys c.loop-id.id ++ option_to_list o) (sym c.race_from.ensures ∙ w.in-Some.is))
+          ∙ sym (below_more ys c.loop-id.id ∙ ap (λ o. defs.races_below ys c.loop-id.id ++ option_to_list o) (sym c.race_linked.ensures ∙ w.in-Some.is))
       | in_default w ↦ ap (λ v. v.items) w.races-is ∙ c.loop-id.invariant ∙ sym (append-nil (defs.races_below ys c.loop-id.id))
-          ∙ sym (below_more ys c.loop-id.id ∙ ap (λ o. defs.races_below ys c.loop-id.id ++ option_to_list o) (sym c.race_from.ensures ∙ w.in_default.is))
+          ∙ sym (below_more ys c.loop-id.id ∙ ap (λ o. defs.races_below ys c.loop-id.id ++ option_to_list o) (sym c.race_linked.ensures ∙ w.in_default.is))
     ]
