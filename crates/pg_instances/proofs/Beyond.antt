@@ -21,7 +21,7 @@ use Rattle.pg_region.specs.Regions.{flow_of}
 use Rattle.pg_region.specs.Laws.{IsLoudBlock}
 use Rattle.pg_step.specs.LocalState.{Frame, LocalState}
 use Rattle.pg_step.specs.States.{IsFrameOf, AreFramesOf, WaitFor, Calls, CallsFunction, StandsAt}
-use Rattle.pg_step.specs.Step.{moved, returned, stepped}
+use Rattle.pg_step.specs.Step.{moved, returned, stepped, target_in}
 use Rattle.pg_instances.specs.Moves.{Moves, GoesAlong, GoesInto, GoesBack, GoesPast, IsReturn}
 use Rattle.pg_instances.proofs.Edges.{body_within, successors_of, target_fits}
 use Rattle.pg_instances.proofs.Flow.{edge_of}
@@ -190,10 +190,10 @@ module _ (p : NumberedProgram) (gated : ℕ → Bool) (sums : ℕ → Option Roo
           let y = called_instr f.function (slice_get p.instrs b.base.place) w.1 in
           let k : y.0 ≡ b.reached.instr = (let v : Some y.0 ≡ Some b.reached.instr = sym y.1 ∙ b.reached.is in cc) in
           let t : is_terminator b.reached.instr.op ≡ false = subst (λ (z : Instr). is_terminator z.op ≡ false) k (call_plain f.function y.0.op y.2) in
-          let g : Frame = stepped b.base (Rattle.pg_step.specs.Step.target_in (slice_get p.instrs b.base.place)) c.number in
+          let g : Frame = stepped b.base (target_in (slice_get p.instrs b.base.place)) c.number in
           inr (record { above = []; base = g; below = b.below; frames = c.is ∙ ap (λ (ks : List Frame). returned p ks c.number) q; reached = next_in_block b.base g b.reached.instr b.reached.is t refl b.reached.path })
       other (a ∷ us) q (inr (inr (inl c))) =
-          inr (record { above = stepped a (Rattle.pg_step.specs.Step.target_in (slice_get p.instrs a.place)) c.number ∷ us; base = b.base; below = b.below; frames = c.is ∙ ap (λ (ks : List Frame). returned p ks c.number) q; reached = b.reached })
+          inr (record { above = stepped a (target_in (slice_get p.instrs a.place)) c.number ∷ us; base = b.base; below = b.below; frames = c.is ∙ ap (λ (ks : List Frame). returned p ks c.number) q; reached = b.reached })
 
       go : (us : List Frame) → fs ≡ us ++ b.base ∷ b.below → Loud ⊎ Beyond hs
       go [] q = let t = top_is b.base b.below q in own (subst (λ (h : Frame). Reached h) (sym t.0) b.reached) t.1 m

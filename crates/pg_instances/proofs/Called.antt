@@ -37,8 +37,8 @@ use Rattle.pg_step.specs.LocalState.{Frame}
 use Rattle.pg_step.specs.Operands.{operand, flat, pointer_to}
 use Rattle.pg_step.specs.EdgeStep.{is_set}
 use Rattle.pg_step.specs.Step.{entered, are_set}
-use Rattle.pg_closed.specs.Freeable.{FreeAccess}
-use Rattle.pg_instances.specs.Leads.{HasPath, Leads}
+use Rattle.pg_closed.specs.Freeable.{FreeAccess, frame_of}
+use Rattle.pg_instances.specs.Leads.{HasPath, Leads, IsReached}
 use Rattle.pg_instances.specs.Inside.{Instance, QuietSet, IsQuietSet, StandsIn, passed, registers_by}
 use Rattle.pg_instances.proofs.Places.{gathered_part}
 use Rattle.pg_instances.proofs.Stepped.{table}
@@ -147,7 +147,7 @@ module _ (I : Instance) (a : QuietSet) (f : Frame) (s : StandsIn I a f) (args : 
         at = l.at;
         is = rw (sym same, sym loads) l.is;
         loads = l.loads;
-        last = subst (λ (z : Bool). Rattle.pg_instances.specs.Leads.IsReached I.recorded z (Rattle.pg_closed.specs.Freeable.frame_of l.at.last)) kind l.last;
+        last = subst (λ (z : Bool). IsReached I.recorded z (frame_of l.at.last)) kind l.last;
       }
 
   -- an access of the callee, by the summary's and the caller's

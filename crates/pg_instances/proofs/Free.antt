@@ -31,6 +31,7 @@ use Rattle.pg_instances.specs.OfRegions.{free_access}
 use Rattle.pg_instances.specs.Free.{instance_of}
 use Rattle.pg_instances.proofs.Places.{some_of}
 use Rattle.pg_instances.proofs.Flow.{edge_of, walk_fits}
+use Rattle.pg_mem.specs.Bytes.{number_of}
 
 -- ---- accesses at a step
 
@@ -133,7 +134,7 @@ module _ (p : NumberedProgram) (gated : ℕ → Bool) (sums : ℕ → Option Roo
       go : (g : Followed) × (followed p (registers_by (registers_in m.calls)) (number_in m) a.path ≡ Some g) × Contains q.accesses (record { writes = a.writes; path = a.path; at = g }) → Leads p (registers_by f.registers) (read s.memory) q.accesses a
       go h = record {
         at = h.0;
-        is = subst (λ (b : ℕ → ℕ). followed p (registers_by f.registers) (λ (z : ByteRange). Rattle.pg_mem.specs.Bytes.number_of b z.start z.bytes) a.path ≡ Some h.0) bytes (subst (λ (z : List Frame). followed p (registers_by (registers_in z)) (number_in m) a.path ≡ Some h.0) calls h.1);
+        is = subst (λ (b : ℕ → ℕ). followed p (registers_by f.registers) (λ (z : ByteRange). number_of b z.start z.bytes) a.path ≡ Some h.0) bytes (subst (λ (z : List Frame). followed p (registers_by (registers_in z)) (number_in m) a.path ≡ Some h.0) calls h.1);
         loads = λ w k. record { access = record { writes = a.writes; path = a.path; at = h.0 }; among = h.2; pointer = w; loads = k; same = refl };
         last = record { access = record { writes = a.writes; path = a.path; at = h.0 }; among = h.2; kind = refl; same = refl };
       }

@@ -1,6 +1,6 @@
 -- The free region of a step, by the region that its program has.
 use Rattle.std.proofs.Common.{◌≡◌, ℕ, ◌<◌, Bool, true, false, List, [], ◌∷◌, length, map, Option, Some, None, refl, sym, ap, ◌∙◌, subst, arith, inl, inr, ◌⊎◌}
-use Rattle.std.specs.Prelude.{Contains, slice_get}
+use Rattle.std.specs.Prelude.{Contains, slice_get, if◌then◌else◌}
 use Rattle.std.specs.List.{list_any}
 use Rattle.pg_ir.specs.Program.{NumberedProgram}
 use Rattle.pg_ir.specs.WellFormed.{IsProgram}
@@ -33,7 +33,7 @@ apart_parts : (r : BranchRegion) (o : Option (List FreeAccess)) (q : FreeRegion)
 apart_parts r None q e = absurd cc
 apart_parts r (Some xs) q e = go (list_any (stores_on xs) xs) refl e
   where
-    go : (b : Bool) → list_any (stores_on xs) xs ≡ b → Rattle.std.specs.Prelude.if◌then◌else◌ b None (Some (record { join = r.join; sets = r.sets; accesses = xs })) ≡ Some q → (q.join ≡ r.join) × ((k : ℕ) → q.sets k ≡ r.sets k) × (Some xs ≡ Some q.accesses) × (list_any (stores_on q.accesses) q.accesses ≡ false)
+    go : (b : Bool) → list_any (stores_on xs) xs ≡ b → if◌then◌else◌ b None (Some (record { join = r.join; sets = r.sets; accesses = xs })) ≡ Some q → (q.join ≡ r.join) × ((k : ℕ) → q.sets k ≡ r.sets k) × (Some xs ≡ Some q.accesses) × (list_any (stores_on q.accesses) q.accesses ≡ false)
     go true s t = absurd cc
     go false s t =
         let w : record { join = r.join; sets = r.sets; accesses = xs } ≡ q = cc in

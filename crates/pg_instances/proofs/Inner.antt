@@ -30,11 +30,12 @@ use Rattle.pg_machine.specs.MachineStep.{op_told, known_told}
 use Rattle.pg_machine.proofs.Actions.{on_value_is, edge_is}
 use Rattle.pg_closed.specs.Freeable.{frame_of}
 use Rattle.pg_instances.specs.Leads.{KeepsCells}
-use Rattle.pg_instances.specs.Inside.{Instance, QuietSet, IsQuietSet, StandsIn, IsBottom, Stands, IsInside, IsAtJoin, Joins, IsAtBranch, IsBranch, edge_at, edge_taken, next_edge, region_set}
+use Rattle.pg_instances.specs.Inside.{Instance, QuietSet, IsQuietSet, StandsIn, IsBottom, Stands, IsInside, IsAtJoin, Joins, IsAtBranch, IsBranch, edge_at, edge_taken, next_edge, region_set, registers_by}
 use Rattle.pg_instances.proofs.Places.{quiet_at}
 use Rattle.pg_instances.proofs.Edges.{edge_stands, edge_joins, target_fits, successors_of, chosen_among, switched_among}
 use Rattle.pg_instances.proofs.Tops.{AtJoin, Arrived, Top, top_of}
 use Rattle.pg_instances.proofs.Actions.{Accesses, Goes, op_goes}
+use Rattle.pg_ir.specs.declared.value.Value.{Value}
 
 -- ---- what a quiet operation leaves as it is
 
@@ -49,7 +50,7 @@ pub record IsCalm (p : NumberedProgram) (h : Bool) (r : Region) (rs : List (Opti
   pub heap : heap_after p r rs o ≡ r.heap
   pub told : (ns : List ℕ) (n : ℕ) → IsCalmKind (op_told ns n o)
 
-known_calm : (p : NumberedProgram) (h : Bool) (r : Region) (rs : List (Option ℕ)) (k : Known) (args : List Rattle.pg_ir.specs.declared.value.Value.Value) (zs : RootedList) → known_accesses k ≡ Some zs → IsCalm p h r rs (op.CallKnown k args)
+known_calm : (p : NumberedProgram) (h : Bool) (r : Region) (rs : List (Option ℕ)) (k : Known) (args : List Value) (zs : RootedList) → known_accesses k ≡ Some zs → IsCalm p h r rs (op.CallKnown k args)
 known_calm p h r rs known.PgIn args zs e = record { halfway = refl; heap = refl; told = λ ns n. tt }
 known_calm p h r rs known.PgInLen args zs e = record { halfway = refl; heap = refl; told = λ ns n. tt }
 known_calm p h r rs _ args zs e = absurd cc
@@ -169,8 +170,8 @@ module _ (I : Instance) (m : ByteRange → ℕ) (thread heap : ℕ) (halfway : B
           function : f.function ≡ I.frame.function
           function = ap (λ (z : Frame). z.function) fe
 
-          kept : (r : ℕ) → Rattle.pg_instances.specs.Inside.registers_by f.registers r ≡ Rattle.pg_instances.specs.Inside.registers_by I.frame.registers r
-          kept r = ap (λ (z : Frame). Rattle.pg_instances.specs.Inside.registers_by z.registers r) fe
+          kept : (r : ℕ) → registers_by f.registers r ≡ registers_by I.frame.registers r
+          kept r = ap (λ (z : Frame). registers_by z.registers r) fe
 
           go : Contains I.blocks to ⊎ (to ≡ I.join) → Arrived I fs (edge_taken I.program f.registers o) (moved I.program f b.branch.block.0 to ∷ fs)
           go (inl d) = inl (inl (record {

@@ -28,7 +28,7 @@ use Rattle.pg_closed.specs.Extents.{Extent}
 use Rattle.pg_closed.specs.Freeable.{FreeAccess, FreeRegion, frame_of}
 use Rattle.pg_closed.specs.Shadows.{is_within}
 use Rattle.pg_instances.specs.Free.{instance_of}
-use Rattle.pg_instances.specs.Inside.{Instance, IsAbove, IsBottom, IsInside, Stands, StandsIn, edge_taken, may_set, phis_set, region_set}
+use Rattle.pg_instances.specs.Inside.{Instance, IsAbove, IsBottom, IsInside, Stands, StandsIn, edge_taken, may_set, phis_set, region_set, IsQuietSet}
 use Rattle.pg_instances.specs.Keeps.{MaySet, may_write}
 use Rattle.pg_instances.specs.Leads as leads
 use Rattle.pg_instances.specs.OfRegions as regions
@@ -39,6 +39,10 @@ use Rattle.pg_instances.proofs.Edges.{chosen_among, successors_of, switched_amon
 use Rattle.pg_instances.proofs.Freed.{join_fits}
 use Rattle.pg_instances.proofs.LeadsOut.{leads_out}
 use Rattle.pg_instances.proofs.Places.{at_block, quiet_at, sets_here, some_of}
+use Rattle.pg_num.specs.Places.{ByteRange}
+use Rattle.pg_step.specs.Compute.{chosen}
+use Rattle.pg_step.specs.EdgeStep.{case_of}
+use Rattle.pg_step.specs.Operands.{given, operand}
 
 -- ---- the calls
 
@@ -88,13 +92,13 @@ phis_may I to (inr e) x c k r =
 -- where an edge leads
 pub edge_parts : (p : NumberedProgram) (rs : List (Option ℕ)) (o : Op) (to : ℕ) → edge_taken p rs o ≡ Some to → (is_terminator o ≡ true) × Contains (targets_of o) to
 edge_parts p rs (op.Br b) to e = let q : b.0 ≡ to = cc in (refl, subst (λ (z : ℕ). Contains (b.0 ∷ []) z) q (here b.0 []))
-edge_parts p rs (op.CondBr c a b) to e = let q : Rattle.pg_step.specs.Compute.chosen (Rattle.pg_step.specs.Operands.given (Rattle.pg_step.specs.Operands.operand p rs c)) a.0 b.0 ≡ to = cc in (refl, subst (λ (z : ℕ). Contains (a.0 ∷ b.0 ∷ []) z) q (chosen_among (Rattle.pg_step.specs.Operands.given (Rattle.pg_step.specs.Operands.operand p rs c)) a.0 b.0))
+edge_parts p rs (op.CondBr c a b) to e = let q : chosen (given (operand p rs c)) a.0 b.0 ≡ to = cc in (refl, subst (λ (z : ℕ). Contains (a.0 ∷ b.0 ∷ []) z) q (chosen_among (given (operand p rs c)) a.0 b.0))
 edge_parts p rs (op.Switch w on other cases) to e =
-    let q : Rattle.pg_step.specs.EdgeStep.case_of cases other.0 (Rattle.pg_step.specs.Operands.given (Rattle.pg_step.specs.Operands.operand p rs on)) ≡ to = cc in
-    (refl, subst (λ (z : ℕ). Contains (targets_of (op.Switch w on other cases)) z) q (switched_among cases other.0 (Rattle.pg_step.specs.Operands.given (Rattle.pg_step.specs.Operands.operand p rs on))))
+    let q : case_of cases other.0 (given (operand p rs on)) ≡ to = cc in
+    (refl, subst (λ (z : ℕ). Contains (targets_of (op.Switch w on other cases)) z) q (switched_among cases other.0 (given (operand p rs on))))
 edge_parts p rs o to e = absurd cc
 
-pub bottom_edge : (I : Instance) (f : Frame) (fs : List Frame) (x : Instr) (to : ℕ) → IsProgram I.program → Rattle.pg_instances.specs.Inside.IsQuietSet I (region_set I) → IsBottom I f fs → slice_get I.program.instrs f.place ≡ Some x → edge_taken I.program f.registers x.op ≡ Some to → Contains I.blocks to ⊎ (to ≡ I.join)
+pub bottom_edge : (I : Instance) (f : Frame) (fs : List Frame) (x : Instr) (to : ℕ) → IsProgram I.program → IsQuietSet I (region_set I) → IsBottom I f fs → slice_get I.program.instrs f.place ≡ Some x → edge_taken I.program f.registers x.op ≡ Some to → Contains I.blocks to ⊎ (to ≡ I.join)
 bottom_edge I f fs x to program q b e t =
     let at = at_block I (region_set I) f x program b.stands e in
     let d = edge_parts I.program f.registers x.op to t in
@@ -106,10 +110,10 @@ bottom_edge I f fs x to program q b e t =
     go (inr m) = inr m.1
 
 -- a frame to which a store of a region leads may be written
-pub reached_write : (xs : List FreeAccess) (frame : Rattle.pg_num.specs.Places.ByteRange) (w : Bool) (b : ℕ) → leads.IsReached xs w frame → w ≡ true → is_within frame b ≡ true → may_write xs b ≡ true
+pub reached_write : (xs : List FreeAccess) (frame : ByteRange) (w : Bool) (b : ℕ) → leads.IsReached xs w frame → w ≡ true → is_within frame b ≡ true → may_write xs b ≡ true
 reached_write xs frame w b r e h =
     some_of (λ (f : FreeAccess). f.writes && is_within (frame_of f.at.last) b) xs r.access r.among
-    (both r.access.writes (is_within (frame_of r.access.at.last) b) (r.kind ∙ e) (ap (λ (z : Rattle.pg_num.specs.Places.ByteRange). is_within z b) r.same ∙ h))
+    (both r.access.writes (is_within (frame_of r.access.at.last) b) (r.kind ∙ e) (ap (λ (z : ByteRange). is_within z b) r.same ∙ h))
   where
     both : (a c : Bool) → a ≡ true → c ≡ true → (a && c) ≡ true
     both true c q k = k

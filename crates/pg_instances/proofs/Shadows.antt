@@ -1,6 +1,6 @@
 -- The threads of what is known, from step to step: as many as the machine's, each with as many calls.
 use Rattle.std.proofs.Common.{◌≡◌, ◌≢◌, ℕ, ℤ, zero, suc, ◌+◌, ◌<◌, ◌≤◌, Bool, true, false, cond, List, [], ◌∷◌, ◌++◌, length, get_or, Option, Some, None, refl, sym, ap, ◌∙◌, subst, arith, inl, inr, ◌⊎◌, get_or-set_same, get_or-set_other}
-use Rattle.std.specs.Prelude.{Contains, slice_get, slice_index_or, slice_set, if◌then◌else◌}
+use Rattle.std.specs.Prelude.{Contains, slice_get, slice_index_or, slice_set, if◌then◌else◌, slice_index}
 use Rattle.std.specs.List.{list_all}
 use Rattle.std.proofs.lemmas.Bool.{cases_lt, cases_eq}
 use Rattle.std.proofs.lemmas.List.{get_or_past}
@@ -286,9 +286,9 @@ module _ (R : Reference) (n : ℕ) (m : Moment) (w : RunShadow) (i : Instr) (at 
   asked_by e (requests.Create at g v) before fs size c h k =
       let f : List (List Shadow) → List (List Shadow) = after_event p m e (kind_of (requests.Create at g v)) (slice_index_or w.words t unset) i in
       record {
-        grown = grown_last p (Rattle.std.specs.Prelude.slice_index e.operands 2) w.threads (on_thread f t w.threads) t (f (thread_of w t).calls) lt (on_length f) (grown_on f t w.threads lt);
+        grown = grown_last p (slice_index e.operands 2) w.threads (on_thread f t w.threads) t (f (thread_of w t).calls) lt (on_length f) (grown_on f t w.threads lt);
         length_is = event_length p m e (slice_index_or w.words t unset) i (thread_of w t).calls before fs (requests.Create at g v) c h;
-        size_is = (let n = last_length (on_thread f t w.threads) (fresh_thread p (Rattle.std.specs.Prelude.slice_index e.operands 2)) in let o = on_length f in omega (arith, n, o, k));
+        size_is = (let n = last_length (on_thread f t w.threads) (fresh_thread p (slice_index e.operands 2)) in let o = on_length f in omega (arith, n, o, k));
       }
   asked_by e (requests.Exit v b) before fs size c h k = record {
     grown = grown_on (after_event p m e (kind_of (requests.Exit v b)) (slice_index_or w.words t unset) i) t w.threads lt;

@@ -150,6 +150,9 @@ module _ (p : NumberedProgram) (registers : ℕ → Option ℕ) (memory : ByteRa
       go l x (inl q) = (last, subst (λ (z : List ℕ). Contains z last) (sym l.pointers) (here last l.more.pointers), sym (frame_moved last (pos j)) ∙ ap frame_of (sym m ∙ q))
       go l x (inr k) = (x, subst (λ (z : List ℕ). Contains z x) (sym l.pointers) (there last l.more.pointers x k), refl)
 
+  same_last : (a b c : ℕ) → a ≡ b → c ≡ b → frame_of a ≡ frame_of c
+  same_last a b c e h = ap frame_of (e ∙ sym h)
+
   -- in a callee the accesses from a parameter lead where those of the caller from the argument's path lead
   pub argument_leads : (a b : Rooted) (q : Path) (w r : ℕ) (params : ℕ → Option ℕ) → Leads p registers memory xs b → HasPath p registers memory xs q w → composed q a.path.loads ≡ Some b.path → b.writes ≡ a.writes → a.path.root ≡ root.Register r → params r ≡ Some w → Leads p params memory xs a
   argument_leads a b q w r params l h e kind rooted_at at = go a.path.loads refl e
@@ -192,7 +195,7 @@ module _ (p : NumberedProgram) (registers : ℕ → Option ℕ) (memory : ByteRa
             at = g.0;
             is = follows g.0 ls t (ap (followed_from memory w) s ∙ g.1);
             loads = λ z c. let y' = g.2 z c in subst (λ (n : ByteRange). IsLoaded xs n) y'.2 (l.loads y'.0 (subst (λ (n : List ℕ). Contains n y'.0) (sym d.pointers) (Contains-append_right d.first.pointers d.second.pointers y'.0 y'.1)));
-            last = reached g.0.last (ap frame_of (g.3 ∙ sym d.last));
+            last = reached g.0.last (same_last g.0.last d.second.last l.at.last g.3 d.last);
           }
 
       by_added : (k : ℕ) (ks : List ℕ) (ls : Loads) → a.path.loads ≡ ls → offsets_of ls ≡ k ∷ ks → ((j : ℕ) → offsets_of (shifted j ls) ≡ moved_offset j k ∷ ks) → ((o : Option ℕ) → o ≡ None → loads_behind q.loads o ls ≡ None) → ((j : ℕ) → loads_behind q.loads (Some j) ls ≡ appended q.loads (shifted j ls)) → (o : Option ℕ) → q.added ≡ o → root_path_with q.root (loads_behind q.loads o ls) ≡ Some b.path → Leads p params memory xs a

@@ -38,6 +38,7 @@ use Rattle.pg_instances.proofs.Moves.{frame_moved}
 use Rattle.pg_instances.proofs.Paths.{within_memory, within_frame, some_bytes, LoadsFirst, loads_first, loads_again}
 use Rattle.pg_instances.proofs.Places.{gathered_part}
 use Rattle.pg_instances.proofs.Values.{follows_root, root_follows}
+use Rattle.pg_quiet.specs.Blocks.{blocks_of}
 
 -- ---- where an access of a list comes from
 
@@ -126,5 +127,5 @@ inner_reached I a f now small some x at q s keeps e h c g =
     subst (λ (z : ℕ). IsReached I.recorded x.writes (frame_of z)) (sym m.2 ∙ ap (λ (z : Followed). z.last) same) l.last
 
 -- the blocks before a join stand in the function of the branch
-pub region_function : (p : NumberedProgram) (gated : ℕ → Bool) (sums : ℕ → Option RootedList) (c : ℕ) (r : Region) → IsProgram p → IsJoin p gated sums c r.join r.blocks.items r.accesses.items → (b : ℕ) → Contains r.blocks.items b → Contains (Rattle.pg_quiet.specs.Blocks.blocks_of p (function_of p c)) b
+pub region_function : (p : NumberedProgram) (gated : ℕ → Bool) (sums : ℕ → Option RootedList) (c : ℕ) (r : Region) → IsProgram p → IsJoin p gated sums c r.join r.blocks.items r.accesses.items → (b : ℕ) → Contains r.blocks.items b → Contains (blocks_of p (function_of p c)) b
 region_function p gated sums c r program j b m = let w = walk_fits p r.join c b program ((j.before.exact b).0 m) in has_block p (function_of p c) b w.0 w.1
