@@ -1,5 +1,5 @@
 -- What the next action of a thread inside is, and where it leads.
-use Rattle.std.proofs.Common.{◌≡◌, ℕ, zero, suc, ◌+◌, ◌*◌, ◌%◌, ◌<◌, ◌≤◌, ◌^◌, Bool, true, false, cond, List, [], ◌∷◌, ◌++◌, length, map, Option, Some, None, Result, Ok, Err, refl, sym, ap, ◌∙◌, subst, arith, inl, inr, ◌⊎◌}
+use Rattle.std.proofs.Common.{◌≡◌, ℕ, ◌*◌, ◌%◌, ◌<◌, ◌^◌, Bool, true, false, cond, List, [], ◌∷◌, length, map, Option, Some, None, Result, Ok, Err, refl, sym, ap, ◌∙◌, subst, arith, inl, inr, ◌⊎◌}
 use Rattle.std.specs.Prelude.{Contains, slice_get, option_map, option_and_then, ◌==◌, if◌then◌else◌, IfOk}
 use Rattle.std.proofs.lemmas.Bool.Decides.{nat_tests}
 use Rattle.pg_num.specs.Numbers.{modulus, divided}
@@ -9,7 +9,6 @@ use Rattle.pg_num.specs.declared.places.PlaceFault.{PlaceFault}
 use Rattle.pg_num.specs.declared.places.PlaceFault.TheVariants as fault
 use Rattle.pg_num.specs.declared.width.Width.{Width}
 use Rattle.pg_num.specs.declared.width.Width.TheVariants.{W1, W8, W16, W32, W64}
-use Rattle.pg_ir.specs.declared.ids.InstrId.{InstrId}
 use Rattle.pg_ir.specs.declared.known.Known.{Known}
 use Rattle.pg_ir.specs.declared.known.Known.TheVariants as known
 use Rattle.pg_ir.specs.declared.request.Request.TheVariants as requests
@@ -41,15 +40,15 @@ use Rattle.pg_step.specs.States.{Calls, CallsFunction}
 use Rattle.pg_step.specs.Step as step
 use Rattle.pg_step.specs.Step.{op_action, op_after, on_value, on_all, on_place, placed, are_set, call_action, edge_action, return_action, divided_action, stepped, entered, bytes_of, result_number, target_in, total, under_top}
 use Rattle.pg_machine.proofs.Actions.{OfTraps, on_value_is, on_all_is, edge_is, call_is, divided_is}
-use Rattle.pg_closed.specs.Freeable.{FreeAccess, frame_of}
+use Rattle.pg_closed.specs.Freeable.{frame_of}
 use Rattle.pg_instances.specs.Leads.{IsReached, IsWithin, Leads, HasPath, KeepsCells}
-use Rattle.pg_instances.specs.Inside.{Instance, QuietSet, IsQuietSet, StandsIn, IsAbove, Stands, Waits, edge_taken, region_set}
+use Rattle.pg_instances.specs.Inside.{Instance, IsQuietSet, Stands, Waits, edge_taken, region_set}
 use Rattle.pg_instances.proofs.Paths.{within_frame, some_bytes, first_byte}
 use Rattle.pg_instances.proofs.Values.{load_has, gep_has, access_reached}
 use Rattle.pg_instances.proofs.Places.{at_block}
 use Rattle.pg_instances.proofs.Stepped.{table, types_at, stepped_stands}
 use Rattle.pg_instances.proofs.Edges.{edge_stands, target_fits, successors_of, chosen_among, switched_among}
-use Rattle.pg_instances.proofs.Called.{value_has, argument_set, IsCalled, called_quiet, called_set}
+use Rattle.pg_instances.proofs.Called.{value_has, argument_set, called_quiet, called_set}
 use Rattle.pg_instances.proofs.Tops.{AtJoin, Arrived, Top, top_of}
 use Rattle.pg_num.proofs.Accesses.{place_of-bytes}
 use Rattle.pg_quiet.specs.Blocks.{blocks_of}
@@ -322,15 +321,16 @@ module _ (I : Instance) (program : IsProgram I.program) (sums : AreSummaries I.p
           let c' = called_quiet I top.set f g f.height args zs program sums top.stands function c h set in
           let n = entered_is I.program g f.height (map (operand I.program rs) args) in
           inr (
-          record {
-          set = called_set I.program g c'.accesses (entered I.program g f.height (map (operand I.program rs) args));
-          returns = refl;
-          blocks = ap (blocks_of I.program) (sym n);
-          quiet = c'.quiet;
-          waits = subst (λ (k : ℕ). Waits I.program k (f ∷ fs)) (sym n) waits;
-          stands = c'.stands;
-          },
-          inside)
+            record {
+              set = called_set I.program g c'.accesses (entered I.program g f.height (map (operand I.program rs) args));
+              returns = refl;
+              blocks = ap (blocks_of I.program) (sym n);
+              quiet = c'.quiet;
+              waits = subst (λ (k : ℕ). Waits I.program k (f ∷ fs)) (sym n) waits;
+              stands = c'.stands;
+            },
+            inside,
+          )
 
   return_goes : (v : Option Value) → top.set.returns ≡ true → Q (op.Ret v) (op_action I.program (region_of l) halfway rs (length (f ∷ fs)) (total (f ∷ fs)) x.block.0 (op.Ret v))
   return_goes v r = by_value v

@@ -1,15 +1,14 @@
 -- From the join on, a thread that does an event comes to a block that isn't quiet, or to a return, along the flow of control.
-use Rattle.std.proofs.Common.{◌≡◌, ℕ, ℤ, zero, suc, ◌+◌, ◌<◌, ◌≤◌, ◌^◌, Bool, true, false, List, [], ◌∷◌, ◌++◌, length, Option, Some, None, refl, sym, ap, ◌∙◌, subst, arith, inl, inr, ◌⊎◌}
+use Rattle.std.proofs.Common.{◌≡◌, ℕ, ◌+◌, ◌<◌, Bool, true, false, List, [], ◌∷◌, ◌++◌, length, Option, Some, None, refl, sym, ap, ◌∙◌, subst, arith, inl, inr, ◌⊎◌}
 use Rattle.std.specs.Prelude.{slice_get, Contains}
-use Rattle.pg_ir.specs.declared.ids.InstrId.{InstrId}
 use Rattle.pg_ir.specs.declared.instr.Instr.{Instr}
 use Rattle.pg_ir.specs.declared.instr.Op.{Op}
 use Rattle.pg_ir.specs.declared.instr.Op.TheVariants as op
-use Rattle.pg_ir.specs.Program.{NumberedProgram, function_of, first_of, end_of}
-use Rattle.pg_ir.specs.Edges.{instrs_of, is_terminator, body_of, targets_of, successors}
+use Rattle.pg_ir.specs.Program.{NumberedProgram, function_of, end_of}
+use Rattle.pg_ir.specs.Edges.{is_terminator, body_of, successors}
 use Rattle.pg_ir.specs.WellFormed.{IsProgram, IsInBlock, StandsIn}
 use Rattle.pg_ir.proofs.Places.{block_held, not_last, stands_within}
-use Rattle.pg_cfg.specs.Graphs.{Edge, Path}
+use Rattle.pg_cfg.specs.Graphs.{Path}
 use Rattle.pg_cfg.specs.Graphs.Path.{on}
 use Rattle.pg_accesses.specs.Accesses.{RootedList}
 use Rattle.pg_accesses.specs.Laws.{IsQuiet}
@@ -19,10 +18,10 @@ use Rattle.pg_quiet.proofs.Lawful.{passes_quiet}
 use Rattle.pg_quiet.proofs.Places.{stands}
 use Rattle.pg_region.specs.Regions.{flow_of}
 use Rattle.pg_region.specs.Laws.{IsLoudBlock}
-use Rattle.pg_step.specs.LocalState.{Frame, LocalState}
+use Rattle.pg_step.specs.LocalState.{Frame}
 use Rattle.pg_step.specs.States.{IsFrameOf, AreFramesOf, WaitFor, Calls, CallsFunction, StandsAt}
 use Rattle.pg_step.specs.Step.{moved, returned, stepped, target_in}
-use Rattle.pg_instances.specs.Moves.{Moves, GoesAlong, GoesInto, GoesBack, GoesPast, IsReturn}
+use Rattle.pg_instances.specs.Moves.{Moves, IsReturn}
 use Rattle.pg_instances.proofs.Edges.{body_within, successors_of, target_fits}
 use Rattle.pg_instances.proofs.Flow.{edge_of}
 use Rattle.pg_instances.proofs.Quiets.{quieter, no_return}
@@ -166,11 +165,11 @@ module _ (p : NumberedProgram) (gated : ℕ → Bool) (sums : ℕ → Option Roo
           let lt : x.block.0 < length p.blocks = (program.instrs f.place x at).block in
           let s : Contains (successors p x.block.0) a.to = subst (λ (ts : List ℕ). Contains ts a.to) (sym (successors_of p f.place x program at a.ends)) a.among in
           inr (record {
-          above = [];
-          base = moved p f x.block.0 a.to;
-          below = gs;
-          frames = a.is;
-          reached = at_body (moved p f x.block.0 a.to) a.to t.0 refl (on (path_here r) (edge_of p x.block.0 a.to lt s));
+            above = [];
+            base = moved p f x.block.0 a.to;
+            below = gs;
+            frames = a.is;
+            reached = at_body (moved p f x.block.0 a.to) a.to t.0 refl (on (path_here r) (edge_of p x.block.0 a.to lt s));
           })
       own r q (inr (inl c)) = inr (record { above = c.frame ∷ []; base = f; below = gs; frames = c.is; reached = r })
       own r q (inr (inr (inl c))) = inl (loud_here f x at (path_here r) (λ k. no_return gated sums f.place x.op c.back k))

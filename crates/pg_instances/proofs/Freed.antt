@@ -1,6 +1,6 @@
 -- The free region of a step, by the region that its program has.
-use Rattle.std.proofs.Common.{◌≡◌, ℕ, ◌<◌, Bool, true, false, List, [], ◌∷◌, length, map, Option, Some, None, refl, sym, ap, ◌∙◌, subst, arith, inl, inr, ◌⊎◌}
-use Rattle.std.specs.Prelude.{Contains, slice_get, if◌then◌else◌}
+use Rattle.std.proofs.Common.{◌≡◌, ℕ, ◌<◌, Bool, true, false, List, [], ◌∷◌, length, map, Option, Some, None, refl, sym, subst, inl, inr, ◌⊎◌}
+use Rattle.std.specs.Prelude.{Contains, if◌then◌else◌}
 use Rattle.std.specs.List.{list_any}
 use Rattle.pg_ir.specs.Program.{NumberedProgram}
 use Rattle.pg_ir.specs.WellFormed.{IsProgram}
@@ -11,7 +11,7 @@ use Rattle.pg_accesses.specs.declared.rooted.Rooted.{Rooted}
 use Rattle.pg_accesses.specs.Accesses.{RootedList}
 use Rattle.pg_accesses.proofs.Elements.{here, there, cases, none_in}
 use Rattle.pg_region.specs.declared.region.Region.{Region}
-use Rattle.pg_region.specs.Regions.{flow_of, IsJoin, IsRegion, RegionOf}
+use Rattle.pg_region.specs.Regions.{flow_of, IsRegion, RegionOf}
 use Rattle.pg_closed.specs.Moments.{Moment, number_in, registers_in}
 use Rattle.pg_closed.specs.Freeable.{BranchRegion, FreeAccess, FreeRegion, Regions, RegionAccess, accesses_at, if_apart, region_at, stores_on}
 use Rattle.pg_closed.specs.Freeable as free

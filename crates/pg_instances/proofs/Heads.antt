@@ -1,18 +1,16 @@
 -- The open extents of a thread before and after one of its steps.
-use Rattle.std.proofs.Common.{◌≡◌, ℕ, ℤ, zero, suc, ◌+◌, ◌<◌, ◌≤◌, ◌^◌, Bool, true, false, not, cond, List, [], ◌∷◌, length, Option, Some, None, refl, sym, ap, ◌∙◌, subst, arith, inl, inr, ◌⊎◌}
-use Rattle.std.specs.Prelude.{Contains, slice_get, filter, if◌then◌else◌}
-use Rattle.std.proofs.lemmas.Bool.{true≢false}
+use Rattle.std.proofs.Common.{◌≡◌, ℕ, ℤ, ◌<◌, ◌^◌, Bool, true, false, not, List, [], ◌∷◌, length, Option, Some, None, refl, sym, ap, ◌∙◌, subst, arith, inl, inr, ◌⊎◌}
+use Rattle.std.specs.Prelude.{Contains, filter, if◌then◌else◌}
 use Rattle.std.proofs.lemmas.Bool.Decides.{nat_tests}
 use Rattle.pg_num.specs.Places.{ByteRange}
 use Rattle.pg_ir.specs.declared.ids.InstrId.{InstrId}
 use Rattle.pg_ir.specs.declared.instr.Instr.{Instr}
-use Rattle.pg_ir.specs.declared.instr.Op.{Op}
 use Rattle.pg_ir.specs.Program.{NumberedProgram}
 use Rattle.pg_ir.specs.WellFormed.{IsProgram}
 use Rattle.pg_accesses.specs.Accesses.{RootedList}
 use Rattle.pg_accesses.proofs.Elements.{cases, here, there, none_in}
 use Rattle.pg_quiet.specs.Summaries.{AreSummaries}
-use Rattle.pg_step.specs.LocalState.{Frame, LocalState}
+use Rattle.pg_step.specs.LocalState.{LocalState}
 use Rattle.pg_trace.specs.declared.step.Access.{Access}
 use Rattle.pg_trace.specs.declared.step.Step.{Step}
 use Rattle.pg_trace.specs.declared.step.StepKind.{StepKind}
@@ -27,7 +25,7 @@ use Rattle.pg_closed.specs.Freeable.{FreeRegion, Regions, frame_of, region_at}
 use Rattle.pg_closed.specs.Known.{Reference, Seen, is_branch, region_of}
 use Rattle.pg_closed.specs.Rules.{kind_in}
 use Rattle.pg_closed.specs.Shadows.{is_within}
-use Rattle.pg_instances.specs.Keeps.{AreStacked, EndsLater, KeepsTo, MaySetPhis, StoresBy, depth_of, edge_at, instr_of, is_branching, is_store, MaySet}
+use Rattle.pg_instances.specs.Keeps.{AreStacked, KeepsTo, MaySetPhis, StoresBy, depth_of, edge_at, instr_of, is_branching, is_store, MaySet}
 use Rattle.pg_instances.specs.Leads.{IsWithin}
 use Rattle.pg_instances.specs.Moves.{IsLoad, IsStore, IsPlacedAt}
 use Rattle.pg_instances.specs.OfRegions.{AreRegions}
@@ -36,9 +34,9 @@ use Rattle.pg_instances.specs.Together.{AreTogether, IsNext}
 use Rattle.pg_instances.proofs.Keeping.{IsSeen, keeps_here, kind_here, no_store, same_instr, instr_here}
 use Rattle.pg_instances.proofs.LeadsOut.{within_none}
 use Rattle.pg_instances.proofs.Machine.{step_stays}
-use Rattle.pg_instances.proofs.Opening.{Over, begun_edge, begun_ends, begun_instance, begun_over, ends_parts, freed_is, open_begun, open_ends, open_next, tells_branch, took_it}
+use Rattle.pg_instances.proofs.Opening.{Over, begun_edge, begun_ends, begun_instance, begun_over, freed_is, open_begun, open_ends, open_next, tells_branch, took_it}
 use Rattle.pg_instances.proofs.Opens.{Open, instance, phis_may}
-use Rattle.pg_instances.proofs.Took.{Plain, Requests, TellsAccess, TellsPlain, Took}
+use Rattle.pg_instances.proofs.Took.{Plain, Requests, TellsPlain, Took}
 
 -- ---- lists
 

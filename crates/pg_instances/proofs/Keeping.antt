@@ -1,7 +1,6 @@
 -- A step while an extent is open keeps to the region of the extent's branch step.
-use Rattle.std.proofs.Common.{◌≡◌, ℕ, ℤ, zero, suc, ◌+◌, ◌<◌, ◌≤◌, ◌^◌, ◌&&◌, Bool, true, false, List, [], ◌∷◌, length, Option, Some, None, IfSome, refl, sym, ap, ◌∙◌, subst, arith, inl, inr, ◌⊎◌}
+use Rattle.std.proofs.Common.{◌≡◌, ℕ, ℤ, suc, ◌<◌, ◌≤◌, ◌^◌, ◌&&◌, Bool, true, false, List, [], ◌∷◌, length, Option, Some, None, refl, sym, ap, ◌∙◌, subst, arith, inl, inr, ◌⊎◌}
 use Rattle.std.specs.Prelude.{Contains, slice_get, if◌then◌else◌}
-use Rattle.std.specs.List.{list_any}
 use Rattle.std.proofs.lemmas.Bool.{and_parts, cases_lt}
 use Rattle.pg_num.specs.Places.{ByteRange}
 use Rattle.pg_mem.specs.Memory.{byte_at, read}
@@ -10,21 +9,17 @@ use Rattle.pg_ir.specs.declared.instr.Instr.{Instr}
 use Rattle.pg_ir.specs.declared.instr.Op.{Op}
 use Rattle.pg_ir.specs.declared.instr.Op.TheVariants as op
 use Rattle.pg_ir.specs.Program.{NumberedProgram, function_of}
-use Rattle.pg_ir.specs.Edges.{phis_of}
 use Rattle.pg_ir.specs.WellFormed.{IsProgram}
-use Rattle.pg_paths.specs.Followed.{Followed, followed}
+use Rattle.pg_paths.specs.Followed.{followed}
 use Rattle.pg_accesses.specs.Accesses.{RootedList, op_accesses}
 use Rattle.pg_accesses.proofs.Elements.{none_in}
 use Rattle.pg_quiet.specs.Blocks.{blocks_of}
 use Rattle.pg_quiet.specs.Summaries.{AreSummaries}
-use Rattle.pg_region.specs.declared.region.Region.{Region}
-use Rattle.pg_region.specs.Regions.{IsRegion}
 use Rattle.pg_region.specs.Laws.{AreNested}
 use Rattle.pg_step.specs.LocalState.{Frame, LocalState}
 use Rattle.pg_step.specs.Operands.{number_at, operands_of}
 use Rattle.pg_step.specs.Compute.{chosen}
 use Rattle.pg_step.specs.EdgeStep.{case_of}
-use Rattle.pg_step.specs.States.{Calls}
 use Rattle.pg_step.specs.Told.{id_of, place_in}
 use Rattle.pg_trace.specs.declared.step.Access.{Access}
 use Rattle.pg_trace.specs.declared.step.Step.{Step}
@@ -41,11 +36,10 @@ use Rattle.pg_closed.specs.Freeable.{FreeAccess, FreeRegion, Regions, frame_of, 
 use Rattle.pg_closed.specs.Known.{Reference, Seen, caller_target, edge_of, is_branch, region_of, target_of}
 use Rattle.pg_closed.specs.Rules.{kind_in}
 use Rattle.pg_closed.specs.Shadows.{is_within}
-use Rattle.pg_instances.specs.Inside.{Instance, IsAbove, IsBottom, IsInside, Stands, StandsIn, edge_taken, region_set, registers_by}
+use Rattle.pg_instances.specs.Inside.{Instance, IsBottom, Stands, edge_taken, region_set, registers_by}
 use Rattle.pg_instances.specs.Keeps.{KeepsTo, MaySet, MaySetPhis, Returns, StoresBy, depth_of, edge_at, instr_of, is_store, may_write}
-use Rattle.pg_instances.specs.Leads.{IsReached as LeadsTo, KeepsCells}
+use Rattle.pg_instances.specs.Leads.{IsReached as LeadsTo}
 use Rattle.pg_instances.specs.Moves.{IsLoad, IsStore, IsPlacedAt}
-use Rattle.pg_instances.specs.OfRegions as regions_of
 use Rattle.pg_instances.specs.OfRegions.{AreRegions}
 use Rattle.pg_instances.specs.Stays.{AccessesWithin, StaysInside, TellsWithin}
 use Rattle.pg_instances.specs.Together.{AreTogether, IsNext}
@@ -54,7 +48,7 @@ use Rattle.pg_instances.proofs.Machine.{step_stays}
 use Rattle.pg_instances.proofs.Opens.{Open, any_source, bottom_edge, bottom_of, bottom_result, instance, nested_sets, open_nested, phis_may, reached_write, stands_length}
 use Rattle.pg_instances.proofs.Places.{at_block, quiet_at}
 use Rattle.pg_instances.proofs.Stepped.{table}
-use Rattle.pg_instances.proofs.Took.{Plain, Requests, TellsAccess, TellsPlain, Took, took}
+use Rattle.pg_instances.proofs.Took.{Plain, TellsAccess, TellsPlain, Took, took}
 use Rattle.pg_instances.proofs.Within.{inner_reached, region_function}
 use Rattle.pg_ir.specs.declared.value.Value.{Value}
 use Rattle.pg_mem.specs.Bytes.{number_of}

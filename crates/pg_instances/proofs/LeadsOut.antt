@@ -1,5 +1,5 @@
 -- A thread inside that does an event comes from the join to a block that isn't quiet.
-use Rattle.std.proofs.Common.{◌≡◌, ℕ, ℤ, ◌+◌, ◌<◌, ◌^◌, Bool, true, false, List, [], ◌∷◌, ◌++◌, length, Option, Some, None, refl, sym, ap, ◌∙◌, subst, arith, inl, inr, ◌⊎◌}
+use Rattle.std.proofs.Common.{◌≡◌, ℕ, ℤ, ◌<◌, ◌^◌, Bool, true, false, List, [], ◌∷◌, length, Option, Some, None, refl, sym, ap, ◌∙◌, subst, inl, inr, ◌⊎◌}
 use Rattle.std.specs.Prelude.{slice_get, if◌then◌else◌}
 use Rattle.std.proofs.lemmas.Bool.{true≢false}
 use Rattle.pg_ir.specs.declared.ids.InstrId.{InstrId}
@@ -9,12 +9,10 @@ use Rattle.pg_ir.specs.declared.instr.Op.TheVariants as op
 use Rattle.pg_ir.specs.declared.request.Request.{Request}
 use Rattle.pg_ir.specs.Program.{NumberedProgram}
 use Rattle.pg_ir.specs.WellFormed.{IsProgram}
-use Rattle.pg_cfg.specs.Graphs.{Path}
 use Rattle.pg_cfg.specs.Graphs.Path.{here}
 use Rattle.pg_accesses.specs.Accesses.{RootedList}
 use Rattle.pg_accesses.specs.Laws.{IsQuiet}
 use Rattle.pg_quiet.specs.Summaries.{AreSummaries}
-use Rattle.pg_region.specs.Regions.{flow_of}
 use Rattle.pg_step.specs.declared.action.Action.{Action}
 use Rattle.pg_step.specs.declared.action.Action.TheVariants as actions
 use Rattle.pg_step.specs.LocalState.{Frame, LocalState, region_of}
@@ -23,20 +21,19 @@ use Rattle.pg_step.specs.States.{AreFramesOf, IsOf}
 use Rattle.pg_trace.specs.declared.step.Step.{Step}
 use Rattle.pg_trace.specs.declared.step.StepKind.{StepKind}
 use Rattle.pg_trace.specs.declared.step.StepKind.TheVariants as told
-use Rattle.pg_trace.specs.declared.step.Happening.{Happening}
 use Rattle.pg_trace.specs.Steps.{event_of, happening_in, access_happening, turn_at, access_kind, range_of}
 use Rattle.pg_machine.specs.State.{State}
 use Rattle.pg_machine.specs.MachineStep.{Did, is_gated, ready, step}
-use Rattle.pg_machine.specs.Runs.{IsRun, Takes}
+use Rattle.pg_machine.specs.Runs.{IsRun}
 use Rattle.pg_machine.proofs.Keeps.{all_at}
 use Rattle.pg_effects.specs.Reached.{IsReached}
 use Rattle.pg_effects.proofs.Reaches.{reached_step}
 use Rattle.pg_instances.specs.Inside.{Instance, IsInside, Joins}
-use Rattle.pg_instances.specs.Moves.{IsLoad, IsStore, IsReturn, IsPlacedAt}
+use Rattle.pg_instances.specs.Moves.{IsLoad, IsStore, IsPlacedAt}
 use Rattle.pg_instances.specs.Stays.{CanStepInside, StaysInside, TellsWithin}
 use Rattle.pg_instances.specs.Together.{AreTogether, IsNext}
 use Rattle.pg_instances.proofs.Alone.{inside_again}
-use Rattle.pg_instances.proofs.Beyond.{Beyond, Loud, Reached, at_body, moves_on, not_quiet}
+use Rattle.pg_instances.proofs.Beyond.{Beyond, Loud, at_body, moves_on, not_quiet}
 use Rattle.pg_instances.proofs.Machine.{step_stays}
 use Rattle.pg_instances.proofs.Quiets.{AsksNothing, quiet_asks_nothing}
 use Rattle.pg_instances.proofs.Took.{Plain, Requests, TellsAccess, TellsPlain, Took, took}

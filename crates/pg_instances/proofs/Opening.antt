@@ -1,8 +1,7 @@
 -- Extents from one step to the next: those that stay open, one that begins, and which end together.
-use Rattle.std.proofs.Common.{◌≡◌, ℕ, ℤ, zero, suc, ◌+◌, ◌<◌, ◌≤◌, ◌^◌, ◌&&◌, ◌==◌, Bool, true, false, List, [], ◌∷◌, length, Option, Some, None, refl, sym, ap, ◌∙◌, subst, arith, inl, inr, ◌⊎◌}
+use Rattle.std.proofs.Common.{◌≡◌, ℕ, ℤ, ◌+◌, ◌<◌, ◌≤◌, ◌^◌, ◌==◌, Bool, true, false, List, ◌∷◌, length, Option, Some, None, refl, sym, ap, ◌∙◌, subst, arith, inl, inr, ◌⊎◌}
 use Rattle.std.specs.Prelude.{Contains, slice_get}
 use Rattle.std.proofs.lemmas.Bool.{and_parts, and_from, eq-eqb, eqb-true, true≢false}
-use Rattle.pg_mem.specs.Memory.{byte_at, read}
 use Rattle.pg_ir.specs.declared.ids.InstrId.{InstrId}
 use Rattle.pg_ir.specs.declared.known.Known.{Known}
 use Rattle.pg_ir.specs.declared.known.Known.TheVariants as known
@@ -33,19 +32,19 @@ use Rattle.pg_closed.specs.Extents.{Extent, ends}
 use Rattle.pg_closed.specs.Freeable.{FreeRegion, Regions}
 use Rattle.pg_closed.specs.Known.{Seen, is_branch, Reference}
 use Rattle.pg_instances.specs.Free.{instance_of}
-use Rattle.pg_instances.specs.Inside.{Instance, IsAtBranch, IsBottom, IsBranch, IsInside, Joins, edge_at as instr_edge, edge_taken, next_edge, region_set}
+use Rattle.pg_instances.specs.Inside.{Instance, IsBottom, IsBranch, IsInside, Joins, edge_at as instr_edge, edge_taken, next_edge, region_set}
 use Rattle.pg_instances.specs.Keeps.{depth_of, edge_at, is_branching}
 use Rattle.pg_instances.specs.OfRegions.{AreRegions}
-use Rattle.pg_instances.specs.Stays.{CanStepInside, StaysInside, TellsWithin}
+use Rattle.pg_instances.specs.Stays.{CanStepInside, StaysInside}
 use Rattle.pg_instances.specs.Together.{AreTogether, IsNext}
 use Rattle.pg_instances.proofs.Alone.{inside_again}
 use Rattle.pg_instances.proofs.Free.{apart_at, at_branch, leads_there}
 use Rattle.pg_instances.proofs.Freed.{Freed}
-use Rattle.pg_instances.proofs.Keeping.{IsSeen, deep_enough, edge_here, edge_leads, freed_here, instr_here, nested_here, bottom_here, calls_here, took_here}
+use Rattle.pg_instances.proofs.Keeping.{IsSeen, deep_enough, edge_here, edge_leads, freed_here, nested_here, bottom_here, took_here}
 use Rattle.pg_instances.proofs.LeadsOut.{frames_of}
 use Rattle.pg_instances.proofs.Machine.{step_stays}
 use Rattle.pg_instances.proofs.Opens.{Open, edge_parts, instance, open_nested}
-use Rattle.pg_instances.proofs.Took.{Plain, Requests, TellsPlain, Took}
+use Rattle.pg_instances.proofs.Took.{Plain, TellsPlain, Took}
 use Rattle.pg_instances.proofs.Edges.{successors_of}
 use Rattle.pg_instances.proofs.Places.{at_block}
 use Rattle.pg_ir.specs.Edges.{successors}

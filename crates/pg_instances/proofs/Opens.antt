@@ -1,21 +1,21 @@
 -- An open extent: the thread is inside the instance of its branch step.
-use Rattle.std.proofs.Common.{◌≡◌, ℕ, ℤ, zero, suc, ◌+◌, ◌<◌, ◌≤◌, ◌^◌, ◌&&◌, ◌||◌, ◌==◌, Bool, true, false, List, [], ◌∷◌, length, Option, Some, None, IfSome, refl, sym, ap, ◌∙◌, subst, arith, inl, inr, ◌⊎◌}
+use Rattle.std.proofs.Common.{◌≡◌, ℕ, ℤ, ◌+◌, ◌<◌, ◌≤◌, ◌^◌, ◌&&◌, ◌||◌, Bool, true, false, List, [], ◌∷◌, length, Option, Some, refl, sym, ap, ◌∙◌, subst, arith, inl, inr, ◌⊎◌}
 use Rattle.std.specs.Prelude.{Contains, slice_get}
-use Rattle.std.specs.List.{list_any, take_while}
-use Rattle.std.proofs.lemmas.Bool.{eq-eqb, true≢false}
+use Rattle.std.specs.List.{list_any}
+use Rattle.std.proofs.lemmas.Bool.{eq-eqb}
 use Rattle.pg_ir.specs.declared.ids.InstrId.{InstrId}
 use Rattle.pg_ir.specs.declared.instr.Instr.{Instr}
 use Rattle.pg_ir.specs.declared.instr.Op.{Op}
 use Rattle.pg_ir.specs.declared.instr.Op.TheVariants as op
-use Rattle.pg_ir.specs.Program.{NumberedProgram, function_of}
+use Rattle.pg_ir.specs.Program.{NumberedProgram}
 use Rattle.pg_ir.specs.Edges.{instrs_of, is_phi, is_terminator, phis_of, successors, targets_of}
 use Rattle.pg_ir.specs.WellFormed.{IsProgram}
 use Rattle.pg_paths.specs.Registers.{is_register}
 use Rattle.pg_accesses.specs.Accesses.{RootedList, block_sets, sets}
-use Rattle.pg_accesses.proofs.Elements.{here, there, none_in}
+use Rattle.pg_accesses.proofs.Elements.{here, there}
 use Rattle.pg_quiet.specs.Summaries.{AreSummaries}
 use Rattle.pg_region.specs.declared.region.Region.{Region}
-use Rattle.pg_region.specs.Regions.{flow_of, IsRegion}
+use Rattle.pg_region.specs.Regions.{IsRegion}
 use Rattle.pg_region.specs.Laws.{AreNested}
 use Rattle.pg_region.proofs.Within.{regions_nest}
 use Rattle.pg_step.specs.LocalState.{Frame, LocalState}
@@ -28,8 +28,8 @@ use Rattle.pg_closed.specs.Extents.{Extent}
 use Rattle.pg_closed.specs.Freeable.{FreeAccess, FreeRegion, frame_of}
 use Rattle.pg_closed.specs.Shadows.{is_within}
 use Rattle.pg_instances.specs.Free.{instance_of}
-use Rattle.pg_instances.specs.Inside.{Instance, IsAbove, IsBottom, IsInside, Stands, StandsIn, edge_taken, may_set, phis_set, region_set, IsQuietSet}
-use Rattle.pg_instances.specs.Keeps.{MaySet, may_write}
+use Rattle.pg_instances.specs.Inside.{Instance, IsBottom, IsInside, Stands, edge_taken, may_set, phis_set, region_set, IsQuietSet}
+use Rattle.pg_instances.specs.Keeps.{may_write}
 use Rattle.pg_instances.specs.Leads as leads
 use Rattle.pg_instances.specs.OfRegions as regions
 use Rattle.pg_instances.specs.Stays.{CanStepInside}
@@ -38,7 +38,7 @@ use Rattle.pg_instances.proofs.Beyond.{Loud}
 use Rattle.pg_instances.proofs.Edges.{chosen_among, successors_of, switched_among, while_among}
 use Rattle.pg_instances.proofs.Freed.{join_fits}
 use Rattle.pg_instances.proofs.LeadsOut.{leads_out}
-use Rattle.pg_instances.proofs.Places.{at_block, quiet_at, sets_here, some_of}
+use Rattle.pg_instances.proofs.Places.{at_block, sets_here, some_of}
 use Rattle.pg_num.specs.Places.{ByteRange}
 use Rattle.pg_step.specs.Compute.{chosen}
 use Rattle.pg_step.specs.EdgeStep.{case_of}

@@ -1,11 +1,10 @@
 -- Reference runs keep their extents: along the run, from step to step.
-use Rattle.std.proofs.Common.{◌≡◌, ◌≢◌, ℕ, ℤ, zero, suc, ◌+◌, ◌<◌, ◌≤◌, ◌^◌, Bool, true, false, List, [], ◌∷◌, length, Option, Some, None, refl, sym, ap, ◌∙◌, subst, arith, inl, inr, ◌⊎◌}
-use Rattle.std.specs.Prelude.{Contains, slice_get, slice_index_or, slice_set}
+use Rattle.std.proofs.Common.{◌≡◌, ◌≢◌, ℕ, ℤ, zero, suc, ◌+◌, ◌<◌, ◌≤◌, ◌^◌, true, List, [], ◌∷◌, length, Option, Some, None, refl, sym, ap, ◌∙◌, subst, arith, inl, inr, ◌⊎◌}
+use Rattle.std.specs.Prelude.{Contains, slice_get}
 use Rattle.std.proofs.lemmas.Bool.{cases_eq, cases_lt}
 use Rattle.pg_ir.specs.declared.ids.InstrId.{InstrId}
 use Rattle.pg_ir.specs.declared.instr.Instr.{Instr}
 use Rattle.pg_ir.specs.declared.request.Request.{Request}
-use Rattle.pg_ir.specs.declared.request.Request.TheVariants as requests
 use Rattle.pg_ir.specs.Program.{NumberedProgram}
 use Rattle.pg_ir.specs.WellFormed.{IsProgram}
 use Rattle.pg_accesses.specs.Accesses.{RootedList}
@@ -21,15 +20,14 @@ use Rattle.pg_step.specs.Step.{frames_action, next}
 use Rattle.pg_step.specs.Told.{id_of, place_in}
 use Rattle.pg_trace.specs.declared.step.Step.{Step}
 use Rattle.pg_trace.specs.declared.step.StepKind.{StepKind}
-use Rattle.pg_trace.specs.declared.step.StepKind.TheVariants as told
 use Rattle.pg_trace.specs.declared.turn.Turn.{Turn}
 use Rattle.pg_trace.specs.Races.{recorded, timed_by}
-use Rattle.pg_trace.specs.Steps.{event_of, range_of}
+use Rattle.pg_trace.specs.Steps.{range_of}
 use Rattle.pg_mem.specs.Memory.{byte_at}
 use Rattle.pg_machine.specs.State.{State, initial}
-use Rattle.pg_machine.specs.MachineStep.{Did, is_gated, ready, step}
+use Rattle.pg_machine.specs.MachineStep.{is_gated, step}
 use Rattle.pg_machine.specs.Follow.{Exits, following_of}
-use Rattle.pg_machine.specs.Runs.{IsRun, Takes}
+use Rattle.pg_machine.specs.Runs.{IsRun}
 use Rattle.pg_machine.proofs.Asks.{ready_made}
 use Rattle.pg_machine.proofs.Threads.{set_length}
 use Rattle.pg_effects.specs.Reached.{HoldBytes, IsReached}
@@ -38,7 +36,6 @@ use Rattle.pg_closed.specs.Moments.{Moment, calls_of, instr_in, moments_from, mo
 use Rattle.pg_closed.specs.Extents.{Extent, is_live, begun}
 use Rattle.pg_closed.specs.Freeable.{FreeRegion, Regions, frame_of}
 use Rattle.pg_closed.specs.Known.{Reference, RunShadow, Seen, after_step, region_of, seen_from, start_of, thread_of, ThreadShadow}
-use Rattle.pg_closed.specs.Rules.{kind_in}
 use Rattle.pg_instances.specs.Keeps as keeps_of
 use Rattle.pg_instances.specs.Keeps.{ExtentsKeep, depth_of, edge_at, every, instr_of, open_before}
 use Rattle.pg_instances.specs.OfRegions.{AreRegions}
@@ -50,7 +47,7 @@ use Rattle.pg_instances.proofs.Opens.{Open}
 use Rattle.pg_instances.proofs.Opening.{took_it}
 use Rattle.pg_instances.proofs.Shadows.{Match, Walked, adds_by, lives_event, lives_plain, walked_by, Lives}
 use Rattle.pg_instances.proofs.Together.{exited}
-use Rattle.pg_instances.proofs.Took.{AddsThread, Plain, Requests, Took}
+use Rattle.pg_instances.proofs.Took.{Plain, Requests, Took}
 use Rattle.pg_closed.specs.Shadows.{is_within}
 use Rattle.pg_trace.specs.declared.step.Access.{Access}
 use Rattle.std.proofs.lemmas.Option.{slice_get_within}
@@ -243,16 +240,16 @@ module _ (p : NumberedProgram) (gates : List InstrId) (sums : ℕ → Option Roo
     inv_there : Inv (suc k) w' v ts
     unfolding seen_from moments_from
     inv_there = record {
-        reached = reached_step gates p input s v t x.did program small inv.reached inv.run.0.is_ready inv.run.0.is_step;
-        run = inv.run.1;
-        together = inv.together.1;
-        matches = matches_next;
-        alone = λ u e c. alone u e c (cases_eq u t);
-        opens = λ u n q e c. opens u n q e c (cases_eq u t);
-        stack = λ u. stack u (cases_eq u t);
-        named = λ a c. inv.named a (there y (seen_from R every (suc k) w' (moments_from gates p input (state_after s (step gates p input s t)) ts)) a
-        (subst (λ (b : State). Contains (seen_from R every (suc k) w' (moments_from gates p input b ts)) a) (sym (ap (state_after s) inv.run.0.is_step)) c));
-      }
+      reached = reached_step gates p input s v t x.did program small inv.reached inv.run.0.is_ready inv.run.0.is_step;
+      run = inv.run.1;
+      together = inv.together.1;
+      matches = matches_next;
+      alone = λ u e c. alone u e c (cases_eq u t);
+      opens = λ u n q e c. opens u n q e c (cases_eq u t);
+      stack = λ u. stack u (cases_eq u t);
+      named = λ a c. inv.named a (there y (seen_from R every (suc k) w' (moments_from gates p input (state_after s (step gates p input s t)) ts)) a
+          (subst (λ (b : State). Contains (seen_from R every (suc k) w' (moments_from gates p input b ts)) a) (sym (ap (state_after s) inv.run.0.is_step)) c));
+    }
       where
         alone : (u : ℕ) (e : Extent) → Contains (thread_of w' u).extents e → (u ≡ t) ⊎ (u ≡ t → ⊥) → IsNext u (did_of ts)
         alone u e c (inl q) = subst (λ (n : ℕ). IsNext n (did_of ts)) (sym q) (next_there e (own_extent e (subst (λ (n : ℕ). Contains (thread_of w' n).extents e) q c)))

@@ -1,9 +1,9 @@
 -- What a step of the machine that was done did to its thread's calls, and what it tells.
-use Rattle.std.proofs.Common.{◌≡◌, ℕ, ℤ, zero, suc, ◌+◌, ◌<◌, ◌≤◌, Bool, true, false, List, [], ◌∷◌, ◌++◌, length, Option, Some, None, Result, Ok, Err, refl, sym, ap, ◌∙◌, subst, arith, inl, inr, ◌⊎◌}
+use Rattle.std.proofs.Common.{◌≡◌, ℕ, ℤ, zero, suc, ◌+◌, ◌<◌, ◌≤◌, Bool, true, false, List, [], ◌∷◌, ◌++◌, length, Option, Some, None, Ok, Err, refl, sym, ap, ◌∙◌, subst, arith, inl, inr, ◌⊎◌}
 use Rattle.std.specs.Prelude.{slice_get, slice_set, slice_index}
 use Rattle.std.proofs.lemmas.Option.{slice_get_within}
 use Rattle.pg_num.specs.Places.{ByteRange}
-use Rattle.pg_mem.specs.Memory.{read, written}
+use Rattle.pg_mem.specs.Memory.{read}
 use Rattle.pg_ir.specs.declared.ids.InstrId.{InstrId}
 use Rattle.pg_ir.specs.declared.instr.Instr.{Instr}
 use Rattle.pg_ir.specs.declared.instr.Op.{Op}
@@ -13,12 +13,10 @@ use Rattle.pg_ir.specs.declared.request.Request.{Request}
 use Rattle.pg_ir.specs.declared.request.Request.TheVariants as requests
 use Rattle.pg_ir.specs.declared.request.TrapName.{TrapName}
 use Rattle.pg_ir.specs.Program.{NumberedProgram}
-use Rattle.pg_sync.specs.Sync as sync
-use Rattle.pg_sync.specs.declared.reply.Reply.{Reply}
 use Rattle.pg_step.specs.declared.action.Action.{Action}
 use Rattle.pg_step.specs.declared.action.Action.TheVariants as actions
 use Rattle.pg_step.specs.LocalState.{Frame, LocalState, region_of, fresh}
-use Rattle.pg_step.specs.Operands.{operands_of, number_at, first_four}
+use Rattle.pg_step.specs.Operands.{operands_of, first_four}
 use Rattle.pg_step.specs.Step.{next, after, frames_action, instr_action, op_action, op_after, total, on_top}
 use Rattle.pg_step.specs.Told.{id_of, place_in, operand_values}
 use Rattle.pg_step.proofs.Nexts.{next_at, operands_at}
@@ -32,8 +30,8 @@ use Rattle.pg_trace.specs.declared.step.Access.{Access}
 use Rattle.pg_trace.specs.declared.step.Event.{Event}
 use Rattle.pg_trace.specs.Kinds.{kind_of, object_of}
 use Rattle.pg_trace.specs.Steps.{range_of}
-use Rattle.pg_machine.specs.State.{State, action_in, id_in, instr_of, next_of}
-use Rattle.pg_machine.specs.MachineStep.{Answered, Stepped, Did, Trapped, answered, answer_of, input_at, instr_told, is_gated, kind_told, local_after, may_act, number_in, on_applied, op_told, operands_in, ready, requested, settled, step, step_told, taken, known_told, write_told}
+use Rattle.pg_machine.specs.State.{State, id_in, instr_of, next_of}
+use Rattle.pg_machine.specs.MachineStep.{Answered, Stepped, Did, answered, input_at, instr_told, is_gated, kind_told, may_act, number_in, op_told, operands_in, ready, settled, step, step_told, taken, known_told, write_told}
 use Rattle.pg_machine.proofs.Asks.{next_is, ready_acts}
 use Rattle.pg_machine.proofs.Threads.{set_own, set_other, set_length, last_other}
 use Rattle.pg_machine.specs.Locality.{IfDid}
@@ -124,10 +122,10 @@ pub record Behind (p : NumberedProgram) (s : State) (t : ℕ) (a : Action) : Typ
 
 same_behind : (p : NumberedProgram) (s : State) (t : ℕ) (a : Action) → asked p s t a ≡ s.locals → Behind p s t a
 same_behind p s t a e = record {
-    front = λ u lt. ap (λ (ls : List LocalState). slice_get ls u) e;
-    made = λ u m le h. absurd (none_there u m (sym (got_none s.locals u le) ∙ sym (ap (λ (ls : List LocalState). slice_get ls u) e) ∙ h));
-    more = omega (arith, ap (λ (ls : List LocalState). length ls) e);
-  }
+  front = λ u lt. ap (λ (ls : List LocalState). slice_get ls u) e;
+  made = λ u m le h. absurd (none_there u m (sym (got_none s.locals u le) ∙ sym (ap (λ (ls : List LocalState). slice_get ls u) e) ∙ h));
+  more = omega (arith, ap (λ (ls : List LocalState). length ls) e);
+}
   where
     none_there : (u : ℕ) (m : LocalState) → Path (Option LocalState) None (Some m) → ⊥
     none_there u m q = cc

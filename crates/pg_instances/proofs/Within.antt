@@ -1,6 +1,6 @@
 -- A freeable branch step inside: its region's accesses lead to frames of the outer region's.
-use Rattle.std.proofs.Common.{◌≡◌, ℕ, zero, suc, ◌+◌, ◌<◌, ◌≤◌, Bool, true, false, cond, List, [], ◌∷◌, ◌++◌, length, Option, Some, None, Result, Ok, Err, pos, refl, sym, ap, ◌∙◌, subst, arith, inl, inr, ◌⊎◌}
-use Rattle.std.specs.Prelude.{Contains, slice_get, option_and_then}
+use Rattle.std.proofs.Common.{◌≡◌, ℕ, ◌+◌, Bool, false, List, [], ◌∷◌, ◌++◌, Option, Some, Result, Ok, Err, pos, refl, sym, ap, ◌∙◌, subst, arith, inl, inr, ◌⊎◌}
+use Rattle.std.specs.Prelude.{Contains}
 use Rattle.std.proofs.lemmas.List.Elements.{Contains-append_cases}
 use Rattle.pg_num.specs.Places.{ByteRange}
 use Rattle.pg_num.specs.Pointers.{moved_by, place_of}
@@ -15,20 +15,19 @@ use Rattle.pg_ir.specs.WellFormed.{IsProgram}
 use Rattle.pg_paths.specs.declared.path.Path.{Path}
 use Rattle.pg_paths.specs.declared.path.Root.{Root}
 use Rattle.pg_paths.specs.declared.path.Root.TheVariants as root
-use Rattle.pg_paths.specs.declared.path.RootPath.{RootPath}
 use Rattle.pg_paths.specs.Followed as followed
 use Rattle.pg_paths.specs.Followed.{Followed, cell_at, cell_in, followed_from, root_value}
 use Rattle.pg_paths.specs.Paths.{offsets_of}
 use Rattle.pg_paths.specs.Registers.{register_path}
 use Rattle.pg_accesses.specs.declared.rooted.Rooted.{Rooted}
-use Rattle.pg_accesses.specs.Accesses.{RootedList, both, gathered, op_accesses, accesses_from, block_accesses, sets, set_accesses}
+use Rattle.pg_accesses.specs.Accesses.{RootedList, gathered, op_accesses, accesses_from, block_accesses, sets, set_accesses}
 use Rattle.pg_accesses.specs.Laws.{IsOutside}
 use Rattle.pg_accesses.proofs.Elements.{here, there, none_in}
 use Rattle.pg_accesses.proofs.Fewer.{same_part}
 use Rattle.pg_accesses.proofs.Passes.{parts, set_outside}
 use Rattle.pg_quiet.proofs.Ranges.{has_block}
 use Rattle.pg_region.specs.declared.region.Region.{Region}
-use Rattle.pg_region.specs.Regions.{flow_of, IsJoin}
+use Rattle.pg_region.specs.Regions.{IsJoin}
 use Rattle.pg_step.specs.LocalState.{Frame}
 use Rattle.pg_closed.specs.Freeable.{FreeAccess, frame_of}
 use Rattle.pg_instances.specs.Leads.{IsLoaded, IsReached, IsWithin, Leads, KeepsCells}

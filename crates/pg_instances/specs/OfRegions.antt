@@ -1,5 +1,5 @@
 -- The regions of a program's branches, as closed decisions see them.
-use Rattle.std.specs.Prelude.{◌≡◌, ℕ, ◌||◌, List, map, Bool, Option, Some, None}
+use Rattle.std.specs.Prelude.{◌≡◌, ℕ, ◌||◌, map, Bool, Option, Some, None}
 use Rattle.std.specs.List.{list_any}
 use Rattle.pg_ir.specs.declared.instr.Instr.{Instr}
 use Rattle.pg_ir.specs.Edges.{phis_of}
