@@ -1,6 +1,6 @@
 -- What the next action of a thread inside is, and where it leads.
-use Rattle.std.proofs.Common.{◌≡◌, ℕ, zero, suc, ◌+◌, ◌*◌, ◌%◌, ◌<◌, ◌≤◌, ◌^◌, Bool, true, false, cond, List, [], ◌∷◌, ◌++◌, length, map, Option, Some, None, Result, Ok, Err, refl, sym, ap, ◌∙◌, subst, arith, inl, inr, ◌⊎◌}
-use Rattle.std.specs.Prelude.{Contains, slice_get, option_map, option_and_then, ◌==◌, if◌then◌else◌}
+use Rattle.std.proofs.Common.{◌≡◌, ℕ, ◌*◌, ◌%◌, ◌<◌, ◌^◌, Bool, true, false, cond, List, [], ◌∷◌, length, map, Option, Some, None, Result, Ok, Err, refl, sym, ap, ◌∙◌, subst, arith, inl, inr, ◌⊎◌}
+use Rattle.std.specs.Prelude.{Contains, slice_get, option_map, option_and_then, ◌==◌, if◌then◌else◌, IfOk}
 use Rattle.std.proofs.lemmas.Bool.Decides.{nat_tests}
 use Rattle.pg_num.specs.Numbers.{modulus, divided}
 use Rattle.pg_num.specs.Places.{ByteRange}
@@ -9,9 +9,9 @@ use Rattle.pg_num.specs.declared.places.PlaceFault.{PlaceFault}
 use Rattle.pg_num.specs.declared.places.PlaceFault.TheVariants as fault
 use Rattle.pg_num.specs.declared.width.Width.{Width}
 use Rattle.pg_num.specs.declared.width.Width.TheVariants.{W1, W8, W16, W32, W64}
-use Rattle.pg_ir.specs.declared.ids.InstrId.{InstrId}
 use Rattle.pg_ir.specs.declared.known.Known.{Known}
 use Rattle.pg_ir.specs.declared.known.Known.TheVariants as known
+use Rattle.pg_ir.specs.declared.request.Request.TheVariants as requests
 use Rattle.pg_ir.specs.declared.request.TrapName.TheVariants as traps
 use Rattle.pg_ir.specs.declared.value.Value.{Value}
 use Rattle.pg_ir.specs.declared.value.Index.{Index}
@@ -33,23 +33,25 @@ use Rattle.pg_quiet.specs.Summaries.{AreSummaries}
 use Rattle.pg_step.specs.declared.action.Action.{Action}
 use Rattle.pg_step.specs.declared.action.Action.TheVariants as actions
 use Rattle.pg_step.specs.LocalState.{Frame, LocalState, region_of}
-use Rattle.pg_step.specs.Operands.{operand, operands_of, number_at, given}
+use Rattle.pg_step.specs.Operands.{operand, operands_of, number_at, given, argument}
 use Rattle.pg_step.specs.Compute.{chosen}
 use Rattle.pg_step.specs.EdgeStep.{case_of}
 use Rattle.pg_step.specs.States.{Calls, CallsFunction}
 use Rattle.pg_step.specs.Step as step
 use Rattle.pg_step.specs.Step.{op_action, op_after, on_value, on_all, on_place, placed, are_set, call_action, edge_action, return_action, divided_action, stepped, entered, bytes_of, result_number, target_in, total, under_top}
 use Rattle.pg_machine.proofs.Actions.{OfTraps, on_value_is, on_all_is, edge_is, call_is, divided_is}
-use Rattle.pg_closed.specs.Freeable.{FreeAccess, frame_of}
+use Rattle.pg_closed.specs.Freeable.{frame_of}
 use Rattle.pg_instances.specs.Leads.{IsReached, IsWithin, Leads, HasPath, KeepsCells}
-use Rattle.pg_instances.specs.Inside.{Instance, QuietSet, IsQuietSet, StandsIn, IsAbove, Stands, Waits, edge_taken}
+use Rattle.pg_instances.specs.Inside.{Instance, IsQuietSet, Stands, Waits, edge_taken, region_set}
 use Rattle.pg_instances.proofs.Paths.{within_frame, some_bytes, first_byte}
 use Rattle.pg_instances.proofs.Values.{load_has, gep_has, access_reached}
 use Rattle.pg_instances.proofs.Places.{at_block}
 use Rattle.pg_instances.proofs.Stepped.{table, types_at, stepped_stands}
 use Rattle.pg_instances.proofs.Edges.{edge_stands, target_fits, successors_of, chosen_among, switched_among}
-use Rattle.pg_instances.proofs.Called.{value_has, argument_set, IsCalled, called_quiet, called_set}
+use Rattle.pg_instances.proofs.Called.{value_has, argument_set, called_quiet, called_set}
 use Rattle.pg_instances.proofs.Tops.{AtJoin, Arrived, Top, top_of}
+use Rattle.pg_num.proofs.Accesses.{place_of-bytes}
+use Rattle.pg_quiet.specs.Blocks.{blocks_of}
 
 -- an access through this pointer, of an instruction that isn't gated, lies in its frame, which is the recorded frame of an access
 -- of its kind
@@ -129,7 +131,7 @@ called_op g (op.Call h args) c = (refl, λ f b q e. cc)
 called_op g o c = absurd c
 
 -- a return leads to the frame below, which goes on behind its call
-pub returns_to : (I : Instance) (g n : ℕ) (fs : List Frame) → IsProgram I.program → IsQuietSet I (Rattle.pg_instances.specs.Inside.region_set I) → Waits I.program g fs → Stands I fs → Stands I (step.returned I.program fs n)
+pub returns_to : (I : Instance) (g n : ℕ) (fs : List Frame) → IsProgram I.program → IsQuietSet I (region_set I) → Waits I.program g fs → Stands I fs → Stands I (step.returned I.program fs n)
 returns_to I g n [] program region w s = absurd w
 returns_to I g n (h ∷ hs) program region w s = go (slice_get I.program.instrs h.place) refl w
   where
@@ -168,7 +170,7 @@ thened : (o : Option Path) (q : Path) → option_and_then loaded o ≡ Some q �
 thened None q e = absurd cc
 thened (Some b) q e = (b, refl, e)
 
-module _ (I : Instance) (program : IsProgram I.program) (sums : AreSummaries I.program I.gated I.sums) (region : IsQuietSet I (Rattle.pg_instances.specs.Inside.region_set I)) (m : ByteRange → ℕ) (keeps : KeepsCells I.recorded I.memory m) (small : (r : ByteRange) → m r < 2 ^ (8 * r.bytes))
+module _ (I : Instance) (program : IsProgram I.program) (sums : AreSummaries I.program I.gated I.sums) (region : IsQuietSet I (region_set I)) (m : ByteRange → ℕ) (keeps : KeepsCells I.recorded I.memory m) (small : (r : ByteRange) → m r < 2 ^ (8 * r.bytes))
     (thread heap : ℕ) (halfway : Bool) (f : Frame) (fs : List Frame) (inside : Stands I (f ∷ fs)) (x : Instr) (at : slice_get I.program.instrs f.place ≡ Some x) where
   abbrev l : LocalState
   l = record { thread = thread; begun = true; halfway = halfway; frames = f ∷ fs; heap = heap }
@@ -230,7 +232,7 @@ module _ (I : Instance) (program : IsProgram I.program) (sums : AreSummaries I.p
   given_is v w e = ap given e
 
   known_goes : (k : Known) (args : List Value) (zs : RootedList) → x.op ≡ op.CallKnown k args → known_accesses k ≡ Some zs → Q (op.CallKnown k args) (step.known_action I.program thread halfway rs k args)
-  known_goes known.PgIn args zs e q = on_value_is (Q (op.CallKnown known.PgIn args)) (Rattle.pg_step.specs.Operands.argument I.program rs args 0) _ (λ n. tt) (λ i t n. straight (op.CallKnown known.PgIn args) e refl _ (λ q k. absurd cc))
+  known_goes known.PgIn args zs e q = on_value_is (Q (op.CallKnown known.PgIn args)) (argument I.program rs args 0) _ (λ n. tt) (λ i t n. straight (op.CallKnown known.PgIn args) e refl _ (λ q k. absurd cc))
   known_goes known.PgInLen args zs e q = λ n. straight (op.CallKnown known.PgInLen args) e refl _ (λ q k. absurd cc)
   known_goes _ args zs e q = absurd cc
 
@@ -269,9 +271,9 @@ module _ (I : Instance) (program : IsProgram I.program) (sums : AreSummaries I.p
           load_has I.program top.set.registers I.memory I.recorded one.path q a (m r % modulus w) r m keeps (has a o) (subst (λ (z : Path). loaded z ≡ Some q) (sym same) v.2) t8 (small_mod (m r) w wide (eight a r t8))
         where
           eight : (a : ℕ) (r : ByteRange) → place_of a 8 ≡ Ok r → m r < 2 ^ 64
-          eight a r t = go (place_of a 8) t (Rattle.pg_num.proofs.Accesses.place_of-bytes a 8)
+          eight a r t = go (place_of a 8) t (place_of-bytes a 8)
             where
-              go : (o : Result ByteRange PlaceFault) → o ≡ Ok r → Rattle.std.specs.Prelude.IfOk o (λ r. r.bytes ≡ 8) → m r < 2 ^ 64
+              go : (o : Result ByteRange PlaceFault) → o ≡ Ok r → IfOk o (λ r. r.bytes ≡ 8) → m r < 2 ^ 64
               go (Err g) u v = absurd cc
               go (Ok s) u v = let z : s ≡ r = cc in let n : r.bytes ≡ 8 = subst (λ (y : ByteRange). y.bytes ≡ 8) z v in let k : m r < 2 ^ (8 * 8) = subst (λ (y : ℕ). m r < 2 ^ (8 * y)) n (small r) in k
 
@@ -319,15 +321,16 @@ module _ (I : Instance) (program : IsProgram I.program) (sums : AreSummaries I.p
           let c' = called_quiet I top.set f g f.height args zs program sums top.stands function c h set in
           let n = entered_is I.program g f.height (map (operand I.program rs) args) in
           inr (
-          record {
-          set = called_set I.program g c'.accesses (entered I.program g f.height (map (operand I.program rs) args));
-          returns = refl;
-          blocks = ap (Rattle.pg_quiet.specs.Blocks.blocks_of I.program) (sym n);
-          quiet = c'.quiet;
-          waits = subst (λ (k : ℕ). Waits I.program k (f ∷ fs)) (sym n) waits;
-          stands = c'.stands;
-          },
-          inside)
+            record {
+              set = called_set I.program g c'.accesses (entered I.program g f.height (map (operand I.program rs) args));
+              returns = refl;
+              blocks = ap (blocks_of I.program) (sym n);
+              quiet = c'.quiet;
+              waits = subst (λ (k : ℕ). Waits I.program k (f ∷ fs)) (sym n) waits;
+              stands = c'.stands;
+            },
+            inside,
+          )
 
   return_goes : (v : Option Value) → top.set.returns ≡ true → Q (op.Ret v) (op_action I.program (region_of l) halfway rs (length (f ∷ fs)) (total (f ∷ fs)) x.block.0 (op.Ret v))
   return_goes v r = by_value v
@@ -336,7 +339,7 @@ module _ (I : Instance) (program : IsProgram I.program) (sums : AreSummaries I.p
       below = top.above r
 
       back : (v : Option Value) (n : ℕ) → Q (op.Ret v) (return_action (length (f ∷ fs)) n)
-      back v n = subst (λ (b : Bool). Q (op.Ret v) (if b then actions.Event (Rattle.pg_ir.specs.declared.request.Request.TheVariants.Exit n true) else actions.Local)) (sym (deep I.program f f.function fs below.0)) (inl (returns_to I f.function (number_at I.program rs (operands_of (op.Ret v)) 0) fs program region below.0 below.1))
+      back v n = subst (λ (b : Bool). Q (op.Ret v) (if b then actions.Event (requests.Exit n true) else actions.Local)) (sym (deep I.program f f.function fs below.0)) (inl (returns_to I f.function (number_at I.program rs (operands_of (op.Ret v)) 0) fs program region below.0 below.1))
 
       by_value : (v : Option Value) → Q (op.Ret v) (op_action I.program (region_of l) halfway rs (length (f ∷ fs)) (total (f ∷ fs)) x.block.0 (op.Ret v))
       by_value None = back None 0

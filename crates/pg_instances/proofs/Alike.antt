@@ -1,13 +1,12 @@
 -- In alike states a region's paths lead where they were recorded to lead.
-use Rattle.std.proofs.Common.{◌≡◌, ℕ, ◌<◌, Bool, true, false, List, [], ◌∷◌, length, map, Option, Some, None, pos, refl, sym, ap, ◌∙◌, subst, arith, inl, inr, ◌⊎◌}
-use Rattle.std.specs.Prelude.{Contains, slice_get, option_and_then}
+use Rattle.std.proofs.Common.{◌≡◌, ℕ, Bool, List, [], ◌∷◌, Option, Some, None, refl, sym, ap, ◌∙◌, subst}
+use Rattle.std.specs.Prelude.{Contains, option_and_then}
 use Rattle.pg_num.specs.Places.{ByteRange}
 use Rattle.pg_mem.specs.Memory.{read}
 use Rattle.pg_ir.specs.declared.instr.Instr.{Instr}
 use Rattle.pg_ir.specs.Program.{NumberedProgram}
 use Rattle.pg_paths.specs.declared.path.Loads.{Loads}
 use Rattle.pg_paths.specs.declared.path.Loads.TheVariants.{Never, Once, Twice, Thrice, FourTimes}
-use Rattle.pg_paths.specs.declared.path.RootPath.{RootPath}
 use Rattle.pg_paths.specs.Followed as followed
 use Rattle.pg_paths.specs.Followed.{Followed, cell_at, followed_from, root_value}
 use Rattle.pg_paths.specs.Paths.{offsets_of}
@@ -18,11 +17,11 @@ use Rattle.pg_region.specs.declared.region.Region.{Region}
 use Rattle.pg_step.specs.LocalState.{Frame, LocalState}
 use Rattle.pg_machine.specs.State.{State}
 use Rattle.pg_closed.specs.Moments.{Moment, number_in}
-use Rattle.pg_closed.specs.Freeable.{FreeAccess, FreeRegion, frame_of}
+use Rattle.pg_closed.specs.Freeable.{FreeRegion, frame_of}
 use Rattle.pg_instances.specs.Alike.{IsAlike, IsAlikeBranch, recorded_registers}
 use Rattle.pg_instances.specs.Free.{instance_of}
 use Rattle.pg_instances.specs.Inside.{IsAtBranch, registers_by}
-use Rattle.pg_instances.specs.Leads.{IsLoaded, IsReached, Leads}
+use Rattle.pg_instances.specs.Leads.{IsReached, Leads}
 use Rattle.pg_instances.proofs.Free.{apart_at, at_branch, followed_at}
 use Rattle.pg_instances.proofs.Values.{follows_root, root_follows}
 

@@ -1,12 +1,11 @@
 -- A run of one thread alone from a branch step on.
-use Rattle.std.proofs.Common.{◌≡◌, ℕ, ℤ, Bool, true, List, [], ◌∷◌, Option, Some, refl, sym, subst, inl, inr, ◌⊎◌}
-use Rattle.std.specs.Prelude.{slice_get}
+use Rattle.std.proofs.Common.{◌≡◌, ℕ, ℤ, true, List, [], ◌∷◌, subst, inl, inr, ◌⊎◌}
 use Rattle.pg_ir.specs.declared.ids.InstrId.{InstrId}
 use Rattle.pg_step.specs.LocalState.{LocalState}
 use Rattle.pg_trace.specs.declared.step.Step.{Step}
 use Rattle.pg_machine.specs.State.{State}
 use Rattle.pg_machine.specs.MachineStep.{Did, ready, step}
-use Rattle.pg_machine.specs.Runs.{IsRun, Takes}
+use Rattle.pg_machine.specs.Runs.{IsRun}
 use Rattle.pg_instances.specs.Inside.{Instance, IsInside, Joins}
 use Rattle.pg_instances.specs.Stays.{AreOf, CanStepInside, StaysInside, StaysUntilJoin}
 use Rattle.pg_instances.proofs.Machine.{step_stays}

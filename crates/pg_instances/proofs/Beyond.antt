@@ -1,15 +1,14 @@
 -- From the join on, a thread that does an event comes to a block that isn't quiet, or to a return, along the flow of control.
-use Rattle.std.proofs.Common.{◌≡◌, ℕ, ℤ, zero, suc, ◌+◌, ◌<◌, ◌≤◌, ◌^◌, Bool, true, false, List, [], ◌∷◌, ◌++◌, length, Option, Some, None, refl, sym, ap, ◌∙◌, subst, arith, inl, inr, ◌⊎◌}
+use Rattle.std.proofs.Common.{◌≡◌, ℕ, ◌+◌, ◌<◌, Bool, true, false, List, [], ◌∷◌, ◌++◌, length, Option, Some, None, refl, sym, ap, ◌∙◌, subst, arith, inl, inr, ◌⊎◌}
 use Rattle.std.specs.Prelude.{slice_get, Contains}
-use Rattle.pg_ir.specs.declared.ids.InstrId.{InstrId}
 use Rattle.pg_ir.specs.declared.instr.Instr.{Instr}
 use Rattle.pg_ir.specs.declared.instr.Op.{Op}
 use Rattle.pg_ir.specs.declared.instr.Op.TheVariants as op
-use Rattle.pg_ir.specs.Program.{NumberedProgram, function_of, first_of, end_of}
-use Rattle.pg_ir.specs.Edges.{instrs_of, is_terminator, body_of, targets_of, successors}
+use Rattle.pg_ir.specs.Program.{NumberedProgram, function_of, end_of}
+use Rattle.pg_ir.specs.Edges.{is_terminator, body_of, successors}
 use Rattle.pg_ir.specs.WellFormed.{IsProgram, IsInBlock, StandsIn}
 use Rattle.pg_ir.proofs.Places.{block_held, not_last, stands_within}
-use Rattle.pg_cfg.specs.Graphs.{Edge, Path}
+use Rattle.pg_cfg.specs.Graphs.{Path}
 use Rattle.pg_cfg.specs.Graphs.Path.{on}
 use Rattle.pg_accesses.specs.Accesses.{RootedList}
 use Rattle.pg_accesses.specs.Laws.{IsQuiet}
@@ -19,10 +18,10 @@ use Rattle.pg_quiet.proofs.Lawful.{passes_quiet}
 use Rattle.pg_quiet.proofs.Places.{stands}
 use Rattle.pg_region.specs.Regions.{flow_of}
 use Rattle.pg_region.specs.Laws.{IsLoudBlock}
-use Rattle.pg_step.specs.LocalState.{Frame, LocalState}
+use Rattle.pg_step.specs.LocalState.{Frame}
 use Rattle.pg_step.specs.States.{IsFrameOf, AreFramesOf, WaitFor, Calls, CallsFunction, StandsAt}
-use Rattle.pg_step.specs.Step.{moved, returned, stepped}
-use Rattle.pg_instances.specs.Moves.{Moves, GoesAlong, GoesInto, GoesBack, GoesPast, IsReturn}
+use Rattle.pg_step.specs.Step.{moved, returned, stepped, target_in}
+use Rattle.pg_instances.specs.Moves.{Moves, IsReturn}
 use Rattle.pg_instances.proofs.Edges.{body_within, successors_of, target_fits}
 use Rattle.pg_instances.proofs.Flow.{edge_of}
 use Rattle.pg_instances.proofs.Quiets.{quieter, no_return}
@@ -166,11 +165,11 @@ module _ (p : NumberedProgram) (gated : ℕ → Bool) (sums : ℕ → Option Roo
           let lt : x.block.0 < length p.blocks = (program.instrs f.place x at).block in
           let s : Contains (successors p x.block.0) a.to = subst (λ (ts : List ℕ). Contains ts a.to) (sym (successors_of p f.place x program at a.ends)) a.among in
           inr (record {
-          above = [];
-          base = moved p f x.block.0 a.to;
-          below = gs;
-          frames = a.is;
-          reached = at_body (moved p f x.block.0 a.to) a.to t.0 refl (on (path_here r) (edge_of p x.block.0 a.to lt s));
+            above = [];
+            base = moved p f x.block.0 a.to;
+            below = gs;
+            frames = a.is;
+            reached = at_body (moved p f x.block.0 a.to) a.to t.0 refl (on (path_here r) (edge_of p x.block.0 a.to lt s));
           })
       own r q (inr (inl c)) = inr (record { above = c.frame ∷ []; base = f; below = gs; frames = c.is; reached = r })
       own r q (inr (inr (inl c))) = inl (loud_here f x at (path_here r) (λ k. no_return gated sums f.place x.op c.back k))
@@ -190,10 +189,10 @@ module _ (p : NumberedProgram) (gated : ℕ → Bool) (sums : ℕ → Option Roo
           let y = called_instr f.function (slice_get p.instrs b.base.place) w.1 in
           let k : y.0 ≡ b.reached.instr = (let v : Some y.0 ≡ Some b.reached.instr = sym y.1 ∙ b.reached.is in cc) in
           let t : is_terminator b.reached.instr.op ≡ false = subst (λ (z : Instr). is_terminator z.op ≡ false) k (call_plain f.function y.0.op y.2) in
-          let g : Frame = stepped b.base (Rattle.pg_step.specs.Step.target_in (slice_get p.instrs b.base.place)) c.number in
+          let g : Frame = stepped b.base (target_in (slice_get p.instrs b.base.place)) c.number in
           inr (record { above = []; base = g; below = b.below; frames = c.is ∙ ap (λ (ks : List Frame). returned p ks c.number) q; reached = next_in_block b.base g b.reached.instr b.reached.is t refl b.reached.path })
       other (a ∷ us) q (inr (inr (inl c))) =
-          inr (record { above = stepped a (Rattle.pg_step.specs.Step.target_in (slice_get p.instrs a.place)) c.number ∷ us; base = b.base; below = b.below; frames = c.is ∙ ap (λ (ks : List Frame). returned p ks c.number) q; reached = b.reached })
+          inr (record { above = stepped a (target_in (slice_get p.instrs a.place)) c.number ∷ us; base = b.base; below = b.below; frames = c.is ∙ ap (λ (ks : List Frame). returned p ks c.number) q; reached = b.reached })
 
       go : (us : List Frame) → fs ≡ us ++ b.base ∷ b.below → Loud ⊎ Beyond hs
       go [] q = let t = top_is b.base b.below q in own (subst (λ (h : Frame). Reached h) (sym t.0) b.reached) t.1 m

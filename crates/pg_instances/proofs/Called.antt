@@ -1,45 +1,40 @@
 -- A call of a quiet function within an instance: what it accesses leads to recorded frames, too.
-use Rattle.std.proofs.Common.{◌≡◌, ℕ, zero, suc, ◌+◌, ◌-◌, ◌<◌, ◌≤◌, ◌&&◌, Bool, true, false, cond, List, [], ◌∷◌, ◌++◌, length, map, replicate, Option, Some, None, refl, sym, ap, ◌∙◌, subst, arith, inl, inr, ◌⊎◌}
-use Rattle.std.specs.Prelude.{Contains, slice_get, option_and_then, nat_lt, nat_le}
+use Rattle.std.proofs.Common.{◌≡◌, ℕ, zero, suc, ◌-◌, ◌<◌, Bool, true, false, cond, List, [], ◌∷◌, ◌++◌, length, map, replicate, Option, Some, None, refl, sym, ap, ◌∙◌, subst, arith, inl}
+use Rattle.std.specs.Prelude.{Contains, slice_get, nat_lt, nat_le}
 use Rattle.std.proofs.lemmas.Bool.{and_parts}
-use Rattle.pg_num.specs.Places.{ByteRange}
-use Rattle.pg_ir.specs.declared.function.Block.{Block}
 use Rattle.pg_ir.specs.declared.function.Function.{Function}
 use Rattle.pg_ir.specs.declared.function.GlobalInfo.{GlobalInfo}
 use Rattle.pg_ir.specs.declared.value.Value.{Value}
 use Rattle.pg_ir.specs.declared.value.Value.TheVariants as value
-use Rattle.pg_ir.specs.declared.value.Scalar.{Scalar}
 use Rattle.pg_ir.specs.declared.instr.Instr.{Instr}
-use Rattle.pg_ir.specs.declared.instr.Op.{Op}
-use Rattle.pg_ir.specs.declared.instr.Op.TheVariants as op
 use Rattle.pg_ir.specs.Program.{NumberedProgram, types_of, function_of, first_of, end_of, entry_of, first_block_of, first_block_in, parameter_count}
-use Rattle.pg_ir.specs.Edges.{instrs_of, targets_of, targets_in, successors}
+use Rattle.pg_ir.specs.Edges.{targets_in, successors}
 use Rattle.pg_ir.specs.WellFormed.{IsProgram, IsInBlock, IsInFunction}
 use Rattle.pg_ir.proofs.Places.{block_held, some_in, first_in_function, within_blocks}
 use Rattle.pg_paths.specs.declared.path.Root.{Root}
 use Rattle.pg_paths.specs.declared.path.Root.TheVariants as root
 use Rattle.pg_paths.specs.declared.path.RootPath.{RootPath}
 use Rattle.pg_paths.specs.declared.path.Path.{Path}
-use Rattle.pg_paths.specs.Paths.{composed, rooted, offsets_of}
+use Rattle.pg_paths.specs.Paths.{composed, rooted}
 use Rattle.pg_paths.specs.Followed as followed
 use Rattle.pg_paths.specs.Followed.{Followed, followed_from, root_value}
-use Rattle.pg_paths.specs.Registers.{value_path, register_path}
+use Rattle.pg_paths.specs.Registers.{value_path}
 use Rattle.pg_accesses.specs.declared.rooted.Rooted.{Rooted}
-use Rattle.pg_accesses.specs.Accesses.{RootedList, gathered, with_path, behind_path, behind_argument, called_access, called_accesses, sets, set_accesses}
+use Rattle.pg_accesses.specs.Accesses.{RootedList, with_path, behind_path, behind_argument, called_access, called_accesses, sets, set_accesses}
 use Rattle.pg_accesses.specs.Laws.{IsOutside}
-use Rattle.pg_accesses.proofs.Elements.{here, only_here}
+use Rattle.pg_accesses.proofs.Elements.{here}
 use Rattle.pg_accesses.proofs.Passes.{set_outside}
 use Rattle.pg_quiet.specs.Blocks.{blocks_of}
-use Rattle.pg_quiet.specs.Summaries.{AreSummaries, seen_root, with_root, seen, if_few, seen_by_callers, summary_by}
+use Rattle.pg_quiet.specs.Summaries.{AreSummaries, seen_root, with_root, seen, if_few, seen_by_callers}
 use Rattle.pg_quiet.specs.declared.limits.TheConstants.{SUMMARY_LIMIT}
 use Rattle.pg_quiet.proofs.Ranges.{has_block, only_blocks}
 use Rattle.pg_step.specs.LocalState.{Frame}
 use Rattle.pg_step.specs.Operands.{operand, flat, pointer_to}
 use Rattle.pg_step.specs.EdgeStep.{is_set}
 use Rattle.pg_step.specs.Step.{entered, are_set}
-use Rattle.pg_closed.specs.Freeable.{FreeAccess}
-use Rattle.pg_instances.specs.Leads.{HasPath, Leads}
-use Rattle.pg_instances.specs.Inside.{Instance, QuietSet, IsQuietSet, StandsIn, passed, registers_by}
+use Rattle.pg_closed.specs.Freeable.{frame_of}
+use Rattle.pg_instances.specs.Leads.{HasPath, Leads, IsReached}
+use Rattle.pg_instances.specs.Inside.{Instance, QuietSet, IsQuietSet, StandsIn, registers_by}
 use Rattle.pg_instances.proofs.Places.{gathered_part}
 use Rattle.pg_instances.proofs.Stepped.{table}
 use Rattle.pg_instances.proofs.Edges.{target_fits}
@@ -147,7 +142,7 @@ module _ (I : Instance) (a : QuietSet) (f : Frame) (s : StandsIn I a f) (args : 
         at = l.at;
         is = rw (sym same, sym loads) l.is;
         loads = l.loads;
-        last = subst (λ (z : Bool). Rattle.pg_instances.specs.Leads.IsReached I.recorded z (Rattle.pg_closed.specs.Freeable.frame_of l.at.last)) kind l.last;
+        last = subst (λ (z : Bool). IsReached I.recorded z (frame_of l.at.last)) kind l.last;
       }
 
   -- an access of the callee, by the summary's and the caller's
@@ -233,15 +228,15 @@ block_starts p b program lt = some_in p b (slice_get p.blocks b) program refl lt
 pub entered_stands : (I : Instance) (g height : ℕ) (values : List (Option ℕ)) (ys : RootedList) → IsProgram I.program → g < length I.program.functions → StandsIn I (called_set I.program g ys (entered I.program g height values)) (entered I.program g height values)
 unfolding entered entry_of
 entered_stands I g height values ys program lt = record {
-    block = first_block_of I.program g;
-    behind = 0;
-    among = has_block I.program g (first_block_of I.program g) at.0 at.1;
-    function = at.1;
-    place = omega arith;
-    within = block_starts I.program (first_block_of I.program g) program at.0;
-    kept = λ r u. refl;
-    paths = λ r q w e v. root_path r q w (sets I.program (blocks_of I.program g) r) e v;
-  }
+  block = first_block_of I.program g;
+  behind = 0;
+  among = has_block I.program g (first_block_of I.program g) at.0 at.1;
+  function = at.1;
+  place = omega arith;
+  within = block_starts I.program (first_block_of I.program g) program at.0;
+  kept = λ r u. refl;
+  paths = λ r q w e v. root_path r q w (sets I.program (blocks_of I.program g) r) e v;
+}
   where
     at : (first_block_of I.program g < length I.program.blocks) × (function_of I.program (first_block_of I.program g) ≡ g)
     at = first_block I.program g program lt

@@ -5,7 +5,6 @@ use Rattle.std.specs.List.{list_any, take_while, prefix_len}
 use Rattle.std.proofs.lemmas.Bool.{true≢false, cases_lt}
 use Rattle.std.proofs.lemmas.List.Elements.{All-from_recursion, All-contains}
 use Rattle.pg_ir.specs.declared.edge.Case.{Case}
-use Rattle.pg_ir.specs.declared.function.Block.{Block}
 use Rattle.pg_ir.specs.declared.value.Scalar.{Scalar}
 use Rattle.pg_ir.specs.declared.instr.Instr.{Instr}
 use Rattle.pg_ir.specs.declared.instr.Op.{Op}
@@ -26,8 +25,8 @@ use Rattle.pg_step.specs.Compute.{chosen}
 use Rattle.pg_step.specs.EdgeStep.{set_each, set_register, phi_values, over_edge, case_of}
 use Rattle.pg_step.specs.Step.{moved}
 use Rattle.pg_instances.specs.Leads.{HasPath}
-use Rattle.pg_instances.specs.Inside.{Instance, QuietSet, IsQuietSet, StandsIn, HasJoined, passed, registers_by, region_set, may_set, phis_set}
-use Rattle.pg_instances.proofs.Places.{some_of, got_among, at_block, other_register}
+use Rattle.pg_instances.specs.Inside.{Instance, QuietSet, StandsIn, HasJoined, passed, registers_by, phis_set}
+use Rattle.pg_instances.proofs.Places.{some_of, other_register}
 use Rattle.pg_instances.proofs.Values.{root_has}
 
 -- ---- the phis of a block
@@ -183,17 +182,17 @@ pub edge_stands : (I : Instance) (a : QuietSet) (f : Frame) (from to : ℕ) → 
     ((r : ℕ) → sets I.program a.blocks r ≡ false → registers_by f.registers r ≡ a.registers r) → StandsIn I a (moved I.program f from to)
 unfolding body_of
 edge_stands I a f from to program lt fn c kept = record {
-    block = to;
-    behind = length (phis_of I.program to);
-    among = c;
-    function = fn;
-    place = refl;
-    within = body_within I.program to program lt;
-    kept = after;
-    paths = λ r q w e v.
-        let o = root_only (sets I.program a.blocks) (types_of I.program (function_of I.program to)) (passed [] (instrs_of I.program to) (length (phis_of I.program to))) r q (phis_passed I.program to) e in
-        subst (λ (z : Path). HasPath I.program a.registers I.memory I.recorded z w) o.1 (root_has I.program a.registers I.memory I.recorded (root.Register r) w (sym (after r o.0) ∙ v));
-  }
+  block = to;
+  behind = length (phis_of I.program to);
+  among = c;
+  function = fn;
+  place = refl;
+  within = body_within I.program to program lt;
+  kept = after;
+  paths = λ r q w e v.
+      let o = root_only (sets I.program a.blocks) (types_of I.program (function_of I.program to)) (passed [] (instrs_of I.program to) (length (phis_of I.program to))) r q (phis_passed I.program to) e in
+      subst (λ (z : Path). HasPath I.program a.registers I.memory I.recorded z w) o.1 (root_has I.program a.registers I.memory I.recorded (root.Register r) w (sym (after r o.0) ∙ v));
+}
   where
     after : (r : ℕ) → sets I.program a.blocks r ≡ false → registers_by (over_edge I.program f.registers from to) r ≡ a.registers r
     after r u = edge_other I.program f.registers from to r (phis_unset I.program a.blocks to r c u) ∙ kept r u

@@ -1,23 +1,21 @@
 -- A freeable branch step is at the branch of an instance.
-use Rattle.std.proofs.Common.{◌≡◌, ℕ, ◌<◌, ◌≤◌, ◌&&◌, Bool, true, false, List, [], ◌∷◌, length, map, Option, Some, None, refl, sym, ap, ◌∙◌, subst, arith, inl, inr, ◌⊎◌}
+use Rattle.std.proofs.Common.{◌≡◌, ℕ, ◌<◌, ◌&&◌, Bool, true, false, List, [], ◌∷◌, length, map, Option, Some, None, refl, sym, ◌∙◌, subst, inl, inr, ◌⊎◌}
 use Rattle.std.specs.Prelude.{Contains, slice_get}
 use Rattle.std.specs.List.{list_any}
 use Rattle.std.proofs.lemmas.Bool.{true≢false}
 use Rattle.pg_num.specs.Places.{ByteRange}
 use Rattle.pg_mem.specs.Memory.{byte_at, read}
-use Rattle.pg_cfg.specs.Graphs.{Edge}
 use Rattle.pg_ir.specs.declared.instr.Instr.{Instr}
 use Rattle.pg_ir.specs.Program.{NumberedProgram, function_of}
 use Rattle.pg_ir.specs.Edges.{successors}
 use Rattle.pg_ir.specs.WellFormed.{IsProgram}
-use Rattle.pg_paths.specs.declared.path.RootPath.{RootPath}
 use Rattle.pg_paths.specs.Followed.{Followed, followed}
 use Rattle.pg_accesses.specs.declared.rooted.Rooted.{Rooted}
 use Rattle.pg_accesses.specs.Accesses.{RootedList}
 use Rattle.pg_accesses.proofs.Elements.{here, there, cases, none_in}
 use Rattle.pg_quiet.specs.Summaries.{AreSummaries}
 use Rattle.pg_region.specs.declared.region.Region.{Region}
-use Rattle.pg_region.specs.Regions.{flow_of, IsJoin}
+use Rattle.pg_region.specs.Regions.{IsJoin}
 use Rattle.pg_region.proofs.Stays.{edges_stay}
 use Rattle.pg_step.specs.LocalState.{Frame, LocalState}
 use Rattle.pg_trace.specs.Races.{share}
@@ -25,12 +23,13 @@ use Rattle.pg_machine.specs.State.{State}
 use Rattle.pg_closed.specs.Moments.{Moment, number_in, registers_in}
 use Rattle.pg_closed.specs.Freeable as free
 use Rattle.pg_closed.specs.Freeable.{FreeAccess, FreeRegion, RegionAccess, accesses_at, frame_of, loads_from, stores_on}
-use Rattle.pg_instances.specs.Leads.{IsLoaded, IsReached, Leads}
+use Rattle.pg_instances.specs.Leads.{Leads}
 use Rattle.pg_instances.specs.Inside.{Instance, IsQuietSet, IsAtBranch, IsBranch, AreApart, region_set, registers_by}
 use Rattle.pg_reference.specs.OfRegions.{free_access}
 use Rattle.pg_instances.specs.Free.{instance_of}
 use Rattle.pg_instances.proofs.Places.{some_of}
 use Rattle.pg_instances.proofs.Flow.{edge_of, walk_fits}
+use Rattle.pg_mem.specs.Bytes.{number_of}
 
 -- ---- accesses at a step
 
@@ -49,10 +48,10 @@ followed_at p m (x ∷ xs) ys a e c = go (one_parts (free_access x) (followed p 
         ((zs : List FreeAccess) → accesses_at p m (map free_access xs) ≡ Some zs → Contains xs a → (f : Followed) × (followed p (registers_by (registers_in m.calls)) (number_in m) a.path ≡ Some f) × Contains zs (record { writes = a.writes; path = a.path; at = f })) →
         (f : Followed) × (followed p (registers_by (registers_in m.calls)) (number_in m) a.path ≡ Some f) × Contains ys (record { writes = a.writes; path = a.path; at = f })
     go h (inl q) more = (
-        h.0,
-        subst (λ (z : Rooted). followed p (registers_by (registers_in m.calls)) (number_in m) z.path ≡ Some h.0) q h.2,
-        subst (λ (l : List FreeAccess). Contains l (record { writes = a.writes; path = a.path; at = h.0 })) (sym h.4)
-            (subst (λ (z : Rooted). Contains (record { writes = x.writes; path = x.path; at = h.0 } ∷ h.1) (record { writes = z.writes; path = z.path; at = h.0 })) q (here (record { writes = x.writes; path = x.path; at = h.0 }) h.1)),
+      h.0,
+      subst (λ (z : Rooted). followed p (registers_by (registers_in m.calls)) (number_in m) z.path ≡ Some h.0) q h.2,
+      subst (λ (l : List FreeAccess). Contains l (record { writes = a.writes; path = a.path; at = h.0 })) (sym h.4)
+          (subst (λ (z : Rooted). Contains (record { writes = x.writes; path = x.path; at = h.0 } ∷ h.1) (record { writes = z.writes; path = z.path; at = h.0 })) q (here (record { writes = x.writes; path = x.path; at = h.0 }) h.1)),
     )
     go h (inr d) more =
         let r = more h.1 h.3 d in
@@ -133,7 +132,7 @@ module _ (p : NumberedProgram) (gated : ℕ → Bool) (sums : ℕ → Option Roo
       go : (g : Followed) × (followed p (registers_by (registers_in m.calls)) (number_in m) a.path ≡ Some g) × Contains q.accesses (record { writes = a.writes; path = a.path; at = g }) → Leads p (registers_by f.registers) (read s.memory) q.accesses a
       go h = record {
         at = h.0;
-        is = subst (λ (b : ℕ → ℕ). followed p (registers_by f.registers) (λ (z : ByteRange). Rattle.pg_mem.specs.Bytes.number_of b z.start z.bytes) a.path ≡ Some h.0) bytes (subst (λ (z : List Frame). followed p (registers_by (registers_in z)) (number_in m) a.path ≡ Some h.0) calls h.1);
+        is = subst (λ (b : ℕ → ℕ). followed p (registers_by f.registers) (λ (z : ByteRange). number_of b z.start z.bytes) a.path ≡ Some h.0) bytes (subst (λ (z : List Frame). followed p (registers_by (registers_in z)) (number_in m) a.path ≡ Some h.0) calls h.1);
         loads = λ w k. record { access = record { writes = a.writes; path = a.path; at = h.0 }; among = h.2; pointer = w; loads = k; same = refl };
         last = record { access = record { writes = a.writes; path = a.path; at = h.0 }; among = h.2; kind = refl; same = refl };
       }

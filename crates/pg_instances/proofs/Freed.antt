@@ -1,6 +1,6 @@
 -- The free region of a step, by the region that its program has.
-use Rattle.std.proofs.Common.{◌≡◌, ℕ, ◌<◌, Bool, true, false, List, [], ◌∷◌, length, map, Option, Some, None, refl, sym, ap, ◌∙◌, subst, arith, inl, inr, ◌⊎◌}
-use Rattle.std.specs.Prelude.{Contains, slice_get}
+use Rattle.std.proofs.Common.{◌≡◌, ℕ, ◌<◌, Bool, true, false, List, [], ◌∷◌, length, map, Option, Some, None, refl, sym, subst, inl, inr, ◌⊎◌}
+use Rattle.std.specs.Prelude.{Contains, if◌then◌else◌}
 use Rattle.std.specs.List.{list_any}
 use Rattle.pg_ir.specs.Program.{NumberedProgram}
 use Rattle.pg_ir.specs.WellFormed.{IsProgram}
@@ -11,7 +11,7 @@ use Rattle.pg_accesses.specs.declared.rooted.Rooted.{Rooted}
 use Rattle.pg_accesses.specs.Accesses.{RootedList}
 use Rattle.pg_accesses.proofs.Elements.{here, there, cases, none_in}
 use Rattle.pg_region.specs.declared.region.Region.{Region}
-use Rattle.pg_region.specs.Regions.{flow_of, IsJoin, IsRegion, RegionOf}
+use Rattle.pg_region.specs.Regions.{flow_of, IsRegion, RegionOf}
 use Rattle.pg_closed.specs.Moments.{Moment, number_in, registers_in}
 use Rattle.pg_closed.specs.Freeable.{BranchRegion, FreeAccess, FreeRegion, Regions, RegionAccess, accesses_at, if_apart, region_at, stores_on}
 use Rattle.pg_closed.specs.Freeable as free
@@ -33,7 +33,7 @@ apart_parts : (r : BranchRegion) (o : Option (List FreeAccess)) (q : FreeRegion)
 apart_parts r None q e = absurd cc
 apart_parts r (Some xs) q e = go (list_any (stores_on xs) xs) refl e
   where
-    go : (b : Bool) → list_any (stores_on xs) xs ≡ b → Rattle.std.specs.Prelude.if◌then◌else◌ b None (Some (record { join = r.join; sets = r.sets; accesses = xs })) ≡ Some q → (q.join ≡ r.join) × ((k : ℕ) → q.sets k ≡ r.sets k) × (Some xs ≡ Some q.accesses) × (list_any (stores_on q.accesses) q.accesses ≡ false)
+    go : (b : Bool) → list_any (stores_on xs) xs ≡ b → if◌then◌else◌ b None (Some (record { join = r.join; sets = r.sets; accesses = xs })) ≡ Some q → (q.join ≡ r.join) × ((k : ℕ) → q.sets k ≡ r.sets k) × (Some xs ≡ Some q.accesses) × (list_any (stores_on q.accesses) q.accesses ≡ false)
     go true s t = absurd cc
     go false s t =
         let w : record { join = r.join; sets = r.sets; accesses = xs } ≡ q = cc in

@@ -1,18 +1,16 @@
 -- The open extents of a thread before and after one of its steps.
-use Rattle.std.proofs.Common.{◌≡◌, ℕ, ℤ, zero, suc, ◌+◌, ◌<◌, ◌≤◌, ◌^◌, Bool, true, false, not, cond, List, [], ◌∷◌, length, Option, Some, None, refl, sym, ap, ◌∙◌, subst, arith, inl, inr, ◌⊎◌}
-use Rattle.std.specs.Prelude.{Contains, slice_get, filter, if◌then◌else◌}
-use Rattle.std.proofs.lemmas.Bool.{true≢false}
+use Rattle.std.proofs.Common.{◌≡◌, ℕ, ℤ, ◌<◌, ◌^◌, Bool, true, false, not, List, [], ◌∷◌, length, Option, Some, None, refl, sym, ap, ◌∙◌, subst, arith, inl, inr, ◌⊎◌}
+use Rattle.std.specs.Prelude.{Contains, filter, if◌then◌else◌}
 use Rattle.std.proofs.lemmas.Bool.Decides.{nat_tests}
 use Rattle.pg_num.specs.Places.{ByteRange}
 use Rattle.pg_ir.specs.declared.ids.InstrId.{InstrId}
 use Rattle.pg_ir.specs.declared.instr.Instr.{Instr}
-use Rattle.pg_ir.specs.declared.instr.Op.{Op}
 use Rattle.pg_ir.specs.Program.{NumberedProgram}
 use Rattle.pg_ir.specs.WellFormed.{IsProgram}
 use Rattle.pg_accesses.specs.Accesses.{RootedList}
 use Rattle.pg_accesses.proofs.Elements.{cases, here, there, none_in}
 use Rattle.pg_quiet.specs.Summaries.{AreSummaries}
-use Rattle.pg_step.specs.LocalState.{Frame, LocalState}
+use Rattle.pg_step.specs.LocalState.{LocalState}
 use Rattle.pg_trace.specs.declared.step.Access.{Access}
 use Rattle.pg_trace.specs.declared.step.Step.{Step}
 use Rattle.pg_trace.specs.declared.step.StepKind.{StepKind}
@@ -27,18 +25,18 @@ use Rattle.pg_closed.specs.Freeable.{FreeRegion, Regions, frame_of, region_at}
 use Rattle.pg_closed.specs.Known.{Reference, Seen, is_branch, region_of}
 use Rattle.pg_closed.specs.Rules.{kind_in}
 use Rattle.pg_closed.specs.Shadows.{is_within}
-use Rattle.pg_least.specs.Keeps.{AreStacked, EndsLater, KeepsTo, MaySetPhis, StoresBy, depth_of, edge_at, instr_of, is_branching, is_store}
+use Rattle.pg_least.specs.Keeps.{AreStacked, KeepsTo, MaySetPhis, StoresBy, depth_of, edge_at, instr_of, is_branching, is_store, MaySet}
 use Rattle.pg_instances.specs.Leads.{IsWithin}
 use Rattle.pg_instances.specs.Moves.{IsLoad, IsStore, IsPlacedAt}
 use Rattle.pg_reference.specs.OfRegions.{AreRegions}
 use Rattle.pg_instances.specs.Stays.{TellsWithin}
 use Rattle.pg_instances.specs.Together.{AreTogether, IsNext}
-use Rattle.pg_instances.proofs.Keeping.{IsSeen, keeps_here, kind_here, no_store, same_instr}
+use Rattle.pg_instances.proofs.Keeping.{IsSeen, keeps_here, kind_here, no_store, same_instr, instr_here}
 use Rattle.pg_instances.proofs.LeadsOut.{within_none}
 use Rattle.pg_instances.proofs.Machine.{step_stays}
-use Rattle.pg_instances.proofs.Opening.{Over, begun_edge, begun_ends, begun_instance, begun_over, ends_parts, freed_is, open_begun, open_ends, open_next, tells_branch, took_it}
+use Rattle.pg_instances.proofs.Opening.{Over, begun_edge, begun_ends, begun_instance, begun_over, freed_is, open_begun, open_ends, open_next, tells_branch, took_it}
 use Rattle.pg_instances.proofs.Opens.{Open, instance, phis_may}
-use Rattle.pg_instances.proofs.Took.{Plain, Requests, TellsAccess, TellsPlain, Took}
+use Rattle.pg_instances.proofs.Took.{Plain, Requests, TellsPlain, Took}
 
 -- ---- lists
 
@@ -161,7 +159,7 @@ module _ (p : NumberedProgram) (gates : List InstrId) (sums : ℕ → Option Roo
             let same = same_instr p gates sums regions are moments free_of block_of program summaries input small s w z t l x xs y h run together next q i v in
             subst (λ (j : Instr). is_branching j.op ≡ true) same (tells_branch (is_gated gates q.frame.place) q.instr.op x.kind q.tells (freed_branch q r e)).1
 
-    may_from : (sets : ℕ → Bool) (o : Option ℕ) → ((k : ℕ) → o ≡ Some k → sets k ≡ true) → Rattle.pg_least.specs.Keeps.MaySet sets o
+    may_from : (sets : ℕ → Bool) (o : Option ℕ) → ((k : ℕ) → o ≡ Some k → sets k ≡ true) → MaySet sets o
     may_from sets None f = tt
     may_from sets (Some k) f = f k refl
 
@@ -221,7 +219,7 @@ module _ (p : NumberedProgram) (gates : List InstrId) (sums : ℕ → Option Roo
     left = open_after y.number (depth_of y) y.region (edge_at R y) es
 
     block_plain : (q : IsPlain) → block_of y.number ≡ q.instr.block.0
-    block_plain q = block_is q.instr (Rattle.pg_instances.proofs.Keeping.instr_here p gates sums regions are moments free_of block_of program summaries input small s w z t l x xs y h run together next q)
+    block_plain q = block_is q.instr (instr_here p gates sums regions are moments free_of block_of program summaries input small s w z t l x xs y h run together next q)
 
     begun_stack : (o : Option FreeRegion) → y.region ≡ o → IsStack (begun y.number (depth_of y) o es)
     begun_stack None e = stack

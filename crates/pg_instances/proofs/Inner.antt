@@ -1,5 +1,5 @@
 -- A thread inside: its next action, and its local state behind it.
-use Rattle.std.proofs.Common.{◌≡◌, ℕ, zero, suc, ◌+◌, ◌*◌, ◌<◌, ◌^◌, Bool, true, false, cond, List, [], ◌∷◌, length, Option, Some, None, refl, sym, ap, ◌∙◌, subst, arith, inl, inr, ◌⊎◌}
+use Rattle.std.proofs.Common.{◌≡◌, ℕ, ◌*◌, ◌<◌, ◌^◌, Bool, true, false, List, [], ◌∷◌, length, Option, Some, None, refl, sym, ap, ◌∙◌, subst, arith, inl, inr, ◌⊎◌}
 use Rattle.std.specs.Prelude.{Contains, slice_get, slice_index}
 use Rattle.pg_num.specs.Places.{ByteRange}
 use Rattle.pg_ir.specs.declared.known.Known.{Known}
@@ -7,34 +7,33 @@ use Rattle.pg_ir.specs.declared.known.Known.TheVariants as known
 use Rattle.pg_ir.specs.declared.instr.Instr.{Instr}
 use Rattle.pg_ir.specs.declared.instr.Op.{Op}
 use Rattle.pg_ir.specs.declared.instr.Op.TheVariants as op
-use Rattle.pg_ir.specs.Program.{NumberedProgram, types_of, function_of}
+use Rattle.pg_ir.specs.Program.{NumberedProgram, function_of}
 use Rattle.pg_ir.specs.Edges.{is_terminator, targets_of, successors}
-use Rattle.pg_ir.specs.WellFormed.{IsProgram}
 use Rattle.pg_paths.specs.declared.path.Path.{Path}
 use Rattle.pg_accesses.specs.Accesses.{RootedList, known_accesses, op_accesses}
 use Rattle.pg_step.specs.declared.action.Action.{Action}
 use Rattle.pg_step.specs.declared.action.Action.TheVariants as actions
 use Rattle.pg_step.specs.declared.region.Region.{Region}
 use Rattle.pg_step.specs.LocalState.{Frame, LocalState, region_of}
-use Rattle.pg_step.specs.Operands.{operand, operands_of, number_at, given, first_four}
+use Rattle.pg_step.specs.Operands.{operand, operands_of, given, first_four}
 use Rattle.pg_step.specs.Compute.{chosen}
 use Rattle.pg_step.specs.EdgeStep.{case_of}
 use Rattle.pg_step.specs.Step as step
 use Rattle.pg_step.specs.Step.{next, after, instr_after, op_action, op_after, halfway_after, heap_after, top_registers, total, moved, on_value, edge_action}
-use Rattle.pg_step.specs.Told.{id_of, place_in, operand_values}
+use Rattle.pg_step.specs.Told.{id_of, operand_values}
 use Rattle.pg_step.proofs.Nexts.{next_at, operands_at}
 use Rattle.pg_step.proofs.Afters.{after_at}
 use Rattle.pg_trace.specs.declared.step.StepKind.{StepKind}
 use Rattle.pg_trace.specs.declared.step.StepKind.TheVariants as told
-use Rattle.pg_machine.specs.MachineStep.{op_told, known_told}
+use Rattle.pg_machine.specs.MachineStep.{op_told}
 use Rattle.pg_machine.proofs.Actions.{on_value_is, edge_is}
-use Rattle.pg_closed.specs.Freeable.{frame_of}
 use Rattle.pg_instances.specs.Leads.{KeepsCells}
-use Rattle.pg_instances.specs.Inside.{Instance, QuietSet, IsQuietSet, StandsIn, IsBottom, Stands, IsInside, IsAtJoin, Joins, IsAtBranch, IsBranch, edge_at, edge_taken, next_edge, region_set}
+use Rattle.pg_instances.specs.Inside.{Instance, Stands, IsInside, Joins, IsAtBranch, IsBranch, edge_at, edge_taken, region_set, registers_by}
 use Rattle.pg_instances.proofs.Places.{quiet_at}
 use Rattle.pg_instances.proofs.Edges.{edge_stands, edge_joins, target_fits, successors_of, chosen_among, switched_among}
-use Rattle.pg_instances.proofs.Tops.{AtJoin, Arrived, Top, top_of}
+use Rattle.pg_instances.proofs.Tops.{AtJoin, Arrived, top_of}
 use Rattle.pg_instances.proofs.Actions.{Accesses, Goes, op_goes}
+use Rattle.pg_ir.specs.declared.value.Value.{Value}
 
 -- ---- what a quiet operation leaves as it is
 
@@ -49,7 +48,7 @@ pub record IsCalm (p : NumberedProgram) (h : Bool) (r : Region) (rs : List (Opti
   pub heap : heap_after p r rs o ≡ r.heap
   pub told : (ns : List ℕ) (n : ℕ) → IsCalmKind (op_told ns n o)
 
-known_calm : (p : NumberedProgram) (h : Bool) (r : Region) (rs : List (Option ℕ)) (k : Known) (args : List Rattle.pg_ir.specs.declared.value.Value.Value) (zs : RootedList) → known_accesses k ≡ Some zs → IsCalm p h r rs (op.CallKnown k args)
+known_calm : (p : NumberedProgram) (h : Bool) (r : Region) (rs : List (Option ℕ)) (k : Known) (args : List Value) (zs : RootedList) → known_accesses k ≡ Some zs → IsCalm p h r rs (op.CallKnown k args)
 known_calm p h r rs known.PgIn args zs e = record { halfway = refl; heap = refl; told = λ ns n. tt }
 known_calm p h r rs known.PgInLen args zs e = record { halfway = refl; heap = refl; told = λ ns n. tt }
 known_calm p h r rs _ args zs e = absurd cc
@@ -169,8 +168,8 @@ module _ (I : Instance) (m : ByteRange → ℕ) (thread heap : ℕ) (halfway : B
           function : f.function ≡ I.frame.function
           function = ap (λ (z : Frame). z.function) fe
 
-          kept : (r : ℕ) → Rattle.pg_instances.specs.Inside.registers_by f.registers r ≡ Rattle.pg_instances.specs.Inside.registers_by I.frame.registers r
-          kept r = ap (λ (z : Frame). Rattle.pg_instances.specs.Inside.registers_by z.registers r) fe
+          kept : (r : ℕ) → registers_by f.registers r ≡ registers_by I.frame.registers r
+          kept r = ap (λ (z : Frame). registers_by z.registers r) fe
 
           go : Contains I.blocks to ⊎ (to ≡ I.join) → Arrived I fs (edge_taken I.program f.registers o) (moved I.program f b.branch.block.0 to ∷ fs)
           go (inl d) = inl (inl (record {
@@ -180,13 +179,13 @@ module _ (I : Instance) (m : ByteRange → ℕ) (thread heap : ℕ) (halfway : B
             stands = edge_stands I (region_set I) f b.branch.block.0 to b.program fits.0 (fits.1 ∙ b.function ∙ sym function) d (λ r u. kept r);
           }))
           go (inr j) = inr (
-              subst (λ (c : ℕ). AtJoin I (moved I.program f b.branch.block.0 c ∷ fs)) (sym j) (record {
-                frame = moved I.program f b.branch.block.0 I.join;
-                frames = ap (λ (l : List Frame). moved I.program f b.branch.block.0 I.join ∷ l) fse;
-                joined = edge_joins I f b.branch.block.0 function (ap (λ (z : Frame). z.height) fe) (λ r u. kept r);
-              }),
-              fse,
-              taken ∙ ap (λ (c : ℕ). Some c) j,
+            subst (λ (c : ℕ). AtJoin I (moved I.program f b.branch.block.0 c ∷ fs)) (sym j) (record {
+              frame = moved I.program f b.branch.block.0 I.join;
+              frames = ap (λ (l : List Frame). moved I.program f b.branch.block.0 I.join ∷ l) fse;
+              joined = edge_joins I f b.branch.block.0 function (ap (λ (z : Frame). z.height) fe) (λ r u. kept r);
+            }),
+            fse,
+            taken ∙ ap (λ (c : ℕ). Some c) j,
           )
 
       goes : (o : Op) → b.branch.op ≡ o → IsBranch o → Goes I m there f.place f.registers b.branch o (op_action I.program (region_of there) halfway f.registers (length (f ∷ fs)) (total (f ∷ fs)) b.branch.block.0 o)

@@ -1,7 +1,6 @@
 -- A step while an extent is open keeps to the region of the extent's branch step.
-use Rattle.std.proofs.Common.{◌≡◌, ℕ, ℤ, zero, suc, ◌+◌, ◌<◌, ◌≤◌, ◌^◌, ◌&&◌, Bool, true, false, List, [], ◌∷◌, length, Option, Some, None, IfSome, refl, sym, ap, ◌∙◌, subst, arith, inl, inr, ◌⊎◌}
+use Rattle.std.proofs.Common.{◌≡◌, ℕ, ℤ, suc, ◌<◌, ◌≤◌, ◌^◌, ◌&&◌, Bool, true, false, List, [], ◌∷◌, length, Option, Some, None, refl, sym, ap, ◌∙◌, subst, arith, inl, inr, ◌⊎◌}
 use Rattle.std.specs.Prelude.{Contains, slice_get, if◌then◌else◌}
-use Rattle.std.specs.List.{list_any}
 use Rattle.std.proofs.lemmas.Bool.{and_parts, cases_lt}
 use Rattle.pg_num.specs.Places.{ByteRange}
 use Rattle.pg_mem.specs.Memory.{byte_at, read}
@@ -10,27 +9,23 @@ use Rattle.pg_ir.specs.declared.instr.Instr.{Instr}
 use Rattle.pg_ir.specs.declared.instr.Op.{Op}
 use Rattle.pg_ir.specs.declared.instr.Op.TheVariants as op
 use Rattle.pg_ir.specs.Program.{NumberedProgram, function_of}
-use Rattle.pg_ir.specs.Edges.{phis_of}
 use Rattle.pg_ir.specs.WellFormed.{IsProgram}
-use Rattle.pg_paths.specs.Followed.{Followed, followed}
+use Rattle.pg_paths.specs.Followed.{followed}
 use Rattle.pg_accesses.specs.Accesses.{RootedList, op_accesses}
 use Rattle.pg_accesses.proofs.Elements.{none_in}
 use Rattle.pg_quiet.specs.Blocks.{blocks_of}
 use Rattle.pg_quiet.specs.Summaries.{AreSummaries}
-use Rattle.pg_region.specs.declared.region.Region.{Region}
-use Rattle.pg_region.specs.Regions.{IsRegion}
 use Rattle.pg_region.specs.Laws.{AreNested}
 use Rattle.pg_step.specs.LocalState.{Frame, LocalState}
-use Rattle.pg_step.specs.Operands.{number_at}
+use Rattle.pg_step.specs.Operands.{number_at, operands_of}
 use Rattle.pg_step.specs.Compute.{chosen}
 use Rattle.pg_step.specs.EdgeStep.{case_of}
-use Rattle.pg_step.specs.States.{Calls}
 use Rattle.pg_step.specs.Told.{id_of, place_in}
 use Rattle.pg_trace.specs.declared.step.Access.{Access}
 use Rattle.pg_trace.specs.declared.step.Step.{Step}
 use Rattle.pg_trace.specs.declared.step.StepKind.{StepKind}
 use Rattle.pg_trace.specs.declared.step.StepKind.TheVariants as told
-use Rattle.pg_trace.specs.Steps.{happening_in, range_of}
+use Rattle.pg_trace.specs.Steps.{happening_in, range_of, access_kind}
 use Rattle.pg_machine.specs.State.{State}
 use Rattle.pg_machine.specs.MachineStep.{Did, is_gated, ready, step}
 use Rattle.pg_machine.specs.Runs.{IsRun}
@@ -41,11 +36,10 @@ use Rattle.pg_closed.specs.Freeable.{FreeAccess, FreeRegion, Regions, frame_of, 
 use Rattle.pg_closed.specs.Known.{Reference, Seen, caller_target, edge_of, is_branch, region_of, target_of}
 use Rattle.pg_closed.specs.Rules.{kind_in}
 use Rattle.pg_closed.specs.Shadows.{is_within}
-use Rattle.pg_instances.specs.Inside.{Instance, IsAbove, IsBottom, IsInside, Stands, StandsIn, edge_taken, region_set, registers_by}
+use Rattle.pg_instances.specs.Inside.{Instance, IsBottom, Stands, edge_taken, region_set, registers_by}
 use Rattle.pg_least.specs.Keeps.{KeepsTo, MaySet, MaySetPhis, Returns, StoresBy, depth_of, edge_at, instr_of, is_store, may_write}
-use Rattle.pg_instances.specs.Leads.{IsReached as LeadsTo, KeepsCells}
+use Rattle.pg_instances.specs.Leads.{IsReached as LeadsTo}
 use Rattle.pg_instances.specs.Moves.{IsLoad, IsStore, IsPlacedAt}
-use Rattle.pg_reference.specs.OfRegions as regions_of
 use Rattle.pg_reference.specs.OfRegions.{AreRegions}
 use Rattle.pg_instances.specs.Stays.{AccessesWithin, StaysInside, TellsWithin}
 use Rattle.pg_instances.specs.Together.{AreTogether, IsNext}
@@ -54,8 +48,12 @@ use Rattle.pg_instances.proofs.Machine.{step_stays}
 use Rattle.pg_instances.proofs.Opens.{Open, any_source, bottom_edge, bottom_of, bottom_result, instance, nested_sets, open_nested, phis_may, reached_write, stands_length}
 use Rattle.pg_instances.proofs.Places.{at_block, quiet_at}
 use Rattle.pg_instances.proofs.Stepped.{table}
-use Rattle.pg_instances.proofs.Took.{Plain, Requests, TellsAccess, TellsPlain, Took, took}
+use Rattle.pg_instances.proofs.Took.{Plain, TellsAccess, TellsPlain, Took, took}
 use Rattle.pg_instances.proofs.Within.{inner_reached, region_function}
+use Rattle.pg_ir.specs.declared.value.Value.{Value}
+use Rattle.pg_mem.specs.Bytes.{number_of}
+use Rattle.pg_num.specs.Pointers.{byte_place}
+use Rattle.pg_paths.specs.declared.path.Path.{Path as PointerPath}
 
 -- ---- a step as it is seen
 
@@ -75,14 +73,14 @@ edge_kind p m b o (told.Access a) h = refl
 edge_same : (p : NumberedProgram) (m : Moment) (f : Frame) (fs : List Frame) (o : Op) → m.calls ≡ f ∷ fs → edge_by p m o ≡ edge_taken p f.registers o
 edge_same p m f fs (op.Br to) e = refl
 edge_same p m f fs (op.CondBr c a b) e = ap (λ (cs : List Frame). Some (chosen (number_at p (registers_in cs) (c ∷ []) 0) a.0 b.0)) e
-edge_same p m f fs (op.Switch w on other cases) e = ap (λ (cs : List Frame). Some (case_of cases other.0 (number_at p (registers_in cs) (Rattle.pg_step.specs.Operands.operands_of (op.Switch w on other cases)) 0))) e
+edge_same p m f fs (op.Switch w on other cases) e = ap (λ (cs : List Frame). Some (case_of cases other.0 (number_at p (registers_in cs) (operands_of (op.Switch w on other cases)) 0))) e
 edge_same p m f fs o e = refl
 
 pub no_store : (o : Op) → IsLoad o → is_store o ≡ true → ⊥
 no_store (op.Load w from) h e = cc
 no_store o h e = absurd h
 
-return_none : (gated : ℕ → Bool) (sums : ℕ → Option RootedList) (t : ℕ → Option Rattle.pg_paths.specs.declared.path.Path.Path) (i : ℕ) (v : Option Rattle.pg_ir.specs.declared.value.Value.Value) (zs : RootedList) → op_accesses false gated sums t i (op.Ret v) ≡ Some zs → ⊥
+return_none : (gated : ℕ → Bool) (sums : ℕ → Option RootedList) (t : ℕ → Option PointerPath) (i : ℕ) (v : Option Value) (zs : RootedList) → op_accesses false gated sums t i (op.Ret v) ≡ Some zs → ⊥
 return_none gated sums t i v zs e = cc
 
 may_set_from : (sets : ℕ → Bool) (o : Option ℕ) → ((k : ℕ) → o ≡ Some k → sets k ≡ true) → MaySet sets o
@@ -164,7 +162,7 @@ module _ (p : NumberedProgram) (gates : List InstrId) (sums : ℕ → Option Roo
             none : (k : StepKind) → TellsWithin I k → happening_in k ≡ None
             none told.Other v = refl
             none (told.Branch c) v = refl
-            none (told.Access a) v = ap (λ (b : Bool). if b then Some (record { kind = Rattle.pg_trace.specs.Steps.access_kind a.writes; object = Rattle.pg_num.specs.Pointers.byte_place a.pointer }) else None) v.plain
+            none (told.Access a) v = ap (λ (b : Bool). if b then Some (record { kind = access_kind a.writes; object = byte_place a.pointer }) else None) v.plain
             none (told.Event v') v = absurd v
             none (told.Allocation a r) v = absurd v
 
@@ -197,7 +195,7 @@ module _ (p : NumberedProgram) (gates : List InstrId) (sums : ℕ → Option Roo
             let g = (freed_here r v).1 in
             o.sets k ∙ nested_sets p o.region g.region (nested_here d r v) k (sym (g.sets k) ∙ u)
 
-        return_quiet : (b : IsBottom I f q.below) (v : Option Rattle.pg_ir.specs.declared.value.Value.Value) → q.instr.op ≡ op.Ret v → ⊥
+        return_quiet : (b : IsBottom I f q.below) (v : Option Value) → q.instr.op ≡ op.Ret v → ⊥
         return_quiet b v u =
             let z = quiet_at I (region_set I) f q.instr program o.can.branch.region b.stands q.is in
             return_none I.gated I.sums (table I (region_set I) f b.stands) f.place v z.0 (subst (λ (o' : Op). op_accesses false I.gated I.sums (table I (region_set I) f b.stands) f.place o' ≡ Some z.0) u z.1)
@@ -249,7 +247,7 @@ module _ (p : NumberedProgram) (gates : List InstrId) (sums : ℕ → Option Roo
 
             is_now : followed p (registers_by f.registers) (read s.memory) source.access.path ≡ Some a.at
             is_now =
-                subst (λ (b : ℕ → ℕ). followed p (registers_by f.registers) (λ (r : ByteRange). Rattle.pg_mem.specs.Bytes.number_of b r.start r.bytes) source.access.path ≡ Some a.at) h.moment.bytes
+                subst (λ (b : ℕ → ℕ). followed p (registers_by f.registers) (λ (r : ByteRange). number_of b r.start r.bytes) source.access.path ≡ Some a.at) h.moment.bytes
                 (subst (λ (cs : List Frame). followed p (registers_by (registers_in cs)) (number_in y.moment) source.access.path ≡ Some a.at) calls_here source.is)
 
             lead : LeadsTo o.free.accesses source.access.writes (frame_of a.at.last) → LeadsTo o.free.accesses a.writes (frame_of a.at.last)

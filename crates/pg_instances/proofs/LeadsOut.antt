@@ -1,6 +1,6 @@
 -- A thread inside that does an event comes from the join to a block that isn't quiet.
-use Rattle.std.proofs.Common.{◌≡◌, ℕ, ℤ, ◌+◌, ◌<◌, ◌^◌, Bool, true, false, List, [], ◌∷◌, ◌++◌, length, Option, Some, None, refl, sym, ap, ◌∙◌, subst, arith, inl, inr, ◌⊎◌}
-use Rattle.std.specs.Prelude.{slice_get}
+use Rattle.std.proofs.Common.{◌≡◌, ℕ, ℤ, ◌<◌, ◌^◌, Bool, true, false, List, [], ◌∷◌, length, Option, Some, None, refl, sym, ap, ◌∙◌, subst, inl, inr, ◌⊎◌}
+use Rattle.std.specs.Prelude.{slice_get, if◌then◌else◌}
 use Rattle.std.proofs.lemmas.Bool.{true≢false}
 use Rattle.pg_ir.specs.declared.ids.InstrId.{InstrId}
 use Rattle.pg_ir.specs.declared.instr.Instr.{Instr}
@@ -9,12 +9,10 @@ use Rattle.pg_ir.specs.declared.instr.Op.TheVariants as op
 use Rattle.pg_ir.specs.declared.request.Request.{Request}
 use Rattle.pg_ir.specs.Program.{NumberedProgram}
 use Rattle.pg_ir.specs.WellFormed.{IsProgram}
-use Rattle.pg_cfg.specs.Graphs.{Path}
 use Rattle.pg_cfg.specs.Graphs.Path.{here}
 use Rattle.pg_accesses.specs.Accesses.{RootedList}
 use Rattle.pg_accesses.specs.Laws.{IsQuiet}
 use Rattle.pg_quiet.specs.Summaries.{AreSummaries}
-use Rattle.pg_region.specs.Regions.{flow_of}
 use Rattle.pg_step.specs.declared.action.Action.{Action}
 use Rattle.pg_step.specs.declared.action.Action.TheVariants as actions
 use Rattle.pg_step.specs.LocalState.{Frame, LocalState, region_of}
@@ -23,23 +21,24 @@ use Rattle.pg_step.specs.States.{AreFramesOf, IsOf}
 use Rattle.pg_trace.specs.declared.step.Step.{Step}
 use Rattle.pg_trace.specs.declared.step.StepKind.{StepKind}
 use Rattle.pg_trace.specs.declared.step.StepKind.TheVariants as told
-use Rattle.pg_trace.specs.declared.step.Happening.{Happening}
-use Rattle.pg_trace.specs.Steps.{event_of, happening_in, access_happening, turn_at}
+use Rattle.pg_trace.specs.Steps.{event_of, happening_in, access_happening, turn_at, access_kind, range_of}
 use Rattle.pg_machine.specs.State.{State}
 use Rattle.pg_machine.specs.MachineStep.{Did, is_gated, ready, step}
-use Rattle.pg_machine.specs.Runs.{IsRun, Takes}
+use Rattle.pg_machine.specs.Runs.{IsRun}
 use Rattle.pg_machine.proofs.Keeps.{all_at}
 use Rattle.pg_effects.specs.Reached.{IsReached}
 use Rattle.pg_effects.proofs.Reaches.{reached_step}
 use Rattle.pg_instances.specs.Inside.{Instance, IsInside, Joins}
-use Rattle.pg_instances.specs.Moves.{IsLoad, IsStore, IsReturn}
+use Rattle.pg_instances.specs.Moves.{IsLoad, IsStore, IsPlacedAt}
 use Rattle.pg_instances.specs.Stays.{CanStepInside, StaysInside, TellsWithin}
 use Rattle.pg_instances.specs.Together.{AreTogether, IsNext}
 use Rattle.pg_instances.proofs.Alone.{inside_again}
-use Rattle.pg_instances.proofs.Beyond.{Beyond, Loud, Reached, at_body, moves_on, not_quiet}
+use Rattle.pg_instances.proofs.Beyond.{Beyond, Loud, at_body, moves_on, not_quiet}
 use Rattle.pg_instances.proofs.Machine.{step_stays}
 use Rattle.pg_instances.proofs.Quiets.{AsksNothing, quiet_asks_nothing}
 use Rattle.pg_instances.proofs.Took.{Plain, Requests, TellsAccess, TellsPlain, Took, took}
+use Rattle.pg_num.specs.Pointers.{byte_place}
+use Rattle.pg_trace.specs.declared.step.Access.{Access}
 
 pub frames_of : (p : NumberedProgram) (s : State) (t : ℕ) (l : LocalState) → IsReached p s → slice_get s.locals t ≡ Some l → AreFramesOf p l.frames
 unfolding IsOf
@@ -47,11 +46,11 @@ frames_of p s t l r e = (all_at (IsOf p) s.locals t l e r.machine.of).frames
 
 -- ---- what is no event
 
-access_event : (e : Bool) (o : Op) (a : Rattle.pg_trace.specs.declared.step.Access.Access) → TellsAccess e o a → (b : Bool) → a.event ≡ b → (access_happening a ≡ None) ⊎ ((e ≡ true) × (IsLoad o ⊎ IsStore o))
+access_event : (e : Bool) (o : Op) (a : Access) → TellsAccess e o a → (b : Bool) → a.event ≡ b → (access_happening a ≡ None) ⊎ ((e ≡ true) × (IsLoad o ⊎ IsStore o))
 access_event e o a h false q = inl (rw q refl)
 access_event e o a h true q = inr (sym h.event_is ∙ q, go h.by)
   where
-    go : (IsLoad o × (a.writes ≡ false)) ⊎ (IsStore o × (a.writes ≡ true) × Rattle.pg_instances.specs.Moves.IsPlacedAt a.pointer (Rattle.pg_trace.specs.Steps.range_of a)) → IsLoad o ⊎ IsStore o
+    go : (IsLoad o × (a.writes ≡ false)) ⊎ (IsStore o × (a.writes ≡ true) × IsPlacedAt a.pointer (range_of a)) → IsLoad o ⊎ IsStore o
     go (inl k) = inl k.0
     go (inr k) = inr k.0
 
@@ -76,7 +75,7 @@ within_none I x h = go x.kind refl h
     go (told.Branch c) e w = ap (λ (k : StepKind). turn_at x (happening_in k)) e
     go (told.Allocation a r) e w = absurd w
     go (told.Event v) e w = absurd w
-    go (told.Access a) e w = ap (λ (k : StepKind). turn_at x (happening_in k)) e ∙ ap (λ (b : Bool). turn_at x (Rattle.std.specs.Prelude.if◌then◌else◌ b (Some (record { kind = Rattle.pg_trace.specs.Steps.access_kind a.writes; object = Rattle.pg_num.specs.Pointers.byte_place a.pointer })) None)) w.plain
+    go (told.Access a) e w = ap (λ (k : StepKind). turn_at x (happening_in k)) e ∙ ap (λ (b : Bool). turn_at x (if◌then◌else◌ b (Some (record { kind = access_kind a.writes; object = byte_place a.pointer })) None)) w.plain
 
 -- ---- the frame that asks
 

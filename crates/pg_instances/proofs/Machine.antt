@@ -1,10 +1,9 @@
 -- A step of the machine by a thread that is inside.
-use Rattle.std.proofs.Common.{◌≡◌, ℕ, ℤ, ◌+◌, ◌<◌, ◌≤◌, max, ◌&&◌, Bool, true, false, List, [], ◌∷◌, length, Option, Some, None, Result, Ok, Err, refl, sym, ap, ◌∙◌, subst, arith, inl, inr, ◌⊎◌}
-use Rattle.std.specs.Prelude.{slice_get, slice_set, slice_index, nat_lt}
+use Rattle.std.proofs.Common.{◌≡◌, ℕ, ℤ, ◌<◌, Bool, true, false, List, length, Option, Some, None, refl, sym, ap, ◌∙◌, subst, arith, inl, inr}
+use Rattle.std.specs.Prelude.{slice_get, slice_set, slice_index}
 use Rattle.std.proofs.lemmas.Bool.Decides.{nat_tests}
 use Rattle.std.proofs.lemmas.Option.{slice_get_within}
 use Rattle.pg_num.specs.Places.{ByteRange, meet}
-use Rattle.pg_num.specs.Pointers.{byte_place}
 use Rattle.pg_mem.specs.Memory.{Words, read, written}
 use Rattle.pg_mem.proofs.ReadsAndWrites.{read-small, read-written_apart}
 use Rattle.pg_ir.specs.declared.ids.InstrId.{InstrId}
@@ -13,20 +12,19 @@ use Rattle.pg_ir.specs.Program.{NumberedProgram}
 use Rattle.pg_step.specs.declared.action.Action.{Action}
 use Rattle.pg_step.specs.declared.action.Action.TheVariants as actions
 use Rattle.pg_step.specs.LocalState.{LocalState}
-use Rattle.pg_step.specs.Step.{next, after}
+use Rattle.pg_step.specs.Step.{after}
 use Rattle.pg_step.specs.Told.{id_of, operand_values}
 use Rattle.pg_trace.specs.Races.{share}
-use Rattle.pg_trace.specs.Steps.{range_of}
 use Rattle.pg_trace.specs.declared.step.Step.{Step}
 use Rattle.pg_trace.specs.declared.step.StepKind.{StepKind}
 use Rattle.pg_trace.specs.declared.step.StepKind.TheVariants as told
 use Rattle.pg_machine.specs.State.{State, instr_of, next_of, id_in}
-use Rattle.pg_machine.specs.MachineStep.{Stepped, Did, Trapped, answered, input_at, instr_told, is_gated, kind_told, local_after, may_act, number_in, op_told, operands_in, ready, settled, step, step_told, taken}
+use Rattle.pg_machine.specs.MachineStep.{Did, answered, input_at, instr_told, is_gated, kind_told, local_after, may_act, number_in, op_told, operands_in, ready, settled, step, step_told, taken}
 use Rattle.pg_machine.proofs.Asks.{next_is, ready_acts}
 use Rattle.pg_machine.proofs.Threads.{set_own, set_other}
 use Rattle.pg_closed.specs.Freeable.{frame_of}
-use Rattle.pg_instances.specs.Leads.{IsLoaded, IsReached, IsWithin, KeepsCells}
-use Rattle.pg_instances.specs.Inside.{Instance, IsInside, IsAtJoin, IsAtBranch, AreApart}
+use Rattle.pg_instances.specs.Leads.{IsWithin, KeepsCells}
+use Rattle.pg_instances.specs.Inside.{Instance, AreApart}
 use Rattle.pg_instances.specs.Stays.{AccessesWithin, TellsWithin, IsWithinExtent, StaysInside, CanStepInside}
 use Rattle.pg_instances.proofs.Actions.{Accesses}
 use Rattle.pg_instances.proofs.Inner.{IsCalmKind, GoesOn, GoesFrom, Proceeds, inside_proceeds, branch_proceeds}

@@ -1,8 +1,6 @@
 -- Moves of pointers: they keep the frame, and add up.
-use Rattle.std.proofs.Common.{◌≡◌, ℕ, ◌+◌, ◌%◌, ◌^◌, ◌<◌, ℤ, pos, negsuc, arith, refl, sym, ◌∙◌, ap}
-use Rattle.std.specs.Prelude.{◌+ℤ◌}
-use Rattle.pg_num.specs.Pointers.{moved_by, offset_of, pointer_of}
-use Rattle.pg_num.specs.Places.{ByteRange}
+use Rattle.std.proofs.Common.{◌≡◌, ℕ, ℤ, pos, arith, refl}
+use Rattle.pg_num.specs.Pointers.{moved_by}
 use Rattle.pg_num.proofs.Moves.{start-moved_by, length-moved_by}
 use Rattle.pg_paths.specs.Paths.{moved_offset}
 use Rattle.pg_closed.specs.Freeable.{frame_of}

@@ -1,8 +1,7 @@
 -- Extents from one step to the next: those that stay open, one that begins, and which end together.
-use Rattle.std.proofs.Common.{◌≡◌, ℕ, ℤ, zero, suc, ◌+◌, ◌<◌, ◌≤◌, ◌^◌, ◌&&◌, ◌==◌, Bool, true, false, List, [], ◌∷◌, length, Option, Some, None, refl, sym, ap, ◌∙◌, subst, arith, inl, inr, ◌⊎◌}
+use Rattle.std.proofs.Common.{◌≡◌, ℕ, ℤ, ◌+◌, ◌<◌, ◌≤◌, ◌^◌, ◌==◌, Bool, true, false, List, ◌∷◌, length, Option, Some, None, refl, sym, ap, ◌∙◌, subst, arith, inl, inr, ◌⊎◌}
 use Rattle.std.specs.Prelude.{Contains, slice_get}
 use Rattle.std.proofs.lemmas.Bool.{and_parts, and_from, eq-eqb, eqb-true, true≢false}
-use Rattle.pg_mem.specs.Memory.{byte_at, read}
 use Rattle.pg_ir.specs.declared.ids.InstrId.{InstrId}
 use Rattle.pg_ir.specs.declared.known.Known.{Known}
 use Rattle.pg_ir.specs.declared.known.Known.TheVariants as known
@@ -19,7 +18,7 @@ use Rattle.pg_region.specs.declared.region.Region.{Region}
 use Rattle.pg_region.specs.Regions.{flow_of, IsRegion}
 use Rattle.pg_region.specs.Laws.{AreNested}
 use Rattle.pg_step.specs.LocalState.{Frame, LocalState}
-use Rattle.pg_step.specs.States.{StandsAt}
+use Rattle.pg_step.specs.States.{StandsAt, AreFramesOf}
 use Rattle.pg_step.specs.Step.{top_registers, under_top}
 use Rattle.pg_step.specs.Told.{id_of, place_in}
 use Rattle.pg_trace.specs.declared.step.Step.{Step}
@@ -31,21 +30,24 @@ use Rattle.pg_machine.specs.Runs.{IsRun}
 use Rattle.pg_closed.specs.Moments.{Moment}
 use Rattle.pg_closed.specs.Extents.{Extent, ends}
 use Rattle.pg_closed.specs.Freeable.{FreeRegion, Regions}
-use Rattle.pg_closed.specs.Known.{Seen, is_branch}
+use Rattle.pg_closed.specs.Known.{Seen, is_branch, Reference}
 use Rattle.pg_instances.specs.Free.{instance_of}
-use Rattle.pg_instances.specs.Inside.{Instance, IsAtBranch, IsBottom, IsBranch, IsInside, Joins, edge_at as instr_edge, edge_taken, next_edge}
+use Rattle.pg_instances.specs.Inside.{Instance, IsBottom, IsBranch, IsInside, Joins, edge_at as instr_edge, edge_taken, next_edge, region_set}
 use Rattle.pg_least.specs.Keeps.{depth_of, edge_at, is_branching}
 use Rattle.pg_reference.specs.OfRegions.{AreRegions}
-use Rattle.pg_instances.specs.Stays.{CanStepInside, StaysInside, TellsWithin}
+use Rattle.pg_instances.specs.Stays.{CanStepInside, StaysInside}
 use Rattle.pg_instances.specs.Together.{AreTogether, IsNext}
 use Rattle.pg_instances.proofs.Alone.{inside_again}
 use Rattle.pg_instances.proofs.Free.{apart_at, at_branch, leads_there}
 use Rattle.pg_instances.proofs.Freed.{Freed}
-use Rattle.pg_instances.proofs.Keeping.{IsSeen, deep_enough, edge_here, edge_leads, freed_here, instr_here, nested_here, bottom_here, calls_here, took_here}
+use Rattle.pg_instances.proofs.Keeping.{IsSeen, deep_enough, edge_here, edge_leads, freed_here, nested_here, bottom_here, took_here}
 use Rattle.pg_instances.proofs.LeadsOut.{frames_of}
 use Rattle.pg_instances.proofs.Machine.{step_stays}
 use Rattle.pg_instances.proofs.Opens.{Open, edge_parts, instance, open_nested}
-use Rattle.pg_instances.proofs.Took.{Plain, Requests, TellsPlain, Took}
+use Rattle.pg_instances.proofs.Took.{Plain, TellsPlain, Took}
+use Rattle.pg_instances.proofs.Edges.{successors_of}
+use Rattle.pg_instances.proofs.Places.{at_block}
+use Rattle.pg_ir.specs.Edges.{successors}
 
 -- a walk doesn't meet the join
 not_met : (p : NumberedProgram) (j a x : ℕ) → Walk (flow_of p) j a x → x ≡ j → ⊥
@@ -102,7 +104,7 @@ module _ (p : NumberedProgram) (gates : List InstrId) (sums : ℕ → Option Roo
     pub within : o.depth ≡ e.depth → (r : Region) → are.found (block_of o.step) ≡ Some r → Contains r.blocks.items (block_of e.step)
 
   module _ (s w z : State) (t : ℕ) (l : LocalState) (x : Step) (xs : List Step) (y : Seen) (h : Seen_as s w t l x y) (run : IsRun gates p input s (x ∷ xs) z) (together : AreTogether (x ∷ xs)) (next : IsNext t (x ∷ xs)) where
-    abbrev R : Rattle.pg_closed.specs.Known.Reference
+    abbrev R : Reference
     R = record { program = p; regions = regions; moments = moments }
 
     abbrev pub took_it : Took gates p s t l x w
@@ -178,7 +180,7 @@ module _ (p : NumberedProgram) (gates : List InstrId) (sums : ℕ → Option Roo
       pub begins : CanStepInside begun_instance gates s t l
       begins = record {
         branch = at_branch p (λ i. is_gated gates i) sums g.region r s l q.frame q.below q.instr program summaries q.begun q.frames q.is (tells_branch (is_gated gates q.frame.place) q.instr.op x.kind q.tells (freed_is q r v).0).0
-            (frame_in p q.frame.function (slice_get p.instrs q.frame.place) q.instr q.is (subst (λ (fs : List Frame). Rattle.pg_step.specs.States.AreFramesOf p fs) q.frames (frames_of p s t l h.reached h.is_local)).0.place)
+            (frame_in p q.frame.function (slice_get p.instrs q.frame.place) q.instr q.is (subst (λ (fs : List Frame). AreFramesOf p fs) q.frames (frames_of p s t l h.reached h.is_local)).0.place)
             (program.instrs q.frame.place q.instr q.is).block g.is_region.join
             (leads_there p (λ i. is_gated gates i) sums g.region r s l q.frame q.below y.moment (h.moment.calls ∙ q.frames) h.moment.bytes g.accesses) (apart_at r.accesses g.apart);
         gates = λ i. refl;
@@ -220,9 +222,9 @@ module _ (p : NumberedProgram) (gates : List InstrId) (sums : ℕ → Option Roo
       pub begun_edge : (to : ℕ) → edge_at R y ≡ Some to → Contains g.region.blocks.items to ⊎ (to ≡ g.region.join)
       begun_edge to u =
           let d = edge_parts p q.frame.registers q.instr.op to (sym (edge_is q) ∙ u) in
-          let c : Contains (Rattle.pg_ir.specs.Edges.successors p q.instr.block.0) to = subst (λ (ts : List ℕ). Contains ts to) (sym (Rattle.pg_instances.proofs.Edges.successors_of p q.frame.place q.instr program q.is d.0)) d.1 in
+          let c : Contains (successors p q.instr.block.0) to = subst (λ (ts : List ℕ). Contains ts to) (sym (successors_of p q.frame.place q.instr program q.is d.0)) d.1 in
           let same : q.instr ≡ begins.branch.branch = (let k : Some q.instr ≡ Some begins.branch.branch = sym q.is ∙ begins.branch.is in cc) in
-          begins.branch.first to (subst (λ (i : Instr). Contains (Rattle.pg_ir.specs.Edges.successors p i.block.0) to) same c)
+          begins.branch.first to (subst (λ (i : Instr). Contains (successors p i.block.0) to) same c)
 
       -- it stands on each open one
       pub begun_over : (o : Extent) → OpenAt s l o → (e : Extent) → e.depth ≡ depth_of y → block_of e.step ≡ q.instr.block.0 → Over e o
@@ -230,7 +232,7 @@ module _ (p : NumberedProgram) (gates : List InstrId) (sums : ℕ → Option Roo
         deeper = (let n = deep_enough p gates sums regions are moments free_of block_of program summaries input small s w z t l x xs y h run together next q o k in omega (arith, n, ed));
         within = λ d ro f.
             let b : IsBottom (instance p gates sums are.found free_of block_of k) q.frame q.below = bottom_here p gates sums regions are moments free_of block_of program summaries input small s w z t l x xs y h run together next q o k (sym ed ∙ sym d) in
-            let at = Rattle.pg_instances.proofs.Places.at_block (instance p gates sums are.found free_of block_of k) (Rattle.pg_instances.specs.Inside.region_set (instance p gates sums are.found free_of block_of k)) q.frame q.instr program b.stands q.is in
+            let at = at_block (instance p gates sums are.found free_of block_of k) (region_set (instance p gates sums are.found free_of block_of k)) q.frame q.instr program b.stands q.is in
             let same : k.region ≡ ro = (let u : Some k.region ≡ Some ro = sym k.found_is ∙ f in cc) in
             subst (λ (c : ℕ). Contains ro.blocks.items c) (sym eb) (subst (λ (rr : Region). Contains rr.blocks.items q.instr.block.0) same (subst (λ (c : ℕ). Contains k.region.blocks.items c) (sym at.0) b.stands.among));
       }

@@ -1,21 +1,21 @@
 -- An open extent: the thread is inside the instance of its branch step.
-use Rattle.std.proofs.Common.{◌≡◌, ℕ, ℤ, zero, suc, ◌+◌, ◌<◌, ◌≤◌, ◌^◌, ◌&&◌, ◌||◌, ◌==◌, Bool, true, false, List, [], ◌∷◌, length, Option, Some, None, IfSome, refl, sym, ap, ◌∙◌, subst, arith, inl, inr, ◌⊎◌}
+use Rattle.std.proofs.Common.{◌≡◌, ℕ, ℤ, ◌+◌, ◌<◌, ◌≤◌, ◌^◌, ◌&&◌, ◌||◌, Bool, true, false, List, [], ◌∷◌, length, Option, Some, refl, sym, ap, ◌∙◌, subst, arith, inl, inr, ◌⊎◌}
 use Rattle.std.specs.Prelude.{Contains, slice_get}
-use Rattle.std.specs.List.{list_any, take_while}
-use Rattle.std.proofs.lemmas.Bool.{eq-eqb, true≢false}
+use Rattle.std.specs.List.{list_any}
+use Rattle.std.proofs.lemmas.Bool.{eq-eqb}
 use Rattle.pg_ir.specs.declared.ids.InstrId.{InstrId}
 use Rattle.pg_ir.specs.declared.instr.Instr.{Instr}
 use Rattle.pg_ir.specs.declared.instr.Op.{Op}
 use Rattle.pg_ir.specs.declared.instr.Op.TheVariants as op
-use Rattle.pg_ir.specs.Program.{NumberedProgram, function_of}
+use Rattle.pg_ir.specs.Program.{NumberedProgram}
 use Rattle.pg_ir.specs.Edges.{instrs_of, is_phi, is_terminator, phis_of, successors, targets_of}
 use Rattle.pg_ir.specs.WellFormed.{IsProgram}
 use Rattle.pg_paths.specs.Registers.{is_register}
 use Rattle.pg_accesses.specs.Accesses.{RootedList, block_sets, sets}
-use Rattle.pg_accesses.proofs.Elements.{here, there, none_in}
+use Rattle.pg_accesses.proofs.Elements.{here, there}
 use Rattle.pg_quiet.specs.Summaries.{AreSummaries}
 use Rattle.pg_region.specs.declared.region.Region.{Region}
-use Rattle.pg_region.specs.Regions.{flow_of, IsRegion}
+use Rattle.pg_region.specs.Regions.{IsRegion}
 use Rattle.pg_region.specs.Laws.{AreNested}
 use Rattle.pg_region.proofs.Within.{regions_nest}
 use Rattle.pg_step.specs.LocalState.{Frame, LocalState}
@@ -28,8 +28,8 @@ use Rattle.pg_closed.specs.Extents.{Extent}
 use Rattle.pg_closed.specs.Freeable.{FreeAccess, FreeRegion, frame_of}
 use Rattle.pg_closed.specs.Shadows.{is_within}
 use Rattle.pg_instances.specs.Free.{instance_of}
-use Rattle.pg_instances.specs.Inside.{Instance, IsAbove, IsBottom, IsInside, Stands, StandsIn, edge_taken, may_set, phis_set, region_set}
-use Rattle.pg_least.specs.Keeps.{MaySet, may_write}
+use Rattle.pg_instances.specs.Inside.{Instance, IsBottom, IsInside, Stands, edge_taken, may_set, phis_set, region_set, IsQuietSet}
+use Rattle.pg_least.specs.Keeps.{may_write}
 use Rattle.pg_instances.specs.Leads as leads
 use Rattle.pg_reference.specs.OfRegions as regions
 use Rattle.pg_instances.specs.Stays.{CanStepInside}
@@ -38,7 +38,11 @@ use Rattle.pg_instances.proofs.Beyond.{Loud}
 use Rattle.pg_instances.proofs.Edges.{chosen_among, successors_of, switched_among, while_among}
 use Rattle.pg_instances.proofs.Freed.{join_fits}
 use Rattle.pg_instances.proofs.LeadsOut.{leads_out}
-use Rattle.pg_instances.proofs.Places.{at_block, quiet_at, sets_here, some_of}
+use Rattle.pg_instances.proofs.Places.{at_block, sets_here, some_of}
+use Rattle.pg_num.specs.Places.{ByteRange}
+use Rattle.pg_step.specs.Compute.{chosen}
+use Rattle.pg_step.specs.EdgeStep.{case_of}
+use Rattle.pg_step.specs.Operands.{given, operand}
 
 -- ---- the calls
 
@@ -88,13 +92,13 @@ phis_may I to (inr e) x c k r =
 -- where an edge leads
 pub edge_parts : (p : NumberedProgram) (rs : List (Option ℕ)) (o : Op) (to : ℕ) → edge_taken p rs o ≡ Some to → (is_terminator o ≡ true) × Contains (targets_of o) to
 edge_parts p rs (op.Br b) to e = let q : b.0 ≡ to = cc in (refl, subst (λ (z : ℕ). Contains (b.0 ∷ []) z) q (here b.0 []))
-edge_parts p rs (op.CondBr c a b) to e = let q : Rattle.pg_step.specs.Compute.chosen (Rattle.pg_step.specs.Operands.given (Rattle.pg_step.specs.Operands.operand p rs c)) a.0 b.0 ≡ to = cc in (refl, subst (λ (z : ℕ). Contains (a.0 ∷ b.0 ∷ []) z) q (chosen_among (Rattle.pg_step.specs.Operands.given (Rattle.pg_step.specs.Operands.operand p rs c)) a.0 b.0))
+edge_parts p rs (op.CondBr c a b) to e = let q : chosen (given (operand p rs c)) a.0 b.0 ≡ to = cc in (refl, subst (λ (z : ℕ). Contains (a.0 ∷ b.0 ∷ []) z) q (chosen_among (given (operand p rs c)) a.0 b.0))
 edge_parts p rs (op.Switch w on other cases) to e =
-    let q : Rattle.pg_step.specs.EdgeStep.case_of cases other.0 (Rattle.pg_step.specs.Operands.given (Rattle.pg_step.specs.Operands.operand p rs on)) ≡ to = cc in
-    (refl, subst (λ (z : ℕ). Contains (targets_of (op.Switch w on other cases)) z) q (switched_among cases other.0 (Rattle.pg_step.specs.Operands.given (Rattle.pg_step.specs.Operands.operand p rs on))))
+    let q : case_of cases other.0 (given (operand p rs on)) ≡ to = cc in
+    (refl, subst (λ (z : ℕ). Contains (targets_of (op.Switch w on other cases)) z) q (switched_among cases other.0 (given (operand p rs on))))
 edge_parts p rs o to e = absurd cc
 
-pub bottom_edge : (I : Instance) (f : Frame) (fs : List Frame) (x : Instr) (to : ℕ) → IsProgram I.program → Rattle.pg_instances.specs.Inside.IsQuietSet I (region_set I) → IsBottom I f fs → slice_get I.program.instrs f.place ≡ Some x → edge_taken I.program f.registers x.op ≡ Some to → Contains I.blocks to ⊎ (to ≡ I.join)
+pub bottom_edge : (I : Instance) (f : Frame) (fs : List Frame) (x : Instr) (to : ℕ) → IsProgram I.program → IsQuietSet I (region_set I) → IsBottom I f fs → slice_get I.program.instrs f.place ≡ Some x → edge_taken I.program f.registers x.op ≡ Some to → Contains I.blocks to ⊎ (to ≡ I.join)
 bottom_edge I f fs x to program q b e t =
     let at = at_block I (region_set I) f x program b.stands e in
     let d = edge_parts I.program f.registers x.op to t in
@@ -106,10 +110,10 @@ bottom_edge I f fs x to program q b e t =
     go (inr m) = inr m.1
 
 -- a frame to which a store of a region leads may be written
-pub reached_write : (xs : List FreeAccess) (frame : Rattle.pg_num.specs.Places.ByteRange) (w : Bool) (b : ℕ) → leads.IsReached xs w frame → w ≡ true → is_within frame b ≡ true → may_write xs b ≡ true
+pub reached_write : (xs : List FreeAccess) (frame : ByteRange) (w : Bool) (b : ℕ) → leads.IsReached xs w frame → w ≡ true → is_within frame b ≡ true → may_write xs b ≡ true
 reached_write xs frame w b r e h =
     some_of (λ (f : FreeAccess). f.writes && is_within (frame_of f.at.last) b) xs r.access r.among
-    (both r.access.writes (is_within (frame_of r.access.at.last) b) (r.kind ∙ e) (ap (λ (z : Rattle.pg_num.specs.Places.ByteRange). is_within z b) r.same ∙ h))
+    (both r.access.writes (is_within (frame_of r.access.at.last) b) (r.kind ∙ e) (ap (λ (z : ByteRange). is_within z b) r.same ∙ h))
   where
     both : (a c : Bool) → a ≡ true → c ≡ true → (a && c) ≡ true
     both true c q k = k

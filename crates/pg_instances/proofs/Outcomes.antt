@@ -1,6 +1,6 @@
 -- How the calls of a thread change by the step of each instruction.
-use Rattle.std.proofs.Common.{◌≡◌, ℕ, zero, suc, ◌+◌, ◌<◌, Bool, true, false, cond, List, [], ◌∷◌, length, map, Option, Some, None, Result, Ok, Err, refl, sym, ap, ◌∙◌, subst, arith, inl, inr, ◌⊎◌}
-use Rattle.std.specs.Prelude.{Contains, slice_get, ◌==◌, if◌then◌else◌}
+use Rattle.std.proofs.Common.{◌≡◌, ℕ, Bool, true, false, List, [], ◌∷◌, length, map, Option, Some, None, Result, Ok, Err, refl, sym, ap, subst, arith, inl, inr}
+use Rattle.std.specs.Prelude.{Contains, ◌==◌, if◌then◌else◌}
 use Rattle.std.proofs.lemmas.Bool.Decides.{nat_tests}
 use Rattle.pg_num.specs.Numbers.{divided}
 use Rattle.pg_num.specs.Places.{ByteRange}
@@ -9,7 +9,6 @@ use Rattle.pg_num.specs.declared.places.PlaceFault.{PlaceFault}
 use Rattle.pg_num.specs.declared.places.PlaceFault.TheVariants as fault
 use Rattle.pg_ir.specs.declared.known.Known.{Known}
 use Rattle.pg_ir.specs.declared.known.Known.TheVariants as known
-use Rattle.pg_ir.specs.declared.request.Request.{Request}
 use Rattle.pg_ir.specs.declared.request.Request.TheVariants as requests
 use Rattle.pg_ir.specs.declared.request.TrapName.TheVariants as traps
 use Rattle.pg_ir.specs.declared.value.Value.{Value}
@@ -23,16 +22,15 @@ use Rattle.pg_accesses.proofs.Elements.{here}
 use Rattle.pg_step.specs.declared.action.Action.{Action}
 use Rattle.pg_step.specs.declared.action.Action.TheVariants as actions
 use Rattle.pg_step.specs.LocalState.{Frame, LocalState, region_of}
-use Rattle.pg_step.specs.Operands.{argument, given, operand, operands_of, number_at}
+use Rattle.pg_step.specs.Operands.{given, operand, operands_of, number_at}
 use Rattle.pg_step.specs.Compute.{chosen}
 use Rattle.pg_step.specs.EdgeStep.{case_of}
 use Rattle.pg_step.specs.States.{CallsFunction}
 use Rattle.pg_step.specs.Step as step
 use Rattle.pg_step.specs.Step.{op_action, op_after, known_action, on_place, placed, bytes_of, entered, return_action, returning_action, returned, stepped, total, has_room, result_number}
-use Rattle.pg_machine.proofs.Actions.{OfTraps, on_value_is, on_all_is, edge_is, call_is, divided_is, room_is, number_is, object_is, init_is, barrier_init_is, wait_is, create_is, join_is, either}
-use Rattle.pg_closed.specs.Freeable.{frame_of}
+use Rattle.pg_machine.proofs.Actions.{OfTraps, on_value_is, on_all_is, edge_is, call_is, divided_is, room_is, number_is, object_is, init_is, barrier_init_is, wait_is, create_is, join_is}
 use Rattle.pg_instances.specs.Inside.{edge_taken}
-use Rattle.pg_instances.specs.Moves.{GoesAlong, GoesInto, GoesBack, GoesPast, Moves, RequestMoves, IsPlacedAt, IsLoad, IsStore}
+use Rattle.pg_instances.specs.Moves.{Moves, RequestMoves, IsPlacedAt, IsLoad, IsStore}
 use Rattle.pg_instances.proofs.Paths.{within_frame, first_byte}
 use Rattle.pg_instances.proofs.Edges.{chosen_among, switched_among}
 
@@ -153,8 +151,9 @@ module _ (p : NumberedProgram) (t : ℕ) (h : Bool) (f : Frame) (fs : List Frame
       on_value_is (Q (op.Store w v at)) (operand p rs v) _ (λ n. tt) (λ n u.
       on_value_is (Q (op.Store w v at)) (operand p rs at) _ (λ n. tt) (λ a k.
       place_known (Q (op.Store w v at)) a (bytes_of w) _ (λ n. tt) (λ r e. (
-      subst (λ (n : ℕ). IsPlacedAt n r) (sym (ap given k)) (record { start = first_byte a (bytes_of w) r e; within = within_frame a (bytes_of w) r e }),
-      tt,
-      past (op.Store w v at) _ refl (λ g c. c)))))
+        subst (λ (n : ℕ). IsPlacedAt n r) (sym (ap given k)) (record { start = first_byte a (bytes_of w) r e; within = within_frame a (bytes_of w) r e }),
+        tt,
+        past (op.Store w v at) _ refl (λ g c. c),
+      ))))
   op_outcome (op.CallKnown k args) = known_outcome k args
   op_outcome o = on_all_is (Q o) p rs (operands_of o) actions.Local (λ n. tt) (past o _ refl (λ g c. c))

@@ -1,39 +1,26 @@
 -- The numbers that have paths: roots, what a getelementptr moves, and what a load reads.
-use Rattle.std.proofs.Common.{◌≡◌, ℕ, ◌+◌, ◌*◌, ◌≤◌, ◌<◌, zero, suc, Bool, true, false, List, [], ◌∷◌, ◌++◌, length, get_or, Option, Some, None, Result, Ok, Err, pos, refl, sym, ap, ◌∙◌, subst, arith, inl, inr, ◌⊎◌}
-use Rattle.std.specs.Prelude.{Contains, option_map, option_and_then, slice_get, IfOk, map}
-use Rattle.std.proofs.lemmas.List.Elements.{Contains-append_left, Contains-append_right, Contains-append_cases}
-use Rattle.pg_num.specs.Numbers.{signed}
+use Rattle.std.proofs.Common.{◌≡◌, ℕ, ◌+◌, ◌*◌, ◌≤◌, ◌<◌, zero, suc, List, [], ◌∷◌, ◌++◌, Option, Some, None, Result, Ok, Err, pos, refl, sym, ap, ◌∙◌, subst, arith}
+use Rattle.std.specs.Prelude.{option_and_then, slice_get, IfOk, map}
 use Rattle.pg_num.specs.Places.{ByteRange}
-use Rattle.pg_num.specs.Pointers.{moved_by, place_of, pointer_of, byte_place, is_in_range, is_aligned}
+use Rattle.pg_num.specs.Pointers.{moved_by, place_of, pointer_of, byte_place}
 use Rattle.pg_num.specs.declared.layout.TheConstants.{MEMORY_BYTES}
 use Rattle.pg_num.specs.declared.places.PlaceFault.{PlaceFault}
-use Rattle.pg_num.specs.declared.width.Width.{Width}
-use Rattle.pg_num.proofs.Moves.{moved_by-zero}
 use Rattle.pg_num.proofs.Accesses.{place_of-start, place_of-in_frame, place_of-bytes}
 use Rattle.std.proofs.lemmas.Bool.Decides.{nat_tests}
-use Rattle.pg_ir.specs.declared.function.GlobalInfo.{GlobalInfo}
 use Rattle.pg_ir.specs.declared.value.Value.{Value}
 use Rattle.pg_ir.specs.declared.value.Value.TheVariants as value
 use Rattle.pg_ir.specs.declared.value.Index.{Index}
 use Rattle.pg_ir.specs.declared.value.Scale.{Scale}
 use Rattle.pg_ir.specs.declared.value.Scale.TheVariants.{Times, Field}
 use Rattle.pg_ir.specs.Program.{NumberedProgram}
-use Rattle.pg_paths.specs.declared.path.Root.{Root}
-use Rattle.pg_paths.specs.declared.path.Root.TheVariants as root
-use Rattle.pg_paths.specs.declared.path.Loads.{Loads}
-use Rattle.pg_paths.specs.declared.path.Loads.TheVariants.{Never, Once, Twice, Thrice, FourTimes}
-use Rattle.pg_paths.specs.declared.path.RootPath.{RootPath}
-use Rattle.pg_paths.specs.declared.path.Path.{Path}
-use Rattle.pg_paths.specs.Paths.{offsets_of, one_more, each_more, appended, moved_offset, shifted, rooted, path_with, loaded_at, loaded, root_path_with, loads_behind, composed, root_path_of}
-use Rattle.pg_paths.specs.Registers.{constant_bytes, added_index, added_indices, moved, value_path}
+use Rattle.pg_paths.specs.Registers.{constant_bytes, added_index, added_indices}
 use Rattle.pg_paths.specs.Followed as followed
 use Rattle.pg_paths.specs.Followed.{Followed, followed_from, cell_at, cell_in, root_value}
-use Rattle.pg_accesses.specs.declared.rooted.Rooted.{Rooted}
-use Rattle.pg_step.specs.Operands.{operand, number_at, argument, optional_operand, given, flat, pointer_to}
+use Rattle.pg_step.specs.Operands.{operand, number_at, optional_operand, given}
 use Rattle.pg_step.specs.Compute.{index_bytes, moved_along}
-use Rattle.pg_closed.specs.Freeable.{FreeAccess, frame_of}
-use Rattle.pg_instances.specs.Leads.{IsLoaded, IsReached, IsWithin, Leads, IsMoved, HasPath, KeepsCells}
-use Rattle.pg_instances.proofs.Moves.{frame_moved, moved_moved, moved_twice}
+use Rattle.pg_closed.specs.Freeable.{frame_of}
+use Rattle.pg_instances.specs.Leads.{IsWithin, IsMoved}
+use Rattle.pg_instances.proofs.Moves.{frame_moved, moved_moved}
 
 -- ---- places
 

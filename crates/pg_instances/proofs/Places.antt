@@ -1,18 +1,18 @@
 -- Where frames of an instance stand: the instruction, what it accesses, and the registers that are set.
-use Rattle.std.proofs.Common.{◌≡◌, ℕ, zero, suc, ◌+◌, ◌<◌, ◌≤◌, Bool, true, false, cond, List, [], ◌∷◌, ◌++◌, length, Option, Some, None, refl, sym, ap, ◌∙◌, subst, arith, inl, inr, ◌⊎◌}
-use Rattle.std.specs.Prelude.{Contains, slice_get, slice_set, ◌==◌}
+use Rattle.std.proofs.Common.{◌≡◌, ℕ, zero, suc, ◌+◌, Bool, true, false, List, [], ◌∷◌, ◌++◌, Option, Some, None, refl, sym, ap, ◌∙◌, subst, arith, inl, inr, ◌⊎◌}
+use Rattle.std.specs.Prelude.{Contains, slice_get, slice_set}
 use Rattle.std.specs.List.{list_any}
 use Rattle.std.proofs.lemmas.Bool.{eqb-true, eqb-false, true≢false}
-use Rattle.std.proofs.lemmas.List.Elements.{Contains-append_left, Contains-append_right, Contains-append_cases}
+use Rattle.std.proofs.lemmas.List.Elements.{Contains-append_left, Contains-append_right}
 use Rattle.pg_ir.specs.declared.value.Scalar.{Scalar}
 use Rattle.pg_ir.specs.declared.instr.Instr.{Instr}
-use Rattle.pg_ir.specs.Program.{NumberedProgram, types_of, function_of, first_of, end_of}
+use Rattle.pg_ir.specs.Program.{NumberedProgram, types_of, function_of, first_of}
 use Rattle.pg_ir.specs.Edges.{instrs_of}
 use Rattle.pg_ir.specs.WellFormed.{IsProgram, IsInBlock}
 use Rattle.pg_ir.proofs.Places.{block_held}
 use Rattle.pg_paths.specs.Registers.{is_register, register_path}
 use Rattle.pg_accesses.specs.declared.rooted.Rooted.{Rooted}
-use Rattle.pg_accesses.specs.Accesses.{RootedList, both, gathered, op_accesses, accesses_from, block_accesses, block_sets, sets, set_accesses}
+use Rattle.pg_accesses.specs.Accesses.{RootedList, gathered, op_accesses, accesses_from, block_accesses, block_sets, sets}
 use Rattle.pg_accesses.proofs.Elements.{here, there, cases, none_in}
 use Rattle.pg_accesses.proofs.Passes.{parts}
 use Rattle.pg_quiet.proofs.Places.{stands}
@@ -107,11 +107,10 @@ pub quiet_at : (I : Instance) (a : QuietSet) (f : Frame) (x : Instr) → IsProgr
 quiet_at I a f x program q s e =
     let at = at_block I a f x program s e in
     let b = gathered_part (block_accesses a.returns I.program I.gated I.sums (sets I.program a.blocks)) a.blocks a.accesses s.block q.quiet s.among in
-    let i = block_accesses_at a.returns I.program I.gated I.sums (sets I.program a.blocks) s.block b.0 s.behind x b.1 at.1 in
-    (
-        i.0,
-        subst (λ (n : ℕ). op_accesses a.returns I.gated I.sums (register_path (sets I.program a.blocks) (types_of I.program (function_of I.program s.block)) (passed [] (instrs_of I.program s.block) s.behind)) n x.op ≡ Some i.0) (sym s.place) i.1,
-        λ z c. q.leads z (b.2 z (i.2 z c)),
+    let i = block_accesses_at a.returns I.program I.gated I.sums (sets I.program a.blocks) s.block b.0 s.behind x b.1 at.1 in (
+      i.0,
+      subst (λ (n : ℕ). op_accesses a.returns I.gated I.sums (register_path (sets I.program a.blocks) (types_of I.program (function_of I.program s.block)) (passed [] (instrs_of I.program s.block) s.behind)) n x.op ≡ Some i.0) (sym s.place) i.1,
+      λ z c. q.leads z (b.2 z (i.2 z c)),
     )
 
 -- ---- registers

@@ -1,17 +1,15 @@
 -- Quiet instructions ask nothing of other threads.
-use Rattle.std.proofs.Common.{◌≡◌, ℕ, zero, suc, ◌+◌, ◌<◌, Bool, true, false, List, [], ◌∷◌, length, Option, Some, None, refl, sym, ap, ◌∙◌, subst, arith, inl, inr, ◌⊎◌}
-use Rattle.std.specs.Prelude.{slice_get, ◌==◌, if◌then◌else◌}
+use Rattle.std.proofs.Common.{◌≡◌, ℕ, Bool, true, false, List, [], ◌∷◌, length, Option, Some, None, refl, sym, subst, arith, inl, inr, ◌⊎◌}
+use Rattle.std.specs.Prelude.{◌==◌, if◌then◌else◌}
 use Rattle.std.proofs.lemmas.Bool.Decides.{nat_tests}
 use Rattle.pg_num.specs.Numbers.{divided}
 use Rattle.pg_ir.specs.declared.known.Known.{Known}
 use Rattle.pg_ir.specs.declared.known.Known.TheVariants as known
-use Rattle.pg_ir.specs.declared.request.Request.{Request}
 use Rattle.pg_ir.specs.declared.request.Request.TheVariants as requests
 use Rattle.pg_ir.specs.declared.value.Value.{Value}
 use Rattle.pg_ir.specs.declared.instr.Op.{Op}
 use Rattle.pg_ir.specs.declared.instr.Op.TheVariants as op
 use Rattle.pg_ir.specs.Program.{NumberedProgram}
-use Rattle.pg_ir.specs.WellFormed.{granules_for}
 use Rattle.pg_accesses.specs.Accesses.{RootedList}
 use Rattle.pg_accesses.specs.Laws.{IsQuiet}
 use Rattle.pg_step.specs.declared.action.Action.{Action}
@@ -21,8 +19,8 @@ use Rattle.pg_step.specs.LocalState.{Frame}
 use Rattle.pg_step.specs.Operands.{argument, operand, operands_of}
 use Rattle.pg_step.specs.Compute.{chosen}
 use Rattle.pg_step.specs.EdgeStep.{case_of}
-use Rattle.pg_step.specs.Step.{op_action, known_action, return_action, returning_action, bytes_of, has_room, total}
-use Rattle.pg_machine.proofs.Actions.{on_value_is, on_all_is, on_place_is, edge_is, call_is, divided_is, room_is}
+use Rattle.pg_step.specs.Step.{op_action, known_action, return_action, returning_action, bytes_of, total}
+use Rattle.pg_machine.proofs.Actions.{on_value_is, on_all_is, on_place_is, edge_is, call_is, divided_is}
 use Rattle.pg_instances.specs.Moves.{IsReturn}
 
 -- an action that is no request, but for a return from a thread's first call

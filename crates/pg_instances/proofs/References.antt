@@ -1,11 +1,10 @@
 -- Reference runs keep their extents: along the run, from step to step.
-use Rattle.std.proofs.Common.{◌≡◌, ◌≢◌, ℕ, ℤ, zero, suc, ◌+◌, ◌<◌, ◌≤◌, ◌^◌, Bool, true, false, List, [], ◌∷◌, length, Option, Some, None, refl, sym, ap, ◌∙◌, subst, arith, inl, inr, ◌⊎◌}
-use Rattle.std.specs.Prelude.{Contains, slice_get, slice_index_or, slice_set}
+use Rattle.std.proofs.Common.{◌≡◌, ◌≢◌, ℕ, ℤ, zero, suc, ◌+◌, ◌<◌, ◌≤◌, ◌^◌, true, List, [], ◌∷◌, length, Option, Some, None, refl, sym, ap, ◌∙◌, subst, arith, inl, inr, ◌⊎◌}
+use Rattle.std.specs.Prelude.{Contains, slice_get}
 use Rattle.std.proofs.lemmas.Bool.{cases_eq, cases_lt}
 use Rattle.pg_ir.specs.declared.ids.InstrId.{InstrId}
 use Rattle.pg_ir.specs.declared.instr.Instr.{Instr}
 use Rattle.pg_ir.specs.declared.request.Request.{Request}
-use Rattle.pg_ir.specs.declared.request.Request.TheVariants as requests
 use Rattle.pg_ir.specs.Program.{NumberedProgram}
 use Rattle.pg_ir.specs.WellFormed.{IsProgram}
 use Rattle.pg_accesses.specs.Accesses.{RootedList}
@@ -21,24 +20,22 @@ use Rattle.pg_step.specs.Step.{frames_action, next}
 use Rattle.pg_step.specs.Told.{id_of, place_in}
 use Rattle.pg_trace.specs.declared.step.Step.{Step}
 use Rattle.pg_trace.specs.declared.step.StepKind.{StepKind}
-use Rattle.pg_trace.specs.declared.step.StepKind.TheVariants as told
 use Rattle.pg_trace.specs.declared.turn.Turn.{Turn}
 use Rattle.pg_trace.specs.Races.{recorded, timed_by}
-use Rattle.pg_trace.specs.Steps.{event_of}
+use Rattle.pg_trace.specs.Steps.{range_of}
 use Rattle.pg_mem.specs.Memory.{byte_at}
 use Rattle.pg_machine.specs.State.{State, initial}
-use Rattle.pg_machine.specs.MachineStep.{Did, is_gated, ready, step}
+use Rattle.pg_machine.specs.MachineStep.{is_gated, step}
 use Rattle.pg_machine.specs.Follow.{Exits, following_of}
-use Rattle.pg_machine.specs.Runs.{IsRun, Takes}
+use Rattle.pg_machine.specs.Runs.{IsRun}
 use Rattle.pg_machine.proofs.Asks.{ready_made}
 use Rattle.pg_machine.proofs.Threads.{set_length}
 use Rattle.pg_effects.specs.Reached.{HoldBytes, IsReached}
 use Rattle.pg_effects.proofs.Reaches.{present, reached_first, reached_step}
 use Rattle.pg_closed.specs.Moments.{Moment, calls_of, instr_in, moments_from, moments_of, state_after, thread_in}
-use Rattle.pg_closed.specs.Extents.{Extent, is_live}
-use Rattle.pg_closed.specs.Freeable.{FreeRegion, Regions}
-use Rattle.pg_closed.specs.Known.{Reference, RunShadow, Seen, after_step, region_of, seen_from, start_of, thread_of}
-use Rattle.pg_closed.specs.Rules.{kind_in}
+use Rattle.pg_closed.specs.Extents.{Extent, is_live, begun}
+use Rattle.pg_closed.specs.Freeable.{FreeRegion, Regions, frame_of}
+use Rattle.pg_closed.specs.Known.{Reference, RunShadow, Seen, after_step, region_of, seen_from, start_of, thread_of, ThreadShadow}
 use Rattle.pg_least.specs.Keeps as keeps_of
 use Rattle.pg_least.specs.Keeps.{ExtentsKeep, depth_of, edge_at, every, instr_of, open_before}
 use Rattle.pg_reference.specs.OfRegions.{AreRegions}
@@ -48,9 +45,12 @@ use Rattle.pg_instances.proofs.Keeping.{IsSeen, instr_here}
 use Rattle.pg_instances.proofs.LeadsOut.{frames_of}
 use Rattle.pg_instances.proofs.Opens.{Open}
 use Rattle.pg_instances.proofs.Opening.{took_it}
-use Rattle.pg_instances.proofs.Shadows.{Match, Walked, adds_by, lives_event, lives_plain, walked_by}
+use Rattle.pg_instances.proofs.Shadows.{Match, Walked, adds_by, lives_event, lives_plain, walked_by, Lives}
 use Rattle.pg_instances.proofs.Together.{exited}
-use Rattle.pg_instances.proofs.Took.{AddsThread, Plain, Requests, Took}
+use Rattle.pg_instances.proofs.Took.{Plain, Requests, Took}
+use Rattle.pg_closed.specs.Shadows.{is_within}
+use Rattle.pg_trace.specs.declared.step.Access.{Access}
+use Rattle.std.proofs.lemmas.Option.{slice_get_within}
 
 -- ---- lists
 
@@ -63,11 +63,11 @@ did_times V T k (x ∷ xs) = ap (λ (l : List _). x ∷ l) (did_times V T (done_
 pub record Facts (R : Reference) (free_of : ℕ → Option FreeRegion) (y : Seen) : Type 0 where
   pub known : thread_in y.moment < length y.before.threads
   pub calls : length (thread_of y.before (thread_in y.moment)).calls ≡ depth_of y
-  pub frames : (a : Rattle.pg_trace.specs.declared.step.Access.Access) → keeps_of.StoresBy R y a → (b : ℕ) → Rattle.pg_closed.specs.Shadows.is_within (Rattle.pg_trace.specs.Steps.range_of a) b ≡ true → Rattle.pg_closed.specs.Shadows.is_within (Rattle.pg_closed.specs.Freeable.frame_of a.pointer) b ≡ true
+  pub frames : (a : Access) → keeps_of.StoresBy R y a → (b : ℕ) → is_within (range_of a) b ≡ true → is_within (frame_of a.pointer) b ≡ true
   pub branches : (r : FreeRegion) → y.region ≡ Some r → (i : Instr) → instr_of R y ≡ Some i → keeps_of.is_branching i.op ≡ true
   pub own : (r : FreeRegion) → y.region ≡ Some r → keeps_of.MaySetPhis R.program r.sets (edge_at R y)
   pub together : (t : ℕ) (e : Extent) → Contains (keeps_of.open_in y t) e → thread_in y.moment ≡ t
-  pub nest : keeps_of.AreStacked (depth_of y) (edge_at R y) (Rattle.pg_closed.specs.Extents.begun y.number (depth_of y) y.region (open_before y))
+  pub nest : keeps_of.AreStacked (depth_of y) (edge_at R y) (begun y.number (depth_of y) y.region (open_before y))
   pub keep : (e : Extent) → Contains (open_before y) e → (r : FreeRegion) → free_of e.step ≡ Some r → keeps_of.KeepsTo R r e.depth y
 
 -- the free region and the block of a step, by its number
@@ -199,7 +199,7 @@ module _ (p : NumberedProgram) (gates : List InstrId) (sums : ℕ → Option Roo
         go (inr q) =
             let i = request_instr q in
             walked_by R k m w i.0 i.1 small_thread took.local.frames (length v.locals)
-            (subst (λ (c : StepKind). Rattle.pg_instances.proofs.Shadows.Lives R k m w i.0 i.1 small_thread c took.local.frames (length v.locals)) (sym q.is)
+            (subst (λ (c : StepKind). Lives R k m w i.0 i.1 small_thread c took.local.frames (length v.locals)) (sym q.is)
             (lives_event R k m w i.0 i.1 small_thread q.event q.request l.frames took.local.frames (length v.locals) size q.kind q.moves (adds_by s v (length w.threads) q.request inv.matches.count q.adds)))
 
     fresh_frames : (u f : ℕ) → length (fresh p u f).frames ≡ 1
@@ -211,7 +211,7 @@ module _ (p : NumberedProgram) (gates : List InstrId) (sums : ℕ → Option Roo
     other_extents u ne e c = go (cases_lt u (length w.threads))
       where
         go : (u < length w.threads) ⊎ (length w.threads ≤ u) → ⊥
-        go (inl lt) = ne (sym (inv.alone u e (subst (λ (th : Rattle.pg_closed.specs.Known.ThreadShadow). Contains th.extents e) (walked.others u ne lt) c)))
+        go (inl lt) = ne (sym (inv.alone u e (subst (λ (th : ThreadShadow). Contains th.extents e) (walked.others u ne lt) c)))
         go (inr le) = none_in e (subst (λ (l : List Extent). Contains l e) (walked.past u le).0 c)
 
     own_extent : (e : Extent) → Contains (thread_of w' t).extents e → Contains left_here e
@@ -226,11 +226,11 @@ module _ (p : NumberedProgram) (gates : List InstrId) (sums : ℕ → Option Roo
             ap (λ (c : ℕ). length (thread_of w' c).calls) q ∙ walked.own_calls ∙ ap (λ (h : LocalState). length h.frames) same
         go u n e (inr ne) (inl lt) =
             let c = inv.matches.count in
-            ap (λ (th : Rattle.pg_closed.specs.Known.ThreadShadow). length th.calls) (walked.others u ne lt) ∙ inv.matches.calls u n (sym (took.others u ne (omega (arith, lt, c))) ∙ e)
+            ap (λ (th : ThreadShadow). length th.calls) (walked.others u ne lt) ∙ inv.matches.calls u n (sym (took.others u ne (omega (arith, lt, c))) ∙ e)
         go u n e (inr ne) (inr le) =
             let c = inv.matches.count in
             let f = took.made u n (omega (arith, le, c)) e in
-            let lt : u < length v.locals = Rattle.std.proofs.lemmas.Option.slice_get_within v.locals u n e in
+            let lt : u < length v.locals = slice_get_within v.locals u n e in
             let d = walked.count in
             (walked.past u le).1 (omega (arith, lt, d)) ∙ sym (ap (λ (h : LocalState). length h.frames) f.1 ∙ fresh_frames u f.0)
 
@@ -240,16 +240,16 @@ module _ (p : NumberedProgram) (gates : List InstrId) (sums : ℕ → Option Roo
     inv_there : Inv (suc k) w' v ts
     unfolding seen_from moments_from
     inv_there = record {
-        reached = reached_step gates p input s v t x.did program small inv.reached inv.run.0.is_ready inv.run.0.is_step;
-        run = inv.run.1;
-        together = inv.together.1;
-        matches = matches_next;
-        alone = λ u e c. alone u e c (cases_eq u t);
-        opens = λ u n q e c. opens u n q e c (cases_eq u t);
-        stack = λ u. stack u (cases_eq u t);
-        named = λ a c. inv.named a (there y (seen_from R every (suc k) w' (moments_from gates p input (state_after s (step gates p input s t)) ts)) a
-        (subst (λ (b : State). Contains (seen_from R every (suc k) w' (moments_from gates p input b ts)) a) (sym (ap (state_after s) inv.run.0.is_step)) c));
-      }
+      reached = reached_step gates p input s v t x.did program small inv.reached inv.run.0.is_ready inv.run.0.is_step;
+      run = inv.run.1;
+      together = inv.together.1;
+      matches = matches_next;
+      alone = λ u e c. alone u e c (cases_eq u t);
+      opens = λ u n q e c. opens u n q e c (cases_eq u t);
+      stack = λ u. stack u (cases_eq u t);
+      named = λ a c. inv.named a (there y (seen_from R every (suc k) w' (moments_from gates p input (state_after s (step gates p input s t)) ts)) a
+          (subst (λ (b : State). Contains (seen_from R every (suc k) w' (moments_from gates p input b ts)) a) (sym (ap (state_after s) inv.run.0.is_step)) c));
+    }
       where
         alone : (u : ℕ) (e : Extent) → Contains (thread_of w' u).extents e → (u ≡ t) ⊎ (u ≡ t → ⊥) → IsNext u (did_of ts)
         alone u e c (inl q) = subst (λ (n : ℕ). IsNext n (did_of ts)) (sym q) (next_there e (own_extent e (subst (λ (n : ℕ). Contains (thread_of w' n).extents e) q c)))

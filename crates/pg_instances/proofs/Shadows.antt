@@ -1,8 +1,6 @@
 -- The threads of what is known, from step to step: as many as the machine's, each with as many calls.
-use Rattle.std.proofs.Common.{◌≡◌, ◌≢◌, ℕ, ℤ, zero, suc, ◌+◌, ◌<◌, ◌≤◌, Bool, true, false, cond, List, [], ◌∷◌, ◌++◌, length, get_or, Option, Some, None, refl, sym, ap, ◌∙◌, subst, arith, inl, inr, ◌⊎◌, get_or-set_same, get_or-set_other}
-use Rattle.std.specs.Prelude.{Contains, slice_get, slice_index_or, slice_set, if◌then◌else◌}
-use Rattle.std.specs.List.{list_all}
-use Rattle.std.proofs.lemmas.Bool.{cases_lt, cases_eq}
+use Rattle.std.proofs.Common.{◌≡◌, ◌≢◌, ℕ, zero, suc, ◌+◌, ◌<◌, ◌≤◌, Bool, true, false, List, [], ◌∷◌, ◌++◌, length, get_or, Option, Some, refl, sym, ap, ◌∙◌, subst, arith, inl, inr, ◌⊎◌, get_or-set_same, get_or-set_other}
+use Rattle.std.specs.Prelude.{slice_get, slice_index_or, if◌then◌else◌, slice_index}
 use Rattle.std.proofs.lemmas.List.{get_or_past}
 use Rattle.pg_ir.specs.declared.instr.Instr.{Instr}
 use Rattle.pg_ir.specs.declared.instr.Op.{Op}
@@ -10,12 +8,10 @@ use Rattle.pg_ir.specs.declared.instr.Op.TheVariants as op
 use Rattle.pg_ir.specs.declared.request.Request.{Request}
 use Rattle.pg_ir.specs.declared.request.Request.TheVariants as requests
 use Rattle.pg_ir.specs.Program.{NumberedProgram}
-use Rattle.pg_step.specs.LocalState.{Frame, LocalState, fresh}
-use Rattle.pg_step.specs.States.{CallsFunction}
+use Rattle.pg_step.specs.LocalState.{Frame, LocalState}
 use Rattle.pg_step.specs.Step.{returned}
 use Rattle.pg_trace.specs.declared.turn.TurnKind.{TurnKind}
 use Rattle.pg_trace.specs.declared.step.Event.{Event}
-use Rattle.pg_trace.specs.declared.step.Step.{Step}
 use Rattle.pg_trace.specs.declared.step.StepKind.{StepKind}
 use Rattle.pg_trace.specs.declared.step.StepKind.TheVariants as told
 use Rattle.pg_trace.specs.Kinds.{kind_of}
@@ -29,8 +25,7 @@ use Rattle.pg_closed.specs.Known as known
 use Rattle.pg_closed.specs.Known.{Reference, RunShadow, ThreadShadow, after_event, after_op, after_step, edge_of, fresh_thread, live_after, live_by, no_thread, on_thread, region_of, thread_of, threads_after, under_top, with_extents, with_top}
 use Rattle.pg_least.specs.Keeps.{every}
 use Rattle.pg_trace.specs.Steps.{range_of}
-use Rattle.pg_instances.specs.Moves.{GoesAlong, GoesBack, GoesInto, GoesPast, Moves, RequestMoves, IsLoad, IsStore, IsPlacedAt, IsReturn}
-use Rattle.pg_instances.specs.Inside.{edge_taken}
+use Rattle.pg_instances.specs.Moves.{GoesAlong, GoesBack, GoesInto, GoesPast, Moves, RequestMoves, IsLoad, IsStore, IsPlacedAt}
 use Rattle.pg_instances.proofs.Took.{AddsThread, TellsPlain}
 
 -- ---- calls
@@ -125,11 +120,11 @@ grown_on g t ts lt =
 
 grown_last : (p : NumberedProgram) (k : ℕ) (ts us : List ThreadShadow) (t : ℕ) (calls : List (List Shadow)) → t < length ts → length us ≡ length ts → Grown ts us t calls → Grown ts (us ++ fresh_thread p k ∷ []) t calls
 grown_last p k ts us t calls lt n h = record {
-    own = ap (λ (th : ThreadShadow). th.calls) (at_front us (fresh_thread p k) no_thread t (omega (arith, lt, n))) ∙ h.own;
-    others = λ u ne l. at_front us (fresh_thread p k) no_thread u (omega (arith, l, n)) ∙ h.others u ne l;
-    past = λ u le. go u le (at_last us (fresh_thread p k) no_thread u (omega (arith, le, n)));
-    more = let m = last_length us (fresh_thread p k) in omega (arith, m, n);
-  }
+  own = ap (λ (th : ThreadShadow). th.calls) (at_front us (fresh_thread p k) no_thread t (omega (arith, lt, n))) ∙ h.own;
+  others = λ u ne l. at_front us (fresh_thread p k) no_thread u (omega (arith, l, n)) ∙ h.others u ne l;
+  past = λ u le. go u le (at_last us (fresh_thread p k) no_thread u (omega (arith, le, n)));
+  more = let m = last_length us (fresh_thread p k) in omega (arith, m, n);
+}
   where
     go : (u : ℕ) → length ts ≤ u → (get_or (us ++ fresh_thread p k ∷ []) u no_thread ≡ fresh_thread p k) ⊎ (get_or (us ++ fresh_thread p k ∷ []) u no_thread ≡ no_thread) →
         ((slice_index_or (us ++ fresh_thread p k ∷ []) u no_thread).extents ≡ []) × (u < length (us ++ fresh_thread p k ∷ []) → length (slice_index_or (us ++ fresh_thread p k ∷ []) u no_thread).calls ≡ 1)
@@ -260,11 +255,11 @@ module _ (R : Reference) (n : ℕ) (m : Moment) (w : RunShadow) (i : Instr) (at 
   lives_plain b (told.Allocation a r) f below fs size h v = lives_op (told.Allocation a r) f below fs size v refl
   lives_plain b (told.Event e) f below fs size h v = absurd h
   lives_plain b (told.Access a) f below fs size h v = record {
-      calls = with_top (known.after_access p true n a w.bytes i i.op) (thread_of w t).calls;
-      grown = grown_on (with_top (known.after_access p true n a w.bytes i i.op)) t w.threads lt;
-      length_is = top_length (known.after_access p true n a w.bytes i i.op) (thread_of w t).calls ∙ size ∙ sym (same h.by);
-      size_is = on_length (with_top (known.after_access p true n a w.bytes i i.op));
-    }
+    calls = with_top (known.after_access p true n a w.bytes i i.op) (thread_of w t).calls;
+    grown = grown_on (with_top (known.after_access p true n a w.bytes i i.op)) t w.threads lt;
+    length_is = top_length (known.after_access p true n a w.bytes i i.op) (thread_of w t).calls ∙ size ∙ sym (same h.by);
+    size_is = on_length (with_top (known.after_access p true n a w.bytes i i.op));
+  }
     where
       same : (IsLoad i.op × (a.writes ≡ false)) ⊎ (IsStore i.op × (a.writes ≡ true) × IsPlacedAt a.pointer (range_of a)) → length fs ≡ length (f ∷ below)
       same (inl c) = load_moves f below fs i.op c.0 v
@@ -286,9 +281,9 @@ module _ (R : Reference) (n : ℕ) (m : Moment) (w : RunShadow) (i : Instr) (at 
   asked_by e (requests.Create at g v) before fs size c h k =
       let f : List (List Shadow) → List (List Shadow) = after_event p m e (kind_of (requests.Create at g v)) (slice_index_or w.words t unset) i in
       record {
-        grown = grown_last p (Rattle.std.specs.Prelude.slice_index e.operands 2) w.threads (on_thread f t w.threads) t (f (thread_of w t).calls) lt (on_length f) (grown_on f t w.threads lt);
+        grown = grown_last p (slice_index e.operands 2) w.threads (on_thread f t w.threads) t (f (thread_of w t).calls) lt (on_length f) (grown_on f t w.threads lt);
         length_is = event_length p m e (slice_index_or w.words t unset) i (thread_of w t).calls before fs (requests.Create at g v) c h;
-        size_is = (let n = last_length (on_thread f t w.threads) (fresh_thread p (Rattle.std.specs.Prelude.slice_index e.operands 2)) in let o = on_length f in omega (arith, n, o, k));
+        size_is = (let n = last_length (on_thread f t w.threads) (fresh_thread p (slice_index e.operands 2)) in let o = on_length f in omega (arith, n, o, k));
       }
   asked_by e (requests.Exit v b) before fs size c h k = record {
     grown = grown_on (after_event p m e (kind_of (requests.Exit v b)) (slice_index_or w.words t unset) i) t w.threads lt;

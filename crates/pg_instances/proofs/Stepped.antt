@@ -1,10 +1,10 @@
 -- A frame of an instance behind an instruction that sets its register.
-use Rattle.std.proofs.Common.{◌≡◌, ℕ, zero, suc, ◌+◌, ◌<◌, ◌≤◌, Bool, true, false, cond, List, [], ◌∷◌, Option, Some, None, refl, sym, ap, ◌∙◌, subst, arith}
-use Rattle.std.specs.Prelude.{Contains, slice_get}
+use Rattle.std.proofs.Common.{◌≡◌, ℕ, suc, ◌+◌, ◌<◌, Bool, true, false, cond, List, [], ◌∷◌, Option, Some, refl, sym, ◌∙◌, subst, arith}
+use Rattle.std.specs.Prelude.{slice_get}
 use Rattle.std.proofs.lemmas.Bool.{true≢false}
 use Rattle.pg_ir.specs.declared.value.Scalar.{Scalar}
 use Rattle.pg_ir.specs.declared.instr.Instr.{Instr}
-use Rattle.pg_ir.specs.Program.{NumberedProgram, types_of, function_of, first_of, end_of}
+use Rattle.pg_ir.specs.Program.{types_of, function_of, end_of}
 use Rattle.pg_ir.specs.Edges.{instrs_of, is_terminator}
 use Rattle.pg_ir.specs.WellFormed.{IsProgram}
 use Rattle.pg_ir.proofs.Places.{not_last}
@@ -28,15 +28,15 @@ types_at I a f s = types_of I.program (function_of I.program s.block)
 pub stepped_stands : (I : Instance) (a : QuietSet) (f : Frame) (x : Instr) (n : ℕ) → IsProgram I.program → (s : StandsIn I a f) → slice_get I.program.instrs f.place ≡ Some x → is_terminator x.op ≡ false →
     ((q : Path) → path_by (table I a f s) (has_pointer (types_at I a f s) x.result) x.op ≡ Some q → HasPath I.program a.registers I.memory I.recorded q n) → StandsIn I a (stepped f x.result n)
 stepped_stands I a f x n program s e t h = record {
-    block = s.block;
-    behind = suc s.behind;
-    among = s.among;
-    function = s.function;
-    place = omega (arith, s.place);
-    within = below;
-    kept = λ r u. other_register f.registers x.result (Some n) r (unset r u (is_register x.result r) refl) ∙ s.kept r u;
-    paths = λ r q w u v. pick r q w (is_register x.result r) refl (subst (λ (l : List Instr). register_path (sets I.program a.blocks) (types_at I a f s) l r ≡ Some q) more u) v;
-  }
+  block = s.block;
+  behind = suc s.behind;
+  among = s.among;
+  function = s.function;
+  place = omega (arith, s.place);
+  within = below;
+  kept = λ r u. other_register f.registers x.result (Some n) r (unset r u (is_register x.result r) refl) ∙ s.kept r u;
+  paths = λ r q w u v. pick r q w (is_register x.result r) refl (subst (λ (l : List Instr). register_path (sets I.program a.blocks) (types_at I a f s) l r ≡ Some q) more u) v;
+}
   where
     at : (x.block.0 ≡ s.block) × (slice_get (instrs_of I.program s.block) s.behind ≡ Some x)
     at = at_block I a f x program s e

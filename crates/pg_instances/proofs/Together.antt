@@ -1,5 +1,5 @@
 -- In a guided run that exits, a step that is no event is followed by one of its thread.
-use Rattle.std.proofs.Common.{◌≡◌, ℕ, ℤ, zero, suc, ◌+◌, List, [], ◌∷◌, ◌++◌, length, Bool, true, false, Option, Some, None, Result, Ok, Err, refl, sym, ap, ◌∙◌, subst, cond}
+use Rattle.std.proofs.Common.{◌≡◌, ℕ, ℤ, zero, suc, ◌+◌, List, [], ◌∷◌, ◌++◌, length, Bool, true, false, Option, Some, None, Result, Ok, Err, refl, sym, subst}
 use Rattle.std.specs.Prelude.{slice_set, slice_index, ◌&&◌, if◌then◌else◌, nat_lt}
 use Rattle.pg_num.specs.declared.limits.TheConstants.{RECORDING_STEP_LIMIT}
 use Rattle.pg_ir.specs.declared.ids.InstrId.{InstrId}
@@ -13,8 +13,8 @@ use Rattle.pg_machine.specs.declared.guided_end.GuidedEnd.TheVariants as ends
 use Rattle.pg_machine.specs.State.{State, initial, next_of}
 use Rattle.pg_machine.specs.MachineStep.{Stepped, Did, Trapped, step, trap_of}
 use Rattle.pg_machine.specs.Runs.{IsRun}
-use Rattle.pg_machine.specs.Follow.{Following, Exits, Strays, Breaks, following, following_of, reached}
-use Rattle.pg_machine.specs.Guided.{GuidedRun, Walk, all_left, cannot_go, due, end_after, ended_at, guided, guided_of, is_turn, on_due, on_event, on_step, spent, trap_or, walk}
+use Rattle.pg_machine.specs.Follow.{Exits, Breaks, following, following_of, reached}
+use Rattle.pg_machine.specs.Guided.{GuidedRun, Walk, all_left, cannot_go, due, ended_at, guided, guided_of, is_turn, on_due, on_event, on_step, spent, trap_or, walk}
 use Rattle.pg_machine.proofs.GuidedRuns.{guided_is, step_is, turn_if}
 use Rattle.pg_machine.proofs.Runs.{step_thread}
 use Rattle.pg_instances.specs.Together.{AreTogether, IsNext}

@@ -1,23 +1,23 @@
 -- What a step of the machine that was done did to its thread's calls, and what it tells.
-use Rattle.std.proofs.Common.{◌≡◌, ℕ, ℤ, zero, suc, ◌+◌, ◌<◌, ◌≤◌, Bool, true, false, List, [], ◌∷◌, ◌++◌, length, Option, Some, None, Result, Ok, Err, refl, sym, ap, ◌∙◌, subst, arith, inl, inr, ◌⊎◌}
+use Rattle.std.proofs.Common.{◌≡◌, ℕ, ℤ, zero, suc, ◌+◌, ◌<◌, ◌≤◌, Bool, true, false, List, [], ◌∷◌, ◌++◌, length, Option, Some, None, Ok, Err, refl, sym, ap, ◌∙◌, subst, arith, inl, inr, ◌⊎◌}
 use Rattle.std.specs.Prelude.{slice_get, slice_set, slice_index}
 use Rattle.std.proofs.lemmas.Option.{slice_get_within}
 use Rattle.pg_num.specs.Places.{ByteRange}
-use Rattle.pg_mem.specs.Memory.{read, written}
+use Rattle.pg_mem.specs.Memory.{read}
 use Rattle.pg_ir.specs.declared.ids.InstrId.{InstrId}
 use Rattle.pg_ir.specs.declared.instr.Instr.{Instr}
 use Rattle.pg_ir.specs.declared.instr.Op.{Op}
+use Rattle.pg_ir.specs.declared.instr.Op.TheVariants as op
+use Rattle.pg_ir.specs.declared.known.Known.TheVariants as known
 use Rattle.pg_ir.specs.declared.request.Request.{Request}
 use Rattle.pg_ir.specs.declared.request.Request.TheVariants as requests
 use Rattle.pg_ir.specs.declared.request.TrapName.{TrapName}
 use Rattle.pg_ir.specs.Program.{NumberedProgram}
-use Rattle.pg_sync.specs.Sync as sync
-use Rattle.pg_sync.specs.declared.reply.Reply.{Reply}
 use Rattle.pg_step.specs.declared.action.Action.{Action}
 use Rattle.pg_step.specs.declared.action.Action.TheVariants as actions
 use Rattle.pg_step.specs.LocalState.{Frame, LocalState, region_of, fresh}
-use Rattle.pg_step.specs.Operands.{operands_of, number_at, first_four}
-use Rattle.pg_step.specs.Step.{next, after, frames_action, instr_action, op_action, op_after, total}
+use Rattle.pg_step.specs.Operands.{operands_of, first_four}
+use Rattle.pg_step.specs.Step.{next, after, frames_action, instr_action, op_action, op_after, total, on_top}
 use Rattle.pg_step.specs.Told.{id_of, place_in, operand_values}
 use Rattle.pg_step.proofs.Nexts.{next_at, operands_at}
 use Rattle.pg_step.specs.States.{CanStep}
@@ -30,15 +30,16 @@ use Rattle.pg_trace.specs.declared.step.Access.{Access}
 use Rattle.pg_trace.specs.declared.step.Event.{Event}
 use Rattle.pg_trace.specs.Kinds.{kind_of, object_of}
 use Rattle.pg_trace.specs.Steps.{range_of}
-use Rattle.pg_machine.specs.State.{State, action_in, id_in, instr_of, next_of}
-use Rattle.pg_machine.specs.MachineStep.{Answered, Stepped, Did, Trapped, answered, answer_of, input_at, instr_told, is_gated, kind_told, local_after, may_act, number_in, on_applied, op_told, operands_in, ready, requested, settled, step, step_told, taken}
+use Rattle.pg_machine.specs.State.{State, id_in, instr_of, next_of}
+use Rattle.pg_machine.specs.MachineStep.{Answered, Stepped, Did, answered, input_at, instr_told, is_gated, kind_told, may_act, number_in, op_told, operands_in, ready, settled, step, step_told, taken, known_told, write_told}
 use Rattle.pg_machine.proofs.Asks.{next_is, ready_acts}
 use Rattle.pg_machine.proofs.Threads.{set_own, set_other, set_length, last_other}
 use Rattle.pg_machine.specs.Locality.{IfDid}
-use Rattle.pg_effects.specs.Effect.{answer_to, effect, effect_of, locals_with, request_effect}
+use Rattle.pg_effects.specs.Effect.{answer_to, effect, effect_of, locals_with, request_effect, local_set, own_after}
 use Rattle.pg_effects.proofs.Effects.{has_effect}
 use Rattle.pg_instances.specs.Moves.{Moves, RequestMoves, IsPlacedAt, IsLoad, IsStore}
 use Rattle.pg_instances.proofs.Outcomes.{Outcome, op_outcome, running}
+use Rattle.pg_ir.specs.declared.known.Known.{Known}
 
 -- ---- what is told of a step that asks nothing of other threads
 
@@ -121,10 +122,10 @@ pub record Behind (p : NumberedProgram) (s : State) (t : ℕ) (a : Action) : Typ
 
 same_behind : (p : NumberedProgram) (s : State) (t : ℕ) (a : Action) → asked p s t a ≡ s.locals → Behind p s t a
 same_behind p s t a e = record {
-    front = λ u lt. ap (λ (ls : List LocalState). slice_get ls u) e;
-    made = λ u m le h. absurd (none_there u m (sym (got_none s.locals u le) ∙ sym (ap (λ (ls : List LocalState). slice_get ls u) e) ∙ h));
-    more = omega (arith, ap (λ (ls : List LocalState). length ls) e);
-  }
+  front = λ u lt. ap (λ (ls : List LocalState). slice_get ls u) e;
+  made = λ u m le h. absurd (none_there u m (sym (got_none s.locals u le) ∙ sym (ap (λ (ls : List LocalState). slice_get ls u) e) ∙ h));
+  more = omega (arith, ap (λ (ls : List LocalState). length ls) e);
+}
   where
     none_there : (u : ℕ) (m : LocalState) → Path (Option LocalState) None (Some m) → ⊥
     none_there u m q = cc
@@ -150,21 +151,21 @@ tells_instr b ns n o = go (op_told ns n o) refl
     go (told.Allocation a r) e = inr (ns, n, sym e)
     go (told.Access a) e = absurd (never o a e)
       where
-        known_never : (k : Rattle.pg_ir.specs.declared.known.Known.Known) (a : Access) → Rattle.pg_machine.specs.MachineStep.known_told ns n k ≡ told.Access a → ⊥
-        known_never Rattle.pg_ir.specs.declared.known.Known.TheVariants.Malloc a e = cc
+        known_never : (k : Known) (a : Access) → known_told ns n k ≡ told.Access a → ⊥
+        known_never known.Malloc a e = cc
         known_never k a e = cc
 
         never : (o : Op) (a : Access) → op_told ns n o ≡ told.Access a → ⊥
-        never (Rattle.pg_ir.specs.declared.instr.Op.TheVariants.CallKnown k args) a e = known_never k a e
+        never (op.CallKnown k args) a e = known_never k a e
         never o a e = cc
     go (told.Event a) e = absurd (never o a e)
       where
-        known_never : (k : Rattle.pg_ir.specs.declared.known.Known.Known) (a : Event) → Rattle.pg_machine.specs.MachineStep.known_told ns n k ≡ told.Event a → ⊥
-        known_never Rattle.pg_ir.specs.declared.known.Known.TheVariants.Malloc a e = cc
+        known_never : (k : Known) (a : Event) → known_told ns n k ≡ told.Event a → ⊥
+        known_never known.Malloc a e = cc
         known_never k a e = cc
 
         never : (o : Op) (a : Event) → op_told ns n o ≡ told.Event a → ⊥
-        never (Rattle.pg_ir.specs.declared.instr.Op.TheVariants.CallKnown k args) a e = known_never k a e
+        never (op.CallKnown k args) a e = known_never k a e
         never o a e = cc
 
 told_by : (gated : List InstrId) (p : NumberedProgram) (s z : State) (t : ℕ) (x : Step) (a : Answered) → settled gated p s t a ≡ Did x z → (n : ℕ) × (x ≡ step_told gated p s t n)
@@ -193,8 +194,8 @@ module _ (gated : List InstrId) (p : NumberedProgram) (input : List ℤ) (s z : 
   unfolding effect effect_of
   locals_here a e =
       ap (λ (w : State). w.locals) effect_here
-      ∙ ap (λ (b : Action). Rattle.pg_effects.specs.Effect.local_set t (Rattle.pg_effects.specs.Effect.own_after p (answer_to input s t b) (slice_get s.locals t)) (asked p s t b)) e
-      ∙ ap (λ (o : Option LocalState). Rattle.pg_effects.specs.Effect.local_set t (Rattle.pg_effects.specs.Effect.own_after p (answer_to input s t a) o) (asked p s t a)) is_local
+      ∙ ap (λ (b : Action). local_set t (own_after p (answer_to input s t b) (slice_get s.locals t)) (asked p s t b)) e
+      ∙ ap (λ (o : Option LocalState). local_set t (own_after p (answer_to input s t a) o) (asked p s t a)) is_local
 
   kind_here : (a : Action) → next_of p s t ≡ a → x.kind ≡ kind_told gated p s t (operands_in p (slice_get s.locals t)) told_here.0 (number_in p (slice_get s.locals t) told_here.0) a
   kind_here a e = ap (λ (y : Step). y.kind) told_here.1 ∙ ap (λ (b : Action). kind_told gated p s t (operands_in p (slice_get s.locals t)) told_here.0 (number_in p (slice_get s.locals t) told_here.0) b) e
@@ -262,7 +263,7 @@ module _ (gated : List InstrId) (p : NumberedProgram) (input : List ℤ) (s z : 
       object = object_of t (length s.sync.threads) r;
       operands = operands_in p (slice_get s.locals t);
       reply = number_in p (slice_get s.locals t) told_here.0;
-      write = Rattle.pg_machine.specs.MachineStep.write_told s (operands_in p (slice_get s.locals t)) r;
+      write = write_told s (operands_in p (slice_get s.locals t)) r;
     };
     is = kind_here (actions.Event r) (next_here ∙ e);
     kind = refl;
@@ -344,7 +345,7 @@ module _ (gated : List InstrId) (p : NumberedProgram) (input : List ℤ) (s z : 
   start_frames false [] e q lt k = absurd (omega arith)
   start_frames false (f ∷ fs) e q lt k = ap (λ (b : Bool). frames_action p l b l.frames) e ∙ ap (frames_action p l false) q
 
-  on_top_length : (g : Frame → Frame) (fs : List Frame) → length (Rattle.pg_step.specs.Step.on_top g fs) ≡ length fs
+  on_top_length : (g : Frame → Frame) (fs : List Frame) → length (on_top g fs) ≡ length fs
   on_top_length g [] = refl
   on_top_length g (f ∷ fs) = refl
 

@@ -1,10 +1,8 @@
 -- The top frame of an instance, whichever it is.
-use Rattle.std.proofs.Common.{◌≡◌, ℕ, Bool, true, false, List, [], ◌∷◌, Option, Some, None, refl, sym, ap, ◌∙◌, subst, inl, inr, ◌⊎◌}
-use Rattle.std.specs.Prelude.{slice_get}
-use Rattle.pg_ir.specs.Program.{NumberedProgram}
+use Rattle.std.proofs.Common.{◌≡◌, ℕ, true, false, List, ◌∷◌, Option, Some, sym, ap, ◌∙◌, subst, inl, inr, ◌⊎◌}
 use Rattle.pg_step.specs.LocalState.{Frame}
 use Rattle.pg_step.specs.Step.{moved}
-use Rattle.pg_instances.specs.Inside.{Instance, QuietSet, IsQuietSet, StandsIn, IsBottom, IsAbove, Stands, Waits, HasJoined, region_set}
+use Rattle.pg_instances.specs.Inside.{Instance, QuietSet, IsQuietSet, StandsIn, Stands, Waits, HasJoined, region_set}
 use Rattle.pg_instances.proofs.Edges.{edge_joins}
 
 -- the branch's frame at the join, on the lower frames

@@ -1,14 +1,12 @@
 -- Which numbers have paths: the values of roots, what a getelementptr moves, what a load reads, and an argument in a callee.
-use Rattle.std.proofs.Common.{◌≡◌, ℕ, ◌+◌, ◌≤◌, ◌<◌, zero, suc, Bool, true, false, List, [], ◌∷◌, ◌++◌, length, Option, Some, None, Result, Ok, Err, pos, refl, sym, ap, ◌∙◌, subst, arith, inl, inr, ◌⊎◌}
-use Rattle.std.specs.Prelude.{Contains, option_map, option_and_then, slice_get, map}
-use Rattle.std.proofs.lemmas.List.Elements.{Contains-append_left, Contains-append_right, Contains-append_cases}
+use Rattle.std.proofs.Common.{◌≡◌, ℕ, Bool, List, [], ◌∷◌, ◌++◌, Option, Some, None, Result, Ok, Err, pos, refl, sym, ap, ◌∙◌, subst, arith, inl, inr, ◌⊎◌}
+use Rattle.std.specs.Prelude.{Contains, option_and_then, map}
+use Rattle.std.proofs.lemmas.List.Elements.{Contains-append_left, Contains-append_right}
 use Rattle.pg_num.specs.Places.{ByteRange}
 use Rattle.pg_num.specs.Pointers.{moved_by, place_of}
 use Rattle.pg_num.specs.declared.places.PlaceFault.{PlaceFault}
 use Rattle.pg_num.proofs.Moves.{moved_by-zero}
-use Rattle.pg_ir.specs.declared.function.GlobalInfo.{GlobalInfo}
 use Rattle.pg_ir.specs.declared.value.Value.{Value}
-use Rattle.pg_ir.specs.declared.value.Value.TheVariants as value
 use Rattle.pg_ir.specs.declared.value.Index.{Index}
 use Rattle.pg_ir.specs.Program.{NumberedProgram}
 use Rattle.pg_paths.specs.declared.path.Root.{Root}
@@ -18,16 +16,16 @@ use Rattle.pg_paths.specs.declared.path.Loads.TheVariants.{Never, Once, Twice, T
 use Rattle.pg_paths.specs.declared.path.RootPath.{RootPath}
 use Rattle.pg_paths.specs.declared.path.Path.{Path}
 use Rattle.pg_paths.specs.Paths.{offsets_of, one_more, each_more, appended, moved_offset, shifted, rooted, path_with, loaded_at, loaded, root_path_with, loads_behind, composed, root_path_of}
-use Rattle.pg_paths.specs.Registers.{moved, value_path}
+use Rattle.pg_paths.specs.Registers.{moved}
 use Rattle.pg_paths.specs.Followed as followed
 use Rattle.pg_paths.specs.Followed.{Followed, followed_from, cell_at, cell_in, root_value}
 use Rattle.pg_accesses.specs.declared.rooted.Rooted.{Rooted}
-use Rattle.pg_accesses.proofs.Elements.{here, there, only_here, cases}
-use Rattle.pg_step.specs.Operands.{operand, number_at, flat, pointer_to}
+use Rattle.pg_accesses.proofs.Elements.{here, there, cases}
+use Rattle.pg_step.specs.Operands.{number_at}
 use Rattle.pg_step.specs.Compute.{moved_along}
 use Rattle.pg_closed.specs.Freeable.{FreeAccess, frame_of}
 use Rattle.pg_instances.specs.Leads.{IsLoaded, IsReached, IsWithin, Leads, IsMoved, HasPath, KeepsCells}
-use Rattle.pg_instances.proofs.Moves.{frame_moved, moved_moved, moved_twice}
+use Rattle.pg_instances.proofs.Moves.{frame_moved, moved_twice}
 use Rattle.pg_instances.proofs.Paths.{within_memory, within_frame, some_bytes, same_frame, gep_moved, FollowsBoth, follows_both, LoadsFirst, loads_first, loads_again}
 
 -- ---- offsets
@@ -175,6 +173,16 @@ module _ (p : NumberedProgram) (registers : ℕ → Option ℕ) (memory : ByteRa
             last = reached w (same_frame l.at.last q.added w (h.value l.at f l.loads));
           }
 
+      -- from the pointers that follow the argument's path
+      finish : (k : ℕ) (ks : List ℕ) (ls : Loads) → a.path.loads ≡ ls → offsets_of ls ≡ k ∷ ks → (second : Followed) → ((x : ℕ) → Contains second.pointers x → IsLoaded xs (frame_of x)) → l.at.last ≡ second.last →
+          (g : Followed) → followed_from memory w (k ∷ ks) ≡ Some g → ((x : ℕ) → Contains g.pointers x → (y : ℕ) × Contains second.pointers y × (frame_of y ≡ frame_of x)) → g.last ≡ second.last → Leads p params memory xs a
+      finish k ks ls t s second loaded e g is each same = record {
+        at = g;
+        is = follows g ls t (ap (followed_from memory w) s ∙ is);
+        loads = λ z c. let y = each z c in subst (λ (n : ByteRange). IsLoaded xs n) y.2 (loaded y.0 y.1);
+        last = reached g.last (ap frame_of (same ∙ sym e));
+      }
+
       -- a first load in the callee
       some : (k : ℕ) (ks : List ℕ) (ls : Loads) → a.path.loads ≡ ls → offsets_of ls ≡ k ∷ ks → (j : ℕ) → offsets_of (shifted j ls) ≡ moved_offset j k ∷ ks → q.added ≡ Some j → (o : Option Loads) → appended q.loads (shifted j ls) ≡ o → root_path_with q.root o ≡ Some b.path → Leads p params memory xs a
       some k ks ls t s j s' u None v x = absurd cc
@@ -188,12 +196,7 @@ module _ (p : NumberedProgram) (registers : ℕ → Option ℕ) (memory : ByteRa
           let in_first : Recorded d.first = λ z c. l.loads z (subst (λ (n : List ℕ). Contains n z) (sym d.pointers) (Contains-append_left d.first.pointers d.second.pointers z c)) in
           let word : w ≡ moved_by d.first.last (pos j) = subst (λ (z : Option ℕ). IsMoved d.first.last z w) u (h.value d.first first in_first) in
           let g = moved_loads d.first.last j k ks w d.second word d.is_second in
-          record {
-            at = g.0;
-            is = follows g.0 ls t (ap (followed_from memory w) s ∙ g.1);
-            loads = λ z c. let y' = g.2 z c in subst (λ (n : ByteRange). IsLoaded xs n) y'.2 (l.loads y'.0 (subst (λ (n : List ℕ). Contains n y'.0) (sym d.pointers) (Contains-append_right d.first.pointers d.second.pointers y'.0 y'.1)));
-            last = reached g.0.last (ap frame_of (g.3 ∙ sym d.last));
-          }
+          finish k ks ls t s d.second (λ z c. l.loads z (subst (λ (n : List ℕ). Contains n z) (sym d.pointers) (Contains-append_right d.first.pointers d.second.pointers z c))) d.last g.0 g.1 g.2 g.3
 
       by_added : (k : ℕ) (ks : List ℕ) (ls : Loads) → a.path.loads ≡ ls → offsets_of ls ≡ k ∷ ks → ((j : ℕ) → offsets_of (shifted j ls) ≡ moved_offset j k ∷ ks) → ((o : Option ℕ) → o ≡ None → loads_behind q.loads o ls ≡ None) → ((j : ℕ) → loads_behind q.loads (Some j) ls ≡ appended q.loads (shifted j ls)) → (o : Option ℕ) → q.added ≡ o → root_path_with q.root (loads_behind q.loads o ls) ≡ Some b.path → Leads p params memory xs a
       by_added k ks ls t s s' none more None u v = absurd (let z = none None refl in let y : root_path_with q.root None ≡ Some b.path = subst (λ (o : Option Loads). root_path_with q.root o ≡ Some b.path) z v in cc)

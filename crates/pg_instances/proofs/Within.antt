@@ -1,6 +1,6 @@
 -- A freeable branch step inside: its region's accesses lead to frames of the outer region's.
-use Rattle.std.proofs.Common.{◌≡◌, ℕ, zero, suc, ◌+◌, ◌<◌, ◌≤◌, Bool, true, false, cond, List, [], ◌∷◌, ◌++◌, length, Option, Some, None, Result, Ok, Err, pos, refl, sym, ap, ◌∙◌, subst, arith, inl, inr, ◌⊎◌}
-use Rattle.std.specs.Prelude.{Contains, slice_get, option_and_then}
+use Rattle.std.proofs.Common.{◌≡◌, ℕ, ◌+◌, Bool, false, List, [], ◌∷◌, ◌++◌, Option, Some, Result, Ok, Err, pos, refl, sym, ap, ◌∙◌, subst, arith, inl, inr, ◌⊎◌}
+use Rattle.std.specs.Prelude.{Contains}
 use Rattle.std.proofs.lemmas.List.Elements.{Contains-append_cases}
 use Rattle.pg_num.specs.Places.{ByteRange}
 use Rattle.pg_num.specs.Pointers.{moved_by, place_of}
@@ -15,20 +15,19 @@ use Rattle.pg_ir.specs.WellFormed.{IsProgram}
 use Rattle.pg_paths.specs.declared.path.Path.{Path}
 use Rattle.pg_paths.specs.declared.path.Root.{Root}
 use Rattle.pg_paths.specs.declared.path.Root.TheVariants as root
-use Rattle.pg_paths.specs.declared.path.RootPath.{RootPath}
 use Rattle.pg_paths.specs.Followed as followed
 use Rattle.pg_paths.specs.Followed.{Followed, cell_at, cell_in, followed_from, root_value}
 use Rattle.pg_paths.specs.Paths.{offsets_of}
 use Rattle.pg_paths.specs.Registers.{register_path}
 use Rattle.pg_accesses.specs.declared.rooted.Rooted.{Rooted}
-use Rattle.pg_accesses.specs.Accesses.{RootedList, both, gathered, op_accesses, accesses_from, block_accesses, sets, set_accesses}
+use Rattle.pg_accesses.specs.Accesses.{RootedList, gathered, op_accesses, accesses_from, block_accesses, sets, set_accesses}
 use Rattle.pg_accesses.specs.Laws.{IsOutside}
 use Rattle.pg_accesses.proofs.Elements.{here, there, none_in}
 use Rattle.pg_accesses.proofs.Fewer.{same_part}
 use Rattle.pg_accesses.proofs.Passes.{parts, set_outside}
 use Rattle.pg_quiet.proofs.Ranges.{has_block}
 use Rattle.pg_region.specs.declared.region.Region.{Region}
-use Rattle.pg_region.specs.Regions.{flow_of, IsJoin}
+use Rattle.pg_region.specs.Regions.{IsJoin}
 use Rattle.pg_step.specs.LocalState.{Frame}
 use Rattle.pg_closed.specs.Freeable.{FreeAccess, frame_of}
 use Rattle.pg_instances.specs.Leads.{IsLoaded, IsReached, IsWithin, Leads, KeepsCells}
@@ -38,6 +37,7 @@ use Rattle.pg_instances.proofs.Moves.{frame_moved}
 use Rattle.pg_instances.proofs.Paths.{within_memory, within_frame, some_bytes, LoadsFirst, loads_first, loads_again}
 use Rattle.pg_instances.proofs.Places.{gathered_part}
 use Rattle.pg_instances.proofs.Values.{follows_root, root_follows}
+use Rattle.pg_quiet.specs.Blocks.{blocks_of}
 
 -- ---- where an access of a list comes from
 
@@ -126,5 +126,5 @@ inner_reached I a f now small some x at q s keeps e h c g =
     subst (λ (z : ℕ). IsReached I.recorded x.writes (frame_of z)) (sym m.2 ∙ ap (λ (z : Followed). z.last) same) l.last
 
 -- the blocks before a join stand in the function of the branch
-pub region_function : (p : NumberedProgram) (gated : ℕ → Bool) (sums : ℕ → Option RootedList) (c : ℕ) (r : Region) → IsProgram p → IsJoin p gated sums c r.join r.blocks.items r.accesses.items → (b : ℕ) → Contains r.blocks.items b → Contains (Rattle.pg_quiet.specs.Blocks.blocks_of p (function_of p c)) b
+pub region_function : (p : NumberedProgram) (gated : ℕ → Bool) (sums : ℕ → Option RootedList) (c : ℕ) (r : Region) → IsProgram p → IsJoin p gated sums c r.join r.blocks.items r.accesses.items → (b : ℕ) → Contains r.blocks.items b → Contains (blocks_of p (function_of p c)) b
 region_function p gated sums c r program j b m = let w = walk_fits p r.join c b program ((j.before.exact b).0 m) in has_block p (function_of p c) b w.0 w.1

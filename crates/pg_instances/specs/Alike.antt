@@ -1,5 +1,5 @@
 -- States in which a region's paths lead where they were recorded to lead.
-use Rattle.std.specs.Prelude.{◌≡◌, ℕ, ◌<◌, List, ◌∷◌, length, map, Bool, true, false, Option, Some, Contains, slice_get}
+use Rattle.std.specs.Prelude.{◌≡◌, ℕ, List, ◌∷◌, map, Bool, true, false, Option, Some, Contains, slice_get}
 use Rattle.std.specs.List.{list_any}
 use Rattle.pg_num.specs.Places.{ByteRange}
 use Rattle.pg_mem.specs.Memory.{read}

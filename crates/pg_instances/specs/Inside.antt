@@ -1,5 +1,5 @@
 -- A thread within an instance of a region, which began at a branch step: its calls on top of those below the branch's frame.
-use Rattle.std.specs.Prelude.{◌≡◌, ℕ, zero, suc, ◌+◌, ◌<◌, ◌||◌, ◌⊎◌, List, [], ◌∷◌, length, Bool, true, false, Option, Some, None, Contains, slice_get}
+use Rattle.std.specs.Prelude.{◌≡◌, ℕ, zero, suc, ◌+◌, ◌<◌, ◌||◌, ◌⊎◌, List, [], ◌∷◌, Bool, true, false, Option, Some, None, Contains, slice_get}
 use Rattle.std.specs.List.{list_any}
 use Rattle.pg_num.specs.Places.{ByteRange}
 use Rattle.pg_trace.specs.Races.{share}
@@ -23,7 +23,7 @@ use Rattle.pg_step.specs.Step.{top_registers, under_top}
 use Rattle.pg_step.specs.Told.{id_of}
 use Rattle.pg_step.specs.States.{Calls}
 use Rattle.pg_closed.specs.Freeable.{FreeAccess}
-use Rattle.pg_instances.specs.Leads.{IsLoaded, IsReached, Leads, HasPath, KeepsCells}
+use Rattle.pg_instances.specs.Leads.{IsLoaded, IsReached, Leads, HasPath}
 
 -- ---- instances
 

@@ -1,7 +1,6 @@
 -- What a step of a thread inside an instance does.
 use Rattle.std.specs.Prelude.{◌≡◌, ℕ, ◌⊎◌, ℤ, List, [], ◌∷◌, true, false, Some, slice_get}
 use Rattle.std.specs.List.{AllByRecursion}
-use Rattle.pg_num.specs.Places.{ByteRange}
 use Rattle.pg_mem.specs.Memory.{read}
 use Rattle.pg_ir.specs.declared.ids.InstrId.{InstrId}
 use Rattle.pg_step.specs.LocalState.{LocalState}
