@@ -4,11 +4,13 @@ pub mod Along
 pub mod Branches
 pub mod Calls
 pub mod Computing
+pub mod Counted
 pub mod Dispatch
 pub mod Ends
 pub mod EventCells
 pub mod EventKinds
 pub mod Events
+pub mod Follow
 pub mod Good
 pub mod Here
 pub mod Inner
