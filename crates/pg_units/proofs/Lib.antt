@@ -10,7 +10,6 @@ pub mod Ends
 pub mod EventCells
 pub mod EventKinds
 pub mod Events
-pub mod Follow
 pub mod Good
 pub mod Here
 pub mod Inner
@@ -18,6 +17,7 @@ pub mod Known
 pub mod Likes
 pub mod Loads
 pub mod Members
+pub mod Obeying
 pub mod Opened
 pub mod Ordered
 pub mod Placed
