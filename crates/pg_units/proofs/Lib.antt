@@ -4,6 +4,7 @@ pub mod Along
 pub mod Branches
 pub mod Calls
 pub mod Computing
+pub mod Counted
 pub mod Dispatch
 pub mod Ends
 pub mod EventCells
@@ -16,6 +17,7 @@ pub mod Known
 pub mod Likes
 pub mod Loads
 pub mod Members
+pub mod Obeying
 pub mod Opened
 pub mod Ordered
 pub mod Placed

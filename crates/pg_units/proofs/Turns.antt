@@ -41,7 +41,7 @@ module _ (r : ReferenceRun) (d : Taken) where
 
   -- ---- units
 
-  deed_event : (u : PlanUnit) → deeds.is_event (deed_of d u) ≡ is_event_at u.seen
+  pub deed_event : (u : PlanUnit) → deeds.is_event (deed_of d u) ≡ is_event_at u.seen
   deed_event u = is_some_if (is_event_at u.seen) u.objects
 
   unit_turns : (T : List ℕ) (k : ℕ) (last : State) (counts : ℕ → ℕ) (ms : List Met) → AreTimed T k ms → AreTurns deeds T k (map (deed_of d) (units_from r d last counts ms))

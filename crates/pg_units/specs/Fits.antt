@@ -1,13 +1,14 @@
 -- What a step of a run on an input needs to fit a unit of the plan.
-use Rattle.std.specs.Prelude.{◌≡◌, ℕ, ℤ, List, [], ◌∷◌, true, Some, slice_get}
+use Rattle.std.specs.Prelude.{◌≡◌, ℕ, ℤ, List, [], ◌∷◌, ◌++◌, map, true, false, Some, slice_get}
 use Rattle.std.specs.List.{AllByRecursion}
+use Rattle.pg_plans.specs.Effects.{effects}
 use Rattle.pg_step.specs.LocalState.{fresh}
 use Rattle.pg_effects.specs.Views.{local_at, objects_of}
 use Rattle.pg_closed.specs.Known.{Taken, fresh_registers, thread_of}
 use Rattle.pg_closed.specs.Moments.{thread_in}
 use Rattle.pg_units.specs.Likes.{IsCellLike, IsThreadLike, PlanThread}
 use Rattle.pg_units.specs.Moves.{RunState}
-use Rattle.pg_units.specs.Units.{PlanUnit, ReferenceRun, cell_known, is_event_at, reads_cell, standing_of, units_of}
+use Rattle.pg_units.specs.Units.{PlanUnit, ReferenceRun, cell_known, deed_of, is_event_at, is_instance, plan_start, reads_cell, standing_of, units_of}
 
 -- the thread of a unit before it
 abbrev pub thread_before : PlanUnit → PlanThread
@@ -23,3 +24,18 @@ pub record IsAlikeFor (input : List ℤ) (d : Taken) (u : PlanUnit) (a : RunStat
 abbrev pub StartsAreFresh : ReferenceRun → Taken → Type 0
 StartsAreFresh r d = AllByRecursion (λ (u : PlanUnit). (f : ℕ) → slice_get u.state.locals (thread_in u.seen.moment) ≡ Some (fresh r.program (thread_in u.seen.moment) f) →
     (thread_of u.seen.before (thread_in u.seen.moment)).calls ≡ fresh_registers r.program f ∷ []) (units_of r d)
+
+-- ---- the state of a plan
+
+-- what the units before this one leave is what is known before it, and where its thread stands there
+pub record IsRemembered (r : ReferenceRun) (d : Taken) (us : List PlanUnit) (u : PlanUnit) : Type 0 where
+  pub thread : (effects (plan_start r) (map (deed_of d) us)).locals (thread_in u.seen.moment) ≡ thread_before u
+  pub cells : (c : ℕ) → (effects (plan_start r) (map (deed_of d) us)).cells c ≡ cell_known u.seen.before c
+  pub objects : (effects (plan_start r) (map (deed_of d) us)).objects ≡ objects_of u.state
+
+abbrev pub PlanRemembers : ReferenceRun → Taken → Type 0
+PlanRemembers r d = (us : List PlanUnit) (u : PlanUnit) (vs : List PlanUnit) → units_of r d ≡ us ++ u ∷ vs → IsRemembered r d us u
+
+-- each unit is a single step
+abbrev pub IsWithoutInstances : ReferenceRun → Taken → Type 0
+IsWithoutInstances r d = AllByRecursion (λ (u : PlanUnit). is_instance d u.seen ≡ false) (units_of r d)

@@ -2,4 +2,5 @@
 #![tactic(auto)]
 
 pub mod fits;
+pub mod follow;
 pub mod plan;
