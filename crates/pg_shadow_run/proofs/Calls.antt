@@ -38,6 +38,16 @@ pub with_top_are : (n : ℕ) (present new : List Source) (callers : CallList) (e
 with_top_are n present new callers true h a = tt
 with_top_are n present new callers false h a = (h a.0, a.1)
 
+-- the present call was changed, and nodes were added
+pub across : (old new : NodeList) (f : List Shadow → List Shadow) (present after : List Source) (callers : CallList) (ended : Bool) → Grew old new → AreCalls (length old) (calls_of present callers ended) → registers_by new after ≡ f (registers_by old present) →
+    calls_by new (calls_of after callers ended) ≡ with_top f (calls_by old (calls_of present callers ended))
+across old new f present after callers true g a e = refl
+across old new f present after callers false g a e = ap (λ (x : List Shadow). x ∷ calls_by new (reverse callers)) e ∙ ap (λ (cs : List (List Shadow)). f (registers_by old present) ∷ cs) (calls_kept old new (reverse callers) g a.1)
+
+pub across_are : (old new : NodeList) (present after : List Source) (callers : CallList) (ended : Bool) → Grew old new → AreCalls (length old) (calls_of present callers ended) → AreSources (length new) after → AreCalls (length new) (calls_of after callers ended)
+across_are old new present after callers true g a h = tt
+across_are old new present after callers false g a h = (h, calls_stay old new (reverse callers) g a.1)
+
 -- ---- a call that is entered or left
 
 pub pushed : (present : List Source) (callers : CallList) (ended : Bool) (fresh : List Source) (after : CallList) → 0 < length (calls_of present callers ended) → after ≡ callers ++ present ∷ [] → calls_of fresh after ended ≡ fresh ∷ calls_of present callers ended

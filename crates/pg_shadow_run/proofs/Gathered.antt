@@ -1,5 +1,5 @@
 -- Lists that are gathered one after another, and what the operands of an operation need.
-use Rattle.std.proofs.Common.{◌≡◌, ℕ, zero, suc, ◌+◌, ◌<◌, ◌≤◌, List, [], ◌∷◌, ◌++◌, length, map, drop, Bool, true, false, Option, Some, None, IsTrue, slice_index_or, arith, refl, ap, sym, ◌∙◌, append_assoc}
+use Rattle.std.proofs.Common.{◌≡◌, ℕ, zero, suc, ◌+◌, ◌<◌, ◌≤◌, List, [], ◌∷◌, ◌++◌, length, map, drop, Bool, true, false, Option, Some, None, IsTrue, slice_get, slice_index_or, arith, refl, ap, sym, ◌∙◌, append_assoc}
 use Rattle.std.specs.Prelude.{◌==◌, if◌then◌else◌}
 use Rattle.std.specs.List.{AllByRecursion}
 use Rattle.pg_ir.specs.declared.edge.Incoming.{Incoming}
@@ -79,3 +79,8 @@ incoming_reads p n from (i ∷ is) h = go (i.block.0 == from) (incoming_reads p 
     go : (t : Bool) → CanReadReturned p n (incoming_from is from) → CanReadReturned p n (if t then Some i.value else incoming_from is from)
     go true more = h.0
     go false more = more
+
+pub argument_reads : (p : NumberedProgram) (n : ℕ) (args : List Value) (k : ℕ) → AllByRecursion (CanRead p n) args → CanReadReturned p n (slice_get args k)
+argument_reads p n [] k a = tt
+argument_reads p n (v ∷ args) zero a = a.0
+argument_reads p n (v ∷ args) (suc k) a = argument_reads p n args k a.1

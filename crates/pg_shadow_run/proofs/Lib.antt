@@ -2,3 +2,4 @@ pub mod Kept
 pub mod Sets
 pub mod Gathered
 pub mod Calls
+pub mod Given

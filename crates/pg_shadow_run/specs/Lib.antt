@@ -1,1 +1,3 @@
 pub mod Sourced
+pub mod Steps
+pub mod Events

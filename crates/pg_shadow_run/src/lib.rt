@@ -4,8 +4,12 @@
 mod call;
 mod edges;
 mod entered;
+mod given;
 mod operands;
 mod registers;
+mod step;
+mod steps;
 mod thread;
 
+pub use step::OpStep;
 pub use thread::ThreadSources;
