@@ -2,4 +2,5 @@ pub mod Kept
 pub mod Sets
 pub mod Gathered
 pub mod Calls
-pub mod Given
+pub mod Gives
+pub mod Happens

@@ -22,7 +22,7 @@ pub record IsStepAt (p : NumberedProgram) (x : Instr) (s : OpStep) (sets : List 
   pub edge : edge_in p m (Some x) ≡ s.edge
   pub target : caller_target p m.calls ≡ s.target
   pub freed : is_some region ≡ s.freed
-  pub sets : IfSome region (λ r. (k : ℕ) → r.sets k ≡ marked sets k)
+  pub marks : IfSome region (λ r. (k : ℕ) → r.sets k ≡ marked sets k)
 
 -- ---- instructions that at most set their register
 

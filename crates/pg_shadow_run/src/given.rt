@@ -19,7 +19,7 @@ use pg_sources::{Source, constant, from_input, input_length, low_byte};
 use std::alloc::{AllocError, Global};
 
 /// An argument of a call, by the registers of its frame; where there is none, one that was never set.
-#[tactic(auto, using(crate::proofs::Given::argument_is, crate::proofs::Gathered::argument_reads))]
+#[tactic(auto, using(crate::proofs::Gives::argument_is, crate::proofs::Gathered::argument_reads))]
 fn argument(
     nodes: &mut Nodes,
     p: &Program,

@@ -4,12 +4,15 @@
 mod call;
 mod edges;
 mod entered;
+mod events;
 mod given;
 mod operands;
 mod registers;
 mod step;
 mod steps;
 mod thread;
+mod words;
 
 pub use step::OpStep;
 pub use thread::ThreadSources;
+pub use words::words_after;

@@ -23,7 +23,7 @@ impl ThreadSources {
     ghost use Rattle.pg_shadow_run.specs.Steps.{CallsWithin, IsStepAt, branched, given_shadow, is_plain, is_straight, set_given};
 
     /// Gives a register of the present call what an instruction gives, if there is a register and something is given.
-    #[tactic(auto, using(crate::proofs::Given::nothing_given))]
+    #[tactic(auto, using(crate::proofs::Gives::nothing_given))]
     fn set_given(&mut self, target: Option<u32>, s: Option<Source>)
         ensures value { (ns : NodeList) → calls_by ns self.new ≡ with_top (set_given target (option_map (shadow_by ns) s)) (calls_by ns self.old) }
         ensures is { (n : ℕ) → AreCalls n self.old → IfSome s (IsSource n) → AreCalls n self.new }
@@ -133,7 +133,8 @@ impl ThreadSources {
     {
         match &x.op {
             Op::Br { .. } => self.along_edge(alloc, nodes, p, x.block, step.edge),
-            Op::CondBr { .. } | Op::Switch { .. } => self.branch(alloc, nodes, p, x, step, sets),
+            Op::CondBr { .. } => self.branch(alloc, nodes, p, x, step, sets),
+            Op::Switch { .. } => self.branch(alloc, nodes, p, x, step, sets),
             Op::Call { function, args } => self.enter(alloc, nodes, p, *function, args.as_slice()),
             Op::Ret { value } => self.give_back(nodes, p, *value, step.target),
             _ => self.straight(alloc, nodes, p, x, step.word),

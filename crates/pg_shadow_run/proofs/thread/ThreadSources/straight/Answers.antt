@@ -8,8 +8,8 @@ use Rattle.pg_sources.specs.Sources.{shadow_by}
 use Rattle.pg_shadow_run.specs.Sourced.{AreSources, calls_by, registers_by}
 use Rattle.pg_shadow_run.specs.Steps.{given_shadow, set_given}
 use Rattle.pg_shadow_run.proofs.Calls.{calls_kept, calls_stay, top_are, top_by}
-use Rattle.pg_shadow_run.proofs.Given.{at_top}
-use Rattle.pg_shadow_run.proofs.steps.ThreadSources.straight.Goals as goal
+use Rattle.pg_shadow_run.proofs.Gives.{at_top}
+use Rattle.pg_shadow_run.proofs.thread.ThreadSources.straight.Goals as goal
 
 pub given-requires-clause-read : goal.given-requires-clause-read
 given-requires-clause-read c = subst (λ (l : List Source). CanReadAll c.args.p.now (length l) c.args.x.now.op) (sym c.registers.ensures) c.requires.read

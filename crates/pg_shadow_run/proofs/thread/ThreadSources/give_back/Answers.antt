@@ -5,7 +5,7 @@ use Rattle.pg_closed.specs.Known.{optional_shadow, set_shadow, top_of, under_top
 use Rattle.pg_sources.specs.declared.source.Source.{Source}
 use Rattle.pg_shadow_run.specs.Sourced.{AreSources, calls_by, registers_by}
 use Rattle.pg_shadow_run.proofs.Calls.{calls_kept, calls_stay, top_are, top_by}
-use Rattle.pg_shadow_run.proofs.steps.ThreadSources.give_back.Goals as goal
+use Rattle.pg_shadow_run.proofs.thread.ThreadSources.give_back.Goals as goal
 
 pub optional-requires-clause-read : goal.optional-requires-clause-read
 optional-requires-clause-read c = subst (λ (l : List Source). CanReadReturned c.args.p.now (length l) c.args.v) (sym c.registers.ensures) c.requires.read

@@ -60,7 +60,7 @@ same_forgotten i f g x rs h = ap (λ (s : ℕ → Bool). forgotten_from i s x rs
 
 -- the registers that a region may set are those that the table marks
 pub branch_is : (p : NumberedProgram) (x : Instr) (s : OpStep) (sets : List Bool) (m : Moment) (region : Option FreeRegion) (rs : List Shadow) → IsStepAt p x s sets m region → branched p s sets x.block.0 rs ≡ after_branch p s.pinned s.number x (edge_in p m (Some x)) region rs
-branch_is p x s sets m region rs h = go s.freed s.pinned region h.freed h.sets
+branch_is p x s sets m region rs h = go s.freed s.pinned region h.freed h.marks
   where
     e : along_edge p x.block.0 s.edge rs ≡ along_edge p x.block.0 (edge_in p m (Some x)) rs
     e = ap (λ (o : Option ℕ). along_edge p x.block.0 o rs) (sym h.edge)

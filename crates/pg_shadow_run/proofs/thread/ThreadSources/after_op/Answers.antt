@@ -1,0 +1,19 @@
+use Rattle.std.proofs.Common.{◌≡◌, ◌∷◌, List, map, ap, ◌∙◌, sym}
+use Rattle.std.proofs.lemmas.Result.{on_ok_weaker}
+use Rattle.pg_ir.specs.declared.value.Value.{Value}
+use Rattle.pg_ir.specs.declared.instr.Op.TheVariants as op
+use Rattle.pg_shadow_run.specs.Sourced.{calls_by}
+use Rattle.pg_shadow_run.proofs.Gives.{br_is, call_is, ret_is}
+use Rattle.pg_shadow_run.proofs.thread.ThreadSources.after_op.Goals as goal
+
+pub returns-in-Br-clause-value : goal.returns-in-Br-clause-value
+returns-in-Br-clause-value c m region h =
+    on_ok_weaker c.along_edge.result (λ e. e ∙ br_is c.args.p.now c.args.x.now c.args.step c.args.sets.now m region h (calls_by c.args.nodes.now c.args.self.now) c.in-Br.to c.in-Br.is) c.along_edge.ensures.value
+
+pub returns-in-Call-clause-value : goal.returns-in-Call-clause-value
+returns-in-Call-clause-value c m region h =
+    on_ok_weaker c.enter.result (λ e. e ∙ call_is c.args.p.now c.args.x.now c.args.step c.args.sets.now m region h (calls_by c.args.nodes.now c.args.self.now) c.in-Call.function c.as_slice.result.now (c.in-Call.is ∙ ap (λ (l : List Value). op.Call c.in-Call.function l) (sym c.as_slice.ensures))) c.enter.ensures.value
+
+pub returns-in-Ret-clause-value : goal.returns-in-Ret-clause-value
+returns-in-Ret-clause-value c m region h =
+    on_ok_weaker c.give_back.result (λ e. e ∙ ret_is c.args.p.now c.args.x.now c.args.step c.args.sets.now m region h (calls_by c.args.nodes.now c.args.self.now) c.in-Ret.value c.in-Ret.is) c.give_back.ensures.value
