@@ -4,3 +4,4 @@ pub mod Gathered
 pub mod Calls
 pub mod Gives
 pub mod Happens
+pub mod Threading

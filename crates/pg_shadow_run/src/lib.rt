@@ -11,8 +11,10 @@ mod registers;
 mod step;
 mod steps;
 mod thread;
+mod threads;
 mod words;
 
 pub use step::OpStep;
 pub use thread::ThreadSources;
+pub use threads::create;
 pub use words::words_after;

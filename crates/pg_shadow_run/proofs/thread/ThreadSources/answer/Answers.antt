@@ -9,7 +9,7 @@ use Rattle.pg_shadow_run.proofs.thread.ThreadSources.answer.Goals as goal
 pub returns-clause-is : goal.returns-clause-is
 returns-clause-is c =
     let new = c.constant.new.nodes in
-    c.set.ensures.is (length new) (calls_stay c.args.nodes.now new c.args.self.now c.constant.ensures.grew c.requires) c.in_ok-s.ensures.is
+    c.set.ensures.is (length new) (calls_stay c.args.nodes.now new c.args.self.now c.constant.ensures.grew c.requires.sources) c.in_ok-s.ensures.is
 
 pub returns-clause-value : goal.returns-clause-value
 returns-clause-value c =
@@ -17,5 +17,5 @@ returns-clause-value c =
     let new = c.constant.new.nodes in
     let calls = c.args.self.now in
     c.set.ensures.value new
-    ∙ ap (with_top (set_shadow c.args.target (shadow_by new c.in_ok-s.s))) (calls_kept old new calls c.constant.ensures.grew c.requires)
+    ∙ ap (with_top (set_shadow c.args.target (shadow_by new c.in_ok-s.s))) (calls_kept old new calls c.constant.ensures.grew c.requires.sources)
     ∙ ap (λ (x : Shadow). with_top (set_shadow c.args.target x) (calls_by old calls)) c.in_ok-s.ensures.value
