@@ -1,14 +1,13 @@
 -- The calls of a thread, of which one is entered, left or changed.
-use Rattle.std.proofs.Common.{◌≡◌, ℕ, zero, suc, ◌+◌, ◌<◌, ◌≤◌, List, [], ◌∷◌, ◌++◌, length, map, replicate, reverse, Bool, true, false, arith, refl, ap, sym, ◌∙◌, subst}
-use Rattle.std.specs.List.{AllByRecursion}
-use Rattle.std.proofs.lemmas.List.{append-nil, map-append, reverse-append}
+use Rattle.std.proofs.Common.{◌≡◌, ℕ, zero, suc, ◌<◌, List, [], ◌∷◌, ◌++◌, length, replicate, reverse, Bool, true, false, arith, refl, ap, sym, ◌∙◌}
+use Rattle.std.proofs.lemmas.List.{reverse-append}
 use Rattle.pg_nodes.specs.Nodes.{NodeList}
 use Rattle.pg_closed.specs.Shadows.{Shadow}
 use Rattle.pg_closed.specs.Known.{top_of, under_top, with_top}
 use Rattle.pg_sources.specs.declared.source.Source.{Source}
 use Rattle.pg_sources.specs.Sources.{Grew, IsSource, shadow_by}
 use Rattle.pg_shadow_run.specs.Sourced.{AreCalls, AreSources, CallList, calls_by, calls_of, registers_by, top_sources, under_sources}
-use Rattle.pg_shadow_run.proofs.Kept.{registers_kept, sources_up, sources_kept}
+use Rattle.pg_shadow_run.proofs.Kept.{registers_kept, sources_kept}
 
 -- ---- while nodes are added
 

@@ -20,7 +20,7 @@ use Rattle.pg_closed.specs.declared.decision.Decision.TheVariants.{Pinned}
 use Rattle.pg_closed.specs.Extents.{edge_by, edge_in}
 use Rattle.pg_closed.specs.Known.{after_branch, after_known, after_op, along_edge, entered, forgotten_from, operand_at, operand_shadows, optional_shadow, set_shadow, top_of, under_top, with_top}
 use Rattle.pg_shadow_run.specs.declared.step.OpStep.{OpStep}
-use Rattle.pg_shadow_run.specs.Sourced.{marked, result_by}
+use Rattle.pg_shadow_run.specs.Sourced.{marked}
 use Rattle.pg_shadow_run.specs.Steps.{IsStepAt, branched, given_shadow, is_straight, known_shadow, set_given}
 
 known_same : (k : KnownFunction) (target : Option ℕ) (word : ℕ) (f : List Shadow → Shadow) (calls : List (List Shadow)) → with_top (λ rs. after_known k target word (f rs) rs) calls ≡ with_top (λ rs. set_given target (known_shadow k word (f rs)) rs) calls
@@ -64,6 +64,7 @@ branch_is p x s sets m region rs h = go s.freed s.pinned region h.freed h.marks
   where
     e : along_edge p x.block.0 s.edge rs ≡ along_edge p x.block.0 (edge_in p m (Some x)) rs
     e = ap (λ (o : Option ℕ). along_edge p x.block.0 o rs) (sym h.edge)
+
     go : (f b : Bool) (r : Option FreeRegion) → is_some r ≡ f → IfSome r (λ q. (k : ℕ) → q.sets k ≡ marked sets k) →
         (if f && not b then forgotten_from 0 (marked sets) (Pinned s.number) rs else along_edge p x.block.0 s.edge rs) ≡ after_branch p b s.number x (edge_in p m (Some x)) r rs
     go false b None k l = (elim b as (λ z. (if false && not z then forgotten_from 0 (marked sets) (Pinned s.number) rs else along_edge p x.block.0 s.edge rs) ≡ after_branch p z s.number x (edge_in p m (Some x)) None rs) [ true ↦ e | false ↦ e ])

@@ -1,5 +1,5 @@
 -- Sources keep what they stand for while nodes are added.
-use Rattle.std.proofs.Common.{◌≡◌, ℕ, ◌≤◌, List, [], ◌∷◌, ◌++◌, length, map, refl, ap, ◌∙◌}
+use Rattle.std.proofs.Common.{◌≡◌, ℕ, ◌≤◌, List, [], ◌∷◌, ◌++◌, length, refl, ap, ◌∙◌}
 use Rattle.pg_nodes.specs.Nodes.{NodeList}
 use Rattle.pg_closed.specs.Shadows.{Shadow}
 use Rattle.pg_sources.specs.declared.source.Source.{Source}

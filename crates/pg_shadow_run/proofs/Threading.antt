@@ -1,6 +1,5 @@
 -- The threads of a run, one of which is made.
 use Rattle.std.proofs.Common.{◌≡◌, ℕ, List, [], ◌∷◌, ◌++◌, length, slice_index, arith, refl, ap, sym, ◌∙◌}
-use Rattle.std.specs.List.{AllByRecursion}
 use Rattle.pg_ir.specs.Program.{NumberedProgram}
 use Rattle.pg_nodes.specs.Nodes.{NodeList}
 use Rattle.pg_trace.specs.declared.step.Event.{Event}

@@ -1,5 +1,5 @@
 -- What the sources of registers and of calls stand for by a list of nodes.
-use Rattle.std.specs.Prelude.{◌≡◌, ℕ, List, [], ◌∷◌, map, reverse, Bool, true, false, slice_index_or}
+use Rattle.std.specs.Prelude.{ℕ, List, [], ◌∷◌, map, reverse, Bool, true, false, slice_index_or}
 use Rattle.std.specs.List.{AllByRecursion}
 use Rattle.pg_nodes.specs.Nodes.{NodeList}
 use Rattle.pg_ir.specs.declared.instr.Op.{Op}

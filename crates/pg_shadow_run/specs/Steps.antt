@@ -1,5 +1,5 @@
 -- What a live step does to the registers of its thread, by what is read of the run.
-use Rattle.std.specs.Prelude.{◌≡◌, ◌<◌, ◌&&◌, not, if◌then◌else◌, ℕ, List, length, Bool, true, false, Option, Some, None, IfSome, is_some}
+use Rattle.std.specs.Prelude.{◌≡◌, ◌<◌, ◌&&◌, not, if◌then◌else◌, ℕ, List, length, Bool, true, Option, Some, None, IfSome, is_some}
 use Rattle.pg_ir.specs.declared.known.Known.{Known as KnownFunction}
 use Rattle.pg_ir.specs.declared.known.Known.TheVariants as known
 use Rattle.pg_ir.specs.declared.instr.Instr.{Instr}

@@ -34,11 +34,7 @@ fn push_each(sources: &mut Vec<Source>, s: Source, count: usize) -> Result<(), A
 }
 
 /// Adds so many registers that were never set.
-fn push_unset(
-    nodes: &mut Nodes,
-    sources: &mut Vec<Source>,
-    count: usize,
-) -> Result<(), AllocError>
+fn push_unset(nodes: &mut Nodes, sources: &mut Vec<Source>, count: usize) -> Result<(), AllocError>
     requires { AreSources (length nodes.old) sources.old.items }
     ensures grew { Grew nodes.old nodes.new }
     ensures is { OnOk result (AreSources (length nodes.new) sources.new.items) }

@@ -1,7 +1,6 @@
 ghost use Rattle.std.specs.Prelude.{◌≡◌, length, map, slice_index_or, IsTrue, IfOk, IfSome};
 ghost use Rattle.std.specs.List.{AllByRecursion};
 ghost use Rattle.std.specs.Option.{option_map};
-
 ghost use Rattle.pg_ir.specs.Operands.{CanRead, CanReadAll};
 ghost use Rattle.pg_closed.specs.Known as along;
 ghost use Rattle.pg_closed.specs.Known.{operand_at};

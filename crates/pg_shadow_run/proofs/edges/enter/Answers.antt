@@ -19,7 +19,7 @@ pub returns-clause-is : goal.returns-clause-is
 returns-clause-is c =
     let new = c.phi_sources.new.nodes in
     c.set_phis.ensures.is (length new) (sources_kept c.args.nodes.now new c.args.registers.now c.phi_sources.ensures.grew c.requires.sources)
-      (subst (λ (l : List Source). AreSources (length new) l) (sym c.as_slice.ensures.value) c.in_ok-sources.ensures.is)
+    (subst (λ (l : List Source). AreSources (length new) l) (sym c.as_slice.ensures.value) c.in_ok-sources.ensures.is)
 
 pub returns-clause-value : goal.returns-clause-value
 returns-clause-value c =

@@ -1,4 +1,4 @@
-use Rattle.std.proofs.Common.{◌∷◌, [], ◌++◌, List, length, slice_index_or, ap, ◌∙◌, subst, sym}
+use Rattle.std.proofs.Common.{◌∷◌, [], ◌++◌, List, length, ap, ◌∙◌, subst, sym}
 use Rattle.pg_ir.specs.declared.instr.Instr.{Instr}
 use Rattle.pg_ir.specs.Operands.{CanTakePhi}
 use Rattle.pg_closed.specs.Shadows.{Shadow}
@@ -27,9 +27,9 @@ loop-i-preserved c =
       grew = grew_then first old c.push_phi.new.nodes c.loop-i.invariant.grew c.push_phi.ensures.grew;
       is = c.in_ok-push_phi.ensures.is;
       value = one_pushed f xs i c.index-phis-i.result so_far _ _ c.loop-i-test.true
-        (c.in_ok-push_phi.ensures.value
+          (c.in_ok-push_phi.ensures.value
           ∙ ap (λ (rs : List Shadow). so_far ++ phi_shadow p rs c.args.from c.index-phis-i.result ∷ []) (registers_kept first old c.args.registers.now c.loop-i.invariant.grew c.requires.sources)
           ∙ ap (λ (x : Instr). so_far ++ f x ∷ []) c.index-phis-i.is)
-        c.loop-i.invariant.value;
+          c.loop-i.invariant.value;
       read = rest_left (CanTakePhi p (length c.args.registers.now)) xs i c.loop-i-test.true c.loop-i.invariant.read;
     }

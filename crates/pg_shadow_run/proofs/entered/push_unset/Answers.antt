@@ -18,6 +18,6 @@ returns-clause-value c =
     let new = c.unset.new.nodes in
     let items = c.args.sources.now.items in
     on_ok_weaker c.push_each.result (λ e.
-      ap (registers_by new) e
-      ∙ blanks_by new items c.in_ok-blank.blank c.args.count unset c.in_ok-blank.ensures.value
-      ∙ ap (λ (xs : List Shadow). xs ++ replicate c.args.count unset) (registers_kept c.args.nodes.now new items c.unset.ensures.grew c.requires)) c.push_each.ensures
+    ap (registers_by new) e
+    ∙ blanks_by new items c.in_ok-blank.blank c.args.count unset c.in_ok-blank.ensures.value
+    ∙ ap (λ (xs : List Shadow). xs ++ replicate c.args.count unset) (registers_kept c.args.nodes.now new items c.unset.ensures.grew c.requires)) c.push_each.ensures

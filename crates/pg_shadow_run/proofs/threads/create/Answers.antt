@@ -1,4 +1,4 @@
-use Rattle.std.proofs.Common.{◌∙◌, length, List}
+use Rattle.std.proofs.Common.{◌∙◌}
 use Rattle.std.proofs.lemmas.Result.{on_ok_weaker}
 use Rattle.pg_shadow_run.specs.Threads.{threads_by}
 use Rattle.pg_shadow_run.proofs.Threading.{create_is}

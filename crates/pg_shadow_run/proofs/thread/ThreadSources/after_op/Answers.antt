@@ -1,4 +1,4 @@
-use Rattle.std.proofs.Common.{◌≡◌, ◌∷◌, List, map, ap, ◌∙◌, sym}
+use Rattle.std.proofs.Common.{List, ap, ◌∙◌, sym}
 use Rattle.std.proofs.lemmas.Result.{on_ok_weaker}
 use Rattle.pg_ir.specs.declared.value.Value.{Value}
 use Rattle.pg_ir.specs.declared.instr.Op.TheVariants as op
@@ -20,8 +20,8 @@ returns-in-Ret-clause-value c m region h =
 
 pub returns-in-CondBr-clause-value : goal.returns-in-CondBr-clause-value
 returns-in-CondBr-clause-value c m region h =
-    on_ok_weaker c.branch.result (λ e. e ∙ cond_is c.args.p.now c.args.x.now c.args.step c.args.sets.now m region h (calls_by c.args.nodes.now c.args.self.now) c.in-CondBr.cond c.in-CondBr.yes c.in-CondBr.no c.in-CondBr.is) c.branch.ensures.value
+    on_ok_weaker c.branch-self.result (λ e. e ∙ cond_is c.args.p.now c.args.x.now c.args.step c.args.sets.now m region h (calls_by c.args.nodes.now c.args.self.now) c.in-CondBr.cond c.in-CondBr.yes c.in-CondBr.no c.in-CondBr.is) c.branch-self.ensures.value
 
 pub returns-in-Switch-clause-value : goal.returns-in-Switch-clause-value
 returns-in-Switch-clause-value c m region h =
-    on_ok_weaker c.branch-in-Switch.result (λ e. e ∙ switch_is c.args.p.now c.args.x.now c.args.step c.args.sets.now m region h (calls_by c.args.nodes.now c.args.self.now) c.in-Switch.width c.in-Switch.on c.in-Switch.other c.in-Switch.cases c.in-Switch.is) c.branch-in-Switch.ensures.value
+    on_ok_weaker c.branch-self-in-Switch.result (λ e. e ∙ switch_is c.args.p.now c.args.x.now c.args.step c.args.sets.now m region h (calls_by c.args.nodes.now c.args.self.now) c.in-Switch.width c.in-Switch.on c.in-Switch.other c.in-Switch.cases c.in-Switch.is) c.branch-self-in-Switch.ensures.value

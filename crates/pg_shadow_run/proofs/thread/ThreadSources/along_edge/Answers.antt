@@ -1,4 +1,4 @@
-use Rattle.std.proofs.Common.{List, length, ap, ◌∙◌, subst, sym}
+use Rattle.std.proofs.Common.{length, ap, ◌∙◌, subst, sym}
 use Rattle.std.proofs.lemmas.Result.{on_ok_weaker}
 use Rattle.pg_closed.specs.Known.{along_edge, with_top}
 use Rattle.pg_shadow_run.specs.Sourced.{AreCalls, CallList, calls_by}

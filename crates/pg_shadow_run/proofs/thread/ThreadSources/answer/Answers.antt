@@ -1,4 +1,4 @@
-use Rattle.std.proofs.Common.{List, length, ap, ◌∙◌}
+use Rattle.std.proofs.Common.{length, ap, ◌∙◌}
 use Rattle.pg_closed.specs.Shadows.{Shadow}
 use Rattle.pg_closed.specs.Known.{set_shadow, with_top}
 use Rattle.pg_sources.specs.Sources.{shadow_by}

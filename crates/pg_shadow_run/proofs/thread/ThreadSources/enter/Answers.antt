@@ -18,6 +18,6 @@ returns-clause-value c =
     let calls = c.args.self.now in
     let f = λ (rs : List Shadow). entered c.args.p.now c.args.g (map (shadow_of c.args.p.now rs) c.args.args.now) in
     on_ok_weaker c.push.result (λ e.
-      ap (calls_by new) e
-      ∙ ap (λ (x : List Shadow). x ∷ calls_by new calls) (c.in_ok-registers.ensures.value ∙ ap f (ap (registers_by old) c.registers.ensures ∙ top_by old calls))
-      ∙ ap (λ (cs : List (List Shadow)). f (top_of (calls_by old calls)) ∷ cs) (calls_kept old new calls c.entered.ensures.grew c.requires.sources)) c.push.ensures.pushed
+    ap (calls_by new) e
+    ∙ ap (λ (x : List Shadow). x ∷ calls_by new calls) (c.in_ok-registers.ensures.value ∙ ap f (ap (registers_by old) c.registers.ensures ∙ top_by old calls))
+    ∙ ap (λ (cs : List (List Shadow)). f (top_of (calls_by old calls)) ∷ cs) (calls_kept old new calls c.entered.ensures.grew c.requires.sources)) c.push.ensures.pushed

@@ -1,4 +1,4 @@
-use Rattle.std.proofs.Common.{List, ap, ◌∙◌, subst, sym}
+use Rattle.std.proofs.Common.{ap, ◌∙◌, subst, sym}
 use Rattle.pg_closed.specs.Known.{forgotten_from, with_top}
 use Rattle.pg_shadow_run.specs.Sourced.{AreCalls, CallList, calls_by, marked}
 use Rattle.pg_shadow_run.proofs.Calls.{with_top_are, with_top_by}

@@ -1,4 +1,4 @@
-use Rattle.std.proofs.Common.{List, ap, ◌∙◌, subst, sym}
+use Rattle.std.proofs.Common.{ap, ◌∙◌, subst, sym}
 use Rattle.pg_closed.specs.Known.{set_shadow, with_top}
 use Rattle.pg_sources.specs.Sources.{shadow_by}
 use Rattle.pg_shadow_run.specs.Sourced.{AreCalls, CallList, calls_by}
