@@ -158,7 +158,7 @@ module _ (r : ReferenceRun) (d : Taken) (input : List ℤ) (u : PlanUnit) (st : 
     address_like : IsLike input (operand_of r.program u.seen q.both.x (address_index q.both.x.op)) (Some a.word)
     address_like = subst (λ (o : Option ℕ). IsLike input (operand_of r.program u.seen q.both.x (address_index q.both.x.op)) o) a.address
         (subst (λ (s : Shadow). IsLike input s (operand r.program q.both.f.registers a.at)) (at_known (operands_of q.both.x.op) (address_index q.both.x.op) a.at a.index ∙ ap (λ (ss : List Shadow). operand_at r.program ss q.both.x.op (address_index q.both.x.op)) (sym (top_known r d input u st moves y q)))
-          (operand_like input r.program q.both.ks q.both.f.registers q.both.top.registers a.at))
+        (operand_like input r.program q.both.ks q.both.f.registers q.both.top.registers a.at))
       where
         at_known : (vs : List Value) (i : ℕ) (v : Value) → slice_get vs i ≡ Some v → shadow_of r.program q.both.ks v ≡ Rattle.std.specs.Prelude.slice_index_or (map (shadow_of r.program q.both.ks) vs) i Rattle.pg_closed.specs.Shadows.unset
         at_known [] i v g = absurd cc

@@ -51,8 +51,8 @@ module _ (r : ReferenceRun) (d : Taken) where
       let t = h.0 in (
         record { reached = reached; takes = t; calls = refl; bytes = refl; region = refl; live = refl },
         met_is T (done_after (recorded.is_event x) k) (suc n) _ (behind r s x.thread.0) z xs program small
-          (subst (IsReached r.program) (sym (behind_is s x t)) (reached_step r.gated r.program r.input s t.after x.thread.0 x program small reached t.is_ready t.is_step))
-          (subst (λ (w : State). IsRun r.gated r.program r.input w xs z) (sym (behind_is s x t)) h.1),
+            (subst (IsReached r.program) (sym (behind_is s x t)) (reached_step r.gated r.program r.input s t.after x.thread.0 x program small reached t.is_ready t.is_step))
+            (subst (λ (w : State). IsRun r.gated r.program r.input w xs z) (sym (behind_is s x t)) h.1),
       )
 
   pub all_met : IsOrderedRun r → AllOf (λ (m : Met). IsMet r d m.seen m.state) (met_in r d)

@@ -132,7 +132,7 @@ module _ (r : ReferenceRun) (d : Taken) (input : List ℤ) (program : IsProgram 
     -- the caller goes on
     frame_returned : (g0 g : Frame) (gs : List Frame) (k2 : List Shadow) (n0 : ℕ) → q.both.fs ≡ g ∷ gs → IsCallLike input g0 k2 g →
         IsCallLike input (stepped g0 (target_in (slice_get r.program.instrs g0.place)) n0) (set_shadow (target_of (slice_get r.program.instrs g0.place)) (optional_shadow r.program q.both.ks v) k2)
-          (stepped g (target_in (slice_get r.program.instrs g.place)) (number_at r.program q.both.f.registers (operands_of (op.Ret v)) 0))
+        (stepped g (target_in (slice_get r.program.instrs g.place)) (number_at r.program q.both.f.registers (operands_of (op.Ret v)) 0))
     frame_returned g0 g gs k2 n0 is h =
         let p = r.program in
         subst (λ (i : ℕ). IsCallLike input (stepped g0 (target_in (slice_get p.instrs g0.place)) n0) (set_shadow (target_of (slice_get p.instrs g0.place)) (optional_shadow p q.both.ks v) k2) (stepped g (target_in (slice_get p.instrs i)) (number_at p q.both.f.registers (operands_of (op.Ret v)) 0))) (sym h.place)

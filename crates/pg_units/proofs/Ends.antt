@@ -70,8 +70,6 @@ use Rattle.pg_units.proofs.Shapes.{shape_join, shape_out}
 use Rattle.pg_units.proofs.EventCells.{cw_is, er_is, event_fits, known_bytes, known_is, known_words, rc_is, reads_nothing, wc_is, word_pushed, word_set, word_there}
 use Rattle.pg_units.proofs.EventCells as ec
 
-
-
 -- ---- a return in the first call
 
 record Exits (p : NumberedProgram) (rs : List (Option ℕ)) (depth : ℕ) (v : Option Value) : Type 0 where
@@ -116,9 +114,9 @@ module _ (r : ReferenceRun) (d : Taken) (input : List ℤ) (program : IsProgram 
         let t = thread_in u.seen.moment in
         subst (λ (s : Shadow). IsLike input s (Some n1))
         (sym (ap (λ (z : Bool). if z then u.known.bytes c else slice_index_or u.known.words (c - MEMORY_BYTES) (always 0)) lt
-          ∙ ap (λ (ws : List Shadow). slice_index_or ws (c - MEMORY_BYTES) (always 0)) (known_words r d input program u st moves y q good objects (requests.Exit n0 b) (requests.Exit n1 b) act0 act refl)
-          ∙ ap (λ (i : ℕ). slice_index_or (slice_set u.seen.before.words t (exit_shadow r.program t q.both.ks q.both.x.op)) i (always 0)) (sym (eqb-true t (c - MEMORY_BYTES) e))
-          ∙ word_set u.seen.before.words t (exit_shadow r.program t q.both.ks q.both.x.op) (always 0) own_word)) value
+        ∙ ap (λ (ws : List Shadow). slice_index_or ws (c - MEMORY_BYTES) (always 0)) (known_words r d input program u st moves y q good objects (requests.Exit n0 b) (requests.Exit n1 b) act0 act refl)
+        ∙ ap (λ (i : ℕ). slice_index_or (slice_set u.seen.before.words t (exit_shadow r.program t q.both.ks q.both.x.op)) i (always 0)) (sym (eqb-true t (c - MEMORY_BYTES) e))
+        ∙ word_set u.seen.before.words t (exit_shadow r.program t q.both.ks q.both.x.op) (always 0) own_word)) value
 
     exit_cell : (c : ℕ) (s : Shadow) (m : ℕ) → IsCellLike input s m → IsCellLike input (or_old (if writes_cell d u.seen c then Some (cell_known u.known c) else None) s) (or_old (cell_written ef c) m)
     exit_cell c s m k = rw (wc_is r d input program u st moves y q good objects (requests.Exit n0 b) (requests.Exit n1 b) act0 act refl c, cw_is r d input program u st moves y q good objects (requests.Exit n0 b) (requests.Exit n1 b) act0 act refl c)

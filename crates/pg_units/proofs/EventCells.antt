@@ -177,11 +177,11 @@ module _ (r : ReferenceRun) (d : Taken) (input : List ℤ) (program : IsProgram 
         ((c : ℕ) → writes_cell d u.seen c ≡ false) × ((c : ℕ) → cell_written ef c ≡ None)
     cells_nothing a b x y z = (
       (λ c. wc_is c ∙ ap (λ (w : Option ToldWrite). if nat_lt c MEMORY_BYTES then list_any (λ f. is_written_in f c) (access_touch d u.seen.number (access_by w) ++ []) else is_thread (event_word_written (thread_in u.seen.moment) ev (kind_of r0)) (c - MEMORY_BYTES)) a
-        ∙ ap (λ (o : Option ℕ). if nat_lt c MEMORY_BYTES then false else is_thread o (c - MEMORY_BYTES)) b ∙ either_false (nat_lt c MEMORY_BYTES)),
+          ∙ ap (λ (o : Option ℕ). if nat_lt c MEMORY_BYTES then false else is_thread o (c - MEMORY_BYTES)) b ∙ either_false (nat_lt c MEMORY_BYTES)),
       (λ c. cw_is c ∙ ap (λ w. if nat_lt c MEMORY_BYTES then byte_in w c else word_made (thread_made r.program st r1) (c - MEMORY_BYTES) (if thread_in u.seen.moment == (c - MEMORY_BYTES) then word_left r1 else None)) x
-        ∙ ap (λ (m : Option MadeThread). if nat_lt c MEMORY_BYTES then None else word_made m (c - MEMORY_BYTES) (if thread_in u.seen.moment == (c - MEMORY_BYTES) then word_left r1 else None)) y
-        ∙ ap (λ (o : Option ℕ). if nat_lt c MEMORY_BYTES then None else (if thread_in u.seen.moment == (c - MEMORY_BYTES) then o else None)) z
-        ∙ nones (nat_lt c MEMORY_BYTES) (thread_in u.seen.moment == (c - MEMORY_BYTES))),
+          ∙ ap (λ (m : Option MadeThread). if nat_lt c MEMORY_BYTES then None else word_made m (c - MEMORY_BYTES) (if thread_in u.seen.moment == (c - MEMORY_BYTES) then word_left r1 else None)) y
+          ∙ ap (λ (o : Option ℕ). if nat_lt c MEMORY_BYTES then None else (if thread_in u.seen.moment == (c - MEMORY_BYTES) then o else None)) z
+          ∙ nones (nat_lt c MEMORY_BYTES) (thread_in u.seen.moment == (c - MEMORY_BYTES))),
     )
       where
         nones : (a b : Bool) → Path (Option ℕ) (if a then None else (if b then None else None)) None
@@ -229,8 +229,10 @@ module _ (r : ReferenceRun) (d : Taken) (input : List ℤ) (program : IsProgram 
       let a : answer r d input u st moves y q ≡ v.0 % 256 = ap (answer_to input st t) act ∙ putchar_done st.sync t v.0 in
       event_fits r0 r1 act0 act refl (set_shadow b.x.result (low_byte (operand_at p b.ks b.x.op 0)) b.ks ∷ b.more) (known_is r0 r1 act0 act refl)
       (ap (heap_after p (region_of l) b.f.registers) e ∙ sym (ap (heap_after p (region_of l0) b.f0.registers) e))
-      (subst (λ (z : Op). AreCallsLike input (op_after p l0 b.x (answer0 r d input u st moves y q) z) (set_shadow b.x.result (low_byte (operand_at p b.ks z 0)) b.ks ∷ b.more) (op_after p l b.x (answer r d input u st moves y q) z)) (sym e)
-        (frame_stepped input b.f0 b.f b.ks b.x.result (low_byte (operand_at p b.ks o 0)) (answer0 r d input u st moves y q % modulus W32) (answer r d input u st moves y q % modulus W32) b.top
+      (subst (λ (z : Op). AreCallsLike input (op_after p l0 b.x (answer0 r d input u st moves y q) z) (set_shadow b.x.result (low_byte (operand_at p b.ks z 0)) b.ks ∷ b.more) (op_after p l b.x (answer r d input u st moves y q) z)) (sym e) (
+        frame_stepped input b.f0 b.f b.ks b.x.result (low_byte (operand_at p b.ks o 0)) (answer0 r d input u st moves y q % modulus W32) (answer r d input u st moves y q % modulus W32) b.top
             (subst (λ (n : ℕ). IsLike input (low_byte (operand_at p b.ks o 0)) (Some n)) (sym (ap (λ (n : ℕ). n % modulus W32) a ∙ low_small v.0))
-              (cut_like input (λ n. n % 2 ^ 8) (operand_at p b.ks o 0) v.0 (subst (λ (m : Option ℕ). IsLike input (operand_at p b.ks o 0) m) v.1 (argument_like input p b.ks b.f.registers b.top.registers args 0)))), b.rest))
+            (cut_like input (λ n. n % 2 ^ 8) (operand_at p b.ks o 0) v.0 (subst (λ (m : Option ℕ). IsLike input (operand_at p b.ks o 0) m) v.1 (argument_like input p b.ks b.f.registers b.top.registers args 0)))),
+        b.rest,
+      ))
       refl (λ c s m k. rw (none_if (writes_cell d u.seen c) (cell_known u.known c) (none.0 c), none.1 c) k) (reads_nothing r0 r1 act0 act refl refl) (λ c k. absurd (true≢false (sym k ∙ ap is_some (none.1 c))))

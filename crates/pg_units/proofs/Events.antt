@@ -121,9 +121,9 @@ module _ (r : ReferenceRun) (d : Taken) (input : List ℤ) (program : IsProgram 
         ∙ ap (λ (v : ℕ). Some (objects_with v ef.request (objects_of st))) (effect_thread r d input program u st moves y q)
         ∙ ap (λ (z : Option RequestEffect). Some (objects_with t z (objects_of st))) (effect_request r d input program u st moves y q (actions.Event r1) act)
         ∙ ap (λ (o : Objects). Some o) (same_objects p st u.state t r1 r0 (objects_of st) same same_sync
-          ∙ ap (objects_with t (request_effect p u.state t (actions.Event r0))) same_state
-          ∙ ap (λ (z : Option RequestEffect). objects_with t z (objects_of u.state)) (sym (request0 r d input program u st moves y q (actions.Event r0) act0))
-          ∙ sym (unit_objects r d input program u st moves y q))
+        ∙ ap (objects_with t (request_effect p u.state t (actions.Event r0))) same_state
+        ∙ ap (λ (z : Option RequestEffect). objects_with t z (objects_of u.state)) (sym (request0 r d input program u st moves y q (actions.Event r0) act0))
+        ∙ sym (unit_objects r d input program u st moves y q))
         ∙ sym (ap (λ (b : Bool). if b then Some u.objects else None) is_event)
 
     pub same_kind : kind_of r1 ≡ kind_of r0
@@ -192,7 +192,7 @@ module _ (r : ReferenceRun) (d : Taken) (input : List ℤ) (program : IsProgram 
             (event_known r0 r1 act0 act same ∙ s0.shadows p u.seen.moment (event0 r0 r1 act0 act same) (slice_index_or u.seen.before.words t unset) b.x (b.ks ∷ b.more))
             (subst (λ (z : Op). heap_after p (region_of l) b.f.registers z ≡ heap_after p (region_of l0) b.f0.registers z) (sym e) (s0.heap (region_of l) (number_at p b.f.registers args 0) ∙ sym (s0.heap (region_of l0) (number_at p b.f0.registers args 0))))
             (subst (λ (z : Op). AreCallsLike input (op_after p l0 b.x (answer0 r d input u st moves y q) z) (if s0.goes then with_top (set_shadow b.x.result (always (or_zero b.x.result (op_own p l0 b.f0.registers (answer0 r d input u st moves y q) z)))) (b.ks ∷ b.more) else (b.ks ∷ b.more)) (op_after p l b.x (answer r d input u st moves y q) z)) (sym e)
-              (calls_like alike s0));
+            (calls_like alike s0));
         told = event_told_alike r0 r1 act0 act same (ap (reply_of (kind_of r0)) (same_reply alike s0 s0.goes refl));
         objects = event_objects r0 r1 act0 act same;
         cells = λ c z m j. rw (none_if (writes_cell d u.seen c) (cell_known u.known c) (wc c), cw c) j;
@@ -206,13 +206,16 @@ module _ (r : ReferenceRun) (d : Taken) (input : List ℤ) (program : IsProgram 
         where
           go : (g : Bool) → s.goes ≡ g → AreCallsLike input (if g then stepped q.both.f0 q.both.x.result (result_number r.program (region_of l0) q.both.f0.registers (op.CallKnown k args) (answer0 r d input u st moves y q)) ∷ q.both.fs0 else (q.both.f0 ∷ q.both.fs0)) (if g then with_top (set_shadow q.both.x.result (always (or_zero q.both.x.result (op_own r.program l0 q.both.f0.registers (answer0 r d input u st moves y q) (op.CallKnown k args))))) (q.both.ks ∷ q.both.more) else (q.both.ks ∷ q.both.more)) (if g then stepped q.both.f q.both.x.result (result_number r.program (region_of l) q.both.f.registers (op.CallKnown k args) (answer r d input u st moves y q)) ∷ q.both.fs else (q.both.f ∷ q.both.fs))
           go false v = (q.both.top, q.both.rest)
-          go true v = (record {
-            function = q.both.top.function;
-            place = ap (λ (i : ℕ). i + 1) q.both.top.place;
-            height = q.both.top.height;
-            registers = told_number input q.both.x.result q.both.ks q.both.f.registers (known_own q.both.h k (result_number r.program (region_of l0) q.both.f0.registers (op.CallKnown k args) (answer0 r d input u st moves y q))) (result_number r.program (region_of l) q.both.f.registers (op.CallKnown k args) (answer r d input u st moves y q)) q.both.top.registers
-                (s.own v (result_number r.program (region_of l0) q.both.f0.registers (op.CallKnown k args) (answer0 r d input u st moves y q)) ∙ s.number (region_of l0) (number_at r.program q.both.f0.registers args 0) (answer0 r d input u st moves y q) ∙ ap (cut_to (returned_by k)) (sym alike) ∙ sym (s.number (region_of l) (number_at r.program q.both.f.registers args 0) (answer r d input u st moves y q)));
-          }, q.both.rest)
+          go true v = (
+            record {
+              function = q.both.top.function;
+              place = ap (λ (i : ℕ). i + 1) q.both.top.place;
+              height = q.both.top.height;
+              registers = told_number input q.both.x.result q.both.ks q.both.f.registers (known_own q.both.h k (result_number r.program (region_of l0) q.both.f0.registers (op.CallKnown k args) (answer0 r d input u st moves y q))) (result_number r.program (region_of l) q.both.f.registers (op.CallKnown k args) (answer r d input u st moves y q)) q.both.top.registers
+                  (s.own v (result_number r.program (region_of l0) q.both.f0.registers (op.CallKnown k args) (answer0 r d input u st moves y q)) ∙ s.number (region_of l0) (number_at r.program q.both.f0.registers args 0) (answer0 r d input u st moves y q) ∙ ap (cut_to (returned_by k)) (sym alike) ∙ sym (s.number (region_of l) (number_at r.program q.both.f.registers args 0) (answer r d input u st moves y q)));
+            },
+            q.both.rest,
+          )
 
       own_same : answer r d input u st moves y q ≡ answer0 r d input u st moves y q → Shape k q.both.h r0 → op_own r.program l q.both.f.registers (answer r d input u st moves y q) (op.CallKnown k args) ≡ op_own r.program l0 q.both.f0.registers (answer0 r d input u st moves y q) (op.CallKnown k args)
       own_same alike s = ap (known_own q.both.h k) (s.number (region_of l) (number_at r.program q.both.f.registers args 0) (answer r d input u st moves y q) ∙ ap (cut_to (returned_by k)) alike ∙ sym (s.number (region_of l0) (number_at r.program q.both.f0.registers args 0) (answer0 r d input u st moves y q)))

@@ -252,7 +252,7 @@ module _ (r : ReferenceRun) (d : Taken) (input : List ℤ) (u : PlanUnit) (st : 
   stands known e heap c = record {
     moves = ap (λ (v : ℕ). suc (moves v)) q.own ∙ ap suc q.units;
     stands = subst (λ (v : ℕ). StandLike input (standing_of u.local (thread_of u.known (thread_in u.seen.moment)).calls) (effect_of r.program input st v).local) (sym q.own)
-      (rw (e, local0, local) (record { thread = refl; halfway = refl; heap = heap; calls = c }));
+        (rw (e, local0, local) (record { thread = refl; halfway = refl; heap = heap; calls = c }));
   }
 
   pub live_is : is_live d.pinned (thread_of u.seen.before (thread_in u.seen.moment)).extents ≡ true

@@ -47,9 +47,9 @@ module _ (R : Reference) (d : Taken) (n : ℕ) (m : Moment) (s : RunShadow) (x :
   calls_after = ap (λ (z : RunShadow). (thread_of z (thread_in m)).calls) after_live ∙ extents_leave (live_by R.program d n m region x m.did.did.kind s).threads (thread_in m) _
 
   live_inner : (k : StepKind) → IsInnerKind k → live_by R.program d n m region x k s ≡ record s {
-        threads = on_thread (after_op R.program (d.pinned n) n m region (result_in k) x x.op) (thread_in m) s.threads;
-        bytes = bytes_freed (d.pinned n) n region s.bytes;
-      }
+    threads = on_thread (after_op R.program (d.pinned n) n m region (result_in k) x x.op) (thread_in m) s.threads;
+    bytes = bytes_freed (d.pinned n) n region s.bytes;
+  }
   live_inner kinds.Other h = refl
   live_inner (kinds.Branch c) h = refl
   live_inner (kinds.Allocation a b) h = refl

@@ -179,8 +179,22 @@ module _ (r : ReferenceRun) (d : Taken) (input : List ℤ) (program : IsProgram 
           ∙ ap (λ (m : Option ℕ). access_told r.gated st t (given m) g.0 false (answer r d input u st moves y q)) v.1
           ∙ ap (λ (i : ℕ). kinds.Access (record { pointer = v.0; number = answer r d input u st moves y q; bytes = g.0.bytes; writes = false; event = is_gated r.gated i })) (same_place r d input u st moves y q) in
           let a : Access' r d input u st moves y q good = record {
-            word0 = v0.0; word = v.0; q0 = g0.0; q1 = g.0; size = bytes_of w; number0 = answer0 r d input u st moves y q; number = answer r d input u st moves y q;
-            writes = false; event = is_gated r.gated (instr_of u.state t); kind0 = kind0; kind = kind; place0 = g0.1; place = g.1; at = from; index = ap (λ (z : Op). slice_get (operands_of z) (Rattle.pg_closed.specs.Rules.address_index z)) e; address = v.1;
+            word0 = v0.0;
+            word = v.0;
+            q0 = g0.0;
+            q1 = g.0;
+            size = bytes_of w;
+            number0 = answer0 r d input u st moves y q;
+            number = answer r d input u st moves y q;
+            writes = false;
+            event = is_gated r.gated (instr_of u.state t);
+            kind0 = kind0;
+            kind = kind;
+            place0 = g0.1;
+            place = g.1;
+            at = from;
+            index = ap (λ (z : Op). slice_get (operands_of z) (Rattle.pg_closed.specs.Rules.address_index z)) e;
+            address = v.1;
           } in
           let read : answer r d input u st moves y q ≡ read st.memory g.0 = ap (answer_to input st t) act in
           finish a act0 act e (subst (λ (n : ℕ). IsLike input (load_of (d.exact u.seen.number) u.seen.number w (told_access r d input u st moves y q good a) u.seen.before.bytes) (Some (n % modulus w))) (sym read) (load_value a refl w)) refl
@@ -206,8 +220,8 @@ module _ (r : ReferenceRun) (d : Taken) (input : List ℤ) (program : IsProgram 
 
               calls_like : q.both.x.op ≡ op.Load w from → IsLike input (load_of (d.exact u.seen.number) u.seen.number w (told_access r d input u st moves y q good a) u.seen.before.bytes) (Some (answer r d input u st moves y q % modulus w)) →
                   AreCallsLike input (op_after r.program (running (thread_in u.seen.moment) q.both.h q.both.f0 q.both.fs0 q.both.n) q.both.x (answer0 r d input u st moves y q) q.both.x.op)
-                    (after_access r.program (d.exact u.seen.number) u.seen.number (told_access r d input u st moves y q good a) u.seen.before.bytes q.both.x q.both.x.op q.both.ks ∷ q.both.more)
-                    (op_after r.program (running (thread_in u.seen.moment) q.both.h q.both.f q.both.fs q.both.n) q.both.x (answer r d input u st moves y q) q.both.x.op)
+                  (after_access r.program (d.exact u.seen.number) u.seen.number (told_access r d input u st moves y q good a) u.seen.before.bytes q.both.x q.both.x.op q.both.ks ∷ q.both.more)
+                  (op_after r.program (running (thread_in u.seen.moment) q.both.h q.both.f q.both.fs q.both.n) q.both.x (answer r d input u st moves y q) q.both.x.op)
               calls_like e v = subst (λ (z : Op). AreCallsLike input (op_after r.program (running (thread_in u.seen.moment) q.both.h q.both.f0 q.both.fs0 q.both.n) q.both.x (answer0 r d input u st moves y q) z)
                   (after_access r.program (d.exact u.seen.number) u.seen.number (told_access r d input u st moves y q good a) u.seen.before.bytes q.both.x z q.both.ks ∷ q.both.more)
                   (op_after r.program (running (thread_in u.seen.moment) q.both.h q.both.f q.both.fs q.both.n) q.both.x (answer r d input u st moves y q) z)) (sym e)
@@ -216,7 +230,7 @@ module _ (r : ReferenceRun) (d : Taken) (input : List ℤ) (program : IsProgram 
               read_here : (c : ℕ) (b : Bool) → nat_lt c MEMORY_BYTES ≡ b → (effect_of r.program input st y.thread.0).reads ≡ Some a.q1 → (effect_of r.program input st y.thread.0).word_read ≡ None → views.reads_cell (effect_of r.program input st y.thread.0) c ≡ true → reads_cell d u.seen c ≡ true
               read_here c b m i j k =
                   let k' : (if b then is_in a.q1 c else false) ≡ true = sym (ap (λ (z : Option ByteRange). if nat_lt c MEMORY_BYTES then is_in_range z c else is_thread (effect_of r.program input st y.thread.0).word_read (c - MEMORY_BYTES)) i
-                    ∙ ap (λ (z : Option ℕ). if nat_lt c MEMORY_BYTES then is_in a.q1 c else is_thread z (c - MEMORY_BYTES)) j ∙ ap (λ (z : Bool). if z then is_in a.q1 c else false) m) ∙ k in
+                  ∙ ap (λ (z : Option ℕ). if nat_lt c MEMORY_BYTES then is_in a.q1 c else is_thread z (c - MEMORY_BYTES)) j ∙ ap (λ (z : Bool). if z then is_in a.q1 c else false) m) ∙ k in
                   reads_here r d input u st moves y q good a c ∙ ap (λ (z : Bool). if z then not a.writes && is_in (range_touched (fixed r d input u st moves y q good a) (told_access r d input u st moves y q good a)) c else false) m
                   ∙ ap (λ (z : Bool). if b then not z && is_in (range_touched (fixed r d input u st moves y q good a) (told_access r d input u st moves y q good a)) c else false) reads ∙ pick b k' (λ h. within r d input u st moves y q good a c h)
                 where

@@ -123,10 +123,10 @@ module _ (r : ReferenceRun) (d : Taken) (input : List ℤ) (turns : List Turn) (
     pub fits_at : ((c : ℕ) → reads_cell d u.seen c ≡ true → IsCellLike input ((effects (plan_start r) (map (deed_of d) us)).cells c) (s.cells c)) →
         (deeds.is_event (deed_of d u) ≡ true → (effects (plan_start r) (map (deed_of d) us)).objects ≡ s.objects) → Fits (like input) (deed_of d u) e
     fits_at cells objects = unit_fits r d input o plain small closed admitted u has fresh one turns s g e m (record {
-          thread = thread;
-          cells = λ c h. subst (λ z. IsCellLike input z (s.cells c)) (memory.cells c) (cells c h);
-          objects = λ h. sym memory.objects ∙ objects (is_some_if (is_event_at u.seen) u.objects ∙ h);
-        }) mine
+      thread = thread;
+      cells = λ c h. subst (λ z. IsCellLike input z (s.cells c)) (memory.cells c) (cells c h);
+      objects = λ h. sym memory.objects ∙ objects (is_some_if (is_event_at u.seen) u.objects ∙ h);
+    }) mine
 
   -- ---- the run obeys
 
@@ -172,8 +172,8 @@ module _ (r : ReferenceRun) (d : Taken) (input : List ℤ) (turns : List Turn) (
           let l' = subst (λ (q : PlanDeed). IsThreadLike input ((effects (plan_start r) xs).locals q.thread) (s.locals q.thread)) (sym k.image) l in
           let l'' = subst (λ (z : List PlanDeed). IsThreadLike input ((effects (plan_start r) z).locals (thread_in k.at.seen.moment)) (s.locals (thread_in k.at.seen.moment))) (sym k.images) l' in
           subst (λ (q : PlanDeed). Fits (like input) q m) k.image (fits_at k.before k.at k.after k.is s g m moved (mine ∙ ap (λ (q : PlanDeed). q.thread) (sym k.image)) l''
-            (λ b h. subst (λ (z : List PlanDeed). IsCellLike input ((effects (plan_start r) z).cells b) (s.cells b)) (sym k.images) (c b (sym (ap (λ (q : PlanDeed). q.reads b) k.image) ∙ h)))
-            (λ h. ap (λ (z : List PlanDeed). (effects (plan_start r) z).objects) k.images ∙ ob (sym (ap deeds.is_event k.image) ∙ h)))
+          (λ b h. subst (λ (z : List PlanDeed). IsCellLike input ((effects (plan_start r) z).cells b) (s.cells b)) (sym k.images) (c b (sym (ap (λ (q : PlanDeed). q.reads b) k.image) ∙ h)))
+          (λ h. ap (λ (z : List PlanDeed). (effects (plan_start r) z).objects) k.images ∙ ob (sym (ap deeds.is_event k.image) ∙ h)))
 
   pub stands_at_cuts : (s : RunState) → Alike (like input) (plan_start r) s → (ds : List RunDeed) → Moves (IsMove r.gated r.program input turns) s 0 ds →
       Stands (like input) (turns_of r) (plan_start r) (plan_of r d) (IsMove r.gated r.program input turns) (is_plan r d o closed plain) obeys (effects s ds) (turns_done deeds 0 ds) ds (times deeds (turns_of r) 0 ds)

@@ -111,7 +111,15 @@ module _ (gated : List InstrId) (p : NumberedProgram) (input0 input : List ℤ) 
           e ∙ ap (λ (l : LocalState). Some l) (running_is k0 x0.thread.0 q.f q.fs (thread_at s k0 reached e).number b q.is ∙ same_running x0.thread.0 k0.halfway l0.halfway q.f q.fs k0.heap l0.heap z.halfway z.heap) in
           let i = instr_at l0.halfway q.f0 q.more0 l0.heap is0 in
           record {
-            h = l0.halfway; f0 = q.f0; fs0 = q.more0; n = l0.heap; x = i.0; f = q.f; fs = q.fs; ks = q.ks; more = q.more;
+            h = l0.halfway;
+            f0 = q.f0;
+            fs0 = q.more0;
+            n = l0.heap;
+            x = i.0;
+            f = q.f;
+            fs = q.fs;
+            ks = q.ks;
+            more = q.more;
             here0 = record { local = is0; instr = i.1 };
             here = record { local = is; instr = ap (slice_get p.instrs) q.top.place ∙ i.1 };
             calls = q.is_known;

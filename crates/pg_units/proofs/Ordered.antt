@@ -296,7 +296,7 @@ module _ (d : Taken) (all : List Seen) where
         let p = fixed x y fx fy ne o (meeting_conflict (access_print x) (access_print y) b m) a.access a.is in
         let q = fixed y x fy fx (λ e. ne (sym e)) (overlap_back x.moment.did y.moment.did o) (meeting_conflict (access_print y) (access_print x) b (turned (access_print x) (access_print y) b m)) c.access c.is in
         ordered (steps_conflict x.moment.did.did y.moment.did.did a.access c.access b ne a.is c.is (range_in x b f a p i) (range_in y b h c q j)
-          (subst (λ (k : Bool). (k || c.access.writes) ≡ true) (ap (λ (k : Footprint). k.writes) a.print) (subst (λ (k : Bool). (f.writes || k) ≡ true) (ap (λ (k : Footprint). k.writes) c.print) w)))
+        (subst (λ (k : Bool). (k || c.access.writes) ≡ true) (ap (λ (k : Footprint). k.writes) a.print) (subst (λ (k : Bool). (f.writes || k) ≡ true) (ap (λ (k : Footprint). k.writes) c.print) w)))
 
     meeting_ordered : thread_in x.moment ≢ thread_in y.moment → (b : ℕ) → Meeting (touch_of d x) (touch_of d y) b → AreOrdered x.moment.did y.moment.did
     meeting_ordered ne b m = go (cases_Bool (overlap x.moment.did y.moment.did)) (parts x m.first m.has_first) (parts y m.second m.has_second)

@@ -288,7 +288,7 @@ module _ (r : ReferenceRun) (d : Taken) (input : List ℤ) (u : PlanUnit) (unit 
       moves = ap (λ (v : ℕ). suc (moves v)) own ∙ ap suc units;
       stands = subst (λ (v : ℕ). StandLike input (standing_of u.local (thread_of u.known (thread_in u.seen.moment)).calls) (effect_of r.program input st v).local) (sym own)
           (rw (known_is, local0, local) (start_like r.program input (thread_in u.seen.moment) b.function answer0 answer (slice_index_or u.seen.before.words (thread_in u.seen.moment) unset)
-            (subst (λ (n : ℕ). IsLike input (slice_index_or u.seen.before.words (thread_in u.seen.moment) unset) (Some n)) (sym (ap (answer_to input st (thread_in u.seen.moment)) act)) argument)));
+          (subst (λ (n : ℕ). IsLike input (slice_index_or u.seen.before.words (thread_in u.seen.moment) unset) (Some n)) (sym (ap (answer_to input st (thread_in u.seen.moment)) act)) argument)));
     };
     told = told_alike;
     objects = objects_alike;

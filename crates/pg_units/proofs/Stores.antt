@@ -197,7 +197,21 @@ module _ (r : ReferenceRun) (d : Taken) (input : List ℤ) (program : IsProgram 
       ∙ ap (λ (m : Option ℕ). access_told r.gated st t (given m) g.0 true n.0) v1.1
       ∙ ap (λ (i : ℕ). kinds.Access (record { pointer = v1.0; number = n.0; bytes = g.0.bytes; writes = true; event = is_gated r.gated i })) (same_place r d input u st moves y q) in
       let a : Access' r d input u st moves y q good = record {
-        word0 = v0.0; word = v1.0; q0 = g0.0; q1 = g.0; size = bytes_of w; number0 = n0.0; number = n.0;
-        writes = true; event = is_gated r.gated (instr_of u.state t); kind0 = kind0; kind = kind; place0 = g0.1; place = g.1; at = at; index = ap (λ (z : Op). slice_get (operands_of z) (address_index z)) e; address = v1.1;
+        word0 = v0.0;
+        word = v1.0;
+        q0 = g0.0;
+        q1 = g.0;
+        size = bytes_of w;
+        number0 = n0.0;
+        number = n.0;
+        writes = true;
+        event = is_gated r.gated (instr_of u.state t);
+        kind0 = kind0;
+        kind = kind;
+        place0 = g0.1;
+        place = g.1;
+        at = at;
+        index = ap (λ (z : Op). slice_get (operands_of z) (address_index z)) e;
+        address = v1.1;
       } in
       stored_fits a w v at e n.0 n.1 refl act0 act

@@ -89,8 +89,6 @@ use Rattle.pg_units.proofs.Requests.{same_action}
 use Rattle.pg_units.proofs.Shapes.{shape_join}
 use Rattle.pg_units.proofs.EventCells.{cw_is, er_is, event_fits, known_bytes, known_is, known_words, rc_is, reads_nothing, wc_is, word_pushed, word_set, word_there}
 
-
-
 null_done : (a : ℕ) (act : Action) → CanStep (on_null a act) → on_null a act ≡ act
 null_done a act h = go (a == 0) h
   where
@@ -118,7 +116,14 @@ creates p rs args h =
     let n = value_done (argument p rs args 3) (λ n. on_place w.0 8 (λ r. on_null a.0 (actions.Event (requests.Create r f.0 n)))) f.2 in
     let g = place_done w.0 8 (λ r. on_null a.0 (actions.Event (requests.Create r f.0 n.0))) n.2 in
     record {
-      word = w.0; function = f.0; number = n.0; range = g.0; is_word = w.1; is_function = f.1; is_number = n.1; place = g.1;
+      word = w.0;
+      function = f.0;
+      number = n.0;
+      range = g.0;
+      is_word = w.1;
+      is_function = f.1;
+      is_number = n.1;
+      place = g.1;
       is = on_some (argument p rs args 0) w.0 (λ w. on_value (argument p rs args 1) (λ a. on_value (argument p rs args 2) (λ f. on_value (argument p rs args 3) (λ n. on_place w 8 (λ r. on_null a (actions.Event (requests.Create r f n))))))) w.1
           ∙ on_some (argument p rs args 1) a.0 (λ a. on_value (argument p rs args 2) (λ f. on_value (argument p rs args 3) (λ n. on_place w.0 8 (λ r. on_null a (actions.Event (requests.Create r f n)))))) a.1
           ∙ on_some (argument p rs args 2) f.0 (λ f. on_value (argument p rs args 3) (λ n. on_place w.0 8 (λ r. on_null a.0 (actions.Event (requests.Create r f n))))) f.1
@@ -194,9 +199,9 @@ module _ (r : ReferenceRun) (d : Taken) (input : List ℤ) (program : IsProgram 
     word_is : (c : ℕ) → nat_lt c MEMORY_BYTES ≡ false → (length u.state.sync.threads == (c - MEMORY_BYTES)) ≡ true → IsLike input (cell_known u.known c) (Some n1)
     word_is c lt w = subst (λ (s : Shadow). IsLike input s (Some n1))
         (sym (ap (λ (z : Bool). if z then u.known.bytes c else slice_index_or u.known.words (c - MEMORY_BYTES) (always 0)) lt
-          ∙ ap (λ (ws : List Shadow). slice_index_or ws (c - MEMORY_BYTES) (always 0)) (known_words r d input program u st moves y q good objects r0 r1 act0 act refl)
-          ∙ ap (λ (i : ℕ). slice_index_or (u.seen.before.words ++ operand_at r.program q.both.ks q.both.x.op 3 ∷ []) i (always 0)) (sym (words ∙ sym q.unit.met.reached.machine.threads ∙ eqb-true (length u.state.sync.threads) (c - MEMORY_BYTES) w))
-          ∙ word_pushed u.seen.before.words (operand_at r.program q.both.ks q.both.x.op 3) (always 0))) argument_known
+        ∙ ap (λ (ws : List Shadow). slice_index_or ws (c - MEMORY_BYTES) (always 0)) (known_words r d input program u st moves y q good objects r0 r1 act0 act refl)
+        ∙ ap (λ (i : ℕ). slice_index_or (u.seen.before.words ++ operand_at r.program q.both.ks q.both.x.op 3 ∷ []) i (always 0)) (sym (words ∙ sym q.unit.met.reached.machine.threads ∙ eqb-true (length u.state.sync.threads) (c - MEMORY_BYTES) w))
+        ∙ word_pushed u.seen.before.words (operand_at r.program q.both.ks q.both.x.op 3) (always 0))) argument_known
 
     wc_here : (c : ℕ) → writes_cell d u.seen c ≡ (if nat_lt c MEMORY_BYTES then is_in R c else (length u.state.sync.threads == (c - MEMORY_BYTES)))
     wc_here c = wc_is r d input program u st moves y q good objects r0 r1 act0 act refl c
@@ -209,7 +214,7 @@ module _ (r : ReferenceRun) (d : Taken) (input : List ℤ) (program : IsProgram 
     cw_here : (c : ℕ) → cell_written ef c ≡ (if nat_lt c MEMORY_BYTES then (if is_in R c then Some (byte_of (length st.locals) (c - R.start)) else None) else (if length u.state.sync.threads == (c - MEMORY_BYTES) then Some n1 else None))
     cw_here c = cw_is r d input program u st moves y q good objects r0 r1 act0 act refl c
         ∙ ap (λ (v : ℕ). if nat_lt c MEMORY_BYTES then (if is_in R c then Some (byte_of (length st.locals) (c - R.start)) else None) else (if v == (c - MEMORY_BYTES) then Some n1 else (if thread_in u.seen.moment == (c - MEMORY_BYTES) then None else None)))
-          (fresh_number r.program (length st.locals) g ∙ threads_same ∙ sym q.unit.met.reached.machine.threads)
+        (fresh_number r.program (length st.locals) g ∙ threads_same ∙ sym q.unit.met.reached.machine.threads)
         ∙ ap (λ (o : Option ℕ). if nat_lt c MEMORY_BYTES then (if is_in R c then Some (byte_of (length st.locals) (c - R.start)) else None) else (if length u.state.sync.threads == (c - MEMORY_BYTES) then Some n1 else o)) (nones (thread_in u.seen.moment == (c - MEMORY_BYTES)))
 
     create_cell : (c : ℕ) (s : Shadow) (m : ℕ) → IsCellLike input s m → IsCellLike input (or_old (if writes_cell d u.seen c then Some (cell_known u.known c) else None) s) (or_old (cell_written ef c) m)
@@ -243,13 +248,15 @@ module _ (r : ReferenceRun) (d : Taken) (input : List ℤ) (program : IsProgram 
     pub created_fits : Fits (like input) (deed_of d u) (deed_moved r.program input st moves y)
     created_fits = event_fits r d input program u st moves y q good objects r0 r1 act0 act refl _ (known_is r d input program u st moves y q good objects r0 r1 act0 act refl)
         (ap (heap_after r.program (region_of l) q.both.f.registers) e ∙ sym (ap (heap_after r.program (region_of l0) q.both.f0.registers) e))
-        (subst (λ (z : Op). AreCallsLike input (op_after r.program l0 q.both.x (answer0 r d input u st moves y q) z) (set_shadow q.both.x.result (always (or_zero q.both.x.result (op_own r.program l0 q.both.f0.registers (answer0 r d input u st moves y q) z))) q.both.ks ∷ q.both.more) (op_after r.program l q.both.x (answer r d input u st moves y q) z)) (sym e)
-          (record {
+        (subst (λ (z : Op). AreCallsLike input (op_after r.program l0 q.both.x (answer0 r d input u st moves y q) z) (set_shadow q.both.x.result (always (or_zero q.both.x.result (op_own r.program l0 q.both.f0.registers (answer0 r d input u st moves y q) z))) q.both.ks ∷ q.both.more) (op_after r.program l q.both.x (answer r d input u st moves y q) z)) (sym e) (
+          record {
             function = q.both.top.function;
             place = ap (λ (i : ℕ). i + 1) q.both.top.place;
             height = q.both.top.height;
             registers = told_number input q.both.x.result q.both.ks q.both.f.registers (cut_to (returned_by known.PthreadCreate) (answer0 r d input u st moves y q)) (cut_to (returned_by known.PthreadCreate) (answer r d input u st moves y q)) q.both.top.registers (ap (cut_to (returned_by known.PthreadCreate)) (sym answers));
-          }, q.both.rest))
+          },
+          q.both.rest,
+        ))
         replies create_cell (reads_nothing r d input program u st moves y q good objects r0 r1 act0 act refl refl) create_writes
 
   pub create_fits : (args : List Value) → q.both.x.op ≡ op.CallKnown known.PthreadCreate args → Fits (like input) (deed_of d u) (deed_moved r.program input st moves y)
@@ -357,13 +364,15 @@ module _ (r : ReferenceRun) (d : Taken) (input : List ℤ) (program : IsProgram 
       pub joined_fits : Fits (like input) (deed_of d u) (deed_moved r.program input st moves y)
       joined_fits = event_fits r d input program u st moves y q good objects rj rj act0 act refl _ (known_is r d input program u st moves y q good objects rj rj act0 act refl)
           (ap (heap_after r.program (region_of l) q.both.f.registers) e ∙ sym (ap (heap_after r.program (region_of l0) q.both.f0.registers) e))
-          (subst (λ (z : Op). AreCallsLike input (op_after r.program l0 q.both.x (answer0 r d input u st moves y q) z) (set_shadow q.both.x.result (always (or_zero q.both.x.result (op_own r.program l0 q.both.f0.registers (answer0 r d input u st moves y q) z))) q.both.ks ∷ q.both.more) (op_after r.program l q.both.x (answer r d input u st moves y q) z)) (sym e)
-            (record {
+          (subst (λ (z : Op). AreCallsLike input (op_after r.program l0 q.both.x (answer0 r d input u st moves y q) z) (set_shadow q.both.x.result (always (or_zero q.both.x.result (op_own r.program l0 q.both.f0.registers (answer0 r d input u st moves y q) z))) q.both.ks ∷ q.both.more) (op_after r.program l q.both.x (answer r d input u st moves y q) z)) (sym e) (
+            record {
               function = q.both.top.function;
               place = ap (λ (i : ℕ). i + 1) q.both.top.place;
               height = q.both.top.height;
               registers = told_number input q.both.x.result q.both.ks q.both.f.registers (cut_to (returned_by known.PthreadJoin) (answer0 r d input u st moves y q)) (cut_to (returned_by known.PthreadJoin) (answer r d input u st moves y q)) q.both.top.registers (ap (cut_to (returned_by known.PthreadJoin)) (sym join_answers));
-            }, q.both.rest))
+            },
+            q.both.rest,
+          ))
           join_replies join_cell join_reads join_writes
 
     pub join_fits : (args : List Value) → q.both.x.op ≡ op.CallKnown known.PthreadJoin args → Fits (like input) (deed_of d u) (deed_moved r.program input st moves y)

@@ -41,7 +41,7 @@ module _ (r : ReferenceRun) (d : Taken) where
       let b = behind_is r d s x h.0 in (
         e,
         met_words T (done_after (recorded.is_event x) k) (suc n) _ (behind r s x.thread.0) z xs (subst (λ (w : State). IsRun r.gated r.program r.input w xs z) (sym b) h.1)
-          (words_kept (reference_of r) d n (record { did = timed recorded T k x; calls = calls_of (slice_get s.locals x.thread.0); bytes = byte_at s.memory }) known r.gated r.input s h.0 plain.0 e ∙ sym (ap (λ (w : State). length w.locals) b)) plain.1,
+            (words_kept (reference_of r) d n (record { did = timed recorded T k x; calls = calls_of (slice_get s.locals x.thread.0); bytes = byte_at s.memory }) known r.gated r.input s h.0 plain.0 e ∙ sym (ap (λ (w : State). length w.locals) b)) plain.1,
       )
 
   pub all_words : IsOrderedRun r → ExtentsArePlain r d → AllOf (λ (u : PlanUnit). length u.seen.before.words ≡ length u.state.locals) (units_of r d)

@@ -161,7 +161,7 @@ module _ (R : Reference) (d : Taken) (n : ℕ) (m : Moment) (known : RunShadow) 
           let t = thread_in m in
           let a = answer_to input s t (next_of p s t) in
           sym (ap (λ (z : Step). more_of z.kind (length known.words)) (told_is gated p input s h.after t m.did.did h.is_step)
-            ∙ nowhere gated p s t (operands_in p (slice_get s.locals t)) a (number_in p (slice_get s.locals t) a) (length known.words) (next_of p s t) refl (sym is_instr ∙ e))
+          ∙ nowhere gated p s t (operands_in p (slice_get s.locals t)) a (number_in p (slice_get s.locals t) a) (length known.words) (next_of p s t) refl (sym is_instr ∙ e))
 
   pub words_kept : (is_live d.pinned (thread_of known (thread_in m)).extents ≡ false → is_some (happening_in m.did.did.kind) ≡ false) → length known.words ≡ length s.locals → length (after_step R d n m known).words ≡ length h.after.locals
   words_kept plain e = go (is_live d.pinned (thread_of known (thread_in m)).extents) refl
