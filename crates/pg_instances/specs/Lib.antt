@@ -9,3 +9,4 @@ pub mod Keeps
 pub mod References
 pub mod Inner
 pub mod Alike
+pub mod Instances
