@@ -28,3 +28,4 @@ pub mod Heads
 pub mod References
 pub mod InnerRegions
 pub mod Alike
+pub mod Instances

@@ -1,11 +1,12 @@
 -- A step of the machine by a thread that is inside.
 use Rattle.std.proofs.Common.{◌≡◌, ℕ, ℤ, ◌<◌, Bool, true, false, List, length, Option, Some, None, refl, sym, ap, ◌∙◌, subst, arith, inl, inr}
-use Rattle.std.specs.Prelude.{slice_get, slice_set, slice_index}
+use Rattle.std.specs.Prelude.{◌-◌, slice_get, slice_set, slice_index, if◌then◌else◌}
 use Rattle.std.proofs.lemmas.Bool.Decides.{nat_tests}
 use Rattle.std.proofs.lemmas.Option.{slice_get_within}
 use Rattle.pg_num.specs.Places.{ByteRange, meet}
-use Rattle.pg_mem.specs.Memory.{Words, read, written}
-use Rattle.pg_mem.proofs.ReadsAndWrites.{read-small, read-written_apart}
+use Rattle.pg_mem.specs.Bytes.{byte_of}
+use Rattle.pg_mem.specs.Memory.{Words, byte_at, read, written}
+use Rattle.pg_mem.proofs.ReadsAndWrites.{byte_at-written_law, read-small, read-written_apart}
 use Rattle.pg_ir.specs.declared.ids.InstrId.{InstrId}
 use Rattle.pg_ir.specs.declared.instr.Instr.{Instr}
 use Rattle.pg_ir.specs.Program.{NumberedProgram}
@@ -23,9 +24,11 @@ use Rattle.pg_machine.specs.MachineStep.{Did, answered, input_at, instr_told, is
 use Rattle.pg_machine.proofs.Asks.{next_is, ready_acts}
 use Rattle.pg_machine.proofs.Threads.{set_own, set_other}
 use Rattle.pg_closed.specs.Freeable.{frame_of}
+use Rattle.pg_closed.specs.Shadows.{is_within}
+use Rattle.pg_num.specs.declared.layout.TheConstants.{MEMORY_BYTES}
 use Rattle.pg_instances.specs.Leads.{IsWithin, KeepsCells}
 use Rattle.pg_instances.specs.Inside.{Instance, AreApart}
-use Rattle.pg_instances.specs.Stays.{AccessesWithin, TellsWithin, IsWithinExtent, StaysInside, CanStepInside}
+use Rattle.pg_instances.specs.Stays.{AccessesWithin, IsOutside, TellsWithin, IsWithinExtent, StaysInside, CanStepInside}
 use Rattle.pg_instances.proofs.Actions.{Accesses}
 use Rattle.pg_instances.proofs.Inner.{IsCalmKind, GoesOn, GoesFrom, Proceeds, inside_proceeds, branch_proceeds}
 
@@ -38,6 +41,15 @@ pub stored_keeps : (I : Instance) (m : Words) (place word n : ℕ) (q : ByteRang
 stored_keeps I m place word n q apart a k = record {
   kept = λ frame r l w some lt. read-written_apart m q r n lt (apart_ranges (frame_of word) frame q r (apart (frame_of word) frame a.reached l) a.within w a.some some) ∙ k.kept frame r l w some lt;
 }
+
+outside_range : (frame q : ByteRange) (b : ℕ) → IsWithin q frame → is_within frame b ≡ false → is_within q b ≡ false
+outside_range frame q b h e = let f = h.from in let g = h.end in grind (arith, nat_tests, e, f, g)
+
+-- a store leaves each byte outside of the frames of stores
+pub stored_bytes : (I : Instance) (m : Words) (place word n : ℕ) (q : ByteRange) → Accesses I place true word q → (b : ℕ) → b < MEMORY_BYTES → IsOutside I.recorded b → byte_at (written m q n) b ≡ byte_at m b
+stored_bytes I m place word n q a b lt h =
+    let e : is_within q b ≡ false = outside_range (frame_of word) q b a.within (h (frame_of word) a.reached) in
+    byte_at-written_law m q n b lt ∙ ap (λ (c : Bool). if c then byte_of n (b - q.start) else byte_at m b) e
 
 -- ---- what is told
 
@@ -70,12 +82,12 @@ module _ (I : Instance) (gated : List InstrId) (input : List ℤ) (s z : State) 
   operands_here = ap (operands_in p) c.is_local
 
   -- the state behind a step that leaves this memory
-  abbrev then : Words → ℕ → State
-  then m n = record s { memory = m; locals = local_after p s.locals t n (slice_get s.locals t) }
+  abbrev behind : Words → ℕ → State
+  behind m n = record s { memory = m; locals = local_after p s.locals t n (slice_get s.locals t) }
 
-  stays : (m : Words) (n : ℕ) → KeepsCells I.recorded I.memory (read m) → GoesOn I l (after p l n) → TellsWithin I (step_told gated p s t n).kind → Did (step_told gated p s t n) (then m n) ≡ Did x z → StaysInside I t l x s z
-  stays m n k g w e =
-      let d = did (step_told gated p s t n) x (then m n) z e in
+  stays : (m : Words) (n : ℕ) → ((b : ℕ) → b < MEMORY_BYTES → IsOutside I.recorded b → byte_at m b ≡ byte_at s.memory b) → KeepsCells I.recorded I.memory (read m) → GoesOn I l (after p l n) → TellsWithin I (step_told gated p s t n).kind → Did (step_told gated p s t n) (behind m n) ≡ Did x z → StaysInside I t l x s z
+  stays m n o k g w e =
+      let d = did (step_told gated p s t n) x (behind m n) z e in
       let locals : local_after p s.locals t n (slice_get s.locals t) ≡ slice_set s.locals t (after p l n) = ap (local_after p s.locals t n) c.is_local in
       subst (λ (y : Step). StaysInside I t l y s z) d.0 (subst (λ (y : State). StaysInside I t l (step_told gated p s t n) s y) d.1 (record {
         tells = w;
@@ -85,6 +97,7 @@ module _ (I : Instance) (gated : List InstrId) (input : List ℤ) (s z : State) 
         others = λ u ne. ap (λ (ls : List LocalState). slice_get ls u) locals ∙ set_other s.locals t u (after p l n) ne;
         rest = record { sync = refl; words = refl; printed = refl; value = refl };
         cells = k;
+        bytes = o;
       }))
 
   tells_local : (n : ℕ) (a : Action) → next_of p s t ≡ a → Proceeds I (read s.memory) l → ((ns : List ℕ) (m k : ℕ) → TellsWithin I (kind_told gated p s t ns m k a)) → TellsWithin I (step_told gated p s t n).kind
@@ -106,15 +119,15 @@ module _ (I : Instance) (gated : List InstrId) (input : List ℤ) (s z : State) 
 
   by_action : (a : Action) → next_of p s t ≡ a → Proceeds I (read s.memory) l → GoesFrom I (read s.memory) l a → may_act s t a ≡ true → settled gated p s t (taken p s t (answered p input s t a)) ≡ Did x z → StaysInside I t l x s z
   unfolding answered
-  by_action actions.Local e pr g m d = stays s.memory 0 c.cells g (tells_local 0 actions.Local e pr (λ ns i k. instr_calm pr ns k)) d
-  by_action (actions.In i) e pr g m d = stays s.memory (input_at input i) c.cells (g (input_at input i)) (tells_local (input_at input i) (actions.In i) e pr (λ ns j k. tt)) d
-  by_action actions.InLen e pr g m d = stays s.memory (length input) c.cells (g (length input)) (tells_local (length input) actions.InLen e pr (λ ns j k. tt)) d
+  by_action actions.Local e pr g m d = stays s.memory 0 (λ b lt o. refl) c.cells g (tells_local 0 actions.Local e pr (λ ns i k. instr_calm pr ns k)) d
+  by_action (actions.In i) e pr g m d = stays s.memory (input_at input i) (λ b lt o. refl) c.cells (g (input_at input i)) (tells_local (input_at input i) (actions.In i) e pr (λ ns j k. tt)) d
+  by_action actions.InLen e pr g m d = stays s.memory (length input) (λ b lt o. refl) c.cells (g (length input)) (tells_local (length input) actions.InLen e pr (λ ns j k. tt)) d
   by_action (actions.Load r) e pr g m d =
-      stays s.memory (read s.memory r) c.cells g.1
+      stays s.memory (read s.memory r) (λ b lt o. refl) c.cells g.1
       (subst (λ (b : Action). TellsWithin I (kind_told gated p s t (operands_in p (slice_get s.locals t)) (read s.memory r) (number_in p (slice_get s.locals t) (read s.memory r)) b)) (sym e)
       (access_within (slice_index (operands_in p (slice_get s.locals t)) 0) r false (read s.memory r) (id_of l) refl (subst (λ (ns : List ℕ). Accesses I (id_of l) false (slice_index ns 0) r) (sym operands_here) g.0))) d
   by_action (actions.Store r n) e pr g m d =
-      stays (written s.memory r n) 0 (stored_keeps I s.memory (id_of l) (slice_index (operand_values p l) 1) n r c.branch.apart g.0 c.cells) g.1
+      stays (written s.memory r n) 0 (stored_bytes I s.memory (id_of l) (slice_index (operand_values p l) 1) n r g.0) (stored_keeps I s.memory (id_of l) (slice_index (operand_values p l) 1) n r c.branch.apart g.0 c.cells) g.1
       (subst (λ (b : Action). TellsWithin I (kind_told gated p s t (operands_in p (slice_get s.locals t)) 0 (number_in p (slice_get s.locals t) 0) b)) (sym e)
       (access_within (slice_index (operands_in p (slice_get s.locals t)) 1) r true n (id_of l) refl (subst (λ (ns : List ℕ). Accesses I (id_of l) true (slice_index ns 1) r) (sym operands_here) g.0))) d
   by_action (actions.Event r) e pr g m d = absurd g

@@ -136,6 +136,10 @@ module _ (p : NumberedProgram) (registers : ℕ → Option ℕ) (memory : ByteRa
 
   -- ---- arguments
 
+  -- loads from w that lead where a path that was followed leads
+  abbrev Behind : ℕ → ℕ → List ℕ → Followed → Type 0
+  Behind w k ks f = (g : Followed) × (followed_from memory w (k ∷ ks) ≡ Some g) × ((x : ℕ) → Contains g.pointers x → (y : ℕ) × Contains f.pointers y × (frame_of y ≡ frame_of x)) × (g.last ≡ f.last)
+
   -- the same loads from a pointer that was moved, the first of them by as much less
   moved_loads : (last j a : ℕ) (ks : List ℕ) (w : ℕ) (f : Followed) → w ≡ moved_by last (pos j) → followed_from memory last (moved_offset j a ∷ ks) ≡ Some f →
       (g : Followed) × (followed_from memory w (a ∷ ks) ≡ Some g) × ((x : ℕ) → Contains g.pointers x → (y : ℕ) × Contains f.pointers y × (frame_of y ≡ frame_of x)) × (g.last ≡ f.last)
@@ -174,14 +178,21 @@ module _ (p : NumberedProgram) (registers : ℕ → Option ℕ) (memory : ByteRa
           }
 
       -- from the pointers that follow the argument's path
-      finish : (k : ℕ) (ks : List ℕ) (ls : Loads) → a.path.loads ≡ ls → offsets_of ls ≡ k ∷ ks → (second : Followed) → ((x : ℕ) → Contains second.pointers x → IsLoaded xs (frame_of x)) → l.at.last ≡ second.last →
-          (g : Followed) → followed_from memory w (k ∷ ks) ≡ Some g → ((x : ℕ) → Contains g.pointers x → (y : ℕ) × Contains second.pointers y × (frame_of y ≡ frame_of x)) → g.last ≡ second.last → Leads p params memory xs a
-      finish k ks ls t s second loaded e g is each same = record {
-        at = g;
-        is = follows g ls t (ap (followed_from memory w) s ∙ is);
-        loads = λ z c. let y = each z c in subst (λ (n : ByteRange). IsLoaded xs n) y.2 (loaded y.0 y.1);
-        last = reached g.last (ap frame_of (same ∙ sym e));
+      finish : (k : ℕ) (ks : List ℕ) (ls : Loads) → a.path.loads ≡ ls → offsets_of ls ≡ k ∷ ks → (second : Followed) → ((x : ℕ) → Contains second.pointers x → IsLoaded xs (frame_of x)) → l.at.last ≡ second.last → Behind w k ks second → Leads p params memory xs a
+      finish k ks ls t s second loaded e g = record {
+        at = g.0;
+        is = follows g.0 ls t (ap (followed_from memory w) s ∙ g.1);
+        loads = λ z c. let y = g.2 z c in subst (λ (n : ByteRange). IsLoaded xs n) y.2 (loaded y.0 y.1);
+        last = reached g.0.last (ap frame_of (g.3 ∙ sym e));
       }
+
+      -- from the loads of the argument's path, and those behind
+      split_at : (k : ℕ) (ks : List ℕ) (ls : Loads) → a.path.loads ≡ ls → offsets_of ls ≡ k ∷ ks → (j : ℕ) → q.added ≡ Some j → (w0 : ℕ) → root_value p registers q.root ≡ Some w0 → FollowsBoth memory w0 (offsets_of q.loads) (moved_offset j k ∷ ks) l.at → Leads p params memory xs a
+      split_at k ks ls t s j u w0 r d =
+          let first : followed.followed p registers memory (root_path_of q) ≡ Some d.first = root_follows memory (offsets_of q.loads) (root_value p registers q.root) w0 r ∙ d.is_first in
+          let in_first : Recorded d.first = λ z c. l.loads z (subst (λ (n : List ℕ). Contains n z) (sym d.pointers) (Contains-append_left d.first.pointers d.second.pointers z c)) in
+          let word : w ≡ moved_by d.first.last (pos j) = subst (λ (z : Option ℕ). IsMoved d.first.last z w) u (h.value d.first first in_first) in
+          finish k ks ls t s d.second (λ z c. l.loads z (subst (λ (n : List ℕ). Contains n z) (sym d.pointers) (Contains-append_right d.first.pointers d.second.pointers z c))) d.last (moved_loads d.first.last j k ks w d.second word d.is_second)
 
       -- a first load in the callee
       some : (k : ℕ) (ks : List ℕ) (ls : Loads) → a.path.loads ≡ ls → offsets_of ls ≡ k ∷ ks → (j : ℕ) → offsets_of (shifted j ls) ≡ moved_offset j k ∷ ks → q.added ≡ Some j → (o : Option Loads) → appended q.loads (shifted j ls) ≡ o → root_path_with q.root o ≡ Some b.path → Leads p params memory xs a
@@ -191,12 +202,7 @@ module _ (p : NumberedProgram) (registers : ℕ → Option ℕ) (memory : ByteRa
           let f : followed.followed p registers memory (record { root = q.root; loads = l' }) ≡ Some l.at = subst (λ (z : RootPath). followed.followed p registers memory z ≡ Some l.at) (sym y) l.is in
           let r0 = follows_root memory (offsets_of l') (root_value p registers q.root) l.at f in
           let split : offsets_of l' ≡ offsets_of q.loads ++ moved_offset j k ∷ ks = appended_offsets q.loads (shifted j ls) l' v ∙ ap (λ (z : List ℕ). offsets_of q.loads ++ z) s' in
-          let d : FollowsBoth memory r0.0 (offsets_of q.loads) (moved_offset j k ∷ ks) l.at = follows_both memory r0.0 (offsets_of q.loads) (moved_offset j k ∷ ks) l.at (subst (λ (z : List ℕ). followed_from memory r0.0 z ≡ Some l.at) split r0.2) in
-          let first : followed.followed p registers memory (root_path_of q) ≡ Some d.first = root_follows memory (offsets_of q.loads) (root_value p registers q.root) r0.0 r0.1 ∙ d.is_first in
-          let in_first : Recorded d.first = λ z c. l.loads z (subst (λ (n : List ℕ). Contains n z) (sym d.pointers) (Contains-append_left d.first.pointers d.second.pointers z c)) in
-          let word : w ≡ moved_by d.first.last (pos j) = subst (λ (z : Option ℕ). IsMoved d.first.last z w) u (h.value d.first first in_first) in
-          let g = moved_loads d.first.last j k ks w d.second word d.is_second in
-          finish k ks ls t s d.second (λ z c. l.loads z (subst (λ (n : List ℕ). Contains n z) (sym d.pointers) (Contains-append_right d.first.pointers d.second.pointers z c))) d.last g.0 g.1 g.2 g.3
+          split_at k ks ls t s j u r0.0 r0.1 (follows_both memory r0.0 (offsets_of q.loads) (moved_offset j k ∷ ks) l.at (subst (λ (z : List ℕ). followed_from memory r0.0 z ≡ Some l.at) split r0.2))
 
       by_added : (k : ℕ) (ks : List ℕ) (ls : Loads) → a.path.loads ≡ ls → offsets_of ls ≡ k ∷ ks → ((j : ℕ) → offsets_of (shifted j ls) ≡ moved_offset j k ∷ ks) → ((o : Option ℕ) → o ≡ None → loads_behind q.loads o ls ≡ None) → ((j : ℕ) → loads_behind q.loads (Some j) ls ≡ appended q.loads (shifted j ls)) → (o : Option ℕ) → q.added ≡ o → root_path_with q.root (loads_behind q.loads o ls) ≡ Some b.path → Leads p params memory xs a
       by_added k ks ls t s s' none more None u v = absurd (let z = none None refl in let y : root_path_with q.root None ≡ Some b.path = subst (λ (o : Option Loads). root_path_with q.root o ≡ Some b.path) z v in cc)

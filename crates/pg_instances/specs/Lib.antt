@@ -7,3 +7,4 @@ pub mod Moves
 pub mod References
 pub mod Inner
 pub mod Alike
+pub mod Instances

@@ -1,7 +1,9 @@
 -- What a step of a thread inside an instance does.
-use Rattle.std.specs.Prelude.{◌≡◌, ℕ, ◌⊎◌, ℤ, List, [], ◌∷◌, true, false, Some, slice_get}
+use Rattle.std.specs.Prelude.{◌≡◌, ℕ, ◌<◌, ◌⊎◌, ℤ, List, [], ◌∷◌, true, false, Some, slice_get}
 use Rattle.std.specs.List.{AllByRecursion}
-use Rattle.pg_mem.specs.Memory.{read}
+use Rattle.pg_num.specs.Places.{ByteRange}
+use Rattle.pg_num.specs.declared.layout.TheConstants.{MEMORY_BYTES}
+use Rattle.pg_mem.specs.Memory.{byte_at, read}
 use Rattle.pg_ir.specs.declared.ids.InstrId.{InstrId}
 use Rattle.pg_step.specs.LocalState.{LocalState}
 use Rattle.pg_trace.specs.declared.step.Step.{Step}
@@ -13,7 +15,8 @@ use Rattle.pg_machine.specs.State.{State}
 use Rattle.pg_machine.specs.MachineStep.{Did, is_gated, ready, step}
 use Rattle.pg_machine.specs.Locality.{LeavesRest}
 use Rattle.pg_machine.specs.Runs.{IsRun, Takes}
-use Rattle.pg_closed.specs.Freeable.{frame_of}
+use Rattle.pg_closed.specs.Freeable.{FreeAccess, frame_of}
+use Rattle.pg_closed.specs.Shadows.{is_within}
 use Rattle.pg_instances.specs.Leads.{IsReached, IsWithin, KeepsCells}
 use Rattle.pg_instances.specs.Inside.{Instance, IsInside, Joins, IsAtBranch}
 
@@ -34,8 +37,13 @@ TellsWithin I k = ⊥
 abbrev pub IsWithinExtent : Instance → LocalState → Type 0
 IsWithinExtent I l = (l ≡ I.state) ⊎ IsInside I l
 
+-- a byte in no frame to which a recorded store leads
+abbrev pub IsOutside : List FreeAccess → ℕ → Type 0
+IsOutside xs b = (frame : ByteRange) → IsReached xs true frame → is_within frame b ≡ false
+
 -- a step of thread t, whose local state is l, from s to z tells no event and no allocation, and accesses recorded frames
--- alone; it leaves the thread inside or takes the edge to the join, and leaves the other threads and all but memory as they were, and the numbers from which recorded paths load
+-- alone; it leaves the thread inside or takes the edge to the join; and it leaves the other threads, all but memory, the
+-- numbers that recorded paths load, and each byte outside of the frames of recorded stores
 pub record StaysInside (I : Instance) (t : ℕ) (l : LocalState) (x : Step) (s z : State) : Type 0 where
   pub tells : TellsWithin I x.kind
   pub local : LocalState
@@ -44,6 +52,7 @@ pub record StaysInside (I : Instance) (t : ℕ) (l : LocalState) (x : Step) (s z
   pub others : (u : ℕ) → (u ≡ t → ⊥) → slice_get z.locals u ≡ slice_get s.locals u
   pub rest : LeavesRest s z
   pub cells : KeepsCells I.recorded I.memory (read z.memory)
+  pub bytes : (b : ℕ) → b < MEMORY_BYTES → IsOutside I.recorded b → byte_at z.memory b ≡ byte_at s.memory b
 
 -- of a thread that is at the branch step or inside, while recorded paths load what they loaded at the branch step
 pub record CanStepInside (I : Instance) (gated : List InstrId) (s : State) (t : ℕ) (l : LocalState) : Type 0 where

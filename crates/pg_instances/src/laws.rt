@@ -2,6 +2,7 @@
 
 ghost use Rattle.pg_instances.specs.Alike.{AlikeStatesBeginInstances};
 ghost use Rattle.pg_instances.specs.Inner.{InnerRegionsLieWithin};
+ghost use Rattle.pg_instances.specs.Instances.{RunsHaveInstances};
 ghost use Rattle.pg_instances.specs.References.{ReferenceRunsKeepExtents};
 ghost use Rattle.pg_instances.specs.Together.{ExtentsStandTogether};
 ghost use Rattle.pg_instances.specs.Stays.{StepsInsideStay, TheThreadAlone};
@@ -22,6 +23,12 @@ pub fn a_step_inside_stays()
 /// join.
 pub fn the_thread_alone()
     ensures { TheThreadAlone }
+{}
+
+/// Those steps together, up to the first that leads to the join, change the thread's local state and bytes in the frames of
+/// recorded stores, and nothing else; they are no events, and access recorded frames alone.
+pub fn runs_have_instances()
+    ensures { RunsHaveInstances }
 {}
 
 /// In a guided run that exits, a step that is no event is followed by a step of its thread: so the steps between a freeable
