@@ -4,17 +4,15 @@ use Rattle.std.specs.Prelude.{slice_get, slice_index_or, if◌then◌else◌}
 use Rattle.std.specs.List.{AllByRecursion as AllOf}
 use Rattle.pg_num.specs.Numbers.{modulus, signed}
 use Rattle.pg_num.specs.declared.width.Width.TheVariants.{W64}
-use Rattle.pg_ir.specs.declared.instr.Instr.{Instr}
 use Rattle.pg_ir.specs.declared.instr.Op.{Op}
 use Rattle.pg_ir.specs.declared.instr.Op.TheVariants as op
 use Rattle.pg_ir.specs.declared.known.Known.{Known as KnownFunction}
 use Rattle.pg_ir.specs.declared.known.Known.TheVariants as known
 use Rattle.pg_ir.specs.declared.request.TrapName.TheVariants as traps
 use Rattle.pg_ir.specs.declared.value.Value.{Value}
-use Rattle.pg_ir.specs.Program.{NumberedProgram, function_of, result_of, types_of}
+use Rattle.pg_ir.specs.Program.{function_of, result_of, types_of}
 use Rattle.pg_ir.specs.Signatures.{returned_by}
 use Rattle.pg_ir.specs.WellFormed.{FitsOp, IsProgram, granules_for, type_at}
-use Rattle.pg_nodes.specs.declared.check.Test.{Test}
 use Rattle.pg_nodes.specs.declared.check.Test.TheVariants as test
 use Rattle.pg_nodes.specs.Values as nodes
 use Rattle.pg_nodes.specs.Values.{is_met}
@@ -23,10 +21,10 @@ use Rattle.pg_step.specs.declared.action.Action.{Action}
 use Rattle.pg_step.specs.declared.action.Action.TheVariants as actions
 use Rattle.pg_step.specs.declared.region.Region.{Region}
 use Rattle.pg_step.specs.EdgeStep.{set_register}
-use Rattle.pg_step.specs.LocalState.{Frame, LocalState, region_of}
-use Rattle.pg_step.specs.Operands.{argument, first_four, given, number_at, operand, operands_of}
+use Rattle.pg_step.specs.LocalState.{region_of}
+use Rattle.pg_step.specs.Operands.{argument, first_four, given, operands_of}
 use Rattle.pg_step.specs.States.{CanStep}
-use Rattle.pg_step.specs.Step.{allocated, has_room, heap_with, known_action, on_value, pushed, stepped, taken}
+use Rattle.pg_step.specs.Step.{allocated, has_room, heap_with, on_value, pushed}
 use Rattle.pg_step.specs.Told.{op_own, or_zero}
 use Rattle.pg_step.proofs.Ranges.{residue_small}
 use Rattle.pg_trace.specs.declared.step.Step.{Step}
@@ -34,13 +32,13 @@ use Rattle.pg_trace.specs.declared.step.StepKind.{StepKind}
 use Rattle.pg_trace.specs.declared.step.StepKind.TheVariants as kinds
 use Rattle.pg_machine.specs.MachineStep as machine
 use Rattle.pg_machine.specs.MachineStep.{op_told}
-use Rattle.pg_machine.specs.State.{State, next_of}
+use Rattle.pg_machine.specs.State.{State}
 use Rattle.pg_effects.specs.Effect.{answer_to}
 use Rattle.pg_closed.specs.Known.{Taken, from_input, operand_at, result_in, set_shadow}
 use Rattle.pg_closed.specs.Moments.{thread_in}
-use Rattle.pg_closed.specs.Rules.{Need, Value as ValueNeed, is_malloc, kind_in, operand_of, value_needs, value_needs_by}
-use Rattle.pg_closed.specs.Shadows.{OnInput, Shadow, Known, always, from_all}
-use Rattle.pg_units.specs.Likes.{AreCallsLike, AreLike, IsCallLike, IsLike, like}
+use Rattle.pg_closed.specs.Rules.{Value as ValueNeed, is_malloc, kind_in, operand_of, value_needs}
+use Rattle.pg_closed.specs.Shadows.{OnInput, Shadow, Known, always}
+use Rattle.pg_units.specs.Likes.{AreLike, IsLike, like}
 use Rattle.pg_units.specs.Moves.{deed_moved}
 use Rattle.pg_units.specs.Units.{PlanUnit, ReferenceRun, deed_of, reference_of}
 use Rattle.pg_units.proofs.Branches.{act0_at, act_at, can0_at, can_at, eq_met, inner_at, kind_local, needs_here, number_known}
@@ -105,14 +103,16 @@ module _ (r : ReferenceRun) (d : Taken) (input : List ℤ) (program : IsProgram 
       let local0 = act0_at r d input u st moves y q (op.Alloca bytes) e ∙ room_done (has_room r0 (granules_for bytes)) (can0_at r d input u st moves y q (op.Alloca bytes) e) in
       let local = act_at r d input u st moves y q (op.Alloca bytes) e ∙ room_done (has_room r1 (granules_for bytes)) (can_at r d input u st moves y q (op.Alloca bytes) e) in
       let kind : kind_in u.seen ≡ kinds.Allocation 0 (or_zero b.x.result (pushed r0 bytes)) = kind_local r d input u st moves y q local0 ∙ told e in
-      inner_at r d input u st moves y q (op.Alloca bytes) e (subst IsInner (sym local0) tt) (subst IsInner (sym local) tt) refl
-      (record {
+      inner_at r d input u st moves y q (op.Alloca bytes) e (subst IsInner (sym local0) tt) (subst IsInner (sym local) tt) refl (
+        record {
           function = b.top.function;
           place = ap (λ (i : ℕ). i + 1) b.top.place;
           height = ap (λ (i : ℕ). i + granules_for bytes) b.top.height;
           registers = subst (λ (k : StepKind). AreLike input (set_shadow b.x.result (always (result_in k)) b.ks) (set_register b.f.registers b.x.result (Some (pushed r1 bytes)))) (sym kind)
               (told_number input b.x.result b.ks b.f.registers (pushed r0 bytes) (pushed r1 bytes) b.top.registers (ap (λ (z : Region). pushed z bytes) (sym same_region)));
-        }, b.rest)
+        },
+        b.rest,
+      )
     where
       told : q.both.x.op ≡ op.Alloca bytes → op_told (first_four r.program q.both.f0.registers (operands_of q.both.x.op)) (or_zero q.both.x.result (op_own r.program (running (thread_in u.seen.moment) q.both.h q.both.f0 q.both.fs0 q.both.n) q.both.f0.registers (answer0 r d input u st moves y q) q.both.x.op)) q.both.x.op ≡ kinds.Allocation 0 (or_zero q.both.x.result (pushed r0 bytes))
       told k = ap (λ (z : Op). op_told (first_four r.program q.both.f0.registers (operands_of z)) (or_zero q.both.x.result (op_own r.program (running (thread_in u.seen.moment) q.both.h q.both.f0 q.both.fs0 q.both.n) q.both.f0.registers (answer0 r d input u st moves y q) z)) z) k
@@ -138,10 +138,12 @@ module _ (r : ReferenceRun) (d : Taken) (input : List ℤ) (program : IsProgram 
       let act0 = act0_at r d input u st moves y q o e ∙ v0.2 in
       let act = act_at r d input u st moves y q o e ∙ v.2 in
       let a : answer r d input u st moves y q ≡ machine.input_at input (signed W64 v.0) = ap (answer_to input st (thread_in u.seen.moment)) act in
-      inner_at r d input u st moves y q o e (subst IsInner (sym act0) tt) (subst IsInner (sym act) tt) refl
-      (frame_stepped input b.f0 b.f b.ks b.x.result (from_input (operand_at p b.ks b.x.op 0)) (answer0 r d input u st moves y q % modulus W64) (answer r d input u st moves y q % modulus W64) b.top
-          (subst (λ (z : Op). IsLike input (from_input (operand_at p b.ks z 0)) (Some (answer r d input u st moves y q % modulus W64))) (sym e)
-            (subst (λ (n : ℕ). IsLike input (from_input (operand_at p b.ks o 0)) (Some (n % modulus W64))) (sym a) (input_like input (operand_at p b.ks o 0) v.0 (subst (λ (m : Option ℕ). IsLike input (operand_at p b.ks o 0) m) v.1 (first_like args))))), b.rest)
+      inner_at r d input u st moves y q o e (subst IsInner (sym act0) tt) (subst IsInner (sym act) tt) refl (
+        frame_stepped input b.f0 b.f b.ks b.x.result (from_input (operand_at p b.ks b.x.op 0)) (answer0 r d input u st moves y q % modulus W64) (answer r d input u st moves y q % modulus W64) b.top
+            (subst (λ (z : Op). IsLike input (from_input (operand_at p b.ks z 0)) (Some (answer r d input u st moves y q % modulus W64))) (sym e)
+            (subst (λ (n : ℕ). IsLike input (from_input (operand_at p b.ks o 0)) (Some (n % modulus W64))) (sym a) (input_like input (operand_at p b.ks o 0) v.0 (subst (λ (m : Option ℕ). IsLike input (operand_at p b.ks o 0) m) v.1 (first_like args))))),
+        b.rest,
+      )
 
   pub pg_in_len_fits : (args : List Value) → length input < 2 ^ 64 → q.both.x.op ≡ op.CallKnown known.PgInLen args → Fits (like input) (deed_of d u) (deed_moved r.program input st moves y)
   pg_in_len_fits args small e =
@@ -150,9 +152,11 @@ module _ (r : ReferenceRun) (d : Taken) (input : List ℤ) (program : IsProgram 
       let act0 = act0_at r d input u st moves y q o e in
       let act = act_at r d input u st moves y q o e in
       let a : answer r d input u st moves y q ≡ length input = ap (answer_to input st (thread_in u.seen.moment)) act in
-      inner_at r d input u st moves y q o e (subst IsInner (sym act0) tt) (subst IsInner (sym act) tt) refl
-      (frame_stepped input b.f0 b.f b.ks b.x.result (Known (λ i. Some (length i))) (answer0 r d input u st moves y q % modulus W64) (answer r d input u st moves y q % modulus W64) b.top
-          (ap (λ (n : ℕ). Some (n % modulus W64)) a ∙ ap Some (whole (length input) small)), b.rest)
+      inner_at r d input u st moves y q o e (subst IsInner (sym act0) tt) (subst IsInner (sym act) tt) refl (
+        frame_stepped input b.f0 b.f b.ks b.x.result (Known (λ i. Some (length i))) (answer0 r d input u st moves y q % modulus W64) (answer r d input u st moves y q % modulus W64) b.top
+            (ap (λ (n : ℕ). Some (n % modulus W64)) a ∙ ap Some (whole (length input) small)),
+        b.rest,
+      )
     where
       whole : (m : ℕ) → m < 2 ^ 64 → m % modulus W64 ≡ m
       whole m l = omega arith
@@ -188,14 +192,16 @@ module _ (r : ReferenceRun) (d : Taken) (input : List ℤ) (program : IsProgram 
       let same : v.0 ≡ n0 = eq_met n0 v.0 (subst (λ (m : Option ℕ). is_met (test.Eq n0) m ≡ true) known h.2.0) in
       let number : given (argument p b.f.registers args 0) ≡ n0 = ap given v.1 ∙ same in
       inner_at r d input u st moves y q o e (subst IsInner (sym act0) tt) (subst IsInner (sym act) tt)
-      (ap (heap_with r1) number ∙ ap (λ (z : Region). heap_with z n0) same_region)
-      (record {
+      (ap (heap_with r1) number ∙ ap (λ (z : Region). heap_with z n0) same_region) (
+        record {
           function = b.top.function;
           place = ap (λ (i : ℕ). i + 1) b.top.place;
           height = b.top.height;
           registers = subst (λ (k : StepKind). AreLike input (set_shadow b.x.result (always (result_in k)) b.ks) (set_register b.f.registers b.x.result (Some (allocated r1 (given (argument p b.f.registers args 0)))))) (sym kind)
               (told_number input b.x.result b.ks b.f.registers (allocated r0 n0) (allocated r1 (given (argument p b.f.registers args 0))) b.top.registers (ap (λ (z : Region). allocated z n0) (sym same_region) ∙ ap (allocated r1) (sym number)));
-        }, b.rest)
+        },
+        b.rest,
+      )
     where
       told : q.both.x.op ≡ op.CallKnown known.Malloc args → op_told (first_four r.program q.both.f0.registers (operands_of q.both.x.op)) (or_zero q.both.x.result (op_own r.program (running (thread_in u.seen.moment) q.both.h q.both.f0 q.both.fs0 q.both.n) q.both.f0.registers (answer0 r d input u st moves y q) q.both.x.op)) q.both.x.op
           ≡ kinds.Allocation (given (argument r.program q.both.f0.registers args 0)) (or_zero q.both.x.result (allocated r0 (given (argument r.program q.both.f0.registers args 0))))

@@ -1,16 +1,12 @@
 -- What holds of each unit of a run.
-use Rattle.std.proofs.Common.{◌≡◌, ℕ, ℤ, Bool, true, false, List, [], ◌∷◌, Option, Some, None, refl, sym, ap, ◌∙◌, subst, suc, ◌<◌, ◌^◌, length}
+use Rattle.std.proofs.Common.{◌≡◌, ℕ, Bool, true, false, List, [], ◌∷◌, refl, sym, ap, subst, suc, ◌<◌, ◌^◌, length}
 use Rattle.std.specs.Prelude.{slice_get, if◌then◌else◌}
 use Rattle.std.specs.List.{AllByRecursion as AllOf}
-use Rattle.pg_ir.specs.declared.ids.InstrId.{InstrId}
-use Rattle.pg_ir.specs.Program.{NumberedProgram}
 use Rattle.pg_ir.specs.WellFormed.{IsProgram}
 use Rattle.pg_mem.specs.Memory.{byte_at}
 use Rattle.pg_plans.specs.Intervals.{done_after, times}
-use Rattle.pg_step.specs.LocalState.{LocalState}
 use Rattle.pg_trace.specs.declared.step.Step.{Step}
 use Rattle.pg_trace.specs.Races.{recorded}
-use Rattle.pg_machine.specs.MachineStep.{Did, Stepped, step}
 use Rattle.pg_machine.specs.Runs.{IsRun, Takes}
 use Rattle.pg_machine.specs.State.{State, initial}
 use Rattle.pg_effects.specs.PermittedSteps.{none_taken, one_more}
@@ -51,8 +47,8 @@ module _ (r : ReferenceRun) (d : Taken) where
       let t = h.0 in (
         record { reached = reached; takes = t; calls = refl; bytes = refl; region = refl; live = refl },
         met_is T (done_after (recorded.is_event x) k) (suc n) _ (behind r s x.thread.0) z xs program small
-          (subst (IsReached r.program) (sym (behind_is s x t)) (reached_step r.gated r.program r.input s t.after x.thread.0 x program small reached t.is_ready t.is_step))
-          (subst (λ (w : State). IsRun r.gated r.program r.input w xs z) (sym (behind_is s x t)) h.1),
+            (subst (IsReached r.program) (sym (behind_is s x t)) (reached_step r.gated r.program r.input s t.after x.thread.0 x program small reached t.is_ready t.is_step))
+            (subst (λ (w : State). IsRun r.gated r.program r.input w xs z) (sym (behind_is s x t)) h.1),
       )
 
   pub all_met : IsOrderedRun r → AllOf (λ (m : Met). IsMet r d m.seen m.state) (met_in r d)

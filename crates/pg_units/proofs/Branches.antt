@@ -6,7 +6,6 @@ use Rattle.std.proofs.lemmas.Bool.{and_from, and_parts, eq-eqb, eqb-true, not-tr
 use Rattle.pg_num.specs.declared.width.Width.{Width}
 use Rattle.pg_ir.specs.declared.edge.Case.{Case}
 use Rattle.pg_ir.specs.declared.ids.BlockNo.{BlockNo}
-use Rattle.pg_ir.specs.declared.instr.Instr.{Instr}
 use Rattle.pg_ir.specs.declared.instr.Op.{Op}
 use Rattle.pg_ir.specs.declared.instr.Op.TheVariants as op
 use Rattle.pg_ir.specs.declared.request.TrapName.TheVariants as traps
@@ -30,19 +29,18 @@ use Rattle.pg_trace.specs.declared.step.Step.{Step}
 use Rattle.pg_trace.specs.declared.step.StepKind.{StepKind}
 use Rattle.pg_trace.specs.declared.step.StepKind.TheVariants as kinds
 use Rattle.pg_machine.specs.MachineStep.{instr_told, kind_told, number_in, op_told, operands_in}
-use Rattle.pg_machine.specs.State.{State, instr_of, next_of}
+use Rattle.pg_machine.specs.State.{State, next_of}
 use Rattle.pg_closed.specs.Extents.{edge_by, edge_in}
-use Rattle.pg_closed.specs.Freeable.{FreeRegion}
-use Rattle.pg_closed.specs.Known.{Taken, after_branch, after_op, along_edge, is_branch, operand_at, region_of as region_at, registers_of, result_in, thread_of, top_of}
-use Rattle.pg_closed.specs.Moments.{Moment, calls_of, instr_in, registers_in, thread_in}
-use Rattle.pg_closed.specs.Rules.{Need, Value as ValueNeed, edge_tests, has_region, is_bound, is_case, kind_in, operand_of, registers_before, value_needs, value_needs_by, value_needs_in}
+use Rattle.pg_closed.specs.Known.{Taken, after_branch, after_op, along_edge, is_branch, operand_at, region_of as region_at, result_in, top_of}
+use Rattle.pg_closed.specs.Moments.{calls_of, instr_in, registers_in, thread_in}
+use Rattle.pg_closed.specs.Rules.{Value as ValueNeed, edge_tests, has_region, is_bound, is_case, kind_in, operand_of, registers_before, value_needs, value_needs_by, value_needs_in}
 use Rattle.pg_closed.specs.Shadows.{OnInput, Shadow, Known}
-use Rattle.pg_units.specs.Likes.{AreCallsLike, AreLike, IsCallLike, IsLike, like}
+use Rattle.pg_units.specs.Likes.{AreCallsLike, IsCallLike, IsLike, like}
 use Rattle.pg_units.specs.Moves.{deed_moved}
-use Rattle.pg_units.specs.Units.{PlanUnit, ReferenceRun, deed_of, is_instance, reference_of}
+use Rattle.pg_units.specs.Units.{PlanUnit, ReferenceRun, deed_of, reference_of}
 use Rattle.pg_units.proofs.Good.{Holds, IsGood}
-use Rattle.pg_units.proofs.Here.{Here, number_here, operands_here, running}
-use Rattle.pg_units.proofs.Inner.{IsInner, Pair, act0_is, act_is, answer, answer0, can, can0, inner_fits, inner_known, instr_at0, instr_is, told0}
+use Rattle.pg_units.proofs.Here.{number_here, operands_here, running}
+use Rattle.pg_units.proofs.Inner.{IsInner, Pair, act0_is, act_is, answer, answer0, can, can0, inner_fits, instr_at0, instr_is, told0}
 use Rattle.pg_units.proofs.Likes.{edge_like, operand_like}
 use Rattle.pg_units.proofs.Results.{if_done, value_done}
 
@@ -114,14 +112,14 @@ module _ (r : ReferenceRun) (d : Taken) (input : List ℤ) (u : PlanUnit) (st : 
   pub inner_at : (o : Op) → q.both.x.op ≡ o → (inner0 : IsInner (next_of r.program u.state (thread_in u.seen.moment))) (inner : IsInner (next_of r.program st (thread_in u.seen.moment))) →
       heap_after r.program (region_of l) q.both.f.registers o ≡ heap_after r.program (region_of l0) q.both.f0.registers o →
       AreCallsLike input (op_after r.program l0 q.both.x (answer0 r d input u st moves y q) o)
-        (after_op r.program (d.pinned u.seen.number) u.seen.number u.seen.moment (region_at r.program r.regions u.seen.moment (instr_in r.program u.seen.moment)) (result_in (kind_in u.seen)) q.both.x o (q.both.ks ∷ q.both.more))
-        (op_after r.program l q.both.x (answer r d input u st moves y q) o) →
+      (after_op r.program (d.pinned u.seen.number) u.seen.number u.seen.moment (region_at r.program r.regions u.seen.moment (instr_in r.program u.seen.moment)) (result_in (kind_in u.seen)) q.both.x o (q.both.ks ∷ q.both.more))
+      (op_after r.program l q.both.x (answer r d input u st moves y q) o) →
       Fits (like input) (deed_of d u) (deed_moved r.program input st moves y)
   inner_at o e inner0 inner heap c = inner_fits r d input u st moves y q inner0 inner
       (subst (λ (z : Op). heap_after r.program (region_of l) q.both.f.registers z ≡ heap_after r.program (region_of l0) q.both.f0.registers z) (sym e) heap)
       (subst (λ (z : Op). AreCallsLike input (op_after r.program l0 q.both.x (answer0 r d input u st moves y q) z)
-        (after_op r.program (d.pinned u.seen.number) u.seen.number u.seen.moment (region_at r.program r.regions u.seen.moment (instr_in r.program u.seen.moment)) (result_in (kind_in u.seen)) q.both.x z (q.both.ks ∷ q.both.more))
-        (op_after r.program l q.both.x (answer r d input u st moves y q) z)) (sym e) c)
+      (after_op r.program (d.pinned u.seen.number) u.seen.number u.seen.moment (region_at r.program r.regions u.seen.moment (instr_in r.program u.seen.moment)) (result_in (kind_in u.seen)) q.both.x z (q.both.ks ∷ q.both.more))
+      (op_after r.program l q.both.x (answer r d input u st moves y q) z)) (sym e) c)
 
   abbrev pub Act0 : Op → Action
   Act0 o = op_action r.program (region_of l0) q.both.h q.both.f0.registers (length (q.both.f0 ∷ q.both.fs0)) (total (q.both.f0 ∷ q.both.fs0)) q.both.x.block.0 o
@@ -212,10 +210,12 @@ module _ (r : ReferenceRun) (d : Taken) (input : List ℤ) (u : PlanUnit) (st : 
         let kind : kind_in u.seen ≡ kinds.Branch (given (operand p q.both.f0.registers c)) = kind_local local0 ∙ kind_cond e in
         let edge = edge_of o e c refl (given (operand p q.both.f0.registers c)) kind v.0 v.1 in
         let same : given (operand p q.both.f.registers c) ≡ given (operand p q.both.f0.registers c) = ap given v.1 ∙ eq_met (given (operand p q.both.f0.registers c)) v.0 edge.tests.0 in
-        inner_at o e (subst IsInner (sym local0) tt) (subst IsInner (sym local) tt) refl
-        (subst (λ (z : List Shadow). IsCallLike input (moved p q.both.f0 q.both.x.block.0 (chosen (given (operand p q.both.f0.registers c)) a.0 b.0)) z (moved p q.both.f q.both.x.block.0 (chosen (given (operand p q.both.f.registers c)) a.0 b.0)))
-          (sym (after_pinned edge.pinned (edge_in p u.seen.moment (Some q.both.x)) ∙ ap (λ (g : Option ℕ). along_edge p q.both.x.block.0 g q.both.ks) (ap (edge_by p u.seen.moment) e ∙ ap (λ (n : ℕ). Some (chosen n a.0 b.0)) (condition o))))
-          (frame_moved input p q.both.f0 q.both.f q.both.ks q.both.x.block.0 (chosen (given (operand p q.both.f0.registers c)) a.0 b.0) (chosen (given (operand p q.both.f.registers c)) a.0 b.0) q.both.top (ap (λ (n : ℕ). chosen n a.0 b.0) same)), q.both.rest)
+        inner_at o e (subst IsInner (sym local0) tt) (subst IsInner (sym local) tt) refl (
+          subst (λ (z : List Shadow). IsCallLike input (moved p q.both.f0 q.both.x.block.0 (chosen (given (operand p q.both.f0.registers c)) a.0 b.0)) z (moved p q.both.f q.both.x.block.0 (chosen (given (operand p q.both.f.registers c)) a.0 b.0)))
+              (sym (after_pinned edge.pinned (edge_in p u.seen.moment (Some q.both.x)) ∙ ap (λ (g : Option ℕ). along_edge p q.both.x.block.0 g q.both.ks) (ap (edge_by p u.seen.moment) e ∙ ap (λ (n : ℕ). Some (chosen n a.0 b.0)) (condition o))))
+              (frame_moved input p q.both.f0 q.both.f q.both.ks q.both.x.block.0 (chosen (given (operand p q.both.f0.registers c)) a.0 b.0) (chosen (given (operand p q.both.f.registers c)) a.0 b.0) q.both.top (ap (λ (n : ℕ). chosen n a.0 b.0) same)),
+          q.both.rest,
+        )
       where
         on_some : (m : Option ℕ) (n : ℕ) (act : ℕ → Action) → m ≡ Some n → on_value m act ≡ act n
         on_some m n act k = rw k refl
@@ -237,10 +237,12 @@ module _ (r : ReferenceRun) (d : Taken) (input : List ℤ) (u : PlanUnit) (st : 
         let kind : kind_in u.seen ≡ kinds.Branch (given (operand p q.both.f0.registers on)) = kind_local local0 ∙ kind_switch e in
         let edge = edge_of o e on refl (given (operand p q.both.f0.registers on)) kind v.0 v.1 in
         let same : case_of cs other.0 (given (operand p q.both.f.registers on)) ≡ case_of cs other.0 (given (operand p q.both.f0.registers on)) = ap (λ (m : Option ℕ). case_of cs other.0 (given m)) v.1 ∙ switch_same w on other cs (given (operand p q.both.f0.registers on)) v.0 edge.tests in
-        inner_at o e (subst IsInner (sym local0) tt) (subst IsInner (sym local) tt) refl
-        (subst (λ (z : List Shadow). IsCallLike input (moved p q.both.f0 q.both.x.block.0 (case_of cs other.0 (given (operand p q.both.f0.registers on)))) z (moved p q.both.f q.both.x.block.0 (case_of cs other.0 (given (operand p q.both.f.registers on)))))
-          (sym (after_pinned edge.pinned (edge_in p u.seen.moment (Some q.both.x)) ∙ ap (λ (g : Option ℕ). along_edge p q.both.x.block.0 g q.both.ks) (ap (edge_by p u.seen.moment) e ∙ ap (λ (n : ℕ). Some (case_of cs other.0 n)) (condition o))))
-          (frame_moved input p q.both.f0 q.both.f q.both.ks q.both.x.block.0 (case_of cs other.0 (given (operand p q.both.f0.registers on))) (case_of cs other.0 (given (operand p q.both.f.registers on))) q.both.top same), q.both.rest)
+        inner_at o e (subst IsInner (sym local0) tt) (subst IsInner (sym local) tt) refl (
+          subst (λ (z : List Shadow). IsCallLike input (moved p q.both.f0 q.both.x.block.0 (case_of cs other.0 (given (operand p q.both.f0.registers on)))) z (moved p q.both.f q.both.x.block.0 (case_of cs other.0 (given (operand p q.both.f.registers on)))))
+              (sym (after_pinned edge.pinned (edge_in p u.seen.moment (Some q.both.x)) ∙ ap (λ (g : Option ℕ). along_edge p q.both.x.block.0 g q.both.ks) (ap (edge_by p u.seen.moment) e ∙ ap (λ (n : ℕ). Some (case_of cs other.0 n)) (condition o))))
+              (frame_moved input p q.both.f0 q.both.f q.both.ks q.both.x.block.0 (case_of cs other.0 (given (operand p q.both.f0.registers on))) (case_of cs other.0 (given (operand p q.both.f.registers on))) q.both.top same),
+          q.both.rest,
+        )
       where
         on_some : (m : Option ℕ) (n : ℕ) (act : ℕ → Action) → m ≡ Some n → on_value m act ≡ act n
         on_some m n act k = rw k refl

@@ -1,6 +1,5 @@
 -- Computing instructions fit: operations, casts, select and getelementptr.
-use Rattle.std.proofs.Common.{◌≡◌, ℕ, ℤ, ◌+◌, ◌<◌, Bool, true, false, List, [], ◌∷◌, length, map, Option, Some, None, refl, sym, ap, ◌∙◌, subst, arith, suc}
-use Rattle.std.specs.Prelude.{◌&&◌, slice_get}
+use Rattle.std.proofs.Common.{◌≡◌, ℕ, ℤ, ◌+◌, Bool, true, List, ◌∷◌, length, map, Option, Some, None, refl, sym, ap, ◌∙◌, subst, arith}
 use Rattle.std.proofs.lemmas.Bool.{and_parts, true≢false}
 use Rattle.pg_ir.specs.declared.instr.Instr.{Instr}
 use Rattle.pg_ir.specs.declared.instr.Op.{Op}
@@ -11,7 +10,6 @@ use Rattle.pg_ir.specs.declared.value.Value.{Value}
 use Rattle.pg_ir.specs.Program.{NumberedProgram, function_of, result_of as returned_of, types_of}
 use Rattle.pg_ir.specs.WellFormed.{FitsOp, IsProgram, type_at}
 use Rattle.pg_plans.specs.Plans.{Fits}
-use Rattle.pg_step.specs.declared.action.Action.{Action}
 use Rattle.pg_step.specs.declared.action.Action.TheVariants as actions
 use Rattle.pg_step.specs.declared.region.Region.{Region}
 use Rattle.pg_step.specs.Compute.{computed, computes}
@@ -125,9 +123,9 @@ module _ (p : NumberedProgram) (input : List ℤ) (ks : List Shadow) (rs : List 
       after = ap (λ (z : Op). after_op p pinned num m region res x z (ks ∷ more)) e ∙ ap (λ (z : Op). set_shadow x.result (moved (operand_at p ks z 0) (result_of z (operand_shadows p ks z))) ks ∷ more) e;
       is_like = subst (λ (z : Op). IsLike input (moved (operand_at p ks (op.Gep base indices) 0) (result_of (op.Gep base indices) (operand_shadows p ks (op.Gep base indices)))) (Some (computed z (number_at p rs (operands_of z))))) (sym e)
           (moved_like input (shadow_of p ks base) (result_of (op.Gep base indices) (operand_shadows p ks (op.Gep base indices))) (given (operand p rs base)) (computed (op.Gep base indices) (number_at p rs (operands_of (op.Gep base indices))))
-            (subst (λ (v : Option ℕ). IsLike input (shadow_of p ks base) v) (set_number (operand p rs base) (s base indices refl)) (operand_like input p ks rs like_rs base))
-            (number_like (op.Gep base indices) k)
-            (along_frame input (given (operand p rs base)) indices (number_at p rs (operands_of (op.Gep base indices))) 1));
+          (subst (λ (v : Option ℕ). IsLike input (shadow_of p ks base) v) (set_number (operand p rs base) (s base indices refl)) (operand_like input p ks rs like_rs base))
+          (number_like (op.Gep base indices) k)
+          (along_frame input (given (operand p rs base)) indices (number_at p rs (operands_of (op.Gep base indices))) 1));
     }
     computed_shadow o e c s k = absurd cc
 
@@ -161,5 +159,5 @@ module _ (r : ReferenceRun) (d : Taken) (input : List ℤ) (program : IsProgram 
       let g = computes_straight b.x.op c in
       inner_fits r d input u st moves y q (subst IsInner (sym local0) tt) (subst IsInner (sym local) tt) (straight_heap r d input u st moves y q g)
       (subst (λ (z : List (List Shadow)). AreCallsLike input (op_after p (running t b.h b.f0 b.fs0 b.n) b.x (answer0 r d input u st moves y q) b.x.op) z (op_after p (running t b.h b.f b.fs b.n) b.x (answer r d input u st moves y q) b.x.op)) (sym s.after)
-        (straight_calls r d input u st moves y q g (answer0 r d input u st moves y q) (answer r d input u st moves y q) s.shadow
-          (subst (λ (v : ℕ). IsLike input s.shadow (Some v)) (sym (result_computed (region_of (running t b.h b.f b.fs b.n)) b.x.op (number_at p b.f.registers (operands_of b.x.op)) (answer r d input u st moves y q) c)) s.is_like)))
+      (straight_calls r d input u st moves y q g (answer0 r d input u st moves y q) (answer r d input u st moves y q) s.shadow
+      (subst (λ (v : ℕ). IsLike input s.shadow (Some v)) (sym (result_computed (region_of (running t b.h b.f b.fs b.n)) b.x.op (number_at p b.f.registers (operands_of b.x.op)) (answer r d input u st moves y q) c)) s.is_like)))

@@ -1,15 +1,10 @@
 -- The function of a thread that is made is the third operand of the step that makes it.
-use Rattle.std.proofs.Common.{◌≡◌, ℕ, List, [], ◌∷◌, length, Bool, true, false, Option, Some, None, Result, Ok, Err, refl, sym, ◌∙◌, ap, subst}
-use Rattle.std.specs.Prelude.{slice_get, slice_index, not, ◌==◌, if◌then◌else◌}
+use Rattle.std.proofs.Common.{◌≡◌, ℕ, List, [], ◌∷◌, length, Bool, true, false, Option, Some, None, refl, sym, ap}
+use Rattle.std.specs.Prelude.{slice_get, slice_index, ◌==◌}
 use Rattle.pg_num.specs.Numbers.{divided}
-use Rattle.pg_num.specs.Places.{ByteRange}
-use Rattle.pg_num.specs.Pointers.{byte_place, is_aligned, is_in_range, place_of}
-use Rattle.pg_num.specs.declared.places.PlaceFault.{PlaceFault}
-use Rattle.pg_num.specs.declared.places.PlaceFault.TheVariants as fault
 use Rattle.pg_ir.specs.declared.known.Known.{Known}
 use Rattle.pg_ir.specs.declared.known.Known.TheVariants as known
 use Rattle.pg_ir.specs.declared.request.Request.TheVariants as requests
-use Rattle.pg_ir.specs.declared.request.TrapName.TheVariants as traps
 use Rattle.pg_ir.specs.declared.value.Value.{Value}
 use Rattle.pg_ir.specs.declared.instr.Op.{Op}
 use Rattle.pg_ir.specs.declared.instr.Op.TheVariants as op
@@ -20,15 +15,15 @@ use Rattle.pg_step.specs.declared.action.Action.{Action}
 use Rattle.pg_step.specs.declared.action.Action.TheVariants as actions
 use Rattle.pg_step.specs.declared.region.Region.{Region}
 use Rattle.pg_step.specs.LocalState.{Frame, LocalState, region_of}
-use Rattle.pg_step.specs.Operands.{argument, first_four, given, operand, operands_of}
+use Rattle.pg_step.specs.Operands.{first_four, given, operand, operands_of}
 use Rattle.pg_step.specs.Compute.{chosen}
 use Rattle.pg_step.specs.EdgeStep.{case_of}
-use Rattle.pg_step.specs.Step.{bytes_of, frames_action, has_room, instr_action, join_at, known_action, next, on_place, op_action, placed, return_action, returning_action, total}
+use Rattle.pg_step.specs.Step.{bytes_of, frames_action, has_room, instr_action, known_action, next, op_action, returning_action, total}
 use Rattle.pg_step.specs.Told.{frames_operands, operand_values}
 use Rattle.pg_machine.specs.MachineStep.{operands_in}
 use Rattle.pg_ir.specs.declared.request.Request.{Request}
 use Rattle.pg_machine.specs.State.{State, action_in, next_of}
-use Rattle.pg_machine.proofs.Actions.{OfTraps, create_is, join_is, on_place_is, on_value_is, on_all_is, on_null_is, number_is, object_is, init_is, barrier_init_is, wait_is, either, edge_is, call_is, divided_is, room_is}
+use Rattle.pg_machine.proofs.Actions.{create_is, join_is, on_place_is, on_value_is, on_all_is, number_is, object_is, init_is, barrier_init_is, wait_is, either, edge_is, call_is, divided_is, room_is}
 
 abbrev is_given_to : List ℕ → Request → Type 0
 is_given_to ns (requests.Create r f n) = f ≡ slice_index ns 2

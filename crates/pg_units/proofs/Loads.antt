@@ -1,60 +1,50 @@
 -- Loads and stores fit.
 use Rattle.std.proofs.Common.{◌≡◌, ℕ, ℤ, ◌+◌, ◌-◌, ◌≤◌, ◌%◌, Bool, true, false, List, [], ◌∷◌, length, Option, Some, None, Result, Ok, refl, sym, ap, ◌∙◌, subst, arith}
 use Rattle.std.specs.Prelude.{◌&&◌, ◌||◌, not, nat_lt, nat_le, is_some, slice_get, slice_index, if◌then◌else◌}
-use Rattle.std.proofs.lemmas.Bool.{and_from, and_parts, eq-eqb, leb-true, le-leb, lt-ltb, ltb-true, or_left, true≢false}
+use Rattle.std.proofs.lemmas.Bool.{and_parts, leb-true, lt-ltb, ltb-true, or_left, true≢false}
 use Rattle.pg_num.specs.Numbers.{modulus}
 use Rattle.pg_num.specs.Places.{ByteRange}
-use Rattle.pg_num.specs.Pointers.{byte_place, is_in_range as in_range, place_of, pointer_of}
+use Rattle.pg_num.specs.Pointers.{byte_place, place_of, pointer_of}
 use Rattle.pg_num.specs.declared.layout.TheConstants.{MEMORY_BYTES}
 use Rattle.pg_num.specs.declared.width.Width.{Width}
-use Rattle.pg_ir.specs.declared.instr.Instr.{Instr}
 use Rattle.pg_ir.specs.declared.instr.Op.{Op}
 use Rattle.pg_ir.specs.declared.instr.Op.TheVariants as op
 use Rattle.pg_ir.specs.declared.value.Value.{Value}
-use Rattle.pg_ir.specs.Program.{NumberedProgram, function_of, result_of, types_of}
-use Rattle.pg_ir.specs.WellFormed.{FitsOp, IsProgram, type_at}
-use Rattle.pg_mem.specs.Bytes.{byte_of, number_of}
+use Rattle.pg_ir.specs.WellFormed.{IsProgram}
+use Rattle.pg_mem.specs.Bytes.{number_of}
 use Rattle.pg_mem.specs.Memory.{Words, byte_at, read}
-use Rattle.pg_plans.specs.Effects.{or_old}
 use Rattle.pg_plans.specs.Plans.{Fits}
 use Rattle.pg_step.specs.declared.action.Action.{Action}
 use Rattle.pg_step.specs.declared.action.Action.TheVariants as actions
-use Rattle.pg_step.specs.LocalState.{Frame, LocalState, region_of}
-use Rattle.pg_step.specs.Operands.{first_four, given, number_at, operand, operands_of}
-use Rattle.pg_step.specs.States.{CanStep}
-use Rattle.pg_step.specs.Step.{bytes_of, heap_after, on_place, on_value, op_after, stepped}
-use Rattle.pg_trace.specs.declared.step.Access.{Access}
+use Rattle.pg_step.specs.LocalState.{region_of}
+use Rattle.pg_step.specs.Operands.{first_four, given, operand, operands_of}
+use Rattle.pg_step.specs.Step.{bytes_of, heap_after, on_place, op_after}
 use Rattle.pg_trace.specs.declared.step.Step.{Step}
-use Rattle.pg_trace.specs.declared.step.StepKind.{StepKind}
 use Rattle.pg_trace.specs.declared.step.StepKind.TheVariants as kinds
 use Rattle.pg_trace.specs.Races.{is_in}
-use Rattle.pg_trace.specs.Steps.{event_of, range_of}
+use Rattle.pg_trace.specs.Steps.{range_of}
 use Rattle.pg_machine.specs.MachineStep.{access_told, is_gated, kind_told, number_in, operands_in}
 use Rattle.pg_machine.specs.State.{State, instr_of, next_of}
-use Rattle.pg_effects.specs.Effect.{Effect, RequestEffect, Write, answer_to, effect_by, effect_of, range_read, request_effect, word_read_by, write_of}
-use Rattle.pg_effects.specs.Meets.{byte_in, is_in_range}
+use Rattle.pg_effects.specs.Effect.{RequestEffect, answer_to, effect_of, range_read, request_effect, word_read_by, write_of}
+use Rattle.pg_effects.specs.Meets.{is_in_range}
 use Rattle.pg_effects.specs.Views.{Objects, cell_at, cell_written, is_thread, objects_of, objects_with, word_in}
 use Rattle.pg_effects.specs.Views as views
 use Rattle.pg_effects.proofs.Seen.{leads_to}
-use Rattle.pg_closed.specs.declared.decision.Decision.TheVariants.{Exact}
-use Rattle.pg_closed.specs.Freeable.{frame_of}
-use Rattle.pg_closed.specs.Known.{RunShadow, Taken, after_access, bytes_stored, live_by, load_of, region_of as region_at, registers_of, set_shadow, thread_of, with_extents}
-use Rattle.pg_closed.specs.Moments.{instr_in, thread_in}
+use Rattle.pg_closed.specs.Known.{RunShadow, Taken, after_access, load_of, thread_of}
+use Rattle.pg_closed.specs.Moments.{thread_in}
 use Rattle.pg_closed.specs.Rules.{kind_in}
-use Rattle.pg_closed.specs.Shadows.{Shadow, byte_in as byte_shadow, cut, loaded, shadow_of, spoiled, stored}
-use Rattle.pg_units.specs.Likes.{AreCallsLike, IsCallLike, IsCellLike, IsLike, like}
+use Rattle.pg_closed.specs.Shadows.{cut, loaded}
+use Rattle.pg_units.specs.Likes.{AreCallsLike, IsCellLike, IsLike, like}
 use Rattle.pg_units.specs.Moves.{deed_moved}
-use Rattle.pg_units.specs.Units.{PlanUnit, ReferenceRun, behind, cell_known, deed_of, is_event_at, range_touched, reads_cell, reference_of, writes_cell}
+use Rattle.pg_units.specs.Units.{PlanUnit, ReferenceRun, cell_known, deed_of, is_event_at, range_touched, reads_cell, reference_of, writes_cell}
 use Rattle.pg_units.proofs.Accesses.{Access', cut_like, event_alike, fixed, loaded_like, place_done, reads_here, same_range, told_access, told_alike, within, writes_here}
-use Rattle.pg_units.proofs.Along.{IsUnit, behind_is}
-use Rattle.pg_units.proofs.Branches.{act0_at, act_at, can0_at, can_at, top_known}
-use Rattle.pg_units.proofs.Calls.{no_result}
+use Rattle.pg_units.proofs.Along.{behind_is}
+use Rattle.pg_units.proofs.Branches.{act0_at, act_at, can0_at, can_at}
 use Rattle.pg_units.proofs.Computing.{frame_stepped}
 use Rattle.pg_units.proofs.Good.{IsGood}
 use Rattle.pg_units.proofs.Here.{operands_here, running}
-use Rattle.pg_units.proofs.Inner.{Pair, answer, answer0, instr_is, live_is, none_if, reads_none, same_place, stands, told, told0, writes_none}
-use Rattle.pg_units.proofs.Known.{access_calls, after_live}
-use Rattle.pg_units.proofs.Likes.{operand_like}
+use Rattle.pg_units.proofs.Inner.{Pair, answer, answer0, instr_is, live_is, none_if, same_place, stands, told, told0, writes_none}
+use Rattle.pg_units.proofs.Known.{access_calls}
 use Rattle.pg_units.proofs.Placed.{place_range}
 use Rattle.pg_units.proofs.Results.{on_some, value_done}
 
@@ -179,8 +169,22 @@ module _ (r : ReferenceRun) (d : Taken) (input : List ℤ) (program : IsProgram 
           ∙ ap (λ (m : Option ℕ). access_told r.gated st t (given m) g.0 false (answer r d input u st moves y q)) v.1
           ∙ ap (λ (i : ℕ). kinds.Access (record { pointer = v.0; number = answer r d input u st moves y q; bytes = g.0.bytes; writes = false; event = is_gated r.gated i })) (same_place r d input u st moves y q) in
           let a : Access' r d input u st moves y q good = record {
-            word0 = v0.0; word = v.0; q0 = g0.0; q1 = g.0; size = bytes_of w; number0 = answer0 r d input u st moves y q; number = answer r d input u st moves y q;
-            writes = false; event = is_gated r.gated (instr_of u.state t); kind0 = kind0; kind = kind; place0 = g0.1; place = g.1; at = from; index = ap (λ (z : Op). slice_get (operands_of z) (Rattle.pg_closed.specs.Rules.address_index z)) e; address = v.1;
+            word0 = v0.0;
+            word = v.0;
+            q0 = g0.0;
+            q1 = g.0;
+            size = bytes_of w;
+            number0 = answer0 r d input u st moves y q;
+            number = answer r d input u st moves y q;
+            writes = false;
+            event = is_gated r.gated (instr_of u.state t);
+            kind0 = kind0;
+            kind = kind;
+            place0 = g0.1;
+            place = g.1;
+            at = from;
+            index = ap (λ (z : Op). slice_get (operands_of z) (Rattle.pg_closed.specs.Rules.address_index z)) e;
+            address = v.1;
           } in
           let read : answer r d input u st moves y q ≡ read st.memory g.0 = ap (answer_to input st t) act in
           finish a act0 act e (subst (λ (n : ℕ). IsLike input (load_of (d.exact u.seen.number) u.seen.number w (told_access r d input u st moves y q good a) u.seen.before.bytes) (Some (n % modulus w))) (sym read) (load_value a refl w)) refl
@@ -206,8 +210,8 @@ module _ (r : ReferenceRun) (d : Taken) (input : List ℤ) (program : IsProgram 
 
               calls_like : q.both.x.op ≡ op.Load w from → IsLike input (load_of (d.exact u.seen.number) u.seen.number w (told_access r d input u st moves y q good a) u.seen.before.bytes) (Some (answer r d input u st moves y q % modulus w)) →
                   AreCallsLike input (op_after r.program (running (thread_in u.seen.moment) q.both.h q.both.f0 q.both.fs0 q.both.n) q.both.x (answer0 r d input u st moves y q) q.both.x.op)
-                    (after_access r.program (d.exact u.seen.number) u.seen.number (told_access r d input u st moves y q good a) u.seen.before.bytes q.both.x q.both.x.op q.both.ks ∷ q.both.more)
-                    (op_after r.program (running (thread_in u.seen.moment) q.both.h q.both.f q.both.fs q.both.n) q.both.x (answer r d input u st moves y q) q.both.x.op)
+                  (after_access r.program (d.exact u.seen.number) u.seen.number (told_access r d input u st moves y q good a) u.seen.before.bytes q.both.x q.both.x.op q.both.ks ∷ q.both.more)
+                  (op_after r.program (running (thread_in u.seen.moment) q.both.h q.both.f q.both.fs q.both.n) q.both.x (answer r d input u st moves y q) q.both.x.op)
               calls_like e v = subst (λ (z : Op). AreCallsLike input (op_after r.program (running (thread_in u.seen.moment) q.both.h q.both.f0 q.both.fs0 q.both.n) q.both.x (answer0 r d input u st moves y q) z)
                   (after_access r.program (d.exact u.seen.number) u.seen.number (told_access r d input u st moves y q good a) u.seen.before.bytes q.both.x z q.both.ks ∷ q.both.more)
                   (op_after r.program (running (thread_in u.seen.moment) q.both.h q.both.f q.both.fs q.both.n) q.both.x (answer r d input u st moves y q) z)) (sym e)
@@ -216,7 +220,7 @@ module _ (r : ReferenceRun) (d : Taken) (input : List ℤ) (program : IsProgram 
               read_here : (c : ℕ) (b : Bool) → nat_lt c MEMORY_BYTES ≡ b → (effect_of r.program input st y.thread.0).reads ≡ Some a.q1 → (effect_of r.program input st y.thread.0).word_read ≡ None → views.reads_cell (effect_of r.program input st y.thread.0) c ≡ true → reads_cell d u.seen c ≡ true
               read_here c b m i j k =
                   let k' : (if b then is_in a.q1 c else false) ≡ true = sym (ap (λ (z : Option ByteRange). if nat_lt c MEMORY_BYTES then is_in_range z c else is_thread (effect_of r.program input st y.thread.0).word_read (c - MEMORY_BYTES)) i
-                    ∙ ap (λ (z : Option ℕ). if nat_lt c MEMORY_BYTES then is_in a.q1 c else is_thread z (c - MEMORY_BYTES)) j ∙ ap (λ (z : Bool). if z then is_in a.q1 c else false) m) ∙ k in
+                  ∙ ap (λ (z : Option ℕ). if nat_lt c MEMORY_BYTES then is_in a.q1 c else is_thread z (c - MEMORY_BYTES)) j ∙ ap (λ (z : Bool). if z then is_in a.q1 c else false) m) ∙ k in
                   reads_here r d input u st moves y q good a c ∙ ap (λ (z : Bool). if z then not a.writes && is_in (range_touched (fixed r d input u st moves y q good a) (told_access r d input u st moves y q good a)) c else false) m
                   ∙ ap (λ (z : Bool). if b then not z && is_in (range_touched (fixed r d input u st moves y q good a) (told_access r d input u st moves y q good a)) c else false) reads ∙ pick b k' (λ h. within r d input u st moves y q good a c h)
                 where

@@ -1,8 +1,8 @@
 -- Nothing is known of a thread that hasn't begun: what stands for it is fresh, step by step.
-use Rattle.std.proofs.Common.{◌≡◌, ◌≢◌, ℕ, ℤ, ◌⊎◌, ◌<◌, ◌^◌, zero, suc, Bool, true, false, List, [], ◌∷◌, ◌++◌, length, Option, Some, None, refl, sym, ap, ◌∙◌, subst, arith, inl, inr}
-use Rattle.std.specs.Prelude.{◌==◌, slice_get, slice_set, slice_index, slice_index_or, is_some, if◌then◌else◌}
+use Rattle.std.proofs.Common.{◌≡◌, ◌≢◌, ℕ, ℤ, ◌⊎◌, ◌<◌, zero, suc, Bool, true, false, List, [], ◌∷◌, ◌++◌, length, Option, Some, None, refl, sym, ap, ◌∙◌, subst, arith, inl, inr}
+use Rattle.std.specs.Prelude.{slice_get, slice_set, slice_index, slice_index_or, is_some, if◌then◌else◌}
 use Rattle.std.specs.List.{AllByRecursion as AllOf}
-use Rattle.std.proofs.lemmas.Bool.{cases_eq, eq-eqb, eqb-true, true≢false}
+use Rattle.std.proofs.lemmas.Bool.{cases_eq, true≢false}
 use Rattle.std.proofs.lemmas.Option.{slice_get_within}
 use Rattle.pg_ir.specs.declared.ids.InstrId.{InstrId}
 use Rattle.pg_ir.specs.declared.instr.Instr.{Instr}
@@ -23,35 +23,33 @@ use Rattle.pg_trace.specs.declared.step.Event.{Event}
 use Rattle.pg_trace.specs.declared.step.Step.{Step}
 use Rattle.pg_trace.specs.declared.step.StepKind.{StepKind}
 use Rattle.pg_trace.specs.declared.step.StepKind.TheVariants as kinds
-use Rattle.pg_trace.specs.Kinds.{kind_of}
 use Rattle.pg_trace.specs.Races.{recorded}
 use Rattle.pg_trace.specs.Steps.{happening_in}
 use Rattle.pg_machine.specs.Locality.{IfDid}
-use Rattle.pg_machine.specs.MachineStep.{Stepped, kind_told, number_in, operands_in, step_told}
+use Rattle.pg_machine.specs.MachineStep.{Stepped, kind_told, number_in, operands_in}
 use Rattle.pg_machine.specs.Runs.{IsRun, Takes}
 use Rattle.pg_machine.specs.State.{State, initial, instr_of, next_of}
 use Rattle.pg_machine.proofs.Asks.{next_is, ready_made}
 use Rattle.pg_machine.proofs.PhaseActions.{begun_after}
 use Rattle.pg_machine.proofs.Threads.{last_other, last_own, set_other, set_own}
-use Rattle.pg_effects.specs.Effect.{Effect, RequestEffect, answer_to, effect, effect_of, local_set, locals_with, own_after, request_effect}
+use Rattle.pg_effects.specs.Effect.{answer_to, effect, effect_of, local_set, locals_with, own_after, request_effect}
 use Rattle.pg_effects.specs.PermittedSteps.{none_taken}
-use Rattle.pg_effects.specs.Reached.{IsReached}
 use Rattle.pg_effects.proofs.Effects.{has_effect}
 use Rattle.pg_effects.proofs.Reaches.{present}
 use Rattle.pg_closed.specs.Extents.{Extent, is_live}
 use Rattle.pg_closed.specs.Freeable.{FreeRegion}
-use Rattle.pg_closed.specs.Known.{Reference, RunShadow, Seen, Taken, ThreadShadow, after_step, edge_of, fresh_registers, fresh_thread, live_after, live_by, no_thread, on_thread, region_of, seen_from, start_of, thread_of, threads_after, with_extents}
+use Rattle.pg_closed.specs.Known.{Reference, RunShadow, Seen, Taken, ThreadShadow, after_step, fresh_registers, fresh_thread, live_after, live_by, no_thread, region_of, seen_from, start_of, thread_of, threads_after, with_extents}
 use Rattle.pg_closed.specs.Moments.{Moment, calls_of, instr_in, moments_from, thread_in}
 use Rattle.pg_units.specs.Fits.{StartsAreFresh}
 use Rattle.pg_units.specs.Order.{IsOrderedRun}
-use Rattle.pg_units.specs.Units.{ExtentsArePlain, Met, PlanUnit, ReferenceRun, behind, is_event_at, last_from, met_in, met_with, reference_of, states_from, turns_of, units_of}
+use Rattle.pg_units.specs.Units.{ExtentsArePlain, Met, ReferenceRun, behind, is_event_at, last_from, met_in, met_with, reference_of, states_from, turns_of}
 use Rattle.pg_units.proofs.Along.{behind_is}
 use Rattle.pg_units.proofs.Functions.{IsCreateNamed, next_named}
 use Rattle.pg_units.proofs.Here.{can_step, told_is}
 use Rattle.pg_units.proofs.Inner.{kind_inner}
 use Rattle.pg_units.proofs.Known.{IsInnerKind}
 use Rattle.pg_units.proofs.Worded.{unit_facts}
-use Rattle.pg_units.proofs.Words.{length_push, length_set, more_by, more_of, plain_more, request_at, nowhere, step_locals}
+use Rattle.pg_units.proofs.Words.{length_push, length_set, request_at}
 
 -- ---- lists of threads
 
@@ -109,9 +107,9 @@ kept_set p t old z = record { number = length_set old t z; others = λ u h. set_
 
 kept_push : (p : NumberedProgram) (t f : ℕ) (old : List ThreadShadow) (z : ThreadShadow) → AreKept p t (Some f) old (slice_set old t z ++ fresh_thread p f ∷ [])
 kept_push p t f old z = record {
-    number = length_push (slice_set old t z) _ ∙ ap suc (length_set old t z) ∙ sym (length_push old (fresh_thread p f));
-    others = λ u h. go old t u h;
-  }
+  number = length_push (slice_set old t z) _ ∙ ap suc (length_set old t z) ∙ sym (length_push old (fresh_thread p f));
+  others = λ u h. go old t u h;
+}
   where
     go : (xs : List ThreadShadow) (t u : ℕ) → u ≢ t → calls_in (slice_set xs t z ++ fresh_thread p f ∷ []) u ≡ calls_in (xs ++ fresh_thread p f ∷ []) u
     go [] t u h = refl
@@ -136,9 +134,9 @@ kept_same p t old = record { number = refl; others = λ u h. refl }
 
 kept_extents : (p : NumberedProgram) (t : ℕ) (made : Option ℕ) (old new : List ThreadShadow) (es : List Extent) → AreKept p t made old new → AreKept p t made old (with_extents t es new)
 kept_extents p t made old new es h = record {
-    number = length_set new t _ ∙ h.number;
-    others = λ u v. extents_keep new t u _ refl ∙ h.others u v;
-  }
+  number = length_set new t _ ∙ h.number;
+  others = λ u v. extents_keep new t u _ refl ∙ h.others u v;
+}
 
 -- ---- in the machine
 
@@ -292,8 +290,8 @@ module _ (R : Reference) (d : Taken) (n : ℕ) (m : Moment) (known : RunShadow) 
       let y = present s t (ready_made p s t h.is_ready) in
       let can : CanStep (next p y.0) = subst CanStep (next_is p s t y.0 y.1) (can_step gated p input s m.did.did h) in
       let own : slice_get h.after.locals t ≡ Some (after p y.0 a) =
-          ap (λ (ls : List LocalState). slice_get ls t) (after_locals ∙ ap (λ (o : Option LocalState). local_set t (own_after p a o) (with_local p made s.locals)) y.1)
-          ∙ set_own (with_local p made s.locals) t (after p y.0 a) (there made (slice_get_within s.locals t y.0 y.1)) in
+      ap (λ (ls : List LocalState). slice_get ls t) (after_locals ∙ ap (λ (o : Option LocalState). local_set t (own_after p a o) (with_local p made s.locals)) y.1)
+      ∙ set_own (with_local p made s.locals) t (after p y.0 a) (there made (slice_get_within s.locals t y.0 y.1)) in
       let same : after p y.0 a ≡ fresh p t f = (let k : Path (Option LocalState) (Some (after p y.0 a)) (Some (fresh p t f)) = sym own ∙ e in cc) in
       true≢false (sym (begun_after p y.0 a can) ∙ ap (λ (l : LocalState). l.begun) same ∙ fresh_waits p t f)
     where
@@ -346,7 +344,7 @@ module _ (r : ReferenceRun) (d : Taken) where
       let b = behind_is r d s x h.0 in (
         e,
         met_fresh T (done_after (recorded.is_event x) k) (suc n) _ (behind r s x.thread.0) z xs (subst (λ (w : State). IsRun r.gated r.program r.input w xs z) (sym b) h.1)
-          (subst (AreFresh r.program (after_step (reference_of r) d n (record { did = timed recorded T k x; calls = calls_of (slice_get s.locals x.thread.0); bytes = byte_at s.memory }) known)) (sym b)
+            (subst (AreFresh r.program (after_step (reference_of r) d n (record { did = timed recorded T k x; calls = calls_of (slice_get s.locals x.thread.0); bytes = byte_at s.memory }) known)) (sym b)
             (fresh_kept (reference_of r) d n (record { did = timed recorded T k x; calls = calls_of (slice_get s.locals x.thread.0); bytes = byte_at s.memory }) known r.gated r.input s h.0 plain.0 e)) plain.1,
       )
 

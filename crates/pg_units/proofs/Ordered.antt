@@ -1,17 +1,13 @@
 -- Units that meet at a cell are ordered: by the rules on regions that are disturbed and on accesses that are shared.
-use Rattle.std.proofs.Common.{◌≡◌, ◌≢◌, ℕ, ◌==◌, ◌<◌, ◌≤◌, ◌⊎◌, Bool, true, false, List, [], ◌∷◌, ◌++◌, map, Option, Some, None, refl, sym, ap, ◌∙◌, subst, arith, suc, inl, inr}
-use Rattle.std.specs.Prelude.{◌+◌, ◌-◌, ◌&&◌, ◌||◌, not, nat_lt, nat_le, max, is_some, ⊤, if◌then◌else◌}
-use Rattle.std.specs.List.{AllByRecursion as AllOf, list_any}
-use Rattle.std.proofs.lemmas.Bool.{and_from, and_parts, cases_Bool, eq-eqb, eqb-true, false_from_ne_true, le-leb, leb-true, lt-ltb, ltb-true, ne_eqb, not-true, not_from_false, or_cases, or_left, or_right, true≢false}
+use Rattle.std.proofs.Common.{◌≡◌, ◌≢◌, ℕ, ◌==◌, ◌≤◌, ◌⊎◌, Bool, true, false, List, [], ◌++◌, Option, Some, None, refl, sym, ap, ◌∙◌, subst, arith, suc, inl, inr}
+use Rattle.std.specs.Prelude.{◌+◌, ◌-◌, ◌&&◌, ◌||◌, not, nat_lt, nat_le, max, is_some, if◌then◌else◌}
+use Rattle.std.specs.List.{list_any}
+use Rattle.std.proofs.lemmas.Bool.{and_from, and_parts, cases_Bool, leb-true, lt-ltb, ltb-true, ne_eqb, not-true, not_from_false, or_cases, true≢false}
 use Rattle.pg_num.specs.Places.{ByteRange}
 use Rattle.pg_num.specs.declared.layout.TheConstants.{MEMORY_BYTES}
-use Rattle.pg_plans.specs.Effects.{deeds}
 use Rattle.pg_plans.specs.Intervals.{AreOrdered, Timed}
 use Rattle.pg_plans.specs.Steps.{Conflict}
-use Rattle.pg_trace.specs.declared.turn.TurnKind.{TurnKind}
-use Rattle.pg_trace.specs.declared.turn.TurnKind.TheVariants as turns
 use Rattle.pg_trace.specs.declared.step.Access.{Access}
-use Rattle.pg_trace.specs.declared.step.Event.{Event}
 use Rattle.pg_trace.specs.declared.step.Step.{Step}
 use Rattle.pg_trace.specs.declared.step.StepKind.{StepKind}
 use Rattle.pg_trace.specs.declared.step.StepKind.TheVariants as kinds
@@ -19,11 +15,11 @@ use Rattle.pg_trace.specs.declared.step.Write.{Write}
 use Rattle.pg_trace.specs.Races.{is_in, overlap, recorded, share}
 use Rattle.pg_trace.specs.Steps.{access_by, access_in, access_of, happening_in, range_of}
 use Rattle.pg_effects.specs.Views.{is_thread}
-use Rattle.pg_closed.specs.Freeable.{FreeRegion, frame_of}
+use Rattle.pg_closed.specs.Freeable.{frame_of}
 use Rattle.pg_closed.specs.Known.{Seen, Taken}
 use Rattle.pg_closed.specs.Moments.{thread_in}
 use Rattle.pg_closed.specs.Rules.{Footprint, access_print, any_conflict, footprints_conflict, frames_meet, has_region, is_disturbed, is_plain, is_shared, kind_in, print_of, prints_in, region_prints}
-use Rattle.pg_units.specs.Units.{PlanUnit, access_touch, deed_of, event_word_read, event_word_written, instance_touch, is_event_at, is_instance, is_read_in, is_written_in, range_touched, reads_byte, reads_cell, touch_of, word_read, word_written, writes_byte, writes_cell}
+use Rattle.pg_units.specs.Units.{access_touch, instance_touch, is_event_at, is_instance, is_read_in, is_written_in, range_touched, reads_byte, reads_cell, touch_of, word_read, word_written, writes_byte, writes_cell}
 use Rattle.pg_units.specs.Lists.{Has}
 use Rattle.pg_units.proofs.Members.{any_found, has_any, has_cases, has_left, has_right}
 use Rattle.pg_units.proofs.Placed.{IsPlaced, in_frame}
@@ -296,7 +292,7 @@ module _ (d : Taken) (all : List Seen) where
         let p = fixed x y fx fy ne o (meeting_conflict (access_print x) (access_print y) b m) a.access a.is in
         let q = fixed y x fy fx (λ e. ne (sym e)) (overlap_back x.moment.did y.moment.did o) (meeting_conflict (access_print y) (access_print x) b (turned (access_print x) (access_print y) b m)) c.access c.is in
         ordered (steps_conflict x.moment.did.did y.moment.did.did a.access c.access b ne a.is c.is (range_in x b f a p i) (range_in y b h c q j)
-          (subst (λ (k : Bool). (k || c.access.writes) ≡ true) (ap (λ (k : Footprint). k.writes) a.print) (subst (λ (k : Bool). (f.writes || k) ≡ true) (ap (λ (k : Footprint). k.writes) c.print) w)))
+        (subst (λ (k : Bool). (k || c.access.writes) ≡ true) (ap (λ (k : Footprint). k.writes) a.print) (subst (λ (k : Bool). (f.writes || k) ≡ true) (ap (λ (k : Footprint). k.writes) c.print) w)))
 
     meeting_ordered : thread_in x.moment ≢ thread_in y.moment → (b : ℕ) → Meeting (touch_of d x) (touch_of d y) b → AreOrdered x.moment.did y.moment.did
     meeting_ordered ne b m = go (cases_Bool (overlap x.moment.did y.moment.did)) (parts x m.first m.has_first) (parts y m.second m.has_second)

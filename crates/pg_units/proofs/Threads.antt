@@ -1,17 +1,12 @@
 -- Creates and joins fit.
-use Rattle.std.proofs.Common.{◌≡◌, ℕ, ℤ, ◌<◌, ◌+◌, ◌-◌, ◌%◌, ◌^◌, zero, suc, Bool, true, false, List, [], ◌∷◌, ◌++◌, length, map, Option, Some, None, Result, Ok, Err, refl, sym, ap, ◌∙◌, subst, arith, inl, inr, ◌⊎◌}
-use Rattle.std.specs.Prelude.{◌&&◌, ◌||◌, ◌==◌, not, nat_lt, is_some, slice_get, slice_set, slice_index, slice_index_or, if◌then◌else◌}
-use Rattle.std.specs.List.{AllByRecursion as AllOf, list_any}
+use Rattle.std.proofs.Common.{◌≡◌, ℕ, ℤ, ◌<◌, ◌+◌, ◌-◌, Bool, true, false, List, [], ◌∷◌, ◌++◌, length, Option, Some, None, Result, Ok, refl, sym, ap, ◌∙◌, subst, arith}
+use Rattle.std.specs.Prelude.{◌||◌, ◌==◌, nat_lt, is_some, slice_get, slice_index, slice_index_or, if◌then◌else◌}
 use Rattle.std.proofs.lemmas.Option.{slice_get_within}
-use Rattle.std.proofs.lemmas.Bool.{false_from_ne_true, ltb-true, eq-eqb, eqb-true, or_left, true≢false}
-use Rattle.pg_num.specs.Numbers.{modulus}
+use Rattle.std.proofs.lemmas.Bool.{false_from_ne_true, ltb-true, eq-eqb, eqb-true, true≢false}
 use Rattle.pg_num.specs.Places.{ByteRange}
 use Rattle.pg_num.specs.declared.layout.TheConstants.{MEMORY_BYTES}
-use Rattle.pg_num.specs.declared.width.Width.TheVariants.{W32}
-use Rattle.pg_ir.specs.declared.instr.Instr.{Instr}
 use Rattle.pg_ir.specs.declared.instr.Op.{Op}
 use Rattle.pg_ir.specs.declared.instr.Op.TheVariants as op
-use Rattle.pg_ir.specs.declared.known.Known.{Known as KnownFunction}
 use Rattle.pg_ir.specs.declared.known.Known.TheVariants as known
 use Rattle.pg_ir.specs.declared.request.Request.{Request}
 use Rattle.pg_ir.specs.declared.request.Request.TheVariants as requests
@@ -24,49 +19,30 @@ use Rattle.pg_sync.specs.Sync as sync
 use Rattle.pg_sync.specs.declared.status.Status.{Status}
 use Rattle.pg_step.specs.declared.action.Action.{Action}
 use Rattle.pg_step.specs.declared.action.Action.TheVariants as actions
-use Rattle.pg_step.specs.EdgeStep.{set_register}
-use Rattle.pg_step.specs.LocalState.{Frame, LocalState, region_of}
-use Rattle.pg_step.specs.Operands.{argument, given, number_at, operand, operands_of}
+use Rattle.pg_step.specs.LocalState.{LocalState, region_of}
+use Rattle.pg_step.specs.Operands.{argument, given, operands_of}
 use Rattle.pg_step.specs.States.{CanStep}
-use Rattle.pg_step.specs.Step.{exit_value, heap_after, on_value, op_after, return_action, returning_action, stepped}
+use Rattle.pg_step.specs.Step.{heap_after, on_value, op_after}
 use Rattle.pg_step.specs.Told.{op_own, or_zero}
-use Rattle.pg_trace.specs.declared.turn.TurnKind.{TurnKind}
-use Rattle.pg_trace.specs.declared.turn.TurnKind.TheVariants as turns
-use Rattle.pg_trace.specs.declared.step.Access.{Access}
-use Rattle.pg_trace.specs.declared.step.Event.{Event}
 use Rattle.pg_trace.specs.declared.step.Step.{Step}
-use Rattle.pg_trace.specs.declared.step.StepKind.{StepKind}
-use Rattle.pg_trace.specs.declared.step.StepKind.TheVariants as kinds
-use Rattle.pg_trace.specs.declared.step.Write.{Write as ToldWrite}
 use Rattle.pg_trace.specs.Kinds.{kind_of}
-use Rattle.pg_trace.specs.Races.{reply_of}
-use Rattle.pg_trace.specs.Steps.{access_by, access_in}
-use Rattle.pg_machine.specs.MachineStep.{write_told}
 use Rattle.pg_machine.specs.State.{State, next_of}
-use Rattle.pg_machine.proofs.Asks.{ready_made}
-use Rattle.pg_effects.specs.Effect as effects
-use Rattle.pg_effects.specs.Effect.{Effect, MadeThread, RequestEffect, answer_to, effect_of, request_write, thread_made, word_asked, word_left}
-use Rattle.pg_effects.specs.Meets.{byte_in, is_in_range}
+use Rattle.pg_effects.specs.Effect.{Effect, answer_to, effect_of}
 use Rattle.pg_effects.specs.Views.{cell_at, cell_written, is_thread, objects_of, word_in, word_made}
 use Rattle.pg_effects.specs.Views as views
-use Rattle.pg_closed.specs.Known.{RunShadow, Taken, bytes_by, exit_shadow, live_by, low_byte, operand_at, region_of as region_at, registers_of, set_shadow, thread_of, words_after}
-use Rattle.pg_closed.specs.Moments.{instr_in, thread_in}
-use Rattle.pg_closed.specs.Rules.{kind_in}
+use Rattle.pg_closed.specs.Known.{Taken, operand_at, set_shadow}
+use Rattle.pg_closed.specs.Moments.{thread_in}
 use Rattle.pg_closed.specs.Shadows.{Shadow, always}
 use Rattle.pg_units.specs.Likes.{AreCallsLike, IsCellLike, IsLike, like}
 use Rattle.pg_units.specs.Moves.{deed_moved}
-use Rattle.pg_units.specs.Units.{PlanUnit, ReferenceRun, access_touch, cell_known, deed_of, event_word_read, event_word_written, instance_touch, is_event_at, is_read_in, is_written_in, reads_cell, reference_of, word_read, word_written, writes_cell}
+use Rattle.pg_units.specs.Units.{PlanUnit, ReferenceRun, cell_known, deed_of, is_event_at, reads_cell, reference_of, writes_cell}
 use Rattle.pg_units.proofs.Accesses.{cut_like}
-use Rattle.pg_units.proofs.Branches.{act0_at, act_at, can0_at, can_at, top_known}
-use Rattle.pg_units.proofs.Computing.{frame_stepped}
-use Rattle.pg_units.proofs.Events.{event0, event_known, event_objects, event_told_alike, is_event, kind0_is, reply, reply0, shaped_fits}
+use Rattle.pg_units.proofs.Branches.{act0_at, act_at, can0_at, can_at}
+use Rattle.pg_units.proofs.Events.{reply, reply0, shaped_fits}
 use Rattle.pg_units.proofs.Good.{IsGood}
 use Rattle.pg_units.proofs.Here.{running}
-use Rattle.pg_units.proofs.Inner.{Pair, answer, answer0, instr_is, live_is, none_if, stands}
-use Rattle.pg_units.proofs.Known.{after_live}
-use Rattle.pg_units.proofs.Likes.{argument_like, depth_like, operand_like}
-use Rattle.pg_units.proofs.Loads.{effect_reads, effect_request, effect_thread, effect_word, effect_writes}
-use Rattle.pg_units.proofs.Requests.{core}
+use Rattle.pg_units.proofs.Inner.{Pair, answer, answer0}
+use Rattle.pg_units.proofs.Likes.{argument_like}
 use Rattle.pg_units.proofs.Results.{on_some, value_done}
 use Rattle.pg_ir.specs.declared.request.TrapName.{TrapName}
 use Rattle.pg_ir.specs.declared.request.TrapName.TheVariants as traps
@@ -74,9 +50,8 @@ use Rattle.pg_mem.specs.Bytes.{byte_of}
 use Rattle.pg_num.specs.Pointers.{byte_place, place_of}
 use Rattle.pg_num.specs.declared.places.PlaceFault.{PlaceFault}
 use Rattle.pg_step.specs.Operands.{first_four}
-use Rattle.pg_step.specs.Step.{create_action, cut_to, join_action, join_at, known_action, on_null, on_place}
+use Rattle.pg_step.specs.Step.{create_action, cut_to, join_action, join_at, on_null, on_place}
 use Rattle.pg_ir.specs.Signatures.{returned_by}
-use Rattle.pg_step.specs.LocalState.{fresh}
 use Rattle.pg_machine.proofs.Named.{place_is}
 use Rattle.pg_effects.proofs.Few.{did_allowed}
 use Rattle.pg_effects.proofs.Reaches.{fresh_number}
@@ -87,9 +62,7 @@ use Rattle.pg_units.proofs.Allocations.{told_number}
 use Rattle.pg_units.proofs.Events.{checked_same, numbers0, same_sync}
 use Rattle.pg_units.proofs.Requests.{same_action}
 use Rattle.pg_units.proofs.Shapes.{shape_join}
-use Rattle.pg_units.proofs.EventCells.{cw_is, er_is, event_fits, known_bytes, known_is, known_words, rc_is, reads_nothing, wc_is, word_pushed, word_set, word_there}
-
-
+use Rattle.pg_units.proofs.EventCells.{cw_is, er_is, event_fits, known_bytes, known_is, known_words, rc_is, reads_nothing, wc_is, word_pushed, word_there}
 
 null_done : (a : ℕ) (act : Action) → CanStep (on_null a act) → on_null a act ≡ act
 null_done a act h = go (a == 0) h
@@ -118,7 +91,14 @@ creates p rs args h =
     let n = value_done (argument p rs args 3) (λ n. on_place w.0 8 (λ r. on_null a.0 (actions.Event (requests.Create r f.0 n)))) f.2 in
     let g = place_done w.0 8 (λ r. on_null a.0 (actions.Event (requests.Create r f.0 n.0))) n.2 in
     record {
-      word = w.0; function = f.0; number = n.0; range = g.0; is_word = w.1; is_function = f.1; is_number = n.1; place = g.1;
+      word = w.0;
+      function = f.0;
+      number = n.0;
+      range = g.0;
+      is_word = w.1;
+      is_function = f.1;
+      is_number = n.1;
+      place = g.1;
       is = on_some (argument p rs args 0) w.0 (λ w. on_value (argument p rs args 1) (λ a. on_value (argument p rs args 2) (λ f. on_value (argument p rs args 3) (λ n. on_place w 8 (λ r. on_null a (actions.Event (requests.Create r f n))))))) w.1
           ∙ on_some (argument p rs args 1) a.0 (λ a. on_value (argument p rs args 2) (λ f. on_value (argument p rs args 3) (λ n. on_place w.0 8 (λ r. on_null a (actions.Event (requests.Create r f n)))))) a.1
           ∙ on_some (argument p rs args 2) f.0 (λ f. on_value (argument p rs args 3) (λ n. on_place w.0 8 (λ r. on_null a.0 (actions.Event (requests.Create r f n))))) f.1
@@ -194,9 +174,9 @@ module _ (r : ReferenceRun) (d : Taken) (input : List ℤ) (program : IsProgram 
     word_is : (c : ℕ) → nat_lt c MEMORY_BYTES ≡ false → (length u.state.sync.threads == (c - MEMORY_BYTES)) ≡ true → IsLike input (cell_known u.known c) (Some n1)
     word_is c lt w = subst (λ (s : Shadow). IsLike input s (Some n1))
         (sym (ap (λ (z : Bool). if z then u.known.bytes c else slice_index_or u.known.words (c - MEMORY_BYTES) (always 0)) lt
-          ∙ ap (λ (ws : List Shadow). slice_index_or ws (c - MEMORY_BYTES) (always 0)) (known_words r d input program u st moves y q good objects r0 r1 act0 act refl)
-          ∙ ap (λ (i : ℕ). slice_index_or (u.seen.before.words ++ operand_at r.program q.both.ks q.both.x.op 3 ∷ []) i (always 0)) (sym (words ∙ sym q.unit.met.reached.machine.threads ∙ eqb-true (length u.state.sync.threads) (c - MEMORY_BYTES) w))
-          ∙ word_pushed u.seen.before.words (operand_at r.program q.both.ks q.both.x.op 3) (always 0))) argument_known
+        ∙ ap (λ (ws : List Shadow). slice_index_or ws (c - MEMORY_BYTES) (always 0)) (known_words r d input program u st moves y q good objects r0 r1 act0 act refl)
+        ∙ ap (λ (i : ℕ). slice_index_or (u.seen.before.words ++ operand_at r.program q.both.ks q.both.x.op 3 ∷ []) i (always 0)) (sym (words ∙ sym q.unit.met.reached.machine.threads ∙ eqb-true (length u.state.sync.threads) (c - MEMORY_BYTES) w))
+        ∙ word_pushed u.seen.before.words (operand_at r.program q.both.ks q.both.x.op 3) (always 0))) argument_known
 
     wc_here : (c : ℕ) → writes_cell d u.seen c ≡ (if nat_lt c MEMORY_BYTES then is_in R c else (length u.state.sync.threads == (c - MEMORY_BYTES)))
     wc_here c = wc_is r d input program u st moves y q good objects r0 r1 act0 act refl c
@@ -209,7 +189,7 @@ module _ (r : ReferenceRun) (d : Taken) (input : List ℤ) (program : IsProgram 
     cw_here : (c : ℕ) → cell_written ef c ≡ (if nat_lt c MEMORY_BYTES then (if is_in R c then Some (byte_of (length st.locals) (c - R.start)) else None) else (if length u.state.sync.threads == (c - MEMORY_BYTES) then Some n1 else None))
     cw_here c = cw_is r d input program u st moves y q good objects r0 r1 act0 act refl c
         ∙ ap (λ (v : ℕ). if nat_lt c MEMORY_BYTES then (if is_in R c then Some (byte_of (length st.locals) (c - R.start)) else None) else (if v == (c - MEMORY_BYTES) then Some n1 else (if thread_in u.seen.moment == (c - MEMORY_BYTES) then None else None)))
-          (fresh_number r.program (length st.locals) g ∙ threads_same ∙ sym q.unit.met.reached.machine.threads)
+        (fresh_number r.program (length st.locals) g ∙ threads_same ∙ sym q.unit.met.reached.machine.threads)
         ∙ ap (λ (o : Option ℕ). if nat_lt c MEMORY_BYTES then (if is_in R c then Some (byte_of (length st.locals) (c - R.start)) else None) else (if length u.state.sync.threads == (c - MEMORY_BYTES) then Some n1 else o)) (nones (thread_in u.seen.moment == (c - MEMORY_BYTES)))
 
     create_cell : (c : ℕ) (s : Shadow) (m : ℕ) → IsCellLike input s m → IsCellLike input (or_old (if writes_cell d u.seen c then Some (cell_known u.known c) else None) s) (or_old (cell_written ef c) m)
@@ -243,13 +223,15 @@ module _ (r : ReferenceRun) (d : Taken) (input : List ℤ) (program : IsProgram 
     pub created_fits : Fits (like input) (deed_of d u) (deed_moved r.program input st moves y)
     created_fits = event_fits r d input program u st moves y q good objects r0 r1 act0 act refl _ (known_is r d input program u st moves y q good objects r0 r1 act0 act refl)
         (ap (heap_after r.program (region_of l) q.both.f.registers) e ∙ sym (ap (heap_after r.program (region_of l0) q.both.f0.registers) e))
-        (subst (λ (z : Op). AreCallsLike input (op_after r.program l0 q.both.x (answer0 r d input u st moves y q) z) (set_shadow q.both.x.result (always (or_zero q.both.x.result (op_own r.program l0 q.both.f0.registers (answer0 r d input u st moves y q) z))) q.both.ks ∷ q.both.more) (op_after r.program l q.both.x (answer r d input u st moves y q) z)) (sym e)
-          (record {
+        (subst (λ (z : Op). AreCallsLike input (op_after r.program l0 q.both.x (answer0 r d input u st moves y q) z) (set_shadow q.both.x.result (always (or_zero q.both.x.result (op_own r.program l0 q.both.f0.registers (answer0 r d input u st moves y q) z))) q.both.ks ∷ q.both.more) (op_after r.program l q.both.x (answer r d input u st moves y q) z)) (sym e) (
+          record {
             function = q.both.top.function;
             place = ap (λ (i : ℕ). i + 1) q.both.top.place;
             height = q.both.top.height;
             registers = told_number input q.both.x.result q.both.ks q.both.f.registers (cut_to (returned_by known.PthreadCreate) (answer0 r d input u st moves y q)) (cut_to (returned_by known.PthreadCreate) (answer r d input u st moves y q)) q.both.top.registers (ap (cut_to (returned_by known.PthreadCreate)) (sym answers));
-          }, q.both.rest))
+          },
+          q.both.rest,
+        ))
         replies create_cell (reads_nothing r d input program u st moves y q good objects r0 r1 act0 act refl refl) create_writes
 
   pub create_fits : (args : List Value) → q.both.x.op ≡ op.CallKnown known.PthreadCreate args → Fits (like input) (deed_of d u) (deed_moved r.program input st moves y)
@@ -357,13 +339,15 @@ module _ (r : ReferenceRun) (d : Taken) (input : List ℤ) (program : IsProgram 
       pub joined_fits : Fits (like input) (deed_of d u) (deed_moved r.program input st moves y)
       joined_fits = event_fits r d input program u st moves y q good objects rj rj act0 act refl _ (known_is r d input program u st moves y q good objects rj rj act0 act refl)
           (ap (heap_after r.program (region_of l) q.both.f.registers) e ∙ sym (ap (heap_after r.program (region_of l0) q.both.f0.registers) e))
-          (subst (λ (z : Op). AreCallsLike input (op_after r.program l0 q.both.x (answer0 r d input u st moves y q) z) (set_shadow q.both.x.result (always (or_zero q.both.x.result (op_own r.program l0 q.both.f0.registers (answer0 r d input u st moves y q) z))) q.both.ks ∷ q.both.more) (op_after r.program l q.both.x (answer r d input u st moves y q) z)) (sym e)
-            (record {
+          (subst (λ (z : Op). AreCallsLike input (op_after r.program l0 q.both.x (answer0 r d input u st moves y q) z) (set_shadow q.both.x.result (always (or_zero q.both.x.result (op_own r.program l0 q.both.f0.registers (answer0 r d input u st moves y q) z))) q.both.ks ∷ q.both.more) (op_after r.program l q.both.x (answer r d input u st moves y q) z)) (sym e) (
+            record {
               function = q.both.top.function;
               place = ap (λ (i : ℕ). i + 1) q.both.top.place;
               height = q.both.top.height;
               registers = told_number input q.both.x.result q.both.ks q.both.f.registers (cut_to (returned_by known.PthreadJoin) (answer0 r d input u st moves y q)) (cut_to (returned_by known.PthreadJoin) (answer r d input u st moves y q)) q.both.top.registers (ap (cut_to (returned_by known.PthreadJoin)) (sym join_answers));
-            }, q.both.rest))
+            },
+            q.both.rest,
+          ))
           join_replies join_cell join_reads join_writes
 
     pub join_fits : (args : List Value) → q.both.x.op ≡ op.CallKnown known.PthreadJoin args → Fits (like input) (deed_of d u) (deed_moved r.program input st moves y)

@@ -15,17 +15,16 @@ use Rattle.pg_step.specs.Step.{frames_action, instr_action, next}
 use Rattle.pg_step.specs.Told.{id_of, place_in}
 use Rattle.pg_trace.specs.declared.turn.TurnKind.{TurnKind}
 use Rattle.pg_trace.specs.declared.turn.TurnKind.TheVariants as turns
-use Rattle.pg_trace.specs.declared.step.Event.{Event}
 use Rattle.pg_trace.specs.declared.step.Step.{Step}
 use Rattle.pg_trace.specs.declared.step.StepKind.{StepKind}
 use Rattle.pg_trace.specs.declared.step.StepKind.TheVariants as kinds
 use Rattle.pg_trace.specs.Kinds.{kind_of}
 use Rattle.pg_trace.specs.Steps.{happening_in}
 use Rattle.pg_machine.specs.Locality.{IfDid}
-use Rattle.pg_machine.specs.MachineStep.{Stepped, instr_told, kind_told, known_told, number_in, op_told, operands_in, step_told}
+use Rattle.pg_machine.specs.MachineStep.{Stepped, kind_told, number_in, operands_in}
 use Rattle.pg_machine.specs.Runs.{Takes}
 use Rattle.pg_machine.specs.State.{State, action_in, id_in, instr_of, next_of}
-use Rattle.pg_effects.specs.Effect.{Effect, RequestEffect, answer_to, effect, effect_by, effect_of, local_set, locals_with, own_after, request_effect}
+use Rattle.pg_effects.specs.Effect.{answer_to, effect, effect_of, local_set, locals_with, request_effect}
 use Rattle.pg_effects.proofs.Effects.{has_effect}
 use Rattle.pg_closed.specs.Extents.{is_live}
 use Rattle.pg_closed.specs.Freeable.{FreeRegion}
@@ -33,7 +32,7 @@ use Rattle.pg_closed.specs.Known.{Reference, RunShadow, Taken, after_step, live_
 use Rattle.pg_closed.specs.Moments.{Moment, instr_in, thread_in}
 use Rattle.pg_closed.specs.Shadows.{Shadow}
 use Rattle.pg_units.proofs.Here.{told_is}
-use Rattle.pg_units.proofs.Inner.{IsInner, kind_inner}
+use Rattle.pg_units.proofs.Inner.{kind_inner}
 use Rattle.pg_units.proofs.Known.{IsInnerKind}
 
 pub length_set : {A : Type 0} (xs : List A) (i : ℕ) (x : A) → length (slice_set xs i x) ≡ length xs
@@ -161,7 +160,7 @@ module _ (R : Reference) (d : Taken) (n : ℕ) (m : Moment) (known : RunShadow) 
           let t = thread_in m in
           let a = answer_to input s t (next_of p s t) in
           sym (ap (λ (z : Step). more_of z.kind (length known.words)) (told_is gated p input s h.after t m.did.did h.is_step)
-            ∙ nowhere gated p s t (operands_in p (slice_get s.locals t)) a (number_in p (slice_get s.locals t) a) (length known.words) (next_of p s t) refl (sym is_instr ∙ e))
+          ∙ nowhere gated p s t (operands_in p (slice_get s.locals t)) a (number_in p (slice_get s.locals t) a) (length known.words) (next_of p s t) refl (sym is_instr ∙ e))
 
   pub words_kept : (is_live d.pinned (thread_of known (thread_in m)).extents ≡ false → is_some (happening_in m.did.did.kind) ≡ false) → length known.words ≡ length s.locals → length (after_step R d n m known).words ≡ length h.after.locals
   words_kept plain e = go (is_live d.pinned (thread_of known (thread_in m)).extents) refl
