@@ -1,65 +1,43 @@
 -- Loads and stores fit: an exact one, or an event, at the same place; another within the recorded frame.
-use Rattle.std.proofs.Common.{◌≡◌, ℕ, ℤ, ◌==◌, ◌+◌, ◌-◌, ◌*◌, ◌%◌, ◌^◌, zero, suc, Bool, true, false, List, [], ◌∷◌, ◌++◌, length, map, Option, Some, None, Result, Ok, Err, refl, sym, ap, ◌∙◌, subst, arith, inl, inr, ◌⊎◌}
+use Rattle.std.proofs.Common.{◌≡◌, ℕ, ℤ, ◌==◌, ◌+◌, ◌-◌, ◌*◌, ◌^◌, zero, suc, Bool, true, false, List, [], ◌∷◌, ◌++◌, map, Option, Some, None, Result, Ok, Err, refl, sym, ap, ◌∙◌, subst, arith}
 use Rattle.std.specs.Prelude.{◌&&◌, ◌||◌, not, nat_lt, nat_le, is_some, slice_get, slice_index, if◌then◌else◌}
 use Rattle.std.specs.List.{AllByRecursion as AllOf, list_any}
 use Rattle.std.proofs.lemmas.Bool.{and_parts, eqb-true, false_from_ne_true, or_cases, true≢false}
-use Rattle.pg_num.specs.Numbers.{modulus}
 use Rattle.pg_num.specs.Places.{ByteRange}
-use Rattle.pg_num.specs.Pointers.{byte_place, is_in_range as in_range, place_of, pointer_of}
+use Rattle.pg_num.specs.Pointers.{byte_place, place_of, pointer_of}
 use Rattle.pg_num.specs.declared.layout.TheConstants.{MEMORY_BYTES}
 use Rattle.pg_num.specs.declared.places.PlaceFault.{PlaceFault}
 use Rattle.pg_num.specs.declared.places.PlaceFault.TheVariants as fault
-use Rattle.pg_num.specs.declared.width.Width.{Width}
-use Rattle.pg_ir.specs.declared.instr.Instr.{Instr}
-use Rattle.pg_ir.specs.declared.instr.Op.{Op}
-use Rattle.pg_ir.specs.declared.instr.Op.TheVariants as op
 use Rattle.pg_ir.specs.declared.value.Value.{Value}
-use Rattle.pg_ir.specs.Program.{NumberedProgram, function_of, result_of, types_of}
-use Rattle.pg_ir.specs.WellFormed.{FitsOp, IsProgram, type_at}
-use Rattle.pg_mem.specs.Bytes.{byte_of, number_of}
-use Rattle.pg_mem.specs.Memory.{byte_at, read}
-use Rattle.pg_nodes.specs.declared.check.Test.{Test}
+use Rattle.pg_mem.specs.Bytes.{number_of}
 use Rattle.pg_nodes.specs.declared.check.Test.TheVariants as test
 use Rattle.pg_nodes.specs.Values as nodes
 use Rattle.pg_nodes.specs.Values.{is_met}
-use Rattle.pg_plans.specs.Effects.{deeds, or_old}
-use Rattle.pg_plans.specs.Plans.{Fits}
 use Rattle.pg_step.specs.declared.action.Action.{Action}
-use Rattle.pg_step.specs.declared.action.Action.TheVariants as actions
-use Rattle.pg_step.specs.LocalState.{Frame, LocalState, region_of}
-use Rattle.pg_step.specs.Operands.{first_four, given, number_at, operand, operands_of}
+use Rattle.pg_step.specs.Operands.{operand, operands_of}
 use Rattle.pg_step.specs.States.{CanStep}
-use Rattle.pg_step.specs.Step.{bytes_of, on_place, on_value, placed}
+use Rattle.pg_step.specs.Step.{on_place, placed}
 use Rattle.pg_trace.specs.declared.step.Access.{Access}
 use Rattle.pg_trace.specs.declared.step.Step.{Step}
 use Rattle.pg_trace.specs.declared.step.StepKind.{StepKind}
 use Rattle.pg_trace.specs.declared.step.StepKind.TheVariants as kinds
 use Rattle.pg_trace.specs.Races.{is_in, reply_in}
 use Rattle.pg_trace.specs.Steps.{access_in, event_of, happening_in, range_of, turn_at}
-use Rattle.pg_machine.specs.MachineStep.{access_told, is_gated, kind_told, number_in, operands_in, step_told}
-use Rattle.pg_machine.specs.State.{State, instr_of, next_of}
+use Rattle.pg_machine.specs.State.{State}
 use Rattle.pg_machine.proofs.Named.{place_is}
-use Rattle.pg_effects.specs.Effect.{Effect, RequestEffect, Write, answer_to, effect_by, effect_of}
-use Rattle.pg_effects.specs.Meets.{byte_in, is_in_range}
-use Rattle.pg_effects.specs.Views.{Objects, cell_at, cell_written, is_thread, objects_of, objects_with, word_in}
-use Rattle.pg_effects.specs.Views as views
-use Rattle.pg_effects.proofs.Seen.{leads_to}
+use Rattle.pg_effects.specs.Views.{is_thread}
 use Rattle.pg_closed.specs.Freeable.{frame_of}
-use Rattle.pg_closed.specs.Known.{RunShadow, Taken, after_access, bytes_stored, load_of, operand_at, registers_of, set_shadow, thread_of, with_top}
+use Rattle.pg_closed.specs.Known.{Taken, operand_at}
 use Rattle.pg_closed.specs.Moments.{thread_in}
 use Rattle.pg_closed.specs.Rules.{Footprint, Need, Value as ValueNeed, Frame as FrameNeed, access_needs_by, access_needs_in, address_index, frame_needs, kind_in, operand_of, same_frame, value_needs, value_needs_by}
 use Rattle.pg_closed.specs.Shadows.{OnInput, Shadow, Known, Framed, Unknown, byte_in as byte_shadow, cut, frame_word, from_all, joined, loaded, shadow_of, spoiled, stored}
-use Rattle.pg_units.specs.Likes.{AreCallsLike, AreLike, HaveOneFrame, IsCallLike, IsCellLike, IsInFrame, IsLike, IsToldLike, like}
-use Rattle.pg_units.specs.Moves.{deed_moved}
-use Rattle.pg_units.specs.Units.{PlanUnit, ReferenceRun, access_touch, behind, cell_known, deed_of, instance_touch, is_event_at, is_instance, is_read_in, is_written_in, range_touched, reads_cell, reference_of, touch_of, word_read, word_written, writes_byte, writes_cell}
-use Rattle.pg_units.proofs.Along.{IsUnit, behind_is}
-use Rattle.pg_units.proofs.Branches.{act0_at, act_at, can0_at, can_at, eq_met, frames_in, needs_here, number_known, top_known}
+use Rattle.pg_units.specs.Likes.{HaveOneFrame, IsInFrame, IsLike, IsToldLike}
+use Rattle.pg_units.specs.Units.{PlanUnit, ReferenceRun, access_touch, instance_touch, is_event_at, is_read_in, is_written_in, range_touched, reads_cell, reference_of, touch_of, word_read, word_written, writes_cell}
+use Rattle.pg_units.proofs.Branches.{eq_met, needs_here, top_known}
 use Rattle.pg_units.proofs.Good.{Holds, IsGood}
-use Rattle.pg_units.proofs.Here.{number_here, operands_here, running}
-use Rattle.pg_units.proofs.Inner.{Pair, answer, answer0, instr_is, live_is, none_if, reads_none, same_instr, same_place, stands, told, told0, writes_none}
+use Rattle.pg_units.proofs.Inner.{Pair, instr_is, same_instr}
 use Rattle.pg_units.proofs.Likes.{from_like, operand_like}
 use Rattle.pg_units.proofs.Placed.{in_frame, place_range}
-use Rattle.pg_units.proofs.Results.{on_some, value_done}
 
 -- ---- actions that can be done
 

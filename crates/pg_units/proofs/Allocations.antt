@@ -4,17 +4,15 @@ use Rattle.std.specs.Prelude.{slice_get, slice_index_or, if◌then◌else◌}
 use Rattle.std.specs.List.{AllByRecursion as AllOf}
 use Rattle.pg_num.specs.Numbers.{modulus, signed}
 use Rattle.pg_num.specs.declared.width.Width.TheVariants.{W64}
-use Rattle.pg_ir.specs.declared.instr.Instr.{Instr}
 use Rattle.pg_ir.specs.declared.instr.Op.{Op}
 use Rattle.pg_ir.specs.declared.instr.Op.TheVariants as op
 use Rattle.pg_ir.specs.declared.known.Known.{Known as KnownFunction}
 use Rattle.pg_ir.specs.declared.known.Known.TheVariants as known
 use Rattle.pg_ir.specs.declared.request.TrapName.TheVariants as traps
 use Rattle.pg_ir.specs.declared.value.Value.{Value}
-use Rattle.pg_ir.specs.Program.{NumberedProgram, function_of, result_of, types_of}
+use Rattle.pg_ir.specs.Program.{function_of, result_of, types_of}
 use Rattle.pg_ir.specs.Signatures.{returned_by}
 use Rattle.pg_ir.specs.WellFormed.{FitsOp, IsProgram, granules_for, type_at}
-use Rattle.pg_nodes.specs.declared.check.Test.{Test}
 use Rattle.pg_nodes.specs.declared.check.Test.TheVariants as test
 use Rattle.pg_nodes.specs.Values as nodes
 use Rattle.pg_nodes.specs.Values.{is_met}
@@ -23,10 +21,10 @@ use Rattle.pg_step.specs.declared.action.Action.{Action}
 use Rattle.pg_step.specs.declared.action.Action.TheVariants as actions
 use Rattle.pg_step.specs.declared.region.Region.{Region}
 use Rattle.pg_step.specs.EdgeStep.{set_register}
-use Rattle.pg_step.specs.LocalState.{Frame, LocalState, region_of}
-use Rattle.pg_step.specs.Operands.{argument, first_four, given, number_at, operand, operands_of}
+use Rattle.pg_step.specs.LocalState.{region_of}
+use Rattle.pg_step.specs.Operands.{argument, first_four, given, operands_of}
 use Rattle.pg_step.specs.States.{CanStep}
-use Rattle.pg_step.specs.Step.{allocated, has_room, heap_with, known_action, on_value, pushed, stepped, taken}
+use Rattle.pg_step.specs.Step.{allocated, has_room, heap_with, on_value, pushed}
 use Rattle.pg_step.specs.Told.{op_own, or_zero}
 use Rattle.pg_step.proofs.Ranges.{residue_small}
 use Rattle.pg_trace.specs.declared.step.Step.{Step}
@@ -34,13 +32,13 @@ use Rattle.pg_trace.specs.declared.step.StepKind.{StepKind}
 use Rattle.pg_trace.specs.declared.step.StepKind.TheVariants as kinds
 use Rattle.pg_machine.specs.MachineStep as machine
 use Rattle.pg_machine.specs.MachineStep.{op_told}
-use Rattle.pg_machine.specs.State.{State, next_of}
+use Rattle.pg_machine.specs.State.{State}
 use Rattle.pg_effects.specs.Effect.{answer_to}
 use Rattle.pg_closed.specs.Known.{Taken, from_input, operand_at, result_in, set_shadow}
 use Rattle.pg_closed.specs.Moments.{thread_in}
-use Rattle.pg_closed.specs.Rules.{Need, Value as ValueNeed, is_malloc, kind_in, operand_of, value_needs, value_needs_by}
-use Rattle.pg_closed.specs.Shadows.{OnInput, Shadow, Known, always, from_all}
-use Rattle.pg_units.specs.Likes.{AreCallsLike, AreLike, IsCallLike, IsLike, like}
+use Rattle.pg_closed.specs.Rules.{Value as ValueNeed, is_malloc, kind_in, operand_of, value_needs}
+use Rattle.pg_closed.specs.Shadows.{OnInput, Shadow, Known, always}
+use Rattle.pg_units.specs.Likes.{AreLike, IsLike, like}
 use Rattle.pg_units.specs.Moves.{deed_moved}
 use Rattle.pg_units.specs.Units.{PlanUnit, ReferenceRun, deed_of, reference_of}
 use Rattle.pg_units.proofs.Branches.{act0_at, act_at, can0_at, can_at, eq_met, inner_at, kind_local, needs_here, number_known}

@@ -1,16 +1,12 @@
 -- What holds of each unit of a run.
-use Rattle.std.proofs.Common.{◌≡◌, ℕ, ℤ, Bool, true, false, List, [], ◌∷◌, Option, Some, None, refl, sym, ap, ◌∙◌, subst, suc, ◌<◌, ◌^◌, length}
+use Rattle.std.proofs.Common.{◌≡◌, ℕ, Bool, true, false, List, [], ◌∷◌, refl, sym, ap, subst, suc, ◌<◌, ◌^◌, length}
 use Rattle.std.specs.Prelude.{slice_get, if◌then◌else◌}
 use Rattle.std.specs.List.{AllByRecursion as AllOf}
-use Rattle.pg_ir.specs.declared.ids.InstrId.{InstrId}
-use Rattle.pg_ir.specs.Program.{NumberedProgram}
 use Rattle.pg_ir.specs.WellFormed.{IsProgram}
 use Rattle.pg_mem.specs.Memory.{byte_at}
 use Rattle.pg_plans.specs.Intervals.{done_after, times}
-use Rattle.pg_step.specs.LocalState.{LocalState}
 use Rattle.pg_trace.specs.declared.step.Step.{Step}
 use Rattle.pg_trace.specs.Races.{recorded}
-use Rattle.pg_machine.specs.MachineStep.{Did, Stepped, step}
 use Rattle.pg_machine.specs.Runs.{IsRun, Takes}
 use Rattle.pg_machine.specs.State.{State, initial}
 use Rattle.pg_effects.specs.PermittedSteps.{none_taken, one_more}

@@ -6,7 +6,6 @@ use Rattle.std.proofs.lemmas.Bool.{and_from, and_parts, eq-eqb, eqb-true, not-tr
 use Rattle.pg_num.specs.declared.width.Width.{Width}
 use Rattle.pg_ir.specs.declared.edge.Case.{Case}
 use Rattle.pg_ir.specs.declared.ids.BlockNo.{BlockNo}
-use Rattle.pg_ir.specs.declared.instr.Instr.{Instr}
 use Rattle.pg_ir.specs.declared.instr.Op.{Op}
 use Rattle.pg_ir.specs.declared.instr.Op.TheVariants as op
 use Rattle.pg_ir.specs.declared.request.TrapName.TheVariants as traps
@@ -30,19 +29,18 @@ use Rattle.pg_trace.specs.declared.step.Step.{Step}
 use Rattle.pg_trace.specs.declared.step.StepKind.{StepKind}
 use Rattle.pg_trace.specs.declared.step.StepKind.TheVariants as kinds
 use Rattle.pg_machine.specs.MachineStep.{instr_told, kind_told, number_in, op_told, operands_in}
-use Rattle.pg_machine.specs.State.{State, instr_of, next_of}
+use Rattle.pg_machine.specs.State.{State, next_of}
 use Rattle.pg_closed.specs.Extents.{edge_by, edge_in}
-use Rattle.pg_closed.specs.Freeable.{FreeRegion}
-use Rattle.pg_closed.specs.Known.{Taken, after_branch, after_op, along_edge, is_branch, operand_at, region_of as region_at, registers_of, result_in, thread_of, top_of}
-use Rattle.pg_closed.specs.Moments.{Moment, calls_of, instr_in, registers_in, thread_in}
-use Rattle.pg_closed.specs.Rules.{Need, Value as ValueNeed, edge_tests, has_region, is_bound, is_case, kind_in, operand_of, registers_before, value_needs, value_needs_by, value_needs_in}
+use Rattle.pg_closed.specs.Known.{Taken, after_branch, after_op, along_edge, is_branch, operand_at, region_of as region_at, result_in, top_of}
+use Rattle.pg_closed.specs.Moments.{calls_of, instr_in, registers_in, thread_in}
+use Rattle.pg_closed.specs.Rules.{Value as ValueNeed, edge_tests, has_region, is_bound, is_case, kind_in, operand_of, registers_before, value_needs, value_needs_by, value_needs_in}
 use Rattle.pg_closed.specs.Shadows.{OnInput, Shadow, Known}
-use Rattle.pg_units.specs.Likes.{AreCallsLike, AreLike, IsCallLike, IsLike, like}
+use Rattle.pg_units.specs.Likes.{AreCallsLike, IsCallLike, IsLike, like}
 use Rattle.pg_units.specs.Moves.{deed_moved}
-use Rattle.pg_units.specs.Units.{PlanUnit, ReferenceRun, deed_of, is_instance, reference_of}
+use Rattle.pg_units.specs.Units.{PlanUnit, ReferenceRun, deed_of, reference_of}
 use Rattle.pg_units.proofs.Good.{Holds, IsGood}
-use Rattle.pg_units.proofs.Here.{Here, number_here, operands_here, running}
-use Rattle.pg_units.proofs.Inner.{IsInner, Pair, act0_is, act_is, answer, answer0, can, can0, inner_fits, inner_known, instr_at0, instr_is, told0}
+use Rattle.pg_units.proofs.Here.{number_here, operands_here, running}
+use Rattle.pg_units.proofs.Inner.{IsInner, Pair, act0_is, act_is, answer, answer0, can, can0, inner_fits, instr_at0, instr_is, told0}
 use Rattle.pg_units.proofs.Likes.{edge_like, operand_like}
 use Rattle.pg_units.proofs.Results.{if_done, value_done}
 

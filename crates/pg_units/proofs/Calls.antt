@@ -1,6 +1,6 @@
 -- Calls of the program's own functions, and returns from them, fit.
-use Rattle.std.proofs.Common.{◌≡◌, ℕ, ℤ, ◌==◌, ◌+◌, ◌-◌, ◌<◌, Bool, true, false, List, [], ◌∷◌, ◌++◌, length, map, replicate, Option, Some, None, refl, sym, ap, ◌∙◌, subst, arith, inl, inr, ◌⊎◌, suc, IfSome}
-use Rattle.std.specs.Prelude.{◌&&◌, nat_le, slice_get, if◌then◌else◌}
+use Rattle.std.proofs.Common.{◌≡◌, ℕ, ℤ, ◌==◌, ◌+◌, ◌<◌, Bool, true, false, List, [], ◌∷◌, length, map, Option, Some, None, refl, sym, ap, ◌∙◌, subst, inl, inr, ◌⊎◌, suc, IfSome}
+use Rattle.std.specs.Prelude.{nat_le, slice_get, if◌then◌else◌}
 use Rattle.std.proofs.lemmas.Bool.{true≢false}
 use Rattle.pg_num.specs.declared.limits.TheConstants.{CALL_DEPTH_LIMIT, THREAD_REGISTER_LIMIT}
 use Rattle.pg_ir.specs.declared.instr.Instr.{Instr}
@@ -10,21 +10,20 @@ use Rattle.pg_ir.specs.declared.request.Request.TheVariants as requests
 use Rattle.pg_ir.specs.declared.request.TrapName.TheVariants as traps
 use Rattle.pg_ir.specs.declared.value.Scalar.{Scalar}
 use Rattle.pg_ir.specs.declared.value.Value.{Value}
-use Rattle.pg_ir.specs.Program.{NumberedProgram, entry_of, function_of, result_of, types_of}
+use Rattle.pg_ir.specs.Program.{NumberedProgram, function_of, result_of, types_of}
 use Rattle.pg_ir.specs.WellFormed.{FitsOp, FitsReturn, IsProgram, type_at}
 use Rattle.pg_plans.specs.Plans.{Fits}
 use Rattle.pg_step.specs.declared.action.Action.{Action}
 use Rattle.pg_step.specs.declared.action.Action.TheVariants as actions
-use Rattle.pg_step.specs.LocalState.{Frame, LocalState, region_of}
+use Rattle.pg_step.specs.LocalState.{Frame}
 use Rattle.pg_step.specs.Operands.{given, number_at, operand, operands_of}
 use Rattle.pg_step.specs.States.{AreFramesOf, Calls, CallsFunction, CanStep, IsOf, WaitFor}
-use Rattle.pg_step.specs.Step.{are_set, call_action, entered, on_all, on_value, return_action, returned, returning_action, stepped, target_in, total}
+use Rattle.pg_step.specs.Step.{are_set, call_action, entered, on_all, return_action, returning_action, stepped, target_in, total}
 use Rattle.pg_step.proofs.Presents.{same_function}
 use Rattle.pg_trace.specs.declared.step.Step.{Step}
-use Rattle.pg_machine.specs.State.{State, next_of}
+use Rattle.pg_machine.specs.State.{State}
 use Rattle.pg_machine.proofs.Asks.{there}
 use Rattle.pg_machine.proofs.Keeps.{all_at}
-use Rattle.pg_effects.specs.Reached.{IsReached}
 use Rattle.pg_closed.specs.Known.{Taken, caller_target, optional_shadow, set_shadow, target_of}
 use Rattle.pg_closed.specs.Known as shadows
 use Rattle.pg_closed.specs.Moments.{thread_in}
@@ -34,7 +33,7 @@ use Rattle.pg_units.specs.Moves.{deed_moved}
 use Rattle.pg_units.specs.Units.{PlanUnit, ReferenceRun, deed_of}
 use Rattle.pg_units.proofs.Branches.{act0_at, act_at, can0_at, can_at, frames_in, inner_at}
 use Rattle.pg_units.proofs.Computing.{frame_stepped, state_of}
-use Rattle.pg_units.proofs.Here.{Here, running}
+use Rattle.pg_units.proofs.Here.{running}
 use Rattle.pg_units.proofs.Inner.{IsInner, Pair}
 use Rattle.pg_units.proofs.Likes.{depth_like, entered_like, operand_like, operands_like}
 use Rattle.pg_units.proofs.Opened.{Parts, parts}

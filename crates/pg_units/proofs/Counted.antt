@@ -1,16 +1,16 @@
 -- The plan does all turns of the run.
-use Rattle.std.proofs.Common.{◌≡◌, ℕ, ℤ, ◌+◌, arith, Bool, true, false, List, [], ◌∷◌, length, map, refl, sym, ap, ◌∙◌, subst, suc}
+use Rattle.std.proofs.Common.{◌≡◌, ℕ, ◌+◌, arith, Bool, true, false, List, [], ◌∷◌, length, map, refl, sym, ap, ◌∙◌, suc}
 use Rattle.std.specs.Prelude.{if◌then◌else◌}
 use Rattle.pg_plans.specs.Effects.{deeds}
-use Rattle.pg_plans.specs.Intervals.{done_after, owners, times, turns_done}
+use Rattle.pg_plans.specs.Intervals.{done_after, times, turns_done}
 use Rattle.pg_plans.proofs.Owners.{owners_done}
 use Rattle.pg_trace.specs.declared.step.Step.{Step}
 use Rattle.pg_trace.specs.Races.{recorded}
 use Rattle.pg_machine.specs.State.{State, initial}
 use Rattle.pg_effects.specs.PermittedSteps.{none_taken, one_more}
-use Rattle.pg_closed.specs.Known.{RunShadow, Taken, after_step, seen_from, start_of}
+use Rattle.pg_closed.specs.Known.{RunShadow, Taken, seen_from, start_of}
 use Rattle.pg_closed.specs.Moments.{moments_from, thread_in}
-use Rattle.pg_units.specs.Units.{ExtentsArePlain, Met, PlanUnit, ReferenceRun, behind, deed_of, is_event_at, last_from, met_in, met_with, plan_of, reference_of, states_from, turns_of, unit_of, units_from, units_of}
+use Rattle.pg_units.specs.Units.{ExtentsArePlain, Met, ReferenceRun, behind, deed_of, is_event_at, last_from, met_in, met_with, plan_of, reference_of, states_from, turns_of, unit_of, units_from}
 use Rattle.pg_units.proofs.Turns.{AreTimed, all_timed, deed_event}
 
 zero_plus : (n : ℕ) → 0 + n ≡ n

@@ -1,74 +1,40 @@
 -- Ends of threads fit, and joins and creates.
-use Rattle.std.proofs.Common.{◌≡◌, ℕ, ℤ, ◌<◌, ◌+◌, ◌-◌, ◌%◌, ◌^◌, zero, suc, Bool, true, false, List, [], ◌∷◌, ◌++◌, length, map, Option, Some, None, refl, sym, ap, ◌∙◌, subst, arith, inl, inr, ◌⊎◌}
-use Rattle.std.specs.Prelude.{◌&&◌, ◌||◌, ◌==◌, not, nat_lt, is_some, slice_get, slice_set, slice_index, slice_index_or, if◌then◌else◌}
-use Rattle.std.specs.List.{AllByRecursion as AllOf, list_any}
-use Rattle.std.proofs.lemmas.Bool.{eq-eqb, eqb-true, or_left, true≢false}
-use Rattle.pg_num.specs.Numbers.{modulus}
-use Rattle.pg_num.specs.Places.{ByteRange}
+use Rattle.std.proofs.Common.{◌≡◌, ℕ, ℤ, ◌<◌, ◌-◌, suc, Bool, true, false, List, [], ◌∷◌, length, Option, Some, None, refl, sym, ap, ◌∙◌, subst, arith}
+use Rattle.std.specs.Prelude.{◌==◌, nat_lt, is_some, slice_set, slice_index_or, if◌then◌else◌}
+use Rattle.std.proofs.lemmas.Bool.{eqb-true, true≢false}
 use Rattle.pg_num.specs.declared.layout.TheConstants.{MEMORY_BYTES}
-use Rattle.pg_num.specs.declared.width.Width.TheVariants.{W32}
-use Rattle.pg_ir.specs.declared.instr.Instr.{Instr}
 use Rattle.pg_ir.specs.declared.instr.Op.{Op}
 use Rattle.pg_ir.specs.declared.instr.Op.TheVariants as op
-use Rattle.pg_ir.specs.declared.known.Known.{Known as KnownFunction}
 use Rattle.pg_ir.specs.declared.known.Known.TheVariants as known
-use Rattle.pg_ir.specs.declared.request.Request.{Request}
 use Rattle.pg_ir.specs.declared.request.Request.TheVariants as requests
 use Rattle.pg_ir.specs.declared.value.Value.{Value}
 use Rattle.pg_ir.specs.Program.{NumberedProgram}
 use Rattle.pg_ir.specs.WellFormed.{IsProgram}
 use Rattle.pg_plans.specs.Effects.{or_old}
 use Rattle.pg_plans.specs.Plans.{Fits}
-use Rattle.pg_sync.specs.Sync as sync
-use Rattle.pg_step.specs.declared.action.Action.{Action}
 use Rattle.pg_step.specs.declared.action.Action.TheVariants as actions
-use Rattle.pg_step.specs.EdgeStep.{set_register}
 use Rattle.pg_step.specs.LocalState.{Frame, LocalState, region_of}
-use Rattle.pg_step.specs.Operands.{argument, given, number_at, operand, operands_of}
+use Rattle.pg_step.specs.Operands.{argument, number_at, operand, operands_of}
 use Rattle.pg_step.specs.States.{CanStep}
 use Rattle.pg_step.specs.Step.{exit_value, heap_after, on_value, op_after, return_action, returning_action, stepped}
-use Rattle.pg_step.specs.Told.{op_own, or_zero}
-use Rattle.pg_trace.specs.declared.turn.TurnKind.{TurnKind}
-use Rattle.pg_trace.specs.declared.turn.TurnKind.TheVariants as turns
-use Rattle.pg_trace.specs.declared.step.Access.{Access}
-use Rattle.pg_trace.specs.declared.step.Event.{Event}
 use Rattle.pg_trace.specs.declared.step.Step.{Step}
-use Rattle.pg_trace.specs.declared.step.StepKind.{StepKind}
-use Rattle.pg_trace.specs.declared.step.StepKind.TheVariants as kinds
-use Rattle.pg_trace.specs.declared.step.Write.{Write as ToldWrite}
-use Rattle.pg_trace.specs.Kinds.{kind_of}
-use Rattle.pg_trace.specs.Races.{reply_of}
-use Rattle.pg_trace.specs.Steps.{access_by, access_in}
-use Rattle.pg_machine.specs.MachineStep.{write_told}
 use Rattle.pg_machine.specs.State.{State, next_of}
 use Rattle.pg_machine.proofs.Asks.{ready_made}
-use Rattle.pg_effects.specs.Effect as effects
-use Rattle.pg_effects.specs.Effect.{Effect, MadeThread, RequestEffect, answer_to, effect_of, request_write, thread_made, word_asked, word_left}
-use Rattle.pg_effects.specs.Meets.{byte_in, is_in_range}
-use Rattle.pg_effects.specs.Views.{cell_at, cell_written, is_thread, objects_of, word_in, word_made}
-use Rattle.pg_effects.specs.Views as views
+use Rattle.pg_effects.specs.Effect.{Effect, effect_of}
+use Rattle.pg_effects.specs.Views.{cell_written, objects_of}
 use Rattle.pg_closed.specs.Known.{RunShadow, Taken, bytes_by, exit_shadow, live_by, low_byte, operand_at, region_of as region_at, registers_of, set_shadow, thread_of, words_after}
-use Rattle.pg_closed.specs.Moments.{instr_in, thread_in}
-use Rattle.pg_closed.specs.Rules.{kind_in}
+use Rattle.pg_closed.specs.Moments.{thread_in}
 use Rattle.pg_closed.specs.Shadows.{Shadow, always}
-use Rattle.pg_units.specs.Likes.{AreCallsLike, IsCellLike, IsLike, like}
+use Rattle.pg_units.specs.Likes.{IsCellLike, IsLike, like}
 use Rattle.pg_units.specs.Moves.{deed_moved}
-use Rattle.pg_units.specs.Units.{PlanUnit, ReferenceRun, access_touch, cell_known, deed_of, event_word_read, event_word_written, instance_touch, is_event_at, is_read_in, is_written_in, reads_cell, reference_of, word_read, word_written, writes_cell}
-use Rattle.pg_units.proofs.Accesses.{cut_like}
-use Rattle.pg_units.proofs.Branches.{act0_at, act_at, can0_at, can_at, top_known}
-use Rattle.pg_units.proofs.Computing.{frame_stepped}
-use Rattle.pg_units.proofs.Events.{event0, event_known, event_objects, event_told_alike, is_event, kind0_is, reply, reply0, shaped_fits}
+use Rattle.pg_units.specs.Units.{PlanUnit, ReferenceRun, cell_known, deed_of, is_event_at, reference_of, writes_cell}
+use Rattle.pg_units.proofs.Branches.{act0_at, act_at, can0_at, can_at}
 use Rattle.pg_units.proofs.Good.{IsGood}
 use Rattle.pg_units.proofs.Here.{running}
-use Rattle.pg_units.proofs.Inner.{Pair, answer, answer0, instr_is, live_is, none_if, stands}
-use Rattle.pg_units.proofs.Known.{after_live}
+use Rattle.pg_units.proofs.Inner.{Pair, answer, answer0}
 use Rattle.pg_units.proofs.Likes.{argument_like, depth_like, operand_like}
-use Rattle.pg_units.proofs.Loads.{effect_reads, effect_request, effect_thread, effect_word, effect_writes}
-use Rattle.pg_units.proofs.Requests.{core}
 use Rattle.pg_units.proofs.Results.{on_some, value_done}
-use Rattle.pg_units.proofs.Shapes.{shape_join, shape_out}
-use Rattle.pg_units.proofs.EventCells.{cw_is, er_is, event_fits, known_bytes, known_is, known_words, rc_is, reads_nothing, wc_is, word_pushed, word_set, word_there}
-use Rattle.pg_units.proofs.EventCells as ec
+use Rattle.pg_units.proofs.EventCells.{cw_is, event_fits, known_is, known_words, reads_nothing, wc_is, word_set}
 
 -- ---- a return in the first call
 

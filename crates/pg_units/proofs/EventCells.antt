@@ -1,36 +1,26 @@
 -- Events that print, end a thread, make one or join one fit.
-use Rattle.std.proofs.Common.{◌≡◌, ℕ, ℤ, ◌<◌, ◌+◌, ◌-◌, ◌%◌, ◌^◌, zero, suc, Bool, true, false, List, [], ◌∷◌, ◌++◌, length, map, Option, Some, None, refl, sym, ap, ◌∙◌, subst, arith, inl, inr, ◌⊎◌}
-use Rattle.std.specs.Prelude.{◌&&◌, ◌||◌, ◌==◌, not, nat_lt, is_some, slice_get, slice_set, slice_index, slice_index_or, if◌then◌else◌}
-use Rattle.std.specs.List.{AllByRecursion as AllOf, list_any}
-use Rattle.std.proofs.lemmas.Bool.{eq-eqb, eqb-true, or_left, true≢false}
+use Rattle.std.proofs.Common.{◌≡◌, ℕ, ℤ, ◌<◌, ◌-◌, ◌%◌, ◌^◌, zero, suc, Bool, true, false, List, [], ◌∷◌, ◌++◌, length, Option, Some, None, refl, sym, ap, ◌∙◌, subst, arith}
+use Rattle.std.specs.Prelude.{◌==◌, nat_lt, is_some, slice_set, slice_index_or, if◌then◌else◌}
+use Rattle.std.specs.List.{list_any}
+use Rattle.std.proofs.lemmas.Bool.{or_left, true≢false}
 use Rattle.pg_num.specs.Numbers.{modulus}
 use Rattle.pg_num.specs.Places.{ByteRange}
 use Rattle.pg_num.specs.declared.layout.TheConstants.{MEMORY_BYTES}
 use Rattle.pg_num.specs.declared.width.Width.TheVariants.{W32}
-use Rattle.pg_ir.specs.declared.instr.Instr.{Instr}
 use Rattle.pg_ir.specs.declared.instr.Op.{Op}
 use Rattle.pg_ir.specs.declared.instr.Op.TheVariants as op
-use Rattle.pg_ir.specs.declared.known.Known.{Known as KnownFunction}
 use Rattle.pg_ir.specs.declared.known.Known.TheVariants as known
 use Rattle.pg_ir.specs.declared.request.Request.{Request}
 use Rattle.pg_ir.specs.declared.request.Request.TheVariants as requests
 use Rattle.pg_ir.specs.declared.value.Value.{Value}
-use Rattle.pg_ir.specs.Program.{NumberedProgram}
 use Rattle.pg_ir.specs.WellFormed.{IsProgram}
 use Rattle.pg_plans.specs.Effects.{or_old}
 use Rattle.pg_plans.specs.Plans.{Fits}
 use Rattle.pg_sync.specs.Sync as sync
-use Rattle.pg_step.specs.declared.action.Action.{Action}
 use Rattle.pg_step.specs.declared.action.Action.TheVariants as actions
-use Rattle.pg_step.specs.EdgeStep.{set_register}
-use Rattle.pg_step.specs.LocalState.{Frame, LocalState, region_of}
-use Rattle.pg_step.specs.Operands.{argument, given, number_at, operand, operands_of}
-use Rattle.pg_step.specs.States.{CanStep}
-use Rattle.pg_step.specs.Step.{exit_value, heap_after, on_value, op_after, return_action, returning_action, stepped}
-use Rattle.pg_step.specs.Told.{op_own, or_zero}
-use Rattle.pg_trace.specs.declared.turn.TurnKind.{TurnKind}
-use Rattle.pg_trace.specs.declared.turn.TurnKind.TheVariants as turns
-use Rattle.pg_trace.specs.declared.step.Access.{Access}
+use Rattle.pg_step.specs.LocalState.{LocalState, region_of}
+use Rattle.pg_step.specs.Operands.{argument}
+use Rattle.pg_step.specs.Step.{heap_after, op_after}
 use Rattle.pg_trace.specs.declared.step.Event.{Event}
 use Rattle.pg_trace.specs.declared.step.Step.{Step}
 use Rattle.pg_trace.specs.declared.step.StepKind.{StepKind}
@@ -41,8 +31,6 @@ use Rattle.pg_trace.specs.Races.{reply_of}
 use Rattle.pg_trace.specs.Steps.{access_by, access_in}
 use Rattle.pg_machine.specs.MachineStep.{write_told}
 use Rattle.pg_machine.specs.State.{State, next_of}
-use Rattle.pg_machine.proofs.Asks.{ready_made}
-use Rattle.pg_effects.specs.Effect as effects
 use Rattle.pg_effects.specs.Effect.{Effect, MadeThread, RequestEffect, answer_to, effect_of, request_write, thread_made, word_asked, word_left}
 use Rattle.pg_effects.specs.Meets.{byte_in, is_in_range}
 use Rattle.pg_effects.specs.Views.{cell_at, cell_written, is_thread, objects_of, word_in, word_made}
@@ -62,7 +50,7 @@ use Rattle.pg_units.proofs.Good.{IsGood}
 use Rattle.pg_units.proofs.Here.{running}
 use Rattle.pg_units.proofs.Inner.{Pair, answer, answer0, instr_is, live_is, none_if, stands}
 use Rattle.pg_units.proofs.Known.{after_live}
-use Rattle.pg_units.proofs.Likes.{argument_like, depth_like, operand_like}
+use Rattle.pg_units.proofs.Likes.{argument_like}
 use Rattle.pg_units.proofs.Loads.{effect_reads, effect_request, effect_thread, effect_word, effect_writes}
 use Rattle.pg_units.proofs.Requests.{core}
 use Rattle.pg_units.proofs.Results.{on_some, value_done}

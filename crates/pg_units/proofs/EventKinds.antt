@@ -1,6 +1,6 @@
 -- Threads that stand alike do an event next, or neither does.
-use Rattle.std.proofs.Common.{◌≡◌, ℕ, ℤ, ◌⊎◌, ◌==◌, ◌+◌, Bool, true, false, List, [], ◌∷◌, length, Option, Some, None, refl, sym, ap, ◌∙◌, subst, inl, inr, suc}
-use Rattle.std.specs.Prelude.{is_some, slice_get, if◌then◌else◌}
+use Rattle.std.proofs.Common.{◌≡◌, ℕ, ℤ, ◌==◌, Bool, true, false, List, ◌∷◌, length, Option, Some, None, refl, sym, ap, ◌∙◌, suc}
+use Rattle.std.specs.Prelude.{if◌then◌else◌}
 use Rattle.pg_num.specs.Numbers.{divided}
 use Rattle.pg_ir.specs.declared.ids.InstrId.{InstrId}
 use Rattle.pg_ir.specs.declared.instr.Instr.{Instr}
@@ -20,15 +20,14 @@ use Rattle.pg_step.specs.Compute.{chosen}
 use Rattle.pg_step.specs.LocalState.{Frame, LocalState, region_of}
 use Rattle.pg_step.specs.Operands.{operand}
 use Rattle.pg_step.specs.States.{CanStep}
-use Rattle.pg_step.specs.Step.{bytes_of, call_action, has_room, known_action, next, op_action, return_action, returning_action, total}
+use Rattle.pg_step.specs.Step.{bytes_of, has_room, known_action, next, op_action, return_action, returning_action, total}
 use Rattle.pg_step.specs.Told.{id_of}
 use Rattle.pg_machine.specs.MachineStep.{is_gated}
 use Rattle.pg_machine.specs.State.{State}
-use Rattle.pg_machine.proofs.Actions.{barrier_init_is, call_is, create_is, divided_is, edge_is, either, init_is, join_is, number_is, object_is, on_all_is, on_place_is, on_value_is, room_is, wait_is}
+use Rattle.pg_machine.proofs.Actions.{barrier_init_is, call_is, create_is, divided_is, edge_is, init_is, join_is, number_is, object_is, on_all_is, on_place_is, on_value_is, room_is, wait_is}
 use Rattle.pg_effects.specs.Views.{begun_in, local_at}
 use Rattle.pg_runs.specs.Deeds.{is_event_at, local_event}
 use Rattle.pg_closed.specs.Shadows.{Shadow}
-use Rattle.pg_units.specs.Likes.{IsCallLike}
 use Rattle.pg_units.proofs.Here.{Here, running}
 use Rattle.pg_units.proofs.Likes.{depth_like}
 use Rattle.pg_units.proofs.Opened.{Both}

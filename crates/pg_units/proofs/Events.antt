@@ -1,44 +1,35 @@
 -- Events of known functions that touch no cell fit.
-use Rattle.std.proofs.Common.{◌≡◌, ℕ, ℤ, ◌+◌, ◌-◌, zero, suc, Bool, true, false, List, [], ◌∷◌, ◌++◌, length, map, Option, Some, None, refl, sym, ap, ◌∙◌, subst, arith, ◌<◌}
+use Rattle.std.proofs.Common.{◌≡◌, ℕ, ℤ, ◌+◌, ◌-◌, zero, suc, Bool, true, false, List, [], ◌∷◌, length, map, Option, Some, None, refl, sym, ap, ◌∙◌, subst, arith}
 use Rattle.std.specs.Prelude.{◌&&◌, ◌||◌, ◌==◌, nat_lt, is_some, slice_get, slice_index, slice_index_or, if◌then◌else◌}
 use Rattle.std.specs.List.{AllByRecursion as AllOf}
 use Rattle.std.proofs.lemmas.Bool.{ltb-true, true≢false}
 use Rattle.pg_num.specs.declared.layout.TheConstants.{MEMORY_BYTES}
-use Rattle.pg_ir.specs.declared.instr.Instr.{Instr}
 use Rattle.pg_ir.specs.declared.instr.Op.{Op}
 use Rattle.pg_ir.specs.declared.instr.Op.TheVariants as op
 use Rattle.pg_ir.specs.declared.known.Known.{Known as KnownFunction}
 use Rattle.pg_ir.specs.declared.known.Known.TheVariants as known
 use Rattle.pg_ir.specs.declared.request.Request.{Request}
 use Rattle.pg_ir.specs.declared.value.Value.{Value}
-use Rattle.pg_ir.specs.Program.{NumberedProgram}
 use Rattle.pg_ir.specs.Signatures.{returned_by}
 use Rattle.pg_ir.specs.WellFormed.{IsProgram}
-use Rattle.pg_nodes.specs.declared.check.Test.{Test}
 use Rattle.pg_nodes.specs.declared.check.Test.TheVariants as test
 use Rattle.pg_nodes.specs.Values.{is_met}
-use Rattle.pg_plans.specs.Effects.{or_old}
 use Rattle.pg_plans.specs.Plans.{Fits}
 use Rattle.pg_sync.specs.Sync as sync
-use Rattle.pg_step.specs.declared.action.Action.{Action}
 use Rattle.pg_step.specs.declared.action.Action.TheVariants as actions
-use Rattle.pg_step.specs.EdgeStep.{set_register}
-use Rattle.pg_step.specs.LocalState.{Frame, LocalState, region_of}
-use Rattle.pg_step.specs.Operands.{argument, first_four, given, number_at, operand, operands_of}
-use Rattle.pg_step.specs.Step.{cut_to, heap_after, known_action, known_after, known_number, op_after, result_number, stepped}
+use Rattle.pg_step.specs.LocalState.{LocalState, region_of}
+use Rattle.pg_step.specs.Operands.{argument, first_four, given, number_at, operands_of}
+use Rattle.pg_step.specs.Step.{cut_to, heap_after, op_after, result_number, stepped}
 use Rattle.pg_step.specs.Told.{known_own, op_own, or_zero}
 use Rattle.pg_trace.specs.declared.turn.TurnKind.{TurnKind}
-use Rattle.pg_trace.specs.declared.step.Access.{Access}
 use Rattle.pg_trace.specs.declared.step.Event.{Event}
-use Rattle.pg_trace.specs.declared.step.Happening.{Happening}
 use Rattle.pg_trace.specs.declared.step.Step.{Step}
 use Rattle.pg_trace.specs.declared.step.StepKind.{StepKind}
 use Rattle.pg_trace.specs.declared.step.StepKind.TheVariants as kinds
-use Rattle.pg_trace.specs.declared.step.Write.{Write}
 use Rattle.pg_trace.specs.Kinds.{kind_of, object_of}
 use Rattle.pg_trace.specs.Races.{reply_in, reply_of}
 use Rattle.pg_trace.specs.Steps.{access_by, event_of, turn_at}
-use Rattle.pg_machine.specs.MachineStep.{answer_of, event_told, kind_told, number_in, operands_in, write_told}
+use Rattle.pg_machine.specs.MachineStep.{event_told, kind_told, number_in, operands_in, write_told}
 use Rattle.pg_machine.specs.State.{State, next_of}
 use Rattle.pg_effects.specs.Effect.{Effect, MadeThread, RequestEffect, answer_to, effect_of, request_effect}
 use Rattle.pg_effects.specs.Views.{Objects, cell_written, objects_of, objects_with, word_in, word_made}
@@ -47,17 +38,17 @@ use Rattle.pg_closed.specs.Known.{RunShadow, Taken, after_event, operand_at, set
 use Rattle.pg_closed.specs.Moments.{thread_in}
 use Rattle.pg_closed.specs.Rules.{Need, Value as ValueNeed, checked, checked_of, equal_to, event_needs, kind_in, operand_of, value_needs}
 use Rattle.pg_closed.specs.Shadows.{OnInput, Shadow, Known, always, shadow_of, unset}
-use Rattle.pg_units.specs.Likes.{AreCallsLike, AreLike, IsCallLike, IsLike, IsToldLike, like}
+use Rattle.pg_units.specs.Likes.{AreCallsLike, IsLike, IsToldLike, like}
 use Rattle.pg_units.specs.Moves.{deed_moved}
 use Rattle.pg_units.specs.Units.{PlanUnit, ReferenceRun, cell_known, deed_of, event_word_read, event_word_written, is_event_at, reads_cell, reference_of, word_written, writes_cell}
 use Rattle.pg_units.proofs.Allocations.{told_number}
-use Rattle.pg_units.proofs.Branches.{act0_at, act_at, can0_at, can_at, eq_met, needs_here, top_known}
+use Rattle.pg_units.proofs.Branches.{act0_at, act_at, can0_at, eq_met, needs_here, top_known}
 use Rattle.pg_units.proofs.Good.{Holds, IsGood}
 use Rattle.pg_units.proofs.Here.{number_here, operands_here, running}
 use Rattle.pg_units.proofs.Inner.{Pair, answer, answer0, instr_is, live_is, no_touch, none_if, reads_none, same_instr, stands, told, told0}
 use Rattle.pg_units.proofs.Known.{event_calls}
 use Rattle.pg_units.proofs.Likes.{argument_like}
-use Rattle.pg_units.proofs.Loads.{effect_reads, effect_request, effect_thread, effect_word, effect_writes, request0, same_if, unit_objects}
+use Rattle.pg_units.proofs.Loads.{effect_reads, effect_request, effect_thread, effect_word, effect_writes, request0, unit_objects}
 use Rattle.pg_units.proofs.Requests.{core, given_args, is_checked, kind_core, object_core, same_action, same_objects}
 use Rattle.pg_units.proofs.Shapes.{Shape, is_start, names_object, needs_event, shape_of}
 

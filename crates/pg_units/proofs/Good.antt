@@ -1,16 +1,15 @@
 -- What closed decisions and their precondition give at a step on an admitted input.
-use Rattle.std.proofs.Common.{◌≡◌, ℕ, ℤ, Bool, true, false, List, [], ◌∷◌, ◌++◌, Option, Some, None, refl, sym, ap, ◌∙◌, subst}
+use Rattle.std.proofs.Common.{◌≡◌, ℤ, Bool, true, false, List, [], ◌∷◌, ◌++◌, Some, refl}
 use Rattle.std.specs.Prelude.{◌&&◌, not}
 use Rattle.std.specs.List.{AllByRecursion as AllOf, list_all}
 use Rattle.std.proofs.lemmas.Bool.{and_from, and_parts}
 use Rattle.pg_nodes.specs.declared.check.Test.{Test}
 use Rattle.pg_nodes.specs.Values.{is_met}
 use Rattle.pg_plans.proofs.Lists.{all_map, both_of}
-use Rattle.pg_closed.specs.declared.decision.Decision.{Decision}
 use Rattle.pg_closed.specs.Closed.{IsClosed, admits, conditions, conditions_at}
 use Rattle.pg_closed.specs.Known.{Reference, Seen, Taken, seen_in}
 use Rattle.pg_closed.specs.Rules.{Condition, Need, Value, Frame, all_of, asks_frames, asks_pins, asks_values, conditions_with, frame_needs, is_bound, need_blames, need_conditions, value_needs}
-use Rattle.pg_closed.specs.Shadows.{OnInput, Shadow, Known, Framed, Unknown, frame_word}
+use Rattle.pg_closed.specs.Shadows.{OnInput, Known, Framed, Unknown, frame_word}
 use Rattle.pg_units.proofs.Settled.{append_none, none_asked, not_asked}
 
 -- what is asked of a value holds on the input

@@ -1,18 +1,16 @@
 -- A thread that has begun at an instruction, and its step.
-use Rattle.std.proofs.Common.{◌≡◌, ℕ, ℤ, ◌+◌, Bool, true, false, List, [], ◌∷◌, length, Option, Some, None, Result, Ok, Err, refl, sym, ap, ◌∙◌, subst}
+use Rattle.std.proofs.Common.{◌≡◌, ℕ, ℤ, Bool, true, List, ◌∷◌, length, Option, Some, Ok, Err, refl, ap, ◌∙◌}
 use Rattle.std.specs.Prelude.{slice_get}
 use Rattle.pg_ir.specs.declared.ids.InstrId.{InstrId}
 use Rattle.pg_ir.specs.declared.instr.Instr.{Instr}
-use Rattle.pg_ir.specs.declared.request.TrapName.{TrapName}
 use Rattle.pg_ir.specs.Program.{NumberedProgram}
-use Rattle.pg_step.specs.declared.action.Action.{Action}
 use Rattle.pg_step.specs.LocalState.{Frame, LocalState, region_of}
 use Rattle.pg_step.specs.Operands.{first_four, operands_of}
 use Rattle.pg_step.specs.States.{CanStep}
 use Rattle.pg_step.specs.Step.{after, instr_after, next, op_action, total}
 use Rattle.pg_step.specs.Told.{id_of, number_given, op_own, operand_values, or_zero}
 use Rattle.pg_trace.specs.declared.step.Step.{Step}
-use Rattle.pg_machine.specs.MachineStep.{Answered, Did, Stepped, answered, kind_told, number_in, operands_in, settled, step, step_told, taken}
+use Rattle.pg_machine.specs.MachineStep.{Answered, Did, answered, number_in, operands_in, settled, step, step_told, taken}
 use Rattle.pg_machine.specs.Runs.{Takes}
 use Rattle.pg_machine.specs.State.{State, action_in, id_in, instr_of, next_of}
 use Rattle.pg_machine.proofs.Asks.{ready_acts}

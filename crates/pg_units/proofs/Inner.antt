@@ -1,6 +1,6 @@
 -- A step that only its thread's own state and the input decide fits, where what it leaves of its thread is alike.
-use Rattle.std.proofs.Common.{◌≡◌, ℕ, ℤ, ◌+◌, ◌-◌, Bool, true, false, List, [], ◌∷◌, ◌++◌, length, Option, Some, None, refl, sym, ap, ◌∙◌, subst, suc}
-use Rattle.std.specs.Prelude.{◌&&◌, ◌||◌, nat_lt, is_some, slice_get, if◌then◌else◌}
+use Rattle.std.proofs.Common.{◌≡◌, ℕ, ℤ, ◌-◌, Bool, true, false, List, [], ◌∷◌, ◌++◌, length, Option, Some, None, refl, sym, ap, ◌∙◌, subst, suc}
+use Rattle.std.specs.Prelude.{nat_lt, is_some, slice_get, if◌then◌else◌}
 use Rattle.std.specs.List.{list_any}
 use Rattle.std.proofs.lemmas.Bool.{eq-eqb, true≢false}
 use Rattle.pg_num.specs.Places.{ByteRange}
@@ -12,12 +12,10 @@ use Rattle.pg_ir.specs.declared.instr.Op.TheVariants as op
 use Rattle.pg_ir.specs.declared.known.Known.{Known}
 use Rattle.pg_ir.specs.declared.known.Known.TheVariants as known
 use Rattle.pg_ir.specs.Program.{NumberedProgram}
-use Rattle.pg_plans.specs.Effects.{deeds, or_old}
 use Rattle.pg_plans.specs.Plans.{Fits}
-use Rattle.pg_plans.specs.Steps.{touches}
 use Rattle.pg_step.specs.declared.action.Action.{Action}
 use Rattle.pg_step.specs.declared.action.Action.TheVariants as actions
-use Rattle.pg_step.specs.LocalState.{Frame, LocalState, region_of}
+use Rattle.pg_step.specs.LocalState.{LocalState, region_of}
 use Rattle.pg_step.specs.States.{CanStep}
 use Rattle.pg_step.specs.Step.{heap_after, instr_after, op_action, op_after, total}
 use Rattle.pg_trace.specs.declared.step.Access.{Access}
@@ -29,8 +27,7 @@ use Rattle.pg_trace.specs.Steps.{access_in, event_of, happening_in, turn_at}
 use Rattle.pg_machine.specs.MachineStep.{instr_told, kind_told, known_told, number_in, op_told, operands_in, step_told}
 use Rattle.pg_machine.specs.Runs.{Takes}
 use Rattle.pg_machine.specs.State.{State, instr_of, next_of}
-use Rattle.pg_effects.specs.Effect as effects
-use Rattle.pg_effects.specs.Effect.{Effect, RequestEffect, Write, answer_to, effect_by, effect_of, own_after, range_read, request_effect, word_read_by, write_of}
+use Rattle.pg_effects.specs.Effect.{Effect, RequestEffect, Write, answer_to, effect_by, effect_of, range_read, request_effect, word_read_by, write_of}
 use Rattle.pg_effects.specs.Meets.{byte_in, is_in_range}
 use Rattle.pg_effects.specs.Reached.{IsReached}
 use Rattle.pg_effects.specs.Views.{LeadsTo, Objects, cell_written, is_thread, local_at, objects_with, word_in}
@@ -41,11 +38,11 @@ use Rattle.pg_closed.specs.Known.{RunShadow, Taken, after_op, region_of as regio
 use Rattle.pg_closed.specs.Moments.{instr_in, thread_in}
 use Rattle.pg_closed.specs.Rules.{kind_in}
 use Rattle.pg_closed.specs.Shadows.{Shadow}
-use Rattle.pg_units.specs.Likes.{AreCallsLike, IsStandingLike, IsToldLike, MovedThread, StandLike, like}
-use Rattle.pg_units.specs.Moves.{RunDeed, deed_moved}
-use Rattle.pg_units.specs.Units.{PlanUnit, ReferenceRun, access_touch, behind, cell_known, deed_of, instance_touch, is_event_at, is_instance, is_read_in, is_written_in, reads_cell, reference_of, standing_of, touch_of, word_read, word_written, writes_byte, writes_cell}
+use Rattle.pg_units.specs.Likes.{AreCallsLike, StandLike, like}
+use Rattle.pg_units.specs.Moves.{deed_moved}
+use Rattle.pg_units.specs.Units.{PlanUnit, ReferenceRun, access_touch, cell_known, deed_of, instance_touch, is_event_at, is_instance, is_written_in, reference_of, standing_of, touch_of, word_read, word_written, writes_cell}
 use Rattle.pg_units.proofs.Along.{IsUnit, behind_is}
-use Rattle.pg_units.proofs.Here.{Here, after_here, can_step, instr_here, next_here, running, told_is}
+use Rattle.pg_units.proofs.Here.{after_here, can_step, instr_here, next_here, running, told_is}
 use Rattle.pg_units.proofs.Known.{IsInnerKind, inner_calls}
 use Rattle.pg_units.proofs.Opened.{Both}
 

@@ -2,7 +2,6 @@
 use Rattle.std.proofs.Common.{◌≡◌, ℕ, zero, suc, Bool, true, false, List, [], ◌∷◌, ◌++◌, Option, Some, None, refl, sym, ap, ◌∙◌, subst}
 use Rattle.std.specs.Prelude.{slice_index_or, slice_get, if◌then◌else◌}
 use Rattle.pg_ir.specs.declared.instr.Instr.{Instr}
-use Rattle.pg_ir.specs.Program.{NumberedProgram}
 use Rattle.pg_trace.specs.declared.step.Access.{Access}
 use Rattle.pg_trace.specs.declared.turn.TurnKind.{TurnKind}
 use Rattle.pg_trace.specs.declared.turn.TurnKind.TheVariants as turns
@@ -11,7 +10,7 @@ use Rattle.pg_trace.specs.declared.step.StepKind.{StepKind}
 use Rattle.pg_trace.specs.declared.step.StepKind.TheVariants as kinds
 use Rattle.pg_closed.specs.Extents.{Extent, is_live, open_after}
 use Rattle.pg_closed.specs.Freeable.{FreeRegion}
-use Rattle.pg_closed.specs.Known.{Reference, RunShadow, Taken, ThreadShadow, after_access, after_event, after_op, after_step, bytes_freed, bytes_stored, edge_of, fresh_thread, live_after, live_by, no_thread, on_thread, region_of, registers_of, result_in, thread_of, threads_after, with_extents, with_top}
+use Rattle.pg_closed.specs.Known.{Reference, RunShadow, Taken, ThreadShadow, after_access, after_event, after_op, after_step, bytes_freed, edge_of, fresh_thread, live_after, live_by, no_thread, on_thread, region_of, result_in, thread_of, threads_after, with_extents, with_top}
 use Rattle.pg_closed.specs.Moments.{Moment, instr_in, thread_in}
 use Rattle.pg_closed.specs.Shadows.{Shadow, unset}
 

@@ -10,12 +10,14 @@ pub mod Ends
 pub mod EventCells
 pub mod EventKinds
 pub mod Events
+pub mod Functions
 pub mod Good
 pub mod Here
 pub mod Inner
 pub mod Known
 pub mod Likes
 pub mod Loads
+pub mod Made
 pub mod Members
 pub mod Obeying
 pub mod Opened

@@ -1,7 +1,7 @@
 -- Registers and operands that are like what is known of them.
-use Rattle.std.proofs.Common.{◌≡◌, ℕ, ℤ, zero, suc, ◌+◌, ◌-◌, Bool, true, false, List, [], ◌∷◌, ◌++◌, length, map, replicate, Option, Some, None, refl, sym, ap, ◌∙◌, subst}
+use Rattle.std.proofs.Common.{◌≡◌, ℕ, ℤ, zero, suc, ◌+◌, ◌-◌, List, [], ◌∷◌, ◌++◌, length, map, replicate, Option, Some, None, refl, sym, ap, ◌∙◌, subst}
 use Rattle.std.specs.Prelude.{slice_get, slice_set, slice_index_or}
-use Rattle.pg_num.specs.Pointers.{moved_by, pointer_of}
+use Rattle.pg_num.specs.Pointers.{moved_by}
 use Rattle.pg_num.proofs.Moves.{length-moved_by, start-moved_by}
 use Rattle.pg_ir.specs.declared.instr.Instr.{Instr}
 use Rattle.pg_ir.specs.declared.instr.Op.{Op}
@@ -11,11 +11,10 @@ use Rattle.pg_ir.specs.declared.value.Value.TheVariants as value
 use Rattle.pg_ir.specs.Program.{NumberedProgram, types_of}
 use Rattle.pg_ir.specs.Edges.{incoming_from, incoming_of, phis_of}
 use Rattle.pg_step.specs.Compute.{index_bytes, moved_along}
-use Rattle.pg_step.specs.EdgeStep.{over_edge, phi_value, phi_values, set_each, set_register}
+use Rattle.pg_step.specs.EdgeStep.{over_edge, phi_values, set_each, set_register}
 use Rattle.pg_step.specs.LocalState.{Frame}
 use Rattle.pg_step.specs.Operands.{flat, operand, optional_operand}
-use Rattle.pg_closed.specs.declared.decision.Decision.{Decision}
-use Rattle.pg_closed.specs.Shadows.{OnInput, Shadow, Known, Framed, Unknown, applied, frame_word, from_all, moved, result_of, shadow_of, unset, with_frame}
+use Rattle.pg_closed.specs.Shadows.{Shadow, Known, Framed, Unknown, applied, from_all, moved, result_of, shadow_of, unset}
 use Rattle.pg_closed.specs.Known.{along_edge, entered, optional_shadow, phi_shadow, set_phis, set_shadow}
 use Rattle.pg_units.specs.Likes.{AreCallsLike, AreLike, HaveOneFrame, IsInFrame, IsLike}
 

@@ -1,60 +1,50 @@
 -- Loads and stores fit.
 use Rattle.std.proofs.Common.{◌≡◌, ℕ, ℤ, ◌+◌, ◌-◌, ◌≤◌, ◌%◌, Bool, true, false, List, [], ◌∷◌, length, Option, Some, None, Result, Ok, refl, sym, ap, ◌∙◌, subst, arith}
 use Rattle.std.specs.Prelude.{◌&&◌, ◌||◌, not, nat_lt, nat_le, is_some, slice_get, slice_index, if◌then◌else◌}
-use Rattle.std.proofs.lemmas.Bool.{and_from, and_parts, eq-eqb, leb-true, le-leb, lt-ltb, ltb-true, or_left, true≢false}
+use Rattle.std.proofs.lemmas.Bool.{and_parts, leb-true, lt-ltb, ltb-true, or_left, true≢false}
 use Rattle.pg_num.specs.Numbers.{modulus}
 use Rattle.pg_num.specs.Places.{ByteRange}
-use Rattle.pg_num.specs.Pointers.{byte_place, is_in_range as in_range, place_of, pointer_of}
+use Rattle.pg_num.specs.Pointers.{byte_place, place_of, pointer_of}
 use Rattle.pg_num.specs.declared.layout.TheConstants.{MEMORY_BYTES}
 use Rattle.pg_num.specs.declared.width.Width.{Width}
-use Rattle.pg_ir.specs.declared.instr.Instr.{Instr}
 use Rattle.pg_ir.specs.declared.instr.Op.{Op}
 use Rattle.pg_ir.specs.declared.instr.Op.TheVariants as op
 use Rattle.pg_ir.specs.declared.value.Value.{Value}
-use Rattle.pg_ir.specs.Program.{NumberedProgram, function_of, result_of, types_of}
-use Rattle.pg_ir.specs.WellFormed.{FitsOp, IsProgram, type_at}
-use Rattle.pg_mem.specs.Bytes.{byte_of, number_of}
+use Rattle.pg_ir.specs.WellFormed.{IsProgram}
+use Rattle.pg_mem.specs.Bytes.{number_of}
 use Rattle.pg_mem.specs.Memory.{Words, byte_at, read}
-use Rattle.pg_plans.specs.Effects.{or_old}
 use Rattle.pg_plans.specs.Plans.{Fits}
 use Rattle.pg_step.specs.declared.action.Action.{Action}
 use Rattle.pg_step.specs.declared.action.Action.TheVariants as actions
-use Rattle.pg_step.specs.LocalState.{Frame, LocalState, region_of}
-use Rattle.pg_step.specs.Operands.{first_four, given, number_at, operand, operands_of}
-use Rattle.pg_step.specs.States.{CanStep}
-use Rattle.pg_step.specs.Step.{bytes_of, heap_after, on_place, on_value, op_after, stepped}
-use Rattle.pg_trace.specs.declared.step.Access.{Access}
+use Rattle.pg_step.specs.LocalState.{region_of}
+use Rattle.pg_step.specs.Operands.{first_four, given, operand, operands_of}
+use Rattle.pg_step.specs.Step.{bytes_of, heap_after, on_place, op_after}
 use Rattle.pg_trace.specs.declared.step.Step.{Step}
-use Rattle.pg_trace.specs.declared.step.StepKind.{StepKind}
 use Rattle.pg_trace.specs.declared.step.StepKind.TheVariants as kinds
 use Rattle.pg_trace.specs.Races.{is_in}
-use Rattle.pg_trace.specs.Steps.{event_of, range_of}
+use Rattle.pg_trace.specs.Steps.{range_of}
 use Rattle.pg_machine.specs.MachineStep.{access_told, is_gated, kind_told, number_in, operands_in}
 use Rattle.pg_machine.specs.State.{State, instr_of, next_of}
-use Rattle.pg_effects.specs.Effect.{Effect, RequestEffect, Write, answer_to, effect_by, effect_of, range_read, request_effect, word_read_by, write_of}
-use Rattle.pg_effects.specs.Meets.{byte_in, is_in_range}
+use Rattle.pg_effects.specs.Effect.{RequestEffect, answer_to, effect_of, range_read, request_effect, word_read_by, write_of}
+use Rattle.pg_effects.specs.Meets.{is_in_range}
 use Rattle.pg_effects.specs.Views.{Objects, cell_at, cell_written, is_thread, objects_of, objects_with, word_in}
 use Rattle.pg_effects.specs.Views as views
 use Rattle.pg_effects.proofs.Seen.{leads_to}
-use Rattle.pg_closed.specs.declared.decision.Decision.TheVariants.{Exact}
-use Rattle.pg_closed.specs.Freeable.{frame_of}
-use Rattle.pg_closed.specs.Known.{RunShadow, Taken, after_access, bytes_stored, live_by, load_of, region_of as region_at, registers_of, set_shadow, thread_of, with_extents}
-use Rattle.pg_closed.specs.Moments.{instr_in, thread_in}
+use Rattle.pg_closed.specs.Known.{RunShadow, Taken, after_access, load_of, thread_of}
+use Rattle.pg_closed.specs.Moments.{thread_in}
 use Rattle.pg_closed.specs.Rules.{kind_in}
-use Rattle.pg_closed.specs.Shadows.{Shadow, byte_in as byte_shadow, cut, loaded, shadow_of, spoiled, stored}
-use Rattle.pg_units.specs.Likes.{AreCallsLike, IsCallLike, IsCellLike, IsLike, like}
+use Rattle.pg_closed.specs.Shadows.{cut, loaded}
+use Rattle.pg_units.specs.Likes.{AreCallsLike, IsCellLike, IsLike, like}
 use Rattle.pg_units.specs.Moves.{deed_moved}
-use Rattle.pg_units.specs.Units.{PlanUnit, ReferenceRun, behind, cell_known, deed_of, is_event_at, range_touched, reads_cell, reference_of, writes_cell}
+use Rattle.pg_units.specs.Units.{PlanUnit, ReferenceRun, cell_known, deed_of, is_event_at, range_touched, reads_cell, reference_of, writes_cell}
 use Rattle.pg_units.proofs.Accesses.{Access', cut_like, event_alike, fixed, loaded_like, place_done, reads_here, same_range, told_access, told_alike, within, writes_here}
-use Rattle.pg_units.proofs.Along.{IsUnit, behind_is}
-use Rattle.pg_units.proofs.Branches.{act0_at, act_at, can0_at, can_at, top_known}
-use Rattle.pg_units.proofs.Calls.{no_result}
+use Rattle.pg_units.proofs.Along.{behind_is}
+use Rattle.pg_units.proofs.Branches.{act0_at, act_at, can0_at, can_at}
 use Rattle.pg_units.proofs.Computing.{frame_stepped}
 use Rattle.pg_units.proofs.Good.{IsGood}
 use Rattle.pg_units.proofs.Here.{operands_here, running}
-use Rattle.pg_units.proofs.Inner.{Pair, answer, answer0, instr_is, live_is, none_if, reads_none, same_place, stands, told, told0, writes_none}
-use Rattle.pg_units.proofs.Known.{access_calls, after_live}
-use Rattle.pg_units.proofs.Likes.{operand_like}
+use Rattle.pg_units.proofs.Inner.{Pair, answer, answer0, instr_is, live_is, none_if, same_place, stands, told, told0, writes_none}
+use Rattle.pg_units.proofs.Known.{access_calls}
 use Rattle.pg_units.proofs.Placed.{place_range}
 use Rattle.pg_units.proofs.Results.{on_some, value_done}
 

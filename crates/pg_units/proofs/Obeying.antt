@@ -1,42 +1,36 @@
 -- A run on an admitted input follows the plan of a reference run without instances.
 use Rattle.std.proofs.Common.{◌≡◌, ℕ, ℤ, ◌⊎◌, ◌<◌, ◌≤◌, ◌^◌, ◌+◌, Bool, true, false, List, [], ◌∷◌, ◌++◌, length, map, drop, Option, Some, None, refl, sym, ap, ◌∙◌, subst, arith, inl, inr, suc}
-use Rattle.std.specs.Prelude.{◌==◌, is_some, slice_get, if◌then◌else◌}
+use Rattle.std.specs.Prelude.{◌==◌, is_some, slice_get}
 use Rattle.std.proofs.lemmas.Bool.{eqb-true}
 use Rattle.std.proofs.lemmas.Option.{slice_get_within}
-use Rattle.pg_plans.specs.Effects.{IsSame, deeds, effects}
-use Rattle.pg_plans.specs.Intervals.{IsOrdered, owners, turns_done, times}
-use Rattle.pg_plans.specs.Plans.{Alike, Fits, IsPlan, Moves, Obeys}
+use Rattle.pg_plans.specs.Effects.{deeds, effects}
+use Rattle.pg_plans.specs.Intervals.{turns_done, times}
+use Rattle.pg_plans.specs.Plans.{Alike, Fits, Moves, Obeys}
 use Rattle.pg_plans.proofs.Follows.{Stands, follows_plan}
-use Rattle.pg_plans.proofs.Owners.{owners_done}
 use Rattle.pg_plans.proofs.Lists.{cons_head, cons_tail}
 use Rattle.pg_trace.specs.declared.turn.Turn.{Turn}
-use Rattle.pg_trace.specs.declared.step.Step.{Step}
-use Rattle.pg_trace.specs.declared.step.Happening.{Happening}
-use Rattle.pg_trace.specs.Races.{recorded}
-use Rattle.pg_trace.specs.Steps.{event_of, happening_in, turn_at}
-use Rattle.pg_machine.specs.State.{State}
+use Rattle.pg_trace.specs.Steps.{event_of, happening_in}
 use Rattle.pg_machine.specs.Permitted.{has_turn}
-use Rattle.pg_effects.specs.Views.{local_at, objects_of}
+use Rattle.pg_effects.specs.Views.{local_at}
 use Rattle.pg_runs.specs.Deeds.{local_event, owners_of}
 use Rattle.pg_runs.proofs.Deeds.{due_owner, event_seen, get_behind, some_turn}
 use Rattle.pg_closed.specs.Closed.{IsClosed, admits}
-use Rattle.pg_closed.specs.Known.{Seen, Taken, thread_of}
+use Rattle.pg_closed.specs.Known.{Taken, thread_of}
 use Rattle.pg_closed.specs.Moments.{thread_in}
-use Rattle.pg_units.specs.Fits.{IsAlikeFor, IsRemembered, IsWithoutInstances, PlanRemembers, StartsAreFresh, thread_before}
+use Rattle.pg_units.specs.Fits.{IsRemembered, IsWithoutInstances, PlanRemembers, StartsAreFresh, thread_before}
 use Rattle.pg_units.specs.Likes.{IsCellLike, IsThreadLike, MovedThread, PlanThread, StandLike, like}
 use Rattle.pg_units.specs.Lists.{Has}
-use Rattle.pg_units.specs.Moves.{IsMove, RunDeed, RunState, deed_moved, moved}
+use Rattle.pg_units.specs.Moves.{IsMove, RunDeed, RunState, moved}
 use Rattle.pg_units.specs.Order.{IsOrderedRun}
-use Rattle.pg_units.specs.Units.{ExtentsArePlain, PlanDeed, PlanUnit, ReferenceRun, cell_known, deed_of, is_event_at, is_instance, plan_of, plan_start, reads_cell, reference_of, standing_of, turns_of, units_of}
+use Rattle.pg_units.specs.Units.{ExtentsArePlain, PlanDeed, PlanUnit, ReferenceRun, deed_of, is_event_at, is_instance, plan_of, plan_start, reads_cell, reference_of, standing_of, turns_of, units_of}
 use Rattle.pg_units.proofs.Along.{IsUnit}
 use Rattle.pg_units.proofs.Counted as counted
 use Rattle.pg_units.proofs.EventKinds.{events_alike}
-use Rattle.pg_units.proofs.Here.{can_step}
 use Rattle.pg_units.proofs.Inner.{Pair, can, can0}
-use Rattle.pg_units.proofs.Members.{all_has, has_left, has_right}
+use Rattle.pg_units.proofs.Members.{all_has, has_right}
 use Rattle.pg_units.proofs.Opened.{Beginning, Both, opened}
 use Rattle.pg_units.proofs.Settled.{is_plan}
-use Rattle.pg_units.proofs.StepFits.{good_at, objects_alike, own, stands_alike, unit_at, unit_fits, units_alike, words_at}
+use Rattle.pg_units.proofs.StepFits.{unit_at, unit_fits}
 use Rattle.pg_units.proofs.Turns.{is_some_if}
 
 -- a list of images, cut at a place

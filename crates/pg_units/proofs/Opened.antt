@@ -1,11 +1,9 @@
 -- Two threads that stand alike stand at one instruction, or both are to begin.
-use Rattle.std.proofs.Common.{◌≡◌, ℕ, ℤ, ◌⊎◌, ◌+◌, Bool, true, false, List, [], ◌∷◌, length, Option, Some, None, refl, sym, ap, ◌∙◌, subst, inl, inr, IfSome}
+use Rattle.std.proofs.Common.{◌≡◌, ℕ, ℤ, ◌⊎◌, Bool, true, false, List, [], ◌∷◌, Option, Some, None, refl, ap, ◌∙◌, subst, inl, inr, IfSome}
 use Rattle.std.specs.Prelude.{slice_get, if◌then◌else◌}
 use Rattle.pg_ir.specs.declared.ids.InstrId.{InstrId}
 use Rattle.pg_ir.specs.declared.instr.Instr.{Instr}
-use Rattle.pg_ir.specs.declared.request.Request.TheVariants as requests
 use Rattle.pg_ir.specs.Program.{NumberedProgram}
-use Rattle.pg_step.specs.declared.action.Action.{Action}
 use Rattle.pg_step.specs.declared.action.Action.TheVariants as actions
 use Rattle.pg_step.specs.LocalState.{Frame, LocalState, fresh}
 use Rattle.pg_step.specs.States.{CanStep}
@@ -18,7 +16,7 @@ use Rattle.pg_effects.specs.Reached.{IsReached, IsThread}
 use Rattle.pg_effects.specs.Views.{begun_in, local_at}
 use Rattle.pg_effects.proofs.Reaches.{present}
 use Rattle.pg_closed.specs.Shadows.{Shadow}
-use Rattle.pg_units.specs.Likes.{AreCallsLike, IsCallLike, IsStandingLike, StandLike, Standing}
+use Rattle.pg_units.specs.Likes.{AreCallsLike, IsCallLike, IsStandingLike, StandLike}
 use Rattle.pg_units.specs.Units.{standing_of}
 use Rattle.pg_units.proofs.Here.{Here, can_step, running}
 

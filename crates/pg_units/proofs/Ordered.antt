@@ -1,17 +1,13 @@
 -- Units that meet at a cell are ordered: by the rules on regions that are disturbed and on accesses that are shared.
-use Rattle.std.proofs.Common.{◌≡◌, ◌≢◌, ℕ, ◌==◌, ◌<◌, ◌≤◌, ◌⊎◌, Bool, true, false, List, [], ◌∷◌, ◌++◌, map, Option, Some, None, refl, sym, ap, ◌∙◌, subst, arith, suc, inl, inr}
-use Rattle.std.specs.Prelude.{◌+◌, ◌-◌, ◌&&◌, ◌||◌, not, nat_lt, nat_le, max, is_some, ⊤, if◌then◌else◌}
-use Rattle.std.specs.List.{AllByRecursion as AllOf, list_any}
-use Rattle.std.proofs.lemmas.Bool.{and_from, and_parts, cases_Bool, eq-eqb, eqb-true, false_from_ne_true, le-leb, leb-true, lt-ltb, ltb-true, ne_eqb, not-true, not_from_false, or_cases, or_left, or_right, true≢false}
+use Rattle.std.proofs.Common.{◌≡◌, ◌≢◌, ℕ, ◌==◌, ◌≤◌, ◌⊎◌, Bool, true, false, List, [], ◌++◌, Option, Some, None, refl, sym, ap, ◌∙◌, subst, arith, suc, inl, inr}
+use Rattle.std.specs.Prelude.{◌+◌, ◌-◌, ◌&&◌, ◌||◌, not, nat_lt, nat_le, max, is_some, if◌then◌else◌}
+use Rattle.std.specs.List.{list_any}
+use Rattle.std.proofs.lemmas.Bool.{and_from, and_parts, cases_Bool, leb-true, lt-ltb, ltb-true, ne_eqb, not-true, not_from_false, or_cases, true≢false}
 use Rattle.pg_num.specs.Places.{ByteRange}
 use Rattle.pg_num.specs.declared.layout.TheConstants.{MEMORY_BYTES}
-use Rattle.pg_plans.specs.Effects.{deeds}
 use Rattle.pg_plans.specs.Intervals.{AreOrdered, Timed}
 use Rattle.pg_plans.specs.Steps.{Conflict}
-use Rattle.pg_trace.specs.declared.turn.TurnKind.{TurnKind}
-use Rattle.pg_trace.specs.declared.turn.TurnKind.TheVariants as turns
 use Rattle.pg_trace.specs.declared.step.Access.{Access}
-use Rattle.pg_trace.specs.declared.step.Event.{Event}
 use Rattle.pg_trace.specs.declared.step.Step.{Step}
 use Rattle.pg_trace.specs.declared.step.StepKind.{StepKind}
 use Rattle.pg_trace.specs.declared.step.StepKind.TheVariants as kinds
@@ -19,11 +15,11 @@ use Rattle.pg_trace.specs.declared.step.Write.{Write}
 use Rattle.pg_trace.specs.Races.{is_in, overlap, recorded, share}
 use Rattle.pg_trace.specs.Steps.{access_by, access_in, access_of, happening_in, range_of}
 use Rattle.pg_effects.specs.Views.{is_thread}
-use Rattle.pg_closed.specs.Freeable.{FreeRegion, frame_of}
+use Rattle.pg_closed.specs.Freeable.{frame_of}
 use Rattle.pg_closed.specs.Known.{Seen, Taken}
 use Rattle.pg_closed.specs.Moments.{thread_in}
 use Rattle.pg_closed.specs.Rules.{Footprint, access_print, any_conflict, footprints_conflict, frames_meet, has_region, is_disturbed, is_plain, is_shared, kind_in, print_of, prints_in, region_prints}
-use Rattle.pg_units.specs.Units.{PlanUnit, access_touch, deed_of, event_word_read, event_word_written, instance_touch, is_event_at, is_instance, is_read_in, is_written_in, range_touched, reads_byte, reads_cell, touch_of, word_read, word_written, writes_byte, writes_cell}
+use Rattle.pg_units.specs.Units.{access_touch, instance_touch, is_event_at, is_instance, is_read_in, is_written_in, range_touched, reads_byte, reads_cell, touch_of, word_read, word_written, writes_byte, writes_cell}
 use Rattle.pg_units.specs.Lists.{Has}
 use Rattle.pg_units.proofs.Members.{any_found, has_any, has_cases, has_left, has_right}
 use Rattle.pg_units.proofs.Placed.{IsPlaced, in_frame}

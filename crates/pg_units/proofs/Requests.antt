@@ -1,8 +1,7 @@
 -- Requests that differ in a number that isn't checked do the same to the objects.
-use Rattle.std.proofs.Common.{◌≡◌, ℕ, Bool, true, false, List, [], ◌∷◌, ◌++◌, length, Option, Some, None, refl, sym, ap, ◌∙◌, subst}
-use Rattle.std.specs.Prelude.{◌==◌, slice_get, slice_index, slice_set, if◌then◌else◌}
+use Rattle.std.proofs.Common.{◌≡◌, ℕ, Bool, true, false, List, [], ◌∷◌, ◌++◌, length, Option, Some, None, refl, sym, ap, ◌∙◌}
+use Rattle.std.specs.Prelude.{slice_set}
 use Rattle.std.specs.List.{AllByRecursion as AllOf}
-use Rattle.pg_num.specs.Places.{ByteRange}
 use Rattle.pg_ir.specs.declared.known.Known.{Known}
 use Rattle.pg_ir.specs.declared.known.Known.TheVariants as known
 use Rattle.pg_ir.specs.declared.request.Request.{Request}
@@ -12,14 +11,13 @@ use Rattle.pg_ir.specs.Program.{NumberedProgram}
 use Rattle.pg_sync.specs.Sync as sync
 use Rattle.pg_step.specs.declared.action.Action.{Action}
 use Rattle.pg_step.specs.declared.action.Action.TheVariants as actions
-use Rattle.pg_step.specs.LocalState.{LocalState, fresh}
+use Rattle.pg_step.specs.LocalState.{fresh}
 use Rattle.pg_step.specs.Operands.{argument}
 use Rattle.pg_step.specs.States.{CanStep}
 use Rattle.pg_step.specs.Step.{known_action, on_null, on_object, on_place, on_value, top_function}
-use Rattle.pg_trace.specs.declared.turn.TurnKind.{TurnKind}
 use Rattle.pg_trace.specs.Kinds.{kind_of, object_of}
 use Rattle.pg_machine.specs.State.{State}
-use Rattle.pg_effects.specs.Effect.{MadeThread, RequestEffect, request_effect, thread_made}
+use Rattle.pg_effects.specs.Effect.{request_effect, thread_made}
 use Rattle.pg_effects.specs.Views.{Objects, objects_with, start_made, start_of}
 use Rattle.pg_closed.specs.Rules.{checked}
 use Rattle.pg_units.proofs.Results.{value_done}

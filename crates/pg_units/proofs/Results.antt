@@ -1,6 +1,6 @@
 -- The number that a computing instruction gives is the operation's on the numbers of its operands, whose width they have.
-use Rattle.std.proofs.Common.{◌≡◌, ℕ, zero, suc, ◌+◌, ◌%◌, ◌<◌, Bool, true, false, List, [], ◌∷◌, length, map, Option, Some, None, Result, Ok, Err, refl, sym, ap, ◌∙◌, subst, arith, inl, inr}
-use Rattle.std.specs.Prelude.{◌==◌, ◌&&◌, slice_get, slice_index_or, if◌then◌else◌}
+use Rattle.std.proofs.Common.{◌≡◌, ℕ, zero, suc, ◌%◌, ◌<◌, Bool, true, false, List, [], ◌∷◌, map, Option, Some, None, Result, Ok, Err, refl, sym, ap, ◌∙◌, subst, arith, inl, inr}
+use Rattle.std.specs.Prelude.{◌==◌, ◌&&◌, slice_get, if◌then◌else◌}
 use Rattle.std.specs.List.{AllByRecursion, list_all}
 use Rattle.std.proofs.lemmas.Bool.{true≢false}
 use mathlib.Core.Path.{fun_ext}
@@ -24,7 +24,7 @@ use Rattle.pg_step.specs.declared.action.Action.TheVariants as actions
 use Rattle.pg_step.specs.declared.region.Region.{Region}
 use Rattle.pg_step.specs.Compute.{chosen, computed, computes, quotient_or_zero}
 use Rattle.pg_step.specs.EdgeStep.{is_set}
-use Rattle.pg_step.specs.Operands.{given, number_at, operand, operands_of, optional_operand}
+use Rattle.pg_step.specs.Operands.{given, number_at, operand, operands_of}
 use Rattle.pg_step.specs.States.{AreValuesOf, CanStep}
 use Rattle.pg_step.specs.Step.{are_set, divided_action, on_value, op_action}
 use Rattle.pg_step.proofs.Typed.{some_values, typed_number}

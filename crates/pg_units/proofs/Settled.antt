@@ -1,6 +1,6 @@
 -- The units of an ordered run under closed decisions are a plan.
-use Rattle.std.proofs.Common.{◌≡◌, ℕ, ◌<◌, ◌≤◌, ◌⊎◌, Bool, true, false, List, [], ◌∷◌, ◌++◌, map, Option, Some, None, refl, sym, ap, ◌∙◌, subst, arith, suc, inl, inr}
-use Rattle.std.specs.Prelude.{◌&&◌, ◌||◌, not, is_some, if◌then◌else◌}
+use Rattle.std.proofs.Common.{◌≡◌, ℕ, ◌≤◌, Bool, true, false, List, [], ◌∷◌, ◌++◌, map, refl, sym, ap, subst, arith, suc, inl, inr}
+use Rattle.std.specs.Prelude.{◌&&◌, ◌||◌, not, if◌then◌else◌}
 use Rattle.std.specs.List.{AllByRecursion as AllOf}
 use Rattle.pg_plans.specs.Effects.{deeds}
 use Rattle.pg_plans.specs.Intervals.{AreOrdered, Timed, did_of, times}
@@ -14,7 +14,6 @@ use Rattle.pg_trace.specs.Races.{recorded}
 use Rattle.pg_trace.specs.Steps.{access_in, access_of}
 use Rattle.pg_machine.specs.State.{State, initial}
 use Rattle.pg_effects.specs.PermittedSteps.{none_taken, one_more}
-use Rattle.pg_closed.specs.declared.decision.Decision.{Decision}
 use Rattle.pg_closed.specs.Closed.{IsClosed}
 use Rattle.pg_closed.specs.Known.{Reference, RunShadow, Seen, Taken, after_step, seen_from, seen_in, start_of}
 use Rattle.pg_closed.specs.Moments.{Moment, moments_from, thread_in}

@@ -1,5 +1,5 @@
 -- What requests of known functions do to the calls of a thread and to cells, function by function.
-use Rattle.std.proofs.Common.{◌≡◌, ℕ, Bool, true, false, List, [], ◌∷◌, Option, Some, None, refl, sym, ap, ◌∙◌, subst}
+use Rattle.std.proofs.Common.{◌≡◌, ℕ, Bool, true, false, List, Option, Some, None, refl, ap}
 use Rattle.std.specs.Prelude.{if◌then◌else◌}
 use Rattle.pg_ir.specs.declared.instr.Instr.{Instr}
 use Rattle.pg_ir.specs.declared.known.Known.{Known}
@@ -23,7 +23,7 @@ use Rattle.pg_trace.specs.declared.step.Event.{Event}
 use Rattle.pg_trace.specs.Kinds.{kind_of}
 use Rattle.pg_machine.specs.MachineStep.{answer_of, write_told}
 use Rattle.pg_machine.specs.State.{State}
-use Rattle.pg_machine.proofs.Actions.{barrier_init_is, init_is, join_is, number_is, object_is, wait_is}
+use Rattle.pg_machine.proofs.Actions.{barrier_init_is, init_is, object_is, wait_is}
 use Rattle.pg_effects.specs.Effect.{request_write, thread_made, word_asked, word_left}
 use Rattle.pg_closed.specs.Known.{after_event, set_shadow, with_top}
 use Rattle.pg_closed.specs.Moments.{Moment}

@@ -2,27 +2,23 @@
 use Rattle.std.proofs.Common.{◌≡◌, ℕ, ℤ, ◌<◌, ◌+◌, ◌-◌, zero, suc, Bool, true, false, List, [], ◌∷◌, ◌++◌, length, map, replicate, Option, Some, None, refl, sym, ap, ◌∙◌, subst, arith, IfSome}
 use Rattle.std.specs.Prelude.{◌==◌, nat_lt, is_some, slice_get, slice_index, slice_index_or, if◌then◌else◌}
 use Rattle.std.specs.List.{AllByRecursion as AllOf, list_any}
-use Rattle.std.proofs.lemmas.Bool.{eq-eqb, eqb-true, false_from_ne_true, ltb-true, or_left, true≢false}
+use Rattle.std.proofs.lemmas.Bool.{eq-eqb, false_from_ne_true, ltb-true, or_left, true≢false}
 use Rattle.pg_num.specs.declared.layout.TheConstants.{MEMORY_BYTES}
 use Rattle.pg_ir.specs.declared.instr.Instr.{Instr}
 use Rattle.pg_ir.specs.declared.request.Request.TheVariants as requests
 use Rattle.pg_ir.specs.Program.{NumberedProgram, entry_of, parameter_count, types_of}
-use Rattle.pg_plans.specs.Effects.{or_old}
 use Rattle.pg_plans.specs.Plans.{Fits}
-use Rattle.pg_sync.specs.Sync as sync
-use Rattle.pg_step.specs.declared.action.Action.{Action}
 use Rattle.pg_step.specs.declared.action.Action.TheVariants as actions
-use Rattle.pg_step.specs.LocalState.{Frame, LocalState, fresh}
-use Rattle.pg_step.specs.States.{AreFramesOf, IsOf, StandsAt}
-use Rattle.pg_step.specs.Step.{after, begun_frame, begun_registers}
+use Rattle.pg_step.specs.LocalState.{LocalState, fresh}
+use Rattle.pg_step.specs.States.{IsOf, StandsAt}
+use Rattle.pg_step.specs.Step.{after}
 use Rattle.pg_step.specs.Told.{id_of}
 use Rattle.pg_trace.specs.declared.turn.TurnKind.TheVariants as turns
 use Rattle.pg_trace.specs.declared.step.Event.{Event}
 use Rattle.pg_trace.specs.declared.step.Step.{Step}
 use Rattle.pg_trace.specs.declared.step.StepKind.{StepKind}
-use Rattle.pg_trace.specs.declared.step.StepKind.TheVariants as kinds
 use Rattle.pg_trace.specs.Races.{reply_in}
-use Rattle.pg_trace.specs.Steps.{access_in, event_of, happening_in, turn_at}
+use Rattle.pg_trace.specs.Steps.{access_in, happening_in, turn_at}
 use Rattle.pg_machine.specs.MachineStep.{event_told, kind_told, number_in, operands_in, step_told}
 use Rattle.pg_machine.specs.Runs.{Takes}
 use Rattle.pg_machine.specs.State.{State, id_in, instr_of, next_of}
@@ -40,7 +36,7 @@ use Rattle.pg_closed.specs.Known.{RunShadow, Taken, fresh_registers, function_in
 use Rattle.pg_closed.specs.Moments.{calls_of, instr_in, thread_in}
 use Rattle.pg_closed.specs.Rules.{kind_in}
 use Rattle.pg_closed.specs.Shadows.{Shadow, always, unset}
-use Rattle.pg_units.specs.Likes.{AreCallsLike, AreLike, IsCallLike, IsCellLike, IsLike, IsToldLike, StandLike, like}
+use Rattle.pg_units.specs.Likes.{AreLike, IsCellLike, IsLike, IsToldLike, StandLike, like}
 use Rattle.pg_units.specs.Moves.{deed_moved}
 use Rattle.pg_units.specs.Units.{PlanUnit, ReferenceRun, access_touch, cell_known, deed_of, instance_touch, is_event_at, is_instance, is_written_in, reads_cell, reference_of, standing_of, word_read, word_written, writes_cell}
 use Rattle.pg_units.proofs.Along.{IsUnit, behind_is}

@@ -1,20 +1,18 @@
 -- A step of a run on an admitted input fits the unit that its thread is to do.
-use Rattle.std.proofs.Common.{◌≡◌, ℕ, ℤ, ◌⊎◌, ◌<◌, ◌^◌, Bool, true, false, List, length, Option, Some, None, refl, sym, ap, ◌∙◌, subst, inl, inr}
+use Rattle.std.proofs.Common.{◌≡◌, ℕ, ℤ, ◌⊎◌, ◌<◌, ◌^◌, true, false, List, length, Option, Some, sym, ap, ◌∙◌, subst, inl, inr}
 use Rattle.std.specs.Prelude.{is_some, slice_get, ◌∷◌, []}
-use Rattle.pg_plans.specs.Effects.{IsSame, deeds, or_old}
+use Rattle.pg_plans.specs.Effects.{IsSame, or_old}
 use Rattle.pg_plans.specs.Plans.{Fits}
-use Rattle.pg_plans.specs.Steps.{touches}
 use Rattle.pg_trace.specs.declared.turn.Turn.{Turn}
 use Rattle.pg_trace.specs.declared.step.Step.{Step}
-use Rattle.pg_machine.specs.State.{State}
 use Rattle.pg_effects.specs.Views.{cell_at, local_at, objects_of}
 use Rattle.pg_closed.specs.Closed.{IsClosed, admits}
-use Rattle.pg_closed.specs.Known.{Seen, Taken, fresh_registers, thread_of}
+use Rattle.pg_closed.specs.Known.{Taken, fresh_registers, thread_of}
 use Rattle.pg_closed.specs.Moments.{thread_in}
-use Rattle.pg_units.specs.Fits.{IsAlikeFor, StartsAreFresh, thread_before}
+use Rattle.pg_units.specs.Fits.{IsAlikeFor, StartsAreFresh}
 use Rattle.pg_units.specs.Likes.{IsCellLike, IsThreadLike, MovedThread, PlanThread, StandLike, like}
 use Rattle.pg_units.specs.Lists.{Has}
-use Rattle.pg_units.specs.Moves.{IsMove, RunDeed, RunState, deed_moved, moved}
+use Rattle.pg_units.specs.Moves.{IsMove, RunDeed, RunState, deed_moved}
 use Rattle.pg_units.specs.Order.{IsOrderedRun}
 use Rattle.pg_units.specs.Units.{ExtentsArePlain, PlanDeed, PlanUnit, ReferenceRun, cell_known, deed_of, is_event_at, is_instance, reads_cell, reference_of, standing_of, units_of}
 use Rattle.pg_units.proofs.Along.{IsUnit, all_units}

@@ -1,25 +1,22 @@
 -- Stores fit.
-use Rattle.std.proofs.Common.{◌≡◌, ℕ, ℤ, ◌+◌, ◌-◌, Bool, true, false, List, [], ◌∷◌, length, Option, Some, None, Result, Ok, refl, sym, ap, ◌∙◌, subst}
-use Rattle.std.specs.Prelude.{◌&&◌, ◌||◌, not, nat_lt, nat_le, is_some, slice_get, slice_index, if◌then◌else◌}
-use Rattle.std.proofs.lemmas.Bool.{or_right, true≢false}
+use Rattle.std.proofs.Common.{◌≡◌, ℕ, ℤ, ◌+◌, ◌-◌, Bool, true, false, List, ◌∷◌, Option, Some, None, refl, sym, ap, ◌∙◌, subst}
+use Rattle.std.specs.Prelude.{◌&&◌, ◌||◌, nat_lt, is_some, slice_get, slice_index, if◌then◌else◌}
+use Rattle.std.proofs.lemmas.Bool.{true≢false}
 use Rattle.pg_num.specs.Places.{ByteRange}
-use Rattle.pg_num.specs.Pointers.{place_of}
 use Rattle.pg_num.specs.declared.layout.TheConstants.{MEMORY_BYTES}
 use Rattle.pg_num.specs.declared.width.Width.{Width}
-use Rattle.pg_ir.specs.declared.instr.Instr.{Instr}
 use Rattle.pg_ir.specs.declared.instr.Op.{Op}
 use Rattle.pg_ir.specs.declared.instr.Op.TheVariants as op
 use Rattle.pg_ir.specs.declared.value.Value.{Value}
-use Rattle.pg_ir.specs.Program.{NumberedProgram, function_of, result_of, types_of}
+use Rattle.pg_ir.specs.Program.{function_of, result_of, types_of}
 use Rattle.pg_ir.specs.WellFormed.{FitsOp, IsProgram, type_at}
 use Rattle.pg_mem.specs.Bytes.{byte_of}
 use Rattle.pg_plans.specs.Effects.{or_old}
 use Rattle.pg_plans.specs.Plans.{Fits}
-use Rattle.pg_step.specs.declared.action.Action.{Action}
 use Rattle.pg_step.specs.declared.action.Action.TheVariants as actions
-use Rattle.pg_step.specs.LocalState.{Frame, LocalState, region_of}
+use Rattle.pg_step.specs.LocalState.{region_of}
 use Rattle.pg_step.specs.Operands.{first_four, given, operand, operands_of}
-use Rattle.pg_step.specs.Step.{bytes_of, heap_after, on_place, on_value, op_after, stepped}
+use Rattle.pg_step.specs.Step.{bytes_of, heap_after, on_place, on_value, op_after}
 use Rattle.pg_trace.specs.declared.step.Access.{Access}
 use Rattle.pg_trace.specs.declared.step.Step.{Step}
 use Rattle.pg_trace.specs.declared.step.StepKind.{StepKind}
@@ -33,19 +30,19 @@ use Rattle.pg_effects.specs.Meets.{byte_in}
 use Rattle.pg_effects.specs.Views.{cell_written, objects_of, word_in}
 use Rattle.pg_closed.specs.declared.decision.Decision.TheVariants.{Exact}
 use Rattle.pg_closed.specs.Freeable.{frame_of}
-use Rattle.pg_closed.specs.Known.{RunShadow, Taken, after_access, bytes_stored, live_by, region_of as region_at, registers_of, thread_of}
+use Rattle.pg_closed.specs.Known.{RunShadow, Taken, after_access, bytes_stored, live_by, region_of as region_at, registers_of}
 use Rattle.pg_closed.specs.Moments.{instr_in, thread_in}
 use Rattle.pg_closed.specs.Rules.{address_index, kind_in}
-use Rattle.pg_closed.specs.Shadows.{Shadow, Unknown, byte_in as byte_shadow, shadow_of, spoiled, stored}
-use Rattle.pg_units.specs.Likes.{AreCallsLike, IsCallLike, IsCellLike, IsLike, like}
+use Rattle.pg_closed.specs.Shadows.{Shadow, Unknown, byte_in as byte_shadow, shadow_of, stored}
+use Rattle.pg_units.specs.Likes.{AreCallsLike, IsCellLike, IsLike, like}
 use Rattle.pg_units.specs.Moves.{deed_moved}
-use Rattle.pg_units.specs.Units.{PlanUnit, ReferenceRun, cell_known, deed_of, is_event_at, range_touched, reads_cell, reference_of, writes_cell}
+use Rattle.pg_units.specs.Units.{PlanUnit, ReferenceRun, cell_known, deed_of, is_event_at, range_touched, reference_of, writes_cell}
 use Rattle.pg_units.proofs.Accesses.{Access', cut_like, fixed, place_done, same_range, told_access, told_alike, within, writes_here}
 use Rattle.pg_units.proofs.Branches.{act0_at, act_at, can0_at, can_at, top_known}
 use Rattle.pg_units.proofs.Calls.{no_result}
 use Rattle.pg_units.proofs.Good.{IsGood}
 use Rattle.pg_units.proofs.Here.{operands_here, running}
-use Rattle.pg_units.proofs.Inner.{Pair, answer, answer0, instr_is, live_is, none_if, reads_none, same_place, stands, told, told0}
+use Rattle.pg_units.proofs.Inner.{Pair, answer, answer0, instr_is, live_is, reads_none, same_place, stands, told, told0}
 use Rattle.pg_units.proofs.Known.{after_live}
 use Rattle.pg_units.proofs.Likes.{operand_like}
 use Rattle.pg_units.proofs.Loads.{effect_reads, effect_request, effect_word, effect_writes, known_calls, objects_kept}

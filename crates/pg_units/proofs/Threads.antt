@@ -1,17 +1,12 @@
 -- Creates and joins fit.
-use Rattle.std.proofs.Common.{◌≡◌, ℕ, ℤ, ◌<◌, ◌+◌, ◌-◌, ◌%◌, ◌^◌, zero, suc, Bool, true, false, List, [], ◌∷◌, ◌++◌, length, map, Option, Some, None, Result, Ok, Err, refl, sym, ap, ◌∙◌, subst, arith, inl, inr, ◌⊎◌}
-use Rattle.std.specs.Prelude.{◌&&◌, ◌||◌, ◌==◌, not, nat_lt, is_some, slice_get, slice_set, slice_index, slice_index_or, if◌then◌else◌}
-use Rattle.std.specs.List.{AllByRecursion as AllOf, list_any}
+use Rattle.std.proofs.Common.{◌≡◌, ℕ, ℤ, ◌<◌, ◌+◌, ◌-◌, Bool, true, false, List, [], ◌∷◌, ◌++◌, length, Option, Some, None, Result, Ok, refl, sym, ap, ◌∙◌, subst, arith}
+use Rattle.std.specs.Prelude.{◌||◌, ◌==◌, nat_lt, is_some, slice_get, slice_index, slice_index_or, if◌then◌else◌}
 use Rattle.std.proofs.lemmas.Option.{slice_get_within}
-use Rattle.std.proofs.lemmas.Bool.{false_from_ne_true, ltb-true, eq-eqb, eqb-true, or_left, true≢false}
-use Rattle.pg_num.specs.Numbers.{modulus}
+use Rattle.std.proofs.lemmas.Bool.{false_from_ne_true, ltb-true, eq-eqb, eqb-true, true≢false}
 use Rattle.pg_num.specs.Places.{ByteRange}
 use Rattle.pg_num.specs.declared.layout.TheConstants.{MEMORY_BYTES}
-use Rattle.pg_num.specs.declared.width.Width.TheVariants.{W32}
-use Rattle.pg_ir.specs.declared.instr.Instr.{Instr}
 use Rattle.pg_ir.specs.declared.instr.Op.{Op}
 use Rattle.pg_ir.specs.declared.instr.Op.TheVariants as op
-use Rattle.pg_ir.specs.declared.known.Known.{Known as KnownFunction}
 use Rattle.pg_ir.specs.declared.known.Known.TheVariants as known
 use Rattle.pg_ir.specs.declared.request.Request.{Request}
 use Rattle.pg_ir.specs.declared.request.Request.TheVariants as requests
@@ -24,49 +19,30 @@ use Rattle.pg_sync.specs.Sync as sync
 use Rattle.pg_sync.specs.declared.status.Status.{Status}
 use Rattle.pg_step.specs.declared.action.Action.{Action}
 use Rattle.pg_step.specs.declared.action.Action.TheVariants as actions
-use Rattle.pg_step.specs.EdgeStep.{set_register}
-use Rattle.pg_step.specs.LocalState.{Frame, LocalState, region_of}
-use Rattle.pg_step.specs.Operands.{argument, given, number_at, operand, operands_of}
+use Rattle.pg_step.specs.LocalState.{LocalState, region_of}
+use Rattle.pg_step.specs.Operands.{argument, given, operands_of}
 use Rattle.pg_step.specs.States.{CanStep}
-use Rattle.pg_step.specs.Step.{exit_value, heap_after, on_value, op_after, return_action, returning_action, stepped}
+use Rattle.pg_step.specs.Step.{heap_after, on_value, op_after}
 use Rattle.pg_step.specs.Told.{op_own, or_zero}
-use Rattle.pg_trace.specs.declared.turn.TurnKind.{TurnKind}
-use Rattle.pg_trace.specs.declared.turn.TurnKind.TheVariants as turns
-use Rattle.pg_trace.specs.declared.step.Access.{Access}
-use Rattle.pg_trace.specs.declared.step.Event.{Event}
 use Rattle.pg_trace.specs.declared.step.Step.{Step}
-use Rattle.pg_trace.specs.declared.step.StepKind.{StepKind}
-use Rattle.pg_trace.specs.declared.step.StepKind.TheVariants as kinds
-use Rattle.pg_trace.specs.declared.step.Write.{Write as ToldWrite}
 use Rattle.pg_trace.specs.Kinds.{kind_of}
-use Rattle.pg_trace.specs.Races.{reply_of}
-use Rattle.pg_trace.specs.Steps.{access_by, access_in}
-use Rattle.pg_machine.specs.MachineStep.{write_told}
 use Rattle.pg_machine.specs.State.{State, next_of}
-use Rattle.pg_machine.proofs.Asks.{ready_made}
-use Rattle.pg_effects.specs.Effect as effects
-use Rattle.pg_effects.specs.Effect.{Effect, MadeThread, RequestEffect, answer_to, effect_of, request_write, thread_made, word_asked, word_left}
-use Rattle.pg_effects.specs.Meets.{byte_in, is_in_range}
+use Rattle.pg_effects.specs.Effect.{Effect, answer_to, effect_of}
 use Rattle.pg_effects.specs.Views.{cell_at, cell_written, is_thread, objects_of, word_in, word_made}
 use Rattle.pg_effects.specs.Views as views
-use Rattle.pg_closed.specs.Known.{RunShadow, Taken, bytes_by, exit_shadow, live_by, low_byte, operand_at, region_of as region_at, registers_of, set_shadow, thread_of, words_after}
-use Rattle.pg_closed.specs.Moments.{instr_in, thread_in}
-use Rattle.pg_closed.specs.Rules.{kind_in}
+use Rattle.pg_closed.specs.Known.{Taken, operand_at, set_shadow}
+use Rattle.pg_closed.specs.Moments.{thread_in}
 use Rattle.pg_closed.specs.Shadows.{Shadow, always}
 use Rattle.pg_units.specs.Likes.{AreCallsLike, IsCellLike, IsLike, like}
 use Rattle.pg_units.specs.Moves.{deed_moved}
-use Rattle.pg_units.specs.Units.{PlanUnit, ReferenceRun, access_touch, cell_known, deed_of, event_word_read, event_word_written, instance_touch, is_event_at, is_read_in, is_written_in, reads_cell, reference_of, word_read, word_written, writes_cell}
+use Rattle.pg_units.specs.Units.{PlanUnit, ReferenceRun, cell_known, deed_of, is_event_at, reads_cell, reference_of, writes_cell}
 use Rattle.pg_units.proofs.Accesses.{cut_like}
-use Rattle.pg_units.proofs.Branches.{act0_at, act_at, can0_at, can_at, top_known}
-use Rattle.pg_units.proofs.Computing.{frame_stepped}
-use Rattle.pg_units.proofs.Events.{event0, event_known, event_objects, event_told_alike, is_event, kind0_is, reply, reply0, shaped_fits}
+use Rattle.pg_units.proofs.Branches.{act0_at, act_at, can0_at, can_at}
+use Rattle.pg_units.proofs.Events.{reply, reply0, shaped_fits}
 use Rattle.pg_units.proofs.Good.{IsGood}
 use Rattle.pg_units.proofs.Here.{running}
-use Rattle.pg_units.proofs.Inner.{Pair, answer, answer0, instr_is, live_is, none_if, stands}
-use Rattle.pg_units.proofs.Known.{after_live}
-use Rattle.pg_units.proofs.Likes.{argument_like, depth_like, operand_like}
-use Rattle.pg_units.proofs.Loads.{effect_reads, effect_request, effect_thread, effect_word, effect_writes}
-use Rattle.pg_units.proofs.Requests.{core}
+use Rattle.pg_units.proofs.Inner.{Pair, answer, answer0}
+use Rattle.pg_units.proofs.Likes.{argument_like}
 use Rattle.pg_units.proofs.Results.{on_some, value_done}
 use Rattle.pg_ir.specs.declared.request.TrapName.{TrapName}
 use Rattle.pg_ir.specs.declared.request.TrapName.TheVariants as traps
@@ -74,9 +50,8 @@ use Rattle.pg_mem.specs.Bytes.{byte_of}
 use Rattle.pg_num.specs.Pointers.{byte_place, place_of}
 use Rattle.pg_num.specs.declared.places.PlaceFault.{PlaceFault}
 use Rattle.pg_step.specs.Operands.{first_four}
-use Rattle.pg_step.specs.Step.{create_action, cut_to, join_action, join_at, known_action, on_null, on_place}
+use Rattle.pg_step.specs.Step.{create_action, cut_to, join_action, join_at, on_null, on_place}
 use Rattle.pg_ir.specs.Signatures.{returned_by}
-use Rattle.pg_step.specs.LocalState.{fresh}
 use Rattle.pg_machine.proofs.Named.{place_is}
 use Rattle.pg_effects.proofs.Few.{did_allowed}
 use Rattle.pg_effects.proofs.Reaches.{fresh_number}
@@ -87,7 +62,7 @@ use Rattle.pg_units.proofs.Allocations.{told_number}
 use Rattle.pg_units.proofs.Events.{checked_same, numbers0, same_sync}
 use Rattle.pg_units.proofs.Requests.{same_action}
 use Rattle.pg_units.proofs.Shapes.{shape_join}
-use Rattle.pg_units.proofs.EventCells.{cw_is, er_is, event_fits, known_bytes, known_is, known_words, rc_is, reads_nothing, wc_is, word_pushed, word_set, word_there}
+use Rattle.pg_units.proofs.EventCells.{cw_is, er_is, event_fits, known_bytes, known_is, known_words, rc_is, reads_nothing, wc_is, word_pushed, word_there}
 
 null_done : (a : ℕ) (act : Action) → CanStep (on_null a act) → on_null a act ≡ act
 null_done a act h = go (a == 0) h

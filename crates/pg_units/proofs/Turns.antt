@@ -1,18 +1,18 @@
 -- The events among the units are the turns of the run.
-use Rattle.std.proofs.Common.{◌≡◌, ℕ, ℤ, Bool, true, false, cond, List, [], ◌∷◌, map, Option, Some, None, refl, sym, ap, ◌∙◌, subst, suc}
+use Rattle.std.proofs.Common.{◌≡◌, ℕ, Bool, true, false, List, [], ◌∷◌, map, Option, Some, None, refl, sym, ap, ◌∙◌, subst, suc}
 use Rattle.std.specs.Prelude.{is_some, slice_get, ⊤, if◌then◌else◌}
 use Rattle.std.specs.List.{AllByRecursion as AllOf}
 use Rattle.pg_plans.specs.Effects.{deeds}
-use Rattle.pg_plans.specs.Intervals.{AreTurns, Timed, done_after, last_before, next_from, timed, times}
+use Rattle.pg_plans.specs.Intervals.{AreTurns, done_after, last_before, next_from, timed, times}
 use Rattle.pg_plans.proofs.Owners.{own_turns}
 use Rattle.pg_trace.specs.declared.step.Step.{Step}
 use Rattle.pg_trace.specs.Races.{recorded}
 use Rattle.pg_machine.specs.State.{State, initial}
 use Rattle.pg_effects.specs.PermittedSteps.{none_taken, one_more}
-use Rattle.pg_closed.specs.Known.{RunShadow, Seen, Taken, after_step, seen_from, start_of}
-use Rattle.pg_closed.specs.Moments.{Moment, moments_from, thread_in}
+use Rattle.pg_closed.specs.Known.{RunShadow, Seen, Taken, seen_from, start_of}
+use Rattle.pg_closed.specs.Moments.{moments_from, thread_in}
 use Rattle.pg_units.specs.Order.{Interval, interval_of, interval_seen}
-use Rattle.pg_units.specs.Units.{ExtentsArePlain, Met, PlanDeed, PlanUnit, ReferenceRun, behind, deed_of, is_event_at, last_from, met_in, met_with, plan_of, reference_of, states_from, turns_of, unit_of, units_from, units_of}
+use Rattle.pg_units.specs.Units.{ExtentsArePlain, Met, PlanUnit, ReferenceRun, behind, deed_of, is_event_at, last_from, met_in, met_with, plan_of, reference_of, states_from, turns_of, unit_of, units_from, units_of}
 
 pub is_some_if : {A : Type 0} (b : Bool) (x : A) → is_some (if◌then◌else◌ {A = Option A} b (Some x) None) ≡ b
 is_some_if true x = refl

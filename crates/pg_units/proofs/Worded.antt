@@ -1,5 +1,5 @@
 -- Before each unit there is a word for each thread that is made.
-use Rattle.std.proofs.Common.{◌≡◌, ℕ, ℤ, ◌<◌, ◌^◌, Bool, true, false, List, [], ◌∷◌, length, suc, Option, Some, None, refl, sym, ap, ◌∙◌, subst}
+use Rattle.std.proofs.Common.{◌≡◌, ℕ, Bool, true, false, List, [], ◌∷◌, length, suc, refl, sym, ap, ◌∙◌, subst}
 use Rattle.std.specs.Prelude.{slice_get, if◌then◌else◌}
 use Rattle.std.specs.List.{AllByRecursion as AllOf}
 use Rattle.pg_mem.specs.Memory.{byte_at}
@@ -9,7 +9,7 @@ use Rattle.pg_trace.specs.Races.{recorded}
 use Rattle.pg_machine.specs.Runs.{IsRun}
 use Rattle.pg_machine.specs.State.{State, initial}
 use Rattle.pg_effects.specs.PermittedSteps.{none_taken, one_more}
-use Rattle.pg_closed.specs.Known.{RunShadow, Seen, Taken, after_step, seen_from, start_of}
+use Rattle.pg_closed.specs.Known.{RunShadow, Seen, Taken, seen_from, start_of}
 use Rattle.pg_closed.specs.Moments.{calls_of, moments_from, thread_in}
 use Rattle.pg_units.specs.Order.{IsOrderedRun}
 use Rattle.pg_units.specs.Units.{ExtentsArePlain, Met, PlanUnit, ReferenceRun, behind, is_event_at, last_from, met_in, met_with, reference_of, states_from, turns_of, unit_of, units_from, units_of}

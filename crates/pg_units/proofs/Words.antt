@@ -15,17 +15,16 @@ use Rattle.pg_step.specs.Step.{frames_action, instr_action, next}
 use Rattle.pg_step.specs.Told.{id_of, place_in}
 use Rattle.pg_trace.specs.declared.turn.TurnKind.{TurnKind}
 use Rattle.pg_trace.specs.declared.turn.TurnKind.TheVariants as turns
-use Rattle.pg_trace.specs.declared.step.Event.{Event}
 use Rattle.pg_trace.specs.declared.step.Step.{Step}
 use Rattle.pg_trace.specs.declared.step.StepKind.{StepKind}
 use Rattle.pg_trace.specs.declared.step.StepKind.TheVariants as kinds
 use Rattle.pg_trace.specs.Kinds.{kind_of}
 use Rattle.pg_trace.specs.Steps.{happening_in}
 use Rattle.pg_machine.specs.Locality.{IfDid}
-use Rattle.pg_machine.specs.MachineStep.{Stepped, instr_told, kind_told, known_told, number_in, op_told, operands_in, step_told}
+use Rattle.pg_machine.specs.MachineStep.{Stepped, kind_told, number_in, operands_in}
 use Rattle.pg_machine.specs.Runs.{Takes}
 use Rattle.pg_machine.specs.State.{State, action_in, id_in, instr_of, next_of}
-use Rattle.pg_effects.specs.Effect.{Effect, RequestEffect, answer_to, effect, effect_by, effect_of, local_set, locals_with, own_after, request_effect}
+use Rattle.pg_effects.specs.Effect.{answer_to, effect, effect_of, local_set, locals_with, request_effect}
 use Rattle.pg_effects.proofs.Effects.{has_effect}
 use Rattle.pg_closed.specs.Extents.{is_live}
 use Rattle.pg_closed.specs.Freeable.{FreeRegion}
@@ -33,28 +32,28 @@ use Rattle.pg_closed.specs.Known.{Reference, RunShadow, Taken, after_step, live_
 use Rattle.pg_closed.specs.Moments.{Moment, instr_in, thread_in}
 use Rattle.pg_closed.specs.Shadows.{Shadow}
 use Rattle.pg_units.proofs.Here.{told_is}
-use Rattle.pg_units.proofs.Inner.{IsInner, kind_inner}
+use Rattle.pg_units.proofs.Inner.{kind_inner}
 use Rattle.pg_units.proofs.Known.{IsInnerKind}
 
-length_set : {A : Type 0} (xs : List A) (i : ℕ) (x : A) → length (slice_set xs i x) ≡ length xs
+pub length_set : {A : Type 0} (xs : List A) (i : ℕ) (x : A) → length (slice_set xs i x) ≡ length xs
 length_set [] i x = refl
 length_set (y ∷ xs) zero x = refl
 length_set (y ∷ xs) (suc i) x = ap suc (length_set xs i x)
 
-length_push : {A : Type 0} (xs : List A) (x : A) → length (xs ++ x ∷ []) ≡ suc (length xs)
+pub length_push : {A : Type 0} (xs : List A) (x : A) → length (xs ++ x ∷ []) ≡ suc (length xs)
 length_push [] x = refl
 length_push (y ∷ xs) x = ap suc (length_push xs x)
 
 -- how many threads are more after a step of this kind
-abbrev more_by : TurnKind → ℕ → ℕ
+abbrev pub more_by : TurnKind → ℕ → ℕ
 more_by turns.Create n = suc n
 more_by k n = n
 
-abbrev more_of : StepKind → ℕ → ℕ
+abbrev pub more_of : StepKind → ℕ → ℕ
 more_of (kinds.Event e) n = more_by e.kind n
 more_of k n = n
 
-plain_more : (k : StepKind) (n : ℕ) → is_some (happening_in k) ≡ false → more_of k n ≡ n
+pub plain_more : (k : StepKind) (n : ℕ) → is_some (happening_in k) ≡ false → more_of k n ≡ n
 plain_more kinds.Other n h = refl
 plain_more (kinds.Branch c) n h = refl
 plain_more (kinds.Allocation a b) n h = refl
@@ -125,7 +124,7 @@ local_instr p l true (f ∷ fs) r e = go (slice_get p.instrs f.place) refl
     go (Some x) q = inr (x, q)
     go None q = let k : actions.Ended ≡ actions.Event r = sym (ap (instr_action p l f fs) q) ∙ e in absurd cc
 
-request_at : (p : NumberedProgram) (s : State) (t : ℕ) (r : Request) → next_of p s t ≡ actions.Event r → (r ≡ requests.Start) ⊎ ((x : Instr) × (slice_get p.instrs (instr_of s t) ≡ Some x))
+pub request_at : (p : NumberedProgram) (s : State) (t : ℕ) (r : Request) → next_of p s t ≡ actions.Event r → (r ≡ requests.Start) ⊎ ((x : Instr) × (slice_get p.instrs (instr_of s t) ≡ Some x))
 unfolding next_of next instr_of id_of
 request_at p s t r e = go (slice_get s.locals t) e
   where
@@ -134,7 +133,7 @@ request_at p s t r e = go (slice_get s.locals t) e
     go (Some l) e = local_instr p l l.begun l.frames r e
 
 -- where no instruction stands none is made
-nowhere : (gated : List InstrId) (p : NumberedProgram) (s : State) (t : ℕ) (ns : List ℕ) (a n m : ℕ) (action : Action) → next_of p s t ≡ action → slice_get p.instrs (instr_of s t) ≡ None → more_of (kind_told gated p s t ns a n action) m ≡ m
+pub nowhere : (gated : List InstrId) (p : NumberedProgram) (s : State) (t : ℕ) (ns : List ℕ) (a n m : ℕ) (action : Action) → next_of p s t ≡ action → slice_get p.instrs (instr_of s t) ≡ None → more_of (kind_told gated p s t ns a n action) m ≡ m
 nowhere gated p s t ns a n m actions.Local e h = inner_more (kind_told gated p s t ns a n actions.Local) m (kind_inner gated p s t ns a n actions.Local tt)
 nowhere gated p s t ns a n m (actions.Event r) e h = go (request_at p s t r e)
   where

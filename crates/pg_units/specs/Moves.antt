@@ -1,5 +1,5 @@
 -- The moves of a run on an input: its steps, as a plan is compared with them.
-use Rattle.std.specs.Prelude.{ℕ, suc, ℤ, List, drop, Option, Some, None, is_some, if◌then◌else◌}
+use Rattle.std.specs.Prelude.{ℕ, suc, ℤ, List, drop, Some, None, is_some, if◌then◌else◌}
 use Rattle.pg_ir.specs.declared.ids.InstrId.{InstrId}
 use Rattle.pg_ir.specs.Program.{NumberedProgram}
 use Rattle.pg_plans.specs.Effects as plans

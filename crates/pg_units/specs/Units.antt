@@ -1,5 +1,5 @@
 -- The units of a reference run under decisions, and the plan that they make.
-use Rattle.std.specs.Prelude.{◌≡◌, ℕ, suc, ◌-◌, ◌==◌, ◌&&◌, ◌||◌, not, nat_lt, ℤ, List, [], ◌∷◌, ◌++◌, map, Bool, true, false, Option, Some, None, is_some, slice_get, slice_index_or, if◌then◌else◌}
+use Rattle.std.specs.Prelude.{◌≡◌, ℕ, suc, ◌-◌, ◌==◌, ◌&&◌, ◌||◌, not, nat_lt, ℤ, List, [], ◌∷◌, ◌++◌, map, Bool, false, Option, Some, None, is_some, slice_index_or, if◌then◌else◌}
 use Rattle.std.specs.List.{AllByRecursion, list_any}
 use Rattle.pg_num.specs.Places.{ByteRange}
 use Rattle.pg_num.specs.declared.layout.TheConstants.{MEMORY_BYTES}
@@ -16,7 +16,6 @@ use Rattle.pg_trace.specs.declared.step.StepKind.{StepKind}
 use Rattle.pg_trace.specs.declared.step.StepKind.TheVariants as kinds
 use Rattle.pg_trace.specs.declared.step.Access.{Access}
 use Rattle.pg_trace.specs.declared.step.Event.{Event}
-use Rattle.pg_trace.specs.declared.step.Write.{Write}
 use Rattle.pg_trace.specs.Races.{is_in, recorded}
 use Rattle.pg_trace.specs.Steps.{access_in, happening_in, range_of}
 use Rattle.pg_machine.specs.State.{State, initial}

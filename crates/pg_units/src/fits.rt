@@ -6,7 +6,7 @@ ghost use Rattle.pg_trace.specs.declared.turn.Turn.{Turn};
 ghost use Rattle.pg_closed.specs.Closed.{IsClosed, admits};
 ghost use Rattle.pg_closed.specs.Known.{Taken};
 ghost use Rattle.pg_closed.specs.Moments.{thread_in};
-ghost use Rattle.pg_units.specs.Fits.{IsAlikeFor, StartsAreFresh};
+ghost use Rattle.pg_units.specs.Fits.{IsAlikeFor};
 ghost use Rattle.pg_units.specs.Likes.{like};
 ghost use Rattle.pg_units.specs.Lists.{Has};
 ghost use Rattle.pg_units.specs.Moves.{IsMove, RunDeed, RunState};
@@ -18,6 +18,6 @@ ghost use Rattle.pg_units.specs.Units.{ExtentsArePlain, PlanUnit, ReferenceRun, 
 /// cells that are alike, the same objects, and is the same turn with the same reply. The unit is a single step, of whatever kind.
 pub fn a_step_fits()
     ensures { (r : ReferenceRun) (d : Taken) (input : List ℤ) (turns : List Turn) (u : PlanUnit) (a : RunState) (g : ℕ) (e : RunDeed)
-        → IsOrderedRun r → ExtentsArePlain r d → StartsAreFresh r d → IsClosed (reference_of r) d → admits (reference_of r) d input ≡ true → length input < 2 ^ 64
+        → IsOrderedRun r → ExtentsArePlain r d → IsClosed (reference_of r) d → admits (reference_of r) d input ≡ true → length input < 2 ^ 64
         → Has (units_of r d) u → is_instance d u.seen ≡ false → IsMove r.gated r.program input turns a g e → IsAlikeFor input d u a → e.thread ≡ thread_in u.seen.moment → Fits (like input) (deed_of d u) e }
 {}
