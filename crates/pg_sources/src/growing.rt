@@ -1,0 +1,30 @@
+ghost use Rattle.std.specs.Prelude.{◌≡◌, ◌<◌, ℤ, List, length, IfOk};
+ghost use Rattle.pg_nodes.specs.Nodes.{IsNode};
+ghost use Rattle.pg_nodes.specs.Values.{node_number, numbers_of};
+ghost use Rattle.pg_closed.specs.Shadows.{Known};
+ghost use Rattle.pg_sources.specs.Sources.{Grew, IsSource, number_by, shadow_by};
+
+use crate::source::Source;
+use pg_nodes::{Node, Nodes};
+use std::alloc::AllocError;
+
+/// Adds a node, and gives its number.
+#[tactic(auto, using(crate::proofs::Grows::grew_one, crate::proofs::Grows::grew_none, crate::proofs::Grows::number_of_new, crate::proofs::Grows::length_more))]
+pub(crate) fn added(nodes: &mut Nodes, node: Node) -> Result<u32, AllocError>
+    requires { IsNode (length nodes.old) node }
+    ensures grew { Grew nodes.old nodes.new }
+    ensures is { IfOk result (λ k. k < length nodes.new) }
+    ensures value { IfOk result (λ k. (input : List ℤ) → number_by nodes.new k input ≡ node_number input (numbers_of input nodes.old) node) }
+{
+    nodes.push(node)
+}
+
+/// Adds a node, and gives its value.
+pub(crate) fn known(nodes: &mut Nodes, node: Node) -> Result<Source, AllocError>
+    requires { IsNode (length nodes.old) node }
+    ensures grew { Grew nodes.old nodes.new }
+    ensures is { IfOk result (IsSource (length nodes.new)) }
+    ensures value { IfOk result (λ s. shadow_by nodes.new s ≡ Known (λ input. node_number input (numbers_of input nodes.old) node)) }
+{
+    Ok(Source::Known(added(nodes, node)?))
+}

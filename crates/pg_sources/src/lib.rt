@@ -1,0 +1,14 @@
+//! What is known of values along a reference run, as numbers of nodes of one list.
+#![tactic(auto)]
+
+mod form;
+mod growing;
+pub mod laws;
+mod operations;
+mod pointers;
+mod source;
+mod values;
+
+pub use operations::operation;
+pub use source::Source;
+pub use values::{constant, from_input, input_length, low_byte, offset, unset, value, within};

@@ -1,0 +1,77 @@
+use pg_closed::Decision;
+
+/// What is known of a value along a reference run, by the number of a node of one list.
+#[derive(Clone, Copy, Debug, PartialEq, Eq)]
+pub enum Source {
+    /// The number of this node.
+    Known(u32),
+    /// A pointer of which only the frame is known, that of this node's word; the decision is blamed for the rest.
+    Framed(u32, Decision),
+    /// Nothing; the decision is blamed.
+    Unknown(Decision),
+}
+
+impl Source {
+    ghost use Rattle.std.specs.Prelude.{◌≡◌, ◌<◌, ℕ, Some, None, IfSome};
+    ghost use Rattle.std.specs.Option.{option_map, option_to_list};
+    ghost use Rattle.pg_nodes.specs.Nodes.{NodeList};
+    ghost use Rattle.pg_closed.specs.Shadows as shadows;
+    ghost use Rattle.pg_closed.specs.Rules.{value_of};
+    ghost use Rattle.pg_sources.specs.Sources.{IsSource, number_by, shadow_by};
+
+    /// The decision that is blamed where the value isn't known.
+    pub fn blame(self) -> Option<Decision>
+        ensures { (ns : NodeList) → shadows.blames (shadow_by ns self) ≡ option_to_list result }
+    {
+        match self {
+            Source::Known(_) => None,
+            Source::Framed(_, by) | Source::Unknown(by) => Some(by),
+        }
+    }
+
+    /// The decision that is blamed where the frame isn't known.
+    pub fn frame_blame(self) -> Option<Decision>
+        ensures { (ns : NodeList) → shadows.frame_blames (shadow_by ns self) ≡ option_to_list result }
+    {
+        match self {
+            Source::Unknown(by) => Some(by),
+            Source::Known(_) | Source::Framed(..) => None,
+        }
+    }
+
+    /// The node of the value, where it is known.
+    pub fn word(self) -> Option<u32>
+        ensures value { (ns : NodeList) → value_of (shadow_by ns self) ≡ option_map (number_by ns) result }
+        ensures node { (n : ℕ) → IsSource n self → IfSome result (λ k. k < n) }
+    {
+        match self {
+            Source::Known(node) => Some(node),
+            Source::Framed(..) | Source::Unknown(_) => None,
+        }
+    }
+
+    /// The node of a word that has the pointer's frame, where the frame is known.
+    pub fn frame_word(self) -> Option<u32>
+        ensures value { (ns : NodeList) → shadows.frame_word (shadow_by ns self) ≡ option_map (number_by ns) result }
+        ensures node { (n : ℕ) → IsSource n self → IfSome result (λ k. k < n) }
+    {
+        match self {
+            Source::Known(node) | Source::Framed(node, _) => Some(node),
+            Source::Unknown(_) => None,
+        }
+    }
+
+    /// A value, but where it isn't known, with the frame of its base, where that is known.
+    pub fn moved(self, base: Source) -> Source
+        ensures value { (ns : NodeList) → shadow_by ns result ≡ shadows.moved (shadow_by ns base) (shadow_by ns self) }
+        ensures is { (n : ℕ) → IsSource n base → IsSource n self → IsSource n result }
+    {
+        match self {
+            Source::Unknown(by) => match base {
+                Source::Known(node) | Source::Framed(node, _) => Source::Framed(node, by),
+                Source::Unknown(_) => Source::Unknown(by),
+            },
+            Source::Known(_) | Source::Framed(..) => self,
+        }
+    }
+}

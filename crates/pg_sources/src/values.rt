@@ -1,0 +1,193 @@
+ghost use Rattle.std.specs.Prelude.{◌≡◌, ◌<◌, ◌%◌, length, map, slice_get, IfOk, Some, IfSome};
+ghost use Rattle.std.specs.List.{AllByRecursion};
+ghost use Rattle.pg_num.specs.Numbers.{modulus};
+ghost use Rattle.pg_ir.specs.Operands.{CanRead};
+ghost use Rattle.pg_step.specs.Operands.{pointer_to};
+ghost use Rattle.pg_closed.specs.Shadows.{Known, always, cut, shadow_of};
+ghost use Rattle.pg_closed.specs.Shadows as shadows;
+ghost use Rattle.pg_closed.specs.Rules.{moved_shadow};
+ghost use Rattle.pg_closed.specs.Known as along;
+ghost use Rattle.pg_sources.specs.Sources.{Grew, IsSource, number_by, shadow_by};
+
+use crate::growing::{added, known};
+use crate::source::Source;
+use pg_ir::{Program, Value};
+use pg_nodes::{CastKind, Node, Nodes, Operation};
+use pg_num::{Division, Pointer, Width, pack};
+use std::alloc::AllocError;
+
+/// A number that is the same on each input.
+///
+/// # Errors
+///
+/// Where no memory is left for its node.
+pub fn constant(nodes: &mut Nodes, n: u64) -> Result<Source, AllocError>
+    ensures grew { Grew nodes.old nodes.new }
+    ensures is { IfOk result (IsSource (length nodes.new)) }
+    ensures value { IfOk result (λ s. shadow_by nodes.new s ≡ always n) }
+{
+    known(nodes, Node::Const(n))
+}
+
+/// A value that has a number on no input, as a register that was never set.
+///
+/// # Errors
+///
+/// Where no memory is left for its nodes. Some of them may have been added.
+#[tactic(auto, using(crate::proofs::Grows::grew_then))]
+pub fn unset(nodes: &mut Nodes) -> Result<Source, AllocError>
+    ensures grew { Grew nodes.old nodes.new }
+    ensures is { IfOk result (IsSource (length nodes.new)) }
+    ensures value { IfOk result (λ s. shadow_by nodes.new s ≡ shadows.unset) }
+{
+    let zero = added(nodes, Node::Const(0))?;
+    known(
+        nodes,
+        Node::Op {
+            op: Operation::Divide(Division::Udiv),
+            width: Width::W64,
+            left: zero,
+            right: zero,
+        },
+    )
+}
+
+/// The word of the pointer to the first byte of a global.
+fn global_word(p: &Program, g: u32) -> u64
+    requires { g < length p.now.globals }
+    ensures { pointer_to (slice_get p.now.globals g) ≡ Some result }
+{
+    let global = p.global(g);
+    pack(Pointer {
+        start: global.start,
+        length: global.size,
+        offset: 0,
+    })
+}
+
+/// An operand, by the registers of its frame.
+///
+/// # Errors
+///
+/// Where no memory is left for its node.
+#[tactic(auto, using(crate::proofs::Grows::grew_none))]
+pub fn value(
+    nodes: &mut Nodes,
+    p: &Program,
+    v: Value,
+    registers: &[Source],
+) -> Result<Source, AllocError>
+    requires read { CanRead p.now (length registers.now) v }
+    requires sources { AllByRecursion (IsSource (length nodes.old)) registers.now }
+    ensures grew { Grew nodes.old nodes.new }
+    ensures is { IfOk result (IsSource (length nodes.new)) }
+    ensures value { IfOk result (λ s. shadow_by nodes.new s ≡ shadow_of p.now (map (shadow_by nodes.old) registers.now) v) }
+{
+    match v {
+        Value::Register(r) => Ok(registers[r as usize]),
+        Value::Const(n) => constant(nodes, n),
+        Value::Global(g) => constant(nodes, global_word(p, g)),
+        Value::Function(f) => constant(nodes, f as u64),
+    }
+}
+
+/// A number modulo two to a width.
+///
+/// # Errors
+///
+/// Where no memory is left for its node.
+#[tactic(auto, using(crate::proofs::Grows::grew_none, crate::proofs::Widths::within_64))]
+pub fn within(nodes: &mut Nodes, w: Width, s: Source) -> Result<Source, AllocError>
+    requires { IsSource (length nodes.old) s }
+    ensures grew { Grew nodes.old nodes.new }
+    ensures is { IfOk result (IsSource (length nodes.new)) }
+    ensures value { IfOk result (λ r. shadow_by nodes.new r ≡ cut (λ n. n % modulus w) (shadow_by nodes.old s)) }
+{
+    match s {
+        Source::Known(of) => known(
+            nodes,
+            Node::Cast {
+                cast: CastKind::Zext,
+                from: w,
+                to: Width::W64,
+                of,
+            },
+        ),
+        Source::Framed(_, by) | Source::Unknown(by) => Ok(Source::Unknown(by)),
+    }
+}
+
+/// The low byte of a number.
+///
+/// # Errors
+///
+/// Where no memory is left for its node.
+pub fn low_byte(nodes: &mut Nodes, s: Source) -> Result<Source, AllocError>
+    requires { IsSource (length nodes.old) s }
+    ensures grew { Grew nodes.old nodes.new }
+    ensures is { IfOk result (IsSource (length nodes.new)) }
+    ensures value { IfOk result (λ r. shadow_by nodes.new r ≡ along.low_byte (shadow_by nodes.old s)) }
+{
+    within(nodes, Width::W8, s)
+}
+
+/// A word that is moved by so many bytes, as to the address of a load.
+///
+/// # Errors
+///
+/// Where no memory is left for its nodes. Some of them may have been added.
+#[tactic(auto, using(crate::proofs::Grows::grew_none, crate::proofs::Grows::grew_then))]
+pub fn offset(nodes: &mut Nodes, k: u64, s: Source) -> Result<Source, AllocError>
+    requires { IsSource (length nodes.old) s }
+    ensures grew { Grew nodes.old nodes.new }
+    ensures is { IfOk result (IsSource (length nodes.new)) }
+    ensures value { IfOk result (λ r. shadow_by nodes.new r ≡ moved_shadow k (shadow_by nodes.old s)) }
+{
+    match s {
+        Source::Known(base) => moved_word(nodes, k, base),
+        Source::Framed(..) | Source::Unknown(_) => Ok(s),
+    }
+}
+
+/// The value of a node's word, moved by so many bytes.
+#[tactic(auto, using(crate::proofs::Grows::grew_then, crate::proofs::Grows::grew_length))]
+fn moved_word(nodes: &mut Nodes, k: u64, base: u32) -> Result<Source, AllocError>
+    requires { base < length nodes.old }
+    ensures grew { Grew nodes.old nodes.new }
+    ensures is { IfOk result (IsSource (length nodes.new)) }
+    ensures value { IfOk result (λ r. shadow_by nodes.new r ≡ moved_shadow k (Known (number_by nodes.old base))) }
+{
+    let delta = added(nodes, Node::Const(k))?;
+    known(nodes, Node::Gep { base, delta })
+}
+
+/// The input's number at an index, which is read with its sign; 0 outside of the input.
+///
+/// # Errors
+///
+/// Where no memory is left for its node.
+#[tactic(auto, using(crate::proofs::Grows::grew_none))]
+pub fn from_input(nodes: &mut Nodes, s: Source) -> Result<Source, AllocError>
+    requires { IsSource (length nodes.old) s }
+    ensures grew { Grew nodes.old nodes.new }
+    ensures is { IfOk result (IsSource (length nodes.new)) }
+    ensures value { IfOk result (λ r. shadow_by nodes.new r ≡ along.from_input (shadow_by nodes.old s)) }
+{
+    match s {
+        Source::Known(index) => known(nodes, Node::In(index)),
+        Source::Framed(_, by) | Source::Unknown(by) => Ok(Source::Unknown(by)),
+    }
+}
+
+/// How many numbers the input has.
+///
+/// # Errors
+///
+/// Where no memory is left for its node.
+pub fn input_length(nodes: &mut Nodes) -> Result<Source, AllocError>
+    ensures grew { Grew nodes.old nodes.new }
+    ensures is { IfOk result (IsSource (length nodes.new)) }
+    ensures value { IfOk result (λ r. shadow_by nodes.new r ≡ Known (λ input. Some (length input))) }
+{
+    known(nodes, Node::InLen)
+}
