@@ -1,0 +1,4 @@
+pub mod Sourced
+pub mod Steps
+pub mod Events
+pub mod Threads

@@ -1,0 +1,22 @@
+//! What is known along a reference run, as sources over one list of nodes.
+#![tactic(auto)]
+
+mod call;
+mod edges;
+mod entered;
+mod events;
+mod given;
+pub mod laws;
+mod operands;
+mod registers;
+mod step;
+mod steps;
+mod thread;
+mod threads;
+mod words;
+
+pub use given::operand;
+pub use step::OpStep;
+pub use thread::ThreadSources;
+pub use threads::after_create;
+pub use words::words_after;

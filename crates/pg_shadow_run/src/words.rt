@@ -1,0 +1,149 @@
+ghost use Rattle.std.specs.Prelude.{◌≡◌, ◌++◌, ◌∷◌, [], length, slice_set, IfOk, OnOk, OnErr};
+ghost use Rattle.pg_ir.specs.Operands.{CanReadAll, CanReadReturned};
+ghost use Rattle.pg_closed.specs.Known.{exit_shadow, operand_at, returned_shadow};
+ghost use Rattle.pg_closed.specs.Known as along;
+ghost use Rattle.pg_sources.specs.Sources.{Grew, IsSource, shadow_by};
+ghost use Rattle.pg_shadow_run.specs.Sourced.{AreSources, registers_by};
+ghost use Rattle.pg_shadow_run.specs.Events.{HasOperands, IsExit, IsKnownCall};
+
+use crate::given::call_argument;
+use pg_ir::{Op, Program, Value};
+use pg_nodes::Nodes;
+use pg_sources::{Source, constant, value};
+use pg_trace::TurnKind;
+use std::alloc::AllocError;
+
+/// The value that a return hands on, 0 where it has none.
+fn returned(
+    nodes: &mut Nodes,
+    p: &Program,
+    v: Option<Value>,
+    registers: &[Source],
+) -> Result<Source, AllocError>
+    requires read { CanReadReturned p.now (length registers.now) v }
+    requires sources { AreSources (length nodes.old) registers.now }
+    ensures grew { Grew nodes.old nodes.new }
+    ensures is { IfOk result (IsSource (length nodes.new)) }
+    ensures value { IfOk result (λ s. shadow_by nodes.new s ≡ returned_shadow p.now (registers_by nodes.old registers.now) v) }
+{
+    match v {
+        Some(v) => value(nodes, p, v, registers),
+        None => constant(nodes, 0),
+    }
+}
+
+/// What an exit hands on; the `pthread_exit` of main hands on 0.
+fn exit_source(
+    nodes: &mut Nodes,
+    p: &Program,
+    thread: usize,
+    op: &Op,
+    registers: &[Source],
+) -> Result<Source, AllocError>
+    requires call { IsExit op.now }
+    requires read { CanReadAll p.now (length registers.now) op.now }
+    requires sources { AreSources (length nodes.old) registers.now }
+    ensures grew { Grew nodes.old nodes.new }
+    ensures is { IfOk result (IsSource (length nodes.new)) }
+    ensures value { IfOk result (λ s. shadow_by nodes.new s ≡ exit_shadow p.now thread (registers_by nodes.old registers.now) op.now) }
+{
+    match op {
+        Op::Ret { value } => returned(nodes, p, *value, registers),
+        Op::CallKnown { .. } => {
+            if thread == 0 {
+                constant(nodes, 0)
+            } else {
+                call_argument(nodes, p, op, 0, registers)
+            }
+        }
+        _ => unreachable!(),
+    }
+}
+
+/// Puts a word in its place; past the end there is none.
+#[tactic(auto, using(crate::proofs::Sets::set_past))]
+fn put_word(words: &mut Vec<Source>, thread: usize, s: Source)
+    ensures { words.new.items ≡ slice_set words.old.items thread s }
+{
+    if thread < words.len() {
+        words[thread] = s;
+    }
+}
+
+/// The exit of a thread: its word is what it hands on.
+fn hand_on(
+    nodes: &mut Nodes,
+    p: &Program,
+    thread: usize,
+    op: &Op,
+    registers: &[Source],
+    words: &mut Vec<Source>,
+) -> Result<(), AllocError>
+    requires call { IsExit op.now }
+    requires read { CanReadAll p.now (length registers.now) op.now }
+    requires registers { AreSources (length nodes.old) registers.now }
+    requires words { AreSources (length nodes.old) words.old.items }
+    ensures grew { Grew nodes.old nodes.new }
+    ensures is { OnOk result (AreSources (length nodes.new) words.new.items) }
+    ensures same { OnErr result (words.new.items ≡ words.old.items) }
+    ensures value { OnOk result (registers_by nodes.new words.new.items
+        ≡ slice_set (registers_by nodes.old words.old.items) thread (exit_shadow p.now thread (registers_by nodes.old registers.now) op.now)) }
+{
+    let s = exit_source(nodes, p, thread, op, registers)?;
+    put_word(words, thread, s);
+    Ok(())
+}
+
+/// A create: the word of the new thread is its argument.
+fn pass_on(
+    nodes: &mut Nodes,
+    p: &Program,
+    op: &Op,
+    registers: &[Source],
+    words: &mut Vec<Source>,
+) -> Result<(), AllocError>
+    requires call { IsKnownCall op.now }
+    requires read { CanReadAll p.now (length registers.now) op.now }
+    requires registers { AreSources (length nodes.old) registers.now }
+    requires words { AreSources (length nodes.old) words.old.items }
+    ensures grew { Grew nodes.old nodes.new }
+    ensures is { OnOk result (AreSources (length nodes.new) words.new.items) }
+    ensures same { OnErr result (words.new.items ≡ words.old.items) }
+    ensures value { OnOk result (registers_by nodes.new words.new.items ≡ registers_by nodes.old words.old.items ++ operand_at p.now (registers_by nodes.old registers.now) op.now 3 ∷ []) }
+{
+    let s = call_argument(nodes, p, op, 3, registers)?;
+    words.push(s)?;
+    Ok(())
+}
+
+/// The words of the threads after an event: a thread's argument until it ends, then its exit value.
+///
+/// # Errors
+///
+/// Where no memory is left. Nodes may have been added; the words are as before.
+#[tactic(auto, using(pg_sources::proofs::Grows::grew_none))]
+pub fn words_after(
+    nodes: &mut Nodes,
+    p: &Program,
+    thread: usize,
+    kind: TurnKind,
+    op: &Op,
+    registers: &[Source],
+    words: &mut Vec<Source>,
+) -> Result<(), AllocError>
+    requires call { HasOperands kind op.now }
+    requires read { CanReadAll p.now (length registers.now) op.now }
+    requires registers { AreSources (length nodes.old) registers.now }
+    requires words { AreSources (length nodes.old) words.old.items }
+    ensures grew { Grew nodes.old nodes.new }
+    ensures is { OnOk result (AreSources (length nodes.new) words.new.items) }
+    ensures same { OnErr result (words.new.items ≡ words.old.items) }
+    ensures value { OnOk result (registers_by nodes.new words.new.items
+        ≡ along.words_after p.now thread kind (registers_by nodes.old registers.now) op.now (registers_by nodes.old words.old.items)) }
+{
+    match kind {
+        TurnKind::Exit => hand_on(nodes, p, thread, op, registers, words),
+        TurnKind::Create => pass_on(nodes, p, op, registers, words),
+        _ => Ok(()),
+    }
+}
