@@ -29,31 +29,37 @@ pub top_by : (ns : NodeList) (calls : CallList) → registers_by ns (top_sources
 top_by ns [] = refl
 top_by ns (rs ∷ calls) = refl
 
-pub with_top_by : (ns : NodeList) (f : List Shadow → List Shadow) (present new : List Source) (callers : CallList) (ended : Bool) → registers_by ns new ≡ f (registers_by ns present) → calls_by ns (calls_of new callers ended) ≡ with_top f (calls_by ns (calls_of present callers ended))
+pub with_top_by : (ns : NodeList) (f : List Shadow → List Shadow) (present new : List Source) (callers : CallList) (ended : Bool) →
+    registers_by ns new ≡ f (registers_by ns present) → calls_by ns (calls_of new callers ended) ≡ with_top f (calls_by ns (calls_of present callers ended))
 with_top_by ns f present new callers true e = refl
 with_top_by ns f present new callers false e = ap (λ (x : List Shadow). x ∷ calls_by ns (reverse callers)) e
 
-pub with_top_are : (n : ℕ) (present new : List Source) (callers : CallList) (ended : Bool) → (AreSources n present → AreSources n new) → AreCalls n (calls_of present callers ended) → AreCalls n (calls_of new callers ended)
+pub with_top_are : (n : ℕ) (present new : List Source) (callers : CallList) (ended : Bool) → (AreSources n present → AreSources n new) →
+    AreCalls n (calls_of present callers ended) → AreCalls n (calls_of new callers ended)
 with_top_are n present new callers true h a = tt
 with_top_are n present new callers false h a = (h a.0, a.1)
 
 -- the present call was changed, and nodes were added
-pub across : (old new : NodeList) (f : List Shadow → List Shadow) (present after : List Source) (callers : CallList) (ended : Bool) → Grew old new → AreCalls (length old) (calls_of present callers ended) → registers_by new after ≡ f (registers_by old present) →
+pub across : (old new : NodeList) (f : List Shadow → List Shadow) (present after : List Source) (callers : CallList) (ended : Bool) → Grew old new →
+    AreCalls (length old) (calls_of present callers ended) → registers_by new after ≡ f (registers_by old present) →
     calls_by new (calls_of after callers ended) ≡ with_top f (calls_by old (calls_of present callers ended))
 across old new f present after callers true g a e = refl
 across old new f present after callers false g a e = ap (λ (x : List Shadow). x ∷ calls_by new (reverse callers)) e ∙ ap (λ (cs : List (List Shadow)). f (registers_by old present) ∷ cs) (calls_kept old new (reverse callers) g a.1)
 
-pub across_are : (old new : NodeList) (present after : List Source) (callers : CallList) (ended : Bool) → Grew old new → AreCalls (length old) (calls_of present callers ended) → AreSources (length new) after → AreCalls (length new) (calls_of after callers ended)
+pub across_are : (old new : NodeList) (present after : List Source) (callers : CallList) (ended : Bool) → Grew old new → AreCalls (length old) (calls_of present callers ended) →
+    AreSources (length new) after → AreCalls (length new) (calls_of after callers ended)
 across_are old new present after callers true g a h = tt
 across_are old new present after callers false g a h = (h, calls_stay old new (reverse callers) g a.1)
 
 -- ---- a call that is entered or left
 
-pub pushed : (present : List Source) (callers : CallList) (ended : Bool) (fresh : List Source) (after : CallList) → 0 < length (calls_of present callers ended) → after ≡ callers ++ present ∷ [] → calls_of fresh after ended ≡ fresh ∷ calls_of present callers ended
+pub pushed : (present : List Source) (callers : CallList) (ended : Bool) (fresh : List Source) (after : CallList) → 0 < length (calls_of present callers ended) →
+    after ≡ callers ++ present ∷ [] → calls_of fresh after ended ≡ fresh ∷ calls_of present callers ended
 pushed present callers true fresh after h e = absurd (omega arith)
 pushed present callers false fresh after h e = ap (λ (l : CallList). fresh ∷ reverse l) e ∙ ap (λ (l : CallList). fresh ∷ l) (reverse-append callers (present ∷ []))
 
-pub popped : (present caller : List Source) (callers after : CallList) (ended : Bool) → callers ≡ after ++ caller ∷ [] → calls_of caller after ended ≡ under_sources (calls_of present callers ended)
+pub popped : (present caller : List Source) (callers after : CallList) (ended : Bool) → callers ≡ after ++ caller ∷ [] →
+    calls_of caller after ended ≡ under_sources (calls_of present callers ended)
 popped present caller callers after true e = refl
 popped present caller callers after false e = sym (ap (λ (l : CallList). reverse l) e ∙ reverse-append after (caller ∷ []))
 

@@ -19,7 +19,8 @@ dropped (x ∷ xs) zero d h = refl
 dropped (x ∷ xs) (suc i) d h = let z : suc i + 1 ≡ suc (i + 1) = omega arith in rw z (dropped xs i d (omega arith))
 
 -- one more of what is made of each
-pub one_pushed : {A B : Type 0} (f : A → B) (xs : List A) (i : ℕ) (d : A) (old new whole : List B) → i < length xs → new ≡ old ++ f (slice_index_or xs i d) ∷ [] → old ++ map f (drop i xs) ≡ whole → new ++ map f (drop (i + 1) xs) ≡ whole
+pub one_pushed : {A B : Type 0} (f : A → B) (xs : List A) (i : ℕ) (d : A) (old new whole : List B) → i < length xs → new ≡ old ++ f (slice_index_or xs i d) ∷ [] →
+    old ++ map f (drop i xs) ≡ whole → new ++ map f (drop (i + 1) xs) ≡ whole
 one_pushed f xs i d old new whole h e k =
     ap (λ ys. ys ++ map f (drop (i + 1) xs)) e
     ∙ append_assoc old (f (slice_index_or xs i d) ∷ []) (map f (drop (i + 1) xs))

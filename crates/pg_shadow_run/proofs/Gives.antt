@@ -23,13 +23,15 @@ use Rattle.pg_shadow_run.specs.declared.step.OpStep.{OpStep}
 use Rattle.pg_shadow_run.specs.Sourced.{marked}
 use Rattle.pg_shadow_run.specs.Steps.{IsStepAt, branched, given_shadow, is_straight, known_shadow, set_given}
 
-known_same : (k : KnownFunction) (target : Option ℕ) (word : ℕ) (f : List Shadow → Shadow) (calls : List (List Shadow)) → with_top (λ rs. after_known k target word (f rs) rs) calls ≡ with_top (λ rs. set_given target (known_shadow k word (f rs)) rs) calls
+known_same : (k : KnownFunction) (target : Option ℕ) (word : ℕ) (f : List Shadow → Shadow) (calls : List (List Shadow)) →
+    with_top (λ rs. after_known k target word (f rs) rs) calls ≡ with_top (λ rs. set_given target (known_shadow k word (f rs)) rs) calls
 known_same known.PgIn target word f calls = refl
 known_same known.PgInLen target word f calls = refl
 known_same known.Malloc target word f calls = refl
 known_same k target word f calls = refl
 
-pub straight_is : (p : NumberedProgram) (pinned : Bool) (n : ℕ) (m : Moment) (region : Option FreeRegion) (word : ℕ) (x : Instr) (o : Op) (calls : List (List Shadow)) → is_straight o ≡ true → x.op ≡ o → after_op p pinned n m region word x o calls ≡ with_top (λ rs. set_given x.result (given_shadow p word o rs) rs) calls
+pub straight_is : (p : NumberedProgram) (pinned : Bool) (n : ℕ) (m : Moment) (region : Option FreeRegion) (word : ℕ) (x : Instr) (o : Op) (calls : List (List Shadow)) →
+    is_straight o ≡ true → x.op ≡ o → after_op p pinned n m region word x o calls ≡ with_top (λ rs. set_given x.result (given_shadow p word o rs) rs) calls
 straight_is p pinned n m region word x (op.Br to) calls e h = absurd cc
 straight_is p pinned n m region word x (op.CondBr c a b) calls e h = absurd cc
 straight_is p pinned n m region word x (op.Switch w on other cases) calls e h = absurd cc
@@ -40,7 +42,8 @@ straight_is p pinned n m region word x (op.CallKnown k args) calls e h =
 straight_is p pinned n m region word x (op.Gep base indices) calls e h = ap (λ (o : Op). with_top (λ rs. set_shadow x.result (moved (operand_at p rs o 0) (result_of o (operand_shadows p rs o))) rs) calls) h
 straight_is p pinned n m region word x o calls e h = refl
 
-pub at_top : (target : Option ℕ) (g : List Shadow → Option Shadow) (calls : List (List Shadow)) → with_top (set_given target (g (top_of calls))) calls ≡ with_top (λ rs. set_given target (g rs) rs) calls
+pub at_top : (target : Option ℕ) (g : List Shadow → Option Shadow) (calls : List (List Shadow)) →
+    with_top (set_given target (g (top_of calls))) calls ≡ with_top (λ rs. set_given target (g rs) rs) calls
 at_top target g [] = refl
 at_top target g (rs ∷ calls) = refl
 
@@ -59,7 +62,8 @@ same_forgotten : (i : ℕ) (f g : ℕ → Bool) (x : Decision) (rs : List Shadow
 same_forgotten i f g x rs h = ap (λ (s : ℕ → Bool). forgotten_from i s x rs) (fun_ext h)
 
 -- the registers that a region may set are those that the table marks
-pub branch_is : (p : NumberedProgram) (x : Instr) (s : OpStep) (sets : List Bool) (m : Moment) (region : Option FreeRegion) (rs : List Shadow) → IsStepAt p x s sets m region → branched p s sets x.block.0 rs ≡ after_branch p s.pinned s.number x (edge_in p m (Some x)) region rs
+pub branch_is : (p : NumberedProgram) (x : Instr) (s : OpStep) (sets : List Bool) (m : Moment) (region : Option FreeRegion) (rs : List Shadow) → IsStepAt p x s sets m region →
+    branched p s sets x.block.0 rs ≡ after_branch p s.pinned s.number x (edge_in p m (Some x)) region rs
 branch_is p x s sets m region rs h = go s.freed s.pinned region h.freed h.marks
   where
     e : along_edge p x.block.0 s.edge rs ≡ along_edge p x.block.0 (edge_in p m (Some x)) rs
@@ -77,10 +81,12 @@ pub with_top_same : (f g : List Shadow → List Shadow) (calls : List (List Shad
 with_top_same f g [] h = refl
 with_top_same f g (rs ∷ calls) h = ap (λ (x : List Shadow). x ∷ calls) (h rs)
 
-pub instance_is : (p : NumberedProgram) (s : OpStep) (sets : List Bool) (from : ℕ) (calls : List (List Shadow)) → (s.freed && not s.pinned) ≡ true → with_top (forgotten_from 0 (marked sets) (Pinned s.number)) calls ≡ with_top (branched p s sets from) calls
+pub instance_is : (p : NumberedProgram) (s : OpStep) (sets : List Bool) (from : ℕ) (calls : List (List Shadow)) → (s.freed && not s.pinned) ≡ true →
+    with_top (forgotten_from 0 (marked sets) (Pinned s.number)) calls ≡ with_top (branched p s sets from) calls
 instance_is p s sets from calls e = with_top_same _ _ calls (λ rs. ap (λ (b : Bool). if b then forgotten_from 0 (marked sets) (Pinned s.number) rs else along_edge p from s.edge rs) (sym e))
 
-pub edge_is : (p : NumberedProgram) (s : OpStep) (sets : List Bool) (from : ℕ) (calls : List (List Shadow)) → (s.freed && not s.pinned) ≡ false → with_top (along_edge p from s.edge) calls ≡ with_top (branched p s sets from) calls
+pub edge_is : (p : NumberedProgram) (s : OpStep) (sets : List Bool) (from : ℕ) (calls : List (List Shadow)) → (s.freed && not s.pinned) ≡ false →
+    with_top (along_edge p from s.edge) calls ≡ with_top (branched p s sets from) calls
 edge_is p s sets from calls e = with_top_same _ _ calls (λ rs. ap (λ (b : Bool). if b then forgotten_from 0 (marked sets) (Pinned s.number) rs else along_edge p from s.edge rs) (sym e))
 
 -- ---- each kind of step
@@ -96,15 +102,18 @@ module _ (p : NumberedProgram) (x : Instr) (s : OpStep) (sets : List Bool) (m : 
       with_top_same _ (after_branch p s.pinned s.number x (edge_in p m (Some x)) region) calls (λ rs. branch_is p x s sets m region rs h)
       ∙ ap (λ (o : Op). after_op p s.pinned s.number m region s.word x o calls) (sym e)
 
-  pub switch_is : (w : Width) (on : Value) (other : BlockNo) (cases : List Case) → x.op ≡ op.Switch w on other cases → with_top (branched p s sets x.block.0) calls ≡ after_op p s.pinned s.number m region s.word x x.op calls
+  pub switch_is : (w : Width) (on : Value) (other : BlockNo) (cases : List Case) → x.op ≡ op.Switch w on other cases →
+      with_top (branched p s sets x.block.0) calls ≡ after_op p s.pinned s.number m region s.word x x.op calls
   switch_is w on other cases e =
       with_top_same _ (after_branch p s.pinned s.number x (edge_in p m (Some x)) region) calls (λ rs. branch_is p x s sets m region rs h)
       ∙ ap (λ (o : Op). after_op p s.pinned s.number m region s.word x o calls) (sym e)
 
-  pub call_is : (g : ℕ) (args : List Value) → x.op ≡ op.Call g args → entered p g (map (shadow_of p (top_of calls)) args) ∷ calls ≡ after_op p s.pinned s.number m region s.word x x.op calls
+  pub call_is : (g : ℕ) (args : List Value) → x.op ≡ op.Call g args →
+      entered p g (map (shadow_of p (top_of calls)) args) ∷ calls ≡ after_op p s.pinned s.number m region s.word x x.op calls
   call_is g args e = ap (λ (o : Op). after_op p s.pinned s.number m region s.word x o calls) (sym e)
 
-  pub ret_is : (v : Option Value) → x.op ≡ op.Ret v → with_top (set_shadow s.target (optional_shadow p (top_of calls) v)) (under_top calls) ≡ after_op p s.pinned s.number m region s.word x x.op calls
+  pub ret_is : (v : Option Value) → x.op ≡ op.Ret v →
+      with_top (set_shadow s.target (optional_shadow p (top_of calls) v)) (under_top calls) ≡ after_op p s.pinned s.number m region s.word x x.op calls
   ret_is v e =
       ap (λ (t : Option ℕ). with_top (set_shadow t (optional_shadow p (top_of calls) v)) (under_top calls)) (sym h.target)
       ∙ ap (λ (o : Op). after_op p s.pinned s.number m region s.word x o calls) (sym e)

@@ -22,7 +22,8 @@ nothing (rs ∷ calls) = refl
 pub starts_not : (n : ℕ) (a : Shadow) (calls : List (List Shadow)) → (n == 0) ≡ true → calls ≡ with_top (started n a) calls
 starts_not n a calls e = nothing calls ∙ with_top_same (λ rs. rs) (started n a) calls (λ rs. ap (λ (b : Bool). if b then rs else slice_set rs 0 a) (sym e))
 
-pub at_top_set : (target : Option ℕ) (g : List Shadow → Shadow) (calls : List (List Shadow)) → with_top (set_shadow target (g (top_of calls))) calls ≡ with_top (λ rs. set_shadow target (g rs) rs) calls
+pub at_top_set : (target : Option ℕ) (g : List Shadow → Shadow) (calls : List (List Shadow)) →
+    with_top (set_shadow target (g (top_of calls))) calls ≡ with_top (λ rs. set_shadow target (g rs) rs) calls
 at_top_set target g [] = refl
 at_top_set target g (rs ∷ calls) = refl
 
@@ -42,7 +43,8 @@ module _ (p : NumberedProgram) (m : Moment) (e : Event) (a : Shadow) (x : Instr)
   pub print_is : (kind : TurnKind) → kind ≡ turns.Putchar → with_top (λ rs. set_shadow x.result (low_byte (operand_at p rs x.op 0)) rs) calls ≡ after_event p m e kind a x calls
   print_is kind k = ap (λ (z : TurnKind). after_event p m e z a x calls) (sym k)
 
-  pub answer_is : (kind : TurnKind) → (kind ≡ turns.Start → ⊥) → (kind ≡ turns.Exit → ⊥) → (kind ≡ turns.Wait → ⊥) → (kind ≡ turns.Arrive → ⊥) → (kind ≡ turns.Putchar → ⊥) →
+  pub answer_is : (kind : TurnKind) → (kind ≡ turns.Start → ⊥) → (kind ≡ turns.Exit → ⊥) → (kind ≡ turns.Wait → ⊥) → (kind ≡ turns.Arrive → ⊥) →
+      (kind ≡ turns.Putchar → ⊥) →
       with_top (set_shadow x.result (always e.reply)) calls ≡ after_event p m e kind a x calls
   answer_is turns.Start h i j k l = absurd (h refl)
   answer_is turns.Exit h i j k l = absurd (i refl)
@@ -51,7 +53,8 @@ module _ (p : NumberedProgram) (m : Moment) (e : Event) (a : Shadow) (x : Instr)
   answer_is turns.Putchar h i j k l = absurd (l refl)
   answer_is kind h i j k l = refl
 
-pub same_words : (p : NumberedProgram) (t : ℕ) (kind : TurnKind) (rs : List Shadow) (o : Op) (words : List Shadow) → (kind ≡ turns.Exit → ⊥) → (kind ≡ turns.Create → ⊥) → words ≡ words_after p t kind rs o words
+pub same_words : (p : NumberedProgram) (t : ℕ) (kind : TurnKind) (rs : List Shadow) (o : Op) (words : List Shadow) → (kind ≡ turns.Exit → ⊥) → (kind ≡ turns.Create → ⊥) →
+    words ≡ words_after p t kind rs o words
 same_words p t turns.Exit rs o words h k = absurd (h refl)
 same_words p t turns.Create rs o words h k = absurd (k refl)
 same_words p t kind rs o words h k = refl

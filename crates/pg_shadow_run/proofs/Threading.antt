@@ -1,5 +1,5 @@
 -- The threads of a run, one of which is made.
-use Rattle.std.proofs.Common.{◌≡◌, ℕ, List, [], ◌∷◌, ◌++◌, length, slice_index, arith, refl, ap, sym, ◌∙◌}
+use Rattle.std.proofs.Common.{◌≡◌, ℕ, List, [], ◌∷◌, ◌++◌, length, slice_index, arith, refl, ap, sym, ◌∙◌, zero, suc, ◌<◌, slice_index_or, slice_set}
 use Rattle.pg_ir.specs.Program.{NumberedProgram}
 use Rattle.pg_nodes.specs.Nodes.{NodeList}
 use Rattle.pg_trace.specs.declared.step.Event.{Event}
@@ -7,7 +7,7 @@ use Rattle.pg_trace.specs.declared.turn.TurnKind.{TurnKind}
 use Rattle.pg_trace.specs.declared.turn.TurnKind.TheVariants as turns
 use Rattle.pg_closed.specs.Extents.{Extent}
 use Rattle.pg_closed.specs.Shadows.{Shadow}
-use Rattle.pg_closed.specs.Known.{ThreadShadow, fresh_thread, threads_after}
+use Rattle.pg_closed.specs.Known.{ThreadShadow, fresh_thread, threads_after, on_thread}
 use Rattle.pg_sources.specs.Sources.{Grew}
 use Rattle.pg_shadow_run.specs.Sourced.{AreCalls, CallList, calls_by}
 use Rattle.pg_shadow_run.specs.Threads.{AreThreads, thread_by, threads_by}
@@ -29,11 +29,26 @@ pub threads_push : (n : ℕ) (ts : List CallList) (t : CallList) → AreThreads 
 threads_push n [] t a h = (h, tt)
 threads_push n (u ∷ ts) t a h = (a.0, threads_push n ts t a.1 h)
 
-pub one_thread : (ns : NodeList) (ts : List CallList) (t : CallList) (extents : List (List Extent)) → length extents ≡ length ts → threads_by ns (ts ++ t ∷ []) (extents ++ [] ∷ []) ≡ threads_by ns ts extents ++ thread_by ns t [] ∷ []
+pub one_thread : (ns : NodeList) (ts : List CallList) (t : CallList) (extents : List (List Extent)) → length extents ≡ length ts →
+    threads_by ns (ts ++ t ∷ []) (extents ++ [] ∷ []) ≡ threads_by ns ts extents ++ thread_by ns t [] ∷ []
 one_thread ns [] t [] e = refl
 one_thread ns [] t (es ∷ extents) e = absurd (omega arith)
 one_thread ns (u ∷ ts) t [] e = absurd (omega arith)
 one_thread ns (u ∷ ts) t (es ∷ extents) e = ap (λ xs. thread_by ns u es ∷ xs) (one_thread ns ts t extents (omega arith))
 
-pub create_is : (p : NumberedProgram) (e : Event) (kind : TurnKind) (threads : List ThreadShadow) → kind ≡ turns.Create → threads ++ fresh_thread p (slice_index e.operands 2) ∷ [] ≡ threads_after p e kind threads
+pub create_is : (p : NumberedProgram) (e : Event) (kind : TurnKind) (threads : List ThreadShadow) → kind ≡ turns.Create →
+    threads ++ fresh_thread p (slice_index e.operands 2) ∷ [] ≡ threads_after p e kind threads
 create_is p e kind threads h = ap (λ (k : TurnKind). threads_after p e k threads) (sym h)
+
+-- one thread changed, and nodes were added
+pub on_one : (old new : NodeList) (f : List (List Shadow) → List (List Shadow)) (t : ℕ) (ts : List CallList) (calls : CallList) (extents : List (List Extent)) → Grew old new →
+    AreThreads (length old) ts → length extents ≡ length ts → t < length ts →
+    calls_by new calls ≡ f (calls_by old (slice_index_or ts t [])) → threads_by new (slice_set ts t calls) extents ≡ on_thread f t (threads_by old ts extents)
+on_one old new f t [] calls extents g a l h e = absurd (omega arith)
+on_one old new f t (u ∷ ts) calls [] g a l h e = absurd (omega arith)
+on_one old new f zero (u ∷ ts) calls (es ∷ extents) g a l h e =
+    ap (λ (cs : List (List Shadow)). let s : ThreadShadow = record { calls = cs; extents = es } in s ∷ threads_by new ts extents) e
+    ∙ ap (λ (xs : List ThreadShadow). let s : ThreadShadow = record { calls = f (calls_by old u); extents = es } in s ∷ xs) (threads_kept old new ts extents g a.1)
+on_one old new f (suc t) (u ∷ ts) calls (es ∷ extents) g a l h e =
+    ap (λ (x : ThreadShadow). x ∷ threads_by new (slice_set ts t calls) extents) (one_kept old new u es g a.0)
+    ∙ ap (λ (xs : List ThreadShadow). thread_by old u es ∷ xs) (on_one old new f t ts calls extents g a.1 (omega arith) (omega arith) e)

@@ -1,4 +1,5 @@
--- What an event needs of its instruction, so that the operands that count can be read.
+-- Which operands are read of an instruction at a step.
+use Rattle.std.specs.Prelude.{◌≡◌, ℕ}
 use Rattle.pg_ir.specs.declared.instr.Op.{Op}
 use Rattle.pg_ir.specs.declared.instr.Op.TheVariants as op
 use Rattle.pg_trace.specs.declared.turn.TurnKind.{TurnKind}
@@ -19,3 +20,13 @@ HasOperands turns.Putchar o = IsKnownCall o
 HasOperands turns.Create o = IsKnownCall o
 HasOperands turns.Exit o = IsExit o
 HasOperands kind o = Unit {0}
+
+-- the operands that decisions and conditions ask for: a branch's, an address, what is stored, and those of calls of functions
+-- that the program doesn't define
+abbrev pub IsAsked : Op → ℕ → Type 0
+IsAsked (op.CondBr c a b) k = Unit {0}
+IsAsked (op.Switch w on other cases) k = k ≡ 0
+IsAsked (op.Load w from) k = Unit {0}
+IsAsked (op.Store w v at) k = Unit {0}
+IsAsked (op.CallKnown f args) k = Unit {0}
+IsAsked o k = ⊥

@@ -103,7 +103,8 @@ impl ThreadSources {
         ensures grew { Grew nodes.old nodes.new }
         ensures is { OnOk result (AreCalls (length nodes.new) self.new) }
         ensures same { OnErr result (self.new ≡ self.old) }
-        ensures value { (m : Moment) → function_in m.calls ≡ function → OnOk result (calls_by nodes.new self.new ≡ along.after_event p.now m e e.kind (shadow_by nodes.old argument) x.now (calls_by nodes.old self.old)) }
+        ensures value { (m : Moment) → function_in m.calls ≡ function
+            → OnOk result (calls_by nodes.new self.new ≡ along.after_event p.now m e e.kind (shadow_by nodes.old argument) x.now (calls_by nodes.old self.old)) }
     {
         match e.kind {
             TurnKind::Start => {
@@ -123,7 +124,8 @@ impl ThreadSources {
 
     /// A live load or store, by what a load gives.
     pub fn after_access(&mut self, x: &Instr, loaded: Source)
-        ensures value { (ns : NodeList) (p : NumberedProgram) (exact : Bool) (n : ℕ) (a : Access) (bytes : ℕ → Shadow) → ((w : Width) (from : Value) → x.now.op ≡ Load w from → shadow_by ns loaded ≡ load_of exact n w a bytes)
+        ensures value { (ns : NodeList) (p : NumberedProgram) (exact : Bool) (n : ℕ) (a : Access) (bytes : ℕ → Shadow)
+            → ((w : Width) (from : Value) → x.now.op ≡ Load w from → shadow_by ns loaded ≡ load_of exact n w a bytes)
             → calls_by ns self.new ≡ with_top (along.after_access p exact n a bytes x.now x.now.op) (calls_by ns self.old) }
         ensures is { (n : ℕ) → AreCalls n self.old → IsSource n loaded → AreCalls n self.new }
     {

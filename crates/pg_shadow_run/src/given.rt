@@ -8,13 +8,13 @@ ghost use Rattle.pg_closed.specs.Shadows.{shadow_of, unset};
 ghost use Rattle.pg_sources.specs.Sources.{Grew, IsSource, shadow_by};
 ghost use Rattle.pg_sources.specs.Forms.{CastFits};
 ghost use Rattle.pg_shadow_run.specs.Sourced.{AreSources, registers_by};
-ghost use Rattle.pg_shadow_run.specs.Events.{IsKnownCall};
+ghost use Rattle.pg_shadow_run.specs.Events.{IsAsked, IsKnownCall};
 ghost use Rattle.pg_shadow_run.specs.Steps.{given_shadow, is_straight, known_shadow};
 
 use crate::operands::{computed, optional};
 use pg_ir::{Known, Op, Program, Value};
 use pg_nodes::Nodes;
-use pg_sources::{Source, constant, from_input, input_length, low_byte};
+use pg_sources::{Source, constant, from_input, input_length, low_byte, value};
 use std::alloc::{AllocError, Global};
 
 /// An argument of a call, by the registers of its frame; where there is none, one that was never set.
@@ -51,6 +51,36 @@ pub(crate) fn call_argument(
     ensures value { IfOk result (λ s. shadow_by nodes.new s ≡ operand_at p.now (registers_by nodes.old registers.now) op.now k) }
 {
     match op {
+        Op::CallKnown { args, .. } => argument(nodes, p, args.as_slice(), k, registers),
+        _ => unreachable!(),
+    }
+}
+
+/// An operand that decisions and conditions ask for, by the registers of its frame; where there is none, one that was never
+/// set.
+///
+/// # Errors
+///
+/// Where no memory is left for its node.
+pub fn operand(
+    nodes: &mut Nodes,
+    p: &Program,
+    op: &Op,
+    k: usize,
+    registers: &[Source],
+) -> Result<Source, AllocError>
+    requires asked { IsAsked op.now k }
+    requires read { CanReadAll p.now (length registers.now) op.now }
+    requires sources { AreSources (length nodes.old) registers.now }
+    ensures grew { Grew nodes.old nodes.new }
+    ensures is { IfOk result (IsSource (length nodes.new)) }
+    ensures value { IfOk result (λ s. shadow_by nodes.new s ≡ operand_at p.now (registers_by nodes.old registers.now) op.now k) }
+{
+    match op {
+        Op::CondBr { cond, .. } => argument(nodes, p, &[*cond], k, registers),
+        Op::Switch { on, .. } => value(nodes, p, *on, registers),
+        Op::Load { from, .. } => argument(nodes, p, &[*from], k, registers),
+        Op::Store { value, at, .. } => argument(nodes, p, &[*value, *at], k, registers),
         Op::CallKnown { args, .. } => argument(nodes, p, args.as_slice(), k, registers),
         _ => unreachable!(),
     }
@@ -107,7 +137,8 @@ fn known_given(
     requires sources { AreSources (length nodes.old) registers.now }
     ensures grew { Grew nodes.old nodes.new }
     ensures is { IfOk result (λ o. IfSome o (IsSource (length nodes.new))) }
-    ensures value { IfOk result (λ o. option_map (shadow_by nodes.new) o ≡ known_shadow function word (slice_index_or (map (shadow_of p.now (registers_by nodes.old registers.now)) args.now) 0 unset)) }
+    ensures value { IfOk result (λ o. option_map (shadow_by nodes.new) o
+        ≡ known_shadow function word (slice_index_or (map (shadow_of p.now (registers_by nodes.old registers.now)) args.now) 0 unset)) }
 {
     match function {
         Known::PgIn => Ok(Some(read_input(nodes, p, args, registers)?)),

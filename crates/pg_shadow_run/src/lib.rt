@@ -6,6 +6,7 @@ mod edges;
 mod entered;
 mod events;
 mod given;
+pub mod laws;
 mod operands;
 mod registers;
 mod step;
@@ -14,7 +15,8 @@ mod thread;
 mod threads;
 mod words;
 
+pub use given::operand;
 pub use step::OpStep;
 pub use thread::ThreadSources;
-pub use threads::create;
+pub use threads::after_create;
 pub use words::words_after;

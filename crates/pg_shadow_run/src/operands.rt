@@ -133,7 +133,8 @@ fn operands(
 
 /// A result, where it is a moved pointer that isn't known with the frame of its base.
 fn with_frame(op: &Op, operands: &[Source], s: Source) -> Source
-    ensures value { (ns : NodeList) (ss : List Shadow) → shadow_by ns s ≡ result_of op.now ss → registers_by ns operands.now ≡ ss → length operands.now ≡ length (operands_of op.now) → shadow_by ns result ≡ result_by op.now ss }
+    ensures value { (ns : NodeList) (ss : List Shadow) → shadow_by ns s ≡ result_of op.now ss
+        → registers_by ns operands.now ≡ ss → length operands.now ≡ length (operands_of op.now) → shadow_by ns result ≡ result_by op.now ss }
     ensures is { (n : ℕ) → AreSources n operands.now → IsSource n s → IsSource n result }
 {
     match op {

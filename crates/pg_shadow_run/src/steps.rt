@@ -97,7 +97,8 @@ impl ThreadSources {
         ensures grew { Grew nodes.old nodes.new }
         ensures is { OnOk result (AreCalls (length nodes.new) self.new) }
         ensures same { OnErr result (self.new ≡ self.old) }
-        ensures value { OnOk result (calls_by nodes.new self.new ≡ with_top (set_shadow target (optional_shadow p.now (top_of (calls_by nodes.old self.old)) v)) (under_top (calls_by nodes.old self.old))) }
+        ensures value { OnOk result (calls_by nodes.new self.new
+            ≡ with_top (set_shadow target (optional_shadow p.now (top_of (calls_by nodes.old self.old)) v)) (under_top (calls_by nodes.old self.old))) }
     {
         let s = optional(nodes, p, v, self.registers())?;
         self.leave(target, s);
@@ -129,7 +130,8 @@ impl ThreadSources {
         ensures grew { Grew nodes.old nodes.new }
         ensures is { OnOk result (AreCalls (length nodes.new) self.new) }
         ensures same { OnErr result (self.new ≡ self.old) }
-        ensures value { (m : Moment) (region : Option FreeRegion) → IsStepAt p.now x.now step sets.now m region → OnOk result (calls_by nodes.new self.new ≡ along.after_op p.now step.pinned step.number m region step.word x.now x.now.op (calls_by nodes.old self.old)) }
+        ensures value { (m : Moment) (region : Option FreeRegion) → IsStepAt p.now x.now step sets.now m region
+            → OnOk result (calls_by nodes.new self.new ≡ along.after_op p.now step.pinned step.number m region step.word x.now x.now.op (calls_by nodes.old self.old)) }
     {
         match &x.op {
             Op::Br { .. } => self.along_edge(alloc, nodes, p, x.block, step.edge),

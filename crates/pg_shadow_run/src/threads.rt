@@ -24,7 +24,8 @@ fn push_thread(
     ensures grew { Grew nodes.old nodes.new }
     ensures is { OnOk result (AreThreads (length nodes.new) threads.new.items) }
     ensures same { OnErr result (threads.new.items ≡ threads.old.items) }
-    ensures value { (extents : List (List Extent)) → length extents ≡ length threads.old.items → OnOk result (threads_by nodes.new threads.new.items (extents ++ [] ∷ []) ≡ threads_by nodes.old threads.old.items extents ++ along.fresh_thread p.now f ∷ []) }
+    ensures value { (extents : List (List Extent)) → length extents ≡ length threads.old.items
+        → OnOk result (threads_by nodes.new threads.new.items (extents ++ [] ∷ []) ≡ threads_by nodes.old threads.old.items extents ++ along.fresh_thread p.now f ∷ []) }
 {
     let thread = ThreadSources::new(alloc, nodes, p, f)?;
     threads.push(thread)?;
@@ -36,7 +37,7 @@ fn push_thread(
 /// # Errors
 ///
 /// Where no memory is left. Nodes may have been added; the threads are as before.
-pub fn create(
+pub fn after_create(
     alloc: Global,
     nodes: &mut Nodes,
     p: &Program,
@@ -49,7 +50,8 @@ pub fn create(
     ensures grew { Grew nodes.old nodes.new }
     ensures is { OnOk result (AreThreads (length nodes.new) threads.new.items) }
     ensures same { OnErr result (threads.new.items ≡ threads.old.items) }
-    ensures value { (extents : List (List Extent)) → length extents ≡ length threads.old.items → OnOk result (threads_by nodes.new threads.new.items (extents ++ [] ∷ []) ≡ along.threads_after p.now e e.kind (threads_by nodes.old threads.old.items extents)) }
+    ensures value { (extents : List (List Extent)) → length extents ≡ length threads.old.items
+        → OnOk result (threads_by nodes.new threads.new.items (extents ++ [] ∷ []) ≡ along.threads_after p.now e e.kind (threads_by nodes.old threads.old.items extents)) }
 {
     p.facts();
     push_thread(alloc, nodes, p, e.operands[2] as u32, threads)

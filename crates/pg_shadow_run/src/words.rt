@@ -86,7 +86,8 @@ fn hand_on(
     ensures grew { Grew nodes.old nodes.new }
     ensures is { OnOk result (AreSources (length nodes.new) words.new.items) }
     ensures same { OnErr result (words.new.items ≡ words.old.items) }
-    ensures value { OnOk result (registers_by nodes.new words.new.items ≡ slice_set (registers_by nodes.old words.old.items) thread (exit_shadow p.now thread (registers_by nodes.old registers.now) op.now)) }
+    ensures value { OnOk result (registers_by nodes.new words.new.items
+        ≡ slice_set (registers_by nodes.old words.old.items) thread (exit_shadow p.now thread (registers_by nodes.old registers.now) op.now)) }
 {
     let s = exit_source(nodes, p, thread, op, registers)?;
     put_word(words, thread, s);
@@ -137,7 +138,8 @@ pub fn words_after(
     ensures grew { Grew nodes.old nodes.new }
     ensures is { OnOk result (AreSources (length nodes.new) words.new.items) }
     ensures same { OnErr result (words.new.items ≡ words.old.items) }
-    ensures value { OnOk result (registers_by nodes.new words.new.items ≡ along.words_after p.now thread kind (registers_by nodes.old registers.now) op.now (registers_by nodes.old words.old.items)) }
+    ensures value { OnOk result (registers_by nodes.new words.new.items
+        ≡ along.words_after p.now thread kind (registers_by nodes.old registers.now) op.now (registers_by nodes.old words.old.items)) }
 {
     match kind {
         TurnKind::Exit => hand_on(nodes, p, thread, op, registers, words),

@@ -23,7 +23,8 @@ fn scaled(nodes: &mut Nodes, width: Width, scale: u64, index: u32) -> Result<u32
     ensures grew { Grew nodes.old nodes.new }
     ensures is { IfOk result (λ k. k < length nodes.new) }
     ensures value { IfOk result
-        (λ k. (input : List ℤ) → number_by nodes.new k input ≡ with_one (number_by nodes.old index input) (λ m. Some (product_of W64 (truncated W64 (sign_extended width W64 (truncated width m))) (truncated W64 scale)))) }
+        (λ k. (input : List ℤ) → number_by nodes.new k input ≡ with_one (number_by nodes.old index input)
+        (λ m. Some (product_of W64 (truncated W64 (sign_extended width W64 (truncated width m))) (truncated W64 scale)))) }
 {
     let wide = added(
         nodes,
@@ -104,7 +105,8 @@ pub(crate) fn moved_along(
     ensures grew { Grew nodes.old nodes.new }
     ensures is { IfOk result (λ k. k < length nodes.new) }
     ensures value { IfOk result
-        (λ k. (input : List ℤ) → number_by nodes.new k input ≡ moved_each (number_by nodes.old (forms.node_at operands.now 0) input) indices.now (drop 1 (numbers_from nodes.old operands.now input))) }
+        (λ k. (input : List ℤ) → number_by nodes.new k input ≡ moved_each (number_by nodes.old (forms.node_at operands.now 0) input)
+        indices.now (drop 1 (numbers_from nodes.old operands.now input))) }
 {
     let mut word = node_at(operands, 0);
     for i in 0..indices.len() {

@@ -2,7 +2,7 @@ use Rattle.std.proofs.Common.{◌∙◌}
 use Rattle.std.proofs.lemmas.Result.{on_ok_weaker}
 use Rattle.pg_shadow_run.specs.Threads.{threads_by}
 use Rattle.pg_shadow_run.proofs.Threading.{create_is}
-use Rattle.pg_shadow_run.proofs.threads.create.Goals as goal
+use Rattle.pg_shadow_run.proofs.threads.after_create.Goals as goal
 
 pub returns-clause-value : goal.returns-clause-value
 returns-clause-value c extents h =
