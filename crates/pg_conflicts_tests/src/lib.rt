@@ -1,0 +1,7 @@
+//! Tests of conflicts of byte ranges: the two forms compared on made prints, and worked rows.
+#![tactic(auto)]
+
+#[cfg(test)]
+mod made;
+#[cfg(test)]
+mod rows;

@@ -1,0 +1,115 @@
+//! Prints that a generator makes, on which both forms agree.
+
+ghost use Rattle.std.specs.Prelude.{◌≡◌, ◌<◌, ◌≤◌, IfOk};
+ghost use Rattle.pg_conflicts.specs.Meets.{InOrder};
+
+use pg_conflicts::{Footprint, conflicts, conflicts_by_pairs};
+use pg_ir::ThreadNo;
+use std::alloc::{AllocError, Global};
+use std::process::Abort;
+use std::test::Fail;
+
+/// The next number of a generator.
+fn next(state: u64) -> u64 {
+    state
+        .wrapping_mul(6_364_136_223_846_793_005)
+        .wrapping_add(1_442_695_040_888_963_407)
+}
+
+/// A number below a bound, of a generator's state.
+fn below(state: u64, bound: u64) -> u64
+    requires { 0 < bound }
+{
+    (state >> 20) % bound
+}
+
+/// How prints are made: of how many threads, among how many bytes, and how long they and their intervals are.
+#[derive(Clone, Copy)]
+struct Kind {
+    threads: u64,
+    bytes: u64,
+    length: u64,
+    turns: u64,
+}
+
+/// A print whose last turn is this one.
+fn made(kind: Kind, low: u32, state: u64) -> Footprint
+    requires threads { 0 < kind.threads }
+    requires bytes { 0 < kind.bytes }
+    requires length { 0 < kind.length }
+    requires turns { 0 < kind.turns }
+    ensures low { result.low ≡ low }
+    ensures high { low ≤ result.high }
+{
+    let a = next(state);
+    let b = next(a);
+    let c = next(b);
+    let d = next(c);
+    let e = next(d);
+    Footprint {
+        thread: ThreadNo((below(a, kind.threads) % 256) as u8),
+        low,
+        high: low.saturating_add((below(b, kind.turns) % 65536) as u32),
+        start: below(c, kind.bytes),
+        bytes: below(d, kind.length),
+        writes: below(e, 3) == 0,
+        of_region: below(next(e), 2) == 0,
+    }
+}
+
+/// So many prints in order.
+fn prints(alloc: Global, kind: Kind, count: u32) -> Result<Vec<Footprint>, AllocError>
+    requires threads { 0 < kind.threads }
+    requires bytes { 0 < kind.bytes }
+    requires length { 0 < kind.length }
+    requires turns { 0 < kind.turns }
+    ensures { IfOk result (λ v. InOrder v.items) }
+{
+    let mut prints = Vec::new(alloc);
+    let mut state = 7;
+    for k in 0..count {
+        state = next(state);
+        prints.push(made(kind, k, state))?;
+    }
+    Ok(prints)
+}
+
+/// How many of the answers are set, which both forms give alike.
+fn agree(rt: &impl Abort, alloc: Global, kind: Kind, count: u32) -> Result<usize, Fail>
+    requires threads { 0 < kind.threads }
+    requires bytes { 0 < kind.bytes }
+    requires length { 0 < kind.length }
+    requires turns { 0 < kind.turns }
+{
+    let prints = prints(alloc, kind, count)?;
+    let fast = conflicts(alloc, prints.as_slice())?;
+    let plain = conflicts_by_pairs(alloc, prints.as_slice())?;
+    assert_eq!(rt; fast.as_slice(), plain.as_slice());
+    Ok(plain.as_slice().iter().filter(|b| **b).count())
+}
+
+#[test]
+fn both_forms_agree_on_short_ranges(rt: HostRuntime) -> Result<(), Fail> {
+    let kind = Kind {
+        threads: 3,
+        bytes: 400,
+        length: 9,
+        turns: 120,
+    };
+    let met = agree(&rt, rt.alloc(), kind, 700)?;
+    assert_eq!(rt; met, 223);
+    Ok(())
+}
+
+#[test]
+fn both_forms_agree_on_long_ranges(rt: HostRuntime) -> Result<(), Fail> {
+    let kind = Kind {
+        threads: 8,
+        bytes: 1 << 40,
+        length: 1 << 38,
+        turns: 9,
+    };
+    let met = agree(&rt, rt.alloc(), kind, 500)?;
+    assert_eq!(rt; met, 207);
+    Ok(())
+}
