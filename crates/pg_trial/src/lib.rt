@@ -1,0 +1,9 @@
+//! The trial: its program, and its lines of input.
+#![tactic(auto)]
+
+pub mod laws;
+mod line;
+mod program;
+
+pub use line::{TRIAL_LINES, TRIAL_LIMIT, trial_line};
+pub use program::trial_program;
