@@ -13,7 +13,7 @@ use Rattle.pg_reference.specs.Kept.{FitsBy, FitsIn, FitsRow, free_by, free_in, l
 use Rattle.pg_reference.specs.Landmarks.{Landmark}
 use Rattle.pg_reference.specs.Paths.{access_at, accesses_with}
 
-drop_front : (xs ys : List At) (n : ℕ) → n ≤ length xs → drop n (xs ++ ys) ≡ drop n xs ++ ys
+pub drop_front : (xs ys : List At) (n : ℕ) → n ≤ length xs → drop n (xs ++ ys) ≡ drop n xs ++ ys
 drop_front xs ys zero h = refl
 drop_front [] ys (suc n) h = absurd (omega (arith, h))
 drop_front (x ∷ xs) ys (suc n) h = drop_front xs ys n (omega (arith, h))
@@ -22,7 +22,7 @@ pub drop_all : (xs ys : List At) → drop (length xs) (xs ++ ys) ≡ ys
 drop_all [] ys = refl
 drop_all (x ∷ xs) ys = drop_all xs ys
 
-length_drop : (xs : List At) (n : ℕ) → n ≤ length xs → n + length (drop n xs) ≡ length xs
+pub length_drop : (xs : List At) (n : ℕ) → n ≤ length xs → n + length (drop n xs) ≡ length xs
 length_drop xs zero h = omega arith
 length_drop [] (suc n) h = absurd (omega (arith, h))
 length_drop (x ∷ xs) (suc n) h = omega (arith, length_drop xs n (omega (arith, h)))

@@ -3,7 +3,7 @@ ghost use Rattle.std.specs.Prelude.{◌≡◌, ◌<◌, Some, drop, length, slic
 use pg_accesses::Rooted;
 
 /// Where a path leads at a step: the pointers from which its loads read, in their order, and the last pointer.
-#[derive(Clone, Copy)]
+#[derive(Clone, Copy, PartialEq, Eq)]
 pub struct At {
     pub(crate) pointers: [u64; 4],
     pub(crate) last: u64,
@@ -33,4 +33,11 @@ pub(crate) fn rooted_at(accesses: &[Rooted], i: usize) -> Rooted
     ensures { slice_get accesses.now i ≡ Some result }
 {
     accesses[i]
+}
+
+/// Where the path with this number leads, if there is one.
+pub(crate) fn at_if(ats: &[At], k: usize) -> Option<At>
+    ensures { result ≡ slice_get ats.now k }
+{
+    ats.get(k).copied()
 }

@@ -9,6 +9,7 @@ use crate::at::{At, cut, from};
 use crate::follow::follow_each;
 use crate::found::{FoundRegion, Regions, Sought};
 use crate::row::FreeStep;
+use crate::share::shared;
 use pg_accesses::Rooted;
 use pg_ir::{Program, ThreadNo};
 use pg_machine::Machine;
@@ -74,7 +75,7 @@ fn region_number(regions: &Regions, block: u32) -> Option<u32>
     }
 }
 
-/// Adds where the accesses of a region lead, if it makes a step of a thread freeable; else adds nothing.
+/// Adds where the accesses of a region lead, unless they lead where they did last, if it makes a step of a thread freeable; else adds nothing.
 fn free_by(
     machine: &Machine,
     p: &Program,
@@ -82,6 +83,7 @@ fn free_by(
     regions: &[FoundRegion],
     number: u32,
     ats: &mut Vec<At>,
+    last: &mut [Option<u32>],
 ) -> Result<Option<FreeStep>, AllocError>
     ensures { IfOk result (λ f. (xs : List At) × IsFreed (freed p.now machine.now.state t.0 (slice_get regions.now number)) regions.now ats.old.items ats.new.items xs f) }
 {
@@ -96,9 +98,10 @@ fn free_by(
             if !apart {
                 return Ok(None);
             }
+            let first = shared(last, ats, number, first as u32, region.accesses.len());
             Ok(Some(FreeStep {
                 region: number,
-                first: first as u32,
+                first,
             }))
         }
     }
@@ -111,6 +114,7 @@ pub(crate) fn free_step(
     regions: &Regions,
     step: &Step,
     ats: &mut Vec<At>,
+    last: &mut [Option<u32>],
 ) -> Result<Option<FreeStep>, AllocError>
     requires { step.now.instr.0 < length p.now.instrs }
     ensures { IfOk result (λ f. (xs : List At) × IsFreed (freed_in p.now regions.now.blocks.items regions.now.regions.items machine.now.state step.now) regions.now.regions.items ats.old.items ats.new.items xs f) }
@@ -126,6 +130,7 @@ pub(crate) fn free_step(
             regions.regions.as_slice(),
             number,
             ats,
+            last,
         ),
         None => Ok(None),
     }

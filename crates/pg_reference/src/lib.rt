@@ -13,6 +13,7 @@ mod replay;
 mod row;
 mod run;
 mod seek;
+mod share;
 mod step;
 mod targets;
 

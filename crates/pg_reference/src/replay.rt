@@ -18,7 +18,7 @@ use crate::row::Row;
 use crate::run::ReferenceRun;
 use crate::seek::regions_of;
 use crate::step::{row_of, take_step};
-use crate::targets::Targets;
+use crate::targets::{Targets, none_of};
 use pg_accesses::Summary;
 use pg_ir::{InstrId, Program};
 use pg_machine::Machine;
@@ -35,6 +35,7 @@ fn replay(
     targets: &mut Targets,
     rows: &mut Vec<Row>,
     ats: &mut Vec<At>,
+    last: &mut [Option<u32>],
 ) -> Result<(), AllocError>
     requires of { IsMachine p.now machine.old.state }
     requires targets { AreTargets p.now targets.old.kept.items machine.old.state }
@@ -45,7 +46,7 @@ fn replay(
 {
     for i in 0..t.len() {
         let step = t.step(i);
-        let row = row_of(machine, p, regions, targets, &step, ats)?;
+        let row = row_of(machine, p, regions, targets, &step, ats, last)?;
         rows.push(row)?;
         take_step(alloc, p, machine, targets, &step)?;
     }
@@ -69,6 +70,7 @@ fn rows(
     let mut targets = Targets::new(alloc)?;
     let mut rows = Vec::with_capacity(alloc, t.len())?;
     let mut ats = Vec::new(alloc);
+    let mut last = none_of(alloc, regions.regions.len())?;
     replay(
         alloc,
         p,
@@ -78,6 +80,7 @@ fn rows(
         &mut targets,
         &mut rows,
         &mut ats,
+        last.as_mut_slice(),
     )?;
     Ok((rows, ats))
 }

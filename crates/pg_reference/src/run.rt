@@ -6,7 +6,7 @@ ghost use Rattle.pg_reference.specs.Given.{access_as};
 ghost use Rattle.pg_reference.specs.Paths.{access_at, accesses_with};
 ghost use Rattle.pg_reference.specs.Kept.{free_at, landmark_at, region_by, step_count};
 
-use crate::at::{At, from};
+use crate::at::{At, at_if, from};
 use crate::found::FoundRegion;
 use crate::row::{FreeStep, Row};
 use pg_accesses::Rooted;
@@ -148,13 +148,6 @@ fn rooted_if(accesses: &[Rooted], k: usize) -> Option<Rooted>
     ensures { result ≡ slice_get accesses.now k }
 {
     accesses.get(k).copied()
-}
-
-/// Where the path with this number leads, if there is one.
-fn at_if(ats: &[At], k: usize) -> Option<At>
-    ensures { result ≡ slice_get ats.now k }
-{
-    ats.get(k).copied()
 }
 
 /// The access with this number among those of a region, where its path leads there.

@@ -30,6 +30,7 @@ pub(crate) fn row_of(
     targets: &Targets,
     step: &Step,
     ats: &mut Vec<At>,
+    last: &mut [Option<u32>],
 ) -> Result<Row, AllocError>
     requires { step.now.instr.0 < length p.now.instrs }
     ensures depth { IfOk result (λ r. r.depth ≡ depth_of machine.now.state step.now.thread.0) }
@@ -39,7 +40,7 @@ pub(crate) fn row_of(
     ensures free { IfOk result (λ r. (xs : List At) × IsFreed (freed_in p.now regions.now.blocks.items regions.now.regions.items machine.now.state step.now) regions.now.regions.items ats.old.items ats.new.items xs r.free) }
 {
     let depth = machine.depth(step.thread);
-    let free = free_step(machine, p, regions, step, ats)?;
+    let free = free_step(machine, p, regions, step, ats, last)?;
     Ok(Row {
         depth,
         function: p.block(p.instr(step.instr).block).function,

@@ -15,7 +15,7 @@ pub(crate) struct Targets {
 }
 
 /// So many times no register.
-fn none_of(alloc: Global, count: usize) -> Result<Vec<Option<u32>>, AllocError>
+pub(crate) fn none_of(alloc: Global, count: usize) -> Result<Vec<Option<u32>>, AllocError>
     ensures { IfOk result (λ targets. targets.items ≡ replicate count None) }
 {
     vec![in alloc; None; count]
