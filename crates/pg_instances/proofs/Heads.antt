@@ -199,9 +199,6 @@ module _ (p : NumberedProgram) (gates : List InstrId) (sums : ℕ → Option Roo
         later o c u (inr q) = absurd (no_open q o (sub o (there e us o c)))
         later o c u (inl q) = open_ends p gates sums regions are moments free_of block_of program summaries input small s w z t l x xs y h run together next q o e (opens o (sub o (there e us o c))) (opens e (sub e (here e us))) (k.0 o c) u
 
-    new_extent : FreeRegion → Extent
-    new_extent r = record { step = y.number; join = r.join; depth = depth_of y }
-
     begun_stacked : (o : Option FreeRegion) → y.region ≡ o → AreStacked (depth_of y) (edge_at R y) (begun y.number (depth_of y) o es)
     begun_stacked None e = older_stacked es (λ u c. c) stack
     begun_stacked (Some r) e = (λ o c u. later o c u took_one.did, older_stacked es (λ u c. c) stack)

@@ -22,6 +22,7 @@ use Rattle.pg_instances.specs.Free.{instance_of}
 use Rattle.pg_instances.specs.Inside.{IsAtBranch, IsBranch, registers_by}
 use Rattle.pg_reference.specs.OfRegions.{free_access}
 
+-- the registers of the present call at a recorded moment
 abbrev pub recorded_registers : Moment → ℕ → Option ℕ
 recorded_registers m = registers_by (registers_in m.calls)
 

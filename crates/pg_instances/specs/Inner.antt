@@ -38,7 +38,8 @@ pub record GoesOnInside (I : Instance) (gated : List InstrId) (input : List ℤ)
 -- at a branch the region's accesses lead from here to recorded frames of accesses of their kind; and in the branch's frame of
 -- the instance the inner region lies in the outer one, and its join is the outer one's or lies there too
 pub record LiesWithin (outer inner : Region) (I : Instance) (s : State) (frame : Frame) (below : List Frame) : Type 0 where
-  pub leads : (a : Rooted) (at : Followed) → Contains inner.accesses.items a → followed I.program (registers_by frame.registers) (read s.memory) a.path ≡ Some at → LeadsTo I.recorded a.writes (frame_of at.last)
+  pub leads : (a : Rooted) (at : Followed) → Contains inner.accesses.items a → followed I.program (registers_by frame.registers) (read s.memory) a.path ≡ Some at →
+      LeadsTo I.recorded a.writes (frame_of at.last)
   pub nested : length below ≡ length I.lower → AreNested outer inner
 
 abbrev pub InnerRegionsLieWithin : Type 0

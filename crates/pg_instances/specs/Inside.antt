@@ -27,6 +27,7 @@ use Rattle.pg_instances.specs.Leads.{IsLoaded, IsReached, Leads, HasPath}
 
 -- ---- instances
 
+-- the value of a register, if it was set
 abbrev pub registers_by : List (Option ℕ) → ℕ → Option ℕ
 registers_by rs r = flat (slice_get rs r)
 
@@ -79,11 +80,14 @@ pub record StandsIn (I : Instance) (a : QuietSet) (f : Frame) : Type 0 where
   pub place : f.place ≡ first_of I.program block + behind
   pub within : f.place < end_of I.program block
   pub kept : (r : ℕ) → sets I.program a.blocks r ≡ false → registers_by f.registers r ≡ a.registers r
-  pub paths : (r : ℕ) (q : Path) (w : ℕ) → register_path (sets I.program a.blocks) (types_of I.program (function_of I.program block)) (passed [] (instrs_of I.program block) behind) r ≡ Some q → registers_by f.registers r ≡ Some w →
+  pub paths : (r : ℕ) (q : Path) (w : ℕ) →
+      register_path (sets I.program a.blocks) (types_of I.program (function_of I.program block)) (passed [] (instrs_of I.program block) behind) r ≡ Some q →
+      registers_by f.registers r ≡ Some w →
       HasPath I.program a.registers I.memory I.recorded q w
 
 -- ---- the calls
 
+-- the set of the branch's frame: the region's blocks, and the registers at the branch step
 abbrev pub region_set : Instance → QuietSet
 region_set I = record { returns = false; blocks = I.blocks; accesses = I.accesses; registers = registers_by I.frame.registers }
 
@@ -157,6 +161,7 @@ edge_taken p rs (op.CondBr c a b) = Some (chosen (given (operand p rs c)) a.0 b.
 edge_taken p rs (op.Switch w on other cases) = Some (case_of cases other.0 (given (operand p rs on)))
 edge_taken p rs _ = None
 
+-- the same of the instruction that stands there, if one does
 abbrev pub edge_at : NumberedProgram → List (Option ℕ) → Option Instr → Option ℕ
 edge_at p rs None = None
 edge_at p rs (Some x) = edge_taken p rs x.op
@@ -173,6 +178,7 @@ pub record Joins (I : Instance) (l z : LocalState) : Type 0 where
 
 -- ---- the branch step
 
+-- a conditional branch or a switch
 abbrev pub IsBranch : Op → Type 0
 IsBranch (op.CondBr c a b) = Unit {0}
 IsBranch (op.Switch w on other cases) = Unit {0}

@@ -34,4 +34,5 @@ pub record HasInstance (I : Instance) (gated : List InstrId) (input : List ℤ) 
   pub changes : ChangesLittle I t s state
 
 abbrev pub RunsHaveInstances : Type 0
-RunsHaveInstances = (I : Instance) (gated : List InstrId) (input : List ℤ) (s z : State) (t : ℕ) (l : LocalState) (xs : List Step) → CanStepInside I gated s t l → IsRun gated I.program input s xs z → AreOf t xs → HasInstance I gated input t s xs z
+RunsHaveInstances = (I : Instance) (gated : List InstrId) (input : List ℤ) (s z : State) (t : ℕ) (l : LocalState) (xs : List Step) → CanStepInside I gated s t l →
+    IsRun gated I.program input s xs z → AreOf t xs → HasInstance I gated input t s xs z

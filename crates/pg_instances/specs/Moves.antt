@@ -16,14 +16,17 @@ use Rattle.pg_closed.specs.Freeable.{frame_of}
 use Rattle.pg_instances.specs.Leads.{IsWithin}
 use Rattle.pg_instances.specs.Inside.{edge_taken}
 
+-- a return
 abbrev pub IsReturn : Op → Type 0
 IsReturn (op.Ret v) = Unit {0}
 IsReturn _ = ⊥
 
+-- a load
 abbrev pub IsLoad : Op → Type 0
 IsLoad (op.Load w from) = Unit {0}
 IsLoad _ = ⊥
 
+-- a store
 abbrev pub IsStore : Op → Type 0
 IsStore (op.Store w v at) = Unit {0}
 IsStore _ = ⊥

@@ -63,7 +63,8 @@ pub record CanStepInside (I : Instance) (gated : List InstrId) (s : State) (t : 
   pub cells : KeepsCells I.recorded I.memory (read s.memory)
 
 abbrev pub StepsInsideStay : Type 0
-StepsInsideStay = (I : Instance) (gated : List InstrId) (input : List ℤ) (s z : State) (t : ℕ) (l : LocalState) (x : Step) → CanStepInside I gated s t l → ready I.program s t ≡ true → step gated I.program input s t ≡ Did x z → StaysInside I t l x s z
+StepsInsideStay = (I : Instance) (gated : List InstrId) (input : List ℤ) (s z : State) (t : ℕ) (l : LocalState) (x : Step) → CanStepInside I gated s t l →
+    ready I.program s t ≡ true → step gated I.program input s t ≡ Did x z → StaysInside I t l x s z
 
 -- ---- a thread alone
 
@@ -73,8 +74,10 @@ StaysUntilJoin I gated input t l s [] = Unit {0}
 StaysUntilJoin I gated input t l s (x ∷ xs) =
     (k : Takes gated I.program input s x) × (j : StaysInside I t l x s k.after) × (Joins I l j.local ⊎ (IsInside I j.local × StaysUntilJoin I gated input t j.local k.after xs))
 
+-- all steps are of thread t
 abbrev pub AreOf : ℕ → List Step → Type 0
 AreOf t xs = AllByRecursion (λ (x : Step). x.thread.0 ≡ t) xs
 
 abbrev pub TheThreadAlone : Type 0
-TheThreadAlone = (I : Instance) (gated : List InstrId) (input : List ℤ) (s z : State) (t : ℕ) (l : LocalState) (xs : List Step) → CanStepInside I gated s t l → IsRun gated I.program input s xs z → AreOf t xs → StaysUntilJoin I gated input t l s xs
+TheThreadAlone = (I : Instance) (gated : List InstrId) (input : List ℤ) (s z : State) (t : ℕ) (l : LocalState) (xs : List Step) → CanStepInside I gated s t l →
+    IsRun gated I.program input s xs z → AreOf t xs → StaysUntilJoin I gated input t l s xs

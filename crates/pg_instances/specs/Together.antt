@@ -18,4 +18,5 @@ AreTogether [] = Unit {0}
 AreTogether (x ∷ xs) = (event_of x ≡ None → IsNext x.thread.0 xs) × AreTogether xs
 
 abbrev pub ExtentsStandTogether : Type 0
-ExtentsStandTogether = (p : NumberedProgram) (input : List ℤ) (turns : List Turn) (gated : List InstrId) (xs : List Step) (printed : List ℕ) (value : ℤ) → following_of p input turns gated ≡ Exits xs printed value → AreTogether xs
+ExtentsStandTogether = (p : NumberedProgram) (input : List ℤ) (turns : List Turn) (gated : List InstrId) (xs : List Step) (printed : List ℕ) (value : ℤ) →
+    following_of p input turns gated ≡ Exits xs printed value → AreTogether xs
