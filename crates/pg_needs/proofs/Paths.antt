@@ -1,6 +1,5 @@
 -- The loads of a path, one after another.
 use Rattle.std.proofs.Common.{◌≡◌, ℕ, zero, suc, ◌<◌, ◌≤◌, pos, List, [], ◌∷◌, length, drop, slice_index_or, refl, sym, ap, ◌∙◌, subst, arith}
-use mathlib.Core.Path.{fun_ext}
 use Rattle.pg_num.specs.Places.{ByteRange}
 use Rattle.pg_num.specs.Pointers.{byte_place, moved_by}
 use Rattle.pg_ir.specs.Program.{NumberedProgram}
@@ -11,8 +10,8 @@ use Rattle.pg_closed.specs.Shadows.{Shadow, loaded}
 use Rattle.pg_sources.specs.Sources.{Grew, IsSource, shadow_by}
 use Rattle.pg_sources.specs.declared.source.Source.{Source}
 use Rattle.pg_sources.proofs.Grows.{grew_length, grew_then, shadow_kept, source_more}
-use Rattle.pg_shadow_memory.specs.Changes.{AreSources, Changes, shadows_of, sources_of}
-use Rattle.pg_shadow_memory.proofs.Grows as bytes
+use Rattle.pg_shadow_memory.specs.Changes.{AreSources, Changes, shadows_of}
+use Rattle.pg_shadow_memory.proofs.Grows.{names_more, shadows_kept}
 use Rattle.pg_needs.specs.Asks.{Adds}
 use Rattle.pg_needs.specs.Paths.{AreCells}
 use Rattle.pg_needs.specs.declared.asked.Asked.{Asked}
@@ -41,11 +40,8 @@ path_more bytes s (k ∷ ks) (w ∷ ws) (c ∷ cells) last zero h a =
 path_more bytes s (k ∷ ks) (w ∷ ws) (c ∷ cells) last (suc i) h a = path_more bytes s ks ws cells last i (omega (arith, h)) a.1
 
 -- what is known of memory stays as nodes are added
-shadows_kept : (p : NumberedProgram) (old new : NodeList) (memory : Changes) → Grew old new → AreSources (length old) memory → shadows_of p new memory ≡ shadows_of p old memory
-shadows_kept p old new memory g h = fun_ext (λ b. bytes.byte_kept p old new b (sources_of memory b) g (h.names b))
-
 pub sources_more : (old new : NodeList) (memory : Changes) → Grew old new → AreSources (length old) memory → AreSources (length new) memory
-sources_more old new memory g h = record { names = λ b. bytes.source_more (length old) (length new) (sources_of memory b) (grew_length old new g) (h.names b) }
+sources_more old new memory g h = names_more (length old) (length new) memory (grew_length old new g) h
 
 module _ (p : NumberedProgram) (memory : Changes) (ks ws : List ℕ) (cells : List ByteRange) (last i : ℕ) where
   -- the needs of the loads from load i on, by those of the loads behind it

@@ -1,6 +1,6 @@
 -- The sources of bytes with one change more, and the stamps that find a byte's last change.
-use Rattle.std.proofs.Common.{◌≡◌, ℕ, zero, suc, ◌+◌, ◌-◌, ◌<◌, ◌≤◌, ◌⊎◌, ◌++◌, List, [], ◌∷◌, Bool, true, false, Option, Some, None, IfSome, get_or, length, length-append, slice_get, refl, sym, ap, ◌∙◌, arith, subst, inl, inr, max, if◌then◌else◌}
-use Rattle.std.specs.Prelude.{◌&&◌, nat_le, nat_lt}
+use Rattle.std.proofs.Common.{◌≡◌, ℕ, zero, suc, ◌+◌, ◌-◌, ◌<◌, ◌≤◌, ◌++◌, [], ◌∷◌, Bool, true, false, Option, Some, get_or, length, length-append, slice_get, refl, sym, ap, ◌∙◌, arith, subst, max, if◌then◌else◌}
+use Rattle.std.specs.Prelude.{nat_le, nat_lt}
 use Rattle.std.proofs.lemmas.Bool.{and_parts, leb-true, le-ltb, ltb-true, and_right}
 use Rattle.std.proofs.lemmas.Option.{slice_get-get_or}
 use Rattle.pg_closed.specs.Shadows.{is_within}
@@ -14,7 +14,7 @@ use Rattle.pg_shadow_memory.specs.declared.source.Held.{Held}
 use Rattle.pg_shadow_memory.specs.declared.source.Held.TheVariants as held
 use Rattle.pg_shadow_memory.specs.Sources.{IsPart, IsPlaceIn, changed, part_of}
 use Rattle.pg_shadow_memory.specs.Changes.{Changes, range_of, sources_after, sources_of}
-use Rattle.pg_shadow_memory.specs.Stamped.{AreStamps, IsIn, IsInLast, IsLast, source_by, source_in}
+use Rattle.pg_shadow_memory.specs.Stamped.{AreStamps, IsIn, IsLast, source_in}
 
 abbrev initially : ℕ → ByteSource
 initially b = byte.Initial

@@ -8,6 +8,7 @@ use Rattle.pg_shadow_memory.specs.declared.source.ByteSource.{ByteSource}
 use Rattle.pg_shadow_memory.specs.declared.source.ByteSource.TheVariants as byte
 use Rattle.pg_shadow_memory.specs.Loads.{IsByteNode}
 use Rattle.pg_shadow_memory.specs.Sources.{IsSource, byte_shadow}
+use Rattle.pg_shadow_memory.specs.Changes.{AreSources, Changes, shadows_of, sources_of}
 use Rattle.pg_sources.specs.Sources.{Grew}
 use Rattle.pg_sources.proofs.Grows.{grew_length, number_kept}
 
@@ -29,3 +30,9 @@ byte_node_kept old new k s g h = record {
   value = ap (λ f. Known f) (fun_ext (λ input. number_kept old new k input g h.below)) ∙ h.value;
   small = λ input. rw (number_kept old new k input g h.below) (h.small input);
 }
+
+pub shadows_kept : (p : NumberedProgram) (old new : NodeList) (cs : Changes) → Grew old new → AreSources (length old) cs → shadows_of p new cs ≡ shadows_of p old cs
+shadows_kept p old new cs g h = fun_ext (λ b. byte_kept p old new b (sources_of cs b) g (h.names b))
+
+pub names_more : (m n : ℕ) (cs : Changes) → m ≤ n → AreSources m cs → AreSources n cs
+names_more m n cs le h = record { names = λ b. source_more m n (sources_of cs b) le (h.names b) }

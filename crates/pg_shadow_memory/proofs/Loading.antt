@@ -1,5 +1,5 @@
 -- Numbers of bytes that are read: the lowest that isn't known has the blame; bytes of one number; bytes as at the start; others.
-use Rattle.std.proofs.Common.{◌≡◌, ◌≢◌, ℕ, zero, suc, ◌+◌, ◌-◌, ◌*◌, ◌/◌, ◌%◌, ◌^◌, ◌<◌, ◌≤◌, ℤ, List, [], ◌∷◌, Bool, true, false, Option, Some, None, IfSome, length, slice_index, slice_index_or, arith, refl, ap, sym, ◌∙◌, subst}
+use Rattle.std.proofs.Common.{◌≡◌, ℕ, zero, suc, ◌+◌, ◌-◌, ◌*◌, ◌/◌, ◌%◌, ◌^◌, ◌<◌, ◌≤◌, ℤ, List, [], ◌∷◌, true, Option, Some, None, IfSome, length, slice_index, arith, refl, ap, sym, ◌∙◌, subst}
 use mathlib.Core.Path.{fun_ext}
 use Rattle.std.proofs.Math.Nat.{div-div-eq-div-mul, mod-eq_of_lt}
 use Rattle.std.proofs.lemmas.Nat.{mod-pow-add, pow-add}
@@ -73,7 +73,8 @@ joined_none : (known : List (Option ℕ)) (parts : List ℕ) → joined known pa
 unfolding joined
 joined_none known parts = refl
 
-joined_next : (known : List (Option ℕ)) (p : ℕ) (parts : List ℕ) (n : ℕ) → joined known (p ∷ parts) (suc n) ≡ with_both (number_of known p) (joined known parts n) (λ low rest. Some (rest * 2 ^ 8 + low % 2 ^ 8))
+joined_next : (known : List (Option ℕ)) (p : ℕ) (parts : List ℕ) (n : ℕ) →
+    joined known (p ∷ parts) (suc n) ≡ with_both (number_of known p) (joined known parts n) (λ low rest. Some (rest * 2 ^ 8 + low % 2 ^ 8))
 unfolding joined
 joined_next known p parts n = refl
 
@@ -82,7 +83,8 @@ small_byte None b h = refl
 small_byte (Some m) None h = refl
 small_byte (Some m) (Some n) h = ap (λ (k : ℕ). Some (n * 2 ^ 8 + k)) (mod-eq_of_lt h)
 
-pub join_loaded : (F : ℕ → Shadow) (ns : NodeList) (parts : List ℕ) (at n : ℕ) → n ≤ length parts → ((k : ℕ) → k < n → IsByteNode ns (slice_index parts k) (F (at + k))) → Known (λ input. joined (numbers_of input ns) parts n) ≡ loaded F at n
+pub join_loaded : (F : ℕ → Shadow) (ns : NodeList) (parts : List ℕ) (at n : ℕ) → n ≤ length parts →
+    ((k : ℕ) → k < n → IsByteNode ns (slice_index parts k) (F (at + k))) → Known (λ input. joined (numbers_of input ns) parts n) ≡ loaded F at n
 join_loaded F ns parts at zero le h = ap (λ f. Known f) (fun_ext (λ input. joined_none (numbers_of input ns) parts))
 join_loaded F ns [] at (suc n) le h = absurd (omega arith)
 join_loaded F ns (p ∷ parts) at (suc n) le h =
@@ -103,7 +105,8 @@ join_loaded F ns (p ∷ parts) at (suc n) le h =
 abbrev bytes_from : OnInput → ℕ → ℕ → OnInput
 bytes_from g k n = λ input. with_one (g input) (λ v. Some (v / 2 ^ (8 * k) % 2 ^ (8 * n)))
 
-one_byte : (g : Option ℕ) (k : ℕ) → with_both (with_one g (λ v. Some (v / 2 ^ (8 * k) % 2 ^ 8))) (Some 0) (λ low rest. Some (rest * 2 ^ 8 + low)) ≡ with_one g (λ v. Some (v / 2 ^ (8 * k) % 2 ^ (8 * 1)))
+one_byte : (g : Option ℕ) (k : ℕ) →
+    with_both (with_one g (λ v. Some (v / 2 ^ (8 * k) % 2 ^ 8))) (Some 0) (λ low rest. Some (rest * 2 ^ 8 + low)) ≡ with_one g (λ v. Some (v / 2 ^ (8 * k) % 2 ^ (8 * 1)))
 one_byte None k = refl
 one_byte (Some v) k = let e : 0 * 2 ^ 8 + v / 2 ^ (8 * k) % 2 ^ 8 ≡ v / 2 ^ (8 * k) % 2 ^ 8 = omega arith in ap (λ (m : ℕ). Some m) e
 
@@ -115,7 +118,8 @@ byte_more v k n =
     let d : v / 2 ^ (8 * (k + 1)) ≡ m / 2 ^ 8 = ap (λ (j : ℕ). v / 2 ^ j) a ∙ ap (λ (j : ℕ). v / j) (pow-add 2 (8 * k) 8) ∙ sym (div-div-eq-div-mul v (2 ^ (8 * k)) (2 ^ 8)) in
     ap (λ (j : ℕ). (j % 2 ^ (8 * n)) * 2 ^ 8 + m % 2 ^ 8) d ∙ sym (mod-pow-add m (8 * n) 8) ∙ ap (λ (j : ℕ). m % 2 ^ j) (sym b)
 
-more_bytes : (g : Option ℕ) (k n : ℕ) → with_both (with_one g (λ v. Some (v / 2 ^ (8 * k) % 2 ^ 8))) (with_one g (λ v. Some (v / 2 ^ (8 * (k + 1)) % 2 ^ (8 * n)))) (λ low rest. Some (rest * 2 ^ 8 + low)) ≡ with_one g (λ v. Some (v / 2 ^ (8 * k) % 2 ^ (8 * suc n)))
+more_bytes : (g : Option ℕ) (k n : ℕ) →
+    with_both (with_one g (λ v. Some (v / 2 ^ (8 * k) % 2 ^ 8))) (with_one g (λ v. Some (v / 2 ^ (8 * (k + 1)) % 2 ^ (8 * n)))) (λ low rest. Some (rest * 2 ^ 8 + low)) ≡ with_one g (λ v. Some (v / 2 ^ (8 * k) % 2 ^ (8 * suc n)))
 more_bytes None k n = refl
 more_bytes (Some v) k n = ap (λ (m : ℕ). Some m) (byte_more v k n)
 
@@ -176,6 +180,7 @@ always_loaded F f at (suc n) h =
     ∙ ap (shadows.joined (always (f at))) (always_loaded F f (at + 1) n (λ k lt. at_next F (λ b. always (f b)) at k (h (suc k) (omega (arith, lt)))))
     ∙ ap always (sym (bytes_next f at n))
 
-pub initial_loaded : (p : NumberedProgram) (ns : NodeList) (start : ℕ) (xs : List ByteSource) (n : ℕ) → AreInitial xs n → always (bytes.number_of (initial_byte p.globals) start n) ≡ loaded (shadows_from p ns start xs) start n
+pub initial_loaded : (p : NumberedProgram) (ns : NodeList) (start : ℕ) (xs : List ByteSource) (n : ℕ) → AreInitial xs n →
+    always (bytes.number_of (initial_byte p.globals) start n) ≡ loaded (shadows_from p ns start xs) start n
 initial_loaded p ns start xs n h =
     sym (always_loaded (shadows_from p ns start xs) (initial_byte p.globals) start n (λ k lt. shadow_at p ns start xs k ∙ ap (λ (s : ByteSource). byte_shadow p ns (start + k) s) (h.each k lt)))

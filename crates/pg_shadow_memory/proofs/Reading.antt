@@ -1,7 +1,6 @@
 -- One byte more of those that are read, and of those that have nodes; the nodes of bytes.
-use Rattle.std.proofs.Common.{◌≡◌, ℕ, zero, suc, ◌+◌, ◌-◌, ◌*◌, ◌/◌, ◌%◌, ◌^◌, ◌<◌, ◌≤◌, ◌⊎◌, ℤ, List, Option, Some, None, Result, Ok, Err, IfOk, IfSome, length, slice_index, slice_index_or, slice_set, arith, refl, ap, sym, ◌∙◌, subst, inl, inr}
+use Rattle.std.proofs.Common.{◌≡◌, ℕ, ◌+◌, ◌*◌, ◌/◌, ◌%◌, ◌^◌, ◌<◌, ◌≤◌, ◌⊎◌, ℤ, List, Option, Some, None, Result, Ok, Err, IfOk, IfSome, length, slice_index, slice_index_or, slice_set, arith, ap, sym, ◌∙◌, subst, inl, inr}
 use mathlib.Core.Path.{fun_ext}
-use Rattle.std.proofs.Math.Nat.{mod-lt}
 use Rattle.std.proofs.lemmas.Bool.{cases_lt}
 use Rattle.std.proofs.lemmas.List.{get_or-set_same, get_or-set_other}
 use Rattle.pg_ir.specs.Program.{NumberedProgram}
@@ -31,7 +30,8 @@ below_next P k h p j lt = go (cases_lt j k)
     go (inr a) = let e : k ≡ j = omega (arith, lt, a) in subst P e p
 
 -- one more is set
-pub set_next : {A : Type 0} (Q : ℕ → A → Type 0) (xs : List A) (k : ℕ) (x d : A) → k < length xs → ((j : ℕ) → j < k → Q j (slice_index_or xs j d)) → Q k x → (j : ℕ) → j < k + 1 → Q j (slice_index_or (slice_set xs k x) j d)
+pub set_next : {A : Type 0} (Q : ℕ → A → Type 0) (xs : List A) (k : ℕ) (x d : A) → k < length xs → ((j : ℕ) → j < k → Q j (slice_index_or xs j d)) → Q k x →
+    (j : ℕ) → j < k + 1 → Q j (slice_index_or (slice_set xs k x) j d)
 set_next Q xs k x d l h q =
     below_next (λ j. Q j (slice_index_or (slice_set xs k x) j d)) k
     (λ j lt. subst (Q j) (sym (get_or-set_other xs k j x d (λ e. omega (arith, lt, e)))) (h j lt))
@@ -46,7 +46,8 @@ read_same p ns cs xs start n h =
 
 -- ---- the nodes of bytes
 
-pub initial_node : (p : NumberedProgram) (ns ms : NodeList) (b x k : ℕ) → x ≡ initial_byte p.globals b → x < 256 → k < length ms → ((input : List ℤ) → number_by ms k input ≡ Some x) → IsByteNode ms k (byte_shadow p ns b byte.Initial)
+pub initial_node : (p : NumberedProgram) (ns ms : NodeList) (b x k : ℕ) → x ≡ initial_byte p.globals b → x < 256 → k < length ms →
+    ((input : List ℤ) → number_by ms k input ≡ Some x) → IsByteNode ms k (byte_shadow p ns b byte.Initial)
 initial_node p ns ms b x k e small below h = record {
   below = below;
   value = ap (λ f. Known f) (fun_ext (λ input. h input ∙ ap (λ (n : ℕ). Some n) e));
@@ -57,7 +58,9 @@ part_small : (o : Option ℕ) (at : ℕ) → IfSome (with_one o (λ n. Some (n /
 part_small None at = tt
 part_small (Some n) at = omega arith
 
-pub part_node : (p : NumberedProgram) (ns ms : NodeList) (b of at k : ℕ) → k < length ms → ((input : List ℤ) → number_by ms k input ≡ with_one (number_of (numbers_of input ns) of) (λ n. Some (n / 2 ^ (8 * at) % 2 ^ 8))) → IsByteNode ms k (byte_shadow p ns b (byte.Part of at))
+pub part_node : (p : NumberedProgram) (ns ms : NodeList) (b of at k : ℕ) → k < length ms →
+    ((input : List ℤ) → number_by ms k input ≡ with_one (number_of (numbers_of input ns) of) (λ n. Some (n / 2 ^ (8 * at) % 2 ^ 8))) →
+    IsByteNode ms k (byte_shadow p ns b (byte.Part of at))
 part_node p ns ms b of at k below h = record {
   below = below;
   value = ap (λ f. Known f) (fun_ext h);
@@ -65,12 +68,14 @@ part_node p ns ms b of at k below h = record {
 }
 
 -- one byte more has a node
-pub nodes_next : (ns ms : NodeList) (S : ℕ → Shadow) (parts : List ℕ) (k v : ℕ) → k < length parts → Grew ns ms → ((j : ℕ) → j < k → IsByteNode ns (slice_index parts j) (S j)) → IsByteNode ms v (S k) →
+pub nodes_next : (ns ms : NodeList) (S : ℕ → Shadow) (parts : List ℕ) (k v : ℕ) → k < length parts → Grew ns ms →
+    ((j : ℕ) → j < k → IsByteNode ns (slice_index parts j) (S j)) → IsByteNode ms v (S k) →
     (j : ℕ) → j < k + 1 → IsByteNode ms (slice_index (slice_set parts k v) j) (S j)
 nodes_next ns ms S parts k v l g h n = set_next (λ j x. IsByteNode ms x (S j)) parts k v 0 l (λ j lt. byte_node_kept ns ms (slice_index parts j) (S j) g (h j lt)) n
 
 -- the node that joins them
-pub join_read : (p : NumberedProgram) (old ns ms : NodeList) (start : ℕ) (xs : List ByteSource) (parts : List ℕ) (n v : ℕ) → n ≤ length parts → ((j : ℕ) → j < n → IsByteNode ns (slice_index parts j) (byte_shadow p old (start + j) (source_in xs j))) →
+pub join_read : (p : NumberedProgram) (old ns ms : NodeList) (start : ℕ) (xs : List ByteSource) (parts : List ℕ) (n v : ℕ) → n ≤ length parts →
+    ((j : ℕ) → j < n → IsByteNode ns (slice_index parts j) (byte_shadow p old (start + j) (source_in xs j))) →
     ((input : List ℤ) → number_by ms v input ≡ joined (numbers_of input ns) parts n) → Known (number_by ms v) ≡ loaded (shadows_from p old start xs) start n
 join_read p old ns ms start xs parts n v l each h =
     ap (λ f. Known f) (fun_ext h)

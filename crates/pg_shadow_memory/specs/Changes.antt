@@ -9,7 +9,7 @@ use Rattle.pg_shadow_memory.specs.declared.source.ByteSource.TheVariants as byte
 use Rattle.pg_shadow_memory.specs.declared.change.Change.{Change}
 use Rattle.pg_shadow_memory.specs.Sources.{IsSource, byte_shadow, changed}
 
--- a new memory's value: its changes, in order
+-- the changes of a memory, the first of them first
 abbrev pub Changes : Type 0
 Changes = List Change
 
@@ -20,7 +20,7 @@ unfoldable pub sources_after : (ℕ → ByteSource) → Changes → ℕ → Byte
 sources_after f [] = f
 sources_after f (c ∷ cs) = sources_after (changed (range_of c) c.to f) cs
 
--- the source of each byte after these changes, the first of them first; before the first each byte is as at the start
+-- the source of each byte after these changes; before the first each byte is as at the start
 abbrev pub sources_of : Changes → ℕ → ByteSource
 sources_of cs = sources_after (λ b. byte.Initial) cs
 

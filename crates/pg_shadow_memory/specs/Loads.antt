@@ -1,5 +1,5 @@
 -- Bytes that are read one after another, and the numbers that they make.
-use Rattle.std.specs.Prelude.{◌≡◌, ℕ, ◌+◌, ◌-◌, ◌==◌, ◌&&◌, ◌<◌, ◌^◌, ℤ, List, Bool, true, false, IfSome, length, slice_index_or}
+use Rattle.std.specs.Prelude.{◌≡◌, ℕ, ◌-◌, ◌==◌, ◌&&◌, ◌<◌, ◌^◌, ℤ, List, Bool, true, false, IfSome, length, slice_index_or}
 use Rattle.pg_ir.specs.Program.{NumberedProgram}
 use Rattle.pg_nodes.specs.Nodes.{NodeList}
 use Rattle.pg_closed.specs.Shadows.{Shadow, Known}

@@ -44,11 +44,12 @@ IsSource n byte.Initial = Unit {0}
 IsSource n (byte.Part of at) = of < n
 IsSource n (byte.Unknown x) = Unit {0}
 
--- a known number has eight bytes
+-- which bytes a number has: eight where it is known
 abbrev pub IsPlaceIn : Held → ℕ → Type 0
 IsPlaceIn (held.Known of) k = k ≤ 7
 IsPlaceIn (held.Unknown x) k = Unit {0}
 
+-- the same of a byte that is known
 abbrev pub IsPart : ByteSource → Type 0
 IsPart byte.Initial = Unit {0}
 IsPart (byte.Part of at) = at ≤ 7

@@ -1,5 +1,5 @@
 -- How many changes there were when each byte was last changed.
-use Rattle.std.specs.Prelude.{◌≡◌, ℕ, zero, suc, ◌+◌, ◌-◌, ◌<◌, ◌≤◌, Option, Some, None, IfSome, length, slice_get}
+use Rattle.std.specs.Prelude.{◌≡◌, ℕ, zero, suc, ◌-◌, ◌<◌, ◌≤◌, Option, Some, None, IfSome, length, slice_get}
 use Rattle.pg_stamps.specs.declared.stamps.Stamps.{Stamps}
 use Rattle.pg_stamps.specs.declared.stamps.TheConstants.{PLACE_COUNT}
 use Rattle.pg_stamps.specs.Marks.{greatest_at}

@@ -4,6 +4,7 @@
 
 mod change;
 mod initial;
+pub mod laws;
 mod load;
 mod memory;
 mod parts;

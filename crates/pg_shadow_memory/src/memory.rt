@@ -29,7 +29,7 @@ impl Model for ShadowMemory {
 }
 
 impl ShadowMemory {
-    ghost use Rattle.std.specs.Prelude.{◌≡◌, ◌≤◌, ◌<◌, ◌+◌, ◌-◌, ◌++◌, ◌∷◌, [], ℕ, IfOk, OnErr, OnOk, length};
+    ghost use Rattle.std.specs.Prelude.{◌≡◌, ◌≤◌, ◌<◌, ◌+◌, ◌++◌, ◌∷◌, [], ℕ, IfOk, OnErr, OnOk, length};
     ghost use Rattle.pg_ir.specs.Program.{NumberedProgram};
     ghost use Rattle.pg_nodes.specs.Nodes.{NodeList};
     ghost use Rattle.pg_closed.specs.Known.{start_of};
@@ -38,7 +38,7 @@ impl ShadowMemory {
     ghost use Rattle.pg_sources.specs.Sources.{Grew};
     ghost use Rattle.pg_shadow_memory.specs.Loads.{source_in};
     ghost use Rattle.pg_shadow_memory.specs.Sources.{IsHeld, IsPart, IsPlaceIn, changed, held_shadow};
-    ghost use Rattle.pg_shadow_memory.specs.Changes.{AreSources, range_of, shadows_of, sources_of};
+    ghost use Rattle.pg_shadow_memory.specs.Changes.{AreSources, shadows_of, sources_of};
 
     /// Memory before the first step.
     pub fn new(alloc: Global) -> ShadowMemory
@@ -98,7 +98,8 @@ impl ShadowMemory {
         requires count { count ≤ 8 }
         requires end { start + count ≤ PLACE_COUNT }
         ensures sources { OnOk result (sources_of self.new ≡ changed (record { start = start; bytes = count }) of (sources_of self.old)) }
-        ensures shadow { OnOk result ((p : NumberedProgram) (ns : NodeList) → shadows_of p ns self.new ≡ stored (record { start = start; bytes = count }) (held_shadow ns of) (shadows_of p ns self.old)) }
+        ensures shadow { OnOk result ((p : NumberedProgram) (ns : NodeList) → shadows_of p ns self.new
+            ≡ stored (record { start = start; bytes = count }) (held_shadow ns of) (shadows_of p ns self.old)) }
         ensures names { OnOk result ((n : ℕ) → AreSources n self.old → IsHeld n of → AreSources n self.new) }
         ensures same { OnErr result (self.new ≡ self.old) }
     {

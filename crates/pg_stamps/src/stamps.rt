@@ -1,4 +1,4 @@
-ghost use Rattle.std.specs.Prelude.{◌≡◌, ◌==◌, ◌&&◌, ◌+◌, ◌*◌, ◌/◌, ◌<◌, ◌≤◌, ℕ, OnErr, OnOk, max, nat_le, nat_lt, if◌then◌else◌};
+ghost use Rattle.std.specs.Prelude.{◌≡◌, ◌==◌, ◌&&◌, ◌+◌, ◌<◌, ◌≤◌, ℕ, OnErr, OnOk, max, nat_le, nat_lt, if◌then◌else◌};
 ghost use Rattle.indexmap.specs.IndexMap.{spare};
 ghost use Rattle.pg_stamps.specs.Marks.{greatest_at, is_marked, mark_of};
 
@@ -8,7 +8,7 @@ use std::alloc::{AllocError, Global};
 /// How many places there are.
 pub const PLACE_COUNT: u64 = 0x400_0000;
 
-/// The levels of the tree over the places: two to the last level but one is the number of places.
+/// The levels of the tree over the places: the leaves, and one level for each halving of their number down to one.
 const LEVELS: usize = 27;
 
 /// Numbers on the places below `PLACE_COUNT`: of each place the greatest that was put on a range which holds it. They are

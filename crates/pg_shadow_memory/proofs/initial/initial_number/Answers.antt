@@ -1,4 +1,4 @@
-use Rattle.std.proofs.Common.{arith, sym, ◌∙◌, ◌+◌, ◌-◌}
+use Rattle.std.proofs.Common.{arith, sym, ◌+◌, ◌-◌}
 use Rattle.pg_mem.specs.Initial.{initial_byte}
 use Rattle.pg_shadow_memory.proofs.Digits.{digit_next, digit_small, digits_small}
 use Rattle.pg_shadow_memory.proofs.Loading.{bytes_none}

@@ -1,4 +1,4 @@
-use Rattle.std.proofs.Common.{◌+◌, ◌∙◌, ℕ, arith, subst}
+use Rattle.std.proofs.Common.{◌+◌, ◌∙◌, arith, subst}
 use Rattle.std.proofs.Math.ListN.{length-set}
 use Rattle.std.proofs.lemmas.Result.{IfOk-weaker}
 use Rattle.pg_shadow_memory.specs.Loads.{IsByteNode, source_in}

@@ -1,10 +1,9 @@
-use Rattle.std.proofs.Common.{◌≡◌, ℕ, arith, sym, ◌∙◌, subst}
+use Rattle.std.proofs.Common.{ℕ, arith, sym, subst}
 use Rattle.pg_shadow_memory.specs.Stamped.{IsLast}
 use Rattle.pg_shadow_memory.specs.Changes.{Changes}
-use Rattle.pg_shadow_memory.specs.Sources.{IsPart}
 use Rattle.pg_shadow_memory.specs.declared.change.Change.{Change}
 use Rattle.pg_shadow_memory.specs.declared.source.Held.TheVariants as held
-use Rattle.pg_shadow_memory.proofs.Changing.{last_is_in, last_source, never_changed, part_is}
+use Rattle.pg_shadow_memory.proofs.Changing.{last_is_in}
 use Rattle.pg_shadow_memory.proofs.memory.ShadowMemory.at.Goals as goal
 
 -- what an index outside of the list would give

@@ -1,5 +1,4 @@
 use Rattle.std.proofs.Common.{sym, ◌∙◌}
-use Rattle.std.proofs.lemmas.Result.{IfOk-weaker}
 use Rattle.pg_shadow_memory.proofs.Reading.{read_same}
 use Rattle.pg_shadow_memory.proofs.memory.ShadowMemory.load.Goals as goal
 

@@ -1,7 +1,7 @@
-use Rattle.std.proofs.Common.{ℕ, ap}
+use Rattle.std.proofs.Common.{ap}
 use mathlib.Core.Path.{fun_ext}
 use Rattle.pg_shadow_memory.specs.declared.source.ByteSource.{ByteSource}
-use Rattle.pg_shadow_memory.specs.Sources.{IsSource, byte_shadow}
+use Rattle.pg_shadow_memory.specs.Sources.{byte_shadow}
 use Rattle.pg_shadow_memory.proofs.Changing.{no_stamps, sources_none}
 use Rattle.pg_shadow_memory.proofs.memory.ShadowMemory.new.Goals as goal
 

@@ -1,7 +1,6 @@
 use Rattle.std.proofs.Common.{◌≡◌, ◌++◌, ◌∷◌, [], ℕ, ap, ◌∙◌}
 use Rattle.std.proofs.lemmas.Result.{on_ok_weaker}
 use Rattle.pg_num.specs.Places.{ByteRange}
-use Rattle.pg_shadow_memory.specs.declared.change.Change.{Change}
 use Rattle.pg_shadow_memory.specs.Sources.{changed}
 use Rattle.pg_shadow_memory.specs.Changes.{sources_of}
 use Rattle.pg_shadow_memory.proofs.Changing.{sources_more}

@@ -1,5 +1,5 @@
 use Rattle.std.proofs.Common.{◌≡◌, ◌+◌, ◌/◌, ℕ, suc, arith, sym, ap, ◌∙◌, max}
-use Rattle.pg_stamps.specs.Marks.{greatest_at, greatest_below, mark_of, node_at}
+use Rattle.pg_stamps.specs.Marks.{greatest_below, mark_of, node_at}
 use Rattle.pg_stamps.proofs.Levels.{greatest_next, greatest_none, node_next, node_none}
 use Rattle.pg_stamps.proofs.stamps.Stamps.greatest.Goals as goal
 

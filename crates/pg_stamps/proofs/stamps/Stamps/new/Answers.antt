@@ -1,5 +1,5 @@
 use Rattle.std.proofs.Common.{refl}
-use Rattle.pg_stamps.specs.Marks.{greatest_at, greatest_below, mark_of}
+use Rattle.pg_stamps.specs.Marks.{mark_of}
 use Rattle.pg_stamps.proofs.Levels.{no_marks}
 use Rattle.pg_stamps.proofs.stamps.Stamps.new.Goals as goal
 
