@@ -3,6 +3,7 @@ pub mod Allocations
 pub mod Along
 pub mod Branches
 pub mod Calls
+pub mod Cells
 pub mod Computing
 pub mod Counted
 pub mod Dispatch
@@ -23,6 +24,7 @@ pub mod Obeying
 pub mod Opened
 pub mod Ordered
 pub mod Placed
+pub mod Remembered
 pub mod Requests
 pub mod Results
 pub mod Settled

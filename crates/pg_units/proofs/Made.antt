@@ -185,8 +185,8 @@ unfolding fresh
 fresh_waits p t f = refl
 
 pub record AreFresh (p : NumberedProgram) (known : RunShadow) (s : State) : Type 0 where
-  number : length known.threads ≡ length s.locals
-  fresh_calls : (u f : ℕ) → slice_get s.locals u ≡ Some (fresh p u f) → (thread_of known u).calls ≡ fresh_registers p f ∷ []
+  pub number : length known.threads ≡ length s.locals
+  pub fresh_calls : (u f : ℕ) → slice_get s.locals u ≡ Some (fresh p u f) → (thread_of known u).calls ≡ fresh_registers p f ∷ []
 
 begins_with : (p : NumberedProgram) (n f : ℕ) → Rattle.pg_effects.specs.Views.start_of (fresh p n f) ≡ Some f
 unfolding fresh
@@ -276,6 +276,14 @@ module _ (R : Reference) (d : Taken) (n : ℕ) (m : Moment) (known : RunShadow) 
   unfolding effect effect_of
   effect_set = refl
 
+  -- what is known of another thread stays
+  pub others_kept : (is_live d.pinned (thread_of known (thread_in m)).extents ≡ false → is_some (happening_in m.did.did.kind) ≡ false) → (u : ℕ) → u ≢ thread_in m → u < length known.threads → (thread_of (after_step R d n m known) u).calls ≡ (thread_of known u).calls
+  others_kept plain u w q = (kept plain).others u w ∙ go made
+    where
+      go : (o : Option ℕ) → calls_in (with_thread R.program o known.threads) u ≡ calls_in known.threads u
+      go None = refl
+      go (Some f) = push_keeps known.threads u (fresh_thread R.program f) q
+
   -- the threads after the step
   after_locals : h.after.locals ≡ local_set (thread_in m) (own_after R.program (answer_to input s (thread_in m) (next_of R.program s (thread_in m))) (slice_get s.locals (thread_in m))) (with_local R.program made s.locals)
   after_locals =
@@ -326,7 +334,7 @@ module _ (R : Reference) (d : Taken) (n : ℕ) (m : Moment) (known : RunShadow) 
 
 -- ---- along the run
 
-first_fresh : (p : NumberedProgram) → AreFresh p (start_of p) (initial p)
+pub first_fresh : (p : NumberedProgram) → AreFresh p (start_of p) (initial p)
 unfolding initial
 first_fresh p = record { number = refl; fresh_calls = go }
   where

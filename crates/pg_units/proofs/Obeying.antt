@@ -1,5 +1,6 @@
 -- A run on an admitted input follows the plan of a reference run without instances.
 use Rattle.std.proofs.Common.{◌≡◌, ℕ, ℤ, ◌⊎◌, ◌<◌, ◌≤◌, ◌^◌, ◌+◌, Bool, true, false, List, [], ◌∷◌, ◌++◌, length, map, drop, Option, Some, None, refl, sym, ap, ◌∙◌, subst, arith, inl, inr, suc}
+use Rattle.std.specs.List.{AllByRecursion as AllOf}
 use Rattle.std.specs.Prelude.{◌==◌, is_some, slice_get}
 use Rattle.std.proofs.lemmas.Bool.{eqb-true}
 use Rattle.std.proofs.lemmas.Option.{slice_get_within}
@@ -17,7 +18,7 @@ use Rattle.pg_runs.proofs.Deeds.{due_owner, event_seen, get_behind, some_turn}
 use Rattle.pg_closed.specs.Closed.{IsClosed, admits}
 use Rattle.pg_closed.specs.Known.{Taken, thread_of}
 use Rattle.pg_closed.specs.Moments.{thread_in}
-use Rattle.pg_units.specs.Fits.{IsRemembered, IsWithoutInstances, PlanRemembers, StartsAreFresh, thread_before}
+use Rattle.pg_units.specs.Fits.{IsRemembered, PlanRemembers, StartsAreFresh, thread_before}
 use Rattle.pg_units.specs.Likes.{IsCellLike, IsThreadLike, MovedThread, PlanThread, StandLike, like}
 use Rattle.pg_units.specs.Lists.{Has}
 use Rattle.pg_units.specs.Moves.{IsMove, RunDeed, RunState, moved}
@@ -58,7 +59,7 @@ owner_in t (u ∷ us) h = go (u.thread.0 == t) refl (owner_in t us)
     go true e more = (0, ap Some (eqb-true u.thread.0 t e))
     go false e more = let k = more (rw e at h) in (suc k.0, k.1)
 
-module _ (r : ReferenceRun) (d : Taken) (input : List ℤ) (turns : List Turn) (o : IsOrderedRun r) (plain : ExtentsArePlain r d) (fresh : StartsAreFresh r d) (single : IsWithoutInstances r d) (remembers : PlanRemembers r d)
+module _ (r : ReferenceRun) (d : Taken) (input : List ℤ) (turns : List Turn) (o : IsOrderedRun r) (plain : ExtentsArePlain r d) (fresh : StartsAreFresh r d) (single : AllOf (λ (u : PlanUnit). is_instance d u.seen ≡ false) (units_of r d)) (remembers : PlanRemembers r d)
     (closed : IsClosed (reference_of r) d) (admitted : admits (reference_of r) d input ≡ true) (small : length input < 2 ^ 64) (same_turns : owners_of turns ≡ turns_of r) where
   abbrev Move : RunState → ℕ → RunDeed → Type 0
   Move = IsMove r.gated r.program input turns

@@ -28,7 +28,7 @@ module _ (r : ReferenceRun) (d : Taken) where
       go true more = (h.0, more (one_more (thread_in m.seen.moment) counts))
       go false more = more counts
 
-  first_words : length (start_of r.program).words ≡ length (initial r.program).locals
+  pub first_words : length (start_of r.program).words ≡ length (initial r.program).locals
   unfolding initial
   first_words = refl
 

@@ -4,11 +4,11 @@ use Rattle.std.specs.List.{AllByRecursion}
 use Rattle.pg_plans.specs.Effects.{effects}
 use Rattle.pg_step.specs.LocalState.{fresh}
 use Rattle.pg_effects.specs.Views.{local_at, objects_of}
-use Rattle.pg_closed.specs.Known.{Taken, fresh_registers, thread_of}
+use Rattle.pg_closed.specs.Known.{Seen, Taken, fresh_registers, thread_of, seen_in}
 use Rattle.pg_closed.specs.Moments.{thread_in}
 use Rattle.pg_units.specs.Likes.{IsCellLike, IsThreadLike, PlanThread}
 use Rattle.pg_units.specs.Moves.{RunState}
-use Rattle.pg_units.specs.Units.{PlanUnit, ReferenceRun, cell_known, deed_of, is_event_at, is_instance, plan_start, reads_cell, standing_of, units_of}
+use Rattle.pg_units.specs.Units.{PlanUnit, ReferenceRun, cell_known, deed_of, is_event_at, is_instance, plan_start, reads_cell, reference_of, standing_of, units_of}
 
 -- the thread of a unit before it
 abbrev pub thread_before : PlanUnit → PlanThread
@@ -36,6 +36,6 @@ pub record IsRemembered (r : ReferenceRun) (d : Taken) (us : List PlanUnit) (u :
 abbrev pub PlanRemembers : ReferenceRun → Taken → Type 0
 PlanRemembers r d = (us : List PlanUnit) (u : PlanUnit) (vs : List PlanUnit) → units_of r d ≡ us ++ u ∷ vs → IsRemembered r d us u
 
--- each unit is a single step
+-- each step is a unit by itself
 abbrev pub IsWithoutInstances : ReferenceRun → Taken → Type 0
-IsWithoutInstances r d = AllByRecursion (λ (u : PlanUnit). is_instance d u.seen ≡ false) (units_of r d)
+IsWithoutInstances r d = AllByRecursion (λ (x : Seen). (x.live ≡ true) × (is_instance d x ≡ false)) (seen_in (reference_of r) d)

@@ -8,7 +8,7 @@ ghost use Rattle.pg_runs.specs.Deeds.{owners_of};
 ghost use Rattle.pg_trace.specs.declared.turn.Turn.{Turn};
 ghost use Rattle.pg_closed.specs.Closed.{IsClosed, admits};
 ghost use Rattle.pg_closed.specs.Known.{Taken};
-ghost use Rattle.pg_units.specs.Fits.{IsWithoutInstances, PlanRemembers};
+ghost use Rattle.pg_units.specs.Fits.{IsWithoutInstances};
 ghost use Rattle.pg_units.specs.Likes.{like};
 ghost use Rattle.pg_units.specs.Moves.{IsMove, RunDeed, RunState};
 ghost use Rattle.pg_units.specs.Order.{IsOrderedRun};
@@ -19,7 +19,7 @@ ghost use Rattle.pg_units.specs.Units.{ExtentsArePlain, ReferenceRun, plan_of, p
 /// each two moves that meet at a cell that one of them writes, the one's turn stands before the other's.
 pub fn a_run_follows_the_plan()
     ensures { (r : ReferenceRun) (d : Taken) (input : List ℤ) (turns : List Turn) (s : RunState) (ds : List RunDeed)
-        → IsOrderedRun r → ExtentsArePlain r d → IsWithoutInstances r d → PlanRemembers r d
+        → IsOrderedRun r → ExtentsArePlain r d → IsWithoutInstances r d
         → IsClosed (reference_of r) d → admits (reference_of r) d input ≡ true → length input < 2 ^ 64 → owners_of turns ≡ turns_of r
         → Alike (like input) (plan_start r) s → Moves (IsMove r.gated r.program input turns) s 0 ds
         → Follows (like input) (turns_of r) (plan_start r) (plan_of r d) (turns_done deeds 0 ds) (effects s ds) × IsOrdered deeds (turns_of r) ds }
