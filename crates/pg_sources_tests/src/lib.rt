@@ -1,0 +1,4 @@
+//! Sources of worked operations.
+#![tactic(auto)]
+
+mod moved;
