@@ -92,11 +92,7 @@ fn exit_line(alloc: Global, value: i32, turns: usize) -> Result<String, AllocErr
 }
 
 /// The lines of the turns and of the races.
-fn events_text(
-    alloc: Global,
-    schedule: &Schedule,
-    races: &[Race],
-) -> Result<Vec<u8>, AllocError>
+fn events_text(alloc: Global, schedule: &Schedule, races: &[Race]) -> Result<Vec<u8>, AllocError>
     ensures { IfOk result (λ text. text.items ≡ reply_line (Recorded 0) ++ (turn_lines 0 schedule.now.turns ++ race_lines races.now)) }
 {
     let line = reply_line(alloc, ReplyKind::Recorded(0))?;
@@ -143,6 +139,12 @@ pub fn show_text(
     let mut text = events_text(alloc, schedule, races)?;
     add_decisions(alloc, &mut text, "pinned", ids, pinned)?;
     add_decisions(alloc, &mut text, "exact", ids, exact)?;
-    add_run(alloc, &mut text, output, value, schedule.turns.as_slice().len())?;
+    add_run(
+        alloc,
+        &mut text,
+        output,
+        value,
+        schedule.turns.as_slice().len(),
+    )?;
     Ok(text)
 }

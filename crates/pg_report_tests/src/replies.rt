@@ -38,11 +38,29 @@ fn check_refused(
 #[test]
 fn runs(rt: HostRuntime) -> Result<(), Fail> {
     let exit = EndLine::Exit(-1, 15);
-    check_run(&rt, ReplyKind::Recorded(17), "12\n", exit, "recorded 17\n12\nexit -1 after 15 turns\n")?;
+    check_run(
+        &rt,
+        ReplyKind::Recorded(17),
+        "12\n",
+        exit,
+        "recorded 17\n12\nexit -1 after 15 turns\n",
+    )?;
     let trap = EndLine::Trap(TrapName::DivideByZero, InstrId(24), 6);
-    check_run(&rt, ReplyKind::Reused(0), "7\n", trap, "reused 0\n7\ntrap DivideByZero at 24 after 6 turns\n")?;
+    check_run(
+        &rt,
+        ReplyKind::Reused(0),
+        "7\n",
+        trap,
+        "reused 0\n7\ntrap DivideByZero at 24 after 6 turns\n",
+    )?;
     let budget = EndLine::Budget(ThreadNo(1), 3);
-    check_run(&rt, ReplyKind::Reused(0), "", budget, "reused 0\nbudget in thread 1 after 3 turns\n")
+    check_run(
+        &rt,
+        ReplyKind::Reused(0),
+        "",
+        budget,
+        "reused 0\nbudget in thread 1 after 3 turns\n",
+    )
 }
 
 #[test]
@@ -50,5 +68,10 @@ fn refusals(rt: HostRuntime) -> Result<(), Fail> {
     check_refused(&rt, ReplyKind::RefusedLine, "", "refused line\n")?;
     let trap = ReplyKind::RefusedTrap(TrapName::Deadlock, InstrId(1));
     check_refused(&rt, trap, "", "refused trap Deadlock at 1\n")?;
-    check_refused(&rt, ReplyKind::RefusedBudget, "1\n2\n", "refused budget\n1\n2\n")
+    check_refused(
+        &rt,
+        ReplyKind::RefusedBudget,
+        "1\n2\n",
+        "refused budget\n1\n2\n",
+    )
 }

@@ -71,7 +71,16 @@ const TEXT: &str = concat!(
 fn shown(rt: HostRuntime) -> Result<(), Fail> {
     let schedule = schedule(rt.alloc())?;
     let ids = [InstrId(19); 5];
-    let text = show_text(rt.alloc(), &schedule, &ids, &[0, 4], &[3], &RACES, b"100\n", 0)?;
+    let text = show_text(
+        rt.alloc(),
+        &schedule,
+        &ids,
+        &[0, 4],
+        &[3],
+        &RACES,
+        b"100\n",
+        0,
+    )?;
     assert_eq!(rt; text.as_slice(), TEXT.as_bytes());
     Ok(())
 }

@@ -5,5 +5,5 @@ pub mod laws;
 mod line;
 mod program;
 
-pub use line::{TRIAL_LINES, TRIAL_LIMIT, trial_line};
+pub use line::{TRIAL_LIMIT, TRIAL_LINES, trial_line};
 pub use program::trial_program;

@@ -31,5 +31,9 @@ pub fn trial_line(alloc: Global, n: u64, i: u32) -> Result<Vec<i64>, AllocError>
     requires i { i < TRIAL_LINES }
     ensures { IfOk result (λ line. line.items ≡ trial_line n i) }
 {
-    numbers_from(alloc, n, (37 * u64::from(i) + n) % u64::from(TRIAL_LINES) + 1)
+    numbers_from(
+        alloc,
+        n,
+        (37 * u64::from(i) + n) % u64::from(TRIAL_LINES) + 1,
+    )
 }
