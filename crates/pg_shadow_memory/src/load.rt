@@ -5,13 +5,13 @@ ghost use Rattle.pg_sources.specs.Sources.{Grew, number_by};
 ghost use Rattle.pg_shadow_memory.specs.Loads.{AreKnown, AreNamed, IsByteNode, is_known_byte, shadows_from};
 ghost use Rattle.pg_shadow_memory.specs.Sources.{IsPart, IsSource, byte_shadow};
 
-use pg_sources::added;
 use crate::initial::{initial_byte, initial_number};
 use crate::parts::{are_initial, whole};
 use crate::source::ByteSource;
 use pg_ir::Program;
 use pg_nodes::{CastKind, Node, Nodes};
 use pg_num::Width;
+use pg_sources::added;
 use std::alloc::AllocError;
 
 /// The node of a byte that is known.
