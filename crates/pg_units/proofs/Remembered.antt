@@ -44,15 +44,15 @@ use Rattle.pg_units.proofs.Made.{AreFresh, first_fresh, fresh_kept, others_kept}
 use Rattle.pg_units.proofs.Worded.{first_words, unit_facts}
 use Rattle.pg_units.proofs.Words.{words_kept}
 
-yes_if : {A : Type 0} (b : Bool) (x y : A) → b ≡ true → (if b then x else y) ≡ x
+pub yes_if : {A : Type 0} (b : Bool) (x y : A) → b ≡ true → (if b then x else y) ≡ x
 yes_if true x y h = refl
 yes_if false x y h = absurd (true≢false (sym h))
 
-no_if : {A : Type 0} (b : Bool) (x y : A) → b ≡ false → (if b then x else y) ≡ y
+pub no_if : {A : Type 0} (b : Bool) (x y : A) → b ≡ false → (if b then x else y) ≡ y
 no_if true x y h = absurd (true≢false h)
 no_if false x y h = refl
 
-thread_is : (p : NumberedProgram) (input : List ℤ) (s : State) (t : ℕ) → (effect_of p input s t).thread ≡ t
+pub thread_is : (p : NumberedProgram) (input : List ℤ) (s : State) (t : ℕ) → (effect_of p input s t).thread ≡ t
 unfolding effect_of
 thread_is p input s t = refl
 

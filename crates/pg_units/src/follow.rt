@@ -1,10 +1,15 @@
 //! Whole runs on an admitted input against a plan without instances: the law is the clause of a function that does nothing.
 
 ghost use Rattle.std.specs.Prelude.{◌≡◌, ◌<◌, ◌^◌, ℕ, ℤ, List, length, true};
+ghost use Rattle.pg_plans.specs.Cuts.{kept};
 ghost use Rattle.pg_plans.specs.Effects.{deeds, effects};
-ghost use Rattle.pg_plans.specs.Intervals.{IsOrdered, turns_done};
-ghost use Rattle.pg_plans.specs.Plans.{Alike, Follows, Moves};
+ghost use Rattle.pg_plans.specs.Intervals.{IsOrdered, did_of, turns_done};
+ghost use Rattle.pg_plans.specs.Plans.{Alike, Follows, Moves, Performs};
+ghost use Rattle.pg_runs.specs.Cuts.{IsOrderedAlong};
 ghost use Rattle.pg_runs.specs.Deeds.{owners_of};
+ghost use Rattle.pg_machine.specs.Permitted.{IsPermitted};
+ghost use Rattle.pg_machine.specs.State.{State};
+ghost use Rattle.pg_trace.specs.declared.step.Step.{Step};
 ghost use Rattle.pg_trace.specs.declared.turn.Turn.{Turn};
 ghost use Rattle.pg_closed.specs.Closed.{IsClosed, admits};
 ghost use Rattle.pg_closed.specs.Known.{Taken};
@@ -15,12 +20,22 @@ ghost use Rattle.pg_units.specs.Order.{IsOrderedRun};
 ghost use Rattle.pg_units.specs.Units.{ExtentsArePlain, ReferenceRun, plan_of, plan_start, reference_of, turns_of};
 
 /// Under closed decisions without instances, on an input that they admit, moves along the same threads' turns from a state that
-/// is like the plan's first follow the plan: the state that they leave is like the one that the units done by then leave. And of
-/// each two moves that meet at a cell that one of them writes, the one's turn stands before the other's.
+/// is like the plan's first follow the plan: they are the units done by then, the same turns with the same replies, and the state that
+/// they leave is like the one that these units leave. And of each two moves that meet at a cell that one of them writes, the one's
+/// next turn stands before the other's last turn.
 pub fn a_run_follows_the_plan()
     ensures { (r : ReferenceRun) (d : Taken) (input : List ℤ) (turns : List Turn) (s : RunState) (ds : List RunDeed)
         → IsOrderedRun r → ExtentsArePlain r d → IsWithoutInstances r d
         → IsClosed (reference_of r) d → admits (reference_of r) d input ≡ true → length input < 2 ^ 64 → owners_of turns ≡ turns_of r
         → Alike (like input) (plan_start r) s → Moves (IsMove r.gated r.program input turns) s 0 ds
-        → Follows (like input) (turns_of r) (plan_start r) (plan_of r d) (turns_done deeds 0 ds) (effects s ds) × IsOrdered deeds (turns_of r) ds }
+        → (cut : Follows (like input) (turns_of r) (plan_start r) (plan_of r d) (turns_done deeds 0 ds) (effects s ds))
+        × Performs (like input) (did_of (kept cut.marks)) ds × IsOrdered deeds (turns_of r) ds }
+{}
+
+/// Along the turns of an ordered run each permitted run on an admitted input is ordered, where its decisions are closed and have
+/// no instances.
+pub fn an_admitted_input_keeps_the_order()
+    ensures { (r : ReferenceRun) (d : Taken) (input : List ℤ) (turns : List Turn) (xs : List Step) (z : State)
+        → IsOrderedRun r → ExtentsArePlain r d → IsWithoutInstances r d → IsClosed (reference_of r) d → admits (reference_of r) d input ≡ true
+        → length input < 2 ^ 64 → owners_of turns ≡ turns_of r → IsPermitted r.program input turns r.gated xs z → IsOrderedAlong turns xs }
 {}
