@@ -1,11 +1,14 @@
 //! Whole runs on an admitted input against a plan without instances: the law is the clause of a function that does nothing.
 
-ghost use Rattle.std.specs.Prelude.{◌≡◌, ◌<◌, ◌^◌, ℕ, ℤ, List, length, true};
+ghost use Rattle.std.specs.Prelude.{◌≡◌, ◌≢◌, ◌<◌, ◌^◌, ℕ, ℤ, List, length, true};
 ghost use Rattle.pg_plans.specs.Cuts.{kept};
 ghost use Rattle.pg_plans.specs.Effects.{deeds, effects};
 ghost use Rattle.pg_plans.specs.Intervals.{IsOrdered, did_of, turns_done};
 ghost use Rattle.pg_plans.specs.Plans.{Alike, Follows, Moves, Performs};
-ghost use Rattle.pg_runs.specs.Cuts.{IsOrderedAlong};
+ghost use Rattle.pg_runs.specs.Cuts.{IsOrderedAlong, IsOrderedFull};
+ghost use Rattle.pg_machine.specs.declared.guided_end.GuidedEnd.TheVariants as GuidedEnd;
+ghost use Rattle.pg_machine.specs.FullGuided.{full_guided_of};
+ghost use Rattle.pg_machine.specs.Guided.{guided_of};
 ghost use Rattle.pg_runs.specs.Deeds.{owners_of};
 ghost use Rattle.pg_machine.specs.Permitted.{IsPermitted};
 ghost use Rattle.pg_machine.specs.State.{State};
@@ -13,7 +16,7 @@ ghost use Rattle.pg_trace.specs.declared.step.Step.{Step};
 ghost use Rattle.pg_trace.specs.declared.turn.Turn.{Turn};
 ghost use Rattle.pg_closed.specs.Closed.{IsClosed, admits};
 ghost use Rattle.pg_closed.specs.Known.{Taken};
-ghost use Rattle.pg_units.specs.Fits.{IsWithoutInstances};
+ghost use Rattle.pg_units.specs.Fits.{IsWithoutInstances, KeepsOrder};
 ghost use Rattle.pg_units.specs.Likes.{like};
 ghost use Rattle.pg_units.specs.Moves.{IsMove, RunDeed, RunState};
 ghost use Rattle.pg_units.specs.Order.{IsOrderedRun};
@@ -33,9 +36,12 @@ pub fn a_run_follows_the_plan()
 {}
 
 /// Along the turns of an ordered run each permitted run on an admitted input is ordered, where its decisions are closed and have
-/// no instances.
+/// no instances: so is the full guided run, and where that doesn't stray it is an ordered full run.
 pub fn an_admitted_input_keeps_the_order()
-    ensures { (r : ReferenceRun) (d : Taken) (input : List ℤ) (turns : List Turn) (xs : List Step) (z : State)
-        → IsOrderedRun r → ExtentsArePlain r d → IsWithoutInstances r d → IsClosed (reference_of r) d → admits (reference_of r) d input ≡ true
-        → length input < 2 ^ 64 → owners_of turns ≡ turns_of r → IsPermitted r.program input turns r.gated xs z → IsOrderedAlong turns xs }
+    ensures permitted { (r : ReferenceRun) (d : Taken) (input : List ℤ) (turns : List Turn) (xs : List Step) (z : State) → KeepsOrder r d input turns
+        → IsPermitted r.program input turns r.gated xs z → IsOrderedAlong turns xs }
+    ensures guided { (r : ReferenceRun) (d : Taken) (input : List ℤ) (turns : List Turn) → KeepsOrder r d input turns
+        → IsOrderedAlong turns (full_guided_of r.program input turns r.gated).trace }
+    ensures full { (r : ReferenceRun) (d : Taken) (input : List ℤ) (turns : List Turn) → KeepsOrder r d input turns → (guided_of r.program input turns r.gated).end ≢ GuidedEnd.Strayed
+        → IsOrderedFull r.program input turns r.gated (full_guided_of r.program input turns r.gated).trace (full_guided_of r.program input turns r.gated).state }
 {}
