@@ -1,5 +1,5 @@
 -- A run on any input begins like the plan of a run without instances, and on an admitted one is ordered as it.
-use Rattle.std.proofs.Common.{lit<, ◌≡◌, ◌≢◌, ℕ, ℤ, ◌<◌, ◌^◌, ◌*◌, ◌-◌, ◌+◌, ◌&&◌, zero, suc, Bool, true, false, List, [], ◌∷◌, length, Option, Some, None, refl, sym, ap, ◌∙◌, subst}
+use Rattle.std.proofs.Common.{lit<, ◌≡◌, ℕ, ℤ, ◌<◌, ◌^◌, ◌*◌, ◌-◌, ◌+◌, ◌&&◌, zero, suc, Bool, true, false, List, [], ◌∷◌, length, Option, Some, None, refl, sym, ap, subst}
 use Rattle.std.specs.Prelude.{nat_le, nat_lt, slice_index, slice_index_or, if◌then◌else◌}
 use Rattle.std.proofs.lemmas.Bool.{ltb-true}
 use Rattle.pg_num.specs.declared.layout.TheConstants.{MEMORY_BYTES}
@@ -18,7 +18,7 @@ use Rattle.pg_trace.specs.declared.step.Step.{Step}
 use Rattle.pg_trace.specs.declared.turn.Turn.{Turn}
 use Rattle.pg_machine.specs.Permitted.{IsPermitted}
 use Rattle.pg_machine.specs.State.{State, initial}
-use Rattle.pg_effects.specs.PermittedSteps.{PermittedSteps, none_taken}
+use Rattle.pg_effects.specs.PermittedSteps.{none_taken}
 use Rattle.pg_effects.specs.Views.{cell_at, local_at}
 use Rattle.pg_effects.specs.Reached.{HoldBytes}
 use Rattle.pg_effects.proofs.Permits.{permitted_is}
@@ -97,4 +97,4 @@ module _ (r : ReferenceRun) (o : IsOrderedRun r) (input : List ℤ) where
       let told = all_told r.gated p input (initial p) none_taken xs z h.run in
       let t : AreTurns deeds (owners_of turns) 0 (deeds_of p input (initial p) none_taken xs) = runs.turns_of (rules r.gated p) (Does r.gated p input) (owners_of turns) (determined r.gated p input) (seen (initial p) none_taken) 0 done (cuts.ran p input turns r.gated can xs z h).permitted in
       ordered_steps (owners_of turns) xs done told (turns_as (owners_of turns) 0 xs done told t)
-        (ordered_moves r.gated p input (owners_of turns) (initial p) none_taken xs t (subst (λ (T : List ℕ). IsOrdered deeds T (moved_by r.gated p input (initial p) none_taken xs)) (sym same) k.settled))
+      (ordered_moves r.gated p input (owners_of turns) (initial p) none_taken xs t (subst (λ (T : List ℕ). IsOrdered deeds T (moved_by r.gated p input (initial p) none_taken xs)) (sym same) k.settled))

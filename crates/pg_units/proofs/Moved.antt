@@ -13,18 +13,18 @@ use Rattle.pg_plans.specs.Steps.{Conflict}
 use Rattle.pg_plans.proofs.Effects.{deed_refl}
 use Rattle.pg_trace.specs.declared.step.Step.{Step}
 use Rattle.pg_trace.specs.declared.turn.Turn.{Turn}
-use Rattle.pg_trace.specs.Steps.{event_of, happening_in}
+use Rattle.pg_trace.specs.Steps.{event_of}
 use Rattle.pg_machine.specs.Runs.{Takes}
 use Rattle.pg_machine.specs.State.{State}
 use Rattle.pg_effects.specs.Effect as effects
 use Rattle.pg_effects.specs.Effect.{Effect, RequestEffect, effect, effect_of}
-use Rattle.pg_effects.specs.PermittedSteps.{MayTake, PermittedSteps, one_more, turns_behind}
+use Rattle.pg_effects.specs.PermittedSteps.{PermittedSteps, one_more, turns_behind}
 use Rattle.pg_effects.specs.Reached.{IsReached}
-use Rattle.pg_effects.specs.Views.{LeadsTo, cell_written, local_at, objects_of, objects_with, reads_cell}
+use Rattle.pg_effects.specs.Views.{LeadsTo, cell_written, local_at, objects_of, objects_with}
 use Rattle.pg_effects.proofs.Apart.{left_by}
 use Rattle.pg_effects.proofs.Reaches.{reached_step}
 use Rattle.pg_effects.proofs.Seen.{leads_to}
-use Rattle.pg_runs.specs.Deeds.{Did as Deed', deed_of, deeds_of}
+use Rattle.pg_runs.specs.Deeds.{Did as Deed', deeds_of}
 use Rattle.pg_runs.proofs.Along.{left_behind}
 use Rattle.pg_runs.proofs.Deeds.{request_event}
 use Rattle.pg_runs.proofs.Ordered.{Paired, ordered_as}
@@ -122,9 +122,8 @@ module _ (gated : List InstrId) (p : NumberedProgram) (input : List ℤ) where
       let w : m.takes.after ≡ effect s (effect_of p input s t) = left_by gated p input s m.takes.after t x m.takes.is_step in
       let more : PermittedSteps gated p input (effect s (effect_of p input s t)) (drop (done_after (deeds.is_event d) g) turns) (one_more t counts) xs z =
       subst (λ (us : List Turn). PermittedSteps gated p input (effect s (effect_of p input s t)) us (one_more t counts) xs z) (left_behind (event_of x) g turns ∙ ap (λ (b : Bool). drop (done_after b g) turns) (sym (is_some_if (is_some (event_of x)) (objects_with (effect_of p input s t).thread (effect_of p input s t).request (objects_of s)))))
-      (subst (λ (v : State). PermittedSteps gated p input v (turns_behind (event_of x) (drop g turns)) (one_more t counts) xs z) w h.1) in
-      (
+      (subst (λ (v : State). PermittedSteps gated p input v (turns_behind (event_of x) (drop g turns)) (one_more t counts) xs z) w h.1) in (
         record { state = s; moves = counts; taken = counts; reached = reached; looks = looks; told = x; may = m; is_deed = deed_refl d },
         moves_are turns (effect s (effect_of p input s t)) (one_more t counts) (plans.effect a d) (done_after (deeds.is_event d) g) xs z program small
-          (subst (IsReached p) w (reached_step gated p input s m.takes.after t x program small reached m.takes.is_ready m.takes.is_step)) (move_leads s counts a x reached looks m.takes) more,
+            (subst (IsReached p) w (reached_step gated p input s m.takes.after t x program small reached m.takes.is_ready m.takes.is_step)) (move_leads s counts a x reached looks m.takes) more,
       )

@@ -14,27 +14,25 @@ use Rattle.pg_plans.proofs.Lists.{cons_head, cons_tail}
 use Rattle.pg_step.specs.LocalState.{LocalState}
 use Rattle.pg_trace.specs.declared.step.Step.{Step}
 use Rattle.pg_trace.specs.Races.{recorded}
-use Rattle.pg_trace.specs.Steps.{event_of, happening_in, turn_at}
+use Rattle.pg_trace.specs.Steps.{happening_in}
 use Rattle.pg_machine.specs.Runs.{IsRun, Takes}
 use Rattle.pg_machine.specs.State.{State, initial}
-use Rattle.pg_effects.specs.Effect.{Effect, RequestEffect, effect_of}
+use Rattle.pg_effects.specs.Effect.{RequestEffect, effect_of}
 use Rattle.pg_effects.specs.PermittedSteps.{none_taken, one_more}
 use Rattle.pg_effects.specs.Reached.{IsReached}
-use Rattle.pg_effects.specs.Views.{LeadsTo, Objects, begun_in, local_at, objects_of, objects_with}
+use Rattle.pg_effects.specs.Views.{LeadsTo, begun_in, local_at, objects_of, objects_with}
 use Rattle.pg_effects.proofs.Reaches.{reached_first, reached_step}
 use Rattle.pg_effects.proofs.Seen.{leads_to}
 use Rattle.pg_runs.proofs.Deeds.{request_event, some_turn}
 use Rattle.pg_closed.specs.Extents.{is_live}
 use Rattle.pg_closed.specs.Known.{RunShadow, Seen, Taken, after_step, region_of, seen_from, start_of, thread_of}
 use Rattle.pg_closed.specs.Moments.{Moment, calls_of, instr_in, moments_from, thread_in}
-use Rattle.pg_closed.specs.Rules.{has_region, kind_in, prints_in}
-use Rattle.pg_closed.specs.Shadows.{Shadow}
+use Rattle.pg_closed.specs.Rules.{prints_in}
 use Rattle.pg_trace.specs.Steps.{access_in}
 use Rattle.std.specs.List.{list_any}
 use Rattle.std.specs.Prelude.{nat_lt, ◌-◌}
 use Rattle.pg_num.specs.declared.layout.TheConstants.{MEMORY_BYTES}
-use Rattle.pg_units.specs.Fits.{IsRemembered, IsWithoutInstances, PlanRemembers, thread_before}
-use Rattle.pg_units.specs.Likes.{PlanThread}
+use Rattle.pg_units.specs.Fits.{IsWithoutInstances, PlanRemembers, thread_before}
 use Rattle.pg_units.specs.Order.{IsOrderedRun}
 use Rattle.pg_units.specs.Units.{Met, PlanState, PlanUnit, ReferenceRun, access_touch, behind, cell_known, deed_of, is_event_at, is_instance, is_written_in, last_from, met_in, met_with, plan_start, planned, reference_of, standing_of, states_from, turns_of, unit_of, units_from, units_of, word_written, writes_cell}
 use Rattle.pg_effects.specs.Views.{is_thread}
@@ -108,7 +106,7 @@ module _ (r : ReferenceRun) (d : Taken) (program : IsProgram r.program) (small :
         go : (o : Option LocalState) → local_at s v ≡ o → standing_of o (thread_of known v).calls ≡ standing_of o (thread_of after v).calls
         go None e = refl
         go (Some l) e = ap (λ c. standing_of (Some l) c) (sym (others_kept (reference_of r) d n m known r.gated r.input s h plain v w
-          (subst (λ (i : ℕ). v < i) (sym holds.started.number) (some_there s.locals v (begun_there (slice_get s.locals v) l e)))))
+            (subst (λ (i : ℕ). v < i) (sym holds.started.number) (some_there s.locals v (begun_there (slice_get s.locals v) l e)))))
 
     -- no event changes no objects
     objects_kept : is_event_at x ≡ false → objects_of h.after ≡ objects_of s
@@ -123,10 +121,10 @@ module _ (r : ReferenceRun) (d : Taken) (program : IsProgram r.program) (small :
 
     unit_same : (z : PlanState) → is_instance d x ≡ false → Same z (planned s known counts) → Same (plans.effect z (deed_of d u)) (planned (behind r s (thread_in m)) after (one_more (thread_in m) counts))
     unit_same z f same = subst (λ (b : State). Same (plans.effect z (deed_of d u)) (planned b after (one_more (thread_in m) counts))) (sym (behind_is r d s m.did.did h)) (record {
-        locals = λ v. by_thread v (cases_eq v (thread_in m));
-        cells = λ c. by_cell c (writes_cell d x c) refl;
-        objects = by_event (is_event_at x) refl;
-      })
+      locals = λ v. by_thread v (cases_eq v (thread_in m));
+      cells = λ c. by_cell c (writes_cell d x c) refl;
+      objects = by_event (is_event_at x) refl;
+    })
       where
         local_is : u.local ≡ local_at h.after (thread_in m)
         local_is = no_if (is_instance d x) _ _ f ∙ ap (λ (b : State). local_at b (thread_in m)) (behind_is r d s m.did.did h)
@@ -182,17 +180,17 @@ module _ (r : ReferenceRun) (d : Taken) (program : IsProgram r.program) (small :
       go (u ∷ us) q more =
           let b = behind_is r d s y run.0 in
           let k = more (plans.effect z (deed_of d first))
-            (subst (λ (j : State). IsRun r.gated r.program r.input j ys w) (sym b) run.1)
-            (subst (Holds (after_step (reference_of r) d n m known)) (sym b) (holds_after n m known s counts last later run.0 holds alone.0.0))
-            (unit_same n m known s counts last later run.0 holds alone.0.0 z alone.0.1 same) us (cons_tail q) in
+          (subst (λ (j : State). IsRun r.gated r.program r.input j ys w) (sym b) run.1)
+          (subst (Holds (after_step (reference_of r) d n m known)) (sym b) (holds_after n m known s counts last later run.0 holds alone.0.0))
+          (unit_same n m known s counts last later run.0 holds alone.0.0 z alone.0.1 same) us (cons_tail q) in
           subst (λ (i : PlanUnit). Recalls z (i ∷ us) v) (cons_head q) (record { thread = k.thread; cells = k.cells; objects = k.objects })
 
 module _ (r : ReferenceRun) (d : Taken) (o : IsOrderedRun r) where
   pub plan_remembers : IsWithoutInstances r d → PlanRemembers r d
   plan_remembers alone us u vs e =
       let k = recalls r d o.can.program o.can.small (turns_of r) 0 0 (start_of r.program) (initial r.program) o.last r.steps none_taken (last_from r (initial r.program) r.steps) (plan_start r) o.run
-        (record { reached = reached_first r.program o.can.program o.can.bytes; words = first_words r d; started = first_fresh r.program })
-        (record { locals = λ t. refl; cells = λ c. refl; objects = refl }) alone us u vs e in
+      (record { reached = reached_first r.program o.can.program o.can.bytes; words = first_words r d; started = first_fresh r.program })
+      (record { locals = λ t. refl; cells = λ c. refl; objects = refl }) alone us u vs e in
       record { thread = k.thread; cells = k.cells; objects = k.objects }
 
   -- no unit is an instance
