@@ -1,6 +1,7 @@
 pub mod Accesses
 pub mod Allocations
 pub mod Along
+pub mod Begins
 pub mod Branches
 pub mod Calls
 pub mod Cells
@@ -20,6 +21,7 @@ pub mod Likes
 pub mod Loads
 pub mod Made
 pub mod Members
+pub mod Moved
 pub mod Obeying
 pub mod Opened
 pub mod Ordered

@@ -14,27 +14,25 @@ use Rattle.pg_plans.proofs.Lists.{cons_head, cons_tail}
 use Rattle.pg_step.specs.LocalState.{LocalState}
 use Rattle.pg_trace.specs.declared.step.Step.{Step}
 use Rattle.pg_trace.specs.Races.{recorded}
-use Rattle.pg_trace.specs.Steps.{event_of, happening_in, turn_at}
+use Rattle.pg_trace.specs.Steps.{happening_in}
 use Rattle.pg_machine.specs.Runs.{IsRun, Takes}
 use Rattle.pg_machine.specs.State.{State, initial}
-use Rattle.pg_effects.specs.Effect.{Effect, RequestEffect, effect_of}
+use Rattle.pg_effects.specs.Effect.{RequestEffect, effect_of}
 use Rattle.pg_effects.specs.PermittedSteps.{none_taken, one_more}
 use Rattle.pg_effects.specs.Reached.{IsReached}
-use Rattle.pg_effects.specs.Views.{LeadsTo, Objects, begun_in, local_at, objects_of, objects_with}
+use Rattle.pg_effects.specs.Views.{LeadsTo, begun_in, local_at, objects_of, objects_with}
 use Rattle.pg_effects.proofs.Reaches.{reached_first, reached_step}
 use Rattle.pg_effects.proofs.Seen.{leads_to}
 use Rattle.pg_runs.proofs.Deeds.{request_event, some_turn}
 use Rattle.pg_closed.specs.Extents.{is_live}
 use Rattle.pg_closed.specs.Known.{RunShadow, Seen, Taken, after_step, region_of, seen_from, start_of, thread_of}
 use Rattle.pg_closed.specs.Moments.{Moment, calls_of, instr_in, moments_from, thread_in}
-use Rattle.pg_closed.specs.Rules.{has_region, kind_in, prints_in}
-use Rattle.pg_closed.specs.Shadows.{Shadow}
+use Rattle.pg_closed.specs.Rules.{prints_in}
 use Rattle.pg_trace.specs.Steps.{access_in}
 use Rattle.std.specs.List.{list_any}
 use Rattle.std.specs.Prelude.{nat_lt, ◌-◌}
 use Rattle.pg_num.specs.declared.layout.TheConstants.{MEMORY_BYTES}
-use Rattle.pg_units.specs.Fits.{IsRemembered, IsWithoutInstances, PlanRemembers, thread_before}
-use Rattle.pg_units.specs.Likes.{PlanThread}
+use Rattle.pg_units.specs.Fits.{IsWithoutInstances, PlanRemembers, thread_before}
 use Rattle.pg_units.specs.Order.{IsOrderedRun}
 use Rattle.pg_units.specs.Units.{Met, PlanState, PlanUnit, ReferenceRun, access_touch, behind, cell_known, deed_of, is_event_at, is_instance, is_written_in, last_from, met_in, met_with, plan_start, planned, reference_of, standing_of, states_from, turns_of, unit_of, units_from, units_of, word_written, writes_cell}
 use Rattle.pg_effects.specs.Views.{is_thread}
@@ -44,15 +42,15 @@ use Rattle.pg_units.proofs.Made.{AreFresh, first_fresh, fresh_kept, others_kept}
 use Rattle.pg_units.proofs.Worded.{first_words, unit_facts}
 use Rattle.pg_units.proofs.Words.{words_kept}
 
-yes_if : {A : Type 0} (b : Bool) (x y : A) → b ≡ true → (if b then x else y) ≡ x
+pub yes_if : {A : Type 0} (b : Bool) (x y : A) → b ≡ true → (if b then x else y) ≡ x
 yes_if true x y h = refl
 yes_if false x y h = absurd (true≢false (sym h))
 
-no_if : {A : Type 0} (b : Bool) (x y : A) → b ≡ false → (if b then x else y) ≡ y
+pub no_if : {A : Type 0} (b : Bool) (x y : A) → b ≡ false → (if b then x else y) ≡ y
 no_if true x y h = absurd (true≢false h)
 no_if false x y h = refl
 
-thread_is : (p : NumberedProgram) (input : List ℤ) (s : State) (t : ℕ) → (effect_of p input s t).thread ≡ t
+pub thread_is : (p : NumberedProgram) (input : List ℤ) (s : State) (t : ℕ) → (effect_of p input s t).thread ≡ t
 unfolding effect_of
 thread_is p input s t = refl
 

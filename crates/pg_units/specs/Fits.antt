@@ -1,5 +1,5 @@
 -- What a step of a run on an input needs to fit a unit of the plan.
-use Rattle.std.specs.Prelude.{◌≡◌, ℕ, ℤ, List, [], ◌∷◌, ◌++◌, map, true, false, Some, slice_get}
+use Rattle.std.specs.Prelude.{◌≡◌, ◌<◌, ◌^◌, length, ℕ, ℤ, List, [], ◌∷◌, ◌++◌, map, true, false, Some, slice_get}
 use Rattle.std.specs.List.{AllByRecursion}
 use Rattle.pg_plans.specs.Effects.{effects}
 use Rattle.pg_step.specs.LocalState.{fresh}
@@ -8,7 +8,11 @@ use Rattle.pg_closed.specs.Known.{Seen, Taken, fresh_registers, thread_of, seen_
 use Rattle.pg_closed.specs.Moments.{thread_in}
 use Rattle.pg_units.specs.Likes.{IsCellLike, IsThreadLike, PlanThread}
 use Rattle.pg_units.specs.Moves.{RunState}
-use Rattle.pg_units.specs.Units.{PlanUnit, ReferenceRun, cell_known, deed_of, is_event_at, is_instance, plan_start, reads_cell, reference_of, standing_of, units_of}
+use Rattle.pg_closed.specs.Closed.{IsClosed, admits}
+use Rattle.pg_runs.specs.Deeds.{owners_of}
+use Rattle.pg_trace.specs.declared.turn.Turn.{Turn}
+use Rattle.pg_units.specs.Order.{IsOrderedRun}
+use Rattle.pg_units.specs.Units.{ExtentsArePlain, PlanUnit, ReferenceRun, cell_known, deed_of, is_event_at, is_instance, plan_start, reads_cell, reference_of, standing_of, turns_of, units_of}
 
 -- the thread of a unit before it
 abbrev pub thread_before : PlanUnit → PlanThread
@@ -39,3 +43,15 @@ PlanRemembers r d = (us : List PlanUnit) (u : PlanUnit) (vs : List PlanUnit) →
 -- each step is a unit by itself
 abbrev pub IsWithoutInstances : ReferenceRun → Taken → Type 0
 IsWithoutInstances r d = AllByRecursion (λ (x : Seen). (x.live ≡ true) × (is_instance d x ≡ false)) (seen_in (reference_of r) d)
+
+-- ---- an input that keeps the order
+
+-- a reference run that is ordered, under closed decisions without instances; an input that they admit; and turns of the same threads
+pub record KeepsOrder (r : ReferenceRun) (d : Taken) (input : List ℤ) (turns : List Turn) : Type 0 where
+  pub ordered : IsOrderedRun r
+  pub plain : ExtentsArePlain r d
+  pub alone : IsWithoutInstances r d
+  pub closed : IsClosed (reference_of r) d
+  pub admitted : admits (reference_of r) d input ≡ true
+  pub small : length input < 2 ^ 64
+  pub turns_are : owners_of turns ≡ turns_of r

@@ -1,26 +1,47 @@
 //! Whole runs on an admitted input against a plan without instances: the law is the clause of a function that does nothing.
 
-ghost use Rattle.std.specs.Prelude.{◌≡◌, ◌<◌, ◌^◌, ℕ, ℤ, List, length, true};
+ghost use Rattle.std.specs.Prelude.{◌≡◌, ◌≢◌, ◌<◌, ◌^◌, ℕ, ℤ, List, length, true};
+ghost use Rattle.pg_plans.specs.Cuts.{kept};
 ghost use Rattle.pg_plans.specs.Effects.{deeds, effects};
-ghost use Rattle.pg_plans.specs.Intervals.{IsOrdered, turns_done};
-ghost use Rattle.pg_plans.specs.Plans.{Alike, Follows, Moves};
+ghost use Rattle.pg_plans.specs.Intervals.{IsOrdered, did_of, turns_done};
+ghost use Rattle.pg_plans.specs.Plans.{Alike, Follows, Moves, Performs};
+ghost use Rattle.pg_runs.specs.Cuts.{IsOrderedAlong, IsOrderedFull};
+ghost use Rattle.pg_machine.specs.declared.guided_end.GuidedEnd.TheVariants as GuidedEnd;
+ghost use Rattle.pg_machine.specs.FullGuided.{full_guided_of};
+ghost use Rattle.pg_machine.specs.Guided.{guided_of};
 ghost use Rattle.pg_runs.specs.Deeds.{owners_of};
+ghost use Rattle.pg_machine.specs.Permitted.{IsPermitted};
+ghost use Rattle.pg_machine.specs.State.{State};
+ghost use Rattle.pg_trace.specs.declared.step.Step.{Step};
 ghost use Rattle.pg_trace.specs.declared.turn.Turn.{Turn};
 ghost use Rattle.pg_closed.specs.Closed.{IsClosed, admits};
 ghost use Rattle.pg_closed.specs.Known.{Taken};
-ghost use Rattle.pg_units.specs.Fits.{IsWithoutInstances};
+ghost use Rattle.pg_units.specs.Fits.{IsWithoutInstances, KeepsOrder};
 ghost use Rattle.pg_units.specs.Likes.{like};
 ghost use Rattle.pg_units.specs.Moves.{IsMove, RunDeed, RunState};
 ghost use Rattle.pg_units.specs.Order.{IsOrderedRun};
 ghost use Rattle.pg_units.specs.Units.{ExtentsArePlain, ReferenceRun, plan_of, plan_start, reference_of, turns_of};
 
 /// Under closed decisions without instances, on an input that they admit, moves along the same threads' turns from a state that
-/// is like the plan's first follow the plan: the state that they leave is like the one that the units done by then leave. And of
-/// each two moves that meet at a cell that one of them writes, the one's turn stands before the other's.
+/// is like the plan's first follow the plan: they are the units done by then, the same turns with the same replies, and the state that
+/// they leave is like the one that these units leave. And of each two moves that meet at a cell that one of them writes, the one's
+/// next turn stands before the other's last turn.
 pub fn a_run_follows_the_plan()
     ensures { (r : ReferenceRun) (d : Taken) (input : List ℤ) (turns : List Turn) (s : RunState) (ds : List RunDeed)
         → IsOrderedRun r → ExtentsArePlain r d → IsWithoutInstances r d
         → IsClosed (reference_of r) d → admits (reference_of r) d input ≡ true → length input < 2 ^ 64 → owners_of turns ≡ turns_of r
         → Alike (like input) (plan_start r) s → Moves (IsMove r.gated r.program input turns) s 0 ds
-        → Follows (like input) (turns_of r) (plan_start r) (plan_of r d) (turns_done deeds 0 ds) (effects s ds) × IsOrdered deeds (turns_of r) ds }
+        → (cut : Follows (like input) (turns_of r) (plan_start r) (plan_of r d) (turns_done deeds 0 ds) (effects s ds))
+        × Performs (like input) (did_of (kept cut.marks)) ds × IsOrdered deeds (turns_of r) ds }
+{}
+
+/// Along the turns of an ordered run each permitted run on an admitted input is ordered, where its decisions are closed and have
+/// no instances: so is the full guided run, and where that doesn't stray it is an ordered full run.
+pub fn an_admitted_input_keeps_the_order()
+    ensures permitted { (r : ReferenceRun) (d : Taken) (input : List ℤ) (turns : List Turn) (xs : List Step) (z : State) → KeepsOrder r d input turns
+        → IsPermitted r.program input turns r.gated xs z → IsOrderedAlong turns xs }
+    ensures guided { (r : ReferenceRun) (d : Taken) (input : List ℤ) (turns : List Turn) → KeepsOrder r d input turns
+        → IsOrderedAlong turns (full_guided_of r.program input turns r.gated).trace }
+    ensures full { (r : ReferenceRun) (d : Taken) (input : List ℤ) (turns : List Turn) → KeepsOrder r d input turns → (guided_of r.program input turns r.gated).end ≢ GuidedEnd.Strayed
+        → IsOrderedFull r.program input turns r.gated (full_guided_of r.program input turns r.gated).trace (full_guided_of r.program input turns r.gated).state }
 {}
