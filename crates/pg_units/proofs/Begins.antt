@@ -117,9 +117,8 @@ module _ (r : ReferenceRun) (o : IsOrderedRun r) (input : List ℤ) where
       let ms = k.holds.cut.marks in
       let front = events_first (turns_of r) (plan_of r d) (is_plan r d o closed plain) (turns_done deeds 0 ds) ms k.holds.cut.is_whole k.holds.cut.below in
       let done = filter deeds.is_event (did_of (kept ms)) in
-      let mine : answers xs ≡ map plan_answer done = sym (moved_answers r.gated p input (initial p) none_taken xs) ∙ fit_answers input done (filter deeds.is_event ds) k.performs.events in
-      (
+      let mine : answers xs ≡ map plan_answer done = sym (moved_answers r.gated p input (initial p) none_taken xs) ∙ fit_answers input done (filter deeds.is_event ds) k.performs.events in (
         map plan_answer front.0,
         ap (λ (l : List Answered). l ++ map plan_answer front.0) mine ∙ map_join plan_answer done front.0 ∙ ap (map plan_answer) front.1
-          ∙ ap (λ (l : List PlanDeed). map plan_answer (filter deeds.is_event l)) (ap did_of k.holds.cut.is_whole ∙ did_times deeds (turns_of r) 0 (plan_of r d)) ∙ plan_answers r d plain,
+            ∙ ap (λ (l : List PlanDeed). map plan_answer (filter deeds.is_event l)) (ap did_of k.holds.cut.is_whole ∙ did_times deeds (turns_of r) 0 (plan_of r d)) ∙ plan_answers r d plain,
       )

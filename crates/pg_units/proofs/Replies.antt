@@ -1,11 +1,10 @@
 -- A run on an admitted input does the first turns of the reference run, with the same replies.
-use Rattle.std.proofs.Common.{◌≡◌, ℕ, ℤ, ◌^◌, ◌<◌, ◌++◌, suc, cond, Bool, true, false, List, [], ◌∷◌, length, map, Option, Some, None, refl, sym, ap, ◌∙◌, subst}
+use Rattle.std.proofs.Common.{◌≡◌, ℕ, ℤ, ◌++◌, suc, cond, Bool, true, false, List, [], ◌∷◌, map, refl, sym, ap, ◌∙◌}
 use Rattle.std.specs.Prelude.{filter, is_some, if◌then◌else◌}
 use Rattle.pg_ir.specs.declared.ids.InstrId.{InstrId}
 use Rattle.pg_ir.specs.Program.{NumberedProgram}
-use Rattle.pg_plans.specs.Cuts.{kept, whole}
 use Rattle.pg_plans.specs.Effects.{deeds}
-use Rattle.pg_plans.specs.Intervals.{did_of, done_after, times}
+use Rattle.pg_plans.specs.Intervals.{done_after, times}
 use Rattle.pg_plans.specs.Plans.{FitEach}
 use Rattle.pg_trace.specs.declared.step.Step.{Step}
 use Rattle.pg_trace.specs.Races.{recorded}
@@ -14,7 +13,7 @@ use Rattle.pg_machine.specs.State.{State, initial}
 use Rattle.pg_effects.specs.Effect.{effect, effect_of}
 use Rattle.pg_effects.specs.PermittedSteps.{none_taken, one_more}
 use Rattle.pg_runs.proofs.Deeds.{some_turn}
-use Rattle.pg_closed.specs.Known.{RunShadow, Taken, after_step, seen_from, start_of}
+use Rattle.pg_closed.specs.Known.{RunShadow, Taken, seen_from, start_of}
 use Rattle.pg_closed.specs.Moments.{moments_from, thread_in}
 use Rattle.pg_units.specs.Answered.{Answered, answered, answers}
 use Rattle.pg_units.specs.Likes.{like}
