@@ -27,6 +27,7 @@ pub mod Opened
 pub mod Ordered
 pub mod Placed
 pub mod Remembered
+pub mod Replies
 pub mod Requests
 pub mod Results
 pub mod Settled

@@ -56,7 +56,7 @@ conflicts d d2 e e2 h k c = inl (record {
 
 module _ (gated : List InstrId) (p : NumberedProgram) (input : List ℤ) where
   -- what these steps do, one after another
-  pub moved_by : State → (ℕ → ℕ) → List Step → List RunDeed
+  unfoldable pub moved_by : State → (ℕ → ℕ) → List Step → List RunDeed
   moved_by s counts [] = []
   moved_by s counts (x ∷ xs) = deed_moved p input s counts x ∷ moved_by (effect s (effect_of p input s x.thread.0)) (one_more x.thread.0 counts) xs
 

@@ -1,3 +1,4 @@
+pub mod Answered
 pub mod Fits
 pub mod Likes
 pub mod Lists

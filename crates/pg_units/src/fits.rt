@@ -19,5 +19,6 @@ ghost use Rattle.pg_units.specs.Units.{ExtentsArePlain, PlanUnit, ReferenceRun, 
 pub fn a_step_fits()
     ensures { (r : ReferenceRun) (d : Taken) (input : List ℤ) (turns : List Turn) (u : PlanUnit) (a : RunState) (g : ℕ) (e : RunDeed)
         → IsOrderedRun r → ExtentsArePlain r d → IsClosed (reference_of r) d → admits (reference_of r) d input ≡ true → length input < 2 ^ 64
-        → Has (units_of r d) u → is_instance d u.seen ≡ false → IsMove r.gated r.program input turns a g e → IsAlikeFor input d u a → e.thread ≡ thread_in u.seen.moment → Fits (like input) (deed_of d u) e }
+        → Has (units_of r d) u → is_instance d u.seen ≡ false → IsMove r.gated r.program input turns a g e → IsAlikeFor input d u a → e.thread ≡ thread_in u.seen.moment
+        → Fits (like input) (deed_of d u) e }
 {}

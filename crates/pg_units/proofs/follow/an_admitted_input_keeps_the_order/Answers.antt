@@ -1,6 +1,6 @@
 use Rattle.pg_machine.specs.FullGuided.{full_guided_of}
 use Rattle.pg_effects.proofs.FullEnds.{full_is}
-use Rattle.pg_units.proofs.Begins.{ordered_runs}
+use Rattle.pg_units.proofs.Begins.{first_answers, ordered_runs}
 use Rattle.pg_units.proofs.follow.an_admitted_input_keeps_the_order.Goals as goal
 
 pub returns-clause-permitted : goal.returns-clause-permitted
@@ -19,3 +19,6 @@ returns-clause-full c = λ r d input turns k n.
       is_full = (g.full n).0;
       ordered = ordered_runs r k.ordered input d turns (full_guided_of r.program input turns r.gated).trace (full_guided_of r.program input turns r.gated).state k.plain k.alone k.closed k.admitted k.small k.turns_are g.permitted;
     }
+
+pub returns-clause-replies : goal.returns-clause-replies
+returns-clause-replies c = λ r d input turns xs z k h. first_answers r k.ordered input d turns xs z k.plain k.alone k.closed k.admitted k.small k.turns_are h
