@@ -1,3 +1,5 @@
 pub mod Faults
 pub mod Memory
 pub mod Adapter
+pub mod Shelves
+pub mod ShortSinks
