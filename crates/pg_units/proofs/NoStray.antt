@@ -1,8 +1,8 @@
 -- On an admitted input the guided run along a reference run's own turns doesn't stray: the owner of the next turn does it, or doesn't
 -- come so far.
-use Rattle.std.proofs.Common.{◌≡◌, ◌≢◌, ℕ, ℤ, ◌⊎◌, ◌≤◌, ◌+◌, zero, suc, Bool, true, false, cond, List, [], ◌∷◌, ◌++◌, length, map, drop, take, Option, Some, None, refl, sym, ap, ◌∙◌, subst, arith, inl, inr}
+use Rattle.std.proofs.Common.{◌≡◌, ◌≢◌, ℕ, ℤ, ◌⊎◌, ◌≤◌, ◌+◌, zero, suc, Bool, true, false, cond, List, [], ◌∷◌, ◌++◌, length, map, drop, take, Option, Some, None, refl, sym, ap, ◌∙◌, subst, arith, inl, inr, append-nil}
 use Rattle.std.specs.List.{AllByRecursion as AllOf, filter}
-use Rattle.std.specs.Prelude.{◌&&◌, is_some, slice_get}
+use Rattle.std.specs.Prelude.{◌&&◌, if◌then◌else◌, is_some, slice_get}
 use Rattle.std.proofs.lemmas.Bool.{true≢false}
 use Rattle.std.proofs.lemmas.List.{length-append}
 use Rattle.std.proofs.lemmas.Option.{slice_get_within}
@@ -22,6 +22,8 @@ use Rattle.pg_step.specs.LocalState.{LocalState, fresh}
 use Rattle.pg_step.specs.States.{CanStep}
 use Rattle.pg_step.specs.declared.action.Action.{Action}
 use Rattle.pg_step.specs.declared.action.Action.TheVariants as actions
+use Rattle.pg_ir.specs.declared.request.TrapName.{TrapName}
+use Rattle.pg_ir.specs.Program.{NumberedProgram}
 use Rattle.pg_sync.specs.Sync as sync
 use Rattle.pg_trace.specs.declared.step.Step.{Step}
 use Rattle.pg_trace.specs.declared.turn.Turn.{Turn}
@@ -29,10 +31,11 @@ use Rattle.pg_trace.specs.Steps.{event_of, events, happening_in}
 use Rattle.pg_machine.specs.declared.guided_end.GuidedEnd.TheVariants as ends
 use Rattle.pg_machine.specs.Guided.{cannot_go, guided_of, is_turn}
 use Rattle.pg_machine.specs.MachineStep.{is_ended, may_act, trap_of, turn_of}
-use Rattle.pg_machine.specs.Permitted.{IsPermitted, turns_left}
+use Rattle.pg_machine.specs.Permitted.{IsPermitted, end_before, has_spent, trapped, turns_left}
 use Rattle.pg_machine.specs.Runs.{Takes}
 use Rattle.pg_machine.specs.State.{State, initial, next_of}
 use Rattle.pg_machine.proofs.Asks.{ready_acts}
+use Rattle.pg_machine.proofs.GuidedExits.{guided_exits}
 use Rattle.pg_machine.proofs.GuidedPermitted.{guided_permitted}
 use Rattle.pg_machine.proofs.GuidedRuns.{guided_is, turn_is_itself}
 use Rattle.pg_effects.specs.PermittedSteps.{none_taken}
@@ -45,7 +48,7 @@ use Rattle.pg_effects.proofs.Reaches.{reached_first, reached_run}
 use Rattle.pg_effects.proofs.Threads.{event_is}
 use Rattle.pg_runs.specs.Deeds.{local_event, local_goes, local_granted, owners_of}
 use Rattle.pg_runs.proofs.Deeds.{event_seen, get_behind, goes_by, some_turn}
-use Rattle.pg_runs.proofs.Maximal.{not_ended}
+use Rattle.pg_runs.proofs.Maximal.{drop_end, not_ended}
 use Rattle.pg_runs.proofs.Rules.{Steps, looks, none_granted, steps_by}
 use Rattle.pg_closed.specs.Known.{Taken, fresh_registers, thread_of}
 use Rattle.pg_closed.specs.Moments.{thread_in}
@@ -57,7 +60,7 @@ use Rattle.pg_units.specs.Moves.{IsMove, RunDeed, RunState, moved}
 use Rattle.pg_units.specs.Order.{IsOrderedRun}
 use Rattle.pg_units.specs.Units.{PlanDeed, PlanUnit, ReferenceRun, cell_known, deed_of, is_event_at, is_instance, plan_of, plan_start, reads_cell, reference_of, standing_of, turns_of, units_of}
 use Rattle.pg_units.proofs.Along.{IsUnit}
-use Rattle.pg_units.proofs.Begins.{begins_alike}
+use Rattle.pg_units.proofs.Begins.{begins_alike, first_answers}
 use Rattle.pg_units.proofs.Counted as counted
 use Rattle.pg_units.proofs.Dispatch.{both_fits}
 use Rattle.pg_units.proofs.EventKinds.{events_alike}
@@ -451,3 +454,43 @@ no_stray r d input turns all e = by (drop (guided_of r.program input turns r.gat
     by (u ∷ us) q stuck =
         let left : turns_left turns (guided_of r.program input turns r.gated).trace ≡ u ∷ us = ap (λ (i : ℕ). drop i turns) (ap length told ∙ front_length (guided_of r.program input turns r.gated).turns turns u us q) ∙ q in
         not_stuck r d input turns all (guided_of r.program input turns r.gated).trace (guided_of r.program input turns r.gated).state h u us left stuck
+
+-- ---- where it exits
+
+no_exit : (s : State) (t : ℕ) (o : Option TrapName) (value : ℤ) → trapped s t o ≡ ends.Exit value → ⊥
+no_exit s t None value e = absurd cc
+no_exit s t (Some name) value e = absurd cc
+
+none_left : (p : NumberedProgram) (xs : List Step) (s : State) (us : List Turn) (value : ℤ) → end_before p xs s us ≡ ends.Exit value → us ≡ []
+none_left p xs s [] value e = refl
+none_left p xs s (u ∷ us) value e = go (has_spent xs u.thread.0) e
+  where
+    go : (b : Bool) → (if b then ends.Budget u.thread else trapped s u.thread.0 (trap_of s u.thread.0 (next_of p s u.thread.0))) ≡ ends.Exit value → u ∷ us ≡ []
+    go true k = absurd cc
+    go false k = absurd (no_exit s u.thread.0 (trap_of s u.thread.0 (next_of p s u.thread.0)) value k)
+
+map_length : {A B : Type 0} (f : A → B) (xs : List A) → length (map f xs) ≡ length xs
+map_length f [] = refl
+map_length f (x ∷ xs) = ap suc (map_length f xs)
+
+answers_length : (xs : List Step) → length (answers xs) ≡ length (events xs)
+answers_length xs = sym (map_length (λ (a : Answered). a.turn) (answers xs)) ∙ ap length (answered_turns xs) ∙ map_length (λ (u : Turn). Some u) (events xs)
+
+nothing : {A : Type 0} (xs ys rest : List A) → xs ++ rest ≡ ys → length ys ≤ length xs → xs ≡ ys
+nothing xs ys [] e h = sym (append-nil xs) ∙ e
+nothing xs ys (a ∷ rest) e h = let k = ap length e in let l = length-append xs (a ∷ rest) in absurd (omega (arith, k, l, h))
+
+-- it has had each reply of the reference run
+pub all_answers : (r : ReferenceRun) (d : Taken) (input : List ℤ) (turns : List Turn) (value : ℤ) → RunsToEnd r d input turns → (guided_of r.program input turns r.gated).end ≡ ends.Exit value → answers (guided_of r.program input turns r.gated).trace ≡ answers r.steps
+all_answers r d input turns value all e =
+    let p = r.program in
+    let xs = (guided_of r.program input turns r.gated).trace in
+    let z = (guided_of r.program input turns r.gated).state in
+    let keeps = all.keeps in
+    let q = first_answers r keeps.ordered input d turns xs z keeps.plain keeps.alone keeps.closed keeps.admitted keeps.small keeps.turns_are (guided_permitted p input turns r.gated) in
+    let left = none_left p xs z (turns_left turns xs) value (guided_exits p input turns r.gated value e).1 in
+    let a = answers_length xs in
+    let b = answers_length r.steps in
+    let c = ap length all.own in
+    let k = drop_end (length (events xs)) turns left in
+    nothing (answers xs) (answers r.steps) q.0 q.1 (omega (arith, a, b, c, k))

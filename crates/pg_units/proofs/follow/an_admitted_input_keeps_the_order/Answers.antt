@@ -1,7 +1,7 @@
 use Rattle.pg_machine.specs.FullGuided.{full_guided_of}
 use Rattle.pg_effects.proofs.FullEnds.{full_is}
 use Rattle.pg_units.proofs.Begins.{first_answers, ordered_runs}
-use Rattle.pg_units.proofs.NoStray.{no_stray}
+use Rattle.pg_units.proofs.NoStray.{all_answers, no_stray}
 use Rattle.pg_units.proofs.follow.an_admitted_input_keeps_the_order.Goals as goal
 
 pub returns-clause-permitted : goal.returns-clause-permitted
@@ -36,3 +36,6 @@ returns-clause-whole c = λ r d input turns k.
       is_full = (g.full (no_stray r d input turns k)).0;
       ordered = ordered_runs r o.ordered input d turns (full_guided_of r.program input turns r.gated).trace (full_guided_of r.program input turns r.gated).state o.plain o.alone o.closed o.admitted o.small o.turns_are g.permitted;
     }
+
+pub returns-clause-exits : goal.returns-clause-exits
+returns-clause-exits c = λ r d input turns value k e. all_answers r d input turns value k e
