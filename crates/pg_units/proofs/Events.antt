@@ -1,31 +1,27 @@
 -- Events of known functions that touch no cell fit.
-use Rattle.std.proofs.Common.{◌≡◌, ℕ, ℤ, ◌+◌, ◌-◌, zero, suc, Bool, true, false, List, [], ◌∷◌, length, map, Option, Some, None, refl, sym, ap, ◌∙◌, subst, arith}
-use Rattle.std.specs.Prelude.{◌&&◌, ◌||◌, ◌==◌, nat_lt, is_some, slice_get, slice_index, slice_index_or, if◌then◌else◌}
+use Rattle.std.proofs.Common.{◌≡◌, ℕ, ℤ, ◌+◌, ◌-◌, Bool, true, false, List, ◌∷◌, length, Option, Some, None, refl, sym, ap, ◌∙◌, subst}
+use Rattle.std.specs.Prelude.{◌==◌, nat_lt, is_some, slice_get, slice_index_or, if◌then◌else◌}
 use Rattle.std.specs.List.{AllByRecursion as AllOf}
-use Rattle.std.proofs.lemmas.Bool.{ltb-true, true≢false}
+use Rattle.std.proofs.lemmas.Bool.{true≢false}
 use Rattle.pg_num.specs.declared.layout.TheConstants.{MEMORY_BYTES}
 use Rattle.pg_ir.specs.declared.instr.Op.{Op}
 use Rattle.pg_ir.specs.declared.instr.Op.TheVariants as op
 use Rattle.pg_ir.specs.declared.known.Known.{Known as KnownFunction}
-use Rattle.pg_ir.specs.declared.known.Known.TheVariants as known
 use Rattle.pg_ir.specs.declared.request.Request.{Request}
 use Rattle.pg_ir.specs.declared.value.Value.{Value}
 use Rattle.pg_ir.specs.Signatures.{returned_by}
 use Rattle.pg_ir.specs.WellFormed.{IsProgram}
-use Rattle.pg_nodes.specs.declared.check.Test.TheVariants as test
-use Rattle.pg_nodes.specs.Values.{is_met}
 use Rattle.pg_plans.specs.Plans.{Fits}
 use Rattle.pg_sync.specs.Sync as sync
 use Rattle.pg_step.specs.declared.action.Action.TheVariants as actions
 use Rattle.pg_step.specs.LocalState.{LocalState, region_of}
-use Rattle.pg_step.specs.Operands.{argument, first_four, given, number_at, operands_of}
+use Rattle.pg_step.specs.Operands.{argument, first_four, number_at, operands_of}
 use Rattle.pg_step.specs.Step.{cut_to, heap_after, op_after, result_number, stepped}
 use Rattle.pg_step.specs.Told.{known_own, op_own, or_zero}
 use Rattle.pg_trace.specs.declared.turn.TurnKind.{TurnKind}
 use Rattle.pg_trace.specs.declared.step.Event.{Event}
 use Rattle.pg_trace.specs.declared.step.Step.{Step}
 use Rattle.pg_trace.specs.declared.step.StepKind.{StepKind}
-use Rattle.pg_trace.specs.declared.step.StepKind.TheVariants as kinds
 use Rattle.pg_trace.specs.Kinds.{kind_of, object_of}
 use Rattle.pg_trace.specs.Races.{reply_in, reply_of}
 use Rattle.pg_trace.specs.Steps.{access_by, event_of, turn_at}
@@ -34,23 +30,23 @@ use Rattle.pg_machine.specs.State.{State, next_of}
 use Rattle.pg_effects.specs.Effect.{Effect, MadeThread, RequestEffect, answer_to, effect_of, request_effect}
 use Rattle.pg_effects.specs.Views.{Objects, cell_written, objects_of, objects_with, word_in, word_made}
 use Rattle.pg_effects.specs.Views as views
-use Rattle.pg_closed.specs.Known.{RunShadow, Taken, after_event, operand_at, set_shadow, thread_of, with_top}
+use Rattle.pg_closed.specs.Known.{RunShadow, Taken, after_event, set_shadow, thread_of, with_top}
 use Rattle.pg_closed.specs.Moments.{thread_in}
-use Rattle.pg_closed.specs.Rules.{Need, Value as ValueNeed, checked, checked_of, equal_to, event_needs, kind_in, operand_of, value_needs}
-use Rattle.pg_closed.specs.Shadows.{OnInput, Shadow, Known, always, shadow_of, unset}
-use Rattle.pg_units.specs.Likes.{AreCallsLike, IsLike, IsToldLike, like}
+use Rattle.pg_closed.specs.Rules.{checked, kind_in}
+use Rattle.pg_closed.specs.Shadows.{always, unset}
+use Rattle.pg_units.specs.Likes.{AreCallsLike, IsToldLike, like}
 use Rattle.pg_units.specs.Moves.{deed_moved}
 use Rattle.pg_units.specs.Units.{PlanUnit, ReferenceRun, cell_known, deed_of, event_word_read, event_word_written, is_event_at, reads_cell, reference_of, word_written, writes_cell}
 use Rattle.pg_units.proofs.Allocations.{told_number}
-use Rattle.pg_units.proofs.Branches.{act0_at, act_at, can0_at, eq_met, needs_here, top_known}
-use Rattle.pg_units.proofs.Good.{Holds, IsGood}
+use Rattle.pg_units.proofs.Branches.{act0_at, act_at, can0_at}
+use Rattle.pg_units.proofs.Facing as facing
+use Rattle.pg_units.proofs.Good.{IsGood}
 use Rattle.pg_units.proofs.Here.{number_here, operands_here, running}
 use Rattle.pg_units.proofs.Inner.{Pair, answer, answer0, instr_is, live_is, no_touch, none_if, reads_none, same_instr, stands, told, told0}
 use Rattle.pg_units.proofs.Known.{event_calls}
-use Rattle.pg_units.proofs.Likes.{argument_like}
 use Rattle.pg_units.proofs.Loads.{effect_reads, effect_request, effect_thread, effect_word, effect_writes, request0, unit_objects}
-use Rattle.pg_units.proofs.Requests.{core, given_args, is_checked, kind_core, object_core, same_action, same_objects}
-use Rattle.pg_units.proofs.Shapes.{Shape, is_start, names_object, needs_event, shape_of}
+use Rattle.pg_units.proofs.Requests.{core, is_checked, kind_core, object_core, same_action, same_objects}
+use Rattle.pg_units.proofs.Shapes.{Shape, is_start, names_object, shape_of}
 
 -- ---- an event in both runs
 
@@ -218,58 +214,7 @@ module _ (r : ReferenceRun) (d : Taken) (input : List ℤ) (program : IsProgram 
 
   pub checked_same : (k : KnownFunction) (args : List Value) → q.both.x.op ≡ op.CallKnown k args → (r0 : Request) → next_of r.program u.state (thread_in u.seen.moment) ≡ actions.Event r0 → is_start (kind_of r0) ≡ false →
       AllOf (λ (i : ℕ). argument r.program q.both.f.registers args i ≡ argument r.program q.both.f0.registers args i) (checked k)
-  checked_same k args e r0 act0 start =
-      let p = r.program in
-      let b = q.both in
-      let ev : Event = record { kind = kind_of r0; object = object_of (thread_in u.seen.moment) (length u.state.sync.threads) r0; operands = numbers0; reply = reply0; write = write_told u.state numbers0 r0 } in
-      let needs : value_needs (reference_of r) d u.seen ≡ map (equal_to p u.seen b.x ev) (checked k) =
-      needs_here r d input u st moves y q (kinds.Event ev) (kind0_is r0 act0) ∙ needs_event p u.seen b.x ev (kind_of r0) start ∙ ap (λ (z : Op). map (equal_to p u.seen b.x ev) (checked_of z)) e in
-      each (checked k) (given_args p (thread_in u.seen.moment) b.h b.f0.registers args k (can0_at r d input u st moves y q (op.CallKnown k args) e)) (subst (AllOf (Holds input)) needs good.values) (small k)
-    where
-      -- the checked operands are among the first four
-      small : (k : KnownFunction) → AllOf (λ (i : ℕ). Rattle.std.specs.Prelude.nat_lt i 3 ≡ true) (checked k)
-      small known.PthreadCreate = (refl, (refl, (refl, tt)))
-      small known.PthreadJoin = (refl, (refl, tt))
-      small known.PthreadMutexInit = (refl, (refl, tt))
-      small known.PthreadMutexLock = (refl, tt)
-      small known.PthreadMutexTrylock = (refl, tt)
-      small known.PthreadMutexUnlock = (refl, tt)
-      small known.PthreadMutexDestroy = (refl, tt)
-      small known.PthreadCondInit = (refl, (refl, tt))
-      small known.PthreadCondWait = (refl, (refl, tt))
-      small known.PthreadCondSignal = (refl, tt)
-      small known.PthreadCondBroadcast = (refl, tt)
-      small known.PthreadCondDestroy = (refl, tt)
-      small known.PthreadBarrierInit = (refl, (refl, (refl, tt)))
-      small known.PthreadBarrierWait = (refl, tt)
-      small known.PthreadBarrierDestroy = (refl, tt)
-      small k = tt
-
-      number_of : (i : ℕ) → Rattle.std.specs.Prelude.nat_lt i 3 ≡ true → slice_index numbers0 i ≡ given (argument r.program q.both.f0.registers args i)
-      number_of i h = ap (λ (z : Op). slice_index (first_four r.program q.both.f0.registers (operands_of z)) i) e ∙ pick i h
-        where
-          pick : (i : ℕ) → Rattle.std.specs.Prelude.nat_lt i 3 ≡ true → slice_index (first_four r.program q.both.f0.registers args) i ≡ given (argument r.program q.both.f0.registers args i)
-          pick zero h = refl
-          pick (suc zero) h = refl
-          pick (suc (suc zero)) h = refl
-          pick (suc (suc (suc i))) h = let lt = ltb-true (suc (suc (suc i))) 3 h in absurd (omega (arith, lt))
-
-      one : (i : ℕ) → Rattle.std.specs.Prelude.nat_lt i 3 ≡ true → (n : ℕ) → argument r.program q.both.f0.registers args i ≡ Some n → (f : OnInput) → operand_of r.program u.seen q.both.x i ≡ Known f → is_met (test.Eq (slice_index numbers0 i)) (f input) ≡ true → argument r.program q.both.f.registers args i ≡ argument r.program q.both.f0.registers args i
-      one i s n g f k m =
-          let shadow : slice_index_or (map (shadow_of r.program q.both.ks) args) i unset ≡ Known f =
-          ap (λ (ss : List Shadow). operand_at r.program ss (op.CallKnown known.PgIn args) i) (sym (top_known r d input u st moves y q)) ∙ sym (ap (λ (z : Op). slice_index_or (map (shadow_of r.program (Rattle.pg_closed.specs.Rules.registers_before u.seen)) (operands_of z)) i unset) e) ∙ k in
-          let v : argument r.program q.both.f.registers args i ≡ f input = subst (λ (z : Shadow). IsLike input z (argument r.program q.both.f.registers args i)) shadow (argument_like input r.program q.both.ks q.both.f.registers q.both.top.registers args i) in
-          v ∙ met (f input) m ∙ sym g
-        where
-          met : (o : Option ℕ) → is_met (test.Eq (slice_index numbers0 i)) o ≡ true → o ≡ Some n
-          met None h = absurd (true≢false (sym h))
-          met (Some z) h = ap Some (eq_met (slice_index numbers0 i) z h ∙ number_of i s ∙ ap given g)
-
-      each : (is : List ℕ) → AllOf (λ (i : ℕ). (n : ℕ) × (argument r.program q.both.f0.registers args i ≡ Some n)) is →
-          AllOf (Holds input) (map (equal_to r.program u.seen q.both.x (record { kind = kind_of r0; object = object_of (thread_in u.seen.moment) (length u.state.sync.threads) r0; operands = numbers0; reply = reply0; write = write_told u.state numbers0 r0 })) is) →
-          AllOf (λ (i : ℕ). Rattle.std.specs.Prelude.nat_lt i 3 ≡ true) is → AllOf (λ (i : ℕ). argument r.program q.both.f.registers args i ≡ argument r.program q.both.f0.registers args i) is
-      each [] g h s = tt
-      each (i ∷ is) g h s = (one i s.0 g.0.0 g.0.1 h.0.0 h.0.1 h.0.2.0, each is g.1 h.1 s.1)
+  checked_same k args e r0 act0 start = facing.checked_same r d input u st q.unit q.both good k args e r0 act0 start
 
   -- ---- calls that name objects
 

@@ -12,8 +12,10 @@ pub mod Ends
 pub mod EventCells
 pub mod EventKinds
 pub mod Events
+pub mod Facing
 pub mod Functions
 pub mod Good
+pub mod Granted
 pub mod Here
 pub mod Inner
 pub mod Known
@@ -22,6 +24,7 @@ pub mod Loads
 pub mod Made
 pub mod Members
 pub mod Moved
+pub mod NoStray
 pub mod Obeying
 pub mod Opened
 pub mod Ordered
@@ -35,6 +38,7 @@ pub mod Shapes
 pub mod Starts
 pub mod StepFits
 pub mod Stores
+pub mod Stuck
 pub mod Threads
 pub mod Turns
 pub mod Worded

@@ -1,5 +1,5 @@
 -- The steps that a run takes along turns are moves, and are ordered as these are.
-use Rattle.std.proofs.Common.{◌≡◌, ◌≢◌, ℕ, ℤ, ◌⊎◌, ◌<◌, ◌^◌, ◌==◌, ◌||◌, ◌&&◌, suc, Bool, true, false, List, [], ◌∷◌, length, drop, Option, Some, None, refl, sym, ap, ◌∙◌, subst, inl, inr}
+use Rattle.std.proofs.Common.{◌≡◌, ◌≢◌, ℕ, ℤ, ◌⊎◌, ◌<◌, ◌^◌, ◌==◌, ◌||◌, ◌&&◌, suc, Bool, true, false, List, [], ◌∷◌, length, drop, arith, ◌+◌, Option, Some, None, refl, sym, ap, ◌∙◌, subst, inl, inr}
 use Rattle.std.specs.Prelude.{is_some, if◌then◌else◌}
 use Rattle.std.proofs.lemmas.Bool.{cases_eq, eq-eqb, ne_eqb, true≢false}
 use Rattle.pg_ir.specs.WellFormed.{IsProgram}
@@ -7,13 +7,13 @@ use Rattle.pg_ir.specs.declared.ids.InstrId.{InstrId}
 use Rattle.pg_ir.specs.Program.{NumberedProgram}
 use Rattle.pg_plans.specs.Effects as plans
 use Rattle.pg_plans.specs.Effects.{Deed, Same, deeds}
-use Rattle.pg_plans.specs.Intervals.{AreTurns, IsOrdered, done_after}
+use Rattle.pg_plans.specs.Intervals.{AreTurns, IsOrdered, done_after, turns_done}
 use Rattle.pg_plans.specs.Plans.{Moves}
 use Rattle.pg_plans.specs.Steps.{Conflict}
 use Rattle.pg_plans.proofs.Effects.{deed_refl}
 use Rattle.pg_trace.specs.declared.step.Step.{Step}
 use Rattle.pg_trace.specs.declared.turn.Turn.{Turn}
-use Rattle.pg_trace.specs.Steps.{event_of}
+use Rattle.pg_trace.specs.Steps.{event_of, events}
 use Rattle.pg_machine.specs.Runs.{Takes}
 use Rattle.pg_machine.specs.State.{State}
 use Rattle.pg_effects.specs.Effect as effects
@@ -127,3 +127,28 @@ module _ (gated : List InstrId) (p : NumberedProgram) (input : List ℤ) where
         moves_are turns (effect s (effect_of p input s t)) (one_more t counts) (plans.effect a d) (done_after (deeds.is_event d) g) xs z program small
             (subst (IsReached p) w (reached_step gated p input s m.takes.after t x program small reached m.takes.is_ready m.takes.is_step)) (move_leads s counts a x reached looks m.takes) more,
       )
+
+  -- they lead to the run's state
+  pub moves_lead : (us : List Turn) (s : State) (counts : ℕ → ℕ) (a : RunState) (xs : List Step) (z : State) → IsProgram p → length input < 2 ^ 64 → IsReached p s → Same a (moved s counts) →
+      PermittedSteps gated p input s us counts xs z → (c : ℕ → ℕ) × Same (plans.effects a (moved_by s counts xs)) (moved z c)
+  unfolding moved_by
+  moves_lead us s counts a [] z program small reached looks h = (counts, subst (λ (v : State). Same a (moved v counts)) h looks)
+  moves_lead us s counts a (x ∷ xs) z program small reached looks h =
+      let m = h.0 in
+      let t = x.thread.0 in
+      let w : m.takes.after ≡ effect s (effect_of p input s t) = left_by gated p input s m.takes.after t x m.takes.is_step in
+      moves_lead (turns_behind (event_of x) us) (effect s (effect_of p input s t)) (one_more t counts) (plans.effect a (deed_moved p input s counts x)) xs z program small
+      (subst (IsReached p) w (reached_step gated p input s m.takes.after t x program small reached m.takes.is_ready m.takes.is_step)) (move_leads s counts a x reached looks m.takes)
+      (subst (λ (v : State). PermittedSteps gated p input v (turns_behind (event_of x) us) (one_more t counts) xs z) w h.1)
+
+  -- and do as many turns as the steps
+  pub moves_done : (g : ℕ) (s : State) (counts : ℕ → ℕ) (xs : List Step) → turns_done deeds g (moved_by s counts xs) ≡ g + length (events xs)
+  unfolding moved_by
+  moves_done g s counts [] = omega arith
+  moves_done g s counts (x ∷ xs) =
+      ap (λ (b : Bool). turns_done deeds (done_after b g) (moved_by (effect s (effect_of p input s x.thread.0)) (one_more x.thread.0 counts) xs)) (is_some_if (is_some (event_of x)) _)
+      ∙ moves_done (done_after (is_some (event_of x)) g) (effect s (effect_of p input s x.thread.0)) (one_more x.thread.0 counts) xs ∙ go (event_of x)
+    where
+      go : (o : Option Turn) → done_after (is_some o) g + length (events xs) ≡ g + length (Rattle.std.specs.List.cons_option o (events xs))
+      go None = refl
+      go (Some v) = omega arith

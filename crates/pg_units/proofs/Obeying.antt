@@ -35,15 +35,15 @@ use Rattle.pg_units.proofs.StepFits.{unit_at, unit_fits}
 use Rattle.pg_units.proofs.Turns.{is_some_if}
 
 -- a list of images, cut at a place
-record Split {A B : Type 0} (f : A → B) (us : List A) (xs : List B) (p : B) : Type 0 where
-  before : List A
-  at : A
-  after : List A
-  is : us ≡ before ++ at ∷ after
-  images : map f before ≡ xs
-  image : f at ≡ p
+pub record Split {A B : Type 0} (f : A → B) (us : List A) (xs : List B) (p : B) : Type 0 where
+  pub before : List A
+  pub at : A
+  pub after : List A
+  pub is : us ≡ before ++ at ∷ after
+  pub images : map f before ≡ xs
+  pub image : f at ≡ p
 
-split : {A B : Type 0} (f : A → B) (us : List A) (xs : List B) (p : B) (ys : List B) → map f us ≡ xs ++ p ∷ ys → Split f us xs p
+pub split : {A B : Type 0} (f : A → B) (us : List A) (xs : List B) (p : B) (ys : List B) → map f us ≡ xs ++ p ∷ ys → Split f us xs p
 split f [] [] p ys e = absurd cc
 split f [] (x ∷ xs) p ys e = absurd cc
 split f (u ∷ us) [] p ys e = record { before = []; at = u; after = us; is = refl; images = refl; image = cons_head e }

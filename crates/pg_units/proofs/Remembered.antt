@@ -185,6 +185,31 @@ module _ (r : ReferenceRun) (d : Taken) (program : IsProgram r.program) (small :
           (unit_same n m known s counts last later run.0 holds alone.0.0 z alone.0.1 same) us (cons_tail q) in
           subst (λ (i : PlanUnit). Recalls z (i ∷ us) v) (cons_head q) (record { thread = k.thread; cells = k.cells; objects = k.objects })
 
+  -- the last objects are the last state's
+  leaves : (T : List ℕ) (k n : ℕ) (known : RunShadow) (s w : State) (xs : List Step) (counts : ℕ → ℕ) (last : State) (z : PlanState) → IsRun r.gated r.program r.input s xs w → Holds known s → Same z (planned s known counts) →
+      AllOf (λ (x : Seen). (x.live ≡ true) × (is_instance d x ≡ false)) (seen_from (reference_of r) d n known (moments_from r.gated r.program r.input s (times recorded T k xs))) →
+      (effects z (map (deed_of d) (units_from r d last counts (met_with (seen_from (reference_of r) d n known (moments_from r.gated r.program r.input s (times recorded T k xs))) (states_from r s xs))))).objects ≡ objects_of w
+  unfolding seen_from moments_from states_from units_from
+  leaves T k n known s w [] counts last z run holds same alone = same.objects ∙ ap objects_of run
+  leaves T k n known s w (y ∷ ys) counts last z run holds same alone =
+      ap (λ (l : List PlanUnit). (effects z (map (deed_of d) l)).objects) (yes_if (is_live d.pinned (thread_of known y.thread.0).extents) (first ∷ units_from r d last (one_more y.thread.0 counts) later) (units_from r d last counts later) alone.0.0)
+      ∙ leaves T (done_after (recorded.is_event y) k) (suc n) (after_step (reference_of r) d n m known) (behind r s y.thread.0) w ys (one_more y.thread.0 counts) last (plans.effect z (deed_of d first))
+      (subst (λ (j : State). IsRun r.gated r.program r.input j ys w) (sym b) run.1)
+      (subst (Holds (after_step (reference_of r) d n m known)) (sym b) (holds_after n m known s counts last later run.0 holds alone.0.0))
+      (unit_same n m known s counts last later run.0 holds alone.0.0 z alone.0.1 same) alone.1
+    where
+      b : behind r s y.thread.0 ≡ run.0.after
+      b = behind_is r d s y run.0
+
+      m : Moment
+      m = record { did = timed recorded T k y; calls = calls_of (slice_get s.locals y.thread.0); bytes = byte_at s.memory }
+
+      later : List Met
+      later = met_with (seen_from (reference_of r) d (suc n) (after_step (reference_of r) d n m known) (moments_from r.gated r.program r.input (behind r s y.thread.0) (times recorded T (done_after (recorded.is_event y) k) ys))) (states_from r (behind r s y.thread.0) ys)
+
+      first : PlanUnit
+      first = unit_of r d last counts (record { seen = record { number = n; moment = m; region = region_of r.program r.regions m (instr_in r.program m); live = is_live d.pinned (thread_of known (thread_in m)).extents; before = known }; state = s }) later
+
 module _ (r : ReferenceRun) (d : Taken) (o : IsOrderedRun r) where
   pub plan_remembers : IsWithoutInstances r d → PlanRemembers r d
   plan_remembers alone us u vs e =
@@ -192,6 +217,12 @@ module _ (r : ReferenceRun) (d : Taken) (o : IsOrderedRun r) where
       (record { reached = reached_first r.program o.can.program o.can.bytes; words = first_words r d; started = first_fresh r.program })
       (record { locals = λ t. refl; cells = λ c. refl; objects = refl }) alone us u vs e in
       record { thread = k.thread; cells = k.cells; objects = k.objects }
+
+  -- the plan's last objects are the run's
+  pub plan_leaves : IsWithoutInstances r d → (effects (plan_start r) (map (deed_of d) (units_of r d))).objects ≡ objects_of o.last
+  plan_leaves alone = leaves r d o.can.program o.can.small (turns_of r) 0 0 (start_of r.program) (initial r.program) o.last r.steps none_taken (last_from r (initial r.program) r.steps) (plan_start r) o.run
+      (record { reached = reached_first r.program o.can.program o.can.bytes; words = first_words r d; started = first_fresh r.program })
+      (record { locals = λ t. refl; cells = λ c. refl; objects = refl }) alone
 
   -- no unit is an instance
   pub units_single : IsWithoutInstances r d → AllOf (λ (u : PlanUnit). is_instance d u.seen ≡ false) (units_of r d)

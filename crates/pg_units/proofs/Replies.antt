@@ -1,5 +1,5 @@
 -- A run on an admitted input does the first turns of the reference run, with the same replies.
-use Rattle.std.proofs.Common.{◌≡◌, ℕ, ℤ, ◌++◌, suc, cond, Bool, true, false, List, [], ◌∷◌, map, refl, sym, ap, ◌∙◌}
+use Rattle.std.proofs.Common.{◌≡◌, ℕ, ℤ, ◌++◌, suc, cond, Bool, true, false, List, [], ◌∷◌, map, Option, Some, None, refl, sym, ap, ◌∙◌}
 use Rattle.std.specs.Prelude.{filter, is_some, if◌then◌else◌}
 use Rattle.pg_ir.specs.declared.ids.InstrId.{InstrId}
 use Rattle.pg_ir.specs.Program.{NumberedProgram}
@@ -8,7 +8,10 @@ use Rattle.pg_plans.specs.Intervals.{done_after, times}
 use Rattle.pg_plans.specs.Plans.{FitEach}
 use Rattle.pg_trace.specs.declared.step.Step.{Step}
 use Rattle.pg_trace.specs.Races.{recorded}
-use Rattle.pg_trace.specs.Steps.{event_of, happening_in}
+use Rattle.pg_trace.specs.Steps.{event_of, events, happening_in, turn_at}
+use Rattle.pg_trace.specs.declared.step.Happening.{Happening}
+use Rattle.pg_trace.specs.declared.turn.Turn.{Turn}
+use Rattle.std.specs.List.{cons_option}
 use Rattle.pg_machine.specs.State.{State, initial}
 use Rattle.pg_effects.specs.Effect.{effect, effect_of}
 use Rattle.pg_effects.specs.PermittedSteps.{none_taken, one_more}
@@ -87,3 +90,13 @@ module _ (r : ReferenceRun) (d : Taken) where
 pub map_join : {A B : Type 0} (f : A → B) (xs ys : List A) → map f xs ++ map f ys ≡ map f (xs ++ ys)
 map_join f [] ys = refl
 map_join f (x ∷ xs) ys = ap (λ l. f x ∷ l) (map_join f xs ys)
+
+-- the turns of what is answered are the events
+pub answered_turns : (xs : List Step) → map (λ (a : Answered). a.turn) (answers xs) ≡ map (λ (u : Turn). Some u) (events xs)
+answered_turns [] = refl
+answered_turns (x ∷ xs) = go (happening_in x.kind) refl (answered_turns xs)
+  where
+    go : (h : Option Happening) → happening_in x.kind ≡ h → map (λ (a : Answered). a.turn) (answers xs) ≡ map (λ (u : Turn). Some u) (events xs) →
+        map (λ (a : Answered). a.turn) (map answered (cond (is_some (happening_in x.kind)) (x ∷ filter recorded.is_event xs) (filter recorded.is_event xs))) ≡ map (λ (u : Turn). Some u) (cons_option (turn_at x (happening_in x.kind)) (events xs))
+    go None e ih = rw e ih
+    go (Some v) e ih = rw e (ap (λ (l : List (Option Turn)). event_of x ∷ l) ih ∙ ap (λ (h : Option Happening). turn_at x h ∷ map (λ (u : Turn). Some u) (events xs)) e)

@@ -2,6 +2,7 @@
 use Rattle.std.specs.Prelude.{◌≡◌, ◌<◌, ◌^◌, length, ℕ, ℤ, List, [], ◌∷◌, ◌++◌, map, true, false, Some, slice_get}
 use Rattle.std.specs.List.{AllByRecursion}
 use Rattle.pg_plans.specs.Effects.{effects}
+use Rattle.pg_sync.specs.Sync as sync
 use Rattle.pg_step.specs.LocalState.{fresh}
 use Rattle.pg_effects.specs.Views.{local_at, objects_of}
 use Rattle.pg_closed.specs.Known.{Seen, Taken, fresh_registers, thread_of, seen_in}
@@ -11,6 +12,7 @@ use Rattle.pg_units.specs.Moves.{RunState}
 use Rattle.pg_closed.specs.Closed.{IsClosed, admits}
 use Rattle.pg_runs.specs.Deeds.{owners_of}
 use Rattle.pg_trace.specs.declared.turn.Turn.{Turn}
+use Rattle.pg_trace.specs.Steps.{events}
 use Rattle.pg_units.specs.Order.{IsOrderedRun}
 use Rattle.pg_units.specs.Units.{ExtentsArePlain, PlanUnit, ReferenceRun, cell_known, deed_of, is_event_at, is_instance, plan_start, reads_cell, reference_of, standing_of, turns_of, units_of}
 
@@ -55,3 +57,9 @@ pub record KeepsOrder (r : ReferenceRun) (d : Taken) (input : List ℤ) (turns :
   pub admitted : admits (reference_of r) d input ≡ true
   pub small : length input < 2 ^ 64
   pub turns_are : owners_of turns ≡ turns_of r
+
+-- it keeps the order, along the reference run's own turns; and that run is over in its last state
+pub record RunsToEnd (r : ReferenceRun) (d : Taken) (input : List ℤ) (turns : List Turn) : Type 0 where
+  pub keeps : KeepsOrder r d input turns
+  pub own : events r.steps ≡ turns
+  pub over : sync.over keeps.ordered.last.sync ≡ true

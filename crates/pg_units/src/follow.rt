@@ -17,7 +17,7 @@ ghost use Rattle.pg_trace.specs.declared.turn.Turn.{Turn};
 ghost use Rattle.pg_closed.specs.Closed.{IsClosed, admits};
 ghost use Rattle.pg_closed.specs.Known.{Taken};
 ghost use Rattle.pg_units.specs.Answered.{AreFirst, answers};
-ghost use Rattle.pg_units.specs.Fits.{IsWithoutInstances, KeepsOrder};
+ghost use Rattle.pg_units.specs.Fits.{IsWithoutInstances, KeepsOrder, RunsToEnd};
 ghost use Rattle.pg_units.specs.Likes.{like};
 ghost use Rattle.pg_units.specs.Moves.{IsMove, RunDeed, RunState};
 ghost use Rattle.pg_units.specs.Order.{IsOrderedRun};
@@ -38,7 +38,8 @@ pub fn a_run_follows_the_plan()
 
 /// Along the turns of an ordered run each permitted run on an admitted input is ordered, where its decisions are closed and have
 /// no instances; its events are the run's first, the same turns with the same replies. So it is with the full guided run, and where
-/// that doesn't stray it is an ordered full run.
+/// that doesn't stray it is an ordered full run. Along the turns of a run that is over at its end it doesn't stray, and where
+/// it exits it has had all of that run's events, with the same replies.
 pub fn an_admitted_input_keeps_the_order()
     ensures permitted { (r : ReferenceRun) (d : Taken) (input : List ℤ) (turns : List Turn) (xs : List Step) (z : State) → KeepsOrder r d input turns
         → IsPermitted r.program input turns r.gated xs z → IsOrderedAlong turns xs }
@@ -48,4 +49,9 @@ pub fn an_admitted_input_keeps_the_order()
         → IsOrderedAlong turns (full_guided_of r.program input turns r.gated).trace }
     ensures full { (r : ReferenceRun) (d : Taken) (input : List ℤ) (turns : List Turn) → KeepsOrder r d input turns → (guided_of r.program input turns r.gated).end ≢ GuidedEnd.Strayed
         → IsOrderedFull r.program input turns r.gated (full_guided_of r.program input turns r.gated).trace (full_guided_of r.program input turns r.gated).state }
+    ensures arrives { (r : ReferenceRun) (d : Taken) (input : List ℤ) (turns : List Turn) → RunsToEnd r d input turns → (guided_of r.program input turns r.gated).end ≢ GuidedEnd.Strayed }
+    ensures whole { (r : ReferenceRun) (d : Taken) (input : List ℤ) (turns : List Turn) → RunsToEnd r d input turns
+        → IsOrderedFull r.program input turns r.gated (full_guided_of r.program input turns r.gated).trace (full_guided_of r.program input turns r.gated).state }
+    ensures exits { (r : ReferenceRun) (d : Taken) (input : List ℤ) (turns : List Turn) (value : ℤ) → RunsToEnd r d input turns → (guided_of r.program input turns r.gated).end ≡ GuidedEnd.Exit value
+        → answers (guided_of r.program input turns r.gated).trace ≡ answers r.steps }
 {}
