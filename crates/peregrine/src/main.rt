@@ -9,7 +9,7 @@ ghost use Rattle.pg_ir.specs.Program.{NumberedProgram};
 ghost use Rattle.pg_num.specs.declared.limits.TheConstants.{PROGRAM_TEXT_LIMIT};
 ghost use Rattle.pg_session.specs.Refusals.{IsRefused};
 ghost use Rattle.pg_session.specs.Statuses.{status_code};
-ghost use Rattle.pg_session.specs.Streams.{TakesAtMost};
+ghost use Rattle.pg_io.specs.Streams.{TakesAtMost};
 ghost use Rattle.pg_session.specs.Texts.{IsAccepted, WritesFront, WritesOnce, WritesRefusal};
 
 use pg_io::{ReaderSource, Sink, Source, WriterSink};

@@ -1,4 +1,4 @@
-//! Tests of numbers, of sources and sinks, of the bounded cache, and of command lines.
+//! Tests of numbers, of sources, sinks and shelves, of trials, of the bounded cache, and of command lines.
 #![tactic(auto)]
 
 #[cfg(test)]
@@ -6,6 +6,10 @@ mod cached;
 #[cfg(test)]
 mod numbers;
 #[cfg(test)]
+mod shelves;
+#[cfg(test)]
 mod streams;
+#[cfg(test)]
+mod trials;
 #[cfg(test)]
 mod words;

@@ -1,1 +1,2 @@
 pub mod CountedNames
+pub mod Known

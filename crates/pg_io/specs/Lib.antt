@@ -3,3 +3,4 @@ pub mod Memory
 pub mod Adapter
 pub mod Shelves
 pub mod ShortSinks
+pub mod Streams

@@ -46,3 +46,11 @@ pub record MemoryShelfState : Type 0 where
 -- the text of every name
 pub record SureShelfState : Type 0 where
   pub text : List ℕ
+
+-- the text of a name, where the outside doesn't tell it
+abbrev pub untold : Option (List ℕ)
+untold = None
+
+-- the counts of faults of a shelf that doesn't tell its texts
+pub record FileShelfState : Type 0 where
+  pub counts : NameCountList

@@ -1,5 +1,5 @@
 //! Shelves in memory: one whose fetches fail where they are told to, and one that never fails.
-ghost use Rattle.std.specs.Prelude.{◌≡◌, ◌<◌, ◌≤◌, ◌⊎◌, ℕ, List, [], length, Option, Some, None, IsFalse, IfOk, IfSome, IsErrOf, option_copied};
+ghost use Rattle.std.specs.Prelude.{◌≡◌, ◌<◌, ◌≤◌, ◌⊎◌, ℕ, List, [], length, Option, Some, None, IsFalse, IfOk, IsSomeAnd, IsErrOf, option_copied};
 ghost use Rattle.pg_io.specs.Faults.{Rose, raised};
 ghost use Rattle.pg_io.specs.Memory.{is_listed};
 ghost use Rattle.pg_io.specs.Shelves.{count_of, named_texts, text_in};
@@ -57,7 +57,7 @@ impl Shelf for MemoryShelf {
     fn fetch(&mut self, alloc: Global, name: &str, limit: usize) -> Result<Vec<u8>, FetchFault>
         ensures gives { IfOk result (λ v. IsFalse (is_listed self.old.failing self.old.calls) × (text_in self.old.files name.now ≡ Some v.items) × (length v.items ≤ limit)) }
         ensures too_long { IsErrOf result FetchFault.TooLong →
-            IsFalse (is_listed self.old.failing self.old.calls) × IfSome (text_in self.old.files name.now) (λ t. limit < length t) }
+            IsFalse (is_listed self.old.failing self.old.calls) × IsSomeAnd (text_in self.old.files name.now) (λ t. limit < length t) }
         ensures failed { IsErrOf result FetchFault.Failed →
             IsFalse (is_listed self.old.failing self.old.calls) → text_in self.old.files name.now ≡ None }
         ensures files_stay { self.new.files ≡ self.old.files }
@@ -165,7 +165,7 @@ fn copied_text(
     limit: usize,
 ) -> Result<Vec<u8>, FetchFault>
     ensures gives { IfOk result (λ v. IsFalse fails × (text_in (named_texts files.now) name.now ≡ Some v.items) × (length v.items ≤ limit)) }
-    ensures too_long { IsErrOf result FetchFault.TooLong → IsFalse fails × IfSome (text_in (named_texts files.now) name.now) (λ t. limit < length t) }
+    ensures too_long { IsErrOf result FetchFault.TooLong → IsFalse fails × IsSomeAnd (text_in (named_texts files.now) name.now) (λ t. limit < length t) }
     ensures failed { IsErrOf result FetchFault.Failed → IsFalse fails → text_in (named_texts files.now) name.now ≡ None }
 {
     if fails {

@@ -3,6 +3,5 @@ mod FirstRefusals
 pub mod ModuleBytes
 pub mod GlobalBytes
 pub mod GuidedTexts
-pub mod Known
 pub mod ReplyKinds
 pub mod TextVerdicts

@@ -2,6 +2,5 @@ pub mod EndLines
 pub mod Refusals
 pub mod Replies
 pub mod Statuses
-pub mod Streams
 pub mod Texts
 pub mod Verdicts

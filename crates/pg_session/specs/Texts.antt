@@ -22,7 +22,7 @@ use Rattle.pg_machine.specs.declared.guided_end.GuidedEnd.TheVariants as guided
 use Rattle.pg_command.specs.Once.{IsOnce}
 use Rattle.pg_session.specs.declared.refusals.Refusal.{Refusal}
 use Rattle.pg_session.specs.Refusals.{IsRefusedFor, refusal_line}
-use Rattle.pg_session.specs.Streams.{AppendsFront}
+use Rattle.pg_io.specs.Streams.{AppendsFront}
 
 -- ---- the text of a run
 

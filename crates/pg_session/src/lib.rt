@@ -6,11 +6,10 @@ mod refusals;
 mod replies;
 mod session;
 mod status;
-mod streams;
 mod texts;
 mod verdicts;
 
+pub use pg_io::{ReadAllFault, read_all, write_all};
 pub use refusals::Refusal;
 pub use session::peregrine;
 pub use status::Status;
-pub use streams::{ReadAllFault, read_all, write_all};

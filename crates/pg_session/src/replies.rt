@@ -2,18 +2,17 @@
 ghost use Rattle.std.specs.Prelude.{◌≡◌, ◌≤◌, ◌<◌, ◌+◌, ℕ, ℤ, List, length, IfOk, IfSome, IsErrOf, OnOk};
 ghost use Rattle.pg_io.specs.Faults.{Rose};
 ghost use Rattle.pg_num.specs.declared.limits.TheConstants.{PROGRAM_TEXT_LIMIT, QUANTUM_LIMIT};
-ghost use Rattle.pg_session.specs.Streams.{TakesAtMost};
+ghost use Rattle.pg_io.specs.Streams.{TakesAtMost};
 ghost use Rattle.pg_session.specs.Replies.{IsReply, IsReplyStatus};
 ghost use Rattle.pg_session.specs.declared.replies.NoReply.TheVariants.{OutOfMemory};
 
 use crate::laws::an_accepted_program_can_run;
 use crate::refusals::{Refusal, refusal_line};
 use crate::status::Status;
-use crate::streams::{ReadAllFault, read_all};
 use crate::texts::once_text;
 use crate::verdicts::{Verdict, verdict_of};
 use pg_command::Once;
-use pg_io::Source;
+use pg_io::{ReadAllFault, Source, read_all};
 use pg_num::limits::PROGRAM_TEXT_LIMIT;
 use std::alloc::{AllocError, Global};
 

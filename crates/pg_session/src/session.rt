@@ -4,15 +4,14 @@ ghost use Rattle.pg_io.specs.Faults.{Rose};
 ghost use Rattle.pg_command.specs.Once.{IsOnce, NoCommand};
 ghost use Rattle.pg_num.specs.declared.limits.TheConstants.{PROGRAM_TEXT_LIMIT};
 ghost use Rattle.pg_ir.specs.Program.{NumberedProgram};
-ghost use Rattle.pg_session.specs.Streams.{TakesAtMost};
+ghost use Rattle.pg_io.specs.Streams.{TakesAtMost};
 ghost use Rattle.pg_session.specs.Refusals.{IsRefused};
 ghost use Rattle.pg_session.specs.Texts.{IsAccepted, WritesOnce, WritesRefusal, WritesFront};
 
 use crate::replies::{NoReply, read_reply};
 use crate::status::Status;
-use crate::streams::write_all;
 use pg_command::command;
-use pg_io::{Sink, Source};
+use pg_io::{Sink, Source, write_all};
 use std::alloc::Global;
 
 /// Runs the command that the words are, without the program's own name, on the program text that is

@@ -2,9 +2,11 @@
 ghost use Rattle.std.specs.Prelude.{◌≡◌, ◌+◌, ◌^◌, ◌<◌, ◌≤◌, length, vec_len, IfOk, OnOk, OnErr, IfSome, IsErrOf};
 ghost use Rattle.std.specs.Io.KnownBytes.{Appends};
 ghost use Rattle.pg_io.specs.Faults.{Rose};
-ghost use Rattle.pg_session.specs.Streams.{TakesAtMost, AppendsFront};
+ghost use Rattle.pg_io.specs.Streams.{TakesAtMost, AppendsFront};
 
-use pg_io::{Failed, Sink, Source};
+use crate::fault::Failed;
+use crate::sink::Sink;
+use crate::source::Source;
 use std::alloc::Global;
 
 /// The most bytes that one call asks of a source.

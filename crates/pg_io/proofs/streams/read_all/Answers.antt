@@ -1,8 +1,8 @@
 -- Where there is no memory for the bytes of a read, those were taken too.
 use Rattle.std.proofs.Common.{◌++◌, take, arith}
 use Rattle.std.proofs.lemmas.Grind.{common_steps}
-use Rattle.pg_session.proofs.Known.{consumes-append}
-use Rattle.pg_session.proofs.streams.read_all.Goals as goal
+use Rattle.pg_io.proofs.Known.{consumes-append}
+use Rattle.pg_io.proofs.streams.read_all.Goals as goal
 
 pub returns-then-is_err-clause-takes : goal.returns-then-is_err-clause-takes
 returns-then-is_err-clause-takes g c = (

@@ -1,7 +1,7 @@
 -- The loop's invariant after one more write.
 use Rattle.std.proofs.Common.{rules, refl}
-use Rattle.pg_session.proofs.Known.{appends-append, take-more}
-use Rattle.pg_session.proofs.streams.write_all.Goals as goal
+use Rattle.pg_io.proofs.Known.{appends-append, take-more}
+use Rattle.pg_io.proofs.streams.write_all.Goals as goal
 
 pub loop-at-preserved : goal.loop-at-preserved
 loop-at-preserved g c = record {
