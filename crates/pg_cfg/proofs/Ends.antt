@@ -1,9 +1,9 @@
 -- A graph as it is kept: all edges in one list, cut at the ends of the vertices.
-use Rattle.std.proofs.Common.{◌≡◌, ℕ, zero, suc, ◌+◌, ◌-◌, ◌<◌, ◌≤◌, List, [], ◌∷◌, ◌++◌, length, get_or, take, drop, Option, Some, None, refl, sym, ap, ◌∙◌, subst, arith, length-append, length-drop}
-use Rattle.std.specs.Prelude.{slice_get, slice_range, slice_index}
+use Rattle.std.proofs.Common.{◌≡◌, ℕ, zero, suc, ◌-◌, ◌<◌, ◌≤◌, List, [], ◌∷◌, ◌++◌, length, get_or, take, drop, refl, ap, arith, length-append, length-drop}
+use Rattle.std.specs.Prelude.{slice_range}
 use Rattle.std.proofs.lemmas.List.{take-append-le, drop-append-le}
 use Rattle.std.proofs.Math.Seq.{drop-append_seam, take-length}
-use Rattle.pg_cfg.specs.Graphs.{lists_from, AreEnds, start_in, targets_of, targets_in}
+use Rattle.pg_cfg.specs.Graphs.{lists_from, AreEnds, start_in, targets_of}
 
 pub length_lists : (s : ℕ) (es ts : List ℕ) → length (lists_from s es ts) ≡ length es
 length_lists s [] ts = refl

@@ -8,3 +8,4 @@ pub mod Creates
 pub mod Reaches
 pub mod Work
 pub mod Laws
+pub mod Examples

@@ -1,6 +1,7 @@
 //! Laws on quiet functions.
 
 ghost use Rattle.pg_quiet.specs.Laws.{QuietFunctionsPassQuiet, QuietFunctionsReachQuiet, SummariesAreSeen};
+ghost use Rattle.pg_quiet.specs.Examples.{AdderIsQuiet};
 
 /// A quiet function has no event, no access of the gated set, no `alloca`, and no call but of quiet functions and of those
 /// that read the input.
@@ -16,4 +17,10 @@ pub fn quiet_functions_reach_quiet()
 /// A summary has 1,024 accesses at most, each with a global, a constant or a parameter of the function as its root.
 pub fn summaries_are_seen()
     ensures { SummariesAreSeen }
+{}
+
+/// A function that adds to the number at its first parameter reads and writes there, a call of it at the argument, and it
+/// isn't quiet where its store is gated.
+pub fn an_adder_is_quiet()
+    ensures { AdderIsQuiet }
 {}

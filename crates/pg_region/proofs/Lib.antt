@@ -5,3 +5,4 @@ pub mod Flows
 pub mod Finds
 pub mod Stays
 pub mod Within
+pub mod Examples

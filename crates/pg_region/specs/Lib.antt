@@ -2,3 +2,4 @@ pub mod Regions
 pub mod Finders
 pub mod Least
 pub mod Laws
+pub mod Examples

@@ -1,5 +1,5 @@
-use Rattle.std.proofs.Common.{◌≡◌, ◌<◌, ℕ, List, Bool, false, length, sym, subst, arith}
-use Rattle.pg_cfg.specs.Searches.{IsFoundFrom, is_in}
+use Rattle.std.proofs.Common.{◌≡◌, ◌<◌, false, length, arith}
+use Rattle.pg_cfg.specs.Searches.{is_in}
 use Rattle.pg_cfg.proofs.Found.{found_first}
 use Rattle.pg_cfg.proofs.marks.find_one.Goals as goal
 
