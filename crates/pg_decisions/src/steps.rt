@@ -15,6 +15,7 @@ impl DecisionSet {
     ghost use Rattle.pg_closed.specs.declared.decision.Decision.{Decision as ADecision};
     ghost use Rattle.pg_closed.specs.Known.{has};
     ghost use Rattle.pg_closed.specs.Sets.{taken};
+    ghost use Rattle.pg_decisions.specs.Marks.{members_from};
     ghost use Rattle.pg_decisions.specs.Steps.{AreOf, left_by, step_of, taken_by};
 
     /// None of those on so many steps.
@@ -84,9 +85,10 @@ impl DecisionSet {
         }
     }
 
-    /// The decisions that are taken, each list ascending.
+    /// The decisions that are taken, each list ascending and without doubles.
     pub fn decisions(&self, alloc: Global) -> Result<Decisions, AllocError>
-        ensures { IfOk result (λ d. (x : ADecision) → has (taken d.pinned.items d.exact.items) x ≡ has (taken_by self.now) x) }
+        ensures same { IfOk result (λ d. (x : ADecision) → has (taken d.pinned.items d.exact.items) x ≡ has (taken_by self.now) x) }
+        ensures lists { IfOk result (λ d. (d.pinned.items ≡ members_from 0 self.now.pinned.items) × (d.exact.items ≡ members_from 0 self.now.exact.items)) }
     {
         Ok(Decisions {
             pinned: members(alloc, self.pinned.as_slice())?,

@@ -13,3 +13,4 @@ pub mod Kept
 pub mod TargetsKept
 pub mod Follows
 pub mod Aparts
+pub mod Counts

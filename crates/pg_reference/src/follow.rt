@@ -68,7 +68,7 @@ fn load(machine: &Machine, word: u64, offset: u64) -> Option<u64>
 }
 
 /// The offsets of the loads of a path, four at most, and how many there are.
-pub(crate) fn offsets(loads: Loads) -> ([u64; 4], usize)
+pub fn offsets(loads: Loads) -> ([u64; 4], usize)
     ensures offsets { take result.1 result.0 ≡ offsets_of loads }
     ensures count { result.1 ≡ length (offsets_of loads) }
     ensures few { result.1 ≤ 4 }

@@ -17,6 +17,6 @@ mod share;
 mod step;
 mod targets;
 
-pub use follow::cell_start;
+pub use follow::{cell_start, offsets};
 pub use replay::reference;
 pub use run::{FreeAccess, ReferenceRun};

@@ -1,4 +1,4 @@
-ghost use Rattle.std.specs.Prelude.{◌≡◌, IfSome, Option, is_some, option_map, slice_get};
+ghost use Rattle.std.specs.Prelude.{◌≡◌, ℕ, IfSome, Option, is_some, length, option_map, slice_get};
 ghost use Rattle.std.specs.Option.{option_copied};
 ghost use Rattle.pg_accesses.specs.Tables.{in_table};
 ghost use Rattle.pg_closed.specs.Freeable.{FreeRegion};
@@ -125,6 +125,33 @@ impl ReferenceRun {
         }
     }
 
+    /// The registers that the region which makes a step freeable, or a `phi` of its join, may set, as a table; none where it
+    /// isn't freeable.
+    pub fn marks(&self, n: usize) -> &[bool]
+        ensures marks { IfSome (landmark_at self.now n) (λ l. IfSome l.region (λ f. (r : ℕ) → f.sets r ≡ in_table result.now r)) }
+    {
+        match self.region(n) {
+            Some(region) => region.sets.as_slice(),
+            None => &[],
+        }
+    }
+
+    /// How many accesses the region has that makes a step freeable; 0 where it isn't freeable.
+    pub fn access_count(&self, n: usize) -> usize
+        ensures count { IfSome (landmark_at self.now n) (λ l. IfSome l.region (λ f. result ≡ length f.accesses)) }
+    {
+        match self.free(n) {
+            Some(free) => match self.regions.get(free.region as usize) {
+                Some(region) => {
+                    let ats = from(self.ats.as_slice(), free.first as usize);
+                    count_in(region.accesses.as_slice(), ats)
+                }
+                None => 0,
+            },
+            None => 0,
+        }
+    }
+
     /// The access with this number of the region that makes a step freeable, from 0 on; none where there are no more, or
     /// the step isn't freeable.
     pub fn access(&self, n: usize, k: usize) -> Option<FreeAccess>
@@ -141,6 +168,14 @@ impl ReferenceRun {
             None => None,
         }
     }
+}
+
+/// How many accesses of a region there are whose paths lead somewhere.
+#[tactic(auto, using(crate::proofs::Counts::counted))]
+fn count_in(accesses: &[Rooted], ats: &[At]) -> usize
+    ensures { result ≡ length (accesses_with accesses.now ats.now) }
+{
+    accesses.len().min(ats.len())
 }
 
 /// The access with this number, if there is one.

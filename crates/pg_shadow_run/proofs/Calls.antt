@@ -51,11 +51,26 @@ pub across_are : (old new : NodeList) (present after : List Source) (callers : C
 across_are old new present after callers true g a h = tt
 across_are old new present after callers false g a h = (h, calls_stay old new (reverse callers) g a.1)
 
+-- a thread that has ended stays as it is
+pub ended_same : (old new : NodeList) (f : List Shadow → List Shadow) (present : List Source) (callers : CallList) (ended : Bool) → ended ≡ true →
+    calls_by new (calls_of present callers ended) ≡ with_top f (calls_by old (calls_of present callers ended))
+ended_same old new f present callers true h = refl
+ended_same old new f present callers false h = absurd cc
+
+pub ended_are : (n : ℕ) (present : List Source) (callers : CallList) (ended : Bool) → ended ≡ true → AreCalls n (calls_of present callers ended)
+ended_are n present callers true h = tt
+ended_are n present callers false h = absurd cc
+
 -- ---- a call that is entered or left
 
-pub pushed : (present : List Source) (callers : CallList) (ended : Bool) (fresh : List Source) (after : CallList) → 0 < length (calls_of present callers ended) →
+-- the first call of a thread without calls
+pub first_pushed : (present : List Source) (callers : CallList) (ended : Bool) (fresh : List Source) → ended ≡ true → calls_of fresh [] false ≡ fresh ∷ calls_of present callers ended
+first_pushed present callers true fresh h = refl
+first_pushed present callers false fresh h = absurd cc
+
+pub pushed : (present : List Source) (callers : CallList) (ended : Bool) (fresh : List Source) (after : CallList) → ended ≡ false →
     after ≡ callers ++ present ∷ [] → calls_of fresh after ended ≡ fresh ∷ calls_of present callers ended
-pushed present callers true fresh after h e = absurd (omega arith)
+pushed present callers true fresh after h e = absurd cc
 pushed present callers false fresh after h e = ap (λ (l : CallList). fresh ∷ reverse l) e ∙ ap (λ (l : CallList). fresh ∷ l) (reverse-append callers (present ∷ []))
 
 pub popped : (present caller : List Source) (callers after : CallList) (ended : Bool) → callers ≡ after ++ caller ∷ [] →

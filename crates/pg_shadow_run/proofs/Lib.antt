@@ -5,3 +5,4 @@ pub mod Calls
 pub mod Gives
 pub mod Happens
 pub mod Threading
+pub mod Functions

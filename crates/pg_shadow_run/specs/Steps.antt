@@ -1,5 +1,5 @@
 -- What a live step does to the registers of its thread, by what is read of the run.
-use Rattle.std.specs.Prelude.{◌≡◌, ◌<◌, ◌&&◌, not, if◌then◌else◌, ℕ, List, length, Bool, true, Option, Some, None, IfSome, is_some}
+use Rattle.std.specs.Prelude.{◌≡◌, ◌&&◌, not, if◌then◌else◌, ℕ, List, length, Bool, true, Option, Some, None, IfSome, is_some}
 use Rattle.pg_ir.specs.declared.known.Known.{Known as KnownFunction}
 use Rattle.pg_ir.specs.declared.known.Known.TheVariants as known
 use Rattle.pg_ir.specs.declared.instr.Instr.{Instr}
@@ -57,11 +57,6 @@ is_plain (op.Switch w on other cases) = true
 is_plain (op.Call g args) = true
 is_plain (op.Ret v) = true
 is_plain o = is_straight o
-
--- a called function is one of the program's
-abbrev pub CallsWithin : NumberedProgram → Op → Type 0
-CallsWithin p (op.Call g args) = g < length p.functions
-CallsWithin p o = Unit {0}
 
 -- the registers after a branch: an instance, where the branch is freeable and isn't pinned; else the edge
 abbrev pub branched : NumberedProgram → OpStep → List Bool → ℕ → List Shadow → List Shadow

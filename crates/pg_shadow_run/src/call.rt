@@ -22,8 +22,7 @@ impl Model for Registers {
 }
 
 impl Registers {
-    ghost use Rattle.std.specs.Prelude.{◌≡◌, ℕ, length, IfSome, OnOk, OnErr};
-    ghost use Rattle.pg_ir.specs.Operands.{CanEnter};
+    ghost use Rattle.std.specs.Prelude.{◌≡◌, ◌<◌, ℕ, length, IfSome, OnOk, OnErr};
     ghost use Rattle.pg_nodes.specs.Nodes.{NodeList};
     ghost use Rattle.pg_closed.specs.Known.{forgotten_from, set_shadow};
     ghost use Rattle.pg_closed.specs.Known as known;
@@ -69,7 +68,7 @@ impl Registers {
         from: BlockNo,
         edge: Option<u32>,
     ) -> Result<(), AllocError>
-        requires enters { IfSome edge (CanEnter p.now (length self.old)) }
+        requires block { IfSome edge (λ b. b < length p.now.blocks) }
         requires sources { AreSources (length nodes.old) self.old }
         ensures grew { Grew nodes.old nodes.new }
         ensures is { OnOk result (AreSources (length nodes.new) self.new) }

@@ -1,8 +1,6 @@
-ghost use Rattle.std.specs.Prelude.{◌≡◌, ◌∷◌, ◌++◌, [], Some, length, map, IfOk, IfSome, OnOk, OnErr};
-ghost use Rattle.std.specs.List.{AllByRecursion};
+ghost use Rattle.std.specs.Prelude.{◌≡◌, ◌<◌, ◌∷◌, ◌++◌, [], Some, length, map, IfOk, IfSome, OnOk, OnErr};
 ghost use Rattle.pg_ir.specs.declared.edge.Incoming.{Incoming};
 ghost use Rattle.pg_ir.specs.Edges.{incoming_from, incoming_of};
-ghost use Rattle.pg_ir.specs.Operands.{CanEnter, CanRead, CanTakePhi};
 ghost use Rattle.pg_closed.specs.Known.{phi_shadow};
 ghost use Rattle.pg_closed.specs.Known as known;
 ghost use Rattle.pg_sources.specs.Sources.{Grew};
@@ -38,7 +36,6 @@ fn phi_operand(x: &Instr, from: u32) -> Option<Value>
 }
 
 /// Adds the value that a `phi` takes to a list of sources.
-#[tactic(auto, using(crate::proofs::Gathered::incoming_reads))]
 fn push_phi(
     nodes: &mut Nodes,
     p: &Program,
@@ -47,7 +44,6 @@ fn push_phi(
     registers: &[Source],
     sources: &mut Vec<Source>,
 ) -> Result<(), AllocError>
-    requires read { CanTakePhi p.now (length registers.now) x.now }
     requires registers { AreSources (length nodes.old) registers.now }
     requires sources { AreSources (length nodes.old) sources.old.items }
     ensures grew { Grew nodes.old nodes.new }
@@ -66,7 +62,6 @@ fn phi_sources(
     phis: &[Instr],
     registers: &[Source],
 ) -> Result<Vec<Source>, AllocError>
-    requires read { AllByRecursion (CanTakePhi p.now (length registers.now)) phis.now }
     requires sources { AreSources (length nodes.old) registers.now }
     ensures grew { Grew nodes.old nodes.new }
     ensures is { IfOk result (λ v. AreSources (length nodes.new) v.items) }
@@ -88,7 +83,7 @@ fn enter(
     to: BlockNo,
     registers: &mut [Source],
 ) -> Result<(), AllocError>
-    requires enters { CanEnter p.now (length registers.old) to.0 }
+    requires block { to.0 < length p.now.blocks }
     requires sources { AreSources (length nodes.old) registers.old }
     ensures grew { Grew nodes.old nodes.new }
     ensures is { OnOk result (AreSources (length nodes.new) registers.new) }
@@ -111,7 +106,7 @@ pub(crate) fn along_edge(
     edge: Option<u32>,
     registers: &mut [Source],
 ) -> Result<(), AllocError>
-    requires enters { IfSome edge (CanEnter p.now (length registers.old)) }
+    requires block { IfSome edge (λ b. b < length p.now.blocks) }
     requires sources { AreSources (length nodes.old) registers.old }
     ensures grew { Grew nodes.old nodes.new }
     ensures is { OnOk result (AreSources (length nodes.new) registers.new) }

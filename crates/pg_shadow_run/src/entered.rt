@@ -1,6 +1,4 @@
-ghost use Rattle.std.specs.Prelude.{◌≡◌, ◌<◌, ◌++◌, ◌-◌, length, map, replicate, IfOk, OnOk};
-ghost use Rattle.std.specs.List.{AllByRecursion};
-ghost use Rattle.pg_ir.specs.Operands.{CanRead};
+ghost use Rattle.std.specs.Prelude.{◌≡◌, ◌++◌, ◌-◌, length, map, replicate, IfOk, OnOk};
 ghost use Rattle.pg_ir.specs.Program.{types_of};
 ghost use Rattle.pg_closed.specs.Shadows as shadows;
 ghost use Rattle.pg_closed.specs.Shadows.{shadow_of};
@@ -14,13 +12,16 @@ use pg_nodes::Nodes;
 use pg_sources::{Source, unset};
 use std::alloc::{AllocError, Global};
 
-/// How many registers a function has.
-#[tactic(auto, unfolding(pg_ir::specs::Program::types_of))]
+/// How many registers a function has, none where there is no such function.
+#[tactic(auto, unfolding(pg_ir::specs::Program::types_of), using(crate::proofs::Functions::no_types))]
 fn register_count(p: &Program, f: u32) -> usize
-    requires { f < length p.now.functions }
     ensures { result ≡ length (types_of p.now f) }
 {
-    p.function(f).registers.as_slice().len()
+    if f < p.function_count() {
+        p.function(f).registers.as_slice().len()
+    } else {
+        0
+    }
 }
 
 /// Adds a source so many times.
@@ -54,8 +55,6 @@ pub(crate) fn entered(
     args: &[Value],
     registers: &[Source],
 ) -> Result<Vec<Source>, AllocError>
-    requires function { g < length p.now.functions }
-    requires read { AllByRecursion (CanRead p.now (length registers.now)) args.now }
     requires sources { AreSources (length nodes.old) registers.now }
     ensures grew { Grew nodes.old nodes.new }
     ensures is { IfOk result (λ v. AreSources (length nodes.new) v.items) }
@@ -77,7 +76,6 @@ pub(crate) fn fresh(
     p: &Program,
     f: u32,
 ) -> Result<Vec<Source>, AllocError>
-    requires { f < length p.now.functions }
     ensures grew { Grew nodes.old nodes.new }
     ensures is { IfOk result (λ v. AreSources (length nodes.new) v.items) }
     ensures value { IfOk result (λ v. registers_by nodes.new v.items ≡ known.fresh_registers p.now f) }

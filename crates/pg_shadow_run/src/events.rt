@@ -1,4 +1,4 @@
-ghost use Rattle.std.specs.Prelude.{◌≡◌, ◌<◌, length};
+ghost use Rattle.std.specs.Prelude.{◌≡◌};
 ghost use Rattle.pg_ir.specs.Program.{parameter_count};
 
 use crate::given::printed;
@@ -9,22 +9,24 @@ use pg_sources::{Source, constant};
 use pg_trace::{Event, TurnKind};
 use std::alloc::AllocError;
 
-/// How many parameters a function has.
-#[tactic(auto, unfolding(pg_ir::specs::Program::parameter_count))]
+/// How many parameters a function has, none where there is no such function.
+#[tactic(auto, unfolding(pg_ir::specs::Program::parameter_count), using(crate::proofs::Functions::no_parameters))]
 fn parameter_count(p: &Program, f: u32) -> u32
-    requires { f < length p.now.functions }
     ensures { result ≡ parameter_count p.now f }
 {
-    p.function(f).params
+    if f < p.function_count() {
+        p.function(f).params
+    } else {
+        0
+    }
 }
 
 impl ThreadSources {
-    ghost use Rattle.std.specs.Prelude.{◌≡◌, ◌<◌, ℕ, Bool, length, OnOk, OnErr};
+    ghost use Rattle.std.specs.Prelude.{◌≡◌, ℕ, Bool, length, OnOk, OnErr};
     ghost use Rattle.pg_num.specs.declared.width.Width.{Width};
     ghost use Rattle.pg_ir.specs.declared.instr.Op.TheVariants.{Load};
     ghost use Rattle.pg_ir.specs.declared.value.Value.{Value};
     ghost use Rattle.pg_ir.specs.Program.{NumberedProgram};
-    ghost use Rattle.pg_ir.specs.Operands.{CanReadAll};
     ghost use Rattle.pg_nodes.specs.Nodes.{NodeList};
     ghost use Rattle.pg_trace.specs.declared.step.Access.{Access};
     ghost use Rattle.pg_closed.specs.Moments.{Moment};
@@ -32,7 +34,7 @@ impl ThreadSources {
     ghost use Rattle.pg_closed.specs.Known.{function_in, load_of, low_byte, operand_at, set_shadow, started, with_top};
     ghost use Rattle.pg_closed.specs.Known as along;
     ghost use Rattle.pg_sources.specs.Sources.{Grew, IsSource, shadow_by};
-    ghost use Rattle.pg_shadow_run.specs.Sourced.{AreCalls, calls_by, top_sources};
+    ghost use Rattle.pg_shadow_run.specs.Sourced.{AreCalls, calls_by};
     ghost use Rattle.pg_shadow_run.specs.Events.{HasOperands, IsKnownCall};
 
     /// A start: the first parameter, if there is one, is the thread's argument.
@@ -49,7 +51,6 @@ impl ThreadSources {
     /// A print: its register gets the low byte of the number.
     fn print(&mut self, nodes: &mut Nodes, p: &Program, x: &Instr) -> Result<(), AllocError>
         requires call { IsKnownCall x.now.op }
-        requires read { CanReadAll p.now (length (top_sources self.old)) x.now.op }
         requires sources { AreCalls (length nodes.old) self.old }
         ensures grew { Grew nodes.old nodes.new }
         ensures is { OnOk result (AreCalls (length nodes.new) self.new) }
@@ -96,8 +97,6 @@ impl ThreadSources {
         argument: Source,
     ) -> Result<(), AllocError>
         requires call { HasOperands e.kind x.now.op }
-        requires read { CanReadAll p.now (length (top_sources self.old)) x.now.op }
-        requires function { function < length p.now.functions }
         requires argument { IsSource (length nodes.old) argument }
         requires sources { AreCalls (length nodes.old) self.old }
         ensures grew { Grew nodes.old nodes.new }

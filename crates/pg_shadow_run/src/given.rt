@@ -1,7 +1,5 @@
 ghost use Rattle.std.specs.Prelude.{◌≡◌, length, map, slice_index_or, IsTrue, IfOk, IfSome};
-ghost use Rattle.std.specs.List.{AllByRecursion};
 ghost use Rattle.std.specs.Option.{option_map};
-ghost use Rattle.pg_ir.specs.Operands.{CanRead, CanReadAll};
 ghost use Rattle.pg_closed.specs.Known as along;
 ghost use Rattle.pg_closed.specs.Known.{operand_at};
 ghost use Rattle.pg_closed.specs.Shadows.{shadow_of, unset};
@@ -18,7 +16,7 @@ use pg_sources::{Source, constant, from_input, input_length, low_byte, value};
 use std::alloc::{AllocError, Global};
 
 /// An argument of a call, by the registers of its frame; where there is none, one that was never set.
-#[tactic(auto, using(crate::proofs::Gives::argument_is, crate::proofs::Gathered::argument_reads))]
+#[tactic(auto, using(crate::proofs::Gives::argument_is))]
 fn argument(
     nodes: &mut Nodes,
     p: &Program,
@@ -26,7 +24,6 @@ fn argument(
     k: usize,
     registers: &[Source],
 ) -> Result<Source, AllocError>
-    requires read { AllByRecursion (CanRead p.now (length registers.now)) args.now }
     requires sources { AreSources (length nodes.old) registers.now }
     ensures grew { Grew nodes.old nodes.new }
     ensures is { IfOk result (IsSource (length nodes.new)) }
@@ -44,7 +41,6 @@ pub(crate) fn call_argument(
     registers: &[Source],
 ) -> Result<Source, AllocError>
     requires call { IsKnownCall op.now }
-    requires read { CanReadAll p.now (length registers.now) op.now }
     requires sources { AreSources (length nodes.old) registers.now }
     ensures grew { Grew nodes.old nodes.new }
     ensures is { IfOk result (IsSource (length nodes.new)) }
@@ -70,7 +66,6 @@ pub fn operand(
     registers: &[Source],
 ) -> Result<Source, AllocError>
     requires asked { IsAsked op.now k }
-    requires read { CanReadAll p.now (length registers.now) op.now }
     requires sources { AreSources (length nodes.old) registers.now }
     ensures grew { Grew nodes.old nodes.new }
     ensures is { IfOk result (IsSource (length nodes.new)) }
@@ -95,7 +90,6 @@ pub(crate) fn printed(
     registers: &[Source],
 ) -> Result<Source, AllocError>
     requires call { IsKnownCall op.now }
-    requires read { CanReadAll p.now (length registers.now) op.now }
     requires sources { AreSources (length nodes.old) registers.now }
     ensures grew { Grew nodes.old nodes.new }
     ensures is { IfOk result (IsSource (length nodes.new)) }
@@ -113,7 +107,6 @@ fn read_input(
     args: &[Value],
     registers: &[Source],
 ) -> Result<Source, AllocError>
-    requires read { AllByRecursion (CanRead p.now (length registers.now)) args.now }
     requires sources { AreSources (length nodes.old) registers.now }
     ensures grew { Grew nodes.old nodes.new }
     ensures is { IfOk result (IsSource (length nodes.new)) }
@@ -133,7 +126,6 @@ fn known_given(
     word: u64,
     registers: &[Source],
 ) -> Result<Option<Source>, AllocError>
-    requires read { AllByRecursion (CanRead p.now (length registers.now)) args.now }
     requires sources { AreSources (length nodes.old) registers.now }
     ensures grew { Grew nodes.old nodes.new }
     ensures is { IfOk result (λ o. IfSome o (IsSource (length nodes.new))) }
@@ -159,7 +151,6 @@ pub(crate) fn given(
 ) -> Result<Option<Source>, AllocError>
     requires straight { IsTrue (is_straight op.now) }
     requires cast { CastFits op.now }
-    requires read { CanReadAll p.now (length registers.now) op.now }
     requires sources { AreSources (length nodes.old) registers.now }
     ensures grew { Grew nodes.old nodes.new }
     ensures is { IfOk result (λ o. IfSome o (IsSource (length nodes.new))) }

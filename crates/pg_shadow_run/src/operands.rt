@@ -1,7 +1,5 @@
 ghost use Rattle.std.specs.Prelude.{◌≡◌, ℕ, List, ◌∷◌, ◌++◌, [], IsTrue, length, map, IfOk, OnOk};
-ghost use Rattle.std.specs.List.{AllByRecursion};
 ghost use Rattle.pg_ir.specs.declared.value.Index.{Index};
-ghost use Rattle.pg_ir.specs.Operands.{CanRead, CanReadAll, CanReadReturned};
 ghost use Rattle.pg_step.specs.Compute.{computes};
 ghost use Rattle.pg_step.specs.Operands.{operands_of};
 ghost use Rattle.pg_nodes.specs.Nodes.{NodeList};
@@ -23,8 +21,7 @@ pub(crate) fn optional(
     v: Option<Value>,
     registers: &[Source],
 ) -> Result<Source, AllocError>
-    requires read { CanReadReturned p.now (length registers.now) v }
-    requires sources { AreSources (length nodes.old) registers.now }
+    requires { AreSources (length nodes.old) registers.now }
     ensures grew { Grew nodes.old nodes.new }
     ensures is { IfOk result (IsSource (length nodes.new)) }
     ensures value { IfOk result (λ s. shadow_by nodes.new s ≡ optional_shadow p.now (registers_by nodes.old registers.now) v) }
@@ -43,7 +40,6 @@ pub(crate) fn push_optional(
     registers: &[Source],
     sources: &mut Vec<Source>,
 ) -> Result<(), AllocError>
-    requires read { CanReadReturned p.now (length registers.now) v }
     requires registers { AreSources (length nodes.old) registers.now }
     requires sources { AreSources (length nodes.old) sources.old.items }
     ensures grew { Grew nodes.old nodes.new }
@@ -63,7 +59,6 @@ pub(crate) fn values(
     args: &[Value],
     registers: &[Source],
 ) -> Result<Vec<Source>, AllocError>
-    requires read { AllByRecursion (CanRead p.now (length registers.now)) args.now }
     requires sources { AreSources (length nodes.old) registers.now }
     ensures grew { Grew nodes.old nodes.new }
     ensures is { IfOk result (λ v. AreSources (length nodes.new) v.items) }
@@ -121,7 +116,6 @@ fn operands(
     registers: &[Source],
 ) -> Result<Vec<Source>, AllocError>
     requires computes { IsTrue (computes op.now) }
-    requires read { CanReadAll p.now (length registers.now) op.now }
     requires sources { AreSources (length nodes.old) registers.now }
     ensures grew { Grew nodes.old nodes.new }
     ensures is { IfOk result (λ v. AreSources (length nodes.new) v.items) }
@@ -170,7 +164,6 @@ pub(crate) fn computed(
 ) -> Result<Source, AllocError>
     requires computes { IsTrue (computes op.now) }
     requires cast { CastFits op.now }
-    requires read { CanReadAll p.now (length registers.now) op.now }
     requires sources { AreSources (length nodes.old) registers.now }
     ensures grew { Grew nodes.old nodes.new }
     ensures is { IfOk result (IsSource (length nodes.new)) }

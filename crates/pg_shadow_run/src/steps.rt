@@ -11,7 +11,6 @@ use std::alloc::{AllocError, Global};
 impl ThreadSources {
     ghost use Rattle.std.specs.Prelude.{◌≡◌, ◌<◌, ℕ, Option, IsTrue, length, IfSome, OnOk, OnErr};
     ghost use Rattle.std.specs.Option.{option_map};
-    ghost use Rattle.pg_ir.specs.Operands.{CanEnter, CanReadAll, CanReadReturned};
     ghost use Rattle.pg_nodes.specs.Nodes.{NodeList};
     ghost use Rattle.pg_closed.specs.Moments.{Moment};
     ghost use Rattle.pg_closed.specs.Freeable.{FreeRegion};
@@ -19,8 +18,8 @@ impl ThreadSources {
     ghost use Rattle.pg_closed.specs.Known as along;
     ghost use Rattle.pg_sources.specs.Sources.{Grew, IsSource, shadow_by};
     ghost use Rattle.pg_sources.specs.Forms.{CastFits};
-    ghost use Rattle.pg_shadow_run.specs.Sourced.{AreCalls, calls_by, top_sources};
-    ghost use Rattle.pg_shadow_run.specs.Steps.{CallsWithin, IsStepAt, branched, given_shadow, is_plain, is_straight, set_given};
+    ghost use Rattle.pg_shadow_run.specs.Sourced.{AreCalls, calls_by};
+    ghost use Rattle.pg_shadow_run.specs.Steps.{IsStepAt, branched, given_shadow, is_plain, is_straight, set_given};
 
     /// Gives a register of the present call what an instruction gives, if there is a register and something is given.
     #[tactic(auto, using(crate::proofs::Gives::nothing_given))]
@@ -44,7 +43,6 @@ impl ThreadSources {
     ) -> Result<(), AllocError>
         requires straight { IsTrue (is_straight x.now.op) }
         requires cast { CastFits x.now.op }
-        requires read { CanReadAll p.now (length (top_sources self.old)) x.now.op }
         requires sources { AreCalls (length nodes.old) self.old }
         ensures grew { Grew nodes.old nodes.new }
         ensures is { OnOk result (AreCalls (length nodes.new) self.new) }
@@ -68,8 +66,7 @@ impl ThreadSources {
         step: OpStep,
         sets: &[bool],
     ) -> Result<(), AllocError>
-        requires runs { 0 < length self.old }
-        requires enters { IfSome step.edge (CanEnter p.now (length (top_sources self.old))) }
+        requires block { IfSome step.edge (λ b. b < length p.now.blocks) }
         requires sources { AreCalls (length nodes.old) self.old }
         ensures grew { Grew nodes.old nodes.new }
         ensures is { OnOk result (AreCalls (length nodes.new) self.new) }
@@ -92,7 +89,6 @@ impl ThreadSources {
         v: Option<Value>,
         target: Option<u32>,
     ) -> Result<(), AllocError>
-        requires read { CanReadReturned p.now (length (top_sources self.old)) v }
         requires sources { AreCalls (length nodes.old) self.old }
         ensures grew { Grew nodes.old nodes.new }
         ensures is { OnOk result (AreCalls (length nodes.new) self.new) }
@@ -121,11 +117,8 @@ impl ThreadSources {
         sets: &[bool],
     ) -> Result<(), AllocError>
         requires plain { IsTrue (is_plain x.now.op) }
-        requires runs { 0 < length self.old }
         requires cast { CastFits x.now.op }
-        requires read { CanReadAll p.now (length (top_sources self.old)) x.now.op }
-        requires function { CallsWithin p.now x.now.op }
-        requires enters { IfSome step.edge (CanEnter p.now (length (top_sources self.old))) }
+        requires block { IfSome step.edge (λ b. b < length p.now.blocks) }
         requires sources { AreCalls (length nodes.old) self.old }
         ensures grew { Grew nodes.old nodes.new }
         ensures is { OnOk result (AreCalls (length nodes.new) self.new) }

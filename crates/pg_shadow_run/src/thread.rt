@@ -26,8 +26,6 @@ impl Model for ThreadSources {
 
 impl ThreadSources {
     ghost use Rattle.std.specs.Prelude.{◌≡◌, ◌<◌, ◌∷◌, [], ℕ, length, map, IfOk, IfSome, OnOk, OnErr};
-    ghost use Rattle.std.specs.List.{AllByRecursion};
-    ghost use Rattle.pg_ir.specs.Operands.{CanEnter, CanRead};
     ghost use Rattle.pg_nodes.specs.Nodes.{NodeList};
     ghost use Rattle.pg_closed.specs.Shadows.{shadow_of};
     ghost use Rattle.pg_closed.specs.Known.{forgotten_from, fresh_registers, set_shadow, top_of, under_top, with_top};
@@ -46,7 +44,6 @@ impl ThreadSources {
         p: &Program,
         f: u32,
     ) -> Result<ThreadSources, AllocError>
-        requires { f < length p.now.functions }
         ensures grew { Grew nodes.old nodes.new }
         ensures is { IfOk result (AreCalls (length nodes.new)) }
         ensures value { IfOk result (λ t. calls_by nodes.new t ≡ fresh_registers p.now f ∷ []) }
@@ -87,6 +84,7 @@ impl ThreadSources {
     }
 
     /// Takes an edge in the present call, if one is taken.
+    #[tactic(auto, using(pg_sources::proofs::Grows::grew_none, crate::proofs::Calls::ended_same, crate::proofs::Calls::ended_are))]
     pub(crate) fn along_edge(
         &mut self,
         alloc: Global,
@@ -95,31 +93,38 @@ impl ThreadSources {
         from: BlockNo,
         edge: Option<u32>,
     ) -> Result<(), AllocError>
-        requires runs { 0 < length self.old }
-        requires enters { IfSome edge (CanEnter p.now (length (top_sources self.old))) }
+        requires block { IfSome edge (λ b. b < length p.now.blocks) }
         requires sources { AreCalls (length nodes.old) self.old }
         ensures grew { Grew nodes.old nodes.new }
         ensures is { OnOk result (AreCalls (length nodes.new) self.new) }
         ensures same { OnErr result (self.new ≡ self.old) }
         ensures value { OnOk result (calls_by nodes.new self.new ≡ with_top (known.along_edge p.now from.0 edge) (calls_by nodes.old self.old)) }
     {
-        let _ended = self.ended;
-        self.present.along_edge(alloc, nodes, p, from, edge)
+        if self.ended {
+            Ok(())
+        } else {
+            self.present.along_edge(alloc, nodes, p, from, edge)
+        }
     }
 
-    /// Begins a call with these registers.
+    /// Begins a call with these registers, the thread's first where it has none.
     fn push(&mut self, registers: Vec<Source>) -> Result<(), AllocError>
-        requires { 0 < length self.old }
         ensures pushed { OnOk result (self.new ≡ registers.items ∷ self.old) }
         ensures same { OnErr result (self.new ≡ self.old) }
     {
+        if self.ended {
+            self.callers.clear();
+            self.present = Registers::from_vec(registers);
+            self.ended = false;
+            return Ok(());
+        }
         self.callers.reserve(1)?;
         let caller = mem::replace(&mut self.present, Registers::from_vec(registers));
         self.callers.push_reserved(caller);
         Ok(())
     }
 
-    /// Begins a call of a function.
+    /// Begins a call of a function, the thread's first where it has none.
     pub(crate) fn enter(
         &mut self,
         alloc: Global,
@@ -128,9 +133,6 @@ impl ThreadSources {
         g: u32,
         args: &[Value],
     ) -> Result<(), AllocError>
-        requires runs { 0 < length self.old }
-        requires function { g < length p.now.functions }
-        requires read { AllByRecursion (CanRead p.now (length (top_sources self.old))) args.now }
         requires sources { AreCalls (length nodes.old) self.old }
         ensures grew { Grew nodes.old nodes.new }
         ensures is { OnOk result (AreCalls (length nodes.new) self.new) }

@@ -19,7 +19,6 @@ fn push_thread(
     f: u32,
     threads: &mut Vec<ThreadSources>,
 ) -> Result<(), AllocError>
-    requires function { f < length p.now.functions }
     requires sources { AreThreads (length nodes.old) threads.old.items }
     ensures grew { Grew nodes.old nodes.new }
     ensures is { OnOk result (AreThreads (length nodes.new) threads.new.items) }

@@ -1,5 +1,4 @@
 ghost use Rattle.std.specs.Prelude.{◌≡◌, ◌++◌, ◌∷◌, [], length, slice_set, IfOk, OnOk, OnErr};
-ghost use Rattle.pg_ir.specs.Operands.{CanReadAll, CanReadReturned};
 ghost use Rattle.pg_closed.specs.Known.{exit_shadow, operand_at, returned_shadow};
 ghost use Rattle.pg_closed.specs.Known as along;
 ghost use Rattle.pg_sources.specs.Sources.{Grew, IsSource, shadow_by};
@@ -20,7 +19,6 @@ fn returned(
     v: Option<Value>,
     registers: &[Source],
 ) -> Result<Source, AllocError>
-    requires read { CanReadReturned p.now (length registers.now) v }
     requires sources { AreSources (length nodes.old) registers.now }
     ensures grew { Grew nodes.old nodes.new }
     ensures is { IfOk result (IsSource (length nodes.new)) }
@@ -41,7 +39,6 @@ fn exit_source(
     registers: &[Source],
 ) -> Result<Source, AllocError>
     requires call { IsExit op.now }
-    requires read { CanReadAll p.now (length registers.now) op.now }
     requires sources { AreSources (length nodes.old) registers.now }
     ensures grew { Grew nodes.old nodes.new }
     ensures is { IfOk result (IsSource (length nodes.new)) }
@@ -80,7 +77,6 @@ fn hand_on(
     words: &mut Vec<Source>,
 ) -> Result<(), AllocError>
     requires call { IsExit op.now }
-    requires read { CanReadAll p.now (length registers.now) op.now }
     requires registers { AreSources (length nodes.old) registers.now }
     requires words { AreSources (length nodes.old) words.old.items }
     ensures grew { Grew nodes.old nodes.new }
@@ -103,7 +99,6 @@ fn pass_on(
     words: &mut Vec<Source>,
 ) -> Result<(), AllocError>
     requires call { IsKnownCall op.now }
-    requires read { CanReadAll p.now (length registers.now) op.now }
     requires registers { AreSources (length nodes.old) registers.now }
     requires words { AreSources (length nodes.old) words.old.items }
     ensures grew { Grew nodes.old nodes.new }
@@ -132,7 +127,6 @@ pub fn words_after(
     words: &mut Vec<Source>,
 ) -> Result<(), AllocError>
     requires call { HasOperands kind op.now }
-    requires read { CanReadAll p.now (length registers.now) op.now }
     requires registers { AreSources (length nodes.old) registers.now }
     requires words { AreSources (length nodes.old) words.old.items }
     ensures grew { Grew nodes.old nodes.new }

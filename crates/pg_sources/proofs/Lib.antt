@@ -4,3 +4,4 @@ pub mod Operands
 pub mod Forms
 pub mod Moves
 pub mod Indices
+pub mod Registers

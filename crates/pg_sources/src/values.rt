@@ -1,7 +1,6 @@
-ghost use Rattle.std.specs.Prelude.{◌≡◌, ◌<◌, ◌%◌, length, map, slice_get, IfOk, Some, IfSome};
+ghost use Rattle.std.specs.Prelude.{◌≡◌, ◌<◌, ◌%◌, length, map, slice_get, slice_index_or, IfOk, Some, None};
 ghost use Rattle.std.specs.List.{AllByRecursion};
 ghost use Rattle.pg_num.specs.Numbers.{modulus};
-ghost use Rattle.pg_ir.specs.Operands.{CanRead};
 ghost use Rattle.pg_step.specs.Operands.{pointer_to};
 ghost use Rattle.pg_closed.specs.Shadows.{Known, always, cut, shadow_of};
 ghost use Rattle.pg_closed.specs.Shadows as shadows;
@@ -52,41 +51,69 @@ pub fn unset(nodes: &mut Nodes) -> Result<Source, AllocError>
     )
 }
 
-/// The word of the pointer to the first byte of a global.
-fn global_word(p: &Program, g: u32) -> u64
-    requires { g < length p.now.globals }
-    ensures { pointer_to (slice_get p.now.globals g) ≡ Some result }
+/// The word of the pointer to the first byte of a global, if there is one of this number.
+fn global_word(p: &Program, g: u32) -> Option<u64>
+    ensures { result ≡ pointer_to (slice_get p.now.globals g) }
 {
+    if g >= p.global_count() {
+        return None;
+    }
     let global = p.global(g);
-    pack(Pointer {
+    Some(pack(Pointer {
         start: global.start,
         length: global.size,
         offset: 0,
-    })
+    }))
 }
 
-/// An operand, by the registers of its frame.
+/// A number that is the same on each input, or has none on any.
+#[tactic(auto, using(crate::proofs::Grows::grew_none))]
+fn fixed(nodes: &mut Nodes, n: Option<u64>) -> Result<Source, AllocError>
+    ensures grew { Grew nodes.old nodes.new }
+    ensures is { IfOk result (IsSource (length nodes.new)) }
+    ensures value { IfOk result (λ s. shadow_by nodes.new s ≡ Known (λ input. n)) }
+{
+    match n {
+        Some(n) => constant(nodes, n),
+        None => unset(nodes),
+    }
+}
+
+/// The source of a register; one that isn't there was never set.
+#[tactic(auto, using(crate::proofs::Grows::grew_none, crate::proofs::Registers::register_at, crate::proofs::Registers::register_is, crate::proofs::Registers::no_register))]
+fn register(nodes: &mut Nodes, r: u32, registers: &[Source]) -> Result<Source, AllocError>
+    requires { AllByRecursion (IsSource (length nodes.old)) registers.now }
+    ensures grew { Grew nodes.old nodes.new }
+    ensures is { IfOk result (IsSource (length nodes.new)) }
+    ensures value { IfOk result (λ s. shadow_by nodes.new s ≡ slice_index_or (map (shadow_by nodes.old) registers.now) r shadows.unset) }
+{
+    match registers.get(r as usize).copied() {
+        Some(s) => Ok(s),
+        None => unset(nodes),
+    }
+}
+
+/// An operand, by the registers of its frame; a register that isn't there was never set, and a global that isn't there has no
+/// pointer.
 ///
 /// # Errors
 ///
-/// Where no memory is left for its node.
-#[tactic(auto, using(crate::proofs::Grows::grew_none))]
+/// Where no memory is left for its nodes. Some of them may have been added.
 pub fn value(
     nodes: &mut Nodes,
     p: &Program,
     v: Value,
     registers: &[Source],
 ) -> Result<Source, AllocError>
-    requires read { CanRead p.now (length registers.now) v }
-    requires sources { AllByRecursion (IsSource (length nodes.old)) registers.now }
+    requires { AllByRecursion (IsSource (length nodes.old)) registers.now }
     ensures grew { Grew nodes.old nodes.new }
     ensures is { IfOk result (IsSource (length nodes.new)) }
     ensures value { IfOk result (λ s. shadow_by nodes.new s ≡ shadow_of p.now (map (shadow_by nodes.old) registers.now) v) }
 {
     match v {
-        Value::Register(r) => Ok(registers[r as usize]),
+        Value::Register(r) => register(nodes, r, registers),
         Value::Const(n) => constant(nodes, n),
-        Value::Global(g) => constant(nodes, global_word(p, g)),
+        Value::Global(g) => fixed(nodes, global_word(p, g)),
         Value::Function(f) => constant(nodes, f as u64),
     }
 }

@@ -1,18 +1,12 @@
 use Rattle.std.proofs.Common.{◌∷◌, [], ◌++◌, List, length, ap, ◌∙◌, subst, sym}
 use Rattle.pg_ir.specs.declared.instr.Instr.{Instr}
-use Rattle.pg_ir.specs.Operands.{CanTakePhi}
 use Rattle.pg_closed.specs.Shadows.{Shadow}
 use Rattle.pg_closed.specs.Known.{phi_shadow}
 use Rattle.pg_sources.proofs.Grows.{grew_then}
 use Rattle.pg_shadow_run.specs.Sourced.{registers_by}
 use Rattle.pg_shadow_run.proofs.Kept.{registers_kept}
-use Rattle.pg_shadow_run.proofs.Gathered.{first_left, one_pushed, rest_left}
+use Rattle.pg_shadow_run.proofs.Gathered.{one_pushed}
 use Rattle.pg_shadow_run.proofs.edges.phi_sources.Goals as goal
-
-pub push_phi-requires-clause-read : goal.push_phi-requires-clause-read
-push_phi-requires-clause-read c =
-    let n = length c.args.registers.now in
-    subst (λ (x : Instr). CanTakePhi c.args.p.now n x) (sym c.index-phis-i.is) (first_left (CanTakePhi c.args.p.now n) c.args.phis.now c.loop-i.i c.index-phis-i.result c.loop-i-test.true c.loop-i.invariant.read)
 
 pub loop-i-preserved : goal.loop-i-preserved
 loop-i-preserved c =
@@ -31,5 +25,4 @@ loop-i-preserved c =
           ∙ ap (λ (rs : List Shadow). so_far ++ phi_shadow p rs c.args.from c.index-phis-i.result ∷ []) (registers_kept first old c.args.registers.now c.loop-i.invariant.grew c.requires.sources)
           ∙ ap (λ (x : Instr). so_far ++ f x ∷ []) c.index-phis-i.is)
           c.loop-i.invariant.value;
-      read = rest_left (CanTakePhi p (length c.args.registers.now)) xs i c.loop-i-test.true c.loop-i.invariant.read;
     }

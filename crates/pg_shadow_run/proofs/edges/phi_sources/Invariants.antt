@@ -1,6 +1,4 @@
 use Rattle.std.proofs.Common.{◌≡◌, ◌++◌, length, map, drop}
-use Rattle.std.specs.List.{AllByRecursion}
-use Rattle.pg_ir.specs.Operands.{CanTakePhi}
 use Rattle.pg_closed.specs.Known.{phi_shadow}
 use Rattle.pg_sources.specs.Sources.{Grew}
 use Rattle.pg_shadow_run.specs.Sourced.{AreSources, registers_by}
@@ -11,5 +9,4 @@ invariant-loop-i l = record {
   grew : Grew l.fn.nodes l.nodes;
   is : AreSources (length l.nodes) l.sources.items;
   value : registers_by l.nodes l.sources.items ++ map (phi_shadow l.p (registers_by l.fn.nodes l.registers) l.from) (drop l.i l.phis) ≡ map (phi_shadow l.p (registers_by l.fn.nodes l.registers) l.from) l.phis;
-  read : AllByRecursion (CanTakePhi l.p (length l.registers)) (drop l.i l.phis);
 }

@@ -1,11 +1,10 @@
 use Rattle.std.proofs.Common.{◌∷◌, [], ◌++◌, List, length, slice_index_or, ap, ◌∙◌}
 use Rattle.pg_ir.specs.declared.value.Value.TheVariants.{Register}
-use Rattle.pg_ir.specs.Operands.{CanRead}
 use Rattle.pg_closed.specs.Shadows.{Shadow, shadow_of}
 use Rattle.pg_sources.proofs.Grows.{grew_then}
 use Rattle.pg_shadow_run.specs.Sourced.{registers_by}
 use Rattle.pg_shadow_run.proofs.Kept.{registers_kept}
-use Rattle.pg_shadow_run.proofs.Gathered.{one_pushed, rest_left}
+use Rattle.pg_shadow_run.proofs.Gathered.{one_pushed}
 use Rattle.pg_shadow_run.proofs.operands.values.Goals as goal
 
 pub loop-arg-preserved : goal.loop-arg-preserved
@@ -21,5 +20,4 @@ loop-arg-preserved c =
       value = one_pushed (shadow_of p (registers_by first c.args.registers.now)) xs i (Register 0) (registers_by old c.loop-arg.sources.items) _ _ c.loop-arg-test.true
           (c.in_ok-push_optional.ensures.value ∙ ap (λ (rs : List Shadow). registers_by old c.loop-arg.sources.items ++ shadow_of p rs (slice_index_or xs i (Register 0)) ∷ []) (registers_kept first old c.args.registers.now c.loop-arg.invariant.grew c.requires.sources))
           c.loop-arg.invariant.value;
-      read = rest_left (CanRead p (length c.args.registers.now)) xs i c.loop-arg-test.true c.loop-arg.invariant.read;
     }

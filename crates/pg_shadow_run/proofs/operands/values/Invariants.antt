@@ -1,6 +1,4 @@
 use Rattle.std.proofs.Common.{◌≡◌, ◌++◌, length, map, drop}
-use Rattle.std.specs.List.{AllByRecursion}
-use Rattle.pg_ir.specs.Operands.{CanRead}
 use Rattle.pg_closed.specs.Shadows.{shadow_of}
 use Rattle.pg_sources.specs.Sources.{Grew}
 use Rattle.pg_shadow_run.specs.Sourced.{AreSources, registers_by}
@@ -11,5 +9,4 @@ invariant-loop-arg l = record {
   grew : Grew l.fn.nodes l.nodes;
   is : AreSources (length l.nodes) l.sources.items;
   value : registers_by l.nodes l.sources.items ++ map (shadow_of l.p (registers_by l.fn.nodes l.registers)) (drop l.arg-index l.args) ≡ map (shadow_of l.p (registers_by l.fn.nodes l.registers)) l.args;
-  read : AllByRecursion (CanRead l.p (length l.registers)) (drop l.arg-index l.args);
 }

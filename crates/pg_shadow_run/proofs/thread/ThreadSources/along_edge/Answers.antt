@@ -5,16 +5,16 @@ use Rattle.pg_shadow_run.specs.Sourced.{AreCalls, CallList, calls_by}
 use Rattle.pg_shadow_run.proofs.Calls.{across, across_are}
 use Rattle.pg_shadow_run.proofs.thread.ThreadSources.along_edge.Goals as goal
 
-pub returns-clause-is : goal.returns-clause-is
-returns-clause-is c =
+pub returns-else-self-clause-is : goal.returns-else-self-clause-is
+returns-else-self-clause-is c =
     let s = c.self.inside in
     let old = c.args.nodes.now in
     let new = c.along_edge.new.nodes in
     let sources = subst (λ (calls : CallList). AreCalls (length old) calls) (sym c.self.view_is) c.requires.sources in
     on_ok_weaker c.along_edge.result (λ h. across_are old new s.present c.along_edge.new.self s.callers.items s.ended c.along_edge.ensures.grew sources h) c.along_edge.ensures.is
 
-pub returns-clause-value : goal.returns-clause-value
-returns-clause-value c =
+pub returns-else-self-clause-value : goal.returns-else-self-clause-value
+returns-else-self-clause-value c =
     let s = c.self.inside in
     let old = c.args.nodes.now in
     let new = c.along_edge.new.nodes in

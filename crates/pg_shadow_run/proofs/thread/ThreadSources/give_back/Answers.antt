@@ -1,5 +1,4 @@
 use Rattle.std.proofs.Common.{List, length, ap, ◌∙◌, subst, sym}
-use Rattle.pg_ir.specs.Operands.{CanReadReturned}
 use Rattle.pg_closed.specs.Shadows.{Shadow}
 use Rattle.pg_closed.specs.Known.{optional_shadow, set_shadow, top_of, under_top, with_top}
 use Rattle.pg_sources.specs.declared.source.Source.{Source}
@@ -7,11 +6,8 @@ use Rattle.pg_shadow_run.specs.Sourced.{AreSources, calls_by, registers_by}
 use Rattle.pg_shadow_run.proofs.Calls.{calls_kept, calls_stay, top_are, top_by}
 use Rattle.pg_shadow_run.proofs.thread.ThreadSources.give_back.Goals as goal
 
-pub optional-requires-clause-read : goal.optional-requires-clause-read
-optional-requires-clause-read c = subst (λ (l : List Source). CanReadReturned c.args.p.now (length l) c.args.v) (sym c.registers.ensures) c.requires.read
-
-pub optional-requires-clause-sources : goal.optional-requires-clause-sources
-optional-requires-clause-sources c = subst (λ (l : List Source). AreSources (length c.args.nodes.now) l) (sym c.registers.ensures) (top_are (length c.args.nodes.now) c.args.self.now c.requires.sources)
+pub optional-requires : goal.optional-requires
+optional-requires c = subst (λ (l : List Source). AreSources (length c.args.nodes.now) l) (sym c.registers.ensures) (top_are (length c.args.nodes.now) c.args.self.now c.requires.sources)
 
 pub returns-clause-is : goal.returns-clause-is
 returns-clause-is c =

@@ -1,5 +1,4 @@
 use Rattle.std.proofs.Common.{List, length, ap, ◌∙◌, subst, sym}
-use Rattle.pg_ir.specs.Operands.{CanReadAll}
 use Rattle.pg_closed.specs.Shadows.{Shadow}
 use Rattle.pg_closed.specs.Known.{low_byte, operand_at, set_shadow, with_top}
 use Rattle.pg_sources.specs.declared.source.Source.{Source}
@@ -8,9 +7,6 @@ use Rattle.pg_shadow_run.specs.Sourced.{AreSources, calls_by, registers_by}
 use Rattle.pg_shadow_run.proofs.Calls.{calls_kept, calls_stay, top_are, top_by}
 use Rattle.pg_shadow_run.proofs.Happens.{at_top_set}
 use Rattle.pg_shadow_run.proofs.thread.ThreadSources.print.Goals as goal
-
-pub printed-requires-clause-read : goal.printed-requires-clause-read
-printed-requires-clause-read c = subst (λ (l : List Source). CanReadAll c.args.p.now (length l) c.args.x.now.op) (sym c.registers.ensures) c.requires.read
 
 pub printed-requires-clause-sources : goal.printed-requires-clause-sources
 printed-requires-clause-sources c = subst (λ (l : List Source). AreSources (length c.args.nodes.now) l) (sym c.registers.ensures) (top_are (length c.args.nodes.now) c.args.self.now c.requires.sources)

@@ -1,6 +1,5 @@
 use Rattle.std.proofs.Common.{List, Option, length, ap, ◌∙◌, subst, sym}
 use Rattle.std.specs.Option.{option_map}
-use Rattle.pg_ir.specs.Operands.{CanReadAll}
 use Rattle.pg_closed.specs.Shadows.{Shadow}
 use Rattle.pg_closed.specs.Known.{with_top}
 use Rattle.pg_sources.specs.declared.source.Source.{Source}
@@ -10,9 +9,6 @@ use Rattle.pg_shadow_run.specs.Steps.{given_shadow, set_given}
 use Rattle.pg_shadow_run.proofs.Calls.{calls_kept, calls_stay, top_are, top_by}
 use Rattle.pg_shadow_run.proofs.Gives.{at_top}
 use Rattle.pg_shadow_run.proofs.thread.ThreadSources.straight.Goals as goal
-
-pub given-requires-clause-read : goal.given-requires-clause-read
-given-requires-clause-read c = subst (λ (l : List Source). CanReadAll c.args.p.now (length l) c.args.x.now.op) (sym c.registers.ensures) c.requires.read
 
 pub given-requires-clause-sources : goal.given-requires-clause-sources
 given-requires-clause-sources c = subst (λ (l : List Source). AreSources (length c.args.nodes.now) l) (sym c.registers.ensures) (top_are (length c.args.nodes.now) c.args.self.now c.requires.sources)
