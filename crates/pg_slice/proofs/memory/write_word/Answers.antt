@@ -1,0 +1,22 @@
+use Rattle.std.proofs.Common.{length}
+use Rattle.std.proofs.lemmas.Result.{on_ok_weaker}
+use Rattle.pg_closed.specs.Known.{written_shadow}
+use Rattle.pg_sources.proofs.Grows.{grew_length}
+use Rattle.pg_shadow_memory.proofs.Grows.{names_more}
+use Rattle.pg_shadow_run.specs.Sourced.{registers_by}
+use Rattle.pg_slice.proofs.Bytes.{number_stored}
+use Rattle.pg_slice.proofs.memory.write_word.Goals as goal
+
+pub returns-clause-is : goal.returns-clause-is
+returns-clause-is c =
+    let old = c.args.nodes.now in
+    let new = c.written.new.nodes in
+    on_ok_weaker c.store.result (λ f. f (length new) (names_more (length old) (length new) c.args.memory.now (grew_length old new c.written.ensures.grew) c.requires.names) (c.held.ensures.is (length new) c.in_ok-s.ensures.is)) c.store.ensures.names
+
+pub returns-clause-value : goal.returns-clause-value
+returns-clause-value c p b =
+    let old = c.args.nodes.now in
+    let new = c.written.new.nodes in
+    let e = c.args.e.now in
+    on_ok_weaker c.store.result (λ f.
+    number_stored p old new c.args.memory.now c.store.new.self c.place.result _ 8 c.held.result c.in_ok-s.s (written_shadow e c.args.w e.kind (registers_by old c.args.words.now)) b c.written.ensures.grew c.requires.names (f p new) c.place.ensures.place (c.held.ensures.bytes new) c.in_ok-s.ensures.value) c.store.ensures.shadow

@@ -1,0 +1,23 @@
+use Rattle.std.proofs.Common.{List, false, subst, sym, ◌∙◌}
+use Rattle.pg_closed.specs.Known.{operand_shadows}
+use Rattle.pg_closed.specs.Rules.{Need}
+use Rattle.pg_needs.specs.Asks.{Adds}
+use Rattle.pg_needs.specs.Steps.{step_needs}
+use Rattle.pg_needs.proofs.Added.{adds_none}
+use Rattle.pg_shadow_run.specs.Sourced.{registers_by}
+use Rattle.pg_trace.specs.declared.step.StepKind.{StepKind}
+use Rattle.pg_slice.proofs.Needing.{is_call, no_call}
+use Rattle.pg_slice.proofs.needs.event_needs.Goals as goal
+
+pub call_needs-requires-clause-call : goal.call_needs-requires-clause-call
+call_needs-requires-clause-call c = is_call c.args.op.now (sym c.is_call.ensures ∙ c.if-is_call.true)
+
+pub call_needs-requires-clause-kind : goal.call_needs-requires-clause-kind
+call_needs-requires-clause-kind c = let k = c.requires.kind in (k.0, k.1)
+
+pub returns-else-is_call-clause-adds : goal.returns-else-is_call-clause-adds
+returns-else-is_call-clause-adds c = λ ns g.
+    let ss = operand_shadows c.args.p.now (registers_by ns c.args.registers.now) c.args.op.now in
+    let k = c.requires.kind in
+    subst (λ (y : StepKind). Adds ns (step_needs false ss c.args.op.now y) c.args.asked.now c.args.asked.now) (sym k.1)
+    (subst (λ (needs : List Need). Adds ns needs c.args.asked.now c.args.asked.now) (sym (no_call false ss c.args.op.now k.0 (sym c.is_call.ensures ∙ c.if-is_call.false) k.2)) (adds_none ns c.args.asked.now))

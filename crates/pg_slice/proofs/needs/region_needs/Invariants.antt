@@ -1,0 +1,19 @@
+use Rattle.std.proofs.Common.{◌≡◌, Some, IfSome, drop}
+use Rattle.pg_nodes.specs.Nodes.{NodeList}
+use Rattle.pg_closed.specs.Freeable.{FreeRegion}
+use Rattle.pg_closed.specs.Known.{Seen}
+use Rattle.pg_closed.specs.Rules.{all_of, free_access_needs, registers_before}
+use Rattle.pg_needs.specs.Asks.{Adds}
+use Rattle.pg_needs.specs.declared.asked.Asked.{Asked}
+use Rattle.pg_reference.specs.Kept.{landmark_at}
+use Rattle.pg_shadow_memory.specs.Changes as bytes
+use Rattle.pg_shadow_run.specs.Sourced.{registers_by}
+use Rattle.pg_sources.specs.Sources.{Grew}
+use Rattle.pg_slice.proofs.needs.region_needs.Given as goal
+
+-- what is still asked behind the accesses so far is what is left of the whole
+abbrev pub invariant-loop-k : goal.invariant-loop-k
+invariant-loop-k l =
+    Grew l.initial.nodes l.nodes
+    × ((ns : NodeList) (x : Seen) (f : FreeRegion) (done : Asked) → Grew l.nodes ns → registers_before x ≡ registers_by ns l.registers → x.before.bytes ≡ bytes.shadows_of l.p ns l.memory →
+    IfSome (landmark_at l.r l.n) (λ m. m.region ≡ Some f) → Adds ns (all_of (free_access_needs l.p x) (drop l.k f.accesses)) l.asked done → Adds ns (all_of (free_access_needs l.p x) f.accesses) l.initial.asked done)

@@ -1,0 +1,18 @@
+use Rattle.std.proofs.Common.{ℤ, List, length}
+use Rattle.pg_ir.specs.declared.ids.InstrId.{InstrId}
+use Rattle.pg_closed.specs.Freeable.{Regions}
+use Rattle.pg_decisions.specs.Steps.{taken_by}
+use Rattle.pg_needs.specs.Asks.{AreNamed}
+use Rattle.pg_slice.specs.Given.{HasLandmarks, reference_of}
+use Rattle.pg_slice.specs.Passes.{HasPassed}
+use Rattle.pg_slice.specs.State.{AreKept}
+use Rattle.pg_slice.specs.Timed.{AreEarlier}
+use Rattle.pg_slice.proofs.pass.gather.Given as goal
+
+abbrev pub invariant-loop-n : goal.invariant-loop-n
+invariant-loop-n l =
+    AreKept (length l.nodes) l.g.sources
+    × AreEarlier l.t.steps l.n l.g.prints
+    × AreNamed (length l.nodes) l.g.asked.checks.items
+    × ((regions : Regions) (gated : List InstrId) (input : List ℤ) → HasLandmarks (reference_of l.p regions gated input l.t.steps) l.r →
+    HasPassed (reference_of l.p regions gated input l.t.steps) (taken_by l.d) l.n l.nodes l.g)

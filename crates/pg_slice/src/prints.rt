@@ -1,0 +1,270 @@
+//! The footprints of the steps of a run, and what is asked where they are met.
+
+ghost use Rattle.std.specs.Prelude.{◌≡◌, ◌<◌, ◌++◌, length, IfSome, OnOk};
+ghost use Rattle.pg_ir.specs.declared.instr.Instr.{Instr as AnInstr};
+ghost use Rattle.pg_ir.specs.Program.{NumberedProgram};
+ghost use Rattle.pg_nodes.specs.Nodes.{NodeList};
+ghost use Rattle.pg_closed.specs.Known.{Reference, Seen, Taken};
+ghost use Rattle.pg_decisions.specs.Steps.{taken_by};
+ghost use Rattle.pg_footprints.specs.Prints.{access_prints, region_prints};
+ghost use Rattle.pg_reference.specs.Kept.{landmark_at, step_count};
+ghost use Rattle.pg_slice.specs.Prints.{asks_of_met, owners_at};
+ghost use Rattle.std.specs.Prelude.{◌∷◌, [], true, if◌then◌else◌};
+ghost use Rattle.std.specs.Option.{option_to_list};
+ghost use Rattle.pg_closed.specs.Rules as rules;
+ghost use Rattle.pg_closed.specs.Freeable.{frame_of};
+ghost use Rattle.pg_slice.specs.Passes.{IsAt, IsTimed};
+ghost use Rattle.pg_slice.specs.Timed.{AddsOf};
+ghost use Rattle.pg_slice.specs.Prints.{met_asks, print_by};
+ghost use Rattle.pg_closed.specs.Freeable.{FreeAccess as AnAccess};
+ghost use Rattle.std.specs.Prelude.{Some, map, slice_get};
+ghost use Rattle.pg_conflicts.specs.declared.footprint.Footprint.{Footprint as AFootprint};
+
+use crate::frames::frame;
+use crate::state::RunSources;
+use pg_closed::Decision;
+use pg_conflicts::Footprint;
+use pg_decisions::DecisionSet;
+use pg_intervals::Interval;
+use pg_reference::ReferenceRun;
+use pg_trace::{Step, StepKind};
+use std::alloc::{AllocError, Global};
+
+/// The step of a footprint, and whether it is a load or a store that is no event.
+#[derive(Clone, Copy)]
+pub struct Owner {
+    pub step: usize,
+    pub plain: bool,
+}
+
+/// The footprints of the steps of a run, and their steps.
+#[derive(Drop)]
+pub(crate) struct Prints {
+    pub(crate) prints: Vec<Footprint>,
+    pub(crate) owners: Vec<Owner>,
+}
+
+/// The footprint of the frame of a pointer; the interval's ends are below two to the 32.
+fn print(step: &Step, interval: Interval, word: u64, writes: bool, of_region: bool) -> Footprint
+    requires low { interval.low < 4294967296 }
+    requires high { interval.high < 4294967296 }
+    ensures { result ≡ record { thread = step.now.thread; low = interval.low; high = interval.high; start = (frame_of word).start; bytes = (frame_of word).bytes; writes = writes; of_region = of_region } }
+{
+    let f = frame(word);
+    Footprint {
+        thread: step.thread,
+        low: interval.low as u32,
+        high: interval.high as u32,
+        start: f.start,
+        bytes: f.bytes,
+        writes,
+        of_region,
+    }
+}
+
+impl Prints {
+    /// No footprints.
+    pub(crate) fn new(alloc: Global) -> Prints
+        ensures prints { result.prints.items ≡ [] }
+        ensures owners { result.owners.items ≡ [] }
+    {
+        Prints {
+            prints: Vec::new(alloc),
+            owners: Vec::new(alloc),
+        }
+    }
+
+    /// One footprint more.
+    fn push(&mut self, print: Footprint, owner: Owner) -> Result<(), AllocError>
+        ensures prints { OnOk result (self.new.prints.items ≡ self.old.prints.items ++ print ∷ []) }
+        ensures owners { OnOk result (self.new.owners.items ≡ self.old.owners.items ++ owner ∷ []) }
+    {
+        self.prints.push(print)?;
+        self.owners.push(owner)?;
+        Ok(())
+    }
+
+    /// The footprints of a live step: of its access, and of its region.
+    pub(crate) fn add(
+        &mut self,
+        step: &Step,
+        interval: Interval,
+        r: &ReferenceRun,
+        n: usize,
+    ) -> Result<(), AllocError>
+        requires number { n < step_count r.now }
+        requires low { interval.low < 4294967296 }
+        requires high { interval.high < 4294967296 }
+        ensures timed { OnOk result (AddsOf step.now interval self.old self.new) }
+        ensures prints { OnOk result ((x : Seen) → IsTimed x step.now interval → x.live ≡ true → IfSome (landmark_at r.now n) (λ l. x.region ≡ l.region)
+            → self.new.prints.items ≡ self.old.prints.items ++ (access_prints x ++ region_prints x)) }
+        ensures owners { OnOk result ((x : Seen) → IsTimed x step.now interval → x.live ≡ true → x.number ≡ n → IfSome (landmark_at r.now n) (λ l. x.region ≡ l.region)
+            → self.new.owners.items ≡ self.old.owners.items ++ owners_at x) }
+    {
+        let owner = Owner {
+            step: n,
+            plain: is_plain(&step.kind),
+        };
+        self.add_access(step, interval, owner)?;
+        self.add_region(step, interval, r, n, owner)?;
+        Ok(())
+    }
+
+    /// The footprint of the access of a live step, if it has one.
+    fn add_access(
+        &mut self,
+        step: &Step,
+        interval: Interval,
+        owner: Owner,
+    ) -> Result<(), AllocError>
+        requires low { interval.low < 4294967296 }
+        requires high { interval.high < 4294967296 }
+        ensures timed { OnOk result (AddsOf step.now interval self.old self.new) }
+        ensures prints { OnOk result ((x : Seen) → IsTimed x step.now interval → x.live ≡ true → self.new.prints.items ≡ self.old.prints.items ++ access_prints x) }
+        ensures owners { OnOk result ((x : Seen) → IsTimed x step.now interval → x.live ≡ true → self.new.owners.items ≡ self.old.owners.items ++ map (λ (f : AFootprint). owner) (access_prints x)) }
+    {
+        if let Some(a) = step.access() {
+            self.push(print(step, interval, a.pointer, a.writes, false), owner)?;
+        }
+        Ok(())
+    }
+
+    /// The footprint of an access of a region, if there is one with this number.
+    fn add_free(
+        &mut self,
+        step: &Step,
+        interval: Interval,
+        r: &ReferenceRun,
+        n: usize,
+        k: usize,
+        owner: Owner,
+    ) -> Result<(), AllocError>
+        requires low { interval.low < 4294967296 }
+        requires high { interval.high < 4294967296 }
+        ensures timed { OnOk result (AddsOf step.now interval self.old self.new) }
+        ensures prints { IfSome (landmark_at r.now n) (λ l. IfSome l.region (λ f. OnOk result ((x : Seen) (a : AnAccess) → IsTimed x step.now interval → slice_get f.accesses k ≡ Some a
+            → self.new.prints.items ≡ self.old.prints.items ++ print_by x a ∷ []))) }
+        ensures owners { IfSome (landmark_at r.now n) (λ l. IfSome l.region (λ f. OnOk result ((a : AnAccess) → slice_get f.accesses k ≡ Some a
+            → self.new.owners.items ≡ self.old.owners.items ++ owner ∷ []))) }
+    {
+        if let Some(a) = r.access(n, k) {
+            self.push(print(step, interval, a.last, a.writes, true), owner)?;
+        }
+        Ok(())
+    }
+
+    /// The footprints of the region of a live step, which is free where it has one.
+    fn add_region(
+        &mut self,
+        step: &Step,
+        interval: Interval,
+        r: &ReferenceRun,
+        n: usize,
+        owner: Owner,
+    ) -> Result<(), AllocError>
+        requires number { n < step_count r.now }
+        requires low { interval.low < 4294967296 }
+        requires high { interval.high < 4294967296 }
+        ensures timed { OnOk result (AddsOf step.now interval self.old self.new) }
+        ensures prints { OnOk result ((x : Seen) → IsTimed x step.now interval → x.live ≡ true → IfSome (landmark_at r.now n) (λ l. x.region ≡ l.region)
+            → self.new.prints.items ≡ self.old.prints.items ++ region_prints x) }
+        ensures owners { OnOk result ((x : Seen) → IsTimed x step.now interval → x.live ≡ true → IfSome (landmark_at r.now n) (λ l. x.region ≡ l.region)
+            → self.new.owners.items ≡ self.old.owners.items ++ map (λ (f : AFootprint). owner) (region_prints x)) }
+    {
+        if !r.is_free(n) {
+            return Ok(());
+        }
+        for k in 0..r.access_count(n) {
+            self.add_free(step, interval, r, n, k, owner)?;
+        }
+        Ok(())
+    }
+}
+
+/// The footprints of a step, where it is live.
+pub(crate) fn print_live(
+    prints: &mut Prints,
+    s: &RunSources,
+    step: &Step,
+    interval: Interval,
+    r: &ReferenceRun,
+    n: usize,
+) -> Result<(), AllocError>
+    requires number { n < step_count r.now }
+    requires low { interval.low < 4294967296 }
+    requires high { interval.high < 4294967296 }
+    ensures timed { OnOk result (AddsOf step.now interval prints.old prints.new) }
+    ensures prints { OnOk result ((R : Reference) (d : Taken) (p : NumberedProgram) (ns : NodeList) (i : AnInstr) (y : Seen) → IsAt R d p ns s.now r.now n step.now i y → IsTimed y step.now interval
+        → prints.new.prints.items ≡ prints.old.prints.items ++ (access_prints y ++ region_prints y)) }
+    ensures owners { OnOk result ((R : Reference) (d : Taken) (p : NumberedProgram) (ns : NodeList) (i : AnInstr) (y : Seen) → IsAt R d p ns s.now r.now n step.now i y → IsTimed y step.now interval
+        → prints.new.owners.items ≡ prints.old.owners.items ++ owners_at y) }
+{
+    if !s.is_live(step.thread.0 as usize) {
+        return Ok(());
+    }
+    prints.add(step, interval, r, n)?;
+    Ok(())
+}
+
+/// Whether a step is a load or a store that is no event.
+fn is_plain(kind: &StepKind) -> bool
+    ensures { result ≡ rules.is_plain kind.now }
+{
+    match kind {
+        StepKind::Access(a) => !a.event,
+        _ => false,
+    }
+}
+
+/// What a footprint asks that is met, if it asks for more.
+fn met_ask(d: &DecisionSet, of_region: bool, owner: Owner) -> Option<Decision>
+    ensures { option_to_list result ≡ met_asks (taken_by d.now) of_region owner }
+{
+    if of_region {
+        if d.is_pinned(owner.step) {
+            None
+        } else {
+            Some(Decision::Pinned(owner.step))
+        }
+    } else if owner.plain && !d.is_exact(owner.step) {
+        Some(Decision::Exact(owner.step))
+    } else {
+        None
+    }
+}
+
+/// Adds what a footprint asks, if it is met.
+fn ask_if_met(
+    missing: &mut Vec<Decision>,
+    d: &DecisionSet,
+    of_region: bool,
+    owner: Owner,
+    mark: bool,
+) -> Result<(), AllocError>
+    ensures { OnOk result (missing.new.items ≡ missing.old.items ++ (if mark then met_asks (taken_by d.now) of_region owner else [])) }
+{
+    if mark {
+        if let Some(x) = met_ask(d, of_region, owner) {
+            missing.push(x)?;
+        }
+    }
+    Ok(())
+}
+
+/// Adds what the fourth and the fifth rule ask, by which of the footprints are met.
+pub(crate) fn ask_met(
+    missing: &mut Vec<Decision>,
+    d: &DecisionSet,
+    prints: &[Footprint],
+    owners: &[Owner],
+    marks: &[bool],
+) -> Result<(), AllocError>
+    requires owners { length owners.now ≡ length prints.now }
+    requires marks { length marks.now ≡ length prints.now }
+    ensures { OnOk result (missing.new.items ≡ missing.old.items ++ asks_of_met (taken_by d.now) prints.now owners.now marks.now) }
+{
+    for i in 0..prints.len() {
+        ask_if_met(missing, d, prints[i].of_region, owners[i], marks[i])?;
+    }
+    Ok(())
+}

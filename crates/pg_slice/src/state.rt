@@ -1,0 +1,174 @@
+ghost use Rattle.std.specs.Prelude.{◌≡◌, ◌<◌, ℕ, Bool, length, slice_get, IfOk, IfSome, Some, OnOk, if◌then◌else◌};
+ghost use Rattle.pg_ir.specs.Program.{NumberedProgram};
+ghost use Rattle.pg_nodes.specs.Nodes.{NodeList};
+ghost use Rattle.pg_closed.specs.Extents as extents;
+ghost use Rattle.pg_closed.specs.Extents.{open_after};
+ghost use Rattle.pg_closed.specs.Freeable.{Regions};
+ghost use Rattle.pg_closed.specs.Known.{Reference, RunShadow, after_step, live_after, region_of, start_of, thread_of, with_extents};
+ghost use Rattle.pg_closed.specs.Moments.{Moment, instr_in, thread_in};
+ghost use Rattle.pg_decisions.specs.Steps.{taken_by};
+ghost use Rattle.pg_extents.specs.Open.{left_free};
+ghost use Rattle.pg_reference.specs.Kept.{landmark_at, step_count};
+ghost use Rattle.pg_reference.specs.Landmarks.{landmark_of};
+ghost use Rattle.pg_sources.specs.Forms.{CastFits};
+ghost use Rattle.pg_sources.specs.Sources.{Grew};
+ghost use Rattle.pg_slice.specs.Given.{FitsCreate, FitsKind};
+ghost use Rattle.pg_slice.specs.State.{AreKept, Knows, sources_in};
+
+use crate::memory::first_words;
+use crate::threads::{first_extents, first_threads, pass_extents, thread_registers};
+use pg_decisions::DecisionSet;
+use pg_extents::OpenExtents;
+use pg_ir::{Instr, Program};
+use pg_nodes::Nodes;
+use pg_reference::ReferenceRun;
+use pg_shadow_memory::ShadowMemory;
+use pg_shadow_run::ThreadSources;
+use pg_sources::Source;
+use pg_trace::Step;
+use std::alloc::{AllocError, Global};
+
+/// What is known before a step of a reference run: of the registers of each thread's calls, of the bytes of memory, of each
+/// thread's word, and where the open extents of each thread end.
+#[derive(Drop)]
+pub struct RunSources {
+    pub(crate) threads: Vec<ThreadSources>,
+    pub(crate) memory: ShadowMemory,
+    pub(crate) words: Vec<Source>,
+    pub(crate) extents: Vec<OpenExtents>,
+}
+
+/// The join of the region of a freeable step that isn't pinned.
+fn left_join(d: &DecisionSet, r: &ReferenceRun, n: usize) -> Option<u32>
+    requires { n < step_count r.now }
+    ensures { IfSome (landmark_at r.now n) (λ l. result ≡ left_free ((taken_by d.now).pinned n) l.region) }
+{
+    if d.is_pinned(n) { None } else { r.join(n) }
+}
+
+impl RunSources {
+    /// What is known before the first step.
+    ///
+    /// # Errors
+    ///
+    /// Where no memory is left.
+    pub(crate) fn start(
+        alloc: Global,
+        nodes: &mut Nodes,
+        p: &Program,
+    ) -> Result<RunSources, AllocError>
+        ensures grew { Grew nodes.old nodes.new }
+        ensures is { IfOk result (AreKept (length nodes.new)) }
+        ensures knows { IfOk result (λ s. (pinned : ℕ → Bool) → Knows p.now nodes.new pinned s (start_of p.now)) }
+    {
+        let extents = first_extents(alloc)?;
+        let words = first_words(alloc, nodes)?;
+        let threads = first_threads(alloc, nodes, p)?;
+        Ok(RunSources {
+            threads,
+            memory: ShadowMemory::new(alloc),
+            words,
+            extents,
+        })
+    }
+
+    /// The registers of the present call of a thread; none where there is no such thread, or it has ended.
+    pub(crate) fn registers(&self, t: usize) -> &[Source]
+        ensures { result.now ≡ sources_in self.now t }
+    {
+        thread_registers(self.threads.as_slice(), t)
+    }
+
+    /// Whether a step of a thread is live; where there is no such thread it is.
+    pub(crate) fn is_live(&self, t: usize) -> bool
+        ensures { (p : NumberedProgram) (ns : NodeList) (pinned : ℕ → Bool) (k : RunShadow) → Knows p ns pinned self.now k
+            → result ≡ extents.is_live pinned (thread_of k t).extents }
+    {
+        match self.extents.get(t) {
+            Some(open) => open.is_live(),
+            None => true,
+        }
+    }
+
+    /// The extents that a step leaves open.
+    fn pass(
+        &mut self,
+        alloc: Global,
+        t: usize,
+        d: &DecisionSet,
+        r: &ReferenceRun,
+        n: usize,
+    ) -> Result<(), AllocError>
+        requires { n < step_count r.now }
+        ensures kept { OnOk result ((k : ℕ) → AreKept k self.old → AreKept k self.new) }
+        ensures value { (p : NumberedProgram) (ns : NodeList) (k : RunShadow) → Knows p ns (taken_by d.now).pinned self.old k → IfSome (landmark_at r.now n) (λ l. OnOk result
+            (Knows p ns (taken_by d.now).pinned self.new (record k { threads = with_extents t (open_after n l.depth l.region l.edge (thread_of k t).extents) k.threads }))) }
+    {
+        let free = left_join(d, r, n);
+        pass_extents(alloc, t, r.depth(n), free, r.edge(n), &mut self.extents)
+    }
+
+    /// A step as far as it is live: what isn't live passes without a trace.
+    fn live_if(
+        &mut self,
+        alloc: Global,
+        nodes: &mut Nodes,
+        p: &Program,
+        x: &Instr,
+        step: &Step,
+        d: &DecisionSet,
+        r: &ReferenceRun,
+        n: usize,
+    ) -> Result<(), AllocError>
+        requires fits { FitsKind x.now.op step.now.kind }
+        requires create { FitsCreate p.now step.now.kind }
+        requires cast { CastFits x.now.op }
+        requires number { n < step_count r.now }
+        requires block { IfSome (landmark_at r.now n) (λ l. IfSome l.edge (λ b. b < length p.now.blocks)) }
+        requires sources { AreKept (length nodes.old) self.old }
+        ensures grew { Grew nodes.old nodes.new }
+        ensures is { OnOk result (AreKept (length nodes.new) self.new) }
+        ensures value { (m : Moment) (regions : Regions) (k : RunShadow) → landmark_at r.now n ≡ Some (landmark_of p.now regions m) → m.did.did ≡ step.now → instr_in p.now m ≡ Some x.now
+            → Knows p.now nodes.old (taken_by d.now).pinned self.old k
+            → OnOk result (Knows p.now nodes.new (taken_by d.now).pinned self.new
+            (if extents.is_live (taken_by d.now).pinned (thread_of k (thread_in m)).extents then live_after p.now (taken_by d.now) n m (region_of p.now regions m (instr_in p.now m)) (instr_in p.now m) k else k)) }
+    {
+        if self.is_live(step.thread.0 as usize) {
+            self.live(alloc, nodes, p, x, step, d, r, n)
+        } else {
+            Ok(())
+        }
+    }
+
+    /// A step.
+    ///
+    /// # Errors
+    ///
+    /// Where no memory is left. Nothing is said of what is kept then.
+    pub(crate) fn step(
+        &mut self,
+        alloc: Global,
+        nodes: &mut Nodes,
+        p: &Program,
+        x: &Instr,
+        step: &Step,
+        d: &DecisionSet,
+        r: &ReferenceRun,
+        n: usize,
+    ) -> Result<(), AllocError>
+        requires fits { FitsKind x.now.op step.now.kind }
+        requires create { FitsCreate p.now step.now.kind }
+        requires cast { CastFits x.now.op }
+        requires number { n < step_count r.now }
+        requires block { IfSome (landmark_at r.now n) (λ l. IfSome l.edge (λ b. b < length p.now.blocks)) }
+        requires sources { AreKept (length nodes.old) self.old }
+        ensures grew { Grew nodes.old nodes.new }
+        ensures is { OnOk result (AreKept (length nodes.new) self.new) }
+        ensures value { (R : Reference) (m : Moment) (k : RunShadow) → R.program ≡ p.now → landmark_at r.now n ≡ Some (landmark_of p.now R.regions m) → m.did.did ≡ step.now
+            → slice_get p.now.instrs step.now.instr.0 ≡ Some x.now → Knows p.now nodes.old (taken_by d.now).pinned self.old k
+            → OnOk result (Knows p.now nodes.new (taken_by d.now).pinned self.new (after_step R (taken_by d.now) n m k)) }
+    {
+        self.live_if(alloc, nodes, p, x, step, d, r, n)?;
+        self.pass(alloc, step.thread.0 as usize, d, r, n)
+    }
+}
