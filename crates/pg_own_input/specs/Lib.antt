@@ -1,0 +1,2 @@
+pub mod OwnInput
+pub mod References
