@@ -98,7 +98,7 @@ module _ (r : ReferenceRun) (o : IsOrderedRun r) (input : List ℤ) where
       let can : CanRun p input = record { program = o.can.program; bytes = o.can.bytes; small = small } in
       let first = moved (initial p) none_taken in
       let moves = moves_are r.gated p input turns (initial p) none_taken first 0 xs z o.can.program small (reached_first p o.can.program o.can.bytes) (same_refl first) ((permitted_is p input turns r.gated xs z).0 h) in
-      let k = law.stands_at_cuts r d input turns o plain (starts_are_fresh r d o plain) (units_single r d o alone) (plan_remembers r d o alone) closed admitted small same first begins_alike (moved_by r.gated p input (initial p) none_taken xs) moves in
+      let k = law.stands_at_cuts r d input turns o plain (starts_are_fresh r d o plain) (units_single r d o alone) (plan_remembers r d o plain) closed admitted small same first begins_alike (moved_by r.gated p input (initial p) none_taken xs) moves in
       let done = deeds_of p input (initial p) none_taken xs in
       let told = all_told r.gated p input (initial p) none_taken xs z h.run in
       let t : AreTurns deeds (owners_of turns) 0 (deeds_of p input (initial p) none_taken xs) = runs.turns_of (rules r.gated p) (Does r.gated p input) (owners_of turns) (determined r.gated p input) (seen (initial p) none_taken) 0 done (cuts.ran p input turns r.gated can xs z h).permitted in
@@ -113,7 +113,7 @@ module _ (r : ReferenceRun) (o : IsOrderedRun r) (input : List ℤ) where
       let first = moved (initial p) none_taken in
       let ds = moved_by r.gated p input (initial p) none_taken xs in
       let moves = moves_are r.gated p input turns (initial p) none_taken first 0 xs z o.can.program small (reached_first p o.can.program o.can.bytes) (same_refl first) ((permitted_is p input turns r.gated xs z).0 h) in
-      let k = law.stands_at_cuts r d input turns o plain (starts_are_fresh r d o plain) (units_single r d o alone) (plan_remembers r d o alone) closed admitted small same first begins_alike ds moves in
+      let k = law.stands_at_cuts r d input turns o plain (starts_are_fresh r d o plain) (units_single r d o alone) (plan_remembers r d o plain) closed admitted small same first begins_alike ds moves in
       let ms = k.holds.cut.marks in
       let front = events_first (turns_of r) (plan_of r d) (is_plan r d o closed plain) (turns_done deeds 0 ds) ms k.holds.cut.is_whole k.holds.cut.below in
       let done = filter deeds.is_event (did_of (kept ms)) in

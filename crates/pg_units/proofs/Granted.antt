@@ -4,12 +4,14 @@ use Rattle.std.proofs.Common.{◌≡◌, ℕ, ℤ, Bool, true, false, List, ◌�
 use Rattle.std.specs.Prelude.{◌==◌, ◌||◌, is_some, if◌then◌else◌}
 use Rattle.std.proofs.lemmas.Bool.{true≢false}
 use Rattle.pg_num.specs.Numbers.{divided}
+use Rattle.pg_num.specs.Places.{ByteRange}
 use Rattle.pg_ir.specs.declared.instr.Op.{Op}
 use Rattle.pg_ir.specs.declared.instr.Op.TheVariants as op
 use Rattle.pg_ir.specs.declared.known.Known.{Known}
 use Rattle.pg_ir.specs.declared.known.Known.TheVariants as known
 use Rattle.pg_ir.specs.declared.request.Request.{Request}
 use Rattle.pg_ir.specs.declared.request.Request.TheVariants as requests
+use Rattle.pg_ir.specs.declared.request.TrapName.{TrapName}
 use Rattle.pg_ir.specs.declared.value.Value.{Value}
 use Rattle.pg_ir.specs.Edges.{case_of}
 use Rattle.pg_ir.specs.Program.{NumberedProgram}
@@ -22,12 +24,13 @@ use Rattle.pg_step.specs.Compute.{chosen}
 use Rattle.pg_step.specs.LocalState.{region_of}
 use Rattle.pg_step.specs.Operands.{operand, operands_of}
 use Rattle.pg_step.specs.States.{CanStep}
-use Rattle.pg_step.specs.Step.{bytes_of, has_room, known_action, op_action, return_action, returning_action, total}
+use Rattle.pg_step.specs.Step.{bytes_of, create_action, has_room, known_action, op_action, return_action, returning_action, total}
 use Rattle.pg_trace.specs.Kinds.{kind_of}
 use Rattle.pg_machine.specs.MachineStep.{is_ended, may_act, trap_of}
 use Rattle.pg_machine.specs.State.{State, next_of}
 use Rattle.pg_machine.proofs.Actions.{call_is, create_is, divided_is, edge_is, join_is, number_is, on_all_is, on_place_is, on_value_is, room_is}
 use Rattle.pg_machine.proofs.Asks.{ready_acts}
+use Rattle.pg_effects.proofs.Few.{IsAllowed, did_allowed}
 use Rattle.pg_closed.specs.Known.{Taken, thread_of}
 use Rattle.pg_closed.specs.Moments.{thread_in}
 use Rattle.pg_units.specs.Units.{PlanUnit, ReferenceRun, reference_of}
@@ -133,6 +136,82 @@ can_open (actions.Store r n) h = refl
 can_open (actions.Event r) h = refl
 can_open (actions.Trap name) h = refl
 
+-- ---- checks on the objects
+
+-- what it asks, if it asks, passes the checks
+abbrev pub IsUnchecked : State → ℕ → Action → Type 0
+IsUnchecked s t a = (q : Request) → a ≡ actions.Event q → sync.check s.sync t q ≡ None
+
+-- so does each create
+abbrev HasRoom : State → ℕ → Type 0
+HasRoom s t = (g : ByteRange) (f n : ℕ) → sync.check s.sync t (requests.Create g f n) ≡ None
+
+one_check : (s : State) (t : ℕ) (g : ByteRange) (f n : ℕ) (h : ByteRange) (i m : ℕ) → sync.check s.sync t (requests.Create g f n) ≡ sync.check s.sync t (requests.Create h i m)
+unfolding sync.check
+one_check s t g f n h i m = refl
+
+asked : (s : State) (t : ℕ) (q : Request) → sync.check s.sync t q ≡ None → IsUnchecked s t (actions.Event q)
+asked s t q h v e = let k : q ≡ v = cc in subst (λ (z : Request). sync.check s.sync t z ≡ None) k h
+
+check_exit : (s : State) (t n : ℕ) (b : Bool) → sync.check s.sync t (requests.Exit n b) ≡ None
+unfolding sync.check
+check_exit s t n b = refl
+
+check_out : (s : State) (t n : ℕ) → sync.check s.sync t (requests.Out n) ≡ None
+unfolding sync.check
+check_out s t n = refl
+
+check_putchar : (s : State) (t n : ℕ) → sync.check s.sync t (requests.Putchar n) ≡ None
+unfolding sync.check
+check_putchar s t n = refl
+
+create_shape : (p : NumberedProgram) (rs : List (Option ℕ)) (args : List Value) → CanStep (create_action p rs args) → (g : ByteRange) × (f : ℕ) × (n : ℕ) × (create_action p rs args ≡ actions.Event (requests.Create g f n))
+create_shape p rs args = create_is (λ (a : Action). CanStep a → (g : ByteRange) × (f : ℕ) × (n : ℕ) × (a ≡ actions.Event (requests.Create g f n))) p rs args (λ name c. absurd c) (λ g f n k j c. (g, f, n, refl))
+
+module _ (s : State) (t : ℕ) where
+  trap_unchecked : (name : TrapName) → IsUnchecked s t (actions.Trap name)
+  trap_unchecked name q e = absurd cc
+
+  local_unchecked : IsUnchecked s t actions.Local
+  local_unchecked q e = absurd cc
+
+  known_unchecked : (p : NumberedProgram) (u : ℕ) (h : Bool) (rs : List (Option ℕ)) (k : Known) (args : List Value) → is_checked k ≡ false → (k ≡ known.PthreadCreate → HasRoom s t) → IsUnchecked s t (known_action p u h rs k args)
+  known_unchecked p u h rs known.PgIn args c room = number_is (IsUnchecked s t) p rs args _ trap_unchecked (λ n q e. absurd cc)
+  known_unchecked p u h rs known.PgInLen args c room = λ q e. absurd cc
+  known_unchecked p u h rs known.PgOut args c room = number_is (IsUnchecked s t) p rs args _ trap_unchecked (λ n. asked s t (requests.Out n) (check_out s t n))
+  known_unchecked p u h rs known.Putchar args c room = number_is (IsUnchecked s t) p rs args _ trap_unchecked (λ n. asked s t (requests.Putchar n) (check_putchar s t n))
+  known_unchecked p u h rs known.Malloc args c room = number_is (IsUnchecked s t) p rs args _ trap_unchecked (λ n. local_unchecked)
+  known_unchecked p u h rs known.Free args c room = number_is (IsUnchecked s t) p rs args _ trap_unchecked (λ n. local_unchecked)
+  known_unchecked p u h rs known.PthreadCreate args c room = create_is (IsUnchecked s t) p rs args trap_unchecked (λ g f n k j. asked s t (requests.Create g f n) (room refl g f n))
+  known_unchecked p u h rs known.PthreadExit args c room = number_is (IsUnchecked s t) p rs args _ trap_unchecked (λ n. asked s t (requests.Exit _ false) (check_exit s t _ false))
+  known_unchecked p u h rs k args c room = absurd cc
+
+  return_unchecked : (depth n : ℕ) → IsUnchecked s t (return_action depth n)
+  return_unchecked depth n = go (depth == 1)
+    where
+      go : (b : Bool) → IsUnchecked s t (if b then actions.Event (requests.Exit n true) else actions.Local)
+      go true = asked s t (requests.Exit n true) (check_exit s t n true)
+      go false = local_unchecked
+
+  returning_unchecked : (p : NumberedProgram) (rs : List (Option ℕ)) (depth : ℕ) (v : Option Value) → IsUnchecked s t (returning_action p rs depth v)
+  returning_unchecked p rs depth None = return_unchecked depth 0
+  returning_unchecked p rs depth (Some v) = on_value_is (IsUnchecked s t) (operand p rs v) _ trap_unchecked (λ n e. return_unchecked depth n)
+
+  op_unchecked : (p : NumberedProgram) (r : Region) (h : Bool) (rs : List (Option ℕ)) (depth used block : ℕ) (o : Op) → waits o ≡ false → ((args : List Value) → o ≡ op.CallKnown known.PthreadCreate args → HasRoom s t) → IsUnchecked s t (op_action p r h rs depth used block o)
+  op_unchecked p r h rs depth used block (op.Divide d w a b) n room = on_value_is (IsUnchecked s t) (operand p rs a) _ trap_unchecked (λ m e. on_value_is (IsUnchecked s t) (operand p rs b) _ trap_unchecked (λ n f. divided_is (IsUnchecked s t) (divided d w m n) trap_unchecked local_unchecked))
+  op_unchecked p r h rs depth used block (op.Phi from) n room = absurd (true≢false n)
+  op_unchecked p r h rs depth used block (op.Br to) n room = edge_is (IsUnchecked s t) p rs block to.0 trap_unchecked local_unchecked
+  op_unchecked p r h rs depth used block (op.CondBr v a b) n room = on_value_is (IsUnchecked s t) (operand p rs v) _ trap_unchecked (λ n e. edge_is (IsUnchecked s t) p rs block (chosen n a.0 b.0) trap_unchecked local_unchecked)
+  op_unchecked p r h rs depth used block (op.Switch w on other cases) n room = on_value_is (IsUnchecked s t) (operand p rs on) _ trap_unchecked (λ n e. edge_is (IsUnchecked s t) p rs block (case_of cases other.0 n) trap_unchecked local_unchecked)
+  op_unchecked p r h rs depth used block (op.Call g args) n room = on_all_is (IsUnchecked s t) p rs args _ trap_unchecked (call_is (IsUnchecked s t) p g depth used trap_unchecked local_unchecked)
+  op_unchecked p r h rs depth used block (op.Ret v) n room = returning_unchecked p rs depth v
+  op_unchecked p r h rs depth used block op.Unreachable n room = trap_unchecked _
+  op_unchecked p r h rs depth used block (op.Alloca bytes) n room = room_is (IsUnchecked s t) (has_room r (granules_for bytes)) trap_unchecked local_unchecked
+  op_unchecked p r h rs depth used block (op.Load w from) n room = on_value_is (IsUnchecked s t) (operand p rs from) _ trap_unchecked (λ a e. on_place_is (IsUnchecked s t) a (bytes_of w) _ trap_unchecked (λ g k q j. absurd cc))
+  op_unchecked p r h rs depth used block (op.Store w v at) n room = on_value_is (IsUnchecked s t) (operand p rs v) _ trap_unchecked (λ n e. on_value_is (IsUnchecked s t) (operand p rs at) _ trap_unchecked (λ a f. on_place_is (IsUnchecked s t) a (bytes_of w) _ trap_unchecked (λ g k q j. absurd cc)))
+  op_unchecked p r h rs depth used block (op.CallKnown k args) n room = known_unchecked p r.thread h rs k args n (λ e. room args (ap (λ (j : Known). op.CallKnown j args) e))
+  op_unchecked p r h rs depth used block o n room = on_all_is (IsUnchecked s t) p rs (operands_of o) _ trap_unchecked local_unchecked
+
 -- by the objects alone
 pub may_same : (s z : State) (t : ℕ) (a : Action) → s.sync ≡ z.sync → may_act s t a ≡ may_act z t a
 may_same s z t (actions.Event r) e = ap (λ (y : sync.Sync). sync.ready y t r) e
@@ -172,13 +251,14 @@ module _ (p : NumberedProgram) (t : ℕ) (h : Bool) (rs : List (Option ℕ)) (ar
 
 module _ (r : ReferenceRun) (d : Taken) (input : List ℤ) (u : PlanUnit) (st : State) (unit : IsUnit r d u) (b : Both r.program input (thread_in u.seen.moment) u.state st (thread_of u.seen.before (thread_in u.seen.moment)).calls)
     (good : IsGood (reference_of r) d input u.seen) where
-  -- what holds of the reference run's action and of each that waits for nothing holds of the thread's
-  by_op : (P : Action → Type 0) → P (next_of r.program u.state (thread_in u.seen.moment)) → ((a : Action) → IsFree a → P a) → P (next_of r.program st (thread_in u.seen.moment))
+  -- what holds of the reference run's action holds of the thread's, where it holds of each whose operands aren't all checked
+  by_op : (P : Action → Type 0) → P (next_of r.program u.state (thread_in u.seen.moment)) →
+      ((o : Op) → b.x.op ≡ o → waits o ≡ false → P (op_action r.program (region_of (running (thread_in u.seen.moment) b.h b.f b.fs b.n)) b.h b.f.registers (length (b.f ∷ b.fs)) (total (b.f ∷ b.fs)) b.x.block.0 o)) →
+      P (next_of r.program st (thread_in u.seen.moment))
   by_op P same free = go b.x.op refl
     where
       plain : (o : Op) → b.x.op ≡ o → waits o ≡ false → P (next_of r.program st (thread_in u.seen.moment))
-      plain o e w = subst P (sym (facing.act_at r d input u st unit b good o e))
-          (free _ (op_free r.program (region_of (running (thread_in u.seen.moment) b.h b.f b.fs b.n)) b.h b.f.registers (length (b.f ∷ b.fs)) (total (b.f ∷ b.fs)) b.x.block.0 o w))
+      plain o e w = subst P (sym (facing.act_at r d input u st unit b good o e)) (free o e w)
 
       called : (k : Known) (args : List Value) → b.x.op ≡ op.CallKnown k args → (c : Bool) → is_checked k ≡ c → P (next_of r.program st (thread_in u.seen.moment))
       called k args e false c = plain (op.CallKnown k args) e c
@@ -220,10 +300,26 @@ module _ (r : ReferenceRun) (d : Taken) (input : List ℤ) (u : PlanUnit) (st : 
 
   -- its thread hasn't ended
   pub open_here : is_ended (next_of r.program st (thread_in u.seen.moment)) ≡ false
-  open_here = by_op (λ (a : Action). is_ended a ≡ false) (can_open (next_of r.program u.state (thread_in u.seen.moment)) (can_step r.gated r.program r.input u.state u.seen.moment.did.did unit.met.takes)) (λ a f. free_open st a f)
+  open_here = by_op (λ (a : Action). is_ended a ≡ false) (can_open (next_of r.program u.state (thread_in u.seen.moment)) (can_step r.gated r.program r.input u.state u.seen.moment.did.did unit.met.takes))
+      (λ o e w. free_open st _ (op_free r.program (region_of (running (thread_in u.seen.moment) b.h b.f b.fs b.n)) b.h b.f.registers (length (b.f ∷ b.fs)) (total (b.f ∷ b.fs)) b.x.block.0 o w))
 
   -- and may go on, unless it traps
   pub may_here : st.sync ≡ u.state.sync → trap_of st (thread_in u.seen.moment) (next_of r.program st (thread_in u.seen.moment)) ≡ None → may_act st (thread_in u.seen.moment) (next_of r.program st (thread_in u.seen.moment)) ≡ true
   may_here same trap = by_op (λ (a : Action). trap_of st (thread_in u.seen.moment) a ≡ None → may_act st (thread_in u.seen.moment) a ≡ true)
       (λ n. may_same st u.state (thread_in u.seen.moment) (next_of r.program u.state (thread_in u.seen.moment)) same ∙ ready_acts r.program u.state (thread_in u.seen.moment) unit.met.takes.is_ready)
-      (λ a f n. f st (thread_in u.seen.moment) n) trap
+      (λ o e w n. op_free r.program (region_of (running (thread_in u.seen.moment) b.h b.f b.fs b.n)) b.h b.f.registers (length (b.f ∷ b.fs)) (total (b.f ∷ b.fs)) b.x.block.0 o w st (thread_in u.seen.moment) n) trap
+
+  -- no check on the objects fails
+  pub unchecked_here : st.sync ≡ u.state.sync → IsUnchecked st (thread_in u.seen.moment) (next_of r.program st (thread_in u.seen.moment))
+  unchecked_here same = by_op (IsUnchecked st (thread_in u.seen.moment))
+      (λ q k. ap (λ (y : sync.Sync). sync.check y (thread_in u.seen.moment) q) same ∙ subst (IsAllowed u.state (thread_in u.seen.moment)) k allowed0)
+      (λ o e w. op_unchecked st (thread_in u.seen.moment) r.program (region_of (running (thread_in u.seen.moment) b.h b.f b.fs b.n)) b.h b.f.registers (length (b.f ∷ b.fs)) (total (b.f ∷ b.fs)) b.x.block.0 o w (λ args k. room args (e ∙ k)))
+    where
+      allowed0 : IsAllowed u.state (thread_in u.seen.moment) (next_of r.program u.state (thread_in u.seen.moment))
+      allowed0 = did_allowed r.gated r.program r.input u.state unit.met.takes.after (thread_in u.seen.moment) u.seen.moment.did.did unit.met.takes.is_step
+
+      room : (args : List Value) → b.x.op ≡ op.CallKnown known.PthreadCreate args → HasRoom st (thread_in u.seen.moment)
+      room args e =
+          let c = create_shape r.program b.f0.registers args (facing.can0_at r d input u st unit b good (op.CallKnown known.PthreadCreate args) e) in
+          let k = subst (IsAllowed u.state (thread_in u.seen.moment)) (facing.act0_at r d input u st unit b good (op.CallKnown known.PthreadCreate args) e ∙ c.3) allowed0 in
+          λ g f n. one_check st (thread_in u.seen.moment) g f n c.0 c.1 c.2 ∙ ap (λ (y : sync.Sync). sync.check y (thread_in u.seen.moment) (requests.Create c.0 c.1 c.2)) same ∙ k

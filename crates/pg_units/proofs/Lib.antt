@@ -1,6 +1,7 @@
 pub mod Accesses
 pub mod Allocations
 pub mod Along
+pub mod AtUnits
 pub mod Begins
 pub mod Branches
 pub mod Calls
@@ -13,6 +14,7 @@ pub mod EventCells
 pub mod EventKinds
 pub mod Events
 pub mod Facing
+pub mod Freed
 pub mod Functions
 pub mod Good
 pub mod Granted

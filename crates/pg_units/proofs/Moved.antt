@@ -123,7 +123,7 @@ module _ (gated : List InstrId) (p : NumberedProgram) (input : List ℤ) where
       let more : PermittedSteps gated p input (effect s (effect_of p input s t)) (drop (done_after (deeds.is_event d) g) turns) (one_more t counts) xs z =
       subst (λ (us : List Turn). PermittedSteps gated p input (effect s (effect_of p input s t)) us (one_more t counts) xs z) (left_behind (event_of x) g turns ∙ ap (λ (b : Bool). drop (done_after b g) turns) (sym (is_some_if (is_some (event_of x)) (objects_with (effect_of p input s t).thread (effect_of p input s t).request (objects_of s)))))
       (subst (λ (v : State). PermittedSteps gated p input v (turns_behind (event_of x) (drop g turns)) (one_more t counts) xs z) w h.1) in (
-        record { state = s; moves = counts; taken = counts; reached = reached; looks = looks; told = x; may = m; is_deed = deed_refl d },
+        record { state = s; moves = counts; taken = counts; reached = reached; looks = record { locals = λ v e. looks.locals v; cells = looks.cells; objects = looks.objects }; told = x; may = m; is_deed = deed_refl d },
         moves_are turns (effect s (effect_of p input s t)) (one_more t counts) (plans.effect a d) (done_after (deeds.is_event d) g) xs z program small
             (subst (IsReached p) w (reached_step gated p input s m.takes.after t x program small reached m.takes.is_ready m.takes.is_step)) (move_leads s counts a x reached looks m.takes) more,
       )

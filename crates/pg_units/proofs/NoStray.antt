@@ -18,10 +18,14 @@ use Rattle.pg_plans.proofs.Follows.{Stands}
 use Rattle.pg_plans.proofs.Lists.{First, cons_head, cons_tail, did_append, find, whole_append}
 use Rattle.pg_plans.proofs.Places as places
 use Rattle.pg_plans.proofs.Times.{did_times}
-use Rattle.pg_step.specs.LocalState.{LocalState, fresh}
+use Rattle.pg_step.specs.LocalState.{Frame, LocalState, fresh}
+use Rattle.pg_step.specs.Step.{frames_action, next as next_action}
 use Rattle.pg_step.specs.States.{CanStep}
 use Rattle.pg_step.specs.declared.action.Action.{Action}
 use Rattle.pg_step.specs.declared.action.Action.TheVariants as actions
+use Rattle.pg_ir.specs.declared.ids.InstrId.{InstrId}
+use Rattle.pg_ir.specs.declared.request.Request.{Request}
+use Rattle.pg_ir.specs.declared.request.Request.TheVariants as requests
 use Rattle.pg_ir.specs.declared.request.TrapName.{TrapName}
 use Rattle.pg_ir.specs.Program.{NumberedProgram}
 use Rattle.pg_sync.specs.Sync as sync
@@ -29,20 +33,22 @@ use Rattle.pg_trace.specs.declared.step.Step.{Step}
 use Rattle.pg_trace.specs.declared.turn.Turn.{Turn}
 use Rattle.pg_trace.specs.Steps.{event_of, events, happening_in}
 use Rattle.pg_machine.specs.declared.guided_end.GuidedEnd.TheVariants as ends
+use Rattle.pg_machine.specs.FullGuided.{full_guided_of}
 use Rattle.pg_machine.specs.Guided.{cannot_go, guided_of, is_turn}
-use Rattle.pg_machine.specs.MachineStep.{is_ended, may_act, trap_of, turn_of}
+use Rattle.pg_machine.specs.MachineStep.{happening_of, is_ended, may_act, trap_of, turn_of, turn_with}
 use Rattle.pg_machine.specs.Permitted.{IsPermitted, end_before, has_spent, trapped, turns_left}
 use Rattle.pg_machine.specs.Runs.{Takes}
-use Rattle.pg_machine.specs.State.{State, initial, next_of}
+use Rattle.pg_machine.specs.State.{State, action_in, initial, next_of}
 use Rattle.pg_machine.proofs.Asks.{ready_acts}
 use Rattle.pg_machine.proofs.GuidedExits.{guided_exits}
 use Rattle.pg_machine.proofs.GuidedPermitted.{guided_permitted}
 use Rattle.pg_machine.proofs.GuidedRuns.{guided_is, turn_is_itself}
 use Rattle.pg_effects.specs.PermittedSteps.{none_taken}
 use Rattle.pg_effects.specs.Reached.{IsReached}
-use Rattle.pg_effects.specs.Views.{Objects, cell_at, local_at, objects_of}
+use Rattle.pg_effects.specs.Views.{Objects, begun_in, cell_at, local_at, objects_of}
 use Rattle.pg_effects.proofs.Along.{is_going}
 use Rattle.pg_effects.proofs.Few.{IsAllowed, did_allowed}
+use Rattle.pg_effects.proofs.FullEnds.{full_is}
 use Rattle.pg_effects.proofs.Permits.{permitted_is}
 use Rattle.pg_effects.proofs.Reaches.{reached_first, reached_run}
 use Rattle.pg_effects.proofs.Threads.{event_is}
@@ -66,7 +72,7 @@ use Rattle.pg_units.proofs.Dispatch.{both_fits}
 use Rattle.pg_units.proofs.EventKinds.{events_alike}
 use Rattle.pg_units.proofs.Facing as facing
 use Rattle.pg_units.proofs.Good.{IsGood}
-use Rattle.pg_units.proofs.Granted.{may_here, open_here}
+use Rattle.pg_units.proofs.Granted.{may_here, open_here, unchecked_here}
 use Rattle.pg_units.proofs.Here.{running}
 use Rattle.pg_units.proofs.Inner.{Pair}
 use Rattle.pg_units.proofs.Made.{starts_are_fresh}
@@ -127,6 +133,37 @@ allowed_by s t actions.InLen e = tt
 allowed_by s t (actions.Load r) e = tt
 allowed_by s t (actions.Store r n) e = tt
 
+-- a thread that hasn't begun asks to start, and no check fails at that
+check_start : (s : State) (t : ℕ) → sync.check s.sync t requests.Start ≡ None
+unfolding sync.check
+check_start s t = refl
+
+asks_start : (p : NumberedProgram) (l : LocalState) (q : Request) → l.begun ≡ false → next_action p l ≡ actions.Event q → requests.Start ≡ q
+unfolding next_action
+asks_start p l q b e = by l.begun l.frames b e
+  where
+    by : (b : Bool) (fs : List Frame) → b ≡ false → frames_action p l b fs ≡ actions.Event q → requests.Start ≡ q
+    by b [] k h = absurd cc
+    by false (f ∷ fs) k h = cc
+    by true (f ∷ fs) k h = absurd (true≢false k)
+
+no_local : (l : LocalState) (b : Bool) → Path (Option LocalState) (if b then Some l else None) None → b ≡ false
+no_local l true e = absurd cc
+no_local l false e = refl
+
+waiting_asks : (p : NumberedProgram) (s : State) (t : ℕ) (q : Request) → local_at s t ≡ None → next_of p s t ≡ actions.Event q → sync.check s.sync t q ≡ None
+unfolding next_of
+waiting_asks p s t q n e = go (slice_get s.locals t) n e
+  where
+    go : (o : Option LocalState) → begun_in o ≡ None → action_in p o ≡ actions.Event q → sync.check s.sync t q ≡ None
+    go None n e = absurd cc
+    go (Some l) n e = subst (λ (z : Request). sync.check s.sync t z ≡ None) (asks_start p l q (no_local l l.begun n) e) (check_start s t)
+
+-- what asks is a turn
+asks_turn : (gated : List InstrId) (p : NumberedProgram) (s : State) (t : ℕ) (q : Request) → next_of p s t ≡ actions.Event q → is_some (turn_of gated p s t) ≡ true
+unfolding turn_of
+asks_turn gated p s t q e = ap (λ (a : Action). is_some (turn_with s t (happening_of gated s t a))) e
+
 -- ---- a permitted run on an admitted input
 
 module _ (r : ReferenceRun) (d : Taken) (input : List ℤ) (turns : List Turn) (all : RunsToEnd r d input turns) (xs : List Step) (z : State) (h : IsPermitted r.program input turns r.gated xs z) where
@@ -149,8 +186,8 @@ module _ (r : ReferenceRun) (d : Taken) (input : List ℤ) (turns : List Turn) (
   Move = IsMove r.gated r.program input turns
 
   stands : Stands (like input) (turns_of r) (plan_start r) (plan_of r d) (IsMove r.gated r.program input turns) (is_plan r d o keeps.closed keeps.plain)
-      (law.obeys r d input turns o keeps.plain (starts_are_fresh r d o keeps.plain) (units_single r d o keeps.alone) (plan_remembers r d o keeps.alone) keeps.closed keeps.admitted keeps.small keeps.turns_are) (effects first ds) g ds (times deeds (turns_of r) 0 ds)
-  stands = law.stands_at_cuts r d input turns o keeps.plain (starts_are_fresh r d o keeps.plain) (units_single r d o keeps.alone) (plan_remembers r d o keeps.alone) keeps.closed keeps.admitted keeps.small keeps.turns_are first (begins_alike r o input) ds
+      (law.obeys r d input turns o keeps.plain (starts_are_fresh r d o keeps.plain) (units_single r d o keeps.alone) (plan_remembers r d o keeps.plain) keeps.closed keeps.admitted keeps.small keeps.turns_are) (effects first ds) g ds (times deeds (turns_of r) 0 ds)
+  stands = law.stands_at_cuts r d input turns o keeps.plain (starts_are_fresh r d o keeps.plain) (units_single r d o keeps.alone) (plan_remembers r d o keeps.plain) keeps.closed keeps.admitted keeps.small keeps.turns_are first (begins_alike r o input) ds
       (moves_are r.gated r.program input turns (initial r.program) none_taken first 0 xs z o.can.program keeps.small (reached_first r.program o.can.program o.can.bytes) (same_refl first) ((permitted_is r.program input turns r.gated xs z).0 h))
 
   abbrev marks : List (Mark (Timed PlanDeed))
@@ -191,8 +228,8 @@ module _ (r : ReferenceRun) (d : Taken) (input : List ℤ) (turns : List Turn) (
       let le : turns_done deeds 0 (plan_of r d) ≤ g = (let n = done_is in omega (arith, a, b, c, k, n)) in
       ap (λ (q : Objects). sync.over q.sync) (sym lead.1.objects
       ∙ sym (follows.last_objects (like input) (turns_of r) (plan_start r) (plan_of r d) (IsMove r.gated r.program input turns) (is_plan r d o keeps.closed keeps.plain)
-      (law.obeys r d input turns o keeps.plain (starts_are_fresh r d o keeps.plain) (units_single r d o keeps.alone) (plan_remembers r d o keeps.alone) keeps.closed keeps.admitted keeps.small keeps.turns_are) (effects first ds) g stands.holds le)
-      ∙ plan_leaves r d o keeps.alone) ∙ all.over
+      (law.obeys r d input turns o keeps.plain (starts_are_fresh r d o keeps.plain) (units_single r d o keeps.alone) (plan_remembers r d o keeps.plain) keeps.closed keeps.admitted keeps.small keeps.turns_are) (effects first ds) g stands.holds le)
+      ∙ plan_leaves r d o keeps.plain) ∙ all.over
 
   -- ---- before the turn u
 
@@ -226,7 +263,7 @@ module _ (r : ReferenceRun) (d : Taken) (input : List ℤ) (turns : List Turn) (
       has_unit = subst (λ (l : List PlanUnit). Has l cut.at) (sym cut.is) (has_right cut.before (cut.at ∷ cut.after) cut.at (inl refl))
 
       memory : IsRemembered r d cut.before cut.at
-      memory = plan_remembers r d o keeps.alone cut.before cut.at cut.after cut.is
+      memory = plan_remembers r d o keeps.plain cut.before cut.at cut.after cut.is
 
       alike_here : Alike (like input) (effects (plan_start r) (did_of (kept (before ++ pending p ∷ after)))) (effects first ds)
       alike_here = subst (λ (l : List (Mark (Timed PlanDeed))). Alike (like input) (effects (plan_start r) (did_of (kept l))) (effects first ds)) parts stands.holds.cut.alike
@@ -424,16 +461,41 @@ module _ (r : ReferenceRun) (d : Taken) (input : List ℤ) (turns : List Turn) (
           go (inl b) = at_instruction b stuck
           go (inr b) = to_begin b stuck
 
+      -- no check on the objects fails at what it asks
+      unchecked_by : (q : Request) → next_of r.program z t ≡ actions.Event q → sync.check z.sync t q ≡ None
+      unchecked_by q k = go (opened r.gated r.program r.input input v.state z v.seen.moment.did.did (thread_of v.seen.before t).calls unit.met.reached unit.met.takes reached stand_alike)
+        where
+          go : Both r.program input t v.state z (thread_of v.seen.before t).calls ⊎ Beginning r.program t v.state z → sync.check z.sync t q ≡ None
+          go (inr b) = waiting_asks r.program z t q b.none k
+          go (inl b) =
+              let p = r.program in
+              let can : CanStep (next_of p z t) = subst CanStep (sym k) tt in
+              let same_event = events_alike r.gated p input t v.state z (thread_of v.seen.before t).calls b (facing.can0_at r d input v z unit b good b.x.op refl) (subst CanStep (facing.act_at r d input v z unit b good b.x.op refl) can) in
+              let seen : local_event r.gated p (local_at z t) ≡ true = (looks r.gated p z t (running t b.h b.f b.fs b.n) reached b.here.local).event ∙ asks_turn r.gated p z t q k in
+              let event : is_event_at v.seen ≡ true = event0 ∙ sym same_event ∙ seen in
+              unchecked_here r d input v z unit b good (ap (λ (y : Objects). y.sync) (sym (same_objects event))) q k
+
+    -- a thread that has a turn left has a unit left
+    none_open : AllOf (λ (m : Mark (Timed PlanDeed)). m.done ≡ false → m.step.did.thread ≢ u.thread.0) marks → ⊥
+    none_open a =
+        let k = follows.no_turn_left (like input) (turns_of r) (plan_start r) (plan_of r d) (IsMove r.gated r.program input turns) (is_plan r d o keeps.closed keeps.plain)
+        (law.obeys r d input turns o keeps.plain (starts_are_fresh r d o keeps.plain) (units_single r d o keeps.alone) (plan_remembers r d o keeps.plain) keeps.closed keeps.admitted keeps.small keeps.turns_are) (effects first ds) g stands.holds u.thread.0 a g (omega arith) owner in
+        let n = counted.plan_turns r d keeps.plain in
+        let w = slice_get_within (turns_of r) g u.thread.0 owner in
+        absurd (omega (arith, k, n, w))
+
+    pub unchecked : (q : Request) → next_of r.program z u.thread.0 ≡ actions.Event q → sync.check z.sync u.thread.0 q ≡ None
+    unchecked q k = go (find deeds u.thread.0 marks)
+      where
+        go : AllOf (λ (m : Mark (Timed PlanDeed)). m.done ≡ false → m.step.did.thread ≢ u.thread.0) marks ⊎ First deeds u.thread.0 marks → sync.check z.sync u.thread.0 q ≡ None
+        go (inl a) = absurd (none_open a)
+        go (inr f) = subst (λ (i : ℕ). sync.check z.sync i q ≡ None) (own_unit f) (unchecked_by f q (subst (λ (i : ℕ). next_of r.program z i ≡ actions.Event q) (sym (own_unit f)) k))
+
     pub not_stuck : IsStuck r.gated r.program input u z → ⊥
     not_stuck stuck = go (find deeds u.thread.0 marks)
       where
         go : AllOf (λ (m : Mark (Timed PlanDeed)). m.done ≡ false → m.step.did.thread ≢ u.thread.0) marks ⊎ First deeds u.thread.0 marks → ⊥
-        go (inl a) =
-            let k = follows.no_turn_left (like input) (turns_of r) (plan_start r) (plan_of r d) (IsMove r.gated r.program input turns) (is_plan r d o keeps.closed keeps.plain)
-            (law.obeys r d input turns o keeps.plain (starts_are_fresh r d o keeps.plain) (units_single r d o keeps.alone) (plan_remembers r d o keeps.alone) keeps.closed keeps.admitted keeps.small keeps.turns_are) (effects first ds) g stands.holds u.thread.0 a g (omega arith) owner in
-            let n = counted.plan_turns r d keeps.plain in
-            let w = slice_get_within (turns_of r) g u.thread.0 owner in
-            absurd (omega (arith, k, n, w))
+        go (inl a) = none_open a
         go (inr f) = not_stuck_by f (subst (λ (i : ℕ). StuckBy i) (sym (own_unit f)) stuck)
 
 -- ---- the guided run
@@ -454,6 +516,13 @@ no_stray r d input turns all e = by (drop (guided_of r.program input turns r.gat
     by (u ∷ us) q stuck =
         let left : turns_left turns (guided_of r.program input turns r.gated).trace ≡ u ∷ us = ap (λ (i : ℕ). drop i turns) (ap length told ∙ front_length (guided_of r.program input turns r.gated).turns turns u us q) ∙ q in
         not_stuck r d input turns all (guided_of r.program input turns r.gated).trace (guided_of r.program input turns r.gated).state h u us left stuck
+
+-- where the full guided run ends before a turn, no check on the objects fails at what the turn's owner asks
+pub checks_hold : (r : ReferenceRun) (d : Taken) (input : List ℤ) (turns : List Turn) → RunsToEnd r d input turns → (u : Turn) (us : List Turn) (q : Request) →
+    turns_left turns (full_guided_of r.program input turns r.gated).trace ≡ u ∷ us → next_of r.program (full_guided_of r.program input turns r.gated).state u.thread.0 ≡ actions.Event q →
+    sync.check (full_guided_of r.program input turns r.gated).state.sync u.thread.0 q ≡ None
+checks_hold r d input turns all u us q left k =
+    unchecked r d input turns all (full_guided_of r.program input turns r.gated).trace (full_guided_of r.program input turns r.gated).state (full_is r.program input turns r.gated).permitted u us left q k
 
 -- ---- where it exits
 

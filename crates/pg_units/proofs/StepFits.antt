@@ -43,7 +43,7 @@ module _ (r : ReferenceRun) (d : Taken) (input : List ℤ) (o : IsOrderedRun r) 
     own = sym m.is_deed.thread ∙ mine
 
     pub thread_is : a.locals (thread_in u.seen.moment) ≡ record { local = local_at m.state (thread_in u.seen.moment); moves = m.moves (thread_in u.seen.moment) }
-    thread_is = m.looks.locals (thread_in u.seen.moment)
+    thread_is = m.looks.locals (thread_in u.seen.moment) (sym own)
 
     pub stands_alike : StandLike input (standing_of (local_at u.state (thread_in u.seen.moment)) (thread_of u.seen.before (thread_in u.seen.moment)).calls) (local_at m.state (thread_in u.seen.moment))
     stands_alike = subst (λ (l : MovedThread). StandLike input (standing_of (local_at u.state (thread_in u.seen.moment)) (thread_of u.seen.before (thread_in u.seen.moment)).calls) l.local) thread_is alike.thread.stands

@@ -5,7 +5,7 @@ use Rattle.pg_plans.specs.Effects.{effects}
 use Rattle.pg_sync.specs.Sync as sync
 use Rattle.pg_step.specs.LocalState.{fresh}
 use Rattle.pg_effects.specs.Views.{local_at, objects_of}
-use Rattle.pg_closed.specs.Known.{Seen, Taken, fresh_registers, thread_of, seen_in}
+use Rattle.pg_closed.specs.Known.{Taken, fresh_registers, thread_of}
 use Rattle.pg_closed.specs.Moments.{thread_in}
 use Rattle.pg_units.specs.Likes.{IsCellLike, IsThreadLike, PlanThread}
 use Rattle.pg_units.specs.Moves.{RunState}
@@ -42,9 +42,9 @@ pub record IsRemembered (r : ReferenceRun) (d : Taken) (us : List PlanUnit) (u :
 abbrev pub PlanRemembers : ReferenceRun → Taken → Type 0
 PlanRemembers r d = (us : List PlanUnit) (u : PlanUnit) (vs : List PlanUnit) → units_of r d ≡ us ++ u ∷ vs → IsRemembered r d us u
 
--- each step is a unit by itself
+-- each unit is a single step: no live branch step is left free
 abbrev pub IsWithoutInstances : ReferenceRun → Taken → Type 0
-IsWithoutInstances r d = AllByRecursion (λ (x : Seen). (x.live ≡ true) × (is_instance d x ≡ false)) (seen_in (reference_of r) d)
+IsWithoutInstances r d = AllByRecursion (λ (u : PlanUnit). is_instance d u.seen ≡ false) (units_of r d)
 
 -- ---- an input that keeps the order
 

@@ -15,14 +15,13 @@ pub record HaveOneFrame (word n : ℕ) : Type 0 where
   pub start : (pointer_of n).start ≡ (pointer_of word).start
   pub length : (pointer_of n).length ≡ (pointer_of word).length
 
--- a number, if it is there, has the frame of this word, which is there too
+-- a number that is there has the frame of this word, which is there too
 abbrev pub IsInFrame : Option ℕ → Option ℕ → Type 0
-IsInFrame word None = ⊤
-IsInFrame None (Some n) = ⊥
 IsInFrame (Some word) (Some n) = HaveOneFrame word n
+IsInFrame _ _ = ⊥
 
--- on this input a value, none where it was never set, is like what is known of it: a known one is that number, of another its
--- frame may be known, and else it may be any
+-- on this input a value, none where it was never set, is like what is known of it: a known one is that number, of another, which is
+-- set, its frame may be known, and else it may be any or none
 abbrev pub IsLike : List ℤ → Shadow → Option ℕ → Type 0
 IsLike input (Known f) v = v ≡ f input
 IsLike input (Framed f x) v = IsInFrame (f input) v

@@ -1,9 +1,9 @@
 -- The moves of a run on an input: its steps, as a plan is compared with them.
-use Rattle.std.specs.Prelude.{ℕ, suc, ℤ, List, drop, Some, None, is_some, if◌then◌else◌}
+use Rattle.std.specs.Prelude.{◌≡◌, ℕ, suc, ℤ, List, drop, Some, None, is_some, if◌then◌else◌}
 use Rattle.pg_ir.specs.declared.ids.InstrId.{InstrId}
 use Rattle.pg_ir.specs.Program.{NumberedProgram}
 use Rattle.pg_plans.specs.Effects as plans
-use Rattle.pg_plans.specs.Effects.{Deed, IsSame, Same}
+use Rattle.pg_plans.specs.Effects.{Deed, IsSame}
 use Rattle.pg_trace.specs.declared.step.Step.{Step}
 use Rattle.pg_trace.specs.declared.turn.Turn.{Turn}
 use Rattle.pg_trace.specs.Steps.{event_of}
@@ -41,13 +41,19 @@ deed_moved p input s moves x =
       objects = if is_some (event_of x) then Some (objects_with e.thread e.request (objects_of s)) else None;
     }
 
--- in what looks like a, where g of the turns are done, d is what a step does that may be taken along the turns
+-- a looks to thread t like b: the thread's own state, the cells and the objects are the same
+pub record LooksTo (t : ℕ) (a b : RunState) : Type 0 where
+  pub locals : (v : ℕ) → v ≡ t → a.locals v ≡ b.locals v
+  pub cells : (c : ℕ) → a.cells c ≡ b.cells c
+  pub objects : a.objects ≡ b.objects
+
+-- in what looks to its thread like a, where g of the turns are done, d is what a step does that may be taken along the turns
 pub record IsMove (gated : List InstrId) (p : NumberedProgram) (input : List ℤ) (turns : List Turn) (a : RunState) (g : ℕ) (d : RunDeed) : Type 0 where
   pub state : State
   pub moves : ℕ → ℕ
   pub taken : ℕ → ℕ
   pub reached : IsReached p state
-  pub looks : Same a (moved state moves)
   pub told : Step
+  pub looks : LooksTo told.thread.0 a (moved state moves)
   pub may : MayTake gated p input state (drop g turns) taken told
   pub is_deed : IsSame d (deed_moved p input state moves told)

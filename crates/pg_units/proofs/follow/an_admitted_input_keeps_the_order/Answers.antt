@@ -1,7 +1,7 @@
 use Rattle.pg_machine.specs.FullGuided.{full_guided_of}
 use Rattle.pg_effects.proofs.FullEnds.{full_is}
 use Rattle.pg_units.proofs.Begins.{first_answers, ordered_runs}
-use Rattle.pg_units.proofs.NoStray.{all_answers, no_stray}
+use Rattle.pg_units.proofs.NoStray.{all_answers, checks_hold, no_stray}
 use Rattle.pg_units.proofs.follow.an_admitted_input_keeps_the_order.Goals as goal
 
 pub returns-clause-permitted : goal.returns-clause-permitted
@@ -39,3 +39,6 @@ returns-clause-whole c = λ r d input turns k.
 
 pub returns-clause-exits : goal.returns-clause-exits
 returns-clause-exits c = λ r d input turns value k e. all_answers r d input turns value k e
+
+pub returns-clause-checks : goal.returns-clause-checks
+returns-clause-checks c = λ r d input turns u us q k left e. checks_hold r d input turns k u us q left e

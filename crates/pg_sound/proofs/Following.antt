@@ -1,0 +1,191 @@
+-- A run of moves, of single steps and of whole instances, follows the plan.
+use Rattle.std.proofs.Common.{◌≡◌, ℕ, ℤ, ◌⊎◌, ◌<◌, ◌≤◌, ◌^◌, ◌==◌, ◌++◌, suc, Bool, true, false, List, [], ◌∷◌, length, map, drop, arith, Option, Some, None, refl, sym, ap, ◌∙◌, subst, inl, inr}
+use Rattle.std.specs.Prelude.{is_some, slice_get, if◌then◌else◌}
+use Rattle.std.specs.List.{AllByRecursion as AllOf}
+use Rattle.std.proofs.lemmas.Bool.{eq-eqb, true≢false}
+use Rattle.pg_accesses.specs.Accesses.{RootedList}
+use Rattle.pg_plans.specs.Effects.{deeds, effects}
+use Rattle.pg_plans.specs.Intervals.{turns_done, times}
+use Rattle.pg_plans.specs.Plans.{Alike, Fits, Moves, Obeys}
+use Rattle.pg_plans.proofs.Follows.{Stands, follows_plan}
+use Rattle.pg_trace.specs.declared.step.StepKind.{StepKind}
+use Rattle.pg_trace.specs.declared.turn.Turn.{Turn}
+use Rattle.pg_trace.specs.Steps.{happening_in}
+use Rattle.pg_machine.specs.Permitted.{has_turn}
+use Rattle.pg_machine.specs.State.{State}
+use Rattle.pg_effects.specs.PermittedSteps.{one_more}
+use Rattle.pg_runs.specs.Deeds.{owners_of}
+use Rattle.pg_closed.specs.Closed.{IsClosed, admits}
+use Rattle.pg_closed.specs.Known.{Taken}
+use Rattle.pg_closed.specs.Moments.{thread_in}
+use Rattle.pg_units.specs.Fits.{IsAlikeFor, IsRemembered, PlanRemembers, StartsAreFresh, thread_before}
+use Rattle.pg_units.specs.Likes.{IsCellLike, IsThreadLike, PlanThread, like}
+use Rattle.pg_units.specs.Lists.{Has}
+use Rattle.pg_units.specs.Moves.{RunDeed, RunState}
+use Rattle.pg_units.specs.Order.{IsOrderedRun}
+use Rattle.pg_units.specs.Units.{ExtentsArePlain, Met, PlanDeed, PlanUnit, ReferenceRun, deed_of, is_event_at, is_instance, plan_of, plan_start, reads_cell, reference_of, turns_of, unit_of, units_from, units_of}
+use Rattle.pg_units.proofs.Along.{IsUnit, all_units}
+use Rattle.pg_units.proofs.AtUnits.{fits_at, kind_at, none_left, none_left_by, turn_at_move}
+use Rattle.pg_units.proofs.Freed.{is_free}
+use Rattle.pg_units.proofs.Members.{all_has, has_right}
+use Rattle.pg_units.proofs.Obeying.{split}
+use Rattle.pg_units.proofs.Remembered.{yes_if}
+use Rattle.pg_units.proofs.Settled.{is_plan}
+use Rattle.pg_units.proofs.Turns.{is_some_if}
+use Rattle.pg_sound.specs.Free.{IsAnyMove, IsFreeMove, IsPartMove, IsSingleMove, IsWholeMove, JoinsAgain, UnitsJoinAgain}
+use Rattle.pg_sound.proofs.Whole.{part_fits, whole_fits}
+
+-- ---- the number of a unit among its thread's
+
+less : (b : Bool) (k n : ℕ) → (if b then suc k else k) ≤ n → k ≤ n
+less true k n h = omega (arith, h)
+less false k n h = h
+
+module _ (r : ReferenceRun) (d : Taken) where
+  fewer : (t : ℕ) (counts : ℕ → ℕ) (us : List PlanUnit) → AllOf (λ (u : PlanUnit). one_more t counts (thread_in u.seen.moment) ≤ u.units) us → AllOf (λ (u : PlanUnit). counts (thread_in u.seen.moment) ≤ u.units) us
+  fewer t counts [] h = tt
+  fewer t counts (u ∷ us) h = (less (t == thread_in u.seen.moment) (counts (thread_in u.seen.moment)) u.units h.0, fewer t counts us h.1)
+
+  at_least : (last : State) (counts : ℕ → ℕ) (ms : List Met) → AllOf (λ (u : PlanUnit). counts (thread_in u.seen.moment) ≤ u.units) (units_from r d last counts ms)
+  unfolding units_from
+  at_least last counts [] = tt
+  at_least last counts (m ∷ ms) = go m.seen.live (λ counts. at_least last counts ms)
+    where
+      go : (b : Bool) → ((counts : ℕ → ℕ) → AllOf (λ (u : PlanUnit). counts (thread_in u.seen.moment) ≤ u.units) (units_from r d last counts ms)) →
+          AllOf (λ (u : PlanUnit). counts (thread_in u.seen.moment) ≤ u.units) (if b then unit_of r d last counts m ms ∷ units_from r d last (one_more (thread_in m.seen.moment) counts) ms else units_from r d last counts ms)
+      go true more = ((let k : counts (thread_in m.seen.moment) ≤ counts (thread_in m.seen.moment) = omega arith in k), fewer (thread_in m.seen.moment) counts (units_from r d last (one_more (thread_in m.seen.moment) counts) ms) (more (one_more (thread_in m.seen.moment) counts)))
+      go false more = more counts
+
+  clash : (t : ℕ) (counts : ℕ → ℕ) (v : PlanUnit) → one_more t counts (thread_in v.seen.moment) ≤ v.units → thread_in v.seen.moment ≡ t → v.units ≡ counts t → ⊥
+  clash t counts v h e n =
+      let k : one_more t counts (thread_in v.seen.moment) ≡ suc (counts t) = ap (one_more t counts) e ∙ yes_if (t == t) (suc (counts t)) (counts t) (eq-eqb t t refl) in
+      absurd (omega (arith, h, n, k))
+
+  pub one_unit : (last : State) (counts : ℕ → ℕ) (ms : List Met) (u v : PlanUnit) → Has (units_from r d last counts ms) u → Has (units_from r d last counts ms) v → thread_in u.seen.moment ≡ thread_in v.seen.moment → u.units ≡ v.units → u ≡ v
+  unfolding units_from
+  one_unit last counts [] u v a b e n = absurd a
+  one_unit last counts (m ∷ ms) u v a b e n = go m.seen.live (λ counts x y. one_unit last counts ms u v x y e n) (λ counts. at_least last counts ms) a b
+    where
+      t : ℕ
+      t = thread_in m.seen.moment
+
+      both : ((counts : ℕ → ℕ) → Has (units_from r d last counts ms) u → Has (units_from r d last counts ms) v → u ≡ v) → ((counts : ℕ → ℕ) → AllOf (λ (u : PlanUnit). counts (thread_in u.seen.moment) ≤ u.units) (units_from r d last counts ms)) →
+          (unit_of r d last counts m ms ≡ u) ⊎ Has (units_from r d last (one_more (thread_in m.seen.moment) counts) ms) u → (unit_of r d last counts m ms ≡ v) ⊎ Has (units_from r d last (one_more (thread_in m.seen.moment) counts) ms) v → u ≡ v
+      both more least (inl x) (inl y) = sym x ∙ y
+      both more least (inl x) (inr y) =
+          absurd (clash (thread_in m.seen.moment) counts v (all_has (λ (w : PlanUnit). one_more (thread_in m.seen.moment) counts (thread_in w.seen.moment) ≤ w.units) (units_from r d last (one_more (thread_in m.seen.moment) counts) ms) v (least (one_more (thread_in m.seen.moment) counts)) y)
+          (sym e ∙ ap (λ (w : PlanUnit). thread_in w.seen.moment) (sym x)) (sym n ∙ ap (λ (w : PlanUnit). w.units) (sym x)))
+      both more least (inr x) (inl y) =
+          absurd (clash (thread_in m.seen.moment) counts u (all_has (λ (w : PlanUnit). one_more (thread_in m.seen.moment) counts (thread_in w.seen.moment) ≤ w.units) (units_from r d last (one_more (thread_in m.seen.moment) counts) ms) u (least (one_more (thread_in m.seen.moment) counts)) x)
+          (e ∙ ap (λ (w : PlanUnit). thread_in w.seen.moment) (sym y)) (n ∙ ap (λ (w : PlanUnit). w.units) (sym y)))
+      both more least (inr x) (inr y) = more (one_more (thread_in m.seen.moment) counts) x y
+
+      go : (b : Bool) → ((counts : ℕ → ℕ) → Has (units_from r d last counts ms) u → Has (units_from r d last counts ms) v → u ≡ v) → ((counts : ℕ → ℕ) → AllOf (λ (u : PlanUnit). counts (thread_in u.seen.moment) ≤ u.units) (units_from r d last counts ms)) →
+          Has (if b then unit_of r d last counts m ms ∷ units_from r d last (one_more (thread_in m.seen.moment) counts) ms else units_from r d last counts ms) u →
+          Has (if b then unit_of r d last counts m ms ∷ units_from r d last (one_more (thread_in m.seen.moment) counts) ms else units_from r d last counts ms) v → u ≡ v
+      go true more least a b = both more least a b
+      go false more least a b = more counts a b
+
+-- ---- moves of instances
+
+no_objects : (r : ReferenceRun) (input : List ℤ) (sums : ℕ → Option RootedList) (turns : List Turn) (u : PlanUnit) (a : RunState) (g : ℕ) (e : RunDeed) → IsWholeMove r input sums turns u a g e ⊎ IsPartMove r input sums turns u a g e → e.objects ≡ None
+no_objects r input sums turns u a g e (inl w) = w.is_deed.objects
+no_objects r input sums turns u a g e (inr w) = w.is_deed.objects
+
+owner_of : (r : ReferenceRun) (input : List ℤ) (sums : ℕ → Option RootedList) (turns : List Turn) (u : PlanUnit) (a : RunState) (g : ℕ) (e : RunDeed) → IsWholeMove r input sums turns u a g e ⊎ IsPartMove r input sums turns u a g e → has_turn e.thread (drop g turns) ≡ true
+owner_of r input sums turns u a g e (inl w) = subst (λ (t : ℕ). has_turn t (drop g turns) ≡ true) (sym w.is_deed.thread) w.steps.may.owner
+owner_of r input sums turns u a g e (inr w) = subst (λ (t : ℕ). has_turn t (drop g turns) ≡ true) (sym w.is_deed.thread) w.steps.may.owner
+
+-- ---- a run of moves
+
+module _ (r : ReferenceRun) (d : Taken) (input : List ℤ) (sums : ℕ → Option RootedList) (turns : List Turn) (o : IsOrderedRun r) (plain : ExtentsArePlain r d) (fresh : StartsAreFresh r d) (remembers : PlanRemembers r d)
+    (closed : IsClosed (reference_of r) d) (admitted : admits (reference_of r) d input ≡ true) (small : length input < 2 ^ 64) (same_turns : owners_of turns ≡ turns_of r) (again : UnitsJoinAgain r sums d) where
+  -- a move at a unit
+  module _ (us : List PlanUnit) (u : PlanUnit) (vs : List PlanUnit) (is : units_of r d ≡ us ++ u ∷ vs) (s : RunState) (g : ℕ) (e : RunDeed) (mine : e.thread ≡ thread_in u.seen.moment)
+      (like_thread : IsThreadLike input ((effects (plan_start r) (map (deed_of d) us)).locals (thread_in u.seen.moment)) (s.locals (thread_in u.seen.moment))) where
+    has : Has (units_of r d) u
+    has = subst (λ (l : List PlanUnit). Has l u) (sym is) (has_right us (u ∷ vs) u (inl refl))
+
+    memory : IsRemembered r d us u
+    memory = remembers us u vs is
+
+    thread : IsThreadLike input (thread_before u) (s.locals (thread_in u.seen.moment))
+    thread = subst (λ (z : PlanThread). IsThreadLike input z (s.locals (thread_in u.seen.moment))) memory.thread like_thread
+
+    unit : IsUnit r d u
+    unit = all_has (IsUnit r d) (units_of r d) u (all_units r d o) has
+
+    -- where it is a single step
+    single : IsSingleMove r d input turns s g e → is_instance d u.seen ≡ false
+    single m = m.single u has (sym mine) (sym thread.moves ∙ ap (λ (i : ℕ). (s.locals i).moves) (sym mine))
+
+    -- where it is an instance
+    same_unit : (m : IsFreeMove r d input sums turns s g e) → m.unit ≡ u
+    same_unit m =
+        let t : thread_in m.unit.seen.moment ≡ thread_in u.seen.moment = sym m.thread ∙ mine in
+        one_unit r d _ _ _ m.unit u m.has has t (sym m.units ∙ ap (λ (i : ℕ). (s.locals i).moves) t ∙ thread.moves)
+
+    free : IsFreeMove r d input sums turns s g e → is_instance d u.seen ≡ true
+    free m = subst (λ (v : PlanUnit). is_instance d v.seen ≡ true) (same_unit m) m.free
+
+    no_event : is_instance d u.seen ≡ true → deeds.is_event (deed_of d u) ≡ false
+    no_event f = is_some_if (is_event_at u.seen) u.objects ∙ ap (λ (k : StepKind). is_some (happening_in k)) (is_free (reference_of r) d u.seen unit.met.region f).kind
+
+    kind_any : IsAnyMove r d input sums turns s g e → deeds.is_event e ≡ deeds.is_event (deed_of d u)
+    kind_any (inl m) = kind_at r d input turns o plain fresh remembers closed admitted small same_turns us u vs is (single m) s g e m.move mine like_thread
+    kind_any (inr m) = ap is_some (no_objects r input sums turns m.unit s g e m.move) ∙ sym (no_event (free m))
+
+    fits_any : IsAnyMove r d input sums turns s g e → ((c : ℕ) → reads_cell d u.seen c ≡ true → IsCellLike input ((effects (plan_start r) (map (deed_of d) us)).cells c) (s.cells c)) →
+        (deeds.is_event (deed_of d u) ≡ true → (effects (plan_start r) (map (deed_of d) us)).objects ≡ s.objects) → Fits (like input) (deed_of d u) e
+    fits_any (inl m) cells objects = fits_at r d input turns o plain fresh remembers closed admitted small same_turns us u vs is (single m) s g e m.move mine like_thread cells objects
+    fits_any (inr m) cells objects = by (subst (λ (v : PlanUnit). IsWholeMove r input sums turns v s g e ⊎ IsPartMove r input sums turns v s g e) (same_unit m) m.move)
+      where
+        alike : IsAlikeFor input d u s
+        alike = record {
+          thread = thread;
+          cells = λ c h. subst (λ z. IsCellLike input z (s.cells c)) (memory.cells c) (cells c h);
+          objects = λ h. sym memory.objects ∙ objects (is_some_if (is_event_at u.seen) u.objects ∙ h);
+        }
+
+        by : IsWholeMove r input sums turns u s g e ⊎ IsPartMove r input sums turns u s g e → Fits (like input) (deed_of d u) e
+        by (inl w) = whole_fits r d input sums turns u unit (free m) s g e alike o.can.program small (all_has (λ (v : PlanUnit). is_instance d v.seen ≡ true → JoinsAgain r sums v) (units_of r d) u again has (free m)) w
+        by (inr w) = part_fits r d input sums turns u unit (free m) s g e alike w
+
+  pub obeys : Obeys (like input) (turns_of r) (plan_start r) (plan_of r d) (IsAnyMove r d input sums turns)
+  obeys = record {
+    turn = turn_of;
+    kind = λ xs p ys e s g m moved mine l. kind_of xs p ys e s g m moved mine l;
+    fits = λ xs p ys e s g m moved mine l c ob. fits_of xs p ys e s g m moved mine l c ob;
+    no_more = λ s g m moved within l none ob. no_more s g m moved none;
+  }
+    where
+      turn_of : (s : RunState) (g : ℕ) (m : RunDeed) → IsAnyMove r d input sums turns s g m → deeds.is_event m ≡ true → slice_get (turns_of r) g ≡ Some m.thread
+      turn_of s g m (inl k) h = turn_at_move r d input turns o plain fresh remembers closed admitted small same_turns s g m k.move h
+      turn_of s g m (inr k) h = absurd (true≢false (sym h ∙ ap is_some (no_objects r input sums turns k.unit s g m k.move)))
+
+      no_more : (s : RunState) (g : ℕ) (m : RunDeed) → IsAnyMove r d input sums turns s g m → ((i : ℕ) → g ≤ i → slice_get (turns_of r) i ≡ Some m.thread → turns_done deeds 0 (plan_of r d) ≤ i) → ⊥
+      no_more s g m (inl k) none = none_left r d input turns o plain fresh remembers closed admitted small same_turns s g m k.move none
+      no_more s g m (inr k) none = none_left_by r d input turns o plain fresh remembers closed admitted small same_turns m.thread g (owner_of r input sums turns k.unit s g m k.move) none
+
+      kind_of : (xs : List PlanDeed) (p : PlanDeed) (ys : List PlanDeed) → plan_of r d ≡ xs ++ p ∷ ys → (s : RunState) (g : ℕ) (m : RunDeed) → IsAnyMove r d input sums turns s g m → m.thread ≡ p.thread →
+          IsThreadLike input ((effects (plan_start r) xs).locals p.thread) (s.locals p.thread) → deeds.is_event m ≡ deeds.is_event p
+      kind_of xs p ys e s g m moved mine l =
+          let k = split (deed_of d) (units_of r d) xs p ys e in
+          let l' = subst (λ (q : PlanDeed). IsThreadLike input ((effects (plan_start r) xs).locals q.thread) (s.locals q.thread)) (sym k.image) l in
+          let l'' = subst (λ (z : List PlanDeed). IsThreadLike input ((effects (plan_start r) z).locals (thread_in k.at.seen.moment)) (s.locals (thread_in k.at.seen.moment))) (sym k.images) l' in
+          kind_any k.before k.at k.after k.is s g m (mine ∙ ap (λ (q : PlanDeed). q.thread) (sym k.image)) l'' moved ∙ ap deeds.is_event k.image
+
+      fits_of : (xs : List PlanDeed) (p : PlanDeed) (ys : List PlanDeed) → plan_of r d ≡ xs ++ p ∷ ys → (s : RunState) (g : ℕ) (m : RunDeed) → IsAnyMove r d input sums turns s g m → m.thread ≡ p.thread →
+          IsThreadLike input ((effects (plan_start r) xs).locals p.thread) (s.locals p.thread) →
+          ((c : ℕ) → p.reads c ≡ true → IsCellLike input ((effects (plan_start r) xs).cells c) (s.cells c)) → (deeds.is_event p ≡ true → (effects (plan_start r) xs).objects ≡ s.objects) → Fits (like input) p m
+      fits_of xs p ys e s g m moved mine l c ob =
+          let k = split (deed_of d) (units_of r d) xs p ys e in
+          let l' = subst (λ (q : PlanDeed). IsThreadLike input ((effects (plan_start r) xs).locals q.thread) (s.locals q.thread)) (sym k.image) l in
+          let l'' = subst (λ (z : List PlanDeed). IsThreadLike input ((effects (plan_start r) z).locals (thread_in k.at.seen.moment)) (s.locals (thread_in k.at.seen.moment))) (sym k.images) l' in
+          subst (λ (q : PlanDeed). Fits (like input) q m) k.image (fits_any k.before k.at k.after k.is s g m (mine ∙ ap (λ (q : PlanDeed). q.thread) (sym k.image)) l'' moved
+          (λ b h. subst (λ (z : List PlanDeed). IsCellLike input ((effects (plan_start r) z).cells b) (s.cells b)) (sym k.images) (c b (sym (ap (λ (q : PlanDeed). q.reads b) k.image) ∙ h)))
+          (λ h. ap (λ (z : List PlanDeed). (effects (plan_start r) z).objects) k.images ∙ ob (sym (ap deeds.is_event k.image) ∙ h)))
+
+  pub moves_follow : (s : RunState) → Alike (like input) (plan_start r) s → (ds : List RunDeed) → Moves (IsAnyMove r d input sums turns) s 0 ds →
+      Stands (like input) (turns_of r) (plan_start r) (plan_of r d) (IsAnyMove r d input sums turns) (is_plan r d o closed plain) obeys (effects s ds) (turns_done deeds 0 ds) ds (times deeds (turns_of r) 0 ds)
+  moves_follow s a ds m = follows_plan (like input) (turns_of r) (plan_start r) (plan_of r d) (IsAnyMove r d input sums turns) (is_plan r d o closed plain) obeys s a ds m

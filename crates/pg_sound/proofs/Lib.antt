@@ -1,0 +1,16 @@
+pub mod Begin
+pub mod Covered
+pub mod Falling
+pub mod Following
+pub mod Good
+pub mod Guided
+pub mod Inside
+pub mod Joins
+pub mod Ordering
+pub mod Paths
+pub mod Read
+pub mod Recorded
+pub mod Stretch
+pub mod Whole
+pub mod Turns
+pub mod Unbroken

@@ -1,0 +1,603 @@
+-- On an admitted input the owner of the next turn does it, or doesn't come so far.
+use Rattle.std.proofs.Common.{◌<◌, ◌^◌, ◌≡◌, ◌≢◌, ℕ, ℤ, ◌⊎◌, ◌≤◌, ◌+◌, zero, suc, Bool, true, false, cond, List, [], ◌∷◌, ◌++◌, length, map, drop, take, Option, Some, None, refl, sym, ap, ◌∙◌, subst, arith, inl, inr}
+use Rattle.std.specs.List.{AllByRecursion as AllOf, filter}
+use Rattle.std.specs.Prelude.{◌&&◌, if◌then◌else◌, is_some, slice_get}
+use Rattle.std.proofs.lemmas.Bool.{true≢false}
+use Rattle.std.proofs.lemmas.List.{length-append}
+use Rattle.std.proofs.lemmas.Option.{slice_get_within}
+use Rattle.pg_plans.specs.Cuts.{IsBelow, IsCut, Mark, kept, pending, whole}
+use Rattle.pg_plans.specs.Effects.{deeds, effects}
+use Rattle.pg_plans.specs.Intervals.{Timed, did_of, done_after, turns_done, times}
+use Rattle.pg_plans.specs.Plans.{Alike}
+use Rattle.pg_plans.proofs.Cuts as cuts
+use Rattle.pg_plans.proofs.Effects.{objects_part, same_refl}
+use Rattle.pg_plans.proofs.Firsts.{OpenEvent, find_event, first_chosen, none_behind, same_chosen}
+use Rattle.pg_plans.proofs.Follows as follows
+use Rattle.pg_plans.proofs.Follows.{Stands}
+use Rattle.pg_plans.proofs.Lists.{First, cons_head, cons_tail, did_append, find, whole_append}
+use Rattle.pg_plans.proofs.Places as places
+use Rattle.pg_plans.proofs.Times.{did_times}
+use Rattle.pg_step.specs.LocalState.{Frame, LocalState, fresh}
+use Rattle.pg_step.specs.Step.{frames_action, next as next_action}
+use Rattle.pg_step.specs.States.{CanStep}
+use Rattle.pg_step.specs.declared.action.Action.{Action}
+use Rattle.pg_step.specs.declared.action.Action.TheVariants as actions
+use Rattle.pg_ir.specs.declared.ids.InstrId.{InstrId}
+use Rattle.pg_ir.specs.declared.request.Request.{Request}
+use Rattle.pg_ir.specs.declared.request.Request.TheVariants as requests
+use Rattle.pg_ir.specs.Program.{NumberedProgram}
+use Rattle.pg_sync.specs.Sync as sync
+use Rattle.pg_trace.specs.declared.step.Step.{Step}
+use Rattle.pg_trace.specs.declared.turn.Turn.{Turn}
+use Rattle.pg_trace.specs.Steps.{event_of, events, happening_in}
+use Rattle.pg_machine.specs.declared.guided_end.GuidedEnd.TheVariants as ends
+use Rattle.pg_machine.specs.Guided.{cannot_go, guided_of, is_turn}
+use Rattle.pg_machine.specs.MachineStep.{happening_of, is_ended, may_act, trap_of, turn_of, turn_with}
+use Rattle.pg_machine.specs.Permitted.{IsPermitted, turns_left}
+use Rattle.pg_machine.specs.Runs.{Takes}
+use Rattle.pg_machine.specs.State.{State, action_in, initial, next_of}
+use Rattle.pg_machine.proofs.Asks.{next_is, ready_acts}
+use Rattle.pg_machine.proofs.GuidedPermitted.{guided_permitted}
+use Rattle.pg_machine.proofs.GuidedRuns.{guided_is, turn_is_itself}
+use Rattle.pg_effects.specs.PermittedSteps.{none_taken}
+use Rattle.pg_effects.specs.Reached.{IsReached}
+use Rattle.pg_effects.specs.Views.{Objects, begun_in, cell_at, local_at, objects_of}
+use Rattle.pg_effects.proofs.Along.{is_going}
+use Rattle.pg_effects.proofs.Few.{IsAllowed, did_allowed}
+use Rattle.pg_effects.proofs.Permits.{permitted_is}
+use Rattle.pg_effects.proofs.Reaches.{reached_first, reached_run}
+use Rattle.pg_effects.proofs.Threads.{event_is}
+use Rattle.pg_runs.specs.Deeds.{local_event, local_goes, local_granted, owners_of}
+use Rattle.pg_runs.proofs.Deeds.{event_seen, get_behind, goes_by, some_turn}
+use Rattle.pg_runs.proofs.Maximal.{not_ended}
+use Rattle.pg_runs.proofs.Rules.{Steps, looks, none_granted, steps_by}
+use Rattle.pg_closed.specs.Known.{Taken, fresh_registers, thread_of}
+use Rattle.pg_closed.specs.Moments.{thread_in}
+use Rattle.pg_units.specs.Answered.{Answered, answers}
+use Rattle.pg_units.specs.Fits.{IsAlikeFor, IsRemembered, thread_before}
+use Rattle.pg_units.specs.Likes.{IsCellLike, IsThreadLike, MovedThread, PlanThread, StandLike, like}
+use Rattle.pg_units.specs.Lists.{Has}
+use Rattle.pg_units.specs.Moves.{LooksTo, RunDeed, RunState, moved}
+use Rattle.pg_units.specs.Order.{IsOrderedRun}
+use Rattle.pg_units.specs.Units.{PlanDeed, PlanUnit, ReferenceRun, cell_known, deed_of, is_event_at, is_instance, plan_of, plan_start, reads_cell, reference_of, standing_of, turns_of, units_of}
+use Rattle.pg_units.proofs.Along.{IsUnit}
+use Rattle.pg_units.proofs.Begins.{begins_alike}
+use Rattle.pg_units.proofs.Counted as counted
+use Rattle.pg_units.proofs.Dispatch.{both_fits}
+use Rattle.pg_units.proofs.EventKinds.{events_alike}
+use Rattle.pg_units.proofs.Facing as facing
+use Rattle.pg_units.proofs.Good.{IsGood}
+use Rattle.pg_units.proofs.Granted.{may_here, open_here, unchecked_here}
+use Rattle.pg_units.proofs.Here.{running}
+use Rattle.pg_units.proofs.Inner.{Pair}
+use Rattle.pg_units.proofs.Made.{starts_are_fresh}
+use Rattle.pg_units.proofs.Members.{all_has, has_right}
+use Rattle.pg_units.proofs.Obeying.{Split, split}
+use Rattle.pg_units.proofs.Opened.{Beginning, Both, opened}
+use Rattle.pg_units.proofs.Remembered.{plan_leaves, plan_remembers}
+use Rattle.pg_units.proofs.Replies.{answered_turns, fit_answers, map_join, plan_answer, plan_answers, run_answer}
+use Rattle.pg_units.proofs.Settled.{is_plan}
+use Rattle.pg_units.proofs.Starts.{start_fits}
+use Rattle.pg_units.proofs.StepFits.{good_at, unit_at, words_at}
+use Rattle.pg_units.proofs.Freed.{is_free}
+use Rattle.pg_units.proofs.Stuck.{IsStuck, StuckAt, guided_strays}
+use Rattle.pg_units.proofs.Turns.{is_some_if}
+use Rattle.pg_machine.specs.Guided.{GuidedRun}
+use Rattle.pg_accesses.specs.Accesses.{RootedList}
+use Rattle.pg_mem.specs.Memory.{read}
+use Rattle.pg_mem.proofs.ReadsAndWrites.{read-small}
+use Rattle.pg_trace.specs.declared.step.StepKind.{StepKind}
+use Rattle.pg_instances.proofs.LeadsOut.{frames_of}
+use Rattle.pg_closed.specs.Closed.{IsClosed, admits}
+use Rattle.pg_units.specs.Units.{ExtentsArePlain}
+use Rattle.pg_sound.specs.Free.{BeginsInstance, IsAnyMove, UnitsJoinAgain, begun_instance}
+use Rattle.pg_sound.specs.Unbroken.{IsUnbroken}
+use Rattle.pg_sound.proofs.Falling.{Falls, run_falls}
+use Rattle.pg_sound.proofs.Following.{moves_follow, obeys}
+use Rattle.pg_sound.proofs.Inside.{IsLeft, begun_within, left_within}
+use Rattle.pg_sound.proofs.Ordering.{falls_answers}
+use Rattle.pg_sound.proofs.Unbroken.{guided_unbroken}
+use Rattle.pg_sound.proofs.Whole.{begun_some}
+
+-- ---- lists
+
+same_head : {A : Type 0} (xs : List A) (a b : A) (ys zs : List A) → xs ++ a ∷ ys ≡ xs ++ b ∷ zs → a ≡ b
+same_head [] a b ys zs e = cons_head e
+same_head (x ∷ xs) a b ys zs e = same_head xs a b ys zs (cons_tail e)
+
+longer : {A : Type 0} (xs : List A) (a : A) (ys : List A) → xs ≡ xs ++ a ∷ ys → ⊥
+longer xs a ys e = let k = ap length e in let l = length-append xs (a ∷ ys) in absurd (omega (arith, k, l))
+
+owners_length : (us : List Turn) → length (owners_of us) ≡ length us
+owners_length [] = refl
+owners_length (u ∷ us) = ap suc (owners_length us)
+
+front_whole : (n : ℕ) (us : List Turn) → drop n us ≡ [] → take n us ≡ us
+front_whole zero us e = sym e
+front_whole (suc n) [] e = refl
+front_whole (suc n) (u ∷ us) e = ap (λ (l : List Turn). u ∷ l) (front_whole n us e)
+
+front_length : (n : ℕ) (us : List Turn) (v : Turn) (vs : List Turn) → drop n us ≡ v ∷ vs → length (take n us) ≡ n
+front_length zero us v vs e = refl
+front_length (suc n) [] v vs e = absurd cc
+front_length (suc n) (u ∷ us) v vs e = ap suc (front_length n us v vs e)
+
+-- an action that neither traps nor has ended
+can_by : (s : State) (t : ℕ) (a : Action) → is_ended a ≡ false → trap_of s t a ≡ None → CanStep a
+can_by s t actions.Ended o e = absurd (true≢false o)
+can_by s t (actions.Trap name) o e = absurd cc
+can_by s t actions.Local o e = tt
+can_by s t (actions.In i) o e = tt
+can_by s t actions.InLen o e = tt
+can_by s t (actions.Load r) o e = tt
+can_by s t (actions.Store r n) o e = tt
+can_by s t (actions.Event r) o e = tt
+
+allowed_by : (s : State) (t : ℕ) (a : Action) → trap_of s t a ≡ None → IsAllowed s t a
+allowed_by s t (actions.Event r) e = e
+allowed_by s t (actions.Trap name) e = absurd cc
+allowed_by s t actions.Ended e = tt
+allowed_by s t actions.Local e = tt
+allowed_by s t (actions.In i) e = tt
+allowed_by s t actions.InLen e = tt
+allowed_by s t (actions.Load r) e = tt
+allowed_by s t (actions.Store r n) e = tt
+
+-- a thread that hasn't begun asks to start, and no check fails at that
+check_start : (s : State) (t : ℕ) → sync.check s.sync t requests.Start ≡ None
+unfolding sync.check
+check_start s t = refl
+
+asks_start : (p : NumberedProgram) (l : LocalState) (q : Request) → l.begun ≡ false → next_action p l ≡ actions.Event q → requests.Start ≡ q
+unfolding next_action
+asks_start p l q b e = by l.begun l.frames b e
+  where
+    by : (b : Bool) (fs : List Frame) → b ≡ false → frames_action p l b fs ≡ actions.Event q → requests.Start ≡ q
+    by b [] k h = absurd cc
+    by false (f ∷ fs) k h = cc
+    by true (f ∷ fs) k h = absurd (true≢false k)
+
+no_local : (l : LocalState) (b : Bool) → Path (Option LocalState) (if b then Some l else None) None → b ≡ false
+no_local l true e = absurd cc
+no_local l false e = refl
+
+waiting_asks : (p : NumberedProgram) (s : State) (t : ℕ) (q : Request) → local_at s t ≡ None → next_of p s t ≡ actions.Event q → sync.check s.sync t q ≡ None
+unfolding next_of
+waiting_asks p s t q n e = go (slice_get s.locals t) n e
+  where
+    go : (o : Option LocalState) → begun_in o ≡ None → action_in p o ≡ actions.Event q → sync.check s.sync t q ≡ None
+    go None n e = absurd cc
+    go (Some l) n e = subst (λ (z : Request). sync.check s.sync t z ≡ None) (asks_start p l q (no_local l l.begun n) e) (check_start s t)
+
+-- what asks is a turn
+asks_turn : (gated : List InstrId) (p : NumberedProgram) (s : State) (t : ℕ) (q : Request) → next_of p s t ≡ actions.Event q → is_some (turn_of gated p s t) ≡ true
+unfolding turn_of
+asks_turn gated p s t q e = ap (λ (a : Action). is_some (turn_with s t (happening_of gated s t a))) e
+
+-- ---- numbers of turns
+
+map_length : {A B : Type 0} (f : A → B) (xs : List A) → length (map f xs) ≡ length xs
+map_length f [] = refl
+map_length f (x ∷ xs) = ap suc (map_length f xs)
+
+pub answers_length : (xs : List Step) → length (answers xs) ≡ length (events xs)
+answers_length xs = sym (map_length (λ (a : Answered). a.turn) (answers xs)) ∙ ap length (answered_turns xs) ∙ map_length (λ (u : Turn). Some u) (events xs)
+
+count_turns : (k : ℕ) (es : List RunDeed) → turns_done deeds k es ≡ k + length (filter deeds.is_event es)
+count_turns k [] = omega arith
+count_turns k (e ∷ es) = go (deeds.is_event e) refl (λ j. count_turns j es)
+  where
+    go : (b : Bool) → deeds.is_event e ≡ b → ((j : ℕ) → turns_done deeds j es ≡ j + length (filter deeds.is_event es)) → turns_done deeds k (e ∷ es) ≡ k + length (filter deeds.is_event (e ∷ es))
+    go true v more =
+        ap (λ (b : Bool). turns_done deeds (done_after b k) es) v ∙ more (suc k) ∙ (let n : suc k + length (filter deeds.is_event es) ≡ k + suc (length (filter deeds.is_event es)) = omega arith in n)
+        ∙ ap (λ (b : Bool). k + length (cond b (e ∷ filter deeds.is_event es) (filter deeds.is_event es))) (sym v)
+    go false v more = ap (λ (b : Bool). turns_done deeds (done_after b k) es) v ∙ more k ∙ ap (λ (b : Bool). k + length (cond b (e ∷ filter deeds.is_event es) (filter deeds.is_event es))) (sym v)
+
+slice_of : (o : Option LocalState) (l : LocalState) → begun_in o ≡ Some l → o ≡ Some l
+slice_of None l e = absurd cc
+slice_of (Some k) l e = go k.begun e
+  where
+    go : (b : Bool) → Path (Option LocalState) (if b then Some k else None) (Some l) → Path (Option LocalState) (Some k) (Some l)
+    go true h = h
+    go false h = absurd cc
+
+-- ---- an unbroken permitted run on an admitted input
+
+module _ (r : ReferenceRun) (d : Taken) (input : List ℤ) (sums : ℕ → Option RootedList) (turns : List Turn) (o : IsOrderedRun r) (plain : ExtentsArePlain r d) (closed : IsClosed (reference_of r) d) (admitted : admits (reference_of r) d input ≡ true) (small : length input < 2 ^ 64)
+    (same_turns : owners_of turns ≡ turns_of r) (again : UnitsJoinAgain r sums d) (own_turns : events r.steps ≡ turns) (over : sync.over o.last.sync ≡ true)
+    (begins : (u : PlanUnit) (a : RunState) (z : State) (c : ℕ → ℕ) → Has (units_of r d) u → is_instance d u.seen ≡ true → IsAlikeFor input d u a → LooksTo (thread_in u.seen.moment) a (moved z c) → IsReached r.program z → BeginsInstance r sums u z)
+    (xs : List Step) (z : State) (h : IsPermitted r.program input turns r.gated xs z) (unbroken : IsUnbroken xs) where
+  abbrev first : RunState
+  first = moved (initial r.program) none_taken
+
+  fallen : Falls r d input sums turns o plain (starts_are_fresh r d o plain) (plan_remembers r d o plain) closed admitted small same_turns again begins first 0 xs z
+  fallen = run_falls r d input sums turns o plain (starts_are_fresh r d o plain) (plan_remembers r d o plain) closed admitted small same_turns again begins xs (initial r.program) z first none_taken none_taken (begins_alike r o input) (reached_first r.program o.can.program o.can.bytes) (same_refl first) ((permitted_is r.program input turns r.gated xs z).0 h) unbroken
+
+  abbrev ds : List RunDeed
+  ds = fallen.moves
+
+  abbrev g : ℕ
+  g = turns_done deeds 0 fallen.moves
+
+  stands : Stands (like input) (turns_of r) (plan_start r) (plan_of r d) (IsAnyMove r d input sums turns) (is_plan r d o closed plain)
+      (obeys r d input sums turns o plain (starts_are_fresh r d o plain) (plan_remembers r d o plain) closed admitted small same_turns again) (effects first fallen.moves) (turns_done deeds 0 fallen.moves) fallen.moves (times deeds (turns_of r) 0 fallen.moves)
+  stands = moves_follow r d input sums turns o plain (starts_are_fresh r d o plain) (plan_remembers r d o plain) closed admitted small same_turns again first (begins_alike r o input) fallen.moves fallen.are
+
+  abbrev marks : List (Mark (Timed PlanDeed))
+  marks = stands.holds.cut.marks
+
+  done_is : g ≡ length (events xs)
+  done_is =
+      let n = count_turns 0 fallen.moves in
+      let a = map_length run_answer (filter deeds.is_event fallen.moves) in
+      let b = ap length (falls_answers xs fallen.moves fallen.fall) in
+      let c = answers_length xs in
+      omega (arith, n, a, b, c)
+
+  reached : IsReached r.program z
+  reached = reached_run r.gated r.program input (initial r.program) z xs o.can.program small (reached_first r.program o.can.program o.can.bytes) h.run
+
+  plan_parts : did_of (whole marks) ≡ plan_of r d
+  plan_parts = ap did_of stands.holds.cut.is_whole ∙ did_times deeds (turns_of r) 0 (plan_of r d)
+
+  -- what is answered
+  mine : answers xs ≡ map plan_answer (filter deeds.is_event (did_of (kept marks)))
+  mine = sym (falls_answers xs fallen.moves fallen.fall) ∙ fit_answers input (filter deeds.is_event (did_of (kept marks))) (filter deeds.is_event ds) stands.performs.events
+
+  theirs : map plan_answer (filter deeds.is_event (did_of (whole marks))) ≡ answers r.steps
+  theirs = ap (λ (l : List PlanDeed). map plan_answer (filter deeds.is_event l)) plan_parts ∙ plan_answers r d plain
+
+  abbrev turn_in : Answered → Option Turn
+  turn_in a = a.turn
+
+  abbrev as_some : Turn → Option Turn
+  as_some u = Some u
+
+  -- ---- behind all turns
+
+  pub finished : length turns ≤ length (events xs) → sync.over z.sync ≡ true
+  finished k =
+      let a = owners_length turns in
+      let b = ap length same_turns in
+      let c = counted.plan_turns r d plain in
+      let le : turns_done deeds 0 (plan_of r d) ≤ g = (let n = done_is in omega (arith, a, b, c, k, n)) in
+      ap (λ (q : Objects). sync.over q.sync) (sym fallen.objects
+      ∙ sym (follows.last_objects (like input) (turns_of r) (plan_start r) (plan_of r d) (IsAnyMove r d input sums turns) (is_plan r d o closed plain)
+      (obeys r d input sums turns o plain (starts_are_fresh r d o plain) (plan_remembers r d o plain) closed admitted small same_turns again) (effects first ds) g stands.holds le)
+      ∙ plan_leaves r d o plain) ∙ over
+
+  -- ---- before the turn u
+
+  module _ (u : Turn) (us : List Turn) (left : turns_left turns xs ≡ u ∷ us) where
+    owner : slice_get (turns_of r) g ≡ Some u.thread.0
+    owner =
+        let plus : g ≡ length (events xs) + 0 = (let n = done_is in omega (arith, n)) in
+        ap (λ (l : List ℕ). slice_get l g) (sym same_turns) ∙ ap (slice_get (owners_of turns)) plus ∙ sym (get_behind r.gated r.program input (length (events xs)) turns 0) ∙ ap (λ (l : List Turn). slice_get (owners_of l) 0) left
+
+    all_turns : map turn_in (answers r.steps) ≡ map as_some (events xs) ++ Some u ∷ map as_some us
+    all_turns = answered_turns r.steps ∙ ap (map as_some) (own_turns ∙ sym h.in_order ∙ ap (λ (l : List Turn). events xs ++ l) left) ∙ sym (map_join as_some (events xs) (u ∷ us))
+
+    -- the unit that does the turn
+    record Does : Type 0 where
+      unit : PlanUnit
+      has : Has (units_of r d) unit
+      objects : objects_of unit.state ≡ objects_of z
+      turn : event_of unit.seen.moment.did.did ≡ Some u
+
+    module _ (before after : List (Mark (Timed PlanDeed))) (p : Timed PlanDeed) (parts : marks ≡ before ++ pending p ∷ after) where
+      whole_is : whole (before ++ pending p ∷ after) ≡ times deeds (turns_of r) 0 (plan_of r d)
+      whole_is = ap whole (sym parts) ∙ stands.holds.cut.is_whole
+
+      plan_split : plan_of r d ≡ did_of (whole before) ++ p.did ∷ did_of (whole after)
+      plan_split = sym plan_parts ∙ ap (λ (l : List (Mark (Timed PlanDeed))). did_of (whole l)) parts ∙ ap did_of (whole_append before (pending p ∷ after)) ∙ did_append (whole before) (p ∷ whole after)
+
+      cut : Split (deed_of d) (units_of r d) (did_of (whole before)) p.did
+      cut = split (deed_of d) (units_of r d) (did_of (whole before)) p.did (did_of (whole after)) plan_split
+
+      has_unit : Has (units_of r d) cut.at
+      has_unit = subst (λ (l : List PlanUnit). Has l cut.at) (sym cut.is) (has_right cut.before (cut.at ∷ cut.after) cut.at (inl refl))
+
+      memory : IsRemembered r d cut.before cut.at
+      memory = plan_remembers r d o plain cut.before cut.at cut.after cut.is
+
+      alike_here : Alike (like input) (effects (plan_start r) (did_of (kept (before ++ pending p ∷ after)))) (effects first ds)
+      alike_here = subst (λ (l : List (Mark (Timed PlanDeed))). Alike (like input) (effects (plan_start r) (did_of (kept l))) (effects first ds)) parts stands.holds.cut.alike
+
+      module _ (event : deeds.is_event p.did ≡ true) (earlier : AllOf (λ (m : Mark (Timed PlanDeed)). m.done ≡ false → deeds.is_event m.step.did ≡ false) before) where
+        behind : AllOf (λ (m : Mark (Timed PlanDeed)). m.done ≡ true → deeds.is_event m.step.did ≡ false) after
+        behind = none_behind (turns_of r) (plan_of r d) (is_plan r d o closed plain) g before after p whole_is (subst (IsBelow g) parts stands.holds.cut.below) event
+
+        unit_objects : objects_of cut.at.state ≡ objects_of z
+        unit_objects = sym memory.objects ∙ ap (λ (l : List PlanDeed). (effects (plan_start r) l).objects) cut.images ∙ sym (places.seen (plan_start r) before after p objects_part earlier behind) ∙ alike_here.objects ∙ fallen.objects
+
+        unit_turn : event_of cut.at.seen.moment.did.did ≡ Some u
+        unit_turn =
+            let rest = did_of (whole after) in
+            let told : answers xs ++ plan_answer p.did ∷ map plan_answer (filter deeds.is_event rest) ≡ answers r.steps =
+            ap (λ (l : List Answered). l ++ plan_answer p.did ∷ map plan_answer (filter deeds.is_event rest)) (mine ∙ ap (λ (l : List (Mark (Timed PlanDeed))). map plan_answer (filter deeds.is_event (did_of (kept l)))) parts)
+            ∙ ap (λ (b : Bool). map plan_answer (filter deeds.is_event (did_of (kept (before ++ pending p ∷ after)))) ++ map plan_answer (cond b (p.did ∷ filter deeds.is_event rest) (filter deeds.is_event rest))) (sym event)
+            ∙ map_join plan_answer (filter deeds.is_event (did_of (kept (before ++ pending p ∷ after)))) (filter deeds.is_event (p.did ∷ rest)) ∙ ap (map plan_answer) (first_chosen deeds.is_event before p after earlier behind)
+            ∙ ap (λ (l : List (Mark (Timed PlanDeed))). map plan_answer (filter deeds.is_event (did_of (whole l)))) (sym parts) ∙ theirs in
+            ap (λ (q : PlanDeed). event_of q.told) cut.image ∙ same_head (map as_some (events xs)) (event_of p.did.told) (Some u) (map turn_in (map plan_answer (filter deeds.is_event rest))) (map as_some us)
+            (ap (λ (l : List (Option Turn)). l ++ event_of p.did.told ∷ map turn_in (map plan_answer (filter deeds.is_event rest))) (sym (answered_turns xs)) ∙ map_join turn_in (answers xs) (plan_answer p.did ∷ map plan_answer (filter deeds.is_event rest)) ∙ ap (map turn_in) told ∙ all_turns)
+
+        does : Does
+        does = record { unit = cut.at; has = has_unit; objects = unit_objects; turn = unit_turn }
+
+    -- there is one, and the run isn't over
+    the_unit : Does
+    the_unit = go (find_event marks)
+      where
+        go : AllOf (λ (m : Mark (Timed PlanDeed)). m.done ≡ false → deeds.is_event m.step.did ≡ false) marks ⊎ OpenEvent marks → Does
+        go (inl a) = absurd (longer (map as_some (events xs)) (Some u) (map as_some us) (sym (answered_turns xs) ∙ ap (map turn_in) (mine ∙ ap (map plan_answer) (same_chosen deeds.is_event marks a) ∙ theirs) ∙ all_turns))
+        go (inr e) = does e.before e.after e.step e.parts e.event e.earlier
+
+    going : sync.over z.sync ≡ false
+    going =
+        let w = the_unit in
+        let v = unit_at r d input o plain small closed admitted w.unit w.has in
+        ap (λ (q : Objects). sync.over q.sync) (sym w.objects) ∙ is_going r.program w.unit.state (thread_in w.unit.seen.moment) v.met.takes.is_ready
+
+    -- what its owner is stuck at, by the owner's number
+    abbrev StuckBy : ℕ → Type 0
+    StuckBy t = (cannot_go z (next_of r.program z t) ≡ true) ⊎ ((w : Turn) × (trap_of z t (next_of r.program z t) ≡ None) × (turn_of r.gated r.program z t ≡ Some w) × ((is_turn w u && may_act z t (next_of r.program z t)) ≡ false))
+
+    open_goes : (t : ℕ) → is_ended (next_of r.program z t) ≡ false → cannot_go z (next_of r.program z t) ≡ true → ⊥
+    open_goes t e c = let q : cannot_go z (next_of r.program z t) ≡ false = rw (going, e) refl in absurd (true≢false (sym c ∙ q))
+
+    -- it isn't stuck where it has a step that is the turn
+    goes : (t : ℕ) (y : Step) → Takes r.gated r.program input z y → y.thread.0 ≡ t → event_of y ≡ Some u → StuckBy t → ⊥
+    goes t y takes own turn stuck = go stuck
+      where
+        acts : may_act z t (next_of r.program z t) ≡ true
+        acts = subst (λ (i : ℕ). may_act z i (next_of r.program z i) ≡ true) own (ready_acts r.program z y.thread.0 takes.is_ready)
+
+        go : StuckBy t → ⊥
+        go (inl c) = open_goes t (not_ended z t (next_of r.program z t) acts) c
+        go (inr k) =
+            let some : Some k.0 ≡ Some u = sym k.2 ∙ sym (event_is r.gated r.program input z takes.after y.thread.0 y takes.is_step ∙ ap (turn_of r.gated r.program z) own) ∙ turn in
+            let w : k.0 ≡ u = cc in
+            let t : is_turn k.0 u ≡ true = (turn_is_itself k.0 u).1 w in
+            absurd (true≢false (sym (rw (t, acts) refl) ∙ k.3))
+
+    -- one that is left inside an instance isn't stuck, and asks nothing
+    left_event : (t : ℕ) → IsLeft r.gated r.program t z → is_some (turn_of r.gated r.program z t) ≡ false
+    left_event t k = sym (looks r.gated r.program z t k.local reached (slice_of (slice_get z.locals t) k.local k.is_local)).event ∙ ap (local_event r.gated r.program) k.is_local ∙ k.quiet
+
+    left_stuck : (t : ℕ) → IsLeft r.gated r.program t z → StuckBy t → ⊥
+    left_stuck t k (inl c) = open_goes t (ap is_ended (next_is r.program z t k.local (slice_of (slice_get z.locals t) k.local k.is_local)) ∙ k.goes_on) c
+    left_stuck t k (inr w) = true≢false (sym (ap is_some w.2) ∙ left_event t k)
+
+    left_unchecked : (t : ℕ) → IsLeft r.gated r.program t z → (q : Request) → next_of r.program z t ≡ actions.Event q → sync.check z.sync t q ≡ None
+    left_unchecked t k q e = absurd (true≢false (sym (asks_turn r.gated r.program z t q e) ∙ left_event t k))
+
+    -- the first unit of the turn's owner that isn't done
+    module _ (f : First deeds u.thread.0 marks) where
+      abbrev c : Split (deed_of d) (units_of r d) (did_of (whole f.before)) f.step.did
+      c = cut f.before f.after f.step f.parts
+
+      abbrev v : PlanUnit
+      v = (cut f.before f.after f.step f.parts).at
+
+      abbrev t : ℕ
+      t = thread_in (cut f.before f.after f.step f.parts).at.seen.moment
+
+      own_unit : t ≡ u.thread.0
+      own_unit = ap (λ (q : PlanDeed). q.thread) c.image ∙ f.thread
+
+      has : Has (units_of r d) v
+      has = has_unit f.before f.after f.step f.parts
+
+      unit : IsUnit r d v
+      unit = unit_at r d input o plain small closed admitted v has
+
+      good : IsGood (reference_of r) d input v.seen
+      good = good_at r d input o plain small closed admitted v has
+
+      words : length v.seen.before.words ≡ length v.state.locals
+      words = words_at r d input o plain small closed admitted v has
+
+      is_whole : whole (f.before ++ pending f.step ∷ f.after) ≡ times deeds (turns_of r) 0 (plan_of r d)
+      is_whole = whole_is f.before f.after f.step f.parts
+
+      is_cut : IsCut deeds (f.before ++ pending f.step ∷ f.after)
+      is_cut = subst (IsCut deeds) f.parts stands.holds.cut.is_cut
+
+      below : IsBelow g (f.before ++ pending f.step ∷ f.after)
+      below = subst (IsBelow g) f.parts stands.holds.cut.below
+
+      earlier : AllOf (λ (m : Mark (Timed PlanDeed)). m.done ≡ false → m.step.did.thread ≢ f.step.did.thread) f.before
+      earlier = subst (λ (i : ℕ). AllOf (λ (m : Mark (Timed PlanDeed)). m.done ≡ false → m.step.did.thread ≢ i) f.before) (sym f.thread) f.earlier
+
+      next : deeds.is_event f.step.did ≡ true → slice_get (turns_of r) g ≡ Some f.step.did.thread
+      next w = owner ∙ ap (λ (i : ℕ). Some i) (sym f.thread)
+
+      recalled : IsRemembered r d c.before v
+      recalled = memory f.before f.after f.step f.parts
+
+      alike : Alike (like input) (effects (plan_start r) (did_of (kept (f.before ++ pending f.step ∷ f.after)))) (effects first ds)
+      alike = alike_here f.before f.after f.step f.parts
+
+      -- the thread stands alike, and the cells that the unit reads are alike
+      thread : IsThreadLike input (thread_before v) ((effects first ds).locals t)
+      thread =
+          let k = places.like_local (like input) (turns_of r) (plan_start r) (plan_of r d) (is_plan r d o closed plain) (effects first ds) g f.before f.after f.step is_whole is_cut below alike earlier in
+          subst (λ (l : PlanThread). IsThreadLike input l ((effects first ds).locals t)) recalled.thread
+          (subst (λ (l : List PlanDeed). IsThreadLike input ((effects (plan_start r) l).locals t) ((effects first ds).locals t)) (sym c.images)
+          (subst (λ (q : PlanDeed). IsThreadLike input ((effects (plan_start r) (did_of (whole f.before))).locals q.thread) ((effects first ds).locals q.thread)) (sym c.image) k))
+
+      cells : (b : ℕ) → reads_cell d v.seen b ≡ true → IsCellLike input (cell_known v.seen.before b) (cell_at z b)
+      cells b w =
+          let k = places.like_cell (like input) (turns_of r) (plan_start r) (plan_of r d) (is_plan r d o closed plain) (effects first ds) g f.before f.after f.step is_whole is_cut below alike earlier next b (sym (ap (λ (q : PlanDeed). q.reads b) c.image) ∙ w) in
+          subst (IsCellLike input (cell_known v.seen.before b)) (fallen.cells b)
+          (subst (λ s. IsCellLike input s ((effects first ds).cells b)) (recalled.cells b)
+          (subst (λ (l : List PlanDeed). IsCellLike input ((effects (plan_start r) l).cells b) ((effects first ds).cells b)) (sym c.images) k))
+
+      -- where it is a branch step left free, the thread is at it
+      free_event : is_instance d v.seen ≡ true → is_event_at v.seen ≡ false
+      free_event e = ap (λ (k : StepKind). is_some (happening_in k)) (is_free (reference_of r) d v.seen unit.met.region e).kind
+
+      left_at : (effects first ds).locals t ≡ (moved z fallen.counts).locals t → is_instance d v.seen ≡ true → IsLeft r.gated r.program t z
+      left_at here e =
+          let a : IsAlikeFor input d v (effects first ds) = record { thread = thread; cells = λ b w. subst (IsCellLike input (cell_known v.seen.before b)) (sym (fallen.cells b)) (cells b w); objects = λ k. absurd (true≢false (sym k ∙ free_event e)) } in
+          let b = begins v (effects first ds) z fallen.counts has e a (record { locals = λ i q. subst (λ (j : ℕ). (effects first ds).locals j ≡ (moved z fallen.counts).locals j) (sym q) here; cells = fallen.cells; objects = fallen.objects }) reached in
+          left_within (begun_instance r sums v z b) r.gated (read z.memory) b.local b.can.branch b.can.gates b.can.cells (λ k. read-small z.memory k) b.can.within t z
+          (ap begun_in b.is_local ∙ begun_some b.local (begun_within (begun_instance r sums v z b) r.gated (read z.memory) b.local b.can.branch b.can.gates b.can.cells (λ k. read-small z.memory k) b.can.within)) (frames_of r.program z t b.local reached b.is_local)
+
+      -- where it is a single step, and the thread looks as it is
+      module _ (here : (effects first ds).locals t ≡ (moved z fallen.counts).locals t) (single : is_instance d v.seen ≡ false) where
+        stand_alike : StandLike input (standing_of (local_at v.state t) (thread_of v.seen.before t).calls) (local_at z t)
+        stand_alike = subst (λ (l : MovedThread). StandLike input (standing_of (local_at v.state t) (thread_of v.seen.before t).calls) l.local) here thread.stands
+
+        units : fallen.counts t ≡ v.units
+        units = ap (λ (l : MovedThread). l.moves) (sym here) ∙ thread.moves
+
+        -- where it is an event, the objects are the same, and it is the turn
+        module _ (event : is_event_at v.seen ≡ true) where
+          event_did : deeds.is_event f.step.did ≡ true
+          event_did = sym (ap deeds.is_event c.image) ∙ is_some_if (is_event_at v.seen) v.objects ∙ event
+
+          events_before : AllOf (λ (m : Mark (Timed PlanDeed)). m.done ≡ false → deeds.is_event m.step.did ≡ false) f.before
+          events_before = cuts.open_events deeds (turns_of r) (plan_of r d) (is_plan r d o closed plain) g f.before f.after f.step is_whole is_cut below earlier next event_did
+
+          same_objects : objects_of v.state ≡ objects_of z
+          same_objects = unit_objects f.before f.after f.step f.parts event_did events_before
+
+          same_turn : event_of v.seen.moment.did.did ≡ Some u
+          same_turn = unit_turn f.before f.after f.step f.parts event_did events_before
+
+        event0 : is_event_at v.seen ≡ local_event r.gated r.program (local_at v.state t)
+        event0 = sym (some_turn v.seen.moment.did.did (happening_in v.seen.moment.did.did.kind)) ∙ event_seen r.gated r.program r.input v.state v.seen.moment.did.did unit.met.reached unit.met.takes
+
+        at_instruction : Both r.program input t v.state z (thread_of v.seen.before t).calls → StuckBy t → ⊥
+        at_instruction b (inl k) = open_goes t (open_here r d input v z unit b good) k
+        at_instruction b (inr k) =
+            let p = r.program in
+            let can : CanStep (next_of p z t) = can_by z t (next_of p z t) (open_here r d input v z unit b good) k.1 in
+            let same_event = events_alike r.gated p input t v.state z (thread_of v.seen.before t).calls b (facing.can0_at r d input v z unit b good b.x.op refl) (subst CanStep (facing.act_at r d input v z unit b good b.x.op refl) can) in
+            let seen : local_event r.gated p (local_at z t) ≡ true = (looks r.gated p z t (running t b.h b.f b.fs b.n) reached b.here.local).event ∙ ap is_some k.2 in
+            let event : is_event_at v.seen ≡ true = event0 ∙ sym same_event ∙ seen in
+            let same = same_objects event in
+            let may = may_here r d input v z unit b good (ap (λ (q : Objects). q.sync) (sym same)) k.1 in
+            let on = goes_by r.gated p input z t (next_of p z t) (allowed_by z t (next_of p z t) k.1) may in
+            let y = steps_by r.gated p input t z going on.0 on.1 in
+            let q : Pair r d input v z fallen.counts y.told = record { unit = unit; plain = single; reached = reached; takes = y.takes; own = y.own; both = b; units = units } in
+            let fit = both_fits r d input o.can.program small v z fallen.counts y.told q good (λ w. same) words cells in
+            goes t y.told y.takes y.own (fit.told.turn ∙ same_turn event) (inr k)
+
+        none_of : (l : Option LocalState) → StandLike input (standing_of l (thread_of v.seen.before t).calls) None → l ≡ None
+        none_of None k = refl
+        none_of (Some l) k = absurd k
+
+        to_begin : Beginning r.program t v.state z → StuckBy t → ⊥
+        to_begin b stuck =
+            let p = r.program in
+            let none0 : local_at v.state t ≡ None = none_of (local_at v.state t) (subst (StandLike input (standing_of (local_at v.state t) (thread_of v.seen.before t).calls)) b.none stand_alike) in
+            let event : is_event_at v.seen ≡ true = event0 ∙ ap (local_event r.gated p) none0 in
+            let same = same_objects event in
+            let on0 = goes_by r.gated p r.input v.state t (next_of p v.state t) (did_allowed r.gated p r.input v.state unit.met.takes.after t v.seen.moment.did.did unit.met.takes.is_step) (ready_acts p v.state t unit.met.takes.is_ready) in
+            let granted0 : local_granted p t (local_at v.state t) (objects_of v.state) ≡ true = (looks r.gated p v.state t (fresh p t b.function) unit.met.reached b.first).granted ∙ on0.1 in
+            let granted : local_granted p t (local_at z t) (objects_of z) ≡ true =
+            ap (λ (l : Option LocalState). local_granted p t l (objects_of z)) b.none ∙ ap (local_granted p t None) (sym same) ∙ sym (ap (λ (l : Option LocalState). local_granted p t l (objects_of v.state)) none0) ∙ granted0 in
+            let y = made granted (slice_get z.locals t) refl in
+            let calls = all_has (λ (w : PlanUnit). (i : ℕ) → slice_get w.state.locals (thread_in w.seen.moment) ≡ Some (fresh r.program (thread_in w.seen.moment) i) → (thread_of w.seen.before (thread_in w.seen.moment)).calls ≡ fresh_registers r.program i ∷ []) (units_of r d) v (starts_are_fresh r d o plain) has b.function b.first in
+            let fit = start_fits r d input v unit single z fallen.counts y.told reached y.takes y.own units (λ w. same) words cells b calls in
+            goes t y.told y.takes y.own (fit.told.turn ∙ same_turn event) stuck
+          where
+            made : local_granted r.program t (local_at z t) (objects_of z) ≡ true → (l : Option LocalState) → slice_get z.locals t ≡ l → Steps r.gated r.program input t z
+            made granted None e = absurd (true≢false (sym granted ∙ (none_granted r.program z t e).1))
+            made granted (Some l) e =
+                let k = looks r.gated r.program z t l reached e in
+                steps_by r.gated r.program input t z going (sym k.goes ∙ ap (local_goes r.program) b.none) (sym k.granted ∙ granted)
+
+        not_stuck_by : StuckBy t → ⊥
+        not_stuck_by stuck = go (opened r.gated r.program r.input input v.state z v.seen.moment.did.did (thread_of v.seen.before t).calls unit.met.reached unit.met.takes reached stand_alike)
+          where
+            go : Both r.program input t v.state z (thread_of v.seen.before t).calls ⊎ Beginning r.program t v.state z → ⊥
+            go (inl b) = at_instruction b stuck
+            go (inr b) = to_begin b stuck
+
+        -- no check on the objects fails at what it asks
+        unchecked_by : (q : Request) → next_of r.program z t ≡ actions.Event q → sync.check z.sync t q ≡ None
+        unchecked_by q k = go (opened r.gated r.program r.input input v.state z v.seen.moment.did.did (thread_of v.seen.before t).calls unit.met.reached unit.met.takes reached stand_alike)
+          where
+            go : Both r.program input t v.state z (thread_of v.seen.before t).calls ⊎ Beginning r.program t v.state z → sync.check z.sync t q ≡ None
+            go (inr b) = waiting_asks r.program z t q b.none k
+            go (inl b) =
+                let p = r.program in
+                let can : CanStep (next_of p z t) = subst CanStep (sym k) tt in
+                let same_event = events_alike r.gated p input t v.state z (thread_of v.seen.before t).calls b (facing.can0_at r d input v z unit b good b.x.op refl) (subst CanStep (facing.act_at r d input v z unit b good b.x.op refl) can) in
+                let seen : local_event r.gated p (local_at z t) ≡ true = (looks r.gated p z t (running t b.h b.f b.fs b.n) reached b.here.local).event ∙ asks_turn r.gated p z t q k in
+                let event : is_event_at v.seen ≡ true = event0 ∙ sym same_event ∙ seen in
+                unchecked_here r d input v z unit b good (ap (λ (y : Objects). y.sync) (sym (same_objects event))) q k
+
+      stuck_here : StuckBy t → ⊥
+      stuck_here stuck = go (fallen.locals t)
+        where
+          by : (b : Bool) → is_instance d v.seen ≡ b → (effects first ds).locals t ≡ (moved z fallen.counts).locals t → ⊥
+          by true i e = left_stuck t (left_at e i) stuck
+          by false i e = not_stuck_by e i stuck
+
+          go : ((effects first ds).locals t ≡ (moved z fallen.counts).locals t) ⊎ IsLeft r.gated r.program t z → ⊥
+          go (inl e) = by (is_instance d v.seen) refl e
+          go (inr l) = left_stuck t l stuck
+
+      unchecked_all : (q : Request) → next_of r.program z t ≡ actions.Event q → sync.check z.sync t q ≡ None
+      unchecked_all q k = go (fallen.locals t)
+        where
+          by : (b : Bool) → is_instance d v.seen ≡ b → (effects first ds).locals t ≡ (moved z fallen.counts).locals t → sync.check z.sync t q ≡ None
+          by true i e = left_unchecked t (left_at e i) q k
+          by false i e = unchecked_by e i q k
+
+          go : ((effects first ds).locals t ≡ (moved z fallen.counts).locals t) ⊎ IsLeft r.gated r.program t z → sync.check z.sync t q ≡ None
+          go (inl e) = by (is_instance d v.seen) refl e
+          go (inr l) = left_unchecked t l q k
+
+    -- a thread that has a turn left has a unit left
+    none_open : AllOf (λ (m : Mark (Timed PlanDeed)). m.done ≡ false → m.step.did.thread ≢ u.thread.0) marks → ⊥
+    none_open a =
+        let k = follows.no_turn_left (like input) (turns_of r) (plan_start r) (plan_of r d) (IsAnyMove r d input sums turns) (is_plan r d o closed plain)
+        (obeys r d input sums turns o plain (starts_are_fresh r d o plain) (plan_remembers r d o plain) closed admitted small same_turns again) (effects first ds) g stands.holds u.thread.0 a g (omega arith) owner in
+        let n = counted.plan_turns r d plain in
+        let w = slice_get_within (turns_of r) g u.thread.0 owner in
+        absurd (omega (arith, k, n, w))
+
+    pub unchecked : (q : Request) → next_of r.program z u.thread.0 ≡ actions.Event q → sync.check z.sync u.thread.0 q ≡ None
+    unchecked q k = go (find deeds u.thread.0 marks)
+      where
+        go : AllOf (λ (m : Mark (Timed PlanDeed)). m.done ≡ false → m.step.did.thread ≢ u.thread.0) marks ⊎ First deeds u.thread.0 marks → sync.check z.sync u.thread.0 q ≡ None
+        go (inl a) = absurd (none_open a)
+        go (inr f) = subst (λ (i : ℕ). sync.check z.sync i q ≡ None) (own_unit f) (unchecked_all f q (subst (λ (i : ℕ). next_of r.program z i ≡ actions.Event q) (sym (own_unit f)) k))
+
+    pub not_stuck : IsStuck r.gated r.program input u z → ⊥
+    not_stuck stuck = go (find deeds u.thread.0 marks)
+      where
+        go : AllOf (λ (m : Mark (Timed PlanDeed)). m.done ≡ false → m.step.did.thread ≢ u.thread.0) marks ⊎ First deeds u.thread.0 marks → ⊥
+        go (inl a) = none_open a
+        go (inr f) = stuck_here f (subst (λ (i : ℕ). StuckBy i) (sym (own_unit f)) stuck)
+
+-- ---- the guided run
+
+module _ (r : ReferenceRun) (d : Taken) (input : List ℤ) (sums : ℕ → Option RootedList) (turns : List Turn) (o : IsOrderedRun r) (plain : ExtentsArePlain r d) (closed : IsClosed (reference_of r) d) (admitted : admits (reference_of r) d input ≡ true) (small : length input < 2 ^ 64)
+    (same_turns : owners_of turns ≡ turns_of r) (again : UnitsJoinAgain r sums d) (own_turns : events r.steps ≡ turns) (over : sync.over o.last.sync ≡ true)
+    (begins : (u : PlanUnit) (a : RunState) (z : State) (c : ℕ → ℕ) → Has (units_of r d) u → is_instance d u.seen ≡ true → IsAlikeFor input d u a → LooksTo (thread_in u.seen.moment) a (moved z c) → IsReached r.program z → BeginsInstance r sums u z) where
+  abbrev w : GuidedRun
+  w = guided_of r.program input turns r.gated
+
+  permitted : IsPermitted r.program input turns r.gated w.trace w.state
+  permitted = guided_permitted r.program input turns r.gated
+
+  told : events w.trace ≡ take w.turns turns
+  told = (guided_is r.program input turns r.gated).1
+
+  -- it doesn't stray
+  pub no_stray : (guided_of r.program input turns r.gated).end ≢ ends.Strayed
+  no_stray e = by (drop w.turns turns) refl (guided_strays r.program input turns r.gated e)
+    where
+      by : (us : List Turn) → drop w.turns turns ≡ us → StuckAt r.gated r.program input us w.state → ⊥
+      by [] q stuck =
+          let n : length (events w.trace) ≡ length turns = ap length (told ∙ front_whole w.turns turns q) in
+          absurd (true≢false (sym (finished r d input sums turns o plain closed admitted small same_turns again own_turns over begins w.trace w.state permitted (guided_unbroken r.program input turns r.gated) (omega (arith, n))) ∙ stuck))
+      by (u ∷ us) q stuck =
+          let left : turns_left turns w.trace ≡ u ∷ us = ap (λ (i : ℕ). drop i turns) (ap length told ∙ front_length w.turns turns u us q) ∙ q in
+          not_stuck r d input sums turns o plain closed admitted small same_turns again own_turns over begins w.trace w.state permitted (guided_unbroken r.program input turns r.gated) u us left stuck

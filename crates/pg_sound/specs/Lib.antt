@@ -1,0 +1,5 @@
+pub mod Covered
+pub mod Falls
+pub mod Free
+pub mod Recorded
+pub mod Unbroken

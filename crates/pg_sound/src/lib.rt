@@ -1,0 +1,4 @@
+//! Which inputs may use the schedule of a recorded run: nothing here runs.
+#![tactic(auto)]
+
+pub mod laws;
