@@ -1,0 +1,4 @@
+pub mod Bounds
+pub mod Followed
+pub mod Lists
+pub mod Serves

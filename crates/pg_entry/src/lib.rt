@@ -1,0 +1,16 @@
+//! Entries: what is kept of a recorded run, so that its schedule serves other inputs.
+#![tactic(auto)]
+
+mod entry;
+mod ids;
+pub mod laws;
+mod recorded;
+mod recording;
+mod reference;
+mod replies;
+mod turns;
+
+pub use entry::Entry;
+pub use recorded::Record;
+pub use recording::{from_recorded, record};
+pub use turns::{FromFault, from_turns};

@@ -1,0 +1,5 @@
+pub mod Events
+pub mod Outputs
+pub mod Recordings
+pub mod Turns
+pub mod Serves

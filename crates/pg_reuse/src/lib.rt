@@ -1,0 +1,4 @@
+//! That an entry's turns serve every input that it admits: nothing here runs.
+#![tactic(auto)]
+
+pub mod laws;
