@@ -326,14 +326,7 @@ impl Fiber {
             ..self.top
         };
         push_head(&mut self.heads, head);
-        push_call(
-            p,
-            &mut self.registers,
-            self.base as usize,
-            args,
-            &mut self.room,
-            count,
-        );
+        push_call(p, &mut self.registers, self.base as usize, args, count);
         self.base = used;
         self.top = Head {
             function: g,

@@ -49,68 +49,49 @@ pub(crate) fn push_value(values: &mut Vec<Option<u64>>, value: Option<u64>)
     }
 }
 
-/// Puts the values of the arguments of a call into the room.
-fn gather_arguments(
-    p: &Program,
-    registers: &[Option<u64>],
-    args: &[Value],
-    room: &mut Vec<Option<u64>>,
-)
-    requires operands { AllByRecursion (CanRead p.now (length registers.now)) args.now }
-    requires room { length args.now ≤ vec_capacity room.old }
-    ensures values { room.new.items ≡ map (operand p.now registers.now) args.now }
-    ensures room { vec_capacity room.old ≤ vec_capacity room.new }
+/// Pushes the values that the arguments of a call have in the frame from `base` on.
+fn push_arguments(p: &Program, registers: &mut Vec<Option<u64>>, base: usize, args: &[Value])
+    requires base { base ≤ length registers.old.items }
+    requires operands { AllByRecursion (CanRead p.now (length (drop base registers.old.items))) args.now }
+    requires room { vec_len registers.old + length args.now ≤ vec_capacity registers.old }
+    ensures items { registers.new.items ≡ registers.old.items ++ map (operand p.now (drop base registers.old.items)) args.now }
+    ensures len { vec_len registers.new ≡ vec_len registers.old + length args.now }
+    ensures room { vec_capacity registers.old ≤ vec_capacity registers.new }
 {
-    room.clear();
+    let used = registers.len();
     for arg in args {
-        push_value(room, value_of(p, registers, *arg));
+        let value = value_of(p, &registers[base..used], *arg);
+        push_value(registers, value);
     }
 }
 
-/// The registers of a new frame: its parameters first, the others unset.
-fn push_frame(registers: &mut Vec<Option<u64>>, count: usize, values: &[Option<u64>])
-    requires parameters { length values.now ≤ count }
-    requires room { vec_len registers.old + count ≤ vec_capacity registers.old }
-    ensures items { registers.new.items ≡ registers.old.items ++ (values.now ++ replicate (count - length values.now) None) }
+/// Pushes this many unset registers.
+fn push_unset(registers: &mut Vec<Option<u64>>, count: usize)
+    requires { vec_len registers.old + count ≤ vec_capacity registers.old }
+    ensures items { registers.new.items ≡ registers.old.items ++ replicate count None }
     ensures room { vec_capacity registers.old ≤ vec_capacity registers.new }
 {
-    push_values(registers, values);
-    let unset = count - values.len();
-    for _ in 0..unset {
+    for _ in 0..count {
         push_value(registers, None);
     }
 }
 
-fn push_values(registers: &mut Vec<Option<u64>>, values: &[Option<u64>])
-    requires { vec_len registers.old + length values.now ≤ vec_capacity registers.old }
-    ensures items { registers.new.items ≡ registers.old.items ++ values.now }
-    ensures len { vec_len registers.new ≡ vec_len registers.old + length values.now }
-    ensures room { vec_capacity registers.old ≤ vec_capacity registers.new }
-{
-    for value in values {
-        push_value(registers, *value);
-    }
-}
-
-/// Pushes the registers of a new frame, whose parameters get the values that the arguments have in
-/// the frame from `base` on.
+/// Pushes the registers of a new frame: its parameters first, which get the values that the arguments
+/// have in the frame from `base` on, and the others unset.
 pub(crate) fn push_call(
     p: &Program,
     registers: &mut Vec<Option<u64>>,
     base: usize,
     args: &[Value],
-    room: &mut Vec<Option<u64>>,
     count: usize,
 )
     requires base { base ≤ length registers.old.items }
     requires operands { AllByRecursion (CanRead p.now (length (drop base registers.old.items))) args.now }
     requires parameters { length args.now ≤ count }
-    requires values { length args.now ≤ vec_capacity room.old }
     requires room { vec_len registers.old + count ≤ vec_capacity registers.old }
     ensures items { registers.new.items ≡ registers.old.items ++ (map (operand p.now (drop base registers.old.items)) args.now ++ replicate (count - length args.now) None) }
     ensures room { vec_capacity registers.old ≤ vec_capacity registers.new }
-    ensures values { vec_capacity room.old ≤ vec_capacity room.new }
 {
-    gather_arguments(p, &registers[base..], args, room);
-    push_frame(registers, count, room.as_slice());
+    push_arguments(p, registers, base, args);
+    push_unset(registers, count - args.len());
 }

@@ -39,7 +39,7 @@ invariant_of-self c =
       small = omega (arith, r, t.registers, c.requires.can.room, c.register_count-count.ensures);
       heads = omega (arith, c.push_head.ensures.room, c.self.invariant.heads);
       registers = omega (arith, c.push_call.ensures.room, c.self.invariant.registers);
-      values = omega (arith, c.push_call.ensures.values, c.self.invariant.values);
+      values = c.self.invariant.values;
     }
 
 pub returns : goal.returns
