@@ -12,23 +12,21 @@ use Rattle.pg_ir.specs.declared.request.Request.{Request}
 use Rattle.pg_ir.specs.declared.value.Value.{Value}
 use Rattle.pg_nodes.specs.declared.check.Test.TheVariants as test
 use Rattle.pg_nodes.specs.Values.{is_met}
-use Rattle.pg_step.specs.declared.action.Action.{Action}
 use Rattle.pg_step.specs.declared.action.Action.TheVariants as actions
-use Rattle.pg_step.specs.LocalState.{LocalState, region_of}
+use Rattle.pg_step.specs.LocalState.{LocalState}
 use Rattle.pg_step.specs.Operands.{argument, first_four, given, operands_of}
 use Rattle.pg_step.specs.States.{CanStep}
-use Rattle.pg_step.specs.Step.{op_action, total}
 use Rattle.pg_step.specs.Told.{op_own, or_zero}
 use Rattle.pg_trace.specs.declared.step.Event.{Event}
 use Rattle.pg_trace.specs.declared.step.Step.{Step}
 use Rattle.pg_trace.specs.declared.step.StepKind.{StepKind}
 use Rattle.pg_trace.specs.declared.step.StepKind.TheVariants as kinds
 use Rattle.pg_trace.specs.Kinds.{kind_of, object_of}
-use Rattle.pg_machine.specs.MachineStep.{event_told, kind_told, number_in, operands_in, step_told, write_told}
+use Rattle.pg_machine.specs.MachineStep.{event_told, kind_told, number_in, operands_in, write_told}
 use Rattle.pg_machine.specs.State.{State, next_of}
 use Rattle.pg_effects.specs.Effect.{answer_to}
 use Rattle.pg_closed.specs.Known.{Taken, operand_at, thread_of}
-use Rattle.pg_closed.specs.Moments.{instr_in, thread_in}
+use Rattle.pg_closed.specs.Moments.{thread_in}
 use Rattle.pg_closed.specs.Rules.{checked, checked_of, equal_to, kind_in, operand_of, registers_before, value_needs, value_needs_by, value_needs_in}
 use Rattle.pg_closed.specs.Shadows.{OnInput, Shadow, Known, shadow_of, unset}
 use Rattle.pg_units.specs.Likes.{IsLike}
@@ -36,8 +34,9 @@ use Rattle.pg_units.specs.Units.{PlanUnit, ReferenceRun, reference_of}
 use Rattle.pg_units.proofs.Along.{IsUnit}
 use Rattle.pg_units.proofs.Branches.{eq_met}
 use Rattle.pg_units.proofs.Good.{Holds, IsGood}
-use Rattle.pg_units.proofs.Here.{can_step, instr_here, next_here, number_here, operands_here, running, told_is}
+use Rattle.pg_units.proofs.Here.{number_here, operands_here, running}
 use Rattle.pg_units.proofs.Likes.{argument_like}
+use Rattle.pg_units.proofs.Meeting as meeting
 use Rattle.pg_units.proofs.Opened.{Both}
 use Rattle.pg_units.proofs.Requests.{given_args}
 use Rattle.pg_units.proofs.Shapes.{is_start, needs_event}
@@ -56,38 +55,23 @@ module _ (r : ReferenceRun) (d : Taken) (input : List ℤ) (u : PlanUnit) (st : 
   abbrev reply0 : ℕ
   reply0 = or_zero b.x.result (op_own r.program l0 b.f0.registers answer0 b.x.op)
 
-  told0 : u.seen.moment.did.did ≡ step_told r.gated r.program u.state (thread_in u.seen.moment) answer0
-  told0 = told_is r.gated r.program r.input u.state unit.met.takes.after (thread_in u.seen.moment) u.seen.moment.did.did unit.met.takes.is_step
+  pub act0_at : (o : Op) → b.x.op ≡ o → next_of r.program u.state (thread_in u.seen.moment) ≡ meeting.Act0 r d input u.seen u.state st unit.met b o
+  act0_at o e = meeting.act0_at r d input u.seen u.state st unit.met b o e
 
-  instr_is : instr_in r.program u.seen.moment ≡ Some b.x
-  instr_is = ap (λ (z : Step). slice_get r.program.instrs z.instr.0) told0 ∙ ap (slice_get r.program.instrs) (instr_here r.program u.state (thread_in u.seen.moment) b.h b.f0 b.fs0 b.n b.x b.here0) ∙ b.here0.instr
+  pub act_at : (o : Op) → b.x.op ≡ o → next_of r.program st (thread_in u.seen.moment) ≡ meeting.Act r d input u.seen u.state st unit.met b o
+  act_at o e = meeting.act_at r d input u.seen u.state st unit.met b o e
 
-  abbrev pub Act0 : Op → Action
-  Act0 o = op_action r.program (region_of l0) b.h b.f0.registers (length (b.f0 ∷ b.fs0)) (total (b.f0 ∷ b.fs0)) b.x.block.0 o
-
-  abbrev pub Act : Op → Action
-  Act o = op_action r.program (region_of (running (thread_in u.seen.moment) b.h b.f b.fs b.n)) b.h b.f.registers (length (b.f ∷ b.fs)) (total (b.f ∷ b.fs)) b.x.block.0 o
-
-  pub act0_at : (o : Op) → b.x.op ≡ o → next_of r.program u.state (thread_in u.seen.moment) ≡ Act0 o
-  act0_at o e = next_here r.program u.state (thread_in u.seen.moment) b.h b.f0 b.fs0 b.n b.x b.here0 ∙ ap Act0 e
-
-  pub act_at : (o : Op) → b.x.op ≡ o → next_of r.program st (thread_in u.seen.moment) ≡ Act o
-  act_at o e = next_here r.program st (thread_in u.seen.moment) b.h b.f b.fs b.n b.x b.here ∙ ap Act e
-
-  pub can0_at : (o : Op) → b.x.op ≡ o → CanStep (Act0 o)
-  can0_at o e = subst CanStep (act0_at o e) (can_step r.gated r.program r.input u.state u.seen.moment.did.did unit.met.takes)
+  pub can0_at : (o : Op) → b.x.op ≡ o → CanStep (meeting.Act0 r d input u.seen u.state st unit.met b o)
+  can0_at o e = meeting.can0_at r d input u.seen u.state st unit.met b o e
 
   needs_here : (k : StepKind) → kind_in u.seen ≡ k → value_needs (reference_of r) d u.seen ≡ value_needs_by r.program d u.seen b.x k
-  needs_here k e = ap (value_needs_in r.program d u.seen) instr_is ∙ ap (λ (c : Bool). if c then value_needs_by r.program d u.seen b.x (kind_in u.seen) else []) unit.live ∙ ap (value_needs_by r.program d u.seen b.x) e
-
-  top_known : registers_before u.seen ≡ b.ks
-  top_known = ap Rattle.pg_closed.specs.Known.top_of b.calls
+  needs_here k e = ap (value_needs_in r.program d u.seen) (meeting.instr_is r d input u.seen u.state st unit.met b) ∙ ap (λ (c : Bool). if c then value_needs_by r.program d u.seen b.x (kind_in u.seen) else []) unit.live ∙ ap (value_needs_by r.program d u.seen b.x) e
 
   kind0_is : (r0 : Request) → next_of r.program u.state (thread_in u.seen.moment) ≡ actions.Event r0 → kind_in u.seen ≡ event_told u.state (thread_in u.seen.moment) numbers0 reply0 r0
   kind0_is r0 e =
       let p = r.program in
       let o = slice_get u.state.locals (thread_in u.seen.moment) in
-      ap (λ (z : Step). z.kind) told0 ∙ ap (kind_told r.gated p u.state (thread_in u.seen.moment) (operands_in p o) answer0 (number_in p o answer0)) e
+      ap (λ (z : Step). z.kind) (meeting.told_met r d u.seen u.state unit.met) ∙ ap (kind_told r.gated p u.state (thread_in u.seen.moment) (operands_in p o) answer0 (number_in p o answer0)) e
       ∙ ap (λ (ns : List ℕ). event_told u.state (thread_in u.seen.moment) ns (number_in p o answer0) r0) (operands_here p u.state (thread_in u.seen.moment) b.h b.f0 b.fs0 b.n b.x b.here0)
       ∙ ap (λ (n : ℕ). event_told u.state (thread_in u.seen.moment) numbers0 n r0) (number_here p u.state (thread_in u.seen.moment) b.h b.f0 b.fs0 b.n b.x b.here0 answer0)
 
@@ -133,7 +117,7 @@ module _ (r : ReferenceRun) (d : Taken) (input : List ℤ) (u : PlanUnit) (st : 
       one : (i : ℕ) → nat_lt i 3 ≡ true → (n : ℕ) → argument r.program b.f0.registers args i ≡ Some n → (f : OnInput) → operand_of r.program u.seen b.x i ≡ Known f → is_met (test.Eq (slice_index numbers0 i)) (f input) ≡ true → argument r.program b.f.registers args i ≡ argument r.program b.f0.registers args i
       one i s n g f k m =
           let shadow : slice_index_or (map (shadow_of r.program b.ks) args) i unset ≡ Known f =
-          ap (λ (ss : List Shadow). operand_at r.program ss (op.CallKnown known.PgIn args) i) (sym (top_known)) ∙ sym (ap (λ (z : Op). slice_index_or (map (shadow_of r.program (registers_before u.seen)) (operands_of z)) i unset) e) ∙ k in
+          ap (λ (ss : List Shadow). operand_at r.program ss (op.CallKnown known.PgIn args) i) (sym (meeting.top_known r d input u.seen u.state st unit.met b)) ∙ sym (ap (λ (z : Op). slice_index_or (map (shadow_of r.program (registers_before u.seen)) (operands_of z)) i unset) e) ∙ k in
           let v : argument r.program b.f.registers args i ≡ f input = subst (λ (z : Shadow). IsLike input z (argument r.program b.f.registers args i)) shadow (argument_like input r.program b.ks b.f.registers b.top.registers args i) in
           v ∙ met (f input) m ∙ sym g
         where

@@ -24,9 +24,9 @@ pub mod Known
 pub mod Likes
 pub mod Loads
 pub mod Made
+pub mod Meeting
 pub mod Members
 pub mod Moved
-pub mod NoStray
 pub mod Obeying
 pub mod Opened
 pub mod Ordered
@@ -45,3 +45,4 @@ pub mod Threads
 pub mod Turns
 pub mod Worded
 pub mod Words
+pub mod Written

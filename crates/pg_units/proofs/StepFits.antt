@@ -1,6 +1,7 @@
 -- A step of a run on an admitted input fits the unit that its thread is to do.
 use Rattle.std.proofs.Common.{◌≡◌, ℕ, ℤ, ◌⊎◌, ◌<◌, ◌^◌, true, false, List, length, Option, Some, sym, ap, ◌∙◌, subst, inl, inr}
-use Rattle.std.specs.Prelude.{is_some, slice_get, ◌∷◌, []}
+use Rattle.std.specs.Prelude.{is_some, nat_lt, slice_get, ◌∷◌, []}
+use Rattle.pg_num.specs.declared.layout.TheConstants.{MEMORY_BYTES}
 use Rattle.pg_plans.specs.Effects.{IsSame, or_old}
 use Rattle.pg_plans.specs.Plans.{Fits}
 use Rattle.pg_trace.specs.declared.turn.Turn.{Turn}
@@ -14,7 +15,7 @@ use Rattle.pg_units.specs.Likes.{IsCellLike, IsThreadLike, MovedThread, PlanThre
 use Rattle.pg_units.specs.Lists.{Has}
 use Rattle.pg_units.specs.Moves.{IsMove, RunDeed, RunState, deed_moved}
 use Rattle.pg_units.specs.Order.{IsOrderedRun}
-use Rattle.pg_units.specs.Units.{ExtentsArePlain, PlanDeed, PlanUnit, ReferenceRun, cell_known, deed_of, is_event_at, is_instance, reads_cell, reference_of, standing_of, units_of}
+use Rattle.pg_units.specs.Units.{ExtentsArePlain, PlanDeed, PlanUnit, ReferenceRun, cell_known, deed_of, is_event_at, is_instance, is_placed_access, reads_cell, reference_of, standing_of, units_of, writes_cell}
 use Rattle.pg_units.proofs.Along.{IsUnit, all_units}
 use Rattle.pg_units.proofs.Dispatch.{both_fits}
 use Rattle.pg_units.proofs.Good.{IsGood, all_good}
@@ -23,6 +24,7 @@ use Rattle.pg_units.proofs.Opened.{Beginning, Both, opened}
 use Rattle.pg_units.proofs.Settled.{at_units}
 use Rattle.pg_units.proofs.Starts.{start_fits}
 use Rattle.pg_units.proofs.Worded.{all_words}
+use Rattle.pg_units.proofs.Written.{placed_writes, start_writes}
 
 -- what fits is seen place by place
 pub fits_same : (input : List ℤ) (p : PlanDeed) (d e : RunDeed) → IsSame d e → Fits (like input) p e → Fits (like input) p d
@@ -65,6 +67,15 @@ module _ (r : ReferenceRun) (d : Taken) (input : List ℤ) (o : IsOrderedRun r) 
         go (inl b) = both_fits r d input o.can.program small u m.state m.moves m.told (record { unit = unit; plain = single; reached = m.reached; takes = m.may.takes; own = own; both = b; units = units_alike }) good objects_alike words cells_alike
         go (inr b) = begins b
 
+    -- it writes all that the unit may write, where that is at its recorded place
+    pub one_writes : is_placed_access d u.seen ≡ true → (c : ℕ) → nat_lt c MEMORY_BYTES ≡ true → writes_cell d u.seen c ≡ true → is_some (e.writes c) ≡ true
+    one_writes p c lt h = ap is_some (m.is_deed.writes c)
+        ∙ go (opened r.gated r.program r.input input u.state m.state u.seen.moment.did.did (thread_of u.seen.before (thread_in u.seen.moment)).calls unit.met.reached unit.met.takes m.reached stands_alike)
+      where
+        go : Both r.program input (thread_in u.seen.moment) u.state m.state (thread_of u.seen.before (thread_in u.seen.moment)).calls ⊎ Beginning r.program (thread_in u.seen.moment) u.state m.state → is_some ((deed_moved r.program input m.state m.moves m.told).writes c) ≡ true
+        go (inl b) = placed_writes r d input o.can.program u m.state m.moves m.told (record { unit = unit; plain = single; reached = m.reached; takes = m.may.takes; own = own; both = b; units = units_alike }) good objects_alike words cells_alike p c lt h
+        go (inr b) = start_writes r d u unit single m.state b c lt h (is_some ((deed_moved r.program input m.state m.moves m.told).writes c) ≡ true)
+
   -- the facts of a unit
   module _ (closed : IsClosed (reference_of r) d) (admitted : admits (reference_of r) d input ≡ true) (u : PlanUnit) (has : Has (units_of r d) u) where
     pub unit_at : IsUnit r d u
@@ -82,3 +93,6 @@ module _ (r : ReferenceRun) (d : Taken) (input : List ℤ) (o : IsOrderedRun r) 
           start_fits r d input u unit_at single m.state m.moves m.told m.reached m.may.takes (own u unit_at single good_at words_at turns a g e m alike mine) (units_alike u unit_at single good_at words_at turns a g e m alike mine)
           (objects_alike u unit_at single good_at words_at turns a g e m alike mine) words_at (cells_alike u unit_at single good_at words_at turns a g e m alike mine) b
           (all_has (λ (v : PlanUnit). (f : ℕ) → slice_get v.state.locals (thread_in v.seen.moment) ≡ Some (Rattle.pg_step.specs.LocalState.fresh r.program (thread_in v.seen.moment) f) → (thread_of v.seen.before (thread_in v.seen.moment)).calls ≡ fresh_registers r.program f ∷ []) (units_of r d) u fresh has b.function b.first))
+
+      pub unit_writes : is_placed_access d u.seen ≡ true → (c : ℕ) → nat_lt c MEMORY_BYTES ≡ true → writes_cell d u.seen c ≡ true → is_some (e.writes c) ≡ true
+      unit_writes = one_writes u unit_at single good_at words_at turns a g e m alike mine

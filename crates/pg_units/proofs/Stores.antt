@@ -149,6 +149,13 @@ module _ (r : ReferenceRun) (d : Taken) (input : List ℤ) (program : IsProgram 
             is_there true h = refl
             is_there false h = h
 
+    -- a store that is exact or an event writes all that the unit may write
+    pub stored_writes : is_fixed ≡ true → (c : ℕ) → nat_lt c MEMORY_BYTES ≡ true → writes_cell d u.seen c ≡ true → is_some (cell_written ef c) ≡ true
+    stored_writes f c lt h =
+        let touched : is_in (range_touched is_fixed t) c ≡ true = sym (ap (λ (b : Bool). if b then is_in (range_touched is_fixed t) c else false) lt) ∙ sym (unit_writes c) ∙ h in
+        let there : is_in a.q1 c ≡ true = ap (λ (z : ByteRange). is_in z c) (same_range r d input u st moves y q good a f) ∙ sym (ap (λ (b : Bool). is_in (range_touched b t) c) f) ∙ touched in
+        ap is_some (written_is c) ∙ ap (λ (b : Bool). is_some (if b then (if is_in a.q1 c then Some (byte_of n (c - a.q1.start)) else None) else None)) lt ∙ ap (λ (b : Bool). is_some (if b then Some (byte_of n (c - a.q1.start)) else None)) there
+
     pub stored_fits : Fits (like input) (deed_of d u) (deed_moved r.program input st moves y)
     stored_fits = record {
       thread = q.own;
@@ -164,8 +171,13 @@ module _ (r : ReferenceRun) (d : Taken) (input : List ℤ) (program : IsProgram 
         some_if true x h = refl
         some_if false x h = h
 
-  pub store_fits : (w : Width) (v at : Value) → q.both.x.op ≡ op.Store w v at → Fits (like input) (deed_of d u) (deed_moved r.program input st moves y)
-  store_fits w v at e =
+  -- a store as an access in both runs
+  abbrev pub AsStore : Width → Value → Value → Type 0 → Type 0
+  AsStore w v at P = (a : Access' r d input u st moves y q good) (n : ℕ) → operand r.program q.both.f.registers v ≡ Some n → a.writes ≡ true →
+      next_of r.program u.state (thread_in u.seen.moment) ≡ actions.Store a.q0 a.number0 → next_of r.program st (thread_in u.seen.moment) ≡ actions.Store a.q1 n → P
+
+  pub store_as : (w : Width) (v at : Value) → q.both.x.op ≡ op.Store w v at → (P : Type 0) → AsStore w v at P → P
+  store_as w v at e P with_store =
       let p = r.program in
       let b = q.both in
       let o = op.Store w v at in
@@ -211,4 +223,7 @@ module _ (r : ReferenceRun) (d : Taken) (input : List ℤ) (program : IsProgram 
         index = ap (λ (z : Op). slice_get (operands_of z) (address_index z)) e;
         address = v1.1;
       } in
-      stored_fits a w v at e n.0 n.1 refl act0 act
+      with_store a n.0 n.1 refl act0 act
+
+  pub store_fits : (w : Width) (v at : Value) → q.both.x.op ≡ op.Store w v at → Fits (like input) (deed_of d u) (deed_moved r.program input st moves y)
+  store_fits w v at e = store_as w v at e (Fits (like input) (deed_of d u) (deed_moved r.program input st moves y)) (λ a n value writes act0 act. stored_fits a w v at e n value writes act0 act)

@@ -28,7 +28,7 @@ use Rattle.pg_trace.specs.declared.step.Step.{Step}
 use Rattle.pg_trace.specs.Kinds.{kind_of}
 use Rattle.pg_machine.specs.State.{State, next_of}
 use Rattle.pg_effects.specs.Effect.{Effect, answer_to, effect_of}
-use Rattle.pg_effects.specs.Views.{cell_at, cell_written, is_thread, objects_of, word_in, word_made}
+use Rattle.pg_effects.specs.Views.{cell_at, cell_written, objects_of}
 use Rattle.pg_effects.specs.Views as views
 use Rattle.pg_closed.specs.Known.{Taken, operand_at, set_shadow}
 use Rattle.pg_closed.specs.Moments.{thread_in}
@@ -210,6 +210,13 @@ module _ (r : ReferenceRun) (d : Taken) (input : List ℤ) (program : IsProgram 
         go false i true h = refl
         go false i false h = absurd (true≢false (sym h))
 
+    pub created_writes : (c : ℕ) → nat_lt c MEMORY_BYTES ≡ true → writes_cell d u.seen c ≡ true → is_some (cell_written ef c) ≡ true
+    created_writes c lt h =
+        let there : is_in R c ≡ true = sym (ap (λ (b : Bool). if b then is_in R c else (length u.state.sync.threads == (c - MEMORY_BYTES))) lt) ∙ sym (wc_here c) ∙ h in
+        ap is_some (cw_here c)
+        ∙ ap (λ (b : Bool). is_some (if b then (if is_in R c then Some (byte_of (length st.locals) (c - R.start)) else None) else (if length u.state.sync.threads == (c - MEMORY_BYTES) then Some n1 else None))) lt
+        ∙ ap (λ (b : Bool). is_some (if b then Some (byte_of (length st.locals) (c - R.start)) else None)) there
+
     create_done : (s : sync.Sync) (m : ℕ) → (sync.done s (thread_in u.seen.moment) (requests.Create R g m)).1.value ≡ 0
     unfolding sync.done
     create_done s m = refl
@@ -234,8 +241,14 @@ module _ (r : ReferenceRun) (d : Taken) (input : List ℤ) (program : IsProgram 
         ))
         replies create_cell (reads_nothing r d input program u st moves y q good objects r0 r1 act0 act refl refl) create_writes
 
-  pub create_fits : (args : List Value) → q.both.x.op ≡ op.CallKnown known.PthreadCreate args → Fits (like input) (deed_of d u) (deed_moved r.program input st moves y)
-  create_fits args e =
+  -- a create in both runs
+  abbrev pub AsCreate : List Value → Type 0 → Type 0
+  AsCreate args P = (R : ByteRange) (g n0 n1 w0 : ℕ) → place_of w0 8 ≡ Ok R →
+      next_of r.program u.state (thread_in u.seen.moment) ≡ actions.Event (requests.Create R g n0) → next_of r.program st (thread_in u.seen.moment) ≡ actions.Event (requests.Create R g n1) →
+      argument r.program q.both.f0.registers args 0 ≡ Some w0 → argument r.program q.both.f.registers args 3 ≡ Some n1 → P
+
+  pub create_as : (args : List Value) → q.both.x.op ≡ op.CallKnown known.PthreadCreate args → (P : Type 0) → AsCreate args P → P
+  create_as args e P with_create =
       let p = r.program in
       let b = q.both in
       let o = op.CallKnown known.PthreadCreate args in
@@ -248,7 +261,11 @@ module _ (r : ReferenceRun) (d : Taken) (input : List ℤ) (program : IsProgram 
       let R : c.range ≡ c0.range = ok_same c.range c0.range (sym c.place ∙ ap (λ (v : ℕ). place_of v 8) w ∙ c0.place) in
       let act : next_of p st (thread_in u.seen.moment) ≡ actions.Event (requests.Create c0.range c0.function c.number) =
       act_at r d input u st moves y q o e ∙ c.is ∙ ap (λ (z : ByteRange). actions.Event (requests.Create z c.function c.number)) R ∙ ap (λ (z : ℕ). actions.Event (requests.Create c0.range z c.number)) f in
-      created_fits args e c0.range c0.function c0.number c.number c0.word c0.place act0 act c0.is_word c.is_number
+      with_create c0.range c0.function c0.number c.number c0.word c0.place act0 act c0.is_word c.is_number
+
+  pub create_fits : (args : List Value) → q.both.x.op ≡ op.CallKnown known.PthreadCreate args → Fits (like input) (deed_of d u) (deed_moved r.program input st moves y)
+  create_fits args e = create_as args e (Fits (like input) (deed_of d u) (deed_moved r.program input st moves y))
+      (λ R g n0 n1 w0 place act0 act word0 number. created_fits args e R g n0 n1 w0 place act0 act word0 number)
 
   -- ---- joins
 
@@ -323,6 +340,12 @@ module _ (r : ReferenceRun) (d : Taken) (input : List ℤ) (program : IsProgram 
           go true false h = absurd (true≢false (sym h))
           go false i h = absurd (true≢false (sym h))
 
+      pub joined_writes : (c : ℕ) → nat_lt c MEMORY_BYTES ≡ true → writes_cell d u.seen c ≡ true → is_some (cell_written ef c) ≡ true
+      joined_writes c lt h =
+          let there : is_in R c ≡ true = sym (ap (λ (b : Bool). if b then is_in R c else false) lt) ∙ sym (wj c) ∙ h in
+          ap is_some (cj c) ∙ ap (λ (b : Bool). is_some (if b then (if is_in R c then Some (byte_of (slice_index st.words g) (c - R.start)) else None) else None)) lt
+          ∙ ap (λ (b : Bool). is_some (if b then Some (byte_of (slice_index st.words g) (c - R.start)) else None)) there
+
       join_reads : (c : ℕ) → views.reads_cell ef c ≡ true → reads_cell d u.seen c ≡ true
       join_reads c k = rc_here c ∙ sym (er_is r d input program u st moves y q good objects rj rj act0 act refl c) ∙ k
 
@@ -350,8 +373,17 @@ module _ (r : ReferenceRun) (d : Taken) (input : List ℤ) (program : IsProgram 
           ))
           join_replies join_cell join_reads join_writes
 
-    pub join_fits : (args : List Value) → q.both.x.op ≡ op.CallKnown known.PthreadJoin args → Fits (like input) (deed_of d u) (deed_moved r.program input st moves y)
-    join_fits args e =
+    -- a join in both runs: without a place, and with one
+    abbrev pub AsJoin : Type 0 → Type 0
+    AsJoin P = (n : ℕ) → next_of r.program u.state (thread_in u.seen.moment) ≡ actions.Event (requests.Join n None) → next_of r.program st (thread_in u.seen.moment) ≡ actions.Event (requests.Join n None) → P
+
+    abbrev pub AsPlacedJoin : List Value → Type 0 → Type 0
+    AsPlacedJoin args P = (n : ℕ) (R : ByteRange) (w0 : ℕ) → place_of w0 8 ≡ Ok R →
+        next_of r.program u.state (thread_in u.seen.moment) ≡ actions.Event (requests.Join n (Some R)) → next_of r.program st (thread_in u.seen.moment) ≡ actions.Event (requests.Join n (Some R)) →
+        argument r.program q.both.f0.registers args 1 ≡ Some w0 → P
+
+    pub join_as : (args : List Value) → q.both.x.op ≡ op.CallKnown known.PthreadJoin args → (P : Type 0) → AsJoin P → AsPlacedJoin args P → P
+    join_as args e P plain placed =
         let p = r.program in
         let b = q.both in
         let o = op.CallKnown known.PthreadJoin args in
@@ -366,12 +398,17 @@ module _ (r : ReferenceRun) (d : Taken) (input : List ℤ) (program : IsProgram 
             let act0 = act0_at r d input u st moves y q (op.CallKnown known.PthreadJoin args) e ∙ k in
             (act0, act_at r d input u st moves y q (op.CallKnown known.PthreadJoin args) e ∙ same_action r.program (thread_in u.seen.moment) q.both.h q.both.f.registers q.both.f0.registers args known.PthreadJoin refl (checked_same r d input program u st moves y q good objects known.PthreadJoin args e a act0 s) ∙ k)
 
-        by_word : (n w : ℕ) → argument r.program q.both.f0.registers args 1 ≡ Some w → join_action r.program q.both.f0.registers args ≡ join_at n w → (z : Bool) → (w == 0) ≡ z → CanStep (join_at n w) → Fits (like input) (deed_of d u) (deed_moved r.program input st moves y)
+        by_word : (n w : ℕ) → argument r.program q.both.f0.registers args 1 ≡ Some w → join_action r.program q.both.f0.registers args ≡ join_at n w → (z : Bool) → (w == 0) ≡ z → CanStep (join_at n w) → P
         by_word n w v is true z c =
             let k = both_acts (requests.Join n None) (is ∙ ap (λ (b : Bool). if b then actions.Event (requests.Join n None) else on_place w 8 (λ r. actions.Event (requests.Join n (Some r)))) z) refl in
-            shaped_fits r d input program u st moves y q good objects known.PthreadJoin args e (requests.Join n None) (requests.Join n None) k.0 k.1 refl (shape_join q.both.h n) (shape_join q.both.h n) (λ s. refl)
+            plain n k.0 k.1
         by_word n w v is false z c =
-            let placed : join_at n w ≡ on_place w 8 (λ r. actions.Event (requests.Join n (Some r))) = ap (λ (b : Bool). if b then actions.Event (requests.Join n None) else on_place w 8 (λ r. actions.Event (requests.Join n (Some r)))) z in
-            let g = place_done w 8 (λ r. actions.Event (requests.Join n (Some r))) (subst CanStep placed c) in
-            let k = both_acts (requests.Join n (Some g.0)) (is ∙ placed ∙ g.2) refl in
-            joined_fits args e n g.0 w g.1 k.0 k.1 v
+            let there : join_at n w ≡ on_place w 8 (λ r. actions.Event (requests.Join n (Some r))) = ap (λ (b : Bool). if b then actions.Event (requests.Join n None) else on_place w 8 (λ r. actions.Event (requests.Join n (Some r)))) z in
+            let g = place_done w 8 (λ r. actions.Event (requests.Join n (Some r))) (subst CanStep there c) in
+            let k = both_acts (requests.Join n (Some g.0)) (is ∙ there ∙ g.2) refl in
+            placed n g.0 w g.1 k.0 k.1 v
+
+    pub join_fits : (args : List Value) → q.both.x.op ≡ op.CallKnown known.PthreadJoin args → Fits (like input) (deed_of d u) (deed_moved r.program input st moves y)
+    join_fits args e = join_as args e (Fits (like input) (deed_of d u) (deed_moved r.program input st moves y))
+        (λ n act0 act. shaped_fits r d input program u st moves y q good objects known.PthreadJoin args e (requests.Join n None) (requests.Join n None) act0 act refl (shape_join q.both.h n) (shape_join q.both.h n) (λ s. refl))
+        (λ n R w0 place act0 act word0. joined_fits args e n R w0 place act0 act word0)

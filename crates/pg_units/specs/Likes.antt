@@ -80,8 +80,8 @@ StandLike input None (Some l) = ⊥
 StandLike input (Some z) None = ⊥
 StandLike input (Some z) (Some l) = IsStandingLike input z l
 
--- a thread stands as the plan's does, and has done as many moves as that has done units. (Inside an instance it doesn't; that case
--- is still to come)
+-- a thread stands as the plan's does, and has done as many moves as that has done units: an instance is one move and one unit, so
+-- nothing is said here of a thread that is inside of one
 pub record IsThreadLike (input : List ℤ) (z : PlanThread) (l : MovedThread) : Type 0 where
   pub moves : l.moves ≡ z.units
   pub stands : StandLike input z.standing l.local

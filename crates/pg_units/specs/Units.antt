@@ -125,12 +125,24 @@ units_of r d = units_from r d (last_from r (initial r.program) r.steps) none_tak
 -- ---- what a unit may touch: of an access that is exact or an event its bytes, of another its frame; of an instance the frames
 -- of its region
 
+-- an access is at its recorded place on each admitted input: it is exact, or an event
+abbrev pub is_placed : Taken → ℕ → Access → Bool
+is_placed d n a = a.event || d.exact n
+
 abbrev pub range_touched : Bool → Access → ByteRange
 range_touched fixed a = if fixed then range_of a else frame_of a.pointer
 
 abbrev pub access_touch : Taken → ℕ → Option Access → List Footprint
 access_touch d n None = []
-access_touch d n (Some a) = record { bytes = range_touched (a.event || d.exact n) a; writes = a.writes } ∷ []
+access_touch d n (Some a) = record { bytes = range_touched (is_placed d n a) a; writes = a.writes } ∷ []
+
+-- the access of a step is at its recorded place; the write of a create or of a join is one
+abbrev pub is_placed_in : Taken → ℕ → Option Access → Bool
+is_placed_in d n None = false
+is_placed_in d n (Some a) = is_placed d n a
+
+abbrev pub is_placed_access : Taken → Seen → Bool
+is_placed_access d x = is_placed_in d x.number (access_in (kind_in x))
 
 abbrev pub instance_touch : Taken → Seen → List Footprint
 instance_touch d x = if is_instance d x then prints_in x.region else []
