@@ -1,30 +1,25 @@
 -- Along a run, where all decisions are taken, what is known is like what the machine has, on the run's own input.
-use Rattle.std.proofs.Common.{lit<, ◌≡◌, ◌≢◌, ℕ, ℤ, ◌⊎◌, ◌<◌, ◌^◌, ◌==◌, ◌-◌, ◌*◌, ◌+◌, ◌++◌, zero, suc, Bool, true, false, List, [], ◌∷◌, length, Option, Some, None, refl, sym, ap, ◌∙◌, subst, inl, inr}
-use Rattle.std.specs.Prelude.{◌&&◌, nat_le, nat_lt, is_some, slice_get, slice_index, slice_index_or, if◌then◌else◌}
+use Rattle.std.proofs.Common.{◌≡◌, ◌≢◌, ℕ, ◌⊎◌, ◌<◌, ◌^◌, ◌==◌, ◌-◌, ◌++◌, suc, Bool, true, false, List, [], ◌∷◌, length, Option, Some, None, refl, sym, ap, ◌∙◌, subst, inl, inr}
+use Rattle.std.specs.Prelude.{nat_lt, is_some, slice_get, if◌then◌else◌}
 use Rattle.std.specs.List.{AllByRecursion as AllOf, list_any}
-use Rattle.std.proofs.lemmas.Bool.{cases_eq, eq-eqb, ltb-true, ne_eqb, true≢false}
+use Rattle.std.proofs.lemmas.Bool.{cases_eq, eq-eqb, ne_eqb, true≢false}
 use Rattle.std.proofs.lemmas.Option.{slice_get_within}
 use Rattle.pg_num.specs.declared.layout.TheConstants.{MEMORY_BYTES}
-use Rattle.pg_ir.specs.declared.function.GlobalInfo.{GlobalInfo}
-use Rattle.pg_ir.specs.Program.{NumberedProgram}
 use Rattle.pg_ir.specs.WellFormed.{IsProgram}
-use Rattle.pg_mem.specs.Initial as memory
-use Rattle.pg_mem.specs.Initial.{initial_byte}
 use Rattle.pg_mem.specs.Memory.{byte_at}
-use Rattle.pg_mem.proofs.ReadsAndWrites.{byte_at-memory_of}
 use Rattle.pg_plans.specs.Effects as plans
 use Rattle.pg_plans.specs.Intervals.{done_after, timed, times}
 use Rattle.pg_plans.specs.Plans.{Fits}
 use Rattle.pg_plans.proofs.Lists.{both_of}
-use Rattle.pg_step.specs.LocalState.{LocalState, fresh}
+use Rattle.pg_step.specs.LocalState.{LocalState}
 use Rattle.pg_trace.specs.declared.step.Step.{Step}
 use Rattle.pg_trace.specs.Races.{recorded}
 use Rattle.pg_trace.specs.Steps.{access_in, happening_in}
 use Rattle.pg_machine.specs.Runs.{IsRun, Takes}
 use Rattle.pg_machine.specs.State.{State, initial}
 use Rattle.pg_effects.specs.Effect as effects
-use Rattle.pg_effects.specs.Effect.{Effect, effect_of}
-use Rattle.pg_effects.specs.Reached.{HoldBytes, IsReached}
+use Rattle.pg_effects.specs.Effect.{effect_of}
+use Rattle.pg_effects.specs.Reached.{IsReached}
 use Rattle.pg_effects.specs.Views.{LeadsTo, begun_in, cell_at, cell_written, is_thread, local_at, objects_of}
 use Rattle.pg_effects.proofs.Reaches.{reached_first, reached_step}
 use Rattle.pg_effects.proofs.Seen.{leads_to}
@@ -33,13 +28,13 @@ use Rattle.pg_closed.specs.Extents.{Extent, is_live}
 use Rattle.pg_closed.specs.Known.{RunShadow, Seen, after_step, region_of, seen_from, seen_in, start_of, thread_of}
 use Rattle.pg_closed.specs.Moments.{Moment, calls_of, instr_in, moments_from, thread_in}
 use Rattle.pg_closed.specs.Rules.{asks_frames, asks_values, has_region, prints_in}
-use Rattle.pg_closed.specs.Shadows.{always}
 use Rattle.pg_least.specs.Keeps.{every}
 use Rattle.pg_least.proofs.Closes.{all_closed}
 use Rattle.pg_units.specs.Likes.{IsCellLike, IsLike, StandLike, like}
 use Rattle.pg_units.specs.Moves.{deed_moved}
 use Rattle.pg_units.specs.Units.{PlanUnit, ReferenceRun, access_touch, behind, cell_known, deed_of, is_instance, is_written_in, reference_of, standing_of, turns_of, word_written, writes_cell}
 use Rattle.pg_units.proofs.Along.{IsMet, IsUnit, behind_is}
+use Rattle.pg_units.proofs.Begins.{first_cell, stands_first}
 use Rattle.pg_units.proofs.Cells.{cells_kept, may_write}
 use Rattle.pg_units.proofs.Dispatch.{both_fits}
 use Rattle.pg_units.proofs.Good.{IsGood}
@@ -220,46 +215,14 @@ module _ (r : ReferenceRun) (program : IsProgram r.program) (small : length r.in
 
 -- ---- before the first step
 
-byte_first : (gs : List GlobalInfo) (b : ℕ) → HoldBytes gs → initial_byte gs b < 2 ^ 8
-byte_first [] b h = lit< tt
-byte_first (g ∷ gs) b h = by (byte_first gs b h.1) (nat_le (g.start * 8) b && nat_lt b (g.start * 8 + length g.bytes))
-  where
-    by : initial_byte gs b < 2 ^ 8 → (c : Bool) → (if c then slice_index g.bytes (b - g.start * 8) else initial_byte gs b) < 2 ^ 8
-    by rest true = h.0 (b - g.start * 8)
-    by rest false = rest
-
-none_begun : (p : NumberedProgram) (v : ℕ) → local_at (initial p) v ≡ None
-unfolding initial fresh
-none_begun p zero = refl
-none_begun p (suc v) = refl
-
-first_cell : (p : NumberedProgram) (c : ℕ) → cell_at (initial p) c ≡ (if nat_lt c MEMORY_BYTES then byte_at (memory.initial p.globals) c else slice_index (0 ∷ []) (c - MEMORY_BYTES))
-unfolding initial
-first_cell p c = refl
-
-first_byte : (p : NumberedProgram) (c : ℕ) → ((i : ℕ) → initial_byte p.globals i < 2 ^ 8) → c < MEMORY_BYTES → byte_at (memory.initial p.globals) c ≡ initial_byte p.globals c
-unfolding memory.initial
-first_byte p c h l = byte_at-memory_of (initial_byte p.globals) c h l
-
-first_word : (input : List ℤ) (i : ℕ) → IsCellLike input (slice_index_or (always 0 ∷ []) i (always 0)) (slice_index (0 ∷ []) i)
-first_word input zero = refl
-first_word input (suc i) = refl
-
 module _ (r : ReferenceRun) (o : IsRecorded r) where
-  cells_first : (c : ℕ) → IsCellLike r.input (cell_known (start_of r.program) c) (cell_at (initial r.program) c)
-  cells_first c = subst (IsCellLike r.input (cell_known (start_of r.program) c)) (sym (first_cell r.program c)) (go (nat_lt c MEMORY_BYTES) refl)
-    where
-      go : (b : Bool) → nat_lt c MEMORY_BYTES ≡ b → IsCellLike r.input (if b then always (initial_byte r.program.globals c) else slice_index_or (always 0 ∷ []) (c - MEMORY_BYTES) (always 0)) (if b then byte_at (memory.initial r.program.globals) c else slice_index (0 ∷ []) (c - MEMORY_BYTES))
-      go true e = ap (λ (n : ℕ). Some n) (first_byte r.program c (λ i. byte_first r.program.globals i o.can.bytes) (ltb-true c MEMORY_BYTES e))
-      go false e = first_word r.input (c - MEMORY_BYTES)
-
   first_true : IsTrue r (start_of r.program) (initial r.program)
   first_true = record {
     reached = reached_first r.program o.can.program o.can.bytes;
     words = first_words r every;
     started = first_fresh r.program;
-    stands = λ v. subst (λ (l : Option LocalState). StandLike r.input (standing_of l (thread_of (start_of r.program) v).calls) l) (sym (none_begun r.program v)) tt;
-    cells = cells_first;
+    stands = stands_first r.program r.input;
+    cells = first_cell r.program r.input o.can.bytes;
   }
 
   asks_nothing : AllOf (AsksNothing r) (seen_in (reference_of r) every)

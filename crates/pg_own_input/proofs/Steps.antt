@@ -13,13 +13,13 @@ use Rattle.pg_step.specs.States.{CanStep}
 use Rattle.pg_step.specs.Step.{op_action, total}
 use Rattle.pg_trace.specs.declared.step.Step.{Step}
 use Rattle.pg_trace.specs.declared.step.StepKind.{StepKind}
-use Rattle.pg_machine.specs.MachineStep.{event_told, instr_told, kind_told, number_in, operands_in, step_told}
+use Rattle.pg_machine.specs.MachineStep.{event_told, instr_told, kind_told, number_in, operands_in}
 use Rattle.pg_machine.specs.State.{State, instr_of, next_of}
 use Rattle.pg_machine.proofs.Asks.{next_is}
 use Rattle.pg_effects.specs.Effect.{answer_to}
 use Rattle.pg_runs.proofs.Rules.{next_fresh}
 use Rattle.pg_closed.specs.Freeable.{FreeRegion}
-use Rattle.pg_closed.specs.Known.{Seen, is_branch, region_of, thread_of, top_of}
+use Rattle.pg_closed.specs.Known.{Seen, is_branch, region_of, thread_of}
 use Rattle.pg_closed.specs.Moments.{calls_of, instr_in, registers_in, thread_in}
 use Rattle.pg_closed.specs.Rules.{Need, access_needs_by, access_needs_in, asks_frames, asks_values, frame_needs, is_bound, kind_in, region_needs_in, registers_before, value_needs, value_needs_by, value_needs_in}
 use Rattle.pg_closed.specs.Shadows.{Shadow}
@@ -28,7 +28,8 @@ use Rattle.pg_units.specs.Likes.{AreLike, IsLike}
 use Rattle.pg_units.specs.Units.{ReferenceRun, reference_of}
 use Rattle.pg_units.proofs.Along.{IsMet}
 use Rattle.pg_units.proofs.Good.{IsGood}
-use Rattle.pg_units.proofs.Here.{can_step, instr_here, next_here, operands_here, running, told_is}
+use Rattle.pg_units.proofs.Here.{can_step, operands_here, running}
+use Rattle.pg_units.proofs.Meeting.{act_at, instr_is, place0, told_met, top_known}
 use Rattle.pg_units.proofs.Opened.{Beginning, Both}
 use Rattle.pg_own_input.proofs.Instructions.{op_fine, told_by}
 use Rattle.pg_own_input.proofs.Needs.{IsGiven, both_given, hold_all}
@@ -46,9 +47,6 @@ module _ (r : ReferenceRun) (x : Seen) (s : State) (met : IsMet r every x s) (li
   abbrev answer : ℕ
   answer = answer_to r.input s (thread_in x.moment) (next_of r.program s (thread_in x.moment))
 
-  told : x.moment.did.did ≡ step_told r.gated r.program s (thread_in x.moment) answer
-  told = told_is r.gated r.program r.input s met.takes.after (thread_in x.moment) x.moment.did.did met.takes.is_step
-
   abbrev AreGiven : List Need → Type 0
   AreGiven qs = AllOf (IsGiven r.input) qs
 
@@ -62,22 +60,16 @@ module _ (r : ReferenceRun) (x : Seen) (s : State) (met : IsMet r every x s) (li
     act = op_action r.program (region_at (running (thread_in x.moment) b.h b.f b.fs b.n)) b.h b.f.registers (length (b.f ∷ b.fs)) (total (b.f ∷ b.fs)) b.x.block.0 b.x.op
 
     place : slice_get r.program.instrs (instr_of s (thread_in x.moment)) ≡ Some b.x
-    place = ap (slice_get r.program.instrs) (instr_here r.program s (thread_in x.moment) b.h b.f b.fs b.n b.x b.here) ∙ b.here.instr
-
-    instr_is : instr_in r.program x.moment ≡ Some b.x
-    instr_is = ap (λ (z : Step). slice_get r.program.instrs z.instr.0) told ∙ place
+    place = place0 r every r.input x s s met b
 
     next_at : next_of r.program s (thread_in x.moment) ≡ act
-    next_at = next_here r.program s (thread_in x.moment) b.h b.f b.fs b.n b.x b.here
+    next_at = act_at r every r.input x s s met b b.x.op refl
 
     can : CanStep act
     can = subst CanStep next_at (can_step r.gated r.program r.input s x.moment.did.did met.takes)
 
-    known_is : registers_before x ≡ b.ks
-    known_is = ap top_of b.calls
-
     alike : AreLike r.input (registers_before x) b.f.registers
-    alike = subst (λ (ks : List Shadow). AreLike r.input ks b.f.registers) (sym known_is) b.top.registers
+    alike = subst (λ (ks : List Shadow). AreLike r.input ks b.f.registers) (sym (top_known r every r.input x s s met b)) b.top.registers
 
     registers_are : registers_in x.moment.calls ≡ b.f.registers
     registers_are = ap registers_in (met.calls ∙ ap calls_of b.here.local)
@@ -94,7 +86,7 @@ module _ (r : ReferenceRun) (x : Seen) (s : State) (met : IsMet r every x s) (li
 
     kind_is : kind_in x ≡ told_by r.gated r.program r.input s (thread_in x.moment) x b.x b.f.registers answer number alike b.x.op act
     kind_is =
-        ap (λ (z : Step). z.kind) told
+        ap (λ (z : Step). z.kind) (told_met r every x s met)
         ∙ ap (λ (ns : List ℕ). kind_told r.gated r.program s (thread_in x.moment) ns answer number (next_of r.program s (thread_in x.moment))) (operands_here r.program s (thread_in x.moment) b.h b.f b.fs b.n b.x b.here)
         ∙ ap (kind_told r.gated r.program s (thread_in x.moment) (first_four r.program b.f.registers (operands_of b.x.op)) answer number) next_at
         ∙ kind_as act
@@ -105,11 +97,11 @@ module _ (r : ReferenceRun) (x : Seen) (s : State) (met : IsMet r every x s) (li
 
     values_here : AreGiven (value_needs (reference_of r) every x)
     values_here = subst (AllOf (IsGiven r.input))
-        (sym (ap (value_needs_in r.program every x) instr_is ∙ ap (λ (c : Bool). if c then value_needs_by r.program every x b.x (kind_in x) else []) live)) needed.0
+        (sym (ap (value_needs_in r.program every x) (instr_is r every r.input x s s met b) ∙ ap (λ (c : Bool). if c then value_needs_by r.program every x b.x (kind_in x) else []) live)) needed.0
 
     accesses_here : AreGiven (access_needs_in r.program x (instr_in r.program x.moment))
     accesses_here = subst (AllOf (IsGiven r.input))
-        (sym (ap (access_needs_in r.program x) instr_is ∙ ap (λ (c : Bool). if c then access_needs_by r.program x b.x (kind_in x) else []) live)) needed.1
+        (sym (ap (access_needs_in r.program x) (instr_is r every r.input x s s met b) ∙ ap (λ (c : Bool). if c then access_needs_by r.program x b.x (kind_in x) else []) live)) needed.1
 
     regions_here : AreGiven (if x.live then region_needs_in r.program x x.region else [])
     regions_here = subst (λ (c : Bool). AllOf (IsGiven r.input) (if c then region_needs_in r.program x x.region else [])) (sym live)
@@ -129,7 +121,7 @@ module _ (r : ReferenceRun) (x : Seen) (s : State) (met : IsMet r every x s) (li
 
     kind_starts : kind_in x ≡ start
     kind_starts =
-        ap (λ (z : Step). z.kind) told
+        ap (λ (z : Step). z.kind) (told_met r every x s met)
         ∙ ap (kind_told r.gated r.program s (thread_in x.moment) (operands_in r.program (slice_get s.locals (thread_in x.moment))) answer (number_in r.program (slice_get s.locals (thread_in x.moment)) answer)) starts
 
     no_values : (o : Option Instr) → AreGiven (value_needs_in r.program every x o)
