@@ -6,3 +6,4 @@ pub mod More
 pub mod Strays
 pub mod Schedules
 pub mod Rotated
+pub mod Turns

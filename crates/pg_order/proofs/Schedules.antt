@@ -1,7 +1,7 @@
 -- The schedule of a recorded run: up to each thread's last turn the run is an ordered full one along it, and the
 -- guided run along it ends as the recorded one.
-use Rattle.std.proofs.Common.{◌≡◌, ◌≢◌, ℕ, ℤ, ◌+◌, ◌<◌, ◌≤◌, List, [], ◌∷◌, ◌++◌, length, map, drop, Bool, true, false, cond, Option, Some, None, refl, sym, ◌∙◌, ap, subst, arith, zero, suc}
-use Rattle.std.specs.Prelude.{is_some, if◌then◌else◌, ◌==◌}
+use Rattle.std.proofs.Common.{◌≡◌, ◌≢◌, ℕ, ℤ, ◌≤◌, List, [], ◌∷◌, length, map, drop, Bool, true, false, refl, sym, ◌∙◌, ap, subst, arith, zero, suc}
+use Rattle.std.specs.Prelude.{if◌then◌else◌, ◌==◌}
 use Rattle.std.proofs.lemmas.List.Sums.{count_by-le-length}
 use Rattle.pg_num.specs.declared.limits.TheConstants.{GUIDED_STEP_LIMIT}
 use Rattle.pg_ir.specs.declared.ids.InstrId.{InstrId}
@@ -12,11 +12,9 @@ use Rattle.pg_sync.specs.Sync as sync
 use Rattle.pg_trace.specs.declared.step.Step.{Step}
 use Rattle.pg_trace.specs.declared.step.StepKind.{StepKind}
 use Rattle.pg_trace.specs.declared.step.StepKind.TheVariants as kinds
-use Rattle.pg_trace.specs.declared.step.Happening.{Happening}
 use Rattle.pg_trace.specs.declared.turn.Race.{Race}
 use Rattle.pg_trace.specs.declared.turn.Turn.{Turn}
 use Rattle.pg_trace.specs.Races.{is_one_of, kind_gated, races_of, recorded, schedule_of, with_gated}
-use Rattle.pg_trace.specs.Steps.{happening_in}
 use Rattle.pg_machine.specs.declared.guided_end.GuidedEnd.TheVariants as ends
 use Rattle.pg_machine.specs.State.{State, exit_value_of, initial}
 use Rattle.pg_machine.specs.Guided.{guided_of}
@@ -30,7 +28,7 @@ use Rattle.pg_effects.specs.Gates.{marked, with_gates}
 use Rattle.pg_effects.proofs.FullEnds.{full_is}
 use Rattle.pg_effects.proofs.Gating.{run_gated}
 use Rattle.pg_runs.specs.Cuts.{CanRun, EndsAs, IsOrderedAlong, IsOrderedFull}
-use Rattle.pg_runs.specs.Deeds.{Shared, owners_of}
+use Rattle.pg_runs.specs.Deeds.{Shared}
 use Rattle.pg_runs.specs.LastTurns.{IsRecorded}
 use Rattle.pg_runs.proofs.Last as last
 use Rattle.pg_runs.proofs.Maximal.{drop_end}
@@ -40,6 +38,7 @@ use Rattle.pg_order.specs.Schedules.{GuidesAs, IsOrderedUpTo, along}
 use Rattle.pg_order.proofs.Gates.{as_gated, order_gated, owners_gated}
 use Rattle.pg_order.proofs.Racing.{races_order}
 use Rattle.pg_order.proofs.Strays.{StuckAt, guided_strays, strays_late}
+use Rattle.pg_order.proofs.Turns.{owners_events}
 
 -- ---- the steps with the gates of their races
 
@@ -54,14 +53,6 @@ gates_are : (gated : List InstrId) (xs : List Step) → map (with_gates gated) x
 gates_are gated [] = refl
 gates_are gated (x ∷ xs) =
     ap (λ (k : StepKind). record x { kind = k } ∷ map (with_gates gated) xs) (marked_is (is_one_of gated x.instr.0) x.kind) ∙ ap (λ (l : List Step). with_gated gated x ∷ l) (gates_are gated xs)
-
-owners_events : (xs : List Step) → owners recorded xs ≡ owners_of (events xs)
-owners_events [] = refl
-owners_events (x ∷ xs) = go (happening_in x.kind) refl (owners_events xs)
-  where
-    go : (o : Option Happening) → happening_in x.kind ≡ o → owners recorded xs ≡ owners_of (events xs) → cond (is_some (happening_in x.kind)) (x.thread.0 ∷ owners recorded xs) (owners recorded xs) ≡ owners_of (events (x ∷ xs))
-    go None e ih = rw e ih
-    go (Some h) e ih = rw e (ap (λ (l : List ℕ). x.thread.0 ∷ l) ih)
 
 module _ (p : NumberedProgram) (input : List ℤ) (can : CanRun p input) (xs : List Step) (z : State) (h : IsRecorded p input xs z) where
   abbrev gates : List InstrId

@@ -1,5 +1,4 @@
 pub mod Events
 pub mod Outputs
 pub mod Recordings
-pub mod Turns
 pub mod Serves

@@ -27,11 +27,11 @@ use Rattle.pg_order.specs.Good.{IsGoodRun, replies_of}
 use Rattle.pg_order.specs.Schedules.{along}
 use Rattle.pg_order.proofs.Pairs.{ordered_none}
 use Rattle.pg_order.proofs.Schedules.{guides_as, up_to}
+use Rattle.pg_order.proofs.Turns.{all_turns, exited, owners_events}
 use Rattle.pg_sound.specs.Recorded.{IsRecording}
 use Rattle.pg_sound.proofs.Guided.{good_run}
 use Rattle.pg_entry.specs.Entries.{EntryParts, IsEntry, IsEntryOfTurns, IsSliced, decisions_of}
 use Rattle.pg_reuse.proofs.Events.{fronts_same, replies_first, until_replies}
-use Rattle.pg_reuse.proofs.Turns.{all_turns, exited, owners_events}
 
 -- ---- what is kept of an ordered run that exits
 

@@ -1,4 +1,4 @@
--- A guided run that exits does all turns.
+-- A guided run that exits does all turns, and is over.
 use Rattle.std.proofs.Common.{◌≡◌, ℕ, ℤ, List, [], ◌∷◌, ◌++◌, length, cond, Bool, true, false, Option, Some, None, refl, sym, ap, ◌∙◌, append-nil}
 use Rattle.std.specs.Prelude.{is_some, nat_lt, if◌then◌else◌}
 use Rattle.pg_num.specs.declared.limits.TheConstants.{RECORDING_STEP_LIMIT}
@@ -6,6 +6,7 @@ use Rattle.pg_ir.specs.declared.ids.InstrId.{InstrId}
 use Rattle.pg_ir.specs.declared.request.TrapName.{TrapName}
 use Rattle.pg_ir.specs.Program.{NumberedProgram}
 use Rattle.pg_plans.specs.Intervals.{owners}
+use Rattle.pg_sync.specs.Sync as sync
 use Rattle.pg_trace.specs.declared.step.Happening.{Happening}
 use Rattle.pg_trace.specs.declared.step.Step.{Step}
 use Rattle.pg_trace.specs.declared.turn.Turn.{Turn}
@@ -14,11 +15,11 @@ use Rattle.pg_trace.specs.Steps.{happening_in}
 use Rattle.pg_machine.specs.declared.guided_end.GuidedEnd.{GuidedEnd}
 use Rattle.pg_machine.specs.declared.guided_end.GuidedEnd.TheVariants as ends
 use Rattle.pg_machine.specs.Follow.{Breaks, Exits, Following, following, following_of, reached}
-use Rattle.pg_machine.specs.Guided.{GuidedRun, guided_of}
+use Rattle.pg_machine.specs.Guided.{GuidedRun, end_after, guided_of}
 use Rattle.pg_machine.specs.MachineStep.{trap_of}
 use Rattle.pg_machine.specs.Permitted.{end_before, has_spent, trapped, turns_left}
 use Rattle.pg_machine.specs.Runs.{events}
-use Rattle.pg_machine.specs.State.{State, next_of}
+use Rattle.pg_machine.specs.State.{State, exit_value_of, next_of}
 use Rattle.pg_machine.proofs.GuidedExits.{guided_exits}
 use Rattle.pg_machine.proofs.GuidedPermitted.{guided_permitted}
 use Rattle.pg_runs.specs.Deeds.{owners_of}
@@ -49,24 +50,38 @@ exited p input turns gated xs printed value h = exited_by (guided_of p input tur
 
 -- ---- its turns
 
-no_exit : (s : State) (t : ℕ) (o : Option TrapName) (value : ℤ) (u : Turn) (us : List Turn) → trapped s t o ≡ ends.Exit value → u ∷ us ≡ []
-no_exit s t None value u us e = absurd cc
-no_exit s t (Some name) value u us e = absurd cc
+no_exit : (s : State) (t : ℕ) (o : Option TrapName) (value : ℤ) → trapped s t o ≡ ends.Exit value → (P : Type 0) → P
+no_exit s t None value e P = absurd cc
+no_exit s t (Some name) value e P = absurd cc
 
-all_done : (p : NumberedProgram) (xs : List Step) (s : State) (us : List Turn) (value : ℤ) → end_before p xs s us ≡ ends.Exit value → us ≡ []
-all_done p xs s [] value e = refl
-all_done p xs s (u ∷ us) value e = go (has_spent xs u.thread.0) e
+over_after : (s : State) (value : ℤ) → end_after s ≡ ends.Exit value → sync.over s.sync ≡ true
+over_after s value e = go (sync.over s.sync) refl e
   where
-    go : (b : Bool) → (if b then ends.Budget u.thread else trapped s u.thread.0 (trap_of s u.thread.0 (next_of p s u.thread.0))) ≡ ends.Exit value → u ∷ us ≡ []
+    go : (b : Bool) → sync.over s.sync ≡ b → (if b then ends.Exit (exit_value_of s) else ends.Strayed) ≡ ends.Exit value → sync.over s.sync ≡ true
+    go true k h = k
+    go false k h = absurd cc
+
+none_left : (p : NumberedProgram) (xs : List Step) (s : State) (us : List Turn) (value : ℤ) → end_before p xs s us ≡ ends.Exit value → (us ≡ []) × (sync.over s.sync ≡ true)
+none_left p xs s [] value e = (refl, over_after s value e)
+none_left p xs s (u ∷ us) value e = go (has_spent xs u.thread.0) e
+  where
+    go : (b : Bool) → (if b then ends.Budget u.thread else trapped s u.thread.0 (trap_of s u.thread.0 (next_of p s u.thread.0))) ≡ ends.Exit value → (u ∷ us ≡ []) × (sync.over s.sync ≡ true)
     go true k = absurd cc
-    go false k = no_exit s u.thread.0 (trap_of s u.thread.0 (next_of p s u.thread.0)) value u us k
+    go false k = no_exit s u.thread.0 (trap_of s u.thread.0 (next_of p s u.thread.0)) value k ((u ∷ us ≡ []) × (sync.over s.sync ≡ true))
+
+-- no turn is left, and it is over
+pub all_done : (p : NumberedProgram) (input : List ℤ) (turns : List Turn) (gated : List InstrId) (xs : List Step) → Exited (guided_of p input turns gated) xs →
+    (turns_left turns (guided_of p input turns gated).trace ≡ []) × (sync.over (guided_of p input turns gated).state.sync ≡ true)
+all_done p input turns gated xs h =
+    let g = guided_of p input turns gated in
+    none_left p g.trace g.state (turns_left turns g.trace) h.value (guided_exits p input turns gated h.value h.end).1
 
 pub all_turns : (p : NumberedProgram) (input : List ℤ) (turns : List Turn) (gated : List InstrId) (xs : List Step) → Exited (guided_of p input turns gated) xs → events xs ≡ turns
 all_turns p input turns gated xs h =
     let g = guided_of p input turns gated in
-    let none : turns_left turns g.trace ≡ [] = all_done p g.trace g.state (turns_left turns g.trace) h.value (guided_exits p input turns gated h.value h.end).1 in
-    ap events (sym h.steps) ∙ sym (append-nil (events g.trace)) ∙ ap (λ (l : List Turn). events g.trace ++ l) (sym none) ∙ (guided_permitted p input turns gated).in_order
+    ap events (sym h.steps) ∙ sym (append-nil (events g.trace)) ∙ ap (λ (l : List Turn). events g.trace ++ l) (sym (all_done p input turns gated xs h).0) ∙ (guided_permitted p input turns gated).in_order
 
+-- the owners of its events
 pub owners_events : (xs : List Step) → owners recorded xs ≡ owners_of (events xs)
 owners_events [] = refl
 owners_events (x ∷ xs) = go (happening_in x.kind) refl (owners_events xs)
