@@ -1,246 +1,96 @@
--- A permitted run of an admitted input that is unbroken falls into moves.
-use Rattle.std.proofs.Common.{◌≡◌, ◌≢◌, ℕ, ℤ, ◌⊎◌, ◌<◌, ◌≤◌, ◌^◌, ◌==◌, ◌++◌, zero, suc, Bool, true, false, cond, List, [], ◌∷◌, length, drop, arith, Option, Some, None, refl, sym, ap, ◌∙◌, subst, inl, inr, append_assoc}
-use Rattle.std.specs.Prelude.{is_some, slice_get, if◌then◌else◌}
+-- A permitted run of an admitted input that is unbroken falls into moves, and into the portions that these are.
 use Rattle.std.specs.List.{AllByRecursion as AllOf, list_any}
-use Rattle.std.proofs.lemmas.Bool.{cases_eq, eq-eqb, ne_eqb, true≢false}
+use Rattle.std.specs.Prelude.{if◌then◌else◌, is_some}
+use Rattle.std.proofs.Common.{◌++◌, ◌<◌, ◌==◌, ◌^◌, ◌∙◌, ◌∷◌, ◌≡◌, ◌≢◌, ◌≤◌, ◌⊎◌, Bool, List, None, Option, Some, [], ap, append_assoc, arith, drop, false, inl, inr, length, refl, subst, suc, sym, true, zero, ℕ, ℤ}
+use Rattle.std.proofs.lemmas.Bool.{cases_eq, eq-eqb, lt-ltb, ne_eqb, true≢false}
 use Rattle.std.proofs.lemmas.List.{length-append}
-use Rattle.std.proofs.lemmas.List.Sums.{sum_by-cons}
-use Rattle.pg_accesses.specs.Accesses.{RootedList}
-use Rattle.pg_ir.specs.declared.ids.InstrId.{InstrId}
-use Rattle.pg_ir.specs.Edges.{body_of}
-use Rattle.pg_mem.specs.Memory.{read}
-use Rattle.pg_mem.proofs.ReadsAndWrites.{read-small}
-use Rattle.pg_plans.specs.Cuts.{IsBelow, IsCut, Mark, kept, pending, whole}
-use Rattle.pg_plans.specs.Effects as plans
+use Rattle.pg_num.specs.declared.layout.TheConstants.{MEMORY_BYTES}
+use Rattle.pg_plans.specs.Cuts.{Mark}
 use Rattle.pg_plans.specs.Effects.{deeds, effect, effects}
-use Rattle.pg_plans.specs.Intervals.{Timed, did_of, done_after, times}
-use Rattle.pg_plans.specs.Plans.{Alike, Moves}
+use Rattle.pg_plans.specs.Effects as plans
+use Rattle.pg_plans.specs.Intervals.{Timed, done_after}
+use Rattle.pg_plans.specs.Plans.{Alike}
 use Rattle.pg_plans.proofs.Effects.{deed_refl, same_refl}
 use Rattle.pg_plans.proofs.Follows as follows
 use Rattle.pg_plans.proofs.Lists.{First, all_left, all_map, find}
-use Rattle.pg_plans.proofs.Places as places
+use Rattle.pg_ir.specs.Edges.{body_of}
+use Rattle.pg_mem.specs.Memory.{read}
+use Rattle.pg_mem.proofs.ReadsAndWrites.{read-small}
 use Rattle.pg_step.specs.LocalState.{Frame, LocalState}
+use Rattle.pg_trace.specs.Races.{recorded}
+use Rattle.pg_trace.specs.Steps.{access_in, event_of, happening_in}
 use Rattle.pg_trace.specs.declared.step.Step.{Step}
 use Rattle.pg_trace.specs.declared.step.StepKind.{StepKind}
 use Rattle.pg_trace.specs.declared.turn.Turn.{Turn}
-use Rattle.pg_trace.specs.Races.{recorded}
-use Rattle.pg_trace.specs.Steps.{event_of, happening_in}
-use Rattle.pg_machine.specs.MachineStep.{Did, ready, step}
+use Rattle.pg_accesses.specs.Accesses.{RootedList}
 use Rattle.pg_machine.specs.Runs.{IsRun, steps_of}
 use Rattle.pg_machine.specs.State.{State}
+use Rattle.pg_closed.specs.Closed.{IsClosed, admits}
+use Rattle.pg_closed.specs.Known.{Taken}
+use Rattle.pg_closed.specs.Moments.{thread_in}
 use Rattle.pg_effects.specs.Effect.{effect_of}
 use Rattle.pg_effects.specs.PermittedSteps.{PermittedSteps, one_more}
 use Rattle.pg_effects.specs.Reached.{IsReached}
 use Rattle.pg_effects.specs.Views.{begun_in, cell_at, local_at, objects_of, objects_with}
 use Rattle.pg_effects.proofs.Reaches.{reached_run, reached_step}
-use Rattle.pg_instances.specs.Inside.{Instance, IsAtJoin, IsInside, Joins}
-use Rattle.pg_instances.specs.Instances.{ChangesLittle}
-use Rattle.pg_instances.specs.Stays.{AreOf, CanStepInside, IsWithinExtent, StaysInside, TellsWithin}
-use Rattle.pg_instances.proofs.Alone.{inside_again}
-use Rattle.pg_instances.proofs.Instances.{has_instance}
+use Rattle.pg_instances.specs.Inside.{Instance, IsAtJoin}
+use Rattle.pg_instances.specs.Stays.{AreOf, IsWithinExtent}
 use Rattle.pg_instances.proofs.LeadsOut.{frames_of}
-use Rattle.pg_instances.proofs.Machine.{step_stays}
 use Rattle.pg_runs.specs.Deeds.{owners_of}
 use Rattle.pg_runs.proofs.Along.{left_behind}
 use Rattle.pg_runs.proofs.Deeds.{some_turn}
 use Rattle.pg_runs.proofs.Tells.{IsTold, told}
-use Rattle.pg_closed.specs.Closed.{IsClosed, admits}
-use Rattle.pg_closed.specs.Known.{Taken}
-use Rattle.pg_closed.specs.Moments.{thread_in}
-use Rattle.pg_units.specs.Fits.{IsAlikeFor, IsRemembered, PlanRemembers, StartsAreFresh, thread_before}
-use Rattle.pg_units.specs.Likes.{IsCellLike, IsThreadLike, MovedThread, PlanThread, like}
+use Rattle.pg_units.specs.Fits.{IsAlikeFor, PlanRemembers, StartsAreFresh}
+use Rattle.pg_units.specs.Likes.{MovedThread, like}
 use Rattle.pg_units.specs.Lists.{Has}
 use Rattle.pg_units.specs.Moves.{LooksTo, RunDeed, RunState, deed_moved, moved}
 use Rattle.pg_units.specs.Order.{IsOrderedRun}
-use Rattle.pg_units.specs.Units.{ExtentsArePlain, PlanDeed, PlanUnit, ReferenceRun, cell_known, deed_of, is_event_at, is_instance, plan_of, plan_start, reads_cell, reference_of, turns_of, units_of}
+use Rattle.pg_units.specs.Units.{ExtentsArePlain, PlanDeed, PlanUnit, ReferenceRun, is_instance, is_placed_in, plan_of, plan_start, reference_of, turns_of, units_of}
 use Rattle.pg_units.proofs.Along.{IsUnit, all_units}
 use Rattle.pg_units.proofs.AtUnits.{none_left_by}
 use Rattle.pg_units.proofs.Freed.{is_free}
 use Rattle.pg_units.proofs.Members.{all_has, has_any, has_right}
 use Rattle.pg_units.proofs.Moved.{moved_by, moves_lead}
-use Rattle.pg_units.proofs.Obeying.{Split, split}
 use Rattle.pg_units.proofs.Remembered.{no_if, yes_if}
 use Rattle.pg_units.proofs.Settled.{is_plan}
+use Rattle.pg_units.proofs.StepFits.{unit_writes}
 use Rattle.pg_units.proofs.Turns.{is_some_if}
-use Rattle.pg_sound.specs.Falls.{BeginWithMove, FallInto, IsStepOf}
+use Rattle.pg_sound.specs.Falls.{BeginWithMove, IsStepOf}
 use Rattle.pg_sound.specs.Free.{BeginsInstance, IsAnyMove, IsFreeMove, IsPartMove, IsSingleMove, IsWholeMove, JoinsAgain, StepsInside, UnitsJoinAgain, begun_instance, deed_along}
+use Rattle.pg_sound.specs.Invariant.{IsOfUnit, Portion, StandsInside, units_done}
 use Rattle.pg_sound.specs.Unbroken.{BeginsWith, IsUnbroken}
-use Rattle.pg_sound.proofs.Following.{obeys, one_unit}
+use Rattle.pg_sound.proofs.Following.{obeys}
 use Rattle.pg_sound.proofs.Inside.{IsLeft, begun_within, left_on, left_within}
-use Rattle.pg_sound.proofs.Stretch.{Halves, IsQuietStep, OwnFront, StretchLeaves, halves, no_turn, one_end, own_front, run_halves, run_of, stretch_leaves}
+use Rattle.pg_sound.proofs.Moving.{Falls, Left, Looks, StandsBehind, along_next, counted_next, in_next, left_next, mover, rests_alike, stand_free, stand_single, touches_within}
+use Rattle.pg_sound.proofs.Numbered.{one_unit}
+use Rattle.pg_sound.proofs.Opens.{AtMove, Keeps, Open, open_unit}
+use Rattle.pg_sound.proofs.Pieces.{Part, goes_on, none_there, part, steps_behind}
+use Rattle.pg_sound.proofs.Stretch.{Halves, IsQuietStep, OwnFront, StretchLeaves, halves, one_end, own_front, run_halves, run_of, stretch_leaves}
 use Rattle.pg_sound.proofs.Whole.{begun_some, joined_stands, quiet_event}
-
-abbrev mover : Option LocalState → ℕ → MovedThread
-mover l n = record { local = l; moves = n }
-
--- ---- behind a stretch
-
-steps_behind : (xs ys : List Step) → IsUnbroken (xs ++ ys) → IsUnbroken ys
-unfolding IsUnbroken
-steps_behind [] ys h = h
-steps_behind (x ∷ xs) ys h = steps_behind xs ys h.1
-
--- its thread goes on there, or takes no more steps
-goes_on : (t : ℕ) (x : Step) (xs ys : List Step) → AreOf t (x ∷ xs) → AllOf IsQuietStep (x ∷ xs) → IsUnbroken (x ∷ (xs ++ ys)) → BeginsWith t ys ⊎ (steps_of t ys ≡ 0)
-unfolding IsUnbroken
-goes_on t x [] ys own quiet h = subst (λ (u : ℕ). BeginsWith u ys ⊎ (steps_of u ys ≡ 0)) own.0 (h.0 (no_turn x quiet.0))
-goes_on t x (y ∷ xs) ys own quiet h = goes_on t y xs ys own.1 quiet.1 h.1
-
-none_there : (t : ℕ) (ys : List Step) (y : Step) → Has ys y → y.thread.0 ≡ t → steps_of t ys ≡ 0 → ⊥
-none_there t [] y h e n = h
-none_there t (x ∷ ys) y (inl q) e n =
-    let k = sum_by-cons (λ (z : Step). cond (z.thread.0 == t) 1 0) x ys in
-    let one : ◌≡◌ {A = ℕ} (cond (x.thread.0 == t) 1 0) 1 = ap (λ (b : Bool). cond b 1 0) (eq-eqb x.thread.0 t (ap (λ (z : Step). z.thread.0) q ∙ e)) in
-    absurd (omega (arith, k, one, n))
-none_there t (x ∷ ys) y (inr h) e n =
-    let k = sum_by-cons (λ (z : Step). cond (z.thread.0 == t) 1 0) x ys in
-    none_there t ys y h e (omega (arith, k, n))
-
--- ---- the instance at the front of steps of one thread, the first of which is x
-
-module _ (I : Instance) (gated : List InstrId) (input : List ℤ) where
-  record Part (t : ℕ) (s : State) (x : Step) (ys : List Step) : Type 0 where
-    inner : List Step
-    rest : List Step
-    parts : ys ≡ inner ++ rest
-    local : LocalState
-    state : State
-    is_local : slice_get state.locals t ≡ Some local
-    run : IsRun gated I.program input s (x ∷ inner) state
-    ends : IsAtJoin I local ⊎ ((rest ≡ []) × IsWithinExtent I local)
-    tells : AllOf (λ (y : Step). TellsWithin I y.kind) (x ∷ inner)
-    changes : ChangesLittle I t s state
-
-  little_then : (t : ℕ) (s v z : State) → ChangesLittle I t s v → ChangesLittle I t v z → ChangesLittle I t s z
-  little_then t s v z h k = record {
-    others = λ u ne. k.others u ne ∙ h.others u ne;
-    rest = record { sync = k.rest.sync ∙ h.rest.sync; words = k.rest.words ∙ h.rest.words; printed = k.rest.printed ∙ h.rest.printed; value = k.rest.value ∙ h.rest.value };
-    bytes = λ b lt o. k.bytes b lt o ∙ h.bytes b lt o;
-  }
-
-  part : (t : ℕ) (s z : State) (l : LocalState) (x : Step) (ys : List Step) → CanStepInside I gated s t l → IsRun gated I.program input s (x ∷ ys) z → AreOf t (x ∷ ys) → Part t s x ys
-  part t s z l x ys c run of = go j.goes_on
-    where
-      j : StaysInside I t l x s run.0.after
-      j = step_stays I gated input s run.0.after t l x c (subst (λ (u : ℕ). ready I.program s u ≡ true) of.0 run.0.is_ready) (subst (λ (u : ℕ). step gated I.program input s u ≡ Did x run.0.after) of.0 run.0.is_step)
-
-      here : ChangesLittle I t s run.0.after
-      here = record { others = j.others; rest = j.rest; bytes = j.bytes }
-
-      go : IsInside I j.local ⊎ Joins I l j.local → Part t s x ys
-      go (inr k) = record { inner = []; rest = ys; parts = refl; local = j.local; state = run.0.after; is_local = j.is_local; run = (run.0, refl); ends = inl k.there; tells = (j.tells, tt); changes = here }
-      go (inl i) =
-          let h = has_instance I gated input run.0.after z t j.local ys (inside_again I gated s run.0.after t l x c j i) run.1 of.1 in
-          record { inner = h.inner; rest = h.rest; parts = h.whole; local = h.local; state = h.state; is_local = h.is_local; run = (run.0, h.front); ends = h.ends; tells = (j.tells, h.tells); changes = little_then t s run.0.after h.state here h.changes }
-
--- ---- a run along the plan
 
 module _ (r : ReferenceRun) (d : Taken) (input : List ℤ) (sums : ℕ → Option RootedList) (turns : List Turn) (o : IsOrderedRun r) (plain : ExtentsArePlain r d) (fresh : StartsAreFresh r d) (remembers : PlanRemembers r d)
     (closed : IsClosed (reference_of r) d) (admitted : admits (reference_of r) d input ≡ true) (small : length input < 2 ^ 64) (same_turns : owners_of turns ≡ turns_of r) (again : UnitsJoinAgain r sums d)
     (begins : (u : PlanUnit) (a : RunState) (z : State) (c : ℕ → ℕ) → Has (units_of r d) u → is_instance d u.seen ≡ true → IsAlikeFor input d u a → LooksTo (thread_in u.seen.moment) a (moved z c) → IsReached r.program z → BeginsInstance r sums u z) where
-  abbrev Keeps : RunState → ℕ → Type 0
-  Keeps = follows.Holds (like input) (turns_of r) (plan_start r) (plan_of r d) (IsAnyMove r d input sums turns) (is_plan r d o closed plain) (obeys r d input sums turns o plain fresh remembers closed admitted small same_turns again)
-
-  -- a looks like s, but for threads that take none of these steps, and are left inside an instance
-  record Looks (xs : List Step) (a : RunState) (s : State) (c : ℕ → ℕ) : Type 0 where
-    locals : (t : ℕ) → (a.locals t ≡ (moved s c).locals t) ⊎ (IsLeft r.gated r.program t s × ((y : Step) → Has xs y → y.thread.0 ≡ t → ⊥))
-    cells : (b : ℕ) → a.cells b ≡ cell_at s b
-    objects : a.objects ≡ objects_of s
-
-  -- moves into which these steps fall, which lead to z, but for threads that are left inside an instance
-  pub record Falls (a : RunState) (g : ℕ) (xs : List Step) (z : State) : Type 0 where
-    pub moves : List RunDeed
-    pub are : Moves (IsAnyMove r d input sums turns) a g moves
-    pub fall : FallInto xs moves
-    pub counts : ℕ → ℕ
-    pub locals : (t : ℕ) → ((effects a moves).locals t ≡ (moved z counts).locals t) ⊎ IsLeft r.gated r.program t z
-    pub cells : (b : ℕ) → (effects a moves).cells b ≡ cell_at z b
-    pub objects : (effects a moves).objects ≡ objects_of z
-
-  -- ---- the first unit of a thread that isn't done
-
-  record Open (a : RunState) (t : ℕ) : Type 0 where
-    unit : PlanUnit
-    has : Has (units_of r d) unit
-    own : thread_in unit.seen.moment ≡ t
-    thread : IsThreadLike input (thread_before unit) (a.locals (thread_in unit.seen.moment))
-    free : is_instance d unit.seen ≡ true → IsAlikeFor input d unit a
-
-  module _ (a : RunState) (g : ℕ) (h : Keeps a g) (t : ℕ) (f : First deeds t h.cut.marks) where
-    is_whole : whole (f.before ++ pending f.step ∷ f.after) ≡ times deeds (turns_of r) 0 (plan_of r d)
-    is_whole = ap whole (sym f.parts) ∙ h.cut.is_whole
-
-    is_cut : IsCut deeds (f.before ++ pending f.step ∷ f.after)
-    is_cut = subst (IsCut deeds) f.parts h.cut.is_cut
-
-    below : IsBelow g (f.before ++ pending f.step ∷ f.after)
-    below = subst (IsBelow g) f.parts h.cut.below
-
-    alike : Alike (like input) (effects (plan_start r) (did_of (kept (f.before ++ pending f.step ∷ f.after)))) a
-    alike = subst (λ (l : List (Mark (Timed PlanDeed))). Alike (like input) (effects (plan_start r) (did_of (kept l))) a) f.parts h.cut.alike
-
-    earlier : AllOf (λ (m : Mark (Timed PlanDeed)). m.done ≡ false → m.step.did.thread ≢ f.step.did.thread) f.before
-    earlier = subst (λ (i : ℕ). AllOf (λ (m : Mark (Timed PlanDeed)). m.done ≡ false → m.step.did.thread ≢ i) f.before) (sym f.thread) f.earlier
-
-    cut : Split (deed_of d) (units_of r d) (did_of (whole f.before)) f.step.did
-    cut = split (deed_of d) (units_of r d) (did_of (whole f.before)) f.step.did (did_of (whole f.after))
-        (places.split (like input) (turns_of r) (plan_start r) (plan_of r d) (is_plan r d o closed plain) a g f.before f.after f.step is_whole is_cut below alike earlier)
-
-    has_unit : Has (units_of r d) cut.at
-    has_unit = subst (λ (l : List PlanUnit). Has l cut.at) (sym cut.is) (has_right cut.before (cut.at ∷ cut.after) cut.at (inl refl))
-
-    memory : IsRemembered r d cut.before cut.at
-    memory = remembers cut.before cut.at cut.after cut.is
-
-    unit_thread : IsThreadLike input (thread_before cut.at) (a.locals (thread_in cut.at.seen.moment))
-    unit_thread =
-        let t = thread_in cut.at.seen.moment in
-        let k = places.like_local (like input) (turns_of r) (plan_start r) (plan_of r d) (is_plan r d o closed plain) a g f.before f.after f.step is_whole is_cut below alike earlier in
-        subst (λ (l : PlanThread). IsThreadLike input l (a.locals t)) memory.thread
-        (subst (λ (l : List PlanDeed). IsThreadLike input ((effects (plan_start r) l).locals t) (a.locals t)) (sym cut.images)
-        (subst (λ (q : PlanDeed). IsThreadLike input ((effects (plan_start r) (did_of (whole f.before))).locals q.thread) (a.locals q.thread)) (sym cut.image) k))
-
-    module _ (free : is_instance d cut.at.seen ≡ true) where
-      unit_here : IsUnit r d cut.at
-      unit_here = all_has (IsUnit r d) (units_of r d) cut.at (all_units r d o) has_unit
-
-      no_event_at : is_event_at cut.at.seen ≡ false
-      no_event_at = ap (λ (k : StepKind). is_some (happening_in k)) (is_free (reference_of r) d cut.at.seen unit_here.met.region free).kind
-
-      no_event_did : deeds.is_event f.step.did ≡ false
-      no_event_did = sym (ap deeds.is_event cut.image) ∙ is_some_if (is_event_at cut.at.seen) cut.at.objects ∙ no_event_at
-
-      unit_cells : (b : ℕ) → reads_cell d cut.at.seen b ≡ true → IsCellLike input (cell_known cut.at.seen.before b) (a.cells b)
-      unit_cells b w =
-          let k = places.like_cell (like input) (turns_of r) (plan_start r) (plan_of r d) (is_plan r d o closed plain) a g f.before f.after f.step is_whole is_cut below alike earlier (λ e. absurd (true≢false (sym e ∙ no_event_did))) b (sym (ap (λ (q : PlanDeed). q.reads b) cut.image) ∙ w) in
-          subst (λ s. IsCellLike input s (a.cells b)) (memory.cells b)
-          (subst (λ (l : List PlanDeed). IsCellLike input ((effects (plan_start r) l).cells b) (a.cells b)) (sym cut.images) k)
-
-    open_unit : Open a t
-    open_unit = record {
-      unit = cut.at;
-      has = has_unit;
-      own = ap (λ (q : PlanDeed). q.thread) cut.image ∙ f.thread;
-      thread = unit_thread;
-      free = λ e. record { thread = unit_thread; cells = unit_cells e; objects = λ k. absurd (true≢false (sym k ∙ no_event_at e)) };
-    }
-
   -- ---- one move
 
-  module _ (n : ℕ) (x : Step) (xs : List Step) (le : length (x ∷ xs) ≤ suc n) (s z : State) (c taken : ℕ → ℕ) (a : RunState) (g : ℕ) (h : Keeps a g) (reached : IsReached r.program s) (looks : Looks (x ∷ xs) a s c)
+  module _ (at : ℕ → Option Portion) (n : ℕ) (x : Step) (xs : List Step) (le : length (x ∷ xs) ≤ suc n) (s z : State) (c taken : ℕ → ℕ) (a : RunState) (g : ℕ) (h : Keeps r d input sums turns o plain fresh remembers closed admitted small same_turns again a g) (reached : IsReached r.program s) (looks : Looks r d input sums turns at (x ∷ xs) a s c)
       (permitted : PermittedSteps r.gated r.program input s (drop g turns) taken (x ∷ xs) z) (unbroken : IsUnbroken (x ∷ xs))
-      (more : (ys : List Step) → length ys ≤ n → (v w : State) (m k : ℕ → ℕ) (b : RunState) (i : ℕ) → Keeps b i → IsReached r.program v → Looks ys b v m → PermittedSteps r.gated r.program input v (drop i turns) k ys w → IsUnbroken ys → Falls b i ys w)
-      (q : Open a x.thread.0) where
+      (more : (within : ℕ → Option Portion) (ys : List Step) → length ys ≤ n → (v w : State) (m k : ℕ → ℕ) (b : RunState) (i : ℕ) → Keeps r d input sums turns o plain fresh remembers closed admitted small same_turns again b i → IsReached r.program v → Looks r d input sums turns within ys b v m → PermittedSteps r.gated r.program input v (drop i turns) k ys w → IsUnbroken ys → Falls r d input sums turns within v b i ys w)
+      (q : Open r d input sums turns o plain fresh remembers closed admitted small same_turns again a g x.thread.0) where
     -- the thread of the first step looks as it is
     looks_own : a.locals x.thread.0 ≡ (moved s c).locals x.thread.0
     looks_own = go (looks.locals x.thread.0)
       where
-        go : (a.locals x.thread.0 ≡ (moved s c).locals x.thread.0) ⊎ (IsLeft r.gated r.program x.thread.0 s × ((y : Step) → Has (x ∷ xs) y → y.thread.0 ≡ x.thread.0 → ⊥)) → a.locals x.thread.0 ≡ (moved s c).locals x.thread.0
+        go : (a.locals x.thread.0 ≡ (moved s c).locals x.thread.0) ⊎ (IsLeft r.gated r.program x.thread.0 s × (Left r d input sums turns (at x.thread.0) x.thread.0 s × ((y : Step) → Has (x ∷ xs) y → y.thread.0 ≡ x.thread.0 → ⊥))) → a.locals x.thread.0 ≡ (moved s c).locals x.thread.0
         go (inl e) = e
-        go (inr k) = absurd (k.1 x (inl refl) refl)
+        go (inr k) = absurd (k.1.1 x (inl refl) refl)
 
     looks_to : (t : ℕ) → t ≡ x.thread.0 → LooksTo t a (moved s c)
     looks_to t e = record { locals = λ v k. subst (λ (i : ℕ). a.locals i ≡ (moved s c).locals i) (sym (k ∙ e)) looks_own; cells = looks.cells; objects = looks.objects }
+
+    -- the portion of each thread, if it is left inside of one, behind this move
+    abbrev next : Option Portion → ℕ → Option Portion
+    next p t = in_next r d input sums turns at x s z c a q.unit q.own q.thread looks_own looks.cells looks.objects p t
 
     -- a single step
     module _ (one : is_instance d q.unit.seen ≡ false) where
@@ -250,7 +100,7 @@ module _ (r : ReferenceRun) (d : Taken) (input : List ℤ) (sums : ℕ → Optio
       single_move : IsSingleMove r d input turns a g (deed_moved r.program input s c x)
       single_move = record {
         move = record { state = s; moves = c; taken = taken; reached = reached; told = x; looks = looks_to x.thread.0 refl; may = permitted.0; is_deed = deed_refl (deed_moved r.program input s c x) };
-        single = λ u has t k. subst (λ (v : PlanUnit). is_instance d v.seen ≡ false) (one_unit r d _ _ _ q.unit u q.has has (q.own ∙ sym t) (sym q.thread.moves ∙ ap (λ (i : ℕ). (a.locals i).moves) q.own ∙ sym k)) one;
+        single = λ u has t k. subst (λ (v : PlanUnit). is_instance d v.seen ≡ false) (one_unit r d q.unit u q.has has (q.own ∙ sym t) (sym q.thread.moves ∙ ap (λ (i : ℕ). (a.locals i).moves) q.own ∙ sym k)) one;
       }
 
       lead : (m : ℕ → ℕ) × plans.Same (effect (moved s taken) (deed_moved r.program input s taken x)) (moved permitted.0.takes.after m)
@@ -263,25 +113,25 @@ module _ (r : ReferenceRun) (d : Taken) (input : List ℤ) (sums : ℕ → Optio
       other_local : (u : ℕ) → (u ≡ x.thread.0 → ⊥) → local_at s u ≡ local_at permitted.0.takes.after u
       other_local u k = ap (λ (l : MovedThread). l.local) (sym (no_if (u == x.thread.0) (deed_moved r.program input s taken x).to ((moved s taken).locals u) (ne_eqb u x.thread.0 k)) ∙ lead.1.locals u)
 
-      holds_after : Keeps (effect a (deed_moved r.program input s c x)) (done_after (deeds.is_event (deed_moved r.program input s c x)) g)
+      holds_after : Keeps r d input sums turns o plain fresh remembers closed admitted small same_turns again (effect a (deed_moved r.program input s c x)) (done_after (deeds.is_event (deed_moved r.program input s c x)) g)
       holds_after = (follows.step_follows (like input) (turns_of r) (plan_start r) (plan_of r d) (IsAnyMove r d input sums turns) (is_plan r d o closed plain) (obeys r d input sums turns o plain fresh remembers closed admitted small same_turns again) a g (deed_moved r.program input s c x) h (inl single_move)).holds
 
-      looks_after : Looks xs (effect a (deed_moved r.program input s c x)) permitted.0.takes.after (one_more x.thread.0 c)
+      looks_after : Looks r d input sums turns (next None) xs (effect a (deed_moved r.program input s c x)) permitted.0.takes.after (one_more x.thread.0 c)
       looks_after = record {
         locals = λ u. local_is u (cases_eq u x.thread.0) (looks.locals u);
         cells = λ b. ap (plans.or_old (e.writes b)) (looks.cells b) ∙ lead.1.cells b;
         objects = ap (plans.or_old e.objects) looks.objects ∙ lead.1.objects;
       }
         where
-          local_is : (u : ℕ) → (u ≡ x.thread.0) ⊎ (u ≡ x.thread.0 → ⊥) → (a.locals u ≡ (moved s c).locals u) ⊎ (IsLeft r.gated r.program u s × ((y : Step) → Has (x ∷ xs) y → y.thread.0 ≡ u → ⊥)) →
-              ((if u == x.thread.0 then e.to else a.locals u) ≡ (moved permitted.0.takes.after (one_more x.thread.0 c)).locals u) ⊎ (IsLeft r.gated r.program u permitted.0.takes.after × ((y : Step) → Has xs y → y.thread.0 ≡ u → ⊥))
+          local_is : (u : ℕ) → (u ≡ x.thread.0) ⊎ (u ≡ x.thread.0 → ⊥) → (a.locals u ≡ (moved s c).locals u) ⊎ (IsLeft r.gated r.program u s × (Left r d input sums turns (at u) u s × ((y : Step) → Has (x ∷ xs) y → y.thread.0 ≡ u → ⊥))) →
+              ((if u == x.thread.0 then e.to else a.locals u) ≡ (moved permitted.0.takes.after (one_more x.thread.0 c)).locals u) ⊎ (IsLeft r.gated r.program u permitted.0.takes.after × (Left r d input sums turns (next None u) u permitted.0.takes.after × ((y : Step) → Has xs y → y.thread.0 ≡ u → ⊥)))
           local_is u (inl w) k = inl (yes_if (u == x.thread.0) e.to (a.locals u) (eq-eqb u x.thread.0 w)
               ∙ ap (λ (l : Option LocalState). mover l (suc (c x.thread.0))) (own_local u w)
               ∙ ap (mover (local_at permitted.0.takes.after u)) (ap (λ (i : ℕ). suc (c i)) (sym w) ∙ sym (yes_if (x.thread.0 == u) (suc (c u)) (c u) (eq-eqb x.thread.0 u (sym w)))))
           local_is u (inr ne) (inl k) = inl (no_if (u == x.thread.0) e.to (a.locals u) (ne_eqb u x.thread.0 ne) ∙ k
               ∙ ap (λ (l : Option LocalState). mover l (c u)) (other_local u ne)
               ∙ ap (mover (local_at permitted.0.takes.after u)) (sym (no_if (x.thread.0 == u) (suc (c u)) (c u) (ne_eqb x.thread.0 u (λ w. ne (sym w))))))
-          local_is u (inr ne) (inr k) = inr (left_on r.gated r.program u s permitted.0.takes.after k.0 (other_local u ne), λ y h w. k.1 y (inr h) w)
+          local_is u (inr ne) (inr k) = inr (left_on r.gated r.program u s permitted.0.takes.after k.0 (other_local u ne), (left_next r d input sums turns at x s z c a q.unit q.own q.thread looks_own looks.cells looks.objects None u permitted.0.takes.after ne (other_local u ne) k.1.0, λ y h w. k.1.1 y (inr h) w))
 
       permitted_after : PermittedSteps r.gated r.program input permitted.0.takes.after (drop (done_after (deeds.is_event (deed_moved r.program input s c x)) g) turns) (one_more x.thread.0 taken) xs z
       permitted_after = subst (λ (us : List Turn). PermittedSteps r.gated r.program input permitted.0.takes.after us (one_more x.thread.0 taken) xs z)
@@ -307,12 +157,48 @@ module _ (r : ReferenceRun) (d : Taken) (input : List ℤ) (sums : ℕ → Optio
       unfolding IsUnbroken
       tail_unbroken = unbroken.1
 
-      falls_single : Falls a g (x ∷ xs) z
+      at_move : AtMove r d input q.unit a (deed_moved r.program input s c x)
+      at_move = q.move (deed_moved r.program input s c x) (inl single_move) refl
+
+      abbrev one_portion : Portion
+      one_portion = record { unit = q.unit; state = s; step = x; inner = [] }
+
+      of_unit : IsOfUnit r d input sums one_portion
+      unfolding begin_single
+      of_unit = record {
+        has = q.has;
+        rests = rests_alike r d input sums turns at x s z c a q.unit q.own q.thread looks_own looks.cells looks.objects at_move.alike;
+        told = at_move.fits.told;
+        touches = touches_within input d q.unit (deed_moved r.program input s c x) at_move.fits (x ∷ []) begin_single.steps;
+        placed = λ p. record {
+          single = refl;
+          writes = λ b lt w. sym (told_here.writes b lt) ∙ unit_writes r d input o plain small closed admitted q.unit q.has fresh one turns a g (deed_moved r.program input s c x) single_move.move at_move.alike (sym q.own) p b (lt-ltb b MEMORY_BYTES lt) w;
+        };
+        single = λ e. refl;
+        inside = λ e. absurd (true≢false (sym e ∙ one));
+      }
+
+      falls_single : Falls r d input sums turns at s a g (x ∷ xs) z
       unfolding begin_single
       falls_single =
-          let k = more xs (omega (arith, le)) permitted.0.takes.after z (one_more x.thread.0 c) (one_more x.thread.0 taken) (effect a e) (done_after (deeds.is_event e) g) holds_after
+          let k = more (next None) xs (omega (arith, le)) permitted.0.takes.after z (one_more x.thread.0 c) (one_more x.thread.0 taken) (effect a e) (done_after (deeds.is_event e) g) holds_after
           (reached_step r.gated r.program input s permitted.0.takes.after x.thread.0 x o.can.program small reached permitted.0.takes.is_ready permitted.0.takes.is_step) looks_after permitted_after tail_unbroken in
-          record { moves = e ∷ k.moves; are = (inl single_move, k.are); fall = (begin_single, k.fall); counts = k.counts; locals = k.locals; cells = k.cells; objects = k.objects }
+          record {
+            moves = e ∷ k.moves;
+            are = (inl single_move, k.are);
+            fall = (begin_single, k.fall);
+            counts = k.counts;
+            locals = k.locals;
+            cells = k.cells;
+            objects = k.objects;
+            portions = one_portion ∷ k.portions;
+            whole = ap (λ (l : List Step). x ∷ l) k.whole;
+            chained = (refl, (permitted.0.takes.after, (permitted.0.takes, refl), k.chained));
+            each = (of_unit, k.each);
+            along = along_next r d input sums turns at x s z c a q.unit q.own q.thread looks_own looks.cells looks.objects one_portion refl (deed_moved r.program input s c x) refl refl at_move.turn k.portions k.along;
+            counted = counted_next r d input sums turns at x s z c a q.unit q.own q.thread looks_own looks.cells looks.objects (deed_moved r.program input s c x) refl refl k.moves (units_done k.portions) k.counted;
+            stand = λ t. stand_single r d input sums turns at x s z c a q.unit q.own q.thread looks_own looks.cells looks.objects one_portion refl k.portions (effects (effect a (deed_moved r.program input s c x)) k.moves) t (k.stand t);
+          }
 
     -- an instance, whole or a part of it
     module _ (free : is_instance d q.unit.seen ≡ true) where
@@ -380,15 +266,21 @@ module _ (r : ReferenceRun) (d : Taken) (input : List ℤ) (sums : ℕ → Optio
       shorter : length (here.rest ++ front.behind) ≤ n
       shorter = let k = ap length xs_are in let l = length-append here.inner (here.rest ++ front.behind) in omega (arith, le, k, l)
 
-      module _ (local : LocalState) (there : (Some local ≡ local_at here.state x.thread.0) ⊎ (IsLeft r.gated r.program x.thread.0 here.state × ((y : Step) → Has (here.rest ++ front.behind) y → y.thread.0 ≡ x.thread.0 → ⊥)))
+      abbrev portion : Portion
+      portion = record { unit = q.unit; state = s; step = x; inner = here.inner }
+
+      unit_is : IsUnit r d q.unit
+      unit_is = all_has (IsUnit r d) (units_of r d) q.unit (all_units r d o) q.has
+
+      module _ (local : LocalState) (there : (Some local ≡ local_at here.state x.thread.0) ⊎ (IsLeft r.gated r.program x.thread.0 here.state × (StandsInside r d sums portion x.thread.0 here.state × ((y : Step) → Has (here.rest ++ front.behind) y → y.thread.0 ≡ x.thread.0 → ⊥))))
           (is_move : IsWholeMove r input sums turns q.unit a g (deed_along c x here.inner here.state (Some local)) ⊎ IsPartMove r input sums turns q.unit a g (deed_along c x here.inner here.state (Some local))) where
         free_move : IsFreeMove r d input sums turns a g (deed_along c x here.inner here.state (Some local))
         free_move = record { unit = q.unit; has = q.has; free = free; move = is_move; units = q.thread.moves; thread = sym q.own }
 
-        holds_behind : Keeps (effect a (deed_along c x here.inner here.state (Some local))) g
+        holds_behind : Keeps r d input sums turns o plain fresh remembers closed admitted small same_turns again (effect a (deed_along c x here.inner here.state (Some local))) g
         holds_behind = (follows.step_follows (like input) (turns_of r) (plan_start r) (plan_of r d) (IsAnyMove r d input sums turns) (is_plan r d o closed plain) (obeys r d input sums turns o plain fresh remembers closed admitted small same_turns again) a g (deed_along c x here.inner here.state (Some local)) h (inr free_move)).holds
 
-        looks_behind : Looks (here.rest ++ front.behind) (effect a (deed_along c x here.inner here.state (Some local))) here.state (one_more x.thread.0 c)
+        looks_behind : Looks r d input sums turns (next (Some portion)) (here.rest ++ front.behind) (effect a (deed_along c x here.inner here.state (Some local))) here.state (one_more x.thread.0 c)
         looks_behind = record {
           locals = λ u. local_is u (cases_eq u x.thread.0) there (looks.locals u);
           cells = λ b. cell_is b (list_any (λ y. recorded.writes y b) (x ∷ here.inner)) refl;
@@ -399,20 +291,23 @@ module _ (r : ReferenceRun) (d : Taken) (input : List ℤ) (sums : ℕ → Optio
             cell_is b true w = refl
             cell_is b false w = looks.cells b ∙ sym (leaves.cells b w)
 
-            local_is : (u : ℕ) → (u ≡ x.thread.0) ⊎ (u ≡ x.thread.0 → ⊥) → (Some local ≡ local_at here.state x.thread.0) ⊎ (IsLeft r.gated r.program x.thread.0 here.state × ((y : Step) → Has (here.rest ++ front.behind) y → y.thread.0 ≡ x.thread.0 → ⊥)) →
-                (a.locals u ≡ (moved s c).locals u) ⊎ (IsLeft r.gated r.program u s × ((y : Step) → Has (x ∷ xs) y → y.thread.0 ≡ u → ⊥)) →
+            local_is : (u : ℕ) → (u ≡ x.thread.0) ⊎ (u ≡ x.thread.0 → ⊥) → (Some local ≡ local_at here.state x.thread.0) ⊎ (IsLeft r.gated r.program x.thread.0 here.state × (StandsInside r d sums portion x.thread.0 here.state × ((y : Step) → Has (here.rest ++ front.behind) y → y.thread.0 ≡ x.thread.0 → ⊥))) →
+                (a.locals u ≡ (moved s c).locals u) ⊎ (IsLeft r.gated r.program u s × (Left r d input sums turns (at u) u s × ((y : Step) → Has (x ∷ xs) y → y.thread.0 ≡ u → ⊥))) →
                 ((if u == x.thread.0 then (deed_along c x here.inner here.state (Some local)).to else a.locals u) ≡ (moved here.state (one_more x.thread.0 c)).locals u)
-                ⊎ (IsLeft r.gated r.program u here.state × ((y : Step) → Has (here.rest ++ front.behind) y → y.thread.0 ≡ u → ⊥))
+                ⊎ (IsLeft r.gated r.program u here.state × (Left r d input sums turns (next (Some portion) u) u here.state × ((y : Step) → Has (here.rest ++ front.behind) y → y.thread.0 ≡ u → ⊥)))
             local_is u (inl e) (inl t) k = inl (yes_if (u == x.thread.0) (deed_along c x here.inner here.state (Some local)).to (a.locals u) (eq-eqb u x.thread.0 e)
                 ∙ ap (λ (l : Option LocalState). mover l (suc (c x.thread.0))) (t ∙ ap (local_at here.state) (sym e))
                 ∙ ap (mover (local_at here.state u)) (ap (λ (i : ℕ). suc (c i)) (sym e) ∙ sym (yes_if (x.thread.0 == u) (suc (c u)) (c u) (eq-eqb x.thread.0 u (sym e)))))
-            local_is u (inl e) (inr t) k = inr (subst (λ (i : ℕ). IsLeft r.gated r.program i here.state) (sym e) t.0, λ y h w. t.1 y h (w ∙ e))
+            local_is u (inl e) (inr t) k = inr (subst (λ (i : ℕ). IsLeft r.gated r.program i here.state) (sym e) t.0, (subst (λ (p : Option Portion). Left r d input sums turns p u here.state) (sym (yes_if (u == x.thread.0) (Some portion) (at u) (eq-eqb u x.thread.0 e))) (subst (λ (i : ℕ). StandsInside r d sums portion i here.state) (sym e) t.1.0), λ y h w. t.1.1 y h (w ∙ e)))
             local_is u (inr ne) t (inl k) = inl (no_if (u == x.thread.0) (deed_along c x here.inner here.state (Some local)).to (a.locals u) (ne_eqb u x.thread.0 ne) ∙ k
                 ∙ ap (λ (l : Option LocalState). mover l (c u)) (sym (leaves.locals u (λ w. ne (w ∙ q.own))))
                 ∙ ap (mover (local_at here.state u)) (sym (no_if (x.thread.0 == u) (suc (c u)) (c u) (ne_eqb x.thread.0 u (λ w. ne (sym w))))))
             local_is u (inr ne) t (inr k) = inr (
               left_on r.gated r.program u s here.state k.0 (sym (leaves.locals u (λ w. ne (w ∙ q.own)))),
-              λ y h w. k.1 y (inr (subst (λ (l : List Step). Has l y) (sym xs_are) (has_right here.inner (here.rest ++ front.behind) y h))) w,
+              (
+                left_next r d input sums turns at x s z c a q.unit q.own q.thread looks_own looks.cells looks.objects (Some portion) u here.state ne (sym (leaves.locals u (λ w. ne (w ∙ q.own)))) k.1.0,
+                λ y h w. k.1.1 y (inr (subst (λ (l : List Step). Has l y) (sym xs_are) (has_right here.inner (here.rest ++ front.behind) y h))) w,
+              ),
             )
 
         begin_free : BeginWithMove (deed_along c x here.inner here.state (Some local)) (x ∷ xs)
@@ -439,11 +334,41 @@ module _ (r : ReferenceRun) (d : Taken) (input : List ℤ) (sums : ℕ → Optio
               each_step zs (λ v k. f v (inr k)) w.1,
             )
 
-        falls_free : Falls a g (x ∷ xs) z
+        at_free : AtMove r d input q.unit a (deed_along c x here.inner here.state (Some local))
+        at_free = q.move (deed_along c x here.inner here.state (Some local)) (inr free_move) refl
+
+        of_free : IsOfUnit r d input sums portion
+        unfolding begin_free
+        of_free = record {
+          has = q.has;
+          rests = rests_alike r d input sums turns at x s z c a q.unit q.own q.thread looks_own looks.cells looks.objects (q.free free);
+          told = at_free.fits.told;
+          touches = touches_within input d q.unit (deed_along c x here.inner here.state (Some local)) at_free.fits (x ∷ here.inner) begin_free.steps;
+          placed = λ p. absurd (true≢false (sym p ∙ ap (λ (k : StepKind). is_placed_in d q.unit.seen.number (access_in k)) (is_free (reference_of r) d q.unit.seen unit_is.met.region free).kind));
+          single = λ e. absurd (true≢false (sym free ∙ e));
+          inside = λ e. record { begun = begun; own = own; tells = here.tells };
+        }
+
+        falls_free : Falls r d input sums turns at s a g (x ∷ xs) z
         unfolding begin_free
         falls_free =
-            let k = more (here.rest ++ front.behind) shorter here.state z (one_more x.thread.0 c) cut_run.counts' (effect a (deed_along c x here.inner here.state (Some local))) g holds_behind reached_behind looks_behind permitted_behind (steps_behind (x ∷ here.inner) (here.rest ++ front.behind) unbroken_all) in
-            record { moves = deed_along c x here.inner here.state (Some local) ∷ k.moves; are = (inr free_move, k.are); fall = (begin_free, k.fall); counts = k.counts; locals = k.locals; cells = k.cells; objects = k.objects }
+            let k = more (next (Some portion)) (here.rest ++ front.behind) shorter here.state z (one_more x.thread.0 c) cut_run.counts' (effect a (deed_along c x here.inner here.state (Some local))) g holds_behind reached_behind looks_behind permitted_behind (steps_behind (x ∷ here.inner) (here.rest ++ front.behind) unbroken_all) in
+            record {
+              moves = deed_along c x here.inner here.state (Some local) ∷ k.moves;
+              are = (inr free_move, k.are);
+              fall = (begin_free, k.fall);
+              counts = k.counts;
+              locals = k.locals;
+              cells = k.cells;
+              objects = k.objects;
+              portions = portion ∷ k.portions;
+              whole = ap (λ (l : List Step). x ∷ (here.inner ++ l)) k.whole ∙ ap (λ (l : List Step). x ∷ l) (sym xs_are);
+              chained = (refl, (here.state, here.run, k.chained));
+              each = (of_free, k.each);
+              along = along_next r d input sums turns at x s z c a q.unit q.own q.thread looks_own looks.cells looks.objects portion refl (deed_along c x here.inner here.state (Some local)) refl refl at_free.turn k.portions k.along;
+              counted = counted_next r d input sums turns at x s z c a q.unit q.own q.thread looks_own looks.cells looks.objects (deed_along c x here.inner here.state (Some local)) refl refl k.moves (units_done k.portions) k.counted;
+              stand = λ t. stand_free r d input sums turns at x s z c a q.unit q.own q.thread looks_own looks.cells looks.objects portion refl k.portions (effects (effect a (deed_along c x here.inner here.state (Some local))) k.moves) t (k.stand t);
+            }
 
       -- the branch's frame, moved to the join
       abbrev fake_frame : Frame
@@ -466,20 +391,23 @@ module _ (r : ReferenceRun) (d : Taken) (input : List ℤ) (sums : ℕ → Optio
       joins_again : JoinsAgain r sums q.unit
       joins_again = all_has (λ (v : PlanUnit). is_instance d v.seen ≡ true → JoinsAgain r sums v) (units_of r d) q.unit again q.has free
 
-      unit_is : IsUnit r d q.unit
-      unit_is = all_has (IsUnit r d) (units_of r d) q.unit (all_units r d o) q.has
-
-      falls_whole : IsAtJoin I here.local → Falls a g (x ∷ xs) z
+      falls_whole : IsAtJoin I here.local → Falls r d input sums turns at s a g (x ∷ xs) z
       falls_whole joined = falls_free here.local (inl (sym (ap (local_at here.state) (sym q.own) ∙ ap begun_in here.is_local ∙ begun_some here.local joined.begun)))
           (inl (record { steps = inside; local = here.local; is_local = here.is_local; joined = joined; is_deed = deed_refl (deed_along c x here.inner here.state (Some here.local)) }))
 
-      falls_part : here.rest ≡ [] → IsWithinExtent I here.local → Falls a g (x ∷ xs) z
-      falls_part none within = falls_free fake (inr (subst (λ (i : ℕ). IsLeft r.gated r.program i here.state) q.own left, λ y k e. gone y k e))
+      falls_part : here.rest ≡ [] → IsWithinExtent I here.local → Falls r d input sums turns at s a g (x ∷ xs) z
+      falls_part none within = falls_free fake (inr (subst (λ (i : ℕ). IsLeft r.gated r.program i here.state) q.own left, (still_inside, λ y k e. gone y k e)))
           (inr (record { steps = inside; local = fake; stands = joined_stands r d input sums turns q.unit unit_is free a g inside (q.free free) fake fake_joined refl joins_again; is_deed = deed_refl (deed_along c x here.inner here.state (Some fake)) }))
         where
+          begun_here : local_at here.state (thread_in q.unit.seen.moment) ≡ Some here.local
+          begun_here = ap begun_in here.is_local ∙ begun_some here.local (begun_within I r.gated (read s.memory) here.local begun.can.branch begun.can.gates begun.can.cells (λ k. read-small s.memory k) within)
+
+          still_inside : StandsInside r d sums portion x.thread.0 here.state
+          still_inside = record { own = q.own; free = free; begun = begun; local = here.local; is_local = ap (local_at here.state) (sym q.own) ∙ begun_here; within = within }
+
           left : IsLeft r.gated r.program (thread_in q.unit.seen.moment) here.state
           left = left_within I r.gated (read s.memory) here.local begun.can.branch begun.can.gates begun.can.cells (λ k. read-small s.memory k) within (thread_in q.unit.seen.moment) here.state
-              (ap begun_in here.is_local ∙ begun_some here.local (begun_within I r.gated (read s.memory) here.local begun.can.branch begun.can.gates begun.can.cells (λ k. read-small s.memory k) within))
+              begun_here
               (frames_of r.program here.state (thread_in q.unit.seen.moment) here.local reached_behind here.is_local)
 
           behind_is : here.rest ++ front.behind ≡ front.behind
@@ -492,24 +420,24 @@ module _ (r : ReferenceRun) (d : Taken) (input : List ℤ) (sums : ℕ → Optio
               by (inl b) = front.stops (subst (BeginsWith (thread_in q.unit.seen.moment)) behind_is b)
               by (inr m) = none_there (thread_in q.unit.seen.moment) (here.rest ++ front.behind) y k (e ∙ sym q.own) m
 
-      falls_instance : Falls a g (x ∷ xs) z
+      falls_instance : Falls r d input sums turns at s a g (x ∷ xs) z
       falls_instance = by here.ends
         where
-          by : IsAtJoin I here.local ⊎ ((here.rest ≡ []) × IsWithinExtent I here.local) → Falls a g (x ∷ xs) z
+          by : IsAtJoin I here.local ⊎ ((here.rest ≡ []) × IsWithinExtent I here.local) → Falls r d input sums turns at s a g (x ∷ xs) z
           by (inl joined) = falls_whole joined
           by (inr k) = falls_part k.0 k.1
 
-    falls_one : Falls a g (x ∷ xs) z
+    falls_one : Falls r d input sums turns at s a g (x ∷ xs) z
     falls_one = by (is_instance d q.unit.seen) refl
       where
-        by : (b : Bool) → is_instance d q.unit.seen ≡ b → Falls a g (x ∷ xs) z
+        by : (b : Bool) → is_instance d q.unit.seen ≡ b → Falls r d input sums turns at s a g (x ∷ xs) z
         by true e = falls_instance e
         by false e = falls_single e
 
   -- ---- the run
 
-  falls : (n : ℕ) (xs : List Step) → length xs ≤ n → (s z : State) (c taken : ℕ → ℕ) (a : RunState) (g : ℕ) → Keeps a g → IsReached r.program s → Looks xs a s c → PermittedSteps r.gated r.program input s (drop g turns) taken xs z → IsUnbroken xs → Falls a g xs z
-  falls n [] le s z c taken a g h reached looks permitted unbroken = record {
+  falls : (at : ℕ → Option Portion) (n : ℕ) (xs : List Step) → length xs ≤ n → (s z : State) (c taken : ℕ → ℕ) (a : RunState) (g : ℕ) → Keeps r d input sums turns o plain fresh remembers closed admitted small same_turns again a g → IsReached r.program s → Looks r d input sums turns at xs a s c → PermittedSteps r.gated r.program input s (drop g turns) taken xs z → IsUnbroken xs → Falls r d input sums turns at s a g xs z
+  falls at n [] le s z c taken a g h reached looks permitted unbroken = record {
     moves = [];
     are = tt;
     fall = refl;
@@ -517,21 +445,32 @@ module _ (r : ReferenceRun) (d : Taken) (input : List ℤ) (sums : ℕ → Optio
     locals = λ t. by t (looks.locals t);
     cells = λ b. looks.cells b ∙ ap (λ (v : State). cell_at v b) permitted;
     objects = looks.objects ∙ ap objects_of permitted;
+    portions = [];
+    whole = refl;
+    chained = permitted;
+    each = tt;
+    along = tt;
+    stand = λ t. stand t (looks.locals t);
+    counted = λ t. refl;
   }
     where
-      by : (t : ℕ) → (a.locals t ≡ (moved s c).locals t) ⊎ (IsLeft r.gated r.program t s × ((y : Step) → Has [] y → y.thread.0 ≡ t → ⊥)) → (a.locals t ≡ (moved z c).locals t) ⊎ IsLeft r.gated r.program t z
+      stand : (t : ℕ) → (a.locals t ≡ (moved s c).locals t) ⊎ (IsLeft r.gated r.program t s × (Left r d input sums turns (at t) t s × ((y : Step) → Has [] y → y.thread.0 ≡ t → ⊥))) → StandsBehind r d input sums turns (at t) [] a z t
+      stand t (inl e) = inl (ap (λ (l : MovedThread). l.local) e ∙ ap (λ (v : State). local_at v t) permitted)
+      stand t (inr k) = inr (inl (subst (Left r d input sums turns (at t) t) permitted k.1.0, tt))
+
+      by : (t : ℕ) → (a.locals t ≡ (moved s c).locals t) ⊎ (IsLeft r.gated r.program t s × (Left r d input sums turns (at t) t s × ((y : Step) → Has [] y → y.thread.0 ≡ t → ⊥))) → (a.locals t ≡ (moved z c).locals t) ⊎ IsLeft r.gated r.program t z
       by t (inl e) = inl (e ∙ ap (λ (v : State). (moved v c).locals t) permitted)
       by t (inr k) = inr (subst (IsLeft r.gated r.program t) permitted k.0)
-  falls zero (x ∷ xs) le s z c taken a g h reached looks permitted unbroken = absurd (omega (arith, le))
-  falls (suc n) (x ∷ xs) le s z c taken a g h reached looks permitted unbroken = by (find deeds x.thread.0 h.cut.marks) (λ ys k v w m i b j. falls n ys k v w m i b j)
+  falls at zero (x ∷ xs) le s z c taken a g h reached looks permitted unbroken = absurd (omega (arith, le))
+  falls at (suc n) (x ∷ xs) le s z c taken a g h reached looks permitted unbroken = by (find deeds x.thread.0 h.cut.marks) (λ l ys k v w m i b j. falls l n ys k v w m i b j)
     where
       by : AllOf (λ (m : Mark (Timed PlanDeed)). m.done ≡ false → m.step.did.thread ≢ x.thread.0) h.cut.marks ⊎ First deeds x.thread.0 h.cut.marks →
-          ((ys : List Step) → length ys ≤ n → (v w : State) (m k : ℕ → ℕ) (b : RunState) (i : ℕ) → Keeps b i → IsReached r.program v → Looks ys b v m → PermittedSteps r.gated r.program input v (drop i turns) k ys w → IsUnbroken ys → Falls b i ys w) → Falls a g (x ∷ xs) z
+          ((within : ℕ → Option Portion) (ys : List Step) → length ys ≤ n → (v w : State) (m k : ℕ → ℕ) (b : RunState) (i : ℕ) → Keeps r d input sums turns o plain fresh remembers closed admitted small same_turns again b i → IsReached r.program v → Looks r d input sums turns within ys b v m → PermittedSteps r.gated r.program input v (drop i turns) k ys w → IsUnbroken ys → Falls r d input sums turns within v b i ys w) → Falls r d input sums turns at s a g (x ∷ xs) z
       by (inl none) more = absurd (none_left_by r d input turns o plain fresh remembers closed admitted small same_turns x.thread.0 g permitted.0.owner
           (follows.no_turn_left (like input) (turns_of r) (plan_start r) (plan_of r d) (IsAnyMove r d input sums turns) (is_plan r d o closed plain) (obeys r d input sums turns o plain fresh remembers closed admitted small same_turns again) a g h x.thread.0 none))
-      by (inr f) more = falls_one n x xs le s z c taken a g h reached looks permitted unbroken more (open_unit a g h x.thread.0 f)
+      by (inr f) more = falls_one at n x xs le s z c taken a g h reached looks permitted unbroken more (open_unit r d input sums turns o plain fresh remembers closed admitted small same_turns again a g h x.thread.0 f)
 
-  pub run_falls : (xs : List Step) (s z : State) (a : RunState) (c taken : ℕ → ℕ) → Alike (like input) (plan_start r) a → IsReached r.program s → plans.Same a (moved s c) → PermittedSteps r.gated r.program input s turns taken xs z → IsUnbroken xs → Falls a 0 xs z
-  run_falls xs s z a c taken alike reached same permitted unbroken = falls (length xs) xs (let k : length xs ≤ length xs = omega arith in k) s z c taken a 0
+  pub run_falls : (xs : List Step) (s z : State) (a : RunState) (c taken : ℕ → ℕ) → Alike (like input) (plan_start r) a → IsReached r.program s → plans.Same a (moved s c) → PermittedSteps r.gated r.program input s turns taken xs z → IsUnbroken xs → Falls r d input sums turns (λ t. None) s a 0 xs z
+  run_falls xs s z a c taken alike reached same permitted unbroken = falls (λ t. None) (length xs) xs (let k : length xs ≤ length xs = omega arith in k) s z c taken a 0
       (follows.at_start (like input) (turns_of r) (plan_start r) (plan_of r d) (IsAnyMove r d input sums turns) (is_plan r d o closed plain) (obeys r d input sums turns o plain fresh remembers closed admitted small same_turns again) a alike)
       reached (record { locals = λ t. inl (same.locals t); cells = same.cells; objects = same.objects }) permitted unbroken

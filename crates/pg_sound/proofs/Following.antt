@@ -1,8 +1,7 @@
 -- A run of moves, of single steps and of whole instances, follows the plan.
-use Rattle.std.proofs.Common.{◌≡◌, ℕ, ℤ, ◌⊎◌, ◌<◌, ◌≤◌, ◌^◌, ◌==◌, ◌++◌, suc, Bool, true, false, List, [], ◌∷◌, length, map, drop, arith, Option, Some, None, refl, sym, ap, ◌∙◌, subst, inl, inr}
-use Rattle.std.specs.Prelude.{is_some, slice_get, if◌then◌else◌}
-use Rattle.std.specs.List.{AllByRecursion as AllOf}
-use Rattle.std.proofs.lemmas.Bool.{eq-eqb, true≢false}
+use Rattle.std.proofs.Common.{◌≡◌, ℕ, ℤ, ◌⊎◌, ◌<◌, ◌≤◌, ◌^◌, ◌++◌, true, false, List, ◌∷◌, length, map, drop, Option, Some, None, refl, sym, ap, ◌∙◌, subst, inl, inr}
+use Rattle.std.specs.Prelude.{is_some, slice_get}
+use Rattle.std.proofs.lemmas.Bool.{true≢false}
 use Rattle.pg_accesses.specs.Accesses.{RootedList}
 use Rattle.pg_plans.specs.Effects.{deeds, effects}
 use Rattle.pg_plans.specs.Intervals.{turns_done, times}
@@ -12,8 +11,6 @@ use Rattle.pg_trace.specs.declared.step.StepKind.{StepKind}
 use Rattle.pg_trace.specs.declared.turn.Turn.{Turn}
 use Rattle.pg_trace.specs.Steps.{happening_in}
 use Rattle.pg_machine.specs.Permitted.{has_turn}
-use Rattle.pg_machine.specs.State.{State}
-use Rattle.pg_effects.specs.PermittedSteps.{one_more}
 use Rattle.pg_runs.specs.Deeds.{owners_of}
 use Rattle.pg_closed.specs.Closed.{IsClosed, admits}
 use Rattle.pg_closed.specs.Known.{Taken}
@@ -23,68 +20,17 @@ use Rattle.pg_units.specs.Likes.{IsCellLike, IsThreadLike, PlanThread, like}
 use Rattle.pg_units.specs.Lists.{Has}
 use Rattle.pg_units.specs.Moves.{RunDeed, RunState}
 use Rattle.pg_units.specs.Order.{IsOrderedRun}
-use Rattle.pg_units.specs.Units.{ExtentsArePlain, Met, PlanDeed, PlanUnit, ReferenceRun, deed_of, is_event_at, is_instance, plan_of, plan_start, reads_cell, reference_of, turns_of, unit_of, units_from, units_of}
+use Rattle.pg_units.specs.Units.{ExtentsArePlain, PlanDeed, PlanUnit, ReferenceRun, deed_of, is_event_at, is_instance, plan_of, plan_start, reads_cell, reference_of, turns_of, units_of}
 use Rattle.pg_units.proofs.Along.{IsUnit, all_units}
 use Rattle.pg_units.proofs.AtUnits.{fits_at, kind_at, none_left, none_left_by, turn_at_move}
 use Rattle.pg_units.proofs.Freed.{is_free}
 use Rattle.pg_units.proofs.Members.{all_has, has_right}
 use Rattle.pg_units.proofs.Obeying.{split}
-use Rattle.pg_units.proofs.Remembered.{yes_if}
 use Rattle.pg_units.proofs.Settled.{is_plan}
 use Rattle.pg_units.proofs.Turns.{is_some_if}
 use Rattle.pg_sound.specs.Free.{IsAnyMove, IsFreeMove, IsPartMove, IsSingleMove, IsWholeMove, JoinsAgain, UnitsJoinAgain}
+use Rattle.pg_sound.proofs.Numbered.{one_unit}
 use Rattle.pg_sound.proofs.Whole.{part_fits, whole_fits}
-
--- ---- the number of a unit among its thread's
-
-less : (b : Bool) (k n : ℕ) → (if b then suc k else k) ≤ n → k ≤ n
-less true k n h = omega (arith, h)
-less false k n h = h
-
-module _ (r : ReferenceRun) (d : Taken) where
-  fewer : (t : ℕ) (counts : ℕ → ℕ) (us : List PlanUnit) → AllOf (λ (u : PlanUnit). one_more t counts (thread_in u.seen.moment) ≤ u.units) us → AllOf (λ (u : PlanUnit). counts (thread_in u.seen.moment) ≤ u.units) us
-  fewer t counts [] h = tt
-  fewer t counts (u ∷ us) h = (less (t == thread_in u.seen.moment) (counts (thread_in u.seen.moment)) u.units h.0, fewer t counts us h.1)
-
-  at_least : (last : State) (counts : ℕ → ℕ) (ms : List Met) → AllOf (λ (u : PlanUnit). counts (thread_in u.seen.moment) ≤ u.units) (units_from r d last counts ms)
-  unfolding units_from
-  at_least last counts [] = tt
-  at_least last counts (m ∷ ms) = go m.seen.live (λ counts. at_least last counts ms)
-    where
-      go : (b : Bool) → ((counts : ℕ → ℕ) → AllOf (λ (u : PlanUnit). counts (thread_in u.seen.moment) ≤ u.units) (units_from r d last counts ms)) →
-          AllOf (λ (u : PlanUnit). counts (thread_in u.seen.moment) ≤ u.units) (if b then unit_of r d last counts m ms ∷ units_from r d last (one_more (thread_in m.seen.moment) counts) ms else units_from r d last counts ms)
-      go true more = ((let k : counts (thread_in m.seen.moment) ≤ counts (thread_in m.seen.moment) = omega arith in k), fewer (thread_in m.seen.moment) counts (units_from r d last (one_more (thread_in m.seen.moment) counts) ms) (more (one_more (thread_in m.seen.moment) counts)))
-      go false more = more counts
-
-  clash : (t : ℕ) (counts : ℕ → ℕ) (v : PlanUnit) → one_more t counts (thread_in v.seen.moment) ≤ v.units → thread_in v.seen.moment ≡ t → v.units ≡ counts t → ⊥
-  clash t counts v h e n =
-      let k : one_more t counts (thread_in v.seen.moment) ≡ suc (counts t) = ap (one_more t counts) e ∙ yes_if (t == t) (suc (counts t)) (counts t) (eq-eqb t t refl) in
-      absurd (omega (arith, h, n, k))
-
-  pub one_unit : (last : State) (counts : ℕ → ℕ) (ms : List Met) (u v : PlanUnit) → Has (units_from r d last counts ms) u → Has (units_from r d last counts ms) v → thread_in u.seen.moment ≡ thread_in v.seen.moment → u.units ≡ v.units → u ≡ v
-  unfolding units_from
-  one_unit last counts [] u v a b e n = absurd a
-  one_unit last counts (m ∷ ms) u v a b e n = go m.seen.live (λ counts x y. one_unit last counts ms u v x y e n) (λ counts. at_least last counts ms) a b
-    where
-      t : ℕ
-      t = thread_in m.seen.moment
-
-      both : ((counts : ℕ → ℕ) → Has (units_from r d last counts ms) u → Has (units_from r d last counts ms) v → u ≡ v) → ((counts : ℕ → ℕ) → AllOf (λ (u : PlanUnit). counts (thread_in u.seen.moment) ≤ u.units) (units_from r d last counts ms)) →
-          (unit_of r d last counts m ms ≡ u) ⊎ Has (units_from r d last (one_more (thread_in m.seen.moment) counts) ms) u → (unit_of r d last counts m ms ≡ v) ⊎ Has (units_from r d last (one_more (thread_in m.seen.moment) counts) ms) v → u ≡ v
-      both more least (inl x) (inl y) = sym x ∙ y
-      both more least (inl x) (inr y) =
-          absurd (clash (thread_in m.seen.moment) counts v (all_has (λ (w : PlanUnit). one_more (thread_in m.seen.moment) counts (thread_in w.seen.moment) ≤ w.units) (units_from r d last (one_more (thread_in m.seen.moment) counts) ms) v (least (one_more (thread_in m.seen.moment) counts)) y)
-          (sym e ∙ ap (λ (w : PlanUnit). thread_in w.seen.moment) (sym x)) (sym n ∙ ap (λ (w : PlanUnit). w.units) (sym x)))
-      both more least (inr x) (inl y) =
-          absurd (clash (thread_in m.seen.moment) counts u (all_has (λ (w : PlanUnit). one_more (thread_in m.seen.moment) counts (thread_in w.seen.moment) ≤ w.units) (units_from r d last (one_more (thread_in m.seen.moment) counts) ms) u (least (one_more (thread_in m.seen.moment) counts)) x)
-          (e ∙ ap (λ (w : PlanUnit). thread_in w.seen.moment) (sym y)) (n ∙ ap (λ (w : PlanUnit). w.units) (sym y)))
-      both more least (inr x) (inr y) = more (one_more (thread_in m.seen.moment) counts) x y
-
-      go : (b : Bool) → ((counts : ℕ → ℕ) → Has (units_from r d last counts ms) u → Has (units_from r d last counts ms) v → u ≡ v) → ((counts : ℕ → ℕ) → AllOf (λ (u : PlanUnit). counts (thread_in u.seen.moment) ≤ u.units) (units_from r d last counts ms)) →
-          Has (if b then unit_of r d last counts m ms ∷ units_from r d last (one_more (thread_in m.seen.moment) counts) ms else units_from r d last counts ms) u →
-          Has (if b then unit_of r d last counts m ms ∷ units_from r d last (one_more (thread_in m.seen.moment) counts) ms else units_from r d last counts ms) v → u ≡ v
-      go true more least a b = both more least a b
-      go false more least a b = more counts a b
 
 -- ---- moves of instances
 
@@ -123,7 +69,7 @@ module _ (r : ReferenceRun) (d : Taken) (input : List ℤ) (sums : ℕ → Optio
     same_unit : (m : IsFreeMove r d input sums turns s g e) → m.unit ≡ u
     same_unit m =
         let t : thread_in m.unit.seen.moment ≡ thread_in u.seen.moment = sym m.thread ∙ mine in
-        one_unit r d _ _ _ m.unit u m.has has t (sym m.units ∙ ap (λ (i : ℕ). (s.locals i).moves) t ∙ thread.moves)
+        one_unit r d m.unit u m.has has t (sym m.units ∙ ap (λ (i : ℕ). (s.locals i).moves) t ∙ thread.moves)
 
     free : IsFreeMove r d input sums turns s g e → is_instance d u.seen ≡ true
     free m = subst (λ (v : PlanUnit). is_instance d v.seen ≡ true) (same_unit m) m.free

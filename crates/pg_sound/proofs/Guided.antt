@@ -66,7 +66,7 @@ use Rattle.pg_sound.proofs.Ordering.{falls_answers, falls_ordered}
 use Rattle.pg_sound.proofs.Read.{paths_are_read}
 use Rattle.pg_sound.proofs.Recorded.{ordered_run, over_last, own, plain, same_owners}
 use Rattle.pg_sound.proofs.Turns as turns
-use Rattle.pg_sound.proofs.Turns.{answers_length}
+use Rattle.pg_sound.proofs.Asks.{answers_length}
 use Rattle.pg_sound.proofs.Unbroken.{full_unbroken}
 
 module _ (p : NumberedProgram) (recorded_input input : List ℤ) (s : Schedule) (sums : ℕ → Option RootedList) (regions : Regions) (xs : List Step) (d : Taken) (k : IsRecording p recorded_input s sums regions xs) (q : Admits p recorded_input s regions xs d input) where

@@ -1,71 +1,68 @@
 -- On an admitted input the owner of the next turn does it, or doesn't come so far.
-use Rattle.std.proofs.Common.{◌<◌, ◌^◌, ◌≡◌, ◌≢◌, ℕ, ℤ, ◌⊎◌, ◌≤◌, ◌+◌, zero, suc, Bool, true, false, cond, List, [], ◌∷◌, ◌++◌, length, map, drop, take, Option, Some, None, refl, sym, ap, ◌∙◌, subst, arith, inl, inr}
 use Rattle.std.specs.List.{AllByRecursion as AllOf, filter}
-use Rattle.std.specs.Prelude.{◌&&◌, if◌then◌else◌, is_some, slice_get}
+use Rattle.std.specs.Prelude.{◌&&◌, is_some, slice_get}
+use Rattle.std.proofs.Common.{◌++◌, ◌+◌, ◌<◌, ◌^◌, ◌∙◌, ◌∷◌, ◌≡◌, ◌≢◌, ◌⊎◌, Bool, List, None, Option, Some, [], ap, arith, cond, drop, false, inl, inr, length, map, refl, subst, sym, take, true, ℕ, ℤ}
 use Rattle.std.proofs.lemmas.Bool.{true≢false}
-use Rattle.std.proofs.lemmas.List.{length-append}
 use Rattle.std.proofs.lemmas.Option.{slice_get_within}
 use Rattle.pg_plans.specs.Cuts.{IsBelow, IsCut, Mark, kept, pending, whole}
 use Rattle.pg_plans.specs.Effects.{deeds, effects}
-use Rattle.pg_plans.specs.Intervals.{Timed, did_of, done_after, turns_done, times}
+use Rattle.pg_plans.specs.Intervals.{Timed, did_of, times, turns_done}
 use Rattle.pg_plans.specs.Plans.{Alike}
 use Rattle.pg_plans.proofs.Cuts as cuts
-use Rattle.pg_plans.proofs.Effects.{objects_part, same_refl}
+use Rattle.pg_plans.proofs.Effects.{objects_part}
 use Rattle.pg_plans.proofs.Firsts.{OpenEvent, find_event, first_chosen, none_behind, same_chosen}
-use Rattle.pg_plans.proofs.Follows as follows
 use Rattle.pg_plans.proofs.Follows.{Stands}
-use Rattle.pg_plans.proofs.Lists.{First, cons_head, cons_tail, did_append, find, whole_append}
+use Rattle.pg_plans.proofs.Follows as follows
+use Rattle.pg_plans.proofs.Lists.{First, did_append, find, whole_append}
 use Rattle.pg_plans.proofs.Places as places
-use Rattle.pg_plans.proofs.Times.{did_times}
-use Rattle.pg_step.specs.LocalState.{Frame, LocalState, fresh}
-use Rattle.pg_step.specs.Step.{frames_action, next as next_action}
-use Rattle.pg_step.specs.States.{CanStep}
-use Rattle.pg_step.specs.declared.action.Action.{Action}
-use Rattle.pg_step.specs.declared.action.Action.TheVariants as actions
-use Rattle.pg_ir.specs.declared.ids.InstrId.{InstrId}
 use Rattle.pg_ir.specs.declared.request.Request.{Request}
-use Rattle.pg_ir.specs.declared.request.Request.TheVariants as requests
-use Rattle.pg_ir.specs.Program.{NumberedProgram}
+use Rattle.pg_mem.specs.Memory.{read}
+use Rattle.pg_mem.proofs.ReadsAndWrites.{read-small}
 use Rattle.pg_sync.specs.Sync as sync
-use Rattle.pg_trace.specs.declared.step.Step.{Step}
-use Rattle.pg_trace.specs.declared.turn.Turn.{Turn}
+use Rattle.pg_step.specs.LocalState.{LocalState, fresh}
+use Rattle.pg_step.specs.States.{CanStep}
+use Rattle.pg_step.specs.declared.action.Action.TheVariants as actions
 use Rattle.pg_trace.specs.Steps.{event_of, events, happening_in}
-use Rattle.pg_machine.specs.declared.guided_end.GuidedEnd.TheVariants as ends
-use Rattle.pg_machine.specs.Guided.{cannot_go, guided_of, is_turn}
-use Rattle.pg_machine.specs.MachineStep.{happening_of, is_ended, may_act, trap_of, turn_of, turn_with}
+use Rattle.pg_trace.specs.declared.step.Step.{Step}
+use Rattle.pg_trace.specs.declared.step.StepKind.{StepKind}
+use Rattle.pg_trace.specs.declared.turn.Turn.{Turn}
+use Rattle.pg_accesses.specs.Accesses.{RootedList}
+use Rattle.pg_machine.specs.Guided.{GuidedRun, cannot_go, guided_of, is_turn}
+use Rattle.pg_machine.specs.MachineStep.{is_ended, may_act, trap_of, turn_of}
 use Rattle.pg_machine.specs.Permitted.{IsPermitted, turns_left}
 use Rattle.pg_machine.specs.Runs.{Takes}
-use Rattle.pg_machine.specs.State.{State, action_in, initial, next_of}
+use Rattle.pg_machine.specs.State.{State, initial, next_of}
+use Rattle.pg_machine.specs.declared.guided_end.GuidedEnd.TheVariants as ends
 use Rattle.pg_machine.proofs.Asks.{next_is, ready_acts}
 use Rattle.pg_machine.proofs.GuidedPermitted.{guided_permitted}
 use Rattle.pg_machine.proofs.GuidedRuns.{guided_is, turn_is_itself}
+use Rattle.pg_closed.specs.Closed.{IsClosed, admits}
+use Rattle.pg_closed.specs.Known.{Taken, fresh_registers, thread_of}
+use Rattle.pg_closed.specs.Moments.{thread_in}
 use Rattle.pg_effects.specs.PermittedSteps.{none_taken}
 use Rattle.pg_effects.specs.Reached.{IsReached}
 use Rattle.pg_effects.specs.Views.{Objects, begun_in, cell_at, local_at, objects_of}
 use Rattle.pg_effects.proofs.Along.{is_going}
-use Rattle.pg_effects.proofs.Few.{IsAllowed, did_allowed}
-use Rattle.pg_effects.proofs.Permits.{permitted_is}
-use Rattle.pg_effects.proofs.Reaches.{reached_first, reached_run}
+use Rattle.pg_effects.proofs.Few.{did_allowed}
 use Rattle.pg_effects.proofs.Threads.{event_is}
+use Rattle.pg_instances.proofs.LeadsOut.{frames_of}
 use Rattle.pg_runs.specs.Deeds.{local_event, local_goes, local_granted, owners_of}
 use Rattle.pg_runs.proofs.Deeds.{event_seen, get_behind, goes_by, some_turn}
 use Rattle.pg_runs.proofs.Maximal.{not_ended}
 use Rattle.pg_runs.proofs.Rules.{Steps, looks, none_granted, steps_by}
-use Rattle.pg_closed.specs.Known.{Taken, fresh_registers, thread_of}
-use Rattle.pg_closed.specs.Moments.{thread_in}
 use Rattle.pg_units.specs.Answered.{Answered, answers}
 use Rattle.pg_units.specs.Fits.{IsAlikeFor, IsRemembered, thread_before}
 use Rattle.pg_units.specs.Likes.{IsCellLike, IsThreadLike, MovedThread, PlanThread, StandLike, like}
 use Rattle.pg_units.specs.Lists.{Has}
 use Rattle.pg_units.specs.Moves.{LooksTo, RunDeed, RunState, moved}
 use Rattle.pg_units.specs.Order.{IsOrderedRun}
-use Rattle.pg_units.specs.Units.{PlanDeed, PlanUnit, ReferenceRun, cell_known, deed_of, is_event_at, is_instance, plan_of, plan_start, reads_cell, reference_of, standing_of, turns_of, units_of}
+use Rattle.pg_units.specs.Units.{ExtentsArePlain, PlanDeed, PlanUnit, ReferenceRun, cell_known, deed_of, is_event_at, is_instance, plan_of, plan_start, reads_cell, reference_of, standing_of, turns_of, units_of}
 use Rattle.pg_units.proofs.Along.{IsUnit}
-use Rattle.pg_units.proofs.Begins.{begins_alike}
 use Rattle.pg_units.proofs.Counted as counted
 use Rattle.pg_units.proofs.Dispatch.{both_fits}
 use Rattle.pg_units.proofs.EventKinds.{events_alike}
 use Rattle.pg_units.proofs.Facing as facing
+use Rattle.pg_units.proofs.Freed.{is_free}
 use Rattle.pg_units.proofs.Good.{IsGood}
 use Rattle.pg_units.proofs.Granted.{may_here, open_here, unchecked_here}
 use Rattle.pg_units.proofs.Here.{running}
@@ -74,132 +71,22 @@ use Rattle.pg_units.proofs.Made.{starts_are_fresh}
 use Rattle.pg_units.proofs.Members.{all_has, has_right}
 use Rattle.pg_units.proofs.Obeying.{Split, split}
 use Rattle.pg_units.proofs.Opened.{Beginning, Both, opened}
-use Rattle.pg_units.proofs.Remembered.{plan_leaves, plan_remembers}
-use Rattle.pg_units.proofs.Replies.{answered_turns, fit_answers, map_join, plan_answer, plan_answers, run_answer}
+use Rattle.pg_units.proofs.Remembered.{plan_remembers}
+use Rattle.pg_units.proofs.Replies.{answered_turns, map_join, plan_answer}
 use Rattle.pg_units.proofs.Settled.{is_plan}
 use Rattle.pg_units.proofs.Starts.{start_fits}
 use Rattle.pg_units.proofs.StepFits.{good_at, unit_at, words_at}
-use Rattle.pg_units.proofs.Freed.{is_free}
 use Rattle.pg_units.proofs.Stuck.{IsStuck, StuckAt, guided_strays}
 use Rattle.pg_units.proofs.Turns.{is_some_if}
-use Rattle.pg_machine.specs.Guided.{GuidedRun}
-use Rattle.pg_accesses.specs.Accesses.{RootedList}
-use Rattle.pg_mem.specs.Memory.{read}
-use Rattle.pg_mem.proofs.ReadsAndWrites.{read-small}
-use Rattle.pg_trace.specs.declared.step.StepKind.{StepKind}
-use Rattle.pg_instances.proofs.LeadsOut.{frames_of}
-use Rattle.pg_closed.specs.Closed.{IsClosed, admits}
-use Rattle.pg_units.specs.Units.{ExtentsArePlain}
 use Rattle.pg_sound.specs.Free.{BeginsInstance, IsAnyMove, UnitsJoinAgain, begun_instance}
 use Rattle.pg_sound.specs.Unbroken.{IsUnbroken}
-use Rattle.pg_sound.proofs.Falling.{Falls, run_falls}
-use Rattle.pg_sound.proofs.Following.{moves_follow, obeys}
+use Rattle.pg_sound.proofs.Asks.{allowed_by, asks_turn, can_by, front_length, front_whole, longer, same_head, slice_of, waiting_asks}
+use Rattle.pg_sound.proofs.Ends as ended
+use Rattle.pg_sound.proofs.Following.{obeys}
 use Rattle.pg_sound.proofs.Inside.{IsLeft, begun_within, left_within}
-use Rattle.pg_sound.proofs.Ordering.{falls_answers}
+use Rattle.pg_sound.proofs.Moving.{Falls}
 use Rattle.pg_sound.proofs.Unbroken.{guided_unbroken}
 use Rattle.pg_sound.proofs.Whole.{begun_some}
-
--- ---- lists
-
-same_head : {A : Type 0} (xs : List A) (a b : A) (ys zs : List A) → xs ++ a ∷ ys ≡ xs ++ b ∷ zs → a ≡ b
-same_head [] a b ys zs e = cons_head e
-same_head (x ∷ xs) a b ys zs e = same_head xs a b ys zs (cons_tail e)
-
-longer : {A : Type 0} (xs : List A) (a : A) (ys : List A) → xs ≡ xs ++ a ∷ ys → ⊥
-longer xs a ys e = let k = ap length e in let l = length-append xs (a ∷ ys) in absurd (omega (arith, k, l))
-
-owners_length : (us : List Turn) → length (owners_of us) ≡ length us
-owners_length [] = refl
-owners_length (u ∷ us) = ap suc (owners_length us)
-
-front_whole : (n : ℕ) (us : List Turn) → drop n us ≡ [] → take n us ≡ us
-front_whole zero us e = sym e
-front_whole (suc n) [] e = refl
-front_whole (suc n) (u ∷ us) e = ap (λ (l : List Turn). u ∷ l) (front_whole n us e)
-
-front_length : (n : ℕ) (us : List Turn) (v : Turn) (vs : List Turn) → drop n us ≡ v ∷ vs → length (take n us) ≡ n
-front_length zero us v vs e = refl
-front_length (suc n) [] v vs e = absurd cc
-front_length (suc n) (u ∷ us) v vs e = ap suc (front_length n us v vs e)
-
--- an action that neither traps nor has ended
-can_by : (s : State) (t : ℕ) (a : Action) → is_ended a ≡ false → trap_of s t a ≡ None → CanStep a
-can_by s t actions.Ended o e = absurd (true≢false o)
-can_by s t (actions.Trap name) o e = absurd cc
-can_by s t actions.Local o e = tt
-can_by s t (actions.In i) o e = tt
-can_by s t actions.InLen o e = tt
-can_by s t (actions.Load r) o e = tt
-can_by s t (actions.Store r n) o e = tt
-can_by s t (actions.Event r) o e = tt
-
-allowed_by : (s : State) (t : ℕ) (a : Action) → trap_of s t a ≡ None → IsAllowed s t a
-allowed_by s t (actions.Event r) e = e
-allowed_by s t (actions.Trap name) e = absurd cc
-allowed_by s t actions.Ended e = tt
-allowed_by s t actions.Local e = tt
-allowed_by s t (actions.In i) e = tt
-allowed_by s t actions.InLen e = tt
-allowed_by s t (actions.Load r) e = tt
-allowed_by s t (actions.Store r n) e = tt
-
--- a thread that hasn't begun asks to start, and no check fails at that
-check_start : (s : State) (t : ℕ) → sync.check s.sync t requests.Start ≡ None
-unfolding sync.check
-check_start s t = refl
-
-asks_start : (p : NumberedProgram) (l : LocalState) (q : Request) → l.begun ≡ false → next_action p l ≡ actions.Event q → requests.Start ≡ q
-unfolding next_action
-asks_start p l q b e = by l.begun l.frames b e
-  where
-    by : (b : Bool) (fs : List Frame) → b ≡ false → frames_action p l b fs ≡ actions.Event q → requests.Start ≡ q
-    by b [] k h = absurd cc
-    by false (f ∷ fs) k h = cc
-    by true (f ∷ fs) k h = absurd (true≢false k)
-
-no_local : (l : LocalState) (b : Bool) → Path (Option LocalState) (if b then Some l else None) None → b ≡ false
-no_local l true e = absurd cc
-no_local l false e = refl
-
-waiting_asks : (p : NumberedProgram) (s : State) (t : ℕ) (q : Request) → local_at s t ≡ None → next_of p s t ≡ actions.Event q → sync.check s.sync t q ≡ None
-unfolding next_of
-waiting_asks p s t q n e = go (slice_get s.locals t) n e
-  where
-    go : (o : Option LocalState) → begun_in o ≡ None → action_in p o ≡ actions.Event q → sync.check s.sync t q ≡ None
-    go None n e = absurd cc
-    go (Some l) n e = subst (λ (z : Request). sync.check s.sync t z ≡ None) (asks_start p l q (no_local l l.begun n) e) (check_start s t)
-
--- what asks is a turn
-asks_turn : (gated : List InstrId) (p : NumberedProgram) (s : State) (t : ℕ) (q : Request) → next_of p s t ≡ actions.Event q → is_some (turn_of gated p s t) ≡ true
-unfolding turn_of
-asks_turn gated p s t q e = ap (λ (a : Action). is_some (turn_with s t (happening_of gated s t a))) e
-
--- ---- numbers of turns
-
-map_length : {A B : Type 0} (f : A → B) (xs : List A) → length (map f xs) ≡ length xs
-map_length f [] = refl
-map_length f (x ∷ xs) = ap suc (map_length f xs)
-
-pub answers_length : (xs : List Step) → length (answers xs) ≡ length (events xs)
-answers_length xs = sym (map_length (λ (a : Answered). a.turn) (answers xs)) ∙ ap length (answered_turns xs) ∙ map_length (λ (u : Turn). Some u) (events xs)
-
-count_turns : (k : ℕ) (es : List RunDeed) → turns_done deeds k es ≡ k + length (filter deeds.is_event es)
-count_turns k [] = omega arith
-count_turns k (e ∷ es) = go (deeds.is_event e) refl (λ j. count_turns j es)
-  where
-    go : (b : Bool) → deeds.is_event e ≡ b → ((j : ℕ) → turns_done deeds j es ≡ j + length (filter deeds.is_event es)) → turns_done deeds k (e ∷ es) ≡ k + length (filter deeds.is_event (e ∷ es))
-    go true v more =
-        ap (λ (b : Bool). turns_done deeds (done_after b k) es) v ∙ more (suc k) ∙ (let n : suc k + length (filter deeds.is_event es) ≡ k + suc (length (filter deeds.is_event es)) = omega arith in n)
-        ∙ ap (λ (b : Bool). k + length (cond b (e ∷ filter deeds.is_event es) (filter deeds.is_event es))) (sym v)
-    go false v more = ap (λ (b : Bool). turns_done deeds (done_after b k) es) v ∙ more k ∙ ap (λ (b : Bool). k + length (cond b (e ∷ filter deeds.is_event es) (filter deeds.is_event es))) (sym v)
-
-slice_of : (o : Option LocalState) (l : LocalState) → begun_in o ≡ Some l → o ≡ Some l
-slice_of None l e = absurd cc
-slice_of (Some k) l e = go k.begun e
-  where
-    go : (b : Bool) → Path (Option LocalState) (if b then Some k else None) (Some l) → Path (Option LocalState) (Some k) (Some l)
-    go true h = h
-    go false h = absurd cc
 
 -- ---- an unbroken permitted run on an admitted input
 
@@ -210,8 +97,12 @@ module _ (r : ReferenceRun) (d : Taken) (input : List ℤ) (sums : ℕ → Optio
   abbrev first : RunState
   first = moved (initial r.program) none_taken
 
-  fallen : Falls r d input sums turns o plain (starts_are_fresh r d o plain) (plan_remembers r d o plain) closed admitted small same_turns again begins first 0 xs z
-  fallen = run_falls r d input sums turns o plain (starts_are_fresh r d o plain) (plan_remembers r d o plain) closed admitted small same_turns again begins xs (initial r.program) z first none_taken none_taken (begins_alike r o input) (reached_first r.program o.can.program o.can.bytes) (same_refl first) ((permitted_is r.program input turns r.gated xs z).0 h) unbroken
+  abbrev fallen : Falls r d input sums turns (λ t. None) (initial r.program) first 0 xs z
+  fallen = ended.fallen r d input sums turns o plain closed admitted small same_turns again own_turns over begins xs z h unbroken
+
+  abbrev stands : Stands (like input) (turns_of r) (plan_start r) (plan_of r d) (IsAnyMove r d input sums turns) (is_plan r d o closed plain)
+      (obeys r d input sums turns o plain (starts_are_fresh r d o plain) (plan_remembers r d o plain) closed admitted small same_turns again) (effects first fallen.moves) (turns_done deeds 0 fallen.moves) fallen.moves (times deeds (turns_of r) 0 fallen.moves)
+  stands = ended.stands r d input sums turns o plain closed admitted small same_turns again own_turns over begins xs z h unbroken
 
   abbrev ds : List RunDeed
   ds = fallen.moves
@@ -219,52 +110,29 @@ module _ (r : ReferenceRun) (d : Taken) (input : List ℤ) (sums : ℕ → Optio
   abbrev g : ℕ
   g = turns_done deeds 0 fallen.moves
 
-  stands : Stands (like input) (turns_of r) (plan_start r) (plan_of r d) (IsAnyMove r d input sums turns) (is_plan r d o closed plain)
-      (obeys r d input sums turns o plain (starts_are_fresh r d o plain) (plan_remembers r d o plain) closed admitted small same_turns again) (effects first fallen.moves) (turns_done deeds 0 fallen.moves) fallen.moves (times deeds (turns_of r) 0 fallen.moves)
-  stands = moves_follow r d input sums turns o plain (starts_are_fresh r d o plain) (plan_remembers r d o plain) closed admitted small same_turns again first (begins_alike r o input) fallen.moves fallen.are
-
   abbrev marks : List (Mark (Timed PlanDeed))
   marks = stands.holds.cut.marks
 
   done_is : g ≡ length (events xs)
-  done_is =
-      let n = count_turns 0 fallen.moves in
-      let a = map_length run_answer (filter deeds.is_event fallen.moves) in
-      let b = ap length (falls_answers xs fallen.moves fallen.fall) in
-      let c = answers_length xs in
-      omega (arith, n, a, b, c)
+  done_is = ended.done_is r d input sums turns o plain closed admitted small same_turns again own_turns over begins xs z h unbroken
 
   reached : IsReached r.program z
-  reached = reached_run r.gated r.program input (initial r.program) z xs o.can.program small (reached_first r.program o.can.program o.can.bytes) h.run
+  reached = ended.reached r d input sums turns o plain closed admitted small same_turns again own_turns over begins xs z h unbroken
 
   plan_parts : did_of (whole marks) ≡ plan_of r d
-  plan_parts = ap did_of stands.holds.cut.is_whole ∙ did_times deeds (turns_of r) 0 (plan_of r d)
+  plan_parts = ended.plan_parts r d input sums turns o plain closed admitted small same_turns again own_turns over begins xs z h unbroken
 
-  -- what is answered
   mine : answers xs ≡ map plan_answer (filter deeds.is_event (did_of (kept marks)))
-  mine = sym (falls_answers xs fallen.moves fallen.fall) ∙ fit_answers input (filter deeds.is_event (did_of (kept marks))) (filter deeds.is_event ds) stands.performs.events
+  mine = ended.mine r d input sums turns o plain closed admitted small same_turns again own_turns over begins xs z h unbroken
 
   theirs : map plan_answer (filter deeds.is_event (did_of (whole marks))) ≡ answers r.steps
-  theirs = ap (λ (l : List PlanDeed). map plan_answer (filter deeds.is_event l)) plan_parts ∙ plan_answers r d plain
+  theirs = ended.theirs r d input sums turns o plain closed admitted small same_turns again own_turns over begins xs z h unbroken
 
   abbrev turn_in : Answered → Option Turn
   turn_in a = a.turn
 
   abbrev as_some : Turn → Option Turn
   as_some u = Some u
-
-  -- ---- behind all turns
-
-  pub finished : length turns ≤ length (events xs) → sync.over z.sync ≡ true
-  finished k =
-      let a = owners_length turns in
-      let b = ap length same_turns in
-      let c = counted.plan_turns r d plain in
-      let le : turns_done deeds 0 (plan_of r d) ≤ g = (let n = done_is in omega (arith, a, b, c, k, n)) in
-      ap (λ (q : Objects). sync.over q.sync) (sym fallen.objects
-      ∙ sym (follows.last_objects (like input) (turns_of r) (plan_start r) (plan_of r d) (IsAnyMove r d input sums turns) (is_plan r d o closed plain)
-      (obeys r d input sums turns o plain (starts_are_fresh r d o plain) (plan_remembers r d o plain) closed admitted small same_turns again) (effects first ds) g stands.holds le)
-      ∙ plan_leaves r d o plain) ∙ over
 
   -- ---- before the turn u
 
@@ -597,7 +465,7 @@ module _ (r : ReferenceRun) (d : Taken) (input : List ℤ) (sums : ℕ → Optio
       by : (us : List Turn) → drop w.turns turns ≡ us → StuckAt r.gated r.program input us w.state → ⊥
       by [] q stuck =
           let n : length (events w.trace) ≡ length turns = ap length (told ∙ front_whole w.turns turns q) in
-          absurd (true≢false (sym (finished r d input sums turns o plain closed admitted small same_turns again own_turns over begins w.trace w.state permitted (guided_unbroken r.program input turns r.gated) (omega (arith, n))) ∙ stuck))
+          absurd (true≢false (sym (ended.finished r d input sums turns o plain closed admitted small same_turns again own_turns over begins w.trace w.state permitted (guided_unbroken r.program input turns r.gated) (omega (arith, n))) ∙ stuck))
       by (u ∷ us) q stuck =
           let left : turns_left turns w.trace ≡ u ∷ us = ap (λ (i : ℕ). drop i turns) (ap length told ∙ front_length w.turns turns u us q) ∙ q in
           not_stuck r d input sums turns o plain closed admitted small same_turns again own_turns over begins w.trace w.state permitted (guided_unbroken r.program input turns r.gated) u us left stuck
