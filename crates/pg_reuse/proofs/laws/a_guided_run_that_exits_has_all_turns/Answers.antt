@@ -1,6 +1,6 @@
 use Rattle.std.proofs.Common.{refl}
 use Rattle.pg_machine.specs.Guided.{guided_of}
-use Rattle.pg_reuse.proofs.Turns.{all_turns}
+use Rattle.pg_order.proofs.Turns.{all_turns}
 use Rattle.pg_reuse.proofs.laws.a_guided_run_that_exits_has_all_turns.Goals as goal
 
 pub returns : goal.returns
