@@ -1,0 +1,39 @@
+-- What a session writes.
+use Rattle.std.specs.Prelude.{ℕ, ℤ, ◌<◌, ◌≤◌, Bool, List, map, length, take, Option}
+use Rattle.std.specs.Io.KnownBytes.{Appends}
+use Rattle.pg_io.specs.Streams.{AppendsFront}
+use Rattle.pg_num.specs.declared.limits.TheConstants.{SESSION_INPUT_LIMIT}
+use Rattle.pg_serve.specs.Lines.{ended_lines, input_of, lines_of}
+use Rattle.pg_serve.specs.Sessions.{IsSessionText, Runs}
+
+abbrev pub inputs_of : List (List ℕ) → List (Option (List ℤ))
+inputs_of lines = map input_of lines
+
+-- the text of the session over these lines was put behind what the sink told
+pub record Serves {M : Type 0} (admits : M → List ℤ → Bool) (runs : Runs M) (lines : List (List ℕ)) (old new : Option (List ℕ)) : Type 0 where
+  pub text : List ℕ
+  pub session : IsSessionText admits runs (inputs_of lines) text
+  pub appended : Appends old new text
+
+-- a front of that text was put behind what the sink told: the answers to the first lines, and a part of the next
+pub record ServesFront {M : Type 0} (admits : M → List ℤ → Bool) (runs : Runs M) (lines : List (List ℕ)) (old new : Option (List ℕ)) : Type 0 where
+  pub count : ℕ
+  pub text : List ℕ
+  pub session : IsSessionText admits runs (inputs_of (take count lines)) text
+  pub appended : AppendsFront old new text
+
+-- an input that is no longer than the limit: all its lines are answered
+pub record ServesAll {M : Type 0} (admits : M → List ℤ → Bool) (runs : Runs M) (old new : Option (List ℕ)) (input : List ℕ) : Type 0 where
+  pub within : length input ≤ SESSION_INPUT_LIMIT
+  pub serves : Serves admits runs (lines_of input) old new
+
+-- an input that is longer than the limit: the lines are answered that end within it
+pub record ServesLimit {M : Type 0} (admits : M → List ℤ → Bool) (runs : Runs M) (old new : Option (List ℕ)) (input : List ℕ) : Type 0 where
+  pub beyond : SESSION_INPUT_LIMIT < length input
+  pub serves : Serves admits runs (ended_lines (take SESSION_INPUT_LIMIT input)) old new
+
+-- a read that failed behind so many bytes: the lines are answered that ended until then
+pub record ServesTaken {M : Type 0} (admits : M → List ℤ → Bool) (runs : Runs M) (old new : Option (List ℕ)) (input : List ℕ) : Type 0 where
+  pub count : ℕ
+  pub within : count ≤ SESSION_INPUT_LIMIT
+  pub serves : Serves admits runs (ended_lines (take count input)) old new

@@ -1,0 +1,16 @@
+//! Sessions: each line of input is answered, by the schedule of an entry that is kept or by a recording that is kept
+//! then. What is recorded and how a run along a schedule is made is left to a `Runner`.
+#![tactic(auto)]
+
+mod answers;
+mod fault;
+mod lines;
+mod runner;
+mod serving;
+mod session;
+mod trials;
+
+pub use fault::ServeFault;
+pub use runner::{Recording, Refusal, Run, Runner};
+pub use serving::serve;
+pub use trials::trial;
