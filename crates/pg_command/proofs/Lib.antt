@@ -3,4 +3,4 @@ pub mod Rows
 pub mod Lines
 pub mod Mapped
 pub mod Found
-pub mod Commands
+pub mod Meanings

@@ -8,31 +8,31 @@ use Rattle.std.proofs.lemmas.Bool.Decides.{Decides-eqb}
 use Rattle.std.proofs.lemmas.List.Folds.{list_all-append}
 use Rattle.pg_num.specs.Decimal.{natural_of}
 use Rattle.pg_num.specs.declared.limits.TheConstants.{QUANTUM_LIMIT}
-use Rattle.pg_command.specs.Once.{Word, Choice, left_out, apart, joined, Line, are_plain, begins_with_hyphen, quantum_of, quantum_of_choice, words_of, words_of_choice, words_of_end}
+use Rattle.pg_command.specs.Once.{Word, Choice, left_out, apart, joined, Line, are_names, begins_with_hyphen, is_name, quantum_of, quantum_of_choice, words_of, words_of_choice, words_of_end}
 use Rattle.pg_command.specs.Lines.{IsLine, after_choice, after_plain, after_value, is_end, is_joined, is_line, is_plain_choice}
 
 -- ---- the parts of a line that the test lets through
 
 abbrev plain_part : List Word → List Word
 plain_part [] = []
-plain_part (word ∷ words) = cond (begins_with_hyphen word) [] (word ∷ plain_part words)
+plain_part (word ∷ words) = cond (is_name word) (word ∷ plain_part words) []
 
 plain_part-whole : (words : List Word) → words ≡ plain_part words ++ after_plain words
 plain_part-whole [] = refl
-plain_part-whole (word ∷ words) = by (begins_with_hyphen word) (plain_part-whole words)
+plain_part-whole (word ∷ words) = by (is_name word) (plain_part-whole words)
   where
     by : (b : Bool) → words ≡ plain_part words ++ after_plain words
-        → word ∷ words ≡ cond b [] (word ∷ plain_part words) ++ cond b (word ∷ words) (after_plain words)
-    by true e = refl
-    by false e = ap (λ xs. word ∷ xs) e
+        → word ∷ words ≡ cond b (word ∷ plain_part words) [] ++ cond b (after_plain words) (word ∷ words)
+    by true e = ap (λ xs. word ∷ xs) e
+    by false e = refl
 
-plain_part-plain : (words : List Word) → are_plain (plain_part words) ≡ true
+plain_part-plain : (words : List Word) → are_names (plain_part words) ≡ true
 plain_part-plain [] = refl
-plain_part-plain (word ∷ words) = by (begins_with_hyphen word) refl (plain_part-plain words)
+plain_part-plain (word ∷ words) = by (is_name word) refl (plain_part-plain words)
   where
-    by : (b : Bool) → begins_with_hyphen word ≡ b → are_plain (plain_part words) ≡ true → are_plain (cond b [] (word ∷ plain_part words)) ≡ true
-    by true h e = refl
-    by false h e = rw h e
+    by : (b : Bool) → is_name word ≡ b → are_names (plain_part words) ≡ true → are_names (cond b (word ∷ plain_part words) []) ≡ true
+    by true h e = ap (λ b. b && are_names (plain_part words)) h ∙ e
+    by false h e = refl
 
 record Chosen (words after : List Word) : Type 0 where
   choice : Choice
@@ -70,8 +70,8 @@ ended : (words : List Word) → is_end words ≡ true → Ended words
 ended [] e = record { end = None; spelled = refl }
 ended (word ∷ words) e = record { end = Some words; spelled = ap (λ w. w ∷ words) ((bytes_eq-Decides word (codes "--")).0 e) }
 
-both-plain : (xs ys : List Word) → are_plain xs ≡ true → are_plain ys ≡ true → are_plain (xs ++ ys) ≡ true
-both-plain xs ys e f = list_all-append (λ word. not (begins_with_hyphen word)) xs ys ∙ (rw (e, f) refl)
+both-plain : (xs ys : List Word) → are_names xs ≡ true → are_names ys ≡ true → are_names (xs ++ ys) ≡ true
+both-plain xs ys e f = list_all-append is_name xs ys ∙ (rw (e, f) refl)
 
 pub line-found : (words : List Word) → is_line words ≡ true → IsLine words
 line-found words e =
@@ -89,28 +89,28 @@ line-found words e =
 
 -- ---- a line passes the test
 
-after_plain-skips : (words rest : List Word) → are_plain words ≡ true → after_plain (words ++ rest) ≡ after_plain rest
+after_plain-skips : (words rest : List Word) → are_names words ≡ true → after_plain (words ++ rest) ≡ after_plain rest
 after_plain-skips [] rest plain = refl
-after_plain-skips (word ∷ words) rest plain = by (begins_with_hyphen word) plain (after_plain-skips words rest)
+after_plain-skips (word ∷ words) rest plain = by (is_name word) plain (after_plain-skips words rest)
   where
-    by : (b : Bool) → (not b && are_plain words) ≡ true → (are_plain words ≡ true → after_plain (words ++ rest) ≡ after_plain rest)
-        → cond b (word ∷ (words ++ rest)) (after_plain (words ++ rest)) ≡ after_plain rest
-    by true e more = absurd cc
-    by false e more = more e
+    by : (b : Bool) → (b && are_names words) ≡ true → (are_names words ≡ true → after_plain (words ++ rest) ≡ after_plain rest)
+        → cond b (after_plain (words ++ rest)) (word ∷ (words ++ rest)) ≡ after_plain rest
+    by true e more = more e
+    by false e more = absurd cc
 
-and-left : (a b : Bool) → (a && b) ≡ true → a ≡ true
+pub and-left : (a b : Bool) → (a && b) ≡ true → a ≡ true
 and-left true b e = refl
 and-left false b e = e
 
-and-right : (a b : Bool) → (a && b) ≡ true → b ≡ true
+pub and-right : (a b : Bool) → (a && b) ≡ true → b ≡ true
 and-right true b e = e
 and-right false b e = absurd cc
 
-pub plain-left : (xs ys : List Word) → are_plain (xs ++ ys) ≡ true → are_plain xs ≡ true
-plain-left xs ys e = and-left (are_plain xs) (are_plain ys) (sym (list_all-append (λ word. not (begins_with_hyphen word)) xs ys) ∙ e)
+pub plain-left : (xs ys : List Word) → are_names (xs ++ ys) ≡ true → are_names xs ≡ true
+plain-left xs ys e = and-left (are_names xs) (are_names ys) (sym (list_all-append is_name xs ys) ∙ e)
 
-pub plain-right : (xs ys : List Word) → are_plain (xs ++ ys) ≡ true → are_plain ys ≡ true
-plain-right xs ys e = and-right (are_plain xs) (are_plain ys) (sym (list_all-append (λ word. not (begins_with_hyphen word)) xs ys) ∙ e)
+pub plain-right : (xs ys : List Word) → are_names (xs ++ ys) ≡ true → are_names ys ≡ true
+plain-right xs ys e = and-right (are_names xs) (are_names ys) (sym (list_all-append is_name xs ys) ∙ e)
 
 end-ends : (end : Option (List Word)) → is_end (after_plain (words_of_end end)) ≡ true
 end-ends None = refl
@@ -120,21 +120,21 @@ end-alone : (end : Option (List Word)) → after_plain (after_choice (after_plai
 end-alone None = refl
 end-alone (Some words) = refl
 
-ends : (between : List Word) (end : Option (List Word)) → are_plain between ≡ true → is_end (after_plain (between ++ words_of_end end)) ≡ true
+ends : (between : List Word) (end : Option (List Word)) → are_names between ≡ true → is_end (after_plain (between ++ words_of_end end)) ≡ true
 ends between end plain = ap is_end (after_plain-skips between (words_of_end end) plain) ∙ end-ends end
 
 not-true : (b : Bool) → not b ≡ true → b ≡ false
 not-true true e = sym e
 not-true false e = refl
 
-choice-ends : (choice : Choice) (between : List Word) (end : Option (List Word)) → is_plain_choice choice ≡ true → are_plain between ≡ true
+choice-ends : (choice : Choice) (between : List Word) (end : Option (List Word)) → is_plain_choice choice ≡ true → are_names between ≡ true
     → is_end (after_plain (after_choice (after_plain (words_of_choice choice ++ (between ++ words_of_end end))))) ≡ true
 choice-ends left_out between end followed plain =
     ap (λ xs. is_end (after_plain (after_choice xs))) (after_plain-skips between (words_of_end end) plain) ∙ ap is_end (end-alone end) ∙ end-ends end
 choice-ends (apart value) between end followed plain = rw (not-true (begins_with_hyphen value) followed) (ends between end plain)
 choice-ends (joined value) between end followed plain = ends between end plain
 
-pub line-passes : (line : Line) → are_plain (line.before ++ line.between) ≡ true → is_plain_choice line.choice ≡ true → is_line (words_of line) ≡ true
+pub line-passes : (line : Line) → are_names (line.before ++ line.between) ≡ true → is_plain_choice line.choice ≡ true → is_line (words_of line) ≡ true
 line-passes line plain followed =
     ap (λ xs. is_end (after_plain (after_choice xs))) (after_plain-skips line.before _ (plain-left line.before line.between plain))
     ∙ choice-ends line.choice line.between line.end followed (plain-right line.before line.between plain)

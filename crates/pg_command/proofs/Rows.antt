@@ -9,7 +9,7 @@ use Rattle.std.proofs.lemmas.List.Folds.{find-append}
 use Rattle.clap.specs.Walk.{Row, at_row, has_row, more_values, without}
 use Rattle.clap.specs.declared.parser.matches.ValueSource.TheVariants.{CommandLine}
 use Rattle.pg_command.specs.Once.{Word, Choice, left_out, apart, joined, Line, positionals_of, positionals_of_end}
-use Rattle.pg_command.specs.Clap.{numbers_in, quantum_in}
+use Rattle.pg_command.specs.Clap.{words_in, quantum_in}
 use Rattle.pg_command.proofs.Walks.{has_quantum_row, with_choice, with_number, with_quantum}
 
 abbrev pub text_of_choice : Choice → Option Word
@@ -21,28 +21,28 @@ text_of_choice (joined value) = Some value
 
 has_quantum_row-number : (rows : List Row) (word : Word) → has_quantum_row (with_number rows word) ≡ has_quantum_row rows
 has_quantum_row-number [] word = refl
-has_quantum_row-number (r ∷ rs) word = by (bytes_eq r.id (codes "numbers")) (has_quantum_row-number rs word)
+has_quantum_row-number (r ∷ rs) word = by (bytes_eq r.id (codes "words")) (has_quantum_row-number rs word)
   where
     by : (b : Bool) → has_quantum_row (with_number rs word) ≡ has_quantum_row rs
         → has_quantum_row (cond b (more_values CommandLine (word ∷ []) r ++ rs) (r ∷ with_number rs word)) ≡ (bytes_eq r.id (codes "quantum") || has_quantum_row rs)
     by true e = refl
     by false e = ap (λ b. bytes_eq r.id (codes "quantum") || b) e
 
-numbers_in-number : (rows : List Row) (word : Word) → numbers_in (with_number rows word) ≡ numbers_in rows ++ word ∷ []
-numbers_in-number [] word = refl
-numbers_in-number (r ∷ rs) word = by (bytes_eq r.id (codes "numbers")) refl (numbers_in-number rs word)
+words_in-number : (rows : List Row) (word : Word) → words_in (with_number rows word) ≡ words_in rows ++ word ∷ []
+words_in-number [] word = refl
+words_in-number (r ∷ rs) word = by (bytes_eq r.id (codes "words")) refl (words_in-number rs word)
   where
-    by : (b : Bool) → bytes_eq r.id (codes "numbers") ≡ b → numbers_in (with_number rs word) ≡ numbers_in rs ++ word ∷ []
-        → numbers_in (with_number (r ∷ rs) word) ≡ numbers_in (r ∷ rs) ++ word ∷ []
+    by : (b : Bool) → bytes_eq r.id (codes "words") ≡ b → words_in (with_number rs word) ≡ words_in rs ++ word ∷ []
+        → words_in (with_number (r ∷ rs) word) ≡ words_in (r ∷ rs) ++ word ∷ []
     by true h e = rw h (rw h refl)
     by false h e = rw h (rw h e)
 
-other-id : (id : Word) → bytes_eq id (codes "numbers") ≡ true → bytes_eq id (codes "quantum") ≡ false
-other-id id h = rw ((bytes_eq-Decides id (codes "numbers")).0 h) refl
+other-id : (id : Word) → bytes_eq id (codes "words") ≡ true → bytes_eq id (codes "quantum") ≡ false
+other-id id h = rw ((bytes_eq-Decides id (codes "words")).0 h) refl
 
 quantum_in-number : (rows : List Row) (word : Word) → quantum_in (with_number rows word) ≡ quantum_in rows
 quantum_in-number [] word = refl
-quantum_in-number (r ∷ rs) word = by (bytes_eq r.id (codes "numbers")) refl (quantum_in-number rs word)
+quantum_in-number (r ∷ rs) word = by (bytes_eq r.id (codes "words")) refl (quantum_in-number rs word)
   where
     step : (b : Bool) → quantum_in (with_number rs word) ≡ quantum_in rs
         → option_and_then (λ (x : Row). slice_get x.values 0) (cond b (Some r) (find (λ x. bytes_eq x.id (codes "quantum")) (with_number rs word)))
@@ -50,7 +50,7 @@ quantum_in-number (r ∷ rs) word = by (bytes_eq r.id (codes "numbers")) refl (q
     step true e = refl
     step false e = e
 
-    by : (b : Bool) → bytes_eq r.id (codes "numbers") ≡ b → quantum_in (with_number rs word) ≡ quantum_in rs
+    by : (b : Bool) → bytes_eq r.id (codes "words") ≡ b → quantum_in (with_number rs word) ≡ quantum_in rs
         → quantum_in (with_number (r ∷ rs) word) ≡ quantum_in (r ∷ rs)
     by true h e = rw (h, other-id r.id h) refl
     by false h e = rw h (step (bytes_eq r.id (codes "quantum")) e)
@@ -86,10 +86,10 @@ or-none : {X : Type 0} (o : Option X) → option_or o None ≡ o
 or-none None = refl
 or-none (Some x) = refl
 
-numbers_in-quantum : (rows : List Row) (value : Word) → has_quantum_row rows ≡ false → numbers_in (with_quantum rows value) ≡ numbers_in rows
-numbers_in-quantum rows value none =
+words_in-quantum : (rows : List Row) (value : Word) → has_quantum_row rows ≡ false → words_in (with_quantum rows value) ≡ words_in rows
+words_in-quantum rows value none =
     rw (with_quantum-new rows value none)
-    (ap (λ o. unwrap_or (option_map (λ (r : Row). r.values) o) []) (find-append (λ r. bytes_eq r.id (codes "numbers")) rows (with_quantum [] value) ∙ or-none _))
+    (ap (λ o. unwrap_or (option_map (λ (r : Row). r.values) o) []) (find-append (λ r. bytes_eq r.id (codes "words")) rows (with_quantum [] value) ∙ or-none _))
 
 quantum_in-quantum : (rows : List Row) (value : Word) → has_quantum_row rows ≡ false → quantum_in (with_quantum rows value) ≡ Some value
 quantum_in-quantum rows value none =
@@ -106,19 +106,19 @@ pub has_quantum_row-numbers : (words : List Word) (rows : List Row) → has_quan
 has_quantum_row-numbers [] rows = refl
 has_quantum_row-numbers (word ∷ words) rows = has_quantum_row-numbers words (with_number rows word) ∙ has_quantum_row-number rows word
 
-numbers_in-numbers : (words : List Word) (rows : List Row) → numbers_in (fold with_number rows words) ≡ numbers_in rows ++ words
-numbers_in-numbers [] rows = sym (append-nil (numbers_in rows))
-numbers_in-numbers (word ∷ words) rows =
-    numbers_in-numbers words (with_number rows word) ∙ ap (λ xs. xs ++ words) (numbers_in-number rows word) ∙ append_assoc (numbers_in rows) (word ∷ []) words
+words_in-numbers : (words : List Word) (rows : List Row) → words_in (fold with_number rows words) ≡ words_in rows ++ words
+words_in-numbers [] rows = sym (append-nil (words_in rows))
+words_in-numbers (word ∷ words) rows =
+    words_in-numbers words (with_number rows word) ∙ ap (λ xs. xs ++ words) (words_in-number rows word) ∙ append_assoc (words_in rows) (word ∷ []) words
 
 quantum_in-numbers : (words : List Word) (rows : List Row) → quantum_in (fold with_number rows words) ≡ quantum_in rows
 quantum_in-numbers [] rows = refl
 quantum_in-numbers (word ∷ words) rows = quantum_in-numbers words (with_number rows word) ∙ quantum_in-number rows word
 
-numbers_in-choice : (choice : Choice) (rows : List Row) → has_quantum_row rows ≡ false → numbers_in (with_choice choice rows) ≡ numbers_in rows
-numbers_in-choice left_out rows none = refl
-numbers_in-choice (apart value) rows none = numbers_in-quantum rows value none
-numbers_in-choice (joined value) rows none = numbers_in-quantum rows value none
+words_in-choice : (choice : Choice) (rows : List Row) → has_quantum_row rows ≡ false → words_in (with_choice choice rows) ≡ words_in rows
+words_in-choice left_out rows none = refl
+words_in-choice (apart value) rows none = words_in-quantum rows value none
+words_in-choice (joined value) rows none = words_in-quantum rows value none
 
 quantum_in-choice : (choice : Choice) (rows : List Row) → has_quantum_row rows ≡ false → quantum_in (with_choice choice rows) ≡ text_of_choice choice
 quantum_in-choice left_out rows none = no-quantum_in rows none
@@ -134,11 +134,11 @@ rows_of_line line = fold with_number (with_choice line.choice (rows_before line)
 pub before-free : (line : Line) → has_quantum_row (rows_before line) ≡ false
 before-free line = has_quantum_row-numbers line.before []
 
-pub numbers-found : (line : Line) → numbers_in (rows_of_line line) ≡ positionals_of line
+pub numbers-found : (line : Line) → words_in (rows_of_line line) ≡ positionals_of line
 numbers-found line =
-    numbers_in-numbers (line.between ++ positionals_of_end line.end) (with_choice line.choice (rows_before line))
+    words_in-numbers (line.between ++ positionals_of_end line.end) (with_choice line.choice (rows_before line))
     ∙ ap (λ xs. xs ++ (line.between ++ positionals_of_end line.end))
-    (numbers_in-choice line.choice (rows_before line) (before-free line) ∙ numbers_in-numbers line.before [])
+    (words_in-choice line.choice (rows_before line) (before-free line) ∙ words_in-numbers line.before [])
 
 pub quantum-found : (line : Line) → quantum_in (rows_of_line line) ≡ text_of_choice line.choice
 quantum-found line =

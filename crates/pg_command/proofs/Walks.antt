@@ -1,5 +1,5 @@
 -- The parser's walk over the words of a line, as far as each of them.
-use Rattle.std.proofs.Common.{◌≡◌, ◌∙◌, ◌&&◌, Bool, true, false, not, refl, sym, ap, subst, List, [], ◌∷◌, ◌++◌, codes, Option, Some, None}
+use Rattle.std.proofs.Common.{◌≡◌, ◌∙◌, ◌&&◌, ◌||◌, ◌⊎◌, inl, inr, Bool, true, false, not, refl, sym, ap, subst, List, [], ◌∷◌, ◌++◌, codes, Option, Some, None}
 use Rattle.std.specs.List.{fold}
 use Rattle.clap.specs.Walk.{Row, Rule, Text, Waiting, Walk, has_row, idle, positional, option, settled, used, walked}
 use Rattle.clap.specs.Takes.{settle_passes, turn_passes, walk_passes}
@@ -7,11 +7,13 @@ use Rattle.clap.specs.Simple.{Shape}
 use Rattle.clap.specs.declared.builder.action.ArgAction.TheVariants.{Set}
 use Rattle.clap.specs.declared.builder.value_parser.ValueParser.TheVariants as vp
 use Rattle.clap.proofs.OnLiterals.{clap_on_literals}
-use Rattle.pg_command.specs.Once.{Word, Choice, left_out, apart, joined, are_plain, begins_with_hyphen, words_of_choice, words_of_end, positionals_of_end}
+use Rattle.std.specs.Str.{bytes_eq}
+use Rattle.std.proofs.lemmas.Slice.Eq.{bytes_eq-Decides}
+use Rattle.pg_command.specs.Once.{Word, Choice, left_out, apart, joined, are_names, begins_with_hyphen, is_name, words_of_choice, words_of_end, positionals_of_end}
 use Rattle.pg_command.specs.Lines.{is_plain_choice}
-use Rattle.pg_command.specs.Clap.{numbers_rule, quantum_rule, once_app}
+use Rattle.pg_command.specs.Clap.{line_app, quantum_rule, words_rule}
 
--- ---- the command `once` as it is built
+-- ---- a command as it is built; the name plays no part in the walk
 
 abbrev pub built_quantum : Rule
 built_quantum = record quantum_rule {
@@ -21,7 +23,7 @@ built_quantum = record quantum_rule {
 }
 
 abbrev pub built_numbers : Rule
-built_numbers = record numbers_rule {
+built_numbers = record words_rule {
   index = Some 1;
   parser = Some vp.String;
   range = Some (record { start_inclusive = 1; end_inclusive = 1 });
@@ -31,7 +33,7 @@ abbrev pub once_rules : List Rule
 once_rules = built_quantum ∷ built_numbers ∷ []
 
 abbrev pub once_shape : Shape
-once_shape = record once_app.top {
+once_shape = record (line_app (codes "once")).top {
   rules = once_rules;
   no_binary_name = true;
   disable_help_flag = true;
@@ -50,7 +52,7 @@ pub data Last : Type 0 where
 abbrev pub pending_after : Last → Option (Text × List Text)
 pending_after begun = None
 pending_after (valued value) = Some (codes "quantum", value ∷ [])
-pending_after (numbered word) = Some (codes "numbers", word ∷ [])
+pending_after (numbered word) = Some (codes "words", word ∷ [])
 
 abbrev pub waiting_after : Last → Waiting
 waiting_after (numbered word) = positional
@@ -173,27 +175,58 @@ end-reach (Some words) last rows can =
 abbrev pub FromEach : List Row → List Word → List Row → Type 0
 FromEach start words end = (last : Last) (rows : List Row) → CanSettle last rows → with_last last rows ≡ start → Reaches (state rows last false) words end
 
-hyphen-first : (word : Word) (words : List Word) → are_plain (word ∷ words) ≡ true → begins_with_hyphen word ≡ false
-hyphen-first word words plain = by (begins_with_hyphen word) plain
+-- a name doesn't begin with `-`, or is `-`
+name-cases : (word : Word) → is_name word ≡ true → (begins_with_hyphen word ≡ false) ⊎ (word ≡ codes "-")
+name-cases word e = by (begins_with_hyphen word) refl e
   where
-    by : (b : Bool) → (not b && are_plain words) ≡ true → b ≡ false
-    by true e = sym e
-    by false e = refl
+    by : (b : Bool) → begins_with_hyphen word ≡ b → (not b || bytes_eq word (codes "-")) ≡ true → (begins_with_hyphen word ≡ false) ⊎ (word ≡ codes "-")
+    by false h e = inl h
+    by true h e = inr ((bytes_eq-Decides word (codes "-")).0 e)
 
-plain-rest : (word : Word) (words : List Word) → are_plain (word ∷ words) ≡ true → are_plain words ≡ true
-plain-rest word words plain = by (begins_with_hyphen word) plain
+hyphen-moves : (last : Last) (rows : List Row) → walked once_rules [] (state rows last false) (codes "-") ≡ state (with_last last rows) (numbered (codes "-")) false
+unfolding clap_on_literals
+hyphen-moves begun rows = refl
+hyphen-moves (valued value) rows = refl
+hyphen-moves (numbered word) rows = refl
+
+hyphen-passes : (last : Last) (rows : List Row) → CanSettle last rows → turn_passes once_shape [] (state rows last false) (codes "-") ≡ true
+unfolding clap_on_literals
+hyphen-passes begun rows can = refl
+hyphen-passes (valued value) rows can = rw can refl
+hyphen-passes (numbered word) rows can = refl
+
+name-moves : (last : Last) (rows : List Row) (word : Word) → (begins_with_hyphen word ≡ false) ⊎ (word ≡ codes "-")
+    → walked once_rules [] (state rows last false) word ≡ state (with_last last rows) (numbered word) false
+name-moves last rows word (inl plain) = plain-moves last rows word plain
+name-moves last rows word (inr is) =
+    subst (λ w. walked once_rules [] (state rows last false) w ≡ state (with_last last rows) (numbered w) false) (sym is) (hyphen-moves last rows)
+
+name-passes : (last : Last) (rows : List Row) (word : Word) → (begins_with_hyphen word ≡ false) ⊎ (word ≡ codes "-") → CanSettle last rows
+    → turn_passes once_shape [] (state rows last false) word ≡ true
+name-passes last rows word (inl plain) can = plain-passes last rows word plain can
+name-passes last rows word (inr is) can = subst (λ w. turn_passes once_shape [] (state rows last false) w ≡ true) (sym is) (hyphen-passes last rows can)
+
+name-first : (word : Word) (words : List Word) → are_names (word ∷ words) ≡ true → (begins_with_hyphen word ≡ false) ⊎ (word ≡ codes "-")
+name-first word words plain = name-cases word (by (is_name word) plain)
   where
-    by : (b : Bool) → (not b && are_plain words) ≡ true → are_plain words ≡ true
-    by true e = absurd cc
-    by false e = e
+    by : (b : Bool) → (b && are_names words) ≡ true → b ≡ true
+    by true e = refl
+    by false e = absurd cc
 
-pub plain-reach : (words rest : List Word) (start end : List Row) → are_plain words ≡ true
+names-rest : (word : Word) (words : List Word) → are_names (word ∷ words) ≡ true → are_names words ≡ true
+names-rest word words plain = by (is_name word) plain
+  where
+    by : (b : Bool) → (b && are_names words) ≡ true → are_names words ≡ true
+    by true e = e
+    by false e = absurd cc
+
+pub plain-reach : (words rest : List Word) (start end : List Row) → are_names words ≡ true
     → FromEach (fold with_number start words) rest end → FromEach start (words ++ rest) end
 plain-reach [] rest start end plain from = from
 plain-reach (word ∷ words) rest start end plain from = λ last rows can is.
-    reaches-more _ _ word (words ++ rest) end (plain-moves last rows word (hyphen-first word words plain))
-    (plain-passes last rows word (hyphen-first word words plain) can)
-    (plain-reach words rest (with_number start word) end (plain-rest word words plain) from (numbered word) (with_last last rows) tt (ap (λ rs. with_number rs word) is))
+    reaches-more _ _ word (words ++ rest) end (name-moves last rows word (name-first word words plain))
+    (name-passes last rows word (name-first word words plain) can)
+    (plain-reach words rest (with_number start word) end (names-rest word words plain) from (numbered word) (with_last last rows) tt (ap (λ rs. with_number rs word) is))
 
 -- ---- the option
 

@@ -1,6 +1,7 @@
--- The words of a command line, without the program's own name: which command they are. A word is its bytes.
-use Rattle.std.specs.Prelude.{◌≡◌, ℕ, Bool, true, false, not, ◌==◌, ◌&&◌, ◌≤◌, nat_le, if◌then◌else◌, List, [], ◌∷◌, ◌++◌, length, map, codes, ℤ, pos, negsuc, ◌^◌, ◌-◌, Option, Some, None}
+-- The words of a command line, without the program's own name, and the command `once`. A word is its bytes.
+use Rattle.std.specs.Prelude.{◌≡◌, ℕ, Bool, true, false, not, ◌==◌, ◌&&◌, ◌||◌, ◌≤◌, nat_le, if◌then◌else◌, List, [], ◌∷◌, ◌++◌, length, map, codes, ℤ, pos, negsuc, ◌^◌, ◌-◌, Option, Some, None}
 use Rattle.std.specs.List.{list_all}
+use Rattle.std.specs.Str.{bytes_eq}
 use Rattle.pg_num.specs.Decimal.{are_digits, natural_of, decimal_between}
 use Rattle.pg_num.specs.declared.limits.TheConstants.{NUMBERS_LIMIT, QUANTUM_LIMIT}
 use Rattle.pg_command.specs.declared.values.TheConstants.{DEFAULT_QUANTUM}
@@ -13,9 +14,13 @@ abbrev pub begins_with_hyphen : Word → Bool
 begins_with_hyphen [] = false
 begins_with_hyphen (byte ∷ bytes) = byte == 45
 
--- none of the words begins with `-`
-abbrev pub are_plain : List Word → Bool
-are_plain words = list_all (λ word. not (begins_with_hyphen word)) words
+-- the word is `-`, or doesn't begin so
+abbrev pub is_name : Word → Bool
+is_name word = not (begins_with_hyphen word) || bytes_eq word (codes "-")
+
+-- no word but `-` begins with `-`
+abbrev pub are_names : List Word → Bool
+are_names words = list_all is_name words
 
 -- a number: an optional `-` and one or more digits, with a value in 64 bits with a sign
 abbrev pub number_of : Word → Option ℤ
@@ -69,12 +74,8 @@ positionals_of line = line.before ++ (line.between ++ positionals_of_end line.en
 pub record IsOnce (words : List Word) (quantum : ℕ) (numbers : List ℤ) : Type 0 where
   pub line : Line
   pub spelled : words ≡ codes "once" ∷ words_of line
-  -- before `--`, a word that begins with `-` is the option (and `-` alone is no number)
-  pub plain : are_plain (line.before ++ line.between) ≡ true
+  -- before `--`, a word other than `-` that begins with `-` is the option
+  pub plain : are_names (line.before ++ line.between) ≡ true
   pub has_quantum : quantum_of_choice line.choice ≡ Some quantum
   pub has_numbers : map number_of (positionals_of line) ≡ map Some numbers
   pub few : length numbers ≤ NUMBERS_LIMIT
-
--- the words are no command
-abbrev pub NoCommand : List Word → Type 0
-NoCommand words = (quantum : ℕ) (numbers : List ℤ) → IsOnce words quantum numbers → ⊥

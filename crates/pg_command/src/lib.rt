@@ -1,11 +1,14 @@
 //! The words of the command line: which command they are, with its options and its numbers.
 #![tactic(auto)]
 
+mod commands;
 pub mod laws;
 mod matches;
-mod once;
+mod names;
+mod parse;
 mod positions;
 mod values;
 
-pub use once::{Once, command};
+pub use commands::{Command, Once, Serve, Show};
+pub use parse::command;
 pub use values::DEFAULT_QUANTUM;

@@ -1,19 +1,21 @@
 //! Where each word of a command line stands: before the parser reads the words, a test that it refuses none of them.
 ghost use Rattle.std.specs.Prelude.{◌≡◌, map, string_bytes};
-ghost use Rattle.pg_command.specs.Once.{begins_with_hyphen};
-ghost use Rattle.pg_command.specs.Lines.{after_plain, after_choice, is_end, is_line, is_joined, is_once_line};
+ghost use Rattle.pg_command.specs.Once.{begins_with_hyphen, is_name};
+ghost use Rattle.pg_command.specs.Lines.{after_plain, after_choice, is_end, is_line, is_joined, name_of_line};
 
-/// Whether the words are `once` and a line.
-pub(crate) fn is_once_and_a_line(words: &[String]) -> bool
-    ensures { result ≡ is_once_line (map string_bytes words.now) }
+use crate::names::{Name, named};
+
+/// The command whose word the words begin with, if a line stands behind it.
+pub(crate) fn name_of_line(words: &[String]) -> Option<Name>
+    ensures { result ≡ name_of_line (map string_bytes words.now) }
 {
     match words {
-        [first, rest @ ..] => first.as_str() == "once" && is_a_line(rest),
-        [] => false,
+        [first, rest @ ..] if is_a_line(rest) => named(first.as_str()),
+        _ => None,
     }
 }
 
-// Whether each word that begins with `-`, before a word `--`, is the option `--quantum`, which has its value
+// Whether each word other than `-` that begins with `-`, before a word `--`, is the option `--quantum`, which has its value
 // and stands there at most once. The words are those after the command word.
 fn is_a_line(words: &[String]) -> bool
     ensures { result ≡ is_line (map string_bytes words.now) }
@@ -21,12 +23,12 @@ fn is_a_line(words: &[String]) -> bool
     is_at_end(without_positionals(without_option(without_positionals(words))))
 }
 
-// The words from the first one on that begins with `-`.
+// The words from the first one on that begins with `-` and isn't `-`.
 fn without_positionals(words: &[String]) -> &[String]
     ensures { map string_bytes result.now ≡ after_plain (map string_bytes words.now) }
 {
     'words: for place in 0..words.len() {
-        if begins_with_hyphen(words[place].as_bytes()) {
+        if !is_name(words[place].as_bytes()) {
             return &words[place..];
         }
     }
@@ -53,6 +55,13 @@ fn is_at_end(words: &[String]) -> bool
         [first, ..] => first.as_str() == "--",
         [] => true,
     }
+}
+
+// Whether a word is `-`, or doesn't begin so.
+fn is_name(word: &[u8]) -> bool
+    ensures { result ≡ is_name word.now }
+{
+    !begins_with_hyphen(word) || word == b"-".as_slice()
 }
 
 fn begins_with_hyphen(word: &[u8]) -> bool

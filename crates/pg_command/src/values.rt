@@ -1,9 +1,11 @@
-//! The values that words write: a quantum and numbers.
+//! The values that words write: a quantum, numbers, and the number of a trial.
 ghost use Rattle.std.specs.Prelude.{◌≡◌, ℤ, List, map, Some, None, IfOk, IfSome, IfNone, string_bytes};
+ghost use Rattle.pg_command.specs.Commands.{trial_of};
 ghost use Rattle.pg_command.specs.Once.{number_of, quantum_of};
 
 use pg_num::limits::QUANTUM_LIMIT;
 use pg_num::{digits_in_i64, digits_in_u64};
+use pg_trial::TRIAL_LIMIT;
 use std::alloc::{AllocError, Global};
 
 /// The quantum of a rotation where the words give none, in steps.
@@ -15,6 +17,16 @@ pub(crate) fn quantum(word: &[u8]) -> Option<u32>
 {
     match digits_in_u64(word) {
         Some(quantum) if 1 <= quantum && quantum <= QUANTUM_LIMIT as u64 => Some(quantum as u32),
+        _ => None,
+    }
+}
+
+/// The number of a trial that a word writes: digits alone, up to the limit.
+pub(crate) fn trial_number(word: &[u8]) -> Option<u64>
+    ensures { result ≡ trial_of word.now }
+{
+    match digits_in_u64(word) {
+        Some(number) if number <= TRIAL_LIMIT => Some(number),
         _ => None,
     }
 }

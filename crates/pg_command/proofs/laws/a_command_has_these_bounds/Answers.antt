@@ -1,6 +1,7 @@
-use Rattle.std.proofs.Common.{refl, [], ◌∷◌, codes, None, arith}
+use Rattle.std.proofs.Common.{◌≡◌, ℕ, ℤ, List, refl, [], ◌∷◌, codes, None, arith}
+use Rattle.pg_command.specs.Commands.{once}
 use Rattle.pg_command.specs.Once.{IsOnce, left_out}
-use Rattle.pg_command.proofs.Commands.{one-command}
+use Rattle.pg_command.proofs.Meanings.{one-command, within}
 use Rattle.pg_command.proofs.laws.a_command_has_these_bounds.Goals as goal
 
 -- the word by itself
@@ -14,5 +15,11 @@ alone = record {
   few = omega arith;
 }
 
+same-quantum : (q r : ℕ) (ns ms : List ℤ) → once q ns ≡ once r ms → q ≡ r
+same-quantum q r ns ms e = cc
+
 pub returns-clause-alone : goal.returns-clause-alone
-returns-clause-alone c = λ q ns o. (one-command (codes "once" ∷ []) q 100 ns [] o alone).0
+returns-clause-alone c = λ q ns o. same-quantum q 100 ns [] (one-command (codes "once" ∷ []) (once q ns) (once 100 []) o alone)
+
+pub returns-clause-within : goal.returns-clause-within
+returns-clause-within c = within

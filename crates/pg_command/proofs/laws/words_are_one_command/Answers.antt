@@ -1,4 +1,4 @@
-use Rattle.pg_command.proofs.Commands.{one-command}
+use Rattle.pg_command.proofs.Meanings.{one-command}
 use Rattle.pg_command.proofs.laws.words_are_one_command.Goals as goal
 
 pub returns : goal.returns
