@@ -1,55 +1,47 @@
-//! The program: its command line, its standard input and its standard output.
+//! The program: its command line, its standard input and output, and the files of the system.
 #![tactic(auto)]
 
-ghost use Rattle.std.specs.Prelude.{◌≡◌, ◌+◌, ◌⊎◌, ℕ, ℤ, List, map, string_bytes, IfSome};
+ghost use Rattle.std.specs.Prelude.{◌≡◌, ◌⊎◌, ℕ, List, map, string_bytes};
 ghost use Rattle.std.specs.Process.{exit_status};
-ghost use Rattle.pg_command.specs.Once.{IsOnce, NoCommand};
-ghost use Rattle.pg_io.specs.Faults.{Rose};
-ghost use Rattle.pg_ir.specs.Program.{NumberedProgram};
-ghost use Rattle.pg_num.specs.declared.limits.TheConstants.{PROGRAM_TEXT_LIMIT};
-ghost use Rattle.pg_session.specs.Refusals.{IsRefused};
+ghost use Rattle.pg_session.specs.Commands.{Ends, IsSession};
 ghost use Rattle.pg_session.specs.Statuses.{status_code};
-ghost use Rattle.pg_io.specs.Streams.{TakesAtMost};
-ghost use Rattle.pg_session.specs.Texts.{IsAccepted, WritesFront, WritesOnce, WritesRefusal};
 
-use pg_io::{ReaderSource, Sink, Source, WriterSink};
+use pg_io::{FileShelf, ReaderSource, Shelf, Sink, Source, WriterSink};
 use pg_session::{Status, peregrine};
 use std::alloc::Global;
 use std::process::ExitCode;
 
 mod words;
 
-/// Does what the words say, from a source to a sink. It is the top call, `pg_session::peregrine`, and has its clauses.
-fn run<S: Source, K: Sink>(alloc: Global, words: &[String], src: &mut S, out: &mut K) -> Status
-    ensures usage { result ≡ Status.Usage → NoCommand (map string_bytes words.now) }
-    ensures no_command { NoCommand (map string_bytes words.now) →
-        (result ≡ Status.Usage) ⊎ (result ≡ Status.OutOfMemory) }
-    ensures usage_calls_nothing { result ≡ Status.Usage → (src.new ≡ src.old) × (out.new ≡ out.old) }
-    ensures done { result ≡ Status.Done →
-        IfSome (S.rest src.old) (WritesOnce (map string_bytes words.now) (K.taken out.old) (K.taken out.new)) }
-    ensures refused { result ≡ Status.ProgramRefused →
-        IfSome (S.rest src.old) (WritesRefusal (K.taken out.old) (K.taken out.new)) }
-    ensures read_fault { result ≡ Status.ReadFault → Rose (S.faults src.old) (S.faults src.new) }
-    ensures read_fault_within { result ≡ Status.ReadFault →
-        TakesAtMost (S.rest src.old) (S.rest src.new) PROGRAM_TEXT_LIMIT }
-    ensures read_fault_writes_nothing { result ≡ Status.ReadFault → out.new ≡ out.old }
-    ensures write_fault { result ≡ Status.WriteFault → Rose (K.faults out.old) (K.faults out.new) }
-    ensures write_fault_cuts { result ≡ Status.WriteFault →
-        IfSome (S.rest src.old) (WritesFront (map string_bytes words.now) (K.taken out.old) (K.taken out.new)) }
-    ensures out_of_memory_writes_nothing { result ≡ Status.OutOfMemory → out.new ≡ out.old }
-    ensures complete { (quantum : ℕ) (input : List ℤ) → IsOnce (map string_bytes words.now) quantum input →
-        (Rose (S.faults src.old) (S.faults src.new) → ⊥) → (Rose (K.faults out.old) (K.faults out.new) → ⊥) →
-        IfSome (S.rest src.old) (λ text. (p : NumberedProgram) → IsAccepted text p →
-        (result ≡ Status.Done) ⊎ (result ≡ Status.OutOfMemory)) }
-    ensures refuses { (quantum : ℕ) (input : List ℤ) → IsOnce (map string_bytes words.now) quantum input →
-        (Rose (S.faults src.old) (S.faults src.new) → ⊥) → (Rose (K.faults out.old) (K.faults out.new) → ⊥) →
-        IfSome (S.rest src.old) (λ text. IsRefused text →
-        (result ≡ Status.ProgramRefused) ⊎ (result ≡ Status.OutOfMemory)) }
-    ensures read_faults_are_told { (result ≡ Status.ReadFault) ⊎ (S.faults src.new ≡ S.faults src.old) }
-    ensures write_faults_are_told { (result ≡ Status.WriteFault) ⊎ (K.faults out.new ≡ K.faults out.old) }
-    ensures takes { TakesAtMost (S.rest src.old) (S.rest src.new) (PROGRAM_TEXT_LIMIT + 1) }
+/// Does what the words say, from a source and a shelf to a sink. It is the top call, `pg_session::peregrine`, and has its
+/// clauses.
+fn run<S: Source, K: Sink, F: Shelf>(
+    alloc: Global,
+    words: &[String],
+    src: &mut S,
+    shelf: &mut F,
+    out: &mut K,
+) -> Status
+    ensures ends { Ends (record {
+      texts = F.text shelf.old;
+      fetches_before = F.faults shelf.old;
+      fetches_after = F.faults shelf.new;
+      rest_before = S.rest src.old;
+      rest_after = S.rest src.new;
+      reads_before = S.faults src.old;
+      reads_after = S.faults src.new;
+      taken_before = K.taken out.old;
+      taken_after = K.taken out.new;
+      writes_before = K.faults out.old;
+      writes_after = K.faults out.new;
+    })
+        (map string_bytes words.now) result }
+    ensures usage_calls_nothing { result ≡ Status.Usage → (src.new ≡ src.old) × (shelf.new ≡ shelf.old) × (out.new ≡ out.old) }
+    ensures fault_keeps_sink { (result ≡ Status.ReadFault) ⊎ (result ≡ Status.OutOfMemory) →
+        (out.new ≡ out.old) ⊎ IsSession (map string_bytes words.now) }
+    ensures texts_stay { (name : List ℕ) → F.text shelf.new name ≡ F.text shelf.old name }
 {
-    peregrine(alloc, words, src, out)
+    peregrine(alloc, words, src, shelf, out)
 }
 
 /// The exit status of the process.
@@ -65,8 +57,9 @@ fn main(rt: HostRuntime) -> ExitCode {
         Err(status) => return exit_code(status),
     };
     let mut src = ReaderSource::new(rt.stdin());
+    let mut shelf = FileShelf::new(rt.alloc(), &rt);
     let mut out = WriterSink::new(rt.stdout());
-    exit_code(run(rt.alloc(), &words, &mut src, &mut out))
+    exit_code(run(rt.alloc(), &words, &mut src, &mut shelf, &mut out))
 }
 
 #[cfg(test)]

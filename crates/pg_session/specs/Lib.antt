@@ -1,4 +1,6 @@
+pub mod Commands
 pub mod EndLines
+pub mod Programs
 pub mod Refusals
 pub mod Replies
 pub mod Statuses

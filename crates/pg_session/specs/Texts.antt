@@ -1,7 +1,6 @@
 -- What a command writes: the text of `once`, and the line of a program that is refused.
 use Rattle.std.specs.Prelude.{◌≡◌, ℕ, ◌≤◌, ◌⊎◌, List, [], ◌++◌, length, codes, ℤ, Option}
 use Rattle.std.specs.Fmt.{decimal, signed_decimal}
-use Rattle.std.specs.Io.KnownBytes.{Appends}
 use Rattle.pg_num.specs.declared.limits.TheConstants.{PROGRAM_TEXT_LIMIT}
 use Rattle.pg_ast.specs.Syntax.{Tree}
 use Rattle.pg_grammar.specs.Accepted.{IsModule}
@@ -19,10 +18,8 @@ use Rattle.pg_machine.specs.declared.outcome.Outcome.{Outcome}
 use Rattle.pg_machine.specs.declared.outcome.Outcome.TheVariants.{Exit, Trap, Budget}
 use Rattle.pg_machine.specs.declared.guided_end.GuidedEnd.{GuidedEnd}
 use Rattle.pg_machine.specs.declared.guided_end.GuidedEnd.TheVariants as guided
-use Rattle.pg_command.specs.Once.{IsOnce}
 use Rattle.pg_session.specs.declared.refusals.Refusal.{Refusal}
 use Rattle.pg_session.specs.Refusals.{IsRefusedFor, refusal_line}
-use Rattle.pg_io.specs.Streams.{AppendsFront}
 
 -- ---- the text of a run
 
@@ -74,7 +71,7 @@ pub record IsAccepted (text : List ℕ) (p : NumberedProgram) : Type 0 where
   pub unrefused : IsUnrefused tree
   pub program : p ≡ program_of tree
 
--- ---- what is written
+-- ---- the texts of program texts
 
 -- the text of `once` for a program text, a quantum and an input
 pub record IsOnceText (text : List ℕ) (quantum : ℕ) (input : List ℤ) (written : List ℕ) : Type 0 where
@@ -87,26 +84,3 @@ pub record IsRefusalLine (text written : List ℕ) : Type 0 where
   pub refusal : Refusal
   pub cause : IsRefusedFor text refusal
   pub whole : written ≡ refusal_line text refusal
-
--- the text of these words for a program text was put behind what the sink told
-pub record WritesOnce (words : List (List ℕ)) (old new : Option (List ℕ)) (text : List ℕ) : Type 0 where
-  pub quantum : ℕ
-  pub input : List ℤ
-  pub command : IsOnce words quantum input
-  pub written : List ℕ
-  pub once : IsOnceText text quantum input written
-  pub appended : Appends old new written
-
-pub record WritesRefusal (old new : Option (List ℕ)) (text : List ℕ) : Type 0 where
-  pub written : List ℕ
-  pub refusal : IsRefusalLine text written
-  pub appended : Appends old new written
-
--- a front of what is to be written was put behind what the sink told
-pub record WritesFront (words : List (List ℕ)) (old new : Option (List ℕ)) (text : List ℕ) : Type 0 where
-  pub quantum : ℕ
-  pub input : List ℤ
-  pub command : IsOnce words quantum input
-  pub written : List ℕ
-  pub reply : IsOnceText text quantum input written ⊎ IsRefusalLine text written
-  pub appended : AppendsFront old new written

@@ -2,11 +2,16 @@
 #![tactic(auto)]
 
 pub mod laws;
+mod once;
+mod programs;
 mod refusals;
 mod replies;
+mod serve;
 mod session;
+mod show;
 mod status;
 mod texts;
+mod trial;
 mod verdicts;
 
 pub use pg_io::{ReadAllFault, read_all, write_all};

@@ -10,10 +10,14 @@ pub enum Status {
     Usage,
     /// The program text is refused. The line that says why was written.
     ProgramRefused,
+    /// The shelf failed.
+    ShelfFault,
     /// The source failed.
     ReadFault,
     /// The sink failed.
     WriteFault,
+    /// The source has more bytes than a session takes.
+    InputLimit,
     /// There was no memory.
     OutOfMemory,
 }
@@ -27,8 +31,10 @@ impl Status {
             Status::Done => 0,
             Status::Usage => 2,
             Status::ProgramRefused => 3,
+            Status::ShelfFault => 4,
             Status::ReadFault => 5,
             Status::WriteFault => 6,
+            Status::InputLimit => 7,
             Status::OutOfMemory => 8,
         }
     }

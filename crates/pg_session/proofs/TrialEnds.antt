@@ -1,0 +1,50 @@
+-- How `trial` ends.
+use Rattle.std.proofs.Common.{◌≡◌, refl, subst, ℕ, inl, inr, List}
+use Rattle.std.specs.Io.KnownBytes.{Appends}
+use Rattle.pg_io.specs.Faults.{Rose}
+use Rattle.pg_io.specs.Streams.{AppendsFront}
+use Rattle.pg_command.specs.Commands.{trial}
+use Rattle.pg_trial.specs.Program.{trial_program}
+use Rattle.pg_command.specs.declared.values.TheConstants.{DEFAULT_QUANTUM}
+use Rattle.pg_ir.specs.Program.{NumberedProgram}
+use Rattle.pg_runner.specs.Runs.{Subject, entry_admits, runs_of}
+use Rattle.pg_serve.specs.Trials.{IsTrialText}
+use Rattle.pg_session.specs.declared.status.Status.{Status}
+use Rattle.pg_session.specs.declared.status.Status.TheVariants.{WriteFault, OutOfMemory}
+use Rattle.pg_session.specs.Commands.{World, EndsAs, IsTrial}
+use Rattle.pg_session.specs.Replies.{IsReply, IsReplyStatus}
+use Rattle.pg_session.proofs.Endings.{Says, ends_as, by_reply, due_reply, due_none, front_of, none_failed}
+use Rattle.pg_session.proofs.ShowEnds.{Unread, Fetches}
+
+said : (w : World) (number : ℕ) (status : Status) (written : List ℕ) → IsReplyStatus status → IsReply (IsTrial trial_program number) trial_program status written
+    → Appends w.taken_before w.taken_after written → Says w (trial number) status
+said w number status written is r app =
+    by_reply (Says w (trial number)) (IsTrial trial_program number) trial_program written status is r
+    (λ t. record { written = written; is_text = t; appended = app })
+    (λ l. record { written = written; is_text = l; appended = app })
+
+pub trial_replied : (w : World) (number : ℕ) (status : Status) (written : List ℕ) → Unread w → Fetches w → w.writes_after ≡ w.writes_before
+    → IsReplyStatus status → IsReply (IsTrial trial_program number) trial_program status written → Appends w.taken_before w.taken_after written
+    → EndsAs w (trial number) status
+trial_replied w number status written unread fetches writes is r app =
+    ends_as w (trial number) status (said w number status written is r app) (none_failed w status fetches unread.reads writes) unread.takes
+    (λ n. due_reply (IsTrial trial_program number) trial_program written status (λ o. (o.program, o.accepted)) is r)
+
+pub trial_cut : (w : World) (number : ℕ) (status : Status) (written : List ℕ) → Unread w → Fetches w → Rose w.writes_before w.writes_after
+    → IsReplyStatus status → IsReply (IsTrial trial_program number) trial_program status written → AppendsFront w.taken_before w.taken_after written
+    → EndsAs w (trial number) WriteFault
+trial_cut w number status written unread fetches rose is r cut =
+    ends_as w (trial number) WriteFault
+    (rose, front_of (IsTrial trial_program number) trial_program written w.taken_before w.taken_after status is r cut)
+    (record { fetches = λ name. inr (fetches name); reads = inr unread.reads; writes = inl refl }) unread.takes (λ n. absurd (n.writes rose))
+
+pub trial_no_memory : (w : World) (number : ℕ) → Unread w → Fetches w → w.writes_after ≡ w.writes_before → w.taken_after ≡ w.taken_before
+    → EndsAs w (trial number) OutOfMemory
+trial_no_memory w number unread fetches writes taken =
+    ends_as w (trial number) OutOfMemory taken (none_failed w OutOfMemory fetches unread.reads writes) unread.takes (λ n. due_none trial_program)
+
+-- the runner runs this program, with this quantum
+pub trial_of : (p : NumberedProgram) (s : Subject) (number : ℕ) (text : List ℕ) → s.program ≡ p → s.quantum ≡ DEFAULT_QUANTUM
+    → IsTrialText entry_admits (runs_of s.program s.quantum) number text → IsTrialText entry_admits (runs_of p DEFAULT_QUANTUM) number text
+trial_of p s number text program quantum tells =
+    subst (λ n. IsTrialText entry_admits (runs_of p n) number text) quantum (subst (λ q. IsTrialText entry_admits (runs_of q s.quantum) number text) program tells)

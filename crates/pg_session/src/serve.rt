@@ -1,0 +1,82 @@
+//! The command `serve`: a session of a program.
+ghost use Rattle.std.specs.Prelude.{◌≡◌, ◌≤◌, ◌⊎◌, ℕ, List, string_bytes};
+ghost use Rattle.std.specs.Io.KnownBytes.{Appends};
+ghost use Rattle.pg_io.specs.Faults.{Rose};
+ghost use Rattle.pg_io.specs.Streams.{AppendsFront};
+ghost use Rattle.pg_num.specs.declared.limits.TheConstants.{QUANTUM_LIMIT};
+ghost use Rattle.pg_command.specs.Commands.{serve};
+ghost use Rattle.pg_session.specs.Commands.{EndsAs};
+ghost use Rattle.pg_session.specs.Statuses.{status_of};
+
+use crate::programs::{Loaded, NoProgram, fetch_program};
+use crate::status::Status;
+use pg_command::Serve;
+use pg_io::{Shelf, Sink, Source, write_all};
+use pg_runner::ProgramRunner;
+use pg_serve::ServeFault;
+use std::alloc::Global;
+
+/// The status of a session that ends before its input does.
+fn status_of(fault: ServeFault) -> Status
+    ensures { result ≡ status_of fault }
+{
+    match fault {
+        ServeFault::ReadFault => Status::ReadFault,
+        ServeFault::WriteFault => Status::WriteFault,
+        ServeFault::InputLimit => Status::InputLimit,
+        ServeFault::OutOfMemory => Status::OutOfMemory,
+    }
+}
+
+/// Writes the line that refuses a program text.
+fn refuse<K: Sink>(out: &mut K, line: &[u8]) -> Status
+    ensures written { result ≡ Status.ProgramRefused → Appends (K.taken out.old) (K.taken out.new) line.now }
+    ensures cut { result ≡ Status.WriteFault → AppendsFront (K.taken out.old) (K.taken out.new) line.now }
+    ensures cause { result ≡ Status.WriteFault → Rose (K.faults out.old) (K.faults out.new) }
+    ensures count_stays { result ≡ Status.ProgramRefused → K.faults out.new ≡ K.faults out.old }
+    ensures status { (result ≡ Status.ProgramRefused) ⊎ (result ≡ Status.WriteFault) }
+{
+    match write_all(out, line) {
+        Ok(()) => Status::ProgramRefused,
+        Err(_) => Status::WriteFault,
+    }
+}
+
+/// Fetches the program text, and answers the lines of the source.
+pub(crate) fn serve<S: Source, K: Sink, F: Shelf>(
+    alloc: Global,
+    command: &Serve,
+    src: &mut S,
+    shelf: &mut F,
+    out: &mut K,
+) -> Status
+    requires least { 1 ≤ command.now.quantum }
+    requires most { command.now.quantum ≤ QUANTUM_LIMIT }
+    ensures ends { EndsAs (record {
+      texts = F.text shelf.old;
+      fetches_before = F.faults shelf.old;
+      fetches_after = F.faults shelf.new;
+      rest_before = S.rest src.old;
+      rest_after = S.rest src.new;
+      reads_before = S.faults src.old;
+      reads_after = S.faults src.new;
+      taken_before = K.taken out.old;
+      taken_after = K.taken out.new;
+      writes_before = K.faults out.old;
+      writes_after = K.faults out.new;
+    })
+        (serve (string_bytes command.now.file) command.now.quantum) result }
+    ensures texts_stay { (name : List ℕ) → F.text shelf.new name ≡ F.text shelf.old name }
+{
+    let program = match fetch_program(alloc, shelf, command.file.as_str()) {
+        Ok(Loaded::Accepted(program)) => program,
+        Ok(Loaded::Refused(line)) => return refuse(out, &line),
+        Err(NoProgram::ShelfFault) => return Status::ShelfFault,
+        Err(NoProgram::OutOfMemory) => return Status::OutOfMemory,
+    };
+    let mut runner = ProgramRunner::new(&program, command.quantum);
+    match pg_serve::serve(alloc, &mut runner, src, out) {
+        Ok(()) => Status::Done,
+        Err(fault) => status_of(fault),
+    }
+}

@@ -1,0 +1,99 @@
+//! The command `show`: what is recorded of one input.
+ghost use Rattle.std.specs.Prelude.{◌≡◌, ◌≤◌, ◌⊎◌, ◌<◌, ◌^◌, ℕ, ℤ, List, length, string_bytes, Option, IfOk, IsErrOf};
+ghost use Rattle.pg_io.specs.Faults.{Rose};
+ghost use Rattle.pg_num.specs.declared.limits.TheConstants.{NUMBERS_LIMIT, QUANTUM_LIMIT};
+ghost use Rattle.pg_runs.specs.Cuts.{CanRun};
+ghost use Rattle.pg_command.specs.Commands.{show};
+ghost use Rattle.pg_runner.specs.Runs.{runs_of, shown};
+ghost use Rattle.pg_serve.specs.Shows.{IsShowText};
+ghost use Rattle.pg_session.specs.Commands.{EndsAs, Fetched, IsShown};
+ghost use Rattle.pg_session.specs.Replies.{IsReply, IsReplyStatus};
+
+use crate::programs::{Loaded, NoProgram, fetch_program};
+use crate::replies::Reply;
+use crate::status::Status;
+use pg_command::Show;
+use pg_io::{Shelf, Sink, write_all};
+use pg_ir::Program;
+use pg_runner::ProgramRunner;
+use std::alloc::{AllocError, Global};
+
+/// What is shown of the recording of a program on these numbers.
+fn show_text(
+    alloc: Global,
+    program: &Program,
+    quantum: u32,
+    numbers: &[i64],
+) -> Result<Vec<u8>, AllocError>
+    requires can_run { (input : List ℤ) → length input < 2 ^ 64 → CanRun program.now input }
+    requires least { 1 ≤ quantum }
+    requires most { quantum ≤ QUANTUM_LIMIT }
+    requires few { length numbers.now ≤ NUMBERS_LIMIT }
+    ensures { IfOk result (λ text. IsShowText (runs_of program.now quantum) shown numbers.now text.items) }
+{
+    let mut runner = ProgramRunner::new(program, quantum);
+    pg_runner::show(alloc, &mut runner, numbers)
+}
+
+/// The reply to the program text of the file.
+fn fetch_reply<F: Shelf>(alloc: Global, command: &Show, shelf: &mut F) -> Result<Reply, NoProgram>
+    requires least { 1 ≤ command.now.quantum }
+    requires most { command.now.quantum ≤ QUANTUM_LIMIT }
+    requires few { length command.now.numbers.items ≤ NUMBERS_LIMIT }
+    ensures status { IfOk result (λ r. IsReplyStatus r.status) }
+    ensures reply { IfOk result (λ r. Fetched (F.text shelf.old) (string_bytes command.now.file) (λ text.
+        IsReply (IsShown text command.now.quantum command.now.numbers.items) text r.status r.text.items)) }
+    ensures cause { IsErrOf result NoProgram.ShelfFault →
+        Rose (F.faults shelf.old (string_bytes command.now.file)) (F.faults shelf.new (string_bytes command.now.file)) }
+    ensures counts { (name : List ℕ) → IsErrOf result NoProgram.ShelfFault ⊎ (F.faults shelf.new name ≡ F.faults shelf.old name) }
+    ensures texts_stay { (name : List ℕ) → F.text shelf.new name ≡ F.text shelf.old name }
+{
+    match fetch_program(alloc, shelf, command.file.as_str())? {
+        Loaded::Accepted(program) => Ok(Reply {
+            status: Status::Done,
+            text: show_text(alloc, &program, command.quantum, &command.numbers)?,
+        }),
+        Loaded::Refused(line) => Ok(Reply {
+            status: Status::ProgramRefused,
+            text: line,
+        }),
+    }
+}
+
+/// Fetches the program text, and writes what is recorded of it on the command's numbers.
+pub(crate) fn show<K: Sink, F: Shelf>(
+    alloc: Global,
+    command: &Show,
+    shelf: &mut F,
+    out: &mut K,
+) -> Status
+    requires least { 1 ≤ command.now.quantum }
+    requires most { command.now.quantum ≤ QUANTUM_LIMIT }
+    requires few { length command.now.numbers.items ≤ NUMBERS_LIMIT }
+    ensures ends { (rest : Option (List ℕ)) (reads : ℕ) → EndsAs (record {
+      texts = F.text shelf.old;
+      fetches_before = F.faults shelf.old;
+      fetches_after = F.faults shelf.new;
+      rest_before = rest;
+      rest_after = rest;
+      reads_before = reads;
+      reads_after = reads;
+      taken_before = K.taken out.old;
+      taken_after = K.taken out.new;
+      writes_before = K.faults out.old;
+      writes_after = K.faults out.new;
+    })
+        (show (string_bytes command.now.file) command.now.quantum command.now.numbers.items) result }
+    ensures keeps { (result ≡ Status.ReadFault) ⊎ (result ≡ Status.OutOfMemory) → out.new ≡ out.old }
+    ensures texts_stay { (name : List ℕ) → F.text shelf.new name ≡ F.text shelf.old name }
+{
+    let reply = match fetch_reply(alloc, command, shelf) {
+        Ok(reply) => reply,
+        Err(NoProgram::ShelfFault) => return Status::ShelfFault,
+        Err(NoProgram::OutOfMemory) => return Status::OutOfMemory,
+    };
+    match write_all(out, &reply.text) {
+        Ok(()) => reply.status,
+        Err(_) => Status::WriteFault,
+    }
+}

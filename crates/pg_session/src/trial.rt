@@ -1,0 +1,79 @@
+//! The command `trial`: a session over stated lines, of which counts are told.
+ghost use Rattle.std.specs.Prelude.{◌≡◌, ◌≤◌, ◌<◌, ◌⊎◌, ◌^◌, ℕ, ℤ, List, length, Option, IfOk};
+ghost use Rattle.pg_runs.specs.Cuts.{CanRun};
+ghost use Rattle.pg_command.specs.Commands.{trial};
+ghost use Rattle.pg_command.specs.declared.values.TheConstants.{DEFAULT_QUANTUM};
+ghost use Rattle.pg_runner.specs.Runs.{entry_admits, runs_of};
+ghost use Rattle.pg_serve.specs.Trials.{IsTrialText};
+ghost use Rattle.pg_trial.specs.Program.{trial_program};
+ghost use Rattle.pg_trial.specs.declared.line.TheConstants.{TRIAL_LIMIT};
+ghost use Rattle.pg_session.specs.Commands.{EndsAs, IsTrial};
+ghost use Rattle.pg_session.specs.Replies.{IsReply, IsReplyStatus};
+
+use crate::programs::{Loaded, load};
+use crate::replies::Reply;
+use crate::status::Status;
+use pg_command::DEFAULT_QUANTUM;
+use pg_io::{Sink, write_all};
+use pg_ir::Program;
+use pg_runner::ProgramRunner;
+use pg_trial::trial_program;
+use std::alloc::{AllocError, Global};
+
+/// The text of the trial that a number names, of a program.
+fn trial_text(alloc: Global, program: &Program, number: u64) -> Result<Vec<u8>, AllocError>
+    requires can_run { (input : List ℤ) → length input < 2 ^ 64 → CanRun program.now input }
+    requires number { number ≤ TRIAL_LIMIT }
+    ensures { IfOk result (λ text. IsTrialText entry_admits (runs_of program.now DEFAULT_QUANTUM) number text.items) }
+{
+    let mut runner = ProgramRunner::new(program, DEFAULT_QUANTUM);
+    let text = pg_serve::trial(alloc, &mut runner, number)?;
+    Ok(text)
+}
+
+/// The text of the trial that a number names.
+fn trial_reply(alloc: Global, number: u64) -> Result<Reply, AllocError>
+    requires { number ≤ TRIAL_LIMIT }
+    ensures status { IfOk result (λ r. IsReplyStatus r.status) }
+    ensures reply { IfOk result (λ r. IsReply (IsTrial trial_program number) trial_program r.status r.text.items) }
+{
+    match load(alloc, trial_program().as_bytes())? {
+        Loaded::Accepted(program) => Ok(Reply {
+            status: Status::Done,
+            text: trial_text(alloc, &program, number)?,
+        }),
+        Loaded::Refused(line) => Ok(Reply {
+            status: Status::ProgramRefused,
+            text: line,
+        }),
+    }
+}
+
+/// Writes the text of the trial that a number names.
+pub(crate) fn trial<K: Sink>(alloc: Global, number: u64, out: &mut K) -> Status
+    requires { number ≤ TRIAL_LIMIT }
+    ensures ends { (texts : List ℕ → Option (List ℕ)) (fetches : List ℕ → ℕ) (rest : Option (List ℕ)) (reads : ℕ) → EndsAs (record {
+      texts = texts;
+      fetches_before = fetches;
+      fetches_after = fetches;
+      rest_before = rest;
+      rest_after = rest;
+      reads_before = reads;
+      reads_after = reads;
+      taken_before = K.taken out.old;
+      taken_after = K.taken out.new;
+      writes_before = K.faults out.old;
+      writes_after = K.faults out.new;
+    })
+        (trial number) result }
+    ensures keeps { (result ≡ Status.ReadFault) ⊎ (result ≡ Status.OutOfMemory) → out.new ≡ out.old }
+{
+    let reply = match trial_reply(alloc, number) {
+        Ok(reply) => reply,
+        Err(_) => return Status::OutOfMemory,
+    };
+    match write_all(out, &reply.text) {
+        Ok(()) => reply.status,
+        Err(_) => Status::WriteFault,
+    }
+}
