@@ -6,7 +6,7 @@
 
 use anyhow::Result;
 use pg_ast::print_module;
-use pg_io::{MemorySink, MemorySource};
+use pg_io::{MemoryShelf, MemorySink, MemorySource};
 use pg_num::limits::PROGRAM_TEXT_LIMIT;
 use pg_parse::parse;
 use pg_session::{Status, peregrine};
@@ -35,8 +35,9 @@ fn words_of(alloc: Global, line: &str) -> Result<Vec<String>, AllocError> {
 fn outcome(alloc: Global, line: &str, text: Vec<u8>) -> Result<(Status, Vec<u8>), AllocError> {
     let words = words_of(alloc, line)?;
     let mut src = MemorySource::new(text, PIECE, Vec::new(alloc));
+    let mut shelf = MemoryShelf::new(alloc, Vec::new(alloc), Vec::new(alloc));
     let mut out = MemorySink::new(alloc, ROOM, Vec::new(alloc))?;
-    let status = peregrine(alloc, &words, &mut src, &mut out);
+    let status = peregrine(alloc, &words, &mut src, &mut shelf, &mut out);
     Ok((status, out.bytes().to_vec(alloc)?))
 }
 

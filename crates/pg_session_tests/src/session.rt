@@ -1,8 +1,8 @@
-//! The top call on worked rows. `pg_base_tests` has more command lines, and the program `pg_session_rows` more texts.
+//! `once` by the top call, on worked rows. `pg_base_tests` has more command lines, and the program `pg_session_rows` more texts.
 
 ghost use Rattle.std.specs.Prelude.{◌<◌};
 
-use pg_io::{MemorySink, MemorySource};
+use pg_io::{MemoryShelf, MemorySink, MemorySource};
 use pg_session::{Status, peregrine};
 use std::alloc::{AllocError, Global};
 use std::test::Fail;
@@ -80,8 +80,9 @@ fn outcome(alloc: Global, row: Row<'_>) -> Result<(Status, Vec<u8>), AllocError>
 {
     let words = words_of(alloc, row.line)?;
     let mut src = MemorySource::new(row.text.to_vec(alloc)?, row.piece, row.reads.to_vec(alloc)?);
+    let mut shelf = MemoryShelf::new(alloc, Vec::new(alloc), Vec::new(alloc));
     let mut out = MemorySink::new(alloc, 100, row.writes.to_vec(alloc)?)?;
-    let status = peregrine(alloc, &words, &mut src, &mut out);
+    let status = peregrine(alloc, &words, &mut src, &mut shelf, &mut out);
     Ok((status, out.bytes().to_vec(alloc)?))
 }
 
