@@ -1,10 +1,11 @@
 """The picture as plain text for a terminal: a line for each turn, a column for each thread, races drawn at the right."""
 
-from rows import Box, counted
+from rows import Box
 
 MOST_WIDE = 34
 SIGNS = {"pinned": "◆", "exact": "●"}
 MOST_MARKS = 3
+MOST_STEPS = 12
 
 
 def label(row):
@@ -76,8 +77,9 @@ def picture_lines(picture):
 def check_lines(picture):
     for check in picture.checks:
         times = f" ×{len(check.steps)}" if len(check.steps) > 1 else ""
-        what = f"   {check.told}" if check.told else "   " + counted(len(check.steps), "step", "steps") + " " + ", ".join(map(str, check.steps))
-        yield f"  {SIGNS[check.kind]}{check.instr}{times}{what}"
+        some = ", ".join(map(str, check.steps[:MOST_STEPS])) + (", …" if len(check.steps) > MOST_STEPS else "")
+        what = check.told or f"{'step' if len(check.steps) == 1 else 'steps'} {some}"
+        yield f"  {SIGNS[check.kind]}{check.instr}{times}   {what}"
 
 
 def drawn(picture):

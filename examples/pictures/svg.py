@@ -192,7 +192,7 @@ class Drawing:
         checks = self.picture.checks
         yield 34, lambda y: text_at(self.side, y, "What must come out the same", "part")
         if not checks:
-            yield 19, lambda y: text_at(self.side, y, "no branch and no address: see docs/PRECONDITIONS.md", "note")
+            yield 19, lambda y: text_at(self.side, y, "no branch and no address; the operands of pthread calls alone", "note")
         for kind, told in (("pinned", "a branch, pinned to its edge"), ("exact", "a load or store, with its exact address")):
             if any(it.kind == kind for it in checks):
                 yield 20, lambda y, kind=kind, told=told: sign(kind, self.side + 6, y - 4) + text_at(self.side + 18, y, told, "note")
