@@ -10,7 +10,7 @@ from texts import place_name
 # a box: the first and the last of its turns, its lane, its kind and what stands behind that, the exact steps on it, and
 # the lines that tell more
 Box = namedtuple("Box", "first last lane group kind object exact more")
-# the decisions that stand in a lane before its next box
+# the decisions that stand in a lane before its next box, or among the turns of that box
 Marks = namedtuple("Marks", "lane decisions")
 # an arc between two rows; a thin line from a create to its start, or from an exit to its join
 Race = namedtuple("Race", "one other is_sure more")
@@ -73,14 +73,13 @@ class Picture:
         boxes = []
         for turn in self.shown.turns:
             last = boxes[-1][-1] if boxes else None
-            marks = [it for it in self.placed.get(turn.number, []) if not self.is_on(it, turn)]
-            # bytes that are printed one after another stand in one box
-            if last and turn.kind == last.kind == "putchar" and turn.thread == last.thread and not marks:
+            # bytes that are printed one after another stand in one box, with the decisions between them before it
+            if last and turn.kind == last.kind == "putchar" and turn.thread == last.thread:
                 boxes[-1].append(turn)
             else:
                 boxes.append([turn])
         for turns in boxes:
-            marks = [it for it in self.placed.get(turns[0].number, []) if not self.is_on(it, turns[0])]
+            marks = [it for turn in turns for it in self.placed.get(turn.number, []) if not self.is_on(it, turn)]
             if marks:
                 yield Marks(turns[0].thread, marks)
             yield self.box(turns)

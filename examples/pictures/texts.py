@@ -180,11 +180,11 @@ class Program:
 
 
 def place_name(place, program):
-    """A name for a place of memory: a global's, or the thread whose stack or heap it lies in."""
+    """A name for a place of memory: a global's, or the thread whose stack or heap it lies in, with the bytes behind."""
     if place // 8 >= THREADS_FROM:
         thread, granule = divmod(place // 8 - THREADS_FROM, THREAD_HAS)
-        return f"mem {thread}+{8 * granule + place % 8}"
+        return f"memory {thread}+{8 * granule + place % 8}"
     for name, at, size in program.globals if program else []:
         if at <= place < at + max(8, size):
-            return f"{name}+{place - at}" if place > at else name
+            return f"@{name}+{place - at}" if place > at else f"@{name}"
     return str(place)
