@@ -155,7 +155,8 @@ class Drawing:
         for race in self.picture.races:
             path, ends, kind = *self.ends(race), "race" if race.is_sure else "race perhaps"
             more = [*race.more, *([] if race.is_sure else ["(one of several pairs of turns that this may be)"])]
-            yield f'<g>{tell(more)}<path class="{kind}" d="{path}"/>{ends}</g>'
+            yield f'<g>{tell(more)}<path class="{kind}" d="{path}"/>'
+            yield f"{ends}</g>"
 
     def ends(self, race):
         """The arc of a race, and the dots at its ends."""
@@ -226,11 +227,11 @@ class Drawing:
         return min(CHARS, max([46, *printed, *(len(it.told) + 4 for it in self.picture.checks)]))
 
     def style(self):
-        yield f"text{{font:12px {SANS};fill:{INK}}}"
-        yield f".title{{font:bold 17px {SANS}}} .part{{font:bold 13px {SANS}}} .head{{font:bold 13px {SANS};text-anchor:middle}}"
-        yield f".name{{font:12px {MONO};text-anchor:middle;fill:{FAINT}}} .turn{{font:11px {MONO};text-anchor:end;fill:{FAINT}}}"
-        yield f".box{{font:bold 12px {MONO}}} .object{{font-weight:normal}} .code{{font:11px {MONO};white-space:pre}}"
-        yield f".count{{font:11px {MONO};fill:{FAINT}}} .note{{fill:#4b555f}}"
+        yield f"text{{font-family:{SANS};font-size:12px;fill:{INK}}}"
+        yield f".name,.turn,.box,.code,.count{{font-family:{MONO}}} .turn,.code,.count{{font-size:11px}}"
+        yield ".title{font-size:17px} .part,.head{font-size:13px} .title,.part,.head,.box{font-weight:bold} .object{font-weight:normal}"
+        yield f".head,.name{{text-anchor:middle}} .turn{{text-anchor:end}} .name,.turn,.count{{fill:{FAINT}}} .note{{fill:#4b555f}}"
+        yield ".code{white-space:pre}"
         for group, (fill, edge, _) in COLOURS.items():
             yield f".{group}{{fill:{fill};stroke:{edge}}}"
         yield f".lane{{fill:#f7f8fa}} .life{{stroke:#cdd4da;stroke-width:2}} .under{{fill:#f7f8fa}}"
