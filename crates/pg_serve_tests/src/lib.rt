@@ -1,0 +1,9 @@
+//! Worked rows of sessions and of trials, over runs that are made up.
+#![tactic(auto)]
+
+#[cfg(test)]
+mod made;
+#[cfg(test)]
+mod sessions;
+#[cfg(test)]
+mod trials;
