@@ -69,7 +69,8 @@ fn command_lines(rt: HostRuntime) -> Result<(), Fail> {
     ];
     for (words, want) in rows {
         let words = texts(rt.alloc(), words)?;
-        match command(rt.alloc(), &words)? {
+        let found = command(rt.alloc(), &words)?;
+        match &found {
             Some(Command::Once(once)) => {
                 assert_eq!(rt; Some((once.quantum, once.numbers.as_slice())), want)
             }
@@ -88,7 +89,8 @@ fn how_many_numbers(rt: HostRuntime) -> Result<(), Fail> {
         for _ in 0..count {
             words.push(String::from_str(rt.alloc(), "1")?)?;
         }
-        match command(rt.alloc(), &words)? {
+        let found = command(rt.alloc(), &words)?;
+        match &found {
             Some(Command::Once(once)) => assert!(rt; is_command && once.numbers.len() == count),
             Some(_) => assert!(rt; false),
             None => assert!(rt; !is_command),
@@ -125,7 +127,8 @@ fn sessions(rt: HostRuntime) -> Result<(), Fail> {
     ];
     for (words, want) in rows {
         let words = texts(rt.alloc(), words)?;
-        match command(rt.alloc(), &words)? {
+        let found = command(rt.alloc(), &words)?;
+        match &found {
             Some(Command::Serve(serve)) => {
                 assert_eq!(rt; Some((serve.file.as_str(), serve.quantum)), want)
             }
@@ -154,7 +157,8 @@ fn shows(rt: HostRuntime) -> Result<(), Fail> {
     ];
     for (words, want) in rows {
         let words = texts(rt.alloc(), words)?;
-        match command(rt.alloc(), &words)? {
+        let found = command(rt.alloc(), &words)?;
+        match &found {
             Some(Command::Show(show)) => {
                 assert_eq!(rt;
                     Some((show.file.as_str(), show.quantum, show.numbers.as_slice())),
@@ -188,8 +192,9 @@ fn trials(rt: HostRuntime) -> Result<(), Fail> {
     ];
     for (words, want) in rows {
         let words = texts(rt.alloc(), words)?;
-        match command(rt.alloc(), &words)? {
-            Some(Command::Trial(number)) => assert_eq!(rt; Some(number), want),
+        let found = command(rt.alloc(), &words)?;
+        match &found {
+            Some(Command::Trial(number)) => assert_eq!(rt; Some(*number), want),
             Some(_) => assert!(rt; false),
             None => assert!(rt; want.is_none()),
         }
