@@ -1,4 +1,5 @@
 pub mod Bounds
 pub mod Followed
+pub mod GlobalBytes
 pub mod Lists
 pub mod Serves

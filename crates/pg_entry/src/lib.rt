@@ -8,9 +8,11 @@ mod recorded;
 mod recording;
 mod reference;
 mod replies;
+mod running;
 mod turns;
 
 pub use entry::Entry;
 pub use recorded::Record;
 pub use recording::{from_recorded, record};
+pub use running::can_run;
 pub use turns::{FromFault, from_turns};

@@ -1,9 +1,9 @@
-//! Tests of entries: small programs, recorded and followed along given turns.
+//! Tests of entries: small programs, recorded and followed along given turns, and runs along their entries.
 #![tactic(auto)]
 
 #[cfg(test)]
-mod recorded;
+mod guided;
 #[cfg(test)]
-mod running;
+mod recorded;
 #[cfg(test)]
 mod turns;

@@ -2,9 +2,8 @@
 ghost use Rattle.std.specs.Prelude.{◌≤◌};
 ghost use Rattle.pg_num.specs.declared.limits.TheConstants.{QUANTUM_LIMIT};
 
-use crate::running::can_run;
 use pg_cache::Admits;
-use pg_entry::{Entry, Record, from_recorded, record};
+use pg_entry::{Entry, Record, can_run, from_recorded, record};
 use pg_ir::{InstrId, Program, TrapName};
 use pg_machine::{Ended, Outcome, Recorded, rotate_into};
 use pg_num::limits::RECORDING_STEP_LIMIT;
@@ -16,7 +15,7 @@ use std::process::Abort;
 use std::test::Fail;
 
 /// A program that is recorded with a quantum on an input, and what is wanted of it: no step is pinned.
-struct Row {
+pub(crate) struct Row {
     sample: Sample,
     quantum: u32,
     input: &'static [i64],
@@ -26,7 +25,7 @@ struct Row {
 }
 
 /// Two threads each sum the input.
-const SUMS: Row = Row {
+pub(crate) const SUMS: Row = Row {
     sample: Sample::SumsUnderMutex,
     quantum: 100,
     input: &[1, 2, 3],
@@ -112,7 +111,7 @@ fn check_entry(rt: &impl Abort, row: &Row, entry: &Entry) {
     assert!(rt; entry.decisions().exact.as_slice() == row.exact);
 }
 
-fn check(rt: &impl Abort, alloc: Global, row: &Row) -> Result<Entry, Fail>
+pub(crate) fn check(rt: &impl Abort, alloc: Global, row: &Row) -> Result<Entry, Fail>
     requires least { 1 ≤ row.now.quantum }
     requires most { row.now.quantum ≤ QUANTUM_LIMIT }
 {

@@ -1,8 +1,7 @@
 //! Entries of given turns.
 
-use crate::running::can_run;
 use pg_cache::Admits;
-use pg_entry::{Entry, FromFault, from_turns};
+use pg_entry::{Entry, FromFault, can_run, from_turns};
 use pg_ir::{InstrId, Program, ThreadNo};
 use pg_samples::Sample;
 use pg_trace::{Turn, TurnKind};

@@ -1,4 +1,4 @@
-//! That programs can run on inputs.
+//! Each program can run on each input.
 ghost use Rattle.std.specs.Prelude.{ℕ, ◌<◌, ◌^◌, length, slice_index};
 ghost use Rattle.pg_effects.specs.Reached.{HoldBytes};
 ghost use Rattle.pg_runs.specs.Cuts.{CanRun};
@@ -31,8 +31,8 @@ fn input_is_short(input: &[i64])
     let _length = input.len();
 }
 
-/// A program can run on an input.
-pub(crate) fn can_run(p: &Program, input: &[i64])
+/// A program can run on an input, as `record` and `from_turns` ask: each can on each.
+pub fn can_run(p: &Program, input: &[i64])
     ensures { CanRun p.now input.now }
 {
     p.facts();
