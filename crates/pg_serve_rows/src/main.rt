@@ -1,14 +1,15 @@
 //! Runs the top call on small programs. A line of `rows.txt` has the words of a command line, the files that stand one behind
 //! the other as the program text `x` of the shelf, and the bytes of the source, with `/` for a line feed. For each it prints the
 //! exit status and what was written, and says so where another size of the reads changes that. What comes of each row was
-//! written down by hand. Then it serves each proper prefix of a program, and inputs at the limits of a session.
+//! written down by hand. Then it serves each proper prefix of a program, and lines at the limit of a line. `pg_session_tests` has
+//! longer runs and inputs.
 #![tactic(auto)]
 
 ghost use Rattle.std.specs.Prelude.{◌<◌};
 
 use anyhow::Result;
 use pg_io::{MemoryShelf, MemorySink, MemorySource};
-use pg_num::limits::{LINE_LIMIT, PROGRAM_TEXT_LIMIT, SESSION_INPUT_LIMIT};
+use pg_num::limits::{LINE_LIMIT, PROGRAM_TEXT_LIMIT};
 use pg_session::{Status, peregrine};
 use std::alloc::{AllocError, Global};
 use std::fs;
@@ -140,7 +141,7 @@ fn padded(
     Ok(bytes)
 }
 
-/// Inputs at the limits of a session, and texts at that of a program.
+/// Lines at the limit of a line, and texts that are longer than a program may be.
 fn print_limits(rt: &HostRuntime) -> Result<()> {
     let alloc = rt.alloc();
     let sum = joined(rt, "known.ll sum.ll")?;
@@ -165,22 +166,6 @@ fn print_limits(rt: &HostRuntime) -> Result<()> {
         "serve x",
         sum.as_slice(),
         lines.as_slice(),
-    )?;
-    let most = padded(alloc, b"", b'x', SESSION_INPUT_LIMIT, b"")?;
-    print_outcome(
-        rt,
-        "16777216 bytes",
-        "serve x",
-        sum.as_slice(),
-        most.as_slice(),
-    )?;
-    let more = padded(alloc, b"", b'x', SESSION_INPUT_LIMIT + 1, b"")?;
-    print_outcome(
-        rt,
-        "16777217 bytes",
-        "serve x",
-        sum.as_slice(),
-        more.as_slice(),
     )?;
     let blanks = padded(alloc, b"", b' ', PROGRAM_TEXT_LIMIT + 1, b"")?;
     print_outcome(rt, "1048577 blanks", "serve x", blanks.as_slice(), b"1 2\n")?;
