@@ -28,7 +28,7 @@ use Rattle.pg_closed.specs.declared.decision.Decision.{Decision}
 use Rattle.pg_closed.specs.declared.decision.Decision.TheVariants.{Pinned, Exact}
 use Rattle.pg_closed.specs.Moments.{Moment, instr_in, thread_in}
 use Rattle.pg_closed.specs.Freeable.{FreeAccess, FreeRegion, Regions, frame_of, region_at}
-use Rattle.pg_closed.specs.Shadows.{Shadow, Known, Unknown, always, cut, from_all, loaded, moved, result_of, shadow_of, spoiled, stored, unset}
+use Rattle.pg_closed.specs.Shadows.{Shadow, Unknown, always, cut, from_all, loaded, moved, result_of, shadow_of, spoiled, stored, unset, valued}
 use Rattle.pg_closed.specs.Extents.{Extent, edge_in, is_live, open_after}
 
 -- ---- the run and the decisions
@@ -140,12 +140,12 @@ after_branch p false n x edge (Some r) rs = forgotten_from 0 r.sets (Pinned n) r
 after_branch p pinned n x edge region rs = along_edge p x.block.0 edge rs
 
 abbrev pub from_input : Shadow → Shadow
-from_input s = from_all (s ∷ []) (λ gs. Known (λ input. with_one (slice_index_or (gs input) 0 None) (λ i. Some (input_at input (signed W64 i)))))
+from_input s = from_all (s ∷ []) (λ gs. valued (λ input. with_one (slice_index_or (gs input) 0 None) (λ i. Some (input_at input (signed W64 i)))))
 
 -- the register of a call of a known function that asks nothing of other threads
 abbrev pub after_known : KnownFunction → Option ℕ → ℕ → Shadow → List Shadow → List Shadow
 after_known known.PgIn target result s rs = set_shadow target (from_input s) rs
-after_known known.PgInLen target result s rs = set_shadow target (Known (λ input. Some (length input))) rs
+after_known known.PgInLen target result s rs = set_shadow target (valued (λ input. Some (length input))) rs
 after_known known.Malloc target result s rs = set_shadow target (always result) rs
 after_known k target result s rs = rs
 

@@ -7,5 +7,6 @@ pub mod Rules
 pub mod Closed
 pub mod Sets
 pub mod Rooted
+pub mod Offset
 pub mod Counted
 pub mod Summed

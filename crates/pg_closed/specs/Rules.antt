@@ -29,7 +29,7 @@ use Rattle.pg_closed.specs.declared.decision.Decision.{Decision}
 use Rattle.pg_closed.specs.declared.decision.Decision.TheVariants.{Pinned, Exact}
 use Rattle.pg_closed.specs.Moments.{instr_in, thread_in}
 use Rattle.pg_closed.specs.Freeable.{FreeAccess, FreeRegion, frame_of}
-use Rattle.pg_closed.specs.Shadows.{OnInput, Shadow, Known, Framed, Unknown, blames, frame_blames, frame_word, loaded, unset}
+use Rattle.pg_closed.specs.Shadows.{OnInput, Shadow, Known, Framed, Unknown, blames, frame_blames, frame_word, loaded, unset, valued}
 use Rattle.pg_closed.specs.Known.{Reference, Taken, Seen, is_branch, operand_at, registers_of}
 
 -- ---- what is asked of one value: that it is known, or that its frame is, and what an input must give of it
@@ -56,7 +56,7 @@ if_some None ts = []
 if_some (Some f) ts = conditions_with f ts
 
 abbrev pub value_of : Shadow → Option OnInput
-value_of (Known f) = Some f
+value_of (Known f g) = Some f
 value_of s = None
 
 abbrev pub need_conditions : Need → List Condition
@@ -184,11 +184,11 @@ access_needs_in p x (Some i) = if x.live then access_needs_by p x i (kind_in x) 
 
 abbrev pub root_shadow : NumberedProgram → List Shadow → Root → Shadow
 root_shadow p rs (root.Register r) = slice_index_or rs r unset
-root_shadow p rs r = Known (λ input. root_value p (λ k. None) r)
+root_shadow p rs r = valued (λ input. root_value p (λ k. None) r)
 
 -- a word that is moved to a load's address
 abbrev pub moved_shadow : ℕ → Shadow → Shadow
-moved_shadow k (Known f) = Known (λ input. with_one (f input) (λ word. Some (moved_by word (pos k))))
+moved_shadow k (Known f g) = Known (λ input. with_one (f input) (λ word. Some (moved_by word (pos k)))) g
 moved_shadow k (Framed f x) = Framed f x
 moved_shadow k (Unknown x) = Unknown x
 

@@ -20,33 +20,37 @@ use Rattle.pg_closed.specs.declared.decision.Decision.{Decision}
 abbrev pub OnInput : Type 0
 OnInput = List ℤ → Option ℕ
 
--- a known value; a pointer of which only the frame is known, that of this word; or nothing. The decision is the one that is
--- blamed for what isn't known
+-- a known value, and a word whose frame it has; a pointer of which only the frame is known, that of this word; or nothing. The
+-- decision is the one that is blamed for what isn't known
 pub data Shadow : Type 0 where
-  Known : OnInput → Shadow
+  Known : OnInput → OnInput → Shadow
   Framed : OnInput → Decision → Shadow
   Unknown : Decision → Shadow
 
+-- a known value that has its own frame, as all have but pointers that a getelementptr moved
+abbrev pub valued : OnInput → Shadow
+valued f = Known f f
+
 -- of a register that was never set
 abbrev pub unset : Shadow
-unset = Known (λ input. None)
+unset = valued (λ input. None)
 
 abbrev pub always : ℕ → Shadow
-always n = Known (λ input. Some n)
+always n = valued (λ input. Some n)
 
--- the word whose frame a pointer has, where its frame is known
+-- a word whose frame a pointer has, where its frame is known
 abbrev pub frame_word : Shadow → Option OnInput
-frame_word (Known f) = Some f
+frame_word (Known f g) = Some g
 frame_word (Framed f x) = Some f
 frame_word (Unknown x) = None
 
 abbrev pub is_known : Shadow → Bool
-is_known (Known f) = true
+is_known (Known f g) = true
 is_known s = false
 
 -- the decision that is blamed where the value isn't known
 abbrev pub blames : Shadow → List Decision
-blames (Known f) = []
+blames (Known f g) = []
 blames (Framed f x) = x ∷ []
 blames (Unknown x) = x ∷ []
 
@@ -60,7 +64,7 @@ frame_blames s = []
 -- what is made of values that are all known; else the first that isn't has the blame
 abbrev pub from_all : List Shadow → ((List ℤ → List (Option ℕ)) → Shadow) → Shadow
 from_all [] f = f (λ input. [])
-from_all (Known g ∷ ss) f = from_all ss (λ gs. f (λ input. g input ∷ gs input))
+from_all (Known g h ∷ ss) f = from_all ss (λ gs. f (λ input. g input ∷ gs input))
 from_all (Framed g x ∷ ss) f = Unknown x
 from_all (Unknown x ∷ ss) f = Unknown x
 
@@ -93,11 +97,12 @@ applied (op.Divide d w a b) ns = with_both (number_of ns 0) (number_of ns 1) (λ
 applied o ns = if list_all is_set ns then Some (computed o (λ k. narrowed o k (operands.given (number_of ns k)))) else None
 
 abbrev pub result_of : Op → List Shadow → Shadow
-result_of o ss = from_all ss (λ gs. Known (λ input. applied o (gs input)))
+result_of o ss = from_all ss (λ gs. valued (λ input. applied o (gs input)))
 
--- a pointer that isn't known has the frame of its base
+-- a pointer that is moved has the frame of its base, whether it is known where it points or not
 abbrev pub with_frame : Option OnInput → Shadow → Shadow
-with_frame (Some f) (Unknown x) = Framed f x
+with_frame (Some h) (Known f g) = Known f h
+with_frame (Some h) (Unknown x) = Framed h x
 with_frame _ s = s
 
 abbrev pub moved : Shadow → Shadow → Shadow
@@ -105,7 +110,7 @@ moved base s = with_frame (frame_word base) s
 
 -- a number that is cut
 abbrev pub cut : (ℕ → ℕ) → Shadow → Shadow
-cut f (Known g) = Known (λ input. with_one (g input) (λ n. Some (f n)))
+cut f (Known g h) = valued (λ input. with_one (g input) (λ n. Some (f n)))
 cut f (Framed g x) = Unknown x
 cut f (Unknown x) = Unknown x
 
@@ -116,7 +121,7 @@ abbrev pub byte_in : ℕ → Shadow → Shadow
 byte_in k s = cut (λ n. byte_of n k) s
 
 abbrev pub joined : Shadow → Shadow → Shadow
-joined low high = from_all (low ∷ high ∷ []) (λ gs. Known (λ input. with_both (number_of (gs input) 0) (number_of (gs input) 1) (λ b n. Some (n * 2 ^ 8 + b))))
+joined low high = from_all (low ∷ high ∷ []) (λ gs. valued (λ input. with_both (number_of (gs input) 0) (number_of (gs input) 1) (λ b n. Some (n * 2 ^ 8 + b))))
 
 -- the value of n bytes from a place on; the lowest that isn't known has the blame
 abbrev pub loaded : (ℕ → Shadow) → ℕ → ℕ → Shadow
@@ -139,4 +144,4 @@ spoiled r x bytes b = if is_within r b then Unknown x else bytes b
 -- what is known of an operand, by the registers of its frame
 abbrev pub shadow_of : NumberedProgram → List Shadow → Value → Shadow
 shadow_of p rs (value.Register r) = slice_index_or rs r unset
-shadow_of p rs v = Known (λ input. operands.operand p [] v)
+shadow_of p rs v = valued (λ input. operands.operand p [] v)

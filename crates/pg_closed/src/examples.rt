@@ -4,6 +4,7 @@ ghost use Rattle.std.specs.Prelude.{◌≡◌, ◌∷◌, [], false, pos, true};
 ghost use Rattle.pg_closed.specs.declared.decision.Decision.TheVariants.{Pinned, Exact};
 ghost use Rattle.pg_closed.specs.Closed.{asks, admits};
 ghost use Rattle.pg_closed.specs.Counted.{counted};
+ghost use Rattle.pg_closed.specs.Offset.{offset};
 ghost use Rattle.pg_closed.specs.Rooted.{rooted};
 ghost use Rattle.pg_closed.specs.Sets.{taken};
 ghost use Rattle.pg_closed.specs.Summed.{summed};
@@ -16,6 +17,15 @@ pub fn a_root_is_chosen_by_a_branch()
     ensures closed { asks rooted (taken (3 ∷ []) []) ≡ [] }
     ensures same { admits rooted (taken (3 ∷ []) []) (pos 0 ∷ pos 7 ∷ []) ≡ true }
     ensures other { admits rooted (taken (3 ∷ []) []) (pos 1 ∷ pos 0 ∷ []) ≡ false }
+{}
+
+/// A pointer that a quotient of the input moves has its base's frame, also on an input on which the quotient is undefined:
+/// that input is admitted, but where the store's address is asked for.
+pub fn an_undefined_offset_keeps_the_frame()
+    ensures none { asks offset (taken [] []) ≡ [] }
+    ensures other { admits offset (taken [] []) (pos 3 ∷ []) ≡ true }
+    ensures undefined { admits offset (taken [] []) (pos 0 ∷ []) ≡ true }
+    ensures exact { admits offset (taken [] (4 ∷ [])) (pos 0 ∷ []) ≡ false }
 {}
 
 /// Two loops that nobody is disturbed by need no decision. The load of a thread's number is exact, since a join is

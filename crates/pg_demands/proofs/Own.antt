@@ -40,12 +40,12 @@ abbrev pub IsQuiet : List Need → Type 0
 IsQuiet ns = (a : Need) → Contains ns a → (z : Decision) → Contains (need_blames a) z → ⊥
 
 value_quiet : (s : Shadow) → ((z : Decision) → Contains (blames s) z → ⊥) → is_met true s ≡ true
-value_quiet (Known f) q = refl
+value_quiet (Known f g) q = refl
 value_quiet (Framed f x) q = absurd (q x (here x []))
 value_quiet (Unknown x) q = absurd (q x (here x []))
 
 frame_quiet : (s : Shadow) → ((z : Decision) → Contains (frame_blames s) z → ⊥) → is_met false s ≡ true
-frame_quiet (Known f) q = refl
+frame_quiet (Known f g) q = refl
 frame_quiet (Framed f x) q = refl
 frame_quiet (Unknown x) q = absurd (q x (here x []))
 
@@ -68,7 +68,7 @@ one_frame : (v : Shadow) (t : Test) → IsQuiet (Frame v t ∷ []) → is_met fa
 one_frame v t q = frame_quiet v (first_quiet (Frame v t) [] q)
 
 moved_value : (k : ℕ) (s : Shadow) → is_met true (moved_shadow k s) ≡ true → is_met true s ≡ true
-moved_value k (Known f) h = refl
+moved_value k (Known f g) h = refl
 moved_value k (Framed f x) h = h
 moved_value k (Unknown x) h = h
 

@@ -122,7 +122,7 @@ module _ (p : NumberedProgram) (e : Taken) (n : ℕ) (m : Moment) (region : Opti
         go false g = rw g (self (subst (λ (z : Shadow). is_met whole z ≡ true) (same ∙ ap (λ (b : Bool). if b then Unknown (Pinned n) else slice_index_or rs r unset) g) h))
 
     input_met : (z : Shadow) → is_met whole (from_input z) ≡ true → is_met true z ≡ true
-    input_met (Known f) h = refl
+    input_met (Known f g) h = refl
     input_met (Framed f y) h = absurd (true≢false (sym h))
     input_met (Unknown y) h = absurd (true≢false (sym h))
 

@@ -12,7 +12,7 @@ use Rattle.pg_ir.specs.Program.{NumberedProgram}
 use Rattle.pg_ir.specs.Edges.{incoming_from, incoming_of, phis_of}
 use Rattle.pg_step.specs.Operands.{operands_of}
 use Rattle.pg_closed.specs.declared.decision.Decision.{Decision}
-use Rattle.pg_closed.specs.Shadows.{OnInput, Shadow, Known, Framed, Unknown, cut, from_all, joined, loaded, moved, result_of, shadow_of, unset}
+use Rattle.pg_closed.specs.Shadows.{OnInput, Shadow, Known, Framed, Unknown, cut, from_all, joined, loaded, moved, result_of, shadow_of, unset, valued}
 use Rattle.pg_closed.specs.Known.{RunShadow, along_edge, entered, forgotten_from, operand_at, operand_shadows, optional_shadow, phi_shadow, set_phis, set_shadow, thread_of}
 use Rattle.pg_demands.specs.Cells.{IsMet, Register, call_at, is_met}
 use Rattle.pg_demands.specs.Back.{back_edge, back_moved, back_phi, is_target, last_phi, of_bytes, of_operand, of_optional, of_value, of_values, register_demand, this_phi}
@@ -69,14 +69,14 @@ index_phis f (x ∷ xs) rs r l =
 -- ---- bytes
 
 pub cut_met : (f : ℕ → ℕ) (whole : Bool) (s : Shadow) → is_met whole (cut f s) ≡ true → is_met true s ≡ true
-cut_met f whole (Known g) h = refl
+cut_met f whole (Known g k) h = refl
 cut_met f whole (Framed g x) h = h
 cut_met f whole (Unknown x) h = h
 
 joined_met : (whole : Bool) (low high : Shadow) → is_met whole (joined low high) ≡ true → (is_met true low ≡ true) × (is_met true high ≡ true)
-joined_met whole (Known f) (Known g) h = (refl, refl)
-joined_met whole (Known f) (Framed g x) h = absurd (true≢false (sym h))
-joined_met whole (Known f) (Unknown x) h = absurd (true≢false (sym h))
+joined_met whole (Known f u) (Known g w) h = (refl, refl)
+joined_met whole (Known f u) (Framed g x) h = absurd (true≢false (sym h))
+joined_met whole (Known f u) (Unknown x) h = absurd (true≢false (sym h))
 joined_met whole (Framed f x) high h = absurd (true≢false (sym h))
 joined_met whole (Unknown x) high h = absurd (true≢false (sym h))
 
@@ -112,36 +112,36 @@ module _ (p : NumberedProgram) (s : RunShadow) (t k : ℕ) (rs : List Shadow) (t
   pub operand_met : (o : Op) (j : ℕ) (whole : Bool) → is_met whole (operand_at p rs o j) ≡ true → AllByRecursion (IsMet s) (of_operand t k whole o j)
   operand_met o j whole h = argument_met (operands_of o) j whole h
 
-  pub values_met : (vs : List Value) (F : (List ℤ → List (Option ℕ)) → OnInput) (whole : Bool) → is_met whole (from_all (map (shadow_of p rs) vs) (λ gs. Known (F gs))) ≡ true →
+  pub values_met : (vs : List Value) (F : (List ℤ → List (Option ℕ)) → OnInput) (whole : Bool) → is_met whole (from_all (map (shadow_of p rs) vs) (λ gs. valued (F gs))) ≡ true →
       AllByRecursion (IsMet s) (of_values t k vs)
   values_met [] F whole h = tt
   values_met (v ∷ vs) F whole h = go (shadow_of p rs v) refl (λ G z. values_met vs G whole z)
     where
       go : (z : Shadow) → shadow_of p rs v ≡ z →
-          ((G : (List ℤ → List (Option ℕ)) → OnInput) → is_met whole (from_all (map (shadow_of p rs) vs) (λ gs. Known (G gs))) ≡ true → AllByRecursion (IsMet s) (of_values t k vs)) →
+          ((G : (List ℤ → List (Option ℕ)) → OnInput) → is_met whole (from_all (map (shadow_of p rs) vs) (λ gs. valued (G gs))) ≡ true → AllByRecursion (IsMet s) (of_values t k vs)) →
           AllByRecursion (IsMet s) (of_value t k true v ++ of_values t k vs)
-      go (Known f) q more =
-          let z : is_met whole (from_all (Known f ∷ map (shadow_of p rs) vs) (λ gs. Known (F gs))) ≡ true =
-          subst (λ (z : Shadow). is_met whole (from_all (z ∷ map (shadow_of p rs) vs) (λ gs. Known (F gs))) ≡ true) q h in
+      go (Known f g) q more =
+          let z : is_met whole (from_all (Known f g ∷ map (shadow_of p rs) vs) (λ gs. valued (F gs))) ≡ true =
+          subst (λ (z : Shadow). is_met whole (from_all (z ∷ map (shadow_of p rs) vs) (λ gs. valued (F gs))) ≡ true) q h in
           append_all (IsMet s) (of_value t k true v) (of_values t k vs) (value_met v true (subst (λ (z : Shadow). is_met true z ≡ true) (sym q) refl))
           (more (λ gs. F (λ input. f input ∷ gs input)) z)
-      go (Framed f x) q more = absurd (none_unknown whole x (subst (λ (z : Shadow). is_met whole (from_all (z ∷ map (shadow_of p rs) vs) (λ gs. Known (F gs))) ≡ true) q h))
-      go (Unknown x) q more = absurd (none_unknown whole x (subst (λ (z : Shadow). is_met whole (from_all (z ∷ map (shadow_of p rs) vs) (λ gs. Known (F gs))) ≡ true) q h))
+      go (Framed f x) q more = absurd (none_unknown whole x (subst (λ (z : Shadow). is_met whole (from_all (z ∷ map (shadow_of p rs) vs) (λ gs. valued (F gs))) ≡ true) q h))
+      go (Unknown x) q more = absurd (none_unknown whole x (subst (λ (z : Shadow). is_met whole (from_all (z ∷ map (shadow_of p rs) vs) (λ gs. valued (F gs))) ≡ true) q h))
 
   -- ---- pointers that are moved
 
   moved_whole : (base z : Shadow) → is_met true (moved base z) ≡ true → is_met true z ≡ true
-  moved_whole (Known f) (Known g) h = refl
-  moved_whole (Known f) (Framed g x) h = h
-  moved_whole (Known f) (Unknown x) h = absurd (true≢false (sym h))
-  moved_whole (Framed f y) (Known g) h = refl
+  moved_whole (Known f u) (Known g w) h = refl
+  moved_whole (Known f u) (Framed g x) h = h
+  moved_whole (Known f u) (Unknown x) h = absurd (true≢false (sym h))
+  moved_whole (Framed f y) (Known g w) h = refl
   moved_whole (Framed f y) (Framed g x) h = h
   moved_whole (Framed f y) (Unknown x) h = absurd (true≢false (sym h))
   moved_whole (Unknown y) z h = h
 
   moved_frame : (o : Op) (ss : List Shadow) → is_met false (moved (slice_index_or ss 0 unset) (result_of o ss)) ≡ true → is_met false (slice_index_or ss 0 unset) ≡ true
   moved_frame o [] h = refl
-  moved_frame o (Known f ∷ ss) h = refl
+  moved_frame o (Known f g ∷ ss) h = refl
   moved_frame o (Framed f x ∷ ss) h = refl
   moved_frame o (Unknown x ∷ ss) h = absurd (true≢false (sym h))
 

@@ -25,7 +25,7 @@ cell_shadow s (Byte b) = s.bytes b
 cell_shadow s (Word t) = slice_index_or s.words t unset
 
 abbrev pub is_met : Bool → Shadow → Bool
-is_met whole (Known f) = true
+is_met whole (Known f g) = true
 is_met whole (Framed f x) = not whole
 is_met whole (Unknown x) = false
 

@@ -1,20 +1,20 @@
 -- What a larger closed set admits a smaller one admits; and what is known stays known.
-use Rattle.std.proofs.Common.{◌≡◌, ℕ, ℤ, Bool, true, List, [], ◌∷◌, Option, Some, None, refl, sym, ap, ◌∙◌, subst, inl, inr, ◌⊎◌}
+use Rattle.std.proofs.Common.{◌≡◌, ℤ, Bool, true, List, [], ◌∷◌, refl, sym, ap, ◌∙◌, subst, inl, inr, ◌⊎◌}
 use Rattle.std.specs.Prelude.{Contains}
 use Rattle.std.specs.List.{AllZip, list_all}
-use Rattle.std.proofs.lemmas.Bool.{true≢false, and_parts, and_from}
+use Rattle.std.proofs.lemmas.Bool.{and_parts, and_from}
 use Rattle.std.proofs.lemmas.List.Elements.{Contains-append_cases, Contains-append_left, Contains-append_right}
 use Rattle.pg_nodes.specs.declared.check.Test.{Test}
 use Rattle.pg_nodes.specs.Values.{is_met}
 use Rattle.pg_closed.specs.Shadows.{OnInput, Shadow, Known, Framed, Unknown, unset}
 use Rattle.pg_closed.specs.Known.{Reference, Seen, Taken, seen_in}
-use Rattle.pg_closed.specs.Rules.{Condition, Need, Value, Frame, all_of, frame_needs, need_conditions, registers_before, same_frame, value_needs}
+use Rattle.pg_closed.specs.Rules.{Condition, Need, Value, Frame, all_of, frame_needs, need_conditions, registers_before, value_needs}
 use Rattle.pg_closed.specs.Closed.{AreWithin, admits, conditions, conditions_at}
 use Rattle.pg_least.specs.Keeps.{ExtentsKeep}
 use Rattle.pg_least.specs.Laws.{StayKnown}
 use Rattle.pg_least.proofs.Zips.{cases_in, here, index_like, none_in, there}
 use Rattle.pg_least.proofs.Links.{IsLink}
-use Rattle.pg_least.proofs.Likes.{IsFramedBy, Likes, likes_link}
+use Rattle.pg_least.proofs.Likes.{Likes, likes_link}
 use Rattle.pg_least.proofs.Needs.{NeedLike, NeedsWithin, SeenLike, frames_within, values_within}
 use Rattle.pg_least.proofs.Whole.{run_like}
 use Rattle.pg_least.proofs.Asks.{all_in, in_all_of, of_all}
@@ -38,42 +38,29 @@ module _ (e : Taken) (input : List ℤ) where
   abbrev IsMet : Condition → Type 0
   IsMet c = is_met c.test (c.value input) ≡ true
 
-  -- a frame that is met by the later word is met by the first
-  frame_met : (h g : OnInput) (w : ℕ) → IsFramedBy h g → is_met (same_frame w) (h input) ≡ true → is_met (same_frame w) (g input) ≡ true
-  frame_met h g w f q = go (h input) refl
-    where
-      go : (o : Option ℕ) → h input ≡ o → is_met (same_frame w) (g input) ≡ true
-      go None r = absurd (true≢false (sym (rw r at q)))
-      go (Some v) r =
-          let z = f input v r in
-          let a : is_met (same_frame w) (Some v) ≡ true = rw r at q in
-          rw (z.1, ← z.2.0, ← z.2.1) a
+  -- the same word that meets the same test
+  word_met : (h g : OnInput) (b a : Test) → h ≡ g → b ≡ a → IsMet (record { value = h; test = b }) → IsMet (record { value = g; test = a })
+  word_met h g b a e f m = subst (λ (k : OnInput). IsMet (record { value = k; test = a })) e (subst (λ (t : Test). IsMet (record { value = h; test = t })) f m)
 
   need_met : (a b : Need) → NeedLike (Likes e) a b → ((c : Condition) → Contains (need_conditions b) c → IsMet c) →
       (c : Condition) → Contains (need_conditions a) c → IsMet c
-  need_met (Value (Known f) a) (Value t b) h met c q =
-      met c (subst (λ (z : Need). Contains (need_conditions z) c) (sym (ap (λ (s : Shadow). Value s b) h.0 ∙ ap (Value (Known f)) h.1)) q)
+  need_met (Value (Known f g) a) (Value t b) h met c q =
+      met c (subst (λ (z : Need). Contains (need_conditions z) c) (sym (ap (λ (s : Shadow). Value s b) h.0 ∙ ap (Value (Known f g)) h.1)) q)
   need_met (Value (Framed g x) a) (Value t b) h met c q = absurd (none_in c q)
   need_met (Value (Unknown x) a) (Value t b) h met c q = absurd (none_in c q)
   need_met (Value s a) (Frame t b) h met c q = absurd h
   need_met (Frame s a) (Value t b) h met c q = absurd h
-  need_met (Frame (Known f) a) (Frame t b) h met c q =
-      met c (subst (λ (z : Need). Contains (need_conditions z) c) (sym (ap (λ (s : Shadow). Frame s b) h.0 ∙ ap (Frame (Known f)) h.1)) q)
-  need_met (Frame (Framed g x) a) (Frame (Known u) b) h met c q = only (cases_in _ [] c q)
+  need_met (Frame (Known f g) a) (Frame t b) h met c q =
+      met c (subst (λ (z : Need). Contains (need_conditions z) c) (sym (ap (λ (s : Shadow). Frame s b) h.0 ∙ ap (Frame (Known f g)) h.1)) q)
+  need_met (Frame (Framed g x) a) (Frame (Known u w) b) h met c q = only (cases_in _ [] c q)
     where
       only : (record { value = g; test = a } ≡ c) ⊎ Contains [] c → IsMet c
-      only (inl f) =
-          let m : is_met b (u input) ≡ true = met (record { value = u; test = b }) (here (record { value = u; test = b }) []) in
-          let z : is_met (same_frame h.2.0) (u input) ≡ true = subst (λ (t : Test). is_met t (u input) ≡ true) (h.1 ∙ h.2.1) m in
-          subst IsMet f (rw h.2.1 (frame_met u g h.2.0 h.0.0 z))
+      only (inl f) = subst IsMet f (word_met w g b a h.0.0 h.1 (met (record { value = w; test = b }) (here (record { value = w; test = b }) [])))
       only (inr n) = absurd (none_in c n)
   need_met (Frame (Framed g x) a) (Frame (Framed u y) b) h met c q = only (cases_in _ [] c q)
     where
       only : (record { value = g; test = a } ≡ c) ⊎ Contains [] c → IsMet c
-      only (inl f) =
-          let m : is_met b (u input) ≡ true = met (record { value = u; test = b }) (here (record { value = u; test = b }) []) in
-          let z : is_met (same_frame h.2.0) (u input) ≡ true = subst (λ (t : Test). is_met t (u input) ≡ true) (h.1 ∙ h.2.1) m in
-          subst IsMet f (rw h.2.1 (frame_met u g h.2.0 h.0 z))
+      only (inl f) = subst IsMet f (word_met u g b a h.0 h.1 (met (record { value = u; test = b }) (here (record { value = u; test = b }) [])))
       only (inr n) = absurd (none_in c n)
   need_met (Frame (Framed g x) a) (Frame (Unknown y) b) h met c q = absurd h.0
   need_met (Frame (Unknown x) a) (Frame t b) h met c q = absurd (none_in c q)
@@ -115,14 +102,14 @@ admits_more R keeps d e within input h =
 
 -- ---- what is known
 
-like_known : (e : Taken) (s t : Shadow) (f : OnInput) → Likes e s t → s ≡ Known f → t ≡ Known f
-like_known e s t f h q = subst (λ (s : Shadow). Likes e s t) q h
+like_known : (e : Taken) (s t : Shadow) (f g : OnInput) → Likes e s t → s ≡ Known f g → t ≡ Known f g
+like_known e s t f g h q = subst (λ (s : Shadow). Likes e s t) q h
 
 stay_known : (e : Taken) (x y : Seen) → SeenLike (Likes e) x y → StayKnown x y
 stay_known e x y h = record {
-  registers = λ live r f. like_known e _ _ f (index_like (Likes e) (registers_before x) (registers_before y) r unset refl (h.registers live));
-  bytes = λ b f. like_known e _ _ f (h.bytes b);
-  words = λ t f. like_known e _ _ f (index_like (Likes e) x.before.words y.before.words t unset refl h.words);
+  registers = λ live r f g. like_known e _ _ f g (index_like (Likes e) (registers_before x) (registers_before y) r unset refl (h.registers live));
+  bytes = λ b f g. like_known e _ _ f g (h.bytes b);
+  words = λ t f g. like_known e _ _ f g (index_like (Likes e) x.before.words y.before.words t unset refl h.words);
 }
 
 zip_more : {A : Type 0} (P Q : A → A → Type 0) (xs ys : List A) → ((x y : A) → P x y → Q x y) → AllZip P xs ys → AllZip Q xs ys

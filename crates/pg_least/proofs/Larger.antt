@@ -103,8 +103,8 @@ shared_more x z live also before after f g q =
 
 module _ (e : Taken) where
   blamed_above : (s t : Shadow) (z : Decision) → Likes e s t → Contains (blames s) z → ((w : Decision) → Contains (blames t) w → ⊥) → has e z ≡ true
-  blamed_above (Known f) t z h c none = absurd (none_in z c)
-  blamed_above (Framed g x) (Known u) z h c none = only (cases_in x [] z c)
+  blamed_above (Known f g) t z h c none = absurd (none_in z c)
+  blamed_above (Framed g x) (Known u w) z h c none = only (cases_in x [] z c)
     where
       only : (x ≡ z) ⊎ Contains [] z → has e z ≡ true
       only (inl q) = subst (λ (z : Decision). has e z ≡ true) q h.1
@@ -119,7 +119,7 @@ module _ (e : Taken) where
   blamed_above (Unknown x) t z (inr q) c none = absurd (none q.0 (subst (λ (s : Shadow). Contains (blames s) q.0) (sym q.1) (here q.0 [])))
 
   frame_above : (s t : Shadow) (z : Decision) → Likes e s t → Contains (frame_blames s) z → ((w : Decision) → Contains (frame_blames t) w → ⊥) → has e z ≡ true
-  frame_above (Known f) t z h c none = absurd (none_in z c)
+  frame_above (Known f g) t z h c none = absurd (none_in z c)
   frame_above (Framed g x) t z h c none = absurd (none_in z c)
   frame_above (Unknown x) t z (inl q) c none = only (cases_in x [] z c)
     where

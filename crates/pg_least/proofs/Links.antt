@@ -14,7 +14,7 @@ use Rattle.pg_ir.specs.Program.{NumberedProgram}
 use Rattle.pg_ir.specs.Edges.{phis_of}
 use Rattle.pg_closed.specs.declared.decision.Decision.{Decision}
 use Rattle.pg_closed.specs.Freeable.{FreeAccess, frame_of}
-use Rattle.pg_closed.specs.Shadows.{OnInput, Shadow, Known, Unknown, cut, from_all, is_within, joined, loaded, moved, result_of, shadow_of, spoiled, stored, unset, byte_in}
+use Rattle.pg_closed.specs.Shadows.{OnInput, Shadow, Unknown, cut, from_all, is_within, joined, loaded, moved, result_of, shadow_of, spoiled, stored, unset, valued, byte_in}
 use Rattle.pg_closed.specs.Known.{Taken, along_edge, forgotten_bytes, forgotten_from, has, operand_at, operand_shadows, optional_shadow, phi_shadow, set_phis, set_shadow}
 use Rattle.pg_closed.specs.Rules.{moved_shadow}
 use Rattle.pg_closed.specs.Closed.{AreWithin}
@@ -24,8 +24,8 @@ use Rattle.pg_least.proofs.Zips.{here, index_like, map_like, set_like, there}
 
 pub record IsLink (d e : Taken) (bound : ℕ) (L : Shadow → Shadow → Type 0) : Type 0 where
   pub within : AreWithin d e
-  pub known : (f : OnInput) → L (Known f) (Known f)
-  pub all : (ss ts : List Shadow) (F : (List ℤ → List (Option ℕ)) → OnInput) → AllZip L ss ts → L (from_all ss (λ gs. Known (F gs))) (from_all ts (λ gs. Known (F gs)))
+  pub known : (f : OnInput) → L (valued f) (valued f)
+  pub all : (ss ts : List Shadow) (F : (List ℤ → List (Option ℕ)) → OnInput) → AllZip L ss ts → L (from_all ss (λ gs. valued (F gs))) (from_all ts (λ gs. valued (F gs)))
   pub cuts : (f : ℕ → ℕ) (s t : Shadow) → L s t → L (cut f s) (cut f t)
   pub moves : (o : Op) (base : Value) (indices : List Index) → o ≡ op.Gep base indices → (ss ts : List Shadow) → AllZip L ss ts →
       L (moved (slice_index_or ss 0 unset) (result_of o ss)) (moved (slice_index_or ts 0 unset) (result_of o ts))

@@ -152,7 +152,7 @@ module _ (R : Reference) (d : Taken) (bound : ℕ) where
       go (inr t) more = more (step_new n below m s h) t
 
   blamed : (s : Shadow) (x : Decision) → BlamesNew d bound s → Contains (blames s) x → IsNew d bound x
-  blamed (Known f) x h c = absurd (none_in x c)
+  blamed (Known f g) x h c = absurd (none_in x c)
   blamed (Framed f y) x h c = only (cases_in y [] x c)
     where
       only : (y ≡ x) ⊎ Contains [] x → IsNew d bound x
@@ -165,7 +165,7 @@ module _ (R : Reference) (d : Taken) (bound : ℕ) where
       only (inr t) = absurd (none_in x t)
 
   frame_blamed : (s : Shadow) (x : Decision) → BlamesNew d bound s → Contains (frame_blames s) x → IsNew d bound x
-  frame_blamed (Known f) x h c = absurd (none_in x c)
+  frame_blamed (Known f g) x h c = absurd (none_in x c)
   frame_blamed (Framed f y) x h c = absurd (none_in x c)
   frame_blamed (Unknown y) x h c = blamed (Unknown y) x h c
 

@@ -5,7 +5,7 @@ use Rattle.std.specs.Prelude.{slice_index_or}
 use Rattle.std.proofs.lemmas.Bool.{true≢false}
 use Rattle.pg_ir.specs.declared.instr.Op.{Op}
 use Rattle.pg_closed.specs.declared.decision.Decision.{Decision}
-use Rattle.pg_closed.specs.Shadows.{OnInput, Shadow, Known, Framed, Unknown, applied, cut, from_all, moved, result_of, unset}
+use Rattle.pg_closed.specs.Shadows.{OnInput, Shadow, Known, Framed, Unknown, applied, cut, from_all, moved, result_of, unset, valued}
 use Rattle.pg_closed.specs.Known.{Taken, has}
 use Rattle.pg_closed.specs.Rules.{moved_shadow}
 use Rattle.pg_least.specs.Laws.{step_in}
@@ -16,7 +16,7 @@ abbrev pub IsNew : Taken → ℕ → Decision → Type 0
 IsNew d bound x = (has d x ≡ false) × (step_in x < bound)
 
 abbrev pub BlamesNew : Taken → ℕ → Shadow → Type 0
-BlamesNew d bound (Known f) = Unit {0}
+BlamesNew d bound (Known f g) = Unit {0}
 BlamesNew d bound (Framed f x) = IsNew d bound x
 BlamesNew d bound (Unknown x) = IsNew d bound x
 
@@ -25,11 +25,11 @@ abbrev pub SameNew : Taken → ℕ → Shadow → Shadow → Type 0
 SameNew d bound s t = (s ≡ t) × BlamesNew d bound s
 
 module _ (d : Taken) (bound : ℕ) where
-  all_new : (ss ts : List Shadow) (F : (List ℤ → List (Option ℕ)) → OnInput) → AllZip (SameNew d bound) ss ts → BlamesNew d bound (from_all ss (λ gs. Known (F gs)))
+  all_new : (ss ts : List Shadow) (F : (List ℤ → List (Option ℕ)) → OnInput) → AllZip (SameNew d bound) ss ts → BlamesNew d bound (from_all ss (λ gs. valued (F gs)))
   all_new [] [] F h = tt
   all_new [] (t ∷ ts) F h = absurd h
   all_new (s ∷ ss) [] F h = absurd h
-  all_new (Known g ∷ ss) (t ∷ ts) F h = all_new ss ts (λ gs. F (λ input. g input ∷ gs input)) h.1
+  all_new (Known g k ∷ ss) (t ∷ ts) F h = all_new ss ts (λ gs. F (λ input. g input ∷ gs input)) h.1
   all_new (Framed g x ∷ ss) (t ∷ ts) F h = h.0.1
   all_new (Unknown x ∷ ss) (t ∷ ts) F h = h.0.1
 
@@ -40,18 +40,20 @@ module _ (d : Taken) (bound : ℕ) where
   same_list (s ∷ ss) (t ∷ ts) h = let q : s ≡ t = h.0.0 in let r : ss ≡ ts = same_list ss ts h.1 in cc
 
   cut_new : (f : ℕ → ℕ) (s : Shadow) → BlamesNew d bound s → BlamesNew d bound (cut f s)
-  cut_new f (Known g) h = tt
+  cut_new f (Known g k) h = tt
   cut_new f (Framed g x) h = h
   cut_new f (Unknown x) h = h
 
   moved_new : (b s : Shadow) → BlamesNew d bound s → BlamesNew d bound (moved b s)
-  moved_new (Known f) (Unknown x) h = h
+  moved_new (Known f g) (Known u w) h = tt
+  moved_new (Framed f y) (Known u w) h = tt
+  moved_new (Known f g) (Unknown x) h = h
   moved_new (Framed f y) (Unknown x) h = h
   moved_new (Unknown y) (Unknown x) h = h
   moved_new b s h = h
 
   shift_new : (k : ℕ) (s : Shadow) → BlamesNew d bound s → BlamesNew d bound (moved_shadow k s)
-  shift_new k (Known f) h = tt
+  shift_new k (Known f g) h = tt
   shift_new k (Framed f x) h = h
   shift_new k (Unknown x) h = h
 
@@ -66,7 +68,7 @@ module _ (d : Taken) (bound : ℕ) where
   new_link = record {
     within = λ x h. h;
     known = λ f. (refl, tt);
-    all = λ ss ts F h. (ap (λ (zs : List Shadow). from_all zs (λ gs. Known (F gs))) (same_list ss ts h), all_new ss ts F h);
+    all = λ ss ts F h. (ap (λ (zs : List Shadow). from_all zs (λ gs. valued (F gs))) (same_list ss ts h), all_new ss ts F h);
     cuts = λ f s t h. (ap (cut f) h.0, cut_new f s h.1);
     moves = λ o base indices q ss ts h. gep_new o ss ts h;
     shifts = λ k s t h. (ap (moved_shadow k) h.0, shift_new k s h.1);

@@ -47,12 +47,12 @@ SliceIsOne R = (d e : Taken) → IsSlice R d → IsSlice R e → (x : Decision) 
 abbrev pub SmallerAdmitsMore : Reference → Type 0
 SmallerAdmitsMore R = (d e : Taken) → AreWithin d e → (input : List ℤ) → admits R e input ≡ true → admits R d input ≡ true
 
--- what is known before the first step is known before the second, with the same number on each input: of registers of the
+-- what is known before the first step is known before the second, with the same number and the same frame on each input: of registers of the
 -- thread, where the first step is live, of bytes and of words
 pub record StayKnown (x y : Seen) : Type 0 where
-  pub registers : x.live ≡ true → (r : ℕ) (f : OnInput) → slice_index_or (registers_before x) r unset ≡ Known f → slice_index_or (registers_before y) r unset ≡ Known f
-  pub bytes : (b : ℕ) (f : OnInput) → x.before.bytes b ≡ Known f → y.before.bytes b ≡ Known f
-  pub words : (t : ℕ) (f : OnInput) → slice_index_or x.before.words t unset ≡ Known f → slice_index_or y.before.words t unset ≡ Known f
+  pub registers : x.live ≡ true → (r : ℕ) (f g : OnInput) → slice_index_or (registers_before x) r unset ≡ Known f g → slice_index_or (registers_before y) r unset ≡ Known f g
+  pub bytes : (b : ℕ) (f g : OnInput) → x.before.bytes b ≡ Known f g → y.before.bytes b ≡ Known f g
+  pub words : (t : ℕ) (f g : OnInput) → slice_index_or x.before.words t unset ≡ Known f g → slice_index_or y.before.words t unset ≡ Known f g
 
 -- what is known before each step under some decisions is known under more of them
 abbrev pub KnownStays : Reference → Type 0

@@ -8,7 +8,7 @@ use Rattle.pg_nodes.specs.Values.{holds, is_met, numbers_of}
 use Rattle.pg_nodes.specs.declared.check.Check.{Check}
 use Rattle.pg_closed.specs.declared.decision.Decision.{Decision}
 use Rattle.pg_closed.specs.Rules.{Condition, Need, Value, all_of, conditions_with, need_blames, need_conditions}
-use Rattle.pg_closed.specs.Shadows.{Known}
+use Rattle.pg_closed.specs.Shadows.{OnInput, Known}
 use Rattle.pg_needs.specs.Asks.{Adds, AreNamed, all_hold, all_met, other_than}
 use Rattle.pg_sources.specs.Sources.{number_by}
 use Rattle.pg_needs.specs.declared.asked.Asked.{Asked}
@@ -61,9 +61,9 @@ met_each ns node [] input = refl
 met_each ns node (c ∷ cases) input = ap (λ b. holds (numbers_of input ns) (other_than node c) && b) (met_each ns node cases input)
 
 -- a value that is none of some cases
-pub many_checks : (ns : NodeList) (old new : Asked) (node : ℕ) (cases : List Case) → new.missing.items ≡ old.missing.items → new.checks.items ≡ old.checks.items ++ map (other_than node) cases → node < length ns →
-    Adds ns (Value (Known (number_by ns node)) (map (λ (c : Case). test.Ne c.value) cases) ∷ []) old new
-many_checks ns old new node cases m k h = record {
+pub many_checks : (ns : NodeList) (old new : Asked) (node : ℕ) (f : OnInput) (cases : List Case) → new.missing.items ≡ old.missing.items → new.checks.items ≡ old.checks.items ++ map (other_than node) cases → node < length ns →
+    Adds ns (Value (Known (number_by ns node) f) (map (λ (c : Case). test.Ne c.value) cases) ∷ []) old new
+many_checks ns old new node f cases m k h = record {
   missing = m ∙ sym (append-nil old.missing.items);
   checks = λ input.
       ap (λ l. all_hold ns l input) k ∙ all_both (holds (numbers_of input ns)) old.checks.items (map (other_than node) cases)

@@ -25,6 +25,11 @@ case_tests w on other cases n e = rw e refl
 pub default_tests : (w : Width) (on : Value) (other : BlockNo) (cases : List Case) (n : ℕ) → is_case n cases ≡ false → edge_tests (op.Switch w on other cases) n ≡ map (λ (c : Case). test.Ne c.value) cases
 default_tests w on other cases n e = rw e refl
 
+-- the test of a condition that isn't a switch's
+pub other_tests : (o : Op) (n : ℕ) → ((w : Width) (on : Value) (other : BlockNo) (cases : List Case) → o ≡ op.Switch w on other cases → ⊥) → edge_tests o n ≡ test.Eq n ∷ []
+other_tests (op.Switch w on other cases) n h = absurd (h w on other cases refl)
+other_tests _ n h = refl
+
 pub frame_of_access : (s : Shadow) (a : Option Access) (pointer : ℕ) → Some pointer ≡ option_map (λ (x : Access). x.pointer) a → frame_by s a ≡ Frame s (same_frame pointer) ∷ []
 frame_of_access s None pointer e = absurd cc
 frame_of_access s (Some a) pointer e = let q : a.pointer ≡ pointer = cc in rw q refl

@@ -43,7 +43,7 @@ impl Asked {
         ensures { IfOk result (λ u. (ns : NodeList) → IsSource (length ns) s → Adds ns (Value (shadow_by ns s) (test ∷ []) ∷ []) self.old self.new) }
     {
         match s {
-            Source::Known(node) => self.checks.push(Check { node, test })?,
+            Source::Known { value, .. } => self.checks.push(Check { node: value, test })?,
             Source::Framed(_, by) | Source::Unknown(by) => self.missing.push(by)?,
         }
         Ok(())
@@ -61,9 +61,9 @@ impl Asked {
         let pointer = unpack(word);
         let test = Test::Frame(pointer.start, pointer.length);
         match s {
-            Source::Known(node) | Source::Framed(node, _) => self
+            Source::Known { frame, .. } | Source::Framed(frame, _) => self
                 .checks
-                .push(Check { node, test })?,
+                .push(Check { node: frame, test })?,
             Source::Unknown(by) => self.missing.push(by)?,
         }
         Ok(())
@@ -79,7 +79,7 @@ impl Asked {
         ensures { IfOk result (λ u. (ns : NodeList) → IsSource (length ns) s → Adds ns (Value (shadow_by ns s) (map (λ (c : ACase). test.Ne c.value) cases.now) ∷ []) self.old self.new) }
     {
         match s {
-            Source::Known(node) => self.check_others(node, cases)?,
+            Source::Known { value, .. } => self.check_others(value, cases)?,
             Source::Framed(_, by) | Source::Unknown(by) => self.missing.push(by)?,
         }
         Ok(())

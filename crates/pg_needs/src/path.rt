@@ -49,7 +49,10 @@ fn load(
     ensures value { IfOk result (λ s. shadow_by nodes.new s ≡ loaded (shadows_of p.now nodes.old memory.now) start 8) }
 {
     match memory.load(p, nodes, start, 8)? {
-        Held::Known(node) => Ok(Source::Known(node)),
+        Held::Known(node) => Ok(Source::Known {
+            value: node,
+            frame: node,
+        }),
         Held::Unknown(by) => Ok(Source::Unknown(by)),
     }
 }

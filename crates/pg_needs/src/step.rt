@@ -115,7 +115,6 @@ fn operand(operands: &[Source], k: usize) -> Source
     operands[k]
 }
 
-#[tactic(auto, using(crate::proofs::Tests::case_tests, crate::proofs::Tests::default_tests))]
 /// What a pinned step at a branch asks of its condition, which had this number.
 fn branch_needs(asked: &mut Asked, op: &Op, on: Source, condition: u64) -> Result<(), AllocError>
     ensures { IfOk result (λ u. (ns : NodeList) → IsSource (length ns) on → Adds ns (Value (shadow_by ns on) (rules.edge_tests op.now condition) ∷ []) asked.old asked.new) }

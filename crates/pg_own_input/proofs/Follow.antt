@@ -31,6 +31,7 @@ use Rattle.pg_closed.specs.Rules.{asks_frames, asks_values, has_region, prints_i
 use Rattle.pg_least.specs.Keeps.{every}
 use Rattle.pg_least.proofs.Closes.{all_closed}
 use Rattle.pg_units.specs.Likes.{IsCellLike, IsLike, StandLike, like}
+use Rattle.pg_units.proofs.Likes.{valued_like}
 use Rattle.pg_units.specs.Moves.{deed_moved}
 use Rattle.pg_units.specs.Units.{PlanUnit, ReferenceRun, access_touch, behind, cell_known, deed_of, is_instance, is_written_in, reference_of, standing_of, turns_of, word_written, writes_cell}
 use Rattle.pg_units.proofs.Along.{IsMet, IsUnit, behind_is}

@@ -8,8 +8,8 @@ use Rattle.pg_nodes.specs.declared.check.Test.{Test}
 use Rattle.pg_nodes.specs.Values.{is_met}
 use Rattle.pg_closed.specs.Closed.{admits, conditions, conditions_at}
 use Rattle.pg_closed.specs.Known.{Reference, Seen, Taken, seen_in}
-use Rattle.pg_closed.specs.Rules.{Condition, Need, Value, Frame, all_of, conditions_with, frame_needs, if_some, need_blames, need_conditions, same_frame, value_needs, value_of}
-use Rattle.pg_closed.specs.Shadows.{OnInput, Shadow, Known, Framed, Unknown}
+use Rattle.pg_closed.specs.Rules.{Condition, Need, Value, Frame, all_of, conditions_with, frame_needs, if_some, need_blames, need_conditions, same_frame, value_needs}
+use Rattle.pg_closed.specs.Shadows.{OnInput, Known, Framed, Unknown}
 use Rattle.pg_units.specs.Likes.{HaveOneFrame, IsInFrame, IsLike}
 use Rattle.pg_units.proofs.Good.{Holds, IsGood}
 use Rattle.pg_units.proofs.Settled.{append_none}
@@ -26,18 +26,15 @@ module _ (input : List ℤ) where
   met_frame n word h = and_from ((pointer_of word).start == (pointer_of n).start) ((pointer_of word).length == (pointer_of n).length)
       (eq-eqb (pointer_of word).start (pointer_of n).start (sym h.start)) (eq-eqb (pointer_of word).length (pointer_of n).length (sym h.length))
 
-  own_frame : (n : ℕ) → HaveOneFrame n n
-  own_frame n = record { start = refl; length = refl }
-
   framed : (n : ℕ) (o : Option ℕ) → IsInFrame o (Some n) → is_met (same_frame n) o ≡ true
   framed n None h = absurd h
   framed n (Some word) h = met_frame n word h
 
   holds : (q : Need) → need_blames q ≡ [] → IsGiven q → Holds input q
-  holds (Value (Known f) ts) b h = (f, refl, subst (λ (o : Option ℕ). AllOf (λ (t : Test). is_met t o ≡ true) ts) h.1 h.2)
+  holds (Value (Known f g) ts) b h = (f, refl, subst (λ (o : Option ℕ). AllOf (λ (t : Test). is_met t o ≡ true) ts) h.1.0 h.2)
   holds (Value (Framed f x) ts) b h = absurd cc
   holds (Value (Unknown x) ts) b h = absurd cc
-  holds (Frame (Known f) t) b h = (f, refl, subst (λ (z : Test). is_met z (f input) ≡ true) (sym h.2) (subst (λ (o : Option ℕ). is_met (same_frame h.0) o ≡ true) h.1 (met_frame h.0 h.0 (own_frame h.0))))
+  holds (Frame (Known f g) t) b h = (g, refl, subst (λ (z : Test). is_met z (g input) ≡ true) (sym h.2) (framed h.0 (g input) h.1.1))
   holds (Frame (Framed f x) t) b h = (f, refl, subst (λ (z : Test). is_met z (f input) ≡ true) (sym h.2) (framed h.0 (f input) h.1))
   holds (Frame (Unknown x) t) b h = absurd cc
 
@@ -72,7 +69,7 @@ module _ (input : List ℤ) where
   with_met f (t ∷ ts) h = and_from (is_met t (f input)) (list_all (λ (c : Condition). is_met c.test (c.value input)) (conditions_with f ts)) h.0 (with_met f ts h.1)
 
   need_met : (q : Need) → Holds input q → Met (need_conditions q)
-  need_met (Value s ts) h = subst (λ (z : Shadow). Met (if_some (value_of z) ts)) (sym h.1) (with_met h.0 ts h.2)
+  need_met (Value s ts) h = subst (λ (o : Option OnInput). Met (if_some o ts)) (sym h.1) (with_met h.0 ts h.2)
   need_met (Frame s t) h = subst (λ (o : Option OnInput). Met (if_some o (t ∷ []))) (sym h.1) (with_met h.0 (t ∷ []) (h.2, tt))
 
   needs_met : (qs : List Need) → AllOf (Holds input) qs → Met (all_of need_conditions qs)

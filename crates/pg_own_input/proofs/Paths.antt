@@ -26,7 +26,7 @@ use Rattle.pg_closed.specs.Rules.{free_access_needs, moved_shadow, path_needs, r
 use Rattle.pg_closed.specs.Shadows.{Shadow, Known, Framed, Unknown, loaded}
 use Rattle.pg_units.specs.Likes.{AreLike, IsInFrame, IsLike}
 use Rattle.pg_units.proofs.Accesses.{loaded_like}
-use Rattle.pg_units.proofs.Likes.{operand_like}
+use Rattle.pg_units.proofs.Likes.{operand_like, valued_like}
 use Rattle.pg_units.proofs.Placed.{place_range}
 use Rattle.pg_own_input.proofs.Needs.{IsGiven, each_given}
 
@@ -94,7 +94,7 @@ module _ (input : List ℤ) where
   still_framed k word (Some w) h = record { start = start-moved_by word (pos k) ∙ h.start; length = length-moved_by word (pos k) ∙ h.length }
 
   moved_given : (k : ℕ) (s : Shadow) (word : ℕ) → IsLike input s (Some word) → IsLike input (moved_shadow k s) (Some (moved_by word (pos k)))
-  moved_given k (Known f) word h = ap (λ (o : Option ℕ). with_one o (λ w. Some (moved_by w (pos k)))) h
+  moved_given k (Known f g) word h = (ap (λ (o : Option ℕ). with_one o (λ w. Some (moved_by w (pos k)))) h.0, still_framed k word (g input) h.1)
   moved_given k (Framed f x) word h = still_framed k word (f input) h
   moved_given k (Unknown x) word h = tt
 
@@ -132,8 +132,8 @@ module _ (input : List ℤ) where
   module _ (p : NumberedProgram) (ks : List Shadow) (rs : List (Option ℕ)) (alike : AreLike input ks rs) where
     root_given : (r : Root) (word : ℕ) → root_value p (registers_by rs) r ≡ Some word → IsLike input (root_shadow p ks r) (Some word)
     root_given (root.Register r) word e = subst (λ (o : Option ℕ). IsLike input (root_shadow p ks (root.Register r)) o) e (operand_like input p ks rs alike (value.Register r))
-    root_given (root.Global g) word e = sym e
-    root_given (root.Const n) word e = sym e
+    root_given (root.Global g) word e = valued_like input (λ i. root_value p (λ k. None) (root.Global g)) (Some word) (sym e)
+    root_given (root.Const n) word e = valued_like input (λ i. root_value p (λ k. None) (root.Const n)) (Some word) (sym e)
     root_given (root.Param k) word e = absurd cc
 
   -- ---- a step

@@ -55,18 +55,18 @@ module _ (r : ReferenceRun) (o : IsRecorded r) where
 
 -- ---- under fewer decisions
 
-like_known : (input : List ℤ) (d : Taken) (s z : Shadow) (f : OnInput) (v : Option ℕ) → s ≡ Known f → Likes every s z → IsLike input z v → f input ≡ v
-like_known input d s z f v e h k =
-    let q : z ≡ Known f = subst (λ (a : Shadow). Likes every a z) e h in
-    sym (subst (λ (a : Shadow). IsLike input a v) q k)
+like_known : (input : List ℤ) (d : Taken) (s z : Shadow) (f g : OnInput) (v : Option ℕ) → s ≡ Known f g → Likes every s z → IsLike input z v → f input ≡ v
+like_known input d s z f g v e h k =
+    let q : z ≡ Known f g = subst (λ (a : Shadow). Likes every a z) e h in
+    sym (subst (λ (a : Shadow). IsLike input a v) q k).0
 
 module _ (r : ReferenceRun) (d : Taken) where
   one_true : (x y : Seen) → SeenLike (Likes every) x y → IsTold r.input y → IsTrueOn r.input x
   one_true x y h k = record {
-    registers = λ live i f e. like_known r.input d (slice_index_or (registers_before x) i unset) (slice_index_or (registers_before y) i unset) f (registers_by (registers_in x.moment.calls) i) e
+    registers = λ live i f g e. like_known r.input d (slice_index_or (registers_before x) i unset) (slice_index_or (registers_before y) i unset) f g (registers_by (registers_in x.moment.calls) i) e
         (index_like (Likes every) (registers_before x) (registers_before y) i unset refl (h.registers live))
         (operand_like r.input r.program (registers_before y) (registers_in x.moment.calls) (subst (λ (m : Moment). AreLike r.input (registers_before y) (registers_in m.calls)) (ap (λ (z : Seen). z.moment) h.same) k.registers) (value.Register i));
-    bytes = λ b f l e. like_known r.input d (x.before.bytes b) (y.before.bytes b) f (Some (x.moment.bytes b)) e (h.bytes b)
+    bytes = λ b f g l e. like_known r.input d (x.before.bytes b) (y.before.bytes b) f g (Some (x.moment.bytes b)) e (h.bytes b)
         (subst (λ (m : Moment). IsLike r.input (y.before.bytes b) (Some (m.bytes b))) (ap (λ (z : Seen). z.moment) h.same) (k.bytes b (lt-ltb b MEMORY_BYTES l)));
   }
 

@@ -31,8 +31,8 @@ AnyAdmitOwn = (r : ReferenceRun) → IsRecorded r → ExtentsKeep (reference_of 
 -- what is known before a step of the registers of its thread's present call, where the step is live, and of the bytes of memory
 -- is, on this input, what the machine had there
 pub record IsTrueOn (input : List ℤ) (x : Seen) : Type 0 where
-  pub registers : x.live ≡ true → (i : ℕ) (f : OnInput) → slice_index_or (registers_before x) i unset ≡ Known f → f input ≡ registers_by (registers_in x.moment.calls) i
-  pub bytes : (b : ℕ) (f : OnInput) → b < MEMORY_BYTES → x.before.bytes b ≡ Known f → f input ≡ Some (x.moment.bytes b)
+  pub registers : x.live ≡ true → (i : ℕ) (f g : OnInput) → slice_index_or (registers_before x) i unset ≡ Known f g → f input ≡ registers_by (registers_in x.moment.calls) i
+  pub bytes : (b : ℕ) (f g : OnInput) → b < MEMORY_BYTES → x.before.bytes b ≡ Known f g → f input ≡ Some (x.moment.bytes b)
 
 -- before each step of a run on its own input, under any decisions
 abbrev pub KnownIsTrue : Type 0

@@ -3,7 +3,7 @@ use Rattle.std.proofs.Common.{◌≡◌, ℕ, ◌<◌, ◌≤◌, length, arith,
 use mathlib.Core.Path.{fun_ext}
 use Rattle.pg_ir.specs.Program.{NumberedProgram}
 use Rattle.pg_nodes.specs.Nodes.{NodeList}
-use Rattle.pg_closed.specs.Shadows.{OnInput, Shadow, Known, byte_in}
+use Rattle.pg_closed.specs.Shadows.{OnInput, Shadow, byte_in, valued}
 use Rattle.pg_shadow_memory.specs.declared.source.ByteSource.{ByteSource}
 use Rattle.pg_shadow_memory.specs.declared.source.ByteSource.TheVariants as byte
 use Rattle.pg_shadow_memory.specs.Loads.{IsByteNode}
@@ -15,7 +15,7 @@ use Rattle.pg_sources.proofs.Grows.{grew_length, number_kept}
 pub byte_kept : (p : NumberedProgram) (old new : NodeList) (b : ℕ) (s : ByteSource) → Grew old new → IsSource (length old) s → byte_shadow p new b s ≡ byte_shadow p old b s
 byte_kept p old new b byte.Initial g h = refl
 byte_kept p old new b (byte.Part of at) g h =
-    let f : OnInput → Shadow = λ n. byte_in at (Known n) in
+    let f : OnInput → Shadow = λ n. byte_in at (valued n) in
     ap f (fun_ext (λ input. number_kept old new of input g h))
 byte_kept p old new b (byte.Unknown x) g h = refl
 
@@ -27,7 +27,7 @@ source_more m n (byte.Unknown x) h i = tt
 pub byte_node_kept : (old new : NodeList) (k : ℕ) (s : Shadow) → Grew old new → IsByteNode old k s → IsByteNode new k s
 byte_node_kept old new k s g h = record {
   below = let a = grew_length old new g in let b = h.below in omega (arith, a, b);
-  value = ap (λ f. Known f) (fun_ext (λ input. number_kept old new k input g h.below)) ∙ h.value;
+  value = ap (λ f. valued f) (fun_ext (λ input. number_kept old new k input g h.below)) ∙ h.value;
   small = λ input. rw (number_kept old new k input g h.below) (h.small input);
 }
 

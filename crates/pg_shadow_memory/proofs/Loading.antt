@@ -12,7 +12,7 @@ use Rattle.pg_nodes.specs.Nodes.{NodeList}
 use Rattle.pg_nodes.specs.Values.{joined, number_of, numbers_of, with_both, with_one}
 use Rattle.pg_closed.specs.declared.decision.Decision.{Decision}
 use Rattle.pg_closed.specs.Shadows as shadows
-use Rattle.pg_closed.specs.Shadows.{OnInput, Shadow, Known, Framed, Unknown, always, byte_in, is_known, loaded}
+use Rattle.pg_closed.specs.Shadows.{OnInput, Shadow, Known, Framed, Unknown, always, byte_in, is_known, loaded, valued}
 use Rattle.pg_shadow_memory.specs.declared.source.ByteSource.{ByteSource}
 use Rattle.pg_shadow_memory.specs.declared.source.ByteSource.TheVariants as byte
 use Rattle.pg_sources.specs.Sources.{number_by}
@@ -40,7 +40,7 @@ shadow_at p ns start xs k = let e : start + k - start ≡ k = omega arith in ap 
 -- ---- a byte that isn't known
 
 joined_unknown : (s : Shadow) (x : Decision) → is_known s ≡ true → shadows.joined s (Unknown x) ≡ Unknown x
-joined_unknown (Known g) x h = refl
+joined_unknown (Known g k) x h = refl
 joined_unknown (Framed g y) x h = absurd cc
 joined_unknown (Unknown y) x h = absurd cc
 
@@ -84,16 +84,16 @@ small_byte (Some m) None h = refl
 small_byte (Some m) (Some n) h = ap (λ (k : ℕ). Some (n * 2 ^ 8 + k)) (mod-eq_of_lt h)
 
 pub join_loaded : (F : ℕ → Shadow) (ns : NodeList) (parts : List ℕ) (at n : ℕ) → n ≤ length parts →
-    ((k : ℕ) → k < n → IsByteNode ns (slice_index parts k) (F (at + k))) → Known (λ input. joined (numbers_of input ns) parts n) ≡ loaded F at n
-join_loaded F ns parts at zero le h = ap (λ f. Known f) (fun_ext (λ input. joined_none (numbers_of input ns) parts))
+    ((k : ℕ) → k < n → IsByteNode ns (slice_index parts k) (F (at + k))) → valued (λ input. joined (numbers_of input ns) parts n) ≡ loaded F at n
+join_loaded F ns parts at zero le h = ap (λ f. valued f) (fun_ext (λ input. joined_none (numbers_of input ns) parts))
 join_loaded F ns [] at (suc n) le h = absurd (omega arith)
 join_loaded F ns (p ∷ parts) at (suc n) le h =
     let rest : List ℤ → Option ℕ = λ input. joined (numbers_of input ns) parts n in
-    let ih : Known rest ≡ loaded F (at + 1) n = join_loaded F ns parts (at + 1) n (omega arith) (λ k lt. next k (h (suc k) (omega (arith, lt)))) in
+    let ih : valued rest ≡ loaded F (at + 1) n = join_loaded F ns parts (at + 1) n (omega arith) (λ k lt. next k (h (suc k) (omega (arith, lt)))) in
     let z : at + 0 ≡ at = omega arith in
     let first : IsByteNode ns p (F at) = subst (λ (b : ℕ). IsByteNode ns p (F b)) z (h 0 (omega arith)) in
-    ap (λ f. Known f) (fun_ext (λ input. joined_next (numbers_of input ns) p parts n ∙ small_byte (number_by ns p input) (rest input) (first.small input)))
-    ∙ ap (λ (s : Shadow). shadows.joined s (Known rest)) first.value
+    ap (λ f. valued f) (fun_ext (λ input. joined_next (numbers_of input ns) p parts n ∙ small_byte (number_by ns p input) (rest input) (first.small input)))
+    ∙ ap (λ (s : Shadow). shadows.joined s (valued rest)) first.value
     ∙ ap (shadows.joined (F at)) ih
   where
     next : (k : ℕ) → IsByteNode ns (slice_index parts k) (F (at + suc k)) → IsByteNode ns (slice_index parts k) (F (at + 1 + k))
@@ -123,42 +123,42 @@ more_bytes : (g : Option ℕ) (k n : ℕ) →
 more_bytes None k n = refl
 more_bytes (Some v) k n = ap (λ (m : ℕ). Some m) (byte_more v k n)
 
-parts_loaded : (F : ℕ → Shadow) (g : OnInput) (at k n : ℕ) → ((j : ℕ) → j < suc n → F (at + j) ≡ byte_in (k + j) (Known g)) → loaded F at (suc n) ≡ Known (bytes_from g k (suc n))
+parts_loaded : (F : ℕ → Shadow) (g : OnInput) (at k n : ℕ) → ((j : ℕ) → j < suc n → F (at + j) ≡ byte_in (k + j) (valued g)) → loaded F at (suc n) ≡ valued (bytes_from g k (suc n))
 parts_loaded F g at k zero h =
     ap (λ (s : Shadow). shadows.joined s (always 0)) (part_first F g at k (h 0 (omega arith)))
-    ∙ ap (λ f. Known f) (fun_ext (λ input. one_byte (g input) k))
+    ∙ ap (λ f. valued f) (fun_ext (λ input. one_byte (g input) k))
   where
-    part_first : (F : ℕ → Shadow) (g : OnInput) (at k : ℕ) → F (at + 0) ≡ byte_in (k + 0) (Known g) → F at ≡ byte_in k (Known g)
-    part_first F g at k h = let a : at + 0 ≡ at = omega arith in let b : k + 0 ≡ k = omega arith in subst (λ (j : ℕ). F at ≡ byte_in j (Known g)) b (subst (λ (j : ℕ). F j ≡ byte_in (k + 0) (Known g)) a h)
+    part_first : (F : ℕ → Shadow) (g : OnInput) (at k : ℕ) → F (at + 0) ≡ byte_in (k + 0) (valued g) → F at ≡ byte_in k (valued g)
+    part_first F g at k h = let a : at + 0 ≡ at = omega arith in let b : k + 0 ≡ k = omega arith in subst (λ (j : ℕ). F at ≡ byte_in j (valued g)) b (subst (λ (j : ℕ). F j ≡ byte_in (k + 0) (valued g)) a h)
 parts_loaded F g at k (suc n) h =
     let a : at + 0 ≡ at = omega arith in
     let b : k + 0 ≡ k = omega arith in
-    let first : F at ≡ byte_in k (Known g) = subst (λ (j : ℕ). F at ≡ byte_in j (Known g)) b (subst (λ (j : ℕ). F j ≡ byte_in (k + 0) (Known g)) a (h 0 (omega arith))) in
+    let first : F at ≡ byte_in k (valued g) = subst (λ (j : ℕ). F at ≡ byte_in j (valued g)) b (subst (λ (j : ℕ). F j ≡ byte_in (k + 0) (valued g)) a (h 0 (omega arith))) in
     ap (λ (s : Shadow). shadows.joined s (loaded F (at + 1) (suc n))) first
-    ∙ ap (shadows.joined (byte_in k (Known g))) (parts_loaded F g (at + 1) (k + 1) n (λ j lt. next j (h (suc j) (omega (arith, lt)))))
-    ∙ ap (λ f. Known f) (fun_ext (λ input. more_bytes (g input) k (suc n)))
+    ∙ ap (shadows.joined (byte_in k (valued g))) (parts_loaded F g (at + 1) (k + 1) n (λ j lt. next j (h (suc j) (omega (arith, lt)))))
+    ∙ ap (λ f. valued f) (fun_ext (λ input. more_bytes (g input) k (suc n)))
   where
-    next : (j : ℕ) → F (at + suc j) ≡ byte_in (k + suc j) (Known g) → F (at + 1 + j) ≡ byte_in (k + 1 + j) (Known g)
+    next : (j : ℕ) → F (at + suc j) ≡ byte_in (k + suc j) (valued g) → F (at + 1 + j) ≡ byte_in (k + 1 + j) (valued g)
     next j w =
         let a : at + suc j ≡ at + 1 + j = omega arith in
         let b : k + suc j ≡ k + 1 + j = omega arith in
-        subst (λ (i : ℕ). F (at + 1 + j) ≡ byte_in i (Known g)) b (subst (λ (i : ℕ). F i ≡ byte_in (k + suc j) (Known g)) a w)
+        subst (λ (i : ℕ). F (at + 1 + j) ≡ byte_in i (valued g)) b (subst (λ (i : ℕ). F i ≡ byte_in (k + suc j) (valued g)) a w)
 
 whole_number : (g : Option ℕ) (w : Width) (n : ℕ) → width_bits w ≡ 8 * n → with_one g (λ v. Some (truncated w v)) ≡ with_one g (λ v. Some (v / 2 ^ (8 * 0) % 2 ^ (8 * n)))
 whole_number None w n e = refl
 whole_number (Some v) w n e = let d : v / 2 ^ (8 * 0) ≡ v = omega arith in ap (λ (m : ℕ). Some (v % 2 ^ m)) e ∙ ap (λ (m : ℕ). Some (m % 2 ^ (8 * n))) (sym d)
 
 pub whole_loaded : (p : NumberedProgram) (ns : NodeList) (start : ℕ) (xs : List ByteSource) (n v : ℕ) (w : Width) → 1 ≤ n → ArePartsOf v xs n → width_bits w ≡ 8 * n →
-    Known (λ input. with_one (number_by ns v input) (λ m. Some (truncated w m))) ≡ loaded (shadows_from p ns start xs) start n
+    valued (λ input. with_one (number_by ns v input) (λ m. Some (truncated w m))) ≡ loaded (shadows_from p ns start xs) start n
 whole_loaded p ns start xs zero v w le h e = absurd (omega arith)
 whole_loaded p ns start xs (suc n) v w le h e =
-    ap (λ f. Known f) (fun_ext (λ input. whole_number (number_by ns v input) w (suc n) e))
+    ap (λ f. valued f) (fun_ext (λ input. whole_number (number_by ns v input) w (suc n) e))
     ∙ sym (parts_loaded (shadows_from p ns start xs) (number_by ns v) start 0 n (λ j lt. part j (h.each j lt)))
   where
-    part : (j : ℕ) → source_in xs j ≡ byte.Part v j → shadows_from p ns start xs (start + j) ≡ byte_in (0 + j) (Known (number_by ns v))
+    part : (j : ℕ) → source_in xs j ≡ byte.Part v j → shadows_from p ns start xs (start + j) ≡ byte_in (0 + j) (valued (number_by ns v))
     part j q =
         let z : j ≡ 0 + j = omega arith in
-        shadow_at p ns start xs j ∙ ap (λ (s : ByteSource). byte_shadow p ns (start + j) s) q ∙ ap (λ (i : ℕ). byte_in i (Known (number_by ns v))) z
+        shadow_at p ns start xs j ∙ ap (λ (s : ByteSource). byte_shadow p ns (start + j) s) q ∙ ap (λ (i : ℕ). byte_in i (valued (number_by ns v))) z
 
 -- ---- bytes as at the start
 

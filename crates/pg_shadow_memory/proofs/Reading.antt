@@ -7,7 +7,7 @@ use Rattle.pg_ir.specs.Program.{NumberedProgram}
 use Rattle.pg_mem.specs.Initial.{initial_byte}
 use Rattle.pg_nodes.specs.Nodes.{NodeList}
 use Rattle.pg_nodes.specs.Values.{joined, number_of, numbers_of, with_one}
-use Rattle.pg_closed.specs.Shadows.{Shadow, Known, loaded}
+use Rattle.pg_closed.specs.Shadows.{Shadow, loaded, valued}
 use Rattle.pg_shadow_memory.specs.declared.source.ByteSource.{ByteSource}
 use Rattle.pg_shadow_memory.specs.declared.source.ByteSource.TheVariants as byte
 use Rattle.pg_shadow_memory.specs.Changes.{Changes, shadows_of, sources_of}
@@ -50,7 +50,7 @@ pub initial_node : (p : NumberedProgram) (ns ms : NodeList) (b x k : ℕ) → x 
     ((input : List ℤ) → number_by ms k input ≡ Some x) → IsByteNode ms k (byte_shadow p ns b byte.Initial)
 initial_node p ns ms b x k e small below h = record {
   below = below;
-  value = ap (λ f. Known f) (fun_ext (λ input. h input ∙ ap (λ (n : ℕ). Some n) e));
+  value = ap (λ f. valued f) (fun_ext (λ input. h input ∙ ap (λ (n : ℕ). Some n) e));
   small = λ input. rw (h input) small;
 }
 
@@ -63,7 +63,7 @@ pub part_node : (p : NumberedProgram) (ns ms : NodeList) (b of at k : ℕ) → k
     IsByteNode ms k (byte_shadow p ns b (byte.Part of at))
 part_node p ns ms b of at k below h = record {
   below = below;
-  value = ap (λ f. Known f) (fun_ext h);
+  value = ap (λ f. valued f) (fun_ext h);
   small = λ input. rw (h input) (part_small (number_of (numbers_of input ns) of) at);
 }
 
@@ -76,7 +76,7 @@ nodes_next ns ms S parts k v l g h n = set_next (λ j x. IsByteNode ms x (S j)) 
 -- the node that joins them
 pub join_read : (p : NumberedProgram) (old ns ms : NodeList) (start : ℕ) (xs : List ByteSource) (parts : List ℕ) (n v : ℕ) → n ≤ length parts →
     ((j : ℕ) → j < n → IsByteNode ns (slice_index parts j) (byte_shadow p old (start + j) (source_in xs j))) →
-    ((input : List ℤ) → number_by ms v input ≡ joined (numbers_of input ns) parts n) → Known (number_by ms v) ≡ loaded (shadows_from p old start xs) start n
+    ((input : List ℤ) → number_by ms v input ≡ joined (numbers_of input ns) parts n) → valued (number_by ms v) ≡ loaded (shadows_from p old start xs) start n
 join_read p old ns ms start xs parts n v l each h =
-    ap (λ f. Known f) (fun_ext h)
+    ap (λ f. valued f) (fun_ext h)
     ∙ join_loaded (shadows_from p old start xs) ns parts start n l (λ j lt. subst (IsByteNode ns (slice_index parts j)) (sym (shadow_at p old start xs j)) (each j lt))

@@ -2,7 +2,7 @@
 use Rattle.std.specs.Prelude.{◌≡◌, ℕ, ◌-◌, ◌==◌, ◌&&◌, ◌<◌, ◌^◌, ℤ, List, Bool, true, false, IfSome, length, slice_index_or}
 use Rattle.pg_ir.specs.Program.{NumberedProgram}
 use Rattle.pg_nodes.specs.Nodes.{NodeList}
-use Rattle.pg_closed.specs.Shadows.{Shadow, Known}
+use Rattle.pg_closed.specs.Shadows.{Shadow, valued}
 use Rattle.pg_shadow_memory.specs.declared.source.ByteSource.{ByteSource}
 use Rattle.pg_shadow_memory.specs.declared.source.ByteSource.TheVariants as byte
 use Rattle.pg_sources.specs.Sources.{number_by}
@@ -44,5 +44,5 @@ pub record AreNamed (m : ℕ) (xs : List ByteSource) (n : ℕ) : Type 0 where
 -- a node whose number is that byte
 pub record IsByteNode (ns : NodeList) (k : ℕ) (s : Shadow) : Type 0 where
   pub below : k < length ns
-  pub value : Known (number_by ns k) ≡ s
+  pub value : valued (number_by ns k) ≡ s
   pub small : (input : List ℤ) → IfSome (number_by ns k input) (λ n. n < 2 ^ 8)

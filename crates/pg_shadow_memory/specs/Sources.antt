@@ -4,7 +4,7 @@ use Rattle.pg_num.specs.Places.{ByteRange}
 use Rattle.pg_ir.specs.Program.{NumberedProgram}
 use Rattle.pg_mem.specs.Initial.{initial_byte}
 use Rattle.pg_nodes.specs.Nodes.{NodeList}
-use Rattle.pg_closed.specs.Shadows.{Shadow, Known, Unknown, always, byte_in, is_within}
+use Rattle.pg_closed.specs.Shadows.{Shadow, Unknown, always, byte_in, is_within, valued}
 use Rattle.pg_shadow_memory.specs.declared.source.ByteSource.{ByteSource}
 use Rattle.pg_shadow_memory.specs.declared.source.ByteSource.TheVariants as byte
 use Rattle.pg_shadow_memory.specs.declared.source.Held.{Held}
@@ -13,13 +13,13 @@ use Rattle.pg_sources.specs.Sources.{number_by}
 
 -- what is known of a number
 abbrev pub held_shadow : NodeList → Held → Shadow
-held_shadow ns (held.Known k) = Known (number_by ns k)
+held_shadow ns (held.Known k) = valued (number_by ns k)
 held_shadow ns (held.Unknown x) = Unknown x
 
 -- what is known of the byte at a place
 abbrev pub byte_shadow : NumberedProgram → NodeList → ℕ → ByteSource → Shadow
 byte_shadow p ns b byte.Initial = always (initial_byte p.globals b)
-byte_shadow p ns b (byte.Part of at) = byte_in at (Known (number_by ns of))
+byte_shadow p ns b (byte.Part of at) = byte_in at (valued (number_by ns of))
 byte_shadow p ns b (byte.Unknown x) = Unknown x
 
 -- byte k of a number

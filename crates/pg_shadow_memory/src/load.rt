@@ -49,7 +49,7 @@ fn join(
     requires named { AreNamed (length nodes.old) sources.now count }
     ensures grew { Grew nodes.old nodes.new }
     ensures is { IfOk result (λ k. k < length nodes.new) }
-    ensures value { IfOk result (λ k. shadows.Known (number_by nodes.new k) ≡ shadows.loaded (shadows_from p.now nodes.old start sources.now) start count) }
+    ensures value { IfOk result (λ k. shadows.valued (number_by nodes.new k) ≡ shadows.loaded (shadows_from p.now nodes.old start sources.now) start count) }
 {
     let mut parts = [0; 8];
     for k in 0..count {
@@ -73,7 +73,7 @@ pub(crate) fn number_node(
     requires named { AreNamed (length nodes.old) sources.now count }
     ensures grew { Grew nodes.old nodes.new }
     ensures is { IfOk result (λ k. k < length nodes.new) }
-    ensures value { IfOk result (λ k. shadows.Known (number_by nodes.new k) ≡ shadows.loaded (shadows_from p.now nodes.old start sources.now) start count) }
+    ensures value { IfOk result (λ k. shadows.valued (number_by nodes.new k) ≡ shadows.loaded (shadows_from p.now nodes.old start sources.now) start count) }
 {
     if let Some((of, width)) = whole(sources, count) {
         return added(

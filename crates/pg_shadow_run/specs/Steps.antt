@@ -10,7 +10,7 @@ use Rattle.pg_step.specs.Compute.{computes}
 use Rattle.pg_closed.specs.Moments.{Moment}
 use Rattle.pg_closed.specs.Freeable.{FreeRegion}
 use Rattle.pg_closed.specs.Extents.{edge_in}
-use Rattle.pg_closed.specs.Shadows.{Shadow, Known, always}
+use Rattle.pg_closed.specs.Shadows.{Shadow, always, valued}
 use Rattle.pg_closed.specs.declared.decision.Decision.TheVariants.{Pinned}
 use Rattle.pg_closed.specs.Known.{along_edge, caller_target, forgotten_from, from_input, operand_at, operand_shadows, set_shadow}
 use Rattle.pg_shadow_run.specs.declared.step.OpStep.{OpStep}
@@ -29,7 +29,7 @@ pub record IsStepAt (p : NumberedProgram) (x : Instr) (s : OpStep) (sets : List 
 -- what the call of a known function gives its register; a malloc gives the word that it gave in the run
 abbrev pub known_shadow : KnownFunction → ℕ → Shadow → Option Shadow
 known_shadow known.PgIn word s = Some (from_input s)
-known_shadow known.PgInLen word s = Some (Known (λ input. Some (length input)))
+known_shadow known.PgInLen word s = Some (valued (λ input. Some (length input)))
 known_shadow known.Malloc word s = Some (always word)
 known_shadow k word s = None
 

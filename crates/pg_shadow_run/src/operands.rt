@@ -125,7 +125,7 @@ fn operands(
     values(alloc, nodes, p, list.as_slice(), registers)
 }
 
-/// A result, where it is a moved pointer that isn't known with the frame of its base.
+/// A result, which has the frame of its base where it is a moved pointer.
 fn with_frame(op: &Op, operands: &[Source], s: Source) -> Source
     ensures value { (ns : NodeList) (ss : List Shadow) → shadow_by ns s ≡ result_of op.now ss
         → registers_by ns operands.now ≡ ss → length operands.now ≡ length (operands_of op.now) → shadow_by ns result ≡ result_by op.now ss }

@@ -53,6 +53,7 @@ use Rattle.pg_reference.specs.OfRegions.{AreRegions}
 use Rattle.pg_runs.specs.Deeds.{local_event}
 use Rattle.pg_runs.proofs.Deeds.{event_seen, some_turn}
 use Rattle.pg_units.specs.Likes.{AreLike, IsCellLike, IsLike, StandLike}
+use Rattle.pg_units.proofs.Likes.{valued_like}
 use Rattle.pg_units.specs.Units.{PlanUnit, ReferenceRun, cell_known, is_event_at, is_instance, reads_byte, reads_cell, reference_of, standing_of, word_read}
 use Rattle.pg_units.proofs.Along.{IsUnit}
 use Rattle.pg_units.proofs.Freed.{IsFree, is_free}
@@ -88,7 +89,7 @@ branch_told gated p s t ns a n c x actions.Ended i e = absurd cc
 -- ---- the roots of paths
 
 register_like : (input : List ℤ) (ss : List Shadow) (vs : List (Option ℕ)) (k : ℕ) → AreLike input ss vs → IsLike input (slice_index_or ss k unset) (registers_by vs k)
-register_like input [] [] k h = refl
+register_like input [] [] k h = valued_like input (λ i. None) None refl
 register_like input [] (v ∷ vs) k h = absurd h
 register_like input (s ∷ ss) [] k h = absurd h
 register_like input (s ∷ ss) (v ∷ vs) zero h = h.0
@@ -96,9 +97,9 @@ register_like input (s ∷ ss) (v ∷ vs) (suc k) h = register_like input ss vs 
 
 root_like : (input : List ℤ) (p : NumberedProgram) (ss : List Shadow) (vs : List (Option ℕ)) (g : Root) → AreLike input ss vs → IsLike input (root_shadow p ss g) (root_value p (registers_by vs) g)
 root_like input p ss vs (root.Register k) h = register_like input ss vs k h
-root_like input p ss vs (root.Global k) h = refl
-root_like input p ss vs (root.Const k) h = refl
-root_like input p ss vs (root.Param k) h = refl
+root_like input p ss vs (root.Global k) h = valued_like input (λ i. root_value p (λ j. None) (root.Global k)) (root_value p (registers_by vs) (root.Global k)) refl
+root_like input p ss vs (root.Const k) h = valued_like input (λ i. root_value p (λ j. None) (root.Const k)) (root_value p (registers_by vs) (root.Const k)) refl
+root_like input p ss vs (root.Param k) h = valued_like input (λ i. None) None refl
 
 -- ---- what is asked of each access
 

@@ -15,9 +15,9 @@ use Rattle.pg_accesses.proofs.Elements.{cases, here, there, none_in}
 use Rattle.pg_trace.specs.Races.{is_in}
 use Rattle.pg_machine.proofs.Named.{place_is}
 use Rattle.pg_closed.specs.Freeable.{frame_of}
-use Rattle.pg_closed.specs.Rules.{Frame, moved_shadow, path_needs, same_frame}
+use Rattle.pg_closed.specs.Rules.{Frame, moved_shadow, path_needs, same_frame, value_of}
 use Rattle.pg_closed.specs.Shadows.{OnInput, Shadow, Known, Framed, Unknown, loaded}
-use Rattle.pg_units.specs.Likes.{HaveOneFrame, IsCellLike, IsInFrame, IsLike}
+use Rattle.pg_units.specs.Likes.{HaveOneFrame, IsCellLike, IsFramed, IsInFrame, IsLike}
 use Rattle.pg_units.proofs.Accesses.{framed_same, loaded_like}
 use Rattle.pg_units.proofs.Branches.{eq_met}
 use Rattle.pg_units.proofs.Good.{Holds}
@@ -35,10 +35,10 @@ met_number n None h = absurd (true≢false (sym h))
 met_number n (Some z) h = ap (λ (m : ℕ). Some m) (eq_met n z h)
 
 -- an address that is known is moved as the word at hand
-moved_value : (input : List ℤ) (k : ℕ) (s : Shadow) (f : OnInput) (w : ℕ) → moved_shadow k s ≡ Known f → IsLike input s (Some w) → f input ≡ Some (moved_by w (pos k))
-moved_value input k (Known g) f w e h =
-    let same : (λ i. with_one (g i) (λ word. Some (moved_by word (pos k)))) ≡ f = cc in
-    sym (ap (λ (z : OnInput). z input) same) ∙ sym (ap (λ (o : Option ℕ). with_one o (λ word. Some (moved_by word (pos k)))) h)
+moved_value : (input : List ℤ) (k : ℕ) (s : Shadow) (f : OnInput) (w : ℕ) → value_of (moved_shadow k s) ≡ Some f → IsLike input s (Some w) → f input ≡ Some (moved_by w (pos k))
+moved_value input k (Known g u) f w e h =
+    let same : (λ i. with_one (g i) (λ word. Some (moved_by word (pos k)))) ≡ f = (let q : Some (λ (i : List ℤ). with_one (g i) (λ word. Some (moved_by word (pos k)))) ≡ Some f = e in cc) in
+    sym (ap (λ (z : OnInput). z input) same) ∙ sym (ap (λ (o : Option ℕ). with_one o (λ word. Some (moved_by word (pos k)))) h.0)
 moved_value input k (Framed g x) f w e h = absurd cc
 moved_value input k (Unknown x) f w e h = absurd cc
 
@@ -130,11 +130,15 @@ module _ (input : List ℤ) (bytes : ℕ → Shadow) (memory : ℕ → ℕ) (rec
   in_some word None h = absurd h
   in_some word (Some w) h = (w, refl)
 
+  framed_some : (word : ℕ) (v : Option ℕ) → IsFramed (Some word) v → (w : ℕ) × (v ≡ Some w)
+  framed_some word None h = absurd cc
+  framed_some word (Some w) h = (w, refl)
+
   frame_root : (s : Shadow) (v : Option ℕ) (last : ℕ) → IsLike input s v → Holds input (Frame s (same_frame last)) → (w : ℕ) × (v ≡ Some w)
-  frame_root (Known g) v last h n =
-      let same : g ≡ n.0 = (let q : Some g ≡ Some n.0 = n.1 in cc) in
+  frame_root (Known g u) v last h n =
+      let same : u ≡ n.0 = (let q : Some u ≡ Some n.0 = n.1 in cc) in
       let m = met_some last (n.0 input) n.2 in
-      (m.0, h ∙ ap (λ (z : OnInput). z input) same ∙ m.1)
+      framed_some m.0 v (subst (λ (o : Option ℕ). IsFramed o v) (ap (λ (z : OnInput). z input) same ∙ m.1) h.1)
   frame_root (Framed g x) v last h n =
       let same : g ≡ n.0 = (let q : Some g ≡ Some n.0 = n.1 in cc) in
       let m = met_some last (n.0 input) n.2 in
@@ -148,11 +152,11 @@ module _ (input : List ℤ) (bytes : ℕ → Shadow) (memory : ℕ → ℕ) (rec
   one_there None k n e = absurd cc
   one_there (Some w) k n e = (w, refl)
 
-  value_root : (s : Shadow) (v : Option ℕ) (k n : ℕ) (f : OnInput) → IsLike input s v → moved_shadow k s ≡ Known f → f input ≡ Some n → (w : ℕ) × (v ≡ Some w)
-  value_root (Known g) v k n f h e m =
-      let same : (λ i. with_one (g i) (λ word. Some (moved_by word (pos k)))) ≡ f = cc in
+  value_root : (s : Shadow) (v : Option ℕ) (k n : ℕ) (f : OnInput) → IsLike input s v → value_of (moved_shadow k s) ≡ Some f → f input ≡ Some n → (w : ℕ) × (v ≡ Some w)
+  value_root (Known g u) v k n f h e m =
+      let same : (λ i. with_one (g i) (λ word. Some (moved_by word (pos k)))) ≡ f = (let q : Some (λ (i : List ℤ). with_one (g i) (λ word. Some (moved_by word (pos k)))) ≡ Some f = e in cc) in
       let q = one_there (g input) k n (ap (λ (z : OnInput). z input) same ∙ m) in
-      (q.0, h ∙ q.1)
+      (q.0, h.0 ∙ q.1)
   value_root (Framed g x) v k n f h e m = absurd cc
   value_root (Unknown x) v k n f h e m = absurd cc
 

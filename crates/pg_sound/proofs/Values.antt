@@ -10,7 +10,7 @@ use Rattle.pg_closed.specs.Known.{Taken, thread_of}
 use Rattle.pg_closed.specs.Shadows.{Known, OnInput, Shadow}
 use Rattle.pg_effects.specs.Views.{local_at}
 use Rattle.pg_runs.specs.Cuts.{IsFrontOf}
-use Rattle.pg_units.specs.Likes.{AreCallsLike, AreLike, StandLike}
+use Rattle.pg_units.specs.Likes.{AreCallsLike, AreLike, IsLike, StandLike}
 use Rattle.pg_units.specs.Units.{ReferenceRun, standing_of, units_of}
 use Rattle.pg_units.proofs.Replies.{map_join}
 use Rattle.pg_sound.specs.Invariant.{IsOfUnit, Portion, owner, units_by, units_done}
@@ -38,26 +38,29 @@ module _ (r : ReferenceRun) (d : Taken) (input : List ℤ) (sums : ℕ → Optio
 
   -- ---- known values
 
-  register_known : (ks : List Shadow) (vs : List (Option ℕ)) (k : ℕ) (f : OnInput) → AreLike input ks vs → slice_get ks k ≡ Some (Known f) → slice_get vs k ≡ Some (f input)
-  register_known [] vs k f h e = absurd cc
-  register_known (s ∷ ks) [] k f h e = absurd h
-  register_known (s ∷ ks) (v ∷ vs) zero f h e = let same : s ≡ Known f = cc in ap (λ (o : Option ℕ). Some o) (subst (λ (z : Shadow). Rattle.pg_units.specs.Likes.IsLike input z v) same h.0)
-  register_known (s ∷ ks) (v ∷ vs) (suc k) f h e = register_known ks vs k f h.1 e
+  register_known : (ks : List Shadow) (vs : List (Option ℕ)) (k : ℕ) (f g : OnInput) → AreLike input ks vs → slice_get ks k ≡ Some (Known f g) → slice_get vs k ≡ Some (f input)
+  register_known [] vs k f g h e = absurd cc
+  register_known (s ∷ ks) [] k f g h e = absurd h
+  register_known (s ∷ ks) (v ∷ vs) zero f g h e =
+      let same : s ≡ Known f g = cc in
+      let like : IsLike input (Known f g) v = subst (λ (z : Shadow). IsLike input z v) same h.0 in
+      ap (λ (o : Option ℕ). Some o) like.0
+  register_known (s ∷ ks) (v ∷ vs) (suc k) f g h e = register_known ks vs k f g h.1 e
 
-  call_known : (fs : List Frame) (calls : List (List Shadow)) (gs : List Frame) (i k : ℕ) (ks : List Shadow) (f : OnInput) → AreCallsLike input fs calls gs → slice_get calls i ≡ Some ks → slice_get ks k ≡ Some (Known f) →
-      (g : Frame) × (slice_get gs i ≡ Some g) × (slice_get g.registers k ≡ Some (f input))
-  call_known fs [] gs i k ks f h e v = absurd cc
-  call_known [] (c ∷ calls) gs i k ks f h e v = absurd h
-  call_known (x ∷ fs) (c ∷ calls) [] i k ks f h e v = absurd h
-  call_known (x ∷ fs) (c ∷ calls) (g ∷ gs) zero k ks f h e v = let same : c ≡ ks = cc in (g, refl, register_known ks g.registers k f (subst (λ (l : List Shadow). AreLike input l g.registers) same h.0.registers) v)
-  call_known (x ∷ fs) (c ∷ calls) (g ∷ gs) (suc i) k ks f h e v = call_known fs calls gs i k ks f h.1 e v
+  call_known : (fs : List Frame) (calls : List (List Shadow)) (gs : List Frame) (i k : ℕ) (ks : List Shadow) (f g : OnInput) → AreCallsLike input fs calls gs → slice_get calls i ≡ Some ks → slice_get ks k ≡ Some (Known f g) →
+      (frame : Frame) × (slice_get gs i ≡ Some frame) × (slice_get frame.registers k ≡ Some (f input))
+  call_known fs [] gs i k ks f g h e v = absurd cc
+  call_known [] (c ∷ calls) gs i k ks f g h e v = absurd h
+  call_known (x ∷ fs) (c ∷ calls) [] i k ks f g h e v = absurd h
+  call_known (x ∷ fs) (c ∷ calls) (y ∷ gs) zero k ks f g h e v = let same : c ≡ ks = cc in (y, refl, register_known ks y.registers k f g (subst (λ (l : List Shadow). AreLike input l y.registers) same h.0.registers) v)
+  call_known (x ∷ fs) (c ∷ calls) (y ∷ gs) (suc i) k ks f g h e v = call_known fs calls gs i k ks f g h.1 e v
 
   known : (e : Portion) → IsOfUnit r d input sums e → HasKnownValues input e
-  known e h l i k ks f at c v = go (local_at e.unit.state (owner e.unit)) (subst (λ (o : Option LocalState). StandLike input (standing_of (local_at e.unit.state (owner e.unit)) (thread_of e.unit.seen.before (owner e.unit)).calls) o) at h.rests.thread)
+  known e h l i k ks f g at c v = go (local_at e.unit.state (owner e.unit)) (subst (λ (o : Option LocalState). StandLike input (standing_of (local_at e.unit.state (owner e.unit)) (thread_of e.unit.seen.before (owner e.unit)).calls) o) at h.rests.thread)
     where
-      go : (o : Option LocalState) → StandLike input (standing_of o (thread_of e.unit.seen.before (owner e.unit)).calls) (Some l) → (g : Frame) × (slice_get l.frames i ≡ Some g) × (slice_get g.registers k ≡ Some (f input))
+      go : (o : Option LocalState) → StandLike input (standing_of o (thread_of e.unit.seen.before (owner e.unit)).calls) (Some l) → (frame : Frame) × (slice_get l.frames i ≡ Some frame) × (slice_get frame.registers k ≡ Some (f input))
       go None s = absurd s
-      go (Some z) s = call_known z.frames (thread_of e.unit.seen.before (owner e.unit)).calls l.frames i k ks f s.calls c v
+      go (Some z) s = call_known z.frames (thread_of e.unit.seen.before (owner e.unit)).calls l.frames i k ks f g s.calls c v
 
   pub values : (es : List Portion) → AllOf (IsOfUnit r d input sums) es → ((t : ℕ) → IsFrontOf (units_by t (units_done es)) (units_by t (units_of r d))) → KeepsValues r d input es
   values es h f = record { same = λ t. same t es h (f t); known = all_map known es h }

@@ -30,8 +30,8 @@ instrs_done t es = map (λ (e : Portion). e.step.instr) (filter (λ (e : Portion
 -- before the step of a thread that has begun each register of its calls that is known has the number that its function gives
 abbrev pub HasKnownValues : List ℤ → Portion → Type 0
 HasKnownValues input e =
-    (l : LocalState) (call k : ℕ) (known : List Shadow) (f : OnInput) → local_at e.state (owner e.unit) ≡ Some l →
-    slice_get (thread_of e.unit.seen.before (owner e.unit)).calls call ≡ Some known → slice_get known k ≡ Some (Known f) →
+    (l : LocalState) (call k : ℕ) (known : List Shadow) (f g : OnInput) → local_at e.state (owner e.unit) ≡ Some l →
+    slice_get (thread_of e.unit.seen.before (owner e.unit)).calls call ≡ Some known → slice_get known k ≡ Some (Known f g) →
     (frame : Frame) × (slice_get l.frames call ≡ Some frame) × (slice_get frame.registers k ≡ Some (f input))
 
 pub record KeepsValues (r : ReferenceRun) (d : Taken) (input : List ℤ) (es : List Portion) : Type 0 where

@@ -11,7 +11,7 @@ use Rattle.pg_nodes.specs.Nodes.{NodeList, IsNode}
 use Rattle.pg_nodes.specs.Values.{bit_of, cast_by, chosen, node_number, number_of, numbers_of, operated, with_both, with_one}
 use Rattle.pg_step.specs.Compute.{number_of_bool}
 use Rattle.pg_step.specs.Operands.{operands_of}
-use Rattle.pg_closed.specs.Shadows.{Known, applied, result_of}
+use Rattle.pg_closed.specs.Shadows.{applied, result_of, valued}
 use Rattle.pg_sources.specs.declared.form.Form.{Form}
 use Rattle.pg_sources.specs.declared.form.Form.TheVariants as form
 use Rattle.pg_sources.specs.declared.source.Source.{Source}
@@ -93,9 +93,9 @@ pub node_fits : (n : ℕ) (o : Op) (f : Form) (ss : List Source) → form_of o �
 node_fits n o f ss e h b l a = let k = form_facts o f e in fits_below n f ss (k.fits h) b (l ∙ k.count) a
 
 -- the value of the node is the result of the operation
-pub formed : (ns : NodeList) (o : Op) (f : Form) (ss : List Source) → form_of o ≡ Some f → blamed ss ≡ None → length ss ≡ length (operands_of o) → Known (λ input. node_number input (numbers_of input ns) (node_by f ss)) ≡ result_of o (map (shadow_by ns) ss)
+pub formed : (ns : NodeList) (o : Op) (f : Form) (ss : List Source) → form_of o ≡ Some f → blamed ss ≡ None → length ss ≡ length (operands_of o) → valued (λ input. node_number input (numbers_of input ns) (node_by f ss)) ≡ result_of o (map (shadow_by ns) ss)
 formed ns o f ss e b l =
     let k = form_facts o f e in
     let c = l ∙ k.count in
-    ap (λ g. Known g) (fun_ext (λ input. node_is ns f ss input c ∙ k.same (numbers_from ns ss input) (numbers_length ns ss input ∙ c)))
-    ∙ sym (all_known ns ss (λ gs. Known (λ input. applied o (gs input))) b)
+    ap (λ g. valued g) (fun_ext (λ input. node_is ns f ss input c ∙ k.same (numbers_from ns ss input) (numbers_length ns ss input ∙ c)))
+    ∙ sym (all_known ns ss (λ gs. valued (λ input. applied o (gs input))) b)

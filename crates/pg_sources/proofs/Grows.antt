@@ -88,11 +88,12 @@ number_kept old new k input g h =
 -- ---- sources
 
 pub source_more : (m n : ℕ) (s : Source) → m ≤ n → IsSource m s → IsSource n s
-source_more m n (source.Known k) h i = omega arith
+source_more m n (source.Known k j) h i = let a : k < m = i.0 in let b : j < m = i.1 in (omega (arith, h, a), omega (arith, h, b))
 source_more m n (source.Framed k x) h i = omega arith
 source_more m n (source.Unknown x) h i = tt
 
 pub shadow_kept : (old new : NodeList) (s : Source) → Grew old new → IsSource (length old) s → shadow_by new s ≡ shadow_by old s
-shadow_kept old new (source.Known k) g h = ap (λ f. Known f) (fun_ext (λ input. number_kept old new k input g h))
+shadow_kept old new (source.Known k j) g h =
+    ap (λ f. Known f (number_by new j)) (fun_ext (λ input. number_kept old new k input g h.0)) ∙ ap (λ f. Known (number_by old k) f) (fun_ext (λ input. number_kept old new j input g h.1))
 shadow_kept old new (source.Framed k x) g h = ap (λ f. Framed f x) (fun_ext (λ input. number_kept old new k input g h))
 shadow_kept old new (source.Unknown x) g h = refl

@@ -13,7 +13,7 @@ use Rattle.pg_nodes.specs.Values.{number_of}
 use Rattle.pg_step.specs.Compute.{index_bytes, moved_along}
 use Rattle.pg_step.specs.EdgeStep.{is_set}
 use Rattle.pg_step.specs.Operands.{given, operands_of}
-use Rattle.pg_closed.specs.Shadows.{OnInput, Known, applied, index_narrowed, narrowed, result_of}
+use Rattle.pg_closed.specs.Shadows.{OnInput, applied, index_narrowed, narrowed, result_of, valued}
 use Rattle.pg_sources.specs.declared.source.Source.{Source}
 use Rattle.pg_sources.specs.Sources.{blamed, number_by, shadow_by}
 use Rattle.pg_sources.specs.Forms.{moved_each, moved_if, node_at, numbers_from}
@@ -43,13 +43,13 @@ gep_applied base is (Some w ∷ ns) l =
 
 -- the value of a node with these numbers is the result of the operation
 pub gep_is : (ns : NodeList) (base : Value) (is : List Index) (ss : List Source) (g : OnInput) → blamed ss ≡ None → length ss ≡ length is + 1 →
-    ((input : List ℤ) → g input ≡ moved_each (number_by ns (node_at ss 0) input) is (drop 1 (numbers_from ns ss input))) → Known g ≡ result_of (op.Gep base is) (map (shadow_by ns) ss)
+    ((input : List ℤ) → g input ≡ moved_each (number_by ns (node_at ss 0) input) is (drop 1 (numbers_from ns ss input))) → valued g ≡ result_of (op.Gep base is) (map (shadow_by ns) ss)
 gep_is ns base is ss g e l h =
-    ap (λ f. Known f) (fun_ext (λ input.
+    ap (λ f. valued f) (fun_ext (λ input.
     h input
     ∙ ap (λ x. moved_each x is (drop 1 (numbers_from ns ss input))) (sym (number_from ns ss input 0 (omega arith)))
     ∙ gep_applied base is (numbers_from ns ss input) (numbers_length ns ss input ∙ l)))
-    ∙ sym (all_known ns ss (λ gs. Known (λ input. applied (op.Gep base is) (gs input))) e)
+    ∙ sym (all_known ns ss (λ gs. valued (λ input. applied (op.Gep base is) (gs input))) e)
 
 values_length : (is : List Index) → length (map (λ (i : Index). i.value) is) ≡ length is
 values_length [] = refl

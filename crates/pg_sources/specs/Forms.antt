@@ -69,7 +69,7 @@ CastFits _ = Unit {0}
 -- ---- the nodes of operands
 
 abbrev pub node_of : Source → ℕ
-node_of (source.Known k) = k
+node_of (source.Known k j) = k
 node_of (source.Framed k x) = k
 node_of (source.Unknown x) = 0
 

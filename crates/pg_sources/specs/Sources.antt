@@ -16,13 +16,13 @@ number_by ns k = λ input. number_of (numbers_of input ns) k
 
 -- what is known of a value, where the nodes are these
 abbrev pub shadow_by : NodeList → Source → Shadow
-shadow_by ns (source.Known k) = Known (number_by ns k)
+shadow_by ns (source.Known k j) = Known (number_by ns k) (number_by ns j)
 shadow_by ns (source.Framed k x) = Framed (number_by ns k) x
 shadow_by ns (source.Unknown x) = Unknown x
 
--- the source's node is one of the first n
+-- the source's nodes are among the first n
 abbrev pub IsSource : ℕ → Source → Type 0
-IsSource n (source.Known k) = k < n
+IsSource n (source.Known k j) = (k < n) × (j < n)
 IsSource n (source.Framed k x) = k < n
 IsSource n (source.Unknown x) = Unit {0}
 
@@ -35,18 +35,18 @@ pub record Grew (old new : NodeList) : Type 0 where
 
 -- the node of a known value
 abbrev pub node_if_known : Source → Option ℕ
-node_if_known (source.Known k) = Some k
+node_if_known (source.Known k j) = Some k
 node_if_known s = None
 
 -- the node of a word that has the frame, where the frame is known
 abbrev pub node_of_frame : Source → Option ℕ
-node_of_frame (source.Known k) = Some k
+node_of_frame (source.Known k j) = Some j
 node_of_frame (source.Framed k x) = Some k
 node_of_frame (source.Unknown x) = None
 
 -- the first decision that is blamed where not all are known
 abbrev pub blamed : List Source → Option Decision
 blamed [] = None
-blamed (source.Known k ∷ ss) = blamed ss
+blamed (source.Known k j ∷ ss) = blamed ss
 blamed (source.Framed k x ∷ ss) = Some x
 blamed (source.Unknown x ∷ ss) = Some x

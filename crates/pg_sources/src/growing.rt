@@ -1,7 +1,7 @@
 ghost use Rattle.std.specs.Prelude.{◌≡◌, ◌<◌, ℤ, List, length, IfOk};
 ghost use Rattle.pg_nodes.specs.Nodes.{IsNode};
 ghost use Rattle.pg_nodes.specs.Values.{node_number, numbers_of};
-ghost use Rattle.pg_closed.specs.Shadows.{Known};
+ghost use Rattle.pg_closed.specs.Shadows.{valued};
 ghost use Rattle.pg_sources.specs.Sources.{Grew, IsSource, number_by, shadow_by};
 
 use crate::source::Source;
@@ -28,7 +28,11 @@ pub(crate) fn known(nodes: &mut Nodes, node: Node) -> Result<Source, AllocError>
     requires { IsNode (length nodes.old) node }
     ensures grew { Grew nodes.old nodes.new }
     ensures is { IfOk result (IsSource (length nodes.new)) }
-    ensures value { IfOk result (λ s. shadow_by nodes.new s ≡ Known (λ input. node_number input (numbers_of input nodes.old) node)) }
+    ensures value { IfOk result (λ s. shadow_by nodes.new s ≡ valued (λ input. node_number input (numbers_of input nodes.old) node)) }
 {
-    Ok(Source::Known(added(nodes, node)?))
+    let number = added(nodes, node)?;
+    Ok(Source::Known {
+        value: number,
+        frame: number,
+    })
 }

@@ -30,7 +30,10 @@ fn moved_pointer(nodes: &mut Nodes, op: &Op, operands: &[Source]) -> Result<Sour
     match op {
         Op::Gep { indices, .. } => {
             let word = moved_along(nodes, indices.as_slice(), operands)?;
-            Ok(Source::Known(word))
+            Ok(Source::Known {
+                value: word,
+                frame: word,
+            })
         }
         _ => unreachable!(),
     }

@@ -3,8 +3,8 @@ use pg_closed::Decision;
 /// What is known of a value along a reference run, by the number of a node of one list.
 #[derive(Clone, Copy, Debug, PartialEq, Eq)]
 pub enum Source {
-    /// The number of this node.
-    Known(u32),
+    /// The number of a node, and the frame of a node's word: of the same node, but for a pointer that was moved.
+    Known { value: u32, frame: u32 },
     /// A pointer of which only the frame is known, that of this node's word; the decision is blamed for the rest.
     Framed(u32, Decision),
     /// Nothing; the decision is blamed.
@@ -24,7 +24,7 @@ impl Source {
         ensures { (ns : NodeList) → shadows.blames (shadow_by ns self) ≡ option_to_list result }
     {
         match self {
-            Source::Known(_) => None,
+            Source::Known { .. } => None,
             Source::Framed(_, by) | Source::Unknown(by) => Some(by),
         }
     }
@@ -35,7 +35,7 @@ impl Source {
     {
         match self {
             Source::Unknown(by) => Some(by),
-            Source::Known(_) | Source::Framed(..) => None,
+            Source::Known { .. } | Source::Framed(..) => None,
         }
     }
 
@@ -45,7 +45,7 @@ impl Source {
         ensures node { (n : ℕ) → IsSource n self → IfSome result (λ k. k < n) }
     {
         match self {
-            Source::Known(node) => Some(node),
+            Source::Known { value, .. } => Some(value),
             Source::Framed(..) | Source::Unknown(_) => None,
         }
     }
@@ -56,22 +56,31 @@ impl Source {
         ensures node { (n : ℕ) → IsSource n self → IfSome result (λ k. k < n) }
     {
         match self {
-            Source::Known(node) | Source::Framed(node, _) => Some(node),
+            Source::Known { frame, .. } | Source::Framed(frame, _) => Some(frame),
             Source::Unknown(_) => None,
         }
     }
 
-    /// A value, but where it isn't known, with the frame of its base, where that is known.
+    /// A value with the frame of this node's word.
+    fn with_frame(self, frame: u32) -> Source
+        ensures value { (ns : NodeList) → shadow_by ns result ≡ shadows.with_frame (Some (number_by ns frame)) (shadow_by ns self) }
+        ensures is { (n : ℕ) → frame < n → IsSource n self → IsSource n result }
+    {
+        match self {
+            Source::Known { value, .. } => Source::Known { value, frame },
+            Source::Framed(..) => self,
+            Source::Unknown(by) => Source::Framed(frame, by),
+        }
+    }
+
+    /// A value with the frame of its base, where that is known.
     pub fn moved(self, base: Source) -> Source
         ensures value { (ns : NodeList) → shadow_by ns result ≡ shadows.moved (shadow_by ns base) (shadow_by ns self) }
         ensures is { (n : ℕ) → IsSource n base → IsSource n self → IsSource n result }
     {
-        match self {
-            Source::Unknown(by) => match base {
-                Source::Known(node) | Source::Framed(node, _) => Source::Framed(node, by),
-                Source::Unknown(_) => Source::Unknown(by),
-            },
-            Source::Known(_) | Source::Framed(..) => self,
+        match base {
+            Source::Known { frame, .. } | Source::Framed(frame, _) => self.with_frame(frame),
+            Source::Unknown(_) => self,
         }
     }
 }

@@ -2,7 +2,7 @@ ghost use Rattle.std.specs.Prelude.{◌≡◌, ◌<◌, ◌%◌, length, map, sl
 ghost use Rattle.std.specs.List.{AllByRecursion};
 ghost use Rattle.pg_num.specs.Numbers.{modulus};
 ghost use Rattle.pg_step.specs.Operands.{pointer_to};
-ghost use Rattle.pg_closed.specs.Shadows.{Known, always, cut, shadow_of};
+ghost use Rattle.pg_closed.specs.Shadows.{Known, always, cut, shadow_of, valued};
 ghost use Rattle.pg_closed.specs.Shadows as shadows;
 ghost use Rattle.pg_closed.specs.Rules.{moved_shadow};
 ghost use Rattle.pg_closed.specs.Known as along;
@@ -71,7 +71,7 @@ fn global_word(p: &Program, g: u32) -> Option<u64>
 fn fixed(nodes: &mut Nodes, n: Option<u64>) -> Result<Source, AllocError>
     ensures grew { Grew nodes.old nodes.new }
     ensures is { IfOk result (IsSource (length nodes.new)) }
-    ensures value { IfOk result (λ s. shadow_by nodes.new s ≡ Known (λ input. n)) }
+    ensures value { IfOk result (λ s. shadow_by nodes.new s ≡ valued (λ input. n)) }
 {
     match n {
         Some(n) => constant(nodes, n),
@@ -131,7 +131,7 @@ pub fn within(nodes: &mut Nodes, w: Width, s: Source) -> Result<Source, AllocErr
     ensures value { IfOk result (λ r. shadow_by nodes.new r ≡ cut (λ n. n % modulus w) (shadow_by nodes.old s)) }
 {
     match s {
-        Source::Known(of) => known(
+        Source::Known { value: of, .. } => known(
             nodes,
             Node::Cast {
                 cast: CastKind::Zext,
@@ -171,21 +171,23 @@ pub fn offset(nodes: &mut Nodes, k: u64, s: Source) -> Result<Source, AllocError
     ensures value { IfOk result (λ r. shadow_by nodes.new r ≡ moved_shadow k (shadow_by nodes.old s)) }
 {
     match s {
-        Source::Known(base) => moved_word(nodes, k, base),
+        Source::Known { value, frame } => moved_word(nodes, k, value, frame),
         Source::Framed(..) | Source::Unknown(_) => Ok(s),
     }
 }
 
-/// The value of a node's word, moved by so many bytes.
+/// The value of a node's word, moved by so many bytes, with the frame of another node's word.
 #[tactic(auto, using(crate::proofs::Grows::grew_then, crate::proofs::Grows::grew_length))]
-fn moved_word(nodes: &mut Nodes, k: u64, base: u32) -> Result<Source, AllocError>
-    requires { base < length nodes.old }
+fn moved_word(nodes: &mut Nodes, k: u64, base: u32, frame: u32) -> Result<Source, AllocError>
+    requires base { base < length nodes.old }
+    requires frame { frame < length nodes.old }
     ensures grew { Grew nodes.old nodes.new }
     ensures is { IfOk result (IsSource (length nodes.new)) }
-    ensures value { IfOk result (λ r. shadow_by nodes.new r ≡ moved_shadow k (Known (number_by nodes.old base))) }
+    ensures value { IfOk result (λ r. shadow_by nodes.new r ≡ moved_shadow k (Known (number_by nodes.old base) (number_by nodes.old frame))) }
 {
     let delta = added(nodes, Node::Const(k))?;
-    known(nodes, Node::Gep { base, delta })
+    let value = added(nodes, Node::Gep { base, delta })?;
+    Ok(Source::Known { value, frame })
 }
 
 /// The input's number at an index, which is read with its sign; 0 outside of the input.
@@ -201,7 +203,7 @@ pub fn from_input(nodes: &mut Nodes, s: Source) -> Result<Source, AllocError>
     ensures value { IfOk result (λ r. shadow_by nodes.new r ≡ along.from_input (shadow_by nodes.old s)) }
 {
     match s {
-        Source::Known(index) => known(nodes, Node::In(index)),
+        Source::Known { value: index, .. } => known(nodes, Node::In(index)),
         Source::Framed(_, by) | Source::Unknown(by) => Ok(Source::Unknown(by)),
     }
 }
@@ -214,7 +216,7 @@ pub fn from_input(nodes: &mut Nodes, s: Source) -> Result<Source, AllocError>
 pub fn input_length(nodes: &mut Nodes) -> Result<Source, AllocError>
     ensures grew { Grew nodes.old nodes.new }
     ensures is { IfOk result (IsSource (length nodes.new)) }
-    ensures value { IfOk result (λ r. shadow_by nodes.new r ≡ Known (λ input. Some (length input))) }
+    ensures value { IfOk result (λ r. shadow_by nodes.new r ≡ valued (λ input. Some (length input))) }
 {
     known(nodes, Node::InLen)
 }

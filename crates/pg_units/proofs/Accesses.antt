@@ -30,13 +30,13 @@ use Rattle.pg_closed.specs.Freeable.{frame_of}
 use Rattle.pg_closed.specs.Known.{Taken, operand_at}
 use Rattle.pg_closed.specs.Moments.{thread_in}
 use Rattle.pg_closed.specs.Rules.{Footprint, Need, Value as ValueNeed, Frame as FrameNeed, access_needs_by, access_needs_in, address_index, frame_needs, kind_in, operand_of, same_frame, value_needs, value_needs_by}
-use Rattle.pg_closed.specs.Shadows.{OnInput, Shadow, Known, Framed, Unknown, byte_in as byte_shadow, cut, frame_word, from_all, joined, loaded, shadow_of, spoiled, stored}
+use Rattle.pg_closed.specs.Shadows.{OnInput, Shadow, Known, Framed, Unknown, byte_in as byte_shadow, cut, frame_word, joined, loaded, shadow_of, spoiled, stored, valued}
 use Rattle.pg_units.specs.Likes.{HaveOneFrame, IsInFrame, IsLike, IsToldLike}
 use Rattle.pg_units.specs.Units.{PlanUnit, ReferenceRun, access_touch, instance_touch, is_event_at, is_read_in, is_written_in, range_touched, reads_cell, reference_of, touch_of, word_read, word_written, writes_cell}
 use Rattle.pg_units.proofs.Branches.{eq_met, needs_here, top_known}
 use Rattle.pg_units.proofs.Good.{Holds, IsGood}
 use Rattle.pg_units.proofs.Inner.{Pair, instr_is, same_instr}
-use Rattle.pg_units.proofs.Likes.{from_like, operand_like}
+use Rattle.pg_units.proofs.Likes.{from_like, like_value, operand_like, valued_like}
 use Rattle.pg_units.proofs.Placed.{in_frame, place_range}
 
 -- ---- actions that can be done
@@ -60,15 +60,12 @@ met_frame word (Some n) h =
     let p = and_parts ((pointer_of n).start == (pointer_of word).start) ((pointer_of n).length == (pointer_of word).length) h in
     (n, refl, record { start = eqb-true (pointer_of n).start (pointer_of word).start p.0; length = eqb-true (pointer_of n).length (pointer_of word).length p.1 })
 
-some_same : (a b : ℕ) → Path (Option ℕ) (Some a) (Some b) → a ≡ b
-some_same a b e = cc
-
 pub framed_same : (input : List ℤ) (s : Shadow) (f : OnInput) (word0 word : ℕ) → frame_word s ≡ Some f → IsLike input s (Some word) → is_met (same_frame word0) (f input) ≡ true → HaveOneFrame word0 word
-framed_same input (Known g) f word0 word e h m =
+framed_same input (Known v g) f word0 word e h m =
     let same : g ≡ f = cc in
     let k = met_frame word0 (f input) m in
-    let q : word ≡ k.0 = some_same word k.0 (h ∙ ap (λ (z : OnInput). z input) same ∙ k.1) in
-    subst (HaveOneFrame word0) (sym q) k.2
+    let j : HaveOneFrame k.0 word = subst (λ (o : Option ℕ). IsInFrame o (Some word)) (ap (λ (z : OnInput). z input) same ∙ k.1) h.1 in
+    record { start = j.start ∙ k.2.start; length = j.length ∙ k.2.length }
 framed_same input (Framed g x) f word0 word e h m =
     let same : g ≡ f = cc in
     let k = met_frame word0 (f input) m in
@@ -79,17 +76,18 @@ framed_same input (Unknown x) f word0 word e h m = absurd cc
 -- ---- bytes
 
 pub cut_like : (input : List ℤ) (f : ℕ → ℕ) (s : Shadow) (n : ℕ) → IsLike input s (Some n) → IsLike input (cut f s) (Some (f n))
-cut_like input f (Known g) n h = ap (λ (o : Option ℕ). nodes.with_one o (λ m. Some (f m))) h
+cut_like input f (Known g u) n h = valued_like input (λ i. nodes.with_one (g i) (λ m. Some (f m))) (Some (f n)) (ap (λ (o : Option ℕ). nodes.with_one o (λ m. Some (f m))) h.0)
 cut_like input f (Framed g x) n h = tt
 cut_like input f (Unknown x) n h = tt
 
 joined_like : (input : List ℤ) (low high : Shadow) (b n : ℕ) → IsLike input low (Some b) → IsLike input high (Some n) → IsLike input (joined low high) (Some (n * 2 ^ 8 + b))
-joined_like input low high b n h k = from_like input (low ∷ high ∷ []) (Some b ∷ Some n ∷ []) (λ gs. Known (λ i. nodes.with_both (nodes.number_of (gs i) 0) (nodes.number_of (gs i) 1) (λ b n. Some (n * 2 ^ 8 + b)))) (Some (n * 2 ^ 8 + b)) (h, (k, tt))
-    (λ gs e. ap (λ (l : List (Option ℕ)). nodes.with_both (nodes.number_of l 0) (nodes.number_of l 1) (λ b n. Some (n * 2 ^ 8 + b))) (sym e))
+joined_like input low high b n h k = from_like input (low ∷ high ∷ []) (Some b ∷ Some n ∷ []) (λ gs. valued (λ i. nodes.with_both (nodes.number_of (gs i) 0) (nodes.number_of (gs i) 1) (λ b n. Some (n * 2 ^ 8 + b)))) (Some (n * 2 ^ 8 + b)) (h, (k, tt))
+    (λ gs e. valued_like input (λ i. nodes.with_both (nodes.number_of (gs i) 0) (nodes.number_of (gs i) 1) (λ b n. Some (n * 2 ^ 8 + b))) (Some (n * 2 ^ 8 + b))
+    (ap (λ (l : List (Option ℕ)). nodes.with_both (nodes.number_of l 0) (nodes.number_of l 1) (λ b n. Some (n * 2 ^ 8 + b))) (sym e)))
 
 pub loaded_like : (input : List ℤ) (bytes : ℕ → Shadow) (m : ℕ → ℕ) (at n : ℕ) → ((c : ℕ) → is_in (record { start = at; bytes = n }) c ≡ true → IsLike input (bytes c) (Some (m c))) → IsLike input (loaded bytes at n) (Some (number_of m at n))
 unfolding number_of
-loaded_like input bytes m at zero h = refl
+loaded_like input bytes m at zero h = valued_like input (λ i. Some 0) (Some 0) refl
 loaded_like input bytes m at (suc n) h =
     let next : at + 1 ≡ suc at = omega arith in
     joined_like input (bytes at) (loaded bytes (at + 1) n) (m at) (number_of m (suc at) n) (h at (first at n))
@@ -160,7 +158,7 @@ module _ (r : ReferenceRun) (d : Taken) (input : List ℤ) (u : PlanUnit) (st : 
         let needs : value_needs (reference_of r) d u.seen ≡ ValueNeed (operand_of r.program u.seen q.both.x (address_index q.both.x.op)) (test.Eq a.word0 ∷ []) ∷ [] =
         needs_here r d input u st moves y q (kinds.Access told_access) a.kind0 ∙ ap (λ (b : Bool). if b then ValueNeed (operand_of r.program u.seen q.both.x (address_index q.both.x.op)) (test.Eq a.word0 ∷ []) ∷ [] else []) e in
         let h = (subst (AllOf (Holds input)) needs good.values).0 in
-        let known : Some a.word ≡ h.0 input = subst (λ (s : Shadow). IsLike input s (Some a.word)) h.1 address_like in
+        let known : Some a.word ≡ h.0 input = like_value input (operand_of r.program u.seen q.both.x (address_index q.both.x.op)) h.0 (Some a.word) h.1 address_like in
         eq_met a.word0 a.word (subst (λ (o : Option ℕ). is_met (test.Eq a.word0) o ≡ true) (sym known) h.2.0)
 
     size0 : a.q0.bytes ≡ a.size

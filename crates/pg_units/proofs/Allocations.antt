@@ -36,8 +36,8 @@ use Rattle.pg_machine.specs.State.{State}
 use Rattle.pg_effects.specs.Effect.{answer_to}
 use Rattle.pg_closed.specs.Known.{Taken, from_input, operand_at, result_in, set_shadow}
 use Rattle.pg_closed.specs.Moments.{thread_in}
-use Rattle.pg_closed.specs.Rules.{Value as ValueNeed, is_malloc, kind_in, operand_of, value_needs}
-use Rattle.pg_closed.specs.Shadows.{OnInput, Shadow, Known, always}
+use Rattle.pg_closed.specs.Rules.{Value as ValueNeed, is_malloc, kind_in, operand_of, value_needs, value_of}
+use Rattle.pg_closed.specs.Shadows.{OnInput, Shadow, always, valued}
 use Rattle.pg_units.specs.Likes.{AreLike, IsLike, like}
 use Rattle.pg_units.specs.Moves.{deed_moved}
 use Rattle.pg_units.specs.Units.{PlanUnit, ReferenceRun, deed_of, reference_of}
@@ -47,7 +47,7 @@ use Rattle.pg_units.proofs.Computing.{frame_stepped}
 use Rattle.pg_units.proofs.Good.{Holds, IsGood}
 use Rattle.pg_units.proofs.Here.{running}
 use Rattle.pg_units.proofs.Inner.{IsInner, Pair, answer, answer0}
-use Rattle.pg_units.proofs.Likes.{argument_like, from_like, set_like}
+use Rattle.pg_units.proofs.Likes.{argument_like, from_like, set_like, valued_like}
 use Rattle.pg_units.proofs.Results.{on_some, value_done}
 
 room_done : (b : Bool) → CanStep (if b then actions.Local else actions.Trap traps.StackFull) → (if b then actions.Local else actions.Trap traps.StackFull) ≡ actions.Local
@@ -57,7 +57,7 @@ room_done false h = absurd h
 -- a register, if there is one, gets the number that is told
 pub told_number : (input : List ℤ) (target : Option ℕ) (ks : List Shadow) (vs : List (Option ℕ)) (number n : ℕ) → AreLike input ks vs → number ≡ n → AreLike input (set_shadow target (always (or_zero target number)) ks) (set_register vs target (Some n))
 told_number input None ks vs number n h e = h
-told_number input (Some t) ks vs number n h e = set_like input (Some t) ks vs (always number) (Some n) h (ap Some (sym e))
+told_number input (Some t) ks vs number n h e = set_like input (Some t) ks vs (always number) (Some n) h (valued_like input (λ i. Some number) (Some n) (ap Some (sym e)))
 
 -- ---- the number of the input at an index
 
@@ -78,8 +78,9 @@ input_small input (pos i) = small (slice_get input i)
 input_small input (negsuc i) = Rattle.std.proofs.Common.lit< tt
 
 input_like : (input : List ℤ) (s : Shadow) (n : ℕ) → IsLike input s (Some n) → IsLike input (from_input s) (Some (machine.input_at input (signed W64 n) % modulus W64))
-input_like input s n h = from_like input (s ∷ []) (Some n ∷ []) (λ gs. Known (λ i. nodes.with_one (slice_index_or (gs i) 0 None) (λ k. Some (nodes.input_at i (signed W64 k))))) (Some (machine.input_at input (signed W64 n) % modulus W64)) (h, tt)
-    (λ gs e. ap Some (whole (machine.input_at input (signed W64 n)) (input_small input (signed W64 n)) ∙ same_input input (signed W64 n)) ∙ ap (λ (l : List (Option ℕ)). nodes.with_one (slice_index_or l 0 None) (λ k. Some (nodes.input_at input (signed W64 k)))) (sym e))
+input_like input s n h = from_like input (s ∷ []) (Some n ∷ []) (λ gs. valued (λ i. nodes.with_one (slice_index_or (gs i) 0 None) (λ k. Some (nodes.input_at i (signed W64 k))))) (Some (machine.input_at input (signed W64 n) % modulus W64)) (h, tt)
+    (λ gs e. valued_like input (λ i. nodes.with_one (slice_index_or (gs i) 0 None) (λ k. Some (nodes.input_at i (signed W64 k)))) (Some (machine.input_at input (signed W64 n) % modulus W64))
+    (ap Some (whole (machine.input_at input (signed W64 n)) (input_small input (signed W64 n)) ∙ same_input input (signed W64 n)) ∙ ap (λ (l : List (Option ℕ)). nodes.with_one (slice_index_or l 0 None) (λ k. Some (nodes.input_at input (signed W64 k)))) (sym e)))
   where
     whole : (m : ℕ) → m < modulus W64 → m % modulus W64 ≡ m
     whole m l = omega arith
@@ -153,8 +154,8 @@ module _ (r : ReferenceRun) (d : Taken) (input : List ℤ) (program : IsProgram 
       let act = act_at r d input u st moves y q o e in
       let a : answer r d input u st moves y q ≡ length input = ap (answer_to input st (thread_in u.seen.moment)) act in
       inner_at r d input u st moves y q o e (subst IsInner (sym act0) tt) (subst IsInner (sym act) tt) refl (
-        frame_stepped input b.f0 b.f b.ks b.x.result (Known (λ i. Some (length i))) (answer0 r d input u st moves y q % modulus W64) (answer r d input u st moves y q % modulus W64) b.top
-            (ap (λ (n : ℕ). Some (n % modulus W64)) a ∙ ap Some (whole (length input) small)),
+        frame_stepped input b.f0 b.f b.ks b.x.result (valued (λ i. Some (length i))) (answer0 r d input u st moves y q % modulus W64) (answer r d input u st moves y q % modulus W64) b.top
+            (valued_like input (λ i. Some (length i)) (Some (answer r d input u st moves y q % modulus W64)) (ap (λ (n : ℕ). Some (n % modulus W64)) a ∙ ap Some (whole (length input) small))),
         b.rest,
       )
     where
@@ -207,6 +208,6 @@ module _ (r : ReferenceRun) (d : Taken) (input : List ℤ) (program : IsProgram 
           ≡ kinds.Allocation (given (argument r.program q.both.f0.registers args 0)) (or_zero q.both.x.result (allocated r0 (given (argument r.program q.both.f0.registers args 0))))
       told k = ap (λ (z : Op). op_told (first_four r.program q.both.f0.registers (operands_of z)) (or_zero q.both.x.result (op_own r.program (running (thread_in u.seen.moment) q.both.h q.both.f0 q.both.fs0 q.both.n) q.both.f0.registers (answer0 r d input u st moves y q) z)) z) k
 
-      size : (vs : List Value) → q.both.x.op ≡ op.CallKnown known.Malloc vs → (n : ℕ) → argument r.program q.both.f.registers vs 0 ≡ Some n → (f : OnInput) → operand_of r.program u.seen q.both.x 0 ≡ Known f → Some n ≡ f input
+      size : (vs : List Value) → q.both.x.op ≡ op.CallKnown known.Malloc vs → (n : ℕ) → argument r.program q.both.f.registers vs 0 ≡ Some n → (f : OnInput) → value_of (operand_of r.program u.seen q.both.x 0) ≡ Some f → Some n ≡ f input
       size [] k n a f g = absurd cc
       size (v ∷ vs) k n a f g = sym a ∙ number_known r d input u st moves y q (op.CallKnown known.Malloc (v ∷ vs)) k 0 v refl f g

@@ -18,6 +18,7 @@ use Rattle.pg_ir.specs.declared.function.GlobalInfo.{GlobalInfo}
 use Rattle.pg_closed.specs.Known.{start_of, thread_of}
 use Rattle.pg_closed.specs.Shadows.{always}
 use Rattle.pg_units.specs.Likes.{IsCellLike, StandLike, like}
+use Rattle.pg_units.proofs.Likes.{valued_like}
 use Rattle.pg_units.specs.Moves.{moved}
 use Rattle.pg_units.specs.Order.{IsOrderedRun}
 use Rattle.pg_units.specs.Units.{ReferenceRun, cell_known, plan_start, standing_of}
@@ -44,15 +45,15 @@ unfolding memory.initial
 memory_byte p c h l = byte_at-memory_of (initial_byte p.globals) c h l
 
 first_word : (input : List ℤ) (i : ℕ) → IsCellLike input (slice_index_or (always 0 ∷ []) i (always 0)) (slice_index (0 ∷ []) i)
-first_word input zero = refl
-first_word input (suc i) = refl
+first_word input zero = valued_like input (λ i. Some 0) (Some 0) refl
+first_word input (suc i) = valued_like input (λ i. Some 0) (Some 0) refl
 
 module _ (p : NumberedProgram) (input : List ℤ) where
   pub first_cell : HoldBytes p.globals → (c : ℕ) → IsCellLike input (cell_known (start_of p) c) (cell_at (initial p) c)
   first_cell bytes c = subst (IsCellLike input (cell_known (start_of p) c)) (sym (first_byte p c)) (go (nat_lt c MEMORY_BYTES) refl)
     where
       go : (b : Bool) → nat_lt c MEMORY_BYTES ≡ b → IsCellLike input (if b then always (initial_byte p.globals c) else slice_index_or (always 0 ∷ []) (c - MEMORY_BYTES) (always 0)) (if b then byte_at (memory.initial p.globals) c else slice_index (0 ∷ []) (c - MEMORY_BYTES))
-      go true e = ap (λ (n : ℕ). Some n) (memory_byte p c (λ i. byte_first p.globals i bytes) (ltb-true c MEMORY_BYTES e))
+      go true e = valued_like input (λ i. Some (initial_byte p.globals c)) (Some (byte_at (memory.initial p.globals) c)) (ap (λ (n : ℕ). Some n) (memory_byte p c (λ i. byte_first p.globals i bytes) (ltb-true c MEMORY_BYTES e)))
       go false e = first_word input (c - MEMORY_BYTES)
 
   pub stands_first : (t : ℕ) → StandLike input (standing_of (local_at (initial p) t) (thread_of (start_of p) t).calls) (local_at (initial p) t)

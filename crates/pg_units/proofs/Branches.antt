@@ -33,15 +33,15 @@ use Rattle.pg_machine.specs.State.{State, next_of}
 use Rattle.pg_closed.specs.Extents.{edge_by, edge_in}
 use Rattle.pg_closed.specs.Known.{Taken, after_branch, after_op, along_edge, is_branch, operand_at, region_of as region_at, result_in, top_of}
 use Rattle.pg_closed.specs.Moments.{calls_of, instr_in, registers_in, thread_in}
-use Rattle.pg_closed.specs.Rules.{Value as ValueNeed, edge_tests, has_region, is_bound, is_case, kind_in, operand_of, registers_before, value_needs, value_needs_by, value_needs_in}
-use Rattle.pg_closed.specs.Shadows.{OnInput, Shadow, Known}
+use Rattle.pg_closed.specs.Rules.{Value as ValueNeed, edge_tests, has_region, is_bound, is_case, kind_in, operand_of, registers_before, value_needs, value_needs_by, value_needs_in, value_of}
+use Rattle.pg_closed.specs.Shadows.{OnInput, Shadow}
 use Rattle.pg_units.specs.Likes.{AreCallsLike, IsCallLike, IsLike, like}
 use Rattle.pg_units.specs.Moves.{deed_moved}
 use Rattle.pg_units.specs.Units.{PlanUnit, ReferenceRun, deed_of, reference_of}
 use Rattle.pg_units.proofs.Good.{Holds, IsGood}
 use Rattle.pg_units.proofs.Here.{number_here, operands_here, running}
 use Rattle.pg_units.proofs.Inner.{IsInner, Pair, act0_is, act_is, answer, answer0, can, can0, inner_fits, instr_at0, instr_is, told0}
-use Rattle.pg_units.proofs.Likes.{edge_like, operand_like}
+use Rattle.pg_units.proofs.Likes.{edge_like, like_value, operand_like}
 use Rattle.pg_units.proofs.Results.{if_done, value_done}
 
 pub edge_done : (p : NumberedProgram) (rs : List (Option ℕ)) (from to : ℕ) → CanStep (edge_action p rs from to) → edge_action p rs from to ≡ actions.Local
@@ -151,11 +151,12 @@ module _ (r : ReferenceRun) (d : Taken) (input : List ℤ) (u : PlanUnit) (st : 
   needs_here k e = ap (value_needs_in r.program d u.seen) (instr_is r d input u st moves y q) ∙ ap (λ (b : Bool). if b then value_needs_by r.program d u.seen q.both.x (kind_in u.seen) else []) q.unit.live ∙ ap (value_needs_by r.program d u.seen q.both.x) e
 
   -- an operand that is known
-  pub number_known : (o : Op) → q.both.x.op ≡ o → (i : ℕ) (v : Value) → slice_get (operands_of o) i ≡ Some v → (f : OnInput) → operand_of r.program u.seen q.both.x i ≡ Known f → operand r.program q.both.f.registers v ≡ f input
+  pub number_known : (o : Op) → q.both.x.op ≡ o → (i : ℕ) (v : Value) → slice_get (operands_of o) i ≡ Some v → (f : OnInput) → value_of (operand_of r.program u.seen q.both.x i) ≡ Some f → operand r.program q.both.f.registers v ≡ f input
   number_known o e i v g f k =
-      subst (λ (s : Shadow). IsLike input s (operand r.program q.both.f.registers v))
-      (at_known (operands_of o) i v g ∙ ap (λ (ss : List Shadow). operand_at r.program ss o i) (sym top_known) ∙ ap (λ (z : Op). operand_at r.program (registers_before u.seen) z i) (sym e) ∙ k)
-      (operand_like input r.program q.both.ks q.both.f.registers q.both.top.registers v)
+      like_value input (operand_of r.program u.seen q.both.x i) f (operand r.program q.both.f.registers v) k
+      (subst (λ (s : Shadow). IsLike input s (operand r.program q.both.f.registers v))
+      (at_known (operands_of o) i v g ∙ ap (λ (ss : List Shadow). operand_at r.program ss o i) (sym top_known) ∙ ap (λ (z : Op). operand_at r.program (registers_before u.seen) z i) (sym e))
+      (operand_like input r.program q.both.ks q.both.f.registers q.both.top.registers v))
     where
       at_known : (vs : List Value) (i : ℕ) (v : Value) → slice_get vs i ≡ Some v → Rattle.pg_closed.specs.Shadows.shadow_of r.program q.both.ks v ≡ Rattle.std.specs.Prelude.slice_index_or (map (Rattle.pg_closed.specs.Shadows.shadow_of r.program q.both.ks) vs) i Rattle.pg_closed.specs.Shadows.unset
       at_known [] i v g = absurd cc

@@ -32,7 +32,7 @@ use Rattle.pg_units.proofs.Branches.{act0_at, act_at, can0_at, can_at}
 use Rattle.pg_units.proofs.Good.{IsGood}
 use Rattle.pg_units.proofs.Here.{running}
 use Rattle.pg_units.proofs.Inner.{Pair, answer, answer0}
-use Rattle.pg_units.proofs.Likes.{argument_like, depth_like, operand_like}
+use Rattle.pg_units.proofs.Likes.{argument_like, depth_like, operand_like, valued_like}
 use Rattle.pg_units.proofs.Results.{on_some, value_done}
 use Rattle.pg_units.proofs.EventCells.{cw_is, event_fits, known_is, known_words, reads_nothing, wc_is, word_set}
 
@@ -121,7 +121,7 @@ module _ (r : ReferenceRun) (d : Taken) (input : List ℤ) (program : IsProgram 
       (ap (op_after p l b.x (answer r d input u st moves y q)) e ∙ ap (λ (fs : List Frame). Rattle.pg_step.specs.Step.returned p fs (number_at p b.f.registers (operands_of (op.Ret v)) 0)) (no_frames b.fs deep'))
     where
       value : (w : Option Value) → v ≡ w → (n : ℕ) → (v ≡ None → n ≡ 0) → ((z : Value) → v ≡ Some z → operand r.program q.both.f.registers z ≡ Some n) → IsLike input (Rattle.pg_closed.specs.Known.returned_shadow r.program q.both.ks v) (Some n)
-      value None k n none some = rw k (ap Some (none k))
+      value None k n none some = rw k (valued_like input (λ i. Some 0) (Some n) (ap Some (none k)))
       value (Some z) k n none some = rw k (subst (λ (o : Option ℕ). IsLike input (Rattle.pg_closed.specs.Shadows.shadow_of r.program q.both.ks z) o) (some z k) (operand_like input r.program q.both.ks q.both.f.registers q.both.top.registers z))
 
   pub pthread_exit_fits : (args : List Value) → q.both.x.op ≡ op.CallKnown known.PthreadExit args → Fits (like input) (deed_of d u) (deed_moved r.program input st moves y)
@@ -140,5 +140,5 @@ module _ (r : ReferenceRun) (d : Taken) (input : List ℤ) (program : IsProgram 
       (ap (op_after p l0 b.x (answer0 r d input u st moves y q)) e) (ap (op_after p l b.x (answer r d input u st moves y q)) e)
     where
       value : (z : Bool) (n : ℕ) → IsLike input (operand_at r.program q.both.ks (op.CallKnown known.PthreadExit args) 0) (Some n) → IsLike input (if z then always 0 else operand_at r.program q.both.ks (op.CallKnown known.PthreadExit args) 0) (Some (if z then 0 else n))
-      value true n h = refl
+      value true n h = valued_like input (λ i. Some 0) (Some 0) refl
       value false n h = h

@@ -27,15 +27,15 @@ use Rattle.pg_machine.specs.State.{State, next_of}
 use Rattle.pg_effects.specs.Effect.{answer_to}
 use Rattle.pg_closed.specs.Known.{Taken, operand_at, thread_of}
 use Rattle.pg_closed.specs.Moments.{thread_in}
-use Rattle.pg_closed.specs.Rules.{checked, checked_of, equal_to, kind_in, operand_of, registers_before, value_needs, value_needs_by, value_needs_in}
-use Rattle.pg_closed.specs.Shadows.{OnInput, Shadow, Known, shadow_of, unset}
+use Rattle.pg_closed.specs.Rules.{checked, checked_of, equal_to, kind_in, operand_of, registers_before, value_needs, value_needs_by, value_needs_in, value_of}
+use Rattle.pg_closed.specs.Shadows.{OnInput, Shadow, shadow_of, unset}
 use Rattle.pg_units.specs.Likes.{IsLike}
 use Rattle.pg_units.specs.Units.{PlanUnit, ReferenceRun, reference_of}
 use Rattle.pg_units.proofs.Along.{IsUnit}
 use Rattle.pg_units.proofs.Branches.{eq_met}
 use Rattle.pg_units.proofs.Good.{Holds, IsGood}
 use Rattle.pg_units.proofs.Here.{number_here, operands_here, running}
-use Rattle.pg_units.proofs.Likes.{argument_like}
+use Rattle.pg_units.proofs.Likes.{argument_like, like_value}
 use Rattle.pg_units.proofs.Meeting as meeting
 use Rattle.pg_units.proofs.Opened.{Both}
 use Rattle.pg_units.proofs.Requests.{given_args}
@@ -114,11 +114,12 @@ module _ (r : ReferenceRun) (d : Taken) (input : List ℤ) (u : PlanUnit) (st : 
           pick (suc (suc zero)) h = refl
           pick (suc (suc (suc i))) h = let lt = ltb-true (suc (suc (suc i))) 3 h in absurd (omega (arith, lt))
 
-      one : (i : ℕ) → nat_lt i 3 ≡ true → (n : ℕ) → argument r.program b.f0.registers args i ≡ Some n → (f : OnInput) → operand_of r.program u.seen b.x i ≡ Known f → is_met (test.Eq (slice_index numbers0 i)) (f input) ≡ true → argument r.program b.f.registers args i ≡ argument r.program b.f0.registers args i
+      one : (i : ℕ) → nat_lt i 3 ≡ true → (n : ℕ) → argument r.program b.f0.registers args i ≡ Some n → (f : OnInput) → value_of (operand_of r.program u.seen b.x i) ≡ Some f → is_met (test.Eq (slice_index numbers0 i)) (f input) ≡ true → argument r.program b.f.registers args i ≡ argument r.program b.f0.registers args i
       one i s n g f k m =
-          let shadow : slice_index_or (map (shadow_of r.program b.ks) args) i unset ≡ Known f =
-          ap (λ (ss : List Shadow). operand_at r.program ss (op.CallKnown known.PgIn args) i) (sym (meeting.top_known r d input u.seen u.state st unit.met b)) ∙ sym (ap (λ (z : Op). slice_index_or (map (shadow_of r.program (registers_before u.seen)) (operands_of z)) i unset) e) ∙ k in
-          let v : argument r.program b.f.registers args i ≡ f input = subst (λ (z : Shadow). IsLike input z (argument r.program b.f.registers args i)) shadow (argument_like input r.program b.ks b.f.registers b.top.registers args i) in
+          let shadow : slice_index_or (map (shadow_of r.program b.ks) args) i unset ≡ operand_of r.program u.seen b.x i =
+          ap (λ (ss : List Shadow). operand_at r.program ss (op.CallKnown known.PgIn args) i) (sym (meeting.top_known r d input u.seen u.state st unit.met b)) ∙ sym (ap (λ (z : Op). slice_index_or (map (shadow_of r.program (registers_before u.seen)) (operands_of z)) i unset) e) in
+          let v : argument r.program b.f.registers args i ≡ f input = like_value input (operand_of r.program u.seen b.x i) f (argument r.program b.f.registers args i) k
+          (subst (λ (z : Shadow). IsLike input z (argument r.program b.f.registers args i)) shadow (argument_like input r.program b.ks b.f.registers b.top.registers args i)) in
           v ∙ met (f input) m ∙ sym g
         where
           met : (o : Option ℕ) → is_met (test.Eq (slice_index numbers0 i)) o ≡ true → o ≡ Some n

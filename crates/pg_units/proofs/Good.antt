@@ -8,13 +8,13 @@ use Rattle.pg_nodes.specs.Values.{is_met}
 use Rattle.pg_plans.proofs.Lists.{all_map, both_of}
 use Rattle.pg_closed.specs.Closed.{IsClosed, admits, conditions, conditions_at}
 use Rattle.pg_closed.specs.Known.{Reference, Seen, Taken, seen_in}
-use Rattle.pg_closed.specs.Rules.{Condition, Need, Value, Frame, all_of, asks_frames, asks_pins, asks_values, conditions_with, frame_needs, is_bound, need_blames, need_conditions, value_needs}
+use Rattle.pg_closed.specs.Rules.{Condition, Need, Value, Frame, all_of, asks_frames, asks_pins, asks_values, conditions_with, frame_needs, is_bound, need_blames, need_conditions, value_needs, value_of}
 use Rattle.pg_closed.specs.Shadows.{OnInput, Known, Framed, Unknown, frame_word}
 use Rattle.pg_units.proofs.Settled.{append_none, none_asked, not_asked}
 
 -- what is asked of a value holds on the input
 abbrev pub Holds : List ℤ → Need → Type 0
-Holds input (Value s tests) = (f : OnInput) × (s ≡ Known f) × AllOf (λ (t : Test). is_met t (f input) ≡ true) tests
+Holds input (Value s tests) = (f : OnInput) × (value_of s ≡ Some f) × AllOf (λ (t : Test). is_met t (f input) ≡ true) tests
 Holds input (Frame s t) = (f : OnInput) × (frame_word s ≡ Some f) × (is_met t (f input) ≡ true)
 
 pub record IsGood (R : Reference) (d : Taken) (input : List ℤ) (x : Seen) : Type 0 where
@@ -35,10 +35,10 @@ module _ (input : List ℤ) where
   one_met false h = h
 
   holds_by : (q : Need) → need_blames q ≡ [] → list_all (λ (c : Condition). is_met c.test (c.value input)) (need_conditions q) ≡ true → Holds input q
-  holds_by (Value (Known f) ts) b h = (f, refl, with_met f ts h)
+  holds_by (Value (Known f g) ts) b h = (f, refl, with_met f ts h)
   holds_by (Value (Framed f x) ts) b h = absurd cc
   holds_by (Value (Unknown x) ts) b h = absurd cc
-  holds_by (Frame (Known f) t) b h = (f, refl, one_met (is_met t (f input)) h)
+  holds_by (Frame (Known f g) t) b h = (g, refl, one_met (is_met t (g input)) h)
   holds_by (Frame (Framed f x) t) b h = (f, refl, one_met (is_met t (f input)) h)
   holds_by (Frame (Unknown x) t) b h = absurd cc
 

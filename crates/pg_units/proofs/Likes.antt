@@ -14,15 +14,35 @@ use Rattle.pg_step.specs.Compute.{index_bytes, moved_along}
 use Rattle.pg_step.specs.EdgeStep.{over_edge, phi_values, set_each, set_register}
 use Rattle.pg_step.specs.LocalState.{Frame}
 use Rattle.pg_step.specs.Operands.{flat, operand, optional_operand}
-use Rattle.pg_closed.specs.Shadows.{Shadow, Known, Framed, Unknown, applied, from_all, moved, result_of, shadow_of, unset}
+use Rattle.pg_closed.specs.Shadows.{OnInput, Shadow, Known, Framed, Unknown, applied, from_all, moved, result_of, shadow_of, unset, valued}
 use Rattle.pg_closed.specs.Known.{along_edge, entered, optional_shadow, phi_shadow, set_phis, set_shadow}
-use Rattle.pg_units.specs.Likes.{AreCallsLike, AreLike, HaveOneFrame, IsInFrame, IsLike}
+use Rattle.pg_closed.specs.Rules.{value_of}
+use Rattle.pg_units.specs.Likes.{AreCallsLike, AreLike, HaveOneFrame, IsFramed, IsInFrame, IsLike}
+
+-- a number has its own frame
+pub same_frame : (n : ℕ) → HaveOneFrame n n
+same_frame n = record { start = refl; length = refl }
+
+own_framed : (v : Option ℕ) → IsFramed v v
+own_framed None = refl
+own_framed (Some n) = same_frame n
 
 module _ (input : List ℤ) where
+  -- ---- values
+
+  -- a known value that has its own frame
+  pub valued_like : (f : OnInput) (v : Option ℕ) → v ≡ f input → IsLike input (valued f) v
+  valued_like f v e = (e, subst (λ (o : Option ℕ). IsFramed o v) e (own_framed v))
+
+  pub like_value : (s : Shadow) (f : OnInput) (v : Option ℕ) → value_of s ≡ Some f → IsLike input s v → v ≡ f input
+  like_value (Known g u) f v e h = let same : g ≡ f = cc in h.0 ∙ ap (λ (z : OnInput). z input) same
+  like_value (Framed g x) f v e h = absurd cc
+  like_value (Unknown x) f v e h = absurd cc
+
   -- ---- lists
 
   like_at : (ss : List Shadow) (vs : List (Option ℕ)) (r : ℕ) → AreLike input ss vs → IsLike input (slice_index_or ss r unset) (flat (slice_get vs r))
-  like_at [] [] r h = refl
+  like_at [] [] r h = valued_like (λ i. None) None refl
   like_at [] (v ∷ vs) r h = absurd h
   like_at (s ∷ ss) [] r h = absurd h
   like_at (s ∷ ss) (v ∷ vs) zero h = h.0
@@ -53,28 +73,28 @@ module _ (input : List ℤ) where
 
   pub unset_like : (n : ℕ) → AreLike input (replicate n unset) (replicate n None)
   unset_like zero = tt
-  unset_like (suc n) = (refl, unset_like n)
+  unset_like (suc n) = (valued_like (λ i. None) None refl, unset_like n)
 
   -- ---- operands
 
   module _ (p : NumberedProgram) (ss : List Shadow) (vs : List (Option ℕ)) (h : AreLike input ss vs) where
     pub operand_like : (v : Value) → IsLike input (shadow_of p ss v) (operand p vs v)
     operand_like (value.Register r) = like_at ss vs r h
-    operand_like (value.Const n) = refl
-    operand_like (value.Global g) = refl
-    operand_like (value.Function f) = refl
+    operand_like (value.Const n) = valued_like (λ i. Some n) (Some n) refl
+    operand_like (value.Global g) = valued_like (λ i. operand p [] (value.Global g)) (operand p vs (value.Global g)) refl
+    operand_like (value.Function f) = valued_like (λ i. Some f) (Some f) refl
 
     pub operands_like : (xs : List Value) → AreLike input (map (shadow_of p ss) xs) (map (operand p vs) xs)
     operands_like [] = tt
     operands_like (x ∷ xs) = (operand_like x, operands_like xs)
 
     pub argument_like : (xs : List Value) (k : ℕ) → IsLike input (slice_index_or (map (shadow_of p ss) xs) k unset) (optional_operand p vs (slice_get xs k))
-    argument_like [] k = refl
+    argument_like [] k = valued_like (λ i. None) None refl
     argument_like (x ∷ xs) zero = operand_like x
     argument_like (x ∷ xs) (suc k) = argument_like xs k
 
     pub optional_like : (o : Option Value) → IsLike input (optional_shadow p ss o) (optional_operand p vs o)
-    optional_like None = refl
+    optional_like None = valued_like (λ i. None) None refl
     optional_like (Some v) = operand_like v
 
   -- ---- results
@@ -84,17 +104,14 @@ module _ (input : List ℤ) where
   from_like [] [] F v h k = k (λ i. []) refl
   from_like [] (n ∷ ns) F v h k = absurd h
   from_like (s ∷ ss) [] F v h k = absurd h
-  from_like (Known g ∷ ss) (n ∷ ns) F v h k = from_like ss ns (λ gs. F (λ i. g i ∷ gs i)) v h.1 (λ gs e. k (λ i. g i ∷ gs i) (ap (λ (l : List (Option ℕ)). g input ∷ l) e ∙ ap (λ (m : Option ℕ). m ∷ ns) (sym h.0)))
+  from_like (Known g u ∷ ss) (n ∷ ns) F v h k = from_like ss ns (λ gs. F (λ i. g i ∷ gs i)) v h.1 (λ gs e. k (λ i. g i ∷ gs i) (ap (λ (l : List (Option ℕ)). g input ∷ l) e ∙ ap (λ (m : Option ℕ). m ∷ ns) (sym h.0.0)))
   from_like (Framed g x ∷ ss) (n ∷ ns) F v h k = tt
   from_like (Unknown x ∷ ss) (n ∷ ns) F v h k = tt
 
   pub result_like : (o : Op) (ss : List Shadow) (ns : List (Option ℕ)) → AreLike input ss ns → IsLike input (result_of o ss) (applied o ns)
-  result_like o ss ns h = from_like ss ns (λ gs. Known (λ i. applied o (gs i))) (applied o ns) h (λ gs e. ap (applied o) (sym e))
+  result_like o ss ns h = from_like ss ns (λ gs. valued (λ i. applied o (gs i))) (applied o ns) h (λ gs e. valued_like (λ i. applied o (gs i)) (applied o ns) (ap (applied o) (sym e)))
 
   -- a pointer that is moved keeps its frame
-  same_frame : (n : ℕ) → HaveOneFrame n n
-  same_frame n = record { start = refl; length = refl }
-
   pub along_frame : (word : ℕ) (is : List Index) (n : ℕ → ℕ) (k : ℕ) → HaveOneFrame word (moved_along word is n k)
   along_frame word [] n k = same_frame word
   along_frame word (i ∷ is) n k =
@@ -107,10 +124,10 @@ module _ (input : List ℤ) where
   framed_like (Some w) b m h k = record { start = k.start ∙ h.start; length = k.length ∙ h.length }
 
   pub moved_like : (base s : Shadow) (b m : ℕ) → IsLike input base (Some b) → IsLike input s (Some m) → HaveOneFrame b m → IsLike input (moved base s) (Some m)
-  moved_like (Known f) (Known g) b m h k e = k
-  moved_like (Known f) (Framed g x) b m h k e = k
-  moved_like (Known f) (Unknown x) b m h k e = framed_like (f input) b m (subst (λ (o : Option ℕ). IsInFrame o (Some b)) h (same_frame b)) e
-  moved_like (Framed f y) (Known g) b m h k e = k
+  moved_like (Known f u) (Known g w) b m h k e = (k.0, framed_like (u input) b m h.1 e)
+  moved_like (Known f u) (Framed g x) b m h k e = k
+  moved_like (Known f u) (Unknown x) b m h k e = framed_like (u input) b m h.1 e
+  moved_like (Framed f y) (Known g w) b m h k e = (k.0, framed_like (f input) b m h e)
   moved_like (Framed f y) (Framed g x) b m h k e = k
   moved_like (Framed f y) (Unknown x) b m h k e = framed_like (f input) b m h e
   moved_like (Unknown y) s b m h k e = k

@@ -42,7 +42,7 @@ use Rattle.pg_units.proofs.Events.{reply, reply0, shaped_fits}
 use Rattle.pg_units.proofs.Good.{IsGood}
 use Rattle.pg_units.proofs.Here.{running}
 use Rattle.pg_units.proofs.Inner.{Pair, answer, answer0}
-use Rattle.pg_units.proofs.Likes.{argument_like}
+use Rattle.pg_units.proofs.Likes.{argument_like, valued_like}
 use Rattle.pg_units.proofs.Results.{on_some, value_done}
 use Rattle.pg_ir.specs.declared.request.TrapName.{TrapName}
 use Rattle.pg_ir.specs.declared.request.TrapName.TheVariants as traps
@@ -197,7 +197,7 @@ module _ (r : ReferenceRun) (d : Taken) (input : List ℤ) (program : IsProgram 
       where
         go : (x : Bool) → nat_lt c MEMORY_BYTES ≡ x → (w : Bool) → (length u.state.sync.threads == (c - MEMORY_BYTES)) ≡ w →
             IsCellLike input (or_old (if (if x then is_in R c else w) then Some (cell_known u.known c) else None) s) (or_old (if x then (if is_in R c then Some (byte_of (length st.locals) (c - R.start)) else None) else (if w then Some n1 else None)) m)
-        go true v w z = stored_cell input R u.seen.before.bytes (always (length u.state.locals)) (length st.locals) (ap Some threads_same) c (cell_known u.known c) s m (bytes_is c v) k
+        go true v w z = stored_cell input R u.seen.before.bytes (always (length u.state.locals)) (length st.locals) (valued_like input (λ i. Some (length u.state.locals)) (Some (length st.locals)) (ap Some threads_same)) c (cell_known u.known c) s m (bytes_is c v) k
         go false v false z = k
         go false v true z = word_is c v z
 

@@ -20,10 +20,15 @@ abbrev pub IsInFrame : Option ℕ → Option ℕ → Type 0
 IsInFrame (Some word) (Some n) = HaveOneFrame word n
 IsInFrame _ _ = ⊥
 
--- on this input a value, none where it was never set, is like what is known of it: a known one is that number, of another, which is
--- set, its frame may be known, and else it may be any or none
+-- the same of a number that may not be there, where the word isn't there either
+abbrev pub IsFramed : Option ℕ → Option ℕ → Type 0
+IsFramed word None = word ≡ None
+IsFramed word (Some n) = IsInFrame word (Some n)
+
+-- on this input a value, none where it was never set, is like what is known of it: a known one is that number, with that frame; of
+-- another, which is set, its frame may be known, and else it may be any or none
 abbrev pub IsLike : List ℤ → Shadow → Option ℕ → Type 0
-IsLike input (Known f) v = v ≡ f input
+IsLike input (Known f g) v = (v ≡ f input) × IsFramed (g input) v
 IsLike input (Framed f x) v = IsInFrame (f input) v
 IsLike input (Unknown x) v = ⊤
 

@@ -1,6 +1,6 @@
 use Rattle.std.proofs.Common.{length, sym, ap, ◌∙◌, subst}
 use Rattle.std.proofs.lemmas.Result.{IfOk-weaker}
-use Rattle.pg_closed.specs.Shadows.{Known}
+use Rattle.pg_closed.specs.Shadows.{valued}
 use Rattle.pg_nodes.specs.declared.node.Node.{Node}
 use Rattle.pg_nodes.specs.Nodes.{IsNode}
 use Rattle.pg_nodes.specs.Values.{node_number, numbers_of}
@@ -16,5 +16,5 @@ pub returns-in-Some-clause-value : goal.returns-in-Some-clause-value
 returns-in-Some-clause-value c =
     IfOk-weaker c.known.result _ _ (λ s h.
     h
-    ∙ ap (λ (x : Node). Known (λ input. node_number input (numbers_of input c.args.nodes.now) x)) c.node_by.ensures
+    ∙ ap (λ (x : Node). valued (λ input. node_number input (numbers_of input c.args.nodes.now) x)) c.node_by.ensures
     ∙ formed c.args.nodes.now c.args.op.now c.in-Some.form c.args.operands.now (sym c.in-Some.ensures) c.requires.known c.requires.count) c.known.ensures.value

@@ -1,12 +1,12 @@
 use Rattle.std.proofs.Common.{◌≡◌, ℕ, pos, Option, Some, None, ◌∙◌, ap, refl}
 use mathlib.Core.Path.{fun_ext}
-use Rattle.std.proofs.lemmas.Result.{IfOk-weaker}
 use Rattle.pg_num.specs.Numbers.{signed}
 use Rattle.pg_num.specs.Pointers.{moved_by}
 use Rattle.pg_num.specs.declared.width.Width.TheVariants.{W64}
 use Rattle.pg_nodes.specs.Values.{with_both, with_one}
-use Rattle.pg_closed.specs.Shadows.{Known}
-use Rattle.pg_sources.proofs.Grows.{number_kept}
+use Rattle.pg_closed.specs.Shadows.{OnInput, Known}
+use Rattle.pg_sources.specs.Sources.{number_by}
+use Rattle.pg_sources.proofs.Grows.{grew_then, number_kept}
 use Rattle.pg_sources.proofs.Moves.{moved_signed}
 use Rattle.pg_sources.proofs.values.moved_word.Goals as goal
 
@@ -20,9 +20,11 @@ moved_to k u word delta e h =
 
 pub returns-clause-value : goal.returns-clause-value
 returns-clause-value c =
-    IfOk-weaker c.known.result _ _ (λ s h.
-    h
-    ∙ ap (λ f. Known f) (fun_ext (λ input.
-    moved_to c.args.k _ _ _
-    (number_kept c.args.nodes.now c.added.new.nodes c.args.base input c.added.ensures.grew c.requires)
-    (c.in_ok-delta.ensures.value input)))) c.known.ensures.value
+    let old = c.args.nodes.now in
+    let one = c.added.new.nodes in
+    let two = c.added-2.new.nodes in
+    let grew = grew_then old one two c.added.ensures.grew c.added-2.ensures.grew in
+    ap (λ (f : OnInput). Known f (number_by two c.args.frame)) (fun_ext (λ input.
+    c.in_ok-value.ensures.value input
+    ∙ moved_to c.args.k _ _ _ (number_kept old one c.args.base input c.added.ensures.grew c.requires.base) (c.in_ok-delta.ensures.value input)))
+    ∙ ap (λ (f : OnInput). Known (λ input. with_one (number_by old c.args.base input) (λ w. Some (moved_by w (pos c.args.k)))) f) (fun_ext (λ input. number_kept old two c.args.frame input grew c.requires.frame))

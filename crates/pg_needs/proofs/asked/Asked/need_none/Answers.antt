@@ -1,8 +1,11 @@
-use Rattle.std.proofs.Common.{ap}
+use Rattle.std.proofs.Common.{ap, length}
+use Rattle.pg_sources.specs.declared.source.Source.TheVariants as source
+use Rattle.pg_sources.specs.Sources.{IsSource, number_by}
 use Rattle.pg_needs.proofs.Added.{many_checks}
 use Rattle.pg_needs.proofs.asked.Asked.need_none.Goals as goal
 
 pub returns-in_ok-check_others-in-Known : goal.returns-in_ok-check_others-in-Known
 returns-in_ok-check_others-in-Known c = λ ns h.
-    rw c.in-Known.is (many_checks ns c.args.self.now c.check_others.new.self c.in-Known.node c.args.cases.now
-    (ap (λ v. v.items) c.in_ok-check_others-in-Known.ensures.missing) c.in_ok-check_others-in-Known.ensures.checks (rw c.in-Known.is at h))
+    let below : IsSource (length ns) (source.Known c.in-Known.value c.in-Known.frame) = rw c.in-Known.is at h in
+    rw c.in-Known.is (many_checks ns c.args.self.now c.check_others.new.self c.in-Known.value (number_by ns c.in-Known.frame) c.args.cases.now
+    (ap (λ v. v.items) c.in_ok-check_others-in-Known.ensures.missing) c.in_ok-check_others-in-Known.ensures.checks below.0)
