@@ -1,3 +1,5 @@
+//! Names, literals and their bytes, and where they stand.
+
 ghost use Rattle.std.specs.Prelude.{◌≡◌, IfOk};
 
 use pg_lex::Span;

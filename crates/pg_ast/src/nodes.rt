@@ -1,3 +1,5 @@
+//! Lines, basic blocks, items and the module, as they are written.
+
 use crate::names::Name;
 use crate::ops::OpNode;
 use crate::types::TypeNode;

@@ -1,3 +1,5 @@
+//! Operators and operations, as they are written.
+
 use crate::names::{Literal, Name};
 use crate::types::TypeNode;
 use crate::values::{TypedVal, ValNode};

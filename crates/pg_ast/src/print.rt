@@ -1,3 +1,5 @@
+//! The canonical text of a module.
+
 mod functions;
 mod items;
 mod modules;

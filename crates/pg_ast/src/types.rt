@@ -1,3 +1,5 @@
+//! Types, as they are written.
+
 use crate::names::{Literal, Name};
 use pg_lex::Span;
 

@@ -1,3 +1,5 @@
+//! Values and constants, as they are written.
+
 use crate::names::{Literal, Name};
 use crate::types::TypeNode;
 use pg_lex::Span;

@@ -1,3 +1,5 @@
+//! The blocks of a body with their names, and the `phi` lines for which they are refused.
+
 ghost use Rattle.std.specs.Prelude.{◌≡◌, IfOk, List, ℕ, map, length, Some};
 ghost use Rattle.std.specs.List.{flat_map, list_any, enumerate_from};
 ghost use Rattle.pg_ast.specs.declared.names.Name as pg_name;

@@ -1,3 +1,5 @@
+//! The first refusal in the bodies of functions.
+
 ghost use Rattle.std.specs.Prelude.{◌≡◌, ◌+◌, IfOk, IfSome, None, ℕ, map};
 ghost use Rattle.pg_ast.specs.Syntax.{Tree};
 ghost use Rattle.pg_ast.specs.Numbers.{numbered};

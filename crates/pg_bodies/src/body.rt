@@ -1,3 +1,5 @@
+//! What the body of a function is refused for.
+
 ghost use Rattle.std.specs.Prelude.{◌≡◌, ◌+◌, IfOk, List, ℕ};
 ghost use Rattle.pg_ast.specs.Syntax.{Tree};
 ghost use Rattle.pg_ast.specs.Numbers.{numbered};

@@ -1,3 +1,5 @@
+//! What the lines of a body are refused for.
+
 ghost use Rattle.std.specs.Prelude.{◌≡◌, IfOk, map};
 ghost use Rattle.std.specs.List.{list_any};
 ghost use Rattle.pg_ast.specs.Views.{line_of, block_of};

@@ -1,3 +1,5 @@
+//! Labels and registers that stand twice.
+
 ghost use Rattle.std.specs.Prelude.{◌≡◌, ◌++◌, ◌≤◌, IfOk, OnOk, length, drop};
 ghost use Rattle.std.specs.List.{flat_map};
 ghost use Rattle.pg_rules.specs.Earliest.{earliest};

@@ -1,3 +1,5 @@
+//! Blocks without an ending line, and too many instructions.
+
 ghost use Rattle.std.specs.Prelude.{◌≡◌, ◌+◌, ◌||◌, ◌==◌, not, nat_lt, ℕ, map, length};
 ghost use Rattle.std.specs.List.{list_any, sum_by};
 ghost use Rattle.pg_num.specs.declared.limits.TheConstants.{INSTRUCTION_LIMIT, FUNCTION_REGISTER_LIMIT};

@@ -1,3 +1,5 @@
+//! Names by their places, and lists of the same names.
+
 ghost use Rattle.std.specs.Prelude.{◌≡◌, IfOk, List, ℕ, map, is_some};
 ghost use Rattle.pg_types.specs.NameIndex.{known_place, texts_of};
 ghost use Rattle.pg_rules.specs.Names.{label_number};

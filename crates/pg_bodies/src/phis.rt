@@ -1,3 +1,5 @@
+//! The `phi` lines of a block, and which of them are refused.
+
 ghost use Rattle.std.specs.Prelude.{◌≡◌, ◌≤◌, ◌&&◌, ◌==◌, not, [], ◌∷◌, IfOk, List, ℕ, map, length, drop, if◌then◌else◌};
 ghost use Rattle.std.specs.List.{flat_map, prefix_len};
 ghost use Rattle.pg_ast.specs.declared.names.Name as pg_name;

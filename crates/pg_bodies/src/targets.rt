@@ -1,3 +1,5 @@
+//! The predecessors of a block.
+
 ghost use Rattle.std.specs.Prelude.{◌≡◌, ◌++◌, [], OnOk, IfOk, map, Some, ◌||◌};
 ghost use Rattle.std.specs.List.{flat_map, cons_option};
 ghost use Rattle.std.specs.Str.{bytes_eq};

@@ -1,3 +1,5 @@
+//! What calls are refused for.
+
 ghost use Rattle.std.specs.Prelude.{◌≡◌, ◌<◌, [], map, take, drop, length, IfOk, List};
 ghost use Rattle.std.specs.List.{flat_map, list_all};
 ghost use Rattle.std.specs.Option.{option_map};

@@ -1,3 +1,5 @@
+//! What the lines of a function are looked up in.
+
 use indexmap::IndexMap;
 use pg_ast::TypeNode;
 use pg_values::ValueScope;

@@ -1,3 +1,5 @@
+//! What global names stand for, looked up from a line.
+
 ghost use Rattle.std.specs.Prelude.{◌≡◌, is_some};
 ghost use Rattle.pg_rules.specs.Symbols.{symbol_of};
 ghost use Rattle.pg_rules.specs.Names.{symbol, register_named};

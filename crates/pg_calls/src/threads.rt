@@ -1,3 +1,5 @@
+//! The threads that calls begin.
+
 ghost use Rattle.std.specs.Prelude.{◌≡◌, map, IfOk, Option, List};
 ghost use Rattle.std.specs.List.{flat_map};
 ghost use Rattle.std.specs.Option.{option_map};

@@ -1,3 +1,5 @@
+//! Values whose types aren't what is asked.
+
 ghost use Rattle.std.specs.Prelude.{◌≡◌, [], ◌∷◌, IfOk};
 ghost use Rattle.std.specs.List.{flat_map};
 ghost use Rattle.pg_ast.specs.Views.{ty_of, typed_of};

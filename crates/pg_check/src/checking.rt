@@ -1,3 +1,5 @@
+//! The numbered program of a module, or its first refusal.
+
 ghost use Rattle.std.specs.Prelude.{◌≡◌, IfOk, IfErr};
 ghost use Rattle.pg_ast.specs.Views.{tree_of};
 ghost use Rattle.pg_rules.specs.Conditions.{IsAccepted};

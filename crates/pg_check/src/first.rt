@@ -1,3 +1,5 @@
+//! The first refusal of a module, phase by phase.
+
 ghost use Rattle.std.specs.Prelude.{◌≡◌, ℕ, List, IfOk, IfSome, None};
 ghost use Rattle.pg_ast.specs.Views.{tree_of};
 ghost use Rattle.pg_types.specs.NameIndex.{known_place};

@@ -1,3 +1,5 @@
+//! Bytes of numbers, and bytes without the zeros at their end.
+
 ghost use Rattle.std.specs.Prelude.{◌≡◌, ◌++◌, ◌==◌, ◌+◌, OnOk, replicate, take, if◌then◌else◌, ◌^◌, ◌<◌};
 ghost use Rattle.pg_rules.specs.Constants.{little_endian, trimmed};
 

@@ -1,3 +1,5 @@
+//! The words of constants.
+
 ghost use Rattle.std.specs.Prelude.{◌≡◌, IfOk, map, unwrap_or};
 ghost use Rattle.pg_num.specs.Pointers.{moved_by};
 ghost use Rattle.pg_ast.specs.Syntax.{Int};

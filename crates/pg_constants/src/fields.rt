@@ -1,3 +1,5 @@
+//! The fields of a structure, each with its offset.
+
 ghost use Rattle.std.specs.Prelude.{◌≡◌, ◌<◌, ◌≤◌, IfOk, IfSome, length, None};
 ghost use Rattle.pg_num.specs.declared.limits.TheConstants.{SIZE_LIMIT};
 ghost use Rattle.pg_types.specs.Layout.{size_of, size_or_none, fields_end, next_offset};

@@ -1,3 +1,5 @@
+//! The globals of a program, one behind the other in memory.
+
 ghost use Rattle.std.specs.Prelude.{◌≡◌, ℕ, ◌+◌, ◌≤◌, IfOk, IfSome, map};
 ghost use Rattle.pg_num.specs.declared.limits.TheConstants.{SIZE_LIMIT};
 ghost use Rattle.pg_num.specs.declared.layout.TheConstants.{GLOBALS_END};

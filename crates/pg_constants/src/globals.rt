@@ -1,3 +1,5 @@
+//! What global names stand for, and the words of the pointers to variables.
+
 ghost use Rattle.std.specs.Prelude.{◌≡◌, ◌≤◌, ◌^◌, ◌<◌, ◌+◌, IfOk, map, slice_get, unwrap_or};
 ghost use Rattle.pg_num.specs.Pointers.{word_of};
 ghost use Rattle.pg_num.specs.declared.limits.TheConstants.{SIZE_LIMIT};

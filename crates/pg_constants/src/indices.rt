@@ -1,3 +1,5 @@
+//! How constant indices move a pointer.
+
 ghost use Rattle.std.specs.Prelude.{◌≡◌, ◌<◌, ◌≤◌, ◌+ℤ◌, IfOk, IfSome, length, pos, Some};
 ghost use Rattle.pg_num.specs.Pointers.{moved_by, offset_of};
 ghost use Rattle.pg_ast.specs.Views.{ty_of};

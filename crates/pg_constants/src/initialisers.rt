@@ -1,3 +1,5 @@
+//! The bytes of initialisers.
+
 ghost use Rattle.std.specs.Prelude.{◌≡◌, ◌<◌, ◌≤◌, ◌+◌, ◌-◌, ◌++◌, OnOk, IfOk, IfSome, None, [], length, slice_get, map, drop, replicate};
 ghost use Rattle.pg_num.specs.declared.limits.TheConstants.{SIZE_LIMIT};
 ghost use Rattle.pg_ast.specs.Syntax.{consts};

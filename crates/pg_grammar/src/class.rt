@@ -1,3 +1,5 @@
+//! The classes of tokens, and the words that the grammar fixes.
+
 /// What a token is to the grammar: each word that it fixes is a class of its own, or stands in a class with
 /// the words that may stand in the same places.
 #[derive(Clone, Copy, Debug, PartialEq, Eq)]

@@ -1,3 +1,5 @@
+//! Why a text isn't a module.
+
 ghost use Rattle.std.specs.Prelude.{◌≡◌};
 ghost use Rattle.pg_grammar.specs.declared.fault.ReadFault.TheVariants.{OutOfMemory};
 ghost use Rattle.pg_grammar.specs.Told.{lexical_of};

@@ -1,3 +1,5 @@
+//! Tokens with their classes, and how they are refused.
+
 ghost use Rattle.std.specs.Prelude.{◌≡◌};
 ghost use Rattle.pg_grammar.specs.declared.token.ReadError.TheVariants.{Memory, Refused};
 

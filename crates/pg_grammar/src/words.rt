@@ -1,3 +1,5 @@
+//! The tokens of a text with their classes.
+
 ghost use Rattle.std.specs.Prelude.{◌≡◌, ◌≤◌, length, map, IfOk};
 ghost use Rattle.std.specs.List.{list_all};
 ghost use Rattle.pg_lex.specs.Tokens.{IsAscending};

@@ -1,7 +1,7 @@
 -- The parts of constants in a row.
-use Rattle.std.proofs.Common.{◌≡◌, ℕ, zero, suc, ◌+◌, ◌<◌, List, [], ◌∷◌, ◌++◌, length, map, take, get_or, refl, sym, ap, ◌∙◌, arith, Vec, Global, Bor}
+use Rattle.std.proofs.Common.{◌≡◌, List, [], ◌∷◌, ◌++◌, map, refl, sym, ap, ◌∙◌, Vec, Global, Bor}
 use Rattle.std.specs.List.{flat_map}
-use Rattle.std.proofs.lemmas.List.{append-nil, append_assoc, map-append}
+use Rattle.std.proofs.lemmas.List.{append_assoc, map-append}
 use Rattle.pg_lex.specs.declared.token.Span.{Span}
 use Rattle.pg_ast.specs.declared.types.TypeNode.{TypeNode}
 use Rattle.pg_rules.specs.Nodes.{ty_behind, tys_behind}
@@ -12,7 +12,7 @@ use Rattle.pg_ast.specs.declared.values.ConstNode.TheOpen as opened
 use Rattle.pg_ast.specs.declared.values.ConstNode.TheFolds.{fold-roll-ConstNode}
 use Rattle.pg_ast.specs.Syntax.{Ty, Const, ArrayConst, StructConst, TypedC, consts}
 use Rattle.pg_ast.specs.Views.{ty_of, const_of, typed_const_of, const_step, typed_const_step}
-use Rattle.pg_rules.specs.Written.{Use, const_uses, part_uses, const_types, part_types}
+use Rattle.pg_rules.specs.Written.{const_uses, part_uses, const_types, part_types}
 use Rattle.pg_heads.specs.Initialisers.{use_row, type_row}
 
 pub part_ty : (t : TypedConst) → (typed_const_of t).ty ≡ ty_of t.ty
@@ -54,23 +54,6 @@ array_types s v = sym (ap (λ c. const_types c) (array_view s v) ∙ type_rows (
 pub struct_types : (s : Span) (v : Vec TypedConst Global) → flat_map type_row (map typed_const_of v.items) ≡ const_types (const_of (node.Struct s v))
 unfolding const_types
 struct_types s v = sym (ap (λ c. const_types c) (struct_view s v) ∙ type_rows (map typed_const_of v.items))
-
-flat_take : {X Y Z : Type 0} (f : Y → List Z) (g : X → Y) (xs : List X) (i : ℕ) (x d : X) → i < length xs → x ≡ get_or xs i d
-    → flat_map f (map g (take (i + 1) xs)) ≡ flat_map f (map g (take i xs)) ++ f (g x)
-flat_take f g [] i x d l e = absurd (omega (arith, l))
-flat_take f g (y ∷ xs) zero x d l e = append-nil (f (g y)) ∙ ap (λ z. f (g z)) (sym e)
-flat_take f g (y ∷ xs) (suc i) x d l e =
-    let s : suc i + 1 ≡ suc (i + 1) = omega arith in
-    ap (λ k. flat_map f (map g (take k (y ∷ xs)))) s
-    ∙ ap (λ zs. f (g y) ++ zs) (flat_take f g xs i x d (omega (arith, l)) e)
-    ∙ sym (append_assoc (f (g y)) (flat_map f (map g (take i xs))) (f (g x)))
-
--- a row of one thing more
-pub row_added : {X Y Z : Type 0} (f : Y → List Z) (g : X → Y) (xs : List X) (i : ℕ) (x d : X) (front all new : List Z) → i < length xs → x ≡ get_or xs i d
-    → all ≡ front ++ flat_map f (map g (take i xs)) → new ≡ all ++ f (g x) → new ≡ front ++ flat_map f (map g (take (i + 1) xs))
-row_added f g xs i x d front all new l e a n =
-    n ∙ ap (λ ts. ts ++ f (g x)) a ∙ append_assoc front (flat_map f (map g (take i xs))) (f (g x))
-    ∙ ap (λ ts. front ++ ts) (sym (flat_take f g xs i x d l e))
 
 -- one type and then others
 pub one_and_others : (all more : List (Bor TypeNode)) (x : Bor TypeNode) (others new : List Ty) → more ≡ all ++ x ∷ [] → new ≡ tys_behind more ++ others → new ≡ tys_behind all ++ (ty_of x.now ∷ others)

@@ -4,6 +4,8 @@ mod Searching
 mod NextPlaces
 mod PlaceLists
 mod NoCircles
+mod KnownPlaces
+mod Ranked
 mod ConstantRows
 mod PartPlaces
 mod GlobalEnds

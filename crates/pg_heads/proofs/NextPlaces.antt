@@ -2,17 +2,16 @@
 use Rattle.std.proofs.Common.{◌≡◌, ℕ, zero, suc, ◌+◌, ◌<◌, Bool, true, false, cond, List, [], ◌∷◌, ◌++◌, length, map, get_or, slice_get, Option, Some, None, unwrap_or, refl, sym, ap, subst, ◌∙◌, arith, inl, inr}
 use Rattle.std.specs.Prelude.{◌==◌, ◌||◌, ◌⊎◌, filter}
 use Rattle.std.specs.List.{list_any, filter_map, position_from, cons_option, flat_map}
-use Rattle.std.specs.Option.{option_map, option_and_then}
+use Rattle.std.specs.Option.{option_map}
 use Rattle.std.specs.Str.{bytes_eq}
 use Rattle.std.proofs.lemmas.Bool.Decides.{nat_tests}
 use Rattle.std.proofs.lemmas.Slice.Eq.{bytes_eq-Decides}
-use Rattle.pg_lex.specs.declared.token.Span.{Span}
 use Rattle.pg_ast.specs.declared.names.Name.{Name}
-use Rattle.pg_ast.specs.Syntax.{Ty, Tys, I1, I8, I16, I32, I64, Ptr, Void, Array, Struct, Named, NoTys, MoreTys, NamedType}
+use Rattle.pg_ast.specs.Syntax.{Ty, I1, I8, I16, I32, I64, Ptr, Void, Array, Struct, Named, NamedType}
 use Rattle.pg_ast.specs.Numbers.{type_named}
-use Rattle.pg_rules.specs.Written.{types_within, types_within_all}
+use Rattle.pg_rules.specs.Written.{types_within}
 use Rattle.pg_rules.specs.Conditions.{names_in, names_in_types, names_of_item, meets, self_contained, at_if}
-use Rattle.pg_heads.specs.Circles.{arrives, has, texts_of_items, place_of, place_of_name, places_in, places_of_item, next_places, circle_at}
+use Rattle.pg_heads.specs.Circles.{arrives, has, texts_of_items, place_of, place_of_name, places_of_item, next_places, circle_at}
 use Rattle.pg_heads.proofs.Reaching.{or_cases}
 
 -- ---- places

@@ -1,15 +1,14 @@
 -- A type that is one doesn't contain itself.
-use Rattle.std.proofs.Common.{◌≡◌, ℕ, zero, suc, ◌<◌, ◌≤◌, Bool, true, false, cond, List, [], ◌∷◌, ◌++◌, length, map, Option, Some, None, is_some, refl, sym, ap, subst, ◌∙◌, arith, inl, inr}
+use Rattle.std.proofs.Common.{◌≡◌, ℕ, zero, suc, ◌≤◌, Bool, true, false, cond, List, [], ◌∷◌, ◌++◌, length, map, Option, Some, None, is_some, refl, sym, ap, subst, arith, inl, inr}
 use Rattle.std.specs.Prelude.{◌&&◌, ◌||◌, ◌⊎◌, filter}
 use Rattle.std.specs.List.{list_any, list_all}
 use Rattle.std.specs.Option.{option_and_then}
 use Rattle.std.specs.Str.{bytes_eq}
 use Rattle.std.proofs.lemmas.Slice.Eq.{bytes_eq-Decides}
-use Rattle.pg_lex.specs.declared.token.Span.{Span}
 use Rattle.pg_ast.specs.declared.names.Name.{Name}
 use Rattle.pg_ast.specs.Syntax.{Ty, Tys, I1, I8, I16, I32, I64, Ptr, Void, Array, Struct, Named, NoTys, MoreTys, NamedType}
 use Rattle.pg_ast.specs.Numbers.{type_named}
-use Rattle.pg_types.specs.Resolved.{ResolvedType, VoidType, part_type, array_type, with_field, element_count, type_by, fields_by, type_within, resolved, NoFields}
+use Rattle.pg_types.specs.Resolved.{ResolvedType, part_type, array_type, with_field, element_count, type_by, fields_by, type_within, resolved, NoFields}
 use Rattle.pg_rules.specs.Written.{types_within, types_within_all}
 use Rattle.pg_rules.specs.Conditions.{names_in, names_in_types, names_of_item, meets, self_contained}
 use Rattle.pg_heads.proofs.Reaching.{or_cases}

@@ -4,7 +4,7 @@ use Rattle.std.specs.List.{filter_map, list_any, list_all}
 use Rattle.std.specs.Str.{bytes_eq}
 use Rattle.pg_num.specs.declared.width.Width.TheVariants.{W32}
 use Rattle.pg_ir.specs.declared.value.Scalar.TheVariants.{Int}
-use Rattle.pg_ast.specs.Syntax.{Ty, Param, ParamOf, NamedType, Definition}
+use Rattle.pg_ast.specs.Syntax.{Param, ParamOf, NamedType, Definition}
 use Rattle.pg_ast.specs.Numbers.{numbered, each_at, behind_param, param_at}
 use Rattle.pg_types.specs.Resolved.{resolved}
 use Rattle.pg_types.specs.Kinds.{fails}

@@ -1,11 +1,11 @@
 -- A search from a place, front by front.
-use Rattle.std.proofs.Common.{◌≡◌, ℕ, zero, suc, ◌+◌, ◌-◌, ◌<◌, ◌≤◌, Bool, true, false, List, [], ◌∷◌, length, get_or, replicate, refl, sym, ap, subst, ◌∙◌, arith, inl, inr}
+use Rattle.std.proofs.Common.{◌≡◌, ℕ, zero, suc, ◌+◌, ◌-◌, ◌<◌, ◌≤◌, Bool, true, false, List, [], ◌∷◌, length, replicate, refl, sym, ap, subst, ◌∙◌, arith, inl, inr}
 use Rattle.std.specs.Prelude.{◌==◌, ◌||◌, ◌⊎◌}
 use Rattle.std.specs.List.{flat_map, list_any}
 use Rattle.std.proofs.lemmas.Bool.Decides.{nat_tests}
 use Rattle.std.proofs.lemmas.List.{length-replicate}
 use Rattle.pg_heads.specs.Circles.{arrives, has, is_seen, IsFront, Noted}
-use Rattle.pg_heads.proofs.Reaching.{Found, Leads, from_flat, next_front, next_left, next_reached, Reached, found_now, never_found}
+use Rattle.pg_heads.proofs.Reaching.{Found, from_flat, next_front, next_left, next_reached, Reached, found_now, never_found}
 
 -- so many rounds of the search are done, of as many as there are places
 pub record Searching (edges : ℕ → List ℕ) (target start n r : ℕ) (seen : List Bool) (front : List ℕ) : Type 0 where

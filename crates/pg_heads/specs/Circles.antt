@@ -69,6 +69,11 @@ places_of_item types None = []
 unfoldable pub next_places : List NamedType → ℕ → List ℕ
 next_places types p = places_of_item types (slice_get types p)
 
+-- a place begins before the one that is known
+abbrev pub is_earlier : Option Span → Span → Bool
+is_earlier None place = true
+is_earlier (Some known) place = nat_lt place.start known.start
+
 -- a name in a type, where it is this one or leads to it
 abbrev pub circle_at : List NamedType → List ℕ → Ty → List Span
 circle_at types text (Named n) = at_if (meets (length types) types text n.text) n.span

@@ -1,5 +1,7 @@
-ghost use Rattle.std.specs.Prelude.{◌≡◌, ◌<◌, ◌++◌, ◌∷◌, [], ℕ, List, IfOk, OnOk, Some, true, false, length, map, get_or, replicate, is_some, slice_get};
-ghost use Rattle.std.specs.List.{flat_map, filter_map, cons_option};
+//! Which type items contain themselves.
+
+ghost use Rattle.std.specs.Prelude.{◌≡◌, ◌<◌, ◌++◌, ◌∷◌, [], ℕ, List, IfOk, OnOk, Some, true, false, length, map, replicate, is_some, slice_get};
+ghost use Rattle.std.specs.List.{flat_map, filter_map};
 ghost use Rattle.pg_ast.specs.Syntax.{NamedType};
 ghost use Rattle.pg_ast.specs.Views.{ty_of, type_item_of};
 ghost use Rattle.pg_types.specs.NameIndex.{known_place};
@@ -7,10 +9,12 @@ ghost use Rattle.pg_types.specs.NumberedTypes.{named_types};
 ghost use Rattle.pg_types.specs.Resolved.{resolved};
 ghost use Rattle.pg_rules.specs.Nodes.{tys_behind};
 ghost use Rattle.pg_rules.specs.Written.{types_within};
-ghost use Rattle.pg_rules.specs.Earliest.{earliest};
-ghost use Rattle.pg_rules.specs.Conditions.{names_in, names_in_types, meets, self_contained};
-ghost use Rattle.pg_heads.specs.Circles.{has, Noted, noted_seen, noted_next, place_of, place_of_name, places_in, places_of_item, next_places, arrives, circle_at};
+ghost use Rattle.pg_rules.specs.Earliest.{earlier, earliest};
+ghost use Rattle.pg_rules.specs.Conditions.{names_in_types, meets, self_contained};
+ghost use Rattle.pg_heads.specs.Ranks.{Fall};
+ghost use Rattle.pg_heads.specs.Circles.{has, Noted, noted_seen, noted_next, place_of, place_of_name, places_in, next_places, arrives, is_earlier, circle_at};
 
+use crate::ranks::rank_of;
 use indexmap::IndexMap;
 use pg_ast::{Name, TypeItem, TypeNode};
 use pg_lex::Span;
@@ -96,7 +100,7 @@ fn add_places(
 
 /// Adds where the items stand that the item at a place names.
 #[tactic(auto, unfolding(crate::specs::Circles::next_places))]
-fn add_next(
+pub(crate) fn add_next(
     alloc: Global,
     places: &IndexMap<&[u8], usize>,
     items: &[TypeItem],
@@ -178,81 +182,119 @@ fn reaches(
     Ok(false)
 }
 
-/// Whether a name is that of the item at a place, or leads to it.
+/// Whether a name is that of the item at a place, or leads to it. A place of a lower rank doesn't.
 fn leads_back(
     alloc: Global,
     places: &IndexMap<&[u8], usize>,
     items: &[TypeItem],
+    ranks: &[usize],
     target: usize,
     name: &Name,
 ) -> Result<bool, AllocError>
-    requires { (text : List ℕ) → known_place places.now text ≡ place_of (map type_item_of items.now) text }
+    requires known { (text : List ℕ) → known_place places.now text ≡ place_of (map type_item_of items.now) text }
+    requires fall { Fall (next_places (map type_item_of items.now)) ranks.now }
     ensures { (text : List ℕ) → place_of (map type_item_of items.now) text ≡ Some target →
         IfOk result (λ b. b ≡ meets (length (map type_item_of items.now)) (map type_item_of items.now) text name.now.text) }
 {
     match place_of_name(places, name.text.as_slice()) {
-        Some(start) => reaches(alloc, places, items, target, start),
+        Some(start) => {
+            if rank_of(ranks, start) < rank_of(ranks, target) {
+                return Ok(false);
+            }
+            reaches(alloc, places, items, target, start)
+        }
         None => Ok(false),
     }
 }
 
-/// A name in a type that is that of the item at a place, or leads to it.
+/// Whether a place begins before the one that is known.
+fn is_earlier(known: Option<Span>, place: Span) -> bool
+    ensures { result ≡ is_earlier known place }
+{
+    match known {
+        Some(known) => place.start < known.start,
+        None => true,
+    }
+}
+
+/// A name in a type that is that of the item at a place, or leads to it. Where a place is known that none of the type
+/// is before, the way back isn't looked for.
 #[tactic(auto, unfolding(pg_rules::specs::Earliest::earliest))]
 fn circle_at(
     alloc: Global,
     places: &IndexMap<&[u8], usize>,
     items: &[TypeItem],
+    ranks: &[usize],
     target: usize,
+    known: Option<Span>,
     ty: &TypeNode,
 ) -> Result<Option<Span>, AllocError>
-    requires { (text : List ℕ) → known_place places.now text ≡ place_of (map type_item_of items.now) text }
+    requires known { (text : List ℕ) → known_place places.now text ≡ place_of (map type_item_of items.now) text }
+    requires fall { Fall (next_places (map type_item_of items.now)) ranks.now }
     ensures { (text : List ℕ) → place_of (map type_item_of items.now) text ≡ Some target →
-        IfOk result (λ o. o ≡ earliest (circle_at (map type_item_of items.now) text (ty_of ty.now))) }
+        IfOk result (λ o. earlier known o ≡ earlier known (earliest (circle_at (map type_item_of items.now) text (ty_of ty.now)))) }
 {
     match ty {
         TypeNode::Named(name) => {
-            let back = leads_back(alloc, places, items, target, name)?;
+            if !is_earlier(known, name.span) {
+                return Ok(None);
+            }
+            let back = leads_back(alloc, places, items, ranks, target, name)?;
             Ok(place_if(back, name.span))
         }
         _ => Ok(None),
     }
 }
 
-/// The earliest of types that is the name of the item at a place, or leads to it.
+/// The earliest of types that is the name of the item at a place, or leads to it, and of a place that is known.
 fn circles_among(
     alloc: Global,
     places: &IndexMap<&[u8], usize>,
     items: &[TypeItem],
+    ranks: &[usize],
     target: usize,
+    known: Option<Span>,
     all: &[&TypeNode],
 ) -> Result<Option<Span>, AllocError>
-    requires { (text : List ℕ) → known_place places.now text ≡ place_of (map type_item_of items.now) text }
+    requires known { (text : List ℕ) → known_place places.now text ≡ place_of (map type_item_of items.now) text }
+    requires fall { Fall (next_places (map type_item_of items.now)) ranks.now }
     ensures { (text : List ℕ) → place_of (map type_item_of items.now) text ≡ Some target →
-        IfOk result (λ o. o ≡ earliest (flat_map (circle_at (map type_item_of items.now) text) (tys_behind all.now))) }
+        IfOk result (λ o. o ≡ earlier known (earliest (flat_map (circle_at (map type_item_of items.now) text) (tys_behind all.now)))) }
 {
-    let mut found = None;
+    let mut found = known;
     for ty in all {
-        let one = circle_at(alloc, places, items, target, ty)?;
+        let one = circle_at(alloc, places, items, ranks, target, found, ty)?;
         found = earlier(found, one);
     }
     Ok(found)
 }
 
-/// The earliest name in a type that is that of the item at a place, or leads to it.
+/// The earliest name in a type that is that of the item at a place, or leads to it, or an earlier place that is known.
 fn circles_in(
     alloc: Global,
     places: &IndexMap<&[u8], usize>,
     items: &[TypeItem],
+    ranks: &[usize],
     target: usize,
+    known: Option<Span>,
     ty: &TypeNode,
 ) -> Result<Option<Span>, AllocError>
-    requires { (text : List ℕ) → known_place places.now text ≡ place_of (map type_item_of items.now) text }
+    requires known { (text : List ℕ) → known_place places.now text ≡ place_of (map type_item_of items.now) text }
+    requires fall { Fall (next_places (map type_item_of items.now)) ranks.now }
     ensures { (text : List ℕ) → place_of (map type_item_of items.now) text ≡ Some target →
-        IfOk result (λ o. o ≡ earliest (flat_map (circle_at (map type_item_of items.now) text) (types_within (ty_of ty.now)))) }
+        IfOk result (λ o. o ≡ earlier known (earliest (flat_map (circle_at (map type_item_of items.now) text) (types_within (ty_of ty.now))))) }
 {
     let mut within = Vec::new(alloc);
     add_types_within(&mut within, ty)?;
-    circles_among(alloc, places, items, target, within.as_slice())
+    circles_among(
+        alloc,
+        places,
+        items,
+        ranks,
+        target,
+        known,
+        within.as_slice(),
+    )
 }
 
 /// Whether what is written is a type.
@@ -264,31 +306,34 @@ fn is_type(types: &mut TypeNumbers<'_>, ty: &TypeNode) -> Result<bool, AllocErro
     Ok(kind.is_some())
 }
 
-/// The earliest name in a type item through which it contains itself. The first item of a name contains itself in no
-/// type that is one.
+/// The earliest name in a type item through which it contains itself, or an earlier place that is known. The first
+/// item of a name contains itself in no type that is one.
 pub(crate) fn self_contained(
     alloc: Global,
     types: &mut TypeNumbers<'_>,
     places: &IndexMap<&[u8], usize>,
     items: &[TypeItem],
+    ranks: &[usize],
     place: usize,
     item: &TypeItem,
+    known: Option<Span>,
 ) -> Result<Option<Span>, AllocError>
     requires known { (text : List ℕ) → known_place places.now text ≡ place_of (map type_item_of items.now) text }
+    requires fall { Fall (next_places (map type_item_of items.now)) ranks.now }
     requires at { slice_get (map type_item_of items.now) place ≡ Some (type_item_of item.now) }
     requires items { types.old.items ≡ items.now }
-    ensures place { IfOk result (λ o. o ≡ earliest (self_contained (map type_item_of items.now) (type_item_of item.now))) }
+    ensures place { IfOk result (λ o. o ≡ earlier known (earliest (self_contained (map type_item_of items.now) (type_item_of item.now)))) }
     ensures items { types.new.items ≡ types.old.items }
 {
     match place_of_name(places, item.name.text.as_slice()) {
         Some(target) => {
             let whole = is_type(types, &item.ty)?;
             if whole && target == place {
-                Ok(None)
+                Ok(known)
             } else {
-                circles_in(alloc, places, items, target, &item.ty)
+                circles_in(alloc, places, items, ranks, target, known, &item.ty)
             }
         }
-        None => Ok(None),
+        None => Ok(known),
     }
 }

@@ -1,4 +1,6 @@
-ghost use Rattle.std.specs.Prelude.{◌≡◌, ◌++◌, [], ◌∷◌, IfOk, OnOk, not, ◌&&◌, ◌||◌, List, ℕ, Option, None, Some, map, is_some, nat_le};
+//! What the heads of functions that are defined are refused for.
+
+ghost use Rattle.std.specs.Prelude.{◌≡◌, ◌++◌, [], IfOk, OnOk, not, ◌||◌, List, ℕ, Option, None, Some, map, is_some, nat_le};
 ghost use Rattle.std.specs.List.{flat_map, filter_map, list_any};
 ghost use Rattle.std.specs.Option.{option_map};
 ghost use Rattle.pg_num.specs.declared.width.Width.TheVariants.{W32};
@@ -16,7 +18,7 @@ ghost use Rattle.pg_rules.specs.Nodes.{tys_behind};
 ghost use Rattle.pg_rules.specs.CallConditions.{definition_header, param_type};
 ghost use Rattle.pg_rules.specs.KnownNames.{known_named};
 ghost use Rattle.pg_rules.specs.Names.{symbol_names, doubled};
-ghost use Rattle.pg_rules.specs.Starts.{first_start, names_behind};
+ghost use Rattle.pg_rules.specs.Starts.{first_start};
 ghost use Rattle.pg_rules.specs.Signatures.{is_wrong_param};
 ghost use Rattle.pg_rules.specs.Numbering.{param_name};
 ghost use Rattle.pg_rules.specs.Earliest.{earliest, AreEarliest};

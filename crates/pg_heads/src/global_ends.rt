@@ -1,3 +1,5 @@
+//! Where globals end in memory, as far as a program may have them.
+
 ghost use Rattle.std.specs.Prelude.{◌≡◌, ◌+◌, ◌<◌, ◌≤◌, nat_lt, length, IfOk};
 ghost use Rattle.pg_num.specs.declared.layout.TheConstants.{GLOBALS_END};
 ghost use Rattle.pg_ir.specs.WellFormed.{granules_for};

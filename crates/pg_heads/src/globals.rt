@@ -1,3 +1,5 @@
+//! What globals are refused for.
+
 ghost use Rattle.std.specs.Prelude.{◌≡◌, ◌+◌, ◌||◌, IfOk, List, ℕ, map, nat_le, nat_lt, take};
 ghost use Rattle.std.specs.List.{flat_map, enumerate_from};
 ghost use Rattle.pg_num.specs.declared.limits.TheConstants.{GLOBAL_LIMIT};

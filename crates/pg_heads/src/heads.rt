@@ -1,10 +1,12 @@
-ghost use Rattle.std.specs.Prelude.{◌≡◌, ◌++◌, [], ◌∷◌, IfOk, OnOk, not, ◌&&◌, ◌||◌, List, ℕ, Option, None, Some, map};
-ghost use Rattle.std.specs.List.{flat_map, filter_map, cons_option};
+//! What the heads of declared functions are refused for.
+
+ghost use Rattle.std.specs.Prelude.{◌≡◌, ◌++◌, [], IfOk, OnOk, not, ◌||◌, List, ℕ, Option, None, Some, map};
+ghost use Rattle.std.specs.List.{filter_map, cons_option};
 ghost use Rattle.std.specs.Str.{bytes_eq};
 ghost use Rattle.pg_num.specs.declared.width.Width.TheVariants.{W32};
 ghost use Rattle.pg_ir.specs.declared.value.Scalar.TheVariants.{Int};
 ghost use Rattle.pg_ast.specs.Syntax.{Tree};
-ghost use Rattle.pg_ast.specs.Views.{ty_of, dparam_of, declare_of};
+ghost use Rattle.pg_ast.specs.Views.{dparam_of, declare_of};
 ghost use Rattle.pg_types.specs.NameIndex.{known_place};
 ghost use Rattle.pg_types.specs.NumberedTypes.{named_types};
 ghost use Rattle.pg_rules.specs.Nodes.{tys_behind};

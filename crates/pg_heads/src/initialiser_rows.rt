@@ -1,8 +1,10 @@
-ghost use Rattle.std.specs.Prelude.{◌≡◌, ◌++◌, OnOk, IfOk, map};
+//! What the values of an initialiser are refused for, row by row.
+
+ghost use Rattle.std.specs.Prelude.{◌≡◌, ◌++◌, OnOk, IfOk};
 ghost use Rattle.std.specs.List.{flat_map};
 ghost use Rattle.pg_types.specs.NumberedTypes.{named_types};
 ghost use Rattle.pg_rules.specs.Nodes.{tys_behind};
-ghost use Rattle.pg_rules.specs.Written.{Use, own_types};
+ghost use Rattle.pg_rules.specs.Written.{Use};
 ghost use Rattle.pg_rules.specs.ValueConditions.{Scope, unknown_value, function_value, wrong_use};
 ghost use Rattle.pg_rules.specs.Earliest.{earliest};
 ghost use Rattle.pg_values.specs.Scopes.{IsScope};

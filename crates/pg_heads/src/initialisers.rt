@@ -1,3 +1,5 @@
+//! The values and the types of an initialiser, in the order of the text.
+
 ghost use Rattle.std.specs.Prelude.{◌≡◌, ◌++◌, ◌∷◌, [], OnOk, map};
 ghost use Rattle.std.specs.List.{flat_map};
 ghost use Rattle.pg_ast.specs.Views.{ty_of, val_of, const_of, typed_const_of};

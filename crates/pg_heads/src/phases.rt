@@ -1,3 +1,5 @@
+//! What the heads of a module's functions are refused for.
+
 ghost use Rattle.std.specs.Prelude.{◌≡◌, IfOk, List, ℕ, map};
 ghost use Rattle.std.specs.List.{enumerate_from};
 ghost use Rattle.pg_ast.specs.Syntax.{Tree};

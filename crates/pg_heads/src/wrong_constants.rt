@@ -1,3 +1,5 @@
+//! Constants that aren't of the types that are written before them.
+
 ghost use Rattle.std.specs.Prelude.{◌≡◌, ◌<◌, IfOk, Some, length, map, slice_get};
 ghost use Rattle.std.specs.List.{flat_map, enumerate_from};
 ghost use Rattle.pg_ast.specs.Views.{ty_of, const_of, typed_const_of};

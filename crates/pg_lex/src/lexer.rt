@@ -1,3 +1,5 @@
+//! The tokens of a text, or its first lexical fault.
+
 ghost use Rattle.std.specs.Prelude.{◌≡◌, ◌≤◌, ◌<◌, ◌+◌, ◌-◌, ◌≢◌, length, drop, IfOk, IfErr, IfSome, Ok, Err, not, take_while, position};
 ghost use Rattle.std.specs.List.{list_all, list_any};
 ghost use Rattle.pg_lex.specs.Bytes.{is_blank, is_line_feed, is_quote, is_colon, is_plus, is_letter, is_run_byte, begins};

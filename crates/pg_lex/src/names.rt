@@ -1,3 +1,5 @@
+//! The bytes that a token stands for, with its escapes read.
+
 ghost use Rattle.std.specs.Prelude.{◌≡◌, ◌≤◌, ◌+◌, ◌-◌, ◌<◌, length, drop, take, IfOk, IsTrue};
 ghost use Rattle.pg_lex.specs.Bytes.{is_quote, begins};
 ghost use Rattle.pg_lex.specs.Names.{is_hexadecimal, hexadecimal_value, escape_of, escape_in, unescaped, name_of, token_name, inside_quotes};

@@ -1,3 +1,5 @@
+//! Lines and columns of a text.
+
 ghost use Rattle.std.specs.Prelude.{◌≡◌, ◌≤◌, length, take, take_while, reverse, not};
 ghost use Rattle.pg_lex.specs.Bytes.{is_line_feed};
 ghost use Rattle.pg_lex.specs.Places.{line_after, column_after};

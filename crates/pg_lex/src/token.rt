@@ -1,3 +1,5 @@
+//! Spans, tokens by their form, lexical faults.
+
 use thiserror::Error;
 
 /// A part of the text: the bytes from `start` to before `end`.

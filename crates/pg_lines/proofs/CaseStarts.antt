@@ -1,7 +1,6 @@
 -- Where the cases of a switch begin, by their numbers.
-use Rattle.std.proofs.Common.{◌≡◌, ℕ, zero, suc, ◌+◌, ◌<◌, ◌≤◌, nat_lt, min, Bool, true, false, cond, ◌&&◌, ◌||◌, List, [], ◌∷◌, ◌++◌, length, map, take, drop, get_or, Option, Some, None, refl, sym, ap, ◌∙◌, arith}
+use Rattle.std.proofs.Common.{◌≡◌, ℕ, zero, suc, ◌+◌, ◌<◌, ◌≤◌, nat_lt, Bool, true, false, cond, ◌&&◌, ◌||◌, List, [], ◌∷◌, ◌++◌, length, map, take, drop, get_or, Option, Some, None, refl, sym, ap, ◌∙◌, arith}
 use Rattle.std.specs.List.{flat_map, list_any}
-use Rattle.std.proofs.lemmas.Bool.Decides.{nat_tests}
 use Rattle.pg_lex.specs.declared.token.Span.{Span}
 use Rattle.pg_ast.specs.Syntax.{Case}
 use Rattle.pg_types.specs.Resolved.{ResolvedType}
@@ -11,6 +10,7 @@ use Rattle.pg_rules.specs.LineConditions.{same_number, stands_before}
 use Rattle.pg_rules.specs.Starts.{noted_start, is_before}
 use Rattle.pg_rules.specs.Places.{val_span}
 use Rattle.pg_rules.specs.ValueConditions.{number_at}
+use Rattle.pg_rules.proofs.Doubles.{min_before, or_again, or_false}
 use Rattle.pg_rules.proofs.Rows.{row_step}
 use Rattle.pg_lines.specs.declared.cases.CasePlace.{CasePlace}
 use Rattle.pg_lines.specs.Cases.{case_place, repeated, repeated_case, starts_behind, start_by}
@@ -37,25 +37,6 @@ starts_done known [] zero n l = refl
 starts_done known [] (suc i) n l = refl
 starts_done known (d ∷ cs) zero n l = absurd (omega (arith, l))
 starts_done known (d ∷ cs) (suc i) n l = starts_done known cs i n (omega (arith, l))
-
-min_before : (p s k : ℕ) → nat_lt (min p s) k ≡ (nat_lt p k || nat_lt s k)
-min_before p s k = by (nat_lt p k) (nat_lt s k) (nat_lt (min p s) k) refl refl refl
-  where
-    by : (a b c : Bool) → nat_lt p k ≡ a → nat_lt s k ≡ b → nat_lt (min p s) k ≡ c → c ≡ (a || b)
-    by true b true x y z = refl
-    by true b false x y z = absurd (grind (arith, nat_tests))
-    by false true true x y z = refl
-    by false true false x y z = absurd (grind (arith, nat_tests))
-    by false false true x y z = absurd (grind (arith, nat_tests))
-    by false false false x y z = refl
-
-or_false : (a : Bool) → a ≡ (a || false)
-or_false true = refl
-or_false false = refl
-
-or_again : (a b c : Bool) → ((a || b) || c) ≡ (a || (b || c))
-or_again true b c = refl
-or_again false b c = refl
 
 is_before_any : (known : Option ℕ) (all : List CasePlace) (n place : ℕ)
     → is_before (starts_behind known all n) place ≡ (is_before known place || list_any (λ (o : CasePlace). same_number o.number (Some n) && nat_lt o.span.start place) all)

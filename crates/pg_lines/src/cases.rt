@@ -1,3 +1,5 @@
+//! The cases of a `switch` that stand twice.
+
 ghost use Rattle.std.specs.Prelude.{◌≡◌, ◌==◌, ℕ, List, true, Some, None, IfOk, OnOk, map};
 ghost use Rattle.std.specs.List.{flat_map};
 ghost use Rattle.pg_ast.specs.Views.{ty_of, case_of, op_of};

@@ -1,3 +1,5 @@
+//! Unknown names, functions as values and misfits in the values of a line.
+
 ghost use Rattle.std.specs.Prelude.{◌≡◌, IfOk};
 ghost use Rattle.std.specs.List.{flat_map};
 ghost use Rattle.pg_ast.specs.Syntax.{Int};

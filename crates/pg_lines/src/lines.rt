@@ -1,3 +1,5 @@
+//! What a line is refused for.
+
 ghost use Rattle.std.specs.Prelude.{◌≡◌, IfOk};
 ghost use Rattle.std.specs.List.{flat_map};
 ghost use Rattle.pg_ast.specs.Views.{line_of, op_of};

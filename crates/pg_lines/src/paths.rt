@@ -1,3 +1,5 @@
+//! Paths of indices, returns and names of results for which a line is refused.
+
 ghost use Rattle.std.specs.Prelude.{◌≡◌, IfOk, Some, not};
 ghost use Rattle.pg_ast.specs.Numbers.{is_void, gives};
 ghost use Rattle.pg_ast.specs.Views.{ty_of, op_of};

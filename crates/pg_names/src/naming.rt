@@ -1,3 +1,5 @@
+//! The names of a function's labels and registers, and the types of its registers.
+
 ghost use Rattle.std.specs.Prelude.{◌≡◌, ◌++◌, [], ◌∷◌, IfOk, OnOk, List, length, map};
 ghost use Rattle.std.specs.List.{filter_map, flat_map, cons_option};
 ghost use Rattle.pg_ast.specs.Syntax.{NamedType, Param};
@@ -8,11 +10,11 @@ ghost use Rattle.pg_types.specs.NumberedTypes.{named_types};
 ghost use Rattle.pg_rules.specs.Names.{labels_of, line_register, block_registers, registers_of};
 ghost use Rattle.pg_names.specs.Registers.{register_type, registers_by, block_label};
 
-use crate::numbered_names::{numbered_name, pass_name};
+use crate::numbered_names::pass_name;
 use crate::register_type::RegisterType;
 use crate::results::result_type;
 use pg_ast::{BlockNode, DefineItem, LineNode, Name, NextNumber, ParamNode};
-use pg_rules::param_names;
+use pg_rules::{numbered_name, param_names};
 use pg_types::TypeNumbers;
 use std::alloc::{AllocError, Global};
 

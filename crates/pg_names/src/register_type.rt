@@ -1,3 +1,5 @@
+//! The types of registers, written or given.
+
 use pg_ast::TypeNode;
 
 /// The type of a register: the one that is written for it, or what its instruction always gives.

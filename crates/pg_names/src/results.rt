@@ -1,3 +1,5 @@
+//! The types of the results of operations.
+
 ghost use Rattle.std.specs.Prelude.{◌≡◌, IfOk, List, Option};
 ghost use Rattle.std.specs.Option.{option_map};
 ghost use Rattle.pg_ast.specs.Syntax.{NamedType};

@@ -28,9 +28,9 @@ use Rattle.pg_rules.specs.Numbered.{scalar_in, value_of, symbol_value, typed_val
 use Rattle.pg_types.specs.Kinds.{is_as, fails}
 use Rattle.pg_numbering.proofs.Flat.{some_is, behind_get, there_at, map_count, front_at, in_front}
 use Rattle.pg_numbering.proofs.Unrefused.{front_none, behind_none, else_none, then_none}
-use Rattle.pg_numbering.proofs.SameTypes.{same_type_is}
+use Rattle.pg_types.proofs.SameTypes.{same_type_true}
 use Rattle.pg_numbering.proofs.Resolves.{Has}
-use Rattle.pg_numbering.proofs.Voids.{void_resolved}
+use Rattle.pg_types.proofs.Voids.{void_resolved}
 use Rattle.pg_numbering.proofs.Naming.{params_kept, param_plain}
 use Rattle.pg_numbering.proofs.Placed.{function_there, functions_count}
 use Rattle.pg_numbering.proofs.Scalars.{scalar_type_is, result_is, passes_from, pointer_is}
@@ -165,7 +165,7 @@ module _ (m : Tree) (accepted : IsAccepted m) (f : ℕ) (d : Definition) (there 
         let at : slice_get (call_demands (scope_of m d) (Call s t w n all)) k ≡ Some (asks_typed (is_as (resolved m.types u)) a) =
         ap (λ (b : Bool). slice_get (cond b (argument_demands m.types (callee_params (symbol m n.text)) all) []) k) callable ∙ demand_at m.types (callee_params (symbol m n.text)) all k u a e h in
         let test = p.demands k (asks_typed (is_as (resolved m.types u)) a) at r.0 r.1 in
-        r.1 ∙ ap (λ (q : ResolvedType). Some q) (sym (same_type_is g.0 r.0 (subst (λ (o : Option ResolvedType). is_as o r.0 ≡ true) g.1 test))) ∙ sym g.1
+        r.1 ∙ ap (λ (q : ResolvedType). Some q) (sym (same_type_true g.0 r.0 (subst (λ (o : Option ResolvedType). is_as o r.0 ≡ true) g.1 test))) ∙ sym g.1
 
     -- where no thread is created, all arguments are values
     argument_fits : is_create (scope_of m d) n ≡ false → (k : ℕ) (u : Ty) (a : Typed) (x : Scalar) → slice_get (callee_params (symbol m n.text)) k ≡ Some u → slice_get all k ≡ Some a → scalar_in (resolved m.types u) ≡ Some x → HasType (program_of m) (scalars_of m d) x (typed_value (scope_of m d) a)

@@ -19,7 +19,7 @@ use Rattle.pg_types.specs.Resolved.{type_by, type_within, resolved}
 use Rattle.pg_rules.specs.Written.{types_within}
 use Rattle.pg_rules.specs.TypeConditions.{unknown_type, wrong_type, unknown_types, wrong_types}
 use Rattle.pg_rules.specs.Conditions.{names_in, names_of_item, meets, self_contained, item_refused, IsAccepted}
-use Rattle.pg_numbering.proofs.Fuel.{Below, within_plus}
+use Rattle.pg_types.proofs.Fuel.{Below, within_plus}
 use Rattle.pg_numbering.proofs.Flat.{some_is}
 use Rattle.pg_numbering.proofs.Unrefused.{front_none, behind_none, items_pass}
 use Rattle.pg_numbering.proofs.Resolves.{Has, Right, type_has, all_named, IsKnown, known_names, item_of}

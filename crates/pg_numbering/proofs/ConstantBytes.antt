@@ -15,7 +15,7 @@ use Rattle.pg_rules.specs.ValueConditions.{part_count, fits_bytes, fits_elements
 use Rattle.pg_rules.specs.Constants.{constant_word, pointer_word, little_endian, filled, value_bytes, const_bytes, element_bytes, field_bytes, unless_zero, trimmed}
 use Rattle.pg_types.specs.Kinds.{is_as, fails}
 use Rattle.pg_numbering.proofs.Unrefused.{front_none, behind_none, then_none}
-use Rattle.pg_numbering.proofs.SameTypes.{same_type_is}
+use Rattle.pg_types.proofs.SameTypes.{same_type_true}
 use Rattle.pg_numbering.proofs.Resolves.{Has}
 use Rattle.pg_numbering.proofs.Tests.{not_false}
 use Rattle.pg_numbering.proofs.Each.{all_front, all_behind}
@@ -102,7 +102,7 @@ pub part_is_as : (types : List NamedType) (e : ResolvedType) (t : Ty) → wrong_
 part_is_as types e t w h =
     let f : fails (is_as (Some e)) (resolved types t) ≡ false = then_none (fails (is_as (Some e)) (resolved types t)) (type_span t) w in
     let g : not (same_type e h.0) ≡ false = sym (ap (λ (o : Option ResolvedType). fails (is_as (Some e)) o) h.1) ∙ f in
-    h.1 ∙ ap (λ (q : ResolvedType). Some q) (sym (same_type_is e h.0 (not_false (same_type e h.0) g)))
+    h.1 ∙ ap (λ (q : ResolvedType). Some q) (sym (same_type_true e h.0 (not_false (same_type e h.0) g)))
 
 abbrev pub AllHave : List NamedType → List Ty → Type 0
 AllHave types ts = AllByRecursion (λ (t : Ty). Has (resolved types t)) ts

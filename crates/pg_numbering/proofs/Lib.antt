@@ -4,17 +4,14 @@ pub mod Each
 pub mod Unrefused
 pub mod Naming
 pub mod Placed
-pub mod Fuel
 pub mod Resolves
 pub mod Chains
 pub mod Sizes
-pub mod SameTypes
 pub mod ConstantBytes
 pub mod Globals
 pub mod Firsts
 pub mod Symbols
 pub mod Lines
-pub mod Voids
 pub mod Scalars
 pub mod Headers
 pub mod Passes

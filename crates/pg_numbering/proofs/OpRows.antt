@@ -34,8 +34,8 @@ use Rattle.pg_types.specs.Kinds.{is_as, fails}
 use Rattle.pg_numbering.specs.Parsed.{IsInOrder}
 use Rattle.pg_numbering.proofs.Flat.{some_is, in_front}
 use Rattle.pg_numbering.proofs.Unrefused.{then_none}
-use Rattle.pg_numbering.proofs.SameTypes.{same_type_is}
-use Rattle.pg_numbering.proofs.Voids.{void_resolved}
+use Rattle.pg_types.proofs.SameTypes.{same_type_true}
+use Rattle.pg_types.proofs.Voids.{void_resolved}
 use Rattle.pg_numbering.proofs.Scalars.{scalar_from, integer_is, pointer_is, void_type_is, passes_from}
 use Rattle.pg_numbering.proofs.Placed.{block_there}
 use Rattle.pg_numbering.proofs.Passes.{Passes}
@@ -193,7 +193,7 @@ cases_row m d first t w e (c ∷ cs) =
 
 -- what is returned is a scalar of the function's type
 returned_is : (o : Option ResolvedType) (r : ResolvedType) (t : ResolvedType) → o ≡ Some r → returns_as o t ≡ true → (r ≡ t) × (is_scalar r ≡ true)
-returned_is o r t e h = let p = and_parts (is_scalar r) (same_type r t) (subst (λ (q : Option ResolvedType). returns_as q t ≡ true) e h) in (same_type_is r t p.1, p.0)
+returned_is o r t e h = let p = and_parts (is_scalar r) (same_type r t) (subst (λ (q : Option ResolvedType). returns_as q t ≡ true) e h) in (same_type_true r t p.1, p.0)
 
 module _ (m : Tree) (accepted : IsAccepted m) (order : IsInOrder m) (f : ℕ) (d : Definition) (there : slice_get (named_functions m) f ≡ Some d) where
   abbrev TypeOf : Ty → Value → Type 0
@@ -269,7 +269,7 @@ module _ (m : Tree) (accepted : IsAccepted m) (order : IsInOrder m) (f : ℕ) (d
       let sa = p.demands 1 (asks_typed is_scalar a) refl ra.0 ra.1 in
       let scalar_a = scalar_from (resolved m.types a.ty) ra.0 ra.1 sa in
       let as_a = p.demands 2 (asks_typed (is_as (resolved m.types a.ty)) b) refl rb.0 rb.1 in
-      let same : resolved m.types b.ty ≡ resolved m.types a.ty = rb.1 ∙ ap (λ (q : ResolvedType). Some q) (sym (same_type_is ra.0 rb.0 (subst (λ (o : Option ResolvedType). is_as o rb.0 ≡ true) ra.1 as_a))) ∙ sym ra.1 in
+      let same : resolved m.types b.ty ≡ resolved m.types a.ty = rb.1 ∙ ap (λ (q : ResolvedType). Some q) (sym (same_type_true ra.0 rb.0 (subst (λ (o : Option ResolvedType). is_as o rb.0 ≡ true) ra.1 as_a))) ∙ sym ra.1 in
       let r : result ≡ Some scalar_a.scalar = given (solid m.types a.ty ra.0 ra.1 sa) ∙ scalar_a.is in (
         operand_fits m accepted f d there (Select s c a b) p 0 c.ty c.value refl (scalar.Int W1) (ap scalar_in bit),
         subst (λ (o : Option Scalar). IsSomeAnd o (λ x. BothHaveType (program_of m) (scalars_of m d) x (value_of (scope_of m d) (resolved m.types a.ty) a.value) (value_of (scope_of m d) (resolved m.types b.ty) b.value))) (sym r) (

@@ -20,7 +20,7 @@ use Rattle.pg_rules.specs.Conditions.{scope_of}
 use Rattle.pg_rules.specs.Numbered.{binary_op, cast_op, known_call, call_of, op_at}
 use Rattle.pg_numbering.proofs.Flat.{some_is}
 use Rattle.pg_numbering.proofs.Unrefused.{front_none, behind_none}
-use Rattle.pg_numbering.proofs.Voids.{void_resolved}
+use Rattle.pg_types.proofs.Voids.{void_resolved}
 use Rattle.pg_numbering.proofs.Callees.{CallsDefined, CallsKnown, callee_is}
 use Rattle.pg_numbering.proofs.Passes.{Passes}
 use Rattle.pg_numbering.proofs.Tests.{not_from}

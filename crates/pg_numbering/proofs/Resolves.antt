@@ -14,7 +14,7 @@ use Rattle.pg_rules.specs.Written.{type_list, types_within, types_within_all}
 use Rattle.pg_rules.specs.TypeConditions.{is_void_part, unknown_type, void_part, wrong_count, wrong_type}
 use Rattle.pg_rules.specs.Places.{type_span}
 use Rattle.pg_rules.specs.Conditions.{names_in_types}
-use Rattle.pg_numbering.proofs.Fuel.{Below, type_keeps}
+use Rattle.pg_types.proofs.Fuel.{Below, type_keeps}
 use Rattle.pg_numbering.proofs.Flat.{some_is}
 use Rattle.pg_numbering.proofs.Unrefused.{front_none, behind_none, else_none, then_none}
 use Rattle.pg_numbering.proofs.Each.{all_front, all_behind}

@@ -18,7 +18,7 @@ use Rattle.pg_rules.specs.Conditions.{is_result, IsAccepted}
 use Rattle.pg_rules.specs.Numbered.{scalar_in}
 use Rattle.pg_numbering.proofs.Unrefused.{front_none, behind_none}
 use Rattle.pg_numbering.proofs.Resolves.{Has}
-use Rattle.pg_numbering.proofs.Voids.{resolved_void}
+use Rattle.pg_types.proofs.Voids.{resolved_void}
 use Rattle.pg_numbering.proofs.Scalars.{IsScalarOf, scalar_from, integer_scalar, pointer_scalar, returnable_or, result_is}
 use Rattle.pg_numbering.proofs.Symbols.{definition_there, declaration_there}
 use Rattle.pg_numbering.proofs.Headers.{named_there, result_returnable}

@@ -12,7 +12,7 @@ use Rattle.pg_rules.specs.CallConditions.{agree, is_resolved}
 use Rattle.pg_rules.specs.Conditions.{is_scalar_type, is_result, is_returnable}
 use Rattle.pg_rules.specs.Numbered.{scalar_in}
 use Rattle.pg_types.specs.Kinds.{is_as, fails}
-use Rattle.pg_numbering.proofs.SameTypes.{same_type_is, same_width_is}
+use Rattle.pg_types.proofs.SameTypes.{same_type_true, same_width_true}
 use Rattle.pg_numbering.proofs.Resolves.{Has}
 use Rattle.pg_numbering.proofs.Tests.{not_false}
 
@@ -61,7 +61,7 @@ void_type_is (MoreFields s t) h = absurd cc
 
 -- a type of which a scalar is asked is that scalar
 pub scalar_type_is : (s : Scalar) (o : Option ResolvedType) → is_scalar_type s o ≡ true → scalar_in o ≡ Some s
-scalar_type_is (scalar.Int w) (Some (IntegerType v)) h = ap (λ (q : Width). Some (scalar.Int q)) (sym (same_width_is w v h))
+scalar_type_is (scalar.Int w) (Some (IntegerType v)) h = ap (λ (q : Width). Some (scalar.Int q)) (sym (same_width_true w v h))
 scalar_type_is scalar.Ptr (Some PointerType) h = refl
 scalar_type_is (scalar.Int w) None h = absurd cc
 scalar_type_is (scalar.Int w) (Some PointerType) h = absurd cc
@@ -104,7 +104,7 @@ pub same_from : (o p : Option ResolvedType) (r s : ResolvedType) → o ≡ Some 
 same_from o p r s e f h =
     let a : fails (is_as (Some r)) p ≡ false = subst (λ (q : Option ResolvedType). fails (is_as q) p ≡ false) e h in
     let b = passes_from (is_as (Some r)) p s a f in
-    f ∙ ap (λ (q : ResolvedType). Some q) (sym (same_type_is r s b)) ∙ sym e
+    f ∙ ap (λ (q : ResolvedType). Some q) (sym (same_type_true r s b)) ∙ sym e
 
 pub agreed : (types : List NamedType) (t u : Ty) → Has (resolved types t) → Has (resolved types u) → agree types t u ≡ true → resolved types u ≡ resolved types t
 agreed types t u h k e = same_from (resolved types t) (resolved types u) h.0 k.0 h.1 k.1 (by (fails (is_as (resolved types t)) (resolved types u)) e)

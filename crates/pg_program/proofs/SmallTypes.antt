@@ -15,7 +15,7 @@ use Rattle.pg_rules.specs.declared.fault.CheckKind.TheVariants.{TooLarge}
 use Rattle.pg_rules.specs.Written.{types_within, types_within_all}
 use Rattle.pg_rules.specs.TypeConditions.{is_large, any_large}
 use Rattle.pg_rules.specs.Conditions.{item_refused, IsAccepted}
-use Rattle.pg_numbering.proofs.Fuel.{Below, within_plus}
+use Rattle.pg_types.proofs.Fuel.{Below, within_plus}
 use Rattle.pg_numbering.proofs.Flat.{some_is}
 use Rattle.pg_numbering.proofs.Unrefused.{at_if_none, items_pass}
 use Rattle.pg_numbering.proofs.Resolves.{item_of}

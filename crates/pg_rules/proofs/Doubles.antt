@@ -35,7 +35,7 @@ starts_done known [] (suc i) text l = refl
 starts_done known (m ∷ names) zero text l = absurd (omega (arith, l))
 starts_done known (m ∷ names) (suc i) text l = starts_done known names i text (omega (arith, l))
 
-min_before : (p s k : ℕ) → nat_lt (min p s) k ≡ (nat_lt p k || nat_lt s k)
+pub min_before : (p s k : ℕ) → nat_lt (min p s) k ≡ (nat_lt p k || nat_lt s k)
 min_before p s k = by (nat_lt p k) (nat_lt s k) (nat_lt (min p s) k) refl refl refl
   where
     by : (a b c : Bool) → nat_lt p k ≡ a → nat_lt s k ≡ b → nat_lt (min p s) k ≡ c → c ≡ (a || b)
@@ -46,11 +46,11 @@ min_before p s k = by (nat_lt p k) (nat_lt s k) (nat_lt (min p s) k) refl refl r
     by false false true x y z = absurd (grind (arith, nat_tests))
     by false false false x y z = refl
 
-or_false : (a : Bool) → a ≡ (a || false)
+pub or_false : (a : Bool) → a ≡ (a || false)
 or_false true = refl
 or_false false = refl
 
-or_again : (a b c : Bool) → ((a || b) || c) ≡ (a || (b || c))
+pub or_again : (a b c : Bool) → ((a || b) || c) ≡ (a || (b || c))
 or_again true b c = refl
 or_again false b c = refl
 

@@ -6,7 +6,7 @@ use Rattle.pg_lex.specs.declared.token.Span.{Span}
 use Rattle.pg_rules.specs.Earliest.{earlier, earliest}
 
 -- of three places it doesn't matter which two are compared first
-earlier_again : (a b c : Option Span) → earlier a (earlier b c) ≡ earlier (earlier a b) c
+pub earlier_again : (a b c : Option Span) → earlier a (earlier b c) ≡ earlier (earlier a b) c
 earlier_again None b c = refl
 earlier_again (Some x) None c = refl
 earlier_again (Some x) (Some y) None = by (nat_lt y.start x.start)
@@ -31,7 +31,7 @@ unfolding earliest
 earliest_more [] ys = refl
 earliest_more (x ∷ xs) ys = ap (λ o. earlier (Some x) o) (earliest_more xs ys) ∙ earlier_again (Some x) (earliest xs) (earliest ys)
 
-earlier_none : (a : Option Span) → earlier a None ≡ a
+pub earlier_none : (a : Option Span) → earlier a None ≡ a
 earlier_none None = refl
 earlier_none (Some x) = refl
 

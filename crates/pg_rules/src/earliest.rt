@@ -1,3 +1,5 @@
+//! The earlier of two places.
+
 ghost use Rattle.std.specs.Prelude.{◌≡◌};
 ghost use Rattle.pg_rules.specs.Conditions.{at_if};
 ghost use Rattle.pg_rules.specs.Earliest.{earlier, earliest};

@@ -1,3 +1,5 @@
+//! Why a module is refused.
+
 ghost use Rattle.std.specs.Prelude.{◌≡◌};
 ghost use Rattle.pg_rules.specs.declared.fault.CheckFault.TheVariants.{OutOfMemory};
 

@@ -1,3 +1,5 @@
+//! The numbers of constants at their types.
+
 ghost use Rattle.std.specs.Prelude.{◌≡◌, ◌<◌, IfOk, IfSome, map};
 ghost use Rattle.pg_num.specs.Numbers.{modulus};
 ghost use Rattle.pg_ast.specs.Syntax.{Int};

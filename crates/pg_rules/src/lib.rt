@@ -21,7 +21,7 @@ pub use earliest::{earlier, place_if};
 pub use fault::{CheckFault, CheckKind};
 pub use integers::{constant_number, index_numbers, literal_at, number_at};
 pub use known::known_named;
-pub use own_names::{param_names, references};
+pub use own_names::{numbered_name, param_names, references};
 pub use places::{type_span, val_span};
 pub use refusals::{Refusal, Refusals, earlier_places, first_refusal, no_refusals};
 pub use signatures::{are_params, are_types, is_result};

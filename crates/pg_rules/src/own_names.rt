@@ -1,3 +1,5 @@
+//! The names of parameters, each unnamed one by its number.
+
 ghost use Rattle.std.specs.Prelude.{◌≡◌, ◌++◌, [], ◌∷◌, IfOk, OnOk, None, map};
 ghost use Rattle.std.specs.List.{filter_map};
 ghost use Rattle.pg_ast.specs.Numbers.{name_at, after, each_at, behind_all, param_at, behind_param};
@@ -22,7 +24,7 @@ fn next_name(alloc: Global, next: &NextNumber) -> Result<Name, AllocError>
 }
 
 /// The name of a thing, or the next number where it has none.
-fn numbered_name(
+pub fn numbered_name(
     alloc: Global,
     next: &mut NextNumber,
     name: &Option<Name>,

@@ -1,3 +1,5 @@
+//! Where types and values begin.
+
 ghost use Rattle.std.specs.Prelude.{◌≡◌};
 ghost use Rattle.pg_ast.specs.Views.{ty_of, val_of};
 ghost use Rattle.pg_rules.specs.Places.{type_span, val_span};

@@ -1,3 +1,5 @@
+//! The earliest place of each kind of refusal, and the first refusal of a part.
+
 ghost use Rattle.std.specs.Prelude.{◌≡◌, [], None, IfSome};
 ghost use Rattle.pg_rules.specs.declared.fault.CheckKind.{CheckKind};
 ghost use Rattle.pg_rules.specs.Conditions.{Part, IsEarliest, RefusesNothing};

@@ -1,3 +1,5 @@
+//! Whether types are those of a signature.
+
 ghost use Rattle.std.specs.Prelude.{◌≡◌, IfOk, Option, not, ◌&&◌, map, length, ◌<◌};
 ghost use Rattle.std.specs.List.{list_all};
 ghost use Rattle.std.specs.Option.{option_map};

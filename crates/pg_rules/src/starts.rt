@@ -1,3 +1,5 @@
+//! Names that stand twice, by where the first of each begins.
+
 ghost use Rattle.std.specs.Prelude.{◌≡◌, OnOk, IfOk, Some, true, ℕ, List};
 ghost use Rattle.std.specs.List.{flat_map};
 ghost use Rattle.std.specs.Str.{bytes_eq};

@@ -1,3 +1,5 @@
+//! Where the first global or function of each name begins.
+
 ghost use Rattle.std.specs.Prelude.{◌≡◌, ◌++◌, IfOk, OnOk, List, ℕ, map};
 ghost use Rattle.pg_ast.specs.Syntax.{Variable, Declaration, Definition};
 ghost use Rattle.pg_ast.specs.Views.{global_of, declare_of, define_of, tree_of};

@@ -1,3 +1,5 @@
+//! What global names stand for.
+
 ghost use Rattle.std.specs.Prelude.{◌≡◌, ℕ, IfOk, map};
 ghost use Rattle.std.specs.List.{find, enumerate_from};
 ghost use Rattle.std.specs.Option.{option_map};

@@ -1,3 +1,5 @@
+//! What types are refused for, row by row.
+
 ghost use Rattle.std.specs.Prelude.{◌≡◌, IfOk, is_some, map, not};
 ghost use Rattle.std.specs.List.{flat_map, list_any};
 ghost use Rattle.pg_ast.specs.Views.{ty_of};

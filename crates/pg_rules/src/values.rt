@@ -1,3 +1,5 @@
+//! Which constants may stand at a type.
+
 ghost use Rattle.std.specs.Prelude.{◌≡◌, IfOk, Option};
 ghost use Rattle.std.specs.Option.{option_map};
 ghost use Rattle.pg_ast.specs.Views.{ty_of, val_of};

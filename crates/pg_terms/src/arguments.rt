@@ -1,3 +1,5 @@
+//! The reader of arguments, whose attributes are dropped.
+
 ghost use Rattle.std.specs.Prelude.{◌≡◌, ◌≤◌, ◌<◌, length, drop, IfOk};
 ghost use Rattle.pg_grammar.specs.Reader.{fresh_at, pending_at, begins_pending, settled_at, attributed_at, argument_at, Bare};
 ghost use Rattle.pg_grammar.specs.Reading.{comes};

@@ -1,3 +1,5 @@
+//! Sets of classes of tokens, and reading one token of a set.
+
 ghost use Rattle.std.specs.Prelude.{◌≡◌, ◌≤◌, ◌+◌, length, drop, IfOk};
 ghost use Rattle.pg_grammar.specs.Classes.{is_word};
 ghost use Rattle.pg_grammar.specs.Grammar.{no_type, opens_type, opens, plain, attribute_word, attribute_name, metadata_name, opens_value, global_name};

@@ -1,3 +1,5 @@
+//! What is read and dropped: flags, and what stands in brackets.
+
 ghost use Rattle.std.specs.Prelude.{◌≡◌, ◌≤◌, ◌<◌, length, drop, IfOk};
 ghost use Rattle.pg_grammar.specs.Reader.{flags_at, plains_at, skip_at, bracketed_at, inside_at};
 ghost use Rattle.pg_grammar.specs.Views.{Takes, done};

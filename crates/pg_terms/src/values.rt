@@ -1,3 +1,5 @@
+//! The reader of values.
+
 ghost use Rattle.std.specs.Prelude.{◌≡◌, ◌≤◌, ◌<◌, length, drop, map, IfOk};
 ghost use Rattle.pg_grammar.specs.declared.class.Class.TheVariants.{Comma};
 ghost use Rattle.pg_grammar.specs.Classes.{is};

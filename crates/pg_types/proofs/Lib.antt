@@ -1,11 +1,12 @@
 mod Capping
 mod Shapes
 mod TableTypes
-mod SameTypes
+pub mod SameTypes
 mod NameIndexes
 pub mod Resolutions
 pub mod StructView
-mod Fuel
+pub mod Fuel
+pub mod Voids
 mod ItemNumbers
 mod ItemSteps
 mod ItemPasses

@@ -120,7 +120,7 @@ module _ (es : List (Shape × Layout)) (table : IsTable es) (distinct : IsDistin
 
 -- ---- equal types
 
-same_width_true : (v w : Width) → same_width v w ≡ true → v ≡ w
+pub same_width_true : (v w : Width) → same_width v w ≡ true → v ≡ w
 same_width_true W1 W1 e = refl
 same_width_true W1 _ e = cc
 same_width_true W8 W8 e = refl
@@ -139,7 +139,7 @@ own_width W16 = refl
 own_width W32 = refl
 own_width W64 = refl
 
-same_type_true : (r s : ResolvedType) → same_type r s ≡ true → r ≡ s
+pub same_type_true : (r s : ResolvedType) → same_type r s ≡ true → r ≡ s
 unfolding same_type
 same_type_true (resolved.IntegerType v) (resolved.IntegerType w) e = ap (λ u. resolved.IntegerType u) (same_width_true v w e)
 same_type_true (resolved.IntegerType v) _ e = cc

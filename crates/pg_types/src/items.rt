@@ -1,3 +1,5 @@
+//! The numbers of the types of type items.
+
 ghost use Rattle.std.specs.Prelude.{◌≡◌, ◌+◌, ◌<◌, ℕ, List, Some, None, IfOk, IfSome, OnOk, length, map, replicate, ◌||◌};
 ghost use Rattle.std.specs.Bool.{OnTrue, OnFalse};
 ghost use Rattle.pg_ast.specs.Views.{type_item_of};

@@ -1,3 +1,5 @@
+//! Kinds of types.
+
 ghost use Rattle.std.specs.Prelude.{◌≡◌, List};
 ghost use Rattle.pg_types.specs.Resolved.{ResolvedType};
 ghost use Rattle.pg_types.specs.Table.{type_of_shape};

@@ -1,3 +1,5 @@
+//! How a type lies in memory.
+
 ghost use Rattle.std.specs.Prelude.{◌≤◌};
 ghost use Rattle.pg_types.specs.declared.cap.TheConstants.{LAYOUT_CAP};
 

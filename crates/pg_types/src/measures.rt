@@ -1,3 +1,5 @@
+//! Sizes and alignments of types from those of their parts.
+
 ghost use Rattle.std.specs.Prelude.{◌≡◌, ◌≤◌, ◌<◌, ◌+◌};
 ghost use Rattle.pg_types.specs.declared.cap.TheConstants.{LAYOUT_CAP};
 ghost use Rattle.pg_types.specs.Resolved.{ResolvedType, ArrayType, NoFields, MoreFields, PointerType, VoidType, IntegerType};

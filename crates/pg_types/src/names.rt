@@ -1,3 +1,5 @@
+//! The place of the first of each name.
+
 ghost use Rattle.std.specs.Prelude.{◌≡◌, OnOk, IfOk, Some, ℕ, List};
 ghost use Rattle.std.specs.Str.{bytes_eq};
 ghost use Rattle.pg_types.specs.NameIndex.{known_place, first_place, noted, texts_of};

@@ -1,3 +1,5 @@
+//! The number of a type, its names read through.
+
 ghost use Rattle.std.specs.Prelude.{◌≡◌, ℕ, IfOk, Some, Option, List, map};
 ghost use Rattle.pg_ast.specs.Syntax.{tys};
 ghost use Rattle.pg_ast.specs.Views.{ty_of};

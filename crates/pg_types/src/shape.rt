@@ -1,3 +1,5 @@
+//! Types by the numbers of their parts.
+
 /// A type whose parts are types of a table, by their numbers.
 #[derive(Clone, Copy, Debug, PartialEq, Eq, Hash)]
 pub enum Shape {

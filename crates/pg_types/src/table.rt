@@ -1,3 +1,5 @@
+//! The types that occur in a program, by number.
+
 ghost use Rattle.std.specs.Prelude.{◌≡◌, [], ◌∷◌, ◌++◌, Some, None, slice_get, IfOk, length, ◌<◌, ◌⊎◌, true};
 ghost use Rattle.indexmap.specs.IndexMap.{keys};
 ghost use Rattle.pg_types.specs.Resolved.{same_type, IntegerType, PointerType, VoidType, ArrayType, NoFields, MoreFields};

@@ -1,3 +1,5 @@
+//! The types of a program text, each numbered when it is first asked for.
+
 ghost use Rattle.std.specs.Prelude.{◌≡◌, IfOk, length, ◌<◌, is_some, true};
 ghost use Rattle.std.specs.Option.{option_map};
 ghost use Rattle.pg_ast.specs.Numbers.{type_named};

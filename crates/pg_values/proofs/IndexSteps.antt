@@ -11,7 +11,7 @@ use Rattle.pg_rules.specs.Integers.{index_number}
 use Rattle.pg_rules.specs.ValueConditions.{field_at, wrong_field, wrong_steps, wrong_indices}
 use Rattle.pg_rules.proofs.Rows.{earliest_more}
 use Rattle.pg_rules.specs.Places.{type_span, val_span}
-use Rattle.pg_values.proofs.Places.{earlier_again, earlier_none}
+use Rattle.pg_rules.proofs.Rows.{earlier_again, earlier_none}
 use Rattle.pg_values.specs.Steps.{refused_field, step_place, step_type, step_places}
 
 -- one index more

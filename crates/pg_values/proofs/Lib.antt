@@ -4,5 +4,5 @@ mod IndexSteps
 mod Inner
 mod Places
 mod TypedViews
-mod TypeRows
+pub mod TypeRows
 mod Misfits

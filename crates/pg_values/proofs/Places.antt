@@ -1,36 +1,10 @@
 -- The earliest of places of rows that follow one another.
-use Rattle.std.proofs.Common.{◌≡◌, nat_lt, Bool, true, false, cond, List, [], ◌∷◌, ◌++◌, map, Option, Some, None, refl, sym, ap, ◌∙◌, arith}
+use Rattle.std.proofs.Common.{◌≡◌, List, [], ◌∷◌, ◌++◌, map, Option, refl, sym, ap, ◌∙◌}
 use Rattle.std.specs.List.{flat_map}
-use Rattle.std.proofs.lemmas.Bool.Decides.{nat_tests}
 use Rattle.std.proofs.lemmas.List.{append-nil, append_assoc}
 use Rattle.pg_lex.specs.declared.token.Span.{Span}
 use Rattle.pg_rules.specs.Earliest.{earlier, earliest}
 use Rattle.pg_rules.proofs.Rows.{earliest_more}
-
--- of three places it doesn't matter which two are compared first
-pub earlier_again : (a b c : Option Span) → earlier a (earlier b c) ≡ earlier (earlier a b) c
-earlier_again None b c = refl
-earlier_again (Some x) None c = refl
-earlier_again (Some x) (Some y) None = by (nat_lt y.start x.start)
-  where
-    by : (k : Bool) → cond k (Some y) (Some x) ≡ earlier (cond k (Some y) (Some x)) None
-    by true = refl
-    by false = refl
-earlier_again (Some x) (Some y) (Some z) = by (nat_lt z.start y.start) (nat_lt y.start x.start) refl refl
-  where
-    by : (m k : Bool) → nat_lt z.start y.start ≡ m → nat_lt y.start x.start ≡ k → earlier (Some x) (cond m (Some z) (Some y)) ≡ earlier (cond k (Some y) (Some x)) (Some z)
-    by true true e f =
-        let g : nat_lt z.start x.start ≡ true = grind (arith, nat_tests) in
-        ap (λ b. cond b (Some z) (Some x)) g ∙ ap (λ b. cond b (Some z) (Some y)) (sym e)
-    by true false e f = refl
-    by false true e f = ap (λ b. cond b (Some y) (Some x)) f ∙ ap (λ b. cond b (Some z) (Some y)) (sym e)
-    by false false e f =
-        let g : nat_lt z.start x.start ≡ false = grind (arith, nat_tests) in
-        ap (λ b. cond b (Some y) (Some x)) f ∙ ap (λ b. cond b (Some z) (Some x)) (sym g)
-
-pub earlier_none : (a : Option Span) → earlier a None ≡ a
-earlier_none None = refl
-earlier_none (Some x) = refl
 
 -- the earliest of two rows
 pub both : (xs ys : List Span) (a b r : Option Span) → r ≡ earlier a b → a ≡ earliest xs → b ≡ earliest ys → r ≡ earliest (xs ++ ys)

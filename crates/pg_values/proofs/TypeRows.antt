@@ -38,8 +38,8 @@ flat_take f g (y ∷ xs) (suc i) x d l e =
     ∙ ap (λ zs. f (g y) ++ zs) (flat_take f g xs i x d (omega (arith, l)) e)
     ∙ sym (append_assoc (f (g y)) (flat_map f (map g (take i xs))) (f (g x)))
 
--- the types of one thing more
-pub row_added : {X Y : Type 0} (f : Y → List Ty) (g : X → Y) (xs : List X) (i : ℕ) (x d : X) (front all new : List Ty) → i < length xs → x ≡ get_or xs i d
+-- a row of one thing more
+pub row_added : {X Y Z : Type 0} (f : Y → List Z) (g : X → Y) (xs : List X) (i : ℕ) (x d : X) (front all new : List Z) → i < length xs → x ≡ get_or xs i d
     → all ≡ front ++ flat_map f (map g (take i xs)) → new ≡ all ++ f (g x) → new ≡ front ++ flat_map f (map g (take (i + 1) xs))
 row_added f g xs i x d front all new l e a n =
     n ∙ ap (λ ts. ts ++ f (g x)) a ∙ append_assoc front (flat_map f (map g (take i xs))) (f (g x))

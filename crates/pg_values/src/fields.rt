@@ -1,3 +1,5 @@
+//! The fields of a structure by number.
+
 ghost use Rattle.std.specs.Prelude.{◌≡◌, ◌<◌, IfOk, IfSome, length, None};
 ghost use Rattle.pg_types.specs.Table.{type_at};
 ghost use Rattle.pg_types.specs.NumberedTypes.{table_of};

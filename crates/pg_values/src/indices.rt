@@ -1,3 +1,5 @@
+//! Which types the indices of a path go to, and where one is refused.
+
 ghost use Rattle.std.specs.Prelude.{◌≡◌, ◌<◌, [], ◌∷◌, IfOk, length, map, is_some, drop, Option, None, Some};
 ghost use Rattle.pg_ast.specs.Views.{ty_of, typed_of};
 ghost use Rattle.pg_types.specs.Resolved.{ResolvedType};

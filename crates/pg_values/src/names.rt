@@ -1,3 +1,5 @@
+//! Names that stand for nothing, and names of functions that stand as values.
+
 ghost use Rattle.std.specs.Prelude.{◌≡◌, Bool, map};
 ghost use Rattle.std.specs.List.{flat_map};
 ghost use Rattle.pg_ast.specs.Syntax.{Ty, Local, Global};

@@ -1,3 +1,5 @@
+//! The types that values write by themselves.
+
 ghost use Rattle.std.specs.Prelude.{◌≡◌, ◌++◌, ◌∷◌, [], OnOk, Bool, map};
 ghost use Rattle.std.specs.List.{flat_map};
 ghost use Rattle.pg_ast.specs.Syntax.{Ty, Typed};

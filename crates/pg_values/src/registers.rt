@@ -1,3 +1,5 @@
+//! Registers that stand at another type.
+
 ghost use Rattle.std.specs.Prelude.{◌≡◌, IfOk, Option, slice_get};
 ghost use Rattle.std.specs.Option.{option_map, option_and_then};
 ghost use Rattle.pg_ast.specs.Views.{ty_of};

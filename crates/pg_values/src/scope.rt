@@ -1,3 +1,5 @@
+//! What values are looked up in.
+
 use indexmap::IndexMap;
 use pg_names::RegisterType;
 use pg_rules::Symbols;

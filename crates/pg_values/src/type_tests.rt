@@ -1,3 +1,5 @@
+//! What is asked of the type of a value.
+
 ghost use Rattle.std.specs.Prelude.{◌≡◌, IfOk, Option};
 ghost use Rattle.std.specs.Option.{option_map};
 ghost use Rattle.pg_ast.specs.Views.{ty_of};

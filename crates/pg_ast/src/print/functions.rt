@@ -1,3 +1,5 @@
+//! The canonical text of functions that are defined.
+
 ghost use Rattle.std.specs.Prelude.{◌≡◌, ◌++◌, OnOk, map, codes, flat_map, Some};
 ghost use Rattle.std.specs.List.{join_by};
 ghost use Rattle.pg_ast.specs.Text.{name_text, result_text, line_text, label_line, block_text, param_text, head_text, define_text};

@@ -1,3 +1,5 @@
+//! The canonical text of type items, globals and declared functions.
+
 ghost use Rattle.std.specs.Prelude.{◌≡◌, ◌++◌, OnOk, map, codes, flat_map};
 ghost use Rattle.std.specs.List.{join_by};
 ghost use Rattle.pg_ast.specs.Text.{param_name_text, param_text, dparam_text, type_item_text, constancy_text, global_item_text, declare_text};

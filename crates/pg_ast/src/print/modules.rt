@@ -1,3 +1,5 @@
+//! The canonical text of a whole module.
+
 ghost use Rattle.std.specs.Prelude.{◌≡◌, ◌++◌, OnOk, IfOk, map, flat_map};
 ghost use Rattle.pg_ast.specs.Text.{type_item_text, global_item_text, declare_text, define_text};
 ghost use Rattle.pg_ast.specs.Numbers.{numbered, canonical_text};

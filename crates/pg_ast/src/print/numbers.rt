@@ -1,3 +1,5 @@
+//! Decimal text of any length, and the next number that names a thing.
+
 ghost use Rattle.std.specs.Prelude.{◌≡◌, ◌++◌, ◌+◌, ◌-◌, ◌≤◌, ◌<◌, OnOk, max, ◌||◌, ◌&&◌, ◌==◌, nat_lt, IfOk, true, length, take, replicate, get_or};
 ghost use Rattle.std.specs.List.{list_all};
 ghost use Rattle.pg_num.specs.Decimal.{is_digit, are_digits, natural_of};

@@ -1,3 +1,5 @@
+//! The canonical text of types.
+
 ghost use Rattle.std.specs.Prelude.{◌≡◌, ◌++◌, OnOk, map, codes, List, length, ◌<◌};
 ghost use Rattle.pg_ast.specs.Text.{type_text, fields_text};
 ghost use Rattle.pg_ast.specs.Views.{ty_of};

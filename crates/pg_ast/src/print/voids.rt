@@ -1,3 +1,5 @@
+//! Types that are `void`, and operations that give a value.
+
 ghost use Rattle.std.specs.Prelude.{◌≡◌, ◌<◌, ℕ, suc, [], length, map, IfSome, slice_get, not};
 ghost use Rattle.std.specs.Str.{bytes_eq};
 ghost use Rattle.pg_ast.specs.Numbers.{type_named, name_void, void_within, is_void, gives};

@@ -1,17 +1,17 @@
-use Rattle.std.proofs.Common.{◌≡◌, map, Some, None, true, is_some, refl, sym, ap, ◌∙◌}
-use Rattle.pg_ast.specs.Views.{ty_of, type_item_of}
+use Rattle.std.proofs.Common.{◌≡◌, map, Some, None, true, is_some, sym, ap, ◌∙◌}
+use Rattle.pg_ast.specs.Views.{type_item_of}
 use Rattle.pg_types.specs.NameIndex.{known_place}
 use Rattle.pg_types.specs.NumberedTypes.{items_of}
 use Rattle.pg_types.specs.Resolved.{resolved}
 use Rattle.pg_types.proofs.Resolutions.{if_ok}
-use Rattle.pg_rules.specs.Earliest.{earliest}
+use Rattle.pg_rules.specs.Earliest.{earlier, earliest}
 use Rattle.pg_heads.specs.Circles.{place_of}
 use Rattle.pg_heads.proofs.NextPlaces.{self_contained_is, has_place, first_of_name}
 use Rattle.pg_heads.proofs.NoCircles.{no_circle}
+use Rattle.pg_heads.proofs.KnownPlaces.{none_earlier}
 use Rattle.pg_heads.proofs.circles.self_contained.Goals as goal
 
 pub returns-then-target-place-clause-place : goal.returns-then-target-place-clause-place
-unfolding earliest
 returns-then-target-place-clause-place c =
     let types = map type_item_of c.args.items.now in
     let item = type_item_of c.args.item.now in
@@ -20,7 +20,7 @@ returns-then-target-place-clause-place c =
     sym (c.requires.known text) ∙ ap (λ t. known_place c.args.places.now t) (sym c.as_slice.ensures) ∙ sym c.place_of_name.ensures ∙ c.in-Some.is ∙ ap (λ p. Some p) c.if-target-place.true in
     let whole : is_some (resolved types item.ty) ≡ true =
     ap (λ xs. is_some (resolved (items_of xs) item.ty)) (sym c.requires.items) ∙ sym c.in_ok-whole-in-Some.ensures.same ∙ c.if-whole.true in
-    sym (ap (λ xs. earliest xs) (no_circle types item (first_of_name types c.args.place item c.requires.at place) whole))
+    none_earlier c.args.known ∙ sym (ap (λ xs. earlier c.args.known (earliest xs)) (no_circle types item (first_of_name types c.args.place item c.requires.at place) whole))
 
 pub returns-else-whole-clause-place : goal.returns-else-whole-clause-place
 returns-else-whole-clause-place c =
@@ -29,7 +29,7 @@ returns-else-whole-clause-place c =
     let text = c.args.item.now.name.text in
     let place : place_of types text ≡ Some c.in-Some.target =
     sym (c.requires.known text) ∙ ap (λ t. known_place c.args.places.now t) (sym c.as_slice.ensures) ∙ sym c.place_of_name.ensures ∙ c.in-Some.is in
-    if_ok c.circles_in.result (λ o h. h ∙ ap (λ xs. earliest xs) (sym (self_contained_is types item))) (c.circles_in.ensures text place)
+    if_ok c.circles_in.result (λ o h. h ∙ ap (λ xs. earlier c.args.known (earliest xs)) (sym (self_contained_is types item))) (c.circles_in.ensures text place)
 
 pub returns-in-None-clause-place : goal.returns-in-None-clause-place
 returns-in-None-clause-place c =

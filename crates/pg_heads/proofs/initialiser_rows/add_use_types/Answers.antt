@@ -2,7 +2,7 @@ use Rattle.std.proofs.Common.{true}
 use Rattle.pg_ast.specs.Views.{ty_of}
 use Rattle.pg_rules.specs.Nodes.{tys_behind}
 use Rattle.pg_heads.specs.Initialisers.{use_behind, own_row}
-use Rattle.pg_heads.proofs.ConstantRows.{row_added}
+use Rattle.pg_values.proofs.TypeRows.{row_added}
 use Rattle.pg_heads.proofs.initialiser_rows.add_use_types.Goals as goal
 
 pub loop-one-preserved : goal.loop-one-preserved

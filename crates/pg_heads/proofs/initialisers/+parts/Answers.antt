@@ -5,7 +5,8 @@ use Rattle.pg_ast.proofs.Pieces.{on_ok}
 use Rattle.pg_rules.specs.Nodes.{tys_behind}
 use Rattle.pg_rules.specs.Written.{const_types}
 use Rattle.pg_heads.specs.Initialisers.{type_row}
-use Rattle.pg_heads.proofs.ConstantRows.{part_ty, part_value, array_types, struct_types, row_added, one_and_others}
+use Rattle.pg_values.proofs.TypeRows.{row_added}
+use Rattle.pg_heads.proofs.ConstantRows.{part_ty, part_value, array_types, struct_types, one_and_others}
 use Rattle.pg_heads.proofs.initialisers.+parts.Goals as goal
 
 pub add_types-returns-in-Array : goal.add_types-returns-in-Array

@@ -4,7 +4,8 @@ use Rattle.pg_ast.specs.Views.{ty_of, const_of, typed_const_of}
 use Rattle.pg_ast.proofs.Pieces.{on_ok}
 use Rattle.pg_rules.specs.Written.{const_uses}
 use Rattle.pg_heads.specs.Initialisers.{uses_behind, use_row}
-use Rattle.pg_heads.proofs.ConstantRows.{part_ty, part_value, array_uses, struct_uses, row_added}
+use Rattle.pg_values.proofs.TypeRows.{row_added}
+use Rattle.pg_heads.proofs.ConstantRows.{part_ty, part_value, array_uses, struct_uses}
 use Rattle.pg_heads.proofs.initialisers.+uses.Goals as goal
 
 pub add_uses-returns-in-Array : goal.add_uses-returns-in-Array

@@ -1,4 +1,4 @@
-use Rattle.std.proofs.Common.{◌≡◌, ℕ, zero, suc, ◌<◌, List, [], ◌∷◌, length, map, get_or, slice_get, Some, refl, sym, ap, ◌∙◌, arith}
+use Rattle.std.proofs.Common.{◌≡◌, map, refl, ◌∙◌}
 use Rattle.std.specs.List.{flat_map}
 use Rattle.pg_ast.specs.Views.{type_item_of}
 use Rattle.pg_rules.specs.Earliest.{earliest, place_of}
@@ -21,8 +21,8 @@ pub loop-place-preserved : goal.loop-place-preserved
 loop-place-preserved c = record {
   places = λ kind.
       row_step (λ i. item_refused (map type_item_of c.args.items.now) i kind) type_item_of c.args.items.now c.loop-place.place c.index-items-place.result c.index-items-place.result
-      (place_of c.loop-place.found kind) (place_of c.in_ok-own.own kind) (place_of c.earlier_places-found.result kind) c.loop-place-test.true c.index-items-place.is
-      (c.loop-place.invariant.places kind) (c.in_ok-own.ensures.places kind) (c.earlier_places-found.ensures kind);
+      (place_of c.loop-place.found kind) _ (place_of c.in_ok-found.found kind) c.loop-place-test.true c.index-items-place.is
+      (c.loop-place.invariant.places kind) refl (c.in_ok-found.ensures.places kind);
   items = c.item_refusals.ensures.items ∙ c.loop-place.invariant.items;
 }
 

@@ -1,10 +1,19 @@
-use Rattle.std.proofs.Common.{ap, ◌∙◌}
+use Rattle.std.proofs.Common.{◌≡◌, ℕ, List, map, ap, ◌∙◌}
+use Rattle.pg_ast.specs.declared.nodes.TypeItem.{TypeItem}
 use Rattle.pg_ast.specs.Syntax.{NamedType}
 use Rattle.pg_ast.specs.Views.{type_item_of}
 use Rattle.pg_types.specs.NameIndex.{first_place}
+use Rattle.pg_types.specs.Items.{item_texts}
 use Rattle.pg_rules.proofs.Parts.{map_twice}
+use Rattle.pg_heads.specs.Circles.{place_of}
 use Rattle.pg_heads.proofs.type_items.types_refusals.Goals as goal
 
+-- where the first item of a name stands
+first_item : (items : List TypeItem) (text : List ℕ) → first_place (item_texts items) text ≡ place_of (map type_item_of items) text
+first_item items text = ap (λ ts. first_place ts text) (map_twice (λ (i : NamedType). i.name.text) type_item_of items)
+
+pub item_ranks-requires : goal.item_ranks-requires
+item_ranks-requires c = λ text. c.in_ok-places.ensures text ∙ first_item c.as_slice-items.result.now text
+
 pub items_refusals-requires-clause-known : goal.items_refusals-requires-clause-known
-items_refusals-requires-clause-known c = λ text.
-    c.in_ok-places.ensures text ∙ ap (λ ts. first_place ts text) (map_twice (λ (i : NamedType). i.name.text) type_item_of c.as_slice-items.result.now)
+items_refusals-requires-clause-known c = λ text. c.in_ok-places.ensures text ∙ first_item c.as_slice-items.result.now text

@@ -1,1 +1,0 @@
-use Rattle.pg_heads.proofs.circles.has.Goals as goal
