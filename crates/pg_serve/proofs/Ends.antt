@@ -4,6 +4,8 @@ use Rattle.std.specs.Prelude.{◌==◌, IfSome, flat_map}
 use Rattle.std.specs.Io.KnownBytes.{Consumes, IsAtEnd}
 use Rattle.std.proofs.Math.Seq.{take-append_seam}
 use Rattle.std.proofs.lemmas.List.{map-append, take-append-le, take-map}
+use Rattle.pg_io.specs.Streams.{TakesAtMost}
+use Rattle.pg_io.proofs.Known.{consumes-append}
 use Rattle.pg_cache.specs.Kept.{Kept}
 use Rattle.pg_num.specs.declared.limits.TheConstants.{LINE_LIMIT, SESSION_INPUT_LIMIT}
 use Rattle.pg_serve.specs.Lines.{begun_behind, ended_lines, input_of, last_line, lines_of}
@@ -86,6 +88,13 @@ if_any : (left : Option (List ℕ)) (P : List ℕ → Type 0) → ((input : List
 if_any None P h = tt
 if_any (Some xs) P h = h xs
 
+-- a call that takes none leaves what was taken
+consumes_still : (left rest next : Option (List ℕ)) (bytes : List ℕ) → Consumes left rest bytes → TakesAtMost rest next 0 → Consumes left next bytes
+consumes_still left rest next bytes h t =
+    let w = t.2 in
+    let none : t.0 ≡ [] = is_none t.0 (omega (arith, w)) in
+    subst (Consumes left next) (ap (λ l. bytes ++ l) none ∙ append-nil bytes) (consumes-append left rest next bytes t.0 h t.1)
+
 module _ {M : Type 0} (admits : M → List ℤ → Bool) (runs : Runs M) (before after : Option (List ℕ)) where
   -- inputs that were answered are a session
   pub serves : (lines : List (List ℕ)) (inputs : List (Option (List ℤ))) (kept : Kept M) → inputs ≡ inputs_of lines → Answered admits runs begin inputs kept before after → Serves admits runs lines before after
@@ -108,14 +117,9 @@ module _ {M : Type 0} (admits : M → List ℤ → Bool) (runs : Runs M) (before
       })
 
   pub serves_taken : (left rest : Option (List ℕ)) (bytes : List ℕ) → Consumes left rest bytes → length bytes ≤ SESSION_INPUT_LIMIT
-      → Serves admits runs (ended_lines bytes) before after → IfSome left (ServesTaken admits runs before after)
+      → Serves admits runs (ended_lines bytes) before after → IfSome left (ServesTaken admits runs rest before after)
   serves_taken None rest bytes h w s = tt
-  serves_taken (Some xs) None bytes h w s = absurd h
-  serves_taken (Some xs) (Some ys) bytes h w s = subst (ServesTaken admits runs before after) (sym h) (record {
-    count = length bytes;
-    within = w;
-    serves = subst (λ l. Serves admits runs (ended_lines l) before after) (sym (take-append_seam bytes ys)) s;
-  })
+  serves_taken (Some xs) rest bytes h w s = record { taken = bytes; consumed = h; within = w; serves = s }
 
   -- a front of the answers to the first lines
   pub front : (lines : List (List ℕ)) (inputs others : List (Option (List ℤ))) → inputs ++ others ≡ inputs_of lines → CutShort admits runs begin inputs before after → ServesFront admits runs lines before after
@@ -155,11 +159,14 @@ module _ {M : Type 0} (admits : M → List ℤ → Bool) (runs : Runs M) (before
   limit_of left rest kept line ended e more h =
       serves_limit left rest h.bytes h.consumed more (h.full e) (serves (ended_lines h.bytes) (inputs_after [] h.bytes) kept (inputs_ended h.bytes) h.answered)
 
-  pub taken_of : (left rest : Option (List ℕ)) (kept : Kept M) (line : List ℕ) (ended : Bool) → HasTaken admits runs left rest before after kept line ended → IfSome left (ServesTaken admits runs before after)
-  taken_of left rest kept line ended h =
-      serves_taken left rest h.bytes h.consumed h.within (serves (ended_lines h.bytes) (inputs_after [] h.bytes) kept (inputs_ended h.bytes) h.answered)
+  -- the read that failed took none
+  pub taken_of : (left rest next : Option (List ℕ)) (kept : Kept M) (line : List ℕ) (ended : Bool) → TakesAtMost rest next 0 → HasTaken admits runs left rest before after kept line ended
+      → IfSome left (ServesTaken admits runs next before after)
+  taken_of left rest next kept line ended none h =
+      serves_taken left next h.bytes (consumes_still left rest next h.bytes h.consumed none) h.within
+      (serves (ended_lines h.bytes) (inputs_after [] h.bytes) kept (inputs_ended h.bytes) h.answered)
 
-  pub answered_of : (left rest : Option (List ℕ)) → HasAnswered admits runs left rest before after → IfSome left (ServesTaken admits runs before after)
+  pub answered_of : (left rest : Option (List ℕ)) → HasAnswered admits runs left rest before after → IfSome left (ServesTaken admits runs rest before after)
   answered_of left rest h =
       serves_taken left rest h.bytes h.consumed h.within (serves (ended_lines h.bytes) (inputs_after [] h.bytes) h.kept (inputs_ended h.bytes) h.answered)
 

@@ -1,6 +1,6 @@
 -- What a session writes.
-use Rattle.std.specs.Prelude.{ℕ, ℤ, ◌<◌, ◌≤◌, Bool, List, map, length, take, Option}
-use Rattle.std.specs.Io.KnownBytes.{Appends}
+use Rattle.std.specs.Prelude.{ℕ, ℤ, ◌<◌, ◌≤◌, Bool, List, map, length, take, Option, Some}
+use Rattle.std.specs.Io.KnownBytes.{Appends, Consumes}
 use Rattle.pg_io.specs.Streams.{AppendsFront}
 use Rattle.pg_num.specs.declared.limits.TheConstants.{SESSION_INPUT_LIMIT}
 use Rattle.pg_serve.specs.Lines.{ended_lines, input_of, lines_of}
@@ -32,8 +32,9 @@ pub record ServesLimit {M : Type 0} (admits : M → List ℤ → Bool) (runs : R
   pub beyond : SESSION_INPUT_LIMIT < length input
   pub serves : Serves admits runs (ended_lines (take SESSION_INPUT_LIMIT input)) old new
 
--- a read that failed behind so many bytes: the lines are answered that ended until then
-pub record ServesTaken {M : Type 0} (admits : M → List ℤ → Bool) (runs : Runs M) (old new : Option (List ℕ)) (input : List ℕ) : Type 0 where
-  pub count : ℕ
-  pub within : count ≤ SESSION_INPUT_LIMIT
-  pub serves : Serves admits runs (ended_lines (take count input)) old new
+-- a read that failed: these bytes were taken of the input before, and this is the rest of it. The lines are answered that end in them
+pub record ServesTaken {M : Type 0} (admits : M → List ℤ → Bool) (runs : Runs M) (rest old new : Option (List ℕ)) (input : List ℕ) : Type 0 where
+  pub taken : List ℕ
+  pub consumed : Consumes (Some input) rest taken
+  pub within : length taken ≤ SESSION_INPUT_LIMIT
+  pub serves : Serves admits runs (ended_lines taken) old new

@@ -91,7 +91,7 @@ fn take_all<R: Runner, S: Source, K: Sink>(
     requires line { session.old.line.items ≡ [] }
     ensures all { OnOk result (HasAll (admits_by R.Entry.meaning R.Entry.test) (R.runs (R.subject runner.old)) (S.rest src.old) (K.taken out.old) (K.taken out.new) session.new.cache session.new.line.items) }
     ensures input_limit { IsErrOf result ServeFault.InputLimit → IfSome (S.rest src.old) (ServesLimit (admits_by R.Entry.meaning R.Entry.test) (R.runs (R.subject runner.old)) (K.taken out.old) (K.taken out.new)) }
-    ensures read_fault { IsErrOf result ServeFault.ReadFault → IfSome (S.rest src.old) (ServesTaken (admits_by R.Entry.meaning R.Entry.test) (R.runs (R.subject runner.old)) (K.taken out.old) (K.taken out.new)) }
+    ensures read_fault { IsErrOf result ServeFault.ReadFault → IfSome (S.rest src.old) (ServesTaken (admits_by R.Entry.meaning R.Entry.test) (R.runs (R.subject runner.old)) (S.rest src.new) (K.taken out.old) (K.taken out.new)) }
     ensures cut { (IsErrOf result ServeFault.WriteFault ⊎ IsErrOf result ServeFault.OutOfMemory) →
         IfSome (S.rest src.old) (λ input. ServesFront (admits_by R.Entry.meaning R.Entry.test) (R.runs (R.subject runner.old)) (lines_of input) (K.taken out.old) (K.taken out.new)) }
     ensures takes { TakesAtMost (S.rest src.old) (S.rest src.new) (SESSION_INPUT_LIMIT + 1) }
@@ -125,7 +125,7 @@ fn take_lines<R: Runner, S: Source, K: Sink>(
     ensures input_limit { IsErrOf result ServeFault.InputLimit →
         IfSome (S.rest src.old) (ServesLimit (admits_by R.Entry.meaning R.Entry.test) (R.runs (R.subject runner.old)) (K.taken out.old) (K.taken out.new)) }
     ensures read_fault { IsErrOf result ServeFault.ReadFault →
-        IfSome (S.rest src.old) (ServesTaken (admits_by R.Entry.meaning R.Entry.test) (R.runs (R.subject runner.old)) (K.taken out.old) (K.taken out.new)) }
+        IfSome (S.rest src.old) (ServesTaken (admits_by R.Entry.meaning R.Entry.test) (R.runs (R.subject runner.old)) (S.rest src.new) (K.taken out.old) (K.taken out.new)) }
     ensures write_fault_cuts { IsErrOf result ServeFault.WriteFault →
         IfSome (S.rest src.old) (λ input. ServesFront (admits_by R.Entry.meaning R.Entry.test) (R.runs (R.subject runner.old)) (lines_of input) (K.taken out.old) (K.taken out.new)) }
     ensures out_of_memory_cuts { IsErrOf result ServeFault.OutOfMemory →
@@ -165,7 +165,7 @@ pub fn serve<R: Runner, S: Source, K: Sink>(
     ensures input_limit { IsErrOf result ServeFault.InputLimit →
         IfSome (S.rest src.old) (ServesLimit (admits_by R.Entry.meaning R.Entry.test) (R.runs (R.subject runner.old)) (K.taken out.old) (K.taken out.new)) }
     ensures read_fault { IsErrOf result ServeFault.ReadFault →
-        IfSome (S.rest src.old) (ServesTaken (admits_by R.Entry.meaning R.Entry.test) (R.runs (R.subject runner.old)) (K.taken out.old) (K.taken out.new)) }
+        IfSome (S.rest src.old) (ServesTaken (admits_by R.Entry.meaning R.Entry.test) (R.runs (R.subject runner.old)) (S.rest src.new) (K.taken out.old) (K.taken out.new)) }
     ensures write_fault_cuts { IsErrOf result ServeFault.WriteFault →
         IfSome (S.rest src.old) (λ input. ServesFront (admits_by R.Entry.meaning R.Entry.test) (R.runs (R.subject runner.old)) (lines_of input) (K.taken out.old) (K.taken out.new)) }
     ensures out_of_memory_cuts { IsErrOf result ServeFault.OutOfMemory →

@@ -1,11 +1,9 @@
 //! Runs the top call on small programs. A line of `rows.txt` has the words of a command line, the files that stand one behind
 //! the other as the program text `x` of the shelf, and the bytes of the source, with `/` for a line feed. For each it prints the
 //! exit status and what was written, and says so where another size of the reads changes that. What comes of each row was
-//! written down by hand. Then it serves each proper prefix of a program, and lines at the limit of a line. `pg_session_tests` has
-//! longer runs and inputs.
+//! written down by hand. Then it serves lines at the limit of a line, each proper prefix of a program, and each prefix of
+//! some lines, from a source that ends there and from one that fails there. `pg_session_tests` has longer runs and inputs.
 #![tactic(auto)]
-
-ghost use Rattle.std.specs.Prelude.{◌<◌};
 
 use anyhow::Result;
 use pg_io::{MemoryShelf, MemorySink, MemorySource};
@@ -40,19 +38,27 @@ fn shelf_of(alloc: Global, text: &[u8]) -> Result<MemoryShelf, AllocError> {
     Ok(MemoryShelf::new(alloc, files, Vec::new(alloc)))
 }
 
-/// The status of the command whose words these are, with this program text and these bytes of the source in reads of at most
-/// `piece` bytes, and what it writes.
+/// A source that has these bytes, and gives as many as it is asked for.
+fn source_of(alloc: Global, input: &[u8]) -> Result<MemorySource, AllocError> {
+    let bytes = input.to_vec(alloc)?;
+    Ok(MemorySource::new(bytes, PIECE, Vec::new(alloc)))
+}
+
+/// A source that has these bytes, and gives one at each read. The reads of these numbers fail.
+fn slow_source(alloc: Global, input: &[u8], failing: &[u64]) -> Result<MemorySource, AllocError> {
+    let bytes = input.to_vec(alloc)?;
+    let numbers = failing.to_vec(alloc)?;
+    Ok(MemorySource::new(bytes, 1, numbers))
+}
+
+/// The status of the command whose words these are, with this program text and this source, and what it writes.
 fn outcome(
     alloc: Global,
     line: &str,
     text: &[u8],
-    input: &[u8],
-    piece: usize,
-) -> Result<(Status, Vec<u8>), AllocError>
-    requires { 0 < piece }
-{
+    mut src: MemorySource,
+) -> Result<(Status, Vec<u8>), AllocError> {
     let words = words_of(alloc, line)?;
-    let mut src = MemorySource::new(input.to_vec(alloc)?, piece, Vec::new(alloc));
     let mut shelf = shelf_of(alloc, text)?;
     let mut out = MemorySink::new(alloc, ROOM, Vec::new(alloc))?;
     let status = peregrine(alloc, &words, &mut src, &mut shelf, &mut out);
@@ -85,7 +91,8 @@ fn print_outcome(
     text: &[u8],
     input: &[u8],
 ) -> Result<()> {
-    let (status, written) = outcome(rt.alloc(), line, text, input, PIECE)?;
+    let src = source_of(rt.alloc(), input)?;
+    let (status, written) = outcome(rt.alloc(), line, text, src)?;
     let code = status.code();
     println!(rt; "{title}: {code}")?;
     print_bytes(rt, written.as_slice())
@@ -98,8 +105,8 @@ fn depends_on_pieces(
     text: &[u8],
     input: &[u8],
 ) -> Result<bool, AllocError> {
-    let (status, written) = outcome(alloc, line, text, input, PIECE)?;
-    let (other, others) = outcome(alloc, line, text, input, 1)?;
+    let (status, written) = outcome(alloc, line, text, source_of(alloc, input)?)?;
+    let (other, others) = outcome(alloc, line, text, slow_source(alloc, input, &[])?)?;
     Ok(status != other || written.as_slice() != others.as_slice())
 }
 
@@ -117,8 +124,95 @@ fn print_row(rt: &HostRuntime, row: &str, line: &str, rest: &str) -> Result<()> 
 /// Whether `serve` answers anything else on a front of the text than that the program ran or was refused.
 fn has_other_front(alloc: Global, text: &[u8]) -> Result<bool, AllocError> {
     for len in 0..text.len() {
-        let (status, _) = outcome(alloc, "serve x", &text[..len], b"\n", PIECE)?;
+        let src = source_of(alloc, b"\n")?;
+        let (status, _) = outcome(alloc, "serve x", &text[..len], src)?;
         if status != Status::Done && status != Status::ProgramRefused {
+            return Ok(true);
+        }
+    }
+    Ok(false)
+}
+
+/// The status of `serve` of the program text `text` over these lines, where the reads of these numbers fail, and what it
+/// writes. A read takes one byte.
+fn served(
+    alloc: Global,
+    text: &[u8],
+    lines: &[u8],
+    failing: &[u64],
+) -> Result<(Status, Vec<u8>), AllocError> {
+    outcome(alloc, "serve x", text, slow_source(alloc, lines, failing)?)
+}
+
+/// Prints a status and what was written, with `/` for a line feed.
+fn print_served(rt: &HostRuntime, title: &str, status: Status, written: &[u8]) -> Result<()> {
+    let code = status.code();
+    match str::from_utf8(written) {
+        Ok(text) => {
+            let line = text.replace(rt.alloc(), "\n", "/")?;
+            println!(rt; "{title}: {code} \"{line}\"")?;
+        }
+        Err(_) => println!(rt; "{title}: {code}, bytes that are no text")?,
+    }
+    Ok(())
+}
+
+/// The first bytes of some, or all where there are fewer.
+fn front(bytes: &[u8], len: usize) -> &[u8] {
+    if len < bytes.len() {
+        &bytes[..len]
+    } else {
+        bytes
+    }
+}
+
+/// Serves the lines where the source ends behind so many bytes, and where the read behind them fails.
+fn print_cut(rt: &HostRuntime, text: &[u8], lines: &[u8], len: usize) -> Result<()> {
+    let (status, written) = served(rt.alloc(), text, front(lines, len), &[])?;
+    print_served(rt, "the source ends", status, written.as_slice())?;
+    let (status, written) = served(rt.alloc(), text, lines, &[len as u64])?;
+    print_served(rt, "a read fails", status, written.as_slice())
+}
+
+/// Prints what comes of each prefix of the lines.
+fn print_cuts(rt: &HostRuntime, text: &[u8], lines: &[u8]) -> Result<()> {
+    for len in 0..lines.len() + 1 {
+        println!(rt; "{len} bytes")?;
+        print_cut(rt, text, lines, len)?;
+    }
+    Ok(())
+}
+
+/// Whether a failed read behind `len` bytes leaves anything else than the replies to the first `end` bytes, or these aren't a
+/// front of the replies `whole`.
+fn cut_differs(
+    alloc: Global,
+    text: &[u8],
+    lines: &[u8],
+    end: usize,
+    len: usize,
+    whole: &[u8],
+) -> Result<bool, AllocError> {
+    let (done, replies) = served(alloc, text, front(lines, end), &[])?;
+    let (failed, written) = served(alloc, text, lines, &[len as u64])?;
+    Ok(
+        done != Status::Done
+            || failed != Status::ReadFault
+            || written.as_slice() != replies.as_slice()
+            || !whole.starts_with(replies.as_slice()),
+    )
+}
+
+/// Whether, at some prefix of the lines, a failed read behind it leaves anything else than the replies to the lines that end in
+/// it, or these aren't a front of the replies to all lines.
+fn has_other_cut(alloc: Global, text: &[u8], lines: &[u8]) -> Result<bool, AllocError> {
+    let (_, whole) = served(alloc, text, lines, &[])?;
+    let mut end: usize = 0;
+    for len in 0..lines.len() + 1 {
+        if len > 0 && lines[len - 1] == b'\n' {
+            end = len;
+        }
+        if cut_differs(alloc, text, lines, end, len, whole.as_slice())? {
             return Ok(true);
         }
     }
@@ -172,6 +266,20 @@ fn print_limits(rt: &HostRuntime) -> Result<()> {
     print_outcome(rt, "1048577 blanks", "show x", blanks.as_slice(), b"1 2\n")
 }
 
+/// Serves each prefix of some lines.
+fn print_prefixes(rt: &HostRuntime) -> Result<()> {
+    let text = joined(rt, "known.ll sum.ll")?;
+    print_cuts(rt, text.as_slice(), b"1 2\n3 4\n5")?;
+    let text = joined(rt, "known.ll counted.ll")?;
+    let other = has_other_cut(
+        rt.alloc(),
+        text.as_slice(),
+        b"1\n2\n2\n3\n4\n5\n6\n7\n8\n9\n10\n11\n12\n13\n14\n15\n16\n17\n1\n2 x\n",
+    )?;
+    println!(rt; "a failed read leaves other replies than those to the lines before it: {other}")?;
+    Ok(())
+}
+
 fn main(rt: HostRuntime) -> Result<()> {
     let rows = fs::read_to_string(&rt, "rows.txt")?;
     for row in rows.lines() {
@@ -186,5 +294,5 @@ fn main(rt: HostRuntime) -> Result<()> {
     println!(rt; "reads of one byte give another text: {other}")?;
     let other = has_other_front(rt.alloc(), joined(&rt, SHORTENED)?.as_slice())?;
     println!(rt; "a proper prefix of {SHORTENED} has another status than 0 and 3: {other}")?;
-    Ok(())
+    print_prefixes(&rt)
 }

@@ -107,7 +107,7 @@ serve_limit w file quantum p f fetches reads writes takes session =
 
 pub serve_unread : (w : World) (file : Word) (quantum : ℕ) (p : NumberedProgram) → Program w file p → Fetches w → Rose w.reads_before w.reads_after
     → w.writes_after ≡ w.writes_before → TakesAtMost w.rest_before w.rest_after (SESSION_INPUT_LIMIT + 1) → TakesAtMost w.rest_before w.rest_after SESSION_INPUT_LIMIT
-    → IfSome w.rest_before (ServesTaken entry_admits (runs_of p quantum) w.taken_before w.taken_after) → EndsAs w (serve file quantum) ReadFault
+    → IfSome w.rest_before (ServesTaken entry_admits (runs_of p quantum) w.rest_after w.taken_before w.taken_after) → EndsAs w (serve file quantum) ReadFault
 serve_unread w file quantum p f fetches rose writes takes within session =
     ends_as w (serve file quantum) ReadFault
     (rose, within, (f.0, f.1, some_map w.rest_before _ _ (λ input s. record { program = p; accepted = f.2; serves = s }) session))
@@ -141,7 +141,7 @@ Is f x = IsErrOf {T = Unit {0}} {E = ServeFault} (Err f) x
 
 pub serve_stopped : (w : World) (file : Word) (quantum : ℕ) (p : NumberedProgram) (f : ServeFault) → Program w file p → Fetches w
     → (Is f fault.InputLimit → IfSome w.rest_before (ServesLimit entry_admits (runs_of p quantum) w.taken_before w.taken_after))
-    → (Is f fault.ReadFault → IfSome w.rest_before (ServesTaken entry_admits (runs_of p quantum) w.taken_before w.taken_after))
+    → (Is f fault.ReadFault → IfSome w.rest_before (ServesTaken entry_admits (runs_of p quantum) w.rest_after w.taken_before w.taken_after))
     → (Is f fault.WriteFault → Front w quantum p) → (Is f fault.OutOfMemory → Front w quantum p)
     → (Is f fault.ReadFault → Rose w.reads_before w.reads_after) → (Is f fault.ReadFault → TakesAtMost w.rest_before w.rest_after SESSION_INPUT_LIMIT)
     → (Is f fault.ReadFault) ⊎ (w.reads_after ≡ w.reads_before)

@@ -78,9 +78,9 @@ WritesSession text quantum old new input = ServesProgram text quantum (λ p. Ser
 abbrev pub WritesLimit : List ℕ → ℕ → Option (List ℕ) → Option (List ℕ) → List ℕ → Type 0
 WritesLimit text quantum old new input = ServesProgram text quantum (λ p. ServesLimit entry_admits (runs_of p quantum) old new input)
 
--- the replies to the lines that had ended when a read failed
-abbrev pub WritesTaken : List ℕ → ℕ → Option (List ℕ) → Option (List ℕ) → List ℕ → Type 0
-WritesTaken text quantum old new input = ServesProgram text quantum (λ p. ServesTaken entry_admits (runs_of p quantum) old new input)
+-- the replies to the lines that end in the bytes which were taken before a read failed, where the source has this rest then
+abbrev pub WritesTaken : List ℕ → ℕ → Option (List ℕ) → Option (List ℕ) → Option (List ℕ) → List ℕ → Type 0
+WritesTaken text quantum rest old new input = ServesProgram text quantum (λ p. ServesTaken entry_admits (runs_of p quantum) rest old new input)
 
 -- a front of the replies
 abbrev pub WritesReplies : List ℕ → ℕ → Option (List ℕ) → Option (List ℕ) → List ℕ → Type 0
@@ -120,11 +120,11 @@ FailsToFetch w (show file quantum numbers) = FetchFails w file
 FailsToFetch w (trial number) = ⊥
 
 -- ReadFault: a read failed within the limit of what is read. Nothing of `once` was written, and of `serve` the replies to the
--- lines that had ended
+-- lines that end in the bytes which were taken
 abbrev pub FailsToRead : World → Meaning → Type 0
 FailsToRead w (once quantum numbers) = Rose w.reads_before w.reads_after × TakesAtMost w.rest_before w.rest_after PROGRAM_TEXT_LIMIT × (w.taken_after ≡ w.taken_before)
 FailsToRead w (serve file quantum) = Rose w.reads_before w.reads_after × TakesAtMost w.rest_before w.rest_after SESSION_INPUT_LIMIT
-    × Fetched w.texts file (λ text. IfSome w.rest_before (WritesTaken text quantum w.taken_before w.taken_after))
+    × Fetched w.texts file (λ text. IfSome w.rest_before (WritesTaken text quantum w.rest_after w.taken_before w.taken_after))
 FailsToRead w (show file quantum numbers) = ⊥
 FailsToRead w (trial number) = ⊥
 

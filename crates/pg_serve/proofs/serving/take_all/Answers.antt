@@ -42,7 +42,8 @@ returns-in_err-must_end-clause-input_limit g c = λ x.
     limit_of _ _ _ _ _ _ _ _ _ c.if-ended.false (c.in_err-must_end.ensures.more (same_fault _ _ _ c.from_residual-in_err-must_end.ensures.1 x)) c.in_ok-ended.ensures.taken
 
 pub returns-in_err-must_end-clause-read_fault : goal.returns-in_err-must_end-clause-read_fault
-returns-in_err-must_end-clause-read_fault g c = λ _. taken_of _ _ _ _ _ _ _ _ _ c.in_ok-ended.ensures.taken
+returns-in_err-must_end-clause-read_fault g c = λ x.
+    taken_of _ _ _ _ _ _ _ _ _ _ (c.in_err-must_end.ensures.fault_takes_none (same_fault _ _ _ c.from_residual-in_err-must_end.ensures.1 x)) c.in_ok-ended.ensures.taken
 
 pub returns-in_err-must_end-clause-cut : goal.returns-in_err-must_end-clause-cut
 returns-in_err-must_end-clause-cut g c = no_faults _ _ _ _ c.from_residual-in_err-must_end.ensures.1 c.in_err-must_end.ensures.no_write c.in_err-must_end.ensures.no_memory
