@@ -17,7 +17,8 @@ use pg_intervals::{Turns, intervals};
 use pg_ir::{InstrId, Program};
 use pg_quiet::summaries;
 use pg_reference::{ReferenceRun, reference};
-use pg_slice::{Slice, slice_by_passes};
+use pg_slice::Slice;
+use pg_slice_fast::slice;
 use pg_sliceable::laws::{exiting_runs_can_be_sliced, replays_have_edges};
 use pg_trace::{Race, Schedule, Trace};
 use std::alloc::{AllocError, Global};
@@ -58,8 +59,8 @@ fn sliced(
 {
     let replay = replayed(alloc, p, input, t, gated)?;
     let intervals = intervals(alloc, t, Turns::Recorded)?;
-    let slice = slice_by_passes(alloc, p, t, intervals.as_slice(), &replay)?;
-    Ok(slice)
+    let found = slice(alloc, p, t, intervals.as_slice(), &replay)?;
+    Ok(found)
 }
 
 /// The entry of the guided run on an input along a schedule, which exits with the steps of this trace.

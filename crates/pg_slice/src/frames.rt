@@ -49,7 +49,7 @@ pub(crate) fn held(s: Source) -> Held
     ensures bytes { (ns : NodeList) (k : ℕ) → byte_in k (held_shadow ns result) ≡ byte_in k (shadow_by ns s) }
 {
     match s {
-        Source::Known(node) => Held::Known(node),
+        Source::Known { value, .. } => Held::Known(value),
         Source::Framed(_, by) | Source::Unknown(by) => Held::Unknown(by),
     }
 }
@@ -60,7 +60,10 @@ pub(crate) fn loaded(held: Held) -> Source
     ensures value { (ns : NodeList) → shadow_by ns result ≡ held_shadow ns held }
 {
     match held {
-        Held::Known(node) => Source::Known(node),
+        Held::Known(node) => Source::Known {
+            value: node,
+            frame: node,
+        },
         Held::Unknown(by) => Source::Unknown(by),
     }
 }

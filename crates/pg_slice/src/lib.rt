@@ -15,5 +15,5 @@ mod state;
 mod threads;
 
 pub use pass::{Passed, pass_over};
-pub use slice::{Slice, slice_by_passes};
+pub use slice::{Slice, slice_by_passes, sliced, take_new};
 pub use state::RunSources;

@@ -76,7 +76,7 @@ fn either(first: bool, second: bool) -> bool
 }
 
 /// Takes those decisions on the first so many steps that aren't taken, and gives whether there were such.
-fn take_new(d: &mut DecisionSet, steps: usize, missing: &[Decision]) -> bool
+pub fn take_new(d: &mut DecisionSet, steps: usize, missing: &[Decision]) -> bool
     requires { AreOf steps d.old }
     ensures size { AreOf steps d.new }
     ensures taken { (x : ADecision) → Contains missing.now x → step_of x < steps → has (taken_by d.new) x ≡ true }
@@ -94,7 +94,15 @@ fn take_new(d: &mut DecisionSet, steps: usize, missing: &[Decision]) -> bool
 }
 
 /// The decisions that are taken, with what an input must give.
-fn sliced(alloc: Global, d: &DecisionSet, precondition: Precondition) -> Result<Slice, AllocError>
+///
+/// # Errors
+///
+/// Where no memory is left.
+pub fn sliced(
+    alloc: Global,
+    d: &DecisionSet,
+    precondition: Precondition,
+) -> Result<Slice, AllocError>
     ensures same { IfOk result (λ s. (x : ADecision) → has (taken s.decisions.pinned.items s.decisions.exact.items) x ≡ has (taken_by d.now) x) }
     ensures lists { IfOk result (λ s. (s.decisions.pinned.items ≡ members_from 0 d.now.pinned.items) × (s.decisions.exact.items ≡ members_from 0 d.now.exact.items)) }
     ensures precondition { IfOk result (λ s. s.precondition ≡ precondition) }

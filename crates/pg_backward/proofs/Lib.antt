@@ -1,0 +1,14 @@
+pub mod Meets
+pub mod At
+pub mod Counting
+pub mod Stands
+pub mod Entering
+pub mod Accesses
+pub mod Happenings
+pub mod Operating
+pub mod Dispatch
+pub mod Regions
+pub mod Asking
+pub mod Following
+pub mod Lens
+pub mod Stacking

@@ -1,0 +1,15 @@
+pub mod Met
+pub mod Leaves
+pub mod Made
+pub mod Wanted
+pub mod Bytes
+pub mod Lens
+pub mod Stacks
+pub mod Counted
+pub mod Steps
+pub mod Edges
+pub mod Events
+pub mod Sets
+pub mod Arguments
+pub mod Cells
+pub mod Owed

@@ -1,0 +1,23 @@
+ghost use Rattle.std.specs.Prelude.{◌≡◌, IfSome};
+ghost use Rattle.pg_reference.specs.Kept.{landmark_at};
+
+use pg_reference::ReferenceRun;
+use pg_trace::Step;
+
+/// A call of a thread, by how many calls the thread has with it on top.
+#[derive(Clone, Copy)]
+pub struct Call {
+    pub thread: u8,
+    pub depth: u32,
+}
+
+/// The call that does a step.
+pub(crate) fn call_of(r: &ReferenceRun, step: &Step, n: usize) -> Call
+    ensures thread { result.thread ≡ step.now.thread.0 }
+    ensures depth { IfSome (landmark_at r.now n) (λ l. result.depth ≡ l.depth) }
+{
+    Call {
+        thread: step.thread.0,
+        depth: r.depth(n),
+    }
+}

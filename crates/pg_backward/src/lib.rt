@@ -1,0 +1,22 @@
+//! Back over one live step of a run: what has to be known behind it makes what has to be known before it.
+#![tactic(auto)]
+
+mod access;
+mod arguments;
+mod bytes;
+mod call;
+mod counts;
+mod event;
+mod live;
+mod moves;
+mod operations;
+mod own;
+mod paths;
+mod phis;
+mod region;
+mod registers;
+
+pub use call::Call;
+pub use live::back_live;
+pub use region::sets_any;
+pub use registers::{Counts, register_counts};

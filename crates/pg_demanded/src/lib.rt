@@ -1,0 +1,7 @@
+//! What has to be known at a moment of a run: registers of the calls of threads, whole or by their frames alone, and bytes.
+#![tactic(auto)]
+
+mod demanded;
+mod places;
+
+pub use demanded::Demanded;

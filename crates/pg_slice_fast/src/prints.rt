@@ -1,0 +1,159 @@
+//! Whether the bytes that steps may access meet.
+ghost use Rattle.std.specs.Prelude.{◌≡◌, ◌<◌, ◌≤◌, ◌+◌, ◌++◌, true, IfSome};
+ghost use Rattle.std.specs.List.{list_any};
+ghost use Rattle.pg_closed.specs.Freeable.{frame_of};
+ghost use Rattle.pg_closed.specs.Rules.{any_conflict, footprints_conflict, print_of, prints_in};
+ghost use Rattle.pg_reference.specs.Kept.{landmark_at, step_count};
+ghost use Rattle.pg_stamps.specs.declared.stamps.TheConstants.{PLACE_COUNT};
+ghost use Rattle.pg_trace.specs.Steps.{access_of};
+ghost use Rattle.pg_slice_fast.specs.Prints.{footprint_of};
+
+use pg_num::layout::GRANULE_BYTES;
+use pg_num::unpack;
+use pg_reference::ReferenceRun;
+use pg_trace::Step;
+
+/// The frame of a pointer, and whether it may be written.
+#[derive(Clone, Copy)]
+pub struct Print {
+    pub word: u64,
+    pub writes: bool,
+}
+
+/// The bytes of a frame: the first one, and how many there are.
+#[derive(Clone, Copy)]
+struct FrameBytes {
+    start: u64,
+    bytes: u64,
+}
+
+/// The frame of a pointer.
+fn frame(word: u64) -> FrameBytes
+    ensures start { result.start ≡ (frame_of word).start }
+    ensures bytes { result.bytes ≡ (frame_of word).bytes }
+    ensures within { result.start + result.bytes ≤ PLACE_COUNT }
+{
+    let pointer = unpack(word);
+    FrameBytes {
+        start: GRANULE_BYTES as u64 * pointer.start as u64,
+        bytes: pointer.length as u64,
+    }
+}
+
+/// Whether frames meet, and one of them may be written.
+fn meet(a: Print, b: Print) -> bool
+    ensures { result ≡ footprints_conflict (footprint_of a) (footprint_of b) }
+{
+    let one = frame(a.word);
+    let other = frame(b.word);
+    let start = one.start.max(other.start);
+    (a.writes || b.writes) && (start < one.start + one.bytes && start < other.start + other.bytes)
+}
+
+/// Whether a frame meets that of a step's access, if it has one.
+fn meets_access(a: Print, y: &Step) -> bool
+    ensures { result ≡ list_any (footprints_conflict (footprint_of a)) (print_of (access_of y.now)) }
+{
+    match y.access() {
+        Some(access) => meet(
+            a,
+            Print {
+                word: access.pointer,
+                writes: access.writes,
+            },
+        ),
+        None => false,
+    }
+}
+
+/// Whether a frame meets that of the access with this number of a freeable step's region, if there is one.
+fn meets_one(a: Print, r: &ReferenceRun, y: usize, k: usize) -> bool
+    ensures { IfSome (landmark_at r.now y) (λ l. IfSome l.region (λ f. result ≡ true → list_any (footprints_conflict (footprint_of a)) (prints_in l.region) ≡ true)) }
+{
+    match r.access(y, k) {
+        Some(access) => meet(
+            a,
+            Print {
+                word: access.last,
+                writes: access.writes,
+            },
+        ),
+        None => false,
+    }
+}
+
+/// Whether a frame meets one of a freeable step's region.
+fn meets_region(a: Print, r: &ReferenceRun, y: usize) -> bool
+    requires { y < step_count r.now }
+    ensures { IfSome (landmark_at r.now y) (λ l. result ≡ true → list_any (footprints_conflict (footprint_of a)) (prints_in l.region) ≡ true) }
+{
+    if !r.is_free(y) {
+        return false;
+    }
+    for k in 0..r.access_count(y) {
+        if meets_one(a, r, y, k) {
+            return true;
+        }
+    }
+    false
+}
+
+/// Whether a frame meets one of a live step.
+fn meets_step(a: Print, r: &ReferenceRun, step: &Step, y: usize) -> bool
+    requires { y < step_count r.now }
+    ensures { IfSome (landmark_at r.now y) (λ l. result ≡ true → list_any (footprints_conflict (footprint_of a)) (print_of (access_of step.now) ++ prints_in l.region) ≡ true) }
+{
+    meets_access(a, step) || meets_region(a, r, y)
+}
+
+/// Whether the frame of the access with this number of a freeable step's region, if there is one, meets one of a live step.
+fn one_meets(r: &ReferenceRun, n: usize, k: usize, step: &Step, y: usize) -> bool
+    requires { y < step_count r.now }
+    ensures { IfSome (landmark_at r.now n) (λ l. IfSome l.region (λ f. IfSome (landmark_at r.now y) (λ q. result ≡ true → any_conflict (prints_in l.region) (print_of (access_of step.now) ++ prints_in q.region) ≡ true))) }
+{
+    match r.access(n, k) {
+        Some(access) => meets_step(
+            Print {
+                word: access.last,
+                writes: access.writes,
+            },
+            r,
+            step,
+            y,
+        ),
+        None => false,
+    }
+}
+
+/// Whether a frame of a freeable step's region meets one of a live step.
+pub(crate) fn region_meets(r: &ReferenceRun, n: usize, step: &Step, y: usize) -> bool
+    requires number { n < step_count r.now }
+    requires other { y < step_count r.now }
+    ensures { IfSome (landmark_at r.now n) (λ l. IfSome (landmark_at r.now y) (λ q. result ≡ true → any_conflict (prints_in l.region) (print_of (access_of step.now) ++ prints_in q.region) ≡ true)) }
+{
+    if !r.is_free(n) {
+        return false;
+    }
+    for k in 0..r.access_count(n) {
+        if one_meets(r, n, k, step, y) {
+            return true;
+        }
+    }
+    false
+}
+
+/// Whether the frames of two steps' accesses meet, if they have some.
+pub(crate) fn accesses_meet(x: &Step, y: &Step) -> bool
+    ensures { result ≡ any_conflict (print_of (access_of x.now)) (print_of (access_of y.now)) }
+{
+    match x.access() {
+        Some(access) => meets_access(
+            Print {
+                word: access.pointer,
+                writes: access.writes,
+            },
+            y,
+        ),
+        None => false,
+    }
+}

@@ -1,0 +1,10 @@
+pub mod At
+pub mod Moments
+pub mod Chained
+pub mod Pinned
+pub mod Setting
+pub mod Inside
+pub mod Skipped
+pub mod Pins
+pub mod Settling
+pub mod Along

@@ -1,0 +1,37 @@
+use Rattle.std.proofs.Common.{◌≡◌, ℕ, true, refl, subst, inl, inr, ◌⊎◌}
+use Rattle.pg_backward.specs.declared.registers.Counts.{Counts}
+use Rattle.pg_closed.specs.declared.decision.Decision.{Decision}
+use Rattle.pg_closed.specs.declared.decision.Decision.TheVariants.{Pinned}
+use Rattle.pg_closed.specs.Known.{Taken, has}
+use Rattle.pg_closed.specs.Closed.{AreWithin}
+use Rattle.pg_reference.specs.Kept.{landmark_at}
+use Rattle.pg_walk.specs.Sets.{SetsAt}
+use Rattle.pg_walk.proofs.Setting.{less_itself, less_then, passes_by, sets_less, small_at}
+use Rattle.pg_walk.proofs.walk.decide.Goals as goal
+
+pub returns-then-is_pinned-clause-less : goal.returns-then-is_pinned-clause-less
+returns-then-is_pinned-clause-less c = less_itself c.args.w.now
+
+pub returns-then-sets_any-clause-owed : goal.returns-then-sets_any-clause-owed
+returns-then-sets_any-clause-owed c = λ e f k within. λ x h.
+    let t = c.args.thread in
+    let b = c.args.b in
+    let r = c.args.r.now in
+    let s = c.sets_any.ensures.some c.if-sets_any.true c.counts_at.result.present
+    (small_at c.leave_missing.new.w t c.depth-depth.result c.counts_at.result.present (landmark_at r b) c.depth-depth.ensures.depth c.leave_missing.ensures.there) in
+    let a = sets_less r b t c.counts_at.result.present c.args.w.now c.leave_missing.new.w c.leave_missing.ensures.less s in
+    by_take e x b within (c.take.ensures.only x h) (f k.0 k.1 (subst (λ (z : Counts). SetsAt r b t z.present c.args.w.now) (c.counts_at.ensures k.0 k.1) a))
+  where
+    by_take : {d : Taken} (e : Taken) (x : Decision) (b : ℕ) → AreWithin d e → (has d x ≡ true) ⊎ (Pinned b ≡ x) → e.pinned b ≡ true → has e x ≡ true
+    by_take e x b w (inl q) p = w x q
+    by_take e x b w (inr q) p = subst (λ (z : Decision). has e z ≡ true) q p
+
+pub returns-clause-less : goal.returns-clause-less
+returns-clause-less c = less_then c.args.w.now c.leave_missing.new.w c.clear_above.new.self c.leave_missing.ensures.less
+    (record { registers = λ u j i v a. (c.clear_above.ensures.registers u j i v a).0; bytes = c.clear_above.ensures.bytes })
+
+pub returns-clause-passes : goal.returns-clause-passes
+returns-clause-passes c = λ q. passes_by c.args.r.now c.args.b c.args.thread c.depth-depth.result c.leave_missing.new.w c.clear_above.new.self c.depth-depth.ensures.depth
+    (record { registers = λ u j i v a. (c.clear_above.ensures.registers u j i v a).0; bytes = c.clear_above.ensures.bytes })
+    (λ j i v a g. (c.clear_above.ensures.registers c.args.thread j i v a).1 refl g)
+    (c.sets_any.ensures.none c.if-sets_any.false)

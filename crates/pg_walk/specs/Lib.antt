@@ -1,0 +1,4 @@
+pub mod Chains
+pub mod Settled
+pub mod Sets
+pub mod Walks

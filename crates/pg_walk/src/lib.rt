@@ -1,0 +1,11 @@
+//! A walk from the end of a reference run back: what has to be known before each step makes decisions that each closed set
+//! above the present ones has.
+#![tactic(auto)]
+
+pub mod extents;
+pub mod holders;
+pub mod marks;
+mod sets;
+mod walk;
+
+pub use walk::widen;

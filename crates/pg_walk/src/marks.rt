@@ -1,0 +1,34 @@
+//! Marks of steps.
+ghost use Rattle.std.specs.Prelude.{◌≡◌, ◌⊎◌, ℕ, true, false, IfOk, replicate, slice_index_or};
+
+use std::alloc::{AllocError, Global};
+
+/// Whether a mark is set; not where there is none.
+pub fn mark_at(marks: &[bool], n: usize) -> bool
+    ensures { result ≡ slice_index_or marks.now n false }
+{
+    match marks.get(n) {
+        Some(mark) => *mark,
+        None => false,
+    }
+}
+
+/// Sets a mark, if there is one.
+pub fn set_mark(marks: &mut Vec<bool>, n: usize)
+    ensures { (i : ℕ) → slice_index_or marks.new.items i false ≡ true → (slice_index_or marks.old.items i false ≡ true) ⊎ (i ≡ n) }
+{
+    if n < marks.len() {
+        marks[n] = true;
+    }
+}
+
+/// Marks that aren't set.
+///
+/// # Errors
+///
+/// Where no memory is left.
+pub fn no_marks(alloc: Global, count: usize) -> Result<Vec<bool>, AllocError>
+    ensures { IfOk result (λ v. v.items ≡ replicate count false) }
+{
+    vec![in alloc; false; count]
+}
