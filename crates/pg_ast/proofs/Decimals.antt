@@ -1,5 +1,5 @@
 -- Decimal digits without leading zeros: the digits of a number, of one more, and which of two is less.
-use Rattle.std.proofs.Common.{◌≡◌, ℕ, zero, suc, ◌+◌, ◌-◌, ◌*◌, ◌/◌, ◌%◌, ◌<◌, ◌≤◌, List, [], ◌∷◌, ◌++◌, length, map, take, drop, get_or, replicate, max, refl, sym, ap, subst, ◌∙◌, arith, append_assoc, append-nil, length-drop, length-append, Bool, true, false, ◌&&◌, ◌||◌, not, ◌==◌, nat_lt, nat_le, ◌⊎◌, inl, inr, codes, if◌then◌else◌}
+use Rattle.std.proofs.Common.{◌≡◌, ℕ, zero, suc, ◌+◌, ◌-◌, ◌*◌, ◌/◌, ◌%◌, ◌<◌, ◌≤◌, List, [], ◌∷◌, ◌++◌, length, map, take, drop, get_or, replicate, max, refl, sym, ap, subst, ◌∙◌, arith, append_assoc, append-nil, length-drop, length-append, Bool, true, false, ◌&&◌, ◌||◌, ◌==◌, nat_lt, codes, if◌then◌else◌}
 use Rattle.std.specs.List.{list_all}
 use Rattle.std.proofs.lemmas.List.{map-append, take_more, take_all}
 use Rattle.std.proofs.lemmas.List.Folds.{list_all-append}

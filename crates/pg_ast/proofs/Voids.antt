@@ -1,8 +1,6 @@
 -- Looking up the names of types.
-use Rattle.std.proofs.Common.{◌≡◌, ℕ, zero, suc, ◌+◌, ◌-◌, ◌<◌, ◌≤◌, Bool, true, false, List, [], ◌∷◌, length, map, drop, get_or, refl, sym, ap, ◌∙◌, arith, Option, Some, None, slice_get, if◌then◌else◌}
-use Rattle.std.specs.Option.{option_map}
+use Rattle.std.proofs.Common.{◌≡◌, ℕ, zero, suc, ◌+◌, ◌-◌, ◌<◌, ◌≤◌, true, false, List, [], ◌∷◌, length, map, drop, get_or, refl, sym, ap, ◌∙◌, arith, Some, None, if◌then◌else◌}
 use Rattle.std.specs.Str.{bytes_eq}
-use Rattle.std.proofs.Math.Numerals.{add-one}
 use Rattle.pg_ast.specs.declared.nodes.TypeItem.{TypeItem}
 use Rattle.pg_ast.specs.declared.names.Name.{Name}
 use Rattle.pg_ast.specs.Syntax.{Ty}

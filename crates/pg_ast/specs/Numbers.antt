@@ -4,7 +4,9 @@ use Rattle.std.specs.Int.Digits.{digits_of}
 use Rattle.std.specs.Str.{bytes_eq}
 use Rattle.pg_num.specs.Decimal.{are_digits, natural_of}
 use Rattle.pg_ast.specs.declared.names.Name.{Name}
-use Rattle.pg_ast.specs.Syntax.{Ty, Void, Named, Op, Binary, Icmp, Cast, Select, Phi, Br, CondBr, Switch, Call, RetVoid, Ret, Unreachable, Alloca, Load, Store, GetElementPtr, Line, Block, Param, NamedType, Definition, Tree}
+use Rattle.pg_ast.specs.Syntax.{Ty, Void, Named, Op, Binary, Icmp, Cast, Select, Phi, Br, CondBr, Switch, Call}
+use Rattle.pg_ast.specs.Syntax.{RetVoid, Ret, Unreachable, Alloca, Load, Store, GetElementPtr, Line, Block, Param}
+use Rattle.pg_ast.specs.Syntax.{NamedType, Definition, Tree}
 use Rattle.pg_ast.specs.Text.{tree_text}
 
 -- the decimal digits of a number, none for 0

@@ -1,5 +1,6 @@
 -- Canonical text: one item a line, a label a line, an instruction a line, indented by two blanks.
-use Rattle.std.specs.Prelude.{ℕ, List, [], ◌∷◌, ◌++◌, Option, Some, None, Bool, true, false, ◌||◌, ◌&&◌, ◌==◌, not, nat_lt, nat_le, if◌then◌else◌, flat_map, codes, ◌+◌, ◌/◌, ◌%◌}
+use Rattle.std.specs.Prelude.{ℕ, List, [], ◌∷◌, ◌++◌, Option, Some, None, Bool, true, false, ◌||◌, ◌&&◌, ◌==◌, not}
+use Rattle.std.specs.Prelude.{nat_lt, nat_le, if◌then◌else◌, flat_map, codes, ◌+◌, ◌/◌, ◌%◌}
 use Rattle.std.specs.List.{list_all, join_by}
 use Rattle.pg_lex.specs.Bytes.{is_name_byte}
 use Rattle.pg_ast.specs.declared.names.Name.{Name}
@@ -10,7 +11,13 @@ use Rattle.pg_ast.specs.declared.ops.Predicate.{Predicate}
 use Rattle.pg_ast.specs.declared.ops.Predicate.TheVariants.{Eq, Ne, Ugt, Uge, Ult, Ule, Sgt, Sge, Slt, Sle}
 use Rattle.pg_ast.specs.declared.ops.CastOp.{CastOp}
 use Rattle.pg_ast.specs.declared.ops.CastOp.TheVariants.{Trunc, Zext, Sext, PtrToInt, IntToPtr}
-use Rattle.pg_ast.specs.Syntax.{Ty, Tys, I1, I8, I16, I32, I64, Ptr, Void, Array, Struct, Named, NoTys, MoreTys, Val, Vals, Int, True, False, Null, Undef, Poison, ZeroInitializer, Local, Global, GepVal, IntToPtrVal, NoVals, MoreVals, Typed, Const, TypedC, Consts, ValConst, BytesConst, ArrayConst, StructConst, NoConsts, MoreConsts, Incoming, Case, Written, Count, Op, Binary, Icmp, Cast, Select, Phi, Br, CondBr, Switch, Call, RetVoid, Ret, Unreachable, Alloca, Load, Store, GetElementPtr, Line, Block, Param, Dparam, ParamOf, Metadata, Dots, NamedType, Variable, Declaration, Definition, Tree}
+use Rattle.pg_ast.specs.Syntax.{Ty, Tys, I1, I8, I16, I32, I64, Ptr, Void, Array, Struct, Named, NoTys, MoreTys, Val}
+use Rattle.pg_ast.specs.Syntax.{Vals, Int, True, False, Null, Undef, Poison, ZeroInitializer, Local, Global, GepVal}
+use Rattle.pg_ast.specs.Syntax.{IntToPtrVal, NoVals, MoreVals, Typed, Const, TypedC, Consts, ValConst, BytesConst}
+use Rattle.pg_ast.specs.Syntax.{ArrayConst, StructConst, NoConsts, MoreConsts, Incoming, Case, Written, Count, Op}
+use Rattle.pg_ast.specs.Syntax.{Binary, Icmp, Cast, Select, Phi, Br, CondBr, Switch, Call, RetVoid, Ret, Unreachable}
+use Rattle.pg_ast.specs.Syntax.{Alloca, Load, Store, GetElementPtr, Line, Block, Param, Dparam, ParamOf, Metadata}
+use Rattle.pg_ast.specs.Syntax.{Dots, NamedType, Variable, Declaration, Definition, Tree}
 
 -- one of 0 to 9 and A to F
 abbrev pub hexadecimal : ℕ → ℕ

@@ -79,30 +79,102 @@ pub struct CountNode {
     pub count: Literal,
 }
 
-/// An instruction. Its span is that of its first token.
+/// An instruction. Its `span` is that of its first token.
 #[derive(Debug, Drop)]
 pub enum OpNode {
-    Binary(Span, BinaryOp, TypeNode, ValNode, ValNode),
-    Icmp(Span, Predicate, TypeNode, ValNode, ValNode),
-    Cast(Span, CastOp, TypedVal, TypeNode),
-    Select(Span, TypedVal, TypedVal, TypedVal),
-    /// The type, the first value, and the others.
-    Phi(Span, TypeNode, IncomingNode, Vec<IncomingNode>),
-    Br(Span, Name),
-    CondBr(Span, TypedVal, Name, Name),
-    /// The value, the block of all other values, and the cases.
-    Switch(Span, TypedVal, Name, Vec<CaseNode>),
-    /// The result type, the written types, the callee, and the arguments.
-    Call(Span, TypeNode, Option<CallTypes>, Name, Vec<ArgNode>),
-    /// A return without a value, and the place of its `void`.
-    RetVoid(Span, Span),
-    Ret(Span, TypedVal),
-    Unreachable(Span),
-    Alloca(Span, TypeNode, Option<CountNode>),
-    /// The type that is loaded, and the pointer.
-    Load(Span, TypeNode, TypedVal),
-    /// The value that is stored, and the pointer.
-    Store(Span, TypedVal, TypedVal),
-    /// The type that the indices walk, the pointer, and the indices.
-    GetElementPtr(Span, TypeNode, TypedVal, Vec<TypedVal>),
+    Binary {
+        span: Span,
+        op: BinaryOp,
+        ty: TypeNode,
+        left: ValNode,
+        right: ValNode,
+    },
+    Icmp {
+        span: Span,
+        predicate: Predicate,
+        ty: TypeNode,
+        left: ValNode,
+        right: ValNode,
+    },
+    /// `ty` is the type to which the value is converted.
+    Cast {
+        span: Span,
+        op: CastOp,
+        value: TypedVal,
+        ty: TypeNode,
+    },
+    Select {
+        span: Span,
+        condition: TypedVal,
+        yes: TypedVal,
+        no: TypedVal,
+    },
+    /// The values stand at the type `ty`; there is at least one.
+    Phi {
+        span: Span,
+        ty: TypeNode,
+        first: IncomingNode,
+        others: Vec<IncomingNode>,
+    },
+    Br {
+        span: Span,
+        block: Name,
+    },
+    CondBr {
+        span: Span,
+        condition: TypedVal,
+        yes: Name,
+        no: Name,
+    },
+    /// `other` is the block of each value that has no case.
+    Switch {
+        span: Span,
+        value: TypedVal,
+        other: Name,
+        cases: Vec<CaseNode>,
+    },
+    /// `ty` is the type of the result, and `written` what is written of the callee's parameters.
+    Call {
+        span: Span,
+        ty: TypeNode,
+        written: Option<CallTypes>,
+        callee: Name,
+        arguments: Vec<ArgNode>,
+    },
+    /// A return without a value; `void` is the place of that word.
+    RetVoid {
+        span: Span,
+        void: Span,
+    },
+    Ret {
+        span: Span,
+        value: TypedVal,
+    },
+    Unreachable {
+        span: Span,
+    },
+    /// One element of the type `ty`, or as many as `count` says.
+    Alloca {
+        span: Span,
+        ty: TypeNode,
+        count: Option<CountNode>,
+    },
+    /// `ty` is the type that is loaded.
+    Load {
+        span: Span,
+        ty: TypeNode,
+        pointer: TypedVal,
+    },
+    Store {
+        span: Span,
+        value: TypedVal,
+        pointer: TypedVal,
+    },
+    /// `ty` is the type that the indices walk.
+    GetElementPtr {
+        span: Span,
+        ty: TypeNode,
+        pointer: TypedVal,
+        indices: Vec<TypedVal>,
+    },
 }

@@ -11,9 +11,9 @@ use Rattle.pg_rules.specs.TypeConditions.{any_large}
 use Rattle.pg_rules.specs.ValueConditions.{Scope}
 use Rattle.pg_rules.specs.LineConditions.{line_refused, line_types}
 use Rattle.pg_rules.specs.BlockConditions.{bad_phis}
-use Rattle.pg_rules.specs.Conditions.{Part, at_if, all_of, own_names, body_names, is_unfinished, is_too_large}
+use Rattle.pg_rules.specs.Conditions.{RefusedPlaces, at_if, all_of, own_names, body_names, is_unfinished, is_too_large}
 
-abbrev pub block_refused : Scope → Block → Part
+abbrev pub block_refused : Scope → Block → RefusedPlaces
 block_refused g b = all_of (line_refused g) b.lines
 
 abbrev pub is_large_line : List NamedType → Line → Bool
@@ -23,7 +23,7 @@ abbrev pub is_large_block : List NamedType → Block → Bool
 is_large_block types b = list_any (is_large_line types) b.lines
 
 -- what the body is refused for as a whole, its lines aside
-abbrev pub whole_refused : Tree → ℕ → Definition → Part
+abbrev pub whole_refused : Tree → ℕ → Definition → RefusedPlaces
 whole_refused m lines d Doubled = flat_map (doubled (own_names m.types d)) (body_names m.types d)
 whole_refused m lines d NoBlock = at_if (is_unfinished d) d.name.span
 whole_refused m lines d BadPhi = flat_map (λ (b : ℕ × Block). bad_phis (labels_of d) d.blocks b.0 b.1) (enumerate_from 0 d.blocks)

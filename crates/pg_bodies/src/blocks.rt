@@ -1,14 +1,14 @@
 //! The blocks of a body with their names, and the `phi` lines for which they are refused.
 
 ghost use Rattle.std.specs.Prelude.{◌≡◌, IfOk, List, ℕ, map, length, Some};
-ghost use Rattle.std.specs.List.{flat_map, list_any, enumerate_from};
+ghost use Rattle.std.specs.List.{flat_map, enumerate_from};
 ghost use Rattle.pg_ast.specs.declared.names.Name as pg_name;
 ghost use Rattle.pg_ast.specs.Syntax.{Block};
 ghost use Rattle.pg_types.specs.NameIndex.{known_place};
 ghost use Rattle.pg_rules.specs.Earliest.{earliest};
 ghost use Rattle.pg_rules.specs.Names.{label_number};
 ghost use Rattle.pg_rules.specs.BlockConditions.{wrong_sources, predecessors, bad_phis};
-ghost use Rattle.pg_bodies.specs.BodyBlocks.{bare_node, bare_blocks, named_block};
+ghost use Rattle.pg_bodies.specs.BodyBlocks.{bare_blocks, named_block};
 
 use crate::name_index::index_references;
 use crate::phis::{all_wrong_sources, first_block_phi, late_phi, phi_words};

@@ -16,12 +16,12 @@ fn is_ending(op: &OpNode) -> bool
     ensures { result ≡ is_ending (op_of op.now) }
 {
     match op {
-        OpNode::Br(_, _) => true,
-        OpNode::CondBr(_, _, _, _) => true,
-        OpNode::Switch(_, _, _, _) => true,
-        OpNode::RetVoid(_, _) => true,
-        OpNode::Ret(_, _) => true,
-        OpNode::Unreachable(_) => true,
+        OpNode::Br { .. } => true,
+        OpNode::CondBr { .. } => true,
+        OpNode::Switch { .. } => true,
+        OpNode::RetVoid { .. } => true,
+        OpNode::Ret { .. } => true,
+        OpNode::Unreachable { .. } => true,
         _ => false,
     }
 }

@@ -24,7 +24,7 @@ fn is_phi(op: &OpNode) -> bool
     ensures { result ≡ is_phi_op (op_of op.now) }
 {
     match op {
-        OpNode::Phi(_, _, _, _) => true,
+        OpNode::Phi { .. } => true,
         _ => false,
     }
 }
@@ -34,7 +34,7 @@ fn phi_word(op: &OpNode) -> Option<Span>
     ensures { result ≡ earliest (phi_word (op_of op.now)) }
 {
     match op {
-        OpNode::Phi(span, _, _, _) => Some(*span),
+        OpNode::Phi { span, .. } => Some(*span),
         _ => None,
     }
 }
@@ -107,7 +107,7 @@ fn sources<'a>(alloc: Global, op: &'a OpNode) -> Result<Vec<&'a Name>, AllocErro
     ensures { IfOk result (λ v. names_behind v.items ≡ label_sources (op_of op.now)) }
 {
     match op {
-        OpNode::Phi(_, _, first, others) => phi_sources(alloc, first, others.as_slice()),
+        OpNode::Phi { first, others, .. } => phi_sources(alloc, first, others.as_slice()),
         _ => Ok(Vec::new(alloc)),
     }
 }

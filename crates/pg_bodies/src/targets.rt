@@ -43,9 +43,9 @@ fn op_goes_to(op: &OpNode, text: &[u8]) -> bool
     ensures { result ≡ has_text (label_targets (op_of op.now)) text.now }
 {
     match op {
-        OpNode::Br(_, to) => is_called(to, text),
-        OpNode::CondBr(_, _, yes, no) => either(is_called(yes, text), is_called(no, text)),
-        OpNode::Switch(_, _, other, cases) => {
+        OpNode::Br { block, .. } => is_called(block, text),
+        OpNode::CondBr { yes, no, .. } => either(is_called(yes, text), is_called(no, text)),
+        OpNode::Switch { other, cases, .. } => {
             either(is_called(other, text), cases_go_to(cases.as_slice(), text))
         }
         _ => false,

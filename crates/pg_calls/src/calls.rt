@@ -37,7 +37,7 @@ pub fn unknown_callee(scope: &LineScope<'_>, op: &OpNode) -> Option<Span>
     ensures { (g : Scope) → IsLineScope scope.now g → result ≡ earliest (unknown_callee g (op_of op.now)) }
 {
     match op {
-        OpNode::Call(_, _, _, name, _) => unknown_name(scope, name),
+        OpNode::Call { callee, .. } => unknown_name(scope, callee),
         _ => None,
     }
 }
@@ -48,7 +48,7 @@ pub fn unsupported_callee(scope: &LineScope<'_>, op: &OpNode) -> Option<Span>
     ensures { (g : Scope) → IsLineScope scope.now g → result ≡ earliest (unsupported_callee g (op_of op.now)) }
 {
     match op {
-        OpNode::Call(_, _, _, name, _) => unsupported_name(scope, name),
+        OpNode::Call { callee, .. } => unsupported_name(scope, callee),
         _ => None,
     }
 }
@@ -302,7 +302,8 @@ fn wrong_call_of(
     name: &Name,
     arguments: &[TypedVal],
 ) -> Result<Option<Span>, AllocError>
-    ensures place { IfOk result (λ o. o ≡ earliest (wrong_call_of (named_types types.old) (symbol_of symbol.entry) (ty_of ty.now) (option_map written_of written.now) name.now (map typed_of arguments.now))) }
+    ensures place { IfOk result (λ o. o ≡ earliest (wrong_call_of (named_types types.old) (symbol_of symbol.entry) (ty_of ty.now)
+        (option_map written_of written.now) name.now (map typed_of arguments.now))) }
     ensures items { types.new.items ≡ types.old.items }
 {
     let header = header_of(alloc, symbol)?;
@@ -325,15 +326,21 @@ pub fn wrong_call(
     ensures items { types.new.items ≡ types.old.items }
 {
     match op {
-        OpNode::Call(_, ty, written, name, arguments) => {
-            let symbol = symbol_named(scope, name);
+        OpNode::Call {
+            ty,
+            written,
+            callee,
+            arguments,
+            ..
+        } => {
+            let symbol = symbol_named(scope, callee);
             wrong_call_of(
                 alloc,
                 types,
                 symbol,
                 ty,
                 written,
-                name,
+                callee,
                 arguments.as_slice(),
             )
         }
@@ -385,12 +392,17 @@ pub fn call_demands(
     types: &mut TypeNumbers<'_>,
     op: &OpNode,
 ) -> Result<Option<Span>, AllocError>
-    ensures place { (g : Scope) → IsLineScope scope.now g → g.tree.types ≡ named_types types.old → IfOk result (λ o. o ≡ earliest (flat_map (unmet g.tree.types) (call_demands g (op_of op.now)))) }
+    ensures place { (g : Scope) → IsLineScope scope.now g → g.tree.types ≡ named_types types.old →
+        IfOk result (λ o. o ≡ earliest (flat_map (unmet g.tree.types) (call_demands g (op_of op.now)))) }
     ensures items { types.new.items ≡ types.old.items }
 {
     match op {
-        OpNode::Call(_, _, _, name, arguments) => {
-            let symbol = symbol_named(scope, name);
+        OpNode::Call {
+            callee,
+            arguments,
+            ..
+        } => {
+            let symbol = symbol_named(scope, callee);
             call_demands_of(alloc, types, symbol, arguments.as_slice())
         }
         _ => Ok(None),

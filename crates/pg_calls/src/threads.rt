@@ -64,7 +64,7 @@ pub fn thread_argument(scope: &LineScope<'_>, op: &OpNode) -> Option<usize>
     ensures { (g : Scope) → IsLineScope scope.now g → value_operands g (op_of op.now) ≡ left_out result (operands (op_of op.now)) }
 {
     match op {
-        OpNode::Call(_, _, _, name, _) => create_argument(scope, name),
+        OpNode::Call { callee, .. } => create_argument(scope, callee),
         _ => None,
     }
 }
@@ -100,7 +100,11 @@ fn thread_function<'a>(scope: &LineScope<'_>, op: &'a OpNode) -> Option<&'a ValN
     ensures { (g : Scope) → IsLineScope scope.now g → value_behind result ≡ thread_functions g (op_of op.now) }
 {
     match op {
-        OpNode::Call(_, _, _, name, arguments) => begun_by(scope, name, arguments.as_slice()),
+        OpNode::Call {
+            callee,
+            arguments,
+            ..
+        } => begun_by(scope, callee, arguments.as_slice()),
         _ => None,
     }
 }
@@ -250,7 +254,8 @@ pub fn wrong_thread(
     types: &mut TypeNumbers<'_>,
     op: &OpNode,
 ) -> Result<Option<Span>, AllocError>
-    ensures place { (g : Scope) → IsLineScope scope.now g → g.tree.types ≡ named_types types.old → IfOk result (λ o. o ≡ earliest (flat_map (wrong_thread g) (thread_functions g (op_of op.now)))) }
+    ensures place { (g : Scope) → IsLineScope scope.now g → g.tree.types ≡ named_types types.old →
+        IfOk result (λ o. o ≡ earliest (flat_map (wrong_thread g) (thread_functions g (op_of op.now)))) }
     ensures items { types.new.items ≡ types.old.items }
 {
     match thread_function(scope, op) {

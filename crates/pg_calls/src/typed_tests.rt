@@ -83,7 +83,8 @@ pub fn unmet_same(
     expected: &TypedVal,
     value: &TypedVal,
 ) -> Result<Option<Span>, AllocError>
-    ensures place { IfOk result (λ o. o ≡ earliest (flat_map (unmet (named_types types.old)) (asks_typed (is_as (resolved (named_types types.old) (typed_of expected.now).ty)) (typed_of value.now) ∷ []))) }
+    ensures place { IfOk result (λ o. o ≡ earliest (flat_map (unmet (named_types types.old))
+        (asks_typed (is_as (resolved (named_types types.old) (typed_of expected.now).ty)) (typed_of value.now) ∷ []))) }
     ensures items { types.new.items ≡ types.old.items }
 {
     unmet_like(types, expected, value)

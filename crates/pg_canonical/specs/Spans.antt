@@ -3,7 +3,13 @@ use Rattle.std.specs.Prelude.{map, Option, Some, None}
 use Rattle.pg_lex.specs.declared.token.Span.{Span}
 use Rattle.pg_ast.specs.declared.names.Name.{Name}
 use Rattle.pg_ast.specs.declared.names.Literal.{Literal}
-use Rattle.pg_ast.specs.Syntax.{Ty, Tys, I1, I8, I16, I32, I64, Ptr, Void, Array, Struct, Named, NoTys, MoreTys, Val, Vals, Int, True, False, Null, Undef, Poison, ZeroInitializer, Local, Global, GepVal, IntToPtrVal, NoVals, MoreVals, Typed, Const, Consts, ValConst, BytesConst, ArrayConst, StructConst, NoConsts, MoreConsts, Incoming, Case, Written, Count, Op, Binary, Icmp, Cast, Select, Phi, Br, CondBr, Switch, Call, RetVoid, Ret, Unreachable, Alloca, Load, Store, GetElementPtr, Line, Block, Param, Dparam, ParamOf, Metadata, Dots, NamedType, Variable, Declaration, Definition, Tree}
+use Rattle.pg_ast.specs.Syntax.{Ty, Tys, I1, I8, I16, I32, I64, Ptr, Void, Array, Struct, Named, NoTys, MoreTys, Val}
+use Rattle.pg_ast.specs.Syntax.{Vals, Int, True, False, Null, Undef, Poison, ZeroInitializer, Local, Global, GepVal}
+use Rattle.pg_ast.specs.Syntax.{IntToPtrVal, NoVals, MoreVals, Typed, Const, Consts, ValConst, BytesConst, ArrayConst}
+use Rattle.pg_ast.specs.Syntax.{StructConst, NoConsts, MoreConsts, Incoming, Case, Written, Count, Op, Binary, Icmp}
+use Rattle.pg_ast.specs.Syntax.{Cast, Select, Phi, Br, CondBr, Switch, Call, RetVoid, Ret, Unreachable, Alloca, Load}
+use Rattle.pg_ast.specs.Syntax.{Store, GetElementPtr, Line, Block, Param, Dparam, ParamOf, Metadata, Dots, NamedType}
+use Rattle.pg_ast.specs.Syntax.{Variable, Declaration, Definition, Tree}
 
 -- the empty place
 abbrev pub nowhere : Span

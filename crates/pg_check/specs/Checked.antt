@@ -5,12 +5,12 @@ use Rattle.pg_ast.specs.Syntax.{Tree}
 use Rattle.pg_ir.specs.Program.{NumberedProgram}
 use Rattle.pg_rules.specs.declared.fault.CheckFault.{CheckFault}
 use Rattle.pg_rules.specs.declared.fault.CheckFault.TheVariants.{At, OutOfMemory}
-use Rattle.pg_rules.specs.Conditions.{Part, all_of, global_refused, heads_refused, main_refused, bodies, IsAccepted, IsFirstRefusal}
+use Rattle.pg_rules.specs.Conditions.{RefusedPlaces, all_of, global_refused, heads_refused, main_refused, bodies, IsUnrefused, IsFirstRefusal}
 use Rattle.pg_rules.specs.Numbered.{program_of}
 
 -- a tree that nothing refuses, and its numbered program
 abbrev pub IsProgramOf : Tree → NumberedProgram → Type 0
-IsProgramOf m p = IsAccepted m × (p ≡ program_of m)
+IsProgramOf m p = IsUnrefused m × (p ≡ program_of m)
 
 -- the tree's first refusal; want of memory says nothing
 abbrev pub IsFaultOf : Tree → CheckFault → Type 0
@@ -19,11 +19,11 @@ IsFaultOf m OutOfMemory = Unit {0}
 
 -- ---- the phases behind the first
 
-abbrev pub last_phases : Tree → List Part
+abbrev pub last_phases : Tree → List RefusedPlaces
 last_phases m = bodies m m.functions 0 ++ main_refused m ∷ []
 
-abbrev pub phases_from_heads : Tree → List Part
+abbrev pub phases_from_heads : Tree → List RefusedPlaces
 phases_from_heads m = heads_refused m ∷ last_phases m
 
-abbrev pub phases_from_globals : Tree → List Part
+abbrev pub phases_from_globals : Tree → List RefusedPlaces
 phases_from_globals m = all_of (global_refused m) (enumerate_from 0 m.globals) ∷ phases_from_heads m

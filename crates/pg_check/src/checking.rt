@@ -2,7 +2,7 @@
 
 ghost use Rattle.std.specs.Prelude.{◌≡◌, IfOk, IfErr};
 ghost use Rattle.pg_ast.specs.Views.{tree_of};
-ghost use Rattle.pg_rules.specs.Conditions.{IsAccepted};
+ghost use Rattle.pg_rules.specs.Conditions.{IsUnrefused};
 ghost use Rattle.pg_rules.specs.Numbered.{program_of};
 ghost use Rattle.pg_rules.specs.declared.fault.CheckFault.TheVariants.{OutOfMemory};
 ghost use Rattle.pg_numbering.specs.Parsed.{IsInOrder};
@@ -25,7 +25,7 @@ fn numbered(
 ) -> Result<Program, CheckFault>
     requires items { types.old.items ≡ tree.now.types.items }
     requires order { IsInOrder (tree_of tree.now) }
-    requires accepted { IsAccepted (tree_of tree.now) }
+    requires accepted { IsUnrefused (tree_of tree.now) }
     ensures program { IfOk result (λ p. p ≡ program_of (tree_of tree.now)) }
     ensures fault { IfErr result (λ e. e ≡ OutOfMemory) }
 {

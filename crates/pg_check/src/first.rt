@@ -5,7 +5,7 @@ ghost use Rattle.pg_ast.specs.Views.{tree_of};
 ghost use Rattle.pg_types.specs.NameIndex.{known_place};
 ghost use Rattle.pg_rules.specs.Names.{symbol_names};
 ghost use Rattle.pg_rules.specs.Starts.{first_start};
-ghost use Rattle.pg_rules.specs.Conditions.{IsFirstOf, RefuseNothing, IsFirstRefusal, IsAccepted};
+ghost use Rattle.pg_rules.specs.Conditions.{IsFirstOf, RefuseNothing, IsFirstRefusal, IsUnrefused};
 ghost use Rattle.pg_check.specs.Checked.{last_phases, phases_from_heads, phases_from_globals};
 
 use crate::main_function::main_refusals;
@@ -101,7 +101,7 @@ pub(crate) fn first_of_module(
 ) -> Result<Option<Refusal>, AllocError>
     requires { types.old.items ≡ tree.now.types.items }
     ensures found { IfOk result (λ o. IfSome o (λ r. IsFirstRefusal (tree_of tree.now) r.kind r.span)) }
-    ensures none { IfOk result (λ o. o ≡ None → IsAccepted (tree_of tree.now)) }
+    ensures none { IfOk result (λ o. o ≡ None → IsUnrefused (tree_of tree.now)) }
     ensures items { types.new.items ≡ types.old.items }
 {
     let items = types_refusals(alloc, types, tree)?;

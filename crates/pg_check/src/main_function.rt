@@ -3,7 +3,7 @@
 ghost use Rattle.std.specs.Prelude.{◌≡◌, map};
 ghost use Rattle.std.specs.List.{list_any};
 ghost use Rattle.std.specs.Str.{bytes_eq};
-ghost use Rattle.pg_ast.specs.Syntax.{Definition, Tree};
+ghost use Rattle.pg_ast.specs.Syntax.{Definition};
 ghost use Rattle.pg_ast.specs.Views.{define_of, tree_of};
 ghost use Rattle.pg_rules.specs.Earliest.{AreEarliest};
 ghost use Rattle.pg_rules.specs.Conditions.{main_name, has_main, main_refused};

@@ -18,7 +18,8 @@ use Rattle.pg_types.specs.Resolved.{ResolvedType}
 use Rattle.pg_types.specs.Layout.{alignment_of, round_up, size_of, field_list}
 use Rattle.pg_constants.specs.Sizes.{AllFit, TypeFits, ValFits, ConstFits, PartsFit}
 use Rattle.pg_constants.proofs.ConstantBytes.{val_view, array_view, struct_view, drop_next}
-use Rattle.pg_constants.proofs.Sizes.{end_from, end_is, end_behind, own_end, own_fields, all_left}
+use Rattle.pg_types.proofs.Alignments.{end_from, end_is, end_behind}
+use Rattle.pg_constants.proofs.Sizes.{own_end, own_fields, all_left}
 
 -- a value
 pub value_fits : (types : List NamedType) (n : ConstNode) (v : ValNode) → n ≡ plain.Val v → ConstFits types (const_of n) → ValFits types (val_of v)

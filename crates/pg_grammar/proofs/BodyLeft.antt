@@ -11,7 +11,7 @@ use Rattle.pg_grammar.specs.GrammarOps.{typed_value, cast_word, no_op, op}
 use Rattle.pg_grammar.specs.GrammarItems.{line_of, metadata, part}
 use Rattle.pg_grammar.specs.ReaderItems.{add_part, add_line, After, Complete, Called, Returned, Body, complete, void_value, begins_part}
 use Rattle.pg_lex.specs.declared.token.Span.{Span}
-use Rattle.pg_ast.specs.Syntax.{Val, Block, Op}
+use Rattle.pg_ast.specs.Syntax.{Val, Block}
 use Rattle.pg_ast.specs.Syntax as syntax
 use Rattle.pg_ast.specs.declared.names.Name.{Name}
 use Rattle.pg_grammar.proofs.ClassTests.{within_is, in_right}

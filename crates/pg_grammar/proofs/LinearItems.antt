@@ -7,7 +7,7 @@ use Rattle.pg_grammar.specs.Language.{Gram}
 use Rattle.pg_grammar.specs.Grammar.{name_of, global_name, attribute_name, metadata_name}
 use Rattle.pg_grammar.specs.GrammarItems.{blocks_of, body, param, dparam, TypeItem, GlobalItem, DeclareItem, DefineItem, OtherItem, constancy, node, no_item, item}
 use Rattle.pg_grammar.specs.ReaderItems.{AfterItem, Done, Declared, Valued, Tailed, Items, items, add_item, begins_item}
-use Rattle.pg_ast.specs.Syntax.{Ty, Const, Block, Param, Dparam, NamedType, Variable, Declaration, Definition, Tree}
+use Rattle.pg_ast.specs.Syntax.{Param, NamedType, Variable, Declaration, Definition, Tree}
 use Rattle.pg_ast.specs.Syntax as syntax
 use Rattle.pg_grammar.proofs.Linear.{Linear, linear_give, linear_one, linear_refused, linear_then, linear_or, linear_many}
 use Rattle.pg_grammar.proofs.LinearRows.{linear_case, linear_drop, linear_listed, linear_type, linear_skip, linear_attribute, linear_attributes, linear_const}

@@ -9,7 +9,7 @@ use Rattle.pg_grammar.specs.Language.{Gram}
 use Rattle.pg_grammar.specs.Grammar.{literal_of, name_of, metadata_name}
 use Rattle.pg_grammar.specs.GrammarOps.{typed_value, target, binary_word, binary_of, binary, predicate_word, predicate_of, icmp, cast_word, cast_of, cast, select, incoming, phi, branch, case_of, switch, return, unreachable, alignment, count, alloca, volatile, load, store, gep, written, call_word, callee, dropped_callee, call, plain_op, simple_op, no_op, op}
 use Rattle.pg_grammar.specs.GrammarItems.{metadata, line_of, result_name, op_line, debug_line, part}
-use Rattle.pg_ast.specs.Syntax.{Ty, Typed, Op, Incoming, Case, Count, Written, consts}
+use Rattle.pg_ast.specs.Syntax.{Ty, Incoming, Case, Count, Written}
 use Rattle.pg_ast.specs.Syntax as syntax
 use Rattle.pg_grammar.proofs.Past.{past}
 use Rattle.pg_grammar.proofs.Linear.{Linear, linear_give, linear_one, linear_refused, linear_then, linear_or, linear_many}

@@ -14,7 +14,7 @@ use Rattle.pg_grammar.specs.GrammarItems.{metadata}
 use Rattle.pg_grammar.specs.Reading.{Read, Good, ◌>>=◌, take_one}
 use Rattle.pg_grammar.specs.Reader.{begins_type, drop_value_at}
 use Rattle.pg_grammar.specs.ReaderOps.{typed_value_at, target_at, metadata_at, lined, metadata_tail_at, more_at, binary_at, icmp_at, cast_tail_at, cast_at, select_at, incoming_at, phi_at, branch_at, case_at, switch_at, unreachable_at, alignment_at, count_at, alloca_at, volatile_at, load_at, store_at, gep_op_tail_at, gep_op_at, written_at, call_word_at, callee_at, dropped_callee_at, call_at, plain_op_at, simple_op_at}
-use Rattle.pg_ast.specs.Syntax.{Ty, Typed, Op, Case, Written, Count}
+use Rattle.pg_ast.specs.Syntax.{Ty, Op, Written, Count}
 use Rattle.pg_ast.specs.Syntax as syntax
 use Rattle.pg_grammar.proofs.ClassTests.{within, within_none, apart}
 use Rattle.pg_grammar.proofs.Pieces.{Piece, Item, Gets}

@@ -10,7 +10,7 @@ use Rattle.pg_grammar.proofs.Rests.{gep_rest, gep_tail, int_to_ptr_tail, certain
 use Rattle.pg_grammar.specs.Grammar.{name_of, global_name, separated, listed, no_type, opens_type, simple_type, type_in, opens, plain, skip_to, flags, plain_value, named_value, typed_in, other_value_in, value_in, opens_value, simple_const_in, const_in, attribute_word, attribute_name, metadata_name, attribute, attributes}
 use Rattle.pg_grammar.specs.Reading.{Read, Good, ◌>>=◌}
 use Rattle.pg_grammar.specs.Reader.{separated_at, listed_at, begins_type, simple_type_at, type_at, brackets, skip_at, plains_at, flags_at, begins_plain, plain_value_at, named_value_at, typed_in_at, gep_tail_at, int_to_ptr_tail_at, int_or, other_value_at, value_at, simple_const_at, const_at, begins_attribute, attribute_at, attributes_at}
-use Rattle.pg_ast.specs.Syntax.{Ty, Val, vals}
+use Rattle.pg_ast.specs.Syntax.{Ty}
 use Rattle.pg_ast.specs.Syntax as syntax
 use Rattle.pg_grammar.proofs.ClassTests.{within, apart, apart_none}
 use Rattle.pg_grammar.proofs.Pieces.{Piece, Item, Gets}

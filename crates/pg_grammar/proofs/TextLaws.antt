@@ -19,7 +19,7 @@ use Rattle.pg_grammar.specs.Reading.{Read, Good, Bad}
 use Rattle.pg_grammar.specs.ReaderItems.{begins_item, program_at}
 use Rattle.pg_grammar.specs.Verdict.{IsRead, Refused, Cut, Answers, ended}
 use Rattle.pg_grammar.specs.Words.{classified}
-use Rattle.pg_grammar.specs.Accepted.{IsModule, IsRefused, IsFirstRefusal, place_of}
+use Rattle.pg_grammar.specs.Accepted.{IsModule, IsRefused, IsUnread, place_of}
 use Rattle.pg_grammar.specs.Told.{told, lexical_of, IsTold}
 use Rattle.pg_grammar.proofs.Whole.{whole}
 use Rattle.pg_grammar.proofs.ItemRows.{anything}
@@ -155,19 +155,19 @@ never_memory zero at (b ∷ bs) h = by (piece_of (b ∷ bs)) h (λ n i. never_me
     by NoPiece h rec = absurd cc
     by (Open n) h rec = absurd cc
 
-fault_of : (text : List ℕ) (f : Option Fault) (place : Span) → IsRefused text f place → (e : ReadFault) × IsFirstRefusal text e
+fault_of : (text : List ℕ) (f : Option Fault) (place : Span) → IsRefused text f place → (e : ReadFault) × IsUnread text e
 fault_of text None place j = (Unexpected place.start, (place, refl, j))
 fault_of text (Some fault.Unsupported) place j = (Unsupported place, j)
 fault_of text (Some fault.TooDeep) place j = (TooDeep place.start, (place, refl, j))
 
-pub module_or_first : (text : List ℕ) → ((m : Tree) × IsModule text m) ⊎ ((e : ReadFault) × IsFirstRefusal text e)
+pub module_or_first : (text : List ℕ) → ((m : Tree) × IsModule text m) ⊎ ((e : ReadFault) × IsUnread text e)
 module_or_first text = by (tokens text) refl
   where
-    pick : ((m : Tree) × IsModule text m) ⊎ ((f : Option Fault) × (place : Span) × IsRefused text f place) → ((m : Tree) × IsModule text m) ⊎ ((e : ReadFault) × IsFirstRefusal text e)
+    pick : ((m : Tree) × IsModule text m) ⊎ ((f : Option Fault) × (place : Span) × IsRefused text f place) → ((m : Tree) × IsModule text m) ⊎ ((e : ReadFault) × IsUnread text e)
     pick (inl j) = inl j
     pick (inr j) = inr (fault_of text j.0 j.1 j.2)
 
-    by : (r : Result (List Lexed) LexFault) → tokens text ≡ r → ((m : Tree) × IsModule text m) ⊎ ((e : ReadFault) × IsFirstRefusal text e)
+    by : (r : Result (List Lexed) LexFault) → tokens text ≡ r → ((m : Tree) × IsModule text m) ⊎ ((e : ReadFault) × IsUnread text e)
     by (Ok ts) w = pick (module_or_refused text ts w)
     by (Err (lexical.BadByte at)) w = inr (BadByte at, w)
     by (Err (lexical.OpenString at)) w = inr (OpenString at, w)
@@ -179,7 +179,7 @@ not_lexical text f place d j w = let z : ◌≡◌ {A = Result (List Lexed) LexF
 same_lexical : (text : List ℕ) (d k : LexFault) → tokens text ≡ Err d → tokens text ≡ Err k → d ≡ k
 same_lexical text d k w v = let z : ◌≡◌ {A = Result (List Lexed) LexFault} (Err d) (Err k) = sym w ∙ v in cc
 
-pub first_not_module : (text : List ℕ) (e : ReadFault) → IsFirstRefusal text e → (m : Tree) → IsModule text m → ⊥
+pub first_not_module : (text : List ℕ) (e : ReadFault) → IsUnread text e → (m : Tree) → IsModule text m → ⊥
 first_not_module text (BadByte at) w m j = let z : ◌≡◌ {A = Result (List Lexed) LexFault} (Ok j.0) (Err (lexical.BadByte at)) = sym j.1 ∙ w in absurd cc
 first_not_module text (OpenString at) w m j = let z : ◌≡◌ {A = Result (List Lexed) LexFault} (Ok j.0) (Err (lexical.OpenString at)) = sym j.1 ∙ w in absurd cc
 first_not_module text (Unexpected at) (place, s, i) m j = refused_no_module text None place i m j
@@ -191,7 +191,7 @@ first_not_module text OutOfMemory i m j = i
 abbrev Said : List ℕ → ReadFault → Type 0
 Said text e = ((d : LexFault) × (tokens text ≡ Err d) × (e ≡ lexical_of d)) ⊎ ((f : Option Fault) × (place : Span) × IsRefused text f place × (e ≡ told f place))
 
-said : (text : List ℕ) (e : ReadFault) → IsFirstRefusal text e → Said text e
+said : (text : List ℕ) (e : ReadFault) → IsUnread text e → Said text e
 said text (BadByte at) w = inl (lexical.BadByte at, w, refl)
 said text (OpenString at) w = inl (lexical.OpenString at, w, refl)
 said text (Unexpected at) (place, s, i) = inr (None, place, i, ap (λ n. Unexpected n) (sym s))
@@ -199,7 +199,7 @@ said text (Unsupported place) i = inr (Some fault.Unsupported, place, i, refl)
 said text (TooDeep at) (place, s, i) = inr (Some fault.TooDeep, place, i, ap (λ n. TooDeep n) (sym s))
 said text OutOfMemory i = absurd i
 
-pub first_once : (text : List ℕ) (e d : ReadFault) → IsFirstRefusal text e → IsFirstRefusal text d → e ≡ d
+pub first_once : (text : List ℕ) (e d : ReadFault) → IsUnread text e → IsUnread text d → e ≡ d
 first_once text e d i j = by (said text e i) (said text d j)
   where
     by : Said text e → Said text d → e ≡ d
@@ -209,14 +209,14 @@ first_once text e d i j = by (said text e i) (said text d j)
     by (inr (f, a, w, p)) (inr (k, b, v, q)) = let z = refused_place_once text f k a b w v in p ∙ ap (λ x. told x a) z.0 ∙ ap (λ x. told k x) z.1 ∙ sym q
 
 -- what the reading of the tokens refuses is the first refusal of the text
-pub text_first : (text : List ℕ) (ts : List Lexed) (rest : List Token) (f : Option Fault) → tokens text ≡ Ok ts → ended (program_at (classified text ts)) ≡ Bad f rest → IsFirstRefusal text (told f (place_of text rest))
+pub text_first : (text : List ℕ) (ts : List Lexed) (rest : List Token) (f : Option Fault) → tokens text ≡ Ok ts → ended (program_at (classified text ts)) ≡ Bad f rest → IsUnread text (told f (place_of text rest))
 text_first text ts rest f w e = by f (text_refused text ts rest f w e)
   where
-    by : (k : Option Fault) → IsRefused text k (place_of text rest) → IsFirstRefusal text (told k (place_of text rest))
+    by : (k : Option Fault) → IsRefused text k (place_of text rest) → IsUnread text (told k (place_of text rest))
     by None j = (place_of text rest, refl, j)
     by (Some fault.Unsupported) j = j
     by (Some fault.TooDeep) j = (place_of text rest, refl, j)
 
 -- the same, of what is said
-pub told_first : (text : List ℕ) (ts : List Lexed) (e : ReadFault) → tokens text ≡ Ok ts → IsTold text (classified text ts) e → IsFirstRefusal text e
-told_first text ts e w (f, rest, i, s) = subst (IsFirstRefusal text) (sym s) (text_first text ts rest f w i)
+pub told_first : (text : List ℕ) (ts : List Lexed) (e : ReadFault) → tokens text ≡ Ok ts → IsTold text (classified text ts) e → IsUnread text e
+told_first text ts e w (f, rest, i, s) = subst (IsUnread text) (sym s) (text_first text ts rest f w i)

@@ -26,13 +26,16 @@ place_of text (t ∷ ts) = t.span
 -- The text has tokens, and the first one with which they begin no module, or the end of the text where there is none
 -- such, is at this place. The fault says whether that token isn't supported, or is too deep, there.
 abbrev pub IsRefused : List ℕ → Option Fault → Span → Type 0
-IsRefused text fault place = (ts : List Lexed) × (tokens text ≡ Ok ts) × (front rest : List Token) × (classified text ts ≡ front ++ rest) × Refused program fault front rest × (place ≡ place_of text rest)
+IsRefused text fault place =
+    (ts : List Lexed) × (tokens text ≡ Ok ts)
+    × (front rest : List Token) × (classified text ts ≡ front ++ rest)
+    × Refused program fault front rest × (place ≡ place_of text rest)
 
 -- the first refusal of the text
-abbrev pub IsFirstRefusal : List ℕ → ReadFault → Type 0
-IsFirstRefusal text (BadByte at) = tokens text ≡ Err (lexical.BadByte at)
-IsFirstRefusal text (OpenString at) = tokens text ≡ Err (lexical.OpenString at)
-IsFirstRefusal text (Unexpected at) = (place : Span) × (place.start ≡ at) × IsRefused text None place
-IsFirstRefusal text (Unsupported place) = IsRefused text (Some fault.Unsupported) place
-IsFirstRefusal text (TooDeep at) = (place : Span) × (place.start ≡ at) × IsRefused text (Some fault.TooDeep) place
-IsFirstRefusal text OutOfMemory = ⊥
+abbrev pub IsUnread : List ℕ → ReadFault → Type 0
+IsUnread text (BadByte at) = tokens text ≡ Err (lexical.BadByte at)
+IsUnread text (OpenString at) = tokens text ≡ Err (lexical.OpenString at)
+IsUnread text (Unexpected at) = (place : Span) × (place.start ≡ at) × IsRefused text None place
+IsUnread text (Unsupported place) = IsRefused text (Some fault.Unsupported) place
+IsUnread text (TooDeep at) = (place : Span) × (place.start ≡ at) × IsRefused text (Some fault.TooDeep) place
+IsUnread text OutOfMemory = ⊥

@@ -3,7 +3,11 @@ use Rattle.std.specs.Prelude.{ℕ, Bool, true, false, ◌||◌, ◌==◌}
 use denote.Enum.Declared.{tag_of}
 use Rattle.pg_grammar.specs.contracts.class.Class.{the_type}
 use Rattle.pg_grammar.specs.declared.class.Class.{Class}
-use Rattle.pg_grammar.specs.declared.class.Class.TheVariants.{Label, Int, Dots, CStr, Odd, Str, Local, Global, DroppedGlobal, Meta, Bang, Attr, DebugAttr, OpenRound, CloseRound, OpenBrace, CloseBrace, OpenSquare, CloseSquare, Less, Greater, Comma, Equals, Star, Bar, Colon}
+use Rattle.pg_grammar.specs.declared.class.Class.TheVariants.{Label, Int, Dots, CStr, Odd, Str, Local, Global}
+use Rattle.pg_grammar.specs.declared.class.Class.TheVariants.{DroppedGlobal, Meta, Bang, Attr, DebugAttr, OpenRound}
+use Rattle.pg_grammar.specs.declared.class.Class.TheVariants.{CloseRound, OpenBrace, CloseBrace, OpenSquare}
+use Rattle.pg_grammar.specs.declared.class.Class.TheVariants.{CloseSquare, Less, Greater, Comma, Equals, Star, Bar}
+use Rattle.pg_grammar.specs.declared.class.Class.TheVariants.{Colon}
 
 -- the number of a class, in the order of their declaration
 abbrev pub code : Class → ℕ

@@ -1,7 +1,14 @@
 -- The grammar of program texts.
 use Rattle.std.specs.Prelude.{ℕ, zero, suc, List, [], ◌∷◌, Bool, true, false, ◌&&◌, ◌||◌, not}
 use Rattle.pg_grammar.specs.declared.class.Class.{Class}
-use Rattle.pg_grammar.specs.declared.class.Class.TheVariants.{I1, I8, I16, I32, I64, Ptr, Void, X, To, Align, Volatile, Flag, Eq, Ne, Ugt, Uge, Ult, Ule, Sgt, Sge, Slt, Sle, TypeWord, Distinct, OtherWord, Refused, True, False, Null, Undef, Poison, ZeroInitializer, GetElementPtr, IntToPtr, Int, Str, CStr, Local, Global, DroppedGlobal, Meta, Bang, Attr, DebugAttr, Less, Comma, Equals, OpenRound, CloseRound, OpenBrace, CloseBrace, OpenSquare, CloseSquare}
+use Rattle.pg_grammar.specs.declared.class.Class.TheVariants.{I1, I8, I16, I32, I64, Ptr, Void, X, To, Align, Volatile}
+use Rattle.pg_grammar.specs.declared.class.Class.TheVariants.{Flag, Eq, Ne, Ugt, Uge, Ult, Ule, Sgt, Sge, Slt, Sle}
+use Rattle.pg_grammar.specs.declared.class.Class.TheVariants.{TypeWord, Distinct, OtherWord, Refused, True, False}
+use Rattle.pg_grammar.specs.declared.class.Class.TheVariants.{Null, Undef, Poison, ZeroInitializer, GetElementPtr}
+use Rattle.pg_grammar.specs.declared.class.Class.TheVariants.{IntToPtr, Int, Str, CStr, Local, Global, DroppedGlobal}
+use Rattle.pg_grammar.specs.declared.class.Class.TheVariants.{Meta, Bang, Attr, DebugAttr, Less, Comma, Equals}
+use Rattle.pg_grammar.specs.declared.class.Class.TheVariants.{OpenRound, CloseRound, OpenBrace, CloseBrace, OpenSquare}
+use Rattle.pg_grammar.specs.declared.class.Class.TheVariants.{CloseSquare}
 use Rattle.pg_grammar.specs.declared.token.Token.{Token}
 use Rattle.pg_grammar.specs.declared.token.Fault.TheVariants.{Unsupported, TooDeep}
 use Rattle.pg_grammar.specs.Classes.{is, is_word, ◌∪◌}

@@ -1,7 +1,11 @@
 -- The grammar of lines, functions and items, and of a whole program text.
 use Rattle.std.specs.Prelude.{List, [], ◌∷◌, Option, Some, None, Bool, true, false, ◌&&◌, ◌||◌, not, if◌then◌else◌}
 use Rattle.pg_grammar.specs.declared.class.Class.{Class}
-use Rattle.pg_grammar.specs.declared.class.Class.TheVariants.{MetadataWord, TypeWord, Distinct, GlobalWord, ConstantWord, SourceFilename, Target, Declare, Define, Attributes, Label, Dots, Str, Local, Meta, Bang, DebugAttr, Comma, Equals, OpenRound, CloseRound, OpenBrace, CloseBrace}
+use Rattle.pg_grammar.specs.declared.class.Class.TheVariants.{MetadataWord, TypeWord, Distinct, GlobalWord}
+use Rattle.pg_grammar.specs.declared.class.Class.TheVariants.{ConstantWord, SourceFilename, Target, Declare, Define}
+use Rattle.pg_grammar.specs.declared.class.Class.TheVariants.{Attributes, Label, Dots, Str, Local, Meta, Bang}
+use Rattle.pg_grammar.specs.declared.class.Class.TheVariants.{DebugAttr, Comma, Equals, OpenRound, CloseRound}
+use Rattle.pg_grammar.specs.declared.class.Class.TheVariants.{OpenBrace, CloseBrace}
 use Rattle.pg_grammar.specs.declared.token.Fault.TheVariants.{Unsupported}
 use Rattle.pg_grammar.specs.Classes.{is, is_word, ◌∪◌}
 use Rattle.pg_grammar.specs.Language.{Gram, give, one, refused, ◌or◌, ◌>>=◌, many}

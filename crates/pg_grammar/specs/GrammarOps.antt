@@ -1,13 +1,19 @@
 -- The grammar of operations.
 use Rattle.std.specs.Prelude.{[], Option, Some, None, Bool, true, false, ◌&&◌, not}
 use Rattle.pg_grammar.specs.declared.class.Class.{Class}
-use Rattle.pg_grammar.specs.declared.class.Class.TheVariants.{Void, LabelWord, To, Align, Volatile, Eq, Ne, Ugt, Uge, Ult, Ule, Sgt, Sge, Slt, Sle, Add, Sub, Mul, Udiv, Sdiv, Urem, Srem, Shl, Lshr, Ashr, And, Or, Xor, Icmp, Trunc, Zext, Sext, PtrToInt, IntToPtr, Select, Phi, Br, Switch, TailWord, Call, Ret, Unreachable, Alloca, Load, Store, GetElementPtr, Int, Dots, Local, Global, DroppedGlobal, Comma, OpenRound, CloseRound, OpenSquare, CloseSquare}
+use Rattle.pg_grammar.specs.declared.class.Class.TheVariants.{Void, LabelWord, To, Align, Volatile, Eq, Ne, Ugt, Uge}
+use Rattle.pg_grammar.specs.declared.class.Class.TheVariants.{Ult, Ule, Sgt, Sge, Slt, Sle, Add, Sub, Mul, Udiv, Sdiv}
+use Rattle.pg_grammar.specs.declared.class.Class.TheVariants.{Urem, Srem, Shl, Lshr, Ashr, And, Or, Xor, Icmp, Trunc}
+use Rattle.pg_grammar.specs.declared.class.Class.TheVariants.{Zext, Sext, PtrToInt, IntToPtr, Select, Phi, Br, Switch}
+use Rattle.pg_grammar.specs.declared.class.Class.TheVariants.{TailWord, Call, Ret, Unreachable, Alloca, Load, Store}
+use Rattle.pg_grammar.specs.declared.class.Class.TheVariants.{GetElementPtr, Int, Dots, Local, Global, DroppedGlobal}
+use Rattle.pg_grammar.specs.declared.class.Class.TheVariants.{Comma, OpenRound, CloseRound, OpenSquare, CloseSquare}
 use Rattle.pg_grammar.specs.declared.token.Token.{Token}
 use Rattle.pg_grammar.specs.declared.token.Fault.TheVariants.{Unsupported}
 use Rattle.pg_grammar.specs.Classes.{is, is_word, ◌∪◌}
 use Rattle.pg_grammar.specs.Language.{Gram, give, one, refused, ◌or◌, ◌>>=◌, many}
 use Rattle.pg_grammar.specs.Grammar.{separated, listed, name_of, literal_of, drop_value, type_in, skip_to, attributes, flags, value_in, typed_in, argument}
-use Rattle.pg_ast.specs.Syntax.{Ty, Val, Typed, Op, Incoming, Case, Written, Count}
+use Rattle.pg_ast.specs.Syntax.{Ty, Typed, Op, Incoming, Case, Written, Count}
 use Rattle.pg_ast.specs.Syntax as syntax
 use Rattle.pg_ast.specs.declared.names.Name.{Name}
 use Rattle.pg_ast.specs.declared.ops.BinaryOp.{BinaryOp}
@@ -324,7 +330,9 @@ abbrev pub simple_op : Gram Op
 simple_op = gep or (cast or plain_op)
 
 abbrev pub op_word : Class → Bool
-op_word = (is Call ∪ is TailWord) ∪ (is Ret ∪ (is GetElementPtr ∪ (cast_word ∪ (binary_word ∪ (is Icmp ∪ (is Select ∪ (is Phi ∪ (is Br ∪ (is Switch ∪ (is Unreachable ∪ (is Alloca ∪ (is Load ∪ is Store))))))))))))
+op_word =
+    (is Call ∪ is TailWord) ∪ (is Ret ∪ (is GetElementPtr ∪ (cast_word ∪ (binary_word ∪ (is Icmp ∪ (is Select
+    ∪ (is Phi ∪ (is Br ∪ (is Switch ∪ (is Unreachable ∪ (is Alloca ∪ (is Load ∪ is Store))))))))))))
 
 -- any other Word
 abbrev pub no_op : Class → Bool

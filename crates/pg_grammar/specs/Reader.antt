@@ -1,7 +1,11 @@
 -- The reading of the grammar, token by token.
 use Rattle.std.specs.Prelude.{ℕ, zero, suc, List, [], ◌∷◌, Bool, length}
 use Rattle.pg_grammar.specs.declared.class.Class.{Class}
-use Rattle.pg_grammar.specs.declared.class.Class.TheVariants.{I1, I8, I16, I32, I64, Ptr, Void, X, To, Flag, Refused, True, False, Null, Undef, Poison, ZeroInitializer, GetElementPtr, IntToPtr, Int, Str, CStr, Local, Comma, Equals, OpenRound, CloseRound, OpenBrace, CloseBrace, OpenSquare, CloseSquare}
+use Rattle.pg_grammar.specs.declared.class.Class.TheVariants.{I1, I8, I16, I32, I64, Ptr, Void, X, To, Flag, Refused}
+use Rattle.pg_grammar.specs.declared.class.Class.TheVariants.{True, False, Null, Undef, Poison, ZeroInitializer}
+use Rattle.pg_grammar.specs.declared.class.Class.TheVariants.{GetElementPtr, IntToPtr, Int, Str, CStr, Local, Comma}
+use Rattle.pg_grammar.specs.declared.class.Class.TheVariants.{Equals, OpenRound, CloseRound, OpenBrace, CloseBrace}
+use Rattle.pg_grammar.specs.declared.class.Class.TheVariants.{OpenSquare, CloseSquare}
 use Rattle.pg_grammar.specs.declared.token.Token.{Token}
 use Rattle.pg_grammar.specs.declared.token.Fault.TheVariants.{Unsupported, TooDeep}
 use Rattle.pg_grammar.specs.Classes.{is, ◌∪◌}
@@ -34,10 +38,19 @@ simple_type_at = choose (is I1) (λ ts. take_one (is I1) ts >>= λ t. Good (synt
     (λ ts. take_one (is Local) ts >>= λ t. Good (syntax.Named (name_of t)))))))))
 
 abbrev pub array_at : (List Token → Read Ty) → List Token → Read Ty
-array_at r ts = take_one (is OpenSquare) ts >>= λ o ts. take_one (is Int) ts >>= λ n ts. take_one (is X) ts >>= λ _ ts. r ts >>= λ t ts. take_one (is CloseSquare) ts >>= λ _. Good (syntax.Array o.span (literal_of n) t)
+array_at r ts =
+    take_one (is OpenSquare) ts >>= λ o ts.
+    take_one (is Int) ts >>= λ n ts.
+    take_one (is X) ts >>= λ _ ts.
+    r ts >>= λ t ts.
+    take_one (is CloseSquare) ts >>= λ _.
+    Good (syntax.Array o.span (literal_of n) t)
 
 abbrev pub struct_at : (List Token → Read Ty) → List Token → Read Ty
-struct_at r ts = take_one (is OpenBrace) ts >>= λ o ts. listed_at CloseBrace r ts >>= λ all. Good (syntax.Struct o.span (tys all))
+struct_at r ts =
+    take_one (is OpenBrace) ts >>= λ o ts.
+    listed_at CloseBrace r ts >>= λ all.
+    Good (syntax.Struct o.span (tys all))
 
 unfoldable pub type_at : ℕ → List Token → Read Ty
 type_at zero = unless Unsupported no_type (unless TooDeep opens_type simple_type_at)
@@ -95,14 +108,28 @@ typed_in_at d r ts = type_at d ts >>= λ t ts. r ts >>= λ v. Good (record { ty 
 
 -- behind the first token of a constant getelementptr and its flags
 abbrev pub gep_tail_at : ℕ → (List Token → Read Val) → Token → List Token → Read Val
-gep_tail_at d r o ts = take_one (is OpenRound) ts >>= λ _ ts. type_at d ts >>= λ t ts. take_one (is Comma) ts >>= λ _ ts. typed_in_at d r ts >>= λ p ts. all_of (is Comma) (behind_comma (typed_in_at d r)) ts >>= λ all ts. take_one (is CloseRound) ts >>= λ _. Good (syntax.GepVal o.span t p.ty p.value (vals all))
+gep_tail_at d r o ts =
+    take_one (is OpenRound) ts >>= λ _ ts.
+    type_at d ts >>= λ t ts.
+    take_one (is Comma) ts >>= λ _ ts.
+    typed_in_at d r ts >>= λ p ts.
+    all_of (is Comma) (behind_comma (typed_in_at d r)) ts >>= λ all ts.
+    take_one (is CloseRound) ts >>= λ _.
+    Good (syntax.GepVal o.span t p.ty p.value (vals all))
 
 abbrev pub gep_at : ℕ → (List Token → Read Val) → List Token → Read Val
 gep_at d r ts = take_one (is GetElementPtr) ts >>= λ o ts. flags_at ts >>= λ _. gep_tail_at d r o
 
 -- behind the first token of a constant inttoptr
 abbrev pub int_to_ptr_tail_at : ℕ → Token → List Token → Read Val
-int_to_ptr_tail_at d o ts = take_one (is OpenRound) ts >>= λ _ ts. type_at d ts >>= λ t ts. take_one (is Int) ts >>= λ n ts. take_one (is To) ts >>= λ _ ts. type_at d ts >>= λ u ts. take_one (is CloseRound) ts >>= λ _. Good (syntax.IntToPtrVal o.span t (literal_of n) u)
+int_to_ptr_tail_at d o ts =
+    take_one (is OpenRound) ts >>= λ _ ts.
+    type_at d ts >>= λ t ts.
+    take_one (is Int) ts >>= λ n ts.
+    take_one (is To) ts >>= λ _ ts.
+    type_at d ts >>= λ u ts.
+    take_one (is CloseRound) ts >>= λ _.
+    Good (syntax.IntToPtrVal o.span t (literal_of n) u)
 
 abbrev pub int_to_ptr_at : ℕ → List Token → Read Val
 int_to_ptr_at d ts = take_one (is IntToPtr) ts >>= int_to_ptr_tail_at d
@@ -123,10 +150,16 @@ abbrev pub typed_const_at : ℕ → (List Token → Read Const) → List Token �
 typed_const_at d r ts = type_at d ts >>= λ t ts. r ts >>= λ c. Good (record { ty = t; value = c })
 
 abbrev pub array_const_at : ℕ → (List Token → Read Const) → List Token → Read Const
-array_const_at d r ts = take_one (is OpenSquare) ts >>= λ o ts. listed_at CloseSquare (typed_const_at d r) ts >>= λ all. Good (syntax.ArrayConst o.span (consts all))
+array_const_at d r ts =
+    take_one (is OpenSquare) ts >>= λ o ts.
+    listed_at CloseSquare (typed_const_at d r) ts >>= λ all.
+    Good (syntax.ArrayConst o.span (consts all))
 
 abbrev pub struct_const_at : ℕ → (List Token → Read Const) → List Token → Read Const
-struct_const_at d r ts = take_one (is OpenBrace) ts >>= λ o ts. listed_at CloseBrace (typed_const_at d r) ts >>= λ all. Good (syntax.StructConst o.span (consts all))
+struct_const_at d r ts =
+    take_one (is OpenBrace) ts >>= λ o ts.
+    listed_at CloseBrace (typed_const_at d r) ts >>= λ all.
+    Good (syntax.StructConst o.span (consts all))
 
 abbrev pub simple_const_at : ℕ → List Token → Read Const
 simple_const_at d = choose (is CStr) (λ ts. take_one (is CStr) ts >>= λ t. Good (syntax.BytesConst (literal_of t))) (λ ts. value_at d ts >>= λ v. Good (syntax.ValConst v))
@@ -148,7 +181,9 @@ attribute_at = choose attribute_word (λ ts. take_one attribute_word ts >>= λ _
     (λ ts. take_one metadata_name ts >>= λ _. drop_value_at (take_one metadata_name))))
 
 unfoldable pub attributes_at : List Token → Read (Unit {0})
-attributes_at ts = drop_value_at (all_of begins_attribute attribute_at) ts >>= λ _. unless Unsupported (is Refused) (Good tt)
+attributes_at ts =
+    drop_value_at (all_of begins_attribute attribute_at) ts >>= λ _.
+    unless Unsupported (is Refused) (Good tt)
 
 -- ---- arguments: an integer behind a Word is the value where the argument ends with it, else the attribute's
 

@@ -1,7 +1,12 @@
 -- The reading of bodies and items.
 use Rattle.std.specs.Prelude.{List, [], ◌∷◌, ◌++◌, Option, Some, None, Bool, true, false, ◌||◌, length, if◌then◌else◌}
 use Rattle.pg_grammar.specs.declared.class.Class.{Class}
-use Rattle.pg_grammar.specs.declared.class.Class.TheVariants.{MetadataWord, Void, TypeWord, Distinct, GlobalWord, ConstantWord, SourceFilename, Target, Declare, Define, Attributes, IntToPtr, TailWord, Call, Ret, GetElementPtr, Label, Int, Dots, Str, Local, Meta, Bang, DebugAttr, Comma, Equals, OpenRound, CloseRound, OpenBrace, CloseBrace}
+use Rattle.pg_grammar.specs.declared.class.Class.TheVariants.{MetadataWord, Void, TypeWord, Distinct, GlobalWord}
+use Rattle.pg_grammar.specs.declared.class.Class.TheVariants.{ConstantWord, SourceFilename, Target, Declare, Define}
+use Rattle.pg_grammar.specs.declared.class.Class.TheVariants.{Attributes, IntToPtr, TailWord, Call, Ret, GetElementPtr}
+use Rattle.pg_grammar.specs.declared.class.Class.TheVariants.{Label, Int, Dots, Str, Local, Meta, Bang, DebugAttr}
+use Rattle.pg_grammar.specs.declared.class.Class.TheVariants.{Comma, Equals, OpenRound, CloseRound, OpenBrace}
+use Rattle.pg_grammar.specs.declared.class.Class.TheVariants.{CloseBrace}
 use Rattle.pg_grammar.specs.declared.token.Token.{Token}
 use Rattle.pg_grammar.specs.declared.token.Fault.TheVariants.{Unsupported}
 use Rattle.pg_grammar.specs.Classes.{is, is_word, ◌∪◌}
@@ -9,10 +14,12 @@ use Rattle.pg_grammar.specs.Reading.{Read, Good, ◌>>=◌, take_one, choose, un
 use Rattle.pg_grammar.specs.Grammar.{name_of, global_name, attribute_name, metadata_name}
 use Rattle.pg_grammar.specs.GrammarOps.{op_word, no_op}
 use Rattle.pg_grammar.specs.GrammarItems.{Part, LabelPart, LinePart, DroppedPart, line_of, ends_block, alone, Item, TypeItem, GlobalItem, DeclareItem, DefineItem, OtherItem, no_item}
-use Rattle.pg_grammar.specs.Reader.{listed_at, type_at, drop_value_at, skip_at, flags_at, begins_plain, plain_value_at, int_or, value_at, gep_tail_at, int_to_ptr_tail_at, const_at, begins_attribute, attribute_at, attributes_at}
+use Rattle.pg_grammar.specs.Reader.{listed_at, type_at, drop_value_at, skip_at, flags_at, begins_plain, plain_value_at}
+use Rattle.pg_grammar.specs.Reader.{int_or, value_at, gep_tail_at, int_to_ptr_tail_at, const_at, begins_attribute}
+use Rattle.pg_grammar.specs.Reader.{attribute_at, attributes_at}
 use Rattle.pg_grammar.specs.ReaderOps.{typed_value_at, metadata_at, metadata_tail_at, cast_tail_at, gep_op_tail_at, call_at, simple_op_at}
 use Rattle.pg_lex.specs.declared.token.Span.{Span}
-use Rattle.pg_ast.specs.Syntax.{Ty, Val, Typed, Op, Line, Block, Param, Dparam, Tree, NamedType, Variable, Declaration, Definition}
+use Rattle.pg_ast.specs.Syntax.{Val, Typed, Op, Line, Block, Param, Dparam, Tree, NamedType, Variable, Declaration, Definition}
 use Rattle.pg_ast.specs.Syntax as syntax
 use Rattle.pg_ast.specs.declared.names.Name.{Name}
 
@@ -74,11 +81,15 @@ begins_certain = is Int ∪ begins_plain
 
 -- behind ret void: a Local, getelementptr and inttoptr are left to the next part
 abbrev pub void_at : List Block → Option Name → Span → Span → List Token → Read Body
-void_at bs name o void = choose begins_certain (λ ts. int_or plain_value_at ts >>= λ v ts. metadata_at ts >>= λ _. Good (complete (add_line bs name (syntax.Ret o (void_value void v)))))
-    (choose (is Comma) (λ ts. take_one (is Comma) ts >>= λ _ ts. metadata_tail_at ts >>= λ _. Good (complete (add_line bs name (syntax.RetVoid o void)))) (Good (record { blocks = bs; after = Returned name o void })))
+void_at bs name o void =
+    choose begins_certain (λ ts. int_or plain_value_at ts >>= λ v ts. metadata_at ts >>= λ _. Good (complete (add_line bs name (syntax.Ret o (void_value void v)))))
+    (choose (is Comma) (λ ts. take_one (is Comma) ts >>= λ _ ts. metadata_tail_at ts >>= λ _. Good (complete (add_line bs name (syntax.RetVoid o void))))
+    (Good (record { blocks = bs; after = Returned name o void })))
 
 unfoldable pub return_at : List Block → Option Name → List Token → Read Body
-return_at bs name ts = take_one (is Ret) ts >>= λ o. choose (is Void) (λ ts. take_one (is Void) ts >>= λ t. void_at bs name o.span t.span)
+return_at bs name ts =
+    take_one (is Ret) ts >>= λ o.
+    choose (is Void) (λ ts. take_one (is Void) ts >>= λ t. void_at bs name o.span t.span)
     (λ ts. typed_value_at ts >>= λ v ts. metadata_at ts >>= λ _. Good (complete (add_line bs name (syntax.Ret o.span v))))
 
 abbrev pub begins_call : Class → Bool
@@ -91,7 +102,10 @@ op_at bs name = choose begins_call (λ ts. call_at ts >>= λ c. called_at (add_p
 
 -- ( skip ), behind an Attr that begins with #dbg_
 abbrev pub debug_tail_at : List Block → List Token → Read Body
-debug_tail_at bs ts = take_one (is OpenRound) ts >>= λ _ ts. skip_at 63 CloseRound ts >>= λ _. Good (complete (add_part bs DroppedPart))
+debug_tail_at bs ts =
+    take_one (is OpenRound) ts >>= λ _ ts.
+    skip_at 63 CloseRound ts >>= λ _.
+    Good (complete (add_part bs DroppedPart))
 
 -- = op, behind the name
 abbrev pub named_tail_at : List Block → Name → List Token → Read Body
@@ -113,12 +127,17 @@ behind_call_at bs = choose (is DebugAttr) (λ ts. take_one (is DebugAttr) ts >>=
 
 -- a value behind ret void, and the metadata behind it
 abbrev pub void_value_at : List Block → Option Name → Span → Span → (List Token → Read Val) → List Token → Read Body
-void_value_at bs name o void r ts = r ts >>= λ v ts. metadata_at ts >>= λ _. Good (complete (add_line bs name (syntax.Ret o (void_value void v))))
+void_value_at bs name o void r ts =
+    r ts >>= λ v ts.
+    metadata_at ts >>= λ _.
+    Good (complete (add_line bs name (syntax.Ret o (void_value void v))))
 
 -- behind ret void: a value that is no operation and no name of the next line, or the next part
 abbrev pub behind_void_at : List Block → Option Name → Span → Span → List Token → Read Body
 behind_void_at bs name o void =
-    choose (is Local) (λ ts. take_one (is Local) ts >>= λ t. choose (is Equals) (named_tail_at (add_line bs name (syntax.RetVoid o void)) (name_of t)) (void_value_at bs name o void (Good (syntax.Local (name_of t)))))
+    choose (is Local) (λ ts. take_one (is Local) ts >>= λ t. choose (is Equals)
+    (named_tail_at (add_line bs name (syntax.RetVoid o void)) (name_of t))
+    (void_value_at bs name o void (Good (syntax.Local (name_of t)))))
     (choose (is GetElementPtr) (λ ts. take_one (is GetElementPtr) ts >>= λ t ts. flags_at ts >>= λ _. choose (is OpenRound) (void_value_at bs name o void (gep_tail_at 63 (value_at 63) t))
     (λ ts. gep_op_tail_at t ts >>= λ p. Good (complete (add_line (add_line bs name (syntax.RetVoid o void)) None p))))
     (choose (is IntToPtr) (λ ts. take_one (is IntToPtr) ts >>= λ t. choose (is OpenRound) (void_value_at bs name o void (int_to_ptr_tail_at 63 t))
@@ -157,7 +176,11 @@ body_at ts = take_one (is OpenBrace) ts >>= λ _ ts. run begins_next next_part_a
 -- ---- parameters
 
 unfoldable pub param_at : List Token → Read Param
-param_at ts = type_at 64 ts >>= λ t ts. attributes_at ts >>= λ _ ts. choose (is Local) (λ ts. take_one (is Local) ts >>= λ n. Good (Some (name_of n))) (Good None) ts >>= λ name. Good (record { ty = t; name = name })
+param_at ts =
+    type_at 64 ts >>= λ t ts.
+    attributes_at ts >>= λ _ ts.
+    choose (is Local) (λ ts. take_one (is Local) ts >>= λ n. Good (Some (name_of n))) (Good None) ts >>= λ name.
+    Good (record { ty = t; name = name })
 
 abbrev pub dparam_at : List Token → Read Dparam
 dparam_at = choose (is MetadataWord) (λ ts. take_one (is MetadataWord) ts >>= λ t. Good (syntax.Metadata t.span))
@@ -192,32 +215,71 @@ add_item t (DefineItem i) = record { types = t.types; globals = t.globals; decla
 add_item t OtherItem = t
 
 abbrev pub node_at : List Token → Read (Unit {0})
-node_at = choose (is Meta) (λ ts. take_one (is Meta) ts >>= λ _ ts. take_one (is OpenRound) ts >>= λ _. skip_at 63 CloseRound)
-    (λ ts. take_one (is Bang) ts >>= λ _. choose (is OpenBrace) (λ ts. take_one (is OpenBrace) ts >>= λ _. skip_at 63 CloseBrace) (λ ts. take_one (is OpenRound) ts >>= λ _. skip_at 63 CloseRound))
+node_at =
+    choose (is Meta) (λ ts. take_one (is Meta) ts >>= λ _ ts. take_one (is OpenRound) ts >>= λ _. skip_at 63 CloseRound)
+    (λ ts. take_one (is Bang) ts >>= λ _. choose (is OpenBrace)
+    (λ ts. take_one (is OpenBrace) ts >>= λ _. skip_at 63 CloseBrace)
+    (λ ts. take_one (is OpenRound) ts >>= λ _. skip_at 63 CloseRound))
 
 -- = [distinct] (! { skip } | Meta ( skip )), behind a Meta
 unfoldable pub metadata_item_tail_at : List Token → Read (Unit {0})
-metadata_item_tail_at ts = take_one (is Equals) ts >>= λ _ ts. choose (is Distinct) (drop_value_at (take_one (is Distinct))) (Good tt) ts >>= λ _. node_at
+metadata_item_tail_at ts =
+    take_one (is Equals) ts >>= λ _ ts.
+    choose (is Distinct) (drop_value_at (take_one (is Distinct))) (Good tt) ts >>= λ _.
+    node_at
 
 abbrev pub constancy_at : List Token → Read Bool
 constancy_at = choose (is GlobalWord) (λ ts. take_one (is GlobalWord) ts >>= λ _. Good false) (λ ts. take_one (is ConstantWord) ts >>= λ _. Good true)
 
 -- a global without what stands behind its constant
 unfoldable pub global_item_at : List Token → Read Variable
-global_item_at ts = take_one global_name ts >>= λ n ts. take_one (is Equals) ts >>= λ _ ts. attributes_at ts >>= λ _ ts. constancy_at ts >>= λ c ts. type_at 64 ts >>= λ t ts. const_at 64 ts >>= λ v. Good (record { name = name_of n; is_constant = c; ty = t; value = v })
+global_item_at ts =
+    take_one global_name ts >>= λ n ts.
+    take_one (is Equals) ts >>= λ _ ts.
+    attributes_at ts >>= λ _ ts.
+    constancy_at ts >>= λ c ts.
+    type_at 64 ts >>= λ t ts.
+    const_at 64 ts >>= λ v.
+    Good (record { name = name_of n; is_constant = c; ty = t; value = v })
 
 -- a declare without the attributes behind its parameters
 unfoldable pub declare_item_at : List Token → Read Declaration
-declare_item_at ts = take_one (is Declare) ts >>= λ _ ts. attributes_at ts >>= λ _ ts. type_at 64 ts >>= λ t ts. take_one global_name ts >>= λ n ts. take_one (is OpenRound) ts >>= λ _ ts. listed_at CloseRound dparam_at ts >>= λ ps. Good (record { result = t; name = name_of n; params = ps })
+declare_item_at ts =
+    take_one (is Declare) ts >>= λ _ ts.
+    attributes_at ts >>= λ _ ts.
+    type_at 64 ts >>= λ t ts.
+    take_one global_name ts >>= λ n ts.
+    take_one (is OpenRound) ts >>= λ _ ts.
+    listed_at CloseRound dparam_at ts >>= λ ps.
+    Good (record { result = t; name = name_of n; params = ps })
 
 unfoldable pub define_item_at : List Token → Read Definition
-define_item_at ts = take_one (is Define) ts >>= λ _ ts. attributes_at ts >>= λ _ ts. type_at 64 ts >>= λ t ts. take_one global_name ts >>= λ n ts. take_one (is OpenRound) ts >>= λ _ ts. listed_at CloseRound defined_param_at ts >>= λ ps ts. attributes_at ts >>= λ _ ts. body_at ts >>= λ bs. Good (record { result = t; name = name_of n; params = ps; blocks = bs })
+define_item_at ts =
+    take_one (is Define) ts >>= λ _ ts.
+    attributes_at ts >>= λ _ ts.
+    type_at 64 ts >>= λ t ts.
+    take_one global_name ts >>= λ n ts.
+    take_one (is OpenRound) ts >>= λ _ ts.
+    listed_at CloseRound defined_param_at ts >>= λ ps ts.
+    attributes_at ts >>= λ _ ts.
+    body_at ts >>= λ bs.
+    Good (record { result = t; name = name_of n; params = ps; blocks = bs })
 
 unfoldable pub type_item_at : List Token → Read NamedType
-type_item_at ts = take_one (is Local) ts >>= λ n ts. take_one (is Equals) ts >>= λ _ ts. take_one (is TypeWord) ts >>= λ _ ts. type_at 64 ts >>= λ t. Good (record { name = name_of n; ty = t })
+type_item_at ts =
+    take_one (is Local) ts >>= λ n ts.
+    take_one (is Equals) ts >>= λ _ ts.
+    take_one (is TypeWord) ts >>= λ _ ts.
+    type_at 64 ts >>= λ t.
+    Good (record { name = name_of n; ty = t })
 
 unfoldable pub attributes_item_at : List Token → Read (Unit {0})
-attributes_item_at ts = take_one (is Attributes) ts >>= λ _ ts. take_one attribute_name ts >>= λ _ ts. take_one (is Equals) ts >>= λ _ ts. take_one (is OpenBrace) ts >>= λ _. skip_at 63 CloseBrace
+attributes_item_at ts =
+    take_one (is Attributes) ts >>= λ _ ts.
+    take_one attribute_name ts >>= λ _ ts.
+    take_one (is Equals) ts >>= λ _ ts.
+    take_one (is OpenBrace) ts >>= λ _.
+    skip_at 63 CloseBrace
 
 unfoldable pub text_item_at : List Token → Read (Unit {0})
 text_item_at = choose (is SourceFilename) (λ ts. take_one (is SourceFilename) ts >>= λ _ ts. take_one (is Equals) ts >>= λ _. drop_value_at (take_one (is Str)))
@@ -241,7 +303,10 @@ item_at t = choose metadata_name (λ ts. take_one metadata_name ts >>= λ _ ts. 
 
 -- more attributes, or the next item
 abbrev pub behind_attributes_at : Tree → AfterItem → List Token → Read Items
-behind_attributes_at t after = choose metadata_name (λ ts. take_one metadata_name ts >>= λ _. choose metadata_name (λ ts. take_one metadata_name ts >>= λ _. Good (items t after)) (λ ts. metadata_item_tail_at ts >>= λ _. Good (items t Done)))
+behind_attributes_at t after =
+    choose metadata_name (λ ts. take_one metadata_name ts >>= λ _. choose metadata_name
+    (λ ts. take_one metadata_name ts >>= λ _. Good (items t after))
+    (λ ts. metadata_item_tail_at ts >>= λ _. Good (items t Done)))
     (choose begins_item (item_at t) (λ ts. attribute_at ts >>= λ _. Good (items t after)))
 
 -- a comma behind a global, or what else comes

@@ -1,7 +1,10 @@
 -- The reading of operations. What stands behind the last operand, (, Meta Meta)*, is read with them.
 use Rattle.std.specs.Prelude.{List, [], ◌∷◌, ◌++◌, Option, Some, None, Bool, true, false, length}
 use Rattle.pg_grammar.specs.declared.class.Class.{Class}
-use Rattle.pg_grammar.specs.declared.class.Class.TheVariants.{LabelWord, To, Align, Volatile, Icmp, Select, Phi, Br, Switch, TailWord, Call, Unreachable, Alloca, Load, Store, GetElementPtr, Int, Dots, Local, Global, DroppedGlobal, Comma, OpenRound, CloseRound, OpenSquare, CloseSquare}
+use Rattle.pg_grammar.specs.declared.class.Class.TheVariants.{LabelWord, To, Align, Volatile, Icmp, Select, Phi, Br}
+use Rattle.pg_grammar.specs.declared.class.Class.TheVariants.{Switch, TailWord, Call, Unreachable, Alloca, Load, Store}
+use Rattle.pg_grammar.specs.declared.class.Class.TheVariants.{GetElementPtr, Int, Dots, Local, Global, DroppedGlobal}
+use Rattle.pg_grammar.specs.declared.class.Class.TheVariants.{Comma, OpenRound, CloseRound, OpenSquare, CloseSquare}
 use Rattle.pg_grammar.specs.declared.token.Token.{Token}
 use Rattle.pg_grammar.specs.declared.token.Fault.TheVariants.{Unsupported}
 use Rattle.pg_grammar.specs.Classes.{is, is_word, ◌∪◌}
@@ -9,7 +12,7 @@ use Rattle.pg_grammar.specs.Reading.{Read, Good, ◌>>=◌, take_one, choose, un
 use Rattle.pg_grammar.specs.Grammar.{no_type, name_of, literal_of, metadata_name}
 use Rattle.pg_grammar.specs.GrammarOps.{binary_word, binary_of, predicate_word, predicate_of, cast_word, cast_of}
 use Rattle.pg_grammar.specs.Reader.{listed_at, begins_type, type_at, drop_value_at, skip_at, flags_at, typed_in_at, value_at, attributes_at, argument_at}
-use Rattle.pg_ast.specs.Syntax.{Ty, Val, Typed, Op, Incoming, Case, Written, Count}
+use Rattle.pg_ast.specs.Syntax.{Ty, Typed, Op, Incoming, Case, Written, Count}
 use Rattle.pg_ast.specs.Syntax as syntax
 use Rattle.pg_ast.specs.declared.names.Name.{Name}
 
@@ -71,38 +74,85 @@ more_at fi r end ts = run (begins_listing fi) (listing_at r) (listing_end_at end
 -- ---- numbers
 
 abbrev pub binary_at : List Token → Read Op
-binary_at ts = take_one binary_word ts >>= λ o ts. flags_at ts >>= λ _ ts. type_at 64 ts >>= λ t ts. value_at 64 ts >>= λ a ts. take_one (is Comma) ts >>= λ _ ts. value_at 64 ts >>= λ b. Good (syntax.Binary o.span (binary_of o.class) t a b)
+binary_at ts =
+    take_one binary_word ts >>= λ o ts.
+    flags_at ts >>= λ _ ts.
+    type_at 64 ts >>= λ t ts.
+    value_at 64 ts >>= λ a ts.
+    take_one (is Comma) ts >>= λ _ ts.
+    value_at 64 ts >>= λ b.
+    Good (syntax.Binary o.span (binary_of o.class) t a b)
 
 abbrev pub icmp_at : List Token → Read Op
-icmp_at ts = take_one (is Icmp) ts >>= λ o ts. flags_at ts >>= λ _ ts. take_one predicate_word ts >>= λ p ts. type_at 64 ts >>= λ t ts. value_at 64 ts >>= λ a ts. take_one (is Comma) ts >>= λ _ ts. value_at 64 ts >>= λ b. Good (syntax.Icmp o.span (predicate_of p.class) t a b)
+icmp_at ts =
+    take_one (is Icmp) ts >>= λ o ts.
+    flags_at ts >>= λ _ ts.
+    take_one predicate_word ts >>= λ p ts.
+    type_at 64 ts >>= λ t ts.
+    value_at 64 ts >>= λ a ts.
+    take_one (is Comma) ts >>= λ _ ts.
+    value_at 64 ts >>= λ b.
+    Good (syntax.Icmp o.span (predicate_of p.class) t a b)
 
 -- behind the first token of a conversion
 abbrev pub cast_tail_at : Token → List Token → Read Op
-cast_tail_at o ts = flags_at ts >>= λ _ ts. typed_value_at ts >>= λ v ts. take_one (is To) ts >>= λ _ ts. type_at 64 ts >>= λ t. Good (syntax.Cast o.span (cast_of o.class) v t)
+cast_tail_at o ts =
+    flags_at ts >>= λ _ ts.
+    typed_value_at ts >>= λ v ts.
+    take_one (is To) ts >>= λ _ ts.
+    type_at 64 ts >>= λ t.
+    Good (syntax.Cast o.span (cast_of o.class) v t)
 
 abbrev pub cast_at : List Token → Read Op
 cast_at ts = take_one cast_word ts >>= cast_tail_at
 
 abbrev pub select_at : List Token → Read Op
-select_at ts = take_one (is Select) ts >>= λ o ts. typed_value_at ts >>= λ c ts. take_one (is Comma) ts >>= λ _ ts. typed_value_at ts >>= λ a ts. take_one (is Comma) ts >>= λ _ ts. typed_value_at ts >>= λ b. Good (syntax.Select o.span c a b)
+select_at ts =
+    take_one (is Select) ts >>= λ o ts.
+    typed_value_at ts >>= λ c ts.
+    take_one (is Comma) ts >>= λ _ ts.
+    typed_value_at ts >>= λ a ts.
+    take_one (is Comma) ts >>= λ _ ts.
+    typed_value_at ts >>= λ b.
+    Good (syntax.Select o.span c a b)
 
 -- ---- the way through the blocks
 
 abbrev pub incoming_at : List Token → Read Incoming
-incoming_at ts = take_one (is OpenSquare) ts >>= λ _ ts. value_at 64 ts >>= λ v ts. take_one (is Comma) ts >>= λ _ ts. take_one (is Local) ts >>= λ b ts. take_one (is CloseSquare) ts >>= λ _. Good (record { value = v; block = name_of b })
+incoming_at ts =
+    take_one (is OpenSquare) ts >>= λ _ ts.
+    value_at 64 ts >>= λ v ts.
+    take_one (is Comma) ts >>= λ _ ts.
+    take_one (is Local) ts >>= λ b ts.
+    take_one (is CloseSquare) ts >>= λ _.
+    Good (record { value = v; block = name_of b })
 
 abbrev pub phi_at : List Token → Read Op
-phi_at ts = take_one (is Phi) ts >>= λ o ts. type_at 64 ts >>= λ t ts. incoming_at ts >>= λ i ts. more_at (is OpenSquare) incoming_at metadata_tail_at ts >>= λ more. Good (syntax.Phi o.span t i more.items)
+phi_at ts =
+    take_one (is Phi) ts >>= λ o ts.
+    type_at 64 ts >>= λ t ts.
+    incoming_at ts >>= λ i ts.
+    more_at (is OpenSquare) incoming_at metadata_tail_at ts >>= λ more.
+    Good (syntax.Phi o.span t i more.items)
 
 abbrev pub branch_at : List Token → Read Op
 branch_at ts = take_one (is Br) ts >>= λ o. choose (is LabelWord) (λ ts. target_at ts >>= λ b. Good (syntax.Br o.span b))
     (λ ts. typed_value_at ts >>= λ c ts. take_one (is Comma) ts >>= λ _ ts. target_at ts >>= λ a ts. take_one (is Comma) ts >>= λ _ ts. target_at ts >>= λ b. Good (syntax.CondBr o.span c a b))
 
 abbrev pub case_at : List Token → Read Case
-case_at ts = typed_value_at ts >>= λ v ts. take_one (is Comma) ts >>= λ _ ts. target_at ts >>= λ b. Good (record { value = v; block = b })
+case_at ts =
+    typed_value_at ts >>= λ v ts.
+    take_one (is Comma) ts >>= λ _ ts.
+    target_at ts >>= λ b.
+    Good (record { value = v; block = b })
 
 abbrev pub switch_at : List Token → Read Op
-switch_at ts = take_one (is Switch) ts >>= λ o ts. typed_value_at ts >>= λ v ts. take_one (is Comma) ts >>= λ _ ts. target_at ts >>= λ b ts. take_one (is OpenSquare) ts >>= λ _ ts.
+switch_at ts =
+    take_one (is Switch) ts >>= λ o ts.
+    typed_value_at ts >>= λ v ts.
+    take_one (is Comma) ts >>= λ _ ts.
+    target_at ts >>= λ b ts.
+    take_one (is OpenSquare) ts >>= λ _ ts.
     all_of begins_type case_at ts >>= λ cases. unless Unsupported no_type (λ ts. take_one (is CloseSquare) ts >>= λ _. Good (syntax.Switch o.span v b cases))
 
 abbrev pub unreachable_at : List Token → Read Op
@@ -112,30 +162,58 @@ unreachable_at ts = take_one (is Unreachable) ts >>= λ o. Good (syntax.Unreacha
 
 -- [, align Int] (, Meta Meta)*
 unfoldable pub alignment_at : List Token → Read (Unit {0})
-alignment_at = choose (is Comma) (λ ts. take_one (is Comma) ts >>= λ _. choose (is Align) (λ ts. take_one (is Align) ts >>= λ _ ts. take_one (is Int) ts >>= λ _. metadata_at) metadata_tail_at) (Good tt)
+alignment_at =
+    choose (is Comma) (λ ts. take_one (is Comma) ts >>= λ _. choose (is Align)
+    (λ ts. take_one (is Align) ts >>= λ _ ts. take_one (is Int) ts >>= λ _. metadata_at)
+    metadata_tail_at) (Good tt)
 
 -- [, type Int] [, align Int] (, Meta Meta)*
 unfoldable pub count_at : List Token → Read (Option Count)
-count_at = choose (is Comma) (λ ts. take_one (is Comma) ts >>= λ _.
-    choose (is Align) (λ ts. take_one (is Align) ts >>= λ _ ts. take_one (is Int) ts >>= λ _ ts. metadata_at ts >>= λ _. Good None)
+count_at =
+    choose (is Comma) (λ ts. take_one (is Comma) ts >>= λ _. choose (is Align)
+    (λ ts. take_one (is Align) ts >>= λ _ ts. take_one (is Int) ts >>= λ _ ts. metadata_at ts >>= λ _. Good None)
     (choose metadata_name (λ ts. metadata_tail_at ts >>= λ _. Good None)
-    (λ ts. type_at 64 ts >>= λ t ts. unless Unsupported (is Local) (take_one (is Int)) ts >>= λ n ts. alignment_at ts >>= λ _. Good (Some (record { ty = t; count = literal_of n }))))) (Good None)
+    (λ ts. type_at 64 ts >>= λ t ts. unless Unsupported (is Local) (take_one (is Int)) ts >>= λ n ts. alignment_at ts >>= λ _.
+    Good (Some (record { ty = t; count = literal_of n }))))) (Good None)
 
 abbrev pub alloca_at : List Token → Read Op
-alloca_at ts = take_one (is Alloca) ts >>= λ o ts. type_at 64 ts >>= λ t ts. count_at ts >>= λ n. Good (syntax.Alloca o.span t n)
+alloca_at ts =
+    take_one (is Alloca) ts >>= λ o ts.
+    type_at 64 ts >>= λ t ts.
+    count_at ts >>= λ n.
+    Good (syntax.Alloca o.span t n)
 
 abbrev pub volatile_at : List Token → Read (Unit {0})
 volatile_at = choose (is Volatile) (drop_value_at (take_one (is Volatile))) (Good tt)
 
 abbrev pub load_at : List Token → Read Op
-load_at ts = take_one (is Load) ts >>= λ o ts. volatile_at ts >>= λ _ ts. type_at 64 ts >>= λ t ts. take_one (is Comma) ts >>= λ _ ts. typed_value_at ts >>= λ p ts. alignment_at ts >>= λ _. Good (syntax.Load o.span t p)
+load_at ts =
+    take_one (is Load) ts >>= λ o ts.
+    volatile_at ts >>= λ _ ts.
+    type_at 64 ts >>= λ t ts.
+    take_one (is Comma) ts >>= λ _ ts.
+    typed_value_at ts >>= λ p ts.
+    alignment_at ts >>= λ _.
+    Good (syntax.Load o.span t p)
 
 abbrev pub store_at : List Token → Read Op
-store_at ts = take_one (is Store) ts >>= λ o ts. volatile_at ts >>= λ _ ts. typed_value_at ts >>= λ v ts. take_one (is Comma) ts >>= λ _ ts. typed_value_at ts >>= λ p ts. alignment_at ts >>= λ _. Good (syntax.Store o.span v p)
+store_at ts =
+    take_one (is Store) ts >>= λ o ts.
+    volatile_at ts >>= λ _ ts.
+    typed_value_at ts >>= λ v ts.
+    take_one (is Comma) ts >>= λ _ ts.
+    typed_value_at ts >>= λ p ts.
+    alignment_at ts >>= λ _.
+    Good (syntax.Store o.span v p)
 
 -- behind the first token of a getelementptr and its flags
 abbrev pub gep_op_tail_at : Token → List Token → Read Op
-gep_op_tail_at o ts = type_at 64 ts >>= λ t ts. take_one (is Comma) ts >>= λ _ ts. typed_value_at ts >>= λ p ts. more_at begins_type typed_value_at (unless Unsupported no_type metadata_tail_at) ts >>= λ more. Good (syntax.GetElementPtr o.span t p more.items)
+gep_op_tail_at o ts =
+    type_at 64 ts >>= λ t ts.
+    take_one (is Comma) ts >>= λ _ ts.
+    typed_value_at ts >>= λ p ts.
+    more_at begins_type typed_value_at (unless Unsupported no_type metadata_tail_at) ts >>= λ more.
+    Good (syntax.GetElementPtr o.span t p more.items)
 
 abbrev pub gep_op_at : List Token → Read Op
 gep_op_at ts = take_one (is GetElementPtr) ts >>= λ o ts. flags_at ts >>= λ _. gep_op_tail_at o
@@ -147,20 +225,29 @@ written_at ts = take_one (is OpenRound) ts >>= λ _.
     choose (is Dots) (λ ts. take_one (is Dots) ts >>= λ _ ts. take_one (is CloseRound) ts >>= λ _. Good (record { types = []; dots = true }))
     (choose (is Comma) (λ ts. take_one (is Comma) ts >>= λ _ ts. take_one (is Dots) ts >>= λ _ ts. take_one (is CloseRound) ts >>= λ _. Good (record { types = []; dots = true }))
     (choose (is CloseRound) (λ ts. take_one (is CloseRound) ts >>= λ _. Good (record { types = []; dots = false }))
-    (λ ts. type_at 64 ts >>= λ t ts. more_at begins_type (type_at 64) (unless Unsupported no_type (drop_value_at (take_one (is Dots)))) ts >>= λ more ts. take_one (is CloseRound) ts >>= λ _. Good (record { types = t ∷ more.items; dots = more.comma }))))
+    (λ ts. type_at 64 ts >>= λ t ts. more_at begins_type (type_at 64) (unless Unsupported no_type (drop_value_at (take_one (is Dots)))) ts >>= λ more ts.
+    take_one (is CloseRound) ts >>= λ _. Good (record { types = t ∷ more.items; dots = more.comma }))))
 
 abbrev pub call_word_at : List Token → Read Token
 call_word_at = choose (is Call) (take_one (is Call)) (λ ts. take_one (is TailWord) ts >>= λ o ts. take_one (is Call) ts >>= λ _. Good o)
 
 abbrev pub callee_at : Token → Ty → Option Written → List Token → Read Op
-callee_at o t w ts = unless Unsupported (is_word ∪ is Local) (take_one (is Global)) ts >>= λ f ts. take_one (is OpenRound) ts >>= λ _ ts. listed_at CloseRound argument_at ts >>= λ all. Good (syntax.Call o.span t w (name_of f) all)
+callee_at o t w ts =
+    unless Unsupported (is_word ∪ is Local) (take_one (is Global)) ts >>= λ f ts.
+    take_one (is OpenRound) ts >>= λ _ ts.
+    listed_at CloseRound argument_at ts >>= λ all.
+    Good (syntax.Call o.span t w (name_of f) all)
 
 abbrev pub dropped_callee_at : List Token → Read (Unit {0})
 dropped_callee_at ts = take_one (is DroppedGlobal) ts >>= λ _ ts. take_one (is OpenRound) ts >>= λ _. skip_at 63 CloseRound
 
 -- a call, without the attributes behind its arguments
 unfoldable pub call_at : List Token → Read (Option Op)
-call_at ts = call_word_at ts >>= λ o ts. attributes_at ts >>= λ _ ts. type_at 64 ts >>= λ t ts. choose (is OpenRound) (λ ts. written_at ts >>= λ w. Good (Some w)) (Good None) ts >>= λ w.
+call_at ts =
+    call_word_at ts >>= λ o ts.
+    attributes_at ts >>= λ _ ts.
+    type_at 64 ts >>= λ t ts.
+    choose (is OpenRound) (λ ts. written_at ts >>= λ w. Good (Some w)) (Good None) ts >>= λ w.
     choose (is DroppedGlobal) (λ ts. dropped_callee_at ts >>= λ _. Good None) (λ ts. callee_at o t w ts >>= λ c. Good (Some c))
 
 -- ---- all operations but calls and returns

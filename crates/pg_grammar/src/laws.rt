@@ -3,7 +3,7 @@
 ghost use Rattle.std.specs.Prelude.{◌≡◌, ◌⊎◌, ℕ, true, List, map};
 ghost use Rattle.pg_ast.specs.Syntax.{Tree};
 ghost use Rattle.pg_grammar.specs.declared.fault.ReadFault.{ReadFault};
-ghost use Rattle.pg_grammar.specs.Accepted.{IsModule, IsFirstRefusal};
+ghost use Rattle.pg_grammar.specs.Accepted.{IsModule, IsUnread};
 ghost use Rattle.pg_grammar.specs.GrammarItems.{Part, blocks_of};
 ghost use Rattle.pg_grammar.specs.Endings.{all_end_last};
 ghost use Rattle.pg_grammar.specs.NameOrder.{all_ascend};
@@ -16,13 +16,13 @@ pub fn a_text_is_one_module()
 
 /// A text is a module or has a first refusal, and not both.
 pub fn a_text_is_a_module_or_refused()
-    ensures some { (text : List ℕ) → ((m : Tree) × IsModule text m) ⊎ ((e : ReadFault) × IsFirstRefusal text e) }
-    ensures apart { (text : List ℕ) (e : ReadFault) → IsFirstRefusal text e → (m : Tree) → IsModule text m → ⊥ }
+    ensures some { (text : List ℕ) → ((m : Tree) × IsModule text m) ⊎ ((e : ReadFault) × IsUnread text e) }
+    ensures apart { (text : List ℕ) (e : ReadFault) → IsUnread text e → (m : Tree) → IsModule text m → ⊥ }
 {}
 
 /// A text has one first refusal at most.
 pub fn a_text_has_one_refusal()
-    ensures { (text : List ℕ) (e d : ReadFault) → IsFirstRefusal text e → IsFirstRefusal text d → e ≡ d }
+    ensures { (text : List ℕ) (e d : ReadFault) → IsUnread text e → IsUnread text d → e ≡ d }
 {}
 
 /// The parts of a body can be split into blocks, and each split gives the blocks of the grammar.

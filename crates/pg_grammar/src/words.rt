@@ -3,7 +3,6 @@
 ghost use Rattle.std.specs.Prelude.{◌≡◌, ◌≤◌, length, map, IfOk};
 ghost use Rattle.std.specs.List.{list_all};
 ghost use Rattle.pg_lex.specs.Tokens.{IsAscending};
-ghost use Rattle.pg_lex.specs.Names.{token_name};
 ghost use Rattle.pg_num.specs.Decimal.{are_digits, is_digit};
 ghost use Rattle.pg_num.specs.declared.limits.TheConstants.{PROGRAM_TEXT_LIMIT};
 ghost use Rattle.pg_grammar.specs.Words.{is_integer_type, class_by_form, class_in, row_of, words, word_class, is_dropped, is_debug, class_of, bytes_at, seen, classified};

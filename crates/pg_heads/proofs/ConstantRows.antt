@@ -6,7 +6,7 @@ use Rattle.pg_lex.specs.declared.token.Span.{Span}
 use Rattle.pg_ast.specs.declared.types.TypeNode.{TypeNode}
 use Rattle.pg_rules.specs.Nodes.{ty_behind, tys_behind}
 use Rattle.pg_ast.specs.declared.values.TypedConst.{TypedConst, fold_out-TypedConst}
-use Rattle.pg_ast.specs.declared.values.ConstNode.{ConstNode, roll-ConstNode}
+use Rattle.pg_ast.specs.declared.values.ConstNode.{roll-ConstNode}
 use Rattle.pg_ast.specs.declared.values.ConstNode.TheViews as node
 use Rattle.pg_ast.specs.declared.values.ConstNode.TheOpen as opened
 use Rattle.pg_ast.specs.declared.values.ConstNode.TheFolds.{fold-roll-ConstNode}

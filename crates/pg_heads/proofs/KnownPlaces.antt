@@ -5,7 +5,7 @@ use Rattle.pg_lex.specs.declared.token.Span.{Span}
 use Rattle.pg_rules.specs.declared.fault.CheckKind.{CheckKind}
 use Rattle.pg_rules.specs.declared.fault.CheckKind.TheVariants.{UnknownName, Doubled, WrongType, NoBlock, BadPhi, Unsupported, BadSignature, TooLarge, NoMain}
 use Rattle.pg_rules.specs.declared.refusals.Refusals.{Refusals}
-use Rattle.pg_rules.specs.Conditions.{Part, at_if}
+use Rattle.pg_rules.specs.Conditions.{RefusedPlaces, at_if}
 use Rattle.pg_rules.specs.Earliest.{earlier, earliest, place_of}
 use Rattle.pg_rules.proofs.Rows.{earliest_more, row_more}
 use Rattle.pg_heads.specs.Circles.{is_earlier}
@@ -55,7 +55,7 @@ not_earlier (Some known) place true e = sym (ap (λ t. cond t (Some place) (Some
 not_earlier (Some known) place false e = refl
 
 -- each kind's place is the earlier of what is known and of its row
-pub are_merged : (r found : Refusals) (part : Part) → r.unknown_name ≡ earlier found.unknown_name (earliest (part UnknownName)) → r.doubled ≡ earlier found.doubled (earliest (part Doubled))
+pub are_merged : (r found : Refusals) (part : RefusedPlaces) → r.unknown_name ≡ earlier found.unknown_name (earliest (part UnknownName)) → r.doubled ≡ earlier found.doubled (earliest (part Doubled))
     → r.wrong_type ≡ earlier found.wrong_type (earliest (part WrongType)) → r.no_block ≡ earlier found.no_block (earliest (part NoBlock)) → r.bad_phi ≡ earlier found.bad_phi (earliest (part BadPhi))
     → r.unsupported ≡ earlier found.unsupported (earliest (part Unsupported)) → r.bad_signature ≡ earlier found.bad_signature (earliest (part BadSignature))
     → r.too_large ≡ earlier found.too_large (earliest (part TooLarge)) → r.no_main ≡ earlier found.no_main (earliest (part NoMain))

@@ -1,5 +1,6 @@
 -- Which type items are reached from a type item through the names in them, by their places.
-use Rattle.std.specs.Prelude.{◌≡◌, ◌<◌, Option, Some, None, map, slice_get, ℕ, zero, suc, nat_lt, ◌==◌, ◌||◌, ◌&&◌, not, ◌⊎◌, if◌then◌else◌, Bool, true, false, List, [], ◌∷◌, ◌++◌, length, get_or}
+use Rattle.std.specs.Prelude.{◌≡◌, ◌<◌, Option, Some, None, map, slice_get, ℕ, zero, suc, nat_lt, ◌==◌, ◌||◌, ◌&&◌}
+use Rattle.std.specs.Prelude.{not, ◌⊎◌, if◌then◌else◌, Bool, true, false, List, [], ◌∷◌, ◌++◌, length, get_or}
 use Rattle.std.specs.List.{list_any, filter_map}
 use Rattle.pg_lex.specs.declared.token.Span.{Span}
 use Rattle.pg_ast.specs.declared.names.Name.{Name}

@@ -1,6 +1,6 @@
 //! What the heads of functions that are defined are refused for.
 
-ghost use Rattle.std.specs.Prelude.{◌≡◌, ◌++◌, [], IfOk, OnOk, not, ◌||◌, List, ℕ, Option, None, Some, map, is_some, nat_le};
+ghost use Rattle.std.specs.Prelude.{◌≡◌, ◌++◌, [], IfOk, OnOk, ◌||◌, List, ℕ, Option, None, Some, map, is_some, nat_le};
 ghost use Rattle.std.specs.List.{flat_map, filter_map, list_any};
 ghost use Rattle.std.specs.Option.{option_map};
 ghost use Rattle.pg_num.specs.declared.width.Width.TheVariants.{W32};

@@ -1,6 +1,6 @@
 //! What the heads of declared functions are refused for.
 
-ghost use Rattle.std.specs.Prelude.{◌≡◌, ◌++◌, [], IfOk, OnOk, not, ◌||◌, List, ℕ, Option, None, Some, map};
+ghost use Rattle.std.specs.Prelude.{◌≡◌, ◌++◌, [], IfOk, OnOk, ◌||◌, List, ℕ, Option, None, Some, map};
 ghost use Rattle.std.specs.List.{filter_map, cons_option};
 ghost use Rattle.std.specs.Str.{bytes_eq};
 ghost use Rattle.pg_num.specs.declared.width.Width.TheVariants.{W32};

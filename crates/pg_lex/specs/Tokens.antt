@@ -1,9 +1,13 @@
 -- The tokens of a text: at each place the longest one of the forms below, and no token in blank space and comments.
-use Rattle.std.specs.Prelude.{ℕ, zero, suc, ◌+◌, ◌-◌, Bool, false, ◌&&◌, ◌||◌, ◌==◌, not, List, [], ◌∷◌, length, drop, Option, Some, None, if◌then◌else◌, take_while, position, Result, Ok, Err, ◌≤◌, ◌<◌}
+use Rattle.std.specs.Prelude.{ℕ, zero, suc, ◌+◌, ◌-◌, Bool, false, ◌&&◌, ◌||◌, ◌==◌, not, List, [], ◌∷◌, length, drop}
+use Rattle.std.specs.Prelude.{Option, Some, None, if◌then◌else◌, take_while, position, Result, Ok, Err, ◌≤◌, ◌<◌}
 use Rattle.std.specs.List.{list_all, list_any}
 use Rattle.pg_num.specs.Decimal.{is_decimal}
 use Rattle.pg_lex.specs.declared.token.TokenKind.{TokenKind}
-use Rattle.pg_lex.specs.declared.token.TokenKind.TheVariants.{Label, Int, Dots, CStr, Word, Odd, Str, Local, Global, Meta, Attr, OpenRound, CloseRound, OpenBrace, CloseBrace, OpenSquare, CloseSquare, Less, Greater, Comma, Equals, Star, Bar, Colon}
+use Rattle.pg_lex.specs.declared.token.TokenKind.TheVariants.{Label, Int, Dots, CStr, Word, Odd, Str, Local, Global}
+use Rattle.pg_lex.specs.declared.token.TokenKind.TheVariants.{Meta, Attr, OpenRound, CloseRound, OpenBrace, CloseBrace}
+use Rattle.pg_lex.specs.declared.token.TokenKind.TheVariants.{OpenSquare, CloseSquare, Less, Greater, Comma, Equals}
+use Rattle.pg_lex.specs.declared.token.TokenKind.TheVariants.{Star, Bar, Colon}
 use Rattle.pg_lex.specs.declared.token.Token.{Token}
 use Rattle.pg_lex.specs.declared.token.LexFault.{LexFault}
 use Rattle.pg_lex.specs.declared.token.LexFault.TheVariants.{BadByte, OpenString}

@@ -3,7 +3,9 @@
 ghost use Rattle.std.specs.Prelude.{◌≡◌, ◌≤◌, ◌<◌, ◌+◌, ◌-◌, ◌≢◌, length, drop, IfOk, IfErr, IfSome, Ok, Err, not, take_while, position};
 ghost use Rattle.std.specs.List.{list_all, list_any};
 ghost use Rattle.pg_lex.specs.Bytes.{is_blank, is_line_feed, is_quote, is_colon, is_plus, is_letter, is_run_byte, begins};
-ghost use Rattle.pg_lex.specs.Tokens.{run, string_length, is_name, is_dots, is_c, begins_word, with_string, run_piece, string_piece, named_piece, mark_of, marked_piece, piece_of, IsWithin, tokens, IsAscending};
+ghost use Rattle.pg_lex.specs.Tokens.{run, string_length, is_name, is_dots, is_c, begins_word, with_string, run_piece};
+ghost use Rattle.pg_lex.specs.Tokens.{string_piece, named_piece, mark_of, marked_piece, piece_of, IsWithin, tokens};
+ghost use Rattle.pg_lex.specs.Tokens.{IsAscending};
 ghost use Rattle.pg_num.specs.Decimal.{are_digits, is_decimal, is_digit};
 ghost use Rattle.pg_num.specs.declared.limits.TheConstants.{PROGRAM_TEXT_LIMIT};
 

@@ -1,7 +1,6 @@
 //! The bytes that a token stands for, with its escapes read.
 
-ghost use Rattle.std.specs.Prelude.{◌≡◌, ◌≤◌, ◌+◌, ◌-◌, ◌<◌, length, drop, take, IfOk, IsTrue};
-ghost use Rattle.pg_lex.specs.Bytes.{is_quote, begins};
+ghost use Rattle.std.specs.Prelude.{◌≡◌, ◌≤◌, ◌+◌, ◌-◌, ◌<◌, length, drop, IfOk, IsTrue};
 ghost use Rattle.pg_lex.specs.Names.{is_hexadecimal, hexadecimal_value, escape_of, escape_in, unescaped, name_of, token_name, inside_quotes};
 ghost use Rattle.pg_num.specs.declared.limits.TheConstants.{PROGRAM_TEXT_LIMIT};
 

@@ -6,14 +6,13 @@ use Rattle.pg_ast.specs.Syntax.{Case}
 use Rattle.pg_types.specs.Resolved.{ResolvedType}
 use Rattle.pg_rules.specs.Conditions.{at_if}
 use Rattle.pg_rules.specs.Earliest.{earlier, earliest}
-use Rattle.pg_rules.specs.LineConditions.{same_number, stands_before}
+use Rattle.pg_rules.specs.LineConditions.{same_number, repeats, repeated_case}
 use Rattle.pg_rules.specs.Starts.{noted_start, is_before}
 use Rattle.pg_rules.specs.Places.{val_span}
-use Rattle.pg_rules.specs.ValueConditions.{number_at}
 use Rattle.pg_rules.proofs.Doubles.{min_before, or_again, or_false}
 use Rattle.pg_rules.proofs.Rows.{row_step}
 use Rattle.pg_lines.specs.declared.cases.CasePlace.{CasePlace}
-use Rattle.pg_lines.specs.Cases.{case_place, repeated, repeated_case, starts_behind, start_by}
+use Rattle.pg_lines.specs.Cases.{case_place, repeated, starts_behind, start_by}
 
 pub not_noted : (known : Option ℕ) (start : ℕ) → noted_start known false start ≡ known
 not_noted None start = refl
@@ -76,9 +75,9 @@ repeated_is all c starts known test o s k t e = e ∙ by test ∙ ap (λ b. earl
 
 any_place : (t : Option ResolvedType) (all : List Case) (c : Case)
     → list_any (λ (o : CasePlace). same_number o.number (case_place t c).number && nat_lt o.span.start (case_place t c).span.start) (map (case_place t) all)
-    ≡ list_any (λ (o : Case). same_number (number_at t o.value.value) (number_at t c.value.value) && stands_before o.value.value c.value.value) all
+    ≡ list_any (λ (o : Case). repeats t o c) all
 any_place t [] c = refl
-any_place t (o ∷ os) c = ap (λ b. (same_number (number_at t o.value.value) (number_at t c.value.value) && stands_before o.value.value c.value.value) || b) (any_place t os c)
+any_place t (o ∷ os) c = ap (λ b. repeats t o c || b) (any_place t os c)
 
 -- the cases as they are written
 pub cases_are : (t : Option ResolvedType) (all rest : List Case) → flat_map (repeated (map (case_place t) all)) (map (case_place t) rest) ≡ flat_map (repeated_case t all) rest

@@ -8,7 +8,7 @@ use Rattle.pg_types.specs.Resolved.{ResolvedType}
 use Rattle.pg_rules.specs.Places.{val_span}
 use Rattle.pg_rules.specs.Starts.{noted_start}
 use Rattle.pg_rules.specs.ValueConditions.{number_at}
-use Rattle.pg_rules.specs.LineConditions.{same_number, stands_before}
+use Rattle.pg_rules.specs.LineConditions.{same_number}
 use Rattle.pg_lines.specs.declared.cases.CasePlace.{CasePlace}
 
 -- the number of a case at the type of its switch, and its place
@@ -18,10 +18,6 @@ case_place t c = record { number = number_at t c.value.value; span = val_span c.
 -- a case of which another of its number stands before it
 abbrev pub repeated : List CasePlace → CasePlace → List Span
 repeated all c = if list_any (λ (o : CasePlace). same_number o.number c.number && nat_lt o.span.start c.span.start) all then c.span ∷ [] else []
-
--- the same of cases as they are written
-abbrev pub repeated_case : Option ResolvedType → List Case → Case → List Span
-repeated_case t all c = if list_any (λ (o : Case). same_number (number_at t o.value.value) (number_at t c.value.value) && stands_before o.value.value c.value.value) all then val_span c.value.value ∷ [] else []
 
 -- where the first case of a number begins
 unfoldable pub starts_behind : Option ℕ → List CasePlace → ℕ → Option ℕ

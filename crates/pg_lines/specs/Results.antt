@@ -1,4 +1,4 @@
--- What a function returns, and what an instruction gives, by the kinds of types.
+-- What a function returns, by the kinds of types.
 use Rattle.std.specs.Prelude.{Bool, true, false, Option, Some, None}
 use Rattle.pg_types.specs.declared.kind.TypeKind.{TypeKind}
 use Rattle.pg_types.specs.declared.kind.TypeKind.TheVariants.{Void}
@@ -8,7 +8,3 @@ abbrev pub is_value_kind : Option TypeKind → Bool
 is_value_kind (Some Void) = false
 is_value_kind (Some k) = true
 is_value_kind None = false
-
-abbrev pub is_void_kind : Option TypeKind → Bool
-is_void_kind (Some Void) = true
-is_void_kind _ = false

@@ -7,10 +7,10 @@ ghost use Rattle.pg_types.specs.NumberedTypes.{named_types};
 ghost use Rattle.pg_types.specs.Resolved.{resolved};
 ghost use Rattle.pg_rules.specs.Starts.{noted_start, is_before};
 ghost use Rattle.pg_rules.specs.ValueConditions.{Scope};
-ghost use Rattle.pg_rules.specs.LineConditions.{same_number, equal_cases};
+ghost use Rattle.pg_rules.specs.LineConditions.{same_number, repeated_case, equal_cases};
 ghost use Rattle.pg_rules.specs.Earliest.{earliest};
 ghost use Rattle.pg_lines.specs.declared.cases.CasePlace.{CasePlace};
-ghost use Rattle.pg_lines.specs.Cases.{case_place, repeated, repeated_case, starts_behind, start_of, start_by};
+ghost use Rattle.pg_lines.specs.Cases.{case_place, repeated, starts_behind, start_of, start_by};
 
 use crate::line_types::value_type;
 use indexmap::IndexMap;
@@ -167,7 +167,7 @@ pub(crate) fn equal_cases(
     ensures items { types.new.items ≡ types.old.items }
 {
     match op {
-        OpNode::Switch(_, value, _, cases) => {
+        OpNode::Switch { value, cases, .. } => {
             repeated_cases(alloc, types, value_type(value), cases.as_slice())
         }
         _ => Ok(None),

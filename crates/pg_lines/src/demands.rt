@@ -7,7 +7,7 @@ ghost use Rattle.pg_ast.specs.Syntax.{Case};
 ghost use Rattle.pg_ast.specs.declared.ops.CaseNode.{CaseNode};
 ghost use Rattle.pg_ast.specs.declared.values.TypedVal.{TypedVal};
 ghost use Rattle.pg_ast.specs.Views.{ty_of, typed_of, op_of, case_of, count_of};
-ghost use Rattle.pg_types.specs.Resolved.{ResolvedType, resolved, is_integer, is_pointer};
+ghost use Rattle.pg_types.specs.Resolved.{ResolvedType, resolved};
 ghost use Rattle.pg_types.specs.Kinds.{kind_of, fails, is_as};
 ghost use Rattle.pg_types.specs.NumberedTypes.{named_types};
 ghost use Rattle.pg_rules.specs.Earliest.{earliest};
@@ -27,7 +27,7 @@ use pg_calls::{
 use pg_lex::Span;
 use pg_rules::{earlier, type_span};
 use pg_types::{TypeKind, TypeNumbers};
-use pg_values::TypeTest;
+use pg_values::{TypeTest, passes};
 use std::alloc::{AllocError, Global};
 
 // ---- conversions
@@ -52,24 +52,6 @@ fn is_wider(from: Option<TypeKind>, to: TypeKind) -> bool
     }
 }
 
-fn is_integer(kind: TypeKind) -> bool
-    ensures { (t : ResolvedType) → kind ≡ kind_of t → result ≡ is_integer t }
-{
-    match kind {
-        TypeKind::Integer(_) => true,
-        _ => false,
-    }
-}
-
-fn is_pointer(kind: TypeKind) -> bool
-    ensures { (t : ResolvedType) → kind ≡ kind_of t → result ≡ is_pointer t }
-{
-    match kind {
-        TypeKind::Pointer => true,
-        _ => false,
-    }
-}
-
 fn casts_to(op: CastOp, from: Option<TypeKind>, to: TypeKind) -> bool
     ensures { (s : Option ResolvedType) (t : ResolvedType) → from ≡ option_map kind_of s → to ≡ kind_of t → result ≡ cast_to op s t }
 {
@@ -77,8 +59,8 @@ fn casts_to(op: CastOp, from: Option<TypeKind>, to: TypeKind) -> bool
         CastOp::Trunc => is_narrower(from, to),
         CastOp::Zext => is_wider(from, to),
         CastOp::Sext => is_wider(from, to),
-        CastOp::PtrToInt => is_integer(to),
-        CastOp::IntToPtr => is_pointer(to),
+        CastOp::PtrToInt => passes(TypeTest::Integer, to),
+        CastOp::IntToPtr => passes(TypeTest::Pointer, to),
     }
 }
 
@@ -232,7 +214,8 @@ fn unmet_return(
     expected: &TypeNode,
     value: &TypedVal,
 ) -> Result<Option<Span>, AllocError>
-    ensures place { IfOk result (λ o. o ≡ earliest (flat_map (unmet (named_types types.old)) (asks_typed (returns_as (resolved (named_types types.old) (ty_of expected.now))) (typed_of value.now) ∷ []))) }
+    ensures place { IfOk result (λ o. o ≡ earliest (flat_map (unmet (named_types types.old))
+        (asks_typed (returns_as (resolved (named_types types.old) (ty_of expected.now))) (typed_of value.now) ∷ []))) }
     ensures items { types.new.items ≡ types.old.items }
 {
     if is_wrong_return(types, expected, &value.ty)? {
@@ -266,7 +249,8 @@ fn unmet_select(
     other: &TypedVal,
 ) -> Result<Option<Span>, AllocError>
     ensures place { IfOk result (λ o. o ≡ earliest (flat_map (unmet (named_types types.old))
-        (asks_typed (test_of Bit) (typed_of condition.now) ∷ asks_typed (test_of Scalar) (typed_of one.now) ∷ asks_typed (is_as (resolved (named_types types.old) (typed_of one.now).ty)) (typed_of other.now) ∷ []))) }
+        (asks_typed (test_of Bit) (typed_of condition.now) ∷ asks_typed (test_of Scalar) (typed_of one.now)
+        ∷ asks_typed (is_as (resolved (named_types types.old) (typed_of one.now).ty)) (typed_of other.now) ∷ []))) }
     ensures items { types.new.items ≡ types.old.items }
 {
     let bit = unmet_value(types, TypeTest::Bit, condition)?;
@@ -363,7 +347,8 @@ fn unmet_store(
     value: &TypedVal,
     pointer: &TypedVal,
 ) -> Result<Option<Span>, AllocError>
-    ensures place { IfOk result (λ o. o ≡ earliest (flat_map (unmet (named_types types.old)) (asks_typed (test_of Scalar) (typed_of value.now) ∷ asks_typed (test_of Pointer) (typed_of pointer.now) ∷ []))) }
+    ensures place { IfOk result (λ o. o ≡ earliest (flat_map (unmet (named_types types.old))
+        (asks_typed (test_of Scalar) (typed_of value.now) ∷ asks_typed (test_of Pointer) (typed_of pointer.now) ∷ []))) }
     ensures items { types.new.items ≡ types.old.items }
 {
     let own = unmet_value(types, TypeTest::Scalar, value)?;
@@ -410,28 +395,37 @@ fn op_demands(
     returned: &TypeNode,
     op: &OpNode,
 ) -> Result<Option<Span>, AllocError>
-    ensures place { IfOk result (λ o. o ≡ earliest (flat_map (unmet (named_types types.old)) (op_demands (named_types types.old) (resolved (named_types types.old) (ty_of returned.now)) (op_of op.now)))) }
+    ensures place { IfOk result (λ o. o ≡ earliest (flat_map (unmet (named_types types.old))
+        (op_demands (named_types types.old) (resolved (named_types types.old) (ty_of returned.now)) (op_of op.now)))) }
     ensures items { types.new.items ≡ types.old.items }
 {
     match op {
-        OpNode::Binary(_, _, ty, _, _) => unmet_one(types, TypeTest::Integer, ty),
-        OpNode::Icmp(_, _, ty, _, _) => unmet_one(types, TypeTest::Scalar, ty),
-        OpNode::Cast(_, cast, value, ty) => unmet_cast(types, *cast, value, ty),
-        OpNode::Select(_, condition, one, other) => unmet_select(types, condition, one, other),
-        OpNode::Phi(_, ty, _, _) => unmet_one(types, TypeTest::Scalar, ty),
-        OpNode::Br(_, _) => Ok(None),
-        OpNode::CondBr(_, condition, _, _) => unmet_value(types, TypeTest::Bit, condition),
-        OpNode::Switch(_, value, _, cases) => unmet_switch(types, value, cases.as_slice()),
-        OpNode::Call(_, _, _, _, _) => Ok(None),
-        OpNode::RetVoid(_, _) => Ok(None),
-        OpNode::Ret(_, value) => unmet_return(types, returned, value),
-        OpNode::Unreachable(_) => Ok(None),
-        OpNode::Alloca(_, ty, count) => unmet_alloca(types, ty, count),
-        OpNode::Load(_, ty, pointer) => unmet_pointed(types, TypeTest::Scalar, ty, pointer),
-        OpNode::Store(_, value, pointer) => unmet_store(types, value, pointer),
-        OpNode::GetElementPtr(_, ty, pointer, indices) => {
-            unmet_path(types, ty, pointer, indices.as_slice())
-        }
+        OpNode::Binary { ty, .. } => unmet_one(types, TypeTest::Integer, ty),
+        OpNode::Icmp { ty, .. } => unmet_one(types, TypeTest::Scalar, ty),
+        OpNode::Cast { op, value, ty, .. } => unmet_cast(types, *op, value, ty),
+        OpNode::Select {
+            condition,
+            yes,
+            no,
+            ..
+        } => unmet_select(types, condition, yes, no),
+        OpNode::Phi { ty, .. } => unmet_one(types, TypeTest::Scalar, ty),
+        OpNode::Br { .. } => Ok(None),
+        OpNode::CondBr { condition, .. } => unmet_value(types, TypeTest::Bit, condition),
+        OpNode::Switch { value, cases, .. } => unmet_switch(types, value, cases.as_slice()),
+        OpNode::Call { .. } => Ok(None),
+        OpNode::RetVoid { .. } => Ok(None),
+        OpNode::Ret { value, .. } => unmet_return(types, returned, value),
+        OpNode::Unreachable { .. } => Ok(None),
+        OpNode::Alloca { ty, count, .. } => unmet_alloca(types, ty, count),
+        OpNode::Load { ty, pointer, .. } => unmet_pointed(types, TypeTest::Scalar, ty, pointer),
+        OpNode::Store { value, pointer, .. } => unmet_store(types, value, pointer),
+        OpNode::GetElementPtr {
+            ty,
+            pointer,
+            indices,
+            ..
+        } => { unmet_path(types, ty, pointer, indices.as_slice()) }
     }
 }
 

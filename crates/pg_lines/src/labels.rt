@@ -94,10 +94,10 @@ pub(crate) fn labels_of_line<'a>(alloc: Global, op: &'a OpNode) -> Result<Vec<&'
     ensures { IfOk result (λ v. names_behind v.items ≡ label_targets (op_of op.now) ++ label_sources (op_of op.now)) }
 {
     match op {
-        OpNode::Phi(_, _, first, others) => phi_labels(alloc, first, others.as_slice()),
-        OpNode::Br(_, block) => one_label(alloc, block),
-        OpNode::CondBr(_, _, yes, no) => two_labels(alloc, yes, no),
-        OpNode::Switch(_, _, block, cases) => switch_labels(alloc, block, cases.as_slice()),
+        OpNode::Phi { first, others, .. } => phi_labels(alloc, first, others.as_slice()),
+        OpNode::Br { block, .. } => one_label(alloc, block),
+        OpNode::CondBr { yes, no, .. } => two_labels(alloc, yes, no),
+        OpNode::Switch { other, cases, .. } => switch_labels(alloc, other, cases.as_slice()),
         _ => Ok(Vec::new(alloc)),
     }
 }

@@ -167,30 +167,46 @@ fn op_types<'a>(alloc: Global, op: &'a OpNode) -> Result<Vec<&'a TypeNode>, Allo
     ensures { IfOk result (λ v. tys_behind v.items ≡ op_types (op_of op.now)) }
 {
     match op {
-        OpNode::Binary(_, _, ty, _, _) => one_type(alloc, ty),
-        OpNode::Icmp(_, _, ty, _, _) => one_type(alloc, ty),
-        OpNode::Cast(_, _, value, ty) => two_types(alloc, value_type(value), ty),
-        OpNode::Select(_, test, yes, no) => {
-            three_types(alloc, value_type(test), value_type(yes), value_type(no))
+        OpNode::Binary { ty, .. } => one_type(alloc, ty),
+        OpNode::Icmp { ty, .. } => one_type(alloc, ty),
+        OpNode::Cast { value, ty, .. } => two_types(alloc, value_type(value), ty),
+        OpNode::Select {
+            condition,
+            yes,
+            no,
+            ..
+        } => {
+            three_types(
+                alloc,
+                value_type(condition),
+                value_type(yes),
+                value_type(no),
+            )
         }
-        OpNode::Phi(_, ty, _, _) => one_type(alloc, ty),
-        OpNode::Br(_, _) => Ok(Vec::new(alloc)),
-        OpNode::CondBr(_, test, _, _) => one_type(alloc, value_type(test)),
-        OpNode::Switch(_, value, _, cases) => switch_types(alloc, value, cases.as_slice()),
-        OpNode::Call(_, ty, written, _, arguments) => {
-            call_types(alloc, ty, written, arguments.as_slice())
-        }
-        OpNode::RetVoid(_, _) => Ok(Vec::new(alloc)),
-        OpNode::Ret(_, value) => one_type(alloc, value_type(value)),
-        OpNode::Unreachable(_) => Ok(Vec::new(alloc)),
-        OpNode::Alloca(_, ty, count) => alloca_types(alloc, ty, count),
-        OpNode::Load(_, ty, pointer) => two_types(alloc, ty, value_type(pointer)),
-        OpNode::Store(_, value, pointer) => {
+        OpNode::Phi { ty, .. } => one_type(alloc, ty),
+        OpNode::Br { .. } => Ok(Vec::new(alloc)),
+        OpNode::CondBr { condition, .. } => one_type(alloc, value_type(condition)),
+        OpNode::Switch { value, cases, .. } => switch_types(alloc, value, cases.as_slice()),
+        OpNode::Call {
+            ty,
+            written,
+            arguments,
+            ..
+        } => { call_types(alloc, ty, written, arguments.as_slice()) }
+        OpNode::RetVoid { .. } => Ok(Vec::new(alloc)),
+        OpNode::Ret { value, .. } => one_type(alloc, value_type(value)),
+        OpNode::Unreachable { .. } => Ok(Vec::new(alloc)),
+        OpNode::Alloca { ty, count, .. } => alloca_types(alloc, ty, count),
+        OpNode::Load { ty, pointer, .. } => two_types(alloc, ty, value_type(pointer)),
+        OpNode::Store { value, pointer, .. } => {
             two_types(alloc, value_type(value), value_type(pointer))
         }
-        OpNode::GetElementPtr(_, ty, pointer, indices) => {
-            path_types(alloc, ty, pointer, indices.as_slice())
-        }
+        OpNode::GetElementPtr {
+            ty,
+            pointer,
+            indices,
+            ..
+        } => { path_types(alloc, ty, pointer, indices.as_slice()) }
     }
 }
 

@@ -179,36 +179,56 @@ pub(crate) fn operands<'a>(alloc: Global, op: &'a OpNode) -> Result<Vec<UseNode<
     ensures { IfOk result (λ v. uses_of v.items ≡ operands (op_of op.now)) }
 {
     match op {
-        OpNode::Binary(_, _, ty, one, other) => two_uses(
+        OpNode::Binary {
+            ty,
+            left,
+            right,
+            ..
+        } => two_uses(
             alloc,
-            UseNode::Value(false, ty, one),
-            UseNode::Value(false, ty, other),
+            UseNode::Value(false, ty, left),
+            UseNode::Value(false, ty, right),
         ),
-        OpNode::Icmp(_, _, ty, one, other) => two_uses(
+        OpNode::Icmp {
+            ty,
+            left,
+            right,
+            ..
+        } => two_uses(
             alloc,
-            UseNode::Value(false, ty, one),
-            UseNode::Value(false, ty, other),
+            UseNode::Value(false, ty, left),
+            UseNode::Value(false, ty, right),
         ),
-        OpNode::Cast(_, _, value, _) => one_use(alloc, typed_use(value)),
-        OpNode::Select(_, test, yes, no) => {
-            three_uses(alloc, typed_use(test), typed_use(yes), typed_use(no))
-        }
-        OpNode::Phi(_, ty, first, others) => incoming_uses(alloc, ty, first, others.as_slice()),
-        OpNode::Br(_, _) => Ok(Vec::new(alloc)),
-        OpNode::CondBr(_, test, _, _) => one_use(alloc, typed_use(test)),
-        OpNode::Switch(_, value, _, cases) => switch_uses(alloc, value, cases.as_slice()),
-        OpNode::Call(_, _, _, _, arguments) => typed_uses(alloc, arguments.as_slice()),
-        OpNode::RetVoid(_, _) => Ok(Vec::new(alloc)),
-        OpNode::Ret(_, value) => one_use(alloc, typed_use(value)),
-        OpNode::Unreachable(_) => Ok(Vec::new(alloc)),
-        OpNode::Alloca(_, _, count) => count_uses(alloc, count),
-        OpNode::Load(_, _, pointer) => one_use(alloc, typed_use(pointer)),
-        OpNode::Store(_, value, pointer) => {
+        OpNode::Cast { value, .. } => one_use(alloc, typed_use(value)),
+        OpNode::Select {
+            condition,
+            yes,
+            no,
+            ..
+        } => { three_uses(alloc, typed_use(condition), typed_use(yes), typed_use(no)) }
+        OpNode::Phi {
+            ty,
+            first,
+            others,
+            ..
+        } => incoming_uses(alloc, ty, first, others.as_slice()),
+        OpNode::Br { .. } => Ok(Vec::new(alloc)),
+        OpNode::CondBr { condition, .. } => one_use(alloc, typed_use(condition)),
+        OpNode::Switch { value, cases, .. } => switch_uses(alloc, value, cases.as_slice()),
+        OpNode::Call { arguments, .. } => typed_uses(alloc, arguments.as_slice()),
+        OpNode::RetVoid { .. } => Ok(Vec::new(alloc)),
+        OpNode::Ret { value, .. } => one_use(alloc, typed_use(value)),
+        OpNode::Unreachable { .. } => Ok(Vec::new(alloc)),
+        OpNode::Alloca { count, .. } => count_uses(alloc, count),
+        OpNode::Load { pointer, .. } => one_use(alloc, typed_use(pointer)),
+        OpNode::Store { value, pointer, .. } => {
             two_uses(alloc, typed_use(value), typed_use(pointer))
         }
-        OpNode::GetElementPtr(_, _, pointer, indices) => {
-            path_uses(alloc, pointer, indices.as_slice())
-        }
+        OpNode::GetElementPtr {
+            pointer,
+            indices,
+            ..
+        } => { path_uses(alloc, pointer, indices.as_slice()) }
     }
 }
 

@@ -1,8 +1,8 @@
 //! Paths of indices, returns and names of results for which a line is refused.
 
-ghost use Rattle.std.specs.Prelude.{◌≡◌, IfOk, Some, not};
-ghost use Rattle.pg_ast.specs.Numbers.{is_void, gives};
-ghost use Rattle.pg_ast.specs.Views.{ty_of, op_of};
+ghost use Rattle.std.specs.Prelude.{◌≡◌, IfOk, Some};
+ghost use Rattle.pg_ast.specs.Numbers.{gives};
+ghost use Rattle.pg_ast.specs.Views.{op_of};
 ghost use Rattle.pg_types.specs.NumberedTypes.{named_types};
 ghost use Rattle.pg_types.specs.Kinds.{fails};
 ghost use Rattle.pg_types.specs.Resolved.{is_void_type};
@@ -11,12 +11,12 @@ ghost use Rattle.pg_rules.specs.ValueConditions.{Scope};
 ghost use Rattle.pg_rules.specs.LineConditions.{wrong_return, wrong_path, wrong_name};
 ghost use Rattle.pg_rules.specs.Earliest.{earliest};
 ghost use Rattle.pg_calls.specs.Scopes.{IsLineScope};
-ghost use Rattle.pg_lines.specs.Results.{is_value_kind, is_void_kind};
+ghost use Rattle.pg_lines.specs.Results.{is_value_kind};
 
-use crate::line_types::value_type;
-use pg_ast::{Name, OpNode, TypeNode};
+use pg_ast::{Name, OpNode};
 use pg_calls::LineScope;
 use pg_lex::Span;
+use pg_names::gives;
 use pg_rules::place_if;
 use pg_types::{TypeKind, TypeNumbers};
 use pg_values::wrong_indices;
@@ -33,7 +33,7 @@ pub(crate) fn wrong_path(
     ensures items { types.new.items ≡ types.old.items }
 {
     match op {
-        OpNode::GetElementPtr(_, ty, _, indices) => {
+        OpNode::GetElementPtr { ty, indices, .. } => {
             wrong_indices(alloc, types, ty, indices.as_slice())
         }
         _ => Ok(None),
@@ -78,7 +78,7 @@ pub(crate) fn wrong_return(
     ensures items { types.new.items ≡ types.old.items }
 {
     match op {
-        OpNode::RetVoid(_, void) => void_return(scope, types, *void),
+        OpNode::RetVoid { void, .. } => void_return(scope, types, *void),
         _ => Ok(None),
     }
 }
@@ -88,51 +88,6 @@ fn misplaced_name(gives: bool, name: &Name) -> Option<Span>
     ensures { result ≡ earliest (wrong_name gives (Some name.now)) }
 {
     if gives { None } else { Some(name.span) }
-}
-
-fn is_void_kind(kind: Option<TypeKind>) -> bool
-    ensures { result ≡ is_void_kind kind }
-{
-    match kind {
-        Some(TypeKind::Void) => true,
-        _ => false,
-    }
-}
-
-/// Whether a type is one that may have values: neither `void` nor a name for it.
-#[tactic(auto, using(crate::proofs::ResultKinds::void_by_kind))]
-fn isnt_void(types: &mut TypeNumbers<'_>, ty: &TypeNode) -> Result<bool, AllocError>
-    ensures same { IfOk result (λ b. b ≡ not (is_void (named_types types.old) (ty_of ty.now))) }
-    ensures items { types.new.items ≡ types.old.items }
-{
-    let kind = types.kind(ty)?;
-    Ok(!is_void_kind(kind))
-}
-
-/// Whether an instruction has a result that isn't `void`.
-#[tactic(auto, unfolding(pg_ast::specs::Numbers::gives))]
-fn gives(types: &mut TypeNumbers<'_>, op: &OpNode) -> Result<bool, AllocError>
-    ensures same { IfOk result (λ b. b ≡ gives (named_types types.old) (op_of op.now)) }
-    ensures items { types.new.items ≡ types.old.items }
-{
-    match op {
-        OpNode::Binary(_, _, ty, _, _) => isnt_void(types, ty),
-        OpNode::Icmp(_, _, _, _, _) => Ok(true),
-        OpNode::Cast(_, _, _, ty) => isnt_void(types, ty),
-        OpNode::Select(_, _, yes, _) => isnt_void(types, value_type(yes)),
-        OpNode::Phi(_, ty, _, _) => isnt_void(types, ty),
-        OpNode::Br(_, _) => Ok(false),
-        OpNode::CondBr(_, _, _, _) => Ok(false),
-        OpNode::Switch(_, _, _, _) => Ok(false),
-        OpNode::Call(_, ty, _, _, _) => isnt_void(types, ty),
-        OpNode::RetVoid(_, _) => Ok(false),
-        OpNode::Ret(_, _) => Ok(false),
-        OpNode::Unreachable(_) => Ok(false),
-        OpNode::Alloca(_, _, _) => Ok(true),
-        OpNode::Load(_, ty, _) => isnt_void(types, ty),
-        OpNode::Store(_, _, _) => Ok(false),
-        OpNode::GetElementPtr(_, _, _, _) => Ok(true),
-    }
 }
 
 /// A name before an instruction without a result.

@@ -8,3 +8,4 @@ mod results;
 
 pub use naming::{OwnNames, own_names};
 pub use register_type::RegisterType;
+pub use results::gives;

@@ -1,9 +1,9 @@
 //! The names of a function's labels and registers, and the types of its registers.
 
-ghost use Rattle.std.specs.Prelude.{◌≡◌, ◌++◌, [], ◌∷◌, IfOk, OnOk, List, length, map};
+ghost use Rattle.std.specs.Prelude.{◌≡◌, ◌++◌, [], IfOk, OnOk, List, length, map};
 ghost use Rattle.std.specs.List.{filter_map, flat_map, cons_option};
 ghost use Rattle.pg_ast.specs.Syntax.{NamedType, Param};
-ghost use Rattle.pg_ast.specs.Numbers.{name_at, each_at, behind_all, line_at, behind_line, block_at, behind_block, numbered};
+ghost use Rattle.pg_ast.specs.Numbers.{each_at, behind_all, line_at, behind_line, block_at, behind_block, numbered};
 ghost use Rattle.pg_ast.specs.Views.{param_of, line_of, block_of, define_of};
 ghost use Rattle.pg_types.specs.Resolved.{resolved};
 ghost use Rattle.pg_types.specs.NumberedTypes.{named_types};

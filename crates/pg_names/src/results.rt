@@ -24,22 +24,22 @@ fn written_result(op: &OpNode) -> Option<RegisterType<'_>>
     ensures gives { (types : List NamedType) → has_some_value types result ≡ gives types (op_of op.now) }
 {
     match op {
-        OpNode::Binary(_, _, ty, _, _) => Some(RegisterType::Written(ty)),
-        OpNode::Icmp(_, _, _, _, _) => Some(RegisterType::Bit),
-        OpNode::Cast(_, _, _, ty) => Some(RegisterType::Written(ty)),
-        OpNode::Select(_, _, yes, _) => Some(RegisterType::Written(&yes.ty)),
-        OpNode::Phi(_, ty, _, _) => Some(RegisterType::Written(ty)),
-        OpNode::Br(_, _) => None,
-        OpNode::CondBr(_, _, _, _) => None,
-        OpNode::Switch(_, _, _, _) => None,
-        OpNode::Call(_, ty, _, _, _) => Some(RegisterType::Written(ty)),
-        OpNode::RetVoid(_, _) => None,
-        OpNode::Ret(_, _) => None,
-        OpNode::Unreachable(_) => None,
-        OpNode::Alloca(_, _, _) => Some(RegisterType::Pointer),
-        OpNode::Load(_, ty, _) => Some(RegisterType::Written(ty)),
-        OpNode::Store(_, _, _) => None,
-        OpNode::GetElementPtr(_, _, _, _) => Some(RegisterType::Pointer),
+        OpNode::Binary { ty, .. } => Some(RegisterType::Written(ty)),
+        OpNode::Icmp { .. } => Some(RegisterType::Bit),
+        OpNode::Cast { ty, .. } => Some(RegisterType::Written(ty)),
+        OpNode::Select { yes, .. } => Some(RegisterType::Written(&yes.ty)),
+        OpNode::Phi { ty, .. } => Some(RegisterType::Written(ty)),
+        OpNode::Br { .. } => None,
+        OpNode::CondBr { .. } => None,
+        OpNode::Switch { .. } => None,
+        OpNode::Call { ty, .. } => Some(RegisterType::Written(ty)),
+        OpNode::RetVoid { .. } => None,
+        OpNode::Ret { .. } => None,
+        OpNode::Unreachable { .. } => None,
+        OpNode::Alloca { .. } => Some(RegisterType::Pointer),
+        OpNode::Load { ty, .. } => Some(RegisterType::Written(ty)),
+        OpNode::Store { .. } => None,
+        OpNode::GetElementPtr { .. } => Some(RegisterType::Pointer),
     }
 }
 
@@ -73,6 +73,17 @@ fn has_value(types: &mut TypeNumbers<'_>, ty: RegisterType<'_>) -> Result<bool, 
         }
         RegisterType::Bit => Ok(true),
         RegisterType::Pointer => Ok(true),
+    }
+}
+
+/// Whether an operation gives a value.
+pub fn gives(types: &mut TypeNumbers<'_>, op: &OpNode) -> Result<bool, AllocError>
+    ensures same { IfOk result (λ b. b ≡ gives (named_types types.old) (op_of op.now)) }
+    ensures items { types.new.items ≡ types.old.items }
+{
+    match written_result(op) {
+        Some(ty) => has_value(types, ty),
+        None => Ok(false),
     }
 }
 

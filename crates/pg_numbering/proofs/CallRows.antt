@@ -23,7 +23,7 @@ use Rattle.pg_rules.specs.Places.{type_span}
 use Rattle.pg_rules.specs.Written.{typed_operand, op_types, written_types, asks_typed, op_demands}
 use Rattle.pg_rules.specs.ValueConditions.{unknown_symbol, unknown_value}
 use Rattle.pg_rules.specs.CallConditions.{definition_header, declaration_header, header_of, param_type, param_types, known_of, is_create_known, is_create, variable_symbol, callee_params, is_callable, wrong_header, argument_demands, call_demands, wrong_number, thread_functions, value_operands, is_pointer_param, is_thread_header, wrong_thread, unsupported_thread, unsupported_thread_symbol}
-use Rattle.pg_rules.specs.Conditions.{scope_of, is_scalar_type, are_params, IsAccepted}
+use Rattle.pg_rules.specs.Conditions.{scope_of, is_scalar_type, are_params, IsUnrefused}
 use Rattle.pg_rules.specs.Numbered.{scalar_in, value_of, symbol_value, typed_value, known_call, call_of, op_at, named_functions, program_of}
 use Rattle.pg_types.specs.Kinds.{is_as, fails}
 use Rattle.pg_numbering.proofs.Flat.{some_is, behind_get, there_at, map_count, front_at, in_front}
@@ -136,7 +136,7 @@ known_fits p types known.PthreadBarrierInit args h c = h refl
 known_fits p types known.PthreadBarrierWait args h c = h refl
 known_fits p types known.PthreadBarrierDestroy args h c = h refl
 
-module _ (m : Tree) (accepted : IsAccepted m) (f : ℕ) (d : Definition) (there : slice_get (named_functions m) f ≡ Some d) where
+module _ (m : Tree) (accepted : IsUnrefused m) (f : ℕ) (d : Definition) (there : slice_get (named_functions m) f ≡ Some d) where
   -- what a call gives is what its type is
   result_given : (t : Ty) (result : Option Scalar) → (not (is_void m.types t) ≡ true → result ≡ scalar_in (resolved m.types t)) → (not (is_void m.types t) ≡ false → result ≡ None) → result ≡ scalar_in (resolved m.types t)
   result_given t result given nothing = by (is_void m.types t) refl

@@ -13,7 +13,7 @@ use Rattle.pg_rules.specs.Names.{Symbol, VariableOf, DefinitionOf, DeclarationOf
 use Rattle.pg_rules.specs.Places.{type_span}
 use Rattle.pg_rules.specs.ValueConditions.{unknown_symbol}
 use Rattle.pg_rules.specs.CallConditions.{agree, Header, definition_header, declaration_header, written_fit, variable_symbol, unsupported_symbol, wrong_header}
-use Rattle.pg_rules.specs.Conditions.{is_result, are_params, IsAccepted}
+use Rattle.pg_rules.specs.Conditions.{is_result, are_params, IsUnrefused}
 use Rattle.pg_numbering.proofs.Unrefused.{else_none}
 use Rattle.pg_numbering.proofs.Resolves.{Has}
 use Rattle.pg_numbering.proofs.Scalars.{agreed}
@@ -43,7 +43,7 @@ callee_is m NoSymbol span u v w = absurd cc
 pub header_agrees : (types : List NamedType) (h : Header) (t : Ty) (w : Option Written) → wrong_header types (Some h) t w ≡ [] → agree types h.result t ≡ true
 header_agrees types h t w e = (and_parts (agree types h.result t) (written_fit types h w) (else_none (agree types h.result t && written_fit types h w) (type_span t) e)).0
 
-module _ (m : Tree) (accepted : IsAccepted m) where
+module _ (m : Tree) (accepted : IsUnrefused m) where
   -- the type of a call is the callee's result
   pub defined_agrees : (f : ℕ) (d : Definition) (t : Ty) (w : Option Written) → slice_get m.functions f ≡ Some d → wrong_header m.types (Some (definition_header d)) t w ≡ [] → Has (resolved m.types t) → resolved m.types t ≡ resolved m.types d.result
   unfolding numbered

@@ -18,7 +18,7 @@ use Rattle.pg_rules.specs.declared.fault.CheckKind.TheVariants.{UnknownName, Wro
 use Rattle.pg_types.specs.Resolved.{type_by, type_within, resolved}
 use Rattle.pg_rules.specs.Written.{types_within}
 use Rattle.pg_rules.specs.TypeConditions.{unknown_type, wrong_type, unknown_types, wrong_types}
-use Rattle.pg_rules.specs.Conditions.{names_in, names_of_item, meets, self_contained, item_refused, IsAccepted}
+use Rattle.pg_rules.specs.Conditions.{names_in, names_of_item, meets, self_contained, item_refused, IsUnrefused}
 use Rattle.pg_types.proofs.Fuel.{Below, within_plus}
 use Rattle.pg_numbering.proofs.Flat.{some_is}
 use Rattle.pg_numbering.proofs.Unrefused.{front_none, behind_none, items_pass}
@@ -129,7 +129,7 @@ visited_known types text k (v ∷ vs) q h e = by (or_true (bytes_eq q v) (list_a
     by (inl g) more = subst (λ (x : List ℕ). IsKnown types x) (sym ((bytes_eq-Decides q v).0 g)) (h.0.ty, h.0.known)
     by (inr g) more = more g
 
-module _ (m : Tree) (accepted : IsAccepted m) where
+module _ (m : Tree) (accepted : IsUnrefused m) where
   item_known : (text : List ℕ) (t : Ty) → type_named m.types text ≡ Some t → flat_map (unknown_type m.types) (types_within t) ≡ []
   unfolding item_refused unknown_types
   item_known text t e =

@@ -1,78 +1,24 @@
 -- The bytes of an initialiser are no more than its type's size.
-use Rattle.std.proofs.Common.{◌≡◌, ℕ, zero, suc, ◌+◌, ◌-◌, ◌*◌, ◌/◌, max, ◌≤◌, List, [], ◌∷◌, ◌++◌, length, replicate, Bool, true, false, ◌==◌, not, refl, sym, ap, ◌∙◌, subst, arith, length-append, cond}
+use Rattle.std.proofs.Common.{◌≡◌, ℕ, zero, suc, ◌+◌, ◌-◌, ◌*◌, ◌/◌, ◌≤◌, List, [], ◌∷◌, ◌++◌, length, replicate, Bool, true, false, ◌==◌, not, refl, sym, ap, ◌∙◌, subst, arith, length-append, cond}
 use Rattle.std.proofs.lemmas.List.{length-replicate}
 use Rattle.std.specs.Prelude.{Option, Some}
 use Rattle.std.specs.List.{AllByRecursion}
 use Rattle.std.proofs.lemmas.Bool.{eqb-true}
-use Rattle.pg_num.specs.declared.width.Width.{Width}
-use Rattle.pg_num.specs.declared.width.Width.TheVariants.{W1, W8, W16, W32, W64}
+use Rattle.pg_num.specs.declared.width.Width.TheVariants.{W8}
 use Rattle.pg_ast.specs.Syntax.{Ty, Val, Const, Consts, ValConst, BytesConst, ArrayConst, StructConst, NoConsts, MoreConsts, NamedType, Tree}
 use Rattle.pg_types.specs.Resolved.{ResolvedType, IntegerType, PointerType, VoidType, ArrayType, NoFields, MoreFields, same_type, resolved}
-use Rattle.pg_types.specs.Layout.{bytes_of, round_up, alignment_of, size_of, fields_end, field_list}
+use Rattle.pg_types.specs.Layout.{bytes_of, round_up, alignment_of, size_of, field_list}
 use Rattle.pg_rules.specs.Places.{type_span}
 use Rattle.pg_rules.specs.Written.{const_types, part_types}
 use Rattle.pg_rules.specs.ValueConditions.{part_count, fits_bytes, fits_elements, wrong_part, wrong_const, wrong_elements, wrong_fields}
 use Rattle.pg_rules.specs.Constants.{constant_word, pointer_word, little_endian, filled, value_bytes, const_bytes, element_bytes, field_bytes, unless_zero, trimmed}
 use Rattle.pg_types.specs.Kinds.{is_as, fails}
 use Rattle.pg_numbering.proofs.Unrefused.{front_none, behind_none, then_none}
+use Rattle.pg_types.proofs.Alignments.{aligned, rounds_up, end_within, end_from, end_is, end_behind}
 use Rattle.pg_types.proofs.SameTypes.{same_type_true}
 use Rattle.pg_numbering.proofs.Resolves.{Has}
 use Rattle.pg_numbering.proofs.Tests.{not_false}
 use Rattle.pg_numbering.proofs.Each.{all_front, all_behind}
-
--- ---- alignment
-
-bytes_some : (w : Width) → 1 ≤ bytes_of w
-bytes_some W1 = omega arith
-bytes_some W8 = omega arith
-bytes_some W16 = omega arith
-bytes_some W32 = omega arith
-bytes_some W64 = omega arith
-
-alignment_some : (t : ResolvedType) → 1 ≤ alignment_of t
-unfolding alignment_of
-alignment_some (IntegerType w) = bytes_some w
-alignment_some PointerType = omega arith
-alignment_some VoidType = omega arith
-alignment_some (ArrayType n t) = alignment_some t
-alignment_some NoFields = omega arith
-alignment_some (MoreFields s t) = omega (arith, alignment_some s, alignment_some t)
-
-round_up_more : (n alignment : ℕ) → 1 ≤ alignment → n ≤ round_up n alignment
-round_up_more n alignment h =
-    let x = n + (alignment - 1) in
-    let z : x / alignment * alignment ≡ alignment * (x / alignment) = omega arith in
-    omega (arith, h, z)
-
--- ---- structures
-
--- where fields end that are laid from an offset on
-abbrev end_after : ℕ → List ResolvedType → ℕ
-end_after at [] = at
-end_after at (t ∷ ts) = end_after (round_up at (alignment_of t) + size_of t) ts
-
-end_behind : (at : ℕ) (ts : List ResolvedType) (u : ResolvedType) → end_after at (ts ++ u ∷ []) ≡ round_up (end_after at ts) (alignment_of u) + size_of u
-end_behind at [] u = refl
-end_behind at (t ∷ ts) u = end_behind (round_up at (alignment_of t) + size_of t) ts u
-
-end_is : (t : ResolvedType) → end_after 0 (field_list t) ≡ fields_end t
-unfolding fields_end
-end_is (MoreFields s u) = end_behind 0 (field_list s) u ∙ ap (λ (n : ℕ). round_up n (alignment_of u) + size_of u) (end_is s)
-end_is (IntegerType w) = refl
-end_is PointerType = refl
-end_is VoidType = refl
-end_is (ArrayType n t) = refl
-end_is NoFields = refl
-
-end_within : (t : ResolvedType) → fields_end t ≤ size_of t
-unfolding fields_end size_of
-end_within (MoreFields s u) =
-    round_up_more (round_up (fields_end s) (alignment_of u) + size_of u) (max (alignment_of s) (alignment_of u)) (omega (arith, alignment_some s, alignment_some u))
-end_within (IntegerType w) = omega arith
-end_within PointerType = omega arith
-end_within VoidType = omega arith
-end_within (ArrayType n t) = omega arith
-end_within NoFields = omega arith
 
 -- ---- bytes
 
@@ -114,9 +60,8 @@ array_length n e bytes count h l = subst (λ (q : ℕ). bytes ≤ q * size_of e)
 more_length : (xs ys : List ℕ) (count size : ℕ) → length xs ≤ size → length ys ≤ count * size → length (xs ++ ys) ≤ suc count * size
 more_length xs ys count size a b = let z : suc count * size ≡ size + count * size = omega arith in omega (arith, length-append xs ys, a, b, z)
 
-nothing_after : (at : ℕ) (ts : List ResolvedType) → at + 0 ≤ end_after at ts
-nothing_after at [] = omega arith
-nothing_after at (t ∷ ts) = omega (arith, nothing_after (round_up at (alignment_of t) + size_of t) ts, round_up_more at (alignment_of t) (alignment_some t))
+nothing_after : (at : ℕ) (ts : List ResolvedType) → at + 0 ≤ end_from at ts
+nothing_after at ts = omega (arith, end_behind at ts)
 
 field_length : (at from size end : ℕ) (xs ys : List ℕ) → at ≤ from → length xs ≤ size → from + size + length ys ≤ end → at + length (replicate (from - at) 0 ++ (xs ++ ys)) ≤ end
 field_length at from size end xs ys l a b = omega (arith, l, a, b, length-append (replicate (from - at) 0) (xs ++ ys), length-append xs ys, length-replicate {A = ℕ} (from - at) 0)
@@ -150,7 +95,7 @@ module _ (m : Tree) where
         let more = elements_length e cs (behind_none (wrong_const m.types (resolved m.types t) c) (wrong_elements m.types (Some e) cs) rest) (all_behind (λ (u : Ty). Has (resolved m.types u)) (const_types c) (part_types cs) h.1) in
         more_length (const_bytes m e c) (element_bytes m e cs) (part_count cs) (size_of e) one more
 
-    fields_length : (at : ℕ) (ts : List ResolvedType) (cs : Consts) → wrong_fields m.types ts cs ≡ [] → AllHave m.types (part_types cs) → at + length (field_bytes m at ts cs) ≤ end_after at ts
+    fields_length : (at : ℕ) (ts : List ResolvedType) (cs : Consts) → wrong_fields m.types ts cs ≡ [] → AllHave m.types (part_types cs) → at + length (field_bytes m at ts cs) ≤ end_from at ts
     fields_length at [] NoConsts w h = omega arith
     fields_length at [] (MoreConsts t c cs) w h = omega arith
     fields_length at (f ∷ fs) NoConsts w h = nothing_after at (f ∷ fs)
@@ -159,7 +104,7 @@ module _ (m : Tree) where
         let rest = behind_none (wrong_part m.types (Some f) t) (wrong_const m.types (resolved m.types t) c ++ wrong_fields m.types fs cs) w in
         let one = const_length f c (sym (ap (λ (o : Option ResolvedType). wrong_const m.types o c) own) ∙ front_none (wrong_const m.types (resolved m.types t) c) (wrong_fields m.types fs cs) rest) (all_front (λ (u : Ty). Has (resolved m.types u)) (const_types c) (part_types cs) h.1) in
         let more = fields_length (round_up at (alignment_of f) + size_of f) fs cs (behind_none (wrong_const m.types (resolved m.types t) c) (wrong_fields m.types fs cs) rest) (all_behind (λ (u : Ty). Has (resolved m.types u)) (const_types c) (part_types cs) h.1) in
-        field_length at (round_up at (alignment_of f)) (size_of f) (end_after (round_up at (alignment_of f) + size_of f) fs) (const_bytes m f c) (field_bytes m (round_up at (alignment_of f) + size_of f) fs cs) (round_up_more at (alignment_of f) (alignment_some f)) one more
+        field_length at (round_up at (alignment_of f)) (size_of f) (end_from (round_up at (alignment_of f) + size_of f) fs) (const_bytes m f c) (field_bytes m (round_up at (alignment_of f) + size_of f) fs cs) (rounds_up at (alignment_of f) (aligned f)) one more
 
 -- ---- without zeros at the end
 

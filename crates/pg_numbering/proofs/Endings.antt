@@ -6,7 +6,7 @@ use Rattle.std.proofs.lemmas.Bool.{and_parts}
 use Rattle.pg_ast.specs.Syntax.{Op, Binary, Icmp, Cast, Select, Phi, Br, CondBr, Switch, Call, RetVoid, Ret, Unreachable, Alloca, Load, Store, GetElementPtr, Line, Block, NamedType, Definition, Tree}
 use Rattle.pg_ast.specs.Numbers.{each_at, line_at, behind_line, block_at, after}
 use Rattle.pg_rules.specs.Written.{is_ending}
-use Rattle.pg_rules.specs.Conditions.{IsAccepted}
+use Rattle.pg_rules.specs.Conditions.{IsUnrefused}
 use Rattle.pg_rules.specs.Numbered.{named_functions}
 use Rattle.pg_grammar.specs.GrammarItems.{ends_block}
 use Rattle.pg_grammar.specs.Endings.{ends_last, end_last}
@@ -73,7 +73,7 @@ block_kept : (types : List NamedType) (next : ℕ) (b : Block) → ends_last (bl
 unfolding block_at
 block_kept types next b = lines_kept types (after next b.label) b.lines
 
-module _ (m : Tree) (accepted : IsAccepted m) (order : IsInOrder m) (f : ℕ) (d : Definition) (there : slice_get (named_functions m) f ≡ Some d) (i : ℕ) (b : Block) (within : slice_get d.blocks i ≡ Some b) where
+module _ (m : Tree) (accepted : IsUnrefused m) (order : IsInOrder m) (f : ℕ) (d : Definition) (there : slice_get (named_functions m) f ≡ Some d) (i : ℕ) (b : Block) (within : slice_get d.blocks i ≡ Some b) where
   last_here : ends_last b.lines ≡ true
   last_here =
       let n = named_from m f d there in

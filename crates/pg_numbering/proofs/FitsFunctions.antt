@@ -27,7 +27,7 @@ use Rattle.pg_rules.specs.BlockConditions.{is_endless}
 use Rattle.pg_rules.specs.TypeConditions.{any_large}
 use Rattle.pg_rules.specs.CallConditions.{definition_header}
 use Rattle.pg_rules.specs.LineConditions.{line_refused}
-use Rattle.pg_rules.specs.Conditions.{all_of, head_types, scope_of, all_lines, is_unfinished, body_refused, definition_refused, main_name, is_result, are_params, IsAccepted}
+use Rattle.pg_rules.specs.Conditions.{all_of, head_types, scope_of, all_lines, is_unfinished, body_refused, definition_refused, main_name, is_result, are_params, IsUnrefused}
 use Rattle.pg_rules.specs.Numbered.{named_functions, function_at, instr_at, program_of}
 use Rattle.pg_numbering.proofs.Flat.{some_is, sum_within, there_at, front_at, rest_at}
 use Rattle.pg_numbering.proofs.Unrefused.{front_none, at_if_none, bodies_pass, definitions_pass, named_from, main_is}
@@ -46,7 +46,7 @@ some_number : (n : ℕ) → (n == 0) ≡ false → 0 < n
 some_number zero e = absurd cc
 some_number (suc n) e = omega arith
 
-module _ (m : Tree) (accepted : IsAccepted m) where
+module _ (m : Tree) (accepted : IsUnrefused m) where
   finished : (f : ℕ) (d : Definition) → slice_get (named_functions m) f ≡ Some d → is_unfinished d ≡ false
   unfolding body_refused
   finished f d e = at_if_none (is_unfinished d) d.name.span (front_none _ (all_of (line_refused (scope_of m d)) (all_lines d) NoBlock) (bodies_pass m accepted f d e NoBlock))
@@ -151,7 +151,7 @@ prefix_within p (x ∷ xs) = by (p x) (prefix_within p xs)
     by true h = omega (arith, h)
     by false h = omega arith
 
-module _ (m : Tree) (accepted : IsAccepted m) where
+module _ (m : Tree) (accepted : IsUnrefused m) where
   module _ (f : ℕ) (d : Definition) (i : ℕ) (b : Block) (e : slice_get (named_functions m) f ≡ Some d) (h : slice_get d.blocks i ≡ Some b) where
     pub first_is : first_of (program_of m) (first_block m.functions f + i) ≡ first_line m.functions f + sum_by lines_in (take i d.blocks)
     unfolding first_of

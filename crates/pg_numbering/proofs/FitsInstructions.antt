@@ -14,7 +14,7 @@ use Rattle.pg_ast.specs.Numbers.{gives}
 use Rattle.pg_types.specs.Resolved.{resolved}
 use Rattle.pg_rules.specs.Names.{result_type, first_block, first_line}
 use Rattle.pg_rules.specs.Written.{is_ending}
-use Rattle.pg_rules.specs.Conditions.{scope_of, IsAccepted}
+use Rattle.pg_rules.specs.Conditions.{scope_of, IsUnrefused}
 use Rattle.pg_rules.specs.Numbered.{scalar_in, number_of_name, result_at, instr_at, op_at, named_functions, program_of}
 use Rattle.pg_numbering.specs.Parsed.{IsInOrder}
 use Rattle.pg_numbering.proofs.Placed.{lines_in, line_found, block_there}
@@ -29,7 +29,7 @@ use Rattle.pg_numbering.proofs.FitsPhis.{function_is, fits_phi}
 use Rattle.pg_numbering.proofs.OpRows.{Row, binary_fits, compare_fits, cast_fits, select_fits, phi_fits, branch_fits, choice_fits, switch_fits, return_void_fits, return_fits, unreachable_fits, alloca_fits, load_fits, store_fits, element_fits}
 use Rattle.pg_numbering.proofs.CallRows.{call_fits}
 
-module _ (m : Tree) (accepted : IsAccepted m) (order : IsInOrder m) where
+module _ (m : Tree) (accepted : IsUnrefused m) (order : IsInOrder m) where
   op_fits : (f : ℕ) (d : Definition) (there : slice_get (named_functions m) f ≡ Some d) (o : Op) → Passes m d o → Row m accepted order f d there o
   op_fits f d there (Binary s o t a b) p = binary_fits m accepted order f d there s o t a b p
   op_fits f d there (Icmp s o t a b) p = compare_fits m accepted order f d there s o t a b p

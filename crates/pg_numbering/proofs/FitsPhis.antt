@@ -19,7 +19,7 @@ use Rattle.pg_rules.specs.Names.{labels_of, label_number, first_block, first_lin
 use Rattle.pg_rules.specs.Written.{label_targets, label_sources, is_phi_op, is_ending}
 use Rattle.pg_rules.specs.BlockConditions.{phi_span, has_text, goes_to, label_if, predecessors, same_labels, are_labels, wrong_sources, behind_phis, bad_phis}
 use Rattle.pg_rules.specs.LineConditions.{no_block}
-use Rattle.pg_rules.specs.Conditions.{scope_of, body_refused, IsAccepted}
+use Rattle.pg_rules.specs.Conditions.{scope_of, body_refused, IsUnrefused}
 use Rattle.pg_rules.specs.Numbered.{named_functions, instr_at, op_at, program_of}
 use Rattle.pg_numbering.specs.Parsed.{IsInOrder}
 use Rattle.pg_numbering.proofs.Flat.{some_is, Numbered, enumerate_get, behind_get, there_at, rest_at, in_front}
@@ -65,7 +65,7 @@ label_given : (g : Bool) (o : Option Name) (n : Name) → label_if g o ≡ Some 
 label_given true o n e = (refl, e)
 label_given false o n e = absurd cc
 
-module _ (m : Tree) (accepted : IsAccepted m) (order : IsInOrder m) where
+module _ (m : Tree) (accepted : IsUnrefused m) (order : IsInOrder m) where
   -- a block that a function's block goes on to is one of the function's
   stays : (f : ℕ) (d : Definition) → slice_get (named_functions m) f ≡ Some d → (q : ℕ) (c : Block) → slice_get d.blocks q ≡ Some c → (t : ℕ) → Contains (successors (program_of m) (first_block m.functions f + q)) t → IsInFunction f (slice_get (program_of m).blocks t)
   stays f d there q c at t h =

@@ -16,7 +16,7 @@ use Rattle.pg_rules.specs.TypeConditions.{unknown_types, wrong_types, any_large,
 use Rattle.pg_rules.specs.ValueConditions.{wrong_const, wrong_use, unknown_value}
 use Rattle.pg_rules.specs.Constants.{start_granule, const_bytes, bytes_at, trimmed}
 use Rattle.pg_rules.specs.Numbered.{global_at, program_of}
-use Rattle.pg_rules.specs.Conditions.{global_uses, global_types, granules_of, globals_end, outside, global_refused, IsAccepted}
+use Rattle.pg_rules.specs.Conditions.{global_uses, global_types, granules_of, globals_end, outside, global_refused, IsUnrefused}
 use Rattle.pg_numbering.proofs.Flat.{Numbered, take_more, there_at}
 use Rattle.pg_numbering.proofs.Unrefused.{front_none, behind_none, at_if_none, globals_pass}
 use Rattle.pg_numbering.proofs.Resolves.{Has}
@@ -27,7 +27,7 @@ use Rattle.pg_numbering.proofs.Each.{all_from_front}
 
 -- ---- sums of the first elements
 
-module _ (m : Tree) (accepted : IsAccepted m) where
+module _ (m : Tree) (accepted : IsUnrefused m) where
   -- each type that a global writes is one
   global_type : (i : ℕ) (v : Variable) → slice_get m.globals i ≡ Some v → (k : ℕ) (t : Ty) → slice_get (global_types v) k ≡ Some t → Has (resolved m.types t)
   unfolding global_refused

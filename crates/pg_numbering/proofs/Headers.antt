@@ -16,7 +16,7 @@ use Rattle.pg_rules.specs.declared.fault.CheckKind.TheVariants.{UnknownName, Wro
 use Rattle.pg_rules.specs.KnownNames.{known_named}
 use Rattle.pg_types.specs.Resolved.{ResolvedType, resolved, is_scalar}
 use Rattle.pg_rules.specs.CallConditions.{definition_header, declaration_header, param_type, is_resolved}
-use Rattle.pg_rules.specs.Conditions.{head_types, is_returnable, has_header, has_other_header, main_name, wrong_main, wrong_known, wrong_definition, definition_refused, declaration_refused, IsAccepted}
+use Rattle.pg_rules.specs.Conditions.{head_types, is_returnable, has_header, has_other_header, main_name, wrong_main, wrong_known, wrong_definition, definition_refused, declaration_refused, IsUnrefused}
 use Rattle.pg_rules.specs.Numbered.{named_functions}
 use Rattle.pg_types.specs.Kinds.{fails}
 use Rattle.pg_numbering.proofs.Unrefused.{at_if_none, declarations_pass, definitions_pass}
@@ -34,7 +34,7 @@ param_type_at [] i p e = absurd cc
 param_type_at (q ∷ qs) zero p e = ap (λ (o : Option Param). option_map (λ (x : Param). x.ty) o) e
 param_type_at (q ∷ qs) (suc i) p e = param_type_at qs i p e
 
-module _ (m : Tree) (accepted : IsAccepted m) where
+module _ (m : Tree) (accepted : IsUnrefused m) where
   -- ---- definitions
 
   header_type : (f : ℕ) (d : Definition) → slice_get (named_functions m) f ≡ Some d → (i : ℕ) (t : Ty) → slice_get (head_types (definition_header d)) i ≡ Some t → Has (resolved m.types t)

@@ -20,7 +20,7 @@ use Rattle.pg_rules.specs.Names.{Symbol, VariableOf, DefinitionOf, DeclarationOf
 use Rattle.pg_rules.specs.Written.{label_targets, label_sources, is_ending}
 use Rattle.pg_rules.specs.CallConditions.{known_of}
 use Rattle.pg_rules.specs.LineConditions.{no_block}
-use Rattle.pg_rules.specs.Conditions.{scope_of, IsAccepted}
+use Rattle.pg_rules.specs.Conditions.{scope_of, IsUnrefused}
 use Rattle.pg_rules.specs.Numbered.{named_functions, case_at, binary_op, cast_op, known_call, call_of, op_at, program_of}
 use Rattle.pg_numbering.specs.Parsed.{IsInOrder}
 use Rattle.pg_numbering.proofs.Flat.{some_is, there_at}
@@ -53,7 +53,7 @@ label_text d n k i b l e h g =
     let labels : k.label ≡ l = some_is k.label l (sym k.label_is ∙ ap (λ (x : Block). x.label) blocks ∙ g) in
     sym k.text_is ∙ ap (λ (x : Name). x.text) labels
 
-module _ (m : Tree) (accepted : IsAccepted m) (order : IsInOrder m) (f : ℕ) (d : Definition) (there : slice_get (named_functions m) f ≡ Some d) where
+module _ (m : Tree) (accepted : IsUnrefused m) (order : IsInOrder m) (f : ℕ) (d : Definition) (there : slice_get (named_functions m) f ≡ Some d) where
   pub labelled : (i : ℕ) (b : Block) → slice_get d.blocks i ≡ Some b → (n : Name) × (b.label ≡ Some n)
   labelled i b e = let k = named_from m f d there in has_label m.types k.plain i b (subst (λ (q : Definition). slice_get q.blocks i ≡ Some b) k.named e)
 
@@ -174,7 +174,7 @@ targets_end (Load s t v) i n e = absurd cc
 targets_end (Store s v at) i n e = absurd cc
 targets_end (GetElementPtr s t v all) i n e = absurd cc
 
-module _ (m : Tree) (accepted : IsAccepted m) (order : IsInOrder m) (f : ℕ) (d : Definition) (there : slice_get (named_functions m) f ≡ Some d) where
+module _ (m : Tree) (accepted : IsUnrefused m) (order : IsInOrder m) (f : ℕ) (d : Definition) (there : slice_get (named_functions m) f ≡ Some d) where
   target_in : (n : Name) → no_block (labels_of d) n ≡ [] → IsInFunction f (slice_get (program_of m).blocks (target d (first_block m.functions f) n))
   target_in n e =
       let k = names_from m accepted order f d there n e in

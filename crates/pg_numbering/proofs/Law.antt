@@ -1,14 +1,14 @@
 -- The numbered program of an accepted tree, whose names and ending lines stand in order, is a program.
 use Rattle.pg_ir.specs.WellFormed.{IsProgram}
 use Rattle.pg_ast.specs.Syntax.{Tree}
-use Rattle.pg_rules.specs.Conditions.{IsAccepted}
+use Rattle.pg_rules.specs.Conditions.{IsUnrefused}
 use Rattle.pg_rules.specs.Numbered.{program_of}
 use Rattle.pg_numbering.specs.Parsed.{IsInOrder}
 use Rattle.pg_numbering.proofs.Globals.{globals_lie, few_globals}
 use Rattle.pg_numbering.proofs.FitsFunctions.{fits_function, fits_block, fits_main, few_functions, few_instrs}
 use Rattle.pg_numbering.proofs.FitsInstructions.{fits_instr}
 
-pub is_program : (m : Tree) → IsInOrder m → IsAccepted m → IsProgram (program_of m)
+pub is_program : (m : Tree) → IsInOrder m → IsUnrefused m → IsProgram (program_of m)
 is_program m order accepted = record {
   functions = fits_function m accepted;
   blocks = fits_block m accepted;

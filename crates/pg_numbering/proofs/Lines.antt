@@ -14,7 +14,7 @@ use Rattle.pg_rules.specs.TypeConditions.{unknown_types, wrong_types, unmet}
 use Rattle.pg_rules.specs.ValueConditions.{unknown_value, function_value, wrong_use}
 use Rattle.pg_rules.specs.CallConditions.{call_demands, thread_functions, wrong_thread, unsupported_thread}
 use Rattle.pg_rules.specs.LineConditions.{line_types, line_uses, unknown_callee, unsupported_callee, wrong_call, wrong_return, wrong_path, wrong_name, no_block, line_refused}
-use Rattle.pg_rules.specs.Conditions.{at_if, all_of, own_names, body_names, scope_of, all_lines, is_unfinished, body_refused, IsAccepted}
+use Rattle.pg_rules.specs.Conditions.{at_if, all_of, own_names, body_names, scope_of, all_lines, is_unfinished, body_refused, IsUnrefused}
 use Rattle.pg_rules.specs.Names.{doubled}
 use Rattle.pg_rules.specs.Numbered.{named_functions}
 use Rattle.pg_types.specs.Kinds.{fails}
@@ -39,7 +39,7 @@ met types d r e h =
     let f = then_none (fails d.test (resolved types d.ty)) (type_span d.ty) e in
     not_false (d.test r) (sym (ap (λ (o : Option ResolvedType). fails d.test o) h) ∙ f)
 
-module _ (m : Tree) (accepted : IsAccepted m) where
+module _ (m : Tree) (accepted : IsUnrefused m) where
   one_line : (d : Definition) (l : Line) (k : CheckKind) → IsLine m d l → all_of (line_refused (scope_of m d)) (all_lines d) k ≡ [] → line_refused (scope_of m d) l k ≡ []
   one_line d l k at e =
       each_none (λ (x : Line). line_refused (scope_of m d) x k) at.block.lines at.inner l

@@ -28,7 +28,7 @@ use Rattle.pg_rules.specs.ValueConditions.{number_at}
 use Rattle.pg_rules.specs.CallConditions.{value_operands}
 use Rattle.pg_rules.specs.LineConditions.{no_block}
 use Rattle.pg_rules.specs.Constants.{index_scales}
-use Rattle.pg_rules.specs.Conditions.{scope_of, IsAccepted}
+use Rattle.pg_rules.specs.Conditions.{scope_of, IsUnrefused}
 use Rattle.pg_rules.specs.Numbered.{scalar_in, width_in, value_of, binary_op, cast_op, incoming_at, case_at, indices_at, op_at, named_functions, program_of}
 use Rattle.pg_types.specs.Kinds.{is_as, fails}
 use Rattle.pg_numbering.specs.Parsed.{IsInOrder}
@@ -195,7 +195,7 @@ cases_row m d first t w e (c ∷ cs) =
 returned_is : (o : Option ResolvedType) (r : ResolvedType) (t : ResolvedType) → o ≡ Some r → returns_as o t ≡ true → (r ≡ t) × (is_scalar r ≡ true)
 returned_is o r t e h = let p = and_parts (is_scalar r) (same_type r t) (subst (λ (q : Option ResolvedType). returns_as q t ≡ true) e h) in (same_type_true r t p.1, p.0)
 
-module _ (m : Tree) (accepted : IsAccepted m) (order : IsInOrder m) (f : ℕ) (d : Definition) (there : slice_get (named_functions m) f ≡ Some d) where
+module _ (m : Tree) (accepted : IsUnrefused m) (order : IsInOrder m) (f : ℕ) (d : Definition) (there : slice_get (named_functions m) f ≡ Some d) where
   abbrev TypeOf : Ty → Value → Type 0
   TypeOf t v = (s : Scalar) → scalar_in (resolved m.types t) ≡ Some s → HasType (program_of m) (scalars_of m d) s v
 

@@ -15,7 +15,7 @@ use Rattle.pg_rules.specs.Places.{val_span}
 use Rattle.pg_rules.specs.Written.{Use, with_inner}
 use Rattle.pg_rules.specs.ValueConditions.{unknown_symbol, function_symbol, unknown_value, function_value, wrong_register, wrong_symbol, is_wrong, wrong_use}
 use Rattle.pg_rules.specs.CallConditions.{value_operands}
-use Rattle.pg_rules.specs.Conditions.{scope_of, IsAccepted}
+use Rattle.pg_rules.specs.Conditions.{scope_of, IsUnrefused}
 use Rattle.pg_rules.specs.Numbered.{scalar_in, symbol_value, value_of, named_functions, program_of}
 use Rattle.pg_numbering.proofs.Flat.{some_is, behind_get}
 use Rattle.pg_numbering.proofs.Unrefused.{front_none, else_none, then_none}
@@ -39,7 +39,7 @@ own_place (v ∷ vs) (suc i) u e =
     let r = own_place vs i u e in
     (length (with_inner v) + r.0, behind_get (with_inner v) (flat_map with_inner vs) r.0 ∙ r.1)
 
-module _ (m : Tree) (accepted : IsAccepted m) (f : ℕ) (d : Definition) (there : slice_get (named_functions m) f ≡ Some d) where
+module _ (m : Tree) (accepted : IsUnrefused m) (f : ℕ) (d : Definition) (there : slice_get (named_functions m) f ≡ Some d) where
   -- a register
   local_fits : (t : Option ResolvedType) (s : Scalar) (n : Name) → scalar_in t ≡ Some s → (o : Option Register) → register_named (registers_of m.types d) n.text ≡ o → wrong_register false t o ≡ false → is_some o ≡ true → HasType (program_of m) (scalars_of m d) s (value.Register (unwrap_or (register_number (registers_of m.types d) n.text) 0))
   local_fits t s n e None h w u = absurd cc

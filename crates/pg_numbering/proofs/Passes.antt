@@ -9,7 +9,7 @@ use Rattle.pg_rules.specs.Written.{Use, Demand, op_demands, label_targets, label
 use Rattle.pg_rules.specs.ValueConditions.{unknown_value, function_value, wrong_use}
 use Rattle.pg_rules.specs.CallConditions.{call_demands, thread_functions, wrong_thread, unsupported_thread}
 use Rattle.pg_rules.specs.LineConditions.{line_types, line_uses, unknown_callee, unsupported_callee, wrong_call, wrong_return, no_block}
-use Rattle.pg_rules.specs.Conditions.{scope_of, IsAccepted}
+use Rattle.pg_rules.specs.Conditions.{scope_of, IsUnrefused}
 use Rattle.pg_numbering.proofs.Unrefused.{each_none}
 use Rattle.pg_numbering.proofs.Resolves.{Has}
 use Rattle.pg_numbering.proofs.Lines.{IsLine, unknown_values, known_callee, known_threads, line_type, line_demand, line_use, line_call, line_threads, line_return, line_labels, no_functions, supported_callee, supported_threads}
@@ -29,7 +29,7 @@ pub record Passes (m : Tree) (d : Definition) (o : Op) : Type 0 where
   pub returned : wrong_return (scope_of m d) o ≡ []
   pub labels : (i : ℕ) (n : Name) → slice_get (label_targets o ++ label_sources o) i ≡ Some n → no_block (labels_of d) n ≡ []
 
-pub passes : (m : Tree) → IsAccepted m → (d : Definition) (l : Line) → IsLine m d l → Passes m d l.op
+pub passes : (m : Tree) → IsUnrefused m → (d : Definition) (l : Line) → IsLine m d l → Passes m d l.op
 passes m h d l at = record {
   types = line_type m h d l at;
   demands = line_demand m h d l at;

@@ -16,7 +16,7 @@ use Rattle.pg_ast.specs.Syntax.{Ty, Incoming, Line, Block, Op, Binary, Icmp, Cas
 use Rattle.pg_rules.specs.Names.{labels_of, label_number, first_block, first_line}
 use Rattle.pg_rules.specs.Written.{label_targets, label_sources, is_phi_op, is_ending}
 use Rattle.pg_rules.specs.BlockConditions.{phi_word, block_targets, has_text, goes_to}
-use Rattle.pg_rules.specs.Conditions.{scope_of, IsAccepted}
+use Rattle.pg_rules.specs.Conditions.{scope_of, IsUnrefused}
 use Rattle.pg_rules.specs.Numbered.{named_functions, incoming_at, op_at, program_of}
 use Rattle.pg_numbering.specs.Parsed.{IsInOrder}
 use Rattle.pg_numbering.proofs.Flat.{some_is, there_at, in_front}
@@ -101,7 +101,7 @@ sources_are m d first (GetElementPtr s t v all) e = absurd cc
 
 -- ---- the edges of a function
 
-module _ (m : Tree) (accepted : IsAccepted m) (order : IsInOrder m) (f : ℕ) (d : Definition) (there : slice_get (named_functions m) f ≡ Some d) where
+module _ (m : Tree) (accepted : IsUnrefused m) (order : IsInOrder m) (f : ℕ) (d : Definition) (there : slice_get (named_functions m) f ≡ Some d) where
   pub target_number : (n : Name) (k : ℕ) → label_number (labels_of d) n.text ≡ Some k → target d (first_block m.functions f) n ≡ first_block m.functions f + k
   target_number n k e = ap (λ (o : Option ℕ). first_block m.functions f + unwrap_or o 0) e
 

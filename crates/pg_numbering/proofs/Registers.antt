@@ -16,7 +16,7 @@ use Rattle.pg_rules.specs.declared.fault.CheckKind.TheVariants.{TooLarge}
 use Rattle.pg_types.specs.Resolved.{ResolvedType, resolved}
 use Rattle.pg_rules.specs.Names.{Register, register, result_type, param_register, line_register, block_registers, registers_of, is_called, register_named, register_number, first_line, line_count}
 use Rattle.pg_rules.specs.TypeConditions.{any_large}
-use Rattle.pg_rules.specs.Conditions.{body_types, is_too_large, body_refused, IsAccepted}
+use Rattle.pg_rules.specs.Conditions.{body_types, is_too_large, body_refused, IsUnrefused}
 use Rattle.pg_rules.specs.Numbered.{scalar_in, named_functions, program_of}
 use Rattle.pg_numbering.specs.Parsed.{IsInOrder}
 use Rattle.pg_numbering.proofs.Flat.{some_is, append_cases, front_get, behind_get}
@@ -55,7 +55,7 @@ pub record HasNumber (m : Tree) (d : Definition) (text : List ℕ) (t : Option R
   pub type_is : scalar_in t ≡ Some scalar
   pub there : slice_get (scalars_of m d) number ≡ Some scalar
 
-module _ (m : Tree) (accepted : IsAccepted m) where
+module _ (m : Tree) (accepted : IsUnrefused m) where
   module _ (f : ℕ) (d : Definition) (there : slice_get (named_functions m) f ≡ Some d) where
     param_made : (r : Register) → IsOf (param_register m.types) d.params r → IsScalarOf r.ty
     param_made r h =
@@ -160,7 +160,7 @@ module _ (m : Tree) (accepted : IsAccepted m) where
 
 -- ---- the register that a line sets
 
-module _ (m : Tree) (accepted : IsAccepted m) (order : IsInOrder m) (d : Definition) (l : Line) (at : IsLine m d l) where
+module _ (m : Tree) (accepted : IsUnrefused m) (order : IsInOrder m) (d : Definition) (l : Line) (at : IsLine m d l) where
   -- its register is one of the function's
   set_there : (n : Name) → l.name ≡ Some n → gives m.types l.op ≡ true → (i : ℕ) × (slice_get (registers_of m.types d) i ≡ Some (register (result_type m.types l.op) n))
   unfolding registers_of

@@ -14,7 +14,7 @@ use Rattle.pg_types.specs.Resolved.{ResolvedType, IntegerType, PointerType, Void
 use Rattle.pg_rules.specs.Names.{Symbol, symbol, result_type}
 use Rattle.pg_rules.specs.Written.{asks, asks_typed, is_narrower, is_wider, cast_to, op_types, op_demands}
 use Rattle.pg_rules.specs.CallConditions.{header_of, variable_symbol, wrong_header}
-use Rattle.pg_rules.specs.Conditions.{is_result, IsAccepted}
+use Rattle.pg_rules.specs.Conditions.{is_result, IsUnrefused}
 use Rattle.pg_rules.specs.Numbered.{scalar_in}
 use Rattle.pg_numbering.proofs.Unrefused.{front_none, behind_none}
 use Rattle.pg_numbering.proofs.Resolves.{Has}
@@ -71,7 +71,7 @@ result_void (Some (ArrayType n t)) e = absurd cc
 result_void (Some NoFields) e = absurd cc
 result_void (Some (MoreFields s t)) e = absurd cc
 
-module _ (m : Tree) (accepted : IsAccepted m) where
+module _ (m : Tree) (accepted : IsUnrefused m) where
   -- a type that has a value isn't void
   solid : (t : Ty) → not (is_void m.types t) ≡ true → (r : ResolvedType) → resolved m.types t ≡ Some r → is_void_type r ≡ false
   solid t g (IntegerType w) e = refl

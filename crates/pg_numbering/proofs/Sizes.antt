@@ -14,7 +14,7 @@ use Rattle.pg_types.specs.Resolved.{ResolvedType, IntegerType, PointerType, Void
 use Rattle.pg_types.specs.Layout.{size_of, size_or_none}
 use Rattle.pg_rules.specs.Written.{types_within}
 use Rattle.pg_rules.specs.TypeConditions.{is_large, any_large}
-use Rattle.pg_rules.specs.Conditions.{item_refused, IsAccepted}
+use Rattle.pg_rules.specs.Conditions.{item_refused, IsUnrefused}
 use Rattle.pg_types.proofs.Fuel.{Below, type_keeps, within_plus}
 use Rattle.pg_numbering.proofs.Flat.{some_is}
 use Rattle.pg_numbering.proofs.Unrefused.{at_if_none, items_pass}
@@ -69,7 +69,7 @@ module _ (types : List NamedType) (f : List ℕ → Option ResolvedType) (below 
   size_by (Struct s ts) r l e = sized (Struct s ts) r l e
   size_by (Named n) r l e = names n.text r e
 
-module _ (m : Tree) (accepted : IsAccepted m) where
+module _ (m : Tree) (accepted : IsUnrefused m) where
   item_small : (text : List ℕ) (t : Ty) → type_named m.types text ≡ Some t → is_large m.types t ≡ false
   unfolding item_refused
   item_small text t e =

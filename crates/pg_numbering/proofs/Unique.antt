@@ -14,7 +14,7 @@ use Rattle.pg_ast.specs.Numbers.{each_at, param_at, behind_param, name_at, numbe
 use Rattle.pg_rules.specs.declared.fault.CheckKind.TheVariants.{Doubled}
 use Rattle.pg_rules.specs.Names.{Register, param_register, block_registers, registers_of, labels_of, doubled, symbol_names}
 use Rattle.pg_rules.specs.LineConditions.{line_refused}
-use Rattle.pg_rules.specs.Conditions.{all_of, own_names, body_names, param_names, scope_of, all_lines, definition_refused, body_refused, IsAccepted}
+use Rattle.pg_rules.specs.Conditions.{all_of, own_names, body_names, param_names, scope_of, all_lines, definition_refused, body_refused, IsUnrefused}
 use Rattle.pg_rules.specs.Numbered.{named_functions}
 use Rattle.pg_grammar.specs.NameOrder.{written_names, ascend}
 use Rattle.pg_numbering.specs.Parsed.{IsInOrder}
@@ -72,7 +72,7 @@ pub params_registers : (types : List NamedType) (d : Definition) → length (fil
 unfolding numbered
 params_registers types d = each_registers 0 d.params types
 
-module _ (m : Tree) (accepted : IsAccepted m) (order : IsInOrder m) where
+module _ (m : Tree) (accepted : IsUnrefused m) (order : IsInOrder m) where
   module _ (f : ℕ) (d : Definition) (there : slice_get (named_functions m) f ≡ Some d) where
     own_pairs : AllPairs Precedes (names_of (registers_of m.types d))
     own_pairs =

@@ -12,7 +12,7 @@ use Rattle.pg_rules.specs.declared.fault.CheckKind.{CheckKind}
 use Rattle.pg_rules.specs.declared.fault.CheckKind.TheVariants.{NoMain}
 use Rattle.pg_rules.specs.Names.{line_count, first_line}
 use Rattle.pg_rules.specs.Numbered.{named_functions}
-use Rattle.pg_rules.specs.Conditions.{Part, at_if, all_of, item_refused, global_refused, declaration_refused, definition_refused, body_refused, bodies, has_main, main_refused, heads_refused, phases, RefuseNothing, IsAccepted}
+use Rattle.pg_rules.specs.Conditions.{RefusedPlaces, at_if, all_of, item_refused, global_refused, declaration_refused, definition_refused, body_refused, bodies, has_main, main_refused, heads_refused, phases, RefuseNothing, IsUnrefused}
 use Rattle.pg_numbering.proofs.Flat.{enumerate_get, some_is, Numbered}
 use Rattle.pg_numbering.proofs.Tests.{not_false}
 
@@ -53,28 +53,28 @@ or_right false b e = e
 
 -- ---- the parts of an accepted tree
 
-pub items_pass : (m : Tree) → IsAccepted m → (i : ℕ) (t : NamedType) → slice_get m.types i ≡ Some t → (k : CheckKind) → item_refused m.types t k ≡ []
-unfolding IsAccepted phases
+pub items_pass : (m : Tree) → IsUnrefused m → (i : ℕ) (t : NamedType) → slice_get m.types i ≡ Some t → (k : CheckKind) → item_refused m.types t k ≡ []
+unfolding IsUnrefused phases
 items_pass m h i t e k = each_none (λ (x : NamedType). item_refused m.types x k) m.types i t (h.0.none k) e
 
-pub globals_pass : (m : Tree) → IsAccepted m → (i : ℕ) (v : Variable) → slice_get m.globals i ≡ Some v → (k : CheckKind) → global_refused m (i, v) k ≡ []
-unfolding IsAccepted phases
+pub globals_pass : (m : Tree) → IsUnrefused m → (i : ℕ) (v : Variable) → slice_get m.globals i ≡ Some v → (k : CheckKind) → global_refused m (i, v) k ≡ []
+unfolding IsUnrefused phases
 globals_pass m h i v e k =
     let z : 0 + i ≡ i = omega arith in
     subst (λ (q : ℕ). global_refused m (q, v) k ≡ []) z
     (each_none (λ (x : Numbered Variable). global_refused m x k) (enumerate_from 0 m.globals) i (0 + i, v) (h.1.0.none k) (enumerate_get 0 m.globals i v e))
 
-heads_pass : (m : Tree) → IsAccepted m → (k : CheckKind) → heads_refused m k ≡ []
-unfolding IsAccepted phases
+heads_pass : (m : Tree) → IsUnrefused m → (k : CheckKind) → heads_refused m k ≡ []
+unfolding IsUnrefused phases
 heads_pass m h k = h.1.1.0.none k
 
-pub declarations_pass : (m : Tree) → IsAccepted m → (i : ℕ) (d : Declaration) → slice_get m.declares i ≡ Some d → (k : CheckKind) → declaration_refused m d k ≡ []
+pub declarations_pass : (m : Tree) → IsUnrefused m → (i : ℕ) (d : Declaration) → slice_get m.declares i ≡ Some d → (k : CheckKind) → declaration_refused m d k ≡ []
 unfolding heads_refused
 declarations_pass m h i d e k =
     each_none (λ (x : Declaration). declaration_refused m x k) m.declares i d
     (front_none (all_of (declaration_refused m) m.declares k) (all_of (definition_refused m) (enumerate_from 0 (map (numbered m.types) m.functions)) k) (heads_pass m h k)) e
 
-pub definitions_pass : (m : Tree) → IsAccepted m → (f : ℕ) (d : Definition) → slice_get (named_functions m) f ≡ Some d → (k : CheckKind) → definition_refused m (f, d) k ≡ []
+pub definitions_pass : (m : Tree) → IsUnrefused m → (f : ℕ) (d : Definition) → slice_get (named_functions m) f ≡ Some d → (k : CheckKind) → definition_refused m (f, d) k ≡ []
 unfolding heads_refused
 definitions_pass m h f d e k =
     let z : 0 + f ≡ f = omega arith in
@@ -85,7 +85,7 @@ definitions_pass m h f d e k =
 
 -- ---- bodies
 
-body_passes : (m : Tree) (ds : List Definition) (lines : ℕ) (rest : List Part) → RefuseNothing (bodies m ds lines ++ rest) → (f : ℕ) (d : Definition) → slice_get ds f ≡ Some d → (k : CheckKind) → body_refused m (lines + sum_by line_count (take f ds)) (numbered m.types d) k ≡ []
+body_passes : (m : Tree) (ds : List Definition) (lines : ℕ) (rest : List RefusedPlaces) → RefuseNothing (bodies m ds lines ++ rest) → (f : ℕ) (d : Definition) → slice_get ds f ≡ Some d → (k : CheckKind) → body_refused m (lines + sum_by line_count (take f ds)) (numbered m.types d) k ≡ []
 body_passes m [] lines rest h f d e k = absurd cc
 body_passes m (x ∷ xs) lines rest h zero d e k =
     let z : lines ≡ lines + 0 = omega arith in
@@ -95,7 +95,7 @@ body_passes m (x ∷ xs) lines rest h (suc f) d e k =
     let z : lines + line_count x + sum_by line_count (take f xs) ≡ lines + sum_by line_count (x ∷ take f xs) = omega (arith, sum_by-cons line_count x (take f xs)) in
     subst (λ (q : ℕ). body_refused m q (numbered m.types d) k ≡ []) z (body_passes m xs (lines + line_count x) rest h.1 f d e k)
 
-behind_bodies : (m : Tree) (ds : List Definition) (lines : ℕ) (rest : List Part) → RefuseNothing (bodies m ds lines ++ rest) → RefuseNothing rest
+behind_bodies : (m : Tree) (ds : List Definition) (lines : ℕ) (rest : List RefusedPlaces) → RefuseNothing (bodies m ds lines ++ rest) → RefuseNothing rest
 behind_bodies m [] lines rest h = h
 behind_bodies m (x ∷ xs) lines rest h = behind_bodies m xs (lines + line_count x) rest h.1
 
@@ -112,8 +112,8 @@ named_from m f d e = by (slice_get m.functions f) refl (sym (slice_get-map (numb
     by None g h = absurd cc
     by (Some x) g h = record { plain = x; there = g; named = sym (some_is (numbered m.types x) d h) }
 
-pub bodies_pass : (m : Tree) → IsAccepted m → (f : ℕ) (d : Definition) → slice_get (named_functions m) f ≡ Some d → (k : CheckKind) → body_refused m (first_line m.functions f) d k ≡ []
-unfolding IsAccepted phases first_line
+pub bodies_pass : (m : Tree) → IsUnrefused m → (f : ℕ) (d : Definition) → slice_get (named_functions m) f ≡ Some d → (k : CheckKind) → body_refused m (first_line m.functions f) d k ≡ []
+unfolding IsUnrefused phases first_line
 bodies_pass m h f d e k =
     let n = named_from m f d e in
     let z : 0 + sum_by line_count (take f m.functions) ≡ sum_by line_count (take f m.functions) = omega arith in
@@ -121,7 +121,7 @@ bodies_pass m h f d e k =
     (subst (λ (q : ℕ). body_refused m q (numbered m.types n.plain) k ≡ []) z
     (body_passes m m.functions 0 (main_refused m ∷ []) h.1.1.1 f n.plain n.there k))
 
-pub main_is : (m : Tree) → IsAccepted m → has_main m ≡ true
-unfolding IsAccepted phases main_refused
+pub main_is : (m : Tree) → IsUnrefused m → has_main m ≡ true
+unfolding IsUnrefused phases main_refused
 main_is m h =
     not_false (has_main m) (at_if_none (not (has_main m)) (record { start = 0; end = 0 }) ((behind_bodies m m.functions 0 (main_refused m ∷ []) h.1.1.1).0.none NoMain))

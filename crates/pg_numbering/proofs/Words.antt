@@ -17,7 +17,7 @@ use Rattle.pg_types.specs.Layout.{size_or_none}
 use Rattle.pg_rules.specs.Names.{Symbol, VariableOf, DefinitionOf, DeclarationOf, NoSymbol, symbol}
 use Rattle.pg_rules.specs.ValueConditions.{constant_number, number_at}
 use Rattle.pg_rules.specs.Constants.{start_granule, global_pointer, symbol_word, pointer_word, constant_word}
-use Rattle.pg_rules.specs.Conditions.{IsAccepted}
+use Rattle.pg_rules.specs.Conditions.{IsUnrefused}
 use Rattle.pg_rules.specs.Numbered.{scalar_in}
 use Rattle.pg_numbering.proofs.Flat.{some_is}
 use Rattle.pg_numbering.proofs.Symbols.{variable_there}
@@ -108,7 +108,7 @@ some_number (Some (ArrayType n t)) v = omega arith
 some_number (Some NoFields) v = omega arith
 some_number (Some (MoreFields s t)) v = omega arith
 
-module _ (m : Tree) (accepted : IsAccepted m) where
+module _ (m : Tree) (accepted : IsUnrefused m) where
   global_word : (i : ℕ) (v : Variable) → slice_get m.globals i ≡ Some v → word_of (global_pointer m i v) < 2 ^ 64
   global_word i v e =
       let within = slice_get_within m.globals i v e in

@@ -4,7 +4,7 @@ ghost use Rattle.std.specs.Prelude.{ℕ, List};
 ghost use Rattle.pg_ast.specs.Syntax.{Tree};
 ghost use Rattle.pg_grammar.specs.Accepted.{IsModule};
 ghost use Rattle.pg_ir.specs.WellFormed.{IsProgram};
-ghost use Rattle.pg_rules.specs.Conditions.{IsAccepted};
+ghost use Rattle.pg_rules.specs.Conditions.{IsUnrefused};
 ghost use Rattle.pg_rules.specs.Numbered.{program_of};
 ghost use Rattle.pg_numbering.specs.Parsed.{IsInOrder};
 
@@ -20,12 +20,12 @@ pub fn a_module_is_in_order()
 
 /// The numbered program of an accepted tree is a program, where ending lines end their blocks and names stand in order.
 pub fn an_accepted_tree_is_a_program()
-    ensures { (m : Tree) → IsInOrder m → IsAccepted m → IsProgram (program_of m) }
+    ensures { (m : Tree) → IsInOrder m → IsUnrefused m → IsProgram (program_of m) }
 {}
 
 /// The numbered program of an accepted module is a program.
 pub fn an_accepted_module_is_a_program()
-    ensures { (text : List ℕ) (m : Tree) → IsModule text m → IsAccepted m → IsProgram (program_of m) }
+    ensures { (text : List ℕ) (m : Tree) → IsModule text m → IsUnrefused m → IsProgram (program_of m) }
 {
     a_module_is_in_order();
 }

@@ -9,11 +9,11 @@ use Rattle.pg_grammar.specs.Grammar.{no_type, name_of}
 use Rattle.pg_grammar.specs.GrammarOps.{cast_of}
 use Rattle.pg_grammar.specs.Reader.{behind_comma, begins_type, type_at}
 use Rattle.pg_grammar.specs.ReaderOps.{Listing, typed_value_at, target_at, case_at, more_at, metadata_tail_at, alignment_at}
-use Rattle.pg_ast.specs.Syntax.{Ty, Val, Typed, Op, Incoming, Case}
+use Rattle.pg_ast.specs.Syntax.{Ty, Val, Typed, Op, Case}
 use Rattle.pg_ast.specs.Syntax as syntax
 use Rattle.pg_ast.specs.declared.names.Name.{Name}
 use Rattle.pg_lex.specs.declared.token.Span.{Span}
-use Rattle.pg_operations.specs.Rows.{to_type_at, cast_end_at, select_end_at, label_at, came_by, incoming_tail_at, address_at, access_end_at, element_at, gep_op_end_at, targets_at, branch_end_at, case_by, case_end_at, closed_cases_at, ways_at, switch_end_at}
+use Rattle.pg_operations.specs.Rows.{cast_end_at, select_end_at, came_by, incoming_tail_at, access_end_at, gep_op_end_at, branch_end_at, case_by, case_end_at, closed_cases_at, switch_end_at}
 
 -- the second of two readings takes the third with it
 then_in : {A B C : Type 0} (x : Read A) (r : A → List Token → Read B) (k : B → List Token → Read C) → (x >>= λ a ts. r a ts >>= k) ≡ ((x >>= r) >>= k)

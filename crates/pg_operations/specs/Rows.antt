@@ -8,7 +8,9 @@ use Rattle.pg_grammar.specs.Reading.{Read, Good, ◌>>=◌, take_one, choose, un
 use Rattle.pg_grammar.specs.Grammar.{no_type, name_of}
 use Rattle.pg_grammar.specs.GrammarOps.{cast_of}
 use Rattle.pg_grammar.specs.Reader.{behind_comma, begins_type, type_at}
-use Rattle.pg_grammar.specs.ReaderOps.{lined, metadata_at, metadata_tail_at, typed_value_at, target_at, case_at, more_at, alignment_at, phi_at, branch_at, switch_at, unreachable_at, alloca_at, load_at, store_at, written_at}
+use Rattle.pg_grammar.specs.ReaderOps.{lined, metadata_at, metadata_tail_at, typed_value_at, target_at, case_at}
+use Rattle.pg_grammar.specs.ReaderOps.{more_at, alignment_at, phi_at, branch_at, switch_at, unreachable_at, alloca_at}
+use Rattle.pg_grammar.specs.ReaderOps.{load_at, store_at, written_at}
 use Rattle.pg_ast.specs.Syntax.{Ty, Val, Typed, Op, Incoming, Case, Written}
 use Rattle.pg_ast.specs.Syntax as syntax
 use Rattle.pg_ast.specs.declared.names.Name.{Name}

@@ -32,7 +32,11 @@ pub fn branch(alloc: Global, tokens: &[Token], at: usize) -> Result<(OpNode, usi
     let (word, at) = take(tokens, at, Class::Br)?;
     if next_is(tokens, at, Class::LabelWord) {
         let (block, at) = target(alloc, tokens, at)?;
-        return Ok((OpNode::Br(word.span, block), at));
+        let node = OpNode::Br {
+            span: word.span,
+            block,
+        };
+        return Ok((node, at));
     }
     let (condition, at) = typed_value_in(alloc, tokens, at, 64)?;
     branch_end(alloc, tokens, at, word, condition)
@@ -50,7 +54,13 @@ fn branch_end(
     ensures { Reads tokens.now at (λ x. op_of x.0) (λ x. x.1) result (branch_end_at word.now (typed_of condition) (drop at tokens.now)) }
 {
     let (yes, no, at) = targets(alloc, tokens, at)?;
-    Ok((OpNode::CondBr(word.span, condition, yes, no), at))
+    let node = OpNode::CondBr {
+        span: word.span,
+        condition,
+        yes,
+        no,
+    };
+    Ok((node, at))
 }
 
 /// Two blocks, each behind a comma.
@@ -142,7 +152,13 @@ fn switch_end(
     ensures { Reads tokens.now at (λ x. op_of x.0) (λ x. x.1) result (switch_end_at word.now (typed_of value) (drop at tokens.now)) }
 {
     let (other, all, at) = ways(alloc, tokens, at)?;
-    Ok((OpNode::Switch(word.span, value, other, all), at))
+    let node = OpNode::Switch {
+        span: word.span,
+        value,
+        other,
+        cases: all,
+    };
+    Ok((node, at))
 }
 
 /// The default behind a comma, and the cases in their brackets.
@@ -185,5 +201,5 @@ pub fn unreachable_op(tokens: &[Token], at: usize) -> Result<(OpNode, usize), Re
     ensures on { IfOk result (λ x. at < x.1) }
 {
     let (word, at) = take(tokens, at, Class::Unreachable)?;
-    Ok((OpNode::Unreachable(word.span), at))
+    Ok((OpNode::Unreachable { span: word.span }, at))
 }

@@ -65,7 +65,14 @@ fn callee(
     let (_, at) = take(tokens, at, Class::OpenRound)?;
     let (arguments, at) = arguments_to(alloc, tokens, at, Class::CloseRound)?;
     let callee = name(alloc, global)?;
-    Ok((OpNode::Call(word.span, ty, written, callee, arguments), at))
+    let node = OpNode::Call {
+        span: word.span,
+        ty,
+        written,
+        callee,
+        arguments,
+    };
+    Ok((node, at))
 }
 
 fn dropped_callee(tokens: &[Token], at: usize) -> Result<usize, Refusal>

@@ -56,7 +56,13 @@ fn gep_op_end(
     ensures { Reads tokens.now at (λ x. op_of x.0) (λ x. x.1) result (gep_op_end_at word.now (ty_of ty) (drop at tokens.now)) }
 {
     let (pointer, indices, at) = element(alloc, tokens, at)?;
-    Ok((OpNode::GetElementPtr(word.span, ty, pointer, indices), at))
+    let node = OpNode::GetElementPtr {
+        span: word.span,
+        ty,
+        pointer,
+        indices,
+    };
+    Ok((node, at))
 }
 
 /// A pointer behind a comma, the indices behind it, and the metadata behind them.

@@ -87,7 +87,12 @@ pub fn alloca(alloc: Global, tokens: &[Token], at: usize) -> Result<(OpNode, usi
     let (word, at) = take(tokens, at, Class::Alloca)?;
     let (ty, at) = type_node(alloc, tokens, at, 64)?;
     let (count, at) = count(alloc, tokens, at)?;
-    Ok((OpNode::Alloca(word.span, ty, count), at))
+    let node = OpNode::Alloca {
+        span: word.span,
+        ty,
+        count,
+    };
+    Ok((node, at))
 }
 
 fn volatile_word(tokens: &[Token], at: usize) -> Result<usize, Refusal>
@@ -125,7 +130,12 @@ fn load_end(
     ensures { Reads tokens.now at (λ x. op_of x.0) (λ x. x.1) result (load_end_at word.now (ty_of ty) (drop at tokens.now)) }
 {
     let (pointer, at) = address(alloc, tokens, at)?;
-    Ok((OpNode::Load(word.span, ty, pointer), at))
+    let node = OpNode::Load {
+        span: word.span,
+        ty,
+        pointer,
+    };
+    Ok((node, at))
 }
 
 /// An address behind a comma, and the alignment and the metadata behind it.
@@ -163,5 +173,10 @@ fn store_end(
     ensures { Reads tokens.now at (λ x. op_of x.0) (λ x. x.1) result (store_end_at word.now (typed_of value) (drop at tokens.now)) }
 {
     let (pointer, at) = address(alloc, tokens, at)?;
-    Ok((OpNode::Store(word.span, value, pointer), at))
+    let node = OpNode::Store {
+        span: word.span,
+        value,
+        pointer,
+    };
+    Ok((node, at))
 }

@@ -75,7 +75,14 @@ pub fn binary(alloc: Global, tokens: &[Token], at: usize) -> Result<(OpNode, usi
     let (_, at) = take(tokens, at, Class::Comma)?;
     let (right, at) = value(alloc, tokens, at, 64)?;
     let op = binary_op(word.class);
-    Ok((OpNode::Binary(word.span, op, ty, left, right), at))
+    let node = OpNode::Binary {
+        span: word.span,
+        op,
+        ty,
+        left,
+        right,
+    };
+    Ok((node, at))
 }
 
 /// A comparison.
@@ -92,7 +99,14 @@ pub fn comparison(alloc: Global, tokens: &[Token], at: usize) -> Result<(OpNode,
     let (_, at) = take(tokens, at, Class::Comma)?;
     let (right, at) = value(alloc, tokens, at, 64)?;
     let op = predicate_op(predicate.class);
-    Ok((OpNode::Icmp(word.span, op, ty, left, right), at))
+    let node = OpNode::Icmp {
+        span: word.span,
+        predicate: op,
+        ty,
+        left,
+        right,
+    };
+    Ok((node, at))
 }
 
 /// A conversion.
@@ -133,7 +147,13 @@ fn cast_end(
 {
     let (ty, at) = to_type(alloc, tokens, at)?;
     let op = cast_op(word.class);
-    Ok((OpNode::Cast(word.span, op, value, ty), at))
+    let node = OpNode::Cast {
+        span: word.span,
+        op,
+        value,
+        ty,
+    };
+    Ok((node, at))
 }
 
 /// A type behind the word `to`.
@@ -169,7 +189,13 @@ fn select_end(
 {
     let (yes, at) = comma_value(alloc, tokens, at)?;
     let (no, at) = comma_value(alloc, tokens, at)?;
-    Ok((OpNode::Select(word.span, condition, yes, no), at))
+    let node = OpNode::Select {
+        span: word.span,
+        condition,
+        yes,
+        no,
+    };
+    Ok((node, at))
 }
 
 /// A value and the type before it, behind a comma.

@@ -132,5 +132,11 @@ pub fn phi(alloc: Global, tokens: &[Token], at: usize) -> Result<(OpNode, usize)
     let (ty, at) = type_node(alloc, tokens, at, 64)?;
     let (first, at) = incoming(alloc, tokens, at)?;
     let (more, at) = more_incoming(alloc, tokens, at)?;
-    Ok((OpNode::Phi(word.span, ty, first, more.items), at))
+    let node = OpNode::Phi {
+        span: word.span,
+        ty,
+        first,
+        others: more.items,
+    };
+    Ok((node, at))
 }

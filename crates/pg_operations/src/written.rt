@@ -78,7 +78,8 @@ fn more_written(
     at: usize,
 ) -> Result<(Listing<TypeNode>, usize), ReadError>
     requires { at ≤ length tokens.now }
-    ensures { Reads tokens.now at (λ x. listing_of ty_of x.0) (λ x. x.1) result (more_at begins_type (type_at 64) (unless Unsupported no_type (drop_value_at (take_one (is Dots)))) (drop at tokens.now)) }
+    ensures { Reads tokens.now at (λ x. listing_of ty_of x.0) (λ x. x.1) result
+        (more_at begins_type (type_at 64) (unless Unsupported no_type (drop_value_at (take_one (is Dots)))) (drop at tokens.now)) }
 {
     let mut listing = Listing {
         items: Vec::new(alloc),
@@ -142,7 +143,8 @@ fn written_end(
     listing: Listing<TypeNode>,
 ) -> Result<(Listing<TypeNode>, usize), ReadError>
     requires { at ≤ length tokens.now }
-    ensures { Reads tokens.now at (λ x. listing_of ty_of x.0) (λ x. x.1) result (listing_end_at (unless Unsupported no_type (drop_value_at (take_one (is Dots)))) (listing_of ty_of listing) (drop at tokens.now)) }
+    ensures { Reads tokens.now at (λ x. listing_of ty_of x.0) (λ x. x.1) result
+        (listing_end_at (unless Unsupported no_type (drop_value_at (take_one (is Dots)))) (listing_of ty_of listing) (drop at tokens.now)) }
 {
     if listing.comma {
         if next_in(tokens, at, ClassSet::NoType) {

@@ -41,15 +41,25 @@ parts_at ts = run begins_next next_part_at body_end_at (length ts) (complete [])
 -- ---- behind ret void
 
 abbrev pub void_line_at : List Block → Option Name → Span → Span → Val → List Token → Read reader.Body
-void_line_at bs name o void v ts = metadata_at ts >>= λ _. Good (complete (reader.add_line bs name (syntax.Ret o (reader.void_value void v))))
+void_line_at bs name o void v ts =
+    metadata_at ts >>= λ _.
+    Good (complete (reader.add_line bs name (syntax.Ret o (reader.void_value void v))))
 
 abbrev pub behind_local_at : List Block → Option Name → Span → Span → List Token → Read reader.Body
-behind_local_at bs name o void ts = take_one (is Local) ts >>= λ t. choose (is Equals) (reader.named_tail_at (reader.add_line bs name (syntax.RetVoid o void)) (name_of t)) (reader.void_value_at bs name o void (Good (syntax.Local (name_of t))))
+behind_local_at bs name o void ts =
+    take_one (is Local) ts >>= λ t.
+    choose (is Equals) (reader.named_tail_at (reader.add_line bs name (syntax.RetVoid o void)) (name_of t))
+    (reader.void_value_at bs name o void (Good (syntax.Local (name_of t))))
 
 abbrev pub behind_gep_at : List Block → Option Name → Span → Span → List Token → Read reader.Body
-behind_gep_at bs name o void ts = take_one (is GetElementPtr) ts >>= λ t ts. flags_at ts >>= λ _. choose (is OpenRound) (reader.void_value_at bs name o void (gep_tail_at 63 (value_at 63) t))
+behind_gep_at bs name o void ts =
+    take_one (is GetElementPtr) ts >>= λ t ts.
+    flags_at ts >>= λ _.
+    choose (is OpenRound) (reader.void_value_at bs name o void (gep_tail_at 63 (value_at 63) t))
     (λ ts. gep_op_tail_at t ts >>= λ p. Good (complete (reader.add_line (reader.add_line bs name (syntax.RetVoid o void)) None p)))
 
 abbrev pub behind_cast_at : List Block → Option Name → Span → Span → List Token → Read reader.Body
-behind_cast_at bs name o void ts = take_one (is IntToPtr) ts >>= λ t. choose (is OpenRound) (reader.void_value_at bs name o void (int_to_ptr_tail_at 63 t))
+behind_cast_at bs name o void ts =
+    take_one (is IntToPtr) ts >>= λ t.
+    choose (is OpenRound) (reader.void_value_at bs name o void (int_to_ptr_tail_at 63 t))
     (λ ts. cast_tail_at t ts >>= λ p ts. metadata_at ts >>= λ _. Good (complete (reader.add_line (reader.add_line bs name (syntax.RetVoid o void)) None p)))

@@ -1,6 +1,6 @@
 //! Items that are read and dropped.
 
-ghost use Rattle.std.specs.Prelude.{◌≡◌, ◌≤◌, ◌<◌, length, drop, IfOk};
+ghost use Rattle.std.specs.Prelude.{◌≤◌, ◌<◌, length, drop, IfOk};
 ghost use Rattle.pg_grammar.specs.ReaderItems.{node_at, metadata_item_tail_at, attributes_item_at, text_item_at};
 ghost use Rattle.pg_parse.specs.ItemStates.{distinct_at};
 ghost use Rattle.pg_grammar.specs.Views.{Takes};

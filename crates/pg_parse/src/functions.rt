@@ -1,6 +1,6 @@
 //! Functions that are declared or defined.
 
-ghost use Rattle.std.specs.Prelude.{◌≡◌, ◌≤◌, ◌<◌, length, drop, IfOk};
+ghost use Rattle.std.specs.Prelude.{◌≤◌, ◌<◌, length, drop, IfOk};
 ghost use Rattle.pg_grammar.specs.ReaderItems.{declare_item_at, define_item_at};
 ghost use Rattle.pg_grammar.specs.Views.{Reads};
 ghost use Rattle.pg_ast.specs.Views.{declare_of, define_of};

@@ -1,6 +1,6 @@
 //! Named types and globals.
 
-ghost use Rattle.std.specs.Prelude.{◌≡◌, ◌≤◌, ◌<◌, length, drop, IfOk};
+ghost use Rattle.std.specs.Prelude.{◌≤◌, ◌<◌, length, drop, IfOk};
 ghost use Rattle.pg_grammar.specs.ReaderItems.{constancy_at, global_item_at, type_item_at};
 ghost use Rattle.pg_grammar.specs.Views.{Reads, Takes};
 ghost use Rattle.pg_ast.specs.Views.{global_of, type_item_of};

@@ -1,7 +1,6 @@
 //! A label or a line, as far as it is certain.
 
-ghost use Rattle.std.specs.Prelude.{◌≡◌, ◌≤◌, ◌<◌, Some, None, length, drop, map, IfOk};
-ghost use Rattle.pg_grammar.specs.Grammar.{name_of};
+ghost use Rattle.std.specs.Prelude.{◌≤◌, ◌<◌, Some, None, length, drop, map, IfOk};
 ghost use Rattle.pg_grammar.specs.ReaderItems.{op_at, called_at, debug_tail_at, named_tail_at, part_at};
 ghost use Rattle.pg_parse.specs.BodyParts.{body_of};
 ghost use Rattle.pg_grammar.specs.Views.{Reads};

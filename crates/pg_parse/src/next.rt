@@ -1,6 +1,6 @@
 //! What goes on behind a call or behind `ret void`, and the next part.
 
-ghost use Rattle.std.specs.Prelude.{◌≡◌, ◌≤◌, ◌<◌, length, drop, map, IfOk};
+ghost use Rattle.std.specs.Prelude.{◌≤◌, ◌<◌, length, drop, map, IfOk};
 ghost use Rattle.pg_grammar.specs.ReaderItems.{add_line, behind_call_at, behind_void_at, next_part_at};
 ghost use Rattle.pg_parse.specs.BodyParts.{body_of, behind_local_at, behind_gep_at, behind_cast_at};
 ghost use Rattle.pg_grammar.specs.Views.{Reads};

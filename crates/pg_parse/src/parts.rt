@@ -47,12 +47,12 @@ fn ends_block(op: &OpNode) -> bool
     ensures { result ≡ grammar.ends_block (op_of op.now) }
 {
     match op {
-        OpNode::Br(..)
-        | OpNode::CondBr(..)
-        | OpNode::Switch(..)
-        | OpNode::RetVoid(..)
-        | OpNode::Ret(..)
-        | OpNode::Unreachable(..) => true,
+        OpNode::Br { .. }
+        | OpNode::CondBr { .. }
+        | OpNode::Switch { .. }
+        | OpNode::RetVoid { .. }
+        | OpNode::Ret { .. }
+        | OpNode::Unreachable { .. } => true,
         _ => false,
     }
 }
@@ -191,7 +191,7 @@ pub fn add_return(
     ensures { IfOk result (λ bs. map block_of bs.items ≡ reader.add_line (map block_of blocks.items) line.name (syntax.RetVoid line.word line.void)) }
 {
     let VoidReturn { name, word, void } = line;
-    add_line(alloc, blocks, name, OpNode::RetVoid(word, void))
+    add_line(alloc, blocks, name, OpNode::RetVoid { span: word, void })
 }
 
 /// The blocks, and a line behind them that is dropped where it has no operation.

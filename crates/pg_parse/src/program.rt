@@ -1,6 +1,6 @@
 //! The items of a whole text.
 
-ghost use Rattle.std.specs.Prelude.{◌≡◌, ◌≤◌, ◌<◌, length, drop, IfOk};
+ghost use Rattle.std.specs.Prelude.{◌≤◌, ◌<◌, length, drop, IfOk};
 ghost use Rattle.pg_grammar.specs.ReaderItems.{item_at, behind_attributes_at, next_item_at, items_end_at, program_at};
 ghost use Rattle.pg_parse.specs.ItemStates.{after_of, items_of, comma_at};
 ghost use Rattle.pg_grammar.specs.Views.{Reads};

@@ -1,6 +1,6 @@
 //! Returns, also with a value behind `ret void`.
 
-ghost use Rattle.std.specs.Prelude.{◌≡◌, ◌≤◌, ◌<◌, length, drop, map, IfOk};
+ghost use Rattle.std.specs.Prelude.{◌≤◌, ◌<◌, length, drop, map, IfOk};
 ghost use Rattle.pg_grammar.specs.Reader.{int_or, plain_value_at};
 ghost use Rattle.pg_grammar.specs.ReaderItems.{void_at, return_at};
 ghost use Rattle.pg_parse.specs.BodyParts.{body_of, void_line_at};
@@ -42,7 +42,10 @@ pub fn void_line(
     let to = metadata(tokens, at)?;
     let VoidReturn { name, word, void } = line;
     let ty = TypeNode::Void(void);
-    let op = OpNode::Ret(word, TypedVal { ty, value });
+    let op = OpNode::Ret {
+        span: word,
+        value: TypedVal { ty, value },
+    };
     let blocks = add_line(alloc, blocks, name, op)?;
     let after = AfterPart::Complete;
     Ok((Body { blocks, after }, to))
@@ -99,7 +102,15 @@ pub fn return_line(
     }
     let (value, at) = typed_value_in(alloc, tokens, at, 64)?;
     let to = metadata(tokens, at)?;
-    let blocks = add_line(alloc, blocks, name, OpNode::Ret(word.span, value))?;
+    let blocks = add_line(
+        alloc,
+        blocks,
+        name,
+        OpNode::Ret {
+            span: word.span,
+            value,
+        },
+    )?;
     let after = AfterPart::Complete;
     Ok((Body { blocks, after }, to))
 }

@@ -6,7 +6,7 @@ ghost use Rattle.pg_grammar.specs.declared.fault.ReadFault.TheVariants.{OutOfMem
 ghost use Rattle.pg_grammar.specs.Reading.{Good};
 ghost use Rattle.pg_grammar.specs.ReaderItems.{program_at};
 ghost use Rattle.pg_grammar.specs.Verdict.{ended};
-ghost use Rattle.pg_grammar.specs.Accepted.{IsModule, IsFirstRefusal, place_of};
+ghost use Rattle.pg_grammar.specs.Accepted.{IsModule, IsUnread, place_of};
 ghost use Rattle.pg_grammar.specs.Told.{told, IsTold};
 ghost use Rattle.pg_ast.specs.Views.{tree_of};
 
@@ -20,7 +20,7 @@ use std::alloc::Global;
 pub fn parse(alloc: Global, text: &[u8]) -> Result<Module, ReadFault>
     requires limit { length text.now ≤ PROGRAM_TEXT_LIMIT }
     ensures found { IfOk result (λ m. IsModule text.now (tree_of m)) }
-    ensures refused { IfErr result (λ e. e ≢ OutOfMemory → IsFirstRefusal text.now e) }
+    ensures refused { IfErr result (λ e. e ≢ OutOfMemory → IsUnread text.now e) }
 {
     let lexed = lex(alloc, text)?;
     let tokens = classify(alloc, text, lexed.as_slice())?;

@@ -17,7 +17,7 @@ use Rattle.pg_rules.specs.LineConditions.{line_types}
 use Rattle.pg_rules.specs.Names.{registers_of, line_count, first_line}
 use Rattle.pg_rules.specs.Constants.{start_granule}
 use Rattle.pg_rules.specs.Numbered.{named_functions}
-use Rattle.pg_rules.specs.Conditions.{global_types, globals_end, global_refused, body_types, is_too_large, body_refused, IsAccepted}
+use Rattle.pg_rules.specs.Conditions.{global_types, globals_end, global_refused, body_types, is_too_large, body_refused, IsUnrefused}
 use Rattle.pg_numbering.proofs.Flat.{some_is}
 use Rattle.pg_numbering.proofs.Each.{all_front, all_behind}
 use Rattle.pg_numbering.proofs.Unrefused.{at_if_none, globals_pass, bodies_pass}
@@ -85,7 +85,7 @@ map_count : {X Y : Type 0} (f : X → Y) (xs : List X) → length (map f xs) ≡
 map_count f [] = refl
 map_count f (x ∷ xs) = ap suc (map_count f xs)
 
-module _ (m : Tree) (accepted : IsAccepted m) where
+module _ (m : Tree) (accepted : IsUnrefused m) where
   -- ---- globals
 
   small_global : (i : ℕ) (v : Variable) → slice_get m.globals i ≡ Some v → any_large m.types (global_types v) ≡ false

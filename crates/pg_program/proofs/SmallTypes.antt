@@ -14,7 +14,7 @@ use Rattle.pg_types.specs.Layout.{size_of}
 use Rattle.pg_rules.specs.declared.fault.CheckKind.TheVariants.{TooLarge}
 use Rattle.pg_rules.specs.Written.{types_within, types_within_all}
 use Rattle.pg_rules.specs.TypeConditions.{is_large, any_large}
-use Rattle.pg_rules.specs.Conditions.{item_refused, IsAccepted}
+use Rattle.pg_rules.specs.Conditions.{item_refused, IsUnrefused}
 use Rattle.pg_types.proofs.Fuel.{Below, within_plus}
 use Rattle.pg_numbering.proofs.Flat.{some_is}
 use Rattle.pg_numbering.proofs.Unrefused.{at_if_none, items_pass}
@@ -119,7 +119,7 @@ module _ (types : List NamedType) (f : List ℕ → Option ResolvedType) (below 
         let p = no_part (is_large types) (types_within t) (types_within_all ts) l in
         fields_fit_by ts (with_field o (part_type (type_by f t))) (field_added o (type_by f t) h (type_fits_by t p.0)) p.1
 
-module _ (m : Tree) (accepted : IsAccepted m) where
+module _ (m : Tree) (accepted : IsUnrefused m) where
   item_small : (text : List ℕ) (t : Ty) → type_named m.types text ≡ Some t → list_any (is_large m.types) (types_within t) ≡ false
   unfolding item_refused any_large
   item_small text t e =

@@ -41,8 +41,8 @@ fn binary_at(
     requires items { types.old.items ≡ scope.now.globals.now.symbols.tree.now.types.items }
     requires left { ValIsSmall scope.now (val_of left.now) }
     requires right { ValIsSmall scope.now (val_of right.now) }
-    ensures op { (names : ScopeNames scope.now) → IfOk result (λ o. o ≡
-        binary_op op (width_in (type_in (scope_in scope.now names) (ty_of ty.now))) (value_at (scope_in scope.now names) (ty_of ty.now) (val_of left.now)) (value_at (scope_in scope.now names) (ty_of ty.now) (val_of right.now))) }
+    ensures op { (names : ScopeNames scope.now) → let g = scope_in scope.now names in IfOk result (λ o. o ≡
+        binary_op op (width_in (type_in g (ty_of ty.now))) (value_at g (ty_of ty.now) (val_of left.now)) (value_at g (ty_of ty.now) (val_of right.now))) }
     ensures items { types.new.items ≡ types.old.items }
 {
     let width = width_at(scope, types, ty)?;
@@ -65,8 +65,8 @@ fn compare_at(
     requires items { types.old.items ≡ scope.now.globals.now.symbols.tree.now.types.items }
     requires left { ValIsSmall scope.now (val_of left.now) }
     requires right { ValIsSmall scope.now (val_of right.now) }
-    ensures op { (names : ScopeNames scope.now) → IfOk result (λ o. o ≡
-        operation.Compare (comparison_of predicate) (width_in (type_in (scope_in scope.now names) (ty_of ty.now))) (value_at (scope_in scope.now names) (ty_of ty.now) (val_of left.now)) (value_at (scope_in scope.now names) (ty_of ty.now) (val_of right.now))) }
+    ensures op { (names : ScopeNames scope.now) → let g = scope_in scope.now names in IfOk result (λ o. o ≡
+        operation.Compare (comparison_of predicate) (width_in (type_in g (ty_of ty.now))) (value_at g (ty_of ty.now) (val_of left.now)) (value_at g (ty_of ty.now) (val_of right.now))) }
     ensures items { types.new.items ≡ types.old.items }
 {
     let width = width_at(scope, types, ty)?;
@@ -92,8 +92,8 @@ fn cast_at(
 ) -> Result<Op, AllocError>
     requires items { types.old.items ≡ scope.now.globals.now.symbols.tree.now.types.items }
     requires value { TypedIsSmall scope.now (typed_of value.now) }
-    ensures op { (names : ScopeNames scope.now) → IfOk result (λ o. o ≡
-        cast_op op (width_in (type_in (scope_in scope.now names) (typed_of value.now).ty)) (width_in (type_in (scope_in scope.now names) (ty_of ty.now))) (typed_value (scope_in scope.now names) (typed_of value.now))) }
+    ensures op { (names : ScopeNames scope.now) → let g = scope_in scope.now names in IfOk result (λ o. o ≡
+        cast_op op (width_in (type_in g (typed_of value.now).ty)) (width_in (type_in g (ty_of ty.now))) (typed_value g (typed_of value.now))) }
     ensures items { types.new.items ≡ types.old.items }
 {
     let from = typed_width(scope, types, value)?;
@@ -116,8 +116,8 @@ fn select_at(
     requires cond { TypedIsSmall scope.now (typed_of cond.now) }
     requires first { TypedIsSmall scope.now (typed_of first.now) }
     requires second { TypedIsSmall scope.now (typed_of second.now) }
-    ensures op { (names : ScopeNames scope.now) → IfOk result (λ o. o ≡
-        operation.Select (typed_value (scope_in scope.now names) (typed_of cond.now)) (typed_value (scope_in scope.now names) (typed_of first.now)) (typed_value (scope_in scope.now names) (typed_of second.now))) }
+    ensures op { (names : ScopeNames scope.now) → let g = scope_in scope.now names in IfOk result (λ o. o ≡
+        operation.Select (typed_value g (typed_of cond.now)) (typed_value g (typed_of first.now)) (typed_value g (typed_of second.now))) }
     ensures items { types.new.items ≡ types.old.items }
 {
     let cond = typed_value(alloc, scope, types, cond)?;
@@ -172,8 +172,8 @@ fn conditional_branch_at(
 ) -> Result<Op, AllocError>
     requires items { types.old.items ≡ scope.now.globals.now.symbols.tree.now.types.items }
     requires cond { TypedIsSmall scope.now (typed_of cond.now) }
-    ensures op { (names : ScopeNames scope.now) → IfOk result (λ o. o ≡
-        operation.CondBr (typed_value (scope_in scope.now names) (typed_of cond.now)) (block_at (scope_in scope.now names) scope.now.first first.now) (block_at (scope_in scope.now names) scope.now.first second.now)) }
+    ensures op { (names : ScopeNames scope.now) → let g = scope_in scope.now names in IfOk result (λ o. o ≡
+        operation.CondBr (typed_value g (typed_of cond.now)) (block_at g scope.now.first first.now) (block_at g scope.now.first second.now)) }
     ensures items { types.new.items ≡ types.old.items }
 {
     let cond = typed_value(alloc, scope, types, cond)?;
@@ -197,8 +197,9 @@ fn switch_at(
 ) -> Result<Op, AllocError>
     requires items { types.old.items ≡ scope.now.globals.now.symbols.tree.now.types.items }
     requires value { TypedIsSmall scope.now (typed_of value.now) }
-    ensures op { (names : ScopeNames scope.now) → IfOk result (λ o. o ≡
-        operation.Switch (width_in (type_in (scope_in scope.now names) (typed_of value.now).ty)) (typed_value (scope_in scope.now names) (typed_of value.now)) (block_at (scope_in scope.now names) scope.now.first block.now) (map (case_at (scope_in scope.now names) scope.now.first (typed_of value.now).ty) (map case_of cases.now))) }
+    ensures op { (names : ScopeNames scope.now) → let g = scope_in scope.now names in IfOk result (λ o. o ≡
+        operation.Switch (width_in (type_in g (typed_of value.now).ty)) (typed_value g (typed_of value.now)) (block_at g scope.now.first block.now)
+        (map (case_at g scope.now.first (typed_of value.now).ty) (map case_of cases.now))) }
     ensures items { types.new.items ≡ types.old.items }
 {
     let width = typed_width(scope, types, value)?;
@@ -288,8 +289,8 @@ fn alloca_at(
 ) -> Result<Op, AllocError>
     requires items { types.old.items ≡ scope.now.globals.now.symbols.tree.now.types.items }
     requires ty { TyIsSmall scope.now (ty_of ty.now) }
-    ensures op { (names : ScopeNames scope.now) → IfOk result (λ o. o ≡
-        operation.Alloca (size_or_none (type_in (scope_in scope.now names) (ty_of ty.now)) * count_in (scope_in scope.now names) (option_map count_of count.now))) }
+    ensures op { (names : ScopeNames scope.now) → let g = scope_in scope.now names in IfOk result (λ o. o ≡
+        operation.Alloca (size_or_none (type_in g (ty_of ty.now)) * count_in g (option_map count_of count.now))) }
     ensures items { types.new.items ≡ types.old.items }
 {
     let size = size_at(scope, types, ty)?;
@@ -308,8 +309,8 @@ fn load_at(
 ) -> Result<Op, AllocError>
     requires items { types.old.items ≡ scope.now.globals.now.symbols.tree.now.types.items }
     requires pointer { TypedIsSmall scope.now (typed_of pointer.now) }
-    ensures op { (names : ScopeNames scope.now) → IfOk result (λ o. o ≡
-        operation.Load (width_in (type_in (scope_in scope.now names) (ty_of ty.now))) (typed_value (scope_in scope.now names) (typed_of pointer.now))) }
+    ensures op { (names : ScopeNames scope.now) → let g = scope_in scope.now names in IfOk result (λ o. o ≡
+        operation.Load (width_in (type_in g (ty_of ty.now))) (typed_value g (typed_of pointer.now))) }
     ensures items { types.new.items ≡ types.old.items }
 {
     let width = width_at(scope, types, ty)?;
@@ -328,8 +329,8 @@ fn store_at(
     requires items { types.old.items ≡ scope.now.globals.now.symbols.tree.now.types.items }
     requires value { TypedIsSmall scope.now (typed_of value.now) }
     requires pointer { TypedIsSmall scope.now (typed_of pointer.now) }
-    ensures op { (names : ScopeNames scope.now) → IfOk result (λ o. o ≡
-        operation.Store (width_in (type_in (scope_in scope.now names) (typed_of value.now).ty)) (typed_value (scope_in scope.now names) (typed_of value.now)) (typed_value (scope_in scope.now names) (typed_of pointer.now))) }
+    ensures op { (names : ScopeNames scope.now) → let g = scope_in scope.now names in IfOk result (λ o. o ≡
+        operation.Store (width_in (type_in g (typed_of value.now).ty)) (typed_value g (typed_of value.now)) (typed_value g (typed_of pointer.now))) }
     ensures items { types.new.items ≡ types.old.items }
 {
     let width = typed_width(scope, types, value)?;
@@ -351,8 +352,8 @@ fn element_pointer_at(
     requires ty { TyIsSmall scope.now (ty_of ty.now) }
     requires pointer { TypedIsSmall scope.now (typed_of pointer.now) }
     requires values { Each (TypedIsSmall scope.now) (map typed_of indices.now) }
-    ensures op { (names : ScopeNames scope.now) → IfOk result (λ o. o ≡
-        operation.Gep (typed_value (scope_in scope.now names) (typed_of pointer.now)) (indices_at (scope_in scope.now names) (map typed_of indices.now)
+    ensures op { (names : ScopeNames scope.now) → let g = scope_in scope.now names in IfOk result (λ o. o ≡
+        operation.Gep (typed_value g (typed_of pointer.now)) (indices_at g (map typed_of indices.now)
         (index_scales (tree_of scope.now.globals.now.symbols.tree.now).types (ty_of ty.now) (map typed_of indices.now)))) }
     ensures items { types.new.items ≡ types.old.items }
 {
@@ -379,37 +380,62 @@ pub(crate) fn op_at(
     ensures items { types.new.items ≡ types.old.items }
 {
     match op {
-        OpNode::Binary(_, op, ty, left, right) => {
-            binary_at(alloc, scope, types, *op, ty, left, right)
-        }
-        OpNode::Icmp(_, predicate, ty, left, right) => {
-            compare_at(alloc, scope, types, *predicate, ty, left, right)
-        }
-        OpNode::Cast(_, op, value, ty) => cast_at(alloc, scope, types, *op, value, ty),
-        OpNode::Select(_, cond, first, second) => {
-            select_at(alloc, scope, types, cond, first, second)
-        }
-        OpNode::Phi(_, ty, first, others) => {
-            phi_at(alloc, scope, types, ty, first, others.as_slice())
-        }
-        OpNode::Br(_, block) => Ok(branch_at(scope, block)),
-        OpNode::CondBr(_, cond, first, second) => {
-            conditional_branch_at(alloc, scope, types, cond, first, second)
-        }
-        OpNode::Switch(_, value, block, cases) => {
-            switch_at(alloc, scope, types, value, block, cases.as_slice())
-        }
-        OpNode::Call(_, _, _, callee, args) => {
-            call_at(alloc, scope, types, callee, args.as_slice())
-        }
-        OpNode::RetVoid(_, _) => Ok(Op::Ret { value: None }),
-        OpNode::Ret(_, value) => return_at(alloc, scope, types, value),
-        OpNode::Unreachable(_) => Ok(Op::Unreachable),
-        OpNode::Alloca(_, ty, count) => alloca_at(scope, types, ty, count),
-        OpNode::Load(_, ty, pointer) => load_at(alloc, scope, types, ty, pointer),
-        OpNode::Store(_, value, pointer) => store_at(alloc, scope, types, value, pointer),
-        OpNode::GetElementPtr(_, ty, pointer, indices) => {
-            element_pointer_at(alloc, scope, types, ty, pointer, indices.as_slice())
-        }
+        OpNode::Binary {
+            op,
+            ty,
+            left,
+            right,
+            ..
+        } => { binary_at(alloc, scope, types, *op, ty, left, right) }
+        OpNode::Icmp {
+            predicate,
+            ty,
+            left,
+            right,
+            ..
+        } => { compare_at(alloc, scope, types, *predicate, ty, left, right) }
+        OpNode::Cast { op, value, ty, .. } => cast_at(alloc, scope, types, *op, value, ty),
+        OpNode::Select {
+            condition,
+            yes,
+            no,
+            ..
+        } => { select_at(alloc, scope, types, condition, yes, no) }
+        OpNode::Phi {
+            ty,
+            first,
+            others,
+            ..
+        } => { phi_at(alloc, scope, types, ty, first, others.as_slice()) }
+        OpNode::Br { block, .. } => Ok(branch_at(scope, block)),
+        OpNode::CondBr {
+            condition,
+            yes,
+            no,
+            ..
+        } => { conditional_branch_at(alloc, scope, types, condition, yes, no) }
+        OpNode::Switch {
+            value,
+            other,
+            cases,
+            ..
+        } => { switch_at(alloc, scope, types, value, other, cases.as_slice()) }
+        OpNode::Call {
+            callee,
+            arguments,
+            ..
+        } => { call_at(alloc, scope, types, callee, arguments.as_slice()) }
+        OpNode::RetVoid { .. } => Ok(Op::Ret { value: None }),
+        OpNode::Ret { value, .. } => return_at(alloc, scope, types, value),
+        OpNode::Unreachable { .. } => Ok(Op::Unreachable),
+        OpNode::Alloca { ty, count, .. } => alloca_at(scope, types, ty, count),
+        OpNode::Load { ty, pointer, .. } => load_at(alloc, scope, types, ty, pointer),
+        OpNode::Store { value, pointer, .. } => store_at(alloc, scope, types, value, pointer),
+        OpNode::GetElementPtr {
+            ty,
+            pointer,
+            indices,
+            ..
+        } => { element_pointer_at(alloc, scope, types, ty, pointer, indices.as_slice()) }
     }
 }

@@ -7,7 +7,7 @@ ghost use Rattle.pg_ast.specs.Syntax.{Variable};
 ghost use Rattle.pg_ast.specs.Views.{define_of, tree_of};
 ghost use Rattle.pg_num.specs.declared.limits.TheConstants.{FUNCTION_LIMIT, INSTRUCTION_LIMIT};
 ghost use Rattle.pg_rules.specs.Names.{line_count};
-ghost use Rattle.pg_rules.specs.Conditions.{IsAccepted};
+ghost use Rattle.pg_rules.specs.Conditions.{IsUnrefused};
 ghost use Rattle.pg_rules.specs.Numbered.{global_at, program_of};
 ghost use Rattle.pg_constants.specs.Sizes.{GlobalsFit};
 ghost use Rattle.pg_program.specs.FunctionRows.{rows_from, function_row, block_row, instr_row, is_main_item};
@@ -170,7 +170,8 @@ fn instr_parts(
     requires fits { FunctionsFit (tree_of globals.now.symbols.tree.now).types (map define_of all.now) }
     requires sizes { GlobalsFit (tree_of globals.now.symbols.tree.now).types (tree_of globals.now.symbols.tree.now).globals }
     ensures instrs { IfOk result (λ v. v.0.items ≡ rows_from (instr_row (tree_of globals.now.symbols.tree.now) (map define_of all.now)) 0 all.now) }
-    ensures rows { IfOk result (λ v. v.1.items ≡ map (λ (v : ℕ × Variable). global_at (tree_of globals.now.symbols.tree.now) v.0 v.1) (enumerate_from 0 (tree_of globals.now.symbols.tree.now).globals)) }
+    ensures rows { IfOk result (λ v. v.1.items ≡
+        map (λ (v : ℕ × Variable). global_at (tree_of globals.now.symbols.tree.now) v.0 v.1) (enumerate_from 0 (tree_of globals.now.symbols.tree.now).globals)) }
     ensures items { types.new.items ≡ types.old.items }
 {
     let instrs = instrs_of(alloc, globals, types, all)?;
@@ -227,7 +228,7 @@ pub fn program_parts(
     tree: &Module,
 ) -> Result<ProgramParts, AllocError>
     requires items { types.old.items ≡ tree.now.types.items }
-    requires accepted { IsAccepted (tree_of tree.now) }
+    requires accepted { IsUnrefused (tree_of tree.now) }
     ensures program { IfOk result (λ p. numbered_program p.functions.items p.blocks.items p.instrs.items p.globals.items p.main ≡ program_of (tree_of tree.now)) }
     ensures items { types.new.items ≡ types.old.items }
 {

@@ -1,14 +1,13 @@
 -- Constants of integer types as numbers.
-use Rattle.std.proofs.Common.{◌≡◌, ℕ, ◌<◌, ◌%◌, List, Option, Some, None, IfSome, ℤ, pos, negsuc, arith, refl, ap, ◌∙◌}
+use Rattle.std.proofs.Common.{◌≡◌, ℕ, ◌<◌, List, Option, Some, None, IfSome, ℤ, pos, negsuc, arith, refl}
 use Rattle.std.specs.Option.{option_map}
-use Rattle.pg_num.specs.Numbers.{modulus, width_bits, residue}
+use Rattle.pg_num.specs.Numbers.{modulus, residue}
 use Rattle.pg_num.specs.declared.width.Width.{Width}
 use Rattle.pg_num.specs.declared.width.Width.TheVariants.{W1, W8, W16, W32, W64}
 use Rattle.pg_ast.specs.Syntax.{Val}
 use Rattle.pg_types.specs.Kinds.{kind_of}
 use Rattle.pg_types.specs.Literals.{literal_in}
 use Rattle.pg_types.specs.Resolved.{ResolvedType, IntegerType, PointerType, VoidType, ArrayType, NoFields, MoreFields}
-use Rattle.pg_types.specs.declared.kind.TypeKind.{TypeKind}
 use Rattle.pg_rules.specs.ValueConditions.{number_at, signed_at}
 use Rattle.pg_rules.specs.Integers.{kind_number, kind_signed}
 

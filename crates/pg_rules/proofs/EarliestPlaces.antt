@@ -7,7 +7,7 @@ use Rattle.pg_rules.specs.declared.fault.CheckKind.{CheckKind}
 use Rattle.pg_rules.specs.declared.fault.CheckKind.TheVariants.{UnknownName, Doubled, WrongType, NoBlock, BadPhi, Unsupported, BadSignature, TooLarge, NoMain}
 use Rattle.pg_rules.specs.declared.refusals.Refusal.{Refusal}
 use Rattle.pg_rules.specs.declared.refusals.Refusals.{Refusals}
-use Rattle.pg_rules.specs.Conditions.{Part, rank, NoLater, IsEarliest, RefusesNothing}
+use Rattle.pg_rules.specs.Conditions.{RefusedPlaces, rank, NoLater, IsEarliest, RefusesNothing}
 use Rattle.pg_rules.specs.Earliest.{earlier, earliest, refusal_at, earlier_refusal, first_of, rows_of, AreEarliest}
 
 in_cons : {X : Type 0} (s t : X) (ss : List X) → Contains (s ∷ ss) t → (s ≡ t) ⊎ Contains ss t
@@ -82,7 +82,7 @@ earliest_is (s ∷ ss) e h = by (earliest ss) refl (earliest_is ss) h
 -- ---- refusals
 
 -- each kind's place is the earliest of a part
-abbrev AreRows : Part → List (CheckKind × Option Span) → Type 0
+abbrev AreRows : RefusedPlaces → List (CheckKind × Option Span) → Type 0
 AreRows part [] = Unit {0}
 AreRows part (row ∷ rows) = (row.1 ≡ earliest (part row.0)) × AreRows part rows
 
@@ -95,12 +95,12 @@ abbrev HasKind : List (CheckKind × Option Span) → CheckKind → Type 0
 HasKind [] k = ⊥
 HasKind (row ∷ rows) k = (row.0 ≡ k) ⊎ HasKind rows k
 
-record IsFirst (part : Part) (rows : List (CheckKind × Option Span)) (n : ℕ) (r : Refusal) : Type 0 where
+record IsFirst (part : RefusedPlaces) (rows : List (CheckKind × Option Span)) (n : ℕ) (r : Refusal) : Type 0 where
   refused : Contains (part r.kind) r.span
   no_later : (k : CheckKind) (s : Span) → HasKind rows k → Contains (part k) s → NoLater r.kind r.span k s
   above : n ≤ rank r.kind
 
-first_none : (part : Part) (rows : List (CheckKind × Option Span)) → AreRows part rows → first_of rows ≡ None → (k : CheckKind) → HasKind rows k → part k ≡ []
+first_none : (part : RefusedPlaces) (rows : List (CheckKind × Option Span)) → AreRows part rows → first_of rows ≡ None → (k : CheckKind) → HasKind rows k → part k ≡ []
 unfolding first_of
 first_none part [] a h k e = absurd e
 first_none part (row ∷ rows) a h k e = by row.1 refl (first_of rows) refl (first_none part rows a.1) h
@@ -122,7 +122,7 @@ first_none part (row ∷ rows) a h k e = by row.1 refl (first_of rows) refl (fir
         pick false h = cc
 
 -- a row's place counts before all that follow
-first_row : (part : Part) (row : CheckKind × Option Span) (rows : List (CheckKind × Option Span)) (n : ℕ) (s : Span) → row.1 ≡ Some s → row.1 ≡ earliest (part row.0) → n ≤ rank row.0
+first_row : (part : RefusedPlaces) (row : CheckKind × Option Span) (rows : List (CheckKind × Option Span)) (n : ℕ) (s : Span) → row.1 ≡ Some s → row.1 ≡ earliest (part row.0) → n ≤ rank row.0
     → ((k : CheckKind) (t : Span) → HasKind rows k → Contains (part k) t → NoLater row.0 s k t) → IsFirst part (row ∷ rows) n (record { kind = row.0; span = s })
 first_row part row rows n s m a l rest =
     record {
@@ -143,7 +143,7 @@ first_row part row rows n s m a l rest =
     kinds k t c (inl q) = subst (λ j. Contains (part j) t → NoLater row.0 s j t) q (λ d. same t d) c
     kinds k t c (inr d) = rest k t d c
 
-first_is : (part : Part) (rows : List (CheckKind × Option Span)) (n : ℕ) → AreRows part rows → Rising n rows → (r : Refusal) → first_of rows ≡ Some r → IsFirst part rows n r
+first_is : (part : RefusedPlaces) (rows : List (CheckKind × Option Span)) (n : ℕ) → AreRows part rows → Rising n rows → (r : Refusal) → first_of rows ≡ Some r → IsFirst part rows n r
 unfolding first_of
 first_is part [] n a g r h = cc
 first_is part (row ∷ rows) n a g r h = by row.1 refl (first_of rows) refl (first_is part rows (rank row.0) a.1 g.1) (first_none part rows a.1) h
@@ -192,7 +192,7 @@ first_is part (row ∷ rows) n a g r h = by row.1 refl (first_of rows) refl (fir
                 equal true z u e v = inl (grind (arith, nat_tests))
                 equal false z u e v = inr (let w : t.start ≤ s.start = grind (arith, nat_tests) in omega (arith, w, b, e), omega (arith, u, v))
 
-all_rows : (r : Refusals) (part : Part) → AreEarliest r part → AreRows part (rows_of r)
+all_rows : (r : Refusals) (part : RefusedPlaces) → AreEarliest r part → AreRows part (rows_of r)
 all_rows r part e = (e UnknownName, (e Doubled, (e WrongType, (e NoBlock, (e BadPhi, (e Unsupported, (e BadSignature, (e TooLarge, (e NoMain, tt)))))))))
 
 has_kind : (r : Refusals) (k : CheckKind) → HasKind (rows_of r) k
@@ -209,14 +209,14 @@ has_kind r NoMain = inr (inr (inr (inr (inr (inr (inr (inr (inl refl))))))))
 rising : (r : Refusals) → Rising 0 (rows_of r)
 rising r = search (rules, arith)
 
-pub first_found : (r : Refusals) (part : Part) → AreEarliest r part → (x : Refusal) → first_of (rows_of r) ≡ Some x → IsEarliest part x.kind x.span
+pub first_found : (r : Refusals) (part : RefusedPlaces) → AreEarliest r part → (x : Refusal) → first_of (rows_of r) ≡ Some x → IsEarliest part x.kind x.span
 first_found r part e x h =
     let f = first_is part (rows_of r) 0 (all_rows r part e) (rising r) x h in
     record { refused = f.refused; earliest = λ k s c. f.no_later k s (has_kind r k) c }
 
-pub nothing_found : (r : Refusals) (part : Part) → AreEarliest r part → first_of (rows_of r) ≡ None → RefusesNothing part
+pub nothing_found : (r : Refusals) (part : RefusedPlaces) → AreEarliest r part → first_of (rows_of r) ≡ None → RefusesNothing part
 nothing_found r part e h = record { none = λ k. first_none part (rows_of r) (all_rows r part e) h k (has_kind r k) }
 
-pub some_found : (r : Refusals) (part : Part) → AreEarliest r part → (o : Option Refusal) → o ≡ first_of (rows_of r) → IfSome o (λ x. IsEarliest part x.kind x.span)
+pub some_found : (r : Refusals) (part : RefusedPlaces) → AreEarliest r part → (o : Option Refusal) → o ≡ first_of (rows_of r) → IfSome o (λ x. IsEarliest part x.kind x.span)
 some_found r part e None h = tt
 some_found r part e (Some x) h = first_found r part e x (sym h)

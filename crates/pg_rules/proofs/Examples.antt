@@ -6,7 +6,7 @@ use Rattle.pg_ast.specs.declared.names.Literal.{Literal}
 use Rattle.pg_ast.specs.declared.ops.BinaryOp.TheVariants as binary
 use Rattle.pg_ast.specs.declared.ops.Predicate.TheVariants as predicate
 use Rattle.pg_ast.specs.Syntax as syntax
-use Rattle.pg_ast.specs.Syntax.{Ty, tys, Val, vals, Typed, Const, consts, Op, Line, Block, Param, NamedType, Variable, Definition, Tree}
+use Rattle.pg_ast.specs.Syntax.{Ty, tys, Val, vals, Typed, Const, consts, Op, Line, NamedType, Variable, Definition, Tree}
 use Rattle.pg_ast.specs.Numbers.{numbered, gives, is_void, name_void, decimal_text, digits_text, after_name, behind_block, block_at}
 use Rattle.pg_num.specs.declared.operations.Compare.TheVariants as compare
 use Rattle.pg_num.specs.declared.width.Width.TheVariants.{W1, W8, W32, W64}
@@ -27,7 +27,7 @@ use Rattle.pg_rules.specs.TypeConditions.{unknown_types, wrong_types, any_large}
 use Rattle.pg_rules.specs.ValueConditions.{wrong_indices, wrong_use, wrong_const, wrong_elements, wrong_fields}
 use Rattle.pg_rules.specs.LineConditions.{line_refused}
 use Rattle.pg_rules.specs.BlockConditions.{predecessors, bad_phis}
-use Rattle.pg_rules.specs.Conditions.{Part, meets, self_contained, item_refused, globals_end, global_refused, declaration_refused, definition_refused, body_refused, main_refused, heads_refused, phases}
+use Rattle.pg_rules.specs.Conditions.{RefusedPlaces, meets, self_contained, item_refused, globals_end, global_refused, declaration_refused, definition_refused, body_refused, main_refused, heads_refused, phases}
 use Rattle.pg_rules.specs.Constants.{start_granule, pointer_word, const_bytes, element_bytes, field_bytes}
 use Rattle.pg_rules.specs.Numbered.{value_of, op_at, program_of}
 
@@ -55,7 +55,7 @@ abbrev pub places : CheckKind → List Span → List (CheckKind × ℕ)
 places kind spans = map (λ (s : Span). (kind, s.start)) spans
 
 -- all that a part refuses
-abbrev pub found : Part → List (CheckKind × ℕ)
+abbrev pub found : RefusedPlaces → List (CheckKind × ℕ)
 found p =
     places UnknownName (p UnknownName) ++ (places Doubled (p Doubled) ++ (places WrongType (p WrongType)
     ++ (places NoBlock (p NoBlock) ++ (places BadPhi (p BadPhi) ++ (places Unsupported (p Unsupported)

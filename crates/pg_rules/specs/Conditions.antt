@@ -1,5 +1,7 @@
 -- The checks of a program text: what is refused, by kinds and phases, and which refusal is the first.
-use Rattle.std.specs.Prelude.{◌≡◌, ℕ, zero, suc, filter, drop, ◌+◌, ◌<◌, ◌≤◌, nat_lt, nat_le, ◌||◌, ◌&&◌, ◌==◌, ◌⊎◌, Bool, true, false, not, List, [], ◌∷◌, ◌++◌, map, length, take, sum_by, Contains, codes, Option, Some, None, is_some}
+use Rattle.std.specs.Prelude.{◌≡◌, ℕ, zero, suc, filter, drop, ◌+◌, ◌<◌, ◌≤◌, nat_lt, nat_le, ◌||◌, ◌&&◌, ◌==◌, ◌⊎◌}
+use Rattle.std.specs.Prelude.{Bool, true, false, not, List, [], ◌∷◌, ◌++◌, map, length, take, sum_by, Contains, codes}
+use Rattle.std.specs.Prelude.{Option, Some, None, is_some}
 use Rattle.std.specs.List.{flat_map, filter_map, list_any, list_all, enumerate_from}
 use Rattle.std.specs.Str.{bytes_eq}
 use Rattle.pg_lex.specs.declared.token.Span.{Span}
@@ -29,15 +31,15 @@ use Rattle.pg_rules.specs.LineConditions.{line_refused, line_types}
 use Rattle.pg_rules.specs.BlockConditions.{bad_phis, is_endless}
 
 -- the places that a part of a module refuses, by kind
-abbrev pub Part : Type 0
-Part = CheckKind → List Span
+abbrev pub RefusedPlaces : Type 0
+RefusedPlaces = CheckKind → List Span
 
 -- a place, where something holds
 abbrev pub at_if : Bool → Span → List Span
 at_if true span = span ∷ []
 at_if false span = []
 
-abbrev pub all_of : {X : Type 0} → (X → Part) → List X → Part
+abbrev pub all_of : {X : Type 0} → (X → RefusedPlaces) → List X → RefusedPlaces
 all_of f xs kind = flat_map (λ x. f x kind) xs
 
 -- ---- type items
@@ -66,7 +68,7 @@ self_contained types i = map (λ (n : Name). n.span) (filter (λ (n : Name). mee
 abbrev pub type_names : List NamedType → List Name
 type_names types = map (λ (i : NamedType). i.name) types
 
-unfoldable pub item_refused : List NamedType → NamedType → Part
+unfoldable pub item_refused : List NamedType → NamedType → RefusedPlaces
 item_refused types i UnknownName = unknown_types types (i.ty ∷ [])
 item_refused types i Doubled = doubled (type_names types) i.name
 item_refused types i WrongType = wrong_types types (i.ty ∷ []) ++ self_contained types i
@@ -93,7 +95,7 @@ globals_end types gs = 1 + sum_by (granules_of types) gs
 abbrev pub outside : Tree → Scope
 outside m = record { tree = m; registers = []; labels = []; result = None }
 
-unfoldable pub global_refused : Tree → ℕ × Variable → Part
+unfoldable pub global_refused : Tree → ℕ × Variable → RefusedPlaces
 global_refused m (i, v) UnknownName =
     unknown_types m.types (global_types v) ++ flat_map (λ (u : Use). unknown_value (outside m) u.value) (global_uses v)
 global_refused m (i, v) Doubled = doubled (symbol_names m) v.name
@@ -146,7 +148,7 @@ abbrev pub wrong_known : List NamedType → Option Known → Header → Bool
 wrong_known types None h = false
 wrong_known types (Some k) h = has_other_header types (parameters_of k) (returned_by k) h
 
-unfoldable pub declaration_refused : Tree → Declaration → Part
+unfoldable pub declaration_refused : Tree → Declaration → RefusedPlaces
 declaration_refused m d UnknownName = unknown_types m.types (head_types (declaration_header d))
 declaration_refused m d Doubled = doubled (symbol_names m) d.name
 declaration_refused m d WrongType = wrong_types m.types (head_types (declaration_header d))
@@ -167,7 +169,7 @@ abbrev pub param_names : Definition → List Name
 param_names d = filter_map (λ (p : Param). p.name) d.params
 
 -- the definition with its number, in which each parameter has its name
-unfoldable pub definition_refused : Tree → ℕ × Definition → Part
+unfoldable pub definition_refused : Tree → ℕ × Definition → RefusedPlaces
 definition_refused m (f, d) UnknownName = unknown_types m.types (head_types (definition_header d))
 definition_refused m (f, d) Doubled = doubled (symbol_names m) d.name ++ flat_map (doubled (param_names d)) (param_names d)
 definition_refused m (f, d) WrongType = wrong_types m.types (head_types (definition_header d))
@@ -207,7 +209,7 @@ is_too_large m lines d =
     || nat_lt INSTRUCTION_LIMIT (lines + line_count d)
 
 -- a function in which each parameter, block and result has its name, and the number of lines of those before it
-unfoldable pub body_refused : Tree → ℕ → Definition → Part
+unfoldable pub body_refused : Tree → ℕ → Definition → RefusedPlaces
 body_refused m lines d UnknownName = all_of (line_refused (scope_of m d)) (all_lines d) UnknownName
 body_refused m lines d Doubled = flat_map (doubled (own_names m.types d)) (body_names m.types d) ++ all_of (line_refused (scope_of m d)) (all_lines d) Doubled
 body_refused m lines d WrongType = all_of (line_refused (scope_of m d)) (all_lines d) WrongType
@@ -217,7 +219,7 @@ body_refused m lines d Unsupported = all_of (line_refused (scope_of m d)) (all_l
 body_refused m lines d TooLarge = at_if (is_too_large m lines d) d.name.span
 body_refused m lines d _ = []
 
-abbrev pub bodies : Tree → List Definition → ℕ → List Part
+abbrev pub bodies : Tree → List Definition → ℕ → List RefusedPlaces
 bodies m [] lines = []
 bodies m (d ∷ ds) lines = body_refused m lines (numbered m.types d) ∷ bodies m ds (lines + line_count d)
 
@@ -227,17 +229,17 @@ abbrev pub has_main : Tree → Bool
 has_main m = list_any (λ (d : Definition). bytes_eq d.name.text main_name) m.functions
 
 -- NoMain stands before the text's first byte
-unfoldable pub main_refused : Tree → Part
+unfoldable pub main_refused : Tree → RefusedPlaces
 main_refused m NoMain = at_if (not (has_main m)) (record { start = 0; end = 0 })
 main_refused m _ = []
 
-unfoldable pub heads_refused : Tree → Part
+unfoldable pub heads_refused : Tree → RefusedPlaces
 heads_refused m kind =
     all_of (declaration_refused m) m.declares kind
     ++ all_of (definition_refused m) (enumerate_from 0 (map (numbered m.types) m.functions)) kind
 
 -- the phases in their order: type items; globals; heads; bodies, function by function; main
-unfoldable pub phases : Tree → List Part
+unfoldable pub phases : Tree → List RefusedPlaces
 phases m =
     all_of (item_refused m.types) m.types
     ∷ all_of (global_refused m) (enumerate_from 0 m.globals)
@@ -262,24 +264,24 @@ rank NoMain = 8
 abbrev pub NoLater : CheckKind → Span → CheckKind → Span → Type 0
 NoLater k s k' s' = (s.start < s'.start) ⊎ ((s.start ≡ s'.start) × (rank k ≤ rank k'))
 
-pub record IsEarliest (part : Part) (kind : CheckKind) (span : Span) : Type 0 where
+pub record IsEarliest (part : RefusedPlaces) (kind : CheckKind) (span : Span) : Type 0 where
   pub refused : Contains (part kind) span
   pub earliest : (k : CheckKind) (s : Span) → Contains (part k) s → NoLater kind span k s
 
-pub record RefusesNothing (part : Part) : Type 0 where
+pub record RefusesNothing (part : RefusedPlaces) : Type 0 where
   pub none : (k : CheckKind) → part k ≡ []
 
 -- the earliest refusal of the first phase that has one
-abbrev pub IsFirstOf : List Part → CheckKind → Span → Type 0
+abbrev pub IsFirstOf : List RefusedPlaces → CheckKind → Span → Type 0
 IsFirstOf [] kind span = ⊥
 IsFirstOf (p ∷ ps) kind span = IsEarliest p kind span ⊎ (RefusesNothing p × IsFirstOf ps kind span)
 
-abbrev pub RefuseNothing : List Part → Type 0
+abbrev pub RefuseNothing : List RefusedPlaces → Type 0
 RefuseNothing [] = Unit {0}
 RefuseNothing (p ∷ ps) = RefusesNothing p × RefuseNothing ps
 
 unfoldable pub IsFirstRefusal : Tree → CheckKind → Span → Type 0
 IsFirstRefusal m kind span = IsFirstOf (phases m) kind span
 
-unfoldable pub IsAccepted : Tree → Type 0
-IsAccepted m = RefuseNothing (phases m)
+unfoldable pub IsUnrefused : Tree → Type 0
+IsUnrefused m = RefuseNothing (phases m)

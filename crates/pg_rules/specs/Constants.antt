@@ -1,5 +1,6 @@
 -- The numbers of constants, and the bytes of initialisers.
-use Rattle.std.specs.Prelude.{ℕ, zero, suc, ◌+◌, ◌-◌, ◌/◌, ◌%◌, ◌==◌, if◌then◌else◌, List, [], ◌∷◌, ◌++◌, length, take, replicate, slice_get, sum_by, ℤ, pos, ◌+ℤ◌, ◌*ℤ◌, Option, Some, None, unwrap_or}
+use Rattle.std.specs.Prelude.{ℕ, zero, suc, ◌+◌, ◌-◌, ◌/◌, ◌%◌, ◌==◌, if◌then◌else◌, List, [], ◌∷◌, ◌++◌, length, take}
+use Rattle.std.specs.Prelude.{replicate, slice_get, sum_by, ℤ, pos, ◌+ℤ◌, ◌*ℤ◌, Option, Some, None, unwrap_or}
 use Rattle.pg_num.specs.Pointers.{word_of, moved_by}
 use Rattle.pg_num.specs.declared.pointer.Pointer.{Pointer}
 use Rattle.pg_ir.specs.WellFormed.{granules_for}

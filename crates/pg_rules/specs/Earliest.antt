@@ -5,7 +5,7 @@ use Rattle.pg_rules.specs.declared.fault.CheckKind.{CheckKind}
 use Rattle.pg_rules.specs.declared.fault.CheckKind.TheVariants.{UnknownName, Doubled, WrongType, NoBlock, BadPhi, Unsupported, BadSignature, TooLarge, NoMain}
 use Rattle.pg_rules.specs.declared.refusals.Refusal.{Refusal}
 use Rattle.pg_rules.specs.declared.refusals.Refusals.{Refusals}
-use Rattle.pg_rules.specs.Conditions.{Part}
+use Rattle.pg_rules.specs.Conditions.{RefusedPlaces}
 
 -- the place that begins earlier, and the first of two that begin together
 abbrev pub earlier : Option Span → Option Span → Option Span
@@ -30,7 +30,7 @@ place_of r TooLarge = r.too_large
 place_of r NoMain = r.no_main
 
 -- the earliest place of each kind that a part refuses
-abbrev pub AreEarliest : Refusals → Part → Type 0
+abbrev pub AreEarliest : Refusals → RefusedPlaces → Type 0
 AreEarliest r part = (kind : CheckKind) → place_of r kind ≡ earliest (part kind)
 
 -- a refusal of this kind, if there is a place

@@ -3,7 +3,12 @@ use Rattle.std.specs.Prelude.{ℕ, List, [], ◌∷◌, Option, codes}
 use Rattle.std.specs.List.{find}
 use Rattle.std.specs.Str.{bytes_eq}
 use Rattle.pg_ir.specs.declared.known.Known.{Known}
-use Rattle.pg_ir.specs.declared.known.Known.TheVariants.{PgIn, PgInLen, PgOut, Putchar, Malloc, Free, PthreadCreate, PthreadJoin, PthreadExit, PthreadMutexInit, PthreadMutexLock, PthreadMutexTrylock, PthreadMutexUnlock, PthreadMutexDestroy, PthreadCondInit, PthreadCondWait, PthreadCondSignal, PthreadCondBroadcast, PthreadCondDestroy, PthreadBarrierInit, PthreadBarrierWait, PthreadBarrierDestroy}
+use Rattle.pg_ir.specs.declared.known.Known.TheVariants.{PgIn, PgInLen, PgOut, Putchar, Malloc, Free, PthreadCreate}
+use Rattle.pg_ir.specs.declared.known.Known.TheVariants.{PthreadJoin, PthreadExit, PthreadMutexInit, PthreadMutexLock}
+use Rattle.pg_ir.specs.declared.known.Known.TheVariants.{PthreadMutexTrylock, PthreadMutexUnlock, PthreadMutexDestroy}
+use Rattle.pg_ir.specs.declared.known.Known.TheVariants.{PthreadCondInit, PthreadCondWait, PthreadCondSignal}
+use Rattle.pg_ir.specs.declared.known.Known.TheVariants.{PthreadCondBroadcast, PthreadCondDestroy, PthreadBarrierInit}
+use Rattle.pg_ir.specs.declared.known.Known.TheVariants.{PthreadBarrierWait, PthreadBarrierDestroy}
 
 unfoldable pub known_name : Known → List ℕ
 known_name PgIn = codes "pg_in"

@@ -7,14 +7,16 @@ use Rattle.pg_ast.specs.Syntax.{Ty, Val, Case, Op, Call, Switch, RetVoid, GetEle
 use Rattle.pg_ast.specs.Numbers.{gives}
 use Rattle.pg_rules.specs.declared.fault.CheckKind.{CheckKind}
 use Rattle.pg_rules.specs.declared.fault.CheckKind.TheVariants.{UnknownName, Doubled, WrongType, NoBlock, Unsupported}
-use Rattle.pg_types.specs.Resolved.{resolved, is_void_type}
+use Rattle.pg_types.specs.Resolved.{ResolvedType, resolved, is_void_type}
 use Rattle.pg_types.specs.Kinds.{fails}
 use Rattle.pg_rules.specs.Names.{symbol, label_number}
 use Rattle.pg_rules.specs.Places.{val_span}
 use Rattle.pg_rules.specs.Written.{Use, with_inner, operands, op_types, own_types, op_demands, label_targets, label_sources}
 use Rattle.pg_rules.specs.TypeConditions.{unknown_types, wrong_types, unmet}
 use Rattle.pg_rules.specs.ValueConditions.{Scope, unknown_symbol, unknown_value, function_value, wrong_use, wrong_indices, number_at}
-use Rattle.pg_rules.specs.CallConditions.{header_of, variable_symbol, unsupported_symbol, wrong_header, call_demands, callee_params, is_callable, wrong_number, thread_functions, value_operands, wrong_thread, unsupported_thread}
+use Rattle.pg_rules.specs.CallConditions.{header_of, variable_symbol, unsupported_symbol, wrong_header, call_demands}
+use Rattle.pg_rules.specs.CallConditions.{callee_params, is_callable, wrong_number, thread_functions, value_operands}
+use Rattle.pg_rules.specs.CallConditions.{wrong_thread, unsupported_thread}
 
 -- all types that a line writes, and all values of a line and within these
 abbrev pub line_types : Op → List Ty
@@ -32,10 +34,18 @@ same_number _ _ = false
 abbrev pub stands_before : Val → Val → Bool
 stands_before v w = nat_lt (val_span v).start (val_span w).start
 
--- a case of a switch that is equal to one before it
+-- a case stands before another, and both have the same number, read at the type of their switch
+abbrev pub repeats : Option ResolvedType → Case → Case → Bool
+repeats t o c =
+    same_number (number_at t o.value.value) (number_at t c.value.value) && stands_before o.value.value c.value.value
+
+-- a case that is equal to one before it
+abbrev pub repeated_case : Option ResolvedType → List Case → Case → List Span
+repeated_case t all c = if list_any (λ (o : Case). repeats t o c) all then val_span c.value.value ∷ [] else []
+
+-- the cases of a switch that are equal to one before them
 abbrev pub equal_cases : Scope → Op → List Span
-equal_cases g (Switch s v b all) =
-    flat_map (λ (c : Case). if list_any (λ (o : Case). same_number (number_at (resolved g.tree.types v.ty) o.value.value) (number_at (resolved g.tree.types v.ty) c.value.value) && stands_before o.value.value c.value.value) all then val_span c.value.value ∷ [] else []) all
+equal_cases g (Switch s v b all) = flat_map (repeated_case (resolved g.tree.types v.ty) all) all
 equal_cases g _ = []
 
 abbrev pub unknown_callee : Scope → Op → List Span

@@ -6,7 +6,9 @@ use Rattle.std.specs.Str.{bytes_eq}
 use Rattle.pg_num.specs.declared.width.Width.TheVariants.{W1}
 use Rattle.pg_lex.specs.declared.token.Span.{Span}
 use Rattle.pg_ast.specs.declared.names.Name.{Name}
-use Rattle.pg_ast.specs.Syntax.{Op, Binary, Icmp, Cast, Select, Phi, Br, CondBr, Switch, Call, RetVoid, Ret, Unreachable, Alloca, Load, Store, GetElementPtr, Line, Block, Param, NamedType, Variable, Declaration, Definition, Tree}
+use Rattle.pg_ast.specs.Syntax.{Op, Binary, Icmp, Cast, Select, Phi, Br, CondBr, Switch, Call, RetVoid, Ret}
+use Rattle.pg_ast.specs.Syntax.{Unreachable, Alloca, Load, Store, GetElementPtr, Line, Block, Param, NamedType}
+use Rattle.pg_ast.specs.Syntax.{Variable, Declaration, Definition, Tree}
 use Rattle.pg_ast.specs.Numbers.{gives}
 use Rattle.pg_types.specs.Resolved.{ResolvedType, IntegerType, PointerType, resolved}
 

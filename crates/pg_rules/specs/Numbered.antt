@@ -34,7 +34,9 @@ use Rattle.pg_ast.specs.declared.ops.Predicate.{Predicate}
 use Rattle.pg_ast.specs.declared.ops.Predicate.TheVariants.{Eq, Ne, Ugt, Uge, Ult, Ule, Sgt, Sge, Slt, Sle}
 use Rattle.pg_ast.specs.declared.ops.CastOp.{CastOp}
 use Rattle.pg_ast.specs.declared.ops.CastOp.TheVariants.{Trunc, Zext, Sext, PtrToInt, IntToPtr}
-use Rattle.pg_ast.specs.Syntax.{Ty, Val, Int, Local, Global, Typed, Incoming, Case, Count, Op, Binary, Icmp, Cast, Select, Phi, Br, CondBr, Switch, Call, RetVoid, Ret, Unreachable, Alloca, Load, Store, GetElementPtr, Line, Block, Variable, Definition, Tree}
+use Rattle.pg_ast.specs.Syntax.{Ty, Val, Int, Local, Global, Typed, Incoming, Case, Count, Op, Binary, Icmp, Cast}
+use Rattle.pg_ast.specs.Syntax.{Select, Phi, Br, CondBr, Switch, Call, RetVoid, Ret, Unreachable, Alloca, Load, Store}
+use Rattle.pg_ast.specs.Syntax.{GetElementPtr, Line, Block, Variable, Definition, Tree}
 use Rattle.pg_ast.specs.Numbers.{gives, numbered}
 use Rattle.pg_types.specs.Resolved.{ResolvedType, IntegerType, PointerType, resolved}
 use Rattle.pg_types.specs.Layout.{size_or_none}

@@ -1,6 +1,8 @@
 -- The first tokens of types, values and constants.
 use Rattle.pg_lex.specs.declared.token.Span.{Span}
-use Rattle.pg_ast.specs.Syntax.{Ty, I1, I8, I16, I32, I64, Ptr, Void, Array, Struct, Named, Val, Int, True, False, Null, Undef, Poison, ZeroInitializer, Local, Global, GepVal, IntToPtrVal, Const, ValConst, BytesConst, ArrayConst, StructConst}
+use Rattle.pg_ast.specs.Syntax.{Ty, I1, I8, I16, I32, I64, Ptr, Void, Array, Struct, Named, Val, Int, True, False}
+use Rattle.pg_ast.specs.Syntax.{Null, Undef, Poison, ZeroInitializer, Local, Global, GepVal, IntToPtrVal, Const}
+use Rattle.pg_ast.specs.Syntax.{ValConst, BytesConst, ArrayConst, StructConst}
 
 abbrev pub type_span : Ty → Span
 type_span (I1 s) = s

@@ -6,7 +6,9 @@ use Rattle.pg_lex.specs.declared.token.Span.{Span}
 use Rattle.pg_num.specs.Numbers.{signed}
 use Rattle.pg_num.specs.declared.width.Width.{Width}
 use Rattle.pg_ast.specs.declared.names.Name.{Name}
-use Rattle.pg_ast.specs.Syntax.{Ty, Val, Int, True, False, Null, Undef, Poison, ZeroInitializer, Local, Global, GepVal, IntToPtrVal, Typed, Const, Consts, ValConst, BytesConst, ArrayConst, StructConst, NoConsts, MoreConsts, NamedType, Tree}
+use Rattle.pg_ast.specs.Syntax.{Ty, Val, Int, True, False, Null, Undef, Poison, ZeroInitializer, Local, Global, GepVal}
+use Rattle.pg_ast.specs.Syntax.{IntToPtrVal, Typed, Const, Consts, ValConst, BytesConst, ArrayConst, StructConst}
+use Rattle.pg_ast.specs.Syntax.{NoConsts, MoreConsts, NamedType, Tree}
 use Rattle.pg_num.specs.declared.width.Width.TheVariants.{W8}
 use Rattle.pg_types.specs.Resolved.{ResolvedType, IntegerType, ArrayType, NoFields, MoreFields, resolved, is_bit, is_pointer}
 use Rattle.pg_types.specs.Layout.{field_list}

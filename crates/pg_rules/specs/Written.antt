@@ -5,7 +5,11 @@ use Rattle.pg_num.specs.Numbers.{width_bits}
 use Rattle.pg_ast.specs.declared.names.Name.{Name}
 use Rattle.pg_ast.specs.declared.ops.CastOp.{CastOp}
 use Rattle.pg_ast.specs.declared.ops.CastOp.TheVariants.{Trunc, Zext, Sext, PtrToInt, IntToPtr}
-use Rattle.pg_ast.specs.Syntax.{Ty, Tys, Array, Struct, NoTys, MoreTys, Val, Vals, Int, GepVal, IntToPtrVal, NoVals, MoreVals, Typed, Const, Consts, ValConst, BytesConst, ArrayConst, StructConst, NoConsts, MoreConsts, Incoming, Case, Written, Count, Op, Binary, Icmp, Cast, Select, Phi, Br, CondBr, Switch, Call, RetVoid, Ret, Unreachable, Alloca, Load, Store, GetElementPtr, NamedType}
+use Rattle.pg_ast.specs.Syntax.{Ty, Tys, Array, Struct, NoTys, MoreTys, Val, Vals, Int, GepVal, IntToPtrVal, NoVals}
+use Rattle.pg_ast.specs.Syntax.{MoreVals, Typed, Const, Consts, ValConst, BytesConst, ArrayConst, StructConst}
+use Rattle.pg_ast.specs.Syntax.{NoConsts, MoreConsts, Incoming, Case, Written, Count, Op, Binary, Icmp, Cast, Select}
+use Rattle.pg_ast.specs.Syntax.{Phi, Br, CondBr, Switch, Call, RetVoid, Ret, Unreachable, Alloca, Load, Store}
+use Rattle.pg_ast.specs.Syntax.{GetElementPtr, NamedType}
 use Rattle.pg_types.specs.Resolved.{ResolvedType, IntegerType, VoidType, resolved, same_type, is_integer, is_pointer, is_bit, is_scalar}
 use Rattle.pg_types.specs.Kinds.{is_as}
 

@@ -1,6 +1,6 @@
 //! The names of parameters, each unnamed one by its number.
 
-ghost use Rattle.std.specs.Prelude.{◌≡◌, ◌++◌, [], ◌∷◌, IfOk, OnOk, None, map};
+ghost use Rattle.std.specs.Prelude.{◌≡◌, [], IfOk, OnOk, None, map};
 ghost use Rattle.std.specs.List.{filter_map};
 ghost use Rattle.pg_ast.specs.Numbers.{name_at, after, each_at, behind_all, param_at, behind_param};
 ghost use Rattle.pg_ast.specs.Views.{param_of};

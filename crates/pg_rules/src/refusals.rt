@@ -2,7 +2,7 @@
 
 ghost use Rattle.std.specs.Prelude.{◌≡◌, [], None, IfSome};
 ghost use Rattle.pg_rules.specs.declared.fault.CheckKind.{CheckKind};
-ghost use Rattle.pg_rules.specs.Conditions.{Part, IsEarliest, RefusesNothing};
+ghost use Rattle.pg_rules.specs.Conditions.{RefusedPlaces, IsEarliest, RefusesNothing};
 ghost use Rattle.pg_rules.specs.Earliest.{earlier, place_of, refusal_at, earlier_refusal, first_of, rows_of, AreEarliest};
 
 use crate::earliest::earlier;
@@ -109,8 +109,8 @@ fn first_row(r: Refusals) -> Option<Refusal>
 
 /// The first refusal of a part of a text; none where it refuses nothing.
 pub fn first_refusal(refusals: Refusals) -> Option<Refusal>
-    ensures found { (part : Part) → AreEarliest refusals part → IfSome result (λ r. IsEarliest part r.kind r.span) }
-    ensures none { (part : Part) → AreEarliest refusals part → result ≡ None → RefusesNothing part }
+    ensures found { (part : RefusedPlaces) → AreEarliest refusals part → IfSome result (λ r. IsEarliest part r.kind r.span) }
+    ensures none { (part : RefusedPlaces) → AreEarliest refusals part → result ≡ None → RefusesNothing part }
 {
     first_row(refusals)
 }

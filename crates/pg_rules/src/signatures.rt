@@ -1,9 +1,8 @@
 //! Whether types are those of a signature.
 
-ghost use Rattle.std.specs.Prelude.{◌≡◌, IfOk, Option, not, ◌&&◌, map, length, ◌<◌};
+ghost use Rattle.std.specs.Prelude.{◌≡◌, IfOk, Option, map, ◌<◌};
 ghost use Rattle.std.specs.List.{list_all};
 ghost use Rattle.std.specs.Option.{option_map};
-ghost use Rattle.pg_ast.specs.Syntax.{Dparam};
 ghost use Rattle.pg_ast.specs.Views.{ty_of, dparam_of};
 ghost use Rattle.pg_types.specs.Resolved.{ResolvedType, resolved, same_width};
 ghost use Rattle.pg_types.specs.Kinds.{kind_of};

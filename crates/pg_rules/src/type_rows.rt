@@ -1,6 +1,6 @@
 //! What types are refused for, row by row.
 
-ghost use Rattle.std.specs.Prelude.{◌≡◌, IfOk, is_some, map, not};
+ghost use Rattle.std.specs.Prelude.{◌≡◌, IfOk, map};
 ghost use Rattle.std.specs.List.{flat_map, list_any};
 ghost use Rattle.pg_ast.specs.Views.{ty_of};
 ghost use Rattle.pg_types.specs.NumberedTypes.{named_types};

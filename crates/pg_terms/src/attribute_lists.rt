@@ -1,6 +1,6 @@
 //! Attributes of functions and of their results, which are dropped.
 
-ghost use Rattle.std.specs.Prelude.{◌≡◌, ◌≤◌, ◌<◌, length, drop, IfOk};
+ghost use Rattle.std.specs.Prelude.{◌≤◌, ◌<◌, length, drop, IfOk};
 ghost use Rattle.pg_grammar.specs.Reading.{all_of};
 ghost use Rattle.pg_grammar.specs.Reader.{attribute_at, attributes_at, begins_attribute, drop_value_at};
 ghost use Rattle.pg_grammar.specs.Views.{Takes};

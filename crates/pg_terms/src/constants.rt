@@ -1,6 +1,6 @@
 //! The reader of constants.
 
-ghost use Rattle.std.specs.Prelude.{◌≡◌, ◌≤◌, ◌<◌, length, drop, map, IfOk};
+ghost use Rattle.std.specs.Prelude.{◌≤◌, ◌<◌, length, drop, map, IfOk};
 ghost use Rattle.pg_grammar.specs.declared.class.Class.TheVariants.{Comma};
 ghost use Rattle.pg_grammar.specs.Classes.{is};
 ghost use Rattle.pg_grammar.specs.Reading.{onto, all_of};
@@ -139,7 +139,8 @@ fn more_constants(
     all: Vec<TypedConst>,
 ) -> Result<(Vec<TypedConst>, usize), ReadError>
     requires { at ≤ length tokens.now }
-    ensures { Reads tokens.now at (λ x. map typed_const_of x.0.items) (λ x. x.1) result (onto (map typed_const_of all.items) (all_of (is Comma) (behind_comma (typed_const_at depth (const_at depth))) (drop at tokens.now))) }
+    ensures { Reads tokens.now at (λ x. map typed_const_of x.0.items) (λ x. x.1) result
+        (onto (map typed_const_of all.items) (all_of (is Comma) (behind_comma (typed_const_at depth (const_at depth))) (drop at tokens.now))) }
 {
     let mut all = all;
     let mut place = at;

@@ -1,8 +1,8 @@
 //! The reader of the metadata behind an instruction, which is dropped.
 
-ghost use Rattle.std.specs.Prelude.{◌≡◌, ◌≤◌, ◌<◌, length, drop, IfOk};
+ghost use Rattle.std.specs.Prelude.{◌≤◌, ◌<◌, length, drop, IfOk};
 ghost use Rattle.pg_grammar.specs.ReaderOps.{pair_at, metadata_at, metadata_tail_at};
-ghost use Rattle.pg_grammar.specs.Views.{Takes, done};
+ghost use Rattle.pg_grammar.specs.Views.{Takes};
 
 use crate::reader::{next_is, take};
 use crate::sets::{ClassSet, take_in};

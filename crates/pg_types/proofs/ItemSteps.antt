@@ -8,7 +8,7 @@ use Rattle.std.proofs.lemmas.Slice.Eq.{bytes_eq-Decides}
 use Rattle.indexmap.specs.IndexMap.{IndexMap}
 use Rattle.pg_ast.specs.declared.nodes.TypeItem.{TypeItem}
 use Rattle.pg_ast.specs.Views.{ty_of, type_item_of}
-use Rattle.pg_types.specs.Resolved.{ResolvedType, type_by, type_within}
+use Rattle.pg_types.specs.Resolved.{ResolvedType, type_within}
 use Rattle.pg_types.specs.Resolved as resolved
 use Rattle.pg_types.specs.Table.{Grows}
 use Rattle.pg_types.specs.NameIndex.{first_place, known_place}

@@ -12,3 +12,4 @@ mod ItemSteps
 mod ItemPasses
 mod ItemNames
 mod ItemPlaces
+pub mod Alignments

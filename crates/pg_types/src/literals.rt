@@ -1,6 +1,6 @@
 //! The numbers that literals write, in the ranges of their types.
 
-ghost use Rattle.std.specs.Prelude.{◌≡◌, ◌-◌, ◌^◌, ◌<◌, ◌≤ℤ◌, pos, negsuc, neg_ℤ, Some, IfSome};
+ghost use Rattle.std.specs.Prelude.{◌≡◌, ◌-◌, ◌<◌, ◌≤ℤ◌, pos, neg_ℤ, Some, IfSome};
 ghost use Rattle.pg_num.specs.Decimal.{decimal_between, is_between};
 ghost use Rattle.pg_num.specs.Numbers.{modulus, half, residue};
 ghost use Rattle.pg_types.specs.Literals.{literal_in};

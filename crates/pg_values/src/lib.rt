@@ -15,5 +15,5 @@ pub use indices::wrong_indices;
 pub use names::{function_values, unknown_values};
 pub use own_types::add_own_types;
 pub use scope::ValueScope;
-pub use type_tests::{TypeTest, unmet, unmet_as};
+pub use type_tests::{TypeTest, passes, unmet, unmet_as};
 pub use uses::wrong_values;

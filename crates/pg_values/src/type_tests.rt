@@ -31,7 +31,7 @@ pub enum TypeTest {
 }
 
 /// Whether a type of this kind is what is asked for.
-fn passes(test: TypeTest, kind: TypeKind) -> bool
+pub fn passes(test: TypeTest, kind: TypeKind) -> bool
     ensures { (t : ResolvedType) → kind ≡ kind_of t → result ≡ test_of test t }
 {
     match test {

@@ -1,6 +1,6 @@
 //! What values are refused for at the types at which they stand.
 
-ghost use Rattle.std.specs.Prelude.{◌≡◌, ◌++◌, [], ◌∷◌, IfOk, Bool, Option, true, map, if◌then◌else◌};
+ghost use Rattle.std.specs.Prelude.{◌≡◌, ◌++◌, [], ◌∷◌, IfOk, Option, true, map, if◌then◌else◌};
 ghost use Rattle.std.specs.List.{flat_map};
 ghost use Rattle.std.specs.Option.{option_map};
 ghost use Rattle.pg_ast.specs.Syntax.{Int};
@@ -11,7 +11,7 @@ ghost use Rattle.pg_types.specs.NumberedTypes.{named_types};
 ghost use Rattle.pg_rules.specs.Names.{symbol};
 ghost use Rattle.pg_rules.specs.Places.{val_span};
 ghost use Rattle.pg_rules.specs.TypeConditions.{unmet};
-ghost use Rattle.pg_rules.specs.Written.{Use, asks, isnt_void, with_inner, inner_uses, constant_at, own_demands};
+ghost use Rattle.pg_rules.specs.Written.{asks, isnt_void, with_inner, inner_uses, constant_at, own_demands};
 ghost use Rattle.pg_rules.specs.ValueConditions.{Scope, fits, is_wrong, wrong_symbol, inner_indices, wrong_use};
 ghost use Rattle.pg_rules.specs.Earliest.{earliest};
 ghost use Rattle.pg_values.specs.Scopes.{IsScope};

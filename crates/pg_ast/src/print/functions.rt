@@ -2,7 +2,7 @@
 
 ghost use Rattle.std.specs.Prelude.{◌≡◌, ◌++◌, OnOk, map, codes, flat_map, Some};
 ghost use Rattle.std.specs.List.{join_by};
-ghost use Rattle.pg_ast.specs.Text.{name_text, result_text, line_text, label_line, block_text, param_text, head_text, define_text};
+ghost use Rattle.pg_ast.specs.Text.{name_text, result_text, line_text, block_text, param_text, head_text, define_text};
 ghost use Rattle.pg_ast.specs.Numbers.{name_at, after, each_at, behind_all, param_at, behind_param, result_at, after_result, line_at, behind_line, block_at, behind_block, numbered, gives};
 ghost use Rattle.pg_ast.specs.Views.{ty_of, line_of, block_of, param_of, type_item_of, define_of};
 
@@ -81,7 +81,8 @@ fn put_lines(
     types: &[TypeItem],
     all: &[LineNode],
 ) -> Result<(), AllocError>
-    ensures text { OnOk result (out.new.items ≡ out.old.items ++ flat_map line_text (each_at (behind_line (map type_item_of types.now)) (line_at (map type_item_of types.now)) next.old (map line_of all.now))) }
+    ensures text { OnOk result (out.new.items ≡ out.old.items
+        ++ flat_map line_text (each_at (behind_line (map type_item_of types.now)) (line_at (map type_item_of types.now)) next.old (map line_of all.now))) }
     ensures next { OnOk result (next.new ≡ behind_all (behind_line (map type_item_of types.now)) next.old (map line_of all.now)) }
 {
     for each in all {
@@ -114,7 +115,8 @@ fn put_blocks(
     types: &[TypeItem],
     all: &[BlockNode],
 ) -> Result<(), AllocError>
-    ensures { OnOk result (out.new.items ≡ out.old.items ++ flat_map block_text (each_at (behind_block (map type_item_of types.now)) (block_at (map type_item_of types.now)) next.old (map block_of all.now))) }
+    ensures { OnOk result (out.new.items ≡ out.old.items
+        ++ flat_map block_text (each_at (behind_block (map type_item_of types.now)) (block_at (map type_item_of types.now)) next.old (map block_of all.now))) }
 {
     for each in all {
         put_block(alloc, out, next, types, each)?;

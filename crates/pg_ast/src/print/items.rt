@@ -3,7 +3,7 @@
 ghost use Rattle.std.specs.Prelude.{◌≡◌, ◌++◌, OnOk, map, codes, flat_map};
 ghost use Rattle.std.specs.List.{join_by};
 ghost use Rattle.pg_ast.specs.Text.{param_name_text, param_text, dparam_text, type_item_text, constancy_text, global_item_text, declare_text};
-ghost use Rattle.pg_ast.specs.Views.{ty_of, param_of, dparam_of, type_item_of, global_of, declare_of};
+ghost use Rattle.pg_ast.specs.Views.{param_of, dparam_of, type_item_of, global_of, declare_of};
 
 use crate::names::Name;
 use crate::nodes::{DeclareItem, DparamNode, GlobalItem, ParamNode, TypeItem};

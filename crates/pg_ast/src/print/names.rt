@@ -1,7 +1,7 @@
 //! The canonical text of names and strings.
 
-ghost use Rattle.std.specs.Prelude.{◌≡◌, ◌++◌, ◌≤◌, OnOk, codes, ◌<◌};
-ghost use Rattle.pg_ast.specs.Text.{hexadecimal, is_escaped, escaped_byte, quoted, is_bare, name_text, local_text, global_text, label_text};
+ghost use Rattle.std.specs.Prelude.{◌≡◌, ◌++◌, OnOk, ◌<◌};
+ghost use Rattle.pg_ast.specs.Text.{hexadecimal, escaped_byte, quoted, is_bare, name_text, local_text, global_text, label_text};
 ghost use Rattle.pg_lex.specs.Bytes.{is_name_byte};
 ghost use Rattle.std.specs.List.{list_all};
 

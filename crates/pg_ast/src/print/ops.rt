@@ -3,7 +3,10 @@
 ghost use Rattle.std.specs.Prelude.{◌≡◌, ◌++◌, OnOk, map, codes, flat_map};
 ghost use Rattle.std.specs.List.{join_by};
 ghost use Rattle.std.specs.Option.{option_map};
-ghost use Rattle.pg_ast.specs.Text.{type_text, typed_text, more_typed_text, binary_word, predicate_word, cast_word, more_label_text, pair_text, incoming_text, more_incoming_text, case_text, dots_text, written_text, types_written_text, count_text, cast_text, phi_text, switch_text, called_text, gep_op_text, op_text};
+ghost use Rattle.pg_ast.specs.Text.{type_text, typed_text, more_typed_text, binary_word, predicate_word, cast_word};
+ghost use Rattle.pg_ast.specs.Text.{more_label_text, pair_text, incoming_text, more_incoming_text, case_text};
+ghost use Rattle.pg_ast.specs.Text.{dots_text, written_text, types_written_text, count_text, cast_text, phi_text};
+ghost use Rattle.pg_ast.specs.Text.{switch_text, called_text, gep_op_text, op_text};
 ghost use Rattle.pg_ast.specs.Views.{ty_of, val_of, typed_of, incoming_of, case_of, written_of, count_of, op_of};
 
 use crate::names::Name;
@@ -295,63 +298,104 @@ pub fn put_op(out: &mut Vec<u8>, node: &OpNode) -> Result<(), AllocError>
     ensures { OnOk result (out.new.items ≡ out.old.items ++ op_text (op_of node.now)) }
 {
     match node {
-        OpNode::Binary(_, op, ty, left, right) => {
+        OpNode::Binary {
+            op,
+            ty,
+            left,
+            right,
+            ..
+        } => {
             put_text(out, binary_name(*op))?;
             put_pair(out, ty, left, right)
         }
-        OpNode::Icmp(_, predicate, ty, left, right) => {
+        OpNode::Icmp {
+            predicate,
+            ty,
+            left,
+            right,
+            ..
+        } => {
             put_text(out, "icmp ")?;
             put_text(out, predicate_name(*predicate))?;
             put_pair(out, ty, left, right)
         }
-        OpNode::Cast(_, op, value, to) => put_cast(out, *op, value, to),
-        OpNode::Select(_, condition, yes, no) => {
+        OpNode::Cast { op, value, ty, .. } => put_cast(out, *op, value, ty),
+        OpNode::Select {
+            condition,
+            yes,
+            no,
+            ..
+        } => {
             put_text(out, "select ")?;
             put_typed(out, condition)?;
             put_more(out, yes)?;
             put_more(out, no)
         }
-        OpNode::Phi(_, ty, first, more) => put_phi(out, ty, first, more.as_slice()),
-        OpNode::Br(_, block) => {
+        OpNode::Phi {
+            ty,
+            first,
+            others,
+            ..
+        } => put_phi(out, ty, first, others.as_slice()),
+        OpNode::Br { block, .. } => {
             put_text(out, "br ")?;
             put_label(out, block)
         }
-        OpNode::CondBr(_, condition, yes, no) => {
+        OpNode::CondBr {
+            condition,
+            yes,
+            no,
+            ..
+        } => {
             put_text(out, "br ")?;
             put_typed(out, condition)?;
             put_more_label(out, yes)?;
             put_more_label(out, no)
         }
-        OpNode::Switch(_, value, other, cases) => put_switch(out, value, other, cases.as_slice()),
-        OpNode::Call(_, ty, types, callee, args) => {
+        OpNode::Switch {
+            value,
+            other,
+            cases,
+            ..
+        } => put_switch(out, value, other, cases.as_slice()),
+        OpNode::Call {
+            ty,
+            written,
+            callee,
+            arguments,
+            ..
+        } => {
             put_text(out, "call ")?;
             put_type(out, ty)?;
-            put_types_written(out, types)?;
-            put_called(out, callee, args.as_slice())
+            put_types_written(out, written)?;
+            put_called(out, callee, arguments.as_slice())
         }
-        OpNode::RetVoid(_, _) => put_text(out, "ret void"),
-        OpNode::Ret(_, value) => {
+        OpNode::RetVoid { .. } => put_text(out, "ret void"),
+        OpNode::Ret { value, .. } => {
             put_text(out, "ret ")?;
             put_typed(out, value)
         }
-        OpNode::Unreachable(_) => put_text(out, "unreachable"),
-        OpNode::Alloca(_, ty, count) => {
+        OpNode::Unreachable { .. } => put_text(out, "unreachable"),
+        OpNode::Alloca { ty, count, .. } => {
             put_text(out, "alloca ")?;
             put_type(out, ty)?;
             put_count(out, count)
         }
-        OpNode::Load(_, ty, pointer) => {
+        OpNode::Load { ty, pointer, .. } => {
             put_text(out, "load ")?;
             put_type(out, ty)?;
             put_more(out, pointer)
         }
-        OpNode::Store(_, value, pointer) => {
+        OpNode::Store { value, pointer, .. } => {
             put_text(out, "store ")?;
             put_typed(out, value)?;
             put_more(out, pointer)
         }
-        OpNode::GetElementPtr(_, ty, pointer, indices) => {
-            put_gep(out, ty, pointer, indices.as_slice())
-        }
+        OpNode::GetElementPtr {
+            ty,
+            pointer,
+            indices,
+            ..
+        } => { put_gep(out, ty, pointer, indices.as_slice()) }
     }
 }

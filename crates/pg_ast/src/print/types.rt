@@ -1,6 +1,6 @@
 //! The canonical text of types.
 
-ghost use Rattle.std.specs.Prelude.{◌≡◌, ◌++◌, OnOk, map, codes, List, length, ◌<◌};
+ghost use Rattle.std.specs.Prelude.{◌≡◌, ◌++◌, OnOk, map, ◌<◌};
 ghost use Rattle.pg_ast.specs.Text.{type_text, fields_text};
 ghost use Rattle.pg_ast.specs.Views.{ty_of};
 ghost use Rattle.pg_ast.specs.Syntax.{tys};

@@ -1,9 +1,9 @@
 //! The canonical text of values and constants.
 
-ghost use Rattle.std.specs.Prelude.{◌≡◌, ◌++◌, OnOk, map, codes, flat_map};
-ghost use Rattle.pg_ast.specs.Text.{val_text, more_vals_text, typed_text, more_typed_text, int_to_ptr_text, gep_head, gep_text, zero_text, const_text, consts_text, padding_text, typed_const_text};
+ghost use Rattle.std.specs.Prelude.{◌≡◌, ◌++◌, OnOk, map, flat_map};
+ghost use Rattle.pg_ast.specs.Text.{val_text, typed_text, more_typed_text, int_to_ptr_text, gep_head, gep_text, zero_text, const_text, consts_text, padding_text, typed_const_text};
 ghost use Rattle.pg_ast.specs.Views.{ty_of, val_of, typed_of, const_of, typed_const_of};
-ghost use Rattle.pg_ast.specs.Syntax.{vals, consts};
+ghost use Rattle.pg_ast.specs.Syntax.{consts};
 
 use crate::names::Literal;
 use crate::print::names::{put, put_global, put_local, put_quoted, put_text};

@@ -1,6 +1,6 @@
 //! Types that are `void`, and operations that give a value.
 
-ghost use Rattle.std.specs.Prelude.{◌≡◌, ◌<◌, ℕ, suc, [], length, map, IfSome, slice_get, not};
+ghost use Rattle.std.specs.Prelude.{◌≡◌, ◌<◌, ℕ, suc, [], length, map, IfSome, not};
 ghost use Rattle.std.specs.Str.{bytes_eq};
 ghost use Rattle.pg_ast.specs.Numbers.{type_named, name_void, void_within, is_void, gives};
 ghost use Rattle.pg_ast.specs.Resolving.{resolved_void, type_at, IsPlaceIn};
@@ -113,22 +113,22 @@ pub fn has_result(types: &[TypeItem], op: &OpNode) -> bool
     ensures { result ≡ gives (map type_item_of types.now) (op_of op.now) }
 {
     match op {
-        OpNode::Binary(_, _, ty, _, _) => !is_void_type(types, ty),
-        OpNode::Icmp(_, _, _, _, _) => true,
-        OpNode::Cast(_, _, _, ty) => !is_void_type(types, ty),
-        OpNode::Select(_, _, yes, _) => is_not_void(types, yes),
-        OpNode::Phi(_, ty, _, _) => !is_void_type(types, ty),
-        OpNode::Br(_, _) => false,
-        OpNode::CondBr(_, _, _, _) => false,
-        OpNode::Switch(_, _, _, _) => false,
-        OpNode::Call(_, ty, _, _, _) => !is_void_type(types, ty),
-        OpNode::RetVoid(_, _) => false,
-        OpNode::Ret(_, _) => false,
-        OpNode::Unreachable(_) => false,
-        OpNode::Alloca(_, _, _) => true,
-        OpNode::Load(_, ty, _) => !is_void_type(types, ty),
-        OpNode::Store(_, _, _) => false,
-        OpNode::GetElementPtr(_, _, _, _) => true,
+        OpNode::Binary { ty, .. } => !is_void_type(types, ty),
+        OpNode::Icmp { .. } => true,
+        OpNode::Cast { ty, .. } => !is_void_type(types, ty),
+        OpNode::Select { yes, .. } => is_not_void(types, yes),
+        OpNode::Phi { ty, .. } => !is_void_type(types, ty),
+        OpNode::Br { .. } => false,
+        OpNode::CondBr { .. } => false,
+        OpNode::Switch { .. } => false,
+        OpNode::Call { ty, .. } => !is_void_type(types, ty),
+        OpNode::RetVoid { .. } => false,
+        OpNode::Ret { .. } => false,
+        OpNode::Unreachable { .. } => false,
+        OpNode::Alloca { .. } => true,
+        OpNode::Load { ty, .. } => !is_void_type(types, ty),
+        OpNode::Store { .. } => false,
+        OpNode::GetElementPtr { .. } => true,
     }
 }
 

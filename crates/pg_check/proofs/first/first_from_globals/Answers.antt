@@ -1,4 +1,4 @@
-use Rattle.std.proofs.Common.{◌≡◌, inl, inr}
+use Rattle.std.proofs.Common.{inl, inr}
 use Rattle.std.specs.List.{enumerate_from}
 use Rattle.pg_ast.specs.Views.{tree_of}
 use Rattle.pg_types.proofs.Resolutions.{if_ok}

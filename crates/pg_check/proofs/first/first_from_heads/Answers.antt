@@ -1,4 +1,4 @@
-use Rattle.std.proofs.Common.{◌≡◌, inl, inr, sym, ap}
+use Rattle.std.proofs.Common.{inl, inr, sym, ap}
 use Rattle.pg_ast.specs.Views.{tree_of}
 use Rattle.pg_types.specs.NumberedTypes.{items_of}
 use Rattle.pg_types.proofs.Resolutions.{if_ok}

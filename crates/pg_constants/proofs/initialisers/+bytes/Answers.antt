@@ -9,7 +9,8 @@ use Rattle.pg_types.specs.NumberedTypes.{table_of}
 use Rattle.pg_rules.specs.Constants.{element_bytes}
 use Rattle.pg_constants.proofs.ConstantBytes.{array_is, no_array, struct_is, element_step, elements_end, field_step, parts_end, fields_end}
 use Rattle.pg_constants.proofs.ConstantSizes.{value_fits, elements_fit, fields_fit, parts_next, end_first, padding_fits, end_step, field_there}
-use Rattle.pg_constants.proofs.Sizes.{own_size, own_end, element_there, end_behind}
+use Rattle.pg_types.proofs.Alignments.{end_behind}
+use Rattle.pg_constants.proofs.Sizes.{own_size, own_end, element_there}
 use Rattle.pg_constants.proofs.initialisers.+bytes.Goals as goal
 
 pub add_const-add_value-requires-clause-size : goal.add_const-add_value-requires-clause-size

@@ -7,7 +7,7 @@ use Rattle.pg_types.specs.Table.{type_at}
 use Rattle.pg_types.specs.NumberedTypes.{table_of}
 use Rattle.pg_rules.specs.Constants.{element_bytes, field_bytes}
 use Rattle.pg_constants.specs.Sizes.{PartsFit}
-use Rattle.pg_constants.proofs.Sizes.{end_from}
+use Rattle.pg_types.proofs.Alignments.{end_from}
 use Rattle.pg_constants.proofs.initialisers.+bytes.Given as goal
 
 abbrev pub invariant-add_elements-loop-part : goal.invariant-add_elements-loop-part

@@ -7,9 +7,8 @@ use Rattle.pg_ast.specs.Views.{typed_of, case_of, op_of}
 use Rattle.pg_types.specs.NumberedTypes.{named_types}
 use Rattle.pg_types.specs.Resolved.{resolved}
 use Rattle.pg_types.proofs.Resolutions.{if_ok}
-use Rattle.pg_rules.specs.LineConditions.{equal_cases}
+use Rattle.pg_rules.specs.LineConditions.{repeated_case, equal_cases}
 use Rattle.pg_rules.specs.Earliest.{earliest}
-use Rattle.pg_lines.specs.Cases.{repeated_case}
 use Rattle.pg_lines.proofs.cases.equal_cases.Goals as goal
 
 row : List NamedType → Ty → List CaseNode → List Span

@@ -10,7 +10,7 @@ use Rattle.pg_grammar.specs.Reading.{Good}
 use Rattle.pg_grammar.specs.ReaderItems.{program_at}
 use Rattle.pg_grammar.specs.Verdict.{ended}
 use Rattle.pg_grammar.specs.Words.{classified}
-use Rattle.pg_grammar.specs.Accepted.{IsModule, IsFirstRefusal}
+use Rattle.pg_grammar.specs.Accepted.{IsModule, IsUnread}
 use Rattle.pg_grammar.specs.Told.{IsTold}
 use Rattle.pg_grammar.proofs.TextLaws.{text_found, told_first}
 use Rattle.pg_parse.proofs.text.parse.Goals as goal
@@ -19,7 +19,7 @@ found : (text : List ℕ) (ts : List Lexed) (us : List Token) (r : Result Module
 found text ts us (Ok m) w s e = text_found text ts [] (tree_of m) w (subst (λ xs. ended (program_at xs) ≡ Good (tree_of m) []) s e)
 found text ts us (Err f) w s e = tt
 
-refused : (text : List ℕ) (ts : List Lexed) (us : List Token) (r : Result Module ReadFault) → tokens text ≡ Ok ts → us ≡ classified text ts → IfErr r (λ e. e ≢ OutOfMemory → IsTold text us e) → IfErr r (λ e. e ≢ OutOfMemory → IsFirstRefusal text e)
+refused : (text : List ℕ) (ts : List Lexed) (us : List Token) (r : Result Module ReadFault) → tokens text ≡ Ok ts → us ≡ classified text ts → IfErr r (λ e. e ≢ OutOfMemory → IsTold text us e) → IfErr r (λ e. e ≢ OutOfMemory → IsUnread text e)
 refused text ts us (Ok m) w s i = tt
 refused text ts us (Err f) w s i = λ n. told_first text ts f w (subst (λ xs. IsTold text xs f) s (i n))
 

@@ -1,4 +1,3 @@
-use Rattle.std.proofs.Common.{length}
 use Rattle.pg_types.specs.NumberedTypes.{named_types}
 use Rattle.pg_rules.proofs.OtherLengths.{other_lengths}
 use Rattle.pg_rules.proofs.signatures.are_params.Goals as goal

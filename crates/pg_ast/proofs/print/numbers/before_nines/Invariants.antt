@@ -1,4 +1,3 @@
-use Rattle.std.proofs.Common.{length}
 use Rattle.pg_ast.proofs.Decimals.{Nines}
 use Rattle.pg_ast.proofs.print.numbers.before_nines.Given as goal
 

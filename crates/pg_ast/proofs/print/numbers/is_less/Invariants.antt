@@ -1,4 +1,4 @@
-use Rattle.std.proofs.Common.{length, ◌-◌}
+use Rattle.std.proofs.Common.{◌-◌}
 use Rattle.pg_ast.proofs.Decimals.{Compared}
 use Rattle.pg_ast.proofs.print.numbers.is_less.Given as goal
 
