@@ -99,7 +99,8 @@ module _ (R : Reference) (e : Taken) (p : NumberedProgram) (r : ReferenceRun) (x
   not_stored (op.Store w v at) b f h = go (is_within (range_of a) b) f (is_within (frame_of a.pointer) b) h
     where
       go : (c : Bool) → c ≡ false → (d : Bool) →
-          Asks e s (if c then if_plain a.event n (of_value t k true v) else if d then if_plain a.event n (byte_demand b true ∷ []) else only (byte_demand b true ∷ [])) → IsMet s (byte_demand b true)
+          Asks e s (if c then if_plain a.event n (of_value t k true v) else if d then if_plain a.event n (byte_demand b true ∷ []) else only (byte_demand b true ∷ []))
+          → IsMet s (byte_demand b true)
       go true f d h = absurd (true≢false f)
       go false f true h = (plain_first e s n a.event (byte_demand b true ∷ []) h).0
       go false f false h = h.0.0

@@ -47,7 +47,8 @@ number_at (suc n) i l = go (cases_lt i n) (λ g. number_at n i g)
 pub number_in : (xs : List ℕ) (n i : ℕ) → xs ≡ numbers_to n → i < n → slice_get xs i ≡ Some i
 number_in xs n i e l = ap (λ (zs : List ℕ). slice_get zs i) e ∙ number_at n i l
 
-pub operand_there : (s : RunShadow) (y : Seen) (x : Instr) (t k : ℕ) (whole : Bool) (i : ℕ) → thread_in y.moment ≡ t → depth_of y ≡ k → AllByRecursion (IsMet s) (operand_demands y x whole i) →
+pub operand_there : (s : RunShadow) (y : Seen) (x : Instr) (t k : ℕ) (whole : Bool) (i : ℕ) → thread_in y.moment ≡ t
+    → depth_of y ≡ k → AllByRecursion (IsMet s) (operand_demands y x whole i) →
     AllByRecursion (IsMet s) (of_operand t k whole x.op i)
 operand_there s y x t k whole i a b h =
     subst (λ (t : ℕ). AllByRecursion (IsMet s) (of_operand t k whole x.op i)) a (subst (λ (k : ℕ). AllByRecursion (IsMet s) (of_operand (thread_in y.moment) k whole x.op i)) b h)

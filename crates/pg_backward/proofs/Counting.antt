@@ -39,7 +39,8 @@ module _ (R : Reference) (keeps : ExtentsKeep R) (n : ℕ) (m : Moment) (q : sli
   begun_at = keeps.known (of_every R n m (known_at R every n)) (at_step R keeps every n m q).in_run
 
   pub next_is : known_at R every (suc n) ≡ after_step R every n m (known_at R every n)
-  next_is = let z : 0 + n ≡ n = omega arith in subst (λ (i : ℕ). known_at R every (suc n) ≡ after_step R every i m (known_at R every n)) z (next_step R every 0 n (start_of R.program) R.moments m q)
+  next_is = let z : 0 + n ≡ n = omega arith in subst (λ (i : ℕ). known_at R every (suc n) ≡ after_step R every i m (known_at R every n)) z
+      (next_step R every 0 n (start_of R.program) R.moments m q)
 
 get_more : {A : Type 0} (xs ys : List A) (i : ℕ) (x : A) → slice_get xs i ≡ Some x → slice_get (xs ++ ys) i ≡ Some x
 get_more [] ys i x h = absurd cc
@@ -64,7 +65,8 @@ counted_more R m cs new c q e k a = record { by = λ j z l h. go j z h (cases_lt
         let s : slice_get new (length cs) ≡ Some c = ap (λ (xs : List Counts). slice_get xs (length cs)) e ∙ get_last cs c in
         (c, subst (λ (i : ℕ). slice_get new i ≡ Some c) (sym i) s, subst (λ (i : ℕ). IsCounted R i z c) (sym i) (subst (λ (z : Moment). IsCounted R (length cs) z c) g k))
 
-    go : (j : ℕ) (z : Moment) → slice_get R.moments j ≡ Some z → (j < length cs) ⊎ (length cs ≤ j) → j < suc (length cs) → (d : Counts) × (slice_get new j ≡ Some d) × IsCounted R j z d
+    go : (j : ℕ) (z : Moment) → slice_get R.moments j ≡ Some z → (j < length cs) ⊎ (length cs ≤ j) → j < suc (length cs)
+        → (d : Counts) × (slice_get new j ≡ Some d) × IsCounted R j z d
     go j z h (inl l) b = let k = a.by j z l h in (k.0, ap (λ (xs : List Counts). slice_get xs j) e ∙ get_more cs (c ∷ []) j k.0 k.1, k.2)
     go j z h (inr l) b = last j z (omega (arith, l, b)) h
 

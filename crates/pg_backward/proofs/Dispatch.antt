@@ -144,7 +144,8 @@ module _ (R : Reference) (e : Taken) (p : NumberedProgram) (r : ReferenceRun) (x
 
       pub load_back : (w : Width) (from : Value) → x.op ≡ op.Load w from → (target : Option ℕ) → target ≡ held_by x.result counts.present → (o : Option Decision) →
           ((e : Taken) (after before : RunShadow) → Leaves at.thread at.depth (is_target target) none after before →
-          ((i : ℕ) (v : Bool) → target ≡ Some i → IsMet after (register_demand at.thread at.depth i v) → AllByRecursion (IsMet before) (of_bytes (range_of a).start a.bytes) × (e.exact n ≡ true)) →
+          ((i : ℕ) (v : Bool) → target ≡ Some i → IsMet after (register_demand at.thread at.depth i v)
+          → AllByRecursion (IsMet before) (of_bytes (range_of a).start a.bytes) × (e.exact n ≡ true)) →
           AreMet after old → AreMet before new × IfSome o (λ (z : Decision). has e z ≡ true)) → AreMet after old → AreMet s new × IfSome o (λ (z : Decision). has e z ≡ true)
       load_back w from is target q o h =
           h e after s
@@ -174,7 +175,8 @@ module _ (R : Reference) (e : Taken) (p : NumberedProgram) (r : ReferenceRun) (x
     event_back v kind old new w = without_met at.thread (event_depth at.depth v.kind) (event_sets x.result v.kind) (event_writes v.write) after s old new
         (of_call (λ t k. Leaves t (event_depth k v.kind) (event_sets x.result v.kind) (event_writes v.write) after s) (event_leaves R e p r x step counts n m st v (kind_is (kinds.Event v) kind))) w
 
-    pub print_back : (v : Event) → step.kind ≡ kinds.Event v → is_putchar v.kind ≡ true → (i : ℕ) (w : Bool) → held_by x.result counts.present ≡ Some i → IsMet after (register_demand at.thread at.depth i w) →
+    pub print_back : (v : Event) → step.kind ≡ kinds.Event v → is_putchar v.kind ≡ true → (i : ℕ) (w : Bool)
+        → held_by x.result counts.present ≡ Some i → IsMet after (register_demand at.thread at.depth i w) →
         AllByRecursion (IsMet s) (of_operand at.thread at.depth true x.op 0)
     print_back v kind q i w f h = of_call (λ t k. AllByRecursion (IsMet s) (of_operand t k true x.op 0))
         (print_moves R e p r x step counts n m st v (kind_is (kinds.Event v) kind) q i w f (at_call (λ t k. IsMet after (register_demand t k i w)) h))
@@ -190,7 +192,8 @@ module _ (R : Reference) (e : Taken) (p : NumberedProgram) (r : ReferenceRun) (x
 
       pub edge_back : takes_edge x.op ≡ true → (edge : Option ℕ) → IfSome (landmark_at r n) (λ (l : Landmark). edge ≡ l.edge) →
           ((after before : RunShadow) → Leaves at.thread at.depth (edge_sets p edge) none after before →
-          ((i : ℕ) (v : Bool) → i < counts.present → IsMet after (register_demand at.thread at.depth i v) → AllByRecursion (IsMet before) (back_edge p at.thread at.depth x.block.0 edge i v)) →
+          ((i : ℕ) (v : Bool) → i < counts.present → IsMet after (register_demand at.thread at.depth i v)
+          → AllByRecursion (IsMet before) (back_edge p at.thread at.depth x.block.0 edge i v)) →
           AreMet after old → AreMet before new) → AreMet after old → AreMet s new
       edge_back f edge h g =
           g after s
@@ -204,7 +207,8 @@ module _ (R : Reference) (e : Taken) (p : NumberedProgram) (r : ReferenceRun) (x
 
       pub call_back : (g : ℕ) (args : List Value) → x.op ≡ op.Call g args →
           ((after before : RunShadow) → Leaves at.thread at.depth none none after before →
-          ((i : ℕ) (z : Value) (b : Bool) → slice_get args i ≡ Some z → IsMet after (register_demand at.thread (suc at.depth) i b) → AllByRecursion (IsMet before) (of_value at.thread at.depth b z)) →
+          ((i : ℕ) (z : Value) (b : Bool) → slice_get args i ≡ Some z → IsMet after (register_demand at.thread (suc at.depth) i b)
+          → AllByRecursion (IsMet before) (of_value at.thread at.depth b z)) →
           AreMet after old → AreMet before new) → AreMet after old → AreMet s new
       call_back g args is h =
           h after s (of_call (λ t k. Leaves t k none none after s) (call_leaves R e p r x step counts n m st is_that g args is))
@@ -214,9 +218,11 @@ module _ (R : Reference) (e : Taken) (p : NumberedProgram) (r : ReferenceRun) (x
       target_is : (target : Option ℕ) → IfSome (landmark_at r n) (λ (l : Landmark). target ≡ l.target) → target ≡ caller_target R.program m.calls
       target_is target h = if_some (λ (l : Landmark). target ≡ l.target) (landmark_at r n) (landmark_of R.program R.regions m) landmark_is h
 
-      pub return_back : (v : Option Value) → x.op ≡ op.Ret v → (found target : Option ℕ) → IfSome (landmark_at r n) (λ (l : Landmark). found ≡ l.target) → target ≡ held_by found counts.under →
+      pub return_back : (v : Option Value) → x.op ≡ op.Ret v → (found target : Option ℕ)
+          → IfSome (landmark_at r n) (λ (l : Landmark). found ≡ l.target) → target ≡ held_by found counts.under →
           ((after before : RunShadow) → Leaves at.thread (at.depth - 1) (is_target target) none after before →
-          ((i : ℕ) (w : Bool) → target ≡ Some i → IsMet after (register_demand at.thread (at.depth - 1) i w) → 0 < at.depth → AllByRecursion (IsMet before) (of_optional at.thread at.depth w v)) →
+          ((i : ℕ) (w : Bool) → target ≡ Some i → IsMet after (register_demand at.thread (at.depth - 1) i w) → 0 < at.depth
+          → AllByRecursion (IsMet before) (of_optional at.thread at.depth w v)) →
           AreMet after old → AreMet before new) → AreMet after old → AreMet s new
       return_back v is found target f g h =
           let q : target ≡ held_by (caller_target R.program m.calls) counts.under = g ∙ ap (λ (o : Option ℕ). held_by o counts.under) (target_is found f) in
@@ -232,8 +238,10 @@ module _ (R : Reference) (e : Taken) (p : NumberedProgram) (r : ReferenceRun) (x
           AreMet after old → AreMet before new) → AreMet after old → AreMet s new
       result_back f target q h =
           h after s
-          (of_call (λ t k. Leaves t k (is_target target) none after s) (subst (λ (o : Option ℕ). Leaves t k (is_target o) none after s) (sym q) (result_leaves R e p r x step counts n m st is_that f)))
-          (λ i v g y. of_call (λ t k. AllByRecursion (IsMet s) (made_by t k x.op v)) (result_moves R e p r x step counts n m st is_that f i v (sym q ∙ g) (at_call (λ t k. IsMet after (register_demand t k i v)) y)))
+          (of_call (λ t k. Leaves t k (is_target target) none after s) (subst (λ (o : Option ℕ). Leaves t k (is_target o) none after s)
+          (sym q) (result_leaves R e p r x step counts n m st is_that f)))
+          (λ i v g y. of_call (λ t k. AllByRecursion (IsMet s) (made_by t k x.op v)) (result_moves R e p r x step counts n m st is_that f i v (sym q
+          ∙ g) (at_call (λ t k. IsMet after (register_demand t k i v)) y)))
 
       -- what lies in calls of other threads
       pub thread_back : Without at.thread 0 all none old new → AreMet after old → AreMet s new
@@ -253,7 +261,8 @@ module _ (R : Reference) (e : Taken) (p : NumberedProgram) (r : ReferenceRun) (x
       this_op : is_op m.did.did.kind ≡ true
       this_op = ap (λ (z : Step). is_op z.kind) st.did ∙ branch_op branch
 
-      pinned_from : (o : Option FreeRegion) (q : FreeRegion) → o ≡ Some q → (edge : Option ℕ) (i : ℕ) (v : Bool) → q.sets i ≡ true → Asks e s (back_branch R.program t k n x edge o i v) → e.pinned n ≡ true
+      pinned_from : (o : Option FreeRegion) (q : FreeRegion) → o ≡ Some q → (edge : Option ℕ) (i : ℕ) (v : Bool) → q.sets i ≡ true
+          → Asks e s (back_branch R.program t k n x edge o i v) → e.pinned n ≡ true
       pinned_from None q is edge i v g h = absurd cc
       pinned_from (Some z) q is edge i v g h = go (z.sets i) (subst (λ (z : FreeRegion). z.sets i ≡ true) (sym (some_is z q is)) g) h
         where
@@ -261,7 +270,8 @@ module _ (R : Reference) (e : Taken) (p : NumberedProgram) (r : ReferenceRun) (x
           go true f h = h.1.0
           go false f h = absurd (true≢false (sym f))
 
-      set_pinned : (q : FreeRegion) → region ≡ Some q → (o : Op) → is_branching o ≡ true → (i : ℕ) (v : Bool) → q.sets i ≡ true → Asks e s (back_op R.program t k n m region x i v o) → e.pinned n ≡ true
+      set_pinned : (q : FreeRegion) → region ≡ Some q → (o : Op) → is_branching o ≡ true → (i : ℕ) (v : Bool) → q.sets i ≡ true
+          → Asks e s (back_op R.program t k n m region x i v o) → e.pinned n ≡ true
       set_pinned q is (op.CondBr c a b) f i v g h = pinned_from region q is (edge_in R.program m (Some x)) i v g h
       set_pinned q is (op.Switch w on other cases) f i v g h = pinned_from region q is (edge_in R.program m (Some x)) i v g h
       set_pinned q is o f i v g h = absurd (true≢false (sym f))
@@ -293,4 +303,5 @@ module _ (R : Reference) (e : Taken) (p : NumberedProgram) (r : ReferenceRun) (x
       pub due_back : (o : Option Decision) → IfSome (landmark_at r n) (λ (l : Landmark). IfSome o (λ (z : Decision). IsPinDue l.region n at.thread at.depth counts.present old z)) →
           IfSome o (λ (z : Decision). has e z ≡ true)
       due_back o h =
-          pin_back o (if_some (λ (l : Landmark). IfSome o (λ (z : Decision). IsPinDue l.region n at.thread at.depth counts.present old z)) (landmark_at r n) (landmark_of R.program R.regions m) landmark_is h)
+          pin_back o (if_some (λ (l : Landmark). IfSome o (λ (z : Decision). IsPinDue l.region n at.thread at.depth counts.present old z))
+          (landmark_at r n) (landmark_of R.program R.regions m) landmark_is h)

@@ -36,7 +36,8 @@ at_drop zero (y ∷ xs) x h = let z : y ≡ x = cc in ap (λ (y : Instr). y ∷ 
 at_drop (suc n) (y ∷ xs) x h = at_drop n xs x h
 
 -- of a phi whose register none behind it sets
-pub this_last : (n : ℕ) (xs : List Instr) (x : Instr) (i : ℕ) → slice_get xs n ≡ Some x → is_target x.result i ≡ true → phis_set (drop (suc n) xs) i ≡ false → last_phi xs i ≡ Some x
+pub this_last : (n : ℕ) (xs : List Instr) (x : Instr) (i : ℕ) → slice_get xs n ≡ Some x → is_target x.result i ≡ true
+    → phis_set (drop (suc n) xs) i ≡ false → last_phi xs i ≡ Some x
 this_last n xs x i h f g =
     last_drop n xs i x (ap (λ (ys : List Instr). last_phi ys i) (at_drop n xs x h)
     ∙ (ap (this_phi (is_target x.result i) x) (no_phi (drop (suc n) xs) i g) ∙ ap (λ (b : Bool). this_phi b x None) f))
@@ -45,7 +46,8 @@ pub set_more : (n : ℕ) (xs : List Instr) (x : Instr) (i : ℕ) → slice_get x
 set_more n xs x i h = ap (λ (ys : List Instr). phis_set ys i) (at_drop n xs x h)
 
 -- nothing is asked of what two remove, one after the other
-pub without_both : (t k : ℕ) (one two both writes : ℕ → Bool) (old mid new : Demanded) → ((i : ℕ) → both i ≡ (two i || one i)) → Without t k one writes old mid → Without t k two writes mid new → Without t k both writes old new
+pub without_both : (t k : ℕ) (one two both writes : ℕ → Bool) (old mid new : Demanded) → ((i : ℕ) → both i ≡ (two i || one i))
+    → Without t k one writes old mid → Without t k two writes mid new → Without t k both writes old new
 without_both t k one two both writes old mid new f a b = record {
   registers = λ u j i w q. let c = b.registers u j i w q in let d = a.registers u j i w c.0 in (d.0, λ z. split u j i z c.1 d.1);
   bytes = λ z q. let c = b.bytes z q in let d = a.bytes z c.0 in (d.0, c.1);

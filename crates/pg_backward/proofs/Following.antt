@@ -20,7 +20,8 @@ use Rattle.pg_demands.specs.Demands.{path_demands, root_demands}
 use Rattle.pg_backward.specs.Cells.{AreCellsMet}
 use Rattle.pg_backward.proofs.Meets.{all_left, all_right}
 
-pub root_is : (s : RunShadow) (y : Seen) (o : Root) (r : ℕ) (whole : Bool) (t k : ℕ) → o ≡ root.Register r → thread_in y.moment ≡ t → depth_of y ≡ k → AllByRecursion (IsMet s) (root_demands y o whole) →
+pub root_is : (s : RunShadow) (y : Seen) (o : Root) (r : ℕ) (whole : Bool) (t k : ℕ) → o ≡ root.Register r → thread_in y.moment ≡ t
+    → depth_of y ≡ k → AllByRecursion (IsMet s) (root_demands y o whole) →
     IsMet s (register_demand t k r whole)
 root_is s y o r whole t k q a b h =
     let z : AllByRecursion (IsMet s) (root_demands y (root.Register r) whole) = subst (λ (o : Root). AllByRecursion (IsMet s) (root_demands y o whole)) q h in
@@ -54,7 +55,8 @@ path_cells s word (c ∷ ks) (v ∷ ws) h (suc i) w k p q =
     path_cells s (λ whole. of_bytes (cell_of v c).start 8) ks ws (all_right (IsMet s) (word true) (path_demands (λ whole. of_bytes (cell_of v c).start 8) ks ws (cells_of ws ks)) h) i w k p q
 
 -- an access that is handed out is that of the region
-pub got_access : (o : Option Landmark) (l : Landmark) (q : FreeRegion) (k : ℕ) (found : Option declared.FreeAccess) (a : declared.FreeAccess) → o ≡ Some l → l.region ≡ Some q → found ≡ Some a →
+pub got_access : (o : Option Landmark) (l : Landmark) (q : FreeRegion) (k : ℕ) (found : Option declared.FreeAccess) (a : declared.FreeAccess)
+    → o ≡ Some l → l.region ≡ Some q → found ≡ Some a →
     IfSome o (λ (l : Landmark). IfSome l.region (λ (q : FreeRegion). option_map access_as found ≡ slice_get q.accesses k)) → slice_get q.accesses k ≡ Some (access_as a)
 got_access o l q k found a e f g h =
     let z : IfSome l.region (λ (q : FreeRegion). option_map access_as found ≡ slice_get q.accesses k) =
@@ -62,7 +64,8 @@ got_access o l q k found a e f g h =
     let y : option_map access_as found ≡ slice_get q.accesses k = subst (λ (o : Option FreeRegion). IfSome o (λ (q : FreeRegion). option_map access_as found ≡ slice_get q.accesses k)) f z in
     sym y ∙ ap (option_map access_as) g
 
-pub region_there : (o : Option Landmark) (l : Landmark) (b : Bool) → o ≡ Some l → b ≡ true → IfSome o (λ (l : Landmark). b ≡ is_some l.region) → (q : FreeRegion) × (l.region ≡ Some q)
+pub region_there : (o : Option Landmark) (l : Landmark) (b : Bool) → o ≡ Some l → b ≡ true
+    → IfSome o (λ (l : Landmark). b ≡ is_some l.region) → (q : FreeRegion) × (l.region ≡ Some q)
 region_there o l b e f h =
     let z : b ≡ is_some l.region = subst (λ (o : Option Landmark). IfSome o (λ (l : Landmark). b ≡ is_some l.region)) e h in
     go l.region refl (sym z ∙ f)

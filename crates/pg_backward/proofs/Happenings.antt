@@ -64,12 +64,14 @@ module _ (R : Reference) (e : Taken) (p : NumberedProgram) (r : ReferenceRun) (x
         go true f h = absurd (true≢false f)
 
     event_bytes : (b : ℕ) → event_writes v.write b ≡ false → IsMet after (byte_demand b true) → IsMet s (byte_demand b true)
-    event_bytes b f h = not_written v.write b f (subst (λ (c : StepKind). Asks e s (back_byte t k n (live.region R e p r x step counts n m st) x b true c)) kind (live.byte_back R e p r x step counts n m st b h))
+    event_bytes b f h = not_written v.write b f (subst (λ (c : StepKind). Asks e s (back_byte t k n (live.region R e p r x step counts n m st) x b true c)) kind
+        (live.byte_back R e p r x step counts n m st b h))
 
     not_started : (parameters i : ℕ) (w : Bool) → (0 == i) ≡ false → Asks e s (back_start parameters t k i w) → IsMet s (register_demand t k i w)
     not_started parameters i w f h = go (parameters == 0) (i == 0) refl h
       where
-        go : (a b : Bool) → (i == 0) ≡ b → Asks e s (if not a && b then only (record { cell = Word t; whole = w } ∷ []) else only (register_demand t k i w ∷ [])) → IsMet s (register_demand t k i w)
+        go : (a b : Bool) → (i == 0) ≡ b → Asks e s (if not a && b then only (record { cell = Word t; whole = w } ∷ []) else only (register_demand t k i w ∷ []))
+            → IsMet s (register_demand t k i w)
         go true b q h = h.0.0
         go false false q h = h.0.0
         go false true q h = let z : i ≡ 0 = eqb-true i 0 q in absurd (true≢false (sym (eq-eqb 0 i (sym z)) ∙ f))
@@ -98,11 +100,13 @@ module _ (R : Reference) (e : Taken) (p : NumberedProgram) (r : ReferenceRun) (x
     by_kind c q = plain_leaves (λ j i w h. (subst (λ (c : TurnKind). Asks e s (back_other_event t j i w c)) q h).0.0) (event_sets x.result c)
         (λ i w f h. unset_first e s (is_target x.result i) (register_demand t k i w) _ f (subst (λ (c : TurnKind). Asks e s (back_event R.program t k m x i w c)) q h))
 
-    printed : (c : TurnKind) → is_putchar c ≡ true → (i : ℕ) (w : Bool) → is_target x.result i ≡ true → Asks e s (back_event R.program t k m x i w c) → AllByRecursion (IsMet s) (of_operand t k true x.op 0)
+    printed : (c : TurnKind) → is_putchar c ≡ true → (i : ℕ) (w : Bool) → is_target x.result i ≡ true
+        → Asks e s (back_event R.program t k m x i w c) → AllByRecursion (IsMet s) (of_operand t k true x.op 0)
     printed turns.Putchar q i w g h = (set_asks e s (is_target x.result i) (register_demand t k i w) _ g h).0
     printed c q i w g h = absurd (true≢false (sym q))
 
-    pub print_moves : is_putchar v.kind ≡ true → (i : ℕ) (w : Bool) → held_by x.result counts.present ≡ Some i → IsMet after (register_demand t k i w) → AllByRecursion (IsMet s) (of_operand t k true x.op 0)
+    pub print_moves : is_putchar v.kind ≡ true → (i : ℕ) (w : Bool) → held_by x.result counts.present ≡ Some i
+        → IsMet after (register_demand t k i w) → AllByRecursion (IsMet s) (of_operand t k true x.op 0)
     print_moves q i w f h =
         let g = held_is x.result counts.present i f in
         let b : Asks e s (back_event R.program t k m x i w v.kind) =

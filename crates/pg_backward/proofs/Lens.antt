@@ -42,7 +42,8 @@ forgotten_long : (r : ℕ) (sets : ℕ → Bool) (x : Decision) (ss : List Shado
 forgotten_long r sets x [] = refl
 forgotten_long r sets x (s ∷ ss) = ap suc (forgotten_long (suc r) sets x ss)
 
-branch_long : (p : NumberedProgram) (pinned : Bool) (n : ℕ) (x : Instr) (edge : Option ℕ) (region : Option FreeRegion) (rs : List Shadow) → length (after_branch p pinned n x edge region rs) ≡ length rs
+branch_long : (p : NumberedProgram) (pinned : Bool) (n : ℕ) (x : Instr) (edge : Option ℕ) (region : Option FreeRegion) (rs : List Shadow)
+    → length (after_branch p pinned n x edge region rs) ≡ length rs
 branch_long p false n x edge (Some r) rs = forgotten_long 0 r.sets _ rs
 branch_long p false n x edge None rs = edge_long p x.block.0 edge rs
 branch_long p true n x edge region rs = edge_long p x.block.0 edge rs
@@ -65,7 +66,8 @@ module _ (p : NumberedProgram) (d : Taken) (n : ℕ) (m : Moment) (region : Opti
   op_lens pinned result x (op.Br to) cs = top_lens _ (λ rs. edge_long p x.block.0 (Some to.0) rs) cs
   op_lens pinned result x (op.CondBr c a b) cs = top_lens _ (λ rs. branch_long p pinned n x (edge_in p m (Some x)) region rs) cs
   op_lens pinned result x (op.Switch w on other cases) cs = top_lens _ (λ rs. branch_long p pinned n x (edge_in p m (Some x)) region rs) cs
-  op_lens pinned result x (op.Call g args) cs = ap (λ (l : ℕ). l ∷ lens_of cs) (entered_long p g (map (shadow_of p (top_of cs)) args) ∙ ap (λ (l : ℕ). l + (length (types_of p g) - l)) (length-map args (shadow_of p (top_of cs))))
+  op_lens pinned result x (op.Call g args) cs = ap (λ (l : ℕ). l ∷ lens_of cs) (entered_long p g (map (shadow_of p (top_of cs)) args)
+      ∙ ap (λ (l : ℕ). l + (length (types_of p g) - l)) (length-map args (shadow_of p (top_of cs))))
   op_lens pinned result x (op.Ret v) cs = top_lens _ (λ rs. length_set rs (caller_target p m.calls) _) (under_top cs) ∙ under_lens cs
   op_lens pinned result x (op.Alloca bytes) cs = top_lens _ (λ rs. length_set rs x.result _) cs
   op_lens pinned result x (op.CallKnown k args) cs = top_lens _ (λ rs. known_long k x.result result _ rs) cs

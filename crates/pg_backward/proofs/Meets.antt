@@ -38,7 +38,8 @@ register_met s old new t k r w h f g m = record { registers = λ u j i v q. go u
     go u j i v (inr q) = rw (q.0, q.1, q.2, q.3) h
 
 -- with one byte more
-pub byte_met : (s : RunShadow) (old new : Demanded) (byte : ℕ) → IsMet s (byte_demand byte true) → ((u j i : ℕ) (v : Bool) → asked_of new u j i ≡ Some v → asked_of old u j i ≡ Some v) →
+pub byte_met : (s : RunShadow) (old new : Demanded) (byte : ℕ) → IsMet s (byte_demand byte true)
+    → ((u j i : ℕ) (v : Bool) → asked_of new u j i ≡ Some v → asked_of old u j i ≡ Some v) →
     ((b : ℕ) → asks_byte new b ≡ true → (asks_byte old b ≡ true) ⊎ (b ≡ byte)) → AreMet s old → AreMet s new
 byte_met s old new byte h f g m = record { registers = λ u j i v q. m.registers u j i v (f u j i v q); bytes = λ b q. go b (g b q) }
   where
@@ -52,14 +53,16 @@ byte_of s at (suc n) zero l h = let z : at + 0 ≡ at = omega arith in rw z h.0
 byte_of s at (suc n) (suc i) l h = let z : at + suc i ≡ at + 1 + i = omega arith in rw z (byte_of s (at + 1) n i (omega (arith, l)) h.1)
 
 -- what leaves fewer registers leaves more
-pub leaves_more : (t k : ℕ) (sets more writes : ℕ → Bool) (after before : RunShadow) → ((i : ℕ) → sets i ≡ true → more i ≡ true) → Leaves t k sets writes after before → Leaves t k more writes after before
+pub leaves_more : (t k : ℕ) (sets more writes : ℕ → Bool) (after before : RunShadow) → ((i : ℕ) → sets i ≡ true → more i ≡ true)
+    → Leaves t k sets writes after before → Leaves t k more writes after before
 leaves_more t k sets more writes after before f l = record { registers = λ i j r w o. l.registers i j r w (λ a. o (a.0, go j r a.1)); bytes = l.bytes }
   where
     go : (j r : ℕ) → (k < j) ⊎ ((j ≡ k) × (sets r ≡ true)) → (k < j) ⊎ ((j ≡ k) × (more r ≡ true))
     go j r (inl g) = inl g
     go j r (inr g) = inr (g.0, f r g.1)
 
-pub leaves_like : (t k : ℕ) (sets writes same : ℕ → Bool) (after before : RunShadow) → ((b : ℕ) → same b ≡ writes b) → Leaves t k sets writes after before → Leaves t k sets same after before
+pub leaves_like : (t k : ℕ) (sets writes same : ℕ → Bool) (after before : RunShadow) → ((b : ℕ) → same b ≡ writes b)
+    → Leaves t k sets writes after before → Leaves t k sets same after before
 leaves_like t k sets writes same after before f l = record { registers = l.registers; bytes = λ b q. l.bytes b (sym (f b) ∙ q) }
 
 -- ---- of a list one
@@ -95,7 +98,8 @@ not_in r b o = go (is_in r b) refl
     go true q = let p = and_parts (nat_le r.from b) (nat_lt b r.to) q in absurd (o (leb-true r.from b p.0) (ltb-true b r.to p.1))
 
 -- where they are cleared too
-pub cleared : (t k : ℕ) (own : Bytes) (old mid new : Demanded) → Without t k none none old mid → ((u j i : ℕ) (v : Bool) → asked_of new u j i ≡ Some v → asked_of mid u j i ≡ Some v) →
+pub cleared : (t k : ℕ) (own : Bytes) (old mid new : Demanded) → Without t k none none old mid
+    → ((u j i : ℕ) (v : Bool) → asked_of new u j i ≡ Some v → asked_of mid u j i ≡ Some v) →
     ((b : ℕ) → asks_byte new b ≡ true → (asks_byte mid b ≡ true) × (own.from ≤ b → b < own.to → ⊥)) → Without t k none (is_in own) old new
 cleared t k own old mid new w f g = record {
   registers = λ u j i v q. w.registers u j i v (f u j i v q);
@@ -106,7 +110,8 @@ pub less_then : (old mid new : Demanded) → IsLess old mid → IsLess mid new �
 less_then old mid new a b = record { registers = λ i j r v q. a.registers i j r v (b.registers i j r v q); bytes = λ z q. a.bytes z (b.bytes z q) }
 
 -- and where none of them is asked
-pub none_stored : (t k : ℕ) (own : Bytes) (old new : Demanded) → Without t k none none old new → ((b : ℕ) → own.from ≤ b → b < own.to → asks_byte new b ≡ false) → Without t k none (is_in own) old new
+pub none_stored : (t k : ℕ) (own : Bytes) (old new : Demanded) → Without t k none none old new
+    → ((b : ℕ) → own.from ≤ b → b < own.to → asks_byte new b ≡ false) → Without t k none (is_in own) old new
 none_stored t k own old new w f = record {
   registers = w.registers;
   bytes = λ b q. ((w.bytes b q).0, not_in own b (λ l g. true≢false (sym q ∙ f b l g)));

@@ -97,8 +97,10 @@ module _ (R : Reference) (e : Taken) (p : NumberedProgram) (r : ReferenceRun) (x
   low_back : (j i : ℕ) (w : Bool) → (j ≡ k → ⊥) → IsMet after (register_demand t j i w) → Asks e s (back_other_op R.program t k under m j i w x.op)
   low_back j i w o h = low_by m.did.did.kind kind j i w (live.other_back R e p r x step counts n m st j i w o h)
 
-  op_leaves : (o : Op) → x.op ≡ o → (sets : ℕ → Bool) → ((j i : ℕ) (w : Bool) → j < k → Asks e s (back_other_op R.program t k under m j i w o) → IsMet s (register_demand t j i w)) →
-      ((i : ℕ) (w : Bool) → sets i ≡ false → i < register_count (live.y R e p r x step counts n m st) → Asks e s (back_op R.program t k n m region x i w o) → IsMet s (register_demand t k i w)) →
+  op_leaves : (o : Op) → x.op ≡ o → (sets : ℕ → Bool) → ((j i : ℕ) (w : Bool) → j < k
+      → Asks e s (back_other_op R.program t k under m j i w o) → IsMet s (register_demand t j i w)) →
+      ((i : ℕ) (w : Bool) → sets i ≡ false → i < register_count (live.y R e p r x step counts n m st)
+      → Asks e s (back_op R.program t k n m region x i w o) → IsMet s (register_demand t k i w)) →
       Leaves t k sets none after s
   op_leaves o q sets low top = record {
     registers = live.registers_leave R e p r x step counts n m st sets
@@ -112,7 +114,8 @@ module _ (R : Reference) (e : Taken) (p : NumberedProgram) (r : ReferenceRun) (x
   edge_leaves : (edge : Option ℕ) (i : ℕ) (w : Bool) → edge_sets R.program edge i ≡ false → Asks e s (only (back_edge R.program t k x.block.0 edge i w)) → IsMet s (register_demand t k i w)
   edge_leaves edge i w f h = (subst (λ (qs : List Demand). Asks e s (only qs)) (edge_same R.program t k x.block.0 edge i w f) h).0.0
 
-  branch_same : (o : Option FreeRegion) (edge : Option ℕ) (i : ℕ) (w : Bool) → edge_sets R.program edge i ≡ false → Asks e s (back_branch R.program t k n x edge o i w) → IsMet s (register_demand t k i w)
+  branch_same : (o : Option FreeRegion) (edge : Option ℕ) (i : ℕ) (w : Bool) → edge_sets R.program edge i ≡ false
+      → Asks e s (back_branch R.program t k n x edge o i w) → IsMet s (register_demand t k i w)
   branch_same None edge i w f h = edge_leaves edge i w f h
   branch_same (Some q) edge i w f h = go (q.sets i) h
     where
@@ -148,7 +151,8 @@ module _ (R : Reference) (e : Taken) (p : NumberedProgram) (r : ReferenceRun) (x
   none_set sets None i h f = refl
   none_set sets (Some to) i h f = phis_may sets (phis_of R.program to) i h f
 
-  branch_moved : (o : Option FreeRegion) (edge : Option ℕ) → ((q : FreeRegion) → o ≡ Some q → MaySetPhis R.program q.sets edge) → (i : ℕ) (w : Bool) → Asks e s (back_branch R.program t k n x edge o i w) →
+  branch_moved : (o : Option FreeRegion) (edge : Option ℕ) → ((q : FreeRegion) → o ≡ Some q → MaySetPhis R.program q.sets edge)
+      → (i : ℕ) (w : Bool) → Asks e s (back_branch R.program t k n x edge o i w) →
       AllByRecursion (IsMet s) (back_edge R.program t k x.block.0 edge i w)
   branch_moved None edge o i w h = h.0
   branch_moved (Some q) edge o i w h = go (q.sets i) refl h
@@ -177,7 +181,8 @@ module _ (R : Reference) (e : Taken) (p : NumberedProgram) (r : ReferenceRun) (x
         (λ j i w l h. outside j i w (j == suc k) (eq_false j (suc k) (λ z. omega (arith, z, l))) h)
         (λ i w f l h. h.0.0)
       where
-        outside : (j i : ℕ) (w : Bool) (b : Bool) → b ≡ false → Asks e s (if b then only (of_optional t k w (slice_get args i)) else only (register_demand t j i w ∷ [])) → IsMet s (register_demand t j i w)
+        outside : (j i : ℕ) (w : Bool) (b : Bool) → b ≡ false → Asks e s (if b then only (of_optional t k w (slice_get args i)) else only (register_demand t j i w ∷ []))
+            → IsMet s (register_demand t j i w)
         outside j i w false f h = h.0.0
         outside j i w true f h = absurd (true≢false f)
 
@@ -187,7 +192,8 @@ module _ (R : Reference) (e : Taken) (p : NumberedProgram) (r : ReferenceRun) (x
         subst (λ (o : Op). Asks e s (back_other_op R.program t k under m (suc k) i w o)) is (low_back (suc k) i w (λ z. omega (arith, z)) h) in
         inside (suc k == suc k) (eq-eqb (suc k) (suc k) refl) a
       where
-        inside : (b : Bool) → b ≡ true → Asks e s (if b then only (of_optional t k w (slice_get args i)) else only (register_demand t (suc k) i w ∷ [])) → AllByRecursion (IsMet s) (of_value t k w z)
+        inside : (b : Bool) → b ≡ true → Asks e s (if b then only (of_optional t k w (slice_get args i)) else only (register_demand t (suc k) i w ∷ []))
+            → AllByRecursion (IsMet s) (of_value t k w z)
         inside true f h = subst (λ (o : Option Value). AllByRecursion (IsMet s) (of_optional t k w o)) q h.0
         inside false f h = absurd (true≢false (sym f))
 
@@ -204,7 +210,8 @@ module _ (R : Reference) (e : Taken) (p : NumberedProgram) (r : ReferenceRun) (x
     below : (j i : ℕ) (w : Bool) → (suc j ≡ k → ⊥) → Asks e s (back_return t k under (caller_target R.program m.calls) j i w v) → IsMet s (register_demand t j i w)
     below j i w o h = go (suc j == k) (eq_false (suc j) k o) h
       where
-        go : (b : Bool) → b ≡ false → Asks e s (if b then (if nat_lt i under then if_set (is_target (caller_target R.program m.calls) i) (register_demand t j i w) (only (of_optional t k w v)) else only [])
+        go : (b : Bool) → b ≡ false → Asks e s (if b then (if nat_lt i under then if_set (is_target (caller_target R.program m.calls) i)
+            (register_demand t j i w) (only (of_optional t k w v)) else only [])
             else only (register_demand t j i w ∷ [])) → IsMet s (register_demand t j i w)
         go false f h = h.0.0
         go true f h = absurd (true≢false f)
@@ -214,7 +221,8 @@ module _ (R : Reference) (e : Taken) (p : NumberedProgram) (r : ReferenceRun) (x
         Asks e s (if nat_lt i under then if_set (is_target (caller_target R.program m.calls) i) (register_demand t j i w) (only (of_optional t k w v)) else only [])
     caller j i w q h = go (suc j == k) (eq-eqb (suc j) k q) h
       where
-        go : (b : Bool) → b ≡ true → Asks e s (if b then (if nat_lt i under then if_set (is_target (caller_target R.program m.calls) i) (register_demand t j i w) (only (of_optional t k w v)) else only [])
+        go : (b : Bool) → b ≡ true → Asks e s (if b then (if nat_lt i under then if_set (is_target (caller_target R.program m.calls) i)
+            (register_demand t j i w) (only (of_optional t k w v)) else only [])
             else only (register_demand t j i w ∷ [])) →
             Asks e s (if nat_lt i under then if_set (is_target (caller_target R.program m.calls) i) (register_demand t j i w) (only (of_optional t k w v)) else only [])
         go true f h = h
@@ -225,7 +233,8 @@ module _ (R : Reference) (e : Taken) (p : NumberedProgram) (r : ReferenceRun) (x
     caller_same j i w q f true g h =
         let c = st.counted.under in
         let l : i < under = ltb-true i under g in
-        unset_first e s (is_target (caller_target R.program m.calls) i) (register_demand t j i w) (only (of_optional t k w v)) (held_not (caller_target R.program m.calls) counts.under i f (omega (arith, l, c))) h
+        unset_first e s (is_target (caller_target R.program m.calls) i) (register_demand t j i w) (only (of_optional t k w v))
+        (held_not (caller_target R.program m.calls) counts.under i f (omega (arith, l, c))) h
     caller_same j i w q f false g h = live.beyond_under R e p r x step counts n m st j i w (sym q) (ltb-false i under g)
 
     pub return_leaves : Leaves t (k - 1) (is_target target) none after s
@@ -260,7 +269,8 @@ module _ (R : Reference) (e : Taken) (p : NumberedProgram) (r : ReferenceRun) (x
         some_calls zero = inl refl
         some_calls (suc c) = inr (omega arith)
 
-        go : (v j i : ℕ) (w : Bool) → (IsAbove t (k - 1) (is_target target) v j i → ⊥) → IsMet after (register_demand v j i w) → (b : Bool) → (v == t) ≡ b → IsMet s (register_demand v j i w)
+        go : (v j i : ℕ) (w : Bool) → (IsAbove t (k - 1) (is_target target) v j i → ⊥) → IsMet after (register_demand v j i w)
+            → (b : Bool) → (v == t) ≡ b → IsMet s (register_demand v j i w)
         go v j i w o h false f = live.other_thread R e p r x step counts n m st v j i w (λ q. true≢false (sym (eq-eqb v t q) ∙ f)) h
         go v j i w o h true f =
             let q : v ≡ t = eqb-true v t f in
@@ -293,7 +303,8 @@ module _ (R : Reference) (e : Taken) (p : NumberedProgram) (r : ReferenceRun) (x
   known_same known.Malloc i w g h = unset_first e s (is_target x.result i) (register_demand t k i w) _ g h
   known_same _ i w g h = h.0.0
 
-  result_same : (o : Op) → sets_result o ≡ true → (i : ℕ) (w : Bool) → is_target x.result i ≡ false → Asks e s (back_op R.program t k n m region x i w o) → IsMet s (register_demand t k i w)
+  result_same : (o : Op) → sets_result o ≡ true → (i : ℕ) (w : Bool) → is_target x.result i ≡ false
+      → Asks e s (back_op R.program t k n m region x i w o) → IsMet s (register_demand t k i w)
   result_same (op.Br to) q i w g h = absurd (true≢false (sym q))
   result_same (op.CondBr c a b) q i w g h = absurd (true≢false (sym q))
   result_same (op.Switch w' on other cases) q i w g h = absurd (true≢false (sym q))

@@ -28,10 +28,12 @@ may_one (x ∷ xs) (suc k) a b q h = or_right (x.writes && is_within (frame_of x
 
 pub one_asks : (o : Option Landmark) (k : ℕ) (found : Option declared.FreeAccess) (a : declared.FreeAccess) → found ≡ Some a →
     IfSome o (λ (l : Landmark). IfSome l.region (λ (q : FreeRegion). option_map access_as found ≡ slice_get q.accesses k)) → (result : Bool) (w : Demanded) →
-    (result ≡ true → AsksByte (λ b. a.writes && is_within (frame_of a.last) b) w) → IfSome o (λ (l : Landmark). IfSome l.region (λ (q : FreeRegion). result ≡ true → AsksByte (may_write q.accesses) w))
+    (result ≡ true → AsksByte (λ b. a.writes && is_within (frame_of a.last) b) w)
+    → IfSome o (λ (l : Landmark). IfSome l.region (λ (q : FreeRegion). result ≡ true → AsksByte (may_write q.accesses) w))
 one_asks None k found a is h result w f = tt
 one_asks (Some l) k found a is h result w f = go l.region h
   where
-    go : (o : Option FreeRegion) → IfSome o (λ (q : FreeRegion). option_map access_as found ≡ slice_get q.accesses k) → IfSome o (λ (q : FreeRegion). result ≡ true → AsksByte (may_write q.accesses) w)
+    go : (o : Option FreeRegion) → IfSome o (λ (q : FreeRegion). option_map access_as found ≡ slice_get q.accesses k)
+        → IfSome o (λ (q : FreeRegion). result ≡ true → AsksByte (may_write q.accesses) w)
     go None h = tt
     go (Some q) h = λ g. let z = f g in (z.0, may_one q.accesses k (access_as a) z.0 (sym h ∙ ap (option_map access_as) is) z.1, z.2)

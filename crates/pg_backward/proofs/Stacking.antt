@@ -90,7 +90,8 @@ module _ (R : Reference) (n : ℕ) (m : Moment) (s : RunShadow) (x : Instr) (sta
       IsStack new.held.items top (lens_by_kind R.program x.op m.did.did.kind (lens_of (thread_of s t).calls)) →
       length new.tops.items ≡ length old.tops.items + length (lens_made R.program m.did.did.kind) →
       slice_index_or new.tops.items t 0 ≡ top → ((u : ℕ) → (u ≡ t → ⊥) → u < length old.tops.items → slice_index_or new.tops.items u 0 ≡ slice_index_or old.tops.items u 0) →
-      ((u : ℕ) → length old.tops.items ≤ u → IsStack new.held.items (slice_index_or new.tops.items u 0) (slice_index_or (lens_made R.program m.did.did.kind) (u - length old.tops.items) [])) →
+      ((u : ℕ) → length old.tops.items ≤ u → IsStack new.held.items (slice_index_or new.tops.items u 0)
+      (slice_index_or (lens_made R.program m.did.did.kind) (u - length old.tops.items) [])) →
       AreStacks new (after_step R every n m s)
   stacks_next old new top a kept own many at others made = record {
     as_many = many ∙ (ap (λ (l : ℕ). l + length (lens_made R.program m.did.did.kind)) a.as_many ∙ sym threads_now);
@@ -100,7 +101,8 @@ module _ (R : Reference) (n : ℕ) (m : Moment) (s : RunShadow) (x : Instr) (sta
       go : (u : ℕ) (b : Bool) → (u == t) ≡ b → IsStack new.held.items (slice_index_or new.tops.items u 0) (lens_of (thread_of (after_step R every n m s) u).calls)
       go u true f =
           subst (λ (u : ℕ). IsStack new.held.items (slice_index_or new.tops.items u 0) (lens_of (thread_of (after_step R every n m s) u).calls)) (sym (eqb-true u t f))
-          (subst (λ (ls : List ℕ). IsStack new.held.items (slice_index_or new.tops.items t 0) ls) (sym own_lens) (subst (λ (h : ℕ). IsStack new.held.items h (lens_by_kind R.program x.op m.did.did.kind (lens_of (thread_of s t).calls))) (sym at) own))
+          (subst (λ (ls : List ℕ). IsStack new.held.items (slice_index_or new.tops.items t 0) ls) (sym own_lens)
+          (subst (λ (h : ℕ). IsStack new.held.items h (lens_by_kind R.program x.op m.did.did.kind (lens_of (thread_of s t).calls))) (sym at) own))
       go u false f = apart (cases_lt u (length s.threads))
         where
           differ : u ≡ t → ⊥
@@ -137,10 +139,12 @@ set_length : (xs : List ℕ) (i x : ℕ) → length (slice_set xs i x) ≡ lengt
 set_length xs i x = length-set xs i x
 
 -- the calls after a step, as they are kept
-pub pass_is : (R : Reference) (n : ℕ) (m : Moment) (s : RunShadow) (x : Instr) → instr_in R.program m ≡ Some x → thread_in m < length s.threads → (p : NumberedProgram) → R.program ≡ p → (kind : StepKind) → m.did.did.kind ≡ kind →
+pub pass_is : (R : Reference) (n : ℕ) (m : Moment) (s : RunShadow) (x : Instr) → instr_in R.program m ≡ Some x → thread_in m < length s.threads
+    → (p : NumberedProgram) → R.program ≡ p → (kind : StepKind) → m.did.did.kind ≡ kind →
     (old new : Calls) (held : List Held) (tops : List ℕ) (thread before top : ℕ) → thread ≡ thread_in m → before ≡ slice_index_or old.tops.items thread 0 →
     ((h : ℕ) (ls : List ℕ) → IsStack old.held.items h ls → IsStack held h ls) → ((ls : List ℕ) → IsStack old.held.items before ls → IsStack held top (lens_by_kind p x.op kind ls)) →
-    tops ≡ slice_set old.tops.items thread top → ((h : ℕ) (ls : List ℕ) → IsStack held h ls → IsStack new.held.items h ls) → length new.tops.items ≡ length tops + length (lens_made p kind) →
+    tops ≡ slice_set old.tops.items thread top → ((h : ℕ) (ls : List ℕ) → IsStack held h ls → IsStack new.held.items h ls)
+    → length new.tops.items ≡ length tops + length (lens_made p kind) →
     ((u : ℕ) → length tops ≤ u → IsStack new.held.items (slice_index_or new.tops.items u 0) (slice_index_or (lens_made p kind) (u - length tops) [])) →
     ((u : ℕ) → u < length tops → slice_index_or new.tops.items u 0 ≡ slice_index_or tops u 0) → AreStacks old s → AreStacks new (after_step R every n m s)
 pass_is R n m s x stands begun p program kind did old new held tops thread before top t b kept own set more many made others a =
@@ -179,7 +183,8 @@ pass_is R n m s x stands begun p program kind did old new held tops thread befor
         ∙ (ap (λ (xs : List ℕ). slice_index_or xs u 0) set
         ∙ get_or-set_other old.tops.items thread u top 0 (λ z. o (z ∙ t)))
 
-    those : (u : ℕ) → length old.tops.items ≤ u → IsStack new.held.items (slice_index_or new.tops.items u 0) (slice_index_or (lens_made R.program m.did.did.kind) (u - length old.tops.items) [])
+    those : (u : ℕ) → length old.tops.items ≤ u → IsStack new.held.items (slice_index_or new.tops.items u 0)
+        (slice_index_or (lens_made R.program m.did.did.kind) (u - length old.tops.items) [])
     those u l =
         subst (λ (ls : List (List ℕ)). IsStack new.held.items (slice_index_or new.tops.items u 0) (slice_index_or ls (u - length old.tops.items) [])) lens_same
         (subst (λ (k : ℕ). IsStack new.held.items (slice_index_or new.tops.items u 0) (slice_index_or (lens_made p kind) (u - k) [])) as_long
@@ -189,7 +194,8 @@ pass_is R n m s x stands begun p program kind did old new held tops thread befor
 pub made_stack : (held : List Held) (tops new : List ℕ) (top l : ℕ) → new ≡ tops ++ top ∷ [] → IsStack held top (l ∷ []) → (u : ℕ) → length tops ≤ u →
     IsStack held (slice_index_or new u 0) (slice_index_or ((l ∷ []) ∷ []) (u - length tops) [])
 made_stack held tops new top l e h u le =
-    subst (λ (i : ℕ). IsStack held i (slice_index_or ((l ∷ []) ∷ []) (u - length tops) [])) (sym (ap (λ (xs : List ℕ). slice_index_or xs u 0) e ∙ get_or-append_right tops (top ∷ []) (length tops) u 0 refl le))
+    subst (λ (i : ℕ). IsStack held i (slice_index_or ((l ∷ []) ∷ []) (u - length tops) [])) (sym (ap (λ (xs : List ℕ). slice_index_or xs u 0) e
+    ∙ get_or-append_right tops (top ∷ []) (length tops) u 0 refl le))
     (go (u - length tops))
   where
     go : (i : ℕ) → IsStack held (slice_index_or (top ∷ []) i 0) (slice_index_or ((l ∷ []) ∷ []) i [])

@@ -36,7 +36,8 @@ callers_long L (rs ∷ rv ∷ cs) (rt ∷ []) h = absurd h.1
 callers_long L (rs ∷ rv ∷ cs) (rt ∷ ru ∷ ct) h = sym (length_like L rv ru h.1.0)
 
 -- the last of three tests that all hold
-picked : (e : Taken) (s : RunShadow) (a b c : Bool) (x y z w : Asked) → a ≡ true → b ≡ true → c ≡ true → Asks e s (if not a then x else if not b then y else if c then z else w) → Asks e s z
+picked : (e : Taken) (s : RunShadow) (a b c : Bool) (x y z w : Asked) → a ≡ true → b ≡ true → c ≡ true
+    → Asks e s (if not a then x else if not b then y else if c then z else w) → Asks e s z
 picked e s true true true x y z w f g l h = h
 picked e s true true false x y z w f g l h = absurd (true≢false (sym l))
 picked e s true false c x y z w f g l h = absurd (true≢false (sym g))

@@ -69,7 +69,8 @@ pub(crate) fn back_load(
 ) -> Result<Option<Decision>, AllocError>
     ensures step { IfOk result (λ o. IfSome o (λ z. step_of z ≡ n)) }
     ensures met { IfOk result (λ o. (e : Taken) (after before : RunShadow) → Leaves at.thread at.depth (is_target target) none after before
-        → ((r : ℕ) (v : Bool) → target ≡ Some r → IsMet after (register_demand at.thread at.depth r v) → AllByRecursion (IsMet before) (of_bytes (range_of a).start a.bytes) × (e.exact n ≡ true))
+        → ((r : ℕ) (v : Bool) → target ≡ Some r → IsMet after (register_demand at.thread at.depth r v)
+        → AllByRecursion (IsMet before) (of_bytes (range_of a).start a.bytes) × (e.exact n ≡ true))
         → AreMet after w.old → AreMet before w.new × IfSome o (λ z. has e z ≡ true)) }
 {
     let own = own_bytes(a);
@@ -93,7 +94,9 @@ fn stored(w: &Demanded, own: Bytes, frame: Bytes) -> Option<u64>
 /// That a store is exact, where it is no event and a byte has to be known that it may have written.
 fn store_fixed(w: &Demanded, a: Access, n: usize) -> Option<Decision>
     ensures step { IfSome result (λ z. step_of z ≡ n) }
-    ensures fixed { (e : Taken) (after : RunShadow) → ((b : ℕ) → (is_within (range_of a) b || is_within (frame_of a.pointer) b) ≡ true → a.event ≡ false → IsMet after (byte_demand b true) → e.exact n ≡ true)
+    ensures fixed { (e : Taken) (after : RunShadow)
+        → ((b : ℕ) → (is_within (range_of a) b || is_within (frame_of a.pointer) b) ≡ true → a.event ≡ false → IsMet after (byte_demand b true)
+        → e.exact n ≡ true)
         → AreMet after w.now → IfSome result (λ z. has e z ≡ true) }
 {
     if a.event {

@@ -1,6 +1,6 @@
 //! What events and allocations ask of their operands, the arguments of calls of functions that the program doesn't define.
 
-ghost use Rattle.std.specs.Prelude.{◌≡◌, ℕ, Bool, true, [], Some, IfSome, OnOk, if◌then◌else◌, slice_get};
+ghost use Rattle.std.specs.Prelude.{◌≡◌, true, [], Some, IfSome, OnOk, if◌then◌else◌, slice_get};
 ghost use Rattle.std.specs.List.{AllByRecursion};
 ghost use Rattle.pg_step.specs.Operands.{operands_of};
 ghost use Rattle.pg_trace.specs.declared.step.StepKind.TheVariants as kinds;
@@ -90,7 +90,8 @@ fn checked_count(op: &Op) -> usize
 
 /// The operands of an event that are checked have to be known.
 fn put_checked(w: &mut Demanded, at: Call, x: &Instr) -> Result<(), AllocError>
-    ensures { OnOk result ((s : RunShadow) (y : Seen) → thread_in y.moment ≡ at.thread → depth_of y ≡ at.depth → AllByRecursion (IsMet s) (all_of (operand_demands y x.now true) (rules.checked_of x.now.op))
+    ensures { OnOk result ((s : RunShadow) (y : Seen) → thread_in y.moment ≡ at.thread → depth_of y ≡ at.depth
+        → AllByRecursion (IsMet s) (all_of (operand_demands y x.now true) (rules.checked_of x.now.op))
         → AreMet s w.old → AreMet s w.new) }
 {
     for i in 0..checked_count(&x.op) {
@@ -111,7 +112,8 @@ fn is_start(kind: TurnKind) -> bool
 
 /// What an event asks that calls a function: a start asks for nothing.
 fn put_called(w: &mut Demanded, at: Call, x: &Instr, kind: TurnKind) -> Result<(), AllocError>
-    ensures { OnOk result ((s : RunShadow) (y : Seen) → thread_in y.moment ≡ at.thread → depth_of y ≡ at.depth → AllByRecursion (IsMet s) (checked_demands y x.now kind) → AreMet s w.old → AreMet s w.new) }
+    ensures { OnOk result ((s : RunShadow) (y : Seen) → thread_in y.moment ≡ at.thread → depth_of y ≡ at.depth
+        → AllByRecursion (IsMet s) (checked_demands y x.now kind) → AreMet s w.old → AreMet s w.new) }
 {
     if is_start(kind) {
         return Ok(());
@@ -143,7 +145,8 @@ fn put_written(
     x: &Instr,
     write: Option<Write>,
 ) -> Result<(), AllocError>
-    ensures { OnOk result ((s : RunShadow) (y : Seen) → thread_in y.moment ≡ at.thread → depth_of y ≡ at.depth → AllByRecursion (IsMet s) (write_demands y x.now (access_by write)) → AreMet s w.old → AreMet s w.new) }
+    ensures { OnOk result ((s : RunShadow) (y : Seen) → thread_in y.moment ≡ at.thread → depth_of y ≡ at.depth
+        → AllByRecursion (IsMet s) (write_demands y x.now (access_by write)) → AreMet s w.old → AreMet s w.new) }
 {
     match write {
         Some(_) => {
@@ -156,7 +159,8 @@ fn put_written(
 
 /// What an event asks: its operands that are checked, and the frame of the address to which it writes.
 pub(crate) fn put_event(w: &mut Demanded, at: Call, x: &Instr, e: &Event) -> Result<(), AllocError>
-    ensures { OnOk result ((d : Taken) (s : RunShadow) (y : Seen) → thread_in y.moment ≡ at.thread → depth_of y ≡ at.depth → AllByRecursion (IsMet s) (kind_demands d y x.now (kinds.Event e.now))
+    ensures { OnOk result ((d : Taken) (s : RunShadow) (y : Seen) → thread_in y.moment ≡ at.thread → depth_of y ≡ at.depth
+        → AllByRecursion (IsMet s) (kind_demands d y x.now (kinds.Event e.now))
         → AreMet s w.old → AreMet s w.new) }
 {
     put_called(w, at, x, e.kind)?;

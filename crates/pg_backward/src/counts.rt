@@ -196,7 +196,8 @@ fn push_made(
     made: Option<usize>,
 ) -> Result<(), AllocError>
     ensures many { OnOk result (length tops.new.items ≡ length tops.old.items + length (lens_some made)) }
-    ensures made { OnOk result ((u : ℕ) → length tops.old.items ≤ u → IsStack held.new.items (slice_index_or tops.new.items u 0) (slice_index_or (lens_some made) (u - length tops.old.items) [])) }
+    ensures made { OnOk result ((u : ℕ) → length tops.old.items ≤ u
+        → IsStack held.new.items (slice_index_or tops.new.items u 0) (slice_index_or (lens_some made) (u - length tops.old.items) [])) }
     ensures others { OnOk result ((u : ℕ) → u < length tops.old.items → slice_index_or tops.new.items u 0 ≡ slice_index_or tops.old.items u 0) }
     ensures kept { OnOk result ((h : ℕ) (ls : List ℕ) → IsStack held.old.items h ls → IsStack held.new.items h ls) }
 {

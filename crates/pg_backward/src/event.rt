@@ -124,7 +124,8 @@ pub(crate) fn back_event(
     e: &Event,
     count: usize,
 ) -> Result<(), AllocError>
-    ensures { OnOk result ((R : Reference) (d : Taken) (p : NumberedProgram) (r : AReferenceRun) (step : AStep) (counts : ACounts) (n : ℕ) (m : Moment) → IsLiveStep R d p r x.now step counts n m → IsCallOf m at
+    ensures { OnOk result ((R : Reference) (d : Taken) (p : NumberedProgram) (r : AReferenceRun) (step : AStep) (counts : ACounts) (n : ℕ) (m : Moment)
+        → IsLiveStep R d p r x.now step counts n m → IsCallOf m at
         → step.kind ≡ kinds.Event e.now → counts.present ≡ count → AreMet (known_at R d (suc n)) w.old → AreMet (known_at R d n) w.new) }
 {
     let printed = asks_printed(w, at, held(x.result, count), e.kind);

@@ -41,7 +41,8 @@ fn back_access(
     n: usize,
 ) -> Result<Option<Decision>, AllocError>
     ensures step { IfOk result (λ o. IfSome o (λ z. step_of z ≡ n)) }
-    ensures back { IfOk result (λ o. (R : Reference) (e : Taken) (p : NumberedProgram) (r : AReferenceRun) (step : AStep) (counts : ACounts) (m : Moment) → IsLiveStep R e p r x.now step counts n m → IsCallOf m at
+    ensures back { IfOk result (λ o. (R : Reference) (e : Taken) (p : NumberedProgram) (r : AReferenceRun) (step : AStep) (counts : ACounts) (m : Moment)
+        → IsLiveStep R e p r x.now step counts n m → IsCallOf m at
         → step.kind ≡ kinds.Access a → counts.present ≡ count → AreMet (known_at R e (suc n)) w.old → AreMet (known_at R e n) w.new × IfSome o (λ z. has e z ≡ true)) }
 {
     match &x.op {

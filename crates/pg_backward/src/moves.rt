@@ -243,7 +243,8 @@ fn take_parameters(
 ) -> Result<Vec<Wanted>, AllocError>
     ensures less { OnOk result (IsLess w.old w.new) }
     ensures wanted { IfOk result (λ v. (after before : RunShadow) → AreMet after w.old
-        → ((i : ℕ) (z : AValue) (b : Bool) → slice_get args.now i ≡ Some z → IsMet after (register_demand at.thread (suc at.depth) i b) → AllByRecursion (IsMet before) (of_value at.thread at.depth b z))
+        → ((i : ℕ) (z : AValue) (b : Bool) → slice_get args.now i ≡ Some z
+        → IsMet after (register_demand at.thread (suc at.depth) i b) → AllByRecursion (IsMet before) (of_value at.thread at.depth b z))
         → AreWanted before at.thread at.depth v.items) }
 {
     let mut wanted = Vec::new(alloc);
@@ -266,7 +267,8 @@ pub(crate) fn back_call(
     args: &[Value],
 ) -> Result<(), AllocError>
     ensures { OnOk result ((after before : RunShadow) → Leaves at.thread at.depth (is_target target) none after before
-        → ((i : ℕ) (z : AValue) (b : Bool) → slice_get args.now i ≡ Some z → IsMet after (register_demand at.thread (suc at.depth) i b) → AllByRecursion (IsMet before) (of_value at.thread at.depth b z))
+        → ((i : ℕ) (z : AValue) (b : Bool) → slice_get args.now i ≡ Some z
+        → IsMet after (register_demand at.thread (suc at.depth) i b) → AllByRecursion (IsMet before) (of_value at.thread at.depth b z))
         → AreMet after w.old → AreMet before w.new) }
 {
     let wanted = take_parameters(alloc, w, at, args)?;

@@ -79,7 +79,8 @@ fn back_returned(
     value: Option<Value>,
 ) -> Result<(), AllocError>
     ensures { OnOk result ((after before : RunShadow) → Leaves at.thread (at.depth - 1) (is_target target) none after before
-        → ((r : ℕ) (v : Bool) → target ≡ Some r → IsMet after (register_demand at.thread (at.depth - 1) r v) → 0 < at.depth → AllByRecursion (IsMet before) (of_optional at.thread at.depth v value))
+        → ((r : ℕ) (v : Bool) → target ≡ Some r → IsMet after (register_demand at.thread (at.depth - 1) r v)
+        → 0 < at.depth → AllByRecursion (IsMet before) (of_optional at.thread at.depth v value))
         → AreMet after w.old → AreMet before w.new) }
 {
     if at.depth == 0 {

@@ -1,6 +1,6 @@
 //! What a live step asks by itself under the decisions that are taken.
 
-ghost use Rattle.std.specs.Prelude.{◌≡◌, ◌||◌, ℕ, Bool, true, Some, IfSome, OnOk, slice_get};
+ghost use Rattle.std.specs.Prelude.{◌≡◌, ◌||◌, true, Some, IfSome, OnOk, slice_get};
 ghost use Rattle.std.specs.List.{AllByRecursion};
 ghost use Rattle.pg_step.specs.Operands.{operands_of};
 ghost use Rattle.pg_closed.specs.Known.{RunShadow, Seen};

@@ -1,6 +1,6 @@
 //! What the region of a freeable step asks: of each of its accesses the root of the path, and the cells from which it loads.
 
-ghost use Rattle.std.specs.Prelude.{◌≡◌, ◌<◌, ◌≤◌, ℕ, OnOk, Some, length, nat_lt, slice_get, take};
+ghost use Rattle.std.specs.Prelude.{◌≡◌, ◌<◌, ◌≤◌, OnOk, Some, length, nat_lt, slice_get, take};
 ghost use Rattle.std.specs.List.{AllByRecursion};
 ghost use Rattle.pg_closed.specs.Freeable.{FreeRegion};
 ghost use Rattle.pg_closed.specs.Known.{RunShadow, Seen};
@@ -23,7 +23,8 @@ use std::alloc::AllocError;
 
 /// The root of a path has to be known, whole or by its frame alone.
 fn put_root(w: &mut Demanded, at: Call, root: Root, whole: bool) -> Result<(), AllocError>
-    ensures { OnOk result ((s : RunShadow) (y : Seen) → thread_in y.moment ≡ at.thread → depth_of y ≡ at.depth → AllByRecursion (IsMet s) (root_demands y root whole) → AreMet s w.old → AreMet s w.new) }
+    ensures { OnOk result ((s : RunShadow) (y : Seen) → thread_in y.moment ≡ at.thread → depth_of y ≡ at.depth
+        → AllByRecursion (IsMet s) (root_demands y root whole) → AreMet s w.old → AreMet s w.new) }
 {
     match root {
         Root::Register(register) => {
@@ -113,7 +114,8 @@ fn put_one(
     n: usize,
     k: usize,
 ) -> Result<(), AllocError>
-    ensures { OnOk result ((l : ALandmark) (q : FreeRegion) (s : RunShadow) (y : Seen) → landmark_at r.now n ≡ Some l → l.region ≡ Some q → thread_in y.moment ≡ at.thread → depth_of y ≡ at.depth
+    ensures { OnOk result ((l : ALandmark) (q : FreeRegion) (s : RunShadow) (y : Seen)
+        → landmark_at r.now n ≡ Some l → l.region ≡ Some q → thread_in y.moment ≡ at.thread → depth_of y ≡ at.depth
         → AllByRecursion (IsMet s) (region_demands y (Some q)) → AreMet s w.old → AreMet s w.new) }
 {
     if let Some(access) = r.access(n, k) {

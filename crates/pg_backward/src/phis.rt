@@ -72,7 +72,8 @@ fn take_phi(
 ) -> Result<(), AllocError>
     ensures without { OnOk result (Without at.thread at.depth (is_target x.now.result) none w.old w.new) }
     ensures wanted { OnOk result ((s : RunShadow) → ((i : ℕ) (v : Bool) → x.now.result ≡ Some i → i < count → asked_of w.old at.thread at.depth i ≡ Some v
-        → AllByRecursion (IsMet s) (of_optional at.thread at.depth v (incoming_from (incoming_of x.now.op) from))) → AreWanted s at.thread at.depth wanted.old.items → AreWanted s at.thread at.depth wanted.new.items) }
+        → AllByRecursion (IsMet s) (of_optional at.thread at.depth v (incoming_from (incoming_of x.now.op) from)))
+        → AreWanted s at.thread at.depth wanted.old.items → AreWanted s at.thread at.depth wanted.new.items) }
 {
     if let Some(whole) = leave(w, at, x.result) {
         if is_within(x.result, count) {

@@ -1,11 +1,10 @@
 //! Whether something has to be known that the region of a freeable step may set.
 
-ghost use Rattle.std.specs.Prelude.{◌≡◌, ◌<◌, ◌&&◌, ℕ, Bool, true, Some, None, IfSome};
+ghost use Rattle.std.specs.Prelude.{◌≡◌, ◌<◌, ◌&&◌, true, Some, None, IfSome};
 ghost use Rattle.pg_accesses.specs.Tables.{in_table};
 ghost use Rattle.pg_closed.specs.Freeable.{frame_of};
 ghost use Rattle.pg_closed.specs.Shadows.{is_within};
 ghost use Rattle.pg_least.specs.Keeps.{may_write};
-ghost use Rattle.pg_demanded.specs.Asked.{asked_of};
 ghost use Rattle.pg_reference.specs.Kept.{landmark_at};
 ghost use Rattle.pg_backward.specs.Sets.{AsksByte, AsksRegion, AsksRegister};
 

@@ -1,6 +1,6 @@
 //! How many registers the calls of a run's steps have.
 
-ghost use Rattle.std.specs.Prelude.{◌≡◌, ◌+◌, ℕ, suc, ℤ, List, [], Some, IfOk, OnOk, length, slice_get};
+ghost use Rattle.std.specs.Prelude.{◌≡◌, ◌+◌, suc, ℤ, List, [], Some, IfOk, OnOk, length, slice_get};
 ghost use Rattle.pg_ir.specs.declared.ids.InstrId.{InstrId};
 ghost use Rattle.pg_closed.specs.Freeable.{Regions};
 ghost use Rattle.pg_closed.specs.Known.{Reference, RunShadow};

@@ -1,4 +1,4 @@
-ghost use Rattle.std.specs.Prelude.{◌≡◌, ℕ, IfSome, Option, is_some, length, option_map, slice_get};
+ghost use Rattle.std.specs.Prelude.{◌≡◌, ℕ, IfNone, IfSome, None, Option, [], false, is_some, length, option_map, slice_get};
 ghost use Rattle.std.specs.Option.{option_copied};
 ghost use Rattle.pg_accesses.specs.Tables.{in_table};
 ghost use Rattle.pg_closed.specs.Freeable.{FreeRegion};
@@ -118,6 +118,7 @@ impl ReferenceRun {
     /// Whether the region that makes a step freeable, or a `phi` of its join, may set a register; no where it isn't freeable.
     pub fn sets(&self, n: usize, r: u32) -> bool
         ensures sets { IfSome (landmark_at self.now n) (λ l. IfSome l.region (λ f. result ≡ f.sets r)) }
+        ensures sets_none { IfSome (landmark_at self.now n) (λ l. IfNone l.region (result ≡ false)) }
     {
         match self.region(n) {
             Some(region) => is_in(region.sets.as_slice(), r),
@@ -129,6 +130,7 @@ impl ReferenceRun {
     /// isn't freeable.
     pub fn marks(&self, n: usize) -> &[bool]
         ensures marks { IfSome (landmark_at self.now n) (λ l. IfSome l.region (λ f. (r : ℕ) → f.sets r ≡ in_table result.now r)) }
+        ensures no_marks { IfSome (landmark_at self.now n) (λ l. IfNone l.region (result.now ≡ [])) }
     {
         match self.region(n) {
             Some(region) => region.sets.as_slice(),
@@ -139,6 +141,7 @@ impl ReferenceRun {
     /// How many accesses the region has that makes a step freeable; 0 where it isn't freeable.
     pub fn access_count(&self, n: usize) -> usize
         ensures count { IfSome (landmark_at self.now n) (λ l. IfSome l.region (λ f. result ≡ length f.accesses)) }
+        ensures no_count { IfSome (landmark_at self.now n) (λ l. IfNone l.region (result ≡ 0)) }
     {
         match self.free(n) {
             Some(free) => match self.regions.get(free.region as usize) {
@@ -156,6 +159,7 @@ impl ReferenceRun {
     /// the step isn't freeable.
     pub fn access(&self, n: usize, k: usize) -> Option<FreeAccess>
         ensures access { IfSome (landmark_at self.now n) (λ l. IfSome l.region (λ f. option_map access_as result ≡ slice_get f.accesses k)) }
+        ensures no_access { IfSome (landmark_at self.now n) (λ l. IfNone l.region (result ≡ None)) }
     {
         match self.free(n) {
             Some(free) => match self.regions.get(free.region as usize) {

@@ -18,7 +18,7 @@ use Rattle.pg_least.proofs.Zips.{cases_in, here, none_in}
 use Rattle.pg_demands.specs.Along.{known_at}
 use Rattle.pg_demands.proofs.Back.{live_before}
 use Rattle.pg_slice_fast.specs.Rivals.{AreDisturbed, AreShared, IsLiveAt}
-use Rattle.pg_walk.proofs.At.{at_step, of_those, the_link}
+use Rattle.pg_backward.proofs.At.{at_step, of_those, the_link}
 
 -- a list with an element that passes
 pub any_in : {A : Type 0} (f : A → Bool) (xs : List A) (x : A) → Contains xs x → f x ≡ true → list_any f xs ≡ true

@@ -25,19 +25,22 @@ any_at f g (y ∷ xs) (suc k) x h q = rw (any_at f g xs k x h q) (any_true (f (g
 abbrev frame_print : FreeAccess → Footprint
 frame_print a = record { bytes = frame_of a.at.last; writes = a.writes }
 
-in_region : (f : Footprint → Bool) (o : Option FreeRegion) (k : ℕ) (res : Option ACodeAccess) (a : ACodeAccess) → res ≡ Some a → IfSome o (λ (q : FreeRegion). option_map access_as res ≡ slice_get q.accesses k) →
+in_region : (f : Footprint → Bool) (o : Option FreeRegion) (k : ℕ) (res : Option ACodeAccess) (a : ACodeAccess) → res ≡ Some a
+    → IfSome o (λ (q : FreeRegion). option_map access_as res ≡ slice_get q.accesses k) →
     f (footprint_of (record { word = a.last; writes = a.writes })) ≡ true → IfSome o (λ (q : FreeRegion). list_any f (prints_in o) ≡ true)
 in_region f None k res a e h q = tt
 in_region f (Some r) k res a e h q = any_at f frame_print r.accesses k (access_as a) (sym h ∙ ap (option_map access_as) e) q
 
 -- the frame with this number of a region passes a test
 pub region_has : (f : Footprint → Bool) (o : Option Landmark) (k : ℕ) (res : Option ACodeAccess) (a : ACodeAccess) → res ≡ Some a →
-    IfSome o (λ (l : Landmark). IfSome l.region (λ (q : FreeRegion). option_map access_as res ≡ slice_get q.accesses k)) → (b : Bool) → b ≡ f (footprint_of (record { word = a.last; writes = a.writes })) →
+    IfSome o (λ (l : Landmark). IfSome l.region (λ (q : FreeRegion). option_map access_as res ≡ slice_get q.accesses k))
+    → (b : Bool) → b ≡ f (footprint_of (record { word = a.last; writes = a.writes })) →
     IfSome o (λ (l : Landmark). IfSome l.region (λ (q : FreeRegion). b ≡ true → list_any f (prints_in l.region) ≡ true))
 region_has f None k res a e h b c = tt
 region_has f (Some l) k res a e h b c = go l.region h
   where
-    go : (o : Option FreeRegion) → IfSome o (λ (q : FreeRegion). option_map access_as res ≡ slice_get q.accesses k) → IfSome o (λ (q : FreeRegion). b ≡ true → list_any f (prints_in o) ≡ true)
+    go : (o : Option FreeRegion) → IfSome o (λ (q : FreeRegion). option_map access_as res ≡ slice_get q.accesses k)
+        → IfSome o (λ (q : FreeRegion). b ≡ true → list_any f (prints_in o) ≡ true)
     go None h = tt
     go (Some r) h = λ q. in_region f (Some r) k res a e h (sym c ∙ q)
 
@@ -49,7 +52,8 @@ pub region_meets : {B : Type 0} (f : Footprint → B → Bool) (o : Option Landm
 region_meets f None other k res a e h b c = tt
 region_meets {B} f (Some l) other k res a e h b c = go l.region h other c
   where
-    some_region : (r : FreeRegion) (y : B) → IfSome (Some r) (λ (q : FreeRegion). list_any (λ (x : Footprint). f x y) (prints_in (Some r)) ≡ true) → list_any (λ (x : Footprint). f x y) (prints_in (Some r)) ≡ true
+    some_region : (r : FreeRegion) (y : B) → IfSome (Some r) (λ (q : FreeRegion). list_any (λ (x : Footprint). f x y) (prints_in (Some r)) ≡ true)
+        → list_any (λ (x : Footprint). f x y) (prints_in (Some r)) ≡ true
     some_region r y q = q
 
     go : (o : Option FreeRegion) → IfSome o (λ (q : FreeRegion). option_map access_as res ≡ slice_get q.accesses k) → (other : Option B) →

@@ -1,10 +1,8 @@
 -- What is live stays so with more decisions, and decisions that are owed stay within each closed set.
-use Rattle.std.proofs.Common.{◌≡◌, ℕ, zero, suc, ◌-◌, Bool, true, false, List, [], ◌∷◌, Option, Some, None, refl, sym, ap, ◌∙◌, subst, inl, inr, ◌⊎◌, arith, replicate}
+use Rattle.std.proofs.Common.{◌≡◌, ℕ, Bool, true, false, List, Option, Some, None, sym, subst, inl, inr, ◌⊎◌, replicate}
 use Rattle.std.specs.Prelude.{IfSome, slice_get, slice_index_or}
-use Rattle.std.proofs.lemmas.Bool.{false≢true}
 use Rattle.pg_closed.specs.declared.decision.Decision.{Decision}
 use Rattle.pg_closed.specs.Closed.{AreWithin}
-use Rattle.pg_closed.specs.Extents.{Extent, is_live}
 use Rattle.pg_closed.specs.Known.{Reference, Taken, has}
 use Rattle.pg_closed.specs.Moments.{Moment}
 use Rattle.pg_least.proofs.Stands.{live_more}
@@ -39,7 +37,10 @@ pub widens_none : (r : ReferenceRun) (hs : List ℕ) (xs : List Step) (d : Taken
 widens_none r hs xs d = record { by = λ p regions gated input marks keeps holds e closed w. w }
 
 pub widens_then : (r : ReferenceRun) (hs : List ℕ) (xs : List Step) (a b c : Taken) → Widens r hs xs a b → Widens r hs xs b c → Widens r hs xs a c
-widens_then r hs xs a b c f g = record { by = λ p regions gated input marks keeps holds e closed w. g.by p regions gated input marks keeps holds e closed (f.by p regions gated input marks keeps holds e closed w) }
+widens_then r hs xs a b c f g = record {
+  by = λ p regions gated input marks keeps holds e closed w.
+      g.by p regions gated input marks keeps holds e closed (f.by p regions gated input marks keeps holds e closed w);
+}
 
 pub widens_one : (r : ReferenceRun) (hs : List ℕ) (xs : List Step) (d new : Taken) (x : Decision) → IsOwed r hs xs d x →
     ((y : Decision) → has new y ≡ true → (has d y ≡ true) ⊎ (x ≡ y)) → Widens r hs xs d new
@@ -49,7 +50,8 @@ widens_one r hs xs d new x owed only = record { by = λ p regions gated input ma
     go e h y w (inl q) = w y q
     go e h y w (inr q) = subst (λ (z : Decision). has e z ≡ true) q h
 
-pub both_some : {A B : Type 0} (o : Option A) (q : Option B) (b : Bool) (P : A → B → Type 0) → b ≡ true → IfSome o (λ (x : A). IfSome q (λ (y : B). b ≡ true → P x y)) → IfSome o (λ (x : A). IfSome q (λ (y : B). P x y))
+pub both_some : {A B : Type 0} (o : Option A) (q : Option B) (b : Bool) (P : A → B → Type 0) → b ≡ true
+    → IfSome o (λ (x : A). IfSome q (λ (y : B). b ≡ true → P x y)) → IfSome o (λ (x : A). IfSome q (λ (y : B). P x y))
 both_some None q b P e h = tt
 both_some (Some x) None b P e h = tt
 both_some (Some x) (Some y) b P e h = h e

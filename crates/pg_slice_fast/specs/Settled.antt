@@ -1,11 +1,10 @@
 -- Of which steps it is known that they are live, and what is owed by their frames.
-use Rattle.std.specs.Prelude.{◌≡◌, ◌==◌, ℕ, suc, ℤ, List, Bool, true, false, Some, slice_get, slice_index_or}
+use Rattle.std.specs.Prelude.{◌≡◌, ◌==◌, ℕ, ℤ, List, Bool, true, false, Some, slice_get, slice_index_or}
 use Rattle.pg_ir.specs.declared.ids.InstrId.{InstrId}
 use Rattle.pg_ir.specs.Program.{NumberedProgram}
 use Rattle.pg_trace.specs.declared.step.Step.{Step}
 use Rattle.pg_trace.specs.Races.{overlap}
 use Rattle.pg_closed.specs.Closed.{AreWithin, IsClosed}
-use Rattle.pg_closed.specs.Extents.{Extent, is_live}
 use Rattle.pg_closed.specs.Freeable.{Regions}
 use Rattle.pg_closed.specs.Known.{Taken, has}
 use Rattle.pg_closed.specs.declared.decision.Decision.{Decision}

@@ -1,7 +1,8 @@
-//! The slice of a reference run, in which a freeable branch step that another thread's step disturbs is found with all that
-//! it leaves live, and not by a pass for each.
+//! The slice of a reference run by few passes: what a walk from its end back asks, and what live steps ask by their frames, is
+//! taken in before each.
 #![tactic(auto)]
 
+mod meetings;
 mod prints;
 mod rivals;
 mod slicing;

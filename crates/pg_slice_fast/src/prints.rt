@@ -109,7 +109,8 @@ fn meets_step(a: Print, r: &ReferenceRun, step: &Step, y: usize) -> bool
 /// Whether the frame of the access with this number of a freeable step's region, if there is one, meets one of a live step.
 fn one_meets(r: &ReferenceRun, n: usize, k: usize, step: &Step, y: usize) -> bool
     requires { y < step_count r.now }
-    ensures { IfSome (landmark_at r.now n) (λ l. IfSome l.region (λ f. IfSome (landmark_at r.now y) (λ q. result ≡ true → any_conflict (prints_in l.region) (print_of (access_of step.now) ++ prints_in q.region) ≡ true))) }
+    ensures { IfSome (landmark_at r.now n) (λ l. IfSome l.region
+        (λ f. IfSome (landmark_at r.now y) (λ q. result ≡ true → any_conflict (prints_in l.region) (print_of (access_of step.now) ++ prints_in q.region) ≡ true))) }
 {
     match r.access(n, k) {
         Some(access) => meets_step(
@@ -129,7 +130,8 @@ fn one_meets(r: &ReferenceRun, n: usize, k: usize, step: &Step, y: usize) -> boo
 pub(crate) fn region_meets(r: &ReferenceRun, n: usize, step: &Step, y: usize) -> bool
     requires number { n < step_count r.now }
     requires other { y < step_count r.now }
-    ensures { IfSome (landmark_at r.now n) (λ l. IfSome (landmark_at r.now y) (λ q. result ≡ true → any_conflict (prints_in l.region) (print_of (access_of step.now) ++ prints_in q.region) ≡ true)) }
+    ensures { IfSome (landmark_at r.now n) (λ l. IfSome (landmark_at r.now y) (λ q. result ≡ true →
+        any_conflict (prints_in l.region) (print_of (access_of step.now) ++ prints_in q.region) ≡ true)) }
 {
     if !r.is_free(n) {
         return false;

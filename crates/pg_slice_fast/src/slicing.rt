@@ -73,7 +73,8 @@ pub fn slice(
     requires intervals { intervals.now ≡ intervals_of Recorded t.now.steps }
     requires few { length t.now.steps < 4294967296 }
     ensures slice { IfOk result (λ s. (regions : Regions) (gated : List InstrId) (input : List ℤ) → HasLandmarks (reference_of p.now regions gated input t.now.steps) r.now
-        → ExtentsKeep (reference_of p.now regions gated input t.now.steps) → IsSlice (reference_of p.now regions gated input t.now.steps) (taken s.decisions.pinned.items s.decisions.exact.items)) }
+        → ExtentsKeep (reference_of p.now regions gated input t.now.steps)
+        → IsSlice (reference_of p.now regions gated input t.now.steps) (taken s.decisions.pinned.items s.decisions.exact.items)) }
     ensures admits { IfOk result (λ s. (regions : Regions) (gated : List InstrId) (input other : List ℤ) → HasLandmarks (reference_of p.now regions gated input t.now.steps) r.now
         → is_admitted other s.precondition ≡ admits (reference_of p.now regions gated input t.now.steps) (taken s.decisions.pinned.items s.decisions.exact.items) other) }
     ensures pinned { IfOk result (λ s. All (λ n. n < length t.now.steps) s.decisions.pinned.items) }

@@ -1,21 +1,20 @@
 //! What live steps ask by what they are, by their frames and by those of others: the first rule, the fourth and the fifth.
-ghost use Rattle.std.specs.Prelude.{◌≡◌, ◌<◌, ◌≤◌, ◌+◌, ◌⊎◌, ◌&&◌, ℕ, List, true, false, not, nat_lt, IfSome, IfOk, OnOk, length, replicate, slice_index_or};
+ghost use Rattle.std.specs.Prelude.{◌≡◌, ◌<◌, ◌≤◌, ℕ, List, true, false, IfOk, OnOk, length, slice_index_or};
 ghost use Rattle.pg_closed.specs.Known as known;
 ghost use Rattle.pg_closed.specs.Known.{Taken};
 ghost use Rattle.pg_closed.specs.declared.decision.Decision.TheVariants as decisions;
 ghost use Rattle.pg_reference.specs.declared.run.ReferenceRun.{ReferenceRun as AReferenceRun};
 ghost use Rattle.pg_trace.specs.declared.step.Step.{Step as AStep};
 ghost use Rattle.pg_closed.specs.Closed.{AreWithin};
-ghost use Rattle.pg_closed.specs.Rules as rules;
 ghost use Rattle.pg_decisions.specs.Steps.{AreOf, left_by, step_of, taken_by};
 ghost use Rattle.pg_intervals.specs.Intervals.{intervals_of};
 ghost use Rattle.pg_intervals.specs.declared.interval.Turns.TheVariants.{Recorded};
 ghost use Rattle.pg_reference.specs.Kept.{step_count};
-ghost use Rattle.pg_slice_fast.specs.Settled.{AreLive, AreTogether, Disturbs, IsOwed, Shares, Widens};
+ghost use Rattle.pg_slice_fast.specs.Settled.{AreLive, IsOwed, Widens};
 ghost use Rattle.pg_walk.specs.Settled.{ArePinned, AreSettled};
 
-use crate::prints::{accesses_meet, region_meets};
-use crate::rivals::{Places, Rivals, places_of};
+use crate::meetings::{disturbing, sharing};
+use crate::rivals::Rivals;
 use pg_closed::Decision;
 use pg_decisions::DecisionSet;
 use pg_intervals::Interval;
@@ -23,221 +22,8 @@ use pg_reference::ReferenceRun;
 use pg_trace::{Step, StepKind, Trace};
 use pg_walk::extents::is_settled;
 use pg_walk::holders::holder_at;
-use pg_walk::marks::{mark_at, no_marks, set_mark};
+use pg_walk::marks::{no_marks, set_mark};
 use std::alloc::{AllocError, Global};
-
-/// Whether intervals overlap.
-fn overlap(x: Interval, y: Interval) -> bool
-    ensures { result ≡ (not (nat_lt x.high y.low) && not (nat_lt y.high x.low)) }
-{
-    !(x.high < y.low) && !(y.high < x.low)
-}
-
-/// The interval of a step.
-fn interval_at(intervals: &[Interval], n: usize) -> Interval
-    requires { n < length intervals.now }
-    ensures { result ≡ slice_index_or intervals.now n result }
-{
-    intervals[n]
-}
-
-/// Whether two steps are of different threads, in overlapping intervals.
-fn are_together(t: &Trace, intervals: &[Interval], n: usize, y: usize) -> bool
-    requires intervals { intervals.now ≡ intervals_of Recorded t.now.steps }
-    requires number { n < length t.now.steps }
-    requires other { y < length t.now.steps }
-    ensures { result ≡ true → AreTogether t.now.steps n y }
-{
-    let x = t.step(n);
-    let z = t.step(y);
-    if x.thread.0 == z.thread.0 {
-        return false;
-    }
-    let i = interval_at(intervals, n);
-    let j = interval_at(intervals, y);
-    overlap(i, j)
-}
-
-/// Whether a step disturbs a freeable one.
-fn disturbs(t: &Trace, intervals: &[Interval], r: &ReferenceRun, n: usize, y: usize) -> bool
-    requires count { step_count r.now ≡ length t.now.steps }
-    requires intervals { intervals.now ≡ intervals_of Recorded t.now.steps }
-    requires number { n < length t.now.steps }
-    requires other { y < length t.now.steps }
-    ensures { result ≡ true → Disturbs r.now t.now.steps n y }
-{
-    if !are_together(t, intervals, n, y) {
-        return false;
-    }
-    let z = t.step(y);
-    region_meets(r, n, &z, y)
-}
-
-/// Whether a step is a load or a store that is no event.
-fn is_plain(step: &Step) -> bool
-    ensures { result ≡ rules.is_plain step.now.kind }
-{
-    match &step.kind {
-        StepKind::Access(a) => !a.event,
-        _ => false,
-    }
-}
-
-/// Whether a step is a load or a store that is no event and whose frame meets that of another's access.
-fn shares(t: &Trace, intervals: &[Interval], n: usize, y: usize) -> bool
-    requires intervals { intervals.now ≡ intervals_of Recorded t.now.steps }
-    requires number { n < length t.now.steps }
-    requires other { y < length t.now.steps }
-    ensures { result ≡ true → Shares t.now.steps n y }
-{
-    if !are_together(t, intervals, n, y) {
-        return false;
-    }
-    let x = t.step(n);
-    let z = t.step(y);
-    if !is_plain(&x) {
-        return false;
-    }
-    accesses_meet(&x, &z)
-}
-
-/// The place behind one that lies before another.
-fn behind(place: u64, to: u64) -> u64
-    requires { place < to }
-    ensures { result ≡ place + 1 }
-{
-    let _end = to;
-    place + 1
-}
-
-/// Whether a step is live and disturbs a freeable one.
-fn is_disturbing(
-    t: &Trace,
-    intervals: &[Interval],
-    r: &ReferenceRun,
-    live: &[bool],
-    n: usize,
-    y: usize,
-) -> bool
-    requires count { step_count r.now ≡ length t.now.steps }
-    requires intervals { intervals.now ≡ intervals_of Recorded t.now.steps }
-    requires number { n < length t.now.steps }
-    ensures { result ≡ true → (y < length t.now.steps) × (slice_index_or live.now y false ≡ true) × Disturbs r.now t.now.steps n y }
-{
-    if y >= t.len() {
-        return false;
-    }
-    if !mark_at(live, y) {
-        return false;
-    }
-    disturbs(t, intervals, r, n, y)
-}
-
-/// A live step among those at these places that disturbs a freeable one.
-fn disturbing_at(
-    rivals: &Rivals,
-    t: &Trace,
-    intervals: &[Interval],
-    r: &ReferenceRun,
-    live: &[bool],
-    n: usize,
-    places: Places,
-) -> Option<usize>
-    requires count { step_count r.now ≡ length t.now.steps }
-    requires intervals { intervals.now ≡ intervals_of Recorded t.now.steps }
-    requires number { n < length t.now.steps }
-    ensures { IfSome result (λ y. (y < length t.now.steps) × (slice_index_or live.now y false ≡ true) × Disturbs r.now t.now.steps n y) }
-{
-    let mut places = places;
-    while let Some(rival) = rivals.first_in(places) {
-        if is_disturbing(t, intervals, r, live, n, rival.step) {
-            return Some(rival.step);
-        }
-        places.from = behind(rival.place, places.to);
-    }
-    None
-}
-
-/// A live step that disturbs a freeable one by the access with this number of its region.
-fn disturbing_one(
-    rivals: &Rivals,
-    t: &Trace,
-    intervals: &[Interval],
-    r: &ReferenceRun,
-    live: &[bool],
-    n: usize,
-    k: usize,
-) -> Option<usize>
-    requires count { step_count r.now ≡ length t.now.steps }
-    requires intervals { intervals.now ≡ intervals_of Recorded t.now.steps }
-    requires number { n < length t.now.steps }
-    ensures { IfSome result (λ y. (y < length t.now.steps) × (slice_index_or live.now y false ≡ true) × Disturbs r.now t.now.steps n y) }
-{
-    match r.access(n, k) {
-        Some(access) => disturbing_at(rivals, t, intervals, r, live, n, places_of(access.last)),
-        None => None,
-    }
-}
-
-/// A live step that disturbs a freeable one.
-fn disturbing(
-    rivals: &Rivals,
-    t: &Trace,
-    intervals: &[Interval],
-    r: &ReferenceRun,
-    live: &[bool],
-    n: usize,
-) -> Option<usize>
-    requires count { step_count r.now ≡ length t.now.steps }
-    requires intervals { intervals.now ≡ intervals_of Recorded t.now.steps }
-    requires number { n < length t.now.steps }
-    ensures { IfSome result (λ y. (y < length t.now.steps) × (slice_index_or live.now y false ≡ true) × Disturbs r.now t.now.steps n y) }
-{
-    for k in 0..r.access_count(n) {
-        if let Some(y) = disturbing_one(rivals, t, intervals, r, live, n, k) {
-            return Some(y);
-        }
-    }
-    None
-}
-
-/// Whether a step is live and its access meets that of a load or a store that is no event.
-fn is_sharing(t: &Trace, intervals: &[Interval], live: &[bool], n: usize, y: usize) -> bool
-    requires intervals { intervals.now ≡ intervals_of Recorded t.now.steps }
-    requires number { n < length t.now.steps }
-    ensures { result ≡ true → (y < length t.now.steps) × (slice_index_or live.now y false ≡ true) × Shares t.now.steps n y }
-{
-    if y >= t.len() {
-        return false;
-    }
-    if !mark_at(live, y) {
-        return false;
-    }
-    shares(t, intervals, n, y)
-}
-
-/// A live step whose access meets that of a load or a store that is no event.
-fn sharing(
-    rivals: &Rivals,
-    t: &Trace,
-    intervals: &[Interval],
-    live: &[bool],
-    n: usize,
-    word: u64,
-) -> Option<usize>
-    requires intervals { intervals.now ≡ intervals_of Recorded t.now.steps }
-    requires number { n < length t.now.steps }
-    ensures { IfSome result (λ y. (y < length t.now.steps) × (slice_index_or live.now y false ≡ true) × Shares t.now.steps n y) }
-{
-    let mut places = places_of(word);
-    while let Some(rival) = rivals.first_in(places) {
-        if is_sharing(t, intervals, live, n, rival.step) {
-            return Some(rival.step);
-        }
-        places.from = behind(rival.place, places.to);
-    }
-    None
-}
 
 /// What is found along a run: which steps are live, which branch steps are settled, since they and those in whose extents they
 /// stand are pinned, and the last steps that may access each frame.
@@ -383,7 +169,8 @@ fn mark_live(s: &mut Spread, n: usize)
 /// A live branch step is settled where it is pinned.
 fn mark_settled(s: &mut Spread, d: &DecisionSet, n: usize)
     ensures live { s.new.live.items ≡ s.old.live.items }
-    ensures settled { (hs : List ℕ) → ArePinned hs (taken_by d.now) (slice_index_or hs n 0) → AreSettled hs (taken_by d.now) s.old.settled.items → AreSettled hs (taken_by d.now) s.new.settled.items }
+    ensures settled { (hs : List ℕ) → ArePinned hs (taken_by d.now) (slice_index_or hs n 0)
+        → AreSettled hs (taken_by d.now) s.old.settled.items → AreSettled hs (taken_by d.now) s.new.settled.items }
 {
     if d.is_pinned(n) {
         set_mark(&mut s.settled, n);

@@ -30,7 +30,8 @@ abbrev pub GoesBack : NumberedProgram → ReferenceRun → ℕ → Step → Inst
 GoesBack p r n step x counts w v d new =
     (R : Reference) (e : Taken) (m : Moment) → IsLiveStep R e p r x step counts n m → AreWithin d e → AreMet (known_at R e (suc n)) w → AreMet (known_at R e n) v × AreWithin new e
 
-pub live_walks : (R : Reference) (p : NumberedProgram) (r : ReferenceRun) (hs : List ℕ) (all : List Counts) (told : IsTold R r hs all) → R.program ≡ p → (n : ℕ) (m : Moment) → slice_get R.moments n ≡ Some m →
+pub live_walks : (R : Reference) (p : NumberedProgram) (r : ReferenceRun) (hs : List ℕ) (all : List Counts) (told : IsTold R r hs all)
+    → R.program ≡ p → (n : ℕ) (m : Moment) → slice_get R.moments n ≡ Some m →
     (step : Step) → m.did.did ≡ step → (x : Instr) → slice_get p.instrs step.instr.0 ≡ Some x → (counts : Counts) → ((c : Counts) → slice_get all n ≡ Some c → counts ≡ c) →
     (w v : Demanded) (d new e : Taken) → IsClosed R e → GoesBack p r n step x counts w v d new → ArePinned hs d (slice_index_or hs n 0) → Walks R e (suc n) w d → Walks R e n v new
 live_walks R p r hs all told program n m q step did x at counts these w v d new e closed back pinned a =

@@ -16,7 +16,7 @@ use Rattle.pg_reference.specs.Kept.{landmark_at}
 use Rattle.pg_reference.specs.Landmarks.{Landmark, landmark_of}
 use Rattle.pg_slice.specs.Given.{HasLandmarks}
 use Rattle.pg_walk.specs.Chains.{AreHeld, AreOlder, Holds, IsChain, IsHeld, IsLeft, IsNoted, begun_by}
-use Rattle.pg_walk.proofs.At.{at_step, next_step, of_every}
+use Rattle.pg_backward.proofs.At.{at_step, next_step, of_every}
 use Rattle.pg_demands.specs.Along.{known_at, known_from}
 use Rattle.pg_ir.specs.declared.instr.Instr.{Instr}
 use Rattle.pg_ir.specs.Program.{NumberedProgram}
@@ -98,7 +98,8 @@ get_last [] x = refl
 get_last (y ∷ xs) x = get_last xs x
 
 -- with the extent of a freeable step
-pub held_begun : (r : ReferenceRun) (holders : List ℕ) (n before depth : ℕ) (l : Landmark) (region : Option FreeRegion) (es : List Extent) → length holders ≡ n → landmark_at r n ≡ Some l → l.depth ≡ depth →
+pub held_begun : (r : ReferenceRun) (holders : List ℕ) (n before depth : ℕ) (l : Landmark) (region : Option FreeRegion) (es : List Extent)
+    → length holders ≡ n → landmark_at r n ≡ Some l → l.depth ≡ depth →
     l.region ≡ region → IsHeld r holders before es → IsHeld r (holders ++ before ∷ []) (begun_by region n before) (begun n depth region es)
 held_begun r holders n before depth l None es c a d g k = held_more r holders (before ∷ []) before es k
 held_begun r holders n before depth l (Some q) es c a d g k = record {
@@ -169,7 +170,8 @@ module _ (R : Reference) (keeps : ExtentsKeep R) (r : ReferenceRun) (n : ℕ) (m
   abbrev t : ℕ
   t = thread_in m
 
-  pub held_next : (holders old new : List ℕ) (inner left depth : ℕ) (edge : Option ℕ) (l : Landmark) → landmark_at r n ≡ Some l → l.depth ≡ length m.calls → l.edge ≡ edge_of R.program m m.did.did.kind → l.region ≡ region_in R m →
+  pub held_next : (holders old new : List ℕ) (inner left depth : ℕ) (edge : Option ℕ) (l : Landmark) → landmark_at r n ≡ Some l
+      → l.depth ≡ length m.calls → l.edge ≡ edge_of R.program m m.did.did.kind → l.region ≡ region_in R m →
       length holders ≡ n → depth ≡ l.depth → edge ≡ l.edge → inner ≡ begun_by l.region n (slice_index_or old t 0) →
       ((es : List Extent) → AreStacked depth edge es → IsHeld r (holders ++ slice_index_or old t 0 ∷ []) inner es →
       IsHeld r (holders ++ slice_index_or old t 0 ∷ []) left (filter (λ (e : Extent). not (ends depth edge e)) es)) →
@@ -183,7 +185,8 @@ module _ (R : Reference) (keeps : ExtentsKeep R) (r : ReferenceRun) (n : ℕ) (m
       more : List ℕ
       more = holders ++ slice_index_or old t 0 ∷ []
 
-      earlier : (j : ℕ) (k : Moment) → slice_get R.moments j ≡ Some k → (j < n) ⊎ (n ≤ j) → j < suc n → IsHeld r more (slice_index_or more j 0) (thread_of (known_at R every j) (thread_in k)).extents
+      earlier : (j : ℕ) (k : Moment) → slice_get R.moments j ≡ Some k → (j < n) ⊎ (n ≤ j) → j < suc n
+          → IsHeld r more (slice_index_or more j 0) (thread_of (known_at R every j) (thread_in k)).extents
       earlier j k h (inl lt) w =
           let z : j < length holders = omega (arith, lt, long) in
           subst (λ (i : ℕ). IsHeld r more i (thread_of (known_at R every j) (thread_in k)).extents) (sym (get_at holders (slice_index_or old t 0) j z))
@@ -194,7 +197,8 @@ module _ (R : Reference) (keeps : ExtentsKeep R) (r : ReferenceRun) (n : ℕ) (m
           same e h =
               let c : slice_get R.moments n ≡ Some k = subst (λ (i : ℕ). slice_get R.moments i ≡ Some k) e h in
               let v : m ≡ k = some_is m k (sym q ∙ c) in
-              let w : slice_index_or more n 0 ≡ slice_index_or old t 0 = get_is more n (slice_index_or old t 0) (subst (λ (i : ℕ). slice_get more i ≡ Some (slice_index_or old t 0)) long (get_last holders (slice_index_or old t 0))) in
+              let w : slice_index_or more n 0 ≡ slice_index_or old t 0 =
+              get_is more n (slice_index_or old t 0) (subst (λ (i : ℕ). slice_get more i ≡ Some (slice_index_or old t 0)) long (get_last holders (slice_index_or old t 0))) in
               subst (λ (i : ℕ). IsHeld r more (slice_index_or more i 0) (thread_of (known_at R every i) (thread_in k)).extents) (sym e)
               (subst (λ (i : ℕ). IsHeld r more i (thread_of (known_at R every n) (thread_in k)).extents) (sym w)
               (subst (λ (y : Moment). IsHeld r more (slice_index_or old t 0) (thread_of (known_at R every n) (thread_in y)).extents) v
@@ -203,12 +207,15 @@ module _ (R : Reference) (keeps : ExtentsKeep R) (r : ReferenceRun) (n : ℕ) (m
       left_held : IsHeld r more left (open_after n (length m.calls) (region_in R m) (edge_of R.program m m.did.did.kind) (thread_of s t).extents)
       left_held =
           let h : IsHeld r more inner (begun n (length m.calls) (region_in R m) (thread_of s t).extents) =
-          subst (λ (i : ℕ). IsHeld r more i (begun n (length m.calls) (region_in R m) (thread_of s t).extents)) (sym (i ∙ ap (λ (o : Option FreeRegion). begun_by o n (slice_index_or old t 0)) free))
+          subst (λ (i : ℕ). IsHeld r more i (begun n (length m.calls) (region_in R m) (thread_of s t).extents)) (sym (i
+          ∙ ap (λ (o : Option FreeRegion). begun_by o n (slice_index_or old t 0)) free))
           (held_begun r holders n (slice_index_or old t 0) (length m.calls) l (region_in R m) (thread_of s t).extents long at deep free (a.now t)) in
           let k : AreStacked depth edge (begun n (length m.calls) (region_in R m) (thread_of s t).extents) =
           subst (λ (o : Option ℕ). AreStacked depth o (begun n (length m.calls) (region_in R m) (thread_of s t).extents)) (sym (g ∙ on))
-          (subst (λ (i : ℕ). AreStacked i (edge_of R.program m m.did.did.kind) (begun n (length m.calls) (region_in R m) (thread_of s t).extents)) (sym (d ∙ deep)) (keeps.nested (of_every R n m s) (in_run R keeps n m q))) in
-          subst (λ (i : ℕ). IsHeld r more left (filter (λ (e : Extent). not (ends i (edge_of R.program m m.did.did.kind) e)) (begun n (length m.calls) (region_in R m) (thread_of s t).extents))) (d ∙ deep)
+          (subst (λ (i : ℕ). AreStacked i (edge_of R.program m m.did.did.kind) (begun n (length m.calls) (region_in R m) (thread_of s t).extents)) (sym (d
+          ∙ deep)) (keeps.nested (of_every R n m s) (in_run R keeps n m q))) in
+          subst (λ (i : ℕ). IsHeld r more left (filter (λ (e : Extent). not (ends i (edge_of R.program m m.did.did.kind) e))
+          (begun n (length m.calls) (region_in R m) (thread_of s t).extents))) (d ∙ deep)
           (subst (λ (o : Option ℕ). IsHeld r more left (filter (λ (e : Extent). not (ends depth o e)) (begun n (length m.calls) (region_in R m) (thread_of s t).extents))) (g ∙ on) (f _ k h))
 
       later : (u : ℕ) (b : Bool) → (u == t) ≡ b → IsHeld r more (slice_index_or new u 0) (thread_of (known_at R every (suc n)) u).extents
@@ -216,12 +223,14 @@ module _ (R : Reference) (keeps : ExtentsKeep R) (r : ReferenceRun) (n : ℕ) (m
           let z : u ≡ t = eqb-true u t e in
           subst (λ (y : RunShadow). IsHeld r more (slice_index_or new u 0) (thread_of y u).extents) (sym (next_is R keeps n m q))
           (subst (λ (i : ℕ). IsHeld r more (slice_index_or new i 0) (thread_of (after_step R every n m s) i).extents) (sym z)
-          (subst (λ (i : ℕ). IsHeld r more i (thread_of (after_step R every n m s) t).extents) (sym own) (subst (λ (es : List Extent). IsHeld r more left es) (sym (own_next R keeps n m q)) left_held)))
+          (subst (λ (i : ℕ). IsHeld r more i (thread_of (after_step R every n m s) t).extents) (sym own)
+          (subst (λ (es : List Extent). IsHeld r more left es) (sym (own_next R keeps n m q)) left_held)))
       later u false e =
           let o : u ≡ t → ⊥ = λ z. true≢false (sym (eq-eqb u t z) ∙ e) in
           subst (λ (y : RunShadow). IsHeld r more (slice_index_or new u 0) (thread_of y u).extents) (sym (next_is R keeps n m q))
           (subst (λ (i : ℕ). IsHeld r more i (thread_of (after_step R every n m s) u).extents) (sym (others u o))
-          (subst (λ (es : List Extent). IsHeld r more (slice_index_or old u 0) es) (sym (other_next R keeps n m q u o)) (held_more r holders (slice_index_or old t 0 ∷ []) (slice_index_or old u 0) _ (a.now u))))
+          (subst (λ (es : List Extent). IsHeld r more (slice_index_or old u 0) es) (sym (other_next R keeps n m q u o))
+          (held_more r holders (slice_index_or old t 0 ∷ []) (slice_index_or old u 0) _ (a.now u))))
 
 pub held_first : (R : Reference) (r : ReferenceRun) (tops : List ℕ) → ((u : ℕ) → slice_index_or tops u 0 ≡ 0) → AreHeld R r 0 [] tops
 unfolding known_from
@@ -238,7 +247,8 @@ held_first R r tops z = record {
     none zero = tt
     none (suc u) = tt
 
-pub begun_is : (o : Option Landmark) (n before : ℕ) (b : Bool) → b ≡ true → IfSome o (λ (l : Landmark). b ≡ is_some l.region) → IfSome o (λ (l : Landmark). n + 1 ≡ begun_by l.region n before)
+pub begun_is : (o : Option Landmark) (n before : ℕ) (b : Bool) → b ≡ true → IfSome o (λ (l : Landmark). b ≡ is_some l.region)
+    → IfSome o (λ (l : Landmark). n + 1 ≡ begun_by l.region n before)
 begun_is None n before b q h = tt
 begun_is (Some l) n before b q h = go l.region (sym q ∙ h)
   where
@@ -246,7 +256,8 @@ begun_is (Some l) n before b q h = go l.region (sym q ∙ h)
     go None f = absurd (true≢false f)
     go (Some r) f = omega arith
 
-pub begun_not : (o : Option Landmark) (n before : ℕ) (b : Bool) → b ≡ false → IfSome o (λ (l : Landmark). b ≡ is_some l.region) → IfSome o (λ (l : Landmark). before ≡ begun_by l.region n before)
+pub begun_not : (o : Option Landmark) (n before : ℕ) (b : Bool) → b ≡ false → IfSome o (λ (l : Landmark). b ≡ is_some l.region)
+    → IfSome o (λ (l : Landmark). before ≡ begun_by l.region n before)
 begun_not None n before b q h = tt
 begun_not (Some l) n before b q h = go l.region (sym q ∙ h)
   where
@@ -265,14 +276,16 @@ left_ends r holders first h depth edge next o q f left = λ es s k.
     let b = next_open r holders (h - 1) a.0 depth edge (subst (λ (i : ℕ). IsHeld r holders i a.0) (sym (suc_back h o)) a.1) a.2 f in
     (b.0, subst (λ (i : ℕ). IsHeld r holders i b.0) (sym q) b.1, b.2, a.3 ∙ b.3)
 
-pub left_stays : (r : ReferenceRun) (holders : List ℕ) (first h depth : ℕ) (edge : Option ℕ) → (h ≡ 0 → ⊥) → ((x : Extent) → x.step ≡ h - 1 → IsNoted r x → ends depth edge x ≡ false) →
+pub left_stays : (r : ReferenceRun) (holders : List ℕ) (first h depth : ℕ) (edge : Option ℕ) → (h ≡ 0 → ⊥)
+    → ((x : Extent) → x.step ≡ h - 1 → IsNoted r x → ends depth edge x ≡ false) →
     IsLeft r holders depth edge first h → (es : List Extent) → AreStacked depth edge es → IsHeld r holders first es → IsHeld r holders h (filter (λ (e : Extent). not (ends depth edge e)) es)
 left_stays r holders first h depth edge o f left es s k =
     let a = left es s k in
     let b = stays_open r holders (h - 1) a.0 depth edge (subst (λ (i : ℕ). IsHeld r holders i a.0) (sym (suc_back h o)) a.1) a.2 f in
     subst (λ (zs : List Extent). IsHeld r holders h zs) (sym (a.3 ∙ b)) a.1
 
-pub left_none : (r : ReferenceRun) (holders : List ℕ) (first h depth : ℕ) (edge : Option ℕ) → h ≡ 0 → IsLeft r holders depth edge first h → (es : List Extent) → AreStacked depth edge es →
+pub left_none : (r : ReferenceRun) (holders : List ℕ) (first h depth : ℕ) (edge : Option ℕ) → h ≡ 0
+    → IsLeft r holders depth edge first h → (es : List Extent) → AreStacked depth edge es →
     IsHeld r holders first es → IsHeld r holders h (filter (λ (e : Extent). not (ends depth edge e)) es)
 left_none r holders first h depth edge z left es s k =
     let a = left es s k in
@@ -309,15 +322,18 @@ held_step R r n m holders tops thread inner depth left edge marks keeps q e belo
     let at : landmark_at r n ≡ Some l = marks n ∙ ap (option_map (landmark_of R.program R.regions)) q in
     let d2 : depth ≡ l.depth = subst (λ (o : Option Landmark). IfSome o (λ (l : Landmark). depth ≡ l.depth)) at d in
     let g2 : edge ≡ l.edge = subst (λ (o : Option Landmark). IfSome o (λ (l : Landmark). edge ≡ l.edge)) at g in
-    let i2 : inner ≡ begun_by l.region n (slice_index_or tops thread 0) = subst (λ (o : Option Landmark). IfSome o (λ (l : Landmark). inner ≡ begun_by l.region n (slice_index_or tops thread 0))) at i in
+    let i2 : inner ≡ begun_by l.region n (slice_index_or tops thread 0) =
+    subst (λ (o : Option Landmark). IfSome o (λ (l : Landmark). inner ≡ begun_by l.region n (slice_index_or tops thread 0))) at i in
     subst (λ (t : ℕ). AreHeld R r (suc n) (holders ++ slice_index_or tops t 0 ∷ []) (slice_set tops t left)) e
     (held_next R keeps r n m q holders tops (slice_set tops (thread_in m) left) inner left depth edge l at refl refl refl long d2 g2
     (subst (λ (t : ℕ). inner ≡ begun_by l.region n (slice_index_or tops t 0)) (sym e) i2)
-    (subst (λ (t : ℕ). (es : List Extent) → AreStacked depth edge es → IsHeld r (holders ++ slice_index_or tops t 0 ∷ []) inner es → IsHeld r (holders ++ slice_index_or tops t 0 ∷ []) left (filter (λ (e : Extent). not (ends depth edge e)) es)) (sym e) f)
+    (subst (λ (t : ℕ). (es : List Extent) → AreStacked depth edge es → IsHeld r (holders ++ slice_index_or tops t 0 ∷ []) inner es
+    → IsHeld r (holders ++ slice_index_or tops t 0 ∷ []) left (filter (λ (e : Extent). not (ends depth edge e)) es)) (sym e) f)
     (set_same tops (thread_in m) left (subst (λ (t : ℕ). t < length tops) (sym e) below)) (λ u o. set_other tops (thread_in m) u left o) a)
 
 pub hold_is : (R : Reference) (r : ReferenceRun) (n : ℕ) (m : Moment) (holders tops : List ℕ) (thread before inner depth left : ℕ) (edge : Option ℕ) (new shown : List ℕ) →
-    before ≡ slice_index_or tops thread 0 → new ≡ holders ++ before ∷ [] → shown ≡ new → HasLandmarks R r → ExtentsKeep R → slice_get R.moments n ≡ Some m → thread_in m ≡ thread → thread < length tops →
+    before ≡ slice_index_or tops thread 0 → new ≡ holders ++ before ∷ [] → shown ≡ new → HasLandmarks R r → ExtentsKeep R
+    → slice_get R.moments n ≡ Some m → thread_in m ≡ thread → thread < length tops →
     length holders ≡ n → IfSome (landmark_at r n) (λ (l : Landmark). depth ≡ l.depth) → IfSome (landmark_at r n) (λ (l : Landmark). edge ≡ l.edge) →
     IfSome (landmark_at r n) (λ (l : Landmark). inner ≡ begun_by l.region n before) →
     ((es : List Extent) → AreStacked depth edge es → IsHeld r shown inner es → IsHeld r shown left (filter (λ (e : Extent). not (ends depth edge e)) es)) →

@@ -27,7 +27,7 @@ use Rattle.pg_demands.specs.Cells.{call_at}
 use Rattle.pg_demands.proofs.Steps.{eq_false, top_is}
 use Rattle.pg_backward.specs.Lens.{lens_by_kind, lens_of, rest_of}
 use Rattle.pg_backward.proofs.Lens.{kind_lens}
-use Rattle.pg_walk.proofs.At.{of_every}
+use Rattle.pg_backward.proofs.At.{of_every}
 use Rattle.pg_walk.proofs.Chained.{begun_before, in_run, next_is, other_next, own_next}
 use Rattle.pg_walk.proofs.Moments.{get_there}
 
@@ -73,7 +73,8 @@ module _ (p : NumberedProgram) (k : ℕ) (ls : List ℕ) (deep : k ≤ length ls
   stays_op (op.Ret v) kind q f = returned k ls (f v refl)
   stays_op o kind q f = same
 
-  stays_by : (i : Option Instr) (kind : StepKind) → happening_in kind ≡ None → ((x : Instr) (v : Option Value) → i ≡ Some x → x.op ≡ op.Ret v → k < length ls) → Stays k ls (lens_behind p i kind ls)
+  stays_by : (i : Option Instr) (kind : StepKind) → happening_in kind ≡ None → ((x : Instr) (v : Option Value) → i ≡ Some x
+      → x.op ≡ op.Ret v → k < length ls) → Stays k ls (lens_behind p i kind ls)
   stays_by None kind q f = same
   stays_by (Some x) kind q f = stays_op x.op kind q (λ v h. f x v refl h)
 
@@ -154,7 +155,8 @@ module _ (R : Reference) (keeps : ExtentsKeep R) (n : ℕ) (m : Moment) (q : sli
       ∙ ap (λ (b : Bool). lens_of (own_calls R.program every n m (region_in R m) u b (instr_in R.program m))) (live_every (thread_of u (thread_in m)).extents)
       ∙ of_calls (instr_in R.program m)
     where
-      of_calls : (i : Option Instr) → lens_of (calls_after R.program every n m (region_in R m) i u (thread_of u (thread_in m)).calls) ≡ lens_behind R.program i m.did.did.kind (lens_of (thread_of u (thread_in m)).calls)
+      of_calls : (i : Option Instr) → lens_of (calls_after R.program every n m (region_in R m) i u
+          (thread_of u (thread_in m)).calls) ≡ lens_behind R.program i m.did.did.kind (lens_of (thread_of u (thread_in m)).calls)
       of_calls None = refl
       of_calls (Some x) = kind_lens R.program every n m (region_in R m) u x m.did.did.kind (thread_of u (thread_in m)).calls
 
@@ -194,14 +196,16 @@ module _ (R : Reference) (keeps : ExtentsKeep R) where
     is = f;
     depth = refl;
     deep = omega (arith, high, long, tall);
-    count = at_lens (length m.calls) (calls_at (suc n) (thread_in m)) ∙ ap (λ (ls : List ℕ). lens_at (length m.calls) ls) lens ∙ sym (at_lens (length m.calls) (calls_at n (thread_in m))) ∙ ap (λ (rs : List Shadow). length rs) (top_is (length m.calls) (calls_at n (thread_in m)) high);
+    count = at_lens (length m.calls) (calls_at (suc n) (thread_in m)) ∙ ap (λ (ls : List ℕ). lens_at (length m.calls) ls) lens
+        ∙ sym (at_lens (length m.calls) (calls_at n (thread_in m))) ∙ ap (λ (rs : List Shadow). length rs) (top_is (length m.calls) (calls_at n (thread_in m)) high);
   }
     where
       high : length (calls_at n (thread_in m)) ≡ length m.calls
       high = keeps.calls (of_every R n m (known_at R every n)) (in_run R keeps n m q)
 
       lens : lens_of (calls_at (suc n) (thread_in m)) ≡ lens_of (calls_at n (thread_in m))
-      lens = lens_next R keeps n m q ∙ branch_lens R.program R.regions m (instr_in R.program m) r (lens_of (calls_at n (thread_in m))) f (keeps.branches (of_every R n m (known_at R every n)) (in_run R keeps n m q) r f)
+      lens = lens_next R keeps n m q ∙ branch_lens R.program R.regions m (instr_in R.program m) r (lens_of (calls_at n (thread_in m))) f
+          (keeps.branches (of_every R n m (known_at R every n)) (in_run R keeps n m q) r f)
 
       tall : length (lens_of (calls_at (suc n) (thread_in m))) ≡ length (calls_at n (thread_in m))
       tall = ap (λ (ls : List ℕ). length ls) lens ∙ calls_long n (thread_in m)
@@ -211,7 +215,8 @@ module _ (R : Reference) (keeps : ExtentsKeep R) where
 
   keeps_to : (n : ℕ) (m : Moment) → slice_get R.moments n ≡ Some m → (x : Extent) → Contains (thread_of (known_at R every n) (thread_in m)).extents x → (i : Inside R n (thread_in m) x) →
       KeepsTo R i.region x.depth (of_every R n m (known_at R every n))
-  keeps_to n m q x c i = keeps.keep (of_every R x.step i.begun (known_at R every x.step)) (in_run R keeps x.step i.begun i.stands) (of_every R n m (known_at R every n)) (in_run R keeps n m q) i.region i.is x c refl
+  keeps_to n m q x c i = keeps.keep (of_every R x.step i.begun (known_at R every x.step)) (in_run R keeps x.step i.begun i.stands)
+      (of_every R n m (known_at R every n)) (in_run R keeps n m q) i.region i.is x c refl
 
   next_inside : (n : ℕ) (m : Moment) → slice_get R.moments n ≡ Some m → (x : Extent) → Contains (thread_of (known_at R every n) (thread_in m)).extents x → Inside R n (thread_in m) x →
       Inside R (suc n) (thread_in m) x

@@ -1,4 +1,3 @@
-pub mod At
 pub mod Moments
 pub mod Chained
 pub mod Pinned

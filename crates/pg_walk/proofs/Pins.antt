@@ -19,7 +19,7 @@ use Rattle.pg_demands.proofs.Still.{pinned_if}
 use Rattle.pg_demanded.specs.declared.demanded.Demanded.{Demanded}
 use Rattle.pg_backward.specs.Met.{AreMet}
 use Rattle.pg_walk.specs.Sets.{SetsSome}
-use Rattle.pg_walk.proofs.At.{at_step, of_every, the_link}
+use Rattle.pg_backward.proofs.At.{at_step, of_every, the_link}
 use Rattle.pg_walk.proofs.Inside.{inside}
 use Rattle.pg_walk.proofs.Skipped.{step_is}
 
@@ -36,7 +36,8 @@ register_set : (r : FreeRegion) (t depth count i : ℕ) → i < count → r.sets
 register_set r t depth count i l s = rw (eq-eqb t t refl, eq-eqb depth depth refl, lt-ltb i count l, s) refl
 
 module _ (R : Reference) (keeps : ExtentsKeep R) (e : Taken) (n : ℕ) (m : Moment) (q : slice_get R.moments n ≡ Some m) (below : n ≤ length R.moments) (younger older : List Extent) (x : Extent)
-    (whole : (thread_of (known_at R every n) (thread_in m)).extents ≡ younger ++ x ∷ older) (live : is_live e.pinned older ≡ true) (r : FreeRegion) (is : region_at_step R x.step ≡ Some r) where
+    (whole : (thread_of (known_at R every n) (thread_in m)).extents ≡ younger ++ x ∷ older) (live : is_live e.pinned older ≡ true)
+    (r : FreeRegion) (is : region_at_step R x.step ≡ Some r) where
   abbrev t : ℕ
   t = thread_in m
 

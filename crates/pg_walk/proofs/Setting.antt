@@ -113,7 +113,8 @@ write_next w k q h g j l = go (cases_lt j k)
     go (inl m) = h j m
     go (inr m) = let z : k ≡ j = omega (arith, l, m) in subst (λ (i : ℕ). WritesNone w i q) z g
 
-pub none_written : (w : Demanded) (k count : ℕ) (q : FreeRegion) → count ≤ k → WriteNone w k q → count ≡ length q.accesses → (i : ℕ) → asks_byte w i ≡ true → may_write q.accesses i ≡ false
+pub none_written : (w : Demanded) (k count : ℕ) (q : FreeRegion) → count ≤ k → WriteNone w k q → count ≡ length q.accesses
+    → (i : ℕ) → asks_byte w i ≡ true → may_write q.accesses i ≡ false
 none_written w k count q l h c i a = none_at (λ (f : FreeAccess). writes_at f i) q.accesses (λ j b m g. h j (omega (arith, l, c, m)) b g i a)
 
 -- ---- registers
@@ -143,7 +144,8 @@ byte_some w t count (Some l) h = go l.region h
     go None h = tt
     go (Some q) h = inr h
 
-pub sets_none : (w : Demanded) (t depth : ℕ) (marks : List Bool) (o : Option Landmark) → IfSome o (λ (l : Landmark). depth ≡ l.depth) → IfSome o (λ (l : Landmark). IfSome l.region (HasMarks marks)) →
+pub sets_none : (w : Demanded) (t depth : ℕ) (marks : List Bool) (o : Option Landmark) → IfSome o (λ (l : Landmark). depth ≡ l.depth)
+    → IfSome o (λ (l : Landmark). IfSome l.region (HasMarks marks)) →
     ((i : ℕ) (v : Bool) → asked_of w t depth i ≡ Some v → in_table marks i ≡ false) →
     IfSome o (λ (l : Landmark). IfSome l.region (λ (q : FreeRegion). (i : ℕ) → asks_byte w i ≡ true → may_write q.accesses i ≡ false)) →
     IfSome o (λ (l : Landmark). IfSome l.region (λ (q : FreeRegion). SetsNone q t l.depth w))
@@ -163,9 +165,6 @@ sets_none w t depth marks (Some l) d m f b = go l.region m b
 pub less_itself : (w : Demanded) → IsLess w w
 less_itself w = record { registers = λ i j k v a. a; bytes = λ b a. a }
 
-pub less_then : (a b c : Demanded) → IsLess a b → IsLess b c → IsLess a c
-less_then a b c f g = record { registers = λ i j k v q. f.registers i j k v (g.registers i j k v q); bytes = λ i q. f.bytes i (g.bytes i q) }
-
 pub sets_less : (r : ReferenceRun) (b t count : ℕ) (old new : Demanded) → IsLess old new → SetsAt r b t count new → SetsAt r b t count old
 sets_less r b t count old new f s = record { by = go (landmark_at r b) s.by }
   where
@@ -184,7 +183,8 @@ sets_less r b t count old new f s = record { by = go (landmark_at r b) s.by }
 
 -- where nothing is asked any more of later calls
 pub passes_by : (r : ReferenceRun) (b t depth : ℕ) (old new : Demanded) → IfSome (landmark_at r b) (λ (l : Landmark). depth ≡ l.depth) → IsLess old new →
-    ((j i : ℕ) (v : Bool) → asked_of new t j i ≡ Some v → depth < j → ⊥) → IfSome (landmark_at r b) (λ (l : Landmark). IfSome l.region (λ (q : FreeRegion). SetsNone q t l.depth old)) → PassesAt r b t new
+    ((j i : ℕ) (v : Bool) → asked_of new t j i ≡ Some v → depth < j → ⊥)
+    → IfSome (landmark_at r b) (λ (l : Landmark). IfSome l.region (λ (q : FreeRegion). SetsNone q t l.depth old)) → PassesAt r b t new
 passes_by r b t depth old new d f above s = record { by = go (landmark_at r b) d s }
   where
     go : (o : Option Landmark) → IfSome o (λ (l : Landmark). depth ≡ l.depth) → IfSome o (λ (l : Landmark). IfSome l.region (λ (q : FreeRegion). SetsNone q t l.depth old)) →
@@ -199,7 +199,8 @@ passes_by r b t depth old new d f above s = record { by = go (landmark_at r b) d
           above = λ j i v a g. above j i v a (subst (λ (k : ℕ). k < j) (sym d) g);
         }
 
-pub small_at : (w : Demanded) (t depth count : ℕ) (o : Option Landmark) → IfSome o (λ (l : Landmark). depth ≡ l.depth) → ((i : ℕ) (v : Bool) → asked_of w t depth i ≡ Some v → i < count) →
+pub small_at : (w : Demanded) (t depth count : ℕ) (o : Option Landmark) → IfSome o (λ (l : Landmark). depth ≡ l.depth)
+    → ((i : ℕ) (v : Bool) → asked_of w t depth i ≡ Some v → i < count) →
     IfSome o (λ (l : Landmark). (i : ℕ) (v : Bool) → asked_of w t l.depth i ≡ Some v → i < count)
 small_at w t depth count None d f = tt
 small_at w t depth count (Some l) d f = λ i v a. f i v (subst (λ (k : ℕ). asked_of w t k i ≡ Some v) (sym d) a)

@@ -40,7 +40,8 @@ pub leads_more : (hs : List ℕ) (h : ℕ) (bs : List ℕ) (b : ℕ) → Leads h
 leads_more hs h [] b l = (l, refl)
 leads_more hs h (y ∷ bs) b l = (l.0, leads_more hs (slice_index_or hs y 0) bs b l.1)
 
-pub leads_push : (hs : List ℕ) (h : ℕ) (bs new : List ℕ) (holder next : ℕ) → (holder ≡ 0 → ⊥) → Leads hs h bs holder → new ≡ bs ++ (holder - 1) ∷ [] → next ≡ slice_index_or hs (holder - 1) 0 → Leads hs h new next
+pub leads_push : (hs : List ℕ) (h : ℕ) (bs new : List ℕ) (holder next : ℕ) → (holder ≡ 0 → ⊥) → Leads hs h bs holder
+    → new ≡ bs ++ (holder - 1) ∷ [] → next ≡ slice_index_or hs (holder - 1) 0 → Leads hs h new next
 leads_push hs h bs new zero next o l p q = absurd (o refl)
 leads_push hs h bs new (suc b) next o l p q =
     let z : suc b - 1 ≡ b = omega arith in
@@ -151,9 +152,11 @@ module _ (R : Reference) (r : ReferenceRun) (hs : List ℕ) (counts : List Count
 
 abbrev pub Owes : ReferenceRun → ℕ → ℕ → List Counts → Demanded → Taken → Taken → Type 0
 Owes r b t counts w old new =
-    (e : Taken) → ((c : Counts) → slice_get counts b ≡ Some c → SetsAt r b t c.present w → e.pinned b ≡ true) → ((c : Counts) × (slice_get counts b ≡ Some c)) → AreWithin old e → AreWithin new e
+    (e : Taken) → ((c : Counts) → slice_get counts b ≡ Some c → SetsAt r b t c.present w → e.pinned b ≡ true)
+    → ((c : Counts) × (slice_get counts b ≡ Some c)) → AreWithin old e → AreWithin new e
 
-module _ (R : Reference) (r : ReferenceRun) (hs : List ℕ) (counts : List Counts) (told : IsTold R r hs counts) (n : ℕ) (m : Moment) (q : slice_get R.moments n ≡ Some m) (t : ℕ) (own : thread_in m ≡ t)
+module _ (R : Reference) (r : ReferenceRun) (hs : List ℕ) (counts : List Counts) (told : IsTold R r hs counts) (n : ℕ)
+    (m : Moment) (q : slice_get R.moments n ≡ Some m) (t : ℕ) (own : thread_in m ≡ t)
     (bs : List ℕ) (b : ℕ) (leads : Leads hs (slice_index_or hs n 0) bs (suc b)) (w v : Demanded) (d new e : Taken) (less : IsLess w v) where
   pub decided : Owes r b t counts w d new → ArePinned hs d (slice_index_or hs b 0) → Walks R e (suc n) w d → Walks R e (suc n) v new
   decided owes pinned a = record {

@@ -20,7 +20,7 @@ use Rattle.pg_demanded.specs.declared.demanded.Demanded.{Demanded}
 use Rattle.pg_demanded.specs.Asked.{asked_of, asks_byte}
 use Rattle.pg_backward.specs.Met.{AreMet}
 use Rattle.pg_walk.specs.Sets.{Passes}
-use Rattle.pg_walk.proofs.At.{At, at_step, next_step, of_every, the_link}
+use Rattle.pg_backward.proofs.At.{At, at_step, next_step, of_every, the_link}
 use Rattle.pg_walk.proofs.Chained.{in_run}
 use Rattle.pg_walk.proofs.Inside.{Begins, inside, opened}
 use Rattle.pg_walk.proofs.Moments.{get_there}
@@ -45,7 +45,8 @@ module _ (b : ℕ) where
   free_is [] z h = let y : None ≡ Some z = h in absurd (cc)
   free_is (x ∷ es) z h = go (first_free others es) refl (not (x.step == b)) refl (λ q. free_is es z q) h
     where
-      go : (o : Option Extent) → first_free others es ≡ o → (c : Bool) → not (x.step == b) ≡ c → (first_free others es ≡ Some z → z.step ≡ b) → or_first c x o ≡ Some z → z.step ≡ b
+      go : (o : Option Extent) → first_free others es ≡ o → (c : Bool) → not (x.step == b) ≡ c
+          → (first_free others es ≡ Some z → z.step ≡ b) → or_first c x o ≡ Some z → z.step ≡ b
       go (Some y) q c f more h = more (q ∙ h)
       go None q true f more h = let y : None ≡ Some z = h in absurd (cc)
       go None q false f more h = subst (λ (y : Extent). y.step ≡ b) (some_is x z h) (this_one x.step f)
@@ -67,7 +68,8 @@ either_true : (a : Bool) → (a || true) ≡ true
 either_true true = refl
 either_true false = refl
 
-register_passes : (r : FreeRegion) (t depth : ℕ) (w : Demanded) → Passes r t depth w → (i j k : ℕ) (v : Bool) → asked_of w i j k ≡ Some v → passes_cell r t depth (Register i j k) ≡ true
+register_passes : (r : FreeRegion) (t depth : ℕ) (w : Demanded) → Passes r t depth w → (i j k : ℕ) (v : Bool)
+    → asked_of w i j k ≡ Some v → passes_cell r t depth (Register i j k) ≡ true
 register_passes r t depth w p i j k v a = go (i == t) refl
   where
     below : i ≡ t → (b : Bool) → (j == depth) ≡ b → (nat_lt j depth || (b && not (r.sets k))) ≡ true
@@ -143,7 +145,8 @@ module _ (R : Reference) (keeps : ExtentsKeep R) (e : Taken) where
             (subst (λ (i : ℕ). AllByRecursion (IsMet (known_at R e n)) (passing_by y i (region_at_step R z.step) (d ∷ []))) k g)) in
             (kept (nat_le x.depth (length m.calls)) low (passes_cell r t x.depth d.cell) p l).0
           where
-            kept : (b : Bool) → b ≡ true → (v : Bool) → v ≡ true → AllByRecursion (IsMet (known_at R e n)) (if b then (if v then d ∷ [] else []) else []) → AllByRecursion (IsMet (known_at R e n)) (d ∷ [])
+            kept : (b : Bool) → b ≡ true → (v : Bool) → v ≡ true → AllByRecursion (IsMet (known_at R e n)) (if b then (if v then d ∷ [] else []) else [])
+                → AllByRecursion (IsMet (known_at R e n)) (d ∷ [])
             kept true f true g h = h
             kept true f false g h = absurd (true≢false (sym g))
             kept false f v g h = absurd (true≢false (sym f))
@@ -163,7 +166,8 @@ module _ (R : Reference) (keeps : ExtentsKeep R) (e : Taken) where
       before = pass_one (suc n) m q x c l r is w p h
 
       go : (k : Moment) × (slice_get R.moments n ≡ Some k) →
-          ((k : Moment) → slice_get R.moments n ≡ Some k → Contains (thread_of (known_at R every n) (thread_in k)).extents x → Passes r (thread_in k) x.depth w → AreMet (known_at R e (suc x.step)) w) →
+          ((k : Moment) → slice_get R.moments n ≡ Some k → Contains (thread_of (known_at R every n) (thread_in k)).extents x
+          → Passes r (thread_in k) x.depth w → AreMet (known_at R e (suc x.step)) w) →
           AreMet (known_at R e (suc x.step)) w
       go (k, f) more = on (opened R keeps n k f (thread_in m) x c)
         where

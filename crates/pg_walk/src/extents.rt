@@ -1,5 +1,5 @@
 //! The extents in which a step stands and of which it isn't known that their branch steps are pinned.
-ghost use Rattle.std.specs.Prelude.{◌≡◌, ℕ, List, true, false, IfOk, slice_index_or};
+ghost use Rattle.std.specs.Prelude.{◌≡◌, ◌==◌, ◌||◌, ◌-◌, ℕ, List, true, false, IfOk, slice_index_or};
 ghost use Rattle.pg_closed.specs.Known.{Taken};
 ghost use Rattle.pg_walk.specs.Chains.{AreOlder};
 ghost use Rattle.pg_walk.specs.Settled.{ArePinned, AreSettled, Leads};
@@ -13,6 +13,7 @@ use std::alloc::{AllocError, Global};
 pub fn is_settled(settled: &[bool], holder: u32) -> bool
     ensures pinned { result ≡ true → (hs : List ℕ) (d : Taken) → AreSettled hs d settled.now → ArePinned hs d holder }
     ensures some { result ≡ false → holder ≡ 0 → ⊥ }
+    ensures value { result ≡ (holder == 0 || slice_index_or settled.now (holder - 1) false) }
 {
     holder == 0 || mark_at(settled, holder as usize - 1)
 }
@@ -25,7 +26,8 @@ pub(crate) fn unsettled(
     n: usize,
 ) -> Result<Vec<usize>, AllocError>
     requires { AreOlder holders.now }
-    ensures { IfOk result (λ v. (rest : ℕ) × Leads holders.now (slice_index_or holders.now n 0) v.items rest × ((d : Taken) → AreSettled holders.now d settled.now → ArePinned holders.now d rest)) }
+    ensures { IfOk result (λ v. (rest : ℕ) × Leads holders.now (slice_index_or holders.now n 0) v.items rest
+        × ((d : Taken) → AreSettled holders.now d settled.now → ArePinned holders.now d rest)) }
 {
     let mut list = Vec::new(alloc);
     let mut holder = holder_at(holders, n);

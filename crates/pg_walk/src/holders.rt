@@ -1,5 +1,6 @@
 //! The extents in which the steps of a run stand.
-ghost use Rattle.std.specs.Prelude.{◌≡◌, ◌<◌, ◌≤◌, ◌+◌, ◌==◌, ℕ, ℤ, List, not, IfOk, IfSome, OnOk, Some, [], length, replicate, slice_get, slice_index_or, slice_set, filter};
+ghost use Rattle.std.specs.Prelude.{◌≡◌, ◌<◌, ◌≤◌, ◌+◌, ◌==◌, ℕ, ℤ, List, [], not, IfOk, IfSome, OnOk, Some};
+ghost use Rattle.std.specs.Prelude.{filter, length, replicate, slice_get, slice_index_or, slice_set};
 ghost use Rattle.pg_ir.specs.Program.{NumberedProgram};
 ghost use Rattle.pg_ir.specs.declared.ids.InstrId.{InstrId};
 ghost use Rattle.pg_closed.specs.Extents as extents;
@@ -47,7 +48,8 @@ fn ends(r: &ReferenceRun, b: usize, depth: u32, block: u32) -> bool
 fn left_at(r: &ReferenceRun, holders: &[u32], inner: u32, depth: u32, block: u32) -> u32
     requires { AreOlder holders.now }
     ensures older { result ≤ inner }
-    ensures left { (es : List Extent) → AreStacked depth (Some block) es → IsHeld r.now holders.now inner es → IsHeld r.now holders.now result (filter (λ (e : Extent). not (extents.ends depth (Some block) e)) es) }
+    ensures left { (es : List Extent) → AreStacked depth (Some block) es → IsHeld r.now holders.now inner es
+        → IsHeld r.now holders.now result (filter (λ (e : Extent). not (extents.ends depth (Some block) e)) es) }
 {
     let mut left = inner;
     while left != 0 && ends(r, left as usize - 1, depth, block) {
@@ -60,7 +62,8 @@ fn left_at(r: &ReferenceRun, holders: &[u32], inner: u32, depth: u32, block: u32
 fn left_open(r: &ReferenceRun, holders: &[u32], inner: u32, depth: u32, edge: Option<u32>) -> u32
     requires { AreOlder holders.now }
     ensures older { result ≤ inner }
-    ensures left { (es : List Extent) → AreStacked depth edge es → IsHeld r.now holders.now inner es → IsHeld r.now holders.now result (filter (λ (e : Extent). not (extents.ends depth edge e)) es) }
+    ensures left { (es : List Extent) → AreStacked depth edge es → IsHeld r.now holders.now inner es
+        → IsHeld r.now holders.now result (filter (λ (e : Extent). not (extents.ends depth edge e)) es) }
 {
     match edge {
         Some(block) => left_at(r, holders, inner, depth, block),

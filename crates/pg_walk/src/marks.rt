@@ -1,5 +1,5 @@
 //! Marks of steps.
-ghost use Rattle.std.specs.Prelude.{◌≡◌, ◌⊎◌, ℕ, true, false, IfOk, replicate, slice_index_or};
+ghost use Rattle.std.specs.Prelude.{◌≡◌, ◌⊎◌, ℕ, true, false, IfOk, replicate, slice_index_or, slice_set};
 
 use std::alloc::{AllocError, Global};
 
@@ -15,7 +15,8 @@ pub fn mark_at(marks: &[bool], n: usize) -> bool
 
 /// Sets a mark, if there is one.
 pub fn set_mark(marks: &mut Vec<bool>, n: usize)
-    ensures { (i : ℕ) → slice_index_or marks.new.items i false ≡ true → (slice_index_or marks.old.items i false ≡ true) ⊎ (i ≡ n) }
+    ensures only { (i : ℕ) → slice_index_or marks.new.items i false ≡ true → (slice_index_or marks.old.items i false ≡ true) ⊎ (i ≡ n) }
+    ensures set { marks.new.items ≡ slice_set marks.old.items n true }
 {
     if n < marks.len() {
         marks[n] = true;

@@ -70,7 +70,8 @@ fn sets_byte(w: &Demanded, r: &ReferenceRun, b: usize) -> bool
 /// Whether something has to be known that the region of a thread's branch step may set. The registers of the step's call have
 /// to be known only as far as it has them.
 pub(crate) fn sets_any(w: &Demanded, r: &ReferenceRun, thread: u8, b: usize) -> bool
-    ensures some { result ≡ true → (count : ℕ) → IfSome (landmark_at r.now b) (λ l. (i : ℕ) (v : Bool) → asked_of w.now thread l.depth i ≡ Some v → i < count) → SetsAt r.now b thread count w.now }
+    ensures some { result ≡ true → (count : ℕ) → IfSome (landmark_at r.now b) (λ l. (i : ℕ) (v : Bool) → asked_of w.now thread l.depth i ≡ Some v → i < count)
+        → SetsAt r.now b thread count w.now }
     ensures none { result ≡ false → IfSome (landmark_at r.now b) (λ l. IfSome l.region (λ q. SetsNone q thread l.depth w.now)) }
 {
     sets_byte(w, r, b) || sets_register(w, r.marks(b), thread, r.depth(b))

@@ -6,7 +6,7 @@ ghost use Rattle.pg_closed.specs.Known.{Reference, Taken};
 ghost use Rattle.pg_closed.specs.Moments.{Moment, thread_in};
 ghost use Rattle.pg_decisions.specs.Steps.{AreOf, left_by, taken_by};
 ghost use Rattle.pg_demanded.specs.Asked.{asked_of};
-ghost use Rattle.pg_reference.specs.Kept.{landmark_at, step_count};
+ghost use Rattle.pg_reference.specs.Kept.{step_count};
 ghost use Rattle.pg_slice.specs.Given.{AreSteps, EdgesStand};
 ghost use Rattle.pg_walk.specs.Chains.{AreOlder};
 ghost use Rattle.pg_walk.specs.Sets.{PassesAt, SetsAt};
@@ -107,7 +107,8 @@ fn settle_open(
     ensures behind { OnOk result ((R : Reference) (e : Taken) (m : Moment) → IsTold R r.now holders.now counts.now → slice_get R.moments n ≡ Some m → thread_in m ≡ thread
         → Walks R e (suc n) w.old (taken_by d.old) → Walks R e (suc n) w.new (taken_by d.new)) }
     ensures earlier { IfOk result (λ o. IfSome o (λ b. b < n)) }
-    ensures passed { IfOk result (λ o. IfSome o (λ b. (R : Reference) (e : Taken) (m : Moment) → IsTold R r.now holders.now counts.now → slice_get R.moments n ≡ Some m → thread_in m ≡ thread
+    ensures passed { IfOk result (λ o. IfSome o (λ b. (R : Reference) (e : Taken) (m : Moment)
+        → IsTold R r.now holders.now counts.now → slice_get R.moments n ≡ Some m → thread_in m ≡ thread
         → Walks R e (suc n) w.old (taken_by d.old) → Walks R e (suc b) w.new (taken_by d.new))) }
 {
     let mut open = unsettled(alloc, holders, settled.as_slice(), n)?;

@@ -11,5 +11,6 @@ use Rattle.pg_backward.proofs.arguments.put_checked.Given as goal
 
 abbrev pub invariant-loop-i : goal.invariant-loop-i
 invariant-loop-i l =
-    (s : RunShadow) (y : Seen) → thread_in y.moment ≡ l.at.thread → depth_of y ≡ l.at.depth → AllByRecursion (IsMet s) (all_of (operand_demands y l.x true) (checked_of l.x.op)) → AreMet s l.initial.w →
+    (s : RunShadow) (y : Seen) → thread_in y.moment ≡ l.at.thread → depth_of y ≡ l.at.depth
+    → AllByRecursion (IsMet s) (all_of (operand_demands y l.x true) (checked_of l.x.op)) → AreMet s l.initial.w →
     AreMet s l.w

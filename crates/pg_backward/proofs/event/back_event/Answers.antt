@@ -11,7 +11,8 @@ returns-then-printed c = λ R e p r step counts n m st call kind count met.
     let v = c.args.e.now in
     let asked = c.asks_printed-printed.ensures c.if-printed.true in
     c.in_ok-put_argument.ensures (known_at R e n)
-    (print_back R e p r x step counts n m st at call v kind asked.2 asked.0 asked.1 (ap (held_by x.result) count ∙ (sym c.held.ensures ∙ asked.3)) (met.registers at.thread at.depth asked.0 asked.1 asked.4))
+    (print_back R e p r x step counts n m st at call v kind asked.2 asked.0 asked.1 (ap (held_by x.result) count
+    ∙ (sym c.held.ensures ∙ asked.3)) (met.registers at.thread at.depth asked.0 asked.1 asked.4))
     (event_back R e p r x step counts n m st at call v kind c.args.w.now c.leave_event.new.w c.leave_event.ensures met)
 
 pub returns : goal.returns

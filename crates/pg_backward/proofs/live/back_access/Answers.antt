@@ -6,7 +6,8 @@ use Rattle.pg_backward.proofs.live.back_access.Goals as goal
 
 pub returns-in-Load-clause-back : goal.returns-in-Load-clause-back
 returns-in-Load-clause-back c = IfOk-weaker c.back_load.result _ _ (λ o h R e p r step counts m st call kind count met.
-    load_back R e p r c.args.x.now step counts c.args.n m st c.args.at call c.args.a kind c.args.w.now c.back_load.new.w _ _ c.in-Load.is c.held.result (c.held.ensures ∙ ap (held_by c.args.x.now.result) (sym count)) o h met) c.back_load.ensures.met
+    load_back R e p r c.args.x.now step counts c.args.n m st c.args.at call c.args.a kind c.args.w.now c.back_load.new.w _ _ c.in-Load.is c.held.result (c.held.ensures
+    ∙ ap (held_by c.args.x.now.result) (sym count)) o h met) c.back_load.ensures.met
 
 pub returns-in-Store-clause-back : goal.returns-in-Store-clause-back
 returns-in-Store-clause-back c = IfOk-weaker c.back_store.result _ _ (λ o h R e p r step counts m st call kind count met.

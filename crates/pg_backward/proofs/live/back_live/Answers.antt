@@ -8,7 +8,8 @@ use Rattle.pg_backward.proofs.At.{seen_with}
 use Rattle.pg_backward.proofs.Dispatch.{call_is, landmark_is, own_met, region_met}
 use Rattle.pg_backward.proofs.live.back_live.Goals as goal
 
-due_fits : (o : Option Decision) (n : ℕ) (d : DecisionSet) → IfSome o (λ (z : Decision). step_of z ≡ n) → (k : ℕ) × AreOf k d × (n < k) → IfSome o (λ (z : Decision). (k : ℕ) × AreOf k d × (step_of z < k))
+due_fits : (o : Option Decision) (n : ℕ) (d : DecisionSet) → IfSome o (λ (z : Decision). step_of z ≡ n) → (k : ℕ) × AreOf k d
+    × (n < k) → IfSome o (λ (z : Decision). (k : ℕ) × AreOf k d × (step_of z < k))
 due_fits None n d h f = tt
 due_fits (Some z) n d h f = (f.0, f.1, subst (λ (i : ℕ). i < f.0) (sym h) f.2)
 

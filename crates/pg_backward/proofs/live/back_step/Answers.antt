@@ -5,7 +5,8 @@ use Rattle.pg_slice.specs.Given.{is_op}
 use Rattle.pg_backward.proofs.live.back_step.Goals as goal
 
 pub returns-in-Access-clause-back : goal.returns-in-Access-clause-back
-returns-in-Access-clause-back c = IfOk-weaker c.back_access.result _ _ (λ o h R e m st call met. h R e c.args.p.now c.args.r.now c.args.step.now c.args.counts m st call c.in-Access.is refl met) c.back_access.ensures.back
+returns-in-Access-clause-back c = IfOk-weaker c.back_access.result _ _ (λ o h R e m st call met.
+    h R e c.args.p.now c.args.r.now c.args.step.now c.args.counts m st call c.in-Access.is refl met) c.back_access.ensures.back
 
 pub returns-in_ok-back_event-in-Event-clause-back : goal.returns-in_ok-back_event-in-Event-clause-back
 returns-in_ok-back_event-in-Event-clause-back c = λ R e m st call met.
@@ -18,4 +19,5 @@ pub returns-in-Allocation-clause-back : goal.returns-in-Allocation-clause-back
 returns-in-Allocation-clause-back c = IfOk-weaker c.back_plain.result _ _ (λ o h R e m st call met. h R e c.args.step.now m st call (ap is_op c.in-Allocation.is) met) c.back_plain.ensures.back
 
 pub returns-in-Other-clause-back : goal.returns-in-Other-clause-back
-returns-in-Other-clause-back c = IfOk-weaker c.back_plain-in-Other.result _ _ (λ o h R e m st call met. h R e c.args.step.now m st call (ap is_op c.in-Other.is) met) c.back_plain-in-Other.ensures.back
+returns-in-Other-clause-back c = IfOk-weaker c.back_plain-in-Other.result _ _ (λ o h R e m st call met.
+    h R e c.args.step.now m st call (ap is_op c.in-Other.is) met) c.back_plain-in-Other.ensures.back

@@ -13,5 +13,6 @@ abbrev pub invariant-loop-i : goal.invariant-loop-i
 invariant-loop-i l =
     IsLess l.initial.w l.w
     × ((after before : RunShadow) → AreMet after l.initial.w →
-    ((i : ℕ) (z : Value) (b : Bool) → slice_get l.args i ≡ Some z → IsMet after (register_demand l.at.thread (suc l.at.depth) i b) → AllByRecursion (IsMet before) (of_value l.at.thread l.at.depth b z)) →
+    ((i : ℕ) (z : Value) (b : Bool) → slice_get l.args i ≡ Some z → IsMet after (register_demand l.at.thread (suc l.at.depth) i b)
+    → AllByRecursion (IsMet before) (of_value l.at.thread l.at.depth b z)) →
     AreWanted before l.at.thread l.at.depth l.wanted.items)

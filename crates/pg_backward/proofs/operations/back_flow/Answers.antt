@@ -7,12 +7,14 @@ use Rattle.pg_backward.proofs.operations.back_flow.Goals as goal
 
 pub returns-then-takes_edge : goal.returns-then-takes_edge
 returns-then-takes_edge c = λ R e step m st call kind met.
-    edge_back R e c.args.p.now c.args.r.now c.args.x.now step c.args.counts c.args.n m st c.args.at call kind c.args.w.now c.back_edge.new.w (sym c.takes_edge.ensures ∙ c.if-takes_edge.true) c.edge_of.result c.edge_of.ensures.is
+    edge_back R e c.args.p.now c.args.r.now c.args.x.now step c.args.counts c.args.n m st c.args.at call kind c.args.w.now c.back_edge.new.w (sym c.takes_edge.ensures
+    ∙ c.if-takes_edge.true) c.edge_of.result c.edge_of.ensures.is
     c.in_ok-back_edge.ensures met
 
 pub returns-in-Call : goal.returns-in-Call
 returns-in-Call c = on_ok_weaker c.back_call.result (λ h R e step m st call kind met.
-    call_back R e c.args.p.now c.args.r.now c.args.x.now step c.args.counts c.args.n m st c.args.at call kind c.args.w.now c.back_call.new.w _ _ c.in-Call.is (λ after before l f. h after before l (λ i z b q. f i z b (ap (λ (xs : List Value). slice_get xs i) (sym c.as_slice.ensures.items) ∙ q))) met) c.back_call.ensures
+    call_back R e c.args.p.now c.args.r.now c.args.x.now step c.args.counts c.args.n m st c.args.at call kind c.args.w.now c.back_call.new.w _ _ c.in-Call.is
+    (λ after before l f. h after before l (λ i z b q. f i z b (ap (λ (xs : List Value). slice_get xs i) (sym c.as_slice.ensures.items) ∙ q))) met) c.back_call.ensures
 
 pub returns-in-Ret : goal.returns-in-Ret
 returns-in-Ret c = on_ok_weaker c.back_returned.result (λ h R e step m st call kind met.

@@ -41,7 +41,8 @@ loop-n-preserved c =
           let k = has_at gated p input xs n c.step-step.result c.step-step.ensures in
           let before = v.1 regions gated input keeps in
           let instr : instr_in R.program k.0 ≡ Some c.instr.result.now = ap (λ (z : Step). slice_get p.instrs z.instr.0) k.2 ∙ c.instr.ensures.at in
-          let after = e.counted R k.0 keeps refl instr k.2 (subst (λ (i : ℕ). slice_get R.moments i ≡ Some k.0) (sym v.0) k.1) (subst (λ (i : ℕ). AreStacks c.loop-n.calls (known_at R every i)) (sym v.0) before.0)
+          let after = e.counted R k.0 keeps refl instr k.2 (subst (λ (i : ℕ). slice_get R.moments i ≡ Some k.0) (sym v.0) k.1)
+          (subst (λ (i : ℕ). AreStacks c.loop-n.calls (known_at R every i)) (sym v.0) before.0)
           (subst (λ (i : ℕ). AreCountedTo R i old) (sym v.0) before.1) in (
             subst (λ (i : ℕ). AreStacks c.count_step.new.calls (known_at R every i)) next after.0,
             subst (λ (i : ℕ). AreCountedTo R i c.count_step.new.counts.items) next after.1,

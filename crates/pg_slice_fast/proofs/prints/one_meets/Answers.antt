@@ -7,5 +7,6 @@ use Rattle.pg_slice_fast.proofs.Printing.{region_meets}
 use Rattle.pg_slice_fast.proofs.prints.one_meets.Goals as goal
 
 pub returns-in-Some : goal.returns-in-Some
-returns-in-Some c = region_meets (λ (x : Footprint) (q : Landmark). list_any (footprints_conflict x) (print_of (access_of c.args.step.now) ++ prints_in q.region)) _ _ c.args.k c.access.result c.in-Some.access c.in-Some.is
+returns-in-Some c = region_meets (λ (x : Footprint) (q : Landmark).
+    list_any (footprints_conflict x) (print_of (access_of c.args.step.now) ++ prints_in q.region)) _ _ c.args.k c.access.result c.in-Some.access c.in-Some.is
     c.access.ensures.access c.meets_step.result c.meets_step.ensures

@@ -27,7 +27,8 @@ use Rattle.pg_walk.specs.Walks.{IsTold}
 use Rattle.pg_slice_fast.proofs.slicing.slice.Goals as goal
 
 -- by what is handed on of the holders and the counts
-told_by : {R : Reference} {r : ReferenceRun} (xs ys : List ℕ) (cs ds : List Counts) → ys ≡ xs → ds ≡ cs → HasLandmarks R r → ExtentsKeep R → Holds R r xs → AreCounted R cs → IsTold R r ys ds
+told_by : {R : Reference} {r : ReferenceRun} (xs ys : List ℕ) (cs ds : List Counts) → ys ≡ xs → ds ≡ cs → HasLandmarks R r
+    → ExtentsKeep R → Holds R r xs → AreCounted R cs → IsTold R r ys ds
 told_by {R} {r} xs ys cs ds e f marks keeps h k = record {
   landmarks = marks;
   keeps = keeps;
@@ -36,7 +37,11 @@ told_by {R} {r} xs ys cs ds e f marks keeps h k = record {
 }
 
 pub loop-d-init : goal.loop-d-init
-loop-d-init c = (subst (λ n. AreOf n c.in_ok-d.d) c.len-steps.ensures c.in_ok-d.ensures.size, λ regions gated input marks keeps e closed. λ y h. absurd (false≢true (sym (c.in_ok-d.ensures.none y) ∙ h)))
+loop-d-init c = (
+  subst (λ n. AreOf n c.in_ok-d.d) c.len-steps.ensures c.in_ok-d.ensures.size,
+  λ regions gated input marks keeps e closed.
+      λ y h. absurd (false≢true (sym (c.in_ok-d.ensures.none y) ∙ h)),
+)
 
 pub take_found-requires-clause-size : goal.take_found-requires-clause-size
 take_found-requires-clause-size c = c.loop-d.invariant.0
@@ -54,7 +59,8 @@ loop-d-preserved c =
       λ regions gated input marks keeps e closed.
           let R = reference_of p regions gated input xs in
           stays_within R old new e c.as_slice-missing.result.now (asks_above R keeps)
-          (λ x. subst (λ (l : List Decision). Contains l x ↔ Contains (asks R old) x) (sym c.as_slice-missing.ensures.value) (c.in_ok-passed.ensures.missing regions gated input marks x)) k.only closed
+          (λ x. subst (λ (l : List Decision). Contains l x ↔ Contains (asks R old) x) (sym c.as_slice-missing.ensures.value)
+          (c.in_ok-passed.ensures.missing regions gated input marks x)) k.only closed
           (w.by regions gated input (told_by c.in_ok-held.held.items c.as_slice-inner.result.now c.in_ok-counted.counted.items c.as_slice-counts.result.now c.as_slice-inner.ensures.value c.as_slice-counts.ensures.value marks keeps
           (c.in_ok-held.ensures.holds p regions gated input marks keeps) (c.in_ok-counted.ensures.counted regions gated input keeps)) e closed (v.1 regions gated input marks keeps e closed)),
     )
@@ -76,7 +82,8 @@ returns-then-not-take_new-clause-slice c =
     let R = reference_of p regions gated input xs in
     let d = taken_by old in
     let missing = c.as_slice-missing.result.now in
-    let told = λ (x : Decision). subst (λ (l : List Decision). Contains l x ↔ Contains (asks R d) x) (sym c.as_slice-missing.ensures.value) (c.in_ok-passed.ensures.missing regions gated input marks x) in
+    let told = λ (x : Decision). subst (λ (l : List Decision). Contains l x ↔ Contains (asks R d) x) (sym c.as_slice-missing.ensures.value)
+    (c.in_ok-passed.ensures.missing regions gated input marks x) in
     let closed = closed_where_none R d missing (length xs) (λ e x h. (asks_new R e x h).0) (λ e x h. (asks_new R e x h).1) (sym (as_many gated p input xs)) told
     (λ x h l. ap (λ (z : DecisionSet). has (taken_by z) x) (sym same) ∙ k.taken x h (rw c.len-steps.ensures l)) in
     let here : IsSlice R d = record {
@@ -84,7 +91,8 @@ returns-then-not-take_new-clause-slice c =
       least = λ e shut. w.by regions gated input (told_by c.in_ok-held.held.items c.as_slice-inner.result.now c.in_ok-counted.counted.items c.as_slice-counts.result.now c.as_slice-inner.ensures.value c.as_slice-counts.ensures.value marks keeps
           (c.in_ok-held.ensures.holds p regions gated input marks keeps) (c.in_ok-counted.ensures.counted regions gated input keeps)) e shut (v.1 regions gated input marks keeps e shut);
     } in
-    subst (λ (e : Taken). IsSlice R e) (sym (same_taken (taken s.decisions.pinned.items s.decisions.exact.items) (taken_by new) alike)) (subst (λ (z : DecisionSet). IsSlice R (taken_by z)) (sym same) here)) c.sliced.ensures.same
+    subst (λ (e : Taken). IsSlice R e) (sym (same_taken (taken s.decisions.pinned.items s.decisions.exact.items) (taken_by new) alike))
+    (subst (λ (z : DecisionSet). IsSlice R (taken_by z)) (sym same) here)) c.sliced.ensures.same
 
 pub returns-then-not-take_new-clause-admits : goal.returns-then-not-take_new-clause-admits
 returns-then-not-take_new-clause-admits c =
@@ -107,7 +115,14 @@ pub returns-then-not-take_new-clause-listed : goal.returns-then-not-take_new-cla
 returns-then-not-take_new-clause-listed c =
     let new = c.take_new.new.d in
     let size = subst (λ n. AreOf n new) c.len-steps.ensures c.take_new.ensures.size in
-    IfOk-weaker c.sliced.result _ _ (λ s e. record { pins = new.pinned.items; exacts = new.exact.items; pinned = e.0; exact = e.1; pin_count = size.pinned; exact_count = size.exact }) c.sliced.ensures.lists
+    IfOk-weaker c.sliced.result _ _ (λ s e. record {
+      pins = new.pinned.items;
+      exacts = new.exact.items;
+      pinned = e.0;
+      exact = e.1;
+      pin_count = size.pinned;
+      exact_count = size.exact;
+    }) c.sliced.ensures.lists
 
 pub returns-then-not-take_new-clause-pinned : goal.returns-then-not-take_new-clause-pinned
 returns-then-not-take_new-clause-pinned c =

@@ -11,7 +11,8 @@ use Rattle.pg_slice_fast.proofs.slicing.slice.Given as goal
 abbrev pub invariant-loop-d : goal.invariant-loop-d
 invariant-loop-d l =
     AreOf (length l.t.steps) l.d
-    × ((regions : Regions) (gated : List InstrId) (input : List ℤ) → HasLandmarks (reference_of l.p regions gated input l.t.steps) l.r → ExtentsKeep (reference_of l.p regions gated input l.t.steps) →
+    × ((regions : Regions) (gated : List InstrId) (input : List ℤ) → HasLandmarks (reference_of l.p regions gated input l.t.steps) l.r
+    → ExtentsKeep (reference_of l.p regions gated input l.t.steps) →
     (e : Taken) → IsClosed (reference_of l.p regions gated input l.t.steps) e → AreWithin (taken_by l.d) e)
 
 abbrev pub decreases-loop-d : goal.decreases-loop-d

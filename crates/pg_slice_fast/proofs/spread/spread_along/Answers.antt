@@ -11,5 +11,11 @@ loop-n-preserved c =
     let v = c.loop-n.invariant in
     let e = c.in_ok-spread_step.ensures in
     let a = v.3 in
-    let b = e.left in
-    (e.size, e.live, e.settled, omega (arith, a, b), widens_then c.args.r.now c.args.holders.now c.args.t.now.steps (taken_by c.args.d.now) (taken_by c.loop-n.d) (taken_by c.spread_step.new.d) v.4 e.widens)
+    let b = e.left in (
+      e.size,
+      e.live,
+      e.settled,
+      omega (arith, a, b),
+      widens_then c.args.r.now c.args.holders.now c.args.t.now.steps
+          (taken_by c.args.d.now) (taken_by c.loop-n.d) (taken_by c.spread_step.new.d) v.4 e.widens,
+    )

@@ -12,7 +12,8 @@ returns-clause-live c =
     let hs = c.args.holders.now in
     let old = taken_by c.args.d.now in
     let new = taken_by c.take_asked.new.d in
-    subst (λ l. AreLive hs new l) (sym c.mark_settled.ensures.live) (live_stays hs old new c.mark_live.new.s.live.items c.take_asked.ensures.kept (c.mark_live.ensures.live hs old c.requires.here c.requires.live))
+    subst (λ l. AreLive hs new l) (sym c.mark_settled.ensures.live) (live_stays hs old new c.mark_live.new.s.live.items c.take_asked.ensures.kept
+    (c.mark_live.ensures.live hs old c.requires.here c.requires.live))
 
 pub returns-clause-settled : goal.returns-clause-settled
 returns-clause-settled c =

@@ -8,4 +8,5 @@ pub asks_exact-exact-requires-clause-live : goal.asks_exact-exact-requires-claus
 asks_exact-exact-requires-clause-live c = live_stays c.args.holders.now (taken_by c.args.d.now) (taken_by c.take_if.new.d) c.args.s.now.live.items c.take_if.ensures.kept c.requires.live
 
 pub asks_exact-exact-requires-clause-here : goal.asks_exact-exact-requires-clause-here
-asks_exact-exact-requires-clause-here c = pinned_more c.args.holders.now (taken_by c.args.d.now) (taken_by c.take_if.new.d) (slice_index_or c.args.holders.now c.args.n 0) c.take_if.ensures.kept c.requires.here
+asks_exact-exact-requires-clause-here c = pinned_more c.args.holders.now (taken_by c.args.d.now) (taken_by c.take_if.new.d)
+    (slice_index_or c.args.holders.now c.args.n 0) c.take_if.ensures.kept c.requires.here

@@ -23,7 +23,8 @@ returns-clause-begun c =
     let h = c.requires.begun c.args.thread in
     let i = c.begun-inner.ensures.older (omega (arith, b, h)) in
     let l = c.left_open-left.ensures.older in
-    λ u. subst (λ (xs : List ℕ). slice_index_or xs u 0 ≤ c.args.n + 1) (sym c.set_top.ensures) (tops_next c.args.tops.now.items c.args.thread c.left_open-left.result c.args.n c.requires.begun (omega (arith, i, l)) u)
+    λ u. subst (λ (xs : List ℕ). slice_index_or xs u 0 ≤ c.args.n + 1) (sym c.set_top.ensures)
+    (tops_next c.args.tops.now.items c.args.thread c.left_open-left.result c.args.n c.requires.begun (omega (arith, i, l)) u)
 
 pub returns-clause-held : goal.returns-clause-held
 returns-clause-held c = λ R m marks keeps q e a.

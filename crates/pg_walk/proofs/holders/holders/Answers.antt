@@ -14,7 +14,8 @@ loop-n-init c = (
   ap (λ (xs : List ℕ). length xs) c.no_holders-holders.ensures,
   subst AreOlder (sym c.no_holders-holders.ensures) none_older,
   (λ u. let e = none_on_top c.in_ok-tops.tops.items 256 c.in_ok-tops.ensures u in omega (arith, e)),
-  λ p regions gated input marks keeps. subst (λ (xs : List ℕ). AreHeld (reference_of p regions gated input c.args.t.now.steps) c.args.r.now 0 xs c.in_ok-tops.tops.items) (sym c.no_holders-holders.ensures)
+  λ p regions gated input marks keeps. subst (λ (xs : List ℕ). AreHeld (reference_of p regions gated input c.args.t.now.steps) c.args.r.now 0 xs c.in_ok-tops.tops.items)
+      (sym c.no_holders-holders.ensures)
       (held_first (reference_of p regions gated input c.args.t.now.steps) c.args.r.now c.in_ok-tops.tops.items (none_on_top c.in_ok-tops.tops.items 256 c.in_ok-tops.ensures)),
 )
 

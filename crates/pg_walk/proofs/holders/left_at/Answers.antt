@@ -16,7 +16,8 @@ pub returns-else-ends-clause-older : goal.returns-else-ends-clause-older
 returns-else-ends-clause-older c = c.loop-left.invariant.1
 
 pub returns-else-ends-clause-left : goal.returns-else-ends-clause-left
-returns-else-ends-clause-left c = left_stays c.args.r.now c.args.holders.now c.args.inner c.loop-left.left c.args.depth (Some c.args.block) c.loop-left-test.true (λ x e n. sym (c.ends.ensures x e n) ∙ c.if-ends.false) c.loop-left.invariant.0
+returns-else-ends-clause-left c = left_stays c.args.r.now c.args.holders.now c.args.inner c.loop-left.left c.args.depth (Some c.args.block) c.loop-left-test.true
+    (λ x e n. sym (c.ends.ensures x e n) ∙ c.if-ends.false) c.loop-left.invariant.0
 
 pub returns-after-loop-left-clause-older : goal.returns-after-loop-left-clause-older
 returns-after-loop-left-clause-older c = c.loop-left.invariant.1

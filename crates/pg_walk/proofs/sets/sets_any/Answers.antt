@@ -7,7 +7,8 @@ returns-then-sets_byte-clause-some c = λ q count f. record { by = byte_some c.a
 
 pub returns-else-sets_byte-clause-some : goal.returns-else-sets_byte-clause-some
 returns-else-sets_byte-clause-some c = λ q count f. record {
-  by = register_some c.args.w.now c.args.thread c.depth.result count c.marks.result.now (landmark_at c.args.r.now c.args.b) c.depth.ensures.depth c.marks.ensures.marks f (c.sets_register.ensures.some q);
+  by = register_some c.args.w.now c.args.thread c.depth.result count c.marks.result.now
+      (landmark_at c.args.r.now c.args.b) c.depth.ensures.depth c.marks.ensures.marks f (c.sets_register.ensures.some q);
 }
 
 pub returns-else-sets_byte-clause-none : goal.returns-else-sets_byte-clause-none

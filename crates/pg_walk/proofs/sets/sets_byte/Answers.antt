@@ -14,5 +14,6 @@ loop-k-preserved c = region_both (WriteNone c.args.w.now c.loop-k.k) (WritesNone
     (λ q h g. write_next c.args.w.now c.loop-k.k q h g) c.loop-k.invariant (c.sets_at.ensures.none c.if-sets_at.false)
 
 pub returns-clause-none : goal.returns-clause-none
-returns-clause-none c = λ e. region_both (WriteNone c.args.w.now c.loop-k.k) (λ (q : FreeRegion). c.access_count-k-end.result ≡ length q.accesses) (λ (q : FreeRegion). (i : ℕ) → asks_byte c.args.w.now i ≡ true → may_write q.accesses i ≡ false)
+returns-clause-none c = λ e. region_both (WriteNone c.args.w.now c.loop-k.k) (λ (q : FreeRegion). c.access_count-k-end.result ≡ length q.accesses)
+    (λ (q : FreeRegion). (i : ℕ) → asks_byte c.args.w.now i ≡ true → may_write q.accesses i ≡ false)
     (landmark_at c.args.r.now c.args.b) (λ q h g. none_written c.args.w.now c.loop-k.k c.access_count-k-end.result q c.loop-k-test.false h g) c.loop-k.invariant c.access_count-k-end.ensures.count

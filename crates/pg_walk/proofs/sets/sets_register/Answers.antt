@@ -11,7 +11,8 @@ loop-register-init c = λ i v l. absurd (omega (arith, l))
 pub loop-register-preserved : goal.loop-register-preserved
 loop-register-preserved c = λ i v l a. go i v a l (cases_lt i c.loop-register.from)
   where
-    go : (i : ℕ) (v : Bool) → asked_of c.args.w.now c.args.thread c.args.depth i ≡ Some v → i < c.in-Some.register + 1 → (i < c.loop-register.from) ⊎ (c.loop-register.from ≤ i) → in_table c.args.marks.now i ≡ false
+    go : (i : ℕ) (v : Bool) → asked_of c.args.w.now c.args.thread c.args.depth i ≡ Some v → i < c.in-Some.register + 1
+        → (i < c.loop-register.from) ⊎ (c.loop-register.from ≤ i) → in_table c.args.marks.now i ≡ false
     go i v a l (inl k) = c.loop-register.invariant i v k a
     go i v a l (inr k) =
         let f = if_some c.register_from.result c.in-Some.register _ c.in-Some.is c.register_from.ensures.first i v k a in

@@ -6,7 +6,8 @@ use Rattle.pg_closed.specs.Known.{Taken, has}
 use Rattle.pg_closed.specs.Closed.{AreWithin}
 use Rattle.pg_reference.specs.Kept.{landmark_at}
 use Rattle.pg_walk.specs.Sets.{SetsAt}
-use Rattle.pg_walk.proofs.Setting.{less_itself, less_then, passes_by, sets_less, small_at}
+use Rattle.pg_backward.proofs.Meets.{less_then}
+use Rattle.pg_walk.proofs.Setting.{less_itself, passes_by, sets_less, small_at}
 use Rattle.pg_walk.proofs.walk.decide.Goals as goal
 
 pub returns-then-is_pinned-clause-less : goal.returns-then-is_pinned-clause-less

@@ -14,7 +14,8 @@ invariant-loop-b l = record {
   settled : AreSettled l.holders (taken_by l.d) l.settled.items;
   size : AreOf (step_count l.r) l.d;
   left : left_by l.d ≤ left_by l.fn.d;
-  behind : (R : Reference) (e : Taken) (m : Moment) → IsTold R l.r l.holders l.counts → slice_get R.moments l.n ≡ Some m → thread_in m ≡ l.thread → Walks R e (suc l.n) l.fn.w (taken_by l.fn.d) → Walks R e (suc l.n) l.w (taken_by l.d);
+  behind : (R : Reference) (e : Taken) (m : Moment) → IsTold R l.r l.holders l.counts → slice_get R.moments l.n ≡ Some m → thread_in m ≡ l.thread
+      → Walks R e (suc l.n) l.fn.w (taken_by l.fn.d) → Walks R e (suc l.n) l.w (taken_by l.d);
 }
 
 abbrev pub decreases-loop-b : goal.decreases-loop-b

@@ -15,7 +15,8 @@ invariant-loop-n l = record {
   settled : AreSettled l.holders (taken_by l.d) l.settled.items;
   size : AreOf (length l.t.steps) l.d;
   left : left_by l.d ≤ left_by l.fn.d;
-  walks : (regions : Regions) (gated : List InstrId) (input : List ℤ) → IsTold (reference_of l.p regions gated input l.t.steps) l.r l.holders l.counts → (e : Taken) → IsClosed (reference_of l.p regions gated input l.t.steps) e →
+  walks : (regions : Regions) (gated : List InstrId) (input : List ℤ) → IsTold (reference_of l.p regions gated input l.t.steps) l.r l.holders l.counts
+      → (e : Taken) → IsClosed (reference_of l.p regions gated input l.t.steps) e →
       AreWithin (taken_by l.fn.d) e → Walks (reference_of l.p regions gated input l.t.steps) e l.n l.w (taken_by l.d);
 }
 

@@ -12,8 +12,10 @@ returns c = λ R n m s program instr did begun stacks.
     let e = c.made.ensures in
     let new : Calls = record { held = c.push_made.new.held; tops = c.push_made.new.tops } in
     pass_is R n m s c.args.x.now instr begun c.args.p.now program c.args.step.now.kind (ap (λ (z : Step). z.kind) did) c.args.self.now new c.top_after.new.held.items tops c.args.step.now.thread.0
-    c.top_at-before.result c.in_ok-top.top (ap (λ (z : Step). z.thread.0) (sym did)) (c.top_at-before.ensures ∙ ap (λ (xs : List ℕ). slice_index_or xs c.args.step.now.thread.0 0) c.as_slice.ensures.value)
+    c.top_at-before.result c.in_ok-top.top (ap (λ (z : Step). z.thread.0) (sym did)) (c.top_at-before.ensures
+    ∙ ap (λ (xs : List ℕ). slice_index_or xs c.args.step.now.thread.0 0) c.as_slice.ensures.value)
     c.in_ok-top.ensures.kept c.in_ok-top.ensures.stack c.set_top.ensures c.in_ok-push_made.ensures.kept
     (c.in_ok-push_made.ensures.many ∙ ap (λ (ls : List (List ℕ)). length tops + length ls) (sym e))
-    (λ u l. subst (λ (ls : List (List ℕ)). IsStack c.push_made.new.held.items (slice_index_or c.push_made.new.tops.items u 0) (slice_index_or ls (u - length tops) [])) (sym e) (c.in_ok-push_made.ensures.made u l))
+    (λ u l. subst (λ (ls : List (List ℕ)). IsStack c.push_made.new.held.items (slice_index_or c.push_made.new.tops.items u 0)
+    (slice_index_or ls (u - length tops) [])) (sym e) (c.in_ok-push_made.ensures.made u l))
     c.in_ok-push_made.ensures.others stacks

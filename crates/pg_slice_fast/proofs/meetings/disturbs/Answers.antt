@@ -5,9 +5,10 @@ use Rattle.pg_reference.specs.Kept.{landmark_at}
 use Rattle.pg_reference.specs.Landmarks.{Landmark}
 use Rattle.pg_slice_fast.proofs.Timing.{disturbs_by}
 use Rattle.pg_slice_fast.proofs.Spreading.{both_some}
-use Rattle.pg_slice_fast.proofs.spread.disturbs.Goals as goal
+use Rattle.pg_slice_fast.proofs.meetings.disturbs.Goals as goal
 
 pub returns : goal.returns
-returns c = λ q. disturbs_by c.args.t.now.steps c.args.intervals.now c.requires.intervals c.args.r.now c.args.n c.args.y c.step-z.result c.step-z.ensures (c.are_together.ensures c.if-not-are_together.false)
+returns c = λ q. disturbs_by c.args.t.now.steps c.args.intervals.now c.requires.intervals c.args.r.now c.args.n c.args.y c.step-z.result c.step-z.ensures
+    (c.are_together.ensures c.if-not-are_together.false)
     (both_some {A = Landmark} {B = Landmark} (landmark_at c.args.r.now c.args.n) (landmark_at c.args.r.now c.args.y) c.region_meets.result
     (λ (l k : Landmark). any_conflict (prints_in l.region) (print_of (access_of c.step-z.result) ++ prints_in k.region) ≡ true) q c.region_meets.ensures)

@@ -1,5 +1,5 @@
 use Rattle.std.proofs.Common.{◌-◌}
-use Rattle.pg_slice_fast.proofs.spread.disturbing_at.Given as goal
+use Rattle.pg_slice_fast.proofs.meetings.sharing.Given as goal
 
 abbrev pub invariant-loop-rival : goal.invariant-loop-rival
 invariant-loop-rival l = Unit {0}

@@ -2,7 +2,7 @@ use Rattle.std.proofs.Common.{sym, ◌∙◌, arith}
 use Rattle.pg_demands.proofs.Steps.{eq_false}
 use Rattle.pg_slice.proofs.Passing.{intervals_length}
 use Rattle.pg_slice_fast.proofs.Timing.{are_together}
-use Rattle.pg_slice_fast.proofs.spread.are_together.Goals as goal
+use Rattle.pg_slice_fast.proofs.meetings.are_together.Goals as goal
 
 pub interval_at-i-requires : goal.interval_at-i-requires
 interval_at-i-requires c = let l = intervals_length c.args.t.now.steps c.args.intervals.now c.requires.intervals in omega (arith, c.requires.number, l)

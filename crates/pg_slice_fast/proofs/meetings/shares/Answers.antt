@@ -1,6 +1,6 @@
 use Rattle.std.proofs.Common.{sym, ◌∙◌}
 use Rattle.pg_slice_fast.proofs.Timing.{shares_by}
-use Rattle.pg_slice_fast.proofs.spread.shares.Goals as goal
+use Rattle.pg_slice_fast.proofs.meetings.shares.Goals as goal
 
 pub returns : goal.returns
 returns c = λ q. shares_by c.args.t.now.steps c.args.intervals.now c.requires.intervals c.args.n c.args.y c.step-x.result c.step-z.result c.step-x.ensures c.step-z.ensures
