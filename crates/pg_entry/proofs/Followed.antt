@@ -27,7 +27,8 @@ until_fewer : (us : List Turn) (xs : List Step) → length (until_last us xs) �
 until_fewer us [] = omega arith
 until_fewer us (x ∷ xs) = go (has_turn x.thread.0 us) (until_fewer (turns_behind (event_of x) us) xs)
   where
-    go : (b : Bool) → length (until_last (turns_behind (event_of x) us) xs) ≤ length xs → length (if b then x ∷ until_last (turns_behind (event_of x) us) xs else until_last (turns_behind (event_of x) us) xs) ≤ suc (length xs)
+    go : (b : Bool) → length (until_last (turns_behind (event_of x) us) xs) ≤ length xs
+        → length (if b then x ∷ until_last (turns_behind (event_of x) us) xs else until_last (turns_behind (event_of x) us) xs) ≤ suc (length xs)
     go true h = omega (arith, h)
     go false h = omega (arith, h)
 
@@ -38,12 +39,14 @@ along_fewer p input xs z h =
     let c = h.short in
     omega (arith, a, b, c)
 
-ended_so : (r : GuidedRun) (printed : List ℕ) (value : ℤ) → r.end ≡ ends.Exit value → r.state.printed ≡ printed → length r.trace ≤ RECORDING_STEP_LIMIT → following r ≡ Exits r.trace printed value
+ended_so : (r : GuidedRun) (printed : List ℕ) (value : ℤ) → r.end ≡ ends.Exit value → r.state.printed ≡ printed
+    → length r.trace ≤ RECORDING_STEP_LIMIT → following r ≡ Exits r.trace printed value
 ended_so r printed value e q few =
     ap (λ (b : Bool). if b then Breaks else reached r.trace r.state.printed r.turns r.end) (not_more RECORDING_STEP_LIMIT (length r.trace) few)
     ∙ (ap (λ (f : GuidedEnd). reached r.trace r.state.printed r.turns f) e ∙ ap (λ (s : List ℕ). Exits r.trace s value) q)
 
-pub follows : (p : NumberedProgram) (input : List ℤ) (xs : List Step) (z : State) → GuidesAs p input (schedule_of xs) xs z → length (guided_of p input (schedule_of xs).turns (schedule_of xs).gated).trace ≤ RECORDING_STEP_LIMIT
+pub follows : (p : NumberedProgram) (input : List ℤ) (xs : List Step) (z : State) → GuidesAs p input (schedule_of xs) xs z
+    → length (guided_of p input (schedule_of xs).turns (schedule_of xs).gated).trace ≤ RECORDING_STEP_LIMIT
     → following_of p input (schedule_of xs).turns (schedule_of xs).gated ≡ Exits (guided_of p input (schedule_of xs).turns (schedule_of xs).gated).trace z.printed (exit_value_of z)
 unfolding following_of
 follows p input xs z g few = ended_so (guided_of p input (schedule_of xs).turns (schedule_of xs).gated) z.printed (exit_value_of z) g.end g.printed few

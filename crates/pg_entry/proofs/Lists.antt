@@ -14,7 +14,8 @@ module _ {A C : Type 0} (h : A → Option C) where
   chosen_some (z ∷ xs) zero x y g e = let q : z ≡ x = cc in let w : h z ≡ Some y = ap (λ a. h a) q ∙ e in rw w refl
   chosen_some (z ∷ xs) (suc i) x y g e = let n : suc i + 1 ≡ suc (i + 1) = omega arith in rw n (go (h z) (chosen_some xs i x y g e))
     where
-      go : (o : Option C) → filter_map h (take (i + 1) xs) ≡ filter_map h (take i xs) ++ y ∷ [] → cons_option o (filter_map h (take (i + 1) xs)) ≡ cons_option o (filter_map h (take i xs)) ++ y ∷ []
+      go : (o : Option C) → filter_map h (take (i + 1) xs) ≡ filter_map h (take i xs) ++ y ∷ []
+          → cons_option o (filter_map h (take (i + 1) xs)) ≡ cons_option o (filter_map h (take i xs)) ++ y ∷ []
       go None ih = ih
       go (Some a) ih = ap (λ l. a ∷ l) ih
 

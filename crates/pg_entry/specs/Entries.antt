@@ -1,5 +1,5 @@
 -- Entries: what is kept of a run, so that its schedule serves other inputs.
-use Rattle.std.specs.Prelude.{◌≡◌, ℕ, ◌<◌, ℤ, Bool, List, All, length, map, true, None, Option}
+use Rattle.std.specs.Prelude.{◌≡◌, ℕ, ℤ, Bool, List, length, map, true, None, Option}
 use Rattle.std.specs.List.{filter_map}
 use Rattle.pg_ir.specs.declared.ids.InstrId.{InstrId}
 use Rattle.pg_ir.specs.Program.{NumberedProgram}
@@ -63,12 +63,9 @@ pub record ServesAlong (p : NumberedProgram) (steps : List Step) (printed : List
   pub exits : following_of p e.input e.schedule.turns e.schedule.gated ≡ Exits steps printed value
   pub sliced : IsSliced p e.input e.schedule.gated steps (decisions_of e) e.precondition
   pub ids : e.ids ≡ map (λ (x : Step). x.instr) steps
-  -- each decision is on a step
-  pub pinned : All (λ n. n < length e.ids) e.pinned
-  pub exact : All (λ n. n < length e.ids) e.exact
-  -- and each list ascends without doubles
-  pub pinned_set : AreOfSet (length e.ids) e.pinned
-  pub exact_set : AreOfSet (length e.ids) e.exact
+  -- each decision is on a step, and each list ascends without doubles
+  pub pinned : AreOfSet (length e.ids) e.pinned
+  pub exact : AreOfSet (length e.ids) e.exact
   -- the input of the run is admitted
   pub own : is_admitted e.input e.precondition ≡ true
 

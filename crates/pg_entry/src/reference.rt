@@ -53,8 +53,6 @@ fn sliced(
     requires gated { All (λ (g : AnInstrId). g.0 < length p.now.instrs) gated.now }
     requires can { CanBeSliced p.now input.now gated.now t.now.steps }
     ensures slice { IfOk result (λ s. IsSliced p.now input.now gated.now t.now.steps (taken s.decisions.pinned.items s.decisions.exact.items) s.precondition) }
-    ensures pinned { IfOk result (λ s. All (λ n. n < length t.now.steps) s.decisions.pinned.items) }
-    ensures exact { IfOk result (λ s. All (λ n. n < length t.now.steps) s.decisions.exact.items) }
     ensures listed { IfOk result (λ s. AreListed (length t.now.steps) s.decisions) }
 {
     let replay = replayed(alloc, p, input, t, gated)?;
@@ -78,7 +76,9 @@ pub(crate) fn entry_along(
     ensures input { IfOk result (λ e. e.input ≡ input.now) }
     ensures schedule { IfOk result (λ e. e.schedule ≡ schedule) }
     ensures races { IfOk result (λ e. e.races ≡ races.items) }
-    ensures serves { IfOk result (λ e. (printed : List ℕ) (value : ℤ) → following_of p.now input.now schedule.turns schedule.gated ≡ Exits t.now.steps printed value → ServesAlong p.now t.now.steps printed value e) }
+    ensures serves { IfOk result (λ e. (printed : List ℕ) (value : ℤ)
+        → following_of p.now input.now schedule.turns schedule.gated ≡ Exits t.now.steps printed value
+        → ServesAlong p.now t.now.steps printed value e) }
 {
     exiting_runs_can_be_sliced();
     the_own_input_is_admitted();

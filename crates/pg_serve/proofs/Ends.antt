@@ -42,7 +42,8 @@ all_inputs_ended bytes h =
     ∙ sym (map-append input_of (ended_lines bytes) (last_line (begun_behind [] bytes)))
 
 -- the lines that end in a front of the input, and then the others
-pub all_inputs_front : (bytes rest : List ℕ) → inputs_after [] bytes ++ (inputs_after (begun_after [] bytes) rest ++ map input_of (last_line (begun_behind [] (bytes ++ rest)))) ≡ inputs_of (lines_of (bytes ++ rest))
+pub all_inputs_front : (bytes rest : List ℕ)
+    → inputs_after [] bytes ++ (inputs_after (begun_after [] bytes) rest ++ map input_of (last_line (begun_behind [] (bytes ++ rest)))) ≡ inputs_of (lines_of (bytes ++ rest))
 all_inputs_front bytes rest =
     sym (append_assoc (inputs_after [] bytes) (inputs_after (begun_after [] bytes) rest) (map input_of (last_line (begun_behind [] (bytes ++ rest)))))
     ∙ ap (λ l. l ++ map input_of (last_line (begun_behind [] (bytes ++ rest)))) (sym (inputs_more [] bytes rest) ∙ inputs_ended (bytes ++ rest))
@@ -97,7 +98,8 @@ consumes_still left rest next bytes h t =
 
 module _ {M : Type 0} (admits : M → List ℤ → Bool) (runs : Runs M) (before after : Option (List ℕ)) where
   -- inputs that were answered are a session
-  pub serves : (lines : List (List ℕ)) (inputs : List (Option (List ℤ))) (kept : Kept M) → inputs ≡ inputs_of lines → Answered admits runs begin inputs kept before after → Serves admits runs lines before after
+  pub serves : (lines : List (List ℕ)) (inputs : List (Option (List ℤ))) (kept : Kept M) → inputs ≡ inputs_of lines → Answered admits runs begin inputs kept before after
+      → Serves admits runs lines before after
   serves lines inputs kept e h = record {
     text = flat_map answer_text h.answers;
     session = record { answers = h.answers; kept = kept; session = subst (λ l. AnswersAll admits runs begin l h.answers kept) e h.session; whole = refl };
@@ -122,7 +124,8 @@ module _ {M : Type 0} (admits : M → List ℤ → Bool) (runs : Runs M) (before
   serves_taken (Some xs) rest bytes h w s = record { taken = bytes; consumed = h; within = w; serves = s }
 
   -- a front of the answers to the first lines
-  pub front : (lines : List (List ℕ)) (inputs others : List (Option (List ℤ))) → inputs ++ others ≡ inputs_of lines → CutShort admits runs begin inputs before after → ServesFront admits runs lines before after
+  pub front : (lines : List (List ℕ)) (inputs others : List (Option (List ℤ))) → inputs ++ others ≡ inputs_of lines → CutShort admits runs begin inputs before after
+      → ServesFront admits runs lines before after
   front lines inputs others e h =
       let these : take h.count inputs ≡ inputs_of (take h.count lines) =
       sym (take-append-le h.count inputs others h.within) ∙ ap (take h.count) e ∙ take-map input_of h.count lines in
@@ -135,7 +138,8 @@ module _ {M : Type 0} (admits : M → List ℤ → Bool) (runs : Runs M) (before
 
   -- ---- what was taken from the source
 
-  pub all_of : (left rest : Option (List ℕ)) (kept : Kept M) (line : List ℕ) (ended : Bool) → ended ≡ true → HasTaken admits runs left rest before after kept line ended → HasAll admits runs left before after kept line
+  pub all_of : (left rest : Option (List ℕ)) (kept : Kept M) (line : List ℕ) (ended : Bool) → ended ≡ true → HasTaken admits runs left rest before after kept line ended
+      → HasAll admits runs left before after kept line
   all_of left rest kept line ended e h = record {
     bytes = h.bytes;
     whole = whole_of left rest h.bytes h.consumed (h.at_end e);
@@ -145,7 +149,8 @@ module _ {M : Type 0} (admits : M → List ℤ → Bool) (runs : Runs M) (before
   }
 
   -- the source has no byte behind as many as a session takes
-  pub all_of_full : (left rest : Option (List ℕ)) (kept : Kept M) (line : List ℕ) (ended : Bool) → IfSome rest (λ bytes. bytes ≡ []) → HasTaken admits runs left rest before after kept line ended → HasAll admits runs left before after kept line
+  pub all_of_full : (left rest : Option (List ℕ)) (kept : Kept M) (line : List ℕ) (ended : Bool) → IfSome rest (λ bytes. bytes ≡ [])
+      → HasTaken admits runs left rest before after kept line ended → HasAll admits runs left before after kept line
   all_of_full left rest kept line ended e h = record {
     bytes = h.bytes;
     whole = whole_of left rest h.bytes h.consumed (at_end_if rest e);
@@ -154,7 +159,8 @@ module _ {M : Type 0} (admits : M → List ℤ → Bool) (runs : Runs M) (before
     begun = h.begun;
   }
 
-  pub limit_of : (left rest : Option (List ℕ)) (kept : Kept M) (line : List ℕ) (ended : Bool) → ended ≡ false → IfSome rest (λ ys. 0 < length ys) → HasTaken admits runs left rest before after kept line ended
+  pub limit_of : (left rest : Option (List ℕ)) (kept : Kept M) (line : List ℕ) (ended : Bool) → ended ≡ false → IfSome rest (λ ys. 0 < length ys)
+      → HasTaken admits runs left rest before after kept line ended
       → IfSome left (ServesLimit admits runs before after)
   limit_of left rest kept line ended e more h =
       serves_limit left rest h.bytes h.consumed more (h.full e) (serves (ended_lines h.bytes) (inputs_after [] h.bytes) kept (inputs_ended h.bytes) h.answered)
@@ -203,7 +209,8 @@ module _ {M : Type 0} (admits : M → List ℤ → Bool) (runs : Runs M) where
       })
 
   pub served_cut : (others : Runs M) (left before mid after : Option (List ℕ)) (kept : Kept M) (line : List ℕ) → others ≡ runs → (line ≡ [] → ⊥)
-      → HasAll admits runs left before mid kept line → CutShort admits others kept (input_of line ∷ []) mid after → IfSome left (λ input. ServesFront admits runs (lines_of input) before after)
+      → HasAll admits runs left before mid kept line → CutShort admits others kept (input_of line ∷ []) mid after
+      → IfSome left (λ input. ServesFront admits runs (lines_of input) before after)
   served_cut others left before mid after kept line same some h g =
       let both : CutShort admits runs begin (inputs_after [] h.bytes ++ input_of line ∷ []) before after =
       cut_then admits runs begin kept _ _ before mid after h.answered (subst (λ r. CutShort admits r kept (input_of line ∷ []) mid after) same g) in
@@ -224,6 +231,7 @@ module _ {M : Type 0} (admits : M → List ℤ → Bool) (runs : Runs M) where
       let w = h.within in
       omega (arith, n, w)
 
-  pub stands_after_all : (others : Runs M) (left before after : Option (List ℕ)) (kept : Kept M) (line : List ℕ) → others ≡ runs → HasAll admits runs left before after kept line → Stands others kept
+  pub stands_after_all : (others : Runs M) (left before after : Option (List ℕ)) (kept : Kept M) (line : List ℕ) → others ≡ runs
+      → HasAll admits runs left before after kept line → Stands others kept
   stands_after_all others left before after kept line same h =
       subst (λ r. Stands r kept) (sym same) (stands_answered admits runs begin kept (inputs_after [] h.bytes) before after h.answered (stands_begin runs))

@@ -27,7 +27,8 @@ same_count (Err x) e f a b c h is (inl k) = inl (cc)
 same_count (Err x) e f a b c h is (inr k) = inr (k ∙ is)
 
 -- neither of two faults
-pub no_faults : {S T E P : Type 0} (r : Result T E) (e f g : E) → IsErrAnd r (λ x. x ≡ e) → (IsErrOf {T = S} (Err e) f → ⊥) → (IsErrOf {T = S} (Err e) g → ⊥) → IsErrOf r f ⊎ IsErrOf r g → P
+pub no_faults : {S T E P : Type 0} (r : Result T E) (e f g : E) → IsErrAnd r (λ x. x ≡ e) → (IsErrOf {T = S} (Err e) f → ⊥) → (IsErrOf {T = S} (Err e) g → ⊥)
+    → IsErrOf r f ⊎ IsErrOf r g → P
 no_faults r e f g h nf ng (inl is) = absurd (nf (same_fault r e f h is))
 no_faults r e f g h nf ng (inr is) = absurd (ng (same_fault r e g h is))
 

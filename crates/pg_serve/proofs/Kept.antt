@@ -125,7 +125,8 @@ same_values f exact (x ∷ xs) (y ∷ ys) e =
 abbrev of_parts : {V : Type 0} → ℕ → ℕ → List V → Kept V
 of_parts size inserted values = record { size = size; inserted = inserted; values = values }
 
-pub search_stays : {V M : Type 0} (f : V → M) (old new : Kept V) → IsExact f → (new.size ≡ old.size) × (new.inserted ≡ old.inserted) → map f new.values ≡ map f old.values → new ≡ old
+pub search_stays : {V M : Type 0} (f : V → M) (old new : Kept V) → IsExact f → (new.size ≡ old.size) × (new.inserted ≡ old.inserted)
+    → map f new.values ≡ map f old.values → new ≡ old
 search_stays f old new exact c s =
     let values : new.values ≡ old.values = same_values f exact new.values old.values s in
     ap (λ n. of_parts n new.inserted new.values) c.0 ∙ ap (λ n. of_parts old.size n new.values) c.1 ∙ ap (of_parts old.size old.inserted) values

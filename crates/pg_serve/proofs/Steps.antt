@@ -121,7 +121,8 @@ ended_more begun [] ys = refl
 ended_more begun (x ∷ xs) ys = go (x == 10) (ended_more [] xs ys) (ended_more (keep begun x) xs ys)
   where
     go : (b : Bool) → ended_after [] (xs ++ ys) ≡ ended_after [] xs ++ ended_after (begun_after [] xs) ys
-        → ended_after (keep begun x) (xs ++ ys) ≡ ended_after (keep begun x) xs ++ ended_after (begun_after (keep begun x) xs) ys → cond b (begun ∷ ended_after [] (xs ++ ys)) (ended_after (keep begun x) (xs ++ ys))
+        → ended_after (keep begun x) (xs ++ ys) ≡ ended_after (keep begun x) xs ++ ended_after (begun_after (keep begun x) xs) ys
+        → cond b (begun ∷ ended_after [] (xs ++ ys)) (ended_after (keep begun x) (xs ++ ys))
         ≡ cond b (begun ∷ ended_after [] xs) (ended_after (keep begun x) xs) ++ ended_after (cond b (begun_after [] xs) (begun_after (keep begun x) xs)) ys
     go true ended begins = ap (λ l. begun ∷ l) ended
     go false ended begins = begins
@@ -131,7 +132,8 @@ begun_more begun [] ys = refl
 begun_more begun (x ∷ xs) ys = go (x == 10) (begun_more [] xs ys) (begun_more (keep begun x) xs ys)
   where
     go : (b : Bool) → begun_after [] (xs ++ ys) ≡ begun_after (begun_after [] xs) ys
-        → begun_after (keep begun x) (xs ++ ys) ≡ begun_after (begun_after (keep begun x) xs) ys → cond b (begun_after [] (xs ++ ys)) (begun_after (keep begun x) (xs ++ ys)) ≡ begun_after (cond b (begun_after [] xs) (begun_after (keep begun x) xs)) ys
+        → begun_after (keep begun x) (xs ++ ys) ≡ begun_after (begun_after (keep begun x) xs) ys
+        → cond b (begun_after [] (xs ++ ys)) (begun_after (keep begun x) (xs ++ ys)) ≡ begun_after (cond b (begun_after [] xs) (begun_after (keep begun x) xs)) ys
     go true ended begins = ended
     go false ended begins = begins
 
@@ -143,7 +145,8 @@ pub few_end : (begun xs : List ℕ) → length (ended_after begun xs) ≤ length
 few_end begun [] = omega arith
 few_end begun (x ∷ xs) = go (x == 10) (few_end [] xs) (few_end (keep begun x) xs)
   where
-    go : (b : Bool) → length (ended_after [] xs) ≤ length xs → length (ended_after (keep begun x) xs) ≤ length xs → length (cond b (begun ∷ ended_after [] xs) (ended_after (keep begun x) xs)) ≤ suc (length xs)
+    go : (b : Bool) → length (ended_after [] xs) ≤ length xs → length (ended_after (keep begun x) xs) ≤ length xs
+        → length (cond b (begun ∷ ended_after [] xs) (ended_after (keep begun x) xs)) ≤ suc (length xs)
     go true ended begins = omega (arith, ended)
     go false ended begins = omega (arith, begins)
 
@@ -191,7 +194,8 @@ inputs-cut begun [] = refl
 inputs-cut begun (x ∷ xs) = go (x == 10) (inputs-cut [] xs) (inputs-cut (begun ++ x ∷ []) xs)
   where
     go : (b : Bool) → map input_of (ended_after (take (LINE_LIMIT + 1) []) xs) ≡ map input_of (ended_behind [] xs)
-        → map input_of (ended_after (take (LINE_LIMIT + 1) (begun ++ x ∷ [])) xs) ≡ map input_of (ended_behind (begun ++ x ∷ []) xs) → map input_of (cond b (take (LINE_LIMIT + 1) begun ∷ ended_after [] xs) (ended_after (keep (take (LINE_LIMIT + 1) begun) x) xs))
+        → map input_of (ended_after (take (LINE_LIMIT + 1) (begun ++ x ∷ [])) xs) ≡ map input_of (ended_behind (begun ++ x ∷ []) xs)
+        → map input_of (cond b (take (LINE_LIMIT + 1) begun ∷ ended_after [] xs) (ended_after (keep (take (LINE_LIMIT + 1) begun) x) xs))
         ≡ map input_of (cond b (begun ∷ ended_behind [] xs) (ended_behind (begun ++ x ∷ []) xs))
     go true ended begins = ap (λ i. i ∷ map input_of (ended_after [] xs)) (input_cut begun) ∙ ap (λ l. input_of begun ∷ l) ended
     go false ended begins = ap (λ b. map input_of (ended_after b xs)) (keep-cut begun x) ∙ begins
@@ -205,7 +209,8 @@ begun-cut begun [] = refl
 begun-cut begun (x ∷ xs) = go (x == 10) (begun-cut [] xs) (begun-cut (begun ++ x ∷ []) xs)
   where
     go : (b : Bool) → begun_after (take (LINE_LIMIT + 1) []) xs ≡ take (LINE_LIMIT + 1) (begun_behind [] xs)
-        → begun_after (take (LINE_LIMIT + 1) (begun ++ x ∷ [])) xs ≡ take (LINE_LIMIT + 1) (begun_behind (begun ++ x ∷ []) xs) → cond b (begun_after [] xs) (begun_after (keep (take (LINE_LIMIT + 1) begun) x) xs)
+        → begun_after (take (LINE_LIMIT + 1) (begun ++ x ∷ [])) xs ≡ take (LINE_LIMIT + 1) (begun_behind (begun ++ x ∷ []) xs)
+        → cond b (begun_after [] xs) (begun_after (keep (take (LINE_LIMIT + 1) begun) x) xs)
         ≡ take (LINE_LIMIT + 1) (cond b (begun_behind [] xs) (begun_behind (begun ++ x ∷ []) xs))
     go true ended begins = ended
     go false ended begins = ap (λ b. begun_after b xs) (keep-cut begun x) ∙ begins

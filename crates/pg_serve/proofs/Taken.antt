@@ -56,7 +56,8 @@ module _ {M : Type 0} (admits : M → List ℤ → Bool) (runs : Runs M) where
 
   pub far_more : (others : Runs M) (left rest next before mid after : Option (List ℕ)) (kept new : Kept M) (line now : List ℕ) (taken n : ℕ) (piece buf : List ℕ)
       → others ≡ runs → n ≤ length buf → SoFar admits runs left rest before mid kept line taken → Consumes rest next (take n buf)
-      → Answered admits others kept (inputs_after line piece) new mid after → now ≡ begun_after line piece → piece ≡ take n buf → SoFar admits runs left next before after new now (taken + n)
+      → Answered admits others kept (inputs_after line piece) new mid after → now ≡ begun_after line piece → piece ≡ take n buf
+      → SoFar admits runs left next before after new now (taken + n)
   far_more others left rest next before mid after kept new line now taken n piece buf same le h eats g b is = record {
     bytes = h.bytes ++ piece;
     consumed = consumes-append left rest next h.bytes piece h.consumed (subst (Consumes rest next) (sym is) eats);
@@ -79,7 +80,8 @@ module _ {M : Type 0} (admits : M → List ℤ → Bool) (runs : Runs M) where
   }
 
   pub far_takes : (left rest next before after : Option (List ℕ)) (kept : Kept M) (line : List ℕ) (taken n : ℕ) (buf : List ℕ)
-      → SoFar admits runs left rest before after kept line taken → Consumes rest next (take n buf) → n ≤ length buf → taken + n ≤ SESSION_INPUT_LIMIT → TakesAtMost left next SESSION_INPUT_LIMIT
+      → SoFar admits runs left rest before after kept line taken → Consumes rest next (take n buf) → n ≤ length buf → taken + n ≤ SESSION_INPUT_LIMIT
+      → TakesAtMost left next SESSION_INPUT_LIMIT
   far_takes left rest next before after kept line taken n buf h eats le room =
       let s = h.count in
       (h.bytes ++ take n buf, consumes-append left rest next h.bytes (take n buf) h.consumed eats, omega (arith, s, room, length-append h.bytes (take n buf), length-take-le n buf le))
@@ -99,7 +101,8 @@ module _ {M : Type 0} (admits : M → List ℤ → Bool) (runs : Runs M) where
   far_kept left rest next before after kept line taken h le k = let s = h.count in (h.bytes, consumes_kept left rest next h.bytes h.consumed k, omega (arith, s, le))
 
   -- no more of a line is kept than shows that it is too long
-  pub far_line : (left rest before after : Option (List ℕ)) (kept : Kept M) (line : List ℕ) (taken : ℕ) → SoFar admits runs left rest before after kept line taken → length line ≤ LINE_LIMIT + 1
+  pub far_line : (left rest before after : Option (List ℕ)) (kept : Kept M) (line : List ℕ) (taken : ℕ) → SoFar admits runs left rest before after kept line taken
+      → length line ≤ LINE_LIMIT + 1
   far_line left rest before after kept line taken h =
       let n = ap length (h.begun ∙ begun_kept h.bytes) in
       omega (arith, n, length-take (LINE_LIMIT + 1) (begun_behind [] h.bytes))
@@ -111,7 +114,8 @@ module _ {M : Type 0} (admits : M → List ℤ → Bool) (runs : Runs M) where
       let s = h.count in
       omega (arith, n, s)
 
-  pub far_stands : (others : Runs M) (left rest before after : Option (List ℕ)) (kept : Kept M) (line : List ℕ) (taken : ℕ) → others ≡ runs → SoFar admits runs left rest before after kept line taken → Stands others kept
+  pub far_stands : (others : Runs M) (left rest before after : Option (List ℕ)) (kept : Kept M) (line : List ℕ) (taken : ℕ) → others ≡ runs
+      → SoFar admits runs left rest before after kept line taken → Stands others kept
   far_stands others left rest before after kept line taken same h =
       subst (λ r. Stands r kept) (sym same) (stands_answered admits runs begin kept (inputs_after [] h.bytes) before after h.answered (stands_begin runs))
 

@@ -148,7 +148,19 @@ few_numbers n i = subst (λ k. k ≤ NUMBERS_LIMIT) (sym (length-numbers n ((37 
 
 module _ {M : Type 0} (admits : M → List ℤ → Bool) (runs : Runs M) (number : ℕ) where
   pub tallied_first : Tallied admits runs number 0 begin 0 0 0 0 0
-  tallied_first = record { answers = []; session = (refl, refl); lines = refl; recorded_is = refl; reused_is = refl; refused_is = refl; turns_is = refl; sum_is = refl; few_turns = omega arith; few_kept = omega arith; stands = stands_begin runs }
+  tallied_first = record {
+    answers = [];
+    session = (refl, refl);
+    lines = refl;
+    recorded_is = refl;
+    reused_is = refl;
+    refused_is = refl;
+    turns_is = refl;
+    sum_is = refl;
+    few_turns = omega arith;
+    few_kept = omega arith;
+    stands = stands_begin runs;
+  }
 
   pub few_recorded : (i : ℕ) (kept : Kept M) (r1 r2 r3 r4 r5 : ℕ) → Tallied admits runs number i kept r1 r2 r3 r4 r5 → r1 ≤ i
   few_recorded i kept r1 r2 r3 r4 r5 t = omega (arith, t.recorded_is, t.lines, count_by-le-length (λ (a : Answer). is_recorded a.kind) t.answers)

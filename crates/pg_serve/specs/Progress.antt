@@ -1,5 +1,6 @@
 -- How far a session has come: the bytes that it took, the answers that it wrote.
-use Rattle.std.specs.Prelude.{◌≡◌, ℕ, ℤ, ◌+◌, ◌≤◌, Bool, true, false, ◌==◌, if◌then◌else◌, All, IfSome, List, [], ◌∷◌, ◌++◌, flat_map, length, map, take, Option}
+use Rattle.std.specs.Prelude.{◌≡◌, ℕ, ℤ, ◌+◌, ◌≤◌, Bool, true, false, ◌==◌, if◌then◌else◌, All, IfSome, Option}
+use Rattle.std.specs.Prelude.{List, [], ◌∷◌, ◌++◌, flat_map, length, map, take}
 use Rattle.std.specs.Io.KnownBytes.{Appends, Consumes, IsAtEnd}
 use Rattle.pg_io.specs.Streams.{AppendsFront}
 use Rattle.pg_cache.specs.Kept.{Kept}

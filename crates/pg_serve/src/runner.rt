@@ -1,5 +1,5 @@
 //! What a session asks of a program.
-ghost use Rattle.std.specs.Prelude.{◌≡◌, ◌≤◌, ℤ, Bool, List, true, length, IfOk, OnErr};
+ghost use Rattle.std.specs.Prelude.{◌≡◌, ◌≤◌, true, length, IfOk};
 ghost use Rattle.pg_num.specs.declared.limits.TheConstants.{NUMBERS_LIMIT};
 ghost use Rattle.pg_serve.specs.Sessions.{Runs, IsEntryOf};
 ghost use Rattle.pg_serve.specs.Recordings.{IsRecording};

@@ -1,5 +1,5 @@
 //! A session over a source and a sink.
-ghost use Rattle.std.specs.Prelude.{◌≡◌, ◌≤◌, ◌<◌, ◌+◌, ◌⊎◌, [], false, length, IfOk, IfSome, OnOk, IsErrOf};
+ghost use Rattle.std.specs.Prelude.{◌≡◌, ◌<◌, ◌+◌, ◌⊎◌, [], false, length, IfOk, IfSome, OnOk, IsErrOf};
 ghost use Rattle.pg_io.specs.Faults.{Rose};
 ghost use Rattle.pg_io.specs.Streams.{TakesAtMost};
 ghost use Rattle.pg_num.specs.declared.limits.TheConstants.{SESSION_INPUT_LIMIT};
@@ -89,9 +89,12 @@ fn take_all<R: Runner, S: Source, K: Sink>(
     requires exact { IsExact R.Entry.meaning }
     requires kept { session.old.cache ≡ begin }
     requires line { session.old.line.items ≡ [] }
-    ensures all { OnOk result (HasAll (admits_by R.Entry.meaning R.Entry.test) (R.runs (R.subject runner.old)) (S.rest src.old) (K.taken out.old) (K.taken out.new) session.new.cache session.new.line.items) }
-    ensures input_limit { IsErrOf result ServeFault.InputLimit → IfSome (S.rest src.old) (ServesLimit (admits_by R.Entry.meaning R.Entry.test) (R.runs (R.subject runner.old)) (K.taken out.old) (K.taken out.new)) }
-    ensures read_fault { IsErrOf result ServeFault.ReadFault → IfSome (S.rest src.old) (ServesTaken (admits_by R.Entry.meaning R.Entry.test) (R.runs (R.subject runner.old)) (S.rest src.new) (K.taken out.old) (K.taken out.new)) }
+    ensures all { OnOk result (HasAll (admits_by R.Entry.meaning R.Entry.test)
+        (R.runs (R.subject runner.old)) (S.rest src.old) (K.taken out.old) (K.taken out.new) session.new.cache session.new.line.items) }
+    ensures input_limit { IsErrOf result ServeFault.InputLimit →
+        IfSome (S.rest src.old) (ServesLimit (admits_by R.Entry.meaning R.Entry.test) (R.runs (R.subject runner.old)) (K.taken out.old) (K.taken out.new)) }
+    ensures read_fault { IsErrOf result ServeFault.ReadFault →
+        IfSome (S.rest src.old) (ServesTaken (admits_by R.Entry.meaning R.Entry.test) (R.runs (R.subject runner.old)) (S.rest src.new) (K.taken out.old) (K.taken out.new)) }
     ensures cut { (IsErrOf result ServeFault.WriteFault ⊎ IsErrOf result ServeFault.OutOfMemory) →
         IfSome (S.rest src.old) (λ input. ServesFront (admits_by R.Entry.meaning R.Entry.test) (R.runs (R.subject runner.old)) (lines_of input) (K.taken out.old) (K.taken out.new)) }
     ensures takes { TakesAtMost (S.rest src.old) (S.rest src.new) (SESSION_INPUT_LIMIT + 1) }

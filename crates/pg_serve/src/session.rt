@@ -1,6 +1,5 @@
 //! A session over bytes that come in pieces: each line is answered as soon as it ends.
-ghost use Rattle.std.specs.Prelude.{◌≡◌, ◌≤◌, ◌<◌, ◌+◌, ◌-◌, ◌^◌, [], ◌∷◌, length, IfOk, IfSome, OnOk, OnErr, IsErrOf, ◌⊎◌};
-ghost use Rattle.std.specs.Option.{option_map};
+ghost use Rattle.std.specs.Prelude.{◌≡◌, ◌≤◌, ◌<◌, ◌+◌, ◌-◌, ◌^◌, [], ◌∷◌, length, IfOk, OnOk, OnErr, IsErrOf, ◌⊎◌};
 ghost use Rattle.pg_io.specs.Faults.{Rose};
 ghost use Rattle.pg_num.specs.declared.limits.TheConstants.{LINE_LIMIT};
 ghost use Rattle.pg_report.specs.Replies.{HasEnd};
@@ -103,7 +102,8 @@ pub(crate) fn end_line<R: Runner, K: Sink>(
     requires count { session.old.cache.inserted < 2 ^ 64 - 1 }
     ensures answered { OnOk result (Answered (admits_by R.Entry.meaning R.Entry.test) (R.runs (R.subject runner.old)) session.old.cache (input_of session.old.line.items ∷ [])
         session.new.cache (K.taken out.old) (K.taken out.new)) }
-    ensures cut { OnErr result (CutShort (admits_by R.Entry.meaning R.Entry.test) (R.runs (R.subject runner.old)) session.old.cache (input_of session.old.line.items ∷ []) (K.taken out.old) (K.taken out.new)) }
+    ensures cut { OnErr result (CutShort (admits_by R.Entry.meaning R.Entry.test)
+        (R.runs (R.subject runner.old)) session.old.cache (input_of session.old.line.items ∷ []) (K.taken out.old) (K.taken out.new)) }
     ensures line { OnOk result (session.new.line.items ≡ []) }
     ensures cause { IsErrOf result ReplyFault.WriteFault → Rose (K.faults out.old) (K.faults out.new) }
     ensures count_stays { IsErrOf result ReplyFault.WriteFault ⊎ (K.faults out.new ≡ K.faults out.old) }
@@ -140,7 +140,8 @@ pub(crate) fn take_piece<R: Runner, K: Sink>(
     requires line { length session.old.line.items ≤ LINE_LIMIT + 1 }
     ensures answered { OnOk result (Answered (admits_by R.Entry.meaning R.Entry.test) (R.runs (R.subject runner.old)) session.old.cache (inputs_after session.old.line.items piece.now)
         session.new.cache (K.taken out.old) (K.taken out.new)) }
-    ensures cut { OnErr result (CutShort (admits_by R.Entry.meaning R.Entry.test) (R.runs (R.subject runner.old)) session.old.cache (inputs_after session.old.line.items piece.now) (K.taken out.old) (K.taken out.new)) }
+    ensures cut { OnErr result (CutShort (admits_by R.Entry.meaning R.Entry.test)
+        (R.runs (R.subject runner.old)) session.old.cache (inputs_after session.old.line.items piece.now) (K.taken out.old) (K.taken out.new)) }
     ensures line { OnOk result (session.new.line.items ≡ begun_after session.old.line.items piece.now) }
     ensures cause { IsErrOf result ReplyFault.WriteFault → Rose (K.faults out.old) (K.faults out.new) }
     ensures count_stays { IsErrOf result ReplyFault.WriteFault ⊎ (K.faults out.new ≡ K.faults out.old) }

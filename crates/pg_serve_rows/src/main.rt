@@ -1,8 +1,8 @@
 //! Runs the top call on small programs. A line of `rows.txt` has the words of a command line, the files that stand one behind
 //! the other as the program text `x` of the shelf, and the bytes of the source, with `/` for a line feed. For each it prints the
-//! exit status and what was written, and says so where another size of the reads changes that. What comes of each row was
-//! written down by hand. Then it serves lines at the limit of a line, each proper prefix of a program, and each prefix of
-//! some lines, from a source that ends there and from one that fails there. `pg_session_tests` has longer runs and inputs.
+//! exit status and what was written, and says so where reads of one byte change that. What comes of each row was written down
+//! by hand. Then it serves lines at the limit of a line, each proper prefix of a program, and each prefix of some lines, from a
+//! source that ends there and from one that fails there. `pg_session_tests` has longer runs and inputs.
 #![tactic(auto)]
 
 use anyhow::Result;
@@ -83,7 +83,7 @@ fn print_bytes(rt: &HostRuntime, bytes: &[u8]) -> Result<()> {
     Ok(())
 }
 
-/// Runs a command line, and prints what comes of it, under a title.
+/// Runs a command line, and prints what comes of it, under a title. Says so where reads of one byte give something else.
 fn print_outcome(
     rt: &HostRuntime,
     title: &str,
@@ -95,19 +95,13 @@ fn print_outcome(
     let (status, written) = outcome(rt.alloc(), line, text, src)?;
     let code = status.code();
     println!(rt; "{title}: {code}")?;
-    print_bytes(rt, written.as_slice())
-}
-
-/// Whether reads of one byte give anything else than longer ones.
-fn depends_on_pieces(
-    alloc: Global,
-    line: &str,
-    text: &[u8],
-    input: &[u8],
-) -> Result<bool, AllocError> {
-    let (status, written) = outcome(alloc, line, text, source_of(alloc, input)?)?;
-    let (other, others) = outcome(alloc, line, text, slow_source(alloc, input, &[])?)?;
-    Ok(status != other || written.as_slice() != others.as_slice())
+    print_bytes(rt, written.as_slice())?;
+    let src = slow_source(rt.alloc(), input, &[])?;
+    let (other, others) = outcome(rt.alloc(), line, text, src)?;
+    if status != other || written.as_slice() != others.as_slice() {
+        println!(rt; "reads of one byte give something else")?;
+    }
+    Ok(())
 }
 
 /// Runs a row: its words, its files and its input.
@@ -289,9 +283,6 @@ fn main(rt: HostRuntime) -> Result<()> {
         }
     }
     print_limits(&rt)?;
-    let text = joined(&rt, "known.ll locked_total.ll")?;
-    let other = depends_on_pieces(rt.alloc(), "serve x", text.as_slice(), b"1 2 3\n10 20\n\n")?;
-    println!(rt; "reads of one byte give another text: {other}")?;
     let other = has_other_front(rt.alloc(), joined(&rt, SHORTENED)?.as_slice())?;
     println!(rt; "a proper prefix of {SHORTENED} has another status than 0 and 3: {other}")?;
     print_prefixes(&rt)

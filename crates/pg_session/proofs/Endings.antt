@@ -1,12 +1,12 @@
 -- How a command ends, from what its status says.
-use Rattle.std.proofs.Common.{◌≡◌, refl, sym, subst, ℕ, ◌≤◌, ◌⊎◌, inl, inr, List, [], Option, Some, None, IfSome, arith}
+use Rattle.std.proofs.Common.{◌≡◌, ◌∙◌, refl, sym, subst, ℕ, ◌≤◌, ◌⊎◌, inl, inr, List, [], Option, Some, None, IfSome, arith}
 use Rattle.pg_ir.specs.Program.{NumberedProgram}
 use Rattle.pg_io.specs.Streams.{AppendsFront, TakesAtMost}
 use Rattle.pg_command.specs.Commands.{Meaning}
 use Rattle.pg_session.specs.declared.status.Status.{Status}
 use Rattle.pg_session.specs.declared.status.Status.TheVariants.{Done, Usage, ProgramRefused, ShelfFault, ReadFault, WriteFault, InputLimit, OutOfMemory}
 use Rattle.pg_session.specs.Commands.{World, WritesWhole, WritesRefusal, FailsToFetch, FailsToRead, FailsToWrite, ExceedsLimit, LacksMemory, EndsAs, IsDue, NoFault, IsOr, DueOfText, most_taken, WritesTextFront}
-use Rattle.pg_session.specs.Replies.{IsReply, IsReplyStatus}
+use Rattle.pg_session.specs.Replies.{IsReply, IsReplyStatus, IsWritten}
 use Rattle.pg_session.specs.Texts.{IsAccepted, IsRefusalLine}
 use Rattle.pg_session.proofs.TextVerdicts.{not_refused}
 
@@ -95,6 +95,24 @@ front_of Text text written old new status is r cut =
     by_reply (λ s. WritesTextFront Text old new ⊎ WritesTextFront (IsRefusalLine text) old new) Text text written status is r
     (λ t. inl (record { written = written; is_text = t; appended = cut }))
     (λ l. inr (record { written = written; is_text = l; appended = cut }))
+
+-- a status of neither a failed read nor want of memory
+abbrev IsOther : Status → Type 0
+IsOther ReadFault = ⊥
+IsOther OutOfMemory = ⊥
+IsOther _ = Unit {0}
+
+other : (text : List ℕ) (due : Status) (old new : Option (List ℕ)) (before after : ℕ) (status : Status) → IsReplyStatus due
+    → IsWritten text due old new before after status → IsOther status
+other text due old new before after status (inl e) (inl h) = subst IsOther (sym (h.0 ∙ e)) tt
+other text due old new before after status (inr e) (inl h) = subst IsOther (sym (h.0 ∙ e)) tt
+other text due old new before after status is (inr h) = subst IsOther (sym h.0) tt
+
+-- where a reply was handed to the sink, no read failed, and there was memory
+pub handed_on : {P : Type 0} (text : List ℕ) (due : Status) (old new : Option (List ℕ)) (before after : ℕ) (status : Status) → IsReplyStatus due
+    → IsWritten text due old new before after status → (status ≡ ReadFault) ⊎ (status ≡ OutOfMemory) → P
+handed_on text due old new before after status is h (inl e) = absurd (subst IsOther e (other text due old new before after status is h))
+handed_on text due old new before after status is h (inr e) = absurd (subst IsOther e (other text due old new before after status is h))
 
 -- nothing failed
 pub none_failed : (w : World) (status : Status) → ((name : List ℕ) → w.fetches_after name ≡ w.fetches_before name) → w.reads_after ≡ w.reads_before

@@ -5,17 +5,17 @@ use Rattle.std.proofs.lemmas.Bool.Decides.{nat_tests}
 use Rattle.pg_lex.specs.declared.token.Span.{Span}
 use Rattle.pg_rules.specs.declared.fault.CheckKind.{CheckKind}
 use Rattle.pg_rules.specs.declared.fault.CheckKind.TheVariants.{UnknownName, Doubled, WrongType, NoBlock, BadPhi, Unsupported, BadSignature, TooLarge, NoMain}
-use Rattle.pg_rules.specs.Conditions.{Part, rank, NoLater, IsEarliest, RefusesNothing, IsFirstOf, RefuseNothing}
+use Rattle.pg_rules.specs.Conditions.{RefusedPlaces, rank, NoLater, IsEarliest, RefusesNothing, IsFirstOf, RefuseNothing}
 
 -- ---- not both
 
-refuses_none : (p : Part) (k : CheckKind) (s : Span) → RefusesNothing p → Contains (p k) s → ⊥
+refuses_none : (p : RefusedPlaces) (k : CheckKind) (s : Span) → RefusesNothing p → Contains (p k) s → ⊥
 refuses_none p k s n c = by (subst (λ (xs : List Span). Contains xs s) (n.none k) c)
   where
     by : Contains [] s → ⊥
     by (i, l, e) = omega (arith, l)
 
-pub none_first : (ps : List Part) (k : CheckKind) (s : Span) → RefuseNothing ps → IsFirstOf ps k s → ⊥
+pub none_first : (ps : List RefusedPlaces) (k : CheckKind) (s : Span) → RefuseNothing ps → IsFirstOf ps k s → ⊥
 none_first [] k s n f = f
 none_first (p ∷ ps) k s n (inl e) = refuses_none p k s n.0 e.refused
 none_first (p ∷ ps) k s n (inr f) = none_first ps k s n.1 f.1
@@ -52,7 +52,7 @@ no_later_both k s j t (inl a) (inr b) = let e = b.0 in absurd (omega (arith, a, 
 no_later_both k s j t (inr a) (inl b) = let e = a.0 in absurd (omega (arith, b, e))
 no_later_both k s j t (inr a) (inr b) = let u = a.1 in let v = b.1 in record { kinds = same_rank k j (omega (arith, u, v)); places = a.0 }
 
-pub first_same : (ps : List Part) (k : CheckKind) (s : Span) (j : CheckKind) (t : Span) → IsFirstOf ps k s → IsFirstOf ps j t → AreSame k s j t
+pub first_same : (ps : List RefusedPlaces) (k : CheckKind) (s : Span) (j : CheckKind) (t : Span) → IsFirstOf ps k s → IsFirstOf ps j t → AreSame k s j t
 first_same [] k s j t f g = absurd f
 first_same (p ∷ ps) k s j t (inl e) (inl d) = no_later_both k s j t (e.earliest j t d.refused) (d.earliest k s e.refused)
 first_same (p ∷ ps) k s j t (inl e) (inr g) = absurd (refuses_none p k s g.0 e.refused)
@@ -113,12 +113,12 @@ least (s ∷ ss) = inr (by (least ss))
             either t (inr c) = let h = above in let m = r.1.least t c in omega (arith, h, m)
 
 -- among the kinds from a rank on, the earliest refusal of a part
-record IsFirst (p : Part) (n : ℕ) (k : CheckKind) (s : Span) : Type 0 where
+record IsFirst (p : RefusedPlaces) (n : ℕ) (k : CheckKind) (s : Span) : Type 0 where
   refused : Contains (p k) s
   ranked : n ≤ rank k
   no_later : (j : CheckKind) (t : Span) → n ≤ rank j → Contains (p j) t → NoLater k s j t
 
-abbrev First : Part → ℕ → Type 0
+abbrev First : RefusedPlaces → ℕ → Type 0
 First p n = ((j : CheckKind) → n ≤ rank j → p j ≡ []) ⊎ ((k : CheckKind) × (s : Span) × IsFirst p n k s)
 
 -- this kind, or one of a greater rank
@@ -129,7 +129,7 @@ kind_or_more k j l = pick (nat_lt (rank k) (rank j)) refl
     pick true e = inr (grind (arith, nat_tests))
     pick false e = inl (same_rank k j (let h : rank j ≤ rank k = grind (arith, nat_tests) in omega (arith, l, h)))
 
-module _ (p : Part) (k : CheckKind) where
+module _ (p : RefusedPlaces) (k : CheckKind) where
   -- a place of this kind, where those of the kinds behind it don't begin before it
   from_place : (s : Span) → IsLeast (p k) s → ((j : CheckKind) (t : Span) → suc (rank k) ≤ rank j → Contains (p j) t → s.start ≤ t.start) → IsFirst p (rank k) k s
   from_place s l more = record { refused = l.is_in; ranked = omega arith; no_later = λ j t r c. either j t c r (kind_or_more k j r) }
@@ -200,27 +200,28 @@ rank_small BadSignature = omega arith
 rank_small TooLarge = omega arith
 rank_small NoMain = omega arith
 
-none_ranked : (p : Part) → First p 9
+none_ranked : (p : RefusedPlaces) → First p 9
 none_ranked p = inl (λ j r. absurd (let h = rank_small j in omega (arith, h, r)))
 
-from_unsupported : (p : Part) → First p 5
+from_unsupported : (p : RefusedPlaces) → First p 5
 from_unsupported p = step p Unsupported (step p BadSignature (step p TooLarge (step p NoMain (none_ranked p))))
 
-from_unknown_name : (p : Part) → First p 0
+from_unknown_name : (p : RefusedPlaces) → First p 0
 from_unknown_name p = step p UnknownName (step p Doubled (step p WrongType (step p NoBlock (step p BadPhi (from_unsupported p)))))
 
-of_part : (p : Part) → RefusesNothing p ⊎ ((k : CheckKind) × (s : Span) × IsEarliest p k s)
+of_part : (p : RefusedPlaces) → RefusesNothing p ⊎ ((k : CheckKind) × (s : Span) × IsEarliest p k s)
 of_part p = by (from_unknown_name p)
   where
     by : First p 0 → RefusesNothing p ⊎ ((k : CheckKind) × (s : Span) × IsEarliest p k s)
     by (inl none) = inl (record { none = λ k. none k (omega arith) })
     by (inr f) = inr (f.0, f.1, record { refused = f.2.refused; earliest = λ j t c. f.2.no_later j t (omega arith) c })
 
-pub none_or_first : (ps : List Part) → RefuseNothing ps ⊎ ((k : CheckKind) × (s : Span) × IsFirstOf ps k s)
+pub none_or_first : (ps : List RefusedPlaces) → RefuseNothing ps ⊎ ((k : CheckKind) × (s : Span) × IsFirstOf ps k s)
 none_or_first [] = inl tt
 none_or_first (p ∷ ps) = by (of_part p) (none_or_first ps)
   where
-    by : RefusesNothing p ⊎ ((k : CheckKind) × (s : Span) × IsEarliest p k s) → RefuseNothing ps ⊎ ((k : CheckKind) × (s : Span) × IsFirstOf ps k s) → RefuseNothing (p ∷ ps) ⊎ ((k : CheckKind) × (s : Span) × IsFirstOf (p ∷ ps) k s)
+    by : RefusesNothing p ⊎ ((k : CheckKind) × (s : Span) × IsEarliest p k s) → RefuseNothing ps ⊎ ((k : CheckKind) × (s : Span) × IsFirstOf ps k s)
+        → RefuseNothing (p ∷ ps) ⊎ ((k : CheckKind) × (s : Span) × IsFirstOf (p ∷ ps) k s)
     by (inr e) rest = inr (e.0, e.1, inl e.2)
     by (inl none) (inl rest) = inl (none, rest)
     by (inl none) (inr f) = inr (f.0, f.1, inr (none, f.2))

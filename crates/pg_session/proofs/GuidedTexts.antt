@@ -6,7 +6,7 @@ use Rattle.pg_ir.specs.declared.request.TrapName.{TrapName}
 use Rattle.pg_ir.specs.Program.{NumberedProgram}
 use Rattle.pg_ir.specs.WellFormed.{IsProgram}
 use Rattle.pg_rules.specs.Numbered.{program_of}
-use Rattle.pg_rules.specs.Conditions.{IsAccepted as IsUnrefused}
+use Rattle.pg_rules.specs.Conditions.{IsUnrefused}
 use Rattle.pg_ast.specs.Syntax.{Tree}
 use Rattle.pg_grammar.specs.Accepted.{IsModule}
 use Rattle.pg_trace.specs.declared.step.Step.{Step}
@@ -35,15 +35,18 @@ module _ (gated : List InstrId) (p : NumberedProgram) (input : List ℤ) where
   few : (us : List Turn) (k : ℕ) (s : State) (left : List ℕ) → (guided gated p input us k s left).turns ≤ k + length us
   unfolding guided
   few [] k s left = omega arith
-  few (u ∷ us) k s left = by (λ t l. few us (k + 1) t l) (walk (slice_index left u.thread.0) gated p input u s) (slice_set left u.thread.0 (walk (slice_index left u.thread.0) gated p input u s).left) (walk (slice_index left u.thread.0) gated p input u s).end
+  few (u ∷ us) k s left = by (λ t l. few us (k + 1) t l) (walk (slice_index left u.thread.0) gated p input u s)
+      (slice_set left u.thread.0 (walk (slice_index left u.thread.0) gated p input u s).left) (walk (slice_index left u.thread.0) gated p input u s).end
     where
-      by : ((t : State) (l : List ℕ) → (guided gated p input us (k + 1) t l).turns ≤ (k + 1) + length us) → (w : Walk) (rest : List ℕ) (e : Option GuidedEnd) → (ended_at w rest k e (λ t l. guided gated p input us (k + 1) t l)).turns ≤ k + suc (length us)
+      by : ((t : State) (l : List ℕ) → (guided gated p input us (k + 1) t l).turns ≤ (k + 1) + length us) → (w : Walk) (rest : List ℕ) (e : Option GuidedEnd)
+          → (ended_at w rest k e (λ t l. guided gated p input us (k + 1) t l)).turns ≤ k + suc (length us)
       by ih w rest (Some e) = omega arith
       by ih w rest None = let h = ih w.state rest in omega (arith, h)
 
 few_turns : (p : NumberedProgram) (input : List ℤ) (us : List Turn) (gated : List InstrId) → (guided_of p input us gated).turns ≤ length us
 unfolding guided_of
-few_turns p input us gated = let z : 0 + length us ≡ length us = omega arith in subst (λ (n : ℕ). (guided gated p input us 0 (initial p) all_left).turns ≤ n) z (few gated p input us 0 (initial p) all_left)
+few_turns p input us gated = let z : 0 + length us ≡ length us = omega arith in
+    subst (λ (n : ℕ). (guided gated p input us 0 (initial p) all_left).turns ≤ n) z (few gated p input us 0 (initial p) all_left)
 
 -- the end of a full run with a turn left is no exit
 no_exit : (p : NumberedProgram) (xs : List Step) (s : State) (us : List Turn) (value : ℤ) → end_before p xs s us ≡ ends.Exit value → us ≡ []
@@ -66,7 +69,8 @@ taken (suc n) [] = omega arith
 taken (suc n) (u ∷ us) = let h = taken n us in omega (arith, h)
 
 -- the run is full with an exit at its end, and its events are the turns that it did
-pub all_turns : (p : NumberedProgram) (input : List ℤ) (us : List Turn) (gated : List InstrId) (value : ℤ) → full_end p us (guided_of p input us gated).trace (guided_of p input us gated).state ≡ ends.Exit value
+pub all_turns : (p : NumberedProgram) (input : List ℤ) (us : List Turn) (gated : List InstrId) (value : ℤ)
+    → full_end p us (guided_of p input us gated).trace (guided_of p input us gated).state ≡ ends.Exit value
     → events (guided_of p input us gated).trace ≡ take (guided_of p input us gated).turns us → (guided_of p input us gated).turns ≡ length us
 all_turns p input us gated value e done =
     let r = guided_of p input us gated in
@@ -78,7 +82,8 @@ all_turns p input us gated value e done =
 
 -- ---- the guided run of `once`
 
-pub guided_end : (p : NumberedProgram) (input : List ℤ) (r : RunResult) (value : ℤ) → value ≡ exit_value_of r.state → GuidesAs p input (schedule_of r.trace) r.trace r.state → (run_along p input r.trace).end ≡ ends.Exit value
+pub guided_end : (p : NumberedProgram) (input : List ℤ) (r : RunResult) (value : ℤ) → value ≡ exit_value_of r.state
+    → GuidesAs p input (schedule_of r.trace) r.trace r.state → (run_along p input r.trace).end ≡ ends.Exit value
 guided_end p input r value v g = g.end ∙ ap (λ (w : ℤ). ends.Exit w) (sym v)
 
 -- ---- the text of `once`
@@ -89,12 +94,14 @@ pub record RunsAs (p : NumberedProgram) (input : List ℤ) (r : RunResult) (valu
   pub printed : (run_along p input r.trace).state.printed ≡ r.state.printed
   pub turns : (run_along p input r.trace).turns ≡ length (schedule_of r.trace).turns
 
-pub once_is : (p : NumberedProgram) (quantum : ℕ) (input : List ℤ) → ((value : ℤ) → (rotation_of p input quantum).end ≡ outcomes.Exit value → RunsAs p input (rotation_of p input quantum) value)
+pub once_is : (p : NumberedProgram) (quantum : ℕ) (input : List ℤ)
+    → ((value : ℤ) → (rotation_of p input quantum).end ≡ outcomes.Exit value → RunsAs p input (rotation_of p input quantum) value)
     → once_text p quantum input ≡ (rotation_of p input quantum).state.printed ++ end_line (rotation_of p input quantum).trace (rotation_of p input quantum).end
 unfolding once_text
 once_is p quantum input runs_as = by (rotation_of p input quantum).end refl
   where
-    by : (e : Outcome) → (rotation_of p input quantum).end ≡ e → text_by p input (rotation_of p input quantum) e ≡ (rotation_of p input quantum).state.printed ++ end_line (rotation_of p input quantum).trace e
+    by : (e : Outcome) → (rotation_of p input quantum).end ≡ e
+        → text_by p input (rotation_of p input quantum) e ≡ (rotation_of p input quantum).state.printed ++ end_line (rotation_of p input quantum).trace e
     by (outcomes.Exit value) h =
         let k = runs_as value h in
         ap₂ (λ (xs ys : List ℕ). xs ++ ys) k.printed
@@ -104,7 +111,8 @@ once_is p quantum input runs_as = by (rotation_of p input quantum).end refl
 
 -- ---- which programs can run
 
-pub accepted_can_run : (text : List ℕ) (p : NumberedProgram) (input : List ℤ) → ((m : Tree) → IsModule text m → IsUnrefused m → IsProgram (program_of m)) → All (λ b. b < 256) text → IsAccepted text p → length input < 2 ^ 64 → CanRun p input
+pub accepted_can_run : (text : List ℕ) (p : NumberedProgram) (input : List ℤ) → ((m : Tree) → IsModule text m → IsUnrefused m → IsProgram (program_of m))
+    → All (λ b. b < 256) text → IsAccepted text p → length input < 2 ^ 64 → CanRun p input
 accepted_can_run text p input programs bytes a small = record {
   program = subst IsProgram (sym a.program) (programs a.tree a.is_module a.unrefused);
   bytes = subst (λ (q : NumberedProgram). HoldBytes q.globals) (sym a.program) (globals_hold_bytes text a.tree bytes a.is_module);

@@ -56,8 +56,10 @@ member_yields d e = yields_then (type_yields d) (λ t x. yields_then e (λ c y. 
 const_yields : (d : ℕ) → Yields (const_in d) HasBytes
 unfolding const_in
 const_yields zero = yields_or (simple_yields zero) (yields_refused _ _)
-const_yields (suc d) = yields_or (yields_then yields_one (λ o _. yields_then {h = λ ts. give (ArrayConst o.span (consts ts))} (yields_listed CloseSquare (member_yields d (const_yields d))) (λ ts h. yields_give (members_have ts h))))
-    (yields_or (yields_then yields_one (λ o _. yields_then {h = λ ts. give (StructConst o.span (consts ts))} (yields_listed CloseBrace (member_yields d (const_yields d))) (λ ts h. yields_give (members_have ts h)))) (simple_yields (suc d)))
+const_yields (suc d) = yields_or (yields_then yields_one (λ o _. yields_then {h = λ ts. give (ArrayConst o.span (consts ts))}
+    (yields_listed CloseSquare (member_yields d (const_yields d))) (λ ts h. yields_give (members_have ts h))))
+    (yields_or (yields_then yields_one (λ o _. yields_then {h = λ ts. give (StructConst o.span (consts ts))}
+    (yields_listed CloseBrace (member_yields d (const_yields d))) (λ ts h. yields_give (members_have ts h)))) (simple_yields (suc d)))
 
 -- ---- items
 
@@ -72,39 +74,49 @@ param_yields : Yields param Any
 param_yields = yields_then (type_yields 64) (λ t x. attributes_then (yields_or (yields_then yields_one (λ n k. yields_give tt)) (yields_give tt)))
 
 dparam_yields : Yields dparam Any
-dparam_yields = yields_or (yields_then yields_one (λ t _. yields_give tt)) (yields_or (yields_then yields_one (λ t _. yields_give tt)) (yields_then {h = λ p. give (ParamOf p)} param_yields (λ p e. yields_give tt)))
+dparam_yields = yields_or (yields_then yields_one (λ t _. yields_give tt)) (yields_or (yields_then yields_one (λ t _. yields_give tt))
+    (yields_then {h = λ p. give (ParamOf p)} param_yields (λ p e. yields_give tt)))
 
 node_yields : Yields node Any
 node_yields = yields_or (yields_then yields_one (λ m _. yields_then yields_one (λ o _. skip_yields 63 CloseRound)))
     (yields_then yields_one (λ b _. yields_or (yields_then yields_one (λ o _. skip_yields 63 CloseBrace)) (yields_then yields_one (λ o _. skip_yields 63 CloseRound))))
 
 metadata_yields : Yields metadata_item ItemHas
-metadata_yields = yields_then yields_one (λ m _. yields_then yields_one (λ q _. yields_or (yields_then yields_one (λ d _. yields_then {h = λ u. give OtherItem} node_yields (λ u _. yields_give tt))) (yields_then {h = λ u. give OtherItem} node_yields (λ u _. yields_give tt))))
+metadata_yields = yields_then yields_one (λ m _. yields_then yields_one (λ q _. yields_or (yields_then yields_one (λ d _.
+    yields_then {h = λ u. give OtherItem} node_yields (λ u _. yields_give tt))) (yields_then {h = λ u. give OtherItem} node_yields (λ u _. yields_give tt))))
 
 global_yields : Yields global_item ItemHas
-global_yields = yields_then yields_one (λ n k. yields_then yields_one (λ q _. attributes_then (yields_or (yields_then yields_one (λ c _. rest n false)) (yields_then yields_one (λ c _. rest n true)))))
+global_yields = yields_then yields_one (λ n k. yields_then yields_one (λ q _.
+    attributes_then (yields_or (yields_then yields_one (λ c _. rest n false)) (yields_then yields_one (λ c _. rest n true)))))
   where
     rest : (n : Token) (c : Bool) → Yields (global_rest n c) ItemHas
-    rest n c = yields_then (type_yields 64) (λ t x. yields_then (const_yields 64) (λ v y. yields_then (yields_many (yields_then (yields_one {test = is Comma}) (λ m _. attributes_yields))) (λ ms _. yields_give y)))
+    rest n c = yields_then (type_yields 64) (λ t x. yields_then (const_yields 64) (λ v y.
+        yields_then (yields_many (yields_then (yields_one {test = is Comma}) (λ m _. attributes_yields))) (λ ms _. yields_give y)))
 
 declare_yields : Yields declare_item ItemHas
-declare_yields = yields_then yields_one (λ o _. attributes_then (yields_then (type_yields 64) (λ t x. yields_then yields_one (λ n k. yields_then yields_one (λ b _. yields_then {h = declare_rest t n} (yields_listed CloseRound dparam_yields) (λ ps z. attributes_then (yields_give tt)))))))
+declare_yields = yields_then yields_one (λ o _. attributes_then (yields_then (type_yields 64) (λ t x.
+    yields_then yields_one (λ n k. yields_then yields_one (λ b _. yields_then {h = declare_rest t n} (yields_listed CloseRound dparam_yields) (λ ps z. attributes_then (yields_give tt)))))))
 
 define_yields : Yields define_item ItemHas
-define_yields = yields_then yields_one (λ o _. attributes_then (yields_then (type_yields 64) (λ t x. yields_then yields_one (λ n k. yields_then yields_one (λ b _. yields_then {h = define_rest t n} (yields_listed CloseRound (yields_or param_yields (yields_refused Unsupported (is Dots)))) (λ ps z.
+define_yields = yields_then yields_one (λ o _. attributes_then (yields_then (type_yields 64) (λ t x.
+    yields_then yields_one (λ n k. yields_then yields_one (λ b _.
+    yields_then {h = define_rest t n} (yields_listed CloseRound (yields_or param_yields (yields_refused Unsupported (is Dots)))) (λ ps z.
     attributes_then (yields_then {h = λ bs. give (DefineItem (record { result = t; name = name_of n; params = ps; blocks = bs }))} body_yields (λ bs w. yields_give tt))))))))
 
 type_item_yields : Yields type_item ItemHas
 type_item_yields = yields_then yields_one (λ n k. yields_then yields_one (λ q _. yields_then yields_one (λ w _. yields_then (type_yields 64) (λ t x. yields_give tt))))
 
 attributes_item_yields : Yields attributes_item ItemHas
-attributes_item_yields = yields_then yields_one (λ a _. yields_then yields_one (λ n _. yields_then yields_one (λ q _. yields_then yields_one (λ b _. yields_then (skip_yields 63 CloseBrace) (λ u _. yields_give tt)))))
+attributes_item_yields = yields_then yields_one (λ a _. yields_then yields_one (λ n _.
+    yields_then yields_one (λ q _. yields_then yields_one (λ b _. yields_then (skip_yields 63 CloseBrace) (λ u _. yields_give tt)))))
 
 text_yields : Yields text_item ItemHas
-text_yields = yields_or (yields_then yields_one (λ a _. yields_then yields_one (λ q _. yields_then yields_one (λ s _. yields_give tt)))) (yields_then yields_one (λ a _. yields_then yields_one (λ w _. yields_then yields_one (λ q _. yields_then yields_one (λ s _. yields_give tt)))))
+text_yields = yields_or (yields_then yields_one (λ a _. yields_then yields_one (λ q _. yields_then yields_one (λ s _. yields_give tt))))
+    (yields_then yields_one (λ a _. yields_then yields_one (λ w _. yields_then yields_one (λ q _. yields_then yields_one (λ s _. yields_give tt)))))
 
 item_yields : Yields item ItemHas
-item_yields = yields_or (yields_or metadata_yields (yields_or global_yields (yields_or declare_yields (yields_or define_yields (yields_or type_item_yields (yields_or attributes_item_yields text_yields)))))) (yields_refused _ _)
+item_yields = yields_or (yields_or metadata_yields (yields_or global_yields
+    (yields_or declare_yields (yields_or define_yields (yields_or type_item_yields (yields_or attributes_item_yields text_yields)))))) (yields_refused _ _)
 
 -- ---- a whole text
 

@@ -8,7 +8,7 @@ use Rattle.pg_command.specs.Commands.{once}
 use Rattle.pg_session.specs.declared.status.Status.{Status}
 use Rattle.pg_session.specs.declared.status.Status.TheVariants.{ReadFault, WriteFault, OutOfMemory}
 use Rattle.pg_session.specs.Commands.{World, EndsAs}
-use Rattle.pg_session.specs.Replies.{IsReply, IsReplyStatus}
+use Rattle.pg_session.specs.Replies.{IsReply, IsReplyStatus, IsWritten}
 use Rattle.pg_session.specs.Texts.{IsOnceText}
 use Rattle.pg_session.proofs.Endings.{Says, ends_as, some_map, some_all, due_reply, due_none, front_of, none_failed}
 
@@ -27,20 +27,29 @@ said w quantum numbers status written (inl e) r app = subst (Says w (once quantu
 said w quantum numbers status written (inr e) r app = subst (Says w (once quantum numbers)) (sym e)
     (some_map w.rest_before _ _ (λ text t. record { written = written; is_text = t; appended = app }) (subst (λ s. Replied w quantum numbers s written) e r))
 
-pub once_replied : (w : World) (quantum : ℕ) (numbers : List ℤ) (status : Status) (written : List ℕ) → Fetches w → w.reads_after ≡ w.reads_before
+once_replied : (w : World) (quantum : ℕ) (numbers : List ℤ) (status : Status) (written : List ℕ) → Fetches w → w.reads_after ≡ w.reads_before
     → w.writes_after ≡ w.writes_before → TakesAtMost w.rest_before w.rest_after (PROGRAM_TEXT_LIMIT + 1) → IsReplyStatus status
     → Replied w quantum numbers status written → Appends w.taken_before w.taken_after written → EndsAs w (once quantum numbers) status
 once_replied w quantum numbers status written fetches reads writes takes is r app =
     ends_as w (once quantum numbers) status (said w quantum numbers status written is r app) (none_failed w status fetches reads writes) takes
     (λ n. some_map w.rest_before _ _ (λ text t. due_reply (IsOnceText text quantum numbers) text written status (λ o. (o.program, o.accepted)) is t) r)
 
-pub once_cut : (w : World) (quantum : ℕ) (numbers : List ℤ) (status : Status) (written : List ℕ) → Fetches w → w.reads_after ≡ w.reads_before
+once_cut : (w : World) (quantum : ℕ) (numbers : List ℤ) (status : Status) (written : List ℕ) → Fetches w → w.reads_after ≡ w.reads_before
     → Rose w.writes_before w.writes_after → TakesAtMost w.rest_before w.rest_after (PROGRAM_TEXT_LIMIT + 1) → IsReplyStatus status
     → Replied w quantum numbers status written → AppendsFront w.taken_before w.taken_after written → EndsAs w (once quantum numbers) WriteFault
 once_cut w quantum numbers status written fetches reads rose takes is r cut =
     ends_as w (once quantum numbers) WriteFault
     (rose, some_map w.rest_before _ _ (λ text t. front_of (IsOnceText text quantum numbers) text written w.taken_before w.taken_after status is t cut) r)
     (record { fetches = λ name. inr (fetches name); reads = inr reads; writes = inl refl }) takes (λ n. absurd (n.writes rose))
+
+-- the reply was handed to the sink
+pub once_written : (w : World) (quantum : ℕ) (numbers : List ℤ) (due : Status) (written : List ℕ) (status : Status) → Fetches w → w.reads_after ≡ w.reads_before
+    → TakesAtMost w.rest_before w.rest_after (PROGRAM_TEXT_LIMIT + 1) → IsReplyStatus due → Replied w quantum numbers due written
+    → IsWritten written due w.taken_before w.taken_after w.writes_before w.writes_after status → EndsAs w (once quantum numbers) status
+once_written w quantum numbers due written status fetches reads takes is r (inl h) =
+    subst (EndsAs w (once quantum numbers)) (sym h.0) (once_replied w quantum numbers due written fetches reads h.2 takes is r h.1)
+once_written w quantum numbers due written status fetches reads takes is r (inr h) =
+    subst (EndsAs w (once quantum numbers)) (sym h.0) (once_cut w quantum numbers due written fetches reads h.2 takes is r h.1)
 
 pub once_unread : (w : World) (quantum : ℕ) (numbers : List ℤ) → Fetches w → Rose w.reads_before w.reads_after → w.writes_after ≡ w.writes_before
     → TakesAtMost w.rest_before w.rest_after (PROGRAM_TEXT_LIMIT + 1) → TakesAtMost w.rest_before w.rest_after PROGRAM_TEXT_LIMIT → w.taken_after ≡ w.taken_before

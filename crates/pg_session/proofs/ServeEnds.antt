@@ -16,6 +16,7 @@ use Rattle.pg_runner.specs.Runs.{entry_admits, runs_of}
 use Rattle.pg_session.specs.declared.status.Status.{Status}
 use Rattle.pg_session.specs.declared.status.Status.TheVariants.{Done, ProgramRefused, ShelfFault, ReadFault, WriteFault, InputLimit, OutOfMemory}
 use Rattle.pg_session.specs.Commands.{World, EndsAs, DueOfText, DueOfInput, Fetched, WritesReplies}
+use Rattle.pg_session.specs.Replies.{IsWritten}
 use Rattle.pg_session.specs.Statuses.{status_of}
 use Rattle.pg_session.specs.Texts.{IsAccepted, IsRefusalLine}
 use Rattle.pg_session.proofs.Endings.{ends_as, some_map, some_all, some_same, none_failed, stayed}
@@ -67,13 +68,11 @@ serve_refused_cut w file quantum line unread fetches rose f cut =
 -- the line that refuses the program was handed to the sink
 pub serve_line : (w : World) (file : Word) (quantum : ℕ) (line : List ℕ) (status : Status) → Unread w → Fetches w
     → Fetched w.texts file (λ text. IsRefusalLine text line)
-    → (status ≡ ProgramRefused → Appends w.taken_before w.taken_after line) → (status ≡ WriteFault → AppendsFront w.taken_before w.taken_after line)
-    → (status ≡ WriteFault → Rose w.writes_before w.writes_after) → (status ≡ ProgramRefused → w.writes_after ≡ w.writes_before)
-    → (status ≡ ProgramRefused) ⊎ (status ≡ WriteFault) → EndsAs w (serve file quantum) status
-serve_line w file quantum line status unread fetches f written cut cause stays (inl e) =
-    subst (EndsAs w (serve file quantum)) (sym e) (serve_refused w file quantum line unread fetches (stays e) f (written e))
-serve_line w file quantum line status unread fetches f written cut cause stays (inr e) =
-    subst (EndsAs w (serve file quantum)) (sym e) (serve_refused_cut w file quantum line unread fetches (cause e) f (cut e))
+    → IsWritten line ProgramRefused w.taken_before w.taken_after w.writes_before w.writes_after status → EndsAs w (serve file quantum) status
+serve_line w file quantum line status unread fetches f (inl h) =
+    subst (EndsAs w (serve file quantum)) (sym h.0) (serve_refused w file quantum line unread fetches h.2 f h.1)
+serve_line w file quantum line status unread fetches f (inr h) =
+    subst (EndsAs w (serve file quantum)) (sym h.0) (serve_refused_cut w file quantum line unread fetches h.2 f h.1)
 
 -- ---- a session of the program p
 

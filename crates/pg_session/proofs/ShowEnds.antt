@@ -8,7 +8,7 @@ use Rattle.pg_command.specs.Commands.{show}
 use Rattle.pg_session.specs.declared.status.Status.{Status}
 use Rattle.pg_session.specs.declared.status.Status.TheVariants.{ShelfFault, WriteFault, OutOfMemory}
 use Rattle.pg_session.specs.Commands.{World, EndsAs, Fetched, IsShown}
-use Rattle.pg_session.specs.Replies.{IsReply, IsReplyStatus}
+use Rattle.pg_session.specs.Replies.{IsReply, IsReplyStatus, IsWritten}
 use Rattle.pg_session.proofs.Endings.{Says, ends_as, some_all, some_same, due_reply, due_none, front_of, none_failed}
 
 -- the source isn't read
@@ -30,20 +30,29 @@ said w file quantum numbers status written (inl e) r app = subst (Says w (show f
 said w file quantum numbers status written (inr e) r app = subst (Says w (show file quantum numbers)) (sym e)
     (let t = subst (λ s. Replied w file quantum numbers s written) e r in (t.0, t.1, record { written = written; is_text = t.2; appended = app }))
 
-pub show_replied : (w : World) (file : Word) (quantum : ℕ) (numbers : List ℤ) (status : Status) (written : List ℕ) → Unread w → Fetches w
+show_replied : (w : World) (file : Word) (quantum : ℕ) (numbers : List ℤ) (status : Status) (written : List ℕ) → Unread w → Fetches w
     → w.writes_after ≡ w.writes_before → IsReplyStatus status → Replied w file quantum numbers status written
     → Appends w.taken_before w.taken_after written → EndsAs w (show file quantum numbers) status
 show_replied w file quantum numbers status written unread fetches writes is r app =
     ends_as w (show file quantum numbers) status (said w file quantum numbers status written is r app) (none_failed w status fetches unread.reads writes) unread.takes
     (λ n. some_same (w.texts file) _ r.0 r.1 (due_reply (IsShown r.0 quantum numbers) r.0 written status (λ o. (o.program, o.accepted)) is r.2))
 
-pub show_cut : (w : World) (file : Word) (quantum : ℕ) (numbers : List ℤ) (status : Status) (written : List ℕ) → Unread w → Fetches w
+show_cut : (w : World) (file : Word) (quantum : ℕ) (numbers : List ℤ) (status : Status) (written : List ℕ) → Unread w → Fetches w
     → Rose w.writes_before w.writes_after → IsReplyStatus status → Replied w file quantum numbers status written
     → AppendsFront w.taken_before w.taken_after written → EndsAs w (show file quantum numbers) WriteFault
 show_cut w file quantum numbers status written unread fetches rose is r cut =
     ends_as w (show file quantum numbers) WriteFault
     (rose, (r.0, r.1, front_of (IsShown r.0 quantum numbers) r.0 written w.taken_before w.taken_after status is r.2 cut))
     (record { fetches = λ name. inr (fetches name); reads = inr unread.reads; writes = inl refl }) unread.takes (λ n. absurd (n.writes rose))
+
+-- the reply was handed to the sink
+pub show_written : (w : World) (file : Word) (quantum : ℕ) (numbers : List ℤ) (due : Status) (written : List ℕ) (status : Status) → Unread w → Fetches w
+    → IsReplyStatus due → Replied w file quantum numbers due written → IsWritten written due w.taken_before w.taken_after w.writes_before w.writes_after status
+    → EndsAs w (show file quantum numbers) status
+show_written w file quantum numbers due written status unread fetches is r (inl h) =
+    subst (EndsAs w (show file quantum numbers)) (sym h.0) (show_replied w file quantum numbers due written unread fetches h.2 is r h.1)
+show_written w file quantum numbers due written status unread fetches is r (inr h) =
+    subst (EndsAs w (show file quantum numbers)) (sym h.0) (show_cut w file quantum numbers due written unread fetches h.2 is r h.1)
 
 pub show_unfetched : (w : World) (file : Word) (quantum : ℕ) (numbers : List ℤ) → Unread w → Rose (w.fetches_before file) (w.fetches_after file)
     → w.writes_after ≡ w.writes_before → w.rest_after ≡ w.rest_before → w.taken_after ≡ w.taken_before → EndsAs w (show file quantum numbers) ShelfFault

@@ -5,11 +5,11 @@ use Rattle.pg_num.specs.declared.limits.TheConstants.{PROGRAM_TEXT_LIMIT}
 use Rattle.pg_lex.specs.declared.token.Span.{Span}
 use Rattle.pg_ast.specs.Syntax.{Tree}
 use Rattle.pg_grammar.specs.declared.fault.ReadFault.{ReadFault}
-use Rattle.pg_grammar.specs.Accepted.{IsModule, IsFirstRefusal as IsUnread}
+use Rattle.pg_grammar.specs.Accepted.{IsModule, IsUnread}
 use Rattle.pg_grammar.proofs.TextLaws.{module_once, module_or_first, first_not_module, first_once}
 use Rattle.pg_ir.specs.Program.{NumberedProgram}
 use Rattle.pg_rules.specs.declared.fault.CheckKind.{CheckKind}
-use Rattle.pg_rules.specs.Conditions.{phases, IsFirstRefusal, IsAccepted as IsUnrefused}
+use Rattle.pg_rules.specs.Conditions.{phases, IsFirstRefusal, IsUnrefused}
 use Rattle.pg_rules.specs.Numbered.{program_of}
 use Rattle.pg_session.specs.declared.refusals.Refusal.{Refusal}
 use Rattle.pg_session.specs.declared.refusals.Refusal.TheVariants.{TooLong, Read, Check}

@@ -1,5 +1,5 @@
 -- How `trial` ends.
-use Rattle.std.proofs.Common.{◌≡◌, refl, subst, ℕ, inl, inr, List}
+use Rattle.std.proofs.Common.{◌≡◌, refl, subst, sym, ℕ, inl, inr, List}
 use Rattle.std.specs.Io.KnownBytes.{Appends}
 use Rattle.pg_io.specs.Faults.{Rose}
 use Rattle.pg_io.specs.Streams.{AppendsFront}
@@ -12,7 +12,7 @@ use Rattle.pg_serve.specs.Trials.{IsTrialText}
 use Rattle.pg_session.specs.declared.status.Status.{Status}
 use Rattle.pg_session.specs.declared.status.Status.TheVariants.{WriteFault, OutOfMemory}
 use Rattle.pg_session.specs.Commands.{World, EndsAs, IsTrial}
-use Rattle.pg_session.specs.Replies.{IsReply, IsReplyStatus}
+use Rattle.pg_session.specs.Replies.{IsReply, IsReplyStatus, IsWritten}
 use Rattle.pg_session.proofs.Endings.{Says, ends_as, by_reply, due_reply, due_none, front_of, none_failed}
 use Rattle.pg_session.proofs.ShowEnds.{Unread, Fetches}
 
@@ -23,20 +23,29 @@ said w number status written is r app =
     (λ t. record { written = written; is_text = t; appended = app })
     (λ l. record { written = written; is_text = l; appended = app })
 
-pub trial_replied : (w : World) (number : ℕ) (status : Status) (written : List ℕ) → Unread w → Fetches w → w.writes_after ≡ w.writes_before
+trial_replied : (w : World) (number : ℕ) (status : Status) (written : List ℕ) → Unread w → Fetches w → w.writes_after ≡ w.writes_before
     → IsReplyStatus status → IsReply (IsTrial trial_program number) trial_program status written → Appends w.taken_before w.taken_after written
     → EndsAs w (trial number) status
 trial_replied w number status written unread fetches writes is r app =
     ends_as w (trial number) status (said w number status written is r app) (none_failed w status fetches unread.reads writes) unread.takes
     (λ n. due_reply (IsTrial trial_program number) trial_program written status (λ o. (o.program, o.accepted)) is r)
 
-pub trial_cut : (w : World) (number : ℕ) (status : Status) (written : List ℕ) → Unread w → Fetches w → Rose w.writes_before w.writes_after
+trial_cut : (w : World) (number : ℕ) (status : Status) (written : List ℕ) → Unread w → Fetches w → Rose w.writes_before w.writes_after
     → IsReplyStatus status → IsReply (IsTrial trial_program number) trial_program status written → AppendsFront w.taken_before w.taken_after written
     → EndsAs w (trial number) WriteFault
 trial_cut w number status written unread fetches rose is r cut =
     ends_as w (trial number) WriteFault
     (rose, front_of (IsTrial trial_program number) trial_program written w.taken_before w.taken_after status is r cut)
     (record { fetches = λ name. inr (fetches name); reads = inr unread.reads; writes = inl refl }) unread.takes (λ n. absurd (n.writes rose))
+
+-- the reply was handed to the sink
+pub trial_written : (w : World) (number : ℕ) (due : Status) (written : List ℕ) (status : Status) → Unread w → Fetches w → IsReplyStatus due
+    → IsReply (IsTrial trial_program number) trial_program due written → IsWritten written due w.taken_before w.taken_after w.writes_before w.writes_after status
+    → EndsAs w (trial number) status
+trial_written w number due written status unread fetches is r (inl h) =
+    subst (EndsAs w (trial number)) (sym h.0) (trial_replied w number due written unread fetches h.2 is r h.1)
+trial_written w number due written status unread fetches is r (inr h) =
+    subst (EndsAs w (trial number)) (sym h.0) (trial_cut w number due written unread fetches h.2 is r h.1)
 
 pub trial_no_memory : (w : World) (number : ℕ) → Unread w → Fetches w → w.writes_after ≡ w.writes_before → w.taken_after ≡ w.taken_before
     → EndsAs w (trial number) OutOfMemory

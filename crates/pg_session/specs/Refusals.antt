@@ -7,7 +7,7 @@ use Rattle.pg_lex.specs.Places.{line_after, column_after}
 use Rattle.pg_ast.specs.Syntax.{Tree}
 use Rattle.pg_grammar.specs.declared.fault.ReadFault.{ReadFault}
 use Rattle.pg_grammar.specs.declared.fault.ReadFault.TheVariants as reader
-use Rattle.pg_grammar.specs.Accepted.{IsModule, IsFirstRefusal as IsUnread}
+use Rattle.pg_grammar.specs.Accepted.{IsModule, IsUnread}
 use Rattle.pg_rules.specs.declared.fault.CheckKind.{CheckKind}
 use Rattle.pg_rules.specs.declared.fault.CheckKind.TheVariants as check
 use Rattle.pg_rules.specs.Conditions.{IsFirstRefusal}

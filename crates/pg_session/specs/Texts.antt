@@ -1,5 +1,5 @@
 -- What a command writes: the text of `once`, and the line of a program that is refused.
-use Rattle.std.specs.Prelude.{◌≡◌, ℕ, ◌≤◌, ◌⊎◌, List, [], ◌++◌, length, codes, ℤ, Option}
+use Rattle.std.specs.Prelude.{◌≡◌, ℕ, ◌≤◌, List, [], ◌++◌, length, codes, ℤ}
 use Rattle.std.specs.Fmt.{decimal, signed_decimal}
 use Rattle.pg_num.specs.declared.limits.TheConstants.{PROGRAM_TEXT_LIMIT}
 use Rattle.pg_ast.specs.Syntax.{Tree}
@@ -8,7 +8,7 @@ use Rattle.pg_ir.specs.declared.ids.InstrId.{InstrId}
 use Rattle.pg_ir.specs.declared.request.TrapName.{TrapName}
 use Rattle.pg_ir.specs.Program.{NumberedProgram}
 use Rattle.pg_ir.specs.TrapNames.{trap_text}
-use Rattle.pg_rules.specs.Conditions.{IsAccepted as IsUnrefused}
+use Rattle.pg_rules.specs.Conditions.{IsUnrefused}
 use Rattle.pg_rules.specs.Numbered.{program_of}
 use Rattle.pg_trace.specs.declared.step.Step.{Step}
 use Rattle.pg_trace.specs.Races.{schedule_of}

@@ -10,11 +10,11 @@ ghost use Rattle.pg_session.specs.declared.once.NoReply.TheVariants.{OutOfMemory
 ghost use Rattle.pg_command.specs.Commands.{once};
 
 use crate::programs::{Loaded, load, too_long_line};
-use crate::replies::Reply;
+use crate::replies::{Reply, write_text};
 use crate::status::Status;
 use crate::texts::once_text;
 use pg_command::Once;
-use pg_io::{ReadAllFault, Sink, Source, read_all, write_all};
+use pg_io::{ReadAllFault, Sink, Source, read_all};
 use pg_num::limits::PROGRAM_TEXT_LIMIT;
 use std::alloc::{AllocError, Global};
 
@@ -109,8 +109,5 @@ pub(crate) fn once<S: Source, K: Sink>(
         Err(NoReply::ReadFault) => return Status::ReadFault,
         Err(NoReply::OutOfMemory) => return Status::OutOfMemory,
     };
-    match write_all(out, &reply.text) {
-        Ok(()) => reply.status,
-        Err(_) => Status::WriteFault,
-    }
+    write_text(out, &reply.text, reply.status)
 }

@@ -1,5 +1,5 @@
 //! Why a program text is refused, and the line that says so.
-ghost use Rattle.std.specs.Prelude.{◌≡◌, ◌≤◌, ◌++◌, length, take, min, slice_range, codes, IfOk, OnOk};
+ghost use Rattle.std.specs.Prelude.{◌≡◌, ◌≤◌, ◌++◌, length, take, slice_range, IfOk, OnOk};
 ghost use Rattle.pg_num.specs.declared.limits.TheConstants.{PROGRAM_TEXT_LIMIT};
 ghost use Rattle.pg_session.specs.Refusals.{fault_name, kind_name, refusal_name, fault_place, refusal_place, fault_token, kind_token, refusal_token, token_text, refusal_head, refusal_line};
 

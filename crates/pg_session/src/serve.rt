@@ -1,17 +1,15 @@
 //! The command `serve`: a session of a program.
-ghost use Rattle.std.specs.Prelude.{◌≡◌, ◌≤◌, ◌⊎◌, ℕ, List, string_bytes};
-ghost use Rattle.std.specs.Io.KnownBytes.{Appends};
-ghost use Rattle.pg_io.specs.Faults.{Rose};
-ghost use Rattle.pg_io.specs.Streams.{AppendsFront};
+ghost use Rattle.std.specs.Prelude.{◌≡◌, ◌≤◌, ℕ, List, string_bytes};
 ghost use Rattle.pg_num.specs.declared.limits.TheConstants.{QUANTUM_LIMIT};
 ghost use Rattle.pg_command.specs.Commands.{serve};
 ghost use Rattle.pg_session.specs.Commands.{EndsAs};
 ghost use Rattle.pg_session.specs.Statuses.{status_of};
 
 use crate::programs::{Loaded, NoProgram, fetch_program};
+use crate::replies::write_text;
 use crate::status::Status;
 use pg_command::Serve;
-use pg_io::{Shelf, Sink, Source, write_all};
+use pg_io::{Shelf, Sink, Source};
 use pg_runner::ProgramRunner;
 use pg_serve::ServeFault;
 use std::alloc::Global;
@@ -25,20 +23,6 @@ fn status_of(fault: ServeFault) -> Status
         ServeFault::WriteFault => Status::WriteFault,
         ServeFault::InputLimit => Status::InputLimit,
         ServeFault::OutOfMemory => Status::OutOfMemory,
-    }
-}
-
-/// Writes the line that refuses a program text.
-fn refuse<K: Sink>(out: &mut K, line: &[u8]) -> Status
-    ensures written { result ≡ Status.ProgramRefused → Appends (K.taken out.old) (K.taken out.new) line.now }
-    ensures cut { result ≡ Status.WriteFault → AppendsFront (K.taken out.old) (K.taken out.new) line.now }
-    ensures cause { result ≡ Status.WriteFault → Rose (K.faults out.old) (K.faults out.new) }
-    ensures count_stays { result ≡ Status.ProgramRefused → K.faults out.new ≡ K.faults out.old }
-    ensures status { (result ≡ Status.ProgramRefused) ⊎ (result ≡ Status.WriteFault) }
-{
-    match write_all(out, line) {
-        Ok(()) => Status::ProgramRefused,
-        Err(_) => Status::WriteFault,
     }
 }
 
@@ -70,7 +54,7 @@ pub(crate) fn serve<S: Source, K: Sink, F: Shelf>(
 {
     let program = match fetch_program(alloc, shelf, command.file.as_str()) {
         Ok(Loaded::Accepted(program)) => program,
-        Ok(Loaded::Refused(line)) => return refuse(out, &line),
+        Ok(Loaded::Refused(line)) => return write_text(out, &line, Status::ProgramRefused),
         Err(NoProgram::ShelfFault) => return Status::ShelfFault,
         Err(NoProgram::OutOfMemory) => return Status::OutOfMemory,
     };

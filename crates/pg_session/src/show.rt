@@ -10,10 +10,10 @@ ghost use Rattle.pg_session.specs.Commands.{EndsAs, Fetched, IsShown};
 ghost use Rattle.pg_session.specs.Replies.{IsReply, IsReplyStatus};
 
 use crate::programs::{Loaded, NoProgram, fetch_program};
-use crate::replies::Reply;
+use crate::replies::{Reply, write_text};
 use crate::status::Status;
 use pg_command::Show;
-use pg_io::{Shelf, Sink, write_all};
+use pg_io::{Shelf, Sink};
 use pg_ir::Program;
 use pg_runner::ProgramRunner;
 use std::alloc::{AllocError, Global};
@@ -92,8 +92,5 @@ pub(crate) fn show<K: Sink, F: Shelf>(
         Err(NoProgram::ShelfFault) => return Status::ShelfFault,
         Err(NoProgram::OutOfMemory) => return Status::OutOfMemory,
     };
-    match write_all(out, &reply.text) {
-        Ok(()) => reply.status,
-        Err(_) => Status::WriteFault,
-    }
+    write_text(out, &reply.text, reply.status)
 }

@@ -11,10 +11,10 @@ ghost use Rattle.pg_session.specs.Commands.{EndsAs, IsTrial};
 ghost use Rattle.pg_session.specs.Replies.{IsReply, IsReplyStatus};
 
 use crate::programs::{Loaded, load};
-use crate::replies::Reply;
+use crate::replies::{Reply, write_text};
 use crate::status::Status;
 use pg_command::DEFAULT_QUANTUM;
-use pg_io::{Sink, write_all};
+use pg_io::Sink;
 use pg_ir::Program;
 use pg_runner::ProgramRunner;
 use pg_trial::trial_program;
@@ -72,8 +72,5 @@ pub(crate) fn trial<K: Sink>(alloc: Global, number: u64, out: &mut K) -> Status
         Ok(reply) => reply,
         Err(_) => return Status::OutOfMemory,
     };
-    match write_all(out, &reply.text) {
-        Ok(()) => reply.status,
-        Err(_) => Status::WriteFault,
-    }
+    write_text(out, &reply.text, reply.status)
 }

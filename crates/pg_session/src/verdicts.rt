@@ -1,5 +1,5 @@
 //! What is found of a program text: its program, or why it is refused.
-ghost use Rattle.std.specs.Prelude.{◌≡◌, ◌≤◌, length, IfOk, IfErr};
+ghost use Rattle.std.specs.Prelude.{◌≤◌, length, IfOk};
 ghost use Rattle.pg_num.specs.declared.limits.TheConstants.{PROGRAM_TEXT_LIMIT};
 ghost use Rattle.pg_ast.specs.Views.{tree_of};
 ghost use Rattle.pg_grammar.specs.Accepted.{IsModule};

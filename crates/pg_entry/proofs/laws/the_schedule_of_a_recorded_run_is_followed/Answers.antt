@@ -11,6 +11,7 @@ returns c p input xs z can h =
     let s = schedule_of xs in
     let r = guided_of p input s.turns s.gated in
     let up = c.a_recorded_run_is_ordered_up_to_its_last_turns.ensures p input xs z can h in
-    let a : length r.trace ≤ length (along s xs) = c.a_permitted_run_goes_on.ensures.ends p input s.turns s.gated (along s xs) r.trace up.last r.state can up.ordered (c.a_guided_run_is_permitted.ensures p input s.turns s.gated) in
+    let a : length r.trace ≤ length (along s xs) = c.a_permitted_run_goes_on.ensures.ends p input s.turns s.gated
+    (along s xs) r.trace up.last r.state can up.ordered (c.a_guided_run_is_permitted.ensures p input s.turns s.gated) in
     let b : length (along s xs) ≤ RECORDING_STEP_LIMIT = along_fewer p input xs z h in
     follows p input xs z (c.the_schedule_of_a_recorded_run_is_good.ensures p input xs z can h) (omega (arith, a, b))

@@ -35,8 +35,12 @@ entry_along-requires-clause-exits c =
     let xs = c.args.trace.now.steps in
     let z = c.requires.recorded.0 in
     let listed : c.as_slice.result.now ≡ c.in_ok-races.races.items = search rules in
-    let same : c.in_ok-schedule.schedule ≡ schedule_of xs = made xs c.as_slice.result.now c.in_ok-schedule.schedule (listed ∙ c.in_ok-races.ensures) c.in_ok-schedule.ensures in
-    (z.printed, exit_value_of z, c.in_ok-followed.ensures (guided_of p input (schedule_of xs).turns (schedule_of xs).gated).trace z.printed (exit_value_of z) (along_made p input xs c.in_ok-schedule.schedule z same (c.the_schedule_of_a_recorded_run_is_followed.ensures p input xs z c.requires.can_run c.requires.recorded.1)))
+    let same : c.in_ok-schedule.schedule ≡ schedule_of xs = made xs c.as_slice.result.now c.in_ok-schedule.schedule (listed ∙ c.in_ok-races.ensures) c.in_ok-schedule.ensures in (
+      z.printed,
+      exit_value_of z,
+      c.in_ok-followed.ensures (guided_of p input (schedule_of xs).turns (schedule_of xs).gated).trace z.printed (exit_value_of z)
+          (along_made p input xs c.in_ok-schedule.schedule z same (c.the_schedule_of_a_recorded_run_is_followed.ensures p input xs z c.requires.can_run c.requires.recorded.1)),
+    )
 
 pub returns : goal.returns
 returns c = λ z recorded.
@@ -51,5 +55,6 @@ returns c = λ z recorded.
       schedule = c.in_ok-entry.ensures.schedule ∙ same;
       steps = c.followed.new.trace.steps;
       serves = c.in_ok-entry.ensures.serves z.printed (exit_value_of z)
-          (c.in_ok-followed.ensures (guided_of p input (schedule_of xs).turns (schedule_of xs).gated).trace z.printed (exit_value_of z) (along_made p input xs c.in_ok-schedule.schedule z same (c.the_schedule_of_a_recorded_run_is_followed.ensures p input xs z c.requires.can_run recorded)));
+          (c.in_ok-followed.ensures (guided_of p input (schedule_of xs).turns (schedule_of xs).gated).trace z.printed (exit_value_of z)
+          (along_made p input xs c.in_ok-schedule.schedule z same (c.the_schedule_of_a_recorded_run_is_followed.ensures p input xs z c.requires.can_run recorded)));
     }

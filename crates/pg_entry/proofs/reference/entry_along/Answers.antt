@@ -30,6 +30,6 @@ returns-clause-serves c = λ printed value e.
     let copied : c.in_ok-own.own.items ≡ input = search rules in
     serves p steps printed value input s c.args.races.items k.decisions.pinned.items k.decisions.exact.items k.precondition c.in_ok-ids.ids.items c.in_ok-own.own.items copied e
     (subst (λ (gs : List InstrId). IsSliced p input gs steps d k.precondition) same c.in_ok-slice.ensures.slice)
-    c.in_ok-ids.ensures c.in_ok-slice.ensures.pinned c.in_ok-slice.ensures.exact
+    c.in_ok-ids.ensures
     (l.pins, l.pin_count, l.pinned) (l.exacts, l.exact_count, l.exact)
     (λ h. c.the_own_input_is_admitted.ensures p input s.turns s.gated steps printed value c.requires.can_run e d k.precondition h)

@@ -9,5 +9,6 @@ loop-left-preserved c =
     let small : (i : ℕ) → slice_index c.global-global.result.now.bytes i < 2 ^ 8 = λ i. rw (sym c.as_slice.ensures.items) (c.bytes_are_small.ensures i) in
     record {
       within = omega arith;
-      bytes = hold_more c.args.p.now.globals (c.loop-left.left - 1) c.global-global.result.now c.global-global.ensures.at small (subst (λ n. HoldBytes (drop n c.args.p.now.globals)) (sym k) c.loop-left.invariant.bytes);
+      bytes = hold_more c.args.p.now.globals (c.loop-left.left - 1) c.global-global.result.now c.global-global.ensures.at small
+          (subst (λ n. HoldBytes (drop n c.args.p.now.globals)) (sym k) c.loop-left.invariant.bytes);
     }

@@ -12,5 +12,9 @@ pub entry_along-requires-clause-exits : goal.entry_along-requires-clause-exits
 entry_along-requires-clause-exits c =
     let e = c.in_ok-follow_to_exit.ensures.exit in
     let u = c.in_ok-unreplied in
-    let s = c.in_ok-schedule in
-    (e.0, e.1, exits_along c.args.p.now c.args.input.now u.unreplied.turns s.schedule.turns u.unreplied.gated s.schedule.gated (Exits c.follow_to_exit.new.trace.steps e.0 e.1) (u.ensures.turns ∙ sym s.ensures.turns) (u.ensures.gated ∙ sym s.ensures.gated) e.2)
+    let s = c.in_ok-schedule in (
+      e.0,
+      e.1,
+      exits_along c.args.p.now c.args.input.now u.unreplied.turns s.schedule.turns u.unreplied.gated s.schedule.gated
+          (Exits c.follow_to_exit.new.trace.steps e.0 e.1) (u.ensures.turns ∙ sym s.ensures.turns) (u.ensures.gated ∙ sym s.ensures.gated) e.2,
+    )

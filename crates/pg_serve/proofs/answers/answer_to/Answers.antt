@@ -30,7 +30,8 @@ recorded-requires-clause-none g c =
 pub returns-in-Some-clause-answer : goal.returns-in-Some-clause-answer
 returns-in-Some-clause-answer g c =
     let same = search_stays g.R.Entry.Admits.meaning c.args.cache.now c.find.new.self c.requires.exact c.find.ensures.counts c.find.ensures.stays in
-    subst (λ (k : Kept _). IfOk c.reused.result (λ a. Answers (admits_by g.R.Entry.Admits.meaning g.R.Entry.Admits.test) (g.R.Runner.runs (g.R.Runner.subject c.args.runner.now)) k c.args.input.now (answer_of a) c.find.new.self))
+    subst (λ (k : Kept _). IfOk c.reused.result (λ a. Answers (admits_by g.R.Entry.Admits.meaning g.R.Entry.Admits.test)
+    (g.R.Runner.runs (g.R.Runner.subject c.args.runner.now)) k c.args.input.now (answer_of a) c.find.new.self))
     same c.reused.ensures.answer
 
 pub returns-in-Some-clause-err : goal.returns-in-Some-clause-err
@@ -41,7 +42,8 @@ returns-in-Some-clause-err g c =
 pub returns-in-None-clause-answer : goal.returns-in-None-clause-answer
 returns-in-None-clause-answer g c =
     let same = search_stays g.R.Entry.Admits.meaning c.args.cache.now c.find.new.self c.requires.exact c.find.ensures.counts c.find.ensures.stays in
-    subst (λ (k : Kept _). IfOk c.recorded.result (λ a. Answers (admits_by g.R.Entry.Admits.meaning g.R.Entry.Admits.test) (g.R.Runner.runs (g.R.Runner.subject c.args.runner.now)) k c.args.input.now (answer_of a) c.recorded.new.cache))
+    subst (λ (k : Kept _). IfOk c.recorded.result (λ a. Answers (admits_by g.R.Entry.Admits.meaning g.R.Entry.Admits.test)
+    (g.R.Runner.runs (g.R.Runner.subject c.args.runner.now)) k c.args.input.now (answer_of a) c.recorded.new.cache))
     same c.recorded.ensures.answer
 
 pub returns-in-None-clause-err : goal.returns-in-None-clause-err

@@ -10,9 +10,11 @@ loop-at-preserved c =
       | then-is_blank+in-Some+in_ok-push w ↦
           let fits : FitsSigned w64 w.in-Some.number = search rules in
           let items = w.in_ok-push.ensures.items in
-          let told = told_blank c.args.line.now c.loop-at.numbers.items c.loop-at.start c.loop-at.at w.in-Some.number c.loop-at-test.true (sym c.is_blank.ensures ∙ w.if-is_blank.true) (sym w.in-Some.ensures) c.loop-at.invariant in
+          let told = told_blank c.args.line.now c.loop-at.numbers.items c.loop-at.start c.loop-at.at w.in-Some.number c.loop-at-test.true (sym c.is_blank.ensures
+          ∙ w.if-is_blank.true) (sym w.in-Some.ensures) c.loop-at.invariant in
           subst (λ s. Told c.args.line.now c.if-is_blank.numbers.items s (c.loop-at.at + 1)) (sym w.start-is)
-          (subst (λ (n : List ℤ). Told c.args.line.now n (c.loop-at.at + 1) (c.loop-at.at + 1)) (sym (ap (λ v. v.items) w.numbers-is ∙ items ∙ ap (λ (z : ℤ). c.loop-at.numbers.items ++ z ∷ []) (to_z-of_z fits))) told)
+          (subst (λ (n : List ℤ). Told c.args.line.now n (c.loop-at.at + 1) (c.loop-at.at + 1)) (sym (ap (λ v. v.items) w.numbers-is
+          ∙ items ∙ ap (λ (z : ℤ). c.loop-at.numbers.items ++ z ∷ []) (to_z-of_z fits))) told)
       | else-is_blank w ↦ subst (λ (n : List ℤ). Told c.args.line.now n c.if-is_blank.start (c.loop-at.at + 1)) (ap (λ v. v.items) (sym w.numbers-is))
           (subst (λ s. Told c.args.line.now c.loop-at.numbers.items s (c.loop-at.at + 1)) (sym w.start-is)
           (told_plain c.args.line.now c.loop-at.numbers.items c.loop-at.start c.loop-at.at c.loop-at-test.true (sym c.is_blank.ensures ∙ w.if-is_blank.false) c.loop-at.invariant))

@@ -53,11 +53,13 @@ returns-in_err-end_line-clause-read_fault g c = no_read _ _ c.from_residual-in_e
 
 pub returns-in_err-end_line-clause-write_fault_cuts : goal.returns-in_err-end_line-clause-write_fault_cuts
 returns-in_err-end_line-clause-write_fault_cuts g c = λ _.
-    served_cut _ _ _ _ _ _ _ _ _ (ap g.R.Runner.runs c.in_ok-take_all.ensures.stays) (some_line _ _ c.take_all.new.session.line.ok.0 (sym c.is_empty.ensures ∙ c.if-is_empty.false)) c.in_ok-take_all.ensures.all c.in_err-end_line.ensures.cut
+    served_cut _ _ _ _ _ _ _ _ _ (ap g.R.Runner.runs c.in_ok-take_all.ensures.stays)
+    (some_line _ _ c.take_all.new.session.line.ok.0 (sym c.is_empty.ensures ∙ c.if-is_empty.false)) c.in_ok-take_all.ensures.all c.in_err-end_line.ensures.cut
 
 pub returns-in_err-end_line-clause-out_of_memory_cuts : goal.returns-in_err-end_line-clause-out_of_memory_cuts
 returns-in_err-end_line-clause-out_of_memory_cuts g c = λ _.
-    served_cut _ _ _ _ _ _ _ _ _ (ap g.R.Runner.runs c.in_ok-take_all.ensures.stays) (some_line _ _ c.take_all.new.session.line.ok.0 (sym c.is_empty.ensures ∙ c.if-is_empty.false)) c.in_ok-take_all.ensures.all c.in_err-end_line.ensures.cut
+    served_cut _ _ _ _ _ _ _ _ _ (ap g.R.Runner.runs c.in_ok-take_all.ensures.stays)
+    (some_line _ _ c.take_all.new.session.line.ok.0 (sym c.is_empty.ensures ∙ c.if-is_empty.false)) c.in_ok-take_all.ensures.all c.in_err-end_line.ensures.cut
 
 pub returns-in_err-end_line-clause-read_cause : goal.returns-in_err-end_line-clause-read_cause
 returns-in_err-end_line-clause-read_cause g c = no_read _ _ c.from_residual-in_err-end_line.ensures.1
@@ -78,7 +80,8 @@ returns-in_err-end_line-clause-write_count g c =
 
 pub returns-clause-done : goal.returns-clause-done
 returns-clause-done g c =
-    served_last _ _ _ _ _ _ _ _ _ _ (ap g.R.Runner.runs c.in_ok-take_all.ensures.stays) (some_line _ _ c.take_all.new.session.line.ok.0 (sym c.is_empty.ensures ∙ c.if-is_empty.false)) c.in_ok-take_all.ensures.all c.in_ok-end_line.ensures.answered
+    served_last _ _ _ _ _ _ _ _ _ _ (ap g.R.Runner.runs c.in_ok-take_all.ensures.stays)
+    (some_line _ _ c.take_all.new.session.line.ok.0 (sym c.is_empty.ensures ∙ c.if-is_empty.false)) c.in_ok-take_all.ensures.all c.in_ok-end_line.ensures.answered
 
 pub returns-clause-read_count : goal.returns-clause-read_count
 returns-clause-read_count g c = inr (not-fault _ _ c.in_ok-take_all.ensures.read_count)

@@ -15,7 +15,8 @@ returns c =
     let l6 = count_line (codes "turns") counts.turns in
     let l7 = sum_line counts.sum in
     let t1 : c.add_count.new.text.items ≡ l1 = c.in_ok-add_count.ensures ∙ ap (λ t. t ++ l1) c.new-text.ensures.items in
-    let t2 : c.add_count-2.new.text.items ≡ l1 ++ l2 = c.in_ok-add_count-2.ensures ∙ ap (λ n. c.add_count.new.text.items ++ count_line (codes "lines") n) c.from.ensures ∙ ap (λ t. t ++ l2) t1 in
+    let t2 : c.add_count-2.new.text.items ≡ l1 ++ l2 = c.in_ok-add_count-2.ensures
+    ∙ ap (λ n. c.add_count.new.text.items ++ count_line (codes "lines") n) c.from.ensures ∙ ap (λ t. t ++ l2) t1 in
     let t3 : c.add_count-3.new.text.items ≡ (l1 ++ l2) ++ l3 = c.in_ok-add_count-3.ensures ∙ ap (λ t. t ++ l3) t2 in
     let t4 : c.add_count-4.new.text.items ≡ ((l1 ++ l2) ++ l3) ++ l4 = c.in_ok-add_count-4.ensures ∙ ap (λ t. t ++ l4) t3 in
     let t5 : c.add_count-5.new.text.items ≡ (((l1 ++ l2) ++ l3) ++ l4) ++ l5 = c.in_ok-add_count-5.ensures ∙ ap (λ t. t ++ l5) t4 in

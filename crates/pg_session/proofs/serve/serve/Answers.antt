@@ -5,10 +5,8 @@ use Rattle.pg_session.proofs.serve.serve.Goals as goal
 
 pub returns-in-Ok-Refused-clause-ends : goal.returns-in-Ok-Refused-clause-ends
 returns-in-Ok-Refused-clause-ends g c =
-    serve_line _ _ _ c.in-Ok-Refused.line.items c.refuse.result (record { reads = refl; takes = takes_none _ _ }) (λ name. stayed _ _ _ (λ e. cc) (c.in-Ok-Refused.ensures.counts name))
-    (rw c.as_str.ensures.value at (rw c.in-Ok-Refused.field-0-is at c.in-Ok-Refused.ensures.loaded))
-    (rw c.deref.ensures.value at c.refuse.ensures.written) (rw c.deref.ensures.value at c.refuse.ensures.cut)
-    c.refuse.ensures.cause c.refuse.ensures.count_stays c.refuse.ensures.status
+    serve_line _ _ _ c.in-Ok-Refused.line.items c.write_text.result (record { reads = refl; takes = takes_none _ _ }) (λ name. stayed _ _ _ (λ e. cc) (c.in-Ok-Refused.ensures.counts name))
+    (rw c.as_str.ensures.value at (rw c.in-Ok-Refused.field-0-is at c.in-Ok-Refused.ensures.loaded)) (rw c.deref.ensures.value at c.write_text.ensures)
 
 pub returns-in-Ok-clause-ends : goal.returns-in-Ok-clause-ends
 returns-in-Ok-clause-ends g c =
