@@ -1,0 +1,230 @@
+//! Takes a recording, and the use of its entry on the input that it has, with the moments between their parts.
+ghost use Rattle.std.specs.Prelude.{◌≡◌, ◌<◌, ◌≤◌, All, length};
+ghost use Rattle.pg_num.specs.declared.limits.TheConstants.{RECORDING_STEP_LIMIT};
+ghost use Rattle.pg_ir.specs.declared.ids.InstrId.{InstrId as AnInstrId};
+ghost use Rattle.pg_accesses.specs.Accesses.{is_gated, summary_of};
+ghost use Rattle.pg_intervals.specs.Intervals.{intervals_of};
+ghost use Rattle.pg_intervals.specs.declared.interval.Turns.TheVariants.{Recorded};
+ghost use Rattle.pg_quiet.specs.Summaries.{AreSummaries};
+ghost use Rattle.pg_reference.specs.Kept.{step_count};
+ghost use Rattle.pg_slice.specs.Given.{AreSteps, EdgesStand};
+ghost use Rattle.pg_sliceable.specs.Sliceable.{CanBeSliced};
+
+use crate::counts::Counts;
+use crate::recording::{are_instructions, follow, rotate, scheduled};
+use crate::shares::Moments;
+use anyhow::{Result, anyhow};
+use pg_accesses::Summary;
+use pg_eval::{Scratch, admits};
+use pg_intervals::{Interval, Turns, intervals};
+use pg_ir::Program;
+use pg_machine::guide;
+use pg_num::limits::RECORDING_STEP_LIMIT;
+use pg_quiet::summaries;
+use pg_reference::{ReferenceRun, reference};
+use pg_slice::{Slice, slice_by_passes};
+use pg_slice_fast::slice;
+use pg_sliceable::laws::replays_have_edges;
+use pg_trace::{Schedule, Trace};
+use std::alloc::Global;
+use std::time::Instant;
+
+/// How far a measurement goes.
+#[derive(Clone, Copy, PartialEq, Eq)]
+pub(crate) enum Extent {
+    /// Up to the replay of the guided run.
+    Replay,
+    /// Up to the slice.
+    Slice,
+    /// And the slice by passes, and the use of the entry.
+    All,
+}
+
+/// What is measured of a run.
+#[derive(Clone, Copy)]
+pub(crate) struct Report {
+    pub(crate) counts: Counts,
+    pub(crate) moments: Moments,
+}
+
+/// A program on an input, and how far it is measured.
+#[derive(Clone, Copy)]
+pub(crate) struct Job<'a> {
+    pub(crate) alloc: Global,
+    pub(crate) p: &'a Program,
+    pub(crate) input: &'a [i64],
+    pub(crate) extent: Extent,
+}
+
+/// The report of a measurement.
+///
+/// # Errors
+///
+/// Where the guided run doesn't exit, no memory is left, or the clock can't be read.
+pub(crate) fn measured(rt: &HostRuntime, job: &Job) -> Result<Report> {
+    let begun = Instant::now(rt)?;
+    let mut report = Report {
+        counts: Counts::none(),
+        moments: Moments::at(begun),
+    };
+    recorded(rt, job, &mut report)?;
+    Ok(report)
+}
+
+fn recorded(rt: &HostRuntime, job: &Job, report: &mut Report) -> Result<()> {
+    let mut trace = Trace::with_room(job.alloc, RECORDING_STEP_LIMIT as usize)?;
+    rotated(rt, job, report, &mut trace)
+}
+
+fn rotated(rt: &HostRuntime, job: &Job, report: &mut Report, trace: &mut Trace) -> Result<()>
+    requires room { trace.old.room ≡ RECORDING_STEP_LIMIT }
+{
+    rotate(job.alloc, job.p, job.input, trace)?;
+    report.moments.rotated = Instant::now(rt)?;
+    let schedule = scheduled(job.alloc, trace)?;
+    report.moments.scheduled = Instant::now(rt)?;
+    followed(rt, job, report, trace, &schedule)
+}
+
+fn followed(
+    rt: &HostRuntime,
+    job: &Job,
+    report: &mut Report,
+    trace: &mut Trace,
+    schedule: &Schedule,
+) -> Result<()>
+    requires room { trace.old.room ≡ RECORDING_STEP_LIMIT }
+{
+    follow(job.alloc, job.p, job.input, schedule, trace)?;
+    report.moments.followed = Instant::now(rt)?;
+    summed(rt, job, report, trace, schedule)
+}
+
+/// The functions that are quiet are found.
+fn summed(
+    rt: &HostRuntime,
+    job: &Job,
+    report: &mut Report,
+    t: &Trace,
+    schedule: &Schedule,
+) -> Result<()>
+    requires can { CanBeSliced job.now.p.now job.now.input.now schedule.now.gated t.now.steps }
+{
+    if !are_instructions(job.p, schedule.gated.as_slice()) {
+        return Err(anyhow!("a turn stands at no instruction"));
+    }
+    let sums = summaries(job.alloc, job.p, schedule.gated.as_slice())?;
+    replayed(rt, job, report, t, schedule, sums.as_slice())
+}
+
+fn replayed(
+    rt: &HostRuntime,
+    job: &Job,
+    report: &mut Report,
+    t: &Trace,
+    schedule: &Schedule,
+    sums: &[Option<Summary>],
+) -> Result<()>
+    requires gated { All (λ (g : AnInstrId). g.0 < length job.now.p.now.instrs) schedule.now.gated }
+    requires can { CanBeSliced job.now.p.now job.now.input.now schedule.now.gated t.now.steps }
+    requires sums { AreSummaries job.now.p.now (is_gated schedule.now.gated) (summary_of sums.now) }
+{
+    job.p.facts();
+    replays_have_edges();
+    let gated = schedule.gated.as_slice();
+    let replay = reference(job.alloc, job.p, job.input, t, gated, sums)?;
+    timed(rt, job, report, t, schedule, &replay)
+}
+
+/// The interval of each step is found.
+fn timed(
+    rt: &HostRuntime,
+    job: &Job,
+    report: &mut Report,
+    t: &Trace,
+    schedule: &Schedule,
+    r: &ReferenceRun,
+) -> Result<()>
+    requires edges { EdgesStand job.now.p.now r.now }
+    requires steps { AreSteps job.now.p.now t.now.steps }
+    requires count { step_count r.now ≡ length t.now.steps }
+    requires few { length t.now.steps < 4294967296 }
+{
+    let intervals = intervals(job.alloc, t, Turns::Recorded)?;
+    report.moments.replayed = Instant::now(rt)?;
+    if job.extent == Extent::Replay {
+        report.counts.run(t, schedule);
+        return Ok(());
+    }
+    sliced(rt, job, report, t, schedule, intervals.as_slice(), r)
+}
+
+fn sliced(
+    rt: &HostRuntime,
+    job: &Job,
+    report: &mut Report,
+    t: &Trace,
+    schedule: &Schedule,
+    intervals: &[Interval],
+    r: &ReferenceRun,
+) -> Result<()>
+    requires edges { EdgesStand job.now.p.now r.now }
+    requires steps { AreSteps job.now.p.now t.now.steps }
+    requires count { step_count r.now ≡ length t.now.steps }
+    requires intervals { intervals.now ≡ intervals_of Recorded t.now.steps }
+    requires few { length t.now.steps < 4294967296 }
+{
+    let slice = slice(job.alloc, job.p, t, intervals, r)?;
+    report.moments.sliced = Instant::now(rt)?;
+    report.counts.run(t, schedule);
+    report.counts.slice(&slice.decisions);
+    if job.extent == Extent::Slice {
+        return Ok(());
+    }
+    passed(rt, job, report, t, intervals, r)?;
+    used(rt, job, report, schedule, &slice)
+}
+
+/// The slice by passes.
+fn passed(
+    rt: &HostRuntime,
+    job: &Job,
+    report: &mut Report,
+    t: &Trace,
+    intervals: &[Interval],
+    r: &ReferenceRun,
+) -> Result<()>
+    requires edges { EdgesStand job.now.p.now r.now }
+    requires steps { AreSteps job.now.p.now t.now.steps }
+    requires count { step_count r.now ≡ length t.now.steps }
+    requires intervals { intervals.now ≡ intervals_of Recorded t.now.steps }
+    requires few { length t.now.steps < 4294967296 }
+{
+    report.moments.counted = Instant::now(rt)?;
+    let _slice = slice_by_passes(job.alloc, job.p, t, intervals, r)?;
+    report.moments.passed = Instant::now(rt)?;
+    Ok(())
+}
+
+/// The entry is used for its own input.
+fn used(
+    rt: &HostRuntime,
+    job: &Job,
+    report: &mut Report,
+    schedule: &Schedule,
+    slice: &Slice,
+) -> Result<()> {
+    let mut scratch = Scratch::new(job.alloc, &slice.precondition)?;
+    report.moments.ready = Instant::now(rt)?;
+    report.counts.admitted = admits(&slice.precondition, &mut scratch, job.input);
+    report.moments.admitted = Instant::now(rt)?;
+    guided(rt, job, report, schedule)
+}
+
+/// The guided run without its steps.
+fn guided(rt: &HostRuntime, job: &Job, report: &mut Report, schedule: &Schedule) -> Result<()> {
+    let run = guide(job.alloc, job.p, job.input, schedule)?;
+    report.moments.guided = Instant::now(rt)?;
+    report.counts.done = run.turns;
+    Ok(())
+}

@@ -1,0 +1,16 @@
+//! Tests of slices: runs of small programs along their schedules, the decisions that these need, by both forms of the slice,
+//! which inputs they admit, and what the guided runs on other inputs do.
+#![tactic(auto)]
+
+#[cfg(test)]
+mod checks;
+#[cfg(test)]
+mod programs;
+#[cfg(test)]
+mod row;
+#[cfg(test)]
+mod runs;
+#[cfg(test)]
+mod slices;
+#[cfg(test)]
+mod sources;
