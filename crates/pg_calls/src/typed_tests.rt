@@ -65,6 +65,19 @@ pub(crate) fn unmet_typed_as(
     unmet_as(types, expected, &value.ty)
 }
 
+/// The place of a value's type that isn't the same as another, alone.
+pub fn unmet_value_as(
+    types: &mut TypeNumbers<'_>,
+    expected: &TypeNode,
+    value: &TypedVal,
+) -> Result<Option<Span>, AllocError>
+    ensures place { IfOk result (λ o. o ≡ earliest (flat_map (unmet (named_types types.old))
+        (asks_typed (is_as (resolved (named_types types.old) (ty_of expected.now))) (typed_of value.now) ∷ []))) }
+    ensures items { types.new.items ≡ types.old.items }
+{
+    unmet_typed_as(types, expected, value)
+}
+
 /// The place of a value's type that isn't the same as another value's.
 pub fn unmet_like(
     types: &mut TypeNumbers<'_>,
@@ -87,5 +100,5 @@ pub fn unmet_same(
         (asks_typed (is_as (resolved (named_types types.old) (typed_of expected.now).ty)) (typed_of value.now) ∷ []))) }
     ensures items { types.new.items ≡ types.old.items }
 {
-    unmet_like(types, expected, value)
+    unmet_value_as(types, &expected.ty, value)
 }

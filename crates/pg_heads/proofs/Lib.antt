@@ -1,4 +1,5 @@
 mod NumberedHeads
+mod Nowhere
 mod Reaching
 mod Searching
 mod NextPlaces

@@ -10,7 +10,8 @@ use Rattle.pg_types.specs.Resolved.{resolved}
 use Rattle.pg_types.specs.Kinds.{fails}
 use Rattle.pg_rules.specs.CallConditions.{definition_header, param_type, is_resolved}
 use Rattle.pg_rules.specs.Signatures.{is_wrong_param}
-use Rattle.pg_rules.specs.Conditions.{head_types, main_name, is_returnable, is_result, are_params, wrong_main, wrong_definition}
+use Rattle.pg_rules.specs.Written.{is_returnable}
+use Rattle.pg_rules.specs.Conditions.{head_types, main_name, is_result, are_params, wrong_main, wrong_definition}
 
 params_same : (n : ℕ) (ps : List Param) → filter_map param_type (map (λ (p : Param). ParamOf p) (each_at behind_param param_at n ps)) ≡ filter_map param_type (map (λ (p : Param). ParamOf p) ps)
 params_same n [] = refl

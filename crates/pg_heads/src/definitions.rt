@@ -22,7 +22,8 @@ ghost use Rattle.pg_rules.specs.Starts.{first_start};
 ghost use Rattle.pg_rules.specs.Signatures.{is_wrong_param};
 ghost use Rattle.pg_rules.specs.Numbering.{param_name};
 ghost use Rattle.pg_rules.specs.Earliest.{earliest, AreEarliest};
-ghost use Rattle.pg_rules.specs.Conditions.{head_types, is_returnable, are_params, has_header, has_other_header, wrong_main, wrong_definition, definition_refused};
+ghost use Rattle.pg_rules.specs.Written.{is_returnable};
+ghost use Rattle.pg_rules.specs.Conditions.{head_types, are_params, has_header, has_other_header, wrong_main, wrong_definition, definition_refused};
 
 use crate::heads::is_main;
 use indexmap::IndexMap;

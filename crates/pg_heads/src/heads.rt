@@ -1,11 +1,11 @@
 //! What the heads of declared functions are refused for.
 
 ghost use Rattle.std.specs.Prelude.{◌≡◌, ◌++◌, [], IfOk, OnOk, ◌||◌, List, ℕ, Option, None, Some, map};
-ghost use Rattle.std.specs.List.{filter_map, cons_option};
+ghost use Rattle.std.specs.List.{filter_map, flat_map, cons_option};
 ghost use Rattle.std.specs.Str.{bytes_eq};
 ghost use Rattle.pg_num.specs.declared.width.Width.TheVariants.{W32};
 ghost use Rattle.pg_ir.specs.declared.value.Scalar.TheVariants.{Int};
-ghost use Rattle.pg_ast.specs.Syntax.{Tree};
+ghost use Rattle.pg_ast.specs.Syntax.{Ty, Tree};
 ghost use Rattle.pg_ast.specs.Views.{dparam_of, declare_of};
 ghost use Rattle.pg_types.specs.NameIndex.{known_place};
 ghost use Rattle.pg_types.specs.NumberedTypes.{named_types};
@@ -15,15 +15,16 @@ ghost use Rattle.pg_rules.specs.Names.{symbol_names};
 ghost use Rattle.pg_rules.specs.KnownNames.{known_named};
 ghost use Rattle.pg_rules.specs.Starts.{first_start};
 ghost use Rattle.pg_rules.specs.Earliest.{AreEarliest};
-ghost use Rattle.pg_rules.specs.Conditions.{head_types, main_name, has_header, has_other_header, wrong_main, wrong_known, declaration_refused};
+ghost use Rattle.pg_rules.specs.Conditions.{head_types, main_name, has_header, types_exist, declares_other, declares_other_main, declares_other_known, declaration_refused};
+ghost use Rattle.pg_rules.specs.Written.{types_within};
 
 use indexmap::IndexMap;
 use pg_ast::{DeclareItem, DparamNode, TypeNode};
 use pg_ir::{Known, Scalar};
 use pg_num::Width;
 use pg_rules::{
-    Refusals, all_within, any_large, are_params, are_types, doubled, is_result, known_named,
-    place_if, unknown_types, wrong_types,
+    Refusals, all_within, are_params, doubled, is_result, known_named, place_if, unknown_types,
+    wrong_counts,
 };
 use pg_types::TypeNumbers;
 use std::alloc::{AllocError, Global};
@@ -84,19 +85,26 @@ fn has_header(
     }
 }
 
-/// Whether the head of a declared function, whose types these are, has other types.
-fn has_other_header(
+/// Whether each name in these types has an item, and each number of elements fits.
+fn types_exist(types: &TypeNumbers<'_>, within: &[&TypeNode]) -> bool
+    ensures { (ts : List Ty) → tys_behind within.now ≡ flat_map types_within ts → result ≡ types_exist (named_types types.now) ts }
+{
+    unknown_types(types, within).is_none() && wrong_counts(within).is_none()
+}
+
+/// Whether the types of the head of a declared function, which with those within them are these, exist and are others.
+fn declares_other(
     types: &mut TypeNumbers<'_>,
     scalars: &[Scalar],
     returned: Option<Scalar>,
     item: &DeclareItem,
-    head: &[&TypeNode],
+    within: &[&TypeNode],
 ) -> Result<bool, AllocError>
-    requires { tys_behind head.now ≡ head_types (declaration_header (declare_of item.now)) }
-    ensures same { IfOk result (λ b. b ≡ has_other_header (named_types types.old) scalars.now returned (declaration_header (declare_of item.now))) }
+    requires { tys_behind within.now ≡ flat_map types_within (head_types (declaration_header (declare_of item.now))) }
+    ensures same { IfOk result (λ b. b ≡ declares_other (named_types types.old) scalars.now returned (declaration_header (declare_of item.now))) }
     ensures items { types.new.items ≡ types.old.items }
 {
-    if are_types(types, head)? {
+    if types_exist(types, within) {
         let same = has_header(types, scalars, returned, item)?;
         Ok(!same)
     } else {
@@ -112,40 +120,40 @@ pub(crate) fn is_main(text: &[u8]) -> bool
 }
 
 /// Whether a declared function is called `main` and has other types than that.
-fn wrong_main(
+fn declares_other_main(
     types: &mut TypeNumbers<'_>,
     item: &DeclareItem,
-    head: &[&TypeNode],
+    within: &[&TypeNode],
 ) -> Result<bool, AllocError>
-    requires { tys_behind head.now ≡ head_types (declaration_header (declare_of item.now)) }
-    ensures same { IfOk result (λ b. b ≡ wrong_main (named_types types.old) item.now.name.text (declaration_header (declare_of item.now))) }
+    requires { tys_behind within.now ≡ flat_map types_within (head_types (declaration_header (declare_of item.now))) }
+    ensures same { IfOk result (λ b. b ≡ declares_other_main (named_types types.old) item.now.name.text (declaration_header (declare_of item.now))) }
     ensures items { types.new.items ≡ types.old.items }
 {
     if is_main(item.name.text.as_slice()) {
-        has_other_header(types, &[], Some(Scalar::Int(Width::W32)), item, head)
+        declares_other(types, &[], Some(Scalar::Int(Width::W32)), item, within)
     } else {
         Ok(false)
     }
 }
 
 /// Whether a declared function is known and has other types than the known one.
-fn wrong_known(
+fn declares_other_known(
     types: &mut TypeNumbers<'_>,
     known: Option<Known>,
     item: &DeclareItem,
-    head: &[&TypeNode],
+    within: &[&TypeNode],
 ) -> Result<bool, AllocError>
-    requires { tys_behind head.now ≡ head_types (declaration_header (declare_of item.now)) }
-    ensures same { IfOk result (λ b. b ≡ wrong_known (named_types types.old) known (declaration_header (declare_of item.now))) }
+    requires { tys_behind within.now ≡ flat_map types_within (head_types (declaration_header (declare_of item.now))) }
+    ensures same { IfOk result (λ b. b ≡ declares_other_known (named_types types.old) known (declaration_header (declare_of item.now))) }
     ensures items { types.new.items ≡ types.old.items }
 {
     match known {
-        Some(function) => has_other_header(
+        Some(function) => declares_other(
             types,
             function.parameters(),
             function.returned(),
             item,
-            head,
+            within,
         ),
         None => Ok(false),
     }
@@ -155,18 +163,18 @@ fn wrong_known(
 fn wrong_signature(
     types: &mut TypeNumbers<'_>,
     item: &DeclareItem,
-    head: &[&TypeNode],
+    within: &[&TypeNode],
 ) -> Result<bool, AllocError>
-    requires { tys_behind head.now ≡ head_types (declaration_header (declare_of item.now)) }
-    ensures same { IfOk result (λ b. b ≡ (wrong_known (named_types types.old) (known_named item.now.name.text) (declaration_header (declare_of item.now))
-        || wrong_main (named_types types.old) item.now.name.text (declaration_header (declare_of item.now)))) }
+    requires { tys_behind within.now ≡ flat_map types_within (head_types (declaration_header (declare_of item.now))) }
+    ensures same { IfOk result (λ b. b ≡ (declares_other_known (named_types types.old) (known_named item.now.name.text) (declaration_header (declare_of item.now))
+        || declares_other_main (named_types types.old) item.now.name.text (declaration_header (declare_of item.now)))) }
     ensures items { types.new.items ≡ types.old.items }
 {
     let known = known_named(item.name.text.as_slice());
-    if wrong_known(types, known, item, head)? {
+    if declares_other_known(types, known, item, within)? {
         Ok(true)
     } else {
-        wrong_main(types, item, head)
+        declares_other_main(types, item, within)
     }
 }
 
@@ -183,18 +191,16 @@ pub(crate) fn declaration_refusals(
 {
     let head = declaration_types(alloc, item)?;
     let within = all_within(alloc, head.as_slice())?;
-    let wrong_type = wrong_types(types, within.as_slice())?;
-    let signature = wrong_signature(types, item, head.as_slice())?;
-    let large = any_large(types, within.as_slice())?;
+    let signature = wrong_signature(types, item, within.as_slice())?;
     Ok(Refusals {
         unknown_name: unknown_types(types, within.as_slice()),
         doubled: doubled(starts, &item.name),
-        wrong_type,
+        wrong_type: wrong_counts(within.as_slice()),
         no_block: None,
         bad_phi: None,
         unsupported: None,
         bad_signature: place_if(signature, item.name.span),
-        too_large: place_if(large, item.name.span),
+        too_large: None,
         no_main: None,
     })
 }

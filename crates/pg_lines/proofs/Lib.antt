@@ -4,5 +4,4 @@ pub mod LineRows
 pub mod ListedParts
 pub mod Misfits
 pub mod ResultKinds
-pub mod Returned
 pub mod UseRows

@@ -1,6 +1,6 @@
 //! What instructions ask of the types of their operands.
 
-ghost use Rattle.std.specs.Prelude.{◌≡◌, [], ◌∷◌, ◌++◌, ◌&&◌, map, IfOk, Option, is_some};
+ghost use Rattle.std.specs.Prelude.{◌≡◌, [], ◌∷◌, ◌++◌, map, IfOk, Option};
 ghost use Rattle.std.specs.List.{flat_map};
 ghost use Rattle.std.specs.Option.{option_map};
 ghost use Rattle.pg_ast.specs.Syntax.{Case};
@@ -14,15 +14,15 @@ ghost use Rattle.pg_rules.specs.Earliest.{earliest};
 ghost use Rattle.pg_rules.specs.TypeConditions.{unmet};
 ghost use Rattle.pg_rules.specs.ValueConditions.{Scope};
 ghost use Rattle.pg_rules.specs.CallConditions.{call_demands};
-ghost use Rattle.pg_rules.specs.Written.{asks, asks_typed, is_narrower, is_wider, cast_from, cast_to, returns_as, count_demands, op_demands};
+ghost use Rattle.pg_rules.specs.Written.{asks, asks_typed, is_narrower, is_wider, cast_from, cast_to, count_demands, op_demands};
 ghost use Rattle.pg_values.specs.declared.type_tests.TypeTest.TheVariants.{Integer, Scalar, Pointer, Bit, NotVoid};
 ghost use Rattle.pg_values.specs.Tests.{test_of};
-ghost use Rattle.pg_lines.specs.Returns.{is_scalar_one};
 ghost use Rattle.pg_calls.specs.Scopes.{IsLineScope};
 
 use pg_ast::{CaseNode, CastOp, CountNode, OpNode, TypeNode, TypedVal};
 use pg_calls::{
     LineScope, call_demands, unmet_like, unmet_one, unmet_same, unmet_typed, unmet_value,
+    unmet_value_as,
 };
 use pg_lex::Span;
 use pg_rules::{earlier, type_span};
@@ -137,92 +137,6 @@ fn unmet_cast(
     let source = unmet_source(types, op, value)?;
     let target = unmet_target(types, op, value, ty)?;
     Ok(earlier(source, target))
-}
-
-// ---- returns
-
-/// Whether a type is one.
-fn is_type(types: &mut TypeNumbers<'_>, ty: &TypeNode) -> Result<bool, AllocError>
-    ensures same { IfOk result (λ b. b ≡ is_some (resolved (named_types types.old) (ty_of ty.now))) }
-    ensures items { types.new.items ≡ types.old.items }
-{
-    let kind = types.kind(ty)?;
-    Ok(kind.is_some())
-}
-
-/// Whether a type is other than another.
-fn is_other(
-    types: &mut TypeNumbers<'_>,
-    expected: &TypeNode,
-    ty: &TypeNode,
-) -> Result<bool, AllocError>
-    ensures same { IfOk result (λ b. b ≡ fails (is_as (resolved (named_types types.old) (ty_of expected.now))) (resolved (named_types types.old) (ty_of ty.now))) }
-    ensures items { types.new.items ≡ types.old.items }
-{
-    let same = types.agree(expected, ty)?;
-    Ok(!same)
-}
-
-fn is_scalar_kind(kind: Option<TypeKind>) -> bool
-    ensures { (t : Option ResolvedType) → kind ≡ option_map kind_of t → result ≡ is_scalar_one t }
-{
-    match kind {
-        Some(TypeKind::Integer(_)) => true,
-        Some(TypeKind::Pointer) => true,
-        _ => false,
-    }
-}
-
-/// Whether two types are both types.
-fn are_types(
-    types: &mut TypeNumbers<'_>,
-    one: &TypeNode,
-    other: &TypeNode,
-) -> Result<bool, AllocError>
-    ensures same { IfOk result (λ b. b ≡ (is_some (resolved (named_types types.old) (ty_of one.now)) && is_some (resolved (named_types types.old) (ty_of other.now)))) }
-    ensures items { types.new.items ≡ types.old.items }
-{
-    if is_type(types, one)? {
-        is_type(types, other)
-    } else {
-        Ok(false)
-    }
-}
-
-/// Whether a value of a type can't be returned as a function's result.
-fn is_wrong_return(
-    types: &mut TypeNumbers<'_>,
-    expected: &TypeNode,
-    ty: &TypeNode,
-) -> Result<bool, AllocError>
-    ensures same { IfOk result (λ b. b ≡ fails (returns_as (resolved (named_types types.old) (ty_of expected.now))) (resolved (named_types types.old) (ty_of ty.now))) }
-    ensures items { types.new.items ≡ types.old.items }
-{
-    let kind = types.kind(expected)?;
-    let scalar = is_scalar_kind(kind);
-    if scalar {
-        is_other(types, expected, ty)
-    } else {
-        are_types(types, expected, ty)
-    }
-}
-
-/// The type of a value that is returned, where the function has another result.
-#[tactic(auto, unfolding(pg_rules::specs::Earliest::earliest))]
-fn unmet_return(
-    types: &mut TypeNumbers<'_>,
-    expected: &TypeNode,
-    value: &TypedVal,
-) -> Result<Option<Span>, AllocError>
-    ensures place { IfOk result (λ o. o ≡ earliest (flat_map (unmet (named_types types.old))
-        (asks_typed (returns_as (resolved (named_types types.old) (ty_of expected.now))) (typed_of value.now) ∷ []))) }
-    ensures items { types.new.items ≡ types.old.items }
-{
-    if is_wrong_return(types, expected, &value.ty)? {
-        Ok(Some(type_span(&value.ty)))
-    } else {
-        Ok(None)
-    }
 }
 
 // ---- several types of an instruction
@@ -413,9 +327,9 @@ fn op_demands(
         OpNode::Br { .. } => Ok(None),
         OpNode::CondBr { condition, .. } => unmet_value(types, TypeTest::Bit, condition),
         OpNode::Switch { value, cases, .. } => unmet_switch(types, value, cases.as_slice()),
-        OpNode::Call { .. } => Ok(None),
+        OpNode::Call { ty, .. } => unmet_one(types, TypeTest::Returnable, ty),
         OpNode::RetVoid { .. } => Ok(None),
-        OpNode::Ret { value, .. } => unmet_return(types, returned, value),
+        OpNode::Ret { value, .. } => unmet_value_as(types, returned, value),
         OpNode::Unreachable { .. } => Ok(None),
         OpNode::Alloca { ty, count, .. } => unmet_alloca(types, ty, count),
         OpNode::Load { ty, pointer, .. } => unmet_pointed(types, TypeTest::Scalar, ty, pointer),

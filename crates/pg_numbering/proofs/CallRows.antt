@@ -164,7 +164,7 @@ module _ (m : Tree) (accepted : IsUnrefused m) (f : ℕ) (d : Definition) (there
         let r = argument_type k a h in
         let at : slice_get (call_demands (scope_of m d) (Call s t w n all)) k ≡ Some (asks_typed (is_as (resolved m.types u)) a) =
         ap (λ (b : Bool). slice_get (cond b (argument_demands m.types (callee_params (symbol m n.text)) all) []) k) callable ∙ demand_at m.types (callee_params (symbol m n.text)) all k u a e h in
-        let test = p.demands k (asks_typed (is_as (resolved m.types u)) a) at r.0 r.1 in
+        let test = p.demands (suc k) (asks_typed (is_as (resolved m.types u)) a) at r.0 r.1 in
         r.1 ∙ ap (λ (q : ResolvedType). Some q) (sym (same_type_true g.0 r.0 (subst (λ (o : Option ResolvedType). is_as o r.0 ≡ true) g.1 test))) ∙ sym g.1
 
     -- where no thread is created, all arguments are values
@@ -303,7 +303,7 @@ module _ (m : Tree) (accepted : IsUnrefused m) (f : ℕ) (d : Definition) (there
       let k = c.known in
       let at = declaration_there m n.text x c.is in
       let header = front_none (wrong_header m.types (header_of (symbol m n.text)) t w) _ p.call in
-      let types = declared_agrees m accepted at.0 x t w at.1 (subst (λ (y : Symbol). wrong_header m.types (header_of y) t w ≡ []) c.is header) (p.types 0 t refl) in
+      let types = declared_agrees m accepted at.0 x c.known t w at.1 c.name_is (subst (λ (y : Symbol). wrong_header m.types (header_of y) t w ≡ []) c.is header) (p.types 0 t refl) in
       let returned : result ≡ returned_by k = r ∙ ap scalar_in types ∙ result_is (returned_by k) (resolved m.types x.result) (known_result m accepted at.0 x k at.1 c.name_is) in
       let callable : is_callable (symbol m n.text) ≡ true = ap (λ (y : Symbol). is_callable y) c.is ∙ ap (λ (o : Option Known). is_some o) c.name_is in
       let created : is_create (scope_of m d) n ≡ is_create_known (Some k) = ap (λ (y : Symbol). is_create_known (known_of y)) c.is ∙ ap (λ (o : Option Known). is_create_known o) c.name_is in

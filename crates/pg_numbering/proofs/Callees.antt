@@ -16,8 +16,8 @@ use Rattle.pg_rules.specs.CallConditions.{agree, Header, definition_header, decl
 use Rattle.pg_rules.specs.Conditions.{is_result, are_params, IsUnrefused}
 use Rattle.pg_numbering.proofs.Unrefused.{else_none}
 use Rattle.pg_numbering.proofs.Resolves.{Has}
-use Rattle.pg_numbering.proofs.Scalars.{agreed}
-use Rattle.pg_numbering.proofs.Headers.{named_there, result_has, declared_result, known_header}
+use Rattle.pg_numbering.proofs.Scalars.{agreed, result_there}
+use Rattle.pg_numbering.proofs.Headers.{named_there, result_has, known_header}
 
 pub record CallsDefined (m : Tree) (s : Symbol) : Type 0 where
   pub function : ℕ
@@ -49,11 +49,14 @@ module _ (m : Tree) (accepted : IsUnrefused m) where
   unfolding numbered
   defined_agrees f d t w e h k = agreed m.types d.result t (result_has m accepted f (numbered m.types d) (named_there m f d e)) k (header_agrees m.types (definition_header d) t w h)
 
-  pub declared_agrees : (j : ℕ) (d : Declaration) (t : Ty) (w : Option Written) → slice_get m.declares j ≡ Some d → wrong_header m.types (Some (declaration_header d)) t w ≡ [] → Has (resolved m.types t) → resolved m.types t ≡ resolved m.types d.result
-  declared_agrees j d t w e h k = agreed m.types d.result t (declared_result m accepted j d e) k (header_agrees m.types (declaration_header d) t w h)
-
   pub known_result : (j : ℕ) (d : Declaration) (k : Known) → slice_get m.declares j ≡ Some d → known_named d.name.text ≡ Some k → is_result (returned_by k) (resolved m.types d.result) ≡ true
   known_result j d k e h = (and_parts (is_result (returned_by k) (resolved m.types d.result)) (are_params m.types (parameters_of k) d.params) (known_header m accepted j d k e h)).0
+
+  -- and that of a function that is known, which is a type
+  pub declared_agrees : (j : ℕ) (d : Declaration) (k : Known) (t : Ty) (w : Option Written) → slice_get m.declares j ≡ Some d → known_named d.name.text ≡ Some k
+      → wrong_header m.types (Some (declaration_header d)) t w ≡ [] → Has (resolved m.types t) → resolved m.types t ≡ resolved m.types d.result
+  declared_agrees j d k t w e named h r =
+      agreed m.types d.result t (result_there (returned_by k) (resolved m.types d.result) (known_result j d k e named)) r (header_agrees m.types (declaration_header d) t w h)
 
   pub known_params : (j : ℕ) (d : Declaration) (k : Known) → slice_get m.declares j ≡ Some d → known_named d.name.text ≡ Some k → are_params m.types (parameters_of k) d.params ≡ true
   known_params j d k e h = (and_parts (is_result (returned_by k) (resolved m.types d.result)) (are_params m.types (parameters_of k) d.params) (known_header m accepted j d k e h)).1

@@ -4,8 +4,9 @@ use Rattle.std.specs.Prelude.{slice_get, Option, Some, is_some}
 use Rattle.std.specs.List.{list_any, list_all, filter_map}
 use Rattle.std.specs.Option.{option_map}
 use Rattle.std.specs.Str.{bytes_eq}
-use Rattle.std.proofs.lemmas.Bool.{or_parts}
+use Rattle.std.proofs.lemmas.Bool.{and_from, or_parts}
 use Rattle.std.proofs.lemmas.Option.{slice_get-map}
+use Rattle.pg_lex.specs.declared.token.Span.{Span}
 use Rattle.pg_num.specs.declared.width.Width.TheVariants.{W32}
 use Rattle.pg_ir.specs.declared.known.Known.{Known}
 use Rattle.pg_ir.specs.declared.value.Scalar.TheVariants as scalar
@@ -15,8 +16,10 @@ use Rattle.pg_ast.specs.Numbers.{numbered}
 use Rattle.pg_rules.specs.declared.fault.CheckKind.TheVariants.{UnknownName, WrongType, BadSignature}
 use Rattle.pg_rules.specs.KnownNames.{known_named}
 use Rattle.pg_types.specs.Resolved.{ResolvedType, resolved, is_scalar}
+use Rattle.pg_rules.specs.Written.{is_returnable}
+use Rattle.pg_rules.specs.TypeConditions.{unknown_types, wrong_counts}
 use Rattle.pg_rules.specs.CallConditions.{definition_header, declaration_header, param_type, is_resolved}
-use Rattle.pg_rules.specs.Conditions.{head_types, is_returnable, has_header, has_other_header, main_name, wrong_main, wrong_known, wrong_definition, definition_refused, declaration_refused, IsUnrefused}
+use Rattle.pg_rules.specs.Conditions.{head_types, has_header, has_other_header, main_name, wrong_main, is_nowhere, types_exist, declares_other, declares_other_main, declares_other_known, wrong_definition, definition_refused, declaration_refused, IsUnrefused}
 use Rattle.pg_rules.specs.Numbered.{named_functions}
 use Rattle.pg_types.specs.Kinds.{fails}
 use Rattle.pg_numbering.proofs.Unrefused.{at_if_none, declarations_pass, definitions_pass}
@@ -72,17 +75,16 @@ module _ (m : Tree) (accepted : IsUnrefused m) where
 
   -- ---- declarations
 
-  declared_type : (j : ℕ) (d : Declaration) → slice_get m.declares j ≡ Some d → (i : ℕ) (t : Ty) → slice_get (head_types (declaration_header d)) i ≡ Some t → Has (resolved m.types t)
+  declared_exist : (j : ℕ) (d : Declaration) → slice_get m.declares j ≡ Some d → types_exist m.types (head_types (declaration_header d)) ≡ true
   unfolding declaration_refused
-  declared_type j d e i t at = types_are m accepted (head_types (declaration_header d)) i t (declarations_pass m accepted j d e UnknownName) (declarations_pass m accepted j d e WrongType) at
-
-  pub declared_result : (j : ℕ) (d : Declaration) → slice_get m.declares j ≡ Some d → Has (resolved m.types d.result)
-  declared_result j d e = declared_type j d e 0 d.result refl
+  declared_exist j d e =
+      and_from (is_nowhere (unknown_types m.types (head_types (declaration_header d)))) (is_nowhere (wrong_counts (head_types (declaration_header d))))
+      (ap (λ (ss : List Span). is_nowhere ss) (declarations_pass m accepted j d e UnknownName)) (ap (λ (ss : List Span). is_nowhere ss) (declarations_pass m accepted j d e WrongType))
 
   -- a function that is known has the types that it is known for
   pub known_header : (j : ℕ) (d : Declaration) (k : Known) → slice_get m.declares j ≡ Some d → known_named d.name.text ≡ Some k → has_header m.types (parameters_of k) (returned_by k) (declaration_header d) ≡ true
   unfolding declaration_refused
   known_header j d k e known =
-      let w = (or_parts (wrong_known m.types (known_named d.name.text) (declaration_header d)) (wrong_main m.types d.name.text (declaration_header d)) (at_if_none (wrong_known m.types (known_named d.name.text) (declaration_header d) || wrong_main m.types d.name.text (declaration_header d)) d.name.span (declarations_pass m accepted j d e BadSignature))).0 in
-      let other : has_other_header m.types (parameters_of k) (returned_by k) (declaration_header d) ≡ false = sym (ap (λ (o : Option Known). wrong_known m.types o (declaration_header d)) known) ∙ w in
-      second_of (list_all (is_resolved m.types) (head_types (declaration_header d))) (has_header m.types (parameters_of k) (returned_by k) (declaration_header d)) (all_resolved m.types (head_types (declaration_header d)) (declared_type j d e)) other
+      let w = (or_parts (declares_other_known m.types (known_named d.name.text) (declaration_header d)) (declares_other_main m.types d.name.text (declaration_header d)) (at_if_none (declares_other_known m.types (known_named d.name.text) (declaration_header d) || declares_other_main m.types d.name.text (declaration_header d)) d.name.span (declarations_pass m accepted j d e BadSignature))).0 in
+      let other : declares_other m.types (parameters_of k) (returned_by k) (declaration_header d) ≡ false = sym (ap (λ (o : Option Known). declares_other_known m.types o (declaration_header d)) known) ∙ w in
+      second_of (types_exist m.types (head_types (declaration_header d))) (has_header m.types (parameters_of k) (returned_by k) (declaration_header d)) (declared_exist j d e) other

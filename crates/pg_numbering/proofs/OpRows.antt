@@ -23,7 +23,7 @@ use Rattle.pg_ast.specs.Syntax.{Ty, Typed, Incoming, Case, Count, Op, Binary, Ic
 use Rattle.pg_ast.specs.Numbers.{is_void, gives}
 use Rattle.pg_types.specs.Resolved.{ResolvedType, IntegerType, PointerType, VoidType, ArrayType, NoFields, MoreFields, resolved, is_integer, is_pointer, is_bit, is_scalar, is_void_type, same_type}
 use Rattle.pg_rules.specs.Names.{result_type, labels_of, first_block}
-use Rattle.pg_rules.specs.Written.{operand, typed_operand, operands, op_types, asks, asks_typed, is_narrower, is_wider, cast_from, cast_to, returns_as, op_demands, label_targets, label_sources}
+use Rattle.pg_rules.specs.Written.{operand, typed_operand, operands, op_types, asks, asks_typed, is_narrower, is_wider, cast_from, cast_to, op_demands, label_targets, label_sources}
 use Rattle.pg_rules.specs.ValueConditions.{number_at}
 use Rattle.pg_rules.specs.CallConditions.{value_operands}
 use Rattle.pg_rules.specs.LineConditions.{no_block}
@@ -36,15 +36,15 @@ use Rattle.pg_numbering.proofs.Flat.{some_is, in_front}
 use Rattle.pg_numbering.proofs.Unrefused.{then_none}
 use Rattle.pg_types.proofs.SameTypes.{same_type_true}
 use Rattle.pg_types.proofs.Voids.{void_resolved}
-use Rattle.pg_numbering.proofs.Scalars.{scalar_from, integer_is, pointer_is, void_type_is, passes_from}
+use Rattle.pg_numbering.proofs.Scalars.{scalar_from, integer_is, pointer_is, void_type_is, isnt_void_type, returnable_or, passes_from}
 use Rattle.pg_numbering.proofs.Placed.{block_there}
 use Rattle.pg_numbering.proofs.Passes.{Passes}
 use Rattle.pg_numbering.proofs.Registers.{scalars_of}
 use Rattle.pg_numbering.proofs.Words.{constant_below}
-use Rattle.pg_numbering.proofs.Operands.{operand_fits}
+use Rattle.pg_numbering.proofs.Operands.{operand_fits, no_void_operand}
 use Rattle.pg_numbering.proofs.Results.{cast_scalar}
 use Rattle.pg_numbering.proofs.Labels.{names_from, target}
-use Rattle.pg_numbering.proofs.Headers.{result_has}
+use Rattle.pg_numbering.proofs.Headers.{result_has, result_returnable}
 use Rattle.pg_numbering.proofs.Tests.{not_from}
 use Rattle.pg_numbering.proofs.Filters.{map_there}
 
@@ -191,9 +191,9 @@ cases_row m d first t w e [] = tt
 cases_row m d first t w e (c ∷ cs) =
     (subst (λ (o : Option ResolvedType). unwrap_or (number_at o c.value.value) 0 < modulus (width_in o)) (sym e) (constant_below w c.value.value), cases_row m d first t w e cs)
 
--- what is returned is a scalar of the function's type
-returned_is : (o : Option ResolvedType) (r : ResolvedType) (t : ResolvedType) → o ≡ Some r → returns_as o t ≡ true → (r ≡ t) × (is_scalar r ≡ true)
-returned_is o r t e h = let p = and_parts (is_scalar r) (same_type r t) (subst (λ (q : Option ResolvedType). returns_as q t ≡ true) e h) in (same_type_true r t p.1, p.0)
+-- what is returned is of the function's type
+returned_is : (o : Option ResolvedType) (r t : ResolvedType) → o ≡ Some r → is_as o t ≡ true → r ≡ t
+returned_is o r t e h = same_type_true r t (subst (λ (q : Option ResolvedType). is_as q t ≡ true) e h)
 
 module _ (m : Tree) (accepted : IsUnrefused m) (order : IsInOrder m) (f : ℕ) (d : Definition) (there : slice_get (named_functions m) f ≡ Some d) where
   abbrev TypeOf : Ty → Value → Type 0
@@ -326,9 +326,10 @@ module _ (m : Tree) (accepted : IsUnrefused m) (order : IsInOrder m) (f : ℕ) (
   return_fits s v p result given nothing =
       let r = result_has m accepted f d there in
       let rv = p.types 0 v.ty refl in
-      let same = returned_is (resolved m.types d.result) r.0 rv.0 r.1 (p.demands 0 (asks_typed (returns_as (resolved m.types d.result)) v) refl rv.0 rv.1) in
-      let scalar_r = scalar_from (resolved m.types d.result) r.0 r.1 same.1 in
-      let types : resolved m.types v.ty ≡ resolved m.types d.result = rv.1 ∙ ap (λ (q : ResolvedType). Some q) (sym same.0) ∙ sym r.1 in (
+      let same = returned_is (resolved m.types d.result) r.0 rv.0 r.1 (p.demands 0 (asks_typed (is_as (resolved m.types d.result)) v) refl rv.0 rv.1) in
+      let value = isnt_void_type r.0 (λ e. no_void_operand m accepted f d there (Ret s v) p 0 v.ty v.value refl (rv.1 ∙ ap (λ (q : ResolvedType). Some q) (sym same ∙ e))) in
+      let scalar_r = scalar_from (resolved m.types d.result) r.0 r.1 (returnable_or r.0 (result_returnable m accepted f d there r.0 r.1) value) in
+      let types : resolved m.types v.ty ≡ resolved m.types d.result = rv.1 ∙ ap (λ (q : ResolvedType). Some q) (sym same) ∙ sym r.1 in (
         nothing refl,
         return_row (program_of m) (scalars_of m d) (scalar_in (resolved m.types d.result)) scalar_r.scalar (value_of (scope_of m d) (resolved m.types v.ty) v.value) scalar_r.is
             (operand_fits m accepted f d there (Ret s v) p 0 v.ty v.value refl scalar_r.scalar (ap scalar_in types ∙ scalar_r.is)),

@@ -1,15 +1,16 @@
 -- The operands of an operation of an accepted tree have their types.
-use Rattle.std.proofs.Common.{◌≡◌, ℕ, zero, suc, ◌+◌, List, [], ◌∷◌, length, true, false, refl, sym, ap, ◌∙◌, arith}
+use Rattle.std.proofs.Common.{◌≡◌, ℕ, zero, suc, ◌+◌, List, [], ◌∷◌, length, true, false, refl, sym, ap, ◌∙◌, subst, arith}
 use Rattle.std.specs.Prelude.{slice_get, Option, Some, None, unwrap_or, is_some}
 use Rattle.std.specs.List.{flat_map}
 use Rattle.std.proofs.lemmas.Option.{slice_get_within}
+use Rattle.pg_lex.specs.declared.token.Span.{Span}
 use Rattle.pg_ir.specs.declared.value.Scalar.{Scalar}
 use Rattle.pg_ir.specs.declared.value.Scalar.TheVariants as scalar
 use Rattle.pg_ir.specs.declared.value.Value.TheVariants as value
 use Rattle.pg_ir.specs.WellFormed.{HasType}
 use Rattle.pg_ast.specs.declared.names.Name.{Name}
 use Rattle.pg_ast.specs.Syntax.{Ty, Val, Int, True, False, Null, Undef, Poison, ZeroInitializer, Local, Global, GepVal, IntToPtrVal, Op, Definition, Tree}
-use Rattle.pg_types.specs.Resolved.{ResolvedType, PointerType, resolved, is_pointer}
+use Rattle.pg_types.specs.Resolved.{ResolvedType, PointerType, VoidType, resolved, is_pointer}
 use Rattle.pg_rules.specs.Names.{Register, Symbol, VariableOf, DefinitionOf, DeclarationOf, NoSymbol, symbol, registers_of, register_named, register_number}
 use Rattle.pg_rules.specs.Places.{val_span}
 use Rattle.pg_rules.specs.Written.{Use, with_inner}
@@ -80,6 +81,43 @@ module _ (m : Tree) (accepted : IsUnrefused m) (f : ℕ) (d : Definition) (there
   right_use : (u : Use) → wrong_use (scope_of m d) u ≡ [] → is_wrong (scope_of m d) u.constant (resolved m.types u.ty) u.value ≡ false
   unfolding wrong_use
   right_use u e = then_none (is_wrong (scope_of m d) u.constant (resolved m.types u.ty) u.value) (val_span u.value) (front_none _ _ e)
+
+  -- no register has a type without a value
+  no_void_register : (n : Name) (o : Option Register) → register_named (registers_of m.types d) n.text ≡ o → wrong_register false (Some VoidType) o ≡ false → is_some o ≡ true → ⊥
+  no_void_register n None h w u = cc
+  no_void_register n (Some r) h w u =
+      let k = looked_up m accepted f d there n.text r h in
+      let a = type_of_scalar r.ty k.scalar k.type_is in
+      let same : Some VoidType ≡ r.ty = same_from r.ty (Some VoidType) a.0 VoidType a.1 refl w in
+      let none : None ≡ Some k.scalar = ap scalar_in same ∙ k.type_is in
+      cc
+
+  no_void_symbol : (y : Symbol) (s : Span) → wrong_symbol (Some VoidType) y ≡ false → unknown_symbol y s ≡ [] → ⊥
+  no_void_symbol (VariableOf i v) s w u = cc
+  no_void_symbol (DefinitionOf g x) s w u = cc
+  no_void_symbol (DeclarationOf x) s w u = cc
+  no_void_symbol NoSymbol s w u = cc
+
+  -- no value fits where there is none
+  no_void_value : (v : Val) → is_wrong (scope_of m d) false (Some VoidType) v ≡ false → unknown_value (scope_of m d) v ≡ [] → ⊥
+  no_void_value (Local n) w u = no_void_register n (register_named (registers_of m.types d) n.text) refl w (else_none (is_some (register_named (registers_of m.types d) n.text)) n.span u)
+  no_void_value (Global n) w u = no_void_symbol (symbol m n.text) n.span w u
+  no_void_value (Int n) w u = cc
+  no_void_value (True x) w u = cc
+  no_void_value (False x) w u = cc
+  no_void_value (Null x) w u = cc
+  no_void_value (Undef x) w u = cc
+  no_void_value (Poison x) w u = cc
+  no_void_value (ZeroInitializer x) w u = cc
+  no_void_value (GepVal x y z p is) w u = cc
+  no_void_value (IntToPtrVal x y n z) w u = cc
+
+  pub no_void_operand : (o : Op) → Passes m d o → (i : ℕ) (t : Ty) (v : Val) → slice_get (value_operands (scope_of m d) o) i ≡ Some (record { constant = false; ty = t; value = v })
+      → resolved m.types t ≡ Some VoidType → ⊥
+  no_void_operand o p i t v e h =
+      let u : Use = record { constant = false; ty = t; value = v } in
+      let k = own_place (value_operands (scope_of m d) o) i u e in
+      no_void_value v (subst (λ (q : Option ResolvedType). is_wrong (scope_of m d) false q v ≡ false) h (right_use u (p.uses k.0 u k.1))) (p.values k.0 u k.1)
 
   -- an operand of an operation
   pub operand_fits : (o : Op) → Passes m d o → (i : ℕ) (t : Ty) (v : Val) → slice_get (value_operands (scope_of m d) o) i ≡ Some (record { constant = false; ty = t; value = v }) → (s : Scalar) → scalar_in (resolved m.types t) ≡ Some s → HasType (program_of m) (scalars_of m d) s (value_of (scope_of m d) (resolved m.types t) v)

@@ -94,7 +94,7 @@ module _ (m : Tree) (accepted : IsUnrefused m) where
       scalar_from (resolved m.types t) r.0 r.1 (returnable_or r.0 v (solid t g r.0 r.1))
   called_scalar t w f g r h (inr c) =
       let there = declaration_there m f.text c.declaration c.is in
-      let e = declared_agrees m accepted there.0 c.declaration t w there.1 (subst (λ (s : Symbol). wrong_header m.types (header_of s) t w ≡ []) c.is h) r in
+      let e = declared_agrees m accepted there.0 c.declaration c.known t w there.1 c.name_is (subst (λ (s : Symbol). wrong_header m.types (header_of s) t w ≡ []) c.is h) r in
       known_scalar t g (returned_by c.known) (resolved m.types c.declaration.result) e (known_result m accepted there.0 c.declaration c.known there.1 c.name_is)
 
   pub result_scalar : (d : Definition) (o : Op) → Passes m d o → gives m.types o ≡ true → IsScalarOf (result_type m.types o)

@@ -9,7 +9,8 @@ use Rattle.pg_ir.specs.declared.value.Scalar.TheVariants as scalar
 use Rattle.pg_ast.specs.Syntax.{Ty, NamedType}
 use Rattle.pg_types.specs.Resolved.{ResolvedType, IntegerType, PointerType, VoidType, ArrayType, NoFields, MoreFields, resolved, is_integer, is_pointer, is_scalar, is_void_type}
 use Rattle.pg_rules.specs.CallConditions.{agree, is_resolved}
-use Rattle.pg_rules.specs.Conditions.{is_scalar_type, is_result, is_returnable}
+use Rattle.pg_rules.specs.Written.{is_returnable}
+use Rattle.pg_rules.specs.Conditions.{is_scalar_type, is_result}
 use Rattle.pg_rules.specs.Numbered.{scalar_in}
 use Rattle.pg_types.specs.Kinds.{is_as, fails}
 use Rattle.pg_types.proofs.SameTypes.{same_type_true, same_width_true}
@@ -85,6 +86,21 @@ result_is None (Some PointerType) h = absurd cc
 result_is None (Some (ArrayType n t)) h = absurd cc
 result_is None (Some NoFields) h = absurd cc
 result_is None (Some (MoreFields s t)) h = absurd cc
+
+-- a type that is a function's result is one
+pub result_there : (s : Option Scalar) (o : Option ResolvedType) → is_result s o ≡ true → Has o
+result_there s (Some t) h = (t, refl)
+result_there None None h = absurd cc
+result_there (Some (scalar.Int w)) None h = absurd cc
+result_there (Some scalar.Ptr) None h = absurd cc
+
+pub isnt_void_type : (t : ResolvedType) → (t ≡ VoidType → ⊥) → is_void_type t ≡ false
+isnt_void_type (IntegerType w) h = refl
+isnt_void_type PointerType h = refl
+isnt_void_type VoidType h = absurd (h refl)
+isnt_void_type (ArrayType n t) h = refl
+isnt_void_type NoFields h = refl
+isnt_void_type (MoreFields s t) h = refl
 
 -- a result is a scalar, or there is none
 pub returnable_or : (r : ResolvedType) → is_returnable r ≡ true → is_void_type r ≡ false → is_scalar r ≡ true

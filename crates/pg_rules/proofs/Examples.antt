@@ -23,7 +23,7 @@ use Rattle.pg_types.specs.Layout.{size_of, fields_end, alignment_of, field_offse
 use Rattle.pg_rules.specs.KnownNames.{known_name, known_named}
 use Rattle.pg_rules.specs.Names.{symbol, registers_of, register_named, register_number, label_number, first_block, first_line, doubled}
 use Rattle.pg_rules.specs.Written.{inner_uses, index_uses, operands, types_within, types_within_all, op_types, op_demands, const_uses, part_uses, const_types, part_types, label_targets, label_sources}
-use Rattle.pg_rules.specs.TypeConditions.{unknown_types, wrong_types, any_large}
+use Rattle.pg_rules.specs.TypeConditions.{unknown_types, wrong_counts, wrong_types, any_large}
 use Rattle.pg_rules.specs.ValueConditions.{wrong_indices, wrong_use, wrong_const, wrong_elements, wrong_fields}
 use Rattle.pg_rules.specs.LineConditions.{line_refused}
 use Rattle.pg_rules.specs.BlockConditions.{predecessors, bad_phis}
@@ -116,7 +116,7 @@ printing = record {
 }
 
 printing_found : map found (phases printing) ≡ [] ∷ [] ∷ [] ∷ ((Unsupported, 26) ∷ []) ∷ [] ∷ []
-unfolding phases global_refused globals_end wrong_const declaration_refused definition_refused body_refused line_refused bad_phis predecessors heads_refused main_refused unknown_types wrong_types any_large resolved type_within type_by fields_by types_within types_within_all doubled size_of same_type known_named known_name symbol registers_of register_named label_number inner_uses operands op_types op_demands const_uses const_types label_targets label_sources wrong_use numbered gives is_void behind_block block_at decimal_text after_name
+unfolding phases global_refused globals_end wrong_const declaration_refused definition_refused body_refused line_refused bad_phis predecessors heads_refused main_refused unknown_types wrong_counts wrong_types any_large resolved type_within type_by fields_by types_within types_within_all doubled size_of same_type known_named known_name symbol registers_of register_named label_number inner_uses operands op_types op_demands const_uses const_types label_targets label_sources wrong_use numbered gives is_void behind_block block_at decimal_text after_name
 printing_found = refl
 
 -- ---- a numbered program
@@ -218,7 +218,7 @@ rows = record {
 }
 
 rows_found : map found (phases rows) ≡ [] ∷ [] ∷ [] ∷ [] ∷ [] ∷ [] ∷ []
-unfolding phases item_refused self_contained meets global_refused globals_end wrong_const wrong_elements wrong_fields declaration_refused definition_refused body_refused line_refused bad_phis predecessors heads_refused main_refused unknown_types wrong_types any_large resolved type_within type_by fields_by types_within types_within_all doubled size_of alignment_of fields_end same_type known_named known_name symbol registers_of register_named label_number inner_uses index_uses operands op_types op_demands const_uses part_uses const_types part_types label_targets label_sources wrong_use wrong_indices numbered gives is_void name_void behind_block block_at decimal_text digits_text after_name
+unfolding phases item_refused self_contained meets global_refused globals_end wrong_const wrong_elements wrong_fields declaration_refused definition_refused body_refused line_refused bad_phis predecessors heads_refused main_refused unknown_types wrong_counts wrong_types any_large resolved type_within type_by fields_by types_within types_within_all doubled size_of alignment_of fields_end same_type known_named known_name symbol registers_of register_named label_number inner_uses index_uses operands op_types op_demands const_uses part_uses const_types part_types label_targets label_sources wrong_use wrong_indices numbered gives is_void name_void behind_block block_at decimal_text digits_text after_name
 rows_found = refl
 
 rows_numbered : program_of rows ≡ numbered_program

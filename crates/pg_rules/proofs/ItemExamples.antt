@@ -11,7 +11,7 @@ use Rattle.pg_types.specs.Layout.{size_of, fields_end, alignment_of}
 use Rattle.pg_rules.specs.KnownNames.{known_name, known_named}
 use Rattle.pg_rules.specs.Names.{symbol, register_named, doubled}
 use Rattle.pg_rules.specs.Written.{inner_uses, index_uses, types_within, types_within_all, const_uses, part_uses, const_types, part_types}
-use Rattle.pg_rules.specs.TypeConditions.{unknown_types, wrong_types, any_large}
+use Rattle.pg_rules.specs.TypeConditions.{unknown_types, wrong_counts, wrong_types, any_large}
 use Rattle.pg_rules.specs.ValueConditions.{wrong_indices, wrong_use, wrong_const, wrong_elements, wrong_fields}
 use Rattle.pg_rules.specs.Conditions.{all_of, meets, self_contained, item_refused, globals_end, global_refused, declaration_refused, definition_refused, heads_refused}
 use Rattle.pg_rules.proofs.Examples.{at, name, literal, found}
@@ -142,6 +142,11 @@ heads :
     of_declare (declare (syntax.I64 (at 0)) (codes "pg_in") []) ∷
     of_declare (declare (syntax.I64 (at 0)) (codes "pg_in") (named 2 (codes "t") ∷ [])) ∷
     of_declare (declare (struct 0 []) (codes "other") (syntax.Void (at 2) ∷ [])) ∷
+    of_declare (declare (array 0 (codes "2097152") (syntax.I8 (at 2))) (codes "other") (array 3 (codes "4") (syntax.Void (at 5)) ∷ [])) ∷
+    of_declare (declare (syntax.I64 (at 0)) (codes "other") (array 2 (codes "18446744073709551616") (syntax.I8 (at 4)) ∷ named 5 (codes "t") ∷ [])) ∷
+    of_declare (declare (syntax.I64 (at 0)) (codes "pg_in") (array 2 (codes "4") (syntax.Void (at 4)) ∷ [])) ∷
+    of_declare (declare (syntax.I64 (at 0)) (codes "pg_in") (array 2 (codes "18446744073709551616") (syntax.I8 (at 4)) ∷ [])) ∷
+    of_declare (declare (array 0 (codes "4") (syntax.Void (at 2))) (codes "main") []) ∷
     of_declare (declare (syntax.I64 (at 0)) (codes "main") []) ∷
     of_define (syntax.I32 (at 0)) (codes "main") [] ∷
     of_define (syntax.I32 (at 0)) (codes "main") (called 2 (codes "x") ∷ []) ∷
@@ -156,6 +161,11 @@ heads :
     ((BadSignature, 1) ∷ []) ∷
     ((UnknownName, 2) ∷ []) ∷
     [] ∷
+    [] ∷
+    ((UnknownName, 5) ∷ (WrongType, 3) ∷ []) ∷
+    ((BadSignature, 1) ∷ []) ∷
+    ((WrongType, 3) ∷ []) ∷
+    ((BadSignature, 1) ∷ []) ∷
     ((BadSignature, 1) ∷ []) ∷
     [] ∷
     ((BadSignature, 1) ∷ []) ∷
@@ -164,5 +174,5 @@ heads :
     ((Doubled, 4) ∷ []) ∷
     ((Doubled, 4) ∷ []) ∷
     []
-unfolding heads_refused declaration_refused definition_refused unknown_types wrong_types any_large resolved type_within type_by fields_by types_within types_within_all doubled size_of fields_end alignment_of same_type known_named known_name numbered decimal_text digits_text after_name behind_block block_at
+unfolding heads_refused declaration_refused definition_refused unknown_types wrong_counts wrong_types any_large resolved type_within type_by fields_by types_within types_within_all doubled size_of fields_end alignment_of same_type known_named known_name numbered decimal_text digits_text after_name behind_block block_at
 heads = refl

@@ -21,8 +21,8 @@ use Rattle.pg_rules.proofs.Examples.{at, name, literal, typed, line, set, found,
 
 -- ---- a function with one block before the rest of the program of `rows`, named at place 1
 
-abbrev function : List Block → Definition
-function bs = record { result = syntax.I32 (at 0); name = name 1 (codes "g"); params = record { ty = syntax.I64 (at 2); name = Some (name 3 (codes "x")) } ∷ []; blocks = bs }
+abbrev function : Ty → List Block → Definition
+function t bs = record { result = t; name = name 1 (codes "g"); params = record { ty = syntax.I64 (at 2); name = Some (name 3 (codes "x")) } ∷ []; blocks = bs }
 
 abbrev block : List Line → Block
 block ls = record { label = None; lines = ls }
@@ -31,7 +31,7 @@ abbrev ending : Line
 ending = line (syntax.Ret (at 90) (typed (syntax.I32 (at 91)) (syntax.Int (literal 92 (codes "0")))))
 
 abbrev of_blocks : List Block → List (CheckKind × ℕ)
-of_blocks bs = found (body_refused rows 0 (numbered rows.types (function bs)))
+of_blocks bs = found (body_refused rows 0 (numbered rows.types (function (syntax.I32 (at 0)) bs)))
 
 -- one instruction, with a result %r, or without one
 abbrev of_value : Op → List (CheckKind × ℕ)
@@ -43,6 +43,10 @@ of_op o = of_blocks (block (line o ∷ ending ∷ []) ∷ [])
 -- one that ends the block
 abbrev of_end : Op → List (CheckKind × ℕ)
 of_end o = of_blocks (block (line o ∷ []) ∷ [])
+
+-- one that ends a function without a result
+abbrev of_last : Op → List (CheckKind × ℕ)
+of_last o = found (body_refused rows 0 (numbered rows.types (function (syntax.Void (at 0)) (block (line o ∷ []) ∷ []))))
 
 -- types, at place 12 and 16
 abbrev i1 : Ty
@@ -173,6 +177,8 @@ refused_more :
     of_value (call ptr (codes "f") (null ∷ typed other (one (codes "1")) ∷ [])) ∷
     of_value (call ptr (codes "f") (typed other (one (codes "1")) ∷ [])) ∷
     of_value (call ptr (codes "nothing") []) ∷
+    of_value (call aggregate (codes "nothing") []) ∷
+    of_value (call (syntax.Array (at 12) (literal 13 (codes "1")) other) (codes "a") []) ∷
     of_value (call ptr (codes "a") []) ∷
     of_value (create (typed pointer (global (codes "f")))) ∷
     of_value (create (typed pointer (global (codes "main")))) ∷
@@ -189,6 +195,11 @@ refused_more :
     of_end (syntax.Switch (at 11) (typed i8 (one (codes "1"))) (name 14 (codes "0")) (case 23 (codes "-1") (codes "0") ∷ case 24 (codes "255") (codes "0") ∷ [])) ∷
     of_end (syntax.RetVoid (at 11) (at 12)) ∷
     of_end (syntax.Ret (at 11) (typed i8 (one (codes "1")))) ∷
+    of_last (syntax.RetVoid (at 11) (at 12)) ∷
+    of_last (syntax.Ret (at 11) (typed i8 (one (codes "1")))) ∷
+    of_last (syntax.Ret (at 11) (typed (syntax.Void (at 12)) (one (codes "5")))) ∷
+    of_last (syntax.Ret (at 11) (typed (syntax.Void (at 12)) (syntax.Undef (at 13)))) ∷
+    of_last (syntax.Ret (at 11) (typed (syntax.Void (at 12)) (local (codes "x")))) ∷
     of_blocks [] ∷
     of_blocks (block [] ∷ []) ∷
     looping (phi (codes "0") (codes "l") ∷ sum ∷ []) ∷
@@ -205,6 +216,8 @@ refused_more :
     ((WrongType, 16) ∷ []) ∷
     ((WrongType, 16) ∷ []) ∷
     ((UnknownName, 15) ∷ []) ∷
+    ((UnknownName, 15) ∷ (WrongType, 12) ∷ []) ∷
+    ((WrongType, 12) ∷ (WrongType, 15) ∷ []) ∷
     ((WrongType, 15) ∷ []) ∷
     [] ∷
     ((WrongType, 13) ∷ []) ∷
@@ -221,6 +234,11 @@ refused_more :
     ((Doubled, 24) ∷ []) ∷
     ((WrongType, 12) ∷ []) ∷
     ((WrongType, 12) ∷ []) ∷
+    [] ∷
+    ((WrongType, 12) ∷ []) ∷
+    ((WrongType, 13) ∷ []) ∷
+    ((WrongType, 13) ∷ []) ∷
+    ((WrongType, 13) ∷ []) ∷
     ((NoBlock, 1) ∷ []) ∷
     ((NoBlock, 1) ∷ []) ∷
     [] ∷

@@ -18,13 +18,13 @@ use Rattle.pg_ast.specs.Syntax.{Ty, Named, Line, Block, Param, Dparam, ParamOf, 
 use Rattle.pg_ast.specs.Numbers.{type_named, numbered}
 use Rattle.pg_rules.specs.declared.fault.CheckKind.{CheckKind}
 use Rattle.pg_rules.specs.declared.fault.CheckKind.TheVariants.{UnknownName, Doubled, WrongType, NoBlock, BadPhi, Unsupported, BadSignature, TooLarge, NoMain}
-use Rattle.pg_types.specs.Resolved.{ResolvedType, IntegerType, PointerType, VoidType, resolved, same_width, is_scalar, is_void_type}
+use Rattle.pg_types.specs.Resolved.{ResolvedType, IntegerType, PointerType, VoidType, resolved, same_width, is_scalar}
 use Rattle.pg_types.specs.Layout.{size_or_none}
 use Rattle.pg_types.specs.Kinds.{fails}
 use Rattle.pg_rules.specs.KnownNames.{known_named}
 use Rattle.pg_rules.specs.Names.{symbol_names, doubled, registers_of, labels_of, line_count, Register}
-use Rattle.pg_rules.specs.Written.{types_within, const_uses, const_types, with_inner, own_types, isnt_void, Use, asks}
-use Rattle.pg_rules.specs.TypeConditions.{unknown_types, wrong_types, any_large, unmet}
+use Rattle.pg_rules.specs.Written.{types_within, const_uses, const_types, with_inner, own_types, isnt_void, is_returnable, Use, asks}
+use Rattle.pg_rules.specs.TypeConditions.{unknown_types, wrong_counts, wrong_types, any_large, unmet}
 use Rattle.pg_rules.specs.ValueConditions.{Scope, unknown_value, function_value, wrong_use, wrong_const}
 use Rattle.pg_rules.specs.CallConditions.{Header, definition_header, declaration_header, param_types, is_resolved}
 use Rattle.pg_rules.specs.LineConditions.{line_refused, line_types}
@@ -144,22 +144,33 @@ main_name = codes "main"
 abbrev pub wrong_main : List NamedType → List ℕ → Header → Bool
 wrong_main types text h = bytes_eq text main_name && has_other_header types [] (Some (Int W32)) h
 
-abbrev pub wrong_known : List NamedType → Option Known → Header → Bool
-wrong_known types None h = false
-wrong_known types (Some k) h = has_other_header types (parameters_of k) (returned_by k) h
+abbrev pub is_nowhere : List Span → Bool
+is_nowhere [] = true
+is_nowhere (s ∷ ss) = false
 
+-- each name in these types has an item, and each number of elements fits
+abbrev pub types_exist : List NamedType → List Ty → Bool
+types_exist types ts = is_nowhere (unknown_types types ts) && is_nowhere (wrong_counts ts)
+
+-- its types exist, and are others than these; an element without a value is one, and one of any size
+abbrev pub declares_other : List NamedType → List Scalar → Option Scalar → Header → Bool
+declares_other types ss r h = types_exist types (head_types h) && not (has_header types ss r h)
+
+abbrev pub declares_other_main : List NamedType → List ℕ → Header → Bool
+declares_other_main types text h = bytes_eq text main_name && declares_other types [] (Some (Int W32)) h
+
+abbrev pub declares_other_known : List NamedType → Option Known → Header → Bool
+declares_other_known types None h = false
+declares_other_known types (Some k) h = declares_other types (parameters_of k) (returned_by k) h
+
+-- a function that is only declared may have any types that exist; one that is known has its own
 unfoldable pub declaration_refused : Tree → Declaration → RefusedPlaces
 declaration_refused m d UnknownName = unknown_types m.types (head_types (declaration_header d))
 declaration_refused m d Doubled = doubled (symbol_names m) d.name
-declaration_refused m d WrongType = wrong_types m.types (head_types (declaration_header d))
+declaration_refused m d WrongType = wrong_counts (head_types (declaration_header d))
 declaration_refused m d BadSignature =
-    at_if (wrong_known m.types (known_named d.name.text) (declaration_header d) || wrong_main m.types d.name.text (declaration_header d)) d.name.span
-declaration_refused m d TooLarge = at_if (any_large m.types (head_types (declaration_header d))) d.name.span
+    at_if (declares_other_known m.types (known_named d.name.text) (declaration_header d) || declares_other_main m.types d.name.text (declaration_header d)) d.name.span
 declaration_refused m d _ = []
-
--- a result is a scalar or void
-abbrev pub is_returnable : ResolvedType → Bool
-is_returnable t = is_scalar t || is_void_type t
 
 abbrev pub wrong_definition : List NamedType → Definition → Bool
 wrong_definition types d =

@@ -28,6 +28,11 @@ void_part types t = if is_void_part (resolved types t) then type_span t ∷ [] e
 abbrev pub wrong_count : List ℕ → Span → List Span
 wrong_count text span = if is_some (element_count text) then [] else span ∷ []
 
+-- an array whose number of elements doesn't fit
+abbrev pub array_count : Ty → List Span
+array_count (Array s n t) = wrong_count n.text n.span
+array_count _ = []
+
 abbrev pub wrong_type : List NamedType → Ty → List Span
 wrong_type types (Array s n t) = wrong_count n.text n.span ++ void_part types t
 wrong_type types (Struct s ts) = flat_map (void_part types) (type_list ts)
@@ -43,6 +48,9 @@ is_large types _ = false
 
 unfoldable pub unknown_types : List NamedType → List Ty → List Span
 unknown_types types ts = flat_map (unknown_type types) (flat_map types_within ts)
+
+unfoldable pub wrong_counts : List Ty → List Span
+wrong_counts ts = flat_map array_count (flat_map types_within ts)
 
 unfoldable pub wrong_types : List NamedType → List Ty → List Span
 wrong_types types ts = flat_map (wrong_type types) (flat_map types_within ts)

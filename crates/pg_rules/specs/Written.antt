@@ -1,6 +1,6 @@
 -- What stands in a line or a constant: the types that are written, the types that are asked for, and the values at
 -- their types.
-use Rattle.std.specs.Prelude.{nat_lt, ◌&&◌, Bool, true, false, List, [], ◌∷◌, ◌++◌, map, Option, Some, None}
+use Rattle.std.specs.Prelude.{nat_lt, ◌||◌, Bool, true, false, List, [], ◌∷◌, ◌++◌, map, Option, Some, None}
 use Rattle.pg_num.specs.Numbers.{width_bits}
 use Rattle.pg_ast.specs.declared.names.Name.{Name}
 use Rattle.pg_ast.specs.declared.ops.CastOp.{CastOp}
@@ -10,7 +10,7 @@ use Rattle.pg_ast.specs.Syntax.{MoreVals, Typed, Const, Consts, ValConst, BytesC
 use Rattle.pg_ast.specs.Syntax.{NoConsts, MoreConsts, Incoming, Case, Written, Count, Op, Binary, Icmp, Cast, Select}
 use Rattle.pg_ast.specs.Syntax.{Phi, Br, CondBr, Switch, Call, RetVoid, Ret, Unreachable, Alloca, Load, Store}
 use Rattle.pg_ast.specs.Syntax.{GetElementPtr, NamedType}
-use Rattle.pg_types.specs.Resolved.{ResolvedType, IntegerType, VoidType, resolved, same_type, is_integer, is_pointer, is_bit, is_scalar}
+use Rattle.pg_types.specs.Resolved.{ResolvedType, IntegerType, VoidType, resolved, is_integer, is_pointer, is_bit, is_scalar, is_void_type}
 use Rattle.pg_types.specs.Kinds.{is_as}
 
 -- ---- lists of the grammar
@@ -161,10 +161,9 @@ cast_to Sext from t = is_wider from t
 cast_to PtrToInt from t = is_integer t
 cast_to IntToPtr from t = is_pointer t
 
--- a value is returned only where the function has a scalar result
-abbrev pub returns_as : Option ResolvedType → ResolvedType → Bool
-returns_as None t = true
-returns_as (Some u) t = is_scalar u && same_type u t
+-- a result is a scalar or void
+abbrev pub is_returnable : ResolvedType → Bool
+is_returnable t = is_scalar t || is_void_type t
 
 abbrev pub count_demands : Option Count → List Demand
 count_demands None = []
@@ -180,9 +179,9 @@ op_demands types r (Phi s t i all) = asks is_scalar t ∷ []
 op_demands types r (Br s b) = []
 op_demands types r (CondBr s c a b) = asks_typed is_bit c ∷ []
 op_demands types r (Switch s v b all) = asks_typed is_integer v ∷ map (λ (c : Case). asks_typed (is_as (resolved types v.ty)) c.value) all
-op_demands types r (Call s t w f all) = []
+op_demands types r (Call s t w f all) = asks is_returnable t ∷ []
 op_demands types r (RetVoid s v) = []
-op_demands types r (Ret s v) = asks_typed (returns_as r) v ∷ []
+op_demands types r (Ret s v) = asks_typed (is_as r) v ∷ []
 op_demands types r (Unreachable s) = []
 op_demands types r (Alloca s t n) = asks isnt_void t ∷ count_demands n
 op_demands types r (Load s t p) = asks is_scalar t ∷ asks_typed is_pointer p ∷ []

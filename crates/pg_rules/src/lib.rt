@@ -28,6 +28,6 @@ pub use signatures::{are_params, are_types, is_result};
 pub use starts::{doubled, doubled_among, doubled_names, index_starts};
 pub use symbol_names::symbol_starts;
 pub use symbols::{SymbolNode, Symbols, index_symbols, symbol};
-pub use type_rows::{any_large, unknown_types, wrong_types};
+pub use type_rows::{any_large, unknown_types, wrong_counts, wrong_types};
 pub use values::is_misplaced;
 pub use within::{add_types_within, all_within};

@@ -6,7 +6,7 @@ ghost use Rattle.pg_ast.specs.Views.{ty_of};
 ghost use Rattle.pg_types.specs.NumberedTypes.{named_types};
 ghost use Rattle.pg_rules.specs.Nodes.{tys_behind};
 ghost use Rattle.pg_rules.specs.Earliest.{earliest};
-ghost use Rattle.pg_rules.specs.TypeConditions.{unknown_type, wrong_count, void_part, wrong_type, is_large};
+ghost use Rattle.pg_rules.specs.TypeConditions.{unknown_type, wrong_count, array_count, void_part, wrong_type, is_large};
 
 use crate::earliest::earlier;
 use crate::places::type_span;
@@ -52,6 +52,28 @@ fn wrong_count(count: &Literal) -> Option<Span>
         Some(_) => None,
         None => Some(count.span),
     }
+}
+
+/// An array whose number of elements doesn't fit.
+#[tactic(auto, unfolding(crate::specs::Earliest::earliest))]
+fn array_count(ty: &TypeNode) -> Option<Span>
+    ensures { result ≡ earliest (array_count (ty_of ty.now)) }
+{
+    match ty {
+        TypeNode::Array(_, count, _) => wrong_count(count),
+        _ => None,
+    }
+}
+
+/// The earliest number of elements that doesn't fit.
+pub fn wrong_counts(all: &[&TypeNode]) -> Option<Span>
+    ensures { result ≡ earliest (flat_map array_count (tys_behind all.now)) }
+{
+    let mut found = None;
+    for ty in all {
+        found = earlier(found, array_count(ty));
+    }
+    found
 }
 
 /// An element or a field without a value.

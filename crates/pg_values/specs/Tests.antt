@@ -1,7 +1,7 @@
 -- What is asked of a type, by name.
 use Rattle.std.specs.Prelude.{Bool}
 use Rattle.pg_types.specs.Resolved.{ResolvedType, is_integer, is_scalar, is_pointer, is_bit}
-use Rattle.pg_rules.specs.Written.{isnt_void}
+use Rattle.pg_rules.specs.Written.{isnt_void, is_returnable}
 use Rattle.pg_values.specs.declared.type_tests.TypeTest.{TypeTest}
 use Rattle.pg_values.specs.declared.type_tests.TypeTest.TheVariants as tests
 
@@ -11,3 +11,4 @@ test_of tests.Scalar = is_scalar
 test_of tests.Pointer = is_pointer
 test_of tests.Bit = is_bit
 test_of tests.NotVoid = isnt_void
+test_of tests.Returnable = is_returnable

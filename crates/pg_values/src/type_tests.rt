@@ -28,6 +28,8 @@ pub enum TypeTest {
     /// `i1`, the type of conditions.
     Bit,
     NotVoid,
+    /// A scalar or `void`, which a function may return.
+    Returnable,
 }
 
 /// Whether a type of this kind is what is asked for.
@@ -55,6 +57,12 @@ pub fn passes(test: TypeTest, kind: TypeKind) -> bool
         TypeTest::NotVoid => match kind {
             TypeKind::Void => false,
             _ => true,
+        },
+        TypeTest::Returnable => match kind {
+            TypeKind::Integer(_) => true,
+            TypeKind::Pointer => true,
+            TypeKind::Void => true,
+            _ => false,
         },
     }
 }

@@ -1,5 +1,5 @@
 use Rattle.std.proofs.Common.{◌∙◌}
-use Rattle.pg_ast.specs.Views.{typed_of}
+use Rattle.pg_ast.specs.Views.{ty_of, typed_of}
 use Rattle.pg_types.specs.Resolved.{resolved}
 use Rattle.pg_types.specs.Kinds.{is_as}
 use Rattle.pg_types.specs.NumberedTypes.{named_types}
@@ -7,7 +7,7 @@ use Rattle.pg_types.proofs.Resolutions.{if_ok}
 use Rattle.pg_rules.specs.TypeConditions.{unmet}
 use Rattle.pg_rules.specs.Written.{asks_typed}
 use Rattle.pg_calls.proofs.Joined.{one_row}
-use Rattle.pg_calls.proofs.typed_tests.unmet_same.Goals as goal
+use Rattle.pg_calls.proofs.typed_tests.unmet_value_as.Goals as goal
 
 pub returns-clause-place : goal.returns-clause-place
-returns-clause-place c = if_ok c.unmet_like.result (λ o h. h ∙ one_row (unmet (named_types c.args.types.now)) (asks_typed (is_as (resolved (named_types c.args.types.now) (typed_of c.args.expected.now).ty)) (typed_of c.args.value.now))) c.unmet_like.ensures.place
+returns-clause-place c = if_ok c.unmet_typed_as.result (λ o h. h ∙ one_row (unmet (named_types c.args.types.now)) (asks_typed (is_as (resolved (named_types c.args.types.now) (ty_of c.args.expected.now))) (typed_of c.args.value.now))) c.unmet_typed_as.ensures.place

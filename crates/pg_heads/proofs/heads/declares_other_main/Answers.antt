@@ -6,17 +6,17 @@ use Rattle.pg_ast.specs.Views.{declare_of}
 use Rattle.pg_types.specs.NumberedTypes.{named_types}
 use Rattle.pg_types.proofs.Resolutions.{if_ok}
 use Rattle.pg_rules.specs.CallConditions.{declaration_header}
-use Rattle.pg_rules.specs.Conditions.{main_name, has_other_header}
-use Rattle.pg_heads.proofs.heads.wrong_main.Goals as goal
+use Rattle.pg_rules.specs.Conditions.{main_name, declares_other}
+use Rattle.pg_heads.proofs.heads.declares_other_main.Goals as goal
 
 pub returns-then-is_main-clause-same : goal.returns-then-is_main-clause-same
 returns-then-is_main-clause-same c =
-    let other = has_other_header (named_types c.args.types.now) [] (Some (Int W32)) (declaration_header (declare_of c.args.item.now)) in
-    if_ok c.has_other_header.result
+    let other = declares_other (named_types c.args.types.now) [] (Some (Int W32)) (declaration_header (declare_of c.args.item.now)) in
+    if_ok c.declares_other.result
     (λ b h. h ∙ ap (λ t. t && other) (sym c.if-is_main.true ∙ c.is_main.ensures ∙ ap (λ t. bytes_eq t main_name) c.as_slice.ensures))
-    c.has_other_header.ensures.same
+    c.declares_other.ensures.same
 
 pub returns-else-is_main-clause-same : goal.returns-else-is_main-clause-same
 returns-else-is_main-clause-same c =
-    let other = has_other_header (named_types c.args.types.now) [] (Some (Int W32)) (declaration_header (declare_of c.args.item.now)) in
+    let other = declares_other (named_types c.args.types.now) [] (Some (Int W32)) (declaration_header (declare_of c.args.item.now)) in
     ap (λ t. t && other) (sym c.if-is_main.false ∙ c.is_main.ensures ∙ ap (λ t. bytes_eq t main_name) c.as_slice.ensures)

@@ -1,0 +1,28 @@
+-- No place, and none that is the earliest.
+use Rattle.std.proofs.Common.{◌≡◌, Bool, true, false, not, cond, List, [], ◌∷◌, Option, Some, None, is_some, nat_lt, refl, sym, ap, ◌∙◌}
+use Rattle.pg_lex.specs.declared.token.Span.{Span}
+use Rattle.pg_rules.specs.Earliest.{earlier, earliest}
+use Rattle.pg_rules.specs.Conditions.{is_nowhere}
+
+pub is_nowhere_none : (ss : List Span) → is_some (earliest ss) ≡ not (is_nowhere ss)
+unfolding earliest
+is_nowhere_none [] = refl
+is_nowhere_none (s ∷ ss) = by (earliest ss)
+  where
+    by : (o : Option Span) → is_some (earlier (Some s) o) ≡ true
+    by None = refl
+    by (Some x) = pick (nat_lt x.start s.start)
+      where
+        pick : (b : Bool) → is_some (cond b (Some x) (Some s)) ≡ true
+        pick true = refl
+        pick false = refl
+
+not_same : (a b : Bool) → not a ≡ not b → a ≡ b
+not_same true true e = refl
+not_same true false e = absurd cc
+not_same false true e = absurd cc
+not_same false false e = refl
+
+-- there is none just where the earliest is none
+pub nowhere : (ss : List Span) (o : Option Span) (b : Bool) → o ≡ earliest ss → is_some o ≡ not b → b ≡ is_nowhere ss
+nowhere ss o b e h = not_same b (is_nowhere ss) (sym h ∙ ap (λ (p : Option Span). is_some p) e ∙ is_nowhere_none ss)
