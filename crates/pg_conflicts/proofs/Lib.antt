@@ -4,6 +4,7 @@ pub mod Both
 pub mod Joining
 pub mod Keeping
 pub mod Meeting
+pub mod Merging
 pub mod Notes
 pub mod Placing
 pub mod Powers

@@ -1,6 +1,7 @@
 pub mod Joined
 pub mod Laws
 pub mod Meets
+pub mod Merged
 pub mod Nodes
 pub mod Passes
 pub mod Places

@@ -6,6 +6,7 @@ ghost use Rattle.pg_conflicts.specs.Tables.{IsTree};
 ghost use Rattle.pg_conflicts.specs.declared.places.Placed.{Placed as APlaced};
 
 use crate::footprint::Footprint;
+use crate::merged::{answers_at, merge};
 use crate::pass::Pass;
 use crate::places::{Placed, place_all};
 use crate::table::{answered_before, no_marks};
@@ -95,12 +96,8 @@ fn answered_along(
     Ok(marks)
 }
 
-/// Of each print whether it conflicts with one that it minds, in a time that is near-linear in the prints.
-///
-/// # Errors
-///
-/// Where no memory is left for the answers or for the tables.
-pub fn conflicts(alloc: Global, prints: &[Footprint]) -> Result<Vec<bool>, AllocError>
+/// Of each print whether it conflicts with one that it minds, by the passes over all of them.
+fn conflicts_of_all(alloc: Global, prints: &[Footprint]) -> Result<Vec<bool>, AllocError>
     requires { InOrder prints.now }
     ensures { IfOk result (λ v. v.items ≡ map (is_met prints.now) prints.now) }
 {
@@ -112,4 +109,19 @@ pub fn conflicts(alloc: Global, prints: &[Footprint]) -> Result<Vec<bool>, Alloc
     behind.reverse();
     join(met.as_mut_slice(), behind.as_slice());
     Ok(met)
+}
+
+/// Of each print whether it conflicts with one that it minds, in a time that is near-linear in the prints.
+///
+/// # Errors
+///
+/// Where no memory is left for the answers or for the tables.
+pub fn conflicts(alloc: Global, prints: &[Footprint]) -> Result<Vec<bool>, AllocError>
+    requires { InOrder prints.now }
+    ensures { IfOk result (λ v. v.items ≡ map (is_met prints.now) prints.now) }
+{
+    let merged = merge(alloc, prints)?;
+    let met = conflicts_of_all(alloc, merged.kept.as_slice())?;
+    let answers = answers_at(alloc, met.as_slice(), merged.numbers.as_slice())?;
+    Ok(answers)
 }

@@ -5,6 +5,7 @@ mod best;
 mod fast;
 mod footprint;
 pub mod laws;
+mod merged;
 mod nodes;
 mod pairs;
 mod pass;

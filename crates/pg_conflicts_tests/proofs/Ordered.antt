@@ -1,6 +1,8 @@
 -- Prints that are added in order.
-use Rattle.std.proofs.Common.{ℕ, ◌≢◌, ◌+◌, ◌≤◌, List, [], ◌∷◌, ◌++◌, arith}
+use Rattle.std.proofs.Common.{ℕ, ◌≢◌, ◌+◌, ◌/◌, ◌≤◌, List, [], ◌∷◌, ◌++◌, arith}
 use Rattle.std.specs.List.{AllByRecursion}
+use Rattle.std.proofs.Math.Nat.{div-mul-le_self}
+use Rattle.std.proofs.lemmas.Nat.{le-div}
 use Rattle.pg_conflicts.specs.declared.footprint.Footprint.{Footprint}
 use Rattle.pg_conflicts.specs.Meets.{InOrder}
 
@@ -18,9 +20,13 @@ order_push k (x ∷ xs) y h a o =
     let l = a.0 in
     (push_all (λ (z : Footprint). x.thread.0 ≢ z.thread.0 → x.low ≤ z.high) xs y o.0 (λ n. omega (arith, l, h)), order_push k xs y h a.1 o.1)
 
-later : (k : ℕ) (xs : List Footprint) → AreUpTo k xs → AreUpTo (k + 1) xs
-later k [] a = tt
-later k (x ∷ xs) a = let l = a.0 in (omega (arith, l), later k xs a.1)
+later : (k m : ℕ) (xs : List Footprint) → k ≤ m → AreUpTo k xs → AreUpTo m xs
+later k m [] le a = tt
+later k m (x ∷ xs) le a = let l = a.0 in (omega (arith, l, le), later k m xs le a.1)
 
-pub up_push : (k : ℕ) (xs : List Footprint) (y : Footprint) → y.low ≤ k + 1 → AreUpTo k xs → AreUpTo (k + 1) (xs ++ y ∷ [])
-up_push k xs y l a = push_all (λ (x : Footprint). x.low ≤ k + 1) xs y (later k xs a) l
+pub up_push : (k m : ℕ) (xs : List Footprint) (y : Footprint) → k ≤ m → y.low ≤ m → AreUpTo k xs → AreUpTo m (xs ++ y ∷ [])
+up_push k m xs y le l a = push_all (λ (x : Footprint). x.low ≤ m) xs y (later k m xs le a) l
+
+-- the turn of the next number is none earlier
+pub next_turn : (k : ℕ) → k / 8 ≤ (k + 1) / 8
+next_turn k = let l = div-mul-le_self k 8 in le-div (k / 8) (k + 1) 8 (omega arith) (omega (arith, l))

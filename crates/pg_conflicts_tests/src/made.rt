@@ -74,16 +74,29 @@ fn prints(alloc: Global, kind: Kind, count: u32) -> Result<Vec<Footprint>, Alloc
     Ok(prints)
 }
 
-/// How many of the answers are set, which both forms give alike.
-fn agree(rt: &impl Abort, alloc: Global, kind: Kind, count: u32) -> Result<usize, Fail>
+/// So many prints in order, eight at a turn, of which three at most are different.
+fn repeated(alloc: Global, kind: Kind, count: u32) -> Result<Vec<Footprint>, AllocError>
     requires threads { 0 < kind.threads }
     requires bytes { 0 < kind.bytes }
     requires length { 0 < kind.length }
     requires turns { 0 < kind.turns }
+    ensures { IfOk result (λ v. InOrder v.items) }
 {
-    let prints = prints(alloc, kind, count)?;
-    let fast = conflicts(alloc, prints.as_slice())?;
-    let plain = conflicts_by_pairs(alloc, prints.as_slice())?;
+    let mut prints = Vec::new(alloc);
+    for k in 0..count {
+        let turn = k / 8;
+        let state = next(3 * u64::from(turn) + u64::from(k % 3));
+        prints.push(made(kind, turn, next(state)))?;
+    }
+    Ok(prints)
+}
+
+/// How many of the answers on these prints are set, which both forms give alike.
+fn agree(rt: &impl Abort, alloc: Global, prints: &[Footprint]) -> Result<usize, Fail>
+    requires { InOrder prints.now }
+{
+    let fast = conflicts(alloc, prints)?;
+    let plain = conflicts_by_pairs(alloc, prints)?;
     assert_eq!(rt; fast.as_slice(), plain.as_slice());
     Ok(plain.as_slice().iter().filter(|b| **b).count())
 }
@@ -96,7 +109,8 @@ fn both_forms_agree_on_short_ranges(rt: HostRuntime) -> Result<(), Fail> {
         length: 9,
         turns: 120,
     };
-    let met = agree(&rt, rt.alloc(), kind, 700)?;
+    let prints = prints(rt.alloc(), kind, 700)?;
+    let met = agree(&rt, rt.alloc(), prints.as_slice())?;
     assert_eq!(rt; met, 223);
     Ok(())
 }
@@ -109,7 +123,22 @@ fn both_forms_agree_on_long_ranges(rt: HostRuntime) -> Result<(), Fail> {
         length: 1 << 38,
         turns: 9,
     };
-    let met = agree(&rt, rt.alloc(), kind, 500)?;
+    let prints = prints(rt.alloc(), kind, 500)?;
+    let met = agree(&rt, rt.alloc(), prints.as_slice())?;
     assert_eq!(rt; met, 207);
+    Ok(())
+}
+
+#[test]
+fn both_forms_agree_on_repeated_prints(rt: HostRuntime) -> Result<(), Fail> {
+    let kind = Kind {
+        threads: 4,
+        bytes: 900,
+        length: 12,
+        turns: 15,
+    };
+    let prints = repeated(rt.alloc(), kind, 900)?;
+    let met = agree(&rt, rt.alloc(), prints.as_slice())?;
+    assert_eq!(rt; met, 435);
     Ok(())
 }

@@ -1,24 +1,27 @@
-use Rattle.std.proofs.Common.{[], length, drop, true, false, sym, ap, ◌∙◌}
-use Rattle.std.specs.Prelude.{reverse}
-use Rattle.std.proofs.lemmas.List.{length-reverse, take_at}
-use Rattle.pg_conflicts.specs.Joined.{or_each}
-use Rattle.pg_conflicts.specs.Passes.{answers_along, before_by}
-use Rattle.pg_conflicts.proofs.Answered.{all_answered}
-use Rattle.pg_conflicts.proofs.Joining.{before_length}
+use Rattle.std.proofs.Common.{◌<◌, length, map, sym, ap, ◌∙◌, subst, All}
+use Rattle.pg_conflicts.specs.Meets.{InOrder, is_met}
+use Rattle.pg_conflicts.specs.Merged.{StandAt}
+use Rattle.pg_conflicts.proofs.Merging.{all_met, kept_in_order, numbers_within}
 use Rattle.pg_conflicts.proofs.fast.conflicts.Goals as goal
 
-pub join-requires : goal.join-requires
-join-requires c =
-    let zs = c.in_ok-placed.placed.items in
-    ap length (c.as_mut_slice.ensures.value ∙ c.in_ok-met.ensures ∙ ap (before_by (answers_along false) []) c.as_slice.ensures.value) ∙ before_length (answers_along false) [] zs
-    ∙ sym (ap length (c.as_slice-3.ensures.value ∙ c.reverse-2.ensures.items) ∙ length-reverse c.in_ok-behind.behind.items ∙ ap length c.in_ok-behind.ensures ∙ before_length (answers_along true) [] c.as_slice-2.result.now
-    ∙ ap length (c.as_slice-2.ensures.value ∙ c.reverse.ensures.items) ∙ length-reverse zs)
+pub conflicts_of_all-requires : goal.conflicts_of_all-requires
+conflicts_of_all-requires c =
+    let m = c.in_ok-merged.merged in
+    subst InOrder (sym c.as_slice.ensures.value) (kept_in_order c.args.prints.now m.kept.items m.numbers.items c.in_ok-merged.ensures c.requires)
+
+pub answers_at-requires : goal.answers_at-requires
+answers_at-requires c =
+    let m = c.in_ok-merged.merged in
+    let answers = c.as_slice-2.result.now in
+    subst (All (λ k. k < length answers)) (sym c.as_slice-3.ensures.value)
+    (numbers_within c.args.prints.now m.kept.items m.numbers.items answers c.in_ok-merged.ensures
+    (c.as_slice-2.ensures.value ∙ c.in_ok-met.ensures ∙ ap (λ l. map (is_met l) l) c.as_slice.ensures.value))
 
 pub returns : goal.returns
 returns c =
-    let zs = c.in_ok-placed.placed.items in
-    take_at c.join.new.marks (drop (length c.join.new.marks) c.in_ok-met.met.items) c.in_ok-met.met.len (c.join.auto.marks ∙ c.as_mut_slice.ensures.len)
-    ∙ c.join.ensures
-    ∙ ap (λ l. or_each l c.as_slice-3.result.now) (c.as_mut_slice.ensures.value ∙ c.in_ok-met.ensures ∙ ap (before_by (answers_along false) []) c.as_slice.ensures.value)
-    ∙ ap (or_each (before_by (answers_along false) [] zs)) (c.as_slice-3.ensures.value ∙ c.reverse-2.ensures.items ∙ ap reverse (c.in_ok-behind.ensures ∙ ap (before_by (answers_along true) []) (c.as_slice-2.ensures.value ∙ c.reverse.ensures.items)))
-    ∙ all_answered c.args.prints.now zs c.in_ok-placed.ensures c.requires
+    let m = c.in_ok-merged.merged in
+    let answers = c.as_slice-2.result.now in
+    let spread = c.in_ok-answers.answers.items in
+    all_met c.args.prints.now m.kept.items m.numbers.items answers spread c.in_ok-merged.ensures
+    (c.as_slice-2.ensures.value ∙ c.in_ok-met.ensures ∙ ap (λ l. map (is_met l) l) c.as_slice.ensures.value)
+    (subst (λ l. StandAt answers l spread) c.as_slice-3.ensures.value c.in_ok-answers.ensures)

@@ -12,5 +12,5 @@ loop-k-preserved c =
     let low = c.made.ensures.low in
     let high = c.made.ensures.high in (
       subst InOrder (sym c.in_ok-push.ensures.items) (order_push c.loop-k.k c.loop-k.prints.items c.made.result high inv.1 inv.0),
-      subst (AreUpTo (c.loop-k.k + 1)) (sym c.in_ok-push.ensures.items) (up_push c.loop-k.k c.loop-k.prints.items c.made.result (omega (arith, low)) inv.1),
+      subst (AreUpTo (c.loop-k.k + 1)) (sym c.in_ok-push.ensures.items) (up_push c.loop-k.k (c.loop-k.k + 1) c.loop-k.prints.items c.made.result (omega arith) (omega (arith, low)) inv.1),
     )
