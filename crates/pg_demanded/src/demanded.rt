@@ -31,15 +31,11 @@ impl Demanded {
         self.cells.get(&place).copied()
     }
 
-    /// The cell at a place has to be known, whole or its frame alone.
+    /// The cell at a place has to be known, whole or its frame alone. One that has to be known whole still has.
     fn put(&mut self, place: u64, whole: bool) -> Result<(), AllocError>
         ensures { OnOk result ((q : ℕ) (w : Bool) → get nat_cmp self.new.cells q ≡ Some w → (get nat_cmp self.old.cells q ≡ Some w) ⊎ ((q ≡ place) × (w ≡ whole))) }
     {
-        let is_new = match self.at(place) {
-            None => true,
-            Some(was) => whole && !was,
-        };
-        if is_new {
+        if whole || self.at(place).is_none() {
             self.cells.insert(place, whole)?;
         }
         Ok(())

@@ -1,5 +1,5 @@
 -- The marks of one call, level by level: each place of the range is below a marked node, or below one that is still to be marked.
-use Rattle.std.proofs.Common.{◌≡◌, ℕ, zero, suc, ◌+◌, ◌-◌, ◌*◌, ◌/◌, ◌^◌, ◌<◌, ◌≤◌, ◌⊎◌, Bool, true, false, refl, sym, ap, ◌∙◌, arith, inl, inr, max, if◌then◌else◌}
+use Rattle.std.proofs.Common.{◌≡◌, ℕ, zero, suc, ◌+◌, ◌-◌, ◌*◌, ◌/◌, ◌^◌, ◌<◌, ◌≤◌, ◌⊎◌, Bool, true, false, refl, sym, ap, ◌∙◌, subst, arith, inl, inr, max, if◌then◌else◌}
 use Rattle.std.specs.Prelude.{◌&&◌, nat_le, nat_lt}
 use Rattle.std.proofs.Math.Nat.{pow-succ'}
 use Rattle.std.proofs.lemmas.Bool.{cases_lt}
@@ -42,11 +42,11 @@ low_next : (h : ℕ) → h < 26 → low h ≡ 2 * low (suc h)
 unfolding low
 low_next h lt = half (26 - h) (26 - suc h) (omega (arith, lt))
 
-high_next : (h : ℕ) → h < 27 → high h ≡ 2 * high (suc h)
+pub high_next : (h : ℕ) → h < 27 → high h ≡ 2 * high (suc h)
 unfolding high
 high_next h lt = half (27 - h) (27 - suc h) (omega (arith, lt))
 
-high_low : (h : ℕ) → high (suc h) ≡ low h
+pub high_low : (h : ℕ) → high (suc h) ≡ low h
 unfolding low high
 high_low h = let e : 27 - suc h ≡ 26 - h = omega arith in ap (λ (k : ℕ). 2 ^ k) e
 
@@ -72,7 +72,7 @@ pub node_none : (x : ℕ) → node_at x 0 ≡ x + PLACE_COUNT
 unfolding node_at
 node_none x = refl
 
-node_low : (x h : ℕ) → h ≤ 26 → low h ≤ node_at x h
+pub node_low : (x h : ℕ) → h ≤ 26 → low h ≤ node_at x h
 node_low x zero le = let a = node_none x in let b = low_first in omega (arith, a, b)
 node_low x (suc h) le =
     let a = node_next x h in
@@ -80,7 +80,7 @@ node_low x (suc h) le =
     let c = low_next h (omega (arith, le)) in
     omega (arith, a, b, c)
 
-node_high : (x h : ℕ) → x < PLACE_COUNT → h ≤ 27 → node_at x h < high h
+pub node_high : (x h : ℕ) → x < PLACE_COUNT → h ≤ 27 → node_at x h < high h
 node_high x zero lt le = let a = node_none x in let b = high_first in omega (arith, a, b, lt)
 node_high x (suc h) lt le =
     let a = node_next x h in
@@ -311,3 +311,16 @@ ended m n start fin t l r w x lx = go (cases_lt x start) (cases_lt x fin)
     go (inl a) b = let e = w.outside x lx (inl a) in let f : (nat_le start x && nat_lt x fin) ≡ false = grind (arith, nat_tests) in rw f (omega (arith, e))
     go (inr a) (inl b) = let e = w.covered x lx a b none_left in let f : (nat_le start x && nat_lt x fin) ≡ true = grind (arith, nat_tests) in rw f e
     go (inr a) (inr b) = let e = w.outside x lx (inr b) in let f : (nat_le start x && nat_lt x fin) ≡ false = grind (arith, nat_tests) in rw f (omega (arith, e))
+
+-- when no node is left at a level, none is at the levels above, and no more marks are made
+pub finished : (m n : ℕ → ℕ) (start fin t d h l r : ℕ) → h + d ≡ 27 → r ≤ l → Raised m n start fin t h l r → (x : ℕ) → x < PLACE_COUNT
+    → greatest_below n x 27 ≡ max (greatest_below m x 27) (if nat_le start x && nat_lt x fin then t else 0)
+finished m n start fin t zero h l r e le w =
+    let s : h ≡ 27 = omega (arith, e) in
+    ended m n start fin t l r (subst (λ (k : ℕ). Raised m n start fin t k l r) s w)
+finished m n start fin t (suc d) h l r e le w =
+    let none : (k : ℕ) → n k ≡ max (n k) (number_if (is_marked l r k) t) = λ k. unmarked k in
+    finished m n start fin t d (suc h) ((l + 1) / 2) (r / 2) (omega (arith, e)) (omega (arith, le)) (next m n n start fin t h l r (omega (arith, e)) w none)
+  where
+    unmarked : (k : ℕ) → n k ≡ max (n k) (number_if (is_marked l r k) t)
+    unmarked k = let f : is_marked l r k ≡ false = grind (arith, nat_tests) in rw f (omega arith)

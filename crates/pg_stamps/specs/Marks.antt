@@ -1,13 +1,12 @@
 -- The greatest number of a place, by the numbers at the nodes of a binary tree over the places.
-use Rattle.std.specs.Prelude.{ℕ, zero, suc, ◌+◌, ◌-◌, ◌/◌, ◌%◌, ◌==◌, ◌&&◌, ◌||◌, Bool, max, nat_eq, nat_lt}
-use Rattle.std.specs.Option.{unwrap_or}
-use Rattle.indexmap.specs.IndexMap.{get}
+use Rattle.std.specs.Prelude.{ℕ, zero, suc, ◌+◌, ◌-◌, ◌/◌, ◌%◌, ◌==◌, ◌&&◌, ◌||◌, Bool, max, nat_lt}
 use Rattle.pg_stamps.specs.declared.stamps.TheConstants.{LEVELS, PLACE_COUNT}
 use Rattle.pg_stamps.specs.declared.stamps.Stamps.{Stamps}
+use Rattle.pg_stamps.specs.Numbers.{number_at}
 
 -- the number at a node, 0 where there is none
 abbrev pub mark_of : Stamps → ℕ → ℕ
-mark_of s n = unwrap_or (get nat_eq s.marks n) 0
+mark_of s n = number_at s.marks n
 
 -- the node at a level above a place, from its leaf on
 unfoldable pub node_at : ℕ → ℕ → ℕ

@@ -1,6 +1,7 @@
 //! For each place of a line the greatest number that was put on a range which holds it. A range is marked without going over it.
 #![tactic(auto)]
 
+mod marks;
 mod stamps;
 
 pub use stamps::{PLACE_COUNT, Stamps};

@@ -1,8 +1,7 @@
-ghost use Rattle.std.specs.Prelude.{◌≡◌, ◌==◌, ◌&&◌, ◌+◌, ◌<◌, ◌≤◌, ℕ, OnErr, OnOk, max, nat_le, nat_lt, if◌then◌else◌};
-ghost use Rattle.indexmap.specs.IndexMap.{spare};
+ghost use Rattle.std.specs.Prelude.{◌≡◌, ◌==◌, ◌&&◌, ◌+◌, ◌%◌, ◌<◌, ◌≤◌, ℕ, OnErr, OnOk, max, nat_le, nat_lt, if◌then◌else◌};
 ghost use Rattle.pg_stamps.specs.Marks.{greatest_at, is_marked, mark_of};
 
-use indexmap::IndexMap;
+use crate::marks::Marks;
 use std::alloc::{AllocError, Global};
 
 /// How many places there are.
@@ -11,11 +10,14 @@ pub const PLACE_COUNT: u64 = 0x400_0000;
 /// The levels of the tree over the places: the leaves, and one level for each halving of their number down to one.
 const LEVELS: usize = 27;
 
+/// The class of the leaves among the nodes. That of a level is greater by the level's height.
+const LEAF_CLASS: u32 = 37;
+
 /// Numbers on the places below `PLACE_COUNT`: of each place the greatest that was put on a range which holds it. They are
 /// kept at the nodes of a binary tree, whose leaves are the places; a node's children have twice its number, and one more.
 #[derive(Drop)]
 pub struct Stamps {
-    marks: IndexMap<u64, u64>,
+    marks: Marks,
 }
 
 /// The greater of two numbers.
@@ -31,46 +33,23 @@ impl Stamps {
         ensures { (x : ℕ) → greatest_at result x ≡ 0 }
     {
         Stamps {
-            marks: IndexMap::new(alloc),
-        }
-    }
-
-    /// The number at a node.
-    fn mark_of(&self, node: u64) -> u64
-        ensures { result ≡ mark_of self.now node }
-    {
-        match self.marks.get(&node) {
-            Some(number) => *number,
-            None => 0,
-        }
-    }
-
-    /// Raises the number at a node.
-    fn mark(&mut self, node: u64, number: u64)
-        requires { 0 < spare self.old.marks }
-        ensures marks { (n : ℕ) → mark_of self.new n ≡ max (mark_of self.old n) (if n == node then number else 0) }
-        ensures spare { spare self.old.marks ≤ spare self.new.marks + 1 }
-    {
-        if self.mark_of(node) < number {
-            match self.marks.insert(node, number) {
-                Ok(_) => {}
-                Err(_) => {}
-            }
+            marks: Marks::new(alloc),
         }
     }
 
     /// Raises the numbers at the nodes of a level, from `left` to below `right`, whose parents aren't wholly in the range.
     fn mark_level(&mut self, left: u64, right: u64, number: u64)
-        requires room { 2 ≤ spare self.old.marks }
+        requires left { 0 < left }
+        requires room { 2 ≤ self.old.marks.room }
         ensures marks { (n : ℕ) → mark_of self.new n ≡ max (mark_of self.old n) (if is_marked left right n then number else 0) }
-        ensures spare { spare self.old.marks ≤ spare self.new.marks + 2 }
+        ensures room { self.old.marks.room ≤ self.new.marks.room + 2 }
     {
         if left < right {
             if left % 2 == 1 {
-                self.mark(left, number);
+                self.marks.raise(left, number);
             }
             if right % 2 == 1 {
-                self.mark(right - 1, number);
+                self.marks.raise(right - 1, number);
             }
         }
     }
@@ -90,11 +69,25 @@ impl Stamps {
         let mut left = start + PLACE_COUNT;
         let mut right = end + PLACE_COUNT;
         for _level in 0..LEVELS {
+            if left >= right {
+                break;
+            }
             self.mark_level(left, right, number);
             left = (left + 1) / 2;
             right /= 2;
         }
         Ok(())
+    }
+
+    /// The greater of a number and the one at a node, whose level's bit is the lowest of `levels`.
+    fn greater_at(&self, node: u64, levels: u64, number: u64) -> u64
+        requires { levels % 2 ≡ 0 → mark_of self.now node ≡ 0 }
+        ensures { result ≡ max number (mark_of self.now node) }
+    {
+        if levels % 2 == 0 {
+            return number;
+        }
+        greater(number, self.marks.number_at(node))
     }
 
     /// The greatest number of the ranges that hold a place; 0 where there is none.
@@ -103,10 +96,15 @@ impl Stamps {
         ensures { result ≡ greatest_at self.now place }
     {
         let mut node = place + PLACE_COUNT;
+        let mut levels = self.marks.classes() >> LEAF_CLASS;
         let mut number = 0;
         for _level in 0..LEVELS {
-            number = greater(number, self.mark_of(node));
+            if levels == 0 {
+                break;
+            }
+            number = self.greater_at(node, levels, number);
             node /= 2;
+            levels /= 2;
         }
         number
     }
