@@ -1,7 +1,7 @@
 -- What is asked of a register and of a byte.
-use Rattle.std.specs.Prelude.{ℕ, ◌&&◌, nat_lt, Bool, false, Option, None, is_some, if◌then◌else◌}
+use Rattle.std.specs.Prelude.{◌≡◌, ℕ, ◌&&◌, nat_lt, Bool, false, Option, None, is_some, if◌then◌else◌}
 use Rattle.std.specs.Ordering.{nat_cmp}
-use Rattle.std.specs.BTreeMap.{BTreeMap, get}
+use Rattle.std.specs.BTreeMap.{get}
 use Rattle.pg_demanded.specs.declared.demanded.Demanded.{Demanded}
 use Rattle.pg_demanded.specs.Places.{register_place}
 
@@ -11,3 +11,7 @@ asked_of m t k r = if nat_lt k 512 && nat_lt r 4096 then get nat_cmp m.cells (re
 
 abbrev pub asks_byte : Demanded → ℕ → Bool
 asks_byte m b = if nat_lt b 67108864 then is_some (get nat_cmp m.cells b) else false
+
+-- the same is asked of each register and of each byte
+abbrev pub IsAskedAlike : Demanded → Demanded → Type 0
+IsAskedAlike m n = ((t k r : ℕ) → asked_of n t k r ≡ asked_of m t k r) × ((b : ℕ) → asks_byte n b ≡ asks_byte m b)

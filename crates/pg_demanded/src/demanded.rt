@@ -1,7 +1,7 @@
-ghost use Rattle.std.specs.Prelude.{◌≡◌, ◌<◌, ◌≤◌, ◌+◌, ◌⊎◌, ℕ, Bool, true, false, Option, Some, None, OnOk, IfSome, IfNone, nat_eq, ◌==◌, if◌then◌else◌};
+ghost use Rattle.std.specs.Prelude.{◌≡◌, ◌<◌, ◌≤◌, ◌+◌, ◌⊎◌, ◌||◌, ℕ, Bool, true, false, Option, Some, None, OnOk, OnErr, IfSome, IfNone, unwrap_or, nat_eq, ◌==◌, if◌then◌else◌};
 ghost use Rattle.std.specs.Ordering.{nat_cmp};
 ghost use Rattle.std.specs.BTreeMap.{get, btree_map_len};
-ghost use Rattle.pg_demanded.specs.Asked.{asked_of, asks_byte};
+ghost use Rattle.pg_demanded.specs.Asked.{asked_of, asks_byte, IsAskedAlike};
 
 use crate::places::{BYTE_PLACES, CALLS, call_place, register_place};
 use std::alloc::{AllocError, Global};
@@ -33,7 +33,10 @@ impl Demanded {
 
     /// The cell at a place has to be known, whole or its frame alone. One that has to be known whole still has.
     fn put(&mut self, place: u64, whole: bool) -> Result<(), AllocError>
-        ensures { OnOk result ((q : ℕ) (w : Bool) → get nat_cmp self.new.cells q ≡ Some w → (get nat_cmp self.old.cells q ≡ Some w) ⊎ ((q ≡ place) × (w ≡ whole))) }
+        ensures only { OnOk result ((q : ℕ) (w : Bool) → get nat_cmp self.new.cells q ≡ Some w → (get nat_cmp self.old.cells q ≡ Some w) ⊎ ((q ≡ place) × (w ≡ whole))) }
+        ensures asked { OnOk result (get nat_cmp self.new.cells place ≡ Some (whole || unwrap_or (get nat_cmp self.old.cells place) false)) }
+        ensures rest { OnOk result ((q : ℕ) → (q ≡ place → ⊥) → get nat_cmp self.new.cells q ≡ get nat_cmp self.old.cells q) }
+        ensures err { OnErr result ((q : ℕ) → get nat_cmp self.new.cells q ≡ get nat_cmp self.old.cells q) }
     {
         if whole || self.at(place).is_none() {
             self.cells.insert(place, whole)?;
@@ -67,7 +70,8 @@ impl Demanded {
 
     /// Nothing is asked of the cells in a range of places any more.
     fn clear(&mut self, from: u64, to: u64)
-        ensures { (q : ℕ) (w : Bool) → get nat_cmp self.new.cells q ≡ Some w → (get nat_cmp self.old.cells q ≡ Some w) × (from ≤ q → q < to → ⊥) }
+        ensures only { (q : ℕ) (w : Bool) → get nat_cmp self.new.cells q ≡ Some w → (get nat_cmp self.old.cells q ≡ Some w) × (from ≤ q → q < to → ⊥) }
+        ensures rest { (q : ℕ) → (from ≤ q → q < to → ⊥) → get nat_cmp self.new.cells q ≡ get nat_cmp self.old.cells q }
     {
         while let Some(place) = self.first_in(from, to) {
             let _was = self.take(place);
@@ -89,6 +93,10 @@ impl Demanded {
         ensures registers { OnOk result ((u j i : ℕ) (w : Bool) → asked_of self.new u j i ≡ Some w
             → (asked_of self.old u j i ≡ Some w) ⊎ ((u ≡ thread) × (j ≡ call) × (i ≡ register) × (w ≡ whole))) }
         ensures bytes { OnOk result ((b : ℕ) → asks_byte self.new b ≡ true → asks_byte self.old b ≡ true) }
+        ensures asked { OnOk result (call < 512 → register < 4096 → asked_of self.new thread call register ≡ Some (whole || unwrap_or (asked_of self.old thread call register) false)) }
+        ensures other_registers { OnOk result ((u j i : ℕ) → (u ≡ thread → j ≡ call → i ≡ register → ⊥) → asked_of self.new u j i ≡ asked_of self.old u j i) }
+        ensures all_bytes { OnOk result ((b : ℕ) → asks_byte self.old b ≡ true → asks_byte self.new b ≡ true) }
+        ensures err { OnErr result (IsAskedAlike self.old self.new) }
     {
         match register_place(thread, call, register) {
             Some(place) => self.put(place, whole),
@@ -102,6 +110,8 @@ impl Demanded {
         ensures registers { (u j i : ℕ) (w : Bool) → asked_of self.new u j i ≡ Some w
             → (asked_of self.old u j i ≡ Some w) × (u ≡ thread → j ≡ call → i ≡ register → ⊥) }
         ensures bytes { (b : ℕ) → asks_byte self.new b ≡ true → asks_byte self.old b ≡ true }
+        ensures other_registers { (u j i : ℕ) → (u ≡ thread → j ≡ call → i ≡ register → ⊥) → asked_of self.new u j i ≡ asked_of self.old u j i }
+        ensures all_bytes { (b : ℕ) → asks_byte self.old b ≡ true → asks_byte self.new b ≡ true }
     {
         match register_place(thread, call, register) {
             Some(place) => self.take(place),
@@ -113,6 +123,8 @@ impl Demanded {
     pub fn clear_calls(&mut self, thread: u8, call: u32)
         ensures registers { (u j i : ℕ) (w : Bool) → asked_of self.new u j i ≡ Some w → (asked_of self.old u j i ≡ Some w) × (u ≡ thread → call ≤ j → ⊥) }
         ensures bytes { (b : ℕ) → asks_byte self.new b ≡ true → asks_byte self.old b ≡ true }
+        ensures other_registers { (u j i : ℕ) → (u ≡ thread → call ≤ j → ⊥) → asked_of self.new u j i ≡ asked_of self.old u j i }
+        ensures all_bytes { (b : ℕ) → asks_byte self.old b ≡ true → asks_byte self.new b ≡ true }
     {
         self.clear(call_place(thread, call as u64), call_place(thread, CALLS));
     }
@@ -121,6 +133,8 @@ impl Demanded {
     pub fn clear_above(&mut self, thread: u8, call: u32)
         ensures registers { (u j i : ℕ) (w : Bool) → asked_of self.new u j i ≡ Some w → (asked_of self.old u j i ≡ Some w) × (u ≡ thread → call < j → ⊥) }
         ensures bytes { (b : ℕ) → asks_byte self.new b ≡ true → asks_byte self.old b ≡ true }
+        ensures other_registers { (u j i : ℕ) → (u ≡ thread → call < j → ⊥) → asked_of self.new u j i ≡ asked_of self.old u j i }
+        ensures all_bytes { (b : ℕ) → asks_byte self.old b ≡ true → asks_byte self.new b ≡ true }
     {
         self.clear(
             call_place(thread, call as u64 + 1),
@@ -151,6 +165,10 @@ impl Demanded {
     pub fn put_byte(&mut self, byte: u64) -> Result<(), AllocError>
         ensures registers { OnOk result ((u j i : ℕ) (w : Bool) → asked_of self.new u j i ≡ Some w → asked_of self.old u j i ≡ Some w) }
         ensures bytes { OnOk result ((b : ℕ) → asks_byte self.new b ≡ true → (asks_byte self.old b ≡ true) ⊎ (b ≡ byte)) }
+        ensures asked { OnOk result (byte < 67108864 → asks_byte self.new byte ≡ true) }
+        ensures all_registers { OnOk result ((u j i : ℕ) → asked_of self.new u j i ≡ asked_of self.old u j i) }
+        ensures other_bytes { OnOk result ((b : ℕ) → asks_byte self.old b ≡ true → asks_byte self.new b ≡ true) }
+        ensures err { OnErr result (IsAskedAlike self.old self.new) }
     {
         if byte < BYTE_PLACES {
             self.put(byte, true)
@@ -163,6 +181,8 @@ impl Demanded {
     pub fn clear_bytes(&mut self, from: u64, to: u64)
         ensures registers { (u j i : ℕ) (w : Bool) → asked_of self.new u j i ≡ Some w → asked_of self.old u j i ≡ Some w }
         ensures bytes { (b : ℕ) → asks_byte self.new b ≡ true → (asks_byte self.old b ≡ true) × (from ≤ b → b < to → ⊥) }
+        ensures all_registers { (u j i : ℕ) → asked_of self.new u j i ≡ asked_of self.old u j i }
+        ensures other_bytes { (b : ℕ) → (from ≤ b → b < to → ⊥) → asks_byte self.old b ≡ true → asks_byte self.new b ≡ true }
     {
         self.clear(from, to.min(BYTE_PLACES));
     }
