@@ -1,5 +1,6 @@
 -- No place, and none that is the earliest.
 use Rattle.std.proofs.Common.{◌≡◌, Bool, true, false, not, cond, List, [], ◌∷◌, Option, Some, None, is_some, nat_lt, refl, sym, ap, ◌∙◌}
+use Rattle.std.proofs.Math.Bool.{not-not}
 use Rattle.pg_lex.specs.declared.token.Span.{Span}
 use Rattle.pg_rules.specs.Earliest.{earlier, earliest}
 use Rattle.pg_rules.specs.Conditions.{is_nowhere}
@@ -17,12 +18,6 @@ is_nowhere_none (s ∷ ss) = by (earliest ss)
         pick true = refl
         pick false = refl
 
-not_same : (a b : Bool) → not a ≡ not b → a ≡ b
-not_same true true e = refl
-not_same true false e = absurd cc
-not_same false true e = absurd cc
-not_same false false e = refl
-
 -- there is none just where the earliest is none
 pub nowhere : (ss : List Span) (o : Option Span) (b : Bool) → o ≡ earliest ss → is_some o ≡ not b → b ≡ is_nowhere ss
-nowhere ss o b e h = not_same b (is_nowhere ss) (sym h ∙ ap (λ (p : Option Span). is_some p) e ∙ is_nowhere_none ss)
+nowhere ss o b e h = sym (not-not b) ∙ ap not (sym h ∙ ap (λ (p : Option Span). is_some p) e ∙ is_nowhere_none ss) ∙ not-not (is_nowhere ss)
