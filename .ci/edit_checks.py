@@ -100,12 +100,16 @@ class Scratch:
     def library(self, crate):
         return f"{self.at(crate)}/out/rlib/{crate}.rlib"
 
+    def is_of_ci(self, crate):
+        """Returns whether a crate's library is the one that rt ci has just built of these files, after it had proved
+        them: it marks none with a stamp, as other commands do."""
+        it = self.library(crate)
+        has_stamp = os.path.exists(f"{os.path.dirname(it)}/stamp")
+        return self.after_ci and os.path.isfile(f"{it}/format") and not has_stamp
+
     def has_libraries_of_ci(self, crate):
-        """Returns whether all libraries below a crate are those that rt ci has just built of these files: it marks
-        none with a stamp, as other commands do."""
-        found = [self.library(it) for it in self.below(crate)]
-        is_of_ci = lambda it: os.path.isfile(f"{it}/format") and not os.path.exists(f"{os.path.dirname(it)}/stamp")
-        return self.after_ci and all(map(is_of_ci, found))
+        """Returns whether all libraries below a crate are those that rt ci has just built of these files."""
+        return all(map(self.is_of_ci, self.below(crate)))
 
     def build_below(self, crate):
         """Has rt build the libraries below a crate, where they aren't built yet, and take what checks in other
@@ -173,6 +177,10 @@ class Room:
             if os.path.isdir(f"{scratch.at(crate)}/{part}"):
                 shutil.copytree(f"{scratch.at(crate)}/{part}", f"{self.at}/{part}")
         scratch.copy_kept_work(crate)
+
+    def is_known(self):
+        """Returns whether rt ci has just proved the crate as it stands, and built all libraries below it."""
+        return self.scratch.is_of_ci(self.crate) and self.scratch.has_libraries_of_ci(self.crate)
 
     def prepare(self, only):
         """Has the libraries below the crate stand in the scratch copy, and says what a check finds of these

@@ -59,6 +59,7 @@ pub fn twice(n: u8) -> u8
 # each edit, by name: its old and its new text
 REFUSED = {
     "a_wrong_body": ("    n + 1", "    n"),
+    "a_body_that_adds_too_little": ("    next(next(n))", "    next(n)"),
     "a_wrong_constant": ("STEP: u8 = 1;", "STEP: u8 = 2;"),
     "a_wrong_contract": ("ensures { result ≡ n + n }", "ensures { result ≡ n }"),
 }
@@ -68,6 +69,9 @@ FAILED = {
     "it_does_not_compile": ("    copy", "    original"),
     "it_is_not_there": ("    n - n", "    n"),
 }
+# those that change a body alone, and the one that is right
+BODIES = ("a_wrong_body", "a_body_that_adds_too_little")
+CORRECT = "it_is_a_correct_body"
 REASONS = {
     "it_changes_nothing": "changes nothing",
     "it_is_a_correct_body": "isn't refused: the crate is still proved",
@@ -76,11 +80,10 @@ REASONS = {
 }
 
 
-def made(folder, edits):
-    """Makes a repository with one crate and these edits, and with this script."""
+def made(folder):
+    """Makes a repository with one crate, and with this script."""
     here = os.path.dirname(os.path.realpath(__file__))
     os.makedirs(f"{folder}/crates/pg_small/src")
-    os.mkdir(f"{folder}/crates/pg_small/edits")
     # (the top of a repository, with no commit)
     os.mkdir(f"{folder}/.git")
     shutil.copytree(here, f"{folder}/.ci", ignore=shutil.ignore_patterns("edits.tried", "__pycache__"))
@@ -88,37 +91,73 @@ def made(folder, edits):
         it.write("pg_small:\n")
     with open(f"{folder}/crates/pg_small/src/lib.rt", "w", encoding="utf-8") as it:
         it.write(SOURCE)
+
+
+def ran(words, folder):
+    """Runs a command in the repository, and returns its status and its lines."""
+    done = subprocess.run(
+        words, cwd=folder, stdout=subprocess.PIPE, stderr=subprocess.STDOUT, text=True, check=False
+    )
+    return done.returncode, done.stdout.rstrip("\n").split("\n")
+
+
+def said_of(edits, folder, after_ci):
+    """Returns the exit status and the lines of the script on the repository with these edits, and whether it wrote the
+    record."""
+    shutil.rmtree(f"{folder}/crates/pg_small/edits", ignore_errors=True)
+    os.mkdir(f"{folder}/crates/pg_small/edits")
     for name, (old, new) in edits.items():
         with open(f"{folder}/crates/pg_small/edits/{name}.edit", "w", encoding="utf-8") as it:
             it.write(f"file: src/lib.rt\nold: {old}\nnew: {new}\n")
+    record = f"{folder}/.ci/edits.tried"
+    if os.path.isfile(record):
+        os.remove(record)
+    words = [sys.executable, ".ci/edits", "--jobs", "1"] + (["--after-ci"] if after_ci else [])
+    status, lines = ran(words, folder)
+    kept = os.path.isfile(record)
+    if kept:
+        with open(record, encoding="utf-8") as it:
+            kept = "pg_small" in it.read()
+    return status, lines, kept
 
 
-def said_of(edits):
-    """Returns the exit status and the lines of the script on a repository with these edits."""
-    with tempfile.TemporaryDirectory(prefix="edits-self-") as folder:
-        made(f"{folder}/small", edits)
-        words = [sys.executable, f"{folder}/small/.ci/edits", "--jobs", "1"]
-        ran = subprocess.run(words, stdout=subprocess.PIPE, stderr=subprocess.STDOUT, text=True, check=False)
-        kept = os.path.isfile(f"{folder}/small/.ci/edits.tried")
-        record = kept and "pg_small" in open(f"{folder}/small/.ci/edits.tried", encoding="utf-8").read()
-        return ran.returncode, ran.stdout.rstrip("\n").split("\n"), record
-
-
-def run():
-    """Tries all edits together, in which case all but one must fail by name, and then the other one by itself."""
+def faults_of(folder, after_ci):
+    """Tries all edits together, in which case all but some must fail by name, then those by themselves, and then bodies
+    alone, which after rt ci aren't checked as they stand. Returns what went wrong, and what the script said."""
     wrong = []
-    status, lines, record = said_of({**REFUSED, **FAILED})
+    status, lines, record = said_of({**REFUSED, **FAILED}, folder, after_ci)
     for name, reason in REASONS.items():
         if not any(it.startswith(f"pg_small/{name}.edit: ") and reason in it for it in lines):
             wrong.append(f"{name} isn't named as one that fails since it {reason}")
     if status != 1 or lines[-1] != f"{len(REFUSED)} passed, {len(FAILED)} failed" or record:
         wrong.append(f"a run with edits that fail ended with status {status}, and it says: {lines[-1]}")
     told = lines
-    status, lines, record = said_of(REFUSED)
-    if status != 0 or lines[-1] != f"{len(REFUSED)} passed, 0 failed" or not record:
-        wrong.append(f"a run with wrong bodies alone ended with status {status}, and it says: {lines[-1]}")
-    if wrong:
-        print("\n".join([*told, *lines, *wrong]))
+    bodies = {name: REFUSED[name] for name in BODIES}
+    for edits in (REFUSED, bodies):
+        status, lines, record = said_of(edits, folder, after_ci)
+        told = told + lines
+        if status != 0 or lines[-1] != f"{len(edits)} passed, 0 failed" or not record:
+            wrong.append(f"a run with wrong bodies alone ended with status {status}, and it says: {lines[-1]}")
+    status, lines, record = said_of({**bodies, CORRECT: FAILED[CORRECT]}, folder, after_ci)
+    told = told + lines
+    if status != 1 or lines[-1] != f"{len(bodies)} passed, 1 failed" or record:
+        wrong.append(f"a run with a body that is right ended with status {status}, and it says: {lines[-1]}")
+    return wrong, told
+
+
+def run():
+    """Tries edits of both kinds, over what checks keep and after rt ci."""
+    wrong = []
+    for after_ci in (False, True):
+        with tempfile.TemporaryDirectory(prefix="edits-self-") as folder:
+            made(folder)
+            status, told = ran(["rt", "ci"], folder) if after_ci else (0, [])
+            faults = [f"rt ci ended with status {status}"] if status else []
+            if not faults:
+                faults, told = faults_of(folder, after_ci)
+        if faults:
+            print("\n".join([*told, *faults]))
+        wrong += faults
     came = "FAILED" if wrong else "passed"
     print(f"self-test {came}: edits that must fail fail by name, and a wrong body is refused")
     print("0 passed, 1 failed" if wrong else "1 passed, 0 failed")

@@ -88,10 +88,14 @@ class Trials:
 
     def all(self, edits):
         with_body = [it for it in edits if not it.is_of_no_body]
-        names = sorted({name for it in with_body for name in it.functions})
-        base = self.room.prepare(names if len(with_body) == len(edits) else [])
-        self.result.base = self.room.seconds
-        together = [it for it in with_body if all(base.of(name) == PROVED for name in it.functions)]
+        # (a check of the whole crate is of use to those that are tried alone, for what it keeps)
+        if len(with_body) == len(edits) and self.room.is_known():
+            together = with_body
+        else:
+            names = sorted({name for it in with_body for name in it.functions})
+            base = self.room.prepare(names if len(with_body) == len(edits) else [])
+            self.result.base = self.room.seconds
+            together = [it for it in with_body if all(base.of(name) == PROVED for name in it.functions)]
         for group in groups_of(together):
             self.try_group(group)
         done = {*self.result.refused, *self.result.failed}
