@@ -7,28 +7,28 @@ use crate::values::ConstNode;
 use pg_lex::Span;
 
 /// An instruction, and the name of its result where one is written.
-#[derive(Debug, Drop)]
+#[derive(Drop)]
 pub struct LineNode {
     pub name: Option<Name>,
     pub op: OpNode,
 }
 
 /// A basic block.
-#[derive(Debug, Drop)]
+#[derive(Drop)]
 pub struct BlockNode {
     pub label: Option<Name>,
     pub lines: Vec<LineNode>,
 }
 
 /// A parameter of a function.
-#[derive(Debug, Drop)]
+#[derive(Drop)]
 pub struct ParamNode {
     pub ty: TypeNode,
     pub name: Option<Name>,
 }
 
 /// A parameter of a declared function.
-#[derive(Debug, Drop)]
+#[derive(Drop)]
 pub enum DparamNode {
     Param(ParamNode),
     Metadata(Span),
@@ -36,14 +36,14 @@ pub enum DparamNode {
 }
 
 /// A type with a name.
-#[derive(Debug, Drop)]
+#[derive(Drop)]
 pub struct TypeItem {
     pub name: Name,
     pub ty: TypeNode,
 }
 
 /// A global variable or constant.
-#[derive(Debug, Drop)]
+#[derive(Drop)]
 pub struct GlobalItem {
     pub name: Name,
     pub is_constant: bool,
@@ -52,7 +52,7 @@ pub struct GlobalItem {
 }
 
 /// A function that is declared.
-#[derive(Debug, Drop)]
+#[derive(Drop)]
 pub struct DeclareItem {
     pub result: TypeNode,
     pub name: Name,
@@ -60,7 +60,7 @@ pub struct DeclareItem {
 }
 
 /// A function that is defined.
-#[derive(Debug, Drop)]
+#[derive(Drop)]
 pub struct DefineItem {
     pub result: TypeNode,
     pub name: Name,
@@ -69,7 +69,7 @@ pub struct DefineItem {
 }
 
 /// A program text: its items of each kind, in text order.
-#[derive(Debug, Drop)]
+#[derive(Drop)]
 pub struct Module {
     pub types: Vec<TypeItem>,
     pub globals: Vec<GlobalItem>,

@@ -52,35 +52,35 @@ pub enum CastOp {
 pub type ArgNode = TypedVal;
 
 /// A value of a `phi`, and the block that it comes from.
-#[derive(Debug, Drop)]
+#[derive(Drop)]
 pub struct IncomingNode {
     pub value: ValNode,
     pub block: Name,
 }
 
 /// A case of a `switch`.
-#[derive(Debug, Drop)]
+#[derive(Drop)]
 pub struct CaseNode {
     pub value: TypedVal,
     pub block: Name,
 }
 
 /// The types that a call may write for its callee's parameters, and whether dots follow them.
-#[derive(Debug, Drop)]
+#[derive(Drop)]
 pub struct CallTypes {
     pub types: Vec<TypeNode>,
     pub dots: bool,
 }
 
 /// The number of elements of an `alloca`, and its type.
-#[derive(Debug, Drop)]
+#[derive(Drop)]
 pub struct CountNode {
     pub ty: TypeNode,
     pub count: Literal,
 }
 
 /// An instruction. Its `span` is that of its first token.
-#[derive(Debug, Drop)]
+#[derive(Drop)]
 pub enum OpNode {
     Binary {
         span: Span,

@@ -4,7 +4,7 @@ use crate::names::{Literal, Name};
 use pg_lex::Span;
 
 /// A type. Its span is that of its first token.
-#[derive(Debug, Drop)]
+#[derive(Drop)]
 pub enum TypeNode {
     I1(Span),
     I8(Span),

@@ -6,7 +6,7 @@ use pg_lex::Span;
 
 /// A value and the type that is written before it.
 #[cycle(values)]
-#[derive(Debug, Drop)]
+#[derive(Drop)]
 pub struct TypedVal {
     pub ty: TypeNode,
     pub value: ValNode,
@@ -14,7 +14,7 @@ pub struct TypedVal {
 
 /// A value. Its span is that of its first token.
 #[cycle(values)]
-#[derive(Debug, Drop)]
+#[derive(Drop)]
 pub enum ValNode {
     Int(Literal),
     True(Span),
@@ -33,7 +33,7 @@ pub enum ValNode {
 
 /// A constant and the type that is written before it.
 #[cycle(constants)]
-#[derive(Debug, Drop)]
+#[derive(Drop)]
 pub struct TypedConst {
     pub ty: TypeNode,
     pub value: ConstNode,
@@ -41,7 +41,7 @@ pub struct TypedConst {
 
 /// A constant. Its span is that of its first token.
 #[cycle(constants)]
-#[derive(Debug, Drop)]
+#[derive(Drop)]
 pub enum ConstNode {
     Val(ValNode),
     /// The bytes of `c".."`.

@@ -2,6 +2,7 @@
 use Rattle.std.proofs.Common.{ℕ, zero, suc, List, Bool}
 use Rattle.pg_grammar.specs.declared.class.Class.{Class}
 use Rattle.pg_grammar.specs.declared.class.Class.TheVariants.{Flag, Comma, OpenRound, CloseRound, OpenBrace, CloseBrace, OpenSquare, CloseSquare}
+use Rattle.pg_grammar.specs.declared.nesting.TheConstants.{INNER_NESTING_LIMIT}
 use Rattle.pg_grammar.specs.Classes.{is}
 use Rattle.pg_grammar.specs.Language.{Gram, one, ◌or◌}
 use Rattle.pg_grammar.specs.Language.{◌>>=◌ as ◌then◌}
@@ -36,7 +37,7 @@ skip_yields (suc d) close = yields_then (yields_many (inner d (skip_yields d Clo
     inner n a b c = yields_or (yields_then yields_one (λ o _. a)) (yields_or (yields_then yields_one (λ o _. b)) (yields_or (yields_then yields_one (λ o _. c)) (yields_then yields_one (λ t _. yields_give tt))))
 
 attribute_yields : Yields attribute Any
-attribute_yields = yields_or (yields_then yields_one (λ w _. yields_or (yields_then yields_one (λ n _. yields_give tt)) (yields_or (yields_then yields_one (λ o _. skip_yields 63 CloseRound)) (yields_give tt))))
+attribute_yields = yields_or (yields_then yields_one (λ w _. yields_or (yields_then yields_one (λ n _. yields_give tt)) (yields_or (yields_then yields_one (λ o _. skip_yields INNER_NESTING_LIMIT CloseRound)) (yields_give tt))))
     (yields_or (yields_then yields_one (λ a _. yields_give tt)) (yields_or (yields_then yields_one (λ s _. yields_or (yields_then yields_one (λ e _. yields_then yields_one (λ t _. yields_give tt))) (yields_give tt)))
     (yields_then yields_one (λ m _. yields_then yields_one (λ n _. yields_give tt)))))
 

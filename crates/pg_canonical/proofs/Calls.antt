@@ -1,10 +1,12 @@
 -- Calls are read again.
 use Rattle.std.proofs.Common.{◌≡◌, ℕ, List, [], ◌∷◌, ◌++◌, refl, ap, ◌∙◌, Option, Some, None, Bool, true, false, map, codes}
 use Rattle.std.specs.List.{join_by}
+use Rattle.pg_num.specs.declared.limits.TheConstants.{NESTING_LIMIT}
 use Rattle.pg_lex.specs.declared.token.Span.{Span}
 use Rattle.pg_ast.specs.declared.names.Name.{Name}
 use Rattle.pg_ast.specs.Syntax.{Ty, Val, Typed, Op, Call, Written}
 use Rattle.pg_ast.specs.Text.{type_text, typed_text, op_text, dots_text, written_text, called_text}
+use Rattle.pg_grammar.specs.declared.nesting.TheConstants.{INNER_NESTING_LIMIT}
 use Rattle.pg_grammar.specs.declared.token.Token.{Token}
 use Rattle.pg_grammar.specs.declared.class.Class.TheVariants.{Comma, Dots, CloseRound}
 use Rattle.pg_grammar.specs.Classes.{is}
@@ -48,28 +50,28 @@ rest_fits : (t : Ty) (ts : List Ty) (d : Bool) → Fits stops (dots_text d (t �
 rest_fits t ts true r i = refl
 rest_fits t ts false r i = refl
 
-written_row : (ts : List Ty) (d : Bool) → Every (TypeAgain 64) ts → WrittenAgain (record { types = ts; dots = d })
+written_row : (ts : List Ty) (d : Bool) → Every (TypeAgain NESTING_LIMIT) ts → WrittenAgain (record { types = ts; dots = d })
 written_row [] true h = mark_then open_round (λ b _. left_text (then_text dots (λ r i. refl) (λ d _. last_text close_round (λ c _. refl))))
 written_row [] false h = mark_then open_round (λ b _. right_text (right_text (right_text (last_text close_round (λ c _. refl)))))
 written_row (t ∷ ts) d h = mark_then open_round (λ b _. right_text (left_text (then_text {h = written_rest} (separated_text type_text plain_type t ts h.0 h.1) (rest_fits t ts d) (λ us e. weaker (λ v x. ap plain_written x ∙ same_written us (t ∷ ts) d e) (some_rest us t ts d)))))
 
-rest_yields : (ts : List Ty) → Every (TypeAgain 64) ts → Yields (written_rest ts) WrittenAgain
+rest_yields : (ts : List Ty) → Every (TypeAgain NESTING_LIMIT) ts → Yields (written_rest ts) WrittenAgain
 rest_yields ts h = yields_or (yields_then yields_one (λ c _. yields_then yields_one (λ d _. yields_then yields_one (λ c2 _. yields_give (written_row ts true h))))) (yields_then yields_one (λ c2 _. yields_give (written_row ts false h)))
 
 written_yields : Yields written WrittenAgain
-written_yields = yields_then yields_one (λ b _. yields_or (yields_then yields_one (λ d _. yields_then yields_one (λ c _. yields_give (written_row [] true tt)))) (yields_or (yields_then {h = written_rest} (yields_separated (type_yields 64)) (λ ts h. rest_yields ts h)) (rest_yields [] tt)))
+written_yields = yields_then yields_one (λ b _. yields_or (yields_then yields_one (λ d _. yields_then yields_one (λ c _. yields_give (written_row [] true tt)))) (yields_or (yields_then {h = written_rest} (yields_separated (type_yields NESTING_LIMIT)) (λ ts h. rest_yields ts h)) (rest_yields [] tt)))
 
 -- ---- arguments
 
 abbrev ArgumentAgain : Typed → Type 1
 ArgumentAgain t = Again stops argument (typed_text t) (λ u. plain_typed u ≡ plain_typed t)
 
-argument_row : (t : Ty) (v : Val) → TypeAgain 64 t → ValueAgain 64 v → ArgumentAgain (record { ty = t; value = v })
+argument_row : (t : Ty) (v : Val) → TypeAgain NESTING_LIMIT t → ValueAgain NESTING_LIMIT v → ArgumentAgain (record { ty = t; value = v })
 unfolding typed_text
 argument_row t v e f = then_text e (λ r i. refl) (λ u x. no_attributes (last_text (spaced f) (λ w y. same_typed x y)))
 
 argument_yields : Yields argument ArgumentAgain
-argument_yields = yields_then (type_yields 64) (λ t x. attributes_then (yields_then (value_yields 64) (λ v y. yields_give (argument_row t v x y))))
+argument_yields = yields_then (type_yields NESTING_LIMIT) (λ t x. attributes_then (yields_then (value_yields NESTING_LIMIT) (λ v y. yields_give (argument_row t v x y))))
 
 arguments_row : (ts : List Typed) → Every ArgumentAgain ts → Again stops (listed CloseRound argument) (join_by typed_text (codes ", ") ts ++ codes ")") (λ us. map plain_typed us ≡ map plain_typed ts)
 arguments_row [] h = left_text (last_text close_round (λ c _. refl))
@@ -103,17 +105,17 @@ abbrev WrittenOption : Option Written → Type 1
 WrittenOption None = Unit {1}
 WrittenOption (Some w) = WrittenAgain w
 
-call_row : (s : Span) (t : Ty) (w : Option Written) (f : Name) (all : List Typed) → TypeAgain 64 t → WrittenOption w → IsNameText f.text → is_dropped f.text ≡ false → Every ArgumentAgain all → Calls call (Call s t w f all)
+call_row : (s : Span) (t : Ty) (w : Option Written) (f : Name) (all : List Typed) → TypeAgain NESTING_LIMIT t → WrittenOption w → IsNameText f.text → is_dropped f.text ≡ false → Every ArgumentAgain all → Calls call (Call s t w f all)
 unfolding op_text written_text called_text
 call_row s t None f all e y h d k = left_text (then_text call_word (λ r i. refl) (λ o _. no_attributes (then_text (spaced e) (λ r i. refl) (λ u x. right_text (call_end o t u None None f all x refl h d k)))))
 call_row s t (Some w) f all e y h d k = left_text (then_text call_word (λ r i. refl) (λ o _. no_attributes (then_text (spaced e) (λ r i. refl) (λ u x. left_text (then_text {h = λ v. call_rest o u (Some v)} (spaced y) (λ r i. refl) (λ v z. call_end o t u (Some w) (Some v) f all x (ap Some z) h d k))))))
 
-end_yields : (o : Token) (t : Ty) (w : Option Written) → TypeAgain 64 t → WrittenOption w → Yields (call_rest o t w) CallAgain
-end_yields o t w x y = yields_or (yields_then yields_one (λ f _. yields_then yields_one (λ b _. yields_then (skip_yields 63 CloseRound) (λ u _. attributes_then (yields_give tt)))))
+end_yields : (o : Token) (t : Ty) (w : Option Written) → TypeAgain NESTING_LIMIT t → WrittenOption w → Yields (call_rest o t w) CallAgain
+end_yields o t w x y = yields_or (yields_then yields_one (λ f _. yields_then yields_one (λ b _. yields_then (skip_yields INNER_NESTING_LIMIT CloseRound) (λ u _. attributes_then (yields_give tt)))))
     (yields_or (yields_then yields_one (λ f k. yields_then yields_one (λ b _. yields_then {h = arguments_rest o t w f} (yields_listed CloseRound argument_yields) (λ all z. attributes_then (yields_give (call_row o.span t w (name_of f) all x y k.formed.bytes (k.formed.kept k.class_is) z)))))) (yields_refused _ _))
 
-head_yields : (o : Token) → Yields (attributes then (λ u. type_in 64 then (λ t. ((written then (λ w. give (Some w))) or give None) then (λ w. call_rest o t w)))) CallAgain
-head_yields o = attributes_then (yields_then (type_yields 64) (λ t x. yields_or (yields_then {h = λ w. call_rest o t (Some w)} written_yields (λ w y. end_yields o t (Some w) x y)) (end_yields o t None x tt)))
+head_yields : (o : Token) → Yields (attributes then (λ u. type_in NESTING_LIMIT then (λ t. ((written then (λ w. give (Some w))) or give None) then (λ w. call_rest o t w)))) CallAgain
+head_yields o = attributes_then (yields_then (type_yields NESTING_LIMIT) (λ t x. yields_or (yields_then {h = λ w. call_rest o t (Some w)} written_yields (λ w y. end_yields o t (Some w) x y)) (end_yields o t None x tt)))
 
 pub call_yields : Yields call CallAgain
 call_yields = yields_or (yields_then yields_one (λ o _. head_yields o)) (yields_then yields_one (λ o _. yields_then yields_one (λ c _. head_yields o)))

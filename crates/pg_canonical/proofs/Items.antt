@@ -1,6 +1,7 @@
 -- Items are read again.
 use Rattle.std.proofs.Common.{◌≡◌, ℕ, List, [], ◌∷◌, ◌++◌, refl, ap, ap₂, ◌∙◌, append_assoc, Option, Some, None, Bool, true, false, flat_map, map, codes}
 use Rattle.std.specs.List.{join_by}
+use Rattle.pg_num.specs.declared.limits.TheConstants.{NESTING_LIMIT}
 use Rattle.pg_ast.specs.declared.names.Name.{Name}
 use Rattle.pg_ast.specs.Syntax.{Ty, Const, Block, Param, Dparam, ParamOf, Metadata, Dots, NamedType, Variable, Declaration, Definition}
 use Rattle.pg_ast.specs.Text.{name_text, type_text, const_text, block_text, param_text, dparam_text, type_item_text, constancy_text, global_item_text, declare_text, head_text, define_text}
@@ -74,20 +75,20 @@ plain_item x = x
 
 pub record TypeHas (i : NamedType) : Type 1 where
   pub name : IsNameText i.name.text
-  pub ty : TypeAgain 64 i.ty
+  pub ty : TypeAgain NESTING_LIMIT i.ty
 
 pub record GlobalHas (g : Variable) : Type 1 where
   pub name : IsNameText g.name.text
-  pub ty : TypeAgain 64 g.ty
-  pub value : ConstAgain 64 g.value
+  pub ty : TypeAgain NESTING_LIMIT g.ty
+  pub value : ConstAgain NESTING_LIMIT g.value
 
 pub record DeclareHas (d : Declaration) : Type 1 where
-  pub result : TypeAgain 64 d.result
+  pub result : TypeAgain NESTING_LIMIT d.result
   pub name : IsNameText d.name.text
   pub params : Every DparamAgain d.params
 
 pub record DefineHas (d : Definition) : Type 1 where
-  pub result : TypeAgain 64 d.result
+  pub result : TypeAgain NESTING_LIMIT d.result
   pub name : IsNameText d.name.text
   pub params : Every ParamAgain d.params
   pub blocks : Every BlockAgain d.blocks
@@ -114,7 +115,7 @@ global_texts true n t v = rw (append_assoc n (codes " = constant " ++ (t ++ (32 
 global_texts false n t v = rw (append_assoc n (codes " = global " ++ (t ++ (32 ∷ v))) (codes "\n"), append_assoc t (32 ∷ v) (codes "\n")) refl
 
 abbrev pub global_rest : Token → Bool → Gram Item
-global_rest n c = type_in 64 then (λ t. const_in 64 then (λ v. drop_value (many (one (is classes.Comma) then (λ m. attributes))) then (λ u. give (GlobalItem (record { name = name_of n; is_constant = c; ty = t; value = v })))))
+global_rest n c = type_in NESTING_LIMIT then (λ t. const_in NESTING_LIMIT then (λ v. drop_value (many (one (is classes.Comma) then (λ m. attributes))) then (λ u. give (GlobalItem (record { name = name_of n; is_constant = c; ty = t; value = v })))))
 
 pub global_row : (g : Variable) → GlobalHas g → Again anything global_item (global_item_text g) (λ x. plain_item x ≡ GlobalItem (plain_variable g))
 unfolding global_item_text

@@ -3,6 +3,7 @@ use Rattle.std.proofs.Common.{◌≡◌, ℕ, ◌+◌, ◌<◌, List, [], ◌∷
 use Rattle.std.specs.List.{list_all}
 use Rattle.std.specs.Int.Digits.{digits_of, AllBelowBase}
 use Rattle.std.proofs.lemmas.Int.Digits.{all_below_base_digits_of}
+use Rattle.pg_num.specs.declared.limits.TheConstants.{NESTING_LIMIT}
 use Rattle.pg_ast.specs.declared.names.Name.{Name}
 use Rattle.pg_ast.specs.Syntax.{Line, Block, Param, NamedType}
 use Rattle.pg_ast.specs.Numbers.{digits_text, decimal_text, name_at, each_at, param_at, behind_param, result_at, line_at, behind_line, block_at, behind_block, gives}
@@ -17,7 +18,7 @@ use Rattle.pg_canonical.proofs.Parts.{NameOption, LineAgain}
 use Rattle.pg_canonical.proofs.Bodies.{BlockAgain, are_labelled}
 
 pub record ParamAgain (p : Param) : Type 1 where
-  pub ty : TypeAgain 64 p.ty
+  pub ty : TypeAgain NESTING_LIMIT p.ty
   pub name : NameOption p.name
 
 -- ---- names of digits

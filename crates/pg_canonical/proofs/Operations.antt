@@ -2,6 +2,7 @@
 use Rattle.std.proofs.Common.{◌≡◌, ℕ, List, [], ◌∷◌, ◌++◌, refl, sym, ap, ap₂, ◌∙◌, append_assoc, Some, None, Bool, true, flat_map, codes}
 use Rattle.std.specs.List.{list_all}
 use Rattle.pg_num.specs.Decimal.{is_decimal}
+use Rattle.pg_num.specs.declared.limits.TheConstants.{NESTING_LIMIT}
 use Rattle.pg_lex.specs.declared.token.Span.{Span}
 use Rattle.pg_ast.specs.declared.names.Name.{Name}
 use Rattle.pg_ast.specs.declared.names.Literal.{Literal}
@@ -33,8 +34,8 @@ use Rattle.pg_canonical.proofs.Attributes.{no_flags}
 
 -- the parts of a value with its type
 pub record AreParts (t : Typed) : Type 1 where
-  pub ty : TypeAgain 64 t.ty
-  pub value : ValueAgain 64 t.value
+  pub ty : TypeAgain NESTING_LIMIT t.ty
+  pub value : ValueAgain NESTING_LIMIT t.value
 
 pub in_two : {A : Type 0} {before : List ℕ → Bool} {g : Gram A} {Q : A → Type 0} (text value more : List ℕ) → Again before g (text ++ ((32 ∷ value) ++ more)) Q → Again before g ((text ++ (32 ∷ value)) ++ more) Q
 in_two text value more e = text_as (sym (append_assoc text (32 ∷ value) more)) e
@@ -56,15 +57,15 @@ Reads g o = Again stops g (op_text o) (λ p. plain_op p ≡ plain_op o)
 
 -- ---- numbers
 
-pub binary_row : (s : Span) (op : BinaryOp) (t : Ty) (a b : Val) → TypeAgain 64 t → ValueAgain 64 a → ValueAgain 64 b → Reads binary (Binary s op t a b)
+pub binary_row : (s : Span) (op : BinaryOp) (t : Ty) (a b : Val) → TypeAgain NESTING_LIMIT t → ValueAgain NESTING_LIMIT a → ValueAgain NESTING_LIMIT b → Reads binary (Binary s op t a b)
 unfolding op_text typed_text pair_text
 binary_row s op t a b e f k = then_text (binary_again op) (λ r i. refl) (λ o x. no_flags (then_text (spaced e) (λ r i. refl) (λ t2 y. then_text (spaced f) (λ r i. refl) (λ a2 z. mark_then comma (λ c _. last_text (spaced k) (λ b2 w. ap₄ (λ o t a b. Binary nowhere o t a b) x y z w))))))
 
-pub icmp_row : (s : Span) (op : Predicate) (t : Ty) (a b : Val) → TypeAgain 64 t → ValueAgain 64 a → ValueAgain 64 b → Reads icmp (Icmp s op t a b)
+pub icmp_row : (s : Span) (op : Predicate) (t : Ty) (a b : Val) → TypeAgain NESTING_LIMIT t → ValueAgain NESTING_LIMIT a → ValueAgain NESTING_LIMIT b → Reads icmp (Icmp s op t a b)
 unfolding op_text typed_text pair_text
 icmp_row s op t a b e f k = then_text icmp_word (λ r i. refl) (λ o _. no_flags (then_text (spaced (predicate_again op)) (λ r i. refl) (λ p x. then_text (spaced e) (λ r i. refl) (λ t2 y. then_text (spaced f) (λ r i. refl) (λ a2 z. mark_then comma (λ c _. last_text (spaced k) (λ b2 w. ap₄ (λ o t a b. Icmp nowhere o t a b) x y z w)))))))
 
-pub cast_row : (s : Span) (op : CastOp) (v : Typed) (t : Ty) → AreParts v → TypeAgain 64 t → Reads cast (Cast s op v t)
+pub cast_row : (s : Span) (op : CastOp) (v : Typed) (t : Ty) → AreParts v → TypeAgain NESTING_LIMIT t → Reads cast (Cast s op v t)
 unfolding op_text typed_text cast_text
 cast_row s op v t e f = then_text (cast_again op) (λ r i. refl) (λ o x. no_flags (in_two (32 ∷ type_text v.ty) (val_text v.value) _ (then_text (spaced e.ty) (λ r i. refl) (λ t1 p1. then_text (spaced e.value) (λ r i. refl) (λ v1 q1. then_text (spaced to_word) (λ r i. refl) (λ c _. last_text (spaced f) (λ t2 z. ap₃ (λ o v t. Cast nowhere o v t) x (same_typed p1 q1) z)))))))
 
@@ -77,17 +78,17 @@ select_row s c a b e f k = then_text select_word (λ r i. refl) (λ o _. in_two 
 abbrev pub IncomingAgain : Incoming → Type 1
 IncomingAgain i = Again stops incoming (incoming_text i) (λ j. plain_incoming j ≡ plain_incoming i)
 
-incoming_row : (v : Val) (b : Name) → ValueAgain 64 v → IsNameText b.text → IncomingAgain (record { value = v; block = b })
+incoming_row : (v : Val) (b : Name) → ValueAgain NESTING_LIMIT v → IsNameText b.text → IncomingAgain (record { value = v; block = b })
 unfolding incoming_text
 incoming_row v b e h = mark_then open_square (λ o _. then_text (spaced e) (λ r i. refl) (λ v2 x. mark_then comma (λ c _. then_text (spaced (local_again b.text h)) (λ r i. refl) (λ n y. last_text (spaced close_square) (λ c _. ap₂ (λ a (w : List ℕ). record { value = a; block = record { text = w; span = nowhere } }) x y)))))
 
 pub incoming_yields : Yields incoming IncomingAgain
-incoming_yields = yields_then yields_one (λ o _. yields_then (value_yields 64) (λ v x. yields_then yields_one (λ c _. yields_then yields_one (λ n k. yields_then yields_one (λ c _. yields_give (incoming_row v (name_of n) x k.formed.bytes))))))
+incoming_yields = yields_then yields_one (λ o _. yields_then (value_yields NESTING_LIMIT) (λ v x. yields_then yields_one (λ c _. yields_then yields_one (λ n k. yields_then yields_one (λ c _. yields_give (incoming_row v (name_of n) x k.formed.bytes))))))
 
 abbrev pub phi_rest : Token → Ty → Incoming → Gram Op
 phi_rest o t i = many (one (is Comma) then (λ c. incoming)) then (λ more. give (Phi o.span t i more))
 
-pub phi_row : (s : Span) (t : Ty) (i : Incoming) (all : List Incoming) → TypeAgain 64 t → IncomingAgain i → Every IncomingAgain all → Reads phi (Phi s t i all)
+pub phi_row : (s : Span) (t : Ty) (i : Incoming) (all : List Incoming) → TypeAgain NESTING_LIMIT t → IncomingAgain i → Every IncomingAgain all → Reads phi (Phi s t i all)
 unfolding op_text typed_text phi_text
 phi_row s t i all e f h = then_text phi_word (λ r i. refl) (λ o _. then_text (spaced e) (λ r i. refl) (λ t2 x. then_text {h = phi_rest o t2} (spaced f) (commas_fit incoming_text all) (λ j y. last_text (commas_text incoming incoming_text plain_incoming all h) (λ js z. ap₃ (λ t i all. Phi nowhere t i all) x y z))))
 
@@ -107,7 +108,7 @@ unfolding case_text label_text typed_text
 case_row v b e h = in_two (32 ∷ type_text v.ty) (val_text v.value) _ (then_text (spaced e.ty) (λ r i. refl) (λ t1 p1. then_text (spaced e.value) (λ r i. refl) (λ v1 q1. mark_then comma (λ m _. then_text (spaced label_word) (λ r i. refl) (λ l _. last_text {f = λ n. record { value = record { ty = t1; value = v1 }; block = name_of n }} (spaced (local_again b.text h)) (λ n y. ap₂ (λ (a : Typed) (w : List ℕ). record { value = a; block = record { text = w; span = nowhere } }) (same_typed p1 q1) y))))))
 
 pub case_yields : Yields case_of CaseAgain
-case_yields = yields_then (type_yields 64) (λ t x. yields_then (value_yields 64) (λ v y. yields_then yields_one (λ m _. yields_then yields_one (λ l _. yields_then yields_one (λ n k. yields_give (case_row (record { ty = t; value = v }) (name_of n) (record { ty = x; value = y }) k.formed.bytes))))))
+case_yields = yields_then (type_yields NESTING_LIMIT) (λ t x. yields_then (value_yields NESTING_LIMIT) (λ v y. yields_then yields_one (λ m _. yields_then yields_one (λ l _. yields_then yields_one (λ n k. yields_give (case_row (record { ty = t; value = v }) (name_of n) (record { ty = x; value = y }) k.formed.bytes))))))
 
 cases_before : (all : List Case) (r : List ℕ) → stops ((flat_map case_text all ++ codes " ]") ++ r) ≡ true
 unfolding case_text
@@ -136,15 +137,16 @@ unreachable_row s = last_text unreachable_word (λ o _. refl)
 
 -- ---- memory
 
-pub alloca_row : (s : Span) (t : Ty) → TypeAgain 64 t → Reads alloca (Alloca s t None)
+pub alloca_row : (s : Span) (t : Ty) → TypeAgain NESTING_LIMIT t → Reads alloca (Alloca s t None)
 unfolding op_text typed_text
 alloca_row s t e = then_text alloca_word (λ r i. refl) (λ o _. then_text (spaced e) (λ r i. i) (λ t2 x. right_text (right_text (given (ap (λ t. Alloca nowhere t None) x)))))
 
-pub alloca_count_row : (s : Span) (t u : Ty) (n : Literal) → TypeAgain 64 t → TypeAgain 64 u → is_decimal n.text ≡ true → Reads alloca (Alloca s t (Some (record { ty = u; count = n })))
+pub alloca_count_row : (s : Span) (t u : Ty) (n : Literal) → TypeAgain NESTING_LIMIT t → TypeAgain NESTING_LIMIT u → is_decimal n.text ≡ true
+    → Reads alloca (Alloca s t (Some (record { ty = u; count = n })))
 unfolding op_text typed_text
 alloca_count_row s t u n e f h = then_text alloca_word (λ r i. refl) (λ o _. then_text (spaced e) (λ r i. refl) (λ t2 x. left_text (mark_then comma (λ m _. then_text (spaced f) (λ r i. refl) (λ u2 y. left_text (end_text (spaced (int_text n.text h)) (λ n2 z. right_text (given (ap₃ (λ t u (w : List ℕ). Alloca nowhere t (Some (record { ty = u; count = record { text = w; span = nowhere } }))) x y z)))))))))
 
-pub load_row : (s : Span) (t : Ty) (p : Typed) → TypeAgain 64 t → AreParts p → Reads load (Load s t p)
+pub load_row : (s : Span) (t : Ty) (p : Typed) → TypeAgain NESTING_LIMIT t → AreParts p → Reads load (Load s t p)
 unfolding op_text typed_text
 load_row s t p e f = then_text load_word (λ r i. refl) (λ o _. right_text (then_text (spaced e) (λ r i. refl) (λ t2 x. mark_then comma (λ m _. then_text (spaced f.ty) (λ r i. refl) (λ t1 p1. end_text (spaced f.value) (λ v1 q1. right_text (given (ap₂ (λ t p. Load nowhere t p) x (same_typed p1 q1)))))))))
 
@@ -152,6 +154,6 @@ pub store_row : (s : Span) (v p : Typed) → AreParts v → AreParts p → Reads
 unfolding op_text typed_text
 store_row s v p e f = then_text store_word (λ r i. refl) (λ o _. right_text (in_two (32 ∷ type_text v.ty) (val_text v.value) _ (then_text (spaced e.ty) (λ r i. refl) (λ t1 p1. then_text (spaced e.value) (λ r i. refl) (λ v1 q1. mark_then comma (λ m _. then_text (spaced f.ty) (λ r i. refl) (λ t2 p2. end_text (spaced f.value) (λ v2 q2. right_text (given (ap₂ (λ v p. Store nowhere v p) (same_typed p1 q1) (same_typed p2 q2)))))))))))
 
-pub gep_row : (s : Span) (t : Ty) (p : Typed) (all : List Typed) → TypeAgain 64 t → AreParts p → Every (TypedAgain 64) all → Reads gep (GetElementPtr s t p all)
+pub gep_row : (s : Span) (t : Ty) (p : Typed) (all : List Typed) → TypeAgain NESTING_LIMIT t → AreParts p → Every (TypedAgain NESTING_LIMIT) all → Reads gep (GetElementPtr s t p all)
 unfolding op_text typed_text gep_op_text gep_text
 gep_row s t p all e f h = then_text getelementptr_word (λ r i. refl) (λ o _. no_flags (then_text (spaced e) (λ r i. refl) (λ t2 x. mark_then comma (λ m _. in_two (32 ∷ type_text p.ty) (val_text p.value) _ (then_text (spaced f.ty) (λ r i. refl) (λ t1 p1. then_text (spaced f.value) (commas_fit typed_text all) (λ v1 q1. last_text (commas_text typed_value typed_text plain_typed all h) (λ us z. ap₃ (λ t p all. GetElementPtr nowhere t p all) x (same_typed p1 q1) z))))))))

@@ -4,6 +4,7 @@ use Rattle.pg_ast.specs.declared.names.Name.{Name}
 use Rattle.pg_ast.specs.Syntax.{Op, Line}
 use Rattle.pg_ast.specs.Text.{name_text, op_text, line_text}
 use Rattle.pg_grammar.specs.declared.class.Class.TheVariants.{CloseRound}
+use Rattle.pg_grammar.specs.declared.nesting.TheConstants.{INNER_NESTING_LIMIT}
 use Rattle.pg_grammar.specs.Language.{Gram, give}
 use Rattle.pg_grammar.specs.Language.{◌>>=◌ as ◌then◌}
 use Rattle.pg_grammar.specs.Grammar.{name_of}
@@ -91,5 +92,5 @@ line_yields name h = yields_then {h = line_rest name} op_yields (λ o e. metadat
 
 pub part_yields : Yields part PartHas
 part_yields = yields_or (yields_then yields_one (λ t k. yields_give (record { text = k.formed.bytes })))
-    (yields_or (yields_then yields_one (λ d _. yields_then yields_one (λ b _. yields_then (skip_yields 63 CloseRound) (λ u _. yields_give tt))))
+    (yields_or (yields_then yields_one (λ d _. yields_then yields_one (λ b _. yields_then (skip_yields INNER_NESTING_LIMIT CloseRound) (λ u _. yields_give tt))))
     (yields_or (yields_then yields_one (λ t k. yields_then yields_one (λ q _. line_yields (Some (name_of t)) k.formed.bytes))) (line_yields None tt)))

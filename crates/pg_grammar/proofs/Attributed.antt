@@ -1,5 +1,7 @@
 -- The argument of a call: its attributes and its value, which may both begin with an integer.
 use Rattle.std.proofs.Common.{◌≡◌, ℕ, zero, suc, List, Option, Bool, true, false, refl, inl, inr, if◌then◌else◌, length}
+use Rattle.pg_num.specs.declared.limits.TheConstants.{NESTING_LIMIT}
+use Rattle.pg_grammar.specs.declared.nesting.TheConstants.{INNER_NESTING_LIMIT}
 use Rattle.pg_grammar.specs.declared.token.Token.{Token}
 use Rattle.pg_grammar.specs.declared.class.Class.{Class}
 use Rattle.pg_grammar.specs.declared.token.Fault.{Fault}
@@ -39,7 +41,7 @@ pending Bare = (do
   n ← one (is Int)
   give (Held n)) or ((do
     _ ← one (is OpenRound)
-    _ ← skip_to 63 CloseRound
+    _ ← skip_to INNER_NESTING_LIMIT CloseRound
     give Fresh) or fresh)
 pending Quoted = (do
   _ ← one (is Equals)
@@ -48,10 +50,10 @@ pending Quoted = (do
 pending (Held n) = fresh
 
 abbrev pub settled : Pending → Gram Val
-settled Fresh = value_in 64 or refused Unsupported (is Refused)
-settled Bare = other_value_in 64 or refused Unsupported (is Refused)
-settled Quoted = value_in 64 or refused Unsupported (is Refused)
-settled (Held n) = (value_in 64 or give (syntax.Int (literal_of n))) or refused Unsupported (is Refused)
+settled Fresh = value_in NESTING_LIMIT or refused Unsupported (is Refused)
+settled Bare = other_value_in NESTING_LIMIT or refused Unsupported (is Refused)
+settled Quoted = value_in NESTING_LIMIT or refused Unsupported (is Refused)
+settled (Held n) = (value_in NESTING_LIMIT or give (syntax.Int (literal_of n))) or refused Unsupported (is Refused)
 
 fresh_item : Item fresh_at fresh begins_fresh none
 fresh_item = item_or (item_first attribute_word OtherWord refl (λ t. give_it)) (item_or (item_first attribute_name Attr refl (λ t. give_it)) (item_case Str (λ t. give_it) (item_first metadata_name Meta refl (λ t. first {aw = none} (token_of metadata_name Meta refl) (λ u. give_it))) refl) refl) refl
@@ -59,7 +61,7 @@ fresh_item = item_or (item_first attribute_word OtherWord refl (λ t. give_it)) 
 pending_item : (s : Pending) → Item (pending_at s) (pending s) (begins_pending s) none
 unfolding pending_at
 pending_item Fresh = fresh_item
-pending_item Bare = item_case Int (λ n. give_it) (item_case OpenRound (λ o. first (skip_piece 63 CloseRound refl) (λ u. give_it)) fresh_item refl) refl
+pending_item Bare = item_case Int (λ n. give_it) (item_case OpenRound (λ o. first (skip_piece INNER_NESTING_LIMIT CloseRound refl) (λ u. give_it)) fresh_item refl) refl
 pending_item Quoted = item_case Equals (λ t. first (token Str) (λ u. give_it)) fresh_item refl
 pending_item (Held n) = fresh_item
 
@@ -81,10 +83,10 @@ may_settle (Held n) = true
 
 settled_piece : (s : Pending) → Piece (settled_at s) (settled s) (begins_settled s) (is Refused) (may_settle s) behind_argument
 unfolding settled_at
-settled_piece Fresh = recast begins_value (is Refused) (unless_it (is Refused) (value_piece 64) refl refl) refl refl
-settled_piece Bare = recast begins_other (is Refused) (unless_it (is Refused) (other_value_piece 64) refl refl) refl refl
-settled_piece Quoted = recast begins_value (is Refused) (unless_it (is Refused) (value_piece 64) refl refl) refl refl
-settled_piece (Held n) = recast begins_value (is Refused) (unless_it (is Refused) (choose_piece (value_at 64) (value_in 64) begins_value behind_argument (λ ts. Good (syntax.Int (literal_of n)) ts) (give (syntax.Int (literal_of n))) none none true behind_argument behind_argument (value_piece 64) (value_gets 63) give_it refl refl refl refl) refl refl) refl refl
+settled_piece Fresh = recast begins_value (is Refused) (unless_it (is Refused) (value_piece NESTING_LIMIT) refl refl) refl refl
+settled_piece Bare = recast begins_other (is Refused) (unless_it (is Refused) (other_value_piece NESTING_LIMIT) refl refl) refl refl
+settled_piece Quoted = recast begins_value (is Refused) (unless_it (is Refused) (value_piece NESTING_LIMIT) refl refl) refl refl
+settled_piece (Held n) = recast begins_value (is Refused) (unless_it (is Refused) (choose_piece (value_at NESTING_LIMIT) (value_in NESTING_LIMIT) begins_value behind_argument (λ ts. Good (syntax.Int (literal_of n)) ts) (give (syntax.Int (literal_of n))) none none true behind_argument behind_argument (value_piece NESTING_LIMIT) (value_gets INNER_NESTING_LIMIT) give_it refl refl refl refl) refl refl) refl refl
 
 states : States pending_at pending begins_pending none settled_at settled begins_settled (λ s. is Refused) may_settle behind_argument
 states = record { items = λ s. (pending_item s).piece; gets = λ s. (pending_item s).gets; tails = settled_piece; clear = clear; ends = ends; items_behind = λ s. apart_from_none (begins_pending s); tails_behind = λ s. apart_from_none (begins_settled s); ends_behind = λ s. either (may_settle s) }
@@ -117,19 +119,19 @@ linear_fresh = linear_or (linear_then (linear_one attribute_word) (λ t. linear_
 
 linear_pending : (s : Pending) → Linear (pending s)
 linear_pending Fresh = linear_fresh
-linear_pending Bare = linear_or (linear_then (linear_one (is Int)) (λ n. linear_give (Held n))) (linear_or (linear_then (linear_one (is OpenRound)) (λ o. linear_then (linear_skip 63 CloseRound) (λ u. linear_give Fresh))) linear_fresh)
+linear_pending Bare = linear_or (linear_then (linear_one (is Int)) (λ n. linear_give (Held n))) (linear_or (linear_then (linear_one (is OpenRound)) (λ o. linear_then (linear_skip INNER_NESTING_LIMIT CloseRound) (λ u. linear_give Fresh))) linear_fresh)
 linear_pending Quoted = linear_or (linear_then (linear_one (is Equals)) (λ t. linear_then (linear_one (is Str)) (λ u. linear_give Fresh))) linear_fresh
 linear_pending (Held n) = linear_fresh
 
 abbrev pub attributed : Gram Val
 attributed = do
   _ ← attributes
-  value_in 64
+  value_in NESTING_LIMIT
 
 abbrev option_after_word : Gram (Unit {0})
 option_after_word = (drop_value (one (is Int))) or ((do
   _ ← one (is OpenRound)
-  skip_to 63 CloseRound) or give tt)
+  skip_to INNER_NESTING_LIMIT CloseRound) or give tt)
 
 abbrev option_after_text : Gram (Unit {0})
 option_after_text = (do
@@ -148,14 +150,14 @@ left Quoted = do
 left (Held n) = attributed or give (syntax.Int (literal_of n))
 
 abbrev Value : Option Fault → (Val → Lang) → Lang
-Value m K us = (value_in 64 or refused Unsupported (is Refused)) m K us
+Value m K us = (value_in NESTING_LIMIT or refused Unsupported (is Refused)) m K us
 
 abbrev Attributes : ℕ → Option Fault → (Val → Lang) → Lang
 Attributes n m K us = times attribute n m (λ all. Value m K) us
 
 fresh_left : (m : Option Fault) (K : Val → Lang) (us : List Token) → fresh m (λ s. left s m K) us → attributed m K us
 fresh_left m K us (inl (t, vs, e, i, inl (t2, ws, e2, i2, (k, j)))) = (suc k, inl (t, vs, e, i, inl (t2, ws, e2, i2, j)))
-fresh_left m K us (inl (t, vs, e, i, inr (inl (t2, ws, e2, i2, j)))) = let q = (linear_skip 63 CloseRound).pick m (λ n u. Attributes n m K) ws j in (suc q.0, inl (t, vs, e, i, inr (inl (t2, ws, e2, i2, q.1))))
+fresh_left m K us (inl (t, vs, e, i, inr (inl (t2, ws, e2, i2, j)))) = let q = (linear_skip INNER_NESTING_LIMIT CloseRound).pick m (λ n u. Attributes n m K) ws j in (suc q.0, inl (t, vs, e, i, inr (inl (t2, ws, e2, i2, q.1))))
 fresh_left m K us (inl (t, vs, e, i, inr (inr (k, j)))) = (suc k, inl (t, vs, e, i, inr (inr j)))
 fresh_left m K us (inr (inl (t, vs, e, i, (k, j)))) = (suc k, inr (inl (t, vs, e, i, j)))
 fresh_left m K us (inr (inr (inl (t, vs, e, i, inl (t2, ws, e2, i2, (t3, xs, e3, i3, (k, j))))))) = (suc k, inr (inr (inl (t, vs, e, i, inl (t2, ws, e2, i2, (t3, xs, e3, i3, j))))))
@@ -203,7 +205,7 @@ to_bare (suc n) m K us j = (suc n, inr (inr j))
 
 attribute_loops : (m : Option Fault) (K : Val → Lang) (us : List Token) → attribute m (λ u. loops pending settled Fresh m K) us → loops pending settled Fresh m K us
 attribute_loops m K us (inl (t, vs, e, i, inl (t2, ws, e2, i2, (k, j)))) = (suc (suc k), inl (t, vs, e, i, inl (t2, ws, e2, i2, to_held k t2 m K ws j)))
-attribute_loops m K us (inl (t, vs, e, i, inr (inl (t2, ws, e2, i2, j)))) = let q = (linear_skip 63 CloseRound).pick m (λ n u. loop pending settled n Fresh m K) ws j in (suc (suc q.0), inl (t, vs, e, i, inr (inl (t2, ws, e2, i2, q.1))))
+attribute_loops m K us (inl (t, vs, e, i, inr (inl (t2, ws, e2, i2, j)))) = let q = (linear_skip INNER_NESTING_LIMIT CloseRound).pick m (λ n u. loop pending settled n Fresh m K) ws j in (suc (suc q.0), inl (t, vs, e, i, inr (inl (t2, ws, e2, i2, q.1))))
 attribute_loops m K us (inl (t, vs, e, i, inr (inr (k, j)))) = let q = to_bare k m K vs j in (suc q.0, inl (t, vs, e, i, q.1))
 attribute_loops m K us (inr (inl (t, vs, e, i, (k, j)))) = (suc k, inr (inl (t, vs, e, i, j)))
 attribute_loops m K us (inr (inr (inl (t, vs, e, i, inl (t2, ws, e2, i2, (t3, xs, e3, i3, (k, j))))))) = (suc (suc k), inr (inr (inl (t, vs, e, i, inl (t2, ws, e2, i2, (t3, xs, e3, i3, j))))))
@@ -220,4 +222,4 @@ unfolding attributed_at
 attributed_piece = alike attributed (λ m K us j. loop_left j.0 Fresh m K us j.1) (λ m K us j. times_loops j.0 m K us j.1) settled_loop
 
 pub argument_piece : {av : Class → Bool} → within behind_argument av ≡ true → Piece argument_at argument begins_type no_type false av
-argument_piece {av} w = recast begins_type no_type (first (type_piece 64) (λ t. next attributed_piece (λ v. give_it) (apart_none behind_argument) w)) refl refl
+argument_piece {av} w = recast begins_type no_type (first (type_piece NESTING_LIMIT) (λ t. next attributed_piece (λ v. give_it) (apart_none behind_argument) w)) refl refl

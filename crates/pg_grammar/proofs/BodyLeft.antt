@@ -1,5 +1,7 @@
 -- What is read of a body from state to state is a body of the grammar.
 use Rattle.std.proofs.Common.{◌≡◌, ℕ, zero, suc, List, ◌∷◌, Option, Some, None, inl, inr, ◌⊎◌, IsTrue, refl}
+use Rattle.pg_num.specs.declared.limits.TheConstants.{NESTING_LIMIT}
+use Rattle.pg_grammar.specs.declared.nesting.TheConstants.{INNER_NESTING_LIMIT}
 use Rattle.pg_grammar.specs.declared.token.Token.{Token}
 use Rattle.pg_grammar.specs.declared.class.Class.TheVariants.{Void, IntToPtr, GetElementPtr, Ret, Label, Local, Refused, Attr, DebugAttr, Comma, Equals, OpenRound, CloseRound, CloseBrace}
 use Rattle.pg_grammar.specs.declared.token.Fault.{Fault}
@@ -48,7 +50,7 @@ linear_op_part bs name = linear_or (linear_then linear_call_head (λ c. linear_c
     (linear_then (linear_then linear_simple_op (λ o. linear_then linear_metadata (λ u. linear_give o))) (λ o. linear_give (complete (add_line bs name o)))))
 
 linear_debug_tail : (bs : List Block) → Linear (debug_tail bs)
-linear_debug_tail bs = linear_then (linear_one (is OpenRound)) (λ o. linear_then (linear_skip 63 CloseRound) (λ u. linear_give _))
+linear_debug_tail bs = linear_then (linear_one (is OpenRound)) (λ o. linear_then (linear_skip INNER_NESTING_LIMIT CloseRound) (λ u. linear_give _))
 
 linear_named_tail : (bs : List Block) (name : Name) → Linear (named_tail bs name)
 linear_named_tail bs name = linear_then (linear_one (is Equals)) (λ e. linear_or (linear_op_part bs (Some name)) (linear_refused Unsupported no_op))
@@ -61,8 +63,8 @@ linear_behind_call bs = linear_or (linear_then (linear_one (is DebugAttr)) (λ t
 
 linear_behind_void : (bs : List Block) (name : Option Name) (o void : Span) → Linear (behind_void bs name o void)
 linear_behind_void bs name o void = linear_or (linear_then (linear_one (is Local)) (λ t. linear_or (linear_named_tail (add_line bs name (syntax.RetVoid o void)) (name_of t)) (linear_void_line bs name o void (linear_give (syntax.Local (name_of t))))))
-    (linear_past (is Local) (linear_or (linear_then (linear_one (is GetElementPtr)) (λ t. linear_then linear_flags (λ f. linear_or (linear_void_line bs name o void (linear_gep_tail 63 (linear_value 63) t)) (linear_then (linear_gep_op_tail t) (λ p. linear_give (complete (add_line (add_line bs name (syntax.RetVoid o void)) None p)))))))
-    (linear_past (is GetElementPtr) (linear_or (linear_then (linear_one (is IntToPtr)) (λ t. linear_or (linear_void_line bs name o void (linear_int_to_ptr_tail 63 t)) (linear_then (linear_cast_tail t) (λ p. linear_then linear_metadata (λ u. linear_give (complete (add_line (add_line bs name (syntax.RetVoid o void)) None p)))))))
+    (linear_past (is Local) (linear_or (linear_then (linear_one (is GetElementPtr)) (λ t. linear_then linear_flags (λ f. linear_or (linear_void_line bs name o void (linear_gep_tail INNER_NESTING_LIMIT (linear_value INNER_NESTING_LIMIT) t)) (linear_then (linear_gep_op_tail t) (λ p. linear_give (complete (add_line (add_line bs name (syntax.RetVoid o void)) None p)))))))
+    (linear_past (is GetElementPtr) (linear_or (linear_then (linear_one (is IntToPtr)) (λ t. linear_or (linear_void_line bs name o void (linear_int_to_ptr_tail INNER_NESTING_LIMIT t)) (linear_then (linear_cast_tail t) (λ p. linear_then linear_metadata (λ u. linear_give (complete (add_line (add_line bs name (syntax.RetVoid o void)) None p)))))))
     (linear_past (is IntToPtr) (linear_opened (add_line bs name (syntax.RetVoid o void))))))))
 
 pub linear_next : (bs : List Block) (after : After) → Linear (next_by bs after)
@@ -88,7 +90,7 @@ left_by bs Called = do
 left_by bs (Returned name o void) = (do
   _ ← metadata
   rest (add_line bs name (syntax.RetVoid o void))) or (do
-    v ← value_in 64
+    v ← value_in NESTING_LIMIT
     _ ← metadata
     rest (add_line bs name (syntax.Ret o (void_value void v))))
 
@@ -111,10 +113,10 @@ void_left : (bs : List Block) (name : Option Name) (o void : Token) (m : Option 
     → (do
       v ← one (is Void)
       give (syntax.RetVoid o.span v.span)) m (λ p. metadata m (λ u. rest (add_line bs name p) m K)) vs ⊎ typed_value m (λ v. metadata m (λ u. rest (add_line bs name (syntax.Ret o.span v)) m K)) vs
-void_left bs name o t m K vs ws e i (inl v) = inr (void_type 63 m _ vs (t, ws, e, i, certain_is_value m _ ws v))
+void_left bs name o t m K vs ws e i (inl v) = inr (void_type INNER_NESTING_LIMIT m _ vs (t, ws, e, i, certain_is_value m _ ws v))
 void_left bs name o t m K vs ws e i (inr (inl c)) = inl (t, ws, e, i, metadata_more m (rest (add_line bs name (syntax.RetVoid o.span t.span)) m K) ws c)
 void_left bs name o t m K vs ws e i (inr (inr (inl j))) = inl (t, ws, e, i, j)
-void_left bs name o t m K vs ws e i (inr (inr (inr j))) = inr (void_type 63 m _ vs (t, ws, e, i, j))
+void_left bs name o t m K vs ws e i (inr (inr (inr j))) = inr (void_type INNER_NESTING_LIMIT m _ vs (t, ws, e, i, j))
 
 op_left : (bs : List Block) (name : Option Name) (m : Option Fault) (K : List Block → Lang) (us : List Token) → op_part bs name m (Left m K) us → op m (λ o. metadata m (λ u. rest (add_part bs (line_of name o)) m K)) us
 op_left bs name m K us (inl j) = inl (inl (linear_call_head.mono m (λ c. called (add_part bs (line_of name c)) m (Left m K)) (λ c. attributes m (λ u. metadata m (λ w. rest (add_part bs (line_of name c)) m K))) (λ c vs i. called_left (add_part bs (line_of name c)) m K vs i) us j))
@@ -146,9 +148,9 @@ step_left bs Called m K us (inr (n, inl j)) = (0, inl (0, rest_more bs m K us (p
 step_left bs Called m K us (inr (n, inr (n2, j))) = attribute_left bs m K us (linear_attribute.mono m (λ u. called bs m (Left m K)) (λ u. left_by bs Called m K) (λ u vs i. called_left bs m K vs i) us j)
 step_left bs (Returned name o void) m K us (inl (t, vs, e, i, inl j)) = let cs = add_line bs name (syntax.RetVoid o void) in inl (0, rest_more cs m K us (part_left cs m K us (inr (inr (inl (t, vs, e, i, j))))))
 step_left bs (Returned name o void) m K us (inl (t, vs, e, i, inr j)) = inr (local_is_value m _ us (t, vs, e, i, j))
-step_left bs (Returned name o void) m K us (inr (n, inl (t, vs, e, i, j))) = pick (either_behind linear_flags m (λ f. void_line bs name o void (gep_tail 63 (value_in 63) t) m (Left m K)) (λ f. gep_op_tail t m (λ p. Left m K (complete (add_line (add_line bs name (syntax.RetVoid o void)) None p)))) vs j)
+step_left bs (Returned name o void) m K us (inr (n, inl (t, vs, e, i, j))) = pick (either_behind linear_flags m (λ f. void_line bs name o void (gep_tail INNER_NESTING_LIMIT (value_in INNER_NESTING_LIMIT) t) m (Left m K)) (λ f. gep_op_tail t m (λ p. Left m K (complete (add_line (add_line bs name (syntax.RetVoid o void)) None p)))) vs j)
   where
-    pick : flags m (λ f. void_line bs name o void (gep_tail 63 (value_in 63) t) m (Left m K)) vs ⊎ flags m (λ f. gep_op_tail t m (λ p. Left m K (complete (add_line (add_line bs name (syntax.RetVoid o void)) None p)))) vs → left_by bs (Returned name o void) m K us
+    pick : flags m (λ f. void_line bs name o void (gep_tail INNER_NESTING_LIMIT (value_in INNER_NESTING_LIMIT) t) m (Left m K)) vs ⊎ flags m (λ f. gep_op_tail t m (λ p. Left m K (complete (add_line (add_line bs name (syntax.RetVoid o void)) None p)))) vs → left_by bs (Returned name o void) m K us
     pick (inl x) = inr (gep_is_value m _ us (t, vs, e, i, x))
     pick (inr x) = inl (0, rest_more (add_line bs name (syntax.RetVoid o void)) m K us (inr (inr (inr (inl (inr (inr (inl (t, vs, e, i, x)))))))))
 step_left bs (Returned name o void) m K us (inr (n, inr (n2, inl (t, vs, e, i, inl j)))) = inr (int_to_ptr_is_value m _ us (t, vs, e, i, j))

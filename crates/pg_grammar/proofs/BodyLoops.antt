@@ -1,5 +1,7 @@
 -- A body of the grammar is read from state to state.
 use Rattle.std.proofs.Common.{◌≡◌, ℕ, zero, suc, List, [], ◌∷◌, Option, Some, None, inl, inr, ◌⊎◌, Bool, true, false, IsTrue, refl, sym, subst, ◌&&◌, not}
+use Rattle.pg_num.specs.declared.limits.TheConstants.{NESTING_LIMIT}
+use Rattle.pg_grammar.specs.declared.nesting.TheConstants.{INNER_NESTING_LIMIT}
 use Rattle.pg_grammar.specs.declared.token.Token.{Token}
 use Rattle.pg_grammar.specs.declared.class.Class.{Class}
 use Rattle.pg_grammar.specs.declared.class.Class.TheVariants.{Void, IntToPtr, GetElementPtr, Ret, Label, Local, Refused, DebugAttr, Str, CloseBrace, OpenBrace}
@@ -72,7 +74,7 @@ gep_part bs name o void m M us n y (inr (inr (inl (t, vs, e, i, j)))) = inr (
     e,
     i,
     linear_flags.mono m (λ f. gep_op_tail t m (λ p. M (complete (add_line (add_line bs name (syntax.RetVoid o void)) None p))))
-        (λ f ws. void_line bs name o void (gep_tail 63 (value_in 63) t) m M ws ⊎ gep_op_tail t m (λ p. M (complete (add_line (add_line bs name (syntax.RetVoid o void)) None p))) ws) (λ f ws k. inr k) vs j,
+        (λ f ws. void_line bs name o void (gep_tail INNER_NESTING_LIMIT (value_in INNER_NESTING_LIMIT) t) m M ws ⊎ gep_op_tail t m (λ p. M (complete (add_line (add_line bs name (syntax.RetVoid o void)) None p))) ws) (λ f ws k. inr k) vs j,
   ),
 )
 gep_part bs name o void m M us n y (inr (inr (inr (inl (t, vs, e, i, j))))) = absurd (not_both (is GetElementPtr) cast_word refl us y (first_comes cast_word t us vs e i))
@@ -119,7 +121,7 @@ complete_returned bs name o void m K us (suc n, j) = (suc n, opened_void bs name
 abbrev Valued : List Block → Option Name → Span → Span → Option Fault → (List Block → Lang) → Val → Lang
 Valued bs name o void m K v us = metadata m (λ u. Loops m K (complete (add_line bs name (syntax.Ret o (void_value void v))))) us
 
-value_end : (bs : List Block) (name : Option Name) (o void : Span) (m : Option Fault) (K : List Block → Lang) (us : List Token) → value_in 64 m (Valued bs name o void m K) us → void_end bs name o void m (Loops m K) us
+value_end : (bs : List Block) (name : Option Name) (o void : Span) (m : Option Fault) (K : List Block → Lang) (us : List Token) → value_in NESTING_LIMIT m (Valued bs name o void m K) us → void_end bs name o void m (Loops m K) us
 value_end bs name o void m K us j = pick (value_cases m (Valued bs name o void m K) us j)
   where
     more : behind_void bs name o void m (Loops m K) us → void_end bs name o void m (Loops m K) us
@@ -149,8 +151,8 @@ value_end bs name o void m K us j = pick (value_cases m (Valued bs name o void m
         vs,
         e,
         i,
-        linear_flags.mono m (λ f. gep_tail 63 (value_in 63) t m (Valued bs name o void m K))
-            (λ f ws. void_line bs name o void (gep_tail 63 (value_in 63) t) m (Loops m K) ws ⊎ gep_op_tail t m (λ p. Loops m K (complete (add_line (add_line bs name (syntax.RetVoid o void)) None p))) ws) (λ f ws k. inl k) vs j,
+        linear_flags.mono m (λ f. gep_tail INNER_NESTING_LIMIT (value_in INNER_NESTING_LIMIT) t m (Valued bs name o void m K))
+            (λ f ws. void_line bs name o void (gep_tail INNER_NESTING_LIMIT (value_in INNER_NESTING_LIMIT) t) m (Loops m K) ws ⊎ gep_op_tail t m (λ p. Loops m K (complete (add_line (add_line bs name (syntax.RetVoid o void)) None p))) ws) (λ f ws k. inl k) vs j,
       ),
     ))
     pick (inr (inr (inr (t, vs, e, i, j)))) = let y = first_comes (is IntToPtr) t us vs e i in more (inr (not_local (is IntToPtr) refl y, inr (not_gep y, inl (t, vs, e, i, inl j))))
@@ -216,7 +218,7 @@ typed_return bs name o m K us [] e i j = (o, [], e, i, inr (refl, j))
 typed_return bs name o m K us (t ∷ ws) e i j = by (is Void t.class) refl
   where
     by : (b : Bool) → is Void t.class ≡ b → return_line bs name m (Loops m K) us
-    by true y = (o, t ∷ ws, e, i, inl (t, ws, refl, y, value_end bs name o.span t.span m K ws (void_only 63 m _ t ws y j)))
+    by true y = (o, t ∷ ws, e, i, inl (t, ws, refl, y, value_end bs name o.span t.span m K ws (void_only INNER_NESTING_LIMIT m _ t ws y j)))
     by false n = (o, t ∷ ws, e, i, inr (n, j))
 
 op_loops : (bs : List Block) (name : Option Name) (m : Option Fault) (K : List Block → Lang) (us : List Token) → op m (Lined bs name m K) us → op_part bs name m (Loops m K) us ⊎ refused Unsupported no_op m (Loops m K) us

@@ -1,6 +1,7 @@
 -- The parts of a body, factored as they are read.
 use Rattle.std.proofs.Common.{List, Option, Some, None}
 use Rattle.pg_grammar.specs.declared.class.Class.TheVariants.{Void, IntToPtr, GetElementPtr, Ret, Label, Local, DebugAttr, Comma, Equals, OpenRound, CloseRound, CloseBrace}
+use Rattle.pg_grammar.specs.declared.nesting.TheConstants.{INNER_NESTING_LIMIT}
 use Rattle.pg_grammar.specs.declared.token.Fault.TheVariants.{Unsupported}
 use Rattle.pg_grammar.specs.Classes.{is}
 use Rattle.pg_grammar.specs.Language.{Gram, one, give, refused, ◌or◌, ◌>>=◌}
@@ -55,7 +56,7 @@ op_part bs name = (do
 abbrev pub debug_tail : List Block → Gram Body
 debug_tail bs = do
   _ ← one (is OpenRound)
-  _ ← skip_to 63 CloseRound
+  _ ← skip_to INNER_NESTING_LIMIT CloseRound
   give (complete (add_part bs DroppedPart))
 
 abbrev pub named_tail : List Block → Name → Gram Body
@@ -85,11 +86,11 @@ behind_void bs name o void = (do
   named_tail (add_line bs name (syntax.RetVoid o void)) (name_of t) or void_line bs name o void (give (syntax.Local (name_of t)))) or past (is Local) ((do
     t ← one (is GetElementPtr)
     _ ← flags
-    void_line bs name o void (gep_tail 63 (value_in 63) t) or (do
+    void_line bs name o void (gep_tail INNER_NESTING_LIMIT (value_in INNER_NESTING_LIMIT) t) or (do
       p ← gep_op_tail t
       give (complete (add_line (add_line bs name (syntax.RetVoid o void)) None p)))) or past (is GetElementPtr) ((do
         t ← one (is IntToPtr)
-        void_line bs name o void (int_to_ptr_tail 63 t) or (do
+        void_line bs name o void (int_to_ptr_tail INNER_NESTING_LIMIT t) or (do
           p ← cast_tail t
           _ ← metadata
           give (complete (add_line (add_line bs name (syntax.RetVoid o void)) None p)))) or past (is IntToPtr) (opened (add_line bs name (syntax.RetVoid o void)))))

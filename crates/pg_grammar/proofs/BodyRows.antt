@@ -1,5 +1,6 @@
 -- The parts of a body are read as they are factored.
 use Rattle.std.proofs.Common.{◌≡◌, List, [], Option, Some, None, Bool, true, false, refl, length}
+use Rattle.pg_grammar.specs.declared.nesting.TheConstants.{INNER_NESTING_LIMIT}
 use Rattle.pg_grammar.specs.declared.token.Token.{Token}
 use Rattle.pg_grammar.specs.declared.class.Class.{Class}
 use Rattle.pg_grammar.specs.declared.class.Class.TheVariants.{Void, IntToPtr, GetElementPtr, Ret, Label, Local, DebugAttr, Comma, Equals, OpenRound, CloseRound, CloseBrace}
@@ -44,7 +45,7 @@ unfolding op_at
 op_item bs name = item_or (item_then {av = none} call_item (λ c. called_piece _) refl refl) (item_or (return_item bs name) (item_then simple_op_item (λ o. give_it) refl refl) refl) refl
 
 debug_tail_item : (bs : List Block) → Item (debug_tail_at bs) (debug_tail bs) (is OpenRound) behind_part
-debug_tail_item bs = item_first (is OpenRound) OpenRound refl (λ o. first (skip_piece 63 CloseRound refl) (λ u. give_it))
+debug_tail_item bs = item_first (is OpenRound) OpenRound refl (λ o. first (skip_piece INNER_NESTING_LIMIT CloseRound refl) (λ u. give_it))
 
 named_tail_piece : (bs : List Block) (name : Name) → Piece (named_tail_at bs name) (named_tail bs name) (is Equals) none false behind_part
 named_tail_piece bs name = first (token Equals) (λ e. unless_it no_op (op_item bs (Some name)).piece refl refl)
@@ -58,8 +59,8 @@ behind_call_item bs = item_past (item_first (is DebugAttr) DebugAttr refl (λ t.
 
 behind_void_item : (bs : List Block) (name : Option Name) (o void : Span) → Item (behind_void_at bs name o void) (behind_void bs name o void) begins_part behind_part
 behind_void_item bs name o void = larger (item_past (item_first (is Local) Local refl (λ t. case Equals (λ e. unless_it no_op (op_item _ (Some _)).piece refl refl) (next {av = is Comma} (metadata_piece refl) (λ u. give_it) refl refl) refl refl))
-    (item_past (item_first (is GetElementPtr) GetElementPtr refl (λ t. next flags_piece (λ f. or_else (void_line_item bs name o void (gep_tail_item 63 (other_value_piece 63) t)) (next {av = is Comma} (gep_op_tail_piece t) (λ p. give_it) refl refl) refl refl) refl refl))
-    (item_past (item_first (is IntToPtr) IntToPtr refl (λ t. or_else (void_line_item bs name o void (int_to_ptr_tail_item 63 t)) (first (cast_tail_piece t) (λ p. next {av = is Comma} (metadata_piece refl) (λ u. give_it) refl refl)) refl refl)) (part_item _))))
+    (item_past (item_first (is GetElementPtr) GetElementPtr refl (λ t. next flags_piece (λ f. or_else (void_line_item bs name o void (gep_tail_item INNER_NESTING_LIMIT (other_value_piece INNER_NESTING_LIMIT) t)) (next {av = is Comma} (gep_op_tail_piece t) (λ p. give_it) refl refl) refl refl) refl refl))
+    (item_past (item_first (is IntToPtr) IntToPtr refl (λ t. or_else (void_line_item bs name o void (int_to_ptr_tail_item INNER_NESTING_LIMIT t)) (first (cast_tail_piece t) (λ p. next {av = is Comma} (metadata_piece refl) (λ u. give_it) refl refl)) refl refl)) (part_item _))))
   where
     larger : Item (behind_void_at bs name o void) (behind_void bs name o void) (is Local ∪ (is GetElementPtr ∪ (is IntToPtr ∪ begins_part))) behind_part → Item (behind_void_at bs name o void) (behind_void bs name o void) begins_part behind_part
     larger e = record { piece = recast begins_part none e.piece refl refl; gets = record { on = λ t ts i. e.gets.on t ts (within_is begins_part (is Local ∪ (is GetElementPtr ∪ (is IntToPtr ∪ begins_part))) refl t.class i) } }

@@ -1,6 +1,7 @@
 -- In a module no line of a block stands after one that ends it.
 use Rattle.std.proofs.Common.{◌≡◌, ℕ, List, [], ◌∷◌, None, Bool, true, false, ◌&&◌, ◌||◌, refl, subst, if◌then◌else◌}
 use Rattle.std.specs.List.{list_all}
+use Rattle.pg_num.specs.declared.limits.TheConstants.{NESTING_LIMIT}
 use Rattle.pg_grammar.specs.declared.token.Token.{Token}
 use Rattle.pg_grammar.specs.declared.class.Class.TheVariants.{Define, Dots, OpenRound, CloseRound, OpenBrace, CloseBrace}
 use Rattle.pg_grammar.specs.declared.token.Fault.TheVariants.{Unsupported}
@@ -70,7 +71,7 @@ body_keeps : Keeps body (λ bs. end_last bs ≡ true)
 body_keeps = keeps_then (linear_one (is OpenBrace)) (λ o. keeps_then (linear_many linear_part) (λ ps. keeps_then (linear_one (is CloseBrace)) (λ c. keeps_give (blocks_of ps) (blocks_end ps))))
 
 define_keeps : Keeps define_whole (λ d. end_last d.blocks ≡ true)
-define_keeps = keeps_then (linear_one (is Define)) (λ d. keeps_then linear_attributes (λ u. keeps_then (linear_type 64) (λ t. keeps_then (linear_one global_name) (λ n. keeps_then (linear_one (is OpenRound)) (λ o. keeps_then (linear_listed CloseRound (linear_or linear_param (linear_refused Unsupported (is Dots))))
+define_keeps = keeps_then (linear_one (is Define)) (λ d. keeps_then linear_attributes (λ u. keeps_then (linear_type NESTING_LIMIT) (λ t. keeps_then (linear_one global_name) (λ n. keeps_then (linear_one (is OpenRound)) (λ o. keeps_then (linear_listed CloseRound (linear_or linear_param (linear_refused Unsupported (is Dots))))
     (λ ps. keeps_then linear_attributes (λ u. keeps_with linear_body body_keeps (λ bs h. keeps_give {A = Definition} (record { result = t; name = name_of n; params = ps; blocks = bs }) h))))))))
 
 abbrev item_ends : Item → Bool

@@ -1,5 +1,7 @@
 -- The items, factored as they are read.
+use Rattle.pg_num.specs.declared.limits.TheConstants.{NESTING_LIMIT}
 use Rattle.pg_grammar.specs.declared.class.Class.TheVariants.{TypeWord, Distinct, SourceFilename, Target, Declare, Define, Attributes, Dots, Str, Local, Comma, Equals, OpenRound, CloseRound, OpenBrace, CloseBrace}
+use Rattle.pg_grammar.specs.declared.nesting.TheConstants.{INNER_NESTING_LIMIT}
 use Rattle.pg_grammar.specs.declared.token.Fault.TheVariants.{Unsupported}
 use Rattle.pg_grammar.specs.Classes.{is, is_word}
 use Rattle.pg_grammar.specs.Language.{Gram, one, give, refused, ◌or◌, ◌>>=◌, many}
@@ -22,8 +24,8 @@ global_head = do
   _ ← one (is Equals)
   _ ← attributes
   c ← constancy
-  t ← type_in 64
-  v ← const_in 64
+  t ← type_in NESTING_LIMIT
+  v ← const_in NESTING_LIMIT
   give (record { name = name_of n; is_constant = c; ty = t; value = v })
 
 -- , attrs
@@ -40,7 +42,7 @@ abbrev pub declare_head : Gram Declaration
 declare_head = do
   _ ← one (is Declare)
   _ ← attributes
-  t ← type_in 64
+  t ← type_in NESTING_LIMIT
   n ← one global_name
   _ ← one (is OpenRound)
   ps ← listed CloseRound dparam
@@ -50,7 +52,7 @@ abbrev pub define_whole : Gram Definition
 define_whole = do
   _ ← one (is Define)
   _ ← attributes
-  t ← type_in 64
+  t ← type_in NESTING_LIMIT
   n ← one global_name
   _ ← one (is OpenRound)
   ps ← listed CloseRound (param or refused Unsupported (is Dots))
@@ -63,7 +65,7 @@ type_whole = do
   n ← one (is Local)
   _ ← one (is Equals)
   _ ← one (is TypeWord)
-  t ← type_in 64
+  t ← type_in NESTING_LIMIT
   give (record { name = name_of n; ty = t })
 
 abbrev pub attributes_whole : Gram (Unit {0})
@@ -72,7 +74,7 @@ attributes_whole = do
   _ ← one attribute_name
   _ ← one (is Equals)
   _ ← one (is OpenBrace)
-  skip_to 63 CloseBrace
+  skip_to INNER_NESTING_LIMIT CloseBrace
 
 abbrev pub text_whole : Gram (Unit {0})
 text_whole = (do

@@ -1,7 +1,9 @@
 -- The items are read as they are factored.
 use Rattle.std.proofs.Common.{◌≡◌, Bool, true, false, refl, length}
+use Rattle.pg_num.specs.declared.limits.TheConstants.{NESTING_LIMIT}
 use Rattle.pg_grammar.specs.declared.class.Class.{Class}
 use Rattle.pg_grammar.specs.declared.class.Class.TheVariants.{MetadataWord, TypeWord, Distinct, GlobalWord, ConstantWord, SourceFilename, Target, Declare, Define, Attributes, OtherWord, Dots, Str, Local, Global, Meta, Bang, Attr, Comma, Equals, OpenRound, CloseRound, OpenBrace, CloseBrace}
+use Rattle.pg_grammar.specs.declared.nesting.TheConstants.{INNER_NESTING_LIMIT}
 use Rattle.pg_grammar.specs.Classes.{is, is_word, none, ◌∪◌}
 use Rattle.pg_grammar.specs.Grammar.{no_type, global_name, attribute_name, metadata_name}
 use Rattle.pg_grammar.specs.GrammarItems.{param, dparam, constancy, node, no_item}
@@ -26,7 +28,7 @@ behind_param = behind_attributes ∪ is Local
 
 param_piece : Piece param_at param begins_type no_type false behind_param
 unfolding param_at
-param_piece = first (type_piece 64) (λ t. next attributes_piece (λ u. next {av = is Local} (or_else (item_first (is Local) Local refl (λ n. give_it)) give_it refl refl) (λ name. give_it) refl refl) refl refl)
+param_piece = first (type_piece NESTING_LIMIT) (λ t. next attributes_piece (λ u. next {av = is Local} (or_else (item_first (is Local) Local refl (λ n. give_it)) give_it refl refl) (λ name. give_it) refl refl) refl refl)
 
 dparam_piece : Piece dparam_at dparam (is MetadataWord ∪ (is Dots ∪ begins_type)) no_type false behind_param
 dparam_piece = case MetadataWord (λ t. give_it) (case Dots (λ t. give_it) (recast begins_type no_type (next param_piece (λ p. give_it) refl refl) refl refl) refl refl) refl refl
@@ -34,7 +36,7 @@ dparam_piece = case MetadataWord (λ t. give_it) (case Dots (λ t. give_it) (rec
 -- ---- items
 
 node_item : {av : Class → Bool} → Item node_at node metadata_name av
-node_item {av} = item_case Meta (λ m. first (token OpenRound) (λ o. skip_piece 63 CloseRound refl)) (item_first (is Bang) Bang refl (λ b. case OpenBrace (λ o. skip_piece 63 CloseBrace refl) (first (token OpenRound) (λ o. skip_piece 63 CloseRound refl)) refl refl)) refl
+node_item {av} = item_case Meta (λ m. first (token OpenRound) (λ o. skip_piece INNER_NESTING_LIMIT CloseRound refl)) (item_first (is Bang) Bang refl (λ b. case OpenBrace (λ o. skip_piece INNER_NESTING_LIMIT CloseBrace refl) (first (token OpenRound) (λ o. skip_piece INNER_NESTING_LIMIT CloseRound refl)) refl refl)) refl
 
 node_tail_piece : {av : Class → Bool} → Piece metadata_item_tail_at node_tail (is Equals) none false av
 unfolding metadata_item_tail_at
@@ -45,24 +47,24 @@ constancy_item {av} = item_case GlobalWord (λ g. give_it) (item_first (is Const
 
 pub global_head_item : {av : Class → Bool} → Item global_item_at global_head global_name av
 unfolding global_item_at
-global_head_item {av} = item_first global_name Global refl (λ n. first (token Equals) (λ e. next attributes_piece (λ u. first constancy_item.piece (λ c. first (type_piece 64) (λ t. first (const_piece 64) (λ v. give_it)))) refl refl))
+global_head_item {av} = item_first global_name Global refl (λ n. first (token Equals) (λ e. next attributes_piece (λ u. first constancy_item.piece (λ c. first (type_piece NESTING_LIMIT) (λ t. first (const_piece NESTING_LIMIT) (λ v. give_it)))) refl refl))
 
 pub declare_head_item : {av : Class → Bool} → Item declare_item_at declare_head (is Declare) av
 unfolding declare_item_at
-declare_head_item {av} = item_first (is Declare) Declare refl (λ d. next attributes_piece (λ u. first (type_piece 64) (λ t. first (token_of global_name Global refl) (λ n. first (token OpenRound) (λ o. first (listed_by behind_param (behind_param ∪ is Comma) CloseRound refl refl refl refl refl dparam_piece) (λ ps. give_it))))) refl refl)
+declare_head_item {av} = item_first (is Declare) Declare refl (λ d. next attributes_piece (λ u. first (type_piece NESTING_LIMIT) (λ t. first (token_of global_name Global refl) (λ n. first (token OpenRound) (λ o. first (listed_by behind_param (behind_param ∪ is Comma) CloseRound refl refl refl refl refl dparam_piece) (λ ps. give_it))))) refl refl)
 
 pub define_item_row : {av : Class → Bool} → Item define_item_at define_whole (is Define) av
 unfolding define_item_at
-define_item_row {av} = item_first (is Define) Define refl (λ d. next attributes_piece (λ u. first (type_piece 64) (λ t. first (token_of global_name Global refl) (λ n. first (token OpenRound) (λ o. first (listed_by behind_param (behind_param ∪ is Comma) CloseRound refl refl refl refl refl (unless_it (is Dots) param_piece refl refl))
+define_item_row {av} = item_first (is Define) Define refl (λ d. next attributes_piece (λ u. first (type_piece NESTING_LIMIT) (λ t. first (token_of global_name Global refl) (λ n. first (token OpenRound) (λ o. first (listed_by behind_param (behind_param ∪ is Comma) CloseRound refl refl refl refl refl (unless_it (is Dots) param_piece refl refl))
     (λ ps. next attributes_piece (λ u. first body_piece (λ bs. give_it)) refl refl))))) refl refl)
 
 pub type_item_row : {av : Class → Bool} → Item type_item_at type_whole (is Local) av
 unfolding type_item_at
-type_item_row {av} = item_first (is Local) Local refl (λ n. first (token Equals) (λ e. first (token TypeWord) (λ w. first (type_piece 64) (λ t. give_it))))
+type_item_row {av} = item_first (is Local) Local refl (λ n. first (token Equals) (λ e. first (token TypeWord) (λ w. first (type_piece NESTING_LIMIT) (λ t. give_it))))
 
 pub attributes_item_row : {av : Class → Bool} → Item attributes_item_at attributes_whole (is Attributes) av
 unfolding attributes_item_at
-attributes_item_row {av} = item_first (is Attributes) Attributes refl (λ a. first (token_of attribute_name Attr refl) (λ n. first (token Equals) (λ e. first (token OpenBrace) (λ o. skip_piece 63 CloseBrace refl))))
+attributes_item_row {av} = item_first (is Attributes) Attributes refl (λ a. first (token_of attribute_name Attr refl) (λ n. first (token Equals) (λ e. first (token OpenBrace) (λ o. skip_piece INNER_NESTING_LIMIT CloseBrace refl))))
 
 pub text_item_row : {av : Class → Bool} → Item text_item_at text_whole (is SourceFilename ∪ is Target) av
 unfolding text_item_at

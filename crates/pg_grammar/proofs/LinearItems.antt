@@ -1,6 +1,8 @@
 -- The rows of items depend on what may follow a list at a time.
 use Rattle.std.proofs.Common.{Some, None, true, false}
+use Rattle.pg_num.specs.declared.limits.TheConstants.{NESTING_LIMIT}
 use Rattle.pg_grammar.specs.declared.class.Class.TheVariants.{MetadataWord, TypeWord, Distinct, GlobalWord, ConstantWord, SourceFilename, Target, Declare, Define, Attributes, Dots, Str, Local, Meta, Bang, Comma, Equals, OpenRound, CloseRound, OpenBrace, CloseBrace}
+use Rattle.pg_grammar.specs.declared.nesting.TheConstants.{INNER_NESTING_LIMIT}
 use Rattle.pg_grammar.specs.declared.token.Fault.TheVariants.{Unsupported}
 use Rattle.pg_grammar.specs.Classes.{is, is_word}
 use Rattle.pg_grammar.specs.Language.{Gram}
@@ -18,13 +20,13 @@ pub linear_body : Linear body
 linear_body = linear_then (linear_one (is OpenBrace)) (λ o. linear_then (linear_many linear_part) (λ ps. linear_then (linear_one (is CloseBrace)) (λ c. linear_give (blocks_of ps))))
 
 pub linear_param : Linear param
-linear_param = linear_then (linear_type 64) (λ t. linear_then linear_attributes (λ u. linear_then (linear_case Local (λ n. linear_give (Some (name_of n))) (linear_give None)) (λ name. linear_give {A = Param} (record { ty = t; name = name }))))
+linear_param = linear_then (linear_type NESTING_LIMIT) (λ t. linear_then linear_attributes (λ u. linear_then (linear_case Local (λ n. linear_give (Some (name_of n))) (linear_give None)) (λ name. linear_give {A = Param} (record { ty = t; name = name }))))
 
 linear_dparam : Linear dparam
 linear_dparam = linear_case MetadataWord (λ t. linear_give (syntax.Metadata t.span)) (linear_case Dots (λ t. linear_give (syntax.Dots t.span)) (linear_then linear_param (λ p. linear_give (syntax.ParamOf p))))
 
 linear_node : Linear node
-linear_node = linear_case Meta (λ m. linear_then (linear_one (is OpenRound)) (λ o. linear_skip 63 CloseRound)) (linear_then (linear_one (is Bang)) (λ b. linear_case OpenBrace (λ o. linear_skip 63 CloseBrace) (linear_then (linear_one (is OpenRound)) (λ o. linear_skip 63 CloseRound))))
+linear_node = linear_case Meta (λ m. linear_then (linear_one (is OpenRound)) (λ o. linear_skip INNER_NESTING_LIMIT CloseRound)) (linear_then (linear_one (is Bang)) (λ b. linear_case OpenBrace (λ o. linear_skip INNER_NESTING_LIMIT CloseBrace) (linear_then (linear_one (is OpenRound)) (λ o. linear_skip INNER_NESTING_LIMIT CloseRound))))
 
 pub linear_node_tail : Linear node_tail
 linear_node_tail = linear_then (linear_one (is Equals)) (λ e. linear_then (linear_or (linear_drop (linear_one (is Distinct))) (linear_give tt)) (λ u. linear_node))
@@ -33,7 +35,7 @@ linear_constancy : Linear constancy
 linear_constancy = linear_case GlobalWord (λ g. linear_give false) (linear_then (linear_one (is ConstantWord)) (λ c. linear_give true))
 
 pub linear_global_head : Linear global_head
-linear_global_head = linear_then (linear_one global_name) (λ n. linear_then (linear_one (is Equals)) (λ e. linear_then linear_attributes (λ u. linear_then linear_constancy (λ c. linear_then (linear_type 64) (λ t. linear_then (linear_const 64) (λ v. linear_give {A = Variable} (record { name = name_of n; is_constant = c; ty = t; value = v })))))))
+linear_global_head = linear_then (linear_one global_name) (λ n. linear_then (linear_one (is Equals)) (λ e. linear_then linear_attributes (λ u. linear_then linear_constancy (λ c. linear_then (linear_type NESTING_LIMIT) (λ t. linear_then (linear_const NESTING_LIMIT) (λ v. linear_give {A = Variable} (record { name = name_of n; is_constant = c; ty = t; value = v })))))))
 
 pub linear_tail : Linear tail
 linear_tail = linear_then (linear_one (is Comma)) (λ c. linear_attributes)
@@ -42,17 +44,17 @@ pub linear_tails : Linear tails
 linear_tails = linear_drop (linear_many linear_tail)
 
 pub linear_declare_head : Linear declare_head
-linear_declare_head = linear_then (linear_one (is Declare)) (λ d. linear_then linear_attributes (λ u. linear_then (linear_type 64) (λ t. linear_then (linear_one global_name) (λ n. linear_then (linear_one (is OpenRound)) (λ o. linear_then (linear_listed CloseRound linear_dparam) (λ ps. linear_give {A = Declaration} (record { result = t; name = name_of n; params = ps })))))))
+linear_declare_head = linear_then (linear_one (is Declare)) (λ d. linear_then linear_attributes (λ u. linear_then (linear_type NESTING_LIMIT) (λ t. linear_then (linear_one global_name) (λ n. linear_then (linear_one (is OpenRound)) (λ o. linear_then (linear_listed CloseRound linear_dparam) (λ ps. linear_give {A = Declaration} (record { result = t; name = name_of n; params = ps })))))))
 
 pub linear_define_whole : Linear define_whole
-linear_define_whole = linear_then (linear_one (is Define)) (λ d. linear_then linear_attributes (λ u. linear_then (linear_type 64) (λ t. linear_then (linear_one global_name) (λ n. linear_then (linear_one (is OpenRound)) (λ o. linear_then (linear_listed CloseRound (linear_or linear_param (linear_refused Unsupported (is Dots))))
+linear_define_whole = linear_then (linear_one (is Define)) (λ d. linear_then linear_attributes (λ u. linear_then (linear_type NESTING_LIMIT) (λ t. linear_then (linear_one global_name) (λ n. linear_then (linear_one (is OpenRound)) (λ o. linear_then (linear_listed CloseRound (linear_or linear_param (linear_refused Unsupported (is Dots))))
     (λ ps. linear_then linear_attributes (λ u. linear_then linear_body (λ bs. linear_give {A = Definition} (record { result = t; name = name_of n; params = ps; blocks = bs })))))))))
 
 pub linear_type_whole : Linear type_whole
-linear_type_whole = linear_then (linear_one (is Local)) (λ n. linear_then (linear_one (is Equals)) (λ e. linear_then (linear_one (is TypeWord)) (λ w. linear_then (linear_type 64) (λ t. linear_give {A = NamedType} (record { name = name_of n; ty = t })))))
+linear_type_whole = linear_then (linear_one (is Local)) (λ n. linear_then (linear_one (is Equals)) (λ e. linear_then (linear_one (is TypeWord)) (λ w. linear_then (linear_type NESTING_LIMIT) (λ t. linear_give {A = NamedType} (record { name = name_of n; ty = t })))))
 
 pub linear_attributes_whole : Linear attributes_whole
-linear_attributes_whole = linear_then (linear_one (is Attributes)) (λ a. linear_then (linear_one attribute_name) (λ n. linear_then (linear_one (is Equals)) (λ e. linear_then (linear_one (is OpenBrace)) (λ o. linear_skip 63 CloseBrace))))
+linear_attributes_whole = linear_then (linear_one (is Attributes)) (λ a. linear_then (linear_one attribute_name) (λ n. linear_then (linear_one (is Equals)) (λ e. linear_then (linear_one (is OpenBrace)) (λ o. linear_skip INNER_NESTING_LIMIT CloseBrace))))
 
 pub linear_text_whole : Linear text_whole
 linear_text_whole = linear_case SourceFilename (λ s. linear_then (linear_one (is Equals)) (λ e. linear_drop (linear_one (is Str)))) (linear_then (linear_one (is Target)) (λ t. linear_then (linear_one is_word) (λ w. linear_then (linear_one (is Equals)) (λ e. linear_drop (linear_one (is Str))))))

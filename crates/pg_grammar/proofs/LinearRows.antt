@@ -1,5 +1,7 @@
 -- The rows of the grammar depend on what may follow a list at a time.
 use Rattle.std.proofs.Common.{ℕ, zero, suc}
+use Rattle.pg_num.specs.declared.limits.TheConstants.{NESTING_LIMIT}
+use Rattle.pg_grammar.specs.declared.nesting.TheConstants.{INNER_NESTING_LIMIT}
 use Rattle.pg_grammar.specs.declared.token.Token.{Token}
 use Rattle.pg_grammar.specs.declared.class.Class.{Class}
 use Rattle.pg_grammar.specs.declared.token.Fault.TheVariants.{Unsupported, TooDeep}
@@ -48,7 +50,8 @@ linear_skip (suc d) close = linear_then (linear_drop (linear_many (linear_case O
     (λ u. linear_drop (linear_one (is close)))
 
 pub linear_attribute : Linear attribute
-linear_attribute = linear_or (linear_then (linear_one attribute_word) (λ t. linear_or (linear_drop (linear_one (is Int))) (linear_case OpenRound (λ o. linear_skip 63 CloseRound) linear_it)))
+linear_attribute = linear_or (linear_then (linear_one attribute_word) (λ t. linear_or (linear_drop (linear_one (is Int)))
+    (linear_case OpenRound (λ o. linear_skip INNER_NESTING_LIMIT CloseRound) linear_it)))
     (linear_or (linear_drop (linear_one attribute_name)) (linear_or (linear_then (linear_one (is Str)) (λ t. linear_case Equals (λ e. linear_drop (linear_one (is Str))) linear_it))
     (linear_then (linear_one metadata_name) (λ t. linear_drop (linear_one metadata_name)))))
 
@@ -84,7 +87,8 @@ pub linear_value : (d : ℕ) → Linear (value_in d)
 linear_value d = linear_case Int (λ n. linear_it) (linear_other_value d)
 
 pub linear_argument : Linear argument
-linear_argument = linear_then (linear_type 64) (λ t. linear_then linear_attributes (λ u. linear_then (linear_value 64) (λ v. linear_give {A = Typed} (record { ty = t; value = v }))))
+linear_argument = linear_then (linear_type NESTING_LIMIT) (λ t. linear_then linear_attributes (λ u. linear_then (linear_value NESTING_LIMIT)
+    (λ v. linear_give {A = Typed} (record { ty = t; value = v }))))
 
 -- ---- constants
 

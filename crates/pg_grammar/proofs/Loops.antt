@@ -3,7 +3,7 @@ use Rattle.std.proofs.Common.{◌≡◌, ℕ, zero, suc, ◌+◌, ◌<◌, ◌�
 use Rattle.pg_grammar.specs.declared.token.Token.{Token}
 use Rattle.pg_grammar.specs.declared.class.Class.{Class}
 use Rattle.pg_grammar.specs.declared.token.Fault.{Fault}
-use Rattle.pg_grammar.specs.declared.token.Refusal.{Refusal}
+use Rattle.pg_grammar.specs.declared.token.ReadRefusal.{ReadRefusal}
 use Rattle.pg_grammar.specs.declared.token.ReadError.{ReadError}
 use Rattle.pg_grammar.specs.declared.token.ReadError.TheVariants.{Memory, Refused}
 use Rattle.pg_grammar.specs.Reading.{Read, Good, Bad, ◌>>=◌, repeat, run, onto, comes, take_one}
@@ -111,7 +111,7 @@ rests_bad : {A : Type 0} (test : Class → Bool) (r : List Token → Read A) (ts
 rests_bad test r ts rest fault whole (zero, l, e) h g = absurd (omega (arith, l, some_left test ts h))
 rests_bad test r ts rest fault whole (suc n, l, e) h g = sym e ∙ ap (λ x. bare x) (repeat_more test r n ts (Bad fault rest) h g)
 
-pub rests_refuses : {A : Type 0} (test : Class → Bool) (r : List Token → Read A) (ts : List Token) (at place : ℕ) (whole : Read (Unit {0})) (f : Refusal)
+pub rests_refuses : {A : Type 0} (test : Class → Bool) (r : List Token → Read A) (ts : List Token) (at place : ℕ) (whole : Read (Unit {0})) (f : ReadRefusal)
     → Rests test r (drop place ts) whole → comes test (drop place ts) ≡ true → at ≤ place → Refuses ts place f (r (drop place ts)) → Refuses ts at f whole
 rests_refuses test r ts at place whole f l h s g = (rests_bad test r (drop place ts) (drop f.at ts) f.fault whole l h g.0, omega (arith, s, g.1), g.2)
 

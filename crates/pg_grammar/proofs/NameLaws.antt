@@ -3,6 +3,8 @@ use Rattle.std.proofs.Common.{◌≡◌, ℕ, zero, suc, ◌+◌, ◌≤◌, Lis
 use Rattle.std.specs.List.{list_all, flat_map}
 use Rattle.std.proofs.lemmas.Bool.{and_from, and_parts, or_parts}
 use Rattle.std.proofs.lemmas.List.{append-nil}
+use Rattle.pg_num.specs.declared.limits.TheConstants.{NESTING_LIMIT}
+use Rattle.pg_grammar.specs.declared.nesting.TheConstants.{INNER_NESTING_LIMIT}
 use Rattle.pg_grammar.specs.declared.token.Token.{Token}
 use Rattle.pg_grammar.specs.declared.class.Class.{Class}
 use Rattle.pg_grammar.specs.declared.class.Class.TheVariants.{Define, Dots, Label, Local, DebugAttr, Equals, OpenRound, CloseRound, OpenBrace, CloseBrace, Comma}
@@ -79,7 +81,7 @@ label_places : (at : ℕ) → Places at (do
 label_places at = places_then (linear_one (is Label)) (places_one at (is Label)) (λ t to q. places_give to (LabelPart (name_of t)) (token_within at t to q.0 q.1))
 
 debug_places : (at : ℕ) → Places at debug_line (λ to p. Within at (part_names p) to)
-debug_places at = places_then (linear_one (is DebugAttr)) (places_any at (linear_one (is DebugAttr))) (λ d a q. places_then (linear_one (is OpenRound)) (places_any a (linear_one (is OpenRound))) (λ o b r. places_then (linear_skip 63 CloseRound) (places_any b (linear_skip 63 CloseRound)) (λ u c s. places_give c DroppedPart (omega (arith, q, r, s)))))
+debug_places at = places_then (linear_one (is DebugAttr)) (places_any at (linear_one (is DebugAttr))) (λ d a q. places_then (linear_one (is OpenRound)) (places_any a (linear_one (is OpenRound))) (λ o b r. places_then (linear_skip INNER_NESTING_LIMIT CloseRound) (places_any b (linear_skip INNER_NESTING_LIMIT CloseRound)) (λ u c s. places_give c DroppedPart (omega (arith, q, r, s)))))
 
 result_places : (at : ℕ) → Places at result_name (λ to o. Within at (written o) to)
 result_places at = places_or (places_then (linear_one (is Local)) (places_one at (is Local)) (λ t to q. places_then (linear_one (is Equals)) (places_any to (linear_one (is Equals))) (λ e c r. places_give c (Some (name_of t)) (within_on at (name_of t ∷ []) to c r (token_within at t to q.0 q.1)))))
@@ -128,7 +130,7 @@ param_names p = written p.name
 
 param_places : (at : ℕ) → Places at param (λ to p. Within at (param_names p) to)
 param_places at =
-    places_then (linear_type 64) (places_any at (linear_type 64)) (λ t a q. places_then linear_attributes (places_any a linear_attributes) (λ u b r.
+    places_then (linear_type NESTING_LIMIT) (places_any at (linear_type NESTING_LIMIT)) (λ t a q. places_then linear_attributes (places_any a linear_attributes) (λ u b r.
     places_then (linear_or (linear_then (linear_one (is Local)) (λ n. linear_give (Some (name_of n)))) (linear_give None)) (name_places b) (λ name c w. places_give {A = Param} c (record { ty = t; name = name }) (within_more at b (written name) c (none_more at a b q r) w))))
 
 -- ---- items
@@ -136,7 +138,7 @@ param_places at =
 -- a function's names stand behind the word with which it begins
 define_places : (at : ℕ) → Places at define_whole (λ to d. (at ≤ to) × (ascend 0 (written_names d) ≡ true))
 define_places at =
-    places_then (linear_one (is Define)) (places_one at (is Define)) (λ w a q. places_then linear_attributes (places_any a linear_attributes) (λ u b r. places_then (linear_type 64) (places_any b (linear_type 64)) (λ t c s. places_then (linear_one global_name) (places_any c (linear_one global_name)) (λ n d x.
+    places_then (linear_one (is Define)) (places_one at (is Define)) (λ w a q. places_then linear_attributes (places_any a linear_attributes) (λ u b r. places_then (linear_type NESTING_LIMIT) (places_any b (linear_type NESTING_LIMIT)) (λ t c s. places_then (linear_one global_name) (places_any c (linear_one global_name)) (λ n d x.
     places_then (linear_one (is OpenRound)) (places_any d (linear_one (is OpenRound))) (λ o e y.
     places_then (linear_listed CloseRound (linear_or linear_param (linear_refused Unsupported (is Dots)))) (listed_places param_names (linear_or linear_param (linear_refused Unsupported (is Dots))) (λ k. places_or (param_places k) (places_refused k Unsupported (is Dots))) CloseRound e)
     (λ ps f v. places_then linear_attributes (places_any f linear_attributes) (λ u2 g z. places_then linear_body (body_places g) (λ bs h b2.

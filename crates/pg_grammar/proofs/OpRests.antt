@@ -1,5 +1,6 @@
 -- Rows of operations, factored as they are read.
 use Rattle.std.proofs.Common.{[], ◌∷◌, Option, Some, None, true, false}
+use Rattle.pg_num.specs.declared.limits.TheConstants.{NESTING_LIMIT}
 use Rattle.pg_grammar.specs.declared.token.Token.{Token}
 use Rattle.pg_grammar.specs.declared.class.Class.TheVariants.{To, Align, Int, Dots, Local, Comma, OpenRound, CloseRound}
 use Rattle.pg_grammar.specs.declared.token.Fault.TheVariants.{Unsupported}
@@ -30,7 +31,7 @@ cast_tail o = do
   _ ← flags
   v ← typed_value
   _ ← one (is To)
-  t ← type_in 64
+  t ← type_in NESTING_LIMIT
   give (syntax.Cast o.span (cast_of o.class) v t)
 
 -- ---- an alignment behind a comma, and metadata
@@ -65,7 +66,7 @@ count_first = (do
     give None) or ((do
       _ ← metadata_tail
       give None) or (do
-        t ← type_in 64
+        t ← type_in NESTING_LIMIT
         n ← one (is Int) or refused Unsupported (is Local)
         _ ← alignment_line
         give (Some (record { ty = t; count = literal_of n }))))) or give None
@@ -85,8 +86,8 @@ written_first = do
       give (record { types = []; dots = true })) or ((do
         _ ← one (is CloseRound)
         give (record { types = []; dots = false })) or (do
-          t ← type_in 64
-          all ← many (comma_item (type_in 64))
+          t ← type_in NESTING_LIMIT
+          all ← many (comma_item (type_in NESTING_LIMIT))
           more ← ending (drop_value (one (is Dots))) all
           _ ← one (is CloseRound)
           give (record { types = t ∷ more.items; dots = more.comma }))))
@@ -96,7 +97,7 @@ abbrev pub call_head : Gram (Option Op)
 call_head = do
   o ← call_word
   _ ← attributes
-  t ← type_in 64
+  t ← type_in NESTING_LIMIT
   w ← (do
     w ← written
     give (Some w)) or give None
@@ -110,7 +111,7 @@ call_head = do
 
 abbrev pub gep_op_tail : Token → Gram Op
 gep_op_tail o = do
-  t ← type_in 64
+  t ← type_in NESTING_LIMIT
   _ ← one (is Comma)
   p ← typed_value
   more ← many (comma_item typed_value)

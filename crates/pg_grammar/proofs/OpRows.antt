@@ -1,5 +1,7 @@
 -- Each reading function of an operation reads its row of the grammar.
 use Rattle.std.proofs.Common.{◌≡◌, zero, suc, List, Option, inl, inr, Bool, true, false, refl}
+use Rattle.pg_num.specs.declared.limits.TheConstants.{NESTING_LIMIT}
+use Rattle.pg_grammar.specs.declared.nesting.TheConstants.{INNER_NESTING_LIMIT}
 use Rattle.pg_grammar.specs.declared.token.Token.{Token}
 use Rattle.pg_grammar.specs.declared.class.Class.{Class}
 use Rattle.pg_grammar.specs.declared.class.Class.TheVariants.{Add, Trunc, Icmp, Eq, Select, Phi, Br, Switch, Unreachable, Alloca, Load, Store, Volatile, GetElementPtr, Call, TailWord, LabelWord, To, Align, Flag, Int, Dots, Local, Global, DroppedGlobal, Meta, Comma, OpenRound, CloseRound, OpenSquare, CloseSquare}
@@ -29,10 +31,10 @@ use Rattle.pg_grammar.proofs.Attributed.{argument_piece, behind_argument}
 use Rattle.pg_grammar.proofs.OpRests.{with_metadata, metadata_tail, cast_tail, alignment_line, alignment_first, count_line, count_first, written_first, call_head, gep_op_tail}
 
 pub typed_value_piece : {av : Class → Bool} → Piece typed_value_at typed_value begins_type no_type false av
-typed_value_piece {av} = first (type_piece 64) (λ t. first (value_piece 64) (λ v. give_it))
+typed_value_piece {av} = first (type_piece NESTING_LIMIT) (λ t. first (value_piece NESTING_LIMIT) (λ v. give_it))
 
 pub typed_value_gets : Gets begins_type typed_value_at
-typed_value_gets = gets_then (type_gets 63) (λ t. first {aw = none} (value_piece 64) (λ v. give_it))
+typed_value_gets = gets_then (type_gets INNER_NESTING_LIMIT) (λ t. first {aw = none} (value_piece NESTING_LIMIT) (λ v. give_it))
 
 target_item : {av : Class → Bool} → Item target_at target (is LabelWord) av
 target_item {av} = item_first (is LabelWord) LabelWord refl (λ l. first (token Local) (λ t. give_it))
@@ -52,13 +54,13 @@ lined_item e = item_then e (λ o. next {av = is Comma} (metadata_piece refl) (λ
 -- ---- numbers
 
 binary_item : Item binary_at binary binary_word none
-binary_item = item_first binary_word Add refl (λ o. next flags_piece (λ f. first (type_piece 64) (λ t. first (value_piece 64) (λ a. first (token Comma) (λ c. first (value_piece 64) (λ b. give_it))))) refl refl)
+binary_item = item_first binary_word Add refl (λ o. next flags_piece (λ f. first (type_piece NESTING_LIMIT) (λ t. first (value_piece NESTING_LIMIT) (λ a. first (token Comma) (λ c. first (value_piece NESTING_LIMIT) (λ b. give_it))))) refl refl)
 
 icmp_item : Item icmp_at icmp (is Icmp) none
-icmp_item = item_first (is Icmp) Icmp refl (λ o. next flags_piece (λ f. first (token_of predicate_word Eq refl) (λ p. first (type_piece 64) (λ t. first (value_piece 64) (λ a. first (token Comma) (λ c. first (value_piece 64) (λ b. give_it)))))) refl refl)
+icmp_item = item_first (is Icmp) Icmp refl (λ o. next flags_piece (λ f. first (token_of predicate_word Eq refl) (λ p. first (type_piece NESTING_LIMIT) (λ t. first (value_piece NESTING_LIMIT) (λ a. first (token Comma) (λ c. first (value_piece NESTING_LIMIT) (λ b. give_it)))))) refl refl)
 
 pub cast_tail_piece : {av : Class → Bool} (o : Token) → Piece (cast_tail_at o) (cast_tail o) (is Flag ∪ begins_type) no_type false av
-cast_tail_piece {av} o = recast (is Flag ∪ begins_type) no_type (next flags_piece (λ f. first typed_value_piece (λ v. first (token To) (λ x. first (type_piece 64) (λ t. give_it)))) refl refl) refl refl
+cast_tail_piece {av} o = recast (is Flag ∪ begins_type) no_type (next flags_piece (λ f. first typed_value_piece (λ v. first (token To) (λ x. first (type_piece NESTING_LIMIT) (λ t. give_it)))) refl refl) refl refl
 
 cast_item : Item cast_at cast cast_word none
 cast_item = item_first cast_word Trunc refl (λ o. cast_tail_piece o)
@@ -80,7 +82,8 @@ case_gets = gets_then typed_value_gets (λ v. first {aw = none} (token Comma) (�
 
 switch_item : Item switch_at switch (is Switch) none
 switch_item = item_first (is Switch) Switch refl (λ o. first typed_value_piece (λ v. first (token Comma) (λ k. first target_item.piece (λ b. first (token OpenSquare) (λ k.
-    many_refusing {av = none} begins_type case_piece case_gets linear_case_of (λ K t i. type_exact 63 _ t i) (λ all. first (token CloseSquare) (λ k. give_it)) refl refl refl refl refl)))))
+    many_refusing {av = none} begins_type case_piece case_gets linear_case_of (λ K t i. type_exact INNER_NESTING_LIMIT _ t i)
+    (λ all. first (token CloseSquare) (λ k. give_it)) refl refl refl refl refl)))))
 
 unreachable_item : Item unreachable_at unreachable (is Unreachable) none
 unreachable_item = item_first (is Unreachable) Unreachable refl (λ o. give_it)
@@ -116,16 +119,16 @@ count_from m K us (inr (inr (suc n, (t, vs, e, i, (a, as1, e1, i1, (b, bs, e2, i
 count_piece : Piece count_at count_line (is Comma) none true (is Comma)
 unfolding count_at
 count_piece = alike count_line count_is count_from (recast (is Comma) none (case Comma (λ c. case Align (λ t. first (token Int) (λ n. next {av = is Comma} (metadata_piece refl) (λ u. give_it) refl refl))
-    (or_else (item_then metadata_tail_item (λ u. give_it) refl refl) (first (type_piece 64) (λ t. first (unless_it (is Local) (token Int) refl refl) (λ n. next alignment_piece (λ u. give_it) refl refl))) refl refl) refl refl) give_it refl refl) refl refl)
+    (or_else (item_then metadata_tail_item (λ u. give_it) refl refl) (first (type_piece NESTING_LIMIT) (λ t. first (unless_it (is Local) (token Int) refl refl) (λ n. next alignment_piece (λ u. give_it) refl refl))) refl refl) refl refl) give_it refl refl) refl refl)
 
 alloca_item : Item alloca_at (with_metadata alloca) (is Alloca) (is Comma)
-alloca_item = item_first (is Alloca) Alloca refl (λ o. first (type_piece 64) (λ t. next count_piece (λ n. give_it) refl refl))
+alloca_item = item_first (is Alloca) Alloca refl (λ o. first (type_piece NESTING_LIMIT) (λ t. next count_piece (λ n. give_it) refl refl))
 
 volatile_piece : Piece volatile_at volatile (is Volatile) none true (is Volatile)
 volatile_piece = recast (is Volatile) none (or_else (item_first (is Volatile) Volatile refl (λ t. give_it)) give_it refl refl) refl refl
 
 load_item : Item load_at (with_metadata load) (is Load) (is Comma)
-load_item = item_first (is Load) Load refl (λ o. next volatile_piece (λ v. first (type_piece 64) (λ t. first (token Comma) (λ c. first typed_value_piece (λ p. next alignment_piece (λ u. give_it) refl refl)))) refl refl)
+load_item = item_first (is Load) Load refl (λ o. next volatile_piece (λ v. first (type_piece NESTING_LIMIT) (λ t. first (token Comma) (λ c. first typed_value_piece (λ p. next alignment_piece (λ u. give_it) refl refl)))) refl refl)
 
 store_item : Item store_at (with_metadata store) (is Store) (is Comma)
 store_item = item_first (is Store) Store refl (λ o. next volatile_piece (λ v. first typed_value_piece (λ t. first (token Comma) (λ c. first typed_value_piece (λ p. next alignment_piece (λ u. give_it) refl refl)))) refl refl)
@@ -159,19 +162,20 @@ listed_metadata_piece {A} {B} {r} {g} {fi} {ma} {end} {h0} {mb} e gets k p x f =
     from m K us j = items.mono m (λ all. metadata m (λ u. K (f all))) (λ all. ending metadata_tail all m (λ l. K (f l.items))) (λ all vs i. from_metadata m K all vs i) us j
 
 pub incoming_item : {av : Class → Bool} → Item incoming_at incoming (is OpenSquare) av
-incoming_item {av} = item_first (is OpenSquare) OpenSquare refl (λ o. first (value_piece 64) (λ v. first (token Comma) (λ c. first (token Local) (λ b. first (token CloseSquare) (λ c. give_it)))))
+incoming_item {av} = item_first (is OpenSquare) OpenSquare refl (λ o. first (value_piece NESTING_LIMIT)
+    (λ v. first (token Comma) (λ c. first (token Local) (λ b. first (token CloseSquare) (λ c. give_it)))))
 
 incoming_refusing : Refusing incoming metadata_tail metadata_tail (is OpenSquare) none
 incoming_refusing = record { linear = linear_incoming; begins = (incoming_item {av = none}).piece.begins; empty = (incoming_item {av = none}).piece.empty; exact = λ K t i. absurd (let z : false ≡ true = i in cc); split = λ m K us j. inl j; whole = λ m K us j. j; mark = λ m K us j. absurd (let z : false ≡ true = j.3 in cc) }
 
 phi_item : Item phi_at (with_metadata phi) (is Phi) (is Comma)
-phi_item = item_first (is Phi) Phi refl (λ o. first (type_piece 64) (λ t. first incoming_item.piece (λ i. listed_metadata_piece (incoming_item {av = none}).piece (incoming_item {av = none}).gets metadata_tail_item.piece incoming_refusing refl (λ all. syntax.Phi o.span t i all))))
+phi_item = item_first (is Phi) Phi refl (λ o. first (type_piece NESTING_LIMIT) (λ t. first incoming_item.piece (λ i. listed_metadata_piece (incoming_item {av = none}).piece (incoming_item {av = none}).gets metadata_tail_item.piece incoming_refusing refl (λ all. syntax.Phi o.span t i all))))
 
 index_refusing : Refusing typed_value metadata_tail (metadata_tail or refused Unsupported no_type) begins_type no_type
-index_refusing = record { linear = linear_typed_value; begins = (typed_value_piece {av = none}).begins; empty = (typed_value_piece {av = none}).empty; exact = λ K t i. type_exact 63 _ t i; split = λ m K us j. j; whole = λ m K us j. inl j; mark = λ m K us j. inr j }
+index_refusing = record { linear = linear_typed_value; begins = (typed_value_piece {av = none}).begins; empty = (typed_value_piece {av = none}).empty; exact = λ K t i. type_exact INNER_NESTING_LIMIT _ t i; split = λ m K us j. j; whole = λ m K us j. inl j; mark = λ m K us j. inr j }
 
 pub gep_op_tail_piece : (o : Token) → Piece (gep_op_tail_at o) (gep_op_tail o) begins_type no_type false (is Comma)
-gep_op_tail_piece o = first (type_piece 64) (λ t. first (token Comma) (λ c. first typed_value_piece (λ p. listed_metadata_piece typed_value_piece typed_value_gets (unless_it no_type metadata_tail_item.piece refl refl) index_refusing refl (λ all. syntax.GetElementPtr o.span t p all))))
+gep_op_tail_piece o = first (type_piece NESTING_LIMIT) (λ t. first (token Comma) (λ c. first typed_value_piece (λ p. listed_metadata_piece typed_value_piece typed_value_gets (unless_it no_type metadata_tail_item.piece refl refl) index_refusing refl (λ all. syntax.GetElementPtr o.span t p all))))
 
 gep_op_item : Item gep_op_at (with_metadata gep) (is GetElementPtr) (is Comma)
 gep_op_item = item_first (is GetElementPtr) GetElementPtr refl (λ o. next flags_piece (λ f. gep_op_tail_piece o) refl refl)
@@ -194,8 +198,8 @@ simple_op_item = item_or gep_op_item (item_or (lined_item cast_item) plain_op_it
 dots_item : {av : Class → Bool} → Item (drop_value_at (take_one (is Dots))) (drop_value (one (is Dots))) (is Dots) av
 dots_item {av} = item_first (is Dots) Dots refl (λ t. give_it)
 
-types_refusing : Refusing (type_in 64) (drop_value (one (is Dots))) (drop_value (one (is Dots)) or refused Unsupported no_type) begins_type no_type
-types_refusing = record { linear = linear_type 64; begins = (type_piece 64).begins; empty = (type_piece 64).empty; exact = λ K t i. type_exact 63 K t i; split = λ m K us j. j; whole = λ m K us j. inl j; mark = λ m K us j. inr j }
+types_refusing : Refusing (type_in NESTING_LIMIT) (drop_value (one (is Dots))) (drop_value (one (is Dots)) or refused Unsupported no_type) begins_type no_type
+types_refusing = record { linear = linear_type NESTING_LIMIT; begins = (type_piece NESTING_LIMIT).begins; empty = (type_piece NESTING_LIMIT).empty; exact = λ K t i. type_exact INNER_NESTING_LIMIT K t i; split = λ m K us j. j; whole = λ m K us j. inl j; mark = λ m K us j. inr j }
 
 written_is : (m : Option Fault) (K : Written → Lang) (us : List Token) → written_first m K us → written m K us
 written_is m K us (t, vs, e, i, inl j) = (t, vs, e, i, inl j)
@@ -206,7 +210,7 @@ written_is m K us (t, vs, e, i, inr (inr (inr j))) = (t, vs, e, i, inr (inl j))
 written_item : {av : Class → Bool} → Item written_at written_first (is OpenRound) av
 unfolding written_at
 written_item {av} = item_first (is OpenRound) OpenRound refl (λ o. case Dots (λ d. first (token CloseRound) (λ c. give_it)) (case Comma (λ c. first (token Dots) (λ d. first (token CloseRound) (λ c. give_it))) (case CloseRound (λ c. give_it)
-    (first (type_piece 64) (λ t. next (followed_piece (type_piece 64) (type_gets 63) (unless_it no_type (dots_item {av = is Comma}).piece refl refl) types_refusing refl refl) (λ more. first (token CloseRound) (λ c. give_it)) refl refl)) refl refl) refl refl) refl refl)
+    (first (type_piece NESTING_LIMIT) (λ t. next (followed_piece (type_piece NESTING_LIMIT) (type_gets INNER_NESTING_LIMIT) (unless_it no_type (dots_item {av = is Comma}).piece refl refl) types_refusing refl refl) (λ more. first (token CloseRound) (λ c. give_it)) refl refl)) refl refl) refl refl) refl refl)
 
 written_from : (m : Option Fault) (K : Written → Lang) (us : List Token) → written m K us → written_first m K us
 written_from m K us (t, vs, e, i, inl j) = (t, vs, e, i, inl j)
@@ -224,9 +228,9 @@ callee_piece : {av : Class → Bool} (o : Token) (t : Ty) (w : Option Written) �
 callee_piece {av} o t w = recast (is Global) (is_word ∪ is Local) (first (unless_it (is_word ∪ is Local) (token Global) refl refl) (λ f. first (token OpenRound) (λ p. first (listed_by behind_argument (behind_argument ∪ is Comma) CloseRound refl refl refl refl refl (argument_piece refl)) (λ all. give_it)))) refl refl
 
 dropped_callee_item : {av : Class → Bool} → Item dropped_callee_at dropped_callee (is DroppedGlobal) av
-dropped_callee_item {av} = item_first (is DroppedGlobal) DroppedGlobal refl (λ f. first (token OpenRound) (λ p. skip_piece 63 CloseRound refl))
+dropped_callee_item {av} = item_first (is DroppedGlobal) DroppedGlobal refl (λ f. first (token OpenRound) (λ p. skip_piece INNER_NESTING_LIMIT CloseRound refl))
 
 pub call_item : {av : Class → Bool} → Item call_at call_head (is Call ∪ is TailWord) av
 unfolding call_at
-call_item {av} = item_then {av = none} call_word_item (λ o. next attributes_piece (λ u. first (type_piece 64) (λ t. next {av = is OpenRound} (or_else (item_then {av = none} written_row (λ w. give_it) refl refl) give_it refl refl)
+call_item {av} = item_then {av = none} call_word_item (λ o. next attributes_piece (λ u. first (type_piece NESTING_LIMIT) (λ t. next {av = is OpenRound} (or_else (item_then {av = none} written_row (λ w. give_it) refl refl) give_it refl refl)
     (λ w. or_else (item_then {av = none} dropped_callee_item (λ u. give_it) refl (within_none av)) (first (callee_piece o t w) (λ c. give_it)) refl refl) refl refl)) refl refl) refl refl

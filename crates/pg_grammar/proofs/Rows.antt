@@ -1,5 +1,6 @@
 -- Each reading function reads its row of the grammar.
 use Rattle.std.proofs.Common.{◌≡◌, ℕ, zero, suc, List, [], ◌∷◌, Some, inr, IsTrue, Bool, true, false, refl}
+use Rattle.pg_grammar.specs.declared.nesting.TheConstants.{INNER_NESTING_LIMIT}
 use Rattle.pg_grammar.specs.declared.token.Token.{Token}
 use Rattle.pg_grammar.specs.declared.class.Class.{Class}
 use Rattle.pg_grammar.specs.declared.class.Class.TheVariants.{I1, I8, I16, I32, I64, Ptr, Void, X, To, Flag, OtherWord, Refused, True, False, Null, Undef, Poison, ZeroInitializer, GetElementPtr, IntToPtr, Int, Str, CStr, Local, Global, Meta, Attr, Comma, Equals, OpenRound, CloseRound, OpenBrace, CloseBrace, OpenSquare, CloseSquare}
@@ -135,7 +136,7 @@ behind_attribute = is Int ∪ (is OpenRound ∪ is Equals)
 
 pub attribute_item : Item attribute_at attribute begins_attribute behind_attribute
 unfolding attribute_at
-attribute_item = item_or (item_first attribute_word OtherWord refl (λ t. case Int (λ n. give_it) (case OpenRound (λ o. skip_piece 63 CloseRound refl) give_it refl refl) refl refl))
+attribute_item = item_or (item_first attribute_word OtherWord refl (λ t. case Int (λ n. give_it) (case OpenRound (λ o. skip_piece INNER_NESTING_LIMIT CloseRound refl) give_it refl refl) refl refl))
     (item_or (item_first attribute_name Attr refl (λ t. give_it)) (item_case Str (λ t. case Equals (λ e. first (token Str) (λ u. give_it)) give_it refl refl) (item_first metadata_name Meta refl (λ t. first {aw = behind_attribute} (token_of metadata_name Meta refl) (λ u. give_it))) refl) refl) refl
 
 -- what never comes after attributes

@@ -1,5 +1,7 @@
 -- The alternatives of a value, and the type void.
 use Rattle.std.proofs.Common.{◌≡◌, ℕ, suc, List, [], ◌∷◌, Option, inl, inr, ◌⊎◌, Bool, true, IsTrue, refl, sym, subst}
+use Rattle.pg_num.specs.declared.limits.TheConstants.{NESTING_LIMIT}
+use Rattle.pg_grammar.specs.declared.nesting.TheConstants.{INNER_NESTING_LIMIT}
 use Rattle.pg_grammar.specs.declared.token.Token.{Token}
 use Rattle.pg_grammar.specs.declared.class.Class.{Class}
 use Rattle.pg_grammar.specs.declared.class.Class.TheVariants.{I1, I8, I16, I32, I64, Ptr, Void, Local, OpenSquare, OpenBrace, IntToPtr, GetElementPtr}
@@ -34,12 +36,12 @@ void_only d m X t ws i (inl (inr (inr (inr (inr (inr (inr (inr (inr (inl (u, vs,
 void_only d m X t ws i (inl (inr (inr (inr (inr (inr (inr (inr (inr (inr (u, vs, e, k, j))))))))))) = absurd (differ (is Void) (is Local) refl t u ws vs e i k)
 void_only d m X t ws i (inr (k, u, e, j)) = absurd (differ (is Void) no_type refl t u ws [] e i j)
 
-pub certain_is_value : (m : Option Fault) (L : Val → Lang) (us : List Token) → certain_value m L us → value_in 64 m L us
+pub certain_is_value : (m : Option Fault) (L : Val → Lang) (us : List Token) → certain_value m L us → value_in NESTING_LIMIT m L us
 unfolding other_value_in
 certain_is_value m L us (inl j) = inl j
 certain_is_value m L us (inr j) = inr (inr (inr (inr j)))
 
-pub local_is_value : (m : Option Fault) (L : Val → Lang) (us : List Token) → (one (is Local)) m (λ t. L (syntax.Local (name_of t))) us → value_in 64 m L us
+pub local_is_value : (m : Option Fault) (L : Val → Lang) (us : List Token) → (one (is Local)) m (λ t. L (syntax.Local (name_of t))) us → value_in NESTING_LIMIT m L us
 unfolding other_value_in
 local_is_value m L us j = inr (inr (inr (inl j)))
 
@@ -47,23 +49,23 @@ abbrev pub gep_value : Gram Val
 gep_value = do
   t ← one (is GetElementPtr)
   _ ← flags
-  gep_tail 63 (value_in 63) t
+  gep_tail INNER_NESTING_LIMIT (value_in INNER_NESTING_LIMIT) t
 
-pub gep_is_value : (m : Option Fault) (L : Val → Lang) (us : List Token) → gep_value m L us → value_in 64 m L us
+pub gep_is_value : (m : Option Fault) (L : Val → Lang) (us : List Token) → gep_value m L us → value_in NESTING_LIMIT m L us
 unfolding other_value_in
 gep_is_value m L us j = inr (inl j)
 
 abbrev pub int_to_ptr_value : Gram Val
 int_to_ptr_value = do
   t ← one (is IntToPtr)
-  int_to_ptr_tail 63 t
+  int_to_ptr_tail INNER_NESTING_LIMIT t
 
-pub int_to_ptr_is_value : (m : Option Fault) (L : Val → Lang) (us : List Token) → int_to_ptr_value m L us → value_in 64 m L us
+pub int_to_ptr_is_value : (m : Option Fault) (L : Val → Lang) (us : List Token) → int_to_ptr_value m L us → value_in NESTING_LIMIT m L us
 unfolding other_value_in
 int_to_ptr_is_value m L us j = inr (inr (inl j))
 
 -- each value is one of these
-pub value_cases : (m : Option Fault) (L : Val → Lang) (us : List Token) → value_in 64 m L us
+pub value_cases : (m : Option Fault) (L : Val → Lang) (us : List Token) → value_in NESTING_LIMIT m L us
     → certain_value m L us ⊎ ((one (is Local)) m (λ t. L (syntax.Local (name_of t))) us ⊎ (gep_value m L us ⊎ int_to_ptr_value m L us))
 unfolding other_value_in
 value_cases m L us (inl j) = inl (inl j)

@@ -1,5 +1,6 @@
 -- The grammar of program texts.
 use Rattle.std.specs.Prelude.{ℕ, zero, suc, List, [], ◌∷◌, Bool, true, false, ◌&&◌, ◌||◌, not}
+use Rattle.pg_num.specs.declared.limits.TheConstants.{NESTING_LIMIT}
 use Rattle.pg_grammar.specs.declared.class.Class.{Class}
 use Rattle.pg_grammar.specs.declared.class.Class.TheVariants.{I1, I8, I16, I32, I64, Ptr, Void, X, To, Align, Volatile}
 use Rattle.pg_grammar.specs.declared.class.Class.TheVariants.{Flag, Eq, Ne, Ugt, Uge, Ult, Ule, Sgt, Sge, Slt, Sle}
@@ -9,6 +10,7 @@ use Rattle.pg_grammar.specs.declared.class.Class.TheVariants.{IntToPtr, Int, Str
 use Rattle.pg_grammar.specs.declared.class.Class.TheVariants.{Meta, Bang, Attr, DebugAttr, Less, Comma, Equals}
 use Rattle.pg_grammar.specs.declared.class.Class.TheVariants.{OpenRound, CloseRound, OpenBrace, CloseBrace, OpenSquare}
 use Rattle.pg_grammar.specs.declared.class.Class.TheVariants.{CloseSquare}
+use Rattle.pg_grammar.specs.declared.nesting.TheConstants.{INNER_NESTING_LIMIT}
 use Rattle.pg_grammar.specs.declared.token.Token.{Token}
 use Rattle.pg_grammar.specs.declared.token.Fault.TheVariants.{Unsupported, TooDeep}
 use Rattle.pg_grammar.specs.Classes.{is, is_word, ◌∪◌}
@@ -160,7 +162,7 @@ attribute = (do
   _ ← one attribute_word
   (drop_value (one (is Int))) or ((do
     _ ← one (is OpenRound)
-    skip_to 63 CloseRound) or give tt)) or (drop_value (one attribute_name) or ((do
+    skip_to INNER_NESTING_LIMIT CloseRound) or give tt)) or (drop_value (one attribute_name) or ((do
       _ ← one (is Str)
       (do
         _ ← one (is Equals)
@@ -292,7 +294,7 @@ const_in (suc d) = array_const_of d (const_in d) or (struct_const_of d (const_in
 -- type attrs val
 abbrev pub argument : Gram Typed
 argument = do
-  t ← type_in 64
+  t ← type_in NESTING_LIMIT
   _ ← attributes
-  v ← value_in 64
+  v ← value_in NESTING_LIMIT
   give (record { ty = t; value = v })

@@ -1,11 +1,13 @@
 -- The grammar of lines, functions and items, and of a whole program text.
 use Rattle.std.specs.Prelude.{List, [], ◌∷◌, Option, Some, None, Bool, true, false, ◌&&◌, ◌||◌, not, if◌then◌else◌}
+use Rattle.pg_num.specs.declared.limits.TheConstants.{NESTING_LIMIT}
 use Rattle.pg_grammar.specs.declared.class.Class.{Class}
 use Rattle.pg_grammar.specs.declared.class.Class.TheVariants.{MetadataWord, TypeWord, Distinct, GlobalWord}
 use Rattle.pg_grammar.specs.declared.class.Class.TheVariants.{ConstantWord, SourceFilename, Target, Declare, Define}
 use Rattle.pg_grammar.specs.declared.class.Class.TheVariants.{Attributes, Label, Dots, Str, Local, Meta, Bang}
 use Rattle.pg_grammar.specs.declared.class.Class.TheVariants.{DebugAttr, Comma, Equals, OpenRound, CloseRound}
 use Rattle.pg_grammar.specs.declared.class.Class.TheVariants.{OpenBrace, CloseBrace}
+use Rattle.pg_grammar.specs.declared.nesting.TheConstants.{INNER_NESTING_LIMIT}
 use Rattle.pg_grammar.specs.declared.token.Fault.TheVariants.{Unsupported}
 use Rattle.pg_grammar.specs.Classes.{is, is_word, ◌∪◌}
 use Rattle.pg_grammar.specs.Language.{Gram, give, one, refused, ◌or◌, ◌>>=◌, many}
@@ -55,7 +57,7 @@ abbrev pub debug_line : Gram Part
 debug_line = do
   _ ← one (is DebugAttr)
   _ ← one (is OpenRound)
-  _ ← skip_to 63 CloseRound
+  _ ← skip_to INNER_NESTING_LIMIT CloseRound
   give DroppedPart
 
 abbrev pub part : Gram Part
@@ -115,7 +117,7 @@ body = do
 -- type attrs [Local]
 abbrev pub param : Gram Param
 param = do
-  t ← type_in 64
+  t ← type_in NESTING_LIMIT
   _ ← attributes
   name ← (do
     n ← one (is Local)
@@ -160,7 +162,7 @@ type_item = do
   n ← one (is Local)
   _ ← one (is Equals)
   _ ← one (is TypeWord)
-  t ← type_in 64
+  t ← type_in NESTING_LIMIT
   give (TypeItem (record { name = name_of n; ty = t }))
 
 -- global | constant
@@ -178,8 +180,8 @@ global_item = do
   _ ← one (is Equals)
   _ ← attributes
   c ← constancy
-  t ← type_in 64
-  v ← const_in 64
+  t ← type_in NESTING_LIMIT
+  v ← const_in NESTING_LIMIT
   _ ← drop_value (many (do
     _ ← one (is Comma)
     attributes))
@@ -190,7 +192,7 @@ abbrev pub declare_item : Gram Item
 declare_item = do
   _ ← one (is Declare)
   _ ← attributes
-  t ← type_in 64
+  t ← type_in NESTING_LIMIT
   n ← one global_name
   _ ← one (is OpenRound)
   ps ← listed CloseRound dparam
@@ -202,7 +204,7 @@ abbrev pub define_item : Gram Item
 define_item = do
   _ ← one (is Define)
   _ ← attributes
-  t ← type_in 64
+  t ← type_in NESTING_LIMIT
   n ← one global_name
   _ ← one (is OpenRound)
   ps ← listed CloseRound (param or refused Unsupported (is Dots))
@@ -217,7 +219,7 @@ attributes_item = do
   _ ← one attribute_name
   _ ← one (is Equals)
   _ ← one (is OpenBrace)
-  _ ← skip_to 63 CloseBrace
+  _ ← skip_to INNER_NESTING_LIMIT CloseBrace
   give OtherItem
 
 -- ! { skip } | Meta ( skip )
@@ -225,13 +227,13 @@ abbrev pub node : Gram (Unit {0})
 node = (do
   _ ← one (is Meta)
   _ ← one (is OpenRound)
-  skip_to 63 CloseRound) or (do
+  skip_to INNER_NESTING_LIMIT CloseRound) or (do
     _ ← one (is Bang)
     (do
       _ ← one (is OpenBrace)
-      skip_to 63 CloseBrace) or (do
+      skip_to INNER_NESTING_LIMIT CloseBrace) or (do
         _ ← one (is OpenRound)
-        skip_to 63 CloseRound))
+        skip_to INNER_NESTING_LIMIT CloseRound))
 
 -- Meta = [distinct] (! { skip } | Meta ( skip )), where ! alone is a Meta, too
 abbrev pub metadata_item : Gram Item

@@ -1,5 +1,6 @@
 -- The grammar of operations.
 use Rattle.std.specs.Prelude.{[], Option, Some, None, Bool, true, false, ◌&&◌, not}
+use Rattle.pg_num.specs.declared.limits.TheConstants.{NESTING_LIMIT}
 use Rattle.pg_grammar.specs.declared.class.Class.{Class}
 use Rattle.pg_grammar.specs.declared.class.Class.TheVariants.{Void, LabelWord, To, Align, Volatile, Eq, Ne, Ugt, Uge}
 use Rattle.pg_grammar.specs.declared.class.Class.TheVariants.{Ult, Ule, Sgt, Sge, Slt, Sle, Add, Sub, Mul, Udiv, Sdiv}
@@ -8,6 +9,7 @@ use Rattle.pg_grammar.specs.declared.class.Class.TheVariants.{Zext, Sext, PtrToI
 use Rattle.pg_grammar.specs.declared.class.Class.TheVariants.{TailWord, Call, Ret, Unreachable, Alloca, Load, Store}
 use Rattle.pg_grammar.specs.declared.class.Class.TheVariants.{GetElementPtr, Int, Dots, Local, Global, DroppedGlobal}
 use Rattle.pg_grammar.specs.declared.class.Class.TheVariants.{Comma, OpenRound, CloseRound, OpenSquare, CloseSquare}
+use Rattle.pg_grammar.specs.declared.nesting.TheConstants.{INNER_NESTING_LIMIT}
 use Rattle.pg_grammar.specs.declared.token.Token.{Token}
 use Rattle.pg_grammar.specs.declared.token.Fault.TheVariants.{Unsupported}
 use Rattle.pg_grammar.specs.Classes.{is, is_word, ◌∪◌}
@@ -25,7 +27,7 @@ use Rattle.pg_ast.specs.declared.ops.CastOp.TheVariants as casts
 
 -- type val
 abbrev pub typed_value : Gram Typed
-typed_value = typed_in 64 (value_in 64)
+typed_value = typed_in NESTING_LIMIT (value_in NESTING_LIMIT)
 
 -- label Local
 abbrev pub target : Gram Name
@@ -60,10 +62,10 @@ abbrev pub binary : Gram Op
 binary = do
   o ← one binary_word
   _ ← flags
-  t ← type_in 64
-  a ← value_in 64
+  t ← type_in NESTING_LIMIT
+  a ← value_in NESTING_LIMIT
   _ ← one (is Comma)
-  b ← value_in 64
+  b ← value_in NESTING_LIMIT
   give (syntax.Binary o.span (binary_of o.class) t a b)
 
 abbrev pub predicate_word : Class → Bool
@@ -88,10 +90,10 @@ icmp = do
   o ← one (is Icmp)
   _ ← flags
   p ← one predicate_word
-  t ← type_in 64
-  a ← value_in 64
+  t ← type_in NESTING_LIMIT
+  a ← value_in NESTING_LIMIT
   _ ← one (is Comma)
-  b ← value_in 64
+  b ← value_in NESTING_LIMIT
   give (syntax.Icmp o.span (predicate_of p.class) t a b)
 
 abbrev pub cast_word : Class → Bool
@@ -112,7 +114,7 @@ cast = do
   _ ← flags
   v ← typed_value
   _ ← one (is To)
-  t ← type_in 64
+  t ← type_in NESTING_LIMIT
   give (syntax.Cast o.span (cast_of o.class) v t)
 
 -- select type val , type val , type val
@@ -132,7 +134,7 @@ select = do
 abbrev pub incoming : Gram Incoming
 incoming = do
   _ ← one (is OpenSquare)
-  v ← value_in 64
+  v ← value_in NESTING_LIMIT
   _ ← one (is Comma)
   b ← one (is Local)
   _ ← one (is CloseSquare)
@@ -142,7 +144,7 @@ incoming = do
 abbrev pub phi : Gram Op
 phi = do
   o ← one (is Phi)
-  t ← type_in 64
+  t ← type_in NESTING_LIMIT
   i ← incoming
   more ← many (do
     _ ← one (is Comma)
@@ -211,7 +213,7 @@ alignment = (do
 abbrev pub count : Gram (Option Count)
 count = (do
   _ ← one (is Comma)
-  t ← type_in 64
+  t ← type_in NESTING_LIMIT
   n ← one (is Int) or refused Unsupported (is Local)
   give (Some (record { ty = t; count = literal_of n }))) or give None
 
@@ -219,7 +221,7 @@ count = (do
 abbrev pub alloca : Gram Op
 alloca = do
   o ← one (is Alloca)
-  t ← type_in 64
+  t ← type_in NESTING_LIMIT
   n ← count
   _ ← alignment
   give (syntax.Alloca o.span t n)
@@ -232,7 +234,7 @@ abbrev pub load : Gram Op
 load = do
   o ← one (is Load)
   _ ← volatile
-  t ← type_in 64
+  t ← type_in NESTING_LIMIT
   _ ← one (is Comma)
   p ← typed_value
   _ ← alignment
@@ -254,7 +256,7 @@ abbrev pub gep : Gram Op
 gep = do
   o ← one (is GetElementPtr)
   _ ← flags
-  t ← type_in 64
+  t ← type_in NESTING_LIMIT
   _ ← one (is Comma)
   p ← typed_value
   more ← many (do
@@ -271,7 +273,7 @@ written = do
   w ← (do
     _ ← one (is Dots)
     give (record { types = []; dots = true })) or (do
-      types ← separated (type_in 64) or give []
+      types ← separated (type_in NESTING_LIMIT) or give []
       dots ← (do
         _ ← one (is Comma)
         _ ← one (is Dots)
@@ -300,14 +302,14 @@ abbrev pub dropped_callee : Gram (Unit {0})
 dropped_callee = do
   _ ← one (is DroppedGlobal)
   _ ← one (is OpenRound)
-  skip_to 63 CloseRound
+  skip_to INNER_NESTING_LIMIT CloseRound
 
 -- [tail|musttail|notail] call attrs type [written] Global ( [arg (, arg)*] ) attrs, with no operation where it is dropped
 abbrev pub call : Gram (Option Op)
 call = do
   o ← call_word
   _ ← attributes
-  t ← type_in 64
+  t ← type_in NESTING_LIMIT
   w ← (do
     w ← written
     give (Some w)) or give None

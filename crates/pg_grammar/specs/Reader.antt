@@ -1,11 +1,13 @@
 -- The reading of the grammar, token by token.
 use Rattle.std.specs.Prelude.{ℕ, zero, suc, List, [], ◌∷◌, Bool, length}
+use Rattle.pg_num.specs.declared.limits.TheConstants.{NESTING_LIMIT}
 use Rattle.pg_grammar.specs.declared.class.Class.{Class}
 use Rattle.pg_grammar.specs.declared.class.Class.TheVariants.{I1, I8, I16, I32, I64, Ptr, Void, X, To, Flag, Refused}
 use Rattle.pg_grammar.specs.declared.class.Class.TheVariants.{True, False, Null, Undef, Poison, ZeroInitializer}
 use Rattle.pg_grammar.specs.declared.class.Class.TheVariants.{GetElementPtr, IntToPtr, Int, Str, CStr, Local, Comma}
 use Rattle.pg_grammar.specs.declared.class.Class.TheVariants.{Equals, OpenRound, CloseRound, OpenBrace, CloseBrace}
 use Rattle.pg_grammar.specs.declared.class.Class.TheVariants.{OpenSquare, CloseSquare}
+use Rattle.pg_grammar.specs.declared.nesting.TheConstants.{INNER_NESTING_LIMIT}
 use Rattle.pg_grammar.specs.declared.token.Token.{Token}
 use Rattle.pg_grammar.specs.declared.token.Fault.TheVariants.{Unsupported, TooDeep}
 use Rattle.pg_grammar.specs.Classes.{is, ◌∪◌}
@@ -175,7 +177,7 @@ begins_attribute = attribute_word ∪ (attribute_name ∪ (is Str ∪ metadata_n
 
 unfoldable pub attribute_at : List Token → Read (Unit {0})
 attribute_at = choose attribute_word (λ ts. take_one attribute_word ts >>= λ _. choose (is Int) (drop_value_at (take_one (is Int)))
-    (choose (is OpenRound) (λ ts. take_one (is OpenRound) ts >>= λ _. skip_at 63 CloseRound) (Good tt)))
+    (choose (is OpenRound) (λ ts. take_one (is OpenRound) ts >>= λ _. skip_at INNER_NESTING_LIMIT CloseRound) (Good tt)))
     (choose attribute_name (drop_value_at (take_one attribute_name))
     (choose (is Str) (λ ts. take_one (is Str) ts >>= λ _. choose (is Equals) (λ ts. take_one (is Equals) ts >>= λ _. drop_value_at (take_one (is Str))) (Good tt))
     (λ ts. take_one metadata_name ts >>= λ _. drop_value_at (take_one metadata_name))))
@@ -204,7 +206,7 @@ fresh_at = choose attribute_word (λ ts. take_one attribute_word ts >>= λ _. Go
 unfoldable pub pending_at : Pending → List Token → Read Pending
 pending_at Fresh = fresh_at
 pending_at Bare = choose (is Int) (λ ts. take_one (is Int) ts >>= λ n. Good (Held n))
-    (choose (is OpenRound) (λ ts. take_one (is OpenRound) ts >>= λ _ ts. skip_at 63 CloseRound ts >>= λ _. Good Fresh) fresh_at)
+    (choose (is OpenRound) (λ ts. take_one (is OpenRound) ts >>= λ _ ts. skip_at INNER_NESTING_LIMIT CloseRound ts >>= λ _. Good Fresh) fresh_at)
 pending_at Quoted = choose (is Equals) (λ ts. take_one (is Equals) ts >>= λ _ ts. take_one (is Str) ts >>= λ _. Good Fresh) fresh_at
 pending_at (Held n) = fresh_at
 
@@ -219,13 +221,13 @@ begins_pending (Held n) = begins_fresh
 
 -- the value, where no attribute goes on
 unfoldable pub settled_at : Pending → List Token → Read Val
-settled_at Fresh = unless Unsupported (is Refused) (value_at 64)
-settled_at Bare = unless Unsupported (is Refused) (other_value_at 64)
-settled_at Quoted = unless Unsupported (is Refused) (value_at 64)
-settled_at (Held n) = unless Unsupported (is Refused) (choose begins_value (value_at 64) (λ ts. Good (syntax.Int (literal_of n)) ts))
+settled_at Fresh = unless Unsupported (is Refused) (value_at NESTING_LIMIT)
+settled_at Bare = unless Unsupported (is Refused) (other_value_at NESTING_LIMIT)
+settled_at Quoted = unless Unsupported (is Refused) (value_at NESTING_LIMIT)
+settled_at (Held n) = unless Unsupported (is Refused) (choose begins_value (value_at NESTING_LIMIT) (λ ts. Good (syntax.Int (literal_of n)) ts))
 
 unfoldable pub attributed_at : List Token → Read Val
 attributed_at ts = run begins_pending pending_at settled_at (length ts) Fresh ts
 
 abbrev pub argument_at : List Token → Read Typed
-argument_at ts = type_at 64 ts >>= λ t ts. attributed_at ts >>= λ v. Good (record { ty = t; value = v })
+argument_at ts = type_at NESTING_LIMIT ts >>= λ t ts. attributed_at ts >>= λ v. Good (record { ty = t; value = v })

@@ -1,5 +1,6 @@
 -- The reading of bodies and items.
 use Rattle.std.specs.Prelude.{List, [], ◌∷◌, ◌++◌, Option, Some, None, Bool, true, false, ◌||◌, length, if◌then◌else◌}
+use Rattle.pg_num.specs.declared.limits.TheConstants.{NESTING_LIMIT}
 use Rattle.pg_grammar.specs.declared.class.Class.{Class}
 use Rattle.pg_grammar.specs.declared.class.Class.TheVariants.{MetadataWord, Void, TypeWord, Distinct, GlobalWord}
 use Rattle.pg_grammar.specs.declared.class.Class.TheVariants.{ConstantWord, SourceFilename, Target, Declare, Define}
@@ -7,6 +8,7 @@ use Rattle.pg_grammar.specs.declared.class.Class.TheVariants.{Attributes, IntToP
 use Rattle.pg_grammar.specs.declared.class.Class.TheVariants.{Label, Int, Dots, Str, Local, Meta, Bang, DebugAttr}
 use Rattle.pg_grammar.specs.declared.class.Class.TheVariants.{Comma, Equals, OpenRound, CloseRound, OpenBrace}
 use Rattle.pg_grammar.specs.declared.class.Class.TheVariants.{CloseBrace}
+use Rattle.pg_grammar.specs.declared.nesting.TheConstants.{INNER_NESTING_LIMIT}
 use Rattle.pg_grammar.specs.declared.token.Token.{Token}
 use Rattle.pg_grammar.specs.declared.token.Fault.TheVariants.{Unsupported}
 use Rattle.pg_grammar.specs.Classes.{is, is_word, ◌∪◌}
@@ -104,7 +106,7 @@ op_at bs name = choose begins_call (λ ts. call_at ts >>= λ c. called_at (add_p
 abbrev pub debug_tail_at : List Block → List Token → Read Body
 debug_tail_at bs ts =
     take_one (is OpenRound) ts >>= λ _ ts.
-    skip_at 63 CloseRound ts >>= λ _.
+    skip_at INNER_NESTING_LIMIT CloseRound ts >>= λ _.
     Good (complete (add_part bs DroppedPart))
 
 -- = op, behind the name
@@ -138,9 +140,10 @@ behind_void_at bs name o void =
     choose (is Local) (λ ts. take_one (is Local) ts >>= λ t. choose (is Equals)
     (named_tail_at (add_line bs name (syntax.RetVoid o void)) (name_of t))
     (void_value_at bs name o void (Good (syntax.Local (name_of t)))))
-    (choose (is GetElementPtr) (λ ts. take_one (is GetElementPtr) ts >>= λ t ts. flags_at ts >>= λ _. choose (is OpenRound) (void_value_at bs name o void (gep_tail_at 63 (value_at 63) t))
+    (choose (is GetElementPtr) (λ ts. take_one (is GetElementPtr) ts >>= λ t ts. flags_at ts >>= λ _. choose (is OpenRound)
+    (void_value_at bs name o void (gep_tail_at INNER_NESTING_LIMIT (value_at INNER_NESTING_LIMIT) t))
     (λ ts. gep_op_tail_at t ts >>= λ p. Good (complete (add_line (add_line bs name (syntax.RetVoid o void)) None p))))
-    (choose (is IntToPtr) (λ ts. take_one (is IntToPtr) ts >>= λ t. choose (is OpenRound) (void_value_at bs name o void (int_to_ptr_tail_at 63 t))
+    (choose (is IntToPtr) (λ ts. take_one (is IntToPtr) ts >>= λ t. choose (is OpenRound) (void_value_at bs name o void (int_to_ptr_tail_at INNER_NESTING_LIMIT t))
     (λ ts. cast_tail_at t ts >>= λ p ts. metadata_at ts >>= λ _. Good (complete (add_line (add_line bs name (syntax.RetVoid o void)) None p))))
     (part_at (add_line bs name (syntax.RetVoid o void)))))
 
@@ -177,7 +180,7 @@ body_at ts = take_one (is OpenBrace) ts >>= λ _ ts. run begins_next next_part_a
 
 unfoldable pub param_at : List Token → Read Param
 param_at ts =
-    type_at 64 ts >>= λ t ts.
+    type_at NESTING_LIMIT ts >>= λ t ts.
     attributes_at ts >>= λ _ ts.
     choose (is Local) (λ ts. take_one (is Local) ts >>= λ n. Good (Some (name_of n))) (Good None) ts >>= λ name.
     Good (record { ty = t; name = name })
@@ -216,10 +219,10 @@ add_item t OtherItem = t
 
 abbrev pub node_at : List Token → Read (Unit {0})
 node_at =
-    choose (is Meta) (λ ts. take_one (is Meta) ts >>= λ _ ts. take_one (is OpenRound) ts >>= λ _. skip_at 63 CloseRound)
+    choose (is Meta) (λ ts. take_one (is Meta) ts >>= λ _ ts. take_one (is OpenRound) ts >>= λ _. skip_at INNER_NESTING_LIMIT CloseRound)
     (λ ts. take_one (is Bang) ts >>= λ _. choose (is OpenBrace)
-    (λ ts. take_one (is OpenBrace) ts >>= λ _. skip_at 63 CloseBrace)
-    (λ ts. take_one (is OpenRound) ts >>= λ _. skip_at 63 CloseRound))
+    (λ ts. take_one (is OpenBrace) ts >>= λ _. skip_at INNER_NESTING_LIMIT CloseBrace)
+    (λ ts. take_one (is OpenRound) ts >>= λ _. skip_at INNER_NESTING_LIMIT CloseRound))
 
 -- = [distinct] (! { skip } | Meta ( skip )), behind a Meta
 unfoldable pub metadata_item_tail_at : List Token → Read (Unit {0})
@@ -238,8 +241,8 @@ global_item_at ts =
     take_one (is Equals) ts >>= λ _ ts.
     attributes_at ts >>= λ _ ts.
     constancy_at ts >>= λ c ts.
-    type_at 64 ts >>= λ t ts.
-    const_at 64 ts >>= λ v.
+    type_at NESTING_LIMIT ts >>= λ t ts.
+    const_at NESTING_LIMIT ts >>= λ v.
     Good (record { name = name_of n; is_constant = c; ty = t; value = v })
 
 -- a declare without the attributes behind its parameters
@@ -247,7 +250,7 @@ unfoldable pub declare_item_at : List Token → Read Declaration
 declare_item_at ts =
     take_one (is Declare) ts >>= λ _ ts.
     attributes_at ts >>= λ _ ts.
-    type_at 64 ts >>= λ t ts.
+    type_at NESTING_LIMIT ts >>= λ t ts.
     take_one global_name ts >>= λ n ts.
     take_one (is OpenRound) ts >>= λ _ ts.
     listed_at CloseRound dparam_at ts >>= λ ps.
@@ -257,7 +260,7 @@ unfoldable pub define_item_at : List Token → Read Definition
 define_item_at ts =
     take_one (is Define) ts >>= λ _ ts.
     attributes_at ts >>= λ _ ts.
-    type_at 64 ts >>= λ t ts.
+    type_at NESTING_LIMIT ts >>= λ t ts.
     take_one global_name ts >>= λ n ts.
     take_one (is OpenRound) ts >>= λ _ ts.
     listed_at CloseRound defined_param_at ts >>= λ ps ts.
@@ -270,7 +273,7 @@ type_item_at ts =
     take_one (is Local) ts >>= λ n ts.
     take_one (is Equals) ts >>= λ _ ts.
     take_one (is TypeWord) ts >>= λ _ ts.
-    type_at 64 ts >>= λ t.
+    type_at NESTING_LIMIT ts >>= λ t.
     Good (record { name = name_of n; ty = t })
 
 unfoldable pub attributes_item_at : List Token → Read (Unit {0})
@@ -279,7 +282,7 @@ attributes_item_at ts =
     take_one attribute_name ts >>= λ _ ts.
     take_one (is Equals) ts >>= λ _ ts.
     take_one (is OpenBrace) ts >>= λ _.
-    skip_at 63 CloseBrace
+    skip_at INNER_NESTING_LIMIT CloseBrace
 
 unfoldable pub text_item_at : List Token → Read (Unit {0})
 text_item_at = choose (is SourceFilename) (λ ts. take_one (is SourceFilename) ts >>= λ _ ts. take_one (is Equals) ts >>= λ _. drop_value_at (take_one (is Str)))

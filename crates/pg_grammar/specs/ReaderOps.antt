@@ -1,10 +1,12 @@
 -- The reading of operations. What stands behind the last operand, (, Meta Meta)*, is read with them.
 use Rattle.std.specs.Prelude.{List, [], ◌∷◌, ◌++◌, Option, Some, None, Bool, true, false, length}
+use Rattle.pg_num.specs.declared.limits.TheConstants.{NESTING_LIMIT}
 use Rattle.pg_grammar.specs.declared.class.Class.{Class}
 use Rattle.pg_grammar.specs.declared.class.Class.TheVariants.{LabelWord, To, Align, Volatile, Icmp, Select, Phi, Br}
 use Rattle.pg_grammar.specs.declared.class.Class.TheVariants.{Switch, TailWord, Call, Unreachable, Alloca, Load, Store}
 use Rattle.pg_grammar.specs.declared.class.Class.TheVariants.{GetElementPtr, Int, Dots, Local, Global, DroppedGlobal}
 use Rattle.pg_grammar.specs.declared.class.Class.TheVariants.{Comma, OpenRound, CloseRound, OpenSquare, CloseSquare}
+use Rattle.pg_grammar.specs.declared.nesting.TheConstants.{INNER_NESTING_LIMIT}
 use Rattle.pg_grammar.specs.declared.token.Token.{Token}
 use Rattle.pg_grammar.specs.declared.token.Fault.TheVariants.{Unsupported}
 use Rattle.pg_grammar.specs.Classes.{is, is_word, ◌∪◌}
@@ -17,7 +19,7 @@ use Rattle.pg_ast.specs.Syntax as syntax
 use Rattle.pg_ast.specs.declared.names.Name.{Name}
 
 abbrev pub typed_value_at : List Token → Read Typed
-typed_value_at = typed_in_at 64 (value_at 64)
+typed_value_at = typed_in_at NESTING_LIMIT (value_at NESTING_LIMIT)
 
 abbrev pub target_at : List Token → Read Name
 target_at ts = take_one (is LabelWord) ts >>= λ _ ts. take_one (is Local) ts >>= λ t. Good (name_of t)
@@ -77,10 +79,10 @@ abbrev pub binary_at : List Token → Read Op
 binary_at ts =
     take_one binary_word ts >>= λ o ts.
     flags_at ts >>= λ _ ts.
-    type_at 64 ts >>= λ t ts.
-    value_at 64 ts >>= λ a ts.
+    type_at NESTING_LIMIT ts >>= λ t ts.
+    value_at NESTING_LIMIT ts >>= λ a ts.
     take_one (is Comma) ts >>= λ _ ts.
-    value_at 64 ts >>= λ b.
+    value_at NESTING_LIMIT ts >>= λ b.
     Good (syntax.Binary o.span (binary_of o.class) t a b)
 
 abbrev pub icmp_at : List Token → Read Op
@@ -88,10 +90,10 @@ icmp_at ts =
     take_one (is Icmp) ts >>= λ o ts.
     flags_at ts >>= λ _ ts.
     take_one predicate_word ts >>= λ p ts.
-    type_at 64 ts >>= λ t ts.
-    value_at 64 ts >>= λ a ts.
+    type_at NESTING_LIMIT ts >>= λ t ts.
+    value_at NESTING_LIMIT ts >>= λ a ts.
     take_one (is Comma) ts >>= λ _ ts.
-    value_at 64 ts >>= λ b.
+    value_at NESTING_LIMIT ts >>= λ b.
     Good (syntax.Icmp o.span (predicate_of p.class) t a b)
 
 -- behind the first token of a conversion
@@ -100,7 +102,7 @@ cast_tail_at o ts =
     flags_at ts >>= λ _ ts.
     typed_value_at ts >>= λ v ts.
     take_one (is To) ts >>= λ _ ts.
-    type_at 64 ts >>= λ t.
+    type_at NESTING_LIMIT ts >>= λ t.
     Good (syntax.Cast o.span (cast_of o.class) v t)
 
 abbrev pub cast_at : List Token → Read Op
@@ -121,7 +123,7 @@ select_at ts =
 abbrev pub incoming_at : List Token → Read Incoming
 incoming_at ts =
     take_one (is OpenSquare) ts >>= λ _ ts.
-    value_at 64 ts >>= λ v ts.
+    value_at NESTING_LIMIT ts >>= λ v ts.
     take_one (is Comma) ts >>= λ _ ts.
     take_one (is Local) ts >>= λ b ts.
     take_one (is CloseSquare) ts >>= λ _.
@@ -130,7 +132,7 @@ incoming_at ts =
 abbrev pub phi_at : List Token → Read Op
 phi_at ts =
     take_one (is Phi) ts >>= λ o ts.
-    type_at 64 ts >>= λ t ts.
+    type_at NESTING_LIMIT ts >>= λ t ts.
     incoming_at ts >>= λ i ts.
     more_at (is OpenSquare) incoming_at metadata_tail_at ts >>= λ more.
     Good (syntax.Phi o.span t i more.items)
@@ -173,13 +175,13 @@ count_at =
     choose (is Comma) (λ ts. take_one (is Comma) ts >>= λ _. choose (is Align)
     (λ ts. take_one (is Align) ts >>= λ _ ts. take_one (is Int) ts >>= λ _ ts. metadata_at ts >>= λ _. Good None)
     (choose metadata_name (λ ts. metadata_tail_at ts >>= λ _. Good None)
-    (λ ts. type_at 64 ts >>= λ t ts. unless Unsupported (is Local) (take_one (is Int)) ts >>= λ n ts. alignment_at ts >>= λ _.
+    (λ ts. type_at NESTING_LIMIT ts >>= λ t ts. unless Unsupported (is Local) (take_one (is Int)) ts >>= λ n ts. alignment_at ts >>= λ _.
     Good (Some (record { ty = t; count = literal_of n }))))) (Good None)
 
 abbrev pub alloca_at : List Token → Read Op
 alloca_at ts =
     take_one (is Alloca) ts >>= λ o ts.
-    type_at 64 ts >>= λ t ts.
+    type_at NESTING_LIMIT ts >>= λ t ts.
     count_at ts >>= λ n.
     Good (syntax.Alloca o.span t n)
 
@@ -190,7 +192,7 @@ abbrev pub load_at : List Token → Read Op
 load_at ts =
     take_one (is Load) ts >>= λ o ts.
     volatile_at ts >>= λ _ ts.
-    type_at 64 ts >>= λ t ts.
+    type_at NESTING_LIMIT ts >>= λ t ts.
     take_one (is Comma) ts >>= λ _ ts.
     typed_value_at ts >>= λ p ts.
     alignment_at ts >>= λ _.
@@ -209,7 +211,7 @@ store_at ts =
 -- behind the first token of a getelementptr and its flags
 abbrev pub gep_op_tail_at : Token → List Token → Read Op
 gep_op_tail_at o ts =
-    type_at 64 ts >>= λ t ts.
+    type_at NESTING_LIMIT ts >>= λ t ts.
     take_one (is Comma) ts >>= λ _ ts.
     typed_value_at ts >>= λ p ts.
     more_at begins_type typed_value_at (unless Unsupported no_type metadata_tail_at) ts >>= λ more.
@@ -225,7 +227,7 @@ written_at ts = take_one (is OpenRound) ts >>= λ _.
     choose (is Dots) (λ ts. take_one (is Dots) ts >>= λ _ ts. take_one (is CloseRound) ts >>= λ _. Good (record { types = []; dots = true }))
     (choose (is Comma) (λ ts. take_one (is Comma) ts >>= λ _ ts. take_one (is Dots) ts >>= λ _ ts. take_one (is CloseRound) ts >>= λ _. Good (record { types = []; dots = true }))
     (choose (is CloseRound) (λ ts. take_one (is CloseRound) ts >>= λ _. Good (record { types = []; dots = false }))
-    (λ ts. type_at 64 ts >>= λ t ts. more_at begins_type (type_at 64) (unless Unsupported no_type (drop_value_at (take_one (is Dots)))) ts >>= λ more ts.
+    (λ ts. type_at NESTING_LIMIT ts >>= λ t ts. more_at begins_type (type_at NESTING_LIMIT) (unless Unsupported no_type (drop_value_at (take_one (is Dots)))) ts >>= λ more ts.
     take_one (is CloseRound) ts >>= λ _. Good (record { types = t ∷ more.items; dots = more.comma }))))
 
 abbrev pub call_word_at : List Token → Read Token
@@ -239,14 +241,14 @@ callee_at o t w ts =
     Good (syntax.Call o.span t w (name_of f) all)
 
 abbrev pub dropped_callee_at : List Token → Read (Unit {0})
-dropped_callee_at ts = take_one (is DroppedGlobal) ts >>= λ _ ts. take_one (is OpenRound) ts >>= λ _. skip_at 63 CloseRound
+dropped_callee_at ts = take_one (is DroppedGlobal) ts >>= λ _ ts. take_one (is OpenRound) ts >>= λ _. skip_at INNER_NESTING_LIMIT CloseRound
 
 -- a call, without the attributes behind its arguments
 unfoldable pub call_at : List Token → Read (Option Op)
 call_at ts =
     call_word_at ts >>= λ o ts.
     attributes_at ts >>= λ _ ts.
-    type_at 64 ts >>= λ t ts.
+    type_at NESTING_LIMIT ts >>= λ t ts.
     choose (is OpenRound) (λ ts. written_at ts >>= λ w. Good (Some w)) (Good None) ts >>= λ w.
     choose (is DroppedGlobal) (λ ts. dropped_callee_at ts >>= λ _. Good None) (λ ts. callee_at o t w ts >>= λ c. Good (Some c))
 

@@ -2,13 +2,13 @@
 use Rattle.std.specs.Prelude.{◌≡◌, ◌≤◌, ℕ, List, Option, length, drop, Result, Ok, Err}
 use Rattle.pg_grammar.specs.declared.token.Token.{Token}
 use Rattle.pg_grammar.specs.declared.token.Fault.{Fault}
-use Rattle.pg_grammar.specs.declared.token.Refusal.{Refusal}
+use Rattle.pg_grammar.specs.declared.token.ReadRefusal.{ReadRefusal}
 use Rattle.pg_grammar.specs.declared.token.ReadError.{ReadError}
 use Rattle.pg_grammar.specs.declared.token.ReadError.TheVariants.{Memory, Refused}
 use Rattle.pg_grammar.specs.Reading.{Read, Good, Bad}
 
 -- What a refusal says of the reading: the place of the refused token, and its fault.
-abbrev pub Refuses : {Y : Type 0} → List Token → ℕ → Refusal → Read Y → Type 0
+abbrev pub Refuses : {Y : Type 0} → List Token → ℕ → ReadRefusal → Read Y → Type 0
 Refuses ts at r read = (read ≡ Bad r.fault (drop r.at ts)) × (at ≤ r.at) × (r.at ≤ length ts)
 
 -- what a function that failed says of it, unless memory ran out
@@ -25,7 +25,7 @@ Reads ts at value to (Ok x) read = Gives ts at value to x read
 Reads ts at value to (Err e) read = Fails ts at e read
 
 -- the same of a function that takes no memory
-abbrev pub Takes : {X Y : Type 0} → List Token → ℕ → (X → Y) → (X → ℕ) → Result X Refusal → Read Y → Type 0
+abbrev pub Takes : {X Y : Type 0} → List Token → ℕ → (X → Y) → (X → ℕ) → Result X ReadRefusal → Read Y → Type 0
 Takes ts at value to (Ok x) read = Gives ts at value to x read
 Takes ts at value to (Err r) read = Refuses ts at r read
 

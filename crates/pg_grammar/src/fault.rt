@@ -24,7 +24,8 @@ pub enum ReadFault {
     /// This token is one of LLVM's that no module has there.
     #[error("what stands at {0:?} is not supported")]
     Unsupported(Span),
-    /// The bracket at this place, or the word of a constant instruction, would be the 65th that is open.
+    /// The bracket at this place, or the word of a constant instruction, would be one more than `NESTING_LIMIT` that
+    /// are open.
     #[error("what opens at byte {0} is nested too deep")]
     TooDeep(u32),
     #[error("out of memory")]

@@ -1,8 +1,10 @@
 //! What holds of texts and modules: each law is the clause of a function that does nothing.
 
-ghost use Rattle.std.specs.Prelude.{◌≡◌, ◌⊎◌, ℕ, true, List, map};
+ghost use Rattle.std.specs.Prelude.{◌≡◌, ◌⊎◌, ◌+◌, ℕ, true, List, map};
+ghost use Rattle.pg_num.specs.declared.limits.TheConstants.{NESTING_LIMIT};
 ghost use Rattle.pg_ast.specs.Syntax.{Tree};
 ghost use Rattle.pg_grammar.specs.declared.fault.ReadFault.{ReadFault};
+ghost use Rattle.pg_grammar.specs.declared.nesting.TheConstants.{INNER_NESTING_LIMIT};
 ghost use Rattle.pg_grammar.specs.Accepted.{IsModule, IsUnread};
 ghost use Rattle.pg_grammar.specs.GrammarItems.{Part, blocks_of};
 ghost use Rattle.pg_grammar.specs.Endings.{all_end_last};
@@ -40,4 +42,9 @@ pub fn a_module_ends_its_blocks()
 /// and none of them where the text begins.
 pub fn a_module_orders_its_names()
     ensures { (text : List ℕ) (m : Tree) → IsModule text m → all_ascend m ≡ true }
+{}
+
+/// An open bracket takes one from the limit of nesting.
+pub fn an_open_bracket_takes_one_from_the_limit()
+    ensures { INNER_NESTING_LIMIT + 1 ≡ NESTING_LIMIT }
 {}

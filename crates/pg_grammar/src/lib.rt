@@ -4,10 +4,12 @@
 mod class;
 mod fault;
 pub mod laws;
+mod nesting;
 mod token;
 mod words;
 
 pub use class::{Class, WORDS, WordClass};
 pub use fault::ReadFault;
-pub use token::{Fault, ReadError, Refusal, Token};
+pub use nesting::INNER_NESTING_LIMIT;
+pub use token::{Fault, ReadError, ReadRefusal, Token};
 pub use words::classify;

@@ -25,7 +25,7 @@ pub enum Fault {
 
 /// The number of the refused token, and its fault.
 #[derive(Clone, Copy, Debug)]
-pub struct Refusal {
+pub struct ReadRefusal {
     pub fault: Option<Fault>,
     pub at: usize,
 }
@@ -34,13 +34,13 @@ pub struct Refusal {
 #[derive(Debug, Drop)]
 pub enum ReadError {
     Memory,
-    Refused(Refusal),
+    Refused(ReadRefusal),
 }
 
-impl From<Refusal> for ReadError {
+impl From<ReadRefusal> for ReadError {
     ghost from_gives = { λ r e. e ≡ Refused r };
 
-    fn from(refusal: Refusal) -> ReadError {
+    fn from(refusal: ReadRefusal) -> ReadError {
         ReadError::Refused(refusal)
     }
 }

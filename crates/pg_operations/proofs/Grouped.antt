@@ -1,19 +1,20 @@
 -- What stands behind a kept value is read the same in two parts: first what is read, then what is made of it.
-use Rattle.std.proofs.Common.{◌≡◌, Bool, true, false, List, Some, if◌then◌else◌, refl, ◌∙◌}
+use Rattle.std.proofs.Common.{◌≡◌, Bool, true, false, List, Option, Some, None, if◌then◌else◌, refl, ◌∙◌}
+use Rattle.pg_num.specs.declared.limits.TheConstants.{NESTING_LIMIT}
 use Rattle.pg_grammar.specs.declared.token.Token.{Token}
-use Rattle.pg_grammar.specs.declared.class.Class.TheVariants.{To, Local, Comma, OpenSquare, CloseSquare}
+use Rattle.pg_grammar.specs.declared.class.Class.TheVariants.{To, Local, Global, DroppedGlobal, Comma, OpenRound, CloseRound, OpenSquare, CloseSquare}
 use Rattle.pg_grammar.specs.declared.token.Fault.TheVariants.{Unsupported}
-use Rattle.pg_grammar.specs.Classes.{is}
-use Rattle.pg_grammar.specs.Reading.{Read, Good, Bad, ◌>>=◌, take_one, comes, unless, all_of}
+use Rattle.pg_grammar.specs.Classes.{is, is_word, ◌∪◌}
+use Rattle.pg_grammar.specs.Reading.{Read, Good, Bad, ◌>>=◌, take_one, comes, choose, unless, all_of}
 use Rattle.pg_grammar.specs.Grammar.{no_type, name_of}
 use Rattle.pg_grammar.specs.GrammarOps.{cast_of}
-use Rattle.pg_grammar.specs.Reader.{behind_comma, begins_type, type_at}
-use Rattle.pg_grammar.specs.ReaderOps.{Listing, typed_value_at, target_at, case_at, more_at, metadata_tail_at, alignment_at}
-use Rattle.pg_ast.specs.Syntax.{Ty, Val, Typed, Op, Case}
+use Rattle.pg_grammar.specs.Reader.{behind_comma, begins_type, listed_at, type_at, value_at, argument_at}
+use Rattle.pg_grammar.specs.ReaderOps.{Listing, typed_value_at, target_at, case_at, more_at, metadata_tail_at, alignment_at, callee_at, dropped_callee_at}
+use Rattle.pg_ast.specs.Syntax.{Ty, Val, Typed, Op, Case, Written}
 use Rattle.pg_ast.specs.Syntax as syntax
 use Rattle.pg_ast.specs.declared.names.Name.{Name}
 use Rattle.pg_lex.specs.declared.token.Span.{Span}
-use Rattle.pg_operations.specs.Rows.{cast_end_at, select_end_at, came_by, incoming_tail_at, access_end_at, gep_op_end_at, branch_end_at, case_by, case_end_at, closed_cases_at, switch_end_at}
+use Rattle.pg_operations.specs.Rows.{written_or_none_at, called_at, callee_end_at, call_end_at, two_values_at, operands_at, cast_end_at, select_end_at, came_by, incoming_tail_at, access_end_at, gep_op_end_at, branch_end_at, case_by, case_end_at, closed_cases_at, switch_end_at}
 
 -- the second of two readings takes the third with it
 then_in : {A B C : Type 0} (x : Read A) (r : A → List Token → Read B) (k : B → List Token → Read C) → (x >>= λ a ts. r a ts >>= k) ≡ ((x >>= r) >>= k)
@@ -25,8 +26,44 @@ then_as : {A B : Type 0} (x : Read A) (r s : A → List Token → Read B) → ((
 then_as (Good a rest) r s h = h a rest
 then_as (Bad fault rest) r s h = refl
 
-pub cast_grouped : (o : Token) (v : Typed) (ts : List Token) → (take_one (is To) ts >>= λ _ ts. type_at 64 ts >>= λ t. Good (syntax.Cast o.span (cast_of o.class) v t)) ≡ cast_end_at o v ts
-cast_grouped o v ts = then_in (take_one (is To) ts) (λ _. type_at 64) (λ t. Good (syntax.Cast o.span (cast_of o.class) v t))
+-- ---- two operands
+
+abbrev paired : Ty → Val × Val → List Token → Read (Ty × Val × Val)
+paired t v = Good (t, v.0, v.1)
+
+abbrev operated : (Ty → Val → Val → Op) → Ty × Val × Val → List Token → Read Op
+operated k x = Good (k x.0 x.1 x.2)
+
+operand_second : (k : Ty → Val → Val → Op) (t : Ty) (a : Val) (x : Read Val) → (x >>= λ b. Good (k t a b)) ≡ (((x >>= λ b. Good (a, b)) >>= paired t) >>= operated k)
+operand_second k t a (Good b rest) = refl
+operand_second k t a (Bad fault rest) = refl
+
+operand_comma : (k : Ty → Val → Val → Op) (t : Ty) (a : Val) (x : Read Token) → (x >>= λ _ ts. value_at NESTING_LIMIT ts >>= λ b. Good (k t a b))
+    ≡ ((((x >>= λ _. value_at NESTING_LIMIT) >>= λ b. Good (a, b)) >>= paired t) >>= operated k)
+operand_comma k t a (Good c rest) = operand_second k t a (value_at NESTING_LIMIT rest)
+operand_comma k t a (Bad fault rest) = refl
+
+operand_first : (k : Ty → Val → Val → Op) (t : Ty) (x : Read Val) → (x >>= λ a ts. take_one (is Comma) ts >>= λ _ ts. value_at NESTING_LIMIT ts >>= λ b. Good (k t a b))
+    ≡ (((x >>= λ a ts. behind_comma (value_at NESTING_LIMIT) ts >>= λ b. Good (a, b)) >>= paired t) >>= operated k)
+operand_first k t (Good a rest) = operand_comma k t a (take_one (is Comma) rest)
+operand_first k t (Bad fault rest) = refl
+
+operand_type : (k : Ty → Val → Val → Op) (x : Read Ty)
+    → (x >>= λ t ts. value_at NESTING_LIMIT ts >>= λ a ts. take_one (is Comma) ts >>= λ _ ts. value_at NESTING_LIMIT ts >>= λ b. Good (k t a b))
+    ≡ ((x >>= λ t ts. two_values_at ts >>= paired t) >>= operated k)
+operand_type k (Good t rest) = operand_first k t (value_at NESTING_LIMIT rest)
+operand_type k (Bad fault rest) = refl
+
+pub operands_grouped : (k : Ty → Val → Val → Op) (ts : List Token)
+    → (type_at NESTING_LIMIT ts >>= λ t ts. value_at NESTING_LIMIT ts >>= λ a ts. take_one (is Comma) ts >>= λ _ ts. value_at NESTING_LIMIT ts >>= λ b. Good (k t a b))
+    ≡ (operands_at ts >>= operated k)
+operands_grouped k ts = operand_type k (type_at NESTING_LIMIT ts)
+
+-- ---- a conversion, and a choice
+
+pub cast_grouped : (o : Token) (v : Typed) (ts : List Token)
+    → (take_one (is To) ts >>= λ _ ts. type_at NESTING_LIMIT ts >>= λ t. Good (syntax.Cast o.span (cast_of o.class) v t)) ≡ cast_end_at o v ts
+cast_grouped o v ts = then_in (take_one (is To) ts) (λ _. type_at NESTING_LIMIT) (λ t. Good (syntax.Cast o.span (cast_of o.class) v t))
 
 -- a value behind a comma, and what is made of it
 comma_grouped : (k : Typed → List Token → Read Op) (ts : List Token) → (take_one (is Comma) ts >>= λ _ ts. typed_value_at ts >>= k) ≡ (behind_comma typed_value_at ts >>= k)
@@ -156,3 +193,51 @@ switch_comma s v (Bad fault rest) = refl
 pub switch_grouped : (o : Token) (v : Typed) (ts : List Token) → (take_one (is Comma) ts >>= λ _ ts. target_at ts >>= λ b ts. take_one (is OpenSquare) ts >>= λ _ ts. all_of begins_type case_at ts >>= λ all. unless Unsupported no_type (λ ts. take_one (is CloseSquare) ts >>= λ _. Good (syntax.Switch o.span v b all)))
     ≡ switch_end_at o v ts
 switch_grouped o v ts = switch_comma o.span v (take_one (is Comma) ts)
+
+-- ---- a call
+
+abbrev some_op : Op → List Token → Read (Option Op)
+some_op c = Good (Some c)
+
+abbrev called_by : Token → Ty → Option Written → Name × List Typed → List Token → Read (Option Op)
+called_by o t w c = Good (Some (syntax.Call o.span t w c.0 c.1))
+
+call_arguments : (o : Token) (t : Ty) (w : Option Written) (f : Token) (x : Read (List Typed))
+    → ((x >>= λ all. Good (syntax.Call o.span t w (name_of f) all)) >>= some_op) ≡ ((x >>= λ all. Good (name_of f, all)) >>= called_by o t w)
+call_arguments o t w f (Good all rest) = refl
+call_arguments o t w f (Bad fault rest) = refl
+
+call_open : (o : Token) (t : Ty) (w : Option Written) (f : Token) (x : Read Token)
+    → ((x >>= λ _ ts. listed_at CloseRound argument_at ts >>= λ all. Good (syntax.Call o.span t w (name_of f) all)) >>= some_op)
+    ≡ ((x >>= λ _ ts. listed_at CloseRound argument_at ts >>= λ all. Good (name_of f, all)) >>= called_by o t w)
+call_open o t w f (Good b rest) = call_arguments o t w f (listed_at CloseRound argument_at rest)
+call_open o t w f (Bad fault rest) = refl
+
+call_global : (o : Token) (t : Ty) (w : Option Written) (x : Read Token)
+    → ((x >>= λ f ts. take_one (is OpenRound) ts >>= λ _ ts. listed_at CloseRound argument_at ts >>= λ all. Good (syntax.Call o.span t w (name_of f) all)) >>= some_op)
+    ≡ ((x >>= λ f ts. take_one (is OpenRound) ts >>= λ _ ts. listed_at CloseRound argument_at ts >>= λ all. Good (name_of f, all)) >>= called_by o t w)
+call_global o t w (Good f rest) = call_open o t w f (take_one (is OpenRound) rest)
+call_global o t w (Bad fault rest) = refl
+
+call_dropped : (o : Token) (t : Ty) (w : Option Written) (ts : List Token) (dropped : Bool)
+    → (if dropped then (dropped_callee_at ts >>= λ _. Good None) else (callee_at o t w ts >>= some_op))
+    ≡ (if dropped then (dropped_callee_at ts >>= λ _. Good None) else (called_at ts >>= called_by o t w))
+call_dropped o t w ts true = refl
+call_dropped o t w ts false = call_global o t w (unless Unsupported (is_word ∪ is Local) (take_one (is Global)) ts)
+
+call_written : (o : Token) (t : Ty) (x : Read (Option Written))
+    → (x >>= λ w. choose (is DroppedGlobal) (λ ts. dropped_callee_at ts >>= λ _. Good None) (λ ts. callee_at o t w ts >>= some_op))
+    ≡ ((x >>= λ w. Good (t, w)) >>= callee_end_at o)
+call_written o t (Good w rest) = call_dropped o t w rest (comes (is DroppedGlobal) rest)
+call_written o t (Bad fault rest) = refl
+
+call_type : (o : Token) (x : Read Ty)
+    → (x >>= λ t ts. written_or_none_at ts >>= λ w. choose (is DroppedGlobal) (λ ts. dropped_callee_at ts >>= λ _. Good None) (λ ts. callee_at o t w ts >>= some_op))
+    ≡ ((x >>= λ t ts. written_or_none_at ts >>= λ w. Good (t, w)) >>= callee_end_at o)
+call_type o (Good t rest) = call_written o t (written_or_none_at rest)
+call_type o (Bad fault rest) = refl
+
+pub call_grouped : (o : Token) (ts : List Token)
+    → (type_at NESTING_LIMIT ts >>= λ t ts. written_or_none_at ts >>= λ w. choose (is DroppedGlobal) (λ ts. dropped_callee_at ts >>= λ _. Good None) (λ ts. callee_at o t w ts >>= some_op))
+    ≡ call_end_at o ts
+call_grouped o ts = call_type o (type_at NESTING_LIMIT ts)

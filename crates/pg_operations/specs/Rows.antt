@@ -1,16 +1,17 @@
 -- Parts of the readings that are functions of their own in the code.
 use Rattle.std.specs.Prelude.{List, Option, Some, None}
-use Rattle.pg_grammar.specs.declared.class.Class.TheVariants.{To, Phi, Br, Switch, Unreachable, Alloca, Load, Local, Comma, OpenRound, OpenSquare, CloseSquare}
+use Rattle.pg_num.specs.declared.limits.TheConstants.{NESTING_LIMIT}
+use Rattle.pg_grammar.specs.declared.class.Class.TheVariants.{To, Phi, Br, Switch, Unreachable, Alloca, Load, Local, Global, DroppedGlobal, Comma, OpenRound, CloseRound, OpenSquare, CloseSquare}
 use Rattle.pg_grammar.specs.declared.token.Token.{Token}
 use Rattle.pg_grammar.specs.declared.token.Fault.TheVariants.{Unsupported}
-use Rattle.pg_grammar.specs.Classes.{is}
+use Rattle.pg_grammar.specs.Classes.{is, is_word, ◌∪◌}
 use Rattle.pg_grammar.specs.Reading.{Read, Good, ◌>>=◌, take_one, choose, unless, all_of}
 use Rattle.pg_grammar.specs.Grammar.{no_type, name_of}
-use Rattle.pg_grammar.specs.GrammarOps.{cast_of}
-use Rattle.pg_grammar.specs.Reader.{behind_comma, begins_type, type_at}
+use Rattle.pg_grammar.specs.GrammarOps.{binary_of, predicate_of, cast_of}
+use Rattle.pg_grammar.specs.Reader.{behind_comma, begins_type, listed_at, type_at, value_at, argument_at}
 use Rattle.pg_grammar.specs.ReaderOps.{lined, metadata_at, metadata_tail_at, typed_value_at, target_at, case_at}
 use Rattle.pg_grammar.specs.ReaderOps.{more_at, alignment_at, phi_at, branch_at, switch_at, unreachable_at, alloca_at}
-use Rattle.pg_grammar.specs.ReaderOps.{load_at, store_at, written_at}
+use Rattle.pg_grammar.specs.ReaderOps.{load_at, store_at, written_at, dropped_callee_at}
 use Rattle.pg_ast.specs.Syntax.{Ty, Val, Typed, Op, Incoming, Case, Written}
 use Rattle.pg_ast.specs.Syntax as syntax
 use Rattle.pg_ast.specs.declared.names.Name.{Name}
@@ -18,6 +19,21 @@ use Rattle.pg_ast.specs.declared.names.Name.{Name}
 -- the types that a call writes, or none
 abbrev pub written_or_none_at : List Token → Read (Option Written)
 written_or_none_at = choose (is OpenRound) (λ ts. written_at ts >>= λ w. Good (Some w)) (Good None)
+
+-- the type of a call's result, and those that it writes for its callee
+abbrev pub signature_at : List Token → Read (Ty × Option Written)
+signature_at ts = type_at NESTING_LIMIT ts >>= λ t ts. written_or_none_at ts >>= λ w. Good (t, w)
+
+-- a global that is called, and its arguments
+abbrev pub called_at : List Token → Read (Name × List Typed)
+called_at ts = unless Unsupported (is_word ∪ is Local) (take_one (is Global)) ts >>= λ f ts. take_one (is OpenRound) ts >>= λ _ ts. listed_at CloseRound argument_at ts >>= λ all. Good (name_of f, all)
+
+-- what stands behind these types of a call
+abbrev pub callee_end_at : Token → Ty × Option Written → List Token → Read (Option Op)
+callee_end_at o s = choose (is DroppedGlobal) (λ ts. dropped_callee_at ts >>= λ _. Good None) (λ ts. called_at ts >>= λ c. Good (Some (syntax.Call o.span s.0 s.1 c.0 c.1)))
+
+abbrev pub call_end_at : Token → List Token → Read (Option Op)
+call_end_at o ts = signature_at ts >>= callee_end_at o
 
 -- the metadata behind this operation
 abbrev pub behind_op_at : Op → List Token → Read Op
@@ -31,9 +47,22 @@ other_op_at = choose (is Phi) phi_at (choose (is Br) (lined branch_at) (choose (
 
 -- ---- what stands behind a value that is kept, in two parts: its reading, and what is made of it
 
+-- two values with a comma between them, and the type before them
+abbrev pub two_values_at : List Token → Read (Val × Val)
+two_values_at ts = value_at NESTING_LIMIT ts >>= λ a ts. behind_comma (value_at NESTING_LIMIT) ts >>= λ b. Good (a, b)
+
+abbrev pub operands_at : List Token → Read (Ty × Val × Val)
+operands_at ts = type_at NESTING_LIMIT ts >>= λ t ts. two_values_at ts >>= λ v. Good (t, v.0, v.1)
+
+abbrev pub binary_end_at : Token → List Token → Read Op
+binary_end_at o ts = operands_at ts >>= λ x. Good (syntax.Binary o.span (binary_of o.class) x.0 x.1 x.2)
+
+abbrev pub comparison_end_at : Token → Token → List Token → Read Op
+comparison_end_at o p ts = operands_at ts >>= λ x. Good (syntax.Icmp o.span (predicate_of p.class) x.0 x.1 x.2)
+
 -- a type behind the word to
 abbrev pub to_type_at : List Token → Read Ty
-to_type_at ts = take_one (is To) ts >>= λ _. type_at 64
+to_type_at ts = take_one (is To) ts >>= λ _. type_at NESTING_LIMIT
 
 abbrev pub cast_end_at : Token → Typed → List Token → Read Op
 cast_end_at o v ts = to_type_at ts >>= λ t. Good (syntax.Cast o.span (cast_of o.class) v t)

@@ -9,7 +9,8 @@ ghost use Rattle.pg_operations.specs.Rows.{targets_at, branch_end_at, case_end_a
 ghost use Rattle.pg_ast.specs.Views.{op_of, typed_of, case_of};
 
 use pg_ast::{CaseNode, Name, OpNode, TypedVal};
-use pg_grammar::{Class, ReadError, Refusal, Token};
+use pg_grammar::{Class, ReadError, ReadRefusal, Token};
+use pg_num::limits::NESTING_LIMIT;
 use pg_terms::{ClassSet, name, next_in, next_is, take, typed_value_in, unsupported};
 use std::alloc::Global;
 
@@ -38,7 +39,7 @@ pub fn branch(alloc: Global, tokens: &[Token], at: usize) -> Result<(OpNode, usi
         };
         return Ok((node, at));
     }
-    let (condition, at) = typed_value_in(alloc, tokens, at, 64)?;
+    let (condition, at) = typed_value_in(alloc, tokens, at, NESTING_LIMIT)?;
     branch_end(alloc, tokens, at, word, condition)
 }
 
@@ -80,7 +81,7 @@ fn case(alloc: Global, tokens: &[Token], at: usize) -> Result<(CaseNode, usize),
     ensures read { Reads tokens.now at (λ x. case_of x.0) (λ x. x.1) result (case_at (drop at tokens.now)) }
     ensures on { IfOk result (λ x. at < x.1) }
 {
-    let (value, at) = typed_value_in(alloc, tokens, at, 64)?;
+    let (value, at) = typed_value_in(alloc, tokens, at, NESTING_LIMIT)?;
     case_end(alloc, tokens, at, value)
 }
 
@@ -136,7 +137,7 @@ pub fn switch(alloc: Global, tokens: &[Token], at: usize) -> Result<(OpNode, usi
     ensures on { IfOk result (λ x. at < x.1) }
 {
     let (word, at) = take(tokens, at, Class::Switch)?;
-    let (value, at) = typed_value_in(alloc, tokens, at, 64)?;
+    let (value, at) = typed_value_in(alloc, tokens, at, NESTING_LIMIT)?;
     switch_end(alloc, tokens, at, word, value)
 }
 
@@ -195,7 +196,7 @@ fn closed_cases(
 }
 
 /// A place that is never reached.
-pub fn unreachable_op(tokens: &[Token], at: usize) -> Result<(OpNode, usize), Refusal>
+pub fn unreachable_op(tokens: &[Token], at: usize) -> Result<(OpNode, usize), ReadRefusal>
     requires { at ≤ length tokens.now }
     ensures read { Takes tokens.now at (λ x. op_of x.0) (λ x. x.1) result (unreachable_at (drop at tokens.now)) }
     ensures on { IfOk result (λ x. at < x.1) }

@@ -6,20 +6,21 @@ ghost use Rattle.pg_grammar.specs.declared.class.Class.TheVariants.{Comma};
 ghost use Rattle.pg_grammar.specs.Classes.{is};
 ghost use Rattle.pg_grammar.specs.Reading.{all_of, onto};
 ghost use Rattle.pg_grammar.specs.Reader.{argument_at, listed_at, behind_comma};
-ghost use Rattle.pg_grammar.specs.ReaderOps.{call_word_at, callee_at, dropped_callee_at, call_at};
-ghost use Rattle.pg_operations.specs.Rows.{written_or_none_at};
+ghost use Rattle.pg_grammar.specs.ReaderOps.{call_word_at, dropped_callee_at, call_at};
+ghost use Rattle.pg_operations.specs.Rows.{written_or_none_at, signature_at, called_at, call_end_at};
 ghost use Rattle.pg_grammar.specs.Views.{Reads, Takes};
 ghost use Rattle.pg_ast.specs.Views.{op_of, ty_of, typed_of, written_of};
 
 use crate::written::written;
-use pg_ast::{ArgNode, CallTypes, OpNode, TypeNode};
-use pg_grammar::{Class, ReadError, Refusal, Token};
+use pg_ast::{ArgNode, CallTypes, Name, OpNode, TypeNode};
+use pg_grammar::{Class, INNER_NESTING_LIMIT, ReadError, ReadRefusal, Token};
+use pg_num::limits::NESTING_LIMIT;
 use pg_terms::{
     ClassSet, argument, attributes, name, next_in, next_is, skip_to, take, type_node, unsupported,
 };
 use std::alloc::Global;
 
-fn call_word(tokens: &[Token], at: usize) -> Result<(&Token, usize), Refusal>
+fn call_word(tokens: &[Token], at: usize) -> Result<(&Token, usize), ReadRefusal>
     requires { at ≤ length tokens.now }
     ensures read { Takes tokens.now at (λ x. x.0.now) (λ x. x.1) result (call_word_at (drop at tokens.now)) }
     ensures on { IfOk result (λ x. at < x.1) }
@@ -47,41 +48,46 @@ fn written_or_none(
     Ok((None, at))
 }
 
+/// The types of a call: that of its result, and those that it writes for its callee, if any.
+fn signature(
+    alloc: Global,
+    tokens: &[Token],
+    at: usize,
+) -> Result<(TypeNode, Option<CallTypes>, usize), ReadError>
+    requires { at ≤ length tokens.now }
+    ensures { Reads tokens.now at (λ x. (ty_of x.0, option_map written_of x.1)) (λ x. x.2) result (signature_at (drop at tokens.now)) }
+{
+    let (ty, at) = type_node(alloc, tokens, at, NESTING_LIMIT)?;
+    let (written, at) = written_or_none(alloc, tokens, at)?;
+    Ok((ty, written, at))
+}
+
+/// A global that is called, and its arguments.
 fn callee(
     alloc: Global,
     tokens: &[Token],
     at: usize,
-    word: &Token,
-    ty: TypeNode,
-    written: Option<CallTypes>,
-) -> Result<(OpNode, usize), ReadError>
+) -> Result<(Name, Vec<ArgNode>, usize), ReadError>
     requires { at ≤ length tokens.now }
-    ensures { Reads tokens.now at (λ x. op_of x.0) (λ x. x.1) result (callee_at word.now (ty_of ty) (option_map written_of written) (drop at tokens.now)) }
+    ensures { Reads tokens.now at (λ x. (x.0, map typed_of x.1.items)) (λ x. x.2) result (called_at (drop at tokens.now)) }
 {
     if next_in(tokens, at, ClassSet::NoCallee) {
         return Err(ReadError::Refused(unsupported(at)));
     }
     let (global, at) = take(tokens, at, Class::Global)?;
     let (_, at) = take(tokens, at, Class::OpenRound)?;
-    let (arguments, at) = arguments_to(alloc, tokens, at, Class::CloseRound)?;
     let callee = name(alloc, global)?;
-    let node = OpNode::Call {
-        span: word.span,
-        ty,
-        written,
-        callee,
-        arguments,
-    };
-    Ok((node, at))
+    let (arguments, at) = arguments_to(alloc, tokens, at, Class::CloseRound)?;
+    Ok((callee, arguments, at))
 }
 
-fn dropped_callee(tokens: &[Token], at: usize) -> Result<usize, Refusal>
+fn dropped_callee(tokens: &[Token], at: usize) -> Result<usize, ReadRefusal>
     requires { at ≤ length tokens.now }
     ensures { Takes tokens.now at (λ x. tt) (λ x. x) result (dropped_callee_at (drop at tokens.now)) }
 {
     let (_, at) = take(tokens, at, Class::DroppedGlobal)?;
     let (_, at) = take(tokens, at, Class::OpenRound)?;
-    skip_to(tokens, at, 63, Class::CloseRound)
+    skip_to(tokens, at, INNER_NESTING_LIMIT, Class::CloseRound)
 }
 
 /// A call without the attributes behind it, or nothing where it is dropped.
@@ -97,14 +103,33 @@ pub fn call(
 {
     let (word, at) = call_word(tokens, at)?;
     let at = attributes(tokens, at)?;
-    let (ty, at) = type_node(alloc, tokens, at, 64)?;
-    let (written, at) = written_or_none(alloc, tokens, at)?;
+    call_end(alloc, tokens, at, word)
+}
+
+/// What stands behind the attributes of a call's result.
+fn call_end(
+    alloc: Global,
+    tokens: &[Token],
+    at: usize,
+    word: &Token,
+) -> Result<(Option<OpNode>, usize), ReadError>
+    requires { at ≤ length tokens.now }
+    ensures { Reads tokens.now at (λ x. option_map op_of x.0) (λ x. x.1) result (call_end_at word.now (drop at tokens.now)) }
+{
+    let (ty, written, at) = signature(alloc, tokens, at)?;
     if next_is(tokens, at, Class::DroppedGlobal) {
         let at = dropped_callee(tokens, at)?;
         return Ok((None, at));
     }
-    let (op, at) = callee(alloc, tokens, at, word, ty, written)?;
-    Ok((Some(op), at))
+    let (callee, arguments, at) = callee(alloc, tokens, at)?;
+    let node = OpNode::Call {
+        span: word.span,
+        ty,
+        written,
+        callee,
+        arguments,
+    };
+    Ok((Some(node), at))
 }
 
 fn arguments_to(

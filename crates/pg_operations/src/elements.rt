@@ -14,6 +14,7 @@ ghost use Rattle.pg_ast.specs.Views.{op_of, ty_of, typed_of};
 use crate::listing::{Listing, type_goes_on};
 use pg_ast::{OpNode, TypeNode, TypedVal};
 use pg_grammar::{Class, ReadError, Token};
+use pg_num::limits::NESTING_LIMIT;
 use pg_terms::{
     ClassSet, flags, metadata_tail, next_in, take, type_node, typed_value_in, unsupported,
 };
@@ -40,7 +41,7 @@ pub fn gep_op_tail(
     requires { at ≤ length tokens.now }
     ensures { Reads tokens.now at (λ x. op_of x.0) (λ x. x.1) result (gep_op_tail_at word.now (drop at tokens.now)) }
 {
-    let (ty, at) = type_node(alloc, tokens, at, 64)?;
+    let (ty, at) = type_node(alloc, tokens, at, NESTING_LIMIT)?;
     gep_op_end(alloc, tokens, at, word, ty)
 }
 
@@ -75,7 +76,7 @@ fn element(
     ensures { Reads tokens.now at (λ x. (typed_of x.0, map typed_of x.1.items)) (λ x. x.2) result (element_at (drop at tokens.now)) }
 {
     let (_, at) = take(tokens, at, Class::Comma)?;
-    let (pointer, at) = typed_value_in(alloc, tokens, at, 64)?;
+    let (pointer, at) = typed_value_in(alloc, tokens, at, NESTING_LIMIT)?;
     let (more, at) = more_indices(alloc, tokens, at)?;
     Ok((pointer, more.items, at))
 }
@@ -141,7 +142,7 @@ fn index(alloc: Global, tokens: &[Token], at: usize) -> Result<(TypedVal, usize)
     ensures read { Reads tokens.now at (λ x. typed_of x.0) (λ x. x.1) result (typed_value_at (drop at tokens.now)) }
     ensures on { IfOk result (λ x. at < x.1) }
 {
-    typed_value_in(alloc, tokens, at, 64)
+    typed_value_in(alloc, tokens, at, NESTING_LIMIT)
 }
 
 /// Metadata behind a comma that stands behind the indices.

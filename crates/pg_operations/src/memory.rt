@@ -12,7 +12,8 @@ ghost use Rattle.pg_operations.specs.Rows.{address_at, load_end_at, store_end_at
 ghost use Rattle.pg_ast.specs.Views.{op_of, count_of, ty_of, typed_of};
 
 use pg_ast::{CountNode, OpNode, TypeNode, TypedVal};
-use pg_grammar::{Class, ReadError, Refusal, Token};
+use pg_grammar::{Class, ReadError, ReadRefusal, Token};
+use pg_num::limits::NESTING_LIMIT;
 use pg_terms::{
     ClassSet, literal, metadata, metadata_tail, next_in, next_is, take, type_node, typed_value_in,
     unsupported,
@@ -21,7 +22,7 @@ use std::alloc::Global;
 
 /// An alignment, or none, and metadata are dropped.
 #[tactic(auto, unfolding(pg_grammar::specs::ReaderOps::alignment_at))]
-fn alignment(tokens: &[Token], at: usize) -> Result<usize, Refusal>
+fn alignment(tokens: &[Token], at: usize) -> Result<usize, ReadRefusal>
     requires { at ≤ length tokens.now }
     ensures { Takes tokens.now at (λ x. tt) (λ x. x) result (alignment_at (drop at tokens.now)) }
 {
@@ -38,7 +39,7 @@ fn alignment(tokens: &[Token], at: usize) -> Result<usize, Refusal>
 }
 
 /// An integer; a local isn't supported in its place.
-fn count_number(tokens: &[Token], at: usize) -> Result<(&Token, usize), Refusal>
+fn count_number(tokens: &[Token], at: usize) -> Result<(&Token, usize), ReadRefusal>
     requires { at ≤ length tokens.now }
     ensures { Takes tokens.now at (λ x. x.0.now) (λ x. x.1) result (unless Unsupported (is Local) (take_one (is Int)) (drop at tokens.now)) }
 {
@@ -69,7 +70,7 @@ fn count(
             let at = metadata_tail(tokens, at)?;
             return Ok((None, at));
         }
-        let (ty, at) = type_node(alloc, tokens, at, 64)?;
+        let (ty, at) = type_node(alloc, tokens, at, NESTING_LIMIT)?;
         let (number, at) = count_number(tokens, at)?;
         let at = alignment(tokens, at)?;
         let count = literal(alloc, number)?;
@@ -85,7 +86,7 @@ pub fn alloca(alloc: Global, tokens: &[Token], at: usize) -> Result<(OpNode, usi
     ensures on { IfOk result (λ x. at < x.1) }
 {
     let (word, at) = take(tokens, at, Class::Alloca)?;
-    let (ty, at) = type_node(alloc, tokens, at, 64)?;
+    let (ty, at) = type_node(alloc, tokens, at, NESTING_LIMIT)?;
     let (count, at) = count(alloc, tokens, at)?;
     let node = OpNode::Alloca {
         span: word.span,
@@ -95,7 +96,7 @@ pub fn alloca(alloc: Global, tokens: &[Token], at: usize) -> Result<(OpNode, usi
     Ok((node, at))
 }
 
-fn volatile_word(tokens: &[Token], at: usize) -> Result<usize, Refusal>
+fn volatile_word(tokens: &[Token], at: usize) -> Result<usize, ReadRefusal>
     requires { at ≤ length tokens.now }
     ensures { Takes tokens.now at (λ x. tt) (λ x. x) result (volatile_at (drop at tokens.now)) }
 {
@@ -114,7 +115,7 @@ pub fn load(alloc: Global, tokens: &[Token], at: usize) -> Result<(OpNode, usize
 {
     let (word, at) = take(tokens, at, Class::Load)?;
     let at = volatile_word(tokens, at)?;
-    let (ty, at) = type_node(alloc, tokens, at, 64)?;
+    let (ty, at) = type_node(alloc, tokens, at, NESTING_LIMIT)?;
     load_end(alloc, tokens, at, word, ty)
 }
 
@@ -144,7 +145,7 @@ fn address(alloc: Global, tokens: &[Token], at: usize) -> Result<(TypedVal, usiz
     ensures { Reads tokens.now at (λ x. typed_of x.0) (λ x. x.1) result (address_at (drop at tokens.now)) }
 {
     let (_, at) = take(tokens, at, Class::Comma)?;
-    let (pointer, at) = typed_value_in(alloc, tokens, at, 64)?;
+    let (pointer, at) = typed_value_in(alloc, tokens, at, NESTING_LIMIT)?;
     let at = alignment(tokens, at)?;
     Ok((pointer, at))
 }
@@ -157,7 +158,7 @@ pub fn store(alloc: Global, tokens: &[Token], at: usize) -> Result<(OpNode, usiz
 {
     let (word, at) = take(tokens, at, Class::Store)?;
     let at = volatile_word(tokens, at)?;
-    let (value, at) = typed_value_in(alloc, tokens, at, 64)?;
+    let (value, at) = typed_value_in(alloc, tokens, at, NESTING_LIMIT)?;
     store_end(alloc, tokens, at, word, value)
 }
 

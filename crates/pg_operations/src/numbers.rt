@@ -2,14 +2,16 @@
 
 ghost use Rattle.std.specs.Prelude.{◌≡◌, ◌≤◌, ◌<◌, length, drop, IfOk};
 ghost use Rattle.pg_grammar.specs.GrammarOps.{binary_of, predicate_of, cast_of};
-ghost use Rattle.pg_grammar.specs.Reader.{behind_comma};
+ghost use Rattle.pg_num.specs.declared.limits.TheConstants.{NESTING_LIMIT};
+ghost use Rattle.pg_grammar.specs.Reader.{behind_comma, value_at};
 ghost use Rattle.pg_grammar.specs.ReaderOps.{binary_at, icmp_at, cast_at, cast_tail_at, select_at, typed_value_at};
 ghost use Rattle.pg_grammar.specs.Views.{Reads};
-ghost use Rattle.pg_operations.specs.Rows.{to_type_at, cast_end_at, select_end_at};
-ghost use Rattle.pg_ast.specs.Views.{op_of, ty_of, typed_of};
+ghost use Rattle.pg_operations.specs.Rows.{two_values_at, operands_at, binary_end_at, comparison_end_at, to_type_at, cast_end_at, select_end_at};
+ghost use Rattle.pg_ast.specs.Views.{op_of, ty_of, val_of, typed_of};
 
-use pg_ast::{BinaryOp, CastOp, OpNode, Predicate, TypeNode, TypedVal};
+use pg_ast::{BinaryOp, CastOp, OpNode, Predicate, TypeNode, TypedVal, ValNode};
 use pg_grammar::{Class, ReadError, Token};
+use pg_num::limits::NESTING_LIMIT;
 use pg_terms::{ClassSet, flags, take, take_in, type_node, typed_value_in, value};
 use std::alloc::Global;
 
@@ -70,10 +72,20 @@ pub fn binary(alloc: Global, tokens: &[Token], at: usize) -> Result<(OpNode, usi
 {
     let (word, at) = take_in(tokens, at, ClassSet::Binary)?;
     let at = flags(tokens, at);
-    let (ty, at) = type_node(alloc, tokens, at, 64)?;
-    let (left, at) = value(alloc, tokens, at, 64)?;
-    let (_, at) = take(tokens, at, Class::Comma)?;
-    let (right, at) = value(alloc, tokens, at, 64)?;
+    binary_end(alloc, tokens, at, word)
+}
+
+/// What stands behind the flags of an operation on two integers.
+fn binary_end(
+    alloc: Global,
+    tokens: &[Token],
+    at: usize,
+    word: &Token,
+) -> Result<(OpNode, usize), ReadError>
+    requires { at ≤ length tokens.now }
+    ensures { Reads tokens.now at (λ x. op_of x.0) (λ x. x.1) result (binary_end_at word.now (drop at tokens.now)) }
+{
+    let (ty, left, right, at) = operands(alloc, tokens, at)?;
     let op = binary_op(word.class);
     let node = OpNode::Binary {
         span: word.span,
@@ -85,6 +97,43 @@ pub fn binary(alloc: Global, tokens: &[Token], at: usize) -> Result<(OpNode, usi
     Ok((node, at))
 }
 
+/// A type and two values of it, with a comma between them.
+fn operands(
+    alloc: Global,
+    tokens: &[Token],
+    at: usize,
+) -> Result<(TypeNode, ValNode, ValNode, usize), ReadError>
+    requires { at ≤ length tokens.now }
+    ensures { Reads tokens.now at (λ x. (ty_of x.0, val_of x.1, val_of x.2)) (λ x. x.3) result (operands_at (drop at tokens.now)) }
+{
+    let (ty, at) = type_node(alloc, tokens, at, NESTING_LIMIT)?;
+    let (left, right, at) = two_values(alloc, tokens, at)?;
+    Ok((ty, left, right, at))
+}
+
+/// Two values with a comma between them.
+fn two_values(
+    alloc: Global,
+    tokens: &[Token],
+    at: usize,
+) -> Result<(ValNode, ValNode, usize), ReadError>
+    requires { at ≤ length tokens.now }
+    ensures { Reads tokens.now at (λ x. (val_of x.0, val_of x.1)) (λ x. x.2) result (two_values_at (drop at tokens.now)) }
+{
+    let (left, at) = value(alloc, tokens, at, NESTING_LIMIT)?;
+    let (right, at) = second_value(alloc, tokens, at)?;
+    Ok((left, right, at))
+}
+
+/// A value behind a comma.
+fn second_value(alloc: Global, tokens: &[Token], at: usize) -> Result<(ValNode, usize), ReadError>
+    requires { at ≤ length tokens.now }
+    ensures { Reads tokens.now at (λ x. val_of x.0) (λ x. x.1) result (behind_comma (value_at NESTING_LIMIT) (drop at tokens.now)) }
+{
+    let (_, at) = take(tokens, at, Class::Comma)?;
+    value(alloc, tokens, at, NESTING_LIMIT)
+}
+
 /// A comparison.
 pub fn comparison(alloc: Global, tokens: &[Token], at: usize) -> Result<(OpNode, usize), ReadError>
     requires { at ≤ length tokens.now }
@@ -94,10 +143,21 @@ pub fn comparison(alloc: Global, tokens: &[Token], at: usize) -> Result<(OpNode,
     let (word, at) = take(tokens, at, Class::Icmp)?;
     let at = flags(tokens, at);
     let (predicate, at) = take_in(tokens, at, ClassSet::Predicate)?;
-    let (ty, at) = type_node(alloc, tokens, at, 64)?;
-    let (left, at) = value(alloc, tokens, at, 64)?;
-    let (_, at) = take(tokens, at, Class::Comma)?;
-    let (right, at) = value(alloc, tokens, at, 64)?;
+    comparison_end(alloc, tokens, at, word, predicate)
+}
+
+/// What stands behind the predicate of a comparison.
+fn comparison_end(
+    alloc: Global,
+    tokens: &[Token],
+    at: usize,
+    word: &Token,
+    predicate: &Token,
+) -> Result<(OpNode, usize), ReadError>
+    requires { at ≤ length tokens.now }
+    ensures { Reads tokens.now at (λ x. op_of x.0) (λ x. x.1) result (comparison_end_at word.now predicate.now (drop at tokens.now)) }
+{
+    let (ty, left, right, at) = operands(alloc, tokens, at)?;
     let op = predicate_op(predicate.class);
     let node = OpNode::Icmp {
         span: word.span,
@@ -130,7 +190,7 @@ pub fn cast_tail(
     ensures { Reads tokens.now at (λ x. op_of x.0) (λ x. x.1) result (cast_tail_at word.now (drop at tokens.now)) }
 {
     let at = flags(tokens, at);
-    let (value, at) = typed_value_in(alloc, tokens, at, 64)?;
+    let (value, at) = typed_value_in(alloc, tokens, at, NESTING_LIMIT)?;
     cast_end(alloc, tokens, at, word, value)
 }
 
@@ -162,7 +222,7 @@ fn to_type(alloc: Global, tokens: &[Token], at: usize) -> Result<(TypeNode, usiz
     ensures { Reads tokens.now at (λ x. ty_of x.0) (λ x. x.1) result (to_type_at (drop at tokens.now)) }
 {
     let (_, at) = take(tokens, at, Class::To)?;
-    type_node(alloc, tokens, at, 64)
+    type_node(alloc, tokens, at, NESTING_LIMIT)
 }
 
 /// A choice of two values.
@@ -172,7 +232,7 @@ pub fn select(alloc: Global, tokens: &[Token], at: usize) -> Result<(OpNode, usi
     ensures on { IfOk result (λ x. at < x.1) }
 {
     let (word, at) = take(tokens, at, Class::Select)?;
-    let (condition, at) = typed_value_in(alloc, tokens, at, 64)?;
+    let (condition, at) = typed_value_in(alloc, tokens, at, NESTING_LIMIT)?;
     select_end(alloc, tokens, at, word, condition)
 }
 
@@ -204,5 +264,5 @@ fn comma_value(alloc: Global, tokens: &[Token], at: usize) -> Result<(TypedVal, 
     ensures { Reads tokens.now at (λ x. typed_of x.0) (λ x. x.1) result (behind_comma typed_value_at (drop at tokens.now)) }
 {
     let (_, at) = take(tokens, at, Class::Comma)?;
-    typed_value_in(alloc, tokens, at, 64)
+    typed_value_in(alloc, tokens, at, NESTING_LIMIT)
 }

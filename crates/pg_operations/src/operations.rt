@@ -12,12 +12,12 @@ use crate::memory::{alloca, load, store};
 use crate::numbers::{binary, cast, comparison, select};
 use crate::phi::phi;
 use pg_ast::OpNode;
-use pg_grammar::{Class, ReadError, Refusal, Token};
+use pg_grammar::{Class, ReadError, ReadRefusal, Token};
 use pg_terms::{ClassSet, metadata, next_in, next_is};
 use std::alloc::Global;
 
 /// The metadata behind an operation.
-fn lined_op(tokens: &[Token], at: usize, op: OpNode) -> Result<(OpNode, usize), Refusal>
+fn lined_op(tokens: &[Token], at: usize, op: OpNode) -> Result<(OpNode, usize), ReadRefusal>
     requires { at ≤ length tokens.now }
     ensures { Takes tokens.now at (λ x. op_of x.0) (λ x. x.1) result (behind_op_at (op_of op) (drop at tokens.now)) }
 {

@@ -12,6 +12,7 @@ ghost use Rattle.pg_ast.specs.Views.{op_of, val_of, incoming_of};
 use crate::listing::{Listing, square_goes_on};
 use pg_ast::{IncomingNode, Name, OpNode, ValNode};
 use pg_grammar::{Class, ReadError, Token};
+use pg_num::limits::NESTING_LIMIT;
 use pg_terms::{metadata_tail, name, take, type_node, value};
 use std::alloc::Global;
 
@@ -21,7 +22,7 @@ fn incoming(alloc: Global, tokens: &[Token], at: usize) -> Result<(IncomingNode,
     ensures on { IfOk result (λ x. at < x.1) }
 {
     let (_, at) = take(tokens, at, Class::OpenSquare)?;
-    let (value, at) = value(alloc, tokens, at, 64)?;
+    let (value, at) = value(alloc, tokens, at, NESTING_LIMIT)?;
     incoming_tail(alloc, tokens, at, value)
 }
 
@@ -129,7 +130,7 @@ pub fn phi(alloc: Global, tokens: &[Token], at: usize) -> Result<(OpNode, usize)
     ensures on { IfOk result (λ x. at < x.1) }
 {
     let (word, at) = take(tokens, at, Class::Phi)?;
-    let (ty, at) = type_node(alloc, tokens, at, 64)?;
+    let (ty, at) = type_node(alloc, tokens, at, NESTING_LIMIT)?;
     let (first, at) = incoming(alloc, tokens, at)?;
     let (more, at) = more_incoming(alloc, tokens, at)?;
     let node = OpNode::Phi {

@@ -1,6 +1,7 @@
 //! The types that a call writes for its callee.
 
 ghost use Rattle.std.specs.Prelude.{◌≡◌, ◌≤◌, ◌<◌, [], ◌∷◌, length, drop, map, IfOk};
+ghost use Rattle.pg_num.specs.declared.limits.TheConstants.{NESTING_LIMIT};
 ghost use Rattle.pg_grammar.specs.declared.token.Fault.TheVariants.{Unsupported};
 ghost use Rattle.pg_grammar.specs.declared.class.Class.TheVariants.{Dots};
 ghost use Rattle.pg_grammar.specs.Classes.{is};
@@ -15,6 +16,7 @@ ghost use Rattle.pg_ast.specs.Views.{ty_of, written_of};
 use crate::listing::{Listing, type_goes_on};
 use pg_ast::{CallTypes, TypeNode};
 use pg_grammar::{Class, ReadError, Token};
+use pg_num::limits::NESTING_LIMIT;
 use pg_terms::{ClassSet, next_in, next_is, take, type_node, unsupported};
 use std::alloc::{AllocError, Global};
 
@@ -40,7 +42,7 @@ pub fn written(alloc: Global, tokens: &[Token], at: usize) -> Result<(CallTypes,
         let (_, at) = take(tokens, at, Class::CloseRound)?;
         return Ok((untyped(alloc, false), at));
     }
-    let (first, at) = type_node(alloc, tokens, at, 64)?;
+    let (first, at) = type_node(alloc, tokens, at, NESTING_LIMIT)?;
     let (more, at) = more_written(alloc, tokens, at)?;
     let (_, at) = take(tokens, at, Class::CloseRound)?;
     let types = with_first(first, more.items)?;
@@ -79,7 +81,7 @@ fn more_written(
 ) -> Result<(Listing<TypeNode>, usize), ReadError>
     requires { at ≤ length tokens.now }
     ensures { Reads tokens.now at (λ x. listing_of ty_of x.0) (λ x. x.1) result
-        (more_at begins_type (type_at 64) (unless Unsupported no_type (drop_value_at (take_one (is Dots)))) (drop at tokens.now)) }
+        (more_at begins_type (type_at NESTING_LIMIT) (unless Unsupported no_type (drop_value_at (take_one (is Dots)))) (drop at tokens.now)) }
 {
     let mut listing = Listing {
         items: Vec::new(alloc),
@@ -106,7 +108,7 @@ fn type_or_comma(
     listing: Listing<TypeNode>,
 ) -> Result<(Listing<TypeNode>, usize), ReadError>
     requires { at ≤ length tokens.now }
-    ensures read { Reads tokens.now at (λ x. listing_of ty_of x.0) (λ x. x.1) result (listing_at (type_at 64) (listing_of ty_of listing) (drop at tokens.now)) }
+    ensures read { Reads tokens.now at (λ x. listing_of ty_of x.0) (λ x. x.1) result (listing_at (type_at NESTING_LIMIT) (listing_of ty_of listing) (drop at tokens.now)) }
     ensures on { IfOk result (λ x. at < x.1) }
 {
     let Listing { mut items, comma } = listing;
@@ -130,10 +132,10 @@ fn type_or_comma(
 /// A type, which is a token at least.
 fn some_type(alloc: Global, tokens: &[Token], at: usize) -> Result<(TypeNode, usize), ReadError>
     requires { at ≤ length tokens.now }
-    ensures read { Reads tokens.now at (λ x. ty_of x.0) (λ x. x.1) result (type_at 64 (drop at tokens.now)) }
+    ensures read { Reads tokens.now at (λ x. ty_of x.0) (λ x. x.1) result (type_at NESTING_LIMIT (drop at tokens.now)) }
     ensures on { IfOk result (λ x. at < x.1) }
 {
-    type_node(alloc, tokens, at, 64)
+    type_node(alloc, tokens, at, NESTING_LIMIT)
 }
 
 /// The dots behind a comma that stands behind the types.

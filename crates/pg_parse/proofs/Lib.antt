@@ -1,1 +1,3 @@
 pub mod AddedParts
+pub mod FunctionGroups
+pub mod VoidGroups

@@ -1,2 +1,3 @@
 pub mod ItemStates
 pub mod BodyParts
+pub mod FunctionParts

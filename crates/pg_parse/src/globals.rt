@@ -6,7 +6,8 @@ ghost use Rattle.pg_grammar.specs.Views.{Reads, Takes};
 ghost use Rattle.pg_ast.specs.Views.{global_of, type_item_of};
 
 use pg_ast::{GlobalItem, TypeItem};
-use pg_grammar::{Class, ReadError, Refusal, Token};
+use pg_grammar::{Class, ReadError, ReadRefusal, Token};
+use pg_num::limits::NESTING_LIMIT;
 use pg_terms::{ClassSet, attributes, constant, name, next_is, take, take_in, type_node};
 use std::alloc::Global;
 
@@ -21,12 +22,12 @@ pub fn type_item(alloc: Global, tokens: &[Token], at: usize) -> Result<(TypeItem
     let (_, at) = take(tokens, at, Class::Equals)?;
     let (_, at) = take(tokens, at, Class::TypeWord)?;
     let name = name(alloc, token)?;
-    let (ty, at) = type_node(alloc, tokens, at, 64)?;
+    let (ty, at) = type_node(alloc, tokens, at, NESTING_LIMIT)?;
     Ok((TypeItem { name, ty }, at))
 }
 
 /// Whether a global is a constant.
-fn constancy(tokens: &[Token], at: usize) -> Result<(bool, usize), Refusal>
+fn constancy(tokens: &[Token], at: usize) -> Result<(bool, usize), ReadRefusal>
     requires { at ≤ length tokens.now }
     ensures { Takes tokens.now at (λ x. x.0) (λ x. x.1) result (constancy_at (drop at tokens.now)) }
 {
@@ -54,8 +55,8 @@ pub fn global_item(
     let at = attributes(tokens, at)?;
     let (is_constant, at) = constancy(tokens, at)?;
     let name = name(alloc, token)?;
-    let (ty, at) = type_node(alloc, tokens, at, 64)?;
-    let (value, at) = constant(alloc, tokens, at, 64)?;
+    let (ty, at) = type_node(alloc, tokens, at, NESTING_LIMIT)?;
+    let (value, at) = constant(alloc, tokens, at, NESTING_LIMIT)?;
     Ok((
         GlobalItem {
             name,

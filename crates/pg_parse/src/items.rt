@@ -23,7 +23,7 @@ pub enum AfterItem {
 }
 
 /// The items so far, and what stands last among them.
-#[derive(Debug, Drop)]
+#[derive(Drop)]
 pub struct Items {
     pub tree: Module,
     pub after: AfterItem,

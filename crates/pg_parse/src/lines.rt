@@ -9,7 +9,7 @@ ghost use Rattle.pg_ast.specs.Views.{block_of};
 use crate::parts::{AfterPart, Body, BodyPart, add_call, add_line, add_part};
 use crate::returns::return_line;
 use pg_ast::{BlockNode, Name};
-use pg_grammar::{Class, ReadError, Token};
+use pg_grammar::{Class, INNER_NESTING_LIMIT, ReadError, Token};
 use pg_operations::{call, simple_op};
 use pg_terms::{ClassSet, metadata_tail, name, next_in, next_is, skip_to, take, unsupported};
 use std::alloc::Global;
@@ -71,7 +71,7 @@ pub fn debug_tail(
     ensures { Reads tokens.now at (λ x. body_of x.0) (λ x. x.1) result (debug_tail_at (map block_of blocks.items) (drop at tokens.now)) }
 {
     let (_, at) = take(tokens, at, Class::OpenRound)?;
-    let to = skip_to(tokens, at, 63, Class::CloseRound)?;
+    let to = skip_to(tokens, at, INNER_NESTING_LIMIT, Class::CloseRound)?;
     let blocks = add_part(alloc, blocks, BodyPart::Dropped)?;
     let after = AfterPart::Complete;
     Ok((Body { blocks, after }, to))

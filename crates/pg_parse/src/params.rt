@@ -12,6 +12,7 @@ ghost use Rattle.pg_ast.specs.Views.{param_of, dparam_of};
 
 use pg_ast::{DparamNode, Name, ParamNode};
 use pg_grammar::{Class, ReadError, Token};
+use pg_num::limits::NESTING_LIMIT;
 use pg_terms::{attributes, name, next_is, take, type_node, unsupported};
 use std::alloc::Global;
 
@@ -35,7 +36,7 @@ fn param(alloc: Global, tokens: &[Token], at: usize) -> Result<(ParamNode, usize
     requires { at ≤ length tokens.now }
     ensures { Reads tokens.now at (λ x. param_of x.0) (λ x. x.1) result (param_at (drop at tokens.now)) }
 {
-    let (ty, at) = type_node(alloc, tokens, at, 64)?;
+    let (ty, at) = type_node(alloc, tokens, at, NESTING_LIMIT)?;
     let at = attributes(tokens, at)?;
     let (name, at) = maybe_name(alloc, tokens, at)?;
     Ok((ParamNode { ty, name }, at))

@@ -12,7 +12,7 @@ use pg_lex::Span;
 use std::alloc::{AllocError, Global};
 
 /// A part of a function's body: a label, a line, or a line that is dropped.
-#[derive(Debug, Drop)]
+#[derive(Drop)]
 pub enum BodyPart {
     Label(Name),
     Line(LineNode),
@@ -36,7 +36,7 @@ pub enum AfterPart {
 }
 
 /// The blocks so far, and what stands last in them.
-#[derive(Debug, Drop)]
+#[derive(Drop)]
 pub struct Body {
     pub blocks: Vec<BlockNode>,
     pub after: AfterPart,

@@ -10,6 +10,7 @@ ghost use Rattle.pg_ast.specs.Views.{val_of, block_of};
 use crate::parts::{AfterPart, Body, VoidReturn, add_line, add_return};
 use pg_ast::{BlockNode, Name, OpNode, TypeNode, TypedVal, ValNode};
 use pg_grammar::{Class, ReadError, Token};
+use pg_num::limits::NESTING_LIMIT;
 use pg_terms::{
     ClassSet, literal, metadata, metadata_tail, next_in, next_is, plain_value, take, typed_value_in,
 };
@@ -100,7 +101,7 @@ pub fn return_line(
         };
         return void_tail(alloc, tokens, at, blocks, line);
     }
-    let (value, at) = typed_value_in(alloc, tokens, at, 64)?;
+    let (value, at) = typed_value_in(alloc, tokens, at, NESTING_LIMIT)?;
     let to = metadata(tokens, at)?;
     let blocks = add_line(
         alloc,

@@ -12,7 +12,7 @@ ghost use Rattle.pg_ast.specs.Views.{tree_of};
 
 use crate::program::program;
 use pg_ast::Module;
-use pg_grammar::{Fault, ReadError, ReadFault, Refusal, Token, classify};
+use pg_grammar::{Fault, ReadError, ReadFault, ReadRefusal, Token, classify};
 use pg_lex::{Span, lex};
 use std::alloc::Global;
 
@@ -38,7 +38,7 @@ fn whole(alloc: Global, text: &[u8], tokens: &[Token]) -> Result<Module, ReadFau
         Err(ReadError::Refused(refusal)) => Err(refused(text, tokens, refusal)),
         Ok((tree, at)) => {
             if at < tokens.len() {
-                let refusal = Refusal { fault: None, at };
+                let refusal = ReadRefusal { fault: None, at };
                 return Err(refused(text, tokens, refusal));
             }
             Ok(tree)
@@ -46,7 +46,7 @@ fn whole(alloc: Global, text: &[u8], tokens: &[Token]) -> Result<Module, ReadFau
     }
 }
 
-fn refused(text: &[u8], tokens: &[Token], refusal: Refusal) -> ReadFault
+fn refused(text: &[u8], tokens: &[Token], refusal: ReadRefusal) -> ReadFault
     requires limit { length text.now ≤ PROGRAM_TEXT_LIMIT }
     requires within { refusal.at ≤ length tokens.now }
     ensures { result ≡ told refusal.fault (place_of text.now (drop refusal.at tokens.now)) }

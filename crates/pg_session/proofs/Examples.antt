@@ -3,7 +3,7 @@ use Rattle.std.proofs.Common.{◌≡◌, [], refl, codes}
 use Rattle.std.specs.Fmt.{digits}
 use Rattle.pg_grammar.specs.declared.fault.ReadFault.TheVariants as reader
 use Rattle.pg_rules.specs.declared.fault.CheckKind.TheVariants as check
-use Rattle.pg_session.specs.declared.refusals.Refusal.TheVariants.{TooLong, Read, Check}
+use Rattle.pg_session.specs.declared.refusals.TextRefusal.TheVariants.{TooLong, Read, Check}
 use Rattle.pg_session.specs.Refusals.{refusal_line}
 
 too_long : refusal_line (codes "ab") TooLong ≡ codes "program refused 1:1 TooLong\n"

@@ -2,7 +2,7 @@
 use Rattle.std.proofs.Common.{◌≡◌, ◌<◌, ◌+◌, ℕ, List, [], ◌∷◌, length, Option, Some, None, IfSome, refl, ◌∙◌, arith}
 use Rattle.std.specs.Prelude.{zero, suc}
 use Rattle.pg_num.specs.declared.limits.TheConstants.{PROGRAM_TEXT_LIMIT}
-use Rattle.pg_session.specs.declared.refusals.Refusal.TheVariants.{TooLong}
+use Rattle.pg_session.specs.declared.refusals.TextRefusal.TheVariants.{TooLong}
 use Rattle.pg_session.specs.Refusals.{refusal_line}
 use Rattle.pg_session.specs.Texts.{IsRefusalLine}
 

@@ -3,7 +3,9 @@ use Rattle.std.proofs.Common.{◌≡◌, ℕ, zero, suc, ◌<◌, List, [], ◌�
 use Rattle.std.specs.Prelude.{All}
 use Rattle.std.specs.List.{list_all}
 use Rattle.std.proofs.lemmas.List.Sums.{list_all-from_AllPass}
+use Rattle.pg_num.specs.declared.limits.TheConstants.{NESTING_LIMIT}
 use Rattle.pg_ast.specs.Syntax.{Const, Consts, ValConst, BytesConst, ArrayConst, StructConst, NoConsts, MoreConsts, TypedC, consts, ParamOf, Variable, Tree}
+use Rattle.pg_grammar.specs.declared.nesting.TheConstants.{INNER_NESTING_LIMIT}
 use Rattle.pg_grammar.specs.declared.token.Token.{Token}
 use Rattle.pg_grammar.specs.declared.token.Fault.TheVariants.{Unsupported}
 use Rattle.pg_grammar.specs.declared.class.Class.TheVariants.{Comma, Dots, CloseRound, CloseBrace, CloseSquare}
@@ -71,15 +73,16 @@ ItemHas (GlobalItem g) = GlobalHas g
 ItemHas _ = Unit {1}
 
 param_yields : Yields param Any
-param_yields = yields_then (type_yields 64) (λ t x. attributes_then (yields_or (yields_then yields_one (λ n k. yields_give tt)) (yields_give tt)))
+param_yields = yields_then (type_yields NESTING_LIMIT) (λ t x. attributes_then (yields_or (yields_then yields_one (λ n k. yields_give tt)) (yields_give tt)))
 
 dparam_yields : Yields dparam Any
 dparam_yields = yields_or (yields_then yields_one (λ t _. yields_give tt)) (yields_or (yields_then yields_one (λ t _. yields_give tt))
     (yields_then {h = λ p. give (ParamOf p)} param_yields (λ p e. yields_give tt)))
 
 node_yields : Yields node Any
-node_yields = yields_or (yields_then yields_one (λ m _. yields_then yields_one (λ o _. skip_yields 63 CloseRound)))
-    (yields_then yields_one (λ b _. yields_or (yields_then yields_one (λ o _. skip_yields 63 CloseBrace)) (yields_then yields_one (λ o _. skip_yields 63 CloseRound))))
+node_yields = yields_or (yields_then yields_one (λ m _. yields_then yields_one (λ o _. skip_yields INNER_NESTING_LIMIT CloseRound)))
+    (yields_then yields_one (λ b _. yields_or (yields_then yields_one (λ o _. skip_yields INNER_NESTING_LIMIT CloseBrace))
+    (yields_then yields_one (λ o _. skip_yields INNER_NESTING_LIMIT CloseRound))))
 
 metadata_yields : Yields metadata_item ItemHas
 metadata_yields = yields_then yields_one (λ m _. yields_then yields_one (λ q _. yields_or (yields_then yields_one (λ d _.
@@ -90,25 +93,25 @@ global_yields = yields_then yields_one (λ n k. yields_then yields_one (λ q _.
     attributes_then (yields_or (yields_then yields_one (λ c _. rest n false)) (yields_then yields_one (λ c _. rest n true)))))
   where
     rest : (n : Token) (c : Bool) → Yields (global_rest n c) ItemHas
-    rest n c = yields_then (type_yields 64) (λ t x. yields_then (const_yields 64) (λ v y.
+    rest n c = yields_then (type_yields NESTING_LIMIT) (λ t x. yields_then (const_yields NESTING_LIMIT) (λ v y.
         yields_then (yields_many (yields_then (yields_one {test = is Comma}) (λ m _. attributes_yields))) (λ ms _. yields_give y)))
 
 declare_yields : Yields declare_item ItemHas
-declare_yields = yields_then yields_one (λ o _. attributes_then (yields_then (type_yields 64) (λ t x.
+declare_yields = yields_then yields_one (λ o _. attributes_then (yields_then (type_yields NESTING_LIMIT) (λ t x.
     yields_then yields_one (λ n k. yields_then yields_one (λ b _. yields_then {h = declare_rest t n} (yields_listed CloseRound dparam_yields) (λ ps z. attributes_then (yields_give tt)))))))
 
 define_yields : Yields define_item ItemHas
-define_yields = yields_then yields_one (λ o _. attributes_then (yields_then (type_yields 64) (λ t x.
+define_yields = yields_then yields_one (λ o _. attributes_then (yields_then (type_yields NESTING_LIMIT) (λ t x.
     yields_then yields_one (λ n k. yields_then yields_one (λ b _.
     yields_then {h = define_rest t n} (yields_listed CloseRound (yields_or param_yields (yields_refused Unsupported (is Dots)))) (λ ps z.
     attributes_then (yields_then {h = λ bs. give (DefineItem (record { result = t; name = name_of n; params = ps; blocks = bs }))} body_yields (λ bs w. yields_give tt))))))))
 
 type_item_yields : Yields type_item ItemHas
-type_item_yields = yields_then yields_one (λ n k. yields_then yields_one (λ q _. yields_then yields_one (λ w _. yields_then (type_yields 64) (λ t x. yields_give tt))))
+type_item_yields = yields_then yields_one (λ n k. yields_then yields_one (λ q _. yields_then yields_one (λ w _. yields_then (type_yields NESTING_LIMIT) (λ t x. yields_give tt))))
 
 attributes_item_yields : Yields attributes_item ItemHas
 attributes_item_yields = yields_then yields_one (λ a _. yields_then yields_one (λ n _.
-    yields_then yields_one (λ q _. yields_then yields_one (λ b _. yields_then (skip_yields 63 CloseBrace) (λ u _. yields_give tt)))))
+    yields_then yields_one (λ q _. yields_then yields_one (λ b _. yields_then (skip_yields INNER_NESTING_LIMIT CloseBrace) (λ u _. yields_give tt)))))
 
 text_yields : Yields text_item ItemHas
 text_yields = yields_or (yields_then yields_one (λ a _. yields_then yields_one (λ q _. yields_then yields_one (λ s _. yields_give tt))))

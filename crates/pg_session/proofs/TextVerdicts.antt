@@ -11,8 +11,8 @@ use Rattle.pg_ir.specs.Program.{NumberedProgram}
 use Rattle.pg_rules.specs.declared.fault.CheckKind.{CheckKind}
 use Rattle.pg_rules.specs.Conditions.{phases, IsFirstRefusal, IsUnrefused}
 use Rattle.pg_rules.specs.Numbered.{program_of}
-use Rattle.pg_session.specs.declared.refusals.Refusal.{Refusal}
-use Rattle.pg_session.specs.declared.refusals.Refusal.TheVariants.{TooLong, Read, Check}
+use Rattle.pg_session.specs.declared.refusals.TextRefusal.{TextRefusal}
+use Rattle.pg_session.specs.declared.refusals.TextRefusal.TheVariants.{TooLong, Read, Check}
 use Rattle.pg_session.specs.Refusals.{IsRefusedFor, IsRefused, refusal_name, refusal_place, fault_name, fault_place, kind_name}
 use Rattle.pg_session.specs.Texts.{IsAccepted}
 use Rattle.pg_session.proofs.FirstRefusals.{none_first, AreSame, first_same, none_or_first}
@@ -36,7 +36,7 @@ module_either m = none_or_first (phases m)
 pub one_program : (text : List ℕ) (p q : NumberedProgram) → IsAccepted text p → IsAccepted text q → p ≡ q
 one_program text p q a b = a.program ∙ ap program_of (module_once text a.tree b.tree a.is_module b.is_module) ∙ sym b.program
 
-pub not_refused_for : (text : List ℕ) (p : NumberedProgram) (r : Refusal) → IsAccepted text p → IsRefusedFor text r → ⊥
+pub not_refused_for : (text : List ℕ) (p : NumberedProgram) (r : TextRefusal) → IsAccepted text p → IsRefusedFor text r → ⊥
 not_refused_for text p TooLong a long = let h = a.within in omega (arith, long, h)
 not_refused_for text p (Read fault) a r = first_not_module text fault r.refusal a.tree a.is_module
 not_refused_for text p (Check kind span) a r =
@@ -65,11 +65,11 @@ accepted_or_refused text = by (nat_lt PROGRAM_TEXT_LIMIT (length text)) refl
 
 -- ---- one name and one place
 
-record HaveOneLine (r s : Refusal) : Type 0 where
+record HaveOneLine (r s : TextRefusal) : Type 0 where
   name : refusal_name r ≡ refusal_name s
   place : refusal_place r ≡ refusal_place s
 
-one_line : (text : List ℕ) (r s : Refusal) → IsRefusedFor text r → IsRefusedFor text s → HaveOneLine r s
+one_line : (text : List ℕ) (r s : TextRefusal) → IsRefusedFor text r → IsRefusedFor text s → HaveOneLine r s
 one_line text TooLong TooLong a b = record { name = refl; place = refl }
 one_line text TooLong (Read d) a b = let h = b.within in absurd (omega (arith, a, h))
 one_line text TooLong (Check j t) a b = let h = b.within in absurd (omega (arith, a, h))
@@ -84,8 +84,8 @@ one_line text (Check k s) (Check j t) a b =
     let same = module_same b.tree k s j t (subst (λ (m : Tree). IsFirstRefusal m k s) (module_once text a.tree b.tree a.is_module b.is_module) a.refusal) b.refusal in
     record { name = ap kind_name same.kinds; place = same.places }
 
-pub one_name : (text : List ℕ) (r s : Refusal) → IsRefusedFor text r → IsRefusedFor text s → refusal_name r ≡ refusal_name s
+pub one_name : (text : List ℕ) (r s : TextRefusal) → IsRefusedFor text r → IsRefusedFor text s → refusal_name r ≡ refusal_name s
 one_name text r s a b = (one_line text r s a b).name
 
-pub one_place : (text : List ℕ) (r s : Refusal) → IsRefusedFor text r → IsRefusedFor text s → refusal_place r ≡ refusal_place s
+pub one_place : (text : List ℕ) (r s : TextRefusal) → IsRefusedFor text r → IsRefusedFor text s → refusal_place r ≡ refusal_place s
 one_place text r s a b = (one_line text r s a b).place

@@ -11,8 +11,8 @@ use Rattle.pg_grammar.specs.Accepted.{IsModule, IsUnread}
 use Rattle.pg_rules.specs.declared.fault.CheckKind.{CheckKind}
 use Rattle.pg_rules.specs.declared.fault.CheckKind.TheVariants as check
 use Rattle.pg_rules.specs.Conditions.{IsFirstRefusal}
-use Rattle.pg_session.specs.declared.refusals.Refusal.{Refusal}
-use Rattle.pg_session.specs.declared.refusals.Refusal.TheVariants.{TooLong, Read, Check}
+use Rattle.pg_session.specs.declared.refusals.TextRefusal.{TextRefusal}
+use Rattle.pg_session.specs.declared.refusals.TextRefusal.TheVariants.{TooLong, Read, Check}
 
 -- ---- which texts are refused
 
@@ -29,13 +29,13 @@ pub record IsRefusedModule (text : List ℕ) (kind : CheckKind) (span : Span) : 
   pub refusal : IsFirstRefusal tree kind span
 
 -- the text is refused for this: its length is asked first, then whether it is a module, then what the checks refuse
-abbrev pub IsRefusedFor : List ℕ → Refusal → Type 0
+abbrev pub IsRefusedFor : List ℕ → TextRefusal → Type 0
 IsRefusedFor text TooLong = PROGRAM_TEXT_LIMIT < length text
 IsRefusedFor text (Read fault) = IsUnreadText text fault
 IsRefusedFor text (Check kind span) = IsRefusedModule text kind span
 
 abbrev pub IsRefused : List ℕ → Type 0
-IsRefused text = (refusal : Refusal) × IsRefusedFor text refusal
+IsRefused text = (refusal : TextRefusal) × IsRefusedFor text refusal
 
 -- ---- its line
 
@@ -58,7 +58,7 @@ kind_name check.BadSignature = codes "BadSignature"
 kind_name check.TooLarge = codes "TooLarge"
 kind_name check.NoMain = codes "NoMain"
 
-abbrev pub refusal_name : Refusal → List ℕ
+abbrev pub refusal_name : TextRefusal → List ℕ
 refusal_name TooLong = codes "TooLong"
 refusal_name (Read fault) = fault_name fault
 refusal_name (Check kind span) = kind_name kind
@@ -72,7 +72,7 @@ fault_place (reader.Unsupported span) = span.start
 fault_place (reader.TooDeep at) = at
 fault_place reader.OutOfMemory = 0
 
-abbrev pub refusal_place : Refusal → ℕ
+abbrev pub refusal_place : TextRefusal → ℕ
 refusal_place TooLong = 0
 refusal_place (Read fault) = fault_place fault
 refusal_place (Check kind span) = span.start
@@ -86,7 +86,7 @@ abbrev pub kind_token : CheckKind → Span → Option Span
 kind_token check.Unsupported span = Some span
 kind_token _ span = None
 
-abbrev pub refusal_token : Refusal → Option Span
+abbrev pub refusal_token : TextRefusal → Option Span
 refusal_token TooLong = None
 refusal_token (Read fault) = fault_token fault
 refusal_token (Check kind span) = kind_token kind span
@@ -101,5 +101,5 @@ abbrev pub refusal_head : List ℕ → List ℕ → List ℕ
 refusal_head before name = codes "program refused " ++ (decimal (line_after before) ++ (codes ":" ++ (decimal (column_after before) ++ (codes " " ++ name))))
 
 -- the line that refuses a text: its place and its name, then the text of a token that isn't supported
-unfoldable pub refusal_line : List ℕ → Refusal → List ℕ
+unfoldable pub refusal_line : List ℕ → TextRefusal → List ℕ
 refusal_line text refusal = refusal_head (take (refusal_place refusal) text) (refusal_name refusal) ++ (token_text text (refusal_token refusal) ++ codes "\n")

@@ -18,7 +18,7 @@ use Rattle.pg_machine.specs.declared.outcome.Outcome.{Outcome}
 use Rattle.pg_machine.specs.declared.outcome.Outcome.TheVariants.{Exit, Trap, Budget}
 use Rattle.pg_machine.specs.declared.guided_end.GuidedEnd.{GuidedEnd}
 use Rattle.pg_machine.specs.declared.guided_end.GuidedEnd.TheVariants as guided
-use Rattle.pg_session.specs.declared.refusals.Refusal.{Refusal}
+use Rattle.pg_session.specs.declared.refusals.TextRefusal.{TextRefusal}
 use Rattle.pg_session.specs.Refusals.{IsRefusedFor, refusal_line}
 
 -- ---- the text of a run
@@ -81,6 +81,6 @@ pub record IsOnceText (text : List ℕ) (quantum : ℕ) (input : List ℤ) (writ
 
 -- the line of a program text that is refused
 pub record IsRefusalLine (text written : List ℕ) : Type 0 where
-  pub refusal : Refusal
+  pub refusal : TextRefusal
   pub cause : IsRefusedFor text refusal
   pub whole : written ≡ refusal_line text refusal

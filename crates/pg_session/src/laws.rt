@@ -5,7 +5,7 @@ ghost use Rattle.pg_ir.specs.Program.{NumberedProgram};
 ghost use Rattle.pg_trace.specs.Races.{schedule_of};
 ghost use Rattle.pg_machine.specs.Rotation.{rotation_of};
 ghost use Rattle.pg_runs.specs.Cuts.{CanRun};
-ghost use Rattle.pg_session.specs.declared.refusals.Refusal.{Refusal};
+ghost use Rattle.pg_session.specs.declared.refusals.TextRefusal.{TextRefusal};
 ghost use Rattle.pg_session.specs.Refusals.{IsRefused, IsRefusedFor, refusal_name, refusal_place};
 ghost use Rattle.pg_session.specs.Texts.{IsAccepted, run_along};
 
@@ -27,9 +27,9 @@ pub fn an_accepted_text_has_one_program()
 
 /// A text is refused by one name, and at one place.
 pub fn a_text_is_refused_in_one_way()
-    ensures name { (text : List ℕ) (r s : Refusal) → IsRefusedFor text r → IsRefusedFor text s →
+    ensures name { (text : List ℕ) (r s : TextRefusal) → IsRefusedFor text r → IsRefusedFor text s →
         refusal_name r ≡ refusal_name s }
-    ensures place { (text : List ℕ) (r s : Refusal) → IsRefusedFor text r → IsRefusedFor text s →
+    ensures place { (text : List ℕ) (r s : TextRefusal) → IsRefusedFor text r → IsRefusedFor text s →
         refusal_place r ≡ refusal_place s }
 {}
 

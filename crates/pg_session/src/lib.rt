@@ -15,6 +15,6 @@ mod trial;
 mod verdicts;
 
 pub use pg_io::{ReadAllFault, read_all, write_all};
-pub use refusals::Refusal;
+pub use refusals::TextRefusal;
 pub use session::peregrine;
 pub use status::Status;

@@ -8,7 +8,7 @@ ghost use Rattle.pg_session.specs.Texts.{IsRefusalLine};
 ghost use Rattle.pg_session.specs.declared.programs.NoProgram.TheVariants.{OutOfMemory};
 
 use crate::laws::an_accepted_program_can_run;
-use crate::refusals::{Refusal, refusal_line};
+use crate::refusals::{TextRefusal, refusal_line};
 use crate::verdicts::{Verdict, verdict_of};
 use pg_io::{FetchFault, Shelf};
 use pg_ir::Program;
@@ -60,7 +60,7 @@ pub(crate) fn load(alloc: Global, text: &[u8]) -> Result<Loaded, AllocError>
 pub(crate) fn too_long_line(alloc: Global) -> Result<Vec<u8>, AllocError>
     ensures { IfOk result (λ line. (text : List ℕ) → PROGRAM_TEXT_LIMIT < length text → IsRefusalLine text line.items) }
 {
-    let line = refusal_line(alloc, &[], Refusal::TooLong)?;
+    let line = refusal_line(alloc, &[], TextRefusal::TooLong)?;
     Ok(line)
 }
 

@@ -10,7 +10,7 @@ use std::alloc::{AllocError, Global};
 
 /// Why a program text is refused.
 #[derive(Clone, Copy, Debug, PartialEq, Eq)]
-pub enum Refusal {
+pub enum TextRefusal {
     /// It has more bytes than the limit.
     TooLong,
     /// It is no module: the reader's first refusal.
@@ -79,15 +79,15 @@ fn kind_token(kind: CheckKind, span: Span) -> Option<Span>
     }
 }
 
-impl Refusal {
+impl TextRefusal {
     /// The name of the refusal.
     fn name(self) -> &'static str
         ensures { result.now ≡ refusal_name self }
     {
         match self {
-            Refusal::TooLong => "TooLong",
-            Refusal::Read(fault) => fault_name(fault),
-            Refusal::Check { kind, .. } => kind_name(kind),
+            TextRefusal::TooLong => "TooLong",
+            TextRefusal::Read(fault) => fault_name(fault),
+            TextRefusal::Check { kind, .. } => kind_name(kind),
         }
     }
 
@@ -96,9 +96,9 @@ impl Refusal {
         ensures { result ≡ refusal_place self }
     {
         match self {
-            Refusal::TooLong => 0,
-            Refusal::Read(fault) => fault_place(fault),
-            Refusal::Check { span, .. } => span.start,
+            TextRefusal::TooLong => 0,
+            TextRefusal::Read(fault) => fault_place(fault),
+            TextRefusal::Check { span, .. } => span.start,
         }
     }
 
@@ -107,9 +107,9 @@ impl Refusal {
         ensures { result ≡ refusal_token self }
     {
         match self {
-            Refusal::TooLong => None,
-            Refusal::Read(fault) => fault_token(fault),
-            Refusal::Check { kind, span } => kind_token(kind, span),
+            TextRefusal::TooLong => None,
+            TextRefusal::Read(fault) => fault_token(fault),
+            TextRefusal::Check { kind, span } => kind_token(kind, span),
         }
     }
 }
@@ -155,7 +155,7 @@ fn add_token(line: &mut Vec<u8>, text: &[u8], token: Option<Span>) -> Result<(),
 pub(crate) fn refusal_line(
     alloc: Global,
     text: &[u8],
-    refusal: Refusal,
+    refusal: TextRefusal,
 ) -> Result<Vec<u8>, AllocError>
     requires limit { length text.now ≤ PROGRAM_TEXT_LIMIT }
     ensures { IfOk result (λ line. line.items ≡ refusal_line text.now refusal) }

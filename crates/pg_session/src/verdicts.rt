@@ -5,7 +5,7 @@ ghost use Rattle.pg_ast.specs.Views.{tree_of};
 ghost use Rattle.pg_grammar.specs.Accepted.{IsModule};
 ghost use Rattle.pg_session.specs.Verdicts.{IsVerdict};
 
-use crate::refusals::Refusal;
+use crate::refusals::TextRefusal;
 use pg_ast::Module;
 use pg_check::{CheckFault, check};
 use pg_grammar::ReadFault;
@@ -19,7 +19,7 @@ use std::alloc::{AllocError, Global};
 #[derive(Drop)]
 pub(crate) enum Verdict {
     Accepted(Program),
-    Refused(Refusal),
+    Refused(TextRefusal),
 }
 
 /// What the checks find of the module of a text.
@@ -31,7 +31,10 @@ fn checked(alloc: Global, text: &[u8], tree: &Module) -> Result<Verdict, AllocEr
     a_module_is_in_order();
     match check(alloc, tree) {
         Ok(program) => Ok(Verdict::Accepted(program)),
-        Err(CheckFault::At { kind, span }) => Ok(Verdict::Refused(Refusal::Check { kind, span })),
+        Err(CheckFault::At { kind, span }) => Ok(Verdict::Refused(TextRefusal::Check {
+            kind,
+            span,
+        })),
         Err(CheckFault::OutOfMemory) => Err(AllocError),
     }
 }
@@ -44,6 +47,6 @@ pub(crate) fn verdict_of(alloc: Global, text: &[u8]) -> Result<Verdict, AllocErr
     match parse(alloc, text) {
         Ok(tree) => checked(alloc, text, &tree),
         Err(ReadFault::OutOfMemory) => Err(AllocError),
-        Err(fault) => Ok(Verdict::Refused(Refusal::Read(fault))),
+        Err(fault) => Ok(Verdict::Refused(TextRefusal::Read(fault))),
     }
 }

@@ -1,2 +1,4 @@
 pub mod Sets
+pub mod Ends
 pub mod Pending
+pub mod Tried

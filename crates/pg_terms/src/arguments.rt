@@ -7,18 +7,19 @@ ghost use Rattle.pg_grammar.specs.Views.{Reads, Takes};
 ghost use Rattle.pg_terms.specs.Pending.{pending_of};
 ghost use Rattle.pg_ast.specs.Views.{val_of, typed_of};
 
-use crate::reader::{is_class, literal, next_is, take, unsupported};
-use crate::sets::{ClassSet, contains, next_in, take_in};
+use crate::reader::{is_class, literal, next_is, take, take_if, unsupported};
+use crate::sets::{ClassSet, contains, next_in, take_if_in, take_in};
 use crate::skips::skip_to;
 use crate::types::type_node;
 use crate::values::{other_value, value};
 use pg_ast::{ArgNode, TypedVal, ValNode};
-use pg_grammar::{Class, ReadError, Refusal, Token};
+use pg_grammar::{Class, INNER_NESTING_LIMIT, ReadError, ReadRefusal, Token};
+use pg_num::limits::NESTING_LIMIT;
 use std::alloc::Global;
 
 /// What stands before a place among the attributes of an argument: nothing that goes on, a word, a string,
 /// or a word and this integer.
-#[derive(Clone, Copy, Debug)]
+#[derive(Clone, Copy)]
 pub enum Pending<'a> {
     Fresh,
     Bare,
@@ -26,21 +27,18 @@ pub enum Pending<'a> {
     Held(&'a Token),
 }
 
-fn take_fresh<'a>(tokens: &'a [Token], at: usize) -> Result<(Pending<'a>, usize), Refusal>
+fn take_fresh<'a>(tokens: &'a [Token], at: usize) -> Result<(Pending<'a>, usize), ReadRefusal>
     requires { at ≤ length tokens.now }
     ensures read { Takes tokens.now at (λ x. pending_of x.0) (λ x. x.1) result (fresh_at (drop at tokens.now)) }
     ensures on { IfOk result (λ x. at < x.1) }
 {
-    if next_in(tokens, at, ClassSet::AttributeWord) {
-        let (_, to) = take_in(tokens, at, ClassSet::AttributeWord)?;
+    if let Some((_, to)) = take_if_in(tokens, at, ClassSet::AttributeWord) {
         return Ok((Pending::Bare, to));
     }
-    if next_in(tokens, at, ClassSet::AttributeName) {
-        let (_, to) = take_in(tokens, at, ClassSet::AttributeName)?;
+    if let Some((_, to)) = take_if_in(tokens, at, ClassSet::AttributeName) {
         return Ok((Pending::Fresh, to));
     }
-    if next_is(tokens, at, Class::Str) {
-        let (_, to) = take(tokens, at, Class::Str)?;
+    if let Some((_, to)) = take_if(tokens, at, Class::Str) {
         return Ok((Pending::Quoted, to));
     }
     let (_, at) = take_in(tokens, at, ClassSet::MetadataName)?;
@@ -53,27 +51,24 @@ fn take_pending<'a>(
     tokens: &'a [Token],
     at: usize,
     state: Pending<'a>,
-) -> Result<(Pending<'a>, usize), Refusal>
+) -> Result<(Pending<'a>, usize), ReadRefusal>
     requires { at ≤ length tokens.now }
     ensures read { Takes tokens.now at (λ x. pending_of x.0) (λ x. x.1) result (pending_at (pending_of state.entry) (drop at tokens.now)) }
     ensures on { IfOk result (λ x. at < x.1) }
 {
     match state {
         Pending::Bare => {
-            if next_is(tokens, at, Class::Int) {
-                let (number, to) = take(tokens, at, Class::Int)?;
+            if let Some((number, to)) = take_if(tokens, at, Class::Int) {
                 return Ok((Pending::Held(number), to));
             }
-            if next_is(tokens, at, Class::OpenRound) {
-                let (_, at) = take(tokens, at, Class::OpenRound)?;
-                let to = skip_to(tokens, at, 63, Class::CloseRound)?;
+            if let Some((_, at)) = take_if(tokens, at, Class::OpenRound) {
+                let to = skip_to(tokens, at, INNER_NESTING_LIMIT, Class::CloseRound)?;
                 return Ok((Pending::Fresh, to));
             }
             take_fresh(tokens, at)
         }
         Pending::Quoted => {
-            if next_is(tokens, at, Class::Equals) {
-                let (_, at) = take(tokens, at, Class::Equals)?;
+            if let Some((_, at)) = take_if(tokens, at, Class::Equals) {
                 let (_, to) = take(tokens, at, Class::Str)?;
                 return Ok((Pending::Fresh, to));
             }
@@ -124,14 +119,14 @@ fn settled(
         return Err(ReadError::Refused(unsupported(at)));
     }
     match state {
-        Pending::Bare => other_value(alloc, tokens, at, 64),
+        Pending::Bare => other_value(alloc, tokens, at, NESTING_LIMIT),
         Pending::Held(number) => {
             if next_in(tokens, at, ClassSet::Value) {
-                return value(alloc, tokens, at, 64);
+                return value(alloc, tokens, at, NESTING_LIMIT);
             }
             Ok((ValNode::Int(literal(alloc, number)?), at))
         }
-        _ => value(alloc, tokens, at, 64),
+        _ => value(alloc, tokens, at, NESTING_LIMIT),
     }
 }
 
@@ -159,7 +154,7 @@ pub fn argument(alloc: Global, tokens: &[Token], at: usize) -> Result<(ArgNode, 
     requires { at ≤ length tokens.now }
     ensures { Reads tokens.now at (λ x. typed_of x.0) (λ x. x.1) result (argument_at (drop at tokens.now)) }
 {
-    let (ty, at) = type_node(alloc, tokens, at, 64)?;
+    let (ty, at) = type_node(alloc, tokens, at, NESTING_LIMIT)?;
     let (value, at) = attributed(alloc, tokens, at)?;
     Ok((TypedVal { ty, value }, at))
 }

@@ -5,39 +5,33 @@ ghost use Rattle.pg_grammar.specs.Reading.{all_of};
 ghost use Rattle.pg_grammar.specs.Reader.{attribute_at, attributes_at, begins_attribute, drop_value_at};
 ghost use Rattle.pg_grammar.specs.Views.{Takes};
 
-use crate::reader::{next_is, take, unsupported};
-use crate::sets::{ClassSet, next_in, take_in};
+use crate::reader::{next_is, take, take_if, unsupported};
+use crate::sets::{ClassSet, next_in, take_if_in, take_in};
 use crate::skips::skip_to;
-use pg_grammar::{Class, Refusal, Token};
+use pg_grammar::{Class, INNER_NESTING_LIMIT, ReadRefusal, Token};
 
 /// An attribute: a word with an integer, a skip or nothing behind it, the name of a group, a string with a
 /// value or none, or two metadata names.
 #[tactic(auto, unfolding(pg_grammar::specs::Reader::attribute_at))]
-pub fn attribute(tokens: &[Token], at: usize) -> Result<usize, Refusal>
+pub fn attribute(tokens: &[Token], at: usize) -> Result<usize, ReadRefusal>
     requires { at ≤ length tokens.now }
     ensures read { Takes tokens.now at (λ x. tt) (λ x. x) result (attribute_at (drop at tokens.now)) }
     ensures on { IfOk result (λ x. at < x) }
 {
-    if next_in(tokens, at, ClassSet::AttributeWord) {
-        let (_, at) = take_in(tokens, at, ClassSet::AttributeWord)?;
-        if next_is(tokens, at, Class::Int) {
-            let (_, to) = take(tokens, at, Class::Int)?;
+    if let Some((_, at)) = take_if_in(tokens, at, ClassSet::AttributeWord) {
+        if let Some((_, to)) = take_if(tokens, at, Class::Int) {
             return Ok(to);
         }
-        if next_is(tokens, at, Class::OpenRound) {
-            let (_, at) = take(tokens, at, Class::OpenRound)?;
-            return skip_to(tokens, at, 63, Class::CloseRound);
+        if let Some((_, at)) = take_if(tokens, at, Class::OpenRound) {
+            return skip_to(tokens, at, INNER_NESTING_LIMIT, Class::CloseRound);
         }
         return Ok(at);
     }
-    if next_in(tokens, at, ClassSet::AttributeName) {
-        let (_, to) = take_in(tokens, at, ClassSet::AttributeName)?;
+    if let Some((_, to)) = take_if_in(tokens, at, ClassSet::AttributeName) {
         return Ok(to);
     }
-    if next_is(tokens, at, Class::Str) {
-        let (_, at) = take(tokens, at, Class::Str)?;
-        if next_is(tokens, at, Class::Equals) {
-            let (_, at) = take(tokens, at, Class::Equals)?;
+    if let Some((_, at)) = take_if(tokens, at, Class::Str) {
+        if let Some((_, at)) = take_if(tokens, at, Class::Equals) {
             let (_, to) = take(tokens, at, Class::Str)?;
             return Ok(to);
         }
@@ -48,7 +42,7 @@ pub fn attribute(tokens: &[Token], at: usize) -> Result<usize, Refusal>
     Ok(to)
 }
 
-fn attribute_list(tokens: &[Token], at: usize) -> Result<usize, Refusal>
+fn attribute_list(tokens: &[Token], at: usize) -> Result<usize, ReadRefusal>
     requires { at ≤ length tokens.now }
     ensures { Takes tokens.now at (λ x. tt) (λ x. x) result (drop_value_at (all_of begins_attribute attribute_at) (drop at tokens.now)) }
 {
@@ -64,7 +58,7 @@ fn attribute_list(tokens: &[Token], at: usize) -> Result<usize, Refusal>
 
 /// Attributes are dropped.
 #[tactic(auto, unfolding(pg_grammar::specs::Reader::attributes_at))]
-pub fn attributes(tokens: &[Token], at: usize) -> Result<usize, Refusal>
+pub fn attributes(tokens: &[Token], at: usize) -> Result<usize, ReadRefusal>
     requires { at ≤ length tokens.now }
     ensures { Takes tokens.now at (λ x. tt) (λ x. x) result (attributes_at (drop at tokens.now)) }
 {

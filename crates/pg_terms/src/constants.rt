@@ -8,7 +8,7 @@ ghost use Rattle.pg_grammar.specs.Reader.{const_at, simple_const_at, array_const
 ghost use Rattle.pg_grammar.specs.Views.{Reads};
 ghost use Rattle.pg_ast.specs.Views.{const_of, typed_const_of};
 
-use crate::reader::{literal, next_is, take, too_deep};
+use crate::reader::{literal, next_is, take, take_if, too_deep};
 use crate::sets::{ClassSet, next_in};
 use crate::types::type_node;
 use crate::values::value;
@@ -25,8 +25,7 @@ fn simple_const(
     requires { at ≤ length tokens.now }
     ensures { Reads tokens.now at (λ x. const_of x.0) (λ x. x.1) result (simple_const_at depth (drop at tokens.now)) }
 {
-    if next_is(tokens, at, Class::CStr) {
-        let (token, to) = take(tokens, at, Class::CStr)?;
+    if let Some((token, to)) = take_if(tokens, at, Class::CStr) {
         return Ok((ConstNode::Bytes(literal(alloc, token)?), to));
     }
     let (value, to) = value(alloc, tokens, at, depth)?;
@@ -116,12 +115,11 @@ fn constants_to(
     requires { at ≤ length tokens.now }
     ensures { Reads tokens.now at (λ x. map typed_const_of x.0.items) (λ x. x.1) result (listed_at close (typed_const_at depth (const_at depth)) (drop at tokens.now)) }
 {
-    let mut all = Vec::new(alloc);
-    if next_is(tokens, at, close) {
-        let (_, to) = take(tokens, at, close)?;
-        return Ok((all, to));
+    if let Some((_, to)) = take_if(tokens, at, close) {
+        return Ok((Vec::new(alloc), to));
     }
     let (first, at) = typed_const(alloc, tokens, at, depth)?;
+    let mut all = Vec::new(alloc);
     if all.push(first).is_err() {
         return Err(ReadError::Memory);
     }

@@ -6,9 +6,9 @@ ghost use Rattle.pg_grammar.specs.Views.{Takes};
 
 use crate::reader::{next_is, take};
 use crate::sets::{ClassSet, take_in};
-use pg_grammar::{Class, Refusal, Token};
+use pg_grammar::{Class, ReadRefusal, Token};
 
-fn pair(tokens: &[Token], at: usize) -> Result<(&Token, usize), Refusal>
+fn pair(tokens: &[Token], at: usize) -> Result<(&Token, usize), ReadRefusal>
     requires { at ≤ length tokens.now }
     ensures read { Takes tokens.now at (λ x. x.0.now) (λ x. x.1) result (pair_at (drop at tokens.now)) }
     ensures on { IfOk result (λ x. at < x.1) }
@@ -20,7 +20,7 @@ fn pair(tokens: &[Token], at: usize) -> Result<(&Token, usize), Refusal>
 
 /// Pairs of metadata names, each behind a comma, are dropped.
 #[tactic(auto, unfolding(pg_grammar::specs::ReaderOps::metadata_at))]
-pub fn metadata(tokens: &[Token], at: usize) -> Result<usize, Refusal>
+pub fn metadata(tokens: &[Token], at: usize) -> Result<usize, ReadRefusal>
     requires { at ≤ length tokens.now }
     ensures { Takes tokens.now at (λ x. tt) (λ x. x) result (metadata_at (drop at tokens.now)) }
 {
@@ -35,7 +35,7 @@ pub fn metadata(tokens: &[Token], at: usize) -> Result<usize, Refusal>
 }
 
 /// The same behind the first comma.
-pub fn metadata_tail(tokens: &[Token], at: usize) -> Result<usize, Refusal>
+pub fn metadata_tail(tokens: &[Token], at: usize) -> Result<usize, ReadRefusal>
     requires { at ≤ length tokens.now }
     ensures { Takes tokens.now at (λ x. tt) (λ x. x) result (metadata_tail_at (drop at tokens.now)) }
 {

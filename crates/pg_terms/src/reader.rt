@@ -4,10 +4,11 @@ ghost use Rattle.std.specs.Prelude.{◌≡◌, ◌≤◌, ◌+◌, length, drop,
 ghost use Rattle.pg_grammar.specs.Classes.{is};
 ghost use Rattle.pg_grammar.specs.Reading.{comes, take_one};
 ghost use Rattle.pg_grammar.specs.Views.{Takes};
+ghost use Rattle.pg_terms.specs.Tried.{Tries};
 ghost use Rattle.pg_grammar.specs.Grammar.{name_of, literal_of};
 
 use pg_ast::{Literal, Name};
-use pg_grammar::{Class, Fault, Refusal, Token};
+use pg_grammar::{Class, Fault, ReadRefusal, Token};
 use std::alloc::{AllocError, Global};
 
 /// The class is the wanted one.
@@ -26,7 +27,7 @@ pub fn next_is(tokens: &[Token], at: usize, wanted: Class) -> bool
 }
 
 /// The token of this class that comes, and the place after it.
-pub fn take(tokens: &[Token], at: usize, wanted: Class) -> Result<(&Token, usize), Refusal>
+pub fn take(tokens: &[Token], at: usize, wanted: Class) -> Result<(&Token, usize), ReadRefusal>
     requires { at ≤ length tokens.now }
     ensures read { Takes tokens.now at (λ x. x.0.now) (λ x. x.1) result (take_one (is wanted) (drop at tokens.now)) }
     ensures step { IfOk result (λ x. x.1 ≡ at + 1) }
@@ -34,25 +35,37 @@ pub fn take(tokens: &[Token], at: usize, wanted: Class) -> Result<(&Token, usize
     if at < tokens.len() && is_class(tokens[at].class, wanted) {
         Ok((&tokens[at], at + 1))
     } else {
-        Err(Refusal { fault: None, at })
+        Err(ReadRefusal { fault: None, at })
+    }
+}
+
+/// The same where such a token comes, and else nothing.
+pub(crate) fn take_if(tokens: &[Token], at: usize, wanted: Class) -> Option<(&Token, usize)>
+    requires { at ≤ length tokens.now }
+    ensures { Tries tokens.now at (is wanted) (λ x. x.0.now) (λ x. x.1) result }
+{
+    if at < tokens.len() && is_class(tokens[at].class, wanted) {
+        Some((&tokens[at], at + 1))
+    } else {
+        None
     }
 }
 
 /// A token that isn't supported at its place.
-pub fn unsupported(at: usize) -> Refusal
+pub fn unsupported(at: usize) -> ReadRefusal
     ensures { result ≡ record { fault = Some Fault.Unsupported; at = at } }
 {
-    Refusal {
+    ReadRefusal {
         fault: Some(Fault::Unsupported),
         at,
     }
 }
 
 /// A token that opens one bracket more than may be open.
-pub fn too_deep(at: usize) -> Refusal
+pub fn too_deep(at: usize) -> ReadRefusal
     ensures { result ≡ record { fault = Some Fault.TooDeep; at = at } }
 {
-    Refusal {
+    ReadRefusal {
         fault: Some(Fault::TooDeep),
         at,
     }

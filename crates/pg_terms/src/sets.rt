@@ -9,9 +9,10 @@ ghost use Rattle.pg_grammar.specs.Reader.{begins_type, brackets, begins_value, b
 ghost use Rattle.pg_grammar.specs.ReaderItems.{begins_certain, begins_call, begins_part, begins_item};
 ghost use Rattle.pg_grammar.specs.Reading.{comes, take_one};
 ghost use Rattle.pg_terms.specs.Sets.{members};
+ghost use Rattle.pg_terms.specs.Tried.{Tries};
 ghost use Rattle.pg_grammar.specs.Views.{Takes};
 
-use pg_grammar::{Class, Refusal, Token};
+use pg_grammar::{Class, ReadRefusal, Token};
 
 /// A set of classes: the tokens that may stand at a place, or are refused there.
 #[derive(Clone, Copy, Debug)]
@@ -69,7 +70,7 @@ pub fn next_in(tokens: &[Token], at: usize, set: ClassSet) -> bool
 }
 
 /// The token of these classes that comes, and the place after it.
-pub fn take_in(tokens: &[Token], at: usize, set: ClassSet) -> Result<(&Token, usize), Refusal>
+pub fn take_in(tokens: &[Token], at: usize, set: ClassSet) -> Result<(&Token, usize), ReadRefusal>
     requires { at ≤ length tokens.now }
     ensures read { Takes tokens.now at (λ x. x.0.now) (λ x. x.1) result (take_one (members set) (drop at tokens.now)) }
     ensures step { IfOk result (λ x. x.1 ≡ at + 1) }
@@ -77,7 +78,19 @@ pub fn take_in(tokens: &[Token], at: usize, set: ClassSet) -> Result<(&Token, us
     if at < tokens.len() && contains(set, tokens[at].class) {
         Ok((&tokens[at], at + 1))
     } else {
-        Err(Refusal { fault: None, at })
+        Err(ReadRefusal { fault: None, at })
+    }
+}
+
+/// The same where such a token comes, and else nothing.
+pub(crate) fn take_if_in(tokens: &[Token], at: usize, set: ClassSet) -> Option<(&Token, usize)>
+    requires { at ≤ length tokens.now }
+    ensures { Tries tokens.now at (members set) (λ x. x.0.now) (λ x. x.1) result }
+{
+    if at < tokens.len() && contains(set, tokens[at].class) {
+        Some((&tokens[at], at + 1))
+    } else {
+        None
     }
 }
 

@@ -4,9 +4,9 @@ ghost use Rattle.std.specs.Prelude.{◌≡◌, ◌≤◌, ◌<◌, length, drop,
 ghost use Rattle.pg_grammar.specs.Reader.{flags_at, plains_at, skip_at, bracketed_at, inside_at};
 ghost use Rattle.pg_grammar.specs.Views.{Takes, done};
 
-use crate::reader::{next_is, take, too_deep};
+use crate::reader::{next_is, take, take_if, too_deep};
 use crate::sets::{ClassSet, next_in, take_in};
-use pg_grammar::{Class, Refusal, Token};
+use pg_grammar::{Class, ReadRefusal, Token};
 
 /// Flags are dropped.
 #[tactic(auto, unfolding(pg_grammar::specs::Reader::flags_at))]
@@ -38,21 +38,18 @@ fn plains(tokens: &[Token], at: usize) -> usize
 }
 
 #[cycle(skips)]
-fn bracketed(tokens: &[Token], at: usize, depth: u32) -> Result<usize, Refusal>
+fn bracketed(tokens: &[Token], at: usize, depth: u32) -> Result<usize, ReadRefusal>
     requires { at ≤ length tokens.now }
     ensures read { Takes tokens.now at (λ x. tt) (λ x. x) result (bracketed_at (skip_at depth) (drop at tokens.now)) }
     ensures on { IfOk result (λ x. at < x) }
 {
-    if next_is(tokens, at, Class::OpenRound) {
-        let (_, at) = take(tokens, at, Class::OpenRound)?;
+    if let Some((_, at)) = take_if(tokens, at, Class::OpenRound) {
         return skip_to(tokens, at, depth, Class::CloseRound);
     }
-    if next_is(tokens, at, Class::OpenSquare) {
-        let (_, at) = take(tokens, at, Class::OpenSquare)?;
+    if let Some((_, at)) = take_if(tokens, at, Class::OpenSquare) {
         return skip_to(tokens, at, depth, Class::CloseSquare);
     }
-    if next_is(tokens, at, Class::OpenBrace) {
-        let (_, at) = take(tokens, at, Class::OpenBrace)?;
+    if let Some((_, at)) = take_if(tokens, at, Class::OpenBrace) {
         return skip_to(tokens, at, depth, Class::CloseBrace);
     }
     let (_, to) = take_in(tokens, at, ClassSet::Plain)?;
@@ -60,7 +57,7 @@ fn bracketed(tokens: &[Token], at: usize, depth: u32) -> Result<usize, Refusal>
 }
 
 #[cycle(skips)]
-fn inside(tokens: &[Token], at: usize, depth: u32) -> Result<usize, Refusal>
+fn inside(tokens: &[Token], at: usize, depth: u32) -> Result<usize, ReadRefusal>
     requires { at ≤ length tokens.now }
     ensures { Takes tokens.now at (λ x. tt) (λ x. x) result (inside_at (skip_at depth) (drop at tokens.now)) }
 {
@@ -77,7 +74,7 @@ fn inside(tokens: &[Token], at: usize, depth: u32) -> Result<usize, Refusal>
 /// Any tokens up to the closing bracket, in which at most `depth` brackets are open at once.
 #[cycle(skips)]
 #[tactic(auto, unfolding(pg_grammar::specs::Reader::skip_at))]
-pub fn skip_to(tokens: &[Token], at: usize, depth: u32, close: Class) -> Result<usize, Refusal>
+pub fn skip_to(tokens: &[Token], at: usize, depth: u32, close: Class) -> Result<usize, ReadRefusal>
     requires { at ≤ length tokens.now }
     ensures { Takes tokens.now at (λ x. tt) (λ x. x) result (skip_at depth close (drop at tokens.now)) }
 {

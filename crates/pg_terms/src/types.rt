@@ -6,10 +6,12 @@ ghost use Rattle.pg_grammar.specs.Classes.{is};
 ghost use Rattle.pg_grammar.specs.Reading.{onto, all_of};
 ghost use Rattle.pg_grammar.specs.Reader.{simple_type_at, type_at, array_at, struct_at, listed_at, behind_comma};
 ghost use Rattle.pg_grammar.specs.Views.{Reads};
+ghost use Rattle.pg_grammar.specs.Grammar.{literal_of};
 ghost use Rattle.pg_terms.specs.Sets.{wide_type_at, other_type_at};
+ghost use Rattle.pg_terms.specs.Ends.{array_end_at};
 ghost use Rattle.pg_ast.specs.Views.{ty_of};
 
-use crate::reader::{literal, name, next_is, take, too_deep, unsupported};
+use crate::reader::{literal, name, next_is, take, take_if, too_deep, unsupported};
 use crate::sets::{ClassSet, next_in};
 use pg_ast::TypeNode;
 use pg_grammar::{Class, ReadError, Token};
@@ -19,16 +21,13 @@ fn simple_type(alloc: Global, tokens: &[Token], at: usize) -> Result<(TypeNode, 
     requires { at ≤ length tokens.now }
     ensures { Reads tokens.now at (λ x. ty_of x.0) (λ x. x.1) result (simple_type_at (drop at tokens.now)) }
 {
-    if next_is(tokens, at, Class::I1) {
-        let (token, to) = take(tokens, at, Class::I1)?;
+    if let Some((token, to)) = take_if(tokens, at, Class::I1) {
         return Ok((TypeNode::I1(token.span), to));
     }
-    if next_is(tokens, at, Class::I8) {
-        let (token, to) = take(tokens, at, Class::I8)?;
+    if let Some((token, to)) = take_if(tokens, at, Class::I8) {
         return Ok((TypeNode::I8(token.span), to));
     }
-    if next_is(tokens, at, Class::I16) {
-        let (token, to) = take(tokens, at, Class::I16)?;
+    if let Some((token, to)) = take_if(tokens, at, Class::I16) {
         return Ok((TypeNode::I16(token.span), to));
     }
     wide_type(alloc, tokens, at)
@@ -38,12 +37,10 @@ fn wide_type(alloc: Global, tokens: &[Token], at: usize) -> Result<(TypeNode, us
     requires { at ≤ length tokens.now }
     ensures { Reads tokens.now at (λ x. ty_of x.0) (λ x. x.1) result (wide_type_at (drop at tokens.now)) }
 {
-    if next_is(tokens, at, Class::I32) {
-        let (token, to) = take(tokens, at, Class::I32)?;
+    if let Some((token, to)) = take_if(tokens, at, Class::I32) {
         return Ok((TypeNode::I32(token.span), to));
     }
-    if next_is(tokens, at, Class::I64) {
-        let (token, to) = take(tokens, at, Class::I64)?;
+    if let Some((token, to)) = take_if(tokens, at, Class::I64) {
         return Ok((TypeNode::I64(token.span), to));
     }
     other_type(alloc, tokens, at)
@@ -53,12 +50,10 @@ fn other_type(alloc: Global, tokens: &[Token], at: usize) -> Result<(TypeNode, u
     requires { at ≤ length tokens.now }
     ensures { Reads tokens.now at (λ x. ty_of x.0) (λ x. x.1) result (other_type_at (drop at tokens.now)) }
 {
-    if next_is(tokens, at, Class::Ptr) {
-        let (token, to) = take(tokens, at, Class::Ptr)?;
+    if let Some((token, to)) = take_if(tokens, at, Class::Ptr) {
         return Ok((TypeNode::Ptr(token.span), to));
     }
-    if next_is(tokens, at, Class::Void) {
-        let (token, to) = take(tokens, at, Class::Void)?;
+    if let Some((token, to)) = take_if(tokens, at, Class::Void) {
         return Ok((TypeNode::Void(token.span), to));
     }
     let (token, to) = take(tokens, at, Class::Local)?;
@@ -79,15 +74,28 @@ fn array_type(
     let (count, at) = take(tokens, at, Class::Int)?;
     let (_, at) = take(tokens, at, Class::X)?;
     let (element, at) = type_node(alloc, tokens, at, depth)?;
+    array_end(alloc, tokens, at, open, count, element)
+}
+
+/// What stands behind the type of an array's elements.
+fn array_end(
+    alloc: Global,
+    tokens: &[Token],
+    at: usize,
+    bracket: &Token,
+    count: &Token,
+    element: TypeNode,
+) -> Result<(TypeNode, usize), ReadError>
+    requires { at ≤ length tokens.now }
+    ensures { Reads tokens.now at (λ x. ty_of x.0) (λ x. x.1) result (array_end_at bracket.now (literal_of count.now) (ty_of element) (drop at tokens.now)) }
+{
     let (_, at) = take(tokens, at, Class::CloseSquare)?;
+    let number = literal(alloc, count)?;
     let boxed = match Box::new(alloc, element) {
         Ok(boxed) => boxed,
         Err(_) => return Err(ReadError::Memory),
     };
-    Ok((
-        TypeNode::Array(open.span, literal(alloc, count)?, boxed),
-        at,
-    ))
+    Ok((TypeNode::Array(bracket.span, number, boxed), at))
 }
 
 /// A type in which at most `depth` brackets are open at once.
@@ -147,12 +155,11 @@ pub fn types_to(
     requires { at ≤ length tokens.now }
     ensures { Reads tokens.now at (λ x. map ty_of x.0.items) (λ x. x.1) result (listed_at close (type_at depth) (drop at tokens.now)) }
 {
-    let mut types = Vec::new(alloc);
-    if next_is(tokens, at, close) {
-        let (_, to) = take(tokens, at, close)?;
-        return Ok((types, to));
+    if let Some((_, to)) = take_if(tokens, at, close) {
+        return Ok((Vec::new(alloc), to));
     }
     let (first, at) = type_node(alloc, tokens, at, depth)?;
+    let mut types = Vec::new(alloc);
     if types.push(first).is_err() {
         return Err(ReadError::Memory);
     }

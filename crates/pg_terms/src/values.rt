@@ -6,14 +6,16 @@ ghost use Rattle.pg_grammar.specs.Classes.{is};
 ghost use Rattle.pg_grammar.specs.Reading.{all_of};
 ghost use Rattle.pg_grammar.specs.Reader.{plain_value_at, named_value_at, typed_in_at, value_at, other_value_at, gep_at, gep_tail_at, int_to_ptr_at, int_to_ptr_tail_at, behind_comma};
 ghost use Rattle.pg_grammar.specs.Views.{Reads};
+ghost use Rattle.pg_grammar.specs.Grammar.{literal_of};
 ghost use Rattle.pg_terms.specs.Sets.{other_plain_value_at};
-ghost use Rattle.pg_ast.specs.Views.{val_of, typed_of};
+ghost use Rattle.pg_terms.specs.Ends.{gep_pointer_at, gep_indices_at, gep_end_at, int_to_ptr_number_at, int_to_ptr_end_at};
+ghost use Rattle.pg_ast.specs.Views.{ty_of, val_of, typed_of};
 
-use crate::reader::{literal, name, next_is, take, too_deep};
+use crate::reader::{literal, name, next_is, take, take_if, too_deep};
 use crate::sets::{ClassSet, next_in, take_in};
 use crate::skips::flags;
 use crate::types::type_node;
-use pg_ast::{TypedVal, ValNode};
+use pg_ast::{TypeNode, TypedVal, ValNode};
 use pg_grammar::{Class, ReadError, Token};
 use std::alloc::Global;
 
@@ -26,16 +28,13 @@ pub fn plain_value(
     requires { at ≤ length tokens.now }
     ensures { Reads tokens.now at (λ x. val_of x.0) (λ x. x.1) result (plain_value_at (drop at tokens.now)) }
 {
-    if next_is(tokens, at, Class::True) {
-        let (token, to) = take(tokens, at, Class::True)?;
+    if let Some((token, to)) = take_if(tokens, at, Class::True) {
         return Ok((ValNode::True(token.span), to));
     }
-    if next_is(tokens, at, Class::False) {
-        let (token, to) = take(tokens, at, Class::False)?;
+    if let Some((token, to)) = take_if(tokens, at, Class::False) {
         return Ok((ValNode::False(token.span), to));
     }
-    if next_is(tokens, at, Class::Null) {
-        let (token, to) = take(tokens, at, Class::Null)?;
+    if let Some((token, to)) = take_if(tokens, at, Class::Null) {
         return Ok((ValNode::Null(token.span), to));
     }
     other_plain_value(alloc, tokens, at)
@@ -49,16 +48,13 @@ fn other_plain_value(
     requires { at ≤ length tokens.now }
     ensures { Reads tokens.now at (λ x. val_of x.0) (λ x. x.1) result (other_plain_value_at (drop at tokens.now)) }
 {
-    if next_is(tokens, at, Class::Undef) {
-        let (token, to) = take(tokens, at, Class::Undef)?;
+    if let Some((token, to)) = take_if(tokens, at, Class::Undef) {
         return Ok((ValNode::Undef(token.span), to));
     }
-    if next_is(tokens, at, Class::Poison) {
-        let (token, to) = take(tokens, at, Class::Poison)?;
+    if let Some((token, to)) = take_if(tokens, at, Class::Poison) {
         return Ok((ValNode::Poison(token.span), to));
     }
-    if next_is(tokens, at, Class::ZeroInitializer) {
-        let (token, to) = take(tokens, at, Class::ZeroInitializer)?;
+    if let Some((token, to)) = take_if(tokens, at, Class::ZeroInitializer) {
         return Ok((ValNode::ZeroInitializer(token.span), to));
     }
     let (token, to) = take_in(tokens, at, ClassSet::GlobalName)?;
@@ -69,8 +65,7 @@ fn named_value(alloc: Global, tokens: &[Token], at: usize) -> Result<(ValNode, u
     requires { at ≤ length tokens.now }
     ensures { Reads tokens.now at (λ x. val_of x.0) (λ x. x.1) result (named_value_at (drop at tokens.now)) }
 {
-    if next_is(tokens, at, Class::Local) {
-        let (token, to) = take(tokens, at, Class::Local)?;
+    if let Some((token, to)) = take_if(tokens, at, Class::Local) {
         return Ok((ValNode::Local(name(alloc, token)?), to));
     }
     plain_value(alloc, tokens, at)
@@ -87,8 +82,7 @@ pub fn value(
     requires { at ≤ length tokens.now }
     ensures { Reads tokens.now at (λ x. val_of x.0) (λ x. x.1) result (value_at depth (drop at tokens.now)) }
 {
-    if next_is(tokens, at, Class::Int) {
-        let (token, to) = take(tokens, at, Class::Int)?;
+    if let Some((token, to)) = take_if(tokens, at, Class::Int) {
         return Ok((ValNode::Int(literal(alloc, token)?), to));
     }
     other_value(alloc, tokens, at, depth)
@@ -166,9 +160,58 @@ pub fn gep_tail(
 {
     let (_, at) = take(tokens, at, Class::OpenRound)?;
     let (ty, at) = type_node(alloc, tokens, at, depth)?;
+    gep_pointer(alloc, tokens, at, depth, word, ty)
+}
+
+/// What stands behind the type that the indices walk.
+#[cycle(values)]
+fn gep_pointer(
+    alloc: Global,
+    tokens: &[Token],
+    at: usize,
+    depth: u32,
+    word: &Token,
+    ty: TypeNode,
+) -> Result<(ValNode, usize), ReadError>
+    requires { at ≤ length tokens.now }
+    ensures { Reads tokens.now at (λ x. val_of x.0) (λ x. x.1) result (gep_pointer_at depth (value_at depth) word.now (ty_of ty) (drop at tokens.now)) }
+{
     let (_, at) = take(tokens, at, Class::Comma)?;
     let (pointer, at) = typed_value_in(alloc, tokens, at, depth)?;
+    gep_indices(alloc, tokens, at, depth, word, ty, pointer)
+}
+
+/// What stands behind the pointer.
+#[cycle(values)]
+fn gep_indices(
+    alloc: Global,
+    tokens: &[Token],
+    at: usize,
+    depth: u32,
+    word: &Token,
+    ty: TypeNode,
+    pointer: TypedVal,
+) -> Result<(ValNode, usize), ReadError>
+    requires { at ≤ length tokens.now }
+    ensures { Reads tokens.now at (λ x. val_of x.0) (λ x. x.1) result (gep_indices_at depth (value_at depth) word.now (ty_of ty) (typed_of pointer) (drop at tokens.now)) }
+{
     let (indices, at) = more_values(alloc, tokens, at, depth)?;
+    gep_end(alloc, tokens, at, word, ty, pointer, indices)
+}
+
+/// What stands behind the indices.
+fn gep_end(
+    alloc: Global,
+    tokens: &[Token],
+    at: usize,
+    word: &Token,
+    ty: TypeNode,
+    pointer: TypedVal,
+    indices: Vec<TypedVal>,
+) -> Result<(ValNode, usize), ReadError>
+    requires { at ≤ length tokens.now }
+    ensures { Reads tokens.now at (λ x. val_of x.0) (λ x. x.1) result (gep_end_at word.now (ty_of ty) (typed_of pointer) (map typed_of indices.items) (drop at tokens.now)) }
+{
     let (_, at) = take(tokens, at, Class::CloseRound)?;
     let TypedVal {
         ty: pointer_ty,
@@ -252,9 +295,40 @@ pub fn int_to_ptr_tail(
 {
     let (_, at) = take(tokens, at, Class::OpenRound)?;
     let (from, at) = type_node(alloc, tokens, at, depth)?;
+    int_to_ptr_number(alloc, tokens, at, depth, word, from)
+}
+
+/// What stands behind the type of the integer.
+fn int_to_ptr_number(
+    alloc: Global,
+    tokens: &[Token],
+    at: usize,
+    depth: u32,
+    word: &Token,
+    from: TypeNode,
+) -> Result<(ValNode, usize), ReadError>
+    requires { at ≤ length tokens.now }
+    ensures { Reads tokens.now at (λ x. val_of x.0) (λ x. x.1) result (int_to_ptr_number_at depth word.now (ty_of from) (drop at tokens.now)) }
+{
     let (number, at) = take(tokens, at, Class::Int)?;
     let (_, at) = take(tokens, at, Class::To)?;
     let (to, at) = type_node(alloc, tokens, at, depth)?;
+    int_to_ptr_end(alloc, tokens, at, word, from, number, to)
+}
+
+/// What stands behind the type of the result.
+fn int_to_ptr_end(
+    alloc: Global,
+    tokens: &[Token],
+    at: usize,
+    word: &Token,
+    from: TypeNode,
+    number: &Token,
+    to: TypeNode,
+) -> Result<(ValNode, usize), ReadError>
+    requires { at ≤ length tokens.now }
+    ensures { Reads tokens.now at (λ x. val_of x.0) (λ x. x.1) result (int_to_ptr_end_at word.now (ty_of from) (literal_of number.now) (ty_of to) (drop at tokens.now)) }
+{
     let (_, at) = take(tokens, at, Class::CloseRound)?;
     let number = literal(alloc, number)?;
     Ok((ValNode::IntToPtr(word.span, from, number, to), at))

@@ -8,10 +8,10 @@ ghost use Rattle.pg_ast.specs.Views.{ty_of, line_of, block_of, param_of, type_it
 
 use crate::names::Name;
 use crate::nodes::{BlockNode, DefineItem, LineNode, ParamNode, TypeItem};
-use crate::print::names::{put_global, put_name, put_text};
+use crate::print::names::{put_name, put_name_behind, put_text};
 use crate::print::numbers::NextNumber;
 use crate::print::ops::put_op;
-use crate::print::types::put_type;
+use crate::print::types::{put_type, put_type_behind};
 use crate::print::voids::has_result;
 use std::alloc::{AllocError, Global};
 
@@ -73,7 +73,7 @@ fn put_line(
     put_text(out, "\n")
 }
 
-#[tactic(auto, using(crate::proofs::Counting::going_begin, crate::proofs::Counting::going_step, crate::proofs::Counting::going_text, crate::proofs::Counting::going_next))]
+#[tactic(auto, using(crate::proofs::Counting::going_begin))]
 fn put_lines(
     alloc: Global,
     out: &mut Vec<u8>,
@@ -107,7 +107,7 @@ fn put_block(
     put_lines(alloc, out, next, types, node.lines.as_slice())
 }
 
-#[tactic(auto, using(crate::proofs::Counting::going_begin, crate::proofs::Counting::going_step, crate::proofs::Counting::going_text, crate::proofs::Counting::going_next))]
+#[tactic(auto, using(crate::proofs::Counting::going_begin))]
 fn put_blocks(
     alloc: Global,
     out: &mut Vec<u8>,
@@ -139,7 +139,7 @@ fn put_param(
     put_numbered(alloc, out, next, &node.name)
 }
 
-#[tactic(auto, using(crate::proofs::Counting::going_begin, crate::proofs::Counting::going_step, crate::proofs::Counting::going_text, crate::proofs::Counting::going_next))]
+#[tactic(auto, using(crate::proofs::Counting::going_begin))]
 fn put_more_params(
     alloc: Global,
     out: &mut Vec<u8>,
@@ -184,10 +184,8 @@ fn put_head(
     ensures text { OnOk result (out.new.items ≡ out.old.items ++ head_text (ty_of node.now.result) node.now.name (each_at behind_param param_at next.old (map param_of node.now.params.items))) }
     ensures next { OnOk result (next.new ≡ behind_all behind_param next.old (map param_of node.now.params.items)) }
 {
-    put_text(out, "define ")?;
-    put_type(out, &node.result)?;
-    put_text(out, " ")?;
-    put_global(out, &node.name)?;
+    put_type_behind(out, "define ", &node.result)?;
+    put_name_behind(out, " @", &node.name)?;
     put_text(out, "(")?;
     put_params(alloc, out, next, node.params.as_slice())?;
     put_text(out, ") {\n")

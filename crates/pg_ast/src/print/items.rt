@@ -7,8 +7,8 @@ ghost use Rattle.pg_ast.specs.Views.{param_of, dparam_of, type_item_of, global_o
 
 use crate::names::Name;
 use crate::nodes::{DeclareItem, DparamNode, GlobalItem, ParamNode, TypeItem};
-use crate::print::names::{put_global, put_local, put_text};
-use crate::print::types::put_type;
+use crate::print::names::{put_global, put_local, put_name_behind, put_text};
+use crate::print::types::{put_type, put_type_behind};
 use crate::print::values::put_const;
 use std::alloc::AllocError;
 
@@ -17,10 +17,7 @@ fn put_param_name(out: &mut Vec<u8>, name: &Option<Name>) -> Result<(), AllocErr
 {
     match name {
         None => Ok(()),
-        Some(name) => {
-            put_text(out, " ")?;
-            put_local(out, name)
-        }
+        Some(name) => put_name_behind(out, " %", name),
     }
 }
 
@@ -70,8 +67,7 @@ pub fn put_type_item(out: &mut Vec<u8>, item: &TypeItem) -> Result<(), AllocErro
     ensures { OnOk result (out.new.items ≡ out.old.items ++ type_item_text (type_item_of item.now)) }
 {
     put_local(out, &item.name)?;
-    put_text(out, " = type ")?;
-    put_type(out, &item.ty)?;
+    put_type_behind(out, " = type ", &item.ty)?;
     put_text(out, "\n")
 }
 
@@ -102,10 +98,8 @@ pub fn put_global_item(out: &mut Vec<u8>, item: &GlobalItem) -> Result<(), Alloc
 pub fn put_declare(out: &mut Vec<u8>, item: &DeclareItem) -> Result<(), AllocError>
     ensures { OnOk result (out.new.items ≡ out.old.items ++ declare_text (declare_of item.now)) }
 {
-    put_text(out, "declare ")?;
-    put_type(out, &item.result)?;
-    put_text(out, " ")?;
-    put_global(out, &item.name)?;
+    put_type_behind(out, "declare ", &item.result)?;
+    put_name_behind(out, " @", &item.name)?;
     put_text(out, "(")?;
     put_dparams(out, item.params.as_slice())?;
     put_text(out, ")\n")

@@ -77,26 +77,33 @@ pub fn put_name(out: &mut Vec<u8>, name: &Name) -> Result<(), AllocError>
     }
 }
 
+/// Appends a text, and a name behind it.
+pub fn put_name_behind(out: &mut Vec<u8>, before: &str, name: &Name) -> Result<(), AllocError>
+    ensures { OnOk result (out.new.items ≡ out.old.items ++ (before.now ++ name_text name.now.text)) }
+{
+    put_text(out, before)?;
+    put_name(out, name)
+}
+
 pub fn put_local(out: &mut Vec<u8>, name: &Name) -> Result<(), AllocError>
     ensures { OnOk result (out.new.items ≡ out.old.items ++ local_text name.now) }
 {
-    put_text(out, "%")?;
-    put_name(out, name)
+    put_name_behind(out, "%", name)
 }
 
 pub fn put_global(out: &mut Vec<u8>, name: &Name) -> Result<(), AllocError>
     ensures { OnOk result (out.new.items ≡ out.old.items ++ global_text name.now) }
 {
-    put_text(out, "@")?;
-    put_name(out, name)
+    put_name_behind(out, "@", name)
 }
 
+/// Appends a text, and a label behind it.
 #[tactic(auto, unfolding(crate::specs::Text::label_text))]
-pub fn put_label(out: &mut Vec<u8>, name: &Name) -> Result<(), AllocError>
-    ensures { OnOk result (out.new.items ≡ out.old.items ++ label_text name.now) }
+pub fn put_label_behind(out: &mut Vec<u8>, before: &str, name: &Name) -> Result<(), AllocError>
+    ensures { OnOk result (out.new.items ≡ out.old.items ++ (before.now ++ label_text name.now)) }
 {
-    put_text(out, "label ")?;
-    put_local(out, name)
+    put_text(out, before)?;
+    put_name_behind(out, "label %", name)
 }
 
 fn is_name(byte: u8) -> bool

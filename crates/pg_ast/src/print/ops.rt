@@ -13,9 +13,11 @@ use crate::names::Name;
 use crate::ops::{
     ArgNode, BinaryOp, CallTypes, CaseNode, CastOp, CountNode, IncomingNode, OpNode, Predicate,
 };
-use crate::print::names::{put, put_global, put_label, put_local, put_text};
-use crate::print::types::put_type;
-use crate::print::values::{put_gep_word, put_more_typed, put_typed, put_val};
+use crate::print::names::{put, put_label_behind, put_name_behind, put_text};
+use crate::print::types::{put_more_types, put_type, put_type_behind};
+use crate::print::values::{
+    put_gep_word, put_more_typed, put_typed, put_typed_behind, put_val_behind,
+};
 use crate::types::TypeNode;
 use crate::values::{TypedVal, ValNode};
 use std::alloc::AllocError;
@@ -69,20 +71,6 @@ fn cast_name(op: CastOp) -> &'static str
     }
 }
 
-fn put_more(out: &mut Vec<u8>, node: &TypedVal) -> Result<(), AllocError>
-    ensures { OnOk result (out.new.items ≡ out.old.items ++ more_typed_text (typed_of node.now)) }
-{
-    put_text(out, ", ")?;
-    put_typed(out, node)
-}
-
-fn put_more_label(out: &mut Vec<u8>, name: &Name) -> Result<(), AllocError>
-    ensures { OnOk result (out.new.items ≡ out.old.items ++ more_label_text name.now) }
-{
-    put_text(out, ", ")?;
-    put_label(out, name)
-}
-
 #[tactic(auto, unfolding(crate::specs::Text::pair_text))]
 fn put_pair(
     out: &mut Vec<u8>,
@@ -92,12 +80,9 @@ fn put_pair(
 ) -> Result<(), AllocError>
     ensures { OnOk result (out.new.items ≡ out.old.items ++ pair_text (ty_of ty.now) (val_of left.now) (val_of right.now)) }
 {
-    put_text(out, " ")?;
-    put_type(out, ty)?;
-    put_text(out, " ")?;
-    put_val(out, left)?;
-    put_text(out, ", ")?;
-    put_val(out, right)
+    put_type_behind(out, " ", ty)?;
+    put_val_behind(out, " ", left)?;
+    put_val_behind(out, ", ", right)
 }
 
 #[tactic(auto, unfolding(crate::specs::Text::cast_text))]
@@ -110,20 +95,16 @@ fn put_cast(
     ensures { OnOk result (out.new.items ≡ out.old.items ++ cast_text op (typed_of value.now) (ty_of to.now)) }
 {
     put_text(out, cast_name(op))?;
-    put_text(out, " ")?;
-    put_typed(out, value)?;
-    put_text(out, " to ")?;
-    put_type(out, to)
+    put_typed_behind(out, " ", value)?;
+    put_type_behind(out, " to ", to)
 }
 
 #[tactic(auto, unfolding(crate::specs::Text::incoming_text))]
 fn put_incoming(out: &mut Vec<u8>, node: &IncomingNode) -> Result<(), AllocError>
     ensures { OnOk result (out.new.items ≡ out.old.items ++ incoming_text (incoming_of node.now)) }
 {
-    put_text(out, "[ ")?;
-    put_val(out, &node.value)?;
-    put_text(out, ", ")?;
-    put_local(out, &node.block)?;
+    put_val_behind(out, "[ ", &node.value)?;
+    put_name_behind(out, ", %", &node.block)?;
     put_text(out, " ]")
 }
 
@@ -146,8 +127,7 @@ fn put_phi(
 ) -> Result<(), AllocError>
     ensures { OnOk result (out.new.items ≡ out.old.items ++ phi_text (ty_of ty.now) (incoming_of first.now) (map incoming_of more.now)) }
 {
-    put_text(out, "phi ")?;
-    put_type(out, ty)?;
+    put_type_behind(out, "phi ", ty)?;
     put_text(out, " ")?;
     put_incoming(out, first)?;
     put_more_incoming(out, more)
@@ -157,9 +137,8 @@ fn put_phi(
 fn put_case(out: &mut Vec<u8>, node: &CaseNode) -> Result<(), AllocError>
     ensures { OnOk result (out.new.items ≡ out.old.items ++ case_text (case_of node.now)) }
 {
-    put_text(out, " ")?;
-    put_typed(out, &node.value)?;
-    put_more_label(out, &node.block)
+    put_typed_behind(out, " ", &node.value)?;
+    put_label_behind(out, ", ", &node.block)
 }
 
 fn put_cases(out: &mut Vec<u8>, all: &[CaseNode]) -> Result<(), AllocError>
@@ -180,22 +159,11 @@ fn put_switch(
 ) -> Result<(), AllocError>
     ensures { OnOk result (out.new.items ≡ out.old.items ++ switch_text (typed_of value.now) other.now (map case_of cases.now)) }
 {
-    put_text(out, "switch ")?;
-    put_typed(out, value)?;
-    put_more_label(out, other)?;
+    put_typed_behind(out, "switch ", value)?;
+    put_label_behind(out, ", ", other)?;
     put_text(out, " [")?;
     put_cases(out, cases)?;
     put_text(out, " ]")
-}
-
-fn put_more_types(out: &mut Vec<u8>, all: &[TypeNode]) -> Result<(), AllocError>
-    ensures { OnOk result (out.new.items ≡ out.old.items ++ flat_map (λ t. codes ", " ++ type_text t) (map ty_of all.now)) }
-{
-    for each in all {
-        put_text(out, ", ")?;
-        put_type(out, each)?;
-    }
-    Ok(())
 }
 
 fn put_types(out: &mut Vec<u8>, all: &[TypeNode]) -> Result<(), AllocError>
@@ -257,8 +225,7 @@ fn put_args(out: &mut Vec<u8>, all: &[ArgNode]) -> Result<(), AllocError>
 fn put_called(out: &mut Vec<u8>, callee: &Name, args: &[ArgNode]) -> Result<(), AllocError>
     ensures { OnOk result (out.new.items ≡ out.old.items ++ called_text callee.now (map typed_of args.now)) }
 {
-    put_text(out, " ")?;
-    put_global(out, callee)?;
+    put_name_behind(out, " @", callee)?;
     put_text(out, "(")?;
     put_args(out, args)?;
     put_text(out, ")")
@@ -270,8 +237,7 @@ fn put_count(out: &mut Vec<u8>, count: &Option<CountNode>) -> Result<(), AllocEr
     match count {
         None => Ok(()),
         Some(node) => {
-            put_text(out, ", ")?;
-            put_type(out, &node.ty)?;
+            put_type_behind(out, ", ", &node.ty)?;
             put_text(out, " ")?;
             put(out, node.count.text.as_slice())
         }
@@ -289,8 +255,100 @@ fn put_gep(
 {
     put_gep_word(out)?;
     put_type(out, ty)?;
-    put_more(out, pointer)?;
+    put_typed_behind(out, ", ", pointer)?;
     put_more_typed(out, indices)
+}
+
+fn put_binary(
+    out: &mut Vec<u8>,
+    op: BinaryOp,
+    ty: &TypeNode,
+    left: &ValNode,
+    right: &ValNode,
+) -> Result<(), AllocError>
+    ensures { OnOk result (out.new.items ≡ out.old.items ++ (binary_word op ++ pair_text (ty_of ty.now) (val_of left.now) (val_of right.now))) }
+{
+    put_text(out, binary_name(op))?;
+    put_pair(out, ty, left, right)
+}
+
+fn put_icmp(
+    out: &mut Vec<u8>,
+    predicate: Predicate,
+    ty: &TypeNode,
+    left: &ValNode,
+    right: &ValNode,
+) -> Result<(), AllocError>
+    ensures { OnOk result (out.new.items ≡ out.old.items
+        ++ (codes "icmp " ++ (predicate_word predicate ++ pair_text (ty_of ty.now) (val_of left.now) (val_of right.now)))) }
+{
+    put_text(out, "icmp ")?;
+    put_text(out, predicate_name(predicate))?;
+    put_pair(out, ty, left, right)
+}
+
+fn put_select(
+    out: &mut Vec<u8>,
+    condition: &TypedVal,
+    yes: &TypedVal,
+    no: &TypedVal,
+) -> Result<(), AllocError>
+    ensures { OnOk result (out.new.items ≡ out.old.items
+        ++ (codes "select " ++ (typed_text (typed_of condition.now) ++ (more_typed_text (typed_of yes.now) ++ more_typed_text (typed_of no.now))))) }
+{
+    put_typed_behind(out, "select ", condition)?;
+    put_typed_behind(out, ", ", yes)?;
+    put_typed_behind(out, ", ", no)
+}
+
+fn put_cond_br(
+    out: &mut Vec<u8>,
+    condition: &TypedVal,
+    yes: &Name,
+    no: &Name,
+) -> Result<(), AllocError>
+    ensures { OnOk result (out.new.items ≡ out.old.items
+        ++ (codes "br " ++ (typed_text (typed_of condition.now) ++ (more_label_text yes.now ++ more_label_text no.now)))) }
+{
+    put_typed_behind(out, "br ", condition)?;
+    put_label_behind(out, ", ", yes)?;
+    put_label_behind(out, ", ", no)
+}
+
+fn put_call(
+    out: &mut Vec<u8>,
+    ty: &TypeNode,
+    written: &Option<CallTypes>,
+    callee: &Name,
+    arguments: &[ArgNode],
+) -> Result<(), AllocError>
+    ensures { OnOk result (out.new.items ≡ out.old.items
+        ++ (codes "call " ++ (type_text (ty_of ty.now) ++ (types_written_text (option_map written_of written.now) ++ called_text callee.now (map typed_of arguments.now))))) }
+{
+    put_type_behind(out, "call ", ty)?;
+    put_types_written(out, written)?;
+    put_called(out, callee, arguments)
+}
+
+fn put_alloca(out: &mut Vec<u8>, ty: &TypeNode, count: &Option<CountNode>) -> Result<(), AllocError>
+    ensures { OnOk result (out.new.items ≡ out.old.items ++ (codes "alloca " ++ (type_text (ty_of ty.now) ++ count_text (option_map count_of count.now)))) }
+{
+    put_type_behind(out, "alloca ", ty)?;
+    put_count(out, count)
+}
+
+fn put_load(out: &mut Vec<u8>, ty: &TypeNode, pointer: &TypedVal) -> Result<(), AllocError>
+    ensures { OnOk result (out.new.items ≡ out.old.items ++ (codes "load " ++ (type_text (ty_of ty.now) ++ more_typed_text (typed_of pointer.now)))) }
+{
+    put_type_behind(out, "load ", ty)?;
+    put_typed_behind(out, ", ", pointer)
+}
+
+fn put_store(out: &mut Vec<u8>, value: &TypedVal, pointer: &TypedVal) -> Result<(), AllocError>
+    ensures { OnOk result (out.new.items ≡ out.old.items ++ (codes "store " ++ (typed_text (typed_of value.now) ++ more_typed_text (typed_of pointer.now)))) }
+{
+    put_typed_behind(out, "store ", value)?;
+    put_typed_behind(out, ", ", pointer)
 }
 
 #[tactic(auto, unfolding(crate::specs::Text::op_text))]
@@ -304,54 +362,34 @@ pub fn put_op(out: &mut Vec<u8>, node: &OpNode) -> Result<(), AllocError>
             left,
             right,
             ..
-        } => {
-            put_text(out, binary_name(*op))?;
-            put_pair(out, ty, left, right)
-        }
+        } => put_binary(out, *op, ty, left, right),
         OpNode::Icmp {
             predicate,
             ty,
             left,
             right,
             ..
-        } => {
-            put_text(out, "icmp ")?;
-            put_text(out, predicate_name(*predicate))?;
-            put_pair(out, ty, left, right)
-        }
+        } => put_icmp(out, *predicate, ty, left, right),
         OpNode::Cast { op, value, ty, .. } => put_cast(out, *op, value, ty),
         OpNode::Select {
             condition,
             yes,
             no,
             ..
-        } => {
-            put_text(out, "select ")?;
-            put_typed(out, condition)?;
-            put_more(out, yes)?;
-            put_more(out, no)
-        }
+        } => put_select(out, condition, yes, no),
         OpNode::Phi {
             ty,
             first,
             others,
             ..
         } => put_phi(out, ty, first, others.as_slice()),
-        OpNode::Br { block, .. } => {
-            put_text(out, "br ")?;
-            put_label(out, block)
-        }
+        OpNode::Br { block, .. } => put_label_behind(out, "br ", block),
         OpNode::CondBr {
             condition,
             yes,
             no,
             ..
-        } => {
-            put_text(out, "br ")?;
-            put_typed(out, condition)?;
-            put_more_label(out, yes)?;
-            put_more_label(out, no)
-        }
+        } => put_cond_br(out, condition, yes, no),
         OpNode::Switch {
             value,
             other,
@@ -364,38 +402,18 @@ pub fn put_op(out: &mut Vec<u8>, node: &OpNode) -> Result<(), AllocError>
             callee,
             arguments,
             ..
-        } => {
-            put_text(out, "call ")?;
-            put_type(out, ty)?;
-            put_types_written(out, written)?;
-            put_called(out, callee, arguments.as_slice())
-        }
+        } => put_call(out, ty, written, callee, arguments.as_slice()),
         OpNode::RetVoid { .. } => put_text(out, "ret void"),
-        OpNode::Ret { value, .. } => {
-            put_text(out, "ret ")?;
-            put_typed(out, value)
-        }
+        OpNode::Ret { value, .. } => put_typed_behind(out, "ret ", value),
         OpNode::Unreachable { .. } => put_text(out, "unreachable"),
-        OpNode::Alloca { ty, count, .. } => {
-            put_text(out, "alloca ")?;
-            put_type(out, ty)?;
-            put_count(out, count)
-        }
-        OpNode::Load { ty, pointer, .. } => {
-            put_text(out, "load ")?;
-            put_type(out, ty)?;
-            put_more(out, pointer)
-        }
-        OpNode::Store { value, pointer, .. } => {
-            put_text(out, "store ")?;
-            put_typed(out, value)?;
-            put_more(out, pointer)
-        }
+        OpNode::Alloca { ty, count, .. } => put_alloca(out, ty, count),
+        OpNode::Load { ty, pointer, .. } => put_load(out, ty, pointer),
+        OpNode::Store { value, pointer, .. } => put_store(out, value, pointer),
         OpNode::GetElementPtr {
             ty,
             pointer,
             indices,
             ..
-        } => { put_gep(out, ty, pointer, indices.as_slice()) }
+        } => put_gep(out, ty, pointer, indices.as_slice()),
     }
 }

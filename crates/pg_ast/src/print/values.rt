@@ -1,13 +1,14 @@
 //! The canonical text of values and constants.
 
-ghost use Rattle.std.specs.Prelude.{◌≡◌, ◌++◌, OnOk, map, flat_map};
-ghost use Rattle.pg_ast.specs.Text.{val_text, typed_text, more_typed_text, int_to_ptr_text, gep_head, gep_text, zero_text, const_text, consts_text, padding_text, typed_const_text};
+ghost use Rattle.std.specs.Prelude.{◌≡◌, ◌++◌, OnOk, map, codes, flat_map};
+ghost use Rattle.pg_ast.specs.Text.{quoted, val_text, typed_text, more_typed_text, int_to_ptr_text, gep_head, gep_text, zero_text};
+ghost use Rattle.pg_ast.specs.Text.{const_text, consts_text, padding_text, typed_const_text};
 ghost use Rattle.pg_ast.specs.Views.{ty_of, val_of, typed_of, const_of, typed_const_of};
 ghost use Rattle.pg_ast.specs.Syntax.{consts};
 
 use crate::names::Literal;
 use crate::print::names::{put, put_global, put_local, put_quoted, put_text};
-use crate::print::types::put_type;
+use crate::print::types::{put_type, put_type_behind};
 use crate::types::TypeNode;
 use crate::values::{ConstNode, TypedConst, TypedVal, ValNode};
 use std::alloc::AllocError;
@@ -46,12 +47,10 @@ fn put_int_to_ptr(
 ) -> Result<(), AllocError>
     ensures { OnOk result (out.new.items ≡ out.old.items ++ int_to_ptr_text (ty_of from.now) number.now (ty_of to.now)) }
 {
-    put_text(out, "inttoptr (")?;
-    put_type(out, from)?;
+    put_type_behind(out, "inttoptr (", from)?;
     put_text(out, " ")?;
     put(out, number.text.as_slice())?;
-    put_text(out, " to ")?;
-    put_type(out, to)?;
+    put_type_behind(out, " to ", to)?;
     put_text(out, ")")
 }
 
@@ -60,10 +59,8 @@ fn put_gep_head(out: &mut Vec<u8>, ty: &TypeNode, pointer: &TypeNode) -> Result<
     ensures { OnOk result (out.new.items ≡ out.old.items ++ gep_head (ty_of ty.now) (ty_of pointer.now)) }
 {
     put_gep_word(out)?;
-    put_text(out, "(")?;
-    put_type(out, ty)?;
-    put_text(out, ", ")?;
-    put_type(out, pointer)?;
+    put_type_behind(out, "(", ty)?;
+    put_type_behind(out, ", ", pointer)?;
     put_text(out, " ")
 }
 
@@ -102,6 +99,22 @@ pub fn put_typed(out: &mut Vec<u8>, node: &TypedVal) -> Result<(), AllocError>
     put_val(out, &node.value)
 }
 
+/// Appends a text, and a value behind it.
+pub fn put_val_behind(out: &mut Vec<u8>, before: &str, node: &ValNode) -> Result<(), AllocError>
+    ensures { OnOk result (out.new.items ≡ out.old.items ++ (before.now ++ val_text (val_of node.now))) }
+{
+    put_text(out, before)?;
+    put_val(out, node)
+}
+
+/// Appends a text, and a value and its type behind it.
+pub fn put_typed_behind(out: &mut Vec<u8>, before: &str, node: &TypedVal) -> Result<(), AllocError>
+    ensures { OnOk result (out.new.items ≡ out.old.items ++ (before.now ++ typed_text (typed_of node.now))) }
+{
+    put_text(out, before)?;
+    put_typed(out, node)
+}
+
 #[cycle(print_constants)]
 #[tactic(auto, unfolding(crate::specs::Text::const_text))]
 pub fn put_const(out: &mut Vec<u8>, node: &ConstNode) -> Result<(), AllocError>
@@ -109,23 +122,38 @@ pub fn put_const(out: &mut Vec<u8>, node: &ConstNode) -> Result<(), AllocError>
 {
     match node {
         ConstNode::Val(value) => put_val(out, value),
-        ConstNode::Bytes(bytes) => {
-            put_text(out, "c")?;
-            put_quoted(out, bytes.text.as_slice())
-        }
-        ConstNode::Array(_, elements) => {
-            put_text(out, "[")?;
-            put_consts(out, elements.as_slice())?;
-            put_text(out, "]")
-        }
-        ConstNode::Struct(_, members) => {
-            put_text(out, "{")?;
-            put_padding(out, members.as_slice())?;
-            put_consts(out, members.as_slice())?;
-            put_padding(out, members.as_slice())?;
-            put_text(out, "}")
-        }
+        ConstNode::Bytes(bytes) => put_bytes(out, bytes.text.as_slice()),
+        ConstNode::Array(_, elements) => put_array(out, elements.as_slice()),
+        ConstNode::Struct(_, members) => put_struct(out, members.as_slice()),
     }
+}
+
+fn put_bytes(out: &mut Vec<u8>, bytes: &[u8]) -> Result<(), AllocError>
+    ensures { OnOk result (out.new.items ≡ out.old.items ++ (codes "c" ++ quoted bytes.now)) }
+{
+    put_text(out, "c")?;
+    put_quoted(out, bytes)
+}
+
+#[cycle(print_constants)]
+fn put_array(out: &mut Vec<u8>, elements: &[TypedConst]) -> Result<(), AllocError>
+    ensures { OnOk result (out.new.items ≡ out.old.items ++ (codes "[" ++ (consts_text (consts (map typed_const_of elements.now)) ++ codes "]"))) }
+{
+    put_text(out, "[")?;
+    put_consts(out, elements)?;
+    put_text(out, "]")
+}
+
+#[cycle(print_constants)]
+fn put_struct(out: &mut Vec<u8>, members: &[TypedConst]) -> Result<(), AllocError>
+    ensures { OnOk result (out.new.items ≡ out.old.items ++ (codes "{" ++ (padding_text (consts (map typed_const_of members.now)) ++ (consts_text (consts (map typed_const_of members.now))
+        ++ (padding_text (consts (map typed_const_of members.now)) ++ codes "}"))))) }
+{
+    put_text(out, "{")?;
+    put_padding(out, members)?;
+    put_consts(out, members)?;
+    put_padding(out, members)?;
+    put_text(out, "}")
 }
 
 #[cycle(print_constants)]

@@ -1,6 +1,13 @@
-use Rattle.std.proofs.Common.{arith, refl}
+use Rattle.std.proofs.Common.{drop, arith, sym}
+use Rattle.pg_grammar.specs.GrammarOps.{predicate_of}
+use Rattle.pg_grammar.specs.ReaderOps.{icmp_at}
+use Rattle.pg_ast.specs.Syntax as syntax
+use Rattle.pg_operations.specs.Rows.{comparison_end_at}
+use Rattle.pg_grammar.proofs.Loops.{reads_on}
+use Rattle.pg_operations.proofs.Grouped.{operands_grouped}
 use Rattle.pg_operations.proofs.numbers.comparison.Goals as goal
 
 pub returns-clause-read : goal.returns-clause-read
-returns-clause-read c = let a = c.in_ok-word.ensures.read in let b = c.flags-at.ensures in let p = c.in_ok-predicate.ensures.read in let d = c.in_ok-ty.ensures in let e = c.in_ok-left.ensures in let f = c.in_ok-at.ensures.read in let g = c.in_ok-right.ensures in let o = c.predicate_op-op.ensures in
-    (rw a.0 (rw b.read (rw p.0 (rw d.0 (rw e.0 (rw f.0 (rw g.0 (rw o refl))))))), omega (arith, a.1, b.from, p.1, d.1, e.1, f.1, g.1), g.2)
+returns-clause-read c = let a = c.in_ok-word.ensures.read in let b = c.flags-at.ensures in let d = c.in_ok-predicate.ensures.read in let o = c.in_ok-word.word.now in let p = c.in_ok-predicate.predicate.now in
+    reads_on c.comparison_end.result _ _ c.args.tokens.now c.args.at c.in_ok-predicate.at (comparison_end_at o p (drop c.in_ok-predicate.at c.args.tokens.now)) (icmp_at (drop c.args.at c.args.tokens.now)) c.comparison_end.ensures
+    (rw a.0 (rw b.read (rw d.0 (sym (operands_grouped (syntax.Icmp o.span (predicate_of p.class)) (drop c.in_ok-predicate.at c.args.tokens.now)))))) (omega (arith, a.1, b.from, d.1))

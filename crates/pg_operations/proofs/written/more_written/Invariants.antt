@@ -1,4 +1,5 @@
 use Rattle.std.proofs.Common.{◌≤◌, ◌-◌, length, drop}
+use Rattle.pg_num.specs.declared.limits.TheConstants.{NESTING_LIMIT}
 use Rattle.pg_grammar.specs.declared.token.Fault.TheVariants.{Unsupported}
 use Rattle.pg_grammar.specs.declared.class.Class.TheVariants.{Dots}
 use Rattle.pg_grammar.specs.Classes.{is}
@@ -12,7 +13,7 @@ use Rattle.pg_operations.proofs.MoreLoops.{More}
 use Rattle.pg_operations.proofs.written.more_written.Given as goal
 
 abbrev pub invariant-items : goal.invariant-items
-invariant-items l = (l.at ≤ l.place) × (l.place ≤ length l.tokens) × More begins_type (type_at 64) (unless Unsupported no_type (drop_value_at (take_one (is Dots)))) (listing_of ty_of l.listing) (drop l.place l.tokens) (more_at begins_type (type_at 64) (unless Unsupported no_type (drop_value_at (take_one (is Dots)))) (drop l.at l.tokens))
+invariant-items l = (l.at ≤ l.place) × (l.place ≤ length l.tokens) × More begins_type (type_at NESTING_LIMIT) (unless Unsupported no_type (drop_value_at (take_one (is Dots)))) (listing_of ty_of l.listing) (drop l.place l.tokens) (more_at begins_type (type_at NESTING_LIMIT) (unless Unsupported no_type (drop_value_at (take_one (is Dots)))) (drop l.at l.tokens))
 
 abbrev pub decreases-items : goal.decreases-items
 decreases-items l = length l.tokens - l.place

@@ -1,4 +1,4 @@
-use Rattle.std.proofs.Common.{◌≡◌, ℕ, zero, suc, ◌<◌, List, false, drop, map, refl, sym, ◌∙◌, arith}
+use Rattle.std.proofs.Common.{◌≡◌, ℕ, zero, suc, ◌<◌, List, false, drop, map, refl, sym, ◌∙◌, arith, rules}
 use Rattle.pg_grammar.specs.declared.token.Token.{Token}
 use Rattle.pg_grammar.specs.declared.class.Class.TheVariants.{Comma, OpenSquare, OpenBrace}
 use Rattle.pg_grammar.specs.Classes.{is}
@@ -37,9 +37,11 @@ more_constants-returns t c = let i = c.items.invariant in
     (left_stop (is Comma) (behind_comma (typed_const_at c.args.depth (const_at c.args.depth))) (map typed_const_of c.items.all.items) (drop c.items.place c.args.tokens.now) (onto (map typed_const_of c.args.all.items) (all_of (is Comma) (behind_comma (typed_const_at c.args.depth (const_at c.args.depth))) (drop c.args.at c.args.tokens.now))) i.2 (sym c.next_is.ensures ∙ c.items-test.false), i.0, i.1)
 
 pub constants_to-returns : goal.constants_to-returns
-constants_to-returns t c = let a = c.in_ok-first.ensures in let b = c.in_ok-all.ensures in let d = c.in_ok-at.ensures.read in (
-  listed typed_const_of c.args.close (typed_const_at c.args.depth (const_at c.args.depth)) c.in_ok-first.first c.new-all.result.items c.push.new.self.items c.in_ok-all.all.items _ _ (drop c.args.at c.args.tokens.now) _ _ _
-      c.new-all.ensures.items c.push.ensures.items c.if-is_err.ensures.negation (sym c.next_is.ensures ∙ c.if-next_is.false) a.0 b.0 d.0,
-  omega (arith, a.1, b.1, d.1),
-  d.2,
-)
+constants_to-returns t c =
+    let none : comes (is c.args.close) (drop c.args.at c.args.tokens.now) ≡ false = search rules in
+    let a = c.in_ok-first.ensures in let b = c.in_ok-all.ensures in let d = c.in_ok-at.ensures.read in (
+      listed typed_const_of c.args.close (typed_const_at c.args.depth (const_at c.args.depth)) c.in_ok-first.first c.new-all.result.items c.push.new.self.items c.in_ok-all.all.items _ _ (drop c.args.at c.args.tokens.now) _ _ _
+          c.new-all.ensures.items c.push.ensures.items c.if-is_err.ensures.negation none a.0 b.0 d.0,
+      omega (arith, a.1, b.1, d.1),
+      d.2,
+    )

@@ -3,9 +3,11 @@ use Rattle.pg_grammar.specs.declared.token.Token.{Token}
 use Rattle.pg_grammar.specs.declared.class.Class.TheVariants.{Comma, GetElementPtr}
 use Rattle.pg_grammar.specs.Classes.{is}
 use Rattle.pg_grammar.specs.Reading.{all_of, comes}
-use Rattle.pg_grammar.specs.Reader.{typed_in_at, value_at, other_value_at, gep_at, behind_comma}
-use Rattle.pg_ast.specs.Views.{typed_of}
-use Rattle.pg_grammar.proofs.Loops.{Left, left_start, left_fails, left_next, left_stop}
+use Rattle.pg_grammar.specs.Reader.{typed_in_at, value_at, other_value_at, gep_at, gep_tail_at, behind_comma}
+use Rattle.pg_ast.specs.declared.values.ValNode.{ValNode}
+use Rattle.pg_ast.specs.Views.{ty_of, val_of, typed_of}
+use Rattle.pg_terms.specs.Ends.{gep_pointer_at, gep_indices_at, gep_end_at}
+use Rattle.pg_grammar.proofs.Loops.{Left, left_start, left_fails, left_next, left_stop, reads_on}
 use Rattle.pg_terms.proofs.values.+values.Goals as goal
 
 -- with a bracket to spare, a constant getelementptr is read as one
@@ -37,3 +39,24 @@ more_values-items-preserved t c = let i = c.items.invariant in let o = c.in-Ok.e
 pub more_values-returns : goal.more_values-returns
 more_values-returns t c = let i = c.items.invariant in
     (left_stop (is Comma) (behind_comma (typed_in_at c.args.depth (value_at c.args.depth))) (map typed_of c.items.values.items) (drop c.items.place c.args.tokens.now) (all_of (is Comma) (behind_comma (typed_in_at c.args.depth (value_at c.args.depth))) (drop c.args.at c.args.tokens.now)) i.2 (sym c.next_is.ensures ∙ c.items-test.false), i.0, i.1)
+
+pub gep_tail-returns : goal.gep_tail-returns
+gep_tail-returns t c = let a = c.in_ok-at.ensures.read in let b = c.in_ok-ty.ensures in
+    reads_on c.gep_pointer.result (λ (x : ValNode × ℕ). val_of x.0) (λ (x : ValNode × ℕ). x.1) c.args.tokens.now c.args.at c.in_ok-ty.at
+    (gep_pointer_at c.args.depth (value_at c.args.depth) c.args.word.now (ty_of c.in_ok-ty.ty) (drop c.in_ok-ty.at c.args.tokens.now))
+    (gep_tail_at c.args.depth (value_at c.args.depth) c.args.word.now (drop c.args.at c.args.tokens.now))
+    c.gep_pointer.ensures (rw a.0 (rw b.0 refl)) (omega (arith, a.1, b.1))
+
+pub gep_pointer-returns : goal.gep_pointer-returns
+gep_pointer-returns t c = let a = c.in_ok-at.ensures.read in let b = c.in_ok-pointer.ensures in
+    reads_on c.gep_indices.result (λ (x : ValNode × ℕ). val_of x.0) (λ (x : ValNode × ℕ). x.1) c.args.tokens.now c.args.at c.in_ok-pointer.at
+    (gep_indices_at c.args.depth (value_at c.args.depth) c.args.word.now (ty_of c.args.ty) (typed_of c.in_ok-pointer.pointer) (drop c.in_ok-pointer.at c.args.tokens.now))
+    (gep_pointer_at c.args.depth (value_at c.args.depth) c.args.word.now (ty_of c.args.ty) (drop c.args.at c.args.tokens.now))
+    c.gep_indices.ensures (rw a.0 (rw b.0 refl)) (omega (arith, a.1, b.1))
+
+pub gep_indices-returns : goal.gep_indices-returns
+gep_indices-returns t c = let a = c.in_ok-indices.ensures in
+    reads_on c.gep_end.result (λ (x : ValNode × ℕ). val_of x.0) (λ (x : ValNode × ℕ). x.1) c.args.tokens.now c.args.at c.in_ok-indices.at
+    (gep_end_at c.args.word.now (ty_of c.args.ty) (typed_of c.args.pointer) (map typed_of c.in_ok-indices.indices.items) (drop c.in_ok-indices.at c.args.tokens.now))
+    (gep_indices_at c.args.depth (value_at c.args.depth) c.args.word.now (ty_of c.args.ty) (typed_of c.args.pointer) (drop c.args.at c.args.tokens.now))
+    c.gep_end.ensures (rw a.0 refl) (omega (arith, a.1))

@@ -8,25 +8,31 @@ use Rattle.pg_grammar.proofs.Loops.{Left}
 use Rattle.pg_terms.proofs.values.+values.Given as goal
 
 abbrev pub decreases-other_value : goal.decreases-other_value
-decreases-other_value l = 7 * l.depth
+decreases-other_value l = 9 * l.depth
 
 abbrev pub decreases-value : goal.decreases-value
-decreases-value l = 7 * l.depth + 1
+decreases-value l = 9 * l.depth + 1
 
 abbrev pub decreases-typed_value_in : goal.decreases-typed_value_in
-decreases-typed_value_in l = 7 * l.depth + 2
+decreases-typed_value_in l = 9 * l.depth + 2
 
 abbrev pub decreases-comma_value : goal.decreases-comma_value
-decreases-comma_value l = 7 * l.depth + 3
+decreases-comma_value l = 9 * l.depth + 3
 
 abbrev pub decreases-more_values : goal.decreases-more_values
-decreases-more_values l = 7 * l.depth + 4
+decreases-more_values l = 9 * l.depth + 4
+
+abbrev pub decreases-gep_indices : goal.decreases-gep_indices
+decreases-gep_indices l = 9 * l.depth + 5
+
+abbrev pub decreases-gep_pointer : goal.decreases-gep_pointer
+decreases-gep_pointer l = 9 * l.depth + 6
 
 abbrev pub decreases-gep_tail : goal.decreases-gep_tail
-decreases-gep_tail l = 7 * l.depth + 5
+decreases-gep_tail l = 9 * l.depth + 7
 
 abbrev pub decreases-gep : goal.decreases-gep
-decreases-gep l = 7 * l.depth + 6
+decreases-gep l = 9 * l.depth + 8
 
 abbrev pub invariant-more_values-items : goal.invariant-more_values-items
 invariant-more_values-items l = (l.at ≤ l.place) × (l.place ≤ length l.tokens) × Left (is Comma) (behind_comma (typed_in_at l.depth (value_at l.depth))) (map typed_of l.values.items) (drop l.place l.tokens) (all_of (is Comma) (behind_comma (typed_in_at l.depth (value_at l.depth))) (drop l.at l.tokens))
