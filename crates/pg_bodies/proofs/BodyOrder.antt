@@ -1,5 +1,5 @@
 -- The bodies of functions, one after the other.
-use Rattle.std.proofs.Common.{◌≡◌, ℕ, suc, ◌+◌, ◌<◌, ◌≤◌, List, [], ◌∷◌, length, map, take, drop, get_or, sym, ap, subst, ◌∙◌, inl, inr}
+use Rattle.std.proofs.Common.{◌≡◌, ℕ, suc, ◌+◌, ◌<◌, ◌≤◌, List, [], ◌∷◌, length, map, take, drop, get_or, Option, Some, sym, ap, subst, ◌∙◌}
 use Rattle.std.specs.List.{sum_by}
 use Rattle.std.proofs.lemmas.List.{drop_all}
 use Rattle.std.proofs.lemmas.List.Sums.{sum_by_more}
@@ -11,9 +11,10 @@ use Rattle.pg_ast.specs.Syntax.{Tree}
 use Rattle.pg_ast.specs.Numbers.{numbered}
 use Rattle.pg_ast.specs.Views.{define_of}
 use Rattle.pg_rules.specs.Names.{line_count}
-use Rattle.pg_lex.specs.declared.token.Span.{Span}
-use Rattle.pg_rules.specs.declared.fault.CheckKind.{CheckKind}
-use Rattle.pg_rules.specs.Conditions.{bodies, body_refused, IsEarliest, RefusesNothing, IsFirstOf, RefuseNothing}
+use Rattle.pg_rules.specs.declared.refusals.CheckRefusal.{CheckRefusal}
+use Rattle.pg_rules.specs.Conditions.{bodies, body_refused, RefusesNothing}
+use Rattle.pg_rules.specs.Earliest.{IsFirstIn, IsFirstAmong}
+use Rattle.pg_rules.proofs.FirstRefusals.{first_here, first_behind}
 use Rattle.pg_bodies.specs.BodyBlocks.{node_count, capped}
 use Rattle.pg_bodies.proofs.NumberedBodies.{nodes_counted}
 
@@ -43,20 +44,18 @@ counted items i x blocks until b e =
 
 -- ---- the first refusal
 
-pub found_here : (m : Tree) (items : List DefineItem) (i : ℕ) (x : DefineItem) (kind : CheckKind) (span : Span) → i < length items → x ≡ get_or items i x
-    → IsEarliest (body_refused m (lines_before items i) (numbered m.types (define_of x))) kind span → IsFirstOf (bodies m (map define_of (drop i items)) (lines_before items i)) kind span
-found_here m items i x kind span l e h = subst (λ ps. IsFirstOf ps kind span) (sym (bodies_step m items i x (lines_before items i) l e)) (inl h)
+pub found_here : (m : Tree) (items : List DefineItem) (i : ℕ) (x : DefineItem) (o : Option CheckRefusal) (r : CheckRefusal) → i < length items → x ≡ get_or items i x → o ≡ Some r
+    → IsFirstIn (body_refused m (lines_before items i) (numbered m.types (define_of x))) o → IsFirstAmong (bodies m (map define_of (drop i items)) (lines_before items i)) (Some r)
+found_here m items i x o r l e s h =
+    let rest = bodies m (map define_of (drop (i + 1) items)) (lines_before items i + item_count x) in
+    subst (λ ps. IsFirstAmong ps (Some r)) (sym (bodies_step m items i x (lines_before items i) l e))
+    (first_here (body_refused m (lines_before items i) (numbered m.types (define_of x))) rest o r s h)
 
-pub found_behind : (m : Tree) (items : List DefineItem) (i : ℕ) (x : DefineItem) (kind : CheckKind) (span : Span) → i < length items → x ≡ get_or items i x
+pub found_behind : (m : Tree) (items : List DefineItem) (i : ℕ) (x : DefineItem) (o : Option CheckRefusal) → i < length items → x ≡ get_or items i x
     → RefusesNothing (body_refused m (lines_before items i) (numbered m.types (define_of x)))
-    → IsFirstOf (bodies m (map define_of (drop (i + 1) items)) (lines_before items (i + 1))) kind span → IsFirstOf (bodies m (map define_of (drop i items)) (lines_before items i)) kind span
-found_behind m items i x kind span l e n h =
-    subst (λ ps. IsFirstOf ps kind span) (sym (bodies_step m items i x (lines_before items i) l e))
-    (inr (n, subst (λ k. IsFirstOf (bodies m (map define_of (drop (i + 1) items)) k) kind span) (lines_step items i x l e) h))
-
-pub none_behind : (m : Tree) (items : List DefineItem) (i : ℕ) (x : DefineItem) → i < length items → x ≡ get_or items i x
-    → RefusesNothing (body_refused m (lines_before items i) (numbered m.types (define_of x)))
-    → RefuseNothing (bodies m (map define_of (drop (i + 1) items)) (lines_before items (i + 1))) → RefuseNothing (bodies m (map define_of (drop i items)) (lines_before items i))
-none_behind m items i x l e n h =
-    subst (λ ps. RefuseNothing ps) (sym (bodies_step m items i x (lines_before items i) l e))
-    (n, subst (λ k. RefuseNothing (bodies m (map define_of (drop (i + 1) items)) k)) (lines_step items i x l e) h)
+    → IsFirstAmong (bodies m (map define_of (drop (i + 1) items)) (lines_before items (i + 1))) o → IsFirstAmong (bodies m (map define_of (drop i items)) (lines_before items i)) o
+found_behind m items i x o l e n h =
+    let rest = bodies m (map define_of (drop (i + 1) items)) (lines_before items i + item_count x) in
+    subst (λ ps. IsFirstAmong ps o) (sym (bodies_step m items i x (lines_before items i) l e))
+    (first_behind (body_refused m (lines_before items i) (numbered m.types (define_of x))) rest o n
+    (subst (λ k. IsFirstAmong (bodies m (map define_of (drop (i + 1) items)) k) o) (lines_step items i x l e) h))

@@ -1,7 +1,7 @@
 -- What the body of a function is refused for, from what is found of its parts.
-use Rattle.std.proofs.Common.{◌≡◌, ℕ, ◌+◌, ◌≤◌, ◌==◌, ◌||◌, nat_lt, Bool, List, [], ◌∷◌, ◌++◌, length, map, drop, Option, Some, None, refl, sym, ap, ◌∙◌, arith}
+use Rattle.std.proofs.Common.{◌≡◌, ℕ, ◌+◌, ◌≤◌, ◌==◌, ◌||◌, nat_lt, Bool, List, [], ◌∷◌, ◌++◌, length, map, drop, Option, refl, sym, ap, ◌∙◌, arith}
 use Rattle.std.specs.List.{flat_map, list_any, enumerate_from}
-use Rattle.std.proofs.lemmas.List.{drop-map, length-map}
+use Rattle.std.proofs.lemmas.List.{append-nil, drop-map, length-map}
 use Rattle.pg_lex.specs.declared.token.Span.{Span}
 use Rattle.pg_num.specs.declared.limits.TheConstants.{INSTRUCTION_LIMIT, FUNCTION_REGISTER_LIMIT}
 use Rattle.pg_ast.specs.declared.names.Name.{Name}
@@ -14,15 +14,14 @@ use Rattle.pg_types.specs.Resolved.{resolved}
 use Rattle.pg_names.specs.declared.naming.OwnNames.{OwnNames}
 use Rattle.pg_names.specs.Registers.{register_type}
 use Rattle.pg_rules.specs.declared.fault.CheckKind.{CheckKind}
-use Rattle.pg_rules.specs.declared.fault.CheckKind.TheVariants.{UnknownName, Doubled, WrongType, NoBlock, BadPhi, Unsupported, BadSignature, TooLarge, NoMain}
+use Rattle.pg_rules.specs.declared.fault.CheckKind.TheVariants.{BadPhi, BadSignature, TooLarge, NoMain}
 use Rattle.pg_rules.specs.Names.{Register, doubled, labels_of, registers_of, label_number, line_count}
-use Rattle.pg_rules.specs.Earliest.{earlier, earliest}
+use Rattle.pg_rules.specs.Earliest.{earliest, joined}
 use Rattle.pg_rules.specs.ValueConditions.{Scope}
 use Rattle.pg_rules.specs.TypeConditions.{any_large}
 use Rattle.pg_rules.specs.LineConditions.{line_refused}
 use Rattle.pg_rules.specs.BlockConditions.{bad_phis, is_endless}
 use Rattle.pg_rules.specs.Conditions.{all_of, all_lines, body_types, scope_of, own_names, body_names, is_unfinished, is_too_large, body_refused}
-use Rattle.pg_rules.proofs.Rows.{earliest_more}
 use Rattle.pg_calls.specs.declared.scope.LineScope.{LineScope}
 use Rattle.pg_calls.specs.Scopes.{IsLineScope}
 use Rattle.pg_bodies.specs.BodyBlocks.{bare_blocks}
@@ -121,23 +120,13 @@ unfolding line_refused
 no_main_lines g [] = refl
 no_main_lines g (l ∷ ls) = no_main_lines g ls
 
-earlier_none : (a : Option Span) → earlier a None ≡ a
-earlier_none None = refl
-earlier_none (Some x) = refl
-
-pub body_parts : (m : Tree) (lines : ℕ) (d : Definition) (kind : CheckKind) → earlier (earliest (whole_refused m lines d kind)) (earliest (all_of (line_refused (scope_of m d)) (all_lines d) kind)) ≡ earliest (body_refused m lines d kind)
-unfolding body_refused earliest
-body_parts m lines d UnknownName = refl
-body_parts m lines d Doubled = sym (earliest_more (whole_refused m lines d Doubled) (all_of (line_refused (scope_of m d)) (all_lines d) Doubled))
-body_parts m lines d WrongType = refl
-body_parts m lines d NoBlock = sym (earliest_more (whole_refused m lines d NoBlock) (all_of (line_refused (scope_of m d)) (all_lines d) NoBlock))
-body_parts m lines d BadPhi =
-    ap (λ ss. earlier (earliest (whole_refused m lines d BadPhi)) (earliest ss)) (no_phi_lines (scope_of m d) (all_lines d)) ∙ earlier_none (earliest (whole_refused m lines d BadPhi))
-body_parts m lines d Unsupported = refl
-body_parts m lines d BadSignature = ap (λ ss. earliest ss) (no_signature_lines (scope_of m d) (all_lines d))
-body_parts m lines d TooLarge =
-    ap (λ ss. earlier (earliest (whole_refused m lines d TooLarge)) (earliest ss)) (no_large_lines (scope_of m d) (all_lines d)) ∙ earlier_none (earliest (whole_refused m lines d TooLarge))
-body_parts m lines d NoMain = ap (λ ss. earliest ss) (no_main_lines (scope_of m d) (all_lines d))
+pub body_parts : (m : Tree) (lines : ℕ) (d : Definition) (kind : CheckKind) → joined (whole_refused m lines d) (all_of (line_refused (scope_of m d)) (all_lines d)) kind ≡ body_refused m lines d kind
+unfolding body_refused
+body_parts m lines d BadPhi = ap (λ ss. whole_refused m lines d BadPhi ++ ss) (no_phi_lines (scope_of m d) (all_lines d)) ∙ append-nil (whole_refused m lines d BadPhi)
+body_parts m lines d BadSignature = no_signature_lines (scope_of m d) (all_lines d)
+body_parts m lines d TooLarge = ap (λ ss. whole_refused m lines d TooLarge ++ ss) (no_large_lines (scope_of m d) (all_lines d)) ∙ append-nil (whole_refused m lines d TooLarge)
+body_parts m lines d NoMain = no_main_lines (scope_of m d) (all_lines d)
+body_parts m lines d _ = refl
 
 pub registers_within : (types : List NamedType) (d : Definition) (o : OwnNames) (registers : List Name) (params : ℕ) → AreOwn types d o → registers ≡ o.registers.items → params ≡ length d.params → params ≤ length registers
 registers_within types d o registers params own r p =

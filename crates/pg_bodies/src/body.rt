@@ -1,4 +1,4 @@
-//! What the body of a function is refused for.
+//! The first refusal of the body of a function.
 
 ghost use Rattle.std.specs.Prelude.{◌≡◌, ◌+◌, IfOk, List, ℕ};
 ghost use Rattle.pg_ast.specs.Syntax.{Tree};
@@ -6,7 +6,7 @@ ghost use Rattle.pg_ast.specs.Numbers.{numbered};
 ghost use Rattle.pg_ast.specs.Views.{define_of, tree_of};
 ghost use Rattle.pg_types.specs.NameIndex.{known_place};
 ghost use Rattle.pg_types.specs.NumberedTypes.{named_types};
-ghost use Rattle.pg_rules.specs.Earliest.{AreEarliest};
+ghost use Rattle.pg_rules.specs.Earliest.{IsFirstIn};
 ghost use Rattle.pg_rules.specs.Names.{label_number, line_count};
 ghost use Rattle.pg_rules.specs.LineConditions.{line_refused};
 ghost use Rattle.pg_rules.specs.Conditions.{all_of, all_lines, scope_of, body_refused};
@@ -14,7 +14,7 @@ ghost use Rattle.pg_bodies.specs.BodyBlocks.{capped};
 ghost use Rattle.pg_bodies.specs.BodyParts.{whole_refused, AreOwn};
 
 use crate::blocks::{bad_phis, named_blocks};
-use crate::body_lines::{are_large, blocks_refusals};
+use crate::body_lines::{are_large, blocks_refusal};
 use crate::doubled_names::doubled_own;
 use crate::limits::{are_too_many, is_over_limits, is_unfinished};
 use crate::name_index::index_owned;
@@ -22,24 +22,24 @@ use indexmap::IndexMap;
 use pg_ast::DefineItem;
 use pg_calls::LineScope;
 use pg_names::{OwnNames, own_names};
-use pg_rules::{Refusals, Symbols, earlier_places, place_if};
+use pg_rules::{CheckKind, CheckRefusal, Symbols, earlier_refusal, place_if, refusal_at};
 use pg_types::TypeNumbers;
 use pg_values::ValueScope;
 use std::alloc::{AllocError, Global};
 
-/// What a function is refused for as a whole, its lines aside.
-fn whole_refusals(
+/// The first refusal of a function as a whole, its lines aside.
+fn whole_refusal(
     alloc: Global,
     types: &mut TypeNumbers<'_>,
     labels: &IndexMap<&[u8], usize>,
     own: &OwnNames<'_>,
     until: usize,
     item: &DefineItem,
-) -> Result<Refusals, AllocError>
+) -> Result<Option<CheckRefusal>, AllocError>
     requires own { AreOwn (named_types types.old) (define_of item.now) own.now }
     requires labels { (text : List ℕ) → known_place labels.now text ≡ label_number own.now.labels.items text }
-    ensures places { (m : Tree) (lines : ℕ) → m.types ≡ named_types types.old → until ≡ capped (lines + line_count (define_of item.now)) →
-        IfOk result (λ r. AreEarliest r (whole_refused m lines (numbered m.types (define_of item.now)))) }
+    ensures first { (m : Tree) (lines : ℕ) → m.types ≡ named_types types.old → until ≡ capped (lines + line_count (define_of item.now)) →
+        IfOk result (λ o. IsFirstIn (whole_refused m lines (numbered m.types (define_of item.now))) o) }
     ensures items { types.new.items ≡ types.old.items }
 {
     let blocks = named_blocks(alloc, own.labels.as_slice(), item.blocks.as_slice())?;
@@ -52,33 +52,32 @@ fn whole_refusals(
     let phis = bad_phis(alloc, labels, blocks.as_slice())?;
     let large = are_large(alloc, types, item.blocks.as_slice())?;
     let over = is_over_limits(large, own.registers.len(), are_too_many(until));
-    Ok(Refusals {
-        unknown_name: None,
-        doubled: twice,
-        wrong_type: None,
-        no_block: place_if(is_unfinished(item.blocks.as_slice()), item.name.span),
-        bad_phi: phis,
-        unsupported: None,
-        bad_signature: None,
-        too_large: place_if(over, item.name.span),
-        no_main: None,
-    })
+    let unfinished = is_unfinished(item.blocks.as_slice());
+    let named = earlier_refusal(
+        refusal_at(CheckKind::Doubled, twice),
+        refusal_at(CheckKind::NoBlock, place_if(unfinished, item.name.span)),
+    );
+    let other = earlier_refusal(
+        refusal_at(CheckKind::BadPhi, phis),
+        refusal_at(CheckKind::TooLarge, place_if(over, item.name.span)),
+    );
+    Ok(earlier_refusal(named, other))
 }
 
-/// What the lines of a function are refused for.
-fn all_line_refusals(
+/// The first refusal of the lines of a function.
+fn all_lines_refusal(
     alloc: Global,
     types: &mut TypeNumbers<'_>,
     symbols: &Symbols<'_>,
     labels: &IndexMap<&[u8], usize>,
     own: &OwnNames<'_>,
     item: &DefineItem,
-) -> Result<Refusals, AllocError>
+) -> Result<Option<CheckRefusal>, AllocError>
     requires tree { named_types types.old ≡ (tree_of symbols.now.tree.now).types }
     requires own { AreOwn (named_types types.old) (define_of item.now) own.now }
     requires labels { (text : List ℕ) → known_place labels.now text ≡ label_number own.now.labels.items text }
-    ensures places { (m : Tree) → m ≡ tree_of symbols.now.tree.now →
-        IfOk result (λ r. AreEarliest r (all_of (line_refused (scope_of m (numbered m.types (define_of item.now)))) (all_lines (numbered m.types (define_of item.now))))) }
+    ensures first { (m : Tree) → m ≡ tree_of symbols.now.tree.now →
+        IfOk result (λ o. IsFirstIn (all_of (line_refused (scope_of m (numbered m.types (define_of item.now)))) (all_lines (numbered m.types (define_of item.now)))) o) }
     ensures items { types.new.items ≡ types.old.items }
 {
     let registers = index_owned(alloc, own.registers.as_slice())?;
@@ -91,45 +90,45 @@ fn all_line_refusals(
         labels,
         result: &item.result,
     };
-    let found = blocks_refusals(alloc, &scope, types, item.blocks.as_slice())?;
+    let found = blocks_refusal(alloc, &scope, types, item.blocks.as_slice())?;
     Ok(found)
 }
 
-/// What a function whose names these are is refused for.
-fn own_refusals(
+/// The first refusal of a function whose names these are.
+fn own_refusal(
     alloc: Global,
     types: &mut TypeNumbers<'_>,
     symbols: &Symbols<'_>,
     own: &OwnNames<'_>,
     until: usize,
     item: &DefineItem,
-) -> Result<Refusals, AllocError>
+) -> Result<Option<CheckRefusal>, AllocError>
     requires tree { named_types types.old ≡ (tree_of symbols.now.tree.now).types }
     requires own { AreOwn (named_types types.old) (define_of item.now) own.now }
-    ensures places { (m : Tree) (lines : ℕ) → m ≡ tree_of symbols.now.tree.now → until ≡ capped (lines + line_count (define_of item.now)) →
-        IfOk result (λ r. AreEarliest r (body_refused m lines (numbered m.types (define_of item.now)))) }
+    ensures first { (m : Tree) (lines : ℕ) → m ≡ tree_of symbols.now.tree.now → until ≡ capped (lines + line_count (define_of item.now)) →
+        IfOk result (λ o. IsFirstIn (body_refused m lines (numbered m.types (define_of item.now))) o) }
     ensures items { types.new.items ≡ types.old.items }
 {
     let labels = index_owned(alloc, own.labels.as_slice())?;
-    let whole = whole_refusals(alloc, types, &labels, own, until, item)?;
-    let lines = all_line_refusals(alloc, types, symbols, &labels, own, item)?;
-    Ok(earlier_places(whole, lines))
+    let whole = whole_refusal(alloc, types, &labels, own, until, item)?;
+    let lines = all_lines_refusal(alloc, types, symbols, &labels, own, item)?;
+    Ok(earlier_refusal(whole, lines))
 }
 
-/// What the body of a function is refused for, where so many instructions stand in the program up to its end.
-pub(crate) fn body_refusals(
+/// The first refusal of the body of a function, where so many instructions stand in the program up to its end.
+pub(crate) fn body_refusal(
     alloc: Global,
     types: &mut TypeNumbers<'_>,
     symbols: &Symbols<'_>,
     until: usize,
     item: &DefineItem,
-) -> Result<Refusals, AllocError>
+) -> Result<Option<CheckRefusal>, AllocError>
     requires { named_types types.old ≡ (tree_of symbols.now.tree.now).types }
-    ensures places { (m : Tree) (lines : ℕ) → m ≡ tree_of symbols.now.tree.now → until ≡ capped (lines + line_count (define_of item.now)) →
-        IfOk result (λ r. AreEarliest r (body_refused m lines (numbered m.types (define_of item.now)))) }
+    ensures first { (m : Tree) (lines : ℕ) → m ≡ tree_of symbols.now.tree.now → until ≡ capped (lines + line_count (define_of item.now)) →
+        IfOk result (λ o. IsFirstIn (body_refused m lines (numbered m.types (define_of item.now))) o) }
     ensures items { types.new.items ≡ types.old.items }
 {
     let own = own_names(alloc, types, item)?;
-    let found = own_refusals(alloc, types, symbols, &own, until, item)?;
+    let found = own_refusal(alloc, types, symbols, &own, until, item)?;
     Ok(found)
 }

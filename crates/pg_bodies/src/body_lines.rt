@@ -1,4 +1,4 @@
-//! What the lines of a body are refused for.
+//! The first refusal of the lines of a body.
 
 ghost use Rattle.std.specs.Prelude.{◌≡◌, IfOk, map};
 ghost use Rattle.std.specs.List.{list_any};
@@ -6,52 +6,52 @@ ghost use Rattle.pg_ast.specs.Views.{line_of, block_of};
 ghost use Rattle.pg_types.specs.NumberedTypes.{named_types};
 ghost use Rattle.pg_rules.specs.ValueConditions.{Scope};
 ghost use Rattle.pg_rules.specs.LineConditions.{line_refused};
-ghost use Rattle.pg_rules.specs.Earliest.{AreEarliest};
+ghost use Rattle.pg_rules.specs.Earliest.{IsFirstIn};
 ghost use Rattle.pg_rules.specs.Conditions.{all_of};
 ghost use Rattle.pg_calls.specs.Scopes.{IsLineScope};
 ghost use Rattle.pg_bodies.specs.BodyParts.{block_refused, is_large_line, is_large_block};
 
 use pg_ast::{BlockNode, LineNode};
 use pg_calls::LineScope;
-use pg_lines::{line_is_large, line_refusals};
-use pg_rules::{Refusals, earlier_places, no_refusals};
+use pg_lines::{line_is_large, line_refusal};
+use pg_rules::{CheckRefusal, earlier_refusal};
 use pg_types::TypeNumbers;
 use std::alloc::{AllocError, Global};
 
-/// What lines are refused for.
-fn lines_refusals(
+/// The first refusal of lines.
+fn lines_refusal(
     alloc: Global,
     scope: &LineScope<'_>,
     types: &mut TypeNumbers<'_>,
     lines: &[LineNode],
-) -> Result<Refusals, AllocError>
-    ensures places { (g : Scope) → IsLineScope scope.now g → g.tree.types ≡ named_types types.old →
-        IfOk result (λ r. AreEarliest r (all_of (line_refused g) (map line_of lines.now))) }
+) -> Result<Option<CheckRefusal>, AllocError>
+    ensures first { (g : Scope) → IsLineScope scope.now g → g.tree.types ≡ named_types types.old →
+        IfOk result (λ o. IsFirstIn (all_of (line_refused g) (map line_of lines.now)) o) }
     ensures items { types.new.items ≡ types.old.items }
 {
-    let mut found = no_refusals();
+    let mut found = None;
     for line in lines {
-        let own = line_refusals(alloc, scope, types, line)?;
-        found = earlier_places(found, own);
+        let own = line_refusal(alloc, scope, types, line)?;
+        found = earlier_refusal(found, own);
     }
     Ok(found)
 }
 
-/// What the lines of blocks are refused for.
-pub(crate) fn blocks_refusals(
+/// The first refusal of the lines of blocks.
+pub(crate) fn blocks_refusal(
     alloc: Global,
     scope: &LineScope<'_>,
     types: &mut TypeNumbers<'_>,
     blocks: &[BlockNode],
-) -> Result<Refusals, AllocError>
-    ensures places { (g : Scope) → IsLineScope scope.now g → g.tree.types ≡ named_types types.old →
-        IfOk result (λ r. AreEarliest r (all_of (block_refused g) (map block_of blocks.now))) }
+) -> Result<Option<CheckRefusal>, AllocError>
+    ensures first { (g : Scope) → IsLineScope scope.now g → g.tree.types ≡ named_types types.old →
+        IfOk result (λ o. IsFirstIn (all_of (block_refused g) (map block_of blocks.now)) o) }
     ensures items { types.new.items ≡ types.old.items }
 {
-    let mut found = no_refusals();
+    let mut found = None;
     for block in blocks {
-        let own = lines_refusals(alloc, scope, types, block.lines.as_slice())?;
-        found = earlier_places(found, own);
+        let own = lines_refusal(alloc, scope, types, block.lines.as_slice())?;
+        found = earlier_refusal(found, own);
     }
     Ok(found)
 }

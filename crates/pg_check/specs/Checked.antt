@@ -1,10 +1,11 @@
 -- What the checks promise of a module.
-use Rattle.std.specs.Prelude.{◌≡◌, ◌++◌, ◌∷◌, [], List}
+use Rattle.std.specs.Prelude.{◌≡◌, ◌++◌, ◌∷◌, [], List, Option, Some, None}
 use Rattle.std.specs.List.{enumerate_from}
 use Rattle.pg_ast.specs.Syntax.{Tree}
 use Rattle.pg_ir.specs.Program.{NumberedProgram}
 use Rattle.pg_rules.specs.declared.fault.CheckFault.{CheckFault}
 use Rattle.pg_rules.specs.declared.fault.CheckFault.TheVariants.{At, OutOfMemory}
+use Rattle.pg_rules.specs.declared.refusals.CheckRefusal.{CheckRefusal}
 use Rattle.pg_rules.specs.Conditions.{RefusedPlaces, all_of, global_refused, heads_refused, main_refused, bodies, IsUnrefused, IsFirstRefusal}
 use Rattle.pg_rules.specs.Numbered.{program_of}
 
@@ -16,6 +17,11 @@ IsProgramOf m p = IsUnrefused m × (p ≡ program_of m)
 abbrev pub IsFaultOf : Tree → CheckFault → Type 0
 IsFaultOf m (At kind span) = IsFirstRefusal m kind span
 IsFaultOf m OutOfMemory = Unit {0}
+
+-- what the checks find: the tree's first refusal, or that nothing refuses it
+abbrev pub IsFoundIn : Tree → Option CheckRefusal → Type 0
+IsFoundIn m (Some r) = IsFirstRefusal m r.kind r.span
+IsFoundIn m None = IsUnrefused m
 
 -- ---- the phases behind the first
 

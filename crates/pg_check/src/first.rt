@@ -1,19 +1,19 @@
 //! The first refusal of a module, phase by phase.
 
-ghost use Rattle.std.specs.Prelude.{◌≡◌, ℕ, List, IfOk, IfSome, None};
+ghost use Rattle.std.specs.Prelude.{◌≡◌, ℕ, List, IfOk};
 ghost use Rattle.pg_ast.specs.Views.{tree_of};
 ghost use Rattle.pg_types.specs.NameIndex.{known_place};
 ghost use Rattle.pg_rules.specs.Names.{symbol_names};
 ghost use Rattle.pg_rules.specs.Starts.{first_start};
-ghost use Rattle.pg_rules.specs.Conditions.{IsFirstOf, RefuseNothing, IsFirstRefusal, IsUnrefused};
-ghost use Rattle.pg_check.specs.Checked.{last_phases, phases_from_heads, phases_from_globals};
+ghost use Rattle.pg_rules.specs.Earliest.{IsFirstAmong};
+ghost use Rattle.pg_check.specs.Checked.{IsFoundIn, last_phases, phases_from_heads, phases_from_globals};
 
-use crate::main_function::main_refusals;
+use crate::main_function::main_refusal;
 use indexmap::IndexMap;
 use pg_ast::Module;
 use pg_bodies::first_of_bodies;
-use pg_heads::{globals_refusals, heads_refusals, types_refusals};
-use pg_rules::{Refusal, Symbols, first_refusal, index_symbols, symbol_starts};
+use pg_heads::{globals_refusal, heads_refusal, types_refusal};
+use pg_rules::{CheckRefusal, Symbols, index_symbols, symbol_starts};
 use pg_types::TypeNumbers;
 use std::alloc::{AllocError, Global};
 
@@ -22,16 +22,15 @@ fn first_behind_heads(
     alloc: Global,
     types: &mut TypeNumbers<'_>,
     symbols: &Symbols<'_>,
-) -> Result<Option<Refusal>, AllocError>
+) -> Result<Option<CheckRefusal>, AllocError>
     requires { types.old.items ≡ symbols.now.tree.now.types.items }
-    ensures found { IfOk result (λ o. IfSome o (λ r. IsFirstOf (last_phases (tree_of symbols.now.tree.now)) r.kind r.span)) }
-    ensures none { IfOk result (λ o. o ≡ None → RefuseNothing (last_phases (tree_of symbols.now.tree.now))) }
+    ensures first { IfOk result (λ o. IsFirstAmong (last_phases (tree_of symbols.now.tree.now)) o) }
     ensures items { types.new.items ≡ types.old.items }
 {
     let first = first_of_bodies(alloc, types, symbols)?;
     match first {
         Some(refusal) => Ok(Some(refusal)),
-        None => Ok(first_refusal(main_refusals(symbols.tree))),
+        None => Ok(main_refusal(symbols.tree)),
     }
 }
 
@@ -41,15 +40,13 @@ fn first_from_heads(
     types: &mut TypeNumbers<'_>,
     symbols: &Symbols<'_>,
     starts: &IndexMap<&[u8], u32>,
-) -> Result<Option<Refusal>, AllocError>
+) -> Result<Option<CheckRefusal>, AllocError>
     requires items { types.old.items ≡ symbols.now.tree.now.types.items }
     requires starts { (text : List ℕ) → known_place starts.now text ≡ first_start (symbol_names (tree_of symbols.now.tree.now)) text }
-    ensures found { IfOk result (λ o. IfSome o (λ r. IsFirstOf (phases_from_heads (tree_of symbols.now.tree.now)) r.kind r.span)) }
-    ensures none { IfOk result (λ o. o ≡ None → RefuseNothing (phases_from_heads (tree_of symbols.now.tree.now))) }
+    ensures first { IfOk result (λ o. IsFirstAmong (phases_from_heads (tree_of symbols.now.tree.now)) o) }
     ensures items { types.new.items ≡ types.old.items }
 {
-    let heads = heads_refusals(alloc, types, starts, symbols.tree)?;
-    let first = first_refusal(heads);
+    let first = heads_refusal(alloc, types, starts, symbols.tree)?;
     match first {
         Some(refusal) => Ok(Some(refusal)),
         None => first_behind_heads(alloc, types, symbols),
@@ -62,15 +59,13 @@ fn first_from_globals(
     types: &mut TypeNumbers<'_>,
     symbols: &Symbols<'_>,
     starts: &IndexMap<&[u8], u32>,
-) -> Result<Option<Refusal>, AllocError>
+) -> Result<Option<CheckRefusal>, AllocError>
     requires items { types.old.items ≡ symbols.now.tree.now.types.items }
     requires starts { (text : List ℕ) → known_place starts.now text ≡ first_start (symbol_names (tree_of symbols.now.tree.now)) text }
-    ensures found { IfOk result (λ o. IfSome o (λ r. IsFirstOf (phases_from_globals (tree_of symbols.now.tree.now)) r.kind r.span)) }
-    ensures none { IfOk result (λ o. o ≡ None → RefuseNothing (phases_from_globals (tree_of symbols.now.tree.now))) }
+    ensures first { IfOk result (λ o. IsFirstAmong (phases_from_globals (tree_of symbols.now.tree.now)) o) }
     ensures items { types.new.items ≡ types.old.items }
 {
-    let globals = globals_refusals(alloc, types, symbols, starts)?;
-    let first = first_refusal(globals);
+    let first = globals_refusal(alloc, types, symbols, starts)?;
     match first {
         Some(refusal) => Ok(Some(refusal)),
         None => first_from_heads(alloc, types, symbols, starts),
@@ -82,10 +77,9 @@ fn first_behind_types(
     alloc: Global,
     types: &mut TypeNumbers<'_>,
     tree: &Module,
-) -> Result<Option<Refusal>, AllocError>
+) -> Result<Option<CheckRefusal>, AllocError>
     requires { types.old.items ≡ tree.now.types.items }
-    ensures found { IfOk result (λ o. IfSome o (λ r. IsFirstOf (phases_from_globals (tree_of tree.now)) r.kind r.span)) }
-    ensures none { IfOk result (λ o. o ≡ None → RefuseNothing (phases_from_globals (tree_of tree.now))) }
+    ensures first { IfOk result (λ o. IsFirstAmong (phases_from_globals (tree_of tree.now)) o) }
     ensures items { types.new.items ≡ types.old.items }
 {
     let symbols = index_symbols(alloc, tree)?;
@@ -98,14 +92,12 @@ pub(crate) fn first_of_module(
     alloc: Global,
     types: &mut TypeNumbers<'_>,
     tree: &Module,
-) -> Result<Option<Refusal>, AllocError>
+) -> Result<Option<CheckRefusal>, AllocError>
     requires { types.old.items ≡ tree.now.types.items }
-    ensures found { IfOk result (λ o. IfSome o (λ r. IsFirstRefusal (tree_of tree.now) r.kind r.span)) }
-    ensures none { IfOk result (λ o. o ≡ None → IsUnrefused (tree_of tree.now)) }
+    ensures first { IfOk result (λ o. IsFoundIn (tree_of tree.now) o) }
     ensures items { types.new.items ≡ types.old.items }
 {
-    let items = types_refusals(alloc, types, tree)?;
-    let first = first_refusal(items);
+    let first = types_refusal(alloc, types, tree)?;
     match first {
         Some(refusal) => Ok(Some(refusal)),
         None => first_behind_types(alloc, types, tree),

@@ -6,6 +6,7 @@ use Rattle.pg_lex.specs.declared.token.Span.{Span}
 use Rattle.pg_ast.specs.declared.names.Name.{Name}
 use Rattle.pg_ast.specs.Syntax.{Ty, Named, NamedType}
 use Rattle.pg_types.specs.NameIndex.{first_place}
+use Rattle.pg_rules.specs.declared.refusals.CheckRefusal.{CheckRefusal}
 use Rattle.pg_rules.specs.Conditions.{names_in, meets, at_if}
 use Rattle.std.specs.Prelude.{slice_set}
 
@@ -70,10 +71,10 @@ places_of_item types None = []
 unfoldable pub next_places : List NamedType → ℕ → List ℕ
 next_places types p = places_of_item types (slice_get types p)
 
--- a place begins before the one that is known
-abbrev pub is_earlier : Option Span → Span → Bool
-is_earlier None place = true
-is_earlier (Some known) place = nat_lt place.start known.start
+-- a place begins behind the refusal that is known
+abbrev pub is_behind : Option CheckRefusal → Span → Bool
+is_behind None place = false
+is_behind (Some known) place = nat_lt known.span.start place.start
 
 -- a name in a type, where it is this one or leads to it
 abbrev pub circle_at : List NamedType → List ℕ → Ty → List Span

@@ -9,16 +9,17 @@ ghost use Rattle.pg_types.specs.NumberedTypes.{named_types};
 ghost use Rattle.pg_types.specs.Resolved.{resolved};
 ghost use Rattle.pg_rules.specs.Nodes.{tys_behind};
 ghost use Rattle.pg_rules.specs.Written.{types_within};
-ghost use Rattle.pg_rules.specs.Earliest.{earlier, earliest};
-ghost use Rattle.pg_rules.specs.Conditions.{names_in_types, meets, self_contained};
+ghost use Rattle.pg_rules.specs.declared.fault.CheckKind.TheVariants.{WrongType};
+ghost use Rattle.pg_rules.specs.Earliest.{only, joined, IsFirstIn};
+ghost use Rattle.pg_rules.specs.Conditions.{RefusedPlaces, names_in_types, meets, self_contained};
 ghost use Rattle.pg_heads.specs.Ranks.{Fall};
-ghost use Rattle.pg_heads.specs.Circles.{has, Noted, noted_seen, noted_next, place_of, place_of_name, places_in, next_places, arrives, is_earlier, circle_at};
+ghost use Rattle.pg_heads.specs.Circles.{has, Noted, noted_seen, noted_next, place_of, place_of_name, places_in, next_places, arrives, is_behind, circle_at};
 
 use crate::ranks::rank_of;
 use indexmap::IndexMap;
 use pg_ast::{Name, TypeItem, TypeNode};
 use pg_lex::Span;
-use pg_rules::{add_types_within, earlier, place_if};
+use pg_rules::{CheckKind, CheckRefusal, add_types_within, earlier_refusal, place_if, refusal_at};
 use pg_types::{TypeNumbers, place_of_name};
 use std::alloc::{AllocError, Global};
 
@@ -207,82 +208,81 @@ fn leads_back(
     }
 }
 
-/// Whether a place begins before the one that is known.
-fn is_earlier(known: Option<Span>, place: Span) -> bool
-    ensures { result ≡ is_earlier known place }
+/// Whether a place begins behind the refusal that is known.
+fn is_behind(known: Option<CheckRefusal>, place: Span) -> bool
+    ensures { result ≡ is_behind known place }
 {
     match known {
-        Some(known) => place.start < known.start,
-        None => true,
+        Some(known) => known.span.start < place.start,
+        None => false,
     }
 }
 
-/// A name in a type that is that of the item at a place, or leads to it. Where a place is known that none of the type
-/// is before, the way back isn't looked for.
-#[tactic(auto, unfolding(pg_rules::specs::Earliest::earliest))]
+/// The first of the refusal that is known and that of a type that is the name of the item at a place, or leads to it.
+/// Behind the refusal that is known, the way back isn't looked for.
 fn circle_at(
     alloc: Global,
     places: &IndexMap<&[u8], usize>,
     items: &[TypeItem],
     ranks: &[usize],
     target: usize,
-    known: Option<Span>,
+    known: Option<CheckRefusal>,
     ty: &TypeNode,
-) -> Result<Option<Span>, AllocError>
+) -> Result<Option<CheckRefusal>, AllocError>
     requires known { (text : List ℕ) → known_place places.now text ≡ place_of (map type_item_of items.now) text }
     requires fall { Fall (next_places (map type_item_of items.now)) ranks.now }
-    ensures { (text : List ℕ) → place_of (map type_item_of items.now) text ≡ Some target →
-        IfOk result (λ o. earlier known o ≡ earlier known (earliest (circle_at (map type_item_of items.now) text (ty_of ty.now)))) }
+    ensures { (p : RefusedPlaces) (text : List ℕ) → IsFirstIn p known → place_of (map type_item_of items.now) text ≡ Some target →
+        IfOk result (λ o. IsFirstIn (joined p (only WrongType (circle_at (map type_item_of items.now) text (ty_of ty.now)))) o) }
 {
     match ty {
         TypeNode::Named(name) => {
-            if !is_earlier(known, name.span) {
-                return Ok(None);
+            if is_behind(known, name.span) {
+                return Ok(known);
             }
             let back = leads_back(alloc, places, items, ranks, target, name)?;
-            Ok(place_if(back, name.span))
+            let circle = refusal_at(CheckKind::WrongType, place_if(back, name.span));
+            Ok(earlier_refusal(known, circle))
         }
-        _ => Ok(None),
+        _ => Ok(known),
     }
 }
 
-/// The earliest of types that is the name of the item at a place, or leads to it, and of a place that is known.
+/// The first of the refusal that is known and those of types that are the name of the item at a place, or lead to it.
 fn circles_among(
     alloc: Global,
     places: &IndexMap<&[u8], usize>,
     items: &[TypeItem],
     ranks: &[usize],
     target: usize,
-    known: Option<Span>,
+    known: Option<CheckRefusal>,
     all: &[&TypeNode],
-) -> Result<Option<Span>, AllocError>
+) -> Result<Option<CheckRefusal>, AllocError>
     requires known { (text : List ℕ) → known_place places.now text ≡ place_of (map type_item_of items.now) text }
     requires fall { Fall (next_places (map type_item_of items.now)) ranks.now }
-    ensures { (text : List ℕ) → place_of (map type_item_of items.now) text ≡ Some target →
-        IfOk result (λ o. o ≡ earlier known (earliest (flat_map (circle_at (map type_item_of items.now) text) (tys_behind all.now)))) }
+    ensures { (p : RefusedPlaces) (text : List ℕ) → IsFirstIn p known → place_of (map type_item_of items.now) text ≡ Some target →
+        IfOk result (λ o. IsFirstIn (joined p (only WrongType (flat_map (circle_at (map type_item_of items.now) text) (tys_behind all.now)))) o) }
 {
     let mut found = known;
     for ty in all {
-        let one = circle_at(alloc, places, items, ranks, target, found, ty)?;
-        found = earlier(found, one);
+        found = circle_at(alloc, places, items, ranks, target, found, ty)?;
     }
     Ok(found)
 }
 
-/// The earliest name in a type that is that of the item at a place, or leads to it, or an earlier place that is known.
+/// The first of the refusal that is known and those of names in a type that are that of the item at a place, or lead to it.
 fn circles_in(
     alloc: Global,
     places: &IndexMap<&[u8], usize>,
     items: &[TypeItem],
     ranks: &[usize],
     target: usize,
-    known: Option<Span>,
+    known: Option<CheckRefusal>,
     ty: &TypeNode,
-) -> Result<Option<Span>, AllocError>
+) -> Result<Option<CheckRefusal>, AllocError>
     requires known { (text : List ℕ) → known_place places.now text ≡ place_of (map type_item_of items.now) text }
     requires fall { Fall (next_places (map type_item_of items.now)) ranks.now }
-    ensures { (text : List ℕ) → place_of (map type_item_of items.now) text ≡ Some target →
-        IfOk result (λ o. o ≡ earlier known (earliest (flat_map (circle_at (map type_item_of items.now) text) (types_within (ty_of ty.now))))) }
+    ensures { (p : RefusedPlaces) (text : List ℕ) → IsFirstIn p known → place_of (map type_item_of items.now) text ≡ Some target →
+        IfOk result (λ o. IsFirstIn (joined p (only WrongType (flat_map (circle_at (map type_item_of items.now) text) (types_within (ty_of ty.now))))) o) }
 {
     let mut within = Vec::new(alloc);
     add_types_within(&mut within, ty)?;
@@ -306,7 +306,7 @@ fn is_type(types: &mut TypeNumbers<'_>, ty: &TypeNode) -> Result<bool, AllocErro
     Ok(kind.is_some())
 }
 
-/// The earliest name in a type item through which it contains itself, or an earlier place that is known. The first
+/// The first of the refusal that is known and those of names in a type item through which it contains itself. The first
 /// item of a name contains itself in no type that is one.
 pub(crate) fn self_contained(
     alloc: Global,
@@ -316,13 +316,14 @@ pub(crate) fn self_contained(
     ranks: &[usize],
     place: usize,
     item: &TypeItem,
-    known: Option<Span>,
-) -> Result<Option<Span>, AllocError>
+    known: Option<CheckRefusal>,
+) -> Result<Option<CheckRefusal>, AllocError>
     requires known { (text : List ℕ) → known_place places.now text ≡ place_of (map type_item_of items.now) text }
     requires fall { Fall (next_places (map type_item_of items.now)) ranks.now }
     requires at { slice_get (map type_item_of items.now) place ≡ Some (type_item_of item.now) }
     requires items { types.old.items ≡ items.now }
-    ensures place { IfOk result (λ o. o ≡ earlier known (earliest (self_contained (map type_item_of items.now) (type_item_of item.now)))) }
+    ensures first { (p : RefusedPlaces) → IsFirstIn p known →
+        IfOk result (λ o. IsFirstIn (joined p (only WrongType (self_contained (map type_item_of items.now) (type_item_of item.now)))) o) }
     ensures items { types.new.items ≡ types.old.items }
 {
     match place_of_name(places, item.name.text.as_slice()) {

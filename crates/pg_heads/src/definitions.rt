@@ -1,6 +1,6 @@
-//! What the heads of functions that are defined are refused for.
+//! The first refusals of the heads of functions that are defined.
 
-ghost use Rattle.std.specs.Prelude.{◌≡◌, ◌++◌, [], IfOk, OnOk, ◌||◌, List, ℕ, Option, None, Some, map, is_some, nat_le};
+ghost use Rattle.std.specs.Prelude.{◌≡◌, ◌++◌, [], IfOk, OnOk, ◌||◌, List, ℕ, Option, Some, map, is_some, nat_le};
 ghost use Rattle.std.specs.List.{flat_map, filter_map, list_any};
 ghost use Rattle.std.specs.Option.{option_map};
 ghost use Rattle.pg_num.specs.declared.width.Width.TheVariants.{W32};
@@ -21,7 +21,7 @@ ghost use Rattle.pg_rules.specs.Names.{symbol_names, doubled};
 ghost use Rattle.pg_rules.specs.Starts.{first_start};
 ghost use Rattle.pg_rules.specs.Signatures.{is_wrong_param};
 ghost use Rattle.pg_rules.specs.Numbering.{param_name};
-ghost use Rattle.pg_rules.specs.Earliest.{earliest, AreEarliest};
+ghost use Rattle.pg_rules.specs.Earliest.{earliest, IsFirstIn};
 ghost use Rattle.pg_rules.specs.Written.{is_returnable};
 ghost use Rattle.pg_rules.specs.Conditions.{head_types, are_params, has_header, has_other_header, wrong_main, wrong_definition, definition_refused};
 
@@ -33,8 +33,9 @@ use pg_lex::Span;
 use pg_num::Width;
 use pg_num::limits::FUNCTION_LIMIT;
 use pg_rules::{
-    Refusals, all_within, any_large, are_types, doubled, doubled_among, earlier, is_result,
-    known_named, param_names, place_if, unknown_types, wrong_types,
+    CheckKind, CheckRefusal, all_within, any_large, are_types, doubled, doubled_among, earlier,
+    earlier_refusal, is_result, known_named, name_or_type_refusal, param_names, place_if,
+    refusal_at, unknown_types, wrong_types,
 };
 use pg_types::{TypeKind, TypeNumbers};
 use std::alloc::{AllocError, Global};
@@ -221,33 +222,31 @@ fn either(one: bool, other: bool) -> bool
     one || other
 }
 
-/// What the head of a function that is defined is refused for.
-pub(crate) fn definition_refusals(
+/// The first refusal of the head of a function that is defined.
+pub(crate) fn definition_refusal(
     alloc: Global,
     types: &mut TypeNumbers<'_>,
     starts: &IndexMap<&[u8], u32>,
     number: usize,
     item: &DefineItem,
-) -> Result<Refusals, AllocError>
-    ensures places { (m : Tree) → m.types ≡ named_types types.old → ((text : List ℕ) → known_place starts.now text ≡ first_start (symbol_names m) text) →
-        IfOk result (λ r. AreEarliest r (definition_refused m (number, numbered m.types (define_of item.now)))) }
+) -> Result<Option<CheckRefusal>, AllocError>
+    ensures first { (m : Tree) → m.types ≡ named_types types.old → ((text : List ℕ) → known_place starts.now text ≡ first_start (symbol_names m) text) →
+        IfOk result (λ o. IsFirstIn (definition_refused m (number, numbered m.types (define_of item.now))) o) }
     ensures items { types.new.items ≡ types.old.items }
 {
     let head = definition_types(alloc, item)?;
     let within = all_within(alloc, head.as_slice())?;
     let params = doubled_params(alloc, item.params.as_slice())?;
-    let wrong_type = wrong_types(types, within.as_slice())?;
+    let wrong = wrong_types(types, within.as_slice())?;
     let signature = wrong_signature(types, item, head.as_slice())?;
     let large = any_large(types, within.as_slice())?;
-    Ok(Refusals {
-        unknown_name: unknown_types(types, within.as_slice()),
-        doubled: earlier(doubled(starts, &item.name), params),
-        wrong_type,
-        no_block: None,
-        bad_phi: None,
-        unsupported: None,
-        bad_signature: place_if(signature, item.name.span),
-        too_large: place_if(either(large, is_past_limit(number)), item.name.span),
-        no_main: None,
-    })
+    let unknown = unknown_types(types, within.as_slice());
+    let twice = earlier(doubled(starts, &item.name), params);
+    let over = either(large, is_past_limit(number));
+    let named = name_or_type_refusal(unknown, twice, wrong);
+    let other = earlier_refusal(
+        refusal_at(CheckKind::BadSignature, place_if(signature, item.name.span)),
+        refusal_at(CheckKind::TooLarge, place_if(over, item.name.span)),
+    );
+    Ok(earlier_refusal(named, other))
 }

@@ -1,4 +1,4 @@
-//! What globals are refused for.
+//! The first refusals of globals.
 
 ghost use Rattle.std.specs.Prelude.{◌≡◌, ◌+◌, ◌||◌, IfOk, List, ℕ, map, nat_le, nat_lt, take};
 ghost use Rattle.std.specs.List.{flat_map, enumerate_from};
@@ -13,7 +13,7 @@ ghost use Rattle.pg_types.specs.NumberedTypes.{named_types};
 ghost use Rattle.pg_rules.specs.Nodes.{tys_behind};
 ghost use Rattle.pg_rules.specs.Names.{symbol_names};
 ghost use Rattle.pg_rules.specs.Starts.{first_start};
-ghost use Rattle.pg_rules.specs.Earliest.{earliest, AreEarliest};
+ghost use Rattle.pg_rules.specs.Earliest.{earliest, IsFirstIn};
 ghost use Rattle.pg_rules.specs.Conditions.{all_of, outside, global_types, globals_end, global_refused};
 ghost use Rattle.pg_values.specs.Scopes.{IsScope};
 ghost use Rattle.pg_heads.specs.Initialisers.{uses_behind};
@@ -27,8 +27,8 @@ use pg_ast::{GlobalItem, TypeNode};
 use pg_lex::Span;
 use pg_num::limits::GLOBAL_LIMIT;
 use pg_rules::{
-    Refusals, Symbols, all_within, any_large, doubled, earlier, earlier_places, no_refusals,
-    place_if, unknown_types, wrong_types,
+    CheckKind, CheckRefusal, Symbols, all_within, any_large, doubled, earlier, earlier_refusal,
+    name_or_type_refusal, place_if, refusal_at, unknown_types, wrong_types,
 };
 use pg_types::TypeNumbers;
 use pg_values::{TypeTest, ValueScope, unmet};
@@ -94,8 +94,8 @@ fn wrong_places(
     Ok(earlier(written, earlier(own, earlier(constant, values))))
 }
 
-/// What a global is refused for, where it is known whether it ends where none may.
-fn global_refusals(
+/// The first refusal of a global, where it is known whether it ends where none may.
+fn global_refusal(
     alloc: Global,
     types: &mut TypeNumbers<'_>,
     scope: &ValueScope<'_>,
@@ -103,17 +103,17 @@ fn global_refusals(
     number: usize,
     item: &GlobalItem,
     past_end: bool,
-) -> Result<Refusals, AllocError>
-    ensures places { (m : Tree) → IsScope scope.now (outside m) → m.types ≡ named_types types.old →
+) -> Result<Option<CheckRefusal>, AllocError>
+    ensures first { (m : Tree) → IsScope scope.now (outside m) → m.types ≡ named_types types.old →
         past_end ≡ nat_lt GLOBALS_END (globals_end m.types (take (number + 1) m.globals)) →
         ((text : List ℕ) → known_place starts.now text ≡ first_start (symbol_names m) text) →
-        IfOk result (λ r. AreEarliest r (global_refused m (number, global_of item.now))) }
+        IfOk result (λ o. IsFirstIn (global_refused m (number, global_of item.now)) o) }
     ensures items { types.new.items ≡ types.old.items }
 {
     let uses = uses_of(alloc, item)?;
     let written = types_of(alloc, item, uses.as_slice())?;
     let within = all_within(alloc, written.as_slice())?;
-    let wrong_type = wrong_places(
+    let wrong = wrong_places(
         alloc,
         types,
         scope,
@@ -122,57 +122,52 @@ fn global_refusals(
         uses.as_slice(),
     )?;
     let large = any_large(types, within.as_slice())?;
-    let unknown = unknown_uses(scope, uses.as_slice());
-    Ok(Refusals {
-        unknown_name: earlier(unknown_types(types, within.as_slice()), unknown),
-        doubled: doubled(starts, &item.name),
-        wrong_type,
-        no_block: None,
-        bad_phi: None,
-        unsupported: function_uses(scope, uses.as_slice()),
-        bad_signature: None,
-        too_large: place_if(
-            one_of_three(large, is_past_limit(number), past_end),
-            item.name.span,
-        ),
-        no_main: None,
-    })
+    let unknown_use = unknown_uses(scope, uses.as_slice());
+    let unknown = earlier(unknown_types(types, within.as_slice()), unknown_use);
+    let unsupported = function_uses(scope, uses.as_slice());
+    let over = one_of_three(large, is_past_limit(number), past_end);
+    let named = name_or_type_refusal(unknown, doubled(starts, &item.name), wrong);
+    let other = earlier_refusal(
+        refusal_at(CheckKind::Unsupported, unsupported),
+        refusal_at(CheckKind::TooLarge, place_if(over, item.name.span)),
+    );
+    Ok(earlier_refusal(named, other))
 }
 
-/// What globals are refused for, over what their initialisers are looked up in.
-fn refusals_over(
+/// The first refusal of globals, over what their initialisers are looked up in.
+fn refusal_over(
     alloc: Global,
     types: &mut TypeNumbers<'_>,
     scope: &ValueScope<'_>,
     starts: &IndexMap<&[u8], u32>,
     items: &[GlobalItem],
-) -> Result<Refusals, AllocError>
-    ensures places { (m : Tree) → IsScope scope.now (outside m) → m.types ≡ named_types types.old → m.globals ≡ map global_of items.now →
+) -> Result<Option<CheckRefusal>, AllocError>
+    ensures first { (m : Tree) → IsScope scope.now (outside m) → m.types ≡ named_types types.old → m.globals ≡ map global_of items.now →
         ((text : List ℕ) → known_place starts.now text ≡ first_start (symbol_names m) text) →
-        IfOk result (λ r. AreEarliest r (all_of (global_refused m) (enumerate_from 0 (map global_of items.now)))) }
+        IfOk result (λ o. IsFirstIn (all_of (global_refused m) (enumerate_from 0 (map global_of items.now))) o) }
     ensures items { types.new.items ≡ types.old.items }
 {
-    let mut found = no_refusals();
+    let mut found = None;
     let mut end = 1;
     for number in 0..items.len() {
         let item = &items[number];
         end = end_after(types, end, &item.ty)?;
-        let own = global_refusals(alloc, types, scope, starts, number, item, is_past_end(end))?;
-        found = earlier_places(found, own);
+        let own = global_refusal(alloc, types, scope, starts, number, item, is_past_end(end))?;
+        found = earlier_refusal(found, own);
     }
     Ok(found)
 }
 
-/// What the globals of a module are refused for.
-pub fn globals_refusals(
+/// The first refusal of the globals of a module.
+pub fn globals_refusal(
     alloc: Global,
     types: &mut TypeNumbers<'_>,
     symbols: &Symbols<'_>,
     starts: &IndexMap<&[u8], u32>,
-) -> Result<Refusals, AllocError>
+) -> Result<Option<CheckRefusal>, AllocError>
     requires { types.old.items ≡ symbols.now.tree.now.types.items }
-    ensures places { ((text : List ℕ) → known_place starts.now text ≡ first_start (symbol_names (tree_of symbols.now.tree.now)) text) →
-        IfOk result (λ r. AreEarliest r (all_of (global_refused (tree_of symbols.now.tree.now)) (enumerate_from 0 (tree_of symbols.now.tree.now).globals))) }
+    ensures first { ((text : List ℕ) → known_place starts.now text ≡ first_start (symbol_names (tree_of symbols.now.tree.now)) text) →
+        IfOk result (λ o. IsFirstIn (all_of (global_refused (tree_of symbols.now.tree.now)) (enumerate_from 0 (tree_of symbols.now.tree.now).globals)) o) }
     ensures items { types.new.items ≡ types.old.items }
 {
     let registers = IndexMap::new(alloc);
@@ -181,7 +176,7 @@ pub fn globals_refusals(
         registers: &registers,
         types: &[],
     };
-    refusals_over(
+    refusal_over(
         alloc,
         types,
         &scope,

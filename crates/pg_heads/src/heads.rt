@@ -1,4 +1,4 @@
-//! What the heads of declared functions are refused for.
+//! The first refusals of the heads of declared functions.
 
 ghost use Rattle.std.specs.Prelude.{◌≡◌, ◌++◌, [], IfOk, OnOk, ◌||◌, List, ℕ, Option, None, Some, map};
 ghost use Rattle.std.specs.List.{filter_map, flat_map, cons_option};
@@ -14,7 +14,7 @@ ghost use Rattle.pg_rules.specs.CallConditions.{declaration_header, param_type};
 ghost use Rattle.pg_rules.specs.Names.{symbol_names};
 ghost use Rattle.pg_rules.specs.KnownNames.{known_named};
 ghost use Rattle.pg_rules.specs.Starts.{first_start};
-ghost use Rattle.pg_rules.specs.Earliest.{AreEarliest};
+ghost use Rattle.pg_rules.specs.Earliest.{IsFirstIn};
 ghost use Rattle.pg_rules.specs.Conditions.{head_types, main_name, has_header, types_exist, declares_other, declares_other_main, declares_other_known, declaration_refused};
 ghost use Rattle.pg_rules.specs.Written.{types_within};
 
@@ -23,8 +23,8 @@ use pg_ast::{DeclareItem, DparamNode, TypeNode};
 use pg_ir::{Known, Scalar};
 use pg_num::Width;
 use pg_rules::{
-    Refusals, all_within, are_params, doubled, is_result, known_named, place_if, unknown_types,
-    wrong_counts,
+    CheckKind, CheckRefusal, all_within, are_params, doubled, earlier_refusal, is_result,
+    known_named, name_or_type_refusal, place_if, refusal_at, unknown_types, wrong_counts,
 };
 use pg_types::TypeNumbers;
 use std::alloc::{AllocError, Global};
@@ -178,29 +178,23 @@ fn wrong_signature(
     }
 }
 
-/// What a declared function is refused for.
-pub(crate) fn declaration_refusals(
+/// The first refusal of a declared function.
+pub(crate) fn declaration_refusal(
     alloc: Global,
     types: &mut TypeNumbers<'_>,
     starts: &IndexMap<&[u8], u32>,
     item: &DeclareItem,
-) -> Result<Refusals, AllocError>
-    ensures places { (m : Tree) → m.types ≡ named_types types.old → ((text : List ℕ) → known_place starts.now text ≡ first_start (symbol_names m) text) →
-        IfOk result (λ r. AreEarliest r (declaration_refused m (declare_of item.now))) }
+) -> Result<Option<CheckRefusal>, AllocError>
+    ensures first { (m : Tree) → m.types ≡ named_types types.old → ((text : List ℕ) → known_place starts.now text ≡ first_start (symbol_names m) text) →
+        IfOk result (λ o. IsFirstIn (declaration_refused m (declare_of item.now)) o) }
     ensures items { types.new.items ≡ types.old.items }
 {
     let head = declaration_types(alloc, item)?;
     let within = all_within(alloc, head.as_slice())?;
     let signature = wrong_signature(types, item, within.as_slice())?;
-    Ok(Refusals {
-        unknown_name: unknown_types(types, within.as_slice()),
-        doubled: doubled(starts, &item.name),
-        wrong_type: wrong_counts(within.as_slice()),
-        no_block: None,
-        bad_phi: None,
-        unsupported: None,
-        bad_signature: place_if(signature, item.name.span),
-        too_large: None,
-        no_main: None,
-    })
+    let unknown = unknown_types(types, within.as_slice());
+    let wrong = wrong_counts(within.as_slice());
+    let named = name_or_type_refusal(unknown, doubled(starts, &item.name), wrong);
+    let other = refusal_at(CheckKind::BadSignature, place_if(signature, item.name.span));
+    Ok(earlier_refusal(named, other))
 }

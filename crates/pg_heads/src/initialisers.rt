@@ -11,7 +11,7 @@ use pg_ast::{ConstNode, TypeNode, TypedConst, ValNode};
 use std::alloc::AllocError;
 
 /// A value of an initialiser, and the type that is written before it.
-#[derive(Clone, Copy, Debug)]
+#[derive(Clone, Copy)]
 pub(crate) struct UseNode<'a> {
     pub ty: &'a TypeNode,
     pub value: &'a ValNode,

@@ -13,6 +13,6 @@ mod ranks;
 mod type_items;
 mod wrong_constants;
 
-pub use globals::globals_refusals;
-pub use phases::heads_refusals;
-pub use type_items::types_refusals;
+pub use globals::globals_refusal;
+pub use phases::heads_refusal;
+pub use type_items::types_refusal;

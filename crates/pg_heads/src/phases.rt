@@ -1,4 +1,4 @@
-//! What the heads of a module's functions are refused for.
+//! The first refusal of the heads of a module's functions.
 
 ghost use Rattle.std.specs.Prelude.{◌≡◌, IfOk, List, ℕ, map};
 ghost use Rattle.std.specs.List.{enumerate_from};
@@ -9,68 +9,67 @@ ghost use Rattle.pg_types.specs.NameIndex.{known_place};
 ghost use Rattle.pg_types.specs.NumberedTypes.{named_types};
 ghost use Rattle.pg_rules.specs.Names.{symbol_names};
 ghost use Rattle.pg_rules.specs.Starts.{first_start};
-ghost use Rattle.pg_rules.specs.Earliest.{AreEarliest};
+ghost use Rattle.pg_rules.specs.Earliest.{IsFirstIn};
 ghost use Rattle.pg_rules.specs.Conditions.{all_of, declaration_refused, definition_refused, heads_refused};
 
-use crate::definitions::definition_refusals;
-use crate::heads::declaration_refusals;
+use crate::definitions::definition_refusal;
+use crate::heads::declaration_refusal;
 use indexmap::IndexMap;
 use pg_ast::{DeclareItem, DefineItem, Module};
-use pg_rules::{Refusals, earlier_places, no_refusals};
+use pg_rules::{CheckRefusal, earlier_refusal};
 use pg_types::TypeNumbers;
 use std::alloc::{AllocError, Global};
 
-/// What declared functions are refused for.
-fn declarations_refusals(
+/// The first refusal of declared functions.
+fn declarations_refusal(
     alloc: Global,
     types: &mut TypeNumbers<'_>,
     starts: &IndexMap<&[u8], u32>,
     items: &[DeclareItem],
-) -> Result<Refusals, AllocError>
-    ensures places { (m : Tree) → m.types ≡ named_types types.old → ((text : List ℕ) → known_place starts.now text ≡ first_start (symbol_names m) text) →
-        IfOk result (λ r. AreEarliest r (all_of (declaration_refused m) (map declare_of items.now))) }
+) -> Result<Option<CheckRefusal>, AllocError>
+    ensures first { (m : Tree) → m.types ≡ named_types types.old → ((text : List ℕ) → known_place starts.now text ≡ first_start (symbol_names m) text) →
+        IfOk result (λ o. IsFirstIn (all_of (declaration_refused m) (map declare_of items.now)) o) }
     ensures items { types.new.items ≡ types.old.items }
 {
-    let mut found = no_refusals();
+    let mut found = None;
     for item in items {
-        let own = declaration_refusals(alloc, types, starts, item)?;
-        found = earlier_places(found, own);
+        let own = declaration_refusal(alloc, types, starts, item)?;
+        found = earlier_refusal(found, own);
     }
     Ok(found)
 }
 
-/// What the heads of functions that are defined are refused for.
-fn definitions_refusals(
+/// The first refusal of the heads of functions that are defined.
+fn definitions_refusal(
     alloc: Global,
     types: &mut TypeNumbers<'_>,
     starts: &IndexMap<&[u8], u32>,
     items: &[DefineItem],
-) -> Result<Refusals, AllocError>
-    ensures places { (m : Tree) → m.types ≡ named_types types.old → ((text : List ℕ) → known_place starts.now text ≡ first_start (symbol_names m) text) →
-        IfOk result (λ r. AreEarliest r (all_of (definition_refused m) (enumerate_from 0 (map (λ d. numbered m.types (define_of d)) items.now)))) }
+) -> Result<Option<CheckRefusal>, AllocError>
+    ensures first { (m : Tree) → m.types ≡ named_types types.old → ((text : List ℕ) → known_place starts.now text ≡ first_start (symbol_names m) text) →
+        IfOk result (λ o. IsFirstIn (all_of (definition_refused m) (enumerate_from 0 (map (λ d. numbered m.types (define_of d)) items.now))) o) }
     ensures items { types.new.items ≡ types.old.items }
 {
-    let mut found = no_refusals();
+    let mut found = None;
     for number in 0..items.len() {
-        let own = definition_refusals(alloc, types, starts, number, &items[number])?;
-        found = earlier_places(found, own);
+        let own = definition_refusal(alloc, types, starts, number, &items[number])?;
+        found = earlier_refusal(found, own);
     }
     Ok(found)
 }
 
-/// What the heads of a module's functions are refused for.
-#[tactic(auto, unfolding(pg_rules::specs::Conditions::heads_refused))]
-pub fn heads_refusals(
+/// The first refusal of the heads of a module's functions.
+pub fn heads_refusal(
     alloc: Global,
     types: &mut TypeNumbers<'_>,
     starts: &IndexMap<&[u8], u32>,
     tree: &Module,
-) -> Result<Refusals, AllocError>
-    ensures places { (tree_of tree.now).types ≡ named_types types.old → ((text : List ℕ) → known_place starts.now text ≡ first_start (symbol_names (tree_of tree.now)) text) →
-        IfOk result (λ r. AreEarliest r (heads_refused (tree_of tree.now))) }
+) -> Result<Option<CheckRefusal>, AllocError>
+    ensures first { (tree_of tree.now).types ≡ named_types types.old → ((text : List ℕ) → known_place starts.now text ≡ first_start (symbol_names (tree_of tree.now)) text) →
+        IfOk result (λ o. IsFirstIn (heads_refused (tree_of tree.now)) o) }
     ensures items { types.new.items ≡ types.old.items }
 {
-    let declared = declarations_refusals(alloc, types, starts, tree.declares.as_slice())?;
-    let defined = definitions_refusals(alloc, types, starts, tree.functions.as_slice())?;
-    Ok(earlier_places(declared, defined))
+    let declared = declarations_refusal(alloc, types, starts, tree.declares.as_slice())?;
+    let defined = definitions_refusal(alloc, types, starts, tree.functions.as_slice())?;
+    Ok(earlier_refusal(declared, defined))
 }

@@ -1,4 +1,4 @@
-//! What type items are refused for.
+//! The first refusals of type items.
 
 ghost use Rattle.std.specs.Prelude.{◌≡◌, ◌∷◌, [], ℕ, List, IfOk, Some, map, slice_get};
 ghost use Rattle.std.specs.List.{flat_map};
@@ -7,10 +7,9 @@ ghost use Rattle.pg_types.specs.NameIndex.{known_place};
 ghost use Rattle.pg_rules.specs.Nodes.{tys_behind};
 ghost use Rattle.pg_rules.specs.Written.{types_within};
 ghost use Rattle.pg_rules.specs.Starts.{first_start, names_behind};
-ghost use Rattle.pg_rules.specs.declared.fault.CheckKind.{CheckKind};
-ghost use Rattle.pg_rules.specs.Earliest.{earlier, earliest, place_of, AreEarliest};
-ghost use Rattle.pg_rules.specs.Conditions.{all_of, type_names, item_refused};
-ghost use Rattle.pg_heads.specs.Circles.{place_of as item_place, next_places};
+ghost use Rattle.pg_rules.specs.Earliest.{joined, IsFirstIn};
+ghost use Rattle.pg_rules.specs.Conditions.{RefusedPlaces, all_of, type_names, item_refused};
+ghost use Rattle.pg_heads.specs.Circles.{place_of, next_places};
 ghost use Rattle.pg_heads.specs.Ranks.{Fall};
 
 use crate::circles::self_contained;
@@ -18,8 +17,8 @@ use crate::ranks::item_ranks;
 use indexmap::IndexMap;
 use pg_ast::{Module, Name, TypeItem, TypeNode};
 use pg_rules::{
-    Refusals, add_types_within, any_large, doubled, earlier, index_starts, no_refusals, place_if,
-    unknown_types, wrong_types,
+    CheckKind, CheckRefusal, add_types_within, any_large, doubled, earlier_refusal, index_starts,
+    name_or_type_refusal, place_if, refusal_at, unknown_types, wrong_types,
 };
 use pg_types::{TypeNumbers, index_items};
 use std::alloc::{AllocError, Global};
@@ -55,8 +54,8 @@ fn item_types<'a>(alloc: Global, item: &'a TypeItem) -> Result<Vec<&'a TypeNode>
     Ok(within)
 }
 
-/// What a type item is refused for, and what is known to be refused before it.
-fn item_refusals(
+/// The first of the refusals of a type item and of the one that is known.
+fn item_refusal(
     alloc: Global,
     types: &mut TypeNumbers<'_>,
     places: &IndexMap<&[u8], usize>,
@@ -65,71 +64,68 @@ fn item_refusals(
     ranks: &[usize],
     place: usize,
     item: &TypeItem,
-    found: Refusals,
-) -> Result<Refusals, AllocError>
-    requires known { (text : List ℕ) → known_place places.now text ≡ item_place (map type_item_of items.now) text }
+    known: Option<CheckRefusal>,
+) -> Result<Option<CheckRefusal>, AllocError>
+    requires known { (text : List ℕ) → known_place places.now text ≡ place_of (map type_item_of items.now) text }
     requires fall { Fall (next_places (map type_item_of items.now)) ranks.now }
     requires starts { (text : List ℕ) → known_place starts.now text ≡ first_start (type_names (map type_item_of items.now)) text }
     requires at { slice_get (map type_item_of items.now) place ≡ Some (type_item_of item.now) }
     requires items { types.old.items ≡ items.now }
-    ensures places { IfOk result (λ r. (kind : CheckKind) → place_of r kind ≡
-        earlier (place_of found kind) (earliest (item_refused (map type_item_of items.now) (type_item_of item.now) kind))) }
+    ensures first { (p : RefusedPlaces) → IsFirstIn p known → IfOk result (λ o. IsFirstIn (joined p (item_refused (map type_item_of items.now) (type_item_of item.now))) o) }
     ensures items { types.new.items ≡ types.old.items }
 {
     let within = item_types(alloc, item)?;
     let wrong = wrong_types(types, within.as_slice())?;
     let large = any_large(types, within.as_slice())?;
-    let known = earlier(found.wrong_type, wrong);
-    let wrong_type = self_contained(alloc, types, places, items, ranks, place, item, known)?;
     let unknown = unknown_types(types, within.as_slice());
-    Ok(Refusals {
-        unknown_name: earlier(found.unknown_name, unknown),
-        doubled: earlier(found.doubled, doubled(starts, &item.name)),
-        wrong_type,
-        too_large: earlier(found.too_large, place_if(large, item.name.span)),
-        ..found
-    })
+    let named = name_or_type_refusal(unknown, doubled(starts, &item.name), wrong);
+    let own = earlier_refusal(
+        named,
+        refusal_at(CheckKind::TooLarge, place_if(large, item.name.span)),
+    );
+    let found = earlier_refusal(known, own);
+    self_contained(alloc, types, places, items, ranks, place, item, found)
 }
 
-/// What type items are refused for.
-fn items_refusals(
+/// The first refusal of type items.
+fn items_refusal(
     alloc: Global,
     types: &mut TypeNumbers<'_>,
     places: &IndexMap<&[u8], usize>,
     starts: &IndexMap<&[u8], u32>,
     items: &[TypeItem],
     ranks: &[usize],
-) -> Result<Refusals, AllocError>
-    requires known { (text : List ℕ) → known_place places.now text ≡ item_place (map type_item_of items.now) text }
+) -> Result<Option<CheckRefusal>, AllocError>
+    requires known { (text : List ℕ) → known_place places.now text ≡ place_of (map type_item_of items.now) text }
     requires fall { Fall (next_places (map type_item_of items.now)) ranks.now }
     requires starts { (text : List ℕ) → known_place starts.now text ≡ first_start (type_names (map type_item_of items.now)) text }
     requires items { types.old.items ≡ items.now }
-    ensures places { IfOk result (λ r. AreEarliest r (all_of (item_refused (map type_item_of items.now)) (map type_item_of items.now))) }
+    ensures first { IfOk result (λ o. IsFirstIn (all_of (item_refused (map type_item_of items.now)) (map type_item_of items.now)) o) }
     ensures items { types.new.items ≡ types.old.items }
 {
-    let mut found = no_refusals();
+    let mut found = None;
     for place in 0..items.len() {
         let item = &items[place];
-        found = item_refusals(
+        found = item_refusal(
             alloc, types, places, starts, items, ranks, place, item, found,
         )?;
     }
     Ok(found)
 }
 
-/// What a module's type items are refused for.
-pub fn types_refusals(
+/// The first refusal of a module's type items.
+pub fn types_refusal(
     alloc: Global,
     types: &mut TypeNumbers<'_>,
     tree: &Module,
-) -> Result<Refusals, AllocError>
+) -> Result<Option<CheckRefusal>, AllocError>
     requires { types.old.items ≡ tree.now.types.items }
-    ensures places { IfOk result (λ r. AreEarliest r (all_of (item_refused (tree_of tree.now).types) (tree_of tree.now).types)) }
+    ensures first { IfOk result (λ o. IsFirstIn (all_of (item_refused (tree_of tree.now).types) (tree_of tree.now).types) o) }
     ensures items { types.new.items ≡ types.old.items }
 {
     let items = tree.types.as_slice();
     let places = index_items(alloc, items)?;
     let starts = item_starts(alloc, items)?;
     let ranks = item_ranks(alloc, &places, items)?;
-    items_refusals(alloc, types, &places, &starts, items, ranks.as_slice())
+    items_refusal(alloc, types, &places, &starts, items, ranks.as_slice())
 }

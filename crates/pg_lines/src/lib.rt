@@ -10,4 +10,4 @@ mod lines;
 mod operands;
 mod paths;
 
-pub use lines::{line_is_large, line_refusals};
+pub use lines::{line_is_large, line_refusal};

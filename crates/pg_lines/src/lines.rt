@@ -10,7 +10,7 @@ ghost use Rattle.pg_rules.specs.ValueConditions.{Scope};
 ghost use Rattle.pg_rules.specs.CallConditions.{value_operands};
 ghost use Rattle.pg_rules.specs.LineConditions.{line_types, line_refused};
 ghost use Rattle.pg_rules.specs.TypeConditions.{any_large};
-ghost use Rattle.pg_rules.specs.Earliest.{earliest, AreEarliest};
+ghost use Rattle.pg_rules.specs.Earliest.{earliest, IsFirstIn};
 ghost use Rattle.pg_calls.specs.Scopes.{IsLineScope};
 ghost use Rattle.pg_lines.specs.Uses.{uses_of};
 ghost use Rattle.pg_lines.specs.Lines.{unknown_in_line, unsupported_in_line, wrong_otherwise, wrong_in_line};
@@ -28,7 +28,10 @@ use pg_calls::{
     wrong_thread,
 };
 use pg_lex::Span;
-use pg_rules::{Refusals, all_within, any_large, earlier, unknown_types, wrong_types};
+use pg_rules::{
+    CheckKind, CheckRefusal, all_within, any_large, earlier, earlier_refusal, name_or_type_refusal,
+    refusal_at, unknown_types, wrong_types,
+};
 use pg_types::TypeNumbers;
 use std::alloc::{AllocError, Global};
 
@@ -110,22 +113,22 @@ fn wrong_in_line(
     Ok(earlier(ty, earlier(unmet, earlier(value, earlier(call, other)))))
 }
 
-/// What a line is refused for.
-pub fn line_refusals(
+/// The first refusal of a line.
+pub fn line_refusal(
     alloc: Global,
     scope: &LineScope<'_>,
     types: &mut TypeNumbers<'_>,
     line: &LineNode,
-) -> Result<Refusals, AllocError>
-    ensures places { (g : Scope) → IsLineScope scope.now g → g.tree.types ≡ named_types types.old →
-        IfOk result (λ r. AreEarliest r (line_refused g (line_of line.now))) }
+) -> Result<Option<CheckRefusal>, AllocError>
+    ensures first { (g : Scope) → IsLineScope scope.now g → g.tree.types ≡ named_types types.old →
+        IfOk result (λ o. IsFirstIn (line_refused g (line_of line.now)) o) }
     ensures items { types.new.items ≡ types.old.items }
 {
     let written = types_in_line(alloc, &line.op)?;
     let uses = value_operands(alloc, scope, &line.op)?;
-    let unknown_name = unknown_in_line(scope, types, written.as_slice(), uses.as_slice(), &line.op);
+    let unknown = unknown_in_line(scope, types, written.as_slice(), uses.as_slice(), &line.op);
     let doubled = equal_cases(alloc, types, &line.op)?;
-    let wrong_type = wrong_in_line(
+    let wrong = wrong_in_line(
         alloc,
         scope,
         types,
@@ -133,19 +136,14 @@ pub fn line_refusals(
         uses.as_slice(),
         line,
     )?;
-    let no_block = missing_labels(alloc, scope, &line.op)?;
+    let block = missing_labels(alloc, scope, &line.op)?;
     let unsupported = unsupported_in_line(scope, uses.as_slice(), &line.op);
-    Ok(Refusals {
-        unknown_name,
-        doubled,
-        wrong_type,
-        no_block,
-        bad_phi: None,
-        unsupported,
-        bad_signature: None,
-        too_large: None,
-        no_main: None,
-    })
+    let named = name_or_type_refusal(unknown, doubled, wrong);
+    let other = earlier_refusal(
+        refusal_at(CheckKind::NoBlock, block),
+        refusal_at(CheckKind::Unsupported, unsupported),
+    );
+    Ok(earlier_refusal(named, other))
 }
 
 /// Whether a line writes an aggregate that is larger than types may be.

@@ -3,7 +3,7 @@ mod RefusalExamples
 mod ItemExamples
 pub mod ConstantNumbers
 pub mod Doubles
-mod EarliestPlaces
+pub mod FirstRefusals
 pub mod MappedLists
 mod OtherLengths
 pub mod Parts

@@ -3,24 +3,7 @@ use Rattle.std.proofs.Common.{◌≡◌, ℕ, zero, suc, ◌+◌, ◌<◌, List,
 use Rattle.std.specs.List.{flat_map, filter_map, cons_option}
 use Rattle.pg_lex.specs.declared.token.Span.{Span}
 use Rattle.pg_ast.specs.Syntax.{Ty, NamedType}
-use Rattle.pg_rules.specs.declared.fault.CheckKind.TheVariants.{UnknownName, Doubled, WrongType, NoBlock, BadPhi, Unsupported, BadSignature, TooLarge, NoMain}
-use Rattle.pg_rules.specs.declared.refusals.Refusals.{Refusals}
-use Rattle.pg_rules.specs.Conditions.{RefusedPlaces}
-use Rattle.pg_rules.specs.Earliest.{earliest, AreEarliest}
-
--- each kind's place is that of its row
-pub are_earliest : (r : Refusals) (part : RefusedPlaces) → r.unknown_name ≡ earliest (part UnknownName) → r.doubled ≡ earliest (part Doubled) → r.wrong_type ≡ earliest (part WrongType)
-    → r.no_block ≡ earliest (part NoBlock) → r.bad_phi ≡ earliest (part BadPhi) → r.unsupported ≡ earliest (part Unsupported)
-    → r.bad_signature ≡ earliest (part BadSignature) → r.too_large ≡ earliest (part TooLarge) → r.no_main ≡ earliest (part NoMain) → AreEarliest r part
-are_earliest r part a b c d e f g h i UnknownName = a
-are_earliest r part a b c d e f g h i Doubled = b
-are_earliest r part a b c d e f g h i WrongType = c
-are_earliest r part a b c d e f g h i NoBlock = d
-are_earliest r part a b c d e f g h i BadPhi = e
-are_earliest r part a b c d e f g h i Unsupported = f
-are_earliest r part a b c d e f g h i BadSignature = g
-are_earliest r part a b c d e f g h i TooLarge = h
-are_earliest r part a b c d e f g h i NoMain = i
+use Rattle.pg_rules.specs.Earliest.{earliest}
 
 pub no_place : None ≡ earliest []
 unfolding earliest

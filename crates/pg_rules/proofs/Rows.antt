@@ -1,6 +1,8 @@
 -- Rows of places, one thing of a list after the other.
-use Rattle.std.proofs.Common.{◌≡◌, ℕ, zero, suc, ◌+◌, ◌<◌, ◌≤◌, nat_lt, Bool, true, false, cond, List, [], ◌∷◌, ◌++◌, length, map, take, get_or, Option, Some, None, refl, sym, ap, subst, ◌∙◌, arith}
+use Rattle.std.proofs.Common.{◌≡◌, ℕ, zero, suc, ◌+◌, ◌<◌, ◌≤◌, nat_lt, Bool, true, false, cond, List, [], ◌∷◌, ◌++◌, length, map, take, get_or, Option, Some, None, refl, sym, ap, subst, ◌∙◌, append_assoc, arith}
 use Rattle.std.specs.List.{flat_map, enumerate_from}
+use Rattle.std.proofs.lemmas.List.{append-nil, map-append, take_more}
+use Rattle.std.proofs.lemmas.Grind.{flat_map-append}
 use Rattle.std.proofs.lemmas.Bool.Decides.{nat_tests}
 use Rattle.pg_lex.specs.declared.token.Span.{Span}
 use Rattle.pg_rules.specs.Earliest.{earlier, earliest}
@@ -36,19 +38,19 @@ earlier_none None = refl
 earlier_none (Some x) = refl
 
 -- one thing more
+pub row_last : {X Y : Type 0} (f : Y → List Span) (g : X → Y) (xs : List X) (i : ℕ) (d x : X) → i < length xs → x ≡ get_or xs i d
+    → flat_map f (map g (take (i + 1) xs)) ≡ flat_map f (map g (take i xs)) ++ f (g x)
+row_last f g xs i d x l e =
+    let front = flat_map f (map g (take i xs)) in
+    ap (λ ys. flat_map f (map g ys)) (take_more xs i d l)
+    ∙ ap (λ ys. flat_map f ys) (map-append g (take i xs) (get_or xs i d ∷ []))
+    ∙ flat_map-append f (map g (take i xs)) (g (get_or xs i d) ∷ [])
+    ∙ ap (λ ss. front ++ ss) (append-nil (f (g (get_or xs i d))))
+    ∙ ap (λ y. front ++ f (g y)) (sym e)
+
 pub row_more : {X Y : Type 0} (f : Y → List Span) (g : X → Y) (xs : List X) (i : ℕ) (d x : X) → i < length xs → x ≡ get_or xs i d
     → earliest (flat_map f (map g (take (i + 1) xs))) ≡ earlier (earliest (flat_map f (map g (take i xs)))) (earliest (f (g x)))
-unfolding earliest
-row_more f g [] i d x l e = absurd (omega (arith, l))
-row_more f g (y ∷ xs) zero d x l e =
-    ap (λ z. earliest (f (g z) ++ [])) (sym e) ∙ earliest_more (f (g x)) [] ∙ earlier_none (earliest (f (g x)))
-row_more f g (y ∷ xs) (suc i) d x l e =
-    let s : suc i + 1 ≡ suc (i + 1) = omega arith in
-    ap (λ k. earliest (flat_map f (map g (take k (y ∷ xs))))) s
-    ∙ earliest_more (f (g y)) (flat_map f (map g (take (i + 1) xs)))
-    ∙ ap (λ o. earlier (earliest (f (g y))) o) (row_more f g xs i d x (omega (arith, l)) e)
-    ∙ earlier_again (earliest (f (g y))) (earliest (flat_map f (map g (take i xs)))) (earliest (f (g x)))
-    ∙ ap (λ o. earlier o (earliest (f (g x)))) (sym (earliest_more (f (g y)) (flat_map f (map g (take i xs)))))
+row_more f g xs i d x l e = ap (λ ss. earliest ss) (row_last f g xs i d x l e) ∙ earliest_more (flat_map f (map g (take i xs))) (f (g x))
 
 -- one thing more, where the earliest of the things before it and its own are known
 pub row_step : {X Y : Type 0} (f : Y → List Span) (g : X → Y) (xs : List X) (i : ℕ) (d x : X) (found own all : Option Span) → i < length xs → x ≡ get_or xs i d
@@ -56,29 +58,28 @@ pub row_step : {X Y : Type 0} (f : Y → List Span) (g : X → Y) (xs : List X) 
 row_step f g xs i d x found own all l e a b c = c ∙ ap (λ o. earlier o own) a ∙ ap (λ o. earlier (earliest (flat_map f (map g (take i xs)))) o) b ∙ sym (row_more f g xs i d x l e)
 
 -- the same, where each thing has its number
-numbered_more : {X Y : Type 0} (f : ℕ × Y → List Span) (g : X → Y) (k : ℕ) (xs : List X) (i : ℕ) (d x : X) → i < length xs → x ≡ get_or xs i d
-    → earliest (flat_map f (enumerate_from k (map g (take (i + 1) xs)))) ≡ earlier (earliest (flat_map f (enumerate_from k (map g (take i xs))))) (earliest (f (k + i, g x)))
-unfolding earliest
-numbered_more f g k [] i d x l e = absurd (omega (arith, l))
-numbered_more f g k (y ∷ xs) zero d x l e =
+pub numbered_last : {X Y : Type 0} (f : ℕ × Y → List Span) (g : X → Y) (k : ℕ) (xs : List X) (i : ℕ) (d x : X) → i < length xs → x ≡ get_or xs i d
+    → flat_map f (enumerate_from k (map g (take (i + 1) xs))) ≡ flat_map f (enumerate_from k (map g (take i xs))) ++ f (k + i, g x)
+numbered_last f g k [] i d x l e = absurd (omega (arith, l))
+numbered_last f g k (y ∷ xs) zero d x l e =
     let s : k ≡ k + 0 = omega arith in
-    ap (λ z. earliest (f (k, g z) ++ [])) (sym e) ∙ earliest_more (f (k, g x)) [] ∙ earlier_none (earliest (f (k, g x))) ∙ ap (λ n. earliest (f (n, g x))) s
-numbered_more f g k (y ∷ xs) (suc i) d x l e =
+    append-nil (f (k, g y)) ∙ ap (λ z. f (k, g z)) (sym e) ∙ ap (λ n. f (n, g x)) s
+numbered_last f g k (y ∷ xs) (suc i) d x l e =
     let s : suc i + 1 ≡ suc (i + 1) = omega arith in
     let n : k + 1 + i ≡ k + suc i = omega arith in
-    let front = earliest (f (k, g y)) in
-    ap (λ j. earliest (flat_map f (enumerate_from k (map g (take j (y ∷ xs)))))) s
-    ∙ earliest_more (f (k, g y)) (flat_map f (enumerate_from (k + 1) (map g (take (i + 1) xs))))
-    ∙ ap (λ o. earlier front o) (numbered_more f g (k + 1) xs i d x (omega (arith, l)) e)
-    ∙ earlier_again front (earliest (flat_map f (enumerate_from (k + 1) (map g (take i xs))))) (earliest (f (k + 1 + i, g x)))
-    ∙ ap (λ o. earlier o (earliest (f (k + 1 + i, g x)))) (sym (earliest_more (f (k, g y)) (flat_map f (enumerate_from (k + 1) (map g (take i xs))))))
-    ∙ ap (λ j. earlier (earliest (flat_map f (enumerate_from k (map g (take (suc i) (y ∷ xs)))))) (earliest (f (j, g x)))) n
+    let front = flat_map f (enumerate_from (k + 1) (map g (take i xs))) in
+    ap (λ j. flat_map f (enumerate_from k (map g (take j (y ∷ xs))))) s
+    ∙ ap (λ ss. f (k, g y) ++ ss) (numbered_last f g (k + 1) xs i d x (omega (arith, l)) e)
+    ∙ sym (append_assoc (f (k, g y)) front (f (k + 1 + i, g x)))
+    ∙ ap (λ j. (f (k, g y) ++ front) ++ f (j, g x)) n
 
 pub numbered_step : {X Y : Type 0} (f : ℕ × Y → List Span) (g : X → Y) (xs : List X) (i : ℕ) (d x : X) (found own all : Option Span) → i < length xs → x ≡ get_or xs i d
     → found ≡ earliest (flat_map f (enumerate_from 0 (map g (take i xs)))) → own ≡ earliest (f (i, g x)) → all ≡ earlier found own → all ≡ earliest (flat_map f (enumerate_from 0 (map g (take (i + 1) xs))))
 numbered_step f g xs i d x found own all l e a b c =
     let s : 0 + i ≡ i = omega arith in
-    c ∙ ap (λ o. earlier o own) a ∙ ap (λ o. earlier (earliest (flat_map f (enumerate_from 0 (map g (take i xs))))) o) (b ∙ ap (λ n. earliest (f (n, g x))) (sym s)) ∙ sym (numbered_more f g 0 xs i d x l e)
+    let front = flat_map f (enumerate_from 0 (map g (take i xs))) in
+    c ∙ ap (λ o. earlier o own) a ∙ ap (λ o. earlier (earliest front) o) (b ∙ ap (λ n. earliest (f (n, g x))) (sym s))
+    ∙ sym (ap (λ ss. earliest ss) (numbered_last f g 0 xs i d x l e) ∙ earliest_more front (f (0 + i, g x)))
 
 -- all things
 pub row_whole : {X : Type 0} (P : List X → Type 0) (xs : List X) (i : ℕ) → length xs ≤ i → P (take i xs) → P xs

@@ -2,6 +2,7 @@
 
 ghost use Rattle.std.specs.Prelude.{◌≡◌};
 ghost use Rattle.pg_rules.specs.declared.fault.CheckFault.TheVariants.{OutOfMemory};
+ghost use Rattle.pg_rules.specs.Conditions.{rank};
 
 use pg_lex::Span;
 use std::alloc::AllocError;
@@ -29,6 +30,25 @@ pub enum CheckKind {
     TooLarge,
     /// No function is called `@main`.
     NoMain,
+}
+
+impl CheckKind {
+    /// The place of a kind in the order in which two refusals at one place count.
+    pub(crate) fn rank(self) -> u32
+        ensures { result ≡ rank self }
+    {
+        match self {
+            CheckKind::UnknownName => 0,
+            CheckKind::Doubled => 1,
+            CheckKind::WrongType => 2,
+            CheckKind::NoBlock => 3,
+            CheckKind::BadPhi => 4,
+            CheckKind::Unsupported => 5,
+            CheckKind::BadSignature => 6,
+            CheckKind::TooLarge => 7,
+            CheckKind::NoMain => 8,
+        }
+    }
 }
 
 /// Why a module gives no program: its first refusal and the token at which it stands, or want of memory.

@@ -23,7 +23,7 @@ pub use integers::{constant_number, index_numbers, literal_at, number_at};
 pub use known::known_named;
 pub use own_names::{numbered_name, param_names, references};
 pub use places::{type_span, val_span};
-pub use refusals::{Refusal, Refusals, earlier_places, first_refusal, no_refusals};
+pub use refusals::{CheckRefusal, earlier_refusal, name_or_type_refusal, refusal_at};
 pub use signatures::{are_params, are_types, is_result};
 pub use starts::{doubled, doubled_among, doubled_names, index_starts};
 pub use symbol_names::symbol_starts;

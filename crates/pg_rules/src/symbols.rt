@@ -16,7 +16,7 @@ use pg_types::{index_names, place_of_name};
 use std::alloc::{AllocError, Global};
 
 /// What a global name stands for; variables and defined functions with their numbers.
-#[derive(Clone, Copy, Debug)]
+#[derive(Clone, Copy)]
 pub enum SymbolNode<'a> {
     Variable(usize, &'a GlobalItem),
     Definition(usize, &'a DefineItem),

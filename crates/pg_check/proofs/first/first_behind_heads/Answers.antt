@@ -1,22 +1,15 @@
-use Rattle.std.proofs.Common.{[], ◌∷◌, inl}
+use Rattle.std.proofs.Common.{[], ◌∷◌}
 use Rattle.pg_ast.specs.Views.{tree_of}
-use Rattle.pg_rules.specs.Conditions.{bodies, main_refused, IsFirstOf}
-use Rattle.pg_check.proofs.PhaseLists.{first_of_front, first_of_back, nothing_more, of_some, some_more}
+use Rattle.pg_rules.specs.Conditions.{bodies, main_refused}
+use Rattle.pg_check.proofs.PhaseLists.{first_in_front, first_at_end}
 use Rattle.pg_check.proofs.first.first_behind_heads.Goals as goal
 
-pub returns-in-Some-clause-found : goal.returns-in-Some-clause-found
-returns-in-Some-clause-found c =
+pub returns-in-Some-clause-first : goal.returns-in-Some-clause-first
+returns-in-Some-clause-first c =
     let m = tree_of c.args.symbols.now.tree.now in
-    first_of_front (bodies m m.functions 0) (main_refused m ∷ []) c.in-Some.refusal.kind c.in-Some.refusal.span
-    (of_some (λ r. IsFirstOf (bodies m m.functions 0) r.kind r.span) c.in_ok-first.first c.in-Some.refusal c.in_ok-first.ensures.found c.in-Some.is)
+    first_in_front (bodies m m.functions 0) (main_refused m ∷ []) c.in_ok-first.first c.in-Some.refusal c.in-Some.is c.in_ok-first.ensures.first
 
-pub returns-in-None-clause-found : goal.returns-in-None-clause-found
-returns-in-None-clause-found c =
+pub returns-in-None-clause-first : goal.returns-in-None-clause-first
+returns-in-None-clause-first c =
     let m = tree_of c.args.symbols.now.tree.now in
-    some_more c.first_refusal.result (λ r e. first_of_back (bodies m m.functions 0) (main_refused m ∷ []) r.kind r.span (c.in_ok-first.ensures.none c.in-None.is) (inl e))
-    (c.first_refusal.ensures.found (main_refused m) c.main_refusals.ensures)
-
-pub returns-in-None-clause-none : goal.returns-in-None-clause-none
-returns-in-None-clause-none c = λ e.
-    let m = tree_of c.args.symbols.now.tree.now in
-    nothing_more (bodies m m.functions 0) (main_refused m ∷ []) (c.in_ok-first.ensures.none c.in-None.is) (c.first_refusal.ensures.none (main_refused m) c.main_refusals.ensures e, tt)
+    first_at_end (bodies m m.functions 0) (main_refused m) c.in_ok-first.first c.main_refusal.result c.in-None.is c.in_ok-first.ensures.first c.main_refusal.ensures

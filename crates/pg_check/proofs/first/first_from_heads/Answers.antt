@@ -1,25 +1,21 @@
-use Rattle.std.proofs.Common.{inl, inr, sym, ap}
+use Rattle.std.proofs.Common.{sym, ap}
 use Rattle.pg_ast.specs.Views.{tree_of}
 use Rattle.pg_types.specs.NumberedTypes.{items_of}
 use Rattle.pg_types.proofs.Resolutions.{if_ok}
-use Rattle.pg_rules.specs.Conditions.{heads_refused, IsEarliest}
-use Rattle.pg_check.proofs.PhaseLists.{of_some, some_more}
+use Rattle.pg_rules.specs.Conditions.{heads_refused}
+use Rattle.pg_rules.proofs.FirstRefusals.{first_here, nothing_here, first_behind}
+use Rattle.pg_check.specs.Checked.{last_phases}
 use Rattle.pg_check.proofs.first.first_from_heads.Goals as goal
 
-pub returns-in-Some-clause-found : goal.returns-in-Some-clause-found
-returns-in-Some-clause-found c =
+pub returns-in-Some-clause-first : goal.returns-in-Some-clause-first
+returns-in-Some-clause-first c =
     let m = tree_of c.args.symbols.now.tree.now in
-    let own = c.in_ok-heads.ensures.places (sym (ap (λ xs. items_of xs) c.requires.items)) c.requires.starts in
-    inl (of_some (λ r. IsEarliest (heads_refused m) r.kind r.span) c.first_refusal-first.result c.in-Some.refusal (c.first_refusal-first.ensures.found (heads_refused m) own) c.in-Some.is)
+    let own = c.in_ok-first.ensures.first (sym (ap (λ xs. items_of xs) c.requires.items)) c.requires.starts in
+    first_here (heads_refused m) (last_phases m) c.in_ok-first.first c.in-Some.refusal c.in-Some.is own
 
-pub returns-in-None-clause-found : goal.returns-in-None-clause-found
-returns-in-None-clause-found c =
+pub returns-in-None-clause-first : goal.returns-in-None-clause-first
+returns-in-None-clause-first c =
     let m = tree_of c.args.symbols.now.tree.now in
-    let own = c.in_ok-heads.ensures.places (sym (ap (λ xs. items_of xs) c.requires.items)) c.requires.starts in
-    if_ok c.first_behind_heads.result (λ o f. some_more o (λ r e. inr (c.first_refusal-first.ensures.none (heads_refused m) own c.in-None.is, e)) f) c.first_behind_heads.ensures.found
-
-pub returns-in-None-clause-none : goal.returns-in-None-clause-none
-returns-in-None-clause-none c =
-    let m = tree_of c.args.symbols.now.tree.now in
-    let own = c.in_ok-heads.ensures.places (sym (ap (λ xs. items_of xs) c.requires.items)) c.requires.starts in
-    if_ok c.first_behind_heads.result (λ o f e. (c.first_refusal-first.ensures.none (heads_refused m) own c.in-None.is, f e)) c.first_behind_heads.ensures.none
+    let own = c.in_ok-first.ensures.first (sym (ap (λ xs. items_of xs) c.requires.items)) c.requires.starts in
+    if_ok c.first_behind_heads.result (λ o f. first_behind (heads_refused m) (last_phases m) o (nothing_here (heads_refused m) c.in_ok-first.first c.in-None.is own) f)
+    c.first_behind_heads.ensures.first

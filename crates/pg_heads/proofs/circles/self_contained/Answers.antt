@@ -1,18 +1,20 @@
-use Rattle.std.proofs.Common.{◌≡◌, map, Some, None, true, is_some, sym, ap, ◌∙◌}
+use Rattle.std.proofs.Common.{◌≡◌, map, Some, None, true, is_some, sym, ap, subst, ◌∙◌}
 use Rattle.pg_ast.specs.Views.{type_item_of}
 use Rattle.pg_types.specs.NameIndex.{known_place}
 use Rattle.pg_types.specs.NumberedTypes.{items_of}
 use Rattle.pg_types.specs.Resolved.{resolved}
 use Rattle.pg_types.proofs.Resolutions.{if_ok}
-use Rattle.pg_rules.specs.Earliest.{earlier, earliest}
+use Rattle.pg_rules.specs.declared.fault.CheckKind.TheVariants.{WrongType}
+use Rattle.pg_rules.specs.Conditions.{self_contained}
+use Rattle.pg_rules.specs.Earliest.{only, joined, IsFirstIn}
 use Rattle.pg_heads.specs.Circles.{place_of}
 use Rattle.pg_heads.proofs.NextPlaces.{self_contained_is, has_place, first_of_name}
 use Rattle.pg_heads.proofs.NoCircles.{no_circle}
-use Rattle.pg_heads.proofs.KnownPlaces.{none_earlier}
+use Rattle.pg_heads.proofs.KnownPlaces.{no_more}
 use Rattle.pg_heads.proofs.circles.self_contained.Goals as goal
 
-pub returns-then-target-place-clause-place : goal.returns-then-target-place-clause-place
-returns-then-target-place-clause-place c =
+pub returns-then-target-place-clause-first : goal.returns-then-target-place-clause-first
+returns-then-target-place-clause-first c = λ p k.
     let types = map type_item_of c.args.items.now in
     let item = type_item_of c.args.item.now in
     let text = c.args.item.now.name.text in
@@ -20,19 +22,19 @@ returns-then-target-place-clause-place c =
     sym (c.requires.known text) ∙ ap (λ t. known_place c.args.places.now t) (sym c.as_slice.ensures) ∙ sym c.place_of_name.ensures ∙ c.in-Some.is ∙ ap (λ p. Some p) c.if-target-place.true in
     let whole : is_some (resolved types item.ty) ≡ true =
     ap (λ xs. is_some (resolved (items_of xs) item.ty)) (sym c.requires.items) ∙ sym c.in_ok-whole-in-Some.ensures.same ∙ c.if-whole.true in
-    none_earlier c.args.known ∙ sym (ap (λ xs. earlier c.args.known (earliest xs)) (no_circle types item (first_of_name types c.args.place item c.requires.at place) whole))
+    no_more p WrongType (self_contained types item) c.args.known (no_circle types item (first_of_name types c.args.place item c.requires.at place) whole) k
 
-pub returns-else-whole-clause-place : goal.returns-else-whole-clause-place
-returns-else-whole-clause-place c =
+pub returns-else-whole-clause-first : goal.returns-else-whole-clause-first
+returns-else-whole-clause-first c = λ p k.
     let types = map type_item_of c.args.items.now in
     let item = type_item_of c.args.item.now in
     let text = c.args.item.now.name.text in
     let place : place_of types text ≡ Some c.in-Some.target =
     sym (c.requires.known text) ∙ ap (λ t. known_place c.args.places.now t) (sym c.as_slice.ensures) ∙ sym c.place_of_name.ensures ∙ c.in-Some.is in
-    if_ok c.circles_in.result (λ o h. h ∙ ap (λ xs. earlier c.args.known (earliest xs)) (sym (self_contained_is types item))) (c.circles_in.ensures text place)
+    if_ok c.circles_in.result (λ o h. subst (λ ss. IsFirstIn (joined p (only WrongType ss)) o) (sym (self_contained_is types item)) h) (c.circles_in.ensures p text k place)
 
-pub returns-in-None-clause-place : goal.returns-in-None-clause-place
-returns-in-None-clause-place c =
+pub returns-in-None-clause-first : goal.returns-in-None-clause-first
+returns-in-None-clause-first c = λ p k.
     let types = map type_item_of c.args.items.now in
     let item = type_item_of c.args.item.now in
     let text = c.args.item.now.name.text in

@@ -1,0 +1,17 @@
+use Rattle.std.proofs.Common.{◌≡◌, ℕ, List, map, take}
+use Rattle.pg_ast.specs.Syntax.{Tree}
+use Rattle.pg_ast.specs.Views.{declare_of}
+use Rattle.pg_types.specs.NameIndex.{known_place}
+use Rattle.pg_types.specs.NumberedTypes.{named_types}
+use Rattle.pg_rules.specs.Names.{symbol_names}
+use Rattle.pg_rules.specs.Starts.{first_start}
+use Rattle.pg_rules.specs.Earliest.{IsFirstIn}
+use Rattle.pg_rules.specs.Conditions.{all_of, declaration_refused}
+use Rattle.pg_heads.proofs.phases.declarations_refusal.Given as goal
+
+abbrev pub invariant-loop-item : goal.invariant-loop-item
+invariant-loop-item l = record {
+  first : (m : Tree) → m.types ≡ named_types l.fn.types → ((text : List ℕ) → known_place l.starts text ≡ first_start (symbol_names m) text) →
+      IsFirstIn (all_of (declaration_refused m) (map declare_of (take l.item-index l.items))) l.found;
+  items : l.types.items ≡ l.fn.types.items;
+}
