@@ -1,6 +1,7 @@
 -- What has to be known of that which the region of a freeable step may set.
-use Rattle.std.specs.Prelude.{◌≡◌, ◌<◌, ◌⊎◌, ℕ, Bool, true, Option, Some, None}
-use Rattle.pg_closed.specs.Freeable.{FreeRegion}
+use Rattle.std.specs.Prelude.{◌≡◌, ◌<◌, ◌⊎◌, ◌&&◌, ℕ, Bool, true, Option, Some, None}
+use Rattle.pg_closed.specs.Freeable.{FreeAccess, FreeRegion, frame_of}
+use Rattle.pg_closed.specs.Shadows.{is_within}
 use Rattle.pg_least.specs.Keeps.{may_write}
 use Rattle.pg_demanded.specs.declared.demanded.Demanded.{Demanded}
 use Rattle.pg_demanded.specs.Asked.{asked_of, asks_byte}
@@ -11,6 +12,11 @@ AsksRegister sets t k count m = (i : ℕ) × (v : Bool) × (i < count) × (sets 
 
 abbrev pub AsksByte : (ℕ → Bool) → Demanded → Type 0
 AsksByte writes m = (b : ℕ) × (writes b ≡ true) × (asks_byte m b ≡ true)
+
+-- a byte that an access of a region may write
+abbrev pub AsksOfAccess : Option FreeAccess → Demanded → Type 0
+AsksOfAccess None m = ⊥
+AsksOfAccess (Some a) m = AsksByte (λ b. a.writes && is_within (frame_of a.at.last) b) m
 
 abbrev pub AsksRegion : Option FreeRegion → ℕ → ℕ → ℕ → Demanded → Type 0
 AsksRegion None t k count m = ⊥

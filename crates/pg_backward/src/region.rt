@@ -1,12 +1,12 @@
 //! Whether something has to be known that the region of a freeable step may set.
 
-ghost use Rattle.std.specs.Prelude.{◌≡◌, ◌<◌, ◌&&◌, true, Some, None, IfSome};
+ghost use Rattle.std.specs.Prelude.{◌≡◌, ◌<◌, ◌&&◌, nat_lt, true, false, Some, None, IfSome, slice_get};
 ghost use Rattle.pg_accesses.specs.Tables.{in_table};
 ghost use Rattle.pg_closed.specs.Freeable.{frame_of};
 ghost use Rattle.pg_closed.specs.Shadows.{is_within};
 ghost use Rattle.pg_least.specs.Keeps.{may_write};
 ghost use Rattle.pg_reference.specs.Kept.{landmark_at};
-ghost use Rattle.pg_backward.specs.Sets.{AsksByte, AsksRegion, AsksRegister};
+ghost use Rattle.pg_backward.specs.Sets.{AsksByte, AsksOfAccess, AsksRegion, AsksRegister};
 
 use crate::bytes::frame_bytes;
 use crate::call::Call;
@@ -15,7 +15,7 @@ use pg_reference::{FreeAccess, ReferenceRun};
 
 /// Whether a register is marked and among the first so many.
 fn is_marked(marks: &[bool], register: u32, count: usize) -> bool
-    ensures { result ≡ true → (register < count) × (in_table marks.now register ≡ true) }
+    ensures { result ≡ (nat_lt register count && in_table marks.now register) }
 {
     if register as usize >= count {
         return false;
@@ -28,7 +28,8 @@ fn is_marked(marks: &[bool], register: u32, count: usize) -> bool
 
 /// Whether a register of a call has to be known that is marked and among the first so many.
 fn asks_marked(w: &Demanded, at: Call, marks: &[bool], count: usize) -> bool
-    ensures { result ≡ true → AsksRegister (in_table marks.now) at.thread at.depth count w.now }
+    ensures some { result ≡ true → AsksRegister (in_table marks.now) at.thread at.depth count w.now }
+    ensures none { result ≡ false → AsksRegister (in_table marks.now) at.thread at.depth count w.now → ⊥ }
 {
     let mut from = 0;
     while let Some(register) = w.register_from(at.thread, at.depth, from) {
@@ -45,7 +46,8 @@ fn asks_marked(w: &Demanded, at: Call, marks: &[bool], count: usize) -> bool
 
 /// Whether a byte has to be known that an access of a region may write.
 fn asks_written(w: &Demanded, access: &FreeAccess) -> bool
-    ensures { result ≡ true → AsksByte (λ b. access.now.writes && is_within (frame_of access.now.last) b) w.now }
+    ensures some { result ≡ true → AsksByte (λ b. access.now.writes && is_within (frame_of access.now.last) b) w.now }
+    ensures none { result ≡ false → AsksByte (λ b. access.now.writes && is_within (frame_of access.now.last) b) w.now → ⊥ }
 {
     if !access.writes {
         return false;
@@ -56,7 +58,8 @@ fn asks_written(w: &Demanded, access: &FreeAccess) -> bool
 
 /// Whether a byte has to be known that the access with this number of a freeable step's region may write, if there is one.
 fn asks_one(w: &Demanded, r: &ReferenceRun, n: usize, k: usize) -> bool
-    ensures { IfSome (landmark_at r.now n) (λ l. IfSome l.region (λ q. result ≡ true → AsksByte (may_write q.accesses) w.now)) }
+    ensures some { IfSome (landmark_at r.now n) (λ l. IfSome l.region (λ q. result ≡ true → AsksByte (may_write q.accesses) w.now)) }
+    ensures none { IfSome (landmark_at r.now n) (λ l. IfSome l.region (λ q. result ≡ false → AsksOfAccess (slice_get q.accesses k) w.now → ⊥)) }
 {
     match r.access(n, k) {
         Some(access) => asks_written(w, &access),
@@ -66,7 +69,8 @@ fn asks_one(w: &Demanded, r: &ReferenceRun, n: usize, k: usize) -> bool
 
 /// Whether a byte has to be known that a freeable step's region may write.
 fn asks_any(w: &Demanded, r: &ReferenceRun, n: usize) -> bool
-    ensures { IfSome (landmark_at r.now n) (λ l. IfSome l.region (λ q. result ≡ true → AsksByte (may_write q.accesses) w.now)) }
+    ensures some { IfSome (landmark_at r.now n) (λ l. IfSome l.region (λ q. result ≡ true → AsksByte (may_write q.accesses) w.now)) }
+    ensures none { IfSome (landmark_at r.now n) (λ l. IfSome l.region (λ q. result ≡ false → AsksByte (may_write q.accesses) w.now → ⊥)) }
 {
     for k in 0..r.access_count(n) {
         if asks_one(w, r, n, k) {
@@ -79,7 +83,8 @@ fn asks_any(w: &Demanded, r: &ReferenceRun, n: usize) -> bool
 /// Whether something has to be known that the region of a step may set, if it is freeable: a byte, or a register among the first
 /// so many of a call.
 pub fn sets_any(w: &Demanded, r: &ReferenceRun, at: Call, n: usize, count: usize) -> bool
-    ensures { IfSome (landmark_at r.now n) (λ l. result ≡ true → AsksRegion l.region at.thread at.depth count w.now) }
+    ensures some { IfSome (landmark_at r.now n) (λ l. result ≡ true → AsksRegion l.region at.thread at.depth count w.now) }
+    ensures none { IfSome (landmark_at r.now n) (λ l. result ≡ false → AsksRegion l.region at.thread at.depth count w.now → ⊥) }
 {
     if !r.is_free(n) {
         return false;

@@ -1,6 +1,5 @@
 -- What the region of a branch step may set of what has to be known.
-use Rattle.std.specs.Prelude.{◌≡◌, ◌<◌, ◌⊎◌, ℕ, List, Bool, true, false, Some, IfSome}
-use Rattle.pg_accesses.specs.Tables.{in_table}
+use Rattle.std.specs.Prelude.{◌≡◌, ◌<◌, ◌⊎◌, ℕ, Bool, true, false, Some, IfSome}
 use Rattle.pg_closed.specs.Freeable.{FreeRegion}
 use Rattle.pg_least.specs.Keeps.{may_write}
 use Rattle.pg_reference.specs.declared.run.ReferenceRun.{ReferenceRun}
@@ -8,13 +7,6 @@ use Rattle.pg_reference.specs.Kept.{landmark_at}
 use Rattle.pg_reference.specs.Landmarks.{Landmark}
 use Rattle.pg_demanded.specs.declared.demanded.Demanded.{Demanded}
 use Rattle.pg_demanded.specs.Asked.{asked_of, asks_byte}
-
--- one of the registers of a call of thread t that a table marks, the call by how many calls there are with it on top
-pub record AsksMarked (w : Demanded) (t depth : ℕ) (marks : List Bool) : Type 0 where
-  pub register : ℕ
-  pub whole : Bool
-  pub asked : asked_of w t depth register ≡ Some whole
-  pub marked : in_table marks register ≡ true
 
 -- a register of a call, which has so many
 pub record SetsRegister (q : FreeRegion) (t depth count : ℕ) (w : Demanded) : Type 0 where

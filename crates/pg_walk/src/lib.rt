@@ -5,7 +5,6 @@
 pub mod extents;
 pub mod holders;
 pub mod marks;
-mod sets;
 mod walk;
 
 pub use walk::widen;

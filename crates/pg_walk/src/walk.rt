@@ -15,8 +15,7 @@ ghost use Rattle.pg_walk.specs.Walks.{IsTold, Walks, Widens};
 
 use crate::extents::unsettled;
 use crate::marks::{no_marks, set_mark};
-use crate::sets::sets_any;
-use pg_backward::{Counts, back_live};
+use pg_backward::{Call, Counts, back_live, sets_any};
 use pg_closed::Decision;
 use pg_decisions::DecisionSet;
 use pg_demanded::Demanded;
@@ -74,8 +73,9 @@ fn decide(
         return false;
     }
     let depth = r.depth(b);
-    leave_missing(w, thread, depth, counts_at(counts, b).present);
-    if sets_any(w, r, thread, b) {
+    let own = counts_at(counts, b);
+    leave_missing(w, thread, depth, own.present);
+    if sets_any(w, r, Call { thread, depth }, b, own.present) {
         d.take(Decision::Pinned(b));
         return false;
     }

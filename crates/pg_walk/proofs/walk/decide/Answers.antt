@@ -4,10 +4,9 @@ use Rattle.pg_closed.specs.declared.decision.Decision.{Decision}
 use Rattle.pg_closed.specs.declared.decision.Decision.TheVariants.{Pinned}
 use Rattle.pg_closed.specs.Known.{Taken, has}
 use Rattle.pg_closed.specs.Closed.{AreWithin}
-use Rattle.pg_reference.specs.Kept.{landmark_at}
 use Rattle.pg_walk.specs.Sets.{SetsAt}
 use Rattle.pg_backward.proofs.Meets.{less_then}
-use Rattle.pg_walk.proofs.Setting.{less_itself, passes_by, sets_less, small_at}
+use Rattle.pg_walk.proofs.Setting.{asks_none, asks_some, less_itself, passes_by, sets_less}
 use Rattle.pg_walk.proofs.walk.decide.Goals as goal
 
 pub returns-then-is_pinned-clause-less : goal.returns-then-is_pinned-clause-less
@@ -18,10 +17,9 @@ returns-then-sets_any-clause-owed c = λ e f k within. λ x h.
     let t = c.args.thread in
     let b = c.args.b in
     let r = c.args.r.now in
-    let s = c.sets_any.ensures.some c.if-sets_any.true c.counts_at.result.present
-    (small_at c.leave_missing.new.w t c.depth-depth.result c.counts_at.result.present (landmark_at r b) c.depth-depth.ensures.depth c.leave_missing.ensures.there) in
-    let a = sets_less r b t c.counts_at.result.present c.args.w.now c.leave_missing.new.w c.leave_missing.ensures.less s in
-    by_take e x b within (c.take.ensures.only x h) (f k.0 k.1 (subst (λ (z : Counts). SetsAt r b t z.present c.args.w.now) (c.counts_at.ensures k.0 k.1) a))
+    let s = asks_some r b t c.depth-depth.result c.counts_at-own.result.present c.leave_missing.new.w c.sets_any.result c.if-sets_any.true c.depth-depth.ensures.depth c.sets_any.ensures.some in
+    let a = sets_less r b t c.counts_at-own.result.present c.args.w.now c.leave_missing.new.w c.leave_missing.ensures.less s in
+    by_take e x b within (c.take.ensures.only x h) (f k.0 k.1 (subst (λ (z : Counts). SetsAt r b t z.present c.args.w.now) (c.counts_at-own.ensures k.0 k.1) a))
   where
     by_take : {d : Taken} (e : Taken) (x : Decision) (b : ℕ) → AreWithin d e → (has d x ≡ true) ⊎ (Pinned b ≡ x) → e.pinned b ≡ true → has e x ≡ true
     by_take e x b w (inl q) p = w x q
@@ -35,4 +33,5 @@ pub returns-clause-passes : goal.returns-clause-passes
 returns-clause-passes c = λ q. passes_by c.args.r.now c.args.b c.args.thread c.depth-depth.result c.leave_missing.new.w c.clear_above.new.self c.depth-depth.ensures.depth
     (record { registers = λ u j i v a. (c.clear_above.ensures.registers u j i v a).0; bytes = c.clear_above.ensures.bytes })
     (λ j i v a g. (c.clear_above.ensures.registers c.args.thread j i v a).1 refl g)
-    (c.sets_any.ensures.none c.if-sets_any.false)
+    (asks_none c.args.r.now c.args.b c.args.thread c.depth-depth.result c.counts_at-own.result.present c.leave_missing.new.w c.sets_any.result c.if-sets_any.false
+    c.depth-depth.ensures.depth c.leave_missing.ensures.there c.sets_any.ensures.none)
