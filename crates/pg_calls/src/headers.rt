@@ -16,7 +16,7 @@ use pg_rules::SymbolNode;
 use std::alloc::{AllocError, Global};
 
 /// A parameter of a function that is called.
-#[derive(Clone, Copy, Debug)]
+#[derive(Clone, Copy)]
 pub enum HeaderParam<'a> {
     Param(&'a ParamNode),
     Metadata(Span),

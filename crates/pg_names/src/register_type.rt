@@ -3,7 +3,7 @@
 use pg_ast::TypeNode;
 
 /// The type of a register: the one that is written for it, or what its instruction always gives.
-#[derive(Clone, Copy, Debug)]
+#[derive(Clone, Copy)]
 pub enum RegisterType<'a> {
     Written(&'a TypeNode),
     Bit,
