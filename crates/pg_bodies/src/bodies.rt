@@ -16,13 +16,12 @@ use std::alloc::{AllocError, Global};
 /// The first refusal in the bodies of functions: of the first that has one, the earliest.
 fn first_among(
     alloc: Global,
-    types: &mut TypeNumbers<'_>,
+    types: &TypeNumbers<'_>,
     symbols: &Symbols<'_>,
     items: &[DefineItem],
 ) -> Result<Option<CheckRefusal>, AllocError>
-    requires { named_types types.old ≡ (tree_of symbols.now.tree.now).types }
+    requires { named_types types.now ≡ (tree_of symbols.now.tree.now).types }
     ensures first { IfOk result (λ o. IsFirstAmong (bodies (tree_of symbols.now.tree.now) (map define_of items.now) 0) o) }
-    ensures items { types.new.items ≡ types.old.items }
 {
     let mut until = 0;
     for item in items {
@@ -37,12 +36,11 @@ fn first_among(
 /// The first refusal in the bodies of a module's functions: of the first function that has one, the earliest.
 pub fn first_of_bodies(
     alloc: Global,
-    types: &mut TypeNumbers<'_>,
+    types: &TypeNumbers<'_>,
     symbols: &Symbols<'_>,
 ) -> Result<Option<CheckRefusal>, AllocError>
-    requires { named_types types.old ≡ (tree_of symbols.now.tree.now).types }
+    requires { named_types types.now ≡ (tree_of symbols.now.tree.now).types }
     ensures first { IfOk result (λ o. IsFirstAmong (bodies (tree_of symbols.now.tree.now) (tree_of symbols.now.tree.now).functions 0) o) }
-    ensures items { types.new.items ≡ types.old.items }
 {
     let found = first_among(alloc, types, symbols, symbols.tree.functions.as_slice())?;
     Ok(found)

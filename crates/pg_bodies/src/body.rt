@@ -30,17 +30,16 @@ use std::alloc::{AllocError, Global};
 /// The first refusal of a function as a whole, its lines aside.
 fn whole_refusal(
     alloc: Global,
-    types: &mut TypeNumbers<'_>,
+    types: &TypeNumbers<'_>,
     labels: &IndexMap<&[u8], usize>,
     own: &OwnNames<'_>,
     until: usize,
     item: &DefineItem,
 ) -> Result<Option<CheckRefusal>, AllocError>
-    requires own { AreOwn (named_types types.old) (define_of item.now) own.now }
+    requires own { AreOwn (named_types types.now) (define_of item.now) own.now }
     requires labels { (text : List ℕ) → known_place labels.now text ≡ label_number own.now.labels.items text }
-    ensures first { (m : Tree) (lines : ℕ) → m.types ≡ named_types types.old → until ≡ capped (lines + line_count (define_of item.now)) →
+    ensures first { (m : Tree) (lines : ℕ) → m.types ≡ named_types types.now → until ≡ capped (lines + line_count (define_of item.now)) →
         IfOk result (λ o. IsFirstIn (whole_refused m lines (numbered m.types (define_of item.now))) o) }
-    ensures items { types.new.items ≡ types.old.items }
 {
     let blocks = named_blocks(alloc, own.labels.as_slice(), item.blocks.as_slice())?;
     let twice = doubled_own(
@@ -67,18 +66,17 @@ fn whole_refusal(
 /// The first refusal of the lines of a function.
 fn all_lines_refusal(
     alloc: Global,
-    types: &mut TypeNumbers<'_>,
+    types: &TypeNumbers<'_>,
     symbols: &Symbols<'_>,
     labels: &IndexMap<&[u8], usize>,
     own: &OwnNames<'_>,
     item: &DefineItem,
 ) -> Result<Option<CheckRefusal>, AllocError>
-    requires tree { named_types types.old ≡ (tree_of symbols.now.tree.now).types }
-    requires own { AreOwn (named_types types.old) (define_of item.now) own.now }
+    requires tree { named_types types.now ≡ (tree_of symbols.now.tree.now).types }
+    requires own { AreOwn (named_types types.now) (define_of item.now) own.now }
     requires labels { (text : List ℕ) → known_place labels.now text ≡ label_number own.now.labels.items text }
     ensures first { (m : Tree) → m ≡ tree_of symbols.now.tree.now →
         IfOk result (λ o. IsFirstIn (all_of (line_refused (scope_of m (numbered m.types (define_of item.now)))) (all_lines (numbered m.types (define_of item.now)))) o) }
-    ensures items { types.new.items ≡ types.old.items }
 {
     let registers = index_owned(alloc, own.registers.as_slice())?;
     let scope = LineScope {
@@ -97,17 +95,16 @@ fn all_lines_refusal(
 /// The first refusal of a function whose names these are.
 fn own_refusal(
     alloc: Global,
-    types: &mut TypeNumbers<'_>,
+    types: &TypeNumbers<'_>,
     symbols: &Symbols<'_>,
     own: &OwnNames<'_>,
     until: usize,
     item: &DefineItem,
 ) -> Result<Option<CheckRefusal>, AllocError>
-    requires tree { named_types types.old ≡ (tree_of symbols.now.tree.now).types }
-    requires own { AreOwn (named_types types.old) (define_of item.now) own.now }
+    requires tree { named_types types.now ≡ (tree_of symbols.now.tree.now).types }
+    requires own { AreOwn (named_types types.now) (define_of item.now) own.now }
     ensures first { (m : Tree) (lines : ℕ) → m ≡ tree_of symbols.now.tree.now → until ≡ capped (lines + line_count (define_of item.now)) →
         IfOk result (λ o. IsFirstIn (body_refused m lines (numbered m.types (define_of item.now))) o) }
-    ensures items { types.new.items ≡ types.old.items }
 {
     let labels = index_owned(alloc, own.labels.as_slice())?;
     let whole = whole_refusal(alloc, types, &labels, own, until, item)?;
@@ -118,15 +115,14 @@ fn own_refusal(
 /// The first refusal of the body of a function, where so many instructions stand in the program up to its end.
 pub(crate) fn body_refusal(
     alloc: Global,
-    types: &mut TypeNumbers<'_>,
+    types: &TypeNumbers<'_>,
     symbols: &Symbols<'_>,
     until: usize,
     item: &DefineItem,
 ) -> Result<Option<CheckRefusal>, AllocError>
-    requires { named_types types.old ≡ (tree_of symbols.now.tree.now).types }
+    requires { named_types types.now ≡ (tree_of symbols.now.tree.now).types }
     ensures first { (m : Tree) (lines : ℕ) → m ≡ tree_of symbols.now.tree.now → until ≡ capped (lines + line_count (define_of item.now)) →
         IfOk result (λ o. IsFirstIn (body_refused m lines (numbered m.types (define_of item.now))) o) }
-    ensures items { types.new.items ≡ types.old.items }
 {
     let own = own_names(alloc, types, item)?;
     let found = own_refusal(alloc, types, symbols, &own, until, item)?;

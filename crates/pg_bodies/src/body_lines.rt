@@ -22,12 +22,11 @@ use std::alloc::{AllocError, Global};
 fn lines_refusal(
     alloc: Global,
     scope: &LineScope<'_>,
-    types: &mut TypeNumbers<'_>,
+    types: &TypeNumbers<'_>,
     lines: &[LineNode],
 ) -> Result<Option<CheckRefusal>, AllocError>
-    ensures first { (g : Scope) → IsLineScope scope.now g → g.tree.types ≡ named_types types.old →
+    ensures first { (g : Scope) → IsLineScope scope.now g → g.tree.types ≡ named_types types.now →
         IfOk result (λ o. IsFirstIn (all_of (line_refused g) (map line_of lines.now)) o) }
-    ensures items { types.new.items ≡ types.old.items }
 {
     let mut found = None;
     for line in lines {
@@ -41,12 +40,11 @@ fn lines_refusal(
 pub(crate) fn blocks_refusal(
     alloc: Global,
     scope: &LineScope<'_>,
-    types: &mut TypeNumbers<'_>,
+    types: &TypeNumbers<'_>,
     blocks: &[BlockNode],
 ) -> Result<Option<CheckRefusal>, AllocError>
-    ensures first { (g : Scope) → IsLineScope scope.now g → g.tree.types ≡ named_types types.old →
+    ensures first { (g : Scope) → IsLineScope scope.now g → g.tree.types ≡ named_types types.now →
         IfOk result (λ o. IsFirstIn (all_of (block_refused g) (map block_of blocks.now)) o) }
-    ensures items { types.new.items ≡ types.old.items }
 {
     let mut found = None;
     for block in blocks {
@@ -59,11 +57,10 @@ pub(crate) fn blocks_refusal(
 /// Whether one of the lines writes an aggregate that is larger than types may be.
 fn is_large_among(
     alloc: Global,
-    types: &mut TypeNumbers<'_>,
+    types: &TypeNumbers<'_>,
     lines: &[LineNode],
 ) -> Result<bool, AllocError>
-    ensures large { IfOk result (λ b. b ≡ list_any (is_large_line (named_types types.old)) (map line_of lines.now)) }
-    ensures items { types.new.items ≡ types.old.items }
+    ensures large { IfOk result (λ b. b ≡ list_any (is_large_line (named_types types.now)) (map line_of lines.now)) }
 {
     for line in lines {
         if line_is_large(alloc, types, line)? {
@@ -76,11 +73,10 @@ fn is_large_among(
 /// Whether a line of the blocks writes an aggregate that is larger than types may be.
 pub(crate) fn are_large(
     alloc: Global,
-    types: &mut TypeNumbers<'_>,
+    types: &TypeNumbers<'_>,
     blocks: &[BlockNode],
 ) -> Result<bool, AllocError>
-    ensures large { IfOk result (λ b. b ≡ list_any (is_large_block (named_types types.old)) (map block_of blocks.now)) }
-    ensures items { types.new.items ≡ types.old.items }
+    ensures large { IfOk result (λ b. b ≡ list_any (is_large_block (named_types types.now)) (map block_of blocks.now)) }
 {
     for block in blocks {
         if is_large_among(alloc, types, block.lines.as_slice())? {

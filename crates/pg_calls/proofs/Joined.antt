@@ -29,8 +29,6 @@ two_rows f xs ys a b all d e g =
     g ∙ ap (λ o. earlier o b) d ∙ ap (λ o. earlier (earliest (flat_map f xs)) o) e ∙ sym (earliest_more (flat_map f xs) (flat_map f ys)) ∙ ap (λ ss. earliest ss) (sym (flat_more f xs ys))
 
 -- two lists of demands, judged one after the other over the same items
-pub two_demands : (items other : List TypeItem) (ds es : List NamedType → List Demand) (a b all : Option Span) → other ≡ items → a ≡ earliest (flat_map (unmet (items_of items)) (ds (items_of items)))
-    → b ≡ earliest (flat_map (unmet (items_of other)) (es (items_of other))) → all ≡ earlier a b → all ≡ earliest (flat_map (unmet (items_of items)) (ds (items_of items) ++ es (items_of items)))
-two_demands items other ds es a b all s d e g =
-    two_rows (unmet (items_of items)) (ds (items_of items)) (es (items_of items)) a b all d
-    (e ∙ ap (λ xs. earliest (flat_map (unmet (items_of xs)) (es (items_of xs)))) s) g
+pub two_demands : (items : List TypeItem) (ds es : List NamedType → List Demand) (a b all : Option Span) → a ≡ earliest (flat_map (unmet (items_of items)) (ds (items_of items)))
+    → b ≡ earliest (flat_map (unmet (items_of items)) (es (items_of items))) → all ≡ earlier a b → all ≡ earliest (flat_map (unmet (items_of items)) (ds (items_of items) ++ es (items_of items)))
+two_demands items ds es a b all d e g = two_rows (unmet (items_of items)) (ds (items_of items)) (es (items_of items)) a b all d e g

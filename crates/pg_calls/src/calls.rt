@@ -106,12 +106,11 @@ fn wrong_arguments(
 }
 
 fn param_agrees(
-    types: &mut TypeNumbers<'_>,
+    types: &TypeNumbers<'_>,
     param: &HeaderParam<'_>,
     ty: &TypeNode,
 ) -> Result<bool, AllocError>
-    ensures same { IfOk result (λ b. b ≡ param_agrees (named_types types.old) (param_behind param.now) (ty_of ty.now)) }
-    ensures items { types.new.items ≡ types.old.items }
+    ensures same { IfOk result (λ b. b ≡ param_agrees (named_types types.now) (param_behind param.now) (ty_of ty.now)) }
 {
     match param {
         HeaderParam::Param(param) => types.agree(&param.ty, ty),
@@ -122,13 +121,12 @@ fn param_agrees(
 
 /// Whether the parameter at a place has a type.
 fn agrees_at(
-    types: &mut TypeNumbers<'_>,
+    types: &TypeNumbers<'_>,
     params: &[HeaderParam<'_>],
     place: usize,
     ty: &TypeNode,
 ) -> Result<bool, AllocError>
-    ensures same { IfOk result (λ b. b ≡ first_agrees (named_types types.old) (params_behind (drop place params.now)) (ty_of ty.now)) }
-    ensures items { types.new.items ≡ types.old.items }
+    ensures same { IfOk result (λ b. b ≡ first_agrees (named_types types.now) (params_behind (drop place params.now)) (ty_of ty.now)) }
 {
     if place < params.len() {
         param_agrees(types, &params[place], ty)
@@ -184,13 +182,12 @@ fn ends_at(params: &[HeaderParam<'_>], place: usize, dots: bool) -> bool
 
 /// Whether written types are those of the parameters.
 fn fits_params(
-    types: &mut TypeNumbers<'_>,
+    types: &TypeNumbers<'_>,
     params: &[HeaderParam<'_>],
     written: &[TypeNode],
     dots: bool,
 ) -> Result<bool, AllocError>
-    ensures same { IfOk result (λ b. b ≡ fits_params (named_types types.old) (params_behind params.now) (map ty_of written.now) dots) }
-    ensures items { types.new.items ≡ types.old.items }
+    ensures same { IfOk result (λ b. b ≡ fits_params (named_types types.now) (params_behind params.now) (map ty_of written.now) dots) }
 {
     for place in 0..written.len() {
         if !agrees_at(types, params, place, &written[place])? {
@@ -200,18 +197,16 @@ fn fits_params(
     Ok(ends_at(params, written.len(), dots))
 }
 
-fn is_resolved(types: &mut TypeNumbers<'_>, ty: &TypeNode) -> Result<bool, AllocError>
-    ensures same { IfOk result (λ b. b ≡ is_resolved (named_types types.old) (ty_of ty.now)) }
-    ensures items { types.new.items ≡ types.old.items }
+fn is_resolved(types: &TypeNumbers<'_>, ty: &TypeNode) -> Result<bool, AllocError>
+    ensures same { IfOk result (λ b. b ≡ is_resolved (named_types types.now) (ty_of ty.now)) }
 {
     let kind = types.kind(ty)?;
     Ok(kind.is_some())
 }
 
 /// Whether each of these is a type.
-fn are_resolved(types: &mut TypeNumbers<'_>, written: &[TypeNode]) -> Result<bool, AllocError>
-    ensures same { IfOk result (λ b. b ≡ list_all (is_resolved (named_types types.old)) (map ty_of written.now)) }
-    ensures items { types.new.items ≡ types.old.items }
+fn are_resolved(types: &TypeNumbers<'_>, written: &[TypeNode]) -> Result<bool, AllocError>
+    ensures same { IfOk result (λ b. b ≡ list_all (is_resolved (named_types types.now)) (map ty_of written.now)) }
 {
     for ty in written {
         if !is_resolved(types, ty)? {
@@ -223,12 +218,11 @@ fn are_resolved(types: &mut TypeNumbers<'_>, written: &[TypeNode]) -> Result<boo
 
 /// Whether the written types of a call, where all are types, are those of the parameters.
 fn are_written(
-    types: &mut TypeNumbers<'_>,
+    types: &TypeNumbers<'_>,
     params: &[HeaderParam<'_>],
     written: &CallTypes,
 ) -> Result<bool, AllocError>
-    ensures same { IfOk result (λ b. b ≡ are_written (named_types types.old) (params_behind params.now) (written_of written.now)) }
-    ensures items { types.new.items ≡ types.old.items }
+    ensures same { IfOk result (λ b. b ≡ are_written (named_types types.now) (params_behind params.now) (written_of written.now)) }
 {
     if are_resolved(types, written.types.as_slice())? {
         fits_params(types, params, written.types.as_slice(), written.dots)
@@ -239,12 +233,11 @@ fn are_written(
 
 /// Whether a call writes no types, or those of the parameters.
 fn written_fit(
-    types: &mut TypeNumbers<'_>,
+    types: &TypeNumbers<'_>,
     header: &HeaderNode<'_>,
     written: &Option<CallTypes>,
 ) -> Result<bool, AllocError>
-    ensures same { IfOk result (λ b. b ≡ written_fit (named_types types.old) (header_behind header.now) (option_map written_of written.now)) }
-    ensures items { types.new.items ≡ types.old.items }
+    ensures same { IfOk result (λ b. b ≡ written_fit (named_types types.now) (header_behind header.now) (option_map written_of written.now)) }
 {
     match written {
         Some(written) => are_written(types, header.params.as_slice(), written),
@@ -254,13 +247,12 @@ fn written_fit(
 
 /// Whether a call has the result of a function, and its types where it writes them.
 fn fits_header(
-    types: &mut TypeNumbers<'_>,
+    types: &TypeNumbers<'_>,
     header: &HeaderNode<'_>,
     ty: &TypeNode,
     written: &Option<CallTypes>,
 ) -> Result<bool, AllocError>
-    ensures same { IfOk result (λ b. b ≡ fits_header (named_types types.old) (header_behind header.now) (ty_of ty.now) (option_map written_of written.now)) }
-    ensures items { types.new.items ≡ types.old.items }
+    ensures same { IfOk result (λ b. b ≡ fits_header (named_types types.now) (header_behind header.now) (ty_of ty.now) (option_map written_of written.now)) }
 {
     if types.agree(header.result, ty)? {
         written_fit(types, header, written)
@@ -272,13 +264,12 @@ fn fits_header(
 /// The result type of a call that hasn't the type of its callee.
 #[tactic(auto, unfolding(pg_rules::specs::Earliest::earliest))]
 fn wrong_header(
-    types: &mut TypeNumbers<'_>,
+    types: &TypeNumbers<'_>,
     header: &Option<HeaderNode<'_>>,
     ty: &TypeNode,
     written: &Option<CallTypes>,
 ) -> Result<Option<Span>, AllocError>
-    ensures place { IfOk result (λ o. o ≡ earliest (wrong_header (named_types types.old) (option_map header_behind header.now) (ty_of ty.now) (option_map written_of written.now))) }
-    ensures items { types.new.items ≡ types.old.items }
+    ensures place { IfOk result (λ o. o ≡ earliest (wrong_header (named_types types.now) (option_map header_behind header.now) (ty_of ty.now) (option_map written_of written.now))) }
 {
     match header {
         Some(header) => {
@@ -295,16 +286,15 @@ fn wrong_header(
 /// The earliest place at which a call of what a name stands for isn't right.
 fn wrong_call_of(
     alloc: Global,
-    types: &mut TypeNumbers<'_>,
+    types: &TypeNumbers<'_>,
     symbol: SymbolNode<'_>,
     ty: &TypeNode,
     written: &Option<CallTypes>,
     name: &Name,
     arguments: &[TypedVal],
 ) -> Result<Option<Span>, AllocError>
-    ensures place { IfOk result (λ o. o ≡ earliest (wrong_call_of (named_types types.old) (symbol_of symbol.entry) (ty_of ty.now)
+    ensures place { IfOk result (λ o. o ≡ earliest (wrong_call_of (named_types types.now) (symbol_of symbol.entry) (ty_of ty.now)
         (option_map written_of written.now) name.now (map typed_of arguments.now))) }
-    ensures items { types.new.items ≡ types.old.items }
 {
     let header = header_of(alloc, symbol)?;
     let head = wrong_header(types, &header, ty, written)?;
@@ -319,11 +309,10 @@ fn wrong_call_of(
 pub fn wrong_call(
     alloc: Global,
     scope: &LineScope<'_>,
-    types: &mut TypeNumbers<'_>,
+    types: &TypeNumbers<'_>,
     op: &OpNode,
 ) -> Result<Option<Span>, AllocError>
-    ensures place { (g : Scope) → IsLineScope scope.now g → g.tree.types ≡ named_types types.old → IfOk result (λ o. o ≡ earliest (wrong_call g (op_of op.now))) }
-    ensures items { types.new.items ≡ types.old.items }
+    ensures place { (g : Scope) → IsLineScope scope.now g → g.tree.types ≡ named_types types.now → IfOk result (λ o. o ≡ earliest (wrong_call g (op_of op.now))) }
 {
     match op {
         OpNode::Call {
@@ -351,12 +340,11 @@ pub fn wrong_call(
 /// The earliest type of an argument that isn't its parameter's.
 #[tactic(auto, unfolding(pg_rules::specs::Earliest::earliest))]
 fn argument_demands(
-    types: &mut TypeNumbers<'_>,
+    types: &TypeNumbers<'_>,
     params: &[&TypeNode],
     arguments: &[TypedVal],
 ) -> Result<Option<Span>, AllocError>
-    ensures place { IfOk result (λ o. o ≡ earliest (flat_map (unmet (named_types types.old)) (argument_demands (named_types types.old) (tys_behind params.now) (map typed_of arguments.now)))) }
-    ensures items { types.new.items ≡ types.old.items }
+    ensures place { IfOk result (λ o. o ≡ earliest (flat_map (unmet (named_types types.now)) (argument_demands (named_types types.now) (tys_behind params.now) (map typed_of arguments.now)))) }
 {
     let mut found = None;
     for place in 0..params.len().min(arguments.len()) {
@@ -369,12 +357,11 @@ fn argument_demands(
 #[tactic(auto, unfolding(pg_rules::specs::Earliest::earliest))]
 fn call_demands_of(
     alloc: Global,
-    types: &mut TypeNumbers<'_>,
+    types: &TypeNumbers<'_>,
     symbol: SymbolNode<'_>,
     arguments: &[TypedVal],
 ) -> Result<Option<Span>, AllocError>
-    ensures place { IfOk result (λ o. o ≡ earliest (flat_map (unmet (named_types types.old)) (call_demands_of (named_types types.old) (symbol_of symbol.entry) (map typed_of arguments.now)))) }
-    ensures items { types.new.items ≡ types.old.items }
+    ensures place { IfOk result (λ o. o ≡ earliest (flat_map (unmet (named_types types.now)) (call_demands_of (named_types types.now) (symbol_of symbol.entry) (map typed_of arguments.now)))) }
 {
     if is_callable(symbol) {
         let params = callee_params(alloc, symbol)?;
@@ -389,12 +376,11 @@ fn call_demands_of(
 pub fn call_demands(
     alloc: Global,
     scope: &LineScope<'_>,
-    types: &mut TypeNumbers<'_>,
+    types: &TypeNumbers<'_>,
     op: &OpNode,
 ) -> Result<Option<Span>, AllocError>
-    ensures place { (g : Scope) → IsLineScope scope.now g → g.tree.types ≡ named_types types.old →
+    ensures place { (g : Scope) → IsLineScope scope.now g → g.tree.types ≡ named_types types.now →
         IfOk result (λ o. o ≡ earliest (flat_map (unmet g.tree.types) (call_demands g (op_of op.now)))) }
-    ensures items { types.new.items ≡ types.old.items }
 {
     match op {
         OpNode::Call {

@@ -154,18 +154,16 @@ fn isnt_pointer(kind: Option<TypeKind>) -> bool
 }
 
 /// Whether a type is a pointer, if it is a type.
-fn is_pointer_type(types: &mut TypeNumbers<'_>, ty: &TypeNode) -> Result<bool, AllocError>
-    ensures same { IfOk result (λ b. b ≡ is_pointer_type (named_types types.old) (ty_of ty.now)) }
-    ensures items { types.new.items ≡ types.old.items }
+fn is_pointer_type(types: &TypeNumbers<'_>, ty: &TypeNode) -> Result<bool, AllocError>
+    ensures same { IfOk result (λ b. b ≡ is_pointer_type (named_types types.now) (ty_of ty.now)) }
 {
     let kind = types.kind(ty)?;
     let other = isnt_pointer(kind);
     Ok(!other)
 }
 
-fn is_pointer_one(types: &mut TypeNumbers<'_>, param: &HeaderParam<'_>) -> Result<bool, AllocError>
-    ensures same { IfOk result (λ b. b ≡ is_pointer_one (named_types types.old) (param_behind param.now)) }
-    ensures items { types.new.items ≡ types.old.items }
+fn is_pointer_one(types: &TypeNumbers<'_>, param: &HeaderParam<'_>) -> Result<bool, AllocError>
+    ensures same { IfOk result (λ b. b ≡ is_pointer_one (named_types types.now) (param_behind param.now)) }
 {
     match param {
         HeaderParam::Param(param) => is_pointer_type(types, &param.ty),
@@ -175,12 +173,8 @@ fn is_pointer_one(types: &mut TypeNumbers<'_>, param: &HeaderParam<'_>) -> Resul
 }
 
 /// Whether a function has one parameter, a pointer.
-fn is_pointer_param(
-    types: &mut TypeNumbers<'_>,
-    params: &[HeaderParam<'_>],
-) -> Result<bool, AllocError>
-    ensures same { IfOk result (λ b. b ≡ is_pointer_param (named_types types.old) (params_behind params.now)) }
-    ensures items { types.new.items ≡ types.old.items }
+fn is_pointer_param(types: &TypeNumbers<'_>, params: &[HeaderParam<'_>]) -> Result<bool, AllocError>
+    ensures same { IfOk result (λ b. b ≡ is_pointer_param (named_types types.now) (params_behind params.now)) }
 {
     if params.len() == 1 {
         is_pointer_one(types, &params[0])
@@ -191,11 +185,10 @@ fn is_pointer_param(
 
 /// Whether a function, if it is one, goes from a pointer to a pointer.
 fn is_thread_header(
-    types: &mut TypeNumbers<'_>,
+    types: &TypeNumbers<'_>,
     header: &Option<HeaderNode<'_>>,
 ) -> Result<bool, AllocError>
-    ensures same { IfOk result (λ b. b ≡ is_thread_header (named_types types.old) (option_map header_behind header.now)) }
-    ensures items { types.new.items ≡ types.old.items }
+    ensures same { IfOk result (λ b. b ≡ is_thread_header (named_types types.now) (option_map header_behind header.now)) }
 {
     match header {
         Some(header) => {
@@ -212,12 +205,11 @@ fn is_thread_header(
 #[tactic(auto, unfolding(pg_rules::specs::Earliest::earliest))]
 fn wrong_thread_of(
     alloc: Global,
-    types: &mut TypeNumbers<'_>,
+    types: &TypeNumbers<'_>,
     symbol: SymbolNode<'_>,
     span: Span,
 ) -> Result<Option<Span>, AllocError>
-    ensures place { IfOk result (λ o. o ≡ earliest (wrong_thread_of (named_types types.old) (symbol_of symbol.entry) span)) }
-    ensures items { types.new.items ≡ types.old.items }
+    ensures place { IfOk result (λ o. o ≡ earliest (wrong_thread_of (named_types types.now) (symbol_of symbol.entry) span)) }
 {
     let header = header_of(alloc, symbol)?;
     if is_thread_header(types, &header)? {
@@ -231,11 +223,10 @@ fn wrong_thread_of(
 fn wrong_value(
     alloc: Global,
     scope: &LineScope<'_>,
-    types: &mut TypeNumbers<'_>,
+    types: &TypeNumbers<'_>,
     value: &ValNode,
 ) -> Result<Option<Span>, AllocError>
-    ensures place { (g : Scope) → IsLineScope scope.now g → g.tree.types ≡ named_types types.old → IfOk result (λ o. o ≡ earliest (wrong_thread g (val_of value.now))) }
-    ensures items { types.new.items ≡ types.old.items }
+    ensures place { (g : Scope) → IsLineScope scope.now g → g.tree.types ≡ named_types types.now → IfOk result (λ o. o ≡ earliest (wrong_thread g (val_of value.now))) }
 {
     match value {
         ValNode::Global(name) => {
@@ -251,12 +242,11 @@ fn wrong_value(
 pub fn wrong_thread(
     alloc: Global,
     scope: &LineScope<'_>,
-    types: &mut TypeNumbers<'_>,
+    types: &TypeNumbers<'_>,
     op: &OpNode,
 ) -> Result<Option<Span>, AllocError>
-    ensures place { (g : Scope) → IsLineScope scope.now g → g.tree.types ≡ named_types types.old →
+    ensures place { (g : Scope) → IsLineScope scope.now g → g.tree.types ≡ named_types types.now →
         IfOk result (λ o. o ≡ earliest (flat_map (wrong_thread g) (thread_functions g (op_of op.now)))) }
-    ensures items { types.new.items ≡ types.old.items }
 {
     match thread_function(scope, op) {
         Some(value) => wrong_value(alloc, scope, types, value),

@@ -19,86 +19,79 @@ use std::alloc::AllocError;
 
 /// The place of a type that isn't what is asked, alone.
 pub fn unmet_one(
-    types: &mut TypeNumbers<'_>,
+    types: &TypeNumbers<'_>,
     test: TypeTest,
     ty: &TypeNode,
 ) -> Result<Option<Span>, AllocError>
-    ensures place { IfOk result (λ o. o ≡ earliest (flat_map (unmet (named_types types.old)) (asks (test_of test) (ty_of ty.now) ∷ []))) }
-    ensures items { types.new.items ≡ types.old.items }
+    ensures place { IfOk result (λ o. o ≡ earliest (flat_map (unmet (named_types types.now)) (asks (test_of test) (ty_of ty.now) ∷ []))) }
 {
     unmet(types, test, ty)
 }
 
 /// The place of a value's type that isn't what is asked.
 pub fn unmet_typed(
-    types: &mut TypeNumbers<'_>,
+    types: &TypeNumbers<'_>,
     test: TypeTest,
     value: &TypedVal,
 ) -> Result<Option<Span>, AllocError>
-    ensures place { IfOk result (λ o. o ≡ earliest (unmet (named_types types.old) (asks_typed (test_of test) (typed_of value.now)))) }
-    ensures items { types.new.items ≡ types.old.items }
+    ensures place { IfOk result (λ o. o ≡ earliest (unmet (named_types types.now) (asks_typed (test_of test) (typed_of value.now)))) }
 {
     unmet(types, test, &value.ty)
 }
 
 /// The place of a value's type that isn't what is asked, alone.
 pub fn unmet_value(
-    types: &mut TypeNumbers<'_>,
+    types: &TypeNumbers<'_>,
     test: TypeTest,
     value: &TypedVal,
 ) -> Result<Option<Span>, AllocError>
-    ensures place { IfOk result (λ o. o ≡ earliest (flat_map (unmet (named_types types.old)) (asks_typed (test_of test) (typed_of value.now) ∷ []))) }
-    ensures items { types.new.items ≡ types.old.items }
+    ensures place { IfOk result (λ o. o ≡ earliest (flat_map (unmet (named_types types.now)) (asks_typed (test_of test) (typed_of value.now) ∷ []))) }
 {
     unmet_typed(types, test, value)
 }
 
 /// The place of a value's type that isn't the same as another.
 pub(crate) fn unmet_typed_as(
-    types: &mut TypeNumbers<'_>,
+    types: &TypeNumbers<'_>,
     expected: &TypeNode,
     value: &TypedVal,
 ) -> Result<Option<Span>, AllocError>
-    ensures place { IfOk result (λ o. o ≡ earliest (unmet (named_types types.old) (asks_typed (is_as (resolved (named_types types.old) (ty_of expected.now))) (typed_of value.now)))) }
-    ensures items { types.new.items ≡ types.old.items }
+    ensures place { IfOk result (λ o. o ≡ earliest (unmet (named_types types.now) (asks_typed (is_as (resolved (named_types types.now) (ty_of expected.now))) (typed_of value.now)))) }
 {
     unmet_as(types, expected, &value.ty)
 }
 
 /// The place of a value's type that isn't the same as another, alone.
 pub fn unmet_value_as(
-    types: &mut TypeNumbers<'_>,
+    types: &TypeNumbers<'_>,
     expected: &TypeNode,
     value: &TypedVal,
 ) -> Result<Option<Span>, AllocError>
-    ensures place { IfOk result (λ o. o ≡ earliest (flat_map (unmet (named_types types.old))
-        (asks_typed (is_as (resolved (named_types types.old) (ty_of expected.now))) (typed_of value.now) ∷ []))) }
-    ensures items { types.new.items ≡ types.old.items }
+    ensures place { IfOk result (λ o. o ≡ earliest (flat_map (unmet (named_types types.now))
+        (asks_typed (is_as (resolved (named_types types.now) (ty_of expected.now))) (typed_of value.now) ∷ []))) }
 {
     unmet_typed_as(types, expected, value)
 }
 
 /// The place of a value's type that isn't the same as another value's.
 pub fn unmet_like(
-    types: &mut TypeNumbers<'_>,
+    types: &TypeNumbers<'_>,
     expected: &TypedVal,
     value: &TypedVal,
 ) -> Result<Option<Span>, AllocError>
-    ensures place { IfOk result (λ o. o ≡ earliest (unmet (named_types types.old) (asks_typed (is_as (resolved (named_types types.old) (typed_of expected.now).ty)) (typed_of value.now)))) }
-    ensures items { types.new.items ≡ types.old.items }
+    ensures place { IfOk result (λ o. o ≡ earliest (unmet (named_types types.now) (asks_typed (is_as (resolved (named_types types.now) (typed_of expected.now).ty)) (typed_of value.now)))) }
 {
     unmet_typed_as(types, &expected.ty, value)
 }
 
 /// The place of a value's type that isn't the same as another value's, alone.
 pub fn unmet_same(
-    types: &mut TypeNumbers<'_>,
+    types: &TypeNumbers<'_>,
     expected: &TypedVal,
     value: &TypedVal,
 ) -> Result<Option<Span>, AllocError>
-    ensures place { IfOk result (λ o. o ≡ earliest (flat_map (unmet (named_types types.old))
-        (asks_typed (is_as (resolved (named_types types.old) (typed_of expected.now).ty)) (typed_of value.now) ∷ []))) }
-    ensures items { types.new.items ≡ types.old.items }
+    ensures place { IfOk result (λ o. o ≡ earliest (flat_map (unmet (named_types types.now))
+        (asks_typed (is_as (resolved (named_types types.now) (typed_of expected.now).ty)) (typed_of value.now) ∷ []))) }
 {
     unmet_value_as(types, &expected.ty, value)
 }

@@ -18,12 +18,8 @@ use pg_types::TypeNumbers;
 use std::alloc::Global;
 
 /// The numbered program of a module that isn't refused.
-fn numbered(
-    alloc: Global,
-    types: &mut TypeNumbers<'_>,
-    tree: &Module,
-) -> Result<Program, CheckFault>
-    requires items { types.old.items ≡ tree.now.types.items }
+fn numbered(alloc: Global, types: &TypeNumbers<'_>, tree: &Module) -> Result<Program, CheckFault>
+    requires items { types.now.items ≡ tree.now.types.items }
     requires order { IsInOrder (tree_of tree.now) }
     requires accepted { IsUnrefused (tree_of tree.now) }
     ensures program { IfOk result (λ p. p ≡ program_of (tree_of tree.now)) }
@@ -54,12 +50,12 @@ pub fn check(alloc: Global, tree: &Module) -> Result<Program, CheckFault>
     ensures program { IfOk result (λ p. IsProgramOf (tree_of tree.now) p) }
     ensures fault { IfErr result (λ e. IsFaultOf (tree_of tree.now) e) }
 {
-    let mut types = TypeNumbers::new(alloc, tree.types.as_slice())?;
-    match first_of_module(alloc, &mut types, tree)? {
+    let types = TypeNumbers::new(alloc, tree.types.as_slice())?;
+    match first_of_module(alloc, &types, tree)? {
         Some(refusal) => Err(CheckFault::At {
             kind: refusal.kind,
             span: refusal.span,
         }),
-        None => numbered(alloc, &mut types, tree),
+        None => numbered(alloc, &types, tree),
     }
 }

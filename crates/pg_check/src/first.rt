@@ -20,12 +20,11 @@ use std::alloc::{AllocError, Global};
 /// The first refusal of the functions' bodies, and then of a program without `main`.
 fn first_behind_heads(
     alloc: Global,
-    types: &mut TypeNumbers<'_>,
+    types: &TypeNumbers<'_>,
     symbols: &Symbols<'_>,
 ) -> Result<Option<CheckRefusal>, AllocError>
-    requires { types.old.items ≡ symbols.now.tree.now.types.items }
+    requires { types.now.items ≡ symbols.now.tree.now.types.items }
     ensures first { IfOk result (λ o. IsFirstAmong (last_phases (tree_of symbols.now.tree.now)) o) }
-    ensures items { types.new.items ≡ types.old.items }
 {
     let first = first_of_bodies(alloc, types, symbols)?;
     match first {
@@ -37,14 +36,13 @@ fn first_behind_heads(
 /// The first refusal of the functions' heads, and then of what stands behind.
 fn first_from_heads(
     alloc: Global,
-    types: &mut TypeNumbers<'_>,
+    types: &TypeNumbers<'_>,
     symbols: &Symbols<'_>,
     starts: &IndexMap<&[u8], u32>,
 ) -> Result<Option<CheckRefusal>, AllocError>
-    requires items { types.old.items ≡ symbols.now.tree.now.types.items }
+    requires items { types.now.items ≡ symbols.now.tree.now.types.items }
     requires starts { (text : List ℕ) → known_place starts.now text ≡ first_start (symbol_names (tree_of symbols.now.tree.now)) text }
     ensures first { IfOk result (λ o. IsFirstAmong (phases_from_heads (tree_of symbols.now.tree.now)) o) }
-    ensures items { types.new.items ≡ types.old.items }
 {
     let first = heads_refusal(alloc, types, starts, symbols.tree)?;
     match first {
@@ -56,14 +54,13 @@ fn first_from_heads(
 /// The first refusal of the globals, and then of what stands behind.
 fn first_from_globals(
     alloc: Global,
-    types: &mut TypeNumbers<'_>,
+    types: &TypeNumbers<'_>,
     symbols: &Symbols<'_>,
     starts: &IndexMap<&[u8], u32>,
 ) -> Result<Option<CheckRefusal>, AllocError>
-    requires items { types.old.items ≡ symbols.now.tree.now.types.items }
+    requires items { types.now.items ≡ symbols.now.tree.now.types.items }
     requires starts { (text : List ℕ) → known_place starts.now text ≡ first_start (symbol_names (tree_of symbols.now.tree.now)) text }
     ensures first { IfOk result (λ o. IsFirstAmong (phases_from_globals (tree_of symbols.now.tree.now)) o) }
-    ensures items { types.new.items ≡ types.old.items }
 {
     let first = globals_refusal(alloc, types, symbols, starts)?;
     match first {
@@ -75,12 +72,11 @@ fn first_from_globals(
 /// The first refusal behind the type items.
 fn first_behind_types(
     alloc: Global,
-    types: &mut TypeNumbers<'_>,
+    types: &TypeNumbers<'_>,
     tree: &Module,
 ) -> Result<Option<CheckRefusal>, AllocError>
-    requires { types.old.items ≡ tree.now.types.items }
+    requires { types.now.items ≡ tree.now.types.items }
     ensures first { IfOk result (λ o. IsFirstAmong (phases_from_globals (tree_of tree.now)) o) }
-    ensures items { types.new.items ≡ types.old.items }
 {
     let symbols = index_symbols(alloc, tree)?;
     let starts = symbol_starts(alloc, symbols.tree)?;
@@ -90,12 +86,11 @@ fn first_behind_types(
 /// The first refusal of a module, phase by phase; none where it isn't refused.
 pub(crate) fn first_of_module(
     alloc: Global,
-    types: &mut TypeNumbers<'_>,
+    types: &TypeNumbers<'_>,
     tree: &Module,
 ) -> Result<Option<CheckRefusal>, AllocError>
-    requires { types.old.items ≡ tree.now.types.items }
+    requires { types.now.items ≡ tree.now.types.items }
     ensures first { IfOk result (λ o. IsFoundIn (tree_of tree.now) o) }
-    ensures items { types.new.items ≡ types.old.items }
 {
     let first = types_refusal(alloc, types, tree)?;
     match first {

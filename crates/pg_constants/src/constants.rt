@@ -22,15 +22,14 @@ use std::alloc::{AllocError, Global};
 #[tactic(auto, using(crate::proofs::ScaleSteps::index_scales_are, crate::proofs::ScaleSteps::moves_are))]
 fn moved_word(
     alloc: Global,
-    types: &mut TypeNumbers<'_>,
+    types: &TypeNumbers<'_>,
     word: u64,
     ty: &TypeNode,
     indices: &[TypedVal],
 ) -> Result<u64, AllocError>
-    requires { TypeFits (named_types types.old) (ty_of ty.now) }
-    ensures word { IfOk result (λ w. w ≡ moved_by word (moves (named_types types.old)
-        (index_scales (named_types types.old) (ty_of ty.now) (map typed_of indices.now)) (map typed_of indices.now))) }
-    ensures items { types.new.items ≡ types.old.items }
+    requires { TypeFits (named_types types.now) (ty_of ty.now) }
+    ensures word { IfOk result (λ w. w ≡ moved_by word (moves (named_types types.now)
+        (index_scales (named_types types.now) (ty_of ty.now) (map typed_of indices.now)) (map typed_of indices.now))) }
 {
     let numbers = index_numbers(alloc, types, indices)?;
     let scales = index_scales(alloc, types, ty, numbers.as_slice())?;
@@ -39,12 +38,11 @@ fn moved_word(
 
 /// The word of a pointer that is written as an integer.
 fn integer_word(
-    types: &mut TypeNumbers<'_>,
+    types: &TypeNumbers<'_>,
     ty: &TypeNode,
     literal: &Literal,
 ) -> Result<u64, AllocError>
-    ensures word { IfOk result (λ w. w ≡ unwrap_or (number_at (resolved (named_types types.old) (ty_of ty.now)) (Int literal.now)) 0) }
-    ensures items { types.new.items ≡ types.old.items }
+    ensures word { IfOk result (λ w. w ≡ unwrap_or (number_at (resolved (named_types types.now) (ty_of ty.now)) (Int literal.now)) 0) }
 {
     let number = literal_at(types, ty, literal)?;
     Ok(number.unwrap_or(0))
@@ -56,13 +54,12 @@ fn integer_word(
 pub(crate) fn pointer_word(
     alloc: Global,
     globals: &Globals<'_>,
-    types: &mut TypeNumbers<'_>,
+    types: &TypeNumbers<'_>,
     value: &ValNode,
 ) -> Result<u64, AllocError>
-    requires items { types.old.items ≡ globals.now.symbols.tree.now.types.items }
+    requires items { types.now.items ≡ globals.now.symbols.tree.now.types.items }
     requires fits { ValFits (tree_of globals.now.symbols.tree.now).types (val_of value.now) }
     ensures word { IfOk result (λ w. w ≡ pointer_word (tree_of globals.now.symbols.tree.now) (val_of value.now)) }
-    ensures items { types.new.items ≡ types.old.items }
 {
     match value {
         ValNode::Global(name) => Ok(symbol_word(globals, name.text.as_slice())),
@@ -79,14 +76,13 @@ pub(crate) fn pointer_word(
 pub fn kind_word(
     alloc: Global,
     globals: &Globals<'_>,
-    types: &mut TypeNumbers<'_>,
+    types: &TypeNumbers<'_>,
     kind: Option<TypeKind>,
     value: &ValNode,
 ) -> Result<u64, AllocError>
-    requires items { types.old.items ≡ globals.now.symbols.tree.now.types.items }
+    requires items { types.now.items ≡ globals.now.symbols.tree.now.types.items }
     requires fits { ValFits (tree_of globals.now.symbols.tree.now).types (val_of value.now) }
     ensures word { IfOk result (λ w. w ≡ kind_word (tree_of globals.now.symbols.tree.now) kind (val_of value.now)) }
-    ensures items { types.new.items ≡ types.old.items }
 {
     match kind {
         Some(TypeKind::Integer(width)) => Ok(constant_number(width, value).unwrap_or(0)),

@@ -8,7 +8,7 @@ ghost use Rattle.pg_types.specs.Known.{denoted, IsWithin};
 ghost use Rattle.pg_types.specs.NumberedTypes.{table_of};
 ghost use Rattle.pg_constants.specs.Fields.{HasNoFields, IsLast, AreFields, field_chosen};
 
-use pg_types::{Shape, TypeNumbers, round_up};
+use pg_types::{KnownTypes, Shape, round_up};
 use std::alloc::{AllocError, Global};
 
 /// A field of a structure: the number of its type, and its offset in bytes.
@@ -26,7 +26,7 @@ pub(crate) struct LastField {
 }
 
 /// The size of a type in bytes.
-pub(crate) fn size_of(types: &TypeNumbers<'_>, number: usize) -> u32
+pub(crate) fn size_of(types: &KnownTypes<'_>, number: usize) -> u32
     requires within { number < length (table_of types.now) }
     requires fits { size_of (type_at (table_of types.now) number) ≤ SIZE_LIMIT }
     ensures size { result ≡ size_of (type_at (table_of types.now) number) }
@@ -36,7 +36,7 @@ pub(crate) fn size_of(types: &TypeNumbers<'_>, number: usize) -> u32
 }
 
 /// The size of a type in bytes, and 0 of one that is none.
-pub fn size_or_none(types: &TypeNumbers<'_>, number: Option<usize>) -> u32
+pub fn size_or_none(types: &KnownTypes<'_>, number: Option<usize>) -> u32
     requires within { IsWithin (table_of types.now) number }
     requires fits { size_or_none (denoted (table_of types.now) number) ≤ SIZE_LIMIT }
     ensures size { result ≡ size_or_none (denoted (table_of types.now) number) }
@@ -49,7 +49,7 @@ pub fn size_or_none(types: &TypeNumbers<'_>, number: Option<usize>) -> u32
 }
 
 /// The offset at which a further field is.
-fn next_offset(types: &TypeNumbers<'_>, front: usize, field: usize) -> u32
+fn next_offset(types: &KnownTypes<'_>, front: usize, field: usize) -> u32
     requires front { front < length (table_of types.now) }
     requires field { field < length (table_of types.now) }
     requires fits { fields_end (type_at (table_of types.now) front) ≤ SIZE_LIMIT }
@@ -61,7 +61,7 @@ fn next_offset(types: &TypeNumbers<'_>, front: usize, field: usize) -> u32
 }
 
 /// The last field of a structure; none of a type that has no fields.
-fn last_field(types: &TypeNumbers<'_>, number: usize) -> Option<LastField>
+fn last_field(types: &KnownTypes<'_>, number: usize) -> Option<LastField>
     requires within { number < length (table_of types.now) }
     requires fits { fields_end (type_at (table_of types.now) number) ≤ SIZE_LIMIT }
     ensures last { IfSome result (IsLast (table_of types.now) number) }
@@ -85,7 +85,7 @@ fn last_field(types: &TypeNumbers<'_>, number: usize) -> Option<LastField>
 /// The fields of a structure in order; none of another type.
 pub(crate) fn fields_of(
     alloc: Global,
-    types: &TypeNumbers<'_>,
+    types: &KnownTypes<'_>,
     number: usize,
 ) -> Result<Vec<Field>, AllocError>
     requires within { number < length (table_of types.now) }

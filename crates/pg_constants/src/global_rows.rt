@@ -20,24 +20,23 @@ use crate::globals::Globals;
 use crate::initialisers::add_const;
 use pg_ast::{ConstNode, GlobalItem};
 use pg_ir::{Bytes, GlobalInfo};
-use pg_types::TypeNumbers;
+use pg_types::{KnownTypes, TypeNumbers};
 use std::alloc::{AllocError, Global};
 
 /// The bytes of an initialiser of a type, which `known` knows by its number; none where the type isn't one.
 fn initial_bytes(
     alloc: Global,
     globals: &Globals<'_>,
-    known: &TypeNumbers<'_>,
-    types: &mut TypeNumbers<'_>,
+    known: &KnownTypes<'_>,
+    types: &TypeNumbers<'_>,
     number: Option<usize>,
     value: &ConstNode,
 ) -> Result<Vec<u8>, AllocError>
-    requires items { types.old.items ≡ globals.now.symbols.tree.now.types.items }
+    requires items { types.now.items ≡ globals.now.symbols.tree.now.types.items }
     requires within { IsWithin (table_of known.now) number }
     requires ty { IfSome (denoted (table_of known.now) number) AllFit }
     requires value { ConstFits (tree_of globals.now.symbols.tree.now).types (const_of value.now) }
     ensures bytes { IfOk result (λ v. v.items ≡ bytes_at (tree_of globals.now.symbols.tree.now) (denoted (table_of known.now) number) (const_of value.now)) }
-    ensures items { types.new.items ≡ types.old.items }
 {
     let mut bytes = Vec::new(alloc);
     match number {
@@ -63,21 +62,18 @@ fn without_zeros(all: Vec<u8>) -> Vec<u8>
 fn info_from(
     alloc: Global,
     globals: &Globals<'_>,
-    known: &mut TypeNumbers<'_>,
-    types: &mut TypeNumbers<'_>,
+    types: &TypeNumbers<'_>,
     start: u32,
     item: &GlobalItem,
 ) -> Result<GlobalInfo, AllocError>
-    requires items { types.old.items ≡ globals.now.symbols.tree.now.types.items }
-    requires known { known.old.items ≡ globals.now.symbols.tree.now.types.items }
+    requires items { types.now.items ≡ globals.now.symbols.tree.now.types.items }
     requires fits { GlobalFits (tree_of globals.now.symbols.tree.now).types (global_of item.now) }
     ensures info { IfOk result (λ g. g ≡ info_from (tree_of globals.now.symbols.tree.now) start (global_of item.now)) }
-    ensures items { types.new.items ≡ types.old.items }
-    ensures known { known.new.items ≡ known.old.items }
 {
+    let mut known = KnownTypes::new(types);
     let number = known.number(&item.ty)?;
-    let size = size_or_none(known, number);
-    let bytes = initial_bytes(alloc, globals, known, types, number, &item.value)?;
+    let size = size_or_none(&known, number);
+    let bytes = initial_bytes(alloc, globals, &known, types, number, &item.value)?;
     Ok(GlobalInfo {
         start,
         size,
@@ -98,22 +94,19 @@ fn granule_behind(start: u32, size: u32) -> u32
 fn infos(
     alloc: Global,
     globals: &Globals<'_>,
-    known: &mut TypeNumbers<'_>,
-    types: &mut TypeNumbers<'_>,
+    types: &TypeNumbers<'_>,
     variables: &[GlobalItem],
 ) -> Result<Vec<GlobalInfo>, AllocError>
-    requires items { types.old.items ≡ globals.now.symbols.tree.now.types.items }
-    requires known { known.old.items ≡ globals.now.symbols.tree.now.types.items }
+    requires items { types.now.items ≡ globals.now.symbols.tree.now.types.items }
     requires variables { variables.now ≡ globals.now.symbols.tree.now.globals.items }
     requires fits { GlobalsFit (tree_of globals.now.symbols.tree.now).types (tree_of globals.now.symbols.tree.now).globals }
     ensures rows { IfOk result (λ v. v.items ≡ map (λ (v : ℕ × Variable). global_at (tree_of globals.now.symbols.tree.now) v.0 v.1)
         (enumerate_from 0 (tree_of globals.now.symbols.tree.now).globals)) }
-    ensures items { types.new.items ≡ types.old.items }
 {
     let mut rows = Vec::new(alloc);
     let mut start = 1;
     for item in variables {
-        let row = info_from(alloc, globals, known, types, start, item)?;
+        let row = info_from(alloc, globals, types, start, item)?;
         start = granule_behind(start, row.size);
         rows.push(row)?;
     }
@@ -124,16 +117,17 @@ fn infos(
 pub fn add_globals(
     alloc: Global,
     globals: &Globals<'_>,
-    types: &mut TypeNumbers<'_>,
+    types: &TypeNumbers<'_>,
 ) -> Result<Vec<GlobalInfo>, AllocError>
-    requires items { types.old.items ≡ globals.now.symbols.tree.now.types.items }
+    requires items { types.now.items ≡ globals.now.symbols.tree.now.types.items }
     requires fits { GlobalsFit (tree_of globals.now.symbols.tree.now).types (tree_of globals.now.symbols.tree.now).globals }
     ensures rows { IfOk result (λ v. v.items ≡ map (λ (v : ℕ × Variable). global_at (tree_of globals.now.symbols.tree.now) v.0 v.1)
         (enumerate_from 0 (tree_of globals.now.symbols.tree.now).globals)) }
-    ensures items { types.new.items ≡ types.old.items }
 {
-    // Words of pointers add to `types`: the numbers that a constant is read by are those of a table that stays meanwhile.
-    let mut known = TypeNumbers::new(alloc, globals.symbols.tree.types.as_slice())?;
-    let variables = globals.symbols.tree.globals.as_slice();
-    infos(alloc, globals, &mut known, types, variables)
+    infos(
+        alloc,
+        globals,
+        types,
+        globals.symbols.tree.globals.as_slice(),
+    )
 }

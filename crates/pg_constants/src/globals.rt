@@ -15,7 +15,7 @@ use crate::fields::size_or_none;
 use pg_ast::{GlobalItem, Module};
 use pg_num::{Pointer, pack};
 use pg_rules::{SymbolNode, Symbols, index_symbols, symbol};
-use pg_types::TypeNumbers;
+use pg_types::{KnownTypes, TypeNumbers};
 use std::alloc::{AllocError, Global};
 
 /// The globals of a module: what its global names stand for, and the words of the pointers to its variables.
@@ -51,18 +51,18 @@ fn granules_for(size: u32) -> u32
 /// The words of the pointers to globals.
 fn global_words(
     alloc: Global,
-    types: &mut TypeNumbers<'_>,
+    types: &TypeNumbers<'_>,
     globals: &[GlobalItem],
 ) -> Result<Vec<u64>, AllocError>
-    requires { GlobalsFit (named_types types.old) (map global_of globals.now) }
-    ensures words { IfOk result (λ v. v.items ≡ words_from (named_types types.old) 1 (map global_of globals.now)) }
-    ensures items { types.new.items ≡ types.old.items }
+    requires { GlobalsFit (named_types types.now) (map global_of globals.now) }
+    ensures words { IfOk result (λ v. v.items ≡ words_from (named_types types.now) 1 (map global_of globals.now)) }
 {
     let mut words = Vec::new(alloc);
     let mut start = 1;
     for global in globals {
-        let number = types.number(&global.ty)?;
-        let size = size_or_none(types, number);
+        let mut known = KnownTypes::new(&*types);
+        let number = known.number(&global.ty)?;
+        let size = size_or_none(&known, number);
         let word = word_from(start, size);
         words.push(word)?;
         start = start + granules_for(size);
@@ -73,13 +73,12 @@ fn global_words(
 /// The globals of a module, whose types and constants keep within the limits of sizes.
 pub fn index_globals<'a>(
     alloc: Global,
-    types: &mut TypeNumbers<'_>,
+    types: &TypeNumbers<'_>,
     tree: &'a Module,
 ) -> Result<Globals<'a>, AllocError>
-    requires items { types.old.items ≡ tree.now.types.items }
+    requires items { types.now.items ≡ tree.now.types.items }
     requires fits { GlobalsFit (tree_of tree.now).types (tree_of tree.now).globals }
     ensures same { IfOk result (λ g. g.symbols.tree.now ≡ tree.now) }
-    ensures items { types.new.items ≡ types.old.items }
 {
     let symbols = index_symbols(alloc, tree)?;
     let words = global_words(alloc, types, tree.globals.as_slice())?;

@@ -20,7 +20,7 @@ use crate::fields::{Field, field_chosen, fields_of, size_of, size_or_none};
 use pg_ast::TypeNode;
 use pg_ir::Scale;
 use pg_num::move_by;
-use pg_types::{Shape, TypeNumbers};
+use pg_types::{KnownTypes, Shape, TypeNumbers};
 use std::alloc::{AllocError, Global};
 
 /// How an index moves a pointer, and the number of the type to which it goes.
@@ -49,7 +49,7 @@ fn field_step(field: Option<Field>) -> IndexStep
 /// How an index moves within a structure.
 fn step_into_fields(
     alloc: Global,
-    types: &TypeNumbers<'_>,
+    types: &KnownTypes<'_>,
     number: usize,
     index: Option<i64>,
 ) -> Result<IndexStep, AllocError>
@@ -64,7 +64,7 @@ fn step_into_fields(
 }
 
 /// How an index moves by whole elements.
-fn step_into_elements(types: &TypeNumbers<'_>, element: usize) -> IndexStep
+fn step_into_elements(types: &KnownTypes<'_>, element: usize) -> IndexStep
     requires within { element < length (table_of types.now) }
     requires fits { size_of (type_at (table_of types.now) element) ≤ SIZE_LIMIT }
     ensures scale { result.scale ≡ scales.Times (size_of (type_at (table_of types.now) element)) }
@@ -80,7 +80,7 @@ fn step_into_elements(types: &TypeNumbers<'_>, element: usize) -> IndexStep
 /// How an index moves within a type.
 fn step(
     alloc: Global,
-    types: &TypeNumbers<'_>,
+    types: &KnownTypes<'_>,
     number: Option<usize>,
     index: Option<i64>,
 ) -> Result<IndexStep, AllocError>
@@ -108,7 +108,7 @@ fn step(
 /// How indices move within a type, one after the other.
 fn scales_within(
     alloc: Global,
-    types: &TypeNumbers<'_>,
+    types: &KnownTypes<'_>,
     number: Option<usize>,
     indices: &[Option<i64>],
 ) -> Result<Vec<Scale>, AllocError>
@@ -130,20 +130,20 @@ fn scales_within(
 /// others within it.
 pub fn index_scales(
     alloc: Global,
-    types: &mut TypeNumbers<'_>,
+    types: &TypeNumbers<'_>,
     ty: &TypeNode,
     indices: &[Option<i64>],
 ) -> Result<Vec<Scale>, AllocError>
-    requires { TypeFits (named_types types.old) (ty_of ty.now) }
-    ensures scales { IfOk result (λ v. v.items ≡ scales_of (resolved (named_types types.old) (ty_of ty.now)) indices.now) }
-    ensures items { types.new.items ≡ types.old.items }
+    requires { TypeFits (named_types types.now) (ty_of ty.now) }
+    ensures scales { IfOk result (λ v. v.items ≡ scales_of (resolved (named_types types.now) (ty_of ty.now)) indices.now) }
 {
-    let number = types.number(ty)?;
+    let mut known = KnownTypes::new(types);
+    let number = known.number(ty)?;
     match indices {
         [] => Ok(Vec::new(alloc)),
         [_, others @ ..] => {
-            let size = size_or_none(types, number);
-            let mut scales = scales_within(alloc, types, number, others)?;
+            let size = size_or_none(&known, number);
+            let mut scales = scales_within(alloc, &known, number, others)?;
             scales.insert(0, Scale::Times(size as u64))?;
             Ok(scales)
         }

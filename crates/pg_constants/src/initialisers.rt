@@ -20,24 +20,23 @@ use crate::fields::{Field, fields_of, size_of};
 use crate::globals::Globals;
 use pg_ast::{ConstNode, TypedConst, ValNode};
 use pg_rules::constant_number;
-use pg_types::{Shape, TypeKind, TypeNumbers, bytes_of, round_up};
+use pg_types::{KnownTypes, Shape, TypeKind, TypeNumbers, bytes_of, round_up};
 use std::alloc::{AllocError, Global};
 
 /// Adds the bytes of a value of a kind of type, which has a size.
 fn add_of_kind(
     alloc: Global,
     globals: &Globals<'_>,
-    types: &mut TypeNumbers<'_>,
+    types: &TypeNumbers<'_>,
     bytes: &mut Vec<u8>,
     kind: TypeKind,
     size: u32,
     value: &ValNode,
 ) -> Result<(), AllocError>
-    requires items { types.old.items ≡ globals.now.symbols.tree.now.types.items }
+    requires items { types.now.items ≡ globals.now.symbols.tree.now.types.items }
     requires fits { ValFits (tree_of globals.now.symbols.tree.now).types (val_of value.now) }
     ensures bytes { OnOk result (bytes.new.items ≡ bytes.old.items
         ++ kind_bytes (tree_of globals.now.symbols.tree.now) kind size (val_of value.now)) }
-    ensures items { types.new.items ≡ types.old.items }
 {
     match kind {
         TypeKind::Integer(width) => {
@@ -57,19 +56,18 @@ fn add_of_kind(
 fn add_value(
     alloc: Global,
     globals: &Globals<'_>,
-    known: &TypeNumbers<'_>,
-    types: &mut TypeNumbers<'_>,
+    known: &KnownTypes<'_>,
+    types: &TypeNumbers<'_>,
     bytes: &mut Vec<u8>,
     number: usize,
     value: &ValNode,
 ) -> Result<(), AllocError>
-    requires items { types.old.items ≡ globals.now.symbols.tree.now.types.items }
+    requires items { types.now.items ≡ globals.now.symbols.tree.now.types.items }
     requires within { number < length (table_of known.now) }
     requires size { size_of (type_at (table_of known.now) number) ≤ SIZE_LIMIT }
     requires fits { ValFits (tree_of globals.now.symbols.tree.now).types (val_of value.now) }
     ensures bytes { OnOk result (bytes.new.items ≡ bytes.old.items
         ++ value_bytes (tree_of globals.now.symbols.tree.now) (type_at (table_of known.now) number) (val_of value.now)) }
-    ensures items { types.new.items ≡ types.old.items }
 {
     let kind = known.kind_of_number(number);
     let size = size_of(known, number);
@@ -77,7 +75,7 @@ fn add_value(
 }
 
 /// The number of the type of an array's elements; none of another type.
-fn element_number(known: &TypeNumbers<'_>, number: usize) -> Option<usize>
+fn element_number(known: &KnownTypes<'_>, number: usize) -> Option<usize>
     requires { number < length (table_of known.now) }
     ensures within { IsWithin (table_of known.now) result }
     ensures element { denoted (table_of known.now) result ≡ element_of (Some (type_at (table_of known.now) number)) }
@@ -116,7 +114,7 @@ fn missing(size: u32, end: usize, start: usize) -> u32
 
 /// Adds the zeros before a field, where there are `at` bytes of its structure, and gives where the field ends.
 fn add_padding(
-    known: &TypeNumbers<'_>,
+    known: &KnownTypes<'_>,
     bytes: &mut Vec<u8>,
     at: u32,
     number: usize,
@@ -142,7 +140,7 @@ fn field_in(fields: &[Field], place: usize) -> Option<Field>
 }
 
 /// The field at a place of a structure, whose fields these are.
-fn field_at(known: &TypeNumbers<'_>, number: usize, fields: &[Field], place: usize) -> Option<Field>
+fn field_at(known: &KnownTypes<'_>, number: usize, fields: &[Field], place: usize) -> Option<Field>
     requires { AreFields (table_of known.now) (type_at (table_of known.now) number) fields.now }
     ensures within { IfSome result (λ f. f.number < length (table_of known.now)) }
     ensures field { IfSome result (IsFieldAt (table_of known.now) (field_list (type_at (table_of known.now) number)) place) }
@@ -157,19 +155,18 @@ fn field_at(known: &TypeNumbers<'_>, number: usize, fields: &[Field], place: usi
 pub(crate) fn add_const(
     alloc: Global,
     globals: &Globals<'_>,
-    known: &TypeNumbers<'_>,
-    types: &mut TypeNumbers<'_>,
+    known: &KnownTypes<'_>,
+    types: &TypeNumbers<'_>,
     bytes: &mut Vec<u8>,
     number: usize,
     value: &ConstNode,
 ) -> Result<(), AllocError>
-    requires items { types.old.items ≡ globals.now.symbols.tree.now.types.items }
+    requires items { types.now.items ≡ globals.now.symbols.tree.now.types.items }
     requires within { number < length (table_of known.now) }
     requires ty { AllFit (type_at (table_of known.now) number) }
     requires fits { ConstFits (tree_of globals.now.symbols.tree.now).types (const_of value.now) }
     ensures bytes { OnOk result (bytes.new.items ≡ bytes.old.items
         ++ const_bytes (tree_of globals.now.symbols.tree.now) (type_at (table_of known.now) number) (const_of value.now)) }
-    ensures items { types.new.items ≡ types.old.items }
 {
     match value {
         ConstNode::Val(value) => add_value(alloc, globals, known, types, bytes, number, value),
@@ -210,19 +207,18 @@ pub(crate) fn add_const(
 fn add_part(
     alloc: Global,
     globals: &Globals<'_>,
-    known: &TypeNumbers<'_>,
-    types: &mut TypeNumbers<'_>,
+    known: &KnownTypes<'_>,
+    types: &TypeNumbers<'_>,
     bytes: &mut Vec<u8>,
     number: usize,
     part: &TypedConst,
 ) -> Result<(), AllocError>
-    requires items { types.old.items ≡ globals.now.symbols.tree.now.types.items }
+    requires items { types.now.items ≡ globals.now.symbols.tree.now.types.items }
     requires within { number < length (table_of known.now) }
     requires ty { AllFit (type_at (table_of known.now) number) }
     requires fits { ConstFits (tree_of globals.now.symbols.tree.now).types (typed_const_of part.now).value }
     ensures bytes { OnOk result (bytes.new.items ≡ bytes.old.items
         ++ const_bytes (tree_of globals.now.symbols.tree.now) (type_at (table_of known.now) number) (typed_const_of part.now).value) }
-    ensures items { types.new.items ≡ types.old.items }
 {
     add_const(alloc, globals, known, types, bytes, number, &part.value)
 }
@@ -232,19 +228,18 @@ fn add_part(
 fn add_elements(
     alloc: Global,
     globals: &Globals<'_>,
-    known: &TypeNumbers<'_>,
-    types: &mut TypeNumbers<'_>,
+    known: &KnownTypes<'_>,
+    types: &TypeNumbers<'_>,
     bytes: &mut Vec<u8>,
     element: usize,
     parts: &[TypedConst],
 ) -> Result<(), AllocError>
-    requires items { types.old.items ≡ globals.now.symbols.tree.now.types.items }
+    requires items { types.now.items ≡ globals.now.symbols.tree.now.types.items }
     requires within { element < length (table_of known.now) }
     requires ty { AllFit (type_at (table_of known.now) element) }
     requires fits { PartsFit (tree_of globals.now.symbols.tree.now).types (consts (map typed_const_of parts.now)) }
     ensures bytes { OnOk result (bytes.new.items ≡ bytes.old.items
         ++ element_bytes (tree_of globals.now.symbols.tree.now) (type_at (table_of known.now) element) (consts (map typed_const_of parts.now))) }
-    ensures items { types.new.items ≡ types.old.items }
 {
     for part in parts {
         add_part(alloc, globals, known, types, bytes, element, part)?;
@@ -257,19 +252,18 @@ fn add_elements(
 fn add_fields(
     alloc: Global,
     globals: &Globals<'_>,
-    known: &TypeNumbers<'_>,
-    types: &mut TypeNumbers<'_>,
+    known: &KnownTypes<'_>,
+    types: &TypeNumbers<'_>,
     bytes: &mut Vec<u8>,
     number: usize,
     parts: &[TypedConst],
 ) -> Result<(), AllocError>
-    requires items { types.old.items ≡ globals.now.symbols.tree.now.types.items }
+    requires items { types.now.items ≡ globals.now.symbols.tree.now.types.items }
     requires within { number < length (table_of known.now) }
     requires ty { AllFit (type_at (table_of known.now) number) }
     requires fits { PartsFit (tree_of globals.now.symbols.tree.now).types (consts (map typed_const_of parts.now)) }
     ensures bytes { OnOk result (bytes.new.items ≡ bytes.old.items
         ++ field_bytes (tree_of globals.now.symbols.tree.now) 0 (field_list (type_at (table_of known.now) number)) (consts (map typed_const_of parts.now))) }
-    ensures items { types.new.items ≡ types.old.items }
 {
     let fields = fields_of(alloc, known, number)?;
     let mut at = 0;

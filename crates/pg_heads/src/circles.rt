@@ -298,9 +298,8 @@ fn circles_in(
 }
 
 /// Whether what is written is a type.
-fn is_type(types: &mut TypeNumbers<'_>, ty: &TypeNode) -> Result<bool, AllocError>
-    ensures same { IfOk result (λ b. b ≡ is_some (resolved (named_types types.old) (ty_of ty.now))) }
-    ensures items { types.new.items ≡ types.old.items }
+fn is_type(types: &TypeNumbers<'_>, ty: &TypeNode) -> Result<bool, AllocError>
+    ensures same { IfOk result (λ b. b ≡ is_some (resolved (named_types types.now) (ty_of ty.now))) }
 {
     let kind = types.kind(ty)?;
     Ok(kind.is_some())
@@ -310,7 +309,7 @@ fn is_type(types: &mut TypeNumbers<'_>, ty: &TypeNode) -> Result<bool, AllocErro
 /// item of a name contains itself in no type that is one.
 pub(crate) fn self_contained(
     alloc: Global,
-    types: &mut TypeNumbers<'_>,
+    types: &TypeNumbers<'_>,
     places: &IndexMap<&[u8], usize>,
     items: &[TypeItem],
     ranks: &[usize],
@@ -321,10 +320,9 @@ pub(crate) fn self_contained(
     requires known { (text : List ℕ) → known_place places.now text ≡ place_of (map type_item_of items.now) text }
     requires fall { Fall (next_places (map type_item_of items.now)) ranks.now }
     requires at { slice_get (map type_item_of items.now) place ≡ Some (type_item_of item.now) }
-    requires items { types.old.items ≡ items.now }
+    requires items { types.now.items ≡ items.now }
     ensures first { (p : RefusedPlaces) → IsFirstIn p known →
         IfOk result (λ o. IsFirstIn (joined p (only WrongType (self_contained (map type_item_of items.now) (type_item_of item.now)))) o) }
-    ensures items { types.new.items ≡ types.old.items }
 {
     match place_of_name(places, item.name.text.as_slice()) {
         Some(target) => {

@@ -59,26 +59,23 @@ fn isnt_returnable(kind: Option<TypeKind>) -> bool
     }
 }
 
-fn wrong_result(types: &mut TypeNumbers<'_>, ty: &TypeNode) -> Result<bool, AllocError>
-    ensures same { IfOk result (λ b. b ≡ fails is_returnable (resolved (named_types types.old) (ty_of ty.now))) }
-    ensures items { types.new.items ≡ types.old.items }
+fn wrong_result(types: &TypeNumbers<'_>, ty: &TypeNode) -> Result<bool, AllocError>
+    ensures same { IfOk result (λ b. b ≡ fails is_returnable (resolved (named_types types.now) (ty_of ty.now))) }
 {
     let kind = types.kind(ty)?;
     Ok(isnt_returnable(kind))
 }
 
-fn wrong_param(types: &mut TypeNumbers<'_>, param: &ParamNode) -> Result<bool, AllocError>
-    ensures same { IfOk result (λ b. b ≡ is_wrong_param (named_types types.old) (param_of param.now)) }
-    ensures items { types.new.items ≡ types.old.items }
+fn wrong_param(types: &TypeNumbers<'_>, param: &ParamNode) -> Result<bool, AllocError>
+    ensures same { IfOk result (λ b. b ≡ is_wrong_param (named_types types.now) (param_of param.now)) }
 {
     let kind = types.kind(&param.ty)?;
     Ok(isnt_scalar(kind))
 }
 
 /// Whether a parameter isn't a scalar.
-fn wrong_params(types: &mut TypeNumbers<'_>, params: &[ParamNode]) -> Result<bool, AllocError>
-    ensures same { IfOk result (λ b. b ≡ list_any (is_wrong_param (named_types types.old)) (map param_of params.now)) }
-    ensures items { types.new.items ≡ types.old.items }
+fn wrong_params(types: &TypeNumbers<'_>, params: &[ParamNode]) -> Result<bool, AllocError>
+    ensures same { IfOk result (λ b. b ≡ list_any (is_wrong_param (named_types types.now)) (map param_of params.now)) }
 {
     for param in params {
         if wrong_param(types, param)? {
@@ -89,9 +86,8 @@ fn wrong_params(types: &mut TypeNumbers<'_>, params: &[ParamNode]) -> Result<boo
 }
 
 /// Whether a function that is defined has a parameter or a result that isn't one.
-fn wrong_definition(types: &mut TypeNumbers<'_>, item: &DefineItem) -> Result<bool, AllocError>
-    ensures same { IfOk result (λ b. b ≡ wrong_definition (named_types types.old) (define_of item.now)) }
-    ensures items { types.new.items ≡ types.old.items }
+fn wrong_definition(types: &TypeNumbers<'_>, item: &DefineItem) -> Result<bool, AllocError>
+    ensures same { IfOk result (λ b. b ≡ wrong_definition (named_types types.now) (define_of item.now)) }
 {
     if wrong_result(types, &item.result)? {
         Ok(true)
@@ -107,9 +103,8 @@ fn has_no_params(params: &[ParamNode]) -> bool
 }
 
 /// Whether the head of a function that is defined is that of `main`.
-fn has_main_header(types: &mut TypeNumbers<'_>, item: &DefineItem) -> Result<bool, AllocError>
-    ensures same { IfOk result (λ b. b ≡ has_header (named_types types.old) [] (Some (Int W32)) (definition_header (define_of item.now))) }
-    ensures items { types.new.items ≡ types.old.items }
+fn has_main_header(types: &TypeNumbers<'_>, item: &DefineItem) -> Result<bool, AllocError>
+    ensures same { IfOk result (λ b. b ≡ has_header (named_types types.now) [] (Some (Int W32)) (definition_header (define_of item.now))) }
 {
     if is_result(types, Some(Scalar::Int(Width::W32)), &item.result)? {
         Ok(has_no_params(item.params.as_slice()))
@@ -120,13 +115,12 @@ fn has_main_header(types: &mut TypeNumbers<'_>, item: &DefineItem) -> Result<boo
 
 /// Whether the head of a function that is defined, whose types these are, is other than that of `main`.
 fn has_other_header(
-    types: &mut TypeNumbers<'_>,
+    types: &TypeNumbers<'_>,
     item: &DefineItem,
     head: &[&TypeNode],
 ) -> Result<bool, AllocError>
     requires { tys_behind head.now ≡ head_types (definition_header (define_of item.now)) }
-    ensures same { IfOk result (λ b. b ≡ has_other_header (named_types types.old) [] (Some (Int W32)) (definition_header (define_of item.now))) }
-    ensures items { types.new.items ≡ types.old.items }
+    ensures same { IfOk result (λ b. b ≡ has_other_header (named_types types.now) [] (Some (Int W32)) (definition_header (define_of item.now))) }
 {
     if are_types(types, head)? {
         let same = has_main_header(types, item)?;
@@ -138,13 +132,12 @@ fn has_other_header(
 
 /// Whether a function that is defined is called `main` and has other types than that.
 fn wrong_main(
-    types: &mut TypeNumbers<'_>,
+    types: &TypeNumbers<'_>,
     item: &DefineItem,
     head: &[&TypeNode],
 ) -> Result<bool, AllocError>
     requires { tys_behind head.now ≡ head_types (definition_header (define_of item.now)) }
-    ensures same { IfOk result (λ b. b ≡ wrong_main (named_types types.old) item.now.name.text (definition_header (define_of item.now))) }
-    ensures items { types.new.items ≡ types.old.items }
+    ensures same { IfOk result (λ b. b ≡ wrong_main (named_types types.now) item.now.name.text (definition_header (define_of item.now))) }
 {
     if is_main(item.name.text.as_slice()) {
         has_other_header(types, item, head)
@@ -155,14 +148,13 @@ fn wrong_main(
 
 /// Whether a function that is defined has types or a name that it may not have.
 fn wrong_signature(
-    types: &mut TypeNumbers<'_>,
+    types: &TypeNumbers<'_>,
     item: &DefineItem,
     head: &[&TypeNode],
 ) -> Result<bool, AllocError>
     requires { tys_behind head.now ≡ head_types (definition_header (define_of item.now)) }
-    ensures same { IfOk result (λ b. b ≡ (is_some (known_named item.now.name.text) || wrong_main (named_types types.old) item.now.name.text (definition_header (define_of item.now))
-        || wrong_definition (named_types types.old) (define_of item.now))) }
-    ensures items { types.new.items ≡ types.old.items }
+    ensures same { IfOk result (λ b. b ≡ (is_some (known_named item.now.name.text) || wrong_main (named_types types.now) item.now.name.text (definition_header (define_of item.now))
+        || wrong_definition (named_types types.now) (define_of item.now))) }
 {
     if known_named(item.name.text.as_slice()).is_some() {
         return Ok(true);
@@ -225,14 +217,13 @@ fn either(one: bool, other: bool) -> bool
 /// The first refusal of the head of a function that is defined.
 pub(crate) fn definition_refusal(
     alloc: Global,
-    types: &mut TypeNumbers<'_>,
+    types: &TypeNumbers<'_>,
     starts: &IndexMap<&[u8], u32>,
     number: usize,
     item: &DefineItem,
 ) -> Result<Option<CheckRefusal>, AllocError>
-    ensures first { (m : Tree) → m.types ≡ named_types types.old → ((text : List ℕ) → known_place starts.now text ≡ first_start (symbol_names m) text) →
+    ensures first { (m : Tree) → m.types ≡ named_types types.now → ((text : List ℕ) → known_place starts.now text ≡ first_start (symbol_names m) text) →
         IfOk result (λ o. IsFirstIn (definition_refused m (number, numbered m.types (define_of item.now))) o) }
-    ensures items { types.new.items ≡ types.old.items }
 {
     let head = definition_types(alloc, item)?;
     let within = all_within(alloc, head.as_slice())?;

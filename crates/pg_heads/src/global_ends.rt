@@ -14,7 +14,7 @@ ghost use Rattle.pg_heads.specs.Ends.{ended};
 
 use pg_ast::TypeNode;
 use pg_num::layout::GLOBALS_END;
-use pg_types::TypeNumbers;
+use pg_types::{KnownTypes, TypeNumbers};
 use std::alloc::AllocError;
 
 /// The granules that a global of a size takes, as they are kept.
@@ -26,7 +26,7 @@ fn granules_for(size: u32) -> u32
 }
 
 /// The granules that a global of the type of a number takes, as they are kept.
-fn granules_of_type(types: &TypeNumbers<'_>, number: usize) -> u32
+fn granules_of_type(types: &KnownTypes<'_>, number: usize) -> u32
     requires { number < length (table_of types.now) }
     ensures { result ≡ ended (granules_for (size_of (type_at (table_of types.now) number))) }
 {
@@ -34,7 +34,7 @@ fn granules_of_type(types: &TypeNumbers<'_>, number: usize) -> u32
 }
 
 /// The granules that a global of the type of a number takes, and those of nothing where there is no number.
-fn granules_of_number(types: &TypeNumbers<'_>, number: Option<usize>) -> u32
+fn granules_of_number(types: &KnownTypes<'_>, number: Option<usize>) -> u32
     requires { IsWithin (table_of types.now) number }
     ensures { result ≡ ended (granules_for (size_or_none (denoted (table_of types.now) number))) }
 {
@@ -45,12 +45,12 @@ fn granules_of_number(types: &TypeNumbers<'_>, number: Option<usize>) -> u32
 }
 
 /// The granules that a global of a type takes, or one more than the globals may take if it takes more than that.
-fn granules(types: &mut TypeNumbers<'_>, ty: &TypeNode) -> Result<u32, AllocError>
-    ensures count { IfOk result (λ n. n ≡ ended (granules_for (size_or_none (resolved (named_types types.old) (ty_of ty.now))))) }
-    ensures items { types.new.items ≡ types.old.items }
+fn granules(types: &TypeNumbers<'_>, ty: &TypeNode) -> Result<u32, AllocError>
+    ensures count { IfOk result (λ n. n ≡ ended (granules_for (size_or_none (resolved (named_types types.now) (ty_of ty.now))))) }
 {
-    let number = types.number(ty)?;
-    Ok(granules_of_number(types, number))
+    let mut known = KnownTypes::new(types);
+    let number = known.number(ty)?;
+    Ok(granules_of_number(&known, number))
 }
 
 fn sum_of(one: u32, other: u32) -> u32
@@ -64,13 +64,12 @@ fn sum_of(one: u32, other: u32) -> u32
 /// Where a global of a type ends that begins at a granule, or the first granule at which none may end if it ends behind
 /// that.
 pub(crate) fn end_after(
-    types: &mut TypeNumbers<'_>,
+    types: &TypeNumbers<'_>,
     start: u32,
     ty: &TypeNode,
 ) -> Result<u32, AllocError>
     requires { start ≤ GLOBALS_END + 1 }
-    ensures count { IfOk result (λ n. n ≡ ended (start + granules_for (size_or_none (resolved (named_types types.old) (ty_of ty.now))))) }
-    ensures items { types.new.items ≡ types.old.items }
+    ensures count { IfOk result (λ n. n ≡ ended (start + granules_for (size_or_none (resolved (named_types types.now) (ty_of ty.now))))) }
 {
     let size = granules(types, ty)?;
     Ok(sum_of(start, size))

@@ -75,7 +75,7 @@ fn types_of<'a>(
 /// The earliest place at which a global's types or its initialiser don't fit.
 fn wrong_places(
     alloc: Global,
-    types: &mut TypeNumbers<'_>,
+    types: &TypeNumbers<'_>,
     scope: &ValueScope<'_>,
     item: &GlobalItem,
     within: &[&TypeNode],
@@ -83,9 +83,8 @@ fn wrong_places(
 ) -> Result<Option<Span>, AllocError>
     requires within { tys_behind within.now ≡ flat_map types_within (global_types (global_of item.now)) }
     requires uses { uses_behind uses.now ≡ const_uses (ty_of item.now.ty) (const_of item.now.value) }
-    ensures place { (m : Tree) (n : ℕ) → IsScope scope.now (outside m) → m.types ≡ named_types types.old →
+    ensures place { (m : Tree) (n : ℕ) → IsScope scope.now (outside m) → m.types ≡ named_types types.now →
         IfOk result (λ o. o ≡ earliest (global_refused m (n, global_of item.now) WrongType)) }
-    ensures items { types.new.items ≡ types.old.items }
 {
     let written = wrong_types(types, within)?;
     let own = unmet(types, TypeTest::NotVoid, &item.ty)?;
@@ -97,18 +96,17 @@ fn wrong_places(
 /// The first refusal of a global, where it is known whether it ends where none may.
 fn global_refusal(
     alloc: Global,
-    types: &mut TypeNumbers<'_>,
+    types: &TypeNumbers<'_>,
     scope: &ValueScope<'_>,
     starts: &IndexMap<&[u8], u32>,
     number: usize,
     item: &GlobalItem,
     past_end: bool,
 ) -> Result<Option<CheckRefusal>, AllocError>
-    ensures first { (m : Tree) → IsScope scope.now (outside m) → m.types ≡ named_types types.old →
+    ensures first { (m : Tree) → IsScope scope.now (outside m) → m.types ≡ named_types types.now →
         past_end ≡ nat_lt GLOBALS_END (globals_end m.types (take (number + 1) m.globals)) →
         ((text : List ℕ) → known_place starts.now text ≡ first_start (symbol_names m) text) →
         IfOk result (λ o. IsFirstIn (global_refused m (number, global_of item.now)) o) }
-    ensures items { types.new.items ≡ types.old.items }
 {
     let uses = uses_of(alloc, item)?;
     let written = types_of(alloc, item, uses.as_slice())?;
@@ -137,15 +135,14 @@ fn global_refusal(
 /// The first refusal of globals, over what their initialisers are looked up in.
 fn refusal_over(
     alloc: Global,
-    types: &mut TypeNumbers<'_>,
+    types: &TypeNumbers<'_>,
     scope: &ValueScope<'_>,
     starts: &IndexMap<&[u8], u32>,
     items: &[GlobalItem],
 ) -> Result<Option<CheckRefusal>, AllocError>
-    ensures first { (m : Tree) → IsScope scope.now (outside m) → m.types ≡ named_types types.old → m.globals ≡ map global_of items.now →
+    ensures first { (m : Tree) → IsScope scope.now (outside m) → m.types ≡ named_types types.now → m.globals ≡ map global_of items.now →
         ((text : List ℕ) → known_place starts.now text ≡ first_start (symbol_names m) text) →
         IfOk result (λ o. IsFirstIn (all_of (global_refused m) (enumerate_from 0 (map global_of items.now))) o) }
-    ensures items { types.new.items ≡ types.old.items }
 {
     let mut found = None;
     let mut end = 1;
@@ -161,14 +158,13 @@ fn refusal_over(
 /// The first refusal of the globals of a module.
 pub fn globals_refusal(
     alloc: Global,
-    types: &mut TypeNumbers<'_>,
+    types: &TypeNumbers<'_>,
     symbols: &Symbols<'_>,
     starts: &IndexMap<&[u8], u32>,
 ) -> Result<Option<CheckRefusal>, AllocError>
-    requires { types.old.items ≡ symbols.now.tree.now.types.items }
+    requires { types.now.items ≡ symbols.now.tree.now.types.items }
     ensures first { ((text : List ℕ) → known_place starts.now text ≡ first_start (symbol_names (tree_of symbols.now.tree.now)) text) →
         IfOk result (λ o. IsFirstIn (all_of (global_refused (tree_of symbols.now.tree.now)) (enumerate_from 0 (tree_of symbols.now.tree.now).globals)) o) }
-    ensures items { types.new.items ≡ types.old.items }
 {
     let registers = IndexMap::new(alloc);
     let scope = ValueScope {

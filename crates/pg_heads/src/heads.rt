@@ -70,13 +70,12 @@ fn declaration_types<'a>(
 
 /// Whether the head of a declared function has just these types.
 fn has_header(
-    types: &mut TypeNumbers<'_>,
+    types: &TypeNumbers<'_>,
     scalars: &[Scalar],
     returned: Option<Scalar>,
     item: &DeclareItem,
 ) -> Result<bool, AllocError>
-    ensures same { IfOk result (λ b. b ≡ has_header (named_types types.old) scalars.now returned (declaration_header (declare_of item.now))) }
-    ensures items { types.new.items ≡ types.old.items }
+    ensures same { IfOk result (λ b. b ≡ has_header (named_types types.now) scalars.now returned (declaration_header (declare_of item.now))) }
 {
     if is_result(types, returned, &item.result)? {
         are_params(types, scalars, item.params.as_slice())
@@ -94,15 +93,14 @@ fn types_exist(types: &TypeNumbers<'_>, within: &[&TypeNode]) -> bool
 
 /// Whether the types of the head of a declared function, which with those within them are these, exist and are others.
 fn declares_other(
-    types: &mut TypeNumbers<'_>,
+    types: &TypeNumbers<'_>,
     scalars: &[Scalar],
     returned: Option<Scalar>,
     item: &DeclareItem,
     within: &[&TypeNode],
 ) -> Result<bool, AllocError>
     requires { tys_behind within.now ≡ flat_map types_within (head_types (declaration_header (declare_of item.now))) }
-    ensures same { IfOk result (λ b. b ≡ declares_other (named_types types.old) scalars.now returned (declaration_header (declare_of item.now))) }
-    ensures items { types.new.items ≡ types.old.items }
+    ensures same { IfOk result (λ b. b ≡ declares_other (named_types types.now) scalars.now returned (declaration_header (declare_of item.now))) }
 {
     if types_exist(types, within) {
         let same = has_header(types, scalars, returned, item)?;
@@ -121,13 +119,12 @@ pub(crate) fn is_main(text: &[u8]) -> bool
 
 /// Whether a declared function is called `main` and has other types than that.
 fn declares_other_main(
-    types: &mut TypeNumbers<'_>,
+    types: &TypeNumbers<'_>,
     item: &DeclareItem,
     within: &[&TypeNode],
 ) -> Result<bool, AllocError>
     requires { tys_behind within.now ≡ flat_map types_within (head_types (declaration_header (declare_of item.now))) }
-    ensures same { IfOk result (λ b. b ≡ declares_other_main (named_types types.old) item.now.name.text (declaration_header (declare_of item.now))) }
-    ensures items { types.new.items ≡ types.old.items }
+    ensures same { IfOk result (λ b. b ≡ declares_other_main (named_types types.now) item.now.name.text (declaration_header (declare_of item.now))) }
 {
     if is_main(item.name.text.as_slice()) {
         declares_other(types, &[], Some(Scalar::Int(Width::W32)), item, within)
@@ -138,14 +135,13 @@ fn declares_other_main(
 
 /// Whether a declared function is known and has other types than the known one.
 fn declares_other_known(
-    types: &mut TypeNumbers<'_>,
+    types: &TypeNumbers<'_>,
     known: Option<Known>,
     item: &DeclareItem,
     within: &[&TypeNode],
 ) -> Result<bool, AllocError>
     requires { tys_behind within.now ≡ flat_map types_within (head_types (declaration_header (declare_of item.now))) }
-    ensures same { IfOk result (λ b. b ≡ declares_other_known (named_types types.old) known (declaration_header (declare_of item.now))) }
-    ensures items { types.new.items ≡ types.old.items }
+    ensures same { IfOk result (λ b. b ≡ declares_other_known (named_types types.now) known (declaration_header (declare_of item.now))) }
 {
     match known {
         Some(function) => declares_other(
@@ -161,14 +157,13 @@ fn declares_other_known(
 
 /// Whether a declared function has types that its name may not have.
 fn wrong_signature(
-    types: &mut TypeNumbers<'_>,
+    types: &TypeNumbers<'_>,
     item: &DeclareItem,
     within: &[&TypeNode],
 ) -> Result<bool, AllocError>
     requires { tys_behind within.now ≡ flat_map types_within (head_types (declaration_header (declare_of item.now))) }
-    ensures same { IfOk result (λ b. b ≡ (declares_other_known (named_types types.old) (known_named item.now.name.text) (declaration_header (declare_of item.now))
-        || declares_other_main (named_types types.old) item.now.name.text (declaration_header (declare_of item.now)))) }
-    ensures items { types.new.items ≡ types.old.items }
+    ensures same { IfOk result (λ b. b ≡ (declares_other_known (named_types types.now) (known_named item.now.name.text) (declaration_header (declare_of item.now))
+        || declares_other_main (named_types types.now) item.now.name.text (declaration_header (declare_of item.now)))) }
 {
     let known = known_named(item.name.text.as_slice());
     if declares_other_known(types, known, item, within)? {
@@ -181,13 +176,12 @@ fn wrong_signature(
 /// The first refusal of a declared function.
 pub(crate) fn declaration_refusal(
     alloc: Global,
-    types: &mut TypeNumbers<'_>,
+    types: &TypeNumbers<'_>,
     starts: &IndexMap<&[u8], u32>,
     item: &DeclareItem,
 ) -> Result<Option<CheckRefusal>, AllocError>
-    ensures first { (m : Tree) → m.types ≡ named_types types.old → ((text : List ℕ) → known_place starts.now text ≡ first_start (symbol_names m) text) →
+    ensures first { (m : Tree) → m.types ≡ named_types types.now → ((text : List ℕ) → known_place starts.now text ≡ first_start (symbol_names m) text) →
         IfOk result (λ o. IsFirstIn (declaration_refused m (declare_of item.now)) o) }
-    ensures items { types.new.items ≡ types.old.items }
 {
     let head = declaration_types(alloc, item)?;
     let within = all_within(alloc, head.as_slice())?;

@@ -59,12 +59,11 @@ pub(crate) fn function_uses(scope: &ValueScope<'_>, uses: &[UseNode<'_>]) -> Opt
 pub(crate) fn wrong_uses(
     alloc: Global,
     scope: &ValueScope<'_>,
-    types: &mut TypeNumbers<'_>,
+    types: &TypeNumbers<'_>,
     uses: &[UseNode<'_>],
 ) -> Result<Option<Span>, AllocError>
-    ensures place { (g : Scope) → IsScope scope.now g → g.tree.types ≡ named_types types.old →
+    ensures place { (g : Scope) → IsScope scope.now g → g.tree.types ≡ named_types types.now →
         IfOk result (λ o. o ≡ earliest (flat_map (within_row (wrong_use g)) (uses_behind uses.now))) }
-    ensures items { types.new.items ≡ types.old.items }
 {
     let mut found = None;
     for one in uses {

@@ -23,13 +23,12 @@ use std::alloc::{AllocError, Global};
 /// The first refusal of declared functions.
 fn declarations_refusal(
     alloc: Global,
-    types: &mut TypeNumbers<'_>,
+    types: &TypeNumbers<'_>,
     starts: &IndexMap<&[u8], u32>,
     items: &[DeclareItem],
 ) -> Result<Option<CheckRefusal>, AllocError>
-    ensures first { (m : Tree) → m.types ≡ named_types types.old → ((text : List ℕ) → known_place starts.now text ≡ first_start (symbol_names m) text) →
+    ensures first { (m : Tree) → m.types ≡ named_types types.now → ((text : List ℕ) → known_place starts.now text ≡ first_start (symbol_names m) text) →
         IfOk result (λ o. IsFirstIn (all_of (declaration_refused m) (map declare_of items.now)) o) }
-    ensures items { types.new.items ≡ types.old.items }
 {
     let mut found = None;
     for item in items {
@@ -42,13 +41,12 @@ fn declarations_refusal(
 /// The first refusal of the heads of functions that are defined.
 fn definitions_refusal(
     alloc: Global,
-    types: &mut TypeNumbers<'_>,
+    types: &TypeNumbers<'_>,
     starts: &IndexMap<&[u8], u32>,
     items: &[DefineItem],
 ) -> Result<Option<CheckRefusal>, AllocError>
-    ensures first { (m : Tree) → m.types ≡ named_types types.old → ((text : List ℕ) → known_place starts.now text ≡ first_start (symbol_names m) text) →
+    ensures first { (m : Tree) → m.types ≡ named_types types.now → ((text : List ℕ) → known_place starts.now text ≡ first_start (symbol_names m) text) →
         IfOk result (λ o. IsFirstIn (all_of (definition_refused m) (enumerate_from 0 (map (λ d. numbered m.types (define_of d)) items.now))) o) }
-    ensures items { types.new.items ≡ types.old.items }
 {
     let mut found = None;
     for number in 0..items.len() {
@@ -61,13 +59,12 @@ fn definitions_refusal(
 /// The first refusal of the heads of a module's functions.
 pub fn heads_refusal(
     alloc: Global,
-    types: &mut TypeNumbers<'_>,
+    types: &TypeNumbers<'_>,
     starts: &IndexMap<&[u8], u32>,
     tree: &Module,
 ) -> Result<Option<CheckRefusal>, AllocError>
-    ensures first { (tree_of tree.now).types ≡ named_types types.old → ((text : List ℕ) → known_place starts.now text ≡ first_start (symbol_names (tree_of tree.now)) text) →
+    ensures first { (tree_of tree.now).types ≡ named_types types.now → ((text : List ℕ) → known_place starts.now text ≡ first_start (symbol_names (tree_of tree.now)) text) →
         IfOk result (λ o. IsFirstIn (heads_refused (tree_of tree.now)) o) }
-    ensures items { types.new.items ≡ types.old.items }
 {
     let declared = declarations_refusal(alloc, types, starts, tree.declares.as_slice())?;
     let defined = definitions_refusal(alloc, types, starts, tree.functions.as_slice())?;

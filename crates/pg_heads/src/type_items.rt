@@ -57,7 +57,7 @@ fn item_types<'a>(alloc: Global, item: &'a TypeItem) -> Result<Vec<&'a TypeNode>
 /// The first of the refusals of a type item and of the one that is known.
 fn item_refusal(
     alloc: Global,
-    types: &mut TypeNumbers<'_>,
+    types: &TypeNumbers<'_>,
     places: &IndexMap<&[u8], usize>,
     starts: &IndexMap<&[u8], u32>,
     items: &[TypeItem],
@@ -70,9 +70,8 @@ fn item_refusal(
     requires fall { Fall (next_places (map type_item_of items.now)) ranks.now }
     requires starts { (text : List ℕ) → known_place starts.now text ≡ first_start (type_names (map type_item_of items.now)) text }
     requires at { slice_get (map type_item_of items.now) place ≡ Some (type_item_of item.now) }
-    requires items { types.old.items ≡ items.now }
+    requires items { types.now.items ≡ items.now }
     ensures first { (p : RefusedPlaces) → IsFirstIn p known → IfOk result (λ o. IsFirstIn (joined p (item_refused (map type_item_of items.now) (type_item_of item.now))) o) }
-    ensures items { types.new.items ≡ types.old.items }
 {
     let within = item_types(alloc, item)?;
     let wrong = wrong_types(types, within.as_slice())?;
@@ -90,7 +89,7 @@ fn item_refusal(
 /// The first refusal of type items.
 fn items_refusal(
     alloc: Global,
-    types: &mut TypeNumbers<'_>,
+    types: &TypeNumbers<'_>,
     places: &IndexMap<&[u8], usize>,
     starts: &IndexMap<&[u8], u32>,
     items: &[TypeItem],
@@ -99,9 +98,8 @@ fn items_refusal(
     requires known { (text : List ℕ) → known_place places.now text ≡ place_of (map type_item_of items.now) text }
     requires fall { Fall (next_places (map type_item_of items.now)) ranks.now }
     requires starts { (text : List ℕ) → known_place starts.now text ≡ first_start (type_names (map type_item_of items.now)) text }
-    requires items { types.old.items ≡ items.now }
+    requires items { types.now.items ≡ items.now }
     ensures first { IfOk result (λ o. IsFirstIn (all_of (item_refused (map type_item_of items.now)) (map type_item_of items.now)) o) }
-    ensures items { types.new.items ≡ types.old.items }
 {
     let mut found = None;
     for place in 0..items.len() {
@@ -116,12 +114,11 @@ fn items_refusal(
 /// The first refusal of a module's type items.
 pub fn types_refusal(
     alloc: Global,
-    types: &mut TypeNumbers<'_>,
+    types: &TypeNumbers<'_>,
     tree: &Module,
 ) -> Result<Option<CheckRefusal>, AllocError>
-    requires { types.old.items ≡ tree.now.types.items }
+    requires { types.now.items ≡ tree.now.types.items }
     ensures first { IfOk result (λ o. IsFirstIn (all_of (item_refused (tree_of tree.now).types) (tree_of tree.now).types) o) }
-    ensures items { types.new.items ≡ types.old.items }
 {
     let items = tree.types.as_slice();
     let places = index_items(alloc, items)?;

@@ -19,7 +19,7 @@ use pg_ast::{ConstNode, Literal, TypeNode, TypedConst};
 use pg_lex::Span;
 use pg_num::Width;
 use pg_rules::{earlier, place_if, type_span};
-use pg_types::{Shape, TypeKind, TypeNumbers};
+use pg_types::{KnownTypes, Shape, TypeKind, TypeNumbers};
 use pg_values::fields_of;
 use std::alloc::{AllocError, Global};
 
@@ -34,7 +34,7 @@ fn fits_kind(kind: TypeKind, count: u64, bytes: &[u8]) -> bool
 }
 
 /// Whether bytes are of the type of a number.
-fn fits_bytes(types: &TypeNumbers<'_>, number: usize, bytes: &[u8]) -> bool
+fn fits_bytes(types: &KnownTypes<'_>, number: usize, bytes: &[u8]) -> bool
     requires { number < length (table_of types.now) }
     ensures { result ≡ fits_bytes (type_at (table_of types.now) number) bytes.now }
 {
@@ -45,7 +45,7 @@ fn fits_bytes(types: &TypeNumbers<'_>, number: usize, bytes: &[u8]) -> bool
 }
 
 /// Whether the type of a number is an array of so many elements.
-fn fits_elements(types: &TypeNumbers<'_>, number: usize, count: usize) -> bool
+fn fits_elements(types: &KnownTypes<'_>, number: usize, count: usize) -> bool
     requires { number < length (table_of types.now) }
     ensures { result ≡ fits_elements count (type_at (table_of types.now) number) }
 {
@@ -56,7 +56,7 @@ fn fits_elements(types: &TypeNumbers<'_>, number: usize, count: usize) -> bool
 }
 
 /// Whether the type of a number, whose fields these are, is a structure of so many fields.
-fn fits_fields(types: &TypeNumbers<'_>, number: usize, fields: &[usize], count: usize) -> bool
+fn fits_fields(types: &KnownTypes<'_>, number: usize, fields: &[usize], count: usize) -> bool
     requires within { number < length (table_of types.now) }
     requires fields { AreFields (table_of types.now) (type_at (table_of types.now) number) fields.now }
     ensures { result ≡ fits_fields count (type_at (table_of types.now) number) }
@@ -69,7 +69,7 @@ fn fits_fields(types: &TypeNumbers<'_>, number: usize, fields: &[usize], count: 
 }
 
 /// Bytes that aren't of their type.
-fn wrong_bytes(types: &TypeNumbers<'_>, number: Option<usize>, literal: &Literal) -> Option<Span>
+fn wrong_bytes(types: &KnownTypes<'_>, number: Option<usize>, literal: &Literal) -> Option<Span>
     requires { IsWithin (table_of types.now) number }
     ensures { result ≡ earliest (at_if (fails (λ u. fits_bytes u literal.now.text) (denoted (table_of types.now) number)) literal.now.span) }
 {
@@ -84,7 +84,7 @@ fn wrong_bytes(types: &TypeNumbers<'_>, number: Option<usize>, literal: &Literal
 
 /// An array that hasn't as many elements as its type.
 fn wrong_array(
-    types: &TypeNumbers<'_>,
+    types: &KnownTypes<'_>,
     number: Option<usize>,
     count: usize,
     span: Span,
@@ -103,7 +103,7 @@ fn wrong_array(
 
 /// A structure that hasn't as many fields as its type, whose fields these are.
 fn wrong_struct(
-    types: &TypeNumbers<'_>,
+    types: &KnownTypes<'_>,
     number: Option<usize>,
     fields: &[usize],
     count: usize,
@@ -123,7 +123,7 @@ fn wrong_struct(
 }
 
 /// The number of the type of an array's elements; none of another type.
-fn element_in(types: &TypeNumbers<'_>, number: usize) -> Option<usize>
+fn element_in(types: &KnownTypes<'_>, number: usize) -> Option<usize>
     requires { number < length (table_of types.now) }
     ensures within { IsWithin (table_of types.now) result }
     ensures element { denoted (table_of types.now) result ≡ element_of (Some (type_at (table_of types.now) number)) }
@@ -135,7 +135,7 @@ fn element_in(types: &TypeNumbers<'_>, number: usize) -> Option<usize>
 }
 
 /// The same where there may be no type.
-fn element_number(types: &TypeNumbers<'_>, number: Option<usize>) -> Option<usize>
+fn element_number(types: &KnownTypes<'_>, number: Option<usize>) -> Option<usize>
     requires { IsWithin (table_of types.now) number }
     ensures within { IsWithin (table_of types.now) result }
     ensures element { denoted (table_of types.now) result ≡ element_of (denoted (table_of types.now) number) }
@@ -149,7 +149,7 @@ fn element_number(types: &TypeNumbers<'_>, number: Option<usize>) -> Option<usiz
 /// The numbers of the types of a structure's fields; none of another type.
 fn field_numbers(
     alloc: Global,
-    types: &TypeNumbers<'_>,
+    types: &KnownTypes<'_>,
     number: Option<usize>,
 ) -> Result<Vec<usize>, AllocError>
     requires { IsWithin (table_of types.now) number }
@@ -163,7 +163,7 @@ fn field_numbers(
 }
 
 /// The number of the field at a place.
-fn field_in(types: &TypeNumbers<'_>, fields: &[usize], place: usize) -> Option<usize>
+fn field_in(types: &KnownTypes<'_>, fields: &[usize], place: usize) -> Option<usize>
     requires { AllWithin (table_of types.now) fields.now }
     ensures number { result ≡ slice_get fields.now place }
     ensures within { IsWithin (table_of types.now) result }
@@ -179,7 +179,7 @@ fn at_place(numbers: &[usize], place: usize) -> Option<usize>
 
 /// A type that isn't the one that is asked for, both by their numbers.
 fn wrong_part(
-    types: &TypeNumbers<'_>,
+    types: &KnownTypes<'_>,
     expected: Option<usize>,
     number: Option<usize>,
     ty: &TypeNode,
@@ -196,7 +196,7 @@ fn wrong_part(
 #[cycle(wrong)]
 fn wrong_numbered(
     alloc: Global,
-    types: &mut TypeNumbers<'_>,
+    types: &mut KnownTypes<'_>,
     number: Option<usize>,
     value: &ConstNode,
 ) -> Result<Option<Span>, AllocError>
@@ -229,7 +229,7 @@ fn wrong_numbered(
 #[cycle(wrong)]
 fn wrong_typed(
     alloc: Global,
-    types: &mut TypeNumbers<'_>,
+    types: &mut KnownTypes<'_>,
     expected: Option<usize>,
     part: &TypedConst,
 ) -> Result<Option<Span>, AllocError>
@@ -248,7 +248,7 @@ fn wrong_typed(
 #[cycle(wrong)]
 fn wrong_elements(
     alloc: Global,
-    types: &mut TypeNumbers<'_>,
+    types: &mut KnownTypes<'_>,
     element: Option<usize>,
     parts: &[TypedConst],
 ) -> Result<Option<Span>, AllocError>
@@ -269,7 +269,7 @@ fn wrong_elements(
 #[cycle(wrong)]
 fn wrong_fields(
     alloc: Global,
-    types: &mut TypeNumbers<'_>,
+    types: &mut KnownTypes<'_>,
     fields: &[usize],
     parts: &[TypedConst],
 ) -> Result<Option<Span>, AllocError>
@@ -290,13 +290,13 @@ fn wrong_fields(
 /// The earliest place at which a constant isn't of its type, the values in it aside.
 pub(crate) fn wrong_const(
     alloc: Global,
-    types: &mut TypeNumbers<'_>,
+    types: &TypeNumbers<'_>,
     value: &ConstNode,
     ty: &TypeNode,
 ) -> Result<Option<Span>, AllocError>
-    ensures place { IfOk result (λ o. o ≡ earliest (wrong_const (named_types types.old) (resolved (named_types types.old) (ty_of ty.now)) (const_of value.now))) }
-    ensures items { types.new.items ≡ types.old.items }
+    ensures place { IfOk result (λ o. o ≡ earliest (wrong_const (named_types types.now) (resolved (named_types types.now) (ty_of ty.now)) (const_of value.now))) }
 {
-    let number = types.number(ty)?;
-    wrong_numbered(alloc, types, number, value)
+    let mut known = KnownTypes::new(types);
+    let number = known.number(ty)?;
+    wrong_numbered(alloc, &mut known, number, value)
 }

@@ -28,12 +28,11 @@ pub(crate) struct CasePlace {
 }
 
 fn case_place(
-    types: &mut TypeNumbers<'_>,
+    types: &TypeNumbers<'_>,
     ty: &TypeNode,
     case: &CaseNode,
 ) -> Result<CasePlace, AllocError>
-    ensures place { IfOk result (λ p. p ≡ case_place (resolved (named_types types.old) (ty_of ty.now)) (case_of case.now)) }
-    ensures items { types.new.items ≡ types.old.items }
+    ensures place { IfOk result (λ p. p ≡ case_place (resolved (named_types types.now) (ty_of ty.now)) (case_of case.now)) }
 {
     let number = number_at(types, ty, &case.value.value)?;
     Ok(CasePlace {
@@ -45,12 +44,11 @@ fn case_place(
 /// The numbers of cases at the type of their `switch`, and their places.
 fn case_places(
     alloc: Global,
-    types: &mut TypeNumbers<'_>,
+    types: &TypeNumbers<'_>,
     ty: &TypeNode,
     cases: &[CaseNode],
 ) -> Result<Vec<CasePlace>, AllocError>
-    ensures places { IfOk result (λ v. v.items ≡ map (case_place (resolved (named_types types.old) (ty_of ty.now))) (map case_of cases.now)) }
-    ensures items { types.new.items ≡ types.old.items }
+    ensures places { IfOk result (λ v. v.items ≡ map (case_place (resolved (named_types types.now) (ty_of ty.now))) (map case_of cases.now)) }
 {
     let mut places = Vec::new(alloc);
     for case in cases {
@@ -143,13 +141,12 @@ fn repeated_places(starts: &IndexMap<u64, u32>, places: &[CasePlace]) -> Option<
 /// The earliest of these cases that is equal to one before it.
 fn repeated_cases(
     alloc: Global,
-    types: &mut TypeNumbers<'_>,
+    types: &TypeNumbers<'_>,
     ty: &TypeNode,
     cases: &[CaseNode],
 ) -> Result<Option<Span>, AllocError>
     ensures place { IfOk result (λ o. o ≡ earliest (flat_map
-        (repeated_case (resolved (named_types types.old) (ty_of ty.now)) (map case_of cases.now)) (map case_of cases.now))) }
-    ensures items { types.new.items ≡ types.old.items }
+        (repeated_case (resolved (named_types types.now) (ty_of ty.now)) (map case_of cases.now)) (map case_of cases.now))) }
 {
     let places = case_places(alloc, types, ty, cases)?;
     let starts = index_places(alloc, places.as_slice())?;
@@ -160,11 +157,10 @@ fn repeated_cases(
 #[tactic(auto, unfolding(pg_rules::specs::Earliest::earliest))]
 pub(crate) fn equal_cases(
     alloc: Global,
-    types: &mut TypeNumbers<'_>,
+    types: &TypeNumbers<'_>,
     op: &OpNode,
 ) -> Result<Option<Span>, AllocError>
-    ensures place { (g : Scope) → g.tree.types ≡ named_types types.old → IfOk result (λ o. o ≡ earliest (equal_cases g (op_of op.now))) }
-    ensures items { types.new.items ≡ types.old.items }
+    ensures place { (g : Scope) → g.tree.types ≡ named_types types.now → IfOk result (λ o. o ≡ earliest (equal_cases g (op_of op.now))) }
 {
     match op {
         OpNode::Switch { value, cases, .. } => {

@@ -75,13 +75,12 @@ fn fails_cast(op: CastOp, from: Option<TypeKind>, to: Option<TypeKind>) -> bool
 
 /// Whether a conversion doesn't give a type.
 fn is_wrong_cast(
-    types: &mut TypeNumbers<'_>,
+    types: &TypeNumbers<'_>,
     op: CastOp,
     value: &TypedVal,
     ty: &TypeNode,
 ) -> Result<bool, AllocError>
-    ensures same { IfOk result (λ b. b ≡ fails (cast_to op (resolved (named_types types.old) (typed_of value.now).ty)) (resolved (named_types types.old) (ty_of ty.now))) }
-    ensures items { types.new.items ≡ types.old.items }
+    ensures same { IfOk result (λ b. b ≡ fails (cast_to op (resolved (named_types types.now) (typed_of value.now).ty)) (resolved (named_types types.now) (ty_of ty.now))) }
 {
     let from = types.kind(&value.ty)?;
     let to = types.kind(ty)?;
@@ -91,13 +90,12 @@ fn is_wrong_cast(
 /// The type that a conversion gives, where it can't.
 #[tactic(auto, unfolding(pg_rules::specs::Earliest::earliest))]
 fn unmet_target(
-    types: &mut TypeNumbers<'_>,
+    types: &TypeNumbers<'_>,
     op: CastOp,
     value: &TypedVal,
     ty: &TypeNode,
 ) -> Result<Option<Span>, AllocError>
-    ensures place { IfOk result (λ o. o ≡ earliest (flat_map (unmet (named_types types.old)) (asks (cast_to op (resolved (named_types types.old) (typed_of value.now).ty)) (ty_of ty.now) ∷ []))) }
-    ensures items { types.new.items ≡ types.old.items }
+    ensures place { IfOk result (λ o. o ≡ earliest (flat_map (unmet (named_types types.now)) (asks (cast_to op (resolved (named_types types.now) (typed_of value.now).ty)) (ty_of ty.now) ∷ []))) }
 {
     if is_wrong_cast(types, op, value, ty)? {
         Ok(Some(type_span(ty)))
@@ -108,12 +106,11 @@ fn unmet_target(
 
 /// The type of the value that a conversion takes, where it can't.
 fn unmet_source(
-    types: &mut TypeNumbers<'_>,
+    types: &TypeNumbers<'_>,
     op: CastOp,
     value: &TypedVal,
 ) -> Result<Option<Span>, AllocError>
-    ensures place { IfOk result (λ o. o ≡ earliest (flat_map (unmet (named_types types.old)) (asks_typed (cast_from op) (typed_of value.now) ∷ []))) }
-    ensures items { types.new.items ≡ types.old.items }
+    ensures place { IfOk result (λ o. o ≡ earliest (flat_map (unmet (named_types types.now)) (asks_typed (cast_from op) (typed_of value.now) ∷ []))) }
 {
     match op {
         CastOp::Trunc => unmet_value(types, TypeTest::Integer, value),
@@ -125,14 +122,13 @@ fn unmet_source(
 }
 
 fn unmet_cast(
-    types: &mut TypeNumbers<'_>,
+    types: &TypeNumbers<'_>,
     op: CastOp,
     value: &TypedVal,
     ty: &TypeNode,
 ) -> Result<Option<Span>, AllocError>
-    ensures place { IfOk result (λ o. o ≡ earliest (flat_map (unmet (named_types types.old))
-        (asks_typed (cast_from op) (typed_of value.now) ∷ asks (cast_to op (resolved (named_types types.old) (typed_of value.now).ty)) (ty_of ty.now) ∷ []))) }
-    ensures items { types.new.items ≡ types.old.items }
+    ensures place { IfOk result (λ o. o ≡ earliest (flat_map (unmet (named_types types.now))
+        (asks_typed (cast_from op) (typed_of value.now) ∷ asks (cast_to op (resolved (named_types types.now) (typed_of value.now).ty)) (ty_of ty.now) ∷ []))) }
 {
     let source = unmet_source(types, op, value)?;
     let target = unmet_target(types, op, value, ty)?;
@@ -143,13 +139,12 @@ fn unmet_cast(
 
 /// The types of the two values between which a `select` chooses: a scalar, and the same.
 fn unmet_choices(
-    types: &mut TypeNumbers<'_>,
+    types: &TypeNumbers<'_>,
     one: &TypedVal,
     other: &TypedVal,
 ) -> Result<Option<Span>, AllocError>
-    ensures place { IfOk result (λ o. o ≡ earliest (flat_map (unmet (named_types types.old))
-        (asks_typed (test_of Scalar) (typed_of one.now) ∷ asks_typed (is_as (resolved (named_types types.old) (typed_of one.now).ty)) (typed_of other.now) ∷ []))) }
-    ensures items { types.new.items ≡ types.old.items }
+    ensures place { IfOk result (λ o. o ≡ earliest (flat_map (unmet (named_types types.now))
+        (asks_typed (test_of Scalar) (typed_of one.now) ∷ asks_typed (is_as (resolved (named_types types.now) (typed_of one.now).ty)) (typed_of other.now) ∷ []))) }
 {
     let scalar = unmet_value(types, TypeTest::Scalar, one)?;
     let same = unmet_same(types, one, other)?;
@@ -157,15 +152,14 @@ fn unmet_choices(
 }
 
 fn unmet_select(
-    types: &mut TypeNumbers<'_>,
+    types: &TypeNumbers<'_>,
     condition: &TypedVal,
     one: &TypedVal,
     other: &TypedVal,
 ) -> Result<Option<Span>, AllocError>
-    ensures place { IfOk result (λ o. o ≡ earliest (flat_map (unmet (named_types types.old))
+    ensures place { IfOk result (λ o. o ≡ earliest (flat_map (unmet (named_types types.now))
         (asks_typed (test_of Bit) (typed_of condition.now) ∷ asks_typed (test_of Scalar) (typed_of one.now)
-        ∷ asks_typed (is_as (resolved (named_types types.old) (typed_of one.now).ty)) (typed_of other.now) ∷ []))) }
-    ensures items { types.new.items ≡ types.old.items }
+        ∷ asks_typed (is_as (resolved (named_types types.now) (typed_of one.now).ty)) (typed_of other.now) ∷ []))) }
 {
     let bit = unmet_value(types, TypeTest::Bit, condition)?;
     let choices = unmet_choices(types, one, other)?;
@@ -173,25 +167,23 @@ fn unmet_select(
 }
 
 fn unmet_case(
-    types: &mut TypeNumbers<'_>,
+    types: &TypeNumbers<'_>,
     expected: &TypedVal,
     case: &CaseNode,
 ) -> Result<Option<Span>, AllocError>
-    ensures place { IfOk result (λ o. o ≡ earliest (unmet (named_types types.old) (asks_typed (is_as (resolved (named_types types.old) (typed_of expected.now).ty)) (case_of case.now).value))) }
-    ensures items { types.new.items ≡ types.old.items }
+    ensures place { IfOk result (λ o. o ≡ earliest (unmet (named_types types.now) (asks_typed (is_as (resolved (named_types types.now) (typed_of expected.now).ty)) (case_of case.now).value))) }
 {
     unmet_like(types, expected, &case.value)
 }
 
 /// The types of the cases of a `switch`: that of its value.
 fn unmet_cases(
-    types: &mut TypeNumbers<'_>,
+    types: &TypeNumbers<'_>,
     expected: &TypedVal,
     cases: &[CaseNode],
 ) -> Result<Option<Span>, AllocError>
-    ensures place { IfOk result (λ o. o ≡ earliest (flat_map (unmet (named_types types.old))
-        (map (λ (c : CaseNode). asks_typed (is_as (resolved (named_types types.old) (typed_of expected.now).ty)) (case_of c).value) cases.now))) }
-    ensures items { types.new.items ≡ types.old.items }
+    ensures place { IfOk result (λ o. o ≡ earliest (flat_map (unmet (named_types types.now))
+        (map (λ (c : CaseNode). asks_typed (is_as (resolved (named_types types.now) (typed_of expected.now).ty)) (case_of c).value) cases.now))) }
 {
     let mut found = None;
     for case in cases {
@@ -201,13 +193,12 @@ fn unmet_cases(
 }
 
 fn unmet_switch(
-    types: &mut TypeNumbers<'_>,
+    types: &TypeNumbers<'_>,
     value: &TypedVal,
     cases: &[CaseNode],
 ) -> Result<Option<Span>, AllocError>
-    ensures place { IfOk result (λ o. o ≡ earliest (flat_map (unmet (named_types types.old))
-        (asks_typed (test_of Integer) (typed_of value.now) ∷ map (λ (c : Case). asks_typed (is_as (resolved (named_types types.old) (typed_of value.now).ty)) c.value) (map case_of cases.now)))) }
-    ensures items { types.new.items ≡ types.old.items }
+    ensures place { IfOk result (λ o. o ≡ earliest (flat_map (unmet (named_types types.now))
+        (asks_typed (test_of Integer) (typed_of value.now) ∷ map (λ (c : Case). asks_typed (is_as (resolved (named_types types.now) (typed_of value.now).ty)) c.value) (map case_of cases.now)))) }
 {
     let integer = unmet_value(types, TypeTest::Integer, value)?;
     let same = unmet_cases(types, value, cases)?;
@@ -216,11 +207,10 @@ fn unmet_switch(
 
 #[tactic(auto, unfolding(pg_rules::specs::Earliest::earliest))]
 fn unmet_count(
-    types: &mut TypeNumbers<'_>,
+    types: &TypeNumbers<'_>,
     count: &Option<CountNode>,
 ) -> Result<Option<Span>, AllocError>
-    ensures place { IfOk result (λ o. o ≡ earliest (flat_map (unmet (named_types types.old)) (count_demands (option_map count_of count.now)))) }
-    ensures items { types.new.items ≡ types.old.items }
+    ensures place { IfOk result (λ o. o ≡ earliest (flat_map (unmet (named_types types.now)) (count_demands (option_map count_of count.now)))) }
 {
     match count {
         Some(count) => unmet_one(types, TypeTest::Integer, &count.ty),
@@ -229,12 +219,11 @@ fn unmet_count(
 }
 
 fn unmet_alloca(
-    types: &mut TypeNumbers<'_>,
+    types: &TypeNumbers<'_>,
     ty: &TypeNode,
     count: &Option<CountNode>,
 ) -> Result<Option<Span>, AllocError>
-    ensures place { IfOk result (λ o. o ≡ earliest (flat_map (unmet (named_types types.old)) (asks (test_of NotVoid) (ty_of ty.now) ∷ count_demands (option_map count_of count.now)))) }
-    ensures items { types.new.items ≡ types.old.items }
+    ensures place { IfOk result (λ o. o ≡ earliest (flat_map (unmet (named_types types.now)) (asks (test_of NotVoid) (ty_of ty.now) ∷ count_demands (option_map count_of count.now)))) }
 {
     let void = unmet_one(types, TypeTest::NotVoid, ty)?;
     let number = unmet_count(types, count)?;
@@ -243,13 +232,12 @@ fn unmet_alloca(
 
 /// What a type is asked, and the type of a pointer.
 fn unmet_pointed(
-    types: &mut TypeNumbers<'_>,
+    types: &TypeNumbers<'_>,
     test: TypeTest,
     ty: &TypeNode,
     pointer: &TypedVal,
 ) -> Result<Option<Span>, AllocError>
-    ensures place { IfOk result (λ o. o ≡ earliest (flat_map (unmet (named_types types.old)) (asks (test_of test) (ty_of ty.now) ∷ asks_typed (test_of Pointer) (typed_of pointer.now) ∷ []))) }
-    ensures items { types.new.items ≡ types.old.items }
+    ensures place { IfOk result (λ o. o ≡ earliest (flat_map (unmet (named_types types.now)) (asks (test_of test) (ty_of ty.now) ∷ asks_typed (test_of Pointer) (typed_of pointer.now) ∷ []))) }
 {
     let own = unmet_one(types, test, ty)?;
     let place = unmet_value(types, TypeTest::Pointer, pointer)?;
@@ -257,13 +245,12 @@ fn unmet_pointed(
 }
 
 fn unmet_store(
-    types: &mut TypeNumbers<'_>,
+    types: &TypeNumbers<'_>,
     value: &TypedVal,
     pointer: &TypedVal,
 ) -> Result<Option<Span>, AllocError>
-    ensures place { IfOk result (λ o. o ≡ earliest (flat_map (unmet (named_types types.old))
+    ensures place { IfOk result (λ o. o ≡ earliest (flat_map (unmet (named_types types.now))
         (asks_typed (test_of Scalar) (typed_of value.now) ∷ asks_typed (test_of Pointer) (typed_of pointer.now) ∷ []))) }
-    ensures items { types.new.items ≡ types.old.items }
 {
     let own = unmet_value(types, TypeTest::Scalar, value)?;
     let place = unmet_value(types, TypeTest::Pointer, pointer)?;
@@ -271,12 +258,8 @@ fn unmet_store(
 }
 
 /// The types of the indices of a `getelementptr`.
-fn unmet_indices(
-    types: &mut TypeNumbers<'_>,
-    indices: &[TypedVal],
-) -> Result<Option<Span>, AllocError>
-    ensures place { IfOk result (λ o. o ≡ earliest (flat_map (unmet (named_types types.old)) (map (λ (i : TypedVal). asks_typed (test_of Integer) (typed_of i)) indices.now))) }
-    ensures items { types.new.items ≡ types.old.items }
+fn unmet_indices(types: &TypeNumbers<'_>, indices: &[TypedVal]) -> Result<Option<Span>, AllocError>
+    ensures place { IfOk result (λ o. o ≡ earliest (flat_map (unmet (named_types types.now)) (map (λ (i : TypedVal). asks_typed (test_of Integer) (typed_of i)) indices.now))) }
 {
     let mut found = None;
     for index in indices {
@@ -286,14 +269,13 @@ fn unmet_indices(
 }
 
 fn unmet_path(
-    types: &mut TypeNumbers<'_>,
+    types: &TypeNumbers<'_>,
     ty: &TypeNode,
     pointer: &TypedVal,
     indices: &[TypedVal],
 ) -> Result<Option<Span>, AllocError>
-    ensures place { IfOk result (λ o. o ≡ earliest (flat_map (unmet (named_types types.old))
+    ensures place { IfOk result (λ o. o ≡ earliest (flat_map (unmet (named_types types.now))
         (asks (test_of NotVoid) (ty_of ty.now) ∷ asks_typed (test_of Pointer) (typed_of pointer.now) ∷ map (asks_typed (test_of Integer)) (map typed_of indices.now)))) }
-    ensures items { types.new.items ≡ types.old.items }
 {
     let front = unmet_pointed(types, TypeTest::NotVoid, ty, pointer)?;
     let path = unmet_indices(types, indices)?;
@@ -305,13 +287,12 @@ fn unmet_path(
 /// The earliest type that isn't what an instruction asks by itself, in a function with this result.
 #[tactic(auto, unfolding(pg_rules::specs::Written::op_demands, pg_rules::specs::Earliest::earliest))]
 fn op_demands(
-    types: &mut TypeNumbers<'_>,
+    types: &TypeNumbers<'_>,
     returned: &TypeNode,
     op: &OpNode,
 ) -> Result<Option<Span>, AllocError>
-    ensures place { IfOk result (λ o. o ≡ earliest (flat_map (unmet (named_types types.old))
-        (op_demands (named_types types.old) (resolved (named_types types.old) (ty_of returned.now)) (op_of op.now)))) }
-    ensures items { types.new.items ≡ types.old.items }
+    ensures place { IfOk result (λ o. o ≡ earliest (flat_map (unmet (named_types types.now))
+        (op_demands (named_types types.now) (resolved (named_types types.now) (ty_of returned.now)) (op_of op.now)))) }
 {
     match op {
         OpNode::Binary { ty, .. } => unmet_one(types, TypeTest::Integer, ty),
@@ -347,12 +328,11 @@ fn op_demands(
 pub(crate) fn unmet_demands(
     alloc: Global,
     scope: &LineScope<'_>,
-    types: &mut TypeNumbers<'_>,
+    types: &TypeNumbers<'_>,
     op: &OpNode,
 ) -> Result<Option<Span>, AllocError>
-    ensures place { (g : Scope) → IsLineScope scope.now g → g.tree.types ≡ named_types types.old →
+    ensures place { (g : Scope) → IsLineScope scope.now g → g.tree.types ≡ named_types types.now →
         IfOk result (λ o. o ≡ earliest (flat_map (unmet g.tree.types) (op_demands g.tree.types g.result (op_of op.now) ++ call_demands g (op_of op.now)))) }
-    ensures items { types.new.items ≡ types.old.items }
 {
     let own = op_demands(types, scope.result, op)?;
     let arguments = call_demands(alloc, scope, types, op)?;

@@ -77,13 +77,9 @@ fn misfits(kind: Option<TypeKind>, literal: &Literal) -> bool
 }
 
 /// The place of a number of elements that doesn't fit its type.
-fn wrong_count_use(
-    types: &mut TypeNumbers<'_>,
-    count: &CountNode,
-) -> Result<Option<Span>, AllocError>
-    ensures place { (g : Scope) → g.tree.types ≡ named_types types.old →
+fn wrong_count_use(types: &TypeNumbers<'_>, count: &CountNode) -> Result<Option<Span>, AllocError>
+    ensures place { (g : Scope) → g.tree.types ≡ named_types types.now →
         IfOk result (λ o. o ≡ earliest (row_within (wrong_use g) (constant_at (count_of count.now).ty (Int (count_of count.now).count)))) }
-    ensures items { types.new.items ≡ types.old.items }
 {
     let kind = types.kind(&count.ty)?;
     Ok(place_if(misfits(kind, &count.count), count.count.span))
@@ -93,12 +89,11 @@ fn wrong_count_use(
 fn wrong_use(
     alloc: Global,
     scope: &LineScope<'_>,
-    types: &mut TypeNumbers<'_>,
+    types: &TypeNumbers<'_>,
     one: UseNode<'_>,
 ) -> Result<Option<Span>, AllocError>
-    ensures place { (g : Scope) → IsLineScope scope.now g → g.tree.types ≡ named_types types.old →
+    ensures place { (g : Scope) → IsLineScope scope.now g → g.tree.types ≡ named_types types.now →
         IfOk result (λ o. o ≡ earliest (row_within (wrong_use g) (use_of one.entry))) }
-    ensures items { types.new.items ≡ types.old.items }
 {
     match one {
         UseNode::Value(constant, ty, value) => {
@@ -112,12 +107,11 @@ fn wrong_use(
 pub(crate) fn wrong_uses(
     alloc: Global,
     scope: &LineScope<'_>,
-    types: &mut TypeNumbers<'_>,
+    types: &TypeNumbers<'_>,
     uses: &[UseNode<'_>],
 ) -> Result<Option<Span>, AllocError>
-    ensures place { (g : Scope) → IsLineScope scope.now g → g.tree.types ≡ named_types types.old →
+    ensures place { (g : Scope) → IsLineScope scope.now g → g.tree.types ≡ named_types types.now →
         IfOk result (λ o. o ≡ earliest (flat_map (wrong_use g) (flat_map with_inner (uses_of uses.now)))) }
-    ensures items { types.new.items ≡ types.old.items }
 {
     let mut found = None;
     for one in uses {

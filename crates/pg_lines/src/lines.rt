@@ -77,12 +77,11 @@ fn unsupported_in_line(scope: &LineScope<'_>, uses: &[UseNode<'_>], op: &OpNode)
 fn wrong_otherwise(
     alloc: Global,
     scope: &LineScope<'_>,
-    types: &mut TypeNumbers<'_>,
+    types: &TypeNumbers<'_>,
     line: &LineNode,
 ) -> Result<Option<Span>, AllocError>
-    ensures place { (g : Scope) → IsLineScope scope.now g → g.tree.types ≡ named_types types.old →
+    ensures place { (g : Scope) → IsLineScope scope.now g → g.tree.types ≡ named_types types.now →
         IfOk result (λ o. o ≡ earliest (wrong_otherwise g (line_of line.now))) }
-    ensures items { types.new.items ≡ types.old.items }
 {
     let thread = wrong_thread(alloc, scope, types, &line.op)?;
     let returned = wrong_return(scope, types, &line.op)?;
@@ -95,15 +94,14 @@ fn wrong_otherwise(
 fn wrong_in_line(
     alloc: Global,
     scope: &LineScope<'_>,
-    types: &mut TypeNumbers<'_>,
+    types: &TypeNumbers<'_>,
     written: &[&TypeNode],
     uses: &[UseNode<'_>],
     line: &LineNode,
 ) -> Result<Option<Span>, AllocError>
-    ensures place { (g : Scope) → IsLineScope scope.now g → g.tree.types ≡ named_types types.old →
+    ensures place { (g : Scope) → IsLineScope scope.now g → g.tree.types ≡ named_types types.now →
         tys_behind written.now ≡ flat_map types_within (line_types (line_of line.now).op) → uses_of uses.now ≡ value_operands g (line_of line.now).op →
         IfOk result (λ o. o ≡ earliest (wrong_in_line g (line_of line.now))) }
-    ensures items { types.new.items ≡ types.old.items }
 {
     let ty = wrong_types(types, written)?;
     let unmet = unmet_demands(alloc, scope, types, &line.op)?;
@@ -117,12 +115,11 @@ fn wrong_in_line(
 pub fn line_refusal(
     alloc: Global,
     scope: &LineScope<'_>,
-    types: &mut TypeNumbers<'_>,
+    types: &TypeNumbers<'_>,
     line: &LineNode,
 ) -> Result<Option<CheckRefusal>, AllocError>
-    ensures first { (g : Scope) → IsLineScope scope.now g → g.tree.types ≡ named_types types.old →
+    ensures first { (g : Scope) → IsLineScope scope.now g → g.tree.types ≡ named_types types.now →
         IfOk result (λ o. IsFirstIn (line_refused g (line_of line.now)) o) }
-    ensures items { types.new.items ≡ types.old.items }
 {
     let written = types_in_line(alloc, &line.op)?;
     let uses = value_operands(alloc, scope, &line.op)?;
@@ -150,11 +147,10 @@ pub fn line_refusal(
 #[tactic(auto, unfolding(pg_rules::specs::TypeConditions::any_large))]
 pub fn line_is_large(
     alloc: Global,
-    types: &mut TypeNumbers<'_>,
+    types: &TypeNumbers<'_>,
     line: &LineNode,
 ) -> Result<bool, AllocError>
-    ensures large { IfOk result (λ b. b ≡ any_large (named_types types.old) (line_types (line_of line.now).op)) }
-    ensures items { types.new.items ≡ types.old.items }
+    ensures large { IfOk result (λ b. b ≡ any_large (named_types types.now) (line_types (line_of line.now).op)) }
 {
     let written = types_in_line(alloc, &line.op)?;
     any_large(types, written.as_slice())

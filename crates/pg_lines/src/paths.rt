@@ -26,11 +26,10 @@ use std::alloc::{AllocError, Global};
 #[tactic(auto, unfolding(pg_rules::specs::Earliest::earliest))]
 pub(crate) fn wrong_path(
     alloc: Global,
-    types: &mut TypeNumbers<'_>,
+    types: &TypeNumbers<'_>,
     op: &OpNode,
 ) -> Result<Option<Span>, AllocError>
-    ensures place { (g : Scope) → g.tree.types ≡ named_types types.old → IfOk result (λ o. o ≡ earliest (wrong_path g (op_of op.now))) }
-    ensures items { types.new.items ≡ types.old.items }
+    ensures place { (g : Scope) → g.tree.types ≡ named_types types.now → IfOk result (λ o. o ≡ earliest (wrong_path g (op_of op.now))) }
 {
     match op {
         OpNode::GetElementPtr { ty, indices, .. } => {
@@ -55,12 +54,11 @@ fn is_value_kind(kind: Option<TypeKind>) -> bool
 #[tactic(auto, using(crate::proofs::ResultKinds::fails_void))]
 fn void_return(
     scope: &LineScope<'_>,
-    types: &mut TypeNumbers<'_>,
+    types: &TypeNumbers<'_>,
     void: Span,
 ) -> Result<Option<Span>, AllocError>
-    ensures place { (g : Scope) → IsLineScope scope.now g → g.tree.types ≡ named_types types.old →
+    ensures place { (g : Scope) → IsLineScope scope.now g → g.tree.types ≡ named_types types.now →
         IfOk result (λ o. o ≡ earliest (at_if (fails is_void_type g.result) void)) }
-    ensures items { types.new.items ≡ types.old.items }
 {
     let kind = types.kind(scope.result)?;
     Ok(place_if(is_value_kind(kind), void))
@@ -70,12 +68,11 @@ fn void_return(
 #[tactic(auto, unfolding(pg_rules::specs::Earliest::earliest))]
 pub(crate) fn wrong_return(
     scope: &LineScope<'_>,
-    types: &mut TypeNumbers<'_>,
+    types: &TypeNumbers<'_>,
     op: &OpNode,
 ) -> Result<Option<Span>, AllocError>
-    ensures place { (g : Scope) → IsLineScope scope.now g → g.tree.types ≡ named_types types.old →
+    ensures place { (g : Scope) → IsLineScope scope.now g → g.tree.types ≡ named_types types.now →
         IfOk result (λ o. o ≡ earliest (wrong_return g (op_of op.now))) }
-    ensures items { types.new.items ≡ types.old.items }
 {
     match op {
         OpNode::RetVoid { void, .. } => void_return(scope, types, *void),
@@ -93,13 +90,12 @@ fn misplaced_name(gives: bool, name: &Name) -> Option<Span>
 /// A name before an instruction without a result.
 #[tactic(auto, unfolding(pg_rules::specs::Earliest::earliest))]
 pub(crate) fn wrong_name(
-    types: &mut TypeNumbers<'_>,
+    types: &TypeNumbers<'_>,
     name: &Option<Name>,
     op: &OpNode,
 ) -> Result<Option<Span>, AllocError>
-    ensures place { (g : Scope) → g.tree.types ≡ named_types types.old →
+    ensures place { (g : Scope) → g.tree.types ≡ named_types types.now →
         IfOk result (λ o. o ≡ earliest (wrong_name (gives g.tree.types (op_of op.now)) name.now)) }
-    ensures items { types.new.items ≡ types.old.items }
 {
     match name {
         Some(name) => Ok(misplaced_name(gives(types, op)?, name)),

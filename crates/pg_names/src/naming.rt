@@ -29,19 +29,18 @@ pub struct OwnNames<'a> {
 /// Adds the result of a line, where it gives a value.
 fn add_line<'a>(
     alloc: Global,
-    types: &mut TypeNumbers<'_>,
+    types: &TypeNumbers<'_>,
     next: &mut NextNumber,
     names: &mut Vec<Name>,
     kinds: &mut Vec<RegisterType<'a>>,
     line: &'a LineNode,
 ) -> Result<(), AllocError>
     requires { length kinds.old.items ≡ length names.old.items }
-    ensures registers { OnOk result (registers_by (named_types types.old) names.new.items kinds.new.items
-        ≡ registers_by (named_types types.old) names.old.items kinds.old.items
-        ++ cons_option (line_register (named_types types.old) (line_at (named_types types.old) next.old (line_of line.now))) []) }
-    ensures next { OnOk result (next.new ≡ behind_line (named_types types.old) next.old (line_of line.now)) }
+    ensures registers { OnOk result (registers_by (named_types types.now) names.new.items kinds.new.items
+        ≡ registers_by (named_types types.now) names.old.items kinds.old.items
+        ++ cons_option (line_register (named_types types.now) (line_at (named_types types.now) next.old (line_of line.now))) []) }
+    ensures next { OnOk result (next.new ≡ behind_line (named_types types.now) next.old (line_of line.now)) }
     ensures lengths { OnOk result (length kinds.new.items ≡ length names.new.items) }
-    ensures items { types.new.items ≡ types.old.items }
 {
     match result_type(types, &line.op)? {
         Some(kind) => {
@@ -57,19 +56,18 @@ fn add_line<'a>(
 /// Adds the results of lines.
 fn add_lines<'a>(
     alloc: Global,
-    types: &mut TypeNumbers<'_>,
+    types: &TypeNumbers<'_>,
     next: &mut NextNumber,
     names: &mut Vec<Name>,
     kinds: &mut Vec<RegisterType<'a>>,
     lines: &'a [LineNode],
 ) -> Result<(), AllocError>
     requires { length kinds.old.items ≡ length names.old.items }
-    ensures registers { OnOk result (registers_by (named_types types.old) names.new.items kinds.new.items
-        ≡ registers_by (named_types types.old) names.old.items kinds.old.items
-        ++ filter_map (line_register (named_types types.old)) (each_at (behind_line (named_types types.old)) (line_at (named_types types.old)) next.old (map line_of lines.now))) }
-    ensures next { OnOk result (next.new ≡ behind_all (behind_line (named_types types.old)) next.old (map line_of lines.now)) }
+    ensures registers { OnOk result (registers_by (named_types types.now) names.new.items kinds.new.items
+        ≡ registers_by (named_types types.now) names.old.items kinds.old.items
+        ++ filter_map (line_register (named_types types.now)) (each_at (behind_line (named_types types.now)) (line_at (named_types types.now)) next.old (map line_of lines.now))) }
+    ensures next { OnOk result (next.new ≡ behind_all (behind_line (named_types types.now)) next.old (map line_of lines.now)) }
     ensures lengths { OnOk result (length kinds.new.items ≡ length names.new.items) }
-    ensures items { types.new.items ≡ types.old.items }
 {
     for line in lines {
         add_line(alloc, types, next, names, kinds, line)?;
@@ -81,7 +79,7 @@ fn add_lines<'a>(
 #[tactic(auto, unfolding(pg_ast::specs::Numbers::block_at, pg_ast::specs::Numbers::behind_block))]
 fn add_block<'a>(
     alloc: Global,
-    types: &mut TypeNumbers<'_>,
+    types: &TypeNumbers<'_>,
     next: &mut NextNumber,
     labels: &mut Vec<Name>,
     names: &mut Vec<Name>,
@@ -89,13 +87,12 @@ fn add_block<'a>(
     block: &'a BlockNode,
 ) -> Result<(), AllocError>
     requires { length kinds.old.items ≡ length names.old.items }
-    ensures labels { OnOk result (labels.new.items ≡ labels.old.items ++ cons_option (block_label (block_at (named_types types.old) next.old (block_of block.now))) []) }
-    ensures registers { OnOk result (registers_by (named_types types.old) names.new.items kinds.new.items
-        ≡ registers_by (named_types types.old) names.old.items kinds.old.items
-        ++ block_registers (named_types types.old) (block_at (named_types types.old) next.old (block_of block.now))) }
-    ensures next { OnOk result (next.new ≡ behind_block (named_types types.old) next.old (block_of block.now)) }
+    ensures labels { OnOk result (labels.new.items ≡ labels.old.items ++ cons_option (block_label (block_at (named_types types.now) next.old (block_of block.now))) []) }
+    ensures registers { OnOk result (registers_by (named_types types.now) names.new.items kinds.new.items
+        ≡ registers_by (named_types types.now) names.old.items kinds.old.items
+        ++ block_registers (named_types types.now) (block_at (named_types types.now) next.old (block_of block.now))) }
+    ensures next { OnOk result (next.new ≡ behind_block (named_types types.now) next.old (block_of block.now)) }
     ensures lengths { OnOk result (length kinds.new.items ≡ length names.new.items) }
-    ensures items { types.new.items ≡ types.old.items }
 {
     let label = numbered_name(alloc, next, &block.label)?;
     labels.push(label)?;
@@ -105,7 +102,7 @@ fn add_block<'a>(
 /// Adds the labels of blocks, and the results of their lines.
 fn add_blocks<'a>(
     alloc: Global,
-    types: &mut TypeNumbers<'_>,
+    types: &TypeNumbers<'_>,
     next: &mut NextNumber,
     labels: &mut Vec<Name>,
     names: &mut Vec<Name>,
@@ -114,12 +111,11 @@ fn add_blocks<'a>(
 ) -> Result<(), AllocError>
     requires { length kinds.old.items ≡ length names.old.items }
     ensures labels { OnOk result (labels.new.items ≡ labels.old.items
-        ++ filter_map block_label (each_at (behind_block (named_types types.old)) (block_at (named_types types.old)) next.old (map block_of blocks.now))) }
-    ensures registers { OnOk result (registers_by (named_types types.old) names.new.items kinds.new.items
-        ≡ registers_by (named_types types.old) names.old.items kinds.old.items
-        ++ flat_map (block_registers (named_types types.old)) (each_at (behind_block (named_types types.old)) (block_at (named_types types.old)) next.old (map block_of blocks.now))) }
+        ++ filter_map block_label (each_at (behind_block (named_types types.now)) (block_at (named_types types.now)) next.old (map block_of blocks.now))) }
+    ensures registers { OnOk result (registers_by (named_types types.now) names.new.items kinds.new.items
+        ≡ registers_by (named_types types.now) names.old.items kinds.old.items
+        ++ flat_map (block_registers (named_types types.now)) (each_at (behind_block (named_types types.now)) (block_at (named_types types.now)) next.old (map block_of blocks.now))) }
     ensures lengths { OnOk result (length kinds.new.items ≡ length names.new.items) }
-    ensures items { types.new.items ≡ types.old.items }
 {
     for block in blocks {
         add_block(alloc, types, next, labels, names, kinds, block)?;
@@ -146,14 +142,13 @@ fn param_types<'a>(
 /// results of instructions.
 pub fn own_names<'a>(
     alloc: Global,
-    types: &mut TypeNumbers<'_>,
+    types: &TypeNumbers<'_>,
     item: &'a DefineItem,
 ) -> Result<OwnNames<'a>, AllocError>
-    ensures labels { IfOk result (λ o. o.labels.items ≡ labels_of (numbered (named_types types.old) (define_of item.now))) }
-    ensures registers { IfOk result (λ o. registers_by (named_types types.old) o.registers.items o.types.items
-        ≡ registers_of (named_types types.old) (numbered (named_types types.old) (define_of item.now))) }
+    ensures labels { IfOk result (λ o. o.labels.items ≡ labels_of (numbered (named_types types.now) (define_of item.now))) }
+    ensures registers { IfOk result (λ o. registers_by (named_types types.now) o.registers.items o.types.items
+        ≡ registers_of (named_types types.now) (numbered (named_types types.now) (define_of item.now))) }
     ensures lengths { IfOk result (λ o. length o.types.items ≡ length o.registers.items) }
-    ensures items { types.new.items ≡ types.old.items }
 {
     let mut next = NextNumber::zero(alloc);
     let mut names = param_names(alloc, &mut next, item.params.as_slice())?;

@@ -53,18 +53,16 @@ fn is_void_kind(kind: Option<TypeKind>) -> bool
 }
 
 /// Whether a type is `void` or a name for it.
-fn is_void(types: &mut TypeNumbers<'_>, ty: &TypeNode) -> Result<bool, AllocError>
-    ensures same { IfOk result (λ b. b ≡ is_void (named_types types.old) (ty_of ty.now)) }
-    ensures items { types.new.items ≡ types.old.items }
+fn is_void(types: &TypeNumbers<'_>, ty: &TypeNode) -> Result<bool, AllocError>
+    ensures same { IfOk result (λ b. b ≡ is_void (named_types types.now) (ty_of ty.now)) }
 {
     let kind = types.kind(ty)?;
     Ok(is_void_kind(kind))
 }
 
 /// Whether there is a value of the type that is written for a result.
-fn has_value(types: &mut TypeNumbers<'_>, ty: RegisterType<'_>) -> Result<bool, AllocError>
-    ensures same { IfOk result (λ b. b ≡ has_value (named_types types.old) ty.entry) }
-    ensures items { types.new.items ≡ types.old.items }
+fn has_value(types: &TypeNumbers<'_>, ty: RegisterType<'_>) -> Result<bool, AllocError>
+    ensures same { IfOk result (λ b. b ≡ has_value (named_types types.now) ty.entry) }
 {
     match ty {
         RegisterType::Written(ty) => {
@@ -77,9 +75,8 @@ fn has_value(types: &mut TypeNumbers<'_>, ty: RegisterType<'_>) -> Result<bool, 
 }
 
 /// Whether an operation gives a value.
-pub fn gives(types: &mut TypeNumbers<'_>, op: &OpNode) -> Result<bool, AllocError>
-    ensures same { IfOk result (λ b. b ≡ gives (named_types types.old) (op_of op.now)) }
-    ensures items { types.new.items ≡ types.old.items }
+pub fn gives(types: &TypeNumbers<'_>, op: &OpNode) -> Result<bool, AllocError>
+    ensures same { IfOk result (λ b. b ≡ gives (named_types types.now) (op_of op.now)) }
 {
     match written_result(op) {
         Some(ty) => has_value(types, ty),
@@ -89,11 +86,10 @@ pub fn gives(types: &mut TypeNumbers<'_>, op: &OpNode) -> Result<bool, AllocErro
 
 /// The type of an operation's result; none where the operation gives no value.
 pub(crate) fn result_type<'a>(
-    types: &mut TypeNumbers<'_>,
+    types: &TypeNumbers<'_>,
     op: &'a OpNode,
 ) -> Result<Option<RegisterType<'a>>, AllocError>
-    ensures ty { IfOk result (λ o. IsResult (named_types types.old) (op_of op.now) o) }
-    ensures items { types.new.items ≡ types.old.items }
+    ensures ty { IfOk result (λ o. IsResult (named_types types.now) (op_of op.now) o) }
 {
     match written_result(op) {
         Some(ty) => {

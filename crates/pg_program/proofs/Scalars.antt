@@ -33,14 +33,13 @@ register_scalars types (n ∷ ns) [] e = cc
 register_scalars types (n ∷ ns) (t ∷ ts) e = ap (λ ss. cons_option (scalar_in (register_type types t)) ss) (register_scalars types ns ts (omega (arith, e)))
 
 -- the same of a function's own registers, whose types are read by type items that stay
-pub own_scalars : (its old : List TypeItem) (ns : List Name) (ts slice : List RegisterType) (rs : List Register) (found : List Scalar)
-    → its ≡ old → slice ≡ ts → length ts ≡ length ns → registers_by (items_of old) ns ts ≡ rs
+pub own_scalars : (its : List TypeItem) (ns : List Name) (ts slice : List RegisterType) (rs : List Register) (found : List Scalar)
+    → slice ≡ ts → length ts ≡ length ns → registers_by (items_of its) ns ts ≡ rs
     → found ≡ filter_map (λ t. scalar_in (register_type (items_of its) t)) slice → found ≡ filter_map (λ (r : Register). scalar_in r.ty) rs
-own_scalars its old ns ts slice rs found i s l r f =
+own_scalars its ns ts slice rs found s l r f =
     f
     ∙ ap (λ us. filter_map (λ t. scalar_in (register_type (items_of its) t)) us) s
-    ∙ ap (λ is. filter_map (λ t. scalar_in (register_type (items_of is) t)) ts) i
-    ∙ register_scalars (items_of old) ns ts l
+    ∙ register_scalars (items_of its) ns ts l
     ∙ ap (λ xs. filter_map (λ (r : Register). scalar_in r.ty) xs) r
 
 -- ---- the types of registers' values, one more and all

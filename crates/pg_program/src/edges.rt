@@ -23,15 +23,14 @@ use std::alloc::{AllocError, Global};
 fn incoming_at(
     alloc: Global,
     scope: &FunctionScope<'_>,
-    types: &mut TypeNumbers<'_>,
+    types: &TypeNumbers<'_>,
     ty: &TypeNode,
     incoming: &IncomingNode,
 ) -> Result<Incoming, AllocError>
-    requires items { types.old.items ≡ scope.now.globals.now.symbols.tree.now.types.items }
+    requires items { types.now.items ≡ scope.now.globals.now.symbols.tree.now.types.items }
     requires value { IncomingIsSmall scope.now (incoming_of incoming.now) }
     ensures incoming { (names : ScopeNames scope.now) →
         IfOk result (λ i. i ≡ incoming_at (scope_in scope.now names) scope.now.first (ty_of ty.now) (incoming_of incoming.now)) }
-    ensures items { types.new.items ≡ types.old.items }
 {
     let block = block_at(scope, &incoming.block);
     let value = value_at(alloc, scope, types, ty, &incoming.value)?;
@@ -42,16 +41,15 @@ fn incoming_at(
 fn add_incomings(
     alloc: Global,
     scope: &FunctionScope<'_>,
-    types: &mut TypeNumbers<'_>,
+    types: &TypeNumbers<'_>,
     ty: &TypeNode,
     found: &mut Vec<Incoming>,
     all: &[IncomingNode],
 ) -> Result<(), AllocError>
-    requires items { types.old.items ≡ scope.now.globals.now.symbols.tree.now.types.items }
+    requires items { types.now.items ≡ scope.now.globals.now.symbols.tree.now.types.items }
     requires values { Each (IncomingIsSmall scope.now) (map incoming_of all.now) }
     ensures incomings { (names : ScopeNames scope.now) → OnOk result (found.new.items ≡ found.old.items
         ++ map (incoming_at (scope_in scope.now names) scope.now.first (ty_of ty.now)) (map incoming_of all.now)) }
-    ensures items { types.new.items ≡ types.old.items }
 {
     for incoming in all {
         let one = incoming_at(alloc, scope, types, ty, incoming)?;
@@ -64,17 +62,16 @@ fn add_incomings(
 pub(crate) fn incomings_at(
     alloc: Global,
     scope: &FunctionScope<'_>,
-    types: &mut TypeNumbers<'_>,
+    types: &TypeNumbers<'_>,
     ty: &TypeNode,
     first: &IncomingNode,
     others: &[IncomingNode],
 ) -> Result<Vec<Incoming>, AllocError>
-    requires items { types.old.items ≡ scope.now.globals.now.symbols.tree.now.types.items }
+    requires items { types.now.items ≡ scope.now.globals.now.symbols.tree.now.types.items }
     requires first { IncomingIsSmall scope.now (incoming_of first.now) }
     requires others { Each (IncomingIsSmall scope.now) (map incoming_of others.now) }
     ensures incomings { (names : ScopeNames scope.now) → IfOk result (λ v. v.items ≡
         map (incoming_at (scope_in scope.now names) scope.now.first (ty_of ty.now)) (incoming_of first.now ∷ map incoming_of others.now)) }
-    ensures items { types.new.items ≡ types.old.items }
 {
     let one = incoming_at(alloc, scope, types, ty, first)?;
     let mut found = Vec::new(alloc);
@@ -84,13 +81,8 @@ pub(crate) fn incomings_at(
 }
 
 /// The number of a case at the type of its `switch`, and 0 where it has none.
-fn case_number(
-    types: &mut TypeNumbers<'_>,
-    ty: &TypeNode,
-    value: &TypedVal,
-) -> Result<u64, AllocError>
-    ensures number { IfOk result (λ n. n ≡ unwrap_or (number_at (resolved (named_types types.old) (ty_of ty.now)) (typed_of value.now).value) 0) }
-    ensures items { types.new.items ≡ types.old.items }
+fn case_number(types: &TypeNumbers<'_>, ty: &TypeNode, value: &TypedVal) -> Result<u64, AllocError>
+    ensures number { IfOk result (λ n. n ≡ unwrap_or (number_at (resolved (named_types types.now) (ty_of ty.now)) (typed_of value.now).value) 0) }
 {
     let number = number_at(types, ty, &value.value)?;
     Ok(number.unwrap_or(0))
@@ -99,14 +91,13 @@ fn case_number(
 /// A case of a `switch`, and the number of its basic block.
 fn case_at(
     scope: &FunctionScope<'_>,
-    types: &mut TypeNumbers<'_>,
+    types: &TypeNumbers<'_>,
     ty: &TypeNode,
     case: &CaseNode,
 ) -> Result<Case, AllocError>
-    requires { types.old.items ≡ scope.now.globals.now.symbols.tree.now.types.items }
+    requires { types.now.items ≡ scope.now.globals.now.symbols.tree.now.types.items }
     ensures case { (names : ScopeNames scope.now) →
         IfOk result (λ i. i ≡ case_at (scope_in scope.now names) scope.now.first (ty_of ty.now) (case_of case.now)) }
-    ensures items { types.new.items ≡ types.old.items }
 {
     let value = case_number(types, ty, &case.value)?;
     let to = block_at(scope, &case.block);
@@ -117,14 +108,13 @@ fn case_at(
 pub(crate) fn cases_at(
     alloc: Global,
     scope: &FunctionScope<'_>,
-    types: &mut TypeNumbers<'_>,
+    types: &TypeNumbers<'_>,
     ty: &TypeNode,
     cases: &[CaseNode],
 ) -> Result<Vec<Case>, AllocError>
-    requires { types.old.items ≡ scope.now.globals.now.symbols.tree.now.types.items }
+    requires { types.now.items ≡ scope.now.globals.now.symbols.tree.now.types.items }
     ensures cases { (names : ScopeNames scope.now) → IfOk result (λ v. v.items ≡
         map (case_at (scope_in scope.now names) scope.now.first (ty_of ty.now)) (map case_of cases.now)) }
-    ensures items { types.new.items ≡ types.old.items }
 {
     let mut found = Vec::new(alloc);
     for case in cases {

@@ -52,18 +52,17 @@ fn name_places<'a>(
 pub(crate) fn add_function(
     alloc: Global,
     globals: &Globals<'_>,
-    types: &mut TypeNumbers<'_>,
+    types: &TypeNumbers<'_>,
     found: &mut Vec<Instr>,
     item: &DefineItem,
     first: u32,
 ) -> Result<(), AllocError>
-    requires items { types.old.items ≡ globals.now.symbols.tree.now.types.items }
+    requires items { types.now.items ≡ globals.now.symbols.tree.now.types.items }
     requires symbols { FewSymbols (tree_of globals.now.symbols.tree.now) }
     requires fits { FunctionFits (tree_of globals.now.symbols.tree.now).types (define_of item.now) }
     requires room { first + length (define_of item.now).blocks ≤ INSTRUCTION_LIMIT }
     ensures instrs { OnOk result (found.new.items ≡ found.old.items ++ function_instrs (tree_of globals.now.symbols.tree.now) first
         (numbered_item (tree_of globals.now.symbols.tree.now).types item.now)) }
-    ensures items { types.new.items ≡ types.old.items }
 {
     let own = own_names(alloc, types, item)?;
     let names = own.registers.as_slice();
@@ -95,9 +94,8 @@ fn kind_scalar(kind: Option<TypeKind>) -> Option<Scalar>
 
 /// The type of a type's values, which an instruction can give.
 #[tactic(auto, using(crate::proofs::Scalars::scalar_of_kind))]
-fn scalar_at(types: &mut TypeNumbers<'_>, ty: &TypeNode) -> Result<Option<Scalar>, AllocError>
-    ensures scalar { IfOk result (λ s. s ≡ scalar_in (resolved (named_types types.old) (ty_of ty.now))) }
-    ensures items { types.new.items ≡ types.old.items }
+fn scalar_at(types: &TypeNumbers<'_>, ty: &TypeNode) -> Result<Option<Scalar>, AllocError>
+    ensures scalar { IfOk result (λ s. s ≡ scalar_in (resolved (named_types types.now) (ty_of ty.now))) }
 {
     let kind = types.kind(ty)?;
     Ok(kind_scalar(kind))
@@ -105,11 +103,10 @@ fn scalar_at(types: &mut TypeNumbers<'_>, ty: &TypeNode) -> Result<Option<Scalar
 
 /// The type of a register's values.
 fn register_scalar(
-    types: &mut TypeNumbers<'_>,
+    types: &TypeNumbers<'_>,
     ty: RegisterType<'_>,
 ) -> Result<Option<Scalar>, AllocError>
-    ensures scalar { IfOk result (λ s. s ≡ scalar_in (register_type (named_types types.old) ty.entry)) }
-    ensures items { types.new.items ≡ types.old.items }
+    ensures scalar { IfOk result (λ s. s ≡ scalar_in (register_type (named_types types.now) ty.entry)) }
 {
     match ty {
         RegisterType::Written(ty) => scalar_at(types, ty),
@@ -133,11 +130,10 @@ fn push_some(found: &mut Vec<Scalar>, one: Option<Scalar>) -> Result<(), AllocEr
 /// The types of registers' values.
 fn register_scalars(
     alloc: Global,
-    types: &mut TypeNumbers<'_>,
+    types: &TypeNumbers<'_>,
     all: &[RegisterType<'_>],
 ) -> Result<Vec<Scalar>, AllocError>
-    ensures scalars { IfOk result (λ v. v.items ≡ filter_map (λ t. scalar_in (register_type (named_types types.old) t)) all.now) }
-    ensures items { types.new.items ≡ types.old.items }
+    ensures scalars { IfOk result (λ v. v.items ≡ filter_map (λ t. scalar_in (register_type (named_types types.now) t)) all.now) }
 {
     let mut found = Vec::new(alloc);
     for place in 0..all.len() {
@@ -150,16 +146,15 @@ fn register_scalars(
 /// A function whose basic blocks are numbered from `first` on.
 pub(crate) fn function_at(
     alloc: Global,
-    types: &mut TypeNumbers<'_>,
+    types: &TypeNumbers<'_>,
     tree: &Module,
     item: &DefineItem,
     first: u32,
 ) -> Result<Function, AllocError>
-    requires items { types.old.items ≡ tree.now.types.items }
+    requires items { types.now.items ≡ tree.now.types.items }
     requires params { length (define_of item.now).params ≤ FUNCTION_REGISTER_LIMIT }
     requires blocks { length (define_of item.now).blocks ≤ INSTRUCTION_LIMIT }
     ensures function { IfOk result (λ f. f ≡ function_at (tree_of tree.now) first (numbered_item (tree_of tree.now).types item.now)) }
-    ensures items { types.new.items ≡ types.old.items }
 {
     let own = own_names(alloc, types, item)?;
     let all = own.types.as_slice();

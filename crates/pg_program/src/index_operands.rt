@@ -21,15 +21,14 @@ use std::alloc::{AllocError, Global};
 fn index_at(
     alloc: Global,
     scope: &FunctionScope<'_>,
-    types: &mut TypeNumbers<'_>,
+    types: &TypeNumbers<'_>,
     index: &TypedVal,
     scale: Scale,
 ) -> Result<Index, AllocError>
-    requires items { types.old.items ≡ scope.now.globals.now.symbols.tree.now.types.items }
+    requires items { types.now.items ≡ scope.now.globals.now.symbols.tree.now.types.items }
     requires value { TypedIsSmall scope.now (typed_of index.now) }
     ensures index { (names : ScopeNames scope.now) →
         IfOk result (λ i. i ≡ index_at (scope_in scope.now names) (typed_of index.now) scale) }
-    ensures items { types.new.items ≡ types.old.items }
 {
     let value = typed_value(alloc, scope, types, index)?;
     let width = typed_width(scope, types, index)?;
@@ -44,16 +43,15 @@ fn index_at(
 fn scaled_indices(
     alloc: Global,
     scope: &FunctionScope<'_>,
-    types: &mut TypeNumbers<'_>,
+    types: &TypeNumbers<'_>,
     indices: &[TypedVal],
     scales: &[Scale],
 ) -> Result<Vec<Index>, AllocError>
     requires lengths { length indices.now ≡ length scales.now }
-    requires items { types.old.items ≡ scope.now.globals.now.symbols.tree.now.types.items }
+    requires items { types.now.items ≡ scope.now.globals.now.symbols.tree.now.types.items }
     requires values { Each (TypedIsSmall scope.now) (map typed_of indices.now) }
     ensures indices { (names : ScopeNames scope.now) →
         IfOk result (λ v. v.items ≡ indices_at (scope_in scope.now names) (map typed_of indices.now) scales.now) }
-    ensures items { types.new.items ≡ types.old.items }
 {
     let mut found = Vec::new(alloc);
     for place in 0..scales.len() {
@@ -68,15 +66,14 @@ fn scaled_indices(
 fn scales_at(
     alloc: Global,
     scope: &FunctionScope<'_>,
-    types: &mut TypeNumbers<'_>,
+    types: &TypeNumbers<'_>,
     ty: &TypeNode,
     indices: &[TypedVal],
 ) -> Result<Vec<Scale>, AllocError>
-    requires items { types.old.items ≡ scope.now.globals.now.symbols.tree.now.types.items }
+    requires items { types.now.items ≡ scope.now.globals.now.symbols.tree.now.types.items }
     requires ty { TyIsSmall scope.now (ty_of ty.now) }
     ensures scales { IfOk result (λ v. v.items ≡
         index_scales (tree_of scope.now.globals.now.symbols.tree.now).types (ty_of ty.now) (map typed_of indices.now)) }
-    ensures items { types.new.items ≡ types.old.items }
 {
     let numbers = index_numbers(alloc, types, indices)?;
     index_scales(alloc, types, ty, numbers.as_slice())
@@ -86,17 +83,16 @@ fn scales_at(
 pub(crate) fn indices_at(
     alloc: Global,
     scope: &FunctionScope<'_>,
-    types: &mut TypeNumbers<'_>,
+    types: &TypeNumbers<'_>,
     ty: &TypeNode,
     indices: &[TypedVal],
 ) -> Result<Vec<Index>, AllocError>
-    requires items { types.old.items ≡ scope.now.globals.now.symbols.tree.now.types.items }
+    requires items { types.now.items ≡ scope.now.globals.now.symbols.tree.now.types.items }
     requires ty { TyIsSmall scope.now (ty_of ty.now) }
     requires values { Each (TypedIsSmall scope.now) (map typed_of indices.now) }
     ensures indices { (names : ScopeNames scope.now) → IfOk result (λ v. v.items ≡
         indices_at (scope_in scope.now names) (map typed_of indices.now)
         (index_scales (tree_of scope.now.globals.now.symbols.tree.now).types (ty_of ty.now) (map typed_of indices.now))) }
-    ensures items { types.new.items ≡ types.old.items }
 {
     let scales = scales_at(alloc, scope, types, ty, indices)?;
     scaled_indices(alloc, scope, types, indices, scales.as_slice())

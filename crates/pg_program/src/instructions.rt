@@ -32,18 +32,17 @@ use std::alloc::{AllocError, Global};
 fn binary_at(
     alloc: Global,
     scope: &FunctionScope<'_>,
-    types: &mut TypeNumbers<'_>,
+    types: &TypeNumbers<'_>,
     op: BinaryOp,
     ty: &TypeNode,
     left: &ValNode,
     right: &ValNode,
 ) -> Result<Op, AllocError>
-    requires items { types.old.items ≡ scope.now.globals.now.symbols.tree.now.types.items }
+    requires items { types.now.items ≡ scope.now.globals.now.symbols.tree.now.types.items }
     requires left { ValIsSmall scope.now (val_of left.now) }
     requires right { ValIsSmall scope.now (val_of right.now) }
     ensures op { (names : ScopeNames scope.now) → let g = scope_in scope.now names in IfOk result (λ o. o ≡
         binary_op op (width_in (type_in g (ty_of ty.now))) (value_at g (ty_of ty.now) (val_of left.now)) (value_at g (ty_of ty.now) (val_of right.now))) }
-    ensures items { types.new.items ≡ types.old.items }
 {
     let width = width_at(scope, types, ty)?;
     let left = value_at(alloc, scope, types, ty, left)?;
@@ -56,18 +55,17 @@ fn binary_at(
 fn compare_at(
     alloc: Global,
     scope: &FunctionScope<'_>,
-    types: &mut TypeNumbers<'_>,
+    types: &TypeNumbers<'_>,
     predicate: Predicate,
     ty: &TypeNode,
     left: &ValNode,
     right: &ValNode,
 ) -> Result<Op, AllocError>
-    requires items { types.old.items ≡ scope.now.globals.now.symbols.tree.now.types.items }
+    requires items { types.now.items ≡ scope.now.globals.now.symbols.tree.now.types.items }
     requires left { ValIsSmall scope.now (val_of left.now) }
     requires right { ValIsSmall scope.now (val_of right.now) }
     ensures op { (names : ScopeNames scope.now) → let g = scope_in scope.now names in IfOk result (λ o. o ≡
         operation.Compare (comparison_of predicate) (width_in (type_in g (ty_of ty.now))) (value_at g (ty_of ty.now) (val_of left.now)) (value_at g (ty_of ty.now) (val_of right.now))) }
-    ensures items { types.new.items ≡ types.old.items }
 {
     let width = width_at(scope, types, ty)?;
     let left = value_at(alloc, scope, types, ty, left)?;
@@ -85,16 +83,15 @@ fn compare_at(
 fn cast_at(
     alloc: Global,
     scope: &FunctionScope<'_>,
-    types: &mut TypeNumbers<'_>,
+    types: &TypeNumbers<'_>,
     op: CastOp,
     value: &TypedVal,
     ty: &TypeNode,
 ) -> Result<Op, AllocError>
-    requires items { types.old.items ≡ scope.now.globals.now.symbols.tree.now.types.items }
+    requires items { types.now.items ≡ scope.now.globals.now.symbols.tree.now.types.items }
     requires value { TypedIsSmall scope.now (typed_of value.now) }
     ensures op { (names : ScopeNames scope.now) → let g = scope_in scope.now names in IfOk result (λ o. o ≡
         cast_op op (width_in (type_in g (typed_of value.now).ty)) (width_in (type_in g (ty_of ty.now))) (typed_value g (typed_of value.now))) }
-    ensures items { types.new.items ≡ types.old.items }
 {
     let from = typed_width(scope, types, value)?;
     let to = width_at(scope, types, ty)?;
@@ -107,18 +104,17 @@ fn cast_at(
 fn select_at(
     alloc: Global,
     scope: &FunctionScope<'_>,
-    types: &mut TypeNumbers<'_>,
+    types: &TypeNumbers<'_>,
     cond: &TypedVal,
     first: &TypedVal,
     second: &TypedVal,
 ) -> Result<Op, AllocError>
-    requires items { types.old.items ≡ scope.now.globals.now.symbols.tree.now.types.items }
+    requires items { types.now.items ≡ scope.now.globals.now.symbols.tree.now.types.items }
     requires cond { TypedIsSmall scope.now (typed_of cond.now) }
     requires first { TypedIsSmall scope.now (typed_of first.now) }
     requires second { TypedIsSmall scope.now (typed_of second.now) }
     ensures op { (names : ScopeNames scope.now) → let g = scope_in scope.now names in IfOk result (λ o. o ≡
         operation.Select (typed_value g (typed_of cond.now)) (typed_value g (typed_of first.now)) (typed_value g (typed_of second.now))) }
-    ensures items { types.new.items ≡ types.old.items }
 {
     let cond = typed_value(alloc, scope, types, cond)?;
     let first = typed_value(alloc, scope, types, first)?;
@@ -134,17 +130,16 @@ fn select_at(
 fn phi_at(
     alloc: Global,
     scope: &FunctionScope<'_>,
-    types: &mut TypeNumbers<'_>,
+    types: &TypeNumbers<'_>,
     ty: &TypeNode,
     first: &IncomingNode,
     others: &[IncomingNode],
 ) -> Result<Op, AllocError>
-    requires items { types.old.items ≡ scope.now.globals.now.symbols.tree.now.types.items }
+    requires items { types.now.items ≡ scope.now.globals.now.symbols.tree.now.types.items }
     requires first { IncomingIsSmall scope.now (incoming_of first.now) }
     requires others { Each (IncomingIsSmall scope.now) (map incoming_of others.now) }
     ensures op { (names : ScopeNames scope.now) → IfOk result (λ o. o ≡
         operation.Phi (map (incoming_at (scope_in scope.now names) scope.now.first (ty_of ty.now)) (incoming_of first.now ∷ map incoming_of others.now))) }
-    ensures items { types.new.items ≡ types.old.items }
 {
     let from = incomings_at(alloc, scope, types, ty, first, others)?;
     Ok(Op::Phi {
@@ -165,16 +160,15 @@ fn branch_at(scope: &FunctionScope<'_>, block: &Name) -> Op
 fn conditional_branch_at(
     alloc: Global,
     scope: &FunctionScope<'_>,
-    types: &mut TypeNumbers<'_>,
+    types: &TypeNumbers<'_>,
     cond: &TypedVal,
     first: &Name,
     second: &Name,
 ) -> Result<Op, AllocError>
-    requires items { types.old.items ≡ scope.now.globals.now.symbols.tree.now.types.items }
+    requires items { types.now.items ≡ scope.now.globals.now.symbols.tree.now.types.items }
     requires cond { TypedIsSmall scope.now (typed_of cond.now) }
     ensures op { (names : ScopeNames scope.now) → let g = scope_in scope.now names in IfOk result (λ o. o ≡
         operation.CondBr (typed_value g (typed_of cond.now)) (block_at g scope.now.first first.now) (block_at g scope.now.first second.now)) }
-    ensures items { types.new.items ≡ types.old.items }
 {
     let cond = typed_value(alloc, scope, types, cond)?;
     let first = block_at(scope, first);
@@ -190,17 +184,16 @@ fn conditional_branch_at(
 fn switch_at(
     alloc: Global,
     scope: &FunctionScope<'_>,
-    types: &mut TypeNumbers<'_>,
+    types: &TypeNumbers<'_>,
     value: &TypedVal,
     block: &Name,
     cases: &[CaseNode],
 ) -> Result<Op, AllocError>
-    requires items { types.old.items ≡ scope.now.globals.now.symbols.tree.now.types.items }
+    requires items { types.now.items ≡ scope.now.globals.now.symbols.tree.now.types.items }
     requires value { TypedIsSmall scope.now (typed_of value.now) }
     ensures op { (names : ScopeNames scope.now) → let g = scope_in scope.now names in IfOk result (λ o. o ≡
         operation.Switch (width_in (type_in g (typed_of value.now).ty)) (typed_value g (typed_of value.now)) (block_at g scope.now.first block.now)
         (map (case_at g scope.now.first (typed_of value.now).ty) (map case_of cases.now))) }
-    ensures items { types.new.items ≡ types.old.items }
 {
     let width = typed_width(scope, types, value)?;
     let on = typed_value(alloc, scope, types, value)?;
@@ -219,15 +212,14 @@ fn switch_at(
 fn call_at(
     alloc: Global,
     scope: &FunctionScope<'_>,
-    types: &mut TypeNumbers<'_>,
+    types: &TypeNumbers<'_>,
     callee: &Name,
     args: &[TypedVal],
 ) -> Result<Op, AllocError>
-    requires items { types.old.items ≡ scope.now.globals.now.symbols.tree.now.types.items }
+    requires items { types.now.items ≡ scope.now.globals.now.symbols.tree.now.types.items }
     requires values { Each (TypedIsSmall scope.now) (map typed_of args.now) }
     ensures op { (names : ScopeNames scope.now) → IfOk result (λ o. o ≡
         call_of (symbol (tree_of scope.now.globals.now.symbols.tree.now) callee.now.text) (map (typed_value (scope_in scope.now names)) (map typed_of args.now))) }
-    ensures items { types.new.items ≡ types.old.items }
 {
     let values = values_at(alloc, scope, types, args)?;
     Ok(call_of(
@@ -240,14 +232,13 @@ fn call_at(
 fn return_at(
     alloc: Global,
     scope: &FunctionScope<'_>,
-    types: &mut TypeNumbers<'_>,
+    types: &TypeNumbers<'_>,
     value: &TypedVal,
 ) -> Result<Op, AllocError>
-    requires items { types.old.items ≡ scope.now.globals.now.symbols.tree.now.types.items }
+    requires items { types.now.items ≡ scope.now.globals.now.symbols.tree.now.types.items }
     requires value { TypedIsSmall scope.now (typed_of value.now) }
     ensures op { (names : ScopeNames scope.now) → IfOk result (λ o. o ≡
         operation.Ret (Some (typed_value (scope_in scope.now names) (typed_of value.now)))) }
-    ensures items { types.new.items ≡ types.old.items }
 {
     let value = typed_value(alloc, scope, types, value)?;
     Ok(Op::Ret { value: Some(value) })
@@ -256,13 +247,12 @@ fn return_at(
 /// How many elements an `alloca` takes.
 fn count_in(
     scope: &FunctionScope<'_>,
-    types: &mut TypeNumbers<'_>,
+    types: &TypeNumbers<'_>,
     count: &Option<CountNode>,
 ) -> Result<u64, AllocError>
-    requires { types.old.items ≡ scope.now.globals.now.symbols.tree.now.types.items }
+    requires { types.now.items ≡ scope.now.globals.now.symbols.tree.now.types.items }
     ensures count { (names : ScopeNames scope.now) → IfOk result (λ n. n ≡
         count_in (scope_in scope.now names) (option_map count_of count.now)) }
-    ensures items { types.new.items ≡ types.old.items }
 {
     match count {
         Some(count) => {
@@ -283,15 +273,14 @@ fn size_of_all(size: u32, count: u64) -> u128
 /// Memory of a frame.
 fn alloca_at(
     scope: &FunctionScope<'_>,
-    types: &mut TypeNumbers<'_>,
+    types: &TypeNumbers<'_>,
     ty: &TypeNode,
     count: &Option<CountNode>,
 ) -> Result<Op, AllocError>
-    requires items { types.old.items ≡ scope.now.globals.now.symbols.tree.now.types.items }
+    requires items { types.now.items ≡ scope.now.globals.now.symbols.tree.now.types.items }
     requires ty { TyIsSmall scope.now (ty_of ty.now) }
     ensures op { (names : ScopeNames scope.now) → let g = scope_in scope.now names in IfOk result (λ o. o ≡
         operation.Alloca (size_or_none (type_in g (ty_of ty.now)) * count_in g (option_map count_of count.now))) }
-    ensures items { types.new.items ≡ types.old.items }
 {
     let size = size_at(scope, types, ty)?;
     let count = count_in(scope, types, count)?;
@@ -303,15 +292,14 @@ fn alloca_at(
 fn load_at(
     alloc: Global,
     scope: &FunctionScope<'_>,
-    types: &mut TypeNumbers<'_>,
+    types: &TypeNumbers<'_>,
     ty: &TypeNode,
     pointer: &TypedVal,
 ) -> Result<Op, AllocError>
-    requires items { types.old.items ≡ scope.now.globals.now.symbols.tree.now.types.items }
+    requires items { types.now.items ≡ scope.now.globals.now.symbols.tree.now.types.items }
     requires pointer { TypedIsSmall scope.now (typed_of pointer.now) }
     ensures op { (names : ScopeNames scope.now) → let g = scope_in scope.now names in IfOk result (λ o. o ≡
         operation.Load (width_in (type_in g (ty_of ty.now))) (typed_value g (typed_of pointer.now))) }
-    ensures items { types.new.items ≡ types.old.items }
 {
     let width = width_at(scope, types, ty)?;
     let from = typed_value(alloc, scope, types, pointer)?;
@@ -322,16 +310,15 @@ fn load_at(
 fn store_at(
     alloc: Global,
     scope: &FunctionScope<'_>,
-    types: &mut TypeNumbers<'_>,
+    types: &TypeNumbers<'_>,
     value: &TypedVal,
     pointer: &TypedVal,
 ) -> Result<Op, AllocError>
-    requires items { types.old.items ≡ scope.now.globals.now.symbols.tree.now.types.items }
+    requires items { types.now.items ≡ scope.now.globals.now.symbols.tree.now.types.items }
     requires value { TypedIsSmall scope.now (typed_of value.now) }
     requires pointer { TypedIsSmall scope.now (typed_of pointer.now) }
     ensures op { (names : ScopeNames scope.now) → let g = scope_in scope.now names in IfOk result (λ o. o ≡
         operation.Store (width_in (type_in g (typed_of value.now).ty)) (typed_value g (typed_of value.now)) (typed_value g (typed_of pointer.now))) }
-    ensures items { types.new.items ≡ types.old.items }
 {
     let width = typed_width(scope, types, value)?;
     let value = typed_value(alloc, scope, types, value)?;
@@ -343,19 +330,18 @@ fn store_at(
 fn element_pointer_at(
     alloc: Global,
     scope: &FunctionScope<'_>,
-    types: &mut TypeNumbers<'_>,
+    types: &TypeNumbers<'_>,
     ty: &TypeNode,
     pointer: &TypedVal,
     indices: &[TypedVal],
 ) -> Result<Op, AllocError>
-    requires items { types.old.items ≡ scope.now.globals.now.symbols.tree.now.types.items }
+    requires items { types.now.items ≡ scope.now.globals.now.symbols.tree.now.types.items }
     requires ty { TyIsSmall scope.now (ty_of ty.now) }
     requires pointer { TypedIsSmall scope.now (typed_of pointer.now) }
     requires values { Each (TypedIsSmall scope.now) (map typed_of indices.now) }
     ensures op { (names : ScopeNames scope.now) → let g = scope_in scope.now names in IfOk result (λ o. o ≡
         operation.Gep (typed_value g (typed_of pointer.now)) (indices_at g (map typed_of indices.now)
         (index_scales (tree_of scope.now.globals.now.symbols.tree.now).types (ty_of ty.now) (map typed_of indices.now)))) }
-    ensures items { types.new.items ≡ types.old.items }
 {
     let base = typed_value(alloc, scope, types, pointer)?;
     let indices = indices_at(alloc, scope, types, ty, indices)?;
@@ -370,14 +356,13 @@ fn element_pointer_at(
 pub(crate) fn op_at(
     alloc: Global,
     scope: &FunctionScope<'_>,
-    types: &mut TypeNumbers<'_>,
+    types: &TypeNumbers<'_>,
     op: &OpNode,
 ) -> Result<Op, AllocError>
-    requires items { types.old.items ≡ scope.now.globals.now.symbols.tree.now.types.items }
+    requires items { types.now.items ≡ scope.now.globals.now.symbols.tree.now.types.items }
     requires fits { OpFits (types_in scope.now) (op_of op.now) }
     ensures op { (names : ScopeNames scope.now) → IfOk result (λ o. o ≡
         op_at (scope_in scope.now names) scope.now.first (op_of op.now)) }
-    ensures items { types.new.items ≡ types.old.items }
 {
     match op {
         OpNode::Binary {

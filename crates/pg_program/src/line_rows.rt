@@ -79,17 +79,16 @@ fn gives(scope: &FunctionScope<'_>, op: &OpNode) -> bool
 fn op_instr(
     alloc: Global,
     scope: &FunctionScope<'_>,
-    types: &mut TypeNumbers<'_>,
+    types: &TypeNumbers<'_>,
     block: u32,
     names: &[Name],
     at: usize,
     op: &OpNode,
 ) -> Result<Instr, AllocError>
-    requires items { types.old.items ≡ scope.now.globals.now.symbols.tree.now.types.items }
+    requires items { types.now.items ≡ scope.now.globals.now.symbols.tree.now.types.items }
     requires fits { OpFits (types_in scope.now) (op_of op.now) }
     ensures instr { (own : ScopeNames scope.now) → IfOk result (λ i. i ≡
         op_instr (scope_in scope.now own) scope.now.first block (drop at names.now) (op_of op.now)) }
-    ensures items { types.new.items ≡ types.old.items }
 {
     let gives = gives(scope, op);
     let result = result_by(scope, gives, names, at);
@@ -106,20 +105,19 @@ fn op_instr(
 fn add_lines(
     alloc: Global,
     scope: &FunctionScope<'_>,
-    types: &mut TypeNumbers<'_>,
+    types: &TypeNumbers<'_>,
     found: &mut Vec<Instr>,
     block: u32,
     names: &[Name],
     start: usize,
     lines: &[LineNode],
 ) -> Result<usize, AllocError>
-    requires items { types.old.items ≡ scope.now.globals.now.symbols.tree.now.types.items }
+    requires items { types.now.items ≡ scope.now.globals.now.symbols.tree.now.types.items }
     requires fits { Each (LineFits (types_in scope.now)) (map line_of lines.now) }
     ensures instrs { (own : ScopeNames scope.now) → OnOk result (found.new.items ≡ found.old.items
         ++ lines_by (scope_in scope.now own) scope.now.first block (drop start names.now) (map line_of lines.now)) }
     ensures names { IfOk result (λ at. drop at names.now ≡
         names_after_lines (tree_of scope.now.globals.now.symbols.tree.now).types (drop start names.now) (map line_of lines.now)) }
-    ensures items { types.new.items ≡ types.old.items }
 {
     let mut at = start;
     for line in lines {
@@ -135,18 +133,17 @@ fn add_lines(
 pub(crate) fn add_block_lines(
     alloc: Global,
     scope: &FunctionScope<'_>,
-    types: &mut TypeNumbers<'_>,
+    types: &TypeNumbers<'_>,
     found: &mut Vec<Instr>,
     names: &[Name],
     start: usize,
     blocks: &[BlockNode],
 ) -> Result<(), AllocError>
-    requires items { types.old.items ≡ scope.now.globals.now.symbols.tree.now.types.items }
+    requires items { types.now.items ≡ scope.now.globals.now.symbols.tree.now.types.items }
     requires room { scope.now.first + length blocks.now ≤ INSTRUCTION_LIMIT }
     requires fits { Each (BlockFits (types_in scope.now)) (map block_of blocks.now) }
     ensures instrs { (own : ScopeNames scope.now) → OnOk result (found.new.items ≡ found.old.items
         ++ blocks_by (scope_in scope.now own) scope.now.first scope.now.first (drop start names.now) (map block_of blocks.now)) }
-    ensures items { types.new.items ≡ types.old.items }
 {
     let mut at = start;
     let mut number = scope.first;

@@ -21,7 +21,7 @@ use pg_constants::{kind_word, size_or_none};
 use pg_ir::Value;
 use pg_num::Width;
 use pg_rules::{SymbolNode, symbol};
-use pg_types::{TypeKind, TypeNumbers};
+use pg_types::{KnownTypes, TypeKind, TypeNumbers};
 use std::alloc::{AllocError, Global};
 
 /// A global or a function by its number.
@@ -41,15 +41,14 @@ fn symbol_value(symbol: SymbolNode<'_>) -> Value
 fn constant_at(
     alloc: Global,
     scope: &FunctionScope<'_>,
-    types: &mut TypeNumbers<'_>,
+    types: &TypeNumbers<'_>,
     ty: &TypeNode,
     value: &ValNode,
 ) -> Result<Value, AllocError>
-    requires items { types.old.items ≡ scope.now.globals.now.symbols.tree.now.types.items }
+    requires items { types.now.items ≡ scope.now.globals.now.symbols.tree.now.types.items }
     requires value { ValIsSmall scope.now (val_of value.now) }
     ensures value { IfOk result (λ v. v ≡ Const (constant_word (tree_of scope.now.globals.now.symbols.tree.now)
-        (resolved (named_types types.old) (ty_of ty.now)) (val_of value.now))) }
-    ensures items { types.new.items ≡ types.old.items }
+        (resolved (named_types types.now) (ty_of ty.now)) (val_of value.now))) }
 {
     let kind = types.kind(ty)?;
     let word = kind_word(alloc, scope.globals, types, kind, value)?;
@@ -61,15 +60,14 @@ fn constant_at(
 pub(crate) fn value_at(
     alloc: Global,
     scope: &FunctionScope<'_>,
-    types: &mut TypeNumbers<'_>,
+    types: &TypeNumbers<'_>,
     ty: &TypeNode,
     value: &ValNode,
 ) -> Result<Value, AllocError>
-    requires items { types.old.items ≡ scope.now.globals.now.symbols.tree.now.types.items }
+    requires items { types.now.items ≡ scope.now.globals.now.symbols.tree.now.types.items }
     requires value { ValIsSmall scope.now (val_of value.now) }
     ensures value { (names : ScopeNames scope.now) →
         IfOk result (λ v. v ≡ value_at (scope_in scope.now names) (ty_of ty.now) (val_of value.now)) }
-    ensures items { types.new.items ≡ types.old.items }
 {
     match value {
         ValNode::Local(name) => Ok(Value::Register(register_number(scope, name))),
@@ -85,14 +83,13 @@ pub(crate) fn value_at(
 pub(crate) fn typed_value(
     alloc: Global,
     scope: &FunctionScope<'_>,
-    types: &mut TypeNumbers<'_>,
+    types: &TypeNumbers<'_>,
     value: &TypedVal,
 ) -> Result<Value, AllocError>
-    requires items { types.old.items ≡ scope.now.globals.now.symbols.tree.now.types.items }
+    requires items { types.now.items ≡ scope.now.globals.now.symbols.tree.now.types.items }
     requires value { TypedIsSmall scope.now (typed_of value.now) }
     ensures value { (names : ScopeNames scope.now) →
         IfOk result (λ v. v ≡ typed_value (scope_in scope.now names) (typed_of value.now)) }
-    ensures items { types.new.items ≡ types.old.items }
 {
     value_at(alloc, scope, types, &value.ty, &value.value)
 }
@@ -110,13 +107,12 @@ fn kind_width(kind: Option<TypeKind>) -> Width
 #[tactic(auto, using(crate::proofs::KindWords::width_of_kind))]
 pub(crate) fn width_at(
     scope: &FunctionScope<'_>,
-    types: &mut TypeNumbers<'_>,
+    types: &TypeNumbers<'_>,
     ty: &TypeNode,
 ) -> Result<Width, AllocError>
-    requires { types.old.items ≡ scope.now.globals.now.symbols.tree.now.types.items }
+    requires { types.now.items ≡ scope.now.globals.now.symbols.tree.now.types.items }
     ensures width { (names : ScopeNames scope.now) →
         IfOk result (λ w. w ≡ width_in (type_in (scope_in scope.now names) (ty_of ty.now))) }
-    ensures items { types.new.items ≡ types.old.items }
 {
     let kind = types.kind(ty)?;
     Ok(kind_width(kind))
@@ -125,13 +121,12 @@ pub(crate) fn width_at(
 /// The width of the type that is written before a value.
 pub(crate) fn typed_width(
     scope: &FunctionScope<'_>,
-    types: &mut TypeNumbers<'_>,
+    types: &TypeNumbers<'_>,
     value: &TypedVal,
 ) -> Result<Width, AllocError>
-    requires { types.old.items ≡ scope.now.globals.now.symbols.tree.now.types.items }
+    requires { types.now.items ≡ scope.now.globals.now.symbols.tree.now.types.items }
     ensures width { (names : ScopeNames scope.now) →
         IfOk result (λ w. w ≡ width_in (type_in (scope_in scope.now names) (typed_of value.now).ty)) }
-    ensures items { types.new.items ≡ types.old.items }
 {
     width_at(scope, types, &value.ty)
 }
@@ -139,31 +134,30 @@ pub(crate) fn typed_width(
 /// The size of a type in bytes, and 0 of one that is none.
 pub(crate) fn size_at(
     scope: &FunctionScope<'_>,
-    types: &mut TypeNumbers<'_>,
+    types: &TypeNumbers<'_>,
     ty: &TypeNode,
 ) -> Result<u32, AllocError>
-    requires items { types.old.items ≡ scope.now.globals.now.symbols.tree.now.types.items }
+    requires items { types.now.items ≡ scope.now.globals.now.symbols.tree.now.types.items }
     requires ty { TyIsSmall scope.now (ty_of ty.now) }
     ensures size { (names : ScopeNames scope.now) →
         IfOk result (λ n. n ≡ size_or_none (type_in (scope_in scope.now names) (ty_of ty.now))) }
-    ensures items { types.new.items ≡ types.old.items }
 {
-    let number = types.number(ty)?;
-    Ok(size_or_none(types, number))
+    let mut known = KnownTypes::new(types);
+    let number = known.number(ty)?;
+    Ok(size_or_none(&known, number))
 }
 
 /// The values of arguments.
 pub(crate) fn values_at(
     alloc: Global,
     scope: &FunctionScope<'_>,
-    types: &mut TypeNumbers<'_>,
+    types: &TypeNumbers<'_>,
     values: &[TypedVal],
 ) -> Result<Vec<Value>, AllocError>
-    requires items { types.old.items ≡ scope.now.globals.now.symbols.tree.now.types.items }
+    requires items { types.now.items ≡ scope.now.globals.now.symbols.tree.now.types.items }
     requires values { Each (TypedIsSmall scope.now) (map typed_of values.now) }
     ensures values { (names : ScopeNames scope.now) →
         IfOk result (λ v. v.items ≡ map (typed_value (scope_in scope.now names)) (map typed_of values.now)) }
-    ensures items { types.new.items ≡ types.old.items }
 {
     let mut found = Vec::new(alloc);
     for value in values {

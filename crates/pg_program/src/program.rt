@@ -45,14 +45,13 @@ fn block_behind(first: u32, item: &DefineItem) -> u32
 #[tactic(auto, using(crate::proofs::Rows::rows_none, crate::proofs::Rows::first_block_none))]
 fn functions_of(
     alloc: Global,
-    types: &mut TypeNumbers<'_>,
+    types: &TypeNumbers<'_>,
     tree: &Module,
     all: &[DefineItem],
 ) -> Result<Vec<Function>, AllocError>
-    requires items { types.old.items ≡ tree.now.types.items }
+    requires items { types.now.items ≡ tree.now.types.items }
     requires fits { FunctionsFit (tree_of tree.now).types (map define_of all.now) }
     ensures functions { IfOk result (λ v. v.items ≡ rows_from (function_row (tree_of tree.now) (map define_of all.now)) 0 all.now) }
-    ensures items { types.new.items ≡ types.old.items }
 {
     let mut found = Vec::new(alloc);
     let mut first = 0;
@@ -87,14 +86,13 @@ fn blocks_of(alloc: Global, all: &[DefineItem]) -> Result<Vec<Block>, AllocError
 fn instrs_of(
     alloc: Global,
     globals: &Globals<'_>,
-    types: &mut TypeNumbers<'_>,
+    types: &TypeNumbers<'_>,
     all: &[DefineItem],
 ) -> Result<Vec<Instr>, AllocError>
-    requires items { types.old.items ≡ globals.now.symbols.tree.now.types.items }
+    requires items { types.now.items ≡ globals.now.symbols.tree.now.types.items }
     requires symbols { FewSymbols (tree_of globals.now.symbols.tree.now) }
     requires fits { FunctionsFit (tree_of globals.now.symbols.tree.now).types (map define_of all.now) }
     ensures instrs { IfOk result (λ v. v.items ≡ rows_from (instr_row (tree_of globals.now.symbols.tree.now) (map define_of all.now)) 0 all.now) }
-    ensures items { types.new.items ≡ types.old.items }
 {
     let mut found = Vec::new(alloc);
     let mut first = 0;
@@ -141,17 +139,16 @@ fn main_number(all: &[DefineItem]) -> u32
 /// The functions and the basic blocks of a module by number.
 fn function_parts(
     alloc: Global,
-    types: &mut TypeNumbers<'_>,
+    types: &TypeNumbers<'_>,
     tree: &Module,
     all: &[DefineItem],
 ) -> Result<(Vec<Function>, Vec<Block>), AllocError>
-    requires items { types.old.items ≡ tree.now.types.items }
+    requires items { types.now.items ≡ tree.now.types.items }
     requires fits { FunctionsFit (tree_of tree.now).types (map define_of all.now) }
     requires few { length all.now ≤ FUNCTION_LIMIT }
     requires lines { sum_by line_count (map define_of all.now) ≤ INSTRUCTION_LIMIT }
     ensures functions { IfOk result (λ v. v.0.items ≡ rows_from (function_row (tree_of tree.now) (map define_of all.now)) 0 all.now) }
     ensures blocks { IfOk result (λ v. v.1.items ≡ rows_from (block_row (map define_of all.now)) 0 all.now) }
-    ensures items { types.new.items ≡ types.old.items }
 {
     let functions = functions_of(alloc, types, tree, all)?;
     let blocks = blocks_of(alloc, all)?;
@@ -162,17 +159,16 @@ fn function_parts(
 fn instr_parts(
     alloc: Global,
     globals: &Globals<'_>,
-    types: &mut TypeNumbers<'_>,
+    types: &TypeNumbers<'_>,
     all: &[DefineItem],
 ) -> Result<(Vec<Instr>, Vec<GlobalInfo>), AllocError>
-    requires items { types.old.items ≡ globals.now.symbols.tree.now.types.items }
+    requires items { types.now.items ≡ globals.now.symbols.tree.now.types.items }
     requires symbols { FewSymbols (tree_of globals.now.symbols.tree.now) }
     requires fits { FunctionsFit (tree_of globals.now.symbols.tree.now).types (map define_of all.now) }
     requires sizes { GlobalsFit (tree_of globals.now.symbols.tree.now).types (tree_of globals.now.symbols.tree.now).globals }
     ensures instrs { IfOk result (λ v. v.0.items ≡ rows_from (instr_row (tree_of globals.now.symbols.tree.now) (map define_of all.now)) 0 all.now) }
     ensures rows { IfOk result (λ v. v.1.items ≡
         map (λ (v : ℕ × Variable). global_at (tree_of globals.now.symbols.tree.now) v.0 v.1) (enumerate_from 0 (tree_of globals.now.symbols.tree.now).globals)) }
-    ensures items { types.new.items ≡ types.old.items }
 {
     let instrs = instrs_of(alloc, globals, types, all)?;
     let variables = add_globals(alloc, globals, types)?;
@@ -183,14 +179,13 @@ fn instr_parts(
 fn parts_among(
     alloc: Global,
     globals: &Globals<'_>,
-    types: &mut TypeNumbers<'_>,
+    types: &TypeNumbers<'_>,
     tree: &Module,
 ) -> Result<ProgramParts, AllocError>
     requires same { globals.now.symbols.tree.now ≡ tree.now }
-    requires items { types.old.items ≡ tree.now.types.items }
+    requires items { types.now.items ≡ tree.now.types.items }
     requires fits { ProgramFits (tree_of tree.now) }
     ensures program { IfOk result (λ p. numbered_program p.functions.items p.blocks.items p.instrs.items p.globals.items p.main ≡ program_of (tree_of tree.now)) }
-    ensures items { types.new.items ≡ types.old.items }
 {
     let all = tree.functions.as_slice();
     let (functions, blocks) = function_parts(alloc, types, tree, all)?;
@@ -208,13 +203,12 @@ fn parts_among(
 /// The parts of a module's numbered program, where its numbers and sizes fit.
 fn parts_of(
     alloc: Global,
-    types: &mut TypeNumbers<'_>,
+    types: &TypeNumbers<'_>,
     tree: &Module,
 ) -> Result<ProgramParts, AllocError>
-    requires items { types.old.items ≡ tree.now.types.items }
+    requires items { types.now.items ≡ tree.now.types.items }
     requires fits { ProgramFits (tree_of tree.now) }
     ensures program { IfOk result (λ p. numbered_program p.functions.items p.blocks.items p.instrs.items p.globals.items p.main ≡ program_of (tree_of tree.now)) }
-    ensures items { types.new.items ≡ types.old.items }
 {
     let globals = index_globals(alloc, types, tree)?;
     parts_among(alloc, &globals, types, tree)
@@ -224,13 +218,12 @@ fn parts_of(
 /// labels by their numbers. It is an error where there is no memory left.
 pub fn program_parts(
     alloc: Global,
-    types: &mut TypeNumbers<'_>,
+    types: &TypeNumbers<'_>,
     tree: &Module,
 ) -> Result<ProgramParts, AllocError>
-    requires items { types.old.items ≡ tree.now.types.items }
+    requires items { types.now.items ≡ tree.now.types.items }
     requires accepted { IsUnrefused (tree_of tree.now) }
     ensures program { IfOk result (λ p. numbered_program p.functions.items p.blocks.items p.instrs.items p.globals.items p.main ≡ program_of (tree_of tree.now)) }
-    ensures items { types.new.items ≡ types.old.items }
 {
     parts_of(alloc, types, tree)
 }

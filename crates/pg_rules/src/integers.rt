@@ -61,12 +61,11 @@ fn kind_signed(kind: Option<TypeKind>, value: &ValNode) -> Option<i64>
 /// The number of a constant of an integer type; none of another type.
 #[tactic(auto, using(crate::proofs::ConstantNumbers::number_of_kind))]
 pub fn number_at(
-    types: &mut TypeNumbers<'_>,
+    types: &TypeNumbers<'_>,
     ty: &TypeNode,
     value: &ValNode,
 ) -> Result<Option<u64>, AllocError>
-    ensures number { IfOk result (λ o. o ≡ number_at (resolved (named_types types.old) (ty_of ty.now)) (val_of value.now)) }
-    ensures items { types.new.items ≡ types.old.items }
+    ensures number { IfOk result (λ o. o ≡ number_at (resolved (named_types types.now) (ty_of ty.now)) (val_of value.now)) }
 {
     let kind = types.kind(ty)?;
     Ok(kind_number(kind, value))
@@ -84,12 +83,11 @@ fn kind_literal(kind: Option<TypeKind>, literal: &Literal) -> Option<u64>
 /// The number of an integer that is written for an integer type; none of another type.
 #[tactic(auto, using(crate::proofs::ConstantNumbers::number_of_kind))]
 pub fn literal_at(
-    types: &mut TypeNumbers<'_>,
+    types: &TypeNumbers<'_>,
     ty: &TypeNode,
     literal: &Literal,
 ) -> Result<Option<u64>, AllocError>
-    ensures number { IfOk result (λ o. o ≡ number_at (resolved (named_types types.old) (ty_of ty.now)) (Int literal.now)) }
-    ensures items { types.new.items ≡ types.old.items }
+    ensures number { IfOk result (λ o. o ≡ number_at (resolved (named_types types.now) (ty_of ty.now)) (Int literal.now)) }
 {
     let kind = types.kind(ty)?;
     Ok(kind_literal(kind, literal))
@@ -98,12 +96,11 @@ pub fn literal_at(
 /// The number of a constant of an integer type, read as a signed one; none of another type.
 #[tactic(auto, using(crate::proofs::ConstantNumbers::signed_of_kind))]
 fn signed_at(
-    types: &mut TypeNumbers<'_>,
+    types: &TypeNumbers<'_>,
     ty: &TypeNode,
     value: &ValNode,
 ) -> Result<Option<i64>, AllocError>
-    ensures number { IfOk result (λ o. o ≡ signed_at (resolved (named_types types.old) (ty_of ty.now)) (val_of value.now)) }
-    ensures items { types.new.items ≡ types.old.items }
+    ensures number { IfOk result (λ o. o ≡ signed_at (resolved (named_types types.now) (ty_of ty.now)) (val_of value.now)) }
 {
     let kind = types.kind(ty)?;
     Ok(kind_signed(kind, value))
@@ -112,11 +109,10 @@ fn signed_at(
 /// The indices of a `getelementptr` that are constants, as signed numbers.
 pub fn index_numbers(
     alloc: Global,
-    types: &mut TypeNumbers<'_>,
+    types: &TypeNumbers<'_>,
     indices: &[TypedVal],
 ) -> Result<Vec<Option<i64>>, AllocError>
-    ensures numbers { IfOk result (λ v. v.items ≡ map (index_number (named_types types.old)) (map typed_of indices.now)) }
-    ensures items { types.new.items ≡ types.old.items }
+    ensures numbers { IfOk result (λ v. v.items ≡ map (index_number (named_types types.now)) (map typed_of indices.now)) }
 {
     let mut numbers = Vec::new(alloc);
     for index in indices {

@@ -36,12 +36,11 @@ fn is_scalar_kind(scalar: Scalar, kind: Option<TypeKind>) -> bool
 
 /// Whether a type is this scalar.
 fn is_scalar_type(
-    types: &mut TypeNumbers<'_>,
+    types: &TypeNumbers<'_>,
     scalar: Scalar,
     ty: &TypeNode,
 ) -> Result<bool, AllocError>
-    ensures same { IfOk result (λ b. b ≡ is_scalar_type scalar (resolved (named_types types.old) (ty_of ty.now))) }
-    ensures items { types.new.items ≡ types.old.items }
+    ensures same { IfOk result (λ b. b ≡ is_scalar_type scalar (resolved (named_types types.now) (ty_of ty.now))) }
 {
     let kind = types.kind(ty)?;
     Ok(is_scalar_kind(scalar, kind))
@@ -49,12 +48,11 @@ fn is_scalar_type(
 
 /// Whether a type is this result, or `void` where there is none.
 pub fn is_result(
-    types: &mut TypeNumbers<'_>,
+    types: &TypeNumbers<'_>,
     scalar: Option<Scalar>,
     ty: &TypeNode,
 ) -> Result<bool, AllocError>
-    ensures same { IfOk result (λ b. b ≡ is_result scalar (resolved (named_types types.old) (ty_of ty.now))) }
-    ensures items { types.new.items ≡ types.old.items }
+    ensures same { IfOk result (λ b. b ≡ is_result scalar (resolved (named_types types.now) (ty_of ty.now))) }
 {
     match scalar {
         Some(scalar) => is_scalar_type(types, scalar, ty),
@@ -65,13 +63,8 @@ pub fn is_result(
     }
 }
 
-fn is_param(
-    types: &mut TypeNumbers<'_>,
-    scalar: Scalar,
-    param: &DparamNode,
-) -> Result<bool, AllocError>
-    ensures same { IfOk result (λ b. b ≡ is_param (named_types types.old) scalar (dparam_of param.now)) }
-    ensures items { types.new.items ≡ types.old.items }
+fn is_param(types: &TypeNumbers<'_>, scalar: Scalar, param: &DparamNode) -> Result<bool, AllocError>
+    ensures same { IfOk result (λ b. b ≡ is_param (named_types types.now) scalar (dparam_of param.now)) }
 {
     match param {
         DparamNode::Param(param) => is_scalar_type(types, scalar, &param.ty),
@@ -82,12 +75,11 @@ fn is_param(
 
 /// Whether parameters have just these types.
 pub fn are_params(
-    types: &mut TypeNumbers<'_>,
+    types: &TypeNumbers<'_>,
     scalars: &[Scalar],
     params: &[DparamNode],
 ) -> Result<bool, AllocError>
-    ensures same { IfOk result (λ b. b ≡ are_params (named_types types.old) scalars.now (map dparam_of params.now)) }
-    ensures items { types.new.items ≡ types.old.items }
+    ensures same { IfOk result (λ b. b ≡ are_params (named_types types.now) scalars.now (map dparam_of params.now)) }
 {
     if scalars.len() != params.len() {
         return Ok(false);
@@ -100,18 +92,16 @@ pub fn are_params(
     Ok(true)
 }
 
-fn is_type(types: &mut TypeNumbers<'_>, ty: &TypeNode) -> Result<bool, AllocError>
-    ensures same { IfOk result (λ b. b ≡ is_resolved (named_types types.old) (ty_of ty.now)) }
-    ensures items { types.new.items ≡ types.old.items }
+fn is_type(types: &TypeNumbers<'_>, ty: &TypeNode) -> Result<bool, AllocError>
+    ensures same { IfOk result (λ b. b ≡ is_resolved (named_types types.now) (ty_of ty.now)) }
 {
     let kind = types.kind(ty)?;
     Ok(kind.is_some())
 }
 
 /// Whether each of these is a type.
-pub fn are_types(types: &mut TypeNumbers<'_>, all: &[&TypeNode]) -> Result<bool, AllocError>
-    ensures same { IfOk result (λ b. b ≡ list_all (is_resolved (named_types types.old)) (tys_behind all.now)) }
-    ensures items { types.new.items ≡ types.old.items }
+pub fn are_types(types: &TypeNumbers<'_>, all: &[&TypeNode]) -> Result<bool, AllocError>
+    ensures same { IfOk result (λ b. b ≡ list_all (is_resolved (named_types types.now)) (tys_behind all.now)) }
 {
     for ty in all {
         if !is_type(types, ty)? {

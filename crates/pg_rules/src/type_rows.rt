@@ -78,9 +78,8 @@ pub fn wrong_counts(all: &[&TypeNode]) -> Option<Span>
 
 /// An element or a field without a value.
 #[tactic(auto, unfolding(crate::specs::Earliest::earliest))]
-fn void_part(types: &mut TypeNumbers<'_>, ty: &TypeNode) -> Result<Option<Span>, AllocError>
-    ensures place { IfOk result (λ o. o ≡ earliest (void_part (named_types types.old) (ty_of ty.now))) }
-    ensures items { types.new.items ≡ types.old.items }
+fn void_part(types: &TypeNumbers<'_>, ty: &TypeNode) -> Result<Option<Span>, AllocError>
+    ensures place { IfOk result (λ o. o ≡ earliest (void_part (named_types types.now) (ty_of ty.now))) }
 {
     match types.kind(ty)? {
         Some(TypeKind::Void) => Ok(Some(type_span(ty))),
@@ -89,9 +88,8 @@ fn void_part(types: &mut TypeNumbers<'_>, ty: &TypeNode) -> Result<Option<Span>,
 }
 
 /// The earliest field without a value.
-fn void_fields(types: &mut TypeNumbers<'_>, fields: &[TypeNode]) -> Result<Option<Span>, AllocError>
-    ensures place { IfOk result (λ o. o ≡ earliest (flat_map (void_part (named_types types.old)) (map ty_of fields.now))) }
-    ensures items { types.new.items ≡ types.old.items }
+fn void_fields(types: &TypeNumbers<'_>, fields: &[TypeNode]) -> Result<Option<Span>, AllocError>
+    ensures place { IfOk result (λ o. o ≡ earliest (flat_map (void_part (named_types types.now)) (map ty_of fields.now))) }
 {
     let mut found = None;
     for field in fields {
@@ -102,9 +100,8 @@ fn void_fields(types: &mut TypeNumbers<'_>, fields: &[TypeNode]) -> Result<Optio
 
 /// An aggregate whose number of elements doesn't fit, or with a part without a value.
 #[tactic(auto, unfolding(crate::specs::Earliest::earliest))]
-fn wrong_type(types: &mut TypeNumbers<'_>, ty: &TypeNode) -> Result<Option<Span>, AllocError>
-    ensures place { IfOk result (λ o. o ≡ earliest (wrong_type (named_types types.old) (ty_of ty.now))) }
-    ensures items { types.new.items ≡ types.old.items }
+fn wrong_type(types: &TypeNumbers<'_>, ty: &TypeNode) -> Result<Option<Span>, AllocError>
+    ensures place { IfOk result (λ o. o ≡ earliest (wrong_type (named_types types.now) (ty_of ty.now))) }
 {
     match ty {
         TypeNode::Array(_, count, element) => {
@@ -117,12 +114,8 @@ fn wrong_type(types: &mut TypeNumbers<'_>, ty: &TypeNode) -> Result<Option<Span>
 }
 
 /// The earliest place at which an aggregate isn't right.
-pub fn wrong_types(
-    types: &mut TypeNumbers<'_>,
-    all: &[&TypeNode],
-) -> Result<Option<Span>, AllocError>
-    ensures place { IfOk result (λ o. o ≡ earliest (flat_map (wrong_type (named_types types.old)) (tys_behind all.now))) }
-    ensures items { types.new.items ≡ types.old.items }
+pub fn wrong_types(types: &TypeNumbers<'_>, all: &[&TypeNode]) -> Result<Option<Span>, AllocError>
+    ensures place { IfOk result (λ o. o ≡ earliest (flat_map (wrong_type (named_types types.now)) (tys_behind all.now))) }
 {
     let mut found = None;
     for ty in all {
@@ -132,9 +125,8 @@ pub fn wrong_types(
 }
 
 /// Whether a type is an aggregate that is larger than types may be.
-fn is_large(types: &mut TypeNumbers<'_>, ty: &TypeNode) -> Result<bool, AllocError>
-    ensures large { IfOk result (λ b. b ≡ is_large (named_types types.old) (ty_of ty.now)) }
-    ensures items { types.new.items ≡ types.old.items }
+fn is_large(types: &TypeNumbers<'_>, ty: &TypeNode) -> Result<bool, AllocError>
+    ensures large { IfOk result (λ b. b ≡ is_large (named_types types.now) (ty_of ty.now)) }
 {
     match ty {
         TypeNode::Array(_, _, _) => types.is_oversize(ty),
@@ -144,9 +136,8 @@ fn is_large(types: &mut TypeNumbers<'_>, ty: &TypeNode) -> Result<bool, AllocErr
 }
 
 /// Whether one of the types is an aggregate that is larger than types may be.
-pub fn any_large(types: &mut TypeNumbers<'_>, all: &[&TypeNode]) -> Result<bool, AllocError>
-    ensures large { IfOk result (λ b. b ≡ list_any (is_large (named_types types.old)) (tys_behind all.now)) }
-    ensures items { types.new.items ≡ types.old.items }
+pub fn any_large(types: &TypeNumbers<'_>, all: &[&TypeNode]) -> Result<bool, AllocError>
+    ensures large { IfOk result (λ b. b ≡ list_any (is_large (named_types types.now)) (tys_behind all.now)) }
 {
     for ty in all {
         if is_large(types, ty)? {

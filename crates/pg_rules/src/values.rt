@@ -80,12 +80,11 @@ fn fails_kind(kind: Option<TypeKind>, value: &ValNode) -> bool
 
 /// Whether a constant may not stand at a type.
 pub fn is_misplaced(
-    types: &mut TypeNumbers<'_>,
+    types: &TypeNumbers<'_>,
     ty: &TypeNode,
     value: &ValNode,
 ) -> Result<bool, AllocError>
-    ensures fails { IfOk result (λ b. b ≡ fails (λ u. fits u (val_of value.now)) (resolved (named_types types.old) (ty_of ty.now))) }
-    ensures items { types.new.items ≡ types.old.items }
+    ensures fails { IfOk result (λ b. b ≡ fails (λ u. fits u (val_of value.now)) (resolved (named_types types.now) (ty_of ty.now))) }
 {
     let kind = types.kind(ty)?;
     Ok(fails_kind(kind, value))

@@ -1,6 +1,5 @@
 -- Equal types have one number.
-use Rattle.std.proofs.Common.{◌≡◌, ℕ, zero, suc, ◌<◌, ◌≤◌, Bool, true, false, true≢false, ◌&&◌, ◌==◌, nat_lt, List, [], ◌∷◌, length, Some, slice_get, unwrap_or, refl, sym, ap, subst, ◌∙◌, rules, arith}
-use Rattle.std.specs.List.{IsDistinct, AllByRecursion}
+use Rattle.std.proofs.Common.{◌≡◌, ℕ, zero, suc, ◌<◌, ◌≤◌, Bool, true, false, true≢false, ◌&&◌, ◌==◌, nat_lt, List, [], ◌∷◌, length, Some, slice_get, unwrap_or, refl, sym, ap, ◌∙◌, arith}
 use Rattle.std.specs.Map.{keys_of}
 use Rattle.std.proofs.lemmas.Bool.{ltb-true, eqb-true, eq-eqb}
 use Rattle.pg_num.specs.declared.width.Width.{Width}
@@ -8,42 +7,10 @@ use Rattle.pg_num.specs.declared.width.Width.TheVariants.{W1, W8, W16, W32, W64}
 use Rattle.pg_types.specs.declared.layout.Layout.{Layout}
 use Rattle.pg_types.specs.declared.shape.Shape.{Shape}
 use Rattle.pg_types.specs.declared.shape.Shape.TheVariants.{I1, I8, I16, I32, I64, Pointer, Void, Array, NoFields, MoreFields}
-use Rattle.pg_types.specs.contracts.shape.ShapePartialEq.TheImpl as key
 use Rattle.pg_types.specs.Resolved as resolved
 use Rattle.pg_types.specs.Resolved.{ResolvedType, same_type, same_width}
 use Rattle.pg_types.specs.Table.{type_at, type_of_shape, refers_below, types_of, IsTable}
-use Rattle.pg_types.proofs.TableTypes.{table_found, some_same, both, key_entry, keys_length, types_count}
-
--- ---- keys
-
-own_key : (s : Shape) → key.eq-value.it s s ≡ true
-own_key I1 = search rules
-own_key I8 = search rules
-own_key I16 = search rules
-own_key I32 = search rules
-own_key I64 = search rules
-own_key Pointer = search rules
-own_key Void = search rules
-own_key (Array n t) = search rules
-own_key NoFields = search rules
-own_key (MoreFields s t) = search rules
-
-all_at : {X : Type 0} (P : X → Type 0) (xs : List X) → AllByRecursion P xs → (j : ℕ) (y : X) → slice_get xs j ≡ Some y → P y
-all_at P [] h j y e = cc
-all_at P (x ∷ xs) h zero y e = subst P (some_same e) h.0
-all_at P (x ∷ xs) h (suc j) y e = all_at P xs h.1 j y e
-
-unique_key : (ks : List Shape) → IsDistinct key.eq-value.it ks → (i j : ℕ) (s : Shape) → slice_get ks i ≡ Some s → slice_get ks j ≡ Some s → i ≡ j
-unfolding IsDistinct
-unique_key [] d i j s e f = cc
-unique_key (k ∷ ks) d zero zero s e f = refl
-unique_key (k ∷ ks) d zero (suc j) s e f =
-    let h : key.eq-value.it k s ≡ false = all_at (λ y. key.eq-value.it k y ≡ false) ks d.0 j s f in
-    absurd (true≢false (sym (own_key s) ∙ subst (λ x. key.eq-value.it x s ≡ false) (some_same e) h))
-unique_key (k ∷ ks) d (suc i) zero s e f =
-    let h : key.eq-value.it k s ≡ false = all_at (λ y. key.eq-value.it k y ≡ false) ks d.0 i s e in
-    absurd (true≢false (sym (own_key s) ∙ subst (λ x. key.eq-value.it x s ≡ false) (some_same f) h))
-unique_key (k ∷ ks) d (suc i) (suc j) s e f = ap suc (unique_key ks d.1 i j s e f)
+use Rattle.pg_types.proofs.TableTypes.{table_found, both, key_entry, keys_length, types_count}
 
 -- ---- numbers
 
@@ -59,24 +26,24 @@ parts_before es i s t e = let k = key_entry es i s e in t.refers i s k.0 k.1
 key_type : (es : List (Shape × Layout)) (a : ℕ) (s : Shape) → IsTable es → slice_get (keys_of es) a ≡ Some s → type_at (types_of es) a ≡ type_of_shape (types_of es) s
 key_type es a s t e = ap (λ o. unwrap_or o resolved.VoidType) (table_found es a s t e)
 
-module _ (es : List (Shape × Layout)) (table : IsTable es) (distinct : IsDistinct key.eq-value.it (keys_of es)) where
+module _ (es : List (Shape × Layout)) (table : IsTable es) where
   abbrev SameNumbers : ℕ → Type 0
   SameNumbers n = (i j : ℕ) → i < n → j < n → n ≤ length es → type_at (types_of es) i ≡ type_at (types_of es) j → i ≡ j
 
   same_shapes : (n : ℕ) → n < length es → SameNumbers n → (i j : ℕ) → i ≤ n → j ≤ n → (s t : Shape) → slice_get (keys_of es) i ≡ Some s → slice_get (keys_of es) j ≡ Some t → type_of_shape (types_of es) s ≡ type_of_shape (types_of es) t → i ≡ j
-  same_shapes n l h i j a b I1 I1 e f same = unique_key (keys_of es) distinct i j I1 e f
+  same_shapes n l h i j a b I1 I1 e f same = table.distinct i j I1 e f
   same_shapes n l h i j a b I1 _ e f same = cc
-  same_shapes n l h i j a b I8 I8 e f same = unique_key (keys_of es) distinct i j I8 e f
+  same_shapes n l h i j a b I8 I8 e f same = table.distinct i j I8 e f
   same_shapes n l h i j a b I8 _ e f same = cc
-  same_shapes n l h i j a b I16 I16 e f same = unique_key (keys_of es) distinct i j I16 e f
+  same_shapes n l h i j a b I16 I16 e f same = table.distinct i j I16 e f
   same_shapes n l h i j a b I16 _ e f same = cc
-  same_shapes n l h i j a b I32 I32 e f same = unique_key (keys_of es) distinct i j I32 e f
+  same_shapes n l h i j a b I32 I32 e f same = table.distinct i j I32 e f
   same_shapes n l h i j a b I32 _ e f same = cc
-  same_shapes n l h i j a b I64 I64 e f same = unique_key (keys_of es) distinct i j I64 e f
+  same_shapes n l h i j a b I64 I64 e f same = table.distinct i j I64 e f
   same_shapes n l h i j a b I64 _ e f same = cc
-  same_shapes n l h i j a b Pointer Pointer e f same = unique_key (keys_of es) distinct i j Pointer e f
+  same_shapes n l h i j a b Pointer Pointer e f same = table.distinct i j Pointer e f
   same_shapes n l h i j a b Pointer _ e f same = cc
-  same_shapes n l h i j a b Void Void e f same = unique_key (keys_of es) distinct i j Void e f
+  same_shapes n l h i j a b Void Void e f same = table.distinct i j Void e f
   same_shapes n l h i j a b Void _ e f same = cc
   same_shapes n l h i j a b (Array c u) (Array d v) e f same =
       let counts : c ≡ d = cc in
@@ -85,9 +52,9 @@ module _ (es : List (Shape × Layout)) (table : IsTable es) (distinct : IsDistin
       let y : v < j = ltb-true v j (parts_before es j (Array d v) table f) in
       let numbers : u ≡ v = h u v (omega (arith, x, a)) (omega (arith, y, b)) (omega (arith, l)) elements in
       let shapes : Array c u ≡ Array d v = ap (λ k. Array k u) counts ∙ ap (λ k. Array d k) numbers in
-      unique_key (keys_of es) distinct i j (Array d v) (e ∙ ap (λ k. Some k) shapes) f
+      table.distinct i j (Array d v) (e ∙ ap (λ k. Some k) shapes) f
   same_shapes n l h i j a b (Array c u) _ e f same = cc
-  same_shapes n l h i j a b NoFields NoFields e f same = unique_key (keys_of es) distinct i j NoFields e f
+  same_shapes n l h i j a b NoFields NoFields e f same = table.distinct i j NoFields e f
   same_shapes n l h i j a b NoFields _ e f same = cc
   same_shapes n l h i j a b (MoreFields c u) (MoreFields d v) e f same =
       let fronts : type_at (types_of es) c ≡ type_at (types_of es) d = cc in
@@ -101,7 +68,7 @@ module _ (es : List (Shape × Layout)) (table : IsTable es) (distinct : IsDistin
       let front_numbers : c ≡ d = h c d (omega (arith, c-below, a)) (omega (arith, d-below, b)) (omega (arith, l)) fronts in
       let field_numbers : u ≡ v = h u v (omega (arith, u-below, a)) (omega (arith, v-below, b)) (omega (arith, l)) fields in
       let shapes : MoreFields c u ≡ MoreFields d v = ap (λ k. MoreFields k u) front_numbers ∙ ap (λ k. MoreFields d k) field_numbers in
-      unique_key (keys_of es) distinct i j (MoreFields d v) (e ∙ ap (λ k. Some k) shapes) f
+      table.distinct i j (MoreFields d v) (e ∙ ap (λ k. Some k) shapes) f
   same_shapes n l h i j a b (MoreFields c u) _ e f same = cc
 
   same_numbers : (n : ℕ) → SameNumbers n
@@ -168,11 +135,11 @@ own_type resolved.NoFields = refl
 own_type (resolved.MoreFields s t) = ap (λ b. b && same_type t t) (own_type s) ∙ own_type t
 
 -- types are equal exactly where their numbers are
-pub same_by_number : (es : List (Shape × Layout)) (i j : ℕ) → IsTable es → IsDistinct key.eq-value.it (keys_of es) → i < length (types_of es) → j < length (types_of es) → (i == j) ≡ same_type (type_at (types_of es) i) (type_at (types_of es) j)
-same_by_number es i j t d a b = by (i == j) (same_type (type_at (types_of es) i) (type_at (types_of es) j)) refl refl
+pub same_by_number : (es : List (Shape × Layout)) (i j : ℕ) → IsTable es → i < length (types_of es) → j < length (types_of es) → (i == j) ≡ same_type (type_at (types_of es) i) (type_at (types_of es) j)
+same_by_number es i j t a b = by (i == j) (same_type (type_at (types_of es) i) (type_at (types_of es) j)) refl refl
   where
     by : (x y : Bool) → (i == j) ≡ x → same_type (type_at (types_of es) i) (type_at (types_of es) j) ≡ y → x ≡ y
     by true true e f = refl
     by false false e f = refl
     by true false e f = absurd (true≢false (sym (own_type (type_at (types_of es) i)) ∙ ap (λ k. same_type (type_at (types_of es) i) (type_at (types_of es) k)) (eqb-true i j e) ∙ f))
-    by false true e f = absurd (true≢false (sym (eq-eqb i j (number_of_type es t d i j a b (same_type_true (type_at (types_of es) i) (type_at (types_of es) j) f))) ∙ e))
+    by false true e f = absurd (true≢false (sym (eq-eqb i j (number_of_type es t i j a b (same_type_true (type_at (types_of es) i) (type_at (types_of es) j) f))) ∙ e))

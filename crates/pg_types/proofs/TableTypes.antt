@@ -1,8 +1,9 @@
 -- The types of a table by their numbers.
-use Rattle.std.proofs.Common.{◌≡◌, ℕ, zero, suc, ◌+◌, ◌<◌, ◌≤◌, Bool, true, false, ◌&&◌, nat_lt, List, [], ◌∷◌, ◌++◌, length, Option, Some, slice_get, unwrap_or, Result, Ok, Err, IfOk, ◌⊎◌, inl, inr, refl, sym, ap, subst, ◌∙◌, append_assoc, length-append, arith}
+use Rattle.std.proofs.Common.{◌≡◌, ℕ, zero, suc, ◌+◌, ◌<◌, ◌≤◌, Bool, true, false, ◌&&◌, nat_lt, List, [], ◌∷◌, ◌++◌, length, take, drop, Option, Some, slice_get, unwrap_or, Result, Ok, Err, IfOk, ◌⊎◌, inl, inr, refl, sym, ap, subst, ◌∙◌, append_assoc, length-append, length-take, take-append-drop, arith}
 use Rattle.std.specs.Option.{option_map}
 use Rattle.std.proofs.lemmas.Bool.{ltb-true, lt-ltb}
-use Rattle.std.proofs.lemmas.Option.{slice_get_within}
+use Rattle.std.proofs.lemmas.List.{take_more}
+use Rattle.std.proofs.lemmas.Option.{slice_get_within, slice_get-get_or}
 use Rattle.std.specs.Map.{keys_of}
 use Rattle.pg_types.specs.declared.layout.Layout.{Layout}
 use Rattle.pg_types.specs.declared.shape.Shape.{Shape}
@@ -10,7 +11,7 @@ use Rattle.pg_types.specs.declared.shape.Shape.TheVariants.{I1, I8, I16, I32, I6
 use Rattle.pg_types.specs.Resolved as resolved
 use Rattle.pg_types.specs.Resolved.{ResolvedType}
 use Rattle.pg_types.specs.Capped.{IsLayout}
-use Rattle.pg_types.specs.Table.{type_at, type_of_shape, refers_below, types_from, types_of, IsTable, Grows}
+use Rattle.pg_types.specs.Table.{type_at, type_of_shape, refers_below, types_from, types_of, IsTable, IsAbsent, IsAdded, AreDistinct, Grows}
 
 -- ---- lists
 
@@ -126,15 +127,11 @@ one_more : (es : List (Shape × Layout)) (s : Shape) (l : Layout) → types_of (
 unfolding types_from
 one_more es s l = ap (λ ks. types_from [] ks) (keys_append es ((s, l) ∷ [])) ∙ types_append [] (keys_of es) (s ∷ [])
 
--- an entry is there already, or goes last
-abbrev pub IsAdded : List (Shape × Layout) → List (Shape × Layout) → Shape → Layout → Type 0
-IsAdded es fs s l = (fs ≡ es) ⊎ (fs ≡ es ++ (s, l) ∷ [])
-
 pub added_grows : (es fs : List (Shape × Layout)) (s : Shape) (l : Layout) → IsAdded es fs s l → Grows (types_of es) (types_of fs)
 added_grows es fs s l (inl e) = ([], ap (λ x. types_of x) e ∙ sym (append_nil (types_of es)))
-added_grows es fs s l (inr e) = (type_of_shape (types_of es) s ∷ [], ap (λ x. types_of x) e ∙ one_more es s l)
+added_grows es fs s l (inr e) = (type_of_shape (types_of es) s ∷ [], ap (λ x. types_of x) e.1 ∙ one_more es s l)
 
-entry_cases : (es : List (Shape × Layout)) (x y : Shape × Layout) (i : ℕ) → slice_get (es ++ x ∷ []) i ≡ Some y → (slice_get es i ≡ Some y) ⊎ ((i ≡ length es) × (x ≡ y))
+entry_cases : {X : Type 0} (es : List X) (x y : X) (i : ℕ) → slice_get (es ++ x ∷ []) i ≡ Some y → (slice_get es i ≡ Some y) ⊎ ((i ≡ length es) × (x ≡ y))
 entry_cases [] x y zero e = inr (refl, some_same e)
 entry_cases [] x y (suc i) e = cc
 entry_cases (z ∷ es) x y zero e = inl e
@@ -160,10 +157,20 @@ refers_more m n (MoreFields s t) l e =
     let b : t < m = ltb-true t m p.1 in
     ap (λ x. x && nat_lt t n) (lt-ltb s n (omega (arith, a, l))) ∙ lt-ltb t n (omega (arith, b, l))
 
-last_table : (es : List (Shape × Layout)) (s : Shape) (l : Layout) → IsTable es → refers_below (length es) s ≡ true → IsLayout l (type_of_shape (types_of es) s) → IsTable (es ++ (s, l) ∷ [])
-last_table es s l t r h = record {
+distinct_more : (ks : List Shape) (s : Shape) → AreDistinct ks → IsAbsent ks s → AreDistinct (ks ++ s ∷ [])
+distinct_more ks s d a i j u e f = by (entry_cases ks s u i e) (entry_cases ks s u j f)
+  where
+    by : (slice_get ks i ≡ Some u) ⊎ ((i ≡ length ks) × (s ≡ u)) → (slice_get ks j ≡ Some u) ⊎ ((j ≡ length ks) × (s ≡ u)) → i ≡ j
+    by (inl p) (inl q) = d i j u p q
+    by (inl p) (inr q) = absurd (a i (p ∙ ap (λ x. Some x) (sym q.1)))
+    by (inr p) (inl q) = absurd (a j (q ∙ ap (λ x. Some x) (sym p.1)))
+    by (inr p) (inr q) = p.0 ∙ sym q.0
+
+last_table : (es : List (Shape × Layout)) (s : Shape) (l : Layout) → IsTable es → IsAbsent (keys_of es) s → refers_below (length es) s ≡ true → IsLayout l (type_of_shape (types_of es) s) → IsTable (es ++ (s, l) ∷ [])
+last_table es s l t a r h = record {
   refers = λ i u m e. refers_at i u m (entry_cases es (s, l) (u, m) i e);
   layouts = λ i u m e. layout_at i u m (entry_cases es (s, l) (u, m) i e);
+  distinct = subst (λ ks. AreDistinct ks) (sym (keys_append es ((s, l) ∷ []))) (distinct_more (keys_of es) s t.distinct a);
 }
   where
     refers_at : (i : ℕ) (u : Shape) (m : Layout) → (slice_get es i ≡ Some (u, m)) ⊎ ((i ≡ length es) × (◌≡◌ {A = Shape × Layout} (s, l) (u, m))) → refers_below i u ≡ true
@@ -183,7 +190,7 @@ last_table es s l t r h = record {
 
 pub added_table : (es fs : List (Shape × Layout)) (s : Shape) (l : Layout) → IsTable es → refers_below (length es) s ≡ true → IsLayout l (type_of_shape (types_of es) s) → IsAdded es fs s l → IsTable fs
 added_table es fs s l t r h (inl e) = subst (λ x. IsTable x) (sym e) t
-added_table es fs s l t r h (inr e) = subst (λ x. IsTable x) (sym e) (last_table es s l t r h)
+added_table es fs s l t r h (inr e) = subst (λ x. IsTable x) (sym e.1) (last_table es s l t e.0 r h)
 
 -- the type at a key's number
 pub table_found : (es : List (Shape × Layout)) (i : ℕ) (s : Shape) → IsTable es → slice_get (keys_of es) i ≡ Some s → slice_get (types_of es) i ≡ Some (type_of_shape (types_of es) s)
@@ -208,3 +215,48 @@ entry_type es n s l t e = sym (ap (λ o. unwrap_or o resolved.VoidType) (table_f
 
 pub entry_layout : (es : List (Shape × Layout)) (n : ℕ) (s : Shape) (l : Layout) → IsTable es → slice_get es n ≡ Some (s, l) → IsLayout l (type_at (types_of es) n)
 entry_layout es n s l t e = subst (λ y. IsLayout l y) (entry_type es n s l t e) (t.layouts n s l e)
+
+-- ---- a table over another
+
+pub back_kept : {X : Type 0} (xs ys : List X) (i j : ℕ) → i ≡ length xs + j → slice_get (xs ++ ys) i ≡ slice_get ys j
+back_kept [] ys i j e = let f : i ≡ j = omega (arith, e) in ap (λ n. slice_get ys n) f
+back_kept (x ∷ xs) ys zero j e = absurd (omega (arith, e))
+back_kept (x ∷ xs) ys (suc i) j e = back_kept xs ys i j (omega (arith, e))
+
+absent_both : (ks ls : List Shape) (s : Shape) → IsAbsent ks s → IsAbsent ls s → IsAbsent (ks ++ ls) s
+absent_both [] ls s a b i e = b i e
+absent_both (k ∷ ks) ls s a b zero e = a zero e
+absent_both (k ∷ ks) ls s a b (suc i) e = absent_both ks ls s (λ j f. a (suc j) f) b i e
+
+-- what is added to the further types is added to all
+pub added_over : (below more new : List (Shape × Layout)) (s : Shape) (l : Layout) → IsAbsent (keys_of below) s → IsAdded more new s l → IsAdded (below ++ more) (below ++ new) s l
+added_over below more new s l a (inl e) = inl (ap (λ x. below ++ x) e)
+added_over below more new s l a (inr e) =
+    inr (subst (λ ks. IsAbsent ks s) (sym (keys_append below more)) (absent_both (keys_of below) (keys_of more) s a e.0), ap (λ x. below ++ x) e.1 ∙ sym (append_assoc below more ((s, l) ∷ [])))
+
+pub key_below : (below more : List (Shape × Layout)) (i : ℕ) (s : Shape) → slice_get (keys_of below) i ≡ Some s → slice_get (keys_of (below ++ more)) i ≡ Some s
+key_below below more i s e =
+    ap (λ ks. slice_get ks i) (keys_append below more) ∙ front_kept (keys_of below) (keys_of more) i (slice_get_within (keys_of below) i s e) ∙ e
+
+pub key_above : (below more : List (Shape × Layout)) (i j : ℕ) (s : Shape) → i ≡ length below + j → slice_get (keys_of more) j ≡ Some s → slice_get (keys_of (below ++ more)) i ≡ Some s
+key_above below more i j s n e =
+    let k = keys_length below in
+    ap (λ ks. slice_get ks i) (keys_append below more) ∙ back_kept (keys_of below) (keys_of more) i j (omega (arith, n, k)) ∙ e
+
+-- ---- the entries of a table, one after another
+
+pub taken_more : (es fs : List (Shape × Layout)) (i p : ℕ) (s : Shape) (l : Layout) → IsTable es → slice_get es i ≡ Some (s, l) → IsAdded (take i es) fs s l → slice_get (keys_of fs) p ≡ Some s → fs ≡ take (i + 1) es
+taken_more es fs i p s l t e (inr a) k =
+    a.1 ∙ ap (λ (x : Shape × Layout). take i es ++ x ∷ []) (sym (some_same (sym (slice_get-get_or es i (s, l) (slice_get_within es i (s, l) e)) ∙ e))) ∙ sym (take_more es i (s, l) (slice_get_within es i (s, l) e))
+taken_more es fs i p s l t e (inl a) k =
+    let f : slice_get (keys_of (take i es)) p ≡ Some s = ap (λ x. slice_get (keys_of x) p) (sym a) ∙ k in
+    let w = slice_get_within (keys_of (take i es)) p s f in
+    let n = keys_length (take i es) in
+    let m = length-take i es in
+    let g : slice_get (keys_of es) p ≡ Some s = ap (λ x. slice_get (keys_of x) p) (sym (take-append-drop i es)) ∙ key_below (take i es) (drop i es) p s f in
+    let q = t.distinct p i s g (key_of_entry es i s l e) in
+    absurd (omega (arith, w, n, m, q))
+
+-- a table without types
+pub no_types : (es : List (Shape × Layout)) → es ≡ [] → IsTable es
+no_types es e = subst (λ x. IsTable x) (sym e) (record { refers = λ i s l f. cc; layouts = λ i s l f. cc; distinct = λ i j s f g. cc })

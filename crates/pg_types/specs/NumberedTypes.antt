@@ -9,7 +9,7 @@ use Rattle.pg_types.specs.declared.layout.Layout.{Layout}
 use Rattle.pg_types.specs.declared.shape.Shape.{Shape}
 use Rattle.pg_types.specs.Resolved.{ResolvedType, type_within}
 use Rattle.pg_types.specs.NameIndex.{known_place, first_place}
-use Rattle.pg_types.specs.Table.{types_of}
+use Rattle.pg_types.specs.Table.{types_of, IsTable}
 use Rattle.pg_types.specs.Known.{AreWithin, Names, item_number}
 use Rattle.pg_types.specs.Items.{item_texts}
 
@@ -28,7 +28,8 @@ abbrev pub table_of : NumberedTypes → List ResolvedType
 table_of t = types_of t.entries
 
 -- the items are found by their names, and each name stands for the type of its number
-pub record AreNumbered {S : Type 0} (items : List TypeItem) (places : IndexMap (Bor (List ℕ)) ℕ S) (numbers : List (Option ℕ)) (table : List ResolvedType) : Type 0 where
+pub record AreNumbered {S : Type 0} (items : List TypeItem) (places : IndexMap (Bor (List ℕ)) ℕ S) (numbers : List (Option ℕ)) (entries : List (Shape × Layout)) : Type 0 where
   pub known : (text : List ℕ) → known_place places text ≡ first_place (item_texts items) text
-  pub within : AreWithin table (item_number places numbers)
-  pub names : Names table (item_number places numbers) (type_within (length (items_of items)) (items_of items))
+  pub table : IsTable entries
+  pub within : AreWithin (types_of entries) (item_number places numbers)
+  pub names : Names (types_of entries) (item_number places numbers) (type_within (length (items_of items)) (items_of items))

@@ -1,5 +1,5 @@
 -- A table of types in which each is known by its number.
-use Rattle.std.specs.Prelude.{◌≡◌, ℕ, nat_lt, ◌&&◌, Bool, true, List, [], ◌∷◌, ◌++◌, slice_get, Some, unwrap_or}
+use Rattle.std.specs.Prelude.{◌≡◌, ◌≢◌, ◌⊎◌, ℕ, nat_lt, ◌&&◌, Bool, true, List, [], ◌∷◌, ◌++◌, slice_get, Some, unwrap_or}
 use Rattle.std.specs.Map.{keys_of}
 use Rattle.pg_num.specs.declared.width.Width.TheVariants.{W1, W8, W16, W32, W64}
 use Rattle.pg_types.specs.declared.layout.Layout.{Layout}
@@ -40,10 +40,23 @@ types_from types (s ∷ ss) = types_from (types ++ type_of_shape types s ∷ [])
 abbrev pub types_of : List (Shape × Layout) → List ResolvedType
 types_of entries = types_from [] (keys_of entries)
 
--- each shape's parts stand before it, and each layout is its type's
+-- no shape stands at two places
+abbrev pub AreDistinct : List Shape → Type 0
+AreDistinct shapes = (i j : ℕ) (s : Shape) → slice_get shapes i ≡ Some s → slice_get shapes j ≡ Some s → i ≡ j
+
+-- each shape's parts stand before it, each layout is its type's, and each shape stands once
 pub record IsTable (entries : List (Shape × Layout)) : Type 0 where
   pub refers : (i : ℕ) (s : Shape) (l : Layout) → slice_get entries i ≡ Some (s, l) → refers_below i s ≡ true
   pub layouts : (i : ℕ) (s : Shape) (l : Layout) → slice_get entries i ≡ Some (s, l) → IsLayout l (type_of_shape (types_of entries) s)
+  pub distinct : AreDistinct (keys_of entries)
+
+-- a shape is none of these
+abbrev pub IsAbsent : List Shape → Shape → Type 0
+IsAbsent shapes s = (i : ℕ) → slice_get shapes i ≢ Some s
+
+-- an entry is there already, or goes last
+abbrev pub IsAdded : List (Shape × Layout) → List (Shape × Layout) → Shape → Layout → Type 0
+IsAdded es fs s l = (fs ≡ es) ⊎ (IsAbsent (keys_of es) s × (fs ≡ es ++ (s, l) ∷ []))
 
 -- the types before stay, and others may follow
 abbrev pub Grows : List ResolvedType → List ResolvedType → Type 0

@@ -41,7 +41,7 @@ pub fn index_items<'a>(
 
 /// The number of the type of an item that has none yet and is the first of its name, if its type is found.
 fn found_number(
-    table: &mut TypeTable,
+    table: &mut TypeTable<'_>,
     places: &IndexMap<&[u8], usize>,
     types: &[TypeItem],
     items: &[Option<usize>],
@@ -70,7 +70,7 @@ fn found_number(
 
 /// Notes the number of the type of one item more, if it is found.
 fn find_item(
-    table: &mut TypeTable,
+    table: &mut TypeTable<'_>,
     places: &IndexMap<&[u8], usize>,
     types: &[TypeItem],
     items: &mut [Option<usize>],
@@ -106,7 +106,7 @@ fn either(one: bool, other: bool) -> bool
 /// Notes the numbers of the types of two items, one so far from the start as the other is from the end,
 /// so that one pass is enough for a chain of items, whether each stands before what it names or behind it.
 fn find_from_both_ends(
-    table: &mut TypeTable,
+    table: &mut TypeTable<'_>,
     places: &IndexMap<&[u8], usize>,
     types: &[TypeItem],
     items: &mut [Option<usize>],
@@ -131,7 +131,7 @@ fn find_from_both_ends(
 
 /// Notes the numbers of the types of items, in one pass over them from both ends. Whether there was one more.
 fn find_items(
-    table: &mut TypeTable,
+    table: &mut TypeTable<'_>,
     places: &IndexMap<&[u8], usize>,
     types: &[TypeItem],
     items: &mut [Option<usize>],
@@ -156,7 +156,7 @@ fn find_items(
 
 /// Notes the numbers of the types of all items that are types.
 fn find_all_items(
-    table: &mut TypeTable,
+    table: &mut TypeTable<'_>,
     places: &IndexMap<&[u8], usize>,
     types: &[TypeItem],
     items: &mut [Option<usize>],
@@ -191,7 +191,7 @@ fn no_numbers(alloc: Global, count: usize) -> Result<Vec<Option<usize>>, AllocEr
 /// The numbers of the types of the items; none for an item that isn't a type or isn't the first of its name.
 pub fn item_numbers(
     alloc: Global,
-    table: &mut TypeTable,
+    table: &mut TypeTable<'_>,
     places: &IndexMap<&[u8], usize>,
     types: &[TypeItem],
 ) -> Result<Vec<Option<usize>>, AllocError>

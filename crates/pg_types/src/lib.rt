@@ -4,6 +4,7 @@
 mod cap;
 mod items;
 mod kind;
+mod known;
 pub mod laws;
 mod layout;
 mod literals;
@@ -15,13 +16,12 @@ mod table;
 mod types;
 
 pub use cap::LAYOUT_CAP;
-pub use items::{index_items, item_numbers};
+pub use items::index_items;
 pub use kind::TypeKind;
+pub use known::KnownTypes;
 pub use layout::Layout;
 pub use literals::{element_count, literal_in};
 pub use measures::{bytes_of, round_up};
 pub use names::{index_names, place_of_name};
-pub use resolving::type_number;
 pub use shape::Shape;
-pub use table::TypeTable;
 pub use types::TypeNumbers;

@@ -35,7 +35,7 @@ fn named_number(
 }
 
 /// A type as an element or a field, which isn't `void`.
-fn part_number(table: &TypeTable, number: Option<usize>) -> Option<usize>
+fn part_number(table: &TypeTable<'_>, number: Option<usize>) -> Option<usize>
     requires { IsWithin (types_of table.now) number }
     ensures value { denoted (types_of table.now) result ≡ part_type (denoted (types_of table.now) number) }
     ensures within { IsWithin (types_of table.now) result }
@@ -50,7 +50,7 @@ fn part_number(table: &TypeTable, number: Option<usize>) -> Option<usize>
 }
 
 fn array_number(
-    table: &mut TypeTable,
+    table: &mut TypeTable<'_>,
     count: Option<u64>,
     element: Option<usize>,
 ) -> Result<Option<usize>, AllocError>
@@ -67,7 +67,7 @@ fn array_number(
 }
 
 fn field_number(
-    table: &mut TypeTable,
+    table: &mut TypeTable<'_>,
     front: Option<usize>,
     field: Option<usize>,
 ) -> Result<Option<usize>, AllocError>
@@ -88,7 +88,7 @@ fn field_number(
 #[cycle(resolve)]
 #[tactic(auto, unfolding(crate::specs::Resolved::type_by))]
 pub fn type_number(
-    table: &mut TypeTable,
+    table: &mut TypeTable<'_>,
     places: &IndexMap<&[u8], usize>,
     items: &[Option<usize>],
     ty: &TypeNode,
@@ -120,7 +120,7 @@ pub fn type_number(
 /// The number of the type of an element or a field.
 #[cycle(resolve)]
 fn part_type_number(
-    table: &mut TypeTable,
+    table: &mut TypeTable<'_>,
     places: &IndexMap<&[u8], usize>,
     items: &[Option<usize>],
     ty: &TypeNode,
@@ -139,7 +139,7 @@ fn part_type_number(
 /// The number of a structure of fields.
 #[cycle(resolve)]
 fn fields_number(
-    table: &mut TypeTable,
+    table: &mut TypeTable<'_>,
     places: &IndexMap<&[u8], usize>,
     items: &[Option<usize>],
     fields: &[TypeNode],

@@ -1,10 +1,12 @@
 //! The types that occur in a program, by number.
 
-ghost use Rattle.std.specs.Prelude.{◌≡◌, [], ◌∷◌, ◌++◌, Some, None, slice_get, IfOk, length, ◌<◌, ◌⊎◌, true};
+ghost use Rattle.std.specs.Prelude.{◌≡◌, ◌^◌, Some, slice_get, IfOk, length, ◌<◌, true};
 ghost use Rattle.indexmap.specs.IndexMap.{keys};
 ghost use Rattle.pg_types.specs.Resolved.{same_type, IntegerType, PointerType, VoidType, ArrayType, NoFields, MoreFields};
 ghost use Rattle.pg_types.specs.Capped.{IsLayout};
-ghost use Rattle.pg_types.specs.Table.{refers_below, type_of_shape, types_of, type_at, Grows};
+ghost use Rattle.pg_types.specs.Known.{denoted, IsWithin};
+ghost use Rattle.pg_types.specs.Kinds.{agree};
+ghost use Rattle.pg_types.specs.Table.{refers_below, type_of_shape, types_of, type_at, Grows, IsTable, IsAdded};
 
 use crate::layout::Layout;
 use crate::measures::{
@@ -16,33 +18,57 @@ use pg_num::Width;
 use std::alloc::{AllocError, Global};
 use std::marker::Model;
 
-/// The types that occur in a program. Equal types have one number.
+/// The types that occur in a program: those of a map that doesn't change, and further ones. Equal types have one number.
 #[derive(Drop)]
-pub struct TypeTable {
-    shapes: IndexMap<Shape, Layout>,
+pub struct TypeTable<'b> {
+    below: &'b IndexMap<Shape, Layout>,
+    more: IndexMap<Shape, Layout>,
 }
 
-impl Model for TypeTable {
-    ghost use Rattle.std.specs.Prelude.{List};
+impl<'b> Model for TypeTable<'b> {
+    ghost use Rattle.std.specs.Prelude.{List, ◌++◌};
     ghost use Rattle.pg_types.specs.declared.shape.Shape.{Shape};
     ghost use Rattle.pg_types.specs.declared.layout.Layout.{Layout};
     ghost use Rattle.pg_types.specs.Table.{IsTable};
 
     ghost Value = { List (Shape × Layout) };
 
-    ghost view = { λ t. t.shapes.entries };
+    ghost view = { λ t. t.below.now.entries ++ t.more.entries };
 
-    ghost invariant = { λ t. IsTable t.shapes.entries };
+    ghost invariant = { λ t. IsTable (t.below.now.entries ++ t.more.entries) };
 }
 
-impl TypeTable {
-    /// No types.
-    pub fn new(alloc: Global) -> TypeTable
-        ensures { result ≡ [] }
+impl<'b> TypeTable<'b> {
+    /// The types of a map, and no further ones.
+    pub fn over(alloc: Global, below: &'b IndexMap<Shape, Layout>) -> TypeTable<'b>
+        requires { IsTable below.now.entries }
+        ensures { result ≡ below.now.entries }
     {
         TypeTable {
-            shapes: IndexMap::new(alloc),
+            below,
+            more: IndexMap::new(alloc),
         }
+    }
+
+    /// How many types there are.
+    fn len(&self) -> usize
+        ensures length { result ≡ length self.now }
+        ensures table { IsTable self.now }
+    {
+        self.below.len() + self.more.len()
+    }
+
+    /// The types as one map.
+    pub fn to_map(&self, alloc: Global) -> Result<IndexMap<Shape, Layout>, AllocError>
+        ensures types { IfOk result (λ m. m.entries ≡ self.now) }
+        ensures table { IfOk result (λ m. IsTable m.entries) }
+    {
+        let mut shapes = IndexMap::new(alloc);
+        for number in 0..self.len() {
+            let (shape, layout) = self.entry(number);
+            place_of(&mut shapes, shape, layout)?;
+        }
+        Ok(shapes)
     }
 
     /// The number of the type of a shape, whose parts are in the table.
@@ -53,18 +79,26 @@ impl TypeTable {
             Some (type_of_shape (types_of self.old) shape)) }
         ensures grows { Grows (types_of self.old) (types_of self.new) }
     {
-        place_of(&mut self.shapes, shape, layout)
+        match self.below.get_index_of(&shape) {
+            Some(place) => Ok(place),
+            None => {
+                let place = place_of(&mut self.more, shape, layout)?;
+                Ok(self.below.len() + place)
+            }
+        }
     }
 
+    /// The shape and the layout of the type of a number.
     fn entry(&self, number: usize) -> (Shape, Layout)
-        requires { number < length (types_of self.now) }
-        ensures same { type_of_shape (types_of self.now) result.0 ≡ type_at (types_of self.now) number }
-        ensures below { refers_below number result.0 ≡ true }
-        ensures layout { IsLayout result.1 (type_at (types_of self.now) number) }
+        requires { number < length self.now }
+        ensures entry { slice_get self.now number ≡ Some result }
+        ensures table { IsTable self.now }
     {
-        match self.shapes.get_index(number) {
-            Some((shape, layout)) => (*shape, *layout),
-            None => unreachable!(),
+        let count = self.below.len();
+        if number < count {
+            entry_at(self.below, number)
+        } else {
+            entry_at(&self.more, number - count)
         }
     }
 
@@ -93,9 +127,21 @@ impl TypeTable {
         requires other { other < length (types_of self.now) }
         ensures { result ≡ same_type (type_at (types_of self.now) one) (type_at (types_of self.now) other) }
     {
-        // The map's call says that no shape is a key twice.
-        let _count = self.shapes.len();
+        // What the table's fields keep says that no shape stands twice.
+        let _shapes = &self.more;
         one == other
+    }
+
+    /// Whether the types of two numbers are the same; so they are where there is no number.
+    pub fn agree(&self, one: Option<usize>, other: Option<usize>) -> bool
+        requires one { IsWithin (types_of self.now) one }
+        requires other { IsWithin (types_of self.now) other }
+        ensures { result ≡ agree (denoted (types_of self.now) one) (denoted (types_of self.now) other) }
+    {
+        match (one, other) {
+            (Some(one), Some(other)) => self.are_same(one, other),
+            _ => true,
+        }
     }
 
     /// The number of an integer type.
@@ -169,15 +215,26 @@ fn place_of(
     layout: Layout,
 ) -> Result<usize, AllocError>
     ensures found { IfOk result (λ i. slice_get (keys shapes.new) i ≡ Some shape) }
-    ensures entries { (shapes.new.entries ≡ shapes.old.entries) ⊎ (shapes.new.entries ≡
-        shapes.old.entries ++ (shape, layout) ∷ []) }
+    ensures entries { IsAdded shapes.old.entries shapes.new.entries shape layout }
+    ensures small { IfOk result (λ i. i < 2 ^ 63) }
 {
+    let count = shapes.len();
     match shapes.get_index_of(&shape) {
         Some(place) => Ok(place),
         None => {
-            let place = shapes.len();
             shapes.insert(shape, layout)?;
-            Ok(place)
+            Ok(count)
         }
+    }
+}
+
+/// The entry at a place.
+fn entry_at(shapes: &IndexMap<Shape, Layout>, place: usize) -> (Shape, Layout)
+    requires { place < length shapes.now.entries }
+    ensures { slice_get shapes.now.entries place ≡ Some result }
+{
+    match shapes.get_index(place) {
+        Some((shape, layout)) => (*shape, *layout),
+        None => unreachable!(),
     }
 }

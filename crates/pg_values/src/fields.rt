@@ -5,7 +5,7 @@ ghost use Rattle.pg_types.specs.Table.{type_at};
 ghost use Rattle.pg_types.specs.NumberedTypes.{table_of};
 ghost use Rattle.pg_values.specs.Fields.{HasNoFields, IsLast, AreFields, field_chosen};
 
-use pg_types::{Shape, TypeNumbers};
+use pg_types::{KnownTypes, Shape};
 use std::alloc::{AllocError, Global};
 
 /// The last field of a structure, and the structure of the fields before it, by the numbers of their types.
@@ -16,7 +16,7 @@ pub(crate) struct LastField {
 }
 
 /// The last field of a structure; none of a type that has no fields.
-fn last_field(types: &TypeNumbers<'_>, number: usize) -> Option<LastField>
+fn last_field(types: &KnownTypes<'_>, number: usize) -> Option<LastField>
     requires { number < length (table_of types.now) }
     ensures last { IfSome result (IsLast (table_of types.now) number) }
     ensures none { result ≡ None → HasNoFields (type_at (table_of types.now) number) }
@@ -30,7 +30,7 @@ fn last_field(types: &TypeNumbers<'_>, number: usize) -> Option<LastField>
 /// The numbers of the types of a structure's fields, in order; none of another type.
 pub fn fields_of(
     alloc: Global,
-    types: &TypeNumbers<'_>,
+    types: &KnownTypes<'_>,
     number: usize,
 ) -> Result<Vec<usize>, AllocError>
     requires { number < length (table_of types.now) }

@@ -15,7 +15,7 @@ use crate::fields::{field_chosen, fields_of};
 use pg_ast::{TypeNode, TypedVal};
 use pg_lex::Span;
 use pg_rules::{earlier, index_numbers, type_span, val_span};
-use pg_types::{Shape, TypeNumbers};
+use pg_types::{KnownTypes, Shape, TypeNumbers};
 use std::alloc::{AllocError, Global};
 
 /// Where an index is refused, and the number of the type to which it goes.
@@ -39,7 +39,7 @@ fn refused_field(field: Option<usize>, index: &TypedVal) -> Option<Span>
 /// How an index goes into a structure.
 fn step_into_fields(
     alloc: Global,
-    types: &TypeNumbers<'_>,
+    types: &KnownTypes<'_>,
     number: usize,
     chosen: Option<i64>,
     index: &TypedVal,
@@ -60,7 +60,7 @@ fn step_into_fields(
 /// How an index goes into the structure without fields, which ends the path.
 fn step_into_none(
     alloc: Global,
-    types: &TypeNumbers<'_>,
+    types: &KnownTypes<'_>,
     number: usize,
     chosen: Option<i64>,
     index: &TypedVal,
@@ -92,7 +92,7 @@ fn step_into_scalar(index: &TypedVal) -> IndexStep
 #[tactic(auto, unfolding(pg_rules::specs::Earliest::earliest))]
 fn step_into(
     alloc: Global,
-    types: &TypeNumbers<'_>,
+    types: &KnownTypes<'_>,
     number: usize,
     chosen: Option<i64>,
     index: &TypedVal,
@@ -117,7 +117,7 @@ fn step_into(
 #[tactic(auto, unfolding(pg_rules::specs::Earliest::earliest))]
 fn step(
     alloc: Global,
-    types: &TypeNumbers<'_>,
+    types: &KnownTypes<'_>,
     number: Option<usize>,
     chosen: Option<i64>,
     index: &TypedVal,
@@ -139,7 +139,7 @@ fn step(
 /// The earliest of the indices behind the first that is refused.
 fn wrong_steps(
     alloc: Global,
-    types: &TypeNumbers<'_>,
+    types: &KnownTypes<'_>,
     number: Option<usize>,
     chosen: &[Option<i64>],
     indices: &[TypedVal],
@@ -161,14 +161,14 @@ fn wrong_steps(
 /// The earliest index of a `getelementptr` that chooses no field, or goes into what has no parts.
 pub fn wrong_indices(
     alloc: Global,
-    types: &mut TypeNumbers<'_>,
+    types: &TypeNumbers<'_>,
     ty: &TypeNode,
     indices: &[TypedVal],
 ) -> Result<Option<Span>, AllocError>
-    ensures place { IfOk result (λ o. o ≡ earliest (wrong_indices (named_types types.old) (ty_of ty.now) (map typed_of indices.now))) }
-    ensures items { types.new.items ≡ types.old.items }
+    ensures place { IfOk result (λ o. o ≡ earliest (wrong_indices (named_types types.now) (ty_of ty.now) (map typed_of indices.now))) }
 {
     let chosen = index_numbers(alloc, types, indices)?;
-    let number = types.number(ty)?;
-    wrong_steps(alloc, types, number, chosen.as_slice(), indices)
+    let mut known = KnownTypes::new(types);
+    let number = known.number(ty)?;
+    wrong_steps(alloc, &known, number, chosen.as_slice(), indices)
 }

@@ -41,12 +41,11 @@ fn type_of_register<'a>(scope: &ValueScope<'a>, name: &Name) -> Option<RegisterT
 /// Whether a type is one, and other than a register's.
 #[tactic(auto, using(crate::proofs::RegisterTypes::bit_same, crate::proofs::RegisterTypes::pointer_same))]
 fn has_other_type(
-    types: &mut TypeNumbers<'_>,
+    types: &TypeNumbers<'_>,
     register: RegisterType<'_>,
     ty: &TypeNode,
 ) -> Result<bool, AllocError>
-    ensures other { IfOk result (λ b. b ≡ fails (is_as (register_type (named_types types.old) register.entry)) (resolved (named_types types.old) (ty_of ty.now))) }
-    ensures items { types.new.items ≡ types.old.items }
+    ensures other { IfOk result (λ b. b ≡ fails (is_as (register_type (named_types types.now) register.entry)) (resolved (named_types types.now) (ty_of ty.now))) }
 {
     match register {
         RegisterType::Written(written) => {
@@ -66,13 +65,12 @@ fn has_other_type(
 
 /// Whether a register, if there is one, has another type, or stands where none may.
 fn is_wrong_register(
-    types: &mut TypeNumbers<'_>,
+    types: &TypeNumbers<'_>,
     constant: bool,
     register: Option<RegisterType<'_>>,
     ty: &TypeNode,
 ) -> Result<bool, AllocError>
-    ensures wrong { IfOk result (λ b. b ≡ wrong_typed constant (resolved (named_types types.old) (ty_of ty.now)) (option_map (register_type (named_types types.old)) register.entry)) }
-    ensures items { types.new.items ≡ types.old.items }
+    ensures wrong { IfOk result (λ b. b ≡ wrong_typed constant (resolved (named_types types.now) (ty_of ty.now)) (option_map (register_type (named_types types.now)) register.entry)) }
 {
     match register {
         Some(register) => {
@@ -89,14 +87,13 @@ fn is_wrong_register(
 /// Whether a register of a name has another type, or stands where none may.
 pub(crate) fn wrong_register(
     scope: &ValueScope<'_>,
-    types: &mut TypeNumbers<'_>,
+    types: &TypeNumbers<'_>,
     constant: bool,
     ty: &TypeNode,
     name: &Name,
 ) -> Result<bool, AllocError>
-    ensures wrong { (g : Scope) → IsScope scope.now g → g.tree.types ≡ named_types types.old →
+    ensures wrong { (g : Scope) → IsScope scope.now g → g.tree.types ≡ named_types types.now →
         IfOk result (λ b. b ≡ wrong_register constant (resolved g.tree.types (ty_of ty.now)) (register_named g.registers name.now.text)) }
-    ensures items { types.new.items ≡ types.old.items }
 {
     let register = type_of_register(scope, name);
     is_wrong_register(types, constant, register, ty)

@@ -80,12 +80,11 @@ pub(crate) fn fails_kind(test: TypeTest, kind: Option<TypeKind>) -> bool
 /// The place of a type that isn't what is asked for.
 #[tactic(auto, unfolding(pg_rules::specs::Earliest::earliest))]
 pub fn unmet(
-    types: &mut TypeNumbers<'_>,
+    types: &TypeNumbers<'_>,
     test: TypeTest,
     ty: &TypeNode,
 ) -> Result<Option<Span>, AllocError>
-    ensures place { IfOk result (λ o. o ≡ earliest (unmet (named_types types.old) (asks (test_of test) (ty_of ty.now)))) }
-    ensures items { types.new.items ≡ types.old.items }
+    ensures place { IfOk result (λ o. o ≡ earliest (unmet (named_types types.now) (asks (test_of test) (ty_of ty.now)))) }
 {
     let kind = types.kind(ty)?;
     if fails_kind(test, kind) {
@@ -98,12 +97,11 @@ pub fn unmet(
 /// The place of a type that isn't the one that is expected.
 #[tactic(auto, unfolding(pg_rules::specs::Earliest::earliest))]
 pub fn unmet_as(
-    types: &mut TypeNumbers<'_>,
+    types: &TypeNumbers<'_>,
     expected: &TypeNode,
     ty: &TypeNode,
 ) -> Result<Option<Span>, AllocError>
-    ensures place { IfOk result (λ o. o ≡ earliest (unmet (named_types types.old) (asks (is_as (resolved (named_types types.old) (ty_of expected.now))) (ty_of ty.now)))) }
-    ensures items { types.new.items ≡ types.old.items }
+    ensures place { IfOk result (λ o. o ≡ earliest (unmet (named_types types.now) (asks (is_as (resolved (named_types types.now) (ty_of expected.now))) (ty_of ty.now)))) }
 {
     if types.agree(expected, ty)? {
         Ok(None)

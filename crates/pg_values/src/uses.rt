@@ -31,13 +31,12 @@ use std::alloc::{AllocError, Global};
 /// Whether a global or a function of a name, if there is one, stands where no pointer may.
 fn wrong_symbol(
     scope: &ValueScope<'_>,
-    types: &mut TypeNumbers<'_>,
+    types: &TypeNumbers<'_>,
     ty: &TypeNode,
     name: &Name,
 ) -> Result<bool, AllocError>
-    ensures wrong { (g : Scope) → IsScope scope.now g → g.tree.types ≡ named_types types.old →
+    ensures wrong { (g : Scope) → IsScope scope.now g → g.tree.types ≡ named_types types.now →
         IfOk result (λ b. b ≡ wrong_symbol (resolved g.tree.types (ty_of ty.now)) (symbol g.tree name.now.text)) }
-    ensures items { types.new.items ≡ types.old.items }
 {
     match symbol(scope.symbols, name.text.as_slice()) {
         SymbolNode::Unknown => Ok(false),
@@ -51,14 +50,13 @@ fn wrong_symbol(
 /// Whether a value may not stand at a type.
 fn is_wrong(
     scope: &ValueScope<'_>,
-    types: &mut TypeNumbers<'_>,
+    types: &TypeNumbers<'_>,
     constant: bool,
     ty: &TypeNode,
     value: &ValNode,
 ) -> Result<bool, AllocError>
-    ensures wrong { (g : Scope) → IsScope scope.now g → g.tree.types ≡ named_types types.old →
+    ensures wrong { (g : Scope) → IsScope scope.now g → g.tree.types ≡ named_types types.now →
         IfOk result (λ b. b ≡ is_wrong g constant (resolved g.tree.types (ty_of ty.now)) (val_of value.now)) }
-    ensures items { types.new.items ≡ types.old.items }
 {
     match value {
         ValNode::Local(name) => wrong_register(scope, types, constant, ty, name),
@@ -71,14 +69,13 @@ fn is_wrong(
 #[tactic(auto, unfolding(pg_rules::specs::Earliest::earliest))]
 fn wrong_place(
     scope: &ValueScope<'_>,
-    types: &mut TypeNumbers<'_>,
+    types: &TypeNumbers<'_>,
     constant: bool,
     ty: &TypeNode,
     value: &ValNode,
 ) -> Result<Option<Span>, AllocError>
-    ensures place { (g : Scope) → IsScope scope.now g → g.tree.types ≡ named_types types.old →
+    ensures place { (g : Scope) → IsScope scope.now g → g.tree.types ≡ named_types types.now →
         IfOk result (λ o. o ≡ earliest (if is_wrong g constant (resolved g.tree.types (ty_of ty.now)) (val_of value.now) then val_span (val_of value.now) ∷ [] else [])) }
-    ensures items { types.new.items ≡ types.old.items }
 {
     if is_wrong(scope, types, constant, ty, value)? {
         Ok(Some(val_span(value)))
@@ -88,12 +85,8 @@ fn wrong_place(
 }
 
 /// The earliest index whose type isn't an integer.
-fn unmet_integers(
-    types: &mut TypeNumbers<'_>,
-    indices: &[TypedVal],
-) -> Result<Option<Span>, AllocError>
-    ensures place { IfOk result (λ o. o ≡ earliest (flat_map (integer_row (named_types types.old)) (map typed_of indices.now))) }
-    ensures items { types.new.items ≡ types.old.items }
+fn unmet_integers(types: &TypeNumbers<'_>, indices: &[TypedVal]) -> Result<Option<Span>, AllocError>
+    ensures place { IfOk result (λ o. o ≡ earliest (flat_map (integer_row (named_types types.now)) (map typed_of indices.now))) }
 {
     let mut found = None;
     for index in indices {
@@ -104,14 +97,13 @@ fn unmet_integers(
 
 /// The earliest type of a `getelementptr` that isn't what it asks for.
 fn unmet_walk(
-    types: &mut TypeNumbers<'_>,
+    types: &TypeNumbers<'_>,
     ty: &TypeNode,
     pointer: &TypeNode,
     indices: &[TypedVal],
 ) -> Result<Option<Span>, AllocError>
-    ensures place { IfOk result (λ o. o ≡ earliest (unmet (named_types types.old) (asks isnt_void (ty_of ty.now))
-        ++ (unmet (named_types types.old) (asks is_pointer (ty_of pointer.now)) ++ flat_map (integer_row (named_types types.old)) (map typed_of indices.now)))) }
-    ensures items { types.new.items ≡ types.old.items }
+    ensures place { IfOk result (λ o. o ≡ earliest (unmet (named_types types.now) (asks isnt_void (ty_of ty.now))
+        ++ (unmet (named_types types.now) (asks is_pointer (ty_of pointer.now)) ++ flat_map (integer_row (named_types types.now)) (map typed_of indices.now)))) }
 {
     let first = unmet(types, TypeTest::NotVoid, ty)?;
     let second = unmet(types, TypeTest::Pointer, pointer)?;
@@ -121,13 +113,12 @@ fn unmet_walk(
 
 /// The earliest type of an `inttoptr` that isn't what it asks for.
 fn unmet_cast(
-    types: &mut TypeNumbers<'_>,
+    types: &TypeNumbers<'_>,
     ty: &TypeNode,
     pointer: &TypeNode,
 ) -> Result<Option<Span>, AllocError>
-    ensures place { IfOk result (λ o. o ≡ earliest (unmet (named_types types.old) (asks is_integer (ty_of ty.now))
-        ++ (unmet (named_types types.old) (asks is_pointer (ty_of pointer.now)) ++ []))) }
-    ensures items { types.new.items ≡ types.old.items }
+    ensures place { IfOk result (λ o. o ≡ earliest (unmet (named_types types.now) (asks is_integer (ty_of ty.now))
+        ++ (unmet (named_types types.now) (asks is_pointer (ty_of pointer.now)) ++ []))) }
 {
     let first = unmet(types, TypeTest::Integer, ty)?;
     let second = unmet(types, TypeTest::Pointer, pointer)?;
@@ -136,9 +127,8 @@ fn unmet_cast(
 
 /// The earliest type in a value that isn't what the value asks for.
 #[tactic(auto, unfolding(pg_rules::specs::Earliest::earliest))]
-fn unmet_own(types: &mut TypeNumbers<'_>, value: &ValNode) -> Result<Option<Span>, AllocError>
-    ensures place { IfOk result (λ o. o ≡ earliest (flat_map (unmet (named_types types.old)) (own_demands (val_of value.now)))) }
-    ensures items { types.new.items ≡ types.old.items }
+fn unmet_own(types: &TypeNumbers<'_>, value: &ValNode) -> Result<Option<Span>, AllocError>
+    ensures place { IfOk result (λ o. o ≡ earliest (flat_map (unmet (named_types types.now)) (own_demands (val_of value.now)))) }
 {
     match value {
         ValNode::GetElementPtr(_, ty, pointer, _, indices) => {
@@ -153,11 +143,10 @@ fn unmet_own(types: &mut TypeNumbers<'_>, value: &ValNode) -> Result<Option<Span
 #[tactic(auto, unfolding(pg_rules::specs::Earliest::earliest))]
 fn wrong_own_indices(
     alloc: Global,
-    types: &mut TypeNumbers<'_>,
+    types: &TypeNumbers<'_>,
     value: &ValNode,
 ) -> Result<Option<Span>, AllocError>
-    ensures place { IfOk result (λ o. o ≡ earliest (inner_indices (named_types types.old) (val_of value.now))) }
-    ensures items { types.new.items ≡ types.old.items }
+    ensures place { IfOk result (λ o. o ≡ earliest (inner_indices (named_types types.now) (val_of value.now))) }
 {
     match value {
         ValNode::GetElementPtr(_, ty, _, _, indices) => {
@@ -171,14 +160,13 @@ fn wrong_own_indices(
 fn wrong_use(
     alloc: Global,
     scope: &ValueScope<'_>,
-    types: &mut TypeNumbers<'_>,
+    types: &TypeNumbers<'_>,
     constant: bool,
     ty: &TypeNode,
     value: &ValNode,
 ) -> Result<Option<Span>, AllocError>
-    ensures place { (g : Scope) → IsScope scope.now g → g.tree.types ≡ named_types types.old →
+    ensures place { (g : Scope) → IsScope scope.now g → g.tree.types ≡ named_types types.now →
         IfOk result (λ o. o ≡ earliest (wrong_use g (record { constant = constant; ty = ty_of ty.now; value = val_of value.now }))) }
-    ensures items { types.new.items ≡ types.old.items }
 {
     let own = wrong_place(scope, types, constant, ty, value)?;
     let asked = unmet_own(types, value)?;
@@ -199,13 +187,12 @@ fn misfit_literal(kind: Option<TypeKind>, literal: &Literal) -> bool
 /// The place of an integer that doesn't fit the type that is written before it.
 #[tactic(auto, unfolding(pg_rules::specs::Earliest::earliest, pg_rules::specs::ValueConditions::wrong_use))]
 fn wrong_literal(
-    types: &mut TypeNumbers<'_>,
+    types: &TypeNumbers<'_>,
     ty: &TypeNode,
     literal: &Literal,
 ) -> Result<Option<Span>, AllocError>
-    ensures place { (g : Scope) → g.tree.types ≡ named_types types.old →
+    ensures place { (g : Scope) → g.tree.types ≡ named_types types.now →
         IfOk result (λ o. o ≡ earliest (wrong_use g (constant_at (ty_of ty.now) (Int literal.now)))) }
-    ensures items { types.new.items ≡ types.old.items }
 {
     let kind = types.kind(ty)?;
     if misfit_literal(kind, literal) {
@@ -221,12 +208,11 @@ fn wrong_literal(
 fn wrong_within(
     alloc: Global,
     scope: &ValueScope<'_>,
-    types: &mut TypeNumbers<'_>,
+    types: &TypeNumbers<'_>,
     value: &ValNode,
 ) -> Result<Option<Span>, AllocError>
-    ensures place { (g : Scope) → IsScope scope.now g → g.tree.types ≡ named_types types.old →
+    ensures place { (g : Scope) → IsScope scope.now g → g.tree.types ≡ named_types types.now →
         IfOk result (λ o. o ≡ earliest (flat_map (wrong_use g) (inner_uses (val_of value.now)))) }
-    ensures items { types.new.items ≡ types.old.items }
 {
     match value {
         ValNode::GetElementPtr(_, _, pointer, base, indices) => {
@@ -244,12 +230,11 @@ fn wrong_within(
 fn wrong_index_uses(
     alloc: Global,
     scope: &ValueScope<'_>,
-    types: &mut TypeNumbers<'_>,
+    types: &TypeNumbers<'_>,
     indices: &[TypedVal],
 ) -> Result<Option<Span>, AllocError>
-    ensures place { (g : Scope) → IsScope scope.now g → g.tree.types ≡ named_types types.old →
+    ensures place { (g : Scope) → IsScope scope.now g → g.tree.types ≡ named_types types.now →
         IfOk result (λ o. o ≡ earliest (flat_map (index_row (wrong_use g)) (map typed_of indices.now))) }
-    ensures items { types.new.items ≡ types.old.items }
 {
     let mut found = None;
     for index in indices {
@@ -264,14 +249,13 @@ fn wrong_index_uses(
 pub fn wrong_values(
     alloc: Global,
     scope: &ValueScope<'_>,
-    types: &mut TypeNumbers<'_>,
+    types: &TypeNumbers<'_>,
     constant: bool,
     ty: &TypeNode,
     value: &ValNode,
 ) -> Result<Option<Span>, AllocError>
-    ensures place { (g : Scope) → IsScope scope.now g → g.tree.types ≡ named_types types.old →
+    ensures place { (g : Scope) → IsScope scope.now g → g.tree.types ≡ named_types types.now →
         IfOk result (λ o. o ≡ earliest (flat_map (wrong_use g) (with_inner (record { constant = constant; ty = ty_of ty.now; value = val_of value.now })))) }
-    ensures items { types.new.items ≡ types.old.items }
 {
     let own = wrong_use(alloc, scope, types, constant, ty, value)?;
     let within = wrong_within(alloc, scope, types, value)?;

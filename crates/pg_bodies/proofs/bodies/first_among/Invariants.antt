@@ -13,5 +13,4 @@ invariant-loop-item l =
     record {
       first : (o : Option CheckRefusal) → IsFirstAmong (bodies m (map define_of (drop l.item-index l.items)) (lines_before l.items l.item-index)) o → IsFirstAmong (bodies m (map define_of l.items) 0) o;
       count : l.until ≡ capped (lines_before l.items l.item-index);
-      items : l.types.items ≡ l.fn.types.items;
     }

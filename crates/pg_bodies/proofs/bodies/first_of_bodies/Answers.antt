@@ -4,6 +4,8 @@ use Rattle.pg_rules.specs.Conditions.{bodies}
 use Rattle.pg_rules.specs.Earliest.{IsFirstAmong}
 use Rattle.pg_bodies.proofs.bodies.first_of_bodies.Goals as goal
 
-pub returns-clause-first : goal.returns-clause-first
-returns-clause-first c =
-    subst (λ xs. IsFirstAmong (bodies (tree_of c.args.symbols.now.tree.now) (map define_of xs) 0) c.in_ok-found.found) c.as_slice.ensures.value c.in_ok-found.ensures.first
+pub returns : goal.returns
+returns c = record {
+  first =
+      subst (λ xs. IsFirstAmong (bodies (tree_of c.args.symbols.now.tree.now) (map define_of xs) 0) c.in_ok-found.found) c.as_slice.ensures.value c.in_ok-found.ensures.first;
+}

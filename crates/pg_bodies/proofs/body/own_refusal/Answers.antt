@@ -10,10 +10,12 @@ use Rattle.pg_bodies.specs.BodyParts.{whole_refused}
 use Rattle.pg_bodies.proofs.BodyRows.{body_parts}
 use Rattle.pg_bodies.proofs.body.own_refusal.Goals as goal
 
-pub returns-clause-first : goal.returns-clause-first
-returns-clause-first c = λ m lines e u.
-    let d = numbered m.types (define_of c.args.item.now) in
-    let whole = whole_refused m lines d in
-    let own = all_of (line_refused (scope_of m d)) (all_lines d) in
-    same_places (joined whole own) (body_refused m lines d) c.earlier_refusal.result (body_parts m lines d)
-    (c.earlier_refusal.ensures whole own (c.in_ok-whole.ensures.first m lines (ap (λ (x : Tree). x.types) e ∙ sym c.requires.tree) u) (c.in_ok-lines.ensures.first m e))
+pub returns : goal.returns
+returns c = record {
+  first = λ m lines e u.
+      let d = numbered m.types (define_of c.args.item.now) in
+      let whole = whole_refused m lines d in
+      let own = all_of (line_refused (scope_of m d)) (all_lines d) in
+      same_places (joined whole own) (body_refused m lines d) c.earlier_refusal.result (body_parts m lines d)
+      (c.earlier_refusal.ensures whole own (c.in_ok-whole.ensures.first m lines (ap (λ (x : Tree). x.types) e ∙ sym c.requires.tree) u) (c.in_ok-lines.ensures.first m e));
+}

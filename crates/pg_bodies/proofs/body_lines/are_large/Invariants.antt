@@ -6,7 +6,4 @@ use Rattle.pg_bodies.specs.BodyParts.{is_large_block}
 use Rattle.pg_bodies.proofs.body_lines.are_large.Given as goal
 
 abbrev pub invariant-loop-block : goal.invariant-loop-block
-invariant-loop-block l = record {
-  whole : list_any (is_large_block (named_types l.fn.types)) (map block_of l.blocks) ≡ list_any (is_large_block (named_types l.fn.types)) (map block_of (drop l.block-index l.blocks));
-  items : l.types.items ≡ l.fn.types.items;
-}
+invariant-loop-block l = list_any (is_large_block (named_types l.types)) (map block_of l.blocks) ≡ list_any (is_large_block (named_types l.types)) (map block_of (drop l.block-index l.blocks))

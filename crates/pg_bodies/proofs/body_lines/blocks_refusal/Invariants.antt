@@ -9,7 +9,4 @@ use Rattle.pg_bodies.specs.BodyParts.{block_refused}
 use Rattle.pg_bodies.proofs.body_lines.blocks_refusal.Given as goal
 
 abbrev pub invariant-loop-block : goal.invariant-loop-block
-invariant-loop-block l = record {
-  first : (g : Scope) → IsLineScope l.scope g → g.tree.types ≡ named_types l.fn.types → IsFirstIn (all_of (block_refused g) (map block_of (take l.block-index l.blocks))) l.found;
-  items : l.types.items ≡ l.fn.types.items;
-}
+invariant-loop-block l = (g : Scope) → IsLineScope l.scope g → g.tree.types ≡ named_types l.types → IsFirstIn (all_of (block_refused g) (map block_of (take l.block-index l.blocks))) l.found

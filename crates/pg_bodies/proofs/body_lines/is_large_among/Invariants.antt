@@ -6,7 +6,4 @@ use Rattle.pg_bodies.specs.BodyParts.{is_large_line}
 use Rattle.pg_bodies.proofs.body_lines.is_large_among.Given as goal
 
 abbrev pub invariant-loop-line : goal.invariant-loop-line
-invariant-loop-line l = record {
-  whole : list_any (is_large_line (named_types l.fn.types)) (map line_of l.lines) ≡ list_any (is_large_line (named_types l.fn.types)) (map line_of (drop l.line-index l.lines));
-  items : l.types.items ≡ l.fn.types.items;
-}
+invariant-loop-line l = list_any (is_large_line (named_types l.types)) (map line_of l.lines) ≡ list_any (is_large_line (named_types l.types)) (map line_of (drop l.line-index l.lines))

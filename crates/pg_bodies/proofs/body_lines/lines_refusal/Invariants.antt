@@ -9,7 +9,4 @@ use Rattle.pg_calls.specs.Scopes.{IsLineScope}
 use Rattle.pg_bodies.proofs.body_lines.lines_refusal.Given as goal
 
 abbrev pub invariant-loop-line : goal.invariant-loop-line
-invariant-loop-line l = record {
-  first : (g : Scope) → IsLineScope l.scope g → g.tree.types ≡ named_types l.fn.types → IsFirstIn (all_of (line_refused g) (map line_of (take l.line-index l.lines))) l.found;
-  items : l.types.items ≡ l.fn.types.items;
-}
+invariant-loop-line l = (g : Scope) → IsLineScope l.scope g → g.tree.types ≡ named_types l.types → IsFirstIn (all_of (line_refused g) (map line_of (take l.line-index l.lines))) l.found

@@ -6,7 +6,4 @@ use Rattle.pg_rules.specs.CallConditions.{is_resolved}
 use Rattle.pg_calls.proofs.calls.are_resolved.Given as goal
 
 abbrev pub invariant-loop-ty : goal.invariant-loop-ty
-invariant-loop-ty l = record {
-  whole : list_all (is_resolved (named_types l.fn.types)) (map ty_of l.written) ≡ list_all (is_resolved (named_types l.fn.types)) (map ty_of (drop l.ty-index l.written));
-  items : l.types.items ≡ l.fn.types.items;
-}
+invariant-loop-ty l = list_all (is_resolved (named_types l.types)) (map ty_of l.written) ≡ list_all (is_resolved (named_types l.types)) (map ty_of (drop l.ty-index l.written))

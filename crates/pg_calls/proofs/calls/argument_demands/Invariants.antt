@@ -9,7 +9,4 @@ use Rattle.pg_rules.specs.CallConditions.{argument_demands}
 use Rattle.pg_calls.proofs.calls.argument_demands.Given as goal
 
 abbrev pub invariant-loop-place : goal.invariant-loop-place
-invariant-loop-place l = record {
-  found : l.found ≡ earliest (flat_map (unmet (named_types l.fn.types)) (argument_demands (named_types l.fn.types) (tys_behind (take l.place l.params)) (map typed_of (take l.place l.arguments))));
-  items : l.types.items ≡ l.fn.types.items;
-}
+invariant-loop-place l = l.found ≡ earliest (flat_map (unmet (named_types l.types)) (argument_demands (named_types l.types) (tys_behind (take l.place l.params)) (map typed_of (take l.place l.arguments))))

@@ -8,5 +8,7 @@ use Rattle.pg_values.specs.Tests.{test_of}
 use Rattle.pg_calls.proofs.Joined.{one_row}
 use Rattle.pg_calls.proofs.typed_tests.unmet_one.Goals as goal
 
-pub returns-clause-place : goal.returns-clause-place
-returns-clause-place c = if_ok c.unmet.result (λ o h. h ∙ one_row (unmet (named_types c.args.types.now)) (asks (test_of c.args.test) (ty_of c.args.ty.now))) c.unmet.ensures.place
+pub returns : goal.returns
+returns c = record {
+  place = if_ok c.unmet.result (λ o h. h ∙ one_row (unmet (named_types c.args.types.now)) (asks (test_of c.args.test) (ty_of c.args.ty.now))) c.unmet.ensures.place;
+}

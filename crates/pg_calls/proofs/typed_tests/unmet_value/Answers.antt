@@ -8,5 +8,7 @@ use Rattle.pg_values.specs.Tests.{test_of}
 use Rattle.pg_calls.proofs.Joined.{one_row}
 use Rattle.pg_calls.proofs.typed_tests.unmet_value.Goals as goal
 
-pub returns-clause-place : goal.returns-clause-place
-returns-clause-place c = if_ok c.unmet_typed.result (λ o h. h ∙ one_row (unmet (named_types c.args.types.now)) (asks_typed (test_of c.args.test) (typed_of c.args.value.now))) c.unmet_typed.ensures.place
+pub returns : goal.returns
+returns c = record {
+  place = if_ok c.unmet_typed.result (λ o h. h ∙ one_row (unmet (named_types c.args.types.now)) (asks_typed (test_of c.args.test) (typed_of c.args.value.now))) c.unmet_typed.ensures.place;
+}

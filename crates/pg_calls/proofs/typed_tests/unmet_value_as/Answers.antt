@@ -9,5 +9,7 @@ use Rattle.pg_rules.specs.Written.{asks_typed}
 use Rattle.pg_calls.proofs.Joined.{one_row}
 use Rattle.pg_calls.proofs.typed_tests.unmet_value_as.Goals as goal
 
-pub returns-clause-place : goal.returns-clause-place
-returns-clause-place c = if_ok c.unmet_typed_as.result (λ o h. h ∙ one_row (unmet (named_types c.args.types.now)) (asks_typed (is_as (resolved (named_types c.args.types.now) (ty_of c.args.expected.now))) (typed_of c.args.value.now))) c.unmet_typed_as.ensures.place
+pub returns : goal.returns
+returns c = record {
+  place = if_ok c.unmet_typed_as.result (λ o h. h ∙ one_row (unmet (named_types c.args.types.now)) (asks_typed (is_as (resolved (named_types c.args.types.now) (ty_of c.args.expected.now))) (typed_of c.args.value.now))) c.unmet_typed_as.ensures.place;
+}

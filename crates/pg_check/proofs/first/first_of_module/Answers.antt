@@ -7,17 +7,21 @@ use Rattle.pg_check.specs.Checked.{phases_from_globals}
 use Rattle.pg_check.proofs.PhaseLists.{found_in}
 use Rattle.pg_check.proofs.first.first_of_module.Goals as goal
 
-pub returns-in-Some-clause-first : goal.returns-in-Some-clause-first
+pub returns-in-Some : goal.returns-in-Some
 unfolding phases
-returns-in-Some-clause-first c =
-    let m = tree_of c.args.tree.now in
-    let part = all_of (item_refused m.types) m.types in
-    found_in m (Some c.in-Some.refusal) (first_here part (phases_from_globals m) c.in_ok-first.first c.in-Some.refusal c.in-Some.is c.in_ok-first.ensures.first)
+returns-in-Some c = record {
+  first =
+      let m = tree_of c.args.tree.now in
+      let part = all_of (item_refused m.types) m.types in
+      found_in m (Some c.in-Some.refusal) (first_here part (phases_from_globals m) c.in_ok-first.first c.in-Some.refusal c.in-Some.is c.in_ok-first.ensures.first);
+}
 
-pub returns-in-None-clause-first : goal.returns-in-None-clause-first
+pub returns-in-None : goal.returns-in-None
 unfolding phases
-returns-in-None-clause-first c =
-    let m = tree_of c.args.tree.now in
-    let part = all_of (item_refused m.types) m.types in
-    if_ok c.first_behind_types.result (λ o f. found_in m o (first_behind part (phases_from_globals m) o (nothing_here part c.in_ok-first.first c.in-None.is c.in_ok-first.ensures.first) f))
-    c.first_behind_types.ensures.first
+returns-in-None c = record {
+  first =
+      let m = tree_of c.args.tree.now in
+      let part = all_of (item_refused m.types) m.types in
+      if_ok c.first_behind_types.result (λ o f. found_in m o (first_behind part (phases_from_globals m) o (nothing_here part c.in_ok-first.first c.in-None.is c.in_ok-first.ensures.first) f))
+      c.first_behind_types.ensures.first;
+}

@@ -1,4 +1,4 @@
-use Rattle.std.proofs.Common.{◌≤◌, ◌+◌, ◌++◌, map, drop, refl, sym, ap, subst, ◌∙◌, rules}
+use Rattle.std.proofs.Common.{◌≤◌, ◌+◌, ◌++◌, map, drop, sym, ap, subst, ◌∙◌, rules}
 use Rattle.pg_num.specs.declared.limits.TheConstants.{SIZE_LIMIT}
 use Rattle.pg_num.specs.declared.layout.TheConstants.{GLOBALS_END}
 use Rattle.std.specs.List.{enumerate_from}
@@ -35,7 +35,7 @@ granule_behind-start-requires-clause-size c =
 pub loop-item-init : goal.loop-item-init
 loop-item-init c =
     let m = tree_of c.args.globals.now.symbols.tree.now in
-    record { whole = search rules; start = start_first m; items = refl; known = refl }
+    record { whole = search rules; start = start_first m }
 
 pub loop-item-preserved : goal.loop-item-preserved
 loop-item-preserved c =
@@ -54,13 +54,13 @@ loop-item-preserved c =
           ∙ ap (λ n. n + granules_for c.in_ok-row.row.size) c.loop-item.invariant.start
           ∙ ap (λ (x : GlobalInfo). start_granule m i + granules_for x.size) c.in_ok-row.ensures.info
           ∙ start_step m gs i g _ (ap (λ xs. map global_of xs) (sym c.requires.variables)) c.loop-item-test.true c.item-item.is;
-      items = c.info_from.ensures.items ∙ c.loop-item.invariant.items;
-      known = c.info_from.ensures.known ∙ c.loop-item.invariant.known;
     }
 
-pub returns-clause-rows : goal.returns-clause-rows
-returns-clause-rows c =
-    let m = tree_of c.args.globals.now.symbols.tree.now in
-    rows_end m c.loop-item.rows.items c.args.variables.now c.loop-item.item-index c.loop-item-test.false
-    ∙ c.loop-item.invariant.whole
-    ∙ ap (λ xs. map (row_of m) (enumerate_from 0 (map global_of xs))) c.requires.variables
+pub returns : goal.returns
+returns c = record {
+  rows =
+      let m = tree_of c.args.globals.now.symbols.tree.now in
+      rows_end m c.loop-item.rows.items c.args.variables.now c.loop-item.item-index c.loop-item-test.false
+      ∙ c.loop-item.invariant.whole
+      ∙ ap (λ xs. map (row_of m) (enumerate_from 0 (map global_of xs))) c.requires.variables;
+}

@@ -11,6 +11,4 @@ invariant-loop-item l =
     record {
       whole : l.rows.items ++ map (row_of m) (enumerate_from l.item-index (map global_of (drop l.item-index l.variables))) ≡ map (row_of m) (enumerate_from 0 (map global_of l.variables));
       start : l.start ≡ start_granule m l.item-index;
-      items : l.types.items ≡ l.fn.types.items;
-      known : l.known.items ≡ l.fn.known.items;
     }

@@ -8,7 +8,6 @@ use Rattle.pg_constants.proofs.globals.global_words.Given as goal
 
 abbrev pub invariant-loop-global : goal.invariant-loop-global
 invariant-loop-global l = record {
-  whole : l.words.items ++ words_from (named_types l.fn.types) l.start (map global_of (drop l.global-index l.globals)) ≡ words_from (named_types l.fn.types) 1 (map global_of l.globals);
-  items : l.types.items ≡ l.fn.types.items;
-  room : l.start + sum_by (granules_of (named_types l.fn.types)) (map global_of (drop l.global-index l.globals)) ≤ GLOBALS_END;
+  whole : l.words.items ++ words_from (named_types l.types) l.start (map global_of (drop l.global-index l.globals)) ≡ words_from (named_types l.types) 1 (map global_of l.globals);
+  room : l.start + sum_by (granules_of (named_types l.types)) (map global_of (drop l.global-index l.globals)) ≤ GLOBALS_END;
 }

@@ -16,7 +16,6 @@ invariant-add_elements-loop-part l =
     let t = type_at (table_of l.known) l.element in
     record {
       bytes : l.bytes.items ++ element_bytes m t (consts (map typed_const_of (drop l.part-index l.parts))) ≡ l.fn.bytes.items ++ element_bytes m t (consts (map typed_const_of l.parts));
-      items : l.types.items ≡ l.fn.types.items;
       fits : PartsFit m.types (consts (map typed_const_of (drop l.part-index l.parts)));
     }
 
@@ -26,7 +25,6 @@ invariant-add_fields-loop-place l =
     let ts = field_list (type_at (table_of l.known) l.number) in
     record {
       bytes : l.bytes.items ++ field_bytes m l.at (drop l.place ts) (consts (map typed_const_of (drop l.place l.parts))) ≡ l.fn.bytes.items ++ field_bytes m 0 ts (consts (map typed_const_of l.parts));
-      items : l.types.items ≡ l.fn.types.items;
       fits : PartsFit m.types (consts (map typed_const_of (drop l.place l.parts)));
       ended : end_from l.at (drop l.place ts) ≤ SIZE_LIMIT;
     }

@@ -6,7 +6,4 @@ use Rattle.pg_rules.specs.Signatures.{is_wrong_param}
 use Rattle.pg_heads.proofs.definitions.wrong_params.Given as goal
 
 abbrev pub invariant-loop-param : goal.invariant-loop-param
-invariant-loop-param l = record {
-  whole : list_any (is_wrong_param (named_types l.fn.types)) (map param_of l.params) ≡ list_any (is_wrong_param (named_types l.fn.types)) (map param_of (drop l.param-index l.params));
-  items : l.types.items ≡ l.fn.types.items;
-}
+invariant-loop-param l = list_any (is_wrong_param (named_types l.types)) (map param_of l.params) ≡ list_any (is_wrong_param (named_types l.types)) (map param_of (drop l.param-index l.params))

@@ -8,8 +8,10 @@ use Rattle.pg_heads.specs.Ends.{ended}
 use Rattle.pg_heads.proofs.GlobalEnds.{ended_second}
 use Rattle.pg_heads.proofs.global_ends.end_after.Goals as goal
 
-pub returns-clause-count : goal.returns-clause-count
-returns-clause-count c =
-    c.sum_of.ensures
-    ∙ ap (λ n. ended (c.args.start + n)) c.in_ok-size.ensures.count
-    ∙ ended_second c.args.start (granules_for (size_or_none (resolved (named_types c.args.types.now) (ty_of c.args.ty.now))))
+pub returns : goal.returns
+returns c = record {
+  count =
+      c.sum_of.ensures
+      ∙ ap (λ n. ended (c.args.start + n)) c.in_ok-size.ensures.count
+      ∙ ended_second c.args.start (granules_for (size_or_none (resolved (named_types c.args.types.now) (ty_of c.args.ty.now))));
+}

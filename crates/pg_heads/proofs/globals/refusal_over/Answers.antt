@@ -1,11 +1,8 @@
 use Rattle.std.proofs.Common.{◌≡◌, ◌+◌, nat_lt, map, take, refl, sym, ap, ◌∙◌, arith}
 use Rattle.std.specs.List.{enumerate_from}
 use Rattle.pg_num.specs.declared.layout.TheConstants.{GLOBALS_END}
-use Rattle.pg_ir.specs.WellFormed.{granules_for}
-use Rattle.pg_ast.specs.Views.{ty_of, global_of}
-use Rattle.pg_types.specs.Resolved.{resolved}
-use Rattle.pg_types.specs.Layout.{size_or_none}
-use Rattle.pg_types.specs.NumberedTypes.{items_of, named_types}
+use Rattle.pg_ast.specs.Views.{global_of}
+use Rattle.pg_types.specs.NumberedTypes.{named_types}
 use Rattle.pg_rules.specs.Earliest.{IsFirstIn}
 use Rattle.pg_rules.specs.Conditions.{all_of, globals_end, global_refused}
 use Rattle.pg_rules.proofs.Rows.{row_whole}
@@ -16,7 +13,7 @@ use Rattle.pg_heads.proofs.globals.refusal_over.Goals as goal
 
 pub loop-number-init : goal.loop-number-init
 unfolding globals_end
-loop-number-init c = record { first = λ m s t g k. record { none = λ kind. refl }; end = refl; small = omega arith; items = refl }
+loop-number-init c = record { first = λ m s t g k. record { none = λ kind. refl }; end = refl; small = omega arith }
 
 pub loop-number-preserved : goal.loop-number-preserved
 loop-number-preserved c =
@@ -29,24 +26,24 @@ loop-number-preserved c =
     let last = globals_end types (take (number + 1) (map global_of items)) in
     let next : after ≡ ended last =
     ended_step types global_of items number item item before after c.loop-number-test.true c.index-items-number.is c.loop-number.invariant.end
-    (c.in_ok-end.ensures.count ∙ ap (λ xs. ended (before + granules_for (size_or_none (resolved (items_of xs) (ty_of item.ty))))) c.loop-number.invariant.items) in
-    let same = c.end_after.ensures.items ∙ c.loop-number.invariant.items in
+    (c.in_ok-end.ensures.count) in
     record {
       first = λ m s t g k.
           numbered_part_step (global_refused m) global_of items number item c.earlier_refusal-found.result c.loop-number-test.true c.index-items-number.is
           (c.earlier_refusal-found.ensures (all_of (global_refused m) (enumerate_from 0 (map global_of (take number items)))) (global_refused m (number, global_of item))
           (c.loop-number.invariant.first m s t g k)
-          (c.in_ok-own.ensures.first m s (t ∙ ap (λ xs. items_of xs) (sym same))
+          (c.in_ok-own.ensures.first m s t
           (c.is_past_end.ensures ∙ ap (λ n. nat_lt GLOBALS_END n) next ∙ past_ended last
           ∙ ap (λ ts. nat_lt GLOBALS_END (globals_end ts (take (number + 1) (map global_of items)))) (sym t)
           ∙ ap (λ vs. nat_lt GLOBALS_END (globals_end m.types (take (number + 1) vs))) (sym g))
           k));
       end = next;
       small = ended_small after last next;
-      items = c.global_refusal.ensures.items ∙ same;
     }
 
-pub returns-clause-first : goal.returns-clause-first
-returns-clause-first c = λ m s t g k.
-    row_whole (λ xs. IsFirstIn (all_of (global_refused m) (enumerate_from 0 (map global_of xs))) c.loop-number.found) c.args.items.now c.loop-number.number c.loop-number-test.false
-    (c.loop-number.invariant.first m s t g k)
+pub returns : goal.returns
+returns c = record {
+  first = λ m s t g k.
+      row_whole (λ xs. IsFirstIn (all_of (global_refused m) (enumerate_from 0 (map global_of xs))) c.loop-number.found) c.args.items.now c.loop-number.number c.loop-number-test.false
+      (c.loop-number.invariant.first m s t g k);
+}

@@ -2,7 +2,7 @@ use Rattle.std.proofs.Common.{sym, ap, ◌∙◌}
 use Rattle.std.specs.List.{flat_map}
 use Rattle.pg_ast.specs.Views.{ty_of, const_of, global_of}
 use Rattle.pg_types.specs.Resolved.{resolved}
-use Rattle.pg_types.specs.NumberedTypes.{items_of, named_types}
+use Rattle.pg_types.specs.NumberedTypes.{named_types}
 use Rattle.pg_rules.specs.Nodes.{tys_behind}
 use Rattle.pg_rules.specs.Written.{const_uses, types_within, asks, isnt_void}
 use Rattle.pg_rules.specs.TypeConditions.{wrong_type, wrong_types, unmet}
@@ -14,20 +14,18 @@ use Rattle.pg_heads.specs.Initialisers.{uses_behind}
 use Rattle.pg_heads.proofs.GlobalParts.{both, within_rows}
 use Rattle.pg_heads.proofs.globals.wrong_places.Goals as goal
 
-pub returns-clause-place : goal.returns-clause-place
+pub returns : goal.returns
 unfolding global_refused wrong_types
-returns-clause-place c = λ m n s t.
-    let item = c.args.item.now in
-    let ty = ty_of item.ty in
-    let value = const_of item.value in
-    let old = sym t in
-    let own_items = ap (λ xs. items_of xs) c.wrong_types.ensures.items ∙ old in
-    let constant_items = ap (λ xs. items_of xs) c.unmet.ensures.items ∙ own_items in
-    let value_items = ap (λ xs. items_of xs) c.wrong_const.ensures.items ∙ constant_items in
-    both _ _ _ _ _ c.earlier-3.ensures
-    (same_row wrong_type (named_types c.args.types.now) m.types (tys_behind c.args.within.now) (flat_map types_within (global_types (global_of item))) c.in_ok-written.written c.in_ok-written.ensures.place old c.requires.within)
-    (both _ _ _ _ _ c.earlier-2.ensures
-    (c.in_ok-own.ensures.place ∙ ap (λ types. earliest (unmet types (asks isnt_void ty))) own_items)
-    (both _ _ _ _ _ c.earlier.ensures
-    (c.in_ok-constant.ensures.place ∙ ap (λ types. earliest (wrong_const types (resolved types ty) value)) constant_items)
-    (within_rows (wrong_use (outside m)) (uses_behind c.args.uses.now) (const_uses ty value) c.in_ok-values.values (c.in_ok-values.ensures.place (outside m) s (sym value_items)) c.requires.uses)))
+returns c = record {
+  place = λ m n s t.
+      let item = c.args.item.now in
+      let ty = ty_of item.ty in
+      let value = const_of item.value in
+      both _ _ _ _ _ c.earlier-3.ensures
+      (same_row wrong_type (named_types c.args.types.now) m.types (tys_behind c.args.within.now) (flat_map types_within (global_types (global_of item))) c.in_ok-written.written c.in_ok-written.ensures.place (sym t) c.requires.within)
+      (both _ _ _ _ _ c.earlier-2.ensures
+      (c.in_ok-own.ensures.place ∙ ap (λ types. earliest (unmet types (asks isnt_void ty))) (sym t))
+      (both _ _ _ _ _ c.earlier.ensures
+      (c.in_ok-constant.ensures.place ∙ ap (λ types. earliest (wrong_const types (resolved types ty) value)) (sym t))
+      (within_rows (wrong_use (outside m)) (uses_behind c.args.uses.now) (const_uses ty value) c.in_ok-values.values (c.in_ok-values.ensures.place (outside m) s t) c.requires.uses)));
+}

@@ -5,15 +5,19 @@ use Rattle.pg_rules.specs.CallConditions.{declaration_header}
 use Rattle.pg_rules.specs.Conditions.{has_header, head_types}
 use Rattle.pg_heads.proofs.heads.declares_other.Goals as goal
 
-pub returns-in_ok-same-clause-same : goal.returns-in_ok-same-clause-same
-returns-in_ok-same-clause-same c =
-    let types = named_types c.args.types.now in
-    let header = declaration_header (declare_of c.args.item.now) in
-    ap (λ b. not b) c.in_ok-same.ensures.same
-    ∙ ap (λ t. t && not (has_header types c.args.scalars.now c.args.returned header)) (sym c.if-types_exist.true ∙ c.types_exist.ensures (head_types header) c.requires)
+pub returns-in_ok-same : goal.returns-in_ok-same
+returns-in_ok-same c = record {
+  same =
+      let types = named_types c.args.types.now in
+      let header = declaration_header (declare_of c.args.item.now) in
+      ap (λ b. not b) c.in_ok-same.ensures.same
+      ∙ ap (λ t. t && not (has_header types c.args.scalars.now c.args.returned header)) (sym c.if-types_exist.true ∙ c.types_exist.ensures (head_types header) c.requires);
+}
 
-pub returns-else-types_exist-clause-same : goal.returns-else-types_exist-clause-same
-returns-else-types_exist-clause-same c =
-    let types = named_types c.args.types.now in
-    let header = declaration_header (declare_of c.args.item.now) in
-    ap (λ t. t && not (has_header types c.args.scalars.now c.args.returned header)) (sym c.if-types_exist.false ∙ c.types_exist.ensures (head_types header) c.requires)
+pub returns-else-types_exist : goal.returns-else-types_exist
+returns-else-types_exist c = record {
+  same =
+      let types = named_types c.args.types.now in
+      let header = declaration_header (declare_of c.args.item.now) in
+      ap (λ t. t && not (has_header types c.args.scalars.now c.args.returned header)) (sym c.if-types_exist.false ∙ c.types_exist.ensures (head_types header) c.requires);
+}

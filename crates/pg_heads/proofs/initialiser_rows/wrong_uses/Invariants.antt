@@ -8,7 +8,4 @@ use Rattle.pg_heads.specs.Initialisers.{uses_behind, within_row}
 use Rattle.pg_heads.proofs.initialiser_rows.wrong_uses.Given as goal
 
 abbrev pub invariant-loop-one : goal.invariant-loop-one
-invariant-loop-one l = record {
-  found : (g : Scope) → IsScope l.scope g → g.tree.types ≡ named_types l.fn.types → l.found ≡ earliest (flat_map (within_row (wrong_use g)) (uses_behind (take l.one-index l.uses)));
-  items : l.types.items ≡ l.fn.types.items;
-}
+invariant-loop-one l = (g : Scope) → IsScope l.scope g → g.tree.types ≡ named_types l.types → l.found ≡ earliest (flat_map (within_row (wrong_use g)) (uses_behind (take l.one-index l.uses)))

@@ -11,7 +11,6 @@ use Rattle.pg_heads.proofs.phases.declarations_refusal.Given as goal
 
 abbrev pub invariant-loop-item : goal.invariant-loop-item
 invariant-loop-item l = record {
-  first : (m : Tree) → m.types ≡ named_types l.fn.types → ((text : List ℕ) → known_place l.starts text ≡ first_start (symbol_names m) text) →
+  first : (m : Tree) → m.types ≡ named_types l.types → ((text : List ℕ) → known_place l.starts text ≡ first_start (symbol_names m) text) →
       IsFirstIn (all_of (declaration_refused m) (map declare_of (take l.item-index l.items))) l.found;
-  items : l.types.items ≡ l.fn.types.items;
 }

@@ -13,7 +13,6 @@ use Rattle.pg_heads.proofs.phases.definitions_refusal.Given as goal
 
 abbrev pub invariant-loop-number : goal.invariant-loop-number
 invariant-loop-number l = record {
-  first : (m : Tree) → m.types ≡ named_types l.fn.types → ((text : List ℕ) → known_place l.starts text ≡ first_start (symbol_names m) text) →
+  first : (m : Tree) → m.types ≡ named_types l.types → ((text : List ℕ) → known_place l.starts text ≡ first_start (symbol_names m) text) →
       IsFirstIn (all_of (definition_refused m) (enumerate_from 0 (map (λ d. numbered m.types (define_of d)) (take l.number l.items)))) l.found;
-  items : l.types.items ≡ l.fn.types.items;
 }

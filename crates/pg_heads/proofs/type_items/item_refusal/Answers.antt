@@ -29,30 +29,30 @@ kinds types i WrongType = ap (λ ss. ss ++ self_contained types i) (append-nil (
 kinds types i TooLarge = append-nil (item_refused types i TooLarge)
 kinds types i _ = refl
 
-pub returns-clause-first : goal.returns-clause-first
+pub returns : goal.returns
 unfolding item_refused unknown_types wrong_types any_large
-returns-clause-first c = λ p k.
-    let types = map type_item_of c.args.items.now in
-    let item = type_item_of c.args.item.now in
-    let all = flat_map types_within (item.ty ∷ []) in
-    let span = c.args.item.now.name.span in
-    let within = c.in_ok-within.ensures in
-    let old = ap (λ xs. items_of xs) c.requires.items in
-    let wrong_items = ap (λ xs. items_of xs) c.wrong_types.ensures.items ∙ old in
-    let large_items = ap (λ xs. items_of xs) c.any_large.ensures.items ∙ wrong_items in
-    let own = own_part types item in
-    let circles = only WrongType (self_contained types item) in
-    let named = names_and_types (unknown_types types (item.ty ∷ [])) (doubled (type_names types) item.name) (wrong_types types (item.ty ∷ [])) in
-    let large = only TooLarge (item_refused types item TooLarge) in
-    if_ok c.self_contained.result
-    (λ o h. same_places (joined (joined p own) circles) (joined p (item_refused types item)) o
-    (λ kind. append_assoc (p kind) (own kind) (circles kind) ∙ ap (λ ss. p kind ++ ss) (kinds types item kind)) h)
-    (c.self_contained.ensures.first (joined p own)
-    (c.earlier_refusal-found.ensures p own k
-    (c.earlier_refusal-own.ensures named large
-    (c.name_or_type_refusal-named.ensures (unknown_types types (item.ty ∷ [])) (doubled (type_names types) item.name) (wrong_types types (item.ty ∷ []))
-    (same_row unknown_type (named_types c.any_large.new.types) types (tys_behind c.as_slice-3.result.now) all c.unknown_types-unknown.result c.unknown_types-unknown.ensures large_items (ap (λ ts. tys_behind ts) c.as_slice-3.ensures.value ∙ within))
-    (c.doubled.ensures (type_names types) c.requires.starts)
-    (same_row wrong_type (named_types c.args.types.now) types (tys_behind c.as_slice.result.now) all c.in_ok-wrong.wrong c.in_ok-wrong.ensures.place old (ap (λ ts. tys_behind ts) c.as_slice.ensures.value ∙ within)))
-    (c.refusal_at.ensures (item_refused types item TooLarge)
-    (c.place_if.ensures ∙ ap (λ b. earliest (at_if b span)) (c.in_ok-large.ensures.large ∙ ap (λ t. list_any (is_large t) (tys_behind c.as_slice-2.result.now)) wrong_items ∙ ap (λ ts. list_any (is_large types) ts) (ap (λ ts. tys_behind ts) c.as_slice-2.ensures.value ∙ within)))))))
+returns c = record {
+  first = λ p k.
+      let types = map type_item_of c.args.items.now in
+      let item = type_item_of c.args.item.now in
+      let all = flat_map types_within (item.ty ∷ []) in
+      let span = c.args.item.now.name.span in
+      let within = c.in_ok-within.ensures in
+      let old = ap (λ xs. items_of xs) c.requires.items in
+      let own = own_part types item in
+      let circles = only WrongType (self_contained types item) in
+      let named = names_and_types (unknown_types types (item.ty ∷ [])) (doubled (type_names types) item.name) (wrong_types types (item.ty ∷ [])) in
+      let large = only TooLarge (item_refused types item TooLarge) in
+      if_ok c.self_contained.result
+      (λ o h. same_places (joined (joined p own) circles) (joined p (item_refused types item)) o
+      (λ kind. append_assoc (p kind) (own kind) (circles kind) ∙ ap (λ ss. p kind ++ ss) (kinds types item kind)) h)
+      (c.self_contained.ensures.first (joined p own)
+      (c.earlier_refusal-found.ensures p own k
+      (c.earlier_refusal-own.ensures named large
+      (c.name_or_type_refusal-named.ensures (unknown_types types (item.ty ∷ [])) (doubled (type_names types) item.name) (wrong_types types (item.ty ∷ []))
+      (same_row unknown_type (named_types c.args.types.now) types (tys_behind c.as_slice-3.result.now) all c.unknown_types-unknown.result c.unknown_types-unknown.ensures old (ap (λ ts. tys_behind ts) c.as_slice-3.ensures.value ∙ within))
+      (c.doubled.ensures (type_names types) c.requires.starts)
+      (same_row wrong_type (named_types c.args.types.now) types (tys_behind c.as_slice.result.now) all c.in_ok-wrong.wrong c.in_ok-wrong.ensures.place old (ap (λ ts. tys_behind ts) c.as_slice.ensures.value ∙ within)))
+      (c.refusal_at.ensures (item_refused types item TooLarge)
+      (c.place_if.ensures ∙ ap (λ b. earliest (at_if b span)) (c.in_ok-large.ensures.large ∙ ap (λ t. list_any (is_large t) (tys_behind c.as_slice-2.result.now)) old ∙ ap (λ ts. list_any (is_large types) ts) (ap (λ ts. tys_behind ts) c.as_slice-2.ensures.value ∙ within)))))));
+}

@@ -20,6 +20,8 @@ item_ranks-requires c = λ text. c.in_ok-places.ensures text ∙ first_item c.as
 pub items_refusal-requires-clause-known : goal.items_refusal-requires-clause-known
 items_refusal-requires-clause-known c = λ text. c.in_ok-places.ensures text ∙ first_item c.as_slice-items.result.now text
 
-pub returns-clause-first : goal.returns-clause-first
-returns-clause-first c =
-    subst (λ xs. IfOk c.items_refusal.result (λ o. IsFirstIn (all_of (item_refused (map type_item_of xs)) (map type_item_of xs)) o)) c.as_slice-items.ensures.value c.items_refusal.ensures.first
+pub returns : goal.returns
+returns c = record {
+  first =
+      subst (λ xs. IfOk c.items_refusal.result (λ o. IsFirstIn (all_of (item_refused (map type_item_of xs)) (map type_item_of xs)) o)) c.as_slice-items.ensures.value c.items_refusal.ensures.first;
+}

@@ -6,7 +6,4 @@ use Rattle.pg_lines.specs.Cases.{case_place}
 use Rattle.pg_lines.proofs.cases.case_places.Given as goal
 
 abbrev pub invariant-loop-case : goal.invariant-loop-case
-invariant-loop-case l = record {
-  places : l.places.items ≡ map (case_place (resolved (named_types l.fn.types) (ty_of l.ty))) (map case_of (take l.case-index l.cases));
-  items : l.types.items ≡ l.fn.types.items;
-}
+invariant-loop-case l = l.places.items ≡ map (case_place (resolved (named_types l.types) (ty_of l.ty))) (map case_of (take l.case-index l.cases))

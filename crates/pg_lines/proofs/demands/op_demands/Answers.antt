@@ -13,14 +13,16 @@ use Rattle.pg_values.specs.declared.type_tests.TypeTest.TheVariants.{Integer}
 use Rattle.pg_values.specs.Tests.{test_of}
 use Rattle.pg_lines.proofs.demands.op_demands.Goals as goal
 
-pub returns-in-Switch-clause-place : goal.returns-in-Switch-clause-place
+pub returns-in-Switch : goal.returns-in-Switch
 unfolding op_demands
-returns-in-Switch-clause-place c =
-    let types = named_types c.args.types.now in
-    let returned = resolved types (ty_of c.args.returned.now) in
-    let value = c.in-Switch.value in
-    if_ok c.unmet_switch.result
-    (λ o h. h
-    ∙ ap (λ xs. earliest (flat_map (unmet types) (asks_typed (test_of Integer) (typed_of value) ∷ map (λ (k : Case). asks_typed (is_as (resolved types (typed_of value).ty)) k.value) (map case_of xs)))) c.as_slice.ensures.value
-    ∙ ap (λ x. earliest (flat_map (unmet types) (op_demands types returned (op_of x)))) (sym c.in-Switch.is))
-    c.unmet_switch.ensures.place
+returns-in-Switch c = record {
+  place =
+      let types = named_types c.args.types.now in
+      let returned = resolved types (ty_of c.args.returned.now) in
+      let value = c.in-Switch.value in
+      if_ok c.unmet_switch.result
+      (λ o h. h
+      ∙ ap (λ xs. earliest (flat_map (unmet types) (asks_typed (test_of Integer) (typed_of value) ∷ map (λ (k : Case). asks_typed (is_as (resolved types (typed_of value).ty)) k.value) (map case_of xs)))) c.as_slice.ensures.value
+      ∙ ap (λ x. earliest (flat_map (unmet types) (op_demands types returned (op_of x)))) (sym c.in-Switch.is))
+      c.unmet_switch.ensures.place;
+}

@@ -7,9 +7,11 @@ use Rattle.pg_values.specs.Tests.{test_of}
 use Rattle.pg_calls.proofs.Joined.{two_demands}
 use Rattle.pg_lines.proofs.demands.unmet_alloca.Goals as goal
 
-pub returns-clause-place : goal.returns-clause-place
-returns-clause-place c =
-    two_demands c.args.types.now.items c.unmet_one.new.types.items
-    (λ types. asks (test_of NotVoid) (ty_of c.args.ty.now) ∷ [])
-    (λ types. count_demands (option_map count_of c.args.count.now))
-    c.in_ok-void.void c.in_ok-number.number c.earlier.result c.unmet_one.ensures.items c.in_ok-void.ensures.place c.in_ok-number.ensures.place c.earlier.ensures
+pub returns : goal.returns
+returns c = record {
+  place =
+      two_demands c.args.types.now.items
+      (λ types. asks (test_of NotVoid) (ty_of c.args.ty.now) ∷ [])
+      (λ types. count_demands (option_map count_of c.args.count.now))
+      c.in_ok-void.void c.in_ok-number.number c.earlier.result c.in_ok-void.ensures.place c.in_ok-number.ensures.place c.earlier.ensures;
+}

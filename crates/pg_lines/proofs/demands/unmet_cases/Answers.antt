@@ -1,9 +1,9 @@
-use Rattle.std.proofs.Common.{refl, ap, ◌∙◌}
+use Rattle.std.proofs.Common.{refl}
 use Rattle.pg_ast.specs.declared.ops.CaseNode.{CaseNode}
 use Rattle.pg_ast.specs.Views.{typed_of, case_of}
 use Rattle.pg_types.specs.Resolved.{resolved}
 use Rattle.pg_types.specs.Kinds.{is_as}
-use Rattle.pg_types.specs.NumberedTypes.{items_of, named_types}
+use Rattle.pg_types.specs.NumberedTypes.{named_types}
 use Rattle.pg_rules.specs.Earliest.{earliest}
 use Rattle.pg_rules.specs.TypeConditions.{unmet}
 use Rattle.pg_rules.specs.Written.{asks_typed}
@@ -12,13 +12,10 @@ use Rattle.pg_lines.proofs.demands.unmet_cases.Goals as goal
 
 pub loop-case-init : goal.loop-case-init
 unfolding earliest
-loop-case-init c = record { found = refl; items = refl }
+loop-case-init c = refl
 
 pub loop-case-preserved : goal.loop-case-preserved
-loop-case-preserved c = record {
-  found =
-      let own = c.in_ok-unmet_case.ensures.place ∙ ap (λ xs. earliest (unmet (items_of xs) (asks_typed (is_as (resolved (items_of xs) (typed_of c.args.expected.now).ty)) (case_of c.case-item.result).value))) c.loop-case.invariant.items in
-      row_step (unmet (named_types c.args.types.now)) (λ (k : CaseNode). asks_typed (is_as (resolved (named_types c.args.types.now) (typed_of c.args.expected.now).ty)) (case_of k).value) c.args.cases.now c.loop-case.case-index c.case-item.result c.case-item.result c.loop-case.found c.in_ok-unmet_case.field-0 c.earlier-found.result
-      c.loop-case-test.true c.case-item.is c.loop-case.invariant.found own c.earlier-found.ensures;
-  items = c.unmet_case.ensures.items ∙ c.loop-case.invariant.items;
-}
+loop-case-preserved c =
+    let own = c.in_ok-unmet_case.ensures.place in
+    row_step (unmet (named_types c.args.types.now)) (λ (k : CaseNode). asks_typed (is_as (resolved (named_types c.args.types.now) (typed_of c.args.expected.now).ty)) (case_of k).value) c.args.cases.now c.loop-case.case-index c.case-item.result c.case-item.result c.loop-case.found c.in_ok-unmet_case.field-0 c.earlier-found.result
+    c.loop-case-test.true c.case-item.is c.loop-case.invariant own c.earlier-found.ensures

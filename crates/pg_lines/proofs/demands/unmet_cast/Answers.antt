@@ -5,9 +5,11 @@ use Rattle.pg_rules.specs.Written.{asks, asks_typed, cast_from, cast_to}
 use Rattle.pg_calls.proofs.Joined.{two_demands}
 use Rattle.pg_lines.proofs.demands.unmet_cast.Goals as goal
 
-pub returns-clause-place : goal.returns-clause-place
-returns-clause-place c =
-    two_demands c.args.types.now.items c.unmet_source.new.types.items
-    (λ types. asks_typed (cast_from c.args.op) (typed_of c.args.value.now) ∷ [])
-    (λ types. asks (cast_to c.args.op (resolved types (typed_of c.args.value.now).ty)) (ty_of c.args.ty.now) ∷ [])
-    c.in_ok-source.source c.in_ok-target.target c.earlier.result c.unmet_source.ensures.items c.in_ok-source.ensures.place c.in_ok-target.ensures.place c.earlier.ensures
+pub returns : goal.returns
+returns c = record {
+  place =
+      two_demands c.args.types.now.items
+      (λ types. asks_typed (cast_from c.args.op) (typed_of c.args.value.now) ∷ [])
+      (λ types. asks (cast_to c.args.op (resolved types (typed_of c.args.value.now).ty)) (ty_of c.args.ty.now) ∷ [])
+      c.in_ok-source.source c.in_ok-target.target c.earlier.result c.in_ok-source.ensures.place c.in_ok-target.ensures.place c.earlier.ensures;
+}

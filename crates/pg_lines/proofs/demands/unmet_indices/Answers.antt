@@ -1,7 +1,7 @@
-use Rattle.std.proofs.Common.{refl, ap, ◌∙◌}
+use Rattle.std.proofs.Common.{refl}
 use Rattle.pg_ast.specs.declared.values.TypedVal.{TypedVal}
 use Rattle.pg_ast.specs.Views.{typed_of}
-use Rattle.pg_types.specs.NumberedTypes.{items_of, named_types}
+use Rattle.pg_types.specs.NumberedTypes.{named_types}
 use Rattle.pg_rules.specs.Earliest.{earliest}
 use Rattle.pg_rules.specs.TypeConditions.{unmet}
 use Rattle.pg_rules.specs.Written.{asks_typed}
@@ -12,13 +12,10 @@ use Rattle.pg_lines.proofs.demands.unmet_indices.Goals as goal
 
 pub loop-index-init : goal.loop-index-init
 unfolding earliest
-loop-index-init c = record { found = refl; items = refl }
+loop-index-init c = refl
 
 pub loop-index-preserved : goal.loop-index-preserved
-loop-index-preserved c = record {
-  found =
-      let own = c.in_ok-unmet_typed.ensures.place ∙ ap (λ xs. earliest (unmet (items_of xs) (asks_typed (test_of Integer) (typed_of c.index-item.result)))) c.loop-index.invariant.items in
-      row_step (unmet (named_types c.args.types.now)) (λ (k : TypedVal). asks_typed (test_of Integer) (typed_of k)) c.args.indices.now c.loop-index.index-index c.index-item.result c.index-item.result c.loop-index.found c.in_ok-unmet_typed.field-0 c.earlier-found.result
-      c.loop-index-test.true c.index-item.is c.loop-index.invariant.found own c.earlier-found.ensures;
-  items = c.unmet_typed.ensures.items ∙ c.loop-index.invariant.items;
-}
+loop-index-preserved c =
+    let own = c.in_ok-unmet_typed.ensures.place in
+    row_step (unmet (named_types c.args.types.now)) (λ (k : TypedVal). asks_typed (test_of Integer) (typed_of k)) c.args.indices.now c.loop-index.index-index c.index-item.result c.index-item.result c.loop-index.found c.in_ok-unmet_typed.field-0 c.earlier-found.result
+    c.loop-index-test.true c.index-item.is c.loop-index.invariant own c.earlier-found.ensures

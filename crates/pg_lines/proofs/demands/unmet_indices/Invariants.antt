@@ -11,7 +11,4 @@ use Rattle.pg_values.specs.Tests.{test_of}
 use Rattle.pg_lines.proofs.demands.unmet_indices.Given as goal
 
 abbrev pub invariant-loop-index : goal.invariant-loop-index
-invariant-loop-index l = record {
-  found : l.found ≡ earliest (flat_map (unmet (named_types l.fn.types)) (map (λ (k : TypedVal). asks_typed (test_of Integer) (typed_of k)) (take l.index-index l.indices)));
-  items : l.types.items ≡ l.fn.types.items;
-}
+invariant-loop-index l = l.found ≡ earliest (flat_map (unmet (named_types l.types)) (map (λ (k : TypedVal). asks_typed (test_of Integer) (typed_of k)) (take l.index-index l.indices)))

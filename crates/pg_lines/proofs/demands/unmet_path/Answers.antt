@@ -12,11 +12,13 @@ use Rattle.pg_values.specs.Tests.{test_of}
 use Rattle.pg_calls.proofs.Joined.{two_demands}
 use Rattle.pg_lines.proofs.demands.unmet_path.Goals as goal
 
-pub returns-clause-place : goal.returns-clause-place
-returns-clause-place c =
-    two_demands c.args.types.now.items c.unmet_pointed.new.types.items
-    (λ types. asks (test_of NotVoid) (ty_of c.args.ty.now) ∷ asks_typed (test_of Pointer) (typed_of c.args.pointer.now) ∷ [])
-    (λ types. map (λ (i : TypedVal). asks_typed (test_of Integer) (typed_of i)) c.args.indices.now)
-    c.in_ok-front.front c.in_ok-path.path c.earlier.result c.unmet_pointed.ensures.items c.in_ok-front.ensures.place c.in_ok-path.ensures.place c.earlier.ensures
-    ∙ ap (λ ds. earliest (flat_map (unmet (named_types c.args.types.now)) (asks (test_of NotVoid) (ty_of c.args.ty.now) ∷ asks_typed (test_of Pointer) (typed_of c.args.pointer.now) ∷ ds)))
-    (map_twice (asks_typed (test_of Integer)) typed_of c.args.indices.now)
+pub returns : goal.returns
+returns c = record {
+  place =
+      two_demands c.args.types.now.items
+      (λ types. asks (test_of NotVoid) (ty_of c.args.ty.now) ∷ asks_typed (test_of Pointer) (typed_of c.args.pointer.now) ∷ [])
+      (λ types. map (λ (i : TypedVal). asks_typed (test_of Integer) (typed_of i)) c.args.indices.now)
+      c.in_ok-front.front c.in_ok-path.path c.earlier.result c.in_ok-front.ensures.place c.in_ok-path.ensures.place c.earlier.ensures
+      ∙ ap (λ ds. earliest (flat_map (unmet (named_types c.args.types.now)) (asks (test_of NotVoid) (ty_of c.args.ty.now) ∷ asks_typed (test_of Pointer) (typed_of c.args.pointer.now) ∷ ds)))
+      (map_twice (asks_typed (test_of Integer)) typed_of c.args.indices.now);
+}

@@ -6,9 +6,11 @@ use Rattle.pg_values.specs.Tests.{test_of}
 use Rattle.pg_calls.proofs.Joined.{two_demands}
 use Rattle.pg_lines.proofs.demands.unmet_store.Goals as goal
 
-pub returns-clause-place : goal.returns-clause-place
-returns-clause-place c =
-    two_demands c.args.types.now.items c.unmet_value.new.types.items
-    (λ types. asks_typed (test_of Scalar) (typed_of c.args.value.now) ∷ [])
-    (λ types. asks_typed (test_of Pointer) (typed_of c.args.pointer.now) ∷ [])
-    c.in_ok-own.own c.in_ok-place.place c.earlier.result c.unmet_value.ensures.items c.in_ok-own.ensures.place c.in_ok-place.ensures.place c.earlier.ensures
+pub returns : goal.returns
+returns c = record {
+  place =
+      two_demands c.args.types.now.items
+      (λ types. asks_typed (test_of Scalar) (typed_of c.args.value.now) ∷ [])
+      (λ types. asks_typed (test_of Pointer) (typed_of c.args.pointer.now) ∷ [])
+      c.in_ok-own.own c.in_ok-place.place c.earlier.result c.in_ok-own.ensures.place c.in_ok-place.ensures.place c.earlier.ensures;
+}

@@ -15,11 +15,13 @@ use Rattle.pg_values.specs.Tests.{test_of}
 use Rattle.pg_calls.proofs.Joined.{two_demands}
 use Rattle.pg_lines.proofs.demands.unmet_switch.Goals as goal
 
-pub returns-clause-place : goal.returns-clause-place
-returns-clause-place c =
-    two_demands c.args.types.now.items c.unmet_value.new.types.items
-    (λ types. asks_typed (test_of Integer) (typed_of c.args.value.now) ∷ [])
-    (λ types. map (λ (k : CaseNode). asks_typed (is_as (resolved types (typed_of c.args.value.now).ty)) (case_of k).value) c.args.cases.now)
-    c.in_ok-integer.integer c.in_ok-same.same c.earlier.result c.unmet_value.ensures.items c.in_ok-integer.ensures.place c.in_ok-same.ensures.place c.earlier.ensures
-    ∙ ap (λ ds. earliest (flat_map (unmet (named_types c.args.types.now)) (asks_typed (test_of Integer) (typed_of c.args.value.now) ∷ ds)))
-    (map_twice (λ (k : Case). asks_typed (is_as (resolved (named_types c.args.types.now) (typed_of c.args.value.now).ty)) k.value) case_of c.args.cases.now)
+pub returns : goal.returns
+returns c = record {
+  place =
+      two_demands c.args.types.now.items
+      (λ types. asks_typed (test_of Integer) (typed_of c.args.value.now) ∷ [])
+      (λ types. map (λ (k : CaseNode). asks_typed (is_as (resolved types (typed_of c.args.value.now).ty)) (case_of k).value) c.args.cases.now)
+      c.in_ok-integer.integer c.in_ok-same.same c.earlier.result c.in_ok-integer.ensures.place c.in_ok-same.ensures.place c.earlier.ensures
+      ∙ ap (λ ds. earliest (flat_map (unmet (named_types c.args.types.now)) (asks_typed (test_of Integer) (typed_of c.args.value.now) ∷ ds)))
+      (map_twice (λ (k : Case). asks_typed (is_as (resolved (named_types c.args.types.now) (typed_of c.args.value.now).ty)) k.value) case_of c.args.cases.now);
+}

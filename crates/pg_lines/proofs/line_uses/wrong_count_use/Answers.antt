@@ -6,9 +6,11 @@ use Rattle.pg_types.specs.Resolved.{resolved}
 use Rattle.pg_lines.proofs.Misfits.{count_row}
 use Rattle.pg_lines.proofs.line_uses.wrong_count_use.Goals as goal
 
-pub returns-clause-place : goal.returns-clause-place
-returns-clause-place c = λ g e.
-    count_row g (ty_of c.args.count.now.ty) c.args.count.now.count c.in_ok-kind.kind c.misfits.result c.place_if.result
-    (c.in_ok-kind.ensures.kind ∙ ap (λ types. option_map kind_of (resolved types (ty_of c.args.count.now.ty))) (sym e))
-    c.misfits.ensures
-    c.place_if.ensures
+pub returns : goal.returns
+returns c = record {
+  place = λ g e.
+      count_row g (ty_of c.args.count.now.ty) c.args.count.now.count c.in_ok-kind.kind c.misfits.result c.place_if.result
+      (c.in_ok-kind.ensures.kind ∙ ap (λ types. option_map kind_of (resolved types (ty_of c.args.count.now.ty))) (sym e))
+      c.misfits.ensures
+      c.place_if.ensures;
+}

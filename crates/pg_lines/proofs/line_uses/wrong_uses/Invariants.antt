@@ -8,7 +8,4 @@ use Rattle.pg_lines.specs.Uses.{uses_of, row_within}
 use Rattle.pg_lines.proofs.line_uses.wrong_uses.Given as goal
 
 abbrev pub invariant-loop-one : goal.invariant-loop-one
-invariant-loop-one l = record {
-  found : (g : Scope) → IsLineScope l.scope g → g.tree.types ≡ named_types l.fn.types → l.found ≡ earliest (flat_map (row_within (wrong_use g)) (uses_of (take l.one-index l.uses)));
-  items : l.types.items ≡ l.fn.types.items;
-}
+invariant-loop-one l = (g : Scope) → IsLineScope l.scope g → g.tree.types ≡ named_types l.types → l.found ≡ earliest (flat_map (row_within (wrong_use g)) (uses_of (take l.one-index l.uses)))

@@ -9,11 +9,10 @@ use Rattle.pg_names.proofs.naming.add_lines.Given as goal
 
 abbrev pub invariant-loop-line : goal.invariant-loop-line
 invariant-loop-line l =
-    let types = named_types l.fn.types in
+    let types = named_types l.types in
     record {
       registers : registers_by types l.names.items l.kinds.items ++ filter_map (line_register types) (each_at (behind_line types) (line_at types) l.next (map line_of (drop l.line-index l.lines)))
           ≡ registers_by types l.fn.names.items l.fn.kinds.items ++ filter_map (line_register types) (each_at (behind_line types) (line_at types) l.fn.next (map line_of l.lines));
       next : behind_all (behind_line types) l.next (map line_of (drop l.line-index l.lines)) ≡ behind_all (behind_line types) l.fn.next (map line_of l.lines);
       lengths : length l.kinds.items ≡ length l.names.items;
-      items : l.types.items ≡ l.fn.types.items;
     }

@@ -1,4 +1,3 @@
-use Rattle.std.proofs.Common.{◌∙◌}
 use Rattle.pg_ast.specs.Views.{ty_of, incoming_of}
 use Rattle.pg_rules.specs.Numbered.{incoming_at}
 use Rattle.pg_program.specs.ScopeNames.{scope_in}
@@ -12,13 +11,12 @@ incoming_at-requires-clause-value c =
     one_fits (IncomingIsSmall c.args.scope.now) incoming_of c.args.all.now c.loop-incoming.incoming-index c.incoming-item.result _ c.requires.values c.loop-incoming-test.true c.incoming-item.is
 
 pub loop-incoming-preserved : goal.loop-incoming-preserved
-loop-incoming-preserved c = record {
-  found = λ names.
-      mapped_more (incoming_at (scope_in c.args.scope.now names) c.args.scope.now.first (ty_of c.args.ty.now)) incoming_of c.args.found.now.items c.args.all.now c.loop-incoming.incoming-index c.incoming-item.result _ c.loop-incoming.found.items _ c.in_ok-one.one
-      c.loop-incoming-test.true c.incoming-item.is (c.loop-incoming.invariant.found names) (c.in_ok-one.ensures.incoming names) c.in_ok-push.ensures.items;
-  items = c.incoming_at.ensures.items ∙ c.loop-incoming.invariant.items;
-}
+loop-incoming-preserved c = λ names.
+    mapped_more (incoming_at (scope_in c.args.scope.now names) c.args.scope.now.first (ty_of c.args.ty.now)) incoming_of c.args.found.now.items c.args.all.now c.loop-incoming.incoming-index c.incoming-item.result _ c.loop-incoming.found.items _ c.in_ok-one.one
+    c.loop-incoming-test.true c.incoming-item.is (c.loop-incoming.invariant names) (c.in_ok-one.ensures.incoming names) c.in_ok-push.ensures.items
 
-pub returns-clause-incomings : goal.returns-clause-incomings
-returns-clause-incomings c = λ names.
-    mapped_all (incoming_at (scope_in c.args.scope.now names) c.args.scope.now.first (ty_of c.args.ty.now)) incoming_of c.args.found.now.items c.args.all.now c.loop-incoming.incoming-index c.loop-incoming.found.items c.loop-incoming-test.false (c.loop-incoming.invariant.found names)
+pub returns : goal.returns
+returns c = record {
+  incomings = λ names.
+      mapped_all (incoming_at (scope_in c.args.scope.now names) c.args.scope.now.first (ty_of c.args.ty.now)) incoming_of c.args.found.now.items c.args.all.now c.loop-incoming.incoming-index c.loop-incoming.found.items c.loop-incoming-test.false (c.loop-incoming.invariant names);
+}

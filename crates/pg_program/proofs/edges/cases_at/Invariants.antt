@@ -5,7 +5,4 @@ use Rattle.pg_program.specs.ScopeNames.{ScopeNames, scope_in}
 use Rattle.pg_program.proofs.edges.cases_at.Given as goal
 
 abbrev pub invariant-loop-case : goal.invariant-loop-case
-invariant-loop-case l = record {
-  found : (names : ScopeNames l.scope) → l.found.items ≡ map (case_at (scope_in l.scope names) l.scope.first (ty_of l.ty)) (map case_of (take l.case-index l.cases));
-  items : l.types.items ≡ l.fn.types.items;
-}
+invariant-loop-case l = (names : ScopeNames l.scope) → l.found.items ≡ map (case_at (scope_in l.scope names) l.scope.first (ty_of l.ty)) (map case_of (take l.case-index l.cases))

@@ -29,18 +29,20 @@ invariant_of-scope-clause-label_room c =
     let few = ap (λ ns. length ns) (c.as_slice-label_names.ensures.value ∙ c.in_ok-own.ensures.labels ∙ ap (λ its. labels_of (numbered (items_of its) (define_of item))) c.requires.items) in
     have_room c.args.first c.in_ok-labels.labels c.as_slice-label_names.result.now c.in_ok-labels.ensures (omega (arith, few, labels_few types (define_of item), c.requires.room))
 
-pub returns-clause-instrs : goal.returns-clause-instrs
-returns-clause-instrs c =
-    let item = c.args.item.now in
-    let own = c.in_ok-own.own in
-    function_added _ item c.as_slice-names.result.now c.as_slice-label_names.result.now c.as_slice-names.result.now _ c.as_slice-blocks.result.now _ _
-    c.in_ok-registers.ensures c.in_ok-labels.ensures
-    (c.as_slice-names.ensures.value
-    ∙ sym (register_names (named_types c.args.types.now) own.registers.items own.types.items c.in_ok-own.ensures.lengths)
-    ∙ ap (λ rs. map name_in rs) c.in_ok-own.ensures.registers
-    ∙ ap (λ its. map name_in (registers_of (items_of its) (numbered (items_of its) (define_of item)))) c.requires.items)
-    (c.as_slice-label_names.ensures.value ∙ c.in_ok-own.ensures.labels ∙ ap (λ its. labels_of (numbered (items_of its) (define_of item))) c.requires.items)
-    refl
-    (ap (λ ps. length ps) c.as_slice-params.ensures.value)
-    c.as_slice-blocks.ensures.value
-    c.in_ok-add_block_lines.ensures.instrs
+pub returns : goal.returns
+returns c = record {
+  instrs =
+      let item = c.args.item.now in
+      let own = c.in_ok-own.own in
+      function_added _ item c.as_slice-names.result.now c.as_slice-label_names.result.now c.as_slice-names.result.now _ c.as_slice-blocks.result.now _ _
+      c.in_ok-registers.ensures c.in_ok-labels.ensures
+      (c.as_slice-names.ensures.value
+      ∙ sym (register_names (named_types c.args.types.now) own.registers.items own.types.items c.in_ok-own.ensures.lengths)
+      ∙ ap (λ rs. map name_in rs) c.in_ok-own.ensures.registers
+      ∙ ap (λ its. map name_in (registers_of (items_of its) (numbered (items_of its) (define_of item)))) c.requires.items)
+      (c.as_slice-label_names.ensures.value ∙ c.in_ok-own.ensures.labels ∙ ap (λ its. labels_of (numbered (items_of its) (define_of item))) c.requires.items)
+      refl
+      (ap (λ ps. length ps) c.as_slice-params.ensures.value)
+      c.as_slice-blocks.ensures.value
+      c.in_ok-add_block_lines.ensures.instrs;
+}

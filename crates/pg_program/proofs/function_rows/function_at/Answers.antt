@@ -10,15 +10,17 @@ use Rattle.pg_program.proofs.OwnScopes.{function_made}
 use Rattle.pg_program.proofs.Scalars.{own_scalars}
 use Rattle.pg_program.proofs.function_rows.function_at.Goals as goal
 
-pub returns-clause-function : goal.returns-clause-function
-returns-clause-function c =
-    let item = c.args.item.now in
-    let own = c.in_ok-own.own in
-    function_made (tree_of c.args.tree.now) item c.args.first _ _ _ _
-    (ap (λ ps. length ps) c.as_slice-params.ensures.value)
-    (ap (λ bs. length bs) c.as_slice-blocks.ensures.value)
-    (own_scalars _ _ own.registers.items own.types.items _ _ _ c.own_names.ensures.items c.as_slice-all.ensures.value c.in_ok-own.ensures.lengths c.in_ok-own.ensures.registers
-    (c.from_vec-scalars.ensures.items ∙ c.in_ok-registers.ensures.scalars)
-    ∙ ap (λ its. filter_map (λ (r : Register). scalar_in r.ty) (registers_of (items_of its) (numbered (items_of its) (define_of item)))) c.requires.items)
-    (c.in_ok-result.ensures.scalar
-    ∙ ap (λ its. scalar_in (resolved (items_of its) (ty_of item.result))) (c.register_scalars.ensures.items ∙ c.own_names.ensures.items ∙ c.requires.items))
+pub returns : goal.returns
+returns c = record {
+  function =
+      let item = c.args.item.now in
+      let own = c.in_ok-own.own in
+      function_made (tree_of c.args.tree.now) item c.args.first _ _ _ _
+      (ap (λ ps. length ps) c.as_slice-params.ensures.value)
+      (ap (λ bs. length bs) c.as_slice-blocks.ensures.value)
+      (own_scalars _ own.registers.items own.types.items _ _ _ c.as_slice-all.ensures.value c.in_ok-own.ensures.lengths c.in_ok-own.ensures.registers
+      (c.from_vec-scalars.ensures.items ∙ c.in_ok-registers.ensures.scalars)
+      ∙ ap (λ its. filter_map (λ (r : Register). scalar_in r.ty) (registers_of (items_of its) (numbered (items_of its) (define_of item)))) c.requires.items)
+      (c.in_ok-result.ensures.scalar
+      ∙ ap (λ its. scalar_in (resolved (items_of its) (ty_of item.result))) (c.requires.items));
+}

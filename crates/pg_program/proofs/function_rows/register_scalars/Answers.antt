@@ -1,19 +1,17 @@
-use Rattle.std.proofs.Common.{ap, ◌∙◌}
-use Rattle.pg_types.specs.NumberedTypes.{items_of, named_types}
+use Rattle.pg_types.specs.NumberedTypes.{named_types}
 use Rattle.pg_rules.specs.Numbered.{scalar_in}
 use Rattle.pg_names.specs.Registers.{register_type}
 use Rattle.pg_program.proofs.Scalars.{kept_step, kept_all}
 use Rattle.pg_program.proofs.function_rows.register_scalars.Goals as goal
 
 pub loop-place-preserved : goal.loop-place-preserved
-loop-place-preserved c = record {
-  scalars =
-      kept_step (λ t. scalar_in (register_type (named_types c.args.types.now) t)) c.args.all.now c.loop-place.place c.index-all-place.result _ c.loop-place.found.items _ c.in_ok-one.one c.loop-place-test.true c.index-all-place.is
-      c.in_ok-push_some.ensures c.loop-place.invariant.scalars
-      (c.in_ok-one.ensures.scalar ∙ ap (λ its. scalar_in (register_type (items_of its) c.index-all-place.result)) c.loop-place.invariant.items);
-  items = c.register_scalar.ensures.items ∙ c.loop-place.invariant.items;
-}
+loop-place-preserved c =
+    kept_step (λ t. scalar_in (register_type (named_types c.args.types.now) t)) c.args.all.now c.loop-place.place c.index-all-place.result _ c.loop-place.found.items _ c.in_ok-one.one c.loop-place-test.true c.index-all-place.is
+    c.in_ok-push_some.ensures c.loop-place.invariant
+    (c.in_ok-one.ensures.scalar)
 
-pub returns-clause-scalars : goal.returns-clause-scalars
-returns-clause-scalars c =
-    kept_all (λ t. scalar_in (register_type (named_types c.args.types.now) t)) c.args.all.now c.loop-place.place c.loop-place.found.items c.loop-place-test.false c.loop-place.invariant.scalars
+pub returns : goal.returns
+returns c = record {
+  scalars =
+      kept_all (λ t. scalar_in (register_type (named_types c.args.types.now) t)) c.args.all.now c.loop-place.place c.loop-place.found.items c.loop-place-test.false c.loop-place.invariant;
+}

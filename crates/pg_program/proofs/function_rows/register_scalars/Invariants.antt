@@ -6,7 +6,4 @@ use Rattle.pg_names.specs.Registers.{register_type}
 use Rattle.pg_program.proofs.function_rows.register_scalars.Given as goal
 
 abbrev pub invariant-loop-place : goal.invariant-loop-place
-invariant-loop-place l = record {
-  scalars : l.found.items ≡ filter_map (λ t. scalar_in (register_type (named_types l.fn.types) t)) (take l.place l.all);
-  items : l.types.items ≡ l.fn.types.items;
-}
+invariant-loop-place l = l.found.items ≡ filter_map (λ t. scalar_in (register_type (named_types l.types) t)) (take l.place l.all)

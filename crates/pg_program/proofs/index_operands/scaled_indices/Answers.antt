@@ -13,17 +13,16 @@ index_at-requires-clause-value c =
     one_fits (TypedIsSmall c.args.scope.now) typed_of c.args.indices.now c.loop-place.place c.index-indices-place.result _ c.requires.values l c.index-indices-place.is
 
 pub loop-place-preserved : goal.loop-place-preserved
-loop-place-preserved c = record {
-  found = λ names.
-      let g = scope_in c.args.scope.now names in
-      ap (λ xs. xs ++ indices_at g (map typed_of (drop (c.loop-place.place + 1) c.args.indices.now)) (drop (c.loop-place.place + 1) c.args.scales.now)) c.in_ok-push.ensures.items
-      ∙ index_step g c.loop-place.found.items c.in_ok-one.one c.args.indices.now c.args.scales.now c.loop-place.place c.index-indices-place.result _ _ _
-      c.requires.lengths c.loop-place-test.true c.index-indices-place.is refl (c.in_ok-one.ensures.index names)
-      ∙ c.loop-place.invariant.found names;
-  items = c.index_at.ensures.items ∙ c.loop-place.invariant.items;
-}
+loop-place-preserved c = λ names.
+    let g = scope_in c.args.scope.now names in
+    ap (λ xs. xs ++ indices_at g (map typed_of (drop (c.loop-place.place + 1) c.args.indices.now)) (drop (c.loop-place.place + 1) c.args.scales.now)) c.in_ok-push.ensures.items
+    ∙ index_step g c.loop-place.found.items c.in_ok-one.one c.args.indices.now c.args.scales.now c.loop-place.place c.index-indices-place.result _ _ _
+    c.requires.lengths c.loop-place-test.true c.index-indices-place.is refl (c.in_ok-one.ensures.index names)
+    ∙ c.loop-place.invariant names
 
-pub returns-clause-indices : goal.returns-clause-indices
-returns-clause-indices c = λ names.
-    indices_end (scope_in c.args.scope.now names) c.loop-place.found.items c.args.indices.now c.args.scales.now c.loop-place.place c.loop-place-test.false
-    ∙ c.loop-place.invariant.found names
+pub returns : goal.returns
+returns c = record {
+  indices = λ names.
+      indices_end (scope_in c.args.scope.now names) c.loop-place.found.items c.args.indices.now c.args.scales.now c.loop-place.place c.loop-place-test.false
+      ∙ c.loop-place.invariant names;
+}

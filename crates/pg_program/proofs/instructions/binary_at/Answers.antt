@@ -3,6 +3,8 @@ use Rattle.pg_rules.specs.Numbered.{binary_op}
 use Rattle.pg_program.proofs.EqualParts.{same_three}
 use Rattle.pg_program.proofs.instructions.binary_at.Goals as goal
 
-pub returns-clause-op : goal.returns-clause-op
-returns-clause-op c = λ names.
-    c.binary_op-found.ensures ∙ same_three (λ w a b. binary_op c.args.op w a b) (c.in_ok-width.ensures.width names) (c.in_ok-left.ensures.value names) (c.in_ok-right.ensures.value names)
+pub returns : goal.returns
+returns c = record {
+  op = λ names.
+      c.binary_op-found.ensures ∙ same_three (λ w a b. binary_op c.args.op w a b) (c.in_ok-width.ensures.width names) (c.in_ok-left.ensures.value names) (c.in_ok-right.ensures.value names);
+}

@@ -16,41 +16,59 @@ fits_as types e h = subst (λ o. OpFits types (op_of o)) e h
 made_as : {E : Type 0} (g : Scope) (first : ℕ) (r : Result numbered_op.Op E) {a b : OpNode} → a ≡ b → IfOk r (λ o. o ≡ op_at g first (op_of b)) → IfOk r (λ o. o ≡ op_at g first (op_of a))
 made_as g first r e h = subst (λ o. IfOk r (λ x. x ≡ op_at g first (op_of o))) (sym e) h
 
-pub returns-in-Binary-clause-op : goal.returns-in-Binary-clause-op
+pub returns-in-Binary : goal.returns-in-Binary
 unfolding op_at
-returns-in-Binary-clause-op c = λ names. made_as (scope_in c.args.scope.now names) c.args.scope.now.first c.binary_at.result c.in-Binary.is (c.binary_at.ensures.op names)
+returns-in-Binary c = record {
+  op = λ names. made_as (scope_in c.args.scope.now names) c.args.scope.now.first c.binary_at.result c.in-Binary.is (c.binary_at.ensures.op names);
+}
 
-pub returns-in-Icmp-clause-op : goal.returns-in-Icmp-clause-op
+pub returns-in-Icmp : goal.returns-in-Icmp
 unfolding op_at
-returns-in-Icmp-clause-op c = λ names. made_as (scope_in c.args.scope.now names) c.args.scope.now.first c.compare_at.result c.in-Icmp.is (c.compare_at.ensures.op names)
+returns-in-Icmp c = record {
+  op = λ names. made_as (scope_in c.args.scope.now names) c.args.scope.now.first c.compare_at.result c.in-Icmp.is (c.compare_at.ensures.op names);
+}
 
-pub returns-in-Cast-clause-op : goal.returns-in-Cast-clause-op
+pub returns-in-Cast : goal.returns-in-Cast
 unfolding op_at
-returns-in-Cast-clause-op c = λ names. made_as (scope_in c.args.scope.now names) c.args.scope.now.first c.cast_at.result c.in-Cast.is (c.cast_at.ensures.op names)
+returns-in-Cast c = record {
+  op = λ names. made_as (scope_in c.args.scope.now names) c.args.scope.now.first c.cast_at.result c.in-Cast.is (c.cast_at.ensures.op names);
+}
 
-pub returns-in-Select-clause-op : goal.returns-in-Select-clause-op
+pub returns-in-Select : goal.returns-in-Select
 unfolding op_at
-returns-in-Select-clause-op c = λ names. made_as (scope_in c.args.scope.now names) c.args.scope.now.first c.select_at.result c.in-Select.is (c.select_at.ensures.op names)
+returns-in-Select c = record {
+  op = λ names. made_as (scope_in c.args.scope.now names) c.args.scope.now.first c.select_at.result c.in-Select.is (c.select_at.ensures.op names);
+}
 
-pub returns-in-CondBr-clause-op : goal.returns-in-CondBr-clause-op
+pub returns-in-CondBr : goal.returns-in-CondBr
 unfolding op_at
-returns-in-CondBr-clause-op c = λ names. made_as (scope_in c.args.scope.now names) c.args.scope.now.first c.conditional_branch_at.result c.in-CondBr.is (c.conditional_branch_at.ensures.op names)
+returns-in-CondBr c = record {
+  op = λ names. made_as (scope_in c.args.scope.now names) c.args.scope.now.first c.conditional_branch_at.result c.in-CondBr.is (c.conditional_branch_at.ensures.op names);
+}
 
-pub returns-in-Ret-clause-op : goal.returns-in-Ret-clause-op
+pub returns-in-Ret : goal.returns-in-Ret
 unfolding op_at
-returns-in-Ret-clause-op c = λ names. made_as (scope_in c.args.scope.now names) c.args.scope.now.first c.return_at.result c.in-Ret.is (c.return_at.ensures.op names)
+returns-in-Ret c = record {
+  op = λ names. made_as (scope_in c.args.scope.now names) c.args.scope.now.first c.return_at.result c.in-Ret.is (c.return_at.ensures.op names);
+}
 
-pub returns-in-Alloca-clause-op : goal.returns-in-Alloca-clause-op
+pub returns-in-Alloca : goal.returns-in-Alloca
 unfolding op_at
-returns-in-Alloca-clause-op c = λ names. made_as (scope_in c.args.scope.now names) c.args.scope.now.first c.alloca_at.result c.in-Alloca.is (c.alloca_at.ensures.op names)
+returns-in-Alloca c = record {
+  op = λ names. made_as (scope_in c.args.scope.now names) c.args.scope.now.first c.alloca_at.result c.in-Alloca.is (c.alloca_at.ensures.op names);
+}
 
-pub returns-in-Load-clause-op : goal.returns-in-Load-clause-op
+pub returns-in-Load : goal.returns-in-Load
 unfolding op_at
-returns-in-Load-clause-op c = λ names. made_as (scope_in c.args.scope.now names) c.args.scope.now.first c.load_at.result c.in-Load.is (c.load_at.ensures.op names)
+returns-in-Load c = record {
+  op = λ names. made_as (scope_in c.args.scope.now names) c.args.scope.now.first c.load_at.result c.in-Load.is (c.load_at.ensures.op names);
+}
 
-pub returns-in-Store-clause-op : goal.returns-in-Store-clause-op
+pub returns-in-Store : goal.returns-in-Store
 unfolding op_at
-returns-in-Store-clause-op c = λ names. made_as (scope_in c.args.scope.now names) c.args.scope.now.first c.store_at.result c.in-Store.is (c.store_at.ensures.op names)
+returns-in-Store c = record {
+  op = λ names. made_as (scope_in c.args.scope.now names) c.args.scope.now.first c.store_at.result c.in-Store.is (c.store_at.ensures.op names);
+}
 
 pub binary_at-requires-clause-left : goal.binary_at-requires-clause-left
 unfolding OpFits

@@ -7,7 +7,9 @@ use Rattle.pg_program.proofs.TypedValues.{typed_ty}
 use Rattle.pg_program.proofs.EqualParts.{same_four}
 use Rattle.pg_program.proofs.instructions.switch_at.Goals as goal
 
-pub returns-clause-op : goal.returns-clause-op
-returns-clause-op c = λ names.
-    same_four (λ w v b k. operation.Switch w v b k) (c.in_ok-width.ensures.width names) (c.in_ok-on.ensures.value names) (c.block_at-other.ensures names)
-    (c.from_vec-cases.ensures.items ∙ c.in_ok-found.ensures.cases names ∙ ap (λ t. map (case_at (scope_in c.args.scope.now names) c.args.scope.now.first t) (map case_of c.args.cases.now)) (sym (typed_ty c.args.value.now)))
+pub returns : goal.returns
+returns c = record {
+  op = λ names.
+      same_four (λ w v b k. operation.Switch w v b k) (c.in_ok-width.ensures.width names) (c.in_ok-on.ensures.value names) (c.block_at-other.ensures names)
+      (c.from_vec-cases.ensures.items ∙ c.in_ok-found.ensures.cases names ∙ ap (λ t. map (case_at (scope_in c.args.scope.now names) c.args.scope.now.first t) (map case_of c.args.cases.now)) (sym (typed_ty c.args.value.now)));
+}

@@ -29,7 +29,6 @@ loop-line-preserved c =
           line_names_step (tree_of c.args.scope.now.globals.now.symbols.tree.now).types names behind c.args.lines.now c.loop-line.line-index c.line-item.result _
           c.loop-line-test.true c.line-item.is after
           ∙ c.loop-line.invariant.names;
-      items = c.op_instr.ensures.items ∙ c.loop-line.invariant.items;
     }
 
 pub returns-clause-instrs : goal.returns-clause-instrs

@@ -4,6 +4,8 @@ use Rattle.pg_program.specs.ScopeNames.{scope_in}
 use Rattle.pg_program.proofs.TypedValues.{typed_ty}
 use Rattle.pg_program.proofs.operands.typed_width.Goals as goal
 
-pub returns-clause-width : goal.returns-clause-width
-returns-clause-width c = λ names.
-    subst (λ t. IfOk c.width_at.result (λ w. w ≡ width_in (type_in (scope_in c.args.scope.now names) t))) (sym (typed_ty c.args.value.now)) (c.width_at.ensures.width names)
+pub returns : goal.returns
+returns c = record {
+  width = λ names.
+      subst (λ t. IfOk c.width_at.result (λ w. w ≡ width_in (type_in (scope_in c.args.scope.now names) t))) (sym (typed_ty c.args.value.now)) (c.width_at.ensures.width names);
+}

@@ -1,4 +1,4 @@
-use Rattle.std.proofs.Common.{[], ◌∙◌}
+use Rattle.std.proofs.Common.{[]}
 use Rattle.pg_ast.specs.Views.{typed_of}
 use Rattle.pg_rules.specs.Numbered.{typed_value}
 use Rattle.pg_program.specs.ScopeNames.{scope_in}
@@ -12,13 +12,12 @@ typed_value-requires-clause-value c =
     one_fits (TypedIsSmall c.args.scope.now) typed_of c.args.values.now c.loop-value.value-index c.value-item.result _ c.requires.values c.loop-value-test.true c.value-item.is
 
 pub loop-value-preserved : goal.loop-value-preserved
-loop-value-preserved c = record {
-  found = λ names.
-      mapped_more (typed_value (scope_in c.args.scope.now names)) typed_of [] c.args.values.now c.loop-value.value-index c.value-item.result _ c.loop-value.found.items _ c.in_ok-one.one
-      c.loop-value-test.true c.value-item.is (c.loop-value.invariant.found names) (c.in_ok-one.ensures.value names) c.in_ok-push.ensures.items;
-  items = c.typed_value.ensures.items ∙ c.loop-value.invariant.items;
-}
+loop-value-preserved c = λ names.
+    mapped_more (typed_value (scope_in c.args.scope.now names)) typed_of [] c.args.values.now c.loop-value.value-index c.value-item.result _ c.loop-value.found.items _ c.in_ok-one.one
+    c.loop-value-test.true c.value-item.is (c.loop-value.invariant names) (c.in_ok-one.ensures.value names) c.in_ok-push.ensures.items
 
-pub returns-clause-values : goal.returns-clause-values
-returns-clause-values c = λ names.
-    mapped_all (typed_value (scope_in c.args.scope.now names)) typed_of [] c.args.values.now c.loop-value.value-index c.loop-value.found.items c.loop-value-test.false (c.loop-value.invariant.found names)
+pub returns : goal.returns
+returns c = record {
+  values = λ names.
+      mapped_all (typed_value (scope_in c.args.scope.now names)) typed_of [] c.args.values.now c.loop-value.value-index c.loop-value.found.items c.loop-value-test.false (c.loop-value.invariant names);
+}

@@ -5,7 +5,4 @@ use Rattle.pg_program.specs.ScopeNames.{ScopeNames, scope_in}
 use Rattle.pg_program.proofs.operands.values_at.Given as goal
 
 abbrev pub invariant-loop-value : goal.invariant-loop-value
-invariant-loop-value l = record {
-  found : (names : ScopeNames l.scope) → l.found.items ≡ map (typed_value (scope_in l.scope names)) (map typed_of (take l.value-index l.values));
-  items : l.types.items ≡ l.fn.types.items;
-}
+invariant-loop-value l = (names : ScopeNames l.scope) → l.found.items ≡ map (typed_value (scope_in l.scope names)) (map typed_of (take l.value-index l.values))

@@ -31,9 +31,10 @@ loop-item-preserved c =
           c.loop-item-test.true c.item-item.is c.in_ok-push.ensures.items c.loop-item.invariant.functions
           (ap (λ f. f ∷ []) (c.in_ok-one.ensures.function ∙ ap (λ n. function_at m n (numbered_item m.types c.item-item.result)) c.loop-item.invariant.first));
       first = first_block_step all c.loop-item.item-index c.item-item.result _ c.loop-item.first c.block_behind-first.result c.loop-item-test.true c.item-item.is c.loop-item.invariant.first c.block_behind-first.ensures;
-      items = c.function_at.ensures.items ∙ c.loop-item.invariant.items;
     }
 
-pub returns-clause-functions : goal.returns-clause-functions
-returns-clause-functions c =
-    rows_all (function_row (tree_of c.args.tree.now) (map define_of c.args.all.now)) c.args.all.now c.loop-item.item-index c.loop-item.found.items c.loop-item-test.false c.loop-item.invariant.functions
+pub returns : goal.returns
+returns c = record {
+  functions =
+      rows_all (function_row (tree_of c.args.tree.now) (map define_of c.args.all.now)) c.args.all.now c.loop-item.item-index c.loop-item.found.items c.loop-item-test.false c.loop-item.invariant.functions;
+}

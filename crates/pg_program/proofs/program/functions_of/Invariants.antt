@@ -8,5 +8,4 @@ abbrev pub invariant-loop-item : goal.invariant-loop-item
 invariant-loop-item l = record {
   functions : l.found.items ≡ rows_from (function_row (tree_of l.tree) (map define_of l.all)) 0 (take l.item-index l.all);
   first : l.first ≡ first_block (map define_of l.all) l.item-index;
-  items : l.types.items ≡ l.fn.types.items;
 }

@@ -1,4 +1,4 @@
-use Rattle.std.proofs.Common.{map, ap, ◌∙◌}
+use Rattle.std.proofs.Common.{map, ap}
 use Rattle.pg_num.specs.declared.limits.TheConstants.{INSTRUCTION_LIMIT}
 use Rattle.pg_ast.specs.Views.{define_of, tree_of}
 use Rattle.pg_rules.specs.Numbered.{function_instrs}
@@ -30,9 +30,10 @@ loop-item-preserved c =
           c.loop-item-test.true c.item-item.is c.in_ok-add_function.ensures.instrs c.loop-item.invariant.instrs
           (ap (λ n. function_instrs m n (numbered_item m.types c.item-item.result)) c.loop-item.invariant.first);
       first = first_block_step all c.loop-item.item-index c.item-item.result _ c.loop-item.first c.block_behind-first.result c.loop-item-test.true c.item-item.is c.loop-item.invariant.first c.block_behind-first.ensures;
-      items = c.add_function.ensures.items ∙ c.loop-item.invariant.items;
     }
 
-pub returns-clause-instrs : goal.returns-clause-instrs
-returns-clause-instrs c =
-    rows_all (instr_row (tree_of c.args.globals.now.symbols.tree.now) (map define_of c.args.all.now)) c.args.all.now c.loop-item.item-index c.loop-item.found.items c.loop-item-test.false c.loop-item.invariant.instrs
+pub returns : goal.returns
+returns c = record {
+  instrs =
+      rows_all (instr_row (tree_of c.args.globals.now.symbols.tree.now) (map define_of c.args.all.now)) c.args.all.now c.loop-item.item-index c.loop-item.found.items c.loop-item-test.false c.loop-item.invariant.instrs;
+}

@@ -8,5 +8,4 @@ abbrev pub invariant-loop-item : goal.invariant-loop-item
 invariant-loop-item l = record {
   instrs : l.found.items ≡ rows_from (instr_row (tree_of l.globals.symbols.tree.now) (map define_of l.all)) 0 (take l.item-index l.all);
   first : l.first ≡ first_block (map define_of l.all) l.item-index;
-  items : l.types.items ≡ l.fn.types.items;
 }

@@ -5,7 +5,4 @@ use Rattle.pg_rules.specs.Integers.{index_number}
 use Rattle.pg_rules.proofs.integers.index_numbers.Given as goal
 
 abbrev pub invariant-loop-index : goal.invariant-loop-index
-invariant-loop-index l = record {
-  numbers : l.numbers.items ≡ map (index_number (named_types l.fn.types)) (map typed_of (take l.index-index l.indices));
-  items : l.types.items ≡ l.fn.types.items;
-}
+invariant-loop-index l = l.numbers.items ≡ map (index_number (named_types l.types)) (map typed_of (take l.index-index l.indices))

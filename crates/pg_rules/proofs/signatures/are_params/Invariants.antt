@@ -5,7 +5,4 @@ use Rattle.pg_rules.specs.Conditions.{are_params}
 use Rattle.pg_rules.proofs.signatures.are_params.Given as goal
 
 abbrev pub invariant-loop-index : goal.invariant-loop-index
-invariant-loop-index l = record {
-  whole : are_params (named_types l.fn.types) l.scalars (map dparam_of l.params) ≡ are_params (named_types l.fn.types) (drop l.index l.scalars) (map dparam_of (drop l.index l.params));
-  items : l.types.items ≡ l.fn.types.items;
-}
+invariant-loop-index l = are_params (named_types l.types) l.scalars (map dparam_of l.params) ≡ are_params (named_types l.types) (drop l.index l.scalars) (map dparam_of (drop l.index l.params))

@@ -6,7 +6,4 @@ use Rattle.pg_rules.specs.CallConditions.{is_resolved}
 use Rattle.pg_rules.proofs.signatures.are_types.Given as goal
 
 abbrev pub invariant-loop-ty : goal.invariant-loop-ty
-invariant-loop-ty l = record {
-  whole : list_all (is_resolved (named_types l.fn.types)) (tys_behind l.all) ≡ list_all (is_resolved (named_types l.fn.types)) (tys_behind (drop l.ty-index l.all));
-  items : l.types.items ≡ l.fn.types.items;
-}
+invariant-loop-ty l = list_all (is_resolved (named_types l.types)) (tys_behind l.all) ≡ list_all (is_resolved (named_types l.types)) (tys_behind (drop l.ty-index l.all))

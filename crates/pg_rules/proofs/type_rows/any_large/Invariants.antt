@@ -6,7 +6,4 @@ use Rattle.pg_rules.specs.TypeConditions.{is_large}
 use Rattle.pg_rules.proofs.type_rows.any_large.Given as goal
 
 abbrev pub invariant-loop-ty : goal.invariant-loop-ty
-invariant-loop-ty l = record {
-  whole : list_any (is_large (named_types l.fn.types)) (tys_behind l.all) ≡ list_any (is_large (named_types l.fn.types)) (tys_behind (drop l.ty-index l.all));
-  items : l.types.items ≡ l.fn.types.items;
-}
+invariant-loop-ty l = list_any (is_large (named_types l.types)) (tys_behind l.all) ≡ list_any (is_large (named_types l.types)) (tys_behind (drop l.ty-index l.all))

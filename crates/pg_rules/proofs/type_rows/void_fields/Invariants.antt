@@ -7,7 +7,4 @@ use Rattle.pg_rules.specs.TypeConditions.{void_part}
 use Rattle.pg_rules.proofs.type_rows.void_fields.Given as goal
 
 abbrev pub invariant-loop-field : goal.invariant-loop-field
-invariant-loop-field l = record {
-  found : l.found ≡ earliest (flat_map (void_part (named_types l.fn.types)) (map ty_of (take l.field-index l.fields)));
-  items : l.types.items ≡ l.fn.types.items;
-}
+invariant-loop-field l = l.found ≡ earliest (flat_map (void_part (named_types l.types)) (map ty_of (take l.field-index l.fields)))

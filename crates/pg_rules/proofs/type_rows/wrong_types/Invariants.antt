@@ -7,7 +7,4 @@ use Rattle.pg_rules.specs.TypeConditions.{wrong_type}
 use Rattle.pg_rules.proofs.type_rows.wrong_types.Given as goal
 
 abbrev pub invariant-loop-ty : goal.invariant-loop-ty
-invariant-loop-ty l = record {
-  found : l.found ≡ earliest (flat_map (wrong_type (named_types l.fn.types)) (tys_behind (take l.ty-index l.all)));
-  items : l.types.items ≡ l.fn.types.items;
-}
+invariant-loop-ty l = l.found ≡ earliest (flat_map (wrong_type (named_types l.types)) (tys_behind (take l.ty-index l.all)))

@@ -9,12 +9,14 @@ use Rattle.pg_values.specs.Uses.{wrong_typed}
 use Rattle.pg_values.proofs.RegisterTypes.{wrong_same}
 use Rattle.pg_values.proofs.registers.wrong_register.Goals as goal
 
-pub returns-clause-wrong : goal.returns-clause-wrong
-returns-clause-wrong c = λ g s t.
-    let ty = ty_of c.args.ty.now in
-    if_ok c.is_wrong_register.result
-    (λ b h. h
-    ∙ ap (λ types. wrong_typed c.args.constant (resolved types ty) (option_map (register_type types) c.type_of_register-register.result)) (sym t)
-    ∙ ap (λ o. wrong_typed c.args.constant (resolved g.tree.types ty) o) (c.type_of_register-register.ensures g s)
-    ∙ wrong_same c.args.constant (resolved g.tree.types ty) (register_named g.registers c.args.name.now.text))
-    c.is_wrong_register.ensures.wrong
+pub returns : goal.returns
+returns c = record {
+  wrong = λ g s t.
+      let ty = ty_of c.args.ty.now in
+      if_ok c.is_wrong_register.result
+      (λ b h. h
+      ∙ ap (λ types. wrong_typed c.args.constant (resolved types ty) (option_map (register_type types) c.type_of_register-register.result)) (sym t)
+      ∙ ap (λ o. wrong_typed c.args.constant (resolved g.tree.types ty) o) (c.type_of_register-register.ensures g s)
+      ∙ wrong_same c.args.constant (resolved g.tree.types ty) (register_named g.registers c.args.name.now.text))
+      c.is_wrong_register.ensures.wrong;
+}

@@ -1,6 +1,6 @@
 use Rattle.std.proofs.Common.{refl, sym, ap, ◌∙◌}
 use Rattle.pg_ast.specs.Views.{typed_of}
-use Rattle.pg_types.specs.NumberedTypes.{items_of, named_types}
+use Rattle.pg_types.specs.NumberedTypes.{named_types}
 use Rattle.pg_rules.specs.Earliest.{earliest}
 use Rattle.pg_rules.proofs.Rows.{row_step}
 use Rattle.pg_types.specs.Resolved.{is_integer}
@@ -12,13 +12,10 @@ use Rattle.pg_values.proofs.uses.unmet_integers.Goals as goal
 
 pub loop-index-init : goal.loop-index-init
 unfolding earliest
-loop-index-init c = record { found = refl; items = refl }
+loop-index-init c = refl
 
 pub loop-index-preserved : goal.loop-index-preserved
-loop-index-preserved c = record {
-  found =
-      let own = c.in_ok-unmet.ensures.place ∙ ap (λ t. earliest (unmet (named_types c.loop-index.types) (asks is_integer t))) (sym (typed_ty c.index-item.result)) ∙ ap (λ xs. earliest (integer_row (items_of xs) (typed_of c.index-item.result))) c.loop-index.invariant.items in
-      row_step (integer_row (named_types c.args.types.now)) typed_of c.args.indices.now c.loop-index.index-index c.index-item.result c.index-item.result c.loop-index.found c.in_ok-unmet.field-0 c.earlier-found.result
-      c.loop-index-test.true c.index-item.is c.loop-index.invariant.found own c.earlier-found.ensures;
-  items = c.unmet.ensures.items ∙ c.loop-index.invariant.items;
-}
+loop-index-preserved c =
+    let own = c.in_ok-unmet.ensures.place ∙ ap (λ t. earliest (unmet (named_types c.args.types.now) (asks is_integer t))) (sym (typed_ty c.index-item.result)) in
+    row_step (integer_row (named_types c.args.types.now)) typed_of c.args.indices.now c.loop-index.index-index c.index-item.result c.index-item.result c.loop-index.found c.in_ok-unmet.field-0 c.earlier-found.result
+    c.loop-index-test.true c.index-item.is c.loop-index.invariant own c.earlier-found.ensures

@@ -7,7 +7,4 @@ use Rattle.pg_values.specs.Uses.{integer_row}
 use Rattle.pg_values.proofs.uses.unmet_integers.Given as goal
 
 abbrev pub invariant-loop-index : goal.invariant-loop-index
-invariant-loop-index l = record {
-  found : l.found ≡ earliest (flat_map (integer_row (named_types l.fn.types)) (map typed_of (take l.index-index l.indices)));
-  items : l.types.items ≡ l.fn.types.items;
-}
+invariant-loop-index l = l.found ≡ earliest (flat_map (integer_row (named_types l.types)) (map typed_of (take l.index-index l.indices)))

@@ -5,12 +5,16 @@ use Rattle.pg_rules.specs.Earliest.{earliest}
 use Rattle.pg_values.proofs.Misfits.{literal_place}
 use Rattle.pg_values.proofs.uses.wrong_literal.Goals as goal
 
-pub returns-then-misfit_literal-clause-place : goal.returns-then-misfit_literal-clause-place
+pub returns-then-misfit_literal : goal.returns-then-misfit_literal
 unfolding earliest
-returns-then-misfit_literal-clause-place c = λ g t.
-    literal_place g (ty_of c.args.ty.now) c.args.literal.now (named_types c.args.types.now) true t (sym c.if-misfit_literal.true ∙ c.misfit_literal.ensures _ c.in_ok-kind.ensures.kind)
+returns-then-misfit_literal c = record {
+  place = λ g t.
+      literal_place g (ty_of c.args.ty.now) c.args.literal.now (named_types c.args.types.now) true t (sym c.if-misfit_literal.true ∙ c.misfit_literal.ensures _ c.in_ok-kind.ensures.kind);
+}
 
-pub returns-else-misfit_literal-clause-place : goal.returns-else-misfit_literal-clause-place
+pub returns-else-misfit_literal : goal.returns-else-misfit_literal
 unfolding earliest
-returns-else-misfit_literal-clause-place c = λ g t.
-    literal_place g (ty_of c.args.ty.now) c.args.literal.now (named_types c.args.types.now) false t (sym c.if-misfit_literal.false ∙ c.misfit_literal.ensures _ c.in_ok-kind.ensures.kind)
+returns-else-misfit_literal c = record {
+  place = λ g t.
+      literal_place g (ty_of c.args.ty.now) c.args.literal.now (named_types c.args.types.now) false t (sym c.if-misfit_literal.false ∙ c.misfit_literal.ensures _ c.in_ok-kind.ensures.kind);
+}

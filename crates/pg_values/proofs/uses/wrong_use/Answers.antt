@@ -1,7 +1,6 @@
 use Rattle.std.proofs.Common.{sym, ap, ◌∙◌}
 use Rattle.std.specs.List.{flat_map}
 use Rattle.pg_ast.specs.Views.{val_of}
-use Rattle.pg_types.specs.NumberedTypes.{items_of}
 use Rattle.pg_rules.specs.Written.{own_demands}
 use Rattle.pg_rules.specs.TypeConditions.{unmet}
 use Rattle.pg_rules.specs.ValueConditions.{inner_indices, wrong_use}
@@ -9,13 +8,13 @@ use Rattle.pg_rules.specs.Earliest.{earliest}
 use Rattle.pg_values.proofs.Places.{both}
 use Rattle.pg_values.proofs.uses.wrong_use.Goals as goal
 
-pub returns-clause-place : goal.returns-clause-place
+pub returns : goal.returns
 unfolding wrong_use
-returns-clause-place c = λ g s t.
-    let v = val_of c.args.value.now in
-    let asked_items = ap (λ xs. items_of xs) c.wrong_place.ensures.items ∙ sym t in
-    let index_items = ap (λ xs. items_of xs) c.unmet_own.ensures.items ∙ asked_items in
-    both _ _ _ _ _ c.earlier-2.ensures (c.in_ok-own.ensures.place g s t)
-    (both _ _ _ _ _ c.earlier.ensures
-    (c.in_ok-asked.ensures.place ∙ ap (λ types. earliest (flat_map (unmet types) (own_demands v))) asked_items)
-    (c.in_ok-indices.ensures.place ∙ ap (λ types. earliest (inner_indices types v)) index_items))
+returns c = record {
+  place = λ g s t.
+      let v = val_of c.args.value.now in
+      both _ _ _ _ _ c.earlier-2.ensures (c.in_ok-own.ensures.place g s t)
+      (both _ _ _ _ _ c.earlier.ensures
+      (c.in_ok-asked.ensures.place ∙ ap (λ types. earliest (flat_map (unmet types) (own_demands v))) (sym t))
+      (c.in_ok-indices.ensures.place ∙ ap (λ types. earliest (inner_indices types v)) (sym t)));
+}

@@ -1,22 +1,60 @@
-use Rattle.std.proofs.Common.{subst}
-use Rattle.pg_types.specs.Table.{IsTable}
-use Rattle.pg_types.proofs.TableTypes.{IsAdded, added_table, added_found, added_grows, if_ok}
+use Rattle.std.proofs.Common.{◌≡◌, ◌+◌, ◌++◌, Some, slice_get, ap, subst}
+use Rattle.std.specs.Map.{keys_of}
+use Rattle.pg_types.specs.Table.{IsTable, IsAdded}
+use Rattle.pg_types.proofs.TableTypes.{added_over, added_table, added_found, added_grows, key_below, key_above, table_found}
+use Rattle.pg_types.proofs.Shapes.{found_shape, absent_shape}
 use Rattle.pg_types.proofs.table.TypeTable.add.Goals as goal
 
 pub invariant_of-self : goal.invariant_of-self
 invariant_of-self c =
-    added_table c.args.self.now c.place_of.new.shapes.entries c.args.shape c.args.layout
-    (subst (λ x. IsTable x) c.self.view_is c.self.invariant) c.requires.refers c.requires.layout
-    (subst (λ x. IsAdded x c.place_of.new.shapes.entries c.args.shape c.args.layout) c.self.view_is c.place_of.ensures.entries)
+    let below = c.self.inside.below.now.entries in
+    let new = c.place_of.new.shapes.entries in
+    let added =
+    subst (λ x. IsAdded x (below ++ new) c.args.shape c.args.layout) c.self.view_is
+    (added_over below c.self.inside.more.entries new c.args.shape c.args.layout (absent_shape _ c.args.shape c.in-None.ensures.index) c.place_of.ensures.entries) in
+    added_table c.args.self.now (below ++ new) c.args.shape c.args.layout (subst (λ x. IsTable x) c.self.view_is c.self.invariant) c.requires.refers c.requires.layout added
 
-pub returns-clause-found : goal.returns-clause-found
-returns-clause-found c = if_ok c.place_of.result (λ i h.
-    added_found c.args.self.now c.place_of.new.shapes.entries c.args.shape c.args.layout i
-    (subst (λ x. IsTable x) c.self.view_is c.self.invariant) c.requires.refers c.requires.layout
-    (subst (λ x. IsAdded x c.place_of.new.shapes.entries c.args.shape c.args.layout) c.self.view_is c.place_of.ensures.entries) h)
-    c.place_of.ensures.found
+pub invariant_of-self-in-None : goal.invariant_of-self-in-None
+invariant_of-self-in-None c =
+    let below = c.self.inside.below.now.entries in
+    let new = c.place_of.new.shapes.entries in
+    let added =
+    subst (λ x. IsAdded x (below ++ new) c.args.shape c.args.layout) c.self.view_is
+    (added_over below c.self.inside.more.entries new c.args.shape c.args.layout (absent_shape _ c.args.shape c.in-None.ensures.index) c.place_of.ensures.entries) in
+    added_table c.args.self.now (below ++ new) c.args.shape c.args.layout (subst (λ x. IsTable x) c.self.view_is c.self.invariant) c.requires.refers c.requires.layout added
 
-pub returns-clause-grows : goal.returns-clause-grows
-returns-clause-grows c =
-    added_grows c.args.self.now c.place_of.new.shapes.entries c.args.shape c.args.layout
-    (subst (λ x. IsAdded x c.place_of.new.shapes.entries c.args.shape c.args.layout) c.self.view_is c.place_of.ensures.entries)
+pub returns-in_err-place-in-None-clause-grows : goal.returns-in_err-place-in-None-clause-grows
+returns-in_err-place-in-None-clause-grows c =
+    let below = c.self.inside.below.now.entries in
+    let new = c.place_of.new.shapes.entries in
+    let added =
+    subst (λ x. IsAdded x (below ++ new) c.args.shape c.args.layout) c.self.view_is
+    (added_over below c.self.inside.more.entries new c.args.shape c.args.layout (absent_shape _ c.args.shape c.in-None.ensures.index) c.place_of.ensures.entries) in
+    added_grows c.args.self.now (below ++ new) c.args.shape c.args.layout added
+
+pub returns-in_ok-place-in-None-clause-grows : goal.returns-in_ok-place-in-None-clause-grows
+returns-in_ok-place-in-None-clause-grows c =
+    let below = c.self.inside.below.now.entries in
+    let new = c.place_of.new.shapes.entries in
+    let added =
+    subst (λ x. IsAdded x (below ++ new) c.args.shape c.args.layout) c.self.view_is
+    (added_over below c.self.inside.more.entries new c.args.shape c.args.layout (absent_shape _ c.args.shape c.in-None.ensures.index) c.place_of.ensures.entries) in
+    added_grows c.args.self.now (below ++ new) c.args.shape c.args.layout added
+
+pub returns-in-Some-clause-found : goal.returns-in-Some-clause-found
+returns-in-Some-clause-found c =
+    table_found c.args.self.now c.in-Some.place c.args.shape (subst (λ x. IsTable x) c.self.view_is c.self.invariant)
+    (subst (λ x. slice_get (keys_of x) c.in-Some.place ≡ Some c.args.shape) c.self.view_is
+    (key_below c.self.inside.below.now.entries c.self.inside.more.entries c.in-Some.place c.args.shape (found_shape _ c.args.shape _ c.in-Some.ensures.index)))
+
+pub returns-in_ok-place-in-None-clause-found : goal.returns-in_ok-place-in-None-clause-found
+returns-in_ok-place-in-None-clause-found c =
+    let below = c.self.inside.below.now.entries in
+    let new = c.place_of.new.shapes.entries in
+    let added =
+    subst (λ x. IsAdded x (below ++ new) c.args.shape c.args.layout) c.self.view_is
+    (added_over below c.self.inside.more.entries new c.args.shape c.args.layout (absent_shape _ c.args.shape c.in-None.ensures.index) c.place_of.ensures.entries) in
+    added_found c.args.self.now (below ++ new) c.args.shape c.args.layout (c.len.result + c.in_ok-place-in-None.place)
+    (subst (λ x. IsTable x) c.self.view_is c.self.invariant) c.requires.refers c.requires.layout added
+    (key_above below new (c.len.result + c.in_ok-place-in-None.place) c.in_ok-place-in-None.place c.args.shape
+    (ap (λ n. n + c.in_ok-place-in-None.place) c.len.ensures.len) c.in_ok-place-in-None.ensures.found)
