@@ -2,7 +2,7 @@
 use Rattle.std.proofs.Common.{◌≡◌, ◌≢◌, ℕ, zero, suc, ◌+◌, ◌<◌, ◌≤◌, List, [], ◌∷◌, length, get_or, take, refl, sym, ◌∙◌, subst, arith, inl, inr, ◌⊎◌}
 use Rattle.std.specs.Prelude.{Contains}
 use Rattle.std.specs.List.Sorted.{IsStrictlyIncreasing}
-use Rattle.pg_accesses.proofs.Elements.{here, there, cases, none_in}
+use Rattle.pg_paths.proofs.Elements.{here, there, cases, none_in}
 
 pub tail_of : (x : ℕ) (xs : List ℕ) → IsStrictlyIncreasing (x ∷ xs) → IsStrictlyIncreasing xs
 tail_of x xs h k lt = let q : suc k + 1 ≡ suc (k + 1) = omega arith in rw q at (h (suc k) (omega arith))
@@ -34,7 +34,8 @@ shorter (y ∷ ys) (x ∷ xs) a b h = go (cases y ys x (h x (here x xs))) (λ k.
         past_by (inl e) = absurd (ne e)
         past_by (inr d) = d
 
-    go : (y ≡ x) ⊎ Contains ys x → (((z : ℕ) → Contains xs z → Contains ys z) → length xs ≤ length ys) → (((z : ℕ) → Contains (x ∷ xs) z → Contains ys z) → length (x ∷ xs) ≤ length ys) → length (x ∷ xs) ≤ length (y ∷ ys)
+    go : (y ≡ x) ⊎ Contains ys x → (((z : ℕ) → Contains xs z → Contains ys z) → length xs ≤ length ys)
+        → (((z : ℕ) → Contains (x ∷ xs) z → Contains ys z) → length (x ∷ xs) ≤ length ys) → length (x ∷ xs) ≤ length (y ∷ ys)
     go (inl e) f g = omega (arith, f (λ z c. past z (λ q. omega (arith, below x xs a z c, e, q)) (h z (there x xs z c))))
     go (inr d) f g = omega (arith, g (λ z c. past z (λ q. above z q (cases x xs z c)) (h z c)))
       where
@@ -43,7 +44,8 @@ shorter (y ∷ ys) (x ∷ xs) a b h = go (cases y ys x (h x (here x xs))) (λ k.
         above z q (inr c) = omega (arith, below y ys b x d, below x xs a z c, q)
 
 -- and shorter where the whole has one more
-pub strictly_shorter : (ys xs : List ℕ) (v : ℕ) → IsStrictlyIncreasing xs → IsStrictlyIncreasing ys → ((z : ℕ) → Contains xs z → Contains ys z) → Contains ys v → (Contains xs v → ⊥) → length xs < length ys
+pub strictly_shorter : (ys xs : List ℕ) (v : ℕ) → IsStrictlyIncreasing xs → IsStrictlyIncreasing ys → ((z : ℕ) → Contains xs z → Contains ys z) → Contains ys v
+    → (Contains xs v → ⊥) → length xs < length ys
 strictly_shorter [] xs v a b h c no' = absurd (none_in v c)
 strictly_shorter (y ∷ ys) [] v a b h c no' = omega arith
 strictly_shorter (y ∷ ys) (x ∷ xs) v a b h c no' = go (cases y ys x (h x (here x xs))) (λ k d n. strictly_shorter ys xs v (tail_of x xs a) (tail_of y ys b) k d n)
@@ -55,8 +57,13 @@ strictly_shorter (y ∷ ys) (x ∷ xs) v a b h c no' = go (cases y ys x (h x (he
         past_by (inl q) = absurd (ne q)
         past_by (inr d) = d
 
-    go : (y ≡ x) ⊎ Contains ys x → (((z : ℕ) → Contains xs z → Contains ys z) → Contains ys v → (Contains xs v → ⊥) → length xs < length ys) → length (x ∷ xs) < length (y ∷ ys)
-    go (inl e) f = omega (arith, f (λ z d. past z (λ q. omega (arith, below x xs a z d, e, q)) (h z (there x xs z d))) (past v (λ q. no' (subst (λ (w : ℕ). Contains (x ∷ xs) w) (sym e ∙ q) (here x xs))) c) (λ d. no' (there x xs v d)))
+    go : (y ≡ x) ⊎ Contains ys x → (((z : ℕ) → Contains xs z → Contains ys z) → Contains ys v → (Contains xs v → ⊥) → length xs < length ys)
+        → length (x ∷ xs) < length (y ∷ ys)
+    go (inl e) f = omega (
+      arith,
+      f (λ z d. past z (λ q. omega (arith, below x xs a z d, e, q)) (h z (there x xs z d))) (past v (λ q. no' (subst (λ (w : ℕ). Contains (x ∷ xs) w) (sym e ∙ q) (here x xs))) c)
+          (λ d. no' (there x xs v d)),
+    )
     go (inr d) f = omega (arith, shorter ys (x ∷ xs) a (tail_of y ys b) (λ z e. past z (λ q. above z q (cases x xs z e)) (h z e)))
       where
         above : (z : ℕ) → y ≡ z → (x ≡ z) ⊎ Contains xs z → ⊥

@@ -9,7 +9,8 @@ use Rattle.pg_ir.specs.Program.{NumberedProgram}
 use Rattle.pg_ir.specs.WellFormed.{IsProgram, FitsBlock, IsInBlock}
 
 -- the last block is the block of an instruction
-pub counted : (p : NumberedProgram) (count : ℕ) → IsProgram p → ((k : ℕ) (x : Instr) → k < length p.instrs → slice_get p.instrs k ≡ Some x → x.block.0 < count) → count ≤ length p.blocks → count ≡ length p.blocks
+pub counted : (p : NumberedProgram) (count : ℕ) → IsProgram p → ((k : ℕ) (x : Instr) → k < length p.instrs → slice_get p.instrs k ≡ Some x → x.block.0 < count)
+    → count ≤ length p.blocks → count ≡ length p.blocks
 counted p count program covers within = omega (arith, within, all (cases_lt count (length p.blocks)))
   where
     in_block : (b : ℕ) (o : Option Instr) (i : ℕ) → slice_get p.instrs i ≡ o → IsInBlock b o → b < count

@@ -1,6 +1,7 @@
 -- What is quiet in a set of blocks is quiet in each part of it, with the same accesses: fewer registers are set, so each
 -- root stays one.
-use Rattle.std.proofs.Common.{◌≡◌, ℕ, zero, suc, ◌+◌, ◌<◌, Bool, true, false, cond, List, [], ◌∷◌, ◌++◌, length, get_or, Option, Some, None, refl, sym, ap, ◌∙◌, arith, inl, inr, ◌⊎◌}
+use Rattle.std.proofs.Common.{◌≡◌, ℕ, zero, suc, ◌+◌, ◌<◌, Bool, true, false, cond, List, [], ◌∷◌, ◌++◌, length, get_or, Option, Some, None, refl, sym, ap}
+use Rattle.std.proofs.Common.{◌∙◌, arith, inl, inr, ◌⊎◌}
 use Rattle.std.specs.Prelude.{Contains, option_map, option_and_then, slice_get}
 use Rattle.std.specs.List.{list_any}
 use Rattle.std.proofs.lemmas.Bool.{true≢false}
@@ -18,8 +19,9 @@ use Rattle.pg_paths.specs.declared.path.Path.{Path}
 use Rattle.pg_paths.specs.Paths.{loaded, rooted}
 use Rattle.pg_paths.specs.Registers.{value_path, path_by, register_path, is_register, has_pointer, moved}
 use Rattle.pg_accesses.specs.declared.rooted.Rooted.{Rooted}
-use Rattle.pg_accesses.specs.Accesses.{RootedList, both, gathered, one_access, behind_path, behind_argument, called_access, called_accesses, op_accesses, accesses_from, block_accesses, block_sets, sets, set_accesses}
-use Rattle.pg_accesses.proofs.Elements.{cases, here, there, none_in}
+use Rattle.pg_accesses.specs.Accesses.{RootedList, both, gathered, one_access, behind_path, behind_argument, called_access, called_accesses, op_accesses, accesses_from, block_accesses}
+use Rattle.pg_accesses.specs.Accesses.{block_sets, sets, set_accesses}
+use Rattle.pg_paths.proofs.Elements.{cases, here, there, none_in}
 
 -- the larger answer where the smaller one has one
 abbrev Grows : {A : Type 0} → Option A → Option A → Type 0
@@ -54,7 +56,8 @@ root_grows true b' s h x e = cc
 root_grows false true s h x e = absurd (true≢false (sym (h refl)))
 root_grows false false s h x e = e
 
-pub register_grows : (f f' : ℕ → Bool) → ((r : ℕ) → f' r ≡ true → f r ≡ true) → (types : List Scalar) (before : List Instr) (r : ℕ) → Grows (register_path f types before r) (register_path f' types before r)
+pub register_grows : (f f' : ℕ → Bool) → ((r : ℕ) → f' r ≡ true → f r ≡ true) → (types : List Scalar) (before : List Instr) (r : ℕ)
+    → Grows (register_path f types before r) (register_path f' types before r)
 register_grows f f' h types [] r = root_grows (f r) (f' r) (Some (rooted (root.Register r))) (h r)
 register_grows f f' h types (x ∷ before) r =
     grows_cond (is_register x.result r) (path_by (register_path f types before) (has_pointer types x.result) x.op) (register_path f types before r)
@@ -91,18 +94,23 @@ called_grows f g h args a (root.Register n) = λ x e. e
 
 summary_grows : (f g : ℕ → Option Path) → ((r : ℕ) → Grows (f r) (g r)) → (args : List Value) (s : Option RootedList) → Grows (called_accesses f args s) (called_accesses g args s)
 summary_grows f g h args None = λ x e. e
-summary_grows f g h args (Some xs) = gathered_grows (λ (a : Rooted). called_access f args a a.path.root) (λ (a : Rooted). called_access g args a a.path.root) xs (λ a. called_grows f g h args a a.path.root)
+summary_grows f g h args (Some xs) = gathered_grows (λ (a : Rooted). called_access f args a a.path.root) (λ (a : Rooted). called_access g args a a.path.root) xs
+    (λ a. called_grows f g h args a a.path.root)
 
 same_grows : {A : Type 0} (a : Option A) → Grows a a
 same_grows a x e = e
 
-op_grows : (m : Bool) (gated : ℕ → Bool) (sums : ℕ → Option RootedList) (f g : ℕ → Option Path) → ((r : ℕ) → Grows (f r) (g r)) → (i : ℕ) (o : Op) → Grows (op_accesses m gated sums f i o) (op_accesses m gated sums g i o)
-op_grows m gated sums f g h i (op.Load w from) = grows_cond (gated i) None (one_access i false (value_path f from)) None (one_access i false (value_path g from)) (λ x e. e) (access_grows i false (value_path f from) (value_path g from) (value_grows f g h from))
-op_grows m gated sums f g h i (op.Store w v at) = grows_cond (gated i) None (one_access i true (value_path f at)) None (one_access i true (value_path g at)) (λ x e. e) (access_grows i true (value_path f at) (value_path g at) (value_grows f g h at))
+op_grows : (m : Bool) (gated : ℕ → Bool) (sums : ℕ → Option RootedList) (f g : ℕ → Option Path) → ((r : ℕ) → Grows (f r) (g r)) → (i : ℕ) (o : Op)
+    → Grows (op_accesses m gated sums f i o) (op_accesses m gated sums g i o)
+op_grows m gated sums f g h i (op.Load w from) = grows_cond (gated i) None (one_access i false (value_path f from)) None (one_access i false (value_path g from)) (λ x e. e)
+    (access_grows i false (value_path f from) (value_path g from) (value_grows f g h from))
+op_grows m gated sums f g h i (op.Store w v at) = grows_cond (gated i) None (one_access i true (value_path f at)) None (one_access i true (value_path g at)) (λ x e. e)
+    (access_grows i true (value_path f at) (value_path g at) (value_grows f g h at))
 op_grows m gated sums f g h i (op.Call n args) = summary_grows f g h args (sums n)
 op_grows m gated sums f g h i _ = λ x e. e
 
-from_grows : (m : Bool) (gated : ℕ → Bool) (sums : ℕ → Option RootedList) (f f' : ℕ → Bool) → ((r : ℕ) → f' r ≡ true → f r ≡ true) → (types : List Scalar) (before : List Instr) (i : ℕ) (xs : List Instr) →
+from_grows : (m : Bool) (gated : ℕ → Bool) (sums : ℕ → Option RootedList) (f f' : ℕ → Bool) → ((r : ℕ) → f' r ≡ true → f r ≡ true)
+    → (types : List Scalar) (before : List Instr) (i : ℕ) (xs : List Instr) →
     Grows (accesses_from m gated sums f types before i xs) (accesses_from m gated sums f' types before i xs)
 from_grows m gated sums f f' h types before i [] = λ x e. e
 from_grows m gated sums f f' h types before i (x ∷ xs) =
@@ -111,13 +119,15 @@ from_grows m gated sums f f' h types before i (x ∷ xs) =
     (op_grows m gated sums (register_path f types before) (register_path f' types before) (register_grows f f' h types before) i x.op)
     (from_grows m gated sums f f' h types (x ∷ before) (i + 1) xs)
 
-pub block_grows : (m : Bool) (p : NumberedProgram) (gated : ℕ → Bool) (sums : ℕ → Option RootedList) (f f' : ℕ → Bool) → ((r : ℕ) → f' r ≡ true → f r ≡ true) → (b : ℕ) → Grows (block_accesses m p gated sums f b) (block_accesses m p gated sums f' b)
+pub block_grows : (m : Bool) (p : NumberedProgram) (gated : ℕ → Bool) (sums : ℕ → Option RootedList) (f f' : ℕ → Bool) → ((r : ℕ) → f' r ≡ true → f r ≡ true) → (b : ℕ)
+    → Grows (block_accesses m p gated sums f b) (block_accesses m p gated sums f' b)
 unfolding block_accesses
 block_grows m p gated sums f f' h b = from_grows m gated sums f f' h (types_of p (function_of p b)) [] (first_of p b) (instrs_of p b)
 
 -- ---- sets of blocks
 
-pub gathered_each : {A : Type 0} (f : A → Option RootedList) (xs : List A) (listed : RootedList) → gathered f xs ≡ Some listed → (x : A) → Contains xs x → (y : RootedList) × (f x ≡ Some y)
+pub gathered_each : {A : Type 0} (f : A → Option RootedList) (xs : List A) (listed : RootedList) → gathered f xs ≡ Some listed → (x : A) → Contains xs x
+    → (y : RootedList) × (f x ≡ Some y)
 gathered_each {A} f xs listed e x c = at xs listed e c.0 c.1 c.2
   where
     parts : (a b : Option RootedList) (ys : RootedList) → both a b ≡ Some ys → ((y : RootedList) × (a ≡ Some y)) × ((z : RootedList) × (b ≡ Some z))
@@ -141,7 +151,8 @@ any_some : (f : ℕ → Bool) (xs : List ℕ) → list_any f xs ≡ true → (x 
 any_some f [] e = absurd (true≢false (sym e))
 any_some f (x ∷ xs) e = go (f x) refl e (λ q. any_some f xs q)
   where
-    go : (b : Bool) → f x ≡ b → list_any f (x ∷ xs) ≡ true → (list_any f xs ≡ true → (z : ℕ) × Contains xs z × (f z ≡ true)) → (z : ℕ) × Contains (x ∷ xs) z × (f z ≡ true)
+    go : (b : Bool) → f x ≡ b → list_any f (x ∷ xs) ≡ true → (list_any f xs ≡ true → (z : ℕ) × Contains xs z × (f z ≡ true))
+        → (z : ℕ) × Contains (x ∷ xs) z × (f z ≡ true)
     go true q e k = (x, here x xs, q)
     go false q e k = let r = k (rw q at e) in (r.0, there x xs r.0 r.1, r.2)
 
@@ -158,14 +169,16 @@ sets_grow : (p : NumberedProgram) (small big : List ℕ) → ((x : ℕ) → Cont
 sets_grow p small big h r e = let s = any_some (block_sets p r) small e in some_any (block_sets p r) big s.0 (h s.0 s.1) s.2
 
 -- a block of a part accesses what it accesses in the whole
-pub same_part : (m : Bool) (p : NumberedProgram) (gated : ℕ → Bool) (sums : ℕ → Option RootedList) (big small : List ℕ) (listed : RootedList) → set_accesses m p gated sums big ≡ Some listed → ((x : ℕ) → Contains small x → Contains big x) →
+pub same_part : (m : Bool) (p : NumberedProgram) (gated : ℕ → Bool) (sums : ℕ → Option RootedList) (big small : List ℕ) (listed : RootedList)
+    → set_accesses m p gated sums big ≡ Some listed → ((x : ℕ) → Contains small x → Contains big x) →
     (b : ℕ) → Contains small b → block_accesses m p gated sums (sets p small) b ≡ block_accesses m p gated sums (sets p big) b
 same_part m p gated sums big small listed e h b c =
     let y = gathered_each (block_accesses m p gated sums (sets p big)) big listed e b (h b c) in
     block_grows m p gated sums (sets p big) (sets p small) (sets_grow p small big h) b y.0 y.1 ∙ sym y.1
 
 -- what is quiet in a set of blocks is quiet in a part of it
-pub quiet_part : (m : Bool) (p : NumberedProgram) (gated : ℕ → Bool) (sums : ℕ → Option RootedList) (big small : List ℕ) (listed : RootedList) → set_accesses m p gated sums big ≡ Some listed → ((x : ℕ) → Contains small x → Contains big x) →
+pub quiet_part : (m : Bool) (p : NumberedProgram) (gated : ℕ → Bool) (sums : ℕ → Option RootedList) (big small : List ℕ) (listed : RootedList)
+    → set_accesses m p gated sums big ≡ Some listed → ((x : ℕ) → Contains small x → Contains big x) →
     (bs : RootedList) × (set_accesses m p gated sums small ≡ Some bs)
 quiet_part m p gated sums big small listed e h = gathered_all (block_accesses m p gated sums (sets p small)) small each
   where
@@ -175,7 +188,8 @@ quiet_part m p gated sums big small listed e h = gathered_all (block_accesses m 
         (y.0, block_grows m p gated sums (sets p big) (sets p small) (sets_grow p small big h) x y.0 y.1)
 
 -- a block that isn't quiet where no register is set is quiet in no set
-pub loud_anywhere : (m : Bool) (p : NumberedProgram) (gated : ℕ → Bool) (sums : ℕ → Option RootedList) (unset set : ℕ → Bool) (b : ℕ) → ((r : ℕ) → unset r ≡ false) → block_accesses m p gated sums unset b ≡ None → block_accesses m p gated sums set b ≡ None
+pub loud_anywhere : (m : Bool) (p : NumberedProgram) (gated : ℕ → Bool) (sums : ℕ → Option RootedList) (unset set : ℕ → Bool) (b : ℕ) → ((r : ℕ) → unset r ≡ false)
+    → block_accesses m p gated sums unset b ≡ None → block_accesses m p gated sums set b ≡ None
 loud_anywhere m p gated sums unset set b none out = go (block_accesses m p gated sums set b) refl
   where
     go : (o : Option RootedList) → block_accesses m p gated sums set b ≡ o → block_accesses m p gated sums set b ≡ None

@@ -1,5 +1,6 @@
 -- Accesses are added one after another.
-use Rattle.std.proofs.Common.{◌≡◌, ℕ, zero, suc, ◌+◌, ◌<◌, ◌≤◌, Bool, true, false, List, [], ◌∷◌, ◌++◌, length, get_or, drop, Option, Some, None, refl, sym, ap, ◌∙◌, subst, arith, append_assoc}
+use Rattle.std.proofs.Common.{◌≡◌, ℕ, zero, suc, ◌+◌, ◌<◌, ◌≤◌, Bool, true, false, List, [], ◌∷◌, ◌++◌, length, get_or, drop, Option, Some, None, refl, sym}
+use Rattle.std.proofs.Common.{ap, ◌∙◌, subst, arith, append_assoc}
 use Rattle.std.proofs.lemmas.List.{append-nil}
 use Rattle.pg_accesses.specs.Accesses.{RootedList, both, gathered}
 use Rattle.pg_accesses.specs.Appends.{Appends, behind}
@@ -46,11 +47,14 @@ not_there None old new h = refl
 not_there (Some listed) old new h = absurd h
 
 -- one of them isn't there, so nothing is gathered
-pub stops_at : {A : Type 0} (f : A → Option RootedList) (xs : List A) (i : ℕ) (d : A) → i < length xs → (cur new : RootedList) (quiet : Bool) → quiet ≡ false → Appends (f (get_or xs i d)) cur quiet new →
+pub stops_at : {A : Type 0} (f : A → Option RootedList) (xs : List A) (i : ℕ) (d : A) → i < length xs → (cur new : RootedList) (quiet : Bool) → quiet ≡ false
+    → Appends (f (get_or xs i d)) cur quiet new →
     behind [] (gathered f xs) ≡ behind cur (gathered f (drop i xs)) → gathered f xs ≡ None
 stops_at f xs i d lt cur new quiet q h e =
-    none_of (gathered f xs) (e ∙ ap (λ o. behind cur o) (gathered_at f xs i d lt) ∙ step_false (f (get_or xs i d)) (gathered f (drop (i + 1) xs)) cur new (subst (λ (z : Bool). Appends (f (get_or xs i d)) cur z new) q h))
+    none_of (gathered f xs) (e ∙ ap (λ o. behind cur o) (gathered_at f xs i d lt)
+    ∙ step_false (f (get_or xs i d)) (gathered f (drop (i + 1) xs)) cur new (subst (λ (z : Bool). Appends (f (get_or xs i d)) cur z new) q h))
 
 -- all are there
-pub ends_at : {A : Type 0} (f : A → Option RootedList) (xs : List A) (i : ℕ) → length xs ≤ i → (cur : RootedList) → behind [] (gathered f xs) ≡ behind cur (gathered f (drop i xs)) → gathered f xs ≡ Some cur
+pub ends_at : {A : Type 0} (f : A → Option RootedList) (xs : List A) (i : ℕ) → length xs ≤ i → (cur : RootedList) → behind [] (gathered f xs) ≡ behind cur (gathered f (drop i xs))
+    → gathered f xs ≡ Some cur
 ends_at f xs i le cur e = all_of (gathered f xs) cur (e ∙ ap (λ o. behind cur o) (gathered_end f xs i le))

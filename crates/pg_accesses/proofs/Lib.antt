@@ -1,4 +1,3 @@
-pub mod Elements
 pub mod Counts
 pub mod Fewer
 pub mod Passes

@@ -20,9 +20,10 @@ use Rattle.pg_paths.specs.declared.path.Path.{Path}
 use Rattle.pg_paths.specs.Paths.{loaded, loaded_at, path_with, one_more, rooted, root_path_with, loads_behind}
 use Rattle.pg_paths.specs.Registers.{value_path, path_by, register_path, is_register, has_pointer, moved}
 use Rattle.pg_accesses.specs.declared.rooted.Rooted.{Rooted}
-use Rattle.pg_accesses.specs.Accesses.{RootedList, both, gathered, one_access, with_path, behind_path, behind_argument, called_access, called_accesses, known_accesses, op_accesses, accesses_from, block_accesses, sets, set_accesses}
+use Rattle.pg_accesses.specs.Accesses.{RootedList, both, gathered, one_access, with_path, behind_path, behind_argument, called_access, called_accesses, known_accesses, op_accesses}
+use Rattle.pg_accesses.specs.Accesses.{accesses_from, block_accesses, sets, set_accesses}
 use Rattle.pg_accesses.specs.Laws.{IsQuiet, IsOutside}
-use Rattle.pg_accesses.proofs.Elements.{only_here, none_in}
+use Rattle.pg_paths.proofs.Elements.{only_here, none_in}
 use Rattle.pg_accesses.proofs.Fewer.{gathered_each}
 
 -- both of two lists are there where their sum is
@@ -50,7 +51,8 @@ reads_input PgIn ys e = inl refl
 reads_input PgInLen ys e = inr refl
 reads_input _ ys e = absurd cc
 
-op_quiet : (m : Bool) (gated : ℕ → Bool) (sums : ℕ → Option RootedList) (f : ℕ → Option Path) (i : ℕ) (o : Op) (ys : RootedList) → op_accesses m gated sums f i o ≡ Some ys → IsQuiet m gated sums i o
+op_quiet : (m : Bool) (gated : ℕ → Bool) (sums : ℕ → Option RootedList) (f : ℕ → Option Path) (i : ℕ) (o : Op) (ys : RootedList) → op_accesses m gated sums f i o ≡ Some ys
+    → IsQuiet m gated sums i o
 op_quiet m gated sums f i (op.Load w from) ys e = not_gated (gated i) (one_access i false (value_path f from)) ys e
 op_quiet m gated sums f i (op.Store w v at) ys e = not_gated (gated i) (one_access i true (value_path f at)) ys e
 op_quiet m gated sums f i (op.Call g args) ys e = called_some f args (sums g) ys e
@@ -59,7 +61,8 @@ op_quiet m gated sums f i (op.Alloca bytes) ys e = absurd cc
 op_quiet m gated sums f i (op.Ret v) ys e = may m ys e
 op_quiet m gated sums f i _ ys e = tt
 
-from_quiet : (m : Bool) (gated : ℕ → Bool) (sums : ℕ → Option RootedList) (is_set : ℕ → Bool) (types : List Scalar) (before : List Instr) (i : ℕ) (xs : List Instr) (ys : RootedList) → accesses_from m gated sums is_set types before i xs ≡ Some ys →
+from_quiet : (m : Bool) (gated : ℕ → Bool) (sums : ℕ → Option RootedList) (is_set : ℕ → Bool) (types : List Scalar) (before : List Instr) (i : ℕ) (xs : List Instr) (ys : RootedList)
+    → accesses_from m gated sums is_set types before i xs ≡ Some ys →
     (k : ℕ) (x : Instr) → slice_get xs k ≡ Some x → IsQuiet m gated sums (i + k) x.op
 from_quiet m gated sums is_set types before i [] ys e zero x at = absurd cc
 from_quiet m gated sums is_set types before i [] ys e (suc k) x at = absurd cc
@@ -73,7 +76,8 @@ from_quiet m gated sums is_set types before i (y ∷ xs) ys e (suc k) x at =
     let h = parts (op_accesses m gated sums (register_path is_set types before) i y.op) (accesses_from m gated sums is_set types (y ∷ before) (i + 1) xs) ys e in
     rw z (from_quiet m gated sums is_set types (y ∷ before) (i + 1) xs h.1 h.3 k x at)
 
-pub block_quiet : (m : Bool) (p : NumberedProgram) (gated : ℕ → Bool) (sums : ℕ → Option RootedList) (is_set : ℕ → Bool) (b : ℕ) (ys : RootedList) → block_accesses m p gated sums is_set b ≡ Some ys →
+pub block_quiet : (m : Bool) (p : NumberedProgram) (gated : ℕ → Bool) (sums : ℕ → Option RootedList) (is_set : ℕ → Bool) (b : ℕ) (ys : RootedList)
+    → block_accesses m p gated sums is_set b ≡ Some ys →
     (k : ℕ) (x : Instr) → slice_get (instrs_of p b) k ≡ Some x → IsQuiet m gated sums (first_of p b + k) x.op
 unfolding block_accesses
 block_quiet m p gated sums is_set b ys e k x at = from_quiet m gated sums is_set (types_of p (function_of p b)) [] (first_of p b) (instrs_of p b) ys e k x at
@@ -129,7 +133,8 @@ module _ (is_set : ℕ → Bool) where
   register_outside types [] r q e = root_outside r (is_set r) refl q e
   register_outside types (x ∷ before) r q e = go (register_outside types before) (is_register x.result r) e
     where
-      go : ArePaths (register_path is_set types before) → (b : Bool) → cond b (path_by (register_path is_set types before) (has_pointer types x.result) x.op) (register_path is_set types before r) ≡ Some q → IsOutside is_set q.root
+      go : ArePaths (register_path is_set types before) → (b : Bool)
+          → cond b (path_by (register_path is_set types before) (has_pointer types x.result) x.op) (register_path is_set types before r) ≡ Some q → IsOutside is_set q.root
       go h true k = by_outside (register_path is_set types before) h (has_pointer types x.result) x.op q k
       go h false k = h r q k
 
@@ -146,7 +151,8 @@ module _ (is_set : ℕ → Bool) where
   access_outside i w None h ys e = absurd cc
   access_outside i w (Some p) h ys e = single_outside _ ys e (h p refl)
 
-  both_outside : (a b : Option RootedList) → ((ys : RootedList) → a ≡ Some ys → AllOutside ys) → ((ys : RootedList) → b ≡ Some ys → AllOutside ys) → (ys : RootedList) → both a b ≡ Some ys → AllOutside ys
+  both_outside : (a b : Option RootedList) → ((ys : RootedList) → a ≡ Some ys → AllOutside ys) → ((ys : RootedList) → b ≡ Some ys → AllOutside ys) → (ys : RootedList)
+      → both a b ≡ Some ys → AllOutside ys
   both_outside a b h k ys e x c = go (Contains-append_cases s.0 s.1 x (subst (λ (z : RootedList). Contains z x) s.4 c))
     where
       s : (y : RootedList) × (z : RootedList) × (a ≡ Some y) × (b ≡ Some z) × (ys ≡ y ++ z)
@@ -156,7 +162,8 @@ module _ (is_set : ℕ → Bool) where
       go (inl d) = h s.0 s.2 x d
       go (inr d) = k s.1 s.3 x d
 
-  gathered_outside : {A : Type 0} (f : A → Option RootedList) (xs : List A) → ((x : A) (ys : RootedList) → f x ≡ Some ys → AllOutside ys) → (ys : RootedList) → gathered f xs ≡ Some ys → AllOutside ys
+  gathered_outside : {A : Type 0} (f : A → Option RootedList) (xs : List A) → ((x : A) (ys : RootedList) → f x ≡ Some ys → AllOutside ys) → (ys : RootedList)
+      → gathered f xs ≡ Some ys → AllOutside ys
   gathered_outside f [] h ys e = none_outside ys e
   gathered_outside f (x ∷ xs) h ys e = both_outside (f x) (gathered f xs) (h x) (gathered_outside f xs h) ys e
 
@@ -172,7 +179,8 @@ module _ (is_set : ℕ → Bool) where
   argument_outside f h a None ys e = absurd cc
   argument_outside f h a (Some v) ys e = behind_outside a (value_path f v) (value_outside f h v) ys e
 
-  called_outside : (f : ℕ → Option Path) → ArePaths f → (args : List Value) (a : Rooted) (r : Root) → a.path.root ≡ r → (ys : RootedList) → called_access f args a r ≡ Some ys → AllOutside ys
+  called_outside : (f : ℕ → Option Path) → ArePaths f → (args : List Value) (a : Rooted) (r : Root) → a.path.root ≡ r → (ys : RootedList) → called_access f args a r ≡ Some ys
+      → AllOutside ys
   called_outside f h args a (root.Param k) q ys e = argument_outside f h a (slice_get args k) ys e
   called_outside f h args a (root.Register k) q ys e = absurd cc
   called_outside f h args a (root.Global k) q ys e = single_outside a ys e (subst (λ (z : Root). IsOutside is_set z) (sym q) tt)
@@ -195,7 +203,8 @@ module _ (is_set : ℕ → Bool) where
   return_outside true ys e = none_outside ys e
   return_outside false ys e = absurd cc
 
-  op_outside : (m : Bool) (gated : ℕ → Bool) (sums : ℕ → Option RootedList) (f : ℕ → Option Path) → ArePaths f → (i : ℕ) (o : Op) (ys : RootedList) → op_accesses m gated sums f i o ≡ Some ys → AllOutside ys
+  op_outside : (m : Bool) (gated : ℕ → Bool) (sums : ℕ → Option RootedList) (f : ℕ → Option Path) → ArePaths f → (i : ℕ) (o : Op) (ys : RootedList)
+      → op_accesses m gated sums f i o ≡ Some ys → AllOutside ys
   op_outside m gated sums f h i (op.Load w from) ys e = gated_outside (gated i) (one_access i false (value_path f from)) (access_outside i false (value_path f from) (value_outside f h from)) ys e
   op_outside m gated sums f h i (op.Store w v at) ys e = gated_outside (gated i) (one_access i true (value_path f at)) (access_outside i true (value_path f at) (value_outside f h at)) ys e
   op_outside m gated sums f h i (op.Call g args) ys e = summary_outside f h args (sums g) ys e
@@ -204,16 +213,19 @@ module _ (is_set : ℕ → Bool) where
   op_outside m gated sums f h i (op.Ret v) ys e = return_outside m ys e
   op_outside m gated sums f h i _ ys e = none_outside ys e
 
-  from_outside : (m : Bool) (gated : ℕ → Bool) (sums : ℕ → Option RootedList) (types : List Scalar) (before : List Instr) (i : ℕ) (xs : List Instr) (ys : RootedList) → accesses_from m gated sums is_set types before i xs ≡ Some ys → AllOutside ys
+  from_outside : (m : Bool) (gated : ℕ → Bool) (sums : ℕ → Option RootedList) (types : List Scalar) (before : List Instr) (i : ℕ) (xs : List Instr) (ys : RootedList)
+      → accesses_from m gated sums is_set types before i xs ≡ Some ys → AllOutside ys
   from_outside m gated sums types before i [] ys e = none_outside ys e
   from_outside m gated sums types before i (x ∷ xs) ys e =
       both_outside (op_accesses m gated sums (register_path is_set types before) i x.op) (accesses_from m gated sums is_set types (x ∷ before) (i + 1) xs)
       (op_outside m gated sums (register_path is_set types before) (register_outside types before) i x.op)
       (from_outside m gated sums types (x ∷ before) (i + 1) xs) ys e
 
-block_outside : (is_set : ℕ → Bool) (m : Bool) (p : NumberedProgram) (gated : ℕ → Bool) (sums : ℕ → Option RootedList) (b : ℕ) (ys : RootedList) → block_accesses m p gated sums is_set b ≡ Some ys → (a : Rooted) → Contains ys a → IsOutside is_set a.path.root
+block_outside : (is_set : ℕ → Bool) (m : Bool) (p : NumberedProgram) (gated : ℕ → Bool) (sums : ℕ → Option RootedList) (b : ℕ) (ys : RootedList)
+    → block_accesses m p gated sums is_set b ≡ Some ys → (a : Rooted) → Contains ys a → IsOutside is_set a.path.root
 unfolding block_accesses
 block_outside is_set m p gated sums b ys e = from_outside is_set m gated sums (types_of p (function_of p b)) [] (first_of p b) (instrs_of p b) ys e
 
-pub set_outside : (m : Bool) (p : NumberedProgram) (gated : ℕ → Bool) (sums : ℕ → Option RootedList) (blocks : List ℕ) (ys : RootedList) → set_accesses m p gated sums blocks ≡ Some ys → (a : Rooted) → Contains ys a → IsOutside (sets p blocks) a.path.root
+pub set_outside : (m : Bool) (p : NumberedProgram) (gated : ℕ → Bool) (sums : ℕ → Option RootedList) (blocks : List ℕ) (ys : RootedList)
+    → set_accesses m p gated sums blocks ≡ Some ys → (a : Rooted) → Contains ys a → IsOutside (sets p blocks) a.path.root
 set_outside m p gated sums blocks ys e = gathered_outside (sets p blocks) (block_accesses m p gated sums (sets p blocks)) blocks (λ b zs q. block_outside (sets p blocks) m p gated sums b zs q) ys e

@@ -1,5 +1,6 @@
 -- Sets of registers as tables.
-use Rattle.std.proofs.Common.{◌≡◌, ℕ, zero, suc, ◌+◌, ◌<◌, ◌≤◌, ◌||◌, Bool, true, false, List, [], ◌∷◌, ◌++◌, length, get_or, take, drop, replicate, Some, None, refl, sym, ap, ◌∙◌, subst, arith, inl, inr, ◌⊎◌, get_or-set_same, get_or-set_other}
+use Rattle.std.proofs.Common.{◌≡◌, ℕ, zero, suc, ◌+◌, ◌<◌, ◌≤◌, ◌||◌, Bool, true, false, List, [], ◌∷◌, ◌++◌, length, get_or, take, drop, replicate, Some}
+use Rattle.std.proofs.Common.{None, refl, sym, ap, ◌∙◌, subst, arith, inl, inr, ◌⊎◌, get_or-set_same, get_or-set_other}
 use Rattle.std.specs.List.{list_any}
 use Rattle.std.proofs.Math.ListN.{set}
 use Rattle.std.proofs.lemmas.Bool.{cases_eq, cases_lt, eq-eqb, ne_eqb}
@@ -55,7 +56,8 @@ nothing_in n r = go (cases_lt r n)
 -- ---- the registers that a block sets
 
 -- one instruction more is passed
-pub set_more : (xs : List Instr) (k : ℕ) (x : Instr) (r : ℕ) (old new rest : Bool) → slice_get xs k ≡ Some x → new ≡ (is_register x.result r || old) → old ≡ (list_any (λ (y : Instr). is_register y.result r) (take k xs) || rest) →
+pub set_more : (xs : List Instr) (k : ℕ) (x : Instr) (r : ℕ) (old new rest : Bool) → slice_get xs k ≡ Some x → new ≡ (is_register x.result r || old)
+    → old ≡ (list_any (λ (y : Instr). is_register y.result r) (take k xs) || rest) →
     new ≡ (list_any (λ (y : Instr). is_register y.result r) (take (k + 1) xs) || rest)
 set_more xs k x r old new rest e h q =
     let t : list_any (λ (y : Instr). is_register y.result r) (take (k + 1) xs) ≡ (is_register x.result r || list_any (λ (y : Instr). is_register y.result r) (take k xs)) =
@@ -68,6 +70,7 @@ take_all [] (suc k) e = refl
 take_all (x ∷ xs) zero e = absurd cc
 take_all (x ∷ xs) (suc k) e = ap (λ l. x ∷ l) (take_all xs k e)
 
-pub sets_all : (p : NumberedProgram) (b : ℕ) (block : Block) (k r : ℕ) → slice_get p.blocks b ≡ Some block → block.count ≤ k → list_any (λ (y : Instr). is_register y.result r) (take k (instrs_of p b)) ≡ block_sets p r b
+pub sets_all : (p : NumberedProgram) (b : ℕ) (block : Block) (k r : ℕ) → slice_get p.blocks b ≡ Some block → block.count ≤ k
+    → list_any (λ (y : Instr). is_register y.result r) (take k (instrs_of p b)) ≡ block_sets p r b
 unfolding block_sets
 sets_all p b block k r e le = ap (λ (l : List Instr). list_any (λ (y : Instr). is_register y.result r) l) (take_all (instrs_of p b) k (instrs_end p b block k e le))

@@ -17,7 +17,8 @@ pub record IsQuietPart (m : Bool) (p : NumberedProgram) (gated : ℕ → Bool) (
   pub same : (b : ℕ) → Contains part b → block_accesses m p gated sums (sets p part) b ≡ block_accesses m p gated sums (sets p blocks) b
 
 abbrev pub PartsAreQuiet : Type 0
-PartsAreQuiet = (m : Bool) (p : NumberedProgram) (gated : ℕ → Bool) (sums : ℕ → Option RootedList) (blocks part : List ℕ) (accesses : RootedList) → set_accesses m p gated sums blocks ≡ Some accesses → ((b : ℕ) → Contains part b → Contains blocks b) →
+PartsAreQuiet = (m : Bool) (p : NumberedProgram) (gated : ℕ → Bool) (sums : ℕ → Option RootedList) (blocks part : List ℕ) (accesses : RootedList)
+    → set_accesses m p gated sums blocks ≡ Some accesses → ((b : ℕ) → Contains part b → Contains blocks b) →
     IsQuietPart m p gated sums blocks part
 
 -- an instruction that isn't a gated access, an `alloca`, a call of a function that isn't quiet, or a return where there
@@ -32,7 +33,8 @@ IsQuiet may_return gated sums i (op.Ret v) = may_return ≡ true
 IsQuiet may_return gated sums i _ = Unit {0}
 
 abbrev pub QuietSetsPassQuiet : Type 0
-QuietSetsPassQuiet = (m : Bool) (p : NumberedProgram) (gated : ℕ → Bool) (sums : ℕ → Option RootedList) (blocks : List ℕ) (accesses : RootedList) → set_accesses m p gated sums blocks ≡ Some accesses →
+QuietSetsPassQuiet = (m : Bool) (p : NumberedProgram) (gated : ℕ → Bool) (sums : ℕ → Option RootedList) (blocks : List ℕ) (accesses : RootedList)
+    → set_accesses m p gated sums blocks ≡ Some accesses →
     (b k : ℕ) (x : Instr) → Contains blocks b → slice_get (instrs_of p b) k ≡ Some x → IsQuiet m gated sums (first_of p b + k) x.op
 
 -- what begins an access of a set of blocks that sets these registers: none of them, and no parameter
@@ -43,5 +45,6 @@ IsOutside is_set (root.Register r) = is_set r ≡ false
 IsOutside is_set (root.Param k) = ⊥
 
 abbrev pub RootsAreOutside : Type 0
-RootsAreOutside = (m : Bool) (p : NumberedProgram) (gated : ℕ → Bool) (sums : ℕ → Option RootedList) (blocks : List ℕ) (accesses : RootedList) → set_accesses m p gated sums blocks ≡ Some accesses →
+RootsAreOutside = (m : Bool) (p : NumberedProgram) (gated : ℕ → Bool) (sums : ℕ → Option RootedList) (blocks : List ℕ) (accesses : RootedList)
+    → set_accesses m p gated sums blocks ≡ Some accesses →
     (a : Rooted) → Contains accesses a → IsOutside (sets p blocks) a.path.root

@@ -1,3 +1,5 @@
+//! The accesses of one instruction.
+
 ghost use Rattle.std.specs.Prelude.{◌≡◌, Some, IfOk, is_some};
 ghost use Rattle.std.specs.Option.{option_copied};
 ghost use Rattle.pg_paths.specs.Known.{path_in};

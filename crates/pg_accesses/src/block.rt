@@ -1,3 +1,5 @@
+//! The accesses of a basic block, and whether it is quiet.
+
 ghost use Rattle.std.specs.Prelude.{◌≡◌, ℕ, ◌<◌, ◌≤◌, length, All, IfOk, OnOk, IfSome, option_map, if◌then◌else◌};
 ghost use Rattle.pg_num.specs.declared.limits.TheConstants.{FUNCTION_REGISTER_LIMIT};
 ghost use Rattle.pg_paths.specs.Known.{path_in, set_in, count_in};
@@ -55,7 +57,8 @@ pub(crate) fn push_block(
     requires registers { FUNCTION_REGISTER_LIMIT ≤ count_in known.old }
     ensures is_set { known.new.is_set ≡ known.old.is_set }
     ensures count { count_in known.new ≡ count_in known.old }
-    ensures accesses { IfOk result (λ is_quiet. Appends (block_accesses may_return p.now (in_table gated.now) (summary_of sums.now) (set_in known.old) b.0) accesses.old.items is_quiet accesses.new.items) }
+    ensures accesses { IfOk result (λ is_quiet. Appends
+        (block_accesses may_return p.now (in_table gated.now) (summary_of sums.now) (set_in known.old) b.0) accesses.old.items is_quiet accesses.new.items) }
 {
     p.facts();
     let block = *p.block(b);

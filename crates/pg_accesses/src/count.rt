@@ -1,3 +1,5 @@
+//! The number of a program's basic blocks.
+
 ghost use Rattle.std.specs.Prelude.{◌≡◌, ◌≤◌, ◌^◌, length};
 
 use pg_ir::{InstrId, Program};

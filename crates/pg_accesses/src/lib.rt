@@ -11,5 +11,5 @@ mod rooted;
 
 pub use block::{accesses_of, loud_blocks};
 pub use count::block_count;
-pub use register_sets::gated_table;
+pub use register_sets::{add_set, add_sets, gated_table, sets_of};
 pub use rooted::{Rooted, Summary};

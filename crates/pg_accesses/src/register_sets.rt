@@ -1,3 +1,5 @@
+//! The registers that blocks may set.
+
 ghost use Rattle.std.specs.Prelude.{◌≡◌, ℕ, ◌<◌, length, All, ◌||◌, IfOk, IfSome, false, replicate};
 ghost use Rattle.pg_ir.specs.declared.ids.InstrId.{InstrId};
 ghost use Rattle.pg_num.specs.declared.limits.TheConstants.{FUNCTION_REGISTER_LIMIT};
@@ -11,7 +13,7 @@ use std::alloc::{AllocError, Global};
 
 /// Adds a number to a set, if there is one.
 #[tactic(auto, using(crate::proofs::Sets::added_one, crate::proofs::Sets::added_none))]
-pub(crate) fn add_set(set: &mut Vec<bool>, register: Option<u32>)
+pub fn add_set(set: &mut Vec<bool>, register: Option<u32>)
     requires { IfSome register (λ r. r < length set.old.items) }
     ensures sets { (r : ℕ) → in_table set.new.items r ≡ (is_register register r || in_table set.old.items r) }
     ensures size { length set.new.items ≡ length set.old.items }
@@ -22,7 +24,7 @@ pub(crate) fn add_set(set: &mut Vec<bool>, register: Option<u32>)
 }
 
 /// Adds the registers that a block sets.
-fn add_sets(set: &mut Vec<bool>, p: &Program, b: BlockNo)
+pub fn add_sets(set: &mut Vec<bool>, p: &Program, b: BlockNo)
     requires block { b.0 < length p.now.blocks }
     requires size { length set.old.items ≡ FUNCTION_REGISTER_LIMIT }
     ensures sets { (r : ℕ) → in_table set.new.items r ≡ (block_sets p.now r b.0 || in_table set.old.items r) }
@@ -38,7 +40,7 @@ fn add_sets(set: &mut Vec<bool>, p: &Program, b: BlockNo)
 }
 
 /// The registers that a set of blocks sets.
-pub(crate) fn sets_of(alloc: Global, p: &Program, blocks: &[u32]) -> Result<Vec<bool>, AllocError>
+pub fn sets_of(alloc: Global, p: &Program, blocks: &[u32]) -> Result<Vec<bool>, AllocError>
     requires { All (λ b. b < length p.now.blocks) blocks.now }
     ensures { IfOk result (λ set. (length set.items ≡ FUNCTION_REGISTER_LIMIT) × ((r : ℕ) → in_table set.items r ≡ sets p.now blocks.now r)) }
 {

@@ -1,3 +1,5 @@
+//! Accesses whose root paths are known.
+
 use pg_ir::InstrId;
 use pg_paths::RootPath;
 

@@ -1,5 +1,7 @@
 -- Decimal digits without leading zeros: the digits of a number, of one more, and which of two is less.
-use Rattle.std.proofs.Common.{◌≡◌, ℕ, zero, suc, ◌+◌, ◌-◌, ◌*◌, ◌/◌, ◌%◌, ◌<◌, ◌≤◌, List, [], ◌∷◌, ◌++◌, length, map, take, drop, get_or, replicate, max, refl, sym, ap, subst, ◌∙◌, arith, append_assoc, append-nil, length-drop, length-append, Bool, true, false, ◌&&◌, ◌||◌, ◌==◌, nat_lt, codes, if◌then◌else◌}
+use Rattle.std.proofs.Common.{◌≡◌, ℕ, zero, suc, ◌+◌, ◌-◌, ◌*◌, ◌/◌, ◌%◌, ◌<◌, ◌≤◌, List, [], ◌∷◌, ◌++◌, length, map, take, drop, get_or}
+use Rattle.std.proofs.Common.{replicate, max, refl, sym, ap, subst, ◌∙◌, arith, append_assoc, append-nil, length-drop, length-append, Bool, true, false, ◌&&◌, ◌||◌, ◌==◌}
+use Rattle.std.proofs.Common.{nat_lt, codes, if◌then◌else◌}
 use Rattle.std.specs.List.{list_all}
 use Rattle.std.proofs.lemmas.List.{map-append, take_more, take_all}
 use Rattle.std.proofs.lemmas.List.Folds.{list_all-append}
@@ -124,7 +126,8 @@ parts_of ds c p =
     let whole : ds ++ c ∷ [] ≡ digits_text (natural_of ds * 10 + (c - 48)) = p.same ∙ ap digits_text n in
     choose n b whole (natural_of ds * 10 + (c - 48)) refl
   where
-    choose : natural_of (ds ++ c ∷ []) ≡ natural_of ds * 10 + (c - 48) → (48 ≤ c) × (c ≤ 57) → ds ++ c ∷ [] ≡ digits_text (natural_of ds * 10 + (c - 48)) → (m : ℕ) → natural_of ds * 10 + (c - 48) ≡ m → Parts ds c
+    choose : natural_of (ds ++ c ∷ []) ≡ natural_of ds * 10 + (c - 48) → (48 ≤ c) × (c ≤ 57) → ds ++ c ∷ [] ≡ digits_text (natural_of ds * 10 + (c - 48)) → (m : ℕ)
+        → natural_of ds * 10 + (c - 48) ≡ m → Parts ds c
     choose n b whole zero e = absurd (none ds (whole ∙ ap digits_text e ∙ text_zero))
       where
         none : (xs : List ℕ) → xs ++ c ∷ [] ≡ [] → ⊥
@@ -161,7 +164,8 @@ nines_begin ds p =
     record {
       within = omega arith;
       plain = subst IsPlain (sym e) p;
-      number = sym (ap (λ k. digits_text (natural_of (take (length ds) ds) + 1) ++ replicate k 48) z ∙ append-nil (digits_text (natural_of (take (length ds) ds) + 1)) ∙ ap (λ xs. digits_text (natural_of xs + 1)) e);
+      number = sym (ap (λ k. digits_text (natural_of (take (length ds) ds) + 1) ++ replicate k 48) z ∙ append-nil (digits_text (natural_of (take (length ds) ds) + 1))
+          ∙ ap (λ xs. digits_text (natural_of xs + 1)) e);
     }
 
 nine_parts : (ds : List ℕ) (end : ℕ) → 0 < end → Nines ds end → Parts (take (end - 1) ds) (get_or ds (end - 1) 0)
@@ -171,12 +175,14 @@ pub nines_step : (ds : List ℕ) (end : ℕ) → 0 < end → get_or ds (end - 1)
 nines_step ds end p e h =
     let q : Parts (take (end - 1) ds) (get_or ds (end - 1) 0) = nine_parts ds end p h in
     let n : natural_of (take end ds) + 1 ≡ (natural_of (take (end - 1) ds) + 1) * 10 + 0 = omega (arith, ap natural_of (last_of ds end p h.within), q.number, e) in
-    let t : digits_text (natural_of (take end ds) + 1) ≡ digits_text (natural_of (take (end - 1) ds) + 1) ++ 48 ∷ [] = ap digits_text n ∙ text_step (natural_of (take (end - 1) ds) + 1) 0 (omega arith) (omega arith) in
+    let t : digits_text (natural_of (take end ds) + 1) ≡ digits_text (natural_of (take (end - 1) ds) + 1) ++ 48 ∷ [] =
+    ap digits_text n ∙ text_step (natural_of (take (end - 1) ds) + 1) 0 (omega arith) (omega arith) in
     let l : length ds - (end - 1) ≡ suc (length ds - end) = omega (arith, h.within) in
     record {
       within = omega (arith, h.within);
       plain = q.plain;
-      number = h.number ∙ ap (λ xs. xs ++ replicate (length ds - end) 48) t ∙ append_assoc (digits_text (natural_of (take (end - 1) ds) + 1)) (48 ∷ []) (replicate (length ds - end) 48) ∙ ap (λ k. digits_text (natural_of (take (end - 1) ds) + 1) ++ replicate k 48) (sym l);
+      number = h.number ∙ ap (λ xs. xs ++ replicate (length ds - end) 48) t ∙ append_assoc (digits_text (natural_of (take (end - 1) ds) + 1)) (48 ∷ []) (replicate (length ds - end) 48)
+          ∙ ap (λ k. digits_text (natural_of (take (end - 1) ds) + 1) ++ replicate k 48) (sym l);
     }
 
 pub nines_stop : (ds : List ℕ) (end : ℕ) → Nines ds end → 0 < end → (get_or ds (end - 1) 0 ≡ 57 → ⊥) → get_or ds (end - 1) 0 < 57
@@ -186,14 +192,16 @@ pub raised_none : (ds : List ℕ) → length ds ≡ 0 → 49 ∷ [] ≡ digits_t
 raised_none [] h = sym (text_step 0 1 (omega arith) (omega arith) ∙ ap (λ xs. xs ++ 49 ∷ []) text_zero)
 raised_none (d ∷ ds) h = absurd (omega (arith, h))
 
-pub raised_some : (ds : List ℕ) → IsPlain ds → 0 < length ds → get_or ds (length ds - 1) 0 < 57 → take (length ds - 1) ds ++ (get_or ds (length ds - 1) 0 + 1) ∷ [] ≡ digits_text (natural_of ds + 1)
+pub raised_some : (ds : List ℕ) → IsPlain ds → 0 < length ds → get_or ds (length ds - 1) 0 < 57
+    → take (length ds - 1) ds ++ (get_or ds (length ds - 1) 0 + 1) ∷ [] ≡ digits_text (natural_of ds + 1)
 raised_some ds p s h =
     let n : Nines ds (length ds) = nines_begin ds p in
     let q : Parts (take (length ds - 1) ds) (get_or ds (length ds - 1) 0) = nine_parts ds (length ds) s n in
     let whole : ds ≡ take (length ds - 1) ds ++ get_or ds (length ds - 1) 0 ∷ [] = sym (take_all (length ds) ds (omega arith)) ∙ last_of ds (length ds) s (omega arith) in
     let e : natural_of ds + 1 ≡ natural_of (take (length ds - 1) ds) * 10 + (get_or ds (length ds - 1) 0 - 48 + 1) = omega (arith, ap natural_of whole, q.number) in
     let f : 48 + (get_or ds (length ds - 1) 0 - 48 + 1) ≡ get_or ds (length ds - 1) 0 + 1 = omega (arith, q.low) in
-    sym (ap digits_text e ∙ text_step (natural_of (take (length ds - 1) ds)) (get_or ds (length ds - 1) 0 - 48 + 1) (omega (arith, h, q.low)) (omega arith) ∙ ap (λ m. digits_text (natural_of (take (length ds - 1) ds)) ++ m ∷ []) f ∙ ap (λ xs. xs ++ (get_or ds (length ds - 1) 0 + 1) ∷ []) (sym q.plain.same))
+    sym (ap digits_text e ∙ text_step (natural_of (take (length ds - 1) ds)) (get_or ds (length ds - 1) 0 - 48 + 1) (omega (arith, h, q.low)) (omega arith)
+    ∙ ap (λ m. digits_text (natural_of (take (length ds - 1) ds)) ++ m ∷ []) f ∙ ap (λ xs. xs ++ (get_or ds (length ds - 1) 0 + 1) ∷ []) (sym q.plain.same))
 
 pub zeros_more : (n : ℕ) → replicate {A = ℕ} (n + 1) 48 ≡ replicate n 48 ++ 48 ∷ []
 zeros_more zero = refl
@@ -222,7 +230,8 @@ strip_done (c ∷ cs) h e =
     let some : 0 < c - 48 = omega arith in
     let f : 48 + (c - 48) ≡ c = omega arith in
     let g : 0 * 10 + (c - 48) ≡ c - 48 = omega arith in
-    let one : digits_text (c - 48) ≡ c ∷ [] = ap digits_text (sym g) ∙ text_step 0 (c - 48) (omega arith) (omega arith) ∙ ap (λ xs. xs ++ (48 + (c - 48)) ∷ []) text_zero ∙ ap (λ m. m ∷ []) f in
+    let one : digits_text (c - 48) ≡ c ∷ [] = ap digits_text (sym g) ∙ text_step 0 (c - 48) (omega arith) (omega arith) ∙ ap (λ xs. xs ++ (48 + (c - 48)) ∷ []) text_zero
+    ∙ ap (λ m. m ∷ []) f in
     record { same = sym (ap (λ m. digits_text (digits_after m cs)) g ∙ long_text (c - 48) cs some (right (is_digit c) (list_all is_digit cs) h) ∙ ap (λ xs. xs ++ cs) one) }
 
 pub record Stripped (ds : List ℕ) (at : ℕ) : Type 0 where
@@ -285,7 +294,8 @@ same_step a b x y h k = grind (arith, nat_tests)
 length_padded : (ds : List ℕ) (width : ℕ) → length ds ≤ width → length (padded width ds) ≡ width
 length_padded ds width h = let a = length_zeros (width - length ds) in omega (arith, length-append (replicate {A = ℕ} (width - length ds) 48) ds, a)
 
-natural_next : (ds : List ℕ) (width at c : ℕ) → at < width → length ds ≤ width → c ≡ get_or (padded width ds) at 0 → natural_of (take (at + 1) (padded width ds)) ≡ natural_of (take at (padded width ds)) * 10 + (c - 48)
+natural_next : (ds : List ℕ) (width at c : ℕ) → at < width → length ds ≤ width → c ≡ get_or (padded width ds) at 0
+    → natural_of (take (at + 1) (padded width ds)) ≡ natural_of (take at (padded width ds)) * 10 + (c - 48)
 natural_next ds width at c h l e =
     let n = length_padded ds width l in
     ap natural_of (take_more (padded width ds) at 0 (omega (arith, n, h)))
@@ -312,15 +322,18 @@ compared_step xs ys width at less same x y h l m e f d g c =
       within = omega arith;
       is_less = sym (ap (λ n. nat_lt n (natural_of (take (at + 1) (padded width ys)))) p ∙ ap (λ n. nat_lt (natural_of (take at (padded width xs)) * 10 + (x - 48)) n) q
           ∙ less_step (natural_of (take at (padded width xs))) (natural_of (take at (padded width ys))) (x - 48) (y - 48) (omega (arith, xb.0, xb.1)) (omega (arith, yb.0, yb.1))
-          ∙ ap (λ t. nat_lt (natural_of (take at (padded width xs))) (natural_of (take at (padded width ys))) || ((natural_of (take at (padded width xs)) == natural_of (take at (padded width ys))) && t)) (digit_less x y xb.0 yb.0)
-          ∙ ap (λ t. t || ((natural_of (take at (padded width xs)) == natural_of (take at (padded width ys))) && nat_lt x y)) (sym c.is_less) ∙ ap (λ t. less || (t && nat_lt x y)) (sym c.is_same));
+          ∙ ap (λ t. nat_lt (natural_of (take at (padded width xs))) (natural_of (take at (padded width ys)))
+          || ((natural_of (take at (padded width xs)) == natural_of (take at (padded width ys))) && t)) (digit_less x y xb.0 yb.0)
+          ∙ ap (λ t. t || ((natural_of (take at (padded width xs)) == natural_of (take at (padded width ys))) && nat_lt x y)) (sym c.is_less)
+          ∙ ap (λ t. less || (t && nat_lt x y)) (sym c.is_same));
       is_same = sym (ap (λ n. n == natural_of (take (at + 1) (padded width ys))) p ∙ ap (λ n. natural_of (take at (padded width xs)) * 10 + (x - 48) == n) q
           ∙ same_step (natural_of (take at (padded width xs))) (natural_of (take at (padded width ys))) (x - 48) (y - 48) (omega (arith, xb.0, xb.1)) (omega (arith, yb.0, yb.1))
           ∙ ap (λ t. (natural_of (take at (padded width xs)) == natural_of (take at (padded width ys))) && t) (digit_same x y xb.0 yb.0)
           ∙ ap (λ t. t && (x == y)) (sym c.is_same));
     }
 
-pub compared_end : (xs ys : List ℕ) (width at : ℕ) (less same : Bool) → width ≤ at → length xs ≤ width → length ys ≤ width → Compared xs ys width at less same → less ≡ nat_lt (natural_of xs) (natural_of ys)
+pub compared_end : (xs ys : List ℕ) (width at : ℕ) (less same : Bool) → width ≤ at → length xs ≤ width → length ys ≤ width → Compared xs ys width at less same
+    → less ≡ nat_lt (natural_of xs) (natural_of ys)
 compared_end xs ys width at less same h l m c =
     let a = length_padded xs width l in
     let b = length_padded ys width m in

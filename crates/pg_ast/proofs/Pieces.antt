@@ -1,5 +1,6 @@
 -- Texts that are made a piece at a time.
-use Rattle.std.proofs.Common.{◌≡◌, ℕ, zero, suc, ◌+◌, ◌-◌, ◌<◌, ◌≤◌, List, [], ◌∷◌, ◌++◌, length, take, drop, get_or, sym, ap, ◌∙◌, arith, append_assoc, append-nil, flat_map, map, OnOk, Result, Ok, Err}
+use Rattle.std.proofs.Common.{◌≡◌, ℕ, zero, suc, ◌+◌, ◌-◌, ◌<◌, ◌≤◌, List, [], ◌∷◌, ◌++◌, length, take, drop, get_or, sym, ap, ◌∙◌, arith}
+use Rattle.std.proofs.Common.{append_assoc, append-nil, flat_map, map, OnOk, Result, Ok, Err}
 use Rattle.std.proofs.lemmas.List.{take_all}
 
 pub four_written : (a b c d o0 o1 o2 o3 o4 : List ℕ) → o1 ≡ o0 ++ a → o2 ≡ o1 ++ b → o3 ≡ o2 ++ c → o4 ≡ o3 ++ d → o4 ≡ o0 ++ (a ++ (b ++ (c ++ d)))
@@ -15,12 +16,14 @@ on_ok (Err e) P Q f h = h
 pub two_written : (a b o0 o1 o2 : List ℕ) → o1 ≡ o0 ++ a → o2 ≡ o1 ++ b → o2 ≡ o0 ++ (a ++ b)
 two_written a b o0 o1 o2 e f = f ∙ ap (λ o. o ++ b) e ∙ append_assoc o0 a b
 
-mapped_more : {X Y : Type 0} (f : Y → List ℕ) (g : X → Y) (xs : List X) (i : ℕ) (x : X) → i < length xs → x ≡ get_or xs i x → flat_map f (map g (take (i + 1) xs)) ≡ flat_map f (map g (take i xs)) ++ f (g x)
+mapped_more : {X Y : Type 0} (f : Y → List ℕ) (g : X → Y) (xs : List X) (i : ℕ) (x : X) → i < length xs → x ≡ get_or xs i x
+    → flat_map f (map g (take (i + 1) xs)) ≡ flat_map f (map g (take i xs)) ++ f (g x)
 mapped_more f g [] i x h e = absurd (omega (arith, h))
 mapped_more f g (y ∷ ys) zero x h e = ap (λ z. f (g z) ++ []) (sym e) ∙ append-nil (f (g x))
 mapped_more f g (y ∷ ys) (suc i) x h e =
     let s : suc i + 1 ≡ suc (i + 1) = omega arith in
-    ap (λ n. flat_map f (map g (take n (y ∷ ys)))) s ∙ ap (λ t. f (g y) ++ t) (mapped_more f g ys i x (omega (arith, h)) e) ∙ sym (append_assoc (f (g y)) (flat_map f (map g (take i ys))) (f (g x)))
+    ap (λ n. flat_map f (map g (take n (y ∷ ys)))) s ∙ ap (λ t. f (g y) ++ t) (mapped_more f g ys i x (omega (arith, h)) e)
+    ∙ sym (append_assoc (f (g y)) (flat_map f (map g (take i ys))) (f (g x)))
 
 -- the texts of one more, and of all
 pub each_written : {X Y : Type 0} (f : Y → List ℕ) (g : X → Y) (xs : List X) (i : ℕ) (x : X) (old out more : List ℕ) → i < length xs → x ≡ get_or xs i x
@@ -48,10 +51,12 @@ joined_written v f g F law [] x i o0 o1 o2 h e l a b = absurd (omega (arith, h))
 joined_written v f g F law (y ∷ ys) x i o0 o1 o2 h e l a b =
     let all : take i (behind_first (y ∷ ys)) ≡ ys = take_all i (behind_first (y ∷ ys)) l ∙ behind_cons y ys in
     let q : o1 ≡ o0 ++ f (v y) = a ∙ ap (λ z. o0 ++ f (v z)) e in
-    b ∙ ap (λ zs. o1 ++ flat_map g (map v zs)) all ∙ ap (λ o. o ++ flat_map g (map v ys)) q ∙ append_assoc o0 (f (v y)) (flat_map g (map v ys)) ∙ ap (λ o. o0 ++ o) (sym (law (v y) (map v ys)))
+    b ∙ ap (λ zs. o1 ++ flat_map g (map v zs)) all ∙ ap (λ o. o ++ flat_map g (map v ys)) q ∙ append_assoc o0 (f (v y)) (flat_map g (map v ys))
+    ∙ ap (λ o. o0 ++ o) (sym (law (v y) (map v ys)))
 
 -- an opening, the first, the others and a closing
-pub row_written : {X Y : Type 0} (v : X → Y) (f g : Y → List ℕ) (left right : List ℕ) (F : List Y → List ℕ) → ((y : Y) (ys : List Y) → F (y ∷ ys) ≡ left ++ (f y ++ (flat_map g ys ++ right)))
+pub row_written : {X Y : Type 0} (v : X → Y) (f g : Y → List ℕ) (left right : List ℕ) (F : List Y → List ℕ)
+    → ((y : Y) (ys : List Y) → F (y ∷ ys) ≡ left ++ (f y ++ (flat_map g ys ++ right)))
     → (xs : List X) (x : X) (i : ℕ) (o0 o1 o2 o3 o4 : List ℕ) → 0 < length xs → x ≡ get_or xs 0 x → length (behind_first xs) ≤ i
     → o1 ≡ o0 ++ left → o2 ≡ o1 ++ f (v x) → o3 ≡ o2 ++ flat_map g (map v (take i (behind_first xs))) → o4 ≡ o3 ++ right → o4 ≡ o0 ++ F (map v xs)
 row_written v f g left right F law [] x i o0 o1 o2 o3 o4 h e l a b c d = absurd (omega (arith, h))

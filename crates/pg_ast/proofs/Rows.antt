@@ -3,7 +3,8 @@ use Rattle.std.proofs.Common.{◌≡◌, ◌<◌, arith, length, List, [], ◌�
 use Rattle.pg_ast.specs.Syntax.{Ty, tys, Typed, Val, vals, GepVal, TypedC, consts}
 use Rattle.pg_lex.specs.declared.token.Span.{Span}
 use Rattle.pg_ast.specs.declared.values.TypedConst.{TypedConst}
-use Rattle.pg_ast.specs.Text.{type_text, fields_text, more_fields_text, val_text, more_vals_text, typed_text, more_typed_text, gep_head, const_text, consts_text, more_consts_text, typed_const_text, more_const_text, padding_text}
+use Rattle.pg_ast.specs.Text.{type_text, fields_text, more_fields_text, val_text, more_vals_text, typed_text, more_typed_text, gep_head, const_text, consts_text, more_consts_text}
+use Rattle.pg_ast.specs.Text.{typed_const_text, more_const_text, padding_text}
 use Rattle.pg_ast.specs.Views.{typed_const_of}
 
 more_fields_are : (ts : List Ty) → more_fields_text (tys ts) ≡ flat_map (λ t. codes ", " ++ type_text t) ts

@@ -4,7 +4,7 @@ use Rattle.pg_lex.specs.declared.token.Span.{Span}
 use Rattle.pg_ast.specs.declared.names.Name.{Name}
 use Rattle.pg_ast.specs.declared.names.Literal.{Literal}
 use Rattle.pg_ast.specs.declared.ops.BinaryOp.{BinaryOp}
-use Rattle.pg_ast.specs.declared.ops.Predicate.{Predicate}
+use Rattle.pg_num.specs.declared.operations.Compare.{Compare}
 use Rattle.pg_ast.specs.declared.ops.CastOp.{CastOp}
 
 mutual
@@ -93,7 +93,7 @@ pub record Count : Type 0 where
 
 pub data Op : Type 0 where
   Binary : Span → BinaryOp → Ty → Val → Val → Op
-  Icmp : Span → Predicate → Ty → Val → Val → Op
+  Icmp : Span → Compare → Ty → Val → Val → Op
   Cast : Span → CastOp → Typed → Ty → Op
   Select : Span → Typed → Typed → Typed → Op
   Phi : Span → Ty → Incoming → List Incoming → Op

@@ -7,8 +7,8 @@ use Rattle.pg_ast.specs.declared.names.Name.{Name}
 use Rattle.pg_ast.specs.declared.names.Literal.{Literal}
 use Rattle.pg_ast.specs.declared.ops.BinaryOp.{BinaryOp}
 use Rattle.pg_ast.specs.declared.ops.BinaryOp.TheVariants.{Add, Sub, Mul, Udiv, Sdiv, Urem, Srem, Shl, Lshr, Ashr, And, Or, Xor}
-use Rattle.pg_ast.specs.declared.ops.Predicate.{Predicate}
-use Rattle.pg_ast.specs.declared.ops.Predicate.TheVariants.{Eq, Ne, Ugt, Uge, Ult, Ule, Sgt, Sge, Slt, Sle}
+use Rattle.pg_num.specs.declared.operations.Compare.{Compare}
+use Rattle.pg_num.specs.declared.operations.Compare.TheVariants.{Eq, Ne, Ugt, Uge, Ult, Ule, Sgt, Sge, Slt, Sle}
 use Rattle.pg_ast.specs.declared.ops.CastOp.{CastOp}
 use Rattle.pg_ast.specs.declared.ops.CastOp.TheVariants.{Trunc, Zext, Sext, PtrToInt, IntToPtr}
 use Rattle.pg_ast.specs.Syntax.{Ty, Tys, I1, I8, I16, I32, I64, Ptr, Void, Array, Struct, Named, NoTys, MoreTys, Val}
@@ -154,7 +154,7 @@ binary_word And = codes "and"
 binary_word Or = codes "or"
 binary_word Xor = codes "xor"
 
-abbrev pub predicate_word : Predicate → List ℕ
+abbrev pub predicate_word : Compare → List ℕ
 predicate_word Eq = codes "eq"
 predicate_word Ne = codes "ne"
 predicate_word Ugt = codes "ugt"

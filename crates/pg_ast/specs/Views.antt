@@ -2,7 +2,8 @@
 use Rattle.std.specs.Prelude.{map}
 use Rattle.std.specs.Option.{option_map}
 use Rattle.pg_ast.specs.Syntax as syntax
-use Rattle.pg_ast.specs.Syntax.{Ty, Val, Typed, Const, TypedC, tys, vals, consts, Op, Line, Block, Param, Dparam, NamedType, Variable, Declaration, Definition, Tree, Incoming, Case, Written, Count}
+use Rattle.pg_ast.specs.Syntax.{Ty, Val, Typed, Const, TypedC, tys, vals, consts, Op, Line, Block, Param, Dparam, NamedType, Variable, Declaration, Definition, Tree, Incoming, Case}
+use Rattle.pg_ast.specs.Syntax.{Written, Count}
 use Rattle.pg_ast.specs.declared.types.TypeNode.{TypeNode}
 use Rattle.pg_ast.specs.declared.types.TypeNode.TheOpen.{TypeNode-F, I1, I8, I16, I32, I64, Ptr, Void, Array, Struct, Named}
 use Rattle.pg_ast.specs.declared.types.TypeNode.TheFolds.{fold-TypeNode}

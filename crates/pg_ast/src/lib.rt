@@ -13,9 +13,7 @@ pub use nodes::{
     BlockNode, DeclareItem, DefineItem, DparamNode, GlobalItem, LineNode, Module, ParamNode,
     TypeItem,
 };
-pub use ops::{
-    ArgNode, BinaryOp, CallTypes, CaseNode, CastOp, CountNode, IncomingNode, OpNode, Predicate,
-};
+pub use ops::{ArgNode, BinaryOp, CallTypes, CaseNode, CastOp, CountNode, IncomingNode, OpNode};
 pub use print::{NextNumber, has_result, print_module};
 pub use types::TypeNode;
 pub use values::{ConstNode, TypedConst, TypedVal, ValNode};

@@ -3,6 +3,7 @@
 use crate::names::{Literal, Name};
 use crate::types::TypeNode;
 use crate::values::{TypedVal, ValNode};
+use pg_num::Compare;
 use pg_lex::Span;
 
 /// An operation on two integers.
@@ -21,21 +22,6 @@ pub enum BinaryOp {
     And,
     Or,
     Xor,
-}
-
-/// A comparison of two integers or pointers.
-#[derive(Clone, Copy, Debug, PartialEq, Eq)]
-pub enum Predicate {
-    Eq,
-    Ne,
-    Ugt,
-    Uge,
-    Ult,
-    Ule,
-    Sgt,
-    Sge,
-    Slt,
-    Sle,
 }
 
 /// A conversion to another type.
@@ -91,7 +77,7 @@ pub enum OpNode {
     },
     Icmp {
         span: Span,
-        predicate: Predicate,
+        predicate: Compare,
         ty: TypeNode,
         left: ValNode,
         right: ValNode,

@@ -20,7 +20,8 @@ use Rattle.pg_closed.specs.Shadows.{is_within}
 use Rattle.pg_closed.specs.Known.{Reference, RunShadow, Taken}
 use Rattle.pg_reference.specs.declared.run.ReferenceRun.{ReferenceRun}
 use Rattle.pg_demands.specs.Cells.{Demand, IsMet}
-use Rattle.pg_demands.specs.Back.{Asked, back_access, back_byte, back_other, back_store, back_top, byte_demand, caller_count, if_plain, if_set, is_target, of_bytes, of_value, only, register_count, register_demand}
+use Rattle.pg_demands.specs.Back.{Asked, back_access, back_byte, back_other, back_store, back_top, byte_demand, caller_count, if_plain, if_set, is_target, of_bytes, of_value, only}
+use Rattle.pg_demands.specs.Back.{register_count, register_demand}
 use Rattle.pg_demands.proofs.Steps.{Asks}
 use Rattle.pg_backward.specs.declared.registers.Counts.{Counts}
 use Rattle.pg_backward.specs.Edges.{held_by}
@@ -73,17 +74,7 @@ plain_fixed e s n true qs f h = absurd (true≢false f)
 
 module _ (R : Reference) (e : Taken) (p : NumberedProgram) (r : ReferenceRun) (x : Instr) (step : Step) (counts : Counts) (n : ℕ) (m : Moment) (st : IsLiveStep R e p r x step counts n m)
     (a : Access) (kind : m.did.did.kind ≡ kinds.Access a) where
-  abbrev s : RunShadow
-  s = live.s R e p r x step counts n m st
-
-  abbrev after : RunShadow
-  after = live.after R e p r x step counts n m st
-
-  abbrev t : ℕ
-  t = live.t R e p r x step counts n m st
-
-  abbrev k : ℕ
-  k = live.k R e p r x step counts n m st
+  open live.standing R e p r x step counts n m st use {s, after, t, k}
 
   top_access : (i : ℕ) (w : Bool) → Asks e s (back_top R.program t k n m (live.region R e p r x step counts n m st) x i w m.did.did.kind) → Asks e s (back_access t k n a x i w x.op)
   top_access i w h = subst (λ (c : StepKind). Asks e s (back_top R.program t k n m (live.region R e p r x step counts n m st) x i w c)) kind h

@@ -13,7 +13,8 @@ use Rattle.pg_least.specs.Keeps.{depth_of}
 use Rattle.pg_demands.specs.Cells.{IsMet}
 use Rattle.pg_demands.specs.Back.{of_operand}
 use Rattle.pg_demands.specs.Demands.{checked_demands, operand_demands}
-use Rattle.pg_backward.specs.Arguments.{is_start, numbers_to}
+use Rattle.pg_backward.specs.Arguments.{is_start}
+use Rattle.pg_needs.specs.Steps.{below}
 
 get_more : {A : Type 0} (xs ys : List A) (i : ℕ) (x : A) → slice_get xs i ≡ Some x → slice_get (xs ++ ys) i ≡ Some x
 get_more [] ys i x h = absurd cc
@@ -30,21 +31,21 @@ long_push : (xs : List ℕ) (x : ℕ) → length (xs ++ x ∷ []) ≡ suc (lengt
 long_push [] x = refl
 long_push (y ∷ xs) x = ap suc (long_push xs x)
 
-numbers_long : (n : ℕ) → length (numbers_to n) ≡ n
+numbers_long : (n : ℕ) → length (below n) ≡ n
 numbers_long zero = refl
-numbers_long (suc n) = long_push (numbers_to n) n ∙ ap suc (numbers_long n)
+numbers_long (suc n) = long_push (below n) n ∙ ap suc (numbers_long n)
 
-number_at : (n i : ℕ) → i < n → slice_get (numbers_to n) i ≡ Some i
+number_at : (n i : ℕ) → i < n → slice_get (below n) i ≡ Some i
 number_at zero i l = absurd (omega (arith, l))
 number_at (suc n) i l = go (cases_lt i n) (λ g. number_at n i g)
   where
-    go : (i < n) ⊎ (n ≤ i) → (i < n → slice_get (numbers_to n) i ≡ Some i) → slice_get (numbers_to n ++ n ∷ []) i ≡ Some i
-    go (inl g) more = get_more (numbers_to n) (n ∷ []) i i (more g)
+    go : (i < n) ⊎ (n ≤ i) → (i < n → slice_get (below n) i ≡ Some i) → slice_get (below n ++ n ∷ []) i ≡ Some i
+    go (inl g) more = get_more (below n) (n ∷ []) i i (more g)
     go (inr g) more =
         let z : n ≡ i = omega (arith, l, g) in
-        subst (λ (k : ℕ). slice_get (numbers_to n ++ n ∷ []) i ≡ Some k) z (get_last (numbers_to n) i n (numbers_long n ∙ z))
+        subst (λ (k : ℕ). slice_get (below n ++ n ∷ []) i ≡ Some k) z (get_last (below n) i n (numbers_long n ∙ z))
 
-pub number_in : (xs : List ℕ) (n i : ℕ) → xs ≡ numbers_to n → i < n → slice_get xs i ≡ Some i
+pub number_in : (xs : List ℕ) (n i : ℕ) → xs ≡ below n → i < n → slice_get xs i ≡ Some i
 number_in xs n i e l = ap (λ (zs : List ℕ). slice_get zs i) e ∙ number_at n i l
 
 pub operand_there : (s : RunShadow) (y : Seen) (x : Instr) (t k : ℕ) (whole : Bool) (i : ℕ) → thread_in y.moment ≡ t

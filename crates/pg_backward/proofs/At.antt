@@ -1,30 +1,31 @@
 -- A step of a run, by its number: what is known before it under all decisions and under some.
-use Rattle.std.proofs.Common.{◌≡◌, ℕ, zero, suc, ◌+◌, ◌<◌, ◌≤◌, Bool, List, [], ◌∷◌, length, take, Some, None, refl, subst, arith}
+use Rattle.std.proofs.Common.{◌≡◌, ℕ, zero, suc, ◌+◌, ◌<◌, ◌≤◌, List, [], ◌∷◌, length, take, Some, None, refl, subst, arith}
 use Rattle.std.specs.Prelude.{Contains, slice_get}
-use Rattle.pg_closed.specs.Moments.{Moment, instr_in, thread_in}
+use Rattle.pg_closed.specs.Moments.{Moment, thread_in}
 use Rattle.pg_closed.specs.Extents.{is_live}
-use Rattle.pg_closed.specs.Known.{Reference, RunShadow, Seen, Taken, after_step, region_of, seen_from, seen_in, start_of, thread_of}
+use Rattle.pg_closed.specs.Known.{Reference, RunShadow, Seen, Taken, after_step, seen_from, seen_in, start_of, thread_of}
 use Rattle.pg_least.specs.Keeps.{ExtentsKeep, every, steps_of}
-use Rattle.pg_least.proofs.Zips.{here, there}
+use Rattle.pg_paths.proofs.Elements.{here, there}
 use Rattle.pg_least.proofs.Links.{IsLink}
 use Rattle.pg_least.proofs.Likes.{Likes, likes_link}
 use Rattle.pg_least.proofs.Closes.{in_every}
-use Rattle.pg_least.proofs.Runs.{start_like, step_like}
+use Rattle.pg_least.proofs.Alike.{start_like}
+use Rattle.pg_least.proofs.Runs.{step_like}
 use Rattle.pg_demands.specs.Along.{known_at, known_from}
-use Rattle.pg_demands.proofs.Back.{IsRun}
-
--- step n, with what is known before it
-abbrev pub seen_with : Reference → ℕ → Moment → Bool → RunShadow → Seen
-seen_with R n m live s = record { number = n; moment = m; region = region_of R.program R.regions m (instr_in R.program m); live = live; before = s }
-
-abbrev pub of_every : Reference → ℕ → Moment → RunShadow → Seen
-of_every R n m u = seen_with R n m (is_live every.pinned (thread_of u (thread_in m)).extents) u
+use Rattle.pg_demands.proofs.Back.{IsRun, of_every, seen_with}
 
 abbrev pub of_those : Reference → Taken → ℕ → Moment → RunShadow → Seen
 of_those R e n m s = seen_with R n m (is_live e.pinned (thread_of s (thread_in m)).extents) s
 
 pub the_link : (e : Taken) (bound : ℕ) → IsLink e every bound (Likes every)
 the_link e bound = likes_link e every bound (λ x h. in_every x)
+
+-- what is known before a step and behind it, its thread, and how many calls this is in
+pub record Standing : Type 0 where
+  pub s : RunShadow
+  pub after : RunShadow
+  pub t : ℕ
+  pub k : ℕ
 
 pub record At (R : Reference) (keeps : ExtentsKeep R) (e : Taken) (bound n : ℕ) (m : Moment) (s u : RunShadow) : Type 0 where
   pub like : IsRun R keeps e bound (Likes every) (the_link e bound) s u

@@ -1,5 +1,6 @@
 -- How many registers the calls of a run's steps have, kept along the run.
-use Rattle.std.proofs.Common.{◌≡◌, ℕ, ℤ, zero, suc, ◌+◌, ◌<◌, ◌≤◌, List, [], ◌∷◌, ◌++◌, length, Option, Some, refl, sym, ap, ◌∙◌, subst, inl, inr, ◌⊎◌, arith}
+use Rattle.std.proofs.Common.{◌≡◌, ℕ, ℤ, zero, suc, ◌+◌, ◌<◌, ◌≤◌, List, [], ◌∷◌, ◌++◌, length, Option, Some, refl, sym, ap, ◌∙◌, subst, inl, inr}
+use Rattle.std.proofs.Common.{◌⊎◌, arith}
 use Rattle.std.specs.Prelude.{IfSome, slice_get, slice_index_or}
 use Rattle.std.proofs.lemmas.Bool.{cases_lt}
 use Rattle.pg_ir.specs.declared.ids.InstrId.{InstrId}
@@ -16,7 +17,8 @@ use Rattle.pg_slice.proofs.Passing.{has_moment}
 use Rattle.pg_demands.specs.Along.{known_at, known_from}
 use Rattle.pg_backward.specs.declared.registers.Counts.{Counts}
 use Rattle.pg_backward.specs.Counted.{AreCounted, AreCountedTo, IsCounted}
-use Rattle.pg_backward.proofs.At.{at_step, next_step, of_every}
+use Rattle.pg_demands.proofs.Back.{of_every}
+use Rattle.pg_backward.proofs.At.{at_step, next_step}
 
 an_interval : Interval
 an_interval = record { low = 0; high = 0 }

@@ -18,7 +18,7 @@ use Rattle.pg_trace.specs.Steps.{range_of}
 use Rattle.pg_closed.specs.declared.decision.Decision.{Decision}
 use Rattle.pg_closed.specs.declared.decision.Decision.TheVariants.{Pinned}
 use Rattle.pg_closed.specs.Closed.{AreWithin}
-use Rattle.pg_closed.specs.Moments.{Moment, instr_in, thread_in}
+use Rattle.pg_closed.specs.Moments.{Moment, instr_in}
 use Rattle.pg_closed.specs.Freeable.{FreeRegion, frame_of}
 use Rattle.pg_closed.specs.Shadows.{is_within}
 use Rattle.pg_closed.specs.Extents.{edge_in}
@@ -34,7 +34,7 @@ use Rattle.pg_slice.specs.Given.{is_op}
 use Rattle.pg_demands.specs.Cells.{IsMet}
 use Rattle.pg_demands.specs.Back.{back_branch, back_edge, back_freed, back_op, byte_demand, fixing, is_target, of_bytes, of_operand, of_optional, of_value, only, register_demand}
 use Rattle.pg_demands.specs.Demands.{instr_demands, kind_demands, region_demands, step_pins}
-use Rattle.pg_demands.proofs.Back.{live_before}
+use Rattle.pg_demands.proofs.Back.{live_before, seen_with}
 use Rattle.pg_demands.proofs.Own.{pins_own, step_own}
 use Rattle.pg_demands.proofs.Steps.{Asks}
 use Rattle.pg_demands.proofs.Walk.{Closes, closes}
@@ -50,7 +50,7 @@ use Rattle.pg_backward.specs.Met.{AreMet}
 use Rattle.pg_backward.specs.Owed.{IsPinDue}
 use Rattle.pg_backward.specs.Sets.{AsksRegion}
 use Rattle.pg_backward.specs.Steps.{IsCallOf, IsLiveStep}
-use Rattle.pg_backward.proofs.At.{of_those, seen_with, the_link}
+use Rattle.pg_backward.proofs.At.{of_those, the_link}
 use Rattle.pg_backward.proofs.Stands as live
 use Rattle.pg_backward.proofs.Accesses.{access_leaves, load_leaves, load_moves, store_fixes, store_leaves, store_moves}
 use Rattle.pg_backward.proofs.Happenings.{event_leaves, print_moves, thread_leaves}
@@ -64,17 +64,7 @@ if_some : {A : Type 0} (P : A → Type 0) (o : Option A) (x : A) → o ≡ Some 
 if_some {A = A} P o x q h = subst (λ (o : Option A). IfSome o P) q h
 
 module _ (R : Reference) (e : Taken) (p : NumberedProgram) (r : ReferenceRun) (x : Instr) (step : Step) (counts : Counts) (n : ℕ) (m : Moment) (st : IsLiveStep R e p r x step counts n m) where
-  abbrev s : RunShadow
-  s = live.s R e p r x step counts n m st
-
-  abbrev after : RunShadow
-  after = live.after R e p r x step counts n m st
-
-  abbrev t : ℕ
-  t = thread_in m
-
-  abbrev k : ℕ
-  k = length m.calls
+  open live.standing R e p r x step counts n m st use {s, after, t, k}
 
   abbrev region : Option FreeRegion
   region = live.region R e p r x step counts n m st

@@ -9,7 +9,7 @@ use Rattle.pg_closed.specs.Known.{RunShadow}
 use Rattle.pg_demands.specs.Cells.{IsMet}
 use Rattle.pg_ir.specs.Program.{NumberedProgram}
 use Rattle.pg_least.specs.Keeps.{MaySet}
-use Rattle.pg_least.proofs.Zips.{here, there}
+use Rattle.pg_paths.proofs.Elements.{here, there}
 use Rattle.pg_demands.specs.Back.{back_edge, back_phi, is_target, last_phi, of_optional, this_phi}
 use Rattle.pg_demanded.specs.declared.demanded.Demanded.{Demanded}
 use Rattle.pg_backward.specs.Edges.{phis_set}

@@ -15,10 +15,11 @@ use Rattle.pg_trace.specs.declared.step.Write.{Write}
 use Rattle.pg_trace.specs.Steps.{range_of, write_by}
 use Rattle.pg_closed.specs.Moments.{Moment}
 use Rattle.pg_closed.specs.Shadows.{is_within}
-use Rattle.pg_closed.specs.Known.{Reference, RunShadow, Taken, function_in}
+use Rattle.pg_closed.specs.Known.{Reference, Taken, function_in}
 use Rattle.pg_reference.specs.declared.run.ReferenceRun.{ReferenceRun}
 use Rattle.pg_demands.specs.Cells.{IsMet, Word}
-use Rattle.pg_demands.specs.Back.{back_byte, back_event, back_other, back_other_event, back_start, back_top, back_write, back_written, byte_demand, caller_count, is_target, of_operand, only, register_demand}
+use Rattle.pg_demands.specs.Back.{back_byte, back_event, back_other, back_other_event, back_start, back_top, back_write, back_written, byte_demand, caller_count, is_target, of_operand, only}
+use Rattle.pg_demands.specs.Back.{register_demand}
 use Rattle.pg_demands.proofs.Steps.{Asks}
 use Rattle.pg_backward.specs.declared.registers.Counts.{Counts}
 use Rattle.pg_backward.specs.Arguments.{is_putchar}
@@ -30,17 +31,7 @@ use Rattle.pg_backward.proofs.Stands as live
 use Rattle.pg_backward.proofs.Accesses.{held_is, set_asks, target_is, unset_first}
 
 module _ (R : Reference) (e : Taken) (p : NumberedProgram) (r : ReferenceRun) (x : Instr) (step : Step) (counts : Counts) (n : ℕ) (m : Moment) (st : IsLiveStep R e p r x step counts n m) where
-  abbrev s : RunShadow
-  s = live.s R e p r x step counts n m st
-
-  abbrev after : RunShadow
-  after = live.after R e p r x step counts n m st
-
-  abbrev t : ℕ
-  t = live.t R e p r x step counts n m st
-
-  abbrev k : ℕ
-  k = live.k R e p r x step counts n m st
+  open live.standing R e p r x step counts n m st use {s, after, t, k}
 
   -- what lies in other threads' calls alone
   pub thread_leaves : (writes : ℕ → Bool) → ((b : ℕ) → writes b ≡ false → IsMet after (byte_demand b true) → IsMet s (byte_demand b true)) → (sets : ℕ → Bool) →

@@ -20,7 +20,8 @@ use Rattle.pg_closed.specs.Moments.{Moment}
 use Rattle.pg_closed.specs.Freeable.{FreeRegion}
 use Rattle.pg_closed.specs.Shadows.{Shadow, shadow_of, unset}
 use Rattle.pg_closed.specs.Extents.{edge_in}
-use Rattle.pg_closed.specs.Known.{RunShadow, Taken, after_access, after_branch, after_event, after_known, after_op, along_edge, caller_target, entered, forgotten_from, result_in, set_phis, set_shadow, started, top_of, under_top, with_top}
+use Rattle.pg_closed.specs.Known.{RunShadow, Taken, after_access, after_branch, after_event, after_known, after_op, along_edge, caller_target, entered, forgotten_from, result_in, set_phis}
+use Rattle.pg_closed.specs.Known.{set_shadow, started, top_of, under_top, with_top}
 use Rattle.pg_least.proofs.Live.{calls_by}
 use Rattle.pg_demands.proofs.Values.{length_set}
 use Rattle.pg_backward.specs.Lens.{lens_by_event, lens_by_kind, lens_by_op, lens_of, rest_of}

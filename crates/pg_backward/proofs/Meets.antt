@@ -1,5 +1,6 @@
 -- What has to be known, from behind a step to before it.
-use Rattle.std.proofs.Common.{◌≡◌, ℕ, ◌+◌, ◌<◌, zero, suc, Bool, true, Some, List, [], ◌∷◌, ◌++◌, refl, sym, ◌∙◌, subst, inl, inr, ◌⊎◌, ◌≤◌, false, arith, leb-true, ltb-true}
+use Rattle.std.proofs.Common.{◌≡◌, ℕ, ◌+◌, ◌<◌, zero, suc, Bool, true, Some, List, [], ◌∷◌, ◌++◌, refl, sym, ◌∙◌, subst, inl, inr, ◌⊎◌, ◌≤◌}
+use Rattle.std.proofs.Common.{false, arith, leb-true, ltb-true}
 use Rattle.std.specs.Prelude.{nat_le, nat_lt, slice_get}
 use Rattle.std.proofs.lemmas.Bool.{and_parts, true≢false, le-leb, lt-ltb}
 use Rattle.std.specs.List.{AllByRecursion}

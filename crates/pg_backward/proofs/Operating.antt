@@ -1,5 +1,6 @@
 -- A live step that is neither an access nor an event.
-use Rattle.std.proofs.Common.{◌≡◌, ℕ, zero, suc, ◌-◌, ◌<◌, ◌≤◌, ◌==◌, Bool, true, false, List, [], ◌∷◌, Option, Some, None, refl, sym, ap, ◌∙◌, subst, inl, inr, ◌⊎◌, arith, ltb-true, ltb-false}
+use Rattle.std.proofs.Common.{◌≡◌, ℕ, zero, suc, ◌-◌, ◌<◌, ◌≤◌, ◌==◌, Bool, true, false, List, [], ◌∷◌, Option, Some, None, refl, sym, ap, ◌∙◌, subst}
+use Rattle.std.proofs.Common.{inl, inr, ◌⊎◌, arith, ltb-true, ltb-false}
 use Rattle.std.specs.Prelude.{nat_lt, slice_get, if◌then◌else◌}
 use Rattle.std.specs.List.{AllByRecursion}
 use Rattle.std.proofs.lemmas.Bool.{true≢false, eqb-true, eq-eqb, cases_lt, lt-ltb}
@@ -18,12 +19,13 @@ use Rattle.pg_closed.specs.declared.decision.Decision.TheVariants.{Pinned}
 use Rattle.pg_closed.specs.Moments.{Moment, instr_in}
 use Rattle.pg_closed.specs.Freeable.{FreeRegion}
 use Rattle.pg_closed.specs.Extents.{edge_by, edge_in}
-use Rattle.pg_closed.specs.Known.{Reference, RunShadow, Taken, caller_target, edge_of}
+use Rattle.pg_closed.specs.Known.{Reference, Taken, caller_target, edge_of}
 use Rattle.pg_least.specs.Keeps.{MaySetPhis, may_write}
 use Rattle.pg_reference.specs.declared.run.ReferenceRun.{ReferenceRun}
 use Rattle.pg_slice.specs.Given.{is_op}
 use Rattle.pg_demands.specs.Cells.{Demand, IsMet}
-use Rattle.pg_demands.specs.Back.{back_branch, back_byte, back_edge, back_freed, back_known, back_moved, back_op, back_other, back_other_op, back_phi, back_return, back_top, byte_demand, caller_count, fixing, if_set, is_target, of_operand, of_optional, of_value, only, register_count, register_demand}
+use Rattle.pg_demands.specs.Back.{back_branch, back_byte, back_edge, back_freed, back_known, back_moved, back_op, back_other, back_other_op, back_phi, back_return, back_top, byte_demand}
+use Rattle.pg_demands.specs.Back.{caller_count, fixing, if_set, is_target, of_operand, of_optional, of_value, only, register_count, register_demand}
 use Rattle.pg_demands.proofs.Steps.{Asks, eq_false}
 use Rattle.pg_backward.specs.declared.registers.Counts.{Counts}
 use Rattle.pg_backward.specs.Edges.{edge_sets, held_by, sets_result, takes_edge}
@@ -42,17 +44,7 @@ edge_same p t k from (Some to) i w f = ap (λ (o : Option Instr). back_phi t k f
 
 module _ (R : Reference) (e : Taken) (p : NumberedProgram) (r : ReferenceRun) (x : Instr) (step : Step) (counts : Counts) (n : ℕ) (m : Moment) (st : IsLiveStep R e p r x step counts n m)
     (kind : is_op m.did.did.kind ≡ true) where
-  abbrev s : RunShadow
-  s = live.s R e p r x step counts n m st
-
-  abbrev after : RunShadow
-  after = live.after R e p r x step counts n m st
-
-  abbrev t : ℕ
-  t = live.t R e p r x step counts n m st
-
-  abbrev k : ℕ
-  k = live.k R e p r x step counts n m st
+  open live.standing R e p r x step counts n m st use {s, after, t, k}
 
   abbrev region : Option FreeRegion
   region = live.region R e p r x step counts n m st

@@ -1,5 +1,6 @@
 -- What the accesses of a region may write.
-use Rattle.std.proofs.Common.{◌≡◌, ◌<◌, ◌≤◌, ◌+◌, ◌⊎◌, inl, inr, ℕ, zero, suc, Bool, true, false, List, [], ◌∷◌, length, Option, Some, None, refl, sym, ap, ◌∙◌, subst, arith}
+use Rattle.std.proofs.Common.{◌≡◌, ◌<◌, ◌≤◌, ◌+◌, ◌⊎◌, inl, inr, ℕ, zero, suc, Bool, true, false, List, [], ◌∷◌, length, Option, Some, None, refl, sym, ap}
+use Rattle.std.proofs.Common.{◌∙◌, subst, arith}
 use Rattle.std.specs.Prelude.{◌&&◌, ◌||◌, slice_get, option_map, IfSome}
 use Rattle.std.proofs.lemmas.Bool.{cases_lt}
 use Rattle.pg_closed.specs.Freeable.{FreeAccess, FreeRegion, frame_of}
@@ -131,7 +132,8 @@ pub silent : (o : Option Landmark) (w : Demanded) (result : Bool) → IfSome o (
 silent None w result h = tt
 silent (Some l) w result h = go l.region h
   where
-    go : (o : Option FreeRegion) → IfSome o (λ (q : FreeRegion). AsksByte (may_write q.accesses) w → ⊥) → IfSome o (λ (q : FreeRegion). result ≡ false → AsksByte (may_write q.accesses) w → ⊥)
+    go : (o : Option FreeRegion) → IfSome o (λ (q : FreeRegion). AsksByte (may_write q.accesses) w → ⊥)
+        → IfSome o (λ (q : FreeRegion). result ≡ false → AsksByte (may_write q.accesses) w → ⊥)
     go None h = tt
     go (Some q) h = λ e. h
 

@@ -1,7 +1,7 @@
 -- A live step under closed decisions: from what is known behind it to what is known before it.
-use Rattle.std.proofs.Common.{◌≡◌, ℕ, suc, ◌+◌, ◌<◌, ◌≤◌, ◌==◌, Bool, true, false, List, [], ◌∷◌, length, Option, refl, sym, ◌∙◌, subst, inl, inr, ◌⊎◌, arith, ltb-true, ltb-false}
+use Rattle.std.proofs.Common.{◌≡◌, ℕ, suc, ◌+◌, ◌<◌, ◌≤◌, ◌==◌, Bool, true, false, List, [], ◌∷◌, length, Option, refl, sym, ◌∙◌, subst, inl, inr}
+use Rattle.std.proofs.Common.{◌⊎◌, arith, ltb-true, ltb-false}
 use Rattle.std.specs.Prelude.{not, nat_lt, slice_index_or, if◌then◌else◌}
-use Rattle.std.specs.List.{AllZip}
 use Rattle.std.proofs.lemmas.Bool.{true≢false, eqb-true, eq-eqb, cases_lt, lt-ltb}
 use Rattle.pg_ir.specs.declared.instr.Instr.{Instr}
 use Rattle.pg_ir.specs.Program.{NumberedProgram}
@@ -19,21 +19,12 @@ use Rattle.pg_reference.specs.declared.run.ReferenceRun.{ReferenceRun}
 use Rattle.pg_demands.specs.Along.{known_at}
 use Rattle.pg_demands.specs.Cells.{Demand, IsMet, call_at, is_met}
 use Rattle.pg_demands.specs.Back.{Asked, back, back_byte, back_cell, back_other, back_top, byte_demand, caller_count, only, register_count, register_demand}
-use Rattle.pg_demands.proofs.Back.{high, past_end, step_back}
+use Rattle.pg_demands.proofs.Back.{callers_long, high, of_every, past_end, step_back}
 use Rattle.pg_demands.proofs.Steps.{Asks, top_is}
 use Rattle.pg_backward.specs.declared.registers.Counts.{Counts}
 use Rattle.pg_backward.specs.Leaves.{IsAbove}
 use Rattle.pg_backward.specs.Steps.{IsLiveStep}
-use Rattle.pg_backward.proofs.At.{At, at_step, next_step, of_every, the_link}
-
-callers_long : (L : Shadow → Shadow → Type 0) (cs ct : List (List Shadow)) → AllZip (AllZip L) cs ct → length (top_of (under_top ct)) ≡ length (top_of (under_top cs))
-callers_long L [] [] h = refl
-callers_long L [] (rt ∷ ct) h = absurd h
-callers_long L (rs ∷ cs) [] h = absurd h
-callers_long L (rs ∷ []) (rt ∷ []) h = refl
-callers_long L (rs ∷ []) (rt ∷ ru ∷ ct) h = absurd h.1
-callers_long L (rs ∷ rv ∷ cs) (rt ∷ []) h = absurd h.1
-callers_long L (rs ∷ rv ∷ cs) (rt ∷ ru ∷ ct) h = sym (length_like L rv ru h.1.0)
+use Rattle.pg_backward.proofs.At.{At, Standing, at_step, next_step, the_link}
 
 -- the last of three tests that all hold
 picked : (e : Taken) (s : RunShadow) (a b c : Bool) (x y z w : Asked) → a ≡ true → b ≡ true → c ≡ true
@@ -64,6 +55,9 @@ module _ (R : Reference) (e : Taken) (p : NumberedProgram) (r : ReferenceRun) (x
 
   abbrev pub k : ℕ
   k = length m.calls
+
+  abbrev pub standing : Standing
+  standing = record { s = s; after = after; t = t; k = k }
 
   abbrev bound : ℕ
   bound = length R.moments
@@ -102,6 +96,13 @@ module _ (R : Reference) (e : Taken) (p : NumberedProgram) (r : ReferenceRun) (x
 
   pub byte_back : (b : ℕ) → IsMet after (byte_demand b true) → Asks e s (back_byte t k n region x b true m.did.did.kind)
   byte_back b h = back_of (byte_demand b true) h
+
+  -- what a register asks for, by whether it is one of the step's own thread
+  abbrev asked_if : (b : Bool) (v j i : ℕ) (w : Bool) → Asked
+  asked_if b v j i w =
+      if not b then only (register_demand v j i w ∷ [])
+      else if not (j == k) then back_other R.program t k (caller_count y) m x j i w m.did.did.kind
+      else if nat_lt i (register_count y) then back_top R.program t k n m region x i w m.did.did.kind else only []
 
   -- a register of the present call
   pub present_back : (i : ℕ) (w : Bool) → i < counts.present → IsMet after (register_demand t k i w) → Asks e s (back_top R.program t k n m region x i w m.did.did.kind)
@@ -184,10 +185,7 @@ module _ (R : Reference) (e : Taken) (p : NumberedProgram) (r : ReferenceRun) (x
     pub registers_leave : (v j i : ℕ) (w : Bool) → (IsAbove t k sets v j i → ⊥) → IsMet after (register_demand v j i w) → IsMet s (register_demand v j i w)
     registers_leave v j i w o h = go (v == t) refl (back_of (register_demand v j i w) h)
       where
-        go : (b : Bool) → (v == t) ≡ b →
-            Asks e s (if not b then only (register_demand v j i w ∷ [])
-            else if not (j == k) then back_other R.program t k (caller_count y) m x j i w m.did.did.kind
-            else if nat_lt i (register_count y) then back_top R.program t k n m region x i w m.did.did.kind else only []) → IsMet s (register_demand v j i w)
+        go : (b : Bool) → (v == t) ≡ b → Asks e s (asked_if b v j i w) → IsMet s (register_demand v j i w)
         go false f h = h.0.0
         go true f h =
             let q : v ≡ t = eqb-true v t f in
@@ -198,9 +196,6 @@ module _ (R : Reference) (e : Taken) (p : NumberedProgram) (r : ReferenceRun) (x
   pub other_thread : (v j i : ℕ) (w : Bool) → (v ≡ t → ⊥) → IsMet after (register_demand v j i w) → IsMet s (register_demand v j i w)
   other_thread v j i w o h = go (v == t) refl (back_of (register_demand v j i w) h)
     where
-      go : (b : Bool) → (v == t) ≡ b →
-          Asks e s (if not b then only (register_demand v j i w ∷ [])
-          else if not (j == k) then back_other R.program t k (caller_count y) m x j i w m.did.did.kind
-          else if nat_lt i (register_count y) then back_top R.program t k n m region x i w m.did.did.kind else only []) → IsMet s (register_demand v j i w)
+      go : (b : Bool) → (v == t) ≡ b → Asks e s (asked_if b v j i w) → IsMet s (register_demand v j i w)
       go false f h = h.0.0
       go true f h = absurd (o (eqb-true v t f))

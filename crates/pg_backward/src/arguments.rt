@@ -14,13 +14,16 @@ ghost use Rattle.pg_demands.specs.Cells.{IsMet};
 ghost use Rattle.pg_demands.specs.Back.{of_operand};
 ghost use Rattle.pg_demands.specs.Demands.{checked_demands, kind_demands, operand_demands, write_demands};
 ghost use Rattle.pg_closed.specs.Known.{Taken};
-ghost use Rattle.pg_backward.specs.Arguments.{is_start, numbers_to};
+ghost use Rattle.pg_backward.specs.Arguments.{is_start};
+ghost use Rattle.pg_needs.specs.Steps.{below};
 ghost use Rattle.pg_backward.specs.Met.{AreMet};
 
 use crate::call::Call;
 use crate::moves::put_optional;
 use pg_demanded::Demanded;
 use pg_ir::{Instr, Known, Op, Value};
+use pg_needs::checked;
+use pg_slice::is_malloc;
 use pg_trace::{Event, TurnKind, Write};
 use std::alloc::AllocError;
 
@@ -55,32 +58,9 @@ pub(crate) fn put_argument(
     Ok(())
 }
 
-/// How many of the first arguments of a pthread call are checked.
-fn checked(f: Known) -> usize
-    ensures { rules.checked f ≡ numbers_to result }
-{
-    match f {
-        Known::PthreadCreate | Known::PthreadBarrierInit => 3,
-        Known::PthreadJoin
-        | Known::PthreadMutexInit
-        | Known::PthreadCondInit
-        | Known::PthreadCondWait => 2,
-        Known::PthreadMutexLock
-        | Known::PthreadMutexTrylock
-        | Known::PthreadMutexUnlock
-        | Known::PthreadMutexDestroy
-        | Known::PthreadCondSignal
-        | Known::PthreadCondBroadcast
-        | Known::PthreadCondDestroy
-        | Known::PthreadBarrierWait
-        | Known::PthreadBarrierDestroy => 1,
-        _ => 0,
-    }
-}
-
 /// How many of the first operands of an event's operation are checked.
 fn checked_count(op: &Op) -> usize
-    ensures { rules.checked_of op.now ≡ numbers_to result }
+    ensures { rules.checked_of op.now ≡ below result }
 {
     match op {
         Op::CallKnown { function, .. } => checked(*function),
@@ -166,16 +146,6 @@ pub(crate) fn put_event(w: &mut Demanded, at: Call, x: &Instr, e: &Event) -> Res
     put_called(w, at, x, e.kind)?;
     put_written(w, at, x, e.write)?;
     Ok(())
-}
-
-/// Whether an operation is a call of `malloc`.
-fn is_malloc(op: &Op) -> bool
-    ensures { result ≡ rules.is_malloc op.now }
-{
-    match op {
-        Op::CallKnown { function, .. } => matches!(function, Known::Malloc),
-        _ => false,
-    }
 }
 
 /// What an allocation asks: the size of a `malloc`.

@@ -1,3 +1,5 @@
+//! The call that does a step.
+
 ghost use Rattle.std.specs.Prelude.{◌≡◌, IfSome};
 ghost use Rattle.pg_reference.specs.Kept.{landmark_at};
 

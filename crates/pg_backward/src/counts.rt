@@ -1,3 +1,5 @@
+//! How many registers each call has, along a run and back.
+
 ghost use Rattle.std.specs.Prelude.{◌≡◌, ◌<◌, ◌≤◌, ◌+◌, ◌-◌, ℕ, List, [], ◌∷◌, Some, IfOk, OnOk, length, slice_index_or, slice_set};
 ghost use Rattle.pg_ir.specs.Program.{types_of};
 ghost use Rattle.pg_closed.specs.Known.{Reference, RunShadow, after_step, registers_of, start_of, thread_of, top_of, under_top};
@@ -7,6 +9,7 @@ ghost use Rattle.pg_backward.specs.Lens.{first_of, lens_by_kind, lens_made, lens
 ghost use Rattle.pg_backward.specs.Stacks.{AreStacks, IsStack};
 
 use pg_ir::{Instr, Op, Program};
+use pg_shadow_run::register_count;
 use pg_trace::{Step, StepKind, TurnKind};
 use std::alloc::{AllocError, Global};
 
@@ -23,17 +26,6 @@ pub(crate) struct Held {
 pub(crate) struct Calls {
     held: Vec<Held>,
     tops: Vec<usize>,
-}
-
-/// How many registers a function has.
-fn register_count(p: &Program, f: u32) -> usize
-    ensures { result ≡ length (types_of p.now f) }
-{
-    if f < p.function_count() {
-        p.function(f).registers.as_slice().len()
-    } else {
-        0
-    }
 }
 
 /// How many registers the call has before this number; 0 where there is none.

@@ -15,6 +15,7 @@ mod paths;
 mod phis;
 mod region;
 mod registers;
+mod step;
 
 pub use call::Call;
 pub use live::back_live;

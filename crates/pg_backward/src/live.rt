@@ -1,3 +1,5 @@
+//! Back over one step that is live.
+
 ghost use Rattle.std.specs.Prelude.{◌≡◌, ◌<◌, ◌≤◌, ℕ, suc, true, Some, IfSome, IfOk, OnOk};
 ghost use Rattle.pg_ir.specs.Program.{NumberedProgram};
 ghost use Rattle.pg_trace.specs.declared.step.Step.{Step as AStep};
@@ -23,6 +25,7 @@ use crate::own::put_own;
 use crate::paths::put_region;
 use crate::region::sets_any;
 use crate::registers::Counts;
+use crate::step::StepAt;
 use pg_closed::Decision;
 use pg_decisions::DecisionSet;
 use pg_demanded::Demanded;
@@ -68,45 +71,27 @@ fn pin_due(w: &Demanded, r: &ReferenceRun, at: Call, n: usize, count: usize) -> 
 }
 
 /// Back over a branch. Gives the decision that this needs.
-fn back_branch(
-    alloc: Global,
-    w: &mut Demanded,
-    p: &Program,
-    at: Call,
-    x: &Instr,
-    r: &ReferenceRun,
-    counts: Counts,
-    n: usize,
-) -> Result<Option<Decision>, AllocError>
-    requires number { n < step_count r.now }
-    requires edges { EdgesStand p.now r.now }
-    ensures step { IfOk result (λ o. IfSome o (λ z. step_of z ≡ n)) }
-    ensures back { IfOk result (λ o. (R : Reference) (e : Taken) (step : AStep) (m : Moment) → IsLiveStep R e p.now r.now x.now step counts n m → IsCallOf m at
-        → is_branch step.kind ≡ true → AreMet (known_at R e (suc n)) w.old → AreMet (known_at R e n) w.new × IfSome o (λ z. has e z ≡ true)) }
+fn back_branch(alloc: Global, w: &mut Demanded, s: &StepAt) -> Result<Option<Decision>, AllocError>
+    requires number { s.now.n < step_count s.now.r.now }
+    requires edges { EdgesStand s.now.p.now s.now.r.now }
+    ensures step { IfOk result (λ o. IfSome o (λ z. step_of z ≡ s.now.n)) }
+    ensures back { IfOk result (λ o. (R : Reference) (e : Taken) (step : AStep) (m : Moment) → IsLiveStep R e s.now.p.now s.now.r.now s.now.x.now step s.now.counts s.now.n m → IsCallOf m s.now.at
+        → is_branch step.kind ≡ true → AreMet (known_at R e (suc s.now.n)) w.old → AreMet (known_at R e s.now.n) w.new × IfSome o (λ z. has e z ≡ true)) }
 {
-    let due = pin_due(w, r, at, n, counts.present);
-    back_op(alloc, w, p, at, x, r, counts, n)?;
+    let due = pin_due(w, s.r, s.at, s.n, s.counts.present);
+    back_op(alloc, w, s)?;
     Ok(due)
 }
 
 /// Back over a step that is no branch, no access and no event. It needs no decision.
-fn back_plain(
-    alloc: Global,
-    w: &mut Demanded,
-    p: &Program,
-    at: Call,
-    x: &Instr,
-    r: &ReferenceRun,
-    counts: Counts,
-    n: usize,
-) -> Result<Option<Decision>, AllocError>
-    requires number { n < step_count r.now }
-    requires edges { EdgesStand p.now r.now }
-    ensures step { IfOk result (λ o. IfSome o (λ z. step_of z ≡ n)) }
-    ensures back { IfOk result (λ o. (R : Reference) (e : Taken) (step : AStep) (m : Moment) → IsLiveStep R e p.now r.now x.now step counts n m → IsCallOf m at
-        → is_op step.kind ≡ true → AreMet (known_at R e (suc n)) w.old → AreMet (known_at R e n) w.new × IfSome o (λ z. has e z ≡ true)) }
+fn back_plain(alloc: Global, w: &mut Demanded, s: &StepAt) -> Result<Option<Decision>, AllocError>
+    requires number { s.now.n < step_count s.now.r.now }
+    requires edges { EdgesStand s.now.p.now s.now.r.now }
+    ensures step { IfOk result (λ o. IfSome o (λ z. step_of z ≡ s.now.n)) }
+    ensures back { IfOk result (λ o. (R : Reference) (e : Taken) (step : AStep) (m : Moment) → IsLiveStep R e s.now.p.now s.now.r.now s.now.x.now step s.now.counts s.now.n m → IsCallOf m s.now.at
+        → is_op step.kind ≡ true → AreMet (known_at R e (suc s.now.n)) w.old → AreMet (known_at R e s.now.n) w.new × IfSome o (λ z. has e z ≡ true)) }
 {
-    back_op(alloc, w, p, at, x, r, counts, n)?;
+    back_op(alloc, w, s)?;
     Ok(None)
 }
 
@@ -114,29 +99,24 @@ fn back_plain(
 fn back_step(
     alloc: Global,
     w: &mut Demanded,
-    p: &Program,
-    at: Call,
-    x: &Instr,
+    s: &StepAt,
     step: &Step,
-    r: &ReferenceRun,
-    counts: Counts,
-    n: usize,
 ) -> Result<Option<Decision>, AllocError>
-    requires number { n < step_count r.now }
-    requires edges { EdgesStand p.now r.now }
-    ensures step { IfOk result (λ o. IfSome o (λ z. step_of z ≡ n)) }
-    ensures back { IfOk result (λ o. (R : Reference) (e : Taken) (m : Moment) → IsLiveStep R e p.now r.now x.now step.now counts n m → IsCallOf m at
-        → AreMet (known_at R e (suc n)) w.old → AreMet (known_at R e n) w.new × IfSome o (λ z. has e z ≡ true)) }
+    requires number { s.now.n < step_count s.now.r.now }
+    requires edges { EdgesStand s.now.p.now s.now.r.now }
+    ensures step { IfOk result (λ o. IfSome o (λ z. step_of z ≡ s.now.n)) }
+    ensures back { IfOk result (λ o. (R : Reference) (e : Taken) (m : Moment) → IsLiveStep R e s.now.p.now s.now.r.now s.now.x.now step.now s.now.counts s.now.n m → IsCallOf m s.now.at
+        → AreMet (known_at R e (suc s.now.n)) w.old → AreMet (known_at R e s.now.n) w.new × IfSome o (λ z. has e z ≡ true)) }
 {
     match &step.kind {
-        StepKind::Access(a) => back_access(w, at, x, *a, counts.present, n),
+        StepKind::Access(a) => back_access(w, s.at, s.x, *a, s.counts.present, s.n),
         StepKind::Event(e) => {
-            back_event(w, at, x, e, counts.present)?;
+            back_event(w, s.at, s.x, e, s.counts.present)?;
             Ok(None)
         }
-        StepKind::Branch { .. } => back_branch(alloc, w, p, at, x, r, counts, n),
-        StepKind::Allocation { .. } => back_plain(alloc, w, p, at, x, r, counts, n),
-        StepKind::Other => back_plain(alloc, w, p, at, x, r, counts, n),
+        StepKind::Branch { .. } => back_branch(alloc, w, s),
+        StepKind::Allocation { .. } => back_plain(alloc, w, s),
+        StepKind::Other => back_plain(alloc, w, s),
     }
 }
 
@@ -181,7 +161,15 @@ pub fn back_live(
         → AreMet (known_at R e (suc n)) w.old → AreMet (known_at R e n) w.new × AreWithin (taken_by d.new) e) }
 {
     let at = call_of(r, step, n);
-    let due = back_step(alloc, w, p, at, x, step, r, counts, n)?;
+    let s = StepAt {
+        p,
+        r,
+        x,
+        at,
+        counts,
+        n,
+    };
+    let due = back_step(alloc, w, &s, step)?;
     take_due(d, due);
     put_own(w, d, at, x, &step.kind, n)?;
     put_region(w, r, at, n)?;

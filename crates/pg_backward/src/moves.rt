@@ -1,3 +1,5 @@
+//! What a step asks of its operands, going back.
+
 ghost use Rattle.std.specs.Prelude.{◌≡◌, ◌<◌, ◌-◌, ◌∷◌, ℕ, suc, Bool, Some, IfSome, IfOk, OnOk, length, slice_get};
 ghost use Rattle.std.specs.List.{AllByRecursion};
 ghost use Rattle.pg_ir.specs.declared.value.Value.{Value as AValue};

@@ -19,9 +19,9 @@ ghost use Rattle.pg_backward.specs.Steps.{IsCallOf, IsLiveStep};
 use crate::call::Call;
 use crate::moves::{back_call, back_result, back_return, leave_thread};
 use crate::phis::back_edge;
-use crate::registers::Counts;
+use crate::step::StepAt;
 use pg_demanded::Demanded;
-use pg_ir::{Instr, Op, Program, Value};
+use pg_ir::{Op, Value};
 use pg_reference::ReferenceRun;
 use std::alloc::{AllocError, Global};
 
@@ -91,30 +91,30 @@ fn back_returned(
 }
 
 /// Back over a branch, a call or a return.
-fn back_flow(
-    alloc: Global,
-    w: &mut Demanded,
-    p: &Program,
-    at: Call,
-    x: &Instr,
-    r: &ReferenceRun,
-    counts: Counts,
-    n: usize,
-) -> Result<(), AllocError>
-    requires number { n < step_count r.now }
-    requires edges { EdgesStand p.now r.now }
-    ensures { OnOk result ((R : Reference) (e : Taken) (step : AStep) (m : Moment) → IsLiveStep R e p.now r.now x.now step counts n m → IsCallOf m at → is_op step.kind ≡ true
-        → AreMet (known_at R e (suc n)) w.old → AreMet (known_at R e n) w.new) }
+fn back_flow(alloc: Global, w: &mut Demanded, s: &StepAt) -> Result<(), AllocError>
+    requires number { s.now.n < step_count s.now.r.now }
+    requires edges { EdgesStand s.now.p.now s.now.r.now }
+    ensures { OnOk result ((R : Reference) (e : Taken) (step : AStep) (m : Moment) → IsLiveStep R e s.now.p.now s.now.r.now s.now.x.now step s.now.counts s.now.n m → IsCallOf m s.now.at
+        → is_op step.kind ≡ true
+        → AreMet (known_at R e (suc s.now.n)) w.old → AreMet (known_at R e s.now.n) w.new) }
 {
-    if takes_edge(&x.op) {
-        back_edge(alloc, w, p, at, x.block.0, edge_of(r, n), counts.present)?;
+    if takes_edge(&s.x.op) {
+        back_edge(
+            alloc,
+            w,
+            s.p,
+            s.at,
+            s.x.block.0,
+            edge_of(s.r, s.n),
+            s.counts.present,
+        )?;
         return Ok(());
     }
-    match &x.op {
-        Op::Call { args, .. } => back_call(alloc, w, at, None, args.as_slice()),
-        Op::Ret { value } => back_returned(w, at, held(r.target(n), counts.under), *value),
+    match &s.x.op {
+        Op::Call { args, .. } => back_call(alloc, w, s.at, None, args.as_slice()),
+        Op::Ret { value } => back_returned(w, s.at, held(s.r.target(s.n), s.counts.under), *value),
         _ => {
-            leave_thread(w, at);
+            leave_thread(w, s.at);
             Ok(())
         }
     }
@@ -125,24 +125,16 @@ fn back_flow(
 /// # Errors
 ///
 /// Where no memory is left.
-pub(crate) fn back_op(
-    alloc: Global,
-    w: &mut Demanded,
-    p: &Program,
-    at: Call,
-    x: &Instr,
-    r: &ReferenceRun,
-    counts: Counts,
-    n: usize,
-) -> Result<(), AllocError>
-    requires number { n < step_count r.now }
-    requires edges { EdgesStand p.now r.now }
-    ensures { OnOk result ((R : Reference) (e : Taken) (step : AStep) (m : Moment) → IsLiveStep R e p.now r.now x.now step counts n m → IsCallOf m at → is_op step.kind ≡ true
-        → AreMet (known_at R e (suc n)) w.old → AreMet (known_at R e n) w.new) }
+pub(crate) fn back_op(alloc: Global, w: &mut Demanded, s: &StepAt) -> Result<(), AllocError>
+    requires number { s.now.n < step_count s.now.r.now }
+    requires edges { EdgesStand s.now.p.now s.now.r.now }
+    ensures { OnOk result ((R : Reference) (e : Taken) (step : AStep) (m : Moment) → IsLiveStep R e s.now.p.now s.now.r.now s.now.x.now step s.now.counts s.now.n m → IsCallOf m s.now.at
+        → is_op step.kind ≡ true
+        → AreMet (known_at R e (suc s.now.n)) w.old → AreMet (known_at R e s.now.n) w.new) }
 {
-    if sets_result(&x.op) {
-        back_result(w, at, held(x.result, counts.present), &x.op)
+    if sets_result(&s.x.op) {
+        back_result(w, s.at, held(s.x.result, s.counts.present), &s.x.op)
     } else {
-        back_flow(alloc, w, p, at, x, r, counts, n)
+        back_flow(alloc, w, s)
     }
 }

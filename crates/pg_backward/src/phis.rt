@@ -1,6 +1,6 @@
 //! Back over an edge: the `phi`s of the block that is entered take their values together.
 
-ghost use Rattle.std.specs.Prelude.{◌≡◌, ◌<◌, ◌+◌, ◌-◌, ℕ, Bool, true, Some, IfSome, IfOk, OnOk, length, slice_get};
+ghost use Rattle.std.specs.Prelude.{◌≡◌, ◌<◌, ◌+◌, ◌-◌, ℕ, Bool, true, Some, IfSome, OnOk, length, slice_get};
 ghost use Rattle.std.specs.List.{AllByRecursion};
 ghost use Rattle.pg_ir.specs.declared.instr.Instr.{Instr as AnInstr};
 ghost use Rattle.pg_ir.specs.Edges.{incoming_from, incoming_of};
@@ -16,30 +16,9 @@ ghost use Rattle.pg_backward.specs.Wanted.{AreWanted};
 use crate::call::Call;
 use crate::moves::{Wanted, leave, put_wanted};
 use pg_demanded::Demanded;
-use pg_ir::{BlockNo, Incoming, Instr, Op, Program, Value};
+use pg_ir::{BlockNo, Instr, Program, Value};
+use pg_shadow_run::phi_operand;
 use std::alloc::{AllocError, Global};
-
-/// The value that is listed first for the block that is left.
-fn incoming(listed: &[Incoming], from: u32) -> Option<Value>
-    ensures { result ≡ incoming_from listed.now from }
-{
-    for incoming in listed {
-        if incoming.block.0 == from {
-            return Some(incoming.value);
-        }
-    }
-    None
-}
-
-/// The value that a `phi` takes, where this block is left.
-fn phi_operand(x: &Instr, from: u32) -> Option<Value>
-    ensures { result ≡ incoming_from (incoming_of x.now.op) from }
-{
-    match &x.op {
-        Op::Phi { from: listed } => incoming(listed.as_slice(), from),
-        _ => None,
-    }
-}
 
 /// Whether a register is among the first so many.
 fn is_within(target: Option<u32>, count: usize) -> bool
@@ -92,29 +71,8 @@ fn phi_at(phis: &[Instr], j: usize) -> &Instr
     &phis[phis.len() - 1 - j]
 }
 
-/// What is asked of the registers of `phi`s goes to a list, as what is asked of the values that they take; of two that set one
-/// register the last counts.
-fn take_phis(
-    alloc: Global,
-    w: &mut Demanded,
-    at: Call,
-    phis: &[Instr],
-    from: u32,
-    count: usize,
-) -> Result<Vec<Wanted>, AllocError>
-    ensures without { OnOk result (Without at.thread at.depth (phis_set phis.now) none w.old w.new) }
-    ensures wanted { IfOk result (λ z. (s : RunShadow) → ((i : ℕ) (v : Bool) (x : AnInstr) → i < count → last_phi phis.now i ≡ Some x → asked_of w.old at.thread at.depth i ≡ Some v
-        → AllByRecursion (IsMet s) (of_optional at.thread at.depth v (incoming_from (incoming_of x.op) from))) → AreWanted s at.thread at.depth z.items) }
-{
-    let _was = leave(w, at, None);
-    let mut wanted = Vec::new(alloc);
-    for j in 0..phis.len() {
-        take_phi(w, at, phi_at(phis, j), from, count, &mut wanted)?;
-    }
-    Ok(wanted)
-}
-
-/// Back over the `phi`s of a block that is entered: what is asked of their registers is asked of the values that they take.
+/// Back over the `phi`s of a block that is entered: what is asked of their registers is asked of the values that they take; of
+/// two that set one register the last counts.
 fn back_phis(
     alloc: Global,
     w: &mut Demanded,
@@ -128,7 +86,11 @@ fn back_phis(
         → AllByRecursion (IsMet before) (of_optional at.thread at.depth v (incoming_from (incoming_of x.op) from)))
         → AreMet after w.old → AreMet before w.new) }
 {
-    let wanted = take_phis(alloc, w, at, phis, from, count)?;
+    let _was = leave(w, at, None);
+    let mut wanted = Vec::new(alloc);
+    for j in 0..phis.len() {
+        take_phi(w, at, phi_at(phis, j), from, count, &mut wanted)?;
+    }
     put_wanted(w, at, wanted.as_slice())?;
     Ok(())
 }

@@ -2,14 +2,4 @@
 #![tactic(auto)]
 
 #[cfg(test)]
-mod cached;
-#[cfg(test)]
-mod numbers;
-#[cfg(test)]
-mod shelves;
-#[cfg(test)]
-mod streams;
-#[cfg(test)]
-mod trials;
-#[cfg(test)]
-mod words;
+mod tests;

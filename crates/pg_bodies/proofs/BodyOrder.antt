@@ -38,7 +38,8 @@ pub lines_step : (items : List DefineItem) (i : ℕ) (x : DefineItem) → i < le
 lines_step items i x l e = sum_by_more item_count items i x l ∙ ap (λ y. lines_before items i + item_count y) (sym e)
 
 -- the instructions up to the end of one function more
-pub counted : (items : List DefineItem) (i : ℕ) (x : DefineItem) (blocks : List BlockNode) (until : ℕ) → blocks ≡ x.blocks.items → until ≡ capped (lines_before items i + sum_by node_count blocks) → until ≡ capped (lines_before items i + item_count x)
+pub counted : (items : List DefineItem) (i : ℕ) (x : DefineItem) (blocks : List BlockNode) (until : ℕ) → blocks ≡ x.blocks.items
+    → until ≡ capped (lines_before items i + sum_by node_count blocks) → until ≡ capped (lines_before items i + item_count x)
 counted items i x blocks until b e =
     e ∙ ap (λ bs. capped (lines_before items i + sum_by node_count bs)) b ∙ ap (λ n. capped (lines_before items i + n)) (sym (nodes_counted x.blocks.items))
 

@@ -22,8 +22,8 @@ use Rattle.pg_rules.specs.TypeConditions.{any_large}
 use Rattle.pg_rules.specs.LineConditions.{line_refused}
 use Rattle.pg_rules.specs.BlockConditions.{bad_phis, is_endless}
 use Rattle.pg_rules.specs.Conditions.{all_of, all_lines, body_types, scope_of, own_names, body_names, is_unfinished, is_too_large, body_refused}
-use Rattle.pg_calls.specs.declared.scope.LineScope.{LineScope}
-use Rattle.pg_calls.specs.Scopes.{IsLineScope}
+use Rattle.pg_values.specs.declared.scope.LineScope.{LineScope}
+use Rattle.pg_values.specs.Scopes.{IsLineScope}
 use Rattle.pg_bodies.specs.BodyBlocks.{bare_blocks}
 use Rattle.pg_bodies.specs.BodyParts.{is_large_block, whole_refused, AreOwn}
 use Rattle.pg_bodies.proofs.LabelPlaces.{register_place}
@@ -60,7 +60,8 @@ unfinished_body types d nodes all found b a e =
     ∙ ap (λ bs. (length bs == 0) || list_any is_endless bs) (sym b)
     ∙ sym (unfinished_same types d)
 
-pub phis_body : (types : List NamedType) (d : Definition) (nodes : List BlockNode) (blocks : List Block) (found : Option Span) → d.blocks ≡ map block_of nodes → blocks ≡ bare_blocks (labels_of (numbered types d)) nodes
+pub phis_body : (types : List NamedType) (d : Definition) (nodes : List BlockNode) (blocks : List Block) (found : Option Span) → d.blocks ≡ map block_of nodes
+    → blocks ≡ bare_blocks (labels_of (numbered types d)) nodes
     → found ≡ earliest (flat_map (λ (b : ℕ × Block). bad_phis (labels_of (numbered types d)) blocks b.0 b.1) (enumerate_from 0 blocks))
     → found ≡ earliest (flat_map (λ (b : ℕ × Block). bad_phis (labels_of (numbered types d)) (numbered types d).blocks b.0 b.1) (enumerate_from 0 (numbered types d).blocks))
 phis_body types d nodes blocks found b a e =
@@ -120,7 +121,8 @@ unfolding line_refused
 no_main_lines g [] = refl
 no_main_lines g (l ∷ ls) = no_main_lines g ls
 
-pub body_parts : (m : Tree) (lines : ℕ) (d : Definition) (kind : CheckKind) → joined (whole_refused m lines d) (all_of (line_refused (scope_of m d)) (all_lines d)) kind ≡ body_refused m lines d kind
+pub body_parts : (m : Tree) (lines : ℕ) (d : Definition) (kind : CheckKind)
+    → joined (whole_refused m lines d) (all_of (line_refused (scope_of m d)) (all_lines d)) kind ≡ body_refused m lines d kind
 unfolding body_refused
 body_parts m lines d BadPhi = ap (λ ss. whole_refused m lines d BadPhi ++ ss) (no_phi_lines (scope_of m d) (all_lines d)) ∙ append-nil (whole_refused m lines d BadPhi)
 body_parts m lines d BadSignature = no_signature_lines (scope_of m d) (all_lines d)
@@ -128,7 +130,8 @@ body_parts m lines d TooLarge = ap (λ ss. whole_refused m lines d TooLarge ++ s
 body_parts m lines d NoMain = no_main_lines (scope_of m d) (all_lines d)
 body_parts m lines d _ = refl
 
-pub registers_within : (types : List NamedType) (d : Definition) (o : OwnNames) (registers : List Name) (params : ℕ) → AreOwn types d o → registers ≡ o.registers.items → params ≡ length d.params → params ≤ length registers
+pub registers_within : (types : List NamedType) (d : Definition) (o : OwnNames) (registers : List Name) (params : ℕ) → AreOwn types d o → registers ≡ o.registers.items
+    → params ≡ length d.params → params ≤ length registers
 registers_within types d o registers params own r p =
     let count : length registers ≡ length (registers_of types (numbered types d)) =
     ap (λ ns. length ns) (r ∙ own_registers types d o own) ∙ length-map (registers_of types (numbered types d)) (λ (x : Register). x.name) in

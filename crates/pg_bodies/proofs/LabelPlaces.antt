@@ -46,11 +46,14 @@ all_same p q h [] = refl
 all_same p q h (x ∷ xs) = ap (λ b. b && list_all p xs) (h x) ∙ ap (λ b. q x && b) (all_same p q h xs)
 
 -- names that an index of labels has
-pub known_labels : {S : Type 0} (m : IndexMap (Bor (List ℕ)) ℕ S) (labels names : List Name) → ((text : List ℕ) → known_place m text ≡ label_number labels text) → are_known m names ≡ are_labels labels names
+pub known_labels : {S : Type 0} (m : IndexMap (Bor (List ℕ)) ℕ S) (labels names : List Name) → ((text : List ℕ) → known_place m text ≡ label_number labels text)
+    → are_known m names ≡ are_labels labels names
 known_labels m labels names h = all_same (λ (n : Name). is_some (known_place m n.text)) (λ (n : Name). is_some (label_number labels n.text)) (λ n. ap (λ o. is_some o) (h n.text)) names
 
-known_texts : {S : Type 0} (m : IndexMap (Bor (List ℕ)) ℕ S) (labels names : List Name) → ((text : List ℕ) → known_place m text ≡ label_number labels text) → are_known m names ≡ list_all (λ (n : Name). has_text labels n.text) names
-known_texts m labels names h = all_same (λ (n : Name). is_some (known_place m n.text)) (λ (n : Name). has_text labels n.text) (λ n. ap (λ o. is_some o) (h n.text) ∙ label_there labels n.text) names
+known_texts : {S : Type 0} (m : IndexMap (Bor (List ℕ)) ℕ S) (labels names : List Name) → ((text : List ℕ) → known_place m text ≡ label_number labels text)
+    → are_known m names ≡ list_all (λ (n : Name). has_text labels n.text) names
+known_texts m labels names h = all_same (λ (n : Name). is_some (known_place m n.text)) (λ (n : Name). has_text labels n.text)
+    (λ n. ap (λ o. is_some o) (h n.text) ∙ label_there labels n.text) names
 
 -- the same labels
 pub same_known : {S T : Type 0} (m : IndexMap (Bor (List ℕ)) ℕ S) (n : IndexMap (Bor (List ℕ)) ℕ T) (names others : List Name) (one other : Bool)

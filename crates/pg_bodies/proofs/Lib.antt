@@ -1,5 +1,7 @@
 mod BodyOrder
 mod BodyRows
 mod LabelPlaces
+mod LeftOut
+mod LineRows
 mod NumberedBodies
 mod PhiRows

@@ -1,5 +1,6 @@
 -- The body of a function in which each parameter, block and result has its name.
-use Rattle.std.proofs.Common.{◌≡◌, ℕ, suc, ◌+◌, ◌≤◌, ◌==◌, ◌||◌, not, Bool, true, false, cond, List, [], ◌∷◌, ◌++◌, length, map, drop, Option, Some, None, refl, sym, ap, ◌∙◌, arith, length-append}
+use Rattle.std.proofs.Common.{◌≡◌, ℕ, suc, ◌+◌, ◌≤◌, ◌==◌, ◌||◌, not, Bool, true, false, cond, List, [], ◌∷◌, ◌++◌, length, map, drop, Option, Some, None}
+use Rattle.std.proofs.Common.{refl, sym, ap, ◌∙◌, arith, length-append}
 use Rattle.std.specs.List.{flat_map, filter_map, cons_option, list_any, enumerate_from, prefix_len, fold, sum_by}
 use Rattle.std.proofs.lemmas.List.{drop-map, length-map}
 use Rattle.std.proofs.lemmas.List.Concat.{flat_map-append}
@@ -132,7 +133,8 @@ nodes_counted bs = counted_from 0 bs
 
 -- ---- blocks
 
-ends_same : (types : List NamedType) (next : ℕ) (ls : List Line) → list_any (λ (l : Line). is_ending l.op) (each_at (behind_line types) (line_at types) next ls) ≡ list_any (λ (l : Line). is_ending l.op) ls
+ends_same : (types : List NamedType) (next : ℕ) (ls : List Line) → list_any (λ (l : Line). is_ending l.op) (each_at (behind_line types) (line_at types) next ls)
+    ≡ list_any (λ (l : Line). is_ending l.op) ls
 ends_same types next [] = refl
 ends_same types next (l ∷ ls) = ap (λ b. is_ending l.op || b) (ends_same types (behind_line types next l) ls)
 
@@ -155,7 +157,8 @@ bare_lines types next [] = refl
 bare_lines types next (l ∷ ls) = ap (λ xs. bare_node l ∷ xs) (bare_lines types (behind_line types next (line_of l)) ls)
 
 bare_from : (types : List NamedType) (next : ℕ) (bs : List BlockNode)
-    → bare_blocks (filter_map (λ (b : Block). b.label) (each_at (behind_block types) (block_at types) next (map block_of bs))) bs ≡ map bare_block (each_at (behind_block types) (block_at types) next (map block_of bs))
+    → bare_blocks (filter_map (λ (b : Block). b.label) (each_at (behind_block types) (block_at types) next (map block_of bs))) bs
+    ≡ map bare_block (each_at (behind_block types) (block_at types) next (map block_of bs))
 unfolding block_at
 bare_from types next [] = refl
 bare_from types next (b ∷ bs) =
@@ -165,7 +168,8 @@ bare_from types next (b ∷ bs) =
     ap (λ ls. record { label = Some name; lines = ls } ∷ bare_blocks (filter_map (λ (b : Block). b.label) (rest more)) bs) (bare_lines types (after next b.label) b.lines.items)
     ∙ ap (λ xs. record { label = Some name; lines = map bare_line (each_at (behind_line types) (line_at types) (after next b.label) (map line_of b.lines.items)) } ∷ xs) (bare_from types more bs)
 
-pub bare_body : (types : List NamedType) (d : Definition) (bs : List BlockNode) → d.blocks ≡ map block_of bs → bare_blocks (labels_of (numbered types d)) bs ≡ map bare_block (numbered types d).blocks
+pub bare_body : (types : List NamedType) (d : Definition) (bs : List BlockNode) → d.blocks ≡ map block_of bs
+    → bare_blocks (labels_of (numbered types d)) bs ≡ map bare_block (numbered types d).blocks
 unfolding numbered
 bare_body types d bs e =
     let next = behind_all behind_param 0 d.params in
@@ -220,7 +224,8 @@ block_bare labels blocks i b =
     ∙ ap (λ names. behind ++ (first ++ flat_map (wrong_sources labels names) b.lines)) (predecessors_bare b.label blocks)
 
 pub phis_bare : (labels : List Name) (blocks : List Block) (k : ℕ) (bs : List Block)
-    → flat_map (λ (b : ℕ × Block). bad_phis labels (map bare_block blocks) b.0 b.1) (enumerate_from k (map bare_block bs)) ≡ flat_map (λ (b : ℕ × Block). bad_phis labels blocks b.0 b.1) (enumerate_from k bs)
+    → flat_map (λ (b : ℕ × Block). bad_phis labels (map bare_block blocks) b.0 b.1) (enumerate_from k (map bare_block bs))
+    ≡ flat_map (λ (b : ℕ × Block). bad_phis labels blocks b.0 b.1) (enumerate_from k bs)
 phis_bare labels blocks k [] = refl
 phis_bare labels blocks k (b ∷ bs) =
     ap (λ ss. ss ++ flat_map (λ (b : ℕ × Block). bad_phis labels (map bare_block blocks) b.0 b.1) (enumerate_from (k + 1) (map bare_block bs))) (block_bare labels blocks k b)
@@ -235,7 +240,8 @@ register_names types (n ∷ ns) (t ∷ ts) e =
     let more : length ts ≡ length ns = cc in
     ap (λ xs. n ∷ xs) (register_names types ns ts more)
 
-pub register_types : (types : List NamedType) (ns : List Name) (ts : List RegisterType) → length ts ≡ length ns → map (λ (r : Register). r.ty) (registers_by types ns ts) ≡ map (register_type types) ts
+pub register_types : (types : List NamedType) (ns : List Name) (ts : List RegisterType) → length ts ≡ length ns
+    → map (λ (r : Register). r.ty) (registers_by types ns ts) ≡ map (register_type types) ts
 register_types types [] [] e = refl
 register_types types [] (t ∷ ts) e = absurd cc
 register_types types (n ∷ ns) [] e = absurd cc

@@ -59,7 +59,8 @@ no_phis labels blocks i b h =
     sym (ap (λ ss. earliest (ss ++ (first ++ third))) late ∙ ap (λ ss. earliest (ss ++ third)) early ∙ ap (λ ss. earliest ss) wrong)
 
 -- the three rows of a block's phis
-pub three_rows : (labels : List Name) (blocks : List Block) (i : ℕ) (b : Block) (late early wrong : Option Span) → late ≡ earliest (flat_map phi_span (behind_phis b)) → early ≡ earliest (cond (i == 0) (flat_map phi_span b.lines) [])
+pub three_rows : (labels : List Name) (blocks : List Block) (i : ℕ) (b : Block) (late early wrong : Option Span) → late ≡ earliest (flat_map phi_span (behind_phis b))
+    → early ≡ earliest (cond (i == 0) (flat_map phi_span b.lines) [])
     → wrong ≡ earliest (flat_map (wrong_sources labels (predecessors blocks b.label)) b.lines) → earlier late (earlier early wrong) ≡ earliest (bad_phis labels blocks i b)
 unfolding bad_phis
 three_rows labels blocks i b late early wrong x y z =

@@ -1,2 +1,3 @@
 pub mod BodyBlocks
 pub mod BodyParts
+pub mod Lines

@@ -14,9 +14,9 @@ use crate::name_index::index_references;
 use crate::phis::{all_wrong_sources, first_block_phi, late_phi, phi_words};
 use crate::targets::predecessors;
 use indexmap::IndexMap;
+use pg_rules::earlier;
 use pg_ast::{BlockNode, LineNode, Name};
 use pg_lex::Span;
-use pg_rules::earlier;
 use std::alloc::{AllocError, Global};
 
 /// A basic block with its name, which may be a number.
@@ -68,24 +68,8 @@ fn wrong_sources(
     Ok(wrong)
 }
 
-/// The first `phi` of a block that stands where none may, or lists other labels than those of its predecessors.
-fn placed_phis(
-    alloc: Global,
-    labels: &IndexMap<&[u8], usize>,
-    blocks: &[NamedBlock<'_>],
-    number: usize,
-    block: &NamedBlock<'_>,
-) -> Result<Option<Span>, AllocError>
-    ensures { (all : List pg_name.Name) → ((text : List ℕ) → known_place labels.now text ≡ label_number all text) →
-        IfOk result (λ o. o ≡ earliest (bad_phis all (map named_block blocks.now) number (named_block block.now))) }
-{
-    let late = late_phi(block.lines);
-    let early = first_block_phi(number, block.lines);
-    let wrong = wrong_sources(alloc, labels, blocks, block)?;
-    Ok(earlier(late, earlier(early, wrong)))
-}
-
-/// The same, where the predecessors of a block without a `phi` aren't asked for.
+/// The first `phi` of a block that stands where none may, or lists other labels than those of its predecessors. The
+/// predecessors of a block without a `phi` aren't asked for.
 fn block_phis(
     alloc: Global,
     labels: &IndexMap<&[u8], usize>,
@@ -97,7 +81,12 @@ fn block_phis(
         IfOk result (λ o. o ≡ earliest (bad_phis all (map named_block blocks.now) number (named_block block.now))) }
 {
     match phi_words(block.lines) {
-        Some(_) => placed_phis(alloc, labels, blocks, number, block),
+        Some(_) => {
+            let late = late_phi(block.lines);
+            let early = first_block_phi(number, block.lines);
+            let wrong = wrong_sources(alloc, labels, blocks, block)?;
+            Ok(earlier(late, earlier(early, wrong)))
+        }
         None => Ok(None),
     }
 }

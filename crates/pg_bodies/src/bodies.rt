@@ -8,9 +8,9 @@ ghost use Rattle.pg_rules.specs.Earliest.{IsFirstAmong};
 
 use crate::body::body_refusal;
 use crate::limits::lines_until;
-use pg_ast::DefineItem;
 use pg_rules::{CheckRefusal, Symbols};
 use pg_types::TypeNumbers;
+use pg_ast::DefineItem;
 use std::alloc::{AllocError, Global};
 
 /// The first refusal in the bodies of functions: of the first that has one, the earliest.

@@ -19,12 +19,11 @@ use crate::doubled_names::doubled_own;
 use crate::limits::{are_too_many, is_over_limits, is_unfinished};
 use crate::name_index::index_owned;
 use indexmap::IndexMap;
-use pg_ast::DefineItem;
-use pg_calls::LineScope;
 use pg_names::{OwnNames, own_names};
 use pg_rules::{CheckKind, CheckRefusal, Symbols, earlier_refusal, place_if, refusal_at};
 use pg_types::TypeNumbers;
-use pg_values::ValueScope;
+use pg_values::{LineScope, ValueScope};
+use pg_ast::DefineItem;
 use std::alloc::{AllocError, Global};
 
 /// The first refusal of a function as a whole, its lines aside.
@@ -81,6 +80,7 @@ fn all_lines_refusal(
     let registers = index_owned(alloc, own.registers.as_slice())?;
     let scope = LineScope {
         values: ValueScope {
+            alloc,
             symbols,
             registers: &registers,
             types: own.types.as_slice(),
@@ -88,7 +88,7 @@ fn all_lines_refusal(
         labels,
         result: &item.result,
     };
-    let found = blocks_refusal(alloc, &scope, types, item.blocks.as_slice())?;
+    let found = blocks_refusal(&scope, types, item.blocks.as_slice())?;
     Ok(found)
 }
 

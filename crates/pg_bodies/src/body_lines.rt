@@ -8,19 +8,18 @@ ghost use Rattle.pg_rules.specs.ValueConditions.{Scope};
 ghost use Rattle.pg_rules.specs.LineConditions.{line_refused};
 ghost use Rattle.pg_rules.specs.Earliest.{IsFirstIn};
 ghost use Rattle.pg_rules.specs.Conditions.{all_of};
-ghost use Rattle.pg_calls.specs.Scopes.{IsLineScope};
+ghost use Rattle.pg_values.specs.Scopes.{IsLineScope};
 ghost use Rattle.pg_bodies.specs.BodyParts.{block_refused, is_large_line, is_large_block};
 
-use pg_ast::{BlockNode, LineNode};
-use pg_calls::LineScope;
-use pg_lines::{line_is_large, line_refusal};
+use crate::lines::{line_is_large, line_refusal};
 use pg_rules::{CheckRefusal, earlier_refusal};
 use pg_types::TypeNumbers;
+use pg_values::LineScope;
+use pg_ast::{BlockNode, LineNode};
 use std::alloc::{AllocError, Global};
 
 /// The first refusal of lines.
 fn lines_refusal(
-    alloc: Global,
     scope: &LineScope<'_>,
     types: &TypeNumbers<'_>,
     lines: &[LineNode],
@@ -30,7 +29,7 @@ fn lines_refusal(
 {
     let mut found = None;
     for line in lines {
-        let own = line_refusal(alloc, scope, types, line)?;
+        let own = line_refusal(scope, types, line)?;
         found = earlier_refusal(found, own);
     }
     Ok(found)
@@ -38,7 +37,6 @@ fn lines_refusal(
 
 /// The first refusal of the lines of blocks.
 pub(crate) fn blocks_refusal(
-    alloc: Global,
     scope: &LineScope<'_>,
     types: &TypeNumbers<'_>,
     blocks: &[BlockNode],
@@ -48,7 +46,7 @@ pub(crate) fn blocks_refusal(
 {
     let mut found = None;
     for block in blocks {
-        let own = lines_refusal(alloc, scope, types, block.lines.as_slice())?;
+        let own = lines_refusal(scope, types, block.lines.as_slice())?;
         found = earlier_refusal(found, own);
     }
     Ok(found)

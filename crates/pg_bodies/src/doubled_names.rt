@@ -6,9 +6,9 @@ ghost use Rattle.pg_rules.specs.Earliest.{earliest};
 ghost use Rattle.pg_rules.specs.Names.{doubled};
 ghost use Rattle.pg_rules.specs.Starts.{names_behind};
 
+use pg_rules::{doubled_names, index_starts};
 use pg_ast::Name;
 use pg_lex::Span;
-use pg_rules::{doubled_names, index_starts};
 use std::alloc::{AllocError, Global};
 
 fn add_references<'a>(all: &mut Vec<&'a Name>, names: &'a [Name]) -> Result<(), AllocError>

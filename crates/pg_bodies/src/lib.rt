@@ -7,6 +7,8 @@ mod body;
 mod body_lines;
 mod doubled_names;
 mod limits;
+mod line_parts;
+mod lines;
 mod name_index;
 mod phis;
 mod targets;

@@ -9,8 +9,8 @@ ghost use Rattle.pg_rules.specs.Written.{is_ending};
 ghost use Rattle.pg_rules.specs.BlockConditions.{is_endless};
 ghost use Rattle.pg_bodies.specs.BodyBlocks.{node_count, capped};
 
-use pg_ast::{BlockNode, LineNode, OpNode};
 use pg_num::limits::{FUNCTION_REGISTER_LIMIT, INSTRUCTION_LIMIT};
+use pg_ast::{BlockNode, LineNode, OpNode};
 
 fn is_ending(op: &OpNode) -> bool
     ensures { result ≡ is_ending (op_of op.now) }

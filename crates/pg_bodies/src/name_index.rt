@@ -8,9 +8,9 @@ ghost use Rattle.pg_rules.specs.BlockConditions.{same_labels};
 ghost use Rattle.pg_bodies.specs.BodyBlocks.{name_text, are_known};
 
 use indexmap::IndexMap;
-use pg_ast::Name;
 use pg_rules::references;
 use pg_types::{index_names, place_of_name};
+use pg_ast::Name;
 use std::alloc::{AllocError, Global};
 
 fn texts<'a>(alloc: Global, names: &[&'a Name]) -> Result<Vec<&'a [u8]>, AllocError>

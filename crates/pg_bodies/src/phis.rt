@@ -15,9 +15,9 @@ ghost use Rattle.pg_bodies.specs.BodyBlocks.{bare_node};
 
 use crate::name_index::{are_known, same_labels};
 use indexmap::IndexMap;
+use pg_rules::earlier;
 use pg_ast::{IncomingNode, LineNode, Name, OpNode};
 use pg_lex::Span;
-use pg_rules::earlier;
 use std::alloc::{AllocError, Global};
 
 fn is_phi(op: &OpNode) -> bool

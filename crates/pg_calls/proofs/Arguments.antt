@@ -1,5 +1,6 @@
 -- The arguments of a call, each with its parameter.
-use Rattle.std.proofs.Common.{◌≡◌, ℕ, zero, suc, ◌+◌, ◌<◌, ◌≤◌, min, List, [], ◌∷◌, ◌++◌, length, map, take, drop, get_or, nat_lt, true, cond, Option, Some, refl, sym, ap, ◌∙◌, arith}
+use Rattle.std.proofs.Common.{◌≡◌, ℕ, zero, suc, ◌+◌, ◌<◌, ◌≤◌, min, List, [], ◌∷◌, ◌++◌, length, map, take, drop, get_or, nat_lt, true, cond, Option, Some}
+use Rattle.std.proofs.Common.{refl, sym, ap, ◌∙◌, arith}
 use Rattle.std.specs.List.{flat_map}
 use Rattle.std.proofs.lemmas.List.{length-map}
 use Rattle.std.proofs.lemmas.Bool.Decides.{nat_tests}
@@ -14,7 +15,7 @@ use Rattle.pg_rules.specs.TypeConditions.{unmet}
 use Rattle.pg_rules.specs.CallConditions.{argument_demands, wrong_number}
 use Rattle.pg_rules.specs.Places.{type_span}
 use Rattle.pg_rules.proofs.Rows.{earliest_more}
-use Rattle.pg_calls.proofs.Joined.{flat_more, one_row}
+use Rattle.pg_values.proofs.Joined.{flat_more, one_row}
 
 -- one argument at a place
 pub argument_there : {X : Type 0} (f : X → Typed) (xs : List X) (i : ℕ) (x : X) → i < length xs → x ≡ get_or xs i x → f x ∷ [] ≡ take 1 (drop i (map f xs))
@@ -42,7 +43,8 @@ too_few g h ps vs n l =
 
 pub demands_more : {X Y : Type 0} (types : List NamedType) (g : X → Ty) (h : Y → Typed) (ps : List X) (vs : List Y) (i : ℕ) (p : X) (a : Y)
     → i < length ps → i < length vs → p ≡ get_or ps i p → a ≡ get_or vs i a
-    → argument_demands types (map g (take (i + 1) ps)) (map h (take (i + 1) vs)) ≡ argument_demands types (map g (take i ps)) (map h (take i vs)) ++ (asks_typed (is_as (resolved types (g p))) (h a) ∷ [])
+    → argument_demands types (map g (take (i + 1) ps)) (map h (take (i + 1) vs)) ≡ argument_demands types (map g (take i ps)) (map h (take i vs))
+    ++ (asks_typed (is_as (resolved types (g p))) (h a) ∷ [])
 demands_more types g h [] vs i p a k l d e = absurd (omega (arith, k))
 demands_more types g h (q ∷ ps) [] i p a k l d e = absurd (omega (arith, l))
 demands_more types g h (q ∷ ps) (b ∷ vs) zero p a k l d e =

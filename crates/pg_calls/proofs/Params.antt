@@ -1,12 +1,14 @@
 -- The parameters of a callee and the types that a call writes.
-use Rattle.std.proofs.Common.{◌≡◌, ℕ, zero, suc, ◌+◌, ◌-◌, ◌<◌, ◌≤◌, nat_le, ◌&&◌, Bool, true, false, List, [], ◌∷◌, length, map, drop, get_or, refl, sym, ap, ◌∙◌, arith}
+use Rattle.std.proofs.Common.{◌≡◌, ℕ, zero, suc, ◌+◌, ◌-◌, ◌<◌, ◌≤◌, nat_le, ◌&&◌, Bool, true, false, List, [], ◌∷◌, length, map, drop, get_or, refl, sym}
+use Rattle.std.proofs.Common.{ap, ◌∙◌, arith}
 use Rattle.std.proofs.lemmas.Bool.Decides.{nat_tests}
 use Rattle.pg_ast.specs.Syntax.{Ty, Dparam, ParamOf, Metadata, Dots, NamedType}
 use Rattle.pg_rules.specs.CallConditions.{fits_params}
 use Rattle.pg_calls.specs.Calls.{first_agrees, is_dots, is_only_dots}
 
 -- the first of the parameters and the first written type
-first_fits : (types : List NamedType) (ps : List Dparam) (t : Ty) (ts : List Ty) (dots : Bool) → fits_params types ps (t ∷ ts) dots ≡ first_agrees types ps t && fits_params types (drop 1 ps) ts dots
+first_fits : (types : List NamedType) (ps : List Dparam) (t : Ty) (ts : List Ty) (dots : Bool)
+    → fits_params types ps (t ∷ ts) dots ≡ first_agrees types ps t && fits_params types (drop 1 ps) ts dots
 first_fits types [] t ts true = refl
 first_fits types [] t ts false = refl
 first_fits types (ParamOf p ∷ ps) t ts dots = refl
@@ -49,7 +51,8 @@ fits_stop types f g ps ts i t dots l e h =
     sym (fits_at types f g ps ts i t dots l e ∙ ap (λ b. b && fits_params types (map f (drop (i + 1) ps)) (map g (drop (i + 1) ts)) dots) (sym h))
 
 -- no written type is left
-pub fits_end : {Y : Type 0} (types : List NamedType) (g : Y → Ty) (qs : List Dparam) (ts : List Y) (i : ℕ) (dots : Bool) → length ts ≤ i → fits_params types qs (map g (drop i ts)) dots ≡ fits_params types qs [] dots
+pub fits_end : {Y : Type 0} (types : List NamedType) (g : Y → Ty) (qs : List Dparam) (ts : List Y) (i : ℕ) (dots : Bool) → length ts ≤ i
+    → fits_params types qs (map g (drop i ts)) dots ≡ fits_params types qs [] dots
 fits_end types g qs [] zero dots l = refl
 fits_end types g qs [] (suc i) dots l = refl
 fits_end types g qs (t ∷ ts) zero dots l = absurd (omega (arith, l))
@@ -106,7 +109,8 @@ more_dots f (x ∷ []) zero l h = absurd (h (omega arith))
 more_dots f (x ∷ (y ∷ xs)) zero l h = refl
 more_dots f (x ∷ xs) (suc i) l h = more_dots f xs i (omega (arith, l)) (λ e. h (omega (arith, e)))
 
-pub last_param : {X : Type 0} (f : X → Dparam) (xs : List X) (i : ℕ) (x : X) → i < length xs → length xs - i ≡ 1 → x ≡ get_or xs i x → is_dots (f x) ≡ is_only_dots (map f (drop i xs))
+pub last_param : {X : Type 0} (f : X → Dparam) (xs : List X) (i : ℕ) (x : X) → i < length xs → length xs - i ≡ 1 → x ≡ get_or xs i x
+    → is_dots (f x) ≡ is_only_dots (map f (drop i xs))
 last_param f [] i x l m e = absurd (omega (arith, l))
 last_param f (y ∷ []) zero x l m e = ap (λ z. is_dots (f z)) e
 last_param f (y ∷ (z ∷ xs)) zero x l m e = absurd (omega (arith, m))

@@ -15,7 +15,8 @@ found_before : {X : Type 0} (p : X → Bool) (xs : List X) → is_some (find p x
 found_before p [] = refl
 found_before {X = X} p (x ∷ xs) = by (p x) (found_before p xs)
   where
-    by : (b : Bool) → is_some (find p xs) ≡ nat_lt (position_or_len p xs) (length xs) → is_some (cond b (Some x) (find p xs)) ≡ nat_lt (cond (not b) (1 + position_or_len p xs) 0) (length (x ∷ xs))
+    by : (b : Bool) → is_some (find p xs) ≡ nat_lt (position_or_len p xs) (length xs)
+        → is_some (cond b (Some x) (find p xs)) ≡ nat_lt (cond (not b) (1 + position_or_len p xs) 0) (length (x ∷ xs))
     by true e = let h : nat_lt 0 (length (x ∷ xs)) ≡ true = grind (arith, nat_tests) in sym h
     by false e = e ∙ sym (shifted (position_or_len p xs) (length xs))
 

@@ -7,7 +7,7 @@ use Rattle.pg_rules.specs.Earliest.{earliest}
 use Rattle.pg_rules.specs.Written.{typed_operand}
 use Rattle.pg_rules.specs.CallConditions.{is_pointer_param}
 use Rattle.pg_calls.specs.Threads.{left_out, call_operands, is_pointer_one}
-use Rattle.pg_calls.proofs.Joined.{one_row}
+use Rattle.pg_values.proofs.Joined.{one_row}
 
 -- the third argument is left out
 pub third_left_out : (all : List Typed) → call_operands true all ≡ left_out (Some 2) (map typed_operand all)
@@ -27,7 +27,8 @@ thread_none f vs e = ap (λ xs. earliest (flat_map f xs)) e
 
 -- ---- one parameter
 
-pub one_param : {X : Type 0} (types : List NamedType) (f : X → Dparam) (xs : List X) (x : X) → length xs ≡ 1 → x ≡ get_or xs 0 x → is_pointer_one types (f x) ≡ is_pointer_param types (map f xs)
+pub one_param : {X : Type 0} (types : List NamedType) (f : X → Dparam) (xs : List X) (x : X) → length xs ≡ 1 → x ≡ get_or xs 0 x
+    → is_pointer_one types (f x) ≡ is_pointer_param types (map f xs)
 one_param types f [] x l e = absurd (omega (arith, l))
 one_param types f (y ∷ []) x l e = ap (λ z. is_pointer_one types (f z)) e ∙ by (f y)
   where

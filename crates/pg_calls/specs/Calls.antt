@@ -10,7 +10,8 @@ use Rattle.pg_ast.specs.Syntax.{Ty, Val, Typed, Written, Dparam, ParamOf, Dots, 
 use Rattle.pg_ast.specs.Views.{val_of, typed_of}
 use Rattle.pg_rules.specs.Names.{Symbol}
 use Rattle.pg_rules.specs.Written.{Demand}
-use Rattle.pg_rules.specs.CallConditions.{header_of, wrong_header, variable_symbol, is_callable, callee_params, wrong_number, argument_demands, agree, is_resolved, fits_params, Header, written_fit}
+use Rattle.pg_rules.specs.CallConditions.{header_of, wrong_header, variable_symbol, is_callable, callee_params, wrong_number, argument_demands, agree, is_resolved, fits_params, Header}
+use Rattle.pg_rules.specs.CallConditions.{written_fit}
 
 abbrev pub wrong_arguments : Symbol → List Typed → Name → List Span
 wrong_arguments s all f = if is_callable s then wrong_number (callee_params s) all f else []

@@ -1,4 +1,3 @@
 pub mod Calls
 pub mod Headers
-pub mod Scopes
 pub mod Threads

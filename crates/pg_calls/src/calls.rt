@@ -15,20 +15,19 @@ ghost use Rattle.pg_rules.specs.TypeConditions.{unmet};
 ghost use Rattle.pg_rules.specs.ValueConditions.{Scope};
 ghost use Rattle.pg_rules.specs.LineConditions.{unknown_callee, unsupported_callee, wrong_call};
 ghost use Rattle.pg_rules.specs.CallConditions.{is_resolved, fits_params, written_fit, wrong_header, wrong_number, argument_demands, call_demands};
-ghost use Rattle.pg_calls.specs.Scopes.{IsLineScope};
+ghost use Rattle.pg_values.specs.Scopes.{IsLineScope};
 ghost use Rattle.pg_calls.specs.Headers.{param_behind, params_behind, header_behind};
 ghost use Rattle.pg_calls.specs.Calls.{wrong_arguments, wrong_call_of, call_demands_of, fits_header, are_written, param_agrees, first_agrees, is_dots, is_only_dots, typed_behind};
 
 use crate::headers::{HeaderNode, HeaderParam, callee_params, header_of};
-use crate::scope::LineScope;
 use crate::symbols_in_scope::{
     is_callable, symbol_named, unknown_name, unsupported_name, variable_symbol,
 };
-use crate::typed_tests::unmet_typed_as;
-use pg_ast::{CallTypes, Name, OpNode, TypeNode, TypedVal};
-use pg_lex::Span;
 use pg_rules::{SymbolNode, earlier, type_span};
 use pg_types::TypeNumbers;
+use pg_values::{LineScope, unmet_typed_as};
+use pg_ast::{CallTypes, Name, OpNode, TypeNode, TypedVal};
+use pg_lex::Span;
 use std::alloc::{AllocError, Global};
 
 /// The place of the name of a callee that stands for nothing.
@@ -307,7 +306,6 @@ fn wrong_call_of(
 /// right.
 #[tactic(auto, unfolding(pg_rules::specs::Earliest::earliest))]
 pub fn wrong_call(
-    alloc: Global,
     scope: &LineScope<'_>,
     types: &TypeNumbers<'_>,
     op: &OpNode,
@@ -324,7 +322,7 @@ pub fn wrong_call(
         } => {
             let symbol = symbol_named(scope, callee);
             wrong_call_of(
-                alloc,
+                scope.values.alloc,
                 types,
                 symbol,
                 ty,
@@ -374,7 +372,6 @@ fn call_demands_of(
 /// The earliest type of an argument of a call that isn't its parameter's.
 #[tactic(auto, unfolding(pg_rules::specs::Earliest::earliest))]
 pub fn call_demands(
-    alloc: Global,
     scope: &LineScope<'_>,
     types: &TypeNumbers<'_>,
     op: &OpNode,
@@ -389,7 +386,7 @@ pub fn call_demands(
             ..
         } => {
             let symbol = symbol_named(scope, callee);
-            call_demands_of(alloc, types, symbol, arguments.as_slice())
+            call_demands_of(scope.values.alloc, types, symbol, arguments.as_slice())
         }
         _ => Ok(None),
     }

@@ -10,9 +10,9 @@ ghost use Rattle.pg_rules.specs.Symbols.{symbol_of};
 ghost use Rattle.pg_rules.specs.CallConditions.{definition_header, declaration_header, header_of, param_type, callee_params};
 ghost use Rattle.pg_calls.specs.Headers.{param_behind, params_behind, header_behind};
 
+use pg_rules::SymbolNode;
 use pg_ast::{DeclareItem, DefineItem, DparamNode, ParamNode, TypeNode};
 use pg_lex::Span;
-use pg_rules::SymbolNode;
 use std::alloc::{AllocError, Global};
 
 /// A parameter of a function that is called.

@@ -6,14 +6,14 @@ ghost use Rattle.pg_rules.specs.Names.{symbol, register_named};
 ghost use Rattle.pg_rules.specs.Earliest.{earliest};
 ghost use Rattle.pg_rules.specs.ValueConditions.{Scope, unknown_symbol};
 ghost use Rattle.pg_rules.specs.CallConditions.{variable_symbol, unsupported_symbol, unsupported_thread_symbol, is_callable, known_of};
-ghost use Rattle.pg_calls.specs.Scopes.{IsLineScope};
+ghost use Rattle.pg_values.specs.Scopes.{IsLineScope};
 
-use crate::scope::LineScope;
-use pg_ast::Name;
-use pg_ir::Known;
-use pg_lex::Span;
 use pg_rules::{SymbolNode, known_named, symbol};
 use pg_types::place_of_name;
+use pg_values::LineScope;
+use pg_ir::Known;
+use pg_ast::Name;
+use pg_lex::Span;
 
 /// What a global name stands for.
 pub(crate) fn symbol_named<'a>(scope: &LineScope<'a>, name: &Name) -> SymbolNode<'a>

@@ -14,22 +14,22 @@ ghost use Rattle.pg_rules.specs.Earliest.{earliest};
 ghost use Rattle.pg_rules.specs.Written.{operands, typed_operand};
 ghost use Rattle.pg_rules.specs.ValueConditions.{Scope, unknown_value};
 ghost use Rattle.pg_rules.specs.CallConditions.{is_create_known, is_create, thread_functions, value_operands, is_pointer_param, is_thread_header, wrong_thread, unsupported_thread};
-ghost use Rattle.pg_calls.specs.Scopes.{IsLineScope};
+ghost use Rattle.pg_values.specs.Scopes.{IsLineScope};
 ghost use Rattle.pg_calls.specs.Headers.{params_behind, param_behind, header_behind};
 ghost use Rattle.pg_calls.specs.Calls.{typed_behind, value_behind};
 ghost use Rattle.pg_calls.specs.Threads.{left_out, call_operands, thread_functions_of, is_pointer_type, is_pointer_one, wrong_thread_of};
 
 use crate::calls::argument_at;
 use crate::headers::{HeaderNode, HeaderParam, header_of};
-use crate::scope::LineScope;
 use crate::symbols_in_scope::{
     has_register, known_of, symbol_named, unknown_name, unsupported_thread_name,
 };
-use pg_ast::{Name, OpNode, TypeNode, TypedVal, ValNode};
-use pg_ir::Known;
-use pg_lex::Span;
 use pg_rules::{SymbolNode, val_span};
 use pg_types::{TypeKind, TypeNumbers};
+use pg_values::LineScope;
+use pg_ir::Known;
+use pg_ast::{Name, OpNode, TypeNode, TypedVal, ValNode};
+use pg_lex::Span;
 use std::alloc::{AllocError, Global};
 
 fn is_create_known(known: Option<Known>) -> bool
@@ -221,7 +221,6 @@ fn wrong_thread_of(
 
 #[tactic(auto, unfolding(pg_rules::specs::Earliest::earliest))]
 fn wrong_value(
-    alloc: Global,
     scope: &LineScope<'_>,
     types: &TypeNumbers<'_>,
     value: &ValNode,
@@ -231,7 +230,7 @@ fn wrong_value(
     match value {
         ValNode::Global(name) => {
             let symbol = symbol_named(scope, name);
-            wrong_thread_of(alloc, types, symbol, name.span)
+            wrong_thread_of(scope.values.alloc, types, symbol, name.span)
         }
         _ => Ok(None),
     }
@@ -240,7 +239,6 @@ fn wrong_value(
 /// The name of a function with which a thread begins, and that doesn't go from a pointer to a pointer.
 #[tactic(auto, unfolding(pg_rules::specs::Earliest::earliest))]
 pub fn wrong_thread(
-    alloc: Global,
     scope: &LineScope<'_>,
     types: &TypeNumbers<'_>,
     op: &OpNode,
@@ -249,7 +247,7 @@ pub fn wrong_thread(
         IfOk result (λ o. o ≡ earliest (flat_map (wrong_thread g) (thread_functions g (op_of op.now)))) }
 {
     match thread_function(scope, op) {
-        Some(value) => wrong_value(alloc, scope, types, value),
+        Some(value) => wrong_value(scope, types, value),
         None => Ok(None),
     }
 }

@@ -1,5 +1,6 @@
 -- Pieces of the grammar whose values are read again from a text.
-use Rattle.std.proofs.Common.{◌≡◌, ℕ, ◌<◌, List, [], ◌∷◌, ◌++◌, length, append_assoc, append-nil, refl, sym, ap, subst, ◌∙◌, None, Bool, true, inl, inr, flat_map, map, IsTrue}
+use Rattle.std.proofs.Common.{◌≡◌, ℕ, ◌<◌, List, [], ◌∷◌, ◌++◌, length, append_assoc, append-nil, refl, sym, ap, subst, ◌∙◌, None, Bool, true, inl, inr, flat_map}
+use Rattle.std.proofs.Common.{map, IsTrue}
 use Rattle.pg_lex.specs.declared.token.TokenKind.{TokenKind}
 use Rattle.pg_lex.specs.declared.token.Piece.TheVariants.{Gap, Whole}
 use Rattle.pg_lex.specs.Names.{token_name}
@@ -25,13 +26,16 @@ Fits before text inner = (rest : List ℕ) → before rest ≡ true → inner (t
 pub given : {A : Type 0} {before : List ℕ → Bool} {P : A → Type 0} {a : A} → P a → Again before (give a) [] P
 given {A} {before} {P} {a} p = record { again = λ K front rest s k. in_at (K a) (front ++ []) front rest (append-nil front) (k a p) }
 
-pub then_text : {A B : Type 0} {inner before : List ℕ → Bool} {P : A → Type 0} {Q : B → Type 0} {g : Gram A} {h : A → Gram B} {text more : List ℕ} → Again inner g text P → Fits before more inner → ((a : A) → P a → Again before (h a) more Q) → Again before (g then h) (text ++ more) Q
+pub then_text : {A B : Type 0} {inner before : List ℕ → Bool} {P : A → Type 0} {Q : B → Type 0} {g : Gram A} {h : A → Gram B} {text more : List ℕ} → Again inner g text P
+    → Fits before more inner → ((a : A) → P a → Again before (h a) more Q) → Again before (g then h) (text ++ more) Q
 then_text {A} {B} {inner} {before} {P} {Q} {g} {h} {text} {more} e fits k = record {
   again = λ K front rest s j. subst (λ bs. In (g None (λ a. h a None K)) front bs) (sym (append_assoc text more rest))
-      (e.again (λ a. h a None K) front (more ++ rest) (fits rest s) (λ a p. (k a p).again K (front ++ text) rest s (λ b q. in_at (K b) (front ++ (text ++ more)) ((front ++ text) ++ more) rest (sym (append_assoc front text more)) (j b q))));
+      (e.again (λ a. h a None K) front (more ++ rest) (fits rest s)
+      (λ a p. (k a p).again K (front ++ text) rest s (λ b q. in_at (K b) (front ++ (text ++ more)) ((front ++ text) ++ more) rest (sym (append_assoc front text more)) (j b q))));
 }
 
-pub last_text : {A B : Type 0} {before : List ℕ → Bool} {P : A → Type 0} {Q : B → Type 0} {g : Gram A} {f : A → B} {text : List ℕ} → Again before g text P → ((a : A) → P a → Q (f a)) → Again before (g then (λ a. give (f a))) text Q
+pub last_text : {A B : Type 0} {before : List ℕ → Bool} {P : A → Type 0} {Q : B → Type 0} {g : Gram A} {f : A → B} {text : List ℕ} → Again before g text P
+    → ((a : A) → P a → Q (f a)) → Again before (g then (λ a. give (f a))) text Q
 last_text {A} {B} {before} {P} {Q} {g} {f} {text} e k = record { again = λ K front rest s j. e.again (λ a. K (f a)) front rest s (λ a p. j (f a) (k a p)) }
 
 pub left_text : {A : Type 0} {before : List ℕ → Bool} {P : A → Type 0} {g h : Gram A} {text : List ℕ} → Again before g text P → Again before (g or h) text P
@@ -60,13 +64,16 @@ feed_piece rest = refl
 -- a space before the text
 pub spaced : {A : Type 0} {before : List ℕ → Bool} {P : A → Type 0} {g : Gram A} {text : List ℕ} → Again before g text P → Again before g (32 ∷ text) P
 spaced {A} {before} {P} {g} {text} e = record {
-  again = λ K front rest s j. gap_in (g None K) front (text ++ rest) 32 (space_piece (text ++ rest)) (e.again K (front ++ 32 ∷ []) rest s (λ a p. in_at (K a) (front ++ 32 ∷ text) ((front ++ 32 ∷ []) ++ text) rest (sym (append_assoc front (32 ∷ []) text)) (j a p)));
+  again = λ K front rest s j. gap_in (g None K) front (text ++ rest) 32 (space_piece (text ++ rest))
+      (e.again K (front ++ 32 ∷ []) rest s (λ a p. in_at (K a) (front ++ 32 ∷ text) ((front ++ 32 ∷ []) ++ text) rest (sym (append_assoc front (32 ∷ []) text)) (j a p)));
 }
 
 -- a line feed behind the text
-pub fed : {A : Type 0} {before : List ℕ → Bool} {P : A → Type 0} {g : Gram A} {text : List ℕ} → Fits anything (10 ∷ []) before → Again before g text P → Again anything g (text ++ 10 ∷ []) P
+pub fed : {A : Type 0} {before : List ℕ → Bool} {P : A → Type 0} {g : Gram A} {text : List ℕ} → Fits anything (10 ∷ []) before → Again before g text P
+    → Again anything g (text ++ 10 ∷ []) P
 fed {A} {before} {P} {g} {text} fits e = record {
-  again = λ K front rest s j. subst (λ bs. In (g None K) front bs) (sym (append_assoc text (10 ∷ []) rest)) (e.again K front (10 ∷ rest) (fits rest s) (λ b p. gap_in (K b) (front ++ text) rest 10 (feed_piece rest)
+  again = λ K front rest s j. subst (λ bs. In (g None K) front bs) (sym (append_assoc text (10 ∷ []) rest))
+      (e.again K front (10 ∷ rest) (fits rest s) (λ b p. gap_in (K b) (front ++ text) rest 10 (feed_piece rest)
       (in_at (K b) (front ++ (text ++ 10 ∷ [])) ((front ++ text) ++ 10 ∷ []) rest (sym (append_assoc front text (10 ∷ []))) (j b p))));
 }
 
@@ -77,11 +84,13 @@ pub record IsToken (class : Class) (text : List ℕ) (t : Token) : Type 0 where
   pub class_is : t.class ≡ class
   pub text_is : t.text ≡ text
 
-pub token_text : {before : List ℕ → Bool} (test : Class → Bool) (kind : TokenKind) (w : List ℕ) → 0 < length w → ((rest : List ℕ) → before rest ≡ true → piece_of (w ++ rest) ≡ Whole kind (length w)) → IsTrue (test (class_of kind (token_name kind w)))
+pub token_text : {before : List ℕ → Bool} (test : Class → Bool) (kind : TokenKind) (w : List ℕ) → 0 < length w
+    → ((rest : List ℕ) → before rest ≡ true → piece_of (w ++ rest) ≡ Whole kind (length w)) → IsTrue (test (class_of kind (token_name kind w)))
     → Again before (one test) w (IsToken (class_of kind (token_name kind w)) (token_name kind w))
 token_text {before} test kind w h p i = record {
   again = λ K front rest s j. token_in (one test None K) front w rest kind h (p rest s)
-      (in_more (K (token_at front w kind)) (λ us. one test None K (token_at front w kind ∷ us)) (front ++ w) rest (λ us l. (token_at front w kind, us, refl, i, l)) (j (token_at front w kind) (record { class_is = refl; text_is = refl })));
+      (in_more (K (token_at front w kind)) (λ us. one test None K (token_at front w kind ∷ us)) (front ++ w) rest (λ us l. (token_at front w kind, us, refl, i, l))
+      (j (token_at front w kind) (record { class_is = refl; text_is = refl })));
 }
 
 -- ---- lists
@@ -95,7 +104,8 @@ pub every_more : {A : Type 0} (P Q : A → Type 1) → ((x : A) → P x → Q x)
 every_more P Q f [] h = tt
 every_more P Q f (x ∷ xs) h = (f x h.0, every_more P Q f xs h.1)
 
-times_text : {A B : Type 0} {before : List ℕ → Bool} (g : Gram A) (f : A → List ℕ) (s : A → B) (xs : List A) → ((x : A) → Fits before (f x) before) → Every (λ x. Again before g (f x) (λ y. s y ≡ s x)) xs → Again before (times g (length xs)) (flat_map f xs) (λ ys. map s ys ≡ map s xs)
+times_text : {A B : Type 0} {before : List ℕ → Bool} (g : Gram A) (f : A → List ℕ) (s : A → B) (xs : List A) → ((x : A) → Fits before (f x) before)
+    → Every (λ x. Again before g (f x) (λ y. s y ≡ s x)) xs → Again before (times g (length xs)) (flat_map f xs) (λ ys. map s ys ≡ map s xs)
 times_text {A} {B} {before} g f s [] heads h = given refl
 times_text {A} {B} {before} g f s (x ∷ xs) heads h = then_text h.0 (fits xs) (λ y e. last_text (times_text g f s xs heads h.1) (λ ys es. ap (λ b. b ∷ map s ys) e ∙ ap (λ bs. s x ∷ bs) es))
   where
@@ -103,7 +113,8 @@ times_text {A} {B} {before} g f s (x ∷ xs) heads h = then_text h.0 (fits xs) (
     fits [] rest i = i
     fits (z ∷ zs) rest i = rw (append_assoc (f z) (flat_map f zs) rest) (heads z (flat_map f zs ++ rest) (fits zs rest i))
 
-pub many_text : {A B : Type 0} {before : List ℕ → Bool} (g : Gram A) (f : A → List ℕ) (s : A → B) (xs : List A) → ((x : A) → Fits before (f x) before) → Every (λ x. Again before g (f x) (λ y. s y ≡ s x)) xs → Again before (many g) (flat_map f xs) (λ ys. map s ys ≡ map s xs)
+pub many_text : {A B : Type 0} {before : List ℕ → Bool} (g : Gram A) (f : A → List ℕ) (s : A → B) (xs : List A) → ((x : A) → Fits before (f x) before)
+    → Every (λ x. Again before g (f x) (λ y. s y ≡ s x)) xs → Again before (many g) (flat_map f xs) (λ ys. map s ys ≡ map s xs)
 many_text {A} {B} {before} g f s xs heads h = record {
   again = λ K front rest i j. in_more (times g (length xs) None K) (many g None K) front (flat_map f xs ++ rest) (λ us l. (length xs, l)) ((times_text g f s xs heads h).again K front rest i j);
 }
@@ -117,5 +128,6 @@ none_text {A} {before} g = record {
 -- a line feed before the text
 pub lined : {A : Type 0} {before : List ℕ → Bool} {P : A → Type 0} {g : Gram A} {text : List ℕ} → Again before g text P → Again before g (10 ∷ text) P
 lined {A} {before} {P} {g} {text} e = record {
-  again = λ K front rest s j. gap_in (g None K) front (text ++ rest) 10 (feed_piece (text ++ rest)) (e.again K (front ++ 10 ∷ []) rest s (λ a p. in_at (K a) (front ++ 10 ∷ text) ((front ++ 10 ∷ []) ++ text) rest (sym (append_assoc front (10 ∷ []) text)) (j a p)));
+  again = λ K front rest s j. gap_in (g None K) front (text ++ rest) 10 (feed_piece (text ++ rest))
+      (e.again K (front ++ 10 ∷ []) rest s (λ a p. in_at (K a) (front ++ 10 ∷ text) ((front ++ 10 ∷ []) ++ text) rest (sym (append_assoc front (10 ∷ []) text)) (j a p)));
 }

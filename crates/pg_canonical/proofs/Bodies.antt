@@ -1,5 +1,6 @@
 -- Bodies are read again.
-use Rattle.std.proofs.Common.{◌≡◌, List, [], ◌∷◌, ◌++◌, refl, sym, ap, ap₂, ◌∙◌, append_assoc, Option, Some, None, Bool, true, false, ◌||◌, not, if◌then◌else◌, flat_map, map, codes}
+use Rattle.std.proofs.Common.{◌≡◌, List, [], ◌∷◌, ◌++◌, refl, sym, ap, ap₂, ◌∙◌, append_assoc, Option, Some, None, Bool, true, false, ◌||◌, not}
+use Rattle.std.proofs.Common.{if◌then◌else◌, flat_map, map, codes}
 use Rattle.std.specs.List.{list_all}
 use Rattle.pg_ast.specs.declared.names.Name.{Name}
 use Rattle.pg_ast.specs.Syntax.{Op, Binary, Icmp, Cast, Select, Phi, Br, CondBr, Switch, Call, RetVoid, Ret, Unreachable, Alloca, Load, Store, GetElementPtr, Line, Block}
@@ -87,9 +88,12 @@ plain_front DroppedPart b = refl
 
 plain_before : (p : Part) (bs : List Block) → map plain_block (before p bs) ≡ before (plain_part p) (map plain_block bs)
 plain_before p [] = ap (λ b. b ∷ []) (plain_alone p)
-plain_before p (b ∷ bs) = by (ends p || has_label b.label) ∙ ap (λ c. if c then alone (plain_part p) ∷ plain_block b ∷ map plain_block bs else with_front (plain_part p) (plain_block b) ∷ map plain_block bs) (sym (ap₂ (λ x y. x || y) (part_ends p) (plain_label b.label)))
+plain_before p (b ∷ bs) =
+    by (ends p || has_label b.label) ∙ ap (λ c. if c then alone (plain_part p) ∷ plain_block b ∷ map plain_block bs else with_front (plain_part p) (plain_block b) ∷ map plain_block bs)
+    (sym (ap₂ (λ x y. x || y) (part_ends p) (plain_label b.label)))
   where
-    by : (c : Bool) → map plain_block (if c then alone p ∷ b ∷ bs else with_front p b ∷ bs) ≡ (if c then alone (plain_part p) ∷ plain_block b ∷ map plain_block bs else with_front (plain_part p) (plain_block b) ∷ map plain_block bs)
+    by : (c : Bool) → map plain_block (if c then alone p ∷ b ∷ bs else with_front p b ∷ bs)
+        ≡ (if c then alone (plain_part p) ∷ plain_block b ∷ map plain_block bs else with_front (plain_part p) (plain_block b) ∷ map plain_block bs)
     by true = ap (λ x. x ∷ plain_block b ∷ map plain_block bs) (plain_alone p)
     by false = ap (λ x. x ∷ map plain_block bs) (plain_front p b)
 
@@ -116,19 +120,23 @@ unlabelled ls = record { label = None; lines = ls }
 
 last_line : (l : Line) (bs : List Block) → are_labelled bs ≡ true → before (LinePart l) bs ≡ unlabelled (l ∷ []) ∷ bs
 last_line l [] h = refl
-last_line l (b ∷ bs) h = ap (λ c. if c then unlabelled (l ∷ []) ∷ b ∷ bs else with_front (LinePart l) b ∷ bs) (one_right (ends_block l.op) (has_label b.label) (fore (has_label b.label) (are_labelled bs) h))
+last_line l (b ∷ bs) h = ap (λ c. if c then unlabelled (l ∷ []) ∷ b ∷ bs else with_front (LinePart l) b ∷ bs)
+    (one_right (ends_block l.op) (has_label b.label) (fore (has_label b.label) (are_labelled bs) h))
 
-some_lines : (l : Line) (ls : List Line) (ps : List Part) → are_labelled (blocks_of ps) ≡ true → ends_last (l ∷ ls) ≡ true → blocks_of (map LinePart (l ∷ ls) ++ ps) ≡ unlabelled (l ∷ ls) ∷ blocks_of ps
+some_lines : (l : Line) (ls : List Line) (ps : List Part) → are_labelled (blocks_of ps) ≡ true → ends_last (l ∷ ls) ≡ true
+    → blocks_of (map LinePart (l ∷ ls) ++ ps) ≡ unlabelled (l ∷ ls) ∷ blocks_of ps
 unfolding blocks_of
 some_lines l [] ps h e = last_line l (blocks_of ps) h
 some_lines l (m ∷ ls) ps h e = ap (λ bs. before (LinePart l) bs) (some_lines m ls ps h (aft (not (ends_block l.op)) (ends_last (m ∷ ls)) e))
-    ∙ ap (λ c. if c || false then unlabelled (l ∷ []) ∷ unlabelled (m ∷ ls) ∷ blocks_of ps else unlabelled (l ∷ m ∷ ls) ∷ blocks_of ps) (is_not (ends_block l.op) (fore (not (ends_block l.op)) (ends_last (m ∷ ls)) e))
+    ∙ ap (λ c. if c || false then unlabelled (l ∷ []) ∷ unlabelled (m ∷ ls) ∷ blocks_of ps else unlabelled (l ∷ m ∷ ls) ∷ blocks_of ps)
+    (is_not (ends_block l.op) (fore (not (ends_block l.op)) (ends_last (m ∷ ls)) e))
 
 first_label : (n : Name) (bs : List Block) → are_labelled bs ≡ true → before (LabelPart n) bs ≡ record { label = Some n; lines = [] } ∷ bs
 first_label n [] h = refl
 first_label n (b ∷ bs) h = ap (λ c. if c then record { label = Some n; lines = [] } ∷ b ∷ bs else with_front (LabelPart n) b ∷ bs) (fore (has_label b.label) (are_labelled bs) h)
 
-block_is : (n : Name) (ls : List Line) (ps : List Part) → are_labelled (blocks_of ps) ≡ true → ends_last ls ≡ true → blocks_of (LabelPart n ∷ (map LinePart ls ++ ps)) ≡ record { label = Some n; lines = ls } ∷ blocks_of ps
+block_is : (n : Name) (ls : List Line) (ps : List Part) → are_labelled (blocks_of ps) ≡ true → ends_last ls ≡ true
+    → blocks_of (LabelPart n ∷ (map LinePart ls ++ ps)) ≡ record { label = Some n; lines = ls } ∷ blocks_of ps
 unfolding blocks_of
 block_is n [] ps h e = first_label n (blocks_of ps) h
 block_is n (l ∷ ls) ps h e = ap (λ bs. before (LabelPart n) bs) (some_lines l ls ps h e)
@@ -138,9 +146,11 @@ unfolding blocks_of
 blocks_are [] h e = refl
 blocks_are (b ∷ bs) h e = by b.label (fore (has_label b.label) (are_labelled bs) h) (blocks_are bs (aft (has_label b.label) (are_labelled bs) h) (aft (ends_last b.lines) (end_last bs) e))
   where
-    by : (n : Option Name) → has_label n ≡ true → blocks_of (parts_of bs) ≡ bs → blocks_of (label_part n ++ (map LinePart b.lines ++ parts_of bs)) ≡ record { label = n; lines = b.lines } ∷ bs
+    by : (n : Option Name) → has_label n ≡ true → blocks_of (parts_of bs) ≡ bs
+        → blocks_of (label_part n ++ (map LinePart b.lines ++ parts_of bs)) ≡ record { label = n; lines = b.lines } ∷ bs
     by None k r = absurd cc
-    by (Some n) k r = block_is n b.lines (parts_of bs) (ap are_labelled r ∙ aft (has_label b.label) (are_labelled bs) h) (fore (ends_last b.lines) (end_last bs) e) ∙ ap (λ cs. record { label = Some n; lines = b.lines } ∷ cs) r
+    by (Some n) k r = block_is n b.lines (parts_of bs) (ap are_labelled r ∙ aft (has_label b.label) (are_labelled bs) h) (fore (ends_last b.lines) (end_last bs) e)
+        ∙ ap (λ cs. record { label = Some n; lines = b.lines } ∷ cs) r
 
 -- ---- their text
 
@@ -170,6 +180,8 @@ parts_again (b ∷ bs) h = by b.label h.0.label (lines_again b.lines (parts_of b
     by None k e = e
     by (Some n) k e = (label_again_part n k, e)
 
-pub body_row : (bs : List Block) → Every BlockAgain bs → are_labelled bs ≡ true → end_last bs ≡ true → Again anything body (codes "{\n" ++ (flat_map block_text bs ++ codes "}")) (λ cs. map plain_block cs ≡ map plain_block bs)
-body_row bs h k e = text_as (ap (λ t. codes "{\n" ++ (t ++ codes "}")) (parts_text bs)) (mark_then open_brace (λ o _. then_text (lined (many_text part part_text plain_part (parts_of bs) (λ p r i. refl) (parts_again bs h))) (λ r i. refl) (λ ps x.
+pub body_row : (bs : List Block) → Every BlockAgain bs → are_labelled bs ≡ true → end_last bs ≡ true
+    → Again anything body (codes "{\n" ++ (flat_map block_text bs ++ codes "}")) (λ cs. map plain_block cs ≡ map plain_block bs)
+body_row bs h k e = text_as (ap (λ t. codes "{\n" ++ (t ++ codes "}")) (parts_text bs))
+    (mark_then open_brace (λ o _. then_text (lined (many_text part part_text plain_part (parts_of bs) (λ p r i. refl) (parts_again bs h))) (λ r i. refl) (λ ps x.
     last_text close_brace (λ c _. plain_blocks ps ∙ ap blocks_of x ∙ sym (plain_blocks (parts_of bs)) ∙ ap (map plain_block) (blocks_are bs k e)))))

@@ -1,5 +1,7 @@
 -- The tokens of a text of bytes: their bytes, and what stands in integers and globals.
-use Rattle.std.proofs.Common.{◌≡◌, ℕ, zero, suc, ◌+◌, ◌-◌, ◌*◌, ◌<◌, ◌≤◌, List, [], ◌∷◌, ◌++◌, length, take, drop, drop_at, append_assoc, length-append, refl, sym, ap, subst, ◌∙◌, arith, Result, Ok, Err, Option, Some, None, unwrap_or, option_map, find, bytes_eq, Bool, true, false, not, ◌||◌, ◌&&◌, ◌==◌, if◌then◌else◌, IsTrue, nat_le, lt-ltb, leb-true, ltb-true}
+use Rattle.std.proofs.Common.{◌≡◌, ℕ, zero, suc, ◌+◌, ◌-◌, ◌*◌, ◌<◌, ◌≤◌, List, [], ◌∷◌, ◌++◌, length, take, drop, drop_at, append_assoc}
+use Rattle.std.proofs.Common.{length-append, refl, sym, ap, subst, ◌∙◌, arith, Result, Ok, Err, Option, Some, None, unwrap_or, option_map, find, bytes_eq, Bool, true, false, not}
+use Rattle.std.proofs.Common.{◌||◌, ◌&&◌, ◌==◌, if◌then◌else◌, IsTrue, nat_le, lt-ltb, leb-true, ltb-true}
 use Rattle.std.specs.List.{list_all}
 use Rattle.std.proofs.lemmas.List.Folds.{length-prefix_len}
 use Rattle.pg_num.specs.Decimal.{is_digit, is_decimal}
@@ -12,7 +14,8 @@ use Rattle.pg_lex.specs.declared.token.Piece.{Piece}
 use Rattle.pg_lex.specs.declared.token.Piece.TheVariants.{Gap, Whole, Bad, Open}
 use Rattle.pg_lex.specs.Bytes.{is_blank, is_quote, is_colon, is_run_byte, begins}
 use Rattle.pg_lex.specs.Names.{is_hexadecimal, hexadecimal_value, Escape, escape_of, unescaped_from, unescaped, inside_quotes, name_of, token_name}
-use Rattle.pg_lex.specs.Tokens.{run, string_length, is_name, is_dots, is_c, begins_word, with_string, run_piece, string_piece, named_piece, mark_of, mark_piece, marked_piece, piece_of, placed, ahead, tokens_from, tokens}
+use Rattle.pg_lex.specs.Tokens.{run, string_length, is_name, is_dots, is_c, begins_word, with_string, run_piece, string_piece, named_piece, mark_of, mark_piece, marked_piece, piece_of}
+use Rattle.pg_lex.specs.Tokens.{placed, ahead, tokens_from, tokens}
 use Rattle.pg_grammar.specs.declared.class.Class.{Class}
 use Rattle.pg_grammar.specs.declared.class.Class.TheVariants as classes
 use Rattle.pg_grammar.specs.Classes.{is}
@@ -75,7 +78,8 @@ escape_small b (c ∷ d ∷ bs) h = by (b == 92 && c == 92) (b == 92 && is_hexad
     value k = let x = value_small c (aft (b == 92) (is_hexadecimal c) (fore (b == 92 && is_hexadecimal c) (is_hexadecimal d) k)) in
         let y = value_small d (aft (b == 92 && is_hexadecimal c) (is_hexadecimal d) k) in omega (arith, x, y)
 
-    by : (x y : Bool) → (y ≡ true → hexadecimal_value c * 16 + hexadecimal_value d < 256) → IsSmall (if x then record { byte = 92; size = 2 } else if y then record { byte = hexadecimal_value c * 16 + hexadecimal_value d; size = 3 } else record { byte = b; size = 1 })
+    by : (x y : Bool) → (y ≡ true → hexadecimal_value c * 16 + hexadecimal_value d < 256)
+        → IsSmall (if x then record { byte = 92; size = 2 } else if y then record { byte = hexadecimal_value c * 16 + hexadecimal_value d; size = 3 } else record { byte = b; size = 1 })
     by true y k = omega arith
     by false true k = k refl
     by false false k = h
@@ -84,7 +88,8 @@ unescaped_bytes : (skip : ℕ) (bs : List ℕ) → list_all is_byte bs ≡ true 
 unfolding unescaped_from
 unescaped_bytes skip [] h = refl
 unescaped_bytes (suc skip) (b ∷ bs) h = unescaped_bytes skip bs (aft (is_byte b) (list_all is_byte bs) h)
-unescaped_bytes zero (b ∷ bs) h = both (is_byte (escape_of b bs).byte) _ (lt-ltb (escape_of b bs).byte 256 (escape_small b bs (ltb-true b 256 (fore (is_byte b) (list_all is_byte bs) h)))) (unescaped_bytes ((escape_of b bs).size - 1) bs (aft (is_byte b) (list_all is_byte bs) h))
+unescaped_bytes zero (b ∷ bs) h = both (is_byte (escape_of b bs).byte) _ (lt-ltb (escape_of b bs).byte 256 (escape_small b bs (ltb-true b 256 (fore (is_byte b) (list_all is_byte bs) h))))
+    (unescaped_bytes ((escape_of b bs).size - 1) bs (aft (is_byte b) (list_all is_byte bs) h))
 
 name_bytes : (bs : List ℕ) → list_all is_byte bs ≡ true → list_all is_byte (name_of bs) ≡ true
 name_bytes bs h = by (begins is_quote bs)
@@ -106,11 +111,14 @@ token_bytes _ bs h = h
 abbrev is_other : Class → Bool
 is_other c = not (is classes.Int c || is classes.Global c)
 
-row_other : (rows : List (List ℕ × Class)) (w : List ℕ) (d : Class) → list_all (λ row. is_other row.1) rows ≡ true → is_other d ≡ true → is_other (unwrap_or (class_in rows w) d) ≡ true
+row_other : (rows : List (List ℕ × Class)) (w : List ℕ) (d : Class) → list_all (λ row. is_other row.1) rows ≡ true → is_other d ≡ true
+    → is_other (unwrap_or (class_in rows w) d) ≡ true
 row_other [] w d h k = k
-row_other (row ∷ rows) w d h k = by (bytes_eq row.0 w) (fore (is_other row.1) (list_all (λ r. is_other r.1) rows) h) (row_other rows w d (aft (is_other row.1) (list_all (λ r. is_other r.1) rows) h) k)
+row_other (row ∷ rows) w d h k = by (bytes_eq row.0 w) (fore (is_other row.1) (list_all (λ r. is_other r.1) rows) h)
+    (row_other rows w d (aft (is_other row.1) (list_all (λ r. is_other r.1) rows) h) k)
   where
-    by : (c : Bool) → is_other row.1 ≡ true → is_other (unwrap_or (class_in rows w) d) ≡ true → is_other (unwrap_or (option_map (λ r. r.1) (if c then Some row else find (λ r. bytes_eq r.0 w) rows)) d) ≡ true
+    by : (c : Bool) → is_other row.1 ≡ true → is_other (unwrap_or (class_in rows w) d) ≡ true
+        → is_other (unwrap_or (option_map (λ r. r.1) (if c then Some row else find (λ r. bytes_eq r.0 w) rows)) d) ≡ true
     by true x y = x
     by false x y = y
 
@@ -145,7 +153,8 @@ abbrev is_int : TokenKind → Bool
 is_int kinds.Int = true
 is_int _ = false
 
-int_decimal : (kind : TokenKind) (bs : List ℕ) → (IsTrue (is_int kind) → is_decimal bs ≡ true) → IsTrue (is classes.Int (class_of kind (token_name kind bs))) → is_decimal (token_name kind bs) ≡ true
+int_decimal : (kind : TokenKind) (bs : List ℕ) → (IsTrue (is_int kind) → is_decimal bs ≡ true) → IsTrue (is classes.Int (class_of kind (token_name kind bs)))
+    → is_decimal (token_name kind bs) ≡ true
 int_decimal kinds.Int bs h k = h refl
 int_decimal kinds.Word bs h k = absurd (not_int (word_class bs) (word_other bs) k)
 int_decimal kinds.Global bs h k = absurd (by (is_dropped (name_of (drop 1 bs))) k)
@@ -201,7 +210,8 @@ string_ok bs None = tt
 string_ok bs (Some n) = pick bs (begins is_colon (drop n bs)) _ _ (λ _. other_kind bs kinds.Label (n + 1) refl) (λ _. other_kind bs kinds.Str n refl)
 
 named_ok : (bs : List ℕ) (kind : TokenKind) (rest : List ℕ) → is_int kind ≡ false → IntOk bs (named_piece kind rest)
-named_ok bs kind rest h = pick bs (begins is_quote rest) _ _ (λ _. with_ok bs kind 1 (string_length rest) h) (λ _. pick bs (is_name (run rest)) _ _ (λ _. other_kind bs kind (1 + length (run rest)) h) (λ _. tt))
+named_ok bs kind rest h = pick bs (begins is_quote rest) _ _ (λ _. with_ok bs kind 1 (string_length rest) h)
+    (λ _. pick bs (is_name (run rest)) _ _ (λ _. other_kind bs kind (1 + length (run rest)) h) (λ _. tt))
 
 abbrev IsMark : Option TokenKind → Type 0
 IsMark None = Unit {0}
@@ -213,7 +223,11 @@ mark_if false x y h k = k
 
 mark_is : (b : ℕ) → IsMark (mark_of b)
 unfolding mark_of
-mark_is b = mark_if (b == 40) _ _ refl (mark_if (b == 41) _ _ refl (mark_if (b == 123) _ _ refl (mark_if (b == 125) _ _ refl (mark_if (b == 91) _ _ refl (mark_if (b == 93) _ _ refl (mark_if (b == 60) _ _ refl (mark_if (b == 62) _ _ refl (mark_if (b == 44) _ _ refl (mark_if (b == 61) _ _ refl (mark_if (b == 42) _ _ refl (mark_if (b == 124) _ _ refl (mark_if (b == 58) _ _ refl tt))))))))))))
+mark_is b = mark_if (b == 40) _ _ refl (mark_if (b == 41) _ _ refl
+    (mark_if (b == 123) _ _ refl (mark_if (b == 125) _ _ refl
+    (mark_if (b == 91) _ _ refl (mark_if (b == 93) _ _ refl
+    (mark_if (b == 60) _ _ refl (mark_if (b == 62) _ _ refl
+    (mark_if (b == 44) _ _ refl (mark_if (b == 61) _ _ refl (mark_if (b == 42) _ _ refl (mark_if (b == 124) _ _ refl (mark_if (b == 58) _ _ refl tt))))))))))))
 
 mark_ok : (bs : List ℕ) (o : Option TokenKind) → IsMark o → IntOk bs (mark_piece o)
 mark_ok bs None h = tt
@@ -221,13 +235,18 @@ mark_ok bs (Some kind) h = other_kind bs kind 1 h
 
 marked_ok : (b : ℕ) (bs : List ℕ) → IntOk (b ∷ bs) (marked_piece b (b ∷ bs) bs)
 unfolding marked_piece
-marked_ok b bs = pick (b ∷ bs) (is_quote b) _ _ (λ _. string_ok (b ∷ bs) (string_length (b ∷ bs))) (λ _. pick (b ∷ bs) (b == 37) _ _ (λ _. named_ok (b ∷ bs) kinds.Local bs refl) (λ _. pick (b ∷ bs) (b == 64) _ _ (λ _. named_ok (b ∷ bs) kinds.Global bs refl)
-    (λ _. pick (b ∷ bs) (b == 33) _ _ (λ _. other_kind (b ∷ bs) kinds.Meta (1 + length (run bs)) refl) (λ _. pick (b ∷ bs) (b == 35) _ _ (λ _. pick (b ∷ bs) (length (run bs) == 0) _ _ (λ _. tt) (λ _. other_kind (b ∷ bs) kinds.Attr (1 + length (run bs)) refl)) (λ _. mark_ok (b ∷ bs) (mark_of b) (mark_is b))))))
+marked_ok b bs = pick (b ∷ bs) (is_quote b) _ _ (λ _. string_ok (b ∷ bs) (string_length (b ∷ bs)))
+    (λ _. pick (b ∷ bs) (b == 37) _ _ (λ _. named_ok (b ∷ bs) kinds.Local bs refl) (λ _. pick (b ∷ bs) (b == 64) _ _ (λ _. named_ok (b ∷ bs) kinds.Global bs refl)
+    (λ _. pick (b ∷ bs) (b == 33) _ _ (λ _. other_kind (b ∷ bs) kinds.Meta (1 + length (run bs)) refl)
+    (λ _. pick (b ∷ bs) (b == 35) _ _ (λ _. pick (b ∷ bs) (length (run bs) == 0) _ _ (λ _. tt) (λ _. other_kind (b ∷ bs) kinds.Attr (1 + length (run bs)) refl))
+    (λ _. mark_ok (b ∷ bs) (mark_of b) (mark_is b))))))
 
 piece_ok : (bs : List ℕ) → IntOk bs (piece_of bs)
 unfolding piece_of
 piece_ok [] = tt
-piece_ok (b ∷ bs) = pick (b ∷ bs) (is_blank b) _ _ (λ _. tt) (λ _. pick (b ∷ bs) (b == 59) _ _ (λ _. tt) (λ _. pick (b ∷ bs) (is_run_byte b) _ _ (λ _. run_ok (b ∷ bs) (run (b ∷ bs)) (drop (length (run (b ∷ bs))) (b ∷ bs)) (ap (λ n. take n (b ∷ bs)) (length-prefix_len is_run_byte (b ∷ bs)))) (λ _. marked_ok b bs)))
+piece_ok (b ∷ bs) = pick (b ∷ bs) (is_blank b) _ _ (λ _. tt)
+    (λ _. pick (b ∷ bs) (b == 59) _ _ (λ _. tt) (λ _. pick (b ∷ bs) (is_run_byte b) _ _
+    (λ _. run_ok (b ∷ bs) (run (b ∷ bs)) (drop (length (run (b ∷ bs))) (b ∷ bs)) (ap (λ n. take n (b ∷ bs)) (length-prefix_len is_run_byte (b ∷ bs)))) (λ _. marked_ok b bs)))
 
 -- ---- all tokens
 
@@ -248,14 +267,17 @@ bytes_here front bs n = ap (λ xs. take (length front + n - length front) xs) (d
     less : length front + n - length front ≡ n
     less = omega arith
 
-placed_whole : (front bs : List ℕ) (p : Piece) (later : ℕ → Result (List Lexed) LexFault) (ls : List Lexed) → IntOk bs p → placed (length front) p later ≡ Ok ls → ((n : ℕ) (ms : List Lexed) → later n ≡ Ok ms → AreWhole (front ++ bs) ms) → AreWhole (front ++ bs) ls
+placed_whole : (front bs : List ℕ) (p : Piece) (later : ℕ → Result (List Lexed) LexFault) (ls : List Lexed) → IntOk bs p → placed (length front) p later ≡ Ok ls
+    → ((n : ℕ) (ms : List Lexed) → later n ≡ Ok ms → AreWhole (front ++ bs) ms) → AreWhole (front ++ bs) ls
 placed_whole front bs (Gap n) later ls i e rec = rec n ls e
 placed_whole front bs Bad later ls i e rec = absurd (let z : ◌≡◌ {A = Result (List Lexed) LexFault} (Err (BadByte (length front))) (Ok ls) = e in cc)
 placed_whole front bs (Open n) later ls i e rec = absurd (let z : ◌≡◌ {A = Result (List Lexed) LexFault} (Err (OpenString (length front + n))) (Ok ls) = e in cc)
 placed_whole front bs (Whole kind n) later ls i e rec = by (later n) refl ls e
   where
-    by : (r : Result (List Lexed) LexFault) → later n ≡ r → (ks : List Lexed) → ahead (record { kind = kind; span = record { start = length front; end = length front + n } }) r ≡ Ok ks → AreWhole (front ++ bs) ks
-    by (Ok ms) f [] w = absurd (let z : ◌≡◌ {A = Result (List Lexed) LexFault} (Ok (record { kind = kind; span = record { start = length front; end = length front + n } } ∷ ms)) (Ok []) = w in cc)
+    by : (r : Result (List Lexed) LexFault) → later n ≡ r → (ks : List Lexed) → ahead (record { kind = kind; span = record { start = length front; end = length front + n } }) r ≡ Ok ks
+        → AreWhole (front ++ bs) ks
+    by (Ok ms) f [] w = absurd (let z : ◌≡◌ {A = Result (List Lexed) LexFault} (Ok (record { kind = kind; span = record { start = length front; end = length front + n } } ∷ ms))
+        (Ok []) = w in cc)
     by (Ok ms) f (k ∷ ks) w =
         let z : ◌≡◌ {A = Result (List Lexed) LexFault} (Ok (record { kind = kind; span = record { start = length front; end = length front + n } } ∷ ms)) (Ok (k ∷ ks)) = w in
         let x : record { kind = kind; span = record { start = length front; end = length front + n } } ≡ k = cc in
@@ -266,7 +288,8 @@ placed_whole front bs (Whole kind n) later ls i e rec = by (later n) refl ls e
 whole : (skip : ℕ) (front bs : List ℕ) (ls : List Lexed) → tokens_from skip (length front) bs ≡ Ok ls → AreWhole (front ++ bs) ls
 unfolding tokens_from
 whole skip front [] ls e = none_left (front ++ []) ls e
-whole (suc skip) front (b ∷ bs) ls e = subst (λ text. AreWhole text ls) (append_assoc front (b ∷ []) bs) (whole skip (front ++ b ∷ []) bs ls (ap (λ at. tokens_from skip at bs) (one_more front b) ∙ e))
+whole (suc skip) front (b ∷ bs) ls e = subst (λ text. AreWhole text ls) (append_assoc front (b ∷ []) bs)
+    (whole skip (front ++ b ∷ []) bs ls (ap (λ at. tokens_from skip at bs) (one_more front b) ∙ e))
   where
     one_more : (xs : List ℕ) (y : ℕ) → length (xs ++ y ∷ []) ≡ length xs + 1
     one_more xs y = omega (arith, length-append xs (y ∷ []))

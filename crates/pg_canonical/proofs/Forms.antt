@@ -1,5 +1,7 @@
 -- Which token a text begins with.
-use Rattle.std.proofs.Common.{◌≡◌, ℕ, suc, ◌+◌, ◌/◌, ◌%◌, ◌<◌, ◌≤◌, List, [], ◌∷◌, ◌++◌, length, take, drop, drop_at, append_assoc, length-append, refl, sym, ap, subst, ◌∙◌, arith, Some, None, Bool, true, false, not, ◌||◌, ◌&&◌, ◌==◌, eqb-true, lt-ltb, if◌then◌else◌, codes, flat_map, position, nat_lt, nat_le}
+use Rattle.std.proofs.Common.{◌≡◌, ℕ, suc, ◌+◌, ◌/◌, ◌%◌, ◌<◌, ◌≤◌, List, [], ◌∷◌, ◌++◌, length, take, drop, drop_at, append_assoc, length-append}
+use Rattle.std.proofs.Common.{refl, sym, ap, subst, ◌∙◌, arith, Some, None, Bool, true, false, not, ◌||◌, ◌&&◌, ◌==◌, eqb-true, lt-ltb, if◌then◌else◌, codes}
+use Rattle.std.proofs.Common.{flat_map, position, nat_lt, nat_le}
 use Rattle.std.specs.List.{list_all, list_any, prefix_len}
 use Rattle.std.proofs.lemmas.List.Folds.{list_all-append}
 use Rattle.pg_num.specs.Decimal.{is_digit, are_digits, is_decimal}
@@ -135,7 +137,9 @@ name_run : (b : ℕ) → is_name_byte b ≡ true → is_run_byte b ≡ true
 name_run b h = one_left (is_name_byte b) (is_plus b) h
 
 digit_run : (b : ℕ) → is_digit b ≡ true → is_run_byte b ≡ true
-digit_run b h = name_run b (one_left (is_letter b || is_digit b || b == 45 || b == 36 || b == 46) (b == 95) (one_left (is_letter b || is_digit b || b == 45 || b == 36) (b == 46) (one_left (is_letter b || is_digit b || b == 45) (b == 36) (one_left (is_letter b || is_digit b) (b == 45) (one_right (is_letter b) (is_digit b) h)))))
+digit_run b h = name_run b (one_left (is_letter b || is_digit b || b == 45 || b == 36 || b == 46) (b == 95)
+    (one_left (is_letter b || is_digit b || b == 45 || b == 36) (b == 46)
+    (one_left (is_letter b || is_digit b || b == 45) (b == 36) (one_left (is_letter b || is_digit b) (b == 45) (one_right (is_letter b) (is_digit b) h)))))
 
 pub all_more : (p q : ℕ → Bool) → ((b : ℕ) → p b ≡ true → q b ≡ true) → (w : List ℕ) → list_all p w ≡ true → list_all q w ≡ true
 all_more p q f [] h = refl
@@ -149,7 +153,8 @@ decimal_run [] h = absurd cc
 decimal_run (b ∷ w) h = by (b == 45) refl
   where
     by : (c : Bool) → (b == 45) ≡ c → list_all is_run_byte (b ∷ w) ≡ true
-    by true e = both (is_run_byte b) (list_all is_run_byte w) (let z : b ≡ 45 = eqb-true b 45 e in subst (λ n. is_run_byte n ≡ true) (sym z) refl) (digits_run w (subst (λ xs. are_digits xs ≡ true) (if_true (b == 45) w (b ∷ w) e) h))
+    by true e = both (is_run_byte b) (list_all is_run_byte w) (let z : b ≡ 45 = eqb-true b 45 e in subst (λ n. is_run_byte n ≡ true) (sym z) refl)
+        (digits_run w (subst (λ xs. are_digits xs ≡ true) (if_true (b == 45) w (b ∷ w) e) h))
     by false e = digits_run (b ∷ w) (subst (λ xs. are_digits xs ≡ true) (if_false (b == 45) w (b ∷ w) e) h)
 
 decimal_some : (w : List ℕ) → is_decimal w ≡ true → 0 < length w
@@ -190,14 +195,17 @@ escaped_plain b = by (is_escaped b) refl
 
 all_plain : (s : List ℕ) → list_all is_other (flat_map escaped_byte s) ≡ true
 all_plain [] = refl
-all_plain (b ∷ s) = list_all-append is_other (escaped_byte b) (flat_map escaped_byte s) ∙ both (list_all is_other (escaped_byte b)) (list_all is_other (flat_map escaped_byte s)) (escaped_plain b) (all_plain s)
+all_plain (b ∷ s) = list_all-append is_other (escaped_byte b) (flat_map escaped_byte s)
+    ∙ both (list_all is_other (escaped_byte b)) (list_all is_other (flat_map escaped_byte s)) (escaped_plain b) (all_plain s)
 
 others : (e rest : List ℕ) → list_all is_other e ≡ true → prefix_len is_other (e ++ 34 ∷ rest) ≡ length e
 others [] rest h = refl
-others (b ∷ e) rest h = if_true (is_other b) (1 + prefix_len is_other (e ++ 34 ∷ rest)) 0 (fore (is_other b) (list_all is_other e) h) ∙ ap (λ n. 1 + n) (others e rest (aft (is_other b) (list_all is_other e) h)) ∙ omega arith
+others (b ∷ e) rest h = if_true (is_other b) (1 + prefix_len is_other (e ++ 34 ∷ rest)) 0 (fore (is_other b) (list_all is_other e) h)
+    ∙ ap (λ n. 1 + n) (others e rest (aft (is_other b) (list_all is_other e) h)) ∙ omega arith
 
 first_quote : (e rest : List ℕ) → list_all is_other e ≡ true → position is_quote (e ++ 34 ∷ rest) ≡ Some (length e)
-first_quote e rest h = ap (λ n. if nat_lt n (length (e ++ 34 ∷ rest)) then Some n else None) (others e rest h) ∙ if_true (nat_lt (length e) (length (e ++ 34 ∷ rest))) _ _ (lt-ltb (length e) (length (e ++ 34 ∷ rest)) (omega (arith, length-append e (34 ∷ rest))))
+first_quote e rest h = ap (λ n. if nat_lt n (length (e ++ 34 ∷ rest)) then Some n else None) (others e rest h)
+    ∙ if_true (nat_lt (length e) (length (e ++ 34 ∷ rest))) _ _ (lt-ltb (length e) (length (e ++ 34 ∷ rest)) (omega (arith, length-append e (34 ∷ rest))))
 
 -- the text between the quotes
 abbrev pub inside : List ℕ → List ℕ
@@ -207,7 +215,8 @@ pub quoted_length : (s : List ℕ) → length (quoted s) ≡ length (inside s) +
 quoted_length s = omega (arith, length-append (inside s) (34 ∷ []))
 
 string_is : (s rest : List ℕ) → string_length (quoted s ++ rest) ≡ Some (length (quoted s))
-string_is s rest = ap (λ bs. string_end (position is_quote bs)) (append_assoc (inside s) (34 ∷ []) rest) ∙ ap string_end (first_quote (inside s) rest (all_plain s)) ∙ ap Some (sym (quoted_length s))
+string_is s rest = ap (λ bs. string_end (position is_quote bs)) (append_assoc (inside s) (34 ∷ []) rest) ∙ ap string_end (first_quote (inside s) rest (all_plain s))
+    ∙ ap Some (sym (quoted_length s))
 
 -- ---- names
 
@@ -266,11 +275,13 @@ bytes_piece s rest = piece_run (99 ∷ []) (quoted s ++ rest) refl (omega arith)
 
 label_bare : (w rest : List ℕ) → is_bare w ≡ true → piece_of (w ++ 58 ∷ rest) ≡ Whole Label (length w + 1)
 unfolding run_piece
-label_bare w rest h = piece_run w (58 ∷ rest) (all_more is_name_byte is_run_byte name_run w (bare_all w h)) (bare_some w h) refl ∙ if_true (is_name w && true) _ _ (both (is_name w) true (bare_name w h) refl)
+label_bare w rest h = piece_run w (58 ∷ rest) (all_more is_name_byte is_run_byte name_run w (bare_all w h)) (bare_some w h) refl
+    ∙ if_true (is_name w && true) _ _ (both (is_name w) true (bare_name w h) refl)
 
 label_quoted : (s rest : List ℕ) → piece_of (quoted s ++ 58 ∷ rest) ≡ Whole Label (length (quoted s) + 1)
 unfolding piece_of marked_piece
-label_quoted s rest = ap (λ o. string_piece (quoted s ++ 58 ∷ rest) o) (string_is s (58 ∷ rest)) ∙ ap (λ bs. if begins is_colon bs then Whole Label (length (quoted s) + 1) else Whole Str (length (quoted s))) (drop_at (quoted s) (58 ∷ rest) (length (quoted s)) refl)
+label_quoted s rest = ap (λ o. string_piece (quoted s ++ 58 ∷ rest) o) (string_is s (58 ∷ rest))
+    ∙ ap (λ bs. if begins is_colon bs then Whole Label (length (quoted s) + 1) else Whole Str (length (quoted s))) (drop_at (quoted s) (58 ∷ rest) (length (quoted s)) refl)
 
 pub label_piece : (s rest : List ℕ) → piece_of ((name_text s ++ 58 ∷ []) ++ rest) ≡ Whole Label (length (name_text s ++ 58 ∷ []))
 unfolding name_text

@@ -1,5 +1,6 @@
 -- A name is read from its text.
-use Rattle.std.proofs.Common.{◌≡◌, ℕ, zero, suc, ◌+◌, ◌-◌, ◌*◌, ◌/◌, ◌%◌, ◌<◌, List, [], ◌∷◌, ◌++◌, length, take_at, refl, sym, ap, subst, ◌∙◌, arith, Bool, true, false, not, ◌||◌, ◌&&◌, ◌==◌, eqb-true, ltb-true, ◌≢◌, if◌then◌else◌, nat_lt, nat_le}
+use Rattle.std.proofs.Common.{◌≡◌, ℕ, zero, suc, ◌+◌, ◌-◌, ◌*◌, ◌/◌, ◌%◌, ◌<◌, List, [], ◌∷◌, ◌++◌, length, take_at, refl, sym, ap, subst}
+use Rattle.std.proofs.Common.{◌∙◌, arith, Bool, true, false, not, ◌||◌, ◌&&◌, ◌==◌, eqb-true, ltb-true, ◌≢◌, if◌then◌else◌, nat_lt, nat_le}
 use Rattle.std.specs.List.{list_all}
 use Rattle.std.proofs.lemmas.Bool.{eqb-false}
 use Rattle.pg_lex.specs.Bytes.{is_quote, begins}
@@ -43,7 +44,9 @@ escape_is b rest l =
     let x : hexadecimal_value c ≡ b / 16 = eqb-true (hexadecimal_value c) (b / 16) (fore (hexadecimal_value c == b / 16) (not (c == 92)) h1) in
     let y : hexadecimal_value d ≡ b % 16 = eqb-true (hexadecimal_value d) (b % 16) (fore (hexadecimal_value d == b % 16) (not (d == 92)) k1) in
     if_false (c == 92) _ _ (is_not (c == 92) (aft (hexadecimal_value c == b / 16) (not (c == 92)) h1))
-    ∙ if_true (is_hexadecimal c && is_hexadecimal d) _ _ (both (is_hexadecimal c) (is_hexadecimal d) (fore (is_hexadecimal c) (hexadecimal_value c == b / 16 && not (c == 92)) h) (fore (is_hexadecimal d) (hexadecimal_value d == b % 16 && not (d == 92)) k))
+    ∙ if_true (is_hexadecimal c
+    && is_hexadecimal d) _ _ (both (is_hexadecimal c) (is_hexadecimal d) (fore (is_hexadecimal c) (hexadecimal_value c == b / 16 && not (c == 92)) h)
+    (fore (is_hexadecimal d) (hexadecimal_value d == b % 16 && not (d == 92)) k))
     ∙ ap (λ n. record { byte = n; size = 3 }) (sum x y)
   where
     sum : {m n : ℕ} → m ≡ b / 16 → n ≡ b % 16 → m * 16 + n ≡ b
@@ -60,12 +63,14 @@ reads_byte b rest l = by (is_escaped b) refl
   where
     by : (c : Bool) → is_escaped b ≡ c → unescaped_from 0 ((if c then 92 ∷ hexadecimal (b / 16) ∷ hexadecimal (b % 16) ∷ [] else b ∷ []) ++ rest) ≡ b ∷ unescaped_from 0 rest
     by true e = ap (λ (x : Escape). x.byte ∷ unescaped_from (x.size - 1) (hexadecimal (b / 16) ∷ hexadecimal (b % 16) ∷ rest)) (escape_is b rest l)
-    by false e = ap (λ (x : Escape). x.byte ∷ unescaped_from (x.size - 1) rest) (plain_escape b rest (none_right (b == 34) (b == 92) (none_left (b == 34 || b == 92) (not (nat_le 32 b && nat_le b 126)) e)))
+    by false e = ap (λ (x : Escape). x.byte ∷ unescaped_from (x.size - 1) rest)
+        (plain_escape b rest (none_right (b == 34) (b == 92) (none_left (b == 34 || b == 92) (not (nat_le 32 b && nat_le b 126)) e)))
 
 reads_bytes : (s : List ℕ) → list_all is_byte s ≡ true → unescaped_from 0 (inside s) ≡ s
 unfolding unescaped_from
 reads_bytes [] h = refl
-reads_bytes (b ∷ s) h = let i : nat_lt b 256 ≡ true = fore (is_byte b) (list_all is_byte s) h in reads_byte b (inside s) (ltb-true b 256 i) ∙ ap (λ xs. b ∷ xs) (reads_bytes s (aft (is_byte b) (list_all is_byte s) h))
+reads_bytes (b ∷ s) h = let i : nat_lt b 256 ≡ true = fore (is_byte b) (list_all is_byte s) h in
+    reads_byte b (inside s) (ltb-true b 256 i) ∙ ap (λ xs. b ∷ xs) (reads_bytes s (aft (is_byte b) (list_all is_byte s) h))
 
 -- ---- names
 

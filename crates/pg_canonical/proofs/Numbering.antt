@@ -1,5 +1,6 @@
 -- What is read again is read again with the numbers of unnamed things as their names.
-use Rattle.std.proofs.Common.{◌≡◌, ℕ, ◌+◌, ◌<◌, List, [], ◌∷◌, refl, ap, ap₂, Option, Some, None, Bool, true, false, ◌&&◌, ◌==◌, not, if◌then◌else◌, codes, map, arith, lt-ltb}
+use Rattle.std.proofs.Common.{◌≡◌, ℕ, ◌+◌, ◌<◌, List, [], ◌∷◌, refl, ap, ap₂, Option, Some, None, Bool, true, false, ◌&&◌, ◌==◌, not, if◌then◌else◌}
+use Rattle.std.proofs.Common.{codes, map, arith, lt-ltb}
 use Rattle.std.specs.List.{list_all}
 use Rattle.std.specs.Int.Digits.{digits_of, AllBelowBase}
 use Rattle.std.proofs.lemmas.Int.Digits.{all_below_base_digits_of}
@@ -46,7 +47,8 @@ result_again false next None h = tt
 
 -- ---- lists
 
-every_at : {X : Type 0} (P Q : X → Type 1) (behind : ℕ → X → ℕ) (give : ℕ → X → X) → ((next : ℕ) (x : X) → P x → Q (give next x)) → (next : ℕ) (xs : List X) → Every P xs → Every Q (each_at behind give next xs)
+every_at : {X : Type 0} (P Q : X → Type 1) (behind : ℕ → X → ℕ) (give : ℕ → X → X) → ((next : ℕ) (x : X) → P x → Q (give next x)) → (next : ℕ) (xs : List X)
+    → Every P xs → Every Q (each_at behind give next xs)
 every_at P Q behind give f next [] h = tt
 every_at P Q behind give f next (x ∷ xs) h = (f next x h.0, every_at P Q behind give f (behind next x) xs h.1)
 
@@ -58,7 +60,8 @@ line_again_at types next l e = record { name = result_again (gives types l.op) n
 
 pub blocks_again : (types : List NamedType) (next : ℕ) (bs : List Block) → Every BlockAgain bs → Every BlockAgain (each_at (behind_block types) (block_at types) next bs)
 unfolding block_at
-blocks_again types next bs h = every_at BlockAgain BlockAgain (behind_block types) (block_at types) (λ n b e. record { label = name_again n b.label e.label; lines = every_at LineAgain LineAgain (behind_line types) (line_at types) (line_again_at types) _ b.lines e.lines }) next bs h
+blocks_again types next bs h = every_at BlockAgain BlockAgain (behind_block types) (block_at types)
+    (λ n b e. record { label = name_again n b.label e.label; lines = every_at LineAgain LineAgain (behind_line types) (line_at types) (line_again_at types) _ b.lines e.lines }) next bs h
 
 pub blocks_labelled : (types : List NamedType) (next : ℕ) (bs : List Block) → are_labelled (each_at (behind_block types) (block_at types) next bs) ≡ true
 unfolding block_at

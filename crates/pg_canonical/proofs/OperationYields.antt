@@ -15,53 +15,126 @@ use Rattle.pg_canonical.proofs.Yields.{Yields, yields_give, yields_one, yields_t
 use Rattle.pg_canonical.proofs.Types.{type_yields}
 use Rattle.pg_canonical.proofs.Values.{value_yields, typed_value_yields}
 use Rattle.pg_canonical.proofs.Attributes.{flags_then}
-use Rattle.pg_canonical.proofs.Operations.{Reads, binary_row, icmp_row, cast_row, select_row, incoming_yields, phi_rest, phi_row, br_row, cond_row, case_yields, switch_row, ret_void_row, ret_row, unreachable_row, alloca_row, alloca_count_row, load_row, store_row, gep_row}
+use Rattle.pg_canonical.proofs.Operations.{Reads, binary_row, icmp_row, cast_row, select_row, incoming_yields, phi_rest, phi_row, br_row, cond_row, case_yields, switch_row, ret_void_row}
+use Rattle.pg_canonical.proofs.Operations.{ret_row, unreachable_row, alloca_row, alloca_count_row, load_row, store_row, gep_row}
 use Rattle.pg_canonical.proofs.Calls.{CallAgain, call_yields}
 
 binary_yields : Yields binary (Reads binary)
-binary_yields = yields_then yields_one (λ o k. flags_then (yields_then (type_yields NESTING_LIMIT) (λ t x. yields_then (value_yields NESTING_LIMIT) (λ a y. yields_then yields_one (λ c _. yields_then (value_yields NESTING_LIMIT) (λ b z. yields_give (binary_row o.span (binary_of o.class) t a b x y z)))))))
+binary_yields = yields_then yields_one (λ o k. flags_then
+    (yields_then (type_yields NESTING_LIMIT) (λ t x. yields_then (value_yields NESTING_LIMIT)
+    (λ a y. yields_then yields_one (λ c _. yields_then (value_yields NESTING_LIMIT) (λ b z. yields_give (binary_row o.span (binary_of o.class) t a b x y z)))))))
 
 icmp_yields : Yields icmp (Reads icmp)
-icmp_yields = yields_then yields_one (λ o k. flags_then (yields_then yields_one (λ p k2. yields_then (type_yields NESTING_LIMIT) (λ t x. yields_then (value_yields NESTING_LIMIT) (λ a y. yields_then yields_one (λ c _. yields_then (value_yields NESTING_LIMIT) (λ b z. yields_give (icmp_row o.span (predicate_of p.class) t a b x y z))))))))
+icmp_yields = yields_then yields_one (λ o k. flags_then
+    (yields_then yields_one (λ p k2. yields_then (type_yields NESTING_LIMIT)
+    (λ t x. yields_then (value_yields NESTING_LIMIT) (λ a y. yields_then yields_one
+    (λ c _. yields_then (value_yields NESTING_LIMIT) (λ b z. yields_give (icmp_row o.span (predicate_of p.class) t a b x y z))))))))
 
 cast_yields : Yields cast (Reads cast)
-cast_yields = yields_then yields_one (λ o k. flags_then (yields_then (type_yields NESTING_LIMIT) (λ t1 x1. yields_then (value_yields NESTING_LIMIT) (λ v1 y1. yields_then yields_one (λ c _. yields_then (type_yields NESTING_LIMIT) (λ t x. yields_give (cast_row o.span (cast_of o.class) (record { ty = t1; value = v1 }) t (record { ty = x1; value = y1 }) x)))))))
+cast_yields = yields_then yields_one (λ o k. flags_then
+    (yields_then (type_yields NESTING_LIMIT) (λ t1 x1. yields_then (value_yields NESTING_LIMIT)
+    (λ v1 y1. yields_then yields_one (λ c _. yields_then (type_yields NESTING_LIMIT)
+    (λ t x. yields_give (cast_row o.span (cast_of o.class) (record { ty = t1; value = v1 }) t (record { ty = x1; value = y1 }) x)))))))
 
 select_yields : Yields select (Reads select)
-select_yields = yields_then yields_one (λ o _. yields_then (type_yields NESTING_LIMIT) (λ t1 x1. yields_then (value_yields NESTING_LIMIT) (λ v1 y1. yields_then yields_one (λ c _. yields_then (type_yields NESTING_LIMIT) (λ t2 x2. yields_then (value_yields NESTING_LIMIT) (λ v2 y2. yields_then yields_one (λ d _. yields_then (type_yields NESTING_LIMIT) (λ t3 x3. yields_then (value_yields NESTING_LIMIT) (λ v3 y3. yields_give (select_row o.span (record { ty = t1; value = v1 }) (record { ty = t2; value = v2 }) (record { ty = t3; value = v3 }) (record { ty = x1; value = y1 }) (record { ty = x2; value = y2 }) (record { ty = x3; value = y3 })))))))))))
+select_yields = yields_then yields_one (λ o _. yields_then (type_yields NESTING_LIMIT)
+    (λ t1 x1. yields_then (value_yields NESTING_LIMIT) (λ v1 y1. yields_then yields_one
+    (λ c _. yields_then (type_yields NESTING_LIMIT) (λ t2 x2. yields_then (value_yields NESTING_LIMIT)
+    (λ v2 y2. yields_then yields_one (λ d _. yields_then (type_yields NESTING_LIMIT)
+    (λ t3 x3. yields_then (value_yields NESTING_LIMIT) (λ v3 y3. yields_give
+    (select_row o.span (record { ty = t1; value = v1 }) (record { ty = t2; value = v2 }) (record { ty = t3; value = v3 }) (record { ty = x1; value = y1 }) (record { ty = x2; value = y2 })
+    (record { ty = x3; value = y3 })))))))))))
 
 phi_yields : Yields phi (Reads phi)
-phi_yields = yields_then yields_one (λ o _. yields_then (type_yields NESTING_LIMIT) (λ t x. yields_then {h = phi_rest o t} incoming_yields (λ i y. yields_then (yields_many (yields_then (yields_one {test = is Comma}) (λ c _. incoming_yields))) (λ all z. yields_give (phi_row o.span t i all x y z)))))
+phi_yields = yields_then yields_one (λ o _. yields_then (type_yields NESTING_LIMIT)
+    (λ t x. yields_then {h = phi_rest o t} incoming_yields
+    (λ i y. yields_then (yields_many (yields_then (yields_one {test = is Comma}) (λ c _. incoming_yields))) (λ all z. yields_give (phi_row o.span t i all x y z)))))
 
 branch_yields : Yields branch (Reads branch)
-branch_yields = yields_then yields_one (λ o _. yields_or (yields_then yields_one (λ l _. yields_then yields_one (λ b k. yields_give (br_row o.span (name_of b) k.formed.bytes)))) (yields_then (type_yields NESTING_LIMIT) (λ t1 x1. yields_then (value_yields NESTING_LIMIT) (λ v1 y1. yields_then yields_one (λ c _. yields_then yields_one (λ l _. yields_then yields_one (λ a k. yields_then yields_one (λ d _. yields_then yields_one (λ l2 _. yields_then yields_one (λ b k2. yields_give (cond_row o.span (record { ty = t1; value = v1 }) (name_of a) (name_of b) (record { ty = x1; value = y1 }) k.formed.bytes k2.formed.bytes)))))))))))
+branch_yields = yields_then yields_one (λ o _. yields_or (yields_then yields_one (λ l _. yields_then yields_one (λ b k. yields_give (br_row o.span (name_of b) k.formed.bytes))))
+    (yields_then (type_yields NESTING_LIMIT) (λ t1 x1. yields_then (value_yields NESTING_LIMIT)
+    (λ v1 y1. yields_then yields_one (λ c _. yields_then yields_one
+    (λ l _. yields_then yields_one (λ a k. yields_then yields_one
+    (λ d _. yields_then yields_one (λ l2 _. yields_then yields_one
+    (λ b k2. yields_give (cond_row o.span (record { ty = t1; value = v1 }) (name_of a) (name_of b) (record { ty = x1; value = y1 }) k.formed.bytes k2.formed.bytes)))))))))))
 
 switch_yields : Yields switch (Reads switch)
-switch_yields = yields_then yields_one (λ o _. yields_then (type_yields NESTING_LIMIT) (λ t1 x1. yields_then (value_yields NESTING_LIMIT) (λ v1 y1. yields_then yields_one (λ c _. yields_then yields_one (λ l _. yields_then yields_one (λ b k. yields_then yields_one (λ q _. yields_then (yields_many case_yields) (λ all z. yields_then yields_one (λ r _. yields_give (switch_row o.span (record { ty = t1; value = v1 }) (name_of b) all (record { ty = x1; value = y1 }) k.formed.bytes z))))))))))
+switch_yields = yields_then yields_one (λ o _. yields_then (type_yields NESTING_LIMIT)
+    (λ t1 x1. yields_then (value_yields NESTING_LIMIT) (λ v1 y1. yields_then yields_one
+    (λ c _. yields_then yields_one (λ l _. yields_then yields_one
+    (λ b k. yields_then yields_one (λ q _. yields_then (yields_many case_yields)
+    (λ all z. yields_then yields_one (λ r _. yields_give (switch_row o.span (record { ty = t1; value = v1 }) (name_of b) all (record { ty = x1; value = y1 }) k.formed.bytes z))))))))))
 
 return_yields : Yields return (Reads return)
-return_yields = yields_then yields_one (λ o _. yields_or (yields_then yields_one (λ v _. yields_give (ret_void_row o.span v.span))) (yields_then (type_yields NESTING_LIMIT) (λ t1 x1. yields_then (value_yields NESTING_LIMIT) (λ v1 y1. yields_give (ret_row o.span (record { ty = t1; value = v1 }) (record { ty = x1; value = y1 }))))))
+return_yields = yields_then yields_one (λ o _. yields_or (yields_then yields_one (λ v _. yields_give (ret_void_row o.span v.span)))
+    (yields_then (type_yields NESTING_LIMIT) (λ t1 x1. yields_then (value_yields NESTING_LIMIT)
+    (λ v1 y1. yields_give (ret_row o.span (record { ty = t1; value = v1 }) (record { ty = x1; value = y1 }))))))
 
 unreachable_yields : Yields unreachable (Reads unreachable)
 unreachable_yields = yields_then yields_one (λ o _. yields_give (unreachable_row o.span))
 
 alloca_yields : Yields alloca (Reads alloca)
-alloca_yields = yields_then yields_one (λ o _. yields_then (type_yields NESTING_LIMIT) (λ t x. yields_or (yields_then yields_one (λ c _. yields_then (type_yields NESTING_LIMIT) (λ u y. yields_or (yields_then yields_one (λ n k. yields_or (yields_then yields_one (λ c9 _. yields_then yields_one (λ a9 _. yields_then yields_one (λ n9 _. yields_give (alloca_count_row o.span t u (literal_of n) x y (k.formed.decimal k.class_is)))))) (yields_give (alloca_count_row o.span t u (literal_of n) x y (k.formed.decimal k.class_is))))) (yields_refused _ _)))) (yields_or (yields_then yields_one (λ c9 _. yields_then yields_one (λ a9 _. yields_then yields_one (λ n9 _. yields_give (alloca_row o.span t x))))) (yields_give (alloca_row o.span t x)))))
+alloca_yields = yields_then yields_one (λ o _. yields_then (type_yields NESTING_LIMIT)
+    (λ t x. yields_or (yields_then yields_one (λ c _. yields_then (type_yields NESTING_LIMIT)
+    (λ u y. yields_or (yields_then yields_one (λ n k. yields_or
+    (yields_then yields_one (λ c9 _. yields_then yields_one
+    (λ a9 _. yields_then yields_one (λ n9 _. yields_give (alloca_count_row o.span t u (literal_of n) x y (k.formed.decimal k.class_is))))))
+    (yields_give (alloca_count_row o.span t u (literal_of n) x y (k.formed.decimal k.class_is))))) (yields_refused _ _))))
+    (yields_or (yields_then yields_one (λ c9 _. yields_then yields_one (λ a9 _. yields_then yields_one (λ n9 _. yields_give (alloca_row o.span t x))))) (yields_give (alloca_row o.span t x)))))
 
 load_yields : Yields load (Reads load)
-load_yields = yields_then yields_one (λ o _. yields_or (yields_then yields_one (λ v _. yields_then (type_yields NESTING_LIMIT) (λ t x. yields_then yields_one (λ c _. yields_then (type_yields NESTING_LIMIT) (λ t1 x1. yields_then (value_yields NESTING_LIMIT) (λ v1 y1. yields_or (yields_then yields_one (λ c9 _. yields_then yields_one (λ a9 _. yields_then yields_one (λ n9 _. yields_give (load_row o.span t (record { ty = t1; value = v1 }) x (record { ty = x1; value = y1 })))))) (yields_give (load_row o.span t (record { ty = t1; value = v1 }) x (record { ty = x1; value = y1 }))))))))) (yields_then (type_yields NESTING_LIMIT) (λ t x. yields_then yields_one (λ c _. yields_then (type_yields NESTING_LIMIT) (λ t1 x1. yields_then (value_yields NESTING_LIMIT) (λ v1 y1. yields_or (yields_then yields_one (λ c9 _. yields_then yields_one (λ a9 _. yields_then yields_one (λ n9 _. yields_give (load_row o.span t (record { ty = t1; value = v1 }) x (record { ty = x1; value = y1 })))))) (yields_give (load_row o.span t (record { ty = t1; value = v1 }) x (record { ty = x1; value = y1 })))))))))
+load_yields = yields_then yields_one (λ o _. yields_or
+    (yields_then yields_one (λ v _. yields_then (type_yields NESTING_LIMIT)
+    (λ t x. yields_then yields_one (λ c _. yields_then (type_yields NESTING_LIMIT)
+    (λ t1 x1. yields_then (value_yields NESTING_LIMIT) (λ v1 y1. yields_or
+    (yields_then yields_one (λ c9 _. yields_then yields_one
+    (λ a9 _. yields_then yields_one (λ n9 _. yields_give (load_row o.span t (record { ty = t1; value = v1 }) x (record { ty = x1; value = y1 }))))))
+    (yields_give (load_row o.span t (record { ty = t1; value = v1 }) x (record { ty = x1; value = y1 })))))))))
+    (yields_then (type_yields NESTING_LIMIT) (λ t x. yields_then yields_one
+    (λ c _. yields_then (type_yields NESTING_LIMIT) (λ t1 x1. yields_then (value_yields NESTING_LIMIT)
+    (λ v1 y1. yields_or (yields_then yields_one (λ c9 _. yields_then yields_one
+    (λ a9 _. yields_then yields_one (λ n9 _. yields_give (load_row o.span t (record { ty = t1; value = v1 }) x (record { ty = x1; value = y1 }))))))
+    (yields_give (load_row o.span t (record { ty = t1; value = v1 }) x (record { ty = x1; value = y1 })))))))))
 
 store_yields : Yields store (Reads store)
-store_yields = yields_then yields_one (λ o _. yields_or (yields_then yields_one (λ v _. yields_then (type_yields NESTING_LIMIT) (λ t1 x1. yields_then (value_yields NESTING_LIMIT) (λ v1 y1. yields_then yields_one (λ c _. yields_then (type_yields NESTING_LIMIT) (λ t2 x2. yields_then (value_yields NESTING_LIMIT) (λ v2 y2. yields_or (yields_then yields_one (λ c9 _. yields_then yields_one (λ a9 _. yields_then yields_one (λ n9 _. yields_give (store_row o.span (record { ty = t1; value = v1 }) (record { ty = t2; value = v2 }) (record { ty = x1; value = y1 }) (record { ty = x2; value = y2 })))))) (yields_give (store_row o.span (record { ty = t1; value = v1 }) (record { ty = t2; value = v2 }) (record { ty = x1; value = y1 }) (record { ty = x2; value = y2 })))))))))) (yields_then (type_yields NESTING_LIMIT) (λ t1 x1. yields_then (value_yields NESTING_LIMIT) (λ v1 y1. yields_then yields_one (λ c _. yields_then (type_yields NESTING_LIMIT) (λ t2 x2. yields_then (value_yields NESTING_LIMIT) (λ v2 y2. yields_or (yields_then yields_one (λ c9 _. yields_then yields_one (λ a9 _. yields_then yields_one (λ n9 _. yields_give (store_row o.span (record { ty = t1; value = v1 }) (record { ty = t2; value = v2 }) (record { ty = x1; value = y1 }) (record { ty = x2; value = y2 })))))) (yields_give (store_row o.span (record { ty = t1; value = v1 }) (record { ty = t2; value = v2 }) (record { ty = x1; value = y1 }) (record { ty = x2; value = y2 }))))))))))
+store_yields = yields_then yields_one (λ o _. yields_or
+    (yields_then yields_one (λ v _. yields_then (type_yields NESTING_LIMIT)
+    (λ t1 x1. yields_then (value_yields NESTING_LIMIT) (λ v1 y1. yields_then yields_one
+    (λ c _. yields_then (type_yields NESTING_LIMIT) (λ t2 x2. yields_then (value_yields NESTING_LIMIT)
+    (λ v2 y2. yields_or (yields_then yields_one (λ c9 _. yields_then yields_one
+    (λ a9 _. yields_then yields_one (λ n9 _. yields_give
+    (store_row o.span (record { ty = t1; value = v1 }) (record { ty = t2; value = v2 }) (record { ty = x1; value = y1 }) (record { ty = x2; value = y2 }))))))
+    (yields_give (store_row o.span (record { ty = t1; value = v1 }) (record { ty = t2; value = v2 }) (record { ty = x1; value = y1 }) (record { ty = x2; value = y2 }))))))))))
+    (yields_then (type_yields NESTING_LIMIT) (λ t1 x1. yields_then (value_yields NESTING_LIMIT)
+    (λ v1 y1. yields_then yields_one (λ c _. yields_then (type_yields NESTING_LIMIT)
+    (λ t2 x2. yields_then (value_yields NESTING_LIMIT) (λ v2 y2. yields_or
+    (yields_then yields_one (λ c9 _. yields_then yields_one
+    (λ a9 _. yields_then yields_one (λ n9 _. yields_give
+    (store_row o.span (record { ty = t1; value = v1 }) (record { ty = t2; value = v2 }) (record { ty = x1; value = y1 }) (record { ty = x2; value = y2 }))))))
+    (yields_give (store_row o.span (record { ty = t1; value = v1 }) (record { ty = t2; value = v2 }) (record { ty = x1; value = y1 }) (record { ty = x2; value = y2 }))))))))))
 
 gep_yields : Yields gep (Reads gep)
-gep_yields = yields_then yields_one (λ o _. flags_then (yields_then (type_yields NESTING_LIMIT) (λ t x. yields_then yields_one (λ c _. yields_then (type_yields NESTING_LIMIT) (λ t1 x1. yields_then (value_yields NESTING_LIMIT) (λ v1 y1. yields_then (yields_many (yields_then (yields_one {test = is Comma}) (λ c2 _. typed_value_yields NESTING_LIMIT))) (λ all z. yields_give (gep_row o.span t (record { ty = t1; value = v1 }) all x (record { ty = x1; value = y1 }) z))))))))
+gep_yields = yields_then yields_one (λ o _. flags_then
+    (yields_then (type_yields NESTING_LIMIT) (λ t x. yields_then yields_one
+    (λ c _. yields_then (type_yields NESTING_LIMIT) (λ t1 x1. yields_then (value_yields NESTING_LIMIT)
+    (λ v1 y1. yields_then (yields_many (yields_then (yields_one {test = is Comma}) (λ c2 _. typed_value_yields NESTING_LIMIT)))
+    (λ all z. yields_give (gep_row o.span t (record { ty = t1; value = v1 }) all x (record { ty = x1; value = y1 }) z))))))))
 
 plain_yields : Yields plain_op (Reads plain_op)
-plain_yields = yields_or (yields_more (λ p e. left_text e) binary_yields) (yields_or (yields_more (λ p e. right_text (left_text e)) icmp_yields) (yields_or (yields_more (λ p e. right_text (right_text (left_text e))) select_yields) (yields_or (yields_more (λ p e. right_text (right_text (right_text (left_text e)))) phi_yields) (yields_or (yields_more (λ p e. right_text (right_text (right_text (right_text (left_text e))))) branch_yields) (yields_or (yields_more (λ p e. right_text (right_text (right_text (right_text (right_text (left_text e)))))) switch_yields) (yields_or (yields_more (λ p e. right_text (right_text (right_text (right_text (right_text (right_text (left_text e))))))) unreachable_yields) (yields_or (yields_more (λ p e. right_text (right_text (right_text (right_text (right_text (right_text (right_text (left_text e)))))))) alloca_yields) (yields_or (yields_more (λ p e. right_text (right_text (right_text (right_text (right_text (right_text (right_text (right_text (left_text e))))))))) load_yields) (yields_more (λ p e. right_text (right_text (right_text (right_text (right_text (right_text (right_text (right_text (right_text e))))))))) store_yields)))))))))
+plain_yields = yields_or (yields_more (λ p e. left_text e) binary_yields)
+    (yields_or (yields_more (λ p e. right_text (left_text e)) icmp_yields)
+    (yields_or (yields_more (λ p e. right_text (right_text (left_text e))) select_yields)
+    (yields_or (yields_more (λ p e. right_text (right_text (right_text (left_text e)))) phi_yields)
+    (yields_or (yields_more (λ p e. right_text (right_text (right_text (right_text (left_text e))))) branch_yields)
+    (yields_or (yields_more (λ p e. right_text (right_text (right_text (right_text (right_text (left_text e)))))) switch_yields)
+    (yields_or (yields_more (λ p e. right_text (right_text (right_text (right_text (right_text (right_text (left_text e))))))) unreachable_yields)
+    (yields_or (yields_more (λ p e. right_text (right_text (right_text (right_text (right_text (right_text (right_text (left_text e)))))))) alloca_yields)
+    (yields_or (yields_more (λ p e. right_text (right_text (right_text (right_text (right_text (right_text (right_text (right_text (left_text e))))))))) load_yields)
+    (yields_more (λ p e. right_text (right_text (right_text (right_text (right_text (right_text (right_text (right_text (right_text e))))))))) store_yields)))))))))
 
 simple_yields : Yields simple_op (Reads simple_op)
-simple_yields = yields_or (yields_more (λ p e. left_text e) gep_yields) (yields_or (yields_more (λ p e. right_text (left_text e)) cast_yields) (yields_more (λ p e. right_text (right_text e)) plain_yields))
+simple_yields = yields_or (yields_more (λ p e. left_text e) gep_yields)
+    (yields_or (yields_more (λ p e. right_text (left_text e)) cast_yields) (yields_more (λ p e. right_text (right_text e)) plain_yields))
 
 either_yields : Yields (return or simple_op) (Reads (return or simple_op))
 either_yields = yields_or (yields_more (λ p e. left_text e) return_yields) (yields_more (λ p e. right_text e) simple_yields)
@@ -79,4 +152,5 @@ call_is None h = tt
 call_is (Some p) h = left_text (left_text h)
 
 pub op_yields : Yields op OptionAgain
-op_yields = yields_or (yields_or (yields_more call_is call_yields) (yields_then {h = λ o. give (Some o)} either_yields (λ p e. yields_give (left_text (right_text (last_text {f = λ q. Some q} e (λ q x. ap Some x))))))) (yields_refused _ _)
+op_yields = yields_or (yields_or (yields_more call_is call_yields)
+    (yields_then {h = λ o. give (Some o)} either_yields (λ p e. yields_give (left_text (right_text (last_text {f = λ q. Some q} e (λ q x. ap Some x))))))) (yields_refused _ _)

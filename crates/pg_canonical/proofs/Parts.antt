@@ -55,7 +55,8 @@ plain_line_of : (name : Option Name) (o : Option Op) → plain_part (line_of nam
 plain_line_of name None = refl
 plain_line_of name (Some p) = refl
 
-line_is : (name other : Option Name) (o : Option Op) (p : Op) → plain_option plain_name name ≡ plain_option plain_name other → plain_option plain_op o ≡ Some (plain_op p) → plain_part (line_of name o) ≡ LinePart (plain_line (record { name = other; op = p }))
+line_is : (name other : Option Name) (o : Option Op) (p : Op) → plain_option plain_name name ≡ plain_option plain_name other → plain_option plain_op o ≡ Some (plain_op p)
+    → plain_part (line_of name o) ≡ LinePart (plain_line (record { name = other; op = p }))
 line_is name other o p x y = plain_line_of name o ∙ ap₂ part_with x y
 
 abbrev line_rest : Option Name → Option Op → Gram Part
@@ -67,14 +68,16 @@ line_texts n o = rw (append_assoc n (32 ∷ 61 ∷ 32 ∷ o) (10 ∷ []), append
 line_row : (name : Option Name) (p : Op) → NameOption name → OpAgain p → PartAgain (LinePart (record { name = name; op = p }))
 unfolding line_text
 line_row None p h e = fed (λ r i. refl) (spaced (spaced (right_text (right_text (right_text (end_text {h = line_rest None} e (λ o y. no_metadata (given (line_is None None o p refl y)))))))))
-line_row (Some n) p h e = text_as (line_texts (name_text n.text) (op_text p)) (fed (λ r i. refl) (spaced (spaced (right_text (right_text (left_text (then_text (local_again n.text h) (λ r i. refl) (λ t x. mark_then (spaced equals) (λ q _.
+line_row (Some n) p h e = text_as (line_texts (name_text n.text) (op_text p))
+    (fed (λ r i. refl) (spaced (spaced (right_text (right_text (left_text (then_text (local_again n.text h) (λ r i. refl) (λ t x. mark_then (spaced equals) (λ q _.
     end_text {h = line_rest (Some (name_of t))} (spaced e) (λ o y. no_metadata (given (line_is (Some (name_of t)) (Some n) o p (ap Some (same_name x)) y))))))))))))
 
 pub line_again : (l : Line) → LineAgain l → PartAgain (LinePart l)
 line_again l e = line_row l.name l.op e.name e.op
 
 pub label_again_part : (n : Name) → IsNameText n.text → PartAgain (LabelPart n)
-label_again_part n h = text_as (append_assoc (name_text n.text) (58 ∷ []) (10 ∷ [])) (fed (λ r i. refl) (left_text (last_text (label_again {before = stops} n.text h) (λ t x. ap LabelPart (same_name x)))))
+label_again_part n h = text_as (append_assoc (name_text n.text) (58 ∷ []) (10 ∷ []))
+    (fed (λ r i. refl) (left_text (last_text (label_again {before = stops} n.text h) (λ t x. ap LabelPart (same_name x)))))
 
 -- ---- the parts of a text
 

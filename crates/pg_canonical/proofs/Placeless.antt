@@ -2,9 +2,18 @@
 use Rattle.std.proofs.Common.{◌≡◌, ℕ, List, [], ◌∷◌, ◌++◌, refl, ap, ap₂, Option, Some, None, Bool, true, false, flat_map, map, codes}
 use Rattle.std.specs.List.{join_by}
 use Rattle.pg_ast.specs.declared.names.Name.{Name}
-use Rattle.pg_ast.specs.Syntax.{Ty, Tys, I1, I8, I16, I32, I64, Ptr, Void, Array, Struct, Named, NoTys, MoreTys, Val, Vals, Int, True, False, Null, Undef, Poison, ZeroInitializer, Local, Global, GepVal, IntToPtrVal, NoVals, MoreVals, Typed, Const, Consts, ValConst, BytesConst, ArrayConst, StructConst, NoConsts, MoreConsts, Incoming, Case, Written, Count, Op, Binary, Icmp, Cast, Select, Phi, Br, CondBr, Switch, Call, RetVoid, Ret, Unreachable, Alloca, Load, Store, GetElementPtr, Line, Block, Param, Dparam, ParamOf, Metadata, Dots, NamedType, Variable, Declaration, Definition, Tree}
-use Rattle.pg_ast.specs.Text.{local_text, global_text, type_text, fields_text, more_fields_text, int_to_ptr_text, gep_text, gep_head, val_text, more_vals_text, typed_text, padding_text, const_text, consts_text, more_consts_text, binary_word, predicate_word, cast_word, label_text, more_label_text, pair_text, incoming_text, more_incoming_text, case_text, dots_text, written_text, types_written_text, count_text, more_typed_text, cast_text, phi_text, switch_text, called_text, gep_op_text, op_text, result_text, line_text, label_line, block_text, param_name_text, param_text, dparam_text, type_item_text, constancy_text, global_item_text, declare_text, head_text, define_text, tree_text}
-use Rattle.pg_canonical.specs.Spans.{plain_name, plain_option, plain_type, plain_types, plain_value, plain_values, plain_typed, plain_const, plain_consts, plain_incoming, plain_case, plain_written, plain_count, plain_op, plain_line, plain_block, plain_param, plain_dparam, plain_named, plain_variable, plain_declaration, plain_definition, without_spans}
+use Rattle.pg_ast.specs.Syntax.{Ty, Tys, I1, I8, I16, I32, I64, Ptr, Void, Array, Struct, Named, NoTys, MoreTys, Val, Vals, Int, True, False, Null, Undef, Poison, ZeroInitializer, Local}
+use Rattle.pg_ast.specs.Syntax.{Global, GepVal, IntToPtrVal, NoVals, MoreVals, Typed, Const, Consts, ValConst, BytesConst, ArrayConst, StructConst, NoConsts, MoreConsts, Incoming, Case}
+use Rattle.pg_ast.specs.Syntax.{Written, Count, Op, Binary, Icmp, Cast, Select, Phi, Br, CondBr, Switch, Call, RetVoid, Ret, Unreachable, Alloca, Load, Store, GetElementPtr, Line, Block}
+use Rattle.pg_ast.specs.Syntax.{Param, Dparam, ParamOf, Metadata, Dots, NamedType, Variable, Declaration, Definition, Tree}
+use Rattle.pg_ast.specs.Text.{local_text, global_text, type_text, fields_text, more_fields_text, int_to_ptr_text, gep_text, gep_head, val_text, more_vals_text, typed_text, padding_text}
+use Rattle.pg_ast.specs.Text.{const_text, consts_text, more_consts_text, binary_word, predicate_word, cast_word, label_text, more_label_text, pair_text, incoming_text, more_incoming_text}
+use Rattle.pg_ast.specs.Text.{case_text, dots_text, written_text, types_written_text, count_text, more_typed_text, cast_text, phi_text, switch_text, called_text, gep_op_text, op_text}
+use Rattle.pg_ast.specs.Text.{result_text, line_text, label_line, block_text, param_name_text, param_text, dparam_text, type_item_text, constancy_text, global_item_text, declare_text}
+use Rattle.pg_ast.specs.Text.{head_text, define_text, tree_text}
+use Rattle.pg_canonical.specs.Spans.{plain_name, plain_option, plain_type, plain_types, plain_value, plain_values, plain_typed, plain_const, plain_consts, plain_incoming, plain_case}
+use Rattle.pg_canonical.specs.Spans.{plain_written, plain_count, plain_op, plain_line, plain_block, plain_param, plain_dparam, plain_named, plain_variable, plain_declaration}
+use Rattle.pg_canonical.specs.Spans.{plain_definition, without_spans}
 use Rattle.pg_canonical.proofs.Values.{ap₃}
 
 -- ---- lists
@@ -133,7 +142,8 @@ op_same (Binary s o t a b) = ap (λ x. binary_word o ++ x) (pair_same t a b)
 op_same (Icmp s o t a b) = ap (λ x. codes "icmp " ++ (predicate_word o ++ x)) (pair_same t a b)
 op_same (Cast s o v t) = ap₂ (λ x y. cast_word o ++ (codes " " ++ (x ++ (codes " to " ++ y)))) (typed_same v) (type_same t)
 op_same (Select s c a b) = ap₃ (λ x y z. codes "select " ++ (x ++ (y ++ z))) (typed_same c) (more_typed_same a) (more_typed_same b)
-op_same (Phi s t i all) = ap₃ (λ x y z. codes "phi " ++ (x ++ (codes " " ++ (y ++ z)))) (type_same t) (incoming_same i) (flat_same more_incoming_text plain_incoming (λ j. ap (λ x. codes ", " ++ x) (incoming_same j)) all)
+op_same (Phi s t i all) = ap₃ (λ x y z. codes "phi " ++ (x ++ (codes " " ++ (y ++ z)))) (type_same t) (incoming_same i)
+    (flat_same more_incoming_text plain_incoming (λ j. ap (λ x. codes ", " ++ x) (incoming_same j)) all)
 op_same (Br s b) = refl
 op_same (CondBr s c a b) = ap (λ x. codes "br " ++ (x ++ (more_label_text a ++ more_label_text b))) (typed_same c)
 op_same (Switch s v b all) = ap₂ (λ x y. codes "switch " ++ (x ++ (more_label_text b ++ (codes " [" ++ (y ++ codes " ]"))))) (typed_same v) (flat_same case_text plain_case case_same all)
@@ -188,11 +198,15 @@ variable_same g = ap₂ (λ x y. global_text g.name ++ (constancy_text g.is_cons
 
 declaration_same : (d : Declaration) → declare_text (plain_declaration d) ≡ declare_text d
 unfolding declare_text
-declaration_same d = ap₂ (λ x y. codes "declare " ++ (x ++ (codes " " ++ (global_text d.name ++ (codes "(" ++ (y ++ codes ")\n")))))) (type_same d.result) (join_same dparam_text plain_dparam (codes ", ") dparam_same d.params)
+declaration_same d = ap₂ (λ x y. codes "declare " ++ (x ++ (codes " " ++ (global_text d.name ++ (codes "(" ++ (y ++ codes ")\n")))))) (type_same d.result)
+    (join_same dparam_text plain_dparam (codes ", ") dparam_same d.params)
 
 definition_same : (d : Definition) → define_text (plain_definition d) ≡ define_text d
 unfolding define_text head_text
-definition_same d = ap₃ (λ x y z. (codes "define " ++ (x ++ (codes " " ++ (global_text d.name ++ (codes "(" ++ (y ++ codes ") {\n")))))) ++ (z ++ codes "}\n")) (type_same d.result) (join_same param_text plain_param (codes ", ") param_same d.params) (flat_same block_text plain_block block_same d.blocks)
+definition_same d = ap₃ (λ x y z. (codes "define " ++ (x ++ (codes " " ++ (global_text d.name ++ (codes "(" ++ (y ++ codes ") {\n")))))) ++ (z ++ codes "}\n")) (type_same d.result)
+    (join_same param_text plain_param (codes ", ") param_same d.params) (flat_same block_text plain_block block_same d.blocks)
 
 pub tree_same : (m : Tree) → tree_text (without_spans m) ≡ tree_text m
-tree_same m = ap₂ (λ x y. x ++ y) (flat_same type_item_text plain_named item_same m.types) (ap₃ (λ x y z. x ++ (y ++ z)) (flat_same global_item_text plain_variable variable_same m.globals) (flat_same declare_text plain_declaration declaration_same m.declares) (flat_same define_text plain_definition definition_same m.functions))
+tree_same m = ap₂ (λ x y. x ++ y) (flat_same type_item_text plain_named item_same m.types)
+    (ap₃ (λ x y z. x ++ (y ++ z)) (flat_same global_item_text plain_variable variable_same m.globals) (flat_same declare_text plain_declaration declaration_same m.declares)
+    (flat_same define_text plain_definition definition_same m.functions))

@@ -1,21 +1,27 @@
 -- Numbers don't depend on places, and a numbered tree keeps its names.
 use Rattle.std.proofs.Common.{◌≡◌, ℕ, zero, suc, List, [], ◌∷◌, length, refl, ap, ap₂, ◌∙◌, Option, Some, None, Bool, true, false, not, if◌then◌else◌, bytes_eq, map}
 use Rattle.pg_ast.specs.declared.names.Name.{Name}
-use Rattle.pg_ast.specs.Syntax.{Ty, I1, I8, I16, I32, I64, Ptr, Void, Array, Struct, Named, Op, Binary, Icmp, Cast, Select, Phi, Br, CondBr, Switch, Call, RetVoid, Ret, Unreachable, Alloca, Load, Store, GetElementPtr, Line, Block, Param, NamedType, Definition, Tree}
-use Rattle.pg_ast.specs.Numbers.{name_at, after, each_at, behind_all, param_at, behind_param, type_named, void_by, is_some_and, name_void, void_within, is_void, gives, result_at, after_result, line_at, behind_line, block_at, behind_block, numbered, numbered_tree}
+use Rattle.pg_ast.specs.Syntax.{Ty, I1, I8, I16, I32, I64, Ptr, Void, Array, Struct, Named, Op, Binary, Icmp, Cast, Select, Phi, Br, CondBr, Switch, Call, RetVoid, Ret, Unreachable, Alloca}
+use Rattle.pg_ast.specs.Syntax.{Load, Store, GetElementPtr, Line, Block, Param, NamedType, Definition, Tree}
+use Rattle.pg_ast.specs.Numbers.{name_at, after, each_at, behind_all, param_at, behind_param, type_named, void_by, is_some_and, name_void, void_within, is_void, gives, result_at}
+use Rattle.pg_ast.specs.Numbers.{after_result, line_at, behind_line, block_at, behind_block, numbered, numbered_tree}
 use Rattle.pg_canonical.specs.Spans.{plain_name, plain_option, plain_type, plain_op, plain_line, plain_block, plain_param, plain_named, plain_definition, without_spans}
 
 -- ---- lists
 
-at_same : {X : Type 0} (p : X → X) (behind behind' : ℕ → X → ℕ) (give give' : ℕ → X → X) → ((n : ℕ) (x : X) → behind' n (p x) ≡ behind n x) → ((n : ℕ) (x : X) → give' n (p x) ≡ p (give n x)) → (next : ℕ) (xs : List X) → each_at behind' give' next (map p xs) ≡ map p (each_at behind give next xs)
+at_same : {X : Type 0} (p : X → X) (behind behind' : ℕ → X → ℕ) (give give' : ℕ → X → X) → ((n : ℕ) (x : X) → behind' n (p x) ≡ behind n x)
+    → ((n : ℕ) (x : X) → give' n (p x) ≡ p (give n x)) → (next : ℕ) (xs : List X) → each_at behind' give' next (map p xs) ≡ map p (each_at behind give next xs)
 at_same p behind behind' give give' e f next [] = refl
-at_same p behind behind' give give' e f next (x ∷ xs) = ap₂ (λ a b. a ∷ b) (f next x) (ap (λ n. each_at behind' give' n (map p xs)) (e next x) ∙ at_same p behind behind' give give' e f (behind next x) xs)
+at_same p behind behind' give give' e f next (x ∷ xs) = ap₂ (λ a b. a ∷ b) (f next x)
+    (ap (λ n. each_at behind' give' n (map p xs)) (e next x) ∙ at_same p behind behind' give give' e f (behind next x) xs)
 
-behind_same : {X : Type 0} (p : X → X) (behind behind' : ℕ → X → ℕ) → ((n : ℕ) (x : X) → behind' n (p x) ≡ behind n x) → (next : ℕ) (xs : List X) → behind_all behind' next (map p xs) ≡ behind_all behind next xs
+behind_same : {X : Type 0} (p : X → X) (behind behind' : ℕ → X → ℕ) → ((n : ℕ) (x : X) → behind' n (p x) ≡ behind n x) → (next : ℕ) (xs : List X)
+    → behind_all behind' next (map p xs) ≡ behind_all behind next xs
 behind_same p behind behind' e next [] = refl
 behind_same p behind behind' e next (x ∷ xs) = ap (λ n. behind_all behind' n (map p xs)) (e next x) ∙ behind_same p behind behind' e (behind next x) xs
 
-at_twice : {X : Type 0} (behind behind' : ℕ → X → ℕ) (give : ℕ → X → X) → ((k n : ℕ) (x : X) → give k (give n x) ≡ give n x) → (k next : ℕ) (xs : List X) → each_at behind' give k (each_at behind give next xs) ≡ each_at behind give next xs
+at_twice : {X : Type 0} (behind behind' : ℕ → X → ℕ) (give : ℕ → X → X) → ((k n : ℕ) (x : X) → give k (give n x) ≡ give n x) → (k next : ℕ) (xs : List X)
+    → each_at behind' give k (each_at behind give next xs) ≡ each_at behind give next xs
 at_twice behind behind' give f k next [] = refl
 at_twice behind behind' give f k next (x ∷ xs) = ap₂ (λ a b. a ∷ b) (f k next x) (at_twice behind behind' give f (behind' k (give next x)) (behind next x) xs)
 
@@ -54,11 +60,13 @@ name_void_same : (n : ℕ) (types : List NamedType) (name : List ℕ) → name_v
 unfolding name_void
 name_void_same zero types name = refl
 name_void_same (suc n) types name = ap (λ o. is_some_and o (λ t. void_by (name_void n (map plain_named types)) t)) (named_same types name)
-    ∙ some_same (λ t. void_by (name_void n (map plain_named types)) t) (λ t. void_by (name_void n types) t) (void_by_same (name_void n (map plain_named types)) (name_void n types) (name_void_same n types)) (type_named types name)
+    ∙ some_same (λ t. void_by (name_void n (map plain_named types)) t) (λ t. void_by (name_void n types) t)
+    (void_by_same (name_void n (map plain_named types)) (name_void n types) (name_void_same n types)) (type_named types name)
 
 void_same : (types : List NamedType) (t : Ty) → is_void (map plain_named types) (plain_type t) ≡ is_void types t
 unfolding is_void
-void_same types t = ap (λ n. void_within n (map plain_named types) (plain_type t)) (length_same plain_named types) ∙ void_by_same (name_void (length types) (map plain_named types)) (name_void (length types) types) (name_void_same (length types) types) t
+void_same types t = ap (λ n. void_within n (map plain_named types) (plain_type t)) (length_same plain_named types)
+    ∙ void_by_same (name_void (length types) (map plain_named types)) (name_void (length types) types) (name_void_same (length types) types) t
 
 gives_same : (types : List NamedType) (p : Op) → gives (map plain_named types) (plain_op p) ≡ gives types p
 unfolding gives
@@ -102,7 +110,8 @@ after_result_same false next None = refl
 -- ---- functions
 
 line_at_same : (types : List NamedType) (next : ℕ) (l : Line) → line_at (map plain_named types) next (plain_line l) ≡ plain_line (line_at types next l)
-line_at_same types next l = ap (λ n. let x : Line = record { name = n; op = plain_op l.op } in x) (ap (λ c. result_at c next (plain_option plain_name l.name)) (gives_same types l.op) ∙ result_same (gives types l.op) next l.name)
+line_at_same types next l = ap (λ n. let x : Line = record { name = n; op = plain_op l.op } in x)
+    (ap (λ c. result_at c next (plain_option plain_name l.name)) (gives_same types l.op) ∙ result_same (gives types l.op) next l.name)
 
 behind_line_same : (types : List NamedType) (next : ℕ) (l : Line) → behind_line (map plain_named types) next (plain_line l) ≡ behind_line types next l
 behind_line_same types next l = ap (λ c. after_result c next (plain_option plain_name l.name)) (gives_same types l.op) ∙ after_result_same (gives types l.op) next l.name
@@ -110,11 +119,14 @@ behind_line_same types next l = ap (λ c. after_result c next (plain_option plai
 block_at_same : (types : List NamedType) (next : ℕ) (b : Block) → block_at (map plain_named types) next (plain_block b) ≡ plain_block (block_at types next b)
 unfolding block_at
 block_at_same types next b = ap₂ (λ n ls. let x : Block = record { label = Some n; lines = ls } in x) (name_same next b.label)
-    (ap (λ n. each_at (behind_line (map plain_named types)) (line_at (map plain_named types)) n (map plain_line b.lines)) (after_same next b.label) ∙ at_same plain_line (behind_line types) (behind_line (map plain_named types)) (line_at types) (line_at (map plain_named types)) (behind_line_same types) (line_at_same types) (after next b.label) b.lines)
+    (ap (λ n. each_at (behind_line (map plain_named types)) (line_at (map plain_named types)) n (map plain_line b.lines)) (after_same next b.label)
+    ∙ at_same plain_line (behind_line types) (behind_line (map plain_named types)) (line_at types) (line_at (map plain_named types)) (behind_line_same types) (line_at_same types)
+    (after next b.label) b.lines)
 
 behind_block_same : (types : List NamedType) (next : ℕ) (b : Block) → behind_block (map plain_named types) next (plain_block b) ≡ behind_block types next b
 unfolding behind_block
-behind_block_same types next b = ap (λ n. behind_all (behind_line (map plain_named types)) n (map plain_line b.lines)) (after_same next b.label) ∙ behind_same plain_line (behind_line types) (behind_line (map plain_named types)) (behind_line_same types) (after next b.label) b.lines
+behind_block_same types next b = ap (λ n. behind_all (behind_line (map plain_named types)) n (map plain_line b.lines)) (after_same next b.label)
+    ∙ behind_same plain_line (behind_line types) (behind_line (map plain_named types)) (behind_line_same types) (after next b.label) b.lines
 
 param_at_same : (next : ℕ) (p : Param) → param_at next (plain_param p) ≡ plain_param (param_at next p)
 param_at_same next p = ap (λ n. let x : Param = record { ty = plain_type p.ty; name = Some n } in x) (name_same next p.name)
@@ -126,8 +138,10 @@ numbered_same : (types : List NamedType) (d : Definition) → numbered (map plai
 unfolding numbered
 numbered_same types d = ap₂ (λ ps bs. let x : Definition = record { result = plain_type d.result; name = plain_name d.name; params = ps; blocks = bs } in x)
     (at_same plain_param behind_param behind_param param_at param_at behind_param_same param_at_same 0 d.params)
-    (ap (λ n. each_at (behind_block (map plain_named types)) (block_at (map plain_named types)) n (map plain_block d.blocks)) (behind_same plain_param behind_param behind_param behind_param_same 0 d.params)
-    ∙ at_same plain_block (behind_block types) (behind_block (map plain_named types)) (block_at types) (block_at (map plain_named types)) (behind_block_same types) (block_at_same types) (behind_all behind_param 0 d.params) d.blocks)
+    (ap (λ n. each_at (behind_block (map plain_named types)) (block_at (map plain_named types)) n (map plain_block d.blocks))
+    (behind_same plain_param behind_param behind_param behind_param_same 0 d.params)
+    ∙ at_same plain_block (behind_block types) (behind_block (map plain_named types)) (block_at types) (block_at (map plain_named types)) (behind_block_same types) (block_at_same types)
+    (behind_all behind_param 0 d.params) d.blocks)
 
 all_same : (types : List NamedType) (ds : List Definition) → map (numbered (map plain_named types)) (map plain_definition ds) ≡ map plain_definition (map (numbered types) ds)
 all_same types [] = refl
@@ -149,15 +163,18 @@ line_twice types k n l = ap (λ x. let y : Line = record { name = x; op = l.op }
 
 block_twice : (types : List NamedType) (k n : ℕ) (b : Block) → block_at types k (block_at types n b) ≡ block_at types n b
 unfolding block_at
-block_twice types k n b = ap (λ ls. let x : Block = record { label = Some (name_at n b.label); lines = ls } in x) (at_twice (behind_line types) (behind_line types) (line_at types) (line_twice types) (after k (Some (name_at n b.label))) (after n b.label) b.lines)
+block_twice types k n b = ap (λ ls. let x : Block = record { label = Some (name_at n b.label); lines = ls } in x)
+    (at_twice (behind_line types) (behind_line types) (line_at types) (line_twice types) (after k (Some (name_at n b.label))) (after n b.label) b.lines)
 
 param_twice : (k n : ℕ) (p : Param) → param_at k (param_at n p) ≡ param_at n p
 param_twice k n p = refl
 
 numbered_twice : (types : List NamedType) (d : Definition) → numbered types (numbered types d) ≡ numbered types d
 unfolding numbered
-numbered_twice types d = ap₂ (λ ps bs. let x : Definition = record { result = d.result; name = d.name; params = ps; blocks = bs } in x) (at_twice behind_param behind_param param_at param_twice 0 0 d.params)
-    (at_twice (behind_block types) (behind_block types) (block_at types) (block_twice types) (behind_all behind_param 0 (each_at behind_param param_at 0 d.params)) (behind_all behind_param 0 d.params) d.blocks)
+numbered_twice types d = ap₂ (λ ps bs. let x : Definition = record { result = d.result; name = d.name; params = ps; blocks = bs } in x)
+    (at_twice behind_param behind_param param_at param_twice 0 0 d.params)
+    (at_twice (behind_block types) (behind_block types) (block_at types) (block_twice types) (behind_all behind_param 0 (each_at behind_param param_at 0 d.params))
+    (behind_all behind_param 0 d.params) d.blocks)
 
 all_twice : (types : List NamedType) (ds : List Definition) → map (numbered types) (map (numbered types) ds) ≡ map (numbered types) ds
 all_twice types [] = refl

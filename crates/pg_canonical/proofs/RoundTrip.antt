@@ -43,7 +43,8 @@ item_text (DefineItem d) = define_text d
 item_text OtherItem = []
 
 -- a list of items, the first of which are made of these
-made_text : {X : Type 0} (c : X → Item) (f : X → List ℕ) → ((x : X) → item_text (c x) ≡ f x) → (xs : List X) (rest : List Item) → flat_map item_text (map c xs ++ rest) ≡ flat_map f xs ++ flat_map item_text rest
+made_text : {X : Type 0} (c : X → Item) (f : X → List ℕ) → ((x : X) → item_text (c x) ≡ f x) → (xs : List X) (rest : List Item)
+    → flat_map item_text (map c xs ++ rest) ≡ flat_map f xs ++ flat_map item_text rest
 made_text c f e [] rest = refl
 made_text c f e (x ∷ xs) rest = ap₂ (λ a b. a ++ b) (e x) (made_text c f e xs rest) ∙ sym (append_assoc (f x) (flat_map f xs) (flat_map item_text rest))
 
@@ -52,7 +53,8 @@ items_text m = made_text TypeItem type_item_text (λ x. refl) m.types _ ∙ ap (
     ∙ ap (λ t. flat_map global_item_text m.globals ++ t) (made_text DeclareItem declare_text (λ x. refl) m.declares _
     ∙ ap (λ t. flat_map declare_text m.declares ++ t) (made_text DefineItem define_text (λ x. refl) m.functions [] ∙ append-nil (flat_map define_text m.functions))))
 
-taken : {X : Type 0} (F : List Item → List X) (c : X → Item) → ((x : X) (xs : List Item) → F (c x ∷ xs) ≡ x ∷ F xs) → (xs : List X) (rest : List Item) → F (map c xs ++ rest) ≡ xs ++ F rest
+taken : {X : Type 0} (F : List Item → List X) (c : X → Item) → ((x : X) (xs : List Item) → F (c x ∷ xs) ≡ x ∷ F xs) → (xs : List X) (rest : List Item)
+    → F (map c xs ++ rest) ≡ xs ++ F rest
 taken F c e [] rest = refl
 taken F c e (x ∷ xs) rest = e x (map c xs ++ rest) ∙ ap (λ ys. x ∷ ys) (taken F c e xs rest)
 
@@ -61,16 +63,21 @@ passed F c e [] rest = refl
 passed F c e (y ∷ ys) rest = e y (map c ys ++ rest) ∙ passed F c e ys rest
 
 types_are : (m : Tree) → types_of (items_of m) ≡ m.types
-types_are m = taken types_of TypeItem (λ x xs. refl) m.types _ ∙ ap (λ xs. m.types ++ xs) (passed types_of GlobalItem (λ x xs. refl) m.globals _ ∙ passed types_of DeclareItem (λ x xs. refl) m.declares _ ∙ passed types_of DefineItem (λ x xs. refl) m.functions []) ∙ append-nil m.types
+types_are m = taken types_of TypeItem (λ x xs. refl) m.types _ ∙ ap (λ xs. m.types ++ xs)
+    (passed types_of GlobalItem (λ x xs. refl) m.globals _ ∙ passed types_of DeclareItem (λ x xs. refl) m.declares _ ∙ passed types_of DefineItem (λ x xs. refl) m.functions [])
+    ∙ append-nil m.types
 
 globals_are : (m : Tree) → globals_of (items_of m) ≡ m.globals
-globals_are m = passed globals_of TypeItem (λ x xs. refl) m.types _ ∙ taken globals_of GlobalItem (λ x xs. refl) m.globals _ ∙ ap (λ xs. m.globals ++ xs) (passed globals_of DeclareItem (λ x xs. refl) m.declares _ ∙ passed globals_of DefineItem (λ x xs. refl) m.functions []) ∙ append-nil m.globals
+globals_are m = passed globals_of TypeItem (λ x xs. refl) m.types _ ∙ taken globals_of GlobalItem (λ x xs. refl) m.globals _
+    ∙ ap (λ xs. m.globals ++ xs) (passed globals_of DeclareItem (λ x xs. refl) m.declares _ ∙ passed globals_of DefineItem (λ x xs. refl) m.functions []) ∙ append-nil m.globals
 
 declares_are : (m : Tree) → declares_of (items_of m) ≡ m.declares
-declares_are m = passed declares_of TypeItem (λ x xs. refl) m.types _ ∙ passed declares_of GlobalItem (λ x xs. refl) m.globals _ ∙ taken declares_of DeclareItem (λ x xs. refl) m.declares _ ∙ ap (λ xs. m.declares ++ xs) (passed declares_of DefineItem (λ x xs. refl) m.functions []) ∙ append-nil m.declares
+declares_are m = passed declares_of TypeItem (λ x xs. refl) m.types _ ∙ passed declares_of GlobalItem (λ x xs. refl) m.globals _ ∙ taken declares_of DeclareItem (λ x xs. refl) m.declares _
+    ∙ ap (λ xs. m.declares ++ xs) (passed declares_of DefineItem (λ x xs. refl) m.functions []) ∙ append-nil m.declares
 
 functions_are : (m : Tree) → defines_of (items_of m) ≡ m.functions
-functions_are m = passed defines_of TypeItem (λ x xs. refl) m.types _ ∙ passed defines_of GlobalItem (λ x xs. refl) m.globals _ ∙ passed defines_of DeclareItem (λ x xs. refl) m.declares _ ∙ taken defines_of DefineItem (λ x xs. refl) m.functions [] ∙ append-nil m.functions
+functions_are m = passed defines_of TypeItem (λ x xs. refl) m.types _ ∙ passed defines_of GlobalItem (λ x xs. refl) m.globals _ ∙ passed defines_of DeclareItem (λ x xs. refl) m.declares _
+    ∙ taken defines_of DefineItem (λ x xs. refl) m.functions [] ∙ append-nil m.functions
 
 -- ---- the places of items don't count
 
@@ -107,8 +114,10 @@ plain_defines_of (DefineItem d ∷ xs) = ap (λ ys. plain_definition d ∷ ys) (
 plain_defines_of (OtherItem ∷ xs) = plain_defines_of xs
 
 -- the four lists of a tree
-four : {a a' : List NamedType} {b b' : List Variable} {c c' : List Declaration} {d d' : List Definition} → a ≡ a' → b ≡ b' → c ≡ c' → d ≡ d' → ◌≡◌ {A = Tree} (record { types = a; globals = b; declares = c; functions = d }) (record { types = a'; globals = b'; declares = c'; functions = d' })
-four {a} {a'} {b} {b'} {c} {c'} {d} {d'} p q r s = ap₂ (λ x y. let m : Tree = record { types = x; globals = y; declares = c; functions = d } in m) p q ∙ ap₂ (λ x y. let m : Tree = record { types = a'; globals = b'; declares = x; functions = y } in m) r s
+four : {a a' : List NamedType} {b b' : List Variable} {c c' : List Declaration} {d d' : List Definition} → a ≡ a' → b ≡ b' → c ≡ c' → d ≡ d'
+    → ◌≡◌ {A = Tree} (record { types = a; globals = b; declares = c; functions = d }) (record { types = a'; globals = b'; declares = c'; functions = d' })
+four {a} {a'} {b} {b'} {c} {c'} {d} {d'} p q r s = ap₂ (λ x y. let m : Tree = record { types = x; globals = y; declares = c; functions = d } in m) p q
+    ∙ ap₂ (λ x y. let m : Tree = record { types = a'; globals = b'; declares = x; functions = y } in m) r s
 
 plain_tree : (xs : List Item) → without_spans (tree xs) ≡ tree (map plain_item xs)
 plain_tree xs = four (plain_types_of xs) (plain_globals_of xs) (plain_declares_of xs) (plain_defines_of xs)
@@ -131,11 +140,20 @@ record FunctionAgain (d : Definition) : Type 1 where
 
 numbered_again : (types : List NamedType) (d : Definition) → DefineHas d → end_last d.blocks ≡ true → FunctionAgain (numbered types d)
 unfolding numbered
-numbered_again types d h e = record { again = left_text (right_text (right_text (right_text (left_text (define_row _ (record { result = h.result; name = h.name; params = params_again 0 d.params h.params; blocks = blocks_again types _ d.blocks h.blocks }) (blocks_labelled types _ d.blocks) (blocks_end types _ d.blocks ∙ e)))))) }
+numbered_again types d h e = record {
+  again = left_text
+      (right_text (right_text (right_text
+      (left_text (define_row _ (record { result = h.result; name = h.name; params = params_again 0 d.params h.params; blocks = blocks_again types _ d.blocks h.blocks })
+      (blocks_labelled types _ d.blocks) (blocks_end types _ d.blocks ∙ e))))));
+}
 
-all_numbered : (types : List NamedType) (ds : List Definition) → Every DefineHas ds → list_all (λ f. end_last f.blocks) ds ≡ true → Every (λ d. ItemAgain (DefineItem d)) (map (numbered types) ds)
+all_numbered : (types : List NamedType) (ds : List Definition) → Every DefineHas ds → list_all (λ f. end_last f.blocks) ds ≡ true
+    → Every (λ d. ItemAgain (DefineItem d)) (map (numbered types) ds)
 all_numbered types [] h e = tt
-all_numbered types (d ∷ ds) h e = ((numbered_again types d h.0 (fore (end_last d.blocks) (list_all (λ f. end_last f.blocks) ds) e)).again, all_numbered types ds h.1 (aft (end_last d.blocks) (list_all (λ f. end_last f.blocks) ds) e))
+all_numbered types (d ∷ ds) h e = (
+  (numbered_again types d h.0 (fore (end_last d.blocks) (list_all (λ f. end_last f.blocks) ds) e)).again,
+  all_numbered types ds h.1 (aft (end_last d.blocks) (list_all (λ f. end_last f.blocks) ds) e),
+)
 
 items_again : (m : Tree) → TreeHas m → all_end_last m ≡ true → Every ItemAgain (items_of (numbered_tree m))
 unfolding numbered_tree
@@ -145,12 +163,14 @@ items_again m h e = made_again TypeItem m.types _ (every_more TypeHas _ (λ i k.
     (made_again DefineItem (map (numbered m.types) m.functions) [] (all_numbered m.types m.functions h.functions e) tt)))
 
 tree_again : (n : Tree) → Every ItemAgain (items_of n) → Again anything program (flat_map item_text (items_of n)) (λ t. without_spans t ≡ without_spans n)
-tree_again n h = last_text {f = tree} (many_text item item_text plain_item (items_of n) (λ x r i. refl) h) (λ xs e. plain_tree xs ∙ ap tree e ∙ sym (plain_tree (items_of n)) ∙ ap without_spans (tree_is n))
+tree_again n h = last_text {f = tree} (many_text item item_text plain_item (items_of n) (λ x r i. refl) h)
+    (λ xs e. plain_tree xs ∙ ap tree e ∙ sym (plain_tree (items_of n)) ∙ ap without_spans (tree_is n))
 
 -- ---- the whole text
 
 -- a value of which Q holds is the whole list
-with_value : {A : Type 0} (Q : A → Type 0) (r : List Token → Read A) (g : Gram A) (fi ma : Class → Bool) (nu : Bool) (av : Class → Bool) → Piece r g fi ma nu av → (ts : List Token) → g None (λ a us. Q a × (us ≡ [])) ts → (a : A) × Q a × IsRead g ts a
+with_value : {A : Type 0} (Q : A → Type 0) (r : List Token → Read A) (g : Gram A) (fi ma : Class → Bool) (nu : Bool) (av : Class → Bool) → Piece r g fi ma nu av → (ts : List Token)
+    → g None (λ a us. Q a × (us ≡ [])) ts → (a : A) × Q a × IsRead g ts a
 with_value {A} Q r g fi ma nu av e ts j = by (r ts) (e.meets ts)
   where
     avoids : Avoids av None (λ (b : A) (us : List Token). Q b × (us ≡ []))
@@ -173,7 +193,8 @@ read_again n e = finish (subst (In (program None K) []) (append-nil (tree_text n
     K t us = (without_spans t ≡ without_spans n) × (us ≡ [])
 
     finish : In (program None K) [] (tree_text n) → (t : Tree) × IsModule (tree_text n) t × (without_spans t ≡ without_spans n)
-    finish (ls, w, j) = let q = with_value (λ t. without_spans t ≡ without_spans n) program_at program begins_item no_item true avoided program_piece (classified (tree_text n) ls) j in (q.0, (ls, w, q.2), q.1)
+    finish (ls, w, j) = let q = with_value (λ t. without_spans t ≡ without_spans n) program_at program begins_item no_item true avoided program_piece (classified (tree_text n) ls) j in
+        (q.0, (ls, w, q.2), q.1)
 
 bytes_of : (text : List ℕ) → All (λ b. b < 256) text → list_all is_byte text ≡ true
 bytes_of text h = list_all-from_AllPass is_byte text (λ k d l. lt-ltb _ 256 (h k d l))

@@ -1,5 +1,6 @@
 -- Texts that are read a token at a time.
-use Rattle.std.proofs.Common.{◌≡◌, ℕ, ◌+◌, ◌-◌, ◌<◌, List, [], ◌∷◌, ◌++◌, length, take, drop, map, take_at, drop_at, append_assoc, length-append, refl, sym, ap, subst, ◌∙◌, arith, Ok, Bool, true, not, ◌||◌}
+use Rattle.std.proofs.Common.{◌≡◌, ℕ, ◌+◌, ◌-◌, ◌<◌, List, [], ◌∷◌, ◌++◌, length, take, drop, map, take_at, drop_at, append_assoc, length-append, refl, sym, ap}
+use Rattle.std.proofs.Common.{subst, ◌∙◌, arith, Ok, Bool, true, not, ◌||◌}
 use Rattle.pg_lex.specs.declared.token.TokenKind.{TokenKind}
 use Rattle.pg_lex.specs.declared.token.Token.{Token as Lexed}
 use Rattle.pg_lex.specs.declared.token.Piece.TheVariants.{Gap, Whole}
@@ -35,10 +36,13 @@ abbrev pub token_at : List ℕ → List ℕ → TokenKind → Token
 token_at front w kind = record { class = class_of kind (token_name kind w); text = token_name kind w; span = record { start = length front; end = length front + length w } }
 
 bytes_are : (front w rest : List ℕ) → take (length front + length w - length front) (drop (length front) (front ++ (w ++ rest))) ≡ w
-bytes_are front w rest = ap (λ bs. take (length front + length w - length front) bs) (drop_at front (w ++ rest) (length front) refl) ∙ take_at w rest (length front + length w - length front) (omega arith)
+bytes_are front w rest = ap (λ bs. take (length front + length w - length front) bs) (drop_at front (w ++ rest) (length front) refl)
+    ∙ take_at w rest (length front + length w - length front) (omega arith)
 
-seen_is : (front w rest : List ℕ) (kind : TokenKind) → seen (front ++ (w ++ rest)) (record { kind = kind; span = record { start = length front; end = length front + length w } }) ≡ token_at front w kind
-seen_is front w rest kind = ap (λ bs. record { class = class_of kind (token_name kind bs); text = token_name kind bs; span = record { start = length front; end = length front + length w } }) (bytes_are front w rest)
+seen_is : (front w rest : List ℕ) (kind : TokenKind) → seen (front ++ (w ++ rest)) (record { kind = kind; span = record { start = length front; end = length front + length w } })
+    ≡ token_at front w kind
+seen_is front w rest kind = ap (λ bs. record { class = class_of kind (token_name kind bs); text = token_name kind bs; span = record { start = length front; end = length front + length w } })
+    (bytes_are front w rest)
 
 lexed : (front w rest : List ℕ) (kind : TokenKind) (ls : List Lexed) → 0 < length w → piece_of (w ++ rest) ≡ Whole kind (length w) → tokens_from 0 (length (front ++ w)) rest ≡ Ok ls
     → tokens_from 0 (length front) (w ++ rest) ≡ Ok (record { kind = kind; span = record { start = length front; end = length front + length w } } ∷ ls)
@@ -54,10 +58,15 @@ lexed front (b ∷ w) rest kind ls h p e =
     ∙ ap (λ x. ahead t x) e
 
 -- a token before what is read
-pub token_in : (L : Lang) (front w rest : List ℕ) (kind : TokenKind) → 0 < length w → piece_of (w ++ rest) ≡ Whole kind (length w) → In (λ us. L (token_at front w kind ∷ us)) (front ++ w) rest → In L front (w ++ rest)
+pub token_in : (L : Lang) (front w rest : List ℕ) (kind : TokenKind) → 0 < length w → piece_of (w ++ rest) ≡ Whole kind (length w)
+    → In (λ us. L (token_at front w kind ∷ us)) (front ++ w) rest → In L front (w ++ rest)
 token_in L front w rest kind h p (ls, e, l) =
-    let t : Lexed = record { kind = kind; span = record { start = length front; end = length front + length w } } in
-    (t ∷ ls, lexed front w rest kind ls h p e, subst (λ bs. L (seen (front ++ (w ++ rest)) t ∷ map (seen bs) ls)) (append_assoc front w rest) (subst (λ u. L (u ∷ map (seen ((front ++ w) ++ rest)) ls)) (sym (seen_is front w rest kind)) l))
+    let t : Lexed = record { kind = kind; span = record { start = length front; end = length front + length w } } in (
+      t ∷ ls,
+      lexed front w rest kind ls h p e,
+      subst (λ bs. L (seen (front ++ (w ++ rest)) t ∷ map (seen bs) ls)) (append_assoc front w rest)
+          (subst (λ u. L (u ∷ map (seen ((front ++ w) ++ rest)) ls)) (sym (seen_is front w rest kind)) l),
+    )
 
 -- a blank before what is read
 pub gap_in : (L : Lang) (front rest : List ℕ) (b : ℕ) → piece_of (b ∷ rest) ≡ Gap 1 → In L (front ++ b ∷ []) rest → In L front (b ∷ rest)

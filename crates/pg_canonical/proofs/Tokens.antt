@@ -1,5 +1,6 @@
 -- The tokens of canonical texts.
-use Rattle.std.proofs.Common.{◌≡◌, ℕ, ◌-◌, ◌<◌, List, [], ◌∷◌, ◌++◌, length, take_at, length-append, refl, sym, ap, subst, ◌∙◌, arith, Bool, true, false, if◌then◌else◌, codes, IsTrue}
+use Rattle.std.proofs.Common.{◌≡◌, ℕ, ◌-◌, ◌<◌, List, [], ◌∷◌, ◌++◌, length, take_at, length-append, refl, sym, ap, subst, ◌∙◌, arith, Bool, true, false}
+use Rattle.std.proofs.Common.{if◌then◌else◌, codes, IsTrue}
 use Rattle.std.specs.List.{list_all}
 use Rattle.pg_num.specs.Decimal.{is_decimal}
 use Rattle.pg_lex.specs.declared.token.TokenKind.TheVariants as kinds
@@ -7,7 +8,8 @@ use Rattle.pg_lex.specs.Names.{name_of}
 use Rattle.pg_lex.specs.Tokens.{piece_of, marked_piece, mark_of}
 use Rattle.pg_ast.specs.Text.{quoted, name_text}
 use Rattle.pg_grammar.specs.declared.class.Class.{Class}
-use Rattle.pg_grammar.specs.declared.class.Class.TheVariants.{Label, Int, Dots, CStr, Local, Global, DroppedGlobal, OpenRound, CloseRound, OpenBrace, CloseBrace, OpenSquare, CloseSquare, Comma, Equals}
+use Rattle.pg_grammar.specs.declared.class.Class.TheVariants.{Label, Int, Dots, CStr, Local, Global, DroppedGlobal, OpenRound, CloseRound, OpenBrace, CloseBrace, OpenSquare, CloseSquare}
+use Rattle.pg_grammar.specs.declared.class.Class.TheVariants.{Comma, Equals}
 use Rattle.pg_grammar.specs.Classes.{is}
 use Rattle.pg_grammar.specs.Language.{one}
 use Rattle.pg_grammar.specs.Grammar.{global_name}
@@ -76,7 +78,8 @@ pub local_again : (s : List ℕ) → list_all is_byte s ≡ true → Again stops
 local_again s h = weaker (λ t k. k.text_is ∙ text_name s h) (token_text (is Local) kinds.Local (37 ∷ name_text s) (omega arith) (λ rest i. local_piece s rest i) refl)
 
 pub global_again : (s : List ℕ) → list_all is_byte s ≡ true → Again stops (one global_name) (64 ∷ name_text s) (λ t. t.text ≡ s)
-global_again s h = weaker (λ t k. k.text_is ∙ text_name s h) (token_text global_name kinds.Global (64 ∷ name_text s) (omega arith) (λ rest i. global_piece s rest i) (by (is_dropped (name_of (name_text s)))))
+global_again s h = weaker (λ t k. k.text_is ∙ text_name s h)
+    (token_text global_name kinds.Global (64 ∷ name_text s) (omega arith) (λ rest i. global_piece s rest i) (by (is_dropped (name_of (name_text s)))))
   where
     by : (c : Bool) → IsTrue (global_name (if c then DroppedGlobal else Global))
     by true = refl
@@ -94,5 +97,6 @@ pub bytes_again : {before : List ℕ → Bool} (s : List ℕ) → list_all is_by
 bytes_again {before} s h = weaker (λ t k. k.text_is ∙ quoted_name s h) (token_text (is CStr) kinds.CStr (99 ∷ quoted s) (omega arith) (λ rest i. bytes_piece s rest) refl)
 
 pub label_again : {before : List ℕ → Bool} (s : List ℕ) → list_all is_byte s ≡ true → Again before (one (is Label)) (name_text s ++ 58 ∷ []) (λ t. t.text ≡ s)
-label_again {before} s h = weaker (λ t k. k.text_is ∙ ap name_of (take_at (name_text s) (58 ∷ []) (length (name_text s ++ 58 ∷ []) - 1) (omega (arith, length-append (name_text s) (58 ∷ [])))) ∙ text_name s h)
+label_again {before} s h = weaker (λ t k. k.text_is
+    ∙ ap name_of (take_at (name_text s) (58 ∷ []) (length (name_text s ++ 58 ∷ []) - 1) (omega (arith, length-append (name_text s) (58 ∷ [])))) ∙ text_name s h)
     (token_text (is Label) kinds.Label (name_text s ++ 58 ∷ []) (omega (arith, length-append (name_text s) (58 ∷ []))) (λ rest i. label_piece s rest) refl)

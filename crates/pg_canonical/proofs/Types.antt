@@ -31,11 +31,15 @@ simple_yields =
     (yields_or (yields_then yields_one (λ t k. yields_give (right_text (right_text (right_text (right_text (left_text (last_text i64_word (λ u e. refl)))))))))
     (yields_or (yields_then yields_one (λ t k. yields_give (right_text (right_text (right_text (right_text (right_text (left_text (last_text ptr_word (λ u e. refl))))))))))
     (yields_or (yields_then yields_one (λ t k. yields_give (right_text (right_text (right_text (right_text (right_text (right_text (left_text (last_text void_word (λ u e. refl)))))))))))
-    (yields_then yields_one (λ t k. yields_give (right_text (right_text (right_text (right_text (right_text (right_text (right_text (last_text (local_again t.text k.formed.bytes) (λ u e. ap (λ w. Named (record { text = w; span = nowhere })) e)))))))))))))))))
+    (yields_then yields_one (λ t k. yields_give
+    (right_text (right_text (right_text
+    (right_text (right_text (right_text (right_text (last_text (local_again t.text k.formed.bytes) (λ u e. ap (λ w. Named (record { text = w; span = nowhere })) e)))))))))))))))))
 
-array_again : (d : ℕ) (s : Span) (n : Literal) (t : Ty) → is_decimal n.text ≡ true → TypeAgain d t → Again stops (array_of (type_in d)) (type_text (Array s n t)) (λ u. plain_type u ≡ plain_type (Array s n t))
+array_again : (d : ℕ) (s : Span) (n : Literal) (t : Ty) → is_decimal n.text ≡ true → TypeAgain d t
+    → Again stops (array_of (type_in d)) (type_text (Array s n t)) (λ u. plain_type u ≡ plain_type (Array s n t))
 unfolding type_text
-array_again d s n t h e = mark_then open_square (λ o _. then_text (int_text n.text h) (λ r i. refl) (λ m p. then_text (spaced x_word) (λ r i. refl) (λ x _. then_text (spaced e) (λ r i. refl) (λ u q.
+array_again d s n t h e = mark_then open_square (λ o _. then_text (int_text n.text h) (λ r i. refl)
+    (λ m p. then_text (spaced x_word) (λ r i. refl) (λ x _. then_text (spaced e) (λ r i. refl) (λ u q.
     last_text close_square (λ c _. ap₂ (λ w v. Array nowhere (record { text = w; span = nowhere }) v) p q)))))
 
 more_fields : (ts : List Ty) → more_fields_text (tys ts) ≡ flat_map (λ t. codes ", " ++ type_text t) ts
@@ -54,13 +58,18 @@ plain_tys : (ts : List Ty) → plain_types (tys ts) ≡ tys (map plain_type ts)
 plain_tys [] = refl
 plain_tys (t ∷ ts) = ap (λ us. MoreTys (plain_type t) us) (plain_tys ts)
 
-struct_again : (d : ℕ) (s : Span) (ts : List Ty) → Every (TypeAgain d) ts → Again stops (struct_of (type_in d)) (type_text (Struct s (tys ts))) (λ u. plain_type u ≡ plain_type (Struct s (tys ts)))
+struct_again : (d : ℕ) (s : Span) (ts : List Ty) → Every (TypeAgain d) ts
+    → Again stops (struct_of (type_in d)) (type_text (Struct s (tys ts))) (λ u. plain_type u ≡ plain_type (Struct s (tys ts)))
 unfolding type_text
-struct_again d s ts h = mark_then open_brace (λ o _. last_text {f = λ us. Struct o.span (tys us)} (fields_again d ts h) (λ us e. ap (λ vs. Struct nowhere vs) (plain_tys us ∙ ap tys e ∙ sym (plain_tys ts))))
+struct_again d s ts h = mark_then open_brace (λ o _. last_text {f = λ us. Struct o.span (tys us)} (fields_again d ts h)
+    (λ us e. ap (λ vs. Struct nowhere vs) (plain_tys us ∙ ap tys e ∙ sym (plain_tys ts))))
 
 pub type_yields : (d : ℕ) → Yields (type_in d) (TypeAgain d)
 unfolding type_in
 type_yields zero = yields_or (yields_or (yields_more (λ t e. left_text (left_text e)) simple_yields) (yields_refused _ _)) (yields_refused _ _)
-type_yields (suc d) = yields_or (yields_or (yields_then yields_one (λ o _. yields_then yields_one (λ n k. yields_then yields_one (λ x _. yields_then (type_yields d) (λ t e. yields_then yields_one (λ c _. yields_give (left_text (left_text (array_again d o.span (literal_of n) t (k.formed.decimal k.class_is) e)))))))))
+type_yields (suc d) = yields_or (yields_or
+    (yields_then yields_one (λ o _. yields_then yields_one
+    (λ n k. yields_then yields_one (λ x _. yields_then (type_yields d)
+    (λ t e. yields_then yields_one (λ c _. yields_give (left_text (left_text (array_again d o.span (literal_of n) t (k.formed.decimal k.class_is) e)))))))))
     (yields_or (yields_then yields_one (λ o _. yields_then (yields_listed CloseBrace (type_yields d)) (λ ts h. yields_give (left_text (right_text (left_text (struct_again d o.span ts h)))))))
     (yields_more (λ t e. left_text (right_text (right_text e))) simple_yields))) (yields_refused _ _)

@@ -2,12 +2,15 @@
 use Rattle.std.proofs.Common.{◌≡◌, codes, ap, refl}
 use Rattle.pg_ast.specs.declared.ops.BinaryOp.{BinaryOp}
 use Rattle.pg_ast.specs.declared.ops.BinaryOp.TheVariants as binaries
-use Rattle.pg_ast.specs.declared.ops.Predicate.{Predicate}
-use Rattle.pg_ast.specs.declared.ops.Predicate.TheVariants as predicates
+use Rattle.pg_num.specs.declared.operations.Compare.{Compare}
+use Rattle.pg_num.specs.declared.operations.Compare.TheVariants as predicates
 use Rattle.pg_ast.specs.declared.ops.CastOp.{CastOp}
 use Rattle.pg_ast.specs.declared.ops.CastOp.TheVariants as casts
 use Rattle.pg_ast.specs.Text as text
-use Rattle.pg_grammar.specs.declared.class.Class.TheVariants.{I1, I8, I16, I32, I64, Ptr, Void, MetadataWord, LabelWord, X, To, TypeWord, GlobalWord, ConstantWord, True, False, Null, Undef, Poison, ZeroInitializer, Declare, Define, Icmp, IntToPtr, Select, Phi, Br, Switch, Call, Ret, Unreachable, Alloca, Load, Store, GetElementPtr, Add, Sub, Mul, Udiv, Sdiv, Urem, Srem, Shl, Lshr, Ashr, And, Or, Xor, Eq, Ne, Ugt, Uge, Ult, Ule, Sgt, Sge, Slt, Sle, Trunc, Zext, Sext, PtrToInt}
+use Rattle.pg_grammar.specs.declared.class.Class.TheVariants.{I1, I8, I16, I32, I64, Ptr, Void, MetadataWord, LabelWord, X, To, TypeWord, GlobalWord, ConstantWord, True, False, Null, Undef}
+use Rattle.pg_grammar.specs.declared.class.Class.TheVariants.{Poison, ZeroInitializer, Declare, Define, Icmp, IntToPtr, Select, Phi, Br, Switch, Call, Ret, Unreachable, Alloca, Load, Store}
+use Rattle.pg_grammar.specs.declared.class.Class.TheVariants.{GetElementPtr, Add, Sub, Mul, Udiv, Sdiv, Urem, Srem, Shl, Lshr, Ashr, And, Or, Xor, Eq, Ne, Ugt, Uge, Ult, Ule, Sgt, Sge, Slt}
+use Rattle.pg_grammar.specs.declared.class.Class.TheVariants.{Sle, Trunc, Zext, Sext, PtrToInt}
 use Rattle.pg_grammar.specs.Classes.{is}
 use Rattle.pg_grammar.specs.Language.{one}
 use Rattle.pg_grammar.specs.GrammarOps.{binary_word, binary_of, predicate_word, predicate_of, cast_word, cast_of}
@@ -172,7 +175,7 @@ binary_again binaries.And = weaker (λ t k. ap binary_of k.class_is) (word_of bi
 binary_again binaries.Or = weaker (λ t k. ap binary_of k.class_is) (word_of binary_word (codes "or") Or refl refl refl)
 binary_again binaries.Xor = weaker (λ t k. ap binary_of k.class_is) (word_of binary_word (codes "xor") Xor refl refl refl)
 
-pub predicate_again : (op : Predicate) → Again stops (one predicate_word) (text.predicate_word op) (λ t. predicate_of t.class ≡ op)
+pub predicate_again : (op : Compare) → Again stops (one predicate_word) (text.predicate_word op) (λ t. predicate_of t.class ≡ op)
 unfolding word_class words
 predicate_again predicates.Eq = weaker (λ t k. ap predicate_of k.class_is) (word_of predicate_word (codes "eq") Eq refl refl refl)
 predicate_again predicates.Ne = weaker (λ t k. ap predicate_of k.class_is) (word_of predicate_word (codes "ne") Ne refl refl refl)

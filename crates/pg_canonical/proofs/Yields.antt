@@ -46,7 +46,10 @@ pub yields_give : {A : Type 0} {P : A → Type 1} {a : A} → P a → Yields (gi
 yields_give {A} {P} {a} p = record { yields = λ K ts w j. record { value = a; rest = ts; formed = w; holds = p; goes = j } }
 
 pub yields_one : {test : Class → Bool} → Yields (one test) (IsOne test)
-yields_one {test} = record { yields = λ K ts w j. let v : AreFormed (j.0 ∷ j.1) = subst AreFormed j.2 w in record { value = j.0; rest = j.1; formed = v.1; holds = record { class_is = j.3; formed = v.0 }; goes = j.4 } }
+yields_one {test} = record {
+  yields = λ K ts w j. let v : AreFormed (j.0 ∷ j.1) = subst AreFormed j.2 w in
+      record { value = j.0; rest = j.1; formed = v.1; holds = record { class_is = j.3; formed = v.0 }; goes = j.4 };
+}
 
 pub yields_then : {A B : Type 0} {P : A → Type 1} {Q : B → Type 1} {g : Gram A} {h : A → Gram B} → Yields g P → ((a : A) → P a → Yields (h a) Q) → Yields (g then h) Q
 yields_then {A} {B} {P} {Q} {g} {h} e k = record { yields = λ K ts w j. let f = e.yields (λ a. h a None K) ts w j in (k f.value f.holds).yields K f.rest f.formed f.goes }

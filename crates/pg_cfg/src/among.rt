@@ -1,3 +1,5 @@
+//! Whether a number is in a list.
+
 ghost use Rattle.std.specs.Prelude.{◌≡◌, ◌↔◌, true, Contains};
 
 /// Whether a number is one of these.

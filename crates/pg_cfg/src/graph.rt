@@ -1,3 +1,5 @@
+//! Directed graphs over numbers.
+
 ghost use Rattle.std.specs.Prelude.{◌≡◌, ◌<◌, length};
 ghost use Rattle.pg_cfg.specs.Graphs.{start_in};
 

@@ -1,3 +1,5 @@
+//! Sets of vertices, as a mark for each.
+
 ghost use Rattle.std.specs.Prelude.{◌≡◌, [], ◌∷◌, ◌<◌, ℕ, ◌≤◌, ◌^◌, length, vec_len, Contains, IfOk, OnOk, false, replicate, slice_set};
 ghost use Rattle.pg_cfg.specs.Searches.{IsFoundFrom, is_in, members_from};
 

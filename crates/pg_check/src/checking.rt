@@ -9,12 +9,12 @@ ghost use Rattle.pg_numbering.specs.Parsed.{IsInOrder};
 ghost use Rattle.pg_check.specs.Checked.{IsProgramOf, IsFaultOf};
 
 use crate::first::first_of_module;
-use pg_ast::Module;
-use pg_ir::{Program, ProgramError};
 use pg_numbering::laws::an_accepted_tree_is_a_program;
-use pg_program::{ProgramParts, program_parts};
+use pg_program::program_parts;
 use pg_rules::CheckFault;
 use pg_types::TypeNumbers;
+use pg_ir::{Program, ProgramError};
+use pg_ast::Module;
 use std::alloc::Global;
 
 /// The numbered program of a module that isn't refused.
@@ -27,14 +27,14 @@ fn numbered(alloc: Global, types: &TypeNumbers<'_>, tree: &Module) -> Result<Pro
 {
     let parts = program_parts(alloc, types, tree)?;
     an_accepted_tree_is_a_program();
-    let ProgramParts {
-        functions,
-        blocks,
-        instrs,
-        globals,
-        main,
-    } = parts;
-    match Program::new(alloc, functions, blocks, instrs, globals, main) {
+    match Program::new(
+        alloc,
+        parts.functions,
+        parts.blocks,
+        parts.instrs,
+        parts.globals,
+        parts.main,
+    ) {
         Ok(program) => Ok(program),
         Err(ProgramError::OutOfMemory) => Err(CheckFault::OutOfMemory),
         Err(ProgramError::Malformed) => unreachable!(),

@@ -6,15 +6,15 @@ ghost use Rattle.pg_types.specs.NameIndex.{known_place};
 ghost use Rattle.pg_rules.specs.Names.{symbol_names};
 ghost use Rattle.pg_rules.specs.Starts.{first_start};
 ghost use Rattle.pg_rules.specs.Earliest.{IsFirstAmong};
-ghost use Rattle.pg_check.specs.Checked.{IsFoundIn, last_phases, phases_from_heads, phases_from_globals};
+ghost use Rattle.pg_check.specs.Checked.{IsFoundIn, last_phases, phases_from_globals};
 
 use crate::main_function::main_refusal;
 use indexmap::IndexMap;
-use pg_ast::Module;
 use pg_bodies::first_of_bodies;
 use pg_heads::{globals_refusal, heads_refusal, types_refusal};
 use pg_rules::{CheckRefusal, Symbols, index_symbols, symbol_starts};
 use pg_types::TypeNumbers;
+use pg_ast::Module;
 use std::alloc::{AllocError, Global};
 
 /// The first refusal of the functions' bodies, and then of a program without `main`.
@@ -33,25 +33,7 @@ fn first_behind_heads(
     }
 }
 
-/// The first refusal of the functions' heads, and then of what stands behind.
-fn first_from_heads(
-    alloc: Global,
-    types: &TypeNumbers<'_>,
-    symbols: &Symbols<'_>,
-    starts: &IndexMap<&[u8], u32>,
-) -> Result<Option<CheckRefusal>, AllocError>
-    requires items { types.now.items ≡ symbols.now.tree.now.types.items }
-    requires starts { (text : List ℕ) → known_place starts.now text ≡ first_start (symbol_names (tree_of symbols.now.tree.now)) text }
-    ensures first { IfOk result (λ o. IsFirstAmong (phases_from_heads (tree_of symbols.now.tree.now)) o) }
-{
-    let first = heads_refusal(alloc, types, starts, symbols.tree)?;
-    match first {
-        Some(refusal) => Ok(Some(refusal)),
-        None => first_behind_heads(alloc, types, symbols),
-    }
-}
-
-/// The first refusal of the globals, and then of what stands behind.
+/// The first refusal of the globals, then of the functions' heads, and then of what stands behind.
 fn first_from_globals(
     alloc: Global,
     types: &TypeNumbers<'_>,
@@ -65,7 +47,13 @@ fn first_from_globals(
     let first = globals_refusal(alloc, types, symbols, starts)?;
     match first {
         Some(refusal) => Ok(Some(refusal)),
-        None => first_from_heads(alloc, types, symbols, starts),
+        None => {
+            let next = heads_refusal(alloc, types, starts, symbols.tree)?;
+            match next {
+                Some(refusal) => Ok(Some(refusal)),
+                None => first_behind_heads(alloc, types, symbols),
+            }
+        }
     }
 }
 

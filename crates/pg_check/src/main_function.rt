@@ -8,9 +8,9 @@ ghost use Rattle.pg_ast.specs.Views.{define_of, tree_of};
 ghost use Rattle.pg_rules.specs.Earliest.{IsFirstIn};
 ghost use Rattle.pg_rules.specs.Conditions.{main_name, has_main, main_refused};
 
+use pg_rules::{CheckKind, CheckRefusal, place_if, refusal_at};
 use pg_ast::{DefineItem, Module};
 use pg_lex::Span;
-use pg_rules::{CheckKind, CheckRefusal, place_if, refusal_at};
 
 fn is_main(item: &DefineItem) -> bool
     ensures { result ≡ bytes_eq item.now.name.text main_name }

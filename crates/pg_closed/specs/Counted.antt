@@ -14,6 +14,7 @@ use Rattle.pg_paths.specs.declared.path.Root.TheVariants as root
 use Rattle.pg_trace.specs.declared.turn.TurnKind.TheVariants as turns
 use Rattle.pg_trace.specs.declared.step.StepKind.TheVariants as kinds
 use Rattle.pg_closed.specs.Moments.{Moment}
+use Rattle.pg_closed.specs.ExampleMoments.{frame, event, writing, access, moment}
 use Rattle.pg_closed.specs.Freeable.{Regions}
 use Rattle.pg_closed.specs.Known.{Reference}
 use Rattle.pg_closed.specs.Sets.{one_of}
@@ -22,7 +23,13 @@ abbrev pub counted_program : NumberedProgram
 counted_program = record {
   functions =
       (record { params = 1; registers = (Ptr ∷ (Int W64) ∷ Ptr ∷ (Int W64) ∷ (Int W1) ∷ (Int W64) ∷ []); first_block = (record { 0 = 0 }); blocks = 4; result = (Some Ptr) })
-      ∷ (record { params = 0; registers = ((Int W32) ∷ (Int W64) ∷ (Int W64) ∷ (Int W1) ∷ (Int W64) ∷ (Int W32) ∷ (Int W64) ∷ []); first_block = (record { 0 = 4 }); blocks = 3; result = (Some (Int W32)) })
+      ∷ (record {
+        params = 0;
+        registers = ((Int W32) ∷ (Int W64) ∷ (Int W64) ∷ (Int W1) ∷ (Int W64) ∷ (Int W32) ∷ (Int W64) ∷ []);
+        first_block = (record { 0 = 4 });
+        blocks = 3;
+        result = (Some (Int W32));
+      })
       ∷ [];
   blocks =
       (record { function = 0; first = (record { 0 = 0 }); count = 4 })
@@ -48,7 +55,11 @@ counted_program = record {
       ∷ (record { op = op.Ret (Some (value.Const 0)); block = (record { 0 = 3 }); result = None })
       ∷ (record { op = op.CallKnown known.PthreadCreate ((value.Global 1) ∷ (value.Const 0) ∷ (value.Function 0) ∷ (value.Const 0) ∷ []); block = (record { 0 = 4 }); result = (Some 0) })
       ∷ (record { op = op.Br (record { 0 = 5 }); block = (record { 0 = 4 }); result = None })
-      ∷ (record { op = op.Phi ((record { block = (record { 0 = 4 }); value = (value.Const 0) }) ∷ (record { block = (record { 0 = 5 }); value = (value.Register 2) }) ∷ []); block = (record { 0 = 5 }); result = (Some 1) })
+      ∷ (record {
+        op = op.Phi ((record { block = (record { 0 = 4 }); value = (value.Const 0) }) ∷ (record { block = (record { 0 = 5 }); value = (value.Register 2) }) ∷ []);
+        block = (record { 0 = 5 });
+        result = (Some 1);
+      })
       ∷ (record { op = op.Add W64 (value.Register 1) (value.Const 1); block = (record { 0 = 5 }); result = (Some 2) })
       ∷ (record { op = op.Compare compares.Slt W64 (value.Register 2) (value.Const 3); block = (record { 0 = 5 }); result = (Some 3) })
       ∷ (record { op = op.CondBr (value.Register 3) (record { 0 = 5 }) (record { 0 = 6 }); block = (record { 0 = 5 }); result = None })
@@ -68,7 +79,12 @@ counted_program = record {
 
 abbrev pub counted_regions : Regions
 counted_regions b =
-    if b == 1 then Some (record { join = 3; sets = one_of (3 ∷ 4 ∷ 5 ∷ []); accesses = ((record { writes = false; path = (record { root = root.Register 2; loads = Never }) }) ∷ (record { writes = true; path = (record { root = root.Register 2; loads = Never }) }) ∷ []) }) else
+    if b == 1 then Some (record {
+      join = 3;
+      sets = one_of (3 ∷ 4 ∷ 5 ∷ []);
+      accesses = ((record { writes = false; path = (record { root = root.Register 2; loads = Never }) }) ∷
+          (record { writes = true; path = (record { root = root.Register 2; loads = Never }) }) ∷ []);
+    }) else
     if b == 5 then Some (record { join = 6; sets = one_of (1 ∷ 2 ∷ 3 ∷ []); accesses = ([]) }) else None
 
 abbrev pub counted_bytes0 : ℕ → ℕ
@@ -88,34 +104,39 @@ counted_bytes4 = with_bytes counted_bytes3 (record { start = 8; bytes = 8 }) 100
 
 abbrev pub counted_moments : List Moment
 counted_moments =
-    (record { did = record { did = record { thread = record { 0 = 0 }; instr = record { 0 = 12 }; kind = kinds.Event (record { kind = turns.Start; object = 0; operands = (0 ∷ 0 ∷ 0 ∷ 0 ∷ []); reply = 0; write = None }) }; low = 1; high = 0 }; calls = ((record { function = 1; place = 12; registers = (None ∷ None ∷ None ∷ None ∷ None ∷ None ∷ None ∷ []); height = 0 }) ∷ []); bytes = counted_bytes0 })
-    ∷ (record { did = record { did = record { thread = record { 0 = 0 }; instr = record { 0 = 12 }; kind = kinds.Event (record { kind = turns.Create; object = 1; operands = (8796109799424 ∷ 0 ∷ 0 ∷ 0 ∷ []); reply = 0; write = (Some (record { pointer = 8796109799424; number = 1 })) }) }; low = 2; high = 1 }; calls = ((record { function = 1; place = 12; registers = (None ∷ None ∷ None ∷ None ∷ None ∷ None ∷ None ∷ []); height = 0 }) ∷ []); bytes = counted_bytes0 })
-    ∷ (record { did = record { did = record { thread = record { 0 = 1 }; instr = record { 0 = 0 }; kind = kinds.Event (record { kind = turns.Start; object = 1; operands = (0 ∷ 0 ∷ 0 ∷ 0 ∷ []); reply = 0; write = None }) }; low = 3; high = 2 }; calls = ((record { function = 0; place = 0; registers = (None ∷ None ∷ None ∷ None ∷ None ∷ None ∷ []); height = 0 }) ∷ []); bytes = counted_bytes1 })
-    ∷ (record { did = record { did = record { thread = record { 0 = 1 }; instr = record { 0 = 0 }; kind = kinds.Other }; low = 3; high = 3 }; calls = ((record { function = 0; place = 0; registers = ((Some 0) ∷ None ∷ None ∷ None ∷ None ∷ None ∷ []); height = 0 }) ∷ []); bytes = counted_bytes1 })
-    ∷ (record { did = record { did = record { thread = record { 0 = 1 }; instr = record { 0 = 1 }; kind = kinds.Allocation 0 9367487224947408896 }; low = 3; high = 3 }; calls = ((record { function = 0; place = 1; registers = ((Some 0) ∷ (Some 0) ∷ None ∷ None ∷ None ∷ None ∷ []); height = 0 }) ∷ []); bytes = counted_bytes1 })
-    ∷ (record { did = record { did = record { thread = record { 0 = 1 }; instr = record { 0 = 2 }; kind = kinds.Access (record { pointer = 9367487224947408896; number = 0; bytes = 8; writes = true; event = false }) }; low = 3; high = 3 }; calls = ((record { function = 0; place = 2; registers = ((Some 0) ∷ (Some 0) ∷ (Some 9367487224947408896) ∷ None ∷ None ∷ None ∷ []); height = 0 }) ∷ []); bytes = counted_bytes1 })
-    ∷ (record { did = record { did = record { thread = record { 0 = 1 }; instr = record { 0 = 3 }; kind = kinds.Other }; low = 3; high = 3 }; calls = ((record { function = 0; place = 3; registers = ((Some 0) ∷ (Some 0) ∷ (Some 9367487224947408896) ∷ None ∷ None ∷ None ∷ []); height = 0 }) ∷ []); bytes = counted_bytes2 })
-    ∷ (record { did = record { did = record { thread = record { 0 = 1 }; instr = record { 0 = 4 }; kind = kinds.Access (record { pointer = 9367487224947408896; number = 0; bytes = 8; writes = false; event = false }) }; low = 3; high = 3 }; calls = ((record { function = 0; place = 4; registers = ((Some 0) ∷ (Some 0) ∷ (Some 9367487224947408896) ∷ None ∷ None ∷ None ∷ []); height = 0 }) ∷ []); bytes = counted_bytes2 })
-    ∷ (record { did = record { did = record { thread = record { 0 = 1 }; instr = record { 0 = 5 }; kind = kinds.Other }; low = 3; high = 3 }; calls = ((record { function = 0; place = 5; registers = ((Some 0) ∷ (Some 0) ∷ (Some 9367487224947408896) ∷ (Some 0) ∷ None ∷ None ∷ []); height = 0 }) ∷ []); bytes = counted_bytes2 })
-    ∷ (record { did = record { did = record { thread = record { 0 = 1 }; instr = record { 0 = 6 }; kind = kinds.Branch 0 }; low = 3; high = 3 }; calls = ((record { function = 0; place = 6; registers = ((Some 0) ∷ (Some 0) ∷ (Some 9367487224947408896) ∷ (Some 0) ∷ (Some 0) ∷ None ∷ []); height = 0 }) ∷ []); bytes = counted_bytes2 })
-    ∷ (record { did = record { did = record { thread = record { 0 = 1 }; instr = record { 0 = 10 }; kind = kinds.Access (record { pointer = 4398063288320; number = 0; bytes = 8; writes = true; event = true }) }; low = 4; high = 3 }; calls = ((record { function = 0; place = 10; registers = ((Some 0) ∷ (Some 0) ∷ (Some 9367487224947408896) ∷ (Some 0) ∷ (Some 0) ∷ None ∷ []); height = 0 }) ∷ []); bytes = counted_bytes2 })
-    ∷ (record { did = record { did = record { thread = record { 0 = 1 }; instr = record { 0 = 11 }; kind = kinds.Event (record { kind = turns.Exit; object = 1; operands = (0 ∷ 0 ∷ 0 ∷ 0 ∷ []); reply = 0; write = None }) }; low = 5; high = 4 }; calls = ((record { function = 0; place = 11; registers = ((Some 0) ∷ (Some 0) ∷ (Some 9367487224947408896) ∷ (Some 0) ∷ (Some 0) ∷ None ∷ []); height = 0 }) ∷ []); bytes = counted_bytes3 })
-    ∷ (record { did = record { did = record { thread = record { 0 = 0 }; instr = record { 0 = 13 }; kind = kinds.Other }; low = 2; high = 5 }; calls = ((record { function = 1; place = 13; registers = ((Some 0) ∷ None ∷ None ∷ None ∷ None ∷ None ∷ None ∷ []); height = 0 }) ∷ []); bytes = counted_bytes3 })
-    ∷ (record { did = record { did = record { thread = record { 0 = 0 }; instr = record { 0 = 15 }; kind = kinds.Other }; low = 2; high = 5 }; calls = ((record { function = 1; place = 15; registers = ((Some 0) ∷ (Some 0) ∷ None ∷ None ∷ None ∷ None ∷ None ∷ []); height = 0 }) ∷ []); bytes = counted_bytes3 })
-    ∷ (record { did = record { did = record { thread = record { 0 = 0 }; instr = record { 0 = 16 }; kind = kinds.Other }; low = 2; high = 5 }; calls = ((record { function = 1; place = 16; registers = ((Some 0) ∷ (Some 0) ∷ (Some 1) ∷ None ∷ None ∷ None ∷ None ∷ []); height = 0 }) ∷ []); bytes = counted_bytes3 })
-    ∷ (record { did = record { did = record { thread = record { 0 = 0 }; instr = record { 0 = 17 }; kind = kinds.Branch 1 }; low = 2; high = 5 }; calls = ((record { function = 1; place = 17; registers = ((Some 0) ∷ (Some 0) ∷ (Some 1) ∷ (Some 1) ∷ None ∷ None ∷ None ∷ []); height = 0 }) ∷ []); bytes = counted_bytes3 })
-    ∷ (record { did = record { did = record { thread = record { 0 = 0 }; instr = record { 0 = 15 }; kind = kinds.Other }; low = 2; high = 5 }; calls = ((record { function = 1; place = 15; registers = ((Some 0) ∷ (Some 1) ∷ (Some 1) ∷ (Some 1) ∷ None ∷ None ∷ None ∷ []); height = 0 }) ∷ []); bytes = counted_bytes3 })
-    ∷ (record { did = record { did = record { thread = record { 0 = 0 }; instr = record { 0 = 16 }; kind = kinds.Other }; low = 2; high = 5 }; calls = ((record { function = 1; place = 16; registers = ((Some 0) ∷ (Some 1) ∷ (Some 2) ∷ (Some 1) ∷ None ∷ None ∷ None ∷ []); height = 0 }) ∷ []); bytes = counted_bytes3 })
-    ∷ (record { did = record { did = record { thread = record { 0 = 0 }; instr = record { 0 = 17 }; kind = kinds.Branch 1 }; low = 2; high = 5 }; calls = ((record { function = 1; place = 17; registers = ((Some 0) ∷ (Some 1) ∷ (Some 2) ∷ (Some 1) ∷ None ∷ None ∷ None ∷ []); height = 0 }) ∷ []); bytes = counted_bytes3 })
-    ∷ (record { did = record { did = record { thread = record { 0 = 0 }; instr = record { 0 = 15 }; kind = kinds.Other }; low = 2; high = 5 }; calls = ((record { function = 1; place = 15; registers = ((Some 0) ∷ (Some 2) ∷ (Some 2) ∷ (Some 1) ∷ None ∷ None ∷ None ∷ []); height = 0 }) ∷ []); bytes = counted_bytes3 })
-    ∷ (record { did = record { did = record { thread = record { 0 = 0 }; instr = record { 0 = 16 }; kind = kinds.Other }; low = 2; high = 5 }; calls = ((record { function = 1; place = 16; registers = ((Some 0) ∷ (Some 2) ∷ (Some 3) ∷ (Some 1) ∷ None ∷ None ∷ None ∷ []); height = 0 }) ∷ []); bytes = counted_bytes3 })
-    ∷ (record { did = record { did = record { thread = record { 0 = 0 }; instr = record { 0 = 17 }; kind = kinds.Branch 0 }; low = 2; high = 5 }; calls = ((record { function = 1; place = 17; registers = ((Some 0) ∷ (Some 2) ∷ (Some 3) ∷ (Some 0) ∷ None ∷ None ∷ None ∷ []); height = 0 }) ∷ []); bytes = counted_bytes3 })
-    ∷ (record { did = record { did = record { thread = record { 0 = 0 }; instr = record { 0 = 18 }; kind = kinds.Access (record { pointer = 4398063288320; number = 100; bytes = 8; writes = true; event = true }) }; low = 6; high = 5 }; calls = ((record { function = 1; place = 18; registers = ((Some 0) ∷ (Some 2) ∷ (Some 3) ∷ (Some 0) ∷ None ∷ None ∷ None ∷ []); height = 0 }) ∷ []); bytes = counted_bytes3 })
-    ∷ (record { did = record { did = record { thread = record { 0 = 0 }; instr = record { 0 = 19 }; kind = kinds.Access (record { pointer = 8796109799424; number = 1; bytes = 8; writes = false; event = false }) }; low = 6; high = 6 }; calls = ((record { function = 1; place = 19; registers = ((Some 0) ∷ (Some 2) ∷ (Some 3) ∷ (Some 0) ∷ None ∷ None ∷ None ∷ []); height = 0 }) ∷ []); bytes = counted_bytes4 })
-    ∷ (record { did = record { did = record { thread = record { 0 = 0 }; instr = record { 0 = 20 }; kind = kinds.Event (record { kind = turns.Join; object = 1; operands = (1 ∷ 0 ∷ 0 ∷ 0 ∷ []); reply = 0; write = None }) }; low = 7; high = 6 }; calls = ((record { function = 1; place = 20; registers = ((Some 0) ∷ (Some 2) ∷ (Some 3) ∷ (Some 0) ∷ (Some 1) ∷ None ∷ None ∷ []); height = 0 }) ∷ []); bytes = counted_bytes4 })
-    ∷ (record { did = record { did = record { thread = record { 0 = 0 }; instr = record { 0 = 21 }; kind = kinds.Access (record { pointer = 4398063288320; number = 100; bytes = 8; writes = false; event = false }) }; low = 7; high = 7 }; calls = ((record { function = 1; place = 21; registers = ((Some 0) ∷ (Some 2) ∷ (Some 3) ∷ (Some 0) ∷ (Some 1) ∷ (Some 0) ∷ None ∷ []); height = 0 }) ∷ []); bytes = counted_bytes4 })
-    ∷ (record { did = record { did = record { thread = record { 0 = 0 }; instr = record { 0 = 22 }; kind = kinds.Event (record { kind = turns.Out; object = 0; operands = (100 ∷ 0 ∷ 0 ∷ 0 ∷ []); reply = 0; write = None }) }; low = 8; high = 7 }; calls = ((record { function = 1; place = 22; registers = ((Some 0) ∷ (Some 2) ∷ (Some 3) ∷ (Some 0) ∷ (Some 1) ∷ (Some 0) ∷ (Some 100) ∷ []); height = 0 }) ∷ []); bytes = counted_bytes4 })
-    ∷ (record { did = record { did = record { thread = record { 0 = 0 }; instr = record { 0 = 23 }; kind = kinds.Event (record { kind = turns.Exit; object = 0; operands = (0 ∷ 0 ∷ 0 ∷ 0 ∷ []); reply = 0; write = None }) }; low = 9; high = 8 }; calls = ((record { function = 1; place = 23; registers = ((Some 0) ∷ (Some 2) ∷ (Some 3) ∷ (Some 0) ∷ (Some 1) ∷ (Some 0) ∷ (Some 100) ∷ []); height = 0 }) ∷ []); bytes = counted_bytes4 })
+    moment 0 12 (event turns.Start 0 (0 ∷ 0 ∷ 0 ∷ 0 ∷ []) 0 None) 1 0 (frame 1 12 (None ∷ None ∷ None ∷ None ∷ None ∷ None ∷ None ∷ []) 0 ∷ []) counted_bytes0
+    ∷ moment 0 12 (event turns.Create 1 (8796109799424 ∷ 0 ∷ 0 ∷ 0 ∷ []) 0 (writing 8796109799424 1)) 2 1
+    (frame 1 12 (None ∷ None ∷ None ∷ None ∷ None ∷ None ∷ None ∷ []) 0 ∷ []) counted_bytes0
+    ∷ moment 1 0 (event turns.Start 1 (0 ∷ 0 ∷ 0 ∷ 0 ∷ []) 0 None) 3 2 (frame 0 0 (None ∷ None ∷ None ∷ None ∷ None ∷ None ∷ []) 0 ∷ []) counted_bytes1
+    ∷ moment 1 0 kinds.Other 3 3 (frame 0 0 ((Some 0) ∷ None ∷ None ∷ None ∷ None ∷ None ∷ []) 0 ∷ []) counted_bytes1
+    ∷ moment 1 1 (kinds.Allocation 0 9367487224947408896) 3 3 (frame 0 1 ((Some 0) ∷ (Some 0) ∷ None ∷ None ∷ None ∷ None ∷ []) 0 ∷ []) counted_bytes1
+    ∷ moment 1 2 (access 9367487224947408896 0 8 true false) 3 3 (frame 0 2 ((Some 0) ∷ (Some 0) ∷ (Some 9367487224947408896) ∷ None ∷ None ∷ None ∷ []) 0 ∷ []) counted_bytes1
+    ∷ moment 1 3 kinds.Other 3 3 (frame 0 3 ((Some 0) ∷ (Some 0) ∷ (Some 9367487224947408896) ∷ None ∷ None ∷ None ∷ []) 0 ∷ []) counted_bytes2
+    ∷ moment 1 4 (access 9367487224947408896 0 8 false false) 3 3 (frame 0 4 ((Some 0) ∷ (Some 0) ∷ (Some 9367487224947408896) ∷ None ∷ None ∷ None ∷ []) 0 ∷ []) counted_bytes2
+    ∷ moment 1 5 kinds.Other 3 3 (frame 0 5 ((Some 0) ∷ (Some 0) ∷ (Some 9367487224947408896) ∷ (Some 0) ∷ None ∷ None ∷ []) 0 ∷ []) counted_bytes2
+    ∷ moment 1 6 (kinds.Branch 0) 3 3 (frame 0 6 ((Some 0) ∷ (Some 0) ∷ (Some 9367487224947408896) ∷ (Some 0) ∷ (Some 0) ∷ None ∷ []) 0 ∷ []) counted_bytes2
+    ∷ moment 1 10 (access 4398063288320 0 8 true true) 4 3 (frame 0 10 ((Some 0) ∷ (Some 0) ∷ (Some 9367487224947408896) ∷ (Some 0) ∷ (Some 0) ∷ None ∷ []) 0 ∷ []) counted_bytes2
+    ∷ moment 1 11 (event turns.Exit 1 (0 ∷ 0 ∷ 0 ∷ 0 ∷ []) 0 None) 5 4
+    (frame 0 11 ((Some 0) ∷ (Some 0) ∷ (Some 9367487224947408896) ∷ (Some 0) ∷ (Some 0) ∷ None ∷ []) 0 ∷ []) counted_bytes3
+    ∷ moment 0 13 kinds.Other 2 5 (frame 1 13 ((Some 0) ∷ None ∷ None ∷ None ∷ None ∷ None ∷ None ∷ []) 0 ∷ []) counted_bytes3
+    ∷ moment 0 15 kinds.Other 2 5 (frame 1 15 ((Some 0) ∷ (Some 0) ∷ None ∷ None ∷ None ∷ None ∷ None ∷ []) 0 ∷ []) counted_bytes3
+    ∷ moment 0 16 kinds.Other 2 5 (frame 1 16 ((Some 0) ∷ (Some 0) ∷ (Some 1) ∷ None ∷ None ∷ None ∷ None ∷ []) 0 ∷ []) counted_bytes3
+    ∷ moment 0 17 (kinds.Branch 1) 2 5 (frame 1 17 ((Some 0) ∷ (Some 0) ∷ (Some 1) ∷ (Some 1) ∷ None ∷ None ∷ None ∷ []) 0 ∷ []) counted_bytes3
+    ∷ moment 0 15 kinds.Other 2 5 (frame 1 15 ((Some 0) ∷ (Some 1) ∷ (Some 1) ∷ (Some 1) ∷ None ∷ None ∷ None ∷ []) 0 ∷ []) counted_bytes3
+    ∷ moment 0 16 kinds.Other 2 5 (frame 1 16 ((Some 0) ∷ (Some 1) ∷ (Some 2) ∷ (Some 1) ∷ None ∷ None ∷ None ∷ []) 0 ∷ []) counted_bytes3
+    ∷ moment 0 17 (kinds.Branch 1) 2 5 (frame 1 17 ((Some 0) ∷ (Some 1) ∷ (Some 2) ∷ (Some 1) ∷ None ∷ None ∷ None ∷ []) 0 ∷ []) counted_bytes3
+    ∷ moment 0 15 kinds.Other 2 5 (frame 1 15 ((Some 0) ∷ (Some 2) ∷ (Some 2) ∷ (Some 1) ∷ None ∷ None ∷ None ∷ []) 0 ∷ []) counted_bytes3
+    ∷ moment 0 16 kinds.Other 2 5 (frame 1 16 ((Some 0) ∷ (Some 2) ∷ (Some 3) ∷ (Some 1) ∷ None ∷ None ∷ None ∷ []) 0 ∷ []) counted_bytes3
+    ∷ moment 0 17 (kinds.Branch 0) 2 5 (frame 1 17 ((Some 0) ∷ (Some 2) ∷ (Some 3) ∷ (Some 0) ∷ None ∷ None ∷ None ∷ []) 0 ∷ []) counted_bytes3
+    ∷ moment 0 18 (access 4398063288320 100 8 true true) 6 5 (frame 1 18 ((Some 0) ∷ (Some 2) ∷ (Some 3) ∷ (Some 0) ∷ None ∷ None ∷ None ∷ []) 0 ∷ []) counted_bytes3
+    ∷ moment 0 19 (access 8796109799424 1 8 false false) 6 6 (frame 1 19 ((Some 0) ∷ (Some 2) ∷ (Some 3) ∷ (Some 0) ∷ None ∷ None ∷ None ∷ []) 0 ∷ []) counted_bytes4
+    ∷ moment 0 20 (event turns.Join 1 (1 ∷ 0 ∷ 0 ∷ 0 ∷ []) 0 None) 7 6
+    (frame 1 20 ((Some 0) ∷ (Some 2) ∷ (Some 3) ∷ (Some 0) ∷ (Some 1) ∷ None ∷ None ∷ []) 0 ∷ []) counted_bytes4
+    ∷ moment 0 21 (access 4398063288320 100 8 false false) 7 7 (frame 1 21 ((Some 0) ∷ (Some 2) ∷ (Some 3) ∷ (Some 0) ∷ (Some 1) ∷ (Some 0) ∷ None ∷ []) 0 ∷ []) counted_bytes4
+    ∷ moment 0 22 (event turns.Out 0 (100 ∷ 0 ∷ 0 ∷ 0 ∷ []) 0 None) 8 7
+    (frame 1 22 ((Some 0) ∷ (Some 2) ∷ (Some 3) ∷ (Some 0) ∷ (Some 1) ∷ (Some 0) ∷ (Some 100) ∷ []) 0 ∷ []) counted_bytes4
+    ∷ moment 0 23 (event turns.Exit 0 (0 ∷ 0 ∷ 0 ∷ 0 ∷ []) 0 None) 9 8
+    (frame 1 23 ((Some 0) ∷ (Some 2) ∷ (Some 3) ∷ (Some 0) ∷ (Some 1) ∷ (Some 0) ∷ (Some 100) ∷ []) 0 ∷ []) counted_bytes4
     ∷ []
 
 abbrev pub counted : Reference

@@ -1,6 +1,7 @@
 -- What is known along a reference run under some decisions: of each register, each byte and each thread's word, from step to
 -- step. What isn't live passes without a trace.
-use Rattle.std.specs.Prelude.{ℕ, suc, ◌-◌, ◌%◌, ◌^◌, ◌==◌, ◌||◌, List, [], ◌∷◌, ◌++◌, length, map, replicate, Bool, true, false, Option, Some, None, slice_get, slice_set, slice_index, slice_index_or, if◌then◌else◌}
+use Rattle.std.specs.Prelude.{ℕ, suc, ◌-◌, ◌%◌, ◌^◌, ◌==◌, ◌||◌, List, [], ◌∷◌, ◌++◌, length, map, replicate, Bool, true, false, Option, Some, None}
+use Rattle.std.specs.Prelude.{slice_get, slice_set, slice_index, slice_index_or, if◌then◌else◌}
 use Rattle.pg_num.specs.Numbers.{signed, modulus}
 use Rattle.pg_num.specs.declared.width.Width.{Width}
 use Rattle.pg_num.specs.declared.width.Width.TheVariants.{W64}
@@ -13,7 +14,8 @@ use Rattle.pg_ir.specs.declared.instr.Op.TheVariants as op
 use Rattle.pg_ir.specs.Program.{NumberedProgram, types_of, parameter_count}
 use Rattle.pg_ir.specs.Edges.{incoming_from, incoming_of, phis_of}
 use Rattle.pg_mem.specs.Initial.{initial_byte}
-use Rattle.pg_nodes.specs.Values.{input_at, with_one}
+use Rattle.pg_nodes.specs.Values.{with_one}
+use Rattle.pg_num.specs.Inputs.{input_at}
 use Rattle.pg_step.specs.LocalState.{Frame}
 use Rattle.pg_step.specs.Operands.{operands_of}
 use Rattle.pg_trace.specs.declared.turn.TurnKind.{TurnKind}

@@ -1,4 +1,5 @@
 pub mod Moments
+pub mod ExampleMoments
 pub mod Freeable
 pub mod Shadows
 pub mod Extents

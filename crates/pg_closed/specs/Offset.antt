@@ -13,6 +13,7 @@ use Rattle.pg_mem.specs.Initial.{initial_byte}
 use Rattle.pg_trace.specs.declared.turn.TurnKind.TheVariants as turns
 use Rattle.pg_trace.specs.declared.step.StepKind.TheVariants as kinds
 use Rattle.pg_closed.specs.Moments.{Moment}
+use Rattle.pg_closed.specs.ExampleMoments.{frame, event, writing, access, moment}
 use Rattle.pg_closed.specs.Freeable.{Regions}
 use Rattle.pg_closed.specs.Known.{Reference}
 
@@ -42,12 +43,12 @@ offset_bytes1 = with_bytes offset_bytes0 (record { start = 16; bytes = 8 }) 1
 
 abbrev pub offset_moments : List Moment
 offset_moments =
-    (record { did = record { did = record { thread = record { 0 = 0 }; instr = record { 0 = 0 }; kind = kinds.Event (record { kind = turns.Start; object = 0; operands = (0 ∷ 0 ∷ 0 ∷ 0 ∷ []); reply = 0; write = None }) }; low = 1; high = 0 }; calls = ((record { function = 0; place = 0; registers = (None ∷ None ∷ None ∷ []); height = 0 }) ∷ []); bytes = offset_bytes0 })
-    ∷ (record { did = record { did = record { thread = record { 0 = 0 }; instr = record { 0 = 0 }; kind = kinds.Other }; low = 1; high = 1 }; calls = ((record { function = 0; place = 0; registers = (None ∷ None ∷ None ∷ []); height = 0 }) ∷ []); bytes = offset_bytes0 })
-    ∷ (record { did = record { did = record { thread = record { 0 = 0 }; instr = record { 0 = 1 }; kind = kinds.Other }; low = 1; high = 1 }; calls = ((record { function = 0; place = 1; registers = ((Some 8) ∷ None ∷ None ∷ []); height = 0 }) ∷ []); bytes = offset_bytes0 })
-    ∷ (record { did = record { did = record { thread = record { 0 = 0 }; instr = record { 0 = 2 }; kind = kinds.Other }; low = 1; high = 1 }; calls = ((record { function = 0; place = 2; registers = ((Some 8) ∷ (Some 1) ∷ None ∷ []); height = 0 }) ∷ []); bytes = offset_bytes0 })
-    ∷ (record { did = record { did = record { thread = record { 0 = 0 }; instr = record { 0 = 3 }; kind = kinds.Access (record { pointer = 4398113619976; number = 1; bytes = 8; writes = true; event = false }) }; low = 1; high = 1 }; calls = ((record { function = 0; place = 3; registers = ((Some 8) ∷ (Some 1) ∷ (Some 4398113619976) ∷ []); height = 0 }) ∷ []); bytes = offset_bytes0 })
-    ∷ (record { did = record { did = record { thread = record { 0 = 0 }; instr = record { 0 = 4 }; kind = kinds.Event (record { kind = turns.Exit; object = 0; operands = (0 ∷ 0 ∷ 0 ∷ 0 ∷ []); reply = 0; write = None }) }; low = 2; high = 1 }; calls = ((record { function = 0; place = 4; registers = ((Some 8) ∷ (Some 1) ∷ (Some 4398113619976) ∷ []); height = 0 }) ∷ []); bytes = offset_bytes1 })
+    moment 0 0 (event turns.Start 0 (0 ∷ 0 ∷ 0 ∷ 0 ∷ []) 0 None) 1 0 (frame 0 0 (None ∷ None ∷ None ∷ []) 0 ∷ []) offset_bytes0
+    ∷ moment 0 0 kinds.Other 1 1 (frame 0 0 (None ∷ None ∷ None ∷ []) 0 ∷ []) offset_bytes0
+    ∷ moment 0 1 kinds.Other 1 1 (frame 0 1 ((Some 8) ∷ None ∷ None ∷ []) 0 ∷ []) offset_bytes0
+    ∷ moment 0 2 kinds.Other 1 1 (frame 0 2 ((Some 8) ∷ (Some 1) ∷ None ∷ []) 0 ∷ []) offset_bytes0
+    ∷ moment 0 3 (access 4398113619976 1 8 true false) 1 1 (frame 0 3 ((Some 8) ∷ (Some 1) ∷ (Some 4398113619976) ∷ []) 0 ∷ []) offset_bytes0
+    ∷ moment 0 4 (event turns.Exit 0 (0 ∷ 0 ∷ 0 ∷ 0 ∷ []) 0 None) 2 1 (frame 0 4 ((Some 8) ∷ (Some 1) ∷ (Some 4398113619976) ∷ []) 0 ∷ []) offset_bytes1
     ∷ []
 
 abbrev pub offset : Reference

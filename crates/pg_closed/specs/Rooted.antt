@@ -13,6 +13,7 @@ use Rattle.pg_paths.specs.declared.path.Root.TheVariants as root
 use Rattle.pg_trace.specs.declared.turn.TurnKind.TheVariants as turns
 use Rattle.pg_trace.specs.declared.step.StepKind.TheVariants as kinds
 use Rattle.pg_closed.specs.Moments.{Moment}
+use Rattle.pg_closed.specs.ExampleMoments.{frame, event, writing, access, moment}
 use Rattle.pg_closed.specs.Freeable.{Regions}
 use Rattle.pg_closed.specs.Known.{Reference}
 use Rattle.pg_closed.specs.Sets.{one_of}
@@ -34,7 +35,11 @@ rooted_program = record {
       ∷ (record { op = op.Compare compares.Ne W64 (value.Register 0) (value.Const 0); block = (record { 0 = 0 }); result = (Some 1) })
       ∷ (record { op = op.CondBr (value.Register 1) (record { 0 = 1 }) (record { 0 = 2 }); block = (record { 0 = 0 }); result = None })
       ∷ (record { op = op.Br (record { 0 = 2 }); block = (record { 0 = 1 }); result = None })
-      ∷ (record { op = op.Phi ((record { block = (record { 0 = 0 }); value = (value.Global 0) }) ∷ (record { block = (record { 0 = 1 }); value = (value.Global 1) }) ∷ []); block = (record { 0 = 2 }); result = (Some 2) })
+      ∷ (record {
+        op = op.Phi ((record { block = (record { 0 = 0 }); value = (value.Global 0) }) ∷ (record { block = (record { 0 = 1 }); value = (value.Global 1) }) ∷ []);
+        block = (record { 0 = 2 });
+        result = (Some 2);
+      })
       ∷ (record { op = op.CallKnown known.PgIn ((value.Const 1) ∷ []); block = (record { 0 = 2 }); result = (Some 3) })
       ∷ (record { op = op.Compare compares.Ne W64 (value.Register 3) (value.Const 0); block = (record { 0 = 2 }); result = (Some 4) })
       ∷ (record { op = op.CondBr (value.Register 4) (record { 0 = 3 }) (record { 0 = 4 }); block = (record { 0 = 2 }); result = None })
@@ -59,14 +64,14 @@ rooted_bytes0 = initial_byte rooted_program.globals
 
 abbrev pub rooted_moments : List Moment
 rooted_moments =
-    (record { did = record { did = record { thread = record { 0 = 0 }; instr = record { 0 = 0 }; kind = kinds.Event (record { kind = turns.Start; object = 0; operands = (0 ∷ 0 ∷ 0 ∷ 0 ∷ []); reply = 0; write = None }) }; low = 1; high = 0 }; calls = ((record { function = 0; place = 0; registers = (None ∷ None ∷ None ∷ None ∷ None ∷ []); height = 0 }) ∷ []); bytes = rooted_bytes0 })
-    ∷ (record { did = record { did = record { thread = record { 0 = 0 }; instr = record { 0 = 0 }; kind = kinds.Other }; low = 1; high = 1 }; calls = ((record { function = 0; place = 0; registers = (None ∷ None ∷ None ∷ None ∷ None ∷ []); height = 0 }) ∷ []); bytes = rooted_bytes0 })
-    ∷ (record { did = record { did = record { thread = record { 0 = 0 }; instr = record { 0 = 1 }; kind = kinds.Other }; low = 1; high = 1 }; calls = ((record { function = 0; place = 1; registers = ((Some 0) ∷ None ∷ None ∷ None ∷ None ∷ []); height = 0 }) ∷ []); bytes = rooted_bytes0 })
-    ∷ (record { did = record { did = record { thread = record { 0 = 0 }; instr = record { 0 = 2 }; kind = kinds.Branch 0 }; low = 1; high = 1 }; calls = ((record { function = 0; place = 2; registers = ((Some 0) ∷ (Some 0) ∷ None ∷ None ∷ None ∷ []); height = 0 }) ∷ []); bytes = rooted_bytes0 })
-    ∷ (record { did = record { did = record { thread = record { 0 = 0 }; instr = record { 0 = 5 }; kind = kinds.Other }; low = 1; high = 1 }; calls = ((record { function = 0; place = 5; registers = ((Some 0) ∷ (Some 0) ∷ (Some 4398063288320) ∷ None ∷ None ∷ []); height = 0 }) ∷ []); bytes = rooted_bytes0 })
-    ∷ (record { did = record { did = record { thread = record { 0 = 0 }; instr = record { 0 = 6 }; kind = kinds.Other }; low = 1; high = 1 }; calls = ((record { function = 0; place = 6; registers = ((Some 0) ∷ (Some 0) ∷ (Some 4398063288320) ∷ (Some 0) ∷ None ∷ []); height = 0 }) ∷ []); bytes = rooted_bytes0 })
-    ∷ (record { did = record { did = record { thread = record { 0 = 0 }; instr = record { 0 = 7 }; kind = kinds.Branch 0 }; low = 1; high = 1 }; calls = ((record { function = 0; place = 7; registers = ((Some 0) ∷ (Some 0) ∷ (Some 4398063288320) ∷ (Some 0) ∷ (Some 0) ∷ []); height = 0 }) ∷ []); bytes = rooted_bytes0 })
-    ∷ (record { did = record { did = record { thread = record { 0 = 0 }; instr = record { 0 = 10 }; kind = kinds.Event (record { kind = turns.Exit; object = 0; operands = (0 ∷ 0 ∷ 0 ∷ 0 ∷ []); reply = 0; write = None }) }; low = 2; high = 1 }; calls = ((record { function = 0; place = 10; registers = ((Some 0) ∷ (Some 0) ∷ (Some 4398063288320) ∷ (Some 0) ∷ (Some 0) ∷ []); height = 0 }) ∷ []); bytes = rooted_bytes0 })
+    moment 0 0 (event turns.Start 0 (0 ∷ 0 ∷ 0 ∷ 0 ∷ []) 0 None) 1 0 (frame 0 0 (None ∷ None ∷ None ∷ None ∷ None ∷ []) 0 ∷ []) rooted_bytes0
+    ∷ moment 0 0 kinds.Other 1 1 (frame 0 0 (None ∷ None ∷ None ∷ None ∷ None ∷ []) 0 ∷ []) rooted_bytes0
+    ∷ moment 0 1 kinds.Other 1 1 (frame 0 1 ((Some 0) ∷ None ∷ None ∷ None ∷ None ∷ []) 0 ∷ []) rooted_bytes0
+    ∷ moment 0 2 (kinds.Branch 0) 1 1 (frame 0 2 ((Some 0) ∷ (Some 0) ∷ None ∷ None ∷ None ∷ []) 0 ∷ []) rooted_bytes0
+    ∷ moment 0 5 kinds.Other 1 1 (frame 0 5 ((Some 0) ∷ (Some 0) ∷ (Some 4398063288320) ∷ None ∷ None ∷ []) 0 ∷ []) rooted_bytes0
+    ∷ moment 0 6 kinds.Other 1 1 (frame 0 6 ((Some 0) ∷ (Some 0) ∷ (Some 4398063288320) ∷ (Some 0) ∷ None ∷ []) 0 ∷ []) rooted_bytes0
+    ∷ moment 0 7 (kinds.Branch 0) 1 1 (frame 0 7 ((Some 0) ∷ (Some 0) ∷ (Some 4398063288320) ∷ (Some 0) ∷ (Some 0) ∷ []) 0 ∷ []) rooted_bytes0
+    ∷ moment 0 10 (event turns.Exit 0 (0 ∷ 0 ∷ 0 ∷ 0 ∷ []) 0 None) 2 1 (frame 0 10 ((Some 0) ∷ (Some 0) ∷ (Some 4398063288320) ∷ (Some 0) ∷ (Some 0) ∷ []) 0 ∷ []) rooted_bytes0
     ∷ []
 
 abbrev pub rooted : Reference

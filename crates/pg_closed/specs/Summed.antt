@@ -15,6 +15,7 @@ use Rattle.pg_paths.specs.declared.path.Root.TheVariants as root
 use Rattle.pg_trace.specs.declared.turn.TurnKind.TheVariants as turns
 use Rattle.pg_trace.specs.declared.step.StepKind.TheVariants as kinds
 use Rattle.pg_closed.specs.Moments.{Moment}
+use Rattle.pg_closed.specs.ExampleMoments.{frame, event, writing, access, moment}
 use Rattle.pg_closed.specs.Freeable.{Regions}
 use Rattle.pg_closed.specs.Known.{Reference}
 use Rattle.pg_closed.specs.Sets.{one_of}
@@ -22,8 +23,21 @@ use Rattle.pg_closed.specs.Sets.{one_of}
 abbrev pub summed_program : NumberedProgram
 summed_program = record {
   functions =
-      (record { params = 1; registers = (Ptr ∷ Ptr ∷ Ptr ∷ (Int W64) ∷ (Int W64) ∷ (Int W1) ∷ (Int W64) ∷ (Int W64) ∷ (Int W64) ∷ (Int W64) ∷ (Int W32) ∷ (Int W64) ∷ (Int W64) ∷ (Int W64) ∷ (Int W32) ∷ []); first_block = (record { 0 = 0 }); blocks = 4; result = (Some Ptr) })
-      ∷ (record { params = 0; registers = (Ptr ∷ (Int W32) ∷ (Int W32) ∷ (Int W64) ∷ (Int W64) ∷ (Int W32) ∷ (Int W32) ∷ (Int W64) ∷ []); first_block = (record { 0 = 4 }); blocks = 1; result = (Some (Int W32)) })
+      (record {
+        params = 1;
+        registers = (Ptr ∷ Ptr ∷ Ptr ∷ (Int W64) ∷ (Int W64) ∷ (Int W1) ∷ (Int W64) ∷ (Int W64) ∷ (Int W64) ∷ (Int W64) ∷ (Int W32) ∷ (Int W64) ∷
+            (Int W64) ∷ (Int W64) ∷ (Int W32) ∷ []);
+        first_block = (record { 0 = 0 });
+        blocks = 4;
+        result = (Some Ptr);
+      })
+      ∷ (record {
+        params = 0;
+        registers = (Ptr ∷ (Int W32) ∷ (Int W32) ∷ (Int W64) ∷ (Int W64) ∷ (Int W32) ∷ (Int W32) ∷ (Int W64) ∷ []);
+        first_block = (record { 0 = 4 });
+        blocks = 1;
+        result = (Some (Int W32));
+      })
       ∷ [];
   blocks =
       (record { function = 0; first = (record { 0 = 0 }); count = 5 })
@@ -56,7 +70,12 @@ summed_program = record {
       ∷ (record { op = op.Store W64 (value.Register 13) (value.Global 0); block = (record { 0 = 3 }); result = None })
       ∷ (record { op = op.CallKnown known.PthreadMutexUnlock ((value.Global 1) ∷ []); block = (record { 0 = 3 }); result = (Some 14) })
       ∷ (record { op = op.Ret (Some (value.Const 0)); block = (record { 0 = 3 }); result = None })
-      ∷ (record { op = op.Gep (value.Global 2) ((record { value = (value.Const 0); width = W64; scale = Times 16 }) ∷ (record { value = (value.Const 1); width = W64; scale = Times 8 }) ∷ []); block = (record { 0 = 4 }); result = (Some 0) })
+      ∷ (record {
+        op = op.Gep (value.Global 2) ((record { value = (value.Const 0); width = W64; scale = Times 16 }) ∷
+            (record { value = (value.Const 1); width = W64; scale = Times 8 }) ∷ []);
+        block = (record { 0 = 4 });
+        result = (Some 0);
+      })
       ∷ (record { op = op.CallKnown known.PthreadCreate ((value.Global 2) ∷ (value.Const 0) ∷ (value.Function 0) ∷ (value.Const 0) ∷ []); block = (record { 0 = 4 }); result = (Some 1) })
       ∷ (record { op = op.CallKnown known.PthreadCreate ((value.Register 0) ∷ (value.Const 0) ∷ (value.Function 0) ∷ (value.Const 0) ∷ []); block = (record { 0 = 4 }); result = (Some 2) })
       ∷ (record { op = op.Load W64 (value.Global 2); block = (record { 0 = 4 }); result = (Some 3) })
@@ -77,7 +96,13 @@ summed_program = record {
 
 abbrev pub summed_regions : Regions
 summed_regions b =
-    if b == 1 then Some (record { join = 3; sets = one_of (3 ∷ 4 ∷ 5 ∷ 6 ∷ 7 ∷ 8 ∷ 9 ∷ []); accesses = ((record { writes = false; path = (record { root = root.Register 2; loads = Never }) }) ∷ (record { writes = false; path = (record { root = root.Register 1; loads = Never }) }) ∷ (record { writes = true; path = (record { root = root.Register 1; loads = Never }) }) ∷ (record { writes = true; path = (record { root = root.Register 2; loads = Never }) }) ∷ []) }) else None
+    if b == 1 then Some (record {
+      join = 3;
+      sets = one_of (3 ∷ 4 ∷ 5 ∷ 6 ∷ 7 ∷ 8 ∷ 9 ∷ []);
+      accesses = ((record { writes = false; path = (record { root = root.Register 2; loads = Never }) }) ∷
+          (record { writes = false; path = (record { root = root.Register 1; loads = Never }) }) ∷ (record { writes = true; path = (record { root = root.Register 1; loads = Never }) }) ∷
+          (record { writes = true; path = (record { root = root.Register 2; loads = Never }) }) ∷ []);
+    }) else None
 
 abbrev pub summed_bytes0 : ℕ → ℕ
 summed_bytes0 = initial_byte summed_program.globals
@@ -144,117 +169,322 @@ summed_bytes20 = with_bytes summed_bytes19 (record { start = 8; bytes = 8 }) 12
 
 abbrev pub summed_moments : List Moment
 summed_moments =
-    (record { did = record { did = record { thread = record { 0 = 0 }; instr = record { 0 = 23 }; kind = kinds.Event (record { kind = turns.Start; object = 0; operands = (0 ∷ 0 ∷ 0 ∷ 0 ∷ []); reply = 0; write = None }) }; low = 1; high = 0 }; calls = ((record { function = 1; place = 23; registers = (None ∷ None ∷ None ∷ None ∷ None ∷ None ∷ None ∷ None ∷ []); height = 0 }) ∷ []); bytes = summed_bytes0 })
-    ∷ (record { did = record { did = record { thread = record { 0 = 0 }; instr = record { 0 = 23 }; kind = kinds.Other }; low = 1; high = 1 }; calls = ((record { function = 1; place = 23; registers = (None ∷ None ∷ None ∷ None ∷ None ∷ None ∷ None ∷ None ∷ []); height = 0 }) ∷ []); bytes = summed_bytes0 })
-    ∷ (record { did = record { did = record { thread = record { 0 = 0 }; instr = record { 0 = 24 }; kind = kinds.Event (record { kind = turns.Create; object = 1; operands = (30786359132160 ∷ 0 ∷ 0 ∷ 0 ∷ []); reply = 0; write = (Some (record { pointer = 30786359132160; number = 1 })) }) }; low = 2; high = 1 }; calls = ((record { function = 1; place = 24; registers = ((Some 30786359132168) ∷ None ∷ None ∷ None ∷ None ∷ None ∷ None ∷ None ∷ []); height = 0 }) ∷ []); bytes = summed_bytes0 })
-    ∷ (record { did = record { did = record { thread = record { 0 = 0 }; instr = record { 0 = 25 }; kind = kinds.Event (record { kind = turns.Create; object = 2; operands = (30786359132168 ∷ 0 ∷ 0 ∷ 0 ∷ []); reply = 0; write = (Some (record { pointer = 30786359132168; number = 2 })) }) }; low = 3; high = 2 }; calls = ((record { function = 1; place = 25; registers = ((Some 30786359132168) ∷ (Some 0) ∷ None ∷ None ∷ None ∷ None ∷ None ∷ None ∷ []); height = 0 }) ∷ []); bytes = summed_bytes1 })
-    ∷ (record { did = record { did = record { thread = record { 0 = 1 }; instr = record { 0 = 0 }; kind = kinds.Event (record { kind = turns.Start; object = 1; operands = (0 ∷ 0 ∷ 0 ∷ 0 ∷ []); reply = 0; write = None }) }; low = 4; high = 3 }; calls = ((record { function = 0; place = 0; registers = (None ∷ None ∷ None ∷ None ∷ None ∷ None ∷ None ∷ None ∷ None ∷ None ∷ None ∷ None ∷ None ∷ None ∷ None ∷ []); height = 0 }) ∷ []); bytes = summed_bytes2 })
-    ∷ (record { did = record { did = record { thread = record { 0 = 1 }; instr = record { 0 = 0 }; kind = kinds.Allocation 0 9367487224947408896 }; low = 4; high = 4 }; calls = ((record { function = 0; place = 0; registers = ((Some 0) ∷ None ∷ None ∷ None ∷ None ∷ None ∷ None ∷ None ∷ None ∷ None ∷ None ∷ None ∷ None ∷ None ∷ None ∷ []); height = 0 }) ∷ []); bytes = summed_bytes2 })
-    ∷ (record { did = record { did = record { thread = record { 0 = 1 }; instr = record { 0 = 1 }; kind = kinds.Allocation 0 9367491622993920000 }; low = 4; high = 4 }; calls = ((record { function = 0; place = 1; registers = ((Some 0) ∷ (Some 9367487224947408896) ∷ None ∷ None ∷ None ∷ None ∷ None ∷ None ∷ None ∷ None ∷ None ∷ None ∷ None ∷ None ∷ None ∷ []); height = 0 }) ∷ []); bytes = summed_bytes2 })
-    ∷ (record { did = record { did = record { thread = record { 0 = 1 }; instr = record { 0 = 2 }; kind = kinds.Access (record { pointer = 9367487224947408896; number = 0; bytes = 8; writes = true; event = false }) }; low = 4; high = 4 }; calls = ((record { function = 0; place = 2; registers = ((Some 0) ∷ (Some 9367487224947408896) ∷ (Some 9367491622993920000) ∷ None ∷ None ∷ None ∷ None ∷ None ∷ None ∷ None ∷ None ∷ None ∷ None ∷ None ∷ None ∷ []); height = 0 }) ∷ []); bytes = summed_bytes2 })
-    ∷ (record { did = record { did = record { thread = record { 0 = 1 }; instr = record { 0 = 3 }; kind = kinds.Access (record { pointer = 9367491622993920000; number = 0; bytes = 8; writes = true; event = false }) }; low = 4; high = 4 }; calls = ((record { function = 0; place = 3; registers = ((Some 0) ∷ (Some 9367487224947408896) ∷ (Some 9367491622993920000) ∷ None ∷ None ∷ None ∷ None ∷ None ∷ None ∷ None ∷ None ∷ None ∷ None ∷ None ∷ None ∷ []); height = 0 }) ∷ []); bytes = summed_bytes3 })
-    ∷ (record { did = record { did = record { thread = record { 0 = 1 }; instr = record { 0 = 4 }; kind = kinds.Other }; low = 4; high = 4 }; calls = ((record { function = 0; place = 4; registers = ((Some 0) ∷ (Some 9367487224947408896) ∷ (Some 9367491622993920000) ∷ None ∷ None ∷ None ∷ None ∷ None ∷ None ∷ None ∷ None ∷ None ∷ None ∷ None ∷ None ∷ []); height = 0 }) ∷ []); bytes = summed_bytes4 })
-    ∷ (record { did = record { did = record { thread = record { 0 = 1 }; instr = record { 0 = 5 }; kind = kinds.Access (record { pointer = 9367491622993920000; number = 0; bytes = 8; writes = false; event = false }) }; low = 4; high = 4 }; calls = ((record { function = 0; place = 5; registers = ((Some 0) ∷ (Some 9367487224947408896) ∷ (Some 9367491622993920000) ∷ None ∷ None ∷ None ∷ None ∷ None ∷ None ∷ None ∷ None ∷ None ∷ None ∷ None ∷ None ∷ []); height = 0 }) ∷ []); bytes = summed_bytes4 })
-    ∷ (record { did = record { did = record { thread = record { 0 = 1 }; instr = record { 0 = 6 }; kind = kinds.Other }; low = 4; high = 4 }; calls = ((record { function = 0; place = 6; registers = ((Some 0) ∷ (Some 9367487224947408896) ∷ (Some 9367491622993920000) ∷ (Some 0) ∷ None ∷ None ∷ None ∷ None ∷ None ∷ None ∷ None ∷ None ∷ None ∷ None ∷ None ∷ []); height = 0 }) ∷ []); bytes = summed_bytes4 })
-    ∷ (record { did = record { did = record { thread = record { 0 = 1 }; instr = record { 0 = 7 }; kind = kinds.Other }; low = 4; high = 4 }; calls = ((record { function = 0; place = 7; registers = ((Some 0) ∷ (Some 9367487224947408896) ∷ (Some 9367491622993920000) ∷ (Some 0) ∷ (Some 3) ∷ None ∷ None ∷ None ∷ None ∷ None ∷ None ∷ None ∷ None ∷ None ∷ None ∷ []); height = 0 }) ∷ []); bytes = summed_bytes4 })
-    ∷ (record { did = record { did = record { thread = record { 0 = 1 }; instr = record { 0 = 8 }; kind = kinds.Branch 1 }; low = 4; high = 4 }; calls = ((record { function = 0; place = 8; registers = ((Some 0) ∷ (Some 9367487224947408896) ∷ (Some 9367491622993920000) ∷ (Some 0) ∷ (Some 3) ∷ (Some 1) ∷ None ∷ None ∷ None ∷ None ∷ None ∷ None ∷ None ∷ None ∷ None ∷ []); height = 0 }) ∷ []); bytes = summed_bytes4 })
-    ∷ (record { did = record { did = record { thread = record { 0 = 1 }; instr = record { 0 = 9 }; kind = kinds.Other }; low = 4; high = 4 }; calls = ((record { function = 0; place = 9; registers = ((Some 0) ∷ (Some 9367487224947408896) ∷ (Some 9367491622993920000) ∷ (Some 0) ∷ (Some 3) ∷ (Some 1) ∷ None ∷ None ∷ None ∷ None ∷ None ∷ None ∷ None ∷ None ∷ None ∷ []); height = 0 }) ∷ []); bytes = summed_bytes4 })
-    ∷ (record { did = record { did = record { thread = record { 0 = 1 }; instr = record { 0 = 10 }; kind = kinds.Access (record { pointer = 9367487224947408896; number = 0; bytes = 8; writes = false; event = false }) }; low = 4; high = 4 }; calls = ((record { function = 0; place = 10; registers = ((Some 0) ∷ (Some 9367487224947408896) ∷ (Some 9367491622993920000) ∷ (Some 0) ∷ (Some 3) ∷ (Some 1) ∷ (Some 1) ∷ None ∷ None ∷ None ∷ None ∷ None ∷ None ∷ None ∷ None ∷ []); height = 0 }) ∷ []); bytes = summed_bytes4 })
-    ∷ (record { did = record { did = record { thread = record { 0 = 1 }; instr = record { 0 = 11 }; kind = kinds.Other }; low = 4; high = 4 }; calls = ((record { function = 0; place = 11; registers = ((Some 0) ∷ (Some 9367487224947408896) ∷ (Some 9367491622993920000) ∷ (Some 0) ∷ (Some 3) ∷ (Some 1) ∷ (Some 1) ∷ (Some 0) ∷ None ∷ None ∷ None ∷ None ∷ None ∷ None ∷ None ∷ []); height = 0 }) ∷ []); bytes = summed_bytes4 })
-    ∷ (record { did = record { did = record { thread = record { 0 = 1 }; instr = record { 0 = 12 }; kind = kinds.Access (record { pointer = 9367487224947408896; number = 1; bytes = 8; writes = true; event = false }) }; low = 4; high = 4 }; calls = ((record { function = 0; place = 12; registers = ((Some 0) ∷ (Some 9367487224947408896) ∷ (Some 9367491622993920000) ∷ (Some 0) ∷ (Some 3) ∷ (Some 1) ∷ (Some 1) ∷ (Some 0) ∷ (Some 1) ∷ None ∷ None ∷ None ∷ None ∷ None ∷ None ∷ []); height = 0 }) ∷ []); bytes = summed_bytes4 })
-    ∷ (record { did = record { did = record { thread = record { 0 = 1 }; instr = record { 0 = 13 }; kind = kinds.Other }; low = 4; high = 4 }; calls = ((record { function = 0; place = 13; registers = ((Some 0) ∷ (Some 9367487224947408896) ∷ (Some 9367491622993920000) ∷ (Some 0) ∷ (Some 3) ∷ (Some 1) ∷ (Some 1) ∷ (Some 0) ∷ (Some 1) ∷ None ∷ None ∷ None ∷ None ∷ None ∷ None ∷ []); height = 0 }) ∷ []); bytes = summed_bytes5 })
-    ∷ (record { did = record { did = record { thread = record { 0 = 1 }; instr = record { 0 = 14 }; kind = kinds.Access (record { pointer = 9367491622993920000; number = 1; bytes = 8; writes = true; event = false }) }; low = 4; high = 4 }; calls = ((record { function = 0; place = 14; registers = ((Some 0) ∷ (Some 9367487224947408896) ∷ (Some 9367491622993920000) ∷ (Some 0) ∷ (Some 3) ∷ (Some 1) ∷ (Some 1) ∷ (Some 0) ∷ (Some 1) ∷ (Some 1) ∷ None ∷ None ∷ None ∷ None ∷ None ∷ []); height = 0 }) ∷ []); bytes = summed_bytes5 })
-    ∷ (record { did = record { did = record { thread = record { 0 = 1 }; instr = record { 0 = 15 }; kind = kinds.Other }; low = 4; high = 4 }; calls = ((record { function = 0; place = 15; registers = ((Some 0) ∷ (Some 9367487224947408896) ∷ (Some 9367491622993920000) ∷ (Some 0) ∷ (Some 3) ∷ (Some 1) ∷ (Some 1) ∷ (Some 0) ∷ (Some 1) ∷ (Some 1) ∷ None ∷ None ∷ None ∷ None ∷ None ∷ []); height = 0 }) ∷ []); bytes = summed_bytes6 })
-    ∷ (record { did = record { did = record { thread = record { 0 = 1 }; instr = record { 0 = 5 }; kind = kinds.Access (record { pointer = 9367491622993920000; number = 1; bytes = 8; writes = false; event = false }) }; low = 4; high = 4 }; calls = ((record { function = 0; place = 5; registers = ((Some 0) ∷ (Some 9367487224947408896) ∷ (Some 9367491622993920000) ∷ (Some 0) ∷ (Some 3) ∷ (Some 1) ∷ (Some 1) ∷ (Some 0) ∷ (Some 1) ∷ (Some 1) ∷ None ∷ None ∷ None ∷ None ∷ None ∷ []); height = 0 }) ∷ []); bytes = summed_bytes6 })
-    ∷ (record { did = record { did = record { thread = record { 0 = 1 }; instr = record { 0 = 6 }; kind = kinds.Other }; low = 4; high = 4 }; calls = ((record { function = 0; place = 6; registers = ((Some 0) ∷ (Some 9367487224947408896) ∷ (Some 9367491622993920000) ∷ (Some 1) ∷ (Some 3) ∷ (Some 1) ∷ (Some 1) ∷ (Some 0) ∷ (Some 1) ∷ (Some 1) ∷ None ∷ None ∷ None ∷ None ∷ None ∷ []); height = 0 }) ∷ []); bytes = summed_bytes6 })
-    ∷ (record { did = record { did = record { thread = record { 0 = 1 }; instr = record { 0 = 7 }; kind = kinds.Other }; low = 4; high = 4 }; calls = ((record { function = 0; place = 7; registers = ((Some 0) ∷ (Some 9367487224947408896) ∷ (Some 9367491622993920000) ∷ (Some 1) ∷ (Some 3) ∷ (Some 1) ∷ (Some 1) ∷ (Some 0) ∷ (Some 1) ∷ (Some 1) ∷ None ∷ None ∷ None ∷ None ∷ None ∷ []); height = 0 }) ∷ []); bytes = summed_bytes6 })
-    ∷ (record { did = record { did = record { thread = record { 0 = 1 }; instr = record { 0 = 8 }; kind = kinds.Branch 1 }; low = 4; high = 4 }; calls = ((record { function = 0; place = 8; registers = ((Some 0) ∷ (Some 9367487224947408896) ∷ (Some 9367491622993920000) ∷ (Some 1) ∷ (Some 3) ∷ (Some 1) ∷ (Some 1) ∷ (Some 0) ∷ (Some 1) ∷ (Some 1) ∷ None ∷ None ∷ None ∷ None ∷ None ∷ []); height = 0 }) ∷ []); bytes = summed_bytes6 })
-    ∷ (record { did = record { did = record { thread = record { 0 = 1 }; instr = record { 0 = 9 }; kind = kinds.Other }; low = 4; high = 4 }; calls = ((record { function = 0; place = 9; registers = ((Some 0) ∷ (Some 9367487224947408896) ∷ (Some 9367491622993920000) ∷ (Some 1) ∷ (Some 3) ∷ (Some 1) ∷ (Some 1) ∷ (Some 0) ∷ (Some 1) ∷ (Some 1) ∷ None ∷ None ∷ None ∷ None ∷ None ∷ []); height = 0 }) ∷ []); bytes = summed_bytes6 })
-    ∷ (record { did = record { did = record { thread = record { 0 = 1 }; instr = record { 0 = 10 }; kind = kinds.Access (record { pointer = 9367487224947408896; number = 1; bytes = 8; writes = false; event = false }) }; low = 4; high = 4 }; calls = ((record { function = 0; place = 10; registers = ((Some 0) ∷ (Some 9367487224947408896) ∷ (Some 9367491622993920000) ∷ (Some 1) ∷ (Some 3) ∷ (Some 1) ∷ (Some 2) ∷ (Some 0) ∷ (Some 1) ∷ (Some 1) ∷ None ∷ None ∷ None ∷ None ∷ None ∷ []); height = 0 }) ∷ []); bytes = summed_bytes6 })
-    ∷ (record { did = record { did = record { thread = record { 0 = 1 }; instr = record { 0 = 11 }; kind = kinds.Other }; low = 4; high = 4 }; calls = ((record { function = 0; place = 11; registers = ((Some 0) ∷ (Some 9367487224947408896) ∷ (Some 9367491622993920000) ∷ (Some 1) ∷ (Some 3) ∷ (Some 1) ∷ (Some 2) ∷ (Some 1) ∷ (Some 1) ∷ (Some 1) ∷ None ∷ None ∷ None ∷ None ∷ None ∷ []); height = 0 }) ∷ []); bytes = summed_bytes6 })
-    ∷ (record { did = record { did = record { thread = record { 0 = 1 }; instr = record { 0 = 12 }; kind = kinds.Access (record { pointer = 9367487224947408896; number = 3; bytes = 8; writes = true; event = false }) }; low = 4; high = 4 }; calls = ((record { function = 0; place = 12; registers = ((Some 0) ∷ (Some 9367487224947408896) ∷ (Some 9367491622993920000) ∷ (Some 1) ∷ (Some 3) ∷ (Some 1) ∷ (Some 2) ∷ (Some 1) ∷ (Some 3) ∷ (Some 1) ∷ None ∷ None ∷ None ∷ None ∷ None ∷ []); height = 0 }) ∷ []); bytes = summed_bytes6 })
-    ∷ (record { did = record { did = record { thread = record { 0 = 1 }; instr = record { 0 = 13 }; kind = kinds.Other }; low = 4; high = 4 }; calls = ((record { function = 0; place = 13; registers = ((Some 0) ∷ (Some 9367487224947408896) ∷ (Some 9367491622993920000) ∷ (Some 1) ∷ (Some 3) ∷ (Some 1) ∷ (Some 2) ∷ (Some 1) ∷ (Some 3) ∷ (Some 1) ∷ None ∷ None ∷ None ∷ None ∷ None ∷ []); height = 0 }) ∷ []); bytes = summed_bytes7 })
-    ∷ (record { did = record { did = record { thread = record { 0 = 1 }; instr = record { 0 = 14 }; kind = kinds.Access (record { pointer = 9367491622993920000; number = 2; bytes = 8; writes = true; event = false }) }; low = 4; high = 4 }; calls = ((record { function = 0; place = 14; registers = ((Some 0) ∷ (Some 9367487224947408896) ∷ (Some 9367491622993920000) ∷ (Some 1) ∷ (Some 3) ∷ (Some 1) ∷ (Some 2) ∷ (Some 1) ∷ (Some 3) ∷ (Some 2) ∷ None ∷ None ∷ None ∷ None ∷ None ∷ []); height = 0 }) ∷ []); bytes = summed_bytes7 })
-    ∷ (record { did = record { did = record { thread = record { 0 = 1 }; instr = record { 0 = 15 }; kind = kinds.Other }; low = 4; high = 4 }; calls = ((record { function = 0; place = 15; registers = ((Some 0) ∷ (Some 9367487224947408896) ∷ (Some 9367491622993920000) ∷ (Some 1) ∷ (Some 3) ∷ (Some 1) ∷ (Some 2) ∷ (Some 1) ∷ (Some 3) ∷ (Some 2) ∷ None ∷ None ∷ None ∷ None ∷ None ∷ []); height = 0 }) ∷ []); bytes = summed_bytes8 })
-    ∷ (record { did = record { did = record { thread = record { 0 = 1 }; instr = record { 0 = 5 }; kind = kinds.Access (record { pointer = 9367491622993920000; number = 2; bytes = 8; writes = false; event = false }) }; low = 4; high = 4 }; calls = ((record { function = 0; place = 5; registers = ((Some 0) ∷ (Some 9367487224947408896) ∷ (Some 9367491622993920000) ∷ (Some 1) ∷ (Some 3) ∷ (Some 1) ∷ (Some 2) ∷ (Some 1) ∷ (Some 3) ∷ (Some 2) ∷ None ∷ None ∷ None ∷ None ∷ None ∷ []); height = 0 }) ∷ []); bytes = summed_bytes8 })
-    ∷ (record { did = record { did = record { thread = record { 0 = 1 }; instr = record { 0 = 6 }; kind = kinds.Other }; low = 4; high = 4 }; calls = ((record { function = 0; place = 6; registers = ((Some 0) ∷ (Some 9367487224947408896) ∷ (Some 9367491622993920000) ∷ (Some 2) ∷ (Some 3) ∷ (Some 1) ∷ (Some 2) ∷ (Some 1) ∷ (Some 3) ∷ (Some 2) ∷ None ∷ None ∷ None ∷ None ∷ None ∷ []); height = 0 }) ∷ []); bytes = summed_bytes8 })
-    ∷ (record { did = record { did = record { thread = record { 0 = 1 }; instr = record { 0 = 7 }; kind = kinds.Other }; low = 4; high = 4 }; calls = ((record { function = 0; place = 7; registers = ((Some 0) ∷ (Some 9367487224947408896) ∷ (Some 9367491622993920000) ∷ (Some 2) ∷ (Some 3) ∷ (Some 1) ∷ (Some 2) ∷ (Some 1) ∷ (Some 3) ∷ (Some 2) ∷ None ∷ None ∷ None ∷ None ∷ None ∷ []); height = 0 }) ∷ []); bytes = summed_bytes8 })
-    ∷ (record { did = record { did = record { thread = record { 0 = 1 }; instr = record { 0 = 8 }; kind = kinds.Branch 1 }; low = 4; high = 4 }; calls = ((record { function = 0; place = 8; registers = ((Some 0) ∷ (Some 9367487224947408896) ∷ (Some 9367491622993920000) ∷ (Some 2) ∷ (Some 3) ∷ (Some 1) ∷ (Some 2) ∷ (Some 1) ∷ (Some 3) ∷ (Some 2) ∷ None ∷ None ∷ None ∷ None ∷ None ∷ []); height = 0 }) ∷ []); bytes = summed_bytes8 })
-    ∷ (record { did = record { did = record { thread = record { 0 = 1 }; instr = record { 0 = 9 }; kind = kinds.Other }; low = 4; high = 4 }; calls = ((record { function = 0; place = 9; registers = ((Some 0) ∷ (Some 9367487224947408896) ∷ (Some 9367491622993920000) ∷ (Some 2) ∷ (Some 3) ∷ (Some 1) ∷ (Some 2) ∷ (Some 1) ∷ (Some 3) ∷ (Some 2) ∷ None ∷ None ∷ None ∷ None ∷ None ∷ []); height = 0 }) ∷ []); bytes = summed_bytes8 })
-    ∷ (record { did = record { did = record { thread = record { 0 = 1 }; instr = record { 0 = 10 }; kind = kinds.Access (record { pointer = 9367487224947408896; number = 3; bytes = 8; writes = false; event = false }) }; low = 4; high = 4 }; calls = ((record { function = 0; place = 10; registers = ((Some 0) ∷ (Some 9367487224947408896) ∷ (Some 9367491622993920000) ∷ (Some 2) ∷ (Some 3) ∷ (Some 1) ∷ (Some 3) ∷ (Some 1) ∷ (Some 3) ∷ (Some 2) ∷ None ∷ None ∷ None ∷ None ∷ None ∷ []); height = 0 }) ∷ []); bytes = summed_bytes8 })
-    ∷ (record { did = record { did = record { thread = record { 0 = 1 }; instr = record { 0 = 11 }; kind = kinds.Other }; low = 4; high = 4 }; calls = ((record { function = 0; place = 11; registers = ((Some 0) ∷ (Some 9367487224947408896) ∷ (Some 9367491622993920000) ∷ (Some 2) ∷ (Some 3) ∷ (Some 1) ∷ (Some 3) ∷ (Some 3) ∷ (Some 3) ∷ (Some 2) ∷ None ∷ None ∷ None ∷ None ∷ None ∷ []); height = 0 }) ∷ []); bytes = summed_bytes8 })
-    ∷ (record { did = record { did = record { thread = record { 0 = 1 }; instr = record { 0 = 12 }; kind = kinds.Access (record { pointer = 9367487224947408896; number = 6; bytes = 8; writes = true; event = false }) }; low = 4; high = 4 }; calls = ((record { function = 0; place = 12; registers = ((Some 0) ∷ (Some 9367487224947408896) ∷ (Some 9367491622993920000) ∷ (Some 2) ∷ (Some 3) ∷ (Some 1) ∷ (Some 3) ∷ (Some 3) ∷ (Some 6) ∷ (Some 2) ∷ None ∷ None ∷ None ∷ None ∷ None ∷ []); height = 0 }) ∷ []); bytes = summed_bytes8 })
-    ∷ (record { did = record { did = record { thread = record { 0 = 1 }; instr = record { 0 = 13 }; kind = kinds.Other }; low = 4; high = 4 }; calls = ((record { function = 0; place = 13; registers = ((Some 0) ∷ (Some 9367487224947408896) ∷ (Some 9367491622993920000) ∷ (Some 2) ∷ (Some 3) ∷ (Some 1) ∷ (Some 3) ∷ (Some 3) ∷ (Some 6) ∷ (Some 2) ∷ None ∷ None ∷ None ∷ None ∷ None ∷ []); height = 0 }) ∷ []); bytes = summed_bytes9 })
-    ∷ (record { did = record { did = record { thread = record { 0 = 1 }; instr = record { 0 = 14 }; kind = kinds.Access (record { pointer = 9367491622993920000; number = 3; bytes = 8; writes = true; event = false }) }; low = 4; high = 4 }; calls = ((record { function = 0; place = 14; registers = ((Some 0) ∷ (Some 9367487224947408896) ∷ (Some 9367491622993920000) ∷ (Some 2) ∷ (Some 3) ∷ (Some 1) ∷ (Some 3) ∷ (Some 3) ∷ (Some 6) ∷ (Some 3) ∷ None ∷ None ∷ None ∷ None ∷ None ∷ []); height = 0 }) ∷ []); bytes = summed_bytes9 })
-    ∷ (record { did = record { did = record { thread = record { 0 = 1 }; instr = record { 0 = 15 }; kind = kinds.Other }; low = 4; high = 4 }; calls = ((record { function = 0; place = 15; registers = ((Some 0) ∷ (Some 9367487224947408896) ∷ (Some 9367491622993920000) ∷ (Some 2) ∷ (Some 3) ∷ (Some 1) ∷ (Some 3) ∷ (Some 3) ∷ (Some 6) ∷ (Some 3) ∷ None ∷ None ∷ None ∷ None ∷ None ∷ []); height = 0 }) ∷ []); bytes = summed_bytes10 })
-    ∷ (record { did = record { did = record { thread = record { 0 = 1 }; instr = record { 0 = 5 }; kind = kinds.Access (record { pointer = 9367491622993920000; number = 3; bytes = 8; writes = false; event = false }) }; low = 4; high = 4 }; calls = ((record { function = 0; place = 5; registers = ((Some 0) ∷ (Some 9367487224947408896) ∷ (Some 9367491622993920000) ∷ (Some 2) ∷ (Some 3) ∷ (Some 1) ∷ (Some 3) ∷ (Some 3) ∷ (Some 6) ∷ (Some 3) ∷ None ∷ None ∷ None ∷ None ∷ None ∷ []); height = 0 }) ∷ []); bytes = summed_bytes10 })
-    ∷ (record { did = record { did = record { thread = record { 0 = 1 }; instr = record { 0 = 6 }; kind = kinds.Other }; low = 4; high = 4 }; calls = ((record { function = 0; place = 6; registers = ((Some 0) ∷ (Some 9367487224947408896) ∷ (Some 9367491622993920000) ∷ (Some 3) ∷ (Some 3) ∷ (Some 1) ∷ (Some 3) ∷ (Some 3) ∷ (Some 6) ∷ (Some 3) ∷ None ∷ None ∷ None ∷ None ∷ None ∷ []); height = 0 }) ∷ []); bytes = summed_bytes10 })
-    ∷ (record { did = record { did = record { thread = record { 0 = 1 }; instr = record { 0 = 7 }; kind = kinds.Other }; low = 4; high = 4 }; calls = ((record { function = 0; place = 7; registers = ((Some 0) ∷ (Some 9367487224947408896) ∷ (Some 9367491622993920000) ∷ (Some 3) ∷ (Some 3) ∷ (Some 1) ∷ (Some 3) ∷ (Some 3) ∷ (Some 6) ∷ (Some 3) ∷ None ∷ None ∷ None ∷ None ∷ None ∷ []); height = 0 }) ∷ []); bytes = summed_bytes10 })
-    ∷ (record { did = record { did = record { thread = record { 0 = 1 }; instr = record { 0 = 8 }; kind = kinds.Branch 0 }; low = 4; high = 4 }; calls = ((record { function = 0; place = 8; registers = ((Some 0) ∷ (Some 9367487224947408896) ∷ (Some 9367491622993920000) ∷ (Some 3) ∷ (Some 3) ∷ (Some 0) ∷ (Some 3) ∷ (Some 3) ∷ (Some 6) ∷ (Some 3) ∷ None ∷ None ∷ None ∷ None ∷ None ∷ []); height = 0 }) ∷ []); bytes = summed_bytes10 })
-    ∷ (record { did = record { did = record { thread = record { 0 = 1 }; instr = record { 0 = 16 }; kind = kinds.Event (record { kind = turns.Lock; object = 16; operands = (8796176908288 ∷ 0 ∷ 0 ∷ 0 ∷ []); reply = 0; write = None }) }; low = 5; high = 4 }; calls = ((record { function = 0; place = 16; registers = ((Some 0) ∷ (Some 9367487224947408896) ∷ (Some 9367491622993920000) ∷ (Some 3) ∷ (Some 3) ∷ (Some 0) ∷ (Some 3) ∷ (Some 3) ∷ (Some 6) ∷ (Some 3) ∷ None ∷ None ∷ None ∷ None ∷ None ∷ []); height = 0 }) ∷ []); bytes = summed_bytes10 })
-    ∷ (record { did = record { did = record { thread = record { 0 = 1 }; instr = record { 0 = 17 }; kind = kinds.Access (record { pointer = 4398063288320; number = 0; bytes = 8; writes = false; event = false }) }; low = 5; high = 5 }; calls = ((record { function = 0; place = 17; registers = ((Some 0) ∷ (Some 9367487224947408896) ∷ (Some 9367491622993920000) ∷ (Some 3) ∷ (Some 3) ∷ (Some 0) ∷ (Some 3) ∷ (Some 3) ∷ (Some 6) ∷ (Some 3) ∷ (Some 0) ∷ None ∷ None ∷ None ∷ None ∷ []); height = 0 }) ∷ []); bytes = summed_bytes10 })
-    ∷ (record { did = record { did = record { thread = record { 0 = 1 }; instr = record { 0 = 18 }; kind = kinds.Access (record { pointer = 9367487224947408896; number = 6; bytes = 8; writes = false; event = false }) }; low = 5; high = 5 }; calls = ((record { function = 0; place = 18; registers = ((Some 0) ∷ (Some 9367487224947408896) ∷ (Some 9367491622993920000) ∷ (Some 3) ∷ (Some 3) ∷ (Some 0) ∷ (Some 3) ∷ (Some 3) ∷ (Some 6) ∷ (Some 3) ∷ (Some 0) ∷ (Some 0) ∷ None ∷ None ∷ None ∷ []); height = 0 }) ∷ []); bytes = summed_bytes10 })
-    ∷ (record { did = record { did = record { thread = record { 0 = 1 }; instr = record { 0 = 19 }; kind = kinds.Other }; low = 5; high = 5 }; calls = ((record { function = 0; place = 19; registers = ((Some 0) ∷ (Some 9367487224947408896) ∷ (Some 9367491622993920000) ∷ (Some 3) ∷ (Some 3) ∷ (Some 0) ∷ (Some 3) ∷ (Some 3) ∷ (Some 6) ∷ (Some 3) ∷ (Some 0) ∷ (Some 0) ∷ (Some 6) ∷ None ∷ None ∷ []); height = 0 }) ∷ []); bytes = summed_bytes10 })
-    ∷ (record { did = record { did = record { thread = record { 0 = 1 }; instr = record { 0 = 20 }; kind = kinds.Access (record { pointer = 4398063288320; number = 6; bytes = 8; writes = true; event = false }) }; low = 5; high = 5 }; calls = ((record { function = 0; place = 20; registers = ((Some 0) ∷ (Some 9367487224947408896) ∷ (Some 9367491622993920000) ∷ (Some 3) ∷ (Some 3) ∷ (Some 0) ∷ (Some 3) ∷ (Some 3) ∷ (Some 6) ∷ (Some 3) ∷ (Some 0) ∷ (Some 0) ∷ (Some 6) ∷ (Some 6) ∷ None ∷ []); height = 0 }) ∷ []); bytes = summed_bytes10 })
-    ∷ (record { did = record { did = record { thread = record { 0 = 1 }; instr = record { 0 = 21 }; kind = kinds.Event (record { kind = turns.Unlock; object = 16; operands = (8796176908288 ∷ 0 ∷ 0 ∷ 0 ∷ []); reply = 0; write = None }) }; low = 6; high = 5 }; calls = ((record { function = 0; place = 21; registers = ((Some 0) ∷ (Some 9367487224947408896) ∷ (Some 9367491622993920000) ∷ (Some 3) ∷ (Some 3) ∷ (Some 0) ∷ (Some 3) ∷ (Some 3) ∷ (Some 6) ∷ (Some 3) ∷ (Some 0) ∷ (Some 0) ∷ (Some 6) ∷ (Some 6) ∷ None ∷ []); height = 0 }) ∷ []); bytes = summed_bytes11 })
-    ∷ (record { did = record { did = record { thread = record { 0 = 1 }; instr = record { 0 = 22 }; kind = kinds.Event (record { kind = turns.Exit; object = 1; operands = (0 ∷ 0 ∷ 0 ∷ 0 ∷ []); reply = 0; write = None }) }; low = 7; high = 6 }; calls = ((record { function = 0; place = 22; registers = ((Some 0) ∷ (Some 9367487224947408896) ∷ (Some 9367491622993920000) ∷ (Some 3) ∷ (Some 3) ∷ (Some 0) ∷ (Some 3) ∷ (Some 3) ∷ (Some 6) ∷ (Some 3) ∷ (Some 0) ∷ (Some 0) ∷ (Some 6) ∷ (Some 6) ∷ (Some 0) ∷ []); height = 0 }) ∷ []); bytes = summed_bytes11 })
-    ∷ (record { did = record { did = record { thread = record { 0 = 2 }; instr = record { 0 = 0 }; kind = kinds.Event (record { kind = turns.Start; object = 2; operands = (0 ∷ 0 ∷ 0 ∷ 0 ∷ []); reply = 0; write = None }) }; low = 8; high = 7 }; calls = ((record { function = 0; place = 0; registers = (None ∷ None ∷ None ∷ None ∷ None ∷ None ∷ None ∷ None ∷ None ∷ None ∷ None ∷ None ∷ None ∷ None ∷ None ∷ []); height = 0 }) ∷ []); bytes = summed_bytes11 })
-    ∷ (record { did = record { did = record { thread = record { 0 = 2 }; instr = record { 0 = 0 }; kind = kinds.Allocation 0 9511602413023264768 }; low = 8; high = 8 }; calls = ((record { function = 0; place = 0; registers = ((Some 0) ∷ None ∷ None ∷ None ∷ None ∷ None ∷ None ∷ None ∷ None ∷ None ∷ None ∷ None ∷ None ∷ None ∷ None ∷ []); height = 0 }) ∷ []); bytes = summed_bytes11 })
-    ∷ (record { did = record { did = record { thread = record { 0 = 2 }; instr = record { 0 = 1 }; kind = kinds.Allocation 0 9511606811069775872 }; low = 8; high = 8 }; calls = ((record { function = 0; place = 1; registers = ((Some 0) ∷ (Some 9511602413023264768) ∷ None ∷ None ∷ None ∷ None ∷ None ∷ None ∷ None ∷ None ∷ None ∷ None ∷ None ∷ None ∷ None ∷ []); height = 0 }) ∷ []); bytes = summed_bytes11 })
-    ∷ (record { did = record { did = record { thread = record { 0 = 2 }; instr = record { 0 = 2 }; kind = kinds.Access (record { pointer = 9511602413023264768; number = 0; bytes = 8; writes = true; event = false }) }; low = 8; high = 8 }; calls = ((record { function = 0; place = 2; registers = ((Some 0) ∷ (Some 9511602413023264768) ∷ (Some 9511606811069775872) ∷ None ∷ None ∷ None ∷ None ∷ None ∷ None ∷ None ∷ None ∷ None ∷ None ∷ None ∷ None ∷ []); height = 0 }) ∷ []); bytes = summed_bytes11 })
-    ∷ (record { did = record { did = record { thread = record { 0 = 2 }; instr = record { 0 = 3 }; kind = kinds.Access (record { pointer = 9511606811069775872; number = 0; bytes = 8; writes = true; event = false }) }; low = 8; high = 8 }; calls = ((record { function = 0; place = 3; registers = ((Some 0) ∷ (Some 9511602413023264768) ∷ (Some 9511606811069775872) ∷ None ∷ None ∷ None ∷ None ∷ None ∷ None ∷ None ∷ None ∷ None ∷ None ∷ None ∷ None ∷ []); height = 0 }) ∷ []); bytes = summed_bytes12 })
-    ∷ (record { did = record { did = record { thread = record { 0 = 2 }; instr = record { 0 = 4 }; kind = kinds.Other }; low = 8; high = 8 }; calls = ((record { function = 0; place = 4; registers = ((Some 0) ∷ (Some 9511602413023264768) ∷ (Some 9511606811069775872) ∷ None ∷ None ∷ None ∷ None ∷ None ∷ None ∷ None ∷ None ∷ None ∷ None ∷ None ∷ None ∷ []); height = 0 }) ∷ []); bytes = summed_bytes13 })
-    ∷ (record { did = record { did = record { thread = record { 0 = 2 }; instr = record { 0 = 5 }; kind = kinds.Access (record { pointer = 9511606811069775872; number = 0; bytes = 8; writes = false; event = false }) }; low = 8; high = 8 }; calls = ((record { function = 0; place = 5; registers = ((Some 0) ∷ (Some 9511602413023264768) ∷ (Some 9511606811069775872) ∷ None ∷ None ∷ None ∷ None ∷ None ∷ None ∷ None ∷ None ∷ None ∷ None ∷ None ∷ None ∷ []); height = 0 }) ∷ []); bytes = summed_bytes13 })
-    ∷ (record { did = record { did = record { thread = record { 0 = 2 }; instr = record { 0 = 6 }; kind = kinds.Other }; low = 8; high = 8 }; calls = ((record { function = 0; place = 6; registers = ((Some 0) ∷ (Some 9511602413023264768) ∷ (Some 9511606811069775872) ∷ (Some 0) ∷ None ∷ None ∷ None ∷ None ∷ None ∷ None ∷ None ∷ None ∷ None ∷ None ∷ None ∷ []); height = 0 }) ∷ []); bytes = summed_bytes13 })
-    ∷ (record { did = record { did = record { thread = record { 0 = 2 }; instr = record { 0 = 7 }; kind = kinds.Other }; low = 8; high = 8 }; calls = ((record { function = 0; place = 7; registers = ((Some 0) ∷ (Some 9511602413023264768) ∷ (Some 9511606811069775872) ∷ (Some 0) ∷ (Some 3) ∷ None ∷ None ∷ None ∷ None ∷ None ∷ None ∷ None ∷ None ∷ None ∷ None ∷ []); height = 0 }) ∷ []); bytes = summed_bytes13 })
-    ∷ (record { did = record { did = record { thread = record { 0 = 2 }; instr = record { 0 = 8 }; kind = kinds.Branch 1 }; low = 8; high = 8 }; calls = ((record { function = 0; place = 8; registers = ((Some 0) ∷ (Some 9511602413023264768) ∷ (Some 9511606811069775872) ∷ (Some 0) ∷ (Some 3) ∷ (Some 1) ∷ None ∷ None ∷ None ∷ None ∷ None ∷ None ∷ None ∷ None ∷ None ∷ []); height = 0 }) ∷ []); bytes = summed_bytes13 })
-    ∷ (record { did = record { did = record { thread = record { 0 = 2 }; instr = record { 0 = 9 }; kind = kinds.Other }; low = 8; high = 8 }; calls = ((record { function = 0; place = 9; registers = ((Some 0) ∷ (Some 9511602413023264768) ∷ (Some 9511606811069775872) ∷ (Some 0) ∷ (Some 3) ∷ (Some 1) ∷ None ∷ None ∷ None ∷ None ∷ None ∷ None ∷ None ∷ None ∷ None ∷ []); height = 0 }) ∷ []); bytes = summed_bytes13 })
-    ∷ (record { did = record { did = record { thread = record { 0 = 2 }; instr = record { 0 = 10 }; kind = kinds.Access (record { pointer = 9511602413023264768; number = 0; bytes = 8; writes = false; event = false }) }; low = 8; high = 8 }; calls = ((record { function = 0; place = 10; registers = ((Some 0) ∷ (Some 9511602413023264768) ∷ (Some 9511606811069775872) ∷ (Some 0) ∷ (Some 3) ∷ (Some 1) ∷ (Some 1) ∷ None ∷ None ∷ None ∷ None ∷ None ∷ None ∷ None ∷ None ∷ []); height = 0 }) ∷ []); bytes = summed_bytes13 })
-    ∷ (record { did = record { did = record { thread = record { 0 = 2 }; instr = record { 0 = 11 }; kind = kinds.Other }; low = 8; high = 8 }; calls = ((record { function = 0; place = 11; registers = ((Some 0) ∷ (Some 9511602413023264768) ∷ (Some 9511606811069775872) ∷ (Some 0) ∷ (Some 3) ∷ (Some 1) ∷ (Some 1) ∷ (Some 0) ∷ None ∷ None ∷ None ∷ None ∷ None ∷ None ∷ None ∷ []); height = 0 }) ∷ []); bytes = summed_bytes13 })
-    ∷ (record { did = record { did = record { thread = record { 0 = 2 }; instr = record { 0 = 12 }; kind = kinds.Access (record { pointer = 9511602413023264768; number = 1; bytes = 8; writes = true; event = false }) }; low = 8; high = 8 }; calls = ((record { function = 0; place = 12; registers = ((Some 0) ∷ (Some 9511602413023264768) ∷ (Some 9511606811069775872) ∷ (Some 0) ∷ (Some 3) ∷ (Some 1) ∷ (Some 1) ∷ (Some 0) ∷ (Some 1) ∷ None ∷ None ∷ None ∷ None ∷ None ∷ None ∷ []); height = 0 }) ∷ []); bytes = summed_bytes13 })
-    ∷ (record { did = record { did = record { thread = record { 0 = 2 }; instr = record { 0 = 13 }; kind = kinds.Other }; low = 8; high = 8 }; calls = ((record { function = 0; place = 13; registers = ((Some 0) ∷ (Some 9511602413023264768) ∷ (Some 9511606811069775872) ∷ (Some 0) ∷ (Some 3) ∷ (Some 1) ∷ (Some 1) ∷ (Some 0) ∷ (Some 1) ∷ None ∷ None ∷ None ∷ None ∷ None ∷ None ∷ []); height = 0 }) ∷ []); bytes = summed_bytes14 })
-    ∷ (record { did = record { did = record { thread = record { 0 = 2 }; instr = record { 0 = 14 }; kind = kinds.Access (record { pointer = 9511606811069775872; number = 1; bytes = 8; writes = true; event = false }) }; low = 8; high = 8 }; calls = ((record { function = 0; place = 14; registers = ((Some 0) ∷ (Some 9511602413023264768) ∷ (Some 9511606811069775872) ∷ (Some 0) ∷ (Some 3) ∷ (Some 1) ∷ (Some 1) ∷ (Some 0) ∷ (Some 1) ∷ (Some 1) ∷ None ∷ None ∷ None ∷ None ∷ None ∷ []); height = 0 }) ∷ []); bytes = summed_bytes14 })
-    ∷ (record { did = record { did = record { thread = record { 0 = 2 }; instr = record { 0 = 15 }; kind = kinds.Other }; low = 8; high = 8 }; calls = ((record { function = 0; place = 15; registers = ((Some 0) ∷ (Some 9511602413023264768) ∷ (Some 9511606811069775872) ∷ (Some 0) ∷ (Some 3) ∷ (Some 1) ∷ (Some 1) ∷ (Some 0) ∷ (Some 1) ∷ (Some 1) ∷ None ∷ None ∷ None ∷ None ∷ None ∷ []); height = 0 }) ∷ []); bytes = summed_bytes15 })
-    ∷ (record { did = record { did = record { thread = record { 0 = 2 }; instr = record { 0 = 5 }; kind = kinds.Access (record { pointer = 9511606811069775872; number = 1; bytes = 8; writes = false; event = false }) }; low = 8; high = 8 }; calls = ((record { function = 0; place = 5; registers = ((Some 0) ∷ (Some 9511602413023264768) ∷ (Some 9511606811069775872) ∷ (Some 0) ∷ (Some 3) ∷ (Some 1) ∷ (Some 1) ∷ (Some 0) ∷ (Some 1) ∷ (Some 1) ∷ None ∷ None ∷ None ∷ None ∷ None ∷ []); height = 0 }) ∷ []); bytes = summed_bytes15 })
-    ∷ (record { did = record { did = record { thread = record { 0 = 2 }; instr = record { 0 = 6 }; kind = kinds.Other }; low = 8; high = 8 }; calls = ((record { function = 0; place = 6; registers = ((Some 0) ∷ (Some 9511602413023264768) ∷ (Some 9511606811069775872) ∷ (Some 1) ∷ (Some 3) ∷ (Some 1) ∷ (Some 1) ∷ (Some 0) ∷ (Some 1) ∷ (Some 1) ∷ None ∷ None ∷ None ∷ None ∷ None ∷ []); height = 0 }) ∷ []); bytes = summed_bytes15 })
-    ∷ (record { did = record { did = record { thread = record { 0 = 2 }; instr = record { 0 = 7 }; kind = kinds.Other }; low = 8; high = 8 }; calls = ((record { function = 0; place = 7; registers = ((Some 0) ∷ (Some 9511602413023264768) ∷ (Some 9511606811069775872) ∷ (Some 1) ∷ (Some 3) ∷ (Some 1) ∷ (Some 1) ∷ (Some 0) ∷ (Some 1) ∷ (Some 1) ∷ None ∷ None ∷ None ∷ None ∷ None ∷ []); height = 0 }) ∷ []); bytes = summed_bytes15 })
-    ∷ (record { did = record { did = record { thread = record { 0 = 2 }; instr = record { 0 = 8 }; kind = kinds.Branch 1 }; low = 8; high = 8 }; calls = ((record { function = 0; place = 8; registers = ((Some 0) ∷ (Some 9511602413023264768) ∷ (Some 9511606811069775872) ∷ (Some 1) ∷ (Some 3) ∷ (Some 1) ∷ (Some 1) ∷ (Some 0) ∷ (Some 1) ∷ (Some 1) ∷ None ∷ None ∷ None ∷ None ∷ None ∷ []); height = 0 }) ∷ []); bytes = summed_bytes15 })
-    ∷ (record { did = record { did = record { thread = record { 0 = 2 }; instr = record { 0 = 9 }; kind = kinds.Other }; low = 8; high = 8 }; calls = ((record { function = 0; place = 9; registers = ((Some 0) ∷ (Some 9511602413023264768) ∷ (Some 9511606811069775872) ∷ (Some 1) ∷ (Some 3) ∷ (Some 1) ∷ (Some 1) ∷ (Some 0) ∷ (Some 1) ∷ (Some 1) ∷ None ∷ None ∷ None ∷ None ∷ None ∷ []); height = 0 }) ∷ []); bytes = summed_bytes15 })
-    ∷ (record { did = record { did = record { thread = record { 0 = 2 }; instr = record { 0 = 10 }; kind = kinds.Access (record { pointer = 9511602413023264768; number = 1; bytes = 8; writes = false; event = false }) }; low = 8; high = 8 }; calls = ((record { function = 0; place = 10; registers = ((Some 0) ∷ (Some 9511602413023264768) ∷ (Some 9511606811069775872) ∷ (Some 1) ∷ (Some 3) ∷ (Some 1) ∷ (Some 2) ∷ (Some 0) ∷ (Some 1) ∷ (Some 1) ∷ None ∷ None ∷ None ∷ None ∷ None ∷ []); height = 0 }) ∷ []); bytes = summed_bytes15 })
-    ∷ (record { did = record { did = record { thread = record { 0 = 2 }; instr = record { 0 = 11 }; kind = kinds.Other }; low = 8; high = 8 }; calls = ((record { function = 0; place = 11; registers = ((Some 0) ∷ (Some 9511602413023264768) ∷ (Some 9511606811069775872) ∷ (Some 1) ∷ (Some 3) ∷ (Some 1) ∷ (Some 2) ∷ (Some 1) ∷ (Some 1) ∷ (Some 1) ∷ None ∷ None ∷ None ∷ None ∷ None ∷ []); height = 0 }) ∷ []); bytes = summed_bytes15 })
-    ∷ (record { did = record { did = record { thread = record { 0 = 2 }; instr = record { 0 = 12 }; kind = kinds.Access (record { pointer = 9511602413023264768; number = 3; bytes = 8; writes = true; event = false }) }; low = 8; high = 8 }; calls = ((record { function = 0; place = 12; registers = ((Some 0) ∷ (Some 9511602413023264768) ∷ (Some 9511606811069775872) ∷ (Some 1) ∷ (Some 3) ∷ (Some 1) ∷ (Some 2) ∷ (Some 1) ∷ (Some 3) ∷ (Some 1) ∷ None ∷ None ∷ None ∷ None ∷ None ∷ []); height = 0 }) ∷ []); bytes = summed_bytes15 })
-    ∷ (record { did = record { did = record { thread = record { 0 = 2 }; instr = record { 0 = 13 }; kind = kinds.Other }; low = 8; high = 8 }; calls = ((record { function = 0; place = 13; registers = ((Some 0) ∷ (Some 9511602413023264768) ∷ (Some 9511606811069775872) ∷ (Some 1) ∷ (Some 3) ∷ (Some 1) ∷ (Some 2) ∷ (Some 1) ∷ (Some 3) ∷ (Some 1) ∷ None ∷ None ∷ None ∷ None ∷ None ∷ []); height = 0 }) ∷ []); bytes = summed_bytes16 })
-    ∷ (record { did = record { did = record { thread = record { 0 = 2 }; instr = record { 0 = 14 }; kind = kinds.Access (record { pointer = 9511606811069775872; number = 2; bytes = 8; writes = true; event = false }) }; low = 8; high = 8 }; calls = ((record { function = 0; place = 14; registers = ((Some 0) ∷ (Some 9511602413023264768) ∷ (Some 9511606811069775872) ∷ (Some 1) ∷ (Some 3) ∷ (Some 1) ∷ (Some 2) ∷ (Some 1) ∷ (Some 3) ∷ (Some 2) ∷ None ∷ None ∷ None ∷ None ∷ None ∷ []); height = 0 }) ∷ []); bytes = summed_bytes16 })
-    ∷ (record { did = record { did = record { thread = record { 0 = 2 }; instr = record { 0 = 15 }; kind = kinds.Other }; low = 8; high = 8 }; calls = ((record { function = 0; place = 15; registers = ((Some 0) ∷ (Some 9511602413023264768) ∷ (Some 9511606811069775872) ∷ (Some 1) ∷ (Some 3) ∷ (Some 1) ∷ (Some 2) ∷ (Some 1) ∷ (Some 3) ∷ (Some 2) ∷ None ∷ None ∷ None ∷ None ∷ None ∷ []); height = 0 }) ∷ []); bytes = summed_bytes17 })
-    ∷ (record { did = record { did = record { thread = record { 0 = 2 }; instr = record { 0 = 5 }; kind = kinds.Access (record { pointer = 9511606811069775872; number = 2; bytes = 8; writes = false; event = false }) }; low = 8; high = 8 }; calls = ((record { function = 0; place = 5; registers = ((Some 0) ∷ (Some 9511602413023264768) ∷ (Some 9511606811069775872) ∷ (Some 1) ∷ (Some 3) ∷ (Some 1) ∷ (Some 2) ∷ (Some 1) ∷ (Some 3) ∷ (Some 2) ∷ None ∷ None ∷ None ∷ None ∷ None ∷ []); height = 0 }) ∷ []); bytes = summed_bytes17 })
-    ∷ (record { did = record { did = record { thread = record { 0 = 2 }; instr = record { 0 = 6 }; kind = kinds.Other }; low = 8; high = 8 }; calls = ((record { function = 0; place = 6; registers = ((Some 0) ∷ (Some 9511602413023264768) ∷ (Some 9511606811069775872) ∷ (Some 2) ∷ (Some 3) ∷ (Some 1) ∷ (Some 2) ∷ (Some 1) ∷ (Some 3) ∷ (Some 2) ∷ None ∷ None ∷ None ∷ None ∷ None ∷ []); height = 0 }) ∷ []); bytes = summed_bytes17 })
-    ∷ (record { did = record { did = record { thread = record { 0 = 2 }; instr = record { 0 = 7 }; kind = kinds.Other }; low = 8; high = 8 }; calls = ((record { function = 0; place = 7; registers = ((Some 0) ∷ (Some 9511602413023264768) ∷ (Some 9511606811069775872) ∷ (Some 2) ∷ (Some 3) ∷ (Some 1) ∷ (Some 2) ∷ (Some 1) ∷ (Some 3) ∷ (Some 2) ∷ None ∷ None ∷ None ∷ None ∷ None ∷ []); height = 0 }) ∷ []); bytes = summed_bytes17 })
-    ∷ (record { did = record { did = record { thread = record { 0 = 2 }; instr = record { 0 = 8 }; kind = kinds.Branch 1 }; low = 8; high = 8 }; calls = ((record { function = 0; place = 8; registers = ((Some 0) ∷ (Some 9511602413023264768) ∷ (Some 9511606811069775872) ∷ (Some 2) ∷ (Some 3) ∷ (Some 1) ∷ (Some 2) ∷ (Some 1) ∷ (Some 3) ∷ (Some 2) ∷ None ∷ None ∷ None ∷ None ∷ None ∷ []); height = 0 }) ∷ []); bytes = summed_bytes17 })
-    ∷ (record { did = record { did = record { thread = record { 0 = 2 }; instr = record { 0 = 9 }; kind = kinds.Other }; low = 8; high = 8 }; calls = ((record { function = 0; place = 9; registers = ((Some 0) ∷ (Some 9511602413023264768) ∷ (Some 9511606811069775872) ∷ (Some 2) ∷ (Some 3) ∷ (Some 1) ∷ (Some 2) ∷ (Some 1) ∷ (Some 3) ∷ (Some 2) ∷ None ∷ None ∷ None ∷ None ∷ None ∷ []); height = 0 }) ∷ []); bytes = summed_bytes17 })
-    ∷ (record { did = record { did = record { thread = record { 0 = 2 }; instr = record { 0 = 10 }; kind = kinds.Access (record { pointer = 9511602413023264768; number = 3; bytes = 8; writes = false; event = false }) }; low = 8; high = 8 }; calls = ((record { function = 0; place = 10; registers = ((Some 0) ∷ (Some 9511602413023264768) ∷ (Some 9511606811069775872) ∷ (Some 2) ∷ (Some 3) ∷ (Some 1) ∷ (Some 3) ∷ (Some 1) ∷ (Some 3) ∷ (Some 2) ∷ None ∷ None ∷ None ∷ None ∷ None ∷ []); height = 0 }) ∷ []); bytes = summed_bytes17 })
-    ∷ (record { did = record { did = record { thread = record { 0 = 2 }; instr = record { 0 = 11 }; kind = kinds.Other }; low = 8; high = 8 }; calls = ((record { function = 0; place = 11; registers = ((Some 0) ∷ (Some 9511602413023264768) ∷ (Some 9511606811069775872) ∷ (Some 2) ∷ (Some 3) ∷ (Some 1) ∷ (Some 3) ∷ (Some 3) ∷ (Some 3) ∷ (Some 2) ∷ None ∷ None ∷ None ∷ None ∷ None ∷ []); height = 0 }) ∷ []); bytes = summed_bytes17 })
-    ∷ (record { did = record { did = record { thread = record { 0 = 2 }; instr = record { 0 = 12 }; kind = kinds.Access (record { pointer = 9511602413023264768; number = 6; bytes = 8; writes = true; event = false }) }; low = 8; high = 8 }; calls = ((record { function = 0; place = 12; registers = ((Some 0) ∷ (Some 9511602413023264768) ∷ (Some 9511606811069775872) ∷ (Some 2) ∷ (Some 3) ∷ (Some 1) ∷ (Some 3) ∷ (Some 3) ∷ (Some 6) ∷ (Some 2) ∷ None ∷ None ∷ None ∷ None ∷ None ∷ []); height = 0 }) ∷ []); bytes = summed_bytes17 })
-    ∷ (record { did = record { did = record { thread = record { 0 = 2 }; instr = record { 0 = 13 }; kind = kinds.Other }; low = 8; high = 8 }; calls = ((record { function = 0; place = 13; registers = ((Some 0) ∷ (Some 9511602413023264768) ∷ (Some 9511606811069775872) ∷ (Some 2) ∷ (Some 3) ∷ (Some 1) ∷ (Some 3) ∷ (Some 3) ∷ (Some 6) ∷ (Some 2) ∷ None ∷ None ∷ None ∷ None ∷ None ∷ []); height = 0 }) ∷ []); bytes = summed_bytes18 })
-    ∷ (record { did = record { did = record { thread = record { 0 = 2 }; instr = record { 0 = 14 }; kind = kinds.Access (record { pointer = 9511606811069775872; number = 3; bytes = 8; writes = true; event = false }) }; low = 8; high = 8 }; calls = ((record { function = 0; place = 14; registers = ((Some 0) ∷ (Some 9511602413023264768) ∷ (Some 9511606811069775872) ∷ (Some 2) ∷ (Some 3) ∷ (Some 1) ∷ (Some 3) ∷ (Some 3) ∷ (Some 6) ∷ (Some 3) ∷ None ∷ None ∷ None ∷ None ∷ None ∷ []); height = 0 }) ∷ []); bytes = summed_bytes18 })
-    ∷ (record { did = record { did = record { thread = record { 0 = 2 }; instr = record { 0 = 15 }; kind = kinds.Other }; low = 8; high = 8 }; calls = ((record { function = 0; place = 15; registers = ((Some 0) ∷ (Some 9511602413023264768) ∷ (Some 9511606811069775872) ∷ (Some 2) ∷ (Some 3) ∷ (Some 1) ∷ (Some 3) ∷ (Some 3) ∷ (Some 6) ∷ (Some 3) ∷ None ∷ None ∷ None ∷ None ∷ None ∷ []); height = 0 }) ∷ []); bytes = summed_bytes19 })
-    ∷ (record { did = record { did = record { thread = record { 0 = 2 }; instr = record { 0 = 5 }; kind = kinds.Access (record { pointer = 9511606811069775872; number = 3; bytes = 8; writes = false; event = false }) }; low = 8; high = 8 }; calls = ((record { function = 0; place = 5; registers = ((Some 0) ∷ (Some 9511602413023264768) ∷ (Some 9511606811069775872) ∷ (Some 2) ∷ (Some 3) ∷ (Some 1) ∷ (Some 3) ∷ (Some 3) ∷ (Some 6) ∷ (Some 3) ∷ None ∷ None ∷ None ∷ None ∷ None ∷ []); height = 0 }) ∷ []); bytes = summed_bytes19 })
-    ∷ (record { did = record { did = record { thread = record { 0 = 2 }; instr = record { 0 = 6 }; kind = kinds.Other }; low = 8; high = 8 }; calls = ((record { function = 0; place = 6; registers = ((Some 0) ∷ (Some 9511602413023264768) ∷ (Some 9511606811069775872) ∷ (Some 3) ∷ (Some 3) ∷ (Some 1) ∷ (Some 3) ∷ (Some 3) ∷ (Some 6) ∷ (Some 3) ∷ None ∷ None ∷ None ∷ None ∷ None ∷ []); height = 0 }) ∷ []); bytes = summed_bytes19 })
-    ∷ (record { did = record { did = record { thread = record { 0 = 2 }; instr = record { 0 = 7 }; kind = kinds.Other }; low = 8; high = 8 }; calls = ((record { function = 0; place = 7; registers = ((Some 0) ∷ (Some 9511602413023264768) ∷ (Some 9511606811069775872) ∷ (Some 3) ∷ (Some 3) ∷ (Some 1) ∷ (Some 3) ∷ (Some 3) ∷ (Some 6) ∷ (Some 3) ∷ None ∷ None ∷ None ∷ None ∷ None ∷ []); height = 0 }) ∷ []); bytes = summed_bytes19 })
-    ∷ (record { did = record { did = record { thread = record { 0 = 2 }; instr = record { 0 = 8 }; kind = kinds.Branch 0 }; low = 8; high = 8 }; calls = ((record { function = 0; place = 8; registers = ((Some 0) ∷ (Some 9511602413023264768) ∷ (Some 9511606811069775872) ∷ (Some 3) ∷ (Some 3) ∷ (Some 0) ∷ (Some 3) ∷ (Some 3) ∷ (Some 6) ∷ (Some 3) ∷ None ∷ None ∷ None ∷ None ∷ None ∷ []); height = 0 }) ∷ []); bytes = summed_bytes19 })
-    ∷ (record { did = record { did = record { thread = record { 0 = 2 }; instr = record { 0 = 16 }; kind = kinds.Event (record { kind = turns.Lock; object = 16; operands = (8796176908288 ∷ 0 ∷ 0 ∷ 0 ∷ []); reply = 0; write = None }) }; low = 9; high = 8 }; calls = ((record { function = 0; place = 16; registers = ((Some 0) ∷ (Some 9511602413023264768) ∷ (Some 9511606811069775872) ∷ (Some 3) ∷ (Some 3) ∷ (Some 0) ∷ (Some 3) ∷ (Some 3) ∷ (Some 6) ∷ (Some 3) ∷ None ∷ None ∷ None ∷ None ∷ None ∷ []); height = 0 }) ∷ []); bytes = summed_bytes19 })
-    ∷ (record { did = record { did = record { thread = record { 0 = 2 }; instr = record { 0 = 17 }; kind = kinds.Access (record { pointer = 4398063288320; number = 6; bytes = 8; writes = false; event = false }) }; low = 9; high = 9 }; calls = ((record { function = 0; place = 17; registers = ((Some 0) ∷ (Some 9511602413023264768) ∷ (Some 9511606811069775872) ∷ (Some 3) ∷ (Some 3) ∷ (Some 0) ∷ (Some 3) ∷ (Some 3) ∷ (Some 6) ∷ (Some 3) ∷ (Some 0) ∷ None ∷ None ∷ None ∷ None ∷ []); height = 0 }) ∷ []); bytes = summed_bytes19 })
-    ∷ (record { did = record { did = record { thread = record { 0 = 2 }; instr = record { 0 = 18 }; kind = kinds.Access (record { pointer = 9511602413023264768; number = 6; bytes = 8; writes = false; event = false }) }; low = 9; high = 9 }; calls = ((record { function = 0; place = 18; registers = ((Some 0) ∷ (Some 9511602413023264768) ∷ (Some 9511606811069775872) ∷ (Some 3) ∷ (Some 3) ∷ (Some 0) ∷ (Some 3) ∷ (Some 3) ∷ (Some 6) ∷ (Some 3) ∷ (Some 0) ∷ (Some 6) ∷ None ∷ None ∷ None ∷ []); height = 0 }) ∷ []); bytes = summed_bytes19 })
-    ∷ (record { did = record { did = record { thread = record { 0 = 2 }; instr = record { 0 = 19 }; kind = kinds.Other }; low = 9; high = 9 }; calls = ((record { function = 0; place = 19; registers = ((Some 0) ∷ (Some 9511602413023264768) ∷ (Some 9511606811069775872) ∷ (Some 3) ∷ (Some 3) ∷ (Some 0) ∷ (Some 3) ∷ (Some 3) ∷ (Some 6) ∷ (Some 3) ∷ (Some 0) ∷ (Some 6) ∷ (Some 6) ∷ None ∷ None ∷ []); height = 0 }) ∷ []); bytes = summed_bytes19 })
-    ∷ (record { did = record { did = record { thread = record { 0 = 2 }; instr = record { 0 = 20 }; kind = kinds.Access (record { pointer = 4398063288320; number = 12; bytes = 8; writes = true; event = false }) }; low = 9; high = 9 }; calls = ((record { function = 0; place = 20; registers = ((Some 0) ∷ (Some 9511602413023264768) ∷ (Some 9511606811069775872) ∷ (Some 3) ∷ (Some 3) ∷ (Some 0) ∷ (Some 3) ∷ (Some 3) ∷ (Some 6) ∷ (Some 3) ∷ (Some 0) ∷ (Some 6) ∷ (Some 6) ∷ (Some 12) ∷ None ∷ []); height = 0 }) ∷ []); bytes = summed_bytes19 })
-    ∷ (record { did = record { did = record { thread = record { 0 = 2 }; instr = record { 0 = 21 }; kind = kinds.Event (record { kind = turns.Unlock; object = 16; operands = (8796176908288 ∷ 0 ∷ 0 ∷ 0 ∷ []); reply = 0; write = None }) }; low = 10; high = 9 }; calls = ((record { function = 0; place = 21; registers = ((Some 0) ∷ (Some 9511602413023264768) ∷ (Some 9511606811069775872) ∷ (Some 3) ∷ (Some 3) ∷ (Some 0) ∷ (Some 3) ∷ (Some 3) ∷ (Some 6) ∷ (Some 3) ∷ (Some 0) ∷ (Some 6) ∷ (Some 6) ∷ (Some 12) ∷ None ∷ []); height = 0 }) ∷ []); bytes = summed_bytes20 })
-    ∷ (record { did = record { did = record { thread = record { 0 = 2 }; instr = record { 0 = 22 }; kind = kinds.Event (record { kind = turns.Exit; object = 2; operands = (0 ∷ 0 ∷ 0 ∷ 0 ∷ []); reply = 0; write = None }) }; low = 11; high = 10 }; calls = ((record { function = 0; place = 22; registers = ((Some 0) ∷ (Some 9511602413023264768) ∷ (Some 9511606811069775872) ∷ (Some 3) ∷ (Some 3) ∷ (Some 0) ∷ (Some 3) ∷ (Some 3) ∷ (Some 6) ∷ (Some 3) ∷ (Some 0) ∷ (Some 6) ∷ (Some 6) ∷ (Some 12) ∷ (Some 0) ∷ []); height = 0 }) ∷ []); bytes = summed_bytes20 })
-    ∷ (record { did = record { did = record { thread = record { 0 = 0 }; instr = record { 0 = 26 }; kind = kinds.Access (record { pointer = 30786359132160; number = 1; bytes = 8; writes = false; event = false }) }; low = 3; high = 11 }; calls = ((record { function = 1; place = 26; registers = ((Some 30786359132168) ∷ (Some 0) ∷ (Some 0) ∷ None ∷ None ∷ None ∷ None ∷ None ∷ []); height = 0 }) ∷ []); bytes = summed_bytes20 })
-    ∷ (record { did = record { did = record { thread = record { 0 = 0 }; instr = record { 0 = 27 }; kind = kinds.Access (record { pointer = 30786359132168; number = 2; bytes = 8; writes = false; event = false }) }; low = 3; high = 11 }; calls = ((record { function = 1; place = 27; registers = ((Some 30786359132168) ∷ (Some 0) ∷ (Some 0) ∷ (Some 1) ∷ None ∷ None ∷ None ∷ None ∷ []); height = 0 }) ∷ []); bytes = summed_bytes20 })
-    ∷ (record { did = record { did = record { thread = record { 0 = 0 }; instr = record { 0 = 28 }; kind = kinds.Event (record { kind = turns.Join; object = 1; operands = (1 ∷ 0 ∷ 0 ∷ 0 ∷ []); reply = 0; write = None }) }; low = 12; high = 11 }; calls = ((record { function = 1; place = 28; registers = ((Some 30786359132168) ∷ (Some 0) ∷ (Some 0) ∷ (Some 1) ∷ (Some 2) ∷ None ∷ None ∷ None ∷ []); height = 0 }) ∷ []); bytes = summed_bytes20 })
-    ∷ (record { did = record { did = record { thread = record { 0 = 0 }; instr = record { 0 = 29 }; kind = kinds.Event (record { kind = turns.Join; object = 2; operands = (2 ∷ 0 ∷ 0 ∷ 0 ∷ []); reply = 0; write = None }) }; low = 13; high = 12 }; calls = ((record { function = 1; place = 29; registers = ((Some 30786359132168) ∷ (Some 0) ∷ (Some 0) ∷ (Some 1) ∷ (Some 2) ∷ (Some 0) ∷ None ∷ None ∷ []); height = 0 }) ∷ []); bytes = summed_bytes20 })
-    ∷ (record { did = record { did = record { thread = record { 0 = 0 }; instr = record { 0 = 30 }; kind = kinds.Access (record { pointer = 4398063288320; number = 12; bytes = 8; writes = false; event = false }) }; low = 13; high = 13 }; calls = ((record { function = 1; place = 30; registers = ((Some 30786359132168) ∷ (Some 0) ∷ (Some 0) ∷ (Some 1) ∷ (Some 2) ∷ (Some 0) ∷ (Some 0) ∷ None ∷ []); height = 0 }) ∷ []); bytes = summed_bytes20 })
-    ∷ (record { did = record { did = record { thread = record { 0 = 0 }; instr = record { 0 = 31 }; kind = kinds.Event (record { kind = turns.Out; object = 0; operands = (12 ∷ 0 ∷ 0 ∷ 0 ∷ []); reply = 0; write = None }) }; low = 14; high = 13 }; calls = ((record { function = 1; place = 31; registers = ((Some 30786359132168) ∷ (Some 0) ∷ (Some 0) ∷ (Some 1) ∷ (Some 2) ∷ (Some 0) ∷ (Some 0) ∷ (Some 12) ∷ []); height = 0 }) ∷ []); bytes = summed_bytes20 })
-    ∷ (record { did = record { did = record { thread = record { 0 = 0 }; instr = record { 0 = 32 }; kind = kinds.Event (record { kind = turns.Exit; object = 0; operands = (0 ∷ 0 ∷ 0 ∷ 0 ∷ []); reply = 0; write = None }) }; low = 15; high = 14 }; calls = ((record { function = 1; place = 32; registers = ((Some 30786359132168) ∷ (Some 0) ∷ (Some 0) ∷ (Some 1) ∷ (Some 2) ∷ (Some 0) ∷ (Some 0) ∷ (Some 12) ∷ []); height = 0 }) ∷ []); bytes = summed_bytes20 })
+    moment 0 23 (event turns.Start 0 (0 ∷ 0 ∷ 0 ∷ 0 ∷ []) 0 None) 1 0 (frame 1 23 (None ∷ None ∷ None ∷ None ∷ None ∷ None ∷ None ∷ None ∷ []) 0 ∷ []) summed_bytes0
+    ∷ moment 0 23 kinds.Other 1 1 (frame 1 23 (None ∷ None ∷ None ∷ None ∷ None ∷ None ∷ None ∷ None ∷ []) 0 ∷ []) summed_bytes0
+    ∷ moment 0 24 (event turns.Create 1 (30786359132160 ∷ 0 ∷ 0 ∷ 0 ∷ []) 0 (writing 30786359132160 1)) 2 1
+    (frame 1 24 ((Some 30786359132168) ∷ None ∷ None ∷ None ∷ None ∷ None ∷ None ∷ None ∷ []) 0 ∷ []) summed_bytes0
+    ∷ moment 0 25 (event turns.Create 2 (30786359132168 ∷ 0 ∷ 0 ∷ 0 ∷ []) 0 (writing 30786359132168 2)) 3 2
+    (frame 1 25 ((Some 30786359132168) ∷ (Some 0) ∷ None ∷ None ∷ None ∷ None ∷ None ∷ None ∷ []) 0 ∷ []) summed_bytes1
+    ∷ moment 1 0 (event turns.Start 1 (0 ∷ 0 ∷ 0 ∷ 0 ∷ []) 0 None) 4 3
+    (frame 0 0 (None ∷ None ∷ None ∷ None ∷ None ∷ None ∷ None ∷ None ∷ None ∷ None ∷ None ∷ None ∷ None ∷ None ∷ None ∷ []) 0 ∷ []) summed_bytes2
+    ∷ moment 1 0 (kinds.Allocation 0 9367487224947408896) 4 4
+    (frame 0 0 ((Some 0) ∷ None ∷ None ∷ None ∷ None ∷ None ∷ None ∷ None ∷ None ∷ None ∷ None ∷ None ∷ None ∷ None ∷ None ∷ []) 0 ∷ []) summed_bytes2
+    ∷ moment 1 1 (kinds.Allocation 0 9367491622993920000) 4 4
+    (frame 0 1 ((Some 0) ∷ (Some 9367487224947408896) ∷ None ∷ None ∷ None ∷ None ∷ None ∷ None ∷ None ∷ None ∷ None ∷ None ∷ None ∷ None ∷ None ∷ []) 0 ∷ [])
+    summed_bytes2
+    ∷ moment 1 2 (access 9367487224947408896 0 8 true false) 4 4
+    (frame 0 2 ((Some 0) ∷ (Some 9367487224947408896) ∷ (Some 9367491622993920000) ∷ None ∷ None ∷ None ∷ None ∷ None ∷ None ∷ None ∷ None ∷ None ∷ None ∷ None ∷
+    None ∷ []) 0 ∷ []) summed_bytes2
+    ∷ moment 1 3 (access 9367491622993920000 0 8 true false) 4 4
+    (frame 0 3 ((Some 0) ∷ (Some 9367487224947408896) ∷ (Some 9367491622993920000) ∷ None ∷ None ∷ None ∷ None ∷ None ∷ None ∷ None ∷ None ∷ None ∷ None ∷ None ∷
+    None ∷ []) 0 ∷ []) summed_bytes3
+    ∷ moment 1 4 kinds.Other 4 4 (frame 0 4
+    ((Some 0) ∷ (Some 9367487224947408896) ∷ (Some 9367491622993920000) ∷ None ∷ None ∷ None ∷ None ∷ None ∷ None ∷ None ∷ None ∷ None ∷ None ∷ None ∷ None ∷ [])
+    0 ∷ []) summed_bytes4
+    ∷ moment 1 5 (access 9367491622993920000 0 8 false false) 4 4
+    (frame 0 5 ((Some 0) ∷ (Some 9367487224947408896) ∷ (Some 9367491622993920000) ∷ None ∷ None ∷ None ∷ None ∷ None ∷ None ∷ None ∷ None ∷ None ∷ None ∷ None ∷
+    None ∷ []) 0 ∷ []) summed_bytes4
+    ∷ moment 1 6 kinds.Other 4 4 (frame 0 6
+    ((Some 0) ∷ (Some 9367487224947408896) ∷ (Some 9367491622993920000) ∷
+    (Some 0) ∷ None ∷ None ∷ None ∷ None ∷ None ∷ None ∷ None ∷ None ∷ None ∷ None ∷ None ∷ []) 0 ∷ []) summed_bytes4
+    ∷ moment 1 7 kinds.Other 4 4 (frame 0 7
+    ((Some 0) ∷ (Some 9367487224947408896) ∷ (Some 9367491622993920000) ∷ (Some 0) ∷
+    (Some 3) ∷ None ∷ None ∷ None ∷ None ∷ None ∷ None ∷ None ∷ None ∷ None ∷ None ∷ []) 0 ∷ []) summed_bytes4
+    ∷ moment 1 8 (kinds.Branch 1) 4 4 (frame 0 8
+    ((Some 0) ∷ (Some 9367487224947408896) ∷ (Some 9367491622993920000) ∷ (Some 0) ∷ (Some 3) ∷
+    (Some 1) ∷ None ∷ None ∷ None ∷ None ∷ None ∷ None ∷ None ∷ None ∷ None ∷ []) 0 ∷ []) summed_bytes4
+    ∷ moment 1 9 kinds.Other 4 4 (frame 0 9
+    ((Some 0) ∷ (Some 9367487224947408896) ∷ (Some 9367491622993920000) ∷ (Some 0) ∷ (Some 3) ∷
+    (Some 1) ∷ None ∷ None ∷ None ∷ None ∷ None ∷ None ∷ None ∷ None ∷ None ∷ []) 0 ∷ []) summed_bytes4
+    ∷ moment 1 10 (access 9367487224947408896 0 8 false false) 4 4
+    (frame 0 10 ((Some 0) ∷ (Some 9367487224947408896) ∷ (Some 9367491622993920000) ∷ (Some 0) ∷ (Some 3) ∷ (Some 1) ∷
+    (Some 1) ∷ None ∷ None ∷ None ∷ None ∷ None ∷ None ∷ None ∷ None ∷ []) 0 ∷ []) summed_bytes4
+    ∷ moment 1 11 kinds.Other 4 4 (frame 0 11
+    ((Some 0) ∷ (Some 9367487224947408896) ∷ (Some 9367491622993920000) ∷ (Some 0) ∷ (Some 3) ∷ (Some 1) ∷ (Some 1) ∷
+    (Some 0) ∷ None ∷ None ∷ None ∷ None ∷ None ∷ None ∷ None ∷ []) 0 ∷ []) summed_bytes4
+    ∷ moment 1 12 (access 9367487224947408896 1 8 true false) 4 4
+    (frame 0 12 ((Some 0) ∷ (Some 9367487224947408896) ∷ (Some 9367491622993920000) ∷ (Some 0) ∷ (Some 3) ∷ (Some 1) ∷ (Some 1) ∷ (Some 0) ∷
+    (Some 1) ∷ None ∷ None ∷ None ∷ None ∷ None ∷ None ∷ []) 0 ∷ []) summed_bytes4
+    ∷ moment 1 13 kinds.Other 4 4 (frame 0 13
+    ((Some 0) ∷ (Some 9367487224947408896) ∷ (Some 9367491622993920000) ∷ (Some 0) ∷ (Some 3) ∷ (Some 1) ∷ (Some 1) ∷ (Some 0) ∷
+    (Some 1) ∷ None ∷ None ∷ None ∷ None ∷ None ∷ None ∷ []) 0 ∷ []) summed_bytes5
+    ∷ moment 1 14 (access 9367491622993920000 1 8 true false) 4 4
+    (frame 0 14 ((Some 0) ∷ (Some 9367487224947408896) ∷ (Some 9367491622993920000) ∷ (Some 0) ∷ (Some 3) ∷ (Some 1) ∷ (Some 1) ∷ (Some 0) ∷ (Some 1) ∷
+    (Some 1) ∷ None ∷ None ∷ None ∷ None ∷ None ∷ []) 0 ∷ []) summed_bytes5
+    ∷ moment 1 15 kinds.Other 4 4 (frame 0 15
+    ((Some 0) ∷ (Some 9367487224947408896) ∷ (Some 9367491622993920000) ∷ (Some 0) ∷ (Some 3) ∷ (Some 1) ∷ (Some 1) ∷ (Some 0) ∷ (Some 1) ∷
+    (Some 1) ∷ None ∷ None ∷ None ∷ None ∷ None ∷ []) 0 ∷ []) summed_bytes6
+    ∷ moment 1 5 (access 9367491622993920000 1 8 false false) 4 4
+    (frame 0 5 ((Some 0) ∷ (Some 9367487224947408896) ∷ (Some 9367491622993920000) ∷ (Some 0) ∷ (Some 3) ∷ (Some 1) ∷ (Some 1) ∷ (Some 0) ∷ (Some 1) ∷
+    (Some 1) ∷ None ∷ None ∷ None ∷ None ∷ None ∷ []) 0 ∷ []) summed_bytes6
+    ∷ moment 1 6 kinds.Other 4 4 (frame 0 6
+    ((Some 0) ∷ (Some 9367487224947408896) ∷ (Some 9367491622993920000) ∷ (Some 1) ∷ (Some 3) ∷ (Some 1) ∷ (Some 1) ∷ (Some 0) ∷ (Some 1) ∷
+    (Some 1) ∷ None ∷ None ∷ None ∷ None ∷ None ∷ []) 0 ∷ []) summed_bytes6
+    ∷ moment 1 7 kinds.Other 4 4 (frame 0 7
+    ((Some 0) ∷ (Some 9367487224947408896) ∷ (Some 9367491622993920000) ∷ (Some 1) ∷ (Some 3) ∷ (Some 1) ∷ (Some 1) ∷ (Some 0) ∷ (Some 1) ∷
+    (Some 1) ∷ None ∷ None ∷ None ∷ None ∷ None ∷ []) 0 ∷ []) summed_bytes6
+    ∷ moment 1 8 (kinds.Branch 1) 4 4 (frame 0 8
+    ((Some 0) ∷ (Some 9367487224947408896) ∷ (Some 9367491622993920000) ∷ (Some 1) ∷ (Some 3) ∷ (Some 1) ∷ (Some 1) ∷ (Some 0) ∷ (Some 1) ∷
+    (Some 1) ∷ None ∷ None ∷ None ∷ None ∷ None ∷ []) 0 ∷ []) summed_bytes6
+    ∷ moment 1 9 kinds.Other 4 4 (frame 0 9
+    ((Some 0) ∷ (Some 9367487224947408896) ∷ (Some 9367491622993920000) ∷ (Some 1) ∷ (Some 3) ∷ (Some 1) ∷ (Some 1) ∷ (Some 0) ∷ (Some 1) ∷
+    (Some 1) ∷ None ∷ None ∷ None ∷ None ∷ None ∷ []) 0 ∷ []) summed_bytes6
+    ∷ moment 1 10 (access 9367487224947408896 1 8 false false) 4 4
+    (frame 0 10 ((Some 0) ∷ (Some 9367487224947408896) ∷ (Some 9367491622993920000) ∷ (Some 1) ∷ (Some 3) ∷ (Some 1) ∷ (Some 2) ∷ (Some 0) ∷ (Some 1) ∷
+    (Some 1) ∷ None ∷ None ∷ None ∷ None ∷ None ∷ []) 0 ∷ []) summed_bytes6
+    ∷ moment 1 11 kinds.Other 4 4 (frame 0 11
+    ((Some 0) ∷ (Some 9367487224947408896) ∷ (Some 9367491622993920000) ∷ (Some 1) ∷ (Some 3) ∷ (Some 1) ∷ (Some 2) ∷ (Some 1) ∷ (Some 1) ∷
+    (Some 1) ∷ None ∷ None ∷ None ∷ None ∷ None ∷ []) 0 ∷ []) summed_bytes6
+    ∷ moment 1 12 (access 9367487224947408896 3 8 true false) 4 4
+    (frame 0 12 ((Some 0) ∷ (Some 9367487224947408896) ∷ (Some 9367491622993920000) ∷ (Some 1) ∷ (Some 3) ∷ (Some 1) ∷ (Some 2) ∷ (Some 1) ∷ (Some 3) ∷
+    (Some 1) ∷ None ∷ None ∷ None ∷ None ∷ None ∷ []) 0 ∷ []) summed_bytes6
+    ∷ moment 1 13 kinds.Other 4 4 (frame 0 13
+    ((Some 0) ∷ (Some 9367487224947408896) ∷ (Some 9367491622993920000) ∷ (Some 1) ∷ (Some 3) ∷ (Some 1) ∷ (Some 2) ∷ (Some 1) ∷ (Some 3) ∷
+    (Some 1) ∷ None ∷ None ∷ None ∷ None ∷ None ∷ []) 0 ∷ []) summed_bytes7
+    ∷ moment 1 14 (access 9367491622993920000 2 8 true false) 4 4
+    (frame 0 14 ((Some 0) ∷ (Some 9367487224947408896) ∷ (Some 9367491622993920000) ∷ (Some 1) ∷ (Some 3) ∷ (Some 1) ∷ (Some 2) ∷ (Some 1) ∷ (Some 3) ∷
+    (Some 2) ∷ None ∷ None ∷ None ∷ None ∷ None ∷ []) 0 ∷ []) summed_bytes7
+    ∷ moment 1 15 kinds.Other 4 4 (frame 0 15
+    ((Some 0) ∷ (Some 9367487224947408896) ∷ (Some 9367491622993920000) ∷ (Some 1) ∷ (Some 3) ∷ (Some 1) ∷ (Some 2) ∷ (Some 1) ∷ (Some 3) ∷
+    (Some 2) ∷ None ∷ None ∷ None ∷ None ∷ None ∷ []) 0 ∷ []) summed_bytes8
+    ∷ moment 1 5 (access 9367491622993920000 2 8 false false) 4 4
+    (frame 0 5 ((Some 0) ∷ (Some 9367487224947408896) ∷ (Some 9367491622993920000) ∷ (Some 1) ∷ (Some 3) ∷ (Some 1) ∷ (Some 2) ∷ (Some 1) ∷ (Some 3) ∷
+    (Some 2) ∷ None ∷ None ∷ None ∷ None ∷ None ∷ []) 0 ∷ []) summed_bytes8
+    ∷ moment 1 6 kinds.Other 4 4 (frame 0 6
+    ((Some 0) ∷ (Some 9367487224947408896) ∷ (Some 9367491622993920000) ∷ (Some 2) ∷ (Some 3) ∷ (Some 1) ∷ (Some 2) ∷ (Some 1) ∷ (Some 3) ∷
+    (Some 2) ∷ None ∷ None ∷ None ∷ None ∷ None ∷ []) 0 ∷ []) summed_bytes8
+    ∷ moment 1 7 kinds.Other 4 4 (frame 0 7
+    ((Some 0) ∷ (Some 9367487224947408896) ∷ (Some 9367491622993920000) ∷ (Some 2) ∷ (Some 3) ∷ (Some 1) ∷ (Some 2) ∷ (Some 1) ∷ (Some 3) ∷
+    (Some 2) ∷ None ∷ None ∷ None ∷ None ∷ None ∷ []) 0 ∷ []) summed_bytes8
+    ∷ moment 1 8 (kinds.Branch 1) 4 4 (frame 0 8
+    ((Some 0) ∷ (Some 9367487224947408896) ∷ (Some 9367491622993920000) ∷ (Some 2) ∷ (Some 3) ∷ (Some 1) ∷ (Some 2) ∷ (Some 1) ∷ (Some 3) ∷
+    (Some 2) ∷ None ∷ None ∷ None ∷ None ∷ None ∷ []) 0 ∷ []) summed_bytes8
+    ∷ moment 1 9 kinds.Other 4 4 (frame 0 9
+    ((Some 0) ∷ (Some 9367487224947408896) ∷ (Some 9367491622993920000) ∷ (Some 2) ∷ (Some 3) ∷ (Some 1) ∷ (Some 2) ∷ (Some 1) ∷ (Some 3) ∷
+    (Some 2) ∷ None ∷ None ∷ None ∷ None ∷ None ∷ []) 0 ∷ []) summed_bytes8
+    ∷ moment 1 10 (access 9367487224947408896 3 8 false false) 4 4
+    (frame 0 10 ((Some 0) ∷ (Some 9367487224947408896) ∷ (Some 9367491622993920000) ∷ (Some 2) ∷ (Some 3) ∷ (Some 1) ∷ (Some 3) ∷ (Some 1) ∷ (Some 3) ∷
+    (Some 2) ∷ None ∷ None ∷ None ∷ None ∷ None ∷ []) 0 ∷ []) summed_bytes8
+    ∷ moment 1 11 kinds.Other 4 4 (frame 0 11
+    ((Some 0) ∷ (Some 9367487224947408896) ∷ (Some 9367491622993920000) ∷ (Some 2) ∷ (Some 3) ∷ (Some 1) ∷ (Some 3) ∷ (Some 3) ∷ (Some 3) ∷
+    (Some 2) ∷ None ∷ None ∷ None ∷ None ∷ None ∷ []) 0 ∷ []) summed_bytes8
+    ∷ moment 1 12 (access 9367487224947408896 6 8 true false) 4 4
+    (frame 0 12 ((Some 0) ∷ (Some 9367487224947408896) ∷ (Some 9367491622993920000) ∷ (Some 2) ∷ (Some 3) ∷ (Some 1) ∷ (Some 3) ∷ (Some 3) ∷ (Some 6) ∷
+    (Some 2) ∷ None ∷ None ∷ None ∷ None ∷ None ∷ []) 0 ∷ []) summed_bytes8
+    ∷ moment 1 13 kinds.Other 4 4 (frame 0 13
+    ((Some 0) ∷ (Some 9367487224947408896) ∷ (Some 9367491622993920000) ∷ (Some 2) ∷ (Some 3) ∷ (Some 1) ∷ (Some 3) ∷ (Some 3) ∷ (Some 6) ∷
+    (Some 2) ∷ None ∷ None ∷ None ∷ None ∷ None ∷ []) 0 ∷ []) summed_bytes9
+    ∷ moment 1 14 (access 9367491622993920000 3 8 true false) 4 4
+    (frame 0 14 ((Some 0) ∷ (Some 9367487224947408896) ∷ (Some 9367491622993920000) ∷ (Some 2) ∷ (Some 3) ∷ (Some 1) ∷ (Some 3) ∷ (Some 3) ∷ (Some 6) ∷
+    (Some 3) ∷ None ∷ None ∷ None ∷ None ∷ None ∷ []) 0 ∷ []) summed_bytes9
+    ∷ moment 1 15 kinds.Other 4 4 (frame 0 15
+    ((Some 0) ∷ (Some 9367487224947408896) ∷ (Some 9367491622993920000) ∷ (Some 2) ∷ (Some 3) ∷ (Some 1) ∷ (Some 3) ∷ (Some 3) ∷ (Some 6) ∷
+    (Some 3) ∷ None ∷ None ∷ None ∷ None ∷ None ∷ []) 0 ∷ []) summed_bytes10
+    ∷ moment 1 5 (access 9367491622993920000 3 8 false false) 4 4
+    (frame 0 5 ((Some 0) ∷ (Some 9367487224947408896) ∷ (Some 9367491622993920000) ∷ (Some 2) ∷ (Some 3) ∷ (Some 1) ∷ (Some 3) ∷ (Some 3) ∷ (Some 6) ∷
+    (Some 3) ∷ None ∷ None ∷ None ∷ None ∷ None ∷ []) 0 ∷ []) summed_bytes10
+    ∷ moment 1 6 kinds.Other 4 4 (frame 0 6
+    ((Some 0) ∷ (Some 9367487224947408896) ∷ (Some 9367491622993920000) ∷ (Some 3) ∷ (Some 3) ∷ (Some 1) ∷ (Some 3) ∷ (Some 3) ∷ (Some 6) ∷
+    (Some 3) ∷ None ∷ None ∷ None ∷ None ∷ None ∷ []) 0 ∷ []) summed_bytes10
+    ∷ moment 1 7 kinds.Other 4 4 (frame 0 7
+    ((Some 0) ∷ (Some 9367487224947408896) ∷ (Some 9367491622993920000) ∷ (Some 3) ∷ (Some 3) ∷ (Some 1) ∷ (Some 3) ∷ (Some 3) ∷ (Some 6) ∷
+    (Some 3) ∷ None ∷ None ∷ None ∷ None ∷ None ∷ []) 0 ∷ []) summed_bytes10
+    ∷ moment 1 8 (kinds.Branch 0) 4 4 (frame 0 8
+    ((Some 0) ∷ (Some 9367487224947408896) ∷ (Some 9367491622993920000) ∷ (Some 3) ∷ (Some 3) ∷ (Some 0) ∷ (Some 3) ∷ (Some 3) ∷ (Some 6) ∷
+    (Some 3) ∷ None ∷ None ∷ None ∷ None ∷ None ∷ []) 0 ∷ []) summed_bytes10
+    ∷ moment 1 16 (event turns.Lock 16 (8796176908288 ∷ 0 ∷ 0 ∷ 0 ∷ []) 0 None) 5 4
+    (frame 0 16 ((Some 0) ∷ (Some 9367487224947408896) ∷ (Some 9367491622993920000) ∷ (Some 3) ∷ (Some 3) ∷ (Some 0) ∷ (Some 3) ∷ (Some 3) ∷ (Some 6) ∷
+    (Some 3) ∷ None ∷ None ∷ None ∷ None ∷ None ∷ []) 0 ∷ []) summed_bytes10
+    ∷ moment 1 17 (access 4398063288320 0 8 false false) 5 5
+    (frame 0 17 ((Some 0) ∷ (Some 9367487224947408896) ∷ (Some 9367491622993920000) ∷ (Some 3) ∷ (Some 3) ∷ (Some 0) ∷ (Some 3) ∷ (Some 3) ∷ (Some 6) ∷ (Some 3) ∷
+    (Some 0) ∷ None ∷ None ∷ None ∷ None ∷ []) 0 ∷ []) summed_bytes10
+    ∷ moment 1 18 (access 9367487224947408896 6 8 false false) 5 5
+    (frame 0 18 ((Some 0) ∷ (Some 9367487224947408896) ∷ (Some 9367491622993920000) ∷ (Some 3) ∷ (Some 3) ∷ (Some 0) ∷ (Some 3) ∷ (Some 3) ∷ (Some 6) ∷ (Some 3) ∷
+    (Some 0) ∷ (Some 0) ∷ None ∷ None ∷ None ∷ []) 0 ∷ []) summed_bytes10
+    ∷ moment 1 19 kinds.Other 5 5 (frame 0 19
+    ((Some 0) ∷ (Some 9367487224947408896) ∷ (Some 9367491622993920000) ∷ (Some 3) ∷ (Some 3) ∷ (Some 0) ∷ (Some 3) ∷ (Some 3) ∷ (Some 6) ∷ (Some 3) ∷ (Some 0) ∷
+    (Some 0) ∷ (Some 6) ∷ None ∷ None ∷ []) 0 ∷ []) summed_bytes10
+    ∷ moment 1 20 (access 4398063288320 6 8 true false) 5 5
+    (frame 0 20 ((Some 0) ∷ (Some 9367487224947408896) ∷ (Some 9367491622993920000) ∷ (Some 3) ∷ (Some 3) ∷ (Some 0) ∷ (Some 3) ∷ (Some 3) ∷ (Some 6) ∷ (Some 3) ∷
+    (Some 0) ∷ (Some 0) ∷ (Some 6) ∷ (Some 6) ∷ None ∷ []) 0 ∷ []) summed_bytes10
+    ∷ moment 1 21 (event turns.Unlock 16 (8796176908288 ∷ 0 ∷ 0 ∷ 0 ∷ []) 0 None) 6 5
+    (frame 0 21 ((Some 0) ∷ (Some 9367487224947408896) ∷ (Some 9367491622993920000) ∷ (Some 3) ∷ (Some 3) ∷ (Some 0) ∷ (Some 3) ∷ (Some 3) ∷ (Some 6) ∷ (Some 3) ∷
+    (Some 0) ∷ (Some 0) ∷ (Some 6) ∷ (Some 6) ∷ None ∷ []) 0 ∷ []) summed_bytes11
+    ∷ moment 1 22 (event turns.Exit 1 (0 ∷ 0 ∷ 0 ∷ 0 ∷ []) 0 None) 7 6
+    (frame 0 22 ((Some 0) ∷ (Some 9367487224947408896) ∷ (Some 9367491622993920000) ∷ (Some 3) ∷ (Some 3) ∷ (Some 0) ∷ (Some 3) ∷ (Some 3) ∷ (Some 6) ∷ (Some 3) ∷
+    (Some 0) ∷ (Some 0) ∷ (Some 6) ∷ (Some 6) ∷ (Some 0) ∷ []) 0 ∷ []) summed_bytes11
+    ∷ moment 2 0 (event turns.Start 2 (0 ∷ 0 ∷ 0 ∷ 0 ∷ []) 0 None) 8 7
+    (frame 0 0 (None ∷ None ∷ None ∷ None ∷ None ∷ None ∷ None ∷ None ∷ None ∷ None ∷ None ∷ None ∷ None ∷ None ∷ None ∷ []) 0 ∷ []) summed_bytes11
+    ∷ moment 2 0 (kinds.Allocation 0 9511602413023264768) 8 8
+    (frame 0 0 ((Some 0) ∷ None ∷ None ∷ None ∷ None ∷ None ∷ None ∷ None ∷ None ∷ None ∷ None ∷ None ∷ None ∷ None ∷ None ∷ []) 0 ∷ []) summed_bytes11
+    ∷ moment 2 1 (kinds.Allocation 0 9511606811069775872) 8 8
+    (frame 0 1 ((Some 0) ∷ (Some 9511602413023264768) ∷ None ∷ None ∷ None ∷ None ∷ None ∷ None ∷ None ∷ None ∷ None ∷ None ∷ None ∷ None ∷ None ∷ []) 0 ∷ [])
+    summed_bytes11
+    ∷ moment 2 2 (access 9511602413023264768 0 8 true false) 8 8
+    (frame 0 2 ((Some 0) ∷ (Some 9511602413023264768) ∷ (Some 9511606811069775872) ∷ None ∷ None ∷ None ∷ None ∷ None ∷ None ∷ None ∷ None ∷ None ∷ None ∷ None ∷
+    None ∷ []) 0 ∷ []) summed_bytes11
+    ∷ moment 2 3 (access 9511606811069775872 0 8 true false) 8 8
+    (frame 0 3 ((Some 0) ∷ (Some 9511602413023264768) ∷ (Some 9511606811069775872) ∷ None ∷ None ∷ None ∷ None ∷ None ∷ None ∷ None ∷ None ∷ None ∷ None ∷ None ∷
+    None ∷ []) 0 ∷ []) summed_bytes12
+    ∷ moment 2 4 kinds.Other 8 8 (frame 0 4
+    ((Some 0) ∷ (Some 9511602413023264768) ∷ (Some 9511606811069775872) ∷ None ∷ None ∷ None ∷ None ∷ None ∷ None ∷ None ∷ None ∷ None ∷ None ∷ None ∷ None ∷ [])
+    0 ∷ []) summed_bytes13
+    ∷ moment 2 5 (access 9511606811069775872 0 8 false false) 8 8
+    (frame 0 5 ((Some 0) ∷ (Some 9511602413023264768) ∷ (Some 9511606811069775872) ∷ None ∷ None ∷ None ∷ None ∷ None ∷ None ∷ None ∷ None ∷ None ∷ None ∷ None ∷
+    None ∷ []) 0 ∷ []) summed_bytes13
+    ∷ moment 2 6 kinds.Other 8 8 (frame 0 6
+    ((Some 0) ∷ (Some 9511602413023264768) ∷ (Some 9511606811069775872) ∷
+    (Some 0) ∷ None ∷ None ∷ None ∷ None ∷ None ∷ None ∷ None ∷ None ∷ None ∷ None ∷ None ∷ []) 0 ∷ []) summed_bytes13
+    ∷ moment 2 7 kinds.Other 8 8 (frame 0 7
+    ((Some 0) ∷ (Some 9511602413023264768) ∷ (Some 9511606811069775872) ∷ (Some 0) ∷
+    (Some 3) ∷ None ∷ None ∷ None ∷ None ∷ None ∷ None ∷ None ∷ None ∷ None ∷ None ∷ []) 0 ∷ []) summed_bytes13
+    ∷ moment 2 8 (kinds.Branch 1) 8 8 (frame 0 8
+    ((Some 0) ∷ (Some 9511602413023264768) ∷ (Some 9511606811069775872) ∷ (Some 0) ∷ (Some 3) ∷
+    (Some 1) ∷ None ∷ None ∷ None ∷ None ∷ None ∷ None ∷ None ∷ None ∷ None ∷ []) 0 ∷ []) summed_bytes13
+    ∷ moment 2 9 kinds.Other 8 8 (frame 0 9
+    ((Some 0) ∷ (Some 9511602413023264768) ∷ (Some 9511606811069775872) ∷ (Some 0) ∷ (Some 3) ∷
+    (Some 1) ∷ None ∷ None ∷ None ∷ None ∷ None ∷ None ∷ None ∷ None ∷ None ∷ []) 0 ∷ []) summed_bytes13
+    ∷ moment 2 10 (access 9511602413023264768 0 8 false false) 8 8
+    (frame 0 10 ((Some 0) ∷ (Some 9511602413023264768) ∷ (Some 9511606811069775872) ∷ (Some 0) ∷ (Some 3) ∷ (Some 1) ∷
+    (Some 1) ∷ None ∷ None ∷ None ∷ None ∷ None ∷ None ∷ None ∷ None ∷ []) 0 ∷ []) summed_bytes13
+    ∷ moment 2 11 kinds.Other 8 8 (frame 0 11
+    ((Some 0) ∷ (Some 9511602413023264768) ∷ (Some 9511606811069775872) ∷ (Some 0) ∷ (Some 3) ∷ (Some 1) ∷ (Some 1) ∷
+    (Some 0) ∷ None ∷ None ∷ None ∷ None ∷ None ∷ None ∷ None ∷ []) 0 ∷ []) summed_bytes13
+    ∷ moment 2 12 (access 9511602413023264768 1 8 true false) 8 8
+    (frame 0 12 ((Some 0) ∷ (Some 9511602413023264768) ∷ (Some 9511606811069775872) ∷ (Some 0) ∷ (Some 3) ∷ (Some 1) ∷ (Some 1) ∷ (Some 0) ∷
+    (Some 1) ∷ None ∷ None ∷ None ∷ None ∷ None ∷ None ∷ []) 0 ∷ []) summed_bytes13
+    ∷ moment 2 13 kinds.Other 8 8 (frame 0 13
+    ((Some 0) ∷ (Some 9511602413023264768) ∷ (Some 9511606811069775872) ∷ (Some 0) ∷ (Some 3) ∷ (Some 1) ∷ (Some 1) ∷ (Some 0) ∷
+    (Some 1) ∷ None ∷ None ∷ None ∷ None ∷ None ∷ None ∷ []) 0 ∷ []) summed_bytes14
+    ∷ moment 2 14 (access 9511606811069775872 1 8 true false) 8 8
+    (frame 0 14 ((Some 0) ∷ (Some 9511602413023264768) ∷ (Some 9511606811069775872) ∷ (Some 0) ∷ (Some 3) ∷ (Some 1) ∷ (Some 1) ∷ (Some 0) ∷ (Some 1) ∷
+    (Some 1) ∷ None ∷ None ∷ None ∷ None ∷ None ∷ []) 0 ∷ []) summed_bytes14
+    ∷ moment 2 15 kinds.Other 8 8 (frame 0 15
+    ((Some 0) ∷ (Some 9511602413023264768) ∷ (Some 9511606811069775872) ∷ (Some 0) ∷ (Some 3) ∷ (Some 1) ∷ (Some 1) ∷ (Some 0) ∷ (Some 1) ∷
+    (Some 1) ∷ None ∷ None ∷ None ∷ None ∷ None ∷ []) 0 ∷ []) summed_bytes15
+    ∷ moment 2 5 (access 9511606811069775872 1 8 false false) 8 8
+    (frame 0 5 ((Some 0) ∷ (Some 9511602413023264768) ∷ (Some 9511606811069775872) ∷ (Some 0) ∷ (Some 3) ∷ (Some 1) ∷ (Some 1) ∷ (Some 0) ∷ (Some 1) ∷
+    (Some 1) ∷ None ∷ None ∷ None ∷ None ∷ None ∷ []) 0 ∷ []) summed_bytes15
+    ∷ moment 2 6 kinds.Other 8 8 (frame 0 6
+    ((Some 0) ∷ (Some 9511602413023264768) ∷ (Some 9511606811069775872) ∷ (Some 1) ∷ (Some 3) ∷ (Some 1) ∷ (Some 1) ∷ (Some 0) ∷ (Some 1) ∷
+    (Some 1) ∷ None ∷ None ∷ None ∷ None ∷ None ∷ []) 0 ∷ []) summed_bytes15
+    ∷ moment 2 7 kinds.Other 8 8 (frame 0 7
+    ((Some 0) ∷ (Some 9511602413023264768) ∷ (Some 9511606811069775872) ∷ (Some 1) ∷ (Some 3) ∷ (Some 1) ∷ (Some 1) ∷ (Some 0) ∷ (Some 1) ∷
+    (Some 1) ∷ None ∷ None ∷ None ∷ None ∷ None ∷ []) 0 ∷ []) summed_bytes15
+    ∷ moment 2 8 (kinds.Branch 1) 8 8 (frame 0 8
+    ((Some 0) ∷ (Some 9511602413023264768) ∷ (Some 9511606811069775872) ∷ (Some 1) ∷ (Some 3) ∷ (Some 1) ∷ (Some 1) ∷ (Some 0) ∷ (Some 1) ∷
+    (Some 1) ∷ None ∷ None ∷ None ∷ None ∷ None ∷ []) 0 ∷ []) summed_bytes15
+    ∷ moment 2 9 kinds.Other 8 8 (frame 0 9
+    ((Some 0) ∷ (Some 9511602413023264768) ∷ (Some 9511606811069775872) ∷ (Some 1) ∷ (Some 3) ∷ (Some 1) ∷ (Some 1) ∷ (Some 0) ∷ (Some 1) ∷
+    (Some 1) ∷ None ∷ None ∷ None ∷ None ∷ None ∷ []) 0 ∷ []) summed_bytes15
+    ∷ moment 2 10 (access 9511602413023264768 1 8 false false) 8 8
+    (frame 0 10 ((Some 0) ∷ (Some 9511602413023264768) ∷ (Some 9511606811069775872) ∷ (Some 1) ∷ (Some 3) ∷ (Some 1) ∷ (Some 2) ∷ (Some 0) ∷ (Some 1) ∷
+    (Some 1) ∷ None ∷ None ∷ None ∷ None ∷ None ∷ []) 0 ∷ []) summed_bytes15
+    ∷ moment 2 11 kinds.Other 8 8 (frame 0 11
+    ((Some 0) ∷ (Some 9511602413023264768) ∷ (Some 9511606811069775872) ∷ (Some 1) ∷ (Some 3) ∷ (Some 1) ∷ (Some 2) ∷ (Some 1) ∷ (Some 1) ∷
+    (Some 1) ∷ None ∷ None ∷ None ∷ None ∷ None ∷ []) 0 ∷ []) summed_bytes15
+    ∷ moment 2 12 (access 9511602413023264768 3 8 true false) 8 8
+    (frame 0 12 ((Some 0) ∷ (Some 9511602413023264768) ∷ (Some 9511606811069775872) ∷ (Some 1) ∷ (Some 3) ∷ (Some 1) ∷ (Some 2) ∷ (Some 1) ∷ (Some 3) ∷
+    (Some 1) ∷ None ∷ None ∷ None ∷ None ∷ None ∷ []) 0 ∷ []) summed_bytes15
+    ∷ moment 2 13 kinds.Other 8 8 (frame 0 13
+    ((Some 0) ∷ (Some 9511602413023264768) ∷ (Some 9511606811069775872) ∷ (Some 1) ∷ (Some 3) ∷ (Some 1) ∷ (Some 2) ∷ (Some 1) ∷ (Some 3) ∷
+    (Some 1) ∷ None ∷ None ∷ None ∷ None ∷ None ∷ []) 0 ∷ []) summed_bytes16
+    ∷ moment 2 14 (access 9511606811069775872 2 8 true false) 8 8
+    (frame 0 14 ((Some 0) ∷ (Some 9511602413023264768) ∷ (Some 9511606811069775872) ∷ (Some 1) ∷ (Some 3) ∷ (Some 1) ∷ (Some 2) ∷ (Some 1) ∷ (Some 3) ∷
+    (Some 2) ∷ None ∷ None ∷ None ∷ None ∷ None ∷ []) 0 ∷ []) summed_bytes16
+    ∷ moment 2 15 kinds.Other 8 8 (frame 0 15
+    ((Some 0) ∷ (Some 9511602413023264768) ∷ (Some 9511606811069775872) ∷ (Some 1) ∷ (Some 3) ∷ (Some 1) ∷ (Some 2) ∷ (Some 1) ∷ (Some 3) ∷
+    (Some 2) ∷ None ∷ None ∷ None ∷ None ∷ None ∷ []) 0 ∷ []) summed_bytes17
+    ∷ moment 2 5 (access 9511606811069775872 2 8 false false) 8 8
+    (frame 0 5 ((Some 0) ∷ (Some 9511602413023264768) ∷ (Some 9511606811069775872) ∷ (Some 1) ∷ (Some 3) ∷ (Some 1) ∷ (Some 2) ∷ (Some 1) ∷ (Some 3) ∷
+    (Some 2) ∷ None ∷ None ∷ None ∷ None ∷ None ∷ []) 0 ∷ []) summed_bytes17
+    ∷ moment 2 6 kinds.Other 8 8 (frame 0 6
+    ((Some 0) ∷ (Some 9511602413023264768) ∷ (Some 9511606811069775872) ∷ (Some 2) ∷ (Some 3) ∷ (Some 1) ∷ (Some 2) ∷ (Some 1) ∷ (Some 3) ∷
+    (Some 2) ∷ None ∷ None ∷ None ∷ None ∷ None ∷ []) 0 ∷ []) summed_bytes17
+    ∷ moment 2 7 kinds.Other 8 8 (frame 0 7
+    ((Some 0) ∷ (Some 9511602413023264768) ∷ (Some 9511606811069775872) ∷ (Some 2) ∷ (Some 3) ∷ (Some 1) ∷ (Some 2) ∷ (Some 1) ∷ (Some 3) ∷
+    (Some 2) ∷ None ∷ None ∷ None ∷ None ∷ None ∷ []) 0 ∷ []) summed_bytes17
+    ∷ moment 2 8 (kinds.Branch 1) 8 8 (frame 0 8
+    ((Some 0) ∷ (Some 9511602413023264768) ∷ (Some 9511606811069775872) ∷ (Some 2) ∷ (Some 3) ∷ (Some 1) ∷ (Some 2) ∷ (Some 1) ∷ (Some 3) ∷
+    (Some 2) ∷ None ∷ None ∷ None ∷ None ∷ None ∷ []) 0 ∷ []) summed_bytes17
+    ∷ moment 2 9 kinds.Other 8 8 (frame 0 9
+    ((Some 0) ∷ (Some 9511602413023264768) ∷ (Some 9511606811069775872) ∷ (Some 2) ∷ (Some 3) ∷ (Some 1) ∷ (Some 2) ∷ (Some 1) ∷ (Some 3) ∷
+    (Some 2) ∷ None ∷ None ∷ None ∷ None ∷ None ∷ []) 0 ∷ []) summed_bytes17
+    ∷ moment 2 10 (access 9511602413023264768 3 8 false false) 8 8
+    (frame 0 10 ((Some 0) ∷ (Some 9511602413023264768) ∷ (Some 9511606811069775872) ∷ (Some 2) ∷ (Some 3) ∷ (Some 1) ∷ (Some 3) ∷ (Some 1) ∷ (Some 3) ∷
+    (Some 2) ∷ None ∷ None ∷ None ∷ None ∷ None ∷ []) 0 ∷ []) summed_bytes17
+    ∷ moment 2 11 kinds.Other 8 8 (frame 0 11
+    ((Some 0) ∷ (Some 9511602413023264768) ∷ (Some 9511606811069775872) ∷ (Some 2) ∷ (Some 3) ∷ (Some 1) ∷ (Some 3) ∷ (Some 3) ∷ (Some 3) ∷
+    (Some 2) ∷ None ∷ None ∷ None ∷ None ∷ None ∷ []) 0 ∷ []) summed_bytes17
+    ∷ moment 2 12 (access 9511602413023264768 6 8 true false) 8 8
+    (frame 0 12 ((Some 0) ∷ (Some 9511602413023264768) ∷ (Some 9511606811069775872) ∷ (Some 2) ∷ (Some 3) ∷ (Some 1) ∷ (Some 3) ∷ (Some 3) ∷ (Some 6) ∷
+    (Some 2) ∷ None ∷ None ∷ None ∷ None ∷ None ∷ []) 0 ∷ []) summed_bytes17
+    ∷ moment 2 13 kinds.Other 8 8 (frame 0 13
+    ((Some 0) ∷ (Some 9511602413023264768) ∷ (Some 9511606811069775872) ∷ (Some 2) ∷ (Some 3) ∷ (Some 1) ∷ (Some 3) ∷ (Some 3) ∷ (Some 6) ∷
+    (Some 2) ∷ None ∷ None ∷ None ∷ None ∷ None ∷ []) 0 ∷ []) summed_bytes18
+    ∷ moment 2 14 (access 9511606811069775872 3 8 true false) 8 8
+    (frame 0 14 ((Some 0) ∷ (Some 9511602413023264768) ∷ (Some 9511606811069775872) ∷ (Some 2) ∷ (Some 3) ∷ (Some 1) ∷ (Some 3) ∷ (Some 3) ∷ (Some 6) ∷
+    (Some 3) ∷ None ∷ None ∷ None ∷ None ∷ None ∷ []) 0 ∷ []) summed_bytes18
+    ∷ moment 2 15 kinds.Other 8 8 (frame 0 15
+    ((Some 0) ∷ (Some 9511602413023264768) ∷ (Some 9511606811069775872) ∷ (Some 2) ∷ (Some 3) ∷ (Some 1) ∷ (Some 3) ∷ (Some 3) ∷ (Some 6) ∷
+    (Some 3) ∷ None ∷ None ∷ None ∷ None ∷ None ∷ []) 0 ∷ []) summed_bytes19
+    ∷ moment 2 5 (access 9511606811069775872 3 8 false false) 8 8
+    (frame 0 5 ((Some 0) ∷ (Some 9511602413023264768) ∷ (Some 9511606811069775872) ∷ (Some 2) ∷ (Some 3) ∷ (Some 1) ∷ (Some 3) ∷ (Some 3) ∷ (Some 6) ∷
+    (Some 3) ∷ None ∷ None ∷ None ∷ None ∷ None ∷ []) 0 ∷ []) summed_bytes19
+    ∷ moment 2 6 kinds.Other 8 8 (frame 0 6
+    ((Some 0) ∷ (Some 9511602413023264768) ∷ (Some 9511606811069775872) ∷ (Some 3) ∷ (Some 3) ∷ (Some 1) ∷ (Some 3) ∷ (Some 3) ∷ (Some 6) ∷
+    (Some 3) ∷ None ∷ None ∷ None ∷ None ∷ None ∷ []) 0 ∷ []) summed_bytes19
+    ∷ moment 2 7 kinds.Other 8 8 (frame 0 7
+    ((Some 0) ∷ (Some 9511602413023264768) ∷ (Some 9511606811069775872) ∷ (Some 3) ∷ (Some 3) ∷ (Some 1) ∷ (Some 3) ∷ (Some 3) ∷ (Some 6) ∷
+    (Some 3) ∷ None ∷ None ∷ None ∷ None ∷ None ∷ []) 0 ∷ []) summed_bytes19
+    ∷ moment 2 8 (kinds.Branch 0) 8 8 (frame 0 8
+    ((Some 0) ∷ (Some 9511602413023264768) ∷ (Some 9511606811069775872) ∷ (Some 3) ∷ (Some 3) ∷ (Some 0) ∷ (Some 3) ∷ (Some 3) ∷ (Some 6) ∷
+    (Some 3) ∷ None ∷ None ∷ None ∷ None ∷ None ∷ []) 0 ∷ []) summed_bytes19
+    ∷ moment 2 16 (event turns.Lock 16 (8796176908288 ∷ 0 ∷ 0 ∷ 0 ∷ []) 0 None) 9 8
+    (frame 0 16 ((Some 0) ∷ (Some 9511602413023264768) ∷ (Some 9511606811069775872) ∷ (Some 3) ∷ (Some 3) ∷ (Some 0) ∷ (Some 3) ∷ (Some 3) ∷ (Some 6) ∷
+    (Some 3) ∷ None ∷ None ∷ None ∷ None ∷ None ∷ []) 0 ∷ []) summed_bytes19
+    ∷ moment 2 17 (access 4398063288320 6 8 false false) 9 9
+    (frame 0 17 ((Some 0) ∷ (Some 9511602413023264768) ∷ (Some 9511606811069775872) ∷ (Some 3) ∷ (Some 3) ∷ (Some 0) ∷ (Some 3) ∷ (Some 3) ∷ (Some 6) ∷ (Some 3) ∷
+    (Some 0) ∷ None ∷ None ∷ None ∷ None ∷ []) 0 ∷ []) summed_bytes19
+    ∷ moment 2 18 (access 9511602413023264768 6 8 false false) 9 9
+    (frame 0 18 ((Some 0) ∷ (Some 9511602413023264768) ∷ (Some 9511606811069775872) ∷ (Some 3) ∷ (Some 3) ∷ (Some 0) ∷ (Some 3) ∷ (Some 3) ∷ (Some 6) ∷ (Some 3) ∷
+    (Some 0) ∷ (Some 6) ∷ None ∷ None ∷ None ∷ []) 0 ∷ []) summed_bytes19
+    ∷ moment 2 19 kinds.Other 9 9 (frame 0 19
+    ((Some 0) ∷ (Some 9511602413023264768) ∷ (Some 9511606811069775872) ∷ (Some 3) ∷ (Some 3) ∷ (Some 0) ∷ (Some 3) ∷ (Some 3) ∷ (Some 6) ∷ (Some 3) ∷ (Some 0) ∷
+    (Some 6) ∷ (Some 6) ∷ None ∷ None ∷ []) 0 ∷ []) summed_bytes19
+    ∷ moment 2 20 (access 4398063288320 12 8 true false) 9 9
+    (frame 0 20 ((Some 0) ∷ (Some 9511602413023264768) ∷ (Some 9511606811069775872) ∷ (Some 3) ∷ (Some 3) ∷ (Some 0) ∷ (Some 3) ∷ (Some 3) ∷ (Some 6) ∷ (Some 3) ∷
+    (Some 0) ∷ (Some 6) ∷ (Some 6) ∷ (Some 12) ∷ None ∷ []) 0 ∷ []) summed_bytes19
+    ∷ moment 2 21 (event turns.Unlock 16 (8796176908288 ∷ 0 ∷ 0 ∷ 0 ∷ []) 0 None) 10 9
+    (frame 0 21 ((Some 0) ∷ (Some 9511602413023264768) ∷ (Some 9511606811069775872) ∷ (Some 3) ∷ (Some 3) ∷ (Some 0) ∷ (Some 3) ∷ (Some 3) ∷ (Some 6) ∷ (Some 3) ∷
+    (Some 0) ∷ (Some 6) ∷ (Some 6) ∷ (Some 12) ∷ None ∷ []) 0 ∷ []) summed_bytes20
+    ∷ moment 2 22 (event turns.Exit 2 (0 ∷ 0 ∷ 0 ∷ 0 ∷ []) 0 None) 11 10
+    (frame 0 22 ((Some 0) ∷ (Some 9511602413023264768) ∷ (Some 9511606811069775872) ∷ (Some 3) ∷ (Some 3) ∷ (Some 0) ∷ (Some 3) ∷ (Some 3) ∷ (Some 6) ∷ (Some 3) ∷
+    (Some 0) ∷ (Some 6) ∷ (Some 6) ∷ (Some 12) ∷ (Some 0) ∷ []) 0 ∷ []) summed_bytes20
+    ∷ moment 0 26 (access 30786359132160 1 8 false false) 3 11 (frame 1 26 ((Some 30786359132168) ∷ (Some 0) ∷ (Some 0) ∷ None ∷ None ∷ None ∷ None ∷ None ∷ []) 0 ∷ [])
+    summed_bytes20
+    ∷ moment 0 27 (access 30786359132168 2 8 false false) 3 11 (frame 1 27 ((Some 30786359132168) ∷ (Some 0) ∷ (Some 0) ∷ (Some 1) ∷ None ∷ None ∷ None ∷ None ∷ []) 0 ∷ [])
+    summed_bytes20
+    ∷ moment 0 28 (event turns.Join 1 (1 ∷ 0 ∷ 0 ∷ 0 ∷ []) 0 None) 12 11
+    (frame 1 28 ((Some 30786359132168) ∷ (Some 0) ∷ (Some 0) ∷ (Some 1) ∷ (Some 2) ∷ None ∷ None ∷ None ∷ []) 0 ∷ []) summed_bytes20
+    ∷ moment 0 29 (event turns.Join 2 (2 ∷ 0 ∷ 0 ∷ 0 ∷ []) 0 None) 13 12
+    (frame 1 29 ((Some 30786359132168) ∷ (Some 0) ∷ (Some 0) ∷ (Some 1) ∷ (Some 2) ∷ (Some 0) ∷ None ∷ None ∷ []) 0 ∷ []) summed_bytes20
+    ∷ moment 0 30 (access 4398063288320 12 8 false false) 13 13
+    (frame 1 30 ((Some 30786359132168) ∷ (Some 0) ∷ (Some 0) ∷ (Some 1) ∷ (Some 2) ∷ (Some 0) ∷ (Some 0) ∷ None ∷ []) 0 ∷ []) summed_bytes20
+    ∷ moment 0 31 (event turns.Out 0 (12 ∷ 0 ∷ 0 ∷ 0 ∷ []) 0 None) 14 13
+    (frame 1 31 ((Some 30786359132168) ∷ (Some 0) ∷ (Some 0) ∷ (Some 1) ∷ (Some 2) ∷ (Some 0) ∷ (Some 0) ∷ (Some 12) ∷ []) 0 ∷ []) summed_bytes20
+    ∷ moment 0 32 (event turns.Exit 0 (0 ∷ 0 ∷ 0 ∷ 0 ∷ []) 0 None) 15 14
+    (frame 1 32 ((Some 30786359132168) ∷ (Some 0) ∷ (Some 0) ∷ (Some 1) ∷ (Some 2) ∷ (Some 0) ∷ (Some 0) ∷ (Some 12) ∷ []) 0 ∷ []) summed_bytes20
     ∷ []
 
 abbrev pub summed : Reference

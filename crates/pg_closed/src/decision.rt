@@ -1,3 +1,5 @@
+//! Decisions: what is fixed of a reference run.
+
 /// What is fixed of a reference run, whose steps are numbered from 0.
 #[derive(Clone, Copy, Debug, PartialEq, Eq)]
 pub enum Decision {

@@ -113,7 +113,8 @@ takes-by : (name : Name) (words : List Word) → takes program_app (name_word na
     ≡ (entered_passes (built program_app) (Some (name_word name, words))
     && level_passes (built program_app).top names nothing_held (name_word name ∷ words) (is_some (entered (built program_app) (Some (name_word name, words)))))
 takes-by name words =
-    ap (λ (w : Walk). entered_passes (built program_app) w.stopped && level_passes (built program_app).top names nothing_held (name_word name ∷ words) (is_some (entered (built program_app) w.stopped)))
+    ap (λ (w : Walk). entered_passes (built program_app) w.stopped && level_passes (built program_app).top names nothing_held (name_word name ∷ words)
+    (is_some (entered (built program_app) w.stopped)))
     (walk-stands name words)
 
 pub line-taken : (name : Name) (words : List Word) (l : IsLine words) → takes program_app (name_word name ∷ words) ≡ true

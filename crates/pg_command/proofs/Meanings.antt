@@ -1,5 +1,6 @@
 -- What the parser's matches of a line say is what the line is.
-use Rattle.std.proofs.Common.{◌≡◌, ◌≤◌, arith, ◌∙◌, ◌&&◌, ℕ, ℤ, Bool, cond, true, false, refl, sym, ap, subst, List, [], ◌∷◌, ◌++◌, map, codes, Option, Some, None, IfSome, IfNone}
+use Rattle.std.proofs.Common.{◌≡◌, ◌≤◌, arith, ◌∙◌, ◌&&◌, ℕ, ℤ, Bool, cond, true, false, refl, sym, ap, subst, List, [], ◌∷◌, ◌++◌, map, codes, Option}
+use Rattle.std.proofs.Common.{Some, None, IfSome, IfNone}
 use Rattle.std.specs.Str.{bytes_eq}
 use Rattle.std.proofs.lemmas.Slice.Eq.{bytes_eq-Decides}
 use Rattle.std.proofs.lemmas.Bool.{leb-true}
@@ -139,7 +140,8 @@ is-named word name e = once-or (bytes_eq word (codes "once")) refl e
     serve-or false h e = show-or (bytes_eq word (codes "show")) refl e
 
     once-or : (b : Bool) → bytes_eq word (codes "once") ≡ b
-        → cond b (Some Once) (cond (bytes_eq word (codes "serve")) (Some Serve) (cond (bytes_eq word (codes "show")) (Some Show) (cond (bytes_eq word (codes "trial")) (Some Trial) None))) ≡ Some name
+        → cond b (Some Once) (cond (bytes_eq word (codes "serve")) (Some Serve) (cond (bytes_eq word (codes "show")) (Some Show) (cond (bytes_eq word (codes "trial")) (Some Trial) None)))
+        ≡ Some name
         → word ≡ name_word name
     once-or true h e = (bytes_eq-Decides word (codes "once")).0 h ∙ ap name_word (some-name Once name e)
     once-or false h e = serve-or (bytes_eq word (codes "serve")) refl e

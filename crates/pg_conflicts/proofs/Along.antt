@@ -82,19 +82,25 @@ max_turn a b = omega arith
 
 module _ (bytes : List ℕ) (x y : Placed) (p : IsPlaced bytes x) (q : IsPlaced bytes y) where
   -- what ranks say matters only for those of different threads
-  apart : (t r o : Bool) → (y.print.thread.0 == x.print.thread.0) ≡ t → ((x.print.thread.0 ≡ y.print.thread.0 → ⊥) → r ≡ o) → (not (y.print.thread.0 == x.print.thread.0) && r) ≡ (not (y.print.thread.0 == x.print.thread.0) && o)
+  apart : (t r o : Bool) → (y.print.thread.0 == x.print.thread.0) ≡ t → ((x.print.thread.0 ≡ y.print.thread.0 → ⊥) → r ≡ o)
+      → (not (y.print.thread.0 == x.print.thread.0) && r) ≡ (not (y.print.thread.0 == x.print.thread.0) && o)
   apart true r o e h = rw e refl
   apart false r o e h = ap (λ c. not (y.print.thread.0 == x.print.thread.0) && c) (h (λ q. eqb-false y.print.thread.0 x.print.thread.0 e (sym q)))
 
   -- x answers y in a direction just where y meets x
-  along : (b : Bool) → ((x.print.thread.0 ≡ y.print.thread.0 → ⊥) → nat_lt (need_of b y.print) (rank_of b x.print) ≡ overlap y.print x.print) → answers_along b x y ≡ meets y.print x.print
+  along : (b : Bool) → ((x.print.thread.0 ≡ y.print.thread.0 → ⊥) → nat_lt (need_of b y.print) (rank_of b x.print) ≡ overlap y.print x.print)
+      → answers_along b x y ≡ meets y.print x.print
   along b e =
       four_passes y.print.writes y.print.of_region x.print.writes x.print.of_region
       ((nat_lt (max x.first y.first) x.end && nat_lt (max x.first y.first) y.end) && (not (x.print.thread.0 == y.print.thread.0) && nat_lt (need_of b y.print) (rank_of b x.print)))
-      ∙ ap (λ s. ((y.print.writes || x.print.writes) && (y.print.of_region || not x.print.of_region)) && (s && (not (x.print.thread.0 == y.print.thread.0) && nat_lt (need_of b y.print) (rank_of b x.print))))
+      ∙ ap (λ s. ((y.print.writes || x.print.writes) && (y.print.of_region || not x.print.of_region))
+      && (s && (not (x.print.thread.0 == y.print.thread.0) && nat_lt (need_of b y.print) (rank_of b x.print))))
       share_turn
-      ∙ ap (λ s. ((y.print.writes || x.print.writes) && (y.print.of_region || not x.print.of_region)) && (races.share (bytes_of y.print) (bytes_of x.print) && s)) (ap (λ t. not t && nat_lt (need_of b y.print) (rank_of b x.print)) (eqb_turn x.print.thread.0 y.print.thread.0) ∙ apart (y.print.thread.0 == x.print.thread.0) (nat_lt (need_of b y.print) (rank_of b x.print)) (overlap y.print x.print) refl e)
-      ∙ parts (y.print.writes || x.print.writes) (y.print.of_region || not x.print.of_region) (races.share (bytes_of y.print) (bytes_of x.print)) (not (y.print.thread.0 == x.print.thread.0)) (overlap y.print x.print)
+      ∙ ap (λ s. ((y.print.writes || x.print.writes) && (y.print.of_region || not x.print.of_region)) && (races.share (bytes_of y.print) (bytes_of x.print) && s))
+      (ap (λ t. not t && nat_lt (need_of b y.print) (rank_of b x.print)) (eqb_turn x.print.thread.0 y.print.thread.0)
+      ∙ apart (y.print.thread.0 == x.print.thread.0) (nat_lt (need_of b y.print) (rank_of b x.print)) (overlap y.print x.print) refl e)
+      ∙ parts (y.print.writes || x.print.writes) (y.print.of_region || not x.print.of_region) (races.share (bytes_of y.print) (bytes_of x.print)) (not (y.print.thread.0 == x.print.thread.0))
+      (overlap y.print x.print)
     where
       share_turn : (nat_lt (max x.first y.first) x.end && nat_lt (max x.first y.first) y.end) ≡ races.share (bytes_of y.print) (bytes_of x.print)
       share_turn =

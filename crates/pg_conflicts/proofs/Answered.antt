@@ -28,7 +28,8 @@ in_order (z ∷ zs) o = (all_map (λ y. z.print.thread.0 ≢ y.thread.0 → z.pr
 
 not_own : (y : Placed) → meets y.print y.print ≡ false
 not_own y =
-    ap (λ b. minds y.print y.print && ((not b && overlap y.print y.print) && ((y.print.writes || y.print.writes) && share (bytes_of y.print) (bytes_of y.print)))) (eq-eqb y.print.thread.0 y.print.thread.0 refl)
+    ap (λ b. minds y.print y.print && ((not b && overlap y.print y.print) && ((y.print.writes || y.print.writes) && share (bytes_of y.print) (bytes_of y.print))))
+    (eq-eqb y.print.thread.0 y.print.thread.0 refl)
     ∙ and_false (minds y.print y.print)
   where
     and_false : (b : Bool) → (b && false) ≡ false

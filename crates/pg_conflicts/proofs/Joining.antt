@@ -1,5 +1,6 @@
 -- Marks joined one by one.
-use Rattle.std.proofs.Common.{◌≡◌, ℕ, ◌+◌, ◌<◌, ◌≤◌, zero, suc, Bool, true, false, List, [], ◌∷◌, ◌++◌, length, map, take, drop, replicate, Some, refl, sym, ap, ◌∙◌, arith, append_assoc, append-nil}
+use Rattle.std.proofs.Common.{◌≡◌, ℕ, ◌+◌, ◌<◌, ◌≤◌, zero, suc, Bool, true, false, List, [], ◌∷◌, ◌++◌, length, map, take, drop, replicate, Some, refl, sym}
+use Rattle.std.proofs.Common.{ap, ◌∙◌, arith, append_assoc, append-nil}
 use Rattle.std.specs.Prelude.{◌&&◌, ◌||◌, slice_get, slice_set, slice_index_or}
 use Rattle.std.specs.List.{list_any}
 use Rattle.std.proofs.lemmas.List.{drop_more, drop_all, map_push, take_more_set, take_all}
@@ -10,7 +11,7 @@ use Rattle.pg_conflicts.specs.declared.pass.Touch.{Touch}
 use Rattle.pg_conflicts.specs.Ranks.{gives}
 use Rattle.pg_conflicts.specs.Passes.{answers, share, answers_along, answers_in, before_by, pass_of}
 use Rattle.pg_conflicts.proofs.Tests.{any_none, any_or}
-use Rattle.pg_conflicts.proofs.Walk.{drop_get, take_get}
+use Rattle.pg_plans.proofs.Walks.{drop_get, take_get}
 
 drop_set : (xs : List Bool) (i : ℕ) (b : Bool) → drop (i + 1) (slice_set xs i b) ≡ drop (i + 1) xs
 drop_set [] i b = refl
@@ -25,7 +26,8 @@ join_more old marks others i b lm lo e inv =
     ∙ ap (λ l. l ++ or_each (drop (i + 1) marks) (drop (i + 1) others)) (take_more_set marks i b lm)
     ∙ append_assoc (take i marks) (b ∷ []) (or_each (drop (i + 1) marks) (drop (i + 1) others))
     ∙ ap (λ c. take i marks ++ c ∷ or_each (drop (i + 1) marks) (drop (i + 1) others)) e
-    ∙ sym (ap (λ l. take i marks ++ or_each l (drop i others)) (drop_more marks i false lm) ∙ ap (λ l. take i marks ++ or_each (slice_index_or marks i false ∷ drop (i + 1) marks) l) (drop_more others i false lo))
+    ∙ sym (ap (λ l. take i marks ++ or_each l (drop i others)) (drop_more marks i false lm)
+    ∙ ap (λ l. take i marks ++ or_each (slice_index_or marks i false ∷ drop (i + 1) marks) l) (drop_more others i false lo))
     ∙ inv
 
 -- ---- answers one by one
@@ -40,7 +42,8 @@ module _ {A : Type 0} (f : A → A → Bool) where
       ∙ ap (λ l. take i answered ++ list_any (λ x. f x y) (take i ts) ∷ before_by f l (drop (i + 1) ts)) (take_get ts i y h)
       ∙ sym (ap (λ l. take i answered ++ before_by f (take i ts) l) (drop_get ts i y h)) ∙ inv
 
-  pub answer_all : (ts : List A) (answered whole : List Bool) (i : ℕ) → length answered ≡ length ts → length ts ≤ i → take i answered ++ before_by f (take i ts) (drop i ts) ≡ whole → answered ≡ whole
+  pub answer_all : (ts : List A) (answered whole : List Bool) (i : ℕ) → length answered ≡ length ts → length ts ≤ i → take i answered ++ before_by f (take i ts) (drop i ts) ≡ whole
+      → answered ≡ whole
   answer_all ts answered whole i n le inv =
       sym (take_all i answered (omega (arith, n, le))) ∙ sym (append-nil (take i answered)) ∙ sym (ap (λ l. take i answered ++ before_by f (take i ts) l) (drop_all i ts le)) ∙ inv
 
@@ -84,7 +87,8 @@ module _ {A : Type 0} where
 -- the marks of the four passes of a direction
 pub four_joined : (b : Bool) (zs : List Placed) (none one two three four : List Bool) → none ≡ replicate (length zs) false →
     one ≡ or_each none (before_by (answers_in (pass_of b false false)) [] zs) → two ≡ or_each one (before_by (answers_in (pass_of b false true)) [] zs) →
-    three ≡ or_each two (before_by (answers_in (pass_of b true false)) [] zs) → four ≡ or_each three (before_by (answers_in (pass_of b true true)) [] zs) → four ≡ before_by (answers_along b) [] zs
+    three ≡ or_each two (before_by (answers_in (pass_of b true false)) [] zs) → four ≡ or_each three (before_by (answers_in (pass_of b true true)) [] zs)
+    → four ≡ before_by (answers_along b) [] zs
 four_joined b zs none one two three four e0 e1 e2 e3 e4 =
     let ff = answers_in (pass_of b false false) in
     let ft = answers_in (pass_of b false true) in

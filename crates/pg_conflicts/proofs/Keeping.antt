@@ -1,15 +1,17 @@
 -- By the tables of a pass one sees which touches are answered.
-use Rattle.std.proofs.Common.{◌≡◌, ℕ, zero, suc, ◌+◌, ◌<◌, ◌≤◌, ◌==◌, ◌⊎◌, inl, inr, Bool, true, false, List, [], ◌∷◌, ◌++◌, replicate, refl, sym, ap, ◌∙◌, subst, arith}
+use Rattle.std.proofs.Common.{◌≡◌, ℕ, zero, suc, ◌+◌, ◌<◌, ◌≤◌, ◌==◌, ◌⊎◌, inl, inr, Bool, true, false, List, [], ◌∷◌, ◌++◌, replicate, refl, sym}
+use Rattle.std.proofs.Common.{ap, ◌∙◌, subst, arith}
 use Rattle.std.specs.Prelude.{◌&&◌, ◌||◌, max, nat_le, nat_lt, if◌then◌else◌}
 use Rattle.std.specs.List.{list_any, AllByRecursion}
 use Rattle.std.proofs.lemmas.Bool.{cases_lt, lt-ltb, le-ltb, le-leb, ltb-true, leb-true, and_parts, and_from, or_cases, or_left, or_right, eqb-true, eq-eqb}
 use Rattle.std.proofs.lemmas.List.Folds.{list_any-append}
-use Rattle.pg_conflicts.specs.declared.best.Best.{Best}
+use Rattle.pg_trace.specs.declared.best.Best.{Best}
 use Rattle.pg_conflicts.specs.declared.pass.Touch.{Touch}
 use Rattle.pg_conflicts.specs.declared.tree.Tree.{Tree}
 use Rattle.pg_conflicts.specs.Nodes.{path, span}
 use Rattle.pg_conflicts.specs.Passes.{answers, share}
-use Rattle.pg_conflicts.specs.Ranks.{Noted, any_above, best_at, gives, has_above, is_among, no_best, other}
+use Rattle.pg_conflicts.specs.Ranks.{Noted, any_above, best_at, gives, has_above, is_among}
+use Rattle.pg_trace.specs.Best.{no_best, other}
 use Rattle.pg_conflicts.specs.Tables.{IsTree, IsWithin, Keeps, is_answered, is_noted, leaf, spanned, started}
 use Rattle.pg_conflicts.proofs.Meeting.{meeting, meets}
 use Rattle.pg_conflicts.proofs.Tests.{and_false, any_and, any_and_right, any_none, any_or, any_same, any_same_on, any_swap, or_and, or_false, same_tests}
@@ -40,7 +42,8 @@ module _ (nodes : Touch → List ℕ) where
     best = n.best;
     above = λ v u need.
         n.above v u need ∙ ap (λ b. b || (is_among v (nodes x) && gives x u need)) (k.above v u need)
-        ∙ sym (list_any-append (λ z. is_among v (nodes z) && gives z u need) xs (x ∷ []) ∙ ap (λ b. list_any (λ z. is_among v (nodes z) && gives z u need) xs || b) (or_false (is_among v (nodes x) && gives x u need)));
+        ∙ sym (list_any-append (λ z. is_among v (nodes z) && gives z u need) xs (x ∷ [])
+        ∙ ap (λ b. list_any (λ z. is_among v (nodes z) && gives z u need) xs || b) (or_false (is_among v (nodes x) && gives x u need)));
   }
 
   -- a touch that is noted at one of these nodes gives what y needs
@@ -105,8 +108,10 @@ share_begins x y a b = same_tests (begins x y || begins y x) (share x y) up down
         p = and_parts (nat_lt (max x.first y.first) x.end) (nat_lt (max x.first y.first) y.end) h
 
         go : (y.first < x.first) ⊎ (x.first ≤ y.first) → (begins x y || begins y x) ≡ true
-        go (inl lt) = let m = ltb-true (max x.first y.first) y.end p.1 in or_right (begins x y) (begins y x) (and_from (nat_le y.first x.first) (nat_lt x.first y.end) (le-leb y.first x.first (omega (arith, lt))) (lt-ltb x.first y.end (omega (arith, lt, m))))
-        go (inr ge) = let m = ltb-true (max x.first y.first) x.end p.0 in or_left (begins x y) (begins y x) (and_from (nat_le x.first y.first) (nat_lt y.first x.end) (le-leb x.first y.first ge) (lt-ltb y.first x.end (omega (arith, ge, m))))
+        go (inl lt) = let m = ltb-true (max x.first y.first) y.end p.1 in
+            or_right (begins x y) (begins y x) (and_from (nat_le y.first x.first) (nat_lt x.first y.end) (le-leb y.first x.first (omega (arith, lt))) (lt-ltb x.first y.end (omega (arith, lt, m))))
+        go (inr ge) = let m = ltb-true (max x.first y.first) x.end p.0 in
+            or_left (begins x y) (begins y x) (and_from (nat_le x.first y.first) (nat_lt y.first x.end) (le-leb x.first y.first ge) (lt-ltb y.first x.end (omega (arith, ge, m))))
 
 share_none : (x y : Touch) → x.end ≤ x.first → share x y ≡ false
 share_none x y e = ap (λ b. b && nat_lt (max x.first y.first) y.end) (le-ltb (max x.first y.first) x.end (omega (arith, e)))
@@ -145,7 +150,8 @@ module _ (t : Tree) (is : IsTree t) (y : Touch) (wy : IsWithin t y) where
       ∙ ap (λ c. c && gives x y.thread.0 y.need) (parts ∙ share_begins x y a b)
     where
       parts : (list_any (λ v. is_among v (spanned t x)) above_first || list_any (λ v. is_among v (started t x)) over_all) ≡ (begins x y || begins y x)
-      parts = rw e (ap (λ c. c || list_any (λ v. is_among v (path t.levels (leaf t x.first))) over_all) (begun x y wx wy a b) ∙ ap (λ c. begins x y || c) (turned (path t.levels (leaf t x.first)) over_all ∙ begun y x wy wx b a))
+      parts = rw e (ap (λ c. c || list_any (λ v. is_among v (path t.levels (leaf t x.first))) over_all) (begun x y wx wy a b)
+          ∙ ap (λ c. begins x y || c) (turned (path t.levels (leaf t x.first)) over_all ∙ begun y x wy wx b a))
 
   one : (x : Touch) → IsWithin t x → ((y.asks && nat_lt y.first y.end) && by_nodes x) ≡ answers x y
   one x wx = go y.asks refl x.gives refl (cases_lt y.first y.end) (cases_lt x.first x.end)
@@ -153,7 +159,8 @@ module _ (t : Tree) (is : IsTree t) (y : Touch) (wy : IsWithin t y) where
       none : (y.asks && (x.gives && (share x y && gives x y.thread.0 y.need))) ≡ false → is_noted x ≡ false → ((y.asks && nat_lt y.first y.end) && by_nodes x) ≡ answers x y
       none e u = ap (λ c. (y.asks && nat_lt y.first y.end) && c) (unnoted x u) ∙ and_false (y.asks && nat_lt y.first y.end) ∙ sym e
 
-      go : (p : Bool) → y.asks ≡ p → (q : Bool) → x.gives ≡ q → (y.first < y.end) ⊎ (y.end ≤ y.first) → (x.first < x.end) ⊎ (x.end ≤ x.first) → ((y.asks && nat_lt y.first y.end) && by_nodes x) ≡ answers x y
+      go : (p : Bool) → y.asks ≡ p → (q : Bool) → x.gives ≡ q → (y.first < y.end) ⊎ (y.end ≤ y.first) → (x.first < x.end) ⊎ (x.end ≤ x.first)
+          → ((y.asks && nat_lt y.first y.end) && by_nodes x) ≡ answers x y
       go false e q f d g = rw e refl
       go true e false f d g = none (rw (e, f) refl) (rw f refl)
       go true e true f (inl b) (inl a) =
@@ -163,11 +170,13 @@ module _ (t : Tree) (is : IsTree t) (y : Touch) (wy : IsWithin t y) where
       go true e true f (inl b) (inr a) = none (rw (e, f, share_none x y a) refl) (rw (f, le-ltb x.first x.end a) refl)
       go true e true f (inr b) d = rw (e, f, le-ltb y.first y.end b, share_with_none x y b) refl
 
-  pub met : (spans starts : List Best) (xs : List Touch) → AllByRecursion (IsWithin t) xs → Keeps (spanned t) spans xs → Keeps (started t) starts xs → is_answered t spans starts y ≡ list_any (λ x. answers x y) xs
+  pub met : (spans starts : List Best) (xs : List Touch) → AllByRecursion (IsWithin t) xs → Keeps (spanned t) spans xs → Keeps (started t) starts xs
+      → is_answered t spans starts y ≡ list_any (λ x. answers x y) xs
   met spans starts xs w k l =
       ap (λ c. (y.asks && nat_lt y.first y.end) && c)
       (ap (λ c. c || any_above starts y over_all) (reached (spanned t) spans xs y above_first k)
       ∙ ap (λ c. list_any (λ x. list_any (λ v. is_among v (spanned t x)) above_first && gives x y.thread.0 y.need) xs || c) (reached (started t) starts xs y over_all l)
-      ∙ sym (any_or (λ x. list_any (λ v. is_among v (spanned t x)) above_first && gives x y.thread.0 y.need) (λ x. list_any (λ v. is_among v (started t x)) over_all && gives x y.thread.0 y.need) xs))
+      ∙ sym (any_or (λ x. list_any (λ v. is_among v (spanned t x)) above_first && gives x y.thread.0 y.need)
+      (λ x. list_any (λ v. is_among v (started t x)) over_all && gives x y.thread.0 y.need) xs))
       ∙ sym (any_and (y.asks && nat_lt y.first y.end) by_nodes xs)
       ∙ any_same_on (IsWithin t) (λ x. (y.asks && nat_lt y.first y.end) && by_nodes x) (λ x. answers x y) xs w one

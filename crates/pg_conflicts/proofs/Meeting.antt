@@ -1,5 +1,6 @@
 -- The path of a leaf meets the nodes that span a range just where the leaf lies in the range.
-use Rattle.std.proofs.Common.{◌≡◌, ℕ, zero, suc, ◌+◌, ◌-◌, ◌*◌, ◌/◌, ◌%◌, ◌^◌, ◌==◌, ◌<◌, ◌≤◌, ◌⊎◌, inl, inr, Bool, true, false, refl, sym, ap, ◌∙◌, arith}
+use Rattle.std.proofs.Common.{◌≡◌, ℕ, zero, suc, ◌+◌, ◌-◌, ◌*◌, ◌/◌, ◌%◌, ◌^◌, ◌==◌, ◌<◌, ◌≤◌, ◌⊎◌, inl, inr, Bool, true, false, refl}
+use Rattle.std.proofs.Common.{sym, ap, ◌∙◌, arith}
 use Rattle.std.specs.Prelude.{◌&&◌, ◌||◌, nat_le, nat_lt}
 use Rattle.std.specs.List.{list_any}
 use Rattle.std.proofs.lemmas.Bool.{cases_lt, eq-eqb, lt-ltb, le-ltb, le-leb, ltb-true, leb-true, eqb-true, and_parts, and_from, or_cases, or_left, or_right, true≢false}
@@ -31,7 +32,8 @@ pub record AtEnd (low high v : ℕ) : Type 0 where
 at_end : (low high v : ℕ) → is_among v (ends low high) ≡ true → AtEnd low high v
 at_end low high v h = go (cases_lt low high)
   where
-    pick : (is_among v (only_if (low % 2 == 1) low) ≡ true) ⊎ (is_among v (only_if (high % 2 == 1) (high - 1)) ≡ true) → ((low % 2 ≡ 1) × (v ≡ low)) ⊎ ((high % 2 ≡ 1) × (v ≡ high - 1))
+    pick : (is_among v (only_if (low % 2 == 1) low) ≡ true) ⊎ (is_among v (only_if (high % 2 == 1) (high - 1)) ≡ true)
+        → ((low % 2 ≡ 1) × (v ≡ low)) ⊎ ((high % 2 ≡ 1) × (v ≡ high - 1))
     pick (inl e) = let p = among_only (low % 2 == 1) v low e in inl (eqb-true (low % 2) 1 p.0, sym p.1)
     pick (inr e) = let p = among_only (high % 2 == 1) v (high - 1) e in inr (eqb-true (high % 2) 1 p.0, sym p.1)
 
@@ -44,22 +46,26 @@ at_end low high v h = go (cases_lt low high)
 
 pub low_end : (low high : ℕ) → low < high → low % 2 ≡ 1 → is_among low (ends low high) ≡ true
 low_end low high lt odd =
-    rw (lt-ltb low high lt) (list_any-append (λ w. w == low) (only_if (low % 2 == 1) low) (only_if (high % 2 == 1) (high - 1)) ∙ or_left (is_among low (only_if (low % 2 == 1) low)) (is_among low (only_if (high % 2 == 1) (high - 1))) (only_among (low % 2 == 1) low (eq-eqb (low % 2) 1 odd)))
+    rw (lt-ltb low high lt) (list_any-append (λ w. w == low) (only_if (low % 2 == 1) low) (only_if (high % 2 == 1) (high - 1))
+    ∙ or_left (is_among low (only_if (low % 2 == 1) low)) (is_among low (only_if (high % 2 == 1) (high - 1))) (only_among (low % 2 == 1) low (eq-eqb (low % 2) 1 odd)))
 
 pub high_end : (low high : ℕ) → low < high → high % 2 ≡ 1 → is_among (high - 1) (ends low high) ≡ true
 high_end low high lt odd =
-    rw (lt-ltb low high lt) (list_any-append (λ w. w == high - 1) (only_if (low % 2 == 1) low) (only_if (high % 2 == 1) (high - 1)) ∙ or_right (is_among (high - 1) (only_if (low % 2 == 1) low)) (is_among (high - 1) (only_if (high % 2 == 1) (high - 1))) (only_among (high % 2 == 1) (high - 1) (eq-eqb (high % 2) 1 odd)))
+    rw (lt-ltb low high lt) (list_any-append (λ w. w == high - 1) (only_if (low % 2 == 1) low) (only_if (high % 2 == 1) (high - 1))
+    ∙ or_right (is_among (high - 1) (only_if (low % 2 == 1) low)) (is_among (high - 1) (only_if (high % 2 == 1) (high - 1))) (only_among (high % 2 == 1) (high - 1) (eq-eqb (high % 2) 1 odd)))
 
 -- all nodes of a span lie before its end
 pub span_below : (n low high v : ℕ) → is_among v (span n low high) ≡ true → v < high
 span_below zero low high v h = absurd (true≢false (sym h))
-span_below (suc n) low high v h = go (or_cases (is_among v (ends low high)) (is_among v (span n (low / 2 + low % 2) (high / 2))) (sym (list_any-append (λ w. w == v) (ends low high) (span n (low / 2 + low % 2) (high / 2))) ∙ h)) (span_below n (low / 2 + low % 2) (high / 2) v)
+span_below (suc n) low high v h = go (or_cases (is_among v (ends low high)) (is_among v (span n (low / 2 + low % 2) (high / 2)))
+    (sym (list_any-append (λ w. w == v) (ends low high) (span n (low / 2 + low % 2) (high / 2))) ∙ h)) (span_below n (low / 2 + low % 2) (high / 2) v)
   where
     by : ((low % 2 ≡ 1) × (v ≡ low)) ⊎ ((high % 2 ≡ 1) × (v ≡ high - 1)) → low < high → v < high
     by (inl p) lt = let e = p.1 in omega (arith, e, lt)
     by (inr p) lt = let e = p.1 in omega (arith, e, lt)
 
-    go : (is_among v (ends low high) ≡ true) ⊎ (is_among v (span n (low / 2 + low % 2) (high / 2)) ≡ true) → (is_among v (span n (low / 2 + low % 2) (high / 2)) ≡ true → v < high / 2) → v < high
+    go : (is_among v (ends low high) ≡ true) ⊎ (is_among v (span n (low / 2 + low % 2) (high / 2)) ≡ true) → (is_among v (span n (low / 2 + low % 2) (high / 2)) ≡ true → v < high / 2)
+        → v < high
     go (inl e) ih = let a = at_end low high v e in by a.which a.some
     go (inr e) ih = let l = ih e in omega (arith, l)
 
@@ -161,8 +167,10 @@ module _ (n leaves low high p : ℕ) (l : Lies leaves low high p) where
       go lt (inl e) = let q = e.1 in let b = o.above in let f = l.low_from in let t = l.leaf_to in omega (arith, q, b, f, t)
       go lt (inr e) = let q = e.1 in let b = o.above in let f = l.low_from in let t = l.leaf_to in omega (arith, q, b, f, t, lt)
 
-  up : (meets n rest_low (high / 2) (p / 2) ≡ true → (nat_le rest_low (p / 2) && nat_lt (p / 2) (high / 2)) ≡ true) → meets (suc n) low high p ≡ true → (nat_le low p && nat_lt p high) ≡ true
-  up ih h = go (or_cases (is_among p (ends low high) || is_among p (span n rest_low (high / 2))) (list_any (λ v. is_among v (ends low high)) (path n (p / 2)) || meets n rest_low (high / 2) (p / 2)) (sym (meets_level n low high p) ∙ h))
+  up : (meets n rest_low (high / 2) (p / 2) ≡ true → (nat_le rest_low (p / 2) && nat_lt (p / 2) (high / 2)) ≡ true) → meets (suc n) low high p ≡ true
+      → (nat_le low p && nat_lt p high) ≡ true
+  up ih h = go (or_cases (is_among p (ends low high) || is_among p (span n rest_low (high / 2)))
+      (list_any (λ v. is_among v (ends low high)) (path n (p / 2)) || meets n rest_low (high / 2) (p / 2)) (sym (meets_level n low high p) ∙ h))
     where
       below : (nat_le rest_low (p / 2) && nat_lt (p / 2) (high / 2)) ≡ true → (nat_le low p && nat_lt p high) ≡ true
       below e =
@@ -179,11 +187,13 @@ module _ (n leaves low high p : ℕ) (l : Lies leaves low high p) where
       second (inl e) = absurd (no_end_above (on_path (λ v. is_among v (ends low high)) n (p / 2) e))
       second (inr e) = below (ih e)
 
-      go : ((is_among p (ends low high) || is_among p (span n rest_low (high / 2))) ≡ true) ⊎ ((list_any (λ v. is_among v (ends low high)) (path n (p / 2)) || meets n rest_low (high / 2) (p / 2)) ≡ true) → (nat_le low p && nat_lt p high) ≡ true
+      go : ((is_among p (ends low high) || is_among p (span n rest_low (high / 2))) ≡ true)
+          ⊎ ((list_any (λ v. is_among v (ends low high)) (path n (p / 2)) || meets n rest_low (high / 2) (p / 2)) ≡ true) → (nat_le low p && nat_lt p high) ≡ true
       go (inl e) = first (or_cases (is_among p (ends low high)) (is_among p (span n rest_low (high / 2))) e)
       go (inr e) = second (or_cases (list_any (λ v. is_among v (ends low high)) (path n (p / 2))) (meets n rest_low (high / 2) (p / 2)) e)
 
-  down : ((nat_le rest_low (p / 2) && nat_lt (p / 2) (high / 2)) ≡ true → meets n rest_low (high / 2) (p / 2) ≡ true) → (nat_le low p && nat_lt p high) ≡ true → meets (suc n) low high p ≡ true
+  down : ((nat_le rest_low (p / 2) && nat_lt (p / 2) (high / 2)) ≡ true → meets n rest_low (high / 2) (p / 2) ≡ true) → (nat_le low p && nat_lt p high) ≡ true
+      → meets (suc n) low high p ≡ true
   down ih h = go (inner low high p (leb-true low p q.0) (ltb-true p high q.1))
     where
       q : (nat_le low p ≡ true) × (nat_lt p high ≡ true)
@@ -208,7 +218,8 @@ module _ (n leaves low high p : ℕ) (l : Lies leaves low high p) where
 
 pub meeting : (n leaves low high p : ℕ) → 2 * leaves ≡ 2 ^ n → Lies leaves low high p → meets n low high p ≡ (nat_le low p && nat_lt p high)
 meeting zero leaves low high p t l = absurd (omega (arith, t))
-meeting (suc zero) leaves low high p t l = same_tests (meets 1 low high p) (nat_le low p && nat_lt p high) (up 0 leaves low high p l (λ e. absurd (true≢false (sym e)))) (down 0 leaves low high p l (λ e. absurd (none e)))
+meeting (suc zero) leaves low high p t l = same_tests (meets 1 low high p) (nat_le low p && nat_lt p high) (up 0 leaves low high p l (λ e. absurd (true≢false (sym e))))
+    (down 0 leaves low high p l (λ e. absurd (none e)))
   where
     none : (nat_le (low / 2 + low % 2) (p / 2) && nat_lt (p / 2) (high / 2)) ≡ true → ⊥
     none e =

@@ -1,8 +1,9 @@
 -- Tables in which ranks are noted at nodes.
-use Rattle.std.proofs.Common.{◌≡◌, ℕ, suc, ◌+◌, ◌-◌, ◌/◌, ◌%◌, ◌<◌, ◌≤◌, ◌==◌, Bool, true, false, List, [], ◌∷◌, ◌++◌, refl, sym, ap, ◌∙◌, subst, arith}
+use Rattle.std.proofs.Common.{◌≡◌, ℕ, suc, ◌+◌, ◌-◌, ◌/◌, ◌%◌, ◌<◌, ◌≤◌, ◌==◌, Bool, true, false, List, [], ◌∷◌, ◌++◌, refl, sym, ap}
+use Rattle.std.proofs.Common.{◌∙◌, subst, arith}
 use Rattle.std.specs.Prelude.{◌&&◌, ◌||◌}
 use Rattle.std.proofs.lemmas.List.Folds.{list_any-append}
-use Rattle.pg_conflicts.specs.declared.best.Best.{Best}
+use Rattle.pg_trace.specs.declared.best.Best.{Best}
 use Rattle.pg_conflicts.specs.declared.pass.Touch.{Touch}
 use Rattle.pg_conflicts.specs.Nodes.{ends, path, span}
 use Rattle.pg_conflicts.specs.Ranks.{AreBest, Noted, any_above, gives, has_above, is_among}
@@ -33,12 +34,14 @@ module _ (x : Touch) where
   }
 
   -- with the rest of a path, or of a span, noted too
-  pub path_next : (old more : List Best) (n level node : ℕ) → level < n → ((new' : List Best) → Noted old new' (node ∷ []) x → Noted new' more (path (n - (level + 1)) (node / 2)) x → Noted old more (path (n - level) node) x)
+  pub path_next : (old more : List Best) (n level node : ℕ) → level < n
+      → ((new' : List Best) → Noted old new' (node ∷ []) x → Noted new' more (path (n - (level + 1)) (node / 2)) x → Noted old more (path (n - level) node) x)
   path_next old more n level node lt new' a b =
       let e : suc (n - (level + 1)) ≡ n - level = omega (arith, lt) in
       subst (λ k. Noted old more (path k node) x) e (noted_append old new' more (node ∷ []) (path (n - (level + 1)) (node / 2)) a b)
 
-  pub span_next : (old more : List Best) (n level low high : ℕ) → level < n → ((new' : List Best) → Noted old new' (ends low high) x → Noted new' more (span (n - (level + 1)) (low / 2 + low % 2) (high / 2)) x → Noted old more (span (n - level) low high) x)
+  pub span_next : (old more : List Best) (n level low high : ℕ) → level < n
+      → ((new' : List Best) → Noted old new' (ends low high) x → Noted new' more (span (n - (level + 1)) (low / 2 + low % 2) (high / 2)) x → Noted old more (span (n - level) low high) x)
   span_next old more n level low high lt new' a b =
       let e : suc (n - (level + 1)) ≡ n - level = omega (arith, lt) in
       subst (λ k. Noted old more (span k low high) x) e (noted_append old new' more (ends low high) (span (n - (level + 1)) (low / 2 + low % 2) (high / 2)) a b)
@@ -51,7 +54,8 @@ module _ (x : Touch) where
       let e : suc (n - (level + 1)) ≡ n - level = omega (arith, lt) in
       subst (λ k. any_above table x (path k node) ≡ true) e (ap (λ b. b || any_above table x (path (n - (level + 1)) (node / 2))) h)
 
-  pub path_passed : (table : List Best) (n level node : ℕ) → level < n → has_above table node x.thread.0 x.need ≡ false → any_above table x (path (n - (level + 1)) (node / 2)) ≡ any_above table x (path (n - level) node)
+  pub path_passed : (table : List Best) (n level node : ℕ) → level < n → has_above table node x.thread.0 x.need ≡ false
+      → any_above table x (path (n - (level + 1)) (node / 2)) ≡ any_above table x (path (n - level) node)
   path_passed table n level node lt h =
       let e : suc (n - (level + 1)) ≡ n - level = omega (arith, lt) in
       subst (λ k. any_above table x (path (n - (level + 1)) (node / 2)) ≡ any_above table x (path k node)) e (sym (ap (λ b. b || any_above table x (path (n - (level + 1)) (node / 2))) h))
@@ -60,13 +64,16 @@ module _ (x : Touch) where
   span_found table n level low high lt h =
       let e : suc (n - (level + 1)) ≡ n - level = omega (arith, lt) in
       subst (λ k. any_above table x (span k low high) ≡ true) e
-      (list_any-append (λ v. has_above table v x.thread.0 x.need) (ends low high) (span (n - (level + 1)) (low / 2 + low % 2) (high / 2)) ∙ ap (λ b. b || any_above table x (span (n - (level + 1)) (low / 2 + low % 2) (high / 2))) h)
+      (list_any-append (λ v. has_above table v x.thread.0 x.need) (ends low high) (span (n - (level + 1)) (low / 2 + low % 2) (high / 2))
+      ∙ ap (λ b. b || any_above table x (span (n - (level + 1)) (low / 2 + low % 2) (high / 2))) h)
 
-  pub span_passed : (table : List Best) (n level low high : ℕ) → level < n → any_above table x (ends low high) ≡ false → any_above table x (span (n - (level + 1)) (low / 2 + low % 2) (high / 2)) ≡ any_above table x (span (n - level) low high)
+  pub span_passed : (table : List Best) (n level low high : ℕ) → level < n → any_above table x (ends low high) ≡ false
+      → any_above table x (span (n - (level + 1)) (low / 2 + low % 2) (high / 2)) ≡ any_above table x (span (n - level) low high)
   span_passed table n level low high lt h =
       let e : suc (n - (level + 1)) ≡ n - level = omega (arith, lt) in
       subst (λ k. any_above table x (span (n - (level + 1)) (low / 2 + low % 2) (high / 2)) ≡ any_above table x (span k low high)) e
-      (sym (list_any-append (λ v. has_above table v x.thread.0 x.need) (ends low high) (span (n - (level + 1)) (low / 2 + low % 2) (high / 2)) ∙ ap (λ b. b || any_above table x (span (n - (level + 1)) (low / 2 + low % 2) (high / 2))) h))
+      (sym (list_any-append (λ v. has_above table v x.thread.0 x.need) (ends low high) (span (n - (level + 1)) (low / 2 + low % 2) (high / 2))
+      ∙ ap (λ b. b || any_above table x (span (n - (level + 1)) (low / 2 + low % 2) (high / 2))) h))
 
   pub path_end : (table : List Best) (n level node : ℕ) → n ≤ level → any_above table x (path (n - level) node) ≡ false
   path_end table n level node le = let e : n - level ≡ 0 = omega (arith, le) in rw e refl

@@ -57,7 +57,8 @@ module _ (bytes : List ℕ) where
           ∙ ap (λ b. nat_lt k x.end && b) (place_test s (y.print.start + y.print.bytes) k y.end r q.end c)
           ∙ sym (ap (λ m. nat_lt m x.end && nat_lt m y.end) f)
 
-      go : (x.print.start < y.print.start) ⊎ (y.print.start ≤ x.print.start) → races.share (bytes_of x.print) (bytes_of y.print) ≡ (nat_lt (max x.first y.first) x.end && nat_lt (max x.first y.first) y.end)
+      go : (x.print.start < y.print.start) ⊎ (y.print.start ≤ x.print.start)
+          → races.share (bytes_of x.print) (bytes_of y.print) ≡ (nat_lt (max x.first y.first) x.end && nat_lt (max x.first y.first) y.end)
       go (inl lt) =
           let l = place_le x.print.start y.print.start x.first y.first p.first q.first (omega (arith, lt)) in
           tests y.print.start y.first q.first q.start (omega (arith, lt)) (omega (arith, l))

@@ -1,19 +1,10 @@
 -- Walks over lists.
-use Rattle.std.proofs.Common.{◌≡◌, ℕ, ◌+◌, zero, suc, Bool, false, List, [], ◌∷◌, ◌++◌, map, take, drop, Some, All, refl, sym, ap, ◌∙◌, subst, arith}
+use Rattle.std.proofs.Common.{◌≡◌, ℕ, ◌+◌, zero, suc, Bool, false, List, [], ◌∷◌, ◌++◌, map, take, Some, All, refl, sym, ap, ◌∙◌, subst, arith}
 use Rattle.std.specs.Prelude.{◌||◌, slice_get, Contains}
 use Rattle.std.specs.List.{list_any, AllByRecursion}
 use Rattle.std.proofs.lemmas.List.Elements.{recursion_from_All}
 use Rattle.std.proofs.lemmas.List.Folds.{list_any-append}
-
-pub take_get : {A : Type 0} (xs : List A) (i : ℕ) (x : A) → slice_get xs i ≡ Some x → take (i + 1) xs ≡ take i xs ++ x ∷ []
-take_get [] i x h = absurd (cc)
-take_get (y ∷ xs) zero x h = let q : y ≡ x = cc in ap (λ z. z ∷ []) q
-take_get (y ∷ xs) (suc i) x h = let ih = take_get xs i x h in let e : suc i + 1 ≡ suc (i + 1) = omega arith in rw e (ap (λ l. y ∷ l) ih)
-
-pub drop_get : {A : Type 0} (xs : List A) (i : ℕ) (x : A) → slice_get xs i ≡ Some x → drop i xs ≡ x ∷ drop (i + 1) xs
-drop_get [] i x h = absurd (cc)
-drop_get (y ∷ xs) zero x h = let q : y ≡ x = cc in ap (λ z. z ∷ xs) q
-drop_get (y ∷ xs) (suc i) x h = let ih = drop_get xs i x h in let e : suc i + 1 ≡ suc (i + 1) = omega arith in rw e ih
+use Rattle.pg_plans.proofs.Walks.{take_get}
 
 pub map_get : {A B : Type 0} (f : A → B) (xs : List A) (i : ℕ) (x : A) → slice_get xs i ≡ Some x → slice_get (map f xs) i ≡ Some (f x)
 map_get f [] i x h = absurd (cc)
@@ -25,10 +16,12 @@ map_push f [] z = refl
 map_push f (y ∷ zs) z = ap (λ l. f y ∷ l) (map_push f zs z)
 
 -- one more thing of a list is made into one more of another
-pub mapped_more : {A B : Type 0} (f : A → B) (xs : List A) (i : ℕ) (x : A) (items : List B) → slice_get xs i ≡ Some x → items ≡ map f (take i xs) → items ++ f x ∷ [] ≡ map f (take (i + 1) xs)
+pub mapped_more : {A B : Type 0} (f : A → B) (xs : List A) (i : ℕ) (x : A) (items : List B) → slice_get xs i ≡ Some x → items ≡ map f (take i xs)
+    → items ++ f x ∷ [] ≡ map f (take (i + 1) xs)
 mapped_more f xs i x items h e = ap (λ l. l ++ f x ∷ []) e ∙ sym (ap (map f) (take_get xs i x h) ∙ map_push f (take i xs) x)
 
-pub any_more : {A : Type 0} (p : A → Bool) (xs : List A) (i : ℕ) (x : A) → slice_get xs i ≡ Some x → list_any p (take i xs) ≡ false → p x ≡ false → list_any p (take (i + 1) xs) ≡ false
+pub any_more : {A : Type 0} (p : A → Bool) (xs : List A) (i : ℕ) (x : A) → slice_get xs i ≡ Some x → list_any p (take i xs) ≡ false → p x ≡ false
+    → list_any p (take (i + 1) xs) ≡ false
 any_more p xs i x h e q =
     ap (list_any p) (take_get xs i x h) ∙ list_any-append p (take i xs) (x ∷ []) ∙ ap (λ b. b || (p x || false)) e ∙ ap (λ b. b || false) q
 

@@ -1,23 +1,9 @@
 -- The greatest ranks that a table keeps of its nodes.
-use Rattle.std.specs.Prelude.{◌≡◌, ℕ, ◌==◌, ◌≤◌, ◌&&◌, ◌||◌, not, nat_lt, List, Bool, length, slice_index_or, if◌then◌else◌}
+use Rattle.std.specs.Prelude.{◌≡◌, ℕ, ◌==◌, ◌&&◌, ◌||◌, not, nat_lt, List, Bool, length, slice_index_or}
 use Rattle.std.specs.List.{list_any}
-use Rattle.pg_conflicts.specs.declared.best.Best.{Best}
+use Rattle.pg_trace.specs.declared.best.Best.{Best}
 use Rattle.pg_conflicts.specs.declared.pass.Touch.{Touch}
-
--- ---- of one node
-
--- the greatest rank of a thread other than u
-abbrev pub other : Best → ℕ → ℕ
-other b u = if b.thread.0 == u then b.second else b.first
-
--- the second isn't greater than the first
-abbrev pub IsBest : Best → Type 0
-IsBest b = b.second ≤ b.first
-
-abbrev pub no_best : Best
-no_best = record { first = 0; thread = record { 0 = 0 }; second = 0 }
-
--- ---- of the nodes of a table
+use Rattle.pg_trace.specs.Best.{IsBest, no_best, other}
 
 abbrev pub best_at : List Best → ℕ → Best
 best_at table v = slice_index_or table v no_best

@@ -1,7 +1,7 @@
 -- What the tables of a pass keep: one of the nodes that span the touches' places, one of those over their first places.
 use Rattle.std.specs.Prelude.{◌≡◌, ℕ, ◌+◌, ◌*◌, ◌^◌, ◌≤◌, ◌&&◌, ◌||◌, nat_lt, List, [], Bool, if◌then◌else◌}
 use Rattle.std.specs.List.{list_any}
-use Rattle.pg_conflicts.specs.declared.best.Best.{Best}
+use Rattle.pg_trace.specs.declared.best.Best.{Best}
 use Rattle.pg_conflicts.specs.declared.pass.Touch.{Touch}
 use Rattle.pg_conflicts.specs.declared.tree.Tree.{Tree}
 use Rattle.pg_conflicts.specs.Nodes.{path, span}

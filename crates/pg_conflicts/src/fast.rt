@@ -1,3 +1,5 @@
+//! Which prints conflict, by trees of ranks.
+
 ghost use Rattle.std.specs.Prelude.{◌≡◌, ◌≤◌, ◌||◌, [], All, IfOk, OnOk, false, length, map, replicate};
 ghost use Rattle.pg_conflicts.specs.Joined.{or_each};
 ghost use Rattle.pg_conflicts.specs.Meets.{InOrder, is_met};

@@ -1,3 +1,5 @@
+//! Footprints: ranges of bytes that steps may access.
+
 ghost use Rattle.std.specs.Prelude.{◌≡◌, ◌<◌, Some, length, slice_get};
 
 use pg_ir::ThreadNo;

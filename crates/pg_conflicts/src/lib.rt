@@ -1,7 +1,6 @@
 //! Which of the byte ranges that steps may access conflict with one of another thread in an overlapping interval.
 #![tactic(auto)]
 
-mod best;
 mod fast;
 mod footprint;
 pub mod laws;

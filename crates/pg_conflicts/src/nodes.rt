@@ -1,9 +1,11 @@
+//! The nodes of a tree that a touch meets.
+
 ghost use Rattle.std.specs.Prelude.{◌≡◌, ◌<◌, ◌≤◌, ◌∷◌, [], length};
 ghost use Rattle.pg_conflicts.specs.Nodes.{ends, only_if, path, span};
 ghost use Rattle.pg_conflicts.specs.Ranks.{AreBest, Noted, any_above, has_above};
 
-use crate::best::Best;
 use crate::pass::Touch;
+use pg_trace::Best;
 
 /// Notes the touch's rank at a node.
 fn note_at(table: &mut [Best], node: usize, touch: &Touch)

@@ -1,3 +1,5 @@
+//! Which prints conflict, pair by pair.
+
 ghost use Rattle.std.specs.Prelude.{◌≡◌, IfOk, map};
 ghost use Rattle.pg_conflicts.specs.Meets as meets;
 

@@ -1,3 +1,5 @@
+//! One pass over all prints, in one direction.
+
 ghost use Rattle.std.specs.Prelude.{◌≡◌, map, IfOk};
 ghost use Rattle.pg_conflicts.specs.Passes.{touch_of};
 

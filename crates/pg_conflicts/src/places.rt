@@ -1,3 +1,5 @@
+//! Prints with their places among the first bytes of all.
+
 ghost use Rattle.std.specs.Prelude.{◌≡◌, ◌+◌, All, Contains, IfOk, map};
 ghost use Rattle.std.specs.List.Sorted.{IsNonDecreasing, IsPermutation};
 ghost use Rattle.pg_conflicts.specs.Places.{ArePlaced, IsPlace, IsPlaced, print_of, start_of};

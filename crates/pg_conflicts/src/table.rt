@@ -1,14 +1,17 @@
+//! The ranks of a tree's nodes.
+
 ghost use Rattle.std.specs.Prelude.{◌≡◌, ◌*◌, ◌<◌, [], All, IfOk, Some, false, length, replicate, slice_get};
 ghost use Rattle.std.specs.List.{list_any};
 ghost use Rattle.pg_conflicts.specs.declared.pass.Touch.{Touch as ATouch};
 ghost use Rattle.pg_conflicts.specs.Passes.{answers, before_by};
-ghost use Rattle.pg_conflicts.specs.Ranks.{AreBest, Noted, no_best};
+ghost use Rattle.pg_conflicts.specs.Ranks.{AreBest, Noted};
 ghost use Rattle.pg_conflicts.specs.Tables.{IsTree, IsWithin, is_answered, spanned, started};
+ghost use Rattle.pg_trace.specs.Best.{no_best};
 
-use crate::best::Best;
 use crate::nodes::{note_path, note_span, path_above, span_above};
 use crate::pass::Touch;
 use crate::tree::Tree;
+use pg_trace::Best;
 use std::alloc::{AllocError, Global};
 
 /// A table of so many nodes without a rank.

@@ -1,3 +1,5 @@
+//! Full binary trees over places.
+
 ghost use Rattle.std.specs.Prelude.{◌≡◌, ◌≤◌, IfOk};
 ghost use Rattle.pg_conflicts.specs.Tables.{IsTree};
 

@@ -2,6 +2,8 @@
 #![tactic(auto)]
 
 #[cfg(test)]
+mod kind;
+#[cfg(test)]
 mod made;
 #[cfg(test)]
 mod rows;

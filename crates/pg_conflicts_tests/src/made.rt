@@ -3,6 +3,7 @@
 ghost use Rattle.std.specs.Prelude.{◌≡◌, ◌<◌, ◌≤◌, IfOk};
 ghost use Rattle.pg_conflicts.specs.Meets.{InOrder};
 
+use crate::kind::Kind;
 use pg_conflicts::{Footprint, conflicts, conflicts_by_pairs};
 use pg_ir::ThreadNo;
 use std::alloc::{AllocError, Global};
@@ -23,21 +24,8 @@ fn below(state: u64, bound: u64) -> u64
     (state >> 20) % bound
 }
 
-/// How prints are made: of how many threads, among how many bytes, and how long they and their intervals are.
-#[derive(Clone, Copy)]
-struct Kind {
-    threads: u64,
-    bytes: u64,
-    length: u64,
-    turns: u64,
-}
-
 /// A print whose last turn is this one.
 fn made(kind: Kind, low: u32, state: u64) -> Footprint
-    requires threads { 0 < kind.threads }
-    requires bytes { 0 < kind.bytes }
-    requires length { 0 < kind.length }
-    requires turns { 0 < kind.turns }
     ensures low { result.low ≡ low }
     ensures high { low ≤ result.high }
 {
@@ -59,10 +47,6 @@ fn made(kind: Kind, low: u32, state: u64) -> Footprint
 
 /// So many prints in order.
 fn prints(alloc: Global, kind: Kind, count: u32) -> Result<Vec<Footprint>, AllocError>
-    requires threads { 0 < kind.threads }
-    requires bytes { 0 < kind.bytes }
-    requires length { 0 < kind.length }
-    requires turns { 0 < kind.turns }
     ensures { IfOk result (λ v. InOrder v.items) }
 {
     let mut prints = Vec::new(alloc);
@@ -76,10 +60,6 @@ fn prints(alloc: Global, kind: Kind, count: u32) -> Result<Vec<Footprint>, Alloc
 
 /// So many prints in order, eight at a turn, of which three at most are different.
 fn repeated(alloc: Global, kind: Kind, count: u32) -> Result<Vec<Footprint>, AllocError>
-    requires threads { 0 < kind.threads }
-    requires bytes { 0 < kind.bytes }
-    requires length { 0 < kind.length }
-    requires turns { 0 < kind.turns }
     ensures { IfOk result (λ v. InOrder v.items) }
 {
     let mut prints = Vec::new(alloc);

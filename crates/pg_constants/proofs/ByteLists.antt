@@ -1,12 +1,14 @@
 -- Bytes of numbers, and bytes without the zeros at the end.
-use Rattle.std.proofs.Common.{◌≡◌, ℕ, zero, suc, ◌+◌, ◌-◌, ◌/◌, ◌%◌, ◌<◌, ◌≤◌, Bool, true, false, cond, List, [], ◌∷◌, ◌++◌, length, take, replicate, get_or, refl, sym, ap, ◌∙◌, arith}
+use Rattle.std.proofs.Common.{◌≡◌, ℕ, zero, suc, ◌+◌, ◌-◌, ◌/◌, ◌%◌, ◌<◌, ◌≤◌, Bool, true, false, cond, List, [], ◌∷◌, ◌++◌, length, take}
+use Rattle.std.proofs.Common.{replicate, get_or, refl, sym, ap, ◌∙◌, arith}
 use Rattle.std.specs.Prelude.{◌==◌, if◌then◌else◌}
 use Rattle.std.proofs.lemmas.List.{append_assoc, append-nil}
 use Rattle.std.proofs.lemmas.Bool.Decides.{nat_tests}
 use Rattle.pg_rules.specs.Constants.{little_endian, trimmed, unless_zero}
 
 -- one byte of a number more
-pub byte_step : (front : List ℕ) (count i n byte : ℕ) → i < count → byte ≡ n % 256 → (front ++ byte ∷ []) ++ little_endian (count - (i + 1)) (n / 256) ≡ front ++ little_endian (count - i) n
+pub byte_step : (front : List ℕ) (count i n byte : ℕ) → i < count → byte ≡ n % 256
+    → (front ++ byte ∷ []) ++ little_endian (count - (i + 1)) (n / 256) ≡ front ++ little_endian (count - i) n
 byte_step front count i n byte l e =
     let s : count - i ≡ suc (count - (i + 1)) = omega (arith, l) in
     append_assoc front (byte ∷ []) (little_endian (count - (i + 1)) (n / 256))

@@ -1,22 +1,20 @@
 -- The bytes of constants, a layer at a time.
-use Rattle.std.proofs.Common.{◌≡◌, ℕ, zero, suc, ◌+◌, ◌-◌, ◌<◌, ◌≤◌, List, [], ◌∷◌, ◌++◌, length, map, drop, replicate, get_or, slice_get, Some, None, refl, sym, ap, ◌∙◌, arith, length-append, Vec, Global}
+use Rattle.std.proofs.Common.{◌≡◌, ℕ, zero, suc, ◌+◌, ◌-◌, ◌<◌, ◌≤◌, List, [], ◌∷◌, ◌++◌, length, map, drop, replicate, get_or, slice_get, Some, None}
+use Rattle.std.proofs.Common.{refl, sym, ap, ◌∙◌, arith, length-append, Vec, Global}
 use Rattle.std.proofs.lemmas.List.{append_assoc, append-nil}
 use Rattle.pg_lex.specs.declared.token.Span.{Span}
 use Rattle.pg_ast.specs.declared.values.TypedConst.{TypedConst}
-use Rattle.pg_ast.specs.declared.values.ValNode.{ValNode}
-use Rattle.pg_ast.specs.declared.values.ConstNode.{ConstNode, roll-ConstNode}
+use Rattle.pg_ast.specs.declared.values.ConstNode.{ConstNode}
 use Rattle.pg_ast.specs.declared.values.ConstNode.TheViews as node
-use Rattle.pg_ast.specs.declared.values.ConstNode as plain
-use Rattle.pg_ast.specs.declared.values.ConstNode.TheOpen as opened
-use Rattle.pg_ast.specs.declared.values.ConstNode.TheFolds.{fold-roll-ConstNode}
-use Rattle.pg_ast.specs.Syntax.{Val, Const, ValConst, ArrayConst, StructConst, Consts, NoConsts, TypedC, consts, Tree}
-use Rattle.pg_ast.specs.Views.{val_of, const_of, typed_const_of, const_step, typed_const_step}
+use Rattle.pg_ast.specs.Syntax.{Val, ArrayConst, Consts, NoConsts, consts, Tree}
+use Rattle.pg_ast.specs.Views.{const_of, typed_const_of}
 use Rattle.pg_types.specs.Kinds.{kind_of}
 use Rattle.pg_types.specs.Layout.{size_of, alignment_of, round_up, field_list}
 use Rattle.pg_types.specs.Resolved.{ResolvedType, IntegerType, PointerType, VoidType, ArrayType, NoFields, MoreFields}
 use Rattle.pg_rules.specs.ValueConditions.{element_of}
 use Rattle.pg_rules.specs.Constants.{value_bytes, const_bytes, element_bytes, field_bytes, filled}
 use Rattle.pg_types.specs.Table.{type_at}
+use Rattle.pg_rules.proofs.ConstantViews.{array_view, struct_view}
 use Rattle.pg_constants.specs.Initialisers.{kind_bytes, elements_at}
 
 pub bytes_of_kind : (m : Tree) (t : ResolvedType) (v : Val) → kind_bytes m (kind_of t) (size_of t) v ≡ value_bytes m t v
@@ -28,18 +26,6 @@ bytes_of_kind m NoFields v = refl
 bytes_of_kind m (MoreFields s t) v = refl
 
 -- ---- constants a layer at a time
-
-pub val_view : (v : ValNode) → const_of (plain.Val v) ≡ ValConst (val_of v)
-unfolding roll-ConstNode denote.Hole.Carrier.roll
-val_view v = fold-roll-ConstNode Const TypedC const_step typed_const_step (opened.Val v)
-
-pub array_view : (s : Span) (v : Vec TypedConst Global) → const_of (node.Array s v) ≡ ArrayConst s (consts (map typed_const_of v.items))
-unfolding roll-ConstNode denote.Hole.Carrier.roll
-array_view s v = fold-roll-ConstNode Const TypedC const_step typed_const_step (opened.Array s v)
-
-pub struct_view : (s : Span) (v : Vec TypedConst Global) → const_of (node.Struct s v) ≡ StructConst s (consts (map typed_const_of v.items))
-unfolding roll-ConstNode denote.Hole.Carrier.roll
-struct_view s v = fold-roll-ConstNode Const TypedC const_step typed_const_step (opened.Struct s v)
 
 -- ---- parts in a row
 
@@ -93,14 +79,16 @@ no_array m t n s v front e h =
 
 -- one element more
 pub element_step : (m : Tree) (t : ResolvedType) (front : List ℕ) (ps : List TypedConst) (k : ℕ) (p d : TypedConst) → k < length ps → p ≡ get_or ps k d
-    → (front ++ const_bytes m t (typed_const_of p).value) ++ element_bytes m t (consts (map typed_const_of (drop (k + 1) ps))) ≡ front ++ element_bytes m t (consts (map typed_const_of (drop k ps)))
+    → (front ++ const_bytes m t (typed_const_of p).value) ++ element_bytes m t (consts (map typed_const_of (drop (k + 1) ps))) ≡ front
+    ++ element_bytes m t (consts (map typed_const_of (drop k ps)))
 unfolding element_bytes
 element_step m t front ps k p d l e =
     append_assoc front (const_bytes m t (typed_const_of p).value) (element_bytes m t (consts (map typed_const_of (drop (k + 1) ps))))
     ∙ ap (λ xs. front ++ element_bytes m t (consts (map typed_const_of xs))) (sym (drop_next ps k p d l e))
 
 -- no element left
-pub elements_end : (m : Tree) (t : ResolvedType) (front : List ℕ) (ps : List TypedConst) (k : ℕ) → length ps ≤ k → front ≡ front ++ element_bytes m t (consts (map typed_const_of (drop k ps)))
+pub elements_end : (m : Tree) (t : ResolvedType) (front : List ℕ) (ps : List TypedConst) (k : ℕ) → length ps ≤ k
+    → front ≡ front ++ element_bytes m t (consts (map typed_const_of (drop k ps)))
 unfolding element_bytes
 elements_end m t front ps k l = sym (append-nil front) ∙ ap (λ xs. front ++ element_bytes m t (consts (map typed_const_of xs))) (sym (drop_end ps k l))
 

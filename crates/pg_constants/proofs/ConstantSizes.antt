@@ -17,7 +17,8 @@ use Rattle.pg_ast.proofs.Folded.{gep_view}
 use Rattle.pg_types.specs.Resolved.{ResolvedType}
 use Rattle.pg_types.specs.Layout.{alignment_of, round_up, size_of, field_list}
 use Rattle.pg_constants.specs.Sizes.{AllFit, TypeFits, ValFits, ConstFits, PartsFit}
-use Rattle.pg_constants.proofs.ConstantBytes.{val_view, array_view, struct_view, drop_next}
+use Rattle.pg_constants.proofs.ConstantBytes.{drop_next}
+use Rattle.pg_rules.proofs.ConstantViews.{val_view, array_view, struct_view}
 use Rattle.pg_types.proofs.Alignments.{end_from, end_is, end_behind}
 use Rattle.pg_constants.proofs.Sizes.{own_end, own_fields, all_left}
 

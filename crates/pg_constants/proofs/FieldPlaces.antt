@@ -1,5 +1,6 @@
 -- The fields of a structure by their places.
-use Rattle.std.proofs.Common.{◌≡◌, ℕ, zero, suc, ◌+◌, ◌<◌, List, [], ◌∷◌, length, map, drop, get_or, slice_get, unwrap_or, Option, Some, None, IfSome, refl, sym, ap, ◌∙◌, arith}
+use Rattle.std.proofs.Common.{◌≡◌, ℕ, zero, suc, ◌+◌, ◌<◌, List, [], ◌∷◌, length, map, drop, get_or, slice_get, unwrap_or, Option, Some, None, IfSome, refl, sym, ap}
+use Rattle.std.proofs.Common.{◌∙◌, arith}
 use Rattle.std.proofs.lemmas.Option.{slice_get_within}
 use Rattle.pg_types.specs.Resolved.{ResolvedType, VoidType}
 use Rattle.pg_types.specs.Layout.{field_list}
@@ -31,7 +32,8 @@ type_found table (g ∷ fs) (u ∷ ts) (suc k) f e s =
     }
 
 -- the field at a place, if there is one
-pub field_found : (table : List ResolvedType) (t : ResolvedType) (fs : List Field) (k : ℕ) (o : Option Field) → AreFields table t fs → o ≡ slice_get fs k → IfSome o (IsFieldAt table (field_list t) k)
+pub field_found : (table : List ResolvedType) (t : ResolvedType) (fs : List Field) (k : ℕ) (o : Option Field) → AreFields table t fs → o ≡ slice_get fs k
+    → IfSome o (IsFieldAt table (field_list t) k)
 field_found table t fs k None a s = tt
 field_found table t fs k (Some f) a s = type_found table fs (field_list t) k f a.types (sym s)
 

@@ -21,7 +21,8 @@ global_there [] k g d l e = absurd (omega (arith, l))
 global_there (h ∷ gs) zero g d l e = ap (λ x. Some (global_of x)) (sym e)
 global_there (h ∷ gs) (suc k) g d l e = global_there gs k g d (omega (arith, l)) e
 
-pub one_fits : (types : List NamedType) (gs : List GlobalItem) (k : ℕ) (g d : GlobalItem) → GlobalsFit types (map global_of gs) → k < length gs → g ≡ get_or gs k d → GlobalFits types (global_of g)
+pub one_fits : (types : List NamedType) (gs : List GlobalItem) (k : ℕ) (g d : GlobalItem) → GlobalsFit types (map global_of gs) → k < length gs → g ≡ get_or gs k d
+    → GlobalFits types (global_of g)
 one_fits types gs k g d h l e = h.each k (global_of g) (global_there gs k g d l e)
 
 pub size_small : (types : List NamedType) (v : Variable) → GlobalFits types v → size_in types v ≤ SIZE_LIMIT

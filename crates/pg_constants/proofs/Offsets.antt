@@ -1,5 +1,6 @@
 -- Offsets modulo 2 ^ 21.
-use Rattle.std.proofs.Common.{◌≡◌, ℕ, zero, suc, ◌+◌, ◌-◌, ◌*◌, ◌%◌, ◌^◌, ◌<◌, ◌≤◌, List, [], ◌∷◌, length, drop, get_or, Option, ℤ, pos, negsuc, ◌+ℤ◌, unsigned_abs, refl, sym, ap, ◌∙◌, arith}
+use Rattle.std.proofs.Common.{◌≡◌, ℕ, zero, suc, ◌+◌, ◌-◌, ◌*◌, ◌%◌, ◌^◌, ◌<◌, ◌≤◌, List, [], ◌∷◌, length, drop, get_or, Option, ℤ, pos, negsuc}
+use Rattle.std.proofs.Common.{◌+ℤ◌, unsigned_abs, refl, sym, ap, ◌∙◌, arith}
 use Rattle.std.specs.Int.{int_rem_euclid}
 use Rattle.std.proofs.lemmas.Int.{int_rem_euclid_is, ints}
 use Rattle.std.proofs.Math.IntN.{+ℤ_assoc, +ℤ_comm, +ℤ_idr}
@@ -27,7 +28,8 @@ sum_again m n = omega arith
 offset_again : (a d : ℤ) → offset_of (a +ℤ d) ≡ offset_of (a +ℤ pos (offset_of d))
 offset_again a d = by (above a) (above d)
   where
-    by : (k : ℕ) × (m : ℕ) × (a +ℤ pos (k * 2 ^ 21) ≡ pos m) → (k : ℕ) × (m : ℕ) × (d +ℤ pos (k * 2 ^ 21) ≡ pos m) → offset_of (a +ℤ d) ≡ offset_of (a +ℤ pos (offset_of d))
+    by : (k : ℕ) × (m : ℕ) × (a +ℤ pos (k * 2 ^ 21) ≡ pos m) → (k : ℕ) × (m : ℕ) × (d +ℤ pos (k * 2 ^ 21) ≡ pos m)
+        → offset_of (a +ℤ d) ≡ offset_of (a +ℤ pos (offset_of d))
     by (j, m, e) (k, n, f) =
         offset_from (a +ℤ d) (j + k) (m + n) (omega (arith, ints, e, f))
         ∙ sum_again m n

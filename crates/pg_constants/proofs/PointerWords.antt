@@ -1,5 +1,6 @@
 -- The words of pointers to globals.
-use Rattle.std.proofs.Common.{◌≡◌, ℕ, zero, suc, ◌+◌, ◌<◌, ◌≤◌, List, [], ◌∷◌, ◌++◌, length, map, take, drop, get_or, slice_get, sum_by, unwrap_or, Option, Some, None, refl, sym, ap, ◌∙◌, arith}
+use Rattle.std.proofs.Common.{◌≡◌, ℕ, zero, suc, ◌+◌, ◌<◌, ◌≤◌, List, [], ◌∷◌, ◌++◌, length, map, take, drop, get_or, slice_get, sum_by, unwrap_or, Option}
+use Rattle.std.proofs.Common.{Some, None, refl, sym, ap, ◌∙◌, arith}
 use Rattle.std.specs.Option.{option_map}
 use Rattle.std.specs.List.{find, enumerate_from}
 use Rattle.std.specs.Str.{bytes_eq}
@@ -59,7 +60,8 @@ variable_of d s = d
 variable_at : (m : Tree) (text : List ℕ) (i : ℕ) (v : Variable) → symbol m text ≡ VariableOf i v → slice_get m.globals i ≡ Some v
 unfolding symbol
 variable_at m text i v e =
-    by (find (λ (g : ℕ × Variable). bytes_eq g.1.name.text text) (enumerate_from 0 m.globals)) (find (λ (d : ℕ × Definition). bytes_eq d.1.name.text text) (enumerate_from 0 m.functions)) (find (λ (d : Declaration). bytes_eq d.name.text text) m.declares) (found_is variable_text text m.globals) e
+    by (find (λ (g : ℕ × Variable). bytes_eq g.1.name.text text) (enumerate_from 0 m.globals)) (find (λ (d : ℕ × Definition). bytes_eq d.1.name.text text) (enumerate_from 0 m.functions))
+    (find (λ (d : Declaration). bytes_eq d.name.text text) m.declares) (found_is variable_text text m.globals) e
   where
     by : (o : Option (ℕ × Variable)) (p : Option (ℕ × Definition)) (q : Option Declaration) → o ≡ placed m.globals (first_place (map variable_text m.globals) text)
         → variable_as o (defined_as p (declared_as q)) ≡ VariableOf i v → slice_get m.globals i ≡ Some v
@@ -69,7 +71,8 @@ variable_at m text i v e =
     by None None None f e = cc
 
 -- the word of a variable by its number
-pub word_found : (m : Tree) (text : List ℕ) (i : ℕ) (v : Variable) → symbol m text ≡ VariableOf i v → unwrap_or (slice_get (words_from m.types 1 m.globals) i) 0 ≡ symbol_word m (VariableOf i v)
+pub word_found : (m : Tree) (text : List ℕ) (i : ℕ) (v : Variable) → symbol m text ≡ VariableOf i v
+    → unwrap_or (slice_get (words_from m.types 1 m.globals) i) 0 ≡ symbol_word m (VariableOf i v)
 unfolding start_granule
 word_found m text i v e = ap (λ o. unwrap_or o 0) (word_in m.types 1 m.globals i v (variable_at m text i v e))
 

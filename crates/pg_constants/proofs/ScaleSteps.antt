@@ -1,5 +1,6 @@
 -- How indices move within a type, one after the other.
-use Rattle.std.proofs.Common.{◌≡◌, ℕ, zero, suc, ◌+◌, ◌<◌, ◌≤◌, List, [], ◌∷◌, ◌++◌, length, map, drop, get_or, slice_get, unwrap_or, Option, Some, None, ℤ, pos, negsuc, ◌+ℤ◌, refl, sym, ap, ◌∙◌, arith}
+use Rattle.std.proofs.Common.{◌≡◌, ℕ, zero, suc, ◌+◌, ◌<◌, ◌≤◌, List, [], ◌∷◌, ◌++◌, length, map, drop, get_or, slice_get, unwrap_or, Option, Some, None, ℤ}
+use Rattle.std.proofs.Common.{pos, negsuc, ◌+ℤ◌, refl, sym, ap, ◌∙◌, arith}
 use Rattle.std.specs.Option.{option_map}
 use Rattle.std.proofs.lemmas.Option.{slice_get-map, slice_get_within}
 use Rattle.std.proofs.lemmas.List.{append_assoc, append-nil}
@@ -20,7 +21,8 @@ use Rattle.pg_constants.specs.Indices.{scale_within, type_within, scales_within,
 
 -- ---- the field that an index chooses
 
-chosen_type : (table : List ResolvedType) (a : Option field.Field) (b : Option ResolvedType) → option_map (field_type table) a ≡ option_map (λ u. Some u) b → (denoted table (number_or_none a) ≡ b) × IsWithin table (number_or_none a)
+chosen_type : (table : List ResolvedType) (a : Option field.Field) (b : Option ResolvedType) → option_map (field_type table) a ≡ option_map (λ u. Some u) b
+    → (denoted table (number_or_none a) ≡ b) × IsWithin table (number_or_none a)
 chosen_type table None None e = (refl, tt)
 chosen_type table None (Some u) e = cc
 chosen_type table (Some f) None e = cc
@@ -40,7 +42,8 @@ field_is table t fields (Some (pos k)) a =
     chosen_type table (slice_get fields k) (slice_get (field_list t) k)
     (sym (slice_get-map (field_type table) fields k) ∙ ap (λ xs. slice_get xs k) a.types ∙ slice_get-map (λ u. Some u) (field_list t) k)
 
-pub field_offset_is : (table : List ResolvedType) (t : ResolvedType) (fields : List field.Field) (i : Option ℤ) → AreFields table t fields → offset_or_none (field_chosen fields i) ≡ offset_at t i
+pub field_offset_is : (table : List ResolvedType) (t : ResolvedType) (fields : List field.Field) (i : Option ℤ) → AreFields table t fields
+    → offset_or_none (field_chosen fields i) ≡ offset_at t i
 field_offset_is table t fields None a = refl
 field_offset_is table t fields (Some (negsuc k)) a = refl
 field_offset_is table t fields (Some (pos k)) a =
@@ -83,7 +86,8 @@ scales_written types (Some PointerType) (i ∷ is) = ap (λ ss. Times 0 ∷ ss) 
 scales_written types (Some VoidType) (i ∷ is) = ap (λ ss. Times 0 ∷ ss) (scales_written types None is)
 scales_written types (Some (ArrayType n e)) (i ∷ is) = ap (λ ss. scale_within (Some (ArrayType n e)) (index_number types i) ∷ ss) (scales_written types (Some e) is)
 scales_written types (Some NoFields) (i ∷ is) = ap (λ ss. Times 0 ∷ ss) (scales_written types None is)
-scales_written types (Some (MoreFields s t)) (i ∷ is) = ap (λ ss. scale_within (Some (MoreFields s t)) (index_number types i) ∷ ss) (scales_written types (field_at (MoreFields s t) (index_number types i)) is)
+scales_written types (Some (MoreFields s t)) (i ∷ is) = ap (λ ss. scale_within (Some (MoreFields s t)) (index_number types i) ∷ ss)
+    (scales_written types (field_at (MoreFields s t) (index_number types i)) is)
 
 pub index_scales_are : (types : List NamedType) (t : Ty) (is : List Typed) → scales_of (resolved types t) (map (index_number types) is) ≡ index_scales types t is
 index_scales_are types t [] = refl

@@ -1,5 +1,6 @@
 -- Types that keep within the limit of sizes, and what they are made of.
-use Rattle.std.proofs.Common.{◌≡◌, ℕ, zero, suc, ◌<◌, ◌≤◌, List, [], ◌∷◌, ◌++◌, length, drop, slice_get, Option, Some, None, IfSome, ℤ, pos, negsuc, sym, ap, subst, arith}
+use Rattle.std.proofs.Common.{◌≡◌, ℕ, zero, suc, ◌<◌, ◌≤◌, List, [], ◌∷◌, ◌++◌, length, drop, slice_get, Option, Some, None, IfSome, ℤ, pos, negsuc, sym, ap}
+use Rattle.std.proofs.Common.{subst, arith}
 use Rattle.std.specs.List.{AllByRecursion}
 use Rattle.pg_num.specs.declared.limits.TheConstants.{SIZE_LIMIT}
 use Rattle.pg_num.specs.declared.width.Width.{Width}
@@ -135,5 +136,6 @@ front_fits t s u e h = omega (arith, front_end s u, ap fields_end e, h)
 pub written_fits : (o p : Option ResolvedType) → o ≡ p → IfSome p AllFit → IfSome o AllFit
 written_fits o p e h = subst (λ q. IfSome q AllFit) (sym e) h
 
-pub element_there : (table : List ResolvedType) (t : ResolvedType) (number : ℕ) → number < length table → slice_get table number ≡ element_of (Some t) → AllFit t → AllFit (type_at table number)
+pub element_there : (table : List ResolvedType) (t : ResolvedType) (number : ℕ) → number < length table → slice_get table number ≡ element_of (Some t) → AllFit t
+    → AllFit (type_at table number)
 element_there table t number l e h = at_number table number l (subst (λ q. IfSome q AllFit) (sym e) (element_fits t h))

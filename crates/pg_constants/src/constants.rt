@@ -13,9 +13,9 @@ ghost use Rattle.pg_constants.specs.Sizes.{TypeFits, ValFits};
 
 use crate::globals::{Globals, symbol_word};
 use crate::indices::{index_scales, moved_along};
-use pg_ast::{Literal, TypeNode, TypedVal, ValNode};
 use pg_rules::{constant_number, index_numbers, literal_at};
 use pg_types::{TypeKind, TypeNumbers};
+use pg_ast::{Literal, TypeNode, TypedVal, ValNode};
 use std::alloc::{AllocError, Global};
 
 /// A pointer's word that constant indices move.
@@ -52,7 +52,6 @@ fn integer_word(
 #[cycle(words)]
 #[tactic(auto, unfolding(pg_rules::specs::Constants::pointer_word))]
 pub(crate) fn pointer_word(
-    alloc: Global,
     globals: &Globals<'_>,
     types: &TypeNumbers<'_>,
     value: &ValNode,
@@ -64,8 +63,8 @@ pub(crate) fn pointer_word(
     match value {
         ValNode::Global(name) => Ok(symbol_word(globals, name.text.as_slice())),
         ValNode::GetElementPtr(_, ty, _, base, indices) => {
-            let word = pointer_word(alloc, globals, types, base)?;
-            moved_word(alloc, types, word, ty, indices.as_slice())
+            let word = pointer_word(globals, types, base)?;
+            moved_word(globals.alloc, types, word, ty, indices.as_slice())
         }
         ValNode::IntToPtr(_, ty, literal, _) => integer_word(types, ty, literal),
         _ => Ok(0),
@@ -74,7 +73,6 @@ pub(crate) fn pointer_word(
 
 /// The number of a constant by the kind of its type.
 pub fn kind_word(
-    alloc: Global,
     globals: &Globals<'_>,
     types: &TypeNumbers<'_>,
     kind: Option<TypeKind>,
@@ -86,7 +84,7 @@ pub fn kind_word(
 {
     match kind {
         Some(TypeKind::Integer(width)) => Ok(constant_number(width, value).unwrap_or(0)),
-        Some(TypeKind::Pointer) => pointer_word(alloc, globals, types, value),
+        Some(TypeKind::Pointer) => pointer_word(globals, types, value),
         _ => Ok(0),
     }
 }

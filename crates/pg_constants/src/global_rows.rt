@@ -18,14 +18,13 @@ use crate::bytes::trimmed_length;
 use crate::fields::size_or_none;
 use crate::globals::Globals;
 use crate::initialisers::add_const;
-use pg_ast::{ConstNode, GlobalItem};
-use pg_ir::{Bytes, GlobalInfo};
 use pg_types::{KnownTypes, TypeNumbers};
-use std::alloc::{AllocError, Global};
+use pg_ir::{Bytes, GlobalInfo};
+use pg_ast::{ConstNode, GlobalItem};
+use std::alloc::AllocError;
 
 /// The bytes of an initialiser of a type, which `known` knows by its number; none where the type isn't one.
 fn initial_bytes(
-    alloc: Global,
     globals: &Globals<'_>,
     known: &KnownTypes<'_>,
     types: &TypeNumbers<'_>,
@@ -38,10 +37,10 @@ fn initial_bytes(
     requires value { ConstFits (tree_of globals.now.symbols.tree.now).types (const_of value.now) }
     ensures bytes { IfOk result (λ v. v.items ≡ bytes_at (tree_of globals.now.symbols.tree.now) (denoted (table_of known.now) number) (const_of value.now)) }
 {
-    let mut bytes = Vec::new(alloc);
+    let mut bytes = Vec::new(globals.alloc);
     match number {
         Some(number) => {
-            add_const(alloc, globals, known, types, &mut bytes, number, value)?;
+            add_const(globals, known, types, &mut bytes, number, value)?;
             Ok(bytes)
         }
         None => Ok(bytes),
@@ -60,7 +59,6 @@ fn without_zeros(all: Vec<u8>) -> Vec<u8>
 
 /// A global that starts at a granule.
 fn info_from(
-    alloc: Global,
     globals: &Globals<'_>,
     types: &TypeNumbers<'_>,
     start: u32,
@@ -73,7 +71,7 @@ fn info_from(
     let mut known = KnownTypes::new(types);
     let number = known.number(&item.ty)?;
     let size = size_or_none(&known, number);
-    let bytes = initial_bytes(alloc, globals, &known, types, number, &item.value)?;
+    let bytes = initial_bytes(globals, &known, types, number, &item.value)?;
     Ok(GlobalInfo {
         start,
         size,
@@ -92,7 +90,6 @@ fn granule_behind(start: u32, size: u32) -> u32
 
 /// The globals of a program, where these are its variables.
 fn infos(
-    alloc: Global,
     globals: &Globals<'_>,
     types: &TypeNumbers<'_>,
     variables: &[GlobalItem],
@@ -103,10 +100,10 @@ fn infos(
     ensures rows { IfOk result (λ v. v.items ≡ map (λ (v : ℕ × Variable). global_at (tree_of globals.now.symbols.tree.now) v.0 v.1)
         (enumerate_from 0 (tree_of globals.now.symbols.tree.now).globals)) }
 {
-    let mut rows = Vec::new(alloc);
+    let mut rows = Vec::new(globals.alloc);
     let mut start = 1;
     for item in variables {
-        let row = info_from(alloc, globals, types, start, item)?;
+        let row = info_from(globals, types, start, item)?;
         start = granule_behind(start, row.size);
         rows.push(row)?;
     }
@@ -115,7 +112,6 @@ fn infos(
 
 /// The globals of a program in text order, whose types and constants keep within the limits of sizes.
 pub fn add_globals(
-    alloc: Global,
     globals: &Globals<'_>,
     types: &TypeNumbers<'_>,
 ) -> Result<Vec<GlobalInfo>, AllocError>
@@ -124,10 +120,5 @@ pub fn add_globals(
     ensures rows { IfOk result (λ v. v.items ≡ map (λ (v : ℕ × Variable). global_at (tree_of globals.now.symbols.tree.now) v.0 v.1)
         (enumerate_from 0 (tree_of globals.now.symbols.tree.now).globals)) }
 {
-    infos(
-        alloc,
-        globals,
-        types,
-        globals.symbols.tree.globals.as_slice(),
-    )
+    infos(globals, types, globals.symbols.tree.globals.as_slice())
 }

@@ -12,15 +12,17 @@ ghost use Rattle.pg_constants.specs.Words.{words_from};
 ghost use Rattle.pg_constants.specs.Sizes.{GlobalsFit};
 
 use crate::fields::size_or_none;
-use pg_ast::{GlobalItem, Module};
-use pg_num::{Pointer, pack};
 use pg_rules::{SymbolNode, Symbols, index_symbols, symbol};
 use pg_types::{KnownTypes, TypeNumbers};
+use pg_num::{Pointer, pack};
+use pg_ast::{GlobalItem, Module};
 use std::alloc::{AllocError, Global};
 
-/// The globals of a module: what its global names stand for, and the words of the pointers to its variables.
+/// The globals of a module: what its global names stand for, and the words of the pointers to its variables; and what
+/// allocates what is made of them.
 #[derive(Drop)]
 pub struct Globals<'a> {
+    pub alloc: Global,
     pub symbols: Symbols<'a>,
     words: Vec<u64>,
     ghost known: { words.items ≡ words_from (tree_of symbols.tree.now).types 1 (tree_of symbols.tree.now).globals },
@@ -82,7 +84,11 @@ pub fn index_globals<'a>(
 {
     let symbols = index_symbols(alloc, tree)?;
     let words = global_words(alloc, types, tree.globals.as_slice())?;
-    Ok(Globals { symbols, words })
+    Ok(Globals {
+        alloc,
+        symbols,
+        words,
+    })
 }
 
 fn word_or_zero(words: &[u64], place: usize) -> u64

@@ -17,10 +17,10 @@ ghost use Rattle.pg_constants.specs.Sizes.{AllFit, TypeFits};
 ghost use Rattle.pg_constants.specs.Indices.{scale_within, type_within, scales_within, scales_of, moves_of};
 
 use crate::fields::{Field, field_chosen, fields_of, size_of, size_or_none};
-use pg_ast::TypeNode;
+use pg_types::{KnownTypes, Shape, TypeNumbers};
 use pg_ir::Scale;
 use pg_num::move_by;
-use pg_types::{KnownTypes, Shape, TypeNumbers};
+use pg_ast::TypeNode;
 use std::alloc::{AllocError, Global};
 
 /// How an index moves a pointer, and the number of the type to which it goes.

@@ -18,14 +18,13 @@ use crate::bytes::{add_little_endian, add_zeros};
 use crate::constants::pointer_word;
 use crate::fields::{Field, fields_of, size_of};
 use crate::globals::Globals;
-use pg_ast::{ConstNode, TypedConst, ValNode};
 use pg_rules::constant_number;
 use pg_types::{KnownTypes, Shape, TypeKind, TypeNumbers, bytes_of, round_up};
-use std::alloc::{AllocError, Global};
+use pg_ast::{ConstNode, TypedConst, ValNode};
+use std::alloc::AllocError;
 
 /// Adds the bytes of a value of a kind of type, which has a size.
 fn add_of_kind(
-    alloc: Global,
     globals: &Globals<'_>,
     types: &TypeNumbers<'_>,
     bytes: &mut Vec<u8>,
@@ -44,7 +43,7 @@ fn add_of_kind(
             add_little_endian(bytes, bytes_of(width), number)
         }
         TypeKind::Pointer => {
-            let word = pointer_word(alloc, globals, types, value)?;
+            let word = pointer_word(globals, types, value)?;
             add_little_endian(bytes, 8, word)
         }
         _ => add_zeros(bytes, size),
@@ -54,7 +53,6 @@ fn add_of_kind(
 /// Adds the bytes of a value at a type, which `known` knows by its number.
 #[tactic(auto, using(crate::proofs::ConstantBytes::bytes_of_kind))]
 fn add_value(
-    alloc: Global,
     globals: &Globals<'_>,
     known: &KnownTypes<'_>,
     types: &TypeNumbers<'_>,
@@ -71,7 +69,7 @@ fn add_value(
 {
     let kind = known.kind_of_number(number);
     let size = size_of(known, number);
-    add_of_kind(alloc, globals, types, bytes, kind, size, value)
+    add_of_kind(globals, types, bytes, kind, size, value)
 }
 
 /// The number of the type of an array's elements; none of another type.
@@ -153,7 +151,6 @@ fn field_at(known: &KnownTypes<'_>, number: usize, fields: &[Field], place: usiz
 #[cycle(bytes)]
 #[tactic(auto, unfolding(pg_rules::specs::Constants::const_bytes))]
 pub(crate) fn add_const(
-    alloc: Global,
     globals: &Globals<'_>,
     known: &KnownTypes<'_>,
     types: &TypeNumbers<'_>,
@@ -169,34 +166,18 @@ pub(crate) fn add_const(
         ++ const_bytes (tree_of globals.now.symbols.tree.now) (type_at (table_of known.now) number) (const_of value.now)) }
 {
     match value {
-        ConstNode::Val(value) => add_value(alloc, globals, known, types, bytes, number, value),
+        ConstNode::Val(value) => add_value(globals, known, types, bytes, number, value),
         ConstNode::Bytes(literal) => add_written(bytes, literal.text.as_slice()),
         ConstNode::Array(_, parts) => match element_number(known, number) {
             Some(element) => {
-                add_elements(
-                    alloc,
-                    globals,
-                    known,
-                    types,
-                    bytes,
-                    element,
-                    parts.as_slice(),
-                )
+                add_elements(globals, known, types, bytes, element, parts.as_slice())
             }
             None => Ok(()),
         },
         ConstNode::Struct(_, parts) => {
             let size = size_of(known, number);
             let start = bytes.len();
-            add_fields(
-                alloc,
-                globals,
-                known,
-                types,
-                bytes,
-                number,
-                parts.as_slice(),
-            )?;
+            add_fields(globals, known, types, bytes, number, parts.as_slice())?;
             fill(bytes, start, size)
         }
     }
@@ -205,7 +186,6 @@ pub(crate) fn add_const(
 /// Adds the bytes of an element or a field at the type of that.
 #[cycle(bytes)]
 fn add_part(
-    alloc: Global,
     globals: &Globals<'_>,
     known: &KnownTypes<'_>,
     types: &TypeNumbers<'_>,
@@ -220,13 +200,12 @@ fn add_part(
     ensures bytes { OnOk result (bytes.new.items ≡ bytes.old.items
         ++ const_bytes (tree_of globals.now.symbols.tree.now) (type_at (table_of known.now) number) (typed_const_of part.now).value) }
 {
-    add_const(alloc, globals, known, types, bytes, number, &part.value)
+    add_const(globals, known, types, bytes, number, &part.value)
 }
 
 /// Adds the bytes of elements of a type.
 #[cycle(bytes)]
 fn add_elements(
-    alloc: Global,
     globals: &Globals<'_>,
     known: &KnownTypes<'_>,
     types: &TypeNumbers<'_>,
@@ -242,7 +221,7 @@ fn add_elements(
         ++ element_bytes (tree_of globals.now.symbols.tree.now) (type_at (table_of known.now) element) (consts (map typed_const_of parts.now))) }
 {
     for part in parts {
-        add_part(alloc, globals, known, types, bytes, element, part)?;
+        add_part(globals, known, types, bytes, element, part)?;
     }
     Ok(())
 }
@@ -250,7 +229,6 @@ fn add_elements(
 /// Adds the bytes of the fields of a structure, from its first byte on; none of another type.
 #[cycle(bytes)]
 fn add_fields(
-    alloc: Global,
     globals: &Globals<'_>,
     known: &KnownTypes<'_>,
     types: &TypeNumbers<'_>,
@@ -265,13 +243,13 @@ fn add_fields(
     ensures bytes { OnOk result (bytes.new.items ≡ bytes.old.items
         ++ field_bytes (tree_of globals.now.symbols.tree.now) 0 (field_list (type_at (table_of known.now) number)) (consts (map typed_const_of parts.now))) }
 {
-    let fields = fields_of(alloc, known, number)?;
+    let fields = fields_of(globals.alloc, known, number)?;
     let mut at = 0;
     for (place, part) in parts.iter().enumerate() {
         match field_at(known, number, fields.as_slice(), place) {
             Some(field) => {
                 at = add_padding(known, bytes, at, field.number)?;
-                add_part(alloc, globals, known, types, bytes, field.number, part)?;
+                add_part(globals, known, types, bytes, field.number, part)?;
             }
             None => return Ok(()),
         }

@@ -1,3 +1,5 @@
+//! Sets of numbers below a bound.
+
 ghost use Rattle.std.specs.Prelude.{◌≡◌, ◌==◌, ◌||◌, ◌<◌, ◌+◌, ℕ, length, false, true, replicate, IfOk};
 ghost use Rattle.pg_closed.specs.Sets.{one_of};
 ghost use Rattle.pg_decisions.specs.Marks.{in_set, left_in, members_from};

@@ -1,3 +1,5 @@
+//! The decisions that are taken, as sets of steps.
+
 use crate::marks::{contains, members, none, of, put};
 use pg_closed::{Decision, Decisions};
 use std::alloc::{AllocError, Global};

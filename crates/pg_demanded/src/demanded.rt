@@ -1,4 +1,7 @@
-ghost use Rattle.std.specs.Prelude.{◌≡◌, ◌<◌, ◌≤◌, ◌+◌, ◌⊎◌, ◌||◌, ℕ, Bool, true, false, Option, Some, None, OnOk, OnErr, IfSome, IfNone, unwrap_or, nat_eq, ◌==◌, if◌then◌else◌};
+//! What has to be known of the registers and bytes, going back over a run.
+
+ghost use Rattle.std.specs.Prelude.{◌≡◌, ◌<◌, ◌≤◌, ◌+◌, ◌⊎◌, ◌||◌, ℕ, Bool, true, false, Option, Some, None, OnOk, OnErr, IfSome, IfNone, unwrap_or, nat_eq};
+ghost use Rattle.std.specs.Prelude.{◌==◌, if◌then◌else◌};
 ghost use Rattle.std.specs.Ordering.{nat_cmp};
 ghost use Rattle.std.specs.BTreeMap.{get, btree_map_len};
 ghost use Rattle.pg_demanded.specs.Asked.{asked_of, asks_byte, IsAskedAlike};

@@ -1,3 +1,5 @@
+//! The places of calls and registers on a line.
+
 ghost use Rattle.std.specs.Prelude.{◌≡◌, ◌<◌, ◌+◌, ◌&&◌, nat_lt, Some, None, if◌then◌else◌};
 ghost use Rattle.pg_demanded.specs.Places as places;
 

@@ -1,5 +1,6 @@
 -- One step back over a live step of a run: from what is known after it to what is known before.
-use Rattle.std.proofs.Common.{◌≡◌, ℕ, zero, suc, ◌<◌, ◌≤◌, ◌==◌, Bool, true, false, List, [], ◌∷◌, length, Option, Some, None, refl, sym, ap, ◌∙◌, subst, inl, inr, ◌⊎◌, arith, ltb-true}
+use Rattle.std.proofs.Common.{◌≡◌, ℕ, zero, suc, ◌<◌, ◌≤◌, ◌==◌, Bool, true, false, List, [], ◌∷◌, length, Option, Some, None, refl, sym, ap, ◌∙◌, subst}
+use Rattle.std.proofs.Common.{inl, inr, ◌⊎◌, arith, ltb-true}
 use Rattle.std.specs.Prelude.{Contains, nat_lt, not, slice_index_or, if◌then◌else◌}
 use Rattle.std.specs.List.{AllZip}
 use Rattle.std.proofs.lemmas.Bool.{true≢false, eqb-true, eq-eqb, cases_lt}
@@ -21,7 +22,7 @@ use Rattle.pg_least.proofs.Stands.{height_by, live_stand}
 use Rattle.pg_least.proofs.Heights.{region_branch}
 use Rattle.pg_least.proofs.Instances.{branch_plain}
 use Rattle.pg_least.proofs.Inside.{none_above, plain_edge}
-use Rattle.pg_least.proofs.Runs.{RunLike, ThreadLike}
+use Rattle.pg_least.proofs.Alike.{RunLike, ThreadLike}
 use Rattle.pg_demands.specs.Cells.{Byte, Cell, Demand, IsMet, Register, Word, call_at, cell_shadow, is_met}
 use Rattle.pg_demands.specs.Back.{back, back_cell, back_other, back_top, caller_count, only, register_count, register_demand}
 use Rattle.pg_demands.proofs.Steps.{Asks, byte_back, kind_back, other_back, word_back}
@@ -31,7 +32,7 @@ past_end [] i z l = refl
 past_end (x ∷ xs) zero z l = absurd (omega (arith, l))
 past_end (x ∷ xs) (suc i) z l = past_end xs i z (omega (arith, l))
 
-callers_long : (L : Shadow → Shadow → Type 0) (cs ct : List (List Shadow)) → AllZip (AllZip L) cs ct → length (top_of (under_top ct)) ≡ length (top_of (under_top cs))
+pub callers_long : (L : Shadow → Shadow → Type 0) (cs ct : List (List Shadow)) → AllZip (AllZip L) cs ct → length (top_of (under_top ct)) ≡ length (top_of (under_top cs))
 callers_long L [] [] h = refl
 callers_long L [] (rt ∷ ct) h = absurd h
 callers_long L (rs ∷ cs) [] h = absurd h
@@ -40,33 +41,48 @@ callers_long L (rs ∷ []) (rt ∷ ru ∷ ct) h = absurd h.1
 callers_long L (rs ∷ rv ∷ cs) (rt ∷ []) h = absurd h.1
 callers_long L (rs ∷ rv ∷ cs) (rt ∷ ru ∷ ct) h = sym (length_like L rv ru h.1.0)
 
+-- step n, with what is known before it
+abbrev pub seen_with : Reference → ℕ → Moment → Bool → RunShadow → Seen
+seen_with R n m live s = record { number = n; moment = m; region = region_of R.program R.regions m (instr_in R.program m); live = live; before = s }
+
+abbrev pub of_every : Reference → ℕ → Moment → RunShadow → Seen
+of_every R n m u = seen_with R n m (is_live every.pinned (thread_of u (thread_in m)).extents) u
+
+-- a step in the run in which all is known, its thread and region, and the thread's calls by what is known under some decisions
+-- and under all
+pub record Here : Type 0 where
+  pub y : Seen
+  pub t : ℕ
+  pub region : Option FreeRegion
+  pub cs : List (List Shadow)
+  pub cu : List (List Shadow)
+
+abbrev pub here_at : Reference → ℕ → Moment → RunShadow → RunShadow → Here
+here_at R n m s u = record {
+  y = of_every R n m u;
+  t = thread_in m;
+  region = region_of R.program R.regions m (instr_in R.program m);
+  cs = (thread_of s (thread_in m)).calls;
+  cu = (thread_of u (thread_in m)).calls;
+}
+
+-- what is known of other threads' registers stays
+pub other_thread : (R : Reference) (e : Taken) (n : ℕ) (m : Moment) (s : RunShadow) (i j r : ℕ) (whole : Bool) → (i ≡ thread_in m → ⊥)
+    → IsMet (after_step R e n m s) (register_demand i j r whole) → IsMet s (register_demand i j r whole)
+other_thread R e n m s i j r whole o h = go (cases_lt i (length s.threads))
+  where
+    go : (i < length s.threads) ⊎ (length s.threads ≤ i) → IsMet s (register_demand i j r whole)
+    go (inl l) = subst (λ (z : ThreadShadow). is_met whole (slice_index_or (call_at j z.calls) r unset) ≡ true) (thread_other R e n m s i o l) h
+    go (inr l) = subst (λ (z : ThreadShadow). is_met whole (slice_index_or (call_at j z.calls) r unset) ≡ true) (sym (past_end s.threads i no_thread l)) refl
+
 module _ (R : Reference) (keeps : ExtentsKeep R) (e : Taken) (bound : ℕ) (L : Shadow → Shadow → Type 0) (link : IsLink e every bound L) where
   abbrev pub IsRun : RunShadow → RunShadow → Type 0
   IsRun s u = RunLike R keeps e every bound L link s u u
 
   module _ (n : ℕ) (m : Moment) (s u : RunShadow) (like : IsRun s u)
-      (in_run : Contains (steps_of R) (record {
-        number = n;
-        moment = m;
-        region = region_of R.program R.regions m (instr_in R.program m);
-        live = is_live every.pinned (thread_of u (thread_in m)).extents;
-        before = u;
-      }))
+      (in_run : Contains (steps_of R) (of_every R n m u))
       (live : is_live e.pinned (thread_of u (thread_in m)).extents ≡ true) where
-    abbrev y : Seen
-    y = record { number = n; moment = m; region = region_of R.program R.regions m (instr_in R.program m); live = is_live every.pinned (thread_of u (thread_in m)).extents; before = u }
-
-    abbrev t : ℕ
-    t = thread_in m
-
-    abbrev region : Option FreeRegion
-    region = region_of R.program R.regions m (instr_in R.program m)
-
-    abbrev cs : List (List Shadow)
-    cs = (thread_of s t).calls
-
-    abbrev cu : List (List Shadow)
-    cu = (thread_of u t).calls
+    open here_at R n m s u use {y, t, region, cs, cu}
 
     own : ThreadLike R keeps e every bound L link s.bytes (thread_of s t) (thread_of u t) (thread_of u t)
     own = like.threads t
@@ -119,15 +135,6 @@ module _ (R : Reference) (keeps : ExtentsKeep R) (e : Taken) (bound : ℕ) (L : 
         ∙ ap (λ (b : Bool). own_words R.program e n m region s b (instr_in R.program m)) live_before
         ∙ ap (λ (o : Option Instr). words_behind R.program m o s) q
 
-    -- ---- registers of other threads
-
-    other_thread : (i j r : ℕ) (whole : Bool) → (i ≡ t → ⊥) → IsMet (after_step R e n m s) (register_demand i j r whole) → IsMet s (register_demand i j r whole)
-    other_thread i j r whole o h = go (cases_lt i (length s.threads))
-      where
-        go : (i < length s.threads) ⊎ (length s.threads ≤ i) → IsMet s (register_demand i j r whole)
-        go (inl l) = subst (λ (z : ThreadShadow). is_met whole (slice_index_or (call_at j z.calls) r unset) ≡ true) (thread_other R e n m s i o l) h
-        go (inr l) = subst (λ (z : ThreadShadow). is_met whole (slice_index_or (call_at j z.calls) r unset) ≡ true) (sym (past_end s.threads i no_thread l)) refl
-
     module _ (x : Instr) (stands : instr_in R.program m ≡ Some x) where
       present : (r : ℕ) (whole : Bool) (c : List (List Shadow)) → cs ≡ c → r < length (top_of c) →
           is_met whole (slice_index_or (call_at (length m.calls) (calls_by R.program e n m region x m.did.did.kind s c)) r unset) ≡ true →
@@ -152,7 +159,7 @@ module _ (R : Reference) (keeps : ExtentsKeep R) (e : Taken) (bound : ℕ) (L : 
           Asks e s (if not b then only (register_demand i j r whole ∷ [])
           else if not (j == length m.calls) then back_other R.program t (length m.calls) (caller_count y) m x j r whole m.did.did.kind
           else if nat_lt r (register_count y) then back_top R.program t (length m.calls) n m region x r whole m.did.did.kind else only [])
-      register_back i j r whole h false f = ((other_thread i j r whole (λ q. true≢false (sym (eq-eqb i t q) ∙ f)) h, tt), tt)
+      register_back i j r whole h false f = ((other_thread R e n m s i j r whole (λ q. true≢false (sym (eq-eqb i t q) ∙ f)) h, tt), tt)
       register_back i j r whole h true f =
           let q : i ≡ t = eqb-true i t f in
           let z : is_met whole (slice_index_or (call_at j (thread_of (after_step R e n m s) t).calls) r unset) ≡ true =
@@ -173,7 +180,7 @@ module _ (R : Reference) (keeps : ExtentsKeep R) (e : Taken) (bound : ℕ) (L : 
     same_cell q whole (Register i j r) h = go (i == t) refl
       where
         go : (b : Bool) → (i == t) ≡ b → is_met whole (cell_shadow s (Register i j r)) ≡ true
-        go false f = other_thread i j r whole (λ q. true≢false (sym (eq-eqb i t q) ∙ f)) h
+        go false f = other_thread R e n m s i j r whole (λ q. true≢false (sym (eq-eqb i t q) ∙ f)) h
         go true f =
             let z : i ≡ t = eqb-true i t f in
             subst (λ (i : ℕ). is_met whole (slice_index_or (call_at j (thread_of s i).calls) r unset) ≡ true) (sym z)

@@ -8,12 +8,13 @@ use Rattle.pg_closed.specs.Shadows.{Shadow}
 use Rattle.pg_closed.specs.Known.{Reference, RunShadow, Seen, Taken, after_step, has, seen_from, start_of}
 use Rattle.pg_closed.specs.Closed.{AreWithin, IsClosed}
 use Rattle.pg_least.specs.Keeps.{ExtentsKeep, every, steps_of}
-use Rattle.pg_least.proofs.Zips.{here, there}
+use Rattle.pg_paths.proofs.Elements.{here, there}
 use Rattle.pg_least.proofs.Links.{IsLink}
 use Rattle.pg_least.proofs.Likes.{Likes, likes_link}
 use Rattle.pg_least.proofs.Asks.{all_in}
 use Rattle.pg_least.proofs.Closes.{in_every}
-use Rattle.pg_least.proofs.Runs.{start_like, step_like}
+use Rattle.pg_least.proofs.Alike.{start_like}
+use Rattle.pg_least.proofs.Runs.{step_like}
 use Rattle.pg_demands.specs.Cells.{Demand, IsMet}
 use Rattle.pg_demands.specs.Back.{Asked}
 use Rattle.pg_demands.specs.Demands.{and_those, before_step, demanded}

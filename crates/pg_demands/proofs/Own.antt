@@ -25,9 +25,11 @@ use Rattle.pg_closed.specs.Moments.{Moment, instr_in, thread_in}
 use Rattle.pg_closed.specs.Freeable.{FreeAccess, FreeRegion}
 use Rattle.pg_closed.specs.Shadows.{Shadow, Known, Framed, Unknown, blames, frame_blames, loaded}
 use Rattle.pg_closed.specs.Known.{Reference, RunShadow, Seen, Taken, has, is_branch, operand_at, registers_of, thread_of}
-use Rattle.pg_closed.specs.Rules.{Need, Value, Frame, access_needs_by, access_needs_in, address_index, all_of, asks_pins, checked_of, edge_tests, equal_to, event_needs, frame_needs, free_access_needs, has_region, is_malloc, moved_shadow, need_blames, operand_of, path_needs, region_needs_in, root_shadow, same_frame, value_needs, value_needs_by, value_needs_in, write_index, write_needs}
+use Rattle.pg_closed.specs.Rules.{Need, Value, Frame, access_needs_by, access_needs_in, address_index, all_of, asks_pins, checked_of, edge_tests, equal_to, event_needs, frame_needs}
+use Rattle.pg_closed.specs.Rules.{free_access_needs, has_region, is_malloc, moved_shadow, need_blames, operand_of, path_needs, region_needs_in, root_shadow, same_frame, value_needs}
+use Rattle.pg_closed.specs.Rules.{value_needs_by, value_needs_in, write_index, write_needs}
 use Rattle.pg_closed.specs.Closed.{AreWithin}
-use Rattle.pg_least.proofs.Zips.{here, there}
+use Rattle.pg_paths.proofs.Elements.{here, there}
 use Rattle.pg_demands.specs.Cells.{Demand, IsMet, call_at, is_met}
 use Rattle.pg_demands.specs.Back.{of_bytes}
 use Rattle.pg_demands.specs.Demands.{checked_demands, free_access_demands, instr_demands, kind_demands, operand_demands, path_demands, region_demands, root_demands, step_pins, write_demands}
@@ -104,7 +106,8 @@ module _ (R : Reference) (d e : Taken) (within : AreWithin d e) (n : ℕ) (m : M
   unfolding AreMet
   checked_own i v [] q = tt
   checked_own i v (j ∷ js) q = append_all (IsMet s) (operand_demands z i true j) (all_of (operand_demands z i true) js)
-      (operand_own i j true (value_quiet (operand_of R.program x i j) (first_quiet (equal_to R.program x i v j) (map (equal_to R.program x i v) js) q))) (checked_own i v js (rest_quiet (equal_to R.program x i v j) (map (equal_to R.program x i v) js) q))
+      (operand_own i j true (value_quiet (operand_of R.program x i j) (first_quiet (equal_to R.program x i v j) (map (equal_to R.program x i v) js) q)))
+      (checked_own i v js (rest_quiet (equal_to R.program x i v j) (map (equal_to R.program x i v) js) q))
 
   event_own : (i : Instr) (v : Event) (kind : TurnKind) → IsQuiet (event_needs R.program x i v kind) → AreMet (checked_demands z i kind)
   unfolding AreMet
@@ -148,15 +151,18 @@ module _ (R : Reference) (d e : Taken) (within : AreWithin d e) (n : ℕ) (m : M
   root_own (root.Register r) whole h = (top_met R.program s (thread_in m) (length m.calls) (registers_of s (thread_in m)) top r whole h, tt)
   root_own _ whole h = tt
 
-  path_own : (word : Bool → List Demand) (v : Shadow) → ((whole : Bool) → is_met whole v ≡ true → AreMet (word whole)) → (offsets words : List ℕ) (cells : List ByteRange) (last : ℕ) →
+  path_own : (word : Bool → List Demand) (v : Shadow) → ((whole : Bool) → is_met whole v ≡ true → AreMet (word whole))
+      → (offsets words : List ℕ) (cells : List ByteRange) (last : ℕ) →
       IsQuiet (path_needs s.bytes v offsets words cells last) → AreMet (path_demands word offsets words cells)
   unfolding AreMet
   path_own word v f [] words cells last q = f false (one_frame v (same_frame last) q)
   path_own word v f (k ∷ offsets) [] cells last q = f false (one_frame v (same_frame last) q)
   path_own word v f (k ∷ offsets) (w ∷ words) [] last q = f false (one_frame v (same_frame last) q)
   path_own word v f (k ∷ offsets) (w ∷ words) (cell ∷ cells) last q = append_all (IsMet s) (word true) (path_demands (λ whole. of_bytes cell.start 8) offsets words cells)
-      (f true (moved_value k v (value_quiet (moved_shadow k v) (first_quiet (Value (moved_shadow k v) (Eq (moved_by w (pos k)) ∷ [])) (path_needs s.bytes (loaded s.bytes cell.start 8) offsets words cells last) q))))
-      (path_own (λ whole. of_bytes cell.start 8) (loaded s.bytes cell.start 8) (λ whole h. bytes_met s whole cell.start 8 h) offsets words cells last (rest_quiet (Value (moved_shadow k v) (Eq (moved_by w (pos k)) ∷ [])) (path_needs s.bytes (loaded s.bytes cell.start 8) offsets words cells last) q))
+      (f true (moved_value k v (value_quiet (moved_shadow k v)
+      (first_quiet (Value (moved_shadow k v) (Eq (moved_by w (pos k)) ∷ [])) (path_needs s.bytes (loaded s.bytes cell.start 8) offsets words cells last) q))))
+      (path_own (λ whole. of_bytes cell.start 8) (loaded s.bytes cell.start 8) (λ whole h. bytes_met s whole cell.start 8 h) offsets words cells last
+      (rest_quiet (Value (moved_shadow k v) (Eq (moved_by w (pos k)) ∷ [])) (path_needs s.bytes (loaded s.bytes cell.start 8) offsets words cells last) q))
 
   accesses_own : (xs : List FreeAccess) → IsQuiet (all_of (free_access_needs R.program x) xs) → AreMet (all_of (free_access_demands z) xs)
   unfolding AreMet

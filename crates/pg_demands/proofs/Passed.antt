@@ -1,5 +1,6 @@
 -- What passes a step in an extent, and what an extent keeps from being known while its branch step isn't pinned.
-use Rattle.std.proofs.Common.{◌≡◌, ℕ, zero, suc, ◌+◌, ◌<◌, ◌≤◌, ◌==◌, Bool, true, false, List, [], ◌∷◌, ◌++◌, length, length-append, Option, Some, None, refl, sym, ap, ◌∙◌, subst, inl, inr, ◌⊎◌, arith}
+use Rattle.std.proofs.Common.{◌≡◌, ℕ, zero, suc, ◌+◌, ◌<◌, ◌≤◌, ◌==◌, Bool, true, false, List, [], ◌∷◌, ◌++◌, length, length-append, Option, Some, None}
+use Rattle.std.proofs.Common.{refl, sym, ap, ◌∙◌, subst, inl, inr, ◌⊎◌, arith}
 use Rattle.std.specs.Prelude.{Contains, slice_get, slice_index_or, if◌then◌else◌}
 use Rattle.std.proofs.lemmas.Bool.{eqb-true}
 use Rattle.pg_ir.specs.declared.known.Known.{Known as KnownFunction}
@@ -19,10 +20,11 @@ use Rattle.pg_closed.specs.Moments.{Moment, thread_in}
 use Rattle.pg_closed.specs.Freeable.{FreeRegion}
 use Rattle.pg_closed.specs.Shadows.{Shadow, Unknown, unset}
 use Rattle.pg_closed.specs.Extents.{Extent, edge_by, edge_in, is_live}
-use Rattle.pg_closed.specs.Known.{Reference, RunShadow, Seen, Taken, after_access, after_branch, after_known, after_op, after_step, caller_target, optional_shadow, result_in, seen_from, set_shadow, start_of, thread_of, top_of, under_top, with_top}
+use Rattle.pg_closed.specs.Known.{Reference, RunShadow, Seen, Taken, after_access, after_branch, after_known, after_op, after_step, caller_target, optional_shadow, result_in, seen_from}
+use Rattle.pg_closed.specs.Known.{set_shadow, start_of, thread_of, top_of, under_top, with_top}
 use Rattle.pg_least.specs.Keeps.{MaySet, MaySetPhis, every, steps_of}
 use Rattle.pg_least.specs.Along.{region_in}
-use Rattle.pg_least.proofs.Zips.{cases_in, here, none_in, there}
+use Rattle.pg_paths.proofs.Elements.{cases as cases_in, here, none_in, there}
 use Rattle.pg_least.proofs.Links.{AreForgotten, Outside, outside_edge, outside_forgotten, outside_same, outside_target}
 use Rattle.pg_least.proofs.Live.{calls_by}
 use Rattle.pg_least.proofs.Inside.{IsTopForgotten}
@@ -43,7 +45,9 @@ module _ (R : Reference) where
       first : region_at_step R n ≡ region_in R m
       first = let z : n + 0 ≡ n = omega arith in ap (region_then R) (sym (ap (slice_get R.moments) z) ∙ h 0)
 
-      go : (record { number = n; moment = m; region = region_in R m; live = is_live every.pinned (thread_of u (thread_in m)).extents; before = u } ≡ y) ⊎ Contains (seen_from R every (suc n) (after_step R every n m u) ms) y → (Contains (seen_from R every (suc n) (after_step R every n m u) ms) y → region_at_step R y.number ≡ y.region) →
+      go : (record { number = n; moment = m; region = region_in R m; live = is_live every.pinned (thread_of u (thread_in m)).extents; before = u } ≡ y)
+          ⊎ Contains (seen_from R every (suc n) (after_step R every n m u) ms) y
+          → (Contains (seen_from R every (suc n) (after_step R every n m u) ms) y → region_at_step R y.number ≡ y.region) →
           region_at_step R y.number ≡ y.region
       go (inl q) more = subst (λ (y : Seen). region_at_step R y.number ≡ y.region) q first
       go (inr d) more = more d

@@ -1,5 +1,6 @@
 -- One step back over a live step: a demand that is met after it asks for what is met before it.
-use Rattle.std.proofs.Common.{◌≡◌, ℕ, zero, suc, ◌+◌, ◌-◌, ◌<◌, ◌==◌, Bool, true, false, List, [], ◌∷◌, ◌++◌, length, map, Option, Some, None, refl, sym, ap, ◌∙◌, subst, arith, ltb-true}
+use Rattle.std.proofs.Common.{◌≡◌, ℕ, zero, suc, ◌+◌, ◌-◌, ◌<◌, ◌==◌, Bool, true, false, List, [], ◌∷◌, ◌++◌, length, map, Option, Some, None, refl, sym}
+use Rattle.std.proofs.Common.{ap, ◌∙◌, subst, arith, ltb-true}
 use Rattle.std.specs.Prelude.{◌&&◌, ◌||◌, nat_lt, not, slice_get, slice_index_or, slice_set, if◌then◌else◌}
 use Rattle.std.specs.List.{AllByRecursion}
 use Rattle.std.proofs.lemmas.Bool.{true≢false, eqb-true, eq-eqb}
@@ -26,12 +27,16 @@ use Rattle.pg_closed.specs.Moments.{Moment, thread_in}
 use Rattle.pg_closed.specs.Freeable.{FreeRegion, frame_of}
 use Rattle.pg_closed.specs.Shadows.{Shadow, Known, Framed, Unknown, always, applied, byte_in, is_within, loaded, shadow_of, unset}
 use Rattle.pg_closed.specs.Extents.{edge_in}
-use Rattle.pg_closed.specs.Known.{RunShadow, Taken, after_access, after_branch, after_event, after_known, after_op, along_edge, bytes_by, bytes_freed, bytes_stored, caller_target, entered, exit_shadow, from_input, function_in, has, load_of, operand_at, optional_shadow, registers_of, result_in, returned_shadow, set_shadow, started, thread_of, top_of, under_top, with_top, words_after, written_shadow}
+use Rattle.pg_closed.specs.Known.{RunShadow, Taken, after_access, after_branch, after_event, after_known, after_op, along_edge, bytes_by, bytes_freed, bytes_stored, caller_target, entered}
+use Rattle.pg_closed.specs.Known.{exit_shadow, from_input, function_in, has, load_of, operand_at, optional_shadow, registers_of, result_in, returned_shadow, set_shadow, started, thread_of}
+use Rattle.pg_closed.specs.Known.{top_of, under_top, with_top, words_after, written_shadow}
 use Rattle.pg_least.specs.Keeps.{MaySetPhis, is_store, may_write}
 use Rattle.pg_least.proofs.Links.{Outside, forgotten_byte, outside_edge}
 use Rattle.pg_least.proofs.Live.{calls_by, known_bytes, known_words}
 use Rattle.pg_demands.specs.Cells.{Demand, IsMet, Word, call_at, is_met}
-use Rattle.pg_demands.specs.Back.{Asked, back_access, back_branch, back_byte, back_edge, back_event, back_freed, back_known, back_op, back_other, back_other_event, back_other_op, back_return, back_exit, back_start, back_store, back_top, back_word, back_word_event, back_write, back_written, byte_demand, if_plain, if_set, is_target, of_bytes, of_optional, of_operand, of_value, only, register_demand, word_demand}
+use Rattle.pg_demands.specs.Back.{Asked, back_access, back_branch, back_byte, back_edge, back_event, back_freed, back_known, back_op, back_other, back_other_event, back_other_op}
+use Rattle.pg_demands.specs.Back.{back_return, back_exit, back_start, back_store, back_top, back_word, back_word_event, back_write, back_written, byte_demand, if_plain, if_set, is_target}
+use Rattle.pg_demands.specs.Back.{of_bytes, of_optional, of_operand, of_value, only, register_demand, word_demand}
 use Rattle.pg_demands.proofs.Values.{bytes_met, cut_met, edge_met, entered_met, index_forgotten, index_set, moved_met, none_unknown, operand_met, optional_met, top_met, value_met, values_met}
 
 -- what is asked is met before, and taken
@@ -111,14 +116,16 @@ module _ (p : NumberedProgram) (e : Taken) (n : ℕ) (m : Moment) (region : Opti
         go true g = rw g (edge_met p s t k rs top x.block.0 edge r whole l h, (f, tt))
         go false g =
             let z : 0 + r ≡ r = omega arith in
-            rw g (self (subst (λ (z : Shadow). is_met whole z ≡ true) (outside_index rs (along_edge p x.block.0 edge rs) 0 q.sets r (outside_edge p q.sets x.block.0 edge rs (o q refl)) (ap q.sets z ∙ g)) h))
+            rw g (self (subst (λ (z : Shadow). is_met whole z ≡ true)
+            (outside_index rs (along_edge p x.block.0 edge rs) 0 q.sets r (outside_edge p q.sets x.block.0 edge rs (o q refl)) (ap q.sets z ∙ g)) h))
     branch_back false f edge (Some q) o h = go (q.sets r) refl
       where
         same : slice_index_or (after_branch p false n x edge (Some q) rs) r unset ≡ (if q.sets r then Unknown (Pinned n) else slice_index_or rs r unset)
         same = let z : 0 + r ≡ r = omega arith in index_forgotten rs 0 q.sets (Pinned n) r l ∙ ap (λ (j : ℕ). if q.sets j then Unknown (Pinned n) else slice_index_or rs r unset) z
 
         go : (b : Bool) → q.sets r ≡ b → Asks e s (back_branch p t k n x edge (Some q) r whole)
-        go true g = absurd (none_unknown whole (Pinned n) (subst (λ (z : Shadow). is_met whole z ≡ true) (same ∙ ap (λ (b : Bool). if b then Unknown (Pinned n) else slice_index_or rs r unset) g) h))
+        go true g = absurd (none_unknown whole (Pinned n) (subst (λ (z : Shadow). is_met whole z ≡ true)
+            (same ∙ ap (λ (b : Bool). if b then Unknown (Pinned n) else slice_index_or rs r unset) g) h))
         go false g = rw g (self (subst (λ (z : Shadow). is_met whole z ≡ true) (same ∙ ap (λ (b : Bool). if b then Unknown (Pinned n) else slice_index_or rs r unset) g) h))
 
     input_met : (z : Shadow) → is_met whole (from_input z) ≡ true → is_met true z ≡ true
@@ -152,7 +159,8 @@ module _ (p : NumberedProgram) (e : Taken) (n : ℕ) (m : Moment) (region : Opti
     op_back number (op.Gep base indices) h = set_back x.result _ _ (at_top _ h) (λ z. (moved_met p s t k rs top x.op whole z, tt))
     op_back number o h = set_back x.result _ _ (at_top _ h) (λ z. (values_met p s t k rs top (operands_of o) (λ gs input. applied o (gs input)) whole z, tt))
 
-    load_back : (b : Bool) → e.exact n ≡ b → (w : _) (a : Access) → is_met whole (load_of b n w a s.bytes) ≡ true → Asks e s (record { demands = of_bytes (range_of a).start a.bytes; decisions = Exact n ∷ [] })
+    load_back : (b : Bool) → e.exact n ≡ b → (w : _) (a : Access) → is_met whole (load_of b n w a s.bytes) ≡ true
+        → Asks e s (record { demands = of_bytes (range_of a).start a.bytes; decisions = Exact n ∷ [] })
     load_back true f w a h = (bytes_met s true (range_of a).start a.bytes (cut_met _ whole (loaded s.bytes (range_of a).start a.bytes) h), (f, tt))
     load_back false f w a h = absurd (none_unknown whole (Exact n) h)
 
@@ -169,10 +177,17 @@ module _ (p : NumberedProgram) (e : Taken) (n : ℕ) (m : Moment) (region : Opti
         go true false q h = self h
         go false true q h =
             let z : r ≡ 0 = eqb-true r 0 q in
-            let y : is_target (Some 0) r ≡ true = eq-eqb 0 r (sym z) in
-            ((subst (λ (z : Shadow). is_met whole z ≡ true) (index_set rs (Some 0) (slice_index_or s.words t unset) r l ∙ ap (λ (b : Bool). if b then slice_index_or s.words t unset else slice_index_or rs r unset) y) h, tt), tt)
+            let y : is_target (Some 0) r ≡ true = eq-eqb 0 r (sym z) in (
+              (
+                subst (λ (z : Shadow). is_met whole z ≡ true)
+                    (index_set rs (Some 0) (slice_index_or s.words t unset) r l ∙ ap (λ (b : Bool). if b then slice_index_or s.words t unset else slice_index_or rs r unset) y) h,
+                tt,
+              ),
+              tt,
+            )
         go false false q h =
-            self (subst (λ (z : Shadow). is_met whole z ≡ true) (index_set rs (Some 0) (slice_index_or s.words t unset) r l ∙ ap (λ (b : Bool). if b then slice_index_or s.words t unset else slice_index_or rs r unset) (other (0 == r) refl)) h)
+            self (subst (λ (z : Shadow). is_met whole z ≡ true)
+            (index_set rs (Some 0) (slice_index_or s.words t unset) r l ∙ ap (λ (b : Bool). if b then slice_index_or s.words t unset else slice_index_or rs r unset) (other (0 == r) refl)) h)
           where
             other : (b : Bool) → (0 == r) ≡ b → (0 == r) ≡ false
             other false f = f

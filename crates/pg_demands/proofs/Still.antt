@@ -1,30 +1,30 @@
 -- A step that may not be live: what is demanded of cells that an open extent's region may have set pins its branch step, and what
 -- passes the step is met before it too.
-use Rattle.std.proofs.Common.{◌≡◌, ℕ, ◌<◌, ◌≤◌, ◌==◌, Bool, true, false, List, [], ◌∷◌, length, Option, Some, None, refl, sym, ap, ◌∙◌, subst, inl, inr, ◌⊎◌, arith, ltb-true, leb-true}
+use Rattle.std.proofs.Common.{◌≡◌, ℕ, ◌<◌, ◌≤◌, ◌==◌, Bool, true, false, List, [], ◌∷◌, length, Option, Some, None, refl, sym, ap, ◌∙◌, subst, inl, inr}
+use Rattle.std.proofs.Common.{◌⊎◌, arith, ltb-true, leb-true}
 use Rattle.std.specs.Prelude.{Contains, ◌&&◌, ◌||◌, filter, nat_le, nat_lt, not, slice_index_or, if◌then◌else◌}
 use Rattle.std.specs.List.{AllByRecursion, AllZip, list_any}
-use Rattle.std.proofs.lemmas.Bool.{true≢false, and_parts, or_cases, eqb-true, eq-eqb, cases_lt}
+use Rattle.std.proofs.lemmas.Bool.{true≢false, and_parts, or_cases, eqb-true, eq-eqb}
 use Rattle.pg_ir.specs.declared.instr.Instr.{Instr}
 use Rattle.pg_closed.specs.declared.decision.Decision.TheVariants.{Pinned}
-use Rattle.pg_closed.specs.Moments.{Moment, instr_in, thread_in}
+use Rattle.pg_closed.specs.Moments.{Moment, instr_in}
 use Rattle.pg_closed.specs.Freeable.{FreeRegion}
 use Rattle.pg_closed.specs.Shadows.{Shadow, unset}
 use Rattle.pg_closed.specs.Extents.{Extent, edge_in, is_live}
-use Rattle.pg_closed.specs.Known.{Reference, RunShadow, Seen, Taken, ThreadShadow, after_step, no_thread, region_of, start_of, thread_of, top_of}
+use Rattle.pg_closed.specs.Known.{Reference, RunShadow, Taken, ThreadShadow, after_step, start_of, thread_of, top_of}
 use Rattle.pg_least.specs.Keeps.{ExtentsKeep, KeepsTo, MaySetPhis, every, may_write, steps_of}
 use Rattle.pg_least.proofs.Zips.{length_like}
 use Rattle.pg_least.proofs.Links.{IsLink}
 use Rattle.pg_least.proofs.Live.{top_like}
-use Rattle.pg_least.proofs.Threads.{bytes_next, live_at, own_bytes, own_calls, own_words, thread_other, thread_own, words_next}
+use Rattle.pg_least.proofs.Threads.{bytes_next, live_at, own_bytes, own_calls, own_words, thread_own, words_next}
 use Rattle.pg_least.proofs.Stands.{height_by, live_stand, not_live, stand, stand_in}
 use Rattle.pg_least.proofs.Inside.{bytes_kept, plain_edge, words_kept}
-use Rattle.pg_least.proofs.Runs.{Still, ThreadLike}
+use Rattle.pg_least.proofs.Alike.{Still, ThreadLike}
 use Rattle.pg_demands.specs.Cells.{Byte, Cell, Demand, IsMet, Register, Word, call_at, cell_shadow, is_met}
-use Rattle.pg_demands.specs.Back.{register_demand}
 use Rattle.pg_demands.specs.Passed.{count_at, first_free, may_set_cell, passes_cell, passing, passing_by, region_at_step, sets_any}
 use Rattle.pg_demands.proofs.Values.{none_unknown}
 use Rattle.pg_demands.proofs.Steps.{top_is}
-use Rattle.pg_demands.proofs.Back.{IsRun, high, past_end}
+use Rattle.pg_demands.proofs.Back.{IsRun, here_at, high, of_every, other_thread}
 use Rattle.pg_demands.proofs.Passed.{call_below, find_step, first_in, forgotten_top, region_of_steps, register_same}
 
 filter_met : (P Q : Demand → Type 0) (f : Demand → Bool) (qs : List Demand) → ((c : Demand) → f c ≡ true → P c → Q c) → AllByRecursion P qs → AllByRecursion Q (filter f qs)
@@ -41,30 +41,11 @@ not_true true q = sym q
 
 module _ (R : Reference) (keeps : ExtentsKeep R) (e : Taken) (bound : ℕ) (L : Shadow → Shadow → Type 0) (link : IsLink e every bound L) where
   module _ (n : ℕ) (m : Moment) (s u : RunShadow) (like : IsRun R keeps e bound L link s u)
-      (in_run : Contains (steps_of R) (record {
-        number = n;
-        moment = m;
-        region = region_of R.program R.regions m (instr_in R.program m);
-        live = is_live every.pinned (thread_of u (thread_in m)).extents;
-        before = u;
-      })) where
-    abbrev y : Seen
-    y = record { number = n; moment = m; region = region_of R.program R.regions m (instr_in R.program m); live = is_live every.pinned (thread_of u (thread_in m)).extents; before = u }
-
-    abbrev t : ℕ
-    t = thread_in m
-
-    abbrev region : Option FreeRegion
-    region = region_of R.program R.regions m (instr_in R.program m)
+      (in_run : Contains (steps_of R) (of_every R n m u)) where
+    open here_at R n m s u use {y, t, region, cs, cu}
 
     abbrev es : List Extent
     es = (thread_of u t).extents
-
-    abbrev cs : List (List Shadow)
-    cs = (thread_of s t).calls
-
-    abbrev cu : List (List Shadow)
-    cu = (thread_of u t).calls
 
     own : ThreadLike R keeps e every bound L link s.bytes (thread_of s t) (thread_of u t) (thread_of u t)
     own = like.threads t
@@ -80,13 +61,6 @@ module _ (R : Reference) (keeps : ExtentsKeep R) (e : Taken) (bound : ℕ) (L : 
 
     words_now : (b : Bool) → live_at R e n m s ≡ b → (after_step R e n m s).words ≡ own_words R.program e n m region s b (instr_in R.program m)
     words_now b q = words_next R e n m s ∙ ap (λ (b : Bool). own_words R.program e n m region s b (instr_in R.program m)) q
-
-    other_thread : (i j r : ℕ) (whole : Bool) → (i ≡ t → ⊥) → IsMet (after_step R e n m s) (register_demand i j r whole) → IsMet s (register_demand i j r whole)
-    other_thread i j r whole o h = go (cases_lt i (length s.threads))
-      where
-        go : (i < length s.threads) ⊎ (length s.threads ≤ i) → IsMet s (register_demand i j r whole)
-        go (inl l) = subst (λ (z : ThreadShadow). is_met whole (slice_index_or (call_at j z.calls) r unset) ≡ true) (thread_other R e n m s i o l) h
-        go (inr l) = subst (λ (z : ThreadShadow). is_met whole (slice_index_or (call_at j z.calls) r unset) ≡ true) (sym (past_end s.threads i no_thread l)) refl
 
     -- ---- where the thread stands still
 
@@ -201,7 +175,7 @@ module _ (R : Reference) (keeps : ExtentsKeep R) (e : Taken) (bound : ℕ) (L : 
           part (inr a) = let b = and_parts (j == x.depth) (not (q.sets r)) a in inr (eqb-true j x.depth b.0, not_true (q.sets r) b.1)
 
           go : (b : Bool) → (i == t) ≡ b → (not b || (nat_lt j x.depth || ((j == x.depth) && not (q.sets r)))) ≡ true → is_met whole (cell_shadow s (Register i j r)) ≡ true
-          go false f p = other_thread i j r whole (λ z. true≢false (sym (eq-eqb i t z) ∙ f)) h
+          go false f p = other_thread R e n m s i j r whole (λ z. true≢false (sym (eq-eqb i t z) ∙ f)) h
           go true f p =
               let v : i ≡ t = eqb-true i t f in
               let w : is_met whole (slice_index_or (call_at j (own_calls R.program e n m region s (live_at R e n m s) (instr_in R.program m))) r unset) ≡ true =

@@ -12,14 +12,15 @@ use Rattle.pg_closed.specs.Known.{Reference, RunShadow, Seen, Taken, after_step,
 use Rattle.pg_closed.specs.Rules.{all_of, asks_frames, asks_pins, asks_values, frame_needs, need_blames, value_needs}
 use Rattle.pg_closed.specs.Closed.{AreWithin, IsClosed}
 use Rattle.pg_least.specs.Keeps.{ExtentsKeep, every, steps_of}
-use Rattle.pg_least.proofs.Zips.{here, there}
+use Rattle.pg_paths.proofs.Elements.{here, there}
 use Rattle.pg_least.proofs.Links.{IsLink}
 use Rattle.pg_least.proofs.Likes.{Likes, likes_link}
 use Rattle.pg_least.proofs.Asks.{all_in, none_asked, of_all}
 use Rattle.pg_least.proofs.Closes.{in_every}
 use Rattle.pg_least.proofs.Stands.{live_more, or_this, stand}
 use Rattle.pg_least.proofs.Threads.{live_at}
-use Rattle.pg_least.proofs.Runs.{start_like, step_like}
+use Rattle.pg_least.proofs.Alike.{start_like}
+use Rattle.pg_least.proofs.Runs.{step_like}
 use Rattle.pg_demands.specs.Cells.{Demand, IsMet}
 use Rattle.pg_demands.specs.Back.{Asked, back}
 use Rattle.pg_demands.specs.Demands.{and_those, asked_from, before_either, before_live, before_step, behind, demanded, is_fix, is_pin, pin_if, pin_one, step_demands, step_pins, with_pins}

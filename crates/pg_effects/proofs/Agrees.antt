@@ -16,7 +16,8 @@ use Rattle.pg_step.specs.LocalState.{LocalState, fresh}
 use Rattle.pg_machine.specs.State.{State, action_in, next_of}
 use Rattle.pg_machine.specs.MachineStep.{answer_of, answered, on_applied}
 use Rattle.pg_machine.specs.Texts.{printed_by}
-use Rattle.pg_effects.specs.Effect.{Effect, MadeThread, RequestEffect, Write, answer_to, effect_by, effect_of, own_after, range_read, request_effect, request_write, thread_made, value_left, word_left, word_read_by, write_of}
+use Rattle.pg_effects.specs.Effect.{Effect, MadeThread, RequestEffect, Write, answer_to, effect_by, effect_of, own_after, range_read, request_effect, request_write, thread_made, value_left}
+use Rattle.pg_effects.specs.Effect.{word_left, word_read_by, write_of}
 use Rattle.pg_effects.specs.Meets.{AgreeFor, is_in, made_by, reads_byte}
 use Rattle.pg_effects.proofs.Bytes.{same_read}
 
@@ -26,7 +27,8 @@ AgreeBy p input s z t action = AgreeFor (effect_by p input s t action) s z
 
 -- ---- the answer
 
-reply_alike : (p : NumberedProgram) (input : List ℤ) (s z : State) (t : ℕ) (reply : Reply) (r : Request) → AgreeBy p input s z t (actions.Event r) → answer_of s t reply r ≡ answer_of z t reply r
+reply_alike : (p : NumberedProgram) (input : List ℤ) (s z : State) (t : ℕ) (reply : Reply) (r : Request) → AgreeBy p input s z t (actions.Event r)
+    → answer_of s t reply r ≡ answer_of z t reply r
 reply_alike p input s z t reply requests.Start h = h.word
 reply_alike p input s z t reply r h = refl
 
@@ -86,12 +88,14 @@ effect_alike p input s z t h =
 
 -- ---- what is answered
 
-applied_alike : (p : NumberedProgram) (input : List ℤ) (s z : State) (t : ℕ) (r : Request) (y : sync.Sync) (q : Result Reply TrapName) → AgreeBy p input s z t (actions.Event r) → (on_applied p s t r (y, q)).1 ≡ (on_applied p z t r (y, q)).1
+applied_alike : (p : NumberedProgram) (input : List ℤ) (s z : State) (t : ℕ) (r : Request) (y : sync.Sync) (q : Result Reply TrapName) → AgreeBy p input s z t (actions.Event r)
+    → (on_applied p s t r (y, q)).1 ≡ (on_applied p z t r (y, q)).1
 applied_alike p input s z t r y (Err name) h = refl
 applied_alike p input s z t requests.Start y (Ok reply) h = ap (λ (n : ℕ). Ok n) h.word
 applied_alike p input s z t r y (Ok reply) h = refl
 
-pub answered_alike : (p : NumberedProgram) (input : List ℤ) (s z : State) (t : ℕ) (action : Action) → AgreeBy p input s z t action → (answered p input s t action).1 ≡ (answered p input z t action).1
+pub answered_alike : (p : NumberedProgram) (input : List ℤ) (s z : State) (t : ℕ) (action : Action) → AgreeBy p input s z t action
+    → (answered p input s t action).1 ≡ (answered p input z t action).1
 unfolding answered
 answered_alike p input s z t (actions.Load r) h = ap (λ (n : ℕ). Ok n) (same_read s.memory z.memory r h.bytes)
 answered_alike p input s z t (actions.Event r) h =

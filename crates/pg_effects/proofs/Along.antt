@@ -50,7 +50,8 @@ module _ (gated : List InstrId) (p : NumberedProgram) (input : List ℤ) where
   is_run s z [] h = ap (λ (r : Ran). r.state) (same_some _ _ h)
   is_run s z (x ∷ xs) h = on_ready (ready p s x.thread.0) refl (step gated p input s x.thread.0) refl (λ v k. is_run v z xs k) h
     where
-      on_rest : (y : Step) (v : State) (o : Option Ran) → run_of gated p input v (threads_of xs) ≡ o → ready p s x.thread.0 ≡ true → step gated p input s x.thread.0 ≡ Did y v → (run_of gated p input v (threads_of xs) ≡ ran xs z → IsRun gated p input v xs z) → behind y o ≡ ran (x ∷ xs) z → IsRun gated p input s (x ∷ xs) z
+      on_rest : (y : Step) (v : State) (o : Option Ran) → run_of gated p input v (threads_of xs) ≡ o → ready p s x.thread.0 ≡ true → step gated p input s x.thread.0 ≡ Did y v
+          → (run_of gated p input v (threads_of xs) ≡ ran xs z → IsRun gated p input v xs z) → behind y o ≡ ran (x ∷ xs) z → IsRun gated p input s (x ∷ xs) z
       on_rest y v None k g d more e = absurd cc
       on_rest y v (Some r) k g d more e =
           let q = same_some _ _ e in
@@ -58,8 +59,10 @@ module _ (gated : List InstrId) (p : NumberedProgram) (input : List ℤ) where
           let same : Path (Option Ran) (Some r) (ran xs z) = ap (λ (w : Ran). ran (tail_of w.steps) w.state) q in
           (record { after = v; is_ready = g; is_step = d ∙ ap (λ (w : Step). Did w v) first }, more (k ∙ same))
 
-      on_ready : (b : Bool) → ready p s x.thread.0 ≡ b → (o : Stepped) → step gated p input s x.thread.0 ≡ o → ((v : State) → run_of gated p input v (threads_of xs) ≡ ran xs z → IsRun gated p input v xs z) →
-          Path (Option Ran) (if ready p s x.thread.0 then on_stepped (step gated p input s x.thread.0) (λ v. run_of gated p input v (threads_of xs)) else None) (ran (x ∷ xs) z) → IsRun gated p input s (x ∷ xs) z
+      on_ready : (b : Bool) → ready p s x.thread.0 ≡ b → (o : Stepped) → step gated p input s x.thread.0 ≡ o
+          → ((v : State) → run_of gated p input v (threads_of xs) ≡ ran xs z → IsRun gated p input v xs z) →
+          Path (Option Ran) (if ready p s x.thread.0 then on_stepped (step gated p input s x.thread.0) (λ v. run_of gated p input v (threads_of xs)) else None) (ran (x ∷ xs) z)
+          → IsRun gated p input s (x ∷ xs) z
       on_ready false g o d more e = let k : Path (Option Ran) None (ran (x ∷ xs) z) = rw g at e in absurd cc
       on_ready true g (Trapped name id) d more e = let k : Path (Option Ran) None (ran (x ∷ xs) z) = rw (g, d) at e in absurd cc
       on_ready true g (Did y v) d more e =
@@ -127,7 +130,9 @@ same_state y z w e = ap left_in e
     left_in (Did x v) = v
     left_in (Trapped name id) = z
 
-pub runs_cross : (gated : List InstrId) (p : NumberedProgram) (input : List ℤ) (s v : State) (x y : Step) (xs : List Step) → IsRun gated p input s (x ∷ y ∷ xs) v → AreApart (effect_of p input s x.thread.0) (effect_of p input s y.thread.0) → y.thread.0 < length s.locals → length s.memory ≡ GRANULE_COUNT → sync.over (effect s (effect_of p input s y.thread.0)).sync ≡ false → IsRun gated p input s (y ∷ x ∷ xs) v
+pub runs_cross : (gated : List InstrId) (p : NumberedProgram) (input : List ℤ) (s v : State) (x y : Step) (xs : List Step) → IsRun gated p input s (x ∷ y ∷ xs) v
+    → AreApart (effect_of p input s x.thread.0) (effect_of p input s y.thread.0) → y.thread.0 < length s.locals → length s.memory ≡ GRANULE_COUNT
+    → sync.over (effect s (effect_of p input s y.thread.0)).sync ≡ false → IsRun gated p input s (y ∷ x ∷ xs) v
 runs_cross gated p input s v x y xs h a n g o =
     let t = x.thread.0 in
     let u = y.thread.0 in
@@ -143,6 +148,8 @@ runs_cross gated p input s v x y xs h a n g o =
     let wf : w ≡ effect s f = left_by gated p input s w u y d.1 in
     let c = change_places gated p input s z w t u x y h.0.is_step d.1 a made n g in
     let last : h.1.0.after ≡ c.last = same_state y h.1.0.after c.last (sym h.1.0.is_step ∙ c.second) in
-    let yr : ready p s u ≡ true = is_ready_by p s u (is_going p s t h.0.is_ready) (acts_alike p input s (effect s e) u fa ∙ ap (λ (w : State). may_act w u (next_of p w u)) (sym ze) ∙ acts p z u h.1.0.is_ready) in
-    let xr : ready p w t ≡ true = is_ready_by p w t (ap (λ (w : State). sync.over w.sync) wf ∙ o) (ap (λ (w : State). may_act w t (next_of p w t)) wf ∙ sym (acts_alike p input s (effect s f) t ea) ∙ acts p s t h.0.is_ready) in
+    let yr : ready p s u ≡ true = is_ready_by p s u (is_going p s t h.0.is_ready)
+    (acts_alike p input s (effect s e) u fa ∙ ap (λ (w : State). may_act w u (next_of p w u)) (sym ze) ∙ acts p z u h.1.0.is_ready) in
+    let xr : ready p w t ≡ true = is_ready_by p w t (ap (λ (w : State). sync.over w.sync) wf ∙ o)
+    (ap (λ (w : State). may_act w t (next_of p w t)) wf ∙ sym (acts_alike p input s (effect s f) t ea) ∙ acts p s t h.0.is_ready) in
     (record { after = w; is_ready = yr; is_step = d.1 }, (record { after = c.last; is_ready = xr; is_step = c.first }, subst (λ (w : State). IsRun gated p input w xs v) last h.1.1))

@@ -1,5 +1,6 @@
 -- Steps that are apart may change places.
-use Rattle.std.proofs.Common.{◌≡◌, ◌≢◌, ℕ, ℤ, ◌<◌, List, [], ◌∷◌, ◌++◌, length, Bool, true, false, Option, Some, None, Result, Ok, Err, refl, sym, ◌∙◌, ap, subst, arith}
+use Rattle.std.proofs.Common.{◌≡◌, ◌≢◌, ℕ, ℤ, ◌<◌, List, [], ◌∷◌, ◌++◌, length, Bool, true, false, Option, Some, None, Result, Ok, Err, refl, sym, ◌∙◌}
+use Rattle.std.proofs.Common.{ap, subst, arith}
 use Rattle.std.specs.Prelude.{slice_get, slice_index, not, ◌&&◌, ◌||◌, is_some, IfSome}
 use Rattle.pg_num.specs.declared.layout.TheConstants.{GRANULE_COUNT}
 use Rattle.pg_ir.specs.declared.ids.InstrId.{InstrId}
@@ -17,7 +18,8 @@ use Rattle.pg_machine.specs.Locality.{IfDid}
 use Rattle.pg_machine.specs.State.{State, next_of}
 use Rattle.pg_machine.specs.MachineStep.{Stepped, Did, Trapped, may_act, ready, step}
 use Rattle.pg_machine.proofs.Threads.{set_other, set_length, last_other}
-use Rattle.pg_effects.specs.Effect.{Effect, MadeThread, RequestEffect, Write, effect, effect_by, effect_of, local_set, locals_with, memory_with, request_effect, sync_with, with_local, word_read_by, words_with}
+use Rattle.pg_effects.specs.Effect.{Effect, MadeThread, RequestEffect, Write, effect, effect_by, effect_of, local_set, locals_with, memory_with, request_effect, sync_with, with_local}
+use Rattle.pg_effects.specs.Effect.{word_read_by, words_with}
 use Rattle.pg_effects.specs.Meets.{AgreeFor, AreApart, byte_in, is_in, made_by, meets, reads_byte, touches_byte, writes_byte}
 use Rattle.pg_effects.specs.Places.{ChangePlaces}
 use Rattle.pg_effects.specs.Told.{tells}
@@ -121,7 +123,8 @@ if_some : (o : Option ℕ) (P : ℕ → Type 0) → (is_some o ≡ true → (n :
 if_some None P h = tt
 if_some (Some n) P h = h refl n
 
-module _ (p : NumberedProgram) (input : List ℤ) (s : State) (e : Effect) (u : ℕ) (apart : AreApart e (effect_of p input s u)) (made : u < length s.locals) (granules : length s.memory ≡ GRANULE_COUNT) where
+module _ (p : NumberedProgram) (input : List ℤ) (s : State) (e : Effect) (u : ℕ) (apart : AreApart e (effect_of p input s u)) (made : u < length s.locals)
+    (granules : length s.memory ≡ GRANULE_COUNT) where
   -- the other step is no request where this is one
   alone : is_some (effect_of p input s u).request ≡ true → is_some e.request ≡ false
   alone h = not_both (is_some e.request) (is_some (effect_of p input s u).request) apart.requests h
@@ -185,7 +188,8 @@ pub left_by : (gated : List InstrId) (p : NumberedProgram) (input : List ℤ) (s
 left_by gated p input s z t x e = subst (λ (o : Stepped). IfDid o (λ x z. z ≡ effect s (effect_of p input s t))) e (has_effect gated p input s t)
 
 -- a step behind another that leaves what it depends on
-pub behind : (gated : List InstrId) (p : NumberedProgram) (input : List ℤ) (s z w : State) (t : ℕ) (x : Step) → AgreeFor (effect_of p input s t) s z → step gated p input s t ≡ Did x w → step gated p input z t ≡ Did x (effect z (effect_of p input s t))
+pub behind : (gated : List InstrId) (p : NumberedProgram) (input : List ℤ) (s z w : State) (t : ℕ) (x : Step) → AgreeFor (effect_of p input s t) s z → step gated p input s t ≡ Did x w
+    → step gated p input z t ≡ Did x (effect z (effect_of p input s t))
 behind gated p input s z w t x h e =
     let d = did_by (step gated p input z t) x (sym (tells_alike gated p input s z t h) ∙ ap tells e) in
     d.1 ∙ ap (λ (v : State). Did x v) (left_by gated p input z d.0 t x d.1 ∙ ap (effect z) (sym (effect_alike p input s z t h)))
@@ -194,7 +198,9 @@ thread_is : (p : NumberedProgram) (input : List ℤ) (s : State) (t : ℕ) → (
 unfolding effect_of
 thread_is p input s t = refl
 
-pub change_places : (gated : List InstrId) (p : NumberedProgram) (input : List ℤ) (s z w : State) (t u : ℕ) (x y : Step) → step gated p input s t ≡ Did x z → step gated p input s u ≡ Did y w → AreApart (effect_of p input s t) (effect_of p input s u) → t < length s.locals → u < length s.locals → length s.memory ≡ GRANULE_COUNT → ChangePlaces gated p input t u x y z w
+pub change_places : (gated : List InstrId) (p : NumberedProgram) (input : List ℤ) (s z w : State) (t u : ℕ) (x y : Step) → step gated p input s t ≡ Did x z
+    → step gated p input s u ≡ Did y w → AreApart (effect_of p input s t) (effect_of p input s u) → t < length s.locals → u < length s.locals → length s.memory ≡ GRANULE_COUNT
+    → ChangePlaces gated p input t u x y z w
 change_places gated p input s z w t u x y d c h k l g =
     let e = effect_of p input s t in
     let f = effect_of p input s u in

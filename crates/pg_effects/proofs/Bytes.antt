@@ -1,5 +1,6 @@
 -- Memory by its bytes, whatever is written where.
-use Rattle.std.proofs.Common.{◌≡◌, ℕ, zero, suc, ◌+◌, ◌-◌, ◌*◌, ◌/◌, ◌%◌, ◌^◌, ◌<◌, ◌≤◌, Bool, true, false, length, refl, sym, ap, ◌∙◌, arith, slice_index}
+use Rattle.std.proofs.Common.{◌≡◌, ℕ, zero, suc, ◌+◌, ◌-◌, ◌*◌, ◌/◌, ◌%◌, ◌^◌, ◌<◌, ◌≤◌, Bool, true, false, length, refl, sym, ap, ◌∙◌, arith}
+use Rattle.std.proofs.Common.{slice_index}
 use Rattle.std.specs.Prelude.{◌&&◌, nat_le, nat_lt, if◌then◌else◌}
 use Rattle.std.proofs.lemmas.Bool.Decides.{nat_tests}
 use Rattle.std.proofs.lemmas.List.{get_or_past}
@@ -81,7 +82,8 @@ same_read m n r h = same_number (byte_at m) (byte_at n) r.start r.start r.bytes 
 
 -- ---- two writes
 
-both_with : (m : Words) (r q : ByteRange) (v w b : ℕ) → b < MEMORY_BYTES → (is_in r b && is_in q b) ≡ false → with_bytes (byte_at (written m r v)) q w b ≡ with_bytes (byte_at (written m q w)) r v b
+both_with : (m : Words) (r q : ByteRange) (v w b : ℕ) → b < MEMORY_BYTES → (is_in r b && is_in q b) ≡ false
+    → with_bytes (byte_at (written m r v)) q w b ≡ with_bytes (byte_at (written m q w)) r v b
 both_with m r q v w b l h = go (is_in r b) (is_in q b) refl refl
   where
     go : (x y : Bool) → is_in r b ≡ x → is_in q b ≡ y → with_bytes (byte_at (written m r v)) q w b ≡ with_bytes (byte_at (written m q w)) r v b

@@ -39,10 +39,12 @@ request_cross ls t l None h = refl
 request_cross ls t l (Some r) h = made_cross ls t l r.made h
 
 -- the first is no request
-locals_plain : (ls : List LocalState) (t u : ℕ) (l k : Option LocalState) (r : Option RequestEffect) → t ≢ u → t < length ls → local_set u k (locals_with r (local_set t l ls)) ≡ local_set t l (local_set u k (locals_with r ls))
+locals_plain : (ls : List LocalState) (t u : ℕ) (l k : Option LocalState) (r : Option RequestEffect) → t ≢ u → t < length ls
+    → local_set u k (locals_with r (local_set t l ls)) ≡ local_set t l (local_set u k (locals_with r ls))
 locals_plain ls t u l k r n h = ap (local_set u k) (request_cross ls t l r h) ∙ local_cross (locals_with r ls) t u l k n
 
-locals_cross : (ls : List LocalState) (t u : ℕ) (l k : Option LocalState) (q r : Option RequestEffect) → t ≢ u → (is_some q && is_some r) ≡ false → t < length ls → u < length ls → local_set u k (locals_with r (local_set t l (locals_with q ls))) ≡ local_set t l (locals_with q (local_set u k (locals_with r ls)))
+locals_cross : (ls : List LocalState) (t u : ℕ) (l k : Option LocalState) (q r : Option RequestEffect) → t ≢ u → (is_some q && is_some r) ≡ false → t < length ls → u < length ls
+    → local_set u k (locals_with r (local_set t l (locals_with q ls))) ≡ local_set t l (locals_with q (local_set u k (locals_with r ls)))
 locals_cross ls t u l k None r n e h i = locals_plain ls t u l k r n h
 locals_cross ls t u l k (Some q) None n e h i = sym (locals_plain ls u t k l (Some q) (λ c. n (sym c)) i)
 locals_cross ls t u l k (Some q) (Some r) n e h i = absurd cc
@@ -54,7 +56,8 @@ memory_cross m None w h = refl
 memory_cross m (Some v) None h = refl
 memory_cross m (Some v) (Some w) h = written_cross m v.at w.at v.number w.number (λ b. only b (is_in v.at b) (is_in w.at b) refl refl (h b))
   where
-    only : (b : ℕ) (x y : Bool) → is_in v.at b ≡ x → is_in w.at b ≡ y → (is_some (byte_in (Some v) b) && is_some (byte_in (Some w) b)) ≡ false → (is_in v.at b && is_in w.at b) ≡ false
+    only : (b : ℕ) (x y : Bool) → is_in v.at b ≡ x → is_in w.at b ≡ y → (is_some (byte_in (Some v) b) && is_some (byte_in (Some w) b)) ≡ false
+        → (is_in v.at b && is_in w.at b) ≡ false
     only b true true e k q = let z : true ≡ false = rw (e, k) at q in absurd cc
     only b true false e k q = rw (e, k) refl
     only b false y e k q = rw e refl

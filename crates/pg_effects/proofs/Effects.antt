@@ -77,7 +77,8 @@ answer_is s z m a e = (sym (ap (λ (q : Answered). q.0) e), same_answer m a (ap 
 no_answer : (s z : State) (name : TrapName) (a : ℕ) (P : Type 0) → Path Answered (s, Err name) (z, Ok a) → P
 no_answer s z name a P e = let k : Path (Result ℕ TrapName) (Err name) (Ok a) = ap (λ (q : Answered). q.1) e in absurd cc
 
-event_answer : (p : NumberedProgram) (input : List ℤ) (s z : State) (t a : ℕ) (r : Request) (o : Option TrapName) → Path Answered (on_applied p s t r (sync.on_check o s.sync (sync.done s.sync t r))) (z, Ok a) → IsAnswer p input s t (actions.Event r) z a
+event_answer : (p : NumberedProgram) (input : List ℤ) (s z : State) (t a : ℕ) (r : Request) (o : Option TrapName)
+    → Path Answered (on_applied p s t r (sync.on_check o s.sync (sync.done s.sync t r))) (z, Ok a) → IsAnswer p input s t (actions.Event r) z a
 event_answer p input s z t a r (Some name) e = no_answer _ z name a (IsAnswer p input s t (actions.Event r) z a) e
 event_answer p input s z t a r None e =
     let k = answer_is _ z _ a e in
@@ -104,7 +105,8 @@ locals_is p t a (Some l) ls = refl
 abbrev goes_on : NumberedProgram → ℕ → Option LocalState → State → ℕ → State
 goes_on p t o z a = record z { locals = local_after p z.locals t a o }
 
-effect_is : (p : NumberedProgram) (input : List ℤ) (s z : State) (t a : ℕ) → IsAnswer p input s t (next_of p s t) z a → goes_on p t (slice_get s.locals t) z a ≡ effect s (effect_of p input s t)
+effect_is : (p : NumberedProgram) (input : List ℤ) (s z : State) (t a : ℕ) → IsAnswer p input s t (next_of p s t) z a
+    → goes_on p t (slice_get s.locals t) z a ≡ effect s (effect_of p input s t)
 unfolding effect effect_of
 effect_is p input s z t a h =
     ap (λ (w : State). goes_on p t (slice_get s.locals t) w a) h.0

@@ -92,7 +92,8 @@ create_writes = refl
 
 -- ---- gates
 
-gated_load : marked true (told.Access (record { pointer = 1; number = 2; bytes = 4; writes = false; event = false })) ≡ told.Access (record { pointer = 1; number = 2; bytes = 4; writes = false; event = true })
+gated_load : marked true (told.Access (record { pointer = 1; number = 2; bytes = 4; writes = false; event = false }))
+    ≡ told.Access (record { pointer = 1; number = 2; bytes = 4; writes = false; event = true })
 gated_load = refl
 
 gated_branch : marked true (told.Branch 1) ≡ told.Branch 1

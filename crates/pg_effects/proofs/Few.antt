@@ -1,5 +1,6 @@
 -- In a run there are at most as many threads as may be made, and as many local states as threads.
-use Rattle.std.proofs.Common.{◌≡◌, ℕ, ℤ, ◌+◌, ◌≤◌, ◌<◌, List, [], ◌∷◌, ◌++◌, length, map, Bool, true, false, Option, Some, None, Result, Ok, Err, refl, sym, ◌∙◌, ap, subst, arith}
+use Rattle.std.proofs.Common.{◌≡◌, ℕ, ℤ, ◌+◌, ◌≤◌, ◌<◌, List, [], ◌∷◌, ◌++◌, length, map, Bool, true, false, Option, Some, None, Result, Ok, Err, refl, sym}
+use Rattle.std.proofs.Common.{◌∙◌, ap, subst, arith}
 use Rattle.std.specs.Prelude.{slice_get, slice_set, filter, find, nat_lt, ◌==◌, if◌then◌else◌}
 use Rattle.std.proofs.lemmas.List.{length-append}
 use Rattle.pg_num.specs.declared.limits.TheConstants.{THREAD_LIMIT}
@@ -38,7 +39,8 @@ makes r = 0
 plus_none : (m n : ℕ) → m ≡ n → m ≡ n + 0
 plus_none m n e = omega (arith, e)
 
-arrive_if : (y : sync.Sync) (t b count arrived : ℕ) (c : Bool) → length (if c then record y { objects = put_object b (objects.Barrier count (arrived + 1)) y.objects; threads = sync.at_stage t (Arrived b false false) y.threads }
+arrive_if : (y : sync.Sync) (t b count arrived : ℕ) (c : Bool) → length
+    (if c then record y { objects = put_object b (objects.Barrier count (arrived + 1)) y.objects; threads = sync.at_stage t (Arrived b false false) y.threads }
     else record y { objects = put_object b (objects.Barrier count 0) y.objects; threads = sync.at_stage t (Arrived b true true) (map (sync.release b) y.threads) }).threads ≡ length y.threads
 arrive_if y t b count arrived true = set_length y.threads t _
 arrive_if y t b count arrived false = set_length (map (sync.release b) y.threads) t _ ∙ release_length b y.threads
@@ -48,11 +50,13 @@ arrive_length y t b None = refl
 arrive_length y t b (Some (objects.Barrier count arrived)) = arrive_if y t b count arrived (nat_lt (arrived + 1) count)
 arrive_length y t b (Some o) = refl
 
-choice_length : (y : sync.Sync) (es : List Entry) (a b : Reply) (c : Bool) → length (if◌then◌else◌ {A = sync.Sync × Reply} c (record y { objects = es }, a) (y, b)).0.threads ≡ length y.threads
+choice_length : (y : sync.Sync) (es : List Entry) (a b : Reply) (c : Bool)
+    → length (if◌then◌else◌ {A = sync.Sync × Reply} c (record y { objects = es }, a) (y, b)).0.threads ≡ length y.threads
 choice_length y es a b true = refl
 choice_length y es a b false = refl
 
-init_length : (y : sync.Sync) (es : List Entry) (a b : Reply) (c : Bool) → length (if◌then◌else◌ {A = sync.Sync × Reply} c (y, a) (record y { objects = es }, b)).0.threads ≡ length y.threads
+init_length : (y : sync.Sync) (es : List Entry) (a b : Reply) (c : Bool)
+    → length (if◌then◌else◌ {A = sync.Sync × Reply} c (y, a) (record y { objects = es }, b)).0.threads ≡ length y.threads
 init_length y es a b true = refl
 init_length y es a b false = refl
 
@@ -83,7 +87,8 @@ IsAllowed s t action = Unit {0}
 no_answer : (s z : State) (name : TrapName) (a : ℕ) (P : Type 0) → Path Answered (s, Err name) (z, Ok a) → P
 no_answer s z name a P e = let k : Path (Result ℕ TrapName) (Err name) (Ok a) = ap (λ (q : Answered). q.1) e in absurd cc
 
-event_allowed : (p : NumberedProgram) (s z : State) (t a : ℕ) (r : Request) (o : Option TrapName) → sync.check s.sync t r ≡ o → Path Answered (on_applied p s t r (sync.on_check o s.sync (sync.done s.sync t r))) (z, Ok a) → sync.check s.sync t r ≡ None
+event_allowed : (p : NumberedProgram) (s z : State) (t a : ℕ) (r : Request) (o : Option TrapName) → sync.check s.sync t r ≡ o
+    → Path Answered (on_applied p s t r (sync.on_check o s.sync (sync.done s.sync t r))) (z, Ok a) → sync.check s.sync t r ≡ None
 event_allowed p s z t a r None h e = h
 event_allowed p s z t a r (Some name) h e = no_answer _ z name a (sync.check s.sync t r ≡ None) e
 

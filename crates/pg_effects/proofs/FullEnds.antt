@@ -1,5 +1,6 @@
 -- The full guided run, where the guided run doesn't stray.
-use Rattle.std.proofs.Common.{◌≡◌, ◌≢◌, ℕ, ℤ, zero, suc, ◌+◌, ◌<◌, ◌≤◌, List, [], ◌∷◌, length, drop, take, replicate, Bool, true, false, Option, Some, None, refl, sym, ◌∙◌, ap, subst, arith, inl, inr, ◌⊎◌}
+use Rattle.std.proofs.Common.{◌≡◌, ◌≢◌, ℕ, ℤ, zero, suc, ◌+◌, ◌<◌, ◌≤◌, List, [], ◌∷◌, length, drop, take, replicate, Bool, true, false, Option, Some}
+use Rattle.std.proofs.Common.{None, refl, sym, ◌∙◌, ap, subst, arith, inl, inr, ◌⊎◌}
 use Rattle.std.specs.Prelude.{◌||◌, nat_le, is_some, slice_get, slice_index, if◌then◌else◌}
 use Rattle.std.proofs.lemmas.Bool.{cases_lt}
 use Rattle.std.proofs.lemmas.Bool.Decides.{nat_tests}
@@ -19,15 +20,14 @@ use Rattle.pg_machine.specs.declared.guided_end.GuidedEnd.TheVariants as ends
 use Rattle.pg_machine.specs.State.{State, initial, action_in, id_in, next_of, instr_of}
 use Rattle.pg_machine.specs.MachineStep.{is_ended, trap_of, turn_of}
 use Rattle.pg_machine.specs.Runs.{events, steps_of}
-use Rattle.pg_machine.specs.Permitted.{IsFull, IsHeld, IsHeldBy, IsPermitted, end_before, full_end, has_spent, has_turn, rests, traps, trapped, turns_left}
-use Rattle.pg_machine.specs.Guided.{GuidedRun, all_left, guided, guided_of}
-use Rattle.pg_machine.specs.FullGuided.{completed, full_guided_of, gone_on, stands, stops_early, with_others}
+use Rattle.pg_machine.specs.Permitted.{IsFull, IsHeldBy, IsPermitted, end_before, full_end, has_spent, has_turn, rests, traps, trapped, turns_left}
+use Rattle.pg_machine.specs.Guided.{GuidedRun, all_left, guided_of}
+use Rattle.pg_machine.specs.FullGuided.{full_guided_of, gone_on, stands, stops_early, with_others}
 use Rattle.pg_machine.proofs.GuidedExits.{guided_exits}
 use Rattle.pg_machine.proofs.GuidedPermitted.{guided_permitted}
 use Rattle.pg_machine.proofs.GuidedRuns.{guided_is}
-use Rattle.pg_effects.specs.PermittedSteps.{PermittedSteps, none_taken}
 use Rattle.pg_effects.proofs.Few.{FewThreads, few_initial, few_run}
-use Rattle.pg_effects.proofs.FullGuides.{Gone, all_gone, trap_kept}
+use Rattle.pg_effects.proofs.FullGuides.{Gone, all_gone, all_within, trap_kept}
 use Rattle.pg_effects.proofs.Permits.{permitted_is}
 use Rattle.pg_effects.proofs.Walks.{Guides, HaltsAt, HaltsBy, guides}
 
@@ -39,16 +39,6 @@ take_drop (suc n) (u ∷ us) = take_drop n us
 all_at : (t : ℕ) → t < THREAD_LIMIT → slice_index all_left t ≡ GUIDED_STEP_LIMIT
 unfolding all_left
 all_at t h = get_or-replicate THREAD_LIMIT t GUIDED_STEP_LIMIT 0 h
-
-index_within : (n v t : ℕ) → slice_index (replicate n v) t ≤ v
-index_within zero v zero = omega arith
-index_within zero v (suc t) = omega arith
-index_within (suc n) v zero = omega arith
-index_within (suc n) v (suc t) = index_within n v t
-
-all_within : (t : ℕ) → slice_index all_left t ≤ GUIDED_STEP_LIMIT
-unfolding all_left
-all_within t = index_within THREAD_LIMIT GUIDED_STEP_LIMIT t
 
 le_true : (m n : ℕ) → m ≤ n → nat_le m n ≡ true
 le_true m n h = grind (arith, nat_tests)
@@ -128,11 +118,13 @@ module _ (gated : List InstrId) (p : NumberedProgram) (input : List ℤ) (turns 
       where
         by_left : t < THREAD_LIMIT → (stands gated p r.state t ≡ true) ⊎ (slice_index r.left t ≡ 0) → rests gated p r.trace r.state t ≡ true
         by_left l (inl x) = one_of_three (is_ended (next_of p r.state t)) (traps p r.state t) (has_spent r.trace t) (is_some (turn_of gated p r.state t)) x
-        by_left l (inr x) = third (is_ended (next_of p r.state t)) (traps p r.state t) (has_spent r.trace t) (is_some (turn_of gated p r.state t)) (spent_true r.trace t (let c = gone.counts t in let a = all_at t l in omega (arith, c, a, x)))
+        by_left l (inr x) = third (is_ended (next_of p r.state t)) (traps p r.state t) (has_spent r.trace t) (is_some (turn_of gated p r.state t))
+            (spent_true r.trace t (let c = gone.counts t in let a = all_at t l in omega (arith, c, a, x)))
 
         go : (t < THREAD_LIMIT) ⊎ (THREAD_LIMIT ≤ t) → rests gated p r.trace r.state t ≡ true
         go (inl l) = by_left l (gone.others t l n h)
-        go (inr l) = first_of_four (is_ended (next_of p r.state t)) (traps p r.state t) (has_spent r.trace t) (is_some (turn_of gated p r.state t)) (not_made p r.state t (few_after r.trace r.state permitted) l)
+        go (inr l) = first_of_four (is_ended (next_of p r.state t)) (traps p r.state t) (has_spent r.trace t) (is_some (turn_of gated p r.state t))
+            (not_made p r.state t (few_after r.trace r.state permitted) l)
 
     trap_is : trap_of r.state next.thread.0 (next_of p r.state next.thread.0) ≡ trap_of r0.state next.thread.0 (next_of p r0.state next.thread.0)
     trap_is = trap_kept gated p input r.state r0.state next.thread.0 gone.owner gone.objects
@@ -193,7 +185,8 @@ module _ (gated : List InstrId) (p : NumberedProgram) (input : List ℤ) (turns 
     guides0 = subst (Guides gated p input turns 0 all_left) (sym is_guided) (guides gated p input turns 0 (initial p) all_left)
 
     left0 : turns_left turns r0.trace ≡ drop r0.turns turns
-    left0 = ap (λ (us : List Turn). drop (length us) turns) (subst (λ (r : GuidedRun). events r.trace ≡ take r.turns turns) (sym is_guided) (guided_is p input turns gated).1) ∙ take_drop r0.turns turns
+    left0 = ap (λ (us : List Turn). drop (length us) turns) (subst (λ (r : GuidedRun). events r.trace ≡ take r.turns turns) (sym is_guided) (guided_is p input turns gated).1)
+        ∙ take_drop r0.turns turns
 
     halts0 : HaltsAt gated p input (drop r0.turns turns) r0.end r0.state r0.left
     halts0 = let e : guides0.done ≡ r0.turns = (let t = guides0.turns in omega (arith, t)) in subst (λ (n : ℕ). HaltsAt gated p input (drop n turns) r0.end r0.state r0.left) e guides0.halts
@@ -224,7 +217,8 @@ module _ (gated : List InstrId) (p : NumberedProgram) (input : List ℤ) (turns 
     as_guided (ends.Exit value) e s = record {
       permitted = permitted0;
       end = refl;
-      full = λ n. let k = subst (λ (r : GuidedRun). IsFull gated p turns r.trace r.state × (full_end p turns r.trace r.state ≡ ends.Exit value)) (sym is_guided) (guided_exits p input turns gated value (ap (λ (r : GuidedRun). r.end) (sym is_guided) ∙ e)) in (k.0, k.1 ∙ sym e);
+      full = λ n. let k = subst (λ (r : GuidedRun). IsFull gated p turns r.trace r.state × (full_end p turns r.trace r.state ≡ ends.Exit value)) (sym is_guided)
+          (guided_exits p input turns gated value (ap (λ (r : GuidedRun). r.end) (sym is_guided) ∙ e)) in (k.0, k.1 ∙ sym e);
     }
     as_guided ends.Strayed e s = record { permitted = permitted0; end = refl; full = λ n. absurd (n e) }
     as_guided (ends.Trap name id) e s = absurd cc
@@ -234,6 +228,7 @@ module _ (gated : List InstrId) (p : NumberedProgram) (input : List ℤ) (turns 
     completes true e = rw e (gone_whole (drop r0.turns turns) refl e halts0)
     completes false e = rw e (as_guided r0.end refl e)
 
-pub full_is : (p : NumberedProgram) (input : List ℤ) (turns : List Turn) (gated : List InstrId) → IsWhole gated p input turns (guided_of p input turns gated).end (full_guided_of p input turns gated)
+pub full_is : (p : NumberedProgram) (input : List ℤ) (turns : List Turn) (gated : List InstrId)
+    → IsWhole gated p input turns (guided_of p input turns gated).end (full_guided_of p input turns gated)
 unfolding full_guided_of
 full_is p input turns gated = completes gated p input turns (guided_of p input turns gated) refl (stops_early (guided_of p input turns gated).end) refl

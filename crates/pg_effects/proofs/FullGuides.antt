@@ -1,5 +1,6 @@
 -- The full guided run is permitted and full, and ends as the guided run does.
-use Rattle.std.proofs.Common.{◌≡◌, ◌≢◌, ℕ, ℤ, zero, suc, ◌+◌, ◌<◌, ◌≤◌, List, [], ◌∷◌, ◌++◌, length, drop, take, replicate, Bool, true, false, Option, Some, None, Result, Ok, Err, refl, sym, ◌∙◌, ap, subst, arith, inl, inr, ◌⊎◌}
+use Rattle.std.proofs.Common.{◌≡◌, ◌≢◌, ℕ, ℤ, zero, suc, ◌+◌, ◌<◌, ◌≤◌, List, [], ◌∷◌, ◌++◌, length, drop, take, replicate, Bool, true, false, Option}
+use Rattle.std.proofs.Common.{Some, None, Result, Ok, Err, refl, sym, ◌∙◌, ap, subst, arith, inl, inr, ◌⊎◌}
 use Rattle.std.specs.Prelude.{◌==◌, ◌&&◌, ◌||◌, not, nat_le, is_some, slice_get, slice_set, slice_index, if◌then◌else◌}
 use Rattle.std.proofs.lemmas.Bool.Decides.{nat_tests}
 use Rattle.std.proofs.lemmas.List.Elements.{filter_map-append}
@@ -44,6 +45,18 @@ or_last : (a b : Bool) → b ≡ true → (a || b) ≡ true
 or_last true b e = refl
 or_last false b e = e
 
+-- ---- how many steps a thread has left
+
+index_within : (n v t : ℕ) → slice_index (replicate n v) t ≤ v
+index_within zero v zero = omega arith
+index_within zero v (suc t) = omega arith
+index_within (suc n) v zero = omega arith
+index_within (suc n) v (suc t) = index_within n v t
+
+pub all_within : (t : ℕ) → slice_index all_left t ≤ GUIDED_STEP_LIMIT
+unfolding all_left
+all_within t = index_within THREAD_LIMIT GUIDED_STEP_LIMIT t
+
 -- ---- a plain step
 
 module _ (gated : List InstrId) (p : NumberedProgram) (input : List ℤ) where
@@ -61,7 +74,8 @@ module _ (gated : List InstrId) (p : NumberedProgram) (input : List ℤ) where
   abbrev stands_by : ℕ → State → Action → Bool
   stands_by t s action = is_ended action || is_some (trap_of s t action) || is_some (turn_with s t (happening_of gated s t action))
 
-  goes_by : (t : ℕ) (s : State) (action : Action) → stands_by t s action ≡ false → Settles t s (answered p input s t action) × (may_act s t action ≡ true) × (is_some (request_effect p s t action) ≡ false)
+  goes_by : (t : ℕ) (s : State) (action : Action) → stands_by t s action ≡ false
+      → Settles t s (answered p input s t action) × (may_act s t action ≡ true) × (is_some (request_effect p s t action) ≡ false)
   unfolding answered
   goes_by t s actions.Local h = ((_, _, refl), refl, refl)
   goes_by t s (actions.In i) h = ((_, _, refl), refl, refl)
@@ -92,11 +106,14 @@ module _ (gated : List InstrId) (p : NumberedProgram) (input : List ℤ) where
       go None k = refl
       go (Some r) k = absurd cc
 
-  plain_others : (t u : ℕ) (s : State) → is_some (request_effect p s t (next_of p s t)) ≡ false → (u ≡ t → ⊥) → slice_get (effect s (effect_of p input s t)).locals u ≡ slice_get s.locals u
+  plain_others : (t u : ℕ) (s : State) → is_some (request_effect p s t (next_of p s t)) ≡ false → (u ≡ t → ⊥)
+      → slice_get (effect s (effect_of p input s t)).locals u ≡ slice_get s.locals u
   unfolding effect effect_of
-  plain_others t u s h n = go (request_effect p s t (next_of p s t)) (Rattle.pg_effects.specs.Effect.own_after p (Rattle.pg_effects.specs.Effect.answer_to input s t (next_of p s t)) (slice_get s.locals t)) h
+  plain_others t u s h n =
+      go (request_effect p s t (next_of p s t)) (Rattle.pg_effects.specs.Effect.own_after p (Rattle.pg_effects.specs.Effect.answer_to input s t (next_of p s t)) (slice_get s.locals t)) h
     where
-      go : (r : Option Rattle.pg_effects.specs.Effect.RequestEffect) (l : Option LocalState) → is_some r ≡ false → slice_get (Rattle.pg_effects.specs.Effect.local_set t l (Rattle.pg_effects.specs.Effect.locals_with r s.locals)) u ≡ slice_get s.locals u
+      go : (r : Option Rattle.pg_effects.specs.Effect.RequestEffect) (l : Option LocalState) → is_some r ≡ false
+          → slice_get (Rattle.pg_effects.specs.Effect.local_set t l (Rattle.pg_effects.specs.Effect.locals_with r s.locals)) u ≡ slice_get s.locals u
       go None None k = refl
       go None (Some l) k = set_other s.locals t u l n
       go (Some r) l k = absurd cc
@@ -110,7 +127,8 @@ module _ (gated : List InstrId) (p : NumberedProgram) (input : List ℤ) where
     pub objects : w.state.sync ≡ s.sync
     pub locals : (u : ℕ) → (u ≡ t → ⊥) → slice_get w.state.locals u ≡ slice_get s.locals u
     pub rests : (stands gated p w.state t ≡ true) ⊎ (w.left ≡ 0)
-    pub permitted : (us : List Turn) (counts : ℕ → ℕ) → has_turn t us ≡ true → counts t + n ≤ GUIDED_STEP_LIMIT → sync.over s.sync ≡ false → PermittedSteps gated p input s us counts w.trace w.state
+    pub permitted : (us : List Turn) (counts : ℕ → ℕ) → has_turn t us ≡ true → counts t + n ≤ GUIDED_STEP_LIMIT → sync.over s.sync ≡ false
+        → PermittedSteps gated p input s us counts w.trace w.state
 
   rests_here : (t n : ℕ) (s : State) → (stands gated p s t ≡ true) ⊎ (n ≡ 0) → Alone t n s (here s n None)
   rests_here t n s h = record { own = omega arith; other = λ u k. refl; plain = refl; objects = refl; locals = λ u k. refl; rests = h; permitted = λ us counts k l o. refl }
@@ -118,7 +136,8 @@ module _ (gated : List InstrId) (p : NumberedProgram) (input : List ℤ) where
   one_more_own : (t : ℕ) (counts : ℕ → ℕ) → one_more t counts t ≡ suc (counts t)
   one_more_own t counts = rw (same_as_itself t) refl
 
-  goes_first : (t n : ℕ) (s : State) (more : State → Walk) → stands gated p s t ≡ false → ((z : State) → Alone t n z (more z)) → Alone t (suc n) s (on_plain s n (step gated p input s t) more)
+  goes_first : (t n : ℕ) (s : State) (more : State → Walk) → stands gated p s t ≡ false → ((z : State) → Alone t n z (more z))
+      → Alone t (suc n) s (on_plain s n (step gated p input s t) more)
   goes_first t n s more st h =
       let g = goes t s st in
       subst (λ (o : Stepped). Alone t (suc n) s (on_plain s n o more)) (sym g.did) (by_step g)
@@ -141,7 +160,11 @@ module _ (gated : List InstrId) (p : NumberedProgram) (input : List ℤ) where
             rests = r.rests;
             permitted = λ us counts k l o. (
               record {
-                takes = record { after = z; is_ready = subst (λ (u : ℕ). ready p s u ≡ true) (sym i) (is_ready t s o g.acts); is_step = subst (λ (u : ℕ). step gated p input s u ≡ Did x z) (sym i) g.did };
+                takes = record {
+                  after = z;
+                  is_ready = subst (λ (u : ℕ). ready p s u ≡ true) (sym i) (is_ready t s o g.acts);
+                  is_step = subst (λ (u : ℕ). step gated p input s u ≡ Did x z) (sym i) g.did;
+                };
                 owner = subst (λ (u : ℕ). has_turn u us ≡ true) (sym i) k;
                 budget = subst (λ (u : ℕ). counts u < GUIDED_STEP_LIMIT) (sym i) (omega (arith, l));
                 due = rw e tt;
@@ -165,7 +188,8 @@ module _ (gated : List InstrId) (p : NumberedProgram) (input : List ℤ) where
           no_turn : stands gated p s t ≡ false → turn_of gated p s t ≡ None
           no_turn k = no_turn_by (is_ended (next_of p s t)) (traps p s t) (turn_of gated p s t) k
 
-  walk_by : (t n : ℕ) (s : State) (b : Bool) → stands gated p s t ≡ b → ((z : State) → Alone t n z (walk_alone n gated p input t z)) → Alone t (suc n) s (if b then here s (suc n) None else on_plain s n (step gated p input s t) (λ z. walk_alone n gated p input t z))
+  walk_by : (t n : ℕ) (s : State) (b : Bool) → stands gated p s t ≡ b → ((z : State) → Alone t n z (walk_alone n gated p input t z))
+      → Alone t (suc n) s (if b then here s (suc n) None else on_plain s n (step gated p input s t) (λ z. walk_alone n gated p input t z))
   walk_by t n s true e h = rests_here t (suc n) s (inl e)
   walk_by t n s false e h = goes_first t n s (λ z. walk_alone n gated p input t z) e h
 
@@ -189,13 +213,18 @@ module _ (gated : List InstrId) (p : NumberedProgram) (input : List ℤ) where
   trap_same s z t (actions.Trap name) e = refl
   trap_same s z t action e = refl
 
-  event_same : (s z : State) (t : ℕ) (action : Action) → instr_of s t ≡ instr_of z t → is_some (turn_with s t (happening_of gated s t action)) ≡ is_some (turn_with z t (happening_of gated z t action))
-  event_same s z t (actions.Load r) e = ap (λ (n : ℕ). is_some (turn_with s t (Rattle.pg_machine.specs.MachineStep.happening_if (Rattle.pg_machine.specs.MachineStep.is_gated gated n) Rattle.pg_trace.specs.declared.turn.TurnKind.TheVariants.Load r.start))) e ∙ some_same s z t _
+  event_same : (s z : State) (t : ℕ) (action : Action) → instr_of s t ≡ instr_of z t
+      → is_some (turn_with s t (happening_of gated s t action)) ≡ is_some (turn_with z t (happening_of gated z t action))
+  event_same s z t (actions.Load r) e = ap (λ (n : ℕ). is_some
+      (turn_with s t (Rattle.pg_machine.specs.MachineStep.happening_if
+      (Rattle.pg_machine.specs.MachineStep.is_gated gated n) Rattle.pg_trace.specs.declared.turn.TurnKind.TheVariants.Load r.start))) e ∙ some_same s z t _
     where
       some_same : (s z : State) (t : ℕ) (o : Option Rattle.pg_trace.specs.declared.step.Happening.Happening) → is_some (turn_with s t o) ≡ is_some (turn_with z t o)
       some_same s z t None = refl
       some_same s z t (Some h) = refl
-  event_same s z t (actions.Store r n) e = ap (λ (n : ℕ). is_some (turn_with s t (Rattle.pg_machine.specs.MachineStep.happening_if (Rattle.pg_machine.specs.MachineStep.is_gated gated n) Rattle.pg_trace.specs.declared.turn.TurnKind.TheVariants.Store r.start))) e ∙ some_same s z t _
+  event_same s z t (actions.Store r n) e = ap (λ (n : ℕ). is_some
+      (turn_with s t (Rattle.pg_machine.specs.MachineStep.happening_if
+      (Rattle.pg_machine.specs.MachineStep.is_gated gated n) Rattle.pg_trace.specs.declared.turn.TurnKind.TheVariants.Store r.start))) e ∙ some_same s z t _
     where
       some_same : (s z : State) (t : ℕ) (o : Option Rattle.pg_trace.specs.declared.step.Happening.Happening) → is_some (turn_with s t o) ≡ is_some (turn_with z t o)
       some_same s z t None = refl
@@ -226,16 +255,6 @@ module _ (gated : List InstrId) (p : NumberedProgram) (input : List ℤ) where
       pub others : (t : ℕ) → t < n → (t ≡ next.thread.0 → ⊥) → has_turn t later ≡ true → (stands gated p r.state t ≡ true) ⊎ (slice_index r.left t ≡ 0)
       pub end : r.end ≡ r0.end
 
-    index_within : (n v t : ℕ) → slice_index (replicate n v) t ≤ v
-    index_within zero v zero = omega arith
-    index_within zero v (suc t) = omega arith
-    index_within (suc n) v zero = omega arith
-    index_within (suc n) v (suc t) = index_within n v t
-
-    all_within : (t : ℕ) → slice_index all_left t ≤ GUIDED_STEP_LIMIT
-    unfolding all_left
-    all_within t = index_within THREAD_LIMIT GUIDED_STEP_LIMIT t
-
     has_later : (t : ℕ) → has_turn t later ≡ true → has_turn t (next ∷ later) ≡ true
     has_later t h = go (next.thread.0 == t) refl
       where
@@ -244,13 +263,15 @@ module _ (gated : List InstrId) (p : NumberedProgram) (input : List ℤ) where
         go false e = rw e h
 
     no_events : (xs ys : List Step) → events ys ≡ [] → turns_left turns (xs ++ ys) ≡ turns_left turns xs
-    no_events xs ys h = ap (λ (us : List Turn). drop (length us) turns) (filter_map-append event_of xs ys ∙ ap (λ (us : List Turn). events xs ++ us) h ∙ Rattle.std.proofs.Common.append-nil (events xs))
+    no_events xs ys h = ap (λ (us : List Turn). drop (length us) turns)
+        (filter_map-append event_of xs ys ∙ ap (λ (us : List Turn). events xs ++ us) h ∙ Rattle.std.proofs.Common.append-nil (events xs))
 
     not_same : (t u : ℕ) (b : Bool) → (t == u) ≡ b → not b ≡ true → t ≡ u → ⊥
     not_same t u true e h q = absurd cc
     not_same t u false e h q = let k : true ≡ false = sym (same_as_itself u) ∙ ap (λ (i : ℕ). i == u) (sym q) ∙ e in absurd cc
 
-    goes_on : (t : ℕ) (r : GuidedRun) → Gone t r → (t ≡ next.thread.0 → ⊥) → has_turn t later ≡ true → Gone (suc t) (with_walk r t (walk_alone (slice_index r.left t) gated p input t r.state))
+    goes_on : (t : ℕ) (r : GuidedRun) → Gone t r → (t ≡ next.thread.0 → ⊥) → has_turn t later ≡ true
+        → Gone (suc t) (with_walk r t (walk_alone (slice_index r.left t) gated p input t r.state))
     goes_on t r h other has =
         let w = walk_alone (slice_index r.left t) gated p input t r.state in
         let a = alone t (slice_index r.left t) r.state in
@@ -259,7 +280,12 @@ module _ (gated : List InstrId) (p : NumberedProgram) (input : List ℤ) where
         record {
           objects = a.objects ∙ h.objects;
           left_turns = no_events r.trace w.trace a.plain ∙ h.left_turns;
-          permitted = (steps_join gated p input (initial p) w.state turns none_taken r.trace w.trace).1 (r.state, h.permitted, a.permitted (turns_left turns r.trace) (λ u. none_taken u + steps_of u r.trace) (subst (λ (us : List Turn). has_turn t us ≡ true) (sym h.left_turns) (has_later t has)) (omega (arith, fits)) (ap sync.over h.objects ∙ going));
+          permitted = (steps_join gated p input (initial p) w.state turns none_taken r.trace w.trace).1 (
+            r.state,
+            h.permitted,
+            a.permitted (turns_left turns r.trace) (λ u. none_taken u + steps_of u r.trace)
+                (subst (λ (us : List Turn). has_turn t us ≡ true) (sym h.left_turns) (has_later t has)) (omega (arith, fits)) (ap sync.over h.objects ∙ going),
+          );
           counts = λ u. counts_by u (u == t) refl less a;
           owner = a.locals next.thread.0 (λ q. other (sym q)) ∙ h.owner;
           spent = steps_append next.thread.0 r.trace w.trace ∙ (let c = a.other next.thread.0 (λ q. other (sym q)) in let d = h.spent in omega (arith, c, d));
@@ -267,8 +293,10 @@ module _ (gated : List InstrId) (p : NumberedProgram) (input : List ℤ) where
           end = h.end;
         }
       where
-        counts_by : (u : ℕ) (b : Bool) → (u == t) ≡ b → (walk_alone (slice_index r.left t) gated p input t r.state).left ≤ slice_index r.left t → Alone t (slice_index r.left t) r.state (walk_alone (slice_index r.left t) gated p input t r.state) →
-            slice_index (slice_set r.left t (walk_alone (slice_index r.left t) gated p input t r.state).left) u + steps_of u (r.trace ++ (walk_alone (slice_index r.left t) gated p input t r.state).trace) ≡ slice_index all_left u
+        counts_by : (u : ℕ) (b : Bool) → (u == t) ≡ b → (walk_alone (slice_index r.left t) gated p input t r.state).left ≤ slice_index r.left t
+            → Alone t (slice_index r.left t) r.state (walk_alone (slice_index r.left t) gated p input t r.state) →
+            slice_index (slice_set r.left t (walk_alone (slice_index r.left t) gated p input t r.state).left) u + steps_of u
+            (r.trace ++ (walk_alone (slice_index r.left t) gated p input t r.state).trace) ≡ slice_index all_left u
         counts_by u true e less a =
             let w = walk_alone (slice_index r.left t) gated p input t r.state in
             let q : u ≡ t = same_number u t e in
@@ -286,13 +314,19 @@ module _ (gated : List InstrId) (p : NumberedProgram) (input : List ℤ) where
             let d = h.counts u in
             omega (arith, c, i, o, d)
 
-        others_by : (u : ℕ) (b : Bool) → (u == t) ≡ b → (walk_alone (slice_index r.left t) gated p input t r.state).left ≤ slice_index r.left t → Alone t (slice_index r.left t) r.state (walk_alone (slice_index r.left t) gated p input t r.state) → u < suc t → (u ≡ next.thread.0 → ⊥) → has_turn u later ≡ true →
-            (stands gated p (walk_alone (slice_index r.left t) gated p input t r.state).state u ≡ true) ⊎ (slice_index (slice_set r.left t (walk_alone (slice_index r.left t) gated p input t r.state).left) u ≡ 0)
+        others_by : (u : ℕ) (b : Bool) → (u == t) ≡ b → (walk_alone (slice_index r.left t) gated p input t r.state).left ≤ slice_index r.left t
+            → Alone t (slice_index r.left t) r.state (walk_alone (slice_index r.left t) gated p input t r.state) → u < suc t → (u ≡ next.thread.0 → ⊥) → has_turn u later ≡ true →
+            (stands gated p (walk_alone (slice_index r.left t) gated p input t r.state).state u ≡ true)
+            ⊎ (slice_index (slice_set r.left t (walk_alone (slice_index r.left t) gated p input t r.state).left) u ≡ 0)
         others_by u true e less a l n k = own (same_number u t e) a.rests
           where
-            own : u ≡ t → (stands gated p (walk_alone (slice_index r.left t) gated p input t r.state).state t ≡ true) ⊎ ((walk_alone (slice_index r.left t) gated p input t r.state).left ≡ 0) → (stands gated p (walk_alone (slice_index r.left t) gated p input t r.state).state u ≡ true) ⊎ (slice_index (slice_set r.left t (walk_alone (slice_index r.left t) gated p input t r.state).left) u ≡ 0)
+            own : u ≡ t → (stands gated p (walk_alone (slice_index r.left t) gated p input t r.state).state t ≡ true)
+                ⊎ ((walk_alone (slice_index r.left t) gated p input t r.state).left ≡ 0)
+                → (stands gated p (walk_alone (slice_index r.left t) gated p input t r.state).state u ≡ true)
+                ⊎ (slice_index (slice_set r.left t (walk_alone (slice_index r.left t) gated p input t r.state).left) u ≡ 0)
             own q (inl x) = inl (subst (λ (v : ℕ). stands gated p (walk_alone (slice_index r.left t) gated p input t r.state).state v ≡ true) (sym q) x)
-            own q (inr x) = inr (ap (slice_index (slice_set r.left t (walk_alone (slice_index r.left t) gated p input t r.state).left)) q ∙ index_set r.left t (walk_alone (slice_index r.left t) gated p input t r.state).left less ∙ x)
+            own q (inr x) = inr (ap (slice_index (slice_set r.left t (walk_alone (slice_index r.left t) gated p input t r.state).left)) q
+                ∙ index_set r.left t (walk_alone (slice_index r.left t) gated p input t r.state).left less ∙ x)
         others_by u false e less a l n k = kept apart (h.others u (below apart) n k)
           where
             apart : u ≡ t → ⊥
@@ -305,7 +339,9 @@ module _ (gated : List InstrId) (p : NumberedProgram) (input : List ℤ) where
                 go (inl x) = x
                 go (inr x) = absurd (c (omega (arith, x, l)))
 
-            kept : (u ≡ t → ⊥) → (stands gated p r.state u ≡ true) ⊎ (slice_index r.left u ≡ 0) → (stands gated p (walk_alone (slice_index r.left t) gated p input t r.state).state u ≡ true) ⊎ (slice_index (slice_set r.left t (walk_alone (slice_index r.left t) gated p input t r.state).left) u ≡ 0)
+            kept : (u ≡ t → ⊥) → (stands gated p r.state u ≡ true) ⊎ (slice_index r.left u ≡ 0)
+                → (stands gated p (walk_alone (slice_index r.left t) gated p input t r.state).state u ≡ true)
+                ⊎ (slice_index (slice_set r.left t (walk_alone (slice_index r.left t) gated p input t r.state).left) u ≡ 0)
             kept c (inl x) = inl (stands_same (walk_alone (slice_index r.left t) gated p input t r.state).state r.state u (a.locals u c) a.objects ∙ x)
             kept c (inr x) = inr (index_other r.left t u _ c ∙ x)
 
@@ -326,7 +362,8 @@ module _ (gated : List InstrId) (p : NumberedProgram) (input : List ℤ) where
         none false true e k c n q = absurd cc
         none false false e k c n q = let z : true ≡ false = sym q ∙ k in absurd cc
 
-        by_cases : (u : ℕ) → u < suc t → (u ≡ next.thread.0 → ⊥) → has_turn u later ≡ true → (d : Bool) → (u == t) ≡ d → (stands gated p r.state u ≡ true) ⊎ (slice_index r.left u ≡ 0)
+        by_cases : (u : ℕ) → u < suc t → (u ≡ next.thread.0 → ⊥) → has_turn u later ≡ true → (d : Bool) → (u == t) ≡ d
+            → (stands gated p r.state u ≡ true) ⊎ (slice_index r.left u ≡ 0)
         by_cases u l n q true f =
             let same : u ≡ t = same_number u t f in
             absurd (none a b e k c (λ z. n (same ∙ z)) (subst (λ (v : ℕ). has_turn v later ≡ true) same q))
@@ -339,7 +376,8 @@ module _ (gated : List InstrId) (p : NumberedProgram) (input : List ℤ) where
     one : (t : ℕ) (r : GuidedRun) → Gone t r → Gone (suc t) (with_thread gated p input next later t r)
     one t r h = go (t == next.thread.0) (has_turn t later) refl refl
       where
-        go : (a b : Bool) → (t == next.thread.0) ≡ a → has_turn t later ≡ b → Gone (suc t) (if not (t == next.thread.0) && has_turn t later then with_walk r t (walk_alone (slice_index r.left t) gated p input t r.state) else r)
+        go : (a b : Bool) → (t == next.thread.0) ≡ a → has_turn t later ≡ b
+            → Gone (suc t) (if not (t == next.thread.0) && has_turn t later then with_walk r t (walk_alone (slice_index r.left t) gated p input t r.state) else r)
         go true b e k = rw e (stays t r true b e k refl h)
         go false true e k = rw (e, k) (goes_on t r h (not_same t next.thread.0 false e refl) k)
         go false false e k = rw (e, k) (stays t r false false e k refl h)

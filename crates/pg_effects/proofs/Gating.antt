@@ -14,7 +14,8 @@ use Rattle.pg_step.specs.declared.action.Action.TheVariants as actions
 use Rattle.pg_trace.specs.declared.step.Step.{Step}
 use Rattle.pg_trace.specs.declared.step.StepKind.{StepKind}
 use Rattle.pg_machine.specs.State.{State, initial, instr_of, next_of}
-use Rattle.pg_machine.specs.MachineStep.{Answered, Stepped, Did, Trapped, answered, instr_told, is_gated, kind_told, known_told, local_after, number_in, op_told, operands_in, settled, step, step_told, taken}
+use Rattle.pg_machine.specs.MachineStep.{Answered, Stepped, Did, Trapped, answered, instr_told, is_gated, kind_told, known_told, local_after, number_in, op_told, operands_in, settled, step}
+use Rattle.pg_machine.specs.MachineStep.{step_told, taken}
 use Rattle.pg_machine.specs.Rotation.{rotation_of}
 use Rattle.pg_machine.specs.Runs.{IsRun, Takes}
 use Rattle.pg_machine.proofs.Runs.{rotation_runs}
@@ -35,7 +36,8 @@ instr_marked : (b : Bool) (ns : List ℕ) (n : ℕ) (o : Option Instr) → marke
 instr_marked b ns n None = refl
 instr_marked b ns n (Some x) = op_marked b ns n x.op
 
-kind_marked : (gated other : List InstrId) (p : NumberedProgram) (s : State) (t : ℕ) (ns : List ℕ) (a n : ℕ) (action : Action) → kind_told gated p s t ns a n action ≡ marked (is_gated gated (instr_of s t)) (kind_told other p s t ns a n action)
+kind_marked : (gated other : List InstrId) (p : NumberedProgram) (s : State) (t : ℕ) (ns : List ℕ) (a n : ℕ) (action : Action)
+    → kind_told gated p s t ns a n action ≡ marked (is_gated gated (instr_of s t)) (kind_told other p s t ns a n action)
 kind_marked gated other p s t ns a n actions.Local = sym (instr_marked (is_gated gated (instr_of s t)) ns n (slice_get p.instrs (instr_of s t)))
 kind_marked gated other p s t ns a n (actions.Load r) = refl
 kind_marked gated other p s t ns a n (actions.Store r m) = refl
@@ -55,12 +57,14 @@ step_gated gated other p input s t = go (answered p input s t (next_of p s t))
     go (z, Err name) = refl
     go (z, Ok a) = ap (λ (x : Step). Did x (record z { locals = local_after p z.locals t a (slice_get s.locals t) })) (told_marked gated other p s t a)
 
-pub run_gated : (gated other : List InstrId) (p : NumberedProgram) (input : List ℤ) (s z : State) (xs : List Step) → IsRun other p input s xs z → IsRun gated p input s (map (with_gates gated) xs) z
+pub run_gated : (gated other : List InstrId) (p : NumberedProgram) (input : List ℤ) (s z : State) (xs : List Step) → IsRun other p input s xs z
+    → IsRun gated p input s (map (with_gates gated) xs) z
 run_gated gated other p input s z [] h = h
 run_gated gated other p input s z (x ∷ xs) h = (
   record { after = h.0.after; is_ready = h.0.is_ready; is_step = step_gated gated other p input s x.thread.0 ∙ ap (gated_as gated) h.0.is_step },
   run_gated gated other p input h.0.after z xs h.1,
 )
 
-pub rotation_gated : (gated : List InstrId) (p : NumberedProgram) (input : List ℤ) (q : ℕ) → IsRun gated p input (initial p) (map (with_gates gated) (rotation_of p input q).trace) (rotation_of p input q).state
+pub rotation_gated : (gated : List InstrId) (p : NumberedProgram) (input : List ℤ) (q : ℕ)
+    → IsRun gated p input (initial p) (map (with_gates gated) (rotation_of p input q).trace) (rotation_of p input q).state
 rotation_gated gated p input q = run_gated gated [] p input (initial p) (rotation_of p input q).state (rotation_of p input q).trace (rotation_runs p input q)

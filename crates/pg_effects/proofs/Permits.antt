@@ -1,5 +1,6 @@
 -- A permitted run is one whose steps may be taken one after another.
-use Rattle.std.proofs.Common.{◌≡◌, ℕ, ℤ, zero, suc, ◌+◌, ◌<◌, ◌≤◌, List, [], ◌∷◌, ◌++◌, length, drop, take, Bool, true, false, Option, Some, None, refl, sym, ◌∙◌, ap, subst, arith}
+use Rattle.std.proofs.Common.{◌≡◌, ℕ, ℤ, zero, suc, ◌+◌, ◌<◌, ◌≤◌, List, [], ◌∷◌, ◌++◌, length, drop, take, Bool, true, false, Option, Some, None, refl}
+use Rattle.std.proofs.Common.{sym, ◌∙◌, ap, subst, arith}
 use Rattle.std.specs.Prelude.{◌==◌, ◌↔◌, cond, IfSome, slice_get, if◌then◌else◌}
 use Rattle.std.proofs.lemmas.List.Sums.{sum_by-append, sum_by-cons}
 use Rattle.std.proofs.lemmas.List.Elements.{filter_map-append}
@@ -27,7 +28,7 @@ count_first t x xs = sum_by-cons (λ (y : Step). cond (y.thread.0 == t) 1 0) x x
 count_more : (t : ℕ) (counts : ℕ → ℕ) (x : Step) (xs : List Step) → one_more x.thread.0 counts t + steps_of t xs ≡ counts t + steps_of t (x ∷ xs)
 count_more t counts x xs = counted (x.thread.0 == t) (counts t) (steps_of t xs) ∙ ap (λ (k : ℕ). counts t + k) (sym (count_first t x xs))
 
-count_own : (x : Step) (xs : List Step) → steps_of x.thread.0 (x ∷ xs) ≡ 1 + steps_of x.thread.0 xs
+pub count_own : (x : Step) (xs : List Step) → steps_of x.thread.0 (x ∷ xs) ≡ 1 + steps_of x.thread.0 xs
 count_own x xs = count_first x.thread.0 x xs ∙ ap (λ (b : Bool). cond b 1 0 + steps_of x.thread.0 xs) (same_as_itself x.thread.0)
 
 pub steps_append : (t : ℕ) (xs ys : List Step) → steps_of t (xs ++ ys) ≡ steps_of t xs + steps_of t ys
@@ -56,7 +57,8 @@ tail_of [] = []
 tail_of (u ∷ us) = us
 
 -- the events of a step and of those behind it are the first of the turns
-first_due : (v : Option Turn) (us : List Turn) (x : Step) (xs : List Step) → event_of x ≡ v → events (x ∷ xs) ++ turns_left us (x ∷ xs) ≡ us → IsDue v us × (events xs ++ turns_left (turns_behind v us) xs ≡ turns_behind v us)
+pub first_due : (v : Option Turn) (us : List Turn) (x : Step) (xs : List Step) → event_of x ≡ v → events (x ∷ xs) ++ turns_left us (x ∷ xs) ≡ us
+    → IsDue v us × (events xs ++ turns_left (turns_behind v us) xs ≡ turns_behind v us)
 unfolding head_or tail_of
 first_due None us x xs e h = (tt, rw e at h)
 first_due (Some v) [] x xs e h = let k : Path (List Turn) (v ∷ (events xs ++ [])) [] = rw e at h in absurd cc
@@ -64,7 +66,8 @@ first_due (Some v) (u ∷ us) x xs e h =
     let k : v ∷ (events xs ++ drop (length (events xs)) us) ≡ u ∷ us = rw e at h in
     (ap (head_or v) k, ap tail_of k)
 
-due_first : (v : Option Turn) (us : List Turn) (x : Step) (xs : List Step) → event_of x ≡ v → IsDue v us → events xs ++ turns_left (turns_behind v us) xs ≡ turns_behind v us → events (x ∷ xs) ++ turns_left us (x ∷ xs) ≡ us
+due_first : (v : Option Turn) (us : List Turn) (x : Step) (xs : List Step) → event_of x ≡ v → IsDue v us → events xs ++ turns_left (turns_behind v us) xs ≡ turns_behind v us
+    → events (x ∷ xs) ++ turns_left us (x ∷ xs) ≡ us
 due_first None us x xs e d h = rw e h
 due_first (Some v) [] x xs e d h = absurd d
 due_first (Some v) (u ∷ us) x xs e d h = rw e (ap (λ (ws : List Turn). v ∷ ws) h ∙ ap (λ (w : Turn). w ∷ us) d)
@@ -79,7 +82,8 @@ module _ (gated : List InstrId) (p : NumberedProgram) (input : List ℤ) where
     pub budget : (t : ℕ) → counts t + steps_of t xs ≤ GUIDED_STEP_LIMIT
     pub owners : (i : ℕ) → IfSome (slice_get xs i) (λ (x : Step). has_turn x.thread.0 (turns_left us (take i xs)) ≡ true)
 
-  first_fits : (counts : ℕ → ℕ) (x : Step) → ((t : ℕ) → counts t ≤ GUIDED_STEP_LIMIT) → counts x.thread.0 < GUIDED_STEP_LIMIT → (t : ℕ) → one_more x.thread.0 counts t ≤ GUIDED_STEP_LIMIT
+  first_fits : (counts : ℕ → ℕ) (x : Step) → ((t : ℕ) → counts t ≤ GUIDED_STEP_LIMIT) → counts x.thread.0 < GUIDED_STEP_LIMIT → (t : ℕ)
+      → one_more x.thread.0 counts t ≤ GUIDED_STEP_LIMIT
   first_fits counts x h k t = go (x.thread.0 == t) refl
     where
       go : (b : Bool) → (x.thread.0 == t) ≡ b → one_more x.thread.0 counts t ≤ GUIDED_STEP_LIMIT
@@ -89,14 +93,18 @@ module _ (gated : List InstrId) (p : NumberedProgram) (input : List ℤ) where
           let l : counts t < GUIDED_STEP_LIMIT = subst (λ (u : ℕ). counts u < GUIDED_STEP_LIMIT) same k in
           rw e (omega (arith, l))
 
-  owners_more : (us : List Turn) (x : Step) (xs : List Step) → has_turn x.thread.0 us ≡ true → ((i : ℕ) → IfSome (slice_get xs i) (λ (y : Step). has_turn y.thread.0 (turns_left (turns_behind (event_of x) us) (take i xs)) ≡ true)) → (i : ℕ) → IfSome (slice_get (x ∷ xs) i) (λ (y : Step). has_turn y.thread.0 (turns_left us (take i (x ∷ xs))) ≡ true)
+  owners_more : (us : List Turn) (x : Step) (xs : List Step) → has_turn x.thread.0 us ≡ true
+      → ((i : ℕ) → IfSome (slice_get xs i) (λ (y : Step). has_turn y.thread.0 (turns_left (turns_behind (event_of x) us) (take i xs)) ≡ true)) → (i : ℕ)
+      → IfSome (slice_get (x ∷ xs) i) (λ (y : Step). has_turn y.thread.0 (turns_left us (take i (x ∷ xs))) ≡ true)
   owners_more us x xs h k zero = h
   owners_more us x xs h k (suc i) = subst (λ (ws : List Turn). IfSome (slice_get xs i) (λ (y : Step). has_turn y.thread.0 ws ≡ true)) (turns_more us x (take i xs)) (k i)
 
-  owners_less : (us : List Turn) (x : Step) (xs : List Step) → ((i : ℕ) → IfSome (slice_get (x ∷ xs) i) (λ (y : Step). has_turn y.thread.0 (turns_left us (take i (x ∷ xs))) ≡ true)) → (i : ℕ) → IfSome (slice_get xs i) (λ (y : Step). has_turn y.thread.0 (turns_left (turns_behind (event_of x) us) (take i xs)) ≡ true)
+  owners_less : (us : List Turn) (x : Step) (xs : List Step) → ((i : ℕ) → IfSome (slice_get (x ∷ xs) i) (λ (y : Step). has_turn y.thread.0 (turns_left us (take i (x ∷ xs))) ≡ true))
+      → (i : ℕ) → IfSome (slice_get xs i) (λ (y : Step). has_turn y.thread.0 (turns_left (turns_behind (event_of x) us) (take i xs)) ≡ true)
   owners_less us x xs k i = subst (λ (ws : List Turn). IfSome (slice_get xs i) (λ (y : Step). has_turn y.thread.0 ws ≡ true)) (sym (turns_more us x (take i xs))) (k (suc i))
 
-  pub from_steps : (s z : State) (us : List Turn) (counts : ℕ → ℕ) (xs : List Step) → ((t : ℕ) → counts t ≤ GUIDED_STEP_LIMIT) → PermittedSteps gated p input s us counts xs z → PermittedFrom s us counts xs z
+  pub from_steps : (s z : State) (us : List Turn) (counts : ℕ → ℕ) (xs : List Step) → ((t : ℕ) → counts t ≤ GUIDED_STEP_LIMIT) → PermittedSteps gated p input s us counts xs z
+      → PermittedFrom s us counts xs z
   from_steps s z us counts [] b h = record { run = h; in_order = refl; budget = λ t. let k = b t in omega (arith, k); owners = λ i. tt }
   from_steps s z us counts (x ∷ xs) b h =
       let r = from_steps h.0.takes.after z (turns_behind (event_of x) us) (one_more x.thread.0 counts) xs (first_fits counts x b h.0.budget) h.1 in
@@ -128,10 +136,12 @@ module _ (gated : List InstrId) (p : NumberedProgram) (input : List ℤ) where
 
 -- ---- permitted runs
 
-pub permitted_is : (p : NumberedProgram) (input : List ℤ) (turns : List Turn) (gated : List InstrId) (xs : List Step) (s : State) → IsPermitted p input turns gated xs s ↔ PermittedSteps gated p input (initial p) turns none_taken xs s
+pub permitted_is : (p : NumberedProgram) (input : List ℤ) (turns : List Turn) (gated : List InstrId) (xs : List Step) (s : State) → IsPermitted p input turns gated xs s
+    ↔ PermittedSteps gated p input (initial p) turns none_taken xs s
 permitted_is p input turns gated xs s = (
   λ h. to_steps gated p input (initial p) s turns none_taken xs (record { run = h.run; in_order = h.in_order; budget = λ t. let k = h.budget t in omega (arith, k); owners = h.owners }),
-  λ h. let r = from_steps gated p input (initial p) s turns none_taken xs (λ t. omega arith) h in record { run = r.run; in_order = r.in_order; budget = λ t. let k = r.budget t in omega (arith, k); owners = r.owners },
+  λ h. let r = from_steps gated p input (initial p) s turns none_taken xs (λ t. omega arith) h in
+      record { run = r.run; in_order = r.in_order; budget = λ t. let k = r.budget t in omega (arith, k); owners = r.owners },
 )
 
 -- ---- one list of steps behind another
@@ -158,34 +168,50 @@ more_same : (t : ℕ) (m n : ℕ → ℕ) → ((u : ℕ) → m u ≡ n u) → (u
 more_same t m n h u = ap (λ (k : ℕ). if t == u then suc k else k) (h u)
 
 module _ (gated : List InstrId) (p : NumberedProgram) (input : List ℤ) where
-  counts_same : (s z : State) (us : List Turn) (m n : ℕ → ℕ) (xs : List Step) → ((t : ℕ) → m t ≡ n t) → PermittedSteps gated p input s us m xs z → PermittedSteps gated p input s us n xs z
+  counts_same : (s z : State) (us : List Turn) (m n : ℕ → ℕ) (xs : List Step) → ((t : ℕ) → m t ≡ n t) → PermittedSteps gated p input s us m xs z
+      → PermittedSteps gated p input s us n xs z
   counts_same s z us m n [] e h = h
   counts_same s z us m n (x ∷ xs) e h = (
     record { takes = h.0.takes; owner = h.0.owner; budget = subst (λ (k : ℕ). k < GUIDED_STEP_LIMIT) (e x.thread.0) h.0.budget; due = h.0.due },
     counts_same h.0.takes.after z (turns_behind (event_of x) us) (one_more x.thread.0 m) (one_more x.thread.0 n) xs (more_same x.thread.0 m n e) h.1,
   )
 
-  splits : (s z : State) (us : List Turn) (counts : ℕ → ℕ) (xs ys : List Step) → PermittedSteps gated p input s us counts (xs ++ ys) z → (v : State) × PermittedSteps gated p input s us counts xs v × PermittedSteps gated p input v (turns_after us xs) (counts_after counts xs) ys z
+  splits : (s z : State) (us : List Turn) (counts : ℕ → ℕ) (xs ys : List Step) → PermittedSteps gated p input s us counts (xs ++ ys) z
+      → (v : State) × PermittedSteps gated p input s us counts xs v × PermittedSteps gated p input v (turns_after us xs) (counts_after counts xs) ys z
   unfolding turns_after counts_after
   splits s z us counts [] ys h = (s, refl, h)
   splits s z us counts (x ∷ xs) ys h = let k = splits h.0.takes.after z (turns_behind (event_of x) us) (one_more x.thread.0 counts) xs ys h.1 in (k.0, (h.0, k.1), k.2)
 
-  joins : (s v z : State) (us : List Turn) (counts : ℕ → ℕ) (xs ys : List Step) → PermittedSteps gated p input s us counts xs v → PermittedSteps gated p input v (turns_after us xs) (counts_after counts xs) ys z → PermittedSteps gated p input s us counts (xs ++ ys) z
+  joins : (s v z : State) (us : List Turn) (counts : ℕ → ℕ) (xs ys : List Step) → PermittedSteps gated p input s us counts xs v
+      → PermittedSteps gated p input v (turns_after us xs) (counts_after counts xs) ys z → PermittedSteps gated p input s us counts (xs ++ ys) z
   unfolding turns_after counts_after
   joins s v z us counts [] ys h k = subst (λ (w : State). PermittedSteps gated p input w us counts ys z) (sym h) k
   joins s v z us counts (x ∷ xs) ys h k = (h.0, joins h.0.takes.after v z (turns_behind (event_of x) us) (one_more x.thread.0 counts) xs ys h.1 k)
 
-  pub steps_join : (s z : State) (us : List Turn) (counts : ℕ → ℕ) (xs ys : List Step) → PermittedSteps gated p input s us counts (xs ++ ys) z ↔ ((v : State) × PermittedSteps gated p input s us counts xs v × PermittedSteps gated p input v (turns_left us xs) (λ t. counts t + steps_of t xs) ys z)
+  pub steps_join : (s z : State) (us : List Turn) (counts : ℕ → ℕ) (xs ys : List Step) → PermittedSteps gated p input s us counts (xs ++ ys) z
+      ↔ ((v : State) × PermittedSteps gated p input s us counts xs v × PermittedSteps gated p input v (turns_left us xs) (λ t. counts t + steps_of t xs) ys z)
   steps_join s z us counts xs ys = (
-    λ h. let k = splits s z us counts xs ys h in (k.0, k.1, counts_same k.0 z (turns_left us xs) (counts_after counts xs) _ ys (counts_after_is counts xs) (subst (λ (ws : List Turn). PermittedSteps gated p input k.0 ws (counts_after counts xs) ys z) (turns_after_is us xs) k.2)),
-    λ h. joins s h.0 z us counts xs ys h.1 (subst (λ (ws : List Turn). PermittedSteps gated p input h.0 ws (counts_after counts xs) ys z) (sym (turns_after_is us xs)) (counts_same h.0 z (turns_left us xs) _ (counts_after counts xs) ys (λ t. sym (counts_after_is counts xs t)) h.2)),
+    λ h. let k = splits s z us counts xs ys h in (
+      k.0,
+      k.1,
+      counts_same k.0 z (turns_left us xs) (counts_after counts xs) _ ys (counts_after_is counts xs)
+          (subst (λ (ws : List Turn). PermittedSteps gated p input k.0 ws (counts_after counts xs) ys z) (turns_after_is us xs) k.2),
+    ),
+    λ h. joins s h.0 z us counts xs ys h.1 (subst (λ (ws : List Turn). PermittedSteps gated p input h.0 ws (counts_after counts xs) ys z) (sym (turns_after_is us xs))
+        (counts_same h.0 z (turns_left us xs) _ (counts_after counts xs) ys (λ t. sym (counts_after_is counts xs t)) h.2)),
   )
 
 -- one step more
-pub permitted_more : (p : NumberedProgram) (input : List ℤ) (turns : List Turn) (gated : List InstrId) (xs : List Step) (x : Step) (z : State) → IsPermitted p input turns gated (xs ++ x ∷ []) z ↔ ((s : State) × IsPermitted p input turns gated xs s × ((m : MayTake gated p input s (turns_left turns xs) (λ t. steps_of t xs) x) × (m.takes.after ≡ z)))
+pub permitted_more : (p : NumberedProgram) (input : List ℤ) (turns : List Turn) (gated : List InstrId) (xs : List Step) (x : Step) (z : State)
+    → IsPermitted p input turns gated (xs ++ x ∷ []) z
+    ↔ ((s : State) × IsPermitted p input turns gated xs s × ((m : MayTake gated p input s (turns_left turns xs) (λ t. steps_of t xs) x) × (m.takes.after ≡ z)))
 permitted_more p input turns gated xs x z =
     let both = permitted_is p input turns gated (xs ++ x ∷ []) z in
     let parts = steps_join gated p input (initial p) z turns none_taken xs (x ∷ []) in (
-      λ h. let k = parts.0 (both.0 h) in (k.0, (permitted_is p input turns gated xs k.0).1 k.1, counts_same gated p input k.0 z (turns_left turns xs) _ (λ t. steps_of t xs) (x ∷ []) (λ t. omega arith) k.2),
+      λ h. let k = parts.0 (both.0 h) in (
+        k.0,
+        (permitted_is p input turns gated xs k.0).1 k.1,
+        counts_same gated p input k.0 z (turns_left turns xs) _ (λ t. steps_of t xs) (x ∷ []) (λ t. omega arith) k.2,
+      ),
       λ h. both.1 (parts.1 (h.0, (permitted_is p input turns gated xs h.0).0 h.1, counts_same gated p input h.0 z (turns_left turns xs) (λ t. steps_of t xs) _ (x ∷ []) (λ t. omega arith) h.2)),
     )

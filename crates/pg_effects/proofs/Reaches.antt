@@ -1,5 +1,6 @@
 -- Each state that a run reaches is one of the machine, with memory, words and threads as they should be.
-use Rattle.std.proofs.Common.{◌≡◌, ℕ, ℤ, zero, suc, ◌+◌, ◌*◌, ◌%◌, ◌-◌, ◌<◌, ◌≤◌, ◌^◌, List, [], ◌∷◌, ◌++◌, length, Bool, true, false, Option, Some, None, Result, Ok, Err, pos, negsuc, refl, sym, ◌∙◌, ap, subst, arith, lit<}
+use Rattle.std.proofs.Common.{◌≡◌, ℕ, ℤ, zero, suc, ◌+◌, ◌*◌, ◌%◌, ◌-◌, ◌<◌, ◌≤◌, ◌^◌, List, [], ◌∷◌, ◌++◌, length, Bool, true, false}
+use Rattle.std.proofs.Common.{Option, Some, None, Result, Ok, Err, pos, negsuc, refl, sym, ◌∙◌, ap, subst, arith, lit<}
 use Rattle.std.specs.Prelude.{◌==◌, ◌&&◌, nat_le, nat_lt, IfSome, slice_get, slice_set, slice_index, if◌then◌else◌}
 use Rattle.std.specs.List.{All}
 use Rattle.std.proofs.lemmas.Bool.Decides.{nat_tests}
@@ -33,7 +34,8 @@ use Rattle.pg_step.specs.States.{IsOf, CanStep}
 use Rattle.pg_trace.specs.declared.step.Step.{Step}
 use Rattle.pg_machine.specs.Machine.{IsMachine}
 use Rattle.pg_machine.specs.State.{State, initial, next_of}
-use Rattle.pg_machine.specs.MachineStep.{Answered, Did, answer_of, answered, input_at, local_after, may_act, number_or_zero, ready, settled, step, taken}
+use Rattle.pg_machine.specs.MachineStep.{Answered, Did, answer_of, answered, local_after, may_act, ready, settled, step, taken}
+use Rattle.pg_num.specs.Inputs.{input_at, number_or_zero}
 use Rattle.pg_machine.specs.Runs.{IsRun}
 use Rattle.pg_machine.proofs.Asks.{next_is, ready_acts, ready_made, same_local, there}
 use Rattle.pg_machine.proofs.Goes.{stands}
@@ -41,7 +43,8 @@ use Rattle.pg_machine.proofs.Keeps.{all_at}
 use Rattle.pg_machine.proofs.PhaseActions.{begun_after}
 use Rattle.pg_machine.proofs.Steps.{initial_is}
 use Rattle.pg_machine.proofs.Threads.{last_other, last_own, set_other, set_own}
-use Rattle.pg_effects.specs.Effect.{Effect, RequestEffect, Write, answer_to, effect, effect_by, effect_of, local_set, locals_with, memory_with, own_after, request_effect, value_with, words_with, write_of}
+use Rattle.pg_effects.specs.Effect.{Effect, RequestEffect, Write, answer_to, effect, effect_by, effect_of, local_set, locals_with, memory_with, own_after, request_effect, value_with}
+use Rattle.pg_effects.specs.Effect.{words_with, write_of}
 use Rattle.pg_effects.specs.Reached.{HoldBytes, IsReached, IsThread}
 use Rattle.pg_effects.proofs.Apart.{left_by}
 use Rattle.pg_effects.proofs.Bytes.{byte_at_small, byte_small, with_small}
@@ -67,7 +70,8 @@ within_bytes W64 n h = h
 
 read_small : (m : Words) (r : ByteRange) (w : Width) → r.bytes ≡ bytes_of w → read m r < 2 ^ 64
 unfolding read
-read_small m r w e = within_bytes w (number_of (byte_at m) r.start r.bytes) (subst (λ (n : ℕ). number_of (byte_at m) r.start r.bytes < 2 ^ (8 * n)) e (number_small (byte_at m) r.start r.bytes (byte_at_small m)))
+read_small m r w e = within_bytes w (number_of (byte_at m) r.start r.bytes)
+    (subst (λ (n : ℕ). number_of (byte_at m) r.start r.bytes < 2 ^ (8 * n)) e (number_small (byte_at m) r.start r.bytes (byte_at_small m)))
 
 residue_small : (n : ℤ) → residue W64 n < 2 ^ 64
 residue_small (pos n) = omega arith
@@ -136,7 +140,8 @@ can_by s t actions.Ended a m = absurd cc
 
 -- ---- the machine
 
-machine_kept : (gated : List InstrId) (p : NumberedProgram) (input : List ℤ) (s z : State) (t : ℕ) (x : Step) → IsProgram p → length input < 2 ^ 64 → IsReached p s → ready p s t ≡ true → step gated p input s t ≡ Did x z → IsMachine p z
+machine_kept : (gated : List InstrId) (p : NumberedProgram) (input : List ℤ) (s z : State) (t : ℕ) (x : Step) → IsProgram p → length input < 2 ^ 64 → IsReached p s
+    → ready p s t ≡ true → step gated p input s t ≡ Did x z → IsMachine p z
 unfolding step
 machine_kept gated p input s z t x program i h g e = go (answered p input s t (next_of p s t)) refl e
   where
@@ -147,7 +152,8 @@ machine_kept gated p input s z t x program i h g e = go (answered p input s t (n
     go : (o : Answered) → answered p input s t (next_of p s t) ≡ o → settled gated p s t (taken p s t o) ≡ Did x z → IsMachine p z
     go (w, Err name) k q = absurd cc
     go (w, Ok a) k q =
-        let small : a < 2 ^ 64 = subst (λ (n : ℕ). n < 2 ^ 64) (sym (answered_is p input s w t a (next_of p s t) k).1) (answer_small p input s t (next_of p s t) h i (small_next p s t program h (ready_made p s t g))) in
+        let small : a < 2 ^ 64 = subst (λ (n : ℕ). n < 2 ^ 64) (sym (answered_is p input s w t a (next_of p s t) k).1)
+        (answer_small p input s t (next_of p s t) h i (small_next p s t program h (ready_made p s t g))) in
         let m = stands p input s w t a program h.machine g small k in
         let own : slice_get w.locals t ≡ slice_get s.locals t = ap (λ (o : Answered). slice_get o.0.locals t) (sym k) ∙ same_local p input s t t (next_of p s t) (ready_made p s t g) in
         let same : record w { locals = local_after p w.locals t a (slice_get s.locals t) } ≡ z = ap (left_in z) q in
@@ -175,7 +181,8 @@ more_small [] n k h (suc u) = h (suc u)
 more_small (w ∷ ws) n k h zero = h zero
 more_small (w ∷ ws) n k h (suc u) = more_small ws n k (λ v. h (suc v)) u
 
-words_kept : (p : NumberedProgram) (s : State) (t : ℕ) (action : Action) → IsSmall action → ((u : ℕ) → slice_index s.words u < 2 ^ 64) → (u : ℕ) → slice_index (words_with t (request_effect p s t action) s.words) u < 2 ^ 64
+words_kept : (p : NumberedProgram) (s : State) (t : ℕ) (action : Action) → IsSmall action → ((u : ℕ) → slice_index s.words u < 2 ^ 64) → (u : ℕ)
+    → slice_index (words_with t (request_effect p s t action) s.words) u < 2 ^ 64
 words_kept p s t (actions.Event (requests.Exit n is_return)) k h u = set_small s.words t n k h u
 words_kept p s t (actions.Event (requests.Create r f n)) k h u = more_small s.words n k h u
 words_kept p s t (actions.Event r) k h u = h u
@@ -198,11 +205,13 @@ first_of_more (w ∷ ws) n h = refl
 not_zero : (t : ℕ) → (suc t == 0) ≡ false
 not_zero t = grind (arith, nat_tests)
 
-exit_value : (ws : List ℕ) (t n v : ℕ) → 0 < length ws → v ≡ slice_index ws 0 → Rattle.pg_effects.specs.Effect.or_old (if t == 0 then Some n else None) v ≡ slice_index (slice_set ws t n) 0
+exit_value : (ws : List ℕ) (t n v : ℕ) → 0 < length ws → v ≡ slice_index ws 0
+    → Rattle.pg_effects.specs.Effect.or_old (if t == 0 then Some n else None) v ≡ slice_index (slice_set ws t n) 0
 exit_value ws zero n v h e = sym (set_first ws n h)
 exit_value ws (suc t) n v h e = ap (λ (b : Bool). Rattle.pg_effects.specs.Effect.or_old (if b then Some n else None) v) (not_zero t) ∙ e ∙ sym (set_later ws t n)
 
-value_kept : (p : NumberedProgram) (s : State) (t : ℕ) (action : Action) → 0 < length s.words → s.value ≡ slice_index s.words 0 → value_with (request_effect p s t action) s.value ≡ slice_index (words_with t (request_effect p s t action) s.words) 0
+value_kept : (p : NumberedProgram) (s : State) (t : ℕ) (action : Action) → 0 < length s.words → s.value ≡ slice_index s.words 0
+    → value_with (request_effect p s t action) s.value ≡ slice_index (words_with t (request_effect p s t action) s.words) 0
 value_kept p s t (actions.Event (requests.Exit n is_return)) l e = exit_value s.words t n s.value l e
 value_kept p s t (actions.Event (requests.Create r f n)) l e = e ∙ sym (first_of_more s.words n l)
 value_kept p s t (actions.Event r) l e = e
@@ -223,14 +232,16 @@ threads_set : (p : NumberedProgram) (ls : List LocalState) (t : ℕ) (l : LocalS
 threads_set p ls t l h k a u = go (u == t) refl
   where
     go : (b : Bool) → (u == t) ≡ b → IfSome (slice_get (slice_set ls t l) u) (IsThread p u)
-    go true e = subst (λ (v : ℕ). IfSome (slice_get (slice_set ls t l) v) (IsThread p v)) (sym (same_place t u e)) (subst (λ (o : Option LocalState). IfSome o (IsThread p t)) (sym (set_own ls t l h)) k)
+    go true e = subst (λ (v : ℕ). IfSome (slice_get (slice_set ls t l) v) (IsThread p v)) (sym (same_place t u e))
+        (subst (λ (o : Option LocalState). IfSome o (IsThread p t)) (sym (set_own ls t l h)) k)
     go false e = subst (λ (o : Option LocalState). IfSome o (IsThread p u)) (sym (set_other ls t u l (other_place t u e))) (a u)
 
 threads_more : (p : NumberedProgram) (ls : List LocalState) (l : LocalState) → IsThread p (length ls) l → AreThreads p ls → AreThreads p (ls ++ l ∷ [])
 threads_more p ls l k a u = go (u == length ls) refl
   where
     go : (b : Bool) → (u == length ls) ≡ b → IfSome (slice_get (ls ++ l ∷ []) u) (IsThread p u)
-    go true e = subst (λ (v : ℕ). IfSome (slice_get (ls ++ l ∷ []) v) (IsThread p v)) (sym (same_place (length ls) u e)) (subst (λ (o : Option LocalState). IfSome o (IsThread p (length ls))) (sym (last_own ls l)) k)
+    go true e = subst (λ (v : ℕ). IfSome (slice_get (ls ++ l ∷ []) v) (IsThread p v)) (sym (same_place (length ls) u e))
+        (subst (λ (o : Option LocalState). IfSome o (IsThread p (length ls))) (sym (last_own ls l)) k)
     go false e = subst (λ (o : Option LocalState). IfSome o (IsThread p u)) (sym (last_other ls l u (other_place (length ls) u e))) (a u)
 
 pub fresh_number : (p : NumberedProgram) (t f : ℕ) → (fresh p t f).thread ≡ t
@@ -266,7 +277,8 @@ no_fewer p s t (actions.Event (requests.Create r f n)) h = let k = Rattle.std.pr
 no_fewer p s t (actions.Event r) h = h
 no_fewer p s t action h = h
 
-threads_kept : (p : NumberedProgram) (s : State) (t a : ℕ) (action : Action) (l : LocalState) → slice_get s.locals t ≡ Some l → CanStep (next p l) → AreThreads p s.locals → AreThreads p (local_set t (own_after p a (slice_get s.locals t)) (locals_with (request_effect p s t action) s.locals))
+threads_kept : (p : NumberedProgram) (s : State) (t a : ℕ) (action : Action) (l : LocalState) → slice_get s.locals t ≡ Some l → CanStep (next p l) → AreThreads p s.locals
+    → AreThreads p (local_set t (own_after p a (slice_get s.locals t)) (locals_with (request_effect p s t action) s.locals))
 threads_kept p s t a action l e c h =
     let own : IsThread p t l = subst (λ (o : Option LocalState). IfSome o (IsThread p t)) e (h t) in
     subst (λ (o : Option LocalState). AreThreads p (local_set t (own_after p a o) (locals_with (request_effect p s t action) s.locals))) (sym e)
@@ -274,7 +286,8 @@ threads_kept p s t a action l e c h =
 
 -- ---- the step
 
-pub reached_step : (gated : List InstrId) (p : NumberedProgram) (input : List ℤ) (s z : State) (t : ℕ) (x : Step) → IsProgram p → length input < 2 ^ 64 → IsReached p s → ready p s t ≡ true → step gated p input s t ≡ Did x z → IsReached p z
+pub reached_step : (gated : List InstrId) (p : NumberedProgram) (input : List ℤ) (s z : State) (t : ℕ) (x : Step) → IsProgram p → length input < 2 ^ 64 → IsReached p s
+    → ready p s t ≡ true → step gated p input s t ≡ Did x z → IsReached p z
 unfolding effect effect_of
 reached_step gated p input s z t x program i h g e =
     let ze : z ≡ effect s (effect_of p input s t) = left_by gated p input s z t x e in
@@ -292,7 +305,7 @@ reached_step gated p input s z t x program i h g e =
 
 -- ---- the first state
 
-byte_first : (gs : List GlobalInfo) (b : ℕ) → HoldBytes gs → initial_byte gs b < 2 ^ 8
+pub byte_first : (gs : List GlobalInfo) (b : ℕ) → HoldBytes gs → initial_byte gs b < 2 ^ 8
 byte_first [] b h = lit< tt
 byte_first (g ∷ gs) b h = by (byte_first gs b h.1) (nat_le (g.start * 8) b && nat_lt b (g.start * 8 + length g.bytes))
   where
@@ -318,6 +331,8 @@ reached_first p program h = record {
     first_threads zero = fresh_thread p 0 p.main
     first_threads (suc t) = tt
 
-pub reached_run : (gated : List InstrId) (p : NumberedProgram) (input : List ℤ) (s z : State) (xs : List Step) → IsProgram p → length input < 2 ^ 64 → IsReached p s → IsRun gated p input s xs z → IsReached p z
+pub reached_run : (gated : List InstrId) (p : NumberedProgram) (input : List ℤ) (s z : State) (xs : List Step) → IsProgram p → length input < 2 ^ 64 → IsReached p s
+    → IsRun gated p input s xs z → IsReached p z
 reached_run gated p input s z [] program i h r = subst (IsReached p) r h
-reached_run gated p input s z (x ∷ xs) program i h r = reached_run gated p input r.0.after z xs program i (reached_step gated p input s r.0.after x.thread.0 x program i h r.0.is_ready r.0.is_step) r.1
+reached_run gated p input s z (x ∷ xs) program i h r = reached_run gated p input r.0.after z xs program i
+    (reached_step gated p input s r.0.after x.thread.0 x program i h r.0.is_ready r.0.is_step) r.1

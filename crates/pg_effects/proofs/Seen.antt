@@ -1,5 +1,6 @@
 -- Steps on states as local states, cells and objects.
-use Rattle.std.proofs.Common.{◌≡◌, ℕ, ℤ, zero, suc, ◌+◌, ◌-◌, ◌<◌, ◌≤◌, List, [], ◌∷◌, ◌++◌, length, map, Bool, true, false, Option, Some, None, refl, sym, ◌∙◌, ap, subst, arith, inl, inr, ◌⊎◌}
+use Rattle.std.proofs.Common.{◌≡◌, ℕ, ℤ, zero, suc, ◌+◌, ◌-◌, ◌<◌, ◌≤◌, List, [], ◌∷◌, ◌++◌, length, map, Bool, true, false, Option, Some, None, refl}
+use Rattle.std.proofs.Common.{sym, ◌∙◌, ap, subst, arith, inl, inr, ◌⊎◌}
 use Rattle.std.specs.Prelude.{◌==◌, nat_lt, is_some, IfSome, slice_get, slice_set, slice_index, if◌then◌else◌}
 use Rattle.std.proofs.lemmas.Bool.{cases_lt}
 use Rattle.std.proofs.lemmas.Bool.Decides.{nat_tests}
@@ -23,7 +24,8 @@ use Rattle.pg_machine.proofs.Asks.{next_is, ready_acts, ready_made}
 use Rattle.pg_machine.proofs.GuidedRuns.{same_as_itself, same_number}
 use Rattle.pg_machine.proofs.PhaseActions.{begun_after}
 use Rattle.pg_machine.proofs.Threads.{last_other, last_own, set_other, set_own, set_length}
-use Rattle.pg_effects.specs.Effect.{Effect, MadeThread, RequestEffect, Write, answer_to, effect, effect_by, effect_of, local_set, locals_with, memory_with, or_old, own_after, request_effect, sync_with, word_read_by, words_with, write_of}
+use Rattle.pg_effects.specs.Effect.{Effect, MadeThread, RequestEffect, Write, answer_to, effect, effect_by, effect_of, local_set, locals_with, memory_with, or_old, own_after, request_effect}
+use Rattle.pg_effects.specs.Effect.{sync_with, word_read_by, words_with, write_of}
 use Rattle.pg_effects.specs.Meets.{AgreeFor, byte_in, byte_written, is_in, made_by, reads_byte}
 use Rattle.pg_effects.specs.Reached.{IsReached, IsThread}
 use Rattle.pg_effects.specs.Views.{AreLikeFor, LeadsTo, Objects, begun_in, cell_at, cell_written, is_thread, local_at, objects_of, objects_with, reads_cell, start_made, start_of, word_in}
@@ -81,26 +83,31 @@ none_if : (b : Bool) → Path (Option ℕ) (if b then None else None) None
 none_if true = refl
 none_if false = refl
 
-create_cell : (p : NumberedProgram) (ws : List ℕ) (k f n t u : ℕ) → k ≡ length ws → slice_index (ws ++ n ∷ []) u ≡ or_old (if (fresh p k f).thread == u then Some n else (if t == u then None else None)) (slice_index ws u)
-create_cell p ws k f n t u h = subst (λ (m : ℕ). slice_index (ws ++ n ∷ []) u ≡ or_old (if m == u then Some n else (if t == u then None else None)) (slice_index ws u)) (sym (fresh_number p k f)) (go (k == u) refl)
+create_cell : (p : NumberedProgram) (ws : List ℕ) (k f n t u : ℕ) → k ≡ length ws
+    → slice_index (ws ++ n ∷ []) u ≡ or_old (if (fresh p k f).thread == u then Some n else (if t == u then None else None)) (slice_index ws u)
+create_cell p ws k f n t u h = subst (λ (m : ℕ). slice_index (ws ++ n ∷ []) u ≡ or_old (if m == u then Some n else (if t == u then None else None)) (slice_index ws u))
+    (sym (fresh_number p k f)) (go (k == u) refl)
   where
     go : (b : Bool) → (k == u) ≡ b → slice_index (ws ++ n ∷ []) u ≡ or_old (if k == u then Some n else (if t == u then None else None)) (slice_index ws u)
     go true e = rw e (ap (slice_index (ws ++ n ∷ [])) (sym (same_number k u e) ∙ h) ∙ index_last ws n)
     go false e = rw (e, none_if (t == u)) (index_before ws u n (λ q. differs k u e (h ∙ sym q)))
 
-word_cell : (p : NumberedProgram) (s : State) (t u : ℕ) (action : Action) → t < length s.words → length s.words ≡ length s.locals → slice_index (words_with t (request_effect p s t action) s.words) u ≡ or_old (word_in t (request_effect p s t action) u) (slice_index s.words u)
+word_cell : (p : NumberedProgram) (s : State) (t u : ℕ) (action : Action) → t < length s.words → length s.words ≡ length s.locals
+    → slice_index (words_with t (request_effect p s t action) s.words) u ≡ or_old (word_in t (request_effect p s t action) u) (slice_index s.words u)
 word_cell p s t u (actions.Event (requests.Exit n is_return)) h k = exit_cell s.words t n u h
 word_cell p s t u (actions.Event (requests.Create r f n)) h k = create_cell p s.words (length s.locals) f n t u (sym k)
 word_cell p s t u (actions.Event r) h k = rw (none_if (t == u)) refl
 word_cell p s t u action h k = refl
 
-cells_by : (p : NumberedProgram) (input : List ℤ) (s : State) (t : ℕ) (action : Action) (c : ℕ) → t < length s.words → length s.words ≡ length s.locals → cell_at (effect s (effect_by p input s t action)) c ≡ or_old (cell_written (effect_by p input s t action) c) (cell_at s c)
+cells_by : (p : NumberedProgram) (input : List ℤ) (s : State) (t : ℕ) (action : Action) (c : ℕ) → t < length s.words → length s.words ≡ length s.locals
+    → cell_at (effect s (effect_by p input s t action)) c ≡ or_old (cell_written (effect_by p input s t action) c) (cell_at s c)
 unfolding effect
 cells_by p input s t action c h k = go (nat_lt c MEMORY_BYTES) refl
   where
     go : (b : Bool) → nat_lt c MEMORY_BYTES ≡ b →
         (if nat_lt c MEMORY_BYTES then byte_at (memory_with (write_of s action) s.memory) c else slice_index (words_with t (request_effect p s t action) s.words) (c - MEMORY_BYTES))
-        ≡ or_old (if nat_lt c MEMORY_BYTES then byte_in (write_of s action) c else word_in t (request_effect p s t action) (c - MEMORY_BYTES)) (if nat_lt c MEMORY_BYTES then byte_at s.memory c else slice_index s.words (c - MEMORY_BYTES))
+        ≡ or_old (if nat_lt c MEMORY_BYTES then byte_in (write_of s action) c else word_in t (request_effect p s t action) (c - MEMORY_BYTES))
+        (if nat_lt c MEMORY_BYTES then byte_at s.memory c else slice_index s.words (c - MEMORY_BYTES))
     go true e = rw e (memory_cell s.memory (write_of s action) c (below c e))
     go false e = rw e (word_cell p s t (c - MEMORY_BYTES) action h k)
 
@@ -144,14 +151,18 @@ no_fewer p s t (actions.Event (requests.Create r f n)) h = let k = Rattle.std.pr
 no_fewer p s t (actions.Event r) h = h
 no_fewer p s t action h = h
 
-locals_by : (p : NumberedProgram) (s : State) (t a u : ℕ) (action : Action) (l : LocalState) → slice_get s.locals t ≡ Some l → CanStep (next p l) → begun_in (slice_get (local_set t (own_after p a (slice_get s.locals t)) (locals_with (request_effect p s t action) s.locals)) u) ≡ (if u == t then own_after p a (slice_get s.locals t) else local_at s u)
+locals_by : (p : NumberedProgram) (s : State) (t a u : ℕ) (action : Action) (l : LocalState) → slice_get s.locals t ≡ Some l → CanStep (next p l)
+    → begun_in (slice_get (local_set t (own_after p a (slice_get s.locals t)) (locals_with (request_effect p s t action) s.locals)) u)
+    ≡ (if u == t then own_after p a (slice_get s.locals t) else local_at s u)
 locals_by p s t a u action l e c = go (u == t) refl
   where
     ls : List LocalState
     ls = locals_with (request_effect p s t action) s.locals
 
-    go : (b : Bool) → (u == t) ≡ b → begun_in (slice_get (local_set t (own_after p a (slice_get s.locals t)) (locals_with (request_effect p s t action) s.locals)) u) ≡ (if u == t then own_after p a (slice_get s.locals t) else local_at s u)
-    go true q = rw (q, e) (ap (λ (i : ℕ). begun_in (slice_get (slice_set (locals_with (request_effect p s t action) s.locals) t (after p l a)) i)) (same_number u t q) ∙ own_local (locals_with (request_effect p s t action) s.locals) t (after p l a) (no_fewer p s t action (slice_get_within s.locals t l e)) (begun_after p l a c))
+    go : (b : Bool) → (u == t) ≡ b → begun_in (slice_get (local_set t (own_after p a (slice_get s.locals t)) (locals_with (request_effect p s t action) s.locals)) u)
+        ≡ (if u == t then own_after p a (slice_get s.locals t) else local_at s u)
+    go true q = rw (q, e) (ap (λ (i : ℕ). begun_in (slice_get (slice_set (locals_with (request_effect p s t action) s.locals) t (after p l a)) i)) (same_number u t q)
+        ∙ own_local (locals_with (request_effect p s t action) s.locals) t (after p l a) (no_fewer p s t action (slice_get_within s.locals t l e)) (begun_after p l a c))
     go false q = rw (q, e) (ap begun_in (set_other (locals_with (request_effect p s t action) s.locals) t u (after p l a) (differs u t q)) ∙ made_kept p s t u action)
 
 -- ---- objects
@@ -183,13 +194,16 @@ map_at [] t l e = absurd cc
 map_at (x ∷ ls) zero l e = let k : x ≡ l = cc in ap (λ y. Some (start_of y)) k
 map_at (x ∷ ls) (suc t) l e = map_at ls t l e
 
-starts_by : (s : State) (t : ℕ) (l m : LocalState) (r : Option RequestEffect) → slice_get s.locals t ≡ Some m → l.begun ≡ true → (is_some r ≡ false → m.begun ≡ true) → Path Objects (record { sync = sync_with r s.sync; starts = map start_of (slice_set (locals_with r s.locals) t l) }) (objects_with t r (objects_of s))
+starts_by : (s : State) (t : ℕ) (l m : LocalState) (r : Option RequestEffect) → slice_get s.locals t ≡ Some m → l.begun ≡ true → (is_some r ≡ false → m.begun ≡ true)
+    → Path Objects (record { sync = sync_with r s.sync; starts = map start_of (slice_set (locals_with r s.locals) t l) }) (objects_with t r (objects_of s))
 starts_by s t l m None e b h =
     ap (λ (fs : List (Option ℕ)). record { sync = s.sync; starts = fs })
-    (map_set s.locals t l ∙ ap (slice_set (map start_of s.locals) t) (start_none l b) ∙ set_none (map start_of s.locals) t (map_at s.locals t m e ∙ ap (λ (o : Option ℕ). Some o) (start_none m (h refl))))
+    (map_set s.locals t l ∙ ap (slice_set (map start_of s.locals) t) (start_none l b)
+    ∙ set_none (map start_of s.locals) t (map_at s.locals t m e ∙ ap (λ (o : Option ℕ). Some o) (start_none m (h refl))))
 starts_by s t l m (Some r) e b h =
     ap (λ (fs : List (Option ℕ)). record { sync = r.objects; starts = fs })
-    (map_set (Rattle.pg_effects.specs.Effect.with_local r.made s.locals) t l ∙ ap (slice_set (map start_of (Rattle.pg_effects.specs.Effect.with_local r.made s.locals)) t) (start_none l b) ∙ ap (λ (fs : List (Option ℕ)). slice_set fs t None) (map_made s.locals r.made))
+    (map_set (Rattle.pg_effects.specs.Effect.with_local r.made s.locals) t l ∙ ap (slice_set (map start_of (Rattle.pg_effects.specs.Effect.with_local r.made s.locals)) t) (start_none l b)
+    ∙ ap (λ (fs : List (Option ℕ)). slice_set fs t None) (map_made s.locals r.made))
 
 -- ---- threads that haven't begun
 
@@ -208,7 +222,8 @@ thread_at : (p : NumberedProgram) (s : State) (t : ℕ) (l : LocalState) → IsR
 thread_at p s t l h e = subst (λ (o : Option LocalState). IfSome o (IsThread p t)) e (h.threads t)
 
 -- a thread whose step is no request has begun
-has_begun : (p : NumberedProgram) (s : State) (t : ℕ) (l : LocalState) → IsReached p s → slice_get s.locals t ≡ Some l → is_some (request_effect p s t (next_of p s t)) ≡ false → l.begun ≡ true
+has_begun : (p : NumberedProgram) (s : State) (t : ℕ) (l : LocalState) → IsReached p s → slice_get s.locals t ≡ Some l → is_some (request_effect p s t (next_of p s t)) ≡ false
+    → l.begun ≡ true
 has_begun p s t l h e n = go l.begun refl
   where
     go : (b : Bool) → l.begun ≡ b → l.begun ≡ true
@@ -221,7 +236,8 @@ has_begun p s t l h e n = go l.begun refl
 
 -- ---- the step
 
-pub leads_to : (gated : List InstrId) (p : NumberedProgram) (input : List ℤ) (s z : State) (t : ℕ) (x : Step) → IsReached p s → ready p s t ≡ true → step gated p input s t ≡ Did x z → LeadsTo (effect_of p input s t) s z
+pub leads_to : (gated : List InstrId) (p : NumberedProgram) (input : List ℤ) (s z : State) (t : ℕ) (x : Step) → IsReached p s → ready p s t ≡ true → step gated p input s t ≡ Did x z
+    → LeadsTo (effect_of p input s t) s z
 unfolding effect effect_of
 leads_to gated p input s z t x h g e =
     let l = ready_made p s t g in
@@ -234,7 +250,13 @@ leads_to gated p input s z t x h g e =
       objects = objects_by (answer_to input s t (next_of p s t)) y.0 y.1 (begun_after p y.0 (answer_to input s t (next_of p s t)) can) (λ n. has_begun p s t y.0 h y.1 n);
     })
   where
-    objects_by : (a : ℕ) (l : LocalState) → slice_get s.locals t ≡ Some l → (after p l a).begun ≡ true → (is_some (request_effect p s t (next_of p s t)) ≡ false → l.begun ≡ true) → Path Objects (record { sync = sync_with (request_effect p s t (next_of p s t)) s.sync; starts = map start_of (local_set t (own_after p a (slice_get s.locals t)) (locals_with (request_effect p s t (next_of p s t)) s.locals)) }) (objects_with t (request_effect p s t (next_of p s t)) (objects_of s))
+    objects_by : (a : ℕ) (l : LocalState) → slice_get s.locals t ≡ Some l → (after p l a).begun ≡ true
+        → (is_some (request_effect p s t (next_of p s t)) ≡ false → l.begun ≡ true)
+        → Path Objects (record {
+          sync = sync_with (request_effect p s t (next_of p s t)) s.sync;
+          starts = map start_of (local_set t (own_after p a (slice_get s.locals t)) (locals_with (request_effect p s t (next_of p s t)) s.locals));
+        })
+        (objects_with t (request_effect p s t (next_of p s t)) (objects_of s))
     objects_by a l q b n = rw q (starts_by s t (after p l a) l (request_effect p s t (next_of p s t)) q b n)
 
 -- ---- what a step depends on
@@ -261,7 +283,8 @@ start_back p z t f h e = go (slice_get z.locals t) refl
         let j : Path (Option ℕ) None (Some f) = cc in absurd cc
     by_begun l k false q =
         let w = (thread_at p z t l h k).waiting q in
-        let i : Path (Option (Option ℕ)) (Some (Some w.0)) (Some (Some f)) = ap (λ (o : Option ℕ). Some o) (sym (starts_fresh p t w.0) ∙ ap start_of (sym w.1)) ∙ sym (map_at z.locals t l k) ∙ e in
+        let i : Path (Option (Option ℕ)) (Some (Some w.0)) (Some (Some f)) =
+        ap (λ (o : Option ℕ). Some o) (sym (starts_fresh p t w.0) ∙ ap start_of (sym w.1)) ∙ sym (map_at z.locals t l k) ∙ e in
         let j : w.0 ≡ f = cc in
         ap (λ (m : LocalState). Some m) w.1 ∙ ap (λ (g : ℕ). Some (fresh p t g)) j
 
@@ -277,14 +300,16 @@ made_asks : (r : Option RequestEffect) → is_some (made_by r) ≡ true → is_s
 made_asks None h = absurd cc
 made_asks (Some r) h = refl
 
-word_like : (s z : State) (o : Option ℕ) → ((c : ℕ) → MEMORY_BYTES ≤ c → is_thread o (c - MEMORY_BYTES) ≡ true → slice_index s.words (c - MEMORY_BYTES) ≡ slice_index z.words (c - MEMORY_BYTES)) → IfSome o (λ t. slice_index s.words t ≡ slice_index z.words t)
+word_like : (s z : State) (o : Option ℕ) → ((c : ℕ) → MEMORY_BYTES ≤ c → is_thread o (c - MEMORY_BYTES) ≡ true
+    → slice_index s.words (c - MEMORY_BYTES) ≡ slice_index z.words (c - MEMORY_BYTES)) → IfSome o (λ t. slice_index s.words t ≡ slice_index z.words t)
 word_like s z None h = tt
 word_like s z (Some t) h =
     let e : MEMORY_BYTES + t - MEMORY_BYTES ≡ t = omega arith in
     rw e at (h (MEMORY_BYTES + t) (omega arith) (rw e (same_as_itself t)))
 
 module _ (p : NumberedProgram) (input : List ℤ) (s z : State) (t : ℕ) (hs : IsReached p s) (hz : IsReached p z) where
-  local_by : (action : Action) → next_of p s t ≡ action → (l : LocalState) → slice_get s.locals t ≡ Some l → AreLikeFor (effect_by p input s t action) s z → slice_get s.locals t ≡ slice_get z.locals t
+  local_by : (action : Action) → next_of p s t ≡ action → (l : LocalState) → slice_get s.locals t ≡ Some l → AreLikeFor (effect_by p input s t action) s z
+      → slice_get s.locals t ≡ slice_get z.locals t
   local_by action n l e h = go l.begun refl
     where
       go : (b : Bool) → l.begun ≡ b → slice_get s.locals t ≡ slice_get z.locals t
@@ -293,19 +318,24 @@ module _ (p : NumberedProgram) (input : List ℤ) (s z : State) (t : ℕ) (hs : 
           let w = (thread_at p s t l hs e).waiting q in
           let k : next_of p s t ≡ actions.Event requests.Start = next_is p s t l e ∙ ap (next p) w.1 ∙ next_fresh p t w.0 in
           let o : objects_of s ≡ objects_of z = h.objects (subst (λ (a : Action). is_some (request_effect p s t a) ≡ true) (sym k ∙ n) refl) in
-          let f : slice_get (map start_of z.locals) t ≡ Some (Some w.0) = ap (λ (x : Objects). slice_get x.starts t) (sym o) ∙ map_at s.locals t l e ∙ ap (λ (m : LocalState). Some (start_of m)) w.1 ∙ ap (λ (x : Option ℕ). Some x) (starts_fresh p t w.0) in
+          let f : slice_get (map start_of z.locals) t ≡ Some (Some w.0) =
+          ap (λ (x : Objects). slice_get x.starts t) (sym o) ∙ map_at s.locals t l e ∙ ap (λ (m : LocalState). Some (start_of m)) w.1
+          ∙ ap (λ (x : Option ℕ). Some x) (starts_fresh p t w.0) in
           e ∙ ap (λ (m : LocalState). Some m) w.1 ∙ sym (start_back p z t w.0 hz f)
 
   cell_below : (e : Effect) (c : ℕ) → AreLikeFor e s z → c < MEMORY_BYTES → reads_byte e c ≡ true → byte_at s.memory c ≡ byte_at z.memory c
   cell_below e c h l r =
       let b : nat_lt c MEMORY_BYTES ≡ true = grind (arith, nat_tests) in
-      let k : (if nat_lt c MEMORY_BYTES then byte_at s.memory c else slice_index s.words (c - MEMORY_BYTES)) ≡ (if nat_lt c MEMORY_BYTES then byte_at z.memory c else slice_index z.words (c - MEMORY_BYTES)) = h.cells c (rw b r) in
+      let k : (if nat_lt c MEMORY_BYTES then byte_at s.memory c else slice_index s.words (c - MEMORY_BYTES))
+      ≡ (if nat_lt c MEMORY_BYTES then byte_at z.memory c else slice_index z.words (c - MEMORY_BYTES)) = h.cells c (rw b r) in
       rw b at k
 
-  cell_above : (e : Effect) (c : ℕ) → AreLikeFor e s z → MEMORY_BYTES ≤ c → is_thread e.word_read (c - MEMORY_BYTES) ≡ true → slice_index s.words (c - MEMORY_BYTES) ≡ slice_index z.words (c - MEMORY_BYTES)
+  cell_above : (e : Effect) (c : ℕ) → AreLikeFor e s z → MEMORY_BYTES ≤ c → is_thread e.word_read (c - MEMORY_BYTES) ≡ true
+      → slice_index s.words (c - MEMORY_BYTES) ≡ slice_index z.words (c - MEMORY_BYTES)
   cell_above e c h l r =
       let b : nat_lt c MEMORY_BYTES ≡ false = grind (arith, nat_tests) in
-      let k : (if nat_lt c MEMORY_BYTES then byte_at s.memory c else slice_index s.words (c - MEMORY_BYTES)) ≡ (if nat_lt c MEMORY_BYTES then byte_at z.memory c else slice_index z.words (c - MEMORY_BYTES)) = h.cells c (rw b r) in
+      let k : (if nat_lt c MEMORY_BYTES then byte_at s.memory c else slice_index s.words (c - MEMORY_BYTES))
+      ≡ (if nat_lt c MEMORY_BYTES then byte_at z.memory c else slice_index z.words (c - MEMORY_BYTES)) = h.cells c (rw b r) in
       rw b at k
 
   byte_like : (e : Effect) (c : ℕ) → AreLikeFor e s z → reads_byte e c ≡ true → byte_at s.memory c ≡ byte_at z.memory c

@@ -35,10 +35,13 @@ write_alike p input s z t ns (requests.Join n (Some r)) h = ap (λ (m : ℕ). So
 write_alike p input s z t ns (requests.Join n None) h = refl
 write_alike p input s z t ns r h = refl
 
-kind_alike : (gated : List InstrId) (p : NumberedProgram) (input : List ℤ) (s z : State) (t : ℕ) (ns : List ℕ) (a n : ℕ) (action : Action) → AgreeBy p input s z t action → kind_told gated p s t ns a n action ≡ kind_told gated p z t ns a n action
+kind_alike : (gated : List InstrId) (p : NumberedProgram) (input : List ℤ) (s z : State) (t : ℕ) (ns : List ℕ) (a n : ℕ) (action : Action) → AgreeBy p input s z t action
+    → kind_told gated p s t ns a n action ≡ kind_told gated p z t ns a n action
 kind_alike gated p input s z t ns a n actions.Local h = ap (λ (i : ℕ). instr_told ns n (slice_get p.instrs i)) (instr_alike s z t h.local)
-kind_alike gated p input s z t ns a n (actions.Load r) h = ap (λ (i : ℕ). told.Access (record { pointer = slice_index ns 0; number = a; bytes = r.bytes; writes = false; event = is_gated gated i })) (instr_alike s z t h.local)
-kind_alike gated p input s z t ns a n (actions.Store r m) h = ap (λ (i : ℕ). told.Access (record { pointer = slice_index ns 1; number = m; bytes = r.bytes; writes = true; event = is_gated gated i })) (instr_alike s z t h.local)
+kind_alike gated p input s z t ns a n (actions.Load r) h =
+    ap (λ (i : ℕ). told.Access (record { pointer = slice_index ns 0; number = a; bytes = r.bytes; writes = false; event = is_gated gated i })) (instr_alike s z t h.local)
+kind_alike gated p input s z t ns a n (actions.Store r m) h =
+    ap (λ (i : ℕ). told.Access (record { pointer = slice_index ns 1; number = m; bytes = r.bytes; writes = true; event = is_gated gated i })) (instr_alike s z t h.local)
 kind_alike gated p input s z t ns a n (actions.Event r) h =
     ap (λ (y : sync.Sync). told.Event (record { kind = kind_of r; object = object_of t (length y.threads) r; operands = ns; reply = n; write = write_told s ns r })) (h.objects refl)
     ∙ ap (λ (w : Option Write). told.Event (record { kind = kind_of r; object = object_of t (length z.sync.threads) r; operands = ns; reply = n; write = w })) (write_alike p input s z t ns r h)
@@ -55,7 +58,8 @@ told_alike gated p input s z t a h =
     ap (λ (i : ℕ). told_with t i (kind_told gated p s t (operands_in p (slice_get s.locals t)) a (number_in p (slice_get s.locals t) a) (next_of p s t))) (instr_alike s z t h.local)
     ∙ ap (told_with t (instr_of z t)) (kind_alike gated p input s z t (operands_in p (slice_get s.locals t)) a (number_in p (slice_get s.locals t) a) (next_of p s t) h)
     ∙ ap (λ (o : Option LocalState). told_with t (instr_of z t) (kind_told gated p z t (operands_in p o) a (number_in p o a) (next_of p s t))) h.local
-    ∙ ap (λ (action : Action). told_with t (instr_of z t) (kind_told gated p z t (operands_in p (slice_get z.locals t)) a (number_in p (slice_get z.locals t) a) action)) (next_alike p s z t h.local)
+    ∙ ap (λ (action : Action). told_with t (instr_of z t) (kind_told gated p z t (operands_in p (slice_get z.locals t)) a (number_in p (slice_get z.locals t) a) action))
+    (next_alike p s z t h.local)
 
 -- what the step of thread t tells, by what was answered
 tells_by : List InstrId → NumberedProgram → State → ℕ → Result ℕ TrapName → Result Step (TrapName × ℕ)
@@ -70,12 +74,14 @@ tells_is gated p input s t = go (answered p input s t (next_of p s t))
     go (z, Err name) = refl
     go (z, Ok a) = refl
 
-tells_same : (gated : List InstrId) (p : NumberedProgram) (input : List ℤ) (s z : State) (t : ℕ) (q : Result ℕ TrapName) → AgreeBy p input s z t (next_of p s t) → tells_by gated p s t q ≡ tells_by gated p z t q
+tells_same : (gated : List InstrId) (p : NumberedProgram) (input : List ℤ) (s z : State) (t : ℕ) (q : Result ℕ TrapName) → AgreeBy p input s z t (next_of p s t)
+    → tells_by gated p s t q ≡ tells_by gated p z t q
 unfolding tells_by
 tells_same gated p input s z t (Err name) h = ap (λ (n : ℕ). Err (name, n)) (instr_alike s z t h.local)
 tells_same gated p input s z t (Ok a) h = ap (λ (x : Step). Ok x) (told_alike gated p input s z t a h)
 
-pub tells_alike : (gated : List InstrId) (p : NumberedProgram) (input : List ℤ) (s z : State) (t : ℕ) → AgreeFor (effect_of p input s t) s z → tells (step gated p input s t) ≡ tells (step gated p input z t)
+pub tells_alike : (gated : List InstrId) (p : NumberedProgram) (input : List ℤ) (s z : State) (t : ℕ) → AgreeFor (effect_of p input s t) s z
+    → tells (step gated p input s t) ≡ tells (step gated p input z t)
 unfolding effect_of
 tells_alike gated p input s z t h =
     tells_is gated p input s t

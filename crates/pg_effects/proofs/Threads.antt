@@ -23,7 +23,8 @@ use Rattle.pg_trace.specs.Steps.{access_in, access_of, event_of}
 use Rattle.pg_machine.specs.Locality.{IfDid}
 use Rattle.pg_machine.specs.Named.{IsNamed, IsRequestNamed}
 use Rattle.pg_machine.specs.State.{State, instr_of, next_of}
-use Rattle.pg_machine.specs.MachineStep.{Answered, Stepped, Did, Trapped, answered, event_told, instr_told, kind_told, known_told, number_in, op_told, operands_in, settled, step, step_told, taken, turn_of}
+use Rattle.pg_machine.specs.MachineStep.{Answered, Stepped, Did, Trapped, answered, event_told, instr_told, kind_told, known_told, number_in, op_told, operands_in, settled, step, step_told}
+use Rattle.pg_machine.specs.MachineStep.{taken, turn_of}
 use Rattle.pg_machine.proofs.Named.{next_named, place_is}
 use Rattle.pg_machine.proofs.Told.{event_told_is}
 use Rattle.pg_effects.specs.Effect.{Effect, Write, effect_by, effect_of}
@@ -65,20 +66,27 @@ instr_plain : (ns : List ℕ) (n : ℕ) (o : Option Instr) → (access_in (instr
 instr_plain ns n None = (refl, refl)
 instr_plain ns n (Some x) = op_plain ns n x.op
 
-request_tells : (p : NumberedProgram) (input : List ℤ) (s : State) (t : ℕ) (ns : List ℕ) (n : ℕ) (r : Request) → IsRequestNamed ns r → TellsAccess (access_in (event_told s t ns n r)) (effect_by p input s t (actions.Event r))
-request_tells p input s t ns n (requests.Create r f m) h = (refl, ap (λ (q : ByteRange). Some (record { at = q; number = Rattle.std.proofs.Common.length s.locals })) (sym (place_is (slice_index ns 0) 8 r h)))
+request_tells : (p : NumberedProgram) (input : List ℤ) (s : State) (t : ℕ) (ns : List ℕ) (n : ℕ) (r : Request) → IsRequestNamed ns r
+    → TellsAccess (access_in (event_told s t ns n r)) (effect_by p input s t (actions.Event r))
+request_tells p input s t ns n (requests.Create r f m) h = (
+  refl,
+  ap (λ (q : ByteRange). Some (record { at = q; number = Rattle.std.proofs.Common.length s.locals })) (sym (place_is (slice_index ns 0) 8 r h)),
+)
 request_tells p input s t ns n (requests.Join u (Some r)) h = (refl, ap (λ (q : ByteRange). Some (record { at = q; number = slice_index s.words u })) (sym (place_is (slice_index ns 1) 8 r h)))
 request_tells p input s t ns n (requests.Join u None) h = (refl, refl)
 request_tells p input s t ns n r h = (refl, refl)
 
-kind_tells : (gated : List InstrId) (p : NumberedProgram) (input : List ℤ) (s : State) (t : ℕ) (ns : List ℕ) (a n : ℕ) (action : Action) → IsNamed ns action → TellsAccess (access_in (kind_told gated p s t ns a n action)) (effect_by p input s t action)
-kind_tells gated p input s t ns a n actions.Local h = subst (λ (o : Option Access). TellsAccess o (effect_by p input s t actions.Local)) (sym (instr_plain ns n (slice_get p.instrs (instr_of s t))).0) (refl, refl)
+kind_tells : (gated : List InstrId) (p : NumberedProgram) (input : List ℤ) (s : State) (t : ℕ) (ns : List ℕ) (a n : ℕ) (action : Action) → IsNamed ns action
+    → TellsAccess (access_in (kind_told gated p s t ns a n action)) (effect_by p input s t action)
+kind_tells gated p input s t ns a n actions.Local h = subst (λ (o : Option Access). TellsAccess o (effect_by p input s t actions.Local))
+    (sym (instr_plain ns n (slice_get p.instrs (instr_of s t))).0) (refl, refl)
 kind_tells gated p input s t ns a n (actions.Load r) h = (ap (λ (q : ByteRange). Some q) (sym (place_is (slice_index ns 0) r.bytes r h)), refl)
 kind_tells gated p input s t ns a n (actions.Store r m) h = (refl, ap (λ (q : ByteRange). Some (record { at = q; number = m })) (sym (place_is (slice_index ns 1) r.bytes r h)))
 kind_tells gated p input s t ns a n (actions.Event r) h = request_tells p input s t ns n r h
 kind_tells gated p input s t ns a n action h = (refl, refl)
 
-kind_asks : (gated : List InstrId) (p : NumberedProgram) (input : List ℤ) (s : State) (t : ℕ) (ns : List ℕ) (a n : ℕ) (action : Action) → asks (kind_told gated p s t ns a n action) ≡ is_some (effect_by p input s t action).request
+kind_asks : (gated : List InstrId) (p : NumberedProgram) (input : List ℤ) (s : State) (t : ℕ) (ns : List ℕ) (a n : ℕ) (action : Action)
+    → asks (kind_told gated p s t ns a n action) ≡ is_some (effect_by p input s t action).request
 kind_asks gated p input s t ns a n actions.Local = (instr_plain ns n (slice_get p.instrs (instr_of s t))).1
 kind_asks gated p input s t ns a n (actions.Load r) = refl
 kind_asks gated p input s t ns a n (actions.Store r m) = refl
@@ -93,7 +101,8 @@ tells_access gated p input s t = go (answered p input s t (next_of p s t))
     go (z, Err name) = tt
     go (z, Ok a) = kind_tells gated p input s t (operands_in p (slice_get s.locals t)) a (number_in p (slice_get s.locals t) a) (next_of p s t) (next_named p s t)
 
-pub tells_request : (gated : List InstrId) (p : NumberedProgram) (input : List ℤ) (s : State) (t : ℕ) → IfDid (step gated p input s t) (λ x z. asks x.kind ≡ is_some (effect_of p input s t).request)
+pub tells_request : (gated : List InstrId) (p : NumberedProgram) (input : List ℤ) (s : State) (t : ℕ)
+    → IfDid (step gated p input s t) (λ x z. asks x.kind ≡ is_some (effect_of p input s t).request)
 unfolding step effect_of
 tells_request gated p input s t = go (answered p input s t (next_of p s t))
   where

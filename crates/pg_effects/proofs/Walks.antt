@@ -1,6 +1,7 @@
 -- How the walks of a guided run end, and how many steps they take.
-use Rattle.std.proofs.Common.{◌≡◌, ℕ, ℤ, zero, suc, ◌+◌, ◌<◌, ◌≤◌, List, [], ◌∷◌, ◌++◌, length, drop, Bool, true, false, Option, Some, None, Result, Ok, Err, refl, sym, ◌∙◌, ap, subst, arith}
-use Rattle.std.specs.Prelude.{◌==◌, ◌&&◌, ◌||◌, cond, slice_get, slice_set, slice_index, if◌then◌else◌}
+use Rattle.std.proofs.Common.{◌≡◌, ℕ, ℤ, zero, suc, ◌+◌, ◌<◌, ◌≤◌, List, [], ◌∷◌, ◌++◌, drop, Bool, true, false, Option, Some, None, Result, Ok, Err, refl}
+use Rattle.std.proofs.Common.{sym, ◌∙◌, ap, subst, arith}
+use Rattle.std.specs.Prelude.{◌==◌, ◌&&◌, ◌||◌, cond, slice_set, slice_index, if◌then◌else◌}
 use Rattle.std.proofs.lemmas.List.Sums.{sum_by-cons}
 use Rattle.pg_ir.specs.declared.ids.InstrId.{InstrId}
 use Rattle.pg_ir.specs.declared.request.TrapName.{TrapName}
@@ -13,21 +14,15 @@ use Rattle.pg_machine.specs.declared.guided_end.GuidedEnd.TheVariants as ends
 use Rattle.pg_machine.specs.State.{State, next_of, instr_of}
 use Rattle.pg_machine.specs.MachineStep.{Stepped, Did, Trapped, happening_of, is_ended, may_act, step, trap_of, turn_with}
 use Rattle.pg_machine.specs.Runs.{steps_of}
-use Rattle.pg_machine.specs.Guided.{GuidedRun, Walk, cannot_go, due, end_after, ended_at, guided, is_turn, on_due, on_event, on_step, spent, trap_or, walk}
+use Rattle.pg_machine.specs.Guided.{GuidedRun, Walk, due, ended_at, guided, is_turn, on_due, on_event, on_step, spent, trap_or, walk}
 use Rattle.pg_machine.specs.FullGuided.{stops_early}
 use Rattle.pg_machine.proofs.Dues.{due_does}
 use Rattle.pg_machine.proofs.GuidedRuns.{same_as_itself, same_number}
 use Rattle.pg_effects.proofs.Permits.{steps_append}
 use Rattle.pg_effects.proofs.Threads.{thread_of}
+use Rattle.std.proofs.lemmas.Bool.{ne_eqb}
 
 -- ---- counts
-
-is_other : (a b : ℕ) → (a ≡ b → ⊥) → (a == b) ≡ false
-is_other a b h = go (a == b) refl
-  where
-    go : (c : Bool) → (a == b) ≡ c → (a == b) ≡ false
-    go true q = absurd (h (same_number a b q))
-    go false q = q
 
 is_same : (a b : ℕ) → a ≡ b → (a == b) ≡ true
 is_same a b e = subst (λ (c : ℕ). (a == c) ≡ true) e (same_as_itself a)
@@ -36,7 +31,8 @@ pub one_more_step : (t : ℕ) (x : Step) (xs : List Step) → x.thread.0 ≡ t �
 one_more_step t x xs e = sum_by-cons (λ (y : Step). cond (y.thread.0 == t) 1 0) x xs ∙ ap (λ (b : Bool). cond b 1 0 + steps_of t xs) (is_same x.thread.0 t e)
 
 pub other_step : (t : ℕ) (x : Step) (xs : List Step) → (x.thread.0 ≡ t → ⊥) → steps_of t (x ∷ xs) ≡ steps_of t xs
-other_step t x xs h = sum_by-cons (λ (y : Step). cond (y.thread.0 == t) 1 0) x xs ∙ ap (λ (b : Bool). cond b 1 0 + steps_of t xs) (is_other x.thread.0 t h) ∙ (let e : 0 + steps_of t xs ≡ steps_of t xs = omega arith in e)
+other_step t x xs h = sum_by-cons (λ (y : Step). cond (y.thread.0 == t) 1 0) x xs ∙ ap (λ (b : Bool). cond b 1 0 + steps_of t xs) (ne_eqb x.thread.0 t h)
+    ∙ (let e : 0 + steps_of t xs ≡ steps_of t xs = omega arith in e)
 
 pub index_set : (xs : List ℕ) (t n : ℕ) → n ≤ slice_index xs t → slice_index (slice_set xs t n) t ≡ n
 index_set [] zero n h = let k : n ≤ 0 = h in omega (arith, k)
@@ -78,7 +74,8 @@ module _ (gated : List InstrId) (p : NumberedProgram) (input : List ℤ) where
   at_event u s n is_ready None f h = absurd cc
   at_event u s n is_ready (Some v) f h = strays_if u s n (is_turn v u && is_ready) f h
 
-  by_test : (u : Turn) (s : State) (n : ℕ) (over ended : Bool) (trap : Option TrapName) (is_ready : Bool) (o : Option Turn) (f : GuidedEnd) → sync.over s.sync ≡ over → trap_of s u.thread.0 (next_of p s u.thread.0) ≡ trap →
+  by_test : (u : Turn) (s : State) (n : ℕ) (over ended : Bool) (trap : Option TrapName) (is_ready : Bool) (o : Option Turn) (f : GuidedEnd) → sync.over s.sync ≡ over
+      → trap_of s u.thread.0 (next_of p s u.thread.0) ≡ trap →
       Path (Result Bool GuidedEnd) (if over || ended then Err ends.Strayed else trap_or s u.thread.0 trap (on_event u is_ready o)) (Err f) → HaltsBy u f s (suc n)
   by_test u s n true ended trap is_ready o f h k e = as_end u s (suc n) ends.Strayed f tt e
   by_test u s n false true trap is_ready o f h k e = as_end u s (suc n) ends.Strayed f tt e
@@ -87,9 +84,11 @@ module _ (gated : List InstrId) (p : NumberedProgram) (input : List ℤ) where
 
   due_halts : (u : Turn) (s : State) (n : ℕ) (f : GuidedEnd) → due gated p u s ≡ Err f → HaltsBy u f s (suc n)
   unfolding due
-  due_halts u s n f e = by_test u s n (sync.over s.sync) (is_ended (next_of p s u.thread.0)) (trap_of s u.thread.0 (next_of p s u.thread.0)) (may_act s u.thread.0 (next_of p s u.thread.0)) (turn_with s u.thread.0 (happening_of gated s u.thread.0 (next_of p s u.thread.0))) f refl refl e
+  due_halts u s n f e = by_test u s n (sync.over s.sync) (is_ended (next_of p s u.thread.0)) (trap_of s u.thread.0 (next_of p s u.thread.0)) (may_act s u.thread.0 (next_of p s u.thread.0))
+      (turn_with s u.thread.0 (happening_of gated s u.thread.0 (next_of p s u.thread.0))) f refl refl e
 
-  by_spent : (u : Turn) (s : State) (over ended : Bool) → sync.over s.sync ≡ over → is_ended (next_of p s u.thread.0) ≡ ended → HaltsBy u (if over || ended then ends.Strayed else ends.Budget u.thread) s 0
+  by_spent : (u : Turn) (s : State) (over ended : Bool) → sync.over s.sync ≡ over → is_ended (next_of p s u.thread.0) ≡ ended
+      → HaltsBy u (if over || ended then ends.Strayed else ends.Budget u.thread) s 0
   by_spent u s true ended h k = tt
   by_spent u s false true h k = tt
   by_spent u s false false h k = (refl, h, k, refl)
@@ -108,7 +107,8 @@ module _ (gated : List InstrId) (p : NumberedProgram) (input : List ℤ) where
   stops : (u : Turn) (s : State) (n : ℕ) (e : GuidedEnd) → HaltsBy u e s n → Walked u n (record { trace = []; state = s; left = n; end = Some e })
   stops u s n e h = record { own = omega arith; other = λ t k. refl; halts = λ f k. let same : e ≡ f = cc in subst (λ (g : GuidedEnd). HaltsBy u g s n) same h }
 
-  stepped : (u : Turn) (s : State) (n : ℕ) (b : Bool) (o : Stepped) (more : State → Walk) → due gated p u s ≡ Ok b → step gated p input s u.thread.0 ≡ o → ((z : State) → Walked u n (more z)) → Walked u (suc n) (on_step s n b o more)
+  stepped : (u : Turn) (s : State) (n : ℕ) (b : Bool) (o : Stepped) (more : State → Walk) → due gated p u s ≡ Ok b → step gated p input s u.thread.0 ≡ o
+      → ((z : State) → Walked u n (more z)) → Walked u (suc n) (on_step s n b o more)
   stepped u s n b (Trapped name id) more d e h = let k = due_does gated p input u s b d in let q : Path Stepped (Trapped name id) (Did k.0 k.1) = sym e ∙ k.2 in absurd cc
   stepped u s n true (Did x z) more d e h =
       let i = thread_of gated p input s z u.thread.0 x e in
@@ -125,7 +125,8 @@ module _ (gated : List InstrId) (p : NumberedProgram) (input : List ℤ) where
         halts = (h z).halts;
       }
 
-  tested : (u : Turn) (s : State) (n : ℕ) (d : Result Bool GuidedEnd) → due gated p u s ≡ d → ((z : State) → Walked u n (walk n gated p input u z)) → Walked u (suc n) (on_due s n d (λ b. on_step s n b (step gated p input s u.thread.0) (λ t. walk n gated p input u t)))
+  tested : (u : Turn) (s : State) (n : ℕ) (d : Result Bool GuidedEnd) → due gated p u s ≡ d → ((z : State) → Walked u n (walk n gated p input u z))
+      → Walked u (suc n) (on_due s n d (λ b. on_step s n b (step gated p input s u.thread.0) (λ t. walk n gated p input u t)))
   tested u s n (Err f) e h = stops u s (suc n) f (due_halts u s n f e)
   tested u s n (Ok b) e h = stepped u s n b (step gated p input s u.thread.0) (λ t. walk n gated p input u t) e refl h
 
@@ -148,7 +149,8 @@ module _ (gated : List InstrId) (p : NumberedProgram) (input : List ℤ) where
     pub counts : (t : ℕ) → slice_index r.left t + steps_of t r.trace ≡ slice_index lefts t
     pub halts : HaltsAt (drop done us) r.end r.state r.left
 
-  counts_by : (u : Turn) (lefts : List ℕ) (w : Walk) (rest : List ℕ) (ys : List Step) (t : ℕ) → Walked u (slice_index lefts u.thread.0) w → slice_index rest t + steps_of t ys ≡ slice_index (slice_set lefts u.thread.0 w.left) t → slice_index rest t + steps_of t (w.trace ++ ys) ≡ slice_index lefts t
+  counts_by : (u : Turn) (lefts : List ℕ) (w : Walk) (rest : List ℕ) (ys : List Step) (t : ℕ) → Walked u (slice_index lefts u.thread.0) w
+      → slice_index rest t + steps_of t ys ≡ slice_index (slice_set lefts u.thread.0 w.left) t → slice_index rest t + steps_of t (w.trace ++ ys) ≡ slice_index lefts t
   counts_by u lefts w rest ys t h k = go (t == u.thread.0) refl
     where
       go : (b : Bool) → (t == u.thread.0) ≡ b → slice_index rest t + steps_of t (w.trace ++ ys) ≡ slice_index lefts t
@@ -166,7 +168,9 @@ module _ (gated : List InstrId) (p : NumberedProgram) (input : List ℤ) where
           let l = index_other lefts u.thread.0 t w.left n in
           omega (arith, a, o, l, k)
 
-  ended : (u : Turn) (us : List Turn) (k : ℕ) (lefts : List ℕ) (w : Walk) (e : Option GuidedEnd) (more : State → List ℕ → GuidedRun) → w.end ≡ e → Walked u (slice_index lefts u.thread.0) w → ((z : State) (rest : List ℕ) → Guides us (k + 1) rest (more z rest)) → Guides (u ∷ us) k lefts (ended_at w (slice_set lefts u.thread.0 w.left) k e more)
+  ended : (u : Turn) (us : List Turn) (k : ℕ) (lefts : List ℕ) (w : Walk) (e : Option GuidedEnd) (more : State → List ℕ → GuidedRun) → w.end ≡ e
+      → Walked u (slice_index lefts u.thread.0) w → ((z : State) (rest : List ℕ) → Guides us (k + 1) rest (more z rest))
+      → Guides (u ∷ us) k lefts (ended_at w (slice_set lefts u.thread.0 w.left) k e more)
   ended u us k lefts w (Some e) more q h g = record {
     done = 0;
     turns = omega arith;

@@ -11,7 +11,8 @@ use Rattle.pg_step.specs.declared.action.Action.TheVariants as actions
 use Rattle.pg_step.specs.LocalState.{LocalState, fresh}
 use Rattle.pg_step.specs.Step.{after}
 use Rattle.pg_machine.specs.State.{State, next_of}
-use Rattle.pg_machine.specs.MachineStep.{input_at, answer_of}
+use Rattle.pg_machine.specs.MachineStep.{answer_of}
+use Rattle.pg_num.specs.Inputs.{input_at}
 use Rattle.pg_machine.specs.Texts.{printed_by}
 
 -- a number in a range of memory

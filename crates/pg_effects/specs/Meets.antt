@@ -1,5 +1,6 @@
 -- Which bytes steps read and write, and when two steps meet.
-use Rattle.std.specs.Prelude.{◌≡◌, ◌≢◌, ℕ, ◌+◌, ◌-◌, ◌&&◌, ◌||◌, nat_le, nat_lt, Bool, true, false, Option, Some, None, is_some, IfSome, length, slice_get, slice_index, if◌then◌else◌, ℤ}
+use Rattle.std.specs.Prelude.{◌≡◌, ◌≢◌, ℕ, ◌+◌, ◌-◌, ◌&&◌, ◌||◌, nat_le, nat_lt, Bool, true, false, Option, Some, None, is_some, IfSome, length, slice_get}
+use Rattle.std.specs.Prelude.{slice_index, if◌then◌else◌, ℤ}
 use Rattle.pg_num.specs.Places.{ByteRange}
 use Rattle.pg_ir.specs.Program.{NumberedProgram}
 use Rattle.pg_mem.specs.Bytes.{byte_of}

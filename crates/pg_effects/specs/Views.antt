@@ -1,6 +1,7 @@
 -- A state as local states, cells and objects: a thread that hasn't begun has no local state here, for the objects say
 -- with which function it will begin, and its word is its argument.
-use Rattle.std.specs.Prelude.{◌≡◌, ℕ, ◌-◌, ◌==◌, nat_lt, List, [], ◌∷◌, ◌++◌, map, Bool, true, false, Option, Some, None, is_some, slice_get, slice_set, slice_index, if◌then◌else◌}
+use Rattle.std.specs.Prelude.{◌≡◌, ℕ, ◌-◌, ◌==◌, nat_lt, List, [], ◌∷◌, ◌++◌, map, Bool, true, false, Option, Some, None, is_some, slice_get, slice_set}
+use Rattle.std.specs.Prelude.{slice_index, if◌then◌else◌}
 use Rattle.pg_num.specs.declared.layout.TheConstants.{MEMORY_BYTES}
 use Rattle.pg_mem.specs.Memory.{byte_at}
 use Rattle.pg_sync.specs.Sync as sync

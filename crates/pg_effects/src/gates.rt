@@ -17,6 +17,8 @@ pub fn a_step_is_the_same_with_other_gates()
 
 /// A run is one with other gates, told with them; so the rotation run is a run along its hybrid turns.
 pub fn a_run_is_one_with_other_gates()
-    ensures runs { (gated other : List InstrId) (p : NumberedProgram) (input : List ℤ) (s z : State) (xs : List Step) → IsRun other p input s xs z → IsRun gated p input s (map (with_gates gated) xs) z }
-    ensures rotations { (gated : List InstrId) (p : NumberedProgram) (input : List ℤ) (q : ℕ) → IsRun gated p input (initial p) (map (with_gates gated) (rotation_of p input q).trace) (rotation_of p input q).state }
+    ensures runs { (gated other : List InstrId) (p : NumberedProgram) (input : List ℤ) (s z : State) (xs : List Step) → IsRun other p input s xs z
+        → IsRun gated p input s (map (with_gates gated) xs) z }
+    ensures rotations { (gated : List InstrId) (p : NumberedProgram) (input : List ℤ) (q : ℕ)
+        → IsRun gated p input (initial p) (map (with_gates gated) (rotation_of p input q).trace) (rotation_of p input q).state }
 {}

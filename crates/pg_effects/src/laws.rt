@@ -23,8 +23,10 @@ pub fn a_step_has_its_effect()
 /// What a step tells of its access is what its effect reads or writes of memory, and it tells an event of another
 /// kind exactly where its effect is that of a request.
 pub fn a_step_tells_its_effect()
-    ensures access { (gated : List InstrId) (p : NumberedProgram) (input : List ℤ) (s : State) (t : ℕ) → IfDid (step gated p input s t) (λ x z. TellsAccess (access_of x) (effect_of p input s t)) }
-    ensures request { (gated : List InstrId) (p : NumberedProgram) (input : List ℤ) (s : State) (t : ℕ) → IfDid (step gated p input s t) (λ x z. asks x.kind ≡ is_some (effect_of p input s t).request) }
+    ensures access { (gated : List InstrId) (p : NumberedProgram) (input : List ℤ) (s : State) (t : ℕ)
+        → IfDid (step gated p input s t) (λ x z. TellsAccess (access_of x) (effect_of p input s t)) }
+    ensures request { (gated : List InstrId) (p : NumberedProgram) (input : List ℤ) (s : State) (t : ℕ)
+        → IfDid (step gated p input s t) (λ x z. asks x.kind ≡ is_some (effect_of p input s t).request) }
 {}
 
 /// A step depends on its thread's local state, on the bytes and the word that it reads, and, where it is a
@@ -32,7 +34,8 @@ pub fn a_step_tells_its_effect()
 /// same trap.
 pub fn a_step_depends_on_what_it_reads()
     ensures effects { (p : NumberedProgram) (input : List ℤ) (s z : State) (t : ℕ) → AgreeFor (effect_of p input s t) s z → effect_of p input s t ≡ effect_of p input z t }
-    ensures steps { (gated : List InstrId) (p : NumberedProgram) (input : List ℤ) (s z : State) (t : ℕ) → AgreeFor (effect_of p input s t) s z → tells (step gated p input s t) ≡ tells (step gated p input z t) }
+    ensures steps { (gated : List InstrId) (p : NumberedProgram) (input : List ℤ) (s z : State) (t : ℕ) → AgreeFor (effect_of p input s t) s z
+        → tells (step gated p input s t) ≡ tells (step gated p input z t) }
 {}
 
 /// Effects of two threads that were made, which meet at no byte and aren't both those of requests, may change
@@ -44,7 +47,8 @@ pub fn effects_apart_change_places()
 /// The step of one thread leaves what the step of another depends on, where the two are apart. So this tells the
 /// same behind it, and is ready behind it exactly where it was, but for a step that ends the run.
 pub fn a_step_apart_leaves_what_another_depends_on()
-    ensures agrees { (p : NumberedProgram) (input : List ℤ) (s : State) (t u : ℕ) → AreApart (effect_of p input s t) (effect_of p input s u) → u < length s.locals → length s.memory ≡ GRANULE_COUNT
+    ensures agrees { (p : NumberedProgram) (input : List ℤ) (s : State) (t u : ℕ) → AreApart (effect_of p input s t) (effect_of p input s u) → u < length s.locals
+        → length s.memory ≡ GRANULE_COUNT
         → AgreeFor (effect_of p input s u) s (effect s (effect_of p input s t)) }
     ensures readiness { (p : NumberedProgram) (input : List ℤ) (s z : State) (u : ℕ) → AgreeFor (effect_of p input s u) s z → over z.sync ≡ over s.sync → ready p z u ≡ ready p s u }
 {}

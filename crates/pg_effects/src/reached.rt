@@ -18,6 +18,8 @@ pub fn the_first_state_is_reached()
 /// A step of a thread that is ready leads from a state that runs reach to one, where the input's length has 64 bits;
 /// and so does a run.
 pub fn a_step_stays_reached()
-    ensures step { (gated : List InstrId) (p : NumberedProgram) (input : List ℤ) (s z : State) (t : ℕ) (x : Step) → IsProgram p → length input < 2 ^ 64 → IsReached p s → ready p s t ≡ true → step gated p input s t ≡ Did x z → IsReached p z }
-    ensures run { (gated : List InstrId) (p : NumberedProgram) (input : List ℤ) (s z : State) (xs : List Step) → IsProgram p → length input < 2 ^ 64 → IsReached p s → IsRun gated p input s xs z → IsReached p z }
+    ensures step { (gated : List InstrId) (p : NumberedProgram) (input : List ℤ) (s z : State) (t : ℕ) (x : Step) → IsProgram p → length input < 2 ^ 64 → IsReached p s
+        → ready p s t ≡ true → step gated p input s t ≡ Did x z → IsReached p z }
+    ensures run { (gated : List InstrId) (p : NumberedProgram) (input : List ℤ) (s z : State) (xs : List Step) → IsProgram p → length input < 2 ^ 64 → IsReached p s
+        → IsRun gated p input s xs z → IsReached p z }
 {}

@@ -14,11 +14,13 @@ ghost use Rattle.pg_effects.specs.Views.{AreLikeFor, LeadsTo};
 
 /// A step changes its own thread's local state alone, each cell that it writes, and the objects as a request alone.
 pub fn a_step_leads_to_what_it_writes()
-    ensures { (gated : List InstrId) (p : NumberedProgram) (input : List ℤ) (s z : State) (t : ℕ) (x : Step) → IsReached p s → ready p s t ≡ true → step gated p input s t ≡ Did x z → LeadsTo (effect_of p input s t) s z }
+    ensures { (gated : List InstrId) (p : NumberedProgram) (input : List ℤ) (s z : State) (t : ℕ) (x : Step) → IsReached p s → ready p s t ≡ true → step gated p input s t ≡ Did x z
+        → LeadsTo (effect_of p input s t) s z }
 {}
 
 /// States that are alike in its thread's local state, in the cells that a step reads, and for a request in the objects,
 /// agree on what the step depends on.
 pub fn alike_states_agree()
-    ensures { (p : NumberedProgram) (input : List ℤ) (s z : State) (t : ℕ) → IsReached p s → IsReached p z → t < length s.locals → AreLikeFor (effect_of p input s t) s z → AgreeFor (effect_of p input s t) s z }
+    ensures { (p : NumberedProgram) (input : List ℤ) (s z : State) (t : ℕ) → IsReached p s → IsReached p z → t < length s.locals → AreLikeFor (effect_of p input s t) s z
+        → AgreeFor (effect_of p input s t) s z }
 {}

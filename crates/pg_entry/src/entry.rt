@@ -1,3 +1,5 @@
+//! Cache entries: a schedule, its decisions, and what an input must give.
+
 use pg_cache::Admits;
 use pg_closed::Decisions;
 use pg_eval::{Scratch, admits};

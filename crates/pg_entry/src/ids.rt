@@ -1,3 +1,5 @@
+//! The instructions of a trace's steps.
+
 ghost use Rattle.std.specs.Prelude.{◌≡◌, IfOk, map};
 ghost use Rattle.pg_trace.specs.declared.step.Step.{Step};
 

@@ -15,4 +15,4 @@ pub use entry::Entry;
 pub use recorded::Record;
 pub use recording::{from_recorded, record};
 pub use running::can_run;
-pub use turns::{FromFault, from_turns};
+pub use turns::{FromFault, follow_to_exit, from_turns};

@@ -1,3 +1,5 @@
+//! What comes of recording a run.
+
 use crate::entry::Entry;
 use pg_machine::Outcome;
 

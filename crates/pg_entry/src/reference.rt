@@ -17,7 +17,7 @@ use pg_intervals::{Turns, intervals};
 use pg_ir::{InstrId, Program};
 use pg_quiet::summaries;
 use pg_reference::{ReferenceRun, reference};
-use pg_slice::Slice;
+use pg_slice::{GivenRun, Slice};
 use pg_slice_fast::slice;
 use pg_sliceable::laws::{exiting_runs_can_be_sliced, replays_have_edges};
 use pg_trace::{Race, Schedule, Trace};
@@ -57,7 +57,13 @@ fn sliced(
 {
     let replay = replayed(alloc, p, input, t, gated)?;
     let intervals = intervals(alloc, t, Turns::Recorded)?;
-    let found = slice(alloc, p, t, intervals.as_slice(), &replay)?;
+    let run = GivenRun {
+        p,
+        t,
+        intervals: intervals.as_slice(),
+        r: &replay,
+    };
+    let found = slice(alloc, &run)?;
     Ok(found)
 }
 

@@ -5,6 +5,7 @@ ghost use Rattle.pg_trace.specs.declared.step.Step.{Step};
 ghost use Rattle.pg_trace.specs.Races.{first_unordered};
 ghost use Rattle.pg_machine.specs.Follow.{Exits, end_as, following_of};
 ghost use Rattle.pg_runs.specs.Cuts.{CanRun};
+ghost use Rattle.pg_sliceable.specs.Sliceable.{CanBeSliced};
 ghost use Rattle.pg_entry.specs.declared.turns.FromFault.TheVariants.{OutOfMemory};
 ghost use Rattle.pg_entry.specs.Entries.{IsEntryOfTurns};
 ghost use Rattle.pg_entry.specs.Faults.{IsFault};
@@ -12,10 +13,12 @@ ghost use Rattle.pg_entry.specs.Faults.{IsFault};
 use crate::entry::Entry;
 use crate::reference::entry_along;
 use crate::replies::replies_of;
+use crate::running::can_run;
 use pg_ir::{InstrId, Program};
 use pg_machine::{FollowEnd, follow_into};
 use pg_num::limits::RECORDING_STEP_LIMIT;
 use pg_race::{is_ordered, races};
+use pg_sliceable::laws::exiting_runs_can_be_sliced;
 use pg_trace::{InstrIds, Replies, Schedule, Trace, Turn, Turns};
 use std::alloc::{AllocError, Global};
 
@@ -72,8 +75,12 @@ fn exits(end: FollowEnd) -> Result<(), FromFault>
     }
 }
 
-/// Follows a schedule. Where its guided run exits, the trace then has the steps of that run.
-fn follow_to_exit(
+/// Follows a schedule to its exit. The trace then has the steps of the guided run, and a slice can be taken of them.
+///
+/// # Errors
+///
+/// `Strayed` and `Unfinished` as the guided run ends; `OutOfMemory` where no memory is left.
+pub fn follow_to_exit(
     alloc: Global,
     p: &Program,
     input: &[i64],
@@ -83,7 +90,10 @@ fn follow_to_exit(
     requires room { trace.old.room ≡ RECORDING_STEP_LIMIT }
     ensures exit { OnOk result ((printed : List ℕ) × (value : ℤ) × (following_of p.now input.now schedule.now.turns schedule.now.gated ≡ Exits trace.new.steps printed value)) }
     ensures fault { IfErr result (λ e. IsFault e (following_of p.now input.now schedule.now.turns schedule.now.gated)) }
+    ensures sliceable { OnOk result (CanBeSliced p.now input.now schedule.now.gated trace.new.steps) }
 {
+    can_run(p, input);
+    exiting_runs_can_be_sliced();
     let end = follow_into(alloc, p, input, schedule, trace)?;
     exits(end)?;
     Ok(())

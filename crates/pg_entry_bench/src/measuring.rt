@@ -1,28 +1,27 @@
 //! Takes a recording, and the use of its entry on the input that it has, with the moments between their parts.
-ghost use Rattle.std.specs.Prelude.{◌≡◌, ◌<◌, ◌≤◌, All, length};
+ghost use Rattle.std.specs.Prelude.{◌≡◌, ◌<◌, All, length};
 ghost use Rattle.pg_num.specs.declared.limits.TheConstants.{RECORDING_STEP_LIMIT};
 ghost use Rattle.pg_ir.specs.declared.ids.InstrId.{InstrId as AnInstrId};
 ghost use Rattle.pg_accesses.specs.Accesses.{is_gated, summary_of};
-ghost use Rattle.pg_intervals.specs.Intervals.{intervals_of};
-ghost use Rattle.pg_intervals.specs.declared.interval.Turns.TheVariants.{Recorded};
 ghost use Rattle.pg_quiet.specs.Summaries.{AreSummaries};
 ghost use Rattle.pg_reference.specs.Kept.{step_count};
-ghost use Rattle.pg_slice.specs.Given.{AreSteps, EdgesStand};
+ghost use Rattle.pg_slice.specs.Given.{AreGiven, AreSteps, EdgesStand};
 ghost use Rattle.pg_sliceable.specs.Sliceable.{CanBeSliced};
 
 use crate::counts::Counts;
-use crate::recording::{are_instructions, follow, rotate, scheduled};
+use crate::recording::{are_instructions, rotate, scheduled};
 use crate::shares::Moments;
 use anyhow::{Result, anyhow};
 use pg_accesses::Summary;
+use pg_entry::follow_to_exit;
 use pg_eval::{Scratch, admits};
-use pg_intervals::{Interval, Turns, intervals};
+use pg_intervals::{Turns, intervals};
 use pg_ir::Program;
 use pg_machine::guide;
 use pg_num::limits::RECORDING_STEP_LIMIT;
 use pg_quiet::summaries;
 use pg_reference::{ReferenceRun, reference};
-use pg_slice::{Slice, slice_by_passes};
+use pg_slice::{GivenRun, Slice, slice_by_passes};
 use pg_slice_fast::slice;
 use pg_sliceable::laws::replays_have_edges;
 use pg_trace::{Schedule, Trace};
@@ -95,9 +94,13 @@ fn followed(
 ) -> Result<()>
     requires room { trace.old.room ≡ RECORDING_STEP_LIMIT }
 {
-    follow(job.alloc, job.p, job.input, schedule, trace)?;
-    report.moments.followed = Instant::now(rt)?;
-    summed(rt, job, report, trace, schedule)
+    match follow_to_exit(job.alloc, job.p, job.input, schedule, trace) {
+        Ok(()) => {
+            report.moments.followed = Instant::now(rt)?;
+            summed(rt, job, report, trace, schedule)
+        }
+        Err(_) => Err(anyhow!("the guided run doesn't exit")),
+    }
 }
 
 /// The functions that are quiet are found.
@@ -156,54 +159,35 @@ fn timed(
         report.counts.run(t, schedule);
         return Ok(());
     }
-    sliced(rt, job, report, t, schedule, intervals.as_slice(), r)
+    let run = GivenRun {
+        p: job.p,
+        t,
+        intervals: intervals.as_slice(),
+        r,
+    };
+    sliced(rt, job, report, schedule, &run)
 }
 
 fn sliced(
     rt: &HostRuntime,
     job: &Job,
     report: &mut Report,
-    t: &Trace,
     schedule: &Schedule,
-    intervals: &[Interval],
-    r: &ReferenceRun,
+    run: &GivenRun,
 ) -> Result<()>
-    requires edges { EdgesStand job.now.p.now r.now }
-    requires steps { AreSteps job.now.p.now t.now.steps }
-    requires count { step_count r.now ≡ length t.now.steps }
-    requires intervals { intervals.now ≡ intervals_of Recorded t.now.steps }
-    requires few { length t.now.steps < 4294967296 }
+    requires { AreGiven run.now.p.now run.now.t.now.steps run.now.intervals.now run.now.r.now }
 {
-    let slice = slice(job.alloc, job.p, t, intervals, r)?;
+    let slice = slice(job.alloc, run)?;
     report.moments.sliced = Instant::now(rt)?;
-    report.counts.run(t, schedule);
+    report.counts.run(run.t, schedule);
     report.counts.slice(&slice.decisions);
     if job.extent == Extent::Slice {
         return Ok(());
     }
-    passed(rt, job, report, t, intervals, r)?;
-    used(rt, job, report, schedule, &slice)
-}
-
-/// The slice by passes.
-fn passed(
-    rt: &HostRuntime,
-    job: &Job,
-    report: &mut Report,
-    t: &Trace,
-    intervals: &[Interval],
-    r: &ReferenceRun,
-) -> Result<()>
-    requires edges { EdgesStand job.now.p.now r.now }
-    requires steps { AreSteps job.now.p.now t.now.steps }
-    requires count { step_count r.now ≡ length t.now.steps }
-    requires intervals { intervals.now ≡ intervals_of Recorded t.now.steps }
-    requires few { length t.now.steps < 4294967296 }
-{
     report.moments.counted = Instant::now(rt)?;
-    let _slice = slice_by_passes(job.alloc, job.p, t, intervals, r)?;
+    let _by_passes = slice_by_passes(job.alloc, run)?;
     report.moments.passed = Instant::now(rt)?;
-    Ok(())
+    used(rt, job, report, schedule, &slice)
 }
 
 /// The entry is used for its own input.

@@ -1,21 +1,15 @@
 //! The parts of recording a line, as `pg_entry` does it: each is a call of the crate that does the work.
-ghost use Rattle.std.specs.Prelude.{◌≡◌, ◌<◌, ℕ, ℤ, All, List, true, length, IfOk, OnOk};
+ghost use Rattle.std.specs.Prelude.{◌≡◌, ◌<◌, All, true, length, IfOk, OnOk};
 ghost use Rattle.pg_num.specs.declared.limits.TheConstants.{RECORDING_STEP_LIMIT};
 ghost use Rattle.pg_ir.specs.declared.ids.InstrId.{InstrId as AnInstrId};
 ghost use Rattle.pg_trace.specs.Races.{schedule_of};
-ghost use Rattle.pg_trace.specs.declared.step.Step.{Step as AStep};
-ghost use Rattle.pg_machine.specs.Follow.{Exits, end_as};
 ghost use Rattle.pg_machine.specs.Rotation.{rotation_of};
-ghost use Rattle.pg_sliceable.specs.Sliceable.{CanBeSliced};
 ghost use Rattle.pg_entry_bench.specs.declared.recording.TheConstants.{QUANTUM as ITS_QUANTUM};
 
-use anyhow::{Result, anyhow};
-use pg_entry::can_run;
 use pg_ir::{InstrId, Program};
-use pg_machine::{FollowEnd, follow_into, rotate_into};
+use pg_machine::rotate_into;
 use pg_race::races;
 use pg_sched::hybrid;
-use pg_sliceable::laws::exiting_runs_can_be_sliced;
 use pg_trace::{Schedule, Trace};
 use std::alloc::{AllocError, Global};
 
@@ -43,38 +37,6 @@ pub(crate) fn scheduled(alloc: Global, t: &Trace) -> Result<Schedule, AllocError
 {
     let races = races(alloc, t)?;
     hybrid(alloc, t, races.as_slice())
-}
-
-/// A guided run exits.
-fn exits(end: FollowEnd) -> Result<()>
-    ensures { OnOk result ((xs : List AStep) → (printed : List ℕ) × (value : ℤ) × (end_as end xs ≡ Exits xs printed value)) }
-{
-    match end {
-        FollowEnd::Exit { .. } => Ok(()),
-        _ => Err(anyhow!("the guided run doesn't exit")),
-    }
-}
-
-/// The guided run along a schedule, which exits. The trace then has its steps.
-///
-/// # Errors
-///
-/// Where it doesn't exit, or no memory is left.
-pub(crate) fn follow(
-    alloc: Global,
-    p: &Program,
-    input: &[i64],
-    schedule: &Schedule,
-    trace: &mut Trace,
-) -> Result<()>
-    requires room { trace.old.room ≡ RECORDING_STEP_LIMIT }
-    ensures { OnOk result (CanBeSliced p.now input.now schedule.now.gated trace.new.steps) }
-{
-    can_run(p, input);
-    exiting_runs_can_be_sliced();
-    let end = follow_into(alloc, p, input, schedule, trace)?;
-    exits(end)?;
-    Ok(())
 }
 
 /// Whether these loads and stores are instructions of the program.

@@ -3,7 +3,6 @@ ghost use Rattle.std.specs.Prelude.{◌≡◌, ◌-◌, ◌/◌};
 
 use pg_ir::Known::{PgIn, PgOut, PthreadCreate, PthreadJoin};
 use pg_ir::Value::{Const, Function, Global, Register};
-use pg_ir::{Index, Scale};
 use pg_num::Bits::Xor;
 use pg_num::Compare::Slt;
 use pg_num::Width::{W1, W64};
@@ -11,7 +10,7 @@ use pg_samples::Line::{
     Add, Alloca, Bitwise, Branch, BranchIf, Call, Compares, Gep, IntToPtr, Knows, Load, Mul, Phi,
     PtrToInt, Return, Store, Trunc,
 };
-use pg_samples::{Body, I1, I32, I64, NULL, PTR, Parts};
+use pg_samples::{Body, I1, I32, I64, NULL, PTR, Parts, main_alone, thread_and_main};
 
 /// A program whose run can be long.
 #[derive(Clone, Copy, PartialEq, Eq)]
@@ -124,157 +123,127 @@ const BRANCHES: Parts = Parts {
 const ARRAY_BYTES: u64 = 1_048_576;
 
 /// The eight threads' rounds, each thread's from its own element on, and main, which makes and joins them.
-const ARRAY: Parts = Parts {
-    globals: &[(1, 1_048_576, b""), (131_073, 8, b"")],
-    functions: &[
-        Body {
-            params: 1,
-            registers: &[PTR, I64, I64, I64, I1, I64, PTR, I64, I64, I64],
-            returned: Some(PTR),
-            blocks: &[
-                &[
-                    (Some(1), PtrToInt(W64, W64, Register(0))),
-                    (Some(2), Knows(PgIn, &[Const(0)])),
-                    (None, Branch(1)),
-                ],
-                &[
-                    (Some(3), Phi(&[(0, Const(0)), (2, Register(9))])),
-                    (Some(4), Compares(Slt, W64, Register(3), Register(2))),
-                    (None, BranchIf(Register(4), 2, 3)),
-                ],
-                &[
-                    (Some(5), Add(W64, Register(1), Register(3))),
-                    (
-                        Some(6),
-                        Gep(
-                            Global(0),
-                            &[
-                                Index {
-                                    value: Const(0),
-                                    width: W64,
-                                    scale: Scale::Times(ARRAY_BYTES),
-                                },
-                                Index {
-                                    value: Register(5),
-                                    width: W64,
-                                    scale: Scale::Times(8),
-                                },
-                            ],
-                        ),
-                    ),
-                    (Some(7), Load(W64, Register(6))),
-                    (Some(8), Add(W64, Register(7), Const(1))),
-                    (None, Store(W64, Register(8), Register(6))),
-                    (Some(9), Add(W64, Register(3), Const(1))),
-                    (None, Branch(1)),
-                ],
-                &[(None, Return(Some(NULL)))],
-            ],
-        },
-        Body {
-            params: 0,
-            registers: &[
-                PTR, PTR, PTR, PTR, PTR, PTR, PTR, PTR, I32, I32, I32, I32, I32, I32, I32, I32,
-                I32, I32, I32, I32, I32, I32, I32, I32,
-            ],
-            returned: Some(I32),
-            blocks: &[&[
-                (Some(0), IntToPtr(W64, W64, Const(0))),
-                (Some(1), IntToPtr(W64, W64, Const(16_384))),
-                (Some(2), IntToPtr(W64, W64, Const(32_768))),
-                (Some(3), IntToPtr(W64, W64, Const(49_152))),
-                (Some(4), IntToPtr(W64, W64, Const(65_536))),
-                (Some(5), IntToPtr(W64, W64, Const(81_920))),
-                (Some(6), IntToPtr(W64, W64, Const(98_304))),
-                (Some(7), IntToPtr(W64, W64, Const(114_688))),
-                (
-                    Some(8),
-                    Knows(PthreadCreate, &[Global(1), NULL, Function(0), Register(0)]),
-                ),
-                (
-                    Some(9),
-                    Knows(PthreadCreate, &[Global(1), NULL, Function(0), Register(1)]),
-                ),
-                (
-                    Some(10),
-                    Knows(PthreadCreate, &[Global(1), NULL, Function(0), Register(2)]),
-                ),
-                (
-                    Some(11),
-                    Knows(PthreadCreate, &[Global(1), NULL, Function(0), Register(3)]),
-                ),
-                (
-                    Some(12),
-                    Knows(PthreadCreate, &[Global(1), NULL, Function(0), Register(4)]),
-                ),
-                (
-                    Some(13),
-                    Knows(PthreadCreate, &[Global(1), NULL, Function(0), Register(5)]),
-                ),
-                (
-                    Some(14),
-                    Knows(PthreadCreate, &[Global(1), NULL, Function(0), Register(6)]),
-                ),
-                (
-                    Some(15),
-                    Knows(PthreadCreate, &[Global(1), NULL, Function(0), Register(7)]),
-                ),
-                (Some(16), Knows(PthreadJoin, &[Const(1), NULL])),
-                (Some(17), Knows(PthreadJoin, &[Const(2), NULL])),
-                (Some(18), Knows(PthreadJoin, &[Const(3), NULL])),
-                (Some(19), Knows(PthreadJoin, &[Const(4), NULL])),
-                (Some(20), Knows(PthreadJoin, &[Const(5), NULL])),
-                (Some(21), Knows(PthreadJoin, &[Const(6), NULL])),
-                (Some(22), Knows(PthreadJoin, &[Const(7), NULL])),
-                (Some(23), Knows(PthreadJoin, &[Const(8), NULL])),
-                (None, Return(Some(Const(0)))),
-            ]],
-        },
+const ARRAY: Parts = thread_and_main!(
+    &[(1, 1_048_576, b""), (131_073, 8, b"")],
+    &[PTR, I64, I64, I64, I1, I64, PTR, I64, I64, I64],
+    &[
+        &[
+            (Some(1), PtrToInt(W64, W64, Register(0))),
+            (Some(2), Knows(PgIn, &[Const(0)])),
+            (None, Branch(1)),
+        ],
+        &[
+            (Some(3), Phi(&[(0, Const(0)), (2, Register(9))])),
+            (Some(4), Compares(Slt, W64, Register(3), Register(2))),
+            (None, BranchIf(Register(4), 2, 3)),
+        ],
+        &[
+            (Some(5), Add(W64, Register(1), Register(3))),
+            (
+                Some(6),
+                Gep(Global(0), &[(Const(0), ARRAY_BYTES), (Register(5), 8)]),
+            ),
+            (Some(7), Load(W64, Register(6))),
+            (Some(8), Add(W64, Register(7), Const(1))),
+            (None, Store(W64, Register(8), Register(6))),
+            (Some(9), Add(W64, Register(3), Const(1))),
+            (None, Branch(1)),
+        ],
+        &[(None, Return(Some(NULL)))],
     ],
-    main: 1,
-};
+    &[
+        PTR, PTR, PTR, PTR, PTR, PTR, PTR, PTR, I32, I32, I32, I32, I32, I32, I32, I32, I32, I32,
+        I32, I32, I32, I32, I32, I32,
+    ],
+    &[&[
+        (Some(0), IntToPtr(W64, W64, Const(0))),
+        (Some(1), IntToPtr(W64, W64, Const(16_384))),
+        (Some(2), IntToPtr(W64, W64, Const(32_768))),
+        (Some(3), IntToPtr(W64, W64, Const(49_152))),
+        (Some(4), IntToPtr(W64, W64, Const(65_536))),
+        (Some(5), IntToPtr(W64, W64, Const(81_920))),
+        (Some(6), IntToPtr(W64, W64, Const(98_304))),
+        (Some(7), IntToPtr(W64, W64, Const(114_688))),
+        (
+            Some(8),
+            Knows(PthreadCreate, &[Global(1), NULL, Function(0), Register(0)]),
+        ),
+        (
+            Some(9),
+            Knows(PthreadCreate, &[Global(1), NULL, Function(0), Register(1)]),
+        ),
+        (
+            Some(10),
+            Knows(PthreadCreate, &[Global(1), NULL, Function(0), Register(2)]),
+        ),
+        (
+            Some(11),
+            Knows(PthreadCreate, &[Global(1), NULL, Function(0), Register(3)]),
+        ),
+        (
+            Some(12),
+            Knows(PthreadCreate, &[Global(1), NULL, Function(0), Register(4)]),
+        ),
+        (
+            Some(13),
+            Knows(PthreadCreate, &[Global(1), NULL, Function(0), Register(5)]),
+        ),
+        (
+            Some(14),
+            Knows(PthreadCreate, &[Global(1), NULL, Function(0), Register(6)]),
+        ),
+        (
+            Some(15),
+            Knows(PthreadCreate, &[Global(1), NULL, Function(0), Register(7)]),
+        ),
+        (Some(16), Knows(PthreadJoin, &[Const(1), NULL])),
+        (Some(17), Knows(PthreadJoin, &[Const(2), NULL])),
+        (Some(18), Knows(PthreadJoin, &[Const(3), NULL])),
+        (Some(19), Knows(PthreadJoin, &[Const(4), NULL])),
+        (Some(20), Knows(PthreadJoin, &[Const(5), NULL])),
+        (Some(21), Knows(PthreadJoin, &[Const(6), NULL])),
+        (Some(22), Knows(PthreadJoin, &[Const(7), NULL])),
+        (Some(23), Knows(PthreadJoin, &[Const(8), NULL])),
+        (None, Return(Some(Const(0)))),
+    ]]
+);
 
 /// Main alone.
-const CHAIN: Parts = Parts {
-    globals: &[],
-    functions: &[Body {
-        params: 0,
-        registers: &[I64, PTR, PTR, I64, I1, I64, I64, I64, I64, I64, I1],
-        returned: Some(I32),
-        blocks: &[
-            &[
-                (Some(0), Knows(PgIn, &[Const(0)])),
-                (Some(1), Alloca(8)),
-                (Some(2), Alloca(8)),
-                (None, Store(W64, Const(0), Register(1))),
-                (None, Store(W64, Const(0), Register(2))),
-                (None, Branch(1)),
-            ],
-            &[
-                (Some(3), Load(W64, Register(2))),
-                (Some(4), Compares(Slt, W64, Register(3), Register(0))),
-                (None, BranchIf(Register(4), 2, 3)),
-            ],
-            &[
-                (Some(5), Load(W64, Register(1))),
-                (Some(6), Add(W64, Register(5), Register(3))),
-                (Some(7), Mul(W64, Register(6), Const(3))),
-                (None, Store(W64, Register(7), Register(1))),
-                (Some(8), Add(W64, Register(3), Const(1))),
-                (None, Store(W64, Register(8), Register(2))),
-                (None, Branch(1)),
-            ],
-            &[
-                (Some(9), Load(W64, Register(1))),
-                (Some(10), Trunc(W64, W1, Register(9))),
-                (None, BranchIf(Register(10), 4, 5)),
-            ],
-            &[(None, Knows(PgOut, &[Register(9)])), (None, Branch(5))],
-            &[(None, Return(Some(Const(0))))],
+const CHAIN: Parts = main_alone!(
+    &[],
+    &[I64, PTR, PTR, I64, I1, I64, I64, I64, I64, I64, I1],
+    &[
+        &[
+            (Some(0), Knows(PgIn, &[Const(0)])),
+            (Some(1), Alloca(8)),
+            (None, Store(W64, Const(0), Register(1))),
+            (Some(2), Alloca(8)),
+            (None, Store(W64, Const(0), Register(2))),
+            (None, Branch(1)),
         ],
-    }],
-    main: 0,
-};
+        &[
+            (Some(3), Load(W64, Register(2))),
+            (Some(4), Compares(Slt, W64, Register(3), Register(0))),
+            (None, BranchIf(Register(4), 2, 3)),
+        ],
+        &[
+            (Some(5), Load(W64, Register(1))),
+            (Some(6), Add(W64, Register(5), Register(3))),
+            (Some(7), Mul(W64, Register(6), Const(3))),
+            (None, Store(W64, Register(7), Register(1))),
+            (Some(8), Add(W64, Register(3), Const(1))),
+            (None, Store(W64, Register(8), Register(2))),
+            (None, Branch(1)),
+        ],
+        &[
+            (Some(9), Load(W64, Register(1))),
+            (Some(10), Trunc(W64, W1, Register(9))),
+            (None, BranchIf(Register(10), 4, 5)),
+        ],
+        &[(None, Knows(PgOut, &[Register(9)])), (None, Branch(5))],
+        &[(None, Return(Some(Const(0))))],
+    ]
+);
 
 /// The program.
 pub(crate) fn parts_of(shape: Shape) -> Parts {

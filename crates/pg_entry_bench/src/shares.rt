@@ -25,7 +25,19 @@ pub(crate) struct Moments {
 impl Moments {
     /// Nothing is done so far.
     pub(crate) fn at(begun: Instant) -> Moments
-        ensures { result ≡ record { begun = begun; rotated = begun; scheduled = begun; followed = begun; replayed = begun; sliced = begun; counted = begun; passed = begun; ready = begun; admitted = begun; guided = begun } }
+        ensures { result ≡ record {
+          begun = begun;
+          rotated = begun;
+          scheduled = begun;
+          followed = begun;
+          replayed = begun;
+          sliced = begun;
+          counted = begun;
+          passed = begun;
+          ready = begun;
+          admitted = begun;
+          guided = begun;
+        } }
     {
         Moments {
             begun,
@@ -105,7 +117,8 @@ pub(crate) fn percent(part: u64, whole: u128) -> u128
 
 /// Whether a recording takes less than another.
 fn takes_less(one: &Shares, other: &Shares) -> bool
-    ensures { result ≡ nat_lt (one.now.rotation + one.now.schedule + one.now.guided + one.now.replay + one.now.slice) (other.now.rotation + other.now.schedule + other.now.guided + other.now.replay + other.now.slice) }
+    ensures { result ≡ nat_lt (one.now.rotation + one.now.schedule + one.now.guided + one.now.replay + one.now.slice)
+        (other.now.rotation + other.now.schedule + other.now.guided + other.now.replay + other.now.slice) }
 {
     one.sum() < other.sum()
 }

@@ -8,12 +8,14 @@ dropped [] i x h = absurd cc
 dropped (y ∷ ys) zero x h = let e : y ≡ x = cc in rw e refl
 dropped (y ∷ ys) (suc i) x h = dropped ys i x h
 
-next_of : (input : List ℤ) (known : List (Option ℕ)) (n : Node) (nodes : List Node) → numbers_behind input known (n ∷ nodes) ≡ numbers_behind input (known ++ node_number input known n ∷ []) nodes
+next_of : (input : List ℤ) (known : List (Option ℕ)) (n : Node) (nodes : List Node)
+    → numbers_behind input known (n ∷ nodes) ≡ numbers_behind input (known ++ node_number input known n ∷ []) nodes
 unfolding numbers_behind
 next_of input known n nodes = refl
 
 -- one number more
-pub filled : (input : List ℤ) (nodes : List Node) (known : List (Option ℕ)) (i : ℕ) (n : Node) → slice_get nodes i ≡ Some n → numbers_behind input known (drop i nodes) ≡ numbers_of input nodes → numbers_behind input (known ++ node_number input known n ∷ []) (drop (i + 1) nodes) ≡ numbers_of input nodes
+pub filled : (input : List ℤ) (nodes : List Node) (known : List (Option ℕ)) (i : ℕ) (n : Node) → slice_get nodes i ≡ Some n
+    → numbers_behind input known (drop i nodes) ≡ numbers_of input nodes → numbers_behind input (known ++ node_number input known n ∷ []) (drop (i + 1) nodes) ≡ numbers_of input nodes
 filled input nodes known i n h k =
     let l : i + 1 ≡ suc i = omega arith in
     rw l (sym (next_of input known n (drop (suc i) nodes)) ∙ ap (numbers_behind input known) (sym (dropped nodes i n h)) ∙ k)
@@ -26,8 +28,10 @@ behind_none : (input : List ℤ) (known : List (Option ℕ)) → numbers_behind 
 unfolding numbers_behind
 behind_none input known = refl
 
-pub all_filled : (input : List ℤ) (nodes : List Node) (known : List (Option ℕ)) (i : ℕ) → i ≡ length nodes → numbers_behind input known (drop i nodes) ≡ numbers_of input nodes → known ≡ numbers_of input nodes
-all_filled input nodes known i e h = sym (behind_none input known) ∙ ap (numbers_behind input known) (sym (past_all nodes)) ∙ subst (λ (j : ℕ). numbers_behind input known (drop j nodes) ≡ numbers_of input nodes) e h
+pub all_filled : (input : List ℤ) (nodes : List Node) (known : List (Option ℕ)) (i : ℕ) → i ≡ length nodes → numbers_behind input known (drop i nodes) ≡ numbers_of input nodes
+    → known ≡ numbers_of input nodes
+all_filled input nodes known i e h = sym (behind_none input known) ∙ ap (numbers_behind input known) (sym (past_all nodes))
+    ∙ subst (λ (j : ℕ). numbers_behind input known (drop j nodes) ≡ numbers_of input nodes) e h
 
 lengthened : (xs : List (Option ℕ)) (x : Option ℕ) → length (xs ++ x ∷ []) ≡ length xs + 1
 lengthened [] x = refl

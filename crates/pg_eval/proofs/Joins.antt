@@ -1,5 +1,6 @@
 -- Numbers that are joined of bytes, one byte more at a time.
-use Rattle.std.proofs.Common.{◌≡◌, ℕ, zero, suc, ◌+◌, ◌-◌, ◌*◌, ◌%◌, ◌^◌, ◌<◌, ◌≤◌, ◌==◌, List, [], ◌∷◌, length, drop, false, Option, Some, slice_index, arith, refl, ap, ◌∙◌, subst}
+use Rattle.std.proofs.Common.{◌≡◌, ℕ, zero, suc, ◌+◌, ◌-◌, ◌*◌, ◌%◌, ◌^◌, ◌<◌, ◌≤◌, ◌==◌, List, [], ◌∷◌, length, drop, false, Option, Some}
+use Rattle.std.proofs.Common.{slice_index, arith, refl, ap, ◌∙◌, subst}
 use Rattle.pg_nodes.specs.Values.{joined, number_of, with_both}
 use Rattle.pg_eval.specs.Bounds.{bound_of}
 
@@ -12,11 +13,14 @@ pub joined_none : (known : List (Option ℕ)) (parts : List ℕ) → joined know
 unfolding joined
 joined_none known parts = refl
 
-next_of : (known : List (Option ℕ)) (p : ℕ) (parts : List ℕ) (n : ℕ) → joined known (p ∷ parts) (suc n) ≡ with_both (number_of known p) (joined known parts n) (λ byte rest. Some (rest * 2 ^ 8 + byte % 2 ^ 8))
+next_of : (known : List (Option ℕ)) (p : ℕ) (parts : List ℕ) (n : ℕ)
+    → joined known (p ∷ parts) (suc n) ≡ with_both (number_of known p) (joined known parts n) (λ byte rest. Some (rest * 2 ^ 8 + byte % 2 ^ 8))
 unfolding joined
 next_of known p parts n = refl
 
-pub joined_next : (known : List (Option ℕ)) (parts : List ℕ) (first count : ℕ) → (count == 0) ≡ false → first < length parts → joined known (drop first parts) count ≡ with_both (number_of known (slice_index parts first)) (joined known (drop (first + 1) parts) (count - 1)) (λ byte rest. Some (rest * 2 ^ 8 + byte % 2 ^ 8))
+pub joined_next : (known : List (Option ℕ)) (parts : List ℕ) (first count : ℕ) → (count == 0) ≡ false → first < length parts
+    → joined known (drop first parts) count ≡ with_both (number_of known (slice_index parts first)) (joined known (drop (first + 1) parts) (count - 1))
+    (λ byte rest. Some (rest * 2 ^ 8 + byte % 2 ^ 8))
 joined_next known parts first zero e h = absurd cc
 joined_next known parts first (suc n) e h =
     let k : suc n - 1 ≡ n = omega arith in

@@ -1,3 +1,5 @@
+//! Whether the checks of a precondition hold on an input.
+
 ghost use Rattle.std.specs.Prelude.{◌≡◌, ◌≤◌, ◌<◌, ◌^◌, ℕ, length, slice_get, IfSome};
 ghost use Rattle.std.specs.List.{list_all};
 ghost use Rattle.pg_nodes.specs.Values.{holds, is_admitted, is_met, meets};

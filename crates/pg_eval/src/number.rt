@@ -1,8 +1,11 @@
+//! The number of one node.
+
 ghost use Rattle.std.specs.Prelude.{◌≡◌, ◌<◌, ◌≤◌, ◌+◌, drop, length, IfSome};
 ghost use Rattle.pg_num.specs.Numbers.{signed};
 ghost use Rattle.pg_num.specs.declared.width.Width.TheVariants.{W64};
 ghost use Rattle.pg_nodes.specs.Nodes.{IsNode, NamesParts};
-ghost use Rattle.pg_nodes.specs.Values.{chosen, input_at, joined, node_number, number_of};
+ghost use Rattle.pg_nodes.specs.Values.{chosen, joined, node_number, number_of};
+ghost use Rattle.pg_num.specs.Inputs.{input_at};
 ghost use Rattle.pg_eval.specs.Bounds.{bound_of};
 
 use crate::operation::{cast, operated_on};

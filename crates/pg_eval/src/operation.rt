@@ -1,3 +1,5 @@
+//! The operations of nodes.
+
 ghost use Rattle.std.specs.Prelude.{◌≡◌, ◌<◌};
 ghost use Rattle.pg_num.specs.Numbers.{modulus, truncated};
 ghost use Rattle.pg_nodes.specs.Nodes.{FitsCast};

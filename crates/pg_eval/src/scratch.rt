@@ -1,3 +1,5 @@
+//! Room for the numbers of nodes, which is used again.
+
 use crate::number::node_number;
 use pg_nodes::{Nodes, Precondition};
 use std::alloc::{AllocError, Global};

@@ -1,3 +1,5 @@
+//! The extents that are open at a step.
+
 ghost use Rattle.std.specs.Prelude.{◌≡◌, ◌==◌, ◌&&◌, ◌||◌, [], not, ℕ, List, Bool, Option, IfOk};
 ghost use Rattle.std.specs.List.{filter, list_any};
 ghost use Rattle.pg_closed.specs.Extents as defs;
@@ -111,7 +113,8 @@ impl OpenExtents {
         free: Option<u32>,
         edge: Option<u32>,
     ) -> Result<(), AllocError>
-        ensures { IfOk result (λ u. (pinned : ℕ → Bool) (es : List Extent) (n : ℕ) (region : Option FreeRegion) → AreOpen pinned es (open_at self.old) → free ≡ left_free (pinned n) region →
+        ensures { IfOk result (λ u. (pinned : ℕ → Bool) (es : List Extent) (n : ℕ) (region : Option FreeRegion) → AreOpen pinned es (open_at self.old)
+            → free ≡ left_free (pinned n) region →
             AreOpen pinned (defs.open_after n depth region edge es) (open_at self.new)) }
     {
         self.begin(depth, free)?;

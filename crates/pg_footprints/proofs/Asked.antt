@@ -23,14 +23,16 @@ minded true y = rules.access_print y ++ rules.region_prints y
 minded false y = rules.access_print y
 
 -- one print beside those of one step
-one_step : (r : Bool) (x y : Seen) (a : rules.Footprint) → list_any (meets (of_step r x a)) (access_prints y ++ region_prints y) ≡ (beside x y && list_any (rules.footprints_conflict a) (minded r y))
+one_step : (r : Bool) (x y : Seen) (a : rules.Footprint) → list_any (meets (of_step r x a)) (access_prints y ++ region_prints y)
+    ≡ (beside x y && list_any (rules.footprints_conflict a) (minded r y))
 one_step r x y a =
     list_any-append (meets (of_step r x a)) (access_prints y) (region_prints y)
     ∙ ap (λ b. b || list_any (meets (of_step r x a)) (region_prints y)) (any_map (meets (of_step r x a)) (of_step false y) (rules.access_print y))
     ∙ ap (λ b. list_any (λ f. meets (of_step r x a) (of_step false y f)) (rules.access_print y) || b) (any_map (meets (of_step r x a)) (of_step true y) (rules.region_prints y))
     ∙ go r
   where
-    go : (r : Bool) → (list_any (λ f. meets (of_step r x a) (of_step false y f)) (rules.access_print y) || list_any (λ f. meets (of_step r x a) (of_step true y f)) (rules.region_prints y)) ≡ (beside x y && list_any (rules.footprints_conflict a) (minded r y))
+    go : (r : Bool) → (list_any (λ f. meets (of_step r x a) (of_step false y f)) (rules.access_print y) || list_any (λ f. meets (of_step r x a) (of_step true y f)) (rules.region_prints y))
+        ≡ (beside x y && list_any (rules.footprints_conflict a) (minded r y))
     go true =
         ap (λ b. b || list_any (λ f. beside x y && rules.footprints_conflict a f) (rules.region_prints y)) (any_and (beside x y) (rules.footprints_conflict a) (rules.access_print y))
         ∙ ap (λ b. (beside x y && list_any (rules.footprints_conflict a) (rules.access_print y)) || b) (any_and (beside x y) (rules.footprints_conflict a) (rules.region_prints y))
@@ -50,7 +52,8 @@ pub by_prints : (r : Bool) (x : Seen) (fs : List rules.Footprint) (ys : List See
 by_prints r x fs ys = sym (
     any_map (is_met (prints_of ys)) (of_step r x) fs
     ∙ any_same (λ a. is_met (prints_of ys) (of_step r x a)) (λ a. list_any (λ y. beside x y && list_any (rules.footprints_conflict a) (minded r y)) ys) fs
-    (λ a. all_steps (meets (of_step r x a)) ys ∙ any_same (λ y. list_any (meets (of_step r x a)) (access_prints y ++ region_prints y)) (λ y. beside x y && list_any (rules.footprints_conflict a) (minded r y)) ys (λ y. one_step r x y a))
+    (λ a. all_steps (meets (of_step r x a)) ys ∙ any_same (λ y. list_any (meets (of_step r x a)) (access_prints y ++ region_prints y))
+    (λ y. beside x y && list_any (rules.footprints_conflict a) (minded r y)) ys (λ y. one_step r x y a))
     ∙ any_swap (λ a y. beside x y && list_any (rules.footprints_conflict a) (minded r y)) fs ys
     ∙ any_same (λ y. list_any (λ a. beside x y && list_any (rules.footprints_conflict a) (minded r y)) fs) (λ y. rules.frames_meet x fs y (minded r y)) ys
     (λ y. any_and (beside x y) (λ a. list_any (rules.footprints_conflict a) (minded r y)) fs)

@@ -32,11 +32,11 @@ record IsOf (x : Seen) (p : Footprint) : Type 0 where
   low : p.low ≡ x.moment.did.low
   high : p.high ≡ x.moment.did.high
 
-all_append : {A : Type 0} (P : A → Type 0) (xs ys : List A) → AllByRecursion P xs → AllByRecursion P ys → AllByRecursion P (xs ++ ys)
+pub all_append : {A : Type 0} (P : A → Type 0) (xs ys : List A) → AllByRecursion P xs → AllByRecursion P ys → AllByRecursion P (xs ++ ys)
 all_append P [] ys a b = b
 all_append P (x ∷ xs) ys a b = (a.0, all_append P xs ys a.1 b)
 
-all_weaker : {A : Type 0} (P Q : A → Type 0) (xs : List A) → ((x : A) → P x → Q x) → AllByRecursion P xs → AllByRecursion Q xs
+pub all_weaker : {A : Type 0} (P Q : A → Type 0) (xs : List A) → ((x : A) → P x → Q x) → AllByRecursion P xs → AllByRecursion Q xs
 all_weaker P Q [] f a = tt
 all_weaker P Q (x ∷ xs) f a = (f x a.0, all_weaker P Q xs f a.1)
 
@@ -104,4 +104,6 @@ pub steps_order : (gated : List InstrId) (p : NumberedProgram) (regions : Region
     AreInOrder (seen_in (record { program = p; regions = regions; moments = moments_of gated p input xs }) d)
 steps_order gated p regions input xs d =
     let R : Reference = record { program = p; regions = regions; moments = moments_of gated p input xs } in
-    order_did (seen_in R d) (subst (EachPair (λ (x y : Timed Step). x.low ≤ y.high)) (sym (seen_did R d 0 (start_of p) R.moments ∙ moments_did gated p input (initial p) (timed_by recorded xs))) (low_high recorded (owners recorded xs) 0 xs (omega arith) (own_turns recorded xs)))
+    order_did (seen_in R d) (subst (EachPair (λ (x y : Timed Step). x.low ≤ y.high))
+    (sym (seen_did R d 0 (start_of p) R.moments ∙ moments_did gated p input (initial p) (timed_by recorded xs)))
+    (low_high recorded (owners recorded xs) 0 xs (omega arith) (own_turns recorded xs)))

@@ -11,7 +11,8 @@ use Rattle.pg_grammar.specs.Classes.{is, none, ◌∪◌}
 use Rattle.pg_grammar.specs.Language.{Gram, Lang, one, give, refused, ◌or◌, ◌>>=◌, times}
 use Rattle.pg_grammar.specs.Grammar.{skip_to, attribute, attribute_word, attribute_name, metadata_name, attributes, argument, no_type, drop_value, other_value_in, value_in, literal_of}
 use Rattle.pg_grammar.specs.Reading.{Good, run}
-use Rattle.pg_grammar.specs.Reader.{Pending, Fresh, Bare, Quoted, Held, fresh_at, pending_at, begins_fresh, begins_pending, begins_type, begins_value, settled_at, value_at, attributed_at, argument_at}
+use Rattle.pg_grammar.specs.Reader.{Pending, Fresh, Bare, Quoted, Held, fresh_at, pending_at, begins_fresh, begins_pending, begins_type, begins_value, settled_at, value_at}
+use Rattle.pg_grammar.specs.Reader.{attributed_at, argument_at}
 use Rattle.pg_grammar.proofs.ClassTests.{within, apart, apart_none, apart_from_none}
 use Rattle.pg_grammar.proofs.Pieces.{Piece, Item}
 use Rattle.pg_grammar.proofs.Choices.{choose_piece}
@@ -56,7 +57,9 @@ settled Quoted = value_in NESTING_LIMIT or refused Unsupported (is Refused)
 settled (Held n) = (value_in NESTING_LIMIT or give (syntax.Int (literal_of n))) or refused Unsupported (is Refused)
 
 fresh_item : Item fresh_at fresh begins_fresh none
-fresh_item = item_or (item_first attribute_word OtherWord refl (λ t. give_it)) (item_or (item_first attribute_name Attr refl (λ t. give_it)) (item_case Str (λ t. give_it) (item_first metadata_name Meta refl (λ t. first {aw = none} (token_of metadata_name Meta refl) (λ u. give_it))) refl) refl) refl
+fresh_item = item_or (item_first attribute_word OtherWord refl (λ t. give_it))
+    (item_or (item_first attribute_name Attr refl (λ t. give_it))
+    (item_case Str (λ t. give_it) (item_first metadata_name Meta refl (λ t. first {aw = none} (token_of metadata_name Meta refl) (λ u. give_it))) refl) refl) refl
 
 pending_item : (s : Pending) → Item (pending_at s) (pending s) (begins_pending s) none
 unfolding pending_at
@@ -86,10 +89,21 @@ unfolding settled_at
 settled_piece Fresh = recast begins_value (is Refused) (unless_it (is Refused) (value_piece NESTING_LIMIT) refl refl) refl refl
 settled_piece Bare = recast begins_other (is Refused) (unless_it (is Refused) (other_value_piece NESTING_LIMIT) refl refl) refl refl
 settled_piece Quoted = recast begins_value (is Refused) (unless_it (is Refused) (value_piece NESTING_LIMIT) refl refl) refl refl
-settled_piece (Held n) = recast begins_value (is Refused) (unless_it (is Refused) (choose_piece (value_at NESTING_LIMIT) (value_in NESTING_LIMIT) begins_value behind_argument (λ ts. Good (syntax.Int (literal_of n)) ts) (give (syntax.Int (literal_of n))) none none true behind_argument behind_argument (value_piece NESTING_LIMIT) (value_gets INNER_NESTING_LIMIT) give_it refl refl refl refl) refl refl) refl refl
+settled_piece (Held n) = recast begins_value (is Refused) (unless_it (is Refused)
+    (choose_piece (value_at NESTING_LIMIT) (value_in NESTING_LIMIT) begins_value behind_argument (λ ts. Good (syntax.Int (literal_of n)) ts)
+    (give (syntax.Int (literal_of n))) none none true behind_argument behind_argument (value_piece NESTING_LIMIT) (value_gets INNER_NESTING_LIMIT) give_it refl refl refl refl) refl refl) refl refl
 
 states : States pending_at pending begins_pending none settled_at settled begins_settled (λ s. is Refused) may_settle behind_argument
-states = record { items = λ s. (pending_item s).piece; gets = λ s. (pending_item s).gets; tails = settled_piece; clear = clear; ends = ends; items_behind = λ s. apart_from_none (begins_pending s); tails_behind = λ s. apart_from_none (begins_settled s); ends_behind = λ s. either (may_settle s) }
+states = record {
+  items = λ s. (pending_item s).piece;
+  gets = λ s. (pending_item s).gets;
+  tails = settled_piece;
+  clear = clear;
+  ends = ends;
+  items_behind = λ s. apart_from_none (begins_pending s);
+  tails_behind = λ s. apart_from_none (begins_settled s);
+  ends_behind = λ s. either (may_settle s);
+}
   where
     clear : (s : Pending) → apart (begins_pending s) (begins_settled s) ≡ true
     clear Fresh = refl
@@ -114,12 +128,14 @@ settled_loop = loop_piece pending_at pending begins_pending none settled_at sett
 -- ---- the same lists as the grammar's attributes and value
 
 linear_fresh : Linear fresh
-linear_fresh = linear_or (linear_then (linear_one attribute_word) (λ t. linear_give Bare)) (linear_or (linear_then (linear_one attribute_name) (λ t. linear_give Fresh)) (linear_or (linear_then (linear_one (is Str)) (λ t. linear_give Quoted))
+linear_fresh = linear_or (linear_then (linear_one attribute_word) (λ t. linear_give Bare))
+    (linear_or (linear_then (linear_one attribute_name) (λ t. linear_give Fresh)) (linear_or (linear_then (linear_one (is Str)) (λ t. linear_give Quoted))
     (linear_then (linear_one metadata_name) (λ t. linear_then (linear_one metadata_name) (λ u. linear_give Fresh)))))
 
 linear_pending : (s : Pending) → Linear (pending s)
 linear_pending Fresh = linear_fresh
-linear_pending Bare = linear_or (linear_then (linear_one (is Int)) (λ n. linear_give (Held n))) (linear_or (linear_then (linear_one (is OpenRound)) (λ o. linear_then (linear_skip INNER_NESTING_LIMIT CloseRound) (λ u. linear_give Fresh))) linear_fresh)
+linear_pending Bare = linear_or (linear_then (linear_one (is Int)) (λ n. linear_give (Held n)))
+    (linear_or (linear_then (linear_one (is OpenRound)) (λ o. linear_then (linear_skip INNER_NESTING_LIMIT CloseRound) (λ u. linear_give Fresh))) linear_fresh)
 linear_pending Quoted = linear_or (linear_then (linear_one (is Equals)) (λ t. linear_then (linear_one (is Str)) (λ u. linear_give Fresh))) linear_fresh
 linear_pending (Held n) = linear_fresh
 
@@ -157,7 +173,8 @@ Attributes n m K us = times attribute n m (λ all. Value m K) us
 
 fresh_left : (m : Option Fault) (K : Val → Lang) (us : List Token) → fresh m (λ s. left s m K) us → attributed m K us
 fresh_left m K us (inl (t, vs, e, i, inl (t2, ws, e2, i2, (k, j)))) = (suc k, inl (t, vs, e, i, inl (t2, ws, e2, i2, j)))
-fresh_left m K us (inl (t, vs, e, i, inr (inl (t2, ws, e2, i2, j)))) = let q = (linear_skip INNER_NESTING_LIMIT CloseRound).pick m (λ n u. Attributes n m K) ws j in (suc q.0, inl (t, vs, e, i, inr (inl (t2, ws, e2, i2, q.1))))
+fresh_left m K us (inl (t, vs, e, i, inr (inl (t2, ws, e2, i2, j)))) = let q =
+    (linear_skip INNER_NESTING_LIMIT CloseRound).pick m (λ n u. Attributes n m K) ws j in (suc q.0, inl (t, vs, e, i, inr (inl (t2, ws, e2, i2, q.1))))
 fresh_left m K us (inl (t, vs, e, i, inr (inr (k, j)))) = (suc k, inl (t, vs, e, i, inr (inr j)))
 fresh_left m K us (inr (inl (t, vs, e, i, (k, j)))) = (suc k, inr (inl (t, vs, e, i, j)))
 fresh_left m K us (inr (inr (inl (t, vs, e, i, inl (t2, ws, e2, i2, (t3, xs, e3, i3, (k, j))))))) = (suc k, inr (inr (inl (t, vs, e, i, inl (t2, ws, e2, i2, (t3, xs, e3, i3, j))))))
@@ -205,7 +222,8 @@ to_bare (suc n) m K us j = (suc n, inr (inr j))
 
 attribute_loops : (m : Option Fault) (K : Val → Lang) (us : List Token) → attribute m (λ u. loops pending settled Fresh m K) us → loops pending settled Fresh m K us
 attribute_loops m K us (inl (t, vs, e, i, inl (t2, ws, e2, i2, (k, j)))) = (suc (suc k), inl (t, vs, e, i, inl (t2, ws, e2, i2, to_held k t2 m K ws j)))
-attribute_loops m K us (inl (t, vs, e, i, inr (inl (t2, ws, e2, i2, j)))) = let q = (linear_skip INNER_NESTING_LIMIT CloseRound).pick m (λ n u. loop pending settled n Fresh m K) ws j in (suc (suc q.0), inl (t, vs, e, i, inr (inl (t2, ws, e2, i2, q.1))))
+attribute_loops m K us (inl (t, vs, e, i, inr (inl (t2, ws, e2, i2, j)))) = let q =
+    (linear_skip INNER_NESTING_LIMIT CloseRound).pick m (λ n u. loop pending settled n Fresh m K) ws j in (suc (suc q.0), inl (t, vs, e, i, inr (inl (t2, ws, e2, i2, q.1))))
 attribute_loops m K us (inl (t, vs, e, i, inr (inr (k, j)))) = let q = to_bare k m K vs j in (suc q.0, inl (t, vs, e, i, q.1))
 attribute_loops m K us (inr (inl (t, vs, e, i, (k, j)))) = (suc k, inr (inl (t, vs, e, i, j)))
 attribute_loops m K us (inr (inr (inl (t, vs, e, i, inl (t2, ws, e2, i2, (t3, xs, e3, i3, (k, j))))))) = (suc (suc k), inr (inr (inl (t, vs, e, i, inl (t2, ws, e2, i2, (t3, xs, e3, i3, j))))))

@@ -48,7 +48,8 @@ two (LabelPart n) (LinePart l) = refl
 two (LabelPart n) DroppedPart = refl
 two (LinePart k) (LabelPart n) = by (ends_block k.op)
   where
-    by : (e : Bool) → (if e || true then alone (LinePart k) ∷ alone (LabelPart n) ∷ [] else with_front (LinePart k) (alone (LabelPart n)) ∷ []) ≡ (if e || true then alone (LinePart k) ∷ alone (LabelPart n) ∷ [] else with_back (alone (LinePart k)) (LabelPart n) ∷ [])
+    by : (e : Bool) → (if e || true then alone (LinePart k) ∷ alone (LabelPart n) ∷ [] else with_front (LinePart k) (alone (LabelPart n)) ∷ [])
+        ≡ (if e || true then alone (LinePart k) ∷ alone (LabelPart n) ∷ [] else with_back (alone (LinePart k)) (LabelPart n) ∷ [])
     by true = refl
     by false = refl
 two (LinePart k) (LinePart l) = refl
@@ -74,9 +75,11 @@ before_add p (b ∷ []) q = by (ends p || has_label b.label) (is_closed b.lines 
 
     by : (e c : Bool) → (ends p || has_label b.label) ≡ e → (is_closed b.lines || begins_block q) ≡ c → before p (add_part (b ∷ []) q) ≡ add_part (before p (b ∷ [])) q
     by true true x y = behind true y ∙ before_cons p b (alone q ∷ []) true x ∙ sym (ap (λ bs. add_part bs q) (before_cons p b [] true x) ∙ ap (λ bs. alone p ∷ bs) (add_one b q true y))
-    by true false x y = behind false y ∙ before_cons p (with_back b q) [] true (back true x) ∙ sym (ap (λ bs. add_part bs q) (before_cons p b [] true x) ∙ ap (λ bs. alone p ∷ bs) (add_one b q false y))
+    by true false x y = behind false y ∙ before_cons p (with_back b q) [] true (back true x)
+        ∙ sym (ap (λ bs. add_part bs q) (before_cons p b [] true x) ∙ ap (λ bs. alone p ∷ bs) (add_one b q false y))
     by false true x y = behind true y ∙ before_cons p b (alone q ∷ []) false x ∙ sym (ap (λ bs. add_part bs q) (before_cons p b [] false x) ∙ add_one (with_front p b) q true (front true x y))
-    by false false x y = behind false y ∙ before_cons p (with_back b q) [] false (back false x) ∙ ap (λ c. c ∷ []) (front_back p b q) ∙ sym (ap (λ bs. add_part bs q) (before_cons p b [] false x) ∙ add_one (with_front p b) q false (front false x y))
+    by false false x y = behind false y ∙ before_cons p (with_back b q) [] false (back false x) ∙ ap (λ c. c ∷ []) (front_back p b q)
+        ∙ sym (ap (λ bs. add_part bs q) (before_cons p b [] false x) ∙ add_one (with_front p b) q false (front false x y))
 before_add p (b ∷ c ∷ bs) q = by (ends p || has_label b.label) refl
   where
     by : (e : Bool) → (ends p || has_label b.label) ≡ e → before p (b ∷ add_part (c ∷ bs) q) ≡ add_part (before p (b ∷ c ∷ bs)) q

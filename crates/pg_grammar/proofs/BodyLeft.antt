@@ -8,7 +8,7 @@ use Rattle.pg_grammar.specs.declared.token.Fault.{Fault}
 use Rattle.pg_grammar.specs.declared.token.Fault.TheVariants.{Unsupported}
 use Rattle.pg_grammar.specs.Classes.{is}
 use Rattle.pg_grammar.specs.Language.{Lang, Gram, one, give, refused, ◌or◌, ◌>>=◌}
-use Rattle.pg_grammar.specs.Grammar.{name_of, attribute, attributes, flags, value_in}
+use Rattle.pg_grammar.specs.Grammar.{name_of, attribute, attributes, flags, value_in, gep_tail}
 use Rattle.pg_grammar.specs.GrammarOps.{typed_value, cast_word, no_op, op}
 use Rattle.pg_grammar.specs.GrammarItems.{line_of, metadata, part}
 use Rattle.pg_grammar.specs.ReaderItems.{add_part, add_line, After, Complete, Called, Returned, Body, complete, void_value, begins_part}
@@ -20,9 +20,10 @@ use Rattle.pg_grammar.proofs.ClassTests.{within_is, in_right}
 use Rattle.pg_grammar.proofs.StateLoops.{loop}
 use Rattle.pg_grammar.proofs.Linear.{Linear, linear_give, linear_one, linear_refused, linear_then, linear_or}
 use Rattle.pg_grammar.proofs.LinearRows.{linear_case, linear_skip, linear_attribute, linear_flags, linear_plain_value, linear_value, linear_gep_tail, linear_int_to_ptr_tail}
-use Rattle.pg_grammar.proofs.LinearOps.{linear_past, linear_typed_value, linear_metadata, linear_metadata_tail, linear_cast_tail, linear_gep_op_tail, linear_call_head, linear_simple_op, linear_part}
+use Rattle.pg_grammar.proofs.LinearOps.{linear_past, linear_typed_value, linear_metadata, linear_metadata_tail, linear_cast_tail, linear_gep_op_tail, linear_call_head, linear_simple_op}
+use Rattle.pg_grammar.proofs.LinearOps.{linear_part}
 use Rattle.pg_grammar.proofs.Gathered.{gathered, gathered_more, many_more}
-use Rattle.pg_grammar.proofs.Rests.{gep_tail, certain_value}
+use Rattle.pg_grammar.proofs.Rests.{certain_value}
 use Rattle.pg_grammar.proofs.Firsts.{either_behind}
 use Rattle.pg_grammar.proofs.ValueCases.{void_type, certain_is_value, local_is_value, gep_is_value, int_to_ptr_is_value}
 use Rattle.pg_grammar.proofs.OpRests.{metadata_tail, gep_op_tail}
@@ -40,10 +41,14 @@ linear_certain : Linear certain_value
 linear_certain = linear_or (linear_then (linear_one _) (λ n. linear_give _)) linear_plain_value
 
 linear_void_end : (bs : List Block) (name : Option Name) (o void : Span) → Linear (void_end bs name o void)
-linear_void_end bs name o void = linear_or (linear_void_line bs name o void linear_certain) (linear_case Comma (λ c. linear_then linear_metadata_tail (λ u. linear_give (complete (add_line bs name (syntax.RetVoid o void))))) (linear_give {A = Body} (record { blocks = bs; after = Returned name o void })))
+linear_void_end bs name o void = linear_or (linear_void_line bs name o void linear_certain)
+    (linear_case Comma (λ c. linear_then linear_metadata_tail (λ u. linear_give (complete (add_line bs name (syntax.RetVoid o void)))))
+    (linear_give {A = Body} (record { blocks = bs; after = Returned name o void })))
 
 linear_return_line : (bs : List Block) (name : Option Name) → Linear (return_line bs name)
-linear_return_line bs name = linear_then (linear_one (is Ret)) (λ o. linear_or (linear_then (linear_one (is Void)) (λ t. linear_void_end bs name o.span t.span)) (linear_past (is Void) (linear_then linear_typed_value (λ v. linear_then linear_metadata (λ u. linear_give (complete (add_line bs name (syntax.Ret o.span v))))))))
+linear_return_line bs name =
+    linear_then (linear_one (is Ret)) (λ o. linear_or (linear_then (linear_one (is Void)) (λ t. linear_void_end bs name o.span t.span))
+    (linear_past (is Void) (linear_then linear_typed_value (λ v. linear_then linear_metadata (λ u. linear_give (complete (add_line bs name (syntax.Ret o.span v))))))))
 
 linear_op_part : (bs : List Block) (name : Option Name) → Linear (op_part bs name)
 linear_op_part bs name = linear_or (linear_then linear_call_head (λ c. linear_called (add_part bs (line_of name c)))) (linear_or (linear_return_line bs name)
@@ -59,12 +64,19 @@ linear_opened : (bs : List Block) → Linear (opened bs)
 linear_opened bs = linear_case Label (λ t. linear_give _) (linear_case DebugAttr (λ t. linear_debug_tail bs) (linear_case Local (λ t. linear_named_tail bs (name_of t)) (linear_op_part bs None)))
 
 linear_behind_call : (bs : List Block) → Linear (behind_call bs)
-linear_behind_call bs = linear_or (linear_then (linear_one (is DebugAttr)) (λ t. linear_or (linear_debug_tail bs) (linear_called bs))) (linear_past (is DebugAttr) (linear_or (linear_opened bs) (linear_past begins_part (linear_then linear_attribute (λ u. linear_called bs)))))
+linear_behind_call bs = linear_or (linear_then (linear_one (is DebugAttr)) (λ t. linear_or (linear_debug_tail bs) (linear_called bs)))
+    (linear_past (is DebugAttr) (linear_or (linear_opened bs) (linear_past begins_part (linear_then linear_attribute (λ u. linear_called bs)))))
 
 linear_behind_void : (bs : List Block) (name : Option Name) (o void : Span) → Linear (behind_void bs name o void)
-linear_behind_void bs name o void = linear_or (linear_then (linear_one (is Local)) (λ t. linear_or (linear_named_tail (add_line bs name (syntax.RetVoid o void)) (name_of t)) (linear_void_line bs name o void (linear_give (syntax.Local (name_of t))))))
-    (linear_past (is Local) (linear_or (linear_then (linear_one (is GetElementPtr)) (λ t. linear_then linear_flags (λ f. linear_or (linear_void_line bs name o void (linear_gep_tail INNER_NESTING_LIMIT (linear_value INNER_NESTING_LIMIT) t)) (linear_then (linear_gep_op_tail t) (λ p. linear_give (complete (add_line (add_line bs name (syntax.RetVoid o void)) None p)))))))
-    (linear_past (is GetElementPtr) (linear_or (linear_then (linear_one (is IntToPtr)) (λ t. linear_or (linear_void_line bs name o void (linear_int_to_ptr_tail INNER_NESTING_LIMIT t)) (linear_then (linear_cast_tail t) (λ p. linear_then linear_metadata (λ u. linear_give (complete (add_line (add_line bs name (syntax.RetVoid o void)) None p)))))))
+linear_behind_void bs name o void = linear_or (linear_then (linear_one (is Local))
+    (λ t. linear_or (linear_named_tail (add_line bs name (syntax.RetVoid o void)) (name_of t)) (linear_void_line bs name o void (linear_give (syntax.Local (name_of t))))))
+    (linear_past (is Local) (linear_or
+    (linear_then (linear_one (is GetElementPtr)) (λ t. linear_then linear_flags
+    (λ f. linear_or (linear_void_line bs name o void (linear_gep_tail INNER_NESTING_LIMIT (linear_value INNER_NESTING_LIMIT) t))
+    (linear_then (linear_gep_op_tail t) (λ p. linear_give (complete (add_line (add_line bs name (syntax.RetVoid o void)) None p)))))))
+    (linear_past (is GetElementPtr) (linear_or
+    (linear_then (linear_one (is IntToPtr)) (λ t. linear_or (linear_void_line bs name o void (linear_int_to_ptr_tail INNER_NESTING_LIMIT t))
+    (linear_then (linear_cast_tail t) (λ p. linear_then linear_metadata (λ u. linear_give (complete (add_line (add_line bs name (syntax.RetVoid o void)) None p)))))))
     (linear_past (is IntToPtr) (linear_opened (add_line bs name (syntax.RetVoid o void))))))))
 
 pub linear_next : (bs : List Block) (after : After) → Linear (next_by bs after)
@@ -109,17 +121,22 @@ called_left : (bs : List Block) (m : Option Fault) (K : List Block → Lang) (us
 called_left bs m K us (inl j) = (0, inl (metadata_more m (rest bs m K) us j))
 called_left bs m K us (inr j) = j
 
-void_left : (bs : List Block) (name : Option Name) (o void : Token) (m : Option Fault) (K : List Block → Lang) (vs ws : List Token) → vs ≡ void ∷ ws → IsTrue (is Void void.class) → void_end bs name o.span void.span m (Left m K) ws
+void_left : (bs : List Block) (name : Option Name) (o void : Token) (m : Option Fault) (K : List Block → Lang) (vs ws : List Token) → vs ≡ void ∷ ws → IsTrue (is Void void.class)
+    → void_end bs name o.span void.span m (Left m K) ws
     → (do
       v ← one (is Void)
-      give (syntax.RetVoid o.span v.span)) m (λ p. metadata m (λ u. rest (add_line bs name p) m K)) vs ⊎ typed_value m (λ v. metadata m (λ u. rest (add_line bs name (syntax.Ret o.span v)) m K)) vs
+      give (syntax.RetVoid o.span v.span)) m (λ p. metadata m (λ u. rest (add_line bs name p) m K)) vs
+    ⊎ typed_value m (λ v. metadata m (λ u. rest (add_line bs name (syntax.Ret o.span v)) m K)) vs
 void_left bs name o t m K vs ws e i (inl v) = inr (void_type INNER_NESTING_LIMIT m _ vs (t, ws, e, i, certain_is_value m _ ws v))
 void_left bs name o t m K vs ws e i (inr (inl c)) = inl (t, ws, e, i, metadata_more m (rest (add_line bs name (syntax.RetVoid o.span t.span)) m K) ws c)
 void_left bs name o t m K vs ws e i (inr (inr (inl j))) = inl (t, ws, e, i, j)
 void_left bs name o t m K vs ws e i (inr (inr (inr j))) = inr (void_type INNER_NESTING_LIMIT m _ vs (t, ws, e, i, j))
 
-op_left : (bs : List Block) (name : Option Name) (m : Option Fault) (K : List Block → Lang) (us : List Token) → op_part bs name m (Left m K) us → op m (λ o. metadata m (λ u. rest (add_part bs (line_of name o)) m K)) us
-op_left bs name m K us (inl j) = inl (inl (linear_call_head.mono m (λ c. called (add_part bs (line_of name c)) m (Left m K)) (λ c. attributes m (λ u. metadata m (λ w. rest (add_part bs (line_of name c)) m K))) (λ c vs i. called_left (add_part bs (line_of name c)) m K vs i) us j))
+op_left : (bs : List Block) (name : Option Name) (m : Option Fault) (K : List Block → Lang) (us : List Token) → op_part bs name m (Left m K) us
+    → op m (λ o. metadata m (λ u. rest (add_part bs (line_of name o)) m K)) us
+op_left bs name m K us (inl j) = inl (inl
+    (linear_call_head.mono m (λ c. called (add_part bs (line_of name c)) m (Left m K)) (λ c. attributes m (λ u. metadata m (λ w. rest (add_part bs (line_of name c)) m K)))
+    (λ c vs i. called_left (add_part bs (line_of name c)) m K vs i) us j))
 op_left bs name m K us (inr (inl (o, vs, e, i, inl (t, ws, e2, i2, j)))) = inl (inr (inl (o, vs, e, i, void_left bs name o t m K vs ws e2 i2 j)))
 op_left bs name m K us (inr (inl (o, vs, e, i, inr j))) = inl (inr (inl (o, vs, e, i, inr j.1)))
 op_left bs name m K us (inr (inr j)) = inl (inr (inr j))
@@ -145,16 +162,22 @@ step_left bs Complete m K us j = rest_more bs m K us (part_left bs m K us j)
 step_left bs Called m K us (inl (t, vs, e, i, inl j)) = (0, inl (0, rest_more bs m K us (inr (inl (t, vs, e, i, j)))))
 step_left bs Called m K us (inl (t, vs, e, i, inr j)) = attribute_left bs m K us (inr (inl (t, vs, e, in_right (is Attr t.class) (is DebugAttr t.class) i, called_left bs m K vs j)))
 step_left bs Called m K us (inr (n, inl j)) = (0, inl (0, rest_more bs m K us (part_left bs m K us j)))
-step_left bs Called m K us (inr (n, inr (n2, j))) = attribute_left bs m K us (linear_attribute.mono m (λ u. called bs m (Left m K)) (λ u. left_by bs Called m K) (λ u vs i. called_left bs m K vs i) us j)
-step_left bs (Returned name o void) m K us (inl (t, vs, e, i, inl j)) = let cs = add_line bs name (syntax.RetVoid o void) in inl (0, rest_more cs m K us (part_left cs m K us (inr (inr (inl (t, vs, e, i, j))))))
+step_left bs Called m K us (inr (n, inr (n2, j))) = attribute_left bs m K us
+    (linear_attribute.mono m (λ u. called bs m (Left m K)) (λ u. left_by bs Called m K) (λ u vs i. called_left bs m K vs i) us j)
+step_left bs (Returned name o void) m K us (inl (t, vs, e, i, inl j)) = let cs =
+    add_line bs name (syntax.RetVoid o void) in inl (0, rest_more cs m K us (part_left cs m K us (inr (inr (inl (t, vs, e, i, j))))))
 step_left bs (Returned name o void) m K us (inl (t, vs, e, i, inr j)) = inr (local_is_value m _ us (t, vs, e, i, j))
-step_left bs (Returned name o void) m K us (inr (n, inl (t, vs, e, i, j))) = pick (either_behind linear_flags m (λ f. void_line bs name o void (gep_tail INNER_NESTING_LIMIT (value_in INNER_NESTING_LIMIT) t) m (Left m K)) (λ f. gep_op_tail t m (λ p. Left m K (complete (add_line (add_line bs name (syntax.RetVoid o void)) None p)))) vs j)
+step_left bs (Returned name o void) m K us (inr (n, inl (t, vs, e, i, j))) =
+    pick (either_behind linear_flags m (λ f. void_line bs name o void (gep_tail INNER_NESTING_LIMIT (value_in INNER_NESTING_LIMIT) t) m (Left m K))
+    (λ f. gep_op_tail t m (λ p. Left m K (complete (add_line (add_line bs name (syntax.RetVoid o void)) None p)))) vs j)
   where
-    pick : flags m (λ f. void_line bs name o void (gep_tail INNER_NESTING_LIMIT (value_in INNER_NESTING_LIMIT) t) m (Left m K)) vs ⊎ flags m (λ f. gep_op_tail t m (λ p. Left m K (complete (add_line (add_line bs name (syntax.RetVoid o void)) None p)))) vs → left_by bs (Returned name o void) m K us
+    pick : flags m (λ f. void_line bs name o void (gep_tail INNER_NESTING_LIMIT (value_in INNER_NESTING_LIMIT) t) m (Left m K)) vs
+        ⊎ flags m (λ f. gep_op_tail t m (λ p. Left m K (complete (add_line (add_line bs name (syntax.RetVoid o void)) None p)))) vs → left_by bs (Returned name o void) m K us
     pick (inl x) = inr (gep_is_value m _ us (t, vs, e, i, x))
     pick (inr x) = inl (0, rest_more (add_line bs name (syntax.RetVoid o void)) m K us (inr (inr (inr (inl (inr (inr (inl (t, vs, e, i, x)))))))))
 step_left bs (Returned name o void) m K us (inr (n, inr (n2, inl (t, vs, e, i, inl j)))) = inr (int_to_ptr_is_value m _ us (t, vs, e, i, j))
-step_left bs (Returned name o void) m K us (inr (n, inr (n2, inl (t, vs, e, i, inr j)))) = inl (0, rest_more (add_line bs name (syntax.RetVoid o void)) m K us (inr (inr (inr (inl (inr (inr (inr (inl (t, vs, e, within_is (is IntToPtr) cast_word refl t.class i, j))))))))))
+step_left bs (Returned name o void) m K us (inr (n, inr (n2, inl (t, vs, e, i, inr j)))) =
+    inl (0, rest_more (add_line bs name (syntax.RetVoid o void)) m K us (inr (inr (inr (inl (inr (inr (inr (inl (t, vs, e, within_is (is IntToPtr) cast_word refl t.class i, j))))))))))
 step_left bs (Returned name o void) m K us (inr (n, inr (n2, inr (n3, j)))) = let cs = add_line bs name (syntax.RetVoid o void) in inl (0, rest_more cs m K us (part_left cs m K us j))
 
 end_left : (bs : List Block) (after : After) (m : Option Fault) (K : List Block → Lang) (us : List Token) → body_end (record { blocks = bs; after = after }) m K us → left_by bs after m K us

@@ -9,7 +9,7 @@ use Rattle.pg_grammar.specs.declared.token.Fault.{Fault}
 use Rattle.pg_grammar.specs.declared.token.Fault.TheVariants.{Unsupported}
 use Rattle.pg_grammar.specs.Classes.{is, none}
 use Rattle.pg_grammar.specs.Language.{Lang, Gram, one, give, refused, ◌or◌, ◌>>=◌, many}
-use Rattle.pg_grammar.specs.Grammar.{name_of, attribute_word, metadata_name, attribute, attributes, value_in}
+use Rattle.pg_grammar.specs.Grammar.{name_of, attribute_word, metadata_name, attribute, attributes, value_in, gep_tail}
 use Rattle.pg_grammar.specs.GrammarOps.{typed_value, cast_word, op_word, no_op, op}
 use Rattle.pg_grammar.specs.GrammarItems.{line_of, metadata, part, blocks_of, body}
 use Rattle.pg_grammar.specs.Reading.{comes}
@@ -29,7 +29,7 @@ use Rattle.pg_grammar.proofs.LinearOps.{linear_call_head, linear_part}
 use Rattle.pg_grammar.proofs.Gathered.{added, gather, star, to_many, from_many}
 use Rattle.pg_grammar.proofs.Firsts.{first_comes, comes_first, item_comes, not_both}
 use Rattle.pg_grammar.proofs.ValueCases.{void_only, value_cases, gep_value, int_to_ptr_value}
-use Rattle.pg_grammar.proofs.Rests.{gep_tail, certain_value}
+use Rattle.pg_grammar.proofs.Rests.{certain_value}
 use Rattle.pg_grammar.proofs.Rows.{attribute_item}
 use Rattle.pg_grammar.proofs.OpRests.{gep_op_tail}
 use Rattle.pg_grammar.proofs.OpRows.{begins_op, plain_op_item, call_item}
@@ -41,7 +41,8 @@ use Rattle.pg_grammar.proofs.Blocks.{blocks_from_left}
 abbrev Loops : Option Fault → (List Block → Lang) → Body → Lang
 Loops m K b us = loops next_part body_end b m K us
 
-loops_more : (bs : List Block) (after : After) (m : Option Fault) (K : List Block → Lang) (us : List Token) → next_by bs after m (Loops m K) us → Loops m K (record { blocks = bs; after = after }) us
+loops_more : (bs : List Block) (after : After) (m : Option Fault) (K : List Block → Lang) (us : List Token) → next_by bs after m (Loops m K) us
+    → Loops m K (record { blocks = bs; after = after }) us
 loops_more bs after m K us j = let q = (linear_next bs after).pick m (λ n c. loop next_part body_end n c m K) us j in (suc q.0, q.1)
 
 -- ---- a part behind a call is one behind complete lines
@@ -63,8 +64,10 @@ complete_called bs m K us (suc n, j) = (suc n, opened_called bs m (λ c. loop ne
 -- ---- a part behind ret void
 
 -- of the operations that begin with these words
-gep_part : (bs : List Block) (name : Option Name) (o void : Span) (m : Option Fault) (M : Body → Lang) (us : List Token) → comes (is Local) us ≡ false → comes (is GetElementPtr) us ≡ true → op_part (add_line bs name (syntax.RetVoid o void)) None m M us → behind_void bs name o void m M us
-gep_part bs name o void m M us n y (inl j) = absurd (not_both (is GetElementPtr) begins_call refl us y (item_comes (call_item {av = none}) m (λ c. called (add_part (add_line bs name (syntax.RetVoid o void)) (line_of None c)) m M) us j))
+gep_part : (bs : List Block) (name : Option Name) (o void : Span) (m : Option Fault) (M : Body → Lang) (us : List Token) → comes (is Local) us ≡ false
+    → comes (is GetElementPtr) us ≡ true → op_part (add_line bs name (syntax.RetVoid o void)) None m M us → behind_void bs name o void m M us
+gep_part bs name o void m M us n y (inl j) = absurd (not_both (is GetElementPtr) begins_call refl us y
+    (item_comes (call_item {av = none}) m (λ c. called (add_part (add_line bs name (syntax.RetVoid o void)) (line_of None c)) m M) us j))
 gep_part bs name o void m M us n y (inr (inl (t, vs, e, i, j))) = absurd (not_both (is GetElementPtr) (is Ret) refl us y (first_comes (is Ret) t us vs e i))
 gep_part bs name o void m M us n y (inr (inr (inl (t, vs, e, i, j)))) = inr (
   n,
@@ -74,23 +77,30 @@ gep_part bs name o void m M us n y (inr (inr (inl (t, vs, e, i, j)))) = inr (
     e,
     i,
     linear_flags.mono m (λ f. gep_op_tail t m (λ p. M (complete (add_line (add_line bs name (syntax.RetVoid o void)) None p))))
-        (λ f ws. void_line bs name o void (gep_tail INNER_NESTING_LIMIT (value_in INNER_NESTING_LIMIT) t) m M ws ⊎ gep_op_tail t m (λ p. M (complete (add_line (add_line bs name (syntax.RetVoid o void)) None p))) ws) (λ f ws k. inr k) vs j,
+        (λ f ws. void_line bs name o void (gep_tail INNER_NESTING_LIMIT (value_in INNER_NESTING_LIMIT) t) m M ws
+        ⊎ gep_op_tail t m (λ p. M (complete (add_line (add_line bs name (syntax.RetVoid o void)) None p))) ws) (λ f ws k. inr k) vs j,
   ),
 )
 gep_part bs name o void m M us n y (inr (inr (inr (inl (t, vs, e, i, j))))) = absurd (not_both (is GetElementPtr) cast_word refl us y (first_comes cast_word t us vs e i))
-gep_part bs name o void m M us n y (inr (inr (inr (inr j)))) = absurd (not_both (is GetElementPtr) begins_op refl us y (item_comes plain_op_item m (λ p. M (complete (add_line (add_line bs name (syntax.RetVoid o void)) None p))) us j))
+gep_part bs name o void m M us n y (inr (inr (inr (inr j)))) =
+    absurd (not_both (is GetElementPtr) begins_op refl us y (item_comes plain_op_item m (λ p. M (complete (add_line (add_line bs name (syntax.RetVoid o void)) None p))) us j))
 
-cast_part : (bs : List Block) (name : Option Name) (o void : Span) (m : Option Fault) (M : Body → Lang) (us : List Token) → comes (is Local) us ≡ false → comes (is GetElementPtr) us ≡ false → comes (is IntToPtr) us ≡ true → op_part (add_line bs name (syntax.RetVoid o void)) None m M us → behind_void bs name o void m M us
-cast_part bs name o void m M us n n2 y (inl j) = absurd (not_both (is IntToPtr) begins_call refl us y (item_comes (call_item {av = none}) m (λ c. called (add_part (add_line bs name (syntax.RetVoid o void)) (line_of None c)) m M) us j))
+cast_part : (bs : List Block) (name : Option Name) (o void : Span) (m : Option Fault) (M : Body → Lang) (us : List Token) → comes (is Local) us ≡ false
+    → comes (is GetElementPtr) us ≡ false → comes (is IntToPtr) us ≡ true → op_part (add_line bs name (syntax.RetVoid o void)) None m M us → behind_void bs name o void m M us
+cast_part bs name o void m M us n n2 y (inl j) = absurd (not_both (is IntToPtr) begins_call refl us y
+    (item_comes (call_item {av = none}) m (λ c. called (add_part (add_line bs name (syntax.RetVoid o void)) (line_of None c)) m M) us j))
 cast_part bs name o void m M us n n2 y (inr (inl (t, vs, e, i, j))) = absurd (not_both (is IntToPtr) (is Ret) refl us y (first_comes (is Ret) t us vs e i))
 cast_part bs name o void m M us n n2 y (inr (inr (inl (t, vs, e, i, j)))) = absurd (not_both (is IntToPtr) (is GetElementPtr) refl us y (first_comes (is GetElementPtr) t us vs e i))
 cast_part bs name o void m M us n n2 y (inr (inr (inr (inl (t, vs, e, i, j))))) = inr (n, inr (n2, inl (t, vs, e, comes_first (is IntToPtr) t us vs e y, inr j)))
-cast_part bs name o void m M us n n2 y (inr (inr (inr (inr j)))) = absurd (not_both (is IntToPtr) begins_op refl us y (item_comes plain_op_item m (λ p. M (complete (add_line (add_line bs name (syntax.RetVoid o void)) None p))) us j))
+cast_part bs name o void m M us n n2 y (inr (inr (inr (inr j)))) = absurd
+    (not_both (is IntToPtr) begins_op refl us y (item_comes plain_op_item m (λ p. M (complete (add_line (add_line bs name (syntax.RetVoid o void)) None p))) us j))
 
-opened_void : (bs : List Block) (name : Option Name) (o void : Span) (m : Option Fault) (M : Body → Lang) (us : List Token) → opened (add_line bs name (syntax.RetVoid o void)) m M us → behind_void bs name o void m M us
+opened_void : (bs : List Block) (name : Option Name) (o void : Span) (m : Option Fault) (M : Body → Lang) (us : List Token) → opened (add_line bs name (syntax.RetVoid o void)) m M us
+    → behind_void bs name o void m M us
 opened_void bs name o void m M us j = local (comes (is Local) us) refl j
   where
-    cast : (b : Bool) → comes (is Local) us ≡ false → comes (is GetElementPtr) us ≡ false → comes (is IntToPtr) us ≡ b → opened (add_line bs name (syntax.RetVoid o void)) m M us → behind_void bs name o void m M us
+    cast : (b : Bool) → comes (is Local) us ≡ false → comes (is GetElementPtr) us ≡ false → comes (is IntToPtr) us ≡ b → opened (add_line bs name (syntax.RetVoid o void)) m M us
+        → behind_void bs name o void m M us
     cast false n n2 n3 j = inr (n, inr (n2, inr (n3, j)))
     cast true n n2 y (inl (t, vs, e, i, j)) = absurd (not_both (is IntToPtr) (is Label) refl us y (first_comes (is Label) t us vs e i))
     cast true n n2 y (inr (inl (t, vs, e, i, j))) = absurd (not_both (is IntToPtr) (is DebugAttr) refl us y (first_comes (is DebugAttr) t us vs e i))
@@ -111,7 +121,8 @@ opened_void bs name o void m M us j = local (comes (is Local) us) refl j
     local true y (inr (inr (inl (t, vs, e, i, j)))) = inl (t, vs, e, i, inl j)
     local true y (inr (inr (inr j))) = absurd (not_both (is Local) op_word refl us y (item_comes (op_item (add_line bs name (syntax.RetVoid o void)) None) m M us j))
 
-complete_returned : (bs : List Block) (name : Option Name) (o void : Span) (m : Option Fault) (K : List Block → Lang) (us : List Token) → Loops m K (complete (add_line bs name (syntax.RetVoid o void))) us → Loops m K (record { blocks = bs; after = Returned name o void }) us
+complete_returned : (bs : List Block) (name : Option Name) (o void : Span) (m : Option Fault) (K : List Block → Lang) (us : List Token)
+    → Loops m K (complete (add_line bs name (syntax.RetVoid o void))) us → Loops m K (record { blocks = bs; after = Returned name o void }) us
 complete_returned bs name o void m K us (zero, j) = (0, j)
 complete_returned bs name o void m K us (suc n, j) = (suc n, opened_void bs name o void m (λ c. loop next_part body_end n c m K) us j)
 
@@ -121,7 +132,8 @@ complete_returned bs name o void m K us (suc n, j) = (suc n, opened_void bs name
 abbrev Valued : List Block → Option Name → Span → Span → Option Fault → (List Block → Lang) → Val → Lang
 Valued bs name o void m K v us = metadata m (λ u. Loops m K (complete (add_line bs name (syntax.Ret o (void_value void v))))) us
 
-value_end : (bs : List Block) (name : Option Name) (o void : Span) (m : Option Fault) (K : List Block → Lang) (us : List Token) → value_in NESTING_LIMIT m (Valued bs name o void m K) us → void_end bs name o void m (Loops m K) us
+value_end : (bs : List Block) (name : Option Name) (o void : Span) (m : Option Fault) (K : List Block → Lang) (us : List Token) → value_in NESTING_LIMIT m (Valued bs name o void m K) us
+    → void_end bs name o void m (Loops m K) us
 value_end bs name o void m K us j = pick (value_cases m (Valued bs name o void m K) us j)
   where
     more : behind_void bs name o void m (Loops m K) us → void_end bs name o void m (Loops m K) us
@@ -141,7 +153,9 @@ value_end bs name o void m K us j = pick (value_cases m (Valued bs name o void m
         by true z = absurd (not_both (is GetElementPtr) (is IntToPtr) refl us z y)
         by false z = z
 
-    pick : certain_value m (Valued bs name o void m K) us ⊎ ((one (is Local)) m (λ t. Valued bs name o void m K (syntax.Local (name_of t))) us ⊎ (gep_value m (Valued bs name o void m K) us ⊎ int_to_ptr_value m (Valued bs name o void m K) us)) → void_end bs name o void m (Loops m K) us
+    pick : certain_value m (Valued bs name o void m K) us
+        ⊎ ((one (is Local)) m (λ t. Valued bs name o void m K (syntax.Local (name_of t))) us
+        ⊎ (gep_value m (Valued bs name o void m K) us ⊎ int_to_ptr_value m (Valued bs name o void m K) us)) → void_end bs name o void m (Loops m K) us
     pick (inl j) = inl j
     pick (inr (inl (t, vs, e, i, j))) = more (inl (t, vs, e, i, inr j))
     pick (inr (inr (inl (t, vs, e, i, j)))) = more (inr (
@@ -152,7 +166,8 @@ value_end bs name o void m K us j = pick (value_cases m (Valued bs name o void m
         e,
         i,
         linear_flags.mono m (λ f. gep_tail INNER_NESTING_LIMIT (value_in INNER_NESTING_LIMIT) t m (Valued bs name o void m K))
-            (λ f ws. void_line bs name o void (gep_tail INNER_NESTING_LIMIT (value_in INNER_NESTING_LIMIT) t) m (Loops m K) ws ⊎ gep_op_tail t m (λ p. Loops m K (complete (add_line (add_line bs name (syntax.RetVoid o void)) None p))) ws) (λ f ws k. inl k) vs j,
+            (λ f ws. void_line bs name o void (gep_tail INNER_NESTING_LIMIT (value_in INNER_NESTING_LIMIT) t) m (Loops m K) ws
+            ⊎ gep_op_tail t m (λ p. Loops m K (complete (add_line (add_line bs name (syntax.RetVoid o void)) None p))) ws) (λ f ws k. inl k) vs j,
       ),
     ))
     pick (inr (inr (inr (t, vs, e, i, j)))) = let y = first_comes (is IntToPtr) t us vs e i in more (inr (not_local (is IntToPtr) refl y, inr (not_gep y, inl (t, vs, e, i, inl j))))
@@ -208,12 +223,14 @@ called_loops bs m K us j = star linear_attribute m (called bs m (Loops m K)) (λ
 abbrev Lined : List Block → Option Name → Option Fault → (List Block → Lang) → Option Op → Lang
 Lined bs name m K o us = metadata m (λ u. Loops m K (complete (add_part bs (line_of name o)))) us
 
-void_base : (bs : List Block) (name : Option Name) (o void : Span) (m : Option Fault) (K : List Block → Lang) (us : List Token) → metadata m (λ u. Loops m K (complete (add_line bs name (syntax.RetVoid o void)))) us → void_end bs name o void m (Loops m K) us
+void_base : (bs : List Block) (name : Option Name) (o void : Span) (m : Option Fault) (K : List Block → Lang) (us : List Token)
+    → metadata m (λ u. Loops m K (complete (add_line bs name (syntax.RetVoid o void)))) us → void_end bs name o void m (Loops m K) us
 void_base bs name o void m K us (zero, j) = inr (inr (complete_returned bs name o void m K us j))
 void_base bs name o void m K us (suc n, (t, vs, e, i, (a, as1, e1, i1, (b, cs, e2, i2, j)))) = inr (inl (t, vs, e, i, (a, as1, e1, i1, (b, cs, e2, i2, (n, j)))))
 
 -- ret type val, where the type is void or not
-typed_return : (bs : List Block) (name : Option Name) (o : Token) (m : Option Fault) (K : List Block → Lang) (us vs : List Token) → us ≡ o ∷ vs → IsTrue (is Ret o.class) → typed_value m (λ v. metadata m (λ u. Loops m K (complete (add_line bs name (syntax.Ret o.span v))))) vs → return_line bs name m (Loops m K) us
+typed_return : (bs : List Block) (name : Option Name) (o : Token) (m : Option Fault) (K : List Block → Lang) (us vs : List Token) → us ≡ o ∷ vs → IsTrue (is Ret o.class)
+    → typed_value m (λ v. metadata m (λ u. Loops m K (complete (add_line bs name (syntax.Ret o.span v))))) vs → return_line bs name m (Loops m K) us
 typed_return bs name o m K us [] e i j = (o, [], e, i, inr (refl, j))
 typed_return bs name o m K us (t ∷ ws) e i j = by (is Void t.class) refl
   where
@@ -221,9 +238,12 @@ typed_return bs name o m K us (t ∷ ws) e i j = by (is Void t.class) refl
     by true y = (o, t ∷ ws, e, i, inl (t, ws, refl, y, value_end bs name o.span t.span m K ws (void_only INNER_NESTING_LIMIT m _ t ws y j)))
     by false n = (o, t ∷ ws, e, i, inr (n, j))
 
-op_loops : (bs : List Block) (name : Option Name) (m : Option Fault) (K : List Block → Lang) (us : List Token) → op m (Lined bs name m K) us → op_part bs name m (Loops m K) us ⊎ refused Unsupported no_op m (Loops m K) us
+op_loops : (bs : List Block) (name : Option Name) (m : Option Fault) (K : List Block → Lang) (us : List Token) → op m (Lined bs name m K) us
+    → op_part bs name m (Loops m K) us ⊎ refused Unsupported no_op m (Loops m K) us
 op_loops bs name m K us (inr j) = inr j
-op_loops bs name m K us (inl (inl j)) = inl (inl (linear_call_head.mono m (λ c. attributes m (λ u. Lined bs name m K c)) (λ c. called (add_part bs (line_of name c)) m (Loops m K)) (λ c vs i. called_loops (add_part bs (line_of name c)) m K vs i) us j))
+op_loops bs name m K us (inl (inl j)) = inl (inl
+    (linear_call_head.mono m (λ c. attributes m (λ u. Lined bs name m K c)) (λ c. called (add_part bs (line_of name c)) m (Loops m K))
+    (λ c vs i. called_loops (add_part bs (line_of name c)) m K vs i) us j))
 op_loops bs name m K us (inl (inr (inl (o, vs, e, i, inl (t, ws, e2, i2, j))))) = inl (inr (inl (o, vs, e, i, inl (t, ws, e2, i2, void_base bs name o.span t.span m K ws j))))
 op_loops bs name m K us (inl (inr (inl (o, vs, e, i, inr j)))) = inl (inr (inl (typed_return bs name o m K us vs e i j)))
 op_loops bs name m K us (inl (inr (inr j))) = inl (inr (inr j))
@@ -238,9 +258,11 @@ part_loops bs m K us (inr (inr (inr j))) = pick (op_loops bs None m K us j)
     pick (inl q) = loops_more bs Complete m K us (inr (inr (inr q)))
     pick (inr q) = (0, inr q)
 
-rest_loops : (n : ℕ) (bs : List Block) (m : Option Fault) (K : List Block → Lang) (us : List Token) → gather add_part part n bs m (λ cs. one (is CloseBrace) m (λ c. K cs)) us → Loops m K (complete bs) us
+rest_loops : (n : ℕ) (bs : List Block) (m : Option Fault) (K : List Block → Lang) (us : List Token) → gather add_part part n bs m (λ cs. one (is CloseBrace) m (λ c. K cs)) us
+    → Loops m K (complete bs) us
 rest_loops zero bs m K us j = (0, inl j)
-rest_loops (suc n) bs m K us j = part_loops bs m K us (linear_part.mono m (λ p. gather add_part part n (add_part bs p) m (λ cs. one (is CloseBrace) m (λ c. K cs))) (λ p. Loops m K (complete (add_part bs p))) (λ p vs i. rest_loops n (add_part bs p) m K vs i) us j)
+rest_loops (suc n) bs m K us j = part_loops bs m K us (linear_part.mono m (λ p. gather add_part part n (add_part bs p) m (λ cs. one (is CloseBrace) m (λ c. K cs)))
+    (λ p. Loops m K (complete (add_part bs p))) (λ p vs i. rest_loops n (add_part bs p) m K vs i) us j)
 
 -- ---- the body
 
@@ -252,10 +274,12 @@ body_rest = do
 
 to_body : (m : Option Fault) (K : List Block → Lang) (us : List Token) → Loops m K (complete []) us → body_rest m K us
 to_body m K us j = (linear_many linear_part).mono m (λ ps. one (is CloseBrace) m (λ c. K (added add_part [] ps))) (λ ps. one (is CloseBrace) m (λ c. K (blocks_of ps)))
-    (λ ps vs i. subst (λ bs. one (is CloseBrace) m (λ c. K bs) vs) (blocks_from_left ps) i) us (to_many add_part linear_part [] m (λ bs. one (is CloseBrace) m (λ c. K bs)) us (loop_left j.0 (complete []) m K us j.1))
+    (λ ps vs i. subst (λ bs. one (is CloseBrace) m (λ c. K bs) vs) (blocks_from_left ps) i) us
+    (to_many add_part linear_part [] m (λ bs. one (is CloseBrace) m (λ c. K bs)) us (loop_left j.0 (complete []) m K us j.1))
 
 from_body : (m : Option Fault) (K : List Block → Lang) (us : List Token) → body_rest m K us → Loops m K (complete []) us
-from_body m K us j = let q = from_many add_part linear_part [] m (λ bs. one (is CloseBrace) m (λ c. K bs)) us ((linear_many linear_part).mono m (λ ps. one (is CloseBrace) m (λ c. K (blocks_of ps))) (λ ps. one (is CloseBrace) m (λ c. K (added add_part [] ps)))
+from_body m K us j = let q = from_many add_part linear_part [] m (λ bs. one (is CloseBrace) m (λ c. K bs)) us
+    ((linear_many linear_part).mono m (λ ps. one (is CloseBrace) m (λ c. K (blocks_of ps))) (λ ps. one (is CloseBrace) m (λ c. K (added add_part [] ps)))
     (λ ps vs i. subst (λ bs. one (is CloseBrace) m (λ c. K bs) vs) (sym (blocks_from_left ps)) i) us j) in rest_loops q.0 [] m K us q.1
 
 pub body_piece : {av : Class → Bool} → Piece body_at body (is OpenBrace) none false av

@@ -5,8 +5,8 @@ use Rattle.pg_grammar.specs.declared.nesting.TheConstants.{INNER_NESTING_LIMIT}
 use Rattle.pg_grammar.specs.declared.token.Fault.TheVariants.{Unsupported}
 use Rattle.pg_grammar.specs.Classes.{is}
 use Rattle.pg_grammar.specs.Language.{Gram, one, give, refused, ◌or◌, ◌>>=◌}
-use Rattle.pg_grammar.specs.Grammar.{name_of, skip_to, flags, attribute, value_in}
-use Rattle.pg_grammar.specs.GrammarOps.{typed_value, simple_op, no_op}
+use Rattle.pg_grammar.specs.Grammar.{name_of, skip_to, flags, attribute, value_in, gep_tail, int_to_ptr_tail}
+use Rattle.pg_grammar.specs.GrammarOps.{typed_value, simple_op, no_op, call_head}
 use Rattle.pg_grammar.specs.GrammarItems.{LabelPart, DroppedPart, line_of, metadata}
 use Rattle.pg_grammar.specs.ReaderItems.{add_part, add_line, After, Complete, Called, Returned, Body, complete, void_value, begins_part, blocks_by}
 use Rattle.pg_lex.specs.declared.token.Span.{Span}
@@ -14,8 +14,8 @@ use Rattle.pg_ast.specs.Syntax.{Val, Block}
 use Rattle.pg_ast.specs.Syntax as syntax
 use Rattle.pg_ast.specs.declared.names.Name.{Name}
 use Rattle.pg_grammar.proofs.Past.{past}
-use Rattle.pg_grammar.proofs.Rests.{gep_tail, int_to_ptr_tail, certain_value}
-use Rattle.pg_grammar.proofs.OpRests.{with_metadata, metadata_tail, cast_tail, call_head, gep_op_tail}
+use Rattle.pg_grammar.proofs.Rests.{certain_value}
+use Rattle.pg_grammar.proofs.OpRests.{with_metadata, metadata_tail, cast_tail, gep_op_tail}
 
 abbrev pub called : List Block → Gram Body
 called bs = (do

@@ -24,16 +24,19 @@ choose_piece {A} r g fi av s h fj mb nv aw ax e gets k ap1 wi wj wk = record {
   empty = empty;
 }
   where
-    begins_left : (m : Option Fault) (K : A → Lang) (t : Token) (us : List Token) → IsTrue (fi t.class) ⊎ ((IsTrue (none t.class) × Marked m us) ⊎ (IsTrue false × ((a : A) × K a (t ∷ us)))) → IsTrue (fi t.class)
+    begins_left : (m : Option Fault) (K : A → Lang) (t : Token) (us : List Token)
+        → IsTrue (fi t.class) ⊎ ((IsTrue (none t.class) × Marked m us) ⊎ (IsTrue false × ((a : A) × K a (t ∷ us)))) → IsTrue (fi t.class)
     begins_left m K t us (inl i) = i
     begins_left m K t us (inr (inl i)) = absurd (let z : false ≡ true = i.0 in cc)
     begins_left m K t us (inr (inr i)) = absurd (let z : false ≡ true = i.0 in cc)
 
-    begins : (m : Option Fault) (K : A → Lang) (t : Token) (us : List Token) → (g or h) m K (t ∷ us) → IsTrue ((fi ∪ fj) t.class) ⊎ ((IsTrue (mb t.class) × Marked m us) ⊎ (IsTrue nv × ((a : A) × K a (t ∷ us))))
+    begins : (m : Option Fault) (K : A → Lang) (t : Token) (us : List Token) → (g or h) m K (t ∷ us)
+        → IsTrue ((fi ∪ fj) t.class) ⊎ ((IsTrue (mb t.class) × Marked m us) ⊎ (IsTrue nv × ((a : A) × K a (t ∷ us))))
     begins m K t us (inl j) = inl (in_left (fi t.class) (fj t.class) (begins_left m K t us (e.begins m K t us j)))
     begins m K t us (inr j) = pick (k.begins m K t us j)
       where
-        pick : IsTrue (fj t.class) ⊎ ((IsTrue (mb t.class) × Marked m us) ⊎ (IsTrue nv × ((a : A) × K a (t ∷ us)))) → IsTrue ((fi ∪ fj) t.class) ⊎ ((IsTrue (mb t.class) × Marked m us) ⊎ (IsTrue nv × ((a : A) × K a (t ∷ us))))
+        pick : IsTrue (fj t.class) ⊎ ((IsTrue (mb t.class) × Marked m us) ⊎ (IsTrue nv × ((a : A) × K a (t ∷ us))))
+            → IsTrue ((fi ∪ fj) t.class) ⊎ ((IsTrue (mb t.class) × Marked m us) ⊎ (IsTrue nv × ((a : A) × K a (t ∷ us))))
         pick (inl b) = inl (in_right (fi t.class) (fj t.class) b)
         pick (inr b) = inr b
 
@@ -100,7 +103,8 @@ choose_piece {A} r g fi av s h fj mb nv aw ax e gets k ap1 wi wj wk = record {
 
     not_first : (t : Token) (ts : List Token) → fi t.class ≡ false → (m : Option Fault) (K : A → Lang) (us : List Token) → Same us (t ∷ ts) → g m K us → ⊥
     not_first t ts n m K [] same j = same
-    not_first t ts n m K (u ∷ us) same j = let p : fi u.class ≡ true = begins_left m K u us (e.begins m K u us j) in let q : fi u.class ≡ false = subst (λ v. fi v.class ≡ false) (sym same) n in absurd cc
+    not_first t ts n m K (u ∷ us) same j = let p : fi u.class ≡ true = begins_left m K u us (e.begins m K u us j) in let q : fi u.class ≡ false =
+        subst (λ v. fi v.class ≡ false) (sym same) n in absurd cc
 
     by_test : (t : Token) (ts : List Token) (b : Bool) → fi t.class ≡ b → Met (g or h) ax (t ∷ ts) (if b then r (t ∷ ts) else s (t ∷ ts))
     by_test t ts true i = left_side t ts (r (t ∷ ts)) i (gets.on t ts i) (e.meets (t ∷ ts))

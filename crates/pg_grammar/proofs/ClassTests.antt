@@ -1,7 +1,13 @@
 -- Tests over all classes.
 use Rattle.std.proofs.Common.{◌≡◌, ℕ, zero, suc, List, [], ◌∷◌, Bool, true, false, ◌&&◌, ◌||◌, refl, IsTrue, not, subst, Option, Some, None, inl, inr, ◌⊎◌}
 use Rattle.pg_grammar.specs.declared.class.Class.{Class}
-use Rattle.pg_grammar.specs.declared.class.Class.TheVariants.{I1, I8, I16, I32, I64, Ptr, Void, MetadataWord, LabelWord, OtherType, X, To, Align, Volatile, Flag, Eq, Ne, Ugt, Uge, Ult, Ule, Sgt, Sge, Slt, Sle, TypeWord, Distinct, GlobalWord, ConstantWord, True, False, Null, Undef, Poison, ZeroInitializer, SourceFilename, Target, Declare, Define, Attributes, Add, Sub, Mul, Udiv, Sdiv, Urem, Srem, Shl, Lshr, Ashr, And, Or, Xor, Icmp, Trunc, Zext, Sext, PtrToInt, IntToPtr, Select, Phi, Br, Switch, TailWord, Call, Ret, Unreachable, Alloca, Load, Store, GetElementPtr, OtherLeading, Refused, OtherWord, Label, Int, Dots, CStr, Odd, Str, Local, Global, DroppedGlobal, Meta, Bang, Attr, DebugAttr, OpenRound, CloseRound, OpenBrace, CloseBrace, OpenSquare, CloseSquare, Less, Greater, Comma, Equals, Star, Bar, Colon}
+use Rattle.pg_grammar.specs.declared.class.Class.TheVariants.{I1, I8, I16, I32, I64, Ptr, Void, MetadataWord, LabelWord, OtherType, X, To, Align, Volatile, Flag, Eq, Ne, Ugt, Uge, Ult, Ule}
+use Rattle.pg_grammar.specs.declared.class.Class.TheVariants.{Sgt, Sge, Slt, Sle, TypeWord, Distinct, GlobalWord, ConstantWord, True, False, Null, Undef, Poison, ZeroInitializer}
+use Rattle.pg_grammar.specs.declared.class.Class.TheVariants.{SourceFilename, Target, Declare, Define, Attributes, Add, Sub, Mul, Udiv, Sdiv, Urem, Srem, Shl, Lshr, Ashr, And, Or, Xor, Icmp}
+use Rattle.pg_grammar.specs.declared.class.Class.TheVariants.{Trunc, Zext, Sext, PtrToInt, IntToPtr, Select, Phi, Br, Switch, TailWord, Call, Ret, Unreachable, Alloca, Load, Store}
+use Rattle.pg_grammar.specs.declared.class.Class.TheVariants.{GetElementPtr, OtherLeading, Refused, OtherWord, Label, Int, Dots, CStr, Odd, Str, Local, Global, DroppedGlobal, Meta, Bang}
+use Rattle.pg_grammar.specs.declared.class.Class.TheVariants.{Attr, DebugAttr, OpenRound, CloseRound, OpenBrace, CloseBrace, OpenSquare, CloseSquare, Less, Greater, Comma, Equals, Star, Bar}
+use Rattle.pg_grammar.specs.declared.class.Class.TheVariants.{Colon}
 use Rattle.pg_grammar.specs.Classes.{code, is, none}
 
 abbrev pub all_in : (Class → Bool) → List Class → Bool
@@ -14,7 +20,12 @@ nth (x ∷ xs) zero = Some x
 nth (x ∷ xs) (suc n) = nth xs n
 
 abbrev pub classes : List Class
-classes = I1 ∷ I8 ∷ I16 ∷ I32 ∷ I64 ∷ Ptr ∷ Void ∷ MetadataWord ∷ LabelWord ∷ OtherType ∷ X ∷ To ∷ Align ∷ Volatile ∷ Flag ∷ Eq ∷ Ne ∷ Ugt ∷ Uge ∷ Ult ∷ Ule ∷ Sgt ∷ Sge ∷ Slt ∷ Sle ∷ TypeWord ∷ Distinct ∷ GlobalWord ∷ ConstantWord ∷ True ∷ False ∷ Null ∷ Undef ∷ Poison ∷ ZeroInitializer ∷ SourceFilename ∷ Target ∷ Declare ∷ Define ∷ Attributes ∷ Add ∷ Sub ∷ Mul ∷ Udiv ∷ Sdiv ∷ Urem ∷ Srem ∷ Shl ∷ Lshr ∷ Ashr ∷ And ∷ Or ∷ Xor ∷ Icmp ∷ Trunc ∷ Zext ∷ Sext ∷ PtrToInt ∷ IntToPtr ∷ Select ∷ Phi ∷ Br ∷ Switch ∷ TailWord ∷ Call ∷ Ret ∷ Unreachable ∷ Alloca ∷ Load ∷ Store ∷ GetElementPtr ∷ OtherLeading ∷ Refused ∷ OtherWord ∷ Label ∷ Int ∷ Dots ∷ CStr ∷ Odd ∷ Str ∷ Local ∷ Global ∷ DroppedGlobal ∷ Meta ∷ Bang ∷ Attr ∷ DebugAttr ∷ OpenRound ∷ CloseRound ∷ OpenBrace ∷ CloseBrace ∷ OpenSquare ∷ CloseSquare ∷ Less ∷ Greater ∷ Comma ∷ Equals ∷ Star ∷ Bar ∷ Colon ∷ []
+classes = I1 ∷ I8 ∷ I16 ∷ I32 ∷ I64 ∷ Ptr ∷ Void ∷ MetadataWord ∷ LabelWord ∷ OtherType ∷ X ∷ To ∷ Align ∷ Volatile ∷ Flag ∷ Eq ∷ Ne ∷ Ugt ∷ Uge ∷ Ult ∷
+    Ule ∷ Sgt ∷ Sge ∷ Slt ∷ Sle ∷ TypeWord ∷ Distinct ∷ GlobalWord ∷ ConstantWord ∷ True ∷ False ∷ Null ∷ Undef ∷ Poison ∷ ZeroInitializer ∷ SourceFilename ∷
+    Target ∷ Declare ∷ Define ∷ Attributes ∷ Add ∷ Sub ∷ Mul ∷ Udiv ∷ Sdiv ∷ Urem ∷ Srem ∷ Shl ∷ Lshr ∷ Ashr ∷ And ∷ Or ∷ Xor ∷ Icmp ∷ Trunc ∷ Zext ∷ Sext
+    ∷ PtrToInt ∷ IntToPtr ∷ Select ∷ Phi ∷ Br ∷ Switch ∷ TailWord ∷ Call ∷ Ret ∷ Unreachable ∷ Alloca ∷ Load ∷ Store ∷ GetElementPtr ∷ OtherLeading ∷ Refused ∷
+    OtherWord ∷ Label ∷ Int ∷ Dots ∷ CStr ∷ Odd ∷ Str ∷ Local ∷ Global ∷ DroppedGlobal ∷ Meta ∷ Bang ∷ Attr ∷ DebugAttr ∷ OpenRound ∷ CloseRound ∷ OpenBrace ∷
+    CloseBrace ∷ OpenSquare ∷ CloseSquare ∷ Less ∷ Greater ∷ Comma ∷ Equals ∷ Star ∷ Bar ∷ Colon ∷ []
 
 abbrev pub every : (Class → Bool) → Bool
 every p = all_in p classes

@@ -7,7 +7,9 @@ use Rattle.pg_grammar.specs.declared.class.Class.TheVariants.{Define, Dots, Open
 use Rattle.pg_grammar.specs.declared.token.Fault.TheVariants.{Unsupported}
 use Rattle.pg_grammar.specs.Classes.{is}
 use Rattle.pg_grammar.specs.Grammar.{name_of, global_name, metadata_name}
-use Rattle.pg_grammar.specs.GrammarItems.{Part, LabelPart, LinePart, DroppedPart, ends, has_label, with_front, alone, before, blocks_of, body, Item, TypeItem, GlobalItem, DeclareItem, DefineItem, OtherItem, no_item, item, tree, program}
+use Rattle.pg_grammar.specs.GrammarItems.{Part, LabelPart, LinePart, DroppedPart, ends, has_label, with_front, alone, before, blocks_of, body, Item, TypeItem, GlobalItem, DeclareItem}
+use Rattle.pg_grammar.specs.GrammarItems.{define_whole}
+use Rattle.pg_grammar.specs.GrammarItems.{DefineItem, OtherItem, no_item, item, tree, program}
 use Rattle.pg_grammar.specs.Endings.{ends_last, end_last, all_end_last}
 use Rattle.pg_grammar.specs.Verdict.{IsRead}
 use Rattle.pg_grammar.specs.Accepted.{IsModule}
@@ -15,10 +17,10 @@ use Rattle.pg_ast.specs.Syntax.{Line, Block, Definition, Tree}
 use Rattle.pg_grammar.proofs.Linear.{linear_one, linear_or, linear_refused, linear_many}
 use Rattle.pg_grammar.proofs.LinearRows.{linear_listed, linear_type, linear_attributes}
 use Rattle.pg_grammar.proofs.LinearOps.{linear_part}
-use Rattle.pg_grammar.proofs.LinearItems.{linear_body, linear_param, linear_node_tail, linear_global_head, linear_tails, linear_declare_head, linear_type_whole, linear_attributes_whole, linear_text_whole, linear_define_whole, linear_item}
+use Rattle.pg_grammar.proofs.LinearItems.{linear_body, linear_param, linear_node_tail, linear_global_head, linear_tails, linear_declare_head, linear_type_whole, linear_attributes_whole}
+use Rattle.pg_grammar.proofs.LinearItems.{linear_text_whole, linear_define_whole, linear_item}
 use Rattle.pg_grammar.proofs.Kept.{Keeps, keeps_give, keeps_refused, keeps_or, keeps_with, keeps_then, keeps_many}
 use Rattle.pg_grammar.proofs.Whole.{has_end}
-use Rattle.pg_grammar.proofs.ItemRests.{define_whole}
 use Rattle.pg_grammar.proofs.ItemLoops.{program_piece}
 
 -- ---- blocks
@@ -71,7 +73,9 @@ body_keeps : Keeps body (λ bs. end_last bs ≡ true)
 body_keeps = keeps_then (linear_one (is OpenBrace)) (λ o. keeps_then (linear_many linear_part) (λ ps. keeps_then (linear_one (is CloseBrace)) (λ c. keeps_give (blocks_of ps) (blocks_end ps))))
 
 define_keeps : Keeps define_whole (λ d. end_last d.blocks ≡ true)
-define_keeps = keeps_then (linear_one (is Define)) (λ d. keeps_then linear_attributes (λ u. keeps_then (linear_type NESTING_LIMIT) (λ t. keeps_then (linear_one global_name) (λ n. keeps_then (linear_one (is OpenRound)) (λ o. keeps_then (linear_listed CloseRound (linear_or linear_param (linear_refused Unsupported (is Dots))))
+define_keeps = keeps_then (linear_one (is Define)) (λ d. keeps_then linear_attributes
+    (λ u. keeps_then (linear_type NESTING_LIMIT) (λ t. keeps_then (linear_one global_name)
+    (λ n. keeps_then (linear_one (is OpenRound)) (λ o. keeps_then (linear_listed CloseRound (linear_or linear_param (linear_refused Unsupported (is Dots))))
     (λ ps. keeps_then linear_attributes (λ u. keeps_with linear_body body_keeps (λ bs h. keeps_give {A = Definition} (record { result = t; name = name_of n; params = ps; blocks = bs }) h))))))))
 
 abbrev item_ends : Item → Bool
@@ -79,8 +83,12 @@ item_ends (DefineItem d) = end_last d.blocks
 item_ends _ = true
 
 item_keeps : Keeps item (λ x. item_ends x ≡ true)
-item_keeps = keeps_or (keeps_or (keeps_then (linear_one metadata_name) (λ m. keeps_then linear_node_tail (λ u. keeps_give OtherItem refl))) (keeps_or (keeps_then linear_global_head (λ g. keeps_then linear_tails (λ u. keeps_give (GlobalItem g) refl))) (keeps_or (keeps_then linear_declare_head (λ d. keeps_then linear_attributes (λ u. keeps_give (DeclareItem d) refl)))
-    (keeps_or (keeps_with linear_define_whole define_keeps (λ d h. keeps_give (DefineItem d) h)) (keeps_or (keeps_then linear_type_whole (λ n. keeps_give (TypeItem n) refl)) (keeps_or (keeps_then linear_attributes_whole (λ u. keeps_give OtherItem refl)) (keeps_then linear_text_whole (λ u. keeps_give OtherItem refl)))))))) (keeps_refused Unsupported no_item)
+item_keeps = keeps_or (keeps_or (keeps_then (linear_one metadata_name) (λ m. keeps_then linear_node_tail (λ u. keeps_give OtherItem refl)))
+    (keeps_or (keeps_then linear_global_head (λ g. keeps_then linear_tails (λ u. keeps_give (GlobalItem g) refl)))
+    (keeps_or (keeps_then linear_declare_head (λ d. keeps_then linear_attributes (λ u. keeps_give (DeclareItem d) refl)))
+    (keeps_or (keeps_with linear_define_whole define_keeps (λ d h. keeps_give (DefineItem d) h))
+    (keeps_or (keeps_then linear_type_whole (λ n. keeps_give (TypeItem n) refl))
+    (keeps_or (keeps_then linear_attributes_whole (λ u. keeps_give OtherItem refl)) (keeps_then linear_text_whole (λ u. keeps_give OtherItem refl)))))))) (keeps_refused Unsupported no_item)
 
 tree_ends : (xs : List Item) → list_all item_ends xs ≡ true → all_end_last (tree xs) ≡ true
 tree_ends [] h = refl
@@ -96,7 +104,8 @@ program_keeps = keeps_with (linear_many linear_item) (keeps_many linear_item ite
 -- ---- a module
 
 pub read_ends : (ts : List Token) (m : Tree) → IsRead program ts m → all_end_last m ≡ true
-read_ends ts m j = let q = has_end program_piece ts (λ b us. (all_end_last b ≡ true) × ((b ≡ m) × (us ≡ []))) (λ b t us i. let z : t ∷ us ≡ [] = i.1.1 in cc) (program_keeps.keep None (λ b us. (b ≡ m) × (us ≡ [])) ts j) in
+read_ends ts m j = let q = has_end program_piece ts (λ b us. (all_end_last b ≡ true) × ((b ≡ m) × (us ≡ []))) (λ b t us i. let z : t ∷ us ≡ [] = i.1.1 in cc)
+    (program_keeps.keep None (λ b us. (b ≡ m) × (us ≡ [])) ts j) in
     subst (λ b. all_end_last b ≡ true) q.2.1.0 q.2.0
 
 pub module_ends : (text : List ℕ) (m : Tree) → IsModule text m → all_end_last m ≡ true

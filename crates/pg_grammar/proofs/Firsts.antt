@@ -16,7 +16,8 @@ first_comes test t us vs e i = subst (λ xs. comes test xs ≡ true) (sym e) i
 pub comes_first : (test : Class → Bool) (t : Token) (us vs : List Token) → us ≡ t ∷ vs → comes test us ≡ true → IsTrue (test t.class)
 comes_first test t us vs e h = subst (λ xs. comes test xs ≡ true) e h
 
-pub item_comes : {A : Type 0} {r : List Token → Read A} {g : Gram A} {fi av : Class → Bool} → Item r g fi av → (m : Option Fault) (K : A → Lang) (us : List Token) → g m K us → comes fi us ≡ true
+pub item_comes : {A : Type 0} {r : List Token → Read A} {g : Gram A} {fi av : Class → Bool} → Item r g fi av → (m : Option Fault) (K : A → Lang) (us : List Token) → g m K us
+    → comes fi us ≡ true
 item_comes {A} {r} {g} {fi} {av} e m K [] j = (e.piece.empty m K j).0
 item_comes {A} {r} {g} {fi} {av} e m K (t ∷ us) j = not_first r g fi av e.piece m K t us j
 

@@ -19,22 +19,29 @@ abbrev pub gathered : {A B : Type 0} → (B → A → B) → Gram A → B → Gr
 gathered push g b m K us = (n : ℕ) × gather push g n b m K us
 
 -- one more in front
-pub gathered_more : {A B : Type 0} (push : B → A → B) {g : Gram A} → Linear g → (b : B) (m : Option Fault) (K : B → Lang) (us : List Token) → g m (λ a. gathered push g (push b a) m K) us → gathered push g b m K us
+pub gathered_more : {A B : Type 0} (push : B → A → B) {g : Gram A} → Linear g → (b : B) (m : Option Fault) (K : B → Lang) (us : List Token)
+    → g m (λ a. gathered push g (push b a) m K) us → gathered push g b m K us
 gathered_more push {g} e b m K us j = let q = e.pick m (λ n a. gather push g n (push b a) m K) us j in (suc q.0, q.1)
 
 -- the same lists as those of many, with all values added
-from_times : {A B : Type 0} (push : B → A → B) {g : Gram A} → Linear g → (n : ℕ) (b : B) (m : Option Fault) (K : B → Lang) (us : List Token) → times g n m (λ all. K (added push b all)) us → gather push g n b m K us
+from_times : {A B : Type 0} (push : B → A → B) {g : Gram A} → Linear g → (n : ℕ) (b : B) (m : Option Fault) (K : B → Lang) (us : List Token)
+    → times g n m (λ all. K (added push b all)) us → gather push g n b m K us
 from_times push e zero b m K us j = j
-from_times push {g} e (suc n) b m K us j = e.mono m (λ a. times g n m (λ more. K (added push (push b a) more))) (λ a. gather push g n (push b a) m K) (λ a vs i. from_times push e n (push b a) m K vs i) us j
+from_times push {g} e (suc n) b m K us j = e.mono m (λ a. times g n m (λ more. K (added push (push b a) more))) (λ a. gather push g n (push b a) m K)
+    (λ a vs i. from_times push e n (push b a) m K vs i) us j
 
-to_times : {A B : Type 0} (push : B → A → B) {g : Gram A} → Linear g → (n : ℕ) (b : B) (m : Option Fault) (K : B → Lang) (us : List Token) → gather push g n b m K us → times g n m (λ all. K (added push b all)) us
+to_times : {A B : Type 0} (push : B → A → B) {g : Gram A} → Linear g → (n : ℕ) (b : B) (m : Option Fault) (K : B → Lang) (us : List Token) → gather push g n b m K us
+    → times g n m (λ all. K (added push b all)) us
 to_times push e zero b m K us j = j
-to_times push {g} e (suc n) b m K us j = e.mono m (λ a. gather push g n (push b a) m K) (λ a. times g n m (λ more. K (added push (push b a) more))) (λ a vs i. to_times push e n (push b a) m K vs i) us j
+to_times push {g} e (suc n) b m K us j = e.mono m (λ a. gather push g n (push b a) m K) (λ a. times g n m (λ more. K (added push (push b a) more)))
+    (λ a vs i. to_times push e n (push b a) m K vs i) us j
 
-pub from_many : {A B : Type 0} (push : B → A → B) {g : Gram A} → Linear g → (b : B) (m : Option Fault) (K : B → Lang) (us : List Token) → many g m (λ all. K (added push b all)) us → gathered push g b m K us
+pub from_many : {A B : Type 0} (push : B → A → B) {g : Gram A} → Linear g → (b : B) (m : Option Fault) (K : B → Lang) (us : List Token) → many g m (λ all. K (added push b all)) us
+    → gathered push g b m K us
 from_many push e b m K us j = (j.0, from_times push e j.0 b m K us j.1)
 
-pub to_many : {A B : Type 0} (push : B → A → B) {g : Gram A} → Linear g → (b : B) (m : Option Fault) (K : B → Lang) (us : List Token) → gathered push g b m K us → many g m (λ all. K (added push b all)) us
+pub to_many : {A B : Type 0} (push : B → A → B) {g : Gram A} → Linear g → (b : B) (m : Option Fault) (K : B → Lang) (us : List Token) → gathered push g b m K us
+    → many g m (λ all. K (added push b all)) us
 to_many push e b m K us j = (j.0, to_times push e j.0 b m K us j.1)
 
 -- what holds behind all of them holds before, where one of them keeps it

@@ -57,7 +57,8 @@ attribute_more : (m : Option Fault) (L : Lang) (us : List Token) → attribute m
 attribute_more m L us j = many_more linear_attribute m (attributes_end m (λ w. L)) us j
 
 -- behind attributes, before which something else may stand
-behind_left : (t : Tree) (after : AfterItem) (m : Option Fault) (K : Tree → Lang) (L : Lang) (us : List Token) → ((vs : List Token) → rest t m K vs → L vs) → ((vs : List Token) → Left m K (items t after) vs → attributes m (λ w. L) vs)
+behind_left : (t : Tree) (after : AfterItem) (m : Option Fault) (K : Tree → Lang) (L : Lang) (us : List Token) → ((vs : List Token) → rest t m K vs → L vs)
+    → ((vs : List Token) → Left m K (items t after) vs → attributes m (λ w. L) vs)
     → behind_attributes_item t after m (Left m K) us → attributes m (λ w. L) us
 behind_left t after m K L us f g (inl (a, vs, e, i, inl (b, ws, e2, i2, j))) = attribute_more m L us (inr (inr (inr (a, vs, e, i, (b, ws, e2, i2, g ws j)))))
 behind_left t after m K L us f g (inl (a, vs, e, i, inr j)) = (0, inl (f us (rest_more t m K us (inl (inl (a, vs, e, i, j))))))
@@ -106,7 +107,8 @@ opened_behind t after m M us j = by (comes metadata_name us) refl j
     by true y (inr (inr (inr (inl j)))) = absurd (not_both metadata_name (is Define) refl us y (item_comes (define_item_row {av = none}) m (λ d. M (items (add_item t (DefineItem d)) Done)) us j))
     by true y (inr (inr (inr (inr (inl j))))) = absurd (not_both metadata_name (is Local) refl us y (item_comes (type_item_row {av = none}) m (λ n. M (items (add_item t (TypeItem n)) Done)) us j))
     by true y (inr (inr (inr (inr (inr (inl j)))))) = absurd (not_both metadata_name (is Attributes) refl us y (item_comes (attributes_item_row {av = none}) m (λ u. M (items t Done)) us j))
-    by true y (inr (inr (inr (inr (inr (inr j)))))) = absurd (not_both metadata_name (is SourceFilename ∪ is Target) refl us y (item_comes (text_item_row {av = none}) m (λ u. M (items t Done)) us j))
+    by true y (inr (inr (inr (inr (inr (inr j)))))) =
+        absurd (not_both metadata_name (is SourceFilename ∪ is Target) refl us y (item_comes (text_item_row {av = none}) m (λ u. M (items t Done)) us j))
 
 -- an attribute that doesn't begin with a Meta begins no item
 abbrev other_attribute : Class → Bool
@@ -150,7 +152,8 @@ valued_tailed t m K us (suc n, inl j) = (suc n, inl j)
 valued_tailed t m K us (suc n, inr j) = (suc n, inr (opened_behind t Tailed m (λ c. loop next_item items_end n c m K) us j))
 
 -- attributes before what is read in a state
-attributes_in : (t : Tree) (after : AfterItem) (m : Option Fault) (K : Tree → Lang) (L : Lang) → ((us : List Token) → L us → Loops m K (items t after) us) → ((us : List Token) → behind_attributes_item t after m (Loops m K) us → Loops m K (items t after) us)
+attributes_in : (t : Tree) (after : AfterItem) (m : Option Fault) (K : Tree → Lang) (L : Lang) → ((us : List Token) → L us → Loops m K (items t after) us)
+    → ((us : List Token) → behind_attributes_item t after m (Loops m K) us → Loops m K (items t after) us)
     → (us : List Token) → attributes m (λ w. L) us → Loops m K (items t after) us
 attributes_in t after m K L f g us j = star linear_attribute m (Loops m K (items t after)) (λ vs i. g vs (attribute_behind t after m (Loops m K) vs i)) us
     ((linear_many linear_attribute).mono m (λ all. attributes_end m (λ w. L)) (λ all. Loops m K (items t after)) (λ all vs i. base vs i) us j)
@@ -163,21 +166,29 @@ declared_loops : (t : Tree) (m : Option Fault) (K : Tree → Lang) (us : List To
 declared_loops t m K us j = attributes_in t Declared m K (Loops m K (items t Done)) (λ vs i. done_declared t m K vs i) (λ vs i. loops_more t Declared m K vs i) us j
 
 tail_loops : (t : Tree) (m : Option Fault) (K : Tree → Lang) (us : List Token) → tail m (λ u. Loops m K (items t Valued)) us → Loops m K (items t Valued) us
-tail_loops t m K us (c, vs, e, i, j) = loops_more t Valued m K us (inl (c, vs, e, i, attributes_in t Tailed m K (Loops m K (items t Valued)) (λ ws k. valued_tailed t m K ws k) (λ ws k. loops_more t Tailed m K ws (inr k)) vs j))
+tail_loops t m K us (c, vs, e, i, j) =
+    loops_more t Valued m K us (inl (c, vs, e, i, attributes_in t Tailed m K (Loops m K (items t Valued)) (λ ws k. valued_tailed t m K ws k) (λ ws k. loops_more t Tailed m K ws (inr k)) vs j))
 
 valued_loops : (t : Tree) (m : Option Fault) (K : Tree → Lang) (us : List Token) → tails m (λ w. Loops m K (items t Done)) us → Loops m K (items t Valued) us
-valued_loops t m K us j = star linear_tail m (Loops m K (items t Valued)) (λ vs i. tail_loops t m K vs i) us ((linear_many linear_tail).mono m (λ all. Loops m K (items t Done)) (λ all. Loops m K (items t Valued)) (λ all vs i. done_valued t m K vs i) us j)
+valued_loops t m K us j = star linear_tail m (Loops m K (items t Valued)) (λ vs i. tail_loops t m K vs i) us
+    ((linear_many linear_tail).mono m (λ all. Loops m K (items t Done)) (λ all. Loops m K (items t Valued)) (λ all vs i. done_valued t m K vs i) us j)
 
 item_loops : (t : Tree) (m : Option Fault) (K : Tree → Lang) (us : List Token) → item m (λ x. Loops m K (items (add_item t x) Done)) us → Loops m K (items t Done) us
 item_loops t m K us (inr j) = (0, inr j)
 item_loops t m K us (inl (inl j)) = loops_more t Done m K us (inl j)
-item_loops t m K us (inl (inr (inl j))) = loops_more t Done m K us (inr (inl (linear_global_head.mono m (λ g. tails m (λ w. Loops m K (items (add_item t (GlobalItem g)) Done))) (λ g. Loops m K (items (add_item t (GlobalItem g)) Valued)) (λ g vs i. valued_loops (add_item t (GlobalItem g)) m K vs i) us j)))
-item_loops t m K us (inl (inr (inr (inl j)))) = loops_more t Done m K us (inr (inr (inl (linear_declare_head.mono m (λ d. attributes m (λ w. Loops m K (items (add_item t (DeclareItem d)) Done))) (λ d. Loops m K (items (add_item t (DeclareItem d)) Declared)) (λ d vs i. declared_loops (add_item t (DeclareItem d)) m K vs i) us j))))
+item_loops t m K us (inl (inr (inl j))) =
+    loops_more t Done m K us (inr
+    (inl (linear_global_head.mono m (λ g. tails m (λ w. Loops m K (items (add_item t (GlobalItem g)) Done))) (λ g. Loops m K (items (add_item t (GlobalItem g)) Valued))
+    (λ g vs i. valued_loops (add_item t (GlobalItem g)) m K vs i) us j)))
+item_loops t m K us (inl (inr (inr (inl j)))) = loops_more t Done m K us
+    (inr (inr (inl (linear_declare_head.mono m (λ d. attributes m (λ w. Loops m K (items (add_item t (DeclareItem d)) Done))) (λ d. Loops m K (items (add_item t (DeclareItem d)) Declared))
+    (λ d vs i. declared_loops (add_item t (DeclareItem d)) m K vs i) us j))))
 item_loops t m K us (inl (inr (inr (inr j)))) = loops_more t Done m K us (inr (inr (inr j)))
 
 rest_loops : (n : ℕ) (t : Tree) (m : Option Fault) (K : Tree → Lang) (us : List Token) → gather add_item item n t m K us → Loops m K (items t Done) us
 rest_loops zero t m K us j = (0, inl j)
-rest_loops (suc n) t m K us j = item_loops t m K us (linear_item.mono m (λ x. gather add_item item n (add_item t x) m K) (λ x. Loops m K (items (add_item t x) Done)) (λ x vs i. rest_loops n (add_item t x) m K vs i) us j)
+rest_loops (suc n) t m K us j = item_loops t m K us (linear_item.mono m (λ x. gather add_item item n (add_item t x) m K) (λ x. Loops m K (items (add_item t x) Done))
+    (λ x vs i. rest_loops n (add_item t x) m K vs i) us j)
 
 -- ---- the items of each kind, in the order of the text
 
@@ -202,10 +213,12 @@ from_empty xs = added_items empty xs
 -- ---- the program
 
 to_program : (m : Option Fault) (K : Tree → Lang) (us : List Token) → Loops m K (items empty Done) us → program m K us
-to_program m K us j = (linear_many linear_item).mono m (λ xs. K (added add_item empty xs)) (λ xs. K (tree xs)) (λ xs vs i. subst (λ t. K t vs) (from_empty xs) i) us (to_many add_item linear_item empty m K us (loop_left j.0 (items empty Done) m K us j.1))
+to_program m K us j = (linear_many linear_item).mono m (λ xs. K (added add_item empty xs)) (λ xs. K (tree xs)) (λ xs vs i. subst (λ t. K t vs) (from_empty xs) i) us
+    (to_many add_item linear_item empty m K us (loop_left j.0 (items empty Done) m K us j.1))
 
 from_program : (m : Option Fault) (K : Tree → Lang) (us : List Token) → program m K us → Loops m K (items empty Done) us
-from_program m K us j = let q = from_many add_item linear_item empty m K us ((linear_many linear_item).mono m (λ xs. K (tree xs)) (λ xs. K (added add_item empty xs)) (λ xs vs i. subst (λ t. K t vs) (sym (from_empty xs)) i) us j) in rest_loops q.0 empty m K us q.1
+from_program m K us j = let q = from_many add_item linear_item empty m K us
+    ((linear_many linear_item).mono m (λ xs. K (tree xs)) (λ xs. K (added add_item empty xs)) (λ xs vs i. subst (λ t. K t vs) (sym (from_empty xs)) i) us j) in rest_loops q.0 empty m K us q.1
 
 pub program_piece : Piece program_at program begins_item no_item true anything
 unfolding program_at

@@ -1,14 +1,15 @@
 -- The items, factored as they are read.
 use Rattle.pg_num.specs.declared.limits.TheConstants.{NESTING_LIMIT}
-use Rattle.pg_grammar.specs.declared.class.Class.TheVariants.{TypeWord, Distinct, SourceFilename, Target, Declare, Define, Attributes, Dots, Str, Local, Comma, Equals, OpenRound, CloseRound, OpenBrace, CloseBrace}
+use Rattle.pg_grammar.specs.declared.class.Class.TheVariants.{TypeWord, Distinct, SourceFilename, Target, Attributes, Str, Local, Comma, Equals}
+use Rattle.pg_grammar.specs.declared.class.Class.TheVariants.{OpenBrace, CloseBrace}
 use Rattle.pg_grammar.specs.declared.nesting.TheConstants.{INNER_NESTING_LIMIT}
 use Rattle.pg_grammar.specs.declared.token.Fault.TheVariants.{Unsupported}
 use Rattle.pg_grammar.specs.Classes.{is, is_word}
 use Rattle.pg_grammar.specs.Language.{Gram, one, give, refused, ◌or◌, ◌>>=◌, many}
-use Rattle.pg_grammar.specs.Grammar.{listed, name_of, drop_value, global_name, type_in, skip_to, attribute, attribute_name, metadata_name, attributes, const_in}
-use Rattle.pg_grammar.specs.GrammarItems.{body, param, dparam, TypeItem, GlobalItem, DeclareItem, DefineItem, constancy, node, no_item}
+use Rattle.pg_grammar.specs.Grammar.{name_of, drop_value, type_in, skip_to, attribute, attribute_name, metadata_name, attributes}
+use Rattle.pg_grammar.specs.GrammarItems.{TypeItem, GlobalItem, DeclareItem, DefineItem, global_head, declare_head, define_whole, node, no_item}
 use Rattle.pg_grammar.specs.ReaderItems.{AfterItem, Done, Declared, Valued, Tailed, Items, items, add_item, begins_item}
-use Rattle.pg_ast.specs.Syntax.{NamedType, Variable, Declaration, Definition, Tree}
+use Rattle.pg_ast.specs.Syntax.{NamedType, Tree}
 use Rattle.pg_grammar.proofs.Past.{past}
 
 -- = [distinct] (! { skip } | Meta ( skip ))
@@ -17,16 +18,6 @@ node_tail = do
   _ ← one (is Equals)
   _ ← drop_value (one (is Distinct)) or give tt
   node
-
-abbrev pub global_head : Gram Variable
-global_head = do
-  n ← one global_name
-  _ ← one (is Equals)
-  _ ← attributes
-  c ← constancy
-  t ← type_in NESTING_LIMIT
-  v ← const_in NESTING_LIMIT
-  give (record { name = name_of n; is_constant = c; ty = t; value = v })
 
 -- , attrs
 abbrev pub tail : Gram (Unit {0})
@@ -37,28 +28,6 @@ tail = do
 -- (, attrs)*
 abbrev pub tails : Gram (Unit {0})
 tails = drop_value (many tail)
-
-abbrev pub declare_head : Gram Declaration
-declare_head = do
-  _ ← one (is Declare)
-  _ ← attributes
-  t ← type_in NESTING_LIMIT
-  n ← one global_name
-  _ ← one (is OpenRound)
-  ps ← listed CloseRound dparam
-  give (record { result = t; name = name_of n; params = ps })
-
-abbrev pub define_whole : Gram Definition
-define_whole = do
-  _ ← one (is Define)
-  _ ← attributes
-  t ← type_in NESTING_LIMIT
-  n ← one global_name
-  _ ← one (is OpenRound)
-  ps ← listed CloseRound (param or refused Unsupported (is Dots))
-  _ ← attributes
-  bs ← body
-  give (record { result = t; name = name_of n; params = ps; blocks = bs })
 
 abbrev pub type_whole : Gram NamedType
 type_whole = do

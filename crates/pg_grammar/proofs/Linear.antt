@@ -38,7 +38,9 @@ pub linear_then : {A B : Type 0} {g : Gram A} {h : A → Gram B} → Linear g �
 linear_then {A} {B} {g} {h} e k = record {
   mono = λ m K L f us j. e.mono m (λ a. h a m K) (λ a. h a m L) (λ a vs i. (k a).mono m K L f vs i) us j;
   pick = λ m K us j. e.pick m (λ n a. h a m (K n)) us (e.mono m (λ a. h a m (λ b vs. (n : ℕ) × K n b vs)) (λ a vs. (n : ℕ) × h a m (K n) vs) (λ a vs i. (k a).pick m K vs i) us j);
-  later = λ m K us j. e.mono m (λ a vs. EndsWith us vs × h a m K vs) (λ a. h a m (λ b ws. EndsWith us ws × K b ws)) (λ a vs i. (k a).mono m (λ b ws. EndsWith vs ws × K b ws) (λ b ws. EndsWith us ws × K b ws) (λ b ws q. (end_of_end us vs ws i.0 q.0, q.1)) vs ((k a).later m K vs i.1)) us (e.later m (λ a. h a m K) us j);
+  later = λ m K us j. e.mono m (λ a vs. EndsWith us vs × h a m K vs) (λ a. h a m (λ b ws. EndsWith us ws × K b ws))
+      (λ a vs i. (k a).mono m (λ b ws. EndsWith vs ws × K b ws) (λ b ws. EndsWith us ws × K b ws) (λ b ws q. (end_of_end us vs ws i.0 q.0, q.1)) vs ((k a).later m K vs i.1)) us
+      (e.later m (λ a. h a m K) us j);
 }
 
 pub linear_or : {A : Type 0} {g h : Gram A} → Linear g → Linear h → Linear (g or h)

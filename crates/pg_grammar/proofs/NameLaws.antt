@@ -1,5 +1,6 @@
 -- The names of each function of a module stand in the order of the text.
-use Rattle.std.proofs.Common.{◌≡◌, ℕ, zero, suc, ◌+◌, ◌≤◌, List, [], ◌∷◌, ◌++◌, Option, Some, None, Bool, true, false, ◌||◌, refl, sym, ap, ◌∙◌, subst, arith, append_assoc, if◌then◌else◌}
+use Rattle.std.proofs.Common.{◌≡◌, ℕ, zero, suc, ◌+◌, ◌≤◌, List, [], ◌∷◌, ◌++◌, Option, Some, None, Bool, true, false, ◌||◌, refl, sym, ap, ◌∙◌, subst}
+use Rattle.std.proofs.Common.{arith, append_assoc, if◌then◌else◌}
 use Rattle.std.specs.List.{list_all, flat_map}
 use Rattle.std.proofs.lemmas.Bool.{and_from, and_parts, or_parts}
 use Rattle.std.proofs.lemmas.List.{append-nil}
@@ -12,7 +13,9 @@ use Rattle.pg_grammar.specs.declared.token.Fault.TheVariants.{Unsupported}
 use Rattle.pg_grammar.specs.Classes.{is}
 use Rattle.pg_grammar.specs.Grammar.{separated, listed, name_of, global_name, metadata_name}
 use Rattle.pg_grammar.specs.Language.{Gram, give, one, times, many, ◌or◌, ◌>>=◌}
-use Rattle.pg_grammar.specs.GrammarItems.{Part, LabelPart, LinePart, DroppedPart, line_of, result_name, op_line, debug_line, part, ends, has_label, with_front, alone, before, blocks_of, body, param, Item, TypeItem, GlobalItem, DeclareItem, DefineItem, OtherItem, no_item, item, tree, program}
+use Rattle.pg_grammar.specs.GrammarItems.{Part, LabelPart, LinePart, DroppedPart, line_of, result_name, op_line, debug_line, part, ends, has_label, with_front, alone, before, blocks_of}
+use Rattle.pg_grammar.specs.GrammarItems.{define_whole}
+use Rattle.pg_grammar.specs.GrammarItems.{body, param, Item, TypeItem, GlobalItem, DeclareItem, DefineItem, OtherItem, no_item, item, tree, program}
 use Rattle.pg_grammar.specs.NameOrder.{written, lines_names, block_names, written_names, ascend, all_ascend}
 use Rattle.pg_grammar.specs.Verdict.{IsRead}
 use Rattle.pg_grammar.specs.Accepted.{IsModule}
@@ -21,11 +24,12 @@ use Rattle.pg_ast.specs.Syntax.{Op, Block, Param, Definition, Tree}
 use Rattle.pg_grammar.proofs.Linear.{Linear, linear_give, linear_one, linear_or, linear_refused, linear_times, linear_many, linear_then}
 use Rattle.pg_grammar.proofs.LinearRows.{linear_separated, linear_listed, linear_skip, linear_type, linear_attributes}
 use Rattle.pg_grammar.proofs.LinearOps.{linear_part, linear_op, linear_result_name, linear_metadata}
-use Rattle.pg_grammar.proofs.LinearItems.{linear_body, linear_param, linear_node_tail, linear_global_head, linear_tails, linear_declare_head, linear_type_whole, linear_attributes_whole, linear_text_whole, linear_define_whole, linear_item}
-use Rattle.pg_grammar.proofs.ItemRests.{define_whole}
+use Rattle.pg_grammar.proofs.LinearItems.{linear_body, linear_param, linear_node_tail, linear_global_head, linear_tails, linear_declare_head, linear_type_whole, linear_attributes_whole}
+use Rattle.pg_grammar.proofs.LinearItems.{linear_text_whole, linear_define_whole, linear_item}
 use Rattle.pg_grammar.proofs.ItemLoops.{program_piece}
 use Rattle.pg_grammar.proofs.Whole.{has_end}
-use Rattle.pg_grammar.proofs.NamePlaces.{From, Within, within_both, within_more, within_on, within_order, within_ascends, Places, places_weaken, places_any, places_give, places_one, places_refused, places_or, places_then, places_many, tokens_ordered}
+use Rattle.pg_grammar.proofs.NamePlaces.{From, Within, within_both, within_more, within_on, within_order, within_ascends, Places, places_weaken, places_any, places_give, places_one}
+use Rattle.pg_grammar.proofs.NamePlaces.{places_refused, places_or, places_then, places_many, tokens_ordered}
 
 -- ---- the names of a body's parts are those of its blocks
 
@@ -54,7 +58,8 @@ before_names : (p : Part) (bs : List Block) → flat_map block_names (before p b
 before_names p [] = ap (λ (xs : List Name). xs ++ []) (alone_names p)
 before_names p (b ∷ bs) = by (ends p || has_label b.label) refl
   where
-    by : (c : Bool) → (ends p || has_label b.label) ≡ c → flat_map block_names (if c then alone p ∷ b ∷ bs else with_front p b ∷ bs) ≡ part_names p ++ (block_names b ++ flat_map block_names bs)
+    by : (c : Bool) → (ends p || has_label b.label) ≡ c → flat_map block_names (if c then alone p ∷ b ∷ bs else with_front p b ∷ bs) ≡ part_names p
+        ++ (block_names b ++ flat_map block_names bs)
     by true x = ap (λ (xs : List Name). xs ++ (block_names b ++ flat_map block_names bs)) (alone_names p)
     by false x =
         ap (λ (xs : List Name). xs ++ flat_map block_names bs) (front_names p b (no_label b.label (or_parts (ends p) (has_label b.label) x).1))
@@ -81,10 +86,14 @@ label_places : (at : ℕ) → Places at (do
 label_places at = places_then (linear_one (is Label)) (places_one at (is Label)) (λ t to q. places_give to (LabelPart (name_of t)) (token_within at t to q.0 q.1))
 
 debug_places : (at : ℕ) → Places at debug_line (λ to p. Within at (part_names p) to)
-debug_places at = places_then (linear_one (is DebugAttr)) (places_any at (linear_one (is DebugAttr))) (λ d a q. places_then (linear_one (is OpenRound)) (places_any a (linear_one (is OpenRound))) (λ o b r. places_then (linear_skip INNER_NESTING_LIMIT CloseRound) (places_any b (linear_skip INNER_NESTING_LIMIT CloseRound)) (λ u c s. places_give c DroppedPart (omega (arith, q, r, s)))))
+debug_places at = places_then (linear_one (is DebugAttr)) (places_any at (linear_one (is DebugAttr)))
+    (λ d a q. places_then (linear_one (is OpenRound)) (places_any a (linear_one (is OpenRound)))
+    (λ o b r. places_then (linear_skip INNER_NESTING_LIMIT CloseRound) (places_any b (linear_skip INNER_NESTING_LIMIT CloseRound)) (λ u c s. places_give c DroppedPart (omega (arith, q, r, s)))))
 
 result_places : (at : ℕ) → Places at result_name (λ to o. Within at (written o) to)
-result_places at = places_or (places_then (linear_one (is Local)) (places_one at (is Local)) (λ t to q. places_then (linear_one (is Equals)) (places_any to (linear_one (is Equals))) (λ e c r. places_give c (Some (name_of t)) (within_on at (name_of t ∷ []) to c r (token_within at t to q.0 q.1)))))
+result_places at = places_or (places_then (linear_one (is Local)) (places_one at (is Local))
+    (λ t to q. places_then (linear_one (is Equals)) (places_any to (linear_one (is Equals)))
+    (λ e c r. places_give c (Some (name_of t)) (within_on at (name_of t ∷ []) to c r (token_within at t to q.0 q.1)))))
     (places_give at None (let z : at ≤ at = omega arith in z))
 
 line_within : (at : ℕ) (name : Option Name) (o : Option Op) (to end : ℕ) → to ≤ end → Within at (written name) to → Within at (part_names (line_of name o)) end
@@ -93,14 +102,18 @@ line_within at (Some n) None to end l h = omega (arith, h.0, h.1, l)
 line_within at None None to end l h = omega (arith, h, l)
 
 op_places : (at : ℕ) → Places at op_line (λ to p. Within at (part_names p) to)
-op_places at = places_then linear_result_name (result_places at) (λ name a q. places_then linear_op (places_any a linear_op) (λ o b r. places_then linear_metadata (places_any b linear_metadata) (λ u c s. places_give c (line_of name o) (line_within at name o a c (omega (arith, r, s)) q))))
+op_places at = places_then linear_result_name (result_places at)
+    (λ name a q. places_then linear_op (places_any a linear_op)
+    (λ o b r. places_then linear_metadata (places_any b linear_metadata) (λ u c s. places_give c (line_of name o) (line_within at name o a c (omega (arith, r, s)) q))))
 
 part_places : (at : ℕ) → Places at part (λ to p. Within at (part_names p) to)
 part_places at = places_or (label_places at) (places_or (debug_places at) (op_places at))
 
 body_places : (at : ℕ) → Places at body (λ to bs. Within at (flat_map block_names bs) to)
-body_places at = places_then (linear_one (is OpenBrace)) (places_any at (linear_one (is OpenBrace))) (λ o a q. places_then (linear_many linear_part) (places_many part_names linear_part part_places a) (λ ps b r. places_then (linear_one (is CloseBrace)) (places_any b (linear_one (is CloseBrace)))
-    (λ t c s. places_give c (blocks_of ps) (subst (λ (xs : List Name). Within at xs c) (sym (blocks_names ps)) (within_more at a (flat_map part_names ps) c q (within_on a (flat_map part_names ps) b c s r))))))
+body_places at = places_then (linear_one (is OpenBrace)) (places_any at (linear_one (is OpenBrace)))
+    (λ o a q. places_then (linear_many linear_part) (places_many part_names linear_part part_places a) (λ ps b r. places_then (linear_one (is CloseBrace)) (places_any b (linear_one (is CloseBrace)))
+    (λ t c s. places_give c (blocks_of ps) (subst (λ (xs : List Name). Within at xs c) (sym (blocks_names ps))
+    (within_more at a (flat_map part_names ps) c q (within_on a (flat_map part_names ps) b c s r))))))
 
 -- ---- lists and parameters
 
@@ -118,12 +131,14 @@ module _ {A : Type 0} {g : Gram A} (names : A → List Name) (e : Linear g) (k :
   listed_places : (close : Class) (at : ℕ) → Places at (listed close g) (λ to all. Within at (flat_map names all) to)
   listed_places close at =
       places_or (places_then (linear_one (is close)) (places_any at (linear_one (is close))) (λ t a q. places_give a [] q))
-      (places_then (linear_separated e) (separated_places at) (λ all a w. places_then (linear_one (is close)) (places_any a (linear_one (is close))) (λ t b q. places_give b all (within_on at (flat_map names all) a b q w))))
+      (places_then (linear_separated e) (separated_places at)
+      (λ all a w. places_then (linear_one (is close)) (places_any a (linear_one (is close))) (λ t b q. places_give b all (within_on at (flat_map names all) a b q w))))
 
 name_places : (at : ℕ) → Places at ((do
   n ← one (is Local)
   give (Some (name_of n))) or give None) (λ to o. Within at (written o) to)
-name_places at = places_or (places_then (linear_one (is Local)) (places_one at (is Local)) (λ t to q. places_give to (Some (name_of t)) (token_within at t to q.0 q.1))) (places_give at None (let z : at ≤ at = omega arith in z))
+name_places at = places_or (places_then (linear_one (is Local)) (places_one at (is Local)) (λ t to q. places_give to (Some (name_of t)) (token_within at t to q.0 q.1)))
+    (places_give at None (let z : at ≤ at = omega arith in z))
 
 abbrev param_names : Param → List Name
 param_names p = written p.name
@@ -131,21 +146,26 @@ param_names p = written p.name
 param_places : (at : ℕ) → Places at param (λ to p. Within at (param_names p) to)
 param_places at =
     places_then (linear_type NESTING_LIMIT) (places_any at (linear_type NESTING_LIMIT)) (λ t a q. places_then linear_attributes (places_any a linear_attributes) (λ u b r.
-    places_then (linear_or (linear_then (linear_one (is Local)) (λ n. linear_give (Some (name_of n)))) (linear_give None)) (name_places b) (λ name c w. places_give {A = Param} c (record { ty = t; name = name }) (within_more at b (written name) c (none_more at a b q r) w))))
+    places_then (linear_or (linear_then (linear_one (is Local)) (λ n. linear_give (Some (name_of n)))) (linear_give None)) (name_places b)
+    (λ name c w. places_give {A = Param} c (record { ty = t; name = name }) (within_more at b (written name) c (none_more at a b q r) w))))
 
 -- ---- items
 
 -- a function's names stand behind the word with which it begins
 define_places : (at : ℕ) → Places at define_whole (λ to d. (at ≤ to) × (ascend 0 (written_names d) ≡ true))
 define_places at =
-    places_then (linear_one (is Define)) (places_one at (is Define)) (λ w a q. places_then linear_attributes (places_any a linear_attributes) (λ u b r. places_then (linear_type NESTING_LIMIT) (places_any b (linear_type NESTING_LIMIT)) (λ t c s. places_then (linear_one global_name) (places_any c (linear_one global_name)) (λ n d x.
+    places_then (linear_one (is Define)) (places_one at (is Define))
+    (λ w a q. places_then linear_attributes (places_any a linear_attributes)
+    (λ u b r. places_then (linear_type NESTING_LIMIT) (places_any b (linear_type NESTING_LIMIT)) (λ t c s. places_then (linear_one global_name) (places_any c (linear_one global_name)) (λ n d x.
     places_then (linear_one (is OpenRound)) (places_any d (linear_one (is OpenRound))) (λ o e y.
-    places_then (linear_listed CloseRound (linear_or linear_param (linear_refused Unsupported (is Dots)))) (listed_places param_names (linear_or linear_param (linear_refused Unsupported (is Dots))) (λ k. places_or (param_places k) (places_refused k Unsupported (is Dots))) CloseRound e)
+    places_then (linear_listed CloseRound (linear_or linear_param (linear_refused Unsupported (is Dots))))
+    (listed_places param_names (linear_or linear_param (linear_refused Unsupported (is Dots))) (λ k. places_or (param_places k) (places_refused k Unsupported (is Dots))) CloseRound e)
     (λ ps f v. places_then linear_attributes (places_any f linear_attributes) (λ u2 g z. places_then linear_body (body_places g) (λ bs h b2.
     places_give {A = Definition} h (record { result = t; name = name_of n; params = ps; blocks = bs })
     (names_within at w a b c d e f g h q.0 q.1 r s x y z (flat_map param_names ps) (flat_map block_names bs) v b2)))))))))
   where
-    names_within : (at : ℕ) (w : Token) (a b c d e f g h : ℕ) → at ≤ w.span.start → a ≡ w.span.start + 1 → a ≤ b → b ≤ c → c ≤ d → d ≤ e → f ≤ g → (xs ys : List Name) → Within e xs f → Within g ys h → (at ≤ h) × (ascend 0 (xs ++ ys) ≡ true)
+    names_within : (at : ℕ) (w : Token) (a b c d e f g h : ℕ) → at ≤ w.span.start → a ≡ w.span.start + 1 → a ≤ b → b ≤ c → c ≤ d → d ≤ e → f ≤ g
+        → (xs ys : List Name) → Within e xs f → Within g ys h → (at ≤ h) × (ascend 0 (xs ++ ys) ≡ true)
     names_within at w a b c d e f g h l k r s x y z xs ys v u =
         let whole : Within e (xs ++ ys) h = within_both e xs g ys h (within_on e xs f g z v) u in
         let low : 1 ≤ e = omega (arith, k, r, s, x, y) in
@@ -158,9 +178,12 @@ item_ascends _ = true
 -- an item, and that a function's names stand in order
 item_places : (at : ℕ) → Places at item (λ to x. (at ≤ to) × (item_ascends x ≡ true))
 item_places at =
-    places_or (places_or (places_then (linear_one metadata_name) (places_any at (linear_one metadata_name)) (λ m a q. places_then linear_node_tail (places_any a linear_node_tail) (λ u b r. places_give b OtherItem (none_more at a b q r, refl))))
-    (places_or (places_then linear_global_head (places_any at linear_global_head) (λ g a q. places_then linear_tails (places_any a linear_tails) (λ u b r. places_give b (GlobalItem g) (none_more at a b q r, refl))))
-    (places_or (places_then linear_declare_head (places_any at linear_declare_head) (λ d a q. places_then linear_attributes (places_any a linear_attributes) (λ u b r. places_give b (DeclareItem d) (none_more at a b q r, refl))))
+    places_or (places_or (places_then (linear_one metadata_name) (places_any at (linear_one metadata_name))
+    (λ m a q. places_then linear_node_tail (places_any a linear_node_tail) (λ u b r. places_give b OtherItem (none_more at a b q r, refl))))
+    (places_or (places_then linear_global_head (places_any at linear_global_head)
+    (λ g a q. places_then linear_tails (places_any a linear_tails) (λ u b r. places_give b (GlobalItem g) (none_more at a b q r, refl))))
+    (places_or (places_then linear_declare_head (places_any at linear_declare_head)
+    (λ d a q. places_then linear_attributes (places_any a linear_attributes) (λ u b r. places_give b (DeclareItem d) (none_more at a b q r, refl))))
     (places_or (places_then linear_define_whole (define_places at) (λ d a q. places_give a (DefineItem d) q))
     (places_or (places_then linear_type_whole (places_any at linear_type_whole) (λ n a q. places_give a (TypeItem n) (q, refl)))
     (places_or (places_then linear_attributes_whole (places_any at linear_attributes_whole) (λ u a q. places_give a OtherItem (q, refl)))
@@ -168,7 +191,9 @@ item_places at =
 
 items_times : (n at : ℕ) → Places at (times item n) (λ to xs. list_all item_ascends xs ≡ true)
 items_times zero at = places_give at [] refl
-items_times (suc n) at = places_then linear_item (item_places at) (λ x to q. places_then (linear_times linear_item n) (items_times n to) (λ xs end w. places_give end (x ∷ xs) (and_from (item_ascends x) (list_all item_ascends xs) q.1 w)))
+items_times (suc n) at =
+    places_then linear_item (item_places at) (λ x to q. places_then (linear_times linear_item n) (items_times n to)
+    (λ xs end w. places_give end (x ∷ xs) (and_from (item_ascends x) (list_all item_ascends xs) q.1 w)))
 
 items_places : (at : ℕ) → Places at (many item) (λ to xs. list_all item_ascends xs ≡ true)
 items_places at = record { place = λ m K us f j. (j.0, (items_times j.0 at).place m K us f j.1) }
@@ -190,7 +215,8 @@ program_places at = places_then (linear_many linear_item) (items_places at) (λ 
 
 read_ascends : (ts : List Token) (m : Tree) → From 0 ts → IsRead program ts m → all_ascend m ≡ true
 read_ascends ts m f j =
-    let q = has_end program_piece ts (λ b us. (to : ℕ) × (all_ascend b ≡ true) × From to us × ((b ≡ m) × (us ≡ []))) (λ b t us i. let z : t ∷ us ≡ [] = i.3.1 in cc) ((program_places 0).place None (λ b us. (b ≡ m) × (us ≡ [])) ts f j) in
+    let q = has_end program_piece ts (λ b us. (to : ℕ) × (all_ascend b ≡ true) × From to us × ((b ≡ m) × (us ≡ []))) (λ b t us i. let z : t ∷ us ≡ [] = i.3.1 in cc)
+    ((program_places 0).place None (λ b us. (b ≡ m) × (us ≡ [])) ts f j) in
     subst (λ b. all_ascend b ≡ true) q.2.3.0 q.2.1
 
 pub module_ascends : (text : List ℕ) (m : Tree) → IsModule text m → all_ascend m ≡ true

@@ -70,11 +70,13 @@ pub places_any : {A : Type 0} {g : Gram A} (at : ℕ) → Linear g → Places at
 places_any {A} {g} at e = record { place = place }
   where
     place : (m : Option Fault) (K : A → Lang) (us : List Token) → From at us → g m K us → g m (λ a vs. (to : ℕ) × (at ≤ to) × From to vs × K a vs) us
-    place m K us f j = e.mono m (λ a vs. EndsWith us vs × K a vs) (λ a vs. (to : ℕ) × (at ≤ to) × From to vs × K a vs) (λ a vs i. let r = from_end i.0.0 at vs (subst (From at) i.0.1 f) in (r.0, r.1, r.2, i.1)) us (e.later m K us j)
+    place m K us f j = e.mono m (λ a vs. EndsWith us vs × K a vs) (λ a vs. (to : ℕ) × (at ≤ to) × From to vs × K a vs)
+        (λ a vs i. let r = from_end i.0.0 at vs (subst (From at) i.0.1 f) in (r.0, r.1, r.2, i.1)) us (e.later m K us j)
 
 pub places_weaken : {A : Type 0} {Q R : ℕ → A → Type 0} {at : ℕ} {g : Gram A} → Linear g → Places at g Q → ((to : ℕ) (a : A) → Q to a → R to a) → Places at g R
 places_weaken {A} {Q} {R} {at} {g} e q k = record {
-  place = λ m K us f j. e.mono m (λ a vs. (to : ℕ) × Q to a × From to vs × K a vs) (λ a vs. (to : ℕ) × R to a × From to vs × K a vs) (λ a vs i. (i.0, k i.0 a i.1, i.2, i.3)) us (q.place m K us f j);
+  place = λ m K us f j. e.mono m (λ a vs. (to : ℕ) × Q to a × From to vs × K a vs) (λ a vs. (to : ℕ) × R to a × From to vs × K a vs) (λ a vs i. (i.0, k i.0 a i.1, i.2, i.3)) us
+      (q.place m K us f j);
 }
 
 pub places_give : {A : Type 0} {R : ℕ → A → Type 0} (at : ℕ) (a : A) → R at a → Places at (give a) R
@@ -94,17 +96,22 @@ places_or {A} {R} {at} {g} {h} e k = record { place = place }
     place m K us f (inl j) = inl (e.place m K us f j)
     place m K us f (inr j) = inr (k.place m K us f j)
 
-pub places_then : {A B : Type 0} {Q : ℕ → A → Type 0} {R : ℕ → B → Type 0} {at : ℕ} {g : Gram A} {h : A → Gram B} → Linear g → Places at g Q → ((a : A) (to : ℕ) → Q to a → Places to (h a) R) → Places at (g then h) R
+pub places_then : {A B : Type 0} {Q : ℕ → A → Type 0} {R : ℕ → B → Type 0} {at : ℕ} {g : Gram A} {h : A → Gram B} → Linear g → Places at g Q
+    → ((a : A) (to : ℕ) → Q to a → Places to (h a) R) → Places at (g then h) R
 places_then {A} {B} {Q} {R} {at} {g} {h} e q k = record {
-  place = λ m K us f j. e.mono m (λ a vs. (to : ℕ) × Q to a × From to vs × h a m K vs) (λ a. h a m (λ b vs. (to : ℕ) × R to b × From to vs × K b vs)) (λ a vs i. (k a i.0 i.1).place m K vs i.2 i.3) us (q.place m (λ a. h a m K) us f j);
+  place = λ m K us f j. e.mono m (λ a vs. (to : ℕ) × Q to a × From to vs × h a m K vs) (λ a. h a m (λ b vs. (to : ℕ) × R to b × From to vs × K b vs))
+      (λ a vs i. (k a i.0 i.1).place m K vs i.2 i.3) us (q.place m (λ a. h a m K) us f j);
 }
 
-pub places_times : {A : Type 0} {g : Gram A} (names : A → List Name) → Linear g → ((at : ℕ) → Places at g (λ to a. Within at (names a) to)) → (n at : ℕ) → Places at (times g n) (λ to all. Within at (flat_map names all) to)
+pub places_times : {A : Type 0} {g : Gram A} (names : A → List Name) → Linear g → ((at : ℕ) → Places at g (λ to a. Within at (names a) to)) → (n at : ℕ)
+    → Places at (times g n) (λ to all. Within at (flat_map names all) to)
 places_times {A} {g} names e k zero at = places_give at [] (let z : at ≤ at = omega arith in z)
 places_times {A} {g} names e k (suc n) at =
-    places_then e (k at) (λ a to w. places_then (linear_times e n) (places_times names e k n to) (λ more end v. places_give end (a ∷ more) (within_both at (names a) to (flat_map names more) end w v)))
+    places_then e (k at) (λ a to w. places_then (linear_times e n) (places_times names e k n to)
+    (λ more end v. places_give end (a ∷ more) (within_both at (names a) to (flat_map names more) end w v)))
 
-pub places_many : {A : Type 0} {g : Gram A} (names : A → List Name) → Linear g → ((at : ℕ) → Places at g (λ to a. Within at (names a) to)) → (at : ℕ) → Places at (many g) (λ to all. Within at (flat_map names all) to)
+pub places_many : {A : Type 0} {g : Gram A} (names : A → List Name) → Linear g → ((at : ℕ) → Places at g (λ to a. Within at (names a) to)) → (at : ℕ)
+    → Places at (many g) (λ to all. Within at (flat_map names all) to)
 places_many {A} {g} names e k at = record { place = λ m K us f j. (j.0, (places_times names e k j.0 at).place m K us f j.1) }
 
 -- ---- the tokens of a text

@@ -1,5 +1,6 @@
 -- A piece where one of its first tokens comes, for lists of pieces that may be refused at their first token.
-use Rattle.std.proofs.Common.{◌≡◌, ℕ, zero, suc, ◌≤◌, List, [], ◌∷◌, ◌++◌, length, Some, None, refl, sym, ap, subst, ◌∙◌, inl, inr, ◌⊎◌, Bool, true, false, IsTrue, if◌then◌else◌}
+use Rattle.std.proofs.Common.{◌≡◌, ℕ, zero, suc, ◌≤◌, List, [], ◌∷◌, ◌++◌, length, Some, None, refl, sym, ap, subst, ◌∙◌, inl, inr, ◌⊎◌, Bool, true}
+use Rattle.std.proofs.Common.{false, IsTrue, if◌then◌else◌}
 use Rattle.pg_grammar.specs.declared.token.Token.{Token}
 use Rattle.pg_grammar.specs.declared.class.Class.{Class}
 use Rattle.pg_grammar.specs.declared.token.Fault.TheVariants.{Unsupported}
@@ -13,7 +14,8 @@ only test g m K ts = (comes test ts ≡ true) × g m K ts
 abbrev pub only_at : {A : Type 0} → (Class → Bool) → (List Token → Read A) → List Token → Read A
 only_at test r ts = if comes test ts then r ts else Bad None ts
 
-pub only_item : {A : Type 0} {r : List Token → Read A} {g : Gram A} {fi ma : Class → Bool} {av : Class → Bool} → Piece r g fi ma false av → Gets fi r → Item (only_at fi r) (only fi g) fi av
+pub only_item : {A : Type 0} {r : List Token → Read A} {g : Gram A} {fi ma : Class → Bool} {av : Class → Bool} → Piece r g fi ma false av → Gets fi r
+    → Item (only_at fi r) (only fi g) fi av
 only_item {A} {r} {g} {fi} {ma} {av} e gets = record {
   piece = record { meets = meets; some = some; begins = λ m K t us j. inl j.0; empty = λ m K j. absurd (let z : false ≡ true = j.0 in cc) };
   gets = record { on = λ t ts i. rw i (gets.on t ts i) };
@@ -71,35 +73,43 @@ only_same : {A : Type 0} (test : Class → Bool) (r : List Token → Read A) (ts
 only_same test r ts h = rw h refl
 
 -- a loop that reads alike where it goes on
-repeat_same : {A : Type 0} (test : Class → Bool) (r s : List Token → Read A) → ((ts : List Token) → comes test ts ≡ true → r ts ≡ s ts) → (n : ℕ) (ts : List Token) → repeat test r n ts ≡ repeat test s n ts
+repeat_same : {A : Type 0} (test : Class → Bool) (r s : List Token → Read A) → ((ts : List Token) → comes test ts ≡ true → r ts ≡ s ts) → (n : ℕ) (ts : List Token)
+    → repeat test r n ts ≡ repeat test s n ts
 unfolding repeat
 repeat_same test r s same zero ts = refl
 repeat_same {A} test r s same (suc n) ts = by (λ rest. repeat_same test r s same n rest) (comes test ts) refl
   where
-    after : ((rest : List Token) → repeat test r n rest ≡ repeat test s n rest) → (x : Read A) → (x >>= λ a rest. repeat test r n rest >>= λ more after. Good (a ∷ more) after) ≡ (x >>= λ a rest. repeat test s n rest >>= λ more after. Good (a ∷ more) after)
+    after : ((rest : List Token) → repeat test r n rest ≡ repeat test s n rest) → (x : Read A)
+        → (x >>= λ a rest. repeat test r n rest >>= λ more after. Good (a ∷ more) after) ≡ (x >>= λ a rest. repeat test s n rest >>= λ more after. Good (a ∷ more) after)
     after rec (Good a rest) = ap (λ y. y >>= λ more after. Good (a ∷ more) after) (rec rest)
     after rec (Bad fault rest) = refl
 
-    by : ((rest : List Token) → repeat test r n rest ≡ repeat test s n rest) → (b : Bool) → comes test ts ≡ b → (if b then (r ts >>= λ a rest. repeat test r n rest >>= λ more after. Good (a ∷ more) after) else Good [] ts) ≡ (if b then (s ts >>= λ a rest. repeat test s n rest >>= λ more after. Good (a ∷ more) after) else Good [] ts)
+    by : ((rest : List Token) → repeat test r n rest ≡ repeat test s n rest) → (b : Bool) → comes test ts ≡ b
+        → (if b then (r ts >>= λ a rest. repeat test r n rest >>= λ more after. Good (a ∷ more) after) else Good [] ts)
+        ≡ (if b then (s ts >>= λ a rest. repeat test s n rest >>= λ more after. Good (a ∷ more) after) else Good [] ts)
     by rec true h = ap (λ x. x >>= λ a rest. repeat test r n rest >>= λ more after. Good (a ∷ more) after) (same ts h) ∙ after rec (s ts)
     by rec false h = refl
 
 pub repeat_only : {A : Type 0} (test : Class → Bool) (r : List Token → Read A) (n : ℕ) (ts : List Token) → repeat test (only_at test r) n ts ≡ repeat test r n ts
 repeat_only test r n ts = repeat_same test (only_at test r) r (only_same test r) n ts
 
-pub run_same : {S B : Type 0} (test : S → Class → Bool) (r s : S → List Token → Read S) (tail : S → List Token → Read B) → ((x : S) (ts : List Token) → comes (test x) ts ≡ true → r x ts ≡ s x ts) → (n : ℕ) (x : S) (ts : List Token) → run test r tail n x ts ≡ run test s tail n x ts
+pub run_same : {S B : Type 0} (test : S → Class → Bool) (r s : S → List Token → Read S) (tail : S → List Token → Read B)
+    → ((x : S) (ts : List Token) → comes (test x) ts ≡ true → r x ts ≡ s x ts) → (n : ℕ) (x : S) (ts : List Token) → run test r tail n x ts ≡ run test s tail n x ts
 unfolding run
 run_same test r s tail same zero x ts = refl
 run_same {S} {B} test r s tail same (suc n) x ts = by (λ next rest. run_same test r s tail same n next rest) (comes (test x) ts) refl
   where
-    after : ((next : S) (rest : List Token) → run test r tail n next rest ≡ run test s tail n next rest) → (y : Read S) → (y >>= λ next rest. run test r tail n next rest) ≡ (y >>= λ next rest. run test s tail n next rest)
+    after : ((next : S) (rest : List Token) → run test r tail n next rest ≡ run test s tail n next rest) → (y : Read S)
+        → (y >>= λ next rest. run test r tail n next rest) ≡ (y >>= λ next rest. run test s tail n next rest)
     after rec (Good next rest) = rec next rest
     after rec (Bad fault rest) = refl
 
-    by : ((next : S) (rest : List Token) → run test r tail n next rest ≡ run test s tail n next rest) → (b : Bool) → comes (test x) ts ≡ b → (if b then (r x ts >>= λ next rest. run test r tail n next rest) else tail x ts) ≡ (if b then (s x ts >>= λ next rest. run test s tail n next rest) else tail x ts)
+    by : ((next : S) (rest : List Token) → run test r tail n next rest ≡ run test s tail n next rest) → (b : Bool) → comes (test x) ts ≡ b
+        → (if b then (r x ts >>= λ next rest. run test r tail n next rest) else tail x ts) ≡ (if b then (s x ts >>= λ next rest. run test s tail n next rest) else tail x ts)
     by rec true h = ap (λ y. y >>= λ next rest. run test r tail n next rest) (same x ts h) ∙ after rec (s x ts)
     by rec false h = refl
 
 -- a piece that is read in another way
-pub read_as : {A : Type 0} {r : List Token → Read A} {g : Gram A} {fi ma : Class → Bool} {nu : Bool} {av : Class → Bool} (s : List Token → Read A) → ((ts : List Token) → r ts ≡ s ts) → Piece r g fi ma nu av → Piece s g fi ma nu av
+pub read_as : {A : Type 0} {r : List Token → Read A} {g : Gram A} {fi ma : Class → Bool} {nu : Bool} {av : Class → Bool} (s : List Token → Read A)
+    → ((ts : List Token) → r ts ≡ s ts) → Piece r g fi ma nu av → Piece s g fi ma nu av
 read_as {A} {r} {g} {fi} {ma} {nu} {av} s same e = record { meets = λ ts. subst (Met g av ts) (same ts) (e.meets ts); some = e.some; begins = e.begins; empty = e.empty }

@@ -6,8 +6,8 @@ use Rattle.pg_grammar.specs.declared.class.Class.TheVariants.{To, Align, Int, Do
 use Rattle.pg_grammar.specs.declared.token.Fault.TheVariants.{Unsupported}
 use Rattle.pg_grammar.specs.Classes.{is}
 use Rattle.pg_grammar.specs.Language.{Gram, one, give, refused, ◌or◌, ◌>>=◌, many}
-use Rattle.pg_grammar.specs.Grammar.{literal_of, drop_value, metadata_name, attributes, flags, type_in}
-use Rattle.pg_grammar.specs.GrammarOps.{typed_value, cast_of, alignment, count, written, call_word, callee, dropped_callee}
+use Rattle.pg_grammar.specs.Grammar.{literal_of, drop_value, metadata_name, flags, type_in}
+use Rattle.pg_grammar.specs.GrammarOps.{typed_value, cast_of, alignment, count}
 use Rattle.pg_grammar.specs.GrammarItems.{metadata}
 use Rattle.pg_grammar.proofs.Listings.{comma_item, ending}
 use Rattle.pg_ast.specs.Syntax.{Op, Count, Written}
@@ -91,21 +91,6 @@ written_first = do
           more ← ending (drop_value (one (is Dots))) all
           _ ← one (is CloseRound)
           give (record { types = t ∷ more.items; dots = more.comma }))))
-
--- a call without the attributes behind its arguments
-abbrev pub call_head : Gram (Option Op)
-call_head = do
-  o ← call_word
-  _ ← attributes
-  t ← type_in NESTING_LIMIT
-  w ← (do
-    w ← written
-    give (Some w)) or give None
-  (do
-    _ ← dropped_callee
-    give None) or (do
-      c ← callee o t w
-      give (Some c))
 
 -- ---- a list behind commas, and metadata
 

@@ -6,9 +6,9 @@ use Rattle.pg_grammar.specs.declared.token.Fault.{Fault}
 use Rattle.pg_grammar.specs.Classes.{◌∪◌, none}
 use Rattle.pg_grammar.specs.Language.{Lang, Gram, ◌or◌}
 use Rattle.pg_grammar.specs.Reading.{Read, comes, choose}
-use Rattle.pg_grammar.proofs.ClassTests.{within, in_left, in_right, in_one}
+use Rattle.pg_grammar.proofs.ClassTests.{within, in_left, in_right}
 use Rattle.pg_grammar.proofs.Pieces.{Piece, Item, Gets, Met, Went, Stopped, Stops, Avoids, Alive, Same, Full, Marked, Blamed, same_front, avoids_less, too_long, rest_of, not_first}
-use Rattle.pg_grammar.proofs.Rules.{within_self}
+use Rattle.pg_grammar.proofs.Rules.{gets_choose, within_self}
 
 -- a piece that doesn't begin with such a token
 abbrev pub past : {A : Type 0} → (Class → Bool) → Gram A → Gram A
@@ -31,11 +31,13 @@ past_piece {A} r g fi av s h fj mb aw ax e gets k wi wj = record {
   empty = empty;
 }
   where
-    begins : (m : Option Fault) (K : A → Lang) (t : Token) (us : List Token) → (g or past fi h) m K (t ∷ us) → IsTrue ((fi ∪ fj) t.class) ⊎ ((IsTrue (mb t.class) × Marked m us) ⊎ (IsTrue false × ((a : A) × K a (t ∷ us))))
+    begins : (m : Option Fault) (K : A → Lang) (t : Token) (us : List Token) → (g or past fi h) m K (t ∷ us)
+        → IsTrue ((fi ∪ fj) t.class) ⊎ ((IsTrue (mb t.class) × Marked m us) ⊎ (IsTrue false × ((a : A) × K a (t ∷ us))))
     begins m K t us (inl j) = inl (in_left (fi t.class) (fj t.class) (not_first r g fi av e m K t us j))
     begins m K t us (inr j) = pick (k.begins m K t us j.1)
       where
-        pick : IsTrue (fj t.class) ⊎ ((IsTrue (mb t.class) × Marked m us) ⊎ (IsTrue false × ((a : A) × K a (t ∷ us)))) → IsTrue ((fi ∪ fj) t.class) ⊎ ((IsTrue (mb t.class) × Marked m us) ⊎ (IsTrue false × ((a : A) × K a (t ∷ us))))
+        pick : IsTrue (fj t.class) ⊎ ((IsTrue (mb t.class) × Marked m us) ⊎ (IsTrue false × ((a : A) × K a (t ∷ us))))
+            → IsTrue ((fi ∪ fj) t.class) ⊎ ((IsTrue (mb t.class) × Marked m us) ⊎ (IsTrue false × ((a : A) × K a (t ∷ us))))
         pick (inl b) = inl (in_right (fi t.class) (fj t.class) b)
         pick (inr b) = inr b
 
@@ -75,7 +77,8 @@ past_piece {A} r g fi av s h fj mb aw ax e gets k wi wj = record {
     never : (ts us : List Token) → comes fi ts ≡ false → Same us ts → (m : Option Fault) (K : A → Lang) → g m K us → ⊥
     never ts [] n same m K j = let z : false ≡ true = (e.empty m K j).0 in absurd cc
     never [] (u ∷ us) n same m K j = same
-    never (t ∷ ts) (u ∷ us) n same m K j = let p : fi u.class ≡ true = not_first r g fi av e m K u us j in let q : fi u.class ≡ false = subst (λ v. fi v.class ≡ false) (sym same) n in absurd cc
+    never (t ∷ ts) (u ∷ us) n same m K j = let p : fi u.class ≡ true = not_first r g fi av e m K u us j in let q : fi u.class ≡ false =
+        subst (λ v. fi v.class ≡ false) (sym same) n in absurd cc
 
     right_side : (ts : List Token) (x : Read A) → comes fi ts ≡ false → Met h aw ts x → Met (g or past fi h) ax ts x
     right_side ts _ n (Went a [] rest split o) = absurd (let z : false ≡ true = (k.empty None (λ b us. Unit {0}) (o.sound None (λ b us. Unit {0}) [] tt)).0 in cc)
@@ -114,13 +117,5 @@ pub item_past : {A : Type 0} {r : List Token → Read A} {g : Gram A} {fi av : C
     → Item r g fi av → Item s h fj av → Item (choose fi r s) (g or past fi h) (fi ∪ fj) av
 item_past {A} {r} {g} {fi} {av} {s} {h} {fj} e k = record {
   piece = past_piece r g fi av s h fj none av av e.piece e.gets k.piece (within_self av) (within_self av);
-  gets = record { on = λ t ts i. by t ts i (fi t.class) refl };
+  gets = gets_choose e.gets k.gets;
 }
-  where
-    by : (t : Token) (ts : List Token) → IsTrue ((fi ∪ fj) t.class) → (b : Bool) → fi t.class ≡ b → length (rest_of (if b then r (t ∷ ts) else s (t ∷ ts))) ≤ length ts
-    by t ts i true p = e.gets.on t ts p
-    by t ts i false p = k.gets.on t ts (other (in_one (fi t.class) (fj t.class) i))
-      where
-        other : (fi t.class ≡ true) ⊎ (fj t.class ≡ true) → IsTrue (fj t.class)
-        other (inl z) = absurd cc
-        other (inr z) = z

@@ -59,7 +59,8 @@ pub data Met {A : Type 0} (g : Gram A) (av : Class → Bool) (ts : List Token) :
 pub record Piece {A : Type 0} (r : List Token → Read A) (g : Gram A) (fi ma : Class → Bool) (nu : Bool) (av : Class → Bool) : Type 1 where
   pub meets : (ts : List Token) → Met g av ts (r ts)
   pub some : (K : A → Lang) → Alive K → (us : List Token) × g None K us
-  pub begins : (m : Option Fault) (K : A → Lang) (t : Token) (us : List Token) → g m K (t ∷ us) → IsTrue (fi t.class) ⊎ ((IsTrue (ma t.class) × Marked m us) ⊎ (IsTrue nu × ((a : A) × K a (t ∷ us))))
+  pub begins : (m : Option Fault) (K : A → Lang) (t : Token) (us : List Token) → g m K (t ∷ us)
+      → IsTrue (fi t.class) ⊎ ((IsTrue (ma t.class) × Marked m us) ⊎ (IsTrue nu × ((a : A) × K a (t ∷ us))))
   pub empty : (m : Option Fault) (K : A → Lang) → g m K [] → IsTrue nu × ((a : A) × K a [])
 
 pub same_front : (front us rest : List Token) → Same us rest → Same (front ++ us) (front ++ rest)
@@ -98,7 +99,8 @@ too_long t ts rest e h = let n : length (t ∷ ts) ≡ length rest = ap length e
 pub avoids_less : {A : Type 0} (av aw : Class → Bool) (m : Option Fault) (K : A → Lang) → within av aw ≡ true → Avoids aw m K → Avoids av m K
 avoids_less av aw m K w avoids a t us i j = avoids a t us (within_is av aw w t.class i) j
 
-pub not_first : {A : Type 0} (r : List Token → Read A) (g : Gram A) (fi av : Class → Bool) → Piece r g fi none false av → (m : Option Fault) (K : A → Lang) (t : Token) (us : List Token) → g m K (t ∷ us) → IsTrue (fi t.class)
+pub not_first : {A : Type 0} (r : List Token → Read A) (g : Gram A) (fi av : Class → Bool) → Piece r g fi none false av → (m : Option Fault) (K : A → Lang) (t : Token) (us : List Token)
+    → g m K (t ∷ us) → IsTrue (fi t.class)
 not_first {A} r g fi av e m K t us j = pick (e.begins m K t us j)
   where
     pick : IsTrue (fi t.class) ⊎ ((IsTrue (none t.class) × Marked m us) ⊎ (IsTrue false × ((a : A) × K a (t ∷ us)))) → IsTrue (fi t.class)

@@ -1,5 +1,6 @@
 -- Any number of a piece.
-use Rattle.std.proofs.Common.{◌≡◌, ℕ, zero, suc, ◌≤◌, List, [], ◌∷◌, ◌++◌, length, Option, Some, None, refl, sym, ap, subst, ◌∙◌, arith, inl, inr, ◌⊎◌, Bool, true, false, IsTrue, if◌then◌else◌, append_assoc}
+use Rattle.std.proofs.Common.{◌≡◌, ℕ, zero, suc, ◌≤◌, List, [], ◌∷◌, ◌++◌, length, Option, Some, None, refl, sym, ap, subst, ◌∙◌, arith, inl, inr, ◌⊎◌}
+use Rattle.std.proofs.Common.{Bool, true, false, IsTrue, if◌then◌else◌, append_assoc}
 use Rattle.pg_grammar.specs.declared.token.Token.{Token}
 use Rattle.pg_grammar.specs.declared.class.Class.{Class}
 use Rattle.pg_grammar.specs.declared.token.Fault.{Fault}
@@ -21,7 +22,8 @@ many_piece {A} r g fi av aw e gets ap1 wi wk = record {
   empty = empty;
 }
   where
-    begins : (m : Option Fault) (K : List A → Lang) (t : Token) (us : List Token) → many g m K (t ∷ us) → IsTrue (fi t.class) ⊎ ((IsTrue (none t.class) × Marked m us) ⊎ (IsTrue true × ((a : List A) × K a (t ∷ us))))
+    begins : (m : Option Fault) (K : List A → Lang) (t : Token) (us : List Token) → many g m K (t ∷ us)
+        → IsTrue (fi t.class) ⊎ ((IsTrue (none t.class) × Marked m us) ⊎ (IsTrue true × ((a : List A) × K a (t ∷ us))))
     begins m K t us (zero, j) = inr (inr (refl, ([], j)))
     begins m K t us (suc n, j) = inl (not_first r g fi av e m (λ a. times g n m (λ more. K (a ∷ more))) t us j)
 
@@ -55,29 +57,65 @@ many_piece {A} r g fi av aw e gets ap1 wi wk = record {
         never m K (u ∷ us) same j = let p : fi u.class ≡ true = not_first r g fi av e m K u us j in let q : fi u.class ≡ false = subst (λ v. fi v.class ≡ false) (sym same) n in absurd cc
 
     -- after one item
-    more : (t : Token) (ts : List Token) (a : A) (front rest : List Token) → t ∷ ts ≡ t ∷ front ++ rest → IsTrue (fi t.class) → Goes g av a (t ∷ front) rest → (y : Read (List A)) → Met (many g) aw rest y
+    more : (t : Token) (ts : List Token) (a : A) (front rest : List Token) → t ∷ ts ≡ t ∷ front ++ rest → IsTrue (fi t.class) → Goes g av a (t ∷ front) rest → (y : Read (List A))
+        → Met (many g) aw rest y
         → Met (many g) aw (t ∷ ts) (y >>= λ bs after. Good (a ∷ bs) after)
-    more t ts a front rest split i o _ (Went bs front' rest' split' p) = Went (a ∷ bs) (t ∷ front ++ front') rest' (split ∙ ap (λ xs. t ∷ front ++ xs) split' ∙ ap (λ xs. t ∷ xs) (sym (append_assoc front front' rest'))) (record {
-      sound = λ m K us j. let q = p.sound m (λ cs. K (a ∷ cs)) us j in (suc q.0, subst (λ xs. g m (λ b. times g q.0 m (λ cs. K (b ∷ cs))) (t ∷ xs)) (sym (append_assoc front front' us)) (o.sound m (λ b. times g q.0 m (λ cs. K (b ∷ cs))) (front' ++ us) q.1));
-      back = back;
-    })
+    more t ts a front rest split i o _ (Went bs front' rest' split' p) =
+        Went (a ∷ bs) (t ∷ front ++ front') rest' (split ∙ ap (λ xs. t ∷ front ++ xs) split' ∙ ap (λ xs. t ∷ xs) (sym (append_assoc front front' rest'))) (record {
+          sound = λ m K us j. let q = p.sound m (λ cs. K (a ∷ cs)) us j in (
+            suc q.0,
+            subst (λ xs. g m (λ b. times g q.0 m (λ cs. K (b ∷ cs))) (t ∷ xs)) (sym (append_assoc front front' us))
+                (o.sound m (λ b. times g q.0 m (λ cs. K (b ∷ cs))) (front' ++ us) q.1),
+          );
+          back = back;
+        })
       where
         back : (m : Option Fault) (K : List A → Lang) (us : List Token) → Avoids aw m K → Same us rest' → Full m us → many g m K (t ∷ (front ++ front') ++ us) → K (a ∷ bs) us
-        back m K us avoids same full (zero, j) = absurd (not_marked m ((front ++ front') ++ us) (full_front (front ++ front') m us full) (avoids [] t ((front ++ front') ++ us) (within_is fi aw wk t.class i) j))
-        back m K us avoids same full (suc n, j) = p.back m (λ cs. K (a ∷ cs)) us (λ bs. avoids (a ∷ bs)) same full
-            (n, o.back m (λ b. times g n m (λ cs. K (b ∷ cs))) (front' ++ us) (avoids_more m K n avoids) (subst (Same (front' ++ us)) (sym split') (same_front front' us rest' same)) (full_front front' m us full) (subst (λ xs. g m (λ b. times g n m (λ cs. K (b ∷ cs))) (t ∷ xs)) (append_assoc front front' us) j))
-    more t ts a front rest split i o _ (Stopped fault front' rest' split' p) = Stopped fault (t ∷ front ++ front') rest' (split ∙ ap (λ xs. t ∷ front ++ xs) split' ∙ ap (λ xs. t ∷ xs) (sym (append_assoc front front' rest'))) (record {
-      alive = λ K alive. let q = p.alive (λ cs. K (a ∷ cs)) (λ bs. alive (a ∷ bs)) in (q.0, (suc q.1.0, subst (λ xs. g None (λ b. times g q.1.0 None (λ cs. K (b ∷ cs))) (t ∷ xs)) (sym (append_assoc front front' q.0)) (o.sound None (λ b. times g q.1.0 None (λ cs. K (b ∷ cs))) (front' ++ q.0) q.1.1)));
-      dead = dead;
-      marked = λ m K w. let q = p.marked m (λ cs. K (a ∷ cs)) w in (q.0, q.1, q.2, (suc q.3.0, subst (λ xs. g (Some m) (λ b. times g q.3.0 (Some m) (λ cs. K (b ∷ cs))) (t ∷ xs)) (sym (append_assoc front front' (q.0 ∷ []))) (o.sound (Some m) (λ b. times g q.3.0 (Some m) (λ cs. K (b ∷ cs))) (front' ++ q.0 ∷ []) q.3.1)));
-    })
+        back m K us avoids same full (
+          zero,
+          j,
+        ) = absurd (not_marked m ((front ++ front') ++ us) (full_front (front ++ front') m us full) (avoids [] t ((front ++ front') ++ us) (within_is fi aw wk t.class i) j))
+        back m K us avoids same full (suc n, j) = p.back m (λ cs. K (a ∷ cs)) us (λ bs. avoids (a ∷ bs)) same full (
+          n,
+          o.back m (λ b. times g n m (λ cs. K (b ∷ cs))) (front' ++ us) (avoids_more m K n avoids) (subst (Same (front' ++ us)) (sym split') (same_front front' us rest' same))
+              (full_front front' m us full) (subst (λ xs. g m (λ b. times g n m (λ cs. K (b ∷ cs))) (t ∷ xs)) (append_assoc front front' us) j),
+        )
+    more t ts a front rest split i o _ (Stopped fault front' rest' split' p) =
+        Stopped fault (t ∷ front ++ front') rest' (split ∙ ap (λ xs. t ∷ front ++ xs) split' ∙ ap (λ xs. t ∷ xs) (sym (append_assoc front front' rest'))) (record {
+          alive = λ K alive. let q = p.alive (λ cs. K (a ∷ cs)) (λ bs. alive (a ∷ bs)) in (
+            q.0,
+            (
+              suc q.1.0,
+              subst (λ xs. g None (λ b. times g q.1.0 None (λ cs. K (b ∷ cs))) (t ∷ xs)) (sym (append_assoc front front' q.0))
+                  (o.sound None (λ b. times g q.1.0 None (λ cs. K (b ∷ cs))) (front' ++ q.0) q.1.1),
+            ),
+          );
+          dead = dead;
+          marked = λ m K w. let q = p.marked m (λ cs. K (a ∷ cs)) w in (
+            q.0,
+            q.1,
+            q.2,
+            (
+              suc q.3.0,
+              subst (λ xs. g (Some m) (λ b. times g q.3.0 (Some m) (λ cs. K (b ∷ cs))) (t ∷ xs)) (sym (append_assoc front front' (q.0 ∷ [])))
+                  (o.sound (Some m) (λ b. times g q.3.0 (Some m) (λ cs. K (b ∷ cs))) (front' ++ q.0 ∷ []) q.3.1),
+            ),
+          );
+        })
       where
         dead : (m : Option Fault) (K : List A → Lang) (us : List Token) → Avoids aw m K → Same us rest' → Full m us → many g m K (t ∷ (front ++ front') ++ us) → Blamed m fault
-        dead m K us avoids same full (zero, j) = absurd (not_marked m ((front ++ front') ++ us) (full_front (front ++ front') m us full) (avoids [] t ((front ++ front') ++ us) (within_is fi aw wk t.class i) j))
-        dead m K us avoids same full (suc n, j) = p.dead m (λ cs. K (a ∷ cs)) us (λ bs. avoids (a ∷ bs)) same full
-            (n, o.back m (λ b. times g n m (λ cs. K (b ∷ cs))) (front' ++ us) (avoids_more m K n avoids) (subst (Same (front' ++ us)) (sym split') (same_front front' us rest' same)) (full_front front' m us full) (subst (λ xs. g m (λ b. times g n m (λ cs. K (b ∷ cs))) (t ∷ xs)) (append_assoc front front' us) j))
+        dead m K us avoids same full (
+          zero,
+          j,
+        ) = absurd (not_marked m ((front ++ front') ++ us) (full_front (front ++ front') m us full) (avoids [] t ((front ++ front') ++ us) (within_is fi aw wk t.class i) j))
+        dead m K us avoids same full (suc n, j) = p.dead m (λ cs. K (a ∷ cs)) us (λ bs. avoids (a ∷ bs)) same full (
+          n,
+          o.back m (λ b. times g n m (λ cs. K (b ∷ cs))) (front' ++ us) (avoids_more m K n avoids) (subst (Same (front' ++ us)) (sym split') (same_front front' us rest' same))
+              (full_front front' m us full) (subst (λ xs. g m (λ b. times g n m (λ cs. K (b ∷ cs))) (t ∷ xs)) (append_assoc front front' us) j),
+        )
 
-    mutual_step : (n : ℕ) → ((ts : List Token) → length ts ≤ n → Met (many g) aw ts (repeat fi r n ts)) → (t : Token) (ts : List Token) → length ts ≤ n → IsTrue (fi t.class) → (x : Read A) → length (rest_of x) ≤ length ts → Met g av (t ∷ ts) x
+    mutual_step : (n : ℕ) → ((ts : List Token) → length ts ≤ n → Met (many g) aw ts (repeat fi r n ts)) → (t : Token) (ts : List Token) → length ts ≤ n → IsTrue (fi t.class)
+        → (x : Read A) → length (rest_of x) ≤ length ts → Met g av (t ∷ ts) x
         → Met (many g) aw (t ∷ ts) (x >>= λ a rest. repeat fi r n rest >>= λ bs after. Good (a ∷ bs) after)
     mutual_step n rec t ts l i _ s (Went a [] rest split o) = absurd (too_long t ts rest split s)
     mutual_step n rec t ts l i _ s (Stopped fault [] rest split o) = absurd (too_long t ts rest split s)

@@ -1,5 +1,6 @@
 -- No token, one token, and a piece behind another.
-use Rattle.std.proofs.Common.{◌≡◌, List, [], ◌∷◌, ◌++◌, Option, Some, None, refl, sym, ap, subst, ◌∙◌, inl, inr, ◌⊎◌, Bool, true, false, IsTrue, if◌then◌else◌, append_assoc, ◌&&◌}
+use Rattle.std.proofs.Common.{◌≡◌, List, [], ◌∷◌, ◌++◌, Option, Some, None, refl, sym, ap, subst, ◌∙◌, inl, inr, ◌⊎◌, Bool, true, false, IsTrue}
+use Rattle.std.proofs.Common.{if◌then◌else◌, append_assoc, ◌&&◌}
 use Rattle.pg_grammar.specs.declared.token.Token.{Token}
 use Rattle.pg_grammar.specs.declared.class.Class.{Class}
 use Rattle.pg_grammar.specs.declared.token.Fault.{Fault}
@@ -15,21 +16,30 @@ abbrev pub Fits : {A B : Type 0} → (Class → Bool) → (A → Gram B) → (Cl
 Fits {A} {B} av h aw = (m : Option Fault) (K : B → Lang) → Avoids aw m K → Avoids av m (λ a. h a m K)
 
 then_meets : {A B : Type 0} (r : List Token → Read A) (g : Gram A) (av : Class → Bool) (f : A → List Token → Read B) (h : A → Gram B) (aw : Class → Bool)
-    → ((ts : List Token) → Met g av ts (r ts)) → ((a : A) (ts : List Token) → Met (h a) aw ts (f a ts)) → ((a : A) (K : B → Lang) → Alive K → (us : List Token) × h a None K us) → Fits av h aw → (ts : List Token) → Met (g then h) aw ts (r ts >>= f)
+    → ((ts : List Token) → Met g av ts (r ts)) → ((a : A) (ts : List Token) → Met (h a) aw ts (f a ts)) → ((a : A) (K : B → Lang) → Alive K → (us : List Token) × h a None K us)
+    → Fits av h aw → (ts : List Token) → Met (g then h) aw ts (r ts >>= f)
 then_meets {A} {B} r g av f h aw e k some fits ts = first (r ts) (e ts)
   where
     second : (a : A) (front rest : List Token) → ts ≡ front ++ rest → Goes g av a front rest → (x : Read B) → Met (h a) aw rest x → Met (g then h) aw ts x
     second a front rest split o _ (Went b front' rest' split' p) = Went b (front ++ front') rest' (split ∙ ap (λ xs. front ++ xs) split' ∙ sym (append_assoc front front' rest')) (record {
       sound = λ m K us j. rw (append_assoc front front' us) (o.sound m (λ a. h a m K) (front' ++ us) (p.sound m K us j));
       back = λ m K us avoids same full j. p.back m K us avoids same full
-          (o.back m (λ a. h a m K) (front' ++ us) (fits m K avoids) (subst (Same (front' ++ us)) (sym split') (same_front front' us rest' same)) (full_front front' m us full) (subst (g m (λ a. h a m K)) (append_assoc front front' us) j));
+          (o.back m (λ a. h a m K) (front' ++ us) (fits m K avoids) (subst (Same (front' ++ us)) (sym split') (same_front front' us rest' same)) (full_front front' m us full)
+          (subst (g m (λ a. h a m K)) (append_assoc front front' us) j));
     })
-    second a front rest split o _ (Stopped fault front' rest' split' p) = Stopped fault (front ++ front') rest' (split ∙ ap (λ xs. front ++ xs) split' ∙ sym (append_assoc front front' rest')) (record {
-      alive = λ K alive. let q = p.alive K alive in (q.0, subst (g None (λ a. h a None K)) (sym (append_assoc front front' q.0)) (o.sound None (λ a. h a None K) (front' ++ q.0) q.1));
-      dead = λ m K us avoids same full j. p.dead m K us avoids same full
-          (o.back m (λ a. h a m K) (front' ++ us) (fits m K avoids) (subst (Same (front' ++ us)) (sym split') (same_front front' us rest' same)) (full_front front' m us full) (subst (g m (λ a. h a m K)) (append_assoc front front' us) j));
-      marked = λ m K t. let q = p.marked m K t in (q.0, q.1, q.2, subst (g (Some m) (λ a. h a (Some m) K)) (sym (append_assoc front front' (q.0 ∷ []))) (o.sound (Some m) (λ a. h a (Some m) K) (front' ++ q.0 ∷ []) q.3));
-    })
+    second a front rest split o _ (Stopped fault front' rest' split' p) =
+        Stopped fault (front ++ front') rest' (split ∙ ap (λ xs. front ++ xs) split' ∙ sym (append_assoc front front' rest')) (record {
+          alive = λ K alive. let q = p.alive K alive in (q.0, subst (g None (λ a. h a None K)) (sym (append_assoc front front' q.0)) (o.sound None (λ a. h a None K) (front' ++ q.0) q.1));
+          dead = λ m K us avoids same full j. p.dead m K us avoids same full
+              (o.back m (λ a. h a m K) (front' ++ us) (fits m K avoids) (subst (Same (front' ++ us)) (sym split') (same_front front' us rest' same)) (full_front front' m us full)
+              (subst (g m (λ a. h a m K)) (append_assoc front front' us) j));
+          marked = λ m K t. let q = p.marked m K t in (
+            q.0,
+            q.1,
+            q.2,
+            subst (g (Some m) (λ a. h a (Some m) K)) (sym (append_assoc front front' (q.0 ∷ []))) (o.sound (Some m) (λ a. h a (Some m) K) (front' ++ q.0 ∷ []) q.3),
+          );
+        })
 
     first : (x : Read A) → Met g av ts x → Met (g then h) aw ts (x >>= f)
     first _ (Went a front rest split o) = second a front rest split o (f a rest) (k a rest)
@@ -39,7 +49,8 @@ then_meets {A} {B} r g av f h aw e k some fits ts = first (r ts) (e ts)
       marked = λ m K t. o.marked m (λ a. h a (Some m) K) t;
     })
 
-pub then_piece : {A B : Type 0} (r : List Token → Read A) (g : Gram A) (fi ma : Class → Bool) (nu : Bool) (av : Class → Bool) (f : A → List Token → Read B) (h : A → Gram B) (fj mb : Class → Bool) (nv : Bool) (aw : Class → Bool)
+pub then_piece : {A B : Type 0} (r : List Token → Read A) (g : Gram A) (fi ma : Class → Bool) (nu : Bool) (av : Class → Bool) (f : A → List Token → Read B) (h : A → Gram B)
+    (fj mb : Class → Bool) (nv : Bool) (aw : Class → Bool)
     → Piece r g fi ma nu av → ((a : A) → Piece (f a) (h a) fj mb nv aw) → apart av fj ≡ true → (if nv then within av aw else true) ≡ true
     → Piece (λ ts. r ts >>= f) (g then h) (fi ∪ (λ c. nu && fj c)) (ma ∪ (λ c. nu && mb c)) (nu && nv) aw
 then_piece {A} {B} r g fi ma nu av f h fj mb nv aw e k ap1 wi = record {
@@ -59,7 +70,8 @@ then_piece {A} {B} r g fi ma nu av f h fj mb nv aw e k ap1 wi = record {
     begin m K t us (inr (inl a)) = inr (inl (in_left (ma t.class) (nu && mb t.class) a.0, a.1))
     begin m K t us (inr (inr a)) = begin2 ((k a.1.0).begins m K t us a.1.1)
       where
-        begin2 : IsTrue (fj t.class) ⊎ ((IsTrue (mb t.class) × Marked m us) ⊎ (IsTrue nv × ((b : B) × K b (t ∷ us)))) → IsTrue ((fi ∪ (λ c. nu && fj c)) t.class) ⊎ ((IsTrue ((ma ∪ (λ c. nu && mb c)) t.class) × Marked m us) ⊎ (IsTrue (nu && nv) × ((b : B) × K b (t ∷ us))))
+        begin2 : IsTrue (fj t.class) ⊎ ((IsTrue (mb t.class) × Marked m us) ⊎ (IsTrue nv × ((b : B) × K b (t ∷ us))))
+            → IsTrue ((fi ∪ (λ c. nu && fj c)) t.class) ⊎ ((IsTrue ((ma ∪ (λ c. nu && mb c)) t.class) × Marked m us) ⊎ (IsTrue (nu && nv) × ((b : B) × K b (t ∷ us))))
         begin2 (inl b) = inl (in_right (fi t.class) (nu && fj t.class) (both nu (fj t.class) a.0 b))
         begin2 (inr (inl b)) = inr (inl (in_right (ma t.class) (nu && mb t.class) (both nu (mb t.class) a.0 b.0), b.1))
         begin2 (inr (inr b)) = inr (inr (both nu nv a.0 b.0, b.1))

@@ -38,17 +38,20 @@ apart_by_label p b bs k = by (ends p) refl
     by false h = ap (λ c. if c || has_label b.label then alone p ∷ b ∷ bs else with_front p b ∷ bs) h ∙ ap (λ c. if c then alone p ∷ b ∷ bs else with_front p b ∷ bs) k
 
 -- the blocks of one more in front
-one_more : (c : List Part) (bs : List (List Part)) → IsBlock c → (bs ≡ []) ⊎ ((q : Part) × (ps : List Part) × (cs : List (List Part)) × (bs ≡ (q ∷ ps) ∷ cs) × ((is_ended c ≡ true) ⊎ (is_label q ≡ true)))
+one_more : (c : List Part) (bs : List (List Part)) → IsBlock c → (bs ≡ [])
+    ⊎ ((q : Part) × (ps : List Part) × (cs : List (List Part)) × (bs ≡ (q ∷ ps) ∷ cs) × ((is_ended c ≡ true) ⊎ (is_label q ≡ true)))
     → blocks_of (joined bs) ≡ map block_of bs → blocks_of (c ++ joined bs) ≡ block_of c ∷ map block_of bs
 unfolding blocks_of
 one_more [] bs i k e = absurd i
 one_more (p ∷ []) bs i (inl w) e = ap (before p) e ∙ ap (λ xs. before p (map block_of xs)) w ∙ ap (λ b. b ∷ []) (alone_is p) ∙ ap (λ xs. block_of (p ∷ []) ∷ map block_of xs) (sym w)
-one_more (p ∷ []) bs i (inr (q, ps, cs, w, d)) e = ap (before p) e ∙ ap (λ xs. before p (map block_of xs)) w ∙ cut d ∙ ap (λ b. b ∷ block_of (q ∷ ps) ∷ map block_of cs) (alone_is p) ∙ ap (λ xs. block_of (p ∷ []) ∷ map block_of xs) (sym w)
+one_more (p ∷ []) bs i (inr (q, ps, cs, w, d)) e = ap (before p) e ∙ ap (λ xs. before p (map block_of xs)) w ∙ cut d
+    ∙ ap (λ b. b ∷ block_of (q ∷ ps) ∷ map block_of cs) (alone_is p) ∙ ap (λ xs. block_of (p ∷ []) ∷ map block_of xs) (sym w)
   where
     cut : ((ends p ≡ true) ⊎ (is_label q ≡ true)) → before p (block_of (q ∷ ps) ∷ map block_of cs) ≡ alone p ∷ block_of (q ∷ ps) ∷ map block_of cs
     cut (inl h) = apart_by_end p (block_of (q ∷ ps)) (map block_of cs) h
     cut (inr h) = apart_by_label p (block_of (q ∷ ps)) (map block_of cs) (label_is q ps ∙ h)
-one_more (p ∷ q ∷ ps) bs i k e = ap (before p) (one_more (q ∷ ps) bs i.2 k e) ∙ join p (block_of (q ∷ ps)) (map block_of bs) i.0 (label_is q ps ∙ i.1) ∙ ap (λ b. b ∷ map block_of bs) (front_is p q ps i.1)
+one_more (p ∷ q ∷ ps) bs i k e = ap (before p) (one_more (q ∷ ps) bs i.2 k e) ∙ join p (block_of (q ∷ ps)) (map block_of bs) i.0 (label_is q ps ∙ i.1)
+    ∙ ap (λ b. b ∷ map block_of bs) (front_is p q ps i.1)
 
 pub blocks_are : (bs : List (List Part)) → AreBlocks bs → blocks_of (joined bs) ≡ map block_of bs
 unfolding blocks_of

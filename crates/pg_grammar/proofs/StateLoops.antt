@@ -1,5 +1,6 @@
 -- A piece that goes from state to state, an item at a time, and ends by what its last state says.
-use Rattle.std.proofs.Common.{◌≡◌, ℕ, zero, suc, ◌≤◌, List, [], ◌∷◌, ◌++◌, length, Option, Some, None, refl, sym, ap, subst, ◌∙◌, arith, inl, inr, ◌⊎◌, Bool, true, false, IsTrue, if◌then◌else◌, append_assoc}
+use Rattle.std.proofs.Common.{◌≡◌, ℕ, zero, suc, ◌≤◌, List, [], ◌∷◌, ◌++◌, length, Option, Some, None, refl, sym, ap, subst, ◌∙◌, arith, inl, inr, ◌⊎◌}
+use Rattle.std.proofs.Common.{Bool, true, false, IsTrue, if◌then◌else◌, append_assoc}
 use Rattle.pg_grammar.specs.declared.token.Token.{Token}
 use Rattle.pg_grammar.specs.declared.class.Class.{Class}
 use Rattle.pg_grammar.specs.declared.token.Fault.{Fault}
@@ -19,7 +20,8 @@ abbrev pub loops : {S B : Type 0} → (S → Gram S) → (S → Gram B) → S �
 loops g tail s m K ts = (n : ℕ) × loop g tail n s m K ts
 
 -- what the items and tails are, state by state: nothing begins with what may not stand behind an item
-pub record States {S B : Type 0} (r : S → List Token → Read S) (g : S → Gram S) (fi : S → Class → Bool) (ai : Class → Bool) (end : S → List Token → Read B) (tail : S → Gram B) (fj mb : S → Class → Bool) (nv : S → Bool) (aw : Class → Bool) : Type 1 where
+pub record States {S B : Type 0} (r : S → List Token → Read S) (g : S → Gram S) (fi : S → Class → Bool) (ai : Class → Bool) (end : S → List Token → Read B) (tail : S → Gram B)
+    (fj mb : S → Class → Bool) (nv : S → Bool) (aw : Class → Bool) : Type 1 where
   pub items : (s : S) → Piece (r s) (g s) (fi s) none false ai
   pub gets : (s : S) → Gets (fi s) (r s)
   pub tails : (s : S) → Piece (end s) (tail s) (fj s) (mb s) (nv s) aw
@@ -29,7 +31,8 @@ pub record States {S B : Type 0} (r : S → List Token → Read S) (g : S → Gr
   pub tails_behind : (s : S) → apart ai (fj s) ≡ true
   pub ends_behind : (s : S) → (if nv s then within ai aw else true) ≡ true
 
-pub loop_meets : {S B : Type 0} (r : S → List Token → Read S) (g : S → Gram S) (fi : S → Class → Bool) (ai : Class → Bool) (end : S → List Token → Read B) (tail : S → Gram B) (fj mb : S → Class → Bool) (nv : S → Bool) (aw : Class → Bool)
+pub loop_meets : {S B : Type 0} (r : S → List Token → Read S) (g : S → Gram S) (fi : S → Class → Bool) (ai : Class → Bool) (end : S → List Token → Read B) (tail : S → Gram B)
+    (fj mb : S → Class → Bool) (nv : S → Bool) (aw : Class → Bool)
     → States r g fi ai end tail fj mb nv aw → (n : ℕ) (s : S) (ts : List Token) → length ts ≤ n → Met (loops g tail s) aw ts (run fi r end n s ts)
 unfolding run
 loop_meets {S} {B} r g fi ai end tail fj mb nv aw e n s ts l = meets n s ts l
@@ -62,7 +65,8 @@ loop_meets {S} {B} r g fi ai end tail fj mb nv aw e n s ts l = meets n s ts l
     avoid (suc n) m K avoids s' t us i j = absurd (apart_is ai (fi s') (e.items_behind s') t.class i (not_first (r s') (g s') (fi s') ai (e.items s') m (λ s''. loop g tail n s'' m K) t us j))
 
     -- the tail, where no item begins
-    only_tail : (s : S) (ts : List Token) → ((m : Option Fault) (K : S → Lang) (us : List Token) → Same us ts → g s m K us → ⊥) → (x : Read B) → Met (tail s) aw ts x → Met (loops g tail s) aw ts x
+    only_tail : (s : S) (ts : List Token) → ((m : Option Fault) (K : S → Lang) (us : List Token) → Same us ts → g s m K us → ⊥) → (x : Read B) → Met (tail s) aw ts x
+        → Met (loops g tail s) aw ts x
     only_tail s ts never _ (Went b front rest split o) = Went b front rest split (record {
       sound = λ m K us j. (0, o.sound m K us j);
       back = back;
@@ -87,31 +91,61 @@ loop_meets {S} {B} r g fi ai end tail fj mb nv aw e n s ts l = meets n s ts l
 
     not_here : (s : S) (t : Token) (ts : List Token) → fi s t.class ≡ false → (m : Option Fault) (K : S → Lang) (us : List Token) → Same us (t ∷ ts) → g s m K us → ⊥
     not_here s t ts n m K [] same j = same
-    not_here s t ts n m K (u ∷ us) same j = let p : fi s u.class ≡ true = not_first (r s) (g s) (fi s) ai (e.items s) m K u us j in let q : fi s u.class ≡ false = subst (λ v. fi s v.class ≡ false) (sym same) n in absurd cc
+    not_here s t ts n m K (u ∷ us) same j = let p : fi s u.class ≡ true = not_first (r s) (g s) (fi s) ai (e.items s) m K u us j in let q : fi s u.class ≡ false =
+        subst (λ v. fi s v.class ≡ false) (sym same) n in absurd cc
 
     -- after one item
-    more : (s : S) (t : Token) (ts : List Token) (next : S) (front rest : List Token) → t ∷ ts ≡ t ∷ front ++ rest → IsTrue (fi s t.class) → Goes (g s) ai next (t ∷ front) rest → (y : Read B) → Met (loops g tail next) aw rest y → Met (loops g tail s) aw (t ∷ ts) y
-    more s t ts next front rest split i o _ (Went b front' rest' split' p) = Went b (t ∷ front ++ front') rest' (split ∙ ap (λ xs. t ∷ front ++ xs) split' ∙ ap (λ xs. t ∷ xs) (sym (append_assoc front front' rest'))) (record {
-      sound = λ m K us j. let q = p.sound m K us j in (suc q.0, subst (λ xs. g s m (λ s'. loop g tail q.0 s' m K) (t ∷ xs)) (sym (append_assoc front front' us)) (o.sound m (λ s'. loop g tail q.0 s' m K) (front' ++ us) q.1));
-      back = back;
-    })
+    more : (s : S) (t : Token) (ts : List Token) (next : S) (front rest : List Token) → t ∷ ts ≡ t ∷ front ++ rest → IsTrue (fi s t.class) → Goes (g s) ai next (t ∷ front) rest
+        → (y : Read B) → Met (loops g tail next) aw rest y → Met (loops g tail s) aw (t ∷ ts) y
+    more s t ts next front rest split i o _ (Went b front' rest' split' p) =
+        Went b (t ∷ front ++ front') rest' (split ∙ ap (λ xs. t ∷ front ++ xs) split' ∙ ap (λ xs. t ∷ xs) (sym (append_assoc front front' rest'))) (record {
+          sound = λ m K us j. let q = p.sound m K us j in (
+            suc q.0,
+            subst (λ xs. g s m (λ s'. loop g tail q.0 s' m K) (t ∷ xs)) (sym (append_assoc front front' us)) (o.sound m (λ s'. loop g tail q.0 s' m K) (front' ++ us) q.1),
+          );
+          back = back;
+        })
       where
         back : (m : Option Fault) (K : B → Lang) (us : List Token) → Avoids aw m K → Same us rest' → Full m us → loops g tail s m K (t ∷ (front ++ front') ++ us) → K b us
         back m K us avoids same full (zero, j) = absurd (never_tail s m K t ((front ++ front') ++ us) i avoids (full_front (front ++ front') m us full) j)
-        back m K us avoids same full (suc n, j) = p.back m K us avoids same full
-            (n, o.back m (λ s'. loop g tail n s' m K) (front' ++ us) (avoid n m K avoids) (subst (Same (front' ++ us)) (sym split') (same_front front' us rest' same)) (full_front front' m us full) (subst (λ xs. g s m (λ s'. loop g tail n s' m K) (t ∷ xs)) (append_assoc front front' us) j))
-    more s t ts next front rest split i o _ (Stopped fault front' rest' split' p) = Stopped fault (t ∷ front ++ front') rest' (split ∙ ap (λ xs. t ∷ front ++ xs) split' ∙ ap (λ xs. t ∷ xs) (sym (append_assoc front front' rest'))) (record {
-      alive = λ K alive. let q = p.alive K alive in (q.0, (suc q.1.0, subst (λ xs. g s None (λ s'. loop g tail q.1.0 s' None K) (t ∷ xs)) (sym (append_assoc front front' q.0)) (o.sound None (λ s'. loop g tail q.1.0 s' None K) (front' ++ q.0) q.1.1)));
-      dead = dead;
-      marked = λ m K w. let q = p.marked m K w in (q.0, q.1, q.2, (suc q.3.0, subst (λ xs. g s (Some m) (λ s'. loop g tail q.3.0 s' (Some m) K) (t ∷ xs)) (sym (append_assoc front front' (q.0 ∷ []))) (o.sound (Some m) (λ s'. loop g tail q.3.0 s' (Some m) K) (front' ++ q.0 ∷ []) q.3.1)));
-    })
+        back m K us avoids same full (suc n, j) = p.back m K us avoids same full (
+          n,
+          o.back m (λ s'. loop g tail n s' m K) (front' ++ us) (avoid n m K avoids) (subst (Same (front' ++ us)) (sym split') (same_front front' us rest' same))
+              (full_front front' m us full) (subst (λ xs. g s m (λ s'. loop g tail n s' m K) (t ∷ xs)) (append_assoc front front' us) j),
+        )
+    more s t ts next front rest split i o _ (Stopped fault front' rest' split' p) =
+        Stopped fault (t ∷ front ++ front') rest' (split ∙ ap (λ xs. t ∷ front ++ xs) split' ∙ ap (λ xs. t ∷ xs) (sym (append_assoc front front' rest'))) (record {
+          alive = λ K alive. let q = p.alive K alive in (
+            q.0,
+            (
+              suc q.1.0,
+              subst (λ xs. g s None (λ s'. loop g tail q.1.0 s' None K) (t ∷ xs)) (sym (append_assoc front front' q.0))
+                  (o.sound None (λ s'. loop g tail q.1.0 s' None K) (front' ++ q.0) q.1.1),
+            ),
+          );
+          dead = dead;
+          marked = λ m K w. let q = p.marked m K w in (
+            q.0,
+            q.1,
+            q.2,
+            (
+              suc q.3.0,
+              subst (λ xs. g s (Some m) (λ s'. loop g tail q.3.0 s' (Some m) K) (t ∷ xs)) (sym (append_assoc front front' (q.0 ∷ [])))
+                  (o.sound (Some m) (λ s'. loop g tail q.3.0 s' (Some m) K) (front' ++ q.0 ∷ []) q.3.1),
+            ),
+          );
+        })
       where
         dead : (m : Option Fault) (K : B → Lang) (us : List Token) → Avoids aw m K → Same us rest' → Full m us → loops g tail s m K (t ∷ (front ++ front') ++ us) → Blamed m fault
         dead m K us avoids same full (zero, j) = absurd (never_tail s m K t ((front ++ front') ++ us) i avoids (full_front (front ++ front') m us full) j)
-        dead m K us avoids same full (suc n, j) = p.dead m K us avoids same full
-            (n, o.back m (λ s'. loop g tail n s' m K) (front' ++ us) (avoid n m K avoids) (subst (Same (front' ++ us)) (sym split') (same_front front' us rest' same)) (full_front front' m us full) (subst (λ xs. g s m (λ s'. loop g tail n s' m K) (t ∷ xs)) (append_assoc front front' us) j))
+        dead m K us avoids same full (suc n, j) = p.dead m K us avoids same full (
+          n,
+          o.back m (λ s'. loop g tail n s' m K) (front' ++ us) (avoid n m K avoids) (subst (Same (front' ++ us)) (sym split') (same_front front' us rest' same))
+              (full_front front' m us full) (subst (λ xs. g s m (λ s'. loop g tail n s' m K) (t ∷ xs)) (append_assoc front front' us) j),
+        )
 
-    step : (n : ℕ) → ((s : S) (ts : List Token) → length ts ≤ n → Met (loops g tail s) aw ts (run fi r end n s ts)) → (s : S) (t : Token) (ts : List Token) → length ts ≤ n → IsTrue (fi s t.class) → (x : Read S) → length (rest_of x) ≤ length ts → Met (g s) ai (t ∷ ts) x
+    step : (n : ℕ) → ((s : S) (ts : List Token) → length ts ≤ n → Met (loops g tail s) aw ts (run fi r end n s ts)) → (s : S) (t : Token) (ts : List Token) → length ts ≤ n
+        → IsTrue (fi s t.class) → (x : Read S) → length (rest_of x) ≤ length ts → Met (g s) ai (t ∷ ts) x
         → Met (loops g tail s) aw (t ∷ ts) (x >>= λ next rest. run fi r end n next rest)
     step n rec s t ts l i _ k (Went next [] rest split o) = absurd (too_long t ts rest split k)
     step n rec s t ts l i _ k (Stopped fault [] rest split o) = absurd (too_long t ts rest split k)
@@ -132,7 +166,8 @@ loop_meets {S} {B} r g fi ai end tail fj mb nv aw e n s ts l = meets n s ts l
         dead m K us avoids same full (zero, j) = absurd (never_tail s m K u (front ++ us) first avoids (full_front front m us full) j)
         dead m K us avoids same full (suc k, j) = o.dead m (λ s'. loop g tail k s' m K) us (avoid k m K avoids) same full j
 
-    by_test : (n : ℕ) → ((s : S) (ts : List Token) → length ts ≤ n → Met (loops g tail s) aw ts (run fi r end n s ts)) → (s : S) (t : Token) (ts : List Token) → length ts ≤ n → (b : Bool) → fi s t.class ≡ b
+    by_test : (n : ℕ) → ((s : S) (ts : List Token) → length ts ≤ n → Met (loops g tail s) aw ts (run fi r end n s ts)) → (s : S) (t : Token) (ts : List Token) → length ts ≤ n
+        → (b : Bool) → fi s t.class ≡ b
         → Met (loops g tail s) aw (t ∷ ts) (if b then (r s (t ∷ ts) >>= λ next rest. run fi r end n next rest) else end s (t ∷ ts))
     by_test n rec s t ts l true i = step n rec s t ts l i (r s (t ∷ ts)) ((e.gets s).on t ts i) ((e.items s).meets (t ∷ ts))
     by_test n rec s t ts l false k = only_tail s (t ∷ ts) (not_here s t ts k) (end s (t ∷ ts)) ((e.tails s).meets (t ∷ ts))
@@ -144,7 +179,8 @@ loop_meets {S} {B} r g fi ai end tail fj mb nv aw e n s ts l = meets n s ts l
     meets (suc n) s (t ∷ ts) l = by_test n (meets n) s t ts (omega (arith, l)) (fi s t.class) refl
 
 -- the states' language as a piece
-pub loop_piece : {S B : Type 0} (r : S → List Token → Read S) (g : S → Gram S) (fi : S → Class → Bool) (ai : Class → Bool) (end : S → List Token → Read B) (tail : S → Gram B) (fj mb : S → Class → Bool) (nv : S → Bool) (aw : Class → Bool)
+pub loop_piece : {S B : Type 0} (r : S → List Token → Read S) (g : S → Gram S) (fi : S → Class → Bool) (ai : Class → Bool) (end : S → List Token → Read B) (tail : S → Gram B)
+    (fj mb : S → Class → Bool) (nv : S → Bool) (aw : Class → Bool)
     → States r g fi ai end tail fj mb nv aw → (s : S) → Piece (λ ts. run fi r end (length ts) s ts) (loops g tail s) (fi s ∪ fj s) (mb s) (nv s) aw
 loop_piece {S} {B} r g fi ai end tail fj mb nv aw e s = record {
   meets = λ ts. loop_meets r g fi ai end tail fj mb nv aw e (length ts) s ts (omega arith);
@@ -153,10 +189,12 @@ loop_piece {S} {B} r g fi ai end tail fj mb nv aw e s = record {
   empty = empty;
 }
   where
-    begins : (m : Option Fault) (K : B → Lang) (t : Token) (us : List Token) → loops g tail s m K (t ∷ us) → IsTrue ((fi s ∪ fj s) t.class) ⊎ ((IsTrue (mb s t.class) × Marked m us) ⊎ (IsTrue (nv s) × ((b : B) × K b (t ∷ us))))
+    begins : (m : Option Fault) (K : B → Lang) (t : Token) (us : List Token) → loops g tail s m K (t ∷ us)
+        → IsTrue ((fi s ∪ fj s) t.class) ⊎ ((IsTrue (mb s t.class) × Marked m us) ⊎ (IsTrue (nv s) × ((b : B) × K b (t ∷ us))))
     begins m K t us (zero, j) = pick ((e.tails s).begins m K t us j)
       where
-        pick : IsTrue (fj s t.class) ⊎ ((IsTrue (mb s t.class) × Marked m us) ⊎ (IsTrue (nv s) × ((b : B) × K b (t ∷ us)))) → IsTrue ((fi s ∪ fj s) t.class) ⊎ ((IsTrue (mb s t.class) × Marked m us) ⊎ (IsTrue (nv s) × ((b : B) × K b (t ∷ us))))
+        pick : IsTrue (fj s t.class) ⊎ ((IsTrue (mb s t.class) × Marked m us) ⊎ (IsTrue (nv s) × ((b : B) × K b (t ∷ us))))
+            → IsTrue ((fi s ∪ fj s) t.class) ⊎ ((IsTrue (mb s t.class) × Marked m us) ⊎ (IsTrue (nv s) × ((b : B) × K b (t ∷ us))))
         pick (inl b) = inl (in_right (fi s t.class) (fj s t.class) b)
         pick (inr b) = inr b
     begins m K t us (suc n, j) = inl (in_left (fi s t.class) (fj s t.class) (not_first (r s) (g s) (fi s) ai (e.items s) m (λ s'. loop g tail n s' m K) t us j))

@@ -1,5 +1,6 @@
 -- What a whole list of tokens, and a whole text, is read as.
-use Rattle.std.proofs.Common.{◌≡◌, ℕ, zero, suc, ◌+◌, ◌-◌, ◌<◌, List, [], ◌∷◌, ◌++◌, Option, Some, None, length, drop, subst, ap, sym, ◌∙◌, arith, length-drop, true, refl, inl, inr, ◌⊎◌, append_assoc, Ok, Err, Result}
+use Rattle.std.proofs.Common.{◌≡◌, ℕ, zero, suc, ◌+◌, ◌-◌, ◌<◌, List, [], ◌∷◌, ◌++◌, Option, Some, None, length, drop, subst, ap, sym, ◌∙◌, arith}
+use Rattle.std.proofs.Common.{length-drop, true, refl, inl, inr, ◌⊎◌, append_assoc, Ok, Err, Result}
 use Rattle.pg_lex.specs.declared.token.Span.{Span}
 use Rattle.pg_lex.specs.declared.token.Token.{Token as Lexed}
 use Rattle.pg_lex.specs.declared.token.LexFault.{LexFault}
@@ -58,14 +59,17 @@ pub refused_none : {A : Type 0} (g : Gram A) (fault : Option Fault) (front rest 
 refused_none g fault front rest ts e r a j = r.dead rest a (cut_self rest) (subst (λ xs. IsRead g xs a) e j)
 
 -- of two ways to cut a list, one goes on for at least as long as the other
-cut_two : (a b x y : List Token) → a ++ x ≡ b ++ y → (a ≡ b) ⊎ (((t : Token) × (c : List Token) × (b ≡ a ++ t ∷ c) × Cut x (t ∷ c ++ y)) ⊎ ((t : Token) × (c : List Token) × (a ≡ b ++ t ∷ c) × Cut y (t ∷ c ++ x)))
+cut_two : (a b x y : List Token) → a ++ x ≡ b ++ y → (a ≡ b) ⊎
+    (((t : Token) × (c : List Token) × (b ≡ a ++ t ∷ c) × Cut x (t ∷ c ++ y)) ⊎ ((t : Token) × (c : List Token) × (a ≡ b ++ t ∷ c) × Cut y (t ∷ c ++ x)))
 cut_two [] [] x y e = inl refl
 cut_two [] (t ∷ b) x y e = inr (inl (t, b, refl, subst (λ xs. Cut xs (t ∷ b ++ y)) (sym e) (b ++ y, refl)))
 cut_two (t ∷ a) [] x y e = inr (inr (t, a, refl, subst (λ xs. Cut xs (t ∷ a ++ x)) e (a ++ x, refl)))
 cut_two (t ∷ a) (u ∷ b) x y e = let p : t ≡ u = cc in let q : a ++ x ≡ b ++ y = cc in pick p (cut_two a b x y q)
   where
-    pick : t ≡ u → (a ≡ b) ⊎ (((t2 : Token) × (c : List Token) × (b ≡ a ++ t2 ∷ c) × Cut x (t2 ∷ c ++ y)) ⊎ ((t2 : Token) × (c : List Token) × (a ≡ b ++ t2 ∷ c) × Cut y (t2 ∷ c ++ x)))
-        → (t ∷ a ≡ u ∷ b) ⊎ (((t2 : Token) × (c : List Token) × (u ∷ b ≡ (t ∷ a) ++ t2 ∷ c) × Cut x (t2 ∷ c ++ y)) ⊎ ((t2 : Token) × (c : List Token) × (t ∷ a ≡ (u ∷ b) ++ t2 ∷ c) × Cut y (t2 ∷ c ++ x)))
+    pick : t ≡ u → (a ≡ b) ⊎ (((t2 : Token) × (c : List Token) × (b ≡ a ++ t2 ∷ c) × Cut x (t2 ∷ c ++ y))
+        ⊎ ((t2 : Token) × (c : List Token) × (a ≡ b ++ t2 ∷ c) × Cut y (t2 ∷ c ++ x)))
+        → (t ∷ a ≡ u ∷ b) ⊎ (((t2 : Token) × (c : List Token) × (u ∷ b ≡ (t ∷ a) ++ t2 ∷ c) × Cut x (t2 ∷ c ++ y))
+        ⊎ ((t2 : Token) × (c : List Token) × (t ∷ a ≡ (u ∷ b) ++ t2 ∷ c) × Cut y (t2 ∷ c ++ x)))
     pick p (inl w) = inl cc
     pick p (inr (inl (t2, c, w, k))) = inr (inl (t2, c, cc, k))
     pick p (inr (inr (t2, c, w, k))) = inr (inr (t2, c, cc, k))
@@ -91,7 +95,8 @@ one_fault g None None a (t ∷ x) r s = refl
 pub refused_once : {A : Type 0} (g : Gram A) (f k : Option Fault) (a x b y : List Token) → Refused g f a x → Refused g k b y → a ++ x ≡ b ++ y → (x ≡ y) × (f ≡ k)
 refused_once {A} g f k a x b y r s e = pick (cut_two a b x y e)
   where
-    pick : (a ≡ b) ⊎ (((t : Token) × (c : List Token) × (b ≡ a ++ t ∷ c) × Cut x (t ∷ c ++ y)) ⊎ ((t : Token) × (c : List Token) × (a ≡ b ++ t ∷ c) × Cut y (t ∷ c ++ x))) → (x ≡ y) × (f ≡ k)
+    pick : (a ≡ b) ⊎ (((t : Token) × (c : List Token) × (b ≡ a ++ t ∷ c) × Cut x (t ∷ c ++ y)) ⊎ ((t : Token) × (c : List Token) × (a ≡ b ++ t ∷ c) × Cut y (t ∷ c ++ x)))
+        → (x ≡ y) × (f ≡ k)
     pick (inl w) = let z : x ≡ y = cancel a x y (e ∙ ap (λ xs. xs ++ y) (sym w)) in
         (z, one_fault g f k a x r (subst (λ xs. Refused g k xs x) (sym w) (subst (λ xs. Refused g k b xs) (sym z) s)))
     pick (inr (inl (t, c, w, cut))) = absurd (longer g f k a x b y c t r s w cut)
@@ -105,15 +110,18 @@ same_tokens x y r e w = let z : ◌≡◌ {A = Result (List Lexed) LexFault} (Ok
 pub text_found : (text : List ℕ) (ts : List Lexed) (rest : List Token) (m : Tree) → tokens text ≡ Ok ts → ended (program_at (classified text ts)) ≡ Good m rest → IsModule text m
 text_found text ts rest m w e = (ts, w, program_found (classified text ts) rest m e)
 
-pub text_only : (text : List ℕ) (ts : List Lexed) (rest : List Token) (m : Tree) → tokens text ≡ Ok ts → ended (program_at (classified text ts)) ≡ Good m rest → (n : Tree) → IsModule text n → m ≡ n
+pub text_only : (text : List ℕ) (ts : List Lexed) (rest : List Token) (m : Tree) → tokens text ≡ Ok ts → ended (program_at (classified text ts)) ≡ Good m rest → (n : Tree)
+    → IsModule text n → m ≡ n
 text_only text ts rest m w e n j = program_only (classified text ts) rest m e n (subst (λ xs. IsRead program (classified text xs) n) (same_tokens j.0 ts (tokens text) j.1 w) j.2)
 
-pub text_refused : (text : List ℕ) (ts : List Lexed) (rest : List Token) (fault : Option Fault) → tokens text ≡ Ok ts → ended (program_at (classified text ts)) ≡ Bad fault rest → IsRefused text fault (place_of text rest)
+pub text_refused : (text : List ℕ) (ts : List Lexed) (rest : List Token) (fault : Option Fault) → tokens text ≡ Ok ts → ended (program_at (classified text ts)) ≡ Bad fault rest
+    → IsRefused text fault (place_of text rest)
 text_refused text ts rest fault w e = let q = program_refused (classified text ts) rest fault e in (ts, w, q.0, rest, q.1, q.2, refl)
 
 -- a text that is refused is no module, and is refused at one place alone
 pub refused_no_module : (text : List ℕ) (fault : Option Fault) (place : Span) → IsRefused text fault place → (m : Tree) → IsModule text m → ⊥
-refused_no_module text fault place (ts, w, front, rest, e, r, p) m j = refused_none program fault front rest (classified text ts) e r m (subst (λ xs. IsRead program (classified text xs) m) (same_tokens j.0 ts (tokens text) j.1 w) j.2)
+refused_no_module text fault place (ts, w, front, rest, e, r, p) m j =
+    refused_none program fault front rest (classified text ts) e r m (subst (λ xs. IsRead program (classified text xs) m) (same_tokens j.0 ts (tokens text) j.1 w) j.2)
 
 pub refused_place_once : (text : List ℕ) (f k : Option Fault) (p q : Span) → IsRefused text f p → IsRefused text k q → (f ≡ k) × (p ≡ q)
 refused_place_once text f k p q (ts, w, a, x, e, r, z) (us, v, b, y, d, s, o) =
@@ -209,7 +217,8 @@ first_once text e d i j = by (said text e i) (said text d j)
     by (inr (f, a, w, p)) (inr (k, b, v, q)) = let z = refused_place_once text f k a b w v in p ∙ ap (λ x. told x a) z.0 ∙ ap (λ x. told k x) z.1 ∙ sym q
 
 -- what the reading of the tokens refuses is the first refusal of the text
-pub text_first : (text : List ℕ) (ts : List Lexed) (rest : List Token) (f : Option Fault) → tokens text ≡ Ok ts → ended (program_at (classified text ts)) ≡ Bad f rest → IsUnread text (told f (place_of text rest))
+pub text_first : (text : List ℕ) (ts : List Lexed) (rest : List Token) (f : Option Fault) → tokens text ≡ Ok ts → ended (program_at (classified text ts)) ≡ Bad f rest
+    → IsUnread text (told f (place_of text rest))
 text_first text ts rest f w e = by f (text_refused text ts rest f w e)
   where
     by : (k : Option Fault) → IsRefused text k (place_of text rest) → IsUnread text (told k (place_of text rest))

@@ -8,11 +8,11 @@ use Rattle.pg_grammar.specs.declared.class.Class.TheVariants.{I1, I8, I16, I32, 
 use Rattle.pg_grammar.specs.declared.token.Fault.{Fault}
 use Rattle.pg_grammar.specs.Classes.{is}
 use Rattle.pg_grammar.specs.Language.{Lang, Gram, one, ◌>>=◌}
-use Rattle.pg_grammar.specs.Grammar.{no_type, name_of, type_in, flags, other_value_in, value_in}
+use Rattle.pg_grammar.specs.Grammar.{no_type, name_of, type_in, flags, other_value_in, value_in, gep_tail, int_to_ptr_tail}
 use Rattle.pg_ast.specs.Syntax.{Ty, Val}
 use Rattle.pg_ast.specs.Syntax as syntax
 use Rattle.pg_grammar.proofs.ClassTests.{apart, apart_is}
-use Rattle.pg_grammar.proofs.Rests.{gep_tail, int_to_ptr_tail, certain_value}
+use Rattle.pg_grammar.proofs.Rests.{certain_value}
 
 -- a token isn't of two sets that are apart
 differ : (p q : Class → Bool) → apart p q ≡ true → (t u : Token) (ts us : List Token) → t ∷ ts ≡ u ∷ us → IsTrue (p t.class) → IsTrue (q u.class) → ⊥
@@ -32,7 +32,8 @@ void_only d m X t ws i (inl (inr (inr (inr (inr (inl (u, vs, e, k, j))))))) = ab
 void_only d m X t ws i (inl (inr (inr (inr (inr (inr (inl (u, vs, e, k, j)))))))) = absurd (differ (is Void) (is I32) refl t u ws vs e i k)
 void_only d m X t ws i (inl (inr (inr (inr (inr (inr (inr (inl (u, vs, e, k, j))))))))) = absurd (differ (is Void) (is I64) refl t u ws vs e i k)
 void_only d m X t ws i (inl (inr (inr (inr (inr (inr (inr (inr (inl (u, vs, e, k, j)))))))))) = absurd (differ (is Void) (is Ptr) refl t u ws vs e i k)
-void_only d m X t ws i (inl (inr (inr (inr (inr (inr (inr (inr (inr (inl (u, vs, e, k, j))))))))))) = let p : t ≡ u = cc in let q : ws ≡ vs = cc in subst (λ xs. X (syntax.Void t.span) xs) (sym q) (subst (λ v. X (syntax.Void v.span) vs) (sym p) j)
+void_only d m X t ws i (inl (inr (inr (inr (inr (inr (inr (inr (inr (inl (u, vs, e, k, j))))))))))) = let p : t ≡ u = cc in let q : ws ≡ vs =
+    cc in subst (λ xs. X (syntax.Void t.span) xs) (sym q) (subst (λ v. X (syntax.Void v.span) vs) (sym p) j)
 void_only d m X t ws i (inl (inr (inr (inr (inr (inr (inr (inr (inr (inr (u, vs, e, k, j))))))))))) = absurd (differ (is Void) (is Local) refl t u ws vs e i k)
 void_only d m X t ws i (inr (k, u, e, j)) = absurd (differ (is Void) no_type refl t u ws [] e i j)
 

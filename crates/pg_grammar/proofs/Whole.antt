@@ -23,7 +23,8 @@ same_cut [] us e = rw e tt
 same_cut (t ∷ rest) us e = rw e.1 refl
 
 -- what follows a list of the grammar, where no token may follow it
-pub has_end : {A : Type 0} {r : List Token → Read A} {g : Gram A} {fi ma : Class → Bool} {nu : Bool} {av : Class → Bool} → Piece r g fi ma nu av → (ts : List Token) (K : A → Lang) → ((a : A) (t : Token) (us : List Token) → K a (t ∷ us) → ⊥) → g None K ts → (a : A) × (us : List Token) × K a us
+pub has_end : {A : Type 0} {r : List Token → Read A} {g : Gram A} {fi ma : Class → Bool} {nu : Bool} {av : Class → Bool} → Piece r g fi ma nu av → (ts : List Token) (K : A → Lang)
+    → ((a : A) (t : Token) (us : List Token) → K a (t ∷ us) → ⊥) → g None K ts → (a : A) × (us : List Token) × K a us
 has_end {A} {r} {g} {fi} {ma} {nu} {av} e ts K never j = by (r ts) (e.meets ts)
   where
     by : (x : Read A) → Met g av ts x → (a : A) × (us : List Token) × K a us
@@ -31,7 +32,8 @@ has_end {A} {r} {g} {fi} {ma} {nu} {av} e ts K never j = by (r ts) (e.meets ts)
     by _ (Stopped fault front rest split o) = absurd (o.dead None K rest (λ b t us i k. absurd (never b t us k)) (same_self rest) tt (subst (g None K) split j))
 
 -- a list of the grammar has a value
-pub has_value : {A : Type 0} (r : List Token → Read A) (g : Gram A) (fi ma : Class → Bool) (nu : Bool) (av : Class → Bool) → Piece r g fi ma nu av → (ts : List Token) → g None (λ a us. us ≡ []) ts → (a : A) × IsRead g ts a
+pub has_value : {A : Type 0} (r : List Token → Read A) (g : Gram A) (fi ma : Class → Bool) (nu : Bool) (av : Class → Bool) → Piece r g fi ma nu av → (ts : List Token)
+    → g None (λ a us. us ≡ []) ts → (a : A) × IsRead g ts a
 has_value {A} r g fi ma nu av e ts j = by (r ts) (e.meets ts)
   where
     avoids : Avoids av None (λ (b : A) (us : List Token). us ≡ [])
@@ -47,7 +49,8 @@ no_fault : {A : Type 0} {g : Gram A} {av : Class → Bool} (fault : Option Fault
 no_fault None front rest o w = refl
 no_fault {A} (Some f) front rest o w = let q = o.marked f (λ (b : A) us. ⊥) refl in absurd (let z : [] ≡ q.0 ∷ q.1 = sym w ∙ q.2 in cc)
 
-pub whole : {A : Type 0} (r : List Token → Read A) (g : Gram A) (fi ma : Class → Bool) (nu : Bool) (av : Class → Bool) → Piece r g fi ma nu av → (ts : List Token) → Answers g ts (ended (r ts))
+pub whole : {A : Type 0} (r : List Token → Read A) (g : Gram A) (fi ma : Class → Bool) (nu : Bool) (av : Class → Bool) → Piece r g fi ma nu av → (ts : List Token)
+    → Answers g ts (ended (r ts))
 whole {A} r g fi ma nu av e ts = by (r ts) (e.meets ts)
   where
     by : (x : Read A) → Met g av ts x → Answers g ts (ended x)
@@ -61,7 +64,8 @@ whole {A} r g fi ma nu av e ts = by (r ts) (e.meets ts)
       split,
       record {
         alive = ([], a, o.sound None (λ b us. (b ≡ a) × (us ≡ [])) [] (refl, refl));
-        dead = λ us b cut j. let w : us ≡ t ∷ cut.0 = cut.1 in let z : us ≡ [] = (o.back None (λ c us. (c ≡ b) × (us ≡ [])) us (ends av b) (same_cut (t ∷ rest) us cut) tt j).1 in absurd cc;
+        dead = λ us b cut j. let w : us ≡ t ∷ cut.0 = cut.1 in let z : us ≡ [] =
+            (o.back None (λ c us. (c ≡ b) × (us ≡ [])) us (ends av b) (same_cut (t ∷ rest) us cut) tt j).1 in absurd cc;
         cause = λ f u us w. (λ j. absurd (o.back (Some f) (λ c us. ⊥) (u ∷ []) (nowhere av f) (let z : u ≡ t = cc in z) (λ n. let z : u ∷ [] ≡ [] = n in absurd cc) j), λ z. absurd cc);
         at_end = λ w. refl;
       },

@@ -211,11 +211,9 @@ typed_in d g = do
   v ← g
   give (record { ty = t; value = v })
 
--- getelementptr flags ( type , type val (, type val)* )
-abbrev pub gep_of : ℕ → Gram Val → Gram Val
-gep_of d g = do
-  o ← one (is GetElementPtr)
-  _ ← flags
+-- ( type , type val (, type val)* ), behind the flags of a getelementptr
+abbrev pub gep_tail : ℕ → Gram Val → Token → Gram Val
+gep_tail d g o = do
   _ ← one (is OpenRound)
   t ← type_in d
   _ ← one (is Comma)
@@ -226,10 +224,16 @@ gep_of d g = do
   _ ← one (is CloseRound)
   give (syntax.GepVal o.span t p.ty p.value (vals all))
 
--- inttoptr ( type Int to type )
-abbrev pub int_to_ptr_of : ℕ → Gram Val
-int_to_ptr_of d = do
-  o ← one (is IntToPtr)
+-- getelementptr flags ( type , type val (, type val)* )
+abbrev pub gep_of : ℕ → Gram Val → Gram Val
+gep_of d g = do
+  o ← one (is GetElementPtr)
+  _ ← flags
+  gep_tail d g o
+
+-- ( type Int to type )
+abbrev pub int_to_ptr_tail : ℕ → Token → Gram Val
+int_to_ptr_tail d o = do
   _ ← one (is OpenRound)
   t ← type_in d
   n ← one (is Int)
@@ -237,6 +241,12 @@ int_to_ptr_of d = do
   u ← type_in d
   _ ← one (is CloseRound)
   give (syntax.IntToPtrVal o.span t (literal_of n) u)
+
+-- inttoptr ( type Int to type )
+abbrev pub int_to_ptr_of : ℕ → Gram Val
+int_to_ptr_of d = do
+  o ← one (is IntToPtr)
+  int_to_ptr_tail d o
 
 abbrev pub opens_value : Class → Bool
 opens_value = is GetElementPtr ∪ is IntToPtr

@@ -173,35 +173,47 @@ constancy = (do
     _ ← one (is ConstantWord)
     give true)
 
--- Global = attrs (global|constant) type const (, attrs)*
-abbrev pub global_item : Gram Item
-global_item = do
+-- Global = attrs (global|constant) type const
+abbrev pub global_head : Gram Variable
+global_head = do
   n ← one global_name
   _ ← one (is Equals)
   _ ← attributes
   c ← constancy
   t ← type_in NESTING_LIMIT
   v ← const_in NESTING_LIMIT
+  give (record { name = name_of n; is_constant = c; ty = t; value = v })
+
+-- a global (, attrs)*
+abbrev pub global_item : Gram Item
+global_item = do
+  g ← global_head
   _ ← drop_value (many (do
     _ ← one (is Comma)
     attributes))
-  give (GlobalItem (record { name = name_of n; is_constant = c; ty = t; value = v }))
+  give (GlobalItem g)
 
--- declare attrs type Global ( [dparam (, dparam)*] ) attrs
-abbrev pub declare_item : Gram Item
-declare_item = do
+-- declare attrs type Global ( [dparam (, dparam)*] )
+abbrev pub declare_head : Gram Declaration
+declare_head = do
   _ ← one (is Declare)
   _ ← attributes
   t ← type_in NESTING_LIMIT
   n ← one global_name
   _ ← one (is OpenRound)
   ps ← listed CloseRound dparam
+  give (record { result = t; name = name_of n; params = ps })
+
+-- a declaration attrs
+abbrev pub declare_item : Gram Item
+declare_item = do
+  d ← declare_head
   _ ← attributes
-  give (DeclareItem (record { result = t; name = name_of n; params = ps }))
+  give (DeclareItem d)
 
 -- define attrs type Global ( [param (, param)*] ) attrs { block* }, where Dots aren't supported as a param
-abbrev pub define_item : Gram Item
-define_item = do
+abbrev pub define_whole : Gram Definition
+define_whole = do
   _ ← one (is Define)
   _ ← attributes
   t ← type_in NESTING_LIMIT
@@ -210,7 +222,12 @@ define_item = do
   ps ← listed CloseRound (param or refused Unsupported (is Dots))
   _ ← attributes
   bs ← body
-  give (DefineItem (record { result = t; name = name_of n; params = ps; blocks = bs }))
+  give (record { result = t; name = name_of n; params = ps; blocks = bs })
+
+abbrev pub define_item : Gram Item
+define_item = do
+  d ← define_whole
+  give (DefineItem d)
 
 -- attributes Attr = { skip }
 abbrev pub attributes_item : Gram Item

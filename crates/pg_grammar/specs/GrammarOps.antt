@@ -20,8 +20,8 @@ use Rattle.pg_ast.specs.Syntax as syntax
 use Rattle.pg_ast.specs.declared.names.Name.{Name}
 use Rattle.pg_ast.specs.declared.ops.BinaryOp.{BinaryOp}
 use Rattle.pg_ast.specs.declared.ops.BinaryOp.TheVariants as binaries
-use Rattle.pg_ast.specs.declared.ops.Predicate.{Predicate}
-use Rattle.pg_ast.specs.declared.ops.Predicate.TheVariants as predicates
+use Rattle.pg_num.specs.declared.operations.Compare.{Compare}
+use Rattle.pg_num.specs.declared.operations.Compare.TheVariants as predicates
 use Rattle.pg_ast.specs.declared.ops.CastOp.{CastOp}
 use Rattle.pg_ast.specs.declared.ops.CastOp.TheVariants as casts
 
@@ -72,7 +72,7 @@ abbrev pub predicate_word : Class → Bool
 predicate_word = is Eq ∪ (is Ne ∪ (is Ugt ∪ (is Uge ∪ (is Ult ∪ (is Ule ∪ (is Sgt ∪ (is Sge ∪ (is Slt ∪ is Sle))))))))
 
 -- the comparison that one of these words is
-abbrev pub predicate_of : Class → Predicate
+abbrev pub predicate_of : Class → Compare
 predicate_of Eq = predicates.Eq
 predicate_of Ne = predicates.Ne
 predicate_of Ugt = predicates.Ugt
@@ -304,20 +304,25 @@ dropped_callee = do
   _ ← one (is OpenRound)
   skip_to INNER_NESTING_LIMIT CloseRound
 
--- [tail|musttail|notail] call attrs type [written] Global ( [arg (, arg)*] ) attrs, with no operation where it is dropped
-abbrev pub call : Gram (Option Op)
-call = do
+-- [tail|musttail|notail] call attrs type [written] Global ( [arg (, arg)*] ), with no operation where it is dropped
+abbrev pub call_head : Gram (Option Op)
+call_head = do
   o ← call_word
   _ ← attributes
   t ← type_in NESTING_LIMIT
   w ← (do
     w ← written
     give (Some w)) or give None
-  c ← (do
+  (do
     _ ← dropped_callee
     give None) or (do
       c ← callee o t w
       give (Some c))
+
+-- a call attrs
+abbrev pub call : Gram (Option Op)
+call = do
+  c ← call_head
   _ ← attributes
   give c
 

@@ -6,12 +6,10 @@ use Rattle.pg_lex.specs.declared.token.Span.{Span}
 use Rattle.pg_ast.specs.declared.types.TypeNode.{TypeNode}
 use Rattle.pg_rules.specs.Nodes.{ty_behind, tys_behind}
 use Rattle.pg_ast.specs.declared.values.TypedConst.{TypedConst, fold_out-TypedConst}
-use Rattle.pg_ast.specs.declared.values.ConstNode.{roll-ConstNode}
 use Rattle.pg_ast.specs.declared.values.ConstNode.TheViews as node
-use Rattle.pg_ast.specs.declared.values.ConstNode.TheOpen as opened
-use Rattle.pg_ast.specs.declared.values.ConstNode.TheFolds.{fold-roll-ConstNode}
-use Rattle.pg_ast.specs.Syntax.{Ty, Const, ArrayConst, StructConst, TypedC, consts}
+use Rattle.pg_ast.specs.Syntax.{Ty, Const, TypedC, consts}
 use Rattle.pg_ast.specs.Views.{ty_of, const_of, typed_const_of, const_step, typed_const_step}
+use Rattle.pg_rules.proofs.ConstantViews.{array_view, struct_view}
 use Rattle.pg_rules.specs.Written.{const_uses, part_uses, const_types, part_types}
 use Rattle.pg_heads.specs.Initialisers.{use_row, type_row}
 
@@ -20,14 +18,6 @@ part_ty t = ap (λ (x : TypedC). x.ty) (fold_out-TypedConst Const TypedC const_s
 
 pub part_value : (t : TypedConst) → (typed_const_of t).value ≡ const_of t.value
 part_value t = ap (λ (x : TypedC). x.value) (fold_out-TypedConst Const TypedC const_step typed_const_step t)
-
-pub array_view : (s : Span) (v : Vec TypedConst Global) → const_of (node.Array s v) ≡ ArrayConst s (consts (map typed_const_of v.items))
-unfolding roll-ConstNode denote.Hole.Carrier.roll
-array_view s v = fold-roll-ConstNode Const TypedC const_step typed_const_step (opened.Array s v)
-
-pub struct_view : (s : Span) (v : Vec TypedConst Global) → const_of (node.Struct s v) ≡ StructConst s (consts (map typed_const_of v.items))
-unfolding roll-ConstNode denote.Hole.Carrier.roll
-struct_view s v = fold-roll-ConstNode Const TypedC const_step typed_const_step (opened.Struct s v)
 
 use_rows : (ts : List TypedC) → part_uses (consts ts) ≡ flat_map use_row ts
 unfolding part_uses
@@ -56,6 +46,7 @@ unfolding const_types
 struct_types s v = sym (ap (λ c. const_types c) (struct_view s v) ∙ type_rows (map typed_const_of v.items))
 
 -- one type and then others
-pub one_and_others : (all more : List (Bor TypeNode)) (x : Bor TypeNode) (others new : List Ty) → more ≡ all ++ x ∷ [] → new ≡ tys_behind more ++ others → new ≡ tys_behind all ++ (ty_of x.now ∷ others)
+pub one_and_others : (all more : List (Bor TypeNode)) (x : Bor TypeNode) (others new : List Ty) → more ≡ all ++ x ∷ [] → new ≡ tys_behind more ++ others
+    → new ≡ tys_behind all ++ (ty_of x.now ∷ others)
 one_and_others all more x others new e f =
     f ∙ ap (λ ts. tys_behind ts ++ others) e ∙ ap (λ ts. ts ++ others) (map-append ty_behind all (x ∷ [])) ∙ append_assoc (tys_behind all) (ty_of x.now ∷ []) others

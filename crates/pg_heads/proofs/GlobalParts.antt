@@ -22,7 +22,8 @@ flat_flat h g [] = refl
 flat_flat h g (x ∷ xs) = flat_more h (g x) (flat_map g xs) ∙ ap (λ zs. flat_map h (g x) ++ zs) (flat_flat h g xs)
 
 -- a row over values and those within them
-pub within_rows : (row : Use → List Span) (us vs : List Use) (o : Option Span) → o ≡ earliest (flat_map (within_row row) us) → us ≡ vs → o ≡ earliest (flat_map row (flat_map with_inner vs))
+pub within_rows : (row : Use → List Span) (us vs : List Use) (o : Option Span) → o ≡ earliest (flat_map (within_row row) us) → us ≡ vs
+    → o ≡ earliest (flat_map row (flat_map with_inner vs))
 within_rows row us vs o e f = e ∙ ap (λ ws. earliest (flat_map (within_row row) ws)) f ∙ ap (λ zs. earliest zs) (sym (flat_flat row with_inner vs))
 
 pub own_rows : (us : List Use) → flat_map own_row us ≡ flat_map (λ (w : Use). own_types w.value) (flat_map with_inner us)

@@ -18,7 +18,8 @@ no_more p kind places o e h = back_none p (only kind places) o h (record { none 
     by false = refl
 
 -- places of one kind, in two rows
-pub more_places : (p : RefusedPlaces) (kind : CheckKind) (xs ys : List Span) (o : Option CheckRefusal) → IsFirstIn (joined (joined p (only kind xs)) (only kind ys)) o → IsFirstIn (joined p (only kind (xs ++ ys))) o
+pub more_places : (p : RefusedPlaces) (kind : CheckKind) (xs ys : List Span) (o : Option CheckRefusal) → IsFirstIn (joined (joined p (only kind xs)) (only kind ys)) o
+    → IsFirstIn (joined p (only kind (xs ++ ys))) o
 more_places p kind xs ys o h =
     same_places (joined (joined p (only kind xs)) (only kind ys)) (joined p (only kind (xs ++ ys))) o
     (λ k. append_assoc (p k) (only kind xs k) (only kind ys k) ∙ ap (λ ss. p k ++ ss) (by (rank kind == rank k))) h
@@ -28,7 +29,8 @@ more_places p kind xs ys o h =
     by false = refl
 
 -- a place behind the refusal that is known
-pub behind_known : (p : RefusedPlaces) (kind : CheckKind) (known : Option CheckRefusal) (place : Span) (b : Bool) → is_behind known place ≡ true → IsFirstIn p known → IsFirstIn (joined p (only kind (at_if b place))) known
+pub behind_known : (p : RefusedPlaces) (kind : CheckKind) (known : Option CheckRefusal) (place : Span) (b : Bool) → is_behind known place ≡ true → IsFirstIn p known
+    → IsFirstIn (joined p (only kind (at_if b place))) known
 unfolding earliest
 behind_known p kind None place b e h = absurd cc
 behind_known p kind (Some r) place true e h =

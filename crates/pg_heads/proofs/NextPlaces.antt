@@ -1,5 +1,6 @@
 -- Where the items of names stand, and what they lead to.
-use Rattle.std.proofs.Common.{◌≡◌, ℕ, zero, suc, ◌+◌, ◌<◌, Bool, true, false, cond, List, [], ◌∷◌, ◌++◌, length, map, get_or, slice_get, Option, Some, None, unwrap_or, refl, sym, ap, subst, ◌∙◌, arith, inl, inr}
+use Rattle.std.proofs.Common.{◌≡◌, ℕ, zero, suc, ◌+◌, ◌<◌, Bool, true, false, cond, List, [], ◌∷◌, ◌++◌, length, map, get_or, slice_get, Option, Some, None}
+use Rattle.std.proofs.Common.{unwrap_or, refl, sym, ap, subst, ◌∙◌, arith, inl, inr}
 use Rattle.std.specs.Prelude.{◌==◌, ◌||◌, ◌⊎◌, filter}
 use Rattle.std.specs.List.{list_any, filter_map, position_from, cons_option, flat_map}
 use Rattle.std.specs.Option.{option_map}
@@ -66,7 +67,8 @@ pub named_at : (types : List NamedType) (text : List ℕ) → type_named types t
 named_at [] text = refl
 named_at (i ∷ types) text = by (bytes_eq i.name.text text) (named_at types text) ∙ sym (ap (λ o. ty_of_item (item_at (i ∷ types) o)) (place_more i types text))
   where
-    by : (b : Bool) → type_named types text ≡ ty_of_item (item_at types (place_of types text)) → cond b (Some i.ty) (type_named types text) ≡ ty_of_item (item_at (i ∷ types) (cond b (Some 0) (later (place_of types text))))
+    by : (b : Bool) → type_named types text ≡ ty_of_item (item_at types (place_of types text))
+        → cond b (Some i.ty) (type_named types text) ≡ ty_of_item (item_at (i ∷ types) (cond b (Some 0) (later (place_of types text))))
     by true h = refl
     by false h = h ∙ sym (ap ty_of_item (item_later i types (place_of types text)))
 
@@ -87,7 +89,8 @@ stands (i ∷ types) text p e = by (bytes_eq i.name.text text) refl (sym (place_
         let n : suc q ≡ p = some_same (suc q) p h in
         record { item = s.item; at = ap (λ k. slice_get (i ∷ types) k) (sym n) ∙ s.at; called = s.called }
 
-    by : (b : Bool) → bytes_eq i.name.text text ≡ b → cond b (Some 0) (later (place_of types text)) ≡ Some p → ((q : ℕ) → place_of types text ≡ Some q → Stands types text q) → Stands (i ∷ types) text p
+    by : (b : Bool) → bytes_eq i.name.text text ≡ b → cond b (Some 0) (later (place_of types text)) ≡ Some p → ((q : ℕ) → place_of types text ≡ Some q → Stands types text q)
+        → Stands (i ∷ types) text p
     by true c h more =
         let n : 0 ≡ p = some_same 0 p h in
         record { item = i; at = ap (λ k. slice_get (i ∷ types) k) (sym n); called = (bytes_eq-Decides i.name.text text).0 c }
@@ -143,7 +146,8 @@ any_placed types n target test h (m ∷ ms) = ap (λ b. b || list_any test ms) (
     by (Some p) more = ap (λ b. arrives n (next_places types) target p || b) more
 
 -- a name meets an item just where its place leads there
-pub meets_is : (types : List NamedType) (text : List ℕ) (target : ℕ) → place_of types text ≡ Some target → (n : ℕ) (name : List ℕ) → meets n types text name ≡ arrives_at n types target (place_of types name)
+pub meets_is : (types : List NamedType) (text : List ℕ) (target : ℕ) → place_of types text ≡ Some target → (n : ℕ) (name : List ℕ)
+    → meets n types text name ≡ arrives_at n types target (place_of types name)
 unfolding meets arrives next_places
 meets_is types text target e zero name = same_text types text name target e ∙ by (place_of types name)
   where
@@ -156,7 +160,8 @@ meets_is types text target e (suc n) name =
     ∙ by (place_of types name) (λ m. meets_is types text target e n m.text)
   where
     within : (p : ℕ) (o : Option NamedType) → ((m : Name) → meets n types text m.text ≡ arrives_at n types target (place_of types m.text))
-        → (p == target || list_any (λ (m : Name). meets n types text m.text) (names_of_item (ty_of_item o))) ≡ (p == target || list_any (arrives n (next_places types) target) (places_of_item types o))
+        → (p == target || list_any (λ (m : Name). meets n types text m.text) (names_of_item (ty_of_item o)))
+        ≡ (p == target || list_any (arrives n (next_places types) target) (places_of_item types o))
     within p None more = refl
     within p (Some i) more = ap (λ b. p == target || b) (any_placed types n target (λ (m : Name). meets n types text m.text) more (names_in i.ty))
 
@@ -171,7 +176,8 @@ has_placed : (types : List NamedType) (ms : List Name) (w : ℕ) → has (filter
 has_placed types [] w h = absurd cc
 has_placed types (m ∷ ms) w h = by (place_of types m.text) refl h (λ k. has_placed types ms w k)
   where
-    by : (o : Option ℕ) → place_of types m.text ≡ o → has (cons_option o (filter_map (place_of_name types) ms)) w ≡ true → (has (filter_map (place_of_name types) ms) w ≡ true → w < length types) → w < length types
+    by : (o : Option ℕ) → place_of types m.text ≡ o → has (cons_option o (filter_map (place_of_name types) ms)) w ≡ true
+        → (has (filter_map (place_of_name types) ms) w ≡ true → w < length types) → w < length types
     by None e k more = more k
     by (Some p) e k more = either (or_cases (p == w) (has (filter_map (place_of_name types) ms) w) k)
       where
@@ -191,12 +197,14 @@ bounded types p w h = by (slice_get types p) h
 
 -- ---- the names in a type that lead back
 
-pub circle_row : (types : List NamedType) (text : List ℕ) (ts : List Ty) → map (λ (n : Name). n.span) (filter (λ (n : Name). meets (length types) types text n.text) (names_in_types ts)) ≡ flat_map (circle_at types text) ts
+pub circle_row : (types : List NamedType) (text : List ℕ) (ts : List Ty)
+    → map (λ (n : Name). n.span) (filter (λ (n : Name). meets (length types) types text n.text) (names_in_types ts)) ≡ flat_map (circle_at types text) ts
 circle_row types text [] = refl
 circle_row types text (Named n ∷ ts) = by (meets (length types) types text n.text) (circle_row types text ts)
   where
     by : (b : Bool) → map (λ (n : Name). n.span) (filter (λ (n : Name). meets (length types) types text n.text) (names_in_types ts)) ≡ flat_map (circle_at types text) ts
-        → map (λ (n : Name). n.span) (cond b (n ∷ filter (λ (n : Name). meets (length types) types text n.text) (names_in_types ts)) (filter (λ (n : Name). meets (length types) types text n.text) (names_in_types ts))) ≡ at_if b n.span ++ flat_map (circle_at types text) ts
+        → map (λ (n : Name). n.span) (cond b (n ∷ filter (λ (n : Name). meets (length types) types text n.text) (names_in_types ts))
+        (filter (λ (n : Name). meets (length types) types text n.text) (names_in_types ts))) ≡ at_if b n.span ++ flat_map (circle_at types text) ts
     by true h = ap (λ xs. n.span ∷ xs) h
     by false h = h
 circle_row types text (I1 s ∷ ts) = circle_row types text ts

@@ -1,5 +1,6 @@
 -- A type that is one doesn't contain itself.
-use Rattle.std.proofs.Common.{◌≡◌, ℕ, zero, suc, ◌≤◌, Bool, true, false, cond, List, [], ◌∷◌, ◌++◌, length, map, Option, Some, None, is_some, refl, sym, ap, subst, arith, inl, inr}
+use Rattle.std.proofs.Common.{◌≡◌, ℕ, zero, suc, ◌≤◌, Bool, true, false, cond, List, [], ◌∷◌, ◌++◌, length, map, Option, Some, None, is_some, refl, sym, ap, subst}
+use Rattle.std.proofs.Common.{arith, inl, inr}
 use Rattle.std.specs.Prelude.{◌&&◌, ◌||◌, ◌⊎◌, filter}
 use Rattle.std.specs.List.{list_any, list_all}
 use Rattle.std.specs.Option.{option_and_then}
@@ -22,7 +23,8 @@ all_more : (test : Name → Bool) (ms ns : List Name) → list_all test ms ≡ t
 all_more test [] ns a b = b
 all_more test (m ∷ ms) ns a b = by (test m) a (all_more test ms ns)
   where
-    by : (t : Bool) → (t && list_all test ms) ≡ true → (list_all test ms ≡ true → list_all test ns ≡ true → list_all test (ms ++ ns) ≡ true) → (t && list_all test (ms ++ ns)) ≡ true
+    by : (t : Bool) → (t && list_all test ms) ≡ true → (list_all test ms ≡ true → list_all test ns ≡ true → list_all test (ms ++ ns) ≡ true)
+        → (t && list_all test (ms ++ ns)) ≡ true
     by true h more = more h b
     by false h more = absurd cc
 
@@ -95,7 +97,8 @@ mutual
   fields_known f front (MoreTys t ts) e =
       let one = field_known front (part_type (type_by f t)) (fields_front f (with_field front (part_type (type_by f t))) ts e) in
       subst (λ ns. Known f ns) (sym (names_append (types_within t) (types_within_all ts)))
-      (all_more (λ (n : Name). is_some (f n.text)) (names_in t) (names_in_types (types_within_all ts)) (names_known f t (part_known (type_by f t) one)) (fields_known f (with_field front (part_type (type_by f t))) ts e))
+      (all_more (λ (n : Name). is_some (f n.text)) (names_in t) (names_in_types (types_within_all ts)) (names_known f t (part_known (type_by f t) one))
+      (fields_known f (with_field front (part_type (type_by f t))) ts e))
 
 -- ---- along names
 
@@ -118,7 +121,8 @@ both : (test : Name → Bool) (f : List ℕ → Option ResolvedType) (ns : List 
 both test f [] a b = absurd cc
 both test f (n ∷ ns) a b = by (test n) refl (is_some (f n.text)) refl a b (both test f ns)
   where
-    by : (t : Bool) → test n ≡ t → (k : Bool) → is_some (f n.text) ≡ k → (t || list_any test ns) ≡ true → (k && list_all (λ (n : Name). is_some (f n.text)) ns) ≡ true → (list_any test ns ≡ true → Known f ns → Both test f) → Both test f
+    by : (t : Bool) → test n ≡ t → (k : Bool) → is_some (f n.text) ≡ k → (t || list_any test ns) ≡ true → (k && list_all (λ (n : Name). is_some (f n.text)) ns) ≡ true
+        → (list_any test ns ≡ true → Known f ns → Both test f) → Both test f
     by true e true g h i more = record { name = n; passes = e; known = g }
     by false e true g h i more = more h i
     by t e false g h i more = absurd cc
@@ -152,7 +156,8 @@ along types text (suc n) (suc k) name e h =
         record { count = l.count; less = omega (arith, l.less); known = l.known }
 
 -- a name whose item leads back to it isn't known within any number of items
-round_trip : (types : List NamedType) (text : List ℕ) (t : Ty) (n b k : ℕ) → k ≤ b → type_named types text ≡ Some t → list_any (λ (m : Name). meets n types text m.text) (names_in t) ≡ true → IsKnown types k text → ⊥
+round_trip : (types : List NamedType) (text : List ℕ) (t : Ty) (n b k : ℕ) → k ≤ b → type_named types text ≡ Some t
+    → list_any (λ (m : Name). meets n types text m.text) (names_in t) ≡ true → IsKnown types k text → ⊥
 round_trip types text t n b zero l e a h = no_items types text h
 round_trip types text t n zero (suc k) l e a h = omega (arith, l)
 round_trip types text t n (suc b) (suc k) l e a h =
@@ -167,15 +172,18 @@ none_kept : (test : Name → Bool) (ns : List Name) → list_any test ns ≡ fal
 none_kept test [] e = refl
 none_kept test (n ∷ ns) e = by (test n) e (none_kept test ns)
   where
-    by : (b : Bool) → (b || list_any test ns) ≡ false → (list_any test ns ≡ false → map (λ (n : Name). n.span) (filter test ns) ≡ []) → map (λ (n : Name). n.span) (cond b (n ∷ filter test ns) (filter test ns)) ≡ []
+    by : (b : Bool) → (b || list_any test ns) ≡ false → (list_any test ns ≡ false → map (λ (n : Name). n.span) (filter test ns) ≡ [])
+        → map (λ (n : Name). n.span) (cond b (n ∷ filter test ns) (filter test ns)) ≡ []
     by true h more = absurd cc
     by false h more = more h
 
 pub no_circle : (types : List NamedType) (i : NamedType) → type_named types i.name.text ≡ Some i.ty → is_some (resolved types i.ty) ≡ true → self_contained types i ≡ []
 unfolding self_contained resolved
-no_circle types i e h = none_kept (λ (n : Name). meets (length types) types i.name.text n.text) (names_in i.ty) (by (list_any (λ (n : Name). meets (length types) types i.name.text n.text) (names_in i.ty)) refl)
+no_circle types i e h = none_kept (λ (n : Name). meets (length types) types i.name.text n.text) (names_in i.ty)
+    (by (list_any (λ (n : Name). meets (length types) types i.name.text n.text) (names_in i.ty)) refl)
   where
-    by : (b : Bool) → list_any (λ (n : Name). meets (length types) types i.name.text n.text) (names_in i.ty) ≡ b → list_any (λ (n : Name). meets (length types) types i.name.text n.text) (names_in i.ty) ≡ false
+    by : (b : Bool) → list_any (λ (n : Name). meets (length types) types i.name.text n.text) (names_in i.ty) ≡ b
+        → list_any (λ (n : Name). meets (length types) types i.name.text n.text) (names_in i.ty) ≡ false
     by false a = a
     by true a =
         let known = names_known (type_within (length types) types) i.ty h in

@@ -1,19 +1,19 @@
 -- Where a constant isn't of its type, a layer at a time.
-use Rattle.std.proofs.Common.{◌≡◌, ℕ, zero, suc, ◌+◌, ◌<◌, Bool, true, false, if◌then◌else◌, List, [], ◌∷◌, ◌++◌, length, map, drop, slice_get, get_or, Option, Some, None, IfSome, refl, sym, ap, ◌∙◌, arith, Vec, Global}
+use Rattle.std.proofs.Common.{◌≡◌, ℕ, zero, suc, ◌+◌, ◌<◌, Bool, true, false, if◌then◌else◌, List, [], ◌∷◌, ◌++◌, length, map, drop, slice_get, get_or}
+use Rattle.std.proofs.Common.{Option, Some, None, IfSome, refl, sym, ap, ◌∙◌, arith, Vec, Global}
 use Rattle.std.specs.List.{flat_map, enumerate_from}
 use Rattle.std.proofs.lemmas.List.{append_assoc}
 use Rattle.std.proofs.lemmas.Option.{slice_get_within}
 use Rattle.pg_lex.specs.declared.token.Span.{Span}
 use Rattle.pg_ast.specs.declared.names.Literal.{Literal}
 use Rattle.pg_ast.specs.declared.values.TypedConst.{TypedConst}
-use Rattle.pg_ast.specs.declared.values.ValNode.{ValNode}
 use Rattle.pg_ast.specs.declared.values.ConstNode.{ConstNode, roll-ConstNode}
 use Rattle.pg_ast.specs.declared.values.ConstNode as plain
 use Rattle.pg_ast.specs.declared.values.ConstNode.TheOpen as opened
 use Rattle.pg_ast.specs.declared.values.ConstNode.TheFolds.{fold-roll-ConstNode}
 use Rattle.pg_ast.specs.declared.values.ConstNode.TheViews as node
 use Rattle.pg_ast.specs.Syntax.{Val, Const, ValConst, BytesConst, ArrayConst, StructConst, TypedC, consts, NamedType}
-use Rattle.pg_ast.specs.Views.{ty_of, val_of, const_of, typed_const_of, const_step, typed_const_step}
+use Rattle.pg_ast.specs.Views.{ty_of, const_of, typed_const_of, const_step, typed_const_step}
 use Rattle.pg_types.specs.Resolved.{ResolvedType, resolved}
 use Rattle.pg_types.specs.Known.{denoted}
 use Rattle.pg_types.specs.Kinds.{fails, is_as}
@@ -21,22 +21,25 @@ use Rattle.pg_rules.specs.Conditions.{at_if}
 use Rattle.pg_rules.specs.Places.{type_span}
 use Rattle.pg_rules.specs.Earliest.{earlier, earliest}
 use Rattle.pg_rules.specs.ValueConditions.{wrong_const, wrong_elements, wrong_fields, wrong_part, part_count, fits_bytes, fits_elements, fits_fields, element_of, fields_of}
+use Rattle.pg_rules.proofs.ConstantViews.{array_view, struct_view}
 use Rattle.pg_rules.proofs.Parts.{no_place}
 use Rattle.pg_rules.proofs.Rows.{earliest_more}
 use Rattle.pg_values.specs.Fields.{field_type}
 use Rattle.pg_heads.specs.ConstantParts.{part_row, field_row}
-use Rattle.pg_heads.proofs.ConstantRows.{part_ty, part_value, array_view, struct_view}
+use Rattle.pg_heads.proofs.ConstantRows.{part_ty, part_value}
 
 -- ---- fields by their numbers
 
-field_denoted : (table : List ResolvedType) (numbers : List ℕ) (fs : List ResolvedType) (k : ℕ) → map (field_type table) numbers ≡ map (λ u. Some u) fs → denoted table (slice_get numbers k) ≡ slice_get fs k
+field_denoted : (table : List ResolvedType) (numbers : List ℕ) (fs : List ResolvedType) (k : ℕ) → map (field_type table) numbers ≡ map (λ u. Some u) fs
+    → denoted table (slice_get numbers k) ≡ slice_get fs k
 field_denoted table [] [] k a = refl
 field_denoted table [] (u ∷ fs) k a = cc
 field_denoted table (n ∷ numbers) [] k a = cc
 field_denoted table (n ∷ numbers) (u ∷ fs) zero a = ap (λ xs. get_or xs 0 None) a
 field_denoted table (n ∷ numbers) (u ∷ fs) (suc k) a = field_denoted table numbers fs k (ap (λ xs. drop 1 xs) a)
 
-pub fields_within : (table : List ResolvedType) (numbers : List ℕ) (fs : List ResolvedType) → map (field_type table) numbers ≡ map (λ u. Some u) fs → (k : ℕ) → IfSome (slice_get numbers k) (λ t. t < length table)
+pub fields_within : (table : List ResolvedType) (numbers : List ℕ) (fs : List ResolvedType) → map (field_type table) numbers ≡ map (λ u. Some u) fs → (k : ℕ)
+    → IfSome (slice_get numbers k) (λ t. t < length table)
 fields_within table [] fs a k = tt
 fields_within table (n ∷ numbers) [] a k = cc
 fields_within table (n ∷ numbers) (u ∷ fs) a zero = slice_get_within table n u (ap (λ xs. get_or xs 0 None) a)
@@ -72,7 +75,8 @@ others_behind (x ∷ xs) (suc k) =
     let s : suc (k + 1) ≡ suc k + 1 = omega arith in
     others_behind xs k ∙ ap (λ n. drop n (x ∷ xs)) s
 
-field_rows : (types : List NamedType) (table : List ResolvedType) (numbers : List ℕ) (fs : List ResolvedType) (k : ℕ) (ts : List TypedC) → map (field_type table) numbers ≡ map (λ u. Some u) fs
+field_rows : (types : List NamedType) (table : List ResolvedType) (numbers : List ℕ) (fs : List ResolvedType) (k : ℕ) (ts : List TypedC)
+    → map (field_type table) numbers ≡ map (λ u. Some u) fs
     → wrong_fields types (drop k fs) (consts ts) ≡ flat_map (field_row types table numbers) (enumerate_from k ts)
 unfolding wrong_fields
 field_rows types table numbers fs k [] a = refl
@@ -94,13 +98,10 @@ place_is false s = refl
 abbrev mark : Bool → Span → List Span
 mark b s = if b then s ∷ [] else []
 
-two_places : (b : Bool) (s : Span) (more : List Span) (own inner o : Option Span) → own ≡ earliest (at_if b s) → inner ≡ earliest more → o ≡ earlier own inner → o ≡ earliest (mark b s ++ more)
+two_places : (b : Bool) (s : Span) (more : List Span) (own inner o : Option Span) → own ≡ earliest (at_if b s) → inner ≡ earliest more → o ≡ earlier own inner
+    → o ≡ earliest (mark b s ++ more)
 two_places b s more own inner o a c e =
     e ∙ ap (λ x. earlier x inner) (a ∙ ap (λ xs. earliest xs) (place_is b s)) ∙ ap (λ x. earlier (earliest (mark b s)) x) c ∙ sym (earliest_more (mark b s) more)
-
-pub val_view : (v : ValNode) → const_of (plain.Val v) ≡ ValConst (val_of v)
-unfolding roll-ConstNode denote.Hole.Carrier.roll
-val_view v = fold-roll-ConstNode Const TypedC const_step typed_const_step (opened.Val v)
 
 pub bytes_view : (b : Literal) → const_of (plain.Bytes b) ≡ BytesConst b
 unfolding roll-ConstNode denote.Hole.Carrier.roll
@@ -111,7 +112,8 @@ pub val_place : (types : List NamedType) (t : Option ResolvedType) (x : Const) (
 unfolding wrong_const
 val_place types t x v is = no_place ∙ ap (λ y. earliest (wrong_const types t y)) (sym is)
 
-pub bytes_place : (types : List NamedType) (t : Option ResolvedType) (x : Const) (b : Literal) (o : Option Span) → x ≡ BytesConst b → o ≡ earliest (at_if (fails (λ u. fits_bytes u b.text) t) b.span)
+pub bytes_place : (types : List NamedType) (t : Option ResolvedType) (x : Const) (b : Literal) (o : Option Span) → x ≡ BytesConst b
+    → o ≡ earliest (at_if (fails (λ u. fits_bytes u b.text) t) b.span)
     → o ≡ earliest (wrong_const types t x)
 unfolding wrong_const
 bytes_place types t x b o is a =
@@ -130,8 +132,10 @@ array_places types t e n s v ps count own inner o is i l m a b c =
     ∙ ap (λ xs. earliest (wrong_const types t (ArrayConst s (consts (map typed_const_of xs))))) i
     ∙ ap (λ x. earliest (wrong_const types t x)) (sym (ap const_of is ∙ array_view s v))
 
-pub struct_places : (types : List NamedType) (table : List ResolvedType) (numbers : List ℕ) (t : Option ResolvedType) (n : ConstNode) (s : Span) (v : Vec TypedConst Global) (ps : List TypedConst) (count : ℕ) (own inner o : Option Span)
-    → n ≡ node.Struct s v → ps ≡ v.items → count ≡ length ps → map (field_type table) numbers ≡ map (λ u. Some u) (fields_of t) → own ≡ earliest (at_if (fails (fits_fields count) t) s)
+pub struct_places : (types : List NamedType) (table : List ResolvedType) (numbers : List ℕ) (t : Option ResolvedType) (n : ConstNode) (s : Span) (v : Vec TypedConst Global)
+    (ps : List TypedConst) (count : ℕ) (own inner o : Option Span)
+    → n ≡ node.Struct s v → ps ≡ v.items → count ≡ length ps → map (field_type table) numbers ≡ map (λ u. Some u) (fields_of t)
+    → own ≡ earliest (at_if (fails (fits_fields count) t) s)
     → inner ≡ earliest (flat_map (field_row types table numbers) (enumerate_from 0 (map typed_const_of ps))) → o ≡ earlier own inner → o ≡ earliest (wrong_const types t (const_of n))
 unfolding wrong_const
 struct_places types table numbers t n s v ps count own inner o is i l m a b c =

@@ -62,7 +62,8 @@ flat_more f [] ys = refl
 flat_more f (x ∷ xs) ys = ap (λ zs. f x ++ zs) (flat_more f xs ys) ∙ sym (append_assoc (f x) (flat_map f xs) (flat_map f ys))
 
 -- one place more
-pub flat_step : (f : ℕ → List ℕ) (found after xs : List ℕ) (i d : ℕ) → i < length xs → found ≡ flat_map f (take i xs) → after ≡ found ++ f (get_or xs i d) → after ≡ flat_map f (take (i + 1) xs)
+pub flat_step : (f : ℕ → List ℕ) (found after xs : List ℕ) (i d : ℕ) → i < length xs → found ≡ flat_map f (take i xs) → after ≡ found ++ f (get_or xs i d)
+    → after ≡ flat_map f (take (i + 1) xs)
 flat_step f found after xs i d l e g =
     g
     ∙ ap (λ ys. ys ++ f (get_or xs i d)) e

@@ -1,5 +1,6 @@
 -- Which places are reached from a place in a graph, seen front by front.
-use Rattle.std.proofs.Common.{◌≡◌, ℕ, zero, suc, ◌+◌, ◌-◌, ◌<◌, ◌≤◌, Bool, true, false, List, [], ◌∷◌, ◌++◌, length, get_or, refl, sym, ap, ◌∙◌, arith, inl, inr, cond, take}
+use Rattle.std.proofs.Common.{◌≡◌, ℕ, zero, suc, ◌+◌, ◌-◌, ◌<◌, ◌≤◌, Bool, true, false, List, [], ◌∷◌, ◌++◌, length, get_or, refl, sym, ap, ◌∙◌}
+use Rattle.std.proofs.Common.{arith, inl, inr, cond, take}
 use Rattle.std.specs.Prelude.{◌==◌, ◌||◌, ◌&&◌, not, nat_lt, ◌⊎◌}
 use Rattle.std.proofs.Common.{slice_set}
 use Rattle.std.proofs.lemmas.List.{get_or-set_same, get_or-set_other, length-set}
@@ -49,7 +50,8 @@ one_more edges target zero p e = ap (λ b. b || list_any (arrives zero edges tar
 one_more edges target (suc n) p e = by (p == target) refl e (λ k. any_weaker (arrives n edges target) (arrives (suc n) edges target) (one_more edges target n) (edges p) k)
   where
     by : (b : Bool) → (p == target) ≡ b → (b || list_any (arrives n edges target) (edges p)) ≡ true
-        → (list_any (arrives n edges target) (edges p) ≡ true → list_any (arrives (suc n) edges target) (edges p) ≡ true) → (p == target || list_any (arrives (suc n) edges target) (edges p)) ≡ true
+        → (list_any (arrives n edges target) (edges p) ≡ true → list_any (arrives (suc n) edges target) (edges p) ≡ true)
+        → (p == target || list_any (arrives (suc n) edges target) (edges p)) ≡ true
     by true h k more = ap (λ b. b || list_any (arrives (suc n) edges target) (edges p)) h
     by false h k more = or_true (p == target) (list_any (arrives (suc n) edges target) (edges p)) (more k)
 
@@ -107,7 +109,8 @@ or_cases false b e = inr e
 
 pub from_flat : (edges : ℕ → List ℕ) (front : List ℕ) (w : ℕ) → has (flat_map edges front) w ≡ true → Leads edges front w
 from_flat edges [] w e = absurd cc
-from_flat edges (g ∷ front) w e = by (or_cases (has (edges g) w) (has (flat_map edges front) w) (sym (list_any-append (λ q. q == w) (edges g) (flat_map edges front)) ∙ e)) (from_flat edges front w)
+from_flat edges (g ∷ front) w e = by (or_cases (has (edges g) w) (has (flat_map edges front) w) (sym (list_any-append (λ q. q == w) (edges g) (flat_map edges front)) ∙ e))
+    (from_flat edges front w)
   where
     by : (has (edges g) w ≡ true) ⊎ (has (flat_map edges front) w ≡ true) → (has (flat_map edges front) w ≡ true → Leads edges front w) → Leads edges (g ∷ front) w
     by (inl h) more = record { place = g; among = ap (λ t. t || has front g) (same_nat g); leads = h }
@@ -126,7 +129,8 @@ next_front edges target seen after front next f a within n = record {
     by_step v w e (inl h) = let i = in_flat edges front v w h e in inr (n.noted w i (within w i))
     by_step v w e (inr h) = inr (n.kept w h)
 
-    by_closed : (v w : ℕ) → has (edges v) w ≡ true → (is_seen seen v ≡ true) ⊎ (has next v ≡ true) → (is_seen seen v ≡ true → (has front v ≡ true) ⊎ (is_seen seen w ≡ true)) → (has next v ≡ true) ⊎ (is_seen after w ≡ true)
+    by_closed : (v w : ℕ) → has (edges v) w ≡ true → (is_seen seen v ≡ true) ⊎ (has next v ≡ true)
+        → (is_seen seen v ≡ true → (has front v ≡ true) ⊎ (is_seen seen w ≡ true)) → (has next v ≡ true) ⊎ (is_seen after w ≡ true)
     by_closed v w e (inl h) old = by_step v w e (old h)
     by_closed v w e (inr h) old = inl h
 
@@ -174,7 +178,8 @@ many_more edges target m n p l e = by (n - m) n (omega (arith, l))
         let i : n ≡ suc (k + m) = omega (arith, s) in
         ap (λ i. arrives i edges target p) i ∙ one_more edges target (k + m) p (by k (k + m) refl)
 
-pub found_now : (edges : ℕ → List ℕ) (target start r n : ℕ) (front : List ℕ) → r < n → Reached edges target start r front → has (flat_map edges front) target ≡ true → arrives n edges target start ≡ true
+pub found_now : (edges : ℕ → List ℕ) (target start r n : ℕ) (front : List ℕ) → r < n → Reached edges target start r front → has (flat_map edges front) target ≡ true
+    → arrives n edges target start ≡ true
 unfolding arrives
 found_now edges target start r n front l reached h =
     let f = from_flat edges front target h in
@@ -233,7 +238,8 @@ note_step all seen now next q n = by (nat_lt q (length now)) refl (is_seen now q
     same_as : (v : ℕ) → (q == v) ≡ true → q ≡ v
     same_as v e = grind (arith, nat_tests)
 
-    stays : (seen' : List Bool) → seen' ≡ now → (next' : List ℕ) → next' ≡ next → ((v : ℕ) → (q == v) ≡ true → v < length seen → is_seen now v ≡ true) → Noted (all ++ q ∷ []) seen seen' next'
+    stays : (seen' : List Bool) → seen' ≡ now → (next' : List ℕ) → next' ≡ next → ((v : ℕ) → (q == v) ≡ true → v < length seen → is_seen now v ≡ true)
+        → Noted (all ++ q ∷ []) seen seen' next'
     stays seen' e next' f own = record {
       same = ap length e ∙ n.same;
       kept = λ v s. ap (λ x. is_seen x v) e ∙ n.kept v s;
@@ -251,7 +257,8 @@ note_step all seen now next q n = by (nat_lt q (length now)) refl (is_seen now q
         by_noted v l (inl h) = n.noted v h l
         by_noted v l (inr h) = own v h l
 
-    grows : q < length now → (seen' : List Bool) → seen' ≡ slice_set now q true → (next' : List ℕ) → next' ≡ next ++ q ∷ [] → length seen' ≡ length now → Noted (all ++ q ∷ []) seen seen' next'
+    grows : q < length now → (seen' : List Bool) → seen' ≡ slice_set now q true → (next' : List ℕ) → next' ≡ next ++ q ∷ [] → length seen' ≡ length now
+        → Noted (all ++ q ∷ []) seen seen' next'
     grows l seen' e next' f size = record {
       same = size ∙ n.same;
       kept = λ v s. is v ∙ or_left (is_seen now v) (q == v) (n.kept v s);

@@ -1,5 +1,6 @@
 -- A search from a place, front by front.
-use Rattle.std.proofs.Common.{◌≡◌, ℕ, zero, suc, ◌+◌, ◌-◌, ◌<◌, ◌≤◌, Bool, true, false, List, [], ◌∷◌, length, replicate, refl, sym, ap, subst, ◌∙◌, arith, inl, inr}
+use Rattle.std.proofs.Common.{◌≡◌, ℕ, zero, suc, ◌+◌, ◌-◌, ◌<◌, ◌≤◌, Bool, true, false, List, [], ◌∷◌, length, replicate, refl, sym, ap, subst, ◌∙◌}
+use Rattle.std.proofs.Common.{arith, inl, inr}
 use Rattle.std.specs.Prelude.{◌==◌, ◌||◌, ◌⊎◌}
 use Rattle.std.specs.List.{flat_map, list_any}
 use Rattle.std.proofs.lemmas.Bool.Decides.{nat_tests}
@@ -97,7 +98,8 @@ nothing_left edges target start n r seen s = never_found edges target start n (�
     none f = let h = f.among in cc
 
 -- all rounds are done
-pub all_done : (edges : ℕ → List ℕ) (target start n r : ℕ) (seen : List Bool) (front : List ℕ) → n ≤ r → Searching edges target start n r seen front → false ≡ arrives n edges target start
+pub all_done : (edges : ℕ → List ℕ) (target start n r : ℕ) (seen : List Bool) (front : List ℕ) → n ≤ r → Searching edges target start n r seen front
+    → false ≡ arrives n edges target start
 unfolding arrives
 all_done edges target start n r seen front l s = never_found edges target start n (λ e. none (s.left e))
   where
@@ -111,7 +113,8 @@ all_done edges target start n r seen front l s = never_found edges target start 
         let x : true ≡ false = sym (s.fronts.among f.place f.among) ∙ ap (λ v. is_seen seen v) t ∙ s.fronts.away in
         cc
 
-pub is_found : (edges : ℕ → List ℕ) (target start n r : ℕ) (seen : List Bool) (front : List ℕ) → r < n → Searching edges target start n r seen front → has (flat_map edges front) target ≡ true → true ≡ arrives n edges target start
+pub is_found : (edges : ℕ → List ℕ) (target start n r : ℕ) (seen : List Bool) (front : List ℕ) → r < n → Searching edges target start n r seen front
+    → has (flat_map edges front) target ≡ true → true ≡ arrives n edges target start
 is_found edges target start n r seen front l s h = sym (found_now edges target start r n front l s.reached h)
 
 -- the start is the target

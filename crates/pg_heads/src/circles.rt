@@ -12,15 +12,17 @@ ghost use Rattle.pg_rules.specs.Written.{types_within};
 ghost use Rattle.pg_rules.specs.declared.fault.CheckKind.TheVariants.{WrongType};
 ghost use Rattle.pg_rules.specs.Earliest.{only, joined, IsFirstIn};
 ghost use Rattle.pg_rules.specs.Conditions.{RefusedPlaces, names_in_types, meets, self_contained};
-ghost use Rattle.pg_heads.specs.Ranks.{Fall};
 ghost use Rattle.pg_heads.specs.Circles.{has, Noted, noted_seen, noted_next, place_of, place_of_name, places_in, next_places, arrives, is_behind, circle_at};
 
+use crate::ranked_items::RankedItems;
 use crate::ranks::rank_of;
 use indexmap::IndexMap;
+use pg_rules::{
+    CheckKind, CheckRefusal, add_types_within, earlier_refusal, place_if, refusal_at,
+};
+use pg_types::{TypeNumbers, place_of_name};
 use pg_ast::{Name, TypeItem, TypeNode};
 use pg_lex::Span;
-use pg_rules::{CheckKind, CheckRefusal, add_types_within, earlier_refusal, place_if, refusal_at};
-use pg_types::{TypeNumbers, place_of_name};
 use std::alloc::{AllocError, Global};
 
 /// Notes a place that wasn't seen.
@@ -184,25 +186,16 @@ fn reaches(
 }
 
 /// Whether a name is that of the item at a place, or leads to it. A place of a lower rank doesn't.
-fn leads_back(
-    alloc: Global,
-    places: &IndexMap<&[u8], usize>,
-    items: &[TypeItem],
-    ranks: &[usize],
-    target: usize,
-    name: &Name,
-) -> Result<bool, AllocError>
-    requires known { (text : List ℕ) → known_place places.now text ≡ place_of (map type_item_of items.now) text }
-    requires fall { Fall (next_places (map type_item_of items.now)) ranks.now }
-    ensures { (text : List ℕ) → place_of (map type_item_of items.now) text ≡ Some target →
-        IfOk result (λ b. b ≡ meets (length (map type_item_of items.now)) (map type_item_of items.now) text name.now.text) }
+fn leads_back(ranked: &RankedItems<'_>, target: usize, name: &Name) -> Result<bool, AllocError>
+    ensures { (text : List ℕ) → place_of (map type_item_of ranked.now.items.now) text ≡ Some target →
+        IfOk result (λ b. b ≡ meets (length (map type_item_of ranked.now.items.now)) (map type_item_of ranked.now.items.now) text name.now.text) }
 {
-    match place_of_name(places, name.text.as_slice()) {
+    match place_of_name(ranked.places, name.text.as_slice()) {
         Some(start) => {
-            if rank_of(ranks, start) < rank_of(ranks, target) {
+            if rank_of(ranked.ranks, start) < rank_of(ranked.ranks, target) {
                 return Ok(false);
             }
-            reaches(alloc, places, items, target, start)
+            reaches(ranked.alloc, ranked.places, ranked.items, target, start)
         }
         None => Ok(false),
     }
@@ -221,25 +214,20 @@ fn is_behind(known: Option<CheckRefusal>, place: Span) -> bool
 /// The first of the refusal that is known and that of a type that is the name of the item at a place, or leads to it.
 /// Behind the refusal that is known, the way back isn't looked for.
 fn circle_at(
-    alloc: Global,
-    places: &IndexMap<&[u8], usize>,
-    items: &[TypeItem],
-    ranks: &[usize],
+    ranked: &RankedItems<'_>,
     target: usize,
     known: Option<CheckRefusal>,
     ty: &TypeNode,
 ) -> Result<Option<CheckRefusal>, AllocError>
-    requires known { (text : List ℕ) → known_place places.now text ≡ place_of (map type_item_of items.now) text }
-    requires fall { Fall (next_places (map type_item_of items.now)) ranks.now }
-    ensures { (p : RefusedPlaces) (text : List ℕ) → IsFirstIn p known → place_of (map type_item_of items.now) text ≡ Some target →
-        IfOk result (λ o. IsFirstIn (joined p (only WrongType (circle_at (map type_item_of items.now) text (ty_of ty.now)))) o) }
+    ensures { (p : RefusedPlaces) (text : List ℕ) → IsFirstIn p known → place_of (map type_item_of ranked.now.items.now) text ≡ Some target →
+        IfOk result (λ o. IsFirstIn (joined p (only WrongType (circle_at (map type_item_of ranked.now.items.now) text (ty_of ty.now)))) o) }
 {
     match ty {
         TypeNode::Named(name) => {
             if is_behind(known, name.span) {
                 return Ok(known);
             }
-            let back = leads_back(alloc, places, items, ranks, target, name)?;
+            let back = leads_back(ranked, target, name)?;
             let circle = refusal_at(CheckKind::WrongType, place_if(back, name.span));
             Ok(earlier_refusal(known, circle))
         }
@@ -249,52 +237,35 @@ fn circle_at(
 
 /// The first of the refusal that is known and those of types that are the name of the item at a place, or lead to it.
 fn circles_among(
-    alloc: Global,
-    places: &IndexMap<&[u8], usize>,
-    items: &[TypeItem],
-    ranks: &[usize],
+    ranked: &RankedItems<'_>,
     target: usize,
     known: Option<CheckRefusal>,
     all: &[&TypeNode],
 ) -> Result<Option<CheckRefusal>, AllocError>
-    requires known { (text : List ℕ) → known_place places.now text ≡ place_of (map type_item_of items.now) text }
-    requires fall { Fall (next_places (map type_item_of items.now)) ranks.now }
-    ensures { (p : RefusedPlaces) (text : List ℕ) → IsFirstIn p known → place_of (map type_item_of items.now) text ≡ Some target →
-        IfOk result (λ o. IsFirstIn (joined p (only WrongType (flat_map (circle_at (map type_item_of items.now) text) (tys_behind all.now)))) o) }
+    ensures { (p : RefusedPlaces) (text : List ℕ) → IsFirstIn p known → place_of (map type_item_of ranked.now.items.now) text ≡ Some target →
+        IfOk result (λ o. IsFirstIn (joined p (only WrongType (flat_map (circle_at (map type_item_of ranked.now.items.now) text) (tys_behind all.now)))) o) }
 {
     let mut found = known;
     for ty in all {
-        found = circle_at(alloc, places, items, ranks, target, found, ty)?;
+        found = circle_at(ranked, target, found, ty)?;
     }
     Ok(found)
 }
 
-/// The first of the refusal that is known and those of names in a type that are that of the item at a place, or lead to it.
+/// The first of the refusal that is known and those of names in an item's type that are that of the item at a place, or
+/// lead to it.
 fn circles_in(
-    alloc: Global,
-    places: &IndexMap<&[u8], usize>,
-    items: &[TypeItem],
-    ranks: &[usize],
+    ranked: &RankedItems<'_>,
     target: usize,
     known: Option<CheckRefusal>,
-    ty: &TypeNode,
+    item: &TypeItem,
 ) -> Result<Option<CheckRefusal>, AllocError>
-    requires known { (text : List ℕ) → known_place places.now text ≡ place_of (map type_item_of items.now) text }
-    requires fall { Fall (next_places (map type_item_of items.now)) ranks.now }
-    ensures { (p : RefusedPlaces) (text : List ℕ) → IsFirstIn p known → place_of (map type_item_of items.now) text ≡ Some target →
-        IfOk result (λ o. IsFirstIn (joined p (only WrongType (flat_map (circle_at (map type_item_of items.now) text) (types_within (ty_of ty.now))))) o) }
+    ensures { (p : RefusedPlaces) (text : List ℕ) → IsFirstIn p known → place_of (map type_item_of ranked.now.items.now) text ≡ Some target →
+        IfOk result (λ o. IsFirstIn (joined p (only WrongType (flat_map (circle_at (map type_item_of ranked.now.items.now) text) (types_within (ty_of item.now.ty))))) o) }
 {
-    let mut within = Vec::new(alloc);
-    add_types_within(&mut within, ty)?;
-    circles_among(
-        alloc,
-        places,
-        items,
-        ranks,
-        target,
-        known,
-        within.as_slice(),
-    )
+    let mut within = Vec::new(ranked.alloc);
+    add_types_within(&mut within, &item.ty)?;
+    circles_among(ranked, target, known, within.as_slice())
 }
 
 /// Whether what is written is a type.
@@ -308,29 +279,24 @@ fn is_type(types: &TypeNumbers<'_>, ty: &TypeNode) -> Result<bool, AllocError>
 /// The first of the refusal that is known and those of names in a type item through which it contains itself. The first
 /// item of a name contains itself in no type that is one.
 pub(crate) fn self_contained(
-    alloc: Global,
     types: &TypeNumbers<'_>,
-    places: &IndexMap<&[u8], usize>,
-    items: &[TypeItem],
-    ranks: &[usize],
+    ranked: &RankedItems<'_>,
     place: usize,
     item: &TypeItem,
     known: Option<CheckRefusal>,
 ) -> Result<Option<CheckRefusal>, AllocError>
-    requires known { (text : List ℕ) → known_place places.now text ≡ place_of (map type_item_of items.now) text }
-    requires fall { Fall (next_places (map type_item_of items.now)) ranks.now }
-    requires at { slice_get (map type_item_of items.now) place ≡ Some (type_item_of item.now) }
-    requires items { types.now.items ≡ items.now }
+    requires at { slice_get (map type_item_of ranked.now.items.now) place ≡ Some (type_item_of item.now) }
+    requires items { types.now.items ≡ ranked.now.items.now }
     ensures first { (p : RefusedPlaces) → IsFirstIn p known →
-        IfOk result (λ o. IsFirstIn (joined p (only WrongType (self_contained (map type_item_of items.now) (type_item_of item.now)))) o) }
+        IfOk result (λ o. IsFirstIn (joined p (only WrongType (self_contained (map type_item_of ranked.now.items.now) (type_item_of item.now)))) o) }
 {
-    match place_of_name(places, item.name.text.as_slice()) {
+    match place_of_name(ranked.places, item.name.text.as_slice()) {
         Some(target) => {
             let whole = is_type(types, &item.ty)?;
             if whole && target == place {
                 Ok(known)
             } else {
-                circles_in(alloc, places, items, ranks, target, known, &item.ty)
+                circles_in(ranked, target, known, item)
             }
         }
         None => Ok(known),

@@ -27,17 +27,17 @@ ghost use Rattle.pg_rules.specs.Conditions.{head_types, are_params, has_header, 
 
 use crate::heads::is_main;
 use indexmap::IndexMap;
-use pg_ast::{DefineItem, NextNumber, ParamNode, TypeNode};
-use pg_ir::Scalar;
-use pg_lex::Span;
-use pg_num::Width;
-use pg_num::limits::FUNCTION_LIMIT;
 use pg_rules::{
     CheckKind, CheckRefusal, all_within, any_large, are_types, doubled, doubled_among, earlier,
     earlier_refusal, is_result, known_named, name_or_type_refusal, param_names, place_if,
     refusal_at, unknown_types, wrong_types,
 };
 use pg_types::{TypeKind, TypeNumbers};
+use pg_ir::Scalar;
+use pg_num::Width;
+use pg_num::limits::FUNCTION_LIMIT;
+use pg_ast::{DefineItem, NextNumber, ParamNode, TypeNode};
+use pg_lex::Span;
 use std::alloc::{AllocError, Global};
 
 fn isnt_scalar(kind: Option<TypeKind>) -> bool

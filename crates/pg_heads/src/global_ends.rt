@@ -12,9 +12,9 @@ ghost use Rattle.pg_types.specs.Known.{denoted, IsWithin};
 ghost use Rattle.pg_types.specs.NumberedTypes.{named_types, table_of};
 ghost use Rattle.pg_heads.specs.Ends.{ended};
 
-use pg_ast::TypeNode;
-use pg_num::layout::GLOBALS_END;
 use pg_types::{KnownTypes, TypeNumbers};
+use pg_num::layout::GLOBALS_END;
+use pg_ast::TypeNode;
 use std::alloc::AllocError;
 
 /// The granules that a global of a size takes, as they are kept.

@@ -23,15 +23,15 @@ use crate::initialiser_rows::{add_use_types, function_uses, unknown_uses, wrong_
 use crate::initialisers::{UseNode, add_types, add_uses};
 use crate::wrong_constants::wrong_const;
 use indexmap::IndexMap;
-use pg_ast::{GlobalItem, TypeNode};
-use pg_lex::Span;
-use pg_num::limits::GLOBAL_LIMIT;
 use pg_rules::{
     CheckKind, CheckRefusal, Symbols, all_within, any_large, doubled, earlier, earlier_refusal,
     name_or_type_refusal, place_if, refusal_at, unknown_types, wrong_types,
 };
 use pg_types::TypeNumbers;
 use pg_values::{TypeTest, ValueScope, unmet};
+use pg_num::limits::GLOBAL_LIMIT;
+use pg_ast::{GlobalItem, TypeNode};
+use pg_lex::Span;
 use std::alloc::{AllocError, Global};
 
 /// Whether a global's number is past those that a program may have.
@@ -89,7 +89,7 @@ fn wrong_places(
     let written = wrong_types(types, within)?;
     let own = unmet(types, TypeTest::NotVoid, &item.ty)?;
     let constant = wrong_const(alloc, types, &item.value, &item.ty)?;
-    let values = wrong_uses(alloc, scope, types, uses)?;
+    let values = wrong_uses(scope, types, uses)?;
     Ok(earlier(written, earlier(own, earlier(constant, values))))
 }
 
@@ -168,6 +168,7 @@ pub fn globals_refusal(
 {
     let registers = IndexMap::new(alloc);
     let scope = ValueScope {
+        alloc,
         symbols,
         registers: &registers,
         types: &[],

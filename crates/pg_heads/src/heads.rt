@@ -19,14 +19,14 @@ ghost use Rattle.pg_rules.specs.Conditions.{head_types, main_name, has_header, t
 ghost use Rattle.pg_rules.specs.Written.{types_within};
 
 use indexmap::IndexMap;
-use pg_ast::{DeclareItem, DparamNode, TypeNode};
-use pg_ir::{Known, Scalar};
-use pg_num::Width;
 use pg_rules::{
     CheckKind, CheckRefusal, all_within, are_params, doubled, earlier_refusal, is_result,
     known_named, name_or_type_refusal, place_if, refusal_at, unknown_types, wrong_counts,
 };
 use pg_types::TypeNumbers;
+use pg_ir::{Known, Scalar};
+use pg_num::Width;
+use pg_ast::{DeclareItem, DparamNode, TypeNode};
 use std::alloc::{AllocError, Global};
 
 /// Adds the type of a parameter that has one.

@@ -11,12 +11,14 @@ ghost use Rattle.pg_values.specs.Scopes.{IsScope};
 ghost use Rattle.pg_heads.specs.Initialisers.{uses_behind, within_row, own_row};
 
 use crate::initialisers::UseNode;
-use pg_ast::TypeNode;
-use pg_lex::Span;
 use pg_rules::earlier;
 use pg_types::TypeNumbers;
-use pg_values::{ValueScope, add_own_types, function_values, unknown_values, wrong_values};
-use std::alloc::{AllocError, Global};
+use pg_values::{
+    PlacedValue, ValueScope, add_own_types, function_values, unknown_values, wrong_values,
+};
+use pg_ast::TypeNode;
+use pg_lex::Span;
+use std::alloc::AllocError;
 
 /// Adds the types that the values of an initialiser write by themselves.
 pub(crate) fn add_use_types<'a>(
@@ -57,7 +59,6 @@ pub(crate) fn function_uses(scope: &ValueScope<'_>, uses: &[UseNode<'_>]) -> Opt
 
 /// The earliest place at which a value of an initialiser doesn't fit.
 pub(crate) fn wrong_uses(
-    alloc: Global,
     scope: &ValueScope<'_>,
     types: &TypeNumbers<'_>,
     uses: &[UseNode<'_>],
@@ -67,7 +68,12 @@ pub(crate) fn wrong_uses(
 {
     let mut found = None;
     for one in uses {
-        let own = wrong_values(alloc, scope, types, true, one.ty, one.value)?;
+        let placed = PlacedValue {
+            constant: true,
+            ty: one.ty,
+            value: one.value,
+        };
+        let own = wrong_values(scope, types, placed)?;
         found = earlier(found, own);
     }
     Ok(found)

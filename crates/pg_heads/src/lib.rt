@@ -9,6 +9,7 @@ mod heads;
 mod initialiser_rows;
 mod initialisers;
 mod phases;
+mod ranked_items;
 mod ranks;
 mod type_items;
 mod wrong_constants;

@@ -15,9 +15,9 @@ ghost use Rattle.pg_rules.specs.Conditions.{all_of, declaration_refused, definit
 use crate::definitions::definition_refusal;
 use crate::heads::declaration_refusal;
 use indexmap::IndexMap;
-use pg_ast::{DeclareItem, DefineItem, Module};
 use pg_rules::{CheckRefusal, earlier_refusal};
 use pg_types::TypeNumbers;
+use pg_ast::{DeclareItem, DefineItem, Module};
 use std::alloc::{AllocError, Global};
 
 /// The first refusal of declared functions.

@@ -13,14 +13,15 @@ ghost use Rattle.pg_heads.specs.Circles.{place_of, next_places};
 ghost use Rattle.pg_heads.specs.Ranks.{Fall};
 
 use crate::circles::self_contained;
+use crate::ranked_items::RankedItems;
 use crate::ranks::item_ranks;
 use indexmap::IndexMap;
-use pg_ast::{Module, Name, TypeItem, TypeNode};
 use pg_rules::{
     CheckKind, CheckRefusal, add_types_within, any_large, doubled, earlier_refusal, index_starts,
     name_or_type_refusal, place_if, refusal_at, unknown_types, wrong_types,
 };
 use pg_types::{TypeNumbers, index_items};
+use pg_ast::{Module, Name, TypeItem, TypeNode};
 use std::alloc::{AllocError, Global};
 
 /// The names of type items.
@@ -56,24 +57,19 @@ fn item_types<'a>(alloc: Global, item: &'a TypeItem) -> Result<Vec<&'a TypeNode>
 
 /// The first of the refusals of a type item and of the one that is known.
 fn item_refusal(
-    alloc: Global,
     types: &TypeNumbers<'_>,
-    places: &IndexMap<&[u8], usize>,
+    ranked: &RankedItems<'_>,
     starts: &IndexMap<&[u8], u32>,
-    items: &[TypeItem],
-    ranks: &[usize],
     place: usize,
     item: &TypeItem,
     known: Option<CheckRefusal>,
 ) -> Result<Option<CheckRefusal>, AllocError>
-    requires known { (text : List ℕ) → known_place places.now text ≡ place_of (map type_item_of items.now) text }
-    requires fall { Fall (next_places (map type_item_of items.now)) ranks.now }
-    requires starts { (text : List ℕ) → known_place starts.now text ≡ first_start (type_names (map type_item_of items.now)) text }
-    requires at { slice_get (map type_item_of items.now) place ≡ Some (type_item_of item.now) }
-    requires items { types.now.items ≡ items.now }
-    ensures first { (p : RefusedPlaces) → IsFirstIn p known → IfOk result (λ o. IsFirstIn (joined p (item_refused (map type_item_of items.now) (type_item_of item.now))) o) }
+    requires starts { (text : List ℕ) → known_place starts.now text ≡ first_start (type_names (map type_item_of ranked.now.items.now)) text }
+    requires at { slice_get (map type_item_of ranked.now.items.now) place ≡ Some (type_item_of item.now) }
+    requires items { types.now.items ≡ ranked.now.items.now }
+    ensures first { (p : RefusedPlaces) → IsFirstIn p known → IfOk result (λ o. IsFirstIn (joined p (item_refused (map type_item_of ranked.now.items.now) (type_item_of item.now))) o) }
 {
-    let within = item_types(alloc, item)?;
+    let within = item_types(ranked.alloc, item)?;
     let wrong = wrong_types(types, within.as_slice())?;
     let large = any_large(types, within.as_slice())?;
     let unknown = unknown_types(types, within.as_slice());
@@ -83,7 +79,7 @@ fn item_refusal(
         refusal_at(CheckKind::TooLarge, place_if(large, item.name.span)),
     );
     let found = earlier_refusal(known, own);
-    self_contained(alloc, types, places, items, ranks, place, item, found)
+    self_contained(types, ranked, place, item, found)
 }
 
 /// The first refusal of type items.
@@ -101,12 +97,16 @@ fn items_refusal(
     requires items { types.now.items ≡ items.now }
     ensures first { IfOk result (λ o. IsFirstIn (all_of (item_refused (map type_item_of items.now)) (map type_item_of items.now)) o) }
 {
+    let ranked = RankedItems {
+        alloc,
+        places,
+        items,
+        ranks,
+    };
     let mut found = None;
     for place in 0..items.len() {
         let item = &items[place];
-        found = item_refusal(
-            alloc, types, places, starts, items, ranks, place, item, found,
-        )?;
+        found = item_refusal(types, &ranked, starts, place, item, found)?;
     }
     Ok(found)
 }

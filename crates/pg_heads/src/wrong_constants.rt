@@ -15,12 +15,12 @@ ghost use Rattle.pg_rules.specs.Earliest.{earliest};
 ghost use Rattle.pg_values.specs.Fields.{AreFields, field_type};
 ghost use Rattle.pg_heads.specs.ConstantParts.{AllWithin, part_row, field_row, fits_kind};
 
-use pg_ast::{ConstNode, Literal, TypeNode, TypedConst};
-use pg_lex::Span;
-use pg_num::Width;
 use pg_rules::{earlier, place_if, type_span};
 use pg_types::{KnownTypes, Shape, TypeKind, TypeNumbers};
 use pg_values::fields_of;
+use pg_num::Width;
+use pg_ast::{ConstNode, Literal, TypeNode, TypedConst};
+use pg_lex::Span;
 use std::alloc::{AllocError, Global};
 
 /// Whether bytes are so many elements of a kind.

@@ -12,7 +12,7 @@ use Rattle.pg_paths.specs.Followed.{Followed, cell_at, followed_from, root_value
 use Rattle.pg_paths.specs.Paths.{offsets_of}
 use Rattle.pg_accesses.specs.declared.rooted.Rooted.{Rooted}
 use Rattle.pg_accesses.specs.Accesses.{RootedList}
-use Rattle.pg_accesses.proofs.Elements.{here, there, none_in}
+use Rattle.pg_paths.proofs.Elements.{here, there, none_in}
 use Rattle.pg_region.specs.declared.region.Region.{Region}
 use Rattle.pg_step.specs.LocalState.{Frame, LocalState}
 use Rattle.pg_machine.specs.State.{State}
@@ -26,11 +26,14 @@ use Rattle.pg_instances.proofs.Free.{apart_at, at_branch, followed_at}
 use Rattle.pg_instances.proofs.Values.{follows_root, root_follows}
 
 -- in memory with the same cells a path is followed in the same way
-same_cells : (before now : ByteRange → ℕ) (ks : List ℕ) (w : ℕ) (at : Followed) → followed_from before w ks ≡ Some at → ((c : ByteRange) → Contains at.cells c → now c ≡ before c) → followed_from now w ks ≡ Some at
+same_cells : (before now : ByteRange → ℕ) (ks : List ℕ) (w : ℕ) (at : Followed) → followed_from before w ks ≡ Some at
+    → ((c : ByteRange) → Contains at.cells c → now c ≡ before c) → followed_from now w ks ≡ Some at
 same_cells before now [] w at e h = e
 same_cells before now (k ∷ ks) w at e h = go (cell_at w k) refl e (λ u more q i. same_cells before now ks u more q i)
   where
-    with_more : (c : ByteRange) (o : Option Followed) → cell_at w k ≡ Some c → followed_from before (before c) ks ≡ o → followed.behind w c o ≡ Some at → ((u : ℕ) (more : Followed) → followed_from before u ks ≡ Some more → ((c : ByteRange) → Contains more.cells c → now c ≡ before c) → followed_from now u ks ≡ Some more) → followed_from now w (k ∷ ks) ≡ Some at
+    with_more : (c : ByteRange) (o : Option Followed) → cell_at w k ≡ Some c → followed_from before (before c) ks ≡ o → followed.behind w c o ≡ Some at
+        → ((u : ℕ) (more : Followed) → followed_from before u ks ≡ Some more → ((c : ByteRange) → Contains more.cells c → now c ≡ before c)
+        → followed_from now u ks ≡ Some more) → followed_from now w (k ∷ ks) ≡ Some at
     with_more c None q r v rest = absurd cc
     with_more c (Some more) q r v rest =
         let is : record { pointers = w ∷ more.pointers; cells = c ∷ more.cells; last = more.last } ≡ at = cc in
@@ -41,12 +44,15 @@ same_cells before now (k ∷ ks) w at e h = go (cell_at w k) refl e (λ u more q
         ∙ ap (λ (u : ℕ). followed.behind w c (followed_from now u ks)) held
         ∙ ap (followed.behind w c) next ∙ ap (λ (f : Followed). Some f) is
 
-    go : (o : Option ByteRange) → cell_at w k ≡ o → option_and_then (λ cell. followed.behind w cell (followed_from before (before cell) ks)) o ≡ Some at → ((u : ℕ) (more : Followed) → followed_from before u ks ≡ Some more → ((c : ByteRange) → Contains more.cells c → now c ≡ before c) → followed_from now u ks ≡ Some more) →
+    go : (o : Option ByteRange) → cell_at w k ≡ o → option_and_then (λ cell. followed.behind w cell (followed_from before (before cell) ks)) o ≡ Some at
+        → ((u : ℕ) (more : Followed) → followed_from before u ks ≡ Some more → ((c : ByteRange) → Contains more.cells c → now c ≡ before c)
+        → followed_from now u ks ≡ Some more) →
         followed_from now w (k ∷ ks) ≡ Some at
     go None q v rest = absurd cc
     go (Some c) q v rest = with_more c (followed_from before (before c) ks) q refl v rest
 
-module _ (p : NumberedProgram) (gated : ℕ → Bool) (sums : ℕ → Option RootedList) (r : Region) (q : FreeRegion) (m : Moment) (s : State) (l : LocalState) (f : Frame) (fs : List Frame) (x : Instr) (h : IsAlikeBranch p gated sums r q m s l f fs x) where
+module _ (p : NumberedProgram) (gated : ℕ → Bool) (sums : ℕ → Option RootedList) (r : Region) (q : FreeRegion) (m : Moment) (s : State) (l : LocalState) (f : Frame) (fs : List Frame)
+    (x : Instr) (h : IsAlikeBranch p gated sums r q m s l f fs x) where
   access_leads : (a : Rooted) → Contains r.accesses.items a → Leads p (registers_by f.registers) (read s.memory) q.accesses a
   access_leads a c = go a.path.loads refl
     where
@@ -69,7 +75,8 @@ module _ (p : NumberedProgram) (gated : ℕ → Bool) (sums : ℕ → Option Roo
           let is : record { pointers = []; cells = []; last = root.0 } ≡ recorded.0 = cc in
           record {
             at = record { pointers = []; cells = []; last = alike.word };
-            is = root_follows (read s.memory) (offsets_of a.path.loads) (root_value p (registers_by f.registers) a.path.root) alike.word alike.is_word ∙ ap (λ (v : Loads). followed_from (read s.memory) alike.word (offsets_of v)) e;
+            is = root_follows (read s.memory) (offsets_of a.path.loads) (root_value p (registers_by f.registers) a.path.root) alike.word alike.is_word
+                ∙ ap (λ (v : Loads). followed_from (read s.memory) alike.word (offsets_of v)) e;
             loads = λ w d. absurd (none_in w d);
             last = reached alike.word (alike.frame root.0 root.1 ∙ ap (λ (g : Followed). frame_of g.last) is);
           }
@@ -80,7 +87,8 @@ module _ (p : NumberedProgram) (gated : ℕ → Bool) (sums : ℕ → Option Roo
           let same : alike.word ≡ root.0 = alike.same root.0 root.1 n in
           record {
             at = recorded.0;
-            is = root_follows (read s.memory) (offsets_of a.path.loads) (root_value p (registers_by f.registers) a.path.root) root.0 (alike.is_word ∙ ap (λ (w : ℕ). Some w) same) ∙ same_cells (number_in m) (read s.memory) (offsets_of a.path.loads) root.0 recorded.0 root.2 (alike.cells recorded.0 recorded.1);
+            is = root_follows (read s.memory) (offsets_of a.path.loads) (root_value p (registers_by f.registers) a.path.root) root.0 (alike.is_word ∙ ap (λ (w : ℕ). Some w) same)
+                ∙ same_cells (number_in m) (read s.memory) (offsets_of a.path.loads) root.0 recorded.0 root.2 (alike.cells recorded.0 recorded.1);
             loads = λ w d. record { access = record { writes = a.writes; path = a.path; at = recorded.0 }; among = recorded.2; pointer = w; loads = d; same = refl };
             last = reached recorded.0.last refl;
           }
@@ -96,4 +104,5 @@ module _ (p : NumberedProgram) (gated : ℕ → Bool) (sums : ℕ → Option Roo
       go (FourTimes i j k n) e = some (no_never (FourTimes i j k n) e (λ k. cc))
 
   pub alike_begins : IsAtBranch (instance_of p gated sums r q s l f fs)
-  alike_begins = at_branch p gated sums r q s l f fs x h.program h.summaries h.begun h.frames h.is h.kind h.function (h.program.instrs f.place x h.is).block h.join access_leads (apart_at q.accesses h.apart)
+  alike_begins = at_branch p gated sums r q s l f fs x h.program h.summaries h.begun h.frames h.is h.kind h.function (h.program.instrs f.place x h.is).block h.join access_leads
+      (apart_at q.accesses h.apart)

@@ -1,5 +1,6 @@
 -- From the join on, a thread that does an event comes to a block that isn't quiet, or to a return, along the flow of control.
-use Rattle.std.proofs.Common.{◌≡◌, ℕ, ◌+◌, ◌<◌, Bool, true, false, List, [], ◌∷◌, ◌++◌, length, Option, Some, None, refl, sym, ap, ◌∙◌, subst, arith, inl, inr, ◌⊎◌}
+use Rattle.std.proofs.Common.{◌≡◌, ℕ, ◌+◌, ◌<◌, Bool, true, false, List, [], ◌∷◌, ◌++◌, length, Option, Some, None, refl, sym, ap, ◌∙◌, subst, arith, inl}
+use Rattle.std.proofs.Common.{inr, ◌⊎◌}
 use Rattle.std.specs.Prelude.{slice_get, Contains}
 use Rattle.pg_ir.specs.declared.instr.Instr.{Instr}
 use Rattle.pg_ir.specs.declared.instr.Op.{Op}
@@ -58,14 +59,16 @@ module _ (p : NumberedProgram) (gated : ℕ → Bool) (sums : ℕ → Option Roo
   next_in_block f g x e t q w =
       let fits = program.instrs f.place x e in
       let l = not_last (is_terminator x.op) f.place (end_of p x.block.0) t fits.ends fits.before in
-      let y = in_block x.block.0 (slice_get p.instrs g.place) (subst (λ (i : ℕ). IsInBlock x.block.0 (slice_get p.instrs i)) (sym q) (block_held p x.block.0 (f.place + 1) program (let k = fits.from in omega arith) l)) in
+      let y = in_block x.block.0 (slice_get p.instrs g.place)
+      (subst (λ (i : ℕ). IsInBlock x.block.0 (slice_get p.instrs i)) (sym q) (block_held p x.block.0 (f.place + 1) program (let k = fits.from in omega arith) l)) in
       record { instr = y.0; is = y.1; path = subst (λ (b : ℕ). Path (flow_of p) j b) (sym y.2) w }
 
   -- at the body of a block
   pub at_body : (g : Frame) (b : ℕ) → b < length p.blocks → g.place ≡ body_of p b → Path (flow_of p) j b → Reached g
   unfolding body_of
   at_body g b lt q w =
-      let y = in_block b (slice_get p.instrs g.place) (subst (λ (i : ℕ). IsInBlock b (slice_get p.instrs i)) (sym q) (block_held p b (body_of p b) program (omega arith) (body_within p b program lt))) in
+      let y = in_block b (slice_get p.instrs g.place) (subst (λ (i : ℕ). IsInBlock b (slice_get p.instrs i)) (sym q)
+      (block_held p b (body_of p b) program (omega arith) (body_within p b program lt))) in
       record { instr = y.0; is = y.1; path = subst (λ (c : ℕ). Path (flow_of p) j c) (sym y.2) w }
 
   loud_here : (f : Frame) (x : Instr) → slice_get p.instrs f.place ≡ Some x → Path (flow_of p) j x.block.0 → (IsQuiet false gated sums f.place x.op → ⊥) → Loud
@@ -101,7 +104,8 @@ module _ (p : NumberedProgram) (gated : ℕ → Bool) (sums : ℕ → Option Roo
   called_instr g (Some x) c = (x, refl, c)
 
   -- where the frame in the region's function is at a call that is quiet, all frames above are of quiet functions
-  above_quiet : (us : List Frame) (base : Frame) (below : List Frame) (r : Reached base) (g h : ℕ) → IsQuiet false gated sums base.place r.instr.op → WaitFor p g h (us ++ base ∷ below) → (ys : RootedList) × (sums g ≡ Some ys)
+  above_quiet : (us : List Frame) (base : Frame) (below : List Frame) (r : Reached base) (g h : ℕ) → IsQuiet false gated sums base.place r.instr.op → WaitFor p g h (us ++ base ∷ below)
+      → (ys : RootedList) × (sums g ≡ Some ys)
   above_quiet [] base below r g h q w =
       let c = called_instr g (slice_get p.instrs base.place) w.1 in
       let e : c.0 ≡ r.instr = (let k : Some c.0 ≡ Some r.instr = sym c.1 ∙ r.is in cc) in
@@ -114,7 +118,8 @@ module _ (p : NumberedProgram) (gated : ℕ → Bool) (sums : ℕ → Option Roo
   -- ---- a step that ends the quiet
 
   -- an instruction on top that isn't quiet, also where a return is
-  pub not_quiet : (fs : List Frame) (f : Frame) (gs : List Frame) (x : Instr) → fs ≡ f ∷ gs → AreFramesOf p fs → Beyond fs → slice_get p.instrs f.place ≡ Some x → (IsQuiet true gated sums f.place x.op → IsReturn x.op × (gs ≡ [])) → Loud
+  pub not_quiet : (fs : List Frame) (f : Frame) (gs : List Frame) (x : Instr) → fs ≡ f ∷ gs → AreFramesOf p fs → Beyond fs → slice_get p.instrs f.place ≡ Some x
+      → (IsQuiet true gated sums f.place x.op → IsReturn x.op × (gs ≡ [])) → Loud
   not_quiet fs f gs x e ok b at n = go b.above b.frames
     where
       same : (r : Reached f) → r.instr ≡ x
@@ -146,7 +151,8 @@ module _ (p : NumberedProgram) (gated : ℕ → Bool) (sums : ℕ → Option Roo
   -- ---- a step that goes on
 
   -- a step that asks nothing of other threads leads on, or returns from the frame
-  pub moves_on : (fs : List Frame) (f : Frame) (gs : List Frame) (x : Instr) (hs : List Frame) → fs ≡ f ∷ gs → AreFramesOf p fs → Beyond fs → slice_get p.instrs f.place ≡ Some x → Moves p f gs x x.op hs → Loud ⊎ Beyond hs
+  pub moves_on : (fs : List Frame) (f : Frame) (gs : List Frame) (x : Instr) (hs : List Frame) → fs ≡ f ∷ gs → AreFramesOf p fs → Beyond fs → slice_get p.instrs f.place ≡ Some x
+      → Moves p f gs x x.op hs → Loud ⊎ Beyond hs
   moves_on fs f gs x hs e ok b at m = go b.above b.frames
     where
       top_is : (h : Frame) (ks : List Frame) → fs ≡ h ∷ ks → (f ≡ h) × (gs ≡ ks)
@@ -181,7 +187,8 @@ module _ (p : NumberedProgram) (gated : ℕ → Bool) (sums : ℕ → Option Roo
 
       -- a frame above is on top
       other : (us : List Frame) → gs ≡ us ++ b.base ∷ b.below → Moves p f gs x x.op hs → Loud ⊎ Beyond hs
-      other us q (inl a) = inr (record { above = moved p f x.block.0 a.to ∷ us; base = b.base; below = b.below; frames = a.is ∙ ap (λ (ks : List Frame). moved p f x.block.0 a.to ∷ ks) q; reached = b.reached })
+      other us q (inl a) = inr (record
+          { above = moved p f x.block.0 a.to ∷ us; base = b.base; below = b.below; frames = a.is ∙ ap (λ (ks : List Frame). moved p f x.block.0 a.to ∷ ks) q; reached = b.reached })
       other us q (inr (inl c)) = inr (record { above = c.frame ∷ f ∷ us; base = b.base; below = b.below; frames = c.is ∙ ap (λ (ks : List Frame). c.frame ∷ f ∷ ks) q; reached = b.reached })
       other us q (inr (inr (inr c))) = inr (record { above = c.frame ∷ us; base = b.base; below = b.below; frames = c.is ∙ ap (λ (ks : List Frame). c.frame ∷ ks) q; reached = b.reached })
       other [] q (inr (inr (inl c))) =
@@ -190,9 +197,21 @@ module _ (p : NumberedProgram) (gated : ℕ → Bool) (sums : ℕ → Option Roo
           let k : y.0 ≡ b.reached.instr = (let v : Some y.0 ≡ Some b.reached.instr = sym y.1 ∙ b.reached.is in cc) in
           let t : is_terminator b.reached.instr.op ≡ false = subst (λ (z : Instr). is_terminator z.op ≡ false) k (call_plain f.function y.0.op y.2) in
           let g : Frame = stepped b.base (target_in (slice_get p.instrs b.base.place)) c.number in
-          inr (record { above = []; base = g; below = b.below; frames = c.is ∙ ap (λ (ks : List Frame). returned p ks c.number) q; reached = next_in_block b.base g b.reached.instr b.reached.is t refl b.reached.path })
+          inr (record {
+            above = [];
+            base = g;
+            below = b.below;
+            frames = c.is ∙ ap (λ (ks : List Frame). returned p ks c.number) q;
+            reached = next_in_block b.base g b.reached.instr b.reached.is t refl b.reached.path;
+          })
       other (a ∷ us) q (inr (inr (inl c))) =
-          inr (record { above = stepped a (target_in (slice_get p.instrs a.place)) c.number ∷ us; base = b.base; below = b.below; frames = c.is ∙ ap (λ (ks : List Frame). returned p ks c.number) q; reached = b.reached })
+          inr (record {
+            above = stepped a (target_in (slice_get p.instrs a.place)) c.number ∷ us;
+            base = b.base;
+            below = b.below;
+            frames = c.is ∙ ap (λ (ks : List Frame). returned p ks c.number) q;
+            reached = b.reached;
+          })
 
       go : (us : List Frame) → fs ≡ us ++ b.base ∷ b.below → Loud ⊎ Beyond hs
       go [] q = let t = top_is b.base b.below q in own (subst (λ (h : Frame). Reached h) (sym t.0) b.reached) t.1 m

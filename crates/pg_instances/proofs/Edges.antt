@@ -1,5 +1,6 @@
 -- A frame of an instance behind an edge: at a block of its set, or at the join.
-use Rattle.std.proofs.Common.{◌≡◌, ℕ, zero, suc, ◌+◌, ◌-◌, ◌<◌, ◌≤◌, Bool, true, false, cond, List, [], ◌∷◌, length, map, take, Option, Some, None, IsTrue, refl, sym, ap, ◌∙◌, subst, arith, inl, inr, ◌⊎◌}
+use Rattle.std.proofs.Common.{◌≡◌, ℕ, zero, suc, ◌+◌, ◌-◌, ◌<◌, ◌≤◌, Bool, true, false, cond, List, [], ◌∷◌, length, map, take, Option, Some, None, IsTrue}
+use Rattle.std.proofs.Common.{refl, sym, ap, ◌∙◌, subst, arith, inl, inr, ◌⊎◌}
 use Rattle.std.specs.Prelude.{Contains, slice_get, ◌||◌, ◌==◌, if◌then◌else◌}
 use Rattle.std.specs.List.{list_any, take_while, prefix_len}
 use Rattle.std.proofs.lemmas.Bool.{true≢false, cases_lt}
@@ -18,7 +19,7 @@ use Rattle.pg_paths.specs.declared.path.Root.TheVariants as root
 use Rattle.pg_paths.specs.Paths.{rooted}
 use Rattle.pg_paths.specs.Registers.{is_register, register_path, path_by, has_pointer}
 use Rattle.pg_accesses.specs.Accesses.{block_sets, sets}
-use Rattle.pg_accesses.proofs.Elements.{here, there, cases, none_in}
+use Rattle.pg_paths.proofs.Elements.{here, there, cases, none_in}
 use Rattle.pg_quiet.proofs.Places.{stands}
 use Rattle.pg_step.specs.LocalState.{Frame}
 use Rattle.pg_step.specs.Compute.{chosen}
@@ -57,7 +58,8 @@ while_passes g [] zero x e lt = absurd cc
 while_passes g [] (suc k) x e lt = absurd cc
 while_passes {A} g (y ∷ xs) k x e lt = go (g y) refl k e lt (λ j q l. while_passes g xs j x q l)
   where
-    go : (b : Bool) → g y ≡ b → (k : ℕ) → slice_get (y ∷ xs) k ≡ Some x → k < length (take_while g (y ∷ xs)) → ((j : ℕ) → slice_get xs j ≡ Some x → j < length (take_while g xs) → g x ≡ true) → g x ≡ true
+    go : (b : Bool) → g y ≡ b → (k : ℕ) → slice_get (y ∷ xs) k ≡ Some x → k < length (take_while g (y ∷ xs))
+        → ((j : ℕ) → slice_get xs j ≡ Some x → j < length (take_while g xs) → g x ≡ true) → g x ≡ true
     go false q k e lt more = let n : length (take_while g (y ∷ xs)) ≡ 0 = ap (λ (l : List A). length l) (while_false g y xs q) in absurd (omega (arith, lt, n))
     go true q zero e lt more = let t : y ≡ x = cc in ap g (sym t) ∙ q
     go true q (suc k) e lt more = let n : length (take_while g (y ∷ xs)) ≡ suc (length (take_while g xs)) = ap (λ (l : List A). length l) (while_true g y xs q) in more k e (omega (arith, lt, n))
@@ -69,7 +71,8 @@ passed_phis : (before xs : List Instr) → ArePhis before → ArePhis (passed be
 passed_phis before [] h = h
 passed_phis before (y ∷ xs) h = go (is_phi y.op) refl (λ k. passed_phis (y ∷ before) xs k)
   where
-    go : (b : Bool) → is_phi y.op ≡ b → (ArePhis (y ∷ before) → ArePhis (passed (y ∷ before) xs (length (take_while (λ (x : Instr). is_phi x.op) xs)))) → ArePhis (passed before (y ∷ xs) (length (take_while (λ (x : Instr). is_phi x.op) (y ∷ xs))))
+    go : (b : Bool) → is_phi y.op ≡ b → (ArePhis (y ∷ before) → ArePhis (passed (y ∷ before) xs (length (take_while (λ (x : Instr). is_phi x.op) xs))))
+        → ArePhis (passed before (y ∷ xs) (length (take_while (λ (x : Instr). is_phi x.op) (y ∷ xs))))
     go false e more = rw (while_false (λ (x : Instr). is_phi x.op) y xs e) h
     go true e more = rw (while_true (λ (x : Instr). is_phi x.op) y xs e) (more both)
       where
@@ -89,7 +92,8 @@ phi_no_path f b (op.Phi from) q i e = cc
 phi_no_path f b o q i e = cc
 
 -- behind phis alone a register has no path but as a root
-root_only : (is_set : ℕ → Bool) (types : List Scalar) (before : List Instr) (r : ℕ) (q : Path) → ArePhis before → register_path is_set types before r ≡ Some q → (is_set r ≡ false) × (rooted (root.Register r) ≡ q)
+root_only : (is_set : ℕ → Bool) (types : List Scalar) (before : List Instr) (r : ℕ) (q : Path) → ArePhis before → register_path is_set types before r ≡ Some q
+    → (is_set r ≡ false) × (rooted (root.Register r) ≡ q)
 root_only is_set types [] r q h e = go (is_set r) refl e
   where
     go : (b : Bool) → is_set r ≡ b → cond b None (Some (rooted (root.Register r))) ≡ Some q → (is_set r ≡ false) × (rooted (root.Register r) ≡ q)
@@ -97,13 +101,15 @@ root_only is_set types [] r q h e = go (is_set r) refl e
     go false s t = (s, cc)
 root_only is_set types (x ∷ before) r q h e = go (is_register x.result r) e (λ k. root_only is_set types before r q (λ y c. h y (there x before y c)) k)
   where
-    go : (b : Bool) → cond b (path_by (register_path is_set types before) (has_pointer types x.result) x.op) (register_path is_set types before r) ≡ Some q → (register_path is_set types before r ≡ Some q → (is_set r ≡ false) × (rooted (root.Register r) ≡ q)) → (is_set r ≡ false) × (rooted (root.Register r) ≡ q)
+    go : (b : Bool) → cond b (path_by (register_path is_set types before) (has_pointer types x.result) x.op) (register_path is_set types before r) ≡ Some q
+        → (register_path is_set types before r ≡ Some q → (is_set r ≡ false) × (rooted (root.Register r) ≡ q)) → (is_set r ≡ false) × (rooted (root.Register r) ≡ q)
     go true t more = absurd (phi_no_path (register_path is_set types before) (has_pointer types x.result) x.op q (h x (here x before)) t)
     go false t more = more t
 
 -- ---- registers behind an edge
 
-each_other : (rs : List (Option ℕ)) (xs : List Instr) (vs : List (Option ℕ)) (r : ℕ) → ((x : Instr) → Contains xs x → is_register x.result r ≡ false) → registers_by (set_each rs xs vs) r ≡ registers_by rs r
+each_other : (rs : List (Option ℕ)) (xs : List Instr) (vs : List (Option ℕ)) (r : ℕ) → ((x : Instr) → Contains xs x → is_register x.result r ≡ false)
+    → registers_by (set_each rs xs vs) r ≡ registers_by rs r
 each_other rs [] vs r h = refl
 each_other rs (x ∷ xs) [] r h = refl
 each_other rs (x ∷ xs) (v ∷ vs) r h = each_other (set_register rs x.result v) xs vs r (λ y c. h y (there x xs y c)) ∙ other_register rs x.result v r (h x (here x xs))
@@ -126,7 +132,9 @@ phis_unset p blocks b r c h = go (list_any (λ (x : Instr). is_register x.result
     found [] e = absurd cc
     found (y ∷ xs) e = pick (is_register y.result r) refl e (λ k. found xs k)
       where
-        pick : (t : Bool) → is_register y.result r ≡ t → list_any (λ (x : Instr). is_register x.result r) (y ∷ xs) ≡ true → (list_any (λ (x : Instr). is_register x.result r) xs ≡ true → (x : Instr) × Contains xs x × (is_register x.result r ≡ true)) → (x : Instr) × Contains (y ∷ xs) x × (is_register x.result r ≡ true)
+        pick : (t : Bool) → is_register y.result r ≡ t → list_any (λ (x : Instr). is_register x.result r) (y ∷ xs) ≡ true
+            → (list_any (λ (x : Instr). is_register x.result r) xs ≡ true → (x : Instr) × Contains xs x × (is_register x.result r ≡ true))
+            → (x : Instr) × Contains (y ∷ xs) x × (is_register x.result r ≡ true)
         pick true q e more = (y, here y xs, q)
         pick false q e more = let m = more (rw q at e) in (m.0, there y xs m.0 m.1, m.2)
 
@@ -178,7 +186,8 @@ body_within p b program lt = go (cases_lt (body_of p b) (end_of p b))
         let ends = (program.instrs (end_of p b - 1) x.0 x.1).ends.1 (omega (arith, some, end)) in
         absurd (terminator_no_phi x.0.op (is_true (is_terminator x.0.op) ends) phi)
 
-pub edge_stands : (I : Instance) (a : QuietSet) (f : Frame) (from to : ℕ) → IsProgram I.program → to < length I.program.blocks → function_of I.program to ≡ f.function → Contains a.blocks to →
+pub edge_stands : (I : Instance) (a : QuietSet) (f : Frame) (from to : ℕ) → IsProgram I.program → to < length I.program.blocks → function_of I.program to ≡ f.function
+    → Contains a.blocks to →
     ((r : ℕ) → sets I.program a.blocks r ≡ false → registers_by f.registers r ≡ a.registers r) → StandsIn I a (moved I.program f from to)
 unfolding body_of
 edge_stands I a f from to program lt fn c kept = record {
@@ -190,7 +199,8 @@ edge_stands I a f from to program lt fn c kept = record {
   within = body_within I.program to program lt;
   kept = after;
   paths = λ r q w e v.
-      let o = root_only (sets I.program a.blocks) (types_of I.program (function_of I.program to)) (passed [] (instrs_of I.program to) (length (phis_of I.program to))) r q (phis_passed I.program to) e in
+      let o = root_only (sets I.program a.blocks) (types_of I.program (function_of I.program to)) (passed [] (instrs_of I.program to) (length (phis_of I.program to))) r q
+      (phis_passed I.program to) e in
       subst (λ (z : Path). HasPath I.program a.registers I.memory I.recorded z w) o.1 (root_has I.program a.registers I.memory I.recorded (root.Register r) w (sym (after r o.0) ∙ v));
 }
   where
@@ -201,7 +211,8 @@ or_parts : (a b : Bool) → (a || b) ≡ false → (a ≡ false) × (b ≡ false
 or_parts true b e = absurd cc
 or_parts false b e = (refl, e)
 
-pub edge_joins : (I : Instance) (f : Frame) (from : ℕ) → f.function ≡ I.frame.function → f.height ≡ I.frame.height → ((r : ℕ) → sets I.program I.blocks r ≡ false → registers_by f.registers r ≡ registers_by I.frame.registers r) → HasJoined I (moved I.program f from I.join)
+pub edge_joins : (I : Instance) (f : Frame) (from : ℕ) → f.function ≡ I.frame.function → f.height ≡ I.frame.height
+    → ((r : ℕ) → sets I.program I.blocks r ≡ false → registers_by f.registers r ≡ registers_by I.frame.registers r) → HasJoined I (moved I.program f from I.join)
 edge_joins I f from fn height kept = record {
   place = refl;
   function = fn;
@@ -211,7 +222,8 @@ edge_joins I f from fn height kept = record {
 
 -- ---- the targets of an instruction that ends its block
 
-pub target_fits : (p : NumberedProgram) (i : ℕ) (x : Instr) (to : ℕ) → IsProgram p → slice_get p.instrs i ≡ Some x → Contains (targets_of x.op) to → (to < length p.blocks) × (function_of p to ≡ function_of p x.block.0)
+pub target_fits : (p : NumberedProgram) (i : ℕ) (x : Instr) (to : ℕ) → IsProgram p → slice_get p.instrs i ≡ Some x → Contains (targets_of x.op) to
+    → (to < length p.blocks) × (function_of p to ≡ function_of p x.block.0)
 target_fits p i x to program e c =
     let all = All-from_recursion (λ (b : ℕ). IsInFunction (function_of p x.block.0) (slice_get p.blocks b)) (targets_of x.op) (program.instrs i x e).targets in
     let at : IsInFunction (function_of p x.block.0) (slice_get p.blocks to) = All-contains (λ (b : ℕ). IsInFunction (function_of p x.block.0) (slice_get p.blocks b)) (targets_of x.op) to all c in
@@ -235,7 +247,8 @@ case_among : (cases : List Case) (other n : ℕ) → (case_of cases other n ≡ 
 case_among [] other n = inl refl
 case_among (c ∷ cs) other n = go (c.value == n) (case_among cs other n)
   where
-    go : (t : Bool) → (case_of cs other n ≡ other) ⊎ Contains (map (λ (c : Case). c.to.0) cs) (case_of cs other n) → ((if t then c.to.0 else case_of cs other n) ≡ other) ⊎ Contains (c.to.0 ∷ map (λ (c : Case). c.to.0) cs) (if t then c.to.0 else case_of cs other n)
+    go : (t : Bool) → (case_of cs other n ≡ other) ⊎ Contains (map (λ (c : Case). c.to.0) cs) (case_of cs other n)
+        → ((if t then c.to.0 else case_of cs other n) ≡ other) ⊎ Contains (c.to.0 ∷ map (λ (c : Case). c.to.0) cs) (if t then c.to.0 else case_of cs other n)
     go true h = inr (here c.to.0 (map (λ (c : Case). c.to.0) cs))
     go false (inl q) = inl q
     go false (inr d) = inr (there c.to.0 (map (λ (c : Case). c.to.0) cs) (case_of cs other n) d)

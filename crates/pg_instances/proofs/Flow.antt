@@ -1,43 +1,18 @@
 -- The flow of control between blocks, by the targets of their last instructions.
-use Rattle.std.proofs.Common.{◌≡◌, ℕ, zero, suc, ◌-◌, ◌<◌, ◌≤◌, List, [], ◌∷◌, ◌++◌, length, Option, Some, None, refl, sym, ap, ◌∙◌, subst, arith, inl, inr, ◌⊎◌}
+use Rattle.std.proofs.Common.{◌≡◌, ℕ, ◌-◌, ◌<◌, ◌≤◌, List, length, Option, Some, None, refl, sym, ap, ◌∙◌, subst, arith, inl, inr, ◌⊎◌}
 use Rattle.std.specs.Prelude.{Contains, slice_get}
-use Rattle.std.proofs.lemmas.Bool.{cases_eq, cases_lt}
-use Rattle.pg_cfg.specs.Graphs.{EdgeLists, Edge, Walk, targets_of, targets_in}
+use Rattle.std.proofs.lemmas.Bool.{cases_lt}
+use Rattle.pg_cfg.specs.Graphs.{Edge, Walk, targets_of, targets_in}
 use Rattle.pg_cfg.specs.Graphs.Walk.{first, then}
 use Rattle.pg_ir.specs.declared.instr.Instr.{Instr}
 use Rattle.pg_ir.specs.Program.{NumberedProgram, function_of, first_of, end_of}
 use Rattle.pg_ir.specs.Edges as edges
 use Rattle.pg_ir.specs.WellFormed.{IsProgram, IsInBlock}
 use Rattle.pg_ir.proofs.Places.{block_held, some_in}
-use Rattle.pg_accesses.proofs.Elements.{none_in}
+use Rattle.pg_paths.proofs.Elements.{none_in}
 use Rattle.pg_region.specs.Regions.{flow_between, flow_of}
-use Rattle.pg_region.proofs.Flows.{length_flow}
+use Rattle.pg_region.proofs.Flows.{flow_at, got_past, length_flow}
 use Rattle.pg_instances.proofs.Edges.{target_fits}
-
-got_before : (xs ys : EdgeLists) (k : ℕ) → k < length xs → slice_get (xs ++ ys) k ≡ slice_get xs k
-got_before [] ys k lt = absurd (omega arith)
-got_before (x ∷ xs) ys zero lt = refl
-got_before (x ∷ xs) ys (suc k) lt = got_before xs ys k (omega arith)
-
-got_last : (xs : EdgeLists) (y : List ℕ) (k : ℕ) → k ≡ length xs → slice_get (xs ++ y ∷ []) k ≡ Some y
-got_last [] y zero e = refl
-got_last [] y (suc k) e = absurd (omega (arith, e))
-got_last (x ∷ xs) y zero e = absurd (omega (arith, e))
-got_last (x ∷ xs) y (suc k) e = got_last xs y k (omega (arith, e))
-
-flow_at : (p : NumberedProgram) (n b : ℕ) → b < n → slice_get (flow_between p n) b ≡ Some (edges.successors p b)
-flow_at p zero b lt = absurd (omega arith)
-flow_at p (suc n) b lt = go (cases_eq b n) (λ l. flow_at p n b l)
-  where
-    go : (b ≡ n) ⊎ (b ≡ n → ⊥) → (b < n → slice_get (flow_between p n) b ≡ Some (edges.successors p b)) → slice_get (flow_between p n ++ edges.successors p n ∷ []) b ≡ Some (edges.successors p b)
-    go (inl e) f = got_last (flow_between p n) (edges.successors p n) b (e ∙ sym (length_flow p n)) ∙ ap (λ z. Some (edges.successors p z)) (sym e)
-    go (inr ne) f = let l : b < n = omega (arith, ne) in got_before (flow_between p n) (edges.successors p n ∷ []) b (omega (arith, l, length_flow p n)) ∙ f l
-
-got_past : (xs : EdgeLists) (k : ℕ) → length xs ≤ k → slice_get xs k ≡ None
-got_past [] zero le = refl
-got_past [] (suc k) le = refl
-got_past (x ∷ xs) zero le = absurd (omega arith)
-got_past (x ∷ xs) (suc k) le = got_past xs k (omega arith)
 
 -- an edge is one of a block's last instruction
 pub edge_of : (p : NumberedProgram) (b c : ℕ) → b < length p.blocks → Contains (edges.successors p b) c → Edge (flow_of p) b c

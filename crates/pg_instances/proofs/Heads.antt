@@ -1,5 +1,6 @@
 -- The open extents of a thread before and after one of its steps.
-use Rattle.std.proofs.Common.{◌≡◌, ℕ, ℤ, ◌<◌, ◌^◌, Bool, true, false, not, List, [], ◌∷◌, length, Option, Some, None, refl, sym, ap, ◌∙◌, subst, arith, inl, inr, ◌⊎◌}
+use Rattle.std.proofs.Common.{◌≡◌, ℕ, ℤ, ◌<◌, ◌^◌, Bool, true, false, not, List, [], ◌∷◌, length, Option, Some, None, refl, sym, ap, ◌∙◌, subst, arith, inl}
+use Rattle.std.proofs.Common.{inr, ◌⊎◌}
 use Rattle.std.specs.Prelude.{Contains, filter, if◌then◌else◌}
 use Rattle.std.proofs.lemmas.Bool.Decides.{nat_tests}
 use Rattle.pg_num.specs.Places.{ByteRange}
@@ -8,7 +9,7 @@ use Rattle.pg_ir.specs.declared.instr.Instr.{Instr}
 use Rattle.pg_ir.specs.Program.{NumberedProgram}
 use Rattle.pg_ir.specs.WellFormed.{IsProgram}
 use Rattle.pg_accesses.specs.Accesses.{RootedList}
-use Rattle.pg_accesses.proofs.Elements.{cases, here, there, none_in}
+use Rattle.pg_paths.proofs.Elements.{cases, here, there, none_in}
 use Rattle.pg_quiet.specs.Summaries.{AreSummaries}
 use Rattle.pg_step.specs.LocalState.{LocalState}
 use Rattle.pg_trace.specs.declared.step.Access.{Access}
@@ -66,7 +67,8 @@ branch_none (told.Event v) e = absurd cc
 within_frame : (a b : ByteRange) (i : ℕ) → IsWithin a b → is_within a i ≡ true → is_within b i ≡ true
 within_frame a b i h e = let f = h.from in let g = h.end in grind (arith, nat_tests, e, f, g)
 
-module _ (p : NumberedProgram) (gates : List InstrId) (sums : ℕ → Option RootedList) (regions : Regions) (are : AreRegions p (λ i. is_gated gates i) sums regions) (moments : List Moment) (free_of : ℕ → Option FreeRegion) (block_of : ℕ → ℕ) (program : IsProgram p) (summaries : AreSummaries p (λ i. is_gated gates i) sums)
+module _ (p : NumberedProgram) (gates : List InstrId) (sums : ℕ → Option RootedList) (regions : Regions) (are : AreRegions p (λ i. is_gated gates i) sums regions) (moments : List Moment)
+    (free_of : ℕ → Option FreeRegion) (block_of : ℕ → ℕ) (program : IsProgram p) (summaries : AreSummaries p (λ i. is_gated gates i) sums)
     (input : List ℤ) (small : length input < 2 ^ 64) where
   abbrev R : Reference
   R = record { program = p; regions = regions; moments = moments }
@@ -87,8 +89,11 @@ module _ (p : NumberedProgram) (gates : List InstrId) (sums : ℕ → Option Roo
       go true q k = rw q (λ o c. h.0 o (filter_parts f es o c).0, k)
       go false q k = rw q k
 
-  module _ (s w z : State) (t : ℕ) (l : LocalState) (x : Step) (xs : List Step) (y : Seen) (h : IsSeen p gates sums regions are moments free_of block_of program summaries input small s w t l x y) (run : IsRun gates p input s (x ∷ xs) z) (together : AreTogether (x ∷ xs)) (next : IsNext t (x ∷ xs))
-      (es : List Extent) (opens : (e : Extent) → Contains es e → Open p gates sums are.found free_of block_of s t l e) (stack : IsStack es) (free_is : (r : FreeRegion) → y.region ≡ Some r → free_of y.number ≡ Some r) (block_is : (i : Instr) → instr_of R y ≡ Some i → block_of y.number ≡ i.block.0) where
+  module _ (s w z : State) (t : ℕ) (l : LocalState) (x : Step) (xs : List Step) (y : Seen)
+      (h : IsSeen p gates sums regions are moments free_of block_of program summaries input small s w t l x y) (run : IsRun gates p input s (x ∷ xs) z) (together : AreTogether (x ∷ xs))
+      (next : IsNext t (x ∷ xs))
+      (es : List Extent) (opens : (e : Extent) → Contains es e → Open p gates sums are.found free_of block_of s t l e) (stack : IsStack es)
+      (free_is : (r : FreeRegion) → y.region ≡ Some r → free_of y.number ≡ Some r) (block_is : (i : Instr) → instr_of R y ≡ Some i → block_of y.number ≡ i.block.0) where
     abbrev took_one : Took gates p s t l x w
     took_one = took_it p gates sums regions are moments free_of block_of program summaries input small s w z t l x xs y h run together next
 
@@ -104,12 +109,14 @@ module _ (p : NumberedProgram) (gates : List InstrId) (sums : ℕ → Option Roo
     -- ---- a request is done in no extent, and begins none
 
     open_none : (e : Extent) → Contains es e → event_of x ≡ None
-    open_none e c = let o = opens e c in within_none (instance p gates sums are.found free_of block_of o) x (step_stays (instance p gates sums are.found free_of block_of o) gates input s w t l x o.can h.is_ready h.is_step).tells
+    open_none e c = let o = opens e c in within_none (instance p gates sums are.found free_of block_of o) x
+        (step_stays (instance p gates sums are.found free_of block_of o) gates input s w t l x o.can h.is_ready h.is_step).tells
 
     no_open : IsRequest → (e : Extent) → Contains es e → ⊥
     no_open r e c =
         let o = opens e c in
-        subst (TellsWithin (instance p gates sums are.found free_of block_of o)) r.is (step_stays (instance p gates sums are.found free_of block_of o) gates input s w t l x o.can h.is_ready h.is_step).tells
+        subst (TellsWithin (instance p gates sums are.found free_of block_of o)) r.is
+        (step_stays (instance p gates sums are.found free_of block_of o) gates input s w t l x o.can h.is_ready h.is_step).tells
 
     no_region : IsRequest → (q : FreeRegion) → y.region ≡ Some q → ⊥
     no_region r q e = go (instr_in p y.moment) (sym h.region ∙ e)
@@ -144,7 +151,8 @@ module _ (p : NumberedProgram) (gates : List InstrId) (sums : ℕ → Option Roo
         go (inl q) = by_access (subst (TellsPlain (is_gated gates q.frame.place) q.instr.op) k q.tells).by
           where
             store : is_store q.instr.op ≡ true
-            store = ap (λ (j : Instr). is_store j.op) (same_instr p gates sums regions are moments free_of block_of program summaries input small s w z t l x xs y h run together next q st.instr st.stands) ∙ st.store
+            store = ap (λ (j : Instr). is_store j.op) (same_instr p gates sums regions are moments free_of block_of program summaries input small s w z t l x xs y h run together next q st.instr
+                st.stands) ∙ st.store
 
             by_access : (IsLoad q.instr.op × (a.writes ≡ false)) ⊎ (IsStore q.instr.op × (a.writes ≡ true) × IsPlacedAt a.pointer (range_of a)) → is_within (frame_of a.pointer) b ≡ true
             by_access (inl c) = absurd (no_store q.instr.op c.0 store)
@@ -171,7 +179,8 @@ module _ (p : NumberedProgram) (gates : List InstrId) (sums : ℕ → Option Roo
         by_edge q (Some to) u i c =
             let g = (freed_is p gates sums regions are moments free_of block_of program summaries input small s w z t l x xs y h run together next q r e).1 in
             let m = begun_edge p gates sums regions are moments free_of block_of program summaries input small s w z t l x xs y h run together next q r e to u in
-            may_from r.sets i.result (λ k v. g.sets k ∙ phis_may (begun_instance p gates sums regions are moments free_of block_of program summaries input small s w z t l x xs y h run together next q r e) to m i c k v)
+            may_from r.sets i.result (λ k v. g.sets k
+            ∙ phis_may (begun_instance p gates sums regions are moments free_of block_of program summaries input small s w z t l x xs y h run together next q r e) to m i c k v)
 
         go : IsPlain ⊎ IsRequest → MaySetPhis p r.sets (edge_at R y)
         go (inr q) = absurd (no_region q r e)
@@ -187,7 +196,8 @@ module _ (p : NumberedProgram) (gates : List InstrId) (sums : ℕ → Option Roo
         go (inr q) = absurd (no_open q e c)
         go (inl q) =
             let same : o.free ≡ r = (let k : Some o.free ≡ Some r = sym o.known ∙ f in cc) in
-            subst (λ (v : FreeRegion). KeepsTo R v e.depth y) same (keeps_here p gates sums regions are moments free_of block_of program summaries input small s w z t l x xs y h run together next q e o)
+            subst (λ (v : FreeRegion). KeepsTo R v e.depth y) same
+            (keeps_here p gates sums regions are moments free_of block_of program summaries input small s w z t l x xs y h run together next q e o)
 
     -- ---- nested
 
@@ -197,15 +207,18 @@ module _ (p : NumberedProgram) (gates : List InstrId) (sums : ℕ → Option Roo
       where
         later : (o : Extent) → Contains us o → ends (depth_of y) (edge_at R y) o ≡ true → IsPlain ⊎ IsRequest → ends (depth_of y) (edge_at R y) e ≡ true
         later o c u (inr q) = absurd (no_open q o (sub o (there e us o c)))
-        later o c u (inl q) = open_ends p gates sums regions are moments free_of block_of program summaries input small s w z t l x xs y h run together next q o e (opens o (sub o (there e us o c))) (opens e (sub e (here e us))) (k.0 o c) u
+        later o c u (inl q) = open_ends p gates sums regions are moments free_of block_of program summaries input small s w z t l x xs y h run together next q o e
+            (opens o (sub o (there e us o c))) (opens e (sub e (here e us))) (k.0 o c) u
 
     begun_stacked : (o : Option FreeRegion) → y.region ≡ o → AreStacked (depth_of y) (edge_at R y) (begun y.number (depth_of y) o es)
     begun_stacked None e = older_stacked es (λ u c. c) stack
     begun_stacked (Some r) e = (λ o c u. later o c u took_one.did, older_stacked es (λ u c. c) stack)
       where
-        later : (o : Extent) → Contains es o → ends (depth_of y) (edge_at R y) o ≡ true → IsPlain ⊎ IsRequest → ends (depth_of y) (edge_at R y) (record { step = y.number; join = r.join; depth = depth_of y }) ≡ true
+        later : (o : Extent) → Contains es o → ends (depth_of y) (edge_at R y) o ≡ true → IsPlain ⊎ IsRequest
+            → ends (depth_of y) (edge_at R y) (record { step = y.number; join = r.join; depth = depth_of y }) ≡ true
         later o c u (inr q) = absurd (no_region q r e)
-        later o c u (inl q) = begun_ends p gates sums regions are moments free_of block_of program summaries input small s w z t l x xs y h run together next q r e o (record { step = y.number; join = r.join; depth = depth_of y }) (opens o c) refl refl u
+        later o c u (inl q) = begun_ends p gates sums regions are moments free_of block_of program summaries input small s w z t l x xs y h run together next q r e o
+            (record { step = y.number; join = r.join; depth = depth_of y }) (opens o c) refl refl u
 
     pub nested : AreStacked (depth_of y) (edge_at R y) (begun y.number (depth_of y) y.region es)
     nested = begun_stacked y.region refl
@@ -224,16 +237,19 @@ module _ (p : NumberedProgram) (gates : List InstrId) (sums : ℕ → Option Roo
       where
         over : (o : Extent) → Contains es o → IsPlain ⊎ IsRequest → IsOver (record { step = y.number; join = r.join; depth = depth_of y }) o
         over o c (inr q) = absurd (no_region q r e)
-        over o c (inl q) = begun_over p gates sums regions are moments free_of block_of program summaries input small s w z t l x xs y h run together next q r e o (opens o c) (record { step = y.number; join = r.join; depth = depth_of y }) refl (block_plain q)
+        over o c (inl q) = begun_over p gates sums regions are moments free_of block_of program summaries input small s w z t l x xs y h run together next q r e o (opens o c)
+            (record { step = y.number; join = r.join; depth = depth_of y }) refl (block_plain q)
 
     pub left_stack : IsStack left
     left_stack = filter_stack (λ e. not (ends (depth_of y) (edge_at R y) e)) (begun y.number (depth_of y) y.region es) (begun_stack y.region refl)
 
-    from_begun : (o : Option FreeRegion) → y.region ≡ o → (e : Extent) → Contains (begun y.number (depth_of y) o es) e → Contains es e ⊎ ((r : FreeRegion) × (y.region ≡ Some r) × (record { step = y.number; join = r.join; depth = depth_of y } ≡ e))
+    from_begun : (o : Option FreeRegion) → y.region ≡ o → (e : Extent) → Contains (begun y.number (depth_of y) o es) e
+        → Contains es e ⊎ ((r : FreeRegion) × (y.region ≡ Some r) × (record { step = y.number; join = r.join; depth = depth_of y } ≡ e))
     from_begun None k e c = inl c
     from_begun (Some r) k e c = go (cases (record { step = y.number; join = r.join; depth = depth_of y }) es e c)
       where
-        go : (record { step = y.number; join = r.join; depth = depth_of y } ≡ e) ⊎ Contains es e → Contains es e ⊎ ((r : FreeRegion) × (y.region ≡ Some r) × (record { step = y.number; join = r.join; depth = depth_of y } ≡ e))
+        go : (record { step = y.number; join = r.join; depth = depth_of y } ≡ e) ⊎ Contains es e
+            → Contains es e ⊎ ((r : FreeRegion) × (y.region ≡ Some r) × (record { step = y.number; join = r.join; depth = depth_of y } ≡ e))
         go (inl v) = inr (r, k, v)
         go (inr d) = inl d
 
@@ -253,10 +269,12 @@ module _ (p : NumberedProgram) (gates : List InstrId) (sums : ℕ → Option Roo
         stays : ends (depth_of y) (edge_at R y) e ≡ false
         stays = not_true (ends (depth_of y) (edge_at R y) e) k.1
 
-        go : IsPlain ⊎ IsRequest → Contains es e ⊎ ((r : FreeRegion) × (y.region ≡ Some r) × (record { step = y.number; join = r.join; depth = depth_of y } ≡ e)) → Open p gates sums are.found free_of block_of w t took_one.local e
+        go : IsPlain ⊎ IsRequest → Contains es e ⊎ ((r : FreeRegion) × (y.region ≡ Some r) × (record { step = y.number; join = r.join; depth = depth_of y } ≡ e))
+            → Open p gates sums are.found free_of block_of w t took_one.local e
         go (inr q) (inl d) = absurd (no_open q e d)
         go (inr q) (inr r) = absurd (no_region q r.0 r.1)
         go (inl q) (inl d) = open_next p gates sums regions are moments free_of block_of program summaries input small s w z t l x xs y h run together next q e (opens e d) stays
         go (inl q) (inr r) =
-            open_begun p gates sums regions are moments free_of block_of program summaries input small s w z t l x xs y h run together next q r.0 r.1 e (ap (λ (u : Extent). u.join) (sym r.2)) (ap (λ (u : Extent). u.depth) (sym r.2))
+            open_begun p gates sums regions are moments free_of block_of program summaries input small s w z t l x xs y h run together next q r.0 r.1 e (ap (λ (u : Extent). u.join) (sym r.2))
+            (ap (λ (u : Extent). u.depth) (sym r.2))
             (ap (λ (u : Extent). block_of u.step) (sym r.2) ∙ block_plain q) (ap (λ (u : Extent). free_of u.step) (sym r.2) ∙ free_is r.0 r.1) stays

@@ -1,5 +1,6 @@
 -- A thread inside: its next action, and its local state behind it.
-use Rattle.std.proofs.Common.{◌≡◌, ℕ, ◌*◌, ◌<◌, ◌^◌, Bool, true, false, List, [], ◌∷◌, length, Option, Some, None, refl, sym, ap, ◌∙◌, subst, arith, inl, inr, ◌⊎◌}
+use Rattle.std.proofs.Common.{◌≡◌, ℕ, ◌*◌, ◌<◌, ◌^◌, Bool, true, false, List, [], ◌∷◌, length, Option, Some, None, refl, sym, ap, ◌∙◌, subst, arith, inl, inr}
+use Rattle.std.proofs.Common.{◌⊎◌}
 use Rattle.std.specs.Prelude.{Contains, slice_get, slice_index}
 use Rattle.pg_num.specs.Places.{ByteRange}
 use Rattle.pg_ir.specs.declared.known.Known.{Known}
@@ -48,12 +49,14 @@ pub record IsCalm (p : NumberedProgram) (h : Bool) (r : Region) (rs : List (Opti
   pub heap : heap_after p r rs o ≡ r.heap
   pub told : (ns : List ℕ) (n : ℕ) → IsCalmKind (op_told ns n o)
 
-known_calm : (p : NumberedProgram) (h : Bool) (r : Region) (rs : List (Option ℕ)) (k : Known) (args : List Value) (zs : RootedList) → known_accesses k ≡ Some zs → IsCalm p h r rs (op.CallKnown k args)
+known_calm : (p : NumberedProgram) (h : Bool) (r : Region) (rs : List (Option ℕ)) (k : Known) (args : List Value) (zs : RootedList) → known_accesses k ≡ Some zs
+    → IsCalm p h r rs (op.CallKnown k args)
 known_calm p h r rs known.PgIn args zs e = record { halfway = refl; heap = refl; told = λ ns n. tt }
 known_calm p h r rs known.PgInLen args zs e = record { halfway = refl; heap = refl; told = λ ns n. tt }
 known_calm p h r rs _ args zs e = absurd cc
 
-pub quiet_calm : (p : NumberedProgram) (h : Bool) (r : Region) (rs : List (Option ℕ)) (m : Bool) (gated : ℕ → Bool) (sums : ℕ → Option RootedList) (f : ℕ → Option Path) (i : ℕ) (o : Op) (zs : RootedList) → op_accesses m gated sums f i o ≡ Some zs → IsCalm p h r rs o
+pub quiet_calm : (p : NumberedProgram) (h : Bool) (r : Region) (rs : List (Option ℕ)) (m : Bool) (gated : ℕ → Bool) (sums : ℕ → Option RootedList) (f : ℕ → Option Path) (i : ℕ)
+    (o : Op) (zs : RootedList) → op_accesses m gated sums f i o ≡ Some zs → IsCalm p h r rs o
 quiet_calm p h r rs m gated sums f i (op.CallKnown k args) zs e = known_calm p h r rs k args zs e
 quiet_calm p h r rs m gated sums f i (op.Alloca bytes) zs e = absurd cc
 quiet_calm p h r rs m gated sums f i o zs e = record { halfway = refl; heap = refl; told = λ ns n. tt }
@@ -83,7 +86,9 @@ module _ (I : Instance) (m : ByteRange → ℕ) (thread heap : ℕ) (halfway : B
   abbrev there : LocalState
   there = record { thread = thread; begun = true; halfway = halfway; frames = f ∷ fs; heap = heap }
 
-  arrived : thread ≡ I.state.thread → heap ≡ I.state.heap → (x : Instr) (n : ℕ) → slice_get I.program.instrs f.place ≡ Some x → IsCalm I.program halfway (region_of there) f.registers x.op → Arrived I fs (edge_taken I.program f.registers x.op) (op_after I.program there x n x.op) → GoesOn I there (after I.program there n)
+  arrived : thread ≡ I.state.thread → heap ≡ I.state.heap → (x : Instr) (n : ℕ) → slice_get I.program.instrs f.place ≡ Some x
+      → IsCalm I.program halfway (region_of there) f.registers x.op → Arrived I fs (edge_taken I.program f.registers x.op) (op_after I.program there x n x.op)
+      → GoesOn I there (after I.program there n)
   unfolding id_of
   arrived t h x n at calm a = subst (GoesOn I there) (sym (after_at I.program there x n refl (omega arith) at)) (go a)
     where
@@ -95,11 +100,13 @@ module _ (I : Instance) (m : ByteRange → ℕ) (thread heap : ℕ) (halfway : B
         there = record { thread = t; begun = refl; halfway = calm.halfway; heap = calm.heap ∙ h; frame = j.0.frame; frames = j.0.frames; joined = j.0.joined };
       })
 
-  operand_first : (x : Instr) (k : ℕ) → slice_get I.program.instrs f.place ≡ Some x → slice_index (operand_values I.program there) k ≡ slice_index (first_four I.program f.registers (operands_of x.op)) k
+  operand_first : (x : Instr) (k : ℕ) → slice_get I.program.instrs f.place ≡ Some x
+      → slice_index (operand_values I.program there) k ≡ slice_index (first_four I.program f.registers (operands_of x.op)) k
   unfolding id_of
   operand_first x k at = ap (λ (ns : List ℕ). slice_index ns k) (operands_at I.program there x refl (omega arith) at)
 
-  lift : thread ≡ I.state.thread → heap ≡ I.state.heap → (x : Instr) → slice_get I.program.instrs f.place ≡ Some x → IsCalm I.program halfway (region_of there) f.registers x.op → (a : Action) → Goes I m there f.place f.registers x x.op a → GoesFrom I m there a
+  lift : thread ≡ I.state.thread → heap ≡ I.state.heap → (x : Instr) → slice_get I.program.instrs f.place ≡ Some x → IsCalm I.program halfway (region_of there) f.registers x.op
+      → (a : Action) → Goes I m there f.place f.registers x x.op a → GoesFrom I m there a
   unfolding id_of
   lift t h x at calm actions.Local g = arrived t h x 0 at calm g
   lift t h x at calm (actions.In i) g = λ n. arrived t h x n at calm (g n)
@@ -125,12 +132,14 @@ module _ (I : Instance) (m : ByteRange → ℕ) (thread heap : ℕ) (halfway : B
       Goes I m there f.place f.registers x x.op (op_action I.program (region_of there) halfway f.registers (length (f ∷ fs)) (total (f ∷ fs)) x.block.0 x.op) → Proceeds I m there
   unfolding id_of
   some_there t h x at calm g = record {
-    goes = subst (GoesFrom I m there) (sym (next_at I.program there x refl (omega arith) at)) (lift t h x at calm (op_action I.program (region_of there) halfway f.registers (length (f ∷ fs)) (total (f ∷ fs)) x.block.0 x.op) g);
+    goes = subst (GoesFrom I m there) (sym (next_at I.program there x refl (omega arith) at))
+        (lift t h x at calm (op_action I.program (region_of there) halfway f.registers (length (f ∷ fs)) (total (f ∷ fs)) x.block.0 x.op) g);
     calm = λ y q ns n. subst (λ (z : Instr). IsCalmKind (op_told ns n z.op)) (same_instr x y at q) (calm.told ns n);
   }
 
   -- inside
-  inside_there : IsAtBranch I → KeepsCells I.recorded I.memory m → ((r : ByteRange) → m r < 2 ^ (8 * r.bytes)) → thread ≡ I.state.thread → heap ≡ I.state.heap → Stands I (f ∷ fs) → Proceeds I m there
+  inside_there : IsAtBranch I → KeepsCells I.recorded I.memory m → ((r : ByteRange) → m r < 2 ^ (8 * r.bytes)) → thread ≡ I.state.thread → heap ≡ I.state.heap
+      → Stands I (f ∷ fs) → Proceeds I m there
   inside_there b keeps small t h s = go (slice_get I.program.instrs f.place) refl
     where
       go : (o : Option Instr) → slice_get I.program.instrs f.place ≡ o → Proceeds I m there
@@ -153,7 +162,8 @@ module _ (I : Instance) (m : ByteRange → ℕ) (thread heap : ℕ) (halfway : B
       calm (op.Switch w on other cases) k = record { halfway = refl; heap = refl; told = λ ns n. tt }
       calm o k = absurd k
 
-      edge : (o : Op) → b.branch.op ≡ o → is_terminator o ≡ true → (to : ℕ) → Contains (targets_of o) to → edge_taken I.program f.registers o ≡ Some to → Arrived I fs (edge_taken I.program f.registers o) (moved I.program f b.branch.block.0 to ∷ fs)
+      edge : (o : Op) → b.branch.op ≡ o → is_terminator o ≡ true → (to : ℕ) → Contains (targets_of o) to → edge_taken I.program f.registers o ≡ Some to
+          → Arrived I fs (edge_taken I.program f.registers o) (moved I.program f b.branch.block.0 to ∷ fs)
       edge o e t to c taken = go (b.first to among)
         where
           here_at : Contains (targets_of b.branch.op) to
@@ -188,18 +198,22 @@ module _ (I : Instance) (m : ByteRange → ℕ) (thread heap : ℕ) (halfway : B
             taken ∙ ap (λ (c : ℕ). Some c) j,
           )
 
-      goes : (o : Op) → b.branch.op ≡ o → IsBranch o → Goes I m there f.place f.registers b.branch o (op_action I.program (region_of there) halfway f.registers (length (f ∷ fs)) (total (f ∷ fs)) b.branch.block.0 o)
+      goes : (o : Op) → b.branch.op ≡ o → IsBranch o → Goes I m there f.place f.registers b.branch o
+          (op_action I.program (region_of there) halfway f.registers (length (f ∷ fs)) (total (f ∷ fs)) b.branch.block.0 o)
       goes (op.CondBr c x y) e k =
-          on_value_is (Goes I m there f.place f.registers b.branch (op.CondBr c x y)) (operand I.program f.registers c) _ (λ n. tt) (λ n u. edge_is (Goes I m there f.place f.registers b.branch (op.CondBr c x y)) I.program f.registers b.branch.block.0 (chosen n x.0 y.0) (λ n. tt)
+          on_value_is (Goes I m there f.place f.registers b.branch (op.CondBr c x y)) (operand I.program f.registers c) _ (λ n. tt)
+          (λ n u. edge_is (Goes I m there f.place f.registers b.branch (op.CondBr c x y)) I.program f.registers b.branch.block.0 (chosen n x.0 y.0) (λ n. tt)
           (edge (op.CondBr c x y) e refl (chosen (given (operand I.program f.registers c)) x.0 y.0) (chosen_among (given (operand I.program f.registers c)) x.0 y.0) refl))
       goes (op.Switch w on other cases) e k =
-          on_value_is (Goes I m there f.place f.registers b.branch (op.Switch w on other cases)) (operand I.program f.registers on) _ (λ n. tt) (λ n u. edge_is (Goes I m there f.place f.registers b.branch (op.Switch w on other cases)) I.program f.registers b.branch.block.0 (case_of cases other.0 n) (λ n. tt)
+          on_value_is (Goes I m there f.place f.registers b.branch (op.Switch w on other cases)) (operand I.program f.registers on) _ (λ n. tt)
+          (λ n u. edge_is (Goes I m there f.place f.registers b.branch (op.Switch w on other cases)) I.program f.registers b.branch.block.0 (case_of cases other.0 n) (λ n. tt)
           (edge (op.Switch w on other cases) e refl (case_of cases other.0 (given (operand I.program f.registers on))) (switched_among cases other.0 (given (operand I.program f.registers on))) refl))
       goes o e k = absurd k
 
 -- ---- a thread with these parts
 
-pub inside_proceeds : (I : Instance) (m : ByteRange → ℕ) (l : LocalState) → IsAtBranch I → KeepsCells I.recorded I.memory m → ((r : ByteRange) → m r < 2 ^ (8 * r.bytes)) → IsInside I l → Proceeds I m l
+pub inside_proceeds : (I : Instance) (m : ByteRange → ℕ) (l : LocalState) → IsAtBranch I → KeepsCells I.recorded I.memory m → ((r : ByteRange) → m r < 2 ^ (8 * r.bytes))
+    → IsInside I l → Proceeds I m l
 inside_proceeds I m l b keeps small i = go l.frames refl i.stands
   where
     go : (fs : List Frame) → l.frames ≡ fs → Stands I fs → Proceeds I m l

@@ -27,8 +27,10 @@ use Rattle.pg_instances.proofs.Opens.{bottom_of}
 use Rattle.pg_instances.proofs.Places.{at_block}
 use Rattle.pg_instances.proofs.Within.{inner_reached, region_function}
 
-module _ (p : NumberedProgram) (gated : List InstrId) (sums : ℕ → Option RootedList) (input : List ℤ) (c : ℕ) (outer inner : Region) (q : FreeRegion) (first s : State) (l0 l : LocalState) (f0 frame : Frame) (fs0 below : List Frame) (t : ℕ) (x : Instr)
-    (is_outer : IsRegion p (λ i. is_gated gated i) sums c outer) (h : GoesOnInside (instance_of p (λ i. is_gated gated i) sums outer q first l0 f0 fs0) gated input s t l) (frames : l.frames ≡ frame ∷ below) (at : slice_get p.instrs frame.place ≡ Some x) (is_inner : IsRegion p (λ i. is_gated gated i) sums x.block.0 inner) where
+module _ (p : NumberedProgram) (gated : List InstrId) (sums : ℕ → Option RootedList) (input : List ℤ) (c : ℕ) (outer inner : Region) (q : FreeRegion) (first s : State) (l0 l : LocalState)
+    (f0 frame : Frame) (fs0 below : List Frame) (t : ℕ) (x : Instr)
+    (is_outer : IsRegion p (λ i. is_gated gated i) sums c outer) (h : GoesOnInside (instance_of p (λ i. is_gated gated i) sums outer q first l0 f0 fs0) gated input s t l)
+    (frames : l.frames ≡ frame ∷ below) (at : slice_get p.instrs frame.place ≡ Some x) (is_inner : IsRegion p (λ i. is_gated gated i) sums x.block.0 inner) where
   abbrev I : Instance
   I = instance_of p (λ i. is_gated gated i) sums outer q first l0 f0 fs0
 
@@ -37,11 +39,13 @@ module _ (p : NumberedProgram) (gated : List InstrId) (sums : ℕ → Option Roo
 
   nest : IsBottom I frame below → AreNested outer inner
   nest b =
-      let v = leads_out I gated input h.steps s h.end t l h.can.branch.program h.can.branch.summaries h.small (join_fits p c outer.join h.can.branch.program is_outer.join.reached) h.can h.reached h.run h.together h.next in
+      let v = leads_out I gated input h.steps s h.end t l h.can.branch.program h.can.branch.summaries h.small
+      (join_fits p c outer.join h.can.branch.program is_outer.join.reached) h.can h.reached h.run h.together h.next in
       let d : Contains outer.blocks.items x.block.0 = subst (λ (n : ℕ). Contains outer.blocks.items n) (sym (at_block I (region_set I) frame x h.can.branch.program b.stands at).0) b.stands.among in
       regions_nest p (λ i. is_gated gated i) sums c x.block.0 v.block outer inner is_outer is_inner d v.path v.loud
 
-  leads : (a : Rooted) (f : Followed) → Contains inner.accesses.items a → followed p (registers_by frame.registers) (read s.memory) a.path ≡ Some f → LeadsTo q.accesses a.writes (frame_of f.last)
+  leads : (a : Rooted) (f : Followed) → Contains inner.accesses.items a → followed p (registers_by frame.registers) (read s.memory) a.path ≡ Some f
+      → LeadsTo q.accesses a.writes (frame_of f.last)
   leads a f m e = go stands
     where
       go : Stands I (frame ∷ below) → LeadsTo q.accesses a.writes (frame_of f.last)
@@ -50,7 +54,8 @@ module _ (p : NumberedProgram) (gated : List InstrId) (sums : ℕ → Option Roo
           let blk = (at_block I b.0.set frame x h.can.branch.program b.0.stands at).0 in
           let fn : function_of p x.block.0 ≡ frame.function = ap (function_of p) blk ∙ b.0.stands.function in
           inner_reached I b.0.set frame (read s.memory) inner.blocks.items inner.accesses.items a f b.0.quiet b.0.stands h.can.cells is_inner.join.quiet
-          (λ n k. subst (λ (ls : List ℕ). Contains ls n) (sym b.0.blocks) (subst (λ (g : ℕ). Contains (blocks_of p g) n) fn (region_function p (λ i. is_gated gated i) sums x.block.0 inner h.can.branch.program is_inner.join n k))) m e
+          (λ n k. subst (λ (ls : List ℕ). Contains ls n) (sym b.0.blocks)
+          (subst (λ (g : ℕ). Contains (blocks_of p g) n) fn (region_function p (λ i. is_gated gated i) sums x.block.0 inner h.can.branch.program is_inner.join n k))) m e
 
   pub lies_within : LiesWithin outer inner I s frame below
   lies_within = record { leads = leads; nested = λ n. nest (bottom_of I frame below stands (omega (arith, n))) }

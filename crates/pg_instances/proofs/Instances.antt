@@ -16,10 +16,17 @@ use Rattle.pg_instances.proofs.Machine.{step_stays}
 rest_then : (s v z : State) → LeavesRest s v → LeavesRest v z → LeavesRest s z
 rest_then s v z h k = record { sync = k.sync ∙ h.sync; words = k.words ∙ h.words; printed = k.printed ∙ h.printed; value = k.value ∙ h.value }
 
-changes_then : (I : Instance) (t : ℕ) (s v z : State) → ChangesLittle I t s v → ChangesLittle I t v z → ChangesLittle I t s z
+pub changes_then : (I : Instance) (t : ℕ) (s v z : State) → ChangesLittle I t s v → ChangesLittle I t v z → ChangesLittle I t s z
 changes_then I t s v z h k = record { others = λ u ne. k.others u ne ∙ h.others u ne; rest = rest_then s v z h.rest k.rest; bytes = λ b lt o. k.bytes b lt o ∙ h.bytes b lt o }
 
-pub has_instance : (I : Instance) (gated : List InstrId) (input : List ℤ) (s z : State) (t : ℕ) (l : LocalState) (xs : List Step) → CanStepInside I gated s t l → IsRun gated I.program input s xs z → AreOf t xs → HasInstance I gated input t s xs z
+-- the first of these steps
+pub first_stays : (I : Instance) (gated : List InstrId) (input : List ℤ) (s z : State) (t : ℕ) (l : LocalState) (x : Step) (xs : List Step) → CanStepInside I gated s t l
+    → (run : IsRun gated I.program input s (x ∷ xs) z) → AreOf t (x ∷ xs) → StaysInside I t l x s run.0.after
+first_stays I gated input s z t l x xs c run of = step_stays I gated input s run.0.after t l x c (subst (λ (u : ℕ). ready I.program s u ≡ true) of.0 run.0.is_ready)
+    (subst (λ (u : ℕ). step gated I.program input s u ≡ Did x run.0.after) of.0 run.0.is_step)
+
+pub has_instance : (I : Instance) (gated : List InstrId) (input : List ℤ) (s z : State) (t : ℕ) (l : LocalState) (xs : List Step) → CanStepInside I gated s t l
+    → IsRun gated I.program input s xs z → AreOf t xs → HasInstance I gated input t s xs z
 has_instance I gated input s z t l [] c run of = record {
   inner = [];
   rest = [];
@@ -36,7 +43,7 @@ has_instance I gated input s z t l [] c run of = record {
 has_instance I gated input s z t l (x ∷ xs) c run of = go j.goes_on (λ i. has_instance I gated input run.0.after z t j.local xs (inside_again I gated s run.0.after t l x c j i) run.1 of.1)
   where
     j : StaysInside I t l x s run.0.after
-    j = step_stays I gated input s run.0.after t l x c (subst (λ (u : ℕ). ready I.program s u ≡ true) of.0 run.0.is_ready) (subst (λ (u : ℕ). step gated I.program input s u ≡ Did x run.0.after) of.0 run.0.is_step)
+    j = first_stays I gated input s z t l x xs c run of
 
     here : ChangesLittle I t s run.0.after
     here = record { others = j.others; rest = j.rest; bytes = j.bytes }

@@ -1,5 +1,6 @@
 -- A step while an extent is open keeps to the region of the extent's branch step.
-use Rattle.std.proofs.Common.{◌≡◌, ℕ, ℤ, suc, ◌<◌, ◌≤◌, ◌^◌, ◌&&◌, Bool, true, false, List, [], ◌∷◌, length, Option, Some, None, refl, sym, ap, ◌∙◌, subst, arith, inl, inr, ◌⊎◌}
+use Rattle.std.proofs.Common.{◌≡◌, ℕ, ℤ, suc, ◌<◌, ◌≤◌, ◌^◌, ◌&&◌, Bool, true, false, List, [], ◌∷◌, length, Option, Some, None, refl, sym, ap, ◌∙◌}
+use Rattle.std.proofs.Common.{subst, arith, inl, inr, ◌⊎◌}
 use Rattle.std.specs.Prelude.{Contains, slice_get, if◌then◌else◌}
 use Rattle.std.proofs.lemmas.Bool.{and_parts, cases_lt}
 use Rattle.pg_num.specs.Places.{ByteRange}
@@ -12,7 +13,7 @@ use Rattle.pg_ir.specs.Program.{NumberedProgram, function_of}
 use Rattle.pg_ir.specs.WellFormed.{IsProgram}
 use Rattle.pg_paths.specs.Followed.{followed}
 use Rattle.pg_accesses.specs.Accesses.{RootedList, op_accesses}
-use Rattle.pg_accesses.proofs.Elements.{none_in}
+use Rattle.pg_paths.proofs.Elements.{none_in}
 use Rattle.pg_quiet.specs.Blocks.{blocks_of}
 use Rattle.pg_quiet.specs.Summaries.{AreSummaries}
 use Rattle.pg_region.specs.Laws.{AreNested}
@@ -80,14 +81,16 @@ pub no_store : (o : Op) → IsLoad o → is_store o ≡ true → ⊥
 no_store (op.Load w from) h e = cc
 no_store o h e = absurd h
 
-return_none : (gated : ℕ → Bool) (sums : ℕ → Option RootedList) (t : ℕ → Option PointerPath) (i : ℕ) (v : Option Value) (zs : RootedList) → op_accesses false gated sums t i (op.Ret v) ≡ Some zs → ⊥
+return_none : (gated : ℕ → Bool) (sums : ℕ → Option RootedList) (t : ℕ → Option PointerPath) (i : ℕ) (v : Option Value) (zs : RootedList)
+    → op_accesses false gated sums t i (op.Ret v) ≡ Some zs → ⊥
 return_none gated sums t i v zs e = cc
 
 may_set_from : (sets : ℕ → Bool) (o : Option ℕ) → ((k : ℕ) → o ≡ Some k → sets k ≡ true) → MaySet sets o
 may_set_from sets None h = tt
 may_set_from sets (Some k) h = h k refl
 
-module _ (p : NumberedProgram) (gates : List InstrId) (sums : ℕ → Option RootedList) (regions : Regions) (are : AreRegions p (λ i. is_gated gates i) sums regions) (moments : List Moment) (free_of : ℕ → Option FreeRegion) (block_of : ℕ → ℕ) (program : IsProgram p) (summaries : AreSummaries p (λ i. is_gated gates i) sums)
+module _ (p : NumberedProgram) (gates : List InstrId) (sums : ℕ → Option RootedList) (regions : Regions) (are : AreRegions p (λ i. is_gated gates i) sums regions) (moments : List Moment)
+    (free_of : ℕ → Option FreeRegion) (block_of : ℕ → ℕ) (program : IsProgram p) (summaries : AreSummaries p (λ i. is_gated gates i) sums)
     (input : List ℤ) (small : length input < 2 ^ 64) where
   abbrev R : Reference
   R = record { program = p; regions = regions; moments = moments }
@@ -101,7 +104,8 @@ module _ (p : NumberedProgram) (gates : List InstrId) (sums : ℕ → Option Roo
     pub is_step : step gates p input s t ≡ Did x w
     pub reached : IsReached p s
 
-  module _ (s w z : State) (t : ℕ) (l : LocalState) (x : Step) (xs : List Step) (y : Seen) (h : IsSeen s w t l x y) (run : IsRun gates p input s (x ∷ xs) z) (together : AreTogether (x ∷ xs)) (next : IsNext t (x ∷ xs)) where
+  module _ (s w z : State) (t : ℕ) (l : LocalState) (x : Step) (xs : List Step) (y : Seen) (h : IsSeen s w t l x y) (run : IsRun gates p input s (x ∷ xs) z)
+      (together : AreTogether (x ∷ xs)) (next : IsNext t (x ∷ xs)) where
     pub took_here : Took gates p s t l x w
     took_here = took gates p input s w t l x h.is_local h.is_ready h.is_step
 
@@ -119,19 +123,23 @@ module _ (p : NumberedProgram) (gates : List InstrId) (sums : ℕ → Option Roo
 
       pub instr_here : instr_of R y ≡ Some q.instr
       unfolding id_of
-      instr_here = ap (λ (v : Step). slice_get p.instrs v.instr.0) h.moment.did ∙ ap (slice_get p.instrs) took_here.instr ∙ ap (λ (fs : List Frame). slice_get p.instrs (place_in fs)) q.frames ∙ q.is
+      instr_here = ap (λ (v : Step). slice_get p.instrs v.instr.0) h.moment.did ∙ ap (slice_get p.instrs) took_here.instr
+          ∙ ap (λ (fs : List Frame). slice_get p.instrs (place_in fs)) q.frames ∙ q.is
 
       pub edge_here : edge_at R y ≡ edge_taken p f.registers q.instr.op
       edge_here =
-          ap (edge_of p y.moment) kind_here ∙ edge_kind p y.moment (is_gated gates f.place) q.instr.op x.kind q.tells ∙ ap (edge_in p y.moment) instr_here ∙ edge_same p y.moment f q.below q.instr.op calls_here
+          ap (edge_of p y.moment) kind_here ∙ edge_kind p y.moment (is_gated gates f.place) q.instr.op x.kind q.tells ∙ ap (edge_in p y.moment) instr_here
+          ∙ edge_same p y.moment f q.below q.instr.op calls_here
 
       pub same_instr : (i : Instr) → instr_of R y ≡ Some i → q.instr ≡ i
       same_instr i e = let k : Some q.instr ≡ Some i = sym instr_here ∙ e in cc
 
       pub freed_here : (r : FreeRegion) → y.region ≡ Some r → (is_branch x.kind ≡ true) × Freed p (λ i. is_gated gates i) sums are.found y.moment q.instr.block.0 r
-      freed_here r e = go (is_branch x.kind) refl (sym (ap (λ (k : StepKind). if is_branch k then region_at p y.moment (regions q.instr.block.0) else None) kind_here) ∙ sym (ap (region_of p regions y.moment) instr_here) ∙ sym h.region ∙ e)
+      freed_here r e = go (is_branch x.kind) refl (sym (ap (λ (k : StepKind). if is_branch k then region_at p y.moment (regions q.instr.block.0) else None) kind_here)
+          ∙ sym (ap (region_of p regions y.moment) instr_here) ∙ sym h.region ∙ e)
         where
-          go : (b : Bool) → is_branch x.kind ≡ b → (if is_branch x.kind then region_at p y.moment (regions q.instr.block.0) else None) ≡ Some r → (is_branch x.kind ≡ true) × Freed p (λ i. is_gated gates i) sums are.found y.moment q.instr.block.0 r
+          go : (b : Bool) → is_branch x.kind ≡ b → (if is_branch x.kind then region_at p y.moment (regions q.instr.block.0) else None) ≡ Some r
+              → (is_branch x.kind ≡ true) × Freed p (λ i. is_gated gates i) sums are.found y.moment q.instr.block.0 r
           go true k v = (k, freed p (λ i. is_gated gates i) sums regions are y.moment q.instr.block.0 r (rw k at v))
           go false k v = let u : None ≡ Some r = rw k at v in absurd (let n : Path (Option FreeRegion) None (Some r) = u in cc)
 
@@ -188,7 +196,8 @@ module _ (p : NumberedProgram) (gates : List InstrId) (sums : ℕ → Option Roo
         pub nested_here : depth_of y ≡ e.depth → (r : FreeRegion) → (v : y.region ≡ Some r) → AreNested o.region (freed_here r v).1.region
         nested_here d r v =
             let g = (freed_here r v).1 in
-            open_nested p gates sums are.found free_of block_of input (x ∷ xs) s z t l e program summaries small o h.reached run together next q.instr.block.0 g.region g.is_region (block_here (bottom_here d))
+            open_nested p gates sums are.found free_of block_of input (x ∷ xs) s z t l e program summaries small o h.reached run together next q.instr.block.0 g.region g.is_region
+            (block_here (bottom_here d))
 
         inner_here : depth_of y ≡ e.depth → (r : FreeRegion) → y.region ≡ Some r → (k : ℕ) → r.sets k ≡ true → o.free.sets k ≡ true
         inner_here d r v k u =
@@ -198,7 +207,8 @@ module _ (p : NumberedProgram) (gates : List InstrId) (sums : ℕ → Option Roo
         return_quiet : (b : IsBottom I f q.below) (v : Option Value) → q.instr.op ≡ op.Ret v → ⊥
         return_quiet b v u =
             let z = quiet_at I (region_set I) f q.instr program o.can.branch.region b.stands q.is in
-            return_none I.gated I.sums (table I (region_set I) f b.stands) f.place v z.0 (subst (λ (o' : Op). op_accesses false I.gated I.sums (table I (region_set I) f b.stands) f.place o' ≡ Some z.0) u z.1)
+            return_none I.gated I.sums (table I (region_set I) f b.stands) f.place v z.0
+            (subst (λ (o' : Op). op_accesses false I.gated I.sums (table I (region_set I) f b.stands) f.place o' ≡ Some z.0) u z.1)
 
         deeper_here : Returns R y → e.depth < depth_of y
         deeper_here r = go (cases_lt e.depth (depth_of y))
@@ -230,7 +240,8 @@ module _ (p : NumberedProgram) (gates : List InstrId) (sums : ℕ → Option Roo
             let store : is_store q.instr.op ≡ true = ap (λ (j : Instr). is_store j.op) (same_instr st.instr st.stands) ∙ st.store in
             reached_write o.free.accesses (frame_of a.pointer) a.writes b within.frame (writes store tells.by) v
           where
-            writes : is_store q.instr.op ≡ true → (IsLoad q.instr.op × (a.writes ≡ false)) ⊎ (IsStore q.instr.op × (a.writes ≡ true) × IsPlacedAt a.pointer (range_of a)) → a.writes ≡ true
+            writes : is_store q.instr.op ≡ true → (IsLoad q.instr.op × (a.writes ≡ false)) ⊎ (IsStore q.instr.op × (a.writes ≡ true) × IsPlacedAt a.pointer (range_of a))
+                → a.writes ≡ true
             writes u (inl c) = absurd (no_store q.instr.op c.0 u)
             writes u (inr c) = c.1
 
@@ -256,13 +267,15 @@ module _ (p : NumberedProgram) (gates : List InstrId) (sums : ℕ → Option Roo
             by_stands : Stands I (f ∷ q.below) → LeadsTo o.free.accesses a.writes (frame_of a.at.last)
             by_stands (inl b) =
                 lead (inner_reached I (region_set I) f (read s.memory) g.region.blocks.items g.region.accesses.items source.access a.at o.can.branch.region b.stands o.can.cells g.is_region.join.quiet
-                (open_nested p gates sums are.found free_of block_of input (x ∷ xs) s z t l e program summaries small o h.reached run together next q.instr.block.0 g.region g.is_region (block_here b)).blocks
+                (open_nested p gates sums are.found free_of block_of input (x ∷ xs) s z t l e program summaries small o h.reached run together next q.instr.block.0 g.region g.is_region
+                (block_here b)).blocks
                 source.among is_now)
             by_stands (inr b) =
                 let blk = (at_block I b.0.set f q.instr program b.0.stands q.is).0 in
                 let fn : function_of p q.instr.block.0 ≡ f.function = ap (function_of p) blk ∙ b.0.stands.function in
                 lead (inner_reached I b.0.set f (read s.memory) g.region.blocks.items g.region.accesses.items source.access a.at b.0.quiet b.0.stands o.can.cells g.is_region.join.quiet
-                (λ c' m. subst (λ (ls : List ℕ). Contains ls c') (sym b.0.blocks) (subst (λ (n : ℕ). Contains (blocks_of p n) c') fn (region_function p (λ i. is_gated gates i) sums q.instr.block.0 g.region program g.is_region.join c' m)))
+                (λ c' m. subst (λ (ls : List ℕ). Contains ls c') (sym b.0.blocks)
+                (subst (λ (n : ℕ). Contains (blocks_of p n) c') fn (region_function p (λ i. is_gated gates i) sums q.instr.block.0 g.region program g.is_region.join c' m)))
                 source.among is_now)
 
         inner_stores_here : (r : FreeRegion) → y.region ≡ Some r → (b : ℕ) → may_write r.accesses b ≡ true → may_write o.free.accesses b ≡ true

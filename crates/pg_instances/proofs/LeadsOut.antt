@@ -75,7 +75,8 @@ within_none I x h = go x.kind refl h
     go (told.Branch c) e w = ap (λ (k : StepKind). turn_at x (happening_in k)) e
     go (told.Allocation a r) e w = absurd w
     go (told.Event v) e w = absurd w
-    go (told.Access a) e w = ap (λ (k : StepKind). turn_at x (happening_in k)) e ∙ ap (λ (b : Bool). turn_at x (if◌then◌else◌ b (Some (record { kind = access_kind a.writes; object = byte_place a.pointer })) None)) w.plain
+    go (told.Access a) e w = ap (λ (k : StepKind). turn_at x (happening_in k)) e
+        ∙ ap (λ (b : Bool). turn_at x (if◌then◌else◌ b (Some (record { kind = access_kind a.writes; object = byte_place a.pointer })) None)) w.plain
 
 -- ---- the frame that asks
 
@@ -94,7 +95,14 @@ present p l a b e n = by_frames l.frames refl
   where
     by_instr : (f : Frame) (fs : List Frame) (o : Option Instr) → l.frames ≡ f ∷ fs → slice_get p.instrs f.place ≡ o → Present p l a
     by_instr f fs None q i = absurd (n (sym e ∙ ap (λ (c : Bool). frames_action p l c l.frames) b ∙ ap (frames_action p l true) q ∙ ap (instr_action p l f fs) i))
-    by_instr f fs (Some x) q i = record { frame = f; below = fs; instr = x; frames = q; is = i; action = sym (ap (λ (c : Bool). frames_action p l c l.frames) b ∙ ap (frames_action p l true) q ∙ ap (instr_action p l f fs) i) ∙ e }
+    by_instr f fs (Some x) q i = record {
+      frame = f;
+      below = fs;
+      instr = x;
+      frames = q;
+      is = i;
+      action = sym (ap (λ (c : Bool). frames_action p l c l.frames) b ∙ ap (frames_action p l true) q ∙ ap (instr_action p l f fs) i) ∙ e;
+    }
 
     by_frames : (gs : List Frame) → l.frames ≡ gs → Present p l a
     by_frames [] q = absurd (n (sym e ∙ ap (frames_action p l l.begun) q))
@@ -103,21 +111,24 @@ present p l a b e n = by_frames l.frames refl
 not_event_ended : (r : Request) → actions.Event r ≡ actions.Ended → ⊥
 not_event_ended r e = cc
 
-module _ (p : NumberedProgram) (gates : List InstrId) (gated : ℕ → Bool) (same : (i : ℕ) → is_gated gates i ≡ gated i) (sums : ℕ → Option RootedList) (input : List ℤ) (program : IsProgram p) (summaries : AreSummaries p gated sums) (small : length input < 2 ^ 64) (j : ℕ) where
+module _ (p : NumberedProgram) (gates : List InstrId) (gated : ℕ → Bool) (same : (i : ℕ) → is_gated gates i ≡ gated i) (sums : ℕ → Option RootedList) (input : List ℤ)
+    (program : IsProgram p) (summaries : AreSummaries p gated sums) (small : length input < 2 ^ 64) (j : ℕ) where
   abbrev IsLoud : Type 0
   IsLoud = Loud p gated sums program summaries j
 
   abbrev IsBeyond : List Frame → Type 0
   IsBeyond fs = Beyond p gated sums program summaries j fs
 
-  asked_loud : (s : State) (t : ℕ) (l : LocalState) (x : Step) (z : State) (m : LocalState) → IsReached p s → slice_get s.locals t ≡ Some l → l.begun ≡ true → IsBeyond l.frames → Requests p s t l x z m → IsLoud
+  asked_loud : (s : State) (t : ℕ) (l : LocalState) (x : Step) (z : State) (m : LocalState) → IsReached p s → slice_get s.locals t ≡ Some l → l.begun ≡ true → IsBeyond l.frames
+      → Requests p s t l x z m → IsLoud
   asked_loud s t l x z m r e b y q =
       let h = present p l (actions.Event q.request) b q.asks (not_event_ended q.request) in
       not_quiet p gated sums program summaries j l.frames h.frame h.below h.instr h.frames (frames_of p s t l r e) y h.is (λ k.
       subst (AsksNothing h.below h.instr.op) h.action (quiet_asks_nothing p (region_of l) l.halfway h.frame h.below h.instr.block.0 gated sums h.frame.place h.instr.op k))
 
   -- a step of a thread beyond the join, where more is known of what follows it
-  beyond_step : (x : Step) (xs : List Step) (s z : State) (t : ℕ) (l : LocalState) → IsReached p s → slice_get s.locals t ≡ Some l → l.begun ≡ true → IsBeyond l.frames → (run : IsRun gates p input s (x ∷ xs) z) → AreTogether (x ∷ xs) → IsNext t (x ∷ xs) →
+  beyond_step : (x : Step) (xs : List Step) (s z : State) (t : ℕ) (l : LocalState) → IsReached p s → slice_get s.locals t ≡ Some l → l.begun ≡ true → IsBeyond l.frames
+      → (run : IsRun gates p input s (x ∷ xs) z) → AreTogether (x ∷ xs) → IsNext t (x ∷ xs) →
       ((m : LocalState) → IsReached p run.0.after → slice_get run.0.after.locals t ≡ Some m → m.begun ≡ true → IsBeyond m.frames → IsNext t xs → IsLoud) → IsLoud
   beyond_step x xs s z t l r e b y run to n more = go k.did
     where
@@ -142,22 +153,26 @@ module _ (p : NumberedProgram) (gates : List InstrId) (gated : ℕ → Bool) (sa
         where
           by_event : (happening_in x.kind ≡ None) ⊎ ((is_gated gates h.frame.place ≡ true) × (IsLoad h.instr.op ⊎ IsStore h.instr.op)) → IsLoud
           by_event (inl q) = goes_on (ap (turn_at x) q) (moves_on p gated sums program summaries j l.frames h.frame h.below h.instr k.local.frames h.frames (frames_of p s t l r e) y h.is h.moves)
-          by_event (inr q) = not_quiet p gated sums program summaries j l.frames h.frame h.below h.instr h.frames (frames_of p s t l r e) y h.is (λ v. absurd (gated_loud gated sums h.frame.place h.instr.op (sym (same h.frame.place) ∙ q.0) q.1 v))
+          by_event (inr q) = not_quiet p gated sums program summaries j l.frames h.frame h.below h.instr h.frames (frames_of p s t l r e) y h.is
+              (λ v. absurd (gated_loud gated sums h.frame.place h.instr.op (sym (same h.frame.place) ∙ q.0) q.1 v))
 
       go : Plain gates p s t l x w k.local ⊎ Requests p s t l x w k.local → IsLoud
       go (inl h) = plain h
       go (inr h) = asked_loud s t l x w k.local r e b y h
 
   -- a thread beyond the join does an event
-  pub beyond_run : (xs : List Step) (s z : State) (t : ℕ) (l : LocalState) → IsReached p s → slice_get s.locals t ≡ Some l → l.begun ≡ true → IsBeyond l.frames → IsRun gates p input s xs z → AreTogether xs → IsNext t xs → IsLoud
+  pub beyond_run : (xs : List Step) (s z : State) (t : ℕ) (l : LocalState) → IsReached p s → slice_get s.locals t ≡ Some l → l.begun ≡ true → IsBeyond l.frames
+      → IsRun gates p input s xs z → AreTogether xs → IsNext t xs → IsLoud
   beyond_run [] s z t l r e b y run to n = absurd n
   beyond_run (x ∷ xs) s z t l r e b y run to n = beyond_step x xs s z t l r e b y run to n (λ m r' e' b' y' n'. beyond_run xs run.0.after z t m r' e' b' y' run.1 to.1 n')
 
 -- a thread inside, which does an event later, comes from the join to a block that isn't quiet
-pub leads_out : (I : Instance) (gates : List InstrId) (input : List ℤ) (xs : List Step) (s z : State) (t : ℕ) (l : LocalState) → (program : IsProgram I.program) → (summaries : AreSummaries I.program I.gated I.sums) → length input < 2 ^ 64 → I.join < length I.program.blocks →
+pub leads_out : (I : Instance) (gates : List InstrId) (input : List ℤ) (xs : List Step) (s z : State) (t : ℕ) (l : LocalState) → (program : IsProgram I.program)
+    → (summaries : AreSummaries I.program I.gated I.sums) → length input < 2 ^ 64 → I.join < length I.program.blocks →
     CanStepInside I gates s t l → IsReached I.program s → IsRun gates I.program input s xs z → AreTogether xs → IsNext t xs → Loud I.program I.gated I.sums program summaries I.join
 leads_out I gates input [] s z t l program summaries small lt c r run to n = absurd n
-leads_out I gates input (x ∷ xs) s z t l program summaries small lt c r run to n = go k.goes_on (λ i. leads_out I gates input xs w z t k.local program summaries small lt (inside_again I gates s w t l x c k i) next_reached run.1 to.1 next_is)
+leads_out I gates input (x ∷ xs) s z t l program summaries small lt c r run to n =
+    go k.goes_on (λ i. leads_out I gates input xs w z t k.local program summaries small lt (inside_again I gates s w t l x c k i) next_reached run.1 to.1 next_is)
   where
     w : State
     w = run.0.after

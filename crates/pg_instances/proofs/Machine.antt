@@ -20,7 +20,8 @@ use Rattle.pg_trace.specs.declared.step.Step.{Step}
 use Rattle.pg_trace.specs.declared.step.StepKind.{StepKind}
 use Rattle.pg_trace.specs.declared.step.StepKind.TheVariants as told
 use Rattle.pg_machine.specs.State.{State, instr_of, next_of, id_in}
-use Rattle.pg_machine.specs.MachineStep.{Did, answered, input_at, instr_told, is_gated, kind_told, local_after, may_act, number_in, op_told, operands_in, ready, settled, step, step_told, taken}
+use Rattle.pg_machine.specs.MachineStep.{Did, answered, instr_told, is_gated, kind_told, local_after, may_act, number_in, op_told, operands_in, ready, settled, step, step_told, taken}
+use Rattle.pg_num.specs.Inputs.{input_at}
 use Rattle.pg_machine.proofs.Asks.{next_is, ready_acts}
 use Rattle.pg_machine.proofs.Threads.{set_own, set_other}
 use Rattle.pg_closed.specs.Freeable.{frame_of}
@@ -37,7 +38,8 @@ use Rattle.pg_instances.proofs.Inner.{IsCalmKind, GoesOn, GoesFrom, Proceeds, in
 apart_ranges : (a b q r : ByteRange) → share a b ≡ false → IsWithin q a → IsWithin r b → 0 < q.bytes → 0 < r.bytes → meet q r ≡ false
 apart_ranges a b q r e h k x y = let hf = h.from in let he = h.end in let kf = k.from in let ke = k.end in grind (arith, nat_tests, e, hf, he, kf, ke, x, y)
 
-pub stored_keeps : (I : Instance) (m : Words) (place word n : ℕ) (q : ByteRange) → AreApart I.recorded → Accesses I place true word q → KeepsCells I.recorded I.memory (read m) → KeepsCells I.recorded I.memory (read (written m q n))
+pub stored_keeps : (I : Instance) (m : Words) (place word n : ℕ) (q : ByteRange) → AreApart I.recorded → Accesses I place true word q → KeepsCells I.recorded I.memory (read m)
+    → KeepsCells I.recorded I.memory (read (written m q n))
 stored_keeps I m place word n q apart a k = record {
   kept = λ frame r l w some lt. read-written_apart m q r n lt (apart_ranges (frame_of word) frame q r (apart (frame_of word) frame a.reached l) a.within w a.some some) ∙ k.kept frame r l w some lt;
 }
@@ -46,7 +48,8 @@ outside_range : (frame q : ByteRange) (b : ℕ) → IsWithin q frame → is_with
 outside_range frame q b h e = let f = h.from in let g = h.end in grind (arith, nat_tests, e, f, g)
 
 -- a store leaves each byte outside of the frames of stores
-pub stored_bytes : (I : Instance) (m : Words) (place word n : ℕ) (q : ByteRange) → Accesses I place true word q → (b : ℕ) → b < MEMORY_BYTES → IsOutside I.recorded b → byte_at (written m q n) b ≡ byte_at m b
+pub stored_bytes : (I : Instance) (m : Words) (place word n : ℕ) (q : ByteRange) → Accesses I place true word q → (b : ℕ) → b < MEMORY_BYTES → IsOutside I.recorded b
+    → byte_at (written m q n) b ≡ byte_at m b
 stored_bytes I m place word n q a b lt h =
     let e : is_within q b ≡ false = outside_range (frame_of word) q b a.within (h (frame_of word) a.reached) in
     byte_at-written_law m q n b lt ∙ ap (λ (c : Bool). if c then byte_of n (b - q.start) else byte_at m b) e
@@ -60,7 +63,8 @@ calm_within I (told.Access a) h = absurd h
 calm_within I (told.Allocation n r) h = absurd h
 calm_within I (told.Event e) h = absurd h
 
-local_within : (I : Instance) (ns : List ℕ) (n : ℕ) (o : Option Instr) → ((x : Instr) → o ≡ Some x → (ns : List ℕ) (n : ℕ) → IsCalmKind (op_told ns n x.op)) → TellsWithin I (instr_told ns n o)
+local_within : (I : Instance) (ns : List ℕ) (n : ℕ) (o : Option Instr) → ((x : Instr) → o ≡ Some x → (ns : List ℕ) (n : ℕ) → IsCalmKind (op_told ns n x.op))
+    → TellsWithin I (instr_told ns n o)
 local_within I ns n None h = tt
 local_within I ns n (Some x) h = calm_within I (op_told ns n x.op) (h x refl ns n)
 
@@ -85,7 +89,8 @@ module _ (I : Instance) (gated : List InstrId) (input : List ℤ) (s z : State) 
   abbrev behind : Words → ℕ → State
   behind m n = record s { memory = m; locals = local_after p s.locals t n (slice_get s.locals t) }
 
-  stays : (m : Words) (n : ℕ) → ((b : ℕ) → b < MEMORY_BYTES → IsOutside I.recorded b → byte_at m b ≡ byte_at s.memory b) → KeepsCells I.recorded I.memory (read m) → GoesOn I l (after p l n) → TellsWithin I (step_told gated p s t n).kind → Did (step_told gated p s t n) (behind m n) ≡ Did x z → StaysInside I t l x s z
+  stays : (m : Words) (n : ℕ) → ((b : ℕ) → b < MEMORY_BYTES → IsOutside I.recorded b → byte_at m b ≡ byte_at s.memory b) → KeepsCells I.recorded I.memory (read m)
+      → GoesOn I l (after p l n) → TellsWithin I (step_told gated p s t n).kind → Did (step_told gated p s t n) (behind m n) ≡ Did x z → StaysInside I t l x s z
   stays m n o k g w e =
       let d = did (step_told gated p s t n) x (behind m n) z e in
       let locals : local_after p s.locals t n (slice_get s.locals t) ≡ slice_set s.locals t (after p l n) = ap (local_after p s.locals t n) c.is_local in
@@ -100,8 +105,10 @@ module _ (I : Instance) (gated : List InstrId) (input : List ℤ) (s z : State) 
         bytes = o;
       }))
 
-  tells_local : (n : ℕ) (a : Action) → next_of p s t ≡ a → Proceeds I (read s.memory) l → ((ns : List ℕ) (m k : ℕ) → TellsWithin I (kind_told gated p s t ns m k a)) → TellsWithin I (step_told gated p s t n).kind
-  tells_local n a e pr h = subst (λ (b : Action). TellsWithin I (kind_told gated p s t (operands_in p (slice_get s.locals t)) n (number_in p (slice_get s.locals t) n) b)) (sym e) (h (operands_in p (slice_get s.locals t)) n (number_in p (slice_get s.locals t) n))
+  tells_local : (n : ℕ) (a : Action) → next_of p s t ≡ a → Proceeds I (read s.memory) l → ((ns : List ℕ) (m k : ℕ) → TellsWithin I (kind_told gated p s t ns m k a))
+      → TellsWithin I (step_told gated p s t n).kind
+  tells_local n a e pr h = subst (λ (b : Action). TellsWithin I (kind_told gated p s t (operands_in p (slice_get s.locals t)) n (number_in p (slice_get s.locals t) n) b)) (sym e)
+      (h (operands_in p (slice_get s.locals t)) n (number_in p (slice_get s.locals t) n))
 
   instr_calm : Proceeds I (read s.memory) l → (ns : List ℕ) (k : ℕ) → TellsWithin I (instr_told ns k (slice_get p.instrs (instr_of s t)))
   instr_calm pr ns k = local_within I ns k (slice_get p.instrs (instr_of s t)) (λ y e. pr.calm y (subst (λ (i : ℕ). slice_get p.instrs i ≡ Some y) instr_here e))
@@ -117,7 +124,8 @@ module _ (I : Instance) (gated : List InstrId) (input : List ℤ) (s z : State) 
     within = record { from = (let f = a.within.from in omega (arith, f, a.start)); end = (let f = a.within.end in omega (arith, f, a.start)) };
   }
 
-  by_action : (a : Action) → next_of p s t ≡ a → Proceeds I (read s.memory) l → GoesFrom I (read s.memory) l a → may_act s t a ≡ true → settled gated p s t (taken p s t (answered p input s t a)) ≡ Did x z → StaysInside I t l x s z
+  by_action : (a : Action) → next_of p s t ≡ a → Proceeds I (read s.memory) l → GoesFrom I (read s.memory) l a → may_act s t a ≡ true
+      → settled gated p s t (taken p s t (answered p input s t a)) ≡ Did x z → StaysInside I t l x s z
   unfolding answered
   by_action actions.Local e pr g m d = stays s.memory 0 (λ b lt o. refl) c.cells g (tells_local 0 actions.Local e pr (λ ns i k. instr_calm pr ns k)) d
   by_action (actions.In i) e pr g m d = stays s.memory (input_at input i) (λ b lt o. refl) c.cells (g (input_at input i)) (tells_local (input_at input i) (actions.In i) e pr (λ ns j k. tt)) d
@@ -125,11 +133,14 @@ module _ (I : Instance) (gated : List InstrId) (input : List ℤ) (s z : State) 
   by_action (actions.Load r) e pr g m d =
       stays s.memory (read s.memory r) (λ b lt o. refl) c.cells g.1
       (subst (λ (b : Action). TellsWithin I (kind_told gated p s t (operands_in p (slice_get s.locals t)) (read s.memory r) (number_in p (slice_get s.locals t) (read s.memory r)) b)) (sym e)
-      (access_within (slice_index (operands_in p (slice_get s.locals t)) 0) r false (read s.memory r) (id_of l) refl (subst (λ (ns : List ℕ). Accesses I (id_of l) false (slice_index ns 0) r) (sym operands_here) g.0))) d
+      (access_within (slice_index (operands_in p (slice_get s.locals t)) 0) r false (read s.memory r) (id_of l) refl
+      (subst (λ (ns : List ℕ). Accesses I (id_of l) false (slice_index ns 0) r) (sym operands_here) g.0))) d
   by_action (actions.Store r n) e pr g m d =
-      stays (written s.memory r n) 0 (stored_bytes I s.memory (id_of l) (slice_index (operand_values p l) 1) n r g.0) (stored_keeps I s.memory (id_of l) (slice_index (operand_values p l) 1) n r c.branch.apart g.0 c.cells) g.1
+      stays (written s.memory r n) 0 (stored_bytes I s.memory (id_of l) (slice_index (operand_values p l) 1) n r g.0)
+      (stored_keeps I s.memory (id_of l) (slice_index (operand_values p l) 1) n r c.branch.apart g.0 c.cells) g.1
       (subst (λ (b : Action). TellsWithin I (kind_told gated p s t (operands_in p (slice_get s.locals t)) 0 (number_in p (slice_get s.locals t) 0) b)) (sym e)
-      (access_within (slice_index (operands_in p (slice_get s.locals t)) 1) r true n (id_of l) refl (subst (λ (ns : List ℕ). Accesses I (id_of l) true (slice_index ns 1) r) (sym operands_here) g.0))) d
+      (access_within (slice_index (operands_in p (slice_get s.locals t)) 1) r true n (id_of l) refl
+      (subst (λ (ns : List ℕ). Accesses I (id_of l) true (slice_index ns 1) r) (sym operands_here) g.0))) d
   by_action (actions.Event r) e pr g m d = absurd g
   by_action (actions.Trap name) e pr g m d = absurd cc
   by_action actions.Ended e pr g m d = absurd cc

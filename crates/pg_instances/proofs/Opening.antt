@@ -1,5 +1,6 @@
 -- Extents from one step to the next: those that stay open, one that begins, and which end together.
-use Rattle.std.proofs.Common.{◌≡◌, ℕ, ℤ, ◌+◌, ◌<◌, ◌≤◌, ◌^◌, ◌==◌, Bool, true, false, List, ◌∷◌, length, Option, Some, None, refl, sym, ap, ◌∙◌, subst, arith, inl, inr, ◌⊎◌}
+use Rattle.std.proofs.Common.{◌≡◌, ℕ, ℤ, ◌+◌, ◌<◌, ◌≤◌, ◌^◌, ◌==◌, Bool, true, false, List, ◌∷◌, length, Option, Some, None, refl, sym, ap, ◌∙◌}
+use Rattle.std.proofs.Common.{subst, arith, inl, inr, ◌⊎◌}
 use Rattle.std.specs.Prelude.{Contains, slice_get}
 use Rattle.std.proofs.lemmas.Bool.{and_parts, and_from, eq-eqb, eqb-true, true≢false}
 use Rattle.pg_ir.specs.declared.ids.InstrId.{InstrId}
@@ -93,7 +94,8 @@ ends_parts depth (Some to) e h = let k = and_parts (e.depth == depth) (e.join ==
 ends_from : (depth : ℕ) (edge : Option ℕ) (e : Extent) (to : ℕ) → edge ≡ Some to → e.depth ≡ depth → e.join ≡ to → ends depth edge e ≡ true
 ends_from depth edge e to q d j = subst (λ (o : Option ℕ). ends depth o e ≡ true) (sym q) (ends_true e depth to d j)
 
-module _ (p : NumberedProgram) (gates : List InstrId) (sums : ℕ → Option RootedList) (regions : Regions) (are : AreRegions p (λ i. is_gated gates i) sums regions) (moments : List Moment) (free_of : ℕ → Option FreeRegion) (block_of : ℕ → ℕ) (program : IsProgram p) (summaries : AreSummaries p (λ i. is_gated gates i) sums)
+module _ (p : NumberedProgram) (gates : List InstrId) (sums : ℕ → Option RootedList) (regions : Regions) (are : AreRegions p (λ i. is_gated gates i) sums regions) (moments : List Moment)
+    (free_of : ℕ → Option FreeRegion) (block_of : ℕ → ℕ) (program : IsProgram p) (summaries : AreSummaries p (λ i. is_gated gates i) sums)
     (input : List ℤ) (small : length input < 2 ^ 64) where
   abbrev Seen_as : State → State → ℕ → LocalState → Step → Seen → Type 0
   Seen_as s w t l x y = IsSeen p gates sums regions are moments free_of block_of program summaries input small s w t l x y
@@ -103,7 +105,8 @@ module _ (p : NumberedProgram) (gates : List InstrId) (sums : ℕ → Option Roo
     pub deeper : o.depth ≤ e.depth
     pub within : o.depth ≡ e.depth → (r : Region) → are.found (block_of o.step) ≡ Some r → Contains r.blocks.items (block_of e.step)
 
-  module _ (s w z : State) (t : ℕ) (l : LocalState) (x : Step) (xs : List Step) (y : Seen) (h : Seen_as s w t l x y) (run : IsRun gates p input s (x ∷ xs) z) (together : AreTogether (x ∷ xs)) (next : IsNext t (x ∷ xs)) where
+  module _ (s w z : State) (t : ℕ) (l : LocalState) (x : Step) (xs : List Step) (y : Seen) (h : Seen_as s w t l x y) (run : IsRun gates p input s (x ∷ xs) z)
+      (together : AreTogether (x ∷ xs)) (next : IsNext t (x ∷ xs)) where
     abbrev R : Reference
     R = record { program = p; regions = regions; moments = moments }
 
@@ -130,7 +133,8 @@ module _ (p : NumberedProgram) (gates : List InstrId) (sums : ℕ → Option Roo
     depth_is q = ap (λ (cs : List Frame). length cs) (h.moment.calls ∙ q.frames)
 
     -- the edge to the join ends the extent
-    joined_ends : (q : IsPlain) (I : Instance) (m : LocalState) (e : Extent) → I.program ≡ p → Joins I l m → e.join ≡ I.join → e.depth ≡ length I.lower + 1 → next_edge p l ≡ Some I.join → ends (depth_of y) (edge_at R y) e ≡ true
+    joined_ends : (q : IsPlain) (I : Instance) (m : LocalState) (e : Extent) → I.program ≡ p → Joins I l m → e.join ≡ I.join → e.depth ≡ length I.lower + 1
+        → next_edge p l ≡ Some I.join → ends (depth_of y) (edge_at R y) e ≡ true
     joined_ends q I m e pe j ej ed ne =
         let low : q.below ≡ I.lower = sym (ap under_top q.frames) ∙ j.lower in
         let d : e.depth ≡ depth_of y = (let a = depth_is q in let n = ap (λ (cs : List Frame). length cs) low in omega (arith, a, n, ed)) in
@@ -179,7 +183,8 @@ module _ (p : NumberedProgram) (gates : List InstrId) (sums : ℕ → Option Roo
 
       pub begins : CanStepInside begun_instance gates s t l
       begins = record {
-        branch = at_branch p (λ i. is_gated gates i) sums g.region r s l q.frame q.below q.instr program summaries q.begun q.frames q.is (tells_branch (is_gated gates q.frame.place) q.instr.op x.kind q.tells (freed_is q r v).0).0
+        branch = at_branch p (λ i. is_gated gates i) sums g.region r s l q.frame q.below q.instr program summaries q.begun q.frames q.is
+            (tells_branch (is_gated gates q.frame.place) q.instr.op x.kind q.tells (freed_is q r v).0).0
             (frame_in p q.frame.function (slice_get p.instrs q.frame.place) q.instr q.is (subst (λ (fs : List Frame). AreFramesOf p fs) q.frames (frames_of p s t l h.reached h.is_local)).0.place)
             (program.instrs q.frame.place q.instr q.is).block g.is_region.join
             (leads_there p (λ i. is_gated gates i) sums g.region r s l q.frame q.below y.moment (h.moment.calls ∙ q.frames) h.moment.bytes g.accesses) (apart_at r.accesses g.apart);
@@ -190,7 +195,8 @@ module _ (p : NumberedProgram) (gates : List InstrId) (sums : ℕ → Option Roo
       }
 
       -- it is open behind the step, unless it ends at once
-      pub open_begun : (e : Extent) → e.join ≡ r.join → e.depth ≡ depth_of y → block_of e.step ≡ q.instr.block.0 → free_of e.step ≡ Some r → ends (depth_of y) (edge_at R y) e ≡ false → OpenAt w took_it.local e
+      pub open_begun : (e : Extent) → e.join ≡ r.join → e.depth ≡ depth_of y → block_of e.step ≡ q.instr.block.0 → free_of e.step ≡ Some r
+          → ends (depth_of y) (edge_at R y) e ≡ false → OpenAt w took_it.local e
       open_begun e ej ed eb ef n = go stays.goes_on
         where
           stays : StaysInside begun_instance t l x s w
@@ -231,16 +237,19 @@ module _ (p : NumberedProgram) (gates : List InstrId) (sums : ℕ → Option Roo
       begun_over o k e ed eb = record {
         deeper = (let n = deep_enough p gates sums regions are moments free_of block_of program summaries input small s w z t l x xs y h run together next q o k in omega (arith, n, ed));
         within = λ d ro f.
-            let b : IsBottom (instance p gates sums are.found free_of block_of k) q.frame q.below = bottom_here p gates sums regions are moments free_of block_of program summaries input small s w z t l x xs y h run together next q o k (sym ed ∙ sym d) in
+            let b : IsBottom (instance p gates sums are.found free_of block_of k) q.frame q.below =
+            bottom_here p gates sums regions are moments free_of block_of program summaries input small s w z t l x xs y h run together next q o k (sym ed ∙ sym d) in
             let at = at_block (instance p gates sums are.found free_of block_of k) (region_set (instance p gates sums are.found free_of block_of k)) q.frame q.instr program b.stands q.is in
             let same : k.region ≡ ro = (let u : Some k.region ≡ Some ro = sym k.found_is ∙ f in cc) in
-            subst (λ (c : ℕ). Contains ro.blocks.items c) (sym eb) (subst (λ (rr : Region). Contains rr.blocks.items q.instr.block.0) same (subst (λ (c : ℕ). Contains k.region.blocks.items c) (sym at.0) b.stands.among));
+            subst (λ (c : ℕ). Contains ro.blocks.items c) (sym eb)
+            (subst (λ (rr : Region). Contains rr.blocks.items q.instr.block.0) same (subst (λ (c : ℕ). Contains k.region.blocks.items c) (sym at.0) b.stands.among));
       }
 
     -- ---- ends
 
     -- what ends the earlier ends the later too
-    later_ends : (o e : Extent) (ko : OpenAt s l o) (inner : Region) (depth : ℕ) → AreNested ko.region inner → (Contains inner.blocks.items ko.region.join ⊎ (ko.region.join ≡ inner.join)) → ko.region.join ≡ inner.join
+    later_ends : (o e : Extent) (ko : OpenAt s l o) (inner : Region) (depth : ℕ) → AreNested ko.region inner
+        → (Contains inner.blocks.items ko.region.join ⊎ (ko.region.join ≡ inner.join)) → ko.region.join ≡ inner.join
     later_ends o e ko inner depth n (inr q) = q
     later_ends o e ko inner depth n (inl m) = absurd (not_met p ko.region.join (block_of o.step) ko.region.join ((ko.is_region.join.before.exact ko.region.join).0 (n.blocks ko.region.join m)) refl)
 
@@ -249,12 +258,15 @@ module _ (p : NumberedProgram) (gates : List InstrId) (sums : ℕ → Option Roo
         let k = ends_parts (depth_of y) (edge_at R y) o u in
         let n = deep_enough p gates sums regions are moments free_of block_of program summaries input small s w z t l x xs y h run together next q e ke in
         let d : e.depth ≡ depth_of y = (let a = v.deeper in let b = k.deep in omega (arith, n, a, b)) in
-        let nest = open_nested p gates sums are.found free_of block_of input (x ∷ xs) s z t l o program summaries small ko h.reached run together next (block_of e.step) ke.region ke.is_region (v.within (k.deep ∙ sym d) ko.region ko.found_is) in
-        let lead = edge_leads p gates sums regions are moments free_of block_of program summaries input small s w z t l x xs y h run together next q e ke (sym d) ko.region.join (k.at ∙ ap (λ (c : ℕ). Some c) ko.join) in
+        let nest = open_nested p gates sums are.found free_of block_of input (x ∷ xs) s z t l o program summaries small ko h.reached run together next (block_of e.step) ke.region ke.is_region
+        (v.within (k.deep ∙ sym d) ko.region ko.found_is) in
+        let lead = edge_leads p gates sums regions are moments free_of block_of program summaries input small s w z t l x xs y h run together next q e ke (sym d) ko.region.join
+        (k.at ∙ ap (λ (c : ℕ). Some c) ko.join) in
         let j = later_ends o e ko ke.region (depth_of y) nest lead in
         ends_from (depth_of y) (edge_at R y) e o.join k.at d (ke.join ∙ sym j ∙ sym ko.join)
 
-    pub begun_ends : (q : IsPlain) (r : FreeRegion) (v : y.region ≡ Some r) (o e : Extent) → OpenAt s l o → e.join ≡ r.join → e.depth ≡ depth_of y → ends (depth_of y) (edge_at R y) o ≡ true → ends (depth_of y) (edge_at R y) e ≡ true
+    pub begun_ends : (q : IsPlain) (r : FreeRegion) (v : y.region ≡ Some r) (o e : Extent) → OpenAt s l o → e.join ≡ r.join → e.depth ≡ depth_of y
+        → ends (depth_of y) (edge_at R y) o ≡ true → ends (depth_of y) (edge_at R y) e ≡ true
     begun_ends q r v o e ko ej ed u =
         let k = ends_parts (depth_of y) (edge_at R y) o u in
         let nest = nested_here p gates sums regions are moments free_of block_of program summaries input small s w z t l x xs y h run together next q o ko (sym k.deep) r v in

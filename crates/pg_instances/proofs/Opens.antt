@@ -1,5 +1,6 @@
 -- An open extent: the thread is inside the instance of its branch step.
-use Rattle.std.proofs.Common.{◌≡◌, ℕ, ℤ, ◌+◌, ◌<◌, ◌≤◌, ◌^◌, ◌&&◌, ◌||◌, Bool, true, false, List, [], ◌∷◌, length, Option, Some, refl, sym, ap, ◌∙◌, subst, arith, inl, inr, ◌⊎◌}
+use Rattle.std.proofs.Common.{◌≡◌, ℕ, ℤ, ◌+◌, ◌<◌, ◌≤◌, ◌^◌, ◌&&◌, ◌||◌, Bool, true, false, List, [], ◌∷◌, length, Option, Some, refl, sym, ap}
+use Rattle.std.proofs.Common.{◌∙◌, subst, arith, inl, inr, ◌⊎◌}
 use Rattle.std.specs.Prelude.{Contains, slice_get}
 use Rattle.std.specs.List.{list_any}
 use Rattle.std.proofs.lemmas.Bool.{eq-eqb}
@@ -12,7 +13,7 @@ use Rattle.pg_ir.specs.Edges.{instrs_of, is_phi, is_terminator, phis_of, success
 use Rattle.pg_ir.specs.WellFormed.{IsProgram}
 use Rattle.pg_paths.specs.Registers.{is_register}
 use Rattle.pg_accesses.specs.Accesses.{RootedList, block_sets, sets}
-use Rattle.pg_accesses.proofs.Elements.{here, there}
+use Rattle.pg_paths.proofs.Elements.{here, there}
 use Rattle.pg_quiet.specs.Summaries.{AreSummaries}
 use Rattle.pg_region.specs.declared.region.Region.{Region}
 use Rattle.pg_region.specs.Regions.{IsRegion}
@@ -75,30 +76,39 @@ any_source {A} f (y ∷ xs) e = go (f y) refl e (λ q. any_source f xs q)
     go false q e more = let r = more (rw q at e) in (r.0, there y xs r.0 r.1, r.2)
 
 -- an instruction of the region sets what may be set
-pub bottom_result : (I : Instance) (f : Frame) (fs : List Frame) (x : Instr) → IsProgram I.program → IsBottom I f fs → slice_get I.program.instrs f.place ≡ Some x → (k : ℕ) → x.result ≡ Some k → may_set I k ≡ true
+pub bottom_result : (I : Instance) (f : Frame) (fs : List Frame) (x : Instr) → IsProgram I.program → IsBottom I f fs → slice_get I.program.instrs f.place ≡ Some x → (k : ℕ)
+    → x.result ≡ Some k → may_set I k ≡ true
 bottom_result I f fs x program b e k r =
     let at = at_block I (region_set I) f x program b.stands e in
-    either_true (sets I.program I.blocks k) (phis_set I.program I.join k) (inl (sets_here I.program I.blocks b.stands.block b.stands.behind k x b.stands.among at.1 (ap (λ (o : Option ℕ). is_register o k) r ∙ eq-eqb k k refl)))
+    either_true (sets I.program I.blocks k) (phis_set I.program I.join k)
+    (inl (sets_here I.program I.blocks b.stands.block b.stands.behind k x b.stands.among at.1 (ap (λ (o : Option ℕ). is_register o k) r ∙ eq-eqb k k refl)))
 
 -- phis of a block of the region, and those of the join
-pub phis_may : (I : Instance) (to : ℕ) → Contains I.blocks to ⊎ (to ≡ I.join) → (x : Instr) → Contains (phis_of I.program to) x → (k : ℕ) → x.result ≡ Some k → may_set I k ≡ true
+pub phis_may : (I : Instance) (to : ℕ) → Contains I.blocks to ⊎ (to ≡ I.join) → (x : Instr) → Contains (phis_of I.program to) x → (k : ℕ) → x.result ≡ Some k
+    → may_set I k ≡ true
 unfolding phis_of block_sets
 phis_may I to (inl m) x c k r =
     let i = while_among (λ (y : Instr). is_phi y.op) (instrs_of I.program to) x c in
-    either_true (sets I.program I.blocks k) (phis_set I.program I.join k) (inl (some_of (block_sets I.program k) I.blocks to m (some_of (λ (y : Instr). is_register y.result k) (instrs_of I.program to) x i.0 (ap (λ (o : Option ℕ). is_register o k) r ∙ eq-eqb k k refl))))
+    either_true (sets I.program I.blocks k) (phis_set I.program I.join k)
+    (inl (some_of (block_sets I.program k) I.blocks to m
+    (some_of (λ (y : Instr). is_register y.result k) (instrs_of I.program to) x i.0 (ap (λ (o : Option ℕ). is_register o k) r ∙ eq-eqb k k refl))))
 phis_may I to (inr e) x c k r =
-    either_true (sets I.program I.blocks k) (phis_set I.program I.join k) (inr (subst (λ (b : ℕ). phis_set I.program b k ≡ true) e (some_of (λ (y : Instr). is_register y.result k) (phis_of I.program to) x c (ap (λ (o : Option ℕ). is_register o k) r ∙ eq-eqb k k refl))))
+    either_true (sets I.program I.blocks k) (phis_set I.program I.join k)
+    (inr (subst (λ (b : ℕ). phis_set I.program b k ≡ true) e
+    (some_of (λ (y : Instr). is_register y.result k) (phis_of I.program to) x c (ap (λ (o : Option ℕ). is_register o k) r ∙ eq-eqb k k refl))))
 
 -- where an edge leads
 pub edge_parts : (p : NumberedProgram) (rs : List (Option ℕ)) (o : Op) (to : ℕ) → edge_taken p rs o ≡ Some to → (is_terminator o ≡ true) × Contains (targets_of o) to
 edge_parts p rs (op.Br b) to e = let q : b.0 ≡ to = cc in (refl, subst (λ (z : ℕ). Contains (b.0 ∷ []) z) q (here b.0 []))
-edge_parts p rs (op.CondBr c a b) to e = let q : chosen (given (operand p rs c)) a.0 b.0 ≡ to = cc in (refl, subst (λ (z : ℕ). Contains (a.0 ∷ b.0 ∷ []) z) q (chosen_among (given (operand p rs c)) a.0 b.0))
+edge_parts p rs (op.CondBr c a b) to e = let q : chosen (given (operand p rs c)) a.0 b.0 ≡ to =
+    cc in (refl, subst (λ (z : ℕ). Contains (a.0 ∷ b.0 ∷ []) z) q (chosen_among (given (operand p rs c)) a.0 b.0))
 edge_parts p rs (op.Switch w on other cases) to e =
     let q : case_of cases other.0 (given (operand p rs on)) ≡ to = cc in
     (refl, subst (λ (z : ℕ). Contains (targets_of (op.Switch w on other cases)) z) q (switched_among cases other.0 (given (operand p rs on))))
 edge_parts p rs o to e = absurd cc
 
-pub bottom_edge : (I : Instance) (f : Frame) (fs : List Frame) (x : Instr) (to : ℕ) → IsProgram I.program → IsQuietSet I (region_set I) → IsBottom I f fs → slice_get I.program.instrs f.place ≡ Some x → edge_taken I.program f.registers x.op ≡ Some to → Contains I.blocks to ⊎ (to ≡ I.join)
+pub bottom_edge : (I : Instance) (f : Frame) (fs : List Frame) (x : Instr) (to : ℕ) → IsProgram I.program → IsQuietSet I (region_set I) → IsBottom I f fs
+    → slice_get I.program.instrs f.place ≡ Some x → edge_taken I.program f.registers x.op ≡ Some to → Contains I.blocks to ⊎ (to ≡ I.join)
 bottom_edge I f fs x to program q b e t =
     let at = at_block I (region_set I) f x program b.stands e in
     let d = edge_parts I.program f.registers x.op to t in
@@ -136,7 +146,8 @@ nested_sets p outer inner n k e = go (or_cases (sets p inner.blocks.items k) (re
         by_join (inr m) =
             let x = any_source (λ (y : Instr). is_register y.result k) (phis_of p inner.join) s in
             let i = while_among (λ (y : Instr). is_phi y.op) (instrs_of p inner.join) x.0 x.1 in
-            either_true (sets p outer.blocks.items k) (regions.phis_set p outer.join k) (inl (some_of (block_sets p k) outer.blocks.items inner.join m (some_of (λ (y : Instr). is_register y.result k) (instrs_of p inner.join) x.0 i.0 x.2)))
+            either_true (sets p outer.blocks.items k) (regions.phis_set p outer.join k)
+            (inl (some_of (block_sets p k) outer.blocks.items inner.join m (some_of (λ (y : Instr). is_register y.result k) (instrs_of p inner.join) x.0 i.0 x.2)))
 
 -- ---- open extents
 
@@ -165,12 +176,14 @@ module _ (p : NumberedProgram) (gates : List InstrId) (sums : ℕ → Option Roo
   instance o = instance_of p G sums o.region o.free o.state o.local o.frame o.lower
 
   -- from the join of an open extent a block that isn't quiet can be reached
-  pub open_loud : (input : List ℤ) (xs : List Step) (s z : State) (t : ℕ) (l : LocalState) (e : Extent) (program : IsProgram p) (summaries : AreSummaries p G sums) → length input < 2 ^ 64 → (o : Open s t l e) → IsReached p s → IsRun gates p input s xs z → AreTogether xs → IsNext t xs → Loud p G sums program summaries o.region.join
+  pub open_loud : (input : List ℤ) (xs : List Step) (s z : State) (t : ℕ) (l : LocalState) (e : Extent) (program : IsProgram p) (summaries : AreSummaries p G sums) → length input < 2 ^ 64
+      → (o : Open s t l e) → IsReached p s → IsRun gates p input s xs z → AreTogether xs → IsNext t xs → Loud p G sums program summaries o.region.join
   open_loud input xs s z t l e program summaries small o r run to n =
       leads_out (instance o) gates input xs s z t l program summaries small (join_fits p (block_of e.step) o.region.join program o.is_region.join.reached) o.can r run to n
 
   -- the region of a branch in the branch's frame lies in that of the open extent
-  pub open_nested : (input : List ℤ) (xs : List Step) (s z : State) (t : ℕ) (l : LocalState) (e : Extent) (program : IsProgram p) (summaries : AreSummaries p G sums) → length input < 2 ^ 64 → (o : Open s t l e) → IsReached p s → IsRun gates p input s xs z → AreTogether xs → IsNext t xs →
+  pub open_nested : (input : List ℤ) (xs : List Step) (s z : State) (t : ℕ) (l : LocalState) (e : Extent) (program : IsProgram p) (summaries : AreSummaries p G sums) → length input < 2 ^ 64
+      → (o : Open s t l e) → IsReached p s → IsRun gates p input s xs z → AreTogether xs → IsNext t xs →
       (d : ℕ) (inner : Region) → IsRegion p G sums d inner → Contains o.region.blocks.items d → AreNested o.region inner
   open_nested input xs s z t l e program summaries small o r run to n d inner is c =
       let v = open_loud input xs s z t l e program summaries small o r run to n in

@@ -1,16 +1,11 @@
 -- How the calls of a thread change by the step of each instruction.
-use Rattle.std.proofs.Common.{◌≡◌, ℕ, Bool, true, false, List, [], ◌∷◌, length, map, Option, Some, None, Result, Ok, Err, refl, sym, ap, subst, arith, inl, inr}
+use Rattle.std.proofs.Common.{◌≡◌, ℕ, Bool, true, false, List, [], ◌∷◌, length, map, Option, Some, None, refl, sym, ap, subst, arith, inl, inr}
 use Rattle.std.specs.Prelude.{Contains, ◌==◌, if◌then◌else◌}
 use Rattle.std.proofs.lemmas.Bool.Decides.{nat_tests}
 use Rattle.pg_num.specs.Numbers.{divided}
-use Rattle.pg_num.specs.Places.{ByteRange}
-use Rattle.pg_num.specs.Pointers.{place_of}
-use Rattle.pg_num.specs.declared.places.PlaceFault.{PlaceFault}
-use Rattle.pg_num.specs.declared.places.PlaceFault.TheVariants as fault
 use Rattle.pg_ir.specs.declared.known.Known.{Known}
 use Rattle.pg_ir.specs.declared.known.Known.TheVariants as known
 use Rattle.pg_ir.specs.declared.request.Request.TheVariants as requests
-use Rattle.pg_ir.specs.declared.request.TrapName.TheVariants as traps
 use Rattle.pg_ir.specs.declared.value.Value.{Value}
 use Rattle.pg_ir.specs.declared.instr.Instr.{Instr}
 use Rattle.pg_ir.specs.declared.instr.Op.{Op}
@@ -18,7 +13,7 @@ use Rattle.pg_ir.specs.declared.instr.Op.TheVariants as op
 use Rattle.pg_ir.specs.Program.{NumberedProgram, entry_of}
 use Rattle.pg_ir.specs.Edges.{is_terminator, targets_of}
 use Rattle.pg_ir.specs.WellFormed.{granules_for}
-use Rattle.pg_accesses.proofs.Elements.{here}
+use Rattle.pg_paths.proofs.Elements.{here}
 use Rattle.pg_step.specs.declared.action.Action.{Action}
 use Rattle.pg_step.specs.declared.action.Action.TheVariants as actions
 use Rattle.pg_step.specs.LocalState.{Frame, LocalState, region_of}
@@ -27,20 +22,13 @@ use Rattle.pg_step.specs.Compute.{chosen}
 use Rattle.pg_step.specs.EdgeStep.{case_of}
 use Rattle.pg_step.specs.States.{CallsFunction}
 use Rattle.pg_step.specs.Step as step
-use Rattle.pg_step.specs.Step.{op_action, op_after, known_action, on_place, placed, bytes_of, entered, return_action, returning_action, returned, stepped, total, has_room, result_number}
-use Rattle.pg_machine.proofs.Actions.{OfTraps, on_value_is, on_all_is, edge_is, call_is, divided_is, room_is, number_is, object_is, init_is, barrier_init_is, wait_is, create_is, join_is}
+use Rattle.pg_step.specs.Step.{op_action, op_after, known_action, bytes_of, entered, return_action, returning_action, returned, stepped, total, has_room, result_number}
+use Rattle.pg_machine.proofs.Actions.{on_value_is, on_all_is, edge_is, call_is, divided_is, room_is, number_is, object_is, init_is, barrier_init_is, wait_is, create_is, join_is}
 use Rattle.pg_instances.specs.Inside.{edge_taken}
 use Rattle.pg_instances.specs.Moves.{Moves, RequestMoves, IsPlacedAt, IsLoad, IsStore}
 use Rattle.pg_instances.proofs.Paths.{within_frame, first_byte}
 use Rattle.pg_instances.proofs.Edges.{chosen_among, switched_among}
-
-place_known : (Q : Action → Type 0) (word bytes : ℕ) (act : ByteRange → Action) → OfTraps Q → ((r : ByteRange) → place_of word bytes ≡ Ok r → Q (act r)) → Q (on_place word bytes act)
-place_known Q word bytes act t h = go (place_of word bytes) refl
-  where
-    go : (o : Result ByteRange PlaceFault) → place_of word bytes ≡ o → Q (placed o act)
-    go (Ok r) e = h r e
-    go (Err fault.OutOfRange) e = t traps.OutOfRange
-    go (Err fault.Misaligned) e = t traps.Misaligned
+use Rattle.pg_instances.proofs.Actions.{place_known}
 
 entered_function : (p : NumberedProgram) (g height : ℕ) (vs : List (Option ℕ)) → (entered p g height vs).function ≡ g
 unfolding entered
@@ -101,12 +89,14 @@ module _ (p : NumberedProgram) (t : ℕ) (h : Bool) (f : Frame) (fs : List Frame
   known_outcome known.PthreadBarrierInit args = barrier_init_is (Q (op.CallKnown known.PthreadBarrierInit args)) p rs args (λ n. tt) (λ o n m. refl)
   known_outcome known.PthreadCondWait args = wait_is (Q (op.CallKnown known.PthreadCondWait args)) p h rs args (λ n. tt) (λ o m n. waited o m n h)
     where
-      waited : (o m n : ℕ) (b : Bool) → RequestMoves (f ∷ fs) (step.wait_request b o m) (if b then stepped f x.result (result_number p (region_of (running t h f fs heap)) rs (op.CallKnown known.PthreadCondWait args) n) ∷ fs else f ∷ fs)
+      waited : (o m n : ℕ) (b : Bool) → RequestMoves (f ∷ fs) (step.wait_request b o m)
+          (if b then stepped f x.result (result_number p (region_of (running t h f fs heap)) rs (op.CallKnown known.PthreadCondWait args) n) ∷ fs else f ∷ fs)
       waited o m n true = refl
       waited o m n false = refl
   known_outcome known.PthreadBarrierWait args = object_is (Q (op.CallKnown known.PthreadBarrierWait args)) p rs args _ (λ n. tt) (λ o n. waited o n h)
     where
-      waited : (o n : ℕ) (b : Bool) → RequestMoves (f ∷ fs) (step.barrier_request b o) (if b then stepped f x.result (result_number p (region_of (running t h f fs heap)) rs (op.CallKnown known.PthreadBarrierWait args) n) ∷ fs else f ∷ fs)
+      waited : (o n : ℕ) (b : Bool) → RequestMoves (f ∷ fs) (step.barrier_request b o)
+          (if b then stepped f x.result (result_number p (region_of (running t h f fs heap)) rs (op.CallKnown known.PthreadBarrierWait args) n) ∷ fs else f ∷ fs)
       waited o n true = refl
       waited o n false = refl
 
@@ -117,11 +107,13 @@ module _ (p : NumberedProgram) (t : ℕ) (h : Bool) (f : Frame) (fs : List Frame
   back v n = go fs refl
     where
       go : (gs : List Frame) → fs ≡ gs → Q (op.Ret v) (return_action (length (f ∷ fs)) n)
-      go [] e = subst (λ (b : Bool). Q (op.Ret v) (if b then actions.Event (requests.Exit n true) else actions.Local)) (sym one) (λ k. ap (λ (l : List Frame). returned p l (number_at p rs (operands_of (op.Ret v)) 0)) e)
+      go [] e = subst (λ (b : Bool). Q (op.Ret v) (if b then actions.Event (requests.Exit n true) else actions.Local)) (sym one)
+          (λ k. ap (λ (l : List Frame). returned p l (number_at p rs (operands_of (op.Ret v)) 0)) e)
         where
           one : (length (f ∷ fs) == 1) ≡ true
           one = rw e (grind (arith, nat_tests))
-      go (g ∷ gs) e = subst (λ (b : Bool). Q (op.Ret v) (if b then actions.Event (requests.Exit n true) else actions.Local)) (sym more) (inr (inr (inl (record { back = tt; number = number_at p rs (operands_of (op.Ret v)) 0; is = refl }))))
+      go (g ∷ gs) e = subst (λ (b : Bool). Q (op.Ret v) (if b then actions.Event (requests.Exit n true) else actions.Local)) (sym more)
+          (inr (inr (inl (record { back = tt; number = number_at p rs (operands_of (op.Ret v)) 0; is = refl }))))
         where
           more : (length (f ∷ fs) == 1) ≡ false
           more = rw e (deep n g gs)
@@ -131,7 +123,9 @@ module _ (p : NumberedProgram) (t : ℕ) (h : Bool) (f : Frame) (fs : List Frame
   returning (Some w) = on_value_is (Q (op.Ret (Some w))) (operand p rs w) _ (λ n. tt) (λ n e. back (Some w) n)
 
   pub op_outcome : (o : Op) → Q o (op_action p (region_of (running t h f fs heap)) h rs (length (f ∷ fs)) (total (f ∷ fs)) x.block.0 o)
-  op_outcome (op.Divide d w a b) = on_value_is (Q (op.Divide d w a b)) (operand p rs a) _ (λ n. tt) (λ i u. on_value_is (Q (op.Divide d w a b)) (operand p rs b) _ (λ n. tt) (λ j v. divided_is (Q (op.Divide d w a b)) (divided d w i j) (λ n. tt) (past (op.Divide d w a b) _ refl (λ g c. c))))
+  op_outcome (op.Divide d w a b) = on_value_is (Q (op.Divide d w a b)) (operand p rs a) _ (λ n. tt)
+      (λ i u. on_value_is (Q (op.Divide d w a b)) (operand p rs b) _ (λ n. tt)
+      (λ j v. divided_is (Q (op.Divide d w a b)) (divided d w i j) (λ n. tt) (past (op.Divide d w a b) _ refl (λ g c. c))))
   op_outcome (op.Phi from) = tt
   op_outcome (op.Br to) = edge_is (Q (op.Br to)) p rs x.block.0 to.0 (λ n. tt) (along (op.Br to) to.0 refl (here to.0 []) refl)
   op_outcome (op.CondBr c a b) =
@@ -141,12 +135,27 @@ module _ (p : NumberedProgram) (t : ℕ) (h : Bool) (f : Frame) (fs : List Frame
       on_value_is (Q (op.Switch w on other cases)) (operand p rs on) _ (λ n. tt) (λ n u. edge_is (Q (op.Switch w on other cases)) p rs x.block.0 (case_of cases other.0 n) (λ n. tt)
       (along (op.Switch w on other cases) (case_of cases other.0 (given (operand p rs on))) refl (switched_among cases other.0 (given (operand p rs on))) refl))
   op_outcome (op.Call g args) = on_all_is (Q (op.Call g args)) p rs args _ (λ n. tt) (call_is (Q (op.Call g args)) p g (length (f ∷ fs)) (total (f ∷ fs)) (λ n. tt)
-      (inr (inl (record { function = g; call = refl; frame = entered p g f.height (map (operand p rs) args); named = entered_function p g f.height (map (operand p rs) args); place = entered_place p g f.height (map (operand p rs) args); is = refl }))))
+      (inr (inl (record {
+        function = g;
+        call = refl;
+        frame = entered p g f.height (map (operand p rs) args);
+        named = entered_function p g f.height (map (operand p rs) args);
+        place = entered_place p g f.height (map (operand p rs) args);
+        is = refl;
+      }))))
   op_outcome (op.Ret v) = returning v
   op_outcome op.Unreachable = tt
   op_outcome (op.Alloca bytes) = room_is (Q (op.Alloca bytes)) (has_room (region_of (running t h f fs heap)) (granules_for bytes)) (λ n. tt)
-      (inr (inr (inr (record { plain = refl; no_call = λ g c. c; frame = step.taken (stepped f x.result (step.pushed (region_of (running t h f fs heap)) bytes)) (granules_for bytes); function = refl; place = refl; is = refl }))))
-  op_outcome (op.Load w from) = on_value_is (Q (op.Load w from)) (operand p rs from) _ (λ n. tt) (λ a u. place_known (Q (op.Load w from)) a (bytes_of w) _ (λ n. tt) (λ r e. (tt, λ n. past (op.Load w from) _ refl (λ g c. c))))
+      (inr (inr (inr (record {
+        plain = refl;
+        no_call = λ g c. c;
+        frame = step.taken (stepped f x.result (step.pushed (region_of (running t h f fs heap)) bytes)) (granules_for bytes);
+        function = refl;
+        place = refl;
+        is = refl;
+      }))))
+  op_outcome (op.Load w from) = on_value_is (Q (op.Load w from)) (operand p rs from) _ (λ n. tt)
+      (λ a u. place_known (Q (op.Load w from)) a (bytes_of w) _ (λ n. tt) (λ r e. (tt, λ n. past (op.Load w from) _ refl (λ g c. c))))
   op_outcome (op.Store w v at) =
       on_value_is (Q (op.Store w v at)) (operand p rs v) _ (λ n. tt) (λ n u.
       on_value_is (Q (op.Store w v at)) (operand p rs at) _ (λ n. tt) (λ a k.

@@ -1,5 +1,6 @@
 -- The numbers that have paths: roots, what a getelementptr moves, and what a load reads.
-use Rattle.std.proofs.Common.{◌≡◌, ℕ, ◌+◌, ◌*◌, ◌≤◌, ◌<◌, zero, suc, List, [], ◌∷◌, ◌++◌, Option, Some, None, Result, Ok, Err, pos, refl, sym, ap, ◌∙◌, subst, arith}
+use Rattle.std.proofs.Common.{◌≡◌, ℕ, ◌+◌, ◌*◌, ◌≤◌, ◌<◌, zero, suc, List, [], ◌∷◌, ◌++◌, Option, Some, None, Result, Ok, Err, pos, refl, sym, ap}
+use Rattle.std.proofs.Common.{◌∙◌, subst, arith}
 use Rattle.std.specs.Prelude.{option_and_then, slice_get, IfOk, map}
 use Rattle.pg_num.specs.Places.{ByteRange}
 use Rattle.pg_num.specs.Pointers.{moved_by, place_of, pointer_of, byte_place}
@@ -37,7 +38,8 @@ within_memory w n r e = go (place_of w n) e (bound w n)
 pub within_frame : (w n : ℕ) (r : ByteRange) → place_of w n ≡ Ok r → IsWithin r (frame_of w)
 within_frame w n r e = go (place_of w n) e (place_of-start w n) (place_of-in_frame w n)
   where
-    go : (o : Result ByteRange PlaceFault) → o ≡ Ok r → IfOk o (λ r. r.start ≡ 8 * (pointer_of w).start + (pointer_of w).offset) → IfOk o (λ r. r.start + r.bytes ≤ 8 * (pointer_of w).start + (pointer_of w).length) → IsWithin r (frame_of w)
+    go : (o : Result ByteRange PlaceFault) → o ≡ Ok r → IfOk o (λ r. r.start ≡ 8 * (pointer_of w).start + (pointer_of w).offset)
+        → IfOk o (λ r. r.start + r.bytes ≤ 8 * (pointer_of w).start + (pointer_of w).length) → IsWithin r (frame_of w)
     go (Ok s) e h k = let q : s ≡ r = cc in subst (λ (z : ByteRange). IsWithin z (frame_of w)) q (record { from = omega (arith, h); end = k })
     go (Err f) e h k = absurd cc
 
@@ -65,7 +67,8 @@ bytes_same : (i : Index) (s : Scale) (n : ℕ) → index_bytes i s n ≡ constan
 bytes_same i (Times bytes) n = refl
 bytes_same i (Field bytes) n = refl
 
-one_index : (last : ℕ) (added : Option ℕ) (w n : ℕ) (i : Index) (v : Value) → IsMoved last added w → ((c : ℕ) → v ≡ value.Const c → n ≡ c) → IsMoved last (added_index added i.width i.scale v) (moved_by w (index_bytes i i.scale n))
+one_index : (last : ℕ) (added : Option ℕ) (w n : ℕ) (i : Index) (v : Value) → IsMoved last added w → ((c : ℕ) → v ≡ value.Const c → n ≡ c)
+    → IsMoved last (added_index added i.width i.scale v) (moved_by w (index_bytes i i.scale n))
 one_index last None w n i v h k = frame_moved w (index_bytes i i.scale n) ∙ h
 one_index last (Some j) w n i (value.Const c) h k =
     let e : n ≡ c = k c refl in
@@ -81,7 +84,8 @@ constant_at : (p : NumberedProgram) (rs : List (Option ℕ)) (vs : List Value) (
 constant_at p rs vs k v e c q = ap (λ (o : Option Value). given (optional_operand p rs o)) e ∙ ap (λ (z : Value). given (operand p rs z)) q
 
 -- a pointer moved along indices has the path moved along them
-pub indices_moved : (p : NumberedProgram) (rs : List (Option ℕ)) (vs : List Value) (last : ℕ) (added : Option ℕ) (is : List Index) (w k : ℕ) → ((j : ℕ) (i : Index) → slice_get is j ≡ Some i → slice_get vs (k + j) ≡ Some i.value) →
+pub indices_moved : (p : NumberedProgram) (rs : List (Option ℕ)) (vs : List Value) (last : ℕ) (added : Option ℕ) (is : List Index) (w k : ℕ)
+    → ((j : ℕ) (i : Index) → slice_get is j ≡ Some i → slice_get vs (k + j) ≡ Some i.value) →
     IsMoved last added w → IsMoved last (added_indices added is) (moved_along w is (number_at p rs vs) k)
 indices_moved p rs vs last added [] w k at h = h
 indices_moved p rs vs last added (i ∷ is) w k at h =
@@ -116,7 +120,8 @@ pub record FollowsBoth (memory : ByteRange → ℕ) (word : ℕ) (ks ls : List �
   pub pointers : at.pointers ≡ first.pointers ++ second.pointers
   pub last : at.last ≡ second.last
 
-behind_some : (word : ℕ) (cell : ByteRange) (o : Option Followed) (at : Followed) → followed.behind word cell o ≡ Some at → (f : Followed) × (o ≡ Some f) × (record { pointers = word ∷ f.pointers; cells = cell ∷ f.cells; last = f.last } ≡ at)
+behind_some : (word : ℕ) (cell : ByteRange) (o : Option Followed) (at : Followed) → followed.behind word cell o ≡ Some at
+    → (f : Followed) × (o ≡ Some f) × (record { pointers = word ∷ f.pointers; cells = cell ∷ f.cells; last = f.last } ≡ at)
 behind_some word cell None at e = absurd cc
 behind_some word cell (Some f) at e = (f, refl, cc)
 
@@ -132,13 +137,15 @@ pub record LoadsFirst (memory : ByteRange → ℕ) (word k : ℕ) (ks : List ℕ
 pub loads_first : (memory : ByteRange → ℕ) (word k : ℕ) (ks : List ℕ) (at : Followed) → followed_from memory word (k ∷ ks) ≡ Some at → LoadsFirst memory word k ks at
 loads_first memory word k ks at e = go (cell_at word k) refl e
   where
-    go : (o : Option ByteRange) → cell_at word k ≡ o → option_and_then (λ cell. followed.behind word cell (followed_from memory (memory cell) ks)) o ≡ Some at → LoadsFirst memory word k ks at
+    go : (o : Option ByteRange) → cell_at word k ≡ o → option_and_then (λ cell. followed.behind word cell (followed_from memory (memory cell) ks)) o ≡ Some at
+        → LoadsFirst memory word k ks at
     go None q e = absurd cc
     go (Some cell) q e =
         let b = behind_some word cell (followed_from memory (memory cell) ks) at e in
         record { cell = cell; is_cell = q; more = b.0; is_more = b.1; pointers = sym (ap (λ (z : Followed). z.pointers) b.2); last = sym (ap (λ (z : Followed). z.last) b.2) }
 
-pub loads_again : (memory : ByteRange → ℕ) (word k : ℕ) (ks : List ℕ) (cell : ByteRange) (more : Followed) → cell_at word k ≡ Some cell → followed_from memory (memory cell) ks ≡ Some more →
+pub loads_again : (memory : ByteRange → ℕ) (word k : ℕ) (ks : List ℕ) (cell : ByteRange) (more : Followed) → cell_at word k ≡ Some cell
+    → followed_from memory (memory cell) ks ≡ Some more →
     followed_from memory word (k ∷ ks) ≡ Some (record { pointers = word ∷ more.pointers; cells = cell ∷ more.cells; last = more.last })
 loads_again memory word k ks cell more e f = rw (e, f) refl
 
@@ -146,7 +153,8 @@ pub follows_both : (memory : ByteRange → ℕ) (word : ℕ) (ks ls : List ℕ) 
 follows_both memory word [] ls at e = record { first = record { pointers = []; cells = []; last = word }; second = at; is_first = refl; is_second = e; pointers = refl; last = refl }
 follows_both memory word (k ∷ ks) ls at e = go (loads_first memory word k (ks ++ ls) at e) (λ w f q. follows_both memory w ks ls f q)
   where
-    go : LoadsFirst memory word k (ks ++ ls) at → ((w : ℕ) (f : Followed) → followed_from memory w (ks ++ ls) ≡ Some f → FollowsBoth memory w ks ls f) → FollowsBoth memory word (k ∷ ks) ls at
+    go : LoadsFirst memory word k (ks ++ ls) at → ((w : ℕ) (f : Followed) → followed_from memory w (ks ++ ls) ≡ Some f → FollowsBoth memory w ks ls f)
+        → FollowsBoth memory word (k ∷ ks) ls at
     go l more =
         let b = more (memory l.cell) l.more l.is_more in
         record {

@@ -13,7 +13,7 @@ use Rattle.pg_ir.proofs.Places.{block_held}
 use Rattle.pg_paths.specs.Registers.{is_register, register_path}
 use Rattle.pg_accesses.specs.declared.rooted.Rooted.{Rooted}
 use Rattle.pg_accesses.specs.Accesses.{RootedList, gathered, op_accesses, accesses_from, block_accesses, block_sets, sets}
-use Rattle.pg_accesses.proofs.Elements.{here, there, cases, none_in}
+use Rattle.pg_paths.proofs.Elements.{here, there, cases, none_in}
 use Rattle.pg_accesses.proofs.Passes.{parts}
 use Rattle.pg_quiet.proofs.Places.{stands}
 use Rattle.pg_machine.proofs.Threads.{set_other}
@@ -43,7 +43,8 @@ got_among (y ∷ xs) (suc k) x e = there y xs x (got_among xs k x e)
 -- ---- instructions
 
 -- the instruction of a frame in its block
-pub at_block : (I : Instance) (a : QuietSet) (f : Frame) (x : Instr) → IsProgram I.program → (s : StandsIn I a f) → slice_get I.program.instrs f.place ≡ Some x → (x.block.0 ≡ s.block) × (slice_get (instrs_of I.program s.block) s.behind ≡ Some x)
+pub at_block : (I : Instance) (a : QuietSet) (f : Frame) (x : Instr) → IsProgram I.program → (s : StandsIn I a f) → slice_get I.program.instrs f.place ≡ Some x
+    → (x.block.0 ≡ s.block) × (slice_get (instrs_of I.program s.block) s.behind ≡ Some x)
 at_block I a f x program s e = (same, got)
   where
     in_block : (o : Option Instr) → o ≡ Some x → IsInBlock s.block o → x.block.0 ≡ s.block
@@ -69,7 +70,8 @@ passed_more before (y ∷ xs) (suc k) x e = passed_more (y ∷ before) xs k x e
 -- ---- accesses
 
 -- what one of them accesses, of what they access together
-pub gathered_part : {A : Type 0} (f : A → Option RootedList) (xs : List A) (listed : RootedList) (x : A) → gathered f xs ≡ Some listed → Contains xs x → (ys : RootedList) × (f x ≡ Some ys) × ((y : Rooted) → Contains ys y → Contains listed y)
+pub gathered_part : {A : Type 0} (f : A → Option RootedList) (xs : List A) (listed : RootedList) (x : A) → gathered f xs ≡ Some listed → Contains xs x
+    → (ys : RootedList) × (f x ≡ Some ys) × ((y : Rooted) → Contains ys y → Contains listed y)
 gathered_part f [] listed x e c = absurd (none_in x c)
 gathered_part {A} f (z ∷ zs) listed x e c = go (parts (f z) (gathered f zs) listed e) (cases z zs x c) (λ l q d. gathered_part f zs l x q d)
   where
@@ -80,42 +82,51 @@ gathered_part {A} f (z ∷ zs) listed x e c = go (parts (f z) (gathered f zs) li
     go h (inr d) more = let r = more h.1 h.3 d in (r.0, r.1, λ y k. subst (λ (l : RootedList). Contains l y) (sym h.4) (Contains-append_right h.0 h.1 y (r.2 y k)))
 
 -- of what a block's instructions access, what one of them does
-pub accesses_at : (m : Bool) (gated : ℕ → Bool) (sums : ℕ → Option RootedList) (is_set : ℕ → Bool) (types : List Scalar) (before : List Instr) (i : ℕ) (xs : List Instr) (ys : RootedList) (k : ℕ) (x : Instr) → accesses_from m gated sums is_set types before i xs ≡ Some ys → slice_get xs k ≡ Some x →
+pub accesses_at : (m : Bool) (gated : ℕ → Bool) (sums : ℕ → Option RootedList) (is_set : ℕ → Bool) (types : List Scalar) (before : List Instr) (i : ℕ) (xs : List Instr)
+    (ys : RootedList) (k : ℕ) (x : Instr) → accesses_from m gated sums is_set types before i xs ≡ Some ys → slice_get xs k ≡ Some x →
     (zs : RootedList) × (op_accesses m gated sums (register_path is_set types (passed before xs k)) (i + k) x.op ≡ Some zs) × ((z : Rooted) → Contains zs z → Contains ys z)
 accesses_at m gated sums is_set types before i [] ys zero x e at = absurd cc
 accesses_at m gated sums is_set types before i [] ys (suc k) x e at = absurd cc
 accesses_at m gated sums is_set types before i (y ∷ xs) ys zero x e at =
     let q : y ≡ x = cc in
     let n : i + 0 ≡ i = omega arith in
-    let h = parts (op_accesses m gated sums (register_path is_set types before) i y.op) (accesses_from m gated sums is_set types (y ∷ before) (i + 1) xs) ys e in
-    (h.0, rw n (subst (λ (z : Instr). op_accesses m gated sums (register_path is_set types before) i z.op ≡ Some h.0) q h.2), λ z c. subst (λ (l : RootedList). Contains l z) (sym h.4) (Contains-append_left h.0 h.1 z c))
+    let h = parts (op_accesses m gated sums (register_path is_set types before) i y.op) (accesses_from m gated sums is_set types (y ∷ before) (i + 1) xs) ys e in (
+      h.0,
+      rw n (subst (λ (z : Instr). op_accesses m gated sums (register_path is_set types before) i z.op ≡ Some h.0) q h.2),
+      λ z c. subst (λ (l : RootedList). Contains l z) (sym h.4) (Contains-append_left h.0 h.1 z c),
+    )
 accesses_at m gated sums is_set types before i (y ∷ xs) ys (suc k) x e at =
     let n : i + suc k ≡ i + 1 + k = omega arith in
     let h = parts (op_accesses m gated sums (register_path is_set types before) i y.op) (accesses_from m gated sums is_set types (y ∷ before) (i + 1) xs) ys e in
     let r = accesses_at m gated sums is_set types (y ∷ before) (i + 1) xs h.1 k x h.3 at in
     (r.0, rw n r.1, λ z c. subst (λ (l : RootedList). Contains l z) (sym h.4) (Contains-append_right h.0 h.1 z (r.2 z c)))
 
-pub block_accesses_at : (m : Bool) (p : NumberedProgram) (gated : ℕ → Bool) (sums : ℕ → Option RootedList) (is_set : ℕ → Bool) (b : ℕ) (ys : RootedList) (k : ℕ) (x : Instr) → block_accesses m p gated sums is_set b ≡ Some ys → slice_get (instrs_of p b) k ≡ Some x →
-    (zs : RootedList) × (op_accesses m gated sums (register_path is_set (types_of p (function_of p b)) (passed [] (instrs_of p b) k)) (first_of p b + k) x.op ≡ Some zs) × ((z : Rooted) → Contains zs z → Contains ys z)
+pub block_accesses_at : (m : Bool) (p : NumberedProgram) (gated : ℕ → Bool) (sums : ℕ → Option RootedList) (is_set : ℕ → Bool) (b : ℕ) (ys : RootedList) (k : ℕ) (x : Instr)
+    → block_accesses m p gated sums is_set b ≡ Some ys → slice_get (instrs_of p b) k ≡ Some x →
+    (zs : RootedList) × (op_accesses m gated sums (register_path is_set (types_of p (function_of p b)) (passed [] (instrs_of p b) k)) (first_of p b + k) x.op ≡ Some zs)
+    × ((z : Rooted) → Contains zs z → Contains ys z)
 unfolding block_accesses
 block_accesses_at m p gated sums is_set b ys k x e at = accesses_at m gated sums is_set (types_of p (function_of p b)) [] (first_of p b) (instrs_of p b) ys k x e at
 
 -- what the instruction of a frame accesses leads to recorded frames
 pub quiet_at : (I : Instance) (a : QuietSet) (f : Frame) (x : Instr) → IsProgram I.program → IsQuietSet I a → (s : StandsIn I a f) → slice_get I.program.instrs f.place ≡ Some x →
-    (zs : RootedList) × (op_accesses a.returns I.gated I.sums (register_path (sets I.program a.blocks) (types_of I.program (function_of I.program s.block)) (passed [] (instrs_of I.program s.block) s.behind)) f.place x.op ≡ Some zs)
+    (zs : RootedList) × (op_accesses a.returns I.gated I.sums
+    (register_path (sets I.program a.blocks) (types_of I.program (function_of I.program s.block)) (passed [] (instrs_of I.program s.block) s.behind)) f.place x.op ≡ Some zs)
     × ((z : Rooted) → Contains zs z → Leads I.program a.registers I.memory I.recorded z)
 quiet_at I a f x program q s e =
     let at = at_block I a f x program s e in
     let b = gathered_part (block_accesses a.returns I.program I.gated I.sums (sets I.program a.blocks)) a.blocks a.accesses s.block q.quiet s.among in
     let i = block_accesses_at a.returns I.program I.gated I.sums (sets I.program a.blocks) s.block b.0 s.behind x b.1 at.1 in (
       i.0,
-      subst (λ (n : ℕ). op_accesses a.returns I.gated I.sums (register_path (sets I.program a.blocks) (types_of I.program (function_of I.program s.block)) (passed [] (instrs_of I.program s.block) s.behind)) n x.op ≡ Some i.0) (sym s.place) i.1,
+      subst (λ (n : ℕ). op_accesses a.returns I.gated I.sums
+          (register_path (sets I.program a.blocks) (types_of I.program (function_of I.program s.block)) (passed [] (instrs_of I.program s.block) s.behind)) n x.op ≡ Some i.0) (sym s.place) i.1,
       λ z c. q.leads z (b.2 z (i.2 z c)),
     )
 
 -- ---- registers
 
-pub sets_here : (p : NumberedProgram) (blocks : List ℕ) (b k r : ℕ) (x : Instr) → Contains blocks b → slice_get (instrs_of p b) k ≡ Some x → is_register x.result r ≡ true → sets p blocks r ≡ true
+pub sets_here : (p : NumberedProgram) (blocks : List ℕ) (b k r : ℕ) (x : Instr) → Contains blocks b → slice_get (instrs_of p b) k ≡ Some x → is_register x.result r ≡ true
+    → sets p blocks r ≡ true
 unfolding block_sets
 sets_here p blocks b k r x c at e = some_of (block_sets p r) blocks b c (some_of (λ (y : Instr). is_register y.result r) (instrs_of p b) x (got_among (instrs_of p b) k x at) e)
 
@@ -129,6 +140,7 @@ pub other_register : (rs : List (Option ℕ)) (target : Option ℕ) (v : Option 
 other_register rs None v r e = refl
 other_register rs (Some s) v r e = ap flat (set_other rs s r v (λ q. eqb-false s r e (sym q)))
 
-pub own_register : (rs : List (Option ℕ)) (target : Option ℕ) (v : Option ℕ) (r w : ℕ) → is_register target r ≡ true → registers_by (set_register rs target v) r ≡ Some w → v ≡ Some w
+pub own_register : (rs : List (Option ℕ)) (target : Option ℕ) (v : Option ℕ) (r w : ℕ) → is_register target r ≡ true → registers_by (set_register rs target v) r ≡ Some w
+    → v ≡ Some w
 own_register rs None v r w e h = absurd cc
 own_register rs (Some s) v r w e h = let q : s ≡ r = eqb-true s r e in set_own rs s v w (subst (λ (z : ℕ). flat (slice_get (slice_set rs s v) z) ≡ Some w) (sym q) h)

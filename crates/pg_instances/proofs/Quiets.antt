@@ -63,11 +63,13 @@ module _ (p : NumberedProgram) (r : Region) (h : Bool) (f : Frame) (fs : List Fr
   returning (Some w) = on_value_is (Q (op.Ret (Some w))) (operand p rs w) _ (λ n. tt) (λ n e. back (Some w) n)
 
   pub quiet_asks_nothing : (i : ℕ) (o : Op) → IsQuiet true gated sums i o → Q o (op_action p r h rs (length (f ∷ fs)) (total (f ∷ fs)) block o)
-  quiet_asks_nothing i (op.Divide d w a b) q = on_value_is (Q (op.Divide d w a b)) (operand p rs a) _ (λ n. tt) (λ m u. on_value_is (Q (op.Divide d w a b)) (operand p rs b) _ (λ n. tt) (λ n v. divided_is (Q (op.Divide d w a b)) (divided d w m n) (λ n. tt) tt))
+  quiet_asks_nothing i (op.Divide d w a b) q = on_value_is (Q (op.Divide d w a b)) (operand p rs a) _ (λ n. tt)
+      (λ m u. on_value_is (Q (op.Divide d w a b)) (operand p rs b) _ (λ n. tt) (λ n v. divided_is (Q (op.Divide d w a b)) (divided d w m n) (λ n. tt) tt))
   quiet_asks_nothing i (op.Phi from) q = tt
   quiet_asks_nothing i (op.Br to) q = edge_is (Q (op.Br to)) p rs block to.0 (λ n. tt) tt
   quiet_asks_nothing i (op.CondBr c a b) q = on_value_is (Q (op.CondBr c a b)) (operand p rs c) _ (λ n. tt) (λ n u. edge_is (Q (op.CondBr c a b)) p rs block (chosen n a.0 b.0) (λ n. tt) tt)
-  quiet_asks_nothing i (op.Switch w on other cases) q = on_value_is (Q (op.Switch w on other cases)) (operand p rs on) _ (λ n. tt) (λ n u. edge_is (Q (op.Switch w on other cases)) p rs block (case_of cases other.0 n) (λ n. tt) tt)
+  quiet_asks_nothing i (op.Switch w on other cases) q = on_value_is (Q (op.Switch w on other cases)) (operand p rs on) _ (λ n. tt)
+      (λ n u. edge_is (Q (op.Switch w on other cases)) p rs block (case_of cases other.0 n) (λ n. tt) tt)
   quiet_asks_nothing i (op.Call g args) q = on_all_is (Q (op.Call g args)) p rs args _ (λ n. tt) (call_is (Q (op.Call g args)) p g (length (f ∷ fs)) (total (f ∷ fs)) (λ n. tt) tt)
   quiet_asks_nothing i (op.Ret v) q = returning v
   quiet_asks_nothing i op.Unreachable q = tt

@@ -1,5 +1,6 @@
 -- Reference runs keep their extents: along the run, from step to step.
-use Rattle.std.proofs.Common.{◌≡◌, ◌≢◌, ℕ, ℤ, zero, suc, ◌+◌, ◌<◌, ◌≤◌, ◌^◌, true, List, [], ◌∷◌, length, Option, Some, None, refl, sym, ap, ◌∙◌, subst, arith, inl, inr, ◌⊎◌}
+use Rattle.std.proofs.Common.{◌≡◌, ◌≢◌, ℕ, ℤ, zero, suc, ◌+◌, ◌<◌, ◌≤◌, ◌^◌, true, List, [], ◌∷◌, length, Option, Some, None, refl, sym, ap}
+use Rattle.std.proofs.Common.{◌∙◌, subst, arith, inl, inr, ◌⊎◌}
 use Rattle.std.specs.Prelude.{Contains, slice_get}
 use Rattle.std.proofs.lemmas.Bool.{cases_eq, cases_lt}
 use Rattle.pg_ir.specs.declared.ids.InstrId.{InstrId}
@@ -8,7 +9,7 @@ use Rattle.pg_ir.specs.declared.request.Request.{Request}
 use Rattle.pg_ir.specs.Program.{NumberedProgram}
 use Rattle.pg_ir.specs.WellFormed.{IsProgram}
 use Rattle.pg_accesses.specs.Accesses.{RootedList}
-use Rattle.pg_accesses.proofs.Elements.{cases, here, there, none_in}
+use Rattle.pg_paths.proofs.Elements.{cases, here, there, none_in}
 use Rattle.pg_plans.specs.Intervals.{Timed, did_of, done_after, times}
 use Rattle.pg_plans.specs.Steps.{View}
 use Rattle.pg_quiet.specs.Summaries.{AreSummaries}
@@ -75,7 +76,8 @@ pub record Named (R : Reference) (free_of : ℕ → Option FreeRegion) (block_of
   pub free : (r : FreeRegion) → y.region ≡ Some r → free_of y.number ≡ Some r
   pub block : (i : Instr) → instr_of R y ≡ Some i → block_of y.number ≡ i.block.0
 
-module _ (p : NumberedProgram) (gates : List InstrId) (sums : ℕ → Option RootedList) (regions : Regions) (are : AreRegions p (λ i. is_gated gates i) sums regions) (moments : List Moment) (free_of : ℕ → Option FreeRegion) (block_of : ℕ → ℕ) (program : IsProgram p) (summaries : AreSummaries p (λ i. is_gated gates i) sums)
+module _ (p : NumberedProgram) (gates : List InstrId) (sums : ℕ → Option RootedList) (regions : Regions) (are : AreRegions p (λ i. is_gated gates i) sums regions) (moments : List Moment)
+    (free_of : ℕ → Option FreeRegion) (block_of : ℕ → ℕ) (program : IsProgram p) (summaries : AreSummaries p (λ i. is_gated gates i) sums)
     (input : List ℤ) (small : length input < 2 ^ 64) (z : State) where
   abbrev R : Reference
   R = record { program = p; regions = regions; moments = moments }
@@ -142,12 +144,17 @@ module _ (p : NumberedProgram) (gates : List InstrId) (sums : ℕ → Option Roo
     facts = record {
       known = (let a = ready_made p s t inv.run.0.is_ready in let b = inv.matches.count in omega (arith, a, b));
       calls = inv.matches.calls t l local.1 ∙ ap (λ (o : Option LocalState). length (calls_of o)) (sym local.1);
-      frames = store_frames p gates sums regions are moments free_of block_of program summaries input small s v z t l x.did (did_of ts) y seen inv.run inv.together refl es opens_here (inv.stack t) named_here.free named_here.block;
-      branches = branch_is p gates sums regions are moments free_of block_of program summaries input small s v z t l x.did (did_of ts) y seen inv.run inv.together refl es opens_here (inv.stack t) named_here.free named_here.block;
-      own = own_phis p gates sums regions are moments free_of block_of program summaries input small s v z t l x.did (did_of ts) y seen inv.run inv.together refl es opens_here (inv.stack t) named_here.free named_here.block;
+      frames = store_frames p gates sums regions are moments free_of block_of program summaries input small s v z t l x.did (did_of ts) y seen inv.run inv.together refl es opens_here
+          (inv.stack t) named_here.free named_here.block;
+      branches = branch_is p gates sums regions are moments free_of block_of program summaries input small s v z t l x.did (did_of ts) y seen inv.run inv.together refl es opens_here
+          (inv.stack t) named_here.free named_here.block;
+      own = own_phis p gates sums regions are moments free_of block_of program summaries input small s v z t l x.did (did_of ts) y seen inv.run inv.together refl es opens_here
+          (inv.stack t) named_here.free named_here.block;
       together = λ u e c. inv.alone u e c;
-      nest = nested p gates sums regions are moments free_of block_of program summaries input small s v z t l x.did (did_of ts) y seen inv.run inv.together refl es opens_here (inv.stack t) named_here.free named_here.block;
-      keep = keeps p gates sums regions are moments free_of block_of program summaries input small s v z t l x.did (did_of ts) y seen inv.run inv.together refl es opens_here (inv.stack t) named_here.free named_here.block;
+      nest = nested p gates sums regions are moments free_of block_of program summaries input small s v z t l x.did (did_of ts) y seen inv.run inv.together refl es opens_here
+          (inv.stack t) named_here.free named_here.block;
+      keep = keeps p gates sums regions are moments free_of block_of program summaries input small s v z t l x.did (did_of ts) y seen inv.run inv.together refl es opens_here
+          (inv.stack t) named_here.free named_here.block;
     }
 
     -- ---- what is known behind it
@@ -159,7 +166,8 @@ module _ (p : NumberedProgram) (gates : List InstrId) (sums : ℕ → Option Roo
     w' = after_step R every k m w
 
     abbrev left_here : List Extent
-    left_here = left p gates sums regions are moments free_of block_of program summaries input small s v z t l x.did (did_of ts) y seen inv.run inv.together refl es opens_here (inv.stack t) named_here.free named_here.block
+    left_here = left p gates sums regions are moments free_of block_of program summaries input small s v z t l x.did (did_of ts) y seen inv.run inv.together refl es opens_here
+        (inv.stack t) named_here.free named_here.block
 
     small_thread : t < length w.threads
     small_thread = facts.known
@@ -191,16 +199,19 @@ module _ (p : NumberedProgram) (gates : List InstrId) (sums : ℕ → Option Roo
 
         go : Plain gates p s t l x.did v took.local ⊎ Requests p s t l x.did v took.local → Walked w w' t took.local.frames left_here (length v.locals)
         go (inl q) =
-            let at : instr_in p m ≡ Some q.instr = instr_here p gates sums regions are moments free_of block_of program summaries input small s v z t l x.did (did_of ts) y seen inv.run inv.together refl q in
+            let at : instr_in p m ≡ Some q.instr = instr_here p gates sums regions are moments free_of block_of program summaries input small s v z t l x.did
+            (did_of ts) y seen inv.run inv.together refl q in
             let n : length v.locals ≡ length w.threads = ap (λ (ls : List LocalState). length ls) q.locals ∙ set_length s.locals t took.local ∙ sym inv.matches.count in
             subst (λ (c : ℕ). Walked w w' t took.local.frames left_here c) (sym n)
             (walked_by R k m w q.instr at small_thread took.local.frames (length w.threads)
-            (lives_plain R k m w q.instr at small_thread (is_gated gates q.frame.place) x.did.kind q.frame q.below took.local.frames (size ∙ ap (λ (fs : List Frame). length fs) q.frames) q.tells q.moves))
+            (lives_plain R k m w q.instr at small_thread (is_gated gates q.frame.place) x.did.kind q.frame q.below took.local.frames
+            (size ∙ ap (λ (fs : List Frame). length fs) q.frames) q.tells q.moves))
         go (inr q) =
             let i = request_instr q in
             walked_by R k m w i.0 i.1 small_thread took.local.frames (length v.locals)
             (subst (λ (c : StepKind). Lives R k m w i.0 i.1 small_thread c took.local.frames (length v.locals)) (sym q.is)
-            (lives_event R k m w i.0 i.1 small_thread q.event q.request l.frames took.local.frames (length v.locals) size q.kind q.moves (adds_by s v (length w.threads) q.request inv.matches.count q.adds)))
+            (lives_event R k m w i.0 i.1 small_thread q.event q.request l.frames took.local.frames (length v.locals) size q.kind q.moves
+            (adds_by s v (length w.threads) q.request inv.matches.count q.adds)))
 
     fresh_frames : (u f : ℕ) → length (fresh p u f).frames ≡ 1
     unfolding fresh
@@ -220,7 +231,8 @@ module _ (p : NumberedProgram) (gates : List InstrId) (sums : ℕ → Option Roo
     matches_next : Match w' v
     matches_next = record { count = walked.count; calls = λ u n e. go u n e (cases_eq u t) (cases_lt u (length w.threads)) }
       where
-        go : (u : ℕ) (n : LocalState) → slice_get v.locals u ≡ Some n → (u ≡ t) ⊎ (u ≡ t → ⊥) → (u < length w.threads) ⊎ (length w.threads ≤ u) → length (thread_of w' u).calls ≡ length n.frames
+        go : (u : ℕ) (n : LocalState) → slice_get v.locals u ≡ Some n → (u ≡ t) ⊎ (u ≡ t → ⊥) → (u < length w.threads) ⊎ (length w.threads ≤ u)
+            → length (thread_of w' u).calls ≡ length n.frames
         go u n e (inl q) b =
             let same : took.local ≡ n = (let r : Some took.local ≡ Some n = sym took.is_local ∙ ap (slice_get v.locals) (sym q) ∙ e in cc) in
             ap (λ (c : ℕ). length (thread_of w' c).calls) q ∙ walked.own_calls ∙ ap (λ (h : LocalState). length h.frames) same
@@ -235,7 +247,8 @@ module _ (p : NumberedProgram) (gates : List InstrId) (sums : ℕ → Option Roo
             (walked.past u le).1 (omega (arith, lt, d)) ∙ sym (ap (λ (h : LocalState). length h.frames) f.1 ∙ fresh_frames u f.0)
 
     next_there : (e : Extent) → Contains left_here e → IsNext t (did_of ts)
-    next_there e c = inv.together.0 (left_none p gates sums regions are moments free_of block_of program summaries input small s v z t l x.did (did_of ts) y seen inv.run inv.together refl es opens_here (inv.stack t) named_here.free named_here.block e c)
+    next_there e c = inv.together.0 (left_none p gates sums regions are moments free_of block_of program summaries input small s v z t l x.did
+        (did_of ts) y seen inv.run inv.together refl es opens_here (inv.stack t) named_here.free named_here.block e c)
 
     inv_there : Inv (suc k) w' v ts
     unfolding seen_from moments_from
@@ -260,12 +273,14 @@ module _ (p : NumberedProgram) (gates : List InstrId) (sums : ℕ → Option Roo
         opens u n q e c (inl i) =
             let same : took.local ≡ n = (let r : Some took.local ≡ Some n = sym took.is_local ∙ ap (slice_get v.locals) (sym i) ∙ q in cc) in
             subst (λ (a : ℕ). OpenAt v a n e) (sym i) (subst (λ (b : LocalState). OpenAt v t b e) same
-            (left_open p gates sums regions are moments free_of block_of program summaries input small s v z t l x.did (did_of ts) y seen inv.run inv.together refl es opens_here (inv.stack t) named_here.free named_here.block e
+            (left_open p gates sums regions are moments free_of block_of program summaries input small s v z t l x.did (did_of ts) y seen inv.run inv.together refl es opens_here
+            (inv.stack t) named_here.free named_here.block e
             (own_extent e (subst (λ (a : ℕ). Contains (thread_of w' a).extents e) i c))))
 
         stack : (u : ℕ) → (u ≡ t) ⊎ (u ≡ t → ⊥) → Stacked (thread_of w' u).extents
         stack u (inl q) = subst (λ (a : ℕ). Stacked (thread_of w' a).extents) (sym q) (subst Stacked (sym walked.own_extents)
-            (left_stack p gates sums regions are moments free_of block_of program summaries input small s v z t l x.did (did_of ts) y seen inv.run inv.together refl es opens_here (inv.stack t) named_here.free named_here.block))
+            (left_stack p gates sums regions are moments free_of block_of program summaries input small s v z t l x.did (did_of ts) y seen inv.run inv.together refl es opens_here
+            (inv.stack t) named_here.free named_here.block))
         stack u (inr ne) = none_stack (thread_of w' u).extents (other_extents u ne)
           where
             none_stack : (us : List Extent) → ((e : Extent) → Contains us e → ⊥) → Stacked us
@@ -274,22 +289,26 @@ module _ (p : NumberedProgram) (gates : List InstrId) (sums : ℕ → Option Roo
 
   -- ---- the run
 
-  pub along : (ts : List (Timed Step)) (k : ℕ) (w : RunShadow) (s : State) → Inv k w s ts → (a : Seen) → Contains (seen_from R every k w (moments_from gates p input s ts)) a → Facts R free_of a
+  pub along : (ts : List (Timed Step)) (k : ℕ) (w : RunShadow) (s : State) → Inv k w s ts → (a : Seen) → Contains (seen_from R every k w (moments_from gates p input s ts)) a
+      → Facts R free_of a
   unfolding seen_from moments_from
   along [] k w s inv a c = absurd (none_in a c)
   along (x ∷ ts) k w s inv a c =
       go (cases (y k w s x ts inv) (seen_from R every (suc k) (after_step R every k (m k w s x ts inv) w) (moments_from gates p input (state_after s (step gates p input s x.did.thread.0)) ts)) a c)
       (λ d. along ts (suc k) (after_step R every k (m k w s x ts inv) w) inv.run.0.after (inv_there k w s x ts inv) a d)
     where
-      go : (y k w s x ts inv ≡ a) ⊎ Contains (seen_from R every (suc k) (after_step R every k (m k w s x ts inv) w) (moments_from gates p input (state_after s (step gates p input s x.did.thread.0)) ts)) a →
+      go : (y k w s x ts inv
+          ≡ a) ⊎ Contains (seen_from R every (suc k) (after_step R every k (m k w s x ts inv) w) (moments_from gates p input (state_after s (step gates p input s x.did.thread.0)) ts)) a →
           (Contains (seen_from R every (suc k) (after_step R every k (m k w s x ts inv) w) (moments_from gates p input inv.run.0.after ts)) a → Facts R free_of a) → Facts R free_of a
       go (inl e) more = subst (Facts R free_of) e (facts k w s x ts inv)
-      go (inr d) more = more (subst (λ (b : State). Contains (seen_from R every (suc k) (after_step R every k (m k w s x ts inv) w) (moments_from gates p input b ts)) a) (ap (state_after s) inv.run.0.is_step) d)
+      go (inr d) more = more (subst (λ (b : State). Contains (seen_from R every (suc k) (after_step R every k (m k w s x ts inv) w) (moments_from gates p input b ts)) a)
+          (ap (state_after s) inv.run.0.is_step) d)
 
 -- ---- numbers of steps
 
 -- a step stands at its number
-pub numbered : (R : Reference) (k : ℕ) (w : RunShadow) (ms : List Moment) (y : Seen) → Contains (seen_from R every k w ms) y → (j : ℕ) × (y.number ≡ k + j) × (slice_get (seen_from R every k w ms) j ≡ Some y)
+pub numbered : (R : Reference) (k : ℕ) (w : RunShadow) (ms : List Moment) (y : Seen) → Contains (seen_from R every k w ms) y
+    → (j : ℕ) × (y.number ≡ k + j) × (slice_get (seen_from R every k w ms) j ≡ Some y)
 unfolding seen_from
 numbered R k w [] y c = absurd (none_in y c)
 numbered R k w (m ∷ ms) y c = go (cases head (seen_from R every (suc k) (after_step R every k m w) ms) y c) (λ d. numbered R (suc k) (after_step R every k m w) ms y d)
@@ -297,7 +316,9 @@ numbered R k w (m ∷ ms) y c = go (cases head (seen_from R every (suc k) (after
     head : Seen
     head = record { number = k; moment = m; region = region_of R.program R.regions m (instr_in R.program m); live = is_live every.pinned (thread_of w (thread_in m)).extents; before = w }
 
-    go : (head ≡ y) ⊎ Contains (seen_from R every (suc k) (after_step R every k m w) ms) y → (Contains (seen_from R every (suc k) (after_step R every k m w) ms) y → (j : ℕ) × (y.number ≡ suc k + j) × (slice_get (seen_from R every (suc k) (after_step R every k m w) ms) j ≡ Some y)) →
+    go : (head ≡ y) ⊎ Contains (seen_from R every (suc k) (after_step R every k m w) ms) y
+        → (Contains (seen_from R every (suc k) (after_step R every k m w) ms) y
+        → (j : ℕ) × (y.number ≡ suc k + j) × (slice_get (seen_from R every (suc k) (after_step R every k m w) ms) j ≡ Some y)) →
         (j : ℕ) × (y.number ≡ k + j) × (slice_get (head ∷ seen_from R every (suc k) (after_step R every k m w) ms) j ≡ Some y)
     go (inl e) more = (0, ap (λ (a : Seen). a.number) (sym e) ∙ (let z : k ≡ k + 0 = omega arith in z), ap (λ (a : Seen). Some a) e)
     go (inr d) more = let r = more d in (suc r.0, (let q = r.1 in omega (arith, q)), r.2)
@@ -312,7 +333,8 @@ block_at R (Some y) = block_in (instr_of R y)
 
 -- ---- the whole run
 
-module _ (p : NumberedProgram) (gates : List InstrId) (sums : ℕ → Option RootedList) (regions : Regions) (are : AreRegions p (λ i. is_gated gates i) sums regions) (program : IsProgram p) (summaries : AreSummaries p (λ i. is_gated gates i) sums) (input : List ℤ) (small : length input < 2 ^ 64) (bytes : HoldBytes p.globals)
+module _ (p : NumberedProgram) (gates : List InstrId) (sums : ℕ → Option RootedList) (regions : Regions) (are : AreRegions p (λ i. is_gated gates i) sums regions) (program : IsProgram p)
+    (summaries : AreSummaries p (λ i. is_gated gates i) sums) (input : List ℤ) (small : length input < 2 ^ 64) (bytes : HoldBytes p.globals)
     (turns : List Turn) (xs : List Step) (out : List ℕ) (value : ℤ) (exits : following_of p input turns gates ≡ Exits xs out value) where
   abbrev whole : Reference
   whole = record { program = p; regions = regions; moments = moments_of gates p input xs }
@@ -352,11 +374,13 @@ module _ (p : NumberedProgram) (gates : List InstrId) (sums : ℕ → Option Roo
       calls (suc zero) l e = absurd cc
       calls (suc (suc u)) l e = absurd cc
 
-  first_stack : (u : ℕ) → Stacked p gates sums regions are (moments_of gates p input xs) frees blocks program summaries input small (exited p input turns gates xs out value exits).state (thread_of (start_of p) u).extents
+  first_stack : (u : ℕ) → Stacked p gates sums regions are (moments_of gates p input xs) frees blocks program summaries input small (exited p input turns gates xs out value exits).state
+      (thread_of (start_of p) u).extents
   first_stack zero = tt
   first_stack (suc u) = tt
 
-  first_inv : Inv p gates sums regions are (moments_of gates p input xs) frees blocks program summaries input small (exited p input turns gates xs out value exits).state 0 (start_of p) (initial p) (timed_by recorded xs)
+  first_inv : Inv p gates sums regions are (moments_of gates p input xs) frees blocks program summaries input small (exited p input turns gates xs out value exits).state 0 (start_of p)
+      (initial p) (timed_by recorded xs)
   first_inv =
       let x = exited p input turns gates xs out value exits in
       let same : did_of (timed_by recorded xs) ≡ xs = did_times recorded _ 0 xs in
@@ -372,7 +396,8 @@ module _ (p : NumberedProgram) (gates : List InstrId) (sums : ℕ → Option Roo
       }
 
   facts_of : (y : Seen) → Contains all y → Facts whole frees y
-  facts_of y c = along p gates sums regions are (moments_of gates p input xs) frees blocks program summaries input small (exited p input turns gates xs out value exits).state (timed_by recorded xs) 0 (start_of p) (initial p) first_inv y c
+  facts_of y c = along p gates sums regions are (moments_of gates p input xs) frees blocks program summaries input small (exited p input turns gates xs out value exits).state
+      (timed_by recorded xs) 0 (start_of p) (initial p) first_inv y c
 
   pub extents_keep : ExtentsKeep whole
   extents_keep = record {

@@ -1,5 +1,6 @@
 -- The threads of what is known, from step to step: as many as the machine's, each with as many calls.
-use Rattle.std.proofs.Common.{◌≡◌, ◌≢◌, ℕ, zero, suc, ◌+◌, ◌<◌, ◌≤◌, Bool, true, false, List, [], ◌∷◌, ◌++◌, length, get_or, Option, Some, refl, sym, ap, ◌∙◌, subst, arith, inl, inr, ◌⊎◌, get_or-set_same, get_or-set_other}
+use Rattle.std.proofs.Common.{◌≡◌, ◌≢◌, ℕ, zero, suc, ◌+◌, ◌<◌, ◌≤◌, Bool, true, false, List, [], ◌∷◌, ◌++◌, length, get_or, Option, Some, refl, sym}
+use Rattle.std.proofs.Common.{ap, ◌∙◌, subst, arith, inl, inr, ◌⊎◌, get_or-set_same, get_or-set_other}
 use Rattle.std.specs.Prelude.{slice_get, slice_index_or, if◌then◌else◌, slice_index}
 use Rattle.std.proofs.lemmas.List.{get_or_past}
 use Rattle.pg_ir.specs.declared.instr.Instr.{Instr}
@@ -22,7 +23,8 @@ use Rattle.pg_closed.specs.Extents.{Extent, is_live, open_after}
 use Rattle.pg_closed.specs.Freeable.{FreeRegion}
 use Rattle.pg_closed.specs.Shadows.{Shadow, unset}
 use Rattle.pg_closed.specs.Known as known
-use Rattle.pg_closed.specs.Known.{Reference, RunShadow, ThreadShadow, after_event, after_op, after_step, edge_of, fresh_thread, live_after, live_by, no_thread, on_thread, region_of, thread_of, threads_after, under_top, with_extents, with_top}
+use Rattle.pg_closed.specs.Known.{Reference, RunShadow, ThreadShadow, after_event, after_op, after_step, edge_of, fresh_thread, live_after, live_by, no_thread, on_thread, region_of}
+use Rattle.pg_closed.specs.Known.{thread_of, threads_after, under_top, with_extents, with_top}
 use Rattle.pg_least.specs.Keeps.{every}
 use Rattle.pg_trace.specs.Steps.{range_of}
 use Rattle.pg_instances.specs.Moves.{GoesAlong, GoesBack, GoesInto, GoesPast, Moves, RequestMoves, IsLoad, IsStore, IsPlacedAt}
@@ -42,7 +44,8 @@ returned_length : (p : NumberedProgram) (below : List Frame) (n : ℕ) → lengt
 returned_length p [] n = refl
 returned_length p (f ∷ fs) n = refl
 
-module _ (p : NumberedProgram) (n : ℕ) (m : Moment) (region : Option FreeRegion) (result : ℕ) (x : Instr) (calls : List (List Shadow)) (f : Frame) (below : List Frame) (size : length calls ≡ length (f ∷ below)) where
+module _ (p : NumberedProgram) (n : ℕ) (m : Moment) (region : Option FreeRegion) (result : ℕ) (x : Instr) (calls : List (List Shadow)) (f : Frame) (below : List Frame)
+    (size : length calls ≡ length (f ∷ below)) where
   abbrev after_it : Op → List (List Shadow)
   after_it o = after_op p true n m region result x o calls
 
@@ -76,7 +79,8 @@ module _ (p : NumberedProgram) (n : ℕ) (m : Moment) (region : Option FreeRegio
   op_length o fs (inr (inr (inl a))) = back_length o fs a
   op_length o fs (inr (inr (inr a))) = past_length o fs a
 
-event_length : (p : NumberedProgram) (m : Moment) (e : Event) (argument : Shadow) (x : Instr) (calls : List (List Shadow)) (before fs : List Frame) (r : Request) → length calls ≡ length before → RequestMoves before r fs → length (after_event p m e (kind_of r) argument x calls) ≡ length fs
+event_length : (p : NumberedProgram) (m : Moment) (e : Event) (argument : Shadow) (x : Instr) (calls : List (List Shadow)) (before fs : List Frame) (r : Request)
+    → length calls ≡ length before → RequestMoves before r fs → length (after_event p m e (kind_of r) argument x calls) ≡ length fs
 event_length p m e argument x calls before fs requests.Start s h = top_length _ calls ∙ s ∙ sym h
 event_length p m e argument x calls before fs (requests.Exit v k) s h = ap (λ (l : List Frame). length l) (sym h)
 event_length p m e argument x calls before fs (requests.Wait c v) s h = s ∙ sym h
@@ -118,7 +122,8 @@ grown_on g t ts lt =
       more = omega (arith, n);
     }
 
-grown_last : (p : NumberedProgram) (k : ℕ) (ts us : List ThreadShadow) (t : ℕ) (calls : List (List Shadow)) → t < length ts → length us ≡ length ts → Grown ts us t calls → Grown ts (us ++ fresh_thread p k ∷ []) t calls
+grown_last : (p : NumberedProgram) (k : ℕ) (ts us : List ThreadShadow) (t : ℕ) (calls : List (List Shadow)) → t < length ts → length us ≡ length ts → Grown ts us t calls
+    → Grown ts (us ++ fresh_thread p k ∷ []) t calls
 grown_last p k ts us t calls lt n h = record {
   own = ap (λ (th : ThreadShadow). th.calls) (at_front us (fresh_thread p k) no_thread t (omega (arith, lt, n))) ∙ h.own;
   others = λ u ne l. at_front us (fresh_thread p k) no_thread u (omega (arith, l, n)) ∙ h.others u ne l;
@@ -127,7 +132,8 @@ grown_last p k ts us t calls lt n h = record {
 }
   where
     go : (u : ℕ) → length ts ≤ u → (get_or (us ++ fresh_thread p k ∷ []) u no_thread ≡ fresh_thread p k) ⊎ (get_or (us ++ fresh_thread p k ∷ []) u no_thread ≡ no_thread) →
-        ((slice_index_or (us ++ fresh_thread p k ∷ []) u no_thread).extents ≡ []) × (u < length (us ++ fresh_thread p k ∷ []) → length (slice_index_or (us ++ fresh_thread p k ∷ []) u no_thread).calls ≡ 1)
+        ((slice_index_or (us ++ fresh_thread p k ∷ []) u no_thread).extents ≡ [])
+        × (u < length (us ++ fresh_thread p k ∷ []) → length (slice_index_or (us ++ fresh_thread p k ∷ []) u no_thread).calls ≡ 1)
     go u le (inl e) = (ap (λ (th : ThreadShadow). th.extents) e, λ l. ap (λ (th : ThreadShadow). length th.calls) e)
     go u le (inr e) = (ap (λ (th : ThreadShadow). th.extents) e, λ l. in_range u le l)
       where
@@ -241,15 +247,18 @@ module _ (R : Reference) (n : ℕ) (m : Moment) (w : RunShadow) (i : Instr) (at 
   store_moves f below fs (op.Store v u at) h (inr (inr (inr a))) = ap (λ (l : List Frame). length l) a.is
   store_moves f below fs o h k = absurd h
 
-  lives_op : (k : StepKind) (f : Frame) (below fs : List Frame) → length (thread_of w t).calls ≡ length (f ∷ below) → Moves p f below i i.op fs → (live_at k).threads ≡ on_thread (after_op p true n m region (known.result_in k) i i.op) t w.threads → Lives k fs (length w.threads)
+  lives_op : (k : StepKind) (f : Frame) (below fs : List Frame) → length (thread_of w t).calls ≡ length (f ∷ below) → Moves p f below i i.op fs
+      → (live_at k).threads ≡ on_thread (after_op p true n m region (known.result_in k) i i.op) t w.threads → Lives k fs (length w.threads)
   lives_op k f below fs size v e = record {
     calls = after_op p true n m region (known.result_in k) i i.op (thread_of w t).calls;
-    grown = subst (λ (ts : List ThreadShadow). Grown w.threads ts t (after_op p true n m region (known.result_in k) i i.op (thread_of w t).calls)) (sym e) (grown_on (after_op p true n m region (known.result_in k) i i.op) t w.threads lt);
+    grown = subst (λ (ts : List ThreadShadow). Grown w.threads ts t (after_op p true n m region (known.result_in k) i i.op (thread_of w t).calls)) (sym e)
+        (grown_on (after_op p true n m region (known.result_in k) i i.op) t w.threads lt);
     length_is = op_length p n m region (known.result_in k) i (thread_of w t).calls f below size i.op fs v;
     size_is = ap (λ (ts : List ThreadShadow). length ts) e ∙ on_length (after_op p true n m region (known.result_in k) i i.op);
   }
 
-  pub lives_plain : (b : Bool) (k : StepKind) (f : Frame) (below fs : List Frame) → length (thread_of w t).calls ≡ length (f ∷ below) → TellsPlain b i.op k → Moves p f below i i.op fs → Lives k fs (length w.threads)
+  pub lives_plain : (b : Bool) (k : StepKind) (f : Frame) (below fs : List Frame) → length (thread_of w t).calls ≡ length (f ∷ below) → TellsPlain b i.op k → Moves p f below i i.op fs
+      → Lives k fs (length w.threads)
   lives_plain b told.Other f below fs size h v = lives_op told.Other f below fs size v refl
   lives_plain b (told.Branch c) f below fs size h v = lives_op (told.Branch c) f below fs size v refl
   lives_plain b (told.Allocation a r) f below fs size h v = lives_op (told.Allocation a r) f below fs size v refl
@@ -277,7 +286,8 @@ module _ (R : Reference) (n : ℕ) (m : Moment) (w : RunShadow) (i : Instr) (at 
     length_is : length (asked_calls e k) ≡ length frames
     size_is : length (asked_threads e k) ≡ size
 
-  asked_by : (e : Event) (r : Request) (before fs : List Frame) (size : ℕ) → length (thread_of w t).calls ≡ length before → RequestMoves before r fs → Adds (length w.threads) r size → Asked e (kind_of r) fs size
+  asked_by : (e : Event) (r : Request) (before fs : List Frame) (size : ℕ) → length (thread_of w t).calls ≡ length before → RequestMoves before r fs → Adds (length w.threads) r size
+      → Asked e (kind_of r) fs size
   asked_by e (requests.Create at g v) before fs size c h k =
       let f : List (List Shadow) → List (List Shadow) = after_event p m e (kind_of (requests.Create at g v)) (slice_index_or w.words t unset) i in
       record {
@@ -296,7 +306,8 @@ module _ (R : Reference) (n : ℕ) (m : Moment) (w : RunShadow) (i : Instr) (at 
     size_is = on_length (after_event p m e (kind_of r) (slice_index_or w.words t unset) i) ∙ sym k;
   }
 
-  pub lives_event : (e : Event) (r : Request) (before fs : List Frame) (size : ℕ) → length (thread_of w t).calls ≡ length before → e.kind ≡ kind_of r → RequestMoves before r fs → Adds (length w.threads) r size → Lives (told.Event e) fs size
+  pub lives_event : (e : Event) (r : Request) (before fs : List Frame) (size : ℕ) → length (thread_of w t).calls ≡ length before → e.kind ≡ kind_of r → RequestMoves before r fs
+      → Adds (length w.threads) r size → Lives (told.Event e) fs size
   lives_event e r before fs size c q h k =
       let a : Asked e e.kind fs size = subst (λ (z : TurnKind). Asked e z fs size) (sym q) (asked_by e r before fs size c h k) in
       record { calls = asked_calls e e.kind; grown = a.grown; length_is = a.length_is; size_is = a.size_is }

@@ -25,7 +25,8 @@ table I a f s = register_path (sets I.program a.blocks) (types_of I.program (fun
 abbrev pub types_at : (I : Instance) (a : QuietSet) (f : Frame) → StandsIn I a f → List Scalar
 types_at I a f s = types_of I.program (function_of I.program s.block)
 
-pub stepped_stands : (I : Instance) (a : QuietSet) (f : Frame) (x : Instr) (n : ℕ) → IsProgram I.program → (s : StandsIn I a f) → slice_get I.program.instrs f.place ≡ Some x → is_terminator x.op ≡ false →
+pub stepped_stands : (I : Instance) (a : QuietSet) (f : Frame) (x : Instr) (n : ℕ) → IsProgram I.program → (s : StandsIn I a f) → slice_get I.program.instrs f.place ≡ Some x
+    → is_terminator x.op ≡ false →
     ((q : Path) → path_by (table I a f s) (has_pointer (types_at I a f s) x.result) x.op ≡ Some q → HasPath I.program a.registers I.memory I.recorded q n) → StandsIn I a (stepped f x.result n)
 stepped_stands I a f x n program s e t h = record {
   block = s.block;
@@ -54,7 +55,8 @@ stepped_stands I a f x n program s e t h = record {
     unset r u true q = absurd (true≢false (sym (sets_here I.program a.blocks s.block s.behind r x s.among at.1 q) ∙ u))
     unset r u false q = q
 
-    pick : (r : ℕ) (q : Path) (w : ℕ) (b : Bool) → is_register x.result r ≡ b → cond (is_register x.result r) (path_by (table I a f s) (has_pointer (types_at I a f s) x.result) x.op) (table I a f s r) ≡ Some q →
+    pick : (r : ℕ) (q : Path) (w : ℕ) (b : Bool) → is_register x.result r ≡ b
+        → cond (is_register x.result r) (path_by (table I a f s) (has_pointer (types_at I a f s) x.result) x.op) (table I a f s r) ≡ Some q →
         registers_by (set_register f.registers x.result (Some n)) r ≡ Some w → HasPath I.program a.registers I.memory I.recorded q w
     pick r q w true b u v =
         let k : Some n ≡ Some w = own_register f.registers x.result (Some n) r w b v in

@@ -48,7 +48,8 @@ module _ (gated : List InstrId) (p : NumberedProgram) (input : List ℤ) (u : Tu
   event_no_exit is_ready None e q = absurd cc
   event_no_exit is_ready (Some v) e q = chosen_no_exit (is_turn v u && is_ready) e q
 
-  test_no_exit : (s : State) (held : Bool) (trap : Option TrapName) (is_ready : Bool) (o : Option Turn) (e : GuidedEnd) → Path (Result Bool GuidedEnd) (if held then Err ends.Strayed else trap_or s t trap (on_event u is_ready o)) (Err e) → IsNoExit e
+  test_no_exit : (s : State) (held : Bool) (trap : Option TrapName) (is_ready : Bool) (o : Option Turn) (e : GuidedEnd)
+      → Path (Result Bool GuidedEnd) (if held then Err ends.Strayed else trap_or s t trap (on_event u is_ready o)) (Err e) → IsNoExit e
   test_no_exit s true trap is_ready o e q = let k : ends.Strayed ≡ e = cc in subst IsNoExit k tt
   test_no_exit s false None is_ready o e q = event_no_exit is_ready o e q
   test_no_exit s false (Some name) is_ready o e q = no_exit_of (ends.Trap name _) e tt q
@@ -68,7 +69,8 @@ module _ (gated : List InstrId) (p : NumberedProgram) (input : List ℤ) (u : Tu
   unfolding turn_if
   is_event o e q = cc
 
-  stepped : (n : ℕ) (s : State) (b : Bool) (o : Stepped) (more : State → Walk) → due gated p u s ≡ Ok b → step gated p input s t ≡ o → ((z : State) → OfEnd (more z).end (more z).trace) → OfEnd (on_step s n b o more).end (on_step s n b o more).trace
+  stepped : (n : ℕ) (s : State) (b : Bool) (o : Stepped) (more : State → Walk) → due gated p u s ≡ Ok b → step gated p input s t ≡ o
+      → ((z : State) → OfEnd (more z).end (more z).trace) → OfEnd (on_step s n b o more).end (on_step s n b o more).trace
   stepped n s b (Trapped name id) more d e h = tt
   stepped n s true (Did x z) more d e h = ((λ q. absurd (is_event (event_of x) (step_is gated p input u s z true x d e).1 q), tt), step_thread gated p input s z t x e)
   stepped n s false (Did x z) more d e h = go (more z).end (h z)
@@ -81,7 +83,8 @@ module _ (gated : List InstrId) (p : NumberedProgram) (input : List ℤ) (u : Tu
       go (Some g) k = k
 
   tested : (n : ℕ) (s : State) (d : Result Bool GuidedEnd) → due gated p u s ≡ d → ((z : State) → OfEnd (walk n gated p input u z).end (walk n gated p input u z).trace) →
-      OfEnd (on_due s n d (λ b. on_step s n b (step gated p input s t) (λ z. walk n gated p input u z))).end (on_due s n d (λ b. on_step s n b (step gated p input s t) (λ z. walk n gated p input u z))).trace
+      OfEnd (on_due s n d (λ b. on_step s n b (step gated p input s t) (λ z. walk n gated p input u z))).end
+      (on_due s n d (λ b. on_step s n b (step gated p input s t) (λ z. walk n gated p input u z))).trace
   tested n s (Err e) k h = due_no_exit s e k
   tested n s (Ok b) k h = stepped n s b (step gated p input s t) (λ z. walk n gated p input u z) k refl h
 
@@ -97,16 +100,20 @@ module _ (gated : List InstrId) (p : NumberedProgram) (input : List ℤ) (u : Tu
 -- ---- the run
 
 module _ (gated : List InstrId) (p : NumberedProgram) (input : List ℤ) where
-  ended : (u : Turn) (k : ℕ) (w : Walk) (left : List ℕ) (e : Option GuidedEnd) (value : ℤ) (more : State → List ℕ → GuidedRun) → OfEnd gated p input u e w.trace → ((z : State) (rest : List ℕ) → (more z rest).end ≡ ends.Exit value → AreTogether (more z rest).trace) → (ended_at w left k e more).end ≡ ends.Exit value → AreTogether (ended_at w left k e more).trace
+  ended : (u : Turn) (k : ℕ) (w : Walk) (left : List ℕ) (e : Option GuidedEnd) (value : ℤ) (more : State → List ℕ → GuidedRun) → OfEnd gated p input u e w.trace
+      → ((z : State) (rest : List ℕ) → (more z rest).end ≡ ends.Exit value → AreTogether (more z rest).trace) → (ended_at w left k e more).end ≡ ends.Exit value
+      → AreTogether (ended_at w left k e more).trace
   ended u k w left (Some e) value more h g x = absurd (subst IsNoExit x h)
   ended u k w left None value more h g x = together_append w.trace (more w.state left).trace h.0 (g w.state left x)
 
-  guided_together : (us : List Turn) (k : ℕ) (s : State) (left : List ℕ) (value : ℤ) → (guided gated p input us k s left).end ≡ ends.Exit value → AreTogether (guided gated p input us k s left).trace
+  guided_together : (us : List Turn) (k : ℕ) (s : State) (left : List ℕ) (value : ℤ) → (guided gated p input us k s left).end ≡ ends.Exit value
+      → AreTogether (guided gated p input us k s left).trace
   unfolding guided
   guided_together [] k s left value x = tt
   guided_together (u ∷ us) k s left value x =
       let w = walk (slice_index left u.thread.0) gated p input u s in
-      ended u k w (slice_set left u.thread.0 w.left) w.end value (λ z rest. guided gated p input us (k + 1) z rest) (walk_together gated p input u (slice_index left u.thread.0) s) (λ z rest y. guided_together us (k + 1) z rest value y) x
+      ended u k w (slice_set left u.thread.0 w.left) w.end value (λ z rest. guided gated p input us (k + 1) z rest) (walk_together gated p input u (slice_index left u.thread.0) s)
+      (λ z rest y. guided_together us (k + 1) z rest value y) x
 
 -- a guided run that exits with these steps
 pub record HasExited (p : NumberedProgram) (input : List ℤ) (turns : List Turn) (gated : List InstrId) (xs : List Step) : Type 0 where
@@ -114,7 +121,8 @@ pub record HasExited (p : NumberedProgram) (input : List ℤ) (turns : List Turn
   pub run : IsRun gated p input (initial p) xs state
   pub together : AreTogether xs
 
-reached_exit : (trace : List Step) (printed : List ℕ) (k : ℕ) (e : GuidedEnd) (xs : List Step) (out : List ℕ) (value : ℤ) → reached trace printed k e ≡ Exits xs out value → (trace ≡ xs) × ((n : ℤ) × (e ≡ ends.Exit n))
+reached_exit : (trace : List Step) (printed : List ℕ) (k : ℕ) (e : GuidedEnd) (xs : List Step) (out : List ℕ) (value : ℤ) → reached trace printed k e ≡ Exits xs out value
+    → (trace ≡ xs) × ((n : ℤ) × (e ≡ ends.Exit n))
 reached_exit trace printed k (ends.Exit n) xs out value e = (cc, (n, refl))
 reached_exit trace printed k ends.Strayed xs out value e = absurd cc
 reached_exit trace printed k _ xs out value e = absurd cc
@@ -126,7 +134,8 @@ exit_of r xs out value e = go (nat_lt RECORDING_STEP_LIMIT (length r.trace)) e
     go true q = absurd cc
     go false q = reached_exit r.trace r.state.printed r.turns r.end xs out value q
 
-pub exited : (p : NumberedProgram) (input : List ℤ) (turns : List Turn) (gated : List InstrId) (xs : List Step) (out : List ℕ) (value : ℤ) → following_of p input turns gated ≡ Exits xs out value → HasExited p input turns gated xs
+pub exited : (p : NumberedProgram) (input : List ℤ) (turns : List Turn) (gated : List InstrId) (xs : List Step) (out : List ℕ) (value : ℤ)
+    → following_of p input turns gated ≡ Exits xs out value → HasExited p input turns gated xs
 unfolding following_of guided_of
 exited p input turns gated xs out value e =
     let r = exit_of (guided_of p input turns gated) xs out value e in

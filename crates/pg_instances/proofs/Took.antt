@@ -1,5 +1,6 @@
 -- What a step of the machine that was done did to its thread's calls, and what it tells.
-use Rattle.std.proofs.Common.{◌≡◌, ℕ, ℤ, zero, suc, ◌+◌, ◌<◌, ◌≤◌, Bool, true, false, List, [], ◌∷◌, ◌++◌, length, Option, Some, None, Ok, Err, refl, sym, ap, ◌∙◌, subst, arith, inl, inr, ◌⊎◌}
+use Rattle.std.proofs.Common.{◌≡◌, ℕ, ℤ, zero, suc, ◌+◌, ◌<◌, ◌≤◌, Bool, true, false, List, [], ◌∷◌, ◌++◌, length, Option, Some, None, Ok, Err, refl, sym}
+use Rattle.std.proofs.Common.{ap, ◌∙◌, subst, arith, inl, inr, ◌⊎◌}
 use Rattle.std.specs.Prelude.{slice_get, slice_set, slice_index}
 use Rattle.std.proofs.lemmas.Option.{slice_get_within}
 use Rattle.pg_num.specs.Places.{ByteRange}
@@ -31,7 +32,9 @@ use Rattle.pg_trace.specs.declared.step.Event.{Event}
 use Rattle.pg_trace.specs.Kinds.{kind_of, object_of}
 use Rattle.pg_trace.specs.Steps.{range_of}
 use Rattle.pg_machine.specs.State.{State, id_in, instr_of, next_of}
-use Rattle.pg_machine.specs.MachineStep.{Answered, Stepped, Did, answered, input_at, instr_told, is_gated, kind_told, may_act, number_in, op_told, operands_in, ready, settled, step, step_told, taken, known_told, write_told}
+use Rattle.pg_machine.specs.MachineStep.{Answered, Stepped, Did, answered, instr_told, is_gated, kind_told, may_act, number_in, op_told, operands_in, ready, settled, step, step_told, taken}
+use Rattle.pg_machine.specs.MachineStep.{known_told, write_told}
+use Rattle.pg_num.specs.Inputs.{input_at}
 use Rattle.pg_machine.proofs.Asks.{next_is, ready_acts}
 use Rattle.pg_machine.proofs.Threads.{set_own, set_other, set_length, last_other}
 use Rattle.pg_machine.specs.Locality.{IfDid}
@@ -172,7 +175,8 @@ told_by : (gated : List InstrId) (p : NumberedProgram) (s z : State) (t : ℕ) (
 told_by gated p s z t x (w, Err name) e = absurd cc
 told_by gated p s z t x (w, Ok n) e = (n, cc)
 
-module _ (gated : List InstrId) (p : NumberedProgram) (input : List ℤ) (s z : State) (t : ℕ) (l : LocalState) (x : Step) (is_local : slice_get s.locals t ≡ Some l) (goes : ready p s t ≡ true) (did_step : step gated p input s t ≡ Did x z) where
+module _ (gated : List InstrId) (p : NumberedProgram) (input : List ℤ) (s z : State) (t : ℕ) (l : LocalState) (x : Step) (is_local : slice_get s.locals t ≡ Some l)
+    (goes : ready p s t ≡ true) (did_step : step gated p input s t ≡ Did x z) where
   made_here : t < length s.locals
   made_here = slice_get_within s.locals t l is_local
 
@@ -198,7 +202,8 @@ module _ (gated : List InstrId) (p : NumberedProgram) (input : List ℤ) (s z : 
       ∙ ap (λ (o : Option LocalState). local_set t (own_after p (answer_to input s t a) o) (asked p s t a)) is_local
 
   kind_here : (a : Action) → next_of p s t ≡ a → x.kind ≡ kind_told gated p s t (operands_in p (slice_get s.locals t)) told_here.0 (number_in p (slice_get s.locals t) told_here.0) a
-  kind_here a e = ap (λ (y : Step). y.kind) told_here.1 ∙ ap (λ (b : Action). kind_told gated p s t (operands_in p (slice_get s.locals t)) told_here.0 (number_in p (slice_get s.locals t) told_here.0) b) e
+  kind_here a e = ap (λ (y : Step). y.kind) told_here.1
+      ∙ ap (λ (b : Action). kind_told gated p s t (operands_in p (slice_get s.locals t)) told_here.0 (number_in p (slice_get s.locals t) told_here.0) b) e
 
   instr_here : instr_of s t ≡ id_of l
   unfolding instr_of
@@ -213,11 +218,13 @@ module _ (gated : List InstrId) (p : NumberedProgram) (input : List ℤ) (s z : 
   others_there a e u ne lt = ap (λ (ls : List LocalState). slice_get ls u) (locals_here a e) ∙ set_other (asked p s t a) t u (after_here a) ne ∙ (behind p s t a).front u lt
 
   made_there : (a : Action) → next_of p s t ≡ a → (u : ℕ) (m : LocalState) → length s.locals ≤ u → slice_get z.locals u ≡ Some m → (f : ℕ) × (m ≡ fresh p u f)
-  made_there a e u m le h = (behind p s t a).made u m le (sym (set_other (asked p s t a) t u (after_here a) (λ q. let k = made_here in omega (arith, k, q, le))) ∙ sym (ap (λ (ls : List LocalState). slice_get ls u) (locals_here a e)) ∙ h)
+  made_there a e u m le h = (behind p s t a).made u m le (sym (set_other (asked p s t a) t u (after_here a) (λ q. let k = made_here in omega (arith, k, q, le)))
+      ∙ sym (ap (λ (ls : List LocalState). slice_get ls u) (locals_here a e)) ∙ h)
 
   not_trapped : (name : TrapName) → next_of p s t ≡ actions.Trap name → ⊥
   unfolding step answered
-  not_trapped name q = let k : settled gated p s t (taken p s t (answered p input s t (actions.Trap name))) ≡ Did x z = subst (λ (b : Action). settled gated p s t (taken p s t (answered p input s t b)) ≡ Did x z) q did_step in cc
+  not_trapped name q = let k : settled gated p s t (taken p s t (answered p input s t (actions.Trap name))) ≡ Did x z =
+      subst (λ (b : Action). settled gated p s t (taken p s t (answered p input s t b)) ≡ Did x z) q did_step in cc
 
   not_ended : next p l ≡ actions.Ended → ⊥
   not_ended e = let k : may_act s t actions.Ended ≡ true = subst (λ (b : Action). may_act s t b ≡ true) (next_here ∙ e) (ready_acts p s t goes) in cc
@@ -249,7 +256,8 @@ module _ (gated : List InstrId) (p : NumberedProgram) (input : List ℤ) (s z : 
 
   adds : (r : Request) → next_of p s t ≡ actions.Event r → AddsThread r s z
   adds (requests.Create at f n) e =
-      ap (λ (ls : List LocalState). length ls) (locals_here (actions.Event (requests.Create at f n)) e) ∙ set_length (asked p s t (actions.Event (requests.Create at f n))) t (after_here (actions.Event (requests.Create at f n)))
+      ap (λ (ls : List LocalState). length ls) (locals_here (actions.Event (requests.Create at f n)) e)
+      ∙ set_length (asked p s t (actions.Event (requests.Create at f n))) t (after_here (actions.Event (requests.Create at f n)))
       ∙ length_last s.locals (fresh p (length s.locals) f)
   adds (requests.Exit v k) e = ap (λ (ls : List LocalState). length ls) (locals_here (actions.Event (requests.Exit v k)) e) ∙ set_length s.locals t (after_here (actions.Event (requests.Exit v k)))
   adds r e = ap (λ (ls : List LocalState). length ls) (locals_here (actions.Event r) e) ∙ set_length s.locals t (after_here (actions.Event r))
@@ -286,7 +294,8 @@ module _ (gated : List InstrId) (p : NumberedProgram) (input : List ℤ) (s z : 
 
     frames_after : (n : ℕ) → (after p l n).frames ≡ op_after p (running l.thread l.halfway f fs l.heap) i n i.op
     unfolding id_of
-    frames_after n = ap (λ (m : LocalState). (after p m n).frames) (sym same_state) ∙ ap (λ (m : LocalState). m.frames) (after_at p (running l.thread l.halfway f fs l.heap) i n refl (omega arith) at)
+    frames_after n = ap (λ (m : LocalState). (after p m n).frames) (sym same_state)
+        ∙ ap (λ (m : LocalState). m.frames) (after_at p (running l.thread l.halfway f fs l.heap) i n refl (omega arith) at)
 
     operands_are : operands_in p (slice_get s.locals t) ≡ first_four p f.registers (operands_of i.op)
     unfolding id_of
@@ -316,28 +325,45 @@ module _ (gated : List InstrId) (p : NumberedProgram) (input : List ℤ) (s z : 
     }))
 
     instr_tells : (ns : List ℕ) (n : ℕ) → TellsPlain (is_gated gated f.place) i.op (instr_told ns n (slice_get p.instrs (instr_of s t)))
-    instr_tells ns n = subst (λ (o : Option Instr). TellsPlain (is_gated gated f.place) i.op (instr_told ns n o)) (sym (ap (slice_get p.instrs) instr_here ∙ at_id)) (tells_instr (is_gated gated f.place) ns n i.op)
+    instr_tells ns n = subst (λ (o : Option Instr). TellsPlain (is_gated gated f.place) i.op (instr_told ns n o)) (sym (ap (slice_get p.instrs) instr_here ∙ at_id))
+        (tells_instr (is_gated gated f.place) ns n i.op)
 
-    placed : (r : ByteRange) (w : ℕ) (m : ℕ) → IsPlacedAt w r → IsPlacedAt w (range_of (record { pointer = w; number = m; bytes = r.bytes; writes = true; event = is_gated gated (instr_of s t) }))
+    placed : (r : ByteRange) (w : ℕ) (m : ℕ) → IsPlacedAt w r → IsPlacedAt w
+        (range_of (record { pointer = w; number = m; bytes = r.bytes; writes = true; event = is_gated gated (instr_of s t) }))
     placed r w m h = record { start = refl; within = record { from = (let v = h.within.from in omega (arith, v, h.start)); end = (let v = h.within.end in omega (arith, v, h.start)) } }
 
     by_action : (a : Action) → next p l ≡ a → may_act s t a ≡ true → Out a → Took gated p s t l x z
-    by_action actions.Local e m o = plain actions.Local e refl (subst (TellsPlain (is_gated gated f.place) i.op) (sym (kind_here actions.Local (next_here ∙ e))) (instr_tells (operands_in p (slice_get s.locals t)) (number_in p (slice_get s.locals t) told_here.0))) (moved_by 0 o)
-    by_action (actions.In k) e m o = plain (actions.In k) e refl (subst (TellsPlain (is_gated gated f.place) i.op) (sym (kind_here (actions.In k) (next_here ∙ e))) (inl refl)) (moved_by (input_at input k) (o (input_at input k)))
-    by_action actions.InLen e m o = plain actions.InLen e refl (subst (TellsPlain (is_gated gated f.place) i.op) (sym (kind_here actions.InLen (next_here ∙ e))) (inl refl)) (moved_by (length input) (o (length input)))
-    by_action (actions.Load r) e m o = plain (actions.Load r) e refl (subst (TellsPlain (is_gated gated f.place) i.op) (sym (kind_here (actions.Load r) (next_here ∙ e))) (record { event_is = gate; by = inl (o.0, refl) })) (moved_by (read s.memory r) (o.1 (read s.memory r)))
+    by_action actions.Local e m o =
+        plain actions.Local e refl (subst (TellsPlain (is_gated gated f.place) i.op) (sym (kind_here actions.Local (next_here ∙ e)))
+        (instr_tells (operands_in p (slice_get s.locals t)) (number_in p (slice_get s.locals t) told_here.0))) (moved_by 0 o)
+    by_action (actions.In k) e m o = plain (actions.In k) e refl (subst (TellsPlain (is_gated gated f.place) i.op) (sym (kind_here (actions.In k) (next_here ∙ e))) (inl refl))
+        (moved_by (input_at input k) (o (input_at input k)))
+    by_action actions.InLen e m o = plain actions.InLen e refl (subst (TellsPlain (is_gated gated f.place) i.op) (sym (kind_here actions.InLen (next_here ∙ e))) (inl refl))
+        (moved_by (length input) (o (length input)))
+    by_action (actions.Load r) e m o =
+        plain (actions.Load r) e refl (subst (TellsPlain (is_gated gated f.place) i.op) (sym (kind_here (actions.Load r) (next_here ∙ e))) (record { event_is = gate; by = inl (o.0, refl) }))
+        (moved_by (read s.memory r) (o.1 (read s.memory r)))
     by_action (actions.Store r n) e m o =
         plain (actions.Store r n) e refl
         (subst (TellsPlain (is_gated gated f.place) i.op) (sym (kind_here (actions.Store r n) (next_here ∙ e)))
-        (record { event_is = gate; by = inr (o.1, refl, placed r (slice_index (operands_in p (slice_get s.locals t)) 1) n (subst (λ (ns : List ℕ). IsPlacedAt (slice_index ns 1) r) (sym operands_are) o.0)) }))
+        (record {
+          event_is = gate;
+          by = inr (
+            o.1,
+            refl,
+            placed r (slice_index (operands_in p (slice_get s.locals t)) 1) n (subst (λ (ns : List ℕ). IsPlacedAt (slice_index ns 1) r) (sym operands_are) o.0),
+          );
+        }))
         (moved_by 0 o.2)
     by_action (actions.Event r) e m o =
-        took_request r e (subst (λ (gs : List Frame). RequestMoves gs r (after_here (actions.Event r)).frames) (sym frames) (subst (λ (gs : List Frame). RequestMoves (f ∷ fs) r gs) (sym (frames_after (answer_to input s t (actions.Event r)))) (o (answer_to input s t (actions.Event r)))))
+        took_request r e (subst (λ (gs : List Frame). RequestMoves gs r (after_here (actions.Event r)).frames) (sym frames)
+        (subst (λ (gs : List Frame). RequestMoves (f ∷ fs) r gs) (sym (frames_after (answer_to input s t (actions.Event r)))) (o (answer_to input s t (actions.Event r)))))
     by_action (actions.Trap name) e m o = absurd (not_trapped name (next_here ∙ e))
     by_action actions.Ended e m o = absurd cc
 
     took_running : Took gated p s t l x z
-    took_running = by_action (next p l) refl (subst (λ (b : Action). may_act s t b ≡ true) next_here (ready_acts p s t goes)) (subst Out (sym action_is) (op_outcome p l.thread l.halfway f fs l.heap i i.op))
+    took_running = by_action (next p l) refl (subst (λ (b : Action). may_act s t b ≡ true) next_here (ready_acts p s t goes))
+        (subst Out (sym action_is) (op_outcome p l.thread l.halfway f fs l.heap i i.op))
 
   start_frames : (b : Bool) (fs : List Frame) → l.begun ≡ b → l.frames ≡ fs → 0 < length fs → b ≡ false → next p l ≡ actions.Event requests.Start
   unfolding next
@@ -368,7 +394,8 @@ module _ (gated : List InstrId) (p : NumberedProgram) (input : List ℤ) (s z : 
       by_begun f fs true b e = by_instr f fs (slice_get p.instrs f.place) b e refl
       by_begun f fs false b e =
           let q = start_frames false (f ∷ fs) b e (omega arith) refl in
-          took_request requests.Start q (ap (λ (m : LocalState). length m.frames) (after_start p l (answer_to input s t (actions.Event requests.Start)) b (let n : length l.frames ≡ length (f ∷ fs) = ap (λ (gs : List Frame). length gs) e in omega (arith, n)))
+          took_request requests.Start q (ap (λ (m : LocalState). length m.frames)
+          (after_start p l (answer_to input s t (actions.Event requests.Start)) b (let n : length l.frames ≡ length (f ∷ fs) = ap (λ (gs : List Frame). length gs) e in omega (arith, n)))
           ∙ on_top_length _ l.frames)
 
       by_frames : (gs : List Frame) → l.frames ≡ gs → Took gated p s t l x z

@@ -30,7 +30,14 @@ top_of I f fs region (inl b) = record {
   quiet = region;
   stands = b.stands;
   again = λ g fn h s. inl (record { lower = b.lower; function = fn ∙ b.function; height = h ∙ b.height; stands = s });
-  joins = λ r from. (record { frame = moved I.program f from I.join; frames = ap (λ (l : List Frame). moved I.program f from I.join ∷ l) b.lower; joined = edge_joins I f from b.function b.height b.stands.kept }, b.lower);
+  joins = λ r from. (
+    record {
+      frame = moved I.program f from I.join;
+      frames = ap (λ (l : List Frame). moved I.program f from I.join ∷ l) b.lower;
+      joined = edge_joins I f from b.function b.height b.stands.kept;
+    },
+    b.lower,
+  );
   above = λ r. absurd cc;
 }
 top_of I f fs region (inr (a, s)) = record {

@@ -20,7 +20,7 @@ use Rattle.pg_paths.specs.Registers.{moved}
 use Rattle.pg_paths.specs.Followed as followed
 use Rattle.pg_paths.specs.Followed.{Followed, followed_from, cell_at, cell_in, root_value}
 use Rattle.pg_accesses.specs.declared.rooted.Rooted.{Rooted}
-use Rattle.pg_accesses.proofs.Elements.{here, there, cases}
+use Rattle.pg_paths.proofs.Elements.{here, there, cases}
 use Rattle.pg_step.specs.Operands.{number_at}
 use Rattle.pg_step.specs.Compute.{moved_along}
 use Rattle.pg_closed.specs.Freeable.{FreeAccess, frame_of}
@@ -55,7 +55,8 @@ each_offsets (Some l0) l (k ∷ ks) l' q e =
     let a : l0 ≡ l = cc in
     go (one_more l0 k) refl e (λ o m s t. each_offsets o m ks l' s t) ∙ ap (λ (z : Loads). offsets_of z ++ k ∷ ks) a
   where
-    go : (o : Option Loads) → one_more l0 k ≡ o → each_more o ks ≡ Some l' → ((o : Option Loads) (m : Loads) → o ≡ Some m → each_more o ks ≡ Some l' → offsets_of l' ≡ offsets_of m ++ ks) → offsets_of l' ≡ offsets_of l0 ++ k ∷ ks
+    go : (o : Option Loads) → one_more l0 k ≡ o → each_more o ks ≡ Some l'
+        → ((o : Option Loads) (m : Loads) → o ≡ Some m → each_more o ks ≡ Some l' → offsets_of l' ≡ offsets_of m ++ ks) → offsets_of l' ≡ offsets_of l0 ++ k ∷ ks
     go None s t more = absurd cc
     go (Some m) s t more = more (Some m) m refl t ∙ ap (λ (z : List ℕ). z ++ ks) (more_offsets l0 m k s) ∙ append_one (offsets_of l0) k ks
 
@@ -69,7 +70,8 @@ pub root_follows : (memory : ByteRange → ℕ) (ks : List ℕ) (o : Option ℕ)
 root_follows memory ks o w e = ap (λ (z : Option ℕ). option_and_then (λ word. followed_from memory word ks) z) e
 
 -- a followed path has a root's value
-pub follows_root : (memory : ByteRange → ℕ) (ks : List ℕ) (o : Option ℕ) (at : Followed) → option_and_then (λ word. followed_from memory word ks) o ≡ Some at → (w : ℕ) × (o ≡ Some w) × (followed_from memory w ks ≡ Some at)
+pub follows_root : (memory : ByteRange → ℕ) (ks : List ℕ) (o : Option ℕ) (at : Followed) → option_and_then (λ word. followed_from memory word ks) o ≡ Some at
+    → (w : ℕ) × (o ≡ Some w) × (followed_from memory w ks ≡ Some at)
 follows_root memory ks None at e = absurd cc
 follows_root memory ks (Some w) at e = (w, refl, e)
 
@@ -79,13 +81,17 @@ module _ (p : NumberedProgram) (registers : ℕ → Option ℕ) (memory : ByteRa
 
   -- the value of a root has the root as its path
   pub root_has : (r : Root) (w : ℕ) → root_value p registers r ≡ Some w → HasPath p registers memory xs (rooted r) w
-  root_has r w e = record { value = λ at f k. let q : record { pointers = []; cells = []; last = w } ≡ at = inner at (sym (root_follows memory [] (root_value p registers r) w e) ∙ f) in subst (λ (z : Followed). IsMoved z.last (Some 0) w) q (sym (moved_by-zero w)) }
+  root_has r w e = record {
+    value = λ at f k. let q : record { pointers = []; cells = []; last = w } ≡ at = inner at (sym (root_follows memory [] (root_value p registers r) w e) ∙ f) in
+        subst (λ (z : Followed). IsMoved z.last (Some 0) w) q (sym (moved_by-zero w));
+  }
     where
       inner : (at : Followed) → followed_from memory w [] ≡ Some at → record { pointers = []; cells = []; last = w } ≡ at
       inner at f = cc
 
   -- a getelementptr moves a pointer and its path
-  pub gep_has : (rs : List (Option ℕ)) (base : Value) (is : List Index) (q : Path) (w : ℕ) → HasPath p registers memory xs q w → HasPath p registers memory xs (moved is q) (moved_along w is (number_at p rs (base ∷ map (λ (x : Index). x.value) is)) 1)
+  pub gep_has : (rs : List (Option ℕ)) (base : Value) (is : List Index) (q : Path) (w : ℕ) → HasPath p registers memory xs q w
+      → HasPath p registers memory xs (moved is q) (moved_along w is (number_at p rs (base ∷ map (λ (x : Index). x.value) is)) 1)
   gep_has rs base is q w h = record { value = λ at f k. gep_moved p rs base at.last q.added is w (h.value at f k) }
 
   cell_is : (o : Result ByteRange PlaceFault) (c cell : ByteRange) → cell_in o ≡ Some c → o ≡ Ok cell → c ≡ cell
@@ -93,17 +99,21 @@ module _ (p : NumberedProgram) (registers : ℕ → Option ℕ) (memory : ByteRa
   cell_is (Ok r) c cell e q = cc
 
   -- a pointer that is loaded has the path of the address, with one load more
-  pub load_has : (q q' : Path) (w n : ℕ) (cell : ByteRange) (now : ByteRange → ℕ) → KeepsCells xs memory now → HasPath p registers memory xs q w → loaded q ≡ Some q' → place_of w 8 ≡ Ok cell → n ≡ now cell → HasPath p registers memory xs q' n
+  pub load_has : (q q' : Path) (w n : ℕ) (cell : ByteRange) (now : ByteRange → ℕ) → KeepsCells xs memory now → HasPath p registers memory xs q w → loaded q ≡ Some q'
+      → place_of w 8 ≡ Ok cell → n ≡ now cell → HasPath p registers memory xs q' n
   load_has q q' w n cell now keeps h l e v = go q.added refl l
     where
-      last_load : (k : ℕ) (l' : Loads) → q.added ≡ Some k → one_more q.loads k ≡ Some l' → (at : Followed) → option_and_then (λ word. followed_from memory word (offsets_of l')) (root_value p registers q.root) ≡ Some at → Recorded at → n ≡ moved_by at.last (pos 0)
+      last_load : (k : ℕ) (l' : Loads) → q.added ≡ Some k → one_more q.loads k ≡ Some l' → (at : Followed)
+          → option_and_then (λ word. followed_from memory word (offsets_of l')) (root_value p registers q.root) ≡ Some at → Recorded at → n ≡ moved_by at.last (pos 0)
       last_load k l' a s at f rec =
           let r = follows_root memory (offsets_of l') (root_value p registers q.root) at f in
-          let b : FollowsBoth memory r.0 (offsets_of q.loads) (k ∷ []) at = follows_both memory r.0 (offsets_of q.loads) (k ∷ []) at (subst (λ (z : List ℕ). followed_from memory r.0 z ≡ Some at) (more_offsets q.loads l' k s) r.2) in
+          let b : FollowsBoth memory r.0 (offsets_of q.loads) (k ∷ []) at =
+          follows_both memory r.0 (offsets_of q.loads) (k ∷ []) at (subst (λ (z : List ℕ). followed_from memory r.0 z ≡ Some at) (more_offsets q.loads l' k s) r.2) in
           let m : LoadsFirst memory b.first.last k [] b.second = loads_first memory b.first.last k [] b.second b.is_second in
           let at_first : followed.followed p registers memory (root_path_of q) ≡ Some b.first = root_follows memory (offsets_of q.loads) (root_value p registers q.root) r.0 r.1 ∙ b.is_first in
           let in_first : Recorded b.first = λ x c. rec x (subst (λ (z : List ℕ). Contains z x) (sym b.pointers) (Contains-append_left b.first.pointers b.second.pointers x c)) in
-          let in_second : (x : ℕ) → Contains b.second.pointers x → IsLoaded xs (frame_of x) = λ x c. rec x (subst (λ (z : List ℕ). Contains z x) (sym b.pointers) (Contains-append_right b.first.pointers b.second.pointers x c)) in
+          let in_second : (x : ℕ) → Contains b.second.pointers x → IsLoaded xs (frame_of x) =
+          λ x c. rec x (subst (λ (z : List ℕ). Contains z x) (sym b.pointers) (Contains-append_right b.first.pointers b.second.pointers x c)) in
           let pointer : IsLoaded xs (frame_of b.first.last) = in_second b.first.last (subst (λ (z : List ℕ). Contains z b.first.last) (sym m.pointers) (here b.first.last m.more.pointers)) in
           let word : w ≡ moved_by b.first.last (pos k) = subst (λ (z : Option ℕ). IsMoved b.first.last z w) a (h.value b.first at_first in_first) in
           let c : m.cell ≡ cell = cell_is (place_of w 8) m.cell cell (ap (λ (z : ℕ). cell_in (place_of z 8)) word ∙ m.is_cell) e in
@@ -138,22 +148,29 @@ module _ (p : NumberedProgram) (registers : ℕ → Option ℕ) (memory : ByteRa
 
   -- loads from w that lead where a path that was followed leads
   abbrev Behind : ℕ → ℕ → List ℕ → Followed → Type 0
-  Behind w k ks f = (g : Followed) × (followed_from memory w (k ∷ ks) ≡ Some g) × ((x : ℕ) → Contains g.pointers x → (y : ℕ) × Contains f.pointers y × (frame_of y ≡ frame_of x)) × (g.last ≡ f.last)
+  Behind w k ks f = (g : Followed) × (followed_from memory w (k ∷ ks) ≡ Some g) × ((x : ℕ) → Contains g.pointers x → (y : ℕ) × Contains f.pointers y × (frame_of y ≡ frame_of x))
+      × (g.last ≡ f.last)
 
   -- the same loads from a pointer that was moved, the first of them by as much less
   moved_loads : (last j a : ℕ) (ks : List ℕ) (w : ℕ) (f : Followed) → w ≡ moved_by last (pos j) → followed_from memory last (moved_offset j a ∷ ks) ≡ Some f →
-      (g : Followed) × (followed_from memory w (a ∷ ks) ≡ Some g) × ((x : ℕ) → Contains g.pointers x → (y : ℕ) × Contains f.pointers y × (frame_of y ≡ frame_of x)) × (g.last ≡ f.last)
+      (g : Followed) × (followed_from memory w (a ∷ ks) ≡ Some g) × ((x : ℕ) → Contains g.pointers x → (y : ℕ) × Contains f.pointers y × (frame_of y ≡ frame_of x))
+      × (g.last ≡ f.last)
   moved_loads last j a ks w f m e =
       let l : LoadsFirst memory last (moved_offset j a) ks f = loads_first memory last (moved_offset j a) ks f e in
-      let c : cell_at w a ≡ Some l.cell = ap (λ (z : ℕ). cell_in (place_of (moved_by z (pos a)) 8)) m ∙ ap (λ (z : ℕ). cell_in (place_of z 8)) (moved_twice last j a) ∙ l.is_cell in
-      (record { pointers = w ∷ l.more.pointers; cells = l.cell ∷ l.more.cells; last = l.more.last }, loads_again memory w a ks l.cell l.more c l.is_more, λ x k. go l x (cases w l.more.pointers x k), sym l.last)
+      let c : cell_at w a ≡ Some l.cell = ap (λ (z : ℕ). cell_in (place_of (moved_by z (pos a)) 8)) m ∙ ap (λ (z : ℕ). cell_in (place_of z 8)) (moved_twice last j a) ∙ l.is_cell in (
+        record { pointers = w ∷ l.more.pointers; cells = l.cell ∷ l.more.cells; last = l.more.last },
+        loads_again memory w a ks l.cell l.more c l.is_more,
+        λ x k. go l x (cases w l.more.pointers x k),
+        sym l.last,
+      )
     where
       go : (l : LoadsFirst memory last (moved_offset j a) ks f) (x : ℕ) → (w ≡ x) ⊎ Contains l.more.pointers x → (y : ℕ) × Contains f.pointers y × (frame_of y ≡ frame_of x)
       go l x (inl q) = (last, subst (λ (z : List ℕ). Contains z last) (sym l.pointers) (here last l.more.pointers), sym (frame_moved last (pos j)) ∙ ap frame_of (sym m ∙ q))
       go l x (inr k) = (x, subst (λ (z : List ℕ). Contains z x) (sym l.pointers) (there last l.more.pointers x k), refl)
 
   -- in a callee the accesses from a parameter lead where those of the caller from the argument's path lead
-  pub argument_leads : (a b : Rooted) (q : Path) (w r : ℕ) (params : ℕ → Option ℕ) → Leads p registers memory xs b → HasPath p registers memory xs q w → composed q a.path.loads ≡ Some b.path → b.writes ≡ a.writes → a.path.root ≡ root.Register r → params r ≡ Some w → Leads p params memory xs a
+  pub argument_leads : (a b : Rooted) (q : Path) (w r : ℕ) (params : ℕ → Option ℕ) → Leads p registers memory xs b → HasPath p registers memory xs q w
+      → composed q a.path.loads ≡ Some b.path → b.writes ≡ a.writes → a.path.root ≡ root.Register r → params r ≡ Some w → Leads p params memory xs a
   argument_leads a b q w r params l h e kind rooted_at at = go a.path.loads refl e
     where
       follows : (f : Followed) (ls : Loads) → a.path.loads ≡ ls → followed_from memory w (offsets_of ls) ≡ Some f → followed.followed p params memory a.path ≡ Some f
@@ -178,7 +195,8 @@ module _ (p : NumberedProgram) (registers : ℕ → Option ℕ) (memory : ByteRa
           }
 
       -- from the pointers that follow the argument's path
-      finish : (k : ℕ) (ks : List ℕ) (ls : Loads) → a.path.loads ≡ ls → offsets_of ls ≡ k ∷ ks → (second : Followed) → ((x : ℕ) → Contains second.pointers x → IsLoaded xs (frame_of x)) → l.at.last ≡ second.last → Behind w k ks second → Leads p params memory xs a
+      finish : (k : ℕ) (ks : List ℕ) (ls : Loads) → a.path.loads ≡ ls → offsets_of ls ≡ k ∷ ks → (second : Followed)
+          → ((x : ℕ) → Contains second.pointers x → IsLoaded xs (frame_of x)) → l.at.last ≡ second.last → Behind w k ks second → Leads p params memory xs a
       finish k ks ls t s second loaded e g = record {
         at = g.0;
         is = follows g.0 ls t (ap (followed_from memory w) s ∙ g.1);
@@ -187,26 +205,35 @@ module _ (p : NumberedProgram) (registers : ℕ → Option ℕ) (memory : ByteRa
       }
 
       -- from the loads of the argument's path, and those behind
-      split_at : (k : ℕ) (ks : List ℕ) (ls : Loads) → a.path.loads ≡ ls → offsets_of ls ≡ k ∷ ks → (j : ℕ) → q.added ≡ Some j → (w0 : ℕ) → root_value p registers q.root ≡ Some w0 → FollowsBoth memory w0 (offsets_of q.loads) (moved_offset j k ∷ ks) l.at → Leads p params memory xs a
+      split_at : (k : ℕ) (ks : List ℕ) (ls : Loads) → a.path.loads ≡ ls → offsets_of ls ≡ k ∷ ks → (j : ℕ) → q.added ≡ Some j → (w0 : ℕ)
+          → root_value p registers q.root ≡ Some w0 → FollowsBoth memory w0 (offsets_of q.loads) (moved_offset j k ∷ ks) l.at → Leads p params memory xs a
       split_at k ks ls t s j u w0 r d =
           let first : followed.followed p registers memory (root_path_of q) ≡ Some d.first = root_follows memory (offsets_of q.loads) (root_value p registers q.root) w0 r ∙ d.is_first in
           let in_first : Recorded d.first = λ z c. l.loads z (subst (λ (n : List ℕ). Contains n z) (sym d.pointers) (Contains-append_left d.first.pointers d.second.pointers z c)) in
           let word : w ≡ moved_by d.first.last (pos j) = subst (λ (z : Option ℕ). IsMoved d.first.last z w) u (h.value d.first first in_first) in
-          finish k ks ls t s d.second (λ z c. l.loads z (subst (λ (n : List ℕ). Contains n z) (sym d.pointers) (Contains-append_right d.first.pointers d.second.pointers z c))) d.last (moved_loads d.first.last j k ks w d.second word d.is_second)
+          finish k ks ls t s d.second (λ z c. l.loads z (subst (λ (n : List ℕ). Contains n z) (sym d.pointers) (Contains-append_right d.first.pointers d.second.pointers z c))) d.last
+          (moved_loads d.first.last j k ks w d.second word d.is_second)
 
       -- a first load in the callee
-      some : (k : ℕ) (ks : List ℕ) (ls : Loads) → a.path.loads ≡ ls → offsets_of ls ≡ k ∷ ks → (j : ℕ) → offsets_of (shifted j ls) ≡ moved_offset j k ∷ ks → q.added ≡ Some j → (o : Option Loads) → appended q.loads (shifted j ls) ≡ o → root_path_with q.root o ≡ Some b.path → Leads p params memory xs a
+      some : (k : ℕ) (ks : List ℕ) (ls : Loads) → a.path.loads ≡ ls → offsets_of ls ≡ k ∷ ks → (j : ℕ) → offsets_of (shifted j ls) ≡ moved_offset j k ∷ ks
+          → q.added ≡ Some j → (o : Option Loads) → appended q.loads (shifted j ls) ≡ o → root_path_with q.root o ≡ Some b.path → Leads p params memory xs a
       some k ks ls t s j s' u None v x = absurd cc
       some k ks ls t s j s' u (Some l') v x =
           let y : record { root = q.root; loads = l' } ≡ b.path = cc in
-          let f : followed.followed p registers memory (record { root = q.root; loads = l' }) ≡ Some l.at = subst (λ (z : RootPath). followed.followed p registers memory z ≡ Some l.at) (sym y) l.is in
+          let f : followed.followed p registers memory (record { root = q.root; loads = l' }) ≡ Some l.at =
+          subst (λ (z : RootPath). followed.followed p registers memory z ≡ Some l.at) (sym y) l.is in
           let r0 = follows_root memory (offsets_of l') (root_value p registers q.root) l.at f in
           let split : offsets_of l' ≡ offsets_of q.loads ++ moved_offset j k ∷ ks = appended_offsets q.loads (shifted j ls) l' v ∙ ap (λ (z : List ℕ). offsets_of q.loads ++ z) s' in
-          split_at k ks ls t s j u r0.0 r0.1 (follows_both memory r0.0 (offsets_of q.loads) (moved_offset j k ∷ ks) l.at (subst (λ (z : List ℕ). followed_from memory r0.0 z ≡ Some l.at) split r0.2))
+          split_at k ks ls t s j u r0.0 r0.1 (follows_both memory r0.0 (offsets_of q.loads) (moved_offset j k ∷ ks) l.at
+          (subst (λ (z : List ℕ). followed_from memory r0.0 z ≡ Some l.at) split r0.2))
 
-      by_added : (k : ℕ) (ks : List ℕ) (ls : Loads) → a.path.loads ≡ ls → offsets_of ls ≡ k ∷ ks → ((j : ℕ) → offsets_of (shifted j ls) ≡ moved_offset j k ∷ ks) → ((o : Option ℕ) → o ≡ None → loads_behind q.loads o ls ≡ None) → ((j : ℕ) → loads_behind q.loads (Some j) ls ≡ appended q.loads (shifted j ls)) → (o : Option ℕ) → q.added ≡ o → root_path_with q.root (loads_behind q.loads o ls) ≡ Some b.path → Leads p params memory xs a
-      by_added k ks ls t s s' none more None u v = absurd (let z = none None refl in let y : root_path_with q.root None ≡ Some b.path = subst (λ (o : Option Loads). root_path_with q.root o ≡ Some b.path) z v in cc)
-      by_added k ks ls t s s' none more (Some j) u v = some k ks ls t s j (s' j) u (appended q.loads (shifted j ls)) refl (subst (λ (o : Option Loads). root_path_with q.root o ≡ Some b.path) (more j) v)
+      by_added : (k : ℕ) (ks : List ℕ) (ls : Loads) → a.path.loads ≡ ls → offsets_of ls ≡ k ∷ ks → ((j : ℕ) → offsets_of (shifted j ls) ≡ moved_offset j k ∷ ks)
+          → ((o : Option ℕ) → o ≡ None → loads_behind q.loads o ls ≡ None) → ((j : ℕ) → loads_behind q.loads (Some j) ls ≡ appended q.loads (shifted j ls))
+          → (o : Option ℕ) → q.added ≡ o → root_path_with q.root (loads_behind q.loads o ls) ≡ Some b.path → Leads p params memory xs a
+      by_added k ks ls t s s' none more None u v = absurd (let z = none None refl in
+          let y : root_path_with q.root None ≡ Some b.path = subst (λ (o : Option Loads). root_path_with q.root o ≡ Some b.path) z v in cc)
+      by_added k ks ls t s s' none more (Some j) u v = some k ks ls t s j (s' j) u (appended q.loads (shifted j ls)) refl
+          (subst (λ (o : Option Loads). root_path_with q.root o ≡ Some b.path) (more j) v)
 
       none_behind : (ls : Loads) → (ls ≡ Never → ⊥) → (o : Option ℕ) → o ≡ None → loads_behind q.loads o ls ≡ None
       none_behind Never n o z = absurd (n refl)

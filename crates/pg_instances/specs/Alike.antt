@@ -37,7 +37,8 @@ pub record IsAlike (p : NumberedProgram) (m : Moment) (registers : ℕ → Optio
 
 -- a thread in state l, in frame f on lower frames, stands at the branch x with this region, which was recorded as freeable; and
 -- in s its paths are alike
-pub record IsAlikeBranch (p : NumberedProgram) (gated : ℕ → Bool) (sums : ℕ → Option RootedList) (r : Region) (q : FreeRegion) (m : Moment) (s : State) (l : LocalState) (f : Frame) (fs : List Frame) (x : Instr) : Type 0 where
+pub record IsAlikeBranch (p : NumberedProgram) (gated : ℕ → Bool) (sums : ℕ → Option RootedList) (r : Region) (q : FreeRegion) (m : Moment) (s : State) (l : LocalState) (f : Frame)
+    (fs : List Frame) (x : Instr) : Type 0 where
   pub program : IsProgram p
   pub summaries : AreSummaries p gated sums
   pub begun : l.begun ≡ true
@@ -51,5 +52,6 @@ pub record IsAlikeBranch (p : NumberedProgram) (gated : ℕ → Bool) (sums : �
   pub alike : (a : Rooted) → Contains r.accesses.items a → IsAlike p m (registers_by f.registers) (read s.memory) a.path
 
 abbrev pub AlikeStatesBeginInstances : Type 0
-AlikeStatesBeginInstances = (p : NumberedProgram) (gated : ℕ → Bool) (sums : ℕ → Option RootedList) (r : Region) (q : FreeRegion) (m : Moment) (s : State) (l : LocalState) (f : Frame) (fs : List Frame) (x : Instr) → IsAlikeBranch p gated sums r q m s l f fs x →
+AlikeStatesBeginInstances = (p : NumberedProgram) (gated : ℕ → Bool) (sums : ℕ → Option RootedList) (r : Region) (q : FreeRegion) (m : Moment) (s : State) (l : LocalState) (f : Frame)
+    (fs : List Frame) (x : Instr) → IsAlikeBranch p gated sums r q m s l f fs x →
     IsAtBranch (instance_of p gated sums r q s l f fs)

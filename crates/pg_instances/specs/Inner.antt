@@ -43,7 +43,8 @@ pub record LiesWithin (outer inner : Region) (I : Instance) (s : State) (frame :
   pub nested : length below ≡ length I.lower → AreNested outer inner
 
 abbrev pub InnerRegionsLieWithin : Type 0
-InnerRegionsLieWithin = (p : NumberedProgram) (gated : List InstrId) (sums : ℕ → Option RootedList) (input : List ℤ) (c : ℕ) (outer inner : Region) (q : FreeRegion) (first s : State) (l0 l : LocalState) (f0 frame : Frame) (fs0 below : List Frame) (t : ℕ) (x : Instr) →
+InnerRegionsLieWithin = (p : NumberedProgram) (gated : List InstrId) (sums : ℕ → Option RootedList) (input : List ℤ) (c : ℕ) (outer inner : Region) (q : FreeRegion) (first s : State)
+    (l0 l : LocalState) (f0 frame : Frame) (fs0 below : List Frame) (t : ℕ) (x : Instr) →
     IsRegion p (λ i. is_gated gated i) sums c outer → GoesOnInside (instance_of p (λ i. is_gated gated i) sums outer q first l0 f0 fs0) gated input s t l →
     l.frames ≡ frame ∷ below → slice_get p.instrs frame.place ≡ Some x → IsRegion p (λ i. is_gated gated i) sums x.block.0 inner →
     LiesWithin outer inner (instance_of p (λ i. is_gated gated i) sums outer q first l0 f0 fs0) s frame below

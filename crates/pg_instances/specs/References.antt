@@ -27,5 +27,6 @@ pub record IsReferenceRun (p : NumberedProgram) (input : List ℤ) (turns : List
   pub exits : following_of p input turns gated ≡ Exits xs printed value
 
 abbrev pub ReferenceRunsKeepExtents : Type 0
-ReferenceRunsKeepExtents = (p : NumberedProgram) (input : List ℤ) (turns : List Turn) (gated : List InstrId) (sums : ℕ → Option RootedList) (regions : Regions) (xs : List Step) → IsReferenceRun p input turns gated sums regions xs →
+ReferenceRunsKeepExtents = (p : NumberedProgram) (input : List ℤ) (turns : List Turn) (gated : List InstrId) (sums : ℕ → Option RootedList) (regions : Regions) (xs : List Step)
+    → IsReferenceRun p input turns gated sums regions xs →
     ExtentsKeep (record { program = p; regions = regions; moments = moments_of gated p input xs })

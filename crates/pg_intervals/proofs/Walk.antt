@@ -1,30 +1,22 @@
 -- What the two passes over a trace keep: forward the last turn of each thread, backward the next.
-use Rattle.std.proofs.Common.{◌≡◌, ◌≢◌, ℕ, ◌+◌, ◌-◌, ◌<◌, ◌≤◌, ◌⊎◌, Bool, true, false, List, [], ◌∷◌, ◌++◌, length, map, take, drop, set, get_or, Some, refl, sym, ap, ◌∙◌, subst, arith, zero, suc, inl, inr}
+use Rattle.std.proofs.Common.{◌≡◌, ℕ, ◌+◌, ◌-◌, ◌<◌, ◌≤◌, ◌⊎◌, Bool, true, false, List, [], ◌∷◌, ◌++◌, length, map, take, drop, set, get_or, Some}
+use Rattle.std.proofs.Common.{refl, sym, ap, ◌∙◌, subst, arith, zero, suc, inl, inr}
 use Rattle.std.specs.Prelude.{slice_get}
 use Rattle.std.proofs.Common.{append-nil}
 use Rattle.std.proofs.lemmas.Bool.{cases_eq}
 use Rattle.std.proofs.lemmas.List.{get_or-set_same, get_or-set_other, length-set, map-append}
 use Rattle.pg_plans.specs.Steps.{View}
-use Rattle.pg_plans.specs.Intervals.{last_before, next_from, done_after, turns_done, Timed, timed, times, AreTurns, owners}
-use Rattle.pg_plans.proofs.Turns.{last_up, last_own, last_other, next_up, next_own, next_other, next_from_end, owner_below}
-use Rattle.pg_plans.proofs.Times.{turns_right_of, done_append, within_end}
+use Rattle.pg_plans.specs.Intervals.{last_before, next_from, done_after, turns_done, timed, times, AreTurns, owners}
+use Rattle.pg_plans.proofs.Turns.{last_own, last_other, next_up, next_own, next_other, next_from_end, owner_below}
+use Rattle.pg_plans.proofs.Times.{turns_right_of, done_append}
 use Rattle.pg_plans.proofs.Owners.{own_turns, owners_done, times_append, times_length}
 use Rattle.pg_trace.specs.declared.step.Step.{Step}
 use Rattle.pg_trace.specs.Races.{timed_by}
 use Rattle.pg_intervals.specs.declared.interval.Interval.{Interval}
 use Rattle.pg_intervals.specs.Intervals.{from_low, interval_of}
+use Rattle.pg_plans.proofs.Walks.{drop_get, take_get}
 
 -- ---- lists
-
-pub take_get : {A : Type 0} (xs : List A) (i : ℕ) (x : A) → slice_get xs i ≡ Some x → take (i + 1) xs ≡ take i xs ++ x ∷ []
-take_get [] i x h = absurd (cc)
-take_get (y ∷ xs) zero x h = let q : y ≡ x = cc in ap (λ z. z ∷ []) q
-take_get (y ∷ xs) (suc i) x h = let ih = take_get xs i x h in let e : suc i + 1 ≡ suc (i + 1) = omega arith in rw e (ap (λ l. y ∷ l) ih)
-
-pub drop_get : {A : Type 0} (xs : List A) (i : ℕ) (x : A) → slice_get xs i ≡ Some x → drop i xs ≡ x ∷ drop (i + 1) xs
-drop_get [] i x h = absurd (cc)
-drop_get (y ∷ xs) zero x h = let q : y ≡ x = cc in ap (λ z. z ∷ xs) q
-drop_get (y ∷ xs) (suc i) x h = let ih = drop_get xs i x h in let e : suc i + 1 ≡ suc (i + 1) = omega arith in rw e ih
 
 take_drop_all : {A : Type 0} (i : ℕ) (xs : List A) → take i xs ++ drop i xs ≡ xs
 take_drop_all zero xs = refl
@@ -70,7 +62,8 @@ module _ (V : View Step) (xs : List Step) where
       grow k [] = omega arith
       grow k (y ∷ ys) = go (V.is_event y) refl (grow (suc k) ys) (grow k ys)
         where
-          go : (e : Bool) → V.is_event y ≡ e → turns_done V (suc k) ys ≤ suc k + length ys → turns_done V k ys ≤ k + length ys → turns_done V (done_after (V.is_event y) k) ys ≤ k + suc (length ys)
+          go : (e : Bool) → V.is_event y ≡ e → turns_done V (suc k) ys ≤ suc k + length ys → turns_done V k ys ≤ k + length ys
+              → turns_done V (done_after (V.is_event y) k) ys ≤ k + suc (length ys)
           go true w a b = rw w (omega (arith, a))
           go false w a b = rw w (omega (arith, b))
 
@@ -83,14 +76,16 @@ module _ (V : View Step) (xs : List Step) where
   abbrev pub AreLast : ℕ → List ℕ → Type 0
   AreLast k last = (length last ≡ 256) × ((u : ℕ) → u < 256 → get_or last u 0 ≡ last_before u T k)
 
-  pub last_event : (i : ℕ) (x : Step) (last : List ℕ) → slice_get xs i ≡ Some x → V.is_event x ≡ true → V.thread x < 256 → AreLast (before i) last → AreLast (before i + 1) (set last (V.thread x) (before i + 1))
+  pub last_event : (i : ℕ) (x : Step) (last : List ℕ) → slice_get xs i ≡ Some x → V.is_event x ≡ true → V.thread x < 256 → AreLast (before i) last
+      → AreLast (before i + 1) (set last (V.thread x) (before i + 1))
   last_event i x last h v lt a = (length-set last (V.thread x) (before i + 1) ∙ a.0, λ u l. go u l (cases_eq u (V.thread x)))
     where
       e : before i + 1 ≡ suc (before i)
       e = omega arith
 
       go : (u : ℕ) → u < 256 → (u ≡ V.thread x) ⊎ (u ≡ V.thread x → ⊥) → get_or (set last (V.thread x) (before i + 1)) u 0 ≡ last_before u T (before i + 1)
-      go u l (inl q) = let z = a.0 in rw q (get_or-set_same last (V.thread x) (before i + 1) 0 (omega (arith, z, lt)) ∙ e ∙ sym (ap (last_before (V.thread x) T) e ∙ last_own (V.thread x) T (before i) (turn_here i x h v)))
+      go u l (inl q) = let z = a.0 in rw q (get_or-set_same last (V.thread x) (before i + 1) 0 (omega (arith, z, lt)) ∙ e
+          ∙ sym (ap (last_before (V.thread x) T) e ∙ last_own (V.thread x) T (before i) (turn_here i x h v)))
       go u l (inr n) = get_or-set_other last (V.thread x) u (before i + 1) 0 n ∙ a.1 u l ∙ sym (ap (last_before u T) e ∙ last_other u T (before i) (λ o. n (let z = turn_here i x h v in cc)))
 
   -- what the pass keeps: the steps so far with their last turns, the turns done, and the last turn of each thread
@@ -103,20 +98,23 @@ module _ (V : View Step) (xs : List Step) where
   forward_start : (last : List ℕ) → length last ≡ 256 → ((u : ℕ) → get_or last u 0 ≡ 0) → Forward 0 [] 0 last
   forward_start last l z = record { made = refl; counted = refl; few = omega arith; lasts = (l, λ u h. z u) }
 
-  pushed : (i : ℕ) (x : Step) (items : List Interval) (low : ℕ) → slice_get xs i ≡ Some x → items ≡ map from_low (times V T 0 (take i xs)) → low ≡ last_before (V.thread x) T (before (i + 1)) →
+  pushed : (i : ℕ) (x : Step) (items : List Interval) (low : ℕ) → slice_get xs i ≡ Some x → items ≡ map from_low (times V T 0 (take i xs))
+      → low ≡ last_before (V.thread x) T (before (i + 1)) →
       items ++ (record { low = low; high = 0 }) ∷ [] ≡ map from_low (times V T 0 (take (i + 1) xs))
   pushed i x items low h e q =
       let z : last_before (V.thread x) T (before (i + 1)) ≡ last_before (V.thread x) T (done_after (V.is_event x) (before i)) = ap (last_before (V.thread x) T) (before_next i x h) in
       ap (λ n. items ++ (record { low = n; high = 0 }) ∷ []) (q ∙ z) ∙ ap (λ l. l ++ from_low (timed V T (before i) x) ∷ []) e
       ∙ sym (ap (map from_low) (times_next i x h) ∙ map-append from_low (times V T 0 (take i xs)) (timed V T (before i) x ∷ []))
 
-  pub forward_event : (i : ℕ) (x : Step) (items : List Interval) (done : ℕ) (last : List ℕ) → slice_get xs i ≡ Some x → V.is_event x ≡ true → V.thread x < 256 → Forward i items done last →
+  pub forward_event : (i : ℕ) (x : Step) (items : List Interval) (done : ℕ) (last : List ℕ) → slice_get xs i ≡ Some x → V.is_event x ≡ true → V.thread x < 256
+      → Forward i items done last →
       Forward (i + 1) (items ++ (record { low = get_or (set last (V.thread x) (done + 1)) (V.thread x) 0; high = 0 }) ∷ []) (done + 1) (set last (V.thread x) (done + 1))
   forward_event i x items done last h v lt f =
       let d = f.counted in
       let few = f.few in
       let next : done + 1 ≡ before (i + 1) = let n = before_next i x h in let q : done_after (V.is_event x) (before i) ≡ suc (before i) = rw v refl in omega (arith, n, q, d) in
-      let a : AreLast (done + 1) (set last (V.thread x) (done + 1)) = subst (λ k. AreLast (k + 1) (set last (V.thread x) (k + 1))) (sym d) (last_event i x last h v lt (subst (λ k. AreLast k last) d f.lasts)) in
+      let a : AreLast (done + 1) (set last (V.thread x) (done + 1)) = subst (λ k. AreLast (k + 1) (set last (V.thread x) (k + 1))) (sym d)
+      (last_event i x last h v lt (subst (λ k. AreLast k last) d f.lasts)) in
       record {
         made = pushed i x items (get_or (set last (V.thread x) (done + 1)) (V.thread x) 0) h f.made (a.1 (V.thread x) lt ∙ ap (last_before (V.thread x) T) next);
         counted = next;
@@ -124,7 +122,8 @@ module _ (V : View Step) (xs : List Step) where
         lasts = a;
       }
 
-  pub forward_plain : (i : ℕ) (x : Step) (items : List Interval) (done : ℕ) (last : List ℕ) → slice_get xs i ≡ Some x → V.is_event x ≡ false → V.thread x < 256 → Forward i items done last →
+  pub forward_plain : (i : ℕ) (x : Step) (items : List Interval) (done : ℕ) (last : List ℕ) → slice_get xs i ≡ Some x → V.is_event x ≡ false → V.thread x < 256
+      → Forward i items done last →
       Forward (i + 1) (items ++ (record { low = get_or last (V.thread x) 0; high = 0 }) ∷ []) done last
   forward_plain i x items done last h v lt f =
       let d = f.counted in
@@ -182,9 +181,11 @@ module _ (V : View Step) (xs : List Step) where
     front_length = length_map from_low (times V T 0 (take i xs)) ∙ times_length V T 0 (take i xs) ∙ length_take i xs x here
 
     -- the list before and after the step got its next turn
-    parted : (items : List Interval) → items ≡ map from_low (times V T 0 (take (i + 1) xs)) ++ map interval_of (times V T (before (i + 1)) (drop (i + 1) xs)) → items ≡ front ++ from_low (timed V T (before i) x) ∷ rest
+    parted : (items : List Interval) → items ≡ map from_low (times V T 0 (take (i + 1) xs)) ++ map interval_of (times V T (before (i + 1)) (drop (i + 1) xs))
+        → items ≡ front ++ from_low (timed V T (before i) x) ∷ rest
     unfolding front rest
-    parted items e = e ∙ ap (λ l. l ++ rest) (ap (map from_low) (times_next i x here) ∙ map-append from_low (times V T 0 (take i xs)) (timed V T (before i) x ∷ [])) ∙ append_one front rest (from_low (timed V T (before i) x))
+    parted items e = e ∙ ap (λ l. l ++ rest) (ap (map from_low) (times_next i x here) ∙ map-append from_low (times V T 0 (take i xs)) (timed V T (before i) x ∷ []))
+        ∙ append_one front rest (from_low (timed V T (before i) x))
 
     joined : front ++ interval_of (timed V T (before i) x) ∷ rest ≡ map from_low (times V T 0 (take i xs)) ++ map interval_of (times V T (before i) (drop i xs))
     unfolding front rest
@@ -192,10 +193,13 @@ module _ (V : View Step) (xs : List Step) where
 
     -- the step's interval as it stands
     pub found : (items : List Interval) (due : ℕ) (next : List ℕ) → Backward (i + 1) items due next → slice_get items i ≡ Some (from_low (timed V T (before i) x))
-    found items due next b = ap (λ l. slice_get l i) (parted items b.made) ∙ ap (slice_get (front ++ from_low (timed V T (before i) x) ∷ rest)) (sym front_length) ∙ get_middle front (from_low (timed V T (before i) x)) rest
+    found items due next b = ap (λ l. slice_get l i) (parted items b.made) ∙ ap (slice_get (front ++ from_low (timed V T (before i) x) ∷ rest)) (sym front_length)
+        ∙ get_middle front (from_low (timed V T (before i) x)) rest
 
-    filled : (items : List Interval) (high : ℕ) → items ≡ map from_low (times V T 0 (take (i + 1) xs)) ++ map interval_of (times V T (before (i + 1)) (drop (i + 1) xs)) → high ≡ next_from (V.thread x) T (before i) →
-        set items i (record { low = last_before (V.thread x) T (done_after (V.is_event x) (before i)); high = high }) ≡ map from_low (times V T 0 (take i xs)) ++ map interval_of (times V T (before i) (drop i xs))
+    filled : (items : List Interval) (high : ℕ) → items ≡ map from_low (times V T 0 (take (i + 1) xs)) ++ map interval_of (times V T (before (i + 1)) (drop (i + 1) xs))
+        → high ≡ next_from (V.thread x) T (before i) →
+        set items i (record { low = last_before (V.thread x) T (done_after (V.is_event x) (before i)); high = high }) ≡ map from_low (times V T 0 (take i xs))
+        ++ map interval_of (times V T (before i) (drop i xs))
     filled items high e q =
         ap (λ h. set items i (record { low = last_before (V.thread x) T (done_after (V.is_event x) (before i)); high = h })) q
         ∙ ap (λ l. set l i (interval_of (timed V T (before i) x))) (parted items e)
@@ -203,7 +207,8 @@ module _ (V : View Step) (xs : List Step) where
         ∙ set_middle front (from_low (timed V T (before i) x)) (interval_of (timed V T (before i) x)) rest
         ∙ joined
 
-    next_event : (due : ℕ) (next : List ℕ) → V.is_event x ≡ true → V.thread x < 256 → due ≡ before (i + 1) → AreNext due next → (due - 1 ≡ before i) × AreNext (due - 1) (set next (V.thread x) (due - 1))
+    next_event : (due : ℕ) (next : List ℕ) → V.is_event x ≡ true → V.thread x < 256 → due ≡ before (i + 1) → AreNext due next
+        → (due - 1 ≡ before i) × AreNext (due - 1) (set next (V.thread x) (due - 1))
     next_event due next v lt d a =
         let n = before_next i x here in
         let q : done_after (V.is_event x) (before i) ≡ suc (before i) = rw v refl in
@@ -211,13 +216,16 @@ module _ (V : View Step) (xs : List Step) where
         let f : due ≡ suc (before i) = omega (arith, n, q, d) in
         (e, (length-set next (V.thread x) (due - 1) ∙ a.0, λ u l. go u l e f (cases_eq u (V.thread x))))
       where
-        go : (u : ℕ) → u < 256 → due - 1 ≡ before i → due ≡ suc (before i) → (u ≡ V.thread x) ⊎ (u ≡ V.thread x → ⊥) → get_or (set next (V.thread x) (due - 1)) u 0 ≡ next_from u T (due - 1)
-        go u l e f (inl q) = let z = a.0 in rw q (get_or-set_same next (V.thread x) (due - 1) 0 (omega (arith, z, lt)) ∙ e ∙ sym (ap (next_from (V.thread x) T) e ∙ next_own (V.thread x) T (before i) (turn_here i x here v)))
+        go : (u : ℕ) → u < 256 → due - 1 ≡ before i → due ≡ suc (before i) → (u ≡ V.thread x) ⊎ (u ≡ V.thread x → ⊥)
+            → get_or (set next (V.thread x) (due - 1)) u 0 ≡ next_from u T (due - 1)
+        go u l e f (inl q) = let z = a.0 in rw q (get_or-set_same next (V.thread x) (due - 1) 0 (omega (arith, z, lt)) ∙ e
+            ∙ sym (ap (next_from (V.thread x) T) e ∙ next_own (V.thread x) T (before i) (turn_here i x here v)))
         go u l e f (inr m) = get_or-set_other next (V.thread x) u (due - 1) 0 m ∙ a.1 u l ∙ ap (next_from u T) f
             ∙ sym (ap (next_from u T) e ∙ next_other u T (before i) (owner_below T (before i) (V.thread x) (turn_here i x here v)) (λ o. m (let z = turn_here i x here v in cc)))
 
     pub backward_event : (items : List Interval) (due : ℕ) (next : List ℕ) → V.is_event x ≡ true → V.thread x < 256 → Backward (i + 1) items due next →
-        Backward i (set items i (record { low = last_before (V.thread x) T (done_after (V.is_event x) (before i)); high = get_or (set next (V.thread x) (due - 1)) (V.thread x) 0 })) (due - 1) (set next (V.thread x) (due - 1))
+        Backward i (set items i (record { low = last_before (V.thread x) T (done_after (V.is_event x) (before i)); high = get_or (set next (V.thread x) (due - 1)) (V.thread x) 0 })) (due - 1)
+        (set next (V.thread x) (due - 1))
     backward_event items due next v lt b =
         let n = next_event due next v lt b.counted b.nexts in
         record { made = filled items (get_or (set next (V.thread x) (due - 1)) (V.thread x) 0) b.made (n.1.1 (V.thread x) lt ∙ ap (next_from (V.thread x) T) n.0); counted = n.0; nexts = n.1 }
@@ -247,15 +255,18 @@ module _ (V : View Step) (xs : List Step) where
   pub forward_end : (items : List Interval) (done : ℕ) (last : List ℕ) → Forward (length xs) items done last → (items ≡ map from_low (timed_by V xs)) × (done ≡ turns_done V 0 xs)
   forward_end items done last f = (f.made ∙ ap (λ l. map from_low (times V T 0 l)) (take_all xs), f.counted ∙ before_all)
 
-  pub backward_start : (items : List Interval) (total : ℕ) (next : List ℕ) → items ≡ map from_low (timed_by V xs) → total ≡ turns_done V 0 xs → length next ≡ 256 → ((u : ℕ) → u < 256 → get_or next u 0 ≡ total) → Backward (length xs) items total next
+  pub backward_start : (items : List Interval) (total : ℕ) (next : List ℕ) → items ≡ map from_low (timed_by V xs) → total ≡ turns_done V 0 xs → length next ≡ 256
+      → ((u : ℕ) → u < 256 → get_or next u 0 ≡ total) → Backward (length xs) items total next
   backward_start items total next e q l a = record {
-    made = e ∙ ap (λ ys. map from_low (times V T 0 ys)) (sym (take_all xs)) ∙ sym (append-nil (map from_low (times V T 0 (take (length xs) xs)))) ∙ ap (λ ys. map from_low (times V T 0 (take (length xs) xs)) ++ map interval_of (times V T (before (length xs)) ys)) (sym (drop_all xs));
+    made = e ∙ ap (λ ys. map from_low (times V T 0 ys)) (sym (take_all xs)) ∙ sym (append-nil (map from_low (times V T 0 (take (length xs) xs))))
+        ∙ ap (λ ys. map from_low (times V T 0 (take (length xs) xs)) ++ map interval_of (times V T (before (length xs)) ys)) (sym (drop_all xs));
     counted = q ∙ sym before_all;
     nexts = (l, λ u h. a u h ∙ q ∙ end u);
   }
     where
       end : (u : ℕ) → turns_done V 0 xs ≡ next_from u T total
-      end u = let t = owners_done V 0 xs in let z : total ≡ length T = omega (arith, t, q) in let up = next_up u T total (omega (arith, z)) in let down = next_from_end u T total in omega (arith, t, q, up, down)
+      end u = let t = owners_done V 0 xs in let z : total ≡ length T = omega (arith, t, q) in let up = next_up u T total (omega (arith, z)) in let down =
+          next_from_end u T total in omega (arith, t, q, up, down)
 
   pub backward_end : (items : List Interval) (due : ℕ) (next : List ℕ) → Backward 0 items due next → items ≡ map interval_of (timed_by V xs)
   backward_end items due next b = b.made
@@ -263,7 +274,8 @@ module _ (V : View Step) (xs : List Step) where
   pub items_length : (i : ℕ) (items : List Interval) (due : ℕ) (next : List ℕ) → Backward i items due next → length items ≡ length xs
   items_length i items due next b =
       ap length b.made ∙ length_append (map from_low (times V T 0 (take i xs))) (map interval_of (times V T (before i) (drop i xs)))
-      ∙ sums (length_map from_low (times V T 0 (take i xs)) ∙ times_length V T 0 (take i xs)) (length_map interval_of (times V T (before i) (drop i xs)) ∙ times_length V T (before i) (drop i xs))
+      ∙ sums (length_map from_low (times V T 0 (take i xs)) ∙ times_length V T 0 (take i xs))
+      (length_map interval_of (times V T (before i) (drop i xs)) ∙ times_length V T (before i) (drop i xs))
       ∙ sym (length_append (take i xs) (drop i xs)) ∙ ap length (take_drop_all i xs)
     where
       length_append : {A : Type 0} (ys zs : List A) → length (ys ++ zs) ≡ length ys + length zs

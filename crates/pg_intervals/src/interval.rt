@@ -1,3 +1,5 @@
+//! The interval of each step among the turns.
+
 ghost use Rattle.std.specs.Prelude.{◌≡◌, IfOk, map};
 ghost use Rattle.pg_intervals.specs.Intervals.{from_low, intervals_of, view_of};
 ghost use Rattle.pg_plans.specs.Intervals.{turns_done};

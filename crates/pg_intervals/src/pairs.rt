@@ -1,3 +1,5 @@
+//! Whether two steps race.
+
 ghost use Rattle.std.specs.Prelude.{◌≡◌, ◌<◌, Some, length, slice_get};
 ghost use Rattle.pg_intervals.specs.Intervals.{intervals_of, view_of};
 ghost use Rattle.pg_intervals.specs.declared.interval.Turns.{Turns};

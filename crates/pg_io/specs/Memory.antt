@@ -1,5 +1,5 @@
 -- What contracts see of a source and a sink in memory, and what each call on them gives.
-use Rattle.std.specs.Prelude.{ℕ, ◌+◌, min, Bool, not, ◌&&◌, ◌||◌, ◌==◌, nat_lt, List, ◌++◌, length, drop}
+use Rattle.std.specs.Prelude.{ℕ, ◌+◌, min, Bool, not, ◌&&◌, ◌||◌, ◌==◌, nat_lt, List, [], ◌++◌, length, drop}
 use Rattle.std.specs.List.{list_any}
 use Rattle.pg_io.specs.Faults.{raised}
 
@@ -21,6 +21,10 @@ pub record MemorySinkState : Type 0 where
   pub failing : List ℕ
   pub calls : ℕ
   pub count : ℕ
+
+-- a sink before the first call, with this room
+abbrev pub empty_sink : ℕ → List ℕ → MemorySinkState
+empty_sink room failing = record { bytes = []; room = room; failing = failing; calls = 0; count = 0 }
 
 -- the bytes that are left, and how many of them a call gives at most
 pub record SureSourceState : Type 0 where

@@ -1,7 +1,7 @@
 //! A source and a sink in memory, whose calls fail where they are told to, and a source that never
 //! fails. What each call gives is pinned by its contract.
 ghost use Rattle.std.specs.Prelude.{◌≡◌, ◌↔◌, ◌≤◌, ◌<◌, ℕ, [], true, false, not, length, take, drop, Some, IsTrue, IsErr, IfOk, OnOk, OnErr};
-ghost use Rattle.pg_io.specs.Memory.{read_fails, given_count, after_failed_read, after_read, write_fails, after_failed_write, after_write};
+ghost use Rattle.pg_io.specs.Memory.{read_fails, given_count, after_failed_read, after_read, empty_sink, write_fails, after_failed_write, after_write};
 
 use crate::fault::Failed;
 use crate::sink::Sink;
@@ -184,13 +184,7 @@ impl MemorySink {
     /// A sink with room for this many bytes. The calls whose numbers, from 0, are in `failing` fail,
     /// and so does each one whose piece does not fit into the room that is left.
     pub fn new(alloc: Global, room: usize, failing: Vec<u64>) -> Result<MemorySink, AllocError>
-        ensures { IfOk result (λ s. s ≡ record {
-          bytes = [];
-          room = room;
-          failing = failing.items;
-          calls = 0;
-          count = 0;
-        }) }
+        ensures { IfOk result (λ s. s ≡ empty_sink room failing.items) }
     {
         Ok(MemorySink {
             bytes: Vec::with_capacity(alloc, room)?,

@@ -1,8 +1,10 @@
 //! A sink in memory that takes a part of a long piece.
-ghost use Rattle.std.specs.Prelude.{◌≡◌, ◌↔◌, ◌≤◌, ◌<◌, [], length, Some, IsTrue, IsErr, IfOk, OnOk, OnErr};
+ghost use Rattle.std.specs.Prelude.{◌≡◌, ◌↔◌, ◌≤◌, ◌<◌, length, Some, IsTrue, IsErr, IfOk, OnOk, OnErr};
+ghost use Rattle.pg_io.specs.Memory.{empty_sink};
 ghost use Rattle.pg_io.specs.ShortSinks.{short_count, short_write_fails, after_failed_short_write, after_short_write};
 
 use crate::fault::Failed;
+use crate::memory::MemorySink;
 use crate::sink::Sink;
 use std::alloc::{AllocError, Global};
 use std::marker::Model;
@@ -10,34 +12,19 @@ use std::marker::Model;
 /// A sink that keeps what it takes, at most `piece` bytes a call.
 #[derive(Drop)]
 pub struct ShortSink {
-    bytes: Vec<u8>,
-    room: usize,
+    sink: MemorySink,
     piece: usize,
-    failing: Vec<u64>,
-    calls: u64,
-    count: u64,
 }
 
 impl Model for ShortSink {
-    ghost use Rattle.std.specs.Prelude.{◌<◌, ◌≤◌, vec_len, vec_capacity};
+    ghost use Rattle.std.specs.Prelude.{◌<◌};
     ghost use Rattle.pg_io.specs.ShortSinks.{ShortSinkState};
 
     ghost Value = { ShortSinkState };
 
-    ghost view = { λ s. record {
-      bytes = s.bytes.items;
-      room = s.room;
-      piece = s.piece;
-      failing = s.failing.items;
-      calls = s.calls;
-      count = s.count;
-    } };
+    ghost view = { λ s. record { sink = s.sink; piece = s.piece } };
 
-    ghost invariant = { λ s. record {
-      within : vec_len s.bytes ≤ s.room;
-      reserved : s.room ≤ vec_capacity s.bytes;
-      some : 0 < s.piece;
-    } };
+    ghost invariant = { λ s. 0 < s.piece };
 }
 
 impl ShortSink {
@@ -50,37 +37,26 @@ impl ShortSink {
         failing: Vec<u64>,
     ) -> Result<ShortSink, AllocError>
         requires { 0 < piece }
-        ensures { IfOk result (λ s. s ≡ record {
-          bytes = [];
-          room = room;
-          piece = piece;
-          failing = failing.items;
-          calls = 0;
-          count = 0;
-        }) }
+        ensures { IfOk result (λ s. s ≡ record { sink = empty_sink room failing.items; piece = piece }) }
     {
         Ok(ShortSink {
-            bytes: Vec::with_capacity(alloc, room)?,
-            room,
+            sink: MemorySink::new(alloc, room, failing)?,
             piece,
-            failing,
-            calls: 0,
-            count: 0,
         })
     }
 
     /// The bytes that were taken.
     pub fn bytes(&self) -> &[u8]
-        ensures { result.now ≡ self.now.bytes }
+        ensures { result.now ≡ self.now.sink.bytes }
     {
-        &self.bytes
+        self.sink.bytes()
     }
 }
 
 impl Sink for ShortSink {
-    ghost taken = { λ s. Some s.bytes };
+    ghost taken = { λ s. Some s.sink.bytes };
 
-    ghost faults = { λ s. s.count };
+    ghost faults = { λ s. s.sink.count };
 
     fn write(&mut self, piece: &[u8]) -> Result<usize, Failed>
         requires { 0 < length piece.now }
@@ -89,16 +65,9 @@ impl Sink for ShortSink {
         ensures some { IfOk result (λ n. 0 < n) }
         ensures after { OnOk result (self.new ≡ after_short_write piece.now self.old) }
         ensures after_failed { OnErr result (self.new ≡ after_failed_short_write self.old) }
-        ensures count_never_falls { self.old.count ≤ self.new.count }
+        ensures count_never_falls { self.old.sink.count ≤ self.new.sink.count }
     {
         let n = self.piece.min(piece.len());
-        let fails = self.failing.contains(&self.calls) || self.room - self.bytes.len() < n;
-        self.calls = self.calls.saturating_add(1);
-        if fails {
-            self.count = self.count.saturating_add(1);
-            return Err(Failed);
-        }
-        self.bytes.extend_from_slice(&piece[..n]).unwrap();
-        Ok(n)
+        self.sink.write(&piece[..n])
     }
 }

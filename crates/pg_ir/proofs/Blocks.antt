@@ -1,5 +1,6 @@
 -- What stands in a basic block: its phis, and behind them an instruction of another kind.
-use Rattle.std.proofs.Common.{◌≡◌, ℕ, ◌+◌, ◌-◌, ◌<◌, ◌≤◌, List, [], ◌∷◌, length, zero, suc, Bool, true, false, Option, Some, None, arith, refl, sym, ◌∙◌, subst, ap, IsTrue, get_or, take, drop, cond, ◌⊎◌, inl, inr}
+use Rattle.std.proofs.Common.{◌≡◌, ℕ, ◌+◌, ◌-◌, ◌<◌, ◌≤◌, List, [], ◌∷◌, length, zero, suc, Bool, true, false, Option, Some, None, arith, refl, sym}
+use Rattle.std.proofs.Common.{◌∙◌, subst, ap, IsTrue, get_or, take, drop, cond, ◌⊎◌, inl, inr}
 use Rattle.std.specs.Prelude.{slice_get, slice_range, take_while}
 use Rattle.std.specs.List.{AllByRecursion, prefix_len}
 use Rattle.std.proofs.lemmas.Option.{slice_get_within, get_or_from_slice_get}
@@ -51,7 +52,8 @@ in_block : (b : ℕ) (x : Instr) (o : Option Instr) → o ≡ Some x → IsInBlo
 in_block b x None e h = absurd h
 in_block b x (Some y) e h = let same : y ≡ x = cc in subst (λ (z : Instr). z.block.0 ≡ b) same h
 
-pub got_in_block : (p : NumberedProgram) (b k : ℕ) (x : Instr) → IsProgram p → slice_get (instrs_of p b) k ≡ Some x → (slice_get p.instrs (first_of p b + k) ≡ Some x) × (x.block.0 ≡ b) × (first_of p b + k < end_of p b)
+pub got_in_block : (p : NumberedProgram) (b k : ℕ) (x : Instr) → IsProgram p → slice_get (instrs_of p b) k ≡ Some x
+    → (slice_get p.instrs (first_of p b + k) ≡ Some x) × (x.block.0 ≡ b) × (first_of p b + k < end_of p b)
 unfolding instrs_of first_of end_of
 got_in_block p b k x program e =
     let at : slice_get p.instrs (first_of p b + k) ≡ Some x = got_in_range p.instrs (first_of p b) (end_of p b) k x e in
@@ -61,7 +63,8 @@ got_in_block p b k x program e =
 
 -- ---- the phis of a block can be taken
 
-starts_with : (P : Instr → Type 0) (xs : List Instr) → ((k : ℕ) (x : Instr) → slice_get xs k ≡ Some x → is_phi x.op ≡ true → P x) → AllByRecursion P (take_while (λ (x : Instr). is_phi x.op) xs)
+starts_with : (P : Instr → Type 0) (xs : List Instr) → ((k : ℕ) (x : Instr) → slice_get xs k ≡ Some x → is_phi x.op ≡ true → P x)
+    → AllByRecursion P (take_while (λ (x : Instr). is_phi x.op) xs)
 starts_with P [] h = tt
 starts_with P (x ∷ xs) h = rw (take_while-cons (λ (x : Instr). is_phi x.op) x xs) (go (is_phi x.op) refl (starts_with P xs (λ k y. h (suc k) y)))
   where
@@ -69,7 +72,8 @@ starts_with P (x ∷ xs) h = rw (take_while-cons (λ (x : Instr). is_phi x.op) x
     go false e more = tt
     go true e more = (h 0 x refl e, more)
 
-phi_incoming : (p : NumberedProgram) (types : List Scalar) (returns result : Option Scalar) (o : Op) → is_phi o ≡ true → FitsOp p types returns result o → AllByRecursion (λ (i : Incoming). CanRead p (length types) i.value) (incoming_of o)
+phi_incoming : (p : NumberedProgram) (types : List Scalar) (returns result : Option Scalar) (o : Op) → is_phi o ≡ true → FitsOp p types returns result o
+    → AllByRecursion (λ (i : Incoming). CanRead p (length types) i.value) (incoming_of o)
 phi_incoming p types returns result (op.Phi from) e h = phi_reads p types result from h
 phi_incoming p types returns result o e h = absurd cc
 
@@ -98,7 +102,8 @@ block_entered p f b (Some x) program e h =
       few = (program.blocks b x e).few_phis;
     }
 
-all_entered : (p : NumberedProgram) (f : ℕ) (bs : List ℕ) → IsProgram p → AllByRecursion (λ (b : ℕ). IsInFunction f (slice_get p.blocks b)) bs → AllByRecursion (CanEnter p (length (types_of p f))) bs
+all_entered : (p : NumberedProgram) (f : ℕ) (bs : List ℕ) → IsProgram p → AllByRecursion (λ (b : ℕ). IsInFunction f (slice_get p.blocks b)) bs
+    → AllByRecursion (CanEnter p (length (types_of p f))) bs
 all_entered p f [] program h = tt
 all_entered p f (b ∷ bs) program h = (block_entered p f b (slice_get p.blocks b) program refl h.0, all_entered p f bs program h.1)
 
@@ -160,7 +165,8 @@ phi_is : (x : Instr) (o : Option Instr) → o ≡ Some x → IsPhi o → is_phi 
 phi_is x None e h = absurd h
 phi_is x (Some y) e h = let same : y ≡ x = cc in subst (λ (z : Instr). is_phi z.op ≡ true) same h
 
-pub goes_on_no_phi : (p : NumberedProgram) (i : ℕ) (x : Instr) → IsProgram p → slice_get p.instrs i ≡ Some x → is_terminator x.op ≡ false → is_phi x.op ≡ false → IsNoPhi (slice_get p.instrs (i + 1))
+pub goes_on_no_phi : (p : NumberedProgram) (i : ℕ) (x : Instr) → IsProgram p → slice_get p.instrs i ≡ Some x → is_terminator x.op ≡ false → is_phi x.op ≡ false
+    → IsNoPhi (slice_get p.instrs (i + 1))
 goes_on_no_phi p i x program e n f = no_phi_or p (function_of p x.block.0) (slice_get p.instrs (i + 1)) never (goes_on p i x program e n)
   where
     never : (y : Instr) → slice_get p.instrs (i + 1) ≡ Some y → is_phi y.op ≡ true → ⊥
@@ -203,7 +209,8 @@ unfolding instrs_of
 block_at p b k h = taken_at (end_of p b - first_of p b) (drop (first_of p b) p.instrs) k (omega arith) ∙ rest_at (first_of p b) p.instrs k
 
 passes_before : (xs : List Instr) (k : ℕ) (x : Instr) → slice_get xs k ≡ Some x → k < prefix_len (λ (y : Instr). is_phi y.op) xs → is_phi x.op ≡ true
-passes_before xs k x e h = let same : get_or xs k x ≡ x = get_or_from_slice_get xs k x x e in subst (λ (y : Instr). is_phi y.op ≡ true) same (prefix_len_passes (λ (y : Instr). is_phi y.op) xs k x h)
+passes_before xs k x e h = let same : get_or xs k x ≡ x = get_or_from_slice_get xs k x x e in
+    subst (λ (y : Instr). is_phi y.op ≡ true) same (prefix_len_passes (λ (y : Instr). is_phi y.op) xs k x h)
 
 stops_at : (xs : List Instr) (x : Instr) → slice_get xs (prefix_len (λ (y : Instr). is_phi y.op) xs) ≡ Some x → is_phi x.op ≡ false
 stops_at xs x e =
@@ -216,7 +223,8 @@ there : (b : ℕ) (o : Option Instr) → IsInBlock b o → (x : Instr) × (o ≡
 there b None h = absurd h
 there b (Some x) h = (x, refl)
 
-few_or : (p : NumberedProgram) (b n k : ℕ) → IsProgram p → n ≡ prefix_len (λ (y : Instr). is_phi y.op) (instrs_of p b) → first_of p b + k + 1 ≡ end_of p b → (k < n) ⊎ (n ≤ k) → first_of p b + n < end_of p b
+few_or : (p : NumberedProgram) (b n k : ℕ) → IsProgram p → n ≡ prefix_len (λ (y : Instr). is_phi y.op) (instrs_of p b) → first_of p b + k + 1 ≡ end_of p b → (k < n) ⊎ (n ≤ k)
+    → first_of p b + n < end_of p b
 few_or p b n k program e l (inr h) = omega arith
 few_or p b n k program e l (inl h) =
     let x = there b (slice_get p.instrs (first_of p b + k)) (block_held p b (first_of p b + k) program (omega arith) (omega arith)) in

@@ -1,5 +1,6 @@
 -- The rows of a switch's cases in the order of their values tell the same as the cases.
-use Rattle.std.proofs.Common.{◌≡◌, ℕ, ◌+◌, ◌-◌, ◌<◌, ◌≤◌, List, [], ◌∷◌, length, Bool, true, false, not, ◌&&◌, zero, suc, arith, refl, sym, ap, ◌∙◌, cond, get_or, inl, inr, ◌⊎◌}
+use Rattle.std.proofs.Common.{◌≡◌, ℕ, ◌+◌, ◌-◌, ◌<◌, ◌≤◌, List, [], ◌∷◌, length, Bool, true, false, not, ◌&&◌, zero, suc, arith, refl, sym, ap, ◌∙◌}
+use Rattle.std.proofs.Common.{cond, get_or, inl, inr, ◌⊎◌}
 use Rattle.std.specs.Prelude.{◌==◌, ◌≢◌, filter, map, slice_get, Some, if◌then◌else◌}
 use Rattle.std.proofs.lemmas.Bool.{eqb-true, eqb-false}
 use Rattle.std.specs.List.Sorted.{ties, IsStableBy, IsNonDecreasingBy}
@@ -20,7 +21,8 @@ first_filtered : (n : ℕ) (rs : List CaseRow) → first_target rs n ≡ first_i
 first_filtered n [] = refl
 first_filtered n (r ∷ rs) = go (r.value == n) (first_filtered n rs)
   where
-    go : (t : Bool) → first_target rs n ≡ first_in (filter (λ (s : CaseRow). s.value == n) rs) → cond t r.target (first_target rs n) ≡ first_in (cond t (r ∷ filter (λ (s : CaseRow). s.value == n) rs) (filter (λ (s : CaseRow). s.value == n) rs))
+    go : (t : Bool) → first_target rs n ≡ first_in (filter (λ (s : CaseRow). s.value == n) rs)
+        → cond t r.target (first_target rs n) ≡ first_in (cond t (r ∷ filter (λ (s : CaseRow). s.value == n) rs) (filter (λ (s : CaseRow). s.value == n) rs))
     go true e = refl
     go false e = e
 
@@ -56,13 +58,15 @@ none_above : (rs : List CaseRow) (n : ℕ) → ((k : ℕ) (d : CaseRow) → k < 
 none_above [] n h = refl
 none_above (r ∷ rs) n h = differs r.value n r.target (first_target rs n) (inl (h 0 r (omega arith))) ∙ none_above rs n (λ k d l. h (suc k) d (omega arith))
 
-found_here : (r : CaseRow) (rs : List CaseRow) (n : ℕ) → IsNonDecreasingBy (λ (s : CaseRow). s.value) (r ∷ rs) → n ≤ r.value → (t : Bool) → (r.value == n) ≡ t → cond t r.target (first_target rs n) ≡ cond t r.target 0
+found_here : (r : CaseRow) (rs : List CaseRow) (n : ℕ) → IsNonDecreasingBy (λ (s : CaseRow). s.value) (r ∷ rs) → n ≤ r.value → (t : Bool) → (r.value == n) ≡ t
+    → cond t r.target (first_target rs n) ≡ cond t r.target 0
 found_here r rs n h l true e = refl
 found_here r rs n h l false e =
     let apart : r.value ≢ n = eqb-false r.value n e in
     none_above rs n (λ k d m. let up : r.value ≤ (get_or rs k d).value = h 0 (suc k) d (omega arith) (omega arith) in omega arith)
 
-pub found_first : (rs : List CaseRow) (n at : ℕ) → IsNonDecreasingBy (λ (r : CaseRow). r.value) rs → ((k : ℕ) (d : CaseRow) → k < at → (get_or rs k d).value < n) → ((k : ℕ) (d : CaseRow) → at ≤ k → k < length rs → n ≤ (get_or rs k d).value) → first_target rs n ≡ target_at n (slice_get rs at)
+pub found_first : (rs : List CaseRow) (n at : ℕ) → IsNonDecreasingBy (λ (r : CaseRow). r.value) rs → ((k : ℕ) (d : CaseRow) → k < at → (get_or rs k d).value < n)
+    → ((k : ℕ) (d : CaseRow) → at ≤ k → k < length rs → n ≤ (get_or rs k d).value) → first_target rs n ≡ target_at n (slice_get rs at)
 found_first [] n at h below from = refl
 found_first (r ∷ rs) n zero h below from = found_here r rs n h (from 0 r (omega arith) (omega arith)) (r.value == n) refl
 found_first (r ∷ rs) n (suc at) h below from =
@@ -89,7 +93,8 @@ rows_tell : (k n other : ℕ) (cs : List Case) → Tells k (first_target (case_r
 rows_tell k n other [] = inl (refl, refl)
 rows_tell k n other (c ∷ cs) = go (c.value == n) (rows_tell (k + 1) n other cs)
   where
-    go : (t : Bool) → Tells (k + 1) (first_target (case_rows (k + 1) cs) n) (case_of cs other n) other (map (λ (d : Case). d.to.0) cs) → Tells k (cond t k (first_target (case_rows (k + 1) cs) n)) (cond t c.to.0 (case_of cs other n)) other (c.to.0 ∷ map (λ (d : Case). d.to.0) cs)
+    go : (t : Bool) → Tells (k + 1) (first_target (case_rows (k + 1) cs) n) (case_of cs other n) other (map (λ (d : Case). d.to.0) cs)
+        → Tells k (cond t k (first_target (case_rows (k + 1) cs) n)) (cond t c.to.0 (case_of cs other n)) other (c.to.0 ∷ map (λ (d : Case). d.to.0) cs)
     go true h = tells_here k c.to.0 other (map (λ (d : Case). d.to.0) cs)
     go false h = tells_later k (first_target (case_rows (k + 1) cs) n) (case_of cs other n) other c.to.0 (map (λ (d : Case). d.to.0) cs) h
 
@@ -105,5 +110,6 @@ pub rows_count : (k : ℕ) (cs : List Case) → length (case_rows k cs) ≡ leng
 rows_count k [] = refl
 rows_count k (c ∷ cs) = let more : length (case_rows (k + 1) cs) ≡ length cs = rows_count (k + 1) cs in omega arith
 
-pub table_named : (other n : ℕ) (cs : List Case) (rows : List CaseRow) → IsCaseTable cs rows → slice_get (other ∷ map (λ (c : Case). c.to.0) cs) (first_target rows n) ≡ Some (case_of cs other n)
+pub table_named : (other n : ℕ) (cs : List Case) (rows : List CaseRow) → IsCaseTable cs rows
+    → slice_get (other ∷ map (λ (c : Case). c.to.0) cs) (first_target rows n) ≡ Some (case_of cs other n)
 table_named other n cs rows h = ap (slice_get (other ∷ map (λ (c : Case). c.to.0) cs)) (h.same n) ∙ target_named other n cs

@@ -1,6 +1,7 @@
 -- Tests that decide facts: of parts of a pair or a triple, of each element of a list, of each element
 -- with its number.
-use Rattle.std.proofs.Common.{◌≡◌, ℕ, ◌+◌, ◌<◌, ◌≤◌, List, [], ◌∷◌, length, Bool, true, false, zero, suc, arith, ◌&&◌, ◌||◌, not, map, subst, refl, ◌↔◌, IsTrue, take, drop, cond}
+use Rattle.std.proofs.Common.{◌≡◌, ℕ, ◌+◌, ◌<◌, ◌≤◌, List, [], ◌∷◌, length, Bool, true, false, zero, suc, arith, ◌&&◌, ◌||◌, not, map, subst, refl}
+use Rattle.std.proofs.Common.{◌↔◌, IsTrue, take, drop, cond}
 use Rattle.std.specs.Prelude.{nat_le, nat_lt, Option, Some, slice_get}
 use Rattle.std.specs.List.{list_all, AllByRecursion, enumerate_from}
 use Rattle.std.specs.Bool.{Decides}
@@ -34,7 +35,8 @@ pub decides_all : {X : Type 0} (t : X → Bool) (P : X → Type 0) → ((x : X) 
 decides_all t P each [] = (λ e. tt, λ h. refl)
 decides_all t P each (x ∷ xs) = Decides-and (t x) (list_all t xs) (each x) (decides_all t P each xs)
 
-pub decides_mapped : {X Y : Type 0} (v : X → Y) (t : Y → Bool) (P : Y → Type 0) → ((y : Y) → Decides (t y) (P y)) → (xs : List X) → Decides (list_all (λ x. t (v x)) xs) (AllByRecursion P (map v xs))
+pub decides_mapped : {X Y : Type 0} (v : X → Y) (t : Y → Bool) (P : Y → Type 0) → ((y : Y) → Decides (t y) (P y)) → (xs : List X)
+    → Decides (list_all (λ x. t (v x)) xs) (AllByRecursion P (map v xs))
 decides_mapped v t P each [] = (λ e. tt, λ h. refl)
 decides_mapped v t P each (x ∷ xs) = Decides-and (t (v x)) (list_all (λ y. t (v y)) xs) (each (v x)) (decides_mapped v t P each xs)
 
@@ -53,7 +55,8 @@ decides_alike false q d = Decides-like (not q) (λ none. (λ e. absurd cc, λ k.
 
 -- ---- each element with its number
 
-numbered_cons : {X : Type 0} (P : ℕ → X → Type 0) (n : ℕ) (x : X) (xs : List X) → P n x → ((i : ℕ) (y : X) → slice_get xs i ≡ Some y → P (n + 1 + i) y) → (i : ℕ) (y : X) → slice_get (x ∷ xs) i ≡ Some y → P (n + i) y
+numbered_cons : {X : Type 0} (P : ℕ → X → Type 0) (n : ℕ) (x : X) (xs : List X) → P n x → ((i : ℕ) (y : X) → slice_get xs i ≡ Some y → P (n + 1 + i) y) → (i : ℕ) (y : X)
+    → slice_get (x ∷ xs) i ≡ Some y → P (n + i) y
 numbered_cons P n x xs h t zero y g =
     let same : x ≡ y = cc in
     let at : n ≡ n + 0 = omega arith in
@@ -63,17 +66,20 @@ numbered_cons P n x xs h t (suc i) y g = let at : n + 1 + i ≡ n + suc i = omeg
 numbered_front : {X : Type 0} (P : ℕ → X → Type 0) (n : ℕ) (x : X) (xs : List X) → ((i : ℕ) (y : X) → slice_get (x ∷ xs) i ≡ Some y → P (n + i) y) → P n x
 numbered_front P n x xs h = let at : n + 0 ≡ n = omega arith in subst (λ m. P m x) at (h zero x refl)
 
-numbered_rest : {X : Type 0} (P : ℕ → X → Type 0) (n : ℕ) (x : X) (xs : List X) → ((i : ℕ) (y : X) → slice_get (x ∷ xs) i ≡ Some y → P (n + i) y) → (i : ℕ) (y : X) → slice_get xs i ≡ Some y → P (n + 1 + i) y
+numbered_rest : {X : Type 0} (P : ℕ → X → Type 0) (n : ℕ) (x : X) (xs : List X) → ((i : ℕ) (y : X) → slice_get (x ∷ xs) i ≡ Some y → P (n + i) y) → (i : ℕ) (y : X)
+    → slice_get xs i ≡ Some y → P (n + 1 + i) y
 numbered_rest P n x xs h i y g = let at : n + suc i ≡ n + 1 + i = omega arith in subst (λ m. P m y) at (h (suc i) y g)
 
-decides_from : {X : Type 0} (t : ℕ → X → Bool) (P : ℕ → X → Type 0) → ((i : ℕ) (x : X) → Decides (t i x) (P i x)) → (n : ℕ) (xs : List X) → Decides (list_all (λ e. t e.0 e.1) (enumerate_from n xs)) ((i : ℕ) (x : X) → slice_get xs i ≡ Some x → P (n + i) x)
+decides_from : {X : Type 0} (t : ℕ → X → Bool) (P : ℕ → X → Type 0) → ((i : ℕ) (x : X) → Decides (t i x) (P i x)) → (n : ℕ) (xs : List X)
+    → Decides (list_all (λ e. t e.0 e.1) (enumerate_from n xs)) ((i : ℕ) (x : X) → slice_get xs i ≡ Some x → P (n + i) x)
 decides_from t P each n [] = (λ e i x g. absurd cc, λ h. refl)
 decides_from t P each n (x ∷ xs) =
     Decides-like (t n x && list_all (λ e. t e.0 e.1) (enumerate_from (n + 1) xs))
     (λ h. numbered_cons P n x xs h.0 h.1) (λ h. (numbered_front P n x xs h, numbered_rest P n x xs h))
     (Decides-and (t n x) (list_all (λ e. t e.0 e.1) (enumerate_from (n + 1) xs)) (each n x) (decides_from t P each (n + 1) xs))
 
-pub decides_numbered : {X : Type 0} (t : ℕ → X → Bool) (P : ℕ → X → Type 0) → ((i : ℕ) (x : X) → Decides (t i x) (P i x)) → (xs : List X) → Decides (list_all (λ e. t e.0 e.1) (enumerate_from 0 xs)) ((i : ℕ) (x : X) → slice_get xs i ≡ Some x → P i x)
+pub decides_numbered : {X : Type 0} (t : ℕ → X → Bool) (P : ℕ → X → Type 0) → ((i : ℕ) (x : X) → Decides (t i x) (P i x)) → (xs : List X)
+    → Decides (list_all (λ e. t e.0 e.1) (enumerate_from 0 xs)) ((i : ℕ) (x : X) → slice_get xs i ≡ Some x → P i x)
 decides_numbered t P each xs =
     Decides-like (list_all (λ e. t e.0 e.1) (enumerate_from 0 xs))
     (λ h i x g. let at : 0 + i ≡ i = omega arith in subst (λ m. P m x) at (h i x g))
@@ -82,11 +88,13 @@ decides_numbered t P each xs =
 
 -- ---- a range of a list
 
-front_cons : {X : Type 0} (P : Option X → Type 0) (x : X) (xs : List X) (n : ℕ) → P (Some x) → ((i : ℕ) → i < n → P (slice_get xs i)) → (i : ℕ) → i < suc n → P (slice_get (x ∷ xs) i)
+front_cons : {X : Type 0} (P : Option X → Type 0) (x : X) (xs : List X) (n : ℕ) → P (Some x) → ((i : ℕ) → i < n → P (slice_get xs i)) → (i : ℕ) → i < suc n
+    → P (slice_get (x ∷ xs) i)
 front_cons P x xs n h t zero l = h
 front_cons P x xs n h t (suc i) l = t i (omega arith)
 
-decides_front : {X : Type 0} (t : X → Bool) (P : Option X → Type 0) → ((x : X) → Decides (t x) (P (Some x))) → (xs : List X) (n : ℕ) → n ≤ length xs → Decides (list_all t (take n xs)) ((i : ℕ) → i < n → P (slice_get xs i))
+decides_front : {X : Type 0} (t : X → Bool) (P : Option X → Type 0) → ((x : X) → Decides (t x) (P (Some x))) → (xs : List X) (n : ℕ) → n ≤ length xs
+    → Decides (list_all t (take n xs)) ((i : ℕ) → i < n → P (slice_get xs i))
 decides_front t P each [] zero h = (λ e i l. absurd (omega arith), λ k. refl)
 decides_front t P each [] (suc n) h = absurd (omega arith)
 decides_front t P each (x ∷ xs) zero h = (λ e i l. absurd (omega arith), λ k. refl)
@@ -95,14 +103,17 @@ decides_front t P each (x ∷ xs) (suc n) h =
     (λ k. front_cons P x xs n k.0 k.1) (λ k. (k zero (omega arith), λ i l. k (suc i) (omega arith)))
     (Decides-and (t x) (list_all t (take n xs)) (each x) (decides_front t P each xs n (omega arith)))
 
-from_start : {X : Type 0} (t : X → Bool) (P : Option X → Type 0) (xs : List X) (n : ℕ) → Decides (list_all t (take n xs)) ((i : ℕ) → i < n → P (slice_get xs i)) → Decides (list_all t (take n xs)) ((i : ℕ) → 0 ≤ i → i < 0 + n → P (slice_get xs i))
+from_start : {X : Type 0} (t : X → Bool) (P : Option X → Type 0) (xs : List X) (n : ℕ) → Decides (list_all t (take n xs)) ((i : ℕ) → i < n → P (slice_get xs i))
+    → Decides (list_all t (take n xs)) ((i : ℕ) → 0 ≤ i → i < 0 + n → P (slice_get xs i))
 from_start t P xs n d = Decides-like (list_all t (take n xs)) (λ h i l u. h i (omega arith)) (λ h i l. h i (omega arith) (omega arith)) d
 
-range_cons : {X : Type 0} (P : Option X → Type 0) (x : X) (xs : List X) (a n : ℕ) → ((i : ℕ) → a ≤ i → i < a + n → P (slice_get xs i)) → (i : ℕ) → suc a ≤ i → i < suc a + n → P (slice_get (x ∷ xs) i)
+range_cons : {X : Type 0} (P : Option X → Type 0) (x : X) (xs : List X) (a n : ℕ) → ((i : ℕ) → a ≤ i → i < a + n → P (slice_get xs i)) → (i : ℕ) → suc a ≤ i
+    → i < suc a + n → P (slice_get (x ∷ xs) i)
 range_cons P x xs a n h zero l u = absurd (omega arith)
 range_cons P x xs a n h (suc i) l u = h i (omega arith) (omega arith)
 
-pub decides_range : {X : Type 0} (t : X → Bool) (P : Option X → Type 0) → ((x : X) → Decides (t x) (P (Some x))) → (xs : List X) (a n : ℕ) → a + n ≤ length xs → Decides (list_all t (take n (drop a xs))) ((i : ℕ) → a ≤ i → i < a + n → P (slice_get xs i))
+pub decides_range : {X : Type 0} (t : X → Bool) (P : Option X → Type 0) → ((x : X) → Decides (t x) (P (Some x))) → (xs : List X) (a n : ℕ) → a + n ≤ length xs
+    → Decides (list_all t (take n (drop a xs))) ((i : ℕ) → a ≤ i → i < a + n → P (slice_get xs i))
 decides_range t P each [] zero n h = from_start t P [] n (decides_front t P each [] n (omega arith))
 decides_range t P each [] (suc a) n h = absurd (omega arith)
 decides_range t P each (x ∷ xs) zero n h = from_start t P (x ∷ xs) n (decides_front t P each (x ∷ xs) n (omega arith))

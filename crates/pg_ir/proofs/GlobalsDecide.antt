@@ -10,12 +10,14 @@ use Rattle.pg_ir.specs.PlaceTests.{lie_from, global_fits}
 use Rattle.pg_ir.specs.WellFormed.{LieFrom, granules_for}
 use Rattle.pg_ir.proofs.Decide.{decides_le}
 
-lie_open : (at : ℕ) (gs : List GlobalInfo) (i : ℕ) (x : GlobalInfo) → i < length gs → x ≡ get_or gs i x → lie_from at (drop i gs) ≡ (global_fits at x && lie_from (at + granules_for x.size) (drop (suc i) gs))
+lie_open : (at : ℕ) (gs : List GlobalInfo) (i : ℕ) (x : GlobalInfo) → i < length gs → x ≡ get_or gs i x
+    → lie_from at (drop i gs) ≡ (global_fits at x && lie_from (at + granules_for x.size) (drop (suc i) gs))
 lie_open at gs i x h same =
     let opened : drop i gs ≡ get_or gs i x ∷ drop (suc i) gs = drop-cons gs i x h in
     ap (lie_from at) (opened ∙ ap (λ (g : GlobalInfo). g ∷ drop (suc i) gs) (sym same))
 
-pub lie_more : (at : ℕ) (gs : List GlobalInfo) (i n : ℕ) (x : GlobalInfo) → i < length gs → x ≡ get_or gs i x → global_fits at x ≡ true → n ≡ granules_for x.size → lie_from at (drop i gs) ≡ lie_from (at + n) (drop (i + 1) gs)
+pub lie_more : (at : ℕ) (gs : List GlobalInfo) (i n : ℕ) (x : GlobalInfo) → i < length gs → x ≡ get_or gs i x → global_fits at x ≡ true → n ≡ granules_for x.size
+    → lie_from at (drop i gs) ≡ lie_from (at + n) (drop (i + 1) gs)
 lie_more at gs i n x h same e size =
     lie_open at gs i x h same ∙ ap (λ b. b && lie_from (at + granules_for x.size) (drop (suc i) gs)) e ∙ rw (add-one, size) refl
 

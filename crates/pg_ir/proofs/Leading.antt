@@ -9,7 +9,8 @@ abbrev leading : {X : Type 0} → (X → Bool) → (X → Bool) → List X → B
 leading f g [] = true
 leading f g (x ∷ xs) = cond (g x) (f x && leading f g xs) true
 
-leading_step : {X : Type 0} (f g : X → Bool) (x : X) (xs : List X) (t : Bool) → g x ≡ t → list_all f (take_while g xs) ≡ leading f g xs → list_all f (take (cond t (1 + prefix_len g xs) 0) (x ∷ xs)) ≡ cond t (f x && leading f g xs) true
+leading_step : {X : Type 0} (f g : X → Bool) (x : X) (xs : List X) (t : Bool) → g x ≡ t → list_all f (take_while g xs) ≡ leading f g xs
+    → list_all f (take (cond t (1 + prefix_len g xs) 0) (x ∷ xs)) ≡ cond t (f x && leading f g xs) true
 leading_step f g x xs true e h =
     let count : 1 + prefix_len g xs ≡ suc (prefix_len g xs) = omega arith in
     ap (λ n. list_all f (take n (x ∷ xs))) count ∙ ap (λ b. f x && b) h
@@ -24,7 +25,8 @@ abbrev pub Passes : {X : Type 0} → (X → Bool) → Option X → Type 0
 Passes g None = ⊥
 Passes g (Some x) = g x ≡ true
 
-leading_tells : {X : Type 0} (f g : X → Bool) (xs : List X) (k : ℕ) (x : X) → leading f g xs ≡ true → slice_get xs k ≡ Some x → ((j : ℕ) → j ≤ k → Passes g (slice_get xs j)) → f x ≡ true
+leading_tells : {X : Type 0} (f g : X → Bool) (xs : List X) (k : ℕ) (x : X) → leading f g xs ≡ true → slice_get xs k ≡ Some x → ((j : ℕ) → j ≤ k → Passes g (slice_get xs j))
+    → f x ≡ true
 leading_tells f g [] k x e at before = absurd cc
 leading_tells f g (y ∷ ys) zero x e at before =
     let same : y ≡ x = cc in
@@ -37,10 +39,12 @@ leading_tells f g (y ∷ ys) (suc k) x e at before =
     leading_tells f g ys k x (and_parts (f y) (leading f g ys) both).1 at (λ j l. before (suc j) (omega arith))
 
 -- of a list whose leading elements pass f, each element up to which all pass g passes f
-pub leading_passes : {X : Type 0} (f g : X → Bool) (xs : List X) (k : ℕ) (x : X) → list_all f (take_while g xs) ≡ true → slice_get xs k ≡ Some x → ((j : ℕ) → j ≤ k → Passes g (slice_get xs j)) → f x ≡ true
+pub leading_passes : {X : Type 0} (f g : X → Bool) (xs : List X) (k : ℕ) (x : X) → list_all f (take_while g xs) ≡ true → slice_get xs k ≡ Some x
+    → ((j : ℕ) → j ≤ k → Passes g (slice_get xs j)) → f x ≡ true
 leading_passes f g xs k x e at before = leading_tells f g xs k x (sym (leading_is f g xs) ∙ e) at before
 
-leading_step_from : {X : Type 0} (f g : X → Bool) (x : X) (xs : List X) (t : Bool) → g x ≡ t → (t ≡ true → f x ≡ true) → leading f g xs ≡ true → cond t (f x && leading f g xs) true ≡ true
+leading_step_from : {X : Type 0} (f g : X → Bool) (x : X) (xs : List X) (t : Bool) → g x ≡ t → (t ≡ true → f x ≡ true) → leading f g xs ≡ true
+    → cond t (f x && leading f g xs) true ≡ true
 leading_step_from f g x xs true e h k = and_from (f x) (leading f g xs) (h refl) k
 leading_step_from f g x xs false e h k = refl
 

@@ -21,7 +21,8 @@ use Rattle.pg_ir.specs.declared.instr.Instr.{Instr}
 use Rattle.pg_ir.specs.Program.{NumberedProgram, types_of, function_of, result_of}
 use Rattle.pg_ir.specs.Operands.{CanRead, CanReadAll, CanReadReturned}
 use Rattle.pg_ir.specs.Signatures.{parameters_of}
-use Rattle.pg_ir.specs.WellFormed.{HasType, HaveTypes, FitsOp, FitKnown, FitCreate, FitsReturn, StartsThread, BeginsThread, FitsInstr, BothHaveType, FitsCompare, FitsStored, FitsIncoming, FitsIndex, parameter_types, type_at, width_of}
+use Rattle.pg_ir.specs.WellFormed.{HasType, HaveTypes, FitsOp, FitKnown, FitCreate, FitsReturn, StartsThread, BeginsThread, FitsInstr, BothHaveType, FitsCompare, FitsStored, FitsIncoming}
+use Rattle.pg_ir.specs.WellFormed.{FitsIndex, parameter_types, type_at, width_of}
 
 modulus_small : (w : Width) → modulus w ≤ 2 ^ 64
 modulus_small W1 = lit≤ tt
@@ -81,19 +82,23 @@ stored_reads : (p : NumberedProgram) (types : List Scalar) (w : Width) (v : Valu
 stored_reads p types w v (inl h) = typed_reads p types (Int w) v h
 stored_reads p types w v (inr h) = typed_reads p types Ptr v h.1
 
-chosen_read : (p : NumberedProgram) (types : List Scalar) (result : Option Scalar) (a b : Value) → IsSomeAnd result (λ s. BothHaveType p types s a b) → CanRead p (length types) a × CanRead p (length types) b
+chosen_read : (p : NumberedProgram) (types : List Scalar) (result : Option Scalar) (a b : Value) → IsSomeAnd result (λ s. BothHaveType p types s a b)
+    → CanRead p (length types) a × CanRead p (length types) b
 chosen_read p types None a b h = absurd h
 chosen_read p types (Some s) a b h = both_read p types s a b h
 
-incoming_read : (p : NumberedProgram) (types : List Scalar) (s : Scalar) (from : List Incoming) → AllByRecursion (FitsIncoming p types s) from → AllByRecursion (λ (i : Incoming). CanRead p (length types) i.value) from
+incoming_read : (p : NumberedProgram) (types : List Scalar) (s : Scalar) (from : List Incoming) → AllByRecursion (FitsIncoming p types s) from
+    → AllByRecursion (λ (i : Incoming). CanRead p (length types) i.value) from
 incoming_read p types s [] h = tt
 incoming_read p types s (i ∷ is) h = (typed_reads p types s i.value h.0.1, incoming_read p types s is h.1)
 
-pub phi_reads : (p : NumberedProgram) (types : List Scalar) (result : Option Scalar) (from : List Incoming) → IsSomeAnd result (λ s. AllByRecursion (FitsIncoming p types s) from) → AllByRecursion (λ (i : Incoming). CanRead p (length types) i.value) from
+pub phi_reads : (p : NumberedProgram) (types : List Scalar) (result : Option Scalar) (from : List Incoming) → IsSomeAnd result (λ s. AllByRecursion (FitsIncoming p types s) from)
+    → AllByRecursion (λ (i : Incoming). CanRead p (length types) i.value) from
 phi_reads p types None from h = absurd h
 phi_reads p types (Some s) from h = incoming_read p types s from h
 
-indices_read : (p : NumberedProgram) (types : List Scalar) (indices : List Index) → AllByRecursion (FitsIndex p types) indices → AllByRecursion (λ (i : Index). CanRead p (length types) i.value) indices
+indices_read : (p : NumberedProgram) (types : List Scalar) (indices : List Index) → AllByRecursion (FitsIndex p types) indices
+    → AllByRecursion (λ (i : Index). CanRead p (length types) i.value) indices
 indices_read p types [] h = tt
 indices_read p types (i ∷ is) h = (typed_reads p types (Int i.width) i.value h.0, indices_read p types is h.1)
 

@@ -1,6 +1,7 @@
 -- A function begins at an instruction of its own, and an instruction that doesn't end its block is
 -- followed by one of the same function.
-use Rattle.std.proofs.Common.{◌≡◌, ℕ, ◌+◌, ◌<◌, ◌≤◌, List, [], ◌∷◌, length, zero, suc, Bool, true, false, Option, Some, None, arith, refl, ◌∙◌, subst, ap, IsTrue, ◌↔◌, inl, inr}
+use Rattle.std.proofs.Common.{◌≡◌, ℕ, ◌+◌, ◌<◌, ◌≤◌, List, [], ◌∷◌, length, zero, suc, Bool, true, false, Option, Some, None, arith, refl, ◌∙◌, subst, ap}
+use Rattle.std.proofs.Common.{IsTrue, ◌↔◌, inl, inr}
 use Rattle.std.specs.Prelude.{slice_get}
 use Rattle.std.proofs.lemmas.Option.{slice_get_within}
 use Rattle.pg_ir.specs.declared.function.Function.{Function}
@@ -66,7 +67,8 @@ pub not_last : (t : Bool) (i e : ℕ) → t ≡ false → IsTrue t ↔ (i + 1 �
 not_last true i e n h l = absurd cc
 not_last false i e n h l = let other : (i + 1 ≡ e) → false ≡ true = λ (q : i + 1 ≡ e). h.1 q in omega (arith, λ (q : i + 1 ≡ e). no_truth (other q))
 
-pub goes_on : (p : NumberedProgram) (i : ℕ) (x : Instr) → IsProgram p → slice_get p.instrs i ≡ Some x → is_terminator x.op ≡ false → StandsIn p (function_of p x.block.0) (slice_get p.instrs (i + 1))
+pub goes_on : (p : NumberedProgram) (i : ℕ) (x : Instr) → IsProgram p → slice_get p.instrs i ≡ Some x → is_terminator x.op ≡ false
+    → StandsIn p (function_of p x.block.0) (slice_get p.instrs (i + 1))
 goes_on p i x h e n =
     let fits = h.instrs i x e in
     let from : first_of p x.block.0 ≤ i = fits.from in

@@ -3,7 +3,8 @@ use Rattle.std.proofs.Common.{◌≡◌, ℕ, ◌+◌, ◌<◌, List, length, Bo
 use Rattle.std.specs.List.{prefix_len, take_while}
 use Rattle.std.proofs.lemmas.List.Folds.{length-prefix_len}
 
-pub prefix_more : {X : Type 0} (p : X → Bool) (xs : List X) (i : ℕ) (d : X) → i < length xs → p (get_or xs i d) ≡ true → i + prefix_len p (drop i xs) ≡ suc i + prefix_len p (drop (suc i) xs)
+pub prefix_more : {X : Type 0} (p : X → Bool) (xs : List X) (i : ℕ) (d : X) → i < length xs → p (get_or xs i d) ≡ true
+    → i + prefix_len p (drop i xs) ≡ suc i + prefix_len p (drop (suc i) xs)
 prefix_more p xs i d h e =
     let opened : prefix_len p (drop i xs) ≡ cond (p (get_or xs i d)) (1 + prefix_len p (drop (suc i) xs)) 0 = ap (prefix_len p) (drop-cons xs i d h) in
     let chosen : cond (p (get_or xs i d)) (1 + prefix_len p (drop (suc i) xs)) 0 ≡ 1 + prefix_len p (drop (suc i) xs) = ap (λ b. cond b (1 + prefix_len p (drop (suc i) xs)) 0) e in

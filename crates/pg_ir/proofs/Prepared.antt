@@ -1,5 +1,6 @@
 -- Lists that begin with others, and the tables that only grow.
-use Rattle.std.proofs.Common.{◌≡◌, ℕ, ◌+◌, ◌<◌, ◌≤◌, List, [], ◌∷◌, ◌++◌, length, take, drop, Bool, true, false, zero, suc, arith, refl, sym, ap, ◌∙◌, subst, inl, inr, ◌⊎◌, cond, map, length-append, get_or, replicate}
+use Rattle.std.proofs.Common.{◌≡◌, ℕ, ◌+◌, ◌<◌, ◌≤◌, List, [], ◌∷◌, ◌++◌, length, take, drop, Bool, true, false, zero, suc, arith, refl, sym, ap, ◌∙◌}
+use Rattle.std.proofs.Common.{subst, inl, inr, ◌⊎◌, cond, map, length-append, get_or, replicate}
 use Rattle.std.specs.Prelude.{slice_get, slice_set, Option, Some, None, take_while}
 use Rattle.std.specs.List.{prefix_len}
 use Rattle.std.proofs.lemmas.Option.{slice_get-get_or}
@@ -129,12 +130,15 @@ is_row_grows : (p : NumberedProgram) (b t : ℕ) (xs ys : List (Option Value)) (
 is_row_grows p b t xs ys None h k = absurd h
 is_row_grows p b t xs ys (Some r) h k = row_grows (values_along p b t) xs ys r h k
 
-is_row_kept : (p : NumberedProgram) (b t : ℕ) (values : List (Option Value)) (xs ys : List ℕ) (k : ℕ) (o : Option ℕ) → slice_get xs k ≡ o → IsRow p values b t o → IsFront xs ys → IsRow p values b t (slice_get ys k)
+is_row_kept : (p : NumberedProgram) (b t : ℕ) (values : List (Option Value)) (xs ys : List ℕ) (k : ℕ) (o : Option ℕ) → slice_get xs k ≡ o → IsRow p values b t o → IsFront xs ys
+    → IsRow p values b t (slice_get ys k)
 is_row_kept p b t values xs ys k None e h f = absurd h
 is_row_kept p b t values xs ys k (Some r) e h f = subst (IsRow p values b t) (sym (front_get xs ys k r f e)) h
 
-pub rows_grow : (p : NumberedProgram) (b start : ℕ) (ts : List ℕ) (values values_after : List (Option Value)) (rows rows_after : List ℕ) → HaveRows p values b rows start ts → IsFront values values_after → IsFront rows rows_after → HaveRows p values_after b rows_after start ts
-rows_grow p b start ts values values_after rows rows_after h k l = λ j t at. is_row_grows p b t values values_after (slice_get rows_after (start + j)) (is_row_kept p b t values rows rows_after (start + j) (slice_get rows (start + j)) refl (h j t at) l) k
+pub rows_grow : (p : NumberedProgram) (b start : ℕ) (ts : List ℕ) (values values_after : List (Option Value)) (rows rows_after : List ℕ) → HaveRows p values b rows start ts
+    → IsFront values values_after → IsFront rows rows_after → HaveRows p values_after b rows_after start ts
+rows_grow p b start ts values values_after rows rows_after h k l = λ j t at. is_row_grows p b t values values_after (slice_get rows_after (start + j))
+    (is_row_kept p b t values rows rows_after (start + j) (slice_get rows (start + j)) refl (h j t at) l) k
 
 pub cases_grow : (cases : List Case) (start : ℕ) (rows rows_after : List CaseRow) → HasCases cases rows start → IsFront rows rows_after → HasCases cases rows_after start
 cases_grow cases start rows rows_after h k =
@@ -143,7 +147,8 @@ cases_grow cases start rows rows_after h k =
       table = subst (IsCaseTable cases) (sym (front_range start (length cases) rows rows_after k h.within)) h.table;
     }
 
-pub table_grows : (p : NumberedProgram) (b : ℕ) (x : BlockTable) (rows rows_after : List ℕ) (values values_after : List (Option Value)) (cases cases_after : List CaseRow) → FitsTable p rows values cases b x → IsFront rows rows_after → IsFront values values_after → IsFront cases cases_after → FitsTable p rows_after values_after cases_after b x
+pub table_grows : (p : NumberedProgram) (b : ℕ) (x : BlockTable) (rows rows_after : List ℕ) (values values_after : List (Option Value)) (cases cases_after : List CaseRow)
+    → FitsTable p rows values cases b x → IsFront rows rows_after → IsFront values values_after → IsFront cases cases_after → FitsTable p rows_after values_after cases_after b x
 table_grows p b x rows rows_after values values_after cases cases_after h f g k = record {
   count = h.count;
   edges = rows_grow p b x.edges _ values values_after rows rows_after h.edges g f;
@@ -155,7 +160,8 @@ table_grows p b x rows rows_after values values_after cases cases_after h f g k 
 pub values_front : {A : Type 0} (xs ys zs : List A) → ys ≡ xs ++ zs → IsFront xs ys
 values_front xs ys zs e = subst (IsFront xs) (sym e) (front_append xs zs)
 
-pub values_end : (p : NumberedProgram) (from to : ℕ) (xs ys : List (Option Value)) (phis : List Instr) → phis ≡ phis_of p to → ys ≡ xs ++ map (λ (x : Instr). incoming_from (incoming_of x.op) from) phis → HasRow (values_along p from to) ys (length xs)
+pub values_end : (p : NumberedProgram) (from to : ℕ) (xs ys : List (Option Value)) (phis : List Instr) → phis ≡ phis_of p to
+    → ys ≡ xs ++ map (λ (x : Instr). incoming_from (incoming_of x.op) from) phis → HasRow (values_along p from to) ys (length xs)
 unfolding values_along
 values_end p from to xs ys phis same e =
     let row = map (λ (x : Instr). incoming_from (incoming_of x.op) from) (phis_of p to) in
@@ -173,7 +179,8 @@ set_got (z ∷ zs) (suc i) (suc j) x y e = later (set_got zs i j x y e)
     later (inl h) = inl (ap suc h.0, h.1)
     later (inr h) = inr h
 
-pub entered_set : (p : NumberedProgram) (xs ys : List (Option Value)) (entered : List (Option Entered)) (to : ℕ) (last : Entered) → AreEntered p xs entered → IsFront xs ys → HasRow (values_along p last.from to) ys last.row → AreEntered p ys (slice_set entered to (Some last))
+pub entered_set : (p : NumberedProgram) (xs ys : List (Option Value)) (entered : List (Option Entered)) (to : ℕ) (last : Entered) → AreEntered p xs entered → IsFront xs ys
+    → HasRow (values_along p last.from to) ys last.row → AreEntered p ys (slice_set entered to (Some last))
 unfolding AreEntered
 entered_set p xs ys entered to last h k here = λ t e at. settle t e (set_got entered to t (Some last) (Some e) at)
   where
@@ -185,11 +192,15 @@ entered_set p xs ys entered to last h k here = λ t e at. settle t e (set_got en
 
 -- ---- edges
 
-pub rows_pushed : (p : NumberedProgram) (b start k row : ℕ) (ts : List ℕ) (values values_after : List (Option Value)) (rows : List ℕ) → ((j t : ℕ) → j < k → slice_get ts j ≡ Some t → IsRow p values b t (slice_get rows (start + j))) → length rows ≡ start + k → IsFront values values_after → (to : ℕ) → slice_get ts k ≡ Some to → HasRow (values_along p b to) values_after row → (j t : ℕ) → j < k + 1 → slice_get ts j ≡ Some t → IsRow p values_after b t (slice_get (rows ++ row ∷ []) (start + j))
+pub rows_pushed : (p : NumberedProgram) (b start k row : ℕ) (ts : List ℕ) (values values_after : List (Option Value)) (rows : List ℕ)
+    → ((j t : ℕ) → j < k → slice_get ts j ≡ Some t → IsRow p values b t (slice_get rows (start + j))) → length rows ≡ start + k → IsFront values values_after → (to : ℕ)
+    → slice_get ts k ≡ Some to → HasRow (values_along p b to) values_after row → (j t : ℕ) → j < k + 1 → slice_get ts j ≡ Some t
+    → IsRow p values_after b t (slice_get (rows ++ row ∷ []) (start + j))
 rows_pushed p b start k row ts values values_after rows h count f to at here j t l e = settle (cases_lt j k)
   where
     settle : (j < k) ⊎ (k ≤ j) → IsRow p values_after b t (slice_get (rows ++ row ∷ []) (start + j))
-    settle (inl m) = is_row_kept p b t values_after rows (rows ++ row ∷ []) (start + j) (slice_get rows (start + j)) refl (is_row_grows p b t values values_after (slice_get rows (start + j)) (h j t m e) f) (front_append rows (row ∷ []))
+    settle (inl m) = is_row_kept p b t values_after rows (rows ++ row ∷ []) (start + j) (slice_get rows (start + j)) refl
+        (is_row_grows p b t values values_after (slice_get rows (start + j)) (h j t m e) f) (front_append rows (row ∷ []))
     settle (inr m) =
         let same : j ≡ k = omega arith in
         let target : to ≡ t = cc in
@@ -198,7 +209,9 @@ rows_pushed p b start k row ts values values_after rows h count f to at here j t
 
 -- ---- tables
 
-pub tables_pushed : (p : NumberedProgram) (rows rows_after : List ℕ) (values values_after : List (Option Value)) (cases cases_after : List CaseRow) (blocks : List BlockTable) (x : BlockTable) → AreTables p rows values cases blocks → IsFront rows rows_after → IsFront values values_after → IsFront cases cases_after → FitsTable p rows_after values_after cases_after (length blocks) x → AreTables p rows_after values_after cases_after (blocks ++ x ∷ [])
+pub tables_pushed : (p : NumberedProgram) (rows rows_after : List ℕ) (values values_after : List (Option Value)) (cases cases_after : List CaseRow) (blocks : List BlockTable) (x : BlockTable)
+    → AreTables p rows values cases blocks → IsFront rows rows_after → IsFront values values_after → IsFront cases cases_after
+    → FitsTable p rows_after values_after cases_after (length blocks) x → AreTables p rows_after values_after cases_after (blocks ++ x ∷ [])
 unfolding AreTables
 tables_pushed p rows rows_after values values_after cases cases_after blocks x h f g k here = λ b y at. settle b y (got_pushed blocks x y b at)
   where
@@ -255,22 +268,28 @@ unfolding AreTables
 no_tables p rows values cases = λ b x h. absurd cc
 
 -- q is the program as its fields have it
-table_at : (p q : NumberedProgram) (rows : List ℕ) (values : List (Option Value)) (cases : List CaseRow) (blocks : List BlockTable) (b : ℕ) (x : BlockTable) → q ≡ p → IsPrepared q rows values cases blocks → b < length p.blocks → x ≡ get_or blocks b x → FitsTable p rows values cases b x
+table_at : (p q : NumberedProgram) (rows : List ℕ) (values : List (Option Value)) (cases : List CaseRow) (blocks : List BlockTable) (b : ℕ) (x : BlockTable) → q ≡ p
+    → IsPrepared q rows values cases blocks → b < length p.blocks → x ≡ get_or blocks b x → FitsTable p rows values cases b x
 unfolding AreTables
 table_at p q rows values cases blocks b x e h l at =
     let within : b < length blocks = omega (arith, h.count, ap (λ (r : NumberedProgram). length r.blocks) e) in
     let got : slice_get blocks b ≡ Some x = slice_get-get_or blocks b x within ∙ ap Some (sym at) in
     subst (λ (r : NumberedProgram). FitsTable r rows values cases b x) e (h.tables b x got)
 
-pub edge_read : (p q : NumberedProgram) (rows : List ℕ) (values : List (Option Value)) (cases : List CaseRow) (blocks : List BlockTable) (b k t : ℕ) (x : BlockTable) → q ≡ p → IsPrepared q rows values cases blocks → b < length p.blocks → x ≡ get_or blocks b x → slice_get (successors p b) k ≡ Some t → ReadsRow (values_along p b t) values (slice_get rows (x.edges + k))
+pub edge_read : (p q : NumberedProgram) (rows : List ℕ) (values : List (Option Value)) (cases : List CaseRow) (blocks : List BlockTable) (b k t : ℕ) (x : BlockTable) → q ≡ p
+    → IsPrepared q rows values cases blocks → b < length p.blocks → x ≡ get_or blocks b x → slice_get (successors p b) k ≡ Some t
+    → ReadsRow (values_along p b t) values (slice_get rows (x.edges + k))
 edge_read p q rows values cases blocks b k t x e h l at target = row_read p values b t (slice_get rows (x.edges + k)) ((table_at p q rows values cases blocks b x e h l at).edges k t target)
 
-pub count_read : (p q : NumberedProgram) (rows : List ℕ) (values : List (Option Value)) (cases : List CaseRow) (blocks : List BlockTable) (b t : ℕ) (x : BlockTable) → q ≡ p → IsPrepared q rows values cases blocks → t < length p.blocks → x ≡ get_or blocks t x → x.phis ≡ length (values_along p b t)
+pub count_read : (p q : NumberedProgram) (rows : List ℕ) (values : List (Option Value)) (cases : List CaseRow) (blocks : List BlockTable) (b t : ℕ) (x : BlockTable) → q ≡ p
+    → IsPrepared q rows values cases blocks → t < length p.blocks → x ≡ get_or blocks t x → x.phis ≡ length (values_along p b t)
 count_read p q rows values cases blocks b t x e h l at = (table_at p q rows values cases blocks t x e h l at).count ∙ sym (values_count p b t)
 
-pub phis_read : (p q : NumberedProgram) (rows : List ℕ) (values : List (Option Value)) (cases : List CaseRow) (blocks : List BlockTable) (b : ℕ) (x : BlockTable) → q ≡ p → IsPrepared q rows values cases blocks → b < length p.blocks → x ≡ get_or blocks b x → x.phis ≡ length (take_while (λ (y : Instr). is_phi y.op) (instrs_of p b))
+pub phis_read : (p q : NumberedProgram) (rows : List ℕ) (values : List (Option Value)) (cases : List CaseRow) (blocks : List BlockTable) (b : ℕ) (x : BlockTable) → q ≡ p
+    → IsPrepared q rows values cases blocks → b < length p.blocks → x ≡ get_or blocks b x → x.phis ≡ length (take_while (λ (y : Instr). is_phi y.op) (instrs_of p b))
 unfolding phis_of
 phis_read p q rows values cases blocks b x e h l at = (table_at p q rows values cases blocks b x e h l at).count
 
-pub cases_read : (p q : NumberedProgram) (rows : List ℕ) (values : List (Option Value)) (cases : List CaseRow) (blocks : List BlockTable) (b : ℕ) (x : BlockTable) (cs : List Case) → q ≡ p → IsPrepared q rows values cases blocks → b < length p.blocks → x ≡ get_or blocks b x → cs ≡ block_cases p b → HasCases cs cases x.cases
+pub cases_read : (p q : NumberedProgram) (rows : List ℕ) (values : List (Option Value)) (cases : List CaseRow) (blocks : List BlockTable) (b : ℕ) (x : BlockTable) (cs : List Case) → q ≡ p
+    → IsPrepared q rows values cases blocks → b < length p.blocks → x ≡ get_or blocks b x → cs ≡ block_cases p b → HasCases cs cases x.cases
 cases_read p q rows values cases blocks b x cs e h l at same = subst (λ (ds : List Case). HasCases ds cases x.cases) (sym same) (table_at p q rows values cases blocks b x e h l at).switch

@@ -1,6 +1,7 @@
 -- The test of a program's parts decides what holds of each program: of phis and edges it tests at each
 -- instruction what is told by its neighbour and by the targets of its block alone.
-use Rattle.std.proofs.Common.{◌≡◌, ℕ, ◌+◌, ◌-◌, ◌<◌, ◌≤◌, List, [], ◌∷◌, length, Bool, true, false, zero, suc, arith, refl, sym, ap, ◌∙◌, subst, ◌&&◌, inl, inr, ◌⊎◌, IsTrue, map}
+use Rattle.std.proofs.Common.{◌≡◌, ℕ, ◌+◌, ◌-◌, ◌<◌, ◌≤◌, List, [], ◌∷◌, length, Bool, true, false, zero, suc, arith, refl, sym, ap, ◌∙◌, subst}
+use Rattle.std.proofs.Common.{◌&&◌, inl, inr, ◌⊎◌, IsTrue, map}
 use Rattle.std.specs.Prelude.{slice_get, ◌==◌, IsSomeAnd, Option, Some, None, Contains}
 use Rattle.std.specs.List.{AllByRecursion}
 use Rattle.std.specs.Bool.{Decides}
@@ -15,7 +16,8 @@ use Rattle.pg_ir.specs.declared.instr.Instr.{Instr}
 use Rattle.pg_ir.specs.declared.value.Scalar.{Scalar}
 use Rattle.pg_ir.specs.Program.{NumberedProgram, types_of, result_of, function_of, first_of, first_in, end_of, end_in}
 use Rattle.pg_ir.specs.Edges.{is_phi, is_terminator, targets_of, targets_in, successors, incoming_of, sources_of, instrs_of, phis_of}
-use Rattle.pg_ir.specs.PlaceTests.{phis_list, lists_block, goes_to, sources_fit, follows_phi, phi_at, instr_fits, block_fits, function_fits, main_fits, counts_fit, lie_from, functions_fit, blocks_fit, instrs_fit, program_fits}
+use Rattle.pg_ir.specs.PlaceTests.{phis_list, lists_block, goes_to, sources_fit, follows_phi, phi_at, instr_fits, block_fits, function_fits, main_fits, counts_fit, lie_from, functions_fit}
+use Rattle.pg_ir.specs.PlaceTests.{blocks_fit, instrs_fit, program_fits}
 use Rattle.pg_ir.specs.WellFormed.{IsProgram, FitsInstr, FitsBlock, FitsFunction, FitsPhi, FitsOp, FitsIncoming, IsInBlock, IsInFunction, IsPhi, type_at}
 use Rattle.pg_ir.proofs.Decide.{decides_numbered, decides_three}
 use Rattle.pg_ir.proofs.Leading.{Passes, leading_passes, leading_all, range_get, range_within}
@@ -56,7 +58,8 @@ some_held p b h l = some_in p b (slice_get p.blocks b) h refl l
 
 -- ---- from the tests to the facts
 
-earlier_at : (p : NumberedProgram) (b j i : ℕ) (o : Option Instr) → slice_get p.instrs i ≡ o → IsInBlock b o → phi_at o ≡ true → (j ≡ i) ⊎ (j < i) → ((y : Instr) → slice_get p.instrs i ≡ Some y → y.block.0 ≡ b → is_phi y.op ≡ true → j < i → IsPhi (slice_get p.instrs j)) → IsPhi (slice_get p.instrs j)
+earlier_at : (p : NumberedProgram) (b j i : ℕ) (o : Option Instr) → slice_get p.instrs i ≡ o → IsInBlock b o → phi_at o ≡ true → (j ≡ i) ⊎ (j < i)
+    → ((y : Instr) → slice_get p.instrs i ≡ Some y → y.block.0 ≡ b → is_phi y.op ≡ true → j < i → IsPhi (slice_get p.instrs j)) → IsPhi (slice_get p.instrs j)
 earlier_at p b j i None e h t near more = absurd h
 earlier_at p b j i (Some y) e h t (inl same) more = subst (λ (n : ℕ). IsPhi (slice_get p.instrs n)) (sym same) (subst IsPhi (sym e) t)
 earlier_at p b j i (Some y) e h t (inr l) more = more y e h t l
@@ -67,7 +70,9 @@ at_or_below j i l = settle (cases_lt j i) where
   settle (inl k) = inr k
   settle (inr k) = inl (omega arith)
 
-earlier_step : (p : NumberedProgram) (b i j : ℕ) → BlocksFit p → suc i < end_of p b → first_of p b ≤ j → j < suc i → ((suc i == first_of p b) ≡ true) ⊎ (phi_at (slice_get p.instrs (suc i - 1)) ≡ true) → ((y : Instr) → slice_get p.instrs i ≡ Some y → y.block.0 ≡ b → is_phi y.op ≡ true → j < i → IsPhi (slice_get p.instrs j)) → IsPhi (slice_get p.instrs j)
+earlier_step : (p : NumberedProgram) (b i j : ℕ) → BlocksFit p → suc i < end_of p b → first_of p b ≤ j → j < suc i
+    → ((suc i == first_of p b) ≡ true) ⊎ (phi_at (slice_get p.instrs (suc i - 1)) ≡ true)
+    → ((y : Instr) → slice_get p.instrs i ≡ Some y → y.block.0 ≡ b → is_phi y.op ≡ true → j < i → IsPhi (slice_get p.instrs j)) → IsPhi (slice_get p.instrs j)
 earlier_step p b i j bs u l k (inl first) more = let same : suc i ≡ first_of p b = eqb-true (suc i) (first_of p b) first in absurd (omega arith)
 earlier_step p b i j bs u l k (inr phi) more =
     let at : suc i - 1 ≡ i = omega arith in
@@ -75,7 +80,8 @@ earlier_step p b i j bs u l k (inr phi) more =
     earlier_at p b j i (slice_get p.instrs i) refl (held p b i bs (omega arith) (omega arith)) phi_here (at_or_below j i k) more
 
 -- each instruction of a phi's block before it is a phi
-earlier : (p : NumberedProgram) (i : ℕ) (x : Instr) → BlocksFit p → InstrsFit p → slice_get p.instrs i ≡ Some x → IsTrue (is_phi x.op) → (j : ℕ) → first_of p x.block.0 ≤ j → j < i → IsPhi (slice_get p.instrs j)
+earlier : (p : NumberedProgram) (i : ℕ) (x : Instr) → BlocksFit p → InstrsFit p → slice_get p.instrs i ≡ Some x → IsTrue (is_phi x.op) → (j : ℕ) → first_of p x.block.0 ≤ j
+    → j < i → IsPhi (slice_get p.instrs j)
 earlier p zero x bs is e t j l u = absurd (omega arith)
 earlier p (suc i) x bs is e t j l u =
     earlier_step p x.block.0 i j bs (is (suc i) x e).place.2 l u
@@ -88,19 +94,22 @@ phi_passes None h = absurd h
 phi_passes (Some x) h = h
 
 -- so is each up to it
-phi_up_to : (p : NumberedProgram) (i j : ℕ) (x : Instr) → BlocksFit p → InstrsFit p → slice_get p.instrs i ≡ Some x → IsTrue (is_phi x.op) → first_of p x.block.0 ≤ j → (j ≡ i) ⊎ (j < i) → IsPhi (slice_get p.instrs j)
+phi_up_to : (p : NumberedProgram) (i j : ℕ) (x : Instr) → BlocksFit p → InstrsFit p → slice_get p.instrs i ≡ Some x → IsTrue (is_phi x.op) → first_of p x.block.0 ≤ j
+    → (j ≡ i) ⊎ (j < i) → IsPhi (slice_get p.instrs j)
 phi_up_to p i j x bs is e t l (inl same) = subst (λ (n : ℕ). IsPhi (slice_get p.instrs n)) (sym same) (subst IsPhi (sym e) t)
 phi_up_to p i j x bs is e t l (inr k) = earlier p i x bs is e t j l k
 
 -- each phi of a block whose phis list b lists b
-phi_lists : (p : NumberedProgram) (i b : ℕ) (x : Instr) → BlocksFit p → InstrsFit p → slice_get p.instrs i ≡ Some x → IsTrue (is_phi x.op) → phis_list p b x.block.0 ≡ true → lists_block b x ≡ true
+phi_lists : (p : NumberedProgram) (i b : ℕ) (x : Instr) → BlocksFit p → InstrsFit p → slice_get p.instrs i ≡ Some x → IsTrue (is_phi x.op) → phis_list p b x.block.0 ≡ true
+    → lists_block b x ≡ true
 unfolding phis_list phis_of instrs_of
 phi_lists p i b x bs is e t told =
     let first = first_of p x.block.0 in
     let low : first ≤ i = (is i x e).place.1 in
     let high : i < end_of p x.block.0 = (is i x e).place.2 in
     let g = λ (y : Instr). is_phi y.op in
-    let place : (k : ℕ) → k ≤ i - first → slice_get (instrs_of p x.block.0) k ≡ slice_get p.instrs (first + k) = λ (k : ℕ) l. range_get p.instrs first (end_of p x.block.0 - first) k (omega arith) in
+    let place : (k : ℕ) → k ≤ i - first → slice_get (instrs_of p x.block.0) k ≡ slice_get p.instrs (first + k) =
+    λ (k : ℕ) l. range_get p.instrs first (end_of p x.block.0 - first) k (omega arith) in
     let back : first + (i - first) ≡ i = omega arith in
     leading_passes (lists_block b) g (instrs_of p x.block.0) (i - first) x told
     (place (i - first) (omega arith) ∙ ap (slice_get p.instrs) back ∙ e)
@@ -170,7 +179,8 @@ successors_are p i x e last =
     ap (λ (n : ℕ). targets_in (slice_get p.instrs n)) at ∙ ap targets_in e
 
 -- a phi of block t, at its place in the program, lists each block that goes on to t
-phi_told : (p : NumberedProgram) (b t i : ℕ) (o : Option Instr) (y : Instr) → IsProgram p → slice_get p.instrs i ≡ o → IsInBlock t o → o ≡ Some y → is_phi y.op ≡ true → b < length p.blocks → Contains (successors p b) t → lists_block b y ≡ true
+phi_told : (p : NumberedProgram) (b t i : ℕ) (o : Option Instr) (y : Instr) → IsProgram p → slice_get p.instrs i ≡ o → IsInBlock t o → o ≡ Some y → is_phi y.op ≡ true
+    → b < length p.blocks → Contains (successors p b) t → lists_block b y ≡ true
 phi_told p b t i None y h e held same phi l m = absurd held
 phi_told p b t i (Some z) y h e held same phi l m =
     let is_y : z ≡ y = cc in
@@ -209,11 +219,13 @@ follows p i x h l (inl k) = or_right (i == first_of p x.block.0) (phi_at (slice_
 follows p i x h l (inr k) = or_left (i == first_of p x.block.0) (phi_at (slice_get p.instrs (i - 1))) (eq-eqb i (first_of p x.block.0) (omega arith))
 
 -- the blocks that a phi lists are blocks of the program
-lists_blocks : (p : NumberedProgram) (types : List Scalar) (s : Scalar) (from : List Incoming) → AllByRecursion (FitsIncoming p types s) from → AllByRecursion (λ (b : ℕ). b < length p.blocks) (map (λ (i : Incoming). i.block.0) from)
+lists_blocks : (p : NumberedProgram) (types : List Scalar) (s : Scalar) (from : List Incoming) → AllByRecursion (FitsIncoming p types s) from
+    → AllByRecursion (λ (b : ℕ). b < length p.blocks) (map (λ (i : Incoming). i.block.0) from)
 lists_blocks p types s [] h = tt
 lists_blocks p types s (i ∷ is) h = (h.0.0, lists_blocks p types s is h.1)
 
-listed_at : (p : NumberedProgram) (types : List Scalar) (result : Option Scalar) (from : List Incoming) → IsSomeAnd result (λ s. AllByRecursion (FitsIncoming p types s) from) → AllByRecursion (λ (b : ℕ). b < length p.blocks) (map (λ (i : Incoming). i.block.0) from)
+listed_at : (p : NumberedProgram) (types : List Scalar) (result : Option Scalar) (from : List Incoming) → IsSomeAnd result (λ s. AllByRecursion (FitsIncoming p types s) from)
+    → AllByRecursion (λ (b : ℕ). b < length p.blocks) (map (λ (i : Incoming). i.block.0) from)
 listed_at p types None from h = absurd h
 listed_at p types (Some s) from h = lists_blocks p types s from h
 

@@ -22,8 +22,10 @@ use Rattle.pg_ir.specs.declared.instr.Op.{Op}
 use Rattle.pg_ir.specs.declared.instr.Op.TheVariants as op
 use Rattle.pg_ir.specs.Program.{NumberedProgram, result_of}
 use Rattle.pg_ir.specs.Signatures.{parameters_of, returned_by}
-use Rattle.pg_ir.specs.TypeTests.{same_width, same_scalar, same_type, has_type, each_has_type, have_types, begins_thread, starts_thread, create_fits, known_fits, return_fits, has_width, both_have_type, binary_fits, compared_fit, stored_fits, narrower, chosen_fit, incoming_fits, all_incoming_fit, cases_fit, indices_fit, op_fits}
-use Rattle.pg_ir.specs.WellFormed.{HasType, HaveTypes, FitsOp, FitKnown, FitCreate, FitsReturn, StartsThread, BeginsThread, BothHaveType, FitsBinary, FitsCompare, FitsStored, FitsIncoming, FitsIndex, HasWidth, parameter_types, width_of}
+use Rattle.pg_ir.specs.TypeTests.{same_width, same_scalar, same_type, has_type, each_has_type, have_types, begins_thread, starts_thread, create_fits, known_fits, return_fits, has_width}
+use Rattle.pg_ir.specs.TypeTests.{both_have_type, binary_fits, compared_fit, stored_fits, narrower, chosen_fit, incoming_fits, all_incoming_fit, cases_fit, indices_fit, op_fits}
+use Rattle.pg_ir.specs.WellFormed.{HasType, HaveTypes, FitsOp, FitKnown, FitCreate, FitsReturn, StartsThread, BeginsThread, BothHaveType, FitsBinary, FitsCompare, FitsStored, FitsIncoming}
+use Rattle.pg_ir.specs.WellFormed.{FitsIndex, HasWidth, parameter_types, width_of}
 use Rattle.pg_ir.proofs.Decide.{decides_lt, decides_no, decides_sure, decides_three, decides_four, decides_all}
 
 width_at : ℕ → Width
@@ -79,7 +81,9 @@ decides_have p types [] [] = decides_sure tt
 decides_have p types [] (v ∷ vs) = Decides-at (have_types p types [] (v ∷ vs)) false (ap (λ b. b && true) (ne_eqb 0 (suc (length vs)) (λ e. absurd (omega arith)))) (decides_no (λ h. h))
 decides_have p types (s ∷ ss) [] = Decides-at (have_types p types (s ∷ ss) []) false (ap (λ b. b && true) (ne_eqb (suc (length ss)) 0 (λ e. absurd (omega arith)))) (decides_no (λ h. h))
 decides_have p types (s ∷ ss) (v ∷ vs) =
-    Decides-at (have_types p types (s ∷ ss) (v ∷ vs)) ((length ss == length vs) && (has_type p types s v && each_has_type p types ss vs)) (ap (λ b. b && (has_type p types s v && each_has_type p types ss vs)) (same_counts (length ss) (length vs))) (beside (length ss == length vs) (has_type p types s v) (each_has_type p types ss vs) (decides_has p types s v) (decides_have p types ss vs))
+    Decides-at (have_types p types (s ∷ ss) (v ∷ vs)) ((length ss == length vs) && (has_type p types s v && each_has_type p types ss vs))
+    (ap (λ b. b && (has_type p types s v && each_has_type p types ss vs)) (same_counts (length ss) (length vs)))
+    (beside (length ss == length vs) (has_type p types s v) (each_has_type p types ss vs) (decides_has p types s v) (decides_have p types ss vs))
 
 decides_begins : (o : Option Function) → Decides (begins_thread o) (BeginsThread o)
 decides_begins None = decides_no (λ h. h)
@@ -142,7 +146,8 @@ decides_one_incoming : (p : NumberedProgram) (types : List Scalar) (s : Scalar) 
 decides_one_incoming p types s i =
     Decides-and (nat_lt i.block.0 (length p.blocks)) (has_type p types s i.value) (decides_lt i.block.0 (length p.blocks)) (decides_has p types s i.value)
 
-decides_incoming : (p : NumberedProgram) (types : List Scalar) (result : Option Scalar) (from : List Incoming) → Decides (all_incoming_fit p types result from) (IsSomeAnd result (λ s. AllByRecursion (FitsIncoming p types s) from))
+decides_incoming : (p : NumberedProgram) (types : List Scalar) (result : Option Scalar) (from : List Incoming)
+    → Decides (all_incoming_fit p types result from) (IsSomeAnd result (λ s. AllByRecursion (FitsIncoming p types s) from))
 decides_incoming p types None from = decides_no (λ h. h)
 decides_incoming p types (Some s) from = decides_all (incoming_fits p types s) (FitsIncoming p types s) (decides_one_incoming p types s) from
 

@@ -1,6 +1,7 @@
 -- Tests that compute: whether the numbers of a program's parts are those of parts of it, and whether
 -- its blocks, edges and phis fit each other.
-use Rattle.std.specs.Prelude.{ℕ, ◌+◌, ◌-◌, ◌==◌, nat_lt, nat_le, length, Bool, true, false, not, ◌&&◌, ◌||◌, if◌then◌else◌, List, [], ◌∷◌, Option, Some, None, slice_get, take, drop}
+use Rattle.std.specs.Prelude.{ℕ, ◌+◌, ◌-◌, ◌==◌, nat_lt, nat_le, length, Bool, true, false, not, ◌&&◌, ◌||◌, if◌then◌else◌, List, [], ◌∷◌, Option, Some}
+use Rattle.std.specs.Prelude.{None, slice_get, take, drop}
 use Rattle.std.specs.List.{list_all, list_any, enumerate_from}
 use Rattle.pg_num.specs.declared.limits.TheConstants.{FUNCTION_LIMIT, GLOBAL_LIMIT, INSTRUCTION_LIMIT, FUNCTION_REGISTER_LIMIT, SIZE_LIMIT}
 use Rattle.pg_num.specs.declared.layout.TheConstants.{GLOBALS_END}
@@ -122,7 +123,8 @@ holds_blocks p f x = list_all (λ (y : Block). y.function == f) (take x.blocks (
 
 unfoldable pub function_fits : NumberedProgram → ℕ → Function → Bool
 function_fits p f x =
-    (nat_lt 0 x.blocks && (nat_le x.params (length x.registers) && nat_le (length x.registers) FUNCTION_REGISTER_LIMIT)) && (nat_le (x.first_block.0 + x.blocks) (length p.blocks) && holds_blocks p f x)
+    (nat_lt 0 x.blocks && (nat_le x.params (length x.registers) && nat_le (length x.registers) FUNCTION_REGISTER_LIMIT))
+    && (nat_le (x.first_block.0 + x.blocks) (length p.blocks) && holds_blocks p f x)
 
 -- ---- globals
 

@@ -1,5 +1,6 @@
 -- A numbered program: its functions, basic blocks, instructions and globals, each in text order.
 use Rattle.std.specs.Prelude.{ℕ, ◌+◌, List, [], Option, Some, None, slice_get}
+use Rattle.pg_num.specs.Pointers.{word_of}
 use Rattle.pg_ir.specs.declared.function.Function.{Function}
 use Rattle.pg_ir.specs.declared.function.Block.{Block}
 use Rattle.pg_ir.specs.declared.function.GlobalInfo.{GlobalInfo}
@@ -16,6 +17,11 @@ pub record NumberedProgram : Type 0 where
 -- the program of these parts
 abbrev pub numbered_program : List Function → List Block → List Instr → List GlobalInfo → ℕ → NumberedProgram
 numbered_program functions blocks instrs globals main = record { functions = functions; blocks = blocks; instrs = instrs; globals = globals; main = main }
+
+-- the pointer to the first byte of a global
+abbrev pub pointer_to : Option GlobalInfo → Option ℕ
+pointer_to None = None
+pointer_to (Some g) = Some (word_of (record { start = g.start; length = g.size; offset = 0 }))
 
 -- ---- parts by number; where there is no such part, one that is empty
 

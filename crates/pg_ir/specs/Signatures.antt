@@ -5,7 +5,9 @@ use Rattle.pg_num.specs.declared.width.Width.TheVariants.{W32, W64}
 use Rattle.pg_ir.specs.declared.value.Scalar.{Scalar}
 use Rattle.pg_ir.specs.declared.value.Scalar.TheVariants.{Int, Ptr}
 use Rattle.pg_ir.specs.declared.known.Known.{Known}
-use Rattle.pg_ir.specs.declared.known.Known.TheVariants.{PgIn, PgInLen, PgOut, Putchar, Malloc, Free, PthreadCreate, PthreadJoin, PthreadExit, PthreadMutexInit, PthreadMutexLock, PthreadMutexTrylock, PthreadMutexUnlock, PthreadMutexDestroy, PthreadCondInit, PthreadCondWait, PthreadCondSignal, PthreadCondBroadcast, PthreadCondDestroy, PthreadBarrierInit, PthreadBarrierWait, PthreadBarrierDestroy}
+use Rattle.pg_ir.specs.declared.known.Known.TheVariants.{PgIn, PgInLen, PgOut, Putchar, Malloc, Free, PthreadCreate, PthreadJoin, PthreadExit, PthreadMutexInit, PthreadMutexLock}
+use Rattle.pg_ir.specs.declared.known.Known.TheVariants.{PthreadMutexTrylock, PthreadMutexUnlock, PthreadMutexDestroy, PthreadCondInit, PthreadCondWait, PthreadCondSignal}
+use Rattle.pg_ir.specs.declared.known.Known.TheVariants.{PthreadCondBroadcast, PthreadCondDestroy, PthreadBarrierInit, PthreadBarrierWait, PthreadBarrierDestroy}
 
 abbrev pub parameters_of : Known → List Scalar
 parameters_of PgIn = Int W64 ∷ []

@@ -1,7 +1,8 @@
 -- The name of each trap, as it is printed.
 use Rattle.std.specs.Prelude.{ℕ, List, codes}
 use Rattle.pg_ir.specs.declared.request.TrapName.{TrapName}
-use Rattle.pg_ir.specs.declared.request.TrapName.TheVariants.{DivideByZero, DivideOverflow, OutOfRange, Misaligned, Unset, Unreachable, CallDepth, Registers, StackFull, NotOwner, WrongObject, BusyObject, TooManyObjects, TooManyThreads, BadAttribute, BadJoin, Deadlock}
+use Rattle.pg_ir.specs.declared.request.TrapName.TheVariants.{DivideByZero, DivideOverflow, OutOfRange, Misaligned, Unset, Unreachable, CallDepth, Registers, StackFull, NotOwner}
+use Rattle.pg_ir.specs.declared.request.TrapName.TheVariants.{WrongObject, BusyObject, TooManyObjects, TooManyThreads, BadAttribute, BadJoin, Deadlock}
 
 abbrev pub trap_text : TrapName → List ℕ
 trap_text DivideByZero = codes "DivideByZero"

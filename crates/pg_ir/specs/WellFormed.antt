@@ -1,6 +1,7 @@
 -- What holds of each numbered program: every number is that of a part, and the types fit (LLVM
 -- Language Reference).
-use Rattle.std.specs.Prelude.{◌≡◌, ℕ, ◌+◌, ◌/◌, ◌<◌, ◌≤◌, max, ◌↔◌, ◌⊎◌, List, [], ◌∷◌, length, IsTrue, Option, Some, None, IfSome, IsSomeAnd, Contains, ◌≢◌, take, slice_get}
+use Rattle.std.specs.Prelude.{◌≡◌, ℕ, ◌+◌, ◌/◌, ◌<◌, ◌≤◌, max, ◌↔◌, ◌⊎◌, List, [], ◌∷◌, length, IsTrue, Option, Some, None, IfSome, IsSomeAnd}
+use Rattle.std.specs.Prelude.{Contains, ◌≢◌, take, slice_get}
 use Rattle.std.specs.List.{AllByRecursion}
 use Rattle.pg_num.specs.Numbers.{modulus, width_bits}
 use Rattle.pg_num.specs.declared.limits.TheConstants.{FUNCTION_LIMIT, GLOBAL_LIMIT, INSTRUCTION_LIMIT, FUNCTION_REGISTER_LIMIT, SIZE_LIMIT}

@@ -1,3 +1,5 @@
+//! Programs from parts, which are checked.
+
 ghost use Rattle.std.specs.Prelude.{◌≡◌, ◌==◌, ◌≤◌, ◌<◌, true, ◌^◌, slice_get};
 ghost use Rattle.std.specs.List.{list_all};
 ghost use Rattle.pg_ir.specs.PlaceTests.{holds_instrs, block_fits, holds_blocks, function_fits, global_fits, lie_from, main_fits, counts_fit, functions_fit, blocks_fit, instrs_fit, program_fits};

@@ -1,3 +1,5 @@
+//! The rows of `phi`s and `switch`es.
+
 use crate::ids::BlockNo;
 use crate::value::Value;
 

@@ -1,3 +1,5 @@
+//! Why parts make no program.
+
 ghost use Rattle.std.specs.Prelude.{◌≡◌, Some, codes};
 ghost use Rattle.pg_ir.specs.ErrorTexts.{error_text};
 ghost use Rattle.pg_ir.specs.declared.error.ProgramError.TheVariants.{OutOfMemory};

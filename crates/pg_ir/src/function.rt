@@ -1,3 +1,5 @@
+//! Functions, basic blocks and globals.
+
 use crate::ids::{BlockNo, InstrId};
 use crate::lists::{Bytes, Scalars};
 use crate::value::Scalar;

@@ -1,3 +1,5 @@
+//! The numbers of threads, instructions and blocks.
+
 /// The number of a thread: main is 0, and each create gives the next number.
 #[derive(Clone, Copy, Debug, PartialEq, Eq, PartialOrd, Ord, Hash)]
 pub struct ThreadNo(pub u8);

@@ -1,3 +1,5 @@
+//! Instructions and their operations.
+
 use crate::ids::BlockNo;
 use crate::known::Known;
 use crate::lists::{Cases, Incomings, Indices, Values};

@@ -1,3 +1,5 @@
+//! Lists of operands and types.
+
 ghost use Rattle.std.specs.Prelude.{◌≡◌};
 
 use crate::edge::{Case, Incoming};

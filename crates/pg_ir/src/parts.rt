@@ -1,3 +1,5 @@
+//! The parts of a program, before it is one.
+
 ghost use Rattle.std.specs.Prelude.{◌≡◌, ◌<◌, ◌^◌};
 ghost use Rattle.pg_ir.specs.Program.{types_of, result_of, function_of, first_of, end_of, first_block_of, parameter_count};
 ghost use Rattle.pg_ir.specs.WellFormed.{parameter_types};

@@ -1,9 +1,12 @@
+//! Whether instructions, blocks and functions stand where they may.
+
 ghost use Rattle.std.specs.Prelude.{◌≡◌, ◌-◌, ◌<◌, ◌^◌, length, drop, slice_get};
 ghost use Rattle.std.specs.List.{prefix_len};
 ghost use Rattle.pg_ir.specs.Edges.{is_phi, is_terminator, phis_of, instrs_of};
 ghost use Rattle.pg_ir.specs.Program.{first_of, end_of};
 ghost use Rattle.pg_ir.specs.WellFormed.{type_at};
-ghost use Rattle.pg_ir.specs.PlaceTests.{lists_block, phis_list, in_function, target_fits, case_targets_fit, targets_fit, has_case_to, has_target, goes_to, phi_at, follows_phi, each_goes_to, sources_fit, is_entered, phi_fits, phi_fits_if_one, end_fits, place_fits, result_fits, instr_op_fits, instr_fits};
+ghost use Rattle.pg_ir.specs.PlaceTests.{lists_block, phis_list, in_function, target_fits, case_targets_fit, targets_fit, has_case_to, has_target, goes_to, phi_at, follows_phi};
+ghost use Rattle.pg_ir.specs.PlaceTests.{each_goes_to, sources_fit, is_entered, phi_fits, phi_fits_if_one, end_fits, place_fits, result_fits, instr_op_fits, instr_fits};
 
 use crate::edge::{Case, Incoming};
 use crate::instr::{Instr, Op};

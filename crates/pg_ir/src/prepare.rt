@@ -1,3 +1,5 @@
+//! What is prepared of each basic block, so that a step finds it at once.
+
 ghost use Rattle.std.specs.Prelude.{◌≡◌, ◌<◌, ◌+◌, ◌++◌, length, map, replicate, None, Some, slice_get, slice_set, IfOk, IfSome, OnOk};
 ghost use Rattle.pg_ir.specs.declared.instr.Instr.{Instr};
 ghost use Rattle.pg_ir.specs.Edges.{targets_of, incoming_of, incoming_from, phis_of, values_along, successors};

@@ -1,3 +1,5 @@
+//! A program, and its parts by number.
+
 ghost use Rattle.std.specs.Prelude.{◌≡◌, ℕ, ◌<◌, ◌≤◌, ◌+◌, ◌∷◌, length, map, take, drop, take_while, Some, slice_get, IfOk, IfErr, IsSomeAnd};
 ghost use Rattle.pg_ir.specs.declared.instr.Instr.{Instr};
 ghost use Rattle.pg_ir.specs.declared.edge.Case.{Case};
@@ -5,7 +7,7 @@ ghost use Rattle.pg_ir.specs.declared.error.ProgramError.TheVariants.{Malformed}
 ghost use Rattle.pg_ir.specs.Edges.{is_phi, instrs_of, phis_of, body_of, successors, values_along, case_of};
 ghost use Rattle.pg_ir.specs.Tables.{AreTables, HasCases, IsCaseTable, block_cases};
 ghost use Rattle.pg_ir.specs.Operands.{CanReadAll, CanGoOn};
-ghost use Rattle.pg_ir.specs.Program.{types_of, function_of};
+ghost use Rattle.pg_ir.specs.Program.{types_of, function_of, pointer_to};
 ghost use Rattle.pg_ir.specs.WellFormed.{FitsInstr, FitsBlock, FitsFunction, FitsGlobal, IsProgram};
 
 use crate::edge::Case;
@@ -17,6 +19,7 @@ use crate::parts::Parts;
 use crate::prepare::case_target;
 use crate::tables::{CaseRow, Tables, first_target};
 use crate::value::Value;
+use pg_num::{Pointer, pack};
 use std::alloc::Global;
 use std::marker::Model;
 
@@ -39,7 +42,8 @@ impl Model for Program {
 
     ghost view = { λ p. record { functions = p.functions.items; blocks = p.blocks.items; instrs = p.instrs.items; globals = p.globals.items; main = p.main } };
 
-    ghost invariant = { λ p. IsPrepared (record { functions = p.functions.items; blocks = p.blocks.items; instrs = p.instrs.items; globals = p.globals.items; main = p.main }) p.tables.edges.items p.tables.values.items p.tables.cases.items p.tables.blocks.items };
+    ghost invariant = { λ p. IsPrepared (record { functions = p.functions.items; blocks = p.blocks.items; instrs = p.instrs.items; globals = p.globals.items; main = p.main })
+        p.tables.edges.items p.tables.values.items p.tables.cases.items p.tables.blocks.items };
 }
 
 /// So many `phi`s with which a list of instructions begins.
@@ -283,6 +287,21 @@ impl Program {
         ensures fits { FitsGlobal result.now }
     {
         &self.globals[g as usize]
+    }
+
+    /// The word of the pointer to the first byte of a global, if there is one of this number.
+    pub fn global_pointer(&self, g: u32) -> Option<u64>
+        ensures { result ≡ pointer_to (slice_get self.now.globals g) }
+    {
+        if g >= self.global_count() {
+            return None;
+        }
+        let global = self.global(g);
+        Some(pack(Pointer {
+            start: global.start,
+            length: global.size,
+            offset: 0,
+        }))
     }
 
     /// How many globals the program has.

@@ -1,3 +1,5 @@
+//! What a thread asks at an event.
+
 ghost use Rattle.std.specs.Prelude.{◌≡◌, Some};
 ghost use Rattle.pg_ir.specs.TrapNames.{trap_text};
 

@@ -1,3 +1,5 @@
+//! The parameters and results of known functions.
+
 ghost use Rattle.std.specs.Prelude.{◌≡◌};
 ghost use Rattle.pg_ir.specs.Signatures.{parameters_of, returned_by};
 

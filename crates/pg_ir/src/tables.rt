@@ -1,3 +1,5 @@
+//! The tables of what is prepared.
+
 ghost use Rattle.std.specs.Prelude.{◌≡◌, slice_get};
 ghost use Rattle.std.specs.List.Sorted.{IsNonDecreasingBy};
 ghost use Rattle.pg_ir.specs.declared.tables.CaseRow.{CaseRow};

@@ -1,8 +1,12 @@
+//! Whether operands and results have the types that operations take and give.
+
 ghost use Rattle.std.specs.Prelude.{◌≡◌, nat_lt, length};
 ghost use Rattle.std.specs.List.{list_all};
 ghost use Rattle.pg_num.specs.Numbers.{modulus};
 ghost use Rattle.pg_ir.specs.WellFormed.{width_of};
-ghost use Rattle.pg_ir.specs.TypeTests.{has_type, each_has_type, have_types, begins_thread, starts_thread, create_fits, known_fits, return_fits, has_width, both_have_type, binary_fits, compared_fit, stored_fits, narrower, chosen_fit, incoming_fits, all_incoming_fit, cases_fit, indices_fit, call_fits, value_op_fits, cast_fits, memory_op_fits, control_op_fits, op_fits};
+ghost use Rattle.pg_ir.specs.TypeTests.{has_type, each_has_type, have_types, begins_thread, starts_thread, create_fits, known_fits, return_fits, has_width, both_have_type, binary_fits};
+ghost use Rattle.pg_ir.specs.TypeTests.{compared_fit, stored_fits, narrower, chosen_fit, incoming_fits, all_incoming_fit, cases_fit, indices_fit, call_fits, value_op_fits, cast_fits};
+ghost use Rattle.pg_ir.specs.TypeTests.{memory_op_fits, control_op_fits, op_fits};
 
 use crate::edge::{Case, Incoming};
 use crate::function::Function;

@@ -1,3 +1,5 @@
+//! Types of registers, and operands.
+
 use pg_num::Width;
 
 /// The type of a register: an integer of a width, or a pointer, which has 64 bits.

@@ -12,7 +12,8 @@ use Rattle.pg_closed.specs.Rules.{Condition, Need, Value, Frame, all_of, frame_n
 use Rattle.pg_closed.specs.Closed.{AreWithin, admits, conditions, conditions_at}
 use Rattle.pg_least.specs.Keeps.{ExtentsKeep}
 use Rattle.pg_least.specs.Laws.{StayKnown}
-use Rattle.pg_least.proofs.Zips.{cases_in, here, index_like, none_in, there}
+use Rattle.pg_least.proofs.Zips.{index_like}
+use Rattle.pg_paths.proofs.Elements.{cases as cases_in, here, none_in, there}
 use Rattle.pg_least.proofs.Links.{IsLink}
 use Rattle.pg_least.proofs.Likes.{Likes, likes_link}
 use Rattle.pg_least.proofs.Needs.{NeedLike, NeedsWithin, SeenLike, frames_within, values_within}

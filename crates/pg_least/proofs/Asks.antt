@@ -7,7 +7,7 @@ use Rattle.pg_closed.specs.declared.decision.Decision.{Decision}
 use Rattle.pg_closed.specs.Known.{Reference, Seen, Taken}
 use Rattle.pg_closed.specs.Rules.{all_of, asks_disturbed, asks_frames, asks_pins, asks_shared, asks_values}
 use Rattle.pg_closed.specs.Closed.{asks_at}
-use Rattle.pg_least.proofs.Zips.{cases_in, here, none_in, there}
+use Rattle.pg_paths.proofs.Elements.{cases as cases_in, here, none_in, there}
 
 pub all_in : {A : Type 0} (P : A → Type 0) (xs : List A) (z : A) → AllByRecursion P xs → Contains xs z → P z
 all_in P [] z h c = absurd (none_in z c)

@@ -9,7 +9,8 @@ use Rattle.pg_closed.specs.Known.{Reference, Seen, Taken, has, seen_in}
 use Rattle.pg_closed.specs.Rules.{all_of, asks_disturbed, asks_frames, asks_pins, asks_shared, asks_values}
 use Rattle.pg_closed.specs.Closed.{IsClosed, IsSlice, asks, asks_at}
 use Rattle.pg_least.specs.Keeps.{every}
-use Rattle.pg_least.proofs.Zips.{all_none, none_in}
+use Rattle.pg_least.proofs.Zips.{all_none}
+use Rattle.pg_paths.proofs.Elements.{none_in}
 use Rattle.pg_least.proofs.Asks.{By_disturbed, By_frames, By_pins, By_shared, By_values, IsAskedBy, asked_by, in_all_of, none_asked, of_all}
 use Rattle.pg_least.proofs.Missing.{asks_new}
 

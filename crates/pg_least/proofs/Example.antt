@@ -21,10 +21,10 @@ use Rattle.pg_closed.specs.Shadows.{is_within}
 use Rattle.pg_closed.specs.Extents.{begun}
 use Rattle.pg_closed.specs.Known.{edge_of}
 use Rattle.pg_closed.specs.Rooted.{rooted_bytes0}
-use Rattle.pg_least.specs.Keeps.{AreStacked, KeepsTo, MaySet, Returns, StoresBy, is_branching, is_store}
-use Rattle.pg_least.specs.Along.{Goes, OpenExtent, StepGoes, Track, calls_behind, extents_behind, first_track, made_behind, region_in, step_at}
+use Rattle.pg_least.specs.Keeps.{AreStacked, KeepsTo, MaySet, MaySetPhis, Returns, StoresBy, is_branching, is_store}
+use Rattle.pg_least.specs.Along.{Goes, OpenExtent, StepGoes, Track, calls_behind, extents_behind, extents_in, first_track, made_behind, region_in, step_at}
 use Rattle.pg_least.specs.Kept.{kept, kept_bytes1, step_of}
-use Rattle.pg_least.proofs.Zips.{cases_in, none_in}
+use Rattle.pg_paths.proofs.Elements.{cases as cases_in, none_in}
 
 -- a step that is no store
 no_store : (n : ℕ) (m : Moment) (x : Instr) (c : Access) → instr_in kept.program m ≡ Some x → is_store x.op ≡ false → StoresBy kept (step_at kept n m) c → ⊥
@@ -104,25 +104,43 @@ registers = Some 0 ∷ Some 0 ∷ Some 4398063288320 ∷ Some 7 ∷ Some 1 ∷ [
 same_some : {A : Type 0} (x y : A) → Some x ≡ Some y → x ≡ y
 same_some x y q = cc
 
+-- a step of the only thread in its only call, by the extents before it and behind it
+module _ (n i : ℕ) (kind : StepKind) (rs : List (Option ℕ)) (bytes : ℕ → ℕ) (a b : ℕ → List OpenExtent) where
+  abbrev moment : Moment
+  moment = step_of i kind rs bytes 1
+
+  goes_by : calls_behind (instr_in kept.program moment) kind 1 ≡ 1 → made_behind (instr_in kept.program moment) kind ≡ 0
+      → ((c : Access) → StoresBy kept (step_at kept n moment) c → (j : ℕ) → is_within (range_of c) j ≡ true → is_within (frame_of c.pointer) j ≡ true)
+      → ((r : FreeRegion) → region_in kept moment ≡ Some r → (x : Instr) → instr_in kept.program moment ≡ Some x → is_branching x.op ≡ true)
+      → ((r : FreeRegion) → region_in kept moment ≡ Some r → MaySetPhis kept.program r.sets (edge_of kept.program moment kind))
+      → ((t : ℕ) (o : OpenExtent) → Contains (a t) o → 0 ≡ t) → AreStacked 1 (edge_of kept.program moment kind) (begun n 1 (region_in kept moment) (extents_in (a 0)))
+      → ((o : OpenExtent) → Contains (a 0) o → KeepsTo kept o.region o.extent.depth (step_at kept n moment))
+      → b 0 ≡ extents_behind n 1 (region_in kept moment) (edge_of kept.program moment kind) (a 0) → ((u : ℕ) → (u ≡ 0 → ⊥) → b u ≡ a u)
+      → StepGoes kept n (record first_track { extents = a }) moment (record first_track { extents = b })
+  goes_by c d frames branches own together nested keep own_extents other_extents = record {
+    known = omega arith;
+    calls = refl;
+    frames = frames;
+    branches = branches;
+    own = own;
+    together = together;
+    nested = nested;
+    keep = keep;
+    more = rw d (omega arith);
+    own_calls = sym c;
+    other_calls = λ u o l. refl;
+    first_call = λ u h l. absurd (omega (arith, h, l));
+    own_extents = own_extents;
+    other_extents = other_extents;
+  }
+
 -- the first branch, whose edge leads to the join
 first_branch : StepGoes kept 3 first_track (step_of 2 (kinds.Branch 0) (Some 0 ∷ Some 0 ∷ None ∷ None ∷ None ∷ []) rooted_bytes0 1) first_track
 unfolding instrs_of phis_of end_of first_of
-first_branch = record {
-  known = omega arith;
-  calls = refl;
-  frames = λ a h. absurd (no_store 3 m _ a refl refl h);
-  branches = λ r f i q. ap (λ (i : Instr). is_branching i.op) (sym (same_some _ i q));
-  own = λ r f i c. phi r (same_some first_region r f) i (cases_in _ [] i c);
-  together = λ t o h. absurd (none_in o h);
-  nested = (λ o c e. absurd (none_in o c), tt);
-  keep = λ o h. absurd (none_in o h);
-  more = omega arith;
-  own_calls = refl;
-  other_calls = λ u o l. refl;
-  first_call = λ u h l. absurd (omega (arith, h, l));
-  own_extents = refl;
-  other_extents = λ u o. refl;
-}
+first_branch = goes_by 3 2 (kinds.Branch 0) (Some 0 ∷ Some 0 ∷ None ∷ None ∷ None ∷ []) rooted_bytes0 first_track.extents first_track.extents refl refl
+    (λ a h. absurd (no_store 3 m _ a refl refl h)) (λ r f i q. ap (λ (i : Instr). is_branching i.op) (sym (same_some _ i q)))
+    (λ r f i c. phi r (same_some first_region r f) i (cases_in _ [] i c)) (λ t o h. absurd (none_in o h)) (λ o c e. absurd (none_in o c), tt)
+    (λ o h. absurd (none_in o h)) refl (λ u o. refl)
   where
     m : Moment
     m = step_of 2 (kinds.Branch 0) (Some 0 ∷ Some 0 ∷ None ∷ None ∷ None ∷ []) rooted_bytes0 1
@@ -140,22 +158,10 @@ first_branch = record {
 -- the second branch begins an extent
 second_branch : StepGoes kept 6 first_track (step_of 7 (kinds.Branch 1) registers rooted_bytes0 1) inside
 unfolding instrs_of phis_of end_of first_of
-second_branch = record {
-  known = omega arith;
-  calls = refl;
-  frames = λ a h. absurd (no_store 6 (step_of 7 (kinds.Branch 1) registers rooted_bytes0 1) _ a refl refl h);
-  branches = λ r f i q. ap (λ (i : Instr). is_branching i.op) (sym (same_some _ i q));
-  own = λ r f i c. absurd (none_in i c);
-  together = λ t o h. absurd (none_in o h);
-  nested = (λ o c e. absurd (none_in o c), tt);
-  keep = λ o h. absurd (none_in o h);
-  more = omega arith;
-  own_calls = refl;
-  other_calls = λ u o l. refl;
-  first_call = λ u h l. absurd (omega (arith, h, l));
-  own_extents = refl;
-  other_extents = λ u o. none_outside u o;
-}
+second_branch = goes_by 6 7 (kinds.Branch 1) registers rooted_bytes0 first_track.extents inside.extents refl refl
+    (λ a h. absurd (no_store 6 (step_of 7 (kinds.Branch 1) registers rooted_bytes0 1) _ a refl refl h)) (λ r f i q. ap (λ (i : Instr). is_branching i.op) (sym (same_some _ i q)))
+    (λ r f i c. absurd (none_in i c)) (λ t o h. absurd (none_in o h)) (λ o c e. absurd (none_in o c), tt)
+    (λ o h. absurd (none_in o h)) refl (λ u o. none_outside u o)
 
 abbrev stored : Access
 stored = record { pointer = 4398063288320; number = 1; bytes = 8; writes = true; event = false }
@@ -175,22 +181,10 @@ no_return n m x e q h =
 -- the store in the extent
 store_step : StepGoes kept 7 inside (step_of 8 (kinds.Access stored) registers rooted_bytes0 1) inside
 unfolding instrs_of phis_of end_of first_of
-store_step = record {
-  known = omega arith;
-  calls = refl;
-  frames = λ a h j q. subst (λ (a : Access). is_within (range_of a) j ≡ true → is_within (frame_of a.pointer) j ≡ true) (same_access stored a h.kind) (λ q. q) q;
-  branches = λ r f. no_region None r refl f;
-  own = λ r f. no_region None r refl f;
-  together = λ t o h. sym (own_in t o h).0;
-  nested = (λ o c e. absurd (none_in o c), tt);
-  keep = λ o h. subst (λ (o : OpenExtent). KeepsTo kept o.region o.extent.depth (step_at kept 7 m)) (own_in 0 o h).1 kept_to;
-  more = omega arith;
-  own_calls = refl;
-  other_calls = λ u o l. refl;
-  first_call = λ u h l. absurd (omega (arith, h, l));
-  own_extents = refl;
-  other_extents = λ u o. refl;
-}
+store_step = goes_by 7 8 (kinds.Access stored) registers rooted_bytes0 inside.extents inside.extents refl refl
+    (λ a h j q. subst (λ (a : Access). is_within (range_of a) j ≡ true → is_within (frame_of a.pointer) j ≡ true) (same_access stored a h.kind) (λ q. q) q)
+    (λ r f. no_region None r refl f) (λ r f. no_region None r refl f) (λ t o h. sym (own_in t o h).0) (λ o c e. absurd (none_in o c), tt)
+    (λ o h. subst (λ (o : OpenExtent). KeepsTo kept o.region o.extent.depth (step_at kept 7 m)) (own_in 0 o h).1 kept_to) refl (λ u o. refl)
   where
     m : Moment
     m = step_of 8 (kinds.Access stored) registers rooted_bytes0 1
@@ -210,22 +204,10 @@ store_step = record {
 -- the edge to the join
 last_step : StepGoes kept 8 inside (step_of 9 kinds.Other registers kept_bytes1 1) first_track
 unfolding instrs_of phis_of end_of first_of
-last_step = record {
-  known = omega arith;
-  calls = refl;
-  frames = λ a h. absurd (no_store 8 m _ a refl refl h);
-  branches = λ r f. no_region None r refl f;
-  own = λ r f. no_region None r refl f;
-  together = λ t o h. sym (own_in t o h).0;
-  nested = (λ o c e. absurd (none_in o c), tt);
-  keep = λ o h. subst (λ (o : OpenExtent). KeepsTo kept o.region o.extent.depth (step_at kept 8 m)) (own_in 0 o h).1 kept_to;
-  more = omega arith;
-  own_calls = refl;
-  other_calls = λ u o l. refl;
-  first_call = λ u h l. absurd (omega (arith, h, l));
-  own_extents = refl;
-  other_extents = λ u o. sym (none_outside u o);
-}
+last_step = goes_by 8 9 kinds.Other registers kept_bytes1 inside.extents first_track.extents refl refl
+    (λ a h. absurd (no_store 8 m _ a refl refl h)) (λ r f. no_region None r refl f)
+    (λ r f. no_region None r refl f) (λ t o h. sym (own_in t o h).0) (λ o c e. absurd (none_in o c), tt)
+    (λ o h. subst (λ (o : OpenExtent). KeepsTo kept o.region o.extent.depth (step_at kept 8 m)) (own_in 0 o h).1 kept_to) refl (λ u o. sym (none_outside u o))
   where
     m : Moment
     m = step_of 9 kinds.Other registers kept_bytes1 1

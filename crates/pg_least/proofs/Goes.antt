@@ -1,5 +1,6 @@
 -- What was followed along the moments holds of the steps with what is known before them.
-use Rattle.std.proofs.Common.{◌≡◌, ℕ, zero, suc, ◌-◌, ◌<◌, ◌≤◌, Bool, true, false, List, [], ◌∷◌, length, Option, Some, None, refl, sym, ap, ◌∙◌, subst, inl, inr, ◌⊎◌, arith}
+use Rattle.std.proofs.Common.{◌≡◌, ℕ, zero, suc, ◌-◌, ◌<◌, ◌≤◌, Bool, true, false, List, [], ◌∷◌, length, Option, Some, None, refl, sym, ap, ◌∙◌, subst}
+use Rattle.std.proofs.Common.{inl, inr, ◌⊎◌, arith}
 use Rattle.std.specs.Prelude.{Contains, filter, not, slice_index_or}
 use Rattle.std.proofs.lemmas.Bool.{cases_eq, cases_lt}
 use Rattle.pg_ir.specs.declared.instr.Instr.{Instr}
@@ -16,8 +17,9 @@ use Rattle.pg_trace.specs.Steps.{range_of}
 use Rattle.pg_closed.specs.Extents.{Extent, begun, ends, open_after}
 use Rattle.pg_closed.specs.Known.{Reference, RunShadow, Seen, Taken, ThreadShadow, after_step, edge_of, no_thread, seen_from, start_of, thread_of}
 use Rattle.pg_least.specs.Keeps.{AreStacked, MaySetPhis, depth_of, edge_at, instr_of, is_branching, ExtentsKeep, KeepsTo, StoresBy, every, open_before, open_in, steps_of}
-use Rattle.pg_least.specs.Along.{Goes, GoesFrom, OpenExtent, StepGoes, Track, calls_behind, extents_behind, extents_in, first_track, made_behind, made_by_event, made_by_kind, region_in, step_at, with_begun}
-use Rattle.pg_least.proofs.Zips.{cases_in, here, none_in, there}
+use Rattle.pg_least.specs.Along.{Goes, GoesFrom, OpenExtent, StepGoes, Track, calls_behind, extents_behind, extents_in, first_track, made_behind, made_by_event, made_by_kind, region_in}
+use Rattle.pg_least.specs.Along.{step_at, with_begun}
+use Rattle.pg_paths.proofs.Elements.{cases as cases_in, here, none_in, there}
 use Rattle.pg_least.proofs.Threads.{extents_after, length_next, live_at, made_at, made_by, made_in, next_calls, next_made, own_calls, own_made, own_region, thread_made, thread_other, thread_own}
 use Rattle.pg_least.proofs.Stands.{live_every}
 use Rattle.pg_least.proofs.Heights.{calls_length}

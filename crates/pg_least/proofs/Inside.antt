@@ -1,5 +1,6 @@
 -- A live step in an extent that stands still under fewer decisions: it changes what is unknown there alone.
-use Rattle.std.proofs.Common.{◌≡◌, ℕ, suc, ◌+◌, ◌-◌, ◌<◌, Bool, true, false, List, [], ◌∷◌, ◌++◌, length, Option, Some, None, refl, sym, ap, ◌∙◌, subst, arith, length-append}
+use Rattle.std.proofs.Common.{◌≡◌, ℕ, suc, ◌+◌, ◌-◌, ◌<◌, Bool, true, false, List, [], ◌∷◌, ◌++◌, length, Option, Some, None, refl, sym, ap, ◌∙◌, subst}
+use Rattle.std.proofs.Common.{arith, length-append}
 use Rattle.std.specs.Prelude.{◌||◌, if◌then◌else◌}
 use Rattle.std.proofs.lemmas.Bool.{true≢false}
 use Rattle.pg_num.specs.Places.{ByteRange}
@@ -20,7 +21,8 @@ use Rattle.pg_closed.specs.Moments.{Moment, instr_in}
 use Rattle.pg_closed.specs.Freeable.{FreeRegion, frame_of}
 use Rattle.pg_closed.specs.Shadows.{Shadow, Unknown, is_within, spoiled, stored, byte_in}
 use Rattle.pg_closed.specs.Extents.{edge_by, edge_in}
-use Rattle.pg_closed.specs.Known.{RunShadow, Taken, after_access, after_branch, after_known, after_op, bytes_freed, bytes_stored, caller_target, edge_of, forgotten_bytes, has, result_in, under_top, with_top}
+use Rattle.pg_closed.specs.Known.{RunShadow, Taken, after_access, after_branch, after_known, after_op, bytes_freed, bytes_stored, caller_target, edge_of, forgotten_bytes, has, result_in}
+use Rattle.pg_closed.specs.Known.{under_top, with_top}
 use Rattle.pg_least.specs.Keeps.{MaySet, MaySetPhis, is_store, may_write}
 use Rattle.pg_least.proofs.Links.{AreForgotten, IsLink, Outside, changed_like, forgotten_byte, outside_edge, outside_forgotten, outside_same, outside_target}
 use Rattle.pg_least.proofs.Live.{CallsLike, calls_by, known_bytes, known_words}

@@ -9,10 +9,11 @@ use Rattle.pg_closed.specs.declared.decision.Decision.TheVariants.{Pinned, Exact
 use Rattle.pg_closed.specs.Moments.{thread_in}
 use Rattle.pg_closed.specs.Shadows.{Shadow, Known, Framed, Unknown, blames, frame_blames}
 use Rattle.pg_closed.specs.Known.{Reference, RunShadow, Seen, Taken, has, seen_in}
-use Rattle.pg_closed.specs.Rules.{Footprint, Need, Value, Frame, access_print, all_of, any_conflict, asks_disturbed, asks_frames, asks_pins, asks_shared, asks_values, frame_needs, frames_meet, is_bound, is_disturbed, is_plain, is_shared, kind_in, need_blames, region_prints, value_needs}
+use Rattle.pg_closed.specs.Rules.{Footprint, Need, Value, Frame, access_print, all_of, any_conflict, asks_disturbed, asks_frames, asks_pins, asks_shared, asks_values, frame_needs}
+use Rattle.pg_closed.specs.Rules.{frames_meet, is_bound, is_disturbed, is_plain, is_shared, kind_in, need_blames, region_prints, value_needs}
 use Rattle.pg_closed.specs.Closed.{AreWithin, IsClosed, asks, asks_at}
 use Rattle.pg_least.specs.Keeps.{ExtentsKeep}
-use Rattle.pg_least.proofs.Zips.{cases_in, here, none_in, there}
+use Rattle.pg_paths.proofs.Elements.{cases as cases_in, here, none_in, there}
 use Rattle.pg_least.proofs.Links.{IsLink}
 use Rattle.pg_least.proofs.Likes.{Likes, likes_link}
 use Rattle.pg_least.proofs.Needs.{NeedLike, NeedsWithin, SeenLike, frames_within, seen_as, values_within}

@@ -13,6 +13,7 @@ pub mod Stands
 pub mod Heights
 pub mod Inside
 pub mod Instances
+pub mod Alike
 pub mod Runs
 pub mod Whole
 pub mod Larger

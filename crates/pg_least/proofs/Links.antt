@@ -20,7 +20,8 @@ use Rattle.pg_closed.specs.Rules.{moved_shadow}
 use Rattle.pg_closed.specs.Closed.{AreWithin}
 use Rattle.pg_least.specs.Keeps.{MaySet, MaySetPhis, may_write}
 use Rattle.pg_least.specs.Laws.{step_in}
-use Rattle.pg_least.proofs.Zips.{here, index_like, map_like, set_like, there}
+use Rattle.pg_least.proofs.Zips.{index_like, map_like, set_like}
+use Rattle.pg_paths.proofs.Elements.{here, there}
 
 pub record IsLink (d e : Taken) (bound : ℕ) (L : Shadow → Shadow → Type 0) : Type 0 where
   pub within : AreWithin d e

@@ -26,10 +26,13 @@ use Rattle.pg_closed.specs.Moments.{Moment, thread_in}
 use Rattle.pg_closed.specs.Freeable.{FreeRegion, frame_of}
 use Rattle.pg_closed.specs.Shadows.{Shadow, always, is_within, moved, result_of, applied, unset}
 use Rattle.pg_closed.specs.Extents.{edge_in}
-use Rattle.pg_closed.specs.Known.{RunShadow, Taken, after_access, after_branch, after_event, after_known, after_op, along_edge, bytes_by, bytes_freed, bytes_stored, caller_target, entered, exit_shadow, forgotten_from, from_input, load_of, operand_at, operand_shadows, registers_of, result_in, returned_shadow, started, top_of, under_top, with_top, words_after, written_shadow}
+use Rattle.pg_closed.specs.Known.{RunShadow, Taken, after_access, after_branch, after_event, after_known, after_op, along_edge, bytes_by, bytes_freed, bytes_stored, caller_target, entered}
+use Rattle.pg_closed.specs.Known.{exit_shadow, forgotten_from, from_input, load_of, operand_at, operand_shadows, registers_of, result_in, returned_shadow, started, top_of, under_top}
+use Rattle.pg_closed.specs.Known.{with_top, words_after, written_shadow}
 use Rattle.pg_least.specs.Keeps.{MaySetPhis, is_store}
 use Rattle.pg_least.proofs.Zips.{append_like, index_like, length_like, replicate_like, set_like}
-use Rattle.pg_least.proofs.Links.{IsLink, edge_like, forgotten_left, forgotten_like, changed_like, are_forgotten, outside_edge, free_bytes_left, free_bytes_like, loaded_like, operand_like, optional_like, spoiled_like, stored_left, stored_like, target_like, value_like, values_like}
+use Rattle.pg_least.proofs.Links.{IsLink, edge_like, forgotten_left, forgotten_like, changed_like, are_forgotten, outside_edge, free_bytes_left, free_bytes_like, loaded_like, operand_like}
+use Rattle.pg_least.proofs.Links.{optional_like, spoiled_like, stored_left, stored_like, target_like, value_like, values_like}
 
 -- ---- what a live step makes of the calls of its thread, of the bytes and of the words
 

@@ -1,5 +1,6 @@
 -- What is asked for isn't taken, and is a decision of a step of the run.
-use Rattle.std.proofs.Common.{◌≡◌, ℕ, zero, suc, ◌+◌, ◌<◌, ◌≤◌, Bool, true, false, List, [], ◌∷◌, ◌++◌, length, Option, Some, None, refl, sym, ◌∙◌, subst, inl, inr, ◌⊎◌, arith}
+use Rattle.std.proofs.Common.{◌≡◌, ℕ, zero, suc, ◌+◌, ◌<◌, ◌≤◌, Bool, true, false, List, [], ◌∷◌, ◌++◌, length, Option, Some, None, refl, sym, ◌∙◌}
+use Rattle.std.proofs.Common.{subst, inl, inr, ◌⊎◌, arith}
 use Rattle.std.specs.Prelude.{Contains, slice_index, slice_index_or, slice_set, if◌then◌else◌}
 use Rattle.std.specs.List.{AllZip, AllByRecursion}
 use Rattle.std.proofs.lemmas.Bool.{true≢false}
@@ -18,10 +19,12 @@ use Rattle.pg_closed.specs.Shadows.{Shadow, Known, Framed, Unknown, blames, fram
 use Rattle.pg_closed.specs.Known.{Reference, RunShadow, Seen, Taken, ThreadShadow, after_step, fresh_thread, no_thread, seen_from, seen_in, start_of, thread_of, with_extents}
 use Rattle.pg_closed.specs.Rules.{Need, Value, Frame, is_bound, is_disturbed, is_shared, need_blames, value_needs, frame_needs}
 use Rattle.pg_closed.specs.Closed.{asks, asks_at}
-use Rattle.pg_least.proofs.Zips.{cases_in, none_in, replicate_like}
+use Rattle.pg_least.proofs.Zips.{replicate_like}
+use Rattle.pg_paths.proofs.Elements.{cases as cases_in, none_in}
 use Rattle.pg_least.proofs.Links.{IsLink}
 use Rattle.pg_least.proofs.Live.{CallsLike, bytes_like, calls_like, top_like, words_like}
-use Rattle.pg_least.proofs.Threads.{bytes_next, calls_after, bytes_after, words_behind, extents_after, made_at, made_by, made_in, next_calls, next_made, own_region, live_at, threads_next, with_calls, words_next}
+use Rattle.pg_least.proofs.Threads.{bytes_next, calls_after, bytes_after, words_behind, extents_after, made_at, made_by, made_in, next_calls, next_made, own_region, live_at, threads_next}
+use Rattle.pg_least.proofs.Threads.{with_calls, words_next}
 use Rattle.pg_least.proofs.New.{BlamesNew, IsNew, SameNew, new_link}
 use Rattle.pg_least.proofs.Needs.{NeedLike, NeedsWithin, SeenLike, frames_within, values_within}
 use Rattle.pg_least.proofs.Asks.{By_disturbed, By_frames, By_pins, By_shared, By_values, IsAskedBy, all_in, asked_by, asked_if, in_all_of}

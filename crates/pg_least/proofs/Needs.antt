@@ -22,8 +22,11 @@ use Rattle.pg_closed.specs.Moments.{instr_in, thread_in}
 use Rattle.pg_closed.specs.Freeable.{FreeAccess, FreeRegion}
 use Rattle.pg_closed.specs.Shadows.{Shadow, loaded}
 use Rattle.pg_closed.specs.Known.{Reference, RunShadow, Seen, Taken, registers_of}
-use Rattle.pg_closed.specs.Rules.{Need, Value, Frame, access_needs_by, access_needs_in, all_of, checked_of, address_index, equal_to, event_needs, frame_needs, free_access_needs, is_malloc, kind_in, operand_of, path_needs, region_needs_in, registers_before, root_shadow, same_frame, value_needs, value_needs_by, value_needs_in, write_index, write_needs}
-use Rattle.pg_least.proofs.Zips.{append_like, here, map_like}
+use Rattle.pg_closed.specs.Rules.{Need, Value, Frame, access_needs_by, access_needs_in, all_of, checked_of, address_index, equal_to, event_needs, frame_needs, free_access_needs, is_malloc}
+use Rattle.pg_closed.specs.Rules.{kind_in, operand_of, path_needs, region_needs_in, registers_before, root_shadow, same_frame, value_needs, value_needs_by, value_needs_in, write_index}
+use Rattle.pg_closed.specs.Rules.{write_needs}
+use Rattle.pg_least.proofs.Zips.{append_like, map_like}
+use Rattle.pg_paths.proofs.Elements.{here}
 use Rattle.pg_least.proofs.Links.{IsLink, loaded_like, operand_like, register_like}
 
 -- ---- needs that are alike

@@ -1,122 +1,39 @@
 -- Along a reference run, what is known under some decisions and under more of them is alike.
-use Rattle.std.proofs.Common.{◌≡◌, ℕ, zero, suc, ◌-◌, ◌<◌, ◌≤◌, Bool, true, false, List, [], ◌++◌, length, Option, Some, None, refl, sym, ap, ◌∙◌, subst, inl, inr, ◌⊎◌, arith}
-use Rattle.std.specs.Prelude.{Contains, slice_index, slice_index_or}
+use Rattle.std.proofs.Common.{◌≡◌, ℕ, ◌-◌, ◌<◌, ◌≤◌, Bool, true, false, List, [], ◌++◌, length, Option, Some, None, refl, sym, ap, ◌∙◌, subst, inl}
+use Rattle.std.proofs.Common.{inr, ◌⊎◌, arith}
+use Rattle.std.specs.Prelude.{Contains}
 use Rattle.std.specs.List.{AllZip}
 use Rattle.std.proofs.lemmas.Bool.{true≢false, cases_eq, cases_lt}
 use Rattle.pg_ir.specs.declared.instr.Instr.{Instr}
-use Rattle.pg_ir.specs.Program.{types_of}
-use Rattle.pg_trace.specs.declared.turn.TurnKind.{TurnKind}
-use Rattle.pg_trace.specs.declared.turn.TurnKind.TheVariants as turns
 use Rattle.pg_trace.specs.declared.step.StepKind.{StepKind}
 use Rattle.pg_trace.specs.declared.step.StepKind.TheVariants as kinds
 use Rattle.pg_trace.specs.declared.step.Access.{Access}
-use Rattle.pg_trace.specs.declared.step.Event.{Event}
 use Rattle.pg_trace.specs.Steps.{happening_in, range_of}
 use Rattle.pg_closed.specs.declared.decision.Decision.TheVariants.{Pinned}
 use Rattle.pg_closed.specs.Moments.{Moment, instr_in, thread_in}
 use Rattle.pg_closed.specs.Freeable.{FreeRegion, frame_of}
-use Rattle.pg_closed.specs.Shadows.{Shadow, Unknown, is_within, unset}
+use Rattle.pg_closed.specs.Shadows.{Shadow, Unknown, is_within}
 use Rattle.pg_closed.specs.Extents.{Extent, begun, edge_in, ends, is_live, open_after}
-use Rattle.pg_closed.specs.Known.{Reference, RunShadow, Seen, Taken, ThreadShadow, after_step, edge_of, fresh_thread, is_branch, no_thread, region_of, start_of, thread_of}
+use Rattle.pg_closed.specs.Known.{Reference, RunShadow, Seen, Taken, ThreadShadow, after_step, edge_of, is_branch, region_of, thread_of}
 use Rattle.pg_least.specs.Keeps.{AreStacked, ExtentsKeep, KeepsTo, MaySetPhis, every, is_store, may_write, steps_of}
 use Rattle.pg_least.specs.Along.{calls_behind}
-use Rattle.pg_least.proofs.Zips.{all_none, replicate_like}
+use Rattle.pg_least.proofs.Alike.{Alike, RunLike, Still, ThreadLike, all_alike, made_like, made_plain}
+use Rattle.pg_least.proofs.Zips.{all_none}
 use Rattle.pg_least.proofs.Needs.{SeenLike}
 use Rattle.pg_least.proofs.Links.{IsLink}
-use Rattle.pg_least.proofs.Live.{CallsLike, bytes_like, calls_by, calls_like, known_bytes, top_like, words_like}
-use Rattle.pg_least.proofs.Threads.{bytes_after, bytes_next, calls_after, extents_after, length_next, live_at, made_at, made_by, made_in, next_bytes, next_calls, next_made, own_bytes, own_calls, own_made, own_words, thread_made, thread_other, thread_own, words_behind, words_next}
-use Rattle.pg_least.proofs.Stands.{begun_free, begun_pinned, begun_some, height_by, live_every, live_more, live_stand, not_live, own_extent, stand, stand_in, stand_live, stays_ended, stays_none, stays_on}
+use Rattle.pg_least.proofs.Live.{bytes_like, calls_by, calls_like, known_bytes, top_like, words_like}
+use Rattle.pg_least.proofs.Threads.{bytes_after, bytes_next, calls_after, extents_after, length_next, live_at, made_at, next_bytes, next_calls, next_made, own_bytes}
+use Rattle.pg_least.proofs.Threads.{own_calls, own_made, own_words, thread_made, thread_other, thread_own, words_behind, words_next}
+use Rattle.pg_least.proofs.Stands.{begun_free, begun_pinned, begun_some, height_by, live_every, live_more, live_stand, not_live, own_extent, stand, stand_in, stand_live, stays_ended}
+use Rattle.pg_least.proofs.Stands.{stays_none, stays_on}
 use Rattle.pg_least.proofs.Heights.{branch_height, calls_length, edge_height, live_height, region_branch, still_height}
 use Rattle.pg_least.proofs.Instances.{branch_plain, instance_bytes, instance_calls}
-use Rattle.pg_least.proofs.Inside.{Above, IsTopForgotten, bytes_kept, calls_kept, made_none, none_above, plain_edge, words_kept}
+use Rattle.pg_least.proofs.Inside.{Above, IsTopForgotten, bytes_kept, calls_kept, none_above, plain_edge, words_kept}
 
 module _ (R : Reference) (keeps : ExtentsKeep R) (d e : Taken) (bound : ℕ) (L : Shadow → Shadow → Type 0) (k : IsLink d e bound L) where
-  -- where a thread stands still: at an unpinned freeable branch step, whose instance is unknown
-  pub record Still (bytes : ℕ → Shadow) (cs : List (List Shadow)) (x : Extent) : Type 0 where
-    pub branch : Seen
-    pub seen : Contains (steps_of R) branch
-    pub number : x.step ≡ branch.number
-    pub region : FreeRegion
-    pub is : branch.region ≡ Some region
-    pub registers : IsTopForgotten region.sets (Pinned x.step) cs
-    pub writes : (b : ℕ) → may_write region.accesses b ≡ true → bytes b ≡ Unknown (Pinned x.step)
-
-  -- a thread under d, under e and under all decisions
-  pub record ThreadLike (bytes : ℕ → Shadow) (s t u : ThreadShadow) : Type 0 where
-    pub first : s.extents ≡ u.extents
-    pub second : t.extents ≡ u.extents
-    pub above : Above R.program d e bound L k s.calls t.calls
-    pub height : length s.calls ≡ height_by (stand d u.extents) (length u.calls)
-    pub higher : length t.calls ≡ height_by (stand e u.extents) (length u.calls)
-    pub still : (x : Extent) → stand d u.extents ≡ Some x → Still bytes s.calls x
-
-  pub record RunLike (s t u : RunShadow) : Type 0 where
-    pub fewer : length s.threads ≡ length u.threads
-    pub as_many : length t.threads ≡ length u.threads
-    pub threads : (i : ℕ) → ThreadLike s.bytes (thread_of s i) (thread_of t i) (thread_of u i)
-    pub bytes : (b : ℕ) → L (s.bytes b) (t.bytes b)
-    pub words : AllZip L s.words t.words
-
-  abbrev Alike : List (List Shadow) → List (List Shadow) → Type 0
-  Alike cs ct = CallsLike R.program d e bound L k cs ct
-
-  all_alike : (cs ct : List (List Shadow)) → Alike cs ct → Above R.program d e bound L k cs ct
-  all_alike cs ct h = record { more = []; low = ct; whole = refl; like = h }
-
-  -- ---- threads that are made
-
-  quiet_thread : (bytes : ℕ → Shadow) (z : ThreadShadow) → z.extents ≡ [] → Alike z.calls z.calls → ThreadLike bytes z z z
-  quiet_thread bytes z q h = record {
-    first = refl;
-    second = refl;
-    above = all_alike z.calls z.calls h;
-    height = rw q refl;
-    higher = rw q refl;
-    still = λ x f. let g : None ≡ Some x = ap (stand d) (sym q) ∙ f in absurd (cc);
-  }
-
-  fresh_like : (bytes : ℕ → Shadow) (f : ℕ) → ThreadLike bytes (fresh_thread R.program f) (fresh_thread R.program f) (fresh_thread R.program f)
-  fresh_like bytes f = quiet_thread bytes (fresh_thread R.program f) refl (replicate_like L (length (types_of R.program f)) unset (k.known (λ input. None)), tt)
-
-  no_like : (bytes : ℕ → Shadow) → ThreadLike bytes no_thread no_thread no_thread
-  no_like bytes = quiet_thread bytes no_thread refl tt
-
-  made_event : (bytes : ℕ → Shadow) (v : Event) (kind : TurnKind) (i : ℕ) →
-      ThreadLike bytes (slice_index_or (made_by R.program v kind) i no_thread) (slice_index_or (made_by R.program v kind) i no_thread) (slice_index_or (made_by R.program v kind) i no_thread)
-  made_event bytes v turns.Create zero = fresh_like bytes (slice_index v.operands 2)
-  made_event bytes v turns.Create (suc i) = no_like bytes
-  made_event bytes v _ i = no_like bytes
-
-  made_kind : (bytes : ℕ → Shadow) (kind : StepKind) (i : ℕ) →
-      ThreadLike bytes (slice_index_or (made_in R.program kind) i no_thread) (slice_index_or (made_in R.program kind) i no_thread) (slice_index_or (made_in R.program kind) i no_thread)
-  made_kind bytes (kinds.Event v) i = made_event bytes v v.kind i
-  made_kind bytes kind i = no_like bytes
-
-  made_like : (bytes : ℕ → Shadow) (m : Moment) (o : Option Instr) (i : ℕ) →
-      ThreadLike bytes (slice_index_or (made_at R.program m o) i no_thread) (slice_index_or (made_at R.program m o) i no_thread) (slice_index_or (made_at R.program m o) i no_thread)
-  made_like bytes m None i = no_like bytes
-  made_like bytes m (Some x) i = made_kind bytes m.did.did.kind i
-
-  made_plain : (m : Moment) (o : Option Instr) → happening_in m.did.did.kind ≡ None → made_at R.program m o ≡ []
-  made_plain m None q = refl
-  made_plain m (Some x) q = made_none R.program m.did.did.kind q
-
-  pub start_like : RunLike (start_of R.program) (start_of R.program) (start_of R.program)
-  start_like = record {
-    fewer = refl;
-    as_many = refl;
-    threads = first;
-    bytes = λ b. k.known _;
-    words = (k.known _, tt);
-  }
-    where
-      first : (i : ℕ) → ThreadLike (start_of R.program).bytes (thread_of (start_of R.program) i) (thread_of (start_of R.program) i) (thread_of (start_of R.program) i)
-      first zero = fresh_like (start_of R.program).bytes R.program.main
-      first (suc i) = no_like (start_of R.program).bytes
-
   -- ---- a step
 
-  module _ (n : ℕ) (below : n < bound) (m : Moment) (s t u : RunShadow) (like : RunLike s t u)
+  module _ (n : ℕ) (below : n < bound) (m : Moment) (s t u : RunShadow) (like : RunLike R keeps d e bound L k s t u)
       (in_run : Contains (steps_of R) (record {
         number = n;
         moment = m;
@@ -152,7 +69,7 @@ module _ (R : Reference) (keeps : ExtentsKeep R) (d e : Taken) (bound : ℕ) (L 
     abbrev cu : List (List Shadow)
     cu = (thread_of u (thread_in m)).calls
 
-    abbrev own : ThreadLike s.bytes (thread_of s (thread_in m)) (thread_of t (thread_in m)) (thread_of u (thread_in m))
+    abbrev own : ThreadLike R keeps d e bound L k s.bytes (thread_of s (thread_in m)) (thread_of t (thread_in m)) (thread_of u (thread_in m))
     own = like.threads (thread_in m)
 
     live_s : live_at R d n m s ≡ is_live d.pinned es
@@ -220,7 +137,8 @@ module _ (R : Reference) (keeps : ExtentsKeep R) (d e : Taken) (bound : ℕ) (L 
       words : AllZip L (own_words R.program d n m region s bs i) (own_words R.program e n m region t bt i)
       made_s : own_made R.program d n m region s bs i ≡ made_at R.program m i
       made_t : own_made R.program e n m region t bt i ≡ made_at R.program m i
-      still : (x : Extent) → stand d (open_after n (length m.calls) region edge es) ≡ Some x → Still (own_bytes R.program d n m region s bs i) (own_calls R.program d n m region s bs i) x
+      still : (x : Extent) → stand d (open_after n (length m.calls) region edge es) ≡ Some x
+          → Still R keeps d e bound L k (own_bytes R.program d n m region s bs i) (own_calls R.program d n m region s bs i) x
 
     edge_sets : (x : Instr) → i ≡ Some x → d.pinned n ≡ false → e.pinned n ≡ true → (r : FreeRegion) → region ≡ Some r →
         MaySetPhis R.program r.sets (edge_in R.program m (Some x))
@@ -234,14 +152,14 @@ module _ (R : Reference) (keeps : ExtentsKeep R) (d e : Taken) (bound : ℕ) (L 
     fits x q a f h b = keeps.frames y in_run a (record { instr = x; stands = q; store = h; kind = f }) b
 
     module _ (h : stand d es ≡ None) where
-      alike : Alike cs ct
+      alike : Alike R keeps d e bound L k cs ct
       alike =
           let a : length cs ≡ length cu = own.height ∙ ap (λ (o : Option Extent). height_by o (length cu)) h in
           let g : stand e es ≡ None = live_stand e es (live_more d e es k.within (stand_live d es h)) in
           let b : length ct ≡ length cu = own.higher ∙ ap (λ (o : Option Extent). height_by o (length cu)) g in
           none_above R.program d e bound L k cs ct own.above (a ∙ sym b)
 
-      live_calls : (o : Option Instr) → i ≡ o → Alike (calls_after R.program d n m region o s cs) (calls_after R.program e n m region o t ct)
+      live_calls : (o : Option Instr) → i ≡ o → Alike R keeps d e bound L k (calls_after R.program d n m region o s cs) (calls_after R.program e n m region o t ct)
       live_calls None q = alike
       live_calls (Some x) q = calls_like R.program d e bound L k n below m region x (edge_sets x q) kind s t like.bytes like.words cs ct alike
 
@@ -256,7 +174,7 @@ module _ (R : Reference) (keeps : ExtentsKeep R) (d e : Taken) (bound : ℕ) (L 
 
       -- what begins to stand still
       begins : (r : FreeRegion) → region ≡ Some r → d.pinned n ≡ false → (o : Option Instr) → i ≡ o →
-          Still (bytes_after R.program d n m region o s) (calls_after R.program d n m region o s cs) (own_extent d n (length m.calls) r)
+          Still R keeps d e bound L k (bytes_after R.program d n m region o s) (calls_after R.program d n m region o s cs) (own_extent d n (length m.calls) r)
       begins r q f None g = let z : None ≡ Some r = sym (ap (region_of R.program R.regions m) g) ∙ q in absurd (cc)
       begins r q f (Some x) g =
           let b : is_branch kind ≡ true = region_branch R.program R.regions m x r (subst (λ (o : Option Instr). region_of R.program R.regions m o ≡ Some r) g q) in
@@ -272,11 +190,11 @@ module _ (R : Reference) (keeps : ExtentsKeep R) (d e : Taken) (bound : ℕ) (L 
           }
 
       nothing_stands : stand d (open_after n (length m.calls) region edge es) ≡ None → (x : Extent) → stand d (open_after n (length m.calls) region edge es) ≡ Some x →
-          Still (bytes_after R.program d n m region i s) (calls_after R.program d n m region i s cs) x
+          Still R keeps d e bound L k (bytes_after R.program d n m region i s) (calls_after R.program d n m region i s cs) x
       nothing_stands q x f = let z : None ≡ Some x = sym q ∙ f in absurd (cc)
 
       live_still : (o : Option FreeRegion) → region ≡ o → (b : Bool) → d.pinned n ≡ b → (x : Extent) → stand d (open_after n (length m.calls) region edge es) ≡ Some x →
-          Still (bytes_after R.program d n m region i s) (calls_after R.program d n m region i s cs) x
+          Still R keeps d e bound L k (bytes_after R.program d n m region i s) (calls_after R.program d n m region i s cs) x
       live_still None q b f = nothing_stands (stays_none d (length m.calls) edge (begun n (length m.calls) region es)
           (subst (λ (o : Option FreeRegion). stand d (begun n (length m.calls) o es) ≡ None) (sym q) h))
       live_still (Some r) q true f = nothing_stands (stays_none d (length m.calls) edge (begun n (length m.calls) region es) (begun_pinned d n (length m.calls) region es f h))
@@ -286,17 +204,17 @@ module _ (R : Reference) (keeps : ExtentsKeep R) (d e : Taken) (bound : ℕ) (L 
           starts = subst (λ (o : Option FreeRegion). stand d (begun n (length m.calls) o es) ≡ Some (own_extent d n (length m.calls) r)) (sym q) (begun_free d n (length m.calls) r es f h)
 
           split : (c : Bool) → ends (length m.calls) edge (own_extent d n (length m.calls) r) ≡ c → (x : Extent) → stand d (open_after n (length m.calls) region edge es) ≡ Some x →
-              Still (bytes_after R.program d n m region i s) (calls_after R.program d n m region i s cs) x
+              Still R keeps d e bound L k (bytes_after R.program d n m region i s) (calls_after R.program d n m region i s cs) x
           split true g x z = nothing_stands (stays_ended d (length m.calls) edge (begun n (length m.calls) region es) (own_extent d n (length m.calls) r) stacked starts g) x z
           split false g x z =
               let a : Some (own_extent d n (length m.calls) r) ≡ Some x =
               sym (stays_on d (length m.calls) edge (begun n (length m.calls) region es) (own_extent d n (length m.calls) r) starts g) ∙ z in
               let c : own_extent d n (length m.calls) r ≡ x = cc in
-              subst (Still (bytes_after R.program d n m region i s) (calls_after R.program d n m region i s cs)) c (begins r q f i refl)
+              subst (Still R keeps d e bound L k (bytes_after R.program d n m region i s) (calls_after R.program d n m region i s cs)) c (begins r q f i refl)
 
       live_next : NextLike true true
       live_next = record {
-        above = all_alike _ _ (live_calls i refl);
+        above = all_alike R keeps d e bound L k _ _ (live_calls i refl);
         bytes = live_bytes i refl;
         words = live_words i refl;
         made_s = refl;
@@ -307,7 +225,7 @@ module _ (R : Reference) (keeps : ExtentsKeep R) (d e : Taken) (bound : ℕ) (L 
     -- ---- where it isn't
 
     module _ (x : Extent) (h : stand d es ≡ Some x) where
-      st : Still s.bytes cs x
+      st : Still R keeps d e bound L k s.bytes cs x
       st = own.still x h
 
       keep : KeepsTo R (st).region x.depth y
@@ -319,21 +237,21 @@ module _ (R : Reference) (keeps : ExtentsKeep R) (d e : Taken) (bound : ℕ) (L 
       high : length cs ≡ x.depth
       high = own.height ∙ ap (λ (o : Option Extent). height_by o (length cu)) h
 
-      still_on : (z : Extent) → stand d (open_after n (length m.calls) region edge es) ≡ Some z → Still s.bytes cs z
+      still_on : (z : Extent) → stand d (open_after n (length m.calls) region edge es) ≡ Some z → Still R keeps d e bound L k s.bytes cs z
       still_on z f = split (ends (length m.calls) edge x) refl
         where
           all : stand d (begun n (length m.calls) region es) ≡ Some x
           all = begun_some d n (length m.calls) region es x h
 
-          split : (c : Bool) → ends (length m.calls) edge x ≡ c → Still s.bytes cs z
+          split : (c : Bool) → ends (length m.calls) edge x ≡ c → Still R keeps d e bound L k s.bytes cs z
           split true g = let a : None ≡ Some z = sym (stays_ended d (length m.calls) edge (begun n (length m.calls) region es) x stacked all g) ∙ f in absurd (cc)
           split false g =
               let a : Some x ≡ Some z = sym (stays_on d (length m.calls) edge (begun n (length m.calls) region es) x all g) ∙ f in
               let c : x ≡ z = cc in
-              subst (Still s.bytes cs) c st
+              subst (Still R keeps d e bound L k s.bytes cs) c st
 
       made_plainly : [] ≡ made_at R.program m i
-      made_plainly = sym (made_plain m i keep.plain)
+      made_plainly = sym (made_plain R keeps d e bound L k m i keep.plain)
 
       -- both stand still
       both_still : NextLike false false
@@ -441,7 +359,7 @@ module _ (R : Reference) (keeps : ExtentsKeep R) (d e : Taken) (bound : ℕ) (L 
         let f = like.as_many in
         omega (arith, a, b, c, f)
 
-    own_next : ThreadLike (next_bytes R d n m s) (record { calls = next_calls R d n m s; extents = extents_after R d n m s })
+    own_next : ThreadLike R keeps d e bound L k (next_bytes R d n m s) (record { calls = next_calls R d n m s; extents = extents_after R d n m s })
         (record { calls = next_calls R e n m t; extents = extents_after R e n m t }) (record { calls = next_calls R every n m u; extents = extents_after R every n m u })
     own_next = record {
       first = ap (open_after n (length m.calls) region edge) own.first;
@@ -453,7 +371,7 @@ module _ (R : Reference) (keeps : ExtentsKeep R) (d e : Taken) (bound : ℕ) (L 
     }
 
     abbrev After : (ℕ → Shadow) → ℕ → Type 0
-    After bytes j = ThreadLike bytes (thread_of (after_step R d n m s) j) (thread_of (after_step R e n m t) j) (thread_of (after_step R every n m u) j)
+    After bytes j = ThreadLike R keeps d e bound L k bytes (thread_of (after_step R d n m s) j) (thread_of (after_step R e n m t) j) (thread_of (after_step R every n m u) j)
 
     own_thread : After (next_bytes R d n m s) (thread_in m)
     own_thread =
@@ -461,7 +379,7 @@ module _ (R : Reference) (keeps : ExtentsKeep R) (d e : Taken) (bound : ℕ) (L 
         let g = like.as_many in
         rw (thread_own R d n m s (omega (arith, f, begun_u)), thread_own R e n m t (omega (arith, g, begun_u)), thread_own R every n m u begun_u) own_next
 
-    quiet_like : (bytes bytes' : ℕ → Shadow) (a b c : ThreadShadow) → c.extents ≡ [] → ThreadLike bytes a b c → ThreadLike bytes' a b c
+    quiet_like : (bytes bytes' : ℕ → Shadow) (a b c : ThreadShadow) → c.extents ≡ [] → ThreadLike R keeps d e bound L k bytes a b c → ThreadLike R keeps d e bound L k bytes' a b c
     quiet_like bytes bytes' a b c q h = record {
       first = h.first;
       second = h.second;
@@ -484,7 +402,7 @@ module _ (R : Reference) (keeps : ExtentsKeep R) (d e : Taken) (bound : ℕ) (L 
         let f = like.fewer in
         let g = like.as_many in
         rw (thread_made R d n m s j o (omega (arith, f, l)), thread_made R e n m t j o (omega (arith, g, l)), thread_made R every n m u j o l, next.made_s, next.made_t, made_u, f, g)
-        (made_like (next_bytes R d n m s) m i (j - length u.threads))
+        (made_like R keeps d e bound L k (next_bytes R d n m s) m i (j - length u.threads))
 
     each_thread : (j : ℕ) → After (next_bytes R d n m s) j
     each_thread j = go (cases_eq j (thread_in m))
@@ -497,7 +415,7 @@ module _ (R : Reference) (keeps : ExtentsKeep R) (d e : Taken) (bound : ℕ) (L 
             on (inl l) = other_thread j o l
             on (inr l) = new_thread j o l
 
-    pub step_like : RunLike (after_step R d n m s) (after_step R e n m t) (after_step R every n m u)
+    pub step_like : RunLike R keeps d e bound L k (after_step R d n m s) (after_step R e n m t) (after_step R every n m u)
     step_like = record {
       fewer = fewer_next;
       as_many = as_many_next;

@@ -1,5 +1,6 @@
 -- Taking in what is asked for, from no decisions on, ends at closed decisions that are contained in all that are closed.
-use Rattle.std.proofs.Common.{◌≡◌, ℕ, zero, suc, ◌+◌, ◌<◌, ◌≤◌, ◌==◌, Bool, true, false, List, [], ◌∷◌, length, refl, sym, ap, ◌∙◌, subst, inl, inr, ◌⊎◌, arith}
+use Rattle.std.proofs.Common.{◌≡◌, ℕ, zero, suc, ◌+◌, ◌<◌, ◌≤◌, ◌==◌, Bool, true, false, List, [], ◌∷◌, length, refl, sym, ap, ◌∙◌, subst, inl, inr}
+use Rattle.std.proofs.Common.{◌⊎◌, arith}
 use Rattle.std.specs.Prelude.{Contains, ◌||◌}
 use Rattle.std.specs.List.{list_any}
 use Rattle.std.proofs.lemmas.Bool.{true≢false, or_cases, or_left, or_right, eqb-true, eq-eqb, cases_eq}
@@ -8,7 +9,7 @@ use Rattle.pg_closed.specs.declared.decision.Decision.TheVariants.{Pinned, Exact
 use Rattle.pg_closed.specs.Known.{Reference, Taken, has}
 use Rattle.pg_closed.specs.Closed.{AreWithin, IsClosed, IsSlice, asks}
 use Rattle.pg_least.specs.Keeps.{ExtentsKeep}
-use Rattle.pg_least.proofs.Zips.{cases_in, here, none_in, there}
+use Rattle.pg_paths.proofs.Elements.{cases as cases_in, here, none_in, there}
 use Rattle.pg_least.specs.Laws.{step_in}
 use Rattle.pg_least.proofs.Missing.{asks_new}
 use Rattle.pg_least.proofs.Closes.{closed_if}

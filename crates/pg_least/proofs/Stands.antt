@@ -9,7 +9,7 @@ use Rattle.pg_closed.specs.Extents.{Extent, begun, ends, is_live}
 use Rattle.pg_closed.specs.Known.{Taken}
 use Rattle.pg_closed.specs.Closed.{AreWithin}
 use Rattle.pg_least.specs.Keeps.{AreStacked, every}
-use Rattle.pg_least.proofs.Zips.{cases_in, here, none_in, there}
+use Rattle.pg_paths.proofs.Elements.{cases as cases_in, here, none_in, there}
 
 abbrev pub or_this : Bool → Extent → Option Extent → Option Extent
 or_this pinned e (Some x) = Some x
@@ -47,6 +47,17 @@ module _ (d : Taken) where
   some_in : (x y : Extent) → Some x ≡ Some y → x ≡ y
   some_in x y q = cc
 
+  -- where nothing stands still behind the first, it is the first that does, and it isn't pinned
+  first_stands : (e : Extent) (es : List Extent) (x : Extent) → stand d (e ∷ es) ≡ Some x → stand d es ≡ None → (b : Bool) → d.pinned e.step ≡ b → (b ≡ false) × (e ≡ x)
+  first_stands e es x h q b r = by b r
+    where
+      this : or_this (d.pinned e.step) e None ≡ Some x
+      this = subst (λ (o : Option Extent). or_this (d.pinned e.step) e o ≡ Some x) q h
+
+      by : (b : Bool) → d.pinned e.step ≡ b → (b ≡ false) × (e ≡ x)
+      by true r = let z : or_this (d.pinned e.step) e None ≡ Some x = this in let y : None ≡ Some x = rw r at z in absurd (cc)
+      by false r = let z : or_this (d.pinned e.step) e None ≡ Some x = this in let y : Some e ≡ Some x = rw r at z in (refl, some_in e x y)
+
   pub stand_in : (es : List Extent) (x : Extent) → stand d es ≡ Some x → Contains es x × (d.pinned x.step ≡ false)
   stand_in [] x h = let z : None ≡ Some x = h in absurd (cc)
   stand_in (e ∷ es) x h = go (stand d es) refl (d.pinned e.step) refl (λ q. stand_in es x q)
@@ -57,14 +68,9 @@ module _ (d : Taken) where
           let z : or_this (d.pinned e.step) e (Some y) ≡ Some x = subst (λ (o : Option Extent). or_this (d.pinned e.step) e o ≡ Some x) q h in
           let y : Some y ≡ Some x = z in
           let k = more (q ∙ y) in (there e es x k.0, k.1)
-      go None q true r more =
-          let z : or_this (d.pinned e.step) e None ≡ Some x = subst (λ (o : Option Extent). or_this (d.pinned e.step) e o ≡ Some x) q h in
-          let y : None ≡ Some x = rw r at z in absurd (cc)
-      go None q false r more =
-          let z : or_this (d.pinned e.step) e None ≡ Some x = subst (λ (o : Option Extent). or_this (d.pinned e.step) e o ≡ Some x) q h in
-          let y : Some e ≡ Some x = rw r at z in
-          let k : e ≡ x = some_in e x y in
-          (subst (Contains (e ∷ es)) k (here e es), subst (λ (x : Extent). d.pinned x.step ≡ false) k r)
+      go None q b r more =
+          let k = first_stands e es x h q b r in
+          (subst (Contains (e ∷ es)) k.1 (here e es), subst (λ (x : Extent). d.pinned x.step ≡ false) k.1 (r ∙ k.0))
 
   abbrev pub stays : ℕ → Option ℕ → List Extent → List Extent
   stays depth edge es = filter (λ e. not (ends depth edge e)) es
@@ -96,13 +102,8 @@ module _ (d : Taken) where
           let y : Some y ≡ Some x = z in
           let i = stand_in es x (q ∙ y) in
           rw (k.0 x i.0 s) (more (q ∙ y))
-      go None q true r more =
-          let z : or_this (d.pinned e.step) e None ≡ Some x = subst (λ (o : Option Extent). or_this (d.pinned e.step) e o ≡ Some x) q h in
-          let y : None ≡ Some x = rw r at z in absurd (cc)
-      go None q false r more =
-          let z : or_this (d.pinned e.step) e None ≡ Some x = subst (λ (o : Option Extent). or_this (d.pinned e.step) e o ≡ Some x) q h in
-          let y : Some e ≡ Some x = rw r at z in
-          let f : ends depth edge e ≡ true = ap (ends depth edge) (some_in e x y) ∙ s in
+      go None q b r more =
+          let f : ends depth edge e ≡ true = ap (ends depth edge) (first_stands e es x h q b r).1 ∙ s in
           rw f (stays_none depth edge es q)
 
   -- else it stands on

@@ -9,12 +9,13 @@ use Rattle.pg_closed.specs.Closed.{AreWithin}
 use Rattle.pg_least.specs.Keeps.{ExtentsKeep, every, steps_of}
 use Rattle.pg_least.specs.Along.{region_in}
 use Rattle.pg_least.specs.Laws.{IsPlain, SameExtents}
-use Rattle.pg_least.proofs.Zips.{here, there}
+use Rattle.pg_paths.proofs.Elements.{here, there}
 use Rattle.pg_least.proofs.Links.{IsLink}
 use Rattle.pg_least.proofs.Likes.{Likes, likes_link}
 use Rattle.pg_least.proofs.Needs.{SeenLike}
 use Rattle.pg_least.proofs.Threads.{live_at}
-use Rattle.pg_least.proofs.Runs.{RunLike, left_out, same_extents, seen_like, start_like, step_like}
+use Rattle.pg_least.proofs.Alike.{RunLike, start_like}
+use Rattle.pg_least.proofs.Runs.{left_out, same_extents, seen_like, step_like}
 
 module _ (R : Reference) (keeps : ExtentsKeep R) (d e : Taken) (bound : ℕ) (L : Shadow → Shadow → Type 0) (k : IsLink d e bound L) where
   -- step n of the run, with what is known before it

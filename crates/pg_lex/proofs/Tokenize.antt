@@ -1,5 +1,7 @@
 -- Lists of tokens, a piece at a time.
-use Rattle.std.proofs.Common.{◌≡◌, ℕ, zero, suc, ◌+◌, ◌-◌, ◌<◌, ◌≤◌, List, [], ◌∷◌, ◌++◌, length, drop, refl, sym, ap, subst, ◌∙◌, arith, append_assoc, append-nil, Result, Ok, Err, Option, Some, None, Bool, true, false, if◌then◌else◌, ◌==◌, not, ◌&&◌, length-drop, take_while, position}
+use Rattle.std.proofs.Common.{◌≡◌, ℕ, zero, suc, ◌+◌, ◌-◌, ◌<◌, ◌≤◌, List, [], ◌∷◌, ◌++◌, length, drop, refl, sym, ap, subst, ◌∙◌, arith}
+use Rattle.std.proofs.Common.{append_assoc, append-nil, Result, Ok, Err, Option, Some, None, Bool, true, false, if◌then◌else◌, ◌==◌, not, ◌&&◌, length-drop, take_while}
+use Rattle.std.proofs.Common.{position}
 use Rattle.std.specs.List.{prefix_len}
 use Rattle.std.proofs.Math.Seq.{drop-nil}
 use Rattle.std.proofs.lemmas.List.Sums.{prefix_len-le-length}
@@ -14,7 +16,8 @@ use Rattle.pg_lex.specs.declared.token.Piece.{Piece}
 use Rattle.pg_lex.specs.declared.token.Piece.TheVariants.{Gap, Whole, Bad, Open}
 use Rattle.pg_lex.specs.Bytes.{is_blank, is_run_byte, is_quote, is_colon, begins, is_line_feed}
 use Rattle.pg_num.specs.Decimal.{is_decimal}
-use Rattle.pg_lex.specs.Tokens.{IsWithin, piece_of, marked_piece, run_piece, is_name, is_dots, is_c, begins_word, string_piece, named_piece, mark_piece, mark_of, with_string, run, string_length, string_end, tokens_from, placed, ahead, IsAscending}
+use Rattle.pg_lex.specs.Tokens.{IsWithin, piece_of, marked_piece, run_piece, is_name, is_dots, is_c, begins_word, string_piece, named_piece, mark_piece, mark_of, with_string, run}
+use Rattle.pg_lex.specs.Tokens.{string_length, string_end, tokens_from, placed, ahead, IsAscending}
 
 gap_in : (n size : ℕ) → 1 ≤ n → n ≤ size → IsWithin (Gap n) size
 unfolding IsWithin
@@ -58,14 +61,16 @@ within_string : (bs : List ℕ) (n : ℕ) → string_length bs ≡ Some n → (2
 within_string [] n h = absurd cc
 within_string (b ∷ bs) n h = let q = within_end (position is_quote bs) n (length bs) h (λ k e. (position-Some is_quote bs k 0 e).0) in (q.0, omega (arith, q.1))
 
-within_with : (kind : TokenKind) (before : ℕ) (bs : List ℕ) (size : ℕ) → before + length bs ≤ size → (o : Option ℕ) → string_length bs ≡ o → IsWithin (with_string kind before o) size
+within_with : (kind : TokenKind) (before : ℕ) (bs : List ℕ) (size : ℕ) → before + length bs ≤ size → (o : Option ℕ) → string_length bs ≡ o
+    → IsWithin (with_string kind before o) size
 within_with kind before bs size h None e = open_in before size (omega (arith, h))
 within_with kind before bs size h (Some n) e = let q = within_string bs n e in whole_in kind (before + n) size (omega (arith, q.0)) (omega (arith, h, q.1))
 
 within_run : (r after : List ℕ) → 1 ≤ length r → IsWithin (run_piece r after) (length r + length after)
 unfolding run_piece
 within_run r after h =
-    pick (is_name r && begins is_colon after) _ _ _ (λ e. whole_in Label (length r + 1) (length r + length after) (omega arith) (omega (arith, some_first is_colon after (first_of (is_name r) (begins is_colon after) e))))
+    pick (is_name r && begins is_colon after) _ _ _ (λ e. whole_in Label (length r + 1) (length r + length after) (omega arith)
+    (omega (arith, some_first is_colon after (first_of (is_name r) (begins is_colon after) e))))
     (λ _. pick (is_decimal r) _ _ _ (λ _. all Int)
     (λ _. pick (is_dots r) _ _ _ (λ _. all Dots)
     (λ _. pick (is_c r && begins is_quote after) _ _ _ (λ _. within_with CStr 1 after (length r + length after) (omega (arith, h)) (string_length after) refl)
@@ -77,7 +82,8 @@ within_run r after h =
 within_text : (bs : List ℕ) (o : Option ℕ) → string_length bs ≡ o → IsWithin (string_piece bs o) (length bs)
 within_text bs None e = open_in 0 (length bs) (omega arith)
 within_text bs (Some n) e = let q = within_string bs n e in
-    pick (begins is_colon (drop n bs)) _ _ _ (λ h. whole_in Label (n + 1) (length bs) (omega arith) (omega (arith, q.1, length-drop n bs, some_first is_colon (drop n bs) h))) (λ _. whole_in Str n (length bs) (omega (arith, q.0)) q.1)
+    pick (begins is_colon (drop n bs)) _ _ _ (λ h. whole_in Label (n + 1) (length bs) (omega arith) (omega (arith, q.1, length-drop n bs, some_first is_colon (drop n bs) h)))
+    (λ _. whole_in Str n (length bs) (omega (arith, q.0)) q.1)
 
 within_named : (kind : TokenKind) (bs : List ℕ) → IsWithin (named_piece kind bs) (length bs + 1)
 within_named kind bs = pick (begins is_quote bs) _ _ _ (λ _. within_with kind 1 bs (length bs + 1) (omega arith) (string_length bs) refl)
@@ -107,7 +113,8 @@ within_piece (b ∷ bs) =
     let gap = take_while (λ c. not (is_line_feed c)) bs in
     pick (is_blank b) _ _ _ (λ _. gap_in 1 (length (b ∷ bs)) (omega arith) (omega arith))
     (λ _. pick (b == 59) _ _ _ (λ _. gap_in (1 + length gap) (length (b ∷ bs)) (omega arith) (omega (arith, within_take (λ c. not (is_line_feed c)) bs)))
-    (λ _. pick (is_run_byte b) _ _ _ (λ e. subst (IsWithin (run_piece r (drop (length r) (b ∷ bs)))) (omega (arith, there, length-drop (length r) (b ∷ bs))) (within_run r (drop (length r) (b ∷ bs)) (some_run b bs e)))
+    (λ _. pick (is_run_byte b) _ _ _ (λ e. subst (IsWithin (run_piece r (drop (length r) (b ∷ bs)))) (omega (arith, there, length-drop (length r) (b ∷ bs)))
+    (within_run r (drop (length r) (b ∷ bs)) (some_run b bs e)))
     (λ _. subst (IsWithin (marked_piece b (b ∷ bs) bs)) size (within_marked b bs))))
 
 -- ---- from one place to the next
@@ -160,21 +167,25 @@ onto-ahead front t (Err fault) = refl
 some_left : (text : List ℕ) (at : ℕ) → at < length text → 0 < length (drop at text)
 some_left text at h = omega (arith, h, length-drop at text)
 
-here : (text : List ℕ) (found : List Token) (at : ℕ) (p : Piece) → Stands text found at → at < length text → piece_of (drop at text) ≡ p → onto found (goes_on at (drop at text) p) ≡ tokens_from 0 0 text
+here : (text : List ℕ) (found : List Token) (at : ℕ) (p : Piece) → Stands text found at → at < length text → piece_of (drop at text) ≡ p
+    → onto found (goes_on at (drop at text) p) ≡ tokens_from 0 0 text
 here text found at p s h e = ap (λ q. onto found (goes_on at (drop at text) q)) (sym e) ∙ ap (λ x. onto found x) (sym (tokens_from-piece at (drop at text) (some_left text at h))) ∙ s
 
 pub stands_gap : (text : List ℕ) (found : List Token) (at n : ℕ) → Stands text found at → at < length text → Gap n ≡ piece_of (drop at text) → Stands text found (at + n)
 stands_gap text found at n s h e = ap (λ bs. onto found (tokens_from 0 (at + n) bs)) (sym (drop-drop at n text)) ∙ here text found at (Gap n) s h (sym e)
 
-pub stands_whole : (text : List ℕ) (found : List Token) (at n : ℕ) (kind : TokenKind) → Stands text found at → at < length text → Whole kind n ≡ piece_of (drop at text) → Stands text (found ++ record { kind = kind; span = record { start = at; end = at + n } } ∷ []) (at + n)
+pub stands_whole : (text : List ℕ) (found : List Token) (at n : ℕ) (kind : TokenKind) → Stands text found at → at < length text → Whole kind n ≡ piece_of (drop at text)
+    → Stands text (found ++ record { kind = kind; span = record { start = at; end = at + n } } ∷ []) (at + n)
 stands_whole text found at n kind s h e =
     let t : Token = record { kind = kind; span = record { start = at; end = at + n } } in
-    ap (λ bs. onto (found ++ t ∷ []) (tokens_from 0 (at + n) bs)) (sym (drop-drop at n text)) ∙ sym (onto-ahead found t (tokens_from 0 (at + n) (drop n (drop at text)))) ∙ here text found at (Whole kind n) s h (sym e)
+    ap (λ bs. onto (found ++ t ∷ []) (tokens_from 0 (at + n) bs)) (sym (drop-drop at n text)) ∙ sym (onto-ahead found t (tokens_from 0 (at + n) (drop n (drop at text))))
+    ∙ here text found at (Whole kind n) s h (sym e)
 
 pub stands_bad : (text : List ℕ) (found : List Token) (at : ℕ) → Stands text found at → at < length text → Bad ≡ piece_of (drop at text) → tokens_from 0 0 text ≡ Err (BadByte at)
 stands_bad text found at s h e = sym (here text found at Bad s h (sym e))
 
-pub stands_open : (text : List ℕ) (found : List Token) (at n : ℕ) → Stands text found at → at < length text → Open n ≡ piece_of (drop at text) → tokens_from 0 0 text ≡ Err (OpenString (at + n))
+pub stands_open : (text : List ℕ) (found : List Token) (at n : ℕ) → Stands text found at → at < length text → Open n ≡ piece_of (drop at text)
+    → tokens_from 0 0 text ≡ Err (OpenString (at + n))
 stands_open text found at n s h e = sym (here text found at (Open n) s h (sym e))
 
 pub stands_end : (text : List ℕ) (found : List Token) (at : ℕ) → Stands text found at → drop at text ≡ [] → tokens_from 0 0 text ≡ Ok found
@@ -183,7 +194,8 @@ stands_end text found at s e = sym s ∙ ap (λ bs. onto found (tokens_from 0 at
 
 -- ---- one after the other
 
-pub ascending_more : (from at n : ℕ) (kind : TokenKind) (found : List Token) → IsAscending from found at → 1 ≤ n → IsAscending from (found ++ record { kind = kind; span = record { start = at; end = at + n } } ∷ []) (at + n)
+pub ascending_more : (from at n : ℕ) (kind : TokenKind) (found : List Token) → IsAscending from found at → 1 ≤ n
+    → IsAscending from (found ++ record { kind = kind; span = record { start = at; end = at + n } } ∷ []) (at + n)
 ascending_more from at n kind [] h s = (h, omega (arith, s), omega arith)
 ascending_more from at n kind (t ∷ ts) h s = (h.0, h.1, ascending_more t.span.end at n kind ts h.2 s)
 

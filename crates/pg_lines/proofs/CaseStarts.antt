@@ -1,5 +1,6 @@
 -- Where the cases of a switch begin, by their numbers.
-use Rattle.std.proofs.Common.{◌≡◌, ℕ, zero, suc, ◌+◌, ◌<◌, ◌≤◌, nat_lt, Bool, true, false, cond, ◌&&◌, ◌||◌, List, [], ◌∷◌, ◌++◌, length, map, take, drop, get_or, Option, Some, None, refl, sym, ap, ◌∙◌, arith}
+use Rattle.std.proofs.Common.{◌≡◌, ℕ, zero, suc, ◌+◌, ◌<◌, ◌≤◌, nat_lt, Bool, true, false, cond, ◌&&◌, ◌||◌, List, [], ◌∷◌, ◌++◌, length, map, take}
+use Rattle.std.proofs.Common.{drop, get_or, Option, Some, None, refl, sym, ap, ◌∙◌, arith}
 use Rattle.std.specs.List.{flat_map, list_any}
 use Rattle.pg_lex.specs.declared.token.Span.{Span}
 use Rattle.pg_ast.specs.Syntax.{Case}
@@ -58,7 +59,8 @@ never_same (Some n) = refl
 
 never : (all : List CasePlace) (place : ℕ) → false ≡ list_any (λ (o : CasePlace). same_number o.number None && nat_lt o.span.start place) all
 never [] place = refl
-never (c ∷ cs) place = never cs place ∙ ap (λ b. (b && nat_lt c.span.start place) || list_any (λ (o : CasePlace). same_number o.number None && nat_lt o.span.start place) cs) (never_same c.number)
+never (c ∷ cs) place = never cs place ∙ ap (λ b. (b && nat_lt c.span.start place) || list_any (λ (o : CasePlace). same_number o.number None && nat_lt o.span.start place) cs)
+    (never_same c.number)
 
 -- another of a case's number is before it
 pub repeated_is : (all : List CasePlace) (c : CasePlace) (starts : ℕ → Option ℕ) (known : Option ℕ) (test : Bool) (o : Option Span) → ((n : ℕ) → starts n ≡ starts_behind None all n)

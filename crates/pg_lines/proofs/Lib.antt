@@ -1,6 +1,4 @@
 pub mod CaseStarts
-pub mod LeftOut
-pub mod LineRows
 pub mod ListedParts
 pub mod Misfits
 pub mod ResultKinds

@@ -24,7 +24,8 @@ misfits_is (Some NoFields) n = refl
 misfits_is (Some (MoreFields s t)) n = refl
 
 -- a number of elements has no constants within it, and asks nothing of types
-pub count_row : (g : Scope) (t : Ty) (n : Literal) (k : Option TypeKind) (test : Bool) (o : Option Span) → k ≡ option_map kind_of (resolved g.tree.types t) → test ≡ misfits k n → o ≡ earliest (at_if test n.span)
+pub count_row : (g : Scope) (t : Ty) (n : Literal) (k : Option TypeKind) (test : Bool) (o : Option Span) → k ≡ option_map kind_of (resolved g.tree.types t) → test ≡ misfits k n
+    → o ≡ earliest (at_if test n.span)
     → o ≡ earliest (row_within (wrong_use g) (constant_at t (Int n)))
 unfolding inner_uses wrong_use
 count_row g t n k test o e f h =

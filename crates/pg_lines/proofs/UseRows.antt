@@ -18,11 +18,13 @@ rows_within row (u ∷ us) =
 
 -- one value more
 pub use_step : (row : Use → List Span) (us : List UseNode) (i : ℕ) (u : UseNode) (found own all : Option Span) → i < length us → u ≡ get_or us i u
-    → found ≡ earliest (flat_map (row_within row) (uses_of (take i us))) → own ≡ earliest (row_within row (use_of u)) → all ≡ earlier found own → all ≡ earliest (flat_map (row_within row) (uses_of (take (i + 1) us)))
+    → found ≡ earliest (flat_map (row_within row) (uses_of (take i us))) → own ≡ earliest (row_within row (use_of u)) → all ≡ earlier found own
+    → all ≡ earliest (flat_map (row_within row) (uses_of (take (i + 1) us)))
 use_step row us i u found own all l e a b c = row_step (row_within row) use_of us i u u found own all l e a b c
 
 -- all values
-pub use_whole : (row : Use → List Span) (us : List UseNode) (i : ℕ) (found : Option Span) → length us ≤ i → found ≡ earliest (flat_map (row_within row) (uses_of (take i us))) → found ≡ earliest (flat_map row (flat_map with_inner (uses_of us)))
+pub use_whole : (row : Use → List Span) (us : List UseNode) (i : ℕ) (found : Option Span) → length us ≤ i → found ≡ earliest (flat_map (row_within row) (uses_of (take i us)))
+    → found ≡ earliest (flat_map row (flat_map with_inner (uses_of us)))
 use_whole row us i found l e =
     row_whole (λ xs. found ≡ earliest (flat_map (row_within row) (uses_of xs))) us i l e
     ∙ ap (λ xs. earliest xs) (rows_within row (uses_of us))

@@ -14,10 +14,10 @@ ghost use Rattle.pg_lines.specs.Cases.{case_place, repeated, starts_behind, star
 
 use crate::line_types::value_type;
 use indexmap::IndexMap;
-use pg_ast::{CaseNode, OpNode, TypeNode};
-use pg_lex::Span;
 use pg_rules::{earlier, number_at, place_if, val_span};
 use pg_types::TypeNumbers;
+use pg_ast::{CaseNode, OpNode, TypeNode};
+use pg_lex::Span;
 use std::alloc::{AllocError, Global};
 
 /// The number of a case, if it has one, and its place.
@@ -155,7 +155,7 @@ fn repeated_cases(
 
 /// The earliest case of a `switch` that is equal to one before it.
 #[tactic(auto, unfolding(pg_rules::specs::Earliest::earliest))]
-pub(crate) fn equal_cases(
+pub fn equal_cases(
     alloc: Global,
     types: &TypeNumbers<'_>,
     op: &OpNode,

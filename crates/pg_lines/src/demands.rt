@@ -1,6 +1,6 @@
 //! What instructions ask of the types of their operands.
 
-ghost use Rattle.std.specs.Prelude.{◌≡◌, [], ◌∷◌, ◌++◌, map, IfOk, Option};
+ghost use Rattle.std.specs.Prelude.{◌≡◌, [], ◌∷◌, map, IfOk, Option};
 ghost use Rattle.std.specs.List.{flat_map};
 ghost use Rattle.std.specs.Option.{option_map};
 ghost use Rattle.pg_ast.specs.Syntax.{Case};
@@ -12,23 +12,18 @@ ghost use Rattle.pg_types.specs.Kinds.{kind_of, fails, is_as};
 ghost use Rattle.pg_types.specs.NumberedTypes.{named_types};
 ghost use Rattle.pg_rules.specs.Earliest.{earliest};
 ghost use Rattle.pg_rules.specs.TypeConditions.{unmet};
-ghost use Rattle.pg_rules.specs.ValueConditions.{Scope};
-ghost use Rattle.pg_rules.specs.CallConditions.{call_demands};
 ghost use Rattle.pg_rules.specs.Written.{asks, asks_typed, is_narrower, is_wider, cast_from, cast_to, count_demands, op_demands};
 ghost use Rattle.pg_values.specs.declared.type_tests.TypeTest.TheVariants.{Integer, Scalar, Pointer, Bit, NotVoid};
 ghost use Rattle.pg_values.specs.Tests.{test_of};
-ghost use Rattle.pg_calls.specs.Scopes.{IsLineScope};
 
-use pg_ast::{CaseNode, CastOp, CountNode, OpNode, TypeNode, TypedVal};
-use pg_calls::{
-    LineScope, call_demands, unmet_like, unmet_one, unmet_same, unmet_typed, unmet_value,
-    unmet_value_as,
-};
-use pg_lex::Span;
 use pg_rules::{earlier, type_span};
 use pg_types::{TypeKind, TypeNumbers};
-use pg_values::{TypeTest, passes};
-use std::alloc::{AllocError, Global};
+use pg_values::{
+    TypeTest, passes, unmet_like, unmet_one, unmet_same, unmet_typed, unmet_value, unmet_value_as,
+};
+use pg_ast::{CaseNode, CastOp, CountNode, OpNode, TypeNode, TypedVal};
+use pg_lex::Span;
+use std::alloc::AllocError;
 
 // ---- conversions
 
@@ -286,7 +281,7 @@ fn unmet_path(
 
 /// The earliest type that isn't what an instruction asks by itself, in a function with this result.
 #[tactic(auto, unfolding(pg_rules::specs::Written::op_demands, pg_rules::specs::Earliest::earliest))]
-fn op_demands(
+pub fn op_demands(
     types: &TypeNumbers<'_>,
     returned: &TypeNode,
     op: &OpNode,
@@ -322,19 +317,4 @@ fn op_demands(
             ..
         } => { unmet_path(types, ty, pointer, indices.as_slice()) }
     }
-}
-
-/// The earliest type that isn't what an instruction asks by itself, or as a call.
-pub(crate) fn unmet_demands(
-    alloc: Global,
-    scope: &LineScope<'_>,
-    types: &TypeNumbers<'_>,
-    op: &OpNode,
-) -> Result<Option<Span>, AllocError>
-    ensures place { (g : Scope) → IsLineScope scope.now g → g.tree.types ≡ named_types types.now →
-        IfOk result (λ o. o ≡ earliest (flat_map (unmet g.tree.types) (op_demands g.tree.types g.result (op_of op.now) ++ call_demands g (op_of op.now)))) }
-{
-    let own = op_demands(types, scope.result, op)?;
-    let arguments = call_demands(alloc, scope, types, op)?;
-    Ok(earlier(own, arguments))
 }

@@ -9,13 +9,13 @@ ghost use Rattle.pg_rules.specs.Written.{label_targets, label_sources};
 ghost use Rattle.pg_rules.specs.ValueConditions.{Scope};
 ghost use Rattle.pg_rules.specs.LineConditions.{no_block};
 ghost use Rattle.pg_rules.specs.Earliest.{earliest};
-ghost use Rattle.pg_calls.specs.Scopes.{IsLineScope};
+ghost use Rattle.pg_values.specs.Scopes.{IsLineScope};
 
-use pg_ast::{CaseNode, IncomingNode, Name, OpNode};
-use pg_calls::LineScope;
-use pg_lex::Span;
 use pg_rules::earlier;
 use pg_types::place_of_name;
+use pg_values::LineScope;
+use pg_ast::{CaseNode, IncomingNode, Name, OpNode};
+use pg_lex::Span;
 use std::alloc::{AllocError, Global};
 
 /// Adds the labels of cases.
@@ -125,14 +125,10 @@ fn missing_blocks(scope: &LineScope<'_>, labels: &[&Name]) -> Option<Span>
 }
 
 /// The earliest label of an instruction that has no basic block.
-pub(crate) fn missing_labels(
-    alloc: Global,
-    scope: &LineScope<'_>,
-    op: &OpNode,
-) -> Result<Option<Span>, AllocError>
+pub fn missing_labels(scope: &LineScope<'_>, op: &OpNode) -> Result<Option<Span>, AllocError>
     ensures { (g : Scope) → IsLineScope scope.now g → IfOk result (λ o. o ≡
         earliest (flat_map (no_block g.labels) (label_targets (op_of op.now) ++ label_sources (op_of op.now)))) }
 {
-    let labels = labels_of_line(alloc, op)?;
+    let labels = labels_of_line(scope.values.alloc, op)?;
     Ok(missing_blocks(scope, labels.as_slice()))
 }

@@ -10,9 +10,9 @@ ghost use Rattle.pg_rules.specs.Written.{with_inner, written_types, count_types,
 ghost use Rattle.pg_rules.specs.LineConditions.{line_types};
 ghost use Rattle.pg_lines.specs.Uses.{use_of, uses_of, type_row, row_within};
 
-use crate::operands::{UseNode, operands};
-use pg_ast::{CallTypes, CaseNode, CountNode, OpNode, TypeNode, TypedVal};
+use crate::operands::{UseNode, operands_of_line};
 use pg_values::add_own_types;
+use pg_ast::{CallTypes, CaseNode, CountNode, OpNode, TypeNode, TypedVal};
 use std::alloc::{AllocError, Global};
 
 /// The type that is written before a value.
@@ -235,14 +235,11 @@ fn add_all_use_types<'a>(
 }
 
 /// All types that an instruction writes.
-pub(crate) fn types_of_line<'a>(
-    alloc: Global,
-    op: &'a OpNode,
-) -> Result<Vec<&'a TypeNode>, AllocError>
+pub fn types_of_line<'a>(alloc: Global, op: &'a OpNode) -> Result<Vec<&'a TypeNode>, AllocError>
     ensures { IfOk result (λ v. tys_behind v.items ≡ line_types (op_of op.now)) }
 {
     let mut all = op_types(alloc, op)?;
-    let uses = operands(alloc, op)?;
+    let uses = operands_of_line(alloc, op)?;
     add_all_use_types(&mut all, uses.as_slice())?;
     Ok(all)
 }

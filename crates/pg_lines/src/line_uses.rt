@@ -8,18 +8,17 @@ ghost use Rattle.pg_types.specs.NumberedTypes.{named_types};
 ghost use Rattle.pg_rules.specs.Written.{with_inner, constant_at};
 ghost use Rattle.pg_rules.specs.ValueConditions.{Scope, wrong_use};
 ghost use Rattle.pg_rules.specs.Earliest.{earliest};
-ghost use Rattle.pg_calls.specs.Scopes.{IsLineScope};
+ghost use Rattle.pg_values.specs.Scopes.{IsLineScope};
 ghost use Rattle.pg_lines.specs.Misfits.{misfits};
 ghost use Rattle.pg_lines.specs.Uses.{use_of, uses_of, unknown_row, function_row, row_within};
 
 use crate::operands::UseNode;
-use pg_ast::{CountNode, Literal};
-use pg_calls::LineScope;
-use pg_lex::Span;
 use pg_rules::{earlier, place_if};
 use pg_types::{TypeKind, TypeNumbers, literal_in};
-use pg_values::{function_values, unknown_values, wrong_values};
-use std::alloc::{AllocError, Global};
+use pg_values::{LineScope, PlacedValue, function_values, unknown_values, wrong_values};
+use pg_ast::{CountNode, Literal};
+use pg_lex::Span;
+use std::alloc::AllocError;
 
 /// The earliest unknown name in a value and those within it.
 #[tactic(auto, unfolding(pg_rules::specs::Written::inner_uses, pg_rules::specs::Earliest::earliest))]
@@ -33,7 +32,7 @@ fn unknown_use(scope: &LineScope<'_>, one: UseNode<'_>) -> Option<Span>
 }
 
 /// The earliest unknown name in values and those within them.
-pub(crate) fn unknown_uses(scope: &LineScope<'_>, uses: &[UseNode<'_>]) -> Option<Span>
+pub fn unknown_uses(scope: &LineScope<'_>, uses: &[UseNode<'_>]) -> Option<Span>
     ensures { (g : Scope) → IsLineScope scope.now g → result ≡ earliest (flat_map (unknown_row g) (flat_map with_inner (uses_of uses.now))) }
 {
     let mut found = None;
@@ -55,7 +54,7 @@ fn function_use(scope: &LineScope<'_>, one: UseNode<'_>) -> Option<Span>
 }
 
 /// The earliest name of a function in values and those within them.
-pub(crate) fn function_uses(scope: &LineScope<'_>, uses: &[UseNode<'_>]) -> Option<Span>
+pub fn function_uses(scope: &LineScope<'_>, uses: &[UseNode<'_>]) -> Option<Span>
     ensures { (g : Scope) → IsLineScope scope.now g → result ≡ earliest (flat_map (function_row g) (flat_map with_inner (uses_of uses.now))) }
 {
     let mut found = None;
@@ -87,7 +86,6 @@ fn wrong_count_use(types: &TypeNumbers<'_>, count: &CountNode) -> Result<Option<
 
 /// The earliest place at which a value or one within it doesn't fit.
 fn wrong_use(
-    alloc: Global,
     scope: &LineScope<'_>,
     types: &TypeNumbers<'_>,
     one: UseNode<'_>,
@@ -97,15 +95,19 @@ fn wrong_use(
 {
     match one {
         UseNode::Value(constant, ty, value) => {
-            wrong_values(alloc, &scope.values, types, constant, ty, value)
+            let placed = PlacedValue {
+                constant,
+                ty,
+                value,
+            };
+            wrong_values(&scope.values, types, placed)
         }
         UseNode::Count(count) => wrong_count_use(types, count),
     }
 }
 
 /// The earliest place at which one of these values or one within them doesn't fit.
-pub(crate) fn wrong_uses(
-    alloc: Global,
+pub fn wrong_uses(
     scope: &LineScope<'_>,
     types: &TypeNumbers<'_>,
     uses: &[UseNode<'_>],
@@ -115,7 +117,7 @@ pub(crate) fn wrong_uses(
 {
     let mut found = None;
     for one in uses {
-        found = earlier(found, wrong_use(alloc, scope, types, *one)?);
+        found = earlier(found, wrong_use(scope, types, *one)?);
     }
     Ok(found)
 }

@@ -1,23 +1,18 @@
 //! The values that an instruction has, each at its type.
 
-ghost use Rattle.std.specs.Prelude.{◌≡◌, [], ◌∷◌, ◌++◌, IfOk, OnOk, Some, map};
+ghost use Rattle.std.specs.Prelude.{◌≡◌, [], ◌∷◌, ◌++◌, IfOk, OnOk, map};
 ghost use Rattle.std.specs.Option.{option_map};
 ghost use Rattle.pg_ast.specs.Syntax.{Incoming, Case};
-ghost use Rattle.pg_ast.specs.Views.{ty_of, typed_of, incoming_of, case_of, count_of, op_of};
+ghost use Rattle.pg_ast.specs.Views.{ty_of, val_of, typed_of, incoming_of, case_of, count_of, op_of};
 ghost use Rattle.pg_rules.specs.Written.{operand, constant_at, typed_operand, count_uses, operands};
-ghost use Rattle.pg_rules.specs.ValueConditions.{Scope};
-ghost use Rattle.pg_rules.specs.CallConditions.{value_operands};
-ghost use Rattle.pg_calls.specs.Scopes.{IsLineScope};
-ghost use Rattle.pg_calls.specs.Threads.{left_out};
 ghost use Rattle.pg_lines.specs.Uses.{use_of, uses_of};
 
 use pg_ast::{CaseNode, CountNode, IncomingNode, OpNode, TypeNode, TypedVal, ValNode};
-use pg_calls::{LineScope, thread_argument};
 use std::alloc::{AllocError, Global};
 
 /// A value that stands in a line.
 #[derive(Clone, Copy)]
-pub(crate) enum UseNode<'a> {
+pub enum UseNode<'a> {
     /// Whether it stands where no register may, the type at which it stands, and the value.
     Value(bool, &'a TypeNode, &'a ValNode),
     /// The number of elements of an `alloca`.
@@ -110,6 +105,20 @@ fn three_uses<'a>(
     Ok(all)
 }
 
+/// Two values of one type.
+fn pair_uses<'a>(
+    alloc: Global,
+    ty: &'a TypeNode,
+    left: &'a ValNode,
+    right: &'a ValNode,
+) -> Result<Vec<UseNode<'a>>, AllocError>
+    ensures { IfOk result (λ v. uses_of v.items ≡ operand (ty_of ty.now) (val_of left.now) ∷ operand (ty_of ty.now) (val_of right.now) ∷ []) }
+{
+    let first = UseNode::Value(false, ty, left);
+    let second = UseNode::Value(false, ty, right);
+    two_uses(alloc, first, second)
+}
+
 /// The values of a `phi`: the first and the others.
 fn incoming_uses<'a>(
     alloc: Global,
@@ -175,7 +184,7 @@ fn count_uses<'a>(
 
 /// The operands of an instruction, in order.
 #[tactic(auto, unfolding(pg_rules::specs::Written::operands))]
-pub(crate) fn operands<'a>(alloc: Global, op: &'a OpNode) -> Result<Vec<UseNode<'a>>, AllocError>
+pub fn operands_of_line<'a>(alloc: Global, op: &'a OpNode) -> Result<Vec<UseNode<'a>>, AllocError>
     ensures { IfOk result (λ v. uses_of v.items ≡ operands (op_of op.now)) }
 {
     match op {
@@ -184,21 +193,13 @@ pub(crate) fn operands<'a>(alloc: Global, op: &'a OpNode) -> Result<Vec<UseNode<
             left,
             right,
             ..
-        } => two_uses(
-            alloc,
-            UseNode::Value(false, ty, left),
-            UseNode::Value(false, ty, right),
-        ),
+        } => pair_uses(alloc, ty, left, right),
         OpNode::Icmp {
             ty,
             left,
             right,
             ..
-        } => two_uses(
-            alloc,
-            UseNode::Value(false, ty, left),
-            UseNode::Value(false, ty, right),
-        ),
+        } => pair_uses(alloc, ty, left, right),
         OpNode::Cast { value, .. } => one_use(alloc, typed_use(value)),
         OpNode::Select {
             condition,
@@ -230,38 +231,4 @@ pub(crate) fn operands<'a>(alloc: Global, op: &'a OpNode) -> Result<Vec<UseNode<
             ..
         } => { path_uses(alloc, pointer, indices.as_slice()) }
     }
-}
-
-/// Leaves out the value at a place, if there are so many.
-#[tactic(auto, using(crate::proofs::LeftOut::left_one, crate::proofs::LeftOut::left_none))]
-fn leave_out(all: &mut Vec<UseNode<'_>>, place: usize)
-    ensures { uses_of all.new.items ≡ left_out (Some place) (uses_of all.old.items) }
-{
-    if place < all.len() {
-        let _left = all.remove(place);
-    }
-}
-
-/// Leaves out the value at a place, if one is given.
-fn leave_out_if(all: &mut Vec<UseNode<'_>>, place: Option<usize>)
-    ensures { uses_of all.new.items ≡ left_out place (uses_of all.old.items) }
-{
-    match place {
-        Some(place) => leave_out(all, place),
-        None => (),
-    }
-}
-
-/// The operands of an instruction that are judged as values: without the function with which a thread begins.
-pub(crate) fn value_operands<'a>(
-    alloc: Global,
-    scope: &LineScope<'_>,
-    op: &'a OpNode,
-) -> Result<Vec<UseNode<'a>>, AllocError>
-    ensures { (g : Scope) → IsLineScope scope.now g → IfOk result (λ v. uses_of v.items ≡ value_operands g (op_of op.now)) }
-{
-    let mut all = operands(alloc, op)?;
-    let place = thread_argument(scope, op);
-    leave_out_if(&mut all, place);
-    Ok(all)
 }

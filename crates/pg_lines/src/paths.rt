@@ -10,21 +10,20 @@ ghost use Rattle.pg_rules.specs.Conditions.{at_if};
 ghost use Rattle.pg_rules.specs.ValueConditions.{Scope};
 ghost use Rattle.pg_rules.specs.LineConditions.{wrong_return, wrong_path, wrong_name};
 ghost use Rattle.pg_rules.specs.Earliest.{earliest};
-ghost use Rattle.pg_calls.specs.Scopes.{IsLineScope};
+ghost use Rattle.pg_values.specs.Scopes.{IsLineScope};
 ghost use Rattle.pg_lines.specs.Results.{is_value_kind};
 
-use pg_ast::{Name, OpNode};
-use pg_calls::LineScope;
-use pg_lex::Span;
 use pg_names::gives;
 use pg_rules::place_if;
 use pg_types::{TypeKind, TypeNumbers};
-use pg_values::wrong_indices;
+use pg_values::{LineScope, wrong_indices};
+use pg_ast::{Name, OpNode};
+use pg_lex::Span;
 use std::alloc::{AllocError, Global};
 
 /// The earliest index of a `getelementptr` that chooses no field, or goes into what has no parts.
 #[tactic(auto, unfolding(pg_rules::specs::Earliest::earliest))]
-pub(crate) fn wrong_path(
+pub fn wrong_path(
     alloc: Global,
     types: &TypeNumbers<'_>,
     op: &OpNode,
@@ -66,7 +65,7 @@ fn void_return(
 
 /// The place at which nothing is returned where the function has a result.
 #[tactic(auto, unfolding(pg_rules::specs::Earliest::earliest))]
-pub(crate) fn wrong_return(
+pub fn wrong_return(
     scope: &LineScope<'_>,
     types: &TypeNumbers<'_>,
     op: &OpNode,
@@ -89,7 +88,7 @@ fn misplaced_name(gives: bool, name: &Name) -> Option<Span>
 
 /// A name before an instruction without a result.
 #[tactic(auto, unfolding(pg_rules::specs::Earliest::earliest))]
-pub(crate) fn wrong_name(
+pub fn wrong_name(
     types: &TypeNumbers<'_>,
     name: &Option<Name>,
     op: &OpNode,

@@ -19,7 +19,8 @@ use Rattle.pg_step.specs.declared.action.Action.{Action}
 use Rattle.pg_step.specs.declared.action.Action.TheVariants as actions
 use Rattle.pg_step.specs.EdgeStep.{have_values}
 use Rattle.pg_step.specs.Operands.{argument}
-use Rattle.pg_step.specs.Step.{on_value, are_set, on_all, placed, on_place, on_object, on_null, edge_action, call_action, divided_action, object_action, init_action, barrier_init_action, create_action, join_at, join_action, wait_request, wait_action}
+use Rattle.pg_step.specs.Step.{on_value, are_set, on_all, placed, on_place, on_object, on_null, edge_action, call_action, divided_action, object_action, init_action, barrier_init_action}
+use Rattle.pg_step.specs.Step.{create_action, join_at, join_action, wait_request, wait_action}
 
 -- it holds of every trap
 abbrev pub OfTraps : (Action → Type 0) → Type 0
@@ -36,7 +37,8 @@ set_or_trap Q false act t h = t traps.Unset
 pub on_all_is : (Q : Action → Type 0) (p : NumberedProgram) (rs : List (Option ℕ)) (vs : List Value) (act : Action) → OfTraps Q → Q act → Q (on_all p rs vs act)
 on_all_is Q p rs vs act t h = set_or_trap Q (are_set p rs vs) act t h
 
-placed_is : (Q : Action → Type 0) (bytes start : ℕ) (a b : Bool) (act : ByteRange → Action) → OfTraps Q → ((r : ByteRange) → r.bytes ≡ bytes → Q (act r)) → Q (placed (if not a then Err fault.OutOfRange else if not b then Err fault.Misaligned else Ok (record { start = start; bytes = bytes })) act)
+placed_is : (Q : Action → Type 0) (bytes start : ℕ) (a b : Bool) (act : ByteRange → Action) → OfTraps Q → ((r : ByteRange) → r.bytes ≡ bytes → Q (act r))
+    → Q (placed (if not a then Err fault.OutOfRange else if not b then Err fault.Misaligned else Ok (record { start = start; bytes = bytes })) act)
 placed_is Q bytes start false b act t h = t traps.OutOfRange
 placed_is Q bytes start true false act t h = t traps.Misaligned
 placed_is Q bytes start true true act t h = h (record { start = start; bytes = bytes }) refl
@@ -78,32 +80,38 @@ room_is Q false t h = t traps.StackFull
 
 -- ---- calls of known functions
 
-pub number_is : (Q : Action → Type 0) (p : NumberedProgram) (rs : List (Option ℕ)) (args : List Value) (act : ℕ → Action) → OfTraps Q → ((n : ℕ) → Q (act n)) → Q (on_value (argument p rs args 0) act)
+pub number_is : (Q : Action → Type 0) (p : NumberedProgram) (rs : List (Option ℕ)) (args : List Value) (act : ℕ → Action) → OfTraps Q → ((n : ℕ) → Q (act n))
+    → Q (on_value (argument p rs args 0) act)
 number_is Q p rs args act t h = on_value_is Q (argument p rs args 0) act t (λ n e. h n)
 
-pub object_is : (Q : Action → Type 0) (p : NumberedProgram) (rs : List (Option ℕ)) (args : List Value) (request : ℕ → Request) → OfTraps Q → ((o : ℕ) → Q (actions.Event (request o))) → Q (object_action p rs args request)
+pub object_is : (Q : Action → Type 0) (p : NumberedProgram) (rs : List (Option ℕ)) (args : List Value) (request : ℕ → Request) → OfTraps Q
+    → ((o : ℕ) → Q (actions.Event (request o))) → Q (object_action p rs args request)
 object_is Q p rs args request t h = number_is Q p rs args _ t (λ w. on_object_is Q w _ t h)
 
-pub init_is : (Q : Action → Type 0) (p : NumberedProgram) (rs : List (Option ℕ)) (args : List Value) (request : ℕ → Request) → OfTraps Q → ((o : ℕ) → Q (actions.Event (request o))) → Q (init_action p rs args request)
+pub init_is : (Q : Action → Type 0) (p : NumberedProgram) (rs : List (Option ℕ)) (args : List Value) (request : ℕ → Request) → OfTraps Q
+    → ((o : ℕ) → Q (actions.Event (request o))) → Q (init_action p rs args request)
 init_is Q p rs args request t h =
     number_is Q p rs args _ t (λ w.
     on_value_is Q (argument p rs args 1) _ t (λ a e.
     on_object_is Q w _ t (λ o. on_null_is Q a _ t (h o))))
 
-pub barrier_init_is : (Q : Action → Type 0) (p : NumberedProgram) (rs : List (Option ℕ)) (args : List Value) → OfTraps Q → ((o n : ℕ) → Q (actions.Event (requests.BarrierInit o n))) → Q (barrier_init_action p rs args)
+pub barrier_init_is : (Q : Action → Type 0) (p : NumberedProgram) (rs : List (Option ℕ)) (args : List Value) → OfTraps Q → ((o n : ℕ) → Q (actions.Event (requests.BarrierInit o n)))
+    → Q (barrier_init_action p rs args)
 barrier_init_is Q p rs args t h =
     number_is Q p rs args _ t (λ w.
     on_value_is Q (argument p rs args 1) _ t (λ a e.
     on_value_is Q (argument p rs args 2) _ t (λ n f.
     on_object_is Q w _ t (λ o. on_null_is Q a _ t (h o n)))))
 
-pub wait_is : (Q : Action → Type 0) (p : NumberedProgram) (halfway : Bool) (rs : List (Option ℕ)) (args : List Value) → OfTraps Q → ((c m : ℕ) → Q (actions.Event (wait_request halfway c m))) → Q (wait_action p halfway rs args)
+pub wait_is : (Q : Action → Type 0) (p : NumberedProgram) (halfway : Bool) (rs : List (Option ℕ)) (args : List Value) → OfTraps Q
+    → ((c m : ℕ) → Q (actions.Event (wait_request halfway c m))) → Q (wait_action p halfway rs args)
 wait_is Q p halfway rs args t h =
     number_is Q p rs args _ t (λ c.
     on_value_is Q (argument p rs args 1) _ t (λ m e.
     on_object_is Q c _ t (λ x. on_object_is Q m _ t (λ y. h x y))))
 
-pub create_is : (Q : Action → Type 0) (p : NumberedProgram) (rs : List (Option ℕ)) (args : List Value) → OfTraps Q → ((r : ByteRange) (f n : ℕ) → r.bytes ≡ 8 → argument p rs args 2 ≡ Some f → Q (actions.Event (requests.Create r f n))) → Q (create_action p rs args)
+pub create_is : (Q : Action → Type 0) (p : NumberedProgram) (rs : List (Option ℕ)) (args : List Value) → OfTraps Q
+    → ((r : ByteRange) (f n : ℕ) → r.bytes ≡ 8 → argument p rs args 2 ≡ Some f → Q (actions.Event (requests.Create r f n))) → Q (create_action p rs args)
 create_is Q p rs args t h =
     number_is Q p rs args _ t (λ w.
     on_value_is Q (argument p rs args 1) _ t (λ a e1.
@@ -115,8 +123,10 @@ pub either : (Q : Action → Type 0) (b : Bool) (a c : Action) → Q a → Q c �
 either Q true a c h k = h
 either Q false a c h k = k
 
-join_at_is : (Q : Action → Type 0) (target w : ℕ) → OfTraps Q → Q (actions.Event (requests.Join target None)) → ((r : ByteRange) → r.bytes ≡ 8 → Q (actions.Event (requests.Join target (Some r)))) → Q (join_at target w)
+join_at_is : (Q : Action → Type 0) (target w : ℕ) → OfTraps Q → Q (actions.Event (requests.Join target None))
+    → ((r : ByteRange) → r.bytes ≡ 8 → Q (actions.Event (requests.Join target (Some r)))) → Q (join_at target w)
 join_at_is Q target w t h k = either Q (w == 0) _ _ h (on_place_is Q w 8 _ t k)
 
-pub join_is : (Q : Action → Type 0) (p : NumberedProgram) (rs : List (Option ℕ)) (args : List Value) → OfTraps Q → ((target : ℕ) → Q (actions.Event (requests.Join target None))) → ((target : ℕ) (r : ByteRange) → r.bytes ≡ 8 → Q (actions.Event (requests.Join target (Some r)))) → Q (join_action p rs args)
+pub join_is : (Q : Action → Type 0) (p : NumberedProgram) (rs : List (Option ℕ)) (args : List Value) → OfTraps Q → ((target : ℕ) → Q (actions.Event (requests.Join target None)))
+    → ((target : ℕ) (r : ByteRange) → r.bytes ≡ 8 → Q (actions.Event (requests.Join target (Some r)))) → Q (join_action p rs args)
 join_is Q p rs args t h k = number_is Q p rs args _ t (λ n. on_value_is Q (argument p rs args 1) _ t (λ w e. join_at_is Q n w t (h n) (k n)))

@@ -52,7 +52,8 @@ asks_by (stages.Arrived b g l) r e = absurd cc
 asks_by stages.Ended requests.Start e = absurd cc
 asks_by stages.Ended r e = absurd cc
 
-request_may : (p : NumberedProgram) (s : State) (t : ℕ) (l : LocalState) (r : Request) → IsProgram p → IsMachine p s → slice_get s.locals t ≡ Some l → next p l ≡ actions.Event r → sync.ready s.sync t r ≡ true → MayAsk p s t r
+request_may : (p : NumberedProgram) (s : State) (t : ℕ) (l : LocalState) (r : Request) → IsProgram p → IsMachine p s → slice_get s.locals t ≡ Some l → next p l ≡ actions.Event r
+    → sync.ready s.sync t r ≡ true → MayAsk p s t r
 request_may p s t l r program h e n g = record {
   asks = asks_by (sync.stage_of s.sync t) r (own_phase p s t l h e (subst CanStep (sym n) tt) ∙ ap phase_before n);
   ready = g;
@@ -61,7 +62,8 @@ request_may p s t l r program h e n g = record {
   threads = h.threads;
 }
 
-action_may : (p : NumberedProgram) (s : State) (t : ℕ) (l : LocalState) (act : Action) → IsProgram p → IsMachine p s → slice_get s.locals t ≡ Some l → next p l ≡ act → may_act s t act ≡ true → MayDo p s t act
+action_may : (p : NumberedProgram) (s : State) (t : ℕ) (l : LocalState) (act : Action) → IsProgram p → IsMachine p s → slice_get s.locals t ≡ Some l → next p l ≡ act
+    → may_act s t act ≡ true → MayDo p s t act
 action_may p s t l (actions.Store r m) program h e n g = subst (ActionFits p) n (action_fits p l program (all_at (IsOf p) s.locals t l e h.of))
 action_may p s t l (actions.Event r) program h e n g = request_may p s t l r program h e n g
 action_may p s t l act program h e n g = tt
@@ -94,7 +96,8 @@ ready_made p s t h = made_by s t (slice_get s.locals t) p refl (acts (not (sync.
 
 -- ---- a create has room
 
-checked_room : (s : State) (t : ℕ) (r : Request) (o : Option TrapName) (z : sync.Sync) (q : Reply) → sync.check s.sync t r ≡ o → length s.sync.threads ≡ length s.locals → (z, Ok q) ≡ sync.on_check o s.sync (sync.done s.sync t r) → HasRoom s r
+checked_room : (s : State) (t : ℕ) (r : Request) (o : Option TrapName) (z : sync.Sync) (q : Reply) → sync.check s.sync t r ≡ o → length s.sync.threads ≡ length s.locals
+    → (z, Ok q) ≡ sync.on_check o s.sync (sync.done s.sync t r) → HasRoom s r
 checked_room s t (requests.Create at f n) None z q c k e = let h = room s.sync t f n at c in omega (arith, h, k)
 checked_room s t (requests.Create at f n) (Some name) z q c k e = let h : Path (Result Reply TrapName) (Ok q) (Err name) = ap (λ (x : sync.Sync × Result Reply TrapName). x.1) e in absurd cc
 checked_room s t r o z q c k e = tt
@@ -103,7 +106,8 @@ has_room : (s : State) (t : ℕ) (r : Request) (z : sync.Sync) (q : Reply) → l
 unfolding sync.applied
 has_room s t r z q k e = checked_room s t r (sync.check s.sync t r) z q refl k e
 
-pub room_of : (s : State) (t : ℕ) (r : Request) (z : sync.Sync) (x : Result Reply SyncTrap) → length s.sync.threads ≡ length s.locals → (z, sync.named x) ≡ sync.applied s.sync t r → IfOk x (λ q. HasRoom s r)
+pub room_of : (s : State) (t : ℕ) (r : Request) (z : sync.Sync) (x : Result Reply SyncTrap) → length s.sync.threads ≡ length s.locals → (z, sync.named x) ≡ sync.applied s.sync t r
+    → IfOk x (λ q. HasRoom s r)
 room_of s t r z (Ok q) k e = has_room s t r z q k e
 room_of s t r z (Err trap) k e = tt
 
@@ -115,7 +119,8 @@ request_locals p s t u (requests.Exit n is_return) h = refl
 request_locals p s t u (requests.Join n r) h = refl
 request_locals p s t u r h = refl
 
-applied_locals : (p : NumberedProgram) (s : State) (t u : ℕ) (r : Request) (y : sync.Sync) (q : Result Reply TrapName) → u < length s.locals → slice_get (on_applied p s t r (y, q)).0.locals u ≡ slice_get s.locals u
+applied_locals : (p : NumberedProgram) (s : State) (t u : ℕ) (r : Request) (y : sync.Sync) (q : Result Reply TrapName) → u < length s.locals
+    → slice_get (on_applied p s t r (y, q)).0.locals u ≡ slice_get s.locals u
 applied_locals p s t u r y (Err name) h = refl
 applied_locals p s t u r y (Ok reply) h = request_locals p (record s { sync = y }) t u r h
 

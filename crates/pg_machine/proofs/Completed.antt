@@ -11,15 +11,18 @@ use Rattle.pg_machine.specs.State.{State}
 use Rattle.pg_machine.specs.Texts.{printed_by}
 
 -- a check that fails leaves all as it was
-pub refused : (p : NumberedProgram) (s : State) (t : ℕ) (r : Request) (name : TrapName) → sync.check s.sync t r ≡ Some name → Path Answered (s, Err name) (on_applied p s t r (sync.applied s.sync t r))
+pub refused : (p : NumberedProgram) (s : State) (t : ℕ) (r : Request) (name : TrapName) → sync.check s.sync t r ≡ Some name
+    → Path Answered (s, Err name) (on_applied p s t r (sync.applied s.sync t r))
 unfolding sync.applied
 refused p s t r name e = rw e refl
 
 -- a print is printed first, since it always succeeds
-pub out_first : (p : NumberedProgram) (s z : State) (t n : ℕ) (r : Request) (text : List ℕ) → r ≡ requests.Out n → text ≡ printed_by (requests.Out n) → z ≡ record s { printed = s.printed ++ text } → on_completed z t r (sync.applied z.sync t r) ≡ on_applied p s t r (sync.applied s.sync t r)
+pub out_first : (p : NumberedProgram) (s z : State) (t n : ℕ) (r : Request) (text : List ℕ) → r ≡ requests.Out n → text ≡ printed_by (requests.Out n)
+    → z ≡ record s { printed = s.printed ++ text } → on_completed z t r (sync.applied z.sync t r) ≡ on_applied p s t r (sync.applied s.sync t r)
 unfolding sync.applied sync.check
 out_first p s z t n r text e h k = rw (k, e, h) refl
 
-pub putchar_first : (p : NumberedProgram) (s z : State) (t n : ℕ) (r : Request) (text : List ℕ) → r ≡ requests.Putchar n → text ≡ printed_by (requests.Putchar n) → z ≡ record s { printed = s.printed ++ text } → on_completed z t r (sync.applied z.sync t r) ≡ on_applied p s t r (sync.applied s.sync t r)
+pub putchar_first : (p : NumberedProgram) (s z : State) (t n : ℕ) (r : Request) (text : List ℕ) → r ≡ requests.Putchar n → text ≡ printed_by (requests.Putchar n)
+    → z ≡ record s { printed = s.printed ++ text } → on_completed z t r (sync.applied z.sync t r) ≡ on_applied p s t r (sync.applied s.sync t r)
 unfolding sync.applied sync.check
 putchar_first p s z t n r text e h k = rw (k, e, h) refl

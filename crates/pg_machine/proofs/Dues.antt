@@ -47,7 +47,8 @@ due_ready gated p u s b e = go (sync.over s.sync) refl
     go false k = rw k (acts gated u s b (next_of p s u.thread.0) (rw k at e))
 
 -- where an answer tells what is due, the owner is ready
-pub ready_if_due : (gated : List InstrId) (p : NumberedProgram) (u : Turn) (s : State) (action : Action) (d : Result Bool GuidedEnd) → d ≡ due_by gated u s action → action ≡ next_of p s u.thread.0 → IfOk d (λ b. ready p s u.thread.0 ≡ true)
+pub ready_if_due : (gated : List InstrId) (p : NumberedProgram) (u : Turn) (s : State) (action : Action) (d : Result Bool GuidedEnd) → d ≡ due_by gated u s action
+    → action ≡ next_of p s u.thread.0 → IfOk d (λ b. ready p s u.thread.0 ≡ true)
 unfolding due
 ready_if_due gated p u s action (Ok b) e h = due_ready gated p u s b (sym (e ∙ ap (due_by gated u s) h))
 ready_if_due gated p u s action (Err end) e h = tt
@@ -59,7 +60,8 @@ module _ (gated : List InstrId) (p : NumberedProgram) (input : List ℤ) (u : Tu
   abbrev Does : Answered → Type 0
   Does a = (x : Step) × (z : State) × (settled gated p s u.thread.0 (taken p s u.thread.0 a) ≡ Did x z)
 
-  event_does : (r : Request) (trap : Option TrapName) (is_ready : Bool) (v : Turn) → sync.check s.sync u.thread.0 r ≡ trap → trap_or s u.thread.0 trap (on_event u is_ready (Some v)) ≡ Ok b → Does (on_applied p s u.thread.0 r (sync.on_check trap s.sync (sync.done s.sync u.thread.0 r)))
+  event_does : (r : Request) (trap : Option TrapName) (is_ready : Bool) (v : Turn) → sync.check s.sync u.thread.0 r ≡ trap
+      → trap_or s u.thread.0 trap (on_event u is_ready (Some v)) ≡ Ok b → Does (on_applied p s u.thread.0 r (sync.on_check trap s.sync (sync.done s.sync u.thread.0 r)))
   event_does r None is_ready v k e = (_, _, refl)
   event_does r (Some name) is_ready v k e = absurd cc
 
@@ -70,10 +72,12 @@ module _ (gated : List InstrId) (p : NumberedProgram) (input : List ℤ) (u : Tu
   does (actions.Trap name) e = absurd cc
   does action e = (_, _, refl)
 
-pub due_does : (gated : List InstrId) (p : NumberedProgram) (input : List ℤ) (u : Turn) (s : State) (b : Bool) → due gated p u s ≡ Ok b → (x : Step) × (z : State) × (step gated p input s u.thread.0 ≡ Did x z)
+pub due_does : (gated : List InstrId) (p : NumberedProgram) (input : List ℤ) (u : Turn) (s : State) (b : Bool) → due gated p u s ≡ Ok b
+    → (x : Step) × (z : State) × (step gated p input s u.thread.0 ≡ Did x z)
 unfolding due step
 due_does gated p input u s b e = go (sync.over s.sync) refl
   where
-    go : (over : Bool) → sync.over s.sync ≡ over → (x : Step) × (z : State) × (settled gated p s u.thread.0 (taken p s u.thread.0 (answered p input s u.thread.0 (next_of p s u.thread.0))) ≡ Did x z)
+    go : (over : Bool) → sync.over s.sync ≡ over → (x : Step) × (z : State)
+        × (settled gated p s u.thread.0 (taken p s u.thread.0 (answered p input s u.thread.0 (next_of p s u.thread.0))) ≡ Did x z)
     go true k = let h : due_if true gated u s (next_of p s u.thread.0) ≡ Ok b = rw k at e in absurd cc
     go false k = does gated p input u s b (next_of p s u.thread.0) (rw k at e)

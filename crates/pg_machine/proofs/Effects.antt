@@ -14,10 +14,13 @@ use Rattle.pg_sync.specs.declared.status.Status.{Status}
 use Rattle.pg_sync.specs.declared.status.Waiter.{Waiter}
 use Rattle.pg_sync.specs.declared.reply.Reply.{Reply}
 use Rattle.pg_sync.specs.Objects.{object_at, put_object, is_free, is_barrier}
-use Rattle.pg_sync.specs.Sync.{Sync, stage_of, is_signalled, at_stage, made, release, joined_in, signal_each, waits_on, without_first, first_of, done, check, check_barrier, first_trap, unless, may_go, hold, answer, arrive_at}
+use Rattle.pg_sync.specs.Sync.{Sync, stage_of, is_signalled, at_stage, made, release, joined_in, signal_each, waits_on, without_first, first_of, done, check, check_barrier, first_trap}
+use Rattle.pg_sync.specs.Sync.{unless, may_go, hold, answer, arrive_at}
 use Rattle.pg_machine.specs.Phases.{Phase, Fresh, Going, InCondition, InBarrier, stage_phase, request_before, request_after}
 use Rattle.pg_machine.specs.Machine.{AreWaiting}
-use Rattle.pg_machine.proofs.Threads.{stage_at, own_stage, other_stage, set_length, waiting_kept, waiting_more, waiting_by, absent_of, join_stage, release_phase, release_waits, release_length, made_waits, made_own, made_other, signal_length, signal_phase, signal_waits, waiting_filter, waiting_without, waiting_first, filters_apart, first_apart}
+use Rattle.pg_machine.proofs.Threads.{stage_at, own_stage, other_stage, set_length, waiting_kept, waiting_more, waiting_by, absent_of, join_stage, release_phase, release_waits}
+use Rattle.pg_machine.proofs.Threads.{release_length, made_waits, made_own, made_other, signal_length, signal_phase, signal_waits, waiting_filter, waiting_without, waiting_first}
+use Rattle.pg_machine.proofs.Threads.{filters_apart, first_apart}
 
 -- thread t has come to a phase, all others are where they were, and those that wait still do
 pub record Moved (t : ℕ) (x : Phase) (ss us : List Status) (vs : List Waiter) : Type 0 where
@@ -29,7 +32,8 @@ pub record Moved (t : ℕ) (x : Phase) (ss us : List Status) (vs : List Waiter) 
 stays : (t : ℕ) (x : Phase) (ss : List Status) (ws : List Waiter) → stage_phase (stage_at ss t) ≡ x → AreWaiting ss ws → Moved t x ss ss ws
 stays t x ss ws e h = record { own = e; others = λ u n. refl; waiters = h; count = refl }
 
-comes : (t : ℕ) (s : Stage) (ss : List Status) (ws : List Waiter) → t < length ss → (stage_at ss t ≡ Waiting false → ⊥) → AreWaiting ss ws → Moved t (stage_phase s) ss (at_stage t s ss) ws
+comes : (t : ℕ) (s : Stage) (ss : List Status) (ws : List Waiter) → t < length ss → (stage_at ss t ≡ Waiting false → ⊥) → AreWaiting ss ws
+    → Moved t (stage_phase s) ss (at_stage t s ss) ws
 comes t s ss ws l n h = record {
   own = ap stage_phase (own_stage ss t s l);
   others = λ u k. ap stage_phase (other_stage ss t u s k);
@@ -62,7 +66,8 @@ joins t n x ss ws e h = record {
   count = set_length ss n _;
 }
 
-waits : (t c : ℕ) (ss : List Status) (ws : List Waiter) → t < length ss → stage_phase (stage_at ss t) ≡ Going → AreWaiting ss ws → Moved t InCondition ss (at_stage t (Waiting false) ss) (ws ++ record { condition = c; thread = record { 0 = t } } ∷ [])
+waits : (t c : ℕ) (ss : List Status) (ws : List Waiter) → t < length ss → stage_phase (stage_at ss t) ≡ Going → AreWaiting ss ws
+    → Moved t InCondition ss (at_stage t (Waiting false) ss) (ws ++ record { condition = c; thread = record { 0 = t } } ∷ [])
 waits t c ss ws l e h = record {
   own = ap stage_phase (own_stage ss t (Waiting false) l);
   others = λ u k. ap stage_phase (other_stage ss t u (Waiting false) k);
@@ -70,7 +75,8 @@ waits t c ss ws l e h = record {
   count = set_length ss t _;
 }
 
-signals : (t : ℕ) (x : Phase) (ss : List Status) (us vs : List Waiter) → stage_phase (stage_at ss t) ≡ x → AreWaiting ss vs → AreWaiting (signal_each vs ss) us → Moved t x ss (signal_each vs ss) us
+signals : (t : ℕ) (x : Phase) (ss : List Status) (us vs : List Waiter) → stage_phase (stage_at ss t) ≡ x → AreWaiting ss vs → AreWaiting (signal_each vs ss) us
+    → Moved t x ss (signal_each vs ss) us
 signals t x ss us vs e h k = record {
   own = signal_phase vs ss t h ∙ e;
   others = λ u n. signal_phase vs ss u h;
@@ -78,10 +84,12 @@ signals t x ss us vs e h k = record {
   count = signal_length vs ss;
 }
 
-arrives : (t b count arrived : ℕ) (ss : List Status) (ws : List Waiter) (z : Bool) → t < length ss → stage_phase (stage_at ss t) ≡ Going → AreWaiting ss ws → Moved t InBarrier ss (if z then at_stage t (Arrived b false false) ss else at_stage t (Arrived b true true) (map (release b) ss)) ws
+arrives : (t b count arrived : ℕ) (ss : List Status) (ws : List Waiter) (z : Bool) → t < length ss → stage_phase (stage_at ss t) ≡ Going → AreWaiting ss ws
+    → Moved t InBarrier ss (if z then at_stage t (Arrived b false false) ss else at_stage t (Arrived b true true) (map (release b) ss)) ws
 arrives t b count arrived ss ws true l e h = comes t (Arrived b false false) ss ws l (going_is _ e) h
 arrives t b count arrived ss ws false l e h =
-    let k = comes t (Arrived b true true) (map (release b) ss) ws (rw (release_length b ss) l) (going_is _ (release_phase b ss t ∙ e)) (waiting_by ss (map (release b) ss) ws (release_waits b ss) h) in
+    let k = comes t (Arrived b true true) (map (release b) ss) ws (rw (release_length b ss) l) (going_is _ (release_phase b ss t ∙ e))
+    (waiting_by ss (map (release b) ss) ws (release_waits b ss) h) in
     record { own = k.own; others = λ u n. k.others u n ∙ release_phase b ss u; waiters = k.waiters; count = k.count ∙ release_length b ss }
 
 abbrev barrier_then : Sync → ℕ → ℕ → ℕ → ℕ → Bool → Sync
@@ -90,13 +98,15 @@ barrier_then y t b count n z =
     then record y { objects = put_object b (objects.Barrier count (n + 1)) y.objects; threads = at_stage t (Arrived b false false) y.threads }
     else record y { objects = put_object b (objects.Barrier count 0) y.objects; threads = at_stage t (Arrived b true true) (map (release b) y.threads) }
 
-arrived : (y : Sync) (t b : ℕ) (o : Option Object) → t < length y.threads → is_barrier o ≡ true → stage_phase (stage_of y t) ≡ Going → AreWaiting y.threads y.waiters → Moved t InBarrier y.threads (arrive_at y t b o).threads (arrive_at y t b o).waiters
+arrived : (y : Sync) (t b : ℕ) (o : Option Object) → t < length y.threads → is_barrier o ≡ true → stage_phase (stage_of y t) ≡ Going → AreWaiting y.threads y.waiters
+    → Moved t InBarrier y.threads (arrive_at y t b o).threads (arrive_at y t b o).waiters
 arrived y t b None l k e h = absurd cc
 arrived y t b (Some (objects.Mutex holder)) l k e h = absurd cc
 arrived y t b (Some objects.Condition) l k e h = absurd cc
 arrived y t b (Some (objects.Barrier count n)) l k e h = go (nat_lt (n + 1) count) (λ z. arrives t b count n y.threads y.waiters z l e h)
   where
-    go : (z : Bool) → ((w : Bool) → Moved t InBarrier y.threads (if w then at_stage t (Arrived b false false) y.threads else at_stage t (Arrived b true true) (map (release b) y.threads)) y.waiters)
+    go : (z : Bool) → ((w : Bool) → Moved t InBarrier y.threads (if w then at_stage t (Arrived b false false) y.threads else at_stage t (Arrived b true true) (map (release b) y.threads))
+        y.waiters)
         → Moved t InBarrier y.threads (barrier_then y t b count n z).threads (barrier_then y t b count n z).waiters
     go true m = m true
     go false m = m false
@@ -114,11 +124,13 @@ tried_then y t o b = if b then (record y { objects = hold y t o }, answer 0) els
 abbrev initialised_then : Sync → ℕ → ℕ → ℕ → Bool → Sync × Reply
 initialised_then y t o n b = if b then (y, answer 22) else (record y { objects = put_object o (objects.Barrier n 0) y.objects }, answer 0)
 
-tried : (y : Sync) (t o : ℕ) (b : Bool) → stage_phase (stage_of y t) ≡ Going → AreWaiting y.threads y.waiters → Moved t Going y.threads (tried_then y t o b).0.threads (tried_then y t o b).0.waiters
+tried : (y : Sync) (t o : ℕ) (b : Bool) → stage_phase (stage_of y t) ≡ Going → AreWaiting y.threads y.waiters
+    → Moved t Going y.threads (tried_then y t o b).0.threads (tried_then y t o b).0.waiters
 tried y t o true e h = stays t Going y.threads y.waiters e h
 tried y t o false e h = stays t Going y.threads y.waiters e h
 
-initialised : (y : Sync) (t o n : ℕ) (b : Bool) → stage_phase (stage_of y t) ≡ Going → AreWaiting y.threads y.waiters → Moved t Going y.threads (initialised_then y t o n b).0.threads (initialised_then y t o n b).0.waiters
+initialised : (y : Sync) (t o n : ℕ) (b : Bool) → stage_phase (stage_of y t) ≡ Going → AreWaiting y.threads y.waiters
+    → Moved t Going y.threads (initialised_then y t o n b).0.threads (initialised_then y t o n b).0.waiters
 initialised y t o n true e h = stays t Going y.threads y.waiters e h
 initialised y t o n false e h = stays t Going y.threads y.waiters e h
 
@@ -127,7 +139,8 @@ abbrev pub MakesNone : Request → Type 0
 MakesNone (requests.Create r f n) = ⊥
 MakesNone r = Unit {0}
 
-pub moved : (y : Sync) (t : ℕ) (r : Request) → MakesNone r → t < length y.threads → check y t r ≡ None → may_go y t r ≡ true → stage_phase (stage_of y t) ≡ request_before r → AreWaiting y.threads y.waiters → Moved t (request_after r) y.threads (done y t r).0.threads (done y t r).0.waiters
+pub moved : (y : Sync) (t : ℕ) (r : Request) → MakesNone r → t < length y.threads → check y t r ≡ None → may_go y t r ≡ true → stage_phase (stage_of y t) ≡ request_before r
+    → AreWaiting y.threads y.waiters → Moved t (request_after r) y.threads (done y t r).0.threads (done y t r).0.waiters
 unfolding done check
 moved y t requests.Start m l c g e h = comes t Running y.threads y.waiters l (fresh_is _ e) h
 moved y t (requests.Exit n is_return) m l c g e h = comes t Ended y.threads y.waiters l (going_is _ e) h
@@ -141,7 +154,8 @@ moved y t (requests.Signal o) m l c g e h =
     (signal_waits (without_first o y.waiters) (first_of (find (waits_on o) y.waiters)) y.threads (first_apart o y.threads y.waiters h) (waiting_without o y.threads y.waiters h))
 moved y t (requests.Broadcast o) m l c g e h =
     signals t Going y.threads (filter (λ w. not (waits_on o w)) y.waiters) (filter (waits_on o) y.waiters) e (waiting_filter (waits_on o) y.threads y.waiters h)
-    (signal_waits (filter (λ w. not (waits_on o w)) y.waiters) (filter (waits_on o) y.waiters) y.threads (filters_apart (waits_on o) y.threads y.waiters h) (waiting_filter (λ w. not (waits_on o w)) y.threads y.waiters h))
+    (signal_waits (filter (λ w. not (waits_on o w)) y.waiters) (filter (waits_on o) y.waiters) y.threads (filters_apart (waits_on o) y.threads y.waiters h)
+    (waiting_filter (λ w. not (waits_on o w)) y.threads y.waiters h))
 moved y t (requests.BarrierInit o n) m l c g e h = initialised y t o n (n == 0) e h
 moved y t (requests.Arrive o) m l c g e h = arrived y t o (object_at o y.objects) l (there (object_at o y.objects) c) e h
 moved y t (requests.Leave o) m l c g e h = comes t Running y.threads y.waiters l (barrier_is _ e) h
@@ -154,7 +168,8 @@ pub record MadeOne (ss us : List Status) (vs : List Waiter) : Type 0 where
   pub waiters : AreWaiting us vs
   pub count : length us ≡ length ss + 1
 
-pub made_one : (y : Sync) (t : ℕ) (r : ByteRange) (f n : ℕ) → AreWaiting y.threads y.waiters → MadeOne y.threads (done y t (requests.Create r f n)).0.threads (done y t (requests.Create r f n)).0.waiters
+pub made_one : (y : Sync) (t : ℕ) (r : ByteRange) (f n : ℕ) → AreWaiting y.threads y.waiters
+    → MadeOne y.threads (done y t (requests.Create r f n)).0.threads (done y t (requests.Create r f n)).0.waiters
 unfolding done
 made_one y t r f n h = record {
   new = ap stage_phase (made_own y.threads);

@@ -32,7 +32,8 @@ can_go p input s z t a actions.Ended g e = absurd cc
 can_go p input s z t a act g e = tt
 
 -- what a step of thread t starts from, once its action is answered
-begins : (p : NumberedProgram) (input : List ℤ) (s z : State) (t a : ℕ) (l : LocalState) → IsProgram p → IsMachine p s → slice_get s.locals t ≡ Some l → ready p s t ≡ true → a < 2 ^ 64 → Path Answered (answered p input s t (next_of p s t)) (z, Ok a) → At p s t l (next_of p s t) a
+begins : (p : NumberedProgram) (input : List ℤ) (s z : State) (t a : ℕ) (l : LocalState) → IsProgram p → IsMachine p s → slice_get s.locals t ≡ Some l → ready p s t ≡ true
+    → a < 2 ^ 64 → Path Answered (answered p input s t (next_of p s t)) (z, Ok a) → At p s t l (next_of p s t) a
 begins p input s z t a l program h e g small k = record {
   program = program;
   machine = h;
@@ -42,10 +43,12 @@ begins p input s z t a l program h e g small k = record {
   small = small;
 }
 
-pub local_is : (p : NumberedProgram) (input : List ℤ) (s z : State) (t : ℕ) (x : Result ℕ TrapName) → ready p s t ≡ true → Path Answered (answered p input s t (next_of p s t)) (z, x) → slice_get z.locals t ≡ slice_get s.locals t
+pub local_is : (p : NumberedProgram) (input : List ℤ) (s z : State) (t : ℕ) (x : Result ℕ TrapName) → ready p s t ≡ true → Path Answered (answered p input s t (next_of p s t)) (z, x)
+    → slice_get z.locals t ≡ slice_get s.locals t
 local_is p input s z t x g k = ap (λ (q : Answered). slice_get q.0.locals t) (sym k) ∙ same_local p input s t t (next_of p s t) (ready_made p s t g)
 
-pub stands : (p : NumberedProgram) (input : List ℤ) (s z : State) (t a : ℕ) → IsProgram p → IsMachine p s → ready p s t ≡ true → a < 2 ^ 64 → Path Answered (answered p input s t (next_of p s t)) (z, Ok a) → IsMachine p (record z { locals = local_after p z.locals t a (slice_get z.locals t) })
+pub stands : (p : NumberedProgram) (input : List ℤ) (s z : State) (t a : ℕ) → IsProgram p → IsMachine p s → ready p s t ≡ true → a < 2 ^ 64
+    → Path Answered (answered p input s t (next_of p s t)) (z, Ok a) → IsMachine p (record z { locals = local_after p z.locals t a (slice_get z.locals t) })
 stands p input s z t a program h g small k =
     let x = there s.locals t (ready_made p s t g) in
     let m : Stands p t x.0 a z = still_machine p input s z t a x.0 (next_of p s t) (begins p input s z t a x.0 program h x.1 g small k) (ready_acts p s t g) k in
@@ -66,11 +69,13 @@ unfolding answered
 answered_length p input s t (actions.Event r) = applied_length p s t r (sync.applied s.sync t r).0 (sync.applied s.sync t r).1
 answered_length p input s t act = omega arith
 
-pub no_fewer : (p : NumberedProgram) (input : List ℤ) (s z : State) (t : ℕ) (x : Result ℕ TrapName) → Path Answered (answered p input s t (next_of p s t)) (z, x) → length s.locals ≤ length z.locals
+pub no_fewer : (p : NumberedProgram) (input : List ℤ) (s z : State) (t : ℕ) (x : Result ℕ TrapName) → Path Answered (answered p input s t (next_of p s t)) (z, x)
+    → length s.locals ≤ length z.locals
 no_fewer p input s z t x k = subst (λ (q : Answered). length s.locals ≤ length q.0.locals) k (answered_length p input s t (next_of p s t))
 
 -- the thread can go on
-pub may_go_on : (p : NumberedProgram) (input : List ℤ) (s z : State) (t a : ℕ) → IsMachine p s → ready p s t ≡ true → Path Answered (answered p input s t (next_of p s t)) (z, Ok a) → MayGoOn p z t
+pub may_go_on : (p : NumberedProgram) (input : List ℤ) (s z : State) (t a : ℕ) → IsMachine p s → ready p s t ≡ true → Path Answered (answered p input s t (next_of p s t)) (z, Ok a)
+    → MayGoOn p z t
 unfolding next_of
 may_go_on p input s z t a h g k =
     let x = there s.locals t (ready_made p s t g) in
@@ -85,24 +90,29 @@ after_length : (p : NumberedProgram) (ls : List LocalState) (t a : ℕ) (o : Opt
 after_length p ls t a None = refl
 after_length p ls t a (Some l) = set_length ls t (after p l a)
 
-pub taken_more : (p : NumberedProgram) (input : List ℤ) (s z : State) (t a : ℕ) → Path Answered (answered p input s t (next_of p s t)) (z, Ok a) → length s.locals ≤ length (local_after p z.locals t a (slice_get z.locals t))
+pub taken_more : (p : NumberedProgram) (input : List ℤ) (s z : State) (t a : ℕ) → Path Answered (answered p input s t (next_of p s t)) (z, Ok a)
+    → length s.locals ≤ length (local_after p z.locals t a (slice_get z.locals t))
 taken_more p input s z t a k = let l = no_fewer p input s z t (Ok a) k in omega (arith, l, after_length p z.locals t a (slice_get z.locals t))
 
-pub taken_is : (p : NumberedProgram) (input : List ℤ) (s z : State) (t a : ℕ) → ready p s t ≡ true → Path Answered (answered p input s t (next_of p s t)) (z, Ok a) → Path Answered (record z { locals = local_after p z.locals t a (slice_get z.locals t) }, Ok a) (taken p s t (answered p input s t (next_of p s t)))
+pub taken_is : (p : NumberedProgram) (input : List ℤ) (s z : State) (t a : ℕ) → ready p s t ≡ true → Path Answered (answered p input s t (next_of p s t)) (z, Ok a)
+    → Path Answered (record z { locals = local_after p z.locals t a (slice_get z.locals t) }, Ok a) (taken p s t (answered p input s t (next_of p s t)))
 taken_is p input s z t a g k = rw (k, local_is p input s z t (Ok a) g k) refl
 
 -- what is known of an answer, for a result that is this one
-pub seen : (p : NumberedProgram) (input : List ℤ) (s z : State) (t : ℕ) (x y : Result ℕ TrapName) (act : Action) → act ≡ next_of p s t → Path Answered (z, x) (answered p input s t act) → x ≡ y → Path Answered (answered p input s t (next_of p s t)) (z, y)
+pub seen : (p : NumberedProgram) (input : List ℤ) (s z : State) (t : ℕ) (x y : Result ℕ TrapName) (act : Action) → act ≡ next_of p s t
+    → Path Answered (z, x) (answered p input s t act) → x ≡ y → Path Answered (answered p input s t (next_of p s t)) (z, y)
 seen p input s z t x y act a k e = ap (answered p input s t) (sym a) ∙ sym k ∙ ap (λ (q : Result ℕ TrapName). (z, q)) e
 
 -- the step that is told is the one that was taken
-pub did_is : (gated : List InstrId) (p : NumberedProgram) (input : List ℤ) (s z : State) (t answer : ℕ) (told : Step) (x : Result ℕ TrapName) → told ≡ step_told gated p s t answer → Path Answered (z, x) (taken p s t (answered p input s t (next_of p s t))) → x ≡ Ok answer → Did told z ≡ step gated p input s t
+pub did_is : (gated : List InstrId) (p : NumberedProgram) (input : List ℤ) (s z : State) (t answer : ℕ) (told : Step) (x : Result ℕ TrapName) → told ≡ step_told gated p s t answer
+    → Path Answered (z, x) (taken p s t (answered p input s t (next_of p s t))) → x ≡ Ok answer → Did told z ≡ step gated p input s t
 unfolding step
 did_is gated p input s z t answer told x a k e =
     let h : Path Answered (z, Ok answer) (taken p s t (answered p input s t (next_of p s t))) = ap (λ (q : Result ℕ TrapName). (z, q)) (sym e) ∙ k in
     ap (λ (y : Step). Did y z) a ∙ ap (settled gated p s t) h
 
-pub trapped_step : (gated : List InstrId) (p : NumberedProgram) (input : List ℤ) (s z : State) (t id : ℕ) (name : TrapName) (x : Result ℕ TrapName) → id ≡ instr_of s t → Path Answered (z, x) (taken p s t (answered p input s t (next_of p s t))) → x ≡ Err name → Trapped name id ≡ step gated p input s t
+pub trapped_step : (gated : List InstrId) (p : NumberedProgram) (input : List ℤ) (s z : State) (t id : ℕ) (name : TrapName) (x : Result ℕ TrapName) → id ≡ instr_of s t
+    → Path Answered (z, x) (taken p s t (answered p input s t (next_of p s t))) → x ≡ Err name → Trapped name id ≡ step gated p input s t
 unfolding step
 trapped_step gated p input s z t id name x a k e =
     let h : Path Answered (z, Err name) (taken p s t (answered p input s t (next_of p s t))) = ap (λ (q : Result ℕ TrapName). (z, q)) (sym e) ∙ k in

@@ -1,5 +1,6 @@
 -- A guided run that exits has done all turns, so it is a full run.
-use Rattle.std.proofs.Common.{◌≡◌, ℕ, ℤ, zero, suc, ◌+◌, List, [], ◌∷◌, length, drop, take, Bool, true, false, Option, Some, None, Result, Ok, Err, refl, sym, ap, ◌∙◌, subst, arith}
+use Rattle.std.proofs.Common.{◌≡◌, ℕ, ℤ, zero, suc, ◌+◌, List, [], ◌∷◌, length, drop, take, Bool, true, false, Option, Some, None, Result, Ok, Err, refl, sym, ap}
+use Rattle.std.proofs.Common.{◌∙◌, subst, arith}
 use Rattle.std.specs.Prelude.{◌&&◌, slice_set, slice_index, if◌then◌else◌}
 use Rattle.pg_ir.specs.declared.ids.InstrId.{InstrId}
 use Rattle.pg_ir.specs.declared.request.TrapName.{TrapName}
@@ -33,7 +34,8 @@ module _ (gated : List InstrId) (p : NumberedProgram) (input : List ℤ) (u : Tu
   event_no_exit is_ready None e q = absurd cc
   event_no_exit is_ready (Some v) e q = chosen_no_exit (is_turn v u && is_ready) e q
 
-  test_no_exit : (s : State) (held : Bool) (trap : Option TrapName) (is_ready : Bool) (o : Option Turn) (e : GuidedEnd) → Path (Result Bool GuidedEnd) (if held then Err ends.Strayed else trap_or s u.thread.0 trap (on_event u is_ready o)) (Err e) → IsNoExit e
+  test_no_exit : (s : State) (held : Bool) (trap : Option TrapName) (is_ready : Bool) (o : Option Turn) (e : GuidedEnd)
+      → Path (Result Bool GuidedEnd) (if held then Err ends.Strayed else trap_or s u.thread.0 trap (on_event u is_ready o)) (Err e) → IsNoExit e
   unfolding IsNoExit
   test_no_exit s true trap is_ready o e q = no_exit_of ends.Strayed e tt q
   test_no_exit s false None is_ready o e q = event_no_exit is_ready o e q
@@ -55,7 +57,8 @@ module _ (gated : List InstrId) (p : NumberedProgram) (input : List ℤ) (u : Tu
   stepped n s true (Did x z) more h e q = absurd cc
   stepped n s false (Did x z) more h e q = h z e q
 
-  tested : (n : ℕ) (s : State) (d : Result Bool GuidedEnd) → due gated p u s ≡ d → ((z : State) → NoExits (walk n gated p input u z)) → NoExits (on_due s n d (λ b. on_step s n b (step gated p input s u.thread.0) (λ t. walk n gated p input u t)))
+  tested : (n : ℕ) (s : State) (d : Result Bool GuidedEnd) → due gated p u s ≡ d → ((z : State) → NoExits (walk n gated p input u z))
+      → NoExits (on_due s n d (λ b. on_step s n b (step gated p input s u.thread.0) (λ t. walk n gated p input u t)))
   unfolding NoExits
   tested n s (Err end) k h e q = only end e (due_no_exit s end k) q
   tested n s (Ok b) k h e q = stepped n s b (step gated p input s u.thread.0) (λ t. walk n gated p input u t) h e q
@@ -77,7 +80,9 @@ module _ (gated : List InstrId) (p : NumberedProgram) (input : List ℤ) where
     turns : r.turns ≡ k + length us
     end : r.end ≡ end_after r.state
 
-  ended : (u : Turn) (us : List Turn) (k : ℕ) (w : Walk) (left : List ℕ) (e : Option GuidedEnd) (value : ℤ) (more : State → List ℕ → GuidedRun) → w.end ≡ e → NoExits gated p input u w → ((z : State) (rest : List ℕ) → (more z rest).end ≡ ends.Exit value → Exits us (k + 1) (more z rest)) → (ended_at w left k e more).end ≡ ends.Exit value → Exits (u ∷ us) k (ended_at w left k e more)
+  ended : (u : Turn) (us : List Turn) (k : ℕ) (w : Walk) (left : List ℕ) (e : Option GuidedEnd) (value : ℤ) (more : State → List ℕ → GuidedRun) → w.end ≡ e
+      → NoExits gated p input u w → ((z : State) (rest : List ℕ) → (more z rest).end ≡ ends.Exit value → Exits us (k + 1) (more z rest))
+      → (ended_at w left k e more).end ≡ ends.Exit value → Exits (u ∷ us) k (ended_at w left k e more)
   unfolding NoExits IsNoExit
   ended u us k w left (Some e) value more q h g x = absurd (subst IsNoExit x (h e q))
   ended u us k w left None value more q h g x =
@@ -89,7 +94,8 @@ module _ (gated : List InstrId) (p : NumberedProgram) (input : List ℤ) where
   exits [] k s left value x = record { turns = omega arith; end = refl }
   exits (u ∷ us) k s left value x =
       let w = walk (slice_index left u.thread.0) gated p input u s in
-      ended u us k w (slice_set left u.thread.0 w.left) w.end value (λ t rest. guided gated p input us (k + 1) t rest) refl (walk_no_exit gated p input u (slice_index left u.thread.0) s) (λ z rest y. exits us (k + 1) z rest value y) x
+      ended u us k w (slice_set left u.thread.0 w.left) w.end value (λ t rest. guided gated p input us (k + 1) t rest) refl (walk_no_exit gated p input u (slice_index left u.thread.0) s)
+      (λ z rest y. exits us (k + 1) z rest value y) x
 
 whole : (us : List Turn) → take (length us) us ≡ us
 whole [] = refl
@@ -99,7 +105,9 @@ none_behind : (us : List Turn) → drop (length us) us ≡ []
 none_behind [] = refl
 none_behind (u ∷ us) = none_behind us
 
-pub guided_exits : (p : NumberedProgram) (input : List ℤ) (us : List Turn) (gated : List InstrId) (value : ℤ) → (guided_of p input us gated).end ≡ ends.Exit value → IsFull gated p us (guided_of p input us gated).trace (guided_of p input us gated).state × (full_end p us (guided_of p input us gated).trace (guided_of p input us gated).state ≡ ends.Exit value)
+pub guided_exits : (p : NumberedProgram) (input : List ℤ) (us : List Turn) (gated : List InstrId) (value : ℤ) → (guided_of p input us gated).end ≡ ends.Exit value
+    → IsFull gated p us (guided_of p input us gated).trace (guided_of p input us gated).state
+    × (full_end p us (guided_of p input us gated).trace (guided_of p input us gated).state ≡ ends.Exit value)
 unfolding guided_of
 guided_exits p input us gated value x =
     let r = guided gated p input us 0 (initial p) all_left in

@@ -1,5 +1,6 @@
 -- A guided run is permitted: no thread takes more than its steps, and each step's thread has a turn left.
-use Rattle.std.proofs.Common.{◌≡◌, ℕ, ℤ, zero, suc, ◌+◌, ◌≤◌, List, [], ◌∷◌, ◌++◌, length, drop, take, replicate, Bool, true, false, Option, Some, None, Result, Ok, Err, refl, sym, ap, ◌∙◌, subst, arith, append-nil}
+use Rattle.std.proofs.Common.{◌≡◌, ℕ, ℤ, zero, suc, ◌+◌, ◌≤◌, List, [], ◌∷◌, ◌++◌, length, drop, take, replicate, Bool, true, false, Option, Some, None, Result}
+use Rattle.std.proofs.Common.{Ok, Err, refl, sym, ap, ◌∙◌, subst, arith, append-nil}
 use Rattle.std.specs.Prelude.{◌==◌, cond, IfSome, slice_get, slice_set, slice_index}
 use Rattle.std.proofs.lemmas.List.Sums.{sum_by-append, sum_by-cons}
 use Rattle.pg_num.specs.declared.limits.TheConstants.{GUIDED_STEP_LIMIT, THREAD_LIMIT}
@@ -54,7 +55,8 @@ drop_none : (n : ℕ) → Path (List Turn) (drop n []) []
 drop_none zero = refl
 drop_none (suc n) = refl
 
-behind_event : (v : Option Turn) (us : List Turn) (t : ℕ) (x : Step) (xs : List Step) → event_of x ≡ v → has_turn t (drop (length (events xs)) (after_event v us)) ≡ true → has_turn t (drop (length (events (x ∷ xs))) us) ≡ true
+behind_event : (v : Option Turn) (us : List Turn) (t : ℕ) (x : Step) (xs : List Step) → event_of x ≡ v → has_turn t (drop (length (events xs)) (after_event v us)) ≡ true
+    → has_turn t (drop (length (events (x ∷ xs))) us) ≡ true
 unfolding after_event
 behind_event None us t x xs e h = rw e h
 behind_event (Some v) [] t x xs e h = rw e (subst (λ (vs : List Turn). has_turn t vs ≡ true) (drop_none (length (events xs))) h)
@@ -67,7 +69,8 @@ owner_at us [] (suc i) h = tt
 owner_at us (x ∷ xs) zero h = h.0
 owner_at us (x ∷ xs) (suc i) h = go (slice_get xs i) (owner_at (after_event (event_of x) us) xs i h.1)
   where
-    go : (o : Option Step) → IfSome o (λ (y : Step). has_turn y.thread.0 (drop (length (events (take i xs))) (after_event (event_of x) us)) ≡ true) → IfSome o (λ (y : Step). has_turn y.thread.0 (drop (length (events (x ∷ take i xs))) us) ≡ true)
+    go : (o : Option Step) → IfSome o (λ (y : Step). has_turn y.thread.0 (drop (length (events (take i xs))) (after_event (event_of x) us)) ≡ true)
+        → IfSome o (λ (y : Step). has_turn y.thread.0 (drop (length (events (x ∷ take i xs))) us) ≡ true)
     go None k = tt
     go (Some y) k = behind_event (event_of x) us y.thread.0 x (take i xs) refl k
 
@@ -94,7 +97,8 @@ module _ (gated : List InstrId) (p : NumberedProgram) (input : List ℤ) (u : Tu
   unfolding May Owned
   nothing s n e = record { own = λ t h. omega arith; other = λ t h. refl; owned = λ us ys h. rw h tt }
 
-  stepped : (n : ℕ) (s : State) (b : Bool) (o : Stepped) (more : State → Walk) → due gated p u s ≡ Ok b → step gated p input s u.thread.0 ≡ o → ((z : State) → Counts n (more z)) → Counts (suc n) (on_step s n b o more)
+  stepped : (n : ℕ) (s : State) (b : Bool) (o : Stepped) (more : State → Walk) → due gated p u s ≡ Ok b → step gated p input s u.thread.0 ≡ o → ((z : State) → Counts n (more z))
+      → Counts (suc n) (on_step s n b o more)
   unfolding May Owned after_event turn_if
   stepped n s b (Trapped name id) more d e h = nothing s (suc n) _
   stepped n s true (Did x z) more d e h =
@@ -114,7 +118,8 @@ module _ (gated : List InstrId) (p : NumberedProgram) (input : List ℤ) (u : Tu
         owned = λ us ys q. (owner_has us x.thread.0 i, rw k.1 ((h z).owned us ys q));
       }
 
-  due_counts : (n : ℕ) (s : State) (d : Result Bool GuidedEnd) → due gated p u s ≡ d → ((z : State) → Counts n (walk n gated p input u z)) → Counts (suc n) (on_due s n d (λ b. on_step s n b (step gated p input s u.thread.0) (λ t. walk n gated p input u t)))
+  due_counts : (n : ℕ) (s : State) (d : Result Bool GuidedEnd) → due gated p u s ≡ d → ((z : State) → Counts n (walk n gated p input u z))
+      → Counts (suc n) (on_due s n d (λ b. on_step s n b (step gated p input s u.thread.0) (λ t. walk n gated p input u t)))
   due_counts n s (Err end) e h = nothing s (suc n) end
   due_counts n s (Ok b) e h = stepped n s b (step gated p input s u.thread.0) (λ t. walk n gated p input u t) e refl h
 
@@ -146,11 +151,13 @@ module _ (gated : List InstrId) (p : NumberedProgram) (input : List ℤ) where
     counts : (t : ℕ) → steps_of t r.trace ≤ slice_index lefts t
     owned : Owned us r.trace
 
-  by_owner : (u : Turn) (lefts : List ℕ) (w : Walk) (ys : List Step) (t : ℕ) (b : Bool) → (t == u.thread.0) ≡ b → Counts gated p input u (slice_index lefts u.thread.0) w → steps_of t ys ≤ slice_index (slice_set lefts u.thread.0 w.left) t → steps_of t w.trace + steps_of t ys ≤ slice_index lefts t
+  by_owner : (u : Turn) (lefts : List ℕ) (w : Walk) (ys : List Step) (t : ℕ) (b : Bool) → (t == u.thread.0) ≡ b → Counts gated p input u (slice_index lefts u.thread.0) w
+      → steps_of t ys ≤ slice_index (slice_set lefts u.thread.0 w.left) t → steps_of t w.trace + steps_of t ys ≤ slice_index lefts t
   by_owner u lefts w ys t true q c h =
       let e = same_number t u.thread.0 q in
       let k : steps_of t w.trace + w.left ≡ slice_index lefts t = c.own t e ∙ ap (slice_index lefts) (sym e) in
-      let l : slice_index (slice_set lefts u.thread.0 w.left) t ≤ w.left = subst (λ (i : ℕ). slice_index (slice_set lefts u.thread.0 w.left) i ≤ w.left) (sym e) (set_own lefts u.thread.0 w.left) in
+      let l : slice_index (slice_set lefts u.thread.0 w.left) t ≤ w.left =
+      subst (λ (i : ℕ). slice_index (slice_set lefts u.thread.0 w.left) i ≤ w.left) (sym e) (set_own lefts u.thread.0 w.left) in
       omega (arith, k, l, h)
   by_owner u lefts w ys t false q c h =
       let n : (t ≡ u.thread.0 → ⊥) = λ e. absurd (let r = sym q ∙ is_same t u.thread.0 e in cc) in
@@ -158,7 +165,9 @@ module _ (gated : List InstrId) (p : NumberedProgram) (input : List ℤ) where
       let l = set_other lefts u.thread.0 t w.left n in
       omega (arith, k, l, h)
 
-  ended_keeps : (u : Turn) (us : List Turn) (k : ℕ) (lefts : List ℕ) (w : Walk) (e : Option GuidedEnd) (more : State → List ℕ → GuidedRun) → w.end ≡ e → Counts gated p input u (slice_index lefts u.thread.0) w → ((z : State) (rest : List ℕ) → Keeps us rest (more z rest)) → Keeps (u ∷ us) lefts (ended_at w (slice_set lefts u.thread.0 w.left) k e more)
+  ended_keeps : (u : Turn) (us : List Turn) (k : ℕ) (lefts : List ℕ) (w : Walk) (e : Option GuidedEnd) (more : State → List ℕ → GuidedRun) → w.end ≡ e
+      → Counts gated p input u (slice_index lefts u.thread.0) w → ((z : State) (rest : List ℕ) → Keeps us rest (more z rest))
+      → Keeps (u ∷ us) lefts (ended_at w (slice_set lefts u.thread.0 w.left) k e more)
   unfolding May
   ended_keeps u us k lefts w (Some e) more q c g = record {
     counts = λ t. let h = by_owner u lefts w [] t (t == u.thread.0) refl c (omega arith) in omega (arith, h);
@@ -167,7 +176,8 @@ module _ (gated : List InstrId) (p : NumberedProgram) (input : List ℤ) where
   ended_keeps u us k lefts w None more q c g =
       let r = g w.state (slice_set lefts u.thread.0 w.left) in
       record {
-        counts = λ t. let h = by_owner u lefts w (more w.state (slice_set lefts u.thread.0 w.left)).trace t (t == u.thread.0) refl c (r.counts t) in let a = steps_append t w.trace (more w.state (slice_set lefts u.thread.0 w.left)).trace in omega (arith, h, a);
+        counts = λ t. let h = by_owner u lefts w (more w.state (slice_set lefts u.thread.0 w.left)).trace t (t == u.thread.0) refl c (r.counts t) in let a =
+            steps_append t w.trace (more w.state (slice_set lefts u.thread.0 w.left)).trace in omega (arith, h, a);
         owned = c.owned us _ (subst (λ (o : Option GuidedEnd). May gated p input u o us (more w.state (slice_set lefts u.thread.0 w.left)).trace) (sym q) r.owned);
       }
 
@@ -176,7 +186,8 @@ module _ (gated : List InstrId) (p : NumberedProgram) (input : List ℤ) where
   guided_keeps [] k s lefts = record { counts = λ t. omega arith; owned = tt }
   guided_keeps (u ∷ us) k s lefts =
       let w = walk (slice_index lefts u.thread.0) gated p input u s in
-      ended_keeps u us k lefts w w.end (λ t rest. guided gated p input us (k + 1) t rest) refl (walk_counts gated p input u (slice_index lefts u.thread.0) s) (λ z rest. guided_keeps us (k + 1) z rest)
+      ended_keeps u us k lefts w w.end (λ t rest. guided gated p input us (k + 1) t rest) refl (walk_counts gated p input u (slice_index lefts u.thread.0) s)
+      (λ z rest. guided_keeps us (k + 1) z rest)
 
 within : (n v t : ℕ) → slice_index (replicate n v) t ≤ v
 within zero v zero = omega arith
@@ -193,7 +204,8 @@ prefix zero us = refl
 prefix (suc n) [] = refl
 prefix (suc n) (u ∷ us) = ap (λ (vs : List Turn). u ∷ vs) (prefix n us)
 
-pub guided_permitted : (p : NumberedProgram) (input : List ℤ) (us : List Turn) (gated : List InstrId) → IsPermitted p input us gated (guided_of p input us gated).trace (guided_of p input us gated).state
+pub guided_permitted : (p : NumberedProgram) (input : List ℤ) (us : List Turn) (gated : List InstrId)
+    → IsPermitted p input us gated (guided_of p input us gated).trace (guided_of p input us gated).state
 unfolding guided_of
 guided_permitted p input us gated =
     let r = guided gated p input us 0 (initial p) all_left in

@@ -1,5 +1,6 @@
 -- The trace of a guided run is a run, whose events are the turns that it did.
-use Rattle.std.proofs.Common.{◌≡◌, ℕ, ℤ, zero, suc, ◌+◌, List, [], ◌∷◌, ◌++◌, take, Bool, true, false, Option, Some, None, Result, Ok, Err, refl, sym, ap, ◌∙◌, subst, arith}
+use Rattle.std.proofs.Common.{◌≡◌, ℕ, ℤ, zero, suc, ◌+◌, List, [], ◌∷◌, ◌++◌, take, Bool, true, false, Option, Some, None, Result, Ok, Err, refl, sym, ap, ◌∙◌}
+use Rattle.std.proofs.Common.{subst, arith}
 use Rattle.std.specs.Prelude.{◌==◌, ◌&&◌, ◌↔◌, IsTrue, slice_get, slice_set, slice_index, if◌then◌else◌}
 use Rattle.std.proofs.lemmas.Bool.Decides.{nat_tests}
 use Rattle.std.proofs.lemmas.List.Elements.{filter_map-append}
@@ -22,7 +23,8 @@ use Rattle.pg_machine.proofs.Told.{event_told_is}
 
 -- ---- runs one behind the other
 
-pub run_append : (gated : List InstrId) (p : NumberedProgram) (input : List ℤ) (s z t : State) (xs ys : List Step) → IsRun gated p input s xs z → IsRun gated p input z ys t → IsRun gated p input s (xs ++ ys) t
+pub run_append : (gated : List InstrId) (p : NumberedProgram) (input : List ℤ) (s z t : State) (xs ys : List Step) → IsRun gated p input s xs z → IsRun gated p input z ys t
+    → IsRun gated p input s (xs ++ ys) t
 run_append gated p input s z t [] ys h k = subst (λ (w : State). IsRun gated p input w ys t) (sym h) k
 run_append gated p input s z t (x ∷ xs) ys h k = (h.0, run_append gated p input h.0.after z t xs ys h.1 k)
 
@@ -30,7 +32,9 @@ run_append gated p input s z t (x ∷ xs) ys h k = (h.0, run_append gated p inpu
 
 -- the kinds in the order of their numbers
 kind_list : List TurnKind
-kind_list = kinds.Start ∷ kinds.Exit ∷ kinds.Create ∷ kinds.Join ∷ kinds.MutexInit ∷ kinds.Lock ∷ kinds.Trylock ∷ kinds.Unlock ∷ kinds.MutexDestroy ∷ kinds.CondInit ∷ kinds.Wait ∷ kinds.Wake ∷ kinds.Signal ∷ kinds.Broadcast ∷ kinds.CondDestroy ∷ kinds.BarrierInit ∷ kinds.Arrive ∷ kinds.Leave ∷ kinds.BarrierDestroy ∷ kinds.Out ∷ kinds.Putchar ∷ kinds.Load ∷ kinds.Store ∷ []
+kind_list = kinds.Start ∷ kinds.Exit ∷ kinds.Create ∷ kinds.Join ∷ kinds.MutexInit ∷ kinds.Lock ∷ kinds.Trylock ∷ kinds.Unlock ∷ kinds.MutexDestroy ∷ kinds.CondInit ∷
+    kinds.Wait ∷ kinds.Wake ∷ kinds.Signal ∷ kinds.Broadcast ∷ kinds.CondDestroy ∷ kinds.BarrierInit ∷ kinds.Arrive ∷ kinds.Leave ∷ kinds.BarrierDestroy ∷ kinds.Out ∷
+    kinds.Putchar ∷ kinds.Load ∷ kinds.Store ∷ []
 
 kind_here : (k : TurnKind) → slice_get kind_list (kind_number k) ≡ Some k
 unfolding kind_list
@@ -101,7 +105,8 @@ module _ (gated : List InstrId) (p : NumberedProgram) (input : List ℤ) (u : Tu
   turn_if true = Some u
   turn_if false = None
 
-  passes : (s : State) (b held : Bool) (trap : Option TrapName) (rest : Result Bool GuidedEnd) → Path (Result Bool GuidedEnd) (if held then Err ends.Strayed else trap_or s u.thread.0 trap rest) (Ok b) → rest ≡ Ok b
+  passes : (s : State) (b held : Bool) (trap : Option TrapName) (rest : Result Bool GuidedEnd)
+      → Path (Result Bool GuidedEnd) (if held then Err ends.Strayed else trap_or s u.thread.0 trap rest) (Ok b) → rest ≡ Ok b
   passes s b true trap rest e = absurd cc
   passes s b false None rest e = e
   passes s b false (Some name) rest e = absurd cc
@@ -159,13 +164,15 @@ module _ (gated : List InstrId) (p : NumberedProgram) (input : List ℤ) (u : Tu
   IsWalk : State → Walk → Type 0
   IsWalk s w = IsRun gated p input s w.trace w.state × (events w.trace ≡ done_of w.end)
 
-  stepped_walk : (n : ℕ) (s : State) (b : Bool) (o : Stepped) (more : State → Walk) → due gated p u s ≡ Ok b → step gated p input s u.thread.0 ≡ o → ((z : State) → IsWalk z (more z)) → IsWalk s (on_step s n b o more)
+  stepped_walk : (n : ℕ) (s : State) (b : Bool) (o : Stepped) (more : State → Walk) → due gated p u s ≡ Ok b → step gated p input s u.thread.0 ≡ o
+      → ((z : State) → IsWalk z (more z)) → IsWalk s (on_step s n b o more)
   unfolding IsWalk done_of turn_if
   stepped_walk n s b (Trapped name id) more d e h = (refl, refl)
   stepped_walk n s true (Did x z) more d e h = let k = step_is s z true x d e in ((taken_by s z x k.0, refl), rw k.1 refl)
   stepped_walk n s false (Did x z) more d e h = let k = step_is s z false x d e in ((taken_by s z x k.0, (h z).0), rw k.1 (h z).1)
 
-  due_walk : (n : ℕ) (s : State) (d : Result Bool GuidedEnd) → due gated p u s ≡ d → ((z : State) → IsWalk z (walk n gated p input u z)) → IsWalk s (on_due s n d (λ b. on_step s n b (step gated p input s u.thread.0) (λ t. walk n gated p input u t)))
+  due_walk : (n : ℕ) (s : State) (d : Result Bool GuidedEnd) → due gated p u s ≡ d → ((z : State) → IsWalk z (walk n gated p input u z))
+      → IsWalk s (on_due s n d (λ b. on_step s n b (step gated p input s u.thread.0) (λ t. walk n gated p input u t)))
   unfolding IsWalk done_of
   due_walk n s (Err end) e h = (refl, refl)
   due_walk n s (Ok b) e h = stepped_walk n s b (step gated p input s u.thread.0) (λ t. walk n gated p input u t) e refl h
@@ -185,7 +192,8 @@ module _ (gated : List InstrId) (p : NumberedProgram) (input : List ℤ) where
     steps : IsRun gated p input s r.trace r.state
     in_order : events r.trace ≡ take count us
 
-  ended_run : (u : Turn) (us : List Turn) (k : ℕ) (s : State) (w : Walk) (left : List ℕ) (e : Option GuidedEnd) (more : State → List ℕ → GuidedRun) → w.end ≡ e → IsWalk gated p input u s w → ((z : State) (rest : List ℕ) → IsGuided us (k + 1) z (more z rest)) → IsGuided (u ∷ us) k s (ended_at w left k e more)
+  ended_run : (u : Turn) (us : List Turn) (k : ℕ) (s : State) (w : Walk) (left : List ℕ) (e : Option GuidedEnd) (more : State → List ℕ → GuidedRun) → w.end ≡ e
+      → IsWalk gated p input u s w → ((z : State) (rest : List ℕ) → IsGuided us (k + 1) z (more z rest)) → IsGuided (u ∷ us) k s (ended_at w left k e more)
   unfolding IsWalk done_of
   ended_run u us k s w left (Some e) more q h g = record { count = 0; turns = omega arith; steps = h.0; in_order = h.1 ∙ ap (done_of gated p input u) q }
   ended_run u us k s w left None more q h g =
@@ -194,7 +202,8 @@ module _ (gated : List InstrId) (p : NumberedProgram) (input : List ℤ) where
         count = suc r.count;
         turns = let e = r.turns in omega arith;
         steps = run_append gated p input s w.state _ w.trace _ h.0 r.steps;
-        in_order = filter_map-append event_of w.trace _ ∙ ap (λ (xs : List Turn). xs ++ events (more w.state left).trace) (h.1 ∙ ap (done_of gated p input u) q) ∙ ap (λ (xs : List Turn). u ∷ xs) r.in_order;
+        in_order = filter_map-append event_of w.trace _ ∙ ap (λ (xs : List Turn). xs ++ events (more w.state left).trace) (h.1 ∙ ap (done_of gated p input u) q)
+            ∙ ap (λ (xs : List Turn). u ∷ xs) r.in_order;
       }
 
   guided_run : (us : List Turn) (k : ℕ) (s : State) (left : List ℕ) → IsGuided us k s (guided gated p input us k s left)
@@ -202,9 +211,12 @@ module _ (gated : List InstrId) (p : NumberedProgram) (input : List ℤ) where
   guided_run [] k s left = record { count = 0; turns = omega arith; steps = refl; in_order = refl }
   guided_run (u ∷ us) k s left =
       let w = walk (slice_index left u.thread.0) gated p input u s in
-      ended_run u us k s w (slice_set left u.thread.0 w.left) w.end (λ t rest. guided gated p input us (k + 1) t rest) refl (walk_run gated p input u (slice_index left u.thread.0) s) (λ z rest. guided_run us (k + 1) z rest)
+      ended_run u us k s w (slice_set left u.thread.0 w.left) w.end (λ t rest. guided gated p input us (k + 1) t rest) refl (walk_run gated p input u (slice_index left u.thread.0) s)
+      (λ z rest. guided_run us (k + 1) z rest)
 
-pub guided_is : (p : NumberedProgram) (input : List ℤ) (us : List Turn) (gated : List InstrId) → IsRun gated p input (initial p) (guided_of p input us gated).trace (guided_of p input us gated).state × (events (guided_of p input us gated).trace ≡ take (guided_of p input us gated).turns us)
+pub guided_is : (p : NumberedProgram) (input : List ℤ) (us : List Turn) (gated : List InstrId)
+    → IsRun gated p input (initial p) (guided_of p input us gated).trace (guided_of p input us gated).state
+    × (events (guided_of p input us gated).trace ≡ take (guided_of p input us gated).turns us)
 unfolding guided_of
 guided_is p input us gated =
     let r = guided_run gated p input us 0 (initial p) all_left in

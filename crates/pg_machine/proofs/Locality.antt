@@ -28,7 +28,8 @@ use Rattle.pg_trace.specs.Steps.{access_by, access_in, access_of, event_of}
 use Rattle.pg_trace.specs.declared.step.Step.{Step}
 use Rattle.pg_machine.specs.Locality.{IfDid, Agree, AgreeAsked, AreAlike, AsTold, LeavesRest, is_request}
 use Rattle.pg_machine.specs.State.{State, action_in, id_in, instr_of, next_of}
-use Rattle.pg_machine.specs.MachineStep.{Answered, answered, happening_of, instr_told, is_gated, kind_told, known_told, local_after, number_in, on_applied, op_told, operands_in, requested, settled, step, step_told, taken, turn_of, turn_with, write_told}
+use Rattle.pg_machine.specs.MachineStep.{Answered, answered, happening_of, instr_told, is_gated, kind_told, known_told, local_after, number_in, on_applied, op_told, operands_in, requested}
+use Rattle.pg_machine.specs.MachineStep.{settled, step, step_told, taken, turn_of, turn_with, write_told}
 use Rattle.pg_machine.specs.Named.{IsNamed, IsRequestNamed}
 use Rattle.pg_machine.proofs.Asks.{same_local}
 use Rattle.pg_machine.proofs.Named.{next_named, place_is}
@@ -41,7 +42,8 @@ other_after : (p : NumberedProgram) (ls : List LocalState) (t u a : ℕ) (o : Op
 other_after p ls t u a None h = refl
 other_after p ls t u a (Some l) h = set_other ls t u (after p l a) h
 
-pub others_keep : (gated : List InstrId) (p : NumberedProgram) (input : List ℤ) (s : State) (t u : ℕ) → (u ≡ t → ⊥) → u < length s.locals → IfDid (step gated p input s t) (λ x z. slice_get z.locals u ≡ slice_get s.locals u)
+pub others_keep : (gated : List InstrId) (p : NumberedProgram) (input : List ℤ) (s : State) (t u : ℕ) → (u ≡ t → ⊥) → u < length s.locals
+    → IfDid (step gated p input s t) (λ x z. slice_get z.locals u ≡ slice_get s.locals u)
 unfolding step
 others_keep gated p input s t u n l = go (answered p input s t (next_of p s t)) (same_local p input s t u (next_of p s t) l)
   where
@@ -75,12 +77,16 @@ request_memory p s t r ns h = refl
 no_ok : (s z : State) (name : TrapName) (a : ℕ) (P : Type 0) → Path Answered (z, Ok a) (s, Err name) → P
 no_ok s z name a P e = let k : Path (Result ℕ TrapName) (Ok a) (Err name) = ap (λ (q : Answered). q.1) e in absurd cc
 
-event_memory : (p : NumberedProgram) (s z : State) (t a : ℕ) (r : Request) (ns : List ℕ) (y : sync.Sync) (q : Result Reply TrapName) → IsRequestNamed ns r → Path Answered (z, Ok a) (on_applied p s t r (y, q)) → AsTold (access_by (write_told s ns r)) s.memory z.memory
+event_memory : (p : NumberedProgram) (s z : State) (t a : ℕ) (r : Request) (ns : List ℕ) (y : sync.Sync) (q : Result Reply TrapName) → IsRequestNamed ns r
+    → Path Answered (z, Ok a) (on_applied p s t r (y, q)) → AsTold (access_by (write_told s ns r)) s.memory z.memory
 event_memory p s z t a r ns y (Err name) h e = no_ok (record s { sync = y }) z name a (AsTold (access_by (write_told s ns r)) s.memory z.memory) e
-event_memory p s z t a r ns y (Ok reply) h e = subst (λ (m : memory.Words). AsTold (access_by (write_told s ns r)) s.memory m) (sym (ap (λ (q : Answered). q.0.memory) e)) (told_request p s t r ns y h)
+event_memory p s z t a r ns y (Ok reply) h e = subst (λ (m : memory.Words). AsTold (access_by (write_told s ns r)) s.memory m) (sym (ap (λ (q : Answered). q.0.memory) e))
+    (told_request p s t r ns y h)
   where
-    told_request : (p : NumberedProgram) (s : State) (t : ℕ) (r : Request) (ns : List ℕ) (y : sync.Sync) → IsRequestNamed ns r → AsTold (access_by (write_told s ns r)) s.memory (requested p (record s { sync = y }) t r).memory
-    told_request p s t r ns y h = subst (λ (o : Option Write). AsTold (access_by o) s.memory (requested p (record s { sync = y }) t r).memory) (same_write s ns y r) (request_memory p (record s { sync = y }) t r ns h)
+    told_request : (p : NumberedProgram) (s : State) (t : ℕ) (r : Request) (ns : List ℕ) (y : sync.Sync) → IsRequestNamed ns r
+        → AsTold (access_by (write_told s ns r)) s.memory (requested p (record s { sync = y }) t r).memory
+    told_request p s t r ns y h = subst (λ (o : Option Write). AsTold (access_by o) s.memory (requested p (record s { sync = y }) t r).memory) (same_write s ns y r)
+        (request_memory p (record s { sync = y }) t r ns h)
 
 instr_silent : (ns : List ℕ) (number : ℕ) (o : Option Instr) → access_in (instr_told ns number o) ≡ None
 instr_silent ns number None = refl
@@ -97,7 +103,8 @@ instr_silent ns number (Some x) = go x.op
     go (op.CallKnown k args) = known k
     go o = refl
 
-memory_after : (gated : List InstrId) (p : NumberedProgram) (input : List ℤ) (s z : State) (t a n : ℕ) (act : Action) (ns : List ℕ) → IsNamed ns act → Path Answered (z, Ok a) (answered p input s t act) → AsTold (access_in (kind_told gated p s t ns a n act)) s.memory z.memory
+memory_after : (gated : List InstrId) (p : NumberedProgram) (input : List ℤ) (s z : State) (t a n : ℕ) (act : Action) (ns : List ℕ) → IsNamed ns act
+    → Path Answered (z, Ok a) (answered p input s t act) → AsTold (access_in (kind_told gated p s t ns a n act)) s.memory z.memory
 unfolding answered
 memory_after gated p input s z t a n actions.Local ns h e = rw (instr_silent ns n (slice_get p.instrs (instr_of s t))) (ap (λ (q : Answered). q.0.memory) e)
 memory_after gated p input s z t a n (actions.In i) ns h e = ap (λ (q : Answered). q.0.memory) e
@@ -106,7 +113,8 @@ memory_after gated p input s z t a n (actions.Load r) ns h e = (
   ap (λ (q : Answered). q.0.memory) e,
   same_answer a (memory.read s.memory r) (ap (λ (q : Answered). q.1) e) ∙ ap (memory.read s.memory) (sym (place_is (slice_index ns 0) r.bytes r h)),
 )
-memory_after gated p input s z t a n (actions.Store r k) ns h e = ap (λ (q : Answered). q.0.memory) e ∙ ap (λ (q : ByteRange). memory.written s.memory q k) (sym (place_is (slice_index ns 1) r.bytes r h))
+memory_after gated p input s z t a n (actions.Store r k) ns h e = ap (λ (q : Answered). q.0.memory) e
+    ∙ ap (λ (q : ByteRange). memory.written s.memory q k) (sym (place_is (slice_index ns 1) r.bytes r h))
 memory_after gated p input s z t a n (actions.Event r) ns h e = event_memory p s z t a r ns (sync.applied s.sync t r).0 (sync.applied s.sync t r).1 h e
 memory_after gated p input s z t a n (actions.Trap name) ns h e = no_ok s z name a (z.memory ≡ s.memory) e
 memory_after gated p input s z t a n actions.Ended ns h e = ap (λ (q : Answered). q.0.memory) e
@@ -153,7 +161,8 @@ rest_after p input s z t a (actions.Event r) n e = absurd cc
 rest_after p input s z t a (actions.Trap name) n e = no_ok s z name a (LeavesRest s z) e
 rest_after p input s z t a actions.Ended n e = same_rest s z a 0 e
 
-pub rest_keeps : (gated : List InstrId) (p : NumberedProgram) (input : List ℤ) (s : State) (t : ℕ) → is_request (next_of p s t) ≡ false → IfDid (step gated p input s t) (λ x z. LeavesRest s z)
+pub rest_keeps : (gated : List InstrId) (p : NumberedProgram) (input : List ℤ) (s : State) (t : ℕ) → is_request (next_of p s t) ≡ false
+    → IfDid (step gated p input s t) (λ x z. LeavesRest s z)
 unfolding step
 rest_keeps gated p input s t n = go (answered p input s t (next_of p s t)) refl
   where
@@ -169,7 +178,8 @@ abbrev answered_by : ℕ → Result ℕ TrapName
 answered_by n = Ok n
 
 -- the answer and the trap of a request come from the objects and what it reads beside them
-asked_alike : (p : NumberedProgram) (s z : State) (t : ℕ) (r : Request) (y : sync.Sync) (q : Result Reply TrapName) → AgreeAsked r t s z → (on_applied p s t r (y, q)).1 ≡ (on_applied p z t r (y, q)).1
+asked_alike : (p : NumberedProgram) (s z : State) (t : ℕ) (r : Request) (y : sync.Sync) (q : Result Reply TrapName) → AgreeAsked r t s z
+    → (on_applied p s t r (y, q)).1 ≡ (on_applied p z t r (y, q)).1
 asked_alike p s z t r y (Err name) h = refl
 asked_alike p s z t requests.Start y (Ok reply) h = ap answered_by h
 asked_alike p s z t (requests.Exit n is_return) y (Ok reply) h = refl
@@ -197,7 +207,8 @@ write_alike s z ns t r h = refl
 abbrev access_at : List InstrId → ℕ → ByteRange → Bool → ℕ → ℕ → StepKind
 access_at gated pointer r writes number id = told.Access (record { pointer = pointer; number = number; bytes = r.bytes; writes = writes; event = is_gated gated id })
 
-kind_alike : (gated : List InstrId) (p : NumberedProgram) (s z : State) (t : ℕ) (ns : List ℕ) (answer number : ℕ) (act : Action) → instr_of s t ≡ instr_of z t → Agree act t s z → kind_told gated p s t ns answer number act ≡ kind_told gated p z t ns answer number act
+kind_alike : (gated : List InstrId) (p : NumberedProgram) (s z : State) (t : ℕ) (ns : List ℕ) (answer number : ℕ) (act : Action) → instr_of s t ≡ instr_of z t → Agree act t s z
+    → kind_told gated p s t ns answer number act ≡ kind_told gated p z t ns answer number act
 kind_alike gated p s z t ns answer number actions.Local i h = ap (λ (n : ℕ). instr_told ns number (slice_get p.instrs n)) i
 kind_alike gated p s z t ns answer number (actions.Load r) i h = ap (λ (n : ℕ). access_at gated (slice_index ns 0) r false answer n) i
 kind_alike gated p s z t ns answer number (actions.Store r k) i h = ap (λ (n : ℕ). access_at gated (slice_index ns 1) r true k n) i
@@ -212,7 +223,8 @@ told_by t o kind = record { thread = record { 0 = t }; instr = record { 0 = id_i
 abbrev kind_by : List InstrId → NumberedProgram → State → ℕ → ℕ → Option LocalState → StepKind
 kind_by gated p s t answer o = kind_told gated p s t (operands_in p o) answer (number_in p o answer) (action_in p o)
 
-told_alike : (gated : List InstrId) (p : NumberedProgram) (s z : State) (t n : ℕ) → slice_get s.locals t ≡ slice_get z.locals t → Agree (next_of p s t) t s z → step_told gated p s t n ≡ step_told gated p z t n
+told_alike : (gated : List InstrId) (p : NumberedProgram) (s z : State) (t n : ℕ) → slice_get s.locals t ≡ slice_get z.locals t → Agree (next_of p s t) t s z
+    → step_told gated p s t n ≡ step_told gated p z t n
 unfolding next_of instr_of
 told_alike gated p s z t n e h =
     let o = slice_get s.locals t in
@@ -242,7 +254,9 @@ same_name n m e = ap (λ (r : Result ℕ TrapName). name_in n r) e
     name_in k (Ok a) = k
     name_in k (Err name) = name
 
-settled_alike : (gated : List InstrId) (p : NumberedProgram) (s z : State) (t : ℕ) (o q : Answered) → slice_get s.locals t ≡ slice_get z.locals t → Agree (next_of p s t) t s z → slice_get o.0.locals t ≡ slice_get s.locals t → slice_get q.0.locals t ≡ slice_get z.locals t → o.1 ≡ q.1 → AreAlike t (settled gated p s t (taken p s t o)) (settled gated p z t (taken p z t q))
+settled_alike : (gated : List InstrId) (p : NumberedProgram) (s z : State) (t : ℕ) (o q : Answered) → slice_get s.locals t ≡ slice_get z.locals t → Agree (next_of p s t) t s z
+    → slice_get o.0.locals t ≡ slice_get s.locals t → slice_get q.0.locals t ≡ slice_get z.locals t → o.1 ≡ q.1
+    → AreAlike t (settled gated p s t (taken p s t o)) (settled gated p z t (taken p z t q))
 settled_alike gated p s z t (y, Err n) (w, Err m) e h ks kz x = (same_name n m x, instr_alike s z t e)
 settled_alike gated p s z t (y, Err n) (w, Ok b) e h ks kz x = absurd cc
 settled_alike gated p s z t (y, Ok a) (w, Err m) e h ks kz x = absurd cc
@@ -255,7 +269,8 @@ settled_alike gated p s z t (y, Ok a) (w, Ok b) e h ks kz x =
           ∙ sym (own_after p w.locals t b (slice_get z.locals t) kz),
     )
 
-pub steps_alike : (gated : List InstrId) (p : NumberedProgram) (input : List ℤ) (s z : State) (t : ℕ) → t < length s.locals → t < length z.locals → slice_get s.locals t ≡ slice_get z.locals t → Agree (next_of p s t) t s z → AreAlike t (step gated p input s t) (step gated p input z t)
+pub steps_alike : (gated : List InstrId) (p : NumberedProgram) (input : List ℤ) (s z : State) (t : ℕ) → t < length s.locals → t < length z.locals
+    → slice_get s.locals t ≡ slice_get z.locals t → Agree (next_of p s t) t s z → AreAlike t (step gated p input s t) (step gated p input z t)
 unfolding step
 steps_alike gated p input s z t ls lz e h =
     let n : next_of p s t ≡ next_of p z t = next_alike p s z t e in

@@ -1,5 +1,6 @@
 -- Marks of the gated instructions, as far as these are gone through.
-use Rattle.std.proofs.Common.{◌≡◌, ℕ, zero, suc, ◌+◌, ◌<◌, ◌≤◌, List, [], ◌∷◌, length, get_or, take, replicate, Bool, true, false, Some, arith, add-one, take-suc, take_all, refl, sym, ◌∙◌, ap, subst}
+use Rattle.std.proofs.Common.{◌≡◌, ℕ, zero, suc, ◌+◌, ◌<◌, ◌≤◌, List, [], ◌∷◌, length, get_or, take, replicate, Bool, true, false, Some, arith, add-one, take-suc}
+use Rattle.std.proofs.Common.{take_all, refl, sym, ◌∙◌, ap, subst}
 use Rattle.std.specs.Prelude.{slice_get, slice_set, ◌||◌, ◌==◌}
 use Rattle.std.proofs.lemmas.Bool.Decides.{nat_tests}
 use Rattle.std.proofs.lemmas.List.Folds.{list_any-append}
@@ -42,7 +43,8 @@ gated_more ids k i d g h e =
     ∙ list_any-append (λ (x : InstrId). x.0 == i) (take k ids) (get_or ids k d ∷ [])
     ∙ ap (λ (b : Bool). is_gated (take k ids) i || b) (or_false (((get_or ids k d).0) == i) ∙ ap (λ (x : InstrId). x.0 == i) (sym e))
 
-pub marks_more : (ids : List InstrId) (k : ℕ) (d g : InstrId) (marks : List Bool) → AreMarked ids k marks → k < length ids → g ≡ get_or ids k d → AreMarked ids (k + 1) (slice_set marks g.0 true)
+pub marks_more : (ids : List InstrId) (k : ℕ) (d g : InstrId) (marks : List Bool) → AreMarked ids k marks → k < length ids → g ≡ get_or ids k d
+    → AreMarked ids (k + 1) (slice_set marks g.0 true)
 marks_more ids k d g marks m h e i b = go (g.0 == i) refl
   where
     within : i < length marks

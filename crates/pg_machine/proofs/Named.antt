@@ -32,16 +32,20 @@ use Rattle.pg_machine.proofs.Actions.{OfTraps, on_value_is, on_all_is, on_null_i
 
 -- ---- where a place is found
 
-found_by : (Q : Action → Type 0) (word bytes : ℕ) (act : ByteRange → Action) (o : Result ByteRange PlaceFault) → place_of word bytes ≡ o → OfTraps Q → ((r : ByteRange) → place_of word bytes ≡ Ok r → Q (act r)) → Q (placed o act)
+found_by : (Q : Action → Type 0) (word bytes : ℕ) (act : ByteRange → Action) (o : Result ByteRange PlaceFault) → place_of word bytes ≡ o → OfTraps Q
+    → ((r : ByteRange) → place_of word bytes ≡ Ok r → Q (act r)) → Q (placed o act)
 found_by Q word bytes act (Ok r) e t h = h r e
 found_by Q word bytes act (Err fault.OutOfRange) e t h = t traps.OutOfRange
 found_by Q word bytes act (Err fault.Misaligned) e t h = t traps.Misaligned
 
-on_place_found : (Q : Action → Type 0) (word bytes : ℕ) (act : ByteRange → Action) → OfTraps Q → ((r : ByteRange) → place_of word bytes ≡ Ok r → Q (act r)) → Q (on_place word bytes act)
+on_place_found : (Q : Action → Type 0) (word bytes : ℕ) (act : ByteRange → Action) → OfTraps Q → ((r : ByteRange) → place_of word bytes ≡ Ok r → Q (act r))
+    → Q (on_place word bytes act)
 on_place_found Q word bytes act t h = found_by Q word bytes act (place_of word bytes) refl t h
 
 -- a place that is found has the bytes that it was asked for
-sized_by : (word bytes : ℕ) (r : ByteRange) (a b : Bool) → (if not a then Err fault.OutOfRange else if not b then Err fault.Misaligned else Ok (record { start = byte_place word; bytes = bytes })) ≡ Ok r → record { start = byte_place word; bytes = bytes } ≡ r
+sized_by : (word bytes : ℕ) (r : ByteRange) (a b : Bool)
+    → (if not a then Err fault.OutOfRange else if not b then Err fault.Misaligned else Ok (record { start = byte_place word; bytes = bytes })) ≡ Ok r
+    → record { start = byte_place word; bytes = bytes } ≡ r
 sized_by word bytes r true true e = cc
 sized_by word bytes r true false e = absurd cc
 sized_by word bytes r false b e = absurd cc
@@ -57,7 +61,8 @@ sized word bytes r e = subst (λ (n : ℕ). place_of word n ≡ Ok r) (ap (λ (q
 word_is : (o : Option ℕ) (word bytes : ℕ) (r : ByteRange) → o ≡ Some word → place_of word bytes ≡ Ok r → place_of (given o) bytes ≡ Ok r
 word_is o word bytes r e h = subst (λ (q : Option ℕ). place_of (given q) bytes ≡ Ok r) (sym e) h
 
-load_named : (p : NumberedProgram) (rs : List (Option ℕ)) (bytes a : ℕ) (from : Value) (r : ByteRange) → operand p rs from ≡ Some a → place_of a bytes ≡ Ok r → place_of (given (operand p rs from)) r.bytes ≡ Ok r
+load_named : (p : NumberedProgram) (rs : List (Option ℕ)) (bytes a : ℕ) (from : Value) (r : ByteRange) → operand p rs from ≡ Some a → place_of a bytes ≡ Ok r
+    → place_of (given (operand p rs from)) r.bytes ≡ Ok r
 load_named p rs bytes a from r e h = word_is (operand p rs from) a r.bytes r e (sized a bytes r h)
 
 -- ---- calls of known functions
@@ -106,7 +111,8 @@ returning_named : (p : NumberedProgram) (rs : List (Option ℕ)) (ns : List ℕ)
 returning_named p rs ns depth None = either (IsNamed ns) (depth == 1) _ _ tt tt
 returning_named p rs ns depth (Some v) = on_value_is (IsNamed ns) (operand p rs v) _ (λ k. tt) (λ n e. either (IsNamed ns) (depth == 1) _ _ tt tt)
 
-op_named : (p : NumberedProgram) (rs : List (Option ℕ)) (r : Region) (halfway : Bool) (depth used block : ℕ) (o : Op) → IsNamed (first_four p rs (operands_of o)) (op_action p r halfway rs depth used block o)
+op_named : (p : NumberedProgram) (rs : List (Option ℕ)) (r : Region) (halfway : Bool) (depth used block : ℕ) (o : Op)
+    → IsNamed (first_four p rs (operands_of o)) (op_action p r halfway rs depth used block o)
 op_named p rs r halfway depth used block (op.Divide d w a b) =
     let Q = IsNamed (first_four p rs (operands_of (op.Divide d w a b))) in
     on_value_is Q (operand p rs a) _ (λ k. tt) (λ m e. on_value_is Q (operand p rs b) _ (λ k. tt) (λ n f. divided_is Q (divided d w m n) (λ k. tt) tt))
@@ -137,7 +143,8 @@ op_named p rs r halfway depth used block o = on_all_is (IsNamed (first_four p rs
 
 -- ---- the next action
 
-instr_named : (p : NumberedProgram) (l : LocalState) (f : Frame) (fs : List Frame) (begun : Bool) (o : Option Instr) → begun ≡ true → slice_get p.instrs f.place ≡ o → IsNamed (frames_operands p begun (f ∷ fs)) (instr_action p l f fs o)
+instr_named : (p : NumberedProgram) (l : LocalState) (f : Frame) (fs : List Frame) (begun : Bool) (o : Option Instr) → begun ≡ true → slice_get p.instrs f.place ≡ o
+    → IsNamed (frames_operands p begun (f ∷ fs)) (instr_action p l f fs o)
 instr_named p l f fs true None b e = tt
 instr_named p l f fs true (Some x) b e = rw e (op_named p f.registers (region_of l) l.halfway (length (f ∷ fs)) (total (f ∷ fs)) x.block.0 x.op)
 instr_named p l f fs false o b e = absurd cc

@@ -11,7 +11,8 @@ use Rattle.pg_machine.specs.Went.{WentRecorded, kind_of}
 use Rattle.pg_machine.proofs.Rotations.{chosen_stays, step_goes, turn_steps}
 
 module _ (p : NumberedProgram) (s z : State) where
-  pub own_turn : (input : List ℤ) (q n : ℕ) (u : Share) (r r' : Recording) → WentRecorded p s z u.thread.0 true r r' None → 0 < u.left → onto r.steps (run (suc n) p input q s u) ≡ onto r'.steps (run n p input q z (record { thread = u.thread; left = u.left - 1 }))
+  pub own_turn : (input : List ℤ) (q n : ℕ) (u : Share) (r r' : Recording) → WentRecorded p s z u.thread.0 true r r' None → 0 < u.left
+      → onto r.steps (run (suc n) p input q s u) ≡ onto r'.steps (run n p input q z (record { thread = u.thread; left = u.left - 1 }))
   own_turn input q n u r r' w l =
       let x : Step = record { thread = record { 0 = u.thread.0 }; instr = record { 0 = instr_of s u.thread.0 }; kind = kind_of w.0 } in
       turn_steps p input q n s u u r.steps _ (chosen_stays p q s u w.1.ready_is l)
@@ -23,4 +24,5 @@ module _ (p : NumberedProgram) (s z : State) where
   own_room t r r' w = ap (λ (x : Recording). x.room) w.2
 
   pub own_more : (t : ℕ) (r r' : Recording) → WentRecorded p s z t true r r' None → length r'.steps ≤ length r.steps + 1
-  own_more t r r' w = let k = ap (λ (x : Recording). length x.steps) w.2 in let m = length-append r.steps (record { thread = record { 0 = t }; instr = record { 0 = instr_of s t }; kind = kind_of w.0 } ∷ []) in omega (arith, k, m)
+  own_more t r r' w = let k = ap (λ (x : Recording). length x.steps) w.2 in let m =
+      length-append r.steps (record { thread = record { 0 = t }; instr = record { 0 = instr_of s t }; kind = kind_of w.0 } ∷ []) in omega (arith, k, m)

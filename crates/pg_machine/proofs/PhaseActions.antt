@@ -19,10 +19,12 @@ use Rattle.pg_step.specs.LocalState.{Frame, LocalState, region_of}
 use Rattle.pg_step.specs.Operands.{operand, operands_of}
 use Rattle.pg_step.specs.Compute.{chosen}
 use Rattle.pg_step.specs.EdgeStep.{case_of}
-use Rattle.pg_step.specs.Step.{next, after, frames_action, instr_action, op_action, known_action, return_action, returning_action, bytes_of, total, has_room, halfway_after, op_after, instr_after, frames_after, begun_frame, returned}
+use Rattle.pg_step.specs.Step.{next, after, frames_action, instr_action, op_action, known_action, return_action, returning_action, bytes_of, total, has_room, halfway_after, op_after}
+use Rattle.pg_step.specs.Step.{instr_after, frames_after, begun_frame, returned}
 use Rattle.pg_step.specs.States.{CanStep}
 use Rattle.pg_machine.specs.Phases.{Phase, Going, InCondition, InBarrier, Over, known_phase, op_phase, instr_phase, frames_phase, phase_of, phase_before, phase_after}
-use Rattle.pg_machine.proofs.Actions.{OfTraps, on_value_is, on_all_is, on_place_is, number_is, object_is, init_is, barrier_init_is, wait_is, create_is, join_is, either, edge_is, call_is, divided_is, room_is}
+use Rattle.pg_machine.proofs.Actions.{OfTraps, on_value_is, on_all_is, on_place_is, number_is, object_is, init_is, barrier_init_is, wait_is, create_is, join_is, either, edge_is, call_is}
+use Rattle.pg_machine.proofs.Actions.{divided_is, room_is}
 
 -- ---- before
 
@@ -68,16 +70,20 @@ returning_before p rs depth (Some v) = on_value_is (Before Going) (operand p rs 
 
 op_before : (p : NumberedProgram) (r : Region) (halfway : Bool) (rs : List (Option ℕ)) (depth used block : ℕ) (o : Op) → Before (op_phase halfway o) (op_action p r halfway rs depth used block o)
 op_before p r halfway rs depth used block (op.Divide d w a b) =
-    on_value_is (Before Going) (operand p rs a) _ (traps_before Going) (λ m e. on_value_is (Before Going) (operand p rs b) _ (traps_before Going) (λ n f. divided_is (Before Going) (divided d w m n) (traps_before Going) (λ c. refl)))
+    on_value_is (Before Going) (operand p rs a) _ (traps_before Going)
+    (λ m e. on_value_is (Before Going) (operand p rs b) _ (traps_before Going) (λ n f. divided_is (Before Going) (divided d w m n) (traps_before Going) (λ c. refl)))
 op_before p r halfway rs depth used block (op.Phi from) = λ c. absurd c
 op_before p r halfway rs depth used block (op.Br to) = edge_is (Before Going) p rs block to.0 (traps_before Going) (λ c. refl)
-op_before p r halfway rs depth used block (op.CondBr c a b) = on_value_is (Before Going) (operand p rs c) _ (traps_before Going) (λ n e. edge_is (Before Going) p rs block (chosen n a.0 b.0) (traps_before Going) (λ k. refl))
-op_before p r halfway rs depth used block (op.Switch w on other cases) = on_value_is (Before Going) (operand p rs on) _ (traps_before Going) (λ n e. edge_is (Before Going) p rs block (case_of cases other.0 n) (traps_before Going) (λ c. refl))
+op_before p r halfway rs depth used block (op.CondBr c a b) = on_value_is (Before Going) (operand p rs c) _ (traps_before Going)
+    (λ n e. edge_is (Before Going) p rs block (chosen n a.0 b.0) (traps_before Going) (λ k. refl))
+op_before p r halfway rs depth used block (op.Switch w on other cases) =
+    on_value_is (Before Going) (operand p rs on) _ (traps_before Going) (λ n e. edge_is (Before Going) p rs block (case_of cases other.0 n) (traps_before Going) (λ c. refl))
 op_before p r halfway rs depth used block (op.Call g args) = on_all_is (Before Going) p rs args _ (traps_before Going) (call_is (Before Going) p g depth used (traps_before Going) (λ c. refl))
 op_before p r halfway rs depth used block (op.Ret v) = returning_before p rs depth v
 op_before p r halfway rs depth used block op.Unreachable = λ c. absurd c
 op_before p r halfway rs depth used block (op.Alloca bytes) = room_is (Before Going) (has_room r (granules_for bytes)) (traps_before Going) (λ c. refl)
-op_before p r halfway rs depth used block (op.Load w from) = on_value_is (Before Going) (operand p rs from) _ (traps_before Going) (λ a e. on_place_is (Before Going) a (bytes_of w) _ (traps_before Going) (λ q k c. refl))
+op_before p r halfway rs depth used block (op.Load w from) = on_value_is (Before Going) (operand p rs from) _ (traps_before Going)
+    (λ a e. on_place_is (Before Going) a (bytes_of w) _ (traps_before Going) (λ q k c. refl))
 op_before p r halfway rs depth used block (op.Store w v at) =
     on_value_is (Before Going) (operand p rs v) _ (traps_before Going) (λ n e.
     on_value_is (Before Going) (operand p rs at) _ (traps_before Going) (λ a f.
@@ -130,7 +136,8 @@ abbrev phase_then : NumberedProgram → LocalState → Instr → ℕ → Op → 
 phase_then p l x answer o = frames_phase p true (halfway_after l.halfway o) (op_after p l x answer o)
 
 -- the phase after a call of a known function
-known_then : (p : NumberedProgram) (t : ℕ) (hw : Bool) (f : Frame) (fs : List Frame) (heap : ℕ) (x : Instr) (answer : ℕ) (k : Known) (args : List Value) → slice_get p.instrs f.place ≡ Some x → x.op ≡ op.CallKnown k args → After (phase_then p (running t hw f fs heap) x answer (op.CallKnown k args)) (known_action p t hw f.registers k args)
+known_then : (p : NumberedProgram) (t : ℕ) (hw : Bool) (f : Frame) (fs : List Frame) (heap : ℕ) (x : Instr) (answer : ℕ) (k : Known) (args : List Value)
+    → slice_get p.instrs f.place ≡ Some x → x.op ≡ op.CallKnown k args → After (phase_then p (running t hw f fs heap) x answer (op.CallKnown k args)) (known_action p t hw f.registers k args)
 known_then p t hw f fs heap x answer known.PgIn args e g = number_is (After _) p f.registers args _ (traps_after _) (λ n c. instr_goes _)
 known_then p t hw f fs heap x answer known.PgOut args e g = number_is (After _) p f.registers args _ (traps_after _) (λ n c. instr_goes _)
 known_then p t hw f fs heap x answer known.Putchar args e g = number_is (After _) p f.registers args _ (traps_after _) (λ n c. instr_goes _)
@@ -169,22 +176,30 @@ return_then : (p : NumberedProgram) (fs : List Frame) (f : Frame) (n m : ℕ) �
 return_then p [] f n m c = refl
 return_then p (g ∷ gs) f n m c = goes_on _ m (length (f ∷ g ∷ gs) == 1) (deeper (length gs) _ refl) (instr_goes _)
 
-returning_then : (p : NumberedProgram) (f : Frame) (fs : List Frame) (n : ℕ) (v : Option Value) → After (frames_phase p true false (returned p fs n)) (returning_action p f.registers (length (f ∷ fs)) v)
+returning_then : (p : NumberedProgram) (f : Frame) (fs : List Frame) (n : ℕ) (v : Option Value)
+    → After (frames_phase p true false (returned p fs n)) (returning_action p f.registers (length (f ∷ fs)) v)
 returning_then p f fs n None = return_then p fs f n 0
 returning_then p f fs n (Some v) = on_value_is (After _) (operand p f.registers v) _ (traps_after _) (λ m e. return_then p fs f n m)
 
-op_then : (p : NumberedProgram) (t : ℕ) (hw : Bool) (f : Frame) (fs : List Frame) (heap : ℕ) (x : Instr) (answer : ℕ) (depth used block : ℕ) (o : Op) → slice_get p.instrs f.place ≡ Some x → x.op ≡ o → depth ≡ length (f ∷ fs) → After (phase_then p (running t hw f fs heap) x answer o) (op_action p (region_of (running t hw f fs heap)) hw f.registers depth used block o)
+op_then : (p : NumberedProgram) (t : ℕ) (hw : Bool) (f : Frame) (fs : List Frame) (heap : ℕ) (x : Instr) (answer : ℕ) (depth used block : ℕ) (o : Op)
+    → slice_get p.instrs f.place ≡ Some x → x.op ≡ o → depth ≡ length (f ∷ fs)
+    → After (phase_then p (running t hw f fs heap) x answer o) (op_action p (region_of (running t hw f fs heap)) hw f.registers depth used block o)
 op_then p t hw f fs heap x answer depth used block (op.Divide d w a b) e g k =
-    on_value_is (After _) (operand p f.registers a) _ (traps_after _) (λ m q. on_value_is (After _) (operand p f.registers b) _ (traps_after _) (λ n r. divided_is (After _) (divided d w m n) (traps_after _) (λ c. instr_goes _)))
+    on_value_is (After _) (operand p f.registers a) _ (traps_after _)
+    (λ m q. on_value_is (After _) (operand p f.registers b) _ (traps_after _) (λ n r. divided_is (After _) (divided d w m n) (traps_after _) (λ c. instr_goes _)))
 op_then p t hw f fs heap x answer depth used block (op.Phi from) e g k = λ c. absurd c
 op_then p t hw f fs heap x answer depth used block (op.Br to) e g k = edge_is (After _) p f.registers block to.0 (traps_after _) (λ c. instr_goes _)
-op_then p t hw f fs heap x answer depth used block (op.CondBr n a b) e g k = on_value_is (After _) (operand p f.registers n) _ (traps_after _) (λ m q. edge_is (After _) p f.registers block (chosen m a.0 b.0) (traps_after _) (λ c. instr_goes _))
-op_then p t hw f fs heap x answer depth used block (op.Switch w on other cases) e g k = on_value_is (After _) (operand p f.registers on) _ (traps_after _) (λ m q. edge_is (After _) p f.registers block (case_of cases other.0 m) (traps_after _) (λ c. instr_goes _))
-op_then p t hw f fs heap x answer depth used block (op.Call h args) e g k = on_all_is (After _) p f.registers args _ (traps_after _) (call_is (After _) p h depth used (traps_after _) (λ c. instr_goes _))
+op_then p t hw f fs heap x answer depth used block (op.CondBr n a b) e g k =
+    on_value_is (After _) (operand p f.registers n) _ (traps_after _) (λ m q. edge_is (After _) p f.registers block (chosen m a.0 b.0) (traps_after _) (λ c. instr_goes _))
+op_then p t hw f fs heap x answer depth used block (op.Switch w on other cases) e g k =
+    on_value_is (After _) (operand p f.registers on) _ (traps_after _) (λ m q. edge_is (After _) p f.registers block (case_of cases other.0 m) (traps_after _) (λ c. instr_goes _))
+op_then p t hw f fs heap x answer depth used block (op.Call h args) e g k =
+    on_all_is (After _) p f.registers args _ (traps_after _) (call_is (After _) p h depth used (traps_after _) (λ c. instr_goes _))
 op_then p t hw f fs heap x answer depth used block (op.Ret v) e g k = rw k (returning_then p f fs _ v)
 op_then p t hw f fs heap x answer depth used block op.Unreachable e g k = λ c. absurd c
 op_then p t hw f fs heap x answer depth used block (op.Alloca bytes) e g k = room_is (After _) (has_room (region_of (running t hw f fs heap)) (granules_for bytes)) (traps_after _) (λ c. instr_goes _)
-op_then p t hw f fs heap x answer depth used block (op.Load w from) e g k = on_value_is (After _) (operand p f.registers from) _ (traps_after _) (λ a q. on_place_is (After _) a (bytes_of w) _ (traps_after _) (λ r s c. instr_goes _))
+op_then p t hw f fs heap x answer depth used block (op.Load w from) e g k =
+    on_value_is (After _) (operand p f.registers from) _ (traps_after _) (λ a q. on_place_is (After _) a (bytes_of w) _ (traps_after _) (λ r s c. instr_goes _))
 op_then p t hw f fs heap x answer depth used block (op.Store w v at) e g k =
     on_value_is (After _) (operand p f.registers v) _ (traps_after _) (λ n q.
     on_value_is (After _) (operand p f.registers at) _ (traps_after _) (λ a r.
@@ -192,23 +207,28 @@ op_then p t hw f fs heap x answer depth used block (op.Store w v at) e g k =
 op_then p t hw f fs heap x answer depth used block (op.CallKnown n args) e g k = known_then p t hw f fs heap x answer n args e g
 op_then p t hw f fs heap x answer depth used block o e g k = on_all_is (After _) p f.registers (operands_of o) _ (traps_after _) (λ c. instr_goes _)
 
-instr_then : (p : NumberedProgram) (t : ℕ) (hw : Bool) (f : Frame) (fs : List Frame) (heap answer : ℕ) (o : Option Instr) → slice_get p.instrs f.place ≡ o → After (phase_of p (instr_after p (running t hw f fs heap) answer o)) (instr_action p (running t hw f fs heap) f fs o)
+instr_then : (p : NumberedProgram) (t : ℕ) (hw : Bool) (f : Frame) (fs : List Frame) (heap answer : ℕ) (o : Option Instr) → slice_get p.instrs f.place ≡ o
+    → After (phase_of p (instr_after p (running t hw f fs heap) answer o)) (instr_action p (running t hw f fs heap) f fs o)
 unfolding phase_of
 instr_then p t hw f fs heap answer None e = λ c. absurd c
 instr_then p t hw f fs heap answer (Some x) e = op_then p t hw f fs heap x answer (length (f ∷ fs)) (total (f ∷ fs)) x.block.0 x.op e refl refl
 
-frames_then : (p : NumberedProgram) (t : ℕ) (b hw : Bool) (fs : List Frame) (heap answer : ℕ) → (b ≡ false → hw ≡ false) → After (phase_of p (frames_after p (record { thread = t; begun = b; halfway = hw; frames = fs; heap = heap }) b fs answer)) (frames_action p (record { thread = t; begun = b; halfway = hw; frames = fs; heap = heap }) b fs)
+frames_then : (p : NumberedProgram) (t : ℕ) (b hw : Bool) (fs : List Frame) (heap answer : ℕ) → (b ≡ false → hw ≡ false)
+    → After (phase_of p (frames_after p (record { thread = t; begun = b; halfway = hw; frames = fs; heap = heap }) b fs answer))
+    (frames_action p (record { thread = t; begun = b; halfway = hw; frames = fs; heap = heap }) b fs)
 unfolding phase_of
 frames_then p t b hw [] heap answer h = λ c. absurd c
 frames_then p t false hw (f ∷ fs) heap answer h = λ c. ap (λ (q : Bool). frames_phase p true q (begun_frame p answer f ∷ fs)) (h refl) ∙ instr_goes _
 frames_then p t true hw (f ∷ fs) heap answer h = instr_then p t hw f fs heap answer (slice_get p.instrs f.place) refl
 
-pub phase_after_next : (p : NumberedProgram) (l : LocalState) (answer : ℕ) → (l.begun ≡ false → l.halfway ≡ false) → CanStep (next p l) → phase_of p (after p l answer) ≡ phase_after (next p l)
+pub phase_after_next : (p : NumberedProgram) (l : LocalState) (answer : ℕ) → (l.begun ≡ false → l.halfway ≡ false) → CanStep (next p l)
+    → phase_of p (after p l answer) ≡ phase_after (next p l)
 unfolding next after
 phase_after_next p l answer h can = frames_then p l.thread l.begun l.halfway l.frames l.heap answer h can
 
 -- a thread that has taken a step has begun
-frames_begun : (p : NumberedProgram) (l : LocalState) (b : Bool) (fs : List Frame) (answer : ℕ) → l.begun ≡ b → CanStep (frames_action p l b fs) → (frames_after p l b fs answer).begun ≡ true
+frames_begun : (p : NumberedProgram) (l : LocalState) (b : Bool) (fs : List Frame) (answer : ℕ) → l.begun ≡ b → CanStep (frames_action p l b fs)
+    → (frames_after p l b fs answer).begun ≡ true
 frames_begun p l b [] answer e c = absurd c
 frames_begun p l false (f ∷ fs) answer e c = refl
 frames_begun p l true (f ∷ fs) answer e c = go (slice_get p.instrs f.place)

@@ -2,7 +2,8 @@
 use Rattle.std.specs.Prelude.{IfOk, not, ◌&&◌, nat_lt, length, if◌then◌else◌}
 use Rattle.std.proofs.lemmas.Bool.Decides.{nat_tests}
 use Rattle.pg_sync.specs.Sync as sync
-use Rattle.std.proofs.Common.{◌≡◌, ℕ, ℤ, zero, suc, ◌+◌, ◌-◌, ◌<◌, ◌≤◌, List, [], ◌∷◌, ◌++◌, Bool, true, false, Some, None, Result, Ok, Err, refl, sym, ap, ◌∙◌, arith, append_assoc, append-nil}
+use Rattle.std.proofs.Common.{◌≡◌, ℕ, ℤ, zero, suc, ◌+◌, ◌-◌, ◌<◌, ◌≤◌, List, [], ◌∷◌, ◌++◌, Bool, true, false, Some, None, Result, Ok, Err, refl, sym}
+use Rattle.std.proofs.Common.{ap, ◌∙◌, arith, append_assoc, append-nil}
 use Rattle.pg_ir.specs.declared.ids.InstrId.{InstrId}
 use Rattle.pg_ir.specs.declared.request.TrapName.{TrapName}
 use Rattle.pg_ir.specs.Program.{NumberedProgram}
@@ -48,15 +49,18 @@ onto_onto a b r = ap (λ (ts : List Step). record r { trace = ts }) (sym (append
 onto_stop : (a : List Step) (s : State) (e : Outcome) → onto a (stop s e) ≡ record { trace = a; state = s; end = e }
 onto_stop a s e = ap (λ (ts : List Step). record { trace = ts; state = s; end = e }) (append-nil a)
 
-pub run_start : (p : NumberedProgram) (input : List ℤ) (q n : ℕ) (s t : State) (u : Share) (ts : List Step) → ts ≡ [] → s ≡ t → onto ts (run (n - 0) p input q s u) ≡ run n p input q t u
+pub run_start : (p : NumberedProgram) (input : List ℤ) (q n : ℕ) (s t : State) (u : Share) (ts : List Step) → ts ≡ [] → s ≡ t
+    → onto ts (run (n - 0) p input q s u) ≡ run n p input q t u
 run_start p input q n s t u ts e h = let z : n - 0 ≡ n = omega arith in rw (e, h, z) refl
 
 -- a run that has a step left
-run_here : (p : NumberedProgram) (input : List ℤ) (q n i : ℕ) (s : State) (u : Share) (ts : List Step) (r : RunResult) → i < n → onto ts (run (n - i) p input q s u) ≡ r → onto ts (run (suc (n - (i + 1))) p input q s u) ≡ r
+run_here : (p : NumberedProgram) (input : List ℤ) (q n i : ℕ) (s : State) (u : Share) (ts : List Step) (r : RunResult) → i < n → onto ts (run (n - i) p input q s u) ≡ r
+    → onto ts (run (suc (n - (i + 1))) p input q s u) ≡ r
 run_here p input q n i s u ts r h e = let k : n - i ≡ suc (n - (i + 1)) = omega arith in rw k at e
 
 -- a run of no further steps stops with this end
-pub run_limit : (p : NumberedProgram) (input : List ℤ) (q n i : ℕ) (s : State) (u : Share) (o : Outcome) (ts : List Step) (r : RunResult) → n ≤ i → run 0 p input q s u ≡ stop s o → onto ts (run (n - i) p input q s u) ≡ r → r ≡ record { trace = ts; state = s; end = o }
+pub run_limit : (p : NumberedProgram) (input : List ℤ) (q n i : ℕ) (s : State) (u : Share) (o : Outcome) (ts : List Step) (r : RunResult) → n ≤ i → run 0 p input q s u ≡ stop s o
+    → onto ts (run (n - i) p input q s u) ≡ r → r ≡ record { trace = ts; state = s; end = o }
 run_limit p input q n i s u o ts r h k e =
     let z : n - i ≡ 0 = omega arith in
     sym (rw z at e) ∙ ap (onto ts) k ∙ onto_stop ts s o
@@ -64,7 +68,8 @@ run_limit p input q n i s u o ts r h k e =
 -- ---- by whose step it is, and what the step leaves
 
 -- a thread that is ready and has steps left goes on
-goes_on : (p : NumberedProgram) (q : ℕ) (s : State) (u : Share) (a b : Bool) → a ≡ true → b ≡ true → or_deadlock p s (if a && b then Some u else share_to s q u.thread.0 (first_true (λ d. ready p s (around s u.thread.0 d)) (length s.locals))) ≡ Ok u
+goes_on : (p : NumberedProgram) (q : ℕ) (s : State) (u : Share) (a b : Bool) → a ≡ true → b ≡ true
+    → or_deadlock p s (if a && b then Some u else share_to s q u.thread.0 (first_true (λ d. ready p s (around s u.thread.0 d)) (length s.locals))) ≡ Ok u
 goes_on p q s u true true e h = refl
 goes_on p q s u true false e h = absurd cc
 goes_on p q s u false b e h = absurd cc
@@ -84,25 +89,32 @@ chosen_stays p q s u g l =
     let k : nat_lt 0 u.left ≡ true = grind (arith, nat_tests) in
     rw o (goes_on p q s u (ready p s u.thread.0) (nat_lt 0 u.left) g k)
 
-pub run_chosen : (p : NumberedProgram) (input : List ℤ) (q n : ℕ) (s : State) (u : Share) (o : Result Share Outcome) → chosen p q s u ≡ o → run (suc n) p input q s u ≡ on_chosen s o (λ v. on_step s v (step [] p input s v.thread.0) (run n p input q))
+pub run_chosen : (p : NumberedProgram) (input : List ℤ) (q n : ℕ) (s : State) (u : Share) (o : Result Share Outcome) → chosen p q s u ≡ o
+    → run (suc n) p input q s u ≡ on_chosen s o (λ v. on_step s v (step [] p input s v.thread.0) (run n p input q))
 unfolding run
 run_chosen p input q n s u o c = ap (λ (o : Result Share Outcome). on_chosen s o (λ v. on_step s v (step [] p input s v.thread.0) (run n p input q))) c
 
-pub turn_stops : (p : NumberedProgram) (input : List ℤ) (q n : ℕ) (s : State) (u : Share) (e : Outcome) (ts : List Step) → chosen p q s u ≡ Err e → onto ts (run (suc n) p input q s u) ≡ record { trace = ts; state = s; end = e }
+pub turn_stops : (p : NumberedProgram) (input : List ℤ) (q n : ℕ) (s : State) (u : Share) (e : Outcome) (ts : List Step) → chosen p q s u ≡ Err e
+    → onto ts (run (suc n) p input q s u) ≡ record { trace = ts; state = s; end = e }
 turn_stops p input q n s u e ts c = ap (onto ts) (run_chosen p input q n s u (Err e) c) ∙ onto_stop ts s e
 
-pub turn_steps : (p : NumberedProgram) (input : List ℤ) (q n : ℕ) (s : State) (u v : Share) (ts : List Step) (r : RunResult) → chosen p q s u ≡ Ok v → onto ts (on_step s v (step [] p input s v.thread.0) (run n p input q)) ≡ r → onto ts (run (suc n) p input q s u) ≡ r
+pub turn_steps : (p : NumberedProgram) (input : List ℤ) (q n : ℕ) (s : State) (u v : Share) (ts : List Step) (r : RunResult) → chosen p q s u ≡ Ok v
+    → onto ts (on_step s v (step [] p input s v.thread.0) (run n p input q)) ≡ r → onto ts (run (suc n) p input q s u) ≡ r
 turn_steps p input q n s u v ts r c k = ap (onto ts) (run_chosen p input q n s u (Ok v) c) ∙ k
 
-pub turn_from : {E : Type 0} (p : NumberedProgram) (input : List ℤ) (q : ℕ) (s z : State) (u v : Share) (ts us : List Step) (r : Result (Result Share Outcome) E) → chosen p q s u ≡ Ok v → IfOk r (λ x. (more : State → Share → RunResult) → onto ts (on_step s v (step [] p input s v.thread.0) more) ≡ on_turn x us z more) → IfOk r (λ x. (n : ℕ) → onto ts (run (suc n) p input q s u) ≡ on_turn x us z (run n p input q))
+pub turn_from : {E : Type 0} (p : NumberedProgram) (input : List ℤ) (q : ℕ) (s z : State) (u v : Share) (ts us : List Step) (r : Result (Result Share Outcome) E) → chosen p q s u ≡ Ok v
+    → IfOk r (λ x. (more : State → Share → RunResult) → onto ts (on_step s v (step [] p input s v.thread.0) more) ≡ on_turn x us z more)
+    → IfOk r (λ x. (n : ℕ) → onto ts (run (suc n) p input q s u) ≡ on_turn x us z (run n p input q))
 turn_from p input q s z u v ts us (Ok x) c h = λ n. turn_steps p input q n s u v ts (on_turn x us z (run n p input q)) c (h (run n p input q))
 turn_from p input q s z u v ts us (Err e) c h = tt
 
-pub step_goes : (s : State) (v : Share) (o : Stepped) (ts : List Step) (more : State → Share → RunResult) → trapped_in o ≡ None → onto ts (on_step s v o more) ≡ onto (steps_with ts o) (more (state_with s o) (record { thread = v.thread; left = v.left - 1 }))
+pub step_goes : (s : State) (v : Share) (o : Stepped) (ts : List Step) (more : State → Share → RunResult) → trapped_in o ≡ None
+    → onto ts (on_step s v o more) ≡ onto (steps_with ts o) (more (state_with s o) (record { thread = v.thread; left = v.left - 1 }))
 step_goes s v (Did x t) ts more e = onto_onto ts (x ∷ []) (more t (record { thread = v.thread; left = v.left - 1 }))
 step_goes s v (Trapped name id) ts more e = absurd cc
 
-pub step_ends : (s : State) (v : Share) (o : Stepped) (name : TrapName) (at : InstrId) (ts : List Step) (more : State → Share → RunResult) → trapped_in o ≡ Some (name, at) → onto ts (on_step s v o more) ≡ record { trace = steps_with ts o; state = state_with s o; end = ends.Trap name at }
+pub step_ends : (s : State) (v : Share) (o : Stepped) (name : TrapName) (at : InstrId) (ts : List Step) (more : State → Share → RunResult) → trapped_in o ≡ Some (name, at)
+    → onto ts (on_step s v o more) ≡ record { trace = steps_with ts o; state = state_with s o; end = ends.Trap name at }
 step_ends s v (Did x t) name at ts more e = absurd cc
 step_ends s v (Trapped n id) name at ts more e =
     let same : Path (TrapName × InstrId) (n, record { 0 = id }) (name, at) = same_Some _ _ e in
@@ -113,13 +125,15 @@ step_ends s v (Trapped n id) name at ts more e =
 abbrev pub Turns : NumberedProgram → List ℤ → ℕ → State → Share → List Step → Result Share Outcome → List Step → State → Type 0
 Turns p input q s u ts x us z = (m : ℕ) → onto ts (run (suc m) p input q s u) ≡ on_turn x us z (run m p input q)
 
-pub loop_ends : (p : NumberedProgram) (input : List ℤ) (q n i : ℕ) (s z : State) (u : Share) (ts us : List Step) (x : Result Share Outcome) (e : Outcome) (r : RunResult) → i < n → Turns p input q s u ts x us z → x ≡ Err e → onto ts (run (n - i) p input q s u) ≡ r → r ≡ record { trace = us; state = z; end = e }
+pub loop_ends : (p : NumberedProgram) (input : List ℤ) (q n i : ℕ) (s z : State) (u : Share) (ts us : List Step) (x : Result Share Outcome) (e : Outcome) (r : RunResult) → i < n
+    → Turns p input q s u ts x us z → x ≡ Err e → onto ts (run (n - i) p input q s u) ≡ r → r ≡ record { trace = us; state = z; end = e }
 loop_ends p input q n i s z u ts us x e r h t k w =
     sym (run_here p input q n i s u ts r h w)
     ∙ t (n - (i + 1))
     ∙ ap (λ (y : Result Share Outcome). on_turn y us z (run (n - (i + 1)) p input q)) k
 
-pub loop_goes : (p : NumberedProgram) (input : List ℤ) (q n i : ℕ) (s z : State) (u v : Share) (ts us : List Step) (x : Result Share Outcome) (r : RunResult) → i < n → Turns p input q s u ts x us z → x ≡ Ok v → onto ts (run (n - i) p input q s u) ≡ r → onto us (run (n - (i + 1)) p input q z v) ≡ r
+pub loop_goes : (p : NumberedProgram) (input : List ℤ) (q n i : ℕ) (s z : State) (u v : Share) (ts us : List Step) (x : Result Share Outcome) (r : RunResult) → i < n
+    → Turns p input q s u ts x us z → x ≡ Ok v → onto ts (run (n - i) p input q s u) ≡ r → onto us (run (n - (i + 1)) p input q z v) ≡ r
 loop_goes p input q n i s z u v ts us x r h t k w =
     sym (t (n - (i + 1)) ∙ ap (λ (y : Result Share Outcome). on_turn y us z (run (n - (i + 1)) p input q)) k)
     ∙ run_here p input q n i s u ts r h w

@@ -35,7 +35,8 @@ unfolding first_true
 first_holds f zero d h = absurd cc
 first_holds f (suc n) d h = found f n d (f n) (first_true f n) refl (first_holds f n d) h
 
-to_ready : (p : NumberedProgram) (q : ℕ) (s : State) (t : ℕ) (v : Share) (o : Option ℕ) → first_true (λ d. ready p s (around s t d)) (length s.locals) ≡ o → or_deadlock p s (share_to s q t o) ≡ Ok v → ready p s v.thread.0 ≡ true
+to_ready : (p : NumberedProgram) (q : ℕ) (s : State) (t : ℕ) (v : Share) (o : Option ℕ) → first_true (λ d. ready p s (around s t d)) (length s.locals) ≡ o
+    → or_deadlock p s (share_to s q t o) ≡ Ok v → ready p s v.thread.0 ≡ true
 to_ready p q s t v None e h = absurd cc
 to_ready p q s t v (Some d) e h =
     let same : around s t d ≡ v.thread.0 = ap (thread_in 0) h in
@@ -45,7 +46,8 @@ to_ready p q s t v (Some d) e h =
     thread_in n (Ok u) = u.thread.0
     thread_in n (Err x) = n
 
-share_ready : (p : NumberedProgram) (q : ℕ) (s : State) (u v : Share) (a b : Bool) → ready p s u.thread.0 ≡ a → or_deadlock p s (if a && b then Some u else share_to s q u.thread.0 (first_true (λ d. ready p s (around s u.thread.0 d)) (length s.locals))) ≡ Ok v → ready p s v.thread.0 ≡ true
+share_ready : (p : NumberedProgram) (q : ℕ) (s : State) (u v : Share) (a b : Bool) → ready p s u.thread.0 ≡ a
+    → or_deadlock p s (if a && b then Some u else share_to s q u.thread.0 (first_true (λ d. ready p s (around s u.thread.0 d)) (length s.locals))) ≡ Ok v → ready p s v.thread.0 ≡ true
 share_ready p q s u v true true e h = let same : u ≡ v = cc in subst (λ (w : Share). ready p s w.thread.0 ≡ true) same e
 share_ready p q s u v true false e h = to_ready p q s u.thread.0 v _ refl h
 share_ready p q s u v false b e h = to_ready p q s u.thread.0 v _ refl h
@@ -96,11 +98,13 @@ run_runs zero p input q s u = go (chosen p q s u)
     go (Ok v) = refl
 run_runs (suc n) p input q s u = go (λ t w. run_runs n p input q t w) (chosen p q s u) refl
   where
-    stepped : ((t : State) (w : Share) → RunsFrom p input t (run n p input q t w)) → (v : Share) → ready p s v.thread.0 ≡ true → (o : Stepped) → step [] p input s v.thread.0 ≡ o → RunsFrom p input s (on_step s v o (λ t w. run n p input q t w))
+    stepped : ((t : State) (w : Share) → RunsFrom p input t (run n p input q t w)) → (v : Share) → ready p s v.thread.0 ≡ true → (o : Stepped) → step [] p input s v.thread.0 ≡ o
+        → RunsFrom p input s (on_step s v o (λ t w. run n p input q t w))
     stepped more v g (Trapped name id) h = refl
     stepped more v g (Did x t) h = (takes [] p input s t v.thread.0 x g h, more t _)
 
-    go : ((t : State) (w : Share) → RunsFrom p input t (run n p input q t w)) → (o : Result Share Outcome) → chosen p q s u ≡ o → RunsFrom p input s (on_chosen s o (λ v. on_step s v (step [] p input s v.thread.0) (λ t w. run n p input q t w)))
+    go : ((t : State) (w : Share) → RunsFrom p input t (run n p input q t w)) → (o : Result Share Outcome) → chosen p q s u ≡ o
+        → RunsFrom p input s (on_chosen s o (λ v. on_step s v (step [] p input s v.thread.0) (λ t w. run n p input q t w)))
     go more (Err e) h = refl
     go more (Ok v) h = stepped more v (chosen_ready p q s u v h) (step [] p input s v.thread.0) refl
 

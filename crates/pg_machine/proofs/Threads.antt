@@ -68,7 +68,8 @@ waiting_last : (ss : List Status) (ws : List Waiter) (w : Waiter) → IsAbsent w
 waiting_last ss [] w a e h = (e, tt, tt)
 waiting_last ss (v ∷ ws) w a e h = (h.0, absent_last ws v.thread.0 w h.1 (λ k. a.0 (sym k)), waiting_last ss ws w a.1 e h.2)
 
-pub waiting_more : (ss : List Status) (ws : List Waiter) (w : Waiter) → w.thread.0 < length ss → IsAbsent w.thread.0 ws → AreWaiting ss ws → AreWaiting (at_stage w.thread.0 (Waiting false) ss) (ws ++ w ∷ [])
+pub waiting_more : (ss : List Status) (ws : List Waiter) (w : Waiter) → w.thread.0 < length ss → IsAbsent w.thread.0 ws → AreWaiting ss ws
+    → AreWaiting (at_stage w.thread.0 (Waiting false) ss) (ws ++ w ∷ [])
 waiting_more ss ws w l a h = waiting_last (at_stage w.thread.0 (Waiting false) ss) ws w a (own_stage ss w.thread.0 (Waiting false) l) (waiting_kept ss ws w.thread.0 (Waiting false) a h)
 
 -- ---- other changes
@@ -151,7 +152,8 @@ within_stage [] t e = absurd cc
 within_stage (s ∷ ss) zero e = omega arith
 within_stage (s ∷ ss) (suc t) e = let k = within_stage ss t e in omega (arith, k)
 
-signalled_phase : (ss : List Status) (t u : ℕ) (b : Bool) → (u == t) ≡ b → stage_at ss t ≡ Waiting false → stage_phase (stage_at (at_stage t (Waiting true) ss) u) ≡ stage_phase (stage_at ss u)
+signalled_phase : (ss : List Status) (t u : ℕ) (b : Bool) → (u == t) ≡ b → stage_at ss t ≡ Waiting false
+    → stage_phase (stage_at (at_stage t (Waiting true) ss) u) ≡ stage_phase (stage_at ss u)
 signalled_phase ss t u true q e =
     let same : u ≡ t = grind (arith, nat_tests) in
     subst (λ (n : ℕ). stage_phase (stage_at (at_stage t (Waiting true) ss) n) ≡ stage_phase (stage_at ss n)) (sym same)
@@ -199,7 +201,8 @@ pub filters_apart : (p : Waiter → Bool) (ss : List Status) (ws : List Waiter) 
 filters_apart p ss [] h = tt
 filters_apart p ss (w ∷ ws) h = go (p w) (filters_apart p ss ws h.2)
   where
-    go : (b : Bool) → Apart (filter (λ w. not (p w)) ws) (filter p ws) → Apart (if not b then w ∷ filter (λ w. not (p w)) ws else filter (λ w. not (p w)) ws) (if b then w ∷ filter p ws else filter p ws)
+    go : (b : Bool) → Apart (filter (λ w. not (p w)) ws) (filter p ws)
+        → Apart (if not b then w ∷ filter (λ w. not (p w)) ws else filter (λ w. not (p w)) ws) (if b then w ∷ filter p ws else filter p ws)
     go true k = apart_more _ _ w (absent_filter (λ w. not (p w)) w.thread.0 ws h.1) k
     go false k = (absent_filter p w.thread.0 ws h.1, k)
 

@@ -41,7 +41,8 @@ instr_filled : (ns : List ℕ) (answer number : ℕ) (o : Option Instr) → fill
 instr_filled ns answer number None = refl
 instr_filled ns answer number (Some x) = op_filled ns answer number x.op
 
-kind_filled : (gated : List InstrId) (p : NumberedProgram) (s : State) (t : ℕ) (ns : List ℕ) (answer number : ℕ) (action : Action) → filled (kind_told gated p s t ns 0 0 action) answer number ≡ kind_told gated p s t ns answer number action
+kind_filled : (gated : List InstrId) (p : NumberedProgram) (s : State) (t : ℕ) (ns : List ℕ) (answer number : ℕ) (action : Action)
+    → filled (kind_told gated p s t ns 0 0 action) answer number ≡ kind_told gated p s t ns answer number action
 kind_filled gated p s t ns answer number actions.Local = instr_filled ns answer number (slice_get p.instrs (instr_of s t))
 kind_filled gated p s t ns answer number (actions.Load r) = refl
 kind_filled gated p s t ns answer number (actions.Store r n) = refl
@@ -49,8 +50,12 @@ kind_filled gated p s t ns answer number (actions.Event r) = refl
 kind_filled gated p s t ns answer number action = refl
 
 -- the step that is told before and filled after
-pub step_filled : (gated : List InstrId) (p : NumberedProgram) (s : State) (t id answer number : ℕ) (kind before : StepKind) (action : Action) → action ≡ next_of p s t → id ≡ instr_of s t → before ≡ kind_told gated p s t (operands_in p (slice_get s.locals t)) 0 0 action → number ≡ number_in p (slice_get s.locals t) answer → kind ≡ filled before answer number → Path Step (record { thread = record { 0 = t }; instr = record { 0 = id }; kind = kind }) (step_told gated p s t answer)
-step_filled gated p s t id answer number kind before action a i b n k = rw (i, k, b, n, a) (ap (λ (x : StepKind). record { thread = record { 0 = t }; instr = record { 0 = instr_of s t }; kind = x }) (kind_filled gated p s t (operands_in p (slice_get s.locals t)) answer (number_in p (slice_get s.locals t) answer) (next_of p s t)))
+pub step_filled : (gated : List InstrId) (p : NumberedProgram) (s : State) (t id answer number : ℕ) (kind before : StepKind) (action : Action) → action ≡ next_of p s t
+    → id ≡ instr_of s t → before ≡ kind_told gated p s t (operands_in p (slice_get s.locals t)) 0 0 action → number ≡ number_in p (slice_get s.locals t) answer
+    → kind ≡ filled before answer number → Path Step (record { thread = record { 0 = t }; instr = record { 0 = id }; kind = kind }) (step_told gated p s t answer)
+step_filled gated p s t id answer number kind before action a i b n k =
+    rw (i, k, b, n, a) (ap (λ (x : StepKind). record { thread = record { 0 = t }; instr = record { 0 = instr_of s t }; kind = x })
+    (kind_filled gated p s t (operands_in p (slice_get s.locals t)) answer (number_in p (slice_get s.locals t) answer) (next_of p s t)))
 
 -- ---- the event
 
@@ -70,15 +75,18 @@ instr_quiet ns number None = refl
 instr_quiet ns number (Some x) = op_quiet ns number x.op
 
 -- an access at the first byte of its range, which is where its pointer points
-load_happens : (b : Bool) (word n : ℕ) (r : ByteRange) → record { start = byte_place word; bytes = r.bytes } ≡ r → (if b then Some (record { kind = turns.Load; object = byte_place word }) else None) ≡ happening_if b turns.Load r.start
+load_happens : (b : Bool) (word n : ℕ) (r : ByteRange) → record { start = byte_place word; bytes = r.bytes } ≡ r
+    → (if b then Some (record { kind = turns.Load; object = byte_place word }) else None) ≡ happening_if b turns.Load r.start
 load_happens true word n r e = ap (λ (q : ByteRange). Some (record { kind = turns.Load; object = q.start })) e
 load_happens false word n r e = refl
 
-store_happens : (b : Bool) (word n : ℕ) (r : ByteRange) → record { start = byte_place word; bytes = r.bytes } ≡ r → (if b then Some (record { kind = turns.Store; object = byte_place word }) else None) ≡ happening_if b turns.Store r.start
+store_happens : (b : Bool) (word n : ℕ) (r : ByteRange) → record { start = byte_place word; bytes = r.bytes } ≡ r
+    → (if b then Some (record { kind = turns.Store; object = byte_place word }) else None) ≡ happening_if b turns.Store r.start
 store_happens true word n r e = ap (λ (q : ByteRange). Some (record { kind = turns.Store; object = q.start })) e
 store_happens false word n r e = refl
 
-kind_happens : (gated : List InstrId) (p : NumberedProgram) (s : State) (t : ℕ) (ns : List ℕ) (answer number : ℕ) (action : Action) → IsNamed ns action → happening_in (kind_told gated p s t ns answer number action) ≡ happening_of gated s t action
+kind_happens : (gated : List InstrId) (p : NumberedProgram) (s : State) (t : ℕ) (ns : List ℕ) (answer number : ℕ) (action : Action) → IsNamed ns action
+    → happening_in (kind_told gated p s t ns answer number action) ≡ happening_of gated s t action
 kind_happens gated p s t ns answer number actions.Local h = instr_quiet ns number (slice_get p.instrs (instr_of s t))
 kind_happens gated p s t ns answer number (actions.Load r) h = load_happens (is_gated gated (instr_of s t)) (slice_index ns 0) answer r (place_is (slice_index ns 0) r.bytes r h)
 kind_happens gated p s t ns answer number (actions.Store r n) h = store_happens (is_gated gated (instr_of s t)) (slice_index ns 1) n r (place_is (slice_index ns 1) r.bytes r h)

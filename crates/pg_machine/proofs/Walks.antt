@@ -1,5 +1,6 @@
 -- A walk to a turn goes on by one step, or stops; and so a guided run by one turn.
-use Rattle.std.proofs.Common.{◌≡◌, ℕ, ℤ, zero, suc, ◌+◌, ◌-◌, ◌<◌, ◌≤◌, List, [], ◌∷◌, ◌++◌, length, drop, Bool, true, false, Option, Some, None, Result, Ok, Err, refl, sym, ap, ◌∙◌, arith, append_assoc, append-nil}
+use Rattle.std.proofs.Common.{◌≡◌, ℕ, ℤ, zero, suc, ◌+◌, ◌-◌, ◌<◌, ◌≤◌, List, [], ◌∷◌, ◌++◌, length, drop, Bool, true, false, Option, Some, None}
+use Rattle.std.proofs.Common.{Result, Ok, Err, refl, sym, ap, ◌∙◌, arith, append_assoc, append-nil}
 use Rattle.std.specs.Prelude.{get_or, slice_set, slice_index, sum}
 use Rattle.std.proofs.lemmas.List.{drop_more}
 use Rattle.std.proofs.lemmas.List.Sums.{sum_by-cons}
@@ -36,51 +37,65 @@ module _ (gated : List InstrId) (p : NumberedProgram) (input : List ℤ) (u : Tu
   one_less : (n i : ℕ) → i < n → n - i ≡ suc (n - (i + 1))
   one_less n i h = omega arith
 
-  at_suc : (n i : ℕ) (s : State) → i < n → walk (n - i) gated p input u s ≡ on_due s (n - (i + 1)) (due gated p u s) (λ b. on_step s (n - (i + 1)) b (step gated p input s u.thread.0) (λ t. walk (n - (i + 1)) gated p input u t))
+  at_suc : (n i : ℕ) (s : State) → i < n → walk (n - i) gated p input u s
+      ≡ on_due s (n - (i + 1)) (due gated p u s) (λ b. on_step s (n - (i + 1)) b (step gated p input s u.thread.0) (λ t. walk (n - (i + 1)) gated p input u t))
   unfolding walk
   at_suc n i s h = rw (one_less n i h) refl
 
-  at_due : (n i : ℕ) (s : State) (d : Result Bool GuidedEnd) → i < n → due gated p u s ≡ d → walk (n - i) gated p input u s ≡ on_due s (n - (i + 1)) d (λ b. on_step s (n - (i + 1)) b (step gated p input s u.thread.0) (λ t. walk (n - (i + 1)) gated p input u t))
-  at_due n i s d h e = at_suc n i s h ∙ ap (λ (d : Result Bool GuidedEnd). on_due s (n - (i + 1)) d (λ b. on_step s (n - (i + 1)) b (step gated p input s u.thread.0) (λ t. walk (n - (i + 1)) gated p input u t))) e
+  at_due : (n i : ℕ) (s : State) (d : Result Bool GuidedEnd) → i < n → due gated p u s ≡ d
+      → walk (n - i) gated p input u s ≡ on_due s (n - (i + 1)) d (λ b. on_step s (n - (i + 1)) b (step gated p input s u.thread.0) (λ t. walk (n - (i + 1)) gated p input u t))
+  at_due n i s d h e = at_suc n i s h ∙ ap (λ (d : Result Bool GuidedEnd). on_due s (n - (i + 1)) d
+      (λ b. on_step s (n - (i + 1)) b (step gated p input s u.thread.0) (λ t. walk (n - (i + 1)) gated p input u t))) e
 
-  pub at_step : (n i : ℕ) (s : State) (b : Bool) (o : Stepped) → i < n → due gated p u s ≡ Ok b → step gated p input s u.thread.0 ≡ o → walk (n - i) gated p input u s ≡ on_step s (n - (i + 1)) b o (λ t. walk (n - (i + 1)) gated p input u t)
+  pub at_step : (n i : ℕ) (s : State) (b : Bool) (o : Stepped) → i < n → due gated p u s ≡ Ok b → step gated p input s u.thread.0 ≡ o
+      → walk (n - i) gated p input u s ≡ on_step s (n - (i + 1)) b o (λ t. walk (n - (i + 1)) gated p input u t)
   at_step n i s b o h d e = at_due n i s (Ok b) h d ∙ ap (λ (o : Stepped). on_step s (n - (i + 1)) b o (λ t. walk (n - (i + 1)) gated p input u t)) e
 
   pub walk_start : (n : ℕ) (s : State) → IsOn n 0 s (walk n gated p input u s) []
   walk_start n s = let z : n - 0 ≡ n = omega arith in rw z refl
 
-  pub walk_more : (n i : ℕ) (s t : State) (x : Step) (w : Walk) (ts : List Step) → i < n → due gated p u s ≡ Ok false → step gated p input s u.thread.0 ≡ Did x t → IsOn n i s w ts → IsOn n (i + 1) t w (ts ++ x ∷ [])
+  pub walk_more : (n i : ℕ) (s t : State) (x : Step) (w : Walk) (ts : List Step) → i < n → due gated p u s ≡ Ok false → step gated p input s u.thread.0 ≡ Did x t → IsOn n i s w ts
+      → IsOn n (i + 1) t w (ts ++ x ∷ [])
   walk_more n i s t x w ts h d e o =
       sym (behind_behind ts (x ∷ []) (walk (n - (i + 1)) gated p input u t)) ∙ ap (behind ts) (sym (at_step n i s false (Did x t) h d e)) ∙ o
 
-  pub walk_turn : (n i : ℕ) (s t : State) (x : Step) (w : Walk) (ts : List Step) → i < n → due gated p u s ≡ Ok true → step gated p input s u.thread.0 ≡ Did x t → IsOn n i s w ts → w ≡ record { trace = ts ++ x ∷ []; state = t; left = n - i - 1; end = None }
+  pub walk_turn : (n i : ℕ) (s t : State) (x : Step) (w : Walk) (ts : List Step) → i < n → due gated p u s ≡ Ok true → step gated p input s u.thread.0 ≡ Did x t → IsOn n i s w ts
+      → w ≡ record { trace = ts ++ x ∷ []; state = t; left = n - i - 1; end = None }
   walk_turn n i s t x w ts h d e o =
       let k : n - (i + 1) ≡ n - i - 1 = omega arith in
       sym o ∙ ap (behind ts) (at_step n i s true (Did x t) h d e) ∙ ap (λ (m : ℕ). record { trace = ts ++ x ∷ []; state = t; left = m; end = None }) k
 
-  pub walk_stop : (n i : ℕ) (s : State) (e : GuidedEnd) (w : Walk) (ts : List Step) → i < n → due gated p u s ≡ Err e → IsOn n i s w ts → w ≡ record { trace = ts; state = s; left = n - i; end = Some e }
+  pub walk_stop : (n i : ℕ) (s : State) (e : GuidedEnd) (w : Walk) (ts : List Step) → i < n → due gated p u s ≡ Err e → IsOn n i s w ts
+      → w ≡ record { trace = ts; state = s; left = n - i; end = Some e }
   walk_stop n i s e w ts h d o =
-      sym o ∙ ap (behind ts) (at_due n i s (Err e) h d) ∙ behind_here ts s (suc (n - (i + 1))) (Some e) ∙ ap (λ (m : ℕ). record { trace = ts; state = s; left = m; end = Some e }) (sym (one_less n i h))
+      sym o ∙ ap (behind ts) (at_due n i s (Err e) h d) ∙ behind_here ts s (suc (n - (i + 1))) (Some e)
+      ∙ ap (λ (m : ℕ). record { trace = ts; state = s; left = m; end = Some e }) (sym (one_less n i h))
 
-  pub walk_trap : (n i : ℕ) (s : State) (b : Bool) (name : TrapName) (id : ℕ) (w : Walk) (ts : List Step) → i < n → due gated p u s ≡ Ok b → step gated p input s u.thread.0 ≡ Trapped name id → IsOn n i s w ts → w ≡ record { trace = ts; state = s; left = n - i; end = Some (ends.Trap name (record { 0 = id })) }
+  pub walk_trap : (n i : ℕ) (s : State) (b : Bool) (name : TrapName) (id : ℕ) (w : Walk) (ts : List Step) → i < n → due gated p u s ≡ Ok b
+      → step gated p input s u.thread.0 ≡ Trapped name id → IsOn n i s w ts → w ≡ record { trace = ts; state = s; left = n - i; end = Some (ends.Trap name (record { 0 = id })) }
   walk_trap n i s b name id w ts h d e o =
       let q = Some (ends.Trap name (record { 0 = id })) in
       sym o ∙ ap (behind ts) (at_step n i s b (Trapped name id) h d e) ∙ trapped b ∙ ap (λ (m : ℕ). record { trace = ts; state = s; left = m; end = q }) (sym (one_less n i h))
     where
-      trapped : (b : Bool) → behind ts (on_step s (n - (i + 1)) b (Trapped name id) (λ t. walk (n - (i + 1)) gated p input u t)) ≡ record { trace = ts; state = s; left = suc (n - (i + 1)); end = Some (ends.Trap name (record { 0 = id })) }
+      trapped : (b : Bool) → behind ts (on_step s (n - (i + 1)) b (Trapped name id) (λ t. walk (n - (i + 1)) gated p input u t))
+          ≡ record { trace = ts; state = s; left = suc (n - (i + 1)); end = Some (ends.Trap name (record { 0 = id })) }
       trapped b = behind_here ts s (suc (n - (i + 1))) (Some (ends.Trap name (record { 0 = id })))
 
   -- by what a step leaves
 
-  pub walk_on : (n i : ℕ) (s : State) (o : Stepped) (w : Walk) (ts : List Step) → i < n → due gated p u s ≡ Ok false → step gated p input s u.thread.0 ≡ o → trapped_in o ≡ None → IsOn n i s w ts → IsOn n (i + 1) (state_with s o) w (steps_with ts o)
+  pub walk_on : (n i : ℕ) (s : State) (o : Stepped) (w : Walk) (ts : List Step) → i < n → due gated p u s ≡ Ok false → step gated p input s u.thread.0 ≡ o → trapped_in o ≡ None
+      → IsOn n i s w ts → IsOn n (i + 1) (state_with s o) w (steps_with ts o)
   walk_on n i s (Did x t) w ts h d e k o = walk_more n i s t x w ts h d e o
   walk_on n i s (Trapped name id) w ts h d e k o = absurd cc
 
-  pub walk_done : (n i : ℕ) (s : State) (o : Stepped) (w : Walk) (ts : List Step) → i < n → due gated p u s ≡ Ok true → step gated p input s u.thread.0 ≡ o → trapped_in o ≡ None → IsOn n i s w ts → w ≡ record { trace = steps_with ts o; state = state_with s o; left = n - i - 1; end = None }
+  pub walk_done : (n i : ℕ) (s : State) (o : Stepped) (w : Walk) (ts : List Step) → i < n → due gated p u s ≡ Ok true → step gated p input s u.thread.0 ≡ o → trapped_in o ≡ None
+      → IsOn n i s w ts → w ≡ record { trace = steps_with ts o; state = state_with s o; left = n - i - 1; end = None }
   walk_done n i s (Did x t) w ts h d e k o = walk_turn n i s t x w ts h d e o
   walk_done n i s (Trapped name id) w ts h d e k o = absurd cc
 
-  pub walk_end : (n i : ℕ) (s : State) (b : Bool) (o : Stepped) (name : TrapName) (at : InstrId) (w : Walk) (ts : List Step) → i < n → due gated p u s ≡ Ok b → step gated p input s u.thread.0 ≡ o → trapped_in o ≡ Some (name, at) → IsOn n i s w ts → w ≡ record { trace = steps_with ts o; state = state_with s o; left = n - i; end = Some (ends.Trap name at) }
+  pub walk_end : (n i : ℕ) (s : State) (b : Bool) (o : Stepped) (name : TrapName) (at : InstrId) (w : Walk) (ts : List Step) → i < n → due gated p u s ≡ Ok b
+      → step gated p input s u.thread.0 ≡ o → trapped_in o ≡ Some (name, at) → IsOn n i s w ts
+      → w ≡ record { trace = steps_with ts o; state = state_with s o; left = n - i; end = Some (ends.Trap name at) }
   walk_end n i s b (Did x t) name at w ts h d e k o = absurd cc
   walk_end n i s b (Trapped m id) name at w ts h d e k o =
       let same : Path (TrapName × InstrId) (m, record { 0 = id }) (name, at) = same_Some _ _ k in
@@ -100,21 +115,29 @@ module _ (gated : List InstrId) (p : NumberedProgram) (input : List ℤ) (us : L
   abbrev pub IsAlong : ℕ → State → List ℕ → GuidedRun → List Step → Type 0
   IsAlong k s left r ts = onto ts (guided gated p input (drop k us) k s left) ≡ r
 
-  at_turn : (k : ℕ) (u : Turn) (s : State) (left : List ℕ) → drop k us ≡ u ∷ drop (k + 1) us → guided gated p input (drop k us) k s left ≡ on_walk left k u.thread.0 (walk (slice_index left u.thread.0) gated p input u s) (λ t rest. guided gated p input (drop (k + 1) us) (k + 1) t rest)
+  at_turn : (k : ℕ) (u : Turn) (s : State) (left : List ℕ) → drop k us ≡ u ∷ drop (k + 1) us
+      → guided gated p input (drop k us) k s left ≡ on_walk left k u.thread.0 (walk (slice_index left u.thread.0) gated p input u s)
+      (λ t rest. guided gated p input (drop (k + 1) us) (k + 1) t rest)
   unfolding guided
   at_turn k u s left e = rw e refl
 
-  pub at_walk : (k : ℕ) (u : Turn) (s : State) (left : List ℕ) (w : Walk) → drop k us ≡ u ∷ drop (k + 1) us → walk (slice_index left u.thread.0) gated p input u s ≡ w → guided gated p input (drop k us) k s left ≡ on_walk left k u.thread.0 w (λ t rest. guided gated p input (drop (k + 1) us) (k + 1) t rest)
+  pub at_walk : (k : ℕ) (u : Turn) (s : State) (left : List ℕ) (w : Walk) → drop k us ≡ u ∷ drop (k + 1) us → walk (slice_index left u.thread.0) gated p input u s ≡ w
+      → guided gated p input (drop k us) k s left ≡ on_walk left k u.thread.0 w (λ t rest. guided gated p input (drop (k + 1) us) (k + 1) t rest)
   at_walk k u s left w e h = at_turn k u s left e ∙ ap (λ (w : Walk). on_walk left k u.thread.0 w (λ t rest. guided gated p input (drop (k + 1) us) (k + 1) t rest)) h
 
   pub run_start : (s : State) (left : List ℕ) → IsAlong 0 s left (guided gated p input us 0 s left) []
   run_start s left = refl
 
-  pub run_more : (k : ℕ) (u : Turn) (s t : State) (left : List ℕ) (n : ℕ) (xs ts : List Step) (r : GuidedRun) → drop k us ≡ u ∷ drop (k + 1) us → walk (slice_index left u.thread.0) gated p input u s ≡ record { trace = xs; state = t; left = n; end = None } → IsAlong k s left r ts → IsAlong (k + 1) t (slice_set left u.thread.0 n) r (ts ++ xs)
+  pub run_more : (k : ℕ) (u : Turn) (s t : State) (left : List ℕ) (n : ℕ) (xs ts : List Step) (r : GuidedRun) → drop k us ≡ u ∷ drop (k + 1) us
+      → walk (slice_index left u.thread.0) gated p input u s ≡ record { trace = xs; state = t; left = n; end = None } → IsAlong k s left r ts
+      → IsAlong (k + 1) t (slice_set left u.thread.0 n) r (ts ++ xs)
   run_more k u s t left n xs ts r e h o =
-      sym (onto_onto ts xs (guided gated p input (drop (k + 1) us) (k + 1) t (slice_set left u.thread.0 n))) ∙ ap (onto ts) (sym (at_walk k u s left (record { trace = xs; state = t; left = n; end = None }) e h)) ∙ o
+      sym (onto_onto ts xs (guided gated p input (drop (k + 1) us) (k + 1) t (slice_set left u.thread.0 n)))
+      ∙ ap (onto ts) (sym (at_walk k u s left (record { trace = xs; state = t; left = n; end = None }) e h)) ∙ o
 
-  pub run_stop : (k : ℕ) (u : Turn) (s t : State) (left : List ℕ) (n : ℕ) (end : GuidedEnd) (xs ts : List Step) (r : GuidedRun) → drop k us ≡ u ∷ drop (k + 1) us → walk (slice_index left u.thread.0) gated p input u s ≡ record { trace = xs; state = t; left = n; end = Some end } → IsAlong k s left r ts → r ≡ record { trace = ts ++ xs; state = t; left = slice_set left u.thread.0 n; turns = k; end = end }
+  pub run_stop : (k : ℕ) (u : Turn) (s t : State) (left : List ℕ) (n : ℕ) (end : GuidedEnd) (xs ts : List Step) (r : GuidedRun) → drop k us ≡ u ∷ drop (k + 1) us
+      → walk (slice_index left u.thread.0) gated p input u s ≡ record { trace = xs; state = t; left = n; end = Some end } → IsAlong k s left r ts
+      → r ≡ record { trace = ts ++ xs; state = t; left = slice_set left u.thread.0 n; turns = k; end = end }
   run_stop k u s t left n end xs ts r e h o =
       sym o ∙ ap (onto ts) (at_walk k u s left (record { trace = xs; state = t; left = n; end = Some end }) e h)
 
@@ -122,7 +145,8 @@ module _ (gated : List InstrId) (p : NumberedProgram) (input : List ℤ) (us : L
   unfolding guided
   at_end k s left e = rw e refl
 
-  pub run_over : (k : ℕ) (s : State) (left : List ℕ) (ts : List Step) (r : GuidedRun) → drop k us ≡ [] → IsAlong k s left r ts → r ≡ record { trace = ts; state = s; left = left; turns = k; end = end_after s }
+  pub run_over : (k : ℕ) (s : State) (left : List ℕ) (ts : List Step) (r : GuidedRun) → drop k us ≡ [] → IsAlong k s left r ts
+      → r ≡ record { trace = ts; state = s; left = left; turns = k; end = end_after s }
   run_over k s left ts r e o =
       sym o ∙ ap (onto ts) (at_end k s left e) ∙ ap (λ (xs : List Step). record { trace = xs; state = s; left = left; turns = k; end = end_after s }) (append-nil ts)
 
@@ -135,15 +159,21 @@ module _ (gated : List InstrId) (p : NumberedProgram) (input : List ℤ) (us : L
   abbrev pub Walks : ℕ → ℕ → Turn → State → List ℕ → State → ℕ → Option GuidedEnd → Type 0
   Walks k most d s left t n e = untraced (walk most gated p input (get_or us k d) s) ≡ here t n e
 
-  walked : (k most : ℕ) (d : Turn) (s t : State) (left : List ℕ) (n : ℕ) (e f : Option GuidedEnd) → most ≡ slice_index left (get_or us k d).thread.0 → Walks k most d s left t n e → e ≡ f → walk (slice_index left (get_or us k d).thread.0) gated p input (get_or us k d) s ≡ record { trace = (walk most gated p input (get_or us k d) s).trace; state = t; left = n; end = f }
+  walked : (k most : ℕ) (d : Turn) (s t : State) (left : List ℕ) (n : ℕ) (e f : Option GuidedEnd) → most ≡ slice_index left (get_or us k d).thread.0 → Walks k most d s left t n e
+      → e ≡ f → walk (slice_index left (get_or us k d).thread.0) gated p input (get_or us k d) s
+      ≡ record { trace = (walk most gated p input (get_or us k d) s).trace; state = t; left = n; end = f }
   walked k most d s t left n e f m h q =
-      ap (λ (i : ℕ). walk i gated p input (get_or us k d) s) (sym m) ∙ traced (walk most gated p input (get_or us k d) s) t n e h ∙ ap (λ (x : Option GuidedEnd). record { trace = (walk most gated p input (get_or us k d) s).trace; state = t; left = n; end = x }) q
+      ap (λ (i : ℕ). walk i gated p input (get_or us k d) s) (sym m) ∙ traced (walk most gated p input (get_or us k d) s) t n e h
+      ∙ ap (λ (x : Option GuidedEnd). record { trace = (walk most gated p input (get_or us k d) s).trace; state = t; left = n; end = x }) q
 
-  pub goes_along : (k most : ℕ) (d : Turn) (s t : State) (left rest : List ℕ) (n : ℕ) (e : Option GuidedEnd) (r : GuidedRun) → k < length us → most ≡ slice_index left (get_or us k d).thread.0 → Walks k most d s left t n e → e ≡ None → rest ≡ slice_set left (get_or us k d).thread.0 n → (ts : List Step) × IsAlong k s left r ts → (ts : List Step) × IsAlong (k + 1) t rest r ts
+  pub goes_along : (k most : ℕ) (d : Turn) (s t : State) (left rest : List ℕ) (n : ℕ) (e : Option GuidedEnd) (r : GuidedRun) → k < length us
+      → most ≡ slice_index left (get_or us k d).thread.0 → Walks k most d s left t n e → e ≡ None → rest ≡ slice_set left (get_or us k d).thread.0 n
+      → (ts : List Step) × IsAlong k s left r ts → (ts : List Step) × IsAlong (k + 1) t rest r ts
   goes_along k most d s t left rest n e r l m h q z o =
       (o.0 ++ (walk most gated p input (get_or us k d) s).trace, rw z (run_more k (get_or us k d) s t left n _ o.0 r (drop_more us k d l) (walked k most d s t left n e None m h q) o.1))
 
-  pub stops_along : (k most done : ℕ) (d : Turn) (s t : State) (left : List ℕ) (n : ℕ) (e : Option GuidedEnd) (end : GuidedEnd) (r : GuidedRun) → k < length us → done ≡ k → most ≡ slice_index left (get_or us k d).thread.0 → Walks k most d s left t n e → e ≡ Some end → (ts : List Step) × IsAlong k s left r ts → EndsAs r t done end
+  pub stops_along : (k most done : ℕ) (d : Turn) (s t : State) (left : List ℕ) (n : ℕ) (e : Option GuidedEnd) (end : GuidedEnd) (r : GuidedRun) → k < length us → done ≡ k
+      → most ≡ slice_index left (get_or us k d).thread.0 → Walks k most d s left t n e → e ≡ Some end → (ts : List Step) × IsAlong k s left r ts → EndsAs r t done end
   stops_along k most done d s t left n e end r l j m h q o =
       let f = run_stop k (get_or us k d) s t left n end _ o.0 r (drop_more us k d l) (walked k most d s t left n e (Some end) m h q) o.1 in
       record { state_is = ap (λ (x : GuidedRun). x.state) f; turns_is = ap (λ (x : GuidedRun). x.turns) f ∙ sym j; end_is = ap (λ (x : GuidedRun). x.end) f }
@@ -154,7 +184,8 @@ module _ (gated : List InstrId) (p : NumberedProgram) (input : List ℤ) (us : L
   none_left (x ∷ xs) zero h = absurd (omega arith)
   none_left (x ∷ xs) (suc k) h = none_left xs k (omega arith)
 
-  pub ends_along : (k done : ℕ) (s : State) (left : List ℕ) (e : GuidedEnd) (r : GuidedRun) → length us ≤ k → done ≡ k → e ≡ end_after s → (ts : List Step) × IsAlong k s left r ts → EndsAs r s done e
+  pub ends_along : (k done : ℕ) (s : State) (left : List ℕ) (e : GuidedEnd) (r : GuidedRun) → length us ≤ k → done ≡ k → e ≡ end_after s
+      → (ts : List Step) × IsAlong k s left r ts → EndsAs r s done e
   ends_along k done s left e r l j q o =
       let f = run_over k s left o.0 r (none_left us k l) o.1 in
       record { state_is = ap (λ (x : GuidedRun). x.state) f; turns_is = ap (λ (x : GuidedRun). x.turns) f ∙ sym j; end_is = ap (λ (x : GuidedRun). x.end) f ∙ sym q }

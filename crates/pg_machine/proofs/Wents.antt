@@ -1,5 +1,6 @@
 -- A step that only its thread's own state decides and sees is the machine's step.
-use Rattle.std.proofs.Common.{◌≡◌, ℕ, ℤ, zero, suc, ◌<◌, ◌≤◌, ◌^◌, List, [], ◌∷◌, ◌++◌, length, Bool, true, false, Option, Some, None, Result, Ok, Err, refl, sym, ◌∙◌, ap, subst, arith, length-append, append_assoc, append-nil}
+use Rattle.std.proofs.Common.{◌≡◌, ℕ, ℤ, zero, suc, ◌<◌, ◌≤◌, ◌^◌, List, [], ◌∷◌, ◌++◌, length, Bool, true, false, Option, Some, None, Result, Ok, Err}
+use Rattle.std.proofs.Common.{refl, sym, ◌∙◌, ap, subst, arith, length-append, append_assoc, append-nil}
 use Rattle.std.specs.Prelude.{slice_get, slice_set, slice_index}
 use Rattle.pg_ir.specs.declared.ids.InstrId.{InstrId}
 use Rattle.pg_ir.specs.declared.known.Known.{Known}
@@ -73,7 +74,8 @@ module _ (p : NumberedProgram) (s : State) (t : ℕ) (program : IsProgram p) (h 
     unfolding instr_of
     then_id = rw e refl
 
-    then_taken_on : (input : List ℤ) → next p l ≡ actions.Local → Path Answered (record s { locals = slice_set s.locals t (after p l 0) }, Ok 0) (taken p s t (answered p input s t (next_of p s t)))
+    then_taken_on : (input : List ℤ) → next p l ≡ actions.Local → Path Answered (record s { locals = slice_set s.locals t (after p l 0) }, Ok 0)
+        (taken p s t (answered p input s t (next_of p s t)))
     unfolding answered
     then_taken_on input n = rw (at_next actions.Local n, e) refl
 
@@ -81,13 +83,16 @@ module _ (p : NumberedProgram) (s : State) (t : ℕ) (program : IsProgram p) (h 
     unfolding answered
     then_answered n = rw (at_next actions.Local n) refl
 
-    then_kind : (gated : List InstrId) → next p l ≡ actions.Local → kind_of (local_told p l) ≡ kind_told gated p s t (operands_in p (slice_get s.locals t)) 0 (number_in p (slice_get s.locals t) 0) (next_of p s t)
+    then_kind : (gated : List InstrId) → next p l ≡ actions.Local → kind_of (local_told p l)
+        ≡ kind_told gated p s t (operands_in p (slice_get s.locals t)) 0 (number_in p (slice_get s.locals t) 0) (next_of p s t)
     then_kind gated n = rw (at_next actions.Local n, e, then_id) (local_kind p l)
 
-    then_told : (gated : List InstrId) → next p l ≡ actions.Local → Path Step (record { thread = record { 0 = t }; instr = record { 0 = instr_of s t }; kind = kind_of (local_told p l) }) (step_told gated p s t 0)
+    then_told : (gated : List InstrId) → next p l ≡ actions.Local → Path Step (record { thread = record { 0 = t }; instr = record { 0 = instr_of s t }; kind = kind_of (local_told p l) })
+        (step_told gated p s t 0)
     then_told gated n = ap (λ (k : StepKind). record { thread = record { 0 = t }; instr = record { 0 = instr_of s t }; kind = k }) (then_kind gated n)
 
-    goes_by : (a : Action) → next p l ≡ a → GoesOn p s (record s { locals = slice_set s.locals t (done_if a l (after p l 0) (local_told p l)).0 }) t (done_if a l (after p l 0) (local_told p l)).1
+    goes_by : (a : Action) → next p l ≡ a → GoesOn p s (record s { locals = slice_set s.locals t (done_if a l (after p l 0) (local_told p l)).0 }) t
+        (done_if a l (after p l 0) (local_told p l)).1
     goes_by actions.Local n = record {
       next_is = at_next actions.Local n;
       ready_is = then_ready n;
@@ -115,10 +120,13 @@ module _ (p : NumberedProgram) (s : State) (t : ℕ) (program : IsProgram p) (h 
 
 -- ---- into a recording
 
-pub recorded_asks : (p : NumberedProgram) (s z : State) (t : ℕ) (records : Bool) (q : Recording) (x : Advance) (a : Action) → x ≡ Asks a → GoesOn p s z t x → WentRecorded p s z t records q q (Some a)
+pub recorded_asks : (p : NumberedProgram) (s z : State) (t : ℕ) (records : Bool) (q : Recording) (x : Advance) (a : Action) → x ≡ Asks a → GoesOn p s z t x
+    → WentRecorded p s z t records q q (Some a)
 recorded_asks p s z t records q x a e g = let h : GoesOn p s z t (Asks a) = subst (GoesOn p s z t) e g in (h.0, h.1, refl)
 
-pub recorded_done : (p : NumberedProgram) (s z : State) (t : ℕ) (records : Bool) (q r : Recording) (x : Advance) (d : LocalStep) (id : ℕ) (k : StepKind) → x ≡ Done d → GoesOn p s z t x → id ≡ instr_of s t → k ≡ kind_of d → r ≡ with_steps records q (record { thread = record { 0 = t }; instr = record { 0 = id }; kind = k } ∷ []) → WentRecorded p s z t records q r None
+pub recorded_done : (p : NumberedProgram) (s z : State) (t : ℕ) (records : Bool) (q r : Recording) (x : Advance) (d : LocalStep) (id : ℕ) (k : StepKind) → x ≡ Done d → GoesOn p s z t x
+    → id ≡ instr_of s t → k ≡ kind_of d → r ≡ with_steps records q (record { thread = record { 0 = t }; instr = record { 0 = id }; kind = k } ∷ [])
+    → WentRecorded p s z t records q r None
 recorded_done p s z t records q r x d id k e g i m n =
     let h : GoesOn p s z t (Done d) = subst (GoesOn p s z t) e g in
     (d, h, rw (sym i, sym m) n)

@@ -1,5 +1,6 @@
 -- A walk and a guided run go on by one step, or stop, where their steps go into a recording, or nowhere.
-use Rattle.std.proofs.Common.{◌≡◌, ℕ, ℤ, suc, ◌+◌, ◌-◌, ◌<◌, ◌≤◌, List, [], ◌∷◌, ◌++◌, length, drop, Bool, true, false, Option, Some, None, Result, Ok, Err, refl, sym, ap, ◌∙◌, arith, subst, length-append, append_assoc, append-nil}
+use Rattle.std.proofs.Common.{◌≡◌, ℕ, ℤ, suc, ◌+◌, ◌-◌, ◌<◌, ◌≤◌, List, [], ◌∷◌, ◌++◌, length, drop, Bool, true, false, Option, Some, None, Result, Ok}
+use Rattle.std.proofs.Common.{Err, refl, sym, ap, ◌∙◌, arith, subst, length-append, append_assoc, append-nil}
 use Rattle.std.specs.Prelude.{get_or, slice_set, slice_index, IfNone, IfSome}
 use Rattle.std.proofs.lemmas.List.{drop_more}
 use Rattle.pg_ir.specs.declared.ids.InstrId.{InstrId}
@@ -40,7 +41,8 @@ same_room : (records : Bool) (q : Recording) (a : List Step) → (with_steps rec
 same_room true q a = refl
 same_room false q a = refl
 
-one_fits : (records : Bool) (q : Recording) (x : Step) → (records ≡ true → length q.steps < q.room) → length q.steps ≤ q.room → length (with_steps records q (x ∷ [])).steps ≤ (with_steps records q (x ∷ [])).room
+one_fits : (records : Bool) (q : Recording) (x : Step) → (records ≡ true → length q.steps < q.room) → length q.steps ≤ q.room
+    → length (with_steps records q (x ∷ [])).steps ≤ (with_steps records q (x ∷ [])).room
 one_fits true q x h k = let m = h refl in let n = length-append q.steps (x ∷ []) in omega (arith, m, n)
 one_fits false q x h k = k
 
@@ -51,7 +53,8 @@ steps_told q (Trapped name id) = with_none true q
 -- ---- one step
 
 module _ (gated : List InstrId) (p : NumberedProgram) (input : List ℤ) (u : Turn) (s z : State) (records : Bool) (q r : Recording) where
-  pub owner_did : (b : Bool) (d : Result Bool GuidedEnd) → d ≡ due gated p u s → d ≡ Ok b → z ≡ state_with s (step gated p input s u.thread.0) → r ≡ with_steps records q (told_by (step gated p input s u.thread.0)) → OwnerStepped gated p input u s z records q r (Ok b)
+  pub owner_did : (b : Bool) (d : Result Bool GuidedEnd) → d ≡ due gated p u s → d ≡ Ok b → z ≡ state_with s (step gated p input s u.thread.0)
+      → r ≡ with_steps records q (told_by (step gated p input s u.thread.0)) → OwnerStepped gated p input u s z records q r (Ok b)
   owner_did b d e f i j =
       let w = due_does gated p input u s b (sym e ∙ f) in (
         told_by (step gated p input s u.thread.0),
@@ -65,7 +68,8 @@ module _ (gated : List InstrId) (p : NumberedProgram) (input : List ℤ) (u : Tu
       )
 
   -- no step traps where the tests have found no trap
-  pub never_traps : (b : Bool) (d : Result Bool GuidedEnd) (o : Option (TrapName × InstrId)) (x : TrapName × InstrId) (P : Type 0) → d ≡ due gated p u s → d ≡ Ok b → o ≡ trapped_in (step gated p input s u.thread.0) → o ≡ Some x → P
+  pub never_traps : (b : Bool) (d : Result Bool GuidedEnd) (o : Option (TrapName × InstrId)) (x : TrapName × InstrId) (P : Type 0) → d ≡ due gated p u s → d ≡ Ok b
+      → o ≡ trapped_in (step gated p input s u.thread.0) → o ≡ Some x → P
   never_traps b d o x P e f i j =
       let w = due_does gated p input u s b (sym e ∙ f) in
       let k : None ≡ Some x = sym (i ∙ ap trapped_in w.2) ∙ j in
@@ -101,7 +105,8 @@ module _ (gated : List InstrId) (p : NumberedProgram) (input : List ℤ) (u : Tu
   abbrev pub OnWith : State → Recording → Type 0
   OnWith s r = (ts : List Step) × IsOn gated p input u n i s w ts × (r ≡ with_steps records q ts)
 
-  pub on_more : (s z : State) (r r' : Recording) → i < n → OwnerStepped gated p input u s z records r r' (Ok false) → OnWith s r → (ts : List Step) × IsOn gated p input u n (i + 1) z w ts × (r' ≡ with_steps records q ts)
+  pub on_more : (s z : State) (r r' : Recording) → i < n → OwnerStepped gated p input u s z records r r' (Ok false) → OnWith s r
+      → (ts : List Step) × IsOn gated p input u n (i + 1) z w ts × (r' ≡ with_steps records q ts)
   on_more s z r r' h d o = (
     o.0 ++ d.1.told ∷ [],
     walk_more gated p input u n i s z d.1.told w o.0 h d.1.due_is d.1.step_is o.1,
@@ -126,21 +131,25 @@ module _ (gated : List InstrId) (p : NumberedProgram) (input : List ℤ) (u : Tu
   on_before s r None h b o = tt
   on_before s r (Some x) h b o = (o.0, rw (b.2, b.3) (walk_stop gated p input u n i s b.0 w o.0 h b.1 o.1), o.2)
 
-  more_left : (room : ℕ) (s : State) (r : Recording) (b : Bool) → records ≡ true → i < n → due gated p u s ≡ Ok b → room ≤ length r.steps → OnWith s r → room < length (behind q.steps w).trace
+  more_left : (room : ℕ) (s : State) (r : Recording) (b : Bool) → records ≡ true → i < n → due gated p u s ≡ Ok b → room ≤ length r.steps → OnWith s r
+      → room < length (behind q.steps w).trace
   more_left room s r b t h d few o =
       let l = walk_full gated p input u n i (length o.0) s b w o.0 h d (omega arith) o.1 in
       let k : length r.steps ≡ length q.steps + length o.0 = ap (λ (x : Recording). length x.steps) (o.2 ∙ ap (λ (y : Bool). with_steps y q o.0) t) ∙ length-append q.steps o.0 in
       let m : length (behind q.steps w).trace ≡ length q.steps + length w.trace = length-append q.steps w.trace in
       omega arith
 
-  pub on_full : (s : State) (r : Recording) (o : Option Walked) → records ≡ true → i < n → r.room ≡ q.room → r.room ≤ length r.steps → EndsBefore gated p u s (n - i) o → OnWith s r → IfNone o ((records ≡ true) × (q.room < length (behind q.steps w).trace))
+  pub on_full : (s : State) (r : Recording) (o : Option Walked) → records ≡ true → i < n → r.room ≡ q.room → r.room ≤ length r.steps → EndsBefore gated p u s (n - i) o
+      → OnWith s r → IfNone o ((records ≡ true) × (q.room < length (behind q.steps w).trace))
   on_full s r (Some x) t h m few b o = tt
   on_full s r None t h m few b o = (t, more_left q.room s r b.0 t h b.1 (omega arith) o)
 
-pub stepped_room : (gated : List InstrId) (p : NumberedProgram) (input : List ℤ) (u : Turn) (s z : State) (records : Bool) (r r' : Recording) (b : Bool) → OwnerStepped gated p input u s z records r r' (Ok b) → r'.room ≡ r.room
+pub stepped_room : (gated : List InstrId) (p : NumberedProgram) (input : List ℤ) (u : Turn) (s z : State) (records : Bool) (r r' : Recording) (b : Bool)
+    → OwnerStepped gated p input u s z records r r' (Ok b) → r'.room ≡ r.room
 stepped_room gated p input u s z records r r' b d = ap (λ (x : Recording). x.room) d.2 ∙ same_room records r d.0
 
-pub stepped_fits : (gated : List InstrId) (p : NumberedProgram) (input : List ℤ) (u : Turn) (s z : State) (records : Bool) (r r' : Recording) (b : Bool) → (records ≡ true → length r.steps < r.room) → length r.steps ≤ r.room → OwnerStepped gated p input u s z records r r' (Ok b) → length r'.steps ≤ r'.room
+pub stepped_fits : (gated : List InstrId) (p : NumberedProgram) (input : List ℤ) (u : Turn) (s z : State) (records : Bool) (r r' : Recording) (b : Bool)
+    → (records ≡ true → length r.steps < r.room) → length r.steps ≤ r.room → OwnerStepped gated p input u s z records r r' (Ok b) → length r'.steps ≤ r'.room
 stepped_fits gated p input u s z records r r' b h k d =
     subst (λ (x : Recording). length x.steps ≤ x.room) (sym (d.2 ∙ ap (with_steps records r) d.1.steps_are)) (one_fits records r d.1.told h k)
 
@@ -155,7 +164,8 @@ module _ (gated : List InstrId) (p : NumberedProgram) (input : List ℤ) (us : L
   AlongWith k s left r = (ts : List Step) × IsAlong gated p input us k s left g ts × (r ≡ with_steps records q ts)
 
   module _ (k most : ℕ) (d : Turn) (s t : State) (left : List ℕ) (n : ℕ) (r r' : Recording) (l : k < length us) (m : most ≡ slice_index left (get_or us k d).thread.0) where
-    walked : (e f : Option GuidedEnd) → (h : WalkEnds (walk most gated p input (get_or us k d) s) t n e records r r') → e ≡ f → walk (slice_index left (get_or us k d).thread.0) gated p input (get_or us k d) s ≡ record { trace = h.0; state = t; left = n; end = f }
+    walked : (e f : Option GuidedEnd) → (h : WalkEnds (walk most gated p input (get_or us k d) s) t n e records r r') → e ≡ f
+        → walk (slice_index left (get_or us k d).thread.0) gated p input (get_or us k d) s ≡ record { trace = h.0; state = t; left = n; end = f }
     walked e f h x =
         ap (λ (i : ℕ). walk i gated p input (get_or us k d) s) (sym m)
         ∙ h.1
@@ -164,11 +174,13 @@ module _ (gated : List InstrId) (p : NumberedProgram) (input : List ℤ) (us : L
     joined : (e : Option GuidedEnd) → (h : WalkEnds (walk most gated p input (get_or us k d) s) t n e records r r') → (o : AlongWith k s left r) → r' ≡ with_steps records q (o.0 ++ h.0)
     joined e h o = h.2 ∙ ap (λ (x : Recording). with_steps records x h.0) o.2 ∙ with_with records q o.0 h.0
 
-    pub goes_with : (lefts : List ℕ) (e : Option GuidedEnd) → WalkEnds (walk most gated p input (get_or us k d) s) t n e records r r' → e ≡ None → lefts ≡ slice_set left (get_or us k d).thread.0 n → AlongWith k s left r → AlongWith (k + 1) t lefts r'
+    pub goes_with : (lefts : List ℕ) (e : Option GuidedEnd) → WalkEnds (walk most gated p input (get_or us k d) s) t n e records r r' → e ≡ None
+        → lefts ≡ slice_set left (get_or us k d).thread.0 n → AlongWith k s left r → AlongWith (k + 1) t lefts r'
     goes_with lefts e h x z o =
         (o.0 ++ h.0, rw z (run_more gated p input us k (get_or us k d) s t left n h.0 o.0 g (drop_more us k d l) (walked e None h x) o.1), joined e h o)
 
-    pub stops_with : (done : ℕ) (e : Option GuidedEnd) (end : GuidedEnd) → done ≡ k → WalkEnds (walk most gated p input (get_or us k d) s) t n e records r r' → e ≡ Some end → AlongWith k s left r → RunEnds g t done end records q r'
+    pub stops_with : (done : ℕ) (e : Option GuidedEnd) (end : GuidedEnd) → done ≡ k → WalkEnds (walk most gated p input (get_or us k d) s) t n e records r r' → e ≡ Some end
+        → AlongWith k s left r → RunEnds g t done end records q r'
     stops_with done e end j h x o =
         let f = run_stop gated p input us k (get_or us k d) s t left n end h.0 o.0 g (drop_more us k d l) (walked e (Some end) h x) o.1 in (
           record { state_is = ap (λ (y : GuidedRun). y.state) f; turns_is = ap (λ (y : GuidedRun). y.turns) f ∙ sym j; end_is = ap (λ (y : GuidedRun). y.end) f },
@@ -180,22 +192,27 @@ module _ (gated : List InstrId) (p : NumberedProgram) (input : List ℤ) (us : L
     longer u w (Some e) more h = rw h (omega arith)
 
     -- a walk with too many steps makes the run one with too many
-    pub past_with : (room : ℕ) → records ≡ true → room < length (behind r.steps (walk most gated p input (get_or us k d) s)).trace → AlongWith k s left r → room < length q.steps + length g.trace
+    pub past_with : (room : ℕ) → records ≡ true → room < length (behind r.steps (walk most gated p input (get_or us k d) s)).trace → AlongWith k s left r
+        → room < length q.steps + length g.trace
     past_with room y h o =
         let w = walk most gated p input (get_or us k d) s in
         let e = at_walk gated p input us k (get_or us k d) s left w (drop_more us k d l) (ap (λ (i : ℕ). walk i gated p input (get_or us k d) s) (sym m)) in
-        let a : length g.trace ≡ length o.0 + length (guided gated p input (drop k us) k s left).trace = sym (ap (λ (x : GuidedRun). length x.trace) o.1) ∙ length-append o.0 (guided gated p input (drop k us) k s left).trace in
+        let a : length g.trace ≡ length o.0 + length (guided gated p input (drop k us) k s left).trace =
+        sym (ap (λ (x : GuidedRun). length x.trace) o.1) ∙ length-append o.0 (guided gated p input (drop k us) k s left).trace in
         let b : length (behind r.steps w).trace ≡ length r.steps + length w.trace = length-append r.steps w.trace in
-        let c : length w.trace ≤ length (guided gated p input (drop k us) k s left).trace = subst (λ (x : GuidedRun). length w.trace ≤ length x.trace) (sym e) (longer (get_or us k d).thread.0 w w.end (λ t rest. guided gated p input (drop (k + 1) us) (k + 1) t rest) refl) in
+        let c : length w.trace ≤ length (guided gated p input (drop k us) k s left).trace =
+        subst (λ (x : GuidedRun). length w.trace ≤ length x.trace) (sym e) (longer (get_or us k d).thread.0 w w.end (λ t rest. guided gated p input (drop (k + 1) us) (k + 1) t rest) refl) in
         let f : length r.steps ≡ length q.steps + length o.0 = ap (λ (x : Recording). length x.steps) (o.2 ∙ ap (λ (x : Bool). with_steps x q o.0) y) ∙ length-append q.steps o.0 in
         omega arith
 
-  pub ends_with : (k done : ℕ) (s : State) (left : List ℕ) (r : Recording) (e : GuidedEnd) → length us ≤ k → done ≡ k → e ≡ end_after s → AlongWith k s left r → RunEnds g s done e records q r
+  pub ends_with : (k done : ℕ) (s : State) (left : List ℕ) (r : Recording) (e : GuidedEnd) → length us ≤ k → done ≡ k → e ≡ end_after s → AlongWith k s left r
+      → RunEnds g s done e records q r
   ends_with k done s left r e l j x o =
       let f = run_over gated p input us k s left o.0 g (none_left gated p input us us k l) o.1 in (
         record { state_is = ap (λ (y : GuidedRun). y.state) f; turns_is = ap (λ (y : GuidedRun). y.turns) f ∙ sym j; end_is = ap (λ (y : GuidedRun). y.end) f ∙ sym x },
         o.2 ∙ ap (with_steps records q) (sym (ap (λ (y : GuidedRun). y.trace) f)),
       )
 
-pub starts_with : (gated : List InstrId) (p : NumberedProgram) (input : List ℤ) (us : List Turn) (records : Bool) (q : Recording) (s : State) (left : List ℕ) → s ≡ initial p → left ≡ all_left → AlongWith gated p input us (guided_of p input us gated) records q 0 s left q
+pub starts_with : (gated : List InstrId) (p : NumberedProgram) (input : List ℤ) (us : List Turn) (records : Bool) (q : Recording) (s : State) (left : List ℕ) → s ≡ initial p
+    → left ≡ all_left → AlongWith gated p input us (guided_of p input us gated) records q 0 s left q
 starts_with gated p input us records q s left e h = ([], starts_along gated p input us s left e h, with_none records q)

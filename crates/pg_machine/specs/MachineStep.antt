@@ -1,9 +1,8 @@
 -- One step of the machine: one instruction of one thread.
-use Rattle.std.specs.Prelude.{ℕ, ◌==◌, ◌&&◌, not, ℤ, pos, negsuc, List, [], ◌∷◌, ◌++◌, length, Bool, true, false, Option, Some, None, Result, Ok, Err, slice_get, slice_set, slice_index, if◌then◌else◌}
+use Rattle.std.specs.Prelude.{◌≡◌, ℕ, ◌==◌, ◌&&◌, not, ℤ, List, [], ◌∷◌, ◌++◌, length, Bool, true, false, Option, Some, None, Result, Ok, Err, slice_get}
+use Rattle.std.specs.Prelude.{slice_set, slice_index, if◌then◌else◌}
 use Rattle.std.specs.List.{list_any}
-use Rattle.pg_num.specs.Numbers.{residue}
 use Rattle.pg_num.specs.Places.{ByteRange}
-use Rattle.pg_num.specs.declared.width.Width.TheVariants.{W64}
 use Rattle.pg_ir.specs.declared.ids.InstrId.{InstrId}
 use Rattle.pg_ir.specs.declared.known.Known.{Known}
 use Rattle.pg_ir.specs.declared.known.Known.TheVariants as known
@@ -34,6 +33,7 @@ use Rattle.pg_trace.specs.Kinds.{kind_of, object_of}
 use Rattle.pg_trace.specs.Recording.{happening_of as request_happening}
 use Rattle.pg_machine.specs.State.{State, next_of, instr_of}
 use Rattle.pg_machine.specs.Texts.{printed_by}
+use Rattle.pg_num.specs.Inputs.{input_at}
 
 -- ---- readiness
 
@@ -46,6 +46,10 @@ may_act s t action = true
 -- while the run isn't over, thread t is made, hasn't ended, and its next action is ready
 unfoldable pub ready : NumberedProgram → State → ℕ → Bool
 ready p s t = not (sync.over s.sync) && may_act s t (next_of p s t)
+
+-- an action is the next of a thread that is ready
+abbrev pub MayTake : NumberedProgram → State → ℕ → Action → Type 0
+MayTake p s t action = (action ≡ next_of p s t) × (ready p s t ≡ true)
 
 -- a thread that isn't made or has ended has no action left
 abbrev pub is_ended : Action → Bool
@@ -83,15 +87,6 @@ unfoldable pub turn_of : List InstrId → NumberedProgram → State → ℕ → 
 turn_of gated p s t = turn_with s t (happening_of gated s t (next_of p s t))
 
 -- ---- what an action leaves, and its answer
-
-abbrev pub number_or_zero : Option ℤ → ℕ
-number_or_zero None = 0
-number_or_zero (Some n) = residue W64 n
-
--- the input's number at an index, 0 outside of the input
-abbrev pub input_at : List ℤ → ℤ → ℕ
-input_at input (pos i) = number_or_zero (slice_get input i)
-input_at input (negsuc i) = 0
 
 abbrev pub written_if : Option ByteRange → ℕ → memory.Words → memory.Words
 written_if None n m = m

@@ -49,4 +49,5 @@ GoesOn p s z t (Asks a) = (a ≡ next_of p s t) × (z ≡ s)
 -- the same where the step goes into a recording, or nowhere
 abbrev pub WentRecorded : NumberedProgram → State → State → ℕ → Bool → Recording → Recording → Option Action → Type 0
 WentRecorded p s z t records q r (Some a) = (a ≡ next_of p s t) × (z ≡ s) × (r ≡ q)
-WentRecorded p s z t records q r None = (x : LocalStep) × Went p s z t x × (r ≡ with_steps records q (record { thread = record { 0 = t }; instr = record { 0 = instr_of s t }; kind = kind_of x } ∷ []))
+WentRecorded p s z t records q r None = (x : LocalStep) × Went p s z t x
+    × (r ≡ with_steps records q (record { thread = record { 0 = t }; instr = record { 0 = instr_of s t }; kind = kind_of x } ∷ []))

@@ -1,20 +1,22 @@
+//! What a step did, as a trace keeps it.
+
 ghost use Rattle.std.specs.Prelude.{◌≡◌, ◌≤◌, length, slice_get, false, true, IfOk, OnErr, OnOk};
 ghost use Rattle.pg_sync.specs.Sync.{over};
 ghost use Rattle.pg_machine.specs.State.{next_of};
 ghost use Rattle.pg_machine.specs.Went.{GoesOn};
-ghost use Rattle.pg_machine.specs.MachineStep.{answered, number_in, ready, step, taken};
+ghost use Rattle.pg_machine.specs.MachineStep.{MayTake, answered, number_in, ready, step, taken};
 ghost use Rattle.pg_machine.specs.Answer.{answer_in};
 ghost use Rattle.pg_machine.specs.Machine.{IsMachine};
 ghost use Rattle.pg_machine.specs.Bound.{stepped_as, IfTrapped};
 
-use crate::gated::Gated;
 use crate::machine::Stepped;
+use crate::run::Run;
 use crate::state::MachineState;
 use crate::tell::filled;
 use pg_ir::{Program, ThreadNo, TrapName};
 use pg_step::{Action, Advance};
 use pg_trace::Step;
-use std::alloc::{AllocError, Global};
+use std::alloc::AllocError;
 
 /// The answer to the action of a step, and the number that its instruction's own register got.
 #[derive(Clone, Copy, Debug, PartialEq, Eq)]
@@ -41,27 +43,25 @@ impl MachineState {
     /// and the number that its instruction's own register got, or its trap.
     pub(crate) fn take(
         &mut self,
-        alloc: Global,
-        p: &Program,
-        input: &[i64],
+        run: &Run,
         t: ThreadNo,
         action: &Action,
     ) -> Result<Result<Advanced, TrapName>, AllocError>
-        requires of { IsMachine p.now self.old }
-        requires next { action.now ≡ next_of p.now self.old t.0 }
-        requires ready { ready p.now self.old t.0 ≡ true }
-        ensures state { IfOk result (λ r. (self.new, answer_in r) ≡ taken p.now self.old t.0 (answered p.now input.now self.old t.0 (next_of p.now self.old t.0))) }
-        ensures number { IfOk result (λ r. IfOk r (λ a. a.number ≡ number_in p.now (slice_get self.old.locals t.0) a.answer)) }
-        ensures of { OnOk result (IsMachine p.now self.new) }
+        requires of { IsMachine run.now.program.now self.old }
+        requires take { MayTake run.now.program.now self.old t.0 action.now }
+        ensures state { IfOk result (λ r. (self.new, answer_in r)
+            ≡ taken run.now.program.now self.old t.0 (answered run.now.program.now run.now.input.now self.old t.0 (next_of run.now.program.now self.old t.0))) }
+        ensures number { IfOk result (λ r. IfOk r (λ a. a.number ≡ number_in run.now.program.now (slice_get self.old.locals t.0) a.answer)) }
+        ensures of { OnOk result (IsMachine run.now.program.now self.new) }
         ensures trap { IfOk result (λ r. OnErr r (self.new ≡ self.old)) }
         ensures kept { OnErr result (self.new ≡ self.old) }
         ensures more { OnOk result (length self.old.locals ≤ length self.new.locals) }
     {
-        p.facts();
-        match self.answer(alloc, p, input, t, action)? {
+        run.program.facts();
+        match self.answer(run, t, action)? {
             Err(name) => Ok(Err(name)),
             Ok(answer) => {
-                let number = self.advance(p, t, answer);
+                let number = self.advance(run.program, t, answer);
                 Ok(Ok(Advanced { answer, number }))
             }
         }
@@ -69,26 +69,19 @@ impl MachineState {
 
     /// Takes the next step of a thread that is ready, and tells what it was.
     #[tactic(auto, unfolding(crate::specs::MachineStep::step))]
-    pub(crate) fn step(
-        &mut self,
-        alloc: Global,
-        p: &Program,
-        input: &[i64],
-        gated: &Gated,
-        t: ThreadNo,
-    ) -> Result<Stepped, AllocError>
-        requires of { IsMachine p.now self.old }
-        requires ready { ready p.now self.old t.0 ≡ true }
-        ensures step { IfOk result (λ r. stepped_as r self.new ≡ step gated.now p.now input.now self.old t.0) }
-        ensures of { OnOk result (IsMachine p.now self.new) }
+    pub(crate) fn step(&mut self, run: &Run, t: ThreadNo) -> Result<Stepped, AllocError>
+        requires of { IsMachine run.now.program.now self.old }
+        requires ready { ready run.now.program.now self.old t.0 ≡ true }
+        ensures step { IfOk result (λ r. stepped_as r self.new ≡ step run.now.gated.now run.now.program.now run.now.input.now self.old t.0) }
+        ensures of { OnOk result (IsMachine run.now.program.now self.new) }
         ensures trap { IfOk result (λ r. IfTrapped r (self.new ≡ self.old)) }
         ensures kept { OnErr result (self.new ≡ self.old) }
         ensures more { OnOk result (length self.old.locals ≤ length self.new.locals) }
     {
-        let action = self.next(p, t);
+        let action = self.next(run.program, t);
         let id = self.id(t);
-        let told = self.tell(p, gated, t, &action);
-        match self.take(alloc, p, input, t, &action)? {
+        let told = self.tell(run.program, run.gated, t, &action);
+        match self.take(run, t, &action)? {
             Err(name) => Ok(Stepped::Trapped(name, id)),
             Ok(done) => Ok(Stepped::Did(Step {
                 thread: t,

@@ -1,3 +1,5 @@
+//! The answers to actions.
+
 ghost use Rattle.std.specs.Prelude.{◌≡◌, ◌<◌, ◌≤◌, ◌+◌, ◌*◌, ◌^◌, ◌++◌, ◌∷◌, [], length, slice_get, slice_set, slice_index, IfOk, IfSome, OnErr};
 ghost use Rattle.pg_num.specs.declared.limits.TheConstants.{THREAD_LIMIT};
 ghost use Rattle.pg_ir.specs.declared.request.Request.TheVariants as requests;
@@ -6,8 +8,10 @@ ghost use Rattle.pg_sync.specs.Sync.{applied};
 ghost use Rattle.pg_machine.specs.Completed.{completed, on_completed};
 ghost use Rattle.pg_machine.specs.Fits.{JoinFits};
 ghost use Rattle.pg_machine.specs.Machine.{MayAsk, MayDo};
-ghost use Rattle.pg_machine.specs.MachineStep.{answer_of, answered, input_at, on_applied, written_if};
+ghost use Rattle.pg_machine.specs.MachineStep.{answer_of, answered, on_applied, written_if};
+ghost use Rattle.pg_num.specs.Inputs.{input_at};
 
+use crate::run::Run;
 use crate::state::MachineState;
 use pg_ir::{Program, Request, ThreadNo, TrapName};
 use pg_num::{Place, Width, from_signed, to_signed};
@@ -160,25 +164,23 @@ impl MachineState {
     #[tactic(auto, unfolding(crate::specs::MachineStep::answered))]
     pub(crate) fn answer(
         &mut self,
-        alloc: Global,
-        p: &Program,
-        input: &[i64],
+        run: &Run,
         t: ThreadNo,
         action: &Action,
     ) -> Result<Result<u64, TrapName>, AllocError>
-        requires { MayDo p.now self.old t.0 action.now }
-        ensures answer { IfOk result (λ a. (self.new, a) ≡ answered p.now input.now self.old t.0 action.now) }
+        requires { MayDo run.now.program.now self.old t.0 action.now }
+        ensures answer { IfOk result (λ a. (self.new, a) ≡ answered run.now.program.now run.now.input.now self.old t.0 action.now) }
         ensures kept { OnErr result (self.new ≡ self.old) }
     {
         match action {
-            Action::In(index) => Ok(Ok(number_at(input, *index))),
-            Action::InLen => Ok(Ok(input.len() as u64)),
+            Action::In(index) => Ok(Ok(number_at(run.input, *index))),
+            Action::InLen => Ok(Ok(run.input.len() as u64)),
             Action::Load(at) => Ok(Ok(self.read(*at))),
             Action::Store(at, number) => {
                 self.write(*at, *number);
                 Ok(Ok(0))
             }
-            Action::Event(r) => self.event(alloc, p, t, r),
+            Action::Event(r) => self.event(run.alloc, run.program, t, r),
             Action::Trap(name) => Ok(Err(*name)),
             _ => Ok(Ok(0)),
         }

@@ -1,3 +1,5 @@
+//! The set of loads and stores that are events.
+
 ghost use Rattle.std.specs.Prelude.{◌≡◌, ◌<◌, ℕ, [], length, slice_get, slice_set, true, Some, IfOk};
 ghost use Rattle.pg_machine.specs.MachineStep.{is_gated};
 

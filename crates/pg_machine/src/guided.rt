@@ -1,3 +1,5 @@
+//! Guided runs along a list of turns.
+
 ghost use Rattle.std.specs.Prelude.{◌≡◌, ◌<◌, ◌≤◌, ◌+◌, length, true, IfNone, IfOk, IfSome, OnOk};
 ghost use Rattle.pg_machine.specs.Guided.{guided_of};
 ghost use Rattle.pg_machine.specs.WithSteps.{RunEnds};
@@ -31,7 +33,6 @@ pub(crate) struct Stopped {
 /// The guided run along turns. Its steps go into the trace, if steps are recorded; none where there is no room
 /// there for one of them.
 pub(crate) fn guide_along(
-    alloc: Global,
     run: &Run,
     turns: &[Turn],
     trace: &mut Trace,
@@ -39,16 +40,17 @@ pub(crate) fn guide_along(
 ) -> Result<Option<Stopped>, AllocError>
     requires few { length trace.old.steps ≤ trace.old.room }
     ensures run { IfOk result (λ o. IfSome o (λ r. RunEnds (guided_of run.now.program.now run.now.input.now turns.now run.now.gated.now) r.state r.turns r.end records trace.old trace.new)) }
-    ensures full { IfOk result (λ o. IfNone o ((records ≡ true) × (trace.old.room < length trace.old.steps + length (guided_of run.now.program.now run.now.input.now turns.now run.now.gated.now).trace))) }
+    ensures full { IfOk result (λ o. IfNone o
+        ((records ≡ true) × (trace.old.room < length trace.old.steps + length (guided_of run.now.program.now run.now.input.now turns.now run.now.gated.now).trace))) }
     ensures room { OnOk result (trace.new.room ≡ trace.old.room) }
     ensures fits { OnOk result (length trace.new.steps ≤ trace.new.room) }
 {
-    let mut state = MachineState::new(alloc, run.program)?;
-    let mut left = all_left(alloc)?;
+    let mut state = MachineState::new(run.alloc, run.program)?;
+    let mut left = all_left(run.alloc)?;
     let mut done: u32 = 0;
     for turn in turns {
         let most = left_of(left.as_slice(), turn.thread);
-        let walked = match walk(alloc, run, &mut state, trace, records, turn, most)? {
+        let walked = match walk(run, &mut state, trace, records, turn, most)? {
             Some(walked) => walked,
             None => {
                 return Ok(None);
@@ -84,13 +86,14 @@ pub fn guide(alloc: Global, p: &Program, input: &[i64], s: &Schedule) -> Result<
     ensures turns { IfOk result (λ g. g.turns ≡ (guided_of p.now input.now s.now.turns s.now.gated).turns) }
 {
     let gated = Gated::new(alloc, p, s.gated.as_slice())?;
+    let mut no_steps = Trace::with_room(alloc, 0)?;
     let run = Run {
+        alloc,
         program: p,
         input,
         gated: &gated,
     };
-    let mut no_steps = Trace::with_room(alloc, 0)?;
-    match guide_along(alloc, &run, s.turns.as_slice(), &mut no_steps, false)? {
+    match guide_along(&run, s.turns.as_slice(), &mut no_steps, false)? {
         Some(Stopped { state, turns, end }) => Ok(Guided {
             output: state.into_printed(),
             end,

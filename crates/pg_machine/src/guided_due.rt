@@ -1,3 +1,5 @@
+//! Whether an event is the turn that is due.
+
 ghost use Rattle.std.specs.Prelude.{◌≡◌, true, IfOk};
 ghost use Rattle.pg_machine.specs.Machine.{IsMachine};
 ghost use Rattle.pg_machine.specs.State.{next_of};

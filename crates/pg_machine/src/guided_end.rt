@@ -1,3 +1,5 @@
+//! How a guided run ends.
+
 use pg_ir::{InstrId, ThreadNo, TrapName};
 
 /// How a guided run ends.

@@ -1,3 +1,5 @@
+//! Following a schedule from turn to turn.
+
 ghost use Rattle.std.specs.Prelude.{◌≡◌, List, IfOk, OnOk};
 ghost use Rattle.pg_num.specs.declared.limits.TheConstants.{RECORDING_STEP_LIMIT};
 ghost use Rattle.pg_trace.specs.declared.step.Step.{Step};
@@ -74,12 +76,13 @@ pub fn follow_into(
 {
     let gated = Gated::new(alloc, p, s.gated.as_slice())?;
     let run = Run {
+        alloc,
         program: p,
         input,
         gated: &gated,
     };
     trace.clear();
-    match guide_along(alloc, &run, s.turns.as_slice(), trace, true)? {
+    match guide_along(&run, s.turns.as_slice(), trace, true)? {
         Some(stopped) => Ok(answer(stopped)),
         None => Ok(FollowEnd::Unfinished),
     }

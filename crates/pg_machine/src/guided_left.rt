@@ -1,3 +1,5 @@
+//! How many steps threads have left in a guided run.
+
 ghost use Rattle.std.specs.Prelude.{◌≡◌, slice_index, slice_set, IfOk};
 ghost use Rattle.pg_machine.specs.Guided.{all_left};
 

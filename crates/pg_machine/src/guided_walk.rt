@@ -1,3 +1,5 @@
+//! The walk of a thread to its next turn.
+
 ghost use Rattle.std.specs.Prelude.{◌≡◌, ◌<◌, ◌≤◌, ◌-◌, length, false, true, IfNone, IfOk, IfSome, OnOk};
 ghost use Rattle.pg_machine.specs.Machine.{IsMachine};
 ghost use Rattle.pg_machine.specs.State.{next_of};
@@ -10,7 +12,7 @@ use crate::run::Run;
 use crate::state::MachineState;
 use pg_step::Action;
 use pg_trace::{Trace, Turn};
-use std::alloc::{AllocError, Global};
+use std::alloc::AllocError;
 
 /// How the walk to a turn went: how many steps the turn's owner has left, and the end of the run where
 /// the turn wasn't done.
@@ -36,7 +38,6 @@ fn is_full(trace: &Trace, records: bool) -> bool
 /// Takes the next step of a turn's owner, which is this action, and says whether it is the turn, or gives the
 /// end that comes before it.
 fn asked_step(
-    alloc: Global,
     run: &Run,
     state: &mut MachineState,
     trace: &mut Trace,
@@ -52,7 +53,7 @@ fn asked_step(
 {
     match state.due(run.program, run.gated, turn, action) {
         Err(end) => Ok(Err(end)),
-        Ok(is_due) => match take_step(alloc, run, state, trace, records, turn.thread, action)? {
+        Ok(is_due) => match take_step(run, state, trace, records, turn.thread, action)? {
             Some((name, id)) => Ok(Err(GuidedEnd::Trap(name, id))),
             None => Ok(Ok(is_due)),
         },
@@ -63,7 +64,6 @@ fn asked_step(
 /// it.
 #[inline(always)]
 fn owner_step(
-    alloc: Global,
     run: &Run,
     state: &mut MachineState,
     trace: &mut Trace,
@@ -80,7 +80,7 @@ fn owner_step(
     }
     match record_own(run.program, state, trace, records, turn.thread) {
         None => Ok(Ok(false)),
-        Some(action) => asked_step(alloc, run, state, trace, records, turn, &action),
+        Some(action) => asked_step(run, state, trace, records, turn, &action),
     }
 }
 
@@ -102,7 +102,6 @@ fn end_before(run: &Run, state: &MachineState, turn: &Turn, left: u32) -> Option
 /// The owner of a turn, with so many steps left, steps until it has done an event. Its steps go into the
 /// trace, if steps are recorded; none where there is no room there for the next one.
 pub(crate) fn walk(
-    alloc: Global,
     run: &Run,
     state: &mut MachineState,
     trace: &mut Trace,
@@ -112,8 +111,10 @@ pub(crate) fn walk(
 ) -> Result<Option<Walked>, AllocError>
     requires of { IsMachine run.now.program.now state.old }
     requires few { length trace.old.steps ≤ trace.old.room }
-    ensures walk { IfOk result (λ o. IfSome o (λ w. WalkEnds (walk left run.now.gated.now run.now.program.now run.now.input.now turn.now state.old) state.new w.left w.end records trace.old trace.new)) }
-    ensures full { IfOk result (λ o. IfNone o ((records ≡ true) × (trace.old.room < length (behind trace.old.steps (walk left run.now.gated.now run.now.program.now run.now.input.now turn.now state.old)).trace))) }
+    ensures walk { IfOk result (λ o. IfSome o
+        (λ w. WalkEnds (walk left run.now.gated.now run.now.program.now run.now.input.now turn.now state.old) state.new w.left w.end records trace.old trace.new)) }
+    ensures full { IfOk result (λ o. IfNone o
+        ((records ≡ true) × (trace.old.room < length (behind trace.old.steps (walk left run.now.gated.now run.now.program.now run.now.input.now turn.now state.old)).trace))) }
     ensures less { IfOk result (λ o. IfSome o (λ w. IfNone w.end (w.left < left))) }
     ensures of { OnOk result (IsMachine run.now.program.now state.new) }
     ensures room { OnOk result (trace.new.room ≡ trace.old.room) }
@@ -123,7 +124,7 @@ pub(crate) fn walk(
         if is_full(trace, records) {
             return Ok(end_before(run, state, turn, left - spent));
         }
-        match owner_step(alloc, run, state, trace, records, turn)? {
+        match owner_step(run, state, trace, records, turn)? {
             Err(end) => {
                 return Ok(Some(Walked {
                     left: left - spent,

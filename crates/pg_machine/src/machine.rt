@@ -1,3 +1,5 @@
+//! One step of the machine.
+
 ghost use Rattle.std.specs.Prelude.{◌≡◌, ◌≤◌, length, true, IfOk, OnErr, OnOk};
 ghost use Rattle.std.specs.List.{All};
 ghost use Rattle.pg_step.specs.States.{IsOf};
@@ -9,6 +11,7 @@ ghost use Rattle.pg_machine.specs.Machine.{IsMachine};
 ghost use Rattle.pg_machine.specs.Bound.{next_by, next_step, stepped_as, IfTrapped};
 
 use crate::gated::{Gated, listed};
+use crate::run::Run;
 use crate::state::MachineState;
 use pg_ir::{InstrId, Program, ThreadNo, TrapName};
 use pg_num::Place;
@@ -119,8 +122,13 @@ impl Machine {
         ensures input { self.new.input ≡ self.old.input }
         ensures gated { self.new.gated ≡ self.old.gated }
     {
-        self.state
-            .step(alloc, p, self.input.as_slice(), &self.gated, t)
+        let run = Run {
+            alloc,
+            program: p,
+            input: self.input.as_slice(),
+            gated: &self.gated,
+        };
+        self.state.step(&run, t)
     }
 
     /// What a thread's next step is.

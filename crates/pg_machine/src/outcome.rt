@@ -1,3 +1,5 @@
+//! How a run ends.
+
 use pg_ir::{InstrId, TrapName};
 
 /// How a run ends.

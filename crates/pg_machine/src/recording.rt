@@ -1,9 +1,10 @@
+//! Steps that are recorded as they are done.
+
 ghost use Rattle.std.specs.Prelude.{◌≡◌, ◌<◌, ◌≤◌, ◌+◌, ◌∷◌, [], length, false, true, List, Some, IfNone, IfOk, IfSome, OnOk};
 ghost use Rattle.pg_ir.specs.declared.ids.InstrId.{InstrId};
 ghost use Rattle.pg_sync.specs.Sync.{over};
 ghost use Rattle.pg_machine.specs.Machine.{IsMachine};
-ghost use Rattle.pg_machine.specs.State.{next_of};
-ghost use Rattle.pg_machine.specs.MachineStep.{ready, step};
+ghost use Rattle.pg_machine.specs.MachineStep.{MayTake, ready, step};
 ghost use Rattle.pg_machine.specs.Taken.{state_with, steps_with, trapped_in};
 ghost use Rattle.pg_machine.specs.Went.{WentRecorded};
 ghost use Rattle.pg_machine.specs.WithSteps.{told_by, with_steps};
@@ -14,7 +15,7 @@ use crate::tell::{filled, told_as};
 use pg_ir::{InstrId, Program, ThreadNo, TrapName};
 use pg_step::{Action, Advance};
 use pg_trace::{Step, Trace};
-use std::alloc::{AllocError, Global};
+use std::alloc::AllocError;
 
 /// Adds a step to a trace, if steps are recorded.
 #[inline(always)]
@@ -64,7 +65,6 @@ pub(crate) fn record_own(
 /// Takes the next step of a thread that is ready, which is this action, and records it, or gives its
 /// trap and the instruction.
 pub(crate) fn record_step(
-    alloc: Global,
     run: &Run,
     state: &mut MachineState,
     trace: &mut Trace,
@@ -72,8 +72,7 @@ pub(crate) fn record_step(
     action: &Action,
 ) -> Result<Option<(TrapName, InstrId)>, AllocError>
     requires of { IsMachine run.now.program.now state.old }
-    requires next { action.now ≡ next_of run.now.program.now state.old t.0 }
-    requires ready { ready run.now.program.now state.old t.0 ≡ true }
+    requires take { MayTake run.now.program.now state.old t.0 action.now }
     requires room { length trace.old.steps < trace.old.room }
     ensures trap { IfOk result (λ o. o ≡ trapped_in (step run.now.gated.now run.now.program.now run.now.input.now state.old t.0)) }
     ensures trace { OnOk result (trace.new ≡ record trace.old { steps = steps_with trace.old.steps (step run.now.gated.now run.now.program.now run.now.input.now state.old t.0) }) }
@@ -84,7 +83,7 @@ pub(crate) fn record_step(
 {
     let id = state.id(t);
     let told = state.tell(run.program, run.gated, t, action);
-    match state.take(alloc, run.program, run.input, t, action)? {
+    match state.take(run, t, action)? {
         Err(name) => Ok(Some((name, id))),
         Ok(done) => {
             trace.push(Step {
@@ -100,21 +99,19 @@ pub(crate) fn record_step(
 /// Takes the next step of a thread that is ready, which is this action, or gives its trap and the instruction.
 /// Which accesses are events makes no difference to either.
 fn step_on(
-    alloc: Global,
     run: &Run,
     state: &mut MachineState,
     t: ThreadNo,
     action: &Action,
 ) -> Result<Option<(TrapName, InstrId)>, AllocError>
     requires of { IsMachine run.now.program.now state.old }
-    requires next { action.now ≡ next_of run.now.program.now state.old t.0 }
-    requires ready { ready run.now.program.now state.old t.0 ≡ true }
+    requires take { MayTake run.now.program.now state.old t.0 action.now }
     ensures trap { IfOk result (λ o. (gated : List InstrId) → o ≡ trapped_in (step gated run.now.program.now run.now.input.now state.old t.0)) }
     ensures state { OnOk result ((gated : List InstrId) → state.new ≡ state_with state.old (step gated run.now.program.now run.now.input.now state.old t.0)) }
     ensures of { OnOk result (IsMachine run.now.program.now state.new) }
 {
     let id = state.id(t);
-    match state.take(alloc, run.program, run.input, t, action)? {
+    match state.take(run, t, action)? {
         Err(name) => Ok(Some((name, id))),
         Ok(_) => Ok(None),
     }
@@ -122,7 +119,6 @@ fn step_on(
 
 /// As `record_step`, where the step is told only if steps are recorded.
 pub(crate) fn take_step(
-    alloc: Global,
     run: &Run,
     state: &mut MachineState,
     trace: &mut Trace,
@@ -131,8 +127,7 @@ pub(crate) fn take_step(
     action: &Action,
 ) -> Result<Option<(TrapName, InstrId)>, AllocError>
     requires of { IsMachine run.now.program.now state.old }
-    requires next { action.now ≡ next_of run.now.program.now state.old t.0 }
-    requires ready { ready run.now.program.now state.old t.0 ≡ true }
+    requires take { MayTake run.now.program.now state.old t.0 action.now }
     requires room { records ≡ true → length trace.old.steps < trace.old.room }
     ensures trap { IfOk result (λ o. o ≡ trapped_in (step run.now.gated.now run.now.program.now run.now.input.now state.old t.0)) }
     ensures trace { OnOk result (trace.new ≡ with_steps records trace.old (told_by (step run.now.gated.now run.now.program.now run.now.input.now state.old t.0))) }
@@ -140,8 +135,8 @@ pub(crate) fn take_step(
     ensures of { OnOk result (IsMachine run.now.program.now state.new) }
 {
     if records {
-        record_step(alloc, run, state, trace, t, action)
+        record_step(run, state, trace, t, action)
     } else {
-        step_on(alloc, run, state, t, action)
+        step_on(run, state, t, action)
     }
 }

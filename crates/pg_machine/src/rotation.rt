@@ -1,12 +1,15 @@
+//! Rotation runs: threads take shares of steps in number order.
+
 ghost use Rattle.std.specs.Prelude.{◌≡◌, ◌<◌, ◌≤◌, ◌+◌, [], ℕ, suc, length, not, true, IfOk, IfSome, OnOk};
 ghost use Rattle.pg_num.specs.declared.limits.TheConstants.{RECORDING_STEP_LIMIT, THREAD_LIMIT, QUANTUM_LIMIT};
 ghost use Rattle.pg_trace.specs.Recording.{empty_with};
 ghost use Rattle.pg_machine.specs.State.{State, initial, next_of};
-ghost use Rattle.pg_machine.specs.MachineStep.{ready, step};
+ghost use Rattle.pg_machine.specs.MachineStep.{MayTake, ready, step};
 ghost use Rattle.pg_machine.specs.Machine.{IsMachine};
 ghost use Rattle.pg_machine.specs.Runs.{IsRun};
 ghost use Rattle.pg_machine.specs.Taken.{on_turn};
-ghost use Rattle.pg_machine.specs.Rotation.{around, chosen, deadlock_of, exit_of, first_share, first_true, hasnt_ended, lowest, next_share, on_step, onto, rotation_of, run as run_from, stop, RunResult};
+ghost use Rattle.pg_machine.specs.Rotation.{around, chosen, deadlock_of, exit_of, first_share, first_true, hasnt_ended, lowest, next_share, on_step, onto, rotation_of, run as run_from};
+ghost use Rattle.pg_machine.specs.Rotation.{stop, RunResult};
 
 use crate::gated::Gated;
 use crate::outcome::Outcome;
@@ -155,7 +158,6 @@ fn at_limit(state: &MachineState, p: &Program, input: &[i64], q: u32, u: Share) 
 /// Takes a step of a thread that is ready, which is this action, and gives what is left of its share,
 /// or the end where it traps.
 fn step_of(
-    alloc: Global,
     run: &Run,
     state: &mut MachineState,
     trace: &mut Trace,
@@ -163,17 +165,17 @@ fn step_of(
     action: &Action,
 ) -> Result<Result<Share, Outcome>, AllocError>
     requires of { IsMachine run.now.program.now state.old }
-    requires next { action.now ≡ next_of run.now.program.now state.old u.thread.0 }
-    requires ready { ready run.now.program.now state.old u.thread.0 ≡ true }
+    requires take { MayTake run.now.program.now state.old u.thread.0 action.now }
     requires left { 0 < u.left }
     requires gated { run.now.gated.now ≡ [] }
     requires room { length trace.old.steps < trace.old.room }
-    ensures turn { IfOk result (λ r. (more : State → Share → RunResult) → onto trace.old.steps (on_step state.old u (step [] run.now.program.now run.now.input.now state.old u.thread.0) more) ≡ on_turn r trace.new.steps state.new more) }
+    ensures turn { IfOk result (λ r. (more : State → Share → RunResult)
+        → onto trace.old.steps (on_step state.old u (step [] run.now.program.now run.now.input.now state.old u.thread.0) more) ≡ on_turn r trace.new.steps state.new more) }
     ensures of { OnOk result (IsMachine run.now.program.now state.new) }
     ensures room { OnOk result (trace.new.room ≡ trace.old.room) }
     ensures more { OnOk result (length trace.new.steps ≤ length trace.old.steps + 1) }
 {
-    match record_step(alloc, run, state, trace, u.thread, action)? {
+    match record_step(run, state, trace, u.thread, action)? {
         Some((name, id)) => Ok(Err(Outcome::Trap(name, id))),
         None => Ok(Ok(Share {
             thread: u.thread,
@@ -184,7 +186,6 @@ fn step_of(
 
 /// As `turn`, by what the next step of the thread is whose share it is.
 fn asked_turn(
-    alloc: Global,
     run: &Run,
     q: u32,
     state: &mut MachineState,
@@ -197,19 +198,20 @@ fn asked_turn(
     requires some { 0 < q }
     requires gated { run.now.gated.now ≡ [] }
     requires room { length trace.old.steps < trace.old.room }
-    ensures turn { IfOk result (λ r. (n : ℕ) → onto trace.old.steps (run_from (suc n) run.now.program.now run.now.input.now q state.old u) ≡ on_turn r trace.new.steps state.new (run_from n run.now.program.now run.now.input.now q)) }
+    ensures turn { IfOk result (λ r. (n : ℕ)
+        → onto trace.old.steps (run_from (suc n) run.now.program.now run.now.input.now q state.old u) ≡ on_turn r trace.new.steps state.new (run_from n run.now.program.now run.now.input.now q)) }
     ensures of { OnOk result (IsMachine run.now.program.now state.new) }
     ensures room { OnOk result (trace.new.room ≡ trace.old.room) }
     ensures more { OnOk result (length trace.new.steps ≤ length trace.old.steps + 1) }
 {
     if state.can_take(run.program, u.thread, action) && 0 < u.left {
-        return step_of(alloc, run, state, trace, u, action);
+        return step_of(run, state, trace, u, action);
     }
     match choose(state, run.program, q, u) {
         Err(end) => Ok(Err(end)),
         Ok(v) => {
             let action = state.next(run.program, v.thread);
-            step_of(alloc, run, state, trace, v, &action)
+            step_of(run, state, trace, v, &action)
         }
     }
 }
@@ -218,7 +220,6 @@ fn asked_turn(
 /// in its place. While a thread goes on, nothing is asked of the others.
 #[inline(always)]
 fn turn(
-    alloc: Global,
     run: &Run,
     q: u32,
     state: &mut MachineState,
@@ -229,14 +230,15 @@ fn turn(
     requires some { 0 < q }
     requires gated { run.now.gated.now ≡ [] }
     requires room { length trace.old.steps < trace.old.room }
-    ensures turn { IfOk result (λ r. (n : ℕ) → onto trace.old.steps (run_from (suc n) run.now.program.now run.now.input.now q state.old u) ≡ on_turn r trace.new.steps state.new (run_from n run.now.program.now run.now.input.now q)) }
+    ensures turn { IfOk result (λ r. (n : ℕ)
+        → onto trace.old.steps (run_from (suc n) run.now.program.now run.now.input.now q state.old u) ≡ on_turn r trace.new.steps state.new (run_from n run.now.program.now run.now.input.now q)) }
     ensures of { OnOk result (IsMachine run.now.program.now state.new) }
     ensures room { OnOk result (trace.new.room ≡ trace.old.room) }
     ensures more { OnOk result (length trace.new.steps ≤ length trace.old.steps + 1) }
 {
     if u.left == 0 || state.is_over() {
         let action = state.next(run.program, u.thread);
-        return asked_turn(alloc, run, q, state, trace, u, &action);
+        return asked_turn(run, q, state, trace, u, &action);
     }
     match record_own(run.program, state, trace, true, u.thread) {
         None => {
@@ -246,7 +248,7 @@ fn turn(
                 left,
             }))
         }
-        Some(action) => asked_turn(alloc, run, q, state, trace, u, &action),
+        Some(action) => asked_turn(run, q, state, trace, u, &action),
     }
 }
 
@@ -267,6 +269,7 @@ fn rotate_within(
     let mut state = MachineState::new(alloc, p)?;
     let gated = Gated::none(alloc);
     let run = Run {
+        alloc,
         program: p,
         input,
         gated: &gated,
@@ -276,7 +279,7 @@ fn rotate_within(
         left: q,
     };
     for _ in 0..limit {
-        match turn(alloc, &run, q, &mut state, trace, share)? {
+        match turn(&run, q, &mut state, trace, share)? {
             Ok(left) => share = left,
             Err(end) => {
                 return Ok(Rotated { state, end });

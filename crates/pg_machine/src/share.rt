@@ -1,3 +1,5 @@
+//! A thread's share of the steps of a rotation run.
+
 use pg_ir::ThreadNo;
 
 /// Whose steps are taken in a rotation run, and how many more it has before the next thread's.

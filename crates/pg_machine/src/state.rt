@@ -1,4 +1,7 @@
-ghost use Rattle.std.specs.Prelude.{◌≡◌, ◌<◌, ◌≤◌, ◌+◌, ◌*◌, ◌^◌, ◌++◌, ◌∷◌, [], length, slice_get, slice_set, slice_index, true, vec_capacity, IfOk, OnErr, OnOk};
+//! The state of a run.
+
+ghost use Rattle.std.specs.Prelude.{◌≡◌, ◌<◌, ◌≤◌, ◌+◌, ◌*◌, ◌^◌, ◌++◌, ◌∷◌, [], length, slice_get, slice_set, slice_index, true, vec_capacity, IfOk};
+ghost use Rattle.std.specs.Prelude.{OnErr, OnOk};
 ghost use Rattle.std.specs.List.{All};
 ghost use Rattle.pg_num.specs.declared.limits.TheConstants.{THREAD_LIMIT};
 ghost use Rattle.pg_mem.specs.Memory.{read, written};

@@ -207,7 +207,7 @@ fn guided(alloc: Global, row: &Row) -> Result<Guided, Fail>
     Ok(guide(alloc, &p, row.input, &s)?)
 }
 
-fn expect_run(rt: &impl Abort, alloc: Global, row: &Row) -> Result<(), Fail> {
+fn expect_guided_run(rt: &impl Abort, alloc: Global, row: &Row) -> Result<(), Fail> {
     assert!(rt; row.quantum > 0 && row.quantum <= QUANTUM_LIMIT);
     let run = guided(alloc, row)?;
     assert_eq!(rt; run.output.as_slice(), row.output, "with {}", row.shows);
@@ -217,9 +217,9 @@ fn expect_run(rt: &impl Abort, alloc: Global, row: &Row) -> Result<(), Fail> {
 }
 
 #[test]
-fn runs_of_the_rows(rt: HostRuntime) -> Result<(), Fail> {
+fn guided_runs_of_the_rows(rt: HostRuntime) -> Result<(), Fail> {
     for row in &ROWS {
-        expect_run(&rt, rt.alloc(), row)?;
+        expect_guided_run(&rt, rt.alloc(), row)?;
     }
     Ok(())
 }

@@ -51,26 +51,6 @@ pub(crate) fn along(alloc: Global, turns: Vec<Turn>, gated: Vec<InstrId>) -> Sch
     }
 }
 
-/// The first turns of a rotation run, and one more behind them.
-fn first_turns(
-    alloc: Global,
-    p: &Program,
-    input: &[i64],
-    quantum: u32,
-    kept: usize,
-    then: Option<Turn>,
-) -> Result<Vec<Turn>, AllocError>
-    requires some { 0 < quantum }
-    requires few { quantum ≤ QUANTUM_LIMIT }
-{
-    let run = rotate(alloc, p, input, quantum)?;
-    let mut turns = turns_of(alloc, &run.trace, kept)?;
-    if let Some(last) = then {
-        turns.push(last)?;
-    }
-    Ok(turns)
-}
-
 /// The schedule of the first turns of a rotation run, and one more behind them, without gated accesses.
 pub(crate) fn recorded(
     alloc: Global,
@@ -83,6 +63,10 @@ pub(crate) fn recorded(
     requires some { 0 < quantum }
     requires few { quantum ≤ QUANTUM_LIMIT }
 {
-    let turns = first_turns(alloc, p, input, quantum, kept, then)?;
+    let run = rotate(alloc, p, input, quantum)?;
+    let mut turns = turns_of(alloc, &run.trace, kept)?;
+    if let Some(last) = then {
+        turns.push(last)?;
+    }
     Ok(along(alloc, turns, Vec::new(alloc)))
 }

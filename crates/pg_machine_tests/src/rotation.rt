@@ -225,7 +225,7 @@ fn rotated(alloc: Global, sample: Sample, input: &[i64], quantum: u32) -> Result
     Ok(rotate(alloc, &p, input, quantum)?)
 }
 
-fn expect_run(rt: &impl Abort, alloc: Global, row: &Row) -> Result<(), Fail> {
+fn expect_rotation(rt: &impl Abort, alloc: Global, row: &Row) -> Result<(), Fail> {
     assert!(rt; row.quantum > 0 && row.quantum <= QUANTUM_LIMIT);
     let run = rotated(alloc, row.sample, row.input, row.quantum)?;
     assert_eq!(rt; run.output.as_slice(), row.output, "of {:?}", row.sample);
@@ -235,9 +235,9 @@ fn expect_run(rt: &impl Abort, alloc: Global, row: &Row) -> Result<(), Fail> {
 }
 
 #[test]
-fn runs_of_the_rows(rt: HostRuntime) -> Result<(), Fail> {
+fn rotations_of_the_rows(rt: HostRuntime) -> Result<(), Fail> {
     for row in &ROWS {
-        expect_run(&rt, rt.alloc(), row)?;
+        expect_rotation(&rt, rt.alloc(), row)?;
     }
     Ok(())
 }

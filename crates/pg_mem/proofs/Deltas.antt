@@ -6,7 +6,8 @@ use Rattle.pg_mem.specs.Words.{part_of, with_part}
 use Rattle.pg_mem.proofs.Parts.{part_moved, with_part_small, byte_inside, byte_below, byte_above}
 use Rattle.pg_mem.proofs.Places.{inside, outside}
 
-pub add_is : (w first n from to : ℕ) → w < 2 ^ 64 → first + n ≤ 8 → to < 2 ^ (8 * n) → part_of w first n ≡ from → from ≤ to → (w + (to - from) * 2 ^ (8 * first) % 2 ^ 64) % 2 ^ 64 ≡ with_part w first n to
+pub add_is : (w first n from to : ℕ) → w < 2 ^ 64 → first + n ≤ 8 → to < 2 ^ (8 * n) → part_of w first n ≡ from → from ≤ to
+    → (w + (to - from) * 2 ^ (8 * first) % 2 ^ 64) % 2 ^ 64 ≡ with_part w first n to
 add_is w first n from to small fit t e l =
     let m : with_part w first n to + from * 2 ^ (8 * first) ≡ w + to * 2 ^ (8 * first) = rw e at (part_moved w first n to) in
     let s : from + (to - from) ≡ to = omega arith in

@@ -1,5 +1,6 @@
 -- Memory before the first step.
-use Rattle.std.proofs.Common.{◌≡◌, ℕ, suc, ◌+◌, ◌-◌, ◌*◌, ◌/◌, ◌%◌, ◌^◌, ◌<◌, ◌≤◌, ◌&&◌, nat_le, nat_lt, if◌then◌else◌, List, ◌∷◌, length, get_or, drop, replicate, Some, sym, ap, ◌∙◌, arith, inl, inr, ◌⊎◌, add-one, drop-cons, slice_get, slice_index}
+use Rattle.std.proofs.Common.{◌≡◌, ℕ, suc, ◌+◌, ◌-◌, ◌*◌, ◌/◌, ◌%◌, ◌^◌, ◌<◌, ◌≤◌, ◌&&◌, nat_le, nat_lt, if◌then◌else◌, List, ◌∷◌}
+use Rattle.std.proofs.Common.{length, get_or, drop, replicate, Some, sym, ap, ◌∙◌, arith, inl, inr, ◌⊎◌, add-one, drop-cons, slice_get, slice_index}
 use Rattle.std.proofs.Math.Nat.{mod-eq_of_lt}
 use Rattle.std.proofs.lemmas.Bool.{cases_lt, cases_eq}
 use Rattle.std.proofs.lemmas.Bool.Decides.{nat_tests}
@@ -39,7 +40,8 @@ first_byte : (v : ℕ) → v < 2 ^ 8 → byte_of v 0 ≡ v
 first_byte v h = let e : v / 2 ^ (8 * 0) ≡ v = omega arith in rw e (mod-eq_of_lt h)
 
 -- one byte more
-pub laid_more : (start : ℕ) (bytes : List ℕ) (n v : ℕ) (f g : ℕ → ℕ) (at : ℕ) → v ≡ get_or bytes n 0 → v < 2 ^ 8 → g at ≡ laid start bytes n f at → with_bytes g (record { start = start + n; bytes = 1 }) v at ≡ laid start bytes (n + 1) f at
+pub laid_more : (start : ℕ) (bytes : List ℕ) (n v : ℕ) (f g : ℕ → ℕ) (at : ℕ) → v ≡ get_or bytes n 0 → v < 2 ^ 8 → g at ≡ laid start bytes n f at
+    → with_bytes g (record { start = start + n; bytes = 1 }) v at ≡ laid start bytes (n + 1) f at
 laid_more start bytes n v f g at e small h = go (cases_eq at (start + n)) (cases_lt at (start + n)) (cases_lt at start)
   where
     here : at ≡ start + n → with_bytes g (record { start = start + n; bytes = 1 }) v at ≡ v
@@ -50,7 +52,8 @@ laid_more start bytes n v f g at e small h = go (cases_eq at (start + n)) (cases
     elsewhere : (at < start + n) ⊎ (start + n + 1 ≤ at) → with_bytes g (record { start = start + n; bytes = 1 }) v at ≡ laid start bytes n f at
     elsewhere q = outside g (record { start = start + n; bytes = 1 }) v at q ∙ h
 
-    go : (at ≡ start + n) ⊎ (at ≡ start + n → ⊥) → (at < start + n) ⊎ (start + n ≤ at) → (at < start) ⊎ (start ≤ at) → with_bytes g (record { start = start + n; bytes = 1 }) v at ≡ laid start bytes (n + 1) f at
+    go : (at ≡ start + n) ⊎ (at ≡ start + n → ⊥) → (at < start + n) ⊎ (start + n ≤ at) → (at < start) ⊎ (start ≤ at)
+        → with_bytes g (record { start = start + n; bytes = 1 }) v at ≡ laid start bytes (n + 1) f at
     go (inl q) _ _ =
         let z : at - start ≡ n = omega arith in
         here q ∙ e ∙ sym (laid_in start bytes (n + 1) f at (omega arith) (omega arith) ∙ ap (slice_index bytes) z)
@@ -71,7 +74,8 @@ laid_none start bytes f at = sym (laid_out start bytes 0 f at (apart (cases_lt a
     apart (inr a) = inr (omega arith)
 
 -- one global more, before the others
-pub initial_more : (gs : List GlobalInfo) (k : ℕ) (g : GlobalInfo) (at : ℕ) → slice_get gs k ≡ Some g → initial_byte (drop k gs) at ≡ with_bytes_at (g.start * 8) g.bytes (initial_byte (drop (k + 1) gs)) at
+pub initial_more : (gs : List GlobalInfo) (k : ℕ) (g : GlobalInfo) (at : ℕ) → slice_get gs k ≡ Some g
+    → initial_byte (drop k gs) at ≡ with_bytes_at (g.start * 8) g.bytes (initial_byte (drop (k + 1) gs)) at
 initial_more gs k g at e =
     let h : k < length gs = slice_get_within gs k g e in
     let f : get_or gs k g ≡ g = get_or_from_slice_get gs k g g e in

@@ -85,9 +85,11 @@ with_part_small w first n v h k fit =
     let r : (64 - 8 * (n + first)) + 8 * (n + first) ≡ 64 = omega arith in
     let a : w / 2 ^ (8 * (n + first)) < 2 ^ (64 - 8 * (n + first)) = shr_below w (64 - 8 * (n + first)) (8 * (n + first)) (rw r h) in
     let b : w / 2 ^ (8 * (n + first)) * 2 ^ (8 * n) + v < 2 ^ (8 * n) * 2 ^ (64 - 8 * (n + first)) = mul-add-lt (w / 2 ^ (8 * (n + first))) (2 ^ (8 * n)) v (2 ^ (64 - 8 * (n + first))) a k in
-    let d : with_part w first n v < 2 ^ (8 * first) * (2 ^ (8 * n) * 2 ^ (64 - 8 * (n + first))) = mul-add-lt _ (2 ^ (8 * first)) (w % 2 ^ (8 * first)) _ b (mod_below w (2 ^ (8 * first)) (pow_pos (8 * first))) in
+    let d : with_part w first n v < 2 ^ (8 * first) * (2 ^ (8 * n) * 2 ^ (64 - 8 * (n + first))) =
+    mul-add-lt _ (2 ^ (8 * first)) (w % 2 ^ (8 * first)) _ b (mod_below w (2 ^ (8 * first)) (pow_pos (8 * first))) in
     let e : 8 * first + (8 * n + (64 - 8 * (n + first))) ≡ 64 = omega arith in
-    let f : 2 ^ (8 * first) * (2 ^ (8 * n) * 2 ^ (64 - 8 * (n + first))) ≡ 2 ^ 64 = ap (λ x. 2 ^ (8 * first) * x) (sym (pow-add 2 (8 * n) (64 - 8 * (n + first)))) ∙ sym (pow-add 2 (8 * first) (8 * n + (64 - 8 * (n + first)))) ∙ ap (λ x. 2 ^ x) e in
+    let f : 2 ^ (8 * first) * (2 ^ (8 * n) * 2 ^ (64 - 8 * (n + first))) ≡ 2 ^ 64 =
+    ap (λ x. 2 ^ (8 * first) * x) (sym (pow-add 2 (8 * n) (64 - 8 * (n + first)))) ∙ sym (pow-add 2 (8 * first) (8 * n + (64 - 8 * (n + first)))) ∙ ap (λ x. 2 ^ x) e in
     rw f at d
 
 pub part_shifted : (w first n : ℕ) → part_of w first n * 2 ^ (8 * first) ≤ w
@@ -102,7 +104,8 @@ part_shifted w first n =
     le_same x = omega arith
 
 -- how the code puts a number: it takes off what was there
-pub replace_is : (w first n v old : ℕ) → w < 2 ^ 64 → v < 2 ^ (8 * n) → first + n ≤ 8 → old ≡ part_of w first n → w - old * 2 ^ (8 * first) % 2 ^ 64 + v * 2 ^ (8 * first) % 2 ^ 64 ≡ with_part w first n v
+pub replace_is : (w first n v old : ℕ) → w < 2 ^ 64 → v < 2 ^ (8 * n) → first + n ≤ 8 → old ≡ part_of w first n
+    → w - old * 2 ^ (8 * first) % 2 ^ 64 + v * 2 ^ (8 * first) % 2 ^ 64 ≡ with_part w first n v
 replace_is w first n v old h k fit e =
     let s : part_of w first n * 2 ^ (8 * first) ≤ w = part_shifted w first n in
     let s' : old * 2 ^ (8 * first) ≤ w = rw e s in

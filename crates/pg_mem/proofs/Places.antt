@@ -1,5 +1,6 @@
 -- Memory as words and as a map of bytes: what a read gives, and what a write changes.
-use Rattle.std.proofs.Common.{◌≡◌, ℕ, zero, suc, ◌+◌, ◌-◌, ◌*◌, ◌/◌, ◌%◌, ◌^◌, ◌<◌, ◌≤◌, [], ◌∷◌, length, refl, sym, ap, ◌∙◌, arith, add-zero, zero-add, inl, inr, ◌⊎◌, ◌≢◌, slice_index, slice_set, subst}
+use Rattle.std.proofs.Common.{◌≡◌, ℕ, zero, suc, ◌+◌, ◌-◌, ◌*◌, ◌/◌, ◌%◌, ◌^◌, ◌<◌, ◌≤◌, [], ◌∷◌, length, refl, sym, ap, ◌∙◌, arith}
+use Rattle.std.proofs.Common.{add-zero, zero-add, inl, inr, ◌⊎◌, ◌≢◌, slice_index, slice_set, subst}
 use Rattle.std.proofs.lemmas.Bool.{cases_lt, cases_eq}
 use Rattle.std.proofs.lemmas.Bool.Decides.{nat_tests}
 use Rattle.std.proofs.lemmas.List.{get_or-set_same, get_or-set_other, length-set}
@@ -83,7 +84,8 @@ outside f r v at h = grind (arith, nat_tests)
 pub inside : (f : ℕ → ℕ) (r : ByteRange) (v at : ℕ) → r.start ≤ at → at < r.start + r.bytes → with_bytes f r v at ≡ byte_of v (at - r.start)
 inside f r v at h k = grind (arith, nat_tests)
 
-in_word : (m : Words) (g first n v k : ℕ) → g < length m → first + n ≤ 8 → v < 2 ^ (8 * n) → k < 8 → byte_at (put_in m g first n v) (g * 8 + k) ≡ with_bytes (byte_at m) (range (g * 8 + first) n) v (g * 8 + k)
+in_word : (m : Words) (g first n v k : ℕ) → g < length m → first + n ≤ 8 → v < 2 ^ (8 * n) → k < 8
+    → byte_at (put_in m g first n v) (g * 8 + k) ≡ with_bytes (byte_at m) (range (g * 8 + first) n) v (g * 8 + k)
 in_word m g first n v k h l small k8 = go (cases_lt k first) (cases_lt k (first + n))
   where
     go : (k < first) ⊎ (first ≤ k) → (k < first + n) ⊎ (first + n ≤ k) → byte_at (put_in m g first n v) (g * 8 + k) ≡ with_bytes (byte_at m) (range (g * 8 + first) n) v (g * 8 + k)
@@ -139,7 +141,8 @@ put_memory m g first n v h l fit small = record {
     each k (inr e) = rw (get_or-set_other m g k w 0 (λ q. e (sym q))) (h.small k)
 
 -- the same, of a range of one granule
-pub written_is_put : (m : Words) (r : ByteRange) (v : ℕ) → IsMemory m → r.start / 8 < GRANULE_COUNT → r.start % 8 + r.bytes ≤ 8 → v < 2 ^ (8 * r.bytes) → written m r v ≡ slice_set m (r.start / 8) (with_part (slice_index m (r.start / 8)) (r.start % 8) r.bytes v)
+pub written_is_put : (m : Words) (r : ByteRange) (v : ℕ) → IsMemory m → r.start / 8 < GRANULE_COUNT → r.start % 8 + r.bytes ≤ 8 → v < 2 ^ (8 * r.bytes)
+    → written m r v ≡ slice_set m (r.start / 8) (with_part (slice_index m (r.start / 8)) (r.start % 8) r.bytes v)
 unfolding written put_in
 written_is_put m r v h g l small =
     memory_of_is (with_bytes (byte_at m) r v) (put_in m (r.start / 8) (r.start % 8) r.bytes v)
@@ -157,7 +160,8 @@ unfolding put_in
 written_memory m r v h g l small = rw (written_is_put m r v h g l small) (put_memory m (r.start / 8) (r.start % 8) r.bytes v h (rw h.granules g) l small)
 
 -- a write changes just the bytes of its range
-pub byte_at-written : (m : Words) (r : ByteRange) (v at : ℕ) → IsMemory m → r.start / 8 < GRANULE_COUNT → r.start % 8 + r.bytes ≤ 8 → v < 2 ^ (8 * r.bytes) → byte_at (written m r v) at ≡ with_bytes (byte_at m) r v at
+pub byte_at-written : (m : Words) (r : ByteRange) (v at : ℕ) → IsMemory m → r.start / 8 < GRANULE_COUNT → r.start % 8 + r.bytes ≤ 8 → v < 2 ^ (8 * r.bytes)
+    → byte_at (written m r v) at ≡ with_bytes (byte_at m) r v at
 unfolding put_in
 byte_at-written m r v at h g l small =
     rw (written_is_put m r v h g l small)

@@ -1,5 +1,6 @@
 -- Reads and writes of memory as a map of bytes.
-use Rattle.std.proofs.Common.{◌≡◌, ℕ, zero, suc, ◌+◌, ◌-◌, ◌*◌, ◌/◌, ◌%◌, ◌^◌, ◌<◌, ◌≤◌, Bool, true, false, ◌&&◌, nat_le, nat_lt, if◌then◌else◌, length, refl, sym, ap, ◌∙◌, arith, inl, inr, ◌⊎◌, add-zero, slice_index}
+use Rattle.std.proofs.Common.{◌≡◌, ℕ, zero, suc, ◌+◌, ◌-◌, ◌*◌, ◌/◌, ◌%◌, ◌^◌, ◌<◌, ◌≤◌, Bool, true, false, ◌&&◌, nat_le, nat_lt}
+use Rattle.std.proofs.Common.{if◌then◌else◌, length, refl, sym, ap, ◌∙◌, arith, inl, inr, ◌⊎◌, add-zero, slice_index}
 use Rattle.std.proofs.lemmas.Bool.{cases_lt}
 use Rattle.std.proofs.lemmas.Bool.Decides.{nat_tests}
 use Rattle.std.proofs.lemmas.Nat.{shr_high, mod_low, pow-add, mul-add-lt}
@@ -110,7 +111,8 @@ byte_at-past m at h l =
 apart : (r s : ByteRange) → meet r s ≡ false → (s.start + s.bytes ≤ r.start) ⊎ (r.start + r.bytes ≤ s.start)
 apart r s h = go (cases_lt r.start (s.start + s.bytes)) (cases_lt s.start (r.start + r.bytes))
   where
-    go : (r.start < s.start + s.bytes) ⊎ (s.start + s.bytes ≤ r.start) → (s.start < r.start + r.bytes) ⊎ (r.start + r.bytes ≤ s.start) → (s.start + s.bytes ≤ r.start) ⊎ (r.start + r.bytes ≤ s.start)
+    go : (r.start < s.start + s.bytes) ⊎ (s.start + s.bytes ≤ r.start) → (s.start < r.start + r.bytes) ⊎ (r.start + r.bytes ≤ s.start)
+        → (s.start + s.bytes ≤ r.start) ⊎ (r.start + r.bytes ≤ s.start)
     go (inr a) _ = inl a
     go (inl a) (inr b) = inr b
     go (inl a) (inl b) = absurd (both a b h)
@@ -162,7 +164,8 @@ with_bytes_same f g r v at e = ap (λ x. if nat_le r.start at && nat_lt at (r.st
 in_or_out : (r : ByteRange) (at : ℕ) → ((r.start ≤ at) × (at < r.start + r.bytes)) ⊎ ((at < r.start) ⊎ (r.start + r.bytes ≤ at))
 in_or_out r at = go (cases_lt at r.start) (cases_lt at (r.start + r.bytes))
   where
-    go : (at < r.start) ⊎ (r.start ≤ at) → (at < r.start + r.bytes) ⊎ (r.start + r.bytes ≤ at) → ((r.start ≤ at) × (at < r.start + r.bytes)) ⊎ ((at < r.start) ⊎ (r.start + r.bytes ≤ at))
+    go : (at < r.start) ⊎ (r.start ≤ at) → (at < r.start + r.bytes) ⊎ (r.start + r.bytes ≤ at)
+        → ((r.start ≤ at) × (at < r.start + r.bytes)) ⊎ ((at < r.start) ⊎ (r.start + r.bytes ≤ at))
     go (inl a) _ = inr (inl a)
     go (inr a) (inl b) = inl (a, b)
     go (inr a) (inr b) = inr (inr b)
@@ -170,7 +173,8 @@ in_or_out r at = go (cases_lt at r.start) (cases_lt at (r.start + r.bytes))
 with_bytes_apart : (f : ℕ → ℕ) (r s : ByteRange) (v w at : ℕ) → meet r s ≡ false → with_bytes (with_bytes f r v) s w at ≡ with_bytes (with_bytes f s w) r v at
 with_bytes_apart f r s v w at e = go (apart r s e) (in_or_out r at)
   where
-    go : (s.start + s.bytes ≤ r.start) ⊎ (r.start + r.bytes ≤ s.start) → ((r.start ≤ at) × (at < r.start + r.bytes)) ⊎ ((at < r.start) ⊎ (r.start + r.bytes ≤ at)) → with_bytes (with_bytes f r v) s w at ≡ with_bytes (with_bytes f s w) r v at
+    go : (s.start + s.bytes ≤ r.start) ⊎ (r.start + r.bytes ≤ s.start) → ((r.start ≤ at) × (at < r.start + r.bytes)) ⊎ ((at < r.start) ⊎ (r.start + r.bytes ≤ at))
+        → with_bytes (with_bytes f r v) s w at ≡ with_bytes (with_bytes f s w) r v at
     go x (inl y) =
         outside (with_bytes f r v) s w at (out_of_s x)
         ∙ inside f r v at y.0 y.1

@@ -1,3 +1,5 @@
+//! Changes of words by a sum or a difference.
+
 /// A change of one word by a sum or a difference, modulo two to the 64.
 #[derive(Clone, Copy, Debug, PartialEq, Eq)]
 pub enum Delta {

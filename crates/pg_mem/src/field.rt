@@ -1,3 +1,5 @@
+//! A part of a granule, as a change of the whole word.
+
 ghost use Rattle.std.specs.Prelude.{◌≡◌, ℕ, ◌<◌, ◌≤◌, ◌+◌, ◌*◌, ◌%◌, ◌^◌};
 ghost use Rattle.pg_mem.specs.Bytes.{byte_of, number_of, with_bytes};
 ghost use Rattle.pg_mem.specs.Words.{changed_by, part_of, with_part};

@@ -1,3 +1,5 @@
+//! The bytes that globals begin with.
+
 ghost use Rattle.std.specs.Prelude.{◌≡◌, ℕ, ◌<◌, ◌≤◌, ◌+◌, ◌*◌, length};
 ghost use Rattle.pg_num.specs.declared.layout.TheConstants.{MEMORY_BYTES};
 ghost use Rattle.pg_mem.specs.Initial.{initial_byte, with_bytes_at};

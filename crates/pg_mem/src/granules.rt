@@ -1,3 +1,5 @@
+//! The granules of a part of memory.
+
 ghost use Rattle.std.specs.Prelude.{◌≡◌, ◌<◌, ◌≤◌, length, replicate, slice_index, slice_set, vec_capacity, IfOk};
 ghost use Rattle.pg_mem.specs.Parts.{padded};
 

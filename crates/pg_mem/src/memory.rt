@@ -1,3 +1,5 @@
+//! The memory of a run.
+
 ghost use Rattle.std.specs.Prelude.{◌≡◌, ℕ, ◌<◌, ◌≤◌, ◌+◌, ◌-◌, ◌*◌, ◌/◌, ◌%◌, ◌^◌, IfOk, slice_index, slice_set};
 ghost use Rattle.pg_num.specs.declared.layout.TheConstants.{GLOBALS_END, GRANULE_COUNT, MEMORY_BYTES};
 ghost use Rattle.pg_mem.specs.Bytes.{with_bytes};

@@ -1,3 +1,5 @@
+//! Parts of a word.
+
 ghost use Rattle.std.specs.Prelude.{◌≡◌, ◌<◌, ◌≤◌, ◌+◌, ◌-◌, ◌*◌, ◌^◌};
 ghost use Rattle.pg_mem.specs.Words.{part_of, with_part};
 

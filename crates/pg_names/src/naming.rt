@@ -13,9 +13,9 @@ ghost use Rattle.pg_names.specs.Registers.{register_type, registers_by, block_la
 use crate::numbered_names::pass_name;
 use crate::register_type::RegisterType;
 use crate::results::result_type;
-use pg_ast::{BlockNode, DefineItem, LineNode, Name, NextNumber, ParamNode};
 use pg_rules::{numbered_name, param_names};
 use pg_types::TypeNumbers;
+use pg_ast::{BlockNode, DefineItem, LineNode, Name, NextNumber, ParamNode};
 use std::alloc::{AllocError, Global};
 
 /// The names of a function's labels and registers, each unnamed one by its number, and the types of the registers.
@@ -75,31 +75,8 @@ fn add_lines<'a>(
     Ok(())
 }
 
-/// Adds the label of a block, and the results of its lines.
-#[tactic(auto, unfolding(pg_ast::specs::Numbers::block_at, pg_ast::specs::Numbers::behind_block))]
-fn add_block<'a>(
-    alloc: Global,
-    types: &TypeNumbers<'_>,
-    next: &mut NextNumber,
-    labels: &mut Vec<Name>,
-    names: &mut Vec<Name>,
-    kinds: &mut Vec<RegisterType<'a>>,
-    block: &'a BlockNode,
-) -> Result<(), AllocError>
-    requires { length kinds.old.items ≡ length names.old.items }
-    ensures labels { OnOk result (labels.new.items ≡ labels.old.items ++ cons_option (block_label (block_at (named_types types.now) next.old (block_of block.now))) []) }
-    ensures registers { OnOk result (registers_by (named_types types.now) names.new.items kinds.new.items
-        ≡ registers_by (named_types types.now) names.old.items kinds.old.items
-        ++ block_registers (named_types types.now) (block_at (named_types types.now) next.old (block_of block.now))) }
-    ensures next { OnOk result (next.new ≡ behind_block (named_types types.now) next.old (block_of block.now)) }
-    ensures lengths { OnOk result (length kinds.new.items ≡ length names.new.items) }
-{
-    let label = numbered_name(alloc, next, &block.label)?;
-    labels.push(label)?;
-    add_lines(alloc, types, next, names, kinds, block.lines.as_slice())
-}
-
 /// Adds the labels of blocks, and the results of their lines.
+#[tactic(auto, unfolding(pg_ast::specs::Numbers::block_at, pg_ast::specs::Numbers::behind_block))]
 fn add_blocks<'a>(
     alloc: Global,
     types: &TypeNumbers<'_>,
@@ -118,7 +95,9 @@ fn add_blocks<'a>(
     ensures lengths { OnOk result (length kinds.new.items ≡ length names.new.items) }
 {
     for block in blocks {
-        add_block(alloc, types, next, labels, names, kinds, block)?;
+        let label = numbered_name(alloc, next, &block.label)?;
+        labels.push(label)?;
+        add_lines(alloc, types, next, names, kinds, block.lines.as_slice())?;
     }
     Ok(())
 }

@@ -13,8 +13,8 @@ ghost use Rattle.pg_rules.specs.TypeConditions.{is_void_part};
 ghost use Rattle.pg_names.specs.Registers.{type_or_none, has_value, has_some_value, IsResult};
 
 use crate::register_type::RegisterType;
-use pg_ast::{OpNode, TypeNode};
 use pg_types::{TypeKind, TypeNumbers};
+use pg_ast::{OpNode, TypeNode};
 use std::alloc::AllocError;
 
 /// The type that is written for an operation's result, which may be `void`; none where there is no result.

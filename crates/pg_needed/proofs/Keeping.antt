@@ -1,5 +1,6 @@
 -- Renamed nodes.
-use Rattle.std.proofs.Common.{◌≡◌, ℕ, zero, suc, ◌+◌, ◌<◌, ◌≤◌, ◌⊎◌, inl, inr, Bool, true, false, List, [], ◌∷◌, ◌++◌, length, map, take, drop, Some, refl, sym, ap, arith}
+use Rattle.std.proofs.Common.{◌≡◌, ℕ, zero, suc, ◌+◌, ◌<◌, ◌≤◌, ◌⊎◌, inl, inr, Bool, true, false, List, [], ◌∷◌, ◌++◌, length, map, take, drop, Some}
+use Rattle.std.proofs.Common.{refl, sym, ap, arith}
 use Rattle.std.specs.Prelude.{slice_get, slice_index, slice_set}
 use Rattle.std.proofs.lemmas.Bool.{true≢false}
 use Rattle.pg_nodes.specs.declared.node.Node.{Node}
@@ -78,7 +79,8 @@ module _ (f : ℕ → ℕ) where
 
   -- ---- the kept nodes by number
 
-  pub kept_get : (marks : List Bool) (nodes : List Node) (j : ℕ) (n : Node) → slice_get nodes j ≡ Some n → is_set marks j ≡ true → slice_get (kept f marks nodes) (place marks j) ≡ Some (renamed f n)
+  pub kept_get : (marks : List Bool) (nodes : List Node) (j : ℕ) (n : Node) → slice_get nodes j ≡ Some n → is_set marks j ≡ true
+      → slice_get (kept f marks nodes) (place marks j) ≡ Some (renamed f n)
   kept_get [] nodes j n h s = absurd (true≢false (sym s))
   kept_get (m ∷ marks) [] j n h s = absurd (cc)
   kept_get (true ∷ marks) (x ∷ nodes) zero n h s = let q : x ≡ n = cc in ap (λ z. Some (renamed f z)) q

@@ -1,5 +1,6 @@
 -- Marks of needed nodes, set from the last node to the first.
-use Rattle.std.proofs.Common.{◌≡◌, ℕ, zero, suc, ◌+◌, ◌<◌, ◌≤◌, ◌==◌, ◌⊎◌, inl, inr, Bool, true, false, List, [], ◌∷◌, ◌++◌, length, map, replicate, take, Some, refl, sym, ap, ◌∙◌, subst, arith}
+use Rattle.std.proofs.Common.{◌≡◌, ℕ, zero, suc, ◌+◌, ◌<◌, ◌≤◌, ◌==◌, ◌⊎◌, inl, inr, Bool, true, false, List, [], ◌∷◌, ◌++◌, length, map, replicate}
+use Rattle.std.proofs.Common.{take, Some, refl, sym, ap, ◌∙◌, subst, arith}
 use Rattle.std.specs.Prelude.{◌||◌, slice_get, slice_index_or}
 use Rattle.std.proofs.lemmas.Bool.{cases_lt, or_cases, or_left, or_right, true≢false}
 use Rattle.std.proofs.lemmas.List.Folds.{list_any-append}
@@ -27,10 +28,12 @@ pub marked_append : (old mid more : List Bool) (xs ys : List ℕ) → Marked old
 marked_append old mid more xs ys f g i =
     g i ∙ ap (λ b. b || is_among i ys) (f i) ∙ or_assoc (is_set old i) (is_among i xs) (is_among i ys) ∙ ap (λ b. is_set old i || b) (sym (list_any-append (λ a. a == i) xs ys))
 
-pub parts_next : (old mid more : List Bool) (parts : List ℕ) (i : ℕ) → i < length parts → Marked old mid (take i parts) → Marked mid more (slice_index_or parts i 0 ∷ []) → Marked old more (take (i + 1) parts)
+pub parts_next : (old mid more : List Bool) (parts : List ℕ) (i : ℕ) → i < length parts → Marked old mid (take i parts) → Marked mid more (slice_index_or parts i 0 ∷ [])
+    → Marked old more (take (i + 1) parts)
 parts_next old mid more parts i l f g = subst (Marked old more) (sym (take_more parts i 0 l)) (marked_append old mid more (take i parts) (slice_index_or parts i 0 ∷ []) f g)
 
-pub checks_next : (old mid more : List Bool) (checks : List Check) (i : ℕ) (k : Check) → slice_get checks i ≡ Some k → Marked old mid (map node_of (take i checks)) → Marked mid more (k.node ∷ []) → Marked old more (map node_of (take (i + 1) checks))
+pub checks_next : (old mid more : List Bool) (checks : List Check) (i : ℕ) (k : Check) → slice_get checks i ≡ Some k → Marked old mid (map node_of (take i checks))
+    → Marked mid more (k.node ∷ []) → Marked old more (map node_of (take (i + 1) checks))
 checks_next old mid more checks i k h f g =
     subst (Marked old more) (sym (ap (map node_of) (take_get checks i k h) ∙ map_push node_of (take i checks) k)) (marked_append old mid more (map node_of (take i checks)) (k.node ∷ []) f g)
 
@@ -70,7 +73,8 @@ unset (suc n) zero = refl
 unset (suc n) (suc i) = unset n i
 
 -- the marks of the checks
-pub marks_begin : (c : Conditions) (none marks : List Bool) → none ≡ replicate (length c.nodes) false → length marks ≡ length c.nodes → Marked none marks (map node_of c.checks) → AreMarks c marks (length c.nodes)
+pub marks_begin : (c : Conditions) (none marks : List Bool) → none ≡ replicate (length c.nodes) false → length marks ≡ length c.nodes → Marked none marks (map node_of c.checks)
+    → AreMarks c marks (length c.nodes)
 marks_begin c none marks e l m = record {
   as_many = l;
   sound = λ i h. (0, among_checks c.checks i (sym (only i) ∙ h));
@@ -83,7 +87,8 @@ marks_begin c none marks e l m = record {
 
 -- ---- one node further down
 
-module _ (c : Conditions) (marks more : List Bool) (i : ℕ) (n : Node) (at : slice_get c.nodes i ≡ Some n) (is : IsNode i n) (m : AreMarks c marks (i + 1)) (marked : Marked marks more (names_if (is_set marks i) (slice_get c.nodes i))) where
+module _ (c : Conditions) (marks more : List Bool) (i : ℕ) (n : Node) (at : slice_get c.nodes i ≡ Some n) (is : IsNode i n) (m : AreMarks c marks (i + 1))
+    (marked : Marked marks more (names_if (is_set marks i) (slice_get c.nodes i))) where
   marked_now : (j : ℕ) → is_set more j ≡ (is_set marks j || is_among j (names_if (is_set marks i) (Some n)))
   marked_now j = marked j ∙ ap (λ o. is_set marks j || is_among j (names_if (is_set marks i) o)) at
 

@@ -1,5 +1,6 @@
 -- Kept nodes have the numbers that they had.
-use Rattle.std.proofs.Common.{◌≡◌, ℕ, ℤ, zero, suc, ◌+◌, ◌*◌, ◌%◌, ◌^◌, ◌<◌, ◌≤◌, ◌⊎◌, inl, inr, Bool, true, false, List, [], ◌∷◌, ◌++◌, length, map, take, drop, Option, Some, None, refl, sym, ap, ◌∙◌, subst, arith}
+use Rattle.std.proofs.Common.{◌≡◌, ℕ, ℤ, zero, suc, ◌+◌, ◌*◌, ◌%◌, ◌^◌, ◌<◌, ◌≤◌, ◌⊎◌, inl, inr, Bool, true, false, List, [], ◌∷◌, ◌++◌}
+use Rattle.std.proofs.Common.{length, map, take, drop, Option, Some, None, refl, sym, ap, ◌∙◌, subst, arith}
 use Rattle.std.specs.Prelude.{◌&&◌, IfSome, slice_get, if◌then◌else◌}
 use Rattle.std.specs.List.{list_all, AllByRecursion}
 use Rattle.std.proofs.lemmas.Bool.{cases_lt, true≢false}
@@ -17,7 +18,8 @@ use Rattle.pg_needed.proofs.Marking.{names_below}
 use Rattle.pg_needed.proofs.Placing.{place_lt, place_more, place_zero}
 
 module _ (f : ℕ → ℕ) (known other : List (Option ℕ)) where
-  joined_same : (xs : List ℕ) (n : ℕ) → ((a : ℕ) → is_among a (take n xs) ≡ true → number_of known a ≡ number_of other (f a)) → joined known xs n ≡ joined other (map f (take n xs) ++ drop n xs) n
+  joined_same : (xs : List ℕ) (n : ℕ) → ((a : ℕ) → is_among a (take n xs) ≡ true → number_of known a ≡ number_of other (f a))
+      → joined known xs n ≡ joined other (map f (take n xs) ++ drop n xs) n
   unfolding joined
   joined_same xs zero h = refl
   joined_same [] (suc n) h = refl
@@ -26,7 +28,8 @@ module _ (f : ℕ → ℕ) (known other : List (Option ℕ)) where
       ap (λ o. with_both o (joined known xs n) (λ byte rest. Some (rest * 2 ^ 8 + byte % 2 ^ 8))) (h x (among_first x x (take n xs) refl))
       ∙ ap (λ o. with_both (number_of other (f x)) o (λ byte rest. Some (rest * 2 ^ 8 + byte % 2 ^ 8))) ih
 
-  node_same : (input : List ℤ) (n : Node) → ((a : ℕ) → is_among a (names_of n) ≡ true → number_of known a ≡ number_of other (f a)) → node_number input known n ≡ node_number input other (renamed f n)
+  node_same : (input : List ℤ) (n : Node) → ((a : ℕ) → is_among a (names_of n) ≡ true → number_of known a ≡ number_of other (f a))
+      → node_number input known n ≡ node_number input other (renamed f n)
   node_same input (node.Const m) h = refl
   node_same input (node.In a) h = let e = h a (among_first a a [] refl) in rw e refl
   node_same input node.InLen h = refl
@@ -66,7 +69,8 @@ drop_none (x ∷ xs) (suc i) l h = drop_none xs i (omega (arith, l)) h
 pub node_at : (nodes : List Node) (i : ℕ) (n : Node) → AreNodes nodes → slice_get nodes i ≡ Some n → IsNode i n
 node_at nodes i n are h = subst (λ o. IfSome o (λ n. IsNode i n)) h (are.names i)
 
-module _ (input : List ℤ) (f : ℕ → ℕ) (M : List Bool) (N : List Node) (as_many : length M ≡ length N) (are : AreNodes N) (closed : AreClosed N M 0) (places : (i : ℕ) → i < length M → f i ≡ place M i) where
+module _ (input : List ℤ) (f : ℕ → ℕ) (M : List Bool) (N : List Node) (as_many : length M ≡ length N) (are : AreNodes N) (closed : AreClosed N M 0)
+    (places : (i : ℕ) → i < length M → f i ≡ place M i) where
   -- marked nodes below the known ones have the same number
   abbrev Agree : ℕ → List (Option ℕ) → List (Option ℕ) → Type 0
   Agree k known other = (a : ℕ) → is_set M a ≡ true → a < k → number_of known a ≡ number_of other (f a)
@@ -80,15 +84,18 @@ module _ (input : List ℤ) (f : ℕ → ℕ) (M : List Bool) (N : List Node) (a
       by (m ∷ marks) (suc a) h = let l = by marks a h in omega (arith, l)
 
   -- one more known number on the one side, and one more on the other if it is marked
-  agree_more : (known other : List (Option ℕ)) (n : Node) (m : Bool) → slice_get N (length known) ≡ Some n → is_set M (length known) ≡ m → length other ≡ place M (length known) → Agree (length known) known other →
+  agree_more : (known other : List (Option ℕ)) (n : Node) (m : Bool) → slice_get N (length known) ≡ Some n → is_set M (length known) ≡ m → length other ≡ place M (length known)
+      → Agree (length known) known other →
       Agree (length known + 1) (known ++ node_number input known n ∷ []) (if m then other ++ node_number input other (renamed f n) ∷ [] else other)
   agree_more known other n m at s l g a set' lt = go m s (cases_lt a (length known))
     where
       low : a < length known → f a < length other
       low h = let p = place_lt M a (length known) h set' in let q = places a (set_below a set') in omega (arith, p, q, l)
 
-      go : (m : Bool) → is_set M (length known) ≡ m → (a < length known) ⊎ (length known ≤ a) → number_of (known ++ node_number input known n ∷ []) a ≡ number_of (if m then other ++ node_number input other (renamed f n) ∷ [] else other) (f a)
-      go true s (inl h) = get_or_append_left known (node_number input known n ∷ []) None a h ∙ g a set' h ∙ sym (get_or_append_left other (node_number input other (renamed f n) ∷ []) None (f a) (low h))
+      go : (m : Bool) → is_set M (length known) ≡ m → (a < length known) ⊎ (length known ≤ a)
+          → number_of (known ++ node_number input known n ∷ []) a ≡ number_of (if m then other ++ node_number input other (renamed f n) ∷ [] else other) (f a)
+      go true s (inl h) = get_or_append_left known (node_number input known n ∷ []) None a h ∙ g a set' h
+          ∙ sym (get_or_append_left other (node_number input other (renamed f n) ∷ []) None (f a) (low h))
       go false s (inl h) = get_or_append_left known (node_number input known n ∷ []) None a h ∙ g a set' h
       go true s (inr h) =
           let e : length known ≡ a = omega (arith, h, lt) in
@@ -101,11 +108,14 @@ module _ (input : List ℤ) (f : ℕ → ℕ) (M : List Bool) (N : List Node) (a
           let e : length known ≡ a = omega (arith, h, lt) in
           absurd (true≢false (sym set' ∙ sym (ap (is_set M) e) ∙ s))
 
-  length_more : (known other : List (Option ℕ)) (n : Node) (m : Bool) → is_set M (length known) ≡ m → length other ≡ place M (length known) → length (if m then other ++ node_number input other (renamed f n) ∷ [] else other) ≡ place M (length known + 1)
-  length_more known other n true s l = length_push other (node_number input other (renamed f n)) ∙ (let p = place_more M (length known) ∙ ap (λ b. if b then suc (place M (length known)) else place M (length known)) s in omega (arith, p, l))
+  length_more : (known other : List (Option ℕ)) (n : Node) (m : Bool) → is_set M (length known) ≡ m → length other ≡ place M (length known)
+      → length (if m then other ++ node_number input other (renamed f n) ∷ [] else other) ≡ place M (length known + 1)
+  length_more known other n true s l = length_push other (node_number input other (renamed f n))
+      ∙ (let p = place_more M (length known) ∙ ap (λ b. if b then suc (place M (length known)) else place M (length known)) s in omega (arith, p, l))
   length_more known other n false s l = l ∙ sym (place_more M (length known) ∙ ap (λ b. if b then suc (place M (length known)) else place M (length known)) s)
 
-  behind : (nodes : List Node) (marks : List Bool) (known other : List (Option ℕ)) → drop (length known) N ≡ nodes → drop (length known) M ≡ marks → length other ≡ place M (length known) → Agree (length known) known other →
+  behind : (nodes : List Node) (marks : List Bool) (known other : List (Option ℕ)) → drop (length known) N ≡ nodes → drop (length known) M ≡ marks
+      → length other ≡ place M (length known) → Agree (length known) known other →
       Agree (length known + length nodes) (numbers_behind input known nodes) (numbers_behind input other (kept f marks nodes))
   unfolding numbers_behind
   behind [] [] known other dn dm l g a s lt = g a s (omega (arith, lt))
@@ -145,7 +155,8 @@ module _ (input : List ℤ) (f : ℕ → ℕ) (M : List Bool) (N : List Node) (a
   kept_number : (a : ℕ) → is_set M a ≡ true → number_of (numbers_of input N) a ≡ number_of (numbers_of input (kept f M N)) (f a)
   kept_number a s = behind N M [] [] refl refl (sym (place_zero M)) (λ b t lt. absurd (omega (arith, lt))) a s (let l = set_below a s in omega (arith, l, as_many))
 
-  pub checks_same : (checks : List Check) → AllByRecursion (λ (c : Check). is_set M c.node ≡ true) checks → list_all (holds (numbers_of input (kept f M N))) (map (renamed_check f) checks) ≡ list_all (holds (numbers_of input N)) checks
+  pub checks_same : (checks : List Check) → AllByRecursion (λ (c : Check). is_set M c.node ≡ true) checks
+      → list_all (holds (numbers_of input (kept f M N))) (map (renamed_check f) checks) ≡ list_all (holds (numbers_of input N)) checks
   checks_same [] h = refl
   checks_same (c ∷ checks) h =
       ap (λ o. is_met c.test o && list_all (holds (numbers_of input (kept f M N))) (map (renamed_check f) checks)) (sym (kept_number c.node h.0))

@@ -1,5 +1,6 @@
 -- Places of marks.
-use Rattle.std.proofs.Common.{◌≡◌, ℕ, zero, suc, ◌+◌, ◌<◌, ◌≤◌, ◌⊎◌, inl, inr, Bool, true, false, List, [], ◌∷◌, ◌++◌, length, take, Some, refl, sym, ap, ◌∙◌, arith}
+use Rattle.std.proofs.Common.{◌≡◌, ℕ, zero, suc, ◌+◌, ◌<◌, ◌≤◌, ◌⊎◌, inl, inr, Bool, true, false, List, [], ◌∷◌, ◌++◌, length, take, Some, refl, sym}
+use Rattle.std.proofs.Common.{ap, ◌∙◌, arith}
 use Rattle.std.specs.Prelude.{slice_get, slice_index, if◌then◌else◌}
 use Rattle.std.proofs.lemmas.Bool.{cases_lt}
 use Rattle.std.proofs.lemmas.List.{get_or_append_left, get_or_at}
@@ -45,14 +46,16 @@ place_lt marks a i l h =
     let q = place_up marks (a + 1) i (omega (arith, l)) in
     omega (arith, p, q)
 
-pub places_next : (marks : List Bool) (places : List ℕ) (i count : ℕ) → length places ≡ i → count ≡ place marks i → ((j : ℕ) → j < i → slice_index places j ≡ place marks j) → (j : ℕ) → j < i + 1 → slice_index (places ++ count ∷ []) j ≡ place marks j
+pub places_next : (marks : List Bool) (places : List ℕ) (i count : ℕ) → length places ≡ i → count ≡ place marks i → ((j : ℕ) → j < i → slice_index places j ≡ place marks j)
+    → (j : ℕ) → j < i + 1 → slice_index (places ++ count ∷ []) j ≡ place marks j
 places_next marks places i count l e h j lt = go (cases_lt j i)
   where
     go : (j < i) ⊎ (i ≤ j) → slice_index (places ++ count ∷ []) j ≡ place marks j
     go (inl a) = get_or_append_left places (count ∷ []) 0 j (omega (arith, a, l)) ∙ h j a
     go (inr a) = let q : i ≡ j = omega (arith, a, lt) in get_or_at places count [] 0 j (l ∙ q) ∙ e ∙ ap (place marks) q
 
-pub count_next : (marks : List Bool) (i count next : ℕ) (mark : Bool) → count ≡ place marks i → mark ≡ is_set marks i → next ≡ (if mark then suc count else count) → next ≡ place marks (i + 1)
+pub count_next : (marks : List Bool) (i count next : ℕ) (mark : Bool) → count ≡ place marks i → mark ≡ is_set marks i → next ≡ (if mark then suc count else count)
+    → next ≡ place marks (i + 1)
 count_next marks i count next mark e m h = h ∙ ap (λ b. if b then suc count else count) m ∙ ap (λ k. if is_set marks i then suc k else k) e ∙ sym (place_more marks i)
 
 module _ (f : ℕ → ℕ) where

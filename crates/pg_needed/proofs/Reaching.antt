@@ -32,14 +32,25 @@ module _ (c : Conditions) (M : List Bool) (f : ℕ → ℕ) (m : AreMarks c M 0)
     marked : is_set M i ≡ true
 
   along : (k i : ℕ) → IsNeededIn k c i → Way k i
-  along zero i h = record { way = record { number = h.number; check = renamed_check f h.check; at = map_get (renamed_check f) c.checks h.number h.check h.at; names = ap f h.names }; marked = m.checks i h }
+  along zero i h = record {
+    way = record { number = h.number; check = renamed_check f h.check; at = map_get (renamed_check f) c.checks h.number h.check h.at; names = ap f h.names };
+    marked = m.checks i h;
+  }
   along (suc k) i h =
       let w = along k h.0 h.1 in
       let n = h.2 in
       let l = get_below c.nodes h.0 n.by_node n.at in
       let p = places h.0 (let q = m.as_many in omega (arith, l, q)) in
       record {
-        way = (f h.0, w.way, record { by_node = renamed f n.by_node; at = ap (slice_get (kept f M c.nodes)) p ∙ kept_get f M c.nodes h.0 n.by_node n.at w.marked; names = names_renamed f i n.by_node n.names });
+        way = (
+          f h.0,
+          w.way,
+          record {
+            by_node = renamed f n.by_node;
+            at = ap (slice_get (kept f M c.nodes)) p ∙ kept_get f M c.nodes h.0 n.by_node n.at w.marked;
+            names = names_renamed f i n.by_node n.names;
+          },
+        );
         marked = m.closed h.0 n.by_node n.at w.marked (omega arith) i n.names;
       }
 

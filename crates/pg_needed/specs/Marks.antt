@@ -1,5 +1,6 @@
 -- Marks on the nodes that are needed.
-use Rattle.std.specs.Prelude.{◌≡◌, ℕ, zero, suc, ◌||◌, ◌<◌, List, [], ◌∷◌, length, Bool, true, false, Option, Some, None, slice_get, slice_index, slice_index_or, if◌then◌else◌}
+use Rattle.std.specs.Prelude.{◌≡◌, ℕ, zero, suc, ◌||◌, ◌<◌, List, [], ◌∷◌, length, Bool, true, false, Option, Some, None, slice_get, slice_index, slice_index_or}
+use Rattle.std.specs.Prelude.{if◌then◌else◌}
 use Rattle.pg_nodes.specs.declared.check.Check.{Check}
 use Rattle.pg_nodes.specs.declared.node.Node.{Node}
 use Rattle.pg_nodes.specs.Nodes.{Conditions}
@@ -14,7 +15,8 @@ Marked old marked names = (i : ℕ) → is_set marked i ≡ (is_set old i || is_
 
 -- from node k on, the nodes that a marked node names are marked
 abbrev pub AreClosed : List Node → List Bool → ℕ → Type 0
-AreClosed nodes marks k = (i : ℕ) (n : Node) → slice_get nodes i ≡ Some n → is_set marks i ≡ true → (k < suc i) → (a : ℕ) → is_among a (names_of n) ≡ true → is_set marks a ≡ true
+AreClosed nodes marks k = (i : ℕ) (n : Node) → slice_get nodes i ≡ Some n → is_set marks i ≡ true → (k < suc i) → (a : ℕ) → is_among a (names_of n) ≡ true
+    → is_set marks a ≡ true
 
 -- marks of needed nodes, which the checks name or marked nodes from node k on
 pub record AreMarks (c : Conditions) (marks : List Bool) (k : ℕ) : Type 0 where

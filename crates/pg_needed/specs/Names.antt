@@ -1,10 +1,11 @@
 -- Which nodes a check needs: the one that it names, and those that a node that it needs names.
-use Rattle.std.specs.Prelude.{◌≡◌, ℕ, zero, suc, ◌==◌, ◌<◌, List, [], ◌∷◌, length, take, Bool, true, Some, slice_get}
+use Rattle.std.specs.Prelude.{◌≡◌, ℕ, ℤ, zero, suc, ◌==◌, ◌<◌, List, [], ◌∷◌, length, take, Bool, true, Some, slice_get}
 use Rattle.std.specs.List.{list_any}
 use Rattle.pg_nodes.specs.declared.check.Check.{Check}
 use Rattle.pg_nodes.specs.declared.node.Node.{Node}
 use Rattle.pg_nodes.specs.declared.node.Node.TheVariants as node
 use Rattle.pg_nodes.specs.Nodes.{Conditions}
+use Rattle.pg_nodes.specs.Values.{is_admitted}
 
 -- the nodes that a node names
 abbrev pub names_of : Node → List ℕ
@@ -45,3 +46,9 @@ IsNeeded c i = (k : ℕ) × IsNeededIn k c i
 -- each node is needed
 abbrev pub AreNeeded : Conditions → Type 0
 AreNeeded c = (i : ℕ) → i < length c.nodes → IsNeeded c i
+
+-- the same checks over only the nodes that they need
+pub record IsNeededPart (c r : Conditions) : Type 0 where
+  pub admits : (input : List ℤ) → is_admitted input r ≡ is_admitted input c
+  pub needed : AreNeeded r
+  pub checks : length r.checks ≡ length c.checks

@@ -1,3 +1,5 @@
+//! Nodes that are kept and numbered anew.
+
 ghost use Rattle.std.specs.Prelude.{◌≡◌, ◌<◌, ◌≤◌, ◌++◌, ◌+◌, ℕ, IfOk, OnOk, drop, length, map, slice_index, take};
 ghost use Rattle.pg_nodes.specs.Nodes.{AreNodes, IsNode, NamesParts};
 ghost use Rattle.pg_needed.specs.Kept.{HasParts, kept, renamed};

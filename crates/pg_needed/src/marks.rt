@@ -1,3 +1,5 @@
+//! Marks at the nodes that checks need.
+
 ghost use Rattle.std.specs.Prelude.{◌≡◌, ◌<◌, ◌≤◌, ◌∷◌, [], ℕ, IfOk, IfSome, Some, false, length, map, replicate, slice_get, take};
 ghost use Rattle.pg_nodes.specs.Nodes.{IsNode, NamesParts};
 ghost use Rattle.pg_nodes.specs.declared.check.Check.{Check as ACheck};

@@ -1,3 +1,5 @@
+//! The new numbers of the marked nodes.
+
 ghost use Rattle.std.specs.Prelude.{◌≡◌, ◌<◌, IfOk, length, suc, if◌then◌else◌};
 ghost use Rattle.pg_needed.specs.Marks.{ArePlaces};
 

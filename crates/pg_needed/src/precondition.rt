@@ -1,9 +1,10 @@
-ghost use Rattle.std.specs.Prelude.{◌≡◌, ℤ, IfOk, IfSome, List, ℕ, ◌<◌, length, map, slice_get, slice_index};
-ghost use Rattle.pg_nodes.specs.Values.{is_admitted};
+//! A precondition without the nodes that it doesn't need.
+
+ghost use Rattle.std.specs.Prelude.{◌≡◌, IfOk, IfSome, ℕ, ◌<◌, length, map, slice_get, slice_index};
 ghost use Rattle.pg_nodes.specs.declared.check.Check.{Check as ACheck};
 ghost use Rattle.pg_needed.specs.Kept.{kept, renamed_check};
 ghost use Rattle.pg_needed.specs.Marks.{AreMarks, ArePlaces};
-ghost use Rattle.pg_needed.specs.Names.{AreNeeded};
+ghost use Rattle.pg_needed.specs.Names.{IsNeededPart};
 
 use crate::kept::{kept, place_of};
 use crate::marks::{check_at, marks_of};
@@ -55,9 +56,7 @@ fn with_marks(
 ///
 /// Where no memory is left for them or for the search.
 pub fn needed(alloc: Global, c: &Precondition) -> Result<Precondition, AllocError>
-    ensures admits { IfOk result (λ r. (input : List ℤ) → is_admitted input r ≡ is_admitted input c.now) }
-    ensures needed { IfOk result (λ r. AreNeeded r) }
-    ensures checks { IfOk result (λ r. length r.checks ≡ length c.now.checks) }
+    ensures { IfOk result (λ r. IsNeededPart c.now r) }
 {
     let marks = marks_of(alloc, c)?;
     let count = c.nodes().len();

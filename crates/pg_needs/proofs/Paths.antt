@@ -24,7 +24,8 @@ none_left (k ∷ ks) zero h = absurd (omega (arith, h))
 none_left (k ∷ ks) (suc i) h = none_left ks i (omega (arith, h))
 
 -- behind the last load there is the last pointer
-pub path_ends : (bytes : ℕ → Shadow) (s : Shadow) (ks ws : List ℕ) (cells : List ByteRange) (last i : ℕ) → length ks ≤ i → path_needs bytes s (drop i ks) (drop i ws) (drop i cells) last ≡ Frame s (same_frame last) ∷ []
+pub path_ends : (bytes : ℕ → Shadow) (s : Shadow) (ks ws : List ℕ) (cells : List ByteRange) (last i : ℕ) → length ks ≤ i
+    → path_needs bytes s (drop i ks) (drop i ws) (drop i cells) last ≡ Frame s (same_frame last) ∷ []
 path_ends bytes s ks ws cells last i h = ap (λ l. path_needs bytes s l (drop i ws) (drop i cells) last) (none_left ks i h)
 
 -- load i of a path
@@ -48,7 +49,8 @@ module _ (p : NumberedProgram) (memory : Changes) (ks ws : List ℕ) (cells : Li
   pub loads_more : (first second third ns : NodeList) (s at next : Source) (address start : ℕ) (old between done : Asked) →
       Grew first second → Grew second third → Grew third ns → IsSource (length first) s → IsSource (length second) at → IsSource (length third) next → AreSources (length first) memory →
       i < length ks → AreCells ks ws cells →
-      shadow_by second at ≡ moved_shadow (slice_index_or ks i 0) (shadow_by first s) → address ≡ moved_by (slice_index_or ws i 0) (pos (slice_index_or ks i 0)) → start ≡ byte_place address →
+      shadow_by second at ≡ moved_shadow (slice_index_or ks i 0) (shadow_by first s) → address ≡ moved_by (slice_index_or ws i 0) (pos (slice_index_or ks i 0))
+      → start ≡ byte_place address →
       shadow_by third next ≡ loaded (shadows_of p second memory) start 8 →
       ((ms : NodeList) → IsSource (length ms) at → Adds ms (Value (shadow_by ms at) (test.Eq address ∷ []) ∷ []) old between) →
       Adds ns (path_needs (shadows_of p ns memory) (shadow_by ns next) (drop (suc i) ks) (drop (suc i) ws) (drop (suc i) cells) last) between done →
@@ -76,7 +78,8 @@ module _ (p : NumberedProgram) (memory : Changes) (ks ws : List ℕ) (cells : Li
 
       one' : Adds ns (wanted ∷ []) old between
       one' = subst (λ v. Adds ns (Value v (test.Eq (moved_by (slice_index_or ws i 0) (pos (slice_index_or ks i 0))) ∷ []) ∷ []) old between) at_is
-          (subst (λ n. Adds ns (Value (shadow_by ns at) (test.Eq n ∷ []) ∷ []) old between) address_is (one ns (source_more (length second) (length ns) at (grew_length second ns second_on) is_at)))
+          (subst (λ n. Adds ns (Value (shadow_by ns at) (test.Eq n ∷ []) ∷ []) old between) address_is
+          (one ns (source_more (length second) (length ns) at (grew_length second ns second_on) is_at)))
 
       next_is : shadow_by ns next ≡ loaded bytes' (byte_place (moved_by (slice_index_or ws i 0) (pos (slice_index_or ks i 0)))) 8
       next_is = shadow_kept third ns next k is_next ∙ load ∙ ap (λ f. loaded f start 8) (sym (shadows_kept p second ns memory second_on (sources_more first second memory g names)))

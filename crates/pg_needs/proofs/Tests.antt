@@ -22,7 +22,8 @@ use Rattle.pg_needs.specs.Steps.{AreEnough, access_index, frame_by}
 pub case_tests : (w : Width) (on : Value) (other : BlockNo) (cases : List Case) (n : ℕ) → is_case n cases ≡ true → edge_tests (op.Switch w on other cases) n ≡ test.Eq n ∷ []
 case_tests w on other cases n e = rw e refl
 
-pub default_tests : (w : Width) (on : Value) (other : BlockNo) (cases : List Case) (n : ℕ) → is_case n cases ≡ false → edge_tests (op.Switch w on other cases) n ≡ map (λ (c : Case). test.Ne c.value) cases
+pub default_tests : (w : Width) (on : Value) (other : BlockNo) (cases : List Case) (n : ℕ) → is_case n cases ≡ false
+    → edge_tests (op.Switch w on other cases) n ≡ map (λ (c : Case). test.Ne c.value) cases
 default_tests w on other cases n e = rw e refl
 
 -- the test of a condition that isn't a switch's

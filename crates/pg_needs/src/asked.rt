@@ -1,3 +1,5 @@
+//! What steps ask of values: missing decisions and checks.
+
 use pg_closed::Decision;
 use pg_ir::Case;
 use pg_nodes::{Check, Test};

@@ -1,3 +1,5 @@
+//! Root paths, followed in what is known.
+
 ghost use Rattle.std.specs.Prelude.{◌≡◌, ◌<◌, ◌+◌, ◌≤◌, ◌∷◌, [], pos, List, length, IfOk};
 ghost use Rattle.pg_num.specs.Places.{ByteRange};
 ghost use Rattle.pg_num.specs.Pointers.{byte_place, moved_by};

@@ -1,3 +1,5 @@
+//! What one step asks.
+
 ghost use Rattle.std.specs.Prelude.{◌≡◌, ◌<◌, ◌≤◌, ◌∷◌, [], ℕ, length, map, IfOk};
 ghost use Rattle.std.specs.Option.{option_map};
 ghost use Rattle.pg_trace.specs.declared.step.Access.{Access as AnAccess};
@@ -31,7 +33,7 @@ fn is_case(n: u64, cases: &[Case]) -> bool
 }
 
 /// How many of a known function's operands are checked: the first ones.
-fn checked(known: Known) -> usize
+pub fn checked(known: Known) -> usize
     ensures { rules.checked known ≡ below result }
 {
     match known {
@@ -139,7 +141,8 @@ fn equal_needs(
 ) -> Result<(), AllocError>
     requires few { count ≤ 4 }
     requires enough { count ≤ length operands.now }
-    ensures { IfOk result (λ u. (ns : NodeList) → AllByRecursion (IsSource (length ns)) operands.now → Adds ns (steps.equal_needs (map (shadow_by ns) operands.now) event.now (below count)) asked.old asked.new) }
+    ensures { IfOk result (λ u. (ns : NodeList) → AllByRecursion (IsSource (length ns)) operands.now
+        → Adds ns (steps.equal_needs (map (shadow_by ns) operands.now) event.now (below count)) asked.old asked.new) }
 {
     for k in 0..count {
         asked.need_value(operand(operands, k), Test::Eq(event.operands[k]))?;
@@ -163,7 +166,8 @@ fn event_needs(
     operands: &[Source],
 ) -> Result<(), AllocError>
     requires { length (rules.checked_of op.now) ≤ length operands.now }
-    ensures { IfOk result (λ u. (ns : NodeList) → AllByRecursion (IsSource (length ns)) operands.now → Adds ns (steps.event_needs (map (shadow_by ns) operands.now) op.now event.now event.now.kind) asked.old asked.new) }
+    ensures { IfOk result (λ u. (ns : NodeList) → AllByRecursion (IsSource (length ns)) operands.now
+        → Adds ns (steps.event_needs (map (shadow_by ns) operands.now) op.now event.now event.now.kind) asked.old asked.new) }
 {
     if is_start(event.kind) {
         return Ok(());
@@ -183,7 +187,8 @@ fn value_needs(
     fixed: bool,
 ) -> Result<(), AllocError>
     requires { AreEnough op.now kind.now (length operands.now) }
-    ensures { IfOk result (λ u. (ns : NodeList) → AllByRecursion (IsSource (length ns)) operands.now → Adds ns (steps.value_needs fixed (map (shadow_by ns) operands.now) op.now kind.now) asked.old asked.new) }
+    ensures { IfOk result (λ u. (ns : NodeList) → AllByRecursion (IsSource (length ns)) operands.now
+        → Adds ns (steps.value_needs fixed (map (shadow_by ns) operands.now) op.now kind.now) asked.old asked.new) }
 {
     match kind {
         StepKind::Branch { condition } => {
@@ -243,7 +248,8 @@ fn frame_needs(
     operands: &[Source],
 ) -> Result<(), AllocError>
     requires { AreEnough op.now kind.now (length operands.now) }
-    ensures { IfOk result (λ u. (ns : NodeList) → AllByRecursion (IsSource (length ns)) operands.now → Adds ns (steps.frame_needs (map (shadow_by ns) operands.now) op.now kind.now) asked.old asked.new) }
+    ensures { IfOk result (λ u. (ns : NodeList) → AllByRecursion (IsSource (length ns)) operands.now
+        → Adds ns (steps.frame_needs (map (shadow_by ns) operands.now) op.now kind.now) asked.old asked.new) }
 {
     if let Some(pointer) = access_of(kind) {
         let at = operand(operands, access_index(op, kind));
@@ -268,7 +274,8 @@ pub fn step_needs(
     fixed: bool,
 ) -> Result<(), AllocError>
     requires { AreEnough op.now kind.now (length operands.now) }
-    ensures { IfOk result (λ u. (ns : NodeList) → AllByRecursion (IsSource (length ns)) operands.now → Adds ns (steps.step_needs fixed (map (shadow_by ns) operands.now) op.now kind.now) asked.old asked.new) }
+    ensures { IfOk result (λ u. (ns : NodeList) → AllByRecursion (IsSource (length ns)) operands.now
+        → Adds ns (steps.step_needs fixed (map (shadow_by ns) operands.now) op.now kind.now) asked.old asked.new) }
 {
     value_needs(asked, op, kind, operands, fixed)?;
     frame_needs(asked, op, kind, operands)?;

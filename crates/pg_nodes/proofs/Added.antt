@@ -3,7 +3,8 @@ use Rattle.std.proofs.Common.{ℕ, zero, suc, List, [], ◌∷◌, ◌++◌, len
 use Rattle.pg_nodes.specs.declared.node.Node.{Node}
 use Rattle.pg_nodes.specs.Nodes.{IsNode, AreNodes}
 
-each_added : (P : ℕ → Node → Type 0) (xs : List Node) (n : Node) → ((i : ℕ) → IfSome (slice_get xs i) (λ x. P i x)) → P (length xs) n → (i : ℕ) → IfSome (slice_get (xs ++ n ∷ []) i) (λ x. P i x)
+each_added : (P : ℕ → Node → Type 0) (xs : List Node) (n : Node) → ((i : ℕ) → IfSome (slice_get xs i) (λ x. P i x)) → P (length xs) n → (i : ℕ)
+    → IfSome (slice_get (xs ++ n ∷ []) i) (λ x. P i x)
 each_added P [] n h k zero = k
 each_added P [] n h k (suc i) = tt
 each_added P (x ∷ xs) n h k zero = h 0

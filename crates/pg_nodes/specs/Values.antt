@@ -1,7 +1,8 @@
 -- The numbers of nodes on an input, and whether checks hold.
-use Rattle.std.specs.Prelude.{ℕ, zero, suc, ◌+◌, ◌*◌, ◌/◌, ◌%◌, ◌^◌, ◌==◌, ◌&&◌, not, ℤ, pos, negsuc, List, [], ◌∷◌, ◌++◌, length, Bool, true, false, Option, Some, None, Result, Ok, Err, slice_get, slice_index_or, if◌then◌else◌}
+use Rattle.std.specs.Prelude.{ℕ, zero, suc, ◌+◌, ◌*◌, ◌/◌, ◌%◌, ◌^◌, ◌==◌, ◌&&◌, not, ℤ, List, [], ◌∷◌, ◌++◌, length, Bool, true, false, Option}
+use Rattle.std.specs.Prelude.{Some, None, Result, Ok, Err, slice_index_or, if◌then◌else◌}
 use Rattle.std.specs.List.{list_all}
-use Rattle.pg_num.specs.Numbers.{signed, residue, sum_of, difference_of, product_of, divided, shifted, bits_of, compared, truncated, sign_extended}
+use Rattle.pg_num.specs.Numbers.{signed, sum_of, difference_of, product_of, divided, shifted, bits_of, compared, truncated, sign_extended}
 use Rattle.pg_num.specs.Pointers.{pointer_of, moved_by}
 use Rattle.pg_num.specs.declared.operations.DivideFault.{DivideFault}
 use Rattle.pg_num.specs.declared.width.Width.{Width}
@@ -16,6 +17,7 @@ use Rattle.pg_nodes.specs.declared.check.Check.{Check}
 use Rattle.pg_nodes.specs.declared.check.Test.{Test}
 use Rattle.pg_nodes.specs.declared.check.Test.TheVariants as test
 use Rattle.pg_nodes.specs.Nodes.{Conditions}
+use Rattle.pg_num.specs.Inputs.{input_at}
 
 -- ---- the operations
 
@@ -44,17 +46,6 @@ cast_by Sext from to n = sign_extended from to n
 
 abbrev pub chosen : ℕ → Option ℕ → Option ℕ → Option ℕ
 chosen c first second = if c % 2 == 0 then second else first
-
--- ---- the input
-
-abbrev pub number_or_zero : Option ℤ → ℕ
-number_or_zero None = 0
-number_or_zero (Some n) = residue W64 n
-
--- the input's number at an index, 0 outside of the input
-abbrev pub input_at : List ℤ → ℤ → ℕ
-input_at input (pos i) = number_or_zero (slice_get input i)
-input_at input (negsuc i) = 0
 
 -- ---- the numbers of nodes
 

@@ -1,3 +1,5 @@
+//! Tests of numbers, and checks of nodes.
+
 /// What a number must be.
 #[derive(Clone, Copy, Debug, PartialEq, Eq)]
 pub enum Test {

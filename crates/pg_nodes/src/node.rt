@@ -1,3 +1,5 @@
+//! Nodes: numbers that are computed of an input.
+
 use pg_num::{Bits, Compare, Division, Shift, Width};
 
 /// An operation on two numbers of a width (LLVM Language Reference).

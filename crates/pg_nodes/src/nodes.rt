@@ -1,3 +1,5 @@
+//! Lists of nodes, each of which names only earlier ones.
+
 use crate::node::Node;
 use std::alloc::{AllocError, Global};
 use std::marker::Model;

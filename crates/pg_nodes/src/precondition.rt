@@ -1,3 +1,5 @@
+//! Preconditions: nodes and their checks.
+
 use crate::check::Check;
 use crate::nodes::Nodes;
 use std::alloc::{AllocError, Global};

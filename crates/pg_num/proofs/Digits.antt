@@ -1,5 +1,6 @@
 -- Digits read from the left, with a number that stops growing at a cap.
-use Rattle.std.proofs.Common.{◌≡◌, ℕ, ◌+◌, ◌-◌, ◌*◌, ◌<◌, ◌≤◌, List, [], ◌∷◌, length, get_or, drop, min, refl, ap, ◌∙◌, arith, inl, inr, ◌⊎◌, add-one, drop-cons}
+use Rattle.std.proofs.Common.{◌≡◌, ℕ, ◌+◌, ◌-◌, ◌*◌, ◌<◌, ◌≤◌, List, [], ◌∷◌, length, get_or, drop, min, refl, ap, ◌∙◌, arith, inl, inr, ◌⊎◌}
+use Rattle.std.proofs.Common.{add-one, drop-cons}
 use Rattle.std.proofs.lemmas.Bool.{cases_lt}
 use Rattle.pg_num.specs.Decimal.{digits_after}
 
@@ -22,7 +23,8 @@ digits_after-capped n cap ds = go (cases_lt n cap)
         let b : n ≤ digits_after n ds = digits_after-grows n ds in
         ap (λ m. min (digits_after m ds) cap) e ∙ omega arith
 
-pub digits_step : (text : List ℕ) (i n d cap : ℕ) → i < length text → d ≡ get_or text i 0 → min (digits_after (min (n * 10 + (d - 48)) cap) (drop (i + 1) text)) cap ≡ min (digits_after n (drop i text)) cap
+pub digits_step : (text : List ℕ) (i n d cap : ℕ) → i < length text → d ≡ get_or text i 0
+    → min (digits_after (min (n * 10 + (d - 48)) cap) (drop (i + 1) text)) cap ≡ min (digits_after n (drop i text)) cap
 digits_step text i n d cap h e =
     digits_after-capped (n * 10 + (d - 48)) cap (drop (i + 1) text)
     ∙ rw (e, add-one, drop-cons text i 0) refl

@@ -1,4 +1,5 @@
 pub mod Decimal
+pub mod Inputs
 pub mod Numbers
 pub mod Places
 pub mod Pointers

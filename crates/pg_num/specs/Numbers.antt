@@ -1,6 +1,7 @@
 -- Whole numbers of a fixed width in bits, and the operations on them, as the LLVM Language Reference names them.
 -- A value of width w is a whole number below 2 ^ w. Where LLVM has poison or undefined behaviour, the choice is said.
-use Rattle.std.specs.Prelude.{ℕ, ◌+◌, ◌-◌, ◌*◌, ◌/◌, ◌%◌, ◌^◌, Bool, false, not, ◌==◌, ◌&&◌, nat_lt, nat_le, if◌then◌else◌, ℤ, pos, negsuc, ◌-ℤ◌, int_lt, int_le, int_div, int_rem, bit_and, bit_or, bit_xor, Result, Ok, Err}
+use Rattle.std.specs.Prelude.{ℕ, ◌+◌, ◌-◌, ◌*◌, ◌/◌, ◌%◌, ◌^◌, Bool, false, not, ◌==◌, ◌&&◌, nat_lt, nat_le, if◌then◌else◌, ℤ, pos, negsuc}
+use Rattle.std.specs.Prelude.{◌-ℤ◌, int_lt, int_le, int_div, int_rem, bit_and, bit_or, bit_xor, Result, Ok, Err}
 use Rattle.pg_num.specs.declared.width.Width.{Width}
 use Rattle.pg_num.specs.declared.width.Width.TheVariants.{W1, W8, W16, W32, W64}
 use Rattle.pg_num.specs.declared.operations.Division.{Division}
@@ -23,6 +24,14 @@ width_bits W8 = 8
 width_bits W16 = 16
 width_bits W32 = 32
 width_bits W64 = 64
+
+-- how many bytes a value of a width takes in memory: an i1 takes one
+abbrev pub bytes_of : Width → ℕ
+bytes_of W1 = 1
+bytes_of W8 = 1
+bytes_of W16 = 2
+bytes_of W32 = 4
+bytes_of W64 = 8
 
 -- the modulus of a width: the first number above its values
 abbrev pub modulus : Width → ℕ

@@ -1,3 +1,5 @@
+//! The place of an access through a pointer.
+
 ghost use Rattle.std.specs.Prelude.{◌≡◌, IsTrue};
 ghost use Rattle.pg_num.specs.Places.{is_size};
 ghost use Rattle.pg_num.specs.Pointers.{place_of};

@@ -1,3 +1,5 @@
+//! Sums, differences and products.
+
 ghost use Rattle.std.specs.Prelude.{◌≡◌, ◌<◌};
 ghost use Rattle.pg_num.specs.Numbers.{modulus, sum_of, difference_of, product_of};
 

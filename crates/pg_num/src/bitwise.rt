@@ -1,3 +1,5 @@
+//! Operations bit by bit.
+
 ghost use Rattle.std.specs.Prelude.{◌≡◌, ◌<◌};
 ghost use Rattle.pg_num.specs.Numbers.{bits_of, modulus};
 ghost use Rattle.pg_num.specs.declared.width.Width.{Width};

@@ -1,3 +1,5 @@
+//! Changes of a value's width.
+
 ghost use Rattle.std.specs.Prelude.{◌≡◌, ◌<◌};
 ghost use Rattle.pg_num.specs.Numbers.{modulus, truncated, sign_extended};
 

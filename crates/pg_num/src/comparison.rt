@@ -1,3 +1,5 @@
+//! Comparisons of two values.
+
 ghost use Rattle.std.specs.Prelude.{◌≡◌, ◌<◌};
 ghost use Rattle.pg_num.specs.Numbers.{modulus, compared};
 

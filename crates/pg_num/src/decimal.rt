@@ -1,3 +1,5 @@
+//! Numbers from decimal text, and back.
+
 ghost use Rattle.std.specs.Prelude.{◌≡◌, ◌+◌, ◌-◌, ◌^◌, ◌≤◌, ◌<◌, ◌≤ℤ◌, min, pos, negsuc, neg_ℤ, Some, None, IfSome, if◌then◌else◌};
 ghost use Rattle.std.specs.List.{list_all};
 ghost use Rattle.pg_num.specs.Decimal.{are_digits, is_digit, digits_after, natural_of, is_decimal, is_negative, digits_of, integer_of, decimal_between, digits_up_to};

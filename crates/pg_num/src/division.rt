@@ -1,3 +1,5 @@
+//! Quotients and remainders.
+
 ghost use Rattle.std.specs.Prelude.{◌≡◌, ◌<◌, ◌&&◌, ◌==◌, ◌≢◌, IfOk, int_div, int_rem};
 ghost use Rattle.pg_num.specs.Numbers.{modulus, divided, overflows, least, minus_one, signed, residue};
 

@@ -4,7 +4,9 @@ ghost use Rattle.std.specs.Prelude.{◌≡◌, ℕ, ◌+◌, ◌*◌, ◌/◌, �
 ghost use Rattle.pg_num.specs.Places.{ByteRange, IsPlace, IsWithinGranule, is_size};
 ghost use Rattle.pg_num.specs.Pointers.{moved_by, offset_of, place_of, pointer_of, word_of};
 ghost use Rattle.pg_num.specs.declared.layout.TheConstants.{GLOBALS_END, GRANULE_BYTES, GRANULE_COUNT, MEMORY_BYTES, REGION_GRANULES};
-ghost use Rattle.pg_num.specs.declared.limits.TheConstants.{BOOK_LIMIT, CACHE_LIMIT, CALL_DEPTH_LIMIT, FUNCTION_LIMIT, FUNCTION_REGISTER_LIMIT, GLOBAL_LIMIT, GUIDED_STEP_LIMIT, INSTRUCTION_LIMIT, LINE_LIMIT, NESTING_LIMIT, NUMBERS_LIMIT, OBJECT_LIMIT, PROGRAM_TEXT_LIMIT, QUANTUM_LIMIT, RECORDING_STEP_LIMIT, SESSION_INPUT_LIMIT, SIZE_LIMIT, THREAD_LIMIT, THREAD_REGISTER_LIMIT};
+ghost use Rattle.pg_num.specs.declared.limits.TheConstants.{BOOK_LIMIT, CACHE_LIMIT, CALL_DEPTH_LIMIT, FUNCTION_LIMIT, FUNCTION_REGISTER_LIMIT, GLOBAL_LIMIT, GUIDED_STEP_LIMIT};
+ghost use Rattle.pg_num.specs.declared.limits.TheConstants.{INSTRUCTION_LIMIT, LINE_LIMIT, NESTING_LIMIT, NUMBERS_LIMIT, OBJECT_LIMIT, PROGRAM_TEXT_LIMIT, QUANTUM_LIMIT};
+ghost use Rattle.pg_num.specs.declared.limits.TheConstants.{RECORDING_STEP_LIMIT, SESSION_INPUT_LIMIT, SIZE_LIMIT, THREAD_LIMIT, THREAD_REGISTER_LIMIT};
 
 /// A move keeps the frame, which is the start and the length, and adds the number to the offset, modulo two to the 21.
 pub fn a_move_keeps_the_frame()

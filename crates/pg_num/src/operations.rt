@@ -1,3 +1,5 @@
+//! The names of divisions, shifts, bit operations and comparisons.
+
 /// The four divisions of the LLVM Language Reference: quotient and remainder, unsigned and signed.
 #[derive(Clone, Copy, Debug, PartialEq, Eq)]
 pub enum Division {

@@ -1,3 +1,5 @@
+//! The places of accesses in memory.
+
 use std::marker::Model;
 
 /// Why an access has no place.

@@ -1,3 +1,5 @@
+//! Pointers as words, with their frames.
+
 ghost use Rattle.std.specs.Prelude.{◌≡◌, ◌<◌, ◌-◌, ◌^◌, ◌*ℤ◌, ◌≤ℤ◌, ◌<ℤ◌, pos, negsuc};
 ghost use Rattle.pg_num.specs.Numbers.{modulus, signed};
 ghost use Rattle.pg_num.specs.Pointers.{IsPointer, word_of, pointer_of, moved_by};

@@ -1,3 +1,5 @@
+//! Shifts.
+
 ghost use Rattle.std.specs.Prelude.{◌≡◌, ◌<◌};
 ghost use Rattle.pg_num.specs.Numbers.{modulus, width_bits, shifted, shifted_out, shifted_within};
 

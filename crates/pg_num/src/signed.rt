@@ -1,3 +1,5 @@
+//! The signed readings of values.
+
 ghost use Rattle.std.specs.Prelude.{◌≡◌, ◌<◌};
 ghost use Rattle.pg_num.specs.Numbers.{modulus, signed, residue};
 

@@ -1,3 +1,5 @@
+//! The widths of integer types.
+
 ghost use Rattle.std.specs.Prelude.{◌≡◌, ◌+◌, ◌%◌, ◌^◌, ◌≤◌, ◌<◌, ◌≤ℤ◌, ◌<ℤ◌, pos, negsuc};
 ghost use Rattle.pg_num.specs.Numbers.{width_bits, modulus, half, signed, residue};
 

@@ -1,5 +1,6 @@
 -- The calls of an accepted tree fit the functions that they call.
-use Rattle.std.proofs.Common.{◌≡◌, ℕ, zero, suc, ◌+◌, ◌<◌, ◌≤◌, List, [], ◌∷◌, ◌++◌, length, map, take, drop, Bool, true, false, not, refl, sym, ap, ◌∙◌, subst, true≢false, arith, nat_lt, cond, ◌⊎◌, inl, inr}
+use Rattle.std.proofs.Common.{◌≡◌, ℕ, zero, suc, ◌+◌, ◌<◌, ◌≤◌, List, [], ◌∷◌, ◌++◌, length, map, take, drop, Bool, true, false, not, refl, sym, ap}
+use Rattle.std.proofs.Common.{◌∙◌, subst, true≢false, arith, nat_lt, cond, ◌⊎◌, inl, inr}
 use Rattle.std.specs.Prelude.{slice_get, Option, Some, None, is_some}
 use Rattle.std.specs.List.{filter_map}
 use Rattle.std.proofs.lemmas.Bool.{ltb-false, and_parts}
@@ -15,14 +16,17 @@ use Rattle.pg_ir.specs.Program.{NumberedProgram, types_of, result_of, parameter_
 use Rattle.pg_ir.specs.Signatures.{parameters_of, returned_by}
 use Rattle.pg_ir.specs.WellFormed.{HasType, HaveTypes, BeginsThread, StartsThread, FitCreate, FitKnown, FitsOp, parameter_types}
 use Rattle.pg_ast.specs.declared.names.Name.{Name}
-use Rattle.pg_ast.specs.Syntax.{Ty, Val, Int, True, False, Null, Undef, Poison, ZeroInitializer, Local, Global, GepVal, IntToPtrVal, Typed, Written, Op, Call, Param, Dparam, ParamOf, Metadata, Dots, NamedType, Definition, Tree}
+use Rattle.pg_ast.specs.Syntax.{Ty, Val, Int, True, False, Null, Undef, Poison, ZeroInitializer, Local, Global, GepVal, IntToPtrVal, Typed, Written, Op, Call, Param, Dparam, ParamOf}
+use Rattle.pg_ast.specs.Syntax.{Metadata, Dots, NamedType, Definition, Tree}
 use Rattle.pg_ast.specs.Numbers.{is_void, gives, numbered}
 use Rattle.pg_types.specs.Resolved.{ResolvedType, PointerType, resolved, is_pointer}
 use Rattle.pg_rules.specs.Names.{Symbol, VariableOf, DefinitionOf, DeclarationOf, NoSymbol, symbol, registers_of, register_named, result_type, first_block}
 use Rattle.pg_rules.specs.Places.{type_span}
 use Rattle.pg_rules.specs.Written.{typed_operand, op_types, written_types, asks_typed, op_demands}
 use Rattle.pg_rules.specs.ValueConditions.{unknown_symbol, unknown_value}
-use Rattle.pg_rules.specs.CallConditions.{definition_header, declaration_header, header_of, param_type, param_types, known_of, is_create_known, is_create, variable_symbol, callee_params, is_callable, wrong_header, argument_demands, call_demands, wrong_number, thread_functions, value_operands, is_pointer_param, is_thread_header, wrong_thread, unsupported_thread, unsupported_thread_symbol}
+use Rattle.pg_rules.specs.CallConditions.{definition_header, declaration_header, header_of, param_type, param_types, known_of, is_create_known, is_create, variable_symbol, callee_params}
+use Rattle.pg_rules.specs.CallConditions.{is_callable, wrong_header, argument_demands, call_demands, wrong_number, thread_functions, value_operands, is_pointer_param, is_thread_header}
+use Rattle.pg_rules.specs.CallConditions.{wrong_thread, unsupported_thread, unsupported_thread_symbol}
 use Rattle.pg_rules.specs.Conditions.{scope_of, is_scalar_type, are_params, IsUnrefused}
 use Rattle.pg_rules.specs.Numbered.{scalar_in, value_of, symbol_value, typed_value, known_call, call_of, op_at, named_functions, program_of}
 use Rattle.pg_types.specs.Kinds.{is_as, fails}
@@ -46,7 +50,8 @@ use Rattle.pg_numbering.proofs.Filters.{map_there, map_from}
 
 -- ---- lists
 
-have_types : (p : NumberedProgram) (types ss : List Scalar) (vs : List Value) → length ss ≡ length vs → ((k : ℕ) (s : Scalar) (v : Value) → slice_get ss k ≡ Some s → slice_get vs k ≡ Some v → HasType p types s v) → HaveTypes p types ss vs
+have_types : (p : NumberedProgram) (types ss : List Scalar) (vs : List Value) → length ss ≡ length vs
+    → ((k : ℕ) (s : Scalar) (v : Value) → slice_get ss k ≡ Some s → slice_get vs k ≡ Some v → HasType p types s v) → HaveTypes p types ss vs
 have_types p types [] [] e h = tt
 have_types p types [] (v ∷ vs) e h = absurd cc
 have_types p types (s ∷ ss) [] e h = absurd cc
@@ -67,11 +72,13 @@ no_more (suc n) (a ∷ all) e = omega (arith, no_more n all e)
 count_is : (ps : List Ty) (all : List Typed) (f : Name) → wrong_number ps all f ≡ [] → length all ≡ length ps
 count_is ps all f e = by (nat_lt (length all) (length ps)) refl e
   where
-    by : (b : Bool) → nat_lt (length all) (length ps) ≡ b → ◌≡◌ {A = List Span} (cond b (f.span ∷ []) (map (λ (a : Typed). type_span a.ty) (take 1 (drop (length ps) all)))) [] → length all ≡ length ps
+    by : (b : Bool) → nat_lt (length all) (length ps) ≡ b → ◌≡◌ {A = List Span} (cond b (f.span ∷ []) (map (λ (a : Typed). type_span a.ty) (take 1 (drop (length ps) all)))) []
+        → length all ≡ length ps
     by true h g = absurd cc
     by false h g = omega (arith, no_more (length ps) all g, ltb-false (length all) (length ps) h)
 
-demand_at : (types : List NamedType) (ps : List Ty) (all : List Typed) (k : ℕ) (t : Ty) (a : Typed) → slice_get ps k ≡ Some t → slice_get all k ≡ Some a → slice_get (argument_demands types ps all) k ≡ Some (asks_typed (is_as (resolved types t)) a)
+demand_at : (types : List NamedType) (ps : List Ty) (all : List Typed) (k : ℕ) (t : Ty) (a : Typed) → slice_get ps k ≡ Some t → slice_get all k ≡ Some a
+    → slice_get (argument_demands types ps all) k ≡ Some (asks_typed (is_as (resolved types t)) a)
 demand_at types [] all k t a e h = absurd cc
 demand_at types (p ∷ ps) [] k t a e h = absurd cc
 demand_at types (p ∷ ps) (b ∷ all) zero t a e h =
@@ -94,7 +101,8 @@ known_length types (s ∷ ss) (ParamOf p ∷ ps) e = ap suc (known_length types 
 known_length types (s ∷ ss) (Metadata x ∷ ps) e = absurd cc
 known_length types (s ∷ ss) (Dots x ∷ ps) e = absurd cc
 
-known_at : (types : List NamedType) (ss : List Scalar) (ps : List Dparam) (k : ℕ) (s : Scalar) → are_params types ss ps ≡ true → slice_get ss k ≡ Some s → (t : Ty) × (slice_get (filter_map param_type ps) k ≡ Some t) × (scalar_in (resolved types t) ≡ Some s)
+known_at : (types : List NamedType) (ss : List Scalar) (ps : List Dparam) (k : ℕ) (s : Scalar) → are_params types ss ps ≡ true → slice_get ss k ≡ Some s
+    → (t : Ty) × (slice_get (filter_map param_type ps) k ≡ Some t) × (scalar_in (resolved types t) ≡ Some s)
 known_at types [] ps k s e h = absurd cc
 known_at types (x ∷ ss) [] k s e h = absurd cc
 known_at types (x ∷ ss) (Metadata y ∷ ps) k s e h = absurd cc
@@ -105,14 +113,16 @@ known_at types (x ∷ ss) (ParamOf p ∷ ps) zero s e h =
 known_at types (x ∷ ss) (ParamOf p ∷ ps) (suc k) s e h = known_at types ss ps k s (and_parts (is_scalar_type x (resolved types p.ty)) (are_params types ss ps) e).1 h
 
 -- one parameter, a pointer
-pointer_param : (types : List NamedType) (ps : List Param) → is_pointer_param types (map (λ (p : Param). ParamOf p) ps) ≡ true → (q : Param) × (ps ≡ q ∷ []) × (not (fails is_pointer (resolved types q.ty)) ≡ true)
+pointer_param : (types : List NamedType) (ps : List Param) → is_pointer_param types (map (λ (p : Param). ParamOf p) ps) ≡ true
+    → (q : Param) × (ps ≡ q ∷ []) × (not (fails is_pointer (resolved types q.ty)) ≡ true)
 pointer_param types [] e = absurd cc
 pointer_param types (q ∷ []) e = (q, refl, e)
 pointer_param types (q ∷ r ∷ ps) e = absurd cc
 
 -- ---- known functions
 
-known_fits : (p : NumberedProgram) (types : List Scalar) (k : Known) (args : List Value) → (is_create_known (Some k) ≡ false → HaveTypes p types (parameters_of k) args) → (k ≡ known.PthreadCreate → FitCreate p types args) → FitKnown p types k args
+known_fits : (p : NumberedProgram) (types : List Scalar) (k : Known) (args : List Value) → (is_create_known (Some k) ≡ false → HaveTypes p types (parameters_of k) args)
+    → (k ≡ known.PthreadCreate → FitCreate p types args) → FitKnown p types k args
 known_fits p types known.PgIn args h c = h refl
 known_fits p types known.PgInLen args h c = h refl
 known_fits p types known.PgOut args h c = h refl
@@ -138,7 +148,8 @@ known_fits p types known.PthreadBarrierDestroy args h c = h refl
 
 module _ (m : Tree) (accepted : IsUnrefused m) (f : ℕ) (d : Definition) (there : slice_get (named_functions m) f ≡ Some d) where
   -- what a call gives is what its type is
-  result_given : (t : Ty) (result : Option Scalar) → (not (is_void m.types t) ≡ true → result ≡ scalar_in (resolved m.types t)) → (not (is_void m.types t) ≡ false → result ≡ None) → result ≡ scalar_in (resolved m.types t)
+  result_given : (t : Ty) (result : Option Scalar) → (not (is_void m.types t) ≡ true → result ≡ scalar_in (resolved m.types t)) → (not (is_void m.types t) ≡ false → result ≡ None)
+      → result ≡ scalar_in (resolved m.types t)
   result_given t result given nothing = by (is_void m.types t) refl
     where
       by : (b : Bool) → is_void m.types t ≡ b → result ≡ scalar_in (resolved m.types t)
@@ -155,10 +166,13 @@ module _ (m : Tree) (accepted : IsUnrefused m) (f : ℕ) (d : Definition) (there
 
     argument_type : (k : ℕ) (a : Typed) → slice_get all k ≡ Some a → Has (resolved m.types a.ty)
     unfolding op_types
-    argument_type k a e = p.types (suc (length (written_types w) + k)) a.ty (in_front (written_types w ++ map (λ (x : Typed). x.ty) all) _ (length (written_types w) + k) a.ty (behind_get (written_types w) (map (λ (x : Typed). x.ty) all) k ∙ map_there (λ (x : Typed). x.ty) all k a e))
+    argument_type k a e = p.types (suc (length (written_types w) + k)) a.ty
+        (in_front (written_types w ++ map (λ (x : Typed). x.ty) all) _ (length (written_types w) + k) a.ty
+        (behind_get (written_types w) (map (λ (x : Typed). x.ty) all) k ∙ map_there (λ (x : Typed). x.ty) all k a e))
 
     -- an argument has its parameter's type
-    argument_as : (k : ℕ) (u : Ty) (a : Typed) → slice_get (callee_params (symbol m n.text)) k ≡ Some u → slice_get all k ≡ Some a → Has (resolved m.types u) → resolved m.types a.ty ≡ resolved m.types u
+    argument_as : (k : ℕ) (u : Ty) (a : Typed) → slice_get (callee_params (symbol m n.text)) k ≡ Some u → slice_get all k ≡ Some a → Has (resolved m.types u)
+        → resolved m.types a.ty ≡ resolved m.types u
     unfolding op_demands
     argument_as k u a e h g =
         let r = argument_type k a h in
@@ -168,7 +182,8 @@ module _ (m : Tree) (accepted : IsUnrefused m) (f : ℕ) (d : Definition) (there
         r.1 ∙ ap (λ (q : ResolvedType). Some q) (sym (same_type_true g.0 r.0 (subst (λ (o : Option ResolvedType). is_as o r.0 ≡ true) g.1 test))) ∙ sym g.1
 
     -- where no thread is created, all arguments are values
-    argument_fits : is_create (scope_of m d) n ≡ false → (k : ℕ) (u : Ty) (a : Typed) (x : Scalar) → slice_get (callee_params (symbol m n.text)) k ≡ Some u → slice_get all k ≡ Some a → scalar_in (resolved m.types u) ≡ Some x → HasType (program_of m) (scalars_of m d) x (typed_value (scope_of m d) a)
+    argument_fits : is_create (scope_of m d) n ≡ false → (k : ℕ) (u : Ty) (a : Typed) (x : Scalar) → slice_get (callee_params (symbol m n.text)) k ≡ Some u
+        → slice_get all k ≡ Some a → scalar_in (resolved m.types u) ≡ Some x → HasType (program_of m) (scalars_of m d) x (typed_value (scope_of m d) a)
     argument_fits create k u a x e h g =
         let at : slice_get (value_operands (scope_of m d) (Call s t w n all)) k ≡ Some (typed_operand a) =
         ap (λ (b : Bool). slice_get (cond b (map typed_operand (take 2 all ++ drop 3 all)) (map typed_operand all)) k) create ∙ map_there typed_operand all k a h in
@@ -185,7 +200,8 @@ module _ (m : Tree) (accepted : IsUnrefused m) (f : ℕ) (d : Definition) (there
       ap (λ (n : ℕ). take n (types_of (program_of m) g)) (defined_count g x e) ∙ ap (λ (xs : List Scalar). take (length x.params) xs) (types_are_of m accepted g x e)
 
   -- the types of the parameters of a definition
-  parameter_at : (g : ℕ) (x : Definition) → slice_get m.functions g ≡ Some x → (k : ℕ) (y : Scalar) → slice_get (take (length (numbered m.types x).params) (scalars_of m (numbered m.types x))) k ≡ Some y
+  parameter_at : (g : ℕ) (x : Definition) → slice_get m.functions g ≡ Some x → (k : ℕ) (y : Scalar)
+      → slice_get (take (length (numbered m.types x).params) (scalars_of m (numbered m.types x))) k ≡ Some y
       → (u : Ty) × (slice_get (param_types (definition_header x)) k ≡ Some u) × (scalar_in (resolved m.types u) ≡ Some y)
   parameter_at g x e k y h =
       let named = named_there m g x e in
@@ -193,14 +209,20 @@ module _ (m : Tree) (accepted : IsUnrefused m) (f : ℕ) (d : Definition) (there
       let below : k < length (numbered m.types x).params = omega (arith, count, slice_get_within (take (length (numbered m.types x).params) (scalars_of m (numbered m.types x))) k y h) in
       let q = there_at (numbered m.types x).params k below in
       let plain = param_plain m.types x k q.0 q.1 in
-      let at : slice_get (scalars_of m (numbered m.types x)) k ≡ Some y = sym (front_at (length (numbered m.types x).params) (scalars_of m (numbered m.types x)) k below) ∙ h in
-      (plain.0.ty, param_type_at x.params k plain.0 plain.1, ap (λ (u : Ty). scalar_in (resolved m.types u)) (sym plain.2) ∙ sym (param_at_number m accepted g (numbered m.types x) named k q.0 q.1) ∙ at)
+      let at : slice_get (scalars_of m (numbered m.types x)) k ≡ Some y = sym (front_at (length (numbered m.types x).params) (scalars_of m (numbered m.types x)) k below) ∙ h in (
+        plain.0.ty,
+        param_type_at x.params k plain.0 plain.1,
+        ap (λ (u : Ty). scalar_in (resolved m.types u)) (sym plain.2)
+            ∙ sym (param_at_number m accepted g (numbered m.types x) named k q.0 q.1) ∙ at,
+      )
 
   result_kept : (x : Definition) → (numbered m.types x).result ≡ x.result
   unfolding numbered
   result_kept x = refl
 
-  defined_row : (s : Span) (t : Ty) (w : Option Written) (n : Name) (all : List Typed) → Passes m d (Call s t w n all) → (c : CallsDefined m (symbol m n.text)) → (result : Option Scalar) → result ≡ scalar_in (resolved m.types t) → FitsOp (program_of m) (scalars_of m d) (scalar_in (resolved m.types d.result)) result (call_of (symbol m n.text) (map (typed_value (scope_of m d)) all))
+  defined_row : (s : Span) (t : Ty) (w : Option Written) (n : Name) (all : List Typed) → Passes m d (Call s t w n all) → (c : CallsDefined m (symbol m n.text)) → (result : Option Scalar)
+      → result ≡ scalar_in (resolved m.types t) → FitsOp (program_of m) (scalars_of m d) (scalar_in (resolved m.types d.result)) result
+      (call_of (symbol m n.text) (map (typed_value (scope_of m d)) all))
   unfolding op_types
   defined_row s t w n all p c result r =
       let g = c.function in
@@ -209,14 +231,23 @@ module _ (m : Tree) (accepted : IsUnrefused m) (f : ℕ) (d : Definition) (there
       let named = named_there m g x at in
       let header = front_none (wrong_header m.types (header_of (symbol m n.text)) t w) _ p.call in
       let types = defined_agrees m accepted g x t w at (subst (λ (y : Symbol). wrong_header m.types (header_of y) t w ≡ []) c.is header) (p.types 0 t refl) in
-      let returned : result ≡ result_of (program_of m) g = r ∙ ap scalar_in types ∙ sym (ap (λ (u : Ty). scalar_in (resolved m.types u)) (result_kept x)) ∙ sym (result_is_of m accepted g (numbered m.types x) named) in
+      let returned : result ≡ result_of (program_of m) g = r ∙ ap scalar_in types ∙ sym (ap (λ (u : Ty). scalar_in (resolved m.types u)) (result_kept x))
+      ∙ sym (result_is_of m accepted g (numbered m.types x) named) in
       let callable : is_callable (symbol m n.text) ≡ true = ap (λ (y : Symbol). is_callable y) c.is in
       let create : is_create (scope_of m d) n ≡ false = ap (λ (y : Symbol). is_create_known (known_of y)) c.is in
       let params : callee_params (symbol m n.text) ≡ param_types (definition_header x) = ap (λ (y : Symbol). callee_params y) c.is in
       let count = arguments_count s t w n all p callable in
       let args = map (typed_value (scope_of m d)) all in
       let lengths : length (take (length (numbered m.types x).params) (scalars_of m (numbered m.types x))) ≡ length args =
-      omega (arith, take_count (length (numbered m.types x).params) (scalars_of m (numbered m.types x)) (params_within m accepted g (numbered m.types x) named), params_kept m.types x, params_length x.params, count, ap (λ (xs : List Ty). length xs) params, map_count (typed_value (scope_of m d)) all) in
+      omega (
+        arith,
+        take_count (length (numbered m.types x).params) (scalars_of m (numbered m.types x)) (params_within m accepted g (numbered m.types x) named),
+        params_kept m.types x,
+        params_length x.params,
+        count,
+        ap (λ (xs : List Ty). length xs) params,
+        map_count (typed_value (scope_of m d)) all,
+      ) in
       let fit : HaveTypes (program_of m) (scalars_of m d) (take (length (numbered m.types x).params) (scalars_of m (numbered m.types x))) args =
       have_types (program_of m) (scalars_of m d) (take (length (numbered m.types x).params) (scalars_of m (numbered m.types x))) args lengths
       (λ (k : ℕ) (y : Scalar) (v : Value) a b.
@@ -232,13 +263,15 @@ module _ (m : Tree) (accepted : IsUnrefused m) (f : ℕ) (d : Definition) (there
 
   -- ---- the function with which a thread begins
 
-  thread_header : (g : ℕ) (x : Definition) → slice_get m.functions g ≡ Some x → is_thread_header m.types (Some (definition_header x)) ≡ true → BeginsThread (slice_get (program_of m).functions g)
+  thread_header : (g : ℕ) (x : Definition) → slice_get m.functions g ≡ Some x → is_thread_header m.types (Some (definition_header x)) ≡ true
+      → BeginsThread (slice_get (program_of m).functions g)
   thread_header g x at e =
       let named = named_there m g x at in
       let h = and_parts (not (fails is_pointer (resolved m.types x.result))) (is_pointer_param m.types (map (λ (p : Param). ParamOf p) x.params)) e in
       let q = pointer_param m.types x.params h.1 in
       let r : Has (resolved m.types x.result) = subst (λ (u : Ty). Has (resolved m.types u)) (result_kept x) (result_has m accepted g (numbered m.types x) named) in
-      let result : resolved m.types x.result ≡ Some PointerType = r.1 ∙ ap (λ (y : ResolvedType). Some y) (pointer_is r.0 (passes_from is_pointer (resolved m.types x.result) r.0 (not_true (fails is_pointer (resolved m.types x.result)) h.0) r.1)) in
+      let result : resolved m.types x.result ≡ Some PointerType = r.1
+      ∙ ap (λ (y : ResolvedType). Some y) (pointer_is r.0 (passes_from is_pointer (resolved m.types x.result) r.0 (not_true (fails is_pointer (resolved m.types x.result)) h.0) r.1)) in
       let count : length (numbered m.types x).params ≡ 1 = params_kept m.types x ∙ ap (λ (ps : List Param). length ps) q.1 in
       let p = there_at (numbered m.types x).params 0 (omega (arith, count)) in
       let plain = param_plain m.types x 0 p.0 p.1 in
@@ -250,13 +283,15 @@ module _ (m : Tree) (accepted : IsUnrefused m) (f : ℕ) (d : Definition) (there
       subst BeginsThread (sym (function_there m g (numbered m.types x) named))
       (count, param_at_number m accepted g (numbered m.types x) named 0 p.0 p.1 ∙ ap scalar_in pointer, ap (λ (u : Ty). scalar_in (resolved m.types u)) (result_kept x) ∙ ap scalar_in result)
 
-  thread_symbol : (n : Name) (y : Symbol) → symbol m n.text ≡ y → ◌≡◌ {A = List Span} (cond (is_thread_header m.types (header_of y)) [] (n.span ∷ [])) [] → unsupported_thread_symbol y n.span ≡ [] → unknown_symbol y n.span ≡ [] → StartsThread (program_of m) (symbol_value y)
+  thread_symbol : (n : Name) (y : Symbol) → symbol m n.text ≡ y → ◌≡◌ {A = List Span} (cond (is_thread_header m.types (header_of y)) [] (n.span ∷ [])) []
+      → unsupported_thread_symbol y n.span ≡ [] → unknown_symbol y n.span ≡ [] → StartsThread (program_of m) (symbol_value y)
   thread_symbol n (DefinitionOf g x) e w u k = thread_header g x (definition_there m n.text g x e) (else_none (is_thread_header m.types (Some (definition_header x))) n.span w)
   thread_symbol n (VariableOf i v) e w u k = absurd cc
   thread_symbol n (DeclarationOf x) e w u k = absurd cc
   thread_symbol n NoSymbol e w u k = absurd cc
 
-  thread_fits : (t : Option ResolvedType) (v : Val) → wrong_thread (scope_of m d) v ≡ [] → unsupported_thread (scope_of m d) v ≡ [] → unknown_value (scope_of m d) v ≡ [] → StartsThread (program_of m) (value_of (scope_of m d) t v)
+  thread_fits : (t : Option ResolvedType) (v : Val) → wrong_thread (scope_of m d) v ≡ [] → unsupported_thread (scope_of m d) v ≡ [] → unknown_value (scope_of m d) v ≡ []
+      → StartsThread (program_of m) (value_of (scope_of m d) t v)
   unfolding value_of
   thread_fits t (Global n) w u k = thread_symbol n (symbol m n.text) refl w u k
   thread_fits t (Local n) w u k =
@@ -273,22 +308,28 @@ module _ (m : Tree) (accepted : IsUnrefused m) (f : ℕ) (d : Definition) (there
 
   -- ---- a function that is known
 
-  create_row : (s : Span) (t : Ty) (w : Option Written) (n : Name) (all : List Typed) (p : Passes m d (Call s t w n all)) (callable : is_callable (symbol m n.text) ≡ true) → is_create (scope_of m d) n ≡ true → length all ≡ 4
-      → ((k : ℕ) (x : Scalar) → slice_get (parameters_of known.PthreadCreate) k ≡ Some x → (u : Ty) × (slice_get (callee_params (symbol m n.text)) k ≡ Some u) × (scalar_in (resolved m.types u) ≡ Some x))
+  create_row : (s : Span) (t : Ty) (w : Option Written) (n : Name) (all : List Typed) (p : Passes m d (Call s t w n all)) (callable : is_callable (symbol m n.text) ≡ true)
+      → is_create (scope_of m d) n ≡ true → length all ≡ 4
+      → ((k : ℕ) (x : Scalar) → slice_get (parameters_of known.PthreadCreate) k ≡ Some x
+      → (u : Ty) × (slice_get (callee_params (symbol m n.text)) k ≡ Some u) × (scalar_in (resolved m.types u) ≡ Some x))
       → FitCreate (program_of m) (scalars_of m d) (map (typed_value (scope_of m d)) all)
   create_row s t w n (a ∷ b ∷ c ∷ e ∷ []) p callable create l h =
       let all : List Typed = a ∷ b ∷ c ∷ e ∷ [] in
       let o : Op = Call s t w n all in
-      let at : value_operands (scope_of m d) o ≡ typed_operand a ∷ typed_operand b ∷ typed_operand e ∷ [] = ap (λ (q : Bool). cond q (map typed_operand (take 2 all ++ drop 3 all)) (map typed_operand all)) create in
+      let at : value_operands (scope_of m d) o ≡ typed_operand a ∷ typed_operand b ∷ typed_operand e ∷ [] =
+      ap (λ (q : Bool). cond q (map typed_operand (take 2 all ++ drop 3 all)) (map typed_operand all)) create in
       let threads : thread_functions (scope_of m d) o ≡ c.value ∷ [] = ap (λ (q : Bool). cond q (map (λ (x : Typed). x.value) (take 1 (drop 2 all))) []) create in
       let third : slice_get (thread_functions (scope_of m d) o) 0 ≡ Some c.value = ap (λ (vs : List Val). slice_get vs 0) threads in
       let u0 = h 0 scalar.Ptr refl in
       let u1 = h 1 scalar.Ptr refl in
       let u3 = h 3 scalar.Ptr refl in (
-        operand_fits m accepted f d there o p 0 a.ty a.value (ap (λ us. slice_get us 0) at) scalar.Ptr (ap scalar_in (argument_as s t w n all p callable 0 u0.0 a u0.1 refl (type_of_scalar (resolved m.types u0.0) scalar.Ptr u0.2)) ∙ u0.2),
-        operand_fits m accepted f d there o p 1 b.ty b.value (ap (λ us. slice_get us 1) at) scalar.Ptr (ap scalar_in (argument_as s t w n all p callable 1 u1.0 b u1.1 refl (type_of_scalar (resolved m.types u1.0) scalar.Ptr u1.2)) ∙ u1.2),
+        operand_fits m accepted f d there o p 0 a.ty a.value (ap (λ us. slice_get us 0) at) scalar.Ptr
+            (ap scalar_in (argument_as s t w n all p callable 0 u0.0 a u0.1 refl (type_of_scalar (resolved m.types u0.0) scalar.Ptr u0.2)) ∙ u0.2),
+        operand_fits m accepted f d there o p 1 b.ty b.value (ap (λ us. slice_get us 1) at) scalar.Ptr
+            (ap scalar_in (argument_as s t w n all p callable 1 u1.0 b u1.1 refl (type_of_scalar (resolved m.types u1.0) scalar.Ptr u1.2)) ∙ u1.2),
         thread_fits (resolved m.types c.ty) c.value (p.threads 0 c.value third) (p.supported_threads 0 c.value third) (p.known_threads 0 c.value third),
-        operand_fits m accepted f d there o p 2 e.ty e.value (ap (λ us. slice_get us 2) at) scalar.Ptr (ap scalar_in (argument_as s t w n all p callable 3 u3.0 e u3.1 refl (type_of_scalar (resolved m.types u3.0) scalar.Ptr u3.2)) ∙ u3.2),
+        operand_fits m accepted f d there o p 2 e.ty e.value (ap (λ us. slice_get us 2) at) scalar.Ptr
+            (ap scalar_in (argument_as s t w n all p callable 3 u3.0 e u3.1 refl (type_of_scalar (resolved m.types u3.0) scalar.Ptr u3.2)) ∙ u3.2),
       )
   create_row s t w n [] p callable create l h = absurd (omega (arith, l))
   create_row s t w n (a ∷ []) p callable create l h = absurd (omega (arith, l))
@@ -296,7 +337,9 @@ module _ (m : Tree) (accepted : IsUnrefused m) (f : ℕ) (d : Definition) (there
   create_row s t w n (a ∷ b ∷ c ∷ []) p callable create l h = absurd (omega (arith, l))
   create_row s t w n (a ∷ b ∷ c ∷ e ∷ g ∷ gs) p callable create l h = absurd (omega (arith, l))
 
-  known_row : (s : Span) (t : Ty) (w : Option Written) (n : Name) (all : List Typed) → Passes m d (Call s t w n all) → (c : CallsKnown m (symbol m n.text)) → (result : Option Scalar) → result ≡ scalar_in (resolved m.types t) → FitsOp (program_of m) (scalars_of m d) (scalar_in (resolved m.types d.result)) result (call_of (symbol m n.text) (map (typed_value (scope_of m d)) all))
+  known_row : (s : Span) (t : Ty) (w : Option Written) (n : Name) (all : List Typed) → Passes m d (Call s t w n all) → (c : CallsKnown m (symbol m n.text)) → (result : Option Scalar)
+      → result ≡ scalar_in (resolved m.types t) → FitsOp (program_of m) (scalars_of m d) (scalar_in (resolved m.types d.result)) result
+      (call_of (symbol m n.text) (map (typed_value (scope_of m d)) all))
   unfolding op_types
   known_row s t w n all p c result r =
       let x = c.declaration in
@@ -311,7 +354,8 @@ module _ (m : Tree) (accepted : IsUnrefused m) (f : ℕ) (d : Definition) (there
       let are = known_params m accepted at.0 x k at.1 c.name_is in
       let count = arguments_count s t w n all p callable in
       let args = map (typed_value (scope_of m d)) all in
-      let lengths : length (parameters_of k) ≡ length args = omega (arith, known_length m.types (parameters_of k) x.params are, count, ap (λ (xs : List Ty). length xs) params, map_count (typed_value (scope_of m d)) all) in
+      let lengths : length (parameters_of k) ≡ length args =
+      omega (arith, known_length m.types (parameters_of k) x.params are, count, ap (λ (xs : List Ty). length xs) params, map_count (typed_value (scope_of m d)) all) in
       let parameter = λ (i : ℕ) (y : Scalar) (h : slice_get (parameters_of k) i ≡ Some y). known_at m.types (parameters_of k) x.params i y are h in
       let fit : FitKnown (program_of m) (scalars_of m d) k args =
       known_fits (program_of m) (scalars_of m d) k args
@@ -321,7 +365,8 @@ module _ (m : Tree) (accepted : IsUnrefused m) (f : ℕ) (d : Definition) (there
       let arg = map_from (typed_value (scope_of m d)) all i v b in
       subst (HasType (program_of m) (scalars_of m d) y) (sym arg.2)
       (argument_fits s t w n all p callable (created ∙ none) i u.0 arg.0 y (ap (λ (xs : List Ty). slice_get xs i) params ∙ u.1) arg.1 u.2)))
-      (λ is. create_row s t w n all p callable (created ∙ ap (λ (q : Known). is_create_known (Some q)) is) (sym (map_count (typed_value (scope_of m d)) all) ∙ sym lengths ∙ ap (λ (q : Known). length (parameters_of q)) is)
+      (λ is. create_row s t w n all p callable (created ∙ ap (λ (q : Known). is_create_known (Some q)) is)
+      (sym (map_count (typed_value (scope_of m d)) all) ∙ sym lengths ∙ ap (λ (q : Known). length (parameters_of q)) is)
       (λ (i : ℕ) (y : Scalar) h.
       let u = parameter i y (ap (λ (q : Known). slice_get (parameters_of q) i) is ∙ h) in
       (u.0, ap (λ (xs : List Ty). slice_get xs i) params ∙ u.1, u.2))) in
@@ -330,11 +375,13 @@ module _ (m : Tree) (accepted : IsUnrefused m) (f : ℕ) (d : Definition) (there
 
   -- ---- calls
 
-  pub call_fits : (s : Span) (t : Ty) (w : Option Written) (n : Name) (all : List Typed) → Passes m d (Call s t w n all) → (result : Option Scalar) → (gives m.types (Call s t w n all) ≡ true → result ≡ scalar_in (result_type m.types (Call s t w n all))) → (gives m.types (Call s t w n all) ≡ false → result ≡ None)
+  pub call_fits : (s : Span) (t : Ty) (w : Option Written) (n : Name) (all : List Typed) → Passes m d (Call s t w n all) → (result : Option Scalar)
+      → (gives m.types (Call s t w n all) ≡ true → result ≡ scalar_in (result_type m.types (Call s t w n all))) → (gives m.types (Call s t w n all) ≡ false → result ≡ None)
       → FitsOp (program_of m) (scalars_of m d) (scalar_in (resolved m.types d.result)) result (op_at (scope_of m d) (first_block m.functions f) (Call s t w n all))
   unfolding gives op_at
   call_fits s t w n all p result given nothing = by (callee_of m d s t w n all p)
     where
-      by : CallsDefined m (symbol m n.text) ⊎ CallsKnown m (symbol m n.text) → FitsOp (program_of m) (scalars_of m d) (scalar_in (resolved m.types d.result)) result (call_of (symbol m n.text) (map (typed_value (scope_of m d)) all))
+      by : CallsDefined m (symbol m n.text) ⊎ CallsKnown m (symbol m n.text)
+          → FitsOp (program_of m) (scalars_of m d) (scalar_in (resolved m.types d.result)) result (call_of (symbol m n.text) (map (typed_value (scope_of m d)) all))
       by (inl c) = defined_row s t w n all p c result (result_given t result given nothing)
       by (inr c) = known_row s t w n all p c result (result_given t result given nothing)

@@ -30,7 +30,8 @@ pub record CallsKnown (m : Tree) (s : Symbol) : Type 0 where
   pub is : s ≡ DeclarationOf declaration
   pub name_is : known_named declaration.name.text ≡ Some known
 
-known_or : (m : Tree) (d : Declaration) (span : Span) (o : Option Known) → known_named d.name.text ≡ o → ◌≡◌ {A = List Span} (cond (is_some o) [] (span ∷ [])) [] → CallsKnown m (DeclarationOf d)
+known_or : (m : Tree) (d : Declaration) (span : Span) (o : Option Known) → known_named d.name.text ≡ o → ◌≡◌ {A = List Span} (cond (is_some o) [] (span ∷ [])) []
+    → CallsKnown m (DeclarationOf d)
 known_or m d span None h e = absurd cc
 known_or m d span (Some k) h e = record { declaration = d; known = k; is = refl; name_is = h }
 
@@ -45,11 +46,13 @@ header_agrees types h t w e = (and_parts (agree types h.result t) (written_fit t
 
 module _ (m : Tree) (accepted : IsUnrefused m) where
   -- the type of a call is the callee's result
-  pub defined_agrees : (f : ℕ) (d : Definition) (t : Ty) (w : Option Written) → slice_get m.functions f ≡ Some d → wrong_header m.types (Some (definition_header d)) t w ≡ [] → Has (resolved m.types t) → resolved m.types t ≡ resolved m.types d.result
+  pub defined_agrees : (f : ℕ) (d : Definition) (t : Ty) (w : Option Written) → slice_get m.functions f ≡ Some d → wrong_header m.types (Some (definition_header d)) t w ≡ []
+      → Has (resolved m.types t) → resolved m.types t ≡ resolved m.types d.result
   unfolding numbered
   defined_agrees f d t w e h k = agreed m.types d.result t (result_has m accepted f (numbered m.types d) (named_there m f d e)) k (header_agrees m.types (definition_header d) t w h)
 
-  pub known_result : (j : ℕ) (d : Declaration) (k : Known) → slice_get m.declares j ≡ Some d → known_named d.name.text ≡ Some k → is_result (returned_by k) (resolved m.types d.result) ≡ true
+  pub known_result : (j : ℕ) (d : Declaration) (k : Known) → slice_get m.declares j ≡ Some d → known_named d.name.text ≡ Some k
+      → is_result (returned_by k) (resolved m.types d.result) ≡ true
   known_result j d k e h = (and_parts (is_result (returned_by k) (resolved m.types d.result)) (are_params m.types (parameters_of k) d.params) (known_header m accepted j d k e h)).0
 
   -- and that of a function that is known, which is a type

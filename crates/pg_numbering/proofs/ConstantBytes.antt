@@ -1,5 +1,6 @@
 -- The bytes of an initialiser are no more than its type's size.
-use Rattle.std.proofs.Common.{◌≡◌, ℕ, zero, suc, ◌+◌, ◌-◌, ◌*◌, ◌/◌, ◌≤◌, List, [], ◌∷◌, ◌++◌, length, replicate, Bool, true, false, ◌==◌, not, refl, sym, ap, ◌∙◌, subst, arith, length-append, cond}
+use Rattle.std.proofs.Common.{◌≡◌, ℕ, zero, suc, ◌+◌, ◌-◌, ◌*◌, ◌/◌, ◌≤◌, List, [], ◌∷◌, ◌++◌, length, replicate, Bool, true, false, ◌==◌, not}
+use Rattle.std.proofs.Common.{refl, sym, ap, ◌∙◌, subst, arith, length-append, cond}
 use Rattle.std.proofs.lemmas.List.{length-replicate}
 use Rattle.std.specs.Prelude.{Option, Some}
 use Rattle.std.specs.List.{AllByRecursion}
@@ -91,20 +92,27 @@ module _ (m : Tree) where
     elements_length e (MoreConsts t c cs) w h =
         let own = part_is_as m.types e t (front_none (wrong_part m.types (Some e) t) _ w) h.0 in
         let rest = behind_none (wrong_part m.types (Some e) t) (wrong_const m.types (resolved m.types t) c ++ wrong_elements m.types (Some e) cs) w in
-        let one = const_length e c (sym (ap (λ (o : Option ResolvedType). wrong_const m.types o c) own) ∙ front_none (wrong_const m.types (resolved m.types t) c) (wrong_elements m.types (Some e) cs) rest) (all_front (λ (u : Ty). Has (resolved m.types u)) (const_types c) (part_types cs) h.1) in
-        let more = elements_length e cs (behind_none (wrong_const m.types (resolved m.types t) c) (wrong_elements m.types (Some e) cs) rest) (all_behind (λ (u : Ty). Has (resolved m.types u)) (const_types c) (part_types cs) h.1) in
+        let one = const_length e c (sym (ap (λ (o : Option ResolvedType). wrong_const m.types o c) own)
+        ∙ front_none (wrong_const m.types (resolved m.types t) c) (wrong_elements m.types (Some e) cs) rest)
+        (all_front (λ (u : Ty). Has (resolved m.types u)) (const_types c) (part_types cs) h.1) in
+        let more = elements_length e cs (behind_none (wrong_const m.types (resolved m.types t) c) (wrong_elements m.types (Some e) cs) rest)
+        (all_behind (λ (u : Ty). Has (resolved m.types u)) (const_types c) (part_types cs) h.1) in
         more_length (const_bytes m e c) (element_bytes m e cs) (part_count cs) (size_of e) one more
 
-    fields_length : (at : ℕ) (ts : List ResolvedType) (cs : Consts) → wrong_fields m.types ts cs ≡ [] → AllHave m.types (part_types cs) → at + length (field_bytes m at ts cs) ≤ end_from at ts
+    fields_length : (at : ℕ) (ts : List ResolvedType) (cs : Consts) → wrong_fields m.types ts cs ≡ [] → AllHave m.types (part_types cs)
+        → at + length (field_bytes m at ts cs) ≤ end_from at ts
     fields_length at [] NoConsts w h = omega arith
     fields_length at [] (MoreConsts t c cs) w h = omega arith
     fields_length at (f ∷ fs) NoConsts w h = nothing_after at (f ∷ fs)
     fields_length at (f ∷ fs) (MoreConsts t c cs) w h =
         let own = part_is_as m.types f t (front_none (wrong_part m.types (Some f) t) _ w) h.0 in
         let rest = behind_none (wrong_part m.types (Some f) t) (wrong_const m.types (resolved m.types t) c ++ wrong_fields m.types fs cs) w in
-        let one = const_length f c (sym (ap (λ (o : Option ResolvedType). wrong_const m.types o c) own) ∙ front_none (wrong_const m.types (resolved m.types t) c) (wrong_fields m.types fs cs) rest) (all_front (λ (u : Ty). Has (resolved m.types u)) (const_types c) (part_types cs) h.1) in
-        let more = fields_length (round_up at (alignment_of f) + size_of f) fs cs (behind_none (wrong_const m.types (resolved m.types t) c) (wrong_fields m.types fs cs) rest) (all_behind (λ (u : Ty). Has (resolved m.types u)) (const_types c) (part_types cs) h.1) in
-        field_length at (round_up at (alignment_of f)) (size_of f) (end_from (round_up at (alignment_of f) + size_of f) fs) (const_bytes m f c) (field_bytes m (round_up at (alignment_of f) + size_of f) fs cs) (rounds_up at (alignment_of f) (aligned f)) one more
+        let one = const_length f c (sym (ap (λ (o : Option ResolvedType). wrong_const m.types o c) own)
+        ∙ front_none (wrong_const m.types (resolved m.types t) c) (wrong_fields m.types fs cs) rest) (all_front (λ (u : Ty). Has (resolved m.types u)) (const_types c) (part_types cs) h.1) in
+        let more = fields_length (round_up at (alignment_of f) + size_of f) fs cs (behind_none (wrong_const m.types (resolved m.types t) c) (wrong_fields m.types fs cs) rest)
+        (all_behind (λ (u : Ty). Has (resolved m.types u)) (const_types c) (part_types cs) h.1) in
+        field_length at (round_up at (alignment_of f)) (size_of f) (end_from (round_up at (alignment_of f) + size_of f) fs) (const_bytes m f c)
+        (field_bytes m (round_up at (alignment_of f) + size_of f) fs cs) (rounds_up at (alignment_of f) (aligned f)) one more
 
 -- ---- without zeros at the end
 

@@ -1,9 +1,11 @@
 -- In an accepted tree whose ending lines stand last, a line ends its block just where it is its last.
-use Rattle.std.proofs.Common.{◌≡◌, ℕ, zero, suc, ◌+◌, List, [], ◌∷◌, length, Bool, true, false, ◌&&◌, ◌||◌, not, refl, sym, ap, ◌∙◌, subst, arith, true≢false, ◌↔◌}
+use Rattle.std.proofs.Common.{◌≡◌, ℕ, zero, suc, ◌+◌, List, [], ◌∷◌, length, Bool, true, false, ◌&&◌, ◌||◌, not, refl, sym, ap, ◌∙◌, subst, arith}
+use Rattle.std.proofs.Common.{true≢false, ◌↔◌}
 use Rattle.std.specs.Prelude.{slice_get, Some}
 use Rattle.std.specs.List.{list_any}
 use Rattle.std.proofs.lemmas.Bool.{and_parts}
-use Rattle.pg_ast.specs.Syntax.{Op, Binary, Icmp, Cast, Select, Phi, Br, CondBr, Switch, Call, RetVoid, Ret, Unreachable, Alloca, Load, Store, GetElementPtr, Line, Block, NamedType, Definition, Tree}
+use Rattle.pg_ast.specs.Syntax.{Op, Binary, Icmp, Cast, Select, Phi, Br, CondBr, Switch, Call, RetVoid, Ret, Unreachable, Alloca, Load, Store, GetElementPtr, Line, Block, NamedType}
+use Rattle.pg_ast.specs.Syntax.{Definition, Tree}
 use Rattle.pg_ast.specs.Numbers.{each_at, line_at, behind_line, block_at, after}
 use Rattle.pg_rules.specs.Written.{is_ending}
 use Rattle.pg_rules.specs.Conditions.{IsUnrefused}
@@ -49,7 +51,8 @@ right_of : (a b : Bool) → a ≡ false → (a || b) ≡ true → b ≡ true
 right_of true b h e = absurd cc
 right_of false b h e = e
 
-the_last : (ls : List Line) (j : ℕ) (l : Line) → ends_last ls ≡ true → list_any (λ (x : Line). is_ending x.op) ls ≡ true → slice_get ls j ≡ Some l → j + 1 ≡ length ls → is_ending l.op ≡ true
+the_last : (ls : List Line) (j : ℕ) (l : Line) → ends_last ls ≡ true → list_any (λ (x : Line). is_ending x.op) ls ≡ true → slice_get ls j ≡ Some l → j + 1 ≡ length ls
+    → is_ending l.op ≡ true
 the_last [] j l e a h t = absurd cc
 the_last (k ∷ []) zero l e a h t = subst (λ (q : Line). is_ending q.op ≡ true) (some_is k l h) (by (is_ending k.op) a)
   where
@@ -73,7 +76,8 @@ block_kept : (types : List NamedType) (next : ℕ) (b : Block) → ends_last (bl
 unfolding block_at
 block_kept types next b = lines_kept types (after next b.label) b.lines
 
-module _ (m : Tree) (accepted : IsUnrefused m) (order : IsInOrder m) (f : ℕ) (d : Definition) (there : slice_get (named_functions m) f ≡ Some d) (i : ℕ) (b : Block) (within : slice_get d.blocks i ≡ Some b) where
+module _ (m : Tree) (accepted : IsUnrefused m) (order : IsInOrder m) (f : ℕ) (d : Definition) (there : slice_get (named_functions m) f ≡ Some d) (i : ℕ) (b : Block)
+    (within : slice_get d.blocks i ≡ Some b) where
   last_here : ends_last b.lines ≡ true
   last_here =
       let n = named_from m f d there in

@@ -14,7 +14,8 @@ pub record IsOf {X Y : Type 0} (h : X → Option Y) (xs : List X) (y : Y) : Type
 of_next : {X Y : Type 0} (h : X → Option Y) (x : X) (xs : List X) (y : Y) → IsOf h xs y → IsOf h (x ∷ xs) y
 of_next h x xs y r = record { place = suc r.place; whole = r.whole; there = r.there; is = r.is }
 
-filter_case : {X Y : Type 0} (h : X → Option Y) (x : X) (xs : List X) (i : ℕ) (y : Y) (o : Option Y) → h x ≡ o → slice_get (cons_option o (filter_map h xs)) i ≡ Some y → ((j : ℕ) → slice_get (filter_map h xs) j ≡ Some y → IsOf h xs y) → IsOf h (x ∷ xs) y
+filter_case : {X Y : Type 0} (h : X → Option Y) (x : X) (xs : List X) (i : ℕ) (y : Y) (o : Option Y) → h x ≡ o → slice_get (cons_option o (filter_map h xs)) i ≡ Some y
+    → ((j : ℕ) → slice_get (filter_map h xs) j ≡ Some y → IsOf h xs y) → IsOf h (x ∷ xs) y
 filter_case h x xs i y None e g more = of_next h x xs y (more i g)
 filter_case h x xs zero y (Some z) e g more = record { place = 0; whole = x; there = refl; is = e ∙ g }
 filter_case h x xs (suc i) y (Some z) e g more = of_next h x xs y (more i g)
@@ -24,7 +25,8 @@ filter_found h [] i y e = absurd cc
 filter_found h (x ∷ xs) i y e = filter_case h x xs i y (h x) refl e (λ j g. filter_found h xs j y g)
 
 -- what is kept of an element stands somewhere
-pub filter_there : {X Y : Type 0} (h : X → Option Y) (xs : List X) (i : ℕ) (x : X) (y : Y) → slice_get xs i ≡ Some x → h x ≡ Some y → (j : ℕ) × (slice_get (filter_map h xs) j ≡ Some y)
+pub filter_there : {X Y : Type 0} (h : X → Option Y) (xs : List X) (i : ℕ) (x : X) (y : Y) → slice_get xs i ≡ Some x → h x ≡ Some y
+    → (j : ℕ) × (slice_get (filter_map h xs) j ≡ Some y)
 filter_there h [] i x y e g = absurd cc
 filter_there {X} h (z ∷ zs) zero x y e g = (0, ap (λ o. slice_get (cons_option o (filter_map h zs)) 0) (subst (λ (q : X). h q ≡ Some y) (sym (some_is z x e)) g))
 filter_there {X} {Y} h (z ∷ zs) (suc i) x y e g = by (h z) (filter_there h zs i x y e g)
@@ -65,7 +67,9 @@ pub record IsOfPiece {X Y : Type 0} (g : X → List Y) (xs : List X) (y : Y) : T
   pub there : slice_get xs place ≡ Some whole
   pub inside : slice_get (g whole) inner ≡ Some y
 
-piece_case : {X Y : Type 0} (g : X → List Y) (x : X) (xs : List X) (i : ℕ) (y : Y) → (slice_get (g x) i ≡ Some y) ⊎ ((j : ℕ) × (slice_get (flat_map g xs) j ≡ Some y) × (i ≡ length (g x) + j)) → ((j : ℕ) → slice_get (flat_map g xs) j ≡ Some y → IsOfPiece g xs y) → IsOfPiece g (x ∷ xs) y
+piece_case : {X Y : Type 0} (g : X → List Y) (x : X) (xs : List X) (i : ℕ) (y : Y)
+    → (slice_get (g x) i ≡ Some y) ⊎ ((j : ℕ) × (slice_get (flat_map g xs) j ≡ Some y) × (i ≡ length (g x) + j))
+    → ((j : ℕ) → slice_get (flat_map g xs) j ≡ Some y → IsOfPiece g xs y) → IsOfPiece g (x ∷ xs) y
 piece_case g x xs i y (inl e) more = record { place = 0; whole = x; inner = i; there = refl; inside = e }
 piece_case g x xs i y (inr e) more = let r = more e.0 e.1 in record { place = suc r.place; whole = r.whole; inner = r.inner; there = r.there; inside = r.inside }
 

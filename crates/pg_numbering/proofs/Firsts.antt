@@ -1,5 +1,6 @@
 -- The first element of a list that passes a test, and where it stands.
-use Rattle.std.proofs.Common.{◌≡◌, ℕ, zero, suc, ◌+◌, ◌<◌, ◌≤◌, List, [], ◌∷◌, length, Bool, true, false, not, refl, sym, ap, ◌∙◌, subst, arith, cond, nat_lt, ◌⊎◌, inl, inr, true≢false}
+use Rattle.std.proofs.Common.{◌≡◌, ℕ, zero, suc, ◌+◌, ◌<◌, ◌≤◌, List, [], ◌∷◌, length, Bool, true, false, not, refl, sym, ap, ◌∙◌, subst, arith, cond}
+use Rattle.std.proofs.Common.{nat_lt, ◌⊎◌, inl, inr, true≢false}
 use Rattle.std.specs.Prelude.{slice_get, Option, Some, None}
 use Rattle.std.specs.List.{find, position, position_or_len, list_any, enumerate_from}
 use Rattle.std.proofs.lemmas.Bool.{lt-ltb, ltb-true, or_from}

@@ -1,5 +1,6 @@
 -- The functions and basic blocks of an accepted tree's program are those of a program, and so is its main.
-use Rattle.std.proofs.Common.{◌≡◌, ℕ, zero, suc, ◌+◌, ◌-◌, ◌<◌, ◌≤◌, List, [], ◌∷◌, length, map, take, drop, get_or, Bool, true, false, ◌||◌, ◌==◌, refl, sym, ap, ◌∙◌, subst, arith, cond, length-append}
+use Rattle.std.proofs.Common.{◌≡◌, ℕ, zero, suc, ◌+◌, ◌-◌, ◌<◌, ◌≤◌, List, [], ◌∷◌, length, map, take, drop, get_or, Bool, true, false, ◌||◌, ◌==◌}
+use Rattle.std.proofs.Common.{refl, sym, ap, ◌∙◌, subst, arith, cond, length-append}
 use Rattle.std.specs.Prelude.{slice_get, Option, Some, None, sum_by, unwrap_or, nat_le}
 use Rattle.std.specs.List.{list_any, flat_map, filter_map, cons_option, prefix_len, position}
 use Rattle.std.specs.Option.{option_map}
@@ -32,7 +33,8 @@ use Rattle.pg_rules.specs.Numbered.{named_functions, function_at, instr_at, prog
 use Rattle.pg_numbering.proofs.Flat.{some_is, sum_within, there_at, front_at, rest_at}
 use Rattle.pg_numbering.proofs.Unrefused.{front_none, at_if_none, bodies_pass, definitions_pass, named_from, main_is}
 use Rattle.pg_numbering.proofs.Naming.{block_count, first_block_named, first_line_named, all_lines_named, has_name}
-use Rattle.pg_numbering.proofs.Placed.{IsFunctionOf, function_found, function_there, functions_count, block_of, lines_in, IsBlockOf, block_there, block_found, blocks_total, line_there, instrs_total}
+use Rattle.pg_numbering.proofs.Placed.{IsFunctionOf, function_found, function_there, functions_count, block_of, lines_in, IsBlockOf, block_there, block_found, blocks_total, line_there}
+use Rattle.pg_numbering.proofs.Placed.{instrs_total}
 use Rattle.pg_numbering.proofs.Headers.{main_header, named_there}
 use Rattle.pg_numbering.proofs.Scalars.{result_is}
 use Rattle.pg_numbering.proofs.Lines.{IsLine}
@@ -56,7 +58,8 @@ module _ (m : Tree) (accepted : IsUnrefused m) where
   blocks_within : (f : ℕ) (d : Definition) → slice_get (named_functions m) f ≡ Some d → first_block m.functions f + length d.blocks ≤ length (program_of m).blocks
   blocks_within f d e = omega (arith, blocks_total m, sum_within block_count (named_functions m) f d e, first_block_named m f)
 
-  pub in_function : (f : ℕ) (d : Definition) (i : ℕ) (b : Block) → slice_get (named_functions m) f ≡ Some d → slice_get d.blocks i ≡ Some b → IsInFunction f (slice_get (program_of m).blocks (first_block m.functions f + i))
+  pub in_function : (f : ℕ) (d : Definition) (i : ℕ) (b : Block) → slice_get (named_functions m) f ≡ Some d → slice_get d.blocks i ≡ Some b
+      → IsInFunction f (slice_get (program_of m).blocks (first_block m.functions f + i))
   in_function f d i b e h = subst (IsInFunction f) (sym (block_there m f d i b e h)) refl
 
   pub fits_function : (f : ℕ) (x : Function) → slice_get (program_of m).functions f ≡ Some x → FitsFunction (program_of m) f x
@@ -88,7 +91,8 @@ module _ (m : Tree) (accepted : IsUnrefused m) where
   some_lines (l ∷ ls) e = omega arith
 
   -- a block has a line that ends it
-  pub has_ending : (f : ℕ) (d : Definition) (i : ℕ) (b : Block) → slice_get (named_functions m) f ≡ Some d → slice_get d.blocks i ≡ Some b → list_any (λ (l : Line). is_ending l.op) b.lines ≡ true
+  pub has_ending : (f : ℕ) (d : Definition) (i : ℕ) (b : Block) → slice_get (named_functions m) f ≡ Some d → slice_get d.blocks i ≡ Some b
+      → list_any (λ (l : Line). is_ending l.op) b.lines ≡ true
   has_ending f d i b e h =
       not_false (list_any (λ (l : Line). is_ending l.op) b.lines) (none_at is_endless d.blocks i b (or_parts (length d.blocks == 0) (list_any is_endless d.blocks) (finished f d e)).1 h)
 
@@ -100,14 +104,16 @@ module _ (m : Tree) (accepted : IsUnrefused m) where
       let c : sum_by line_count (take f (named_functions m)) + line_count d ≤ sum_by line_count (named_functions m) = sum_within line_count (named_functions m) f d e in
       omega (arith, a, c, first_line_named m f, all_lines_named m, instrs_total m)
 
-  pub in_block : (f : ℕ) (d : Definition) (i : ℕ) (b : Block) (j : ℕ) (l : Line) → slice_get (named_functions m) f ≡ Some d → slice_get d.blocks i ≡ Some b → slice_get b.lines j ≡ Some l
+  pub in_block : (f : ℕ) (d : Definition) (i : ℕ) (b : Block) (j : ℕ) (l : Line) → slice_get (named_functions m) f ≡ Some d → slice_get d.blocks i ≡ Some b
+      → slice_get b.lines j ≡ Some l
       → IsInBlock (first_block m.functions f + i) (slice_get (program_of m).instrs (first_line m.functions f + sum_by lines_in (take i d.blocks) + j))
   in_block f d i b j l e h g = subst (IsInBlock (first_block m.functions f + i)) (sym (line_there m f d i b j l e h g)) refl
 
   -- ---- few phis
 
   -- where all up to a place are kept, at least as many are kept
-  kept_count : {X Y : Type 0} (h : X → Option Y) (xs : List X) (n : ℕ) → n ≤ length xs → ((j : ℕ) (x : X) → j < n → slice_get xs j ≡ Some x → (y : Y) × (h x ≡ Some y)) → n ≤ length (filter_map h xs)
+  kept_count : {X Y : Type 0} (h : X → Option Y) (xs : List X) (n : ℕ) → n ≤ length xs → ((j : ℕ) (x : X) → j < n → slice_get xs j ≡ Some x → (y : Y) × (h x ≡ Some y))
+      → n ≤ length (filter_map h xs)
   kept_count h xs zero l g = omega arith
   kept_count h [] (suc n) l g = absurd (omega (arith, l))
   kept_count {X} {Y} h (x ∷ xs) (suc n) l g =
@@ -128,7 +134,8 @@ module _ (m : Tree) (accepted : IsUnrefused m) where
   own_registers d i b e =
       omega (arith, piece_length (block_registers m.types) d.blocks i b e, length-append (filter_map (param_register m.types) d.params) (flat_map (block_registers m.types) d.blocks))
 
-  phi_register : (f : ℕ) (d : Definition) (i : ℕ) (b : Block) (j : ℕ) (l : Line) → slice_get (named_functions m) f ≡ Some d → slice_get d.blocks i ≡ Some b → slice_get b.lines j ≡ Some l → is_phi_op l.op ≡ true → (r : Register) × (line_register m.types l ≡ Some r)
+  phi_register : (f : ℕ) (d : Definition) (i : ℕ) (b : Block) (j : ℕ) (l : Line) → slice_get (named_functions m) f ≡ Some d → slice_get d.blocks i ≡ Some b
+      → slice_get b.lines j ≡ Some l → is_phi_op l.op ≡ true → (r : Register) × (line_register m.types l ≡ Some r)
   phi_register f d i b j l e h g t =
       let at : IsLine m d l = record { function = f; there = e; place = i; block = b; within = h; inner = j; inside = g } in
       let given : gives m.types l.op ≡ true = phi_gives m d l.op (passes m accepted d l at) t in
@@ -162,7 +169,8 @@ module _ (m : Tree) (accepted : IsUnrefused m) where
     end_is = ap (λ (o : Option numbered_block.Block). end_in o) (block_there m f d i b e h)
 
     -- an instruction of the block is that of a line
-    pub instr_in : (j : ℕ) (l : Line) → slice_get b.lines j ≡ Some l → slice_get (instrs_of (program_of m) (first_block m.functions f + i)) j ≡ Some (instr_at (scope_of m d) (first_block m.functions f) i l)
+    pub instr_in : (j : ℕ) (l : Line) → slice_get b.lines j ≡ Some l
+        → slice_get (instrs_of (program_of m) (first_block m.functions f + i)) j ≡ Some (instr_at (scope_of m d) (first_block m.functions f) i l)
     unfolding instrs_of
     instr_in j l g =
         let p = program_of m in
@@ -180,13 +188,16 @@ module _ (m : Tree) (accepted : IsUnrefused m) where
         let k = first_block m.functions f + i in
         omega (arith, front_length (end_of p k - first_of p k) (drop (first_of p k) p.instrs), first_is, end_is)
 
-    phis_before : (j : ℕ) (l : Line) → j < prefix_len (λ (x : Instr). is_phi x.op) (instrs_of (program_of m) (first_block m.functions f + i)) → slice_get b.lines j ≡ Some l → is_phi_op l.op ≡ true
+    phis_before : (j : ℕ) (l : Line) → j < prefix_len (λ (x : Instr). is_phi x.op) (instrs_of (program_of m) (first_block m.functions f + i)) → slice_get b.lines j ≡ Some l
+        → is_phi_op l.op ≡ true
     phis_before j l k g =
         let x = instr_at (scope_of m d) (first_block m.functions f) i l in
         let at = instr_in j l g in
         let same : get_or (instrs_of (program_of m) (first_block m.functions f + i)) j x ≡ x =
-        some_is _ x (sym (slice_get-get_or (instrs_of (program_of m) (first_block m.functions f + i)) j x (slice_get_within (instrs_of (program_of m) (first_block m.functions f + i)) j x at)) ∙ at) in
-        let t : is_phi x.op ≡ true = subst (λ (y : Instr). is_phi y.op ≡ true) same (prefix_len_passes (λ (y : Instr). is_phi y.op) (instrs_of (program_of m) (first_block m.functions f + i)) j x k) in
+        some_is _ x (sym (slice_get-get_or (instrs_of (program_of m) (first_block m.functions f + i)) j x (slice_get_within (instrs_of (program_of m) (first_block m.functions f + i)) j x at))
+        ∙ at) in
+        let t : is_phi x.op ≡ true = subst (λ (y : Instr). is_phi y.op ≡ true) same
+        (prefix_len_passes (λ (y : Instr). is_phi y.op) (instrs_of (program_of m) (first_block m.functions f + i)) j x k) in
         sym (op_phi (scope_of m d) (first_block m.functions f) l.op) ∙ t
 
     pub few_phis : length (phis_of (program_of m) (first_block m.functions f + i)) ≤ FUNCTION_REGISTER_LIMIT
@@ -195,13 +206,15 @@ module _ (m : Tree) (accepted : IsUnrefused m) where
         let xs = instrs_of (program_of m) (first_block m.functions f + i) in
         let n = prefix_len (λ (x : Instr). is_phi x.op) xs in
         let count : length (take n xs) ≡ n = length-prefix_len (λ (x : Instr). is_phi x.op) xs in
-        let kept : n ≤ length (block_registers m.types b) = kept_count m accepted (line_register m.types) b.lines n (omega (arith, prefix_within (λ (x : Instr). is_phi x.op) xs, instrs_length)) (λ (j : ℕ) (l : Line) k g. phi_register m accepted f d i b j l e h g (phis_before j l k g)) in
+        let kept : n ≤ length (block_registers m.types b) = kept_count m accepted (line_register m.types) b.lines n
+        (omega (arith, prefix_within (λ (x : Instr). is_phi x.op) xs, instrs_length)) (λ (j : ℕ) (l : Line) k g. phi_register m accepted f d i b j l e h g (phis_before j l k g)) in
         omega (arith, count, kept, own_registers m accepted d i b h, few_registers m accepted f d e)
 
   pub fits_block : (k : ℕ) (x : numbered_block.Block) → slice_get (program_of m).blocks k ≡ Some x → FitsBlock (program_of m) k x
   fits_block k x at = by (block_found m k x at)
     where
-      holds : (r : IsBlockOf m k x) (i : ℕ) → first_line m.functions r.function + sum_by lines_in (take r.place r.definition.blocks) ≤ i → i < first_line m.functions r.function + sum_by lines_in (take r.place r.definition.blocks) + length r.plain.lines → IsInBlock k (slice_get (program_of m).instrs i)
+      holds : (r : IsBlockOf m k x) (i : ℕ) → first_line m.functions r.function + sum_by lines_in (take r.place r.definition.blocks) ≤ i
+          → i < first_line m.functions r.function + sum_by lines_in (take r.place r.definition.blocks) + length r.plain.lines → IsInBlock k (slice_get (program_of m).instrs i)
       holds r i l h =
           let from = first_line m.functions r.function + sum_by lines_in (take r.place r.definition.blocks) in
           let j = i - from in
@@ -239,7 +252,8 @@ module _ (m : Tree) (accepted : IsUnrefused m) where
       let first = from_any (λ (d : Definition). bytes_eq d.name.text main_name) m.functions (main_is m accepted) in
       let f = first.0 in
       let d = numbered m.types first.1 in
-      let number : unwrap_or (position (λ (x : Definition). bytes_eq x.name.text main_name) m.functions) 0 ≡ f = ap (λ (o : Option ℕ). unwrap_or o 0) (first_position (λ (x : Definition). bytes_eq x.name.text main_name) m.functions f first.1 first.2) in
+      let number : unwrap_or (position (λ (x : Definition). bytes_eq x.name.text main_name) m.functions) 0 ≡ f =
+      ap (λ (o : Option ℕ). unwrap_or o 0) (first_position (λ (x : Definition). bytes_eq x.name.text main_name) m.functions f first.1 first.2) in
       let there : slice_get (named_functions m) f ≡ Some d = named_there m f first.1 first.2.there in
       let named : bytes_eq d.name.text main_name ≡ true = subst (λ (t : List ℕ). bytes_eq t main_name ≡ true) (sym (main_name_kept first.1)) first.2.passes in
       let h = main_header m accepted f d there named in

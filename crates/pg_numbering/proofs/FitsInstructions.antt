@@ -26,7 +26,8 @@ use Rattle.pg_numbering.proofs.FitsFunctions.{first_is, end_is}
 use Rattle.pg_numbering.proofs.Labels.{targets_fit}
 use Rattle.pg_numbering.proofs.Endings.{ends_where}
 use Rattle.pg_numbering.proofs.FitsPhis.{function_is, fits_phi}
-use Rattle.pg_numbering.proofs.OpRows.{Row, binary_fits, compare_fits, cast_fits, select_fits, phi_fits, branch_fits, choice_fits, switch_fits, return_void_fits, return_fits, unreachable_fits, alloca_fits, load_fits, store_fits, element_fits}
+use Rattle.pg_numbering.proofs.OpRows.{Row, binary_fits, compare_fits, cast_fits, select_fits, phi_fits, branch_fits, choice_fits, switch_fits, return_void_fits, return_fits}
+use Rattle.pg_numbering.proofs.OpRows.{unreachable_fits, alloca_fits, load_fits, store_fits, element_fits}
 use Rattle.pg_numbering.proofs.CallRows.{call_fits}
 
 module _ (m : Tree) (accepted : IsUnrefused m) (order : IsInOrder m) where
@@ -77,7 +78,8 @@ module _ (m : Tree) (accepted : IsUnrefused m) (order : IsInOrder m) where
 
   -- ---- instructions
 
-  module _ (f : ℕ) (d : Definition) (there : slice_get (named_functions m) f ≡ Some d) (place : ℕ) (block : Block) (within : slice_get d.blocks place ≡ Some block) (j : ℕ) (l : Line) (inside : slice_get block.lines j ≡ Some l) where
+  module _ (f : ℕ) (d : Definition) (there : slice_get (named_functions m) f ≡ Some d) (place : ℕ) (block : Block) (within : slice_get d.blocks place ≡ Some block) (j : ℕ) (l : Line)
+      (inside : slice_get block.lines j ≡ Some l) where
     at : IsLine m d l
     at = record { function = f; there = there; place = place; block = block; within = within; inner = j; inside = inside }
 
@@ -106,10 +108,13 @@ module _ (m : Tree) (accepted : IsUnrefused m) (order : IsInOrder m) where
       before = omega (arith, end_is m accepted f d place block there within, slice_get_within block.lines j l inside);
       ends = (λ t. end_true (sym ending_is ∙ t), λ e. ending_is ∙ true_end e);
       target = subst (λ (ts : List Scalar). IfSome (result_at (scope_of m d) l) (λ r. r < length ts)) (sym types_here) (register_within d l at);
-      targets = subst (λ (g : ℕ). AllByRecursion (λ (b : ℕ). IsInFunction g (slice_get (program_of m).blocks b)) (targets_of (op_at (scope_of m d) (first_block m.functions f) l.op))) (sym place_is) (targets_fit m accepted order f d there l.op (passes m accepted d l at));
+      targets = subst (λ (g : ℕ). AllByRecursion (λ (b : ℕ). IsInFunction g (slice_get (program_of m).blocks b)) (targets_of (op_at (scope_of m d) (first_block m.functions f) l.op)))
+          (sym place_is) (targets_fit m accepted order f d there l.op (passes m accepted d l at));
       phi = λ t. fits_phi m accepted order f d there place block within j l inside (sym (op_phi (scope_of m d) (first_block m.functions f) l.op) ∙ t);
-      op = subst (λ (ts : List Scalar). FitsOp (program_of m) ts (result_of (program_of m) (function_of (program_of m) (first_block m.functions f + place))) (type_at ts (result_at (scope_of m d) l)) (op_at (scope_of m d) (first_block m.functions f) l.op)) (sym types_here)
-          (subst (λ (r : Option Scalar). FitsOp (program_of m) (scalars_of m d) r (type_at (scalars_of m d) (result_at (scope_of m d) l)) (op_at (scope_of m d) (first_block m.functions f) l.op)) (sym result_here)
+      op = subst (λ (ts : List Scalar). FitsOp (program_of m) ts (result_of (program_of m) (function_of (program_of m) (first_block m.functions f + place)))
+          (type_at ts (result_at (scope_of m d) l)) (op_at (scope_of m d) (first_block m.functions f) l.op)) (sym types_here)
+          (subst (λ (r : Option Scalar). FitsOp (program_of m) (scalars_of m d) r (type_at (scalars_of m d) (result_at (scope_of m d) l)) (op_at (scope_of m d) (first_block m.functions f) l.op))
+          (sym result_here)
           (op_fits f d there l.op (passes m accepted d l at) (type_at (scalars_of m d) (result_at (scope_of m d) l)) (type_given d l at) (no_type d l at)));
     }
 

@@ -1,6 +1,7 @@
 -- A phi of an accepted tree stands before its block's other instructions, never in the function's first block, and
 -- lists just the blocks that go on to its own.
-use Rattle.std.proofs.Common.{◌≡◌, ℕ, suc, ◌+◌, ◌-◌, ◌<◌, ◌≤◌, List, [], ◌∷◌, ◌++◌, length, map, take, Bool, true, false, ◌&&◌, ◌==◌, not, refl, sym, ap, ◌∙◌, subst, arith, cond, ◌⊎◌, inl, inr}
+use Rattle.std.proofs.Common.{◌≡◌, ℕ, suc, ◌+◌, ◌-◌, ◌<◌, ◌≤◌, List, [], ◌∷◌, ◌++◌, length, map, take, Bool, true, false, ◌&&◌, ◌==◌, not, refl}
+use Rattle.std.proofs.Common.{sym, ap, ◌∙◌, subst, arith, cond, ◌⊎◌, inl, inr}
 use Rattle.std.specs.Prelude.{slice_get, Option, Some, None, is_some, Contains, sum_by}
 use Rattle.std.specs.List.{flat_map, list_any, list_all, prefix_len, enumerate_from}
 use Rattle.std.proofs.lemmas.Bool.{and_parts, and_from, cases_lt, eq-eqb}
@@ -36,7 +37,8 @@ use Rattle.pg_numbering.proofs.Tests.{second_of, all_in}
 
 -- ---- in the program
 
-pub function_is : (m : Tree) (f : ℕ) (d : Definition) (i : ℕ) (b : Block) → slice_get (named_functions m) f ≡ Some d → slice_get d.blocks i ≡ Some b → function_of (program_of m) (first_block m.functions f + i) ≡ f
+pub function_is : (m : Tree) (f : ℕ) (d : Definition) (i : ℕ) (b : Block) → slice_get (named_functions m) f ≡ Some d → slice_get d.blocks i ≡ Some b
+    → function_of (program_of m) (first_block m.functions f + i) ≡ f
 unfolding function_of
 function_is m f d i b e h = ap (λ (o : Option numbered_block.Block). function_in o) (block_there m f d i b e h)
 
@@ -59,7 +61,8 @@ shown_or false o e h = refl
 
 all_labels : (labels names : List Name) → ((k : ℕ) (n : Name) → slice_get names k ≡ Some n → no_block labels n ≡ []) → are_labels labels names ≡ true
 all_labels labels [] h = refl
-all_labels labels (n ∷ ns) h = and_from (is_some (label_number labels n.text)) (are_labels labels ns) (else_none (is_some (label_number labels n.text)) n.span (h 0 n refl)) (all_labels labels ns (λ (k : ℕ) (x : Name) e. h (suc k) x e))
+all_labels labels (n ∷ ns) h = and_from (is_some (label_number labels n.text)) (are_labels labels ns) (else_none (is_some (label_number labels n.text)) n.span (h 0 n refl))
+    (all_labels labels ns (λ (k : ℕ) (x : Name) e. h (suc k) x e))
 
 label_given : (g : Bool) (o : Option Name) (n : Name) → label_if g o ≡ Some n → (g ≡ true) × (o ≡ Some n)
 label_given true o n e = (refl, e)
@@ -67,11 +70,13 @@ label_given false o n e = absurd cc
 
 module _ (m : Tree) (accepted : IsUnrefused m) (order : IsInOrder m) where
   -- a block that a function's block goes on to is one of the function's
-  stays : (f : ℕ) (d : Definition) → slice_get (named_functions m) f ≡ Some d → (q : ℕ) (c : Block) → slice_get d.blocks q ≡ Some c → (t : ℕ) → Contains (successors (program_of m) (first_block m.functions f + q)) t → IsInFunction f (slice_get (program_of m).blocks t)
+  stays : (f : ℕ) (d : Definition) → slice_get (named_functions m) f ≡ Some d → (q : ℕ) (c : Block) → slice_get d.blocks q ≡ Some c → (t : ℕ)
+      → Contains (successors (program_of m) (first_block m.functions f + q)) t → IsInFunction f (slice_get (program_of m).blocks t)
   stays f d there q c at t h =
       let last = last_of c.lines (some_lines c.lines (has_ending m accepted f d q c there at)) in
       let l = there_at c.lines last.0 (omega (arith, last.1)) in
-      let k = contained (map (target d (first_block m.functions f)) (label_targets l.0.op)) t (subst (λ (xs : List ℕ). Contains xs t) (successors_are m accepted order f d there q c last.0 l.0 at l.1 last.1) h) in
+      let k = contained (map (target d (first_block m.functions f)) (label_targets l.0.op)) t
+      (subst (λ (xs : List ℕ). Contains xs t) (successors_are m accepted order f d there q c last.0 l.0 at l.1 last.1) h) in
       let n = map_from (target d (first_block m.functions f)) (label_targets l.0.op) k.0 t k.1 in
       let line : IsLine m d l.0 = record { function = f; there = there; place = q; block = c; within = at; inner = last.0; inside = l.1 } in
       let named = names_from m accepted order f d there n.0 ((passes m accepted d l.0 line).labels k.0 n.0 (in_front (label_targets l.0.op) (label_sources l.0.op) k.0 n.0 n.1)) in
@@ -92,7 +97,8 @@ module _ (m : Tree) (accepted : IsUnrefused m) (order : IsInOrder m) where
     phis_right =
         let z : 0 + place ≡ place = omega arith in
         subst (λ (q : ℕ). bad_phis (labels_of d) d.blocks q block ≡ []) z
-        (each_none (λ (b : Numbered Block). bad_phis (labels_of d) d.blocks b.0 b.1) (enumerate_from 0 d.blocks) place (0 + place, block) (bodies_pass m accepted f d there BadPhi) (enumerate_get 0 d.blocks place block within))
+        (each_none (λ (b : Numbered Block). bad_phis (labels_of d) d.blocks b.0 b.1) (enumerate_from 0 d.blocks) place (0 + place, block) (bodies_pass m accepted f d there BadPhi)
+        (enumerate_get 0 d.blocks place block within))
 
     none_behind : flat_map phi_span (behind_phis block) ≡ []
     unfolding bad_phis
@@ -110,7 +116,8 @@ module _ (m : Tree) (accepted : IsUnrefused m) (order : IsInOrder m) where
       in_prefix : j < prefix_len (λ (x : Line). is_phi_op x.op) block.lines
       in_prefix = by (cases_lt j (prefix_len (λ (x : Line). is_phi_op x.op) block.lines))
         where
-          by : (j < prefix_len (λ (x : Line). is_phi_op x.op) block.lines) ⊎ (prefix_len (λ (x : Line). is_phi_op x.op) block.lines ≤ j) → j < prefix_len (λ (x : Line). is_phi_op x.op) block.lines
+          by : (j < prefix_len (λ (x : Line). is_phi_op x.op) block.lines) ⊎ (prefix_len (λ (x : Line). is_phi_op x.op) block.lines ≤ j)
+              → j < prefix_len (λ (x : Line). is_phi_op x.op) block.lines
           by (inl h) = h
           by (inr h) =
               let n = prefix_len (λ (x : Line). is_phi_op x.op) block.lines in
@@ -142,10 +149,12 @@ module _ (m : Tree) (accepted : IsUnrefused m) (order : IsInOrder m) where
           (each_none (wrong_sources (labels_of d) (predecessors d.blocks block.label)) block.lines j l sources_right inside) (phi_shown l.op phi))
 
       listed : list_all (λ (n : Name). has_text (predecessors d.blocks block.label) n.text) (label_sources l.op) ≡ true
-      listed = (and_parts (list_all (λ (n : Name). has_text (predecessors d.blocks block.label) n.text) (label_sources l.op)) (list_all (λ (n : Name). has_text (label_sources l.op) n.text) (predecessors d.blocks block.label)) same_sources).0
+      listed = (and_parts (list_all (λ (n : Name). has_text (predecessors d.blocks block.label) n.text) (label_sources l.op))
+          (list_all (λ (n : Name). has_text (label_sources l.op) n.text) (predecessors d.blocks block.label)) same_sources).0
 
       all_listed : list_all (λ (n : Name). has_text (label_sources l.op) n.text) (predecessors d.blocks block.label) ≡ true
-      all_listed = (and_parts (list_all (λ (n : Name). has_text (predecessors d.blocks block.label) n.text) (label_sources l.op)) (list_all (λ (n : Name). has_text (label_sources l.op) n.text) (predecessors d.blocks block.label)) same_sources).1
+      all_listed = (and_parts (list_all (λ (n : Name). has_text (predecessors d.blocks block.label) n.text) (label_sources l.op))
+          (list_all (λ (n : Name). has_text (label_sources l.op) n.text) (predecessors d.blocks block.label)) same_sources).1
 
       -- a block that is listed goes on to this one
       listed_goes_on : (b : ℕ) → Contains (sources_of (op_at (scope_of m d) (first_block m.functions f) l.op)) b → Contains (successors (program_of m) b) (first_block m.functions f + place)
@@ -162,7 +171,8 @@ module _ (m : Tree) (accepted : IsUnrefused m) (order : IsInOrder m) where
           (goes_on m accepted order f d there place block within c.place c.whole c.there g.0)
 
       -- a block that goes on to this one is listed
-      goes_on_listed : (q : ℕ) (c : Block) → slice_get d.blocks q ≡ Some c → Contains (successors (program_of m) (first_block m.functions f + q)) (first_block m.functions f + place) → Contains (sources_of (op_at (scope_of m d) (first_block m.functions f) l.op)) (first_block m.functions f + q)
+      goes_on_listed : (q : ℕ) (c : Block) → slice_get d.blocks q ≡ Some c → Contains (successors (program_of m) (first_block m.functions f + q)) (first_block m.functions f + place)
+          → Contains (sources_of (op_at (scope_of m d) (first_block m.functions f) l.op)) (first_block m.functions f + q)
       unfolding predecessors
       goes_on_listed q c at h =
           let g = names_label m accepted order f d there place block within q c at h in
@@ -173,14 +183,17 @@ module _ (m : Tree) (accepted : IsUnrefused m) (order : IsInOrder m) where
           let number = number_of_label m accepted order f d there q c lb.0 t.1.text at lb.1 (sym t.3) in
           subst (λ (xs : List ℕ). Contains xs (first_block m.functions f + q)) (sym (sources_are m d (first_block m.functions f) l.op phi))
           (subst (Contains (map (target d (first_block m.functions f)) (label_sources l.op))) (target_number m accepted order f d there t.1 q number)
-          (contains_at (map (target d (first_block m.functions f)) (label_sources l.op)) t.0 (target d (first_block m.functions f) t.1) (map_there (target d (first_block m.functions f)) (label_sources l.op) t.0 t.1 t.2)))
+          (contains_at (map (target d (first_block m.functions f)) (label_sources l.op)) t.0 (target d (first_block m.functions f) t.1)
+          (map_there (target d (first_block m.functions f)) (label_sources l.op) t.0 t.1 t.2)))
 
-      from_successor : (b : ℕ) → b < length (program_of m).blocks → Contains (successors (program_of m) b) (first_block m.functions f + place) → Contains (sources_of (op_at (scope_of m d) (first_block m.functions f) l.op)) b
+      from_successor : (b : ℕ) → b < length (program_of m).blocks → Contains (successors (program_of m) b) (first_block m.functions f + place)
+          → Contains (sources_of (op_at (scope_of m d) (first_block m.functions f) l.op)) b
       from_successor b below h =
           let x = there_at (program_of m).blocks b below in
           let r = block_found m b x.0 x.1 in
           let h2 = subst (λ (q : ℕ). Contains (successors (program_of m) q) (first_block m.functions f + place)) r.number h in
-          let same : r.function ≡ f = one_function r.function f (slice_get (program_of m).blocks (first_block m.functions f + place)) (stays r.function r.definition r.there r.place r.plain r.within (first_block m.functions f + place) h2) (in_function m accepted f d place block there within) in
+          let same : r.function ≡ f = one_function r.function f (slice_get (program_of m).blocks (first_block m.functions f + place))
+          (stays r.function r.definition r.there r.place r.plain r.within (first_block m.functions f + place) h2) (in_function m accepted f d place block there within) in
           let there2 : slice_get (named_functions m) f ≡ Some r.definition = subst (λ (q : ℕ). slice_get (named_functions m) q ≡ Some r.definition) same r.there in
           let definition : r.definition ≡ d = some_is r.definition d (sym there2 ∙ there) in
           let at : slice_get d.blocks r.place ≡ Some r.plain = subst (λ (q : Definition). slice_get q.blocks r.place ≡ Some r.plain) definition r.within in
@@ -188,14 +201,16 @@ module _ (m : Tree) (accepted : IsUnrefused m) (order : IsInOrder m) where
           subst (Contains (sources_of (op_at (scope_of m d) (first_block m.functions f) l.op))) number
           (goes_on_listed r.place r.plain at (subst (λ (q : ℕ). Contains (successors (program_of m) q) (first_block m.functions f + place)) (sym number) h))
 
-      stands_behind_phis : (k : ℕ) → first_of (program_of m) (first_block m.functions f + place) ≤ k → k < first_line m.functions f + sum_by lines_in (take place d.blocks) + j → IsPhi (slice_get (program_of m).instrs k)
+      stands_behind_phis : (k : ℕ) → first_of (program_of m) (first_block m.functions f + place) ≤ k → k < first_line m.functions f + sum_by lines_in (take place d.blocks) + j
+          → IsPhi (slice_get (program_of m).instrs k)
       stands_behind_phis k h g =
           let from = first_line m.functions f + sum_by lines_in (take place d.blocks) in
           let e = first_is m accepted f d place block there within in
           let i = k - from in
           let x = there_at block.lines i (omega (arith, h, g, e, slice_get_within block.lines j l inside)) in
           let z : from + i ≡ k = omega (arith, h, e) in
-          let t : is_phi (op_at (scope_of m d) (first_block m.functions f) x.0.op) ≡ true = op_phi (scope_of m d) (first_block m.functions f) x.0.op ∙ phi_before i x.0 (omega (arith, h, g, e)) x.1 in
+          let t : is_phi (op_at (scope_of m d) (first_block m.functions f) x.0.op) ≡ true =
+          op_phi (scope_of m d) (first_block m.functions f) x.0.op ∙ phi_before i x.0 (omega (arith, h, g, e)) x.1 in
           subst (λ (q : ℕ). IsPhi (slice_get (program_of m).instrs q)) z
           (subst IsPhi (sym (line_there m f d place block i x.0 there within x.1)) t)
 

@@ -1,5 +1,6 @@
 -- Where the parts of a list stand in the list of all their elements.
-use Rattle.std.proofs.Common.{◌≡◌, ℕ, zero, suc, ◌+◌, ◌<◌, ◌≤◌, List, [], ◌∷◌, ◌++◌, length, map, take, drop, refl, sym, ap, ◌∙◌, subst, arith, length-append, ◌⊎◌, inl, inr}
+use Rattle.std.proofs.Common.{◌≡◌, ℕ, zero, suc, ◌+◌, ◌<◌, ◌≤◌, List, [], ◌∷◌, ◌++◌, length, map, take, drop, refl, sym, ap, ◌∙◌, subst, arith}
+use Rattle.std.proofs.Common.{length-append, ◌⊎◌, inl, inr}
 use Rattle.std.specs.Prelude.{slice_get, Option, Some, sum_by}
 use Rattle.std.specs.List.{flat_map, enumerate_from}
 use Rattle.std.proofs.lemmas.List.Sums.{sum_by-cons}
@@ -34,12 +35,14 @@ behind_get [] ys k = let z : 0 + k ≡ k = omega arith in ap (slice_get ys) z
 behind_get (x ∷ xs) ys k = let z : suc (length xs) + k ≡ suc (length xs + k) = omega arith in ap (slice_get (x ∷ (xs ++ ys))) z ∙ behind_get xs ys k
 
 -- an element of one list behind another stands in the one or in the other
-pub append_cases : {X : Type 0} (xs ys : List X) (k : ℕ) (x : X) → slice_get (xs ++ ys) k ≡ Some x → (slice_get xs k ≡ Some x) ⊎ ((j : ℕ) × (slice_get ys j ≡ Some x) × (k ≡ length xs + j))
+pub append_cases : {X : Type 0} (xs ys : List X) (k : ℕ) (x : X) → slice_get (xs ++ ys) k ≡ Some x
+    → (slice_get xs k ≡ Some x) ⊎ ((j : ℕ) × (slice_get ys j ≡ Some x) × (k ≡ length xs + j))
 append_cases [] ys k x e = inr (k, e, omega arith)
 append_cases (y ∷ xs) ys zero x e = inl e
 append_cases (y ∷ xs) ys (suc k) x e = by (append_cases xs ys k x e)
   where
-    by : (slice_get xs k ≡ Some x) ⊎ ((j : ℕ) × (slice_get ys j ≡ Some x) × (k ≡ length xs + j)) → (slice_get xs k ≡ Some x) ⊎ ((j : ℕ) × (slice_get ys j ≡ Some x) × (suc k ≡ suc (length xs) + j))
+    by : (slice_get xs k ≡ Some x) ⊎ ((j : ℕ) × (slice_get ys j ≡ Some x) × (k ≡ length xs + j))
+        → (slice_get xs k ≡ Some x) ⊎ ((j : ℕ) × (slice_get ys j ≡ Some x) × (suc k ≡ suc (length xs) + j))
     by (inl h) = inl h
     by (inr h) = inr (h.0, h.1, omega (arith, h.2))
 
@@ -69,7 +72,8 @@ in_first g size n x xs k a f = record {
   number = omega arith;
 }
 
-in_rest : {X A : Type 0} (g : ℕ → X → List A) (size : X → ℕ) → HaveSize g size → (n : ℕ) (x : X) (xs : List X) (k : ℕ) (a : A) (j : ℕ) → k ≡ length (g n x) + j → IsIn g size (n + 1) xs j a → IsIn g size n (x ∷ xs) k a
+in_rest : {X A : Type 0} (g : ℕ → X → List A) (size : X → ℕ) → HaveSize g size → (n : ℕ) (x : X) (xs : List X) (k : ℕ) (a : A) (j : ℕ) → k ≡ length (g n x) + j
+    → IsIn g size (n + 1) xs j a → IsIn g size n (x ∷ xs) k a
 in_rest g size h n x xs k a j f r = record {
   place = suc r.place;
   whole = r.whole;
@@ -86,11 +90,13 @@ found_in : {X A : Type 0} (g : ℕ → X → List A) (size : X → ℕ) → Have
 found_in g size h n x xs k a (inl f) more = in_first g size n x xs k a f
 found_in g size h n x xs k a (inr f) more = in_rest g size h n x xs k a f.0 f.2 (more f.0 f.1)
 
-pub found : {X A : Type 0} (g : ℕ → X → List A) (size : X → ℕ) → HaveSize g size → (n : ℕ) (xs : List X) (k : ℕ) (a : A) → slice_get (pieces g n xs) k ≡ Some a → IsIn g size n xs k a
+pub found : {X A : Type 0} (g : ℕ → X → List A) (size : X → ℕ) → HaveSize g size → (n : ℕ) (xs : List X) (k : ℕ) (a : A) → slice_get (pieces g n xs) k ≡ Some a
+    → IsIn g size n xs k a
 found g size h n [] k a e = absurd cc
 found g size h n (x ∷ xs) k a e = found_in g size h n x xs k a (append_cases (g n x) (pieces g (n + 1) xs) k a e) (λ j f. found g size h (n + 1) xs j a f)
 
-pub stands : {X A : Type 0} (g : ℕ → X → List A) (size : X → ℕ) → HaveSize g size → (n : ℕ) (xs : List X) (i : ℕ) (x : X) (j : ℕ) → slice_get xs i ≡ Some x → j < size x → slice_get (pieces g n xs) (sum_by size (take i xs) + j) ≡ slice_get (g (n + i) x) j
+pub stands : {X A : Type 0} (g : ℕ → X → List A) (size : X → ℕ) → HaveSize g size → (n : ℕ) (xs : List X) (i : ℕ) (x : X) (j : ℕ) → slice_get xs i ≡ Some x → j < size x
+    → slice_get (pieces g n xs) (sum_by size (take i xs) + j) ≡ slice_get (g (n + i) x) j
 stands g size h n [] i x j e l = absurd cc
 stands {X} {A} g size h n (y ∷ ys) zero x j e l =
     let same : y ≡ x = some_is y x e in
@@ -129,7 +135,8 @@ sum_within size (y ∷ ys) (suc i) x e =
     omega (arith, sum_within size ys i x e, sum_by-cons size y ys, sum_by-cons size y (take i ys))
 
 -- two parts that share a number are one part
-pub sum_apart : {X : Type 0} (size : X → ℕ) (xs : List X) (i j : ℕ) (x y : X) → slice_get xs i ≡ Some x → slice_get xs j ≡ Some y → i < j → sum_by size (take i xs) + size x ≤ sum_by size (take j xs)
+pub sum_apart : {X : Type 0} (size : X → ℕ) (xs : List X) (i j : ℕ) (x y : X) → slice_get xs i ≡ Some x → slice_get xs j ≡ Some y → i < j
+    → sum_by size (take i xs) + size x ≤ sum_by size (take j xs)
 sum_apart size [] i j x y e f l = absurd cc
 sum_apart size (z ∷ zs) i zero x y e f l = absurd (omega (arith, l))
 sum_apart size (z ∷ zs) zero (suc j) x y e f l =

@@ -1,5 +1,6 @@
 -- Names in text order: each is other than those before it, or starts behind them.
-use Rattle.std.proofs.Common.{◌≡◌, ℕ, ◌+◌, ◌<◌, ◌≤◌, max, List, [], ◌∷◌, ◌++◌, map, Bool, true, false, refl, sym, ap, ◌∙◌, subst, arith, append_assoc, ◌⊎◌, inl, inr, nat_lt, if◌then◌else◌}
+use Rattle.std.proofs.Common.{◌≡◌, ℕ, ◌+◌, ◌<◌, ◌≤◌, max, List, [], ◌∷◌, ◌++◌, map, Bool, true, false, refl, sym, ap, ◌∙◌, subst, arith, append_assoc}
+use Rattle.std.proofs.Common.{◌⊎◌, inl, inr, nat_lt, if◌then◌else◌}
 use Rattle.std.specs.Prelude.{Option, Some, None}
 use Rattle.std.specs.List.{AllByRecursion, filter_map, flat_map, cons_option}
 use Rattle.std.specs.Option.{option_map}
@@ -8,7 +9,8 @@ use Rattle.std.proofs.lemmas.List.{map-append, append-nil}
 use Rattle.pg_num.specs.Decimal.{are_digits, natural_of}
 use Rattle.pg_ast.specs.declared.names.Name.{Name}
 use Rattle.pg_ast.specs.Syntax.{Line, Block, Param, NamedType, Definition}
-use Rattle.pg_ast.specs.Numbers.{decimal_text, name_at, after_name, after, each_at, behind_all, param_at, behind_param, gives, result_at, after_result, line_at, behind_line, block_at, behind_block, numbered}
+use Rattle.pg_ast.specs.Numbers.{decimal_text, name_at, after_name, after, each_at, behind_all, param_at, behind_param, gives, result_at, after_result, line_at, behind_line, block_at}
+use Rattle.pg_ast.specs.Numbers.{behind_block, numbered}
 use Rattle.pg_types.specs.Resolved.{ResolvedType}
 use Rattle.pg_rules.specs.Names.{Register, register, result_type, param_register, line_register, block_registers, registers_of, labels_of}
 use Rattle.pg_grammar.specs.NameOrder.{written, lines_names, block_names, written_names, ascend}
@@ -51,9 +53,11 @@ follows_none next at n p h g = record { later = tt; pairs = tt; below = tt; numb
 follows_both : (next at : ℕ) (xs : List Name) (n p : ℕ) (ys : List Name) (m q : ℕ) → Follows next at xs n p → Follows n p ys m q → Follows next at (xs ++ ys) m q
 follows_both next at xs n p ys m q f g = record {
   later = all_both (λ (x : Name). (a : Name) → IsBelow next at a → Precedes a x) xs ys f.later
-      (all_on (λ (x : Name). (a : Name) → IsBelow n p a → Precedes a x) (λ (x : Name). (a : Name) → IsBelow next at a → Precedes a x) ys (λ x h a b. h a (below_more next at n p f.number f.place a b)) g.later);
+      (all_on (λ (x : Name). (a : Name) → IsBelow n p a → Precedes a x) (λ (x : Name). (a : Name) → IsBelow next at a → Precedes a x) ys
+      (λ x h a b. h a (below_more next at n p f.number f.place a b)) g.later);
   pairs = pairs_both Precedes xs ys f.pairs g.pairs
-      (all_on (IsBelow n p) (λ (x : Name). AllByRecursion (Precedes x) ys) xs (λ x b. all_on (λ (y : Name). (a : Name) → IsBelow n p a → Precedes a y) (Precedes x) ys (λ y h. h x b) g.later) f.below);
+      (all_on (IsBelow n p) (λ (x : Name). AllByRecursion (Precedes x) ys) xs
+      (λ x b. all_on (λ (y : Name). (a : Name) → IsBelow n p a → Precedes a y) (Precedes x) ys (λ y h. h x b) g.later) f.below);
   below = all_both (IsBelow m q) xs ys (all_on (IsBelow n p) (IsBelow m q) xs (below_more n p m q g.number g.place) f.below) g.below;
   number = omega (arith, f.number, g.number);
   place = omega (arith, f.place, g.place);
@@ -109,7 +113,8 @@ record Reaches (next at : ℕ) (xs : List Name) (n : ℕ) (rest : List Name) : T
 without : (next at : ℕ) (xs : List Name) (n : ℕ) (rest : List Name) → Reaches next at xs n rest → Reaches next at [] n rest
 without next at xs n rest r = record { end = r.end; follows = follows_none next at n r.end r.follows.number r.follows.place; more = r.more }
 
-reaches_both : (next at : ℕ) (xs : List Name) (n : ℕ) (middle ys : List Name) (m : ℕ) (rest : List Name) → Reaches next at xs n middle → ((p : ℕ) → ascend p middle ≡ true → Reaches n p ys m rest) → Reaches next at (xs ++ ys) m rest
+reaches_both : (next at : ℕ) (xs : List Name) (n : ℕ) (middle ys : List Name) (m : ℕ) (rest : List Name) → Reaches next at xs n middle
+    → ((p : ℕ) → ascend p middle ≡ true → Reaches n p ys m rest) → Reaches next at (xs ++ ys) m rest
 reaches_both next at xs n middle ys m rest r f =
     let s = f r.end r.more in
     record { end = s.end; follows = follows_both next at xs n r.end ys m s.end r.follows s.follows; more = s.more }
@@ -146,11 +151,13 @@ lines_reach types (l ∷ ls) next at rest e =
     let o = line_register types (line_at types next l) in
     let others = filter_map (line_register types) (each_at (behind_line types) (line_at types) (behind_line types next l) ls) in
     subst (λ (xs : List Name). Reaches next at xs (behind_all (behind_line types) (behind_line types next l) ls) rest) (sym (names_first o others))
-    (reaches_both next at (names_of (cons_option o [])) (behind_line types next l) (lines_names ls ++ rest) (names_of others) (behind_all (behind_line types) (behind_line types next l) ls) rest one (λ p h. lines_reach types ls (behind_line types next l) p rest h))
+    (reaches_both next at (names_of (cons_option o [])) (behind_line types next l) (lines_names ls ++ rest) (names_of others)
+    (behind_all (behind_line types) (behind_line types next l) ls) rest one (λ p h. lines_reach types ls (behind_line types next l) p rest h))
 
 -- ---- blocks
 
-label_reaches : (b : Block) (next at : ℕ) (rest : List Name) → ascend at (block_names b ++ rest) ≡ true → Reaches next at (name_at next b.label ∷ []) (after next b.label) (lines_names b.lines ++ rest)
+label_reaches : (b : Block) (next at : ℕ) (rest : List Name) → ascend at (block_names b ++ rest) ≡ true
+    → Reaches next at (name_at next b.label ∷ []) (after next b.label) (lines_names b.lines ++ rest)
 label_reaches b next at rest e =
     named_reaches b.label next at (lines_names b.lines ++ rest) (sym (ap (ascend at) (append_assoc (written b.label) (lines_names b.lines) rest)) ∙ e)
 
@@ -171,7 +178,8 @@ block_label types b next at rest e =
     subst (λ (xs : List Name). Reaches next at xs (behind_all (behind_line types) (after next b.label) b.lines) rest) (append-nil (name_at next b.label ∷ []))
     (reaches_both next at (name_at next b.label ∷ []) (after next b.label) (lines_names b.lines ++ rest) [] (behind_all (behind_line types) (after next b.label) b.lines) rest
     (label_reaches b next at rest e)
-    (λ p h. without (after next b.label) p (names_of (filter_map (line_register types) (each_at (behind_line types) (line_at types) (after next b.label) b.lines))) (behind_all (behind_line types) (after next b.label) b.lines) rest (lines_reach types b.lines (after next b.label) p rest h)))
+    (λ p h. without (after next b.label) p (names_of (filter_map (line_register types) (each_at (behind_line types) (line_at types) (after next b.label) b.lines)))
+    (behind_all (behind_line types) (after next b.label) b.lines) rest (lines_reach types b.lines (after next b.label) p rest h)))
 
 blocks_reach : (types : List NamedType) (bs : List Block) (next at : ℕ) (rest : List Name) → ascend at (flat_map block_names bs ++ rest) ≡ true
     → Reaches next at (names_of (flat_map (block_registers types) (each_at (behind_block types) (block_at types) next bs))) (behind_all (behind_block types) next bs) rest
@@ -179,8 +187,10 @@ blocks_reach types [] next at rest e = record { end = at; follows = follows_none
 blocks_reach types (b ∷ bs) next at rest e =
     let own : ascend at (block_names b ++ (flat_map block_names bs ++ rest)) ≡ true = sym (ap (ascend at) (append_assoc (block_names b) (flat_map block_names bs) rest)) ∙ e in
     let others = flat_map (block_registers types) (each_at (behind_block types) (block_at types) (behind_block types next b) bs) in
-    subst (λ (xs : List Name). Reaches next at xs (behind_all (behind_block types) (behind_block types next b) bs) rest) (sym (map-append (λ (r : Register). r.name) (block_registers types (block_at types next b)) others))
-    (reaches_both next at (names_of (block_registers types (block_at types next b))) (behind_block types next b) (flat_map block_names bs ++ rest) (names_of others) (behind_all (behind_block types) (behind_block types next b) bs) rest
+    subst (λ (xs : List Name). Reaches next at xs (behind_all (behind_block types) (behind_block types next b) bs) rest)
+    (sym (map-append (λ (r : Register). r.name) (block_registers types (block_at types next b)) others))
+    (reaches_both next at (names_of (block_registers types (block_at types next b))) (behind_block types next b) (flat_map block_names bs ++ rest) (names_of others)
+    (behind_all (behind_block types) (behind_block types next b) bs) rest
     (block_reaches types b next at (flat_map block_names bs ++ rest) own) (λ p h. blocks_reach types bs (behind_block types next b) p rest h))
 
 labels_reach : (types : List NamedType) (bs : List Block) (next at : ℕ) (rest : List Name) → ascend at (flat_map block_names bs ++ rest) ≡ true
@@ -199,9 +209,11 @@ params_reach : (types : List NamedType) (ps : List Param) (next at : ℕ) (rest 
     → Reaches next at (names_of (filter_map (param_register types) (each_at behind_param param_at next ps))) (behind_all behind_param next ps) rest
 params_reach types [] next at rest e = record { end = at; follows = follows_none next at next at (omega arith) (omega arith); more = e }
 params_reach types (p ∷ ps) next at rest e =
-    let own : ascend at (written p.name ++ (flat_map (λ (q : Param). written q.name) ps ++ rest)) ≡ true = sym (ap (ascend at) (append_assoc (written p.name) (flat_map (λ (q : Param). written q.name) ps) rest)) ∙ e in
+    let own : ascend at (written p.name ++ (flat_map (λ (q : Param). written q.name) ps ++ rest)) ≡ true =
+    sym (ap (ascend at) (append_assoc (written p.name) (flat_map (λ (q : Param). written q.name) ps) rest)) ∙ e in
     let others = filter_map (param_register types) (each_at behind_param param_at (behind_param next p) ps) in
-    reaches_both next at (name_at next p.name ∷ []) (after next p.name) (flat_map (λ (q : Param). written q.name) ps ++ rest) (names_of others) (behind_all behind_param (behind_param next p) ps) rest
+    reaches_both next at (name_at next p.name ∷ []) (after next p.name) (flat_map (λ (q : Param). written q.name) ps ++ rest) (names_of others)
+    (behind_all behind_param (behind_param next p) ps) rest
     (named_reaches p.name next at (flat_map (λ (q : Param). written q.name) ps ++ rest) own) (λ q h. params_reach types ps (behind_param next p) q rest h)
 
 -- ---- a function
@@ -220,7 +232,8 @@ module _ (types : List NamedType) (d : Definition) (order : ascend 0 (written_na
       let params = filter_map (param_register types) (each_at behind_param param_at 0 d.params) in
       let others = flat_map (block_registers types) (each_at (behind_block types) (block_at types) next d.blocks) in
       subst (λ (xs : List Name). AllPairs Precedes xs) (sym (map-append (λ (r : Register). r.name) params others))
-      (reaches_both 0 0 (names_of params) next (flat_map block_names d.blocks ++ []) (names_of others) (behind_all (behind_block types) next d.blocks) [] front_reaches (λ p h. blocks_reach types d.blocks next p [] h)).follows.pairs
+      (reaches_both 0 0 (names_of params) next (flat_map block_names d.blocks ++ []) (names_of others) (behind_all (behind_block types) next d.blocks) [] front_reaches
+      (λ p h. blocks_reach types d.blocks next p [] h)).follows.pairs
 
   -- so do the labels
   pub labels_ordered : AllPairs Precedes (labels_of (numbered types d))

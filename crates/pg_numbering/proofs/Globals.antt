@@ -34,7 +34,8 @@ module _ (m : Tree) (accepted : IsUnrefused m) where
   global_type i v e k t at =
       types_are m accepted (global_types v) k t
       (front_none (unknown_types m.types (global_types v)) (flat_map (λ (u : Use). unknown_value (outside m) u.value) (global_uses v)) (globals_pass m accepted i v e UnknownName))
-      (front_none (wrong_types m.types (global_types v)) (unmet m.types (asks isnt_void v.ty) ++ (wrong_const m.types (resolved m.types v.ty) v.value ++ flat_map (wrong_use (outside m)) (global_uses v))) (globals_pass m accepted i v e WrongType))
+      (front_none (wrong_types m.types (global_types v)) (unmet m.types (asks isnt_void v.ty)
+      ++ (wrong_const m.types (resolved m.types v.ty) v.value ++ flat_map (wrong_use (outside m)) (global_uses v))) (globals_pass m accepted i v e WrongType))
       at
 
   global_const : (i : ℕ) (v : Variable) → slice_get m.globals i ≡ Some v → wrong_const m.types (resolved m.types v.ty) v.value ≡ []
@@ -42,24 +43,29 @@ module _ (m : Tree) (accepted : IsUnrefused m) where
   global_const i v e =
       front_none (wrong_const m.types (resolved m.types v.ty) v.value) (flat_map (wrong_use (outside m)) (global_uses v))
       (behind_none (unmet m.types (asks isnt_void v.ty)) (wrong_const m.types (resolved m.types v.ty) v.value ++ flat_map (wrong_use (outside m)) (global_uses v))
-      (behind_none (wrong_types m.types (global_types v)) (unmet m.types (asks isnt_void v.ty) ++ (wrong_const m.types (resolved m.types v.ty) v.value ++ flat_map (wrong_use (outside m)) (global_uses v))) (globals_pass m accepted i v e WrongType)))
+      (behind_none (wrong_types m.types (global_types v)) (unmet m.types (asks isnt_void v.ty)
+      ++ (wrong_const m.types (resolved m.types v.ty) v.value ++ flat_map (wrong_use (outside m)) (global_uses v))) (globals_pass m accepted i v e WrongType)))
 
   -- what the bytes of a global take
   bytes_length : (i : ℕ) (v : Variable) → slice_get m.globals i ≡ Some v → length (trimmed (bytes_at m (resolved m.types v.ty) v.value)) ≤ size_or_none (resolved m.types v.ty)
   bytes_length i v e =
       let r = global_type i v e 0 v.ty refl in
-      let all = all_from_front (λ (t : Ty). Has (resolved m.types t)) (const_types v.value) (flat_map (λ (u : Use). own_types u.value) (global_uses v)) (λ (k : ℕ) (t : Ty) at. global_type i v e (suc k) t at) in
+      let all = all_from_front (λ (t : Ty). Has (resolved m.types t)) (const_types v.value) (flat_map (λ (u : Use). own_types u.value) (global_uses v))
+      (λ (k : ℕ) (t : Ty) at. global_type i v e (suc k) t at) in
       let c : wrong_const m.types (Some r.0) v.value ≡ [] = sym (ap (λ (o : Option ResolvedType). wrong_const m.types o v.value) r.1) ∙ global_const i v e in
       subst (λ (o : Option ResolvedType). length (trimmed (bytes_at m o v.value)) ≤ size_or_none o) (sym r.1)
       (omega (arith, trimmed_length (const_bytes m r.0 v.value), const_length m r.0 v.value c all))
 
-  no_limit : (i : ℕ) (v : Variable) → slice_get m.globals i ≡ Some v → (any_large m.types (global_types v) || nat_le GLOBAL_LIMIT i || nat_lt GLOBALS_END (globals_end m.types (take (i + 1) m.globals))) ≡ false
+  no_limit : (i : ℕ) (v : Variable) → slice_get m.globals i ≡ Some v
+      → (any_large m.types (global_types v) || nat_le GLOBAL_LIMIT i || nat_lt GLOBALS_END (globals_end m.types (take (i + 1) m.globals))) ≡ false
   unfolding global_refused
-  no_limit i v e = at_if_none (any_large m.types (global_types v) || nat_le GLOBAL_LIMIT i || nat_lt GLOBALS_END (globals_end m.types (take (i + 1) m.globals))) v.name.span (globals_pass m accepted i v e TooLarge)
+  no_limit i v e = at_if_none (any_large m.types (global_types v) || nat_le GLOBAL_LIMIT i || nat_lt GLOBALS_END (globals_end m.types (take (i + 1) m.globals))) v.name.span
+      (globals_pass m accepted i v e TooLarge)
 
   pub size_fits : (i : ℕ) (v : Variable) → slice_get m.globals i ≡ Some v → size_or_none (resolved m.types v.ty) ≤ SIZE_LIMIT
   size_fits i v e =
-      let large = (or_parts (any_large m.types (global_types v)) (nat_le GLOBAL_LIMIT i) (or_parts (any_large m.types (global_types v) || nat_le GLOBAL_LIMIT i) (nat_lt GLOBALS_END (globals_end m.types (take (i + 1) m.globals))) (no_limit i v e)).0).0 in
+      let large = (or_parts (any_large m.types (global_types v)) (nat_le GLOBAL_LIMIT i)
+      (or_parts (any_large m.types (global_types v) || nat_le GLOBAL_LIMIT i) (nat_lt GLOBALS_END (globals_end m.types (take (i + 1) m.globals))) (no_limit i v e)).0).0 in
       size_within m accepted v.ty (not_large m.types (global_types v) 0 v.ty large refl)
 
   end_fits : (i : ℕ) (v : Variable) → slice_get m.globals i ≡ Some v → 1 + sum_by (granules_of m.types) (take (suc i) m.globals) ≤ GLOBALS_END
@@ -98,7 +104,8 @@ module _ (m : Tree) (accepted : IsUnrefused m) where
         size_fits n g here,
         bytes_length n g here,
         subst (λ (q : ℕ). LieFrom q (map (λ (x : Numbered Variable). global_at m x.0 x.1) (enumerate_from (n + 1) gs))) (sym next)
-            (lie (n + 1) gs (omega (arith, l)) (λ (i : ℕ) (v : Variable) e. let y : n + suc i ≡ n + 1 + i = omega arith in subst (λ (q : ℕ). slice_get m.globals q ≡ Some v) y (h (suc i) v e))),
+            (lie (n + 1) gs (omega (arith, l)) (λ (i : ℕ) (v : Variable) e. let y : n + suc i ≡ n + 1 + i = omega arith in
+            subst (λ (q : ℕ). slice_get m.globals q ≡ Some v) y (h (suc i) v e))),
       )
 
   pub globals_lie : LieFrom 1 (program_of m).globals

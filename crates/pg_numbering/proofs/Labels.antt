@@ -130,7 +130,8 @@ call_targets (DeclarationOf d) all = known_targets (known_of (DeclarationOf d)) 
 call_targets (VariableOf i v) all = refl
 call_targets NoSymbol all = refl
 
-case_targets : (m : Tree) (d : Definition) (first : ℕ) (t : Ty) (all : List Case) → map (λ (c : numbered_case.Case). c.to.0) (map (case_at (scope_of m d) first t) all) ≡ map (target d first) (map (λ (c : Case). c.block) all)
+case_targets : (m : Tree) (d : Definition) (first : ℕ) (t : Ty) (all : List Case)
+    → map (λ (c : numbered_case.Case). c.to.0) (map (case_at (scope_of m d) first t) all) ≡ map (target d first) (map (λ (c : Case). c.block) all)
 case_targets m d first t [] = refl
 case_targets m d first t (c ∷ cs) = ap (λ (xs : List ℕ). target d first c.block ∷ xs) (case_targets m d first t cs)
 
@@ -185,4 +186,5 @@ module _ (m : Tree) (accepted : IsUnrefused m) (order : IsInOrder m) (f : ℕ) (
   targets_fit o p =
       subst (AllByRecursion (λ (b : ℕ). IsInFunction f (slice_get (program_of m).blocks b))) (sym (targets_are m d (first_block m.functions f) o))
       (mapped_all (λ (b : ℕ). IsInFunction f (slice_get (program_of m).blocks b)) (target d (first_block m.functions f)) (label_targets o)
-      (all_from_front (λ (n : Name). IsInFunction f (slice_get (program_of m).blocks (target d (first_block m.functions f) n))) (label_targets o) (label_sources o) (λ (i : ℕ) (n : Name) e. target_in n (p.labels i n e))))
+      (all_from_front (λ (n : Name). IsInFunction f (slice_get (program_of m).blocks (target d (first_block m.functions f) n))) (label_targets o) (label_sources o)
+      (λ (i : ℕ) (n : Name) e. target_in n (p.labels i n e))))

@@ -48,9 +48,11 @@ module _ (m : Tree) (accepted : IsUnrefused m) where
   pub line_passes : (d : Definition) (l : Line) → IsLine m d l → (k : CheckKind) → line_refused (scope_of m d) l k ≡ []
   unfolding body_refused line_refused
   line_passes d l at UnknownName = one_line d l UnknownName at (bodies_pass m accepted at.function d at.there UnknownName)
-  line_passes d l at Doubled = one_line d l Doubled at (behind_none (flat_map (doubled (own_names m.types d)) (body_names m.types d)) (all_of (line_refused (scope_of m d)) (all_lines d) Doubled) (bodies_pass m accepted at.function d at.there Doubled))
+  line_passes d l at Doubled = one_line d l Doubled at (behind_none (flat_map (doubled (own_names m.types d)) (body_names m.types d)) (all_of (line_refused (scope_of m d)) (all_lines d) Doubled)
+      (bodies_pass m accepted at.function d at.there Doubled))
   line_passes d l at WrongType = one_line d l WrongType at (bodies_pass m accepted at.function d at.there WrongType)
-  line_passes d l at NoBlock = one_line d l NoBlock at (behind_none (at_if (is_unfinished d) d.name.span) (all_of (line_refused (scope_of m d)) (all_lines d) NoBlock) (bodies_pass m accepted at.function d at.there NoBlock))
+  line_passes d l at NoBlock = one_line d l NoBlock at (behind_none (at_if (is_unfinished d) d.name.span) (all_of (line_refused (scope_of m d)) (all_lines d) NoBlock)
+      (bodies_pass m accepted at.function d at.there NoBlock))
   line_passes d l at Unsupported = one_line d l Unsupported at (bodies_pass m accepted at.function d at.there Unsupported)
   line_passes d l at BadPhi = refl
   line_passes d l at BadSignature = refl
@@ -96,8 +98,10 @@ module _ (m : Tree) (accepted : IsUnrefused m) where
   unfolding line_refused
   behind_types d l at = behind_none (wrong_types m.types (line_types l.op)) _ (line_passes d l at WrongType)
 
-  pub line_demand : (d : Definition) (l : Line) → IsLine m d l → (i : ℕ) (x : Demand) → slice_get (op_demands m.types (scope_of m d).result l.op ++ call_demands (scope_of m d) l.op) i ≡ Some x → (r : ResolvedType) → resolved m.types x.ty ≡ Some r → x.test r ≡ true
-  line_demand d l at i x e r h = met m.types x r (each_none (unmet m.types) (op_demands m.types (scope_of m d).result l.op ++ call_demands (scope_of m d) l.op) i x (front_none _ _ (behind_types d l at)) e) h
+  pub line_demand : (d : Definition) (l : Line) → IsLine m d l → (i : ℕ) (x : Demand)
+      → slice_get (op_demands m.types (scope_of m d).result l.op ++ call_demands (scope_of m d) l.op) i ≡ Some x → (r : ResolvedType) → resolved m.types x.ty ≡ Some r → x.test r ≡ true
+  line_demand d l at i x e r h = met m.types x r (each_none (unmet m.types) (op_demands m.types (scope_of m d).result l.op ++ call_demands (scope_of m d) l.op) i x
+      (front_none _ _ (behind_types d l at)) e) h
 
   behind_demands : (d : Definition) (l : Line) → IsLine m d l
       → flat_map (wrong_use (scope_of m d)) (line_uses (scope_of m d) l.op)
@@ -157,4 +161,5 @@ module _ (m : Tree) (accepted : IsUnrefused m) where
   pub supported_threads : (d : Definition) (l : Line) → IsLine m d l → flat_map (unsupported_thread (scope_of m d)) (thread_functions (scope_of m d) l.op) ≡ []
   unfolding line_refused
   supported_threads d l at =
-      behind_none (unsupported_callee (scope_of m d) l.op) _ (behind_none (flat_map (λ (u : Use). function_value (scope_of m d) u.value) (line_uses (scope_of m d) l.op)) _ (line_passes d l at Unsupported))
+      behind_none (unsupported_callee (scope_of m d) l.op) _
+      (behind_none (flat_map (λ (u : Use). function_value (scope_of m d) u.value) (line_uses (scope_of m d) l.op)) _ (line_passes d l at Unsupported))

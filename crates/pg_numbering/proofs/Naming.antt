@@ -14,7 +14,8 @@ each_length behind give n [] = refl
 each_length behind give n (x ∷ xs) = ap suc (each_length behind give (behind n x) xs)
 
 -- what is counted of each thing stays the same
-each_sum : {X Y : Type 0} (behind : ℕ → X → ℕ) (give : ℕ → X → Y) (size : X → ℕ) (other : Y → ℕ) → ((n : ℕ) (x : X) → other (give n x) ≡ size x) → (n : ℕ) (xs : List X) → sum_by other (each_at behind give n xs) ≡ sum_by size xs
+each_sum : {X Y : Type 0} (behind : ℕ → X → ℕ) (give : ℕ → X → Y) (size : X → ℕ) (other : Y → ℕ) → ((n : ℕ) (x : X) → other (give n x) ≡ size x)
+    → (n : ℕ) (xs : List X) → sum_by other (each_at behind give n xs) ≡ sum_by size xs
 each_sum behind give size other h n [] = refl
 each_sum behind give size other h n (x ∷ xs) =
     sum_by-cons other (give n x) (each_at behind give (behind n x) xs)
@@ -60,7 +61,8 @@ all_lines_named m = sum_map (numbered m.types) line_count line_count (lines_kept
 
 -- ---- what stands at a place
 
-pub each_found : {X Y : Type 0} (behind : ℕ → X → ℕ) (give : ℕ → X → Y) (n : ℕ) (xs : List X) (i : ℕ) (y : Y) → slice_get (each_at behind give n xs) i ≡ Some y → (k : ℕ) × (x : X) × (slice_get xs i ≡ Some x) × (y ≡ give k x)
+pub each_found : {X Y : Type 0} (behind : ℕ → X → ℕ) (give : ℕ → X → Y) (n : ℕ) (xs : List X) (i : ℕ) (y : Y) → slice_get (each_at behind give n xs) i ≡ Some y
+    → (k : ℕ) × (x : X) × (slice_get xs i ≡ Some x) × (y ≡ give k x)
 each_found behind give n [] i y e = absurd cc
 each_found behind give n (x ∷ xs) zero y e = (n, x, refl, sym (some_is (give n x) y e))
 each_found behind give n (x ∷ xs) (suc i) y e = each_found behind give (behind n x) xs i y e
@@ -94,12 +96,14 @@ result_there true next (Some n) e = (n, refl)
 result_there true next None e = (name_at next None, refl)
 result_there false next o e = absurd cc
 
-line_in : (types : List NamedType) (next : ℕ) (b : Block) (i : ℕ) (l : Line) → slice_get (block_at types next b).lines i ≡ Some l → (k : ℕ) × (x : Line) × (slice_get b.lines i ≡ Some x) × (l ≡ line_at types k x)
+line_in : (types : List NamedType) (next : ℕ) (b : Block) (i : ℕ) (l : Line) → slice_get (block_at types next b).lines i ≡ Some l
+    → (k : ℕ) × (x : Line) × (slice_get b.lines i ≡ Some x) × (l ≡ line_at types k x)
 unfolding block_at
 line_in types next b i l e = each_found (behind_line types) (line_at types) (after next b.label) b.lines i l e
 
 -- each line that has a result has a name
-pub has_name : (types : List NamedType) (d : Definition) (i : ℕ) (b : Block) (j : ℕ) (l : Line) → slice_get (numbered types d).blocks i ≡ Some b → slice_get b.lines j ≡ Some l → gives types l.op ≡ true → (n : Name) × (l.name ≡ Some n)
+pub has_name : (types : List NamedType) (d : Definition) (i : ℕ) (b : Block) (j : ℕ) (l : Line) → slice_get (numbered types d).blocks i ≡ Some b → slice_get b.lines j ≡ Some l
+    → gives types l.op ≡ true → (n : Name) × (l.name ≡ Some n)
 has_name types d i b j l e h g =
     let r = block_plain types d i b e in
     let s = line_in types r.next r.plain j l (subst (λ (q : Block). slice_get q.lines j ≡ Some l) r.is h) in
@@ -114,7 +118,8 @@ has_param_name types d i p e =
     (name_at r.0 r.1.name, ap (λ (q : Param). q.name) r.3)
 
 -- a parameter, and the one that is written, at one place and of one type
-pub param_plain : (types : List NamedType) (d : Definition) (i : ℕ) (p : Param) → slice_get (numbered types d).params i ≡ Some p → (q : Param) × (slice_get d.params i ≡ Some q) × (p.ty ≡ q.ty)
+pub param_plain : (types : List NamedType) (d : Definition) (i : ℕ) (p : Param) → slice_get (numbered types d).params i ≡ Some p
+    → (q : Param) × (slice_get d.params i ≡ Some q) × (p.ty ≡ q.ty)
 unfolding numbered
 param_plain types d i p e =
     let r = each_found behind_param param_at 0 d.params i p e in

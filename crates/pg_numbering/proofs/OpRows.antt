@@ -19,9 +19,11 @@ use Rattle.pg_ast.specs.declared.ops.BinaryOp.{BinaryOp}
 use Rattle.pg_ast.specs.declared.ops.BinaryOp.TheVariants as binary
 use Rattle.pg_ast.specs.declared.ops.CastOp.{CastOp}
 use Rattle.pg_ast.specs.declared.ops.CastOp.TheVariants as cast
-use Rattle.pg_ast.specs.Syntax.{Ty, Typed, Incoming, Case, Count, Op, Binary, Icmp, Cast, Select, Phi, Br, CondBr, Switch, RetVoid, Ret, Unreachable, Alloca, Load, Store, GetElementPtr, NamedType, Definition, Tree}
+use Rattle.pg_ast.specs.Syntax.{Ty, Typed, Incoming, Case, Count, Op, Binary, Icmp, Cast, Select, Phi, Br, CondBr, Switch, RetVoid, Ret, Unreachable, Alloca, Load, Store, GetElementPtr}
+use Rattle.pg_ast.specs.Syntax.{NamedType, Definition, Tree}
 use Rattle.pg_ast.specs.Numbers.{is_void, gives}
-use Rattle.pg_types.specs.Resolved.{ResolvedType, IntegerType, PointerType, VoidType, ArrayType, NoFields, MoreFields, resolved, is_integer, is_pointer, is_bit, is_scalar, is_void_type, same_type}
+use Rattle.pg_types.specs.Resolved.{ResolvedType, IntegerType, PointerType, VoidType, ArrayType, NoFields, MoreFields, resolved, is_integer, is_pointer, is_bit, is_scalar}
+use Rattle.pg_types.specs.Resolved.{is_void_type, same_type}
 use Rattle.pg_rules.specs.Names.{result_type, labels_of, first_block}
 use Rattle.pg_rules.specs.Written.{operand, typed_operand, operands, op_types, asks, asks_typed, is_narrower, is_wider, cast_from, cast_to, op_demands, label_targets, label_sources}
 use Rattle.pg_rules.specs.ValueConditions.{number_at}
@@ -70,7 +72,8 @@ bit_is (MoreFields s t) e = absurd cc
 
 -- a scalar type isn't void
 solid : (types : List NamedType) (t : Ty) (r : ResolvedType) → resolved types t ≡ Some r → is_scalar r ≡ true → not (is_void types t) ≡ true
-solid types t r e h = not_from (is_void types t) (λ v. let same : r ≡ VoidType = some_is r VoidType (sym e ∙ void_resolved types t v) in true≢false (sym h ∙ ap (λ (q : ResolvedType). is_scalar q) same))
+solid types t r e h = not_from (is_void types t) (λ v. let same : r ≡ VoidType = some_is r VoidType (sym e ∙ void_resolved types t v) in
+    true≢false (sym h ∙ ap (λ (q : ResolvedType). is_scalar q) same))
 
 integer_solid : (types : List NamedType) (t : Ty) (w : Width) → resolved types t ≡ Some (IntegerType w) → not (is_void types t) ≡ true
 integer_solid types t w e = solid types t (IntegerType w) e refl
@@ -114,7 +117,8 @@ module _ (p : NumberedProgram) (types : List Scalar) (returns : Option Scalar) w
   binary_row binary.Or result w a b h = h
   binary_row binary.Xor result w a b h = h
 
-  both_integers : (o : Option ResolvedType) (result : Option Scalar) (w : Width) (a b : Value) → o ≡ Some (IntegerType w) → result ≡ scalar_in o → HasTypeOf o a → HasTypeOf o b → FitsBinary p types result (width_in o) a b
+  both_integers : (o : Option ResolvedType) (result : Option Scalar) (w : Width) (a b : Value) → o ≡ Some (IntegerType w) → result ≡ scalar_in o → HasTypeOf o a → HasTypeOf o b
+      → FitsBinary p types result (width_in o) a b
   both_integers o result w a b e r ha hb =
       subst (λ (q : Width). FitsBinary p types result q a b) (sym (ap width_in e))
       (r ∙ ap scalar_in e, (ha (scalar.Int w) (ap scalar_in e), hb (scalar.Int w) (ap scalar_in e)))
@@ -146,7 +150,8 @@ module _ (p : NumberedProgram) (types : List Scalar) (returns : Option Scalar) w
   load_row o (MoreFields s t) result e h k = absurd cc
 
   -- a cast of one type to another
-  cast_row : (o : CastOp) (from to : Option ResolvedType) (r t : ResolvedType) (result : Option Scalar) (v : Value) → from ≡ Some r → to ≡ Some t → cast_from o r ≡ true → cast_to o from t ≡ true → result ≡ scalar_in to → HasTypeOf from v → FitsOp p types returns result (cast_op o (width_in from) (width_in to) v)
+  cast_row : (o : CastOp) (from to : Option ResolvedType) (r t : ResolvedType) (result : Option Scalar) (v : Value) → from ≡ Some r → to ≡ Some t → cast_from o r ≡ true
+      → cast_to o from t ≡ true → result ≡ scalar_in to → HasTypeOf from v → FitsOp p types returns result (cast_op o (width_in from) (width_in to) v)
   cast_row cast.Trunc from to r t result v e g a b k h =
       let x = integer_is r a in
       let f : from ≡ Some (IntegerType x.0) = e ∙ ap (λ (q : ResolvedType). Some q) x.1 in
@@ -186,7 +191,8 @@ module _ (p : NumberedProgram) (types : List Scalar) (returns : Option Scalar) w
   no_return_row e = subst (λ (q : Option Scalar). FitsReturn p types q None) (sym e) tt
 
 -- the cases of a switch are numbers of its width
-cases_row : (m : Tree) (d : Definition) (first : ℕ) (t : Ty) (w : Width) → resolved m.types t ≡ Some (IntegerType w) → (all : List Case) → AllByRecursion (λ (c : numbered_case.Case). c.value < modulus (width_in (resolved m.types t))) (map (case_at (scope_of m d) first t) all)
+cases_row : (m : Tree) (d : Definition) (first : ℕ) (t : Ty) (w : Width) → resolved m.types t ≡ Some (IntegerType w) → (all : List Case)
+    → AllByRecursion (λ (c : numbered_case.Case). c.value < modulus (width_in (resolved m.types t))) (map (case_at (scope_of m d) first t) all)
 cases_row m d first t w e [] = tt
 cases_row m d first t w e (c ∷ cs) =
     (subst (λ (o : Option ResolvedType). unwrap_or (number_at o c.value.value) 0 < modulus (width_in o)) (sym e) (constant_below w c.value.value), cases_row m d first t w e cs)
@@ -201,7 +207,8 @@ module _ (m : Tree) (accepted : IsUnrefused m) (order : IsInOrder m) (f : ℕ) (
 
   -- the operation of a line fits, where the register that it sets has its result's type
   abbrev pub Row : Op → Type 0
-  Row o = (result : Option Scalar) → (gives m.types o ≡ true → result ≡ scalar_in (result_type m.types o)) → (gives m.types o ≡ false → result ≡ None) → FitsOp (program_of m) (scalars_of m d) (scalar_in (resolved m.types d.result)) result (op_at (scope_of m d) (first_block m.functions f) o)
+  Row o = (result : Option Scalar) → (gives m.types o ≡ true → result ≡ scalar_in (result_type m.types o)) → (gives m.types o ≡ false → result ≡ None)
+      → FitsOp (program_of m) (scalars_of m d) (scalar_in (resolved m.types d.result)) result (op_at (scope_of m d) (first_block m.functions f) o)
 
   -- ---- lists of operands
 
@@ -216,13 +223,17 @@ module _ (m : Tree) (accepted : IsUnrefused m) (order : IsInOrder m) (f : ℕ) (
       let within = slice_get_within (program_of m).blocks (first_block m.functions f + named.number) _ (block_there m f d named.number named.block there named.there) in
       ((omega (arith, within, number), own.0 sc e), incoming_row s t js sc e (λ (k : ℕ) (i : Incoming) g. h (suc k) i g))
 
-  indices_row : (is : List Typed) (ss : List Scale) → ((k : ℕ) (i : Typed) → slice_get is k ≡ Some i → HasType (program_of m) (scalars_of m d) (scalar.Int (width_in (resolved m.types i.ty))) (value_of (scope_of m d) (resolved m.types i.ty) i.value)) → AllByRecursion (FitsIndex (program_of m) (scalars_of m d)) (indices_at (scope_of m d) is ss)
+  indices_row : (is : List Typed) (ss : List Scale) → ((k : ℕ) (i : Typed) → slice_get is k ≡ Some i
+      → HasType (program_of m) (scalars_of m d) (scalar.Int (width_in (resolved m.types i.ty))) (value_of (scope_of m d) (resolved m.types i.ty) i.value))
+      → AllByRecursion (FitsIndex (program_of m) (scalars_of m d)) (indices_at (scope_of m d) is ss)
   indices_row [] [] h = tt
   indices_row [] (s ∷ ss) h = tt
   indices_row (i ∷ is) [] h = tt
   indices_row (i ∷ is) (s ∷ ss) h = (h 0 i refl, indices_row is ss (λ (k : ℕ) (j : Typed) g. h (suc k) j g))
 
-  index_fits : (o : Op) → Passes m d o → (k : ℕ) (i : Typed) (r : ResolvedType) → resolved m.types i.ty ≡ Some r → is_integer r ≡ true → TypeOf i.ty (value_of (scope_of m d) (resolved m.types i.ty) i.value) → HasType (program_of m) (scalars_of m d) (scalar.Int (width_in (resolved m.types i.ty))) (value_of (scope_of m d) (resolved m.types i.ty) i.value)
+  index_fits : (o : Op) → Passes m d o → (k : ℕ) (i : Typed) (r : ResolvedType) → resolved m.types i.ty ≡ Some r → is_integer r ≡ true
+      → TypeOf i.ty (value_of (scope_of m d) (resolved m.types i.ty) i.value)
+      → HasType (program_of m) (scalars_of m d) (scalar.Int (width_in (resolved m.types i.ty))) (value_of (scope_of m d) (resolved m.types i.ty) i.value)
   index_fits o p k i r e g h =
       let w = integer_is r g in
       let t : resolved m.types i.ty ≡ Some (IntegerType w.0) = e ∙ ap (λ (q : ResolvedType). Some q) w.1 in
@@ -236,8 +247,10 @@ module _ (m : Tree) (accepted : IsUnrefused m) (order : IsInOrder m) (f : ℕ) (
       let r = p.types 0 t refl in
       let w = integer_is r.0 (p.demands 0 (asks is_integer t) refl r.0 r.1) in
       let e : resolved m.types t ≡ Some (IntegerType w.0) = r.1 ∙ ap (λ (q : ResolvedType). Some q) w.1 in
-      binary_row (program_of m) (scalars_of m d) (scalar_in (resolved m.types d.result)) o result (width_in (resolved m.types t)) (value_of (scope_of m d) (resolved m.types t) a) (value_of (scope_of m d) (resolved m.types t) b)
-      (both_integers (program_of m) (scalars_of m d) (scalar_in (resolved m.types d.result)) (resolved m.types t) result w.0 (value_of (scope_of m d) (resolved m.types t) a) (value_of (scope_of m d) (resolved m.types t) b) e (given (integer_solid m.types t w.0 e))
+      binary_row (program_of m) (scalars_of m d) (scalar_in (resolved m.types d.result)) o result (width_in (resolved m.types t)) (value_of (scope_of m d) (resolved m.types t) a)
+      (value_of (scope_of m d) (resolved m.types t) b)
+      (both_integers (program_of m) (scalars_of m d) (scalar_in (resolved m.types d.result)) (resolved m.types t) result w.0 (value_of (scope_of m d) (resolved m.types t) a)
+      (value_of (scope_of m d) (resolved m.types t) b) e (given (integer_solid m.types t w.0 e))
       (operand_fits m accepted f d there (Binary s o t a b) p 0 t a refl) (operand_fits m accepted f d there (Binary s o t a b) p 1 t b refl))
 
   pub compare_fits : (s : _) (o : _) (t : Ty) (a b : _) → Passes m d (Icmp s o t a b) → Row (Icmp s o t a b)
@@ -245,7 +258,8 @@ module _ (m : Tree) (accepted : IsUnrefused m) (order : IsInOrder m) (f : ℕ) (
   compare_fits s o t a b p result given nothing =
       let r = p.types 0 t refl in (
         given refl,
-        compare_row (program_of m) (scalars_of m d) (scalar_in (resolved m.types d.result)) (resolved m.types t) r.0 (value_of (scope_of m d) (resolved m.types t) a) (value_of (scope_of m d) (resolved m.types t) b) r.1 (p.demands 0 (asks is_scalar t) refl r.0 r.1)
+        compare_row (program_of m) (scalars_of m d) (scalar_in (resolved m.types d.result)) (resolved m.types t) r.0 (value_of (scope_of m d) (resolved m.types t) a)
+            (value_of (scope_of m d) (resolved m.types t) b) r.1 (p.demands 0 (asks is_scalar t) refl r.0 r.1)
             (operand_fits m accepted f d there (Icmp s o t a b) p 0 t a refl) (operand_fits m accepted f d there (Icmp s o t a b) p 1 t b refl),
       )
 
@@ -255,7 +269,8 @@ module _ (m : Tree) (accepted : IsUnrefused m) (order : IsInOrder m) (f : ℕ) (
       let r = p.types 0 v.ty refl in
       let c = p.types 1 t refl in
       let to = p.demands 1 (asks (cast_to o (resolved m.types v.ty)) t) refl c.0 c.1 in
-      cast_row (program_of m) (scalars_of m d) (scalar_in (resolved m.types d.result)) o (resolved m.types v.ty) (resolved m.types t) r.0 c.0 result (value_of (scope_of m d) (resolved m.types v.ty) v.value) r.1 c.1
+      cast_row (program_of m) (scalars_of m d) (scalar_in (resolved m.types d.result)) o (resolved m.types v.ty) (resolved m.types t) r.0 c.0 result
+      (value_of (scope_of m d) (resolved m.types v.ty) v.value) r.1 c.1
       (p.demands 0 (asks_typed (cast_from o) v) refl r.0 r.1) to (given (solid m.types t c.0 c.1 (cast_scalar o (resolved m.types v.ty) c.0 to)))
       (operand_fits m accepted f d there (Cast s o v t) p 0 v.ty v.value refl)
 
@@ -269,13 +284,15 @@ module _ (m : Tree) (accepted : IsUnrefused m) (order : IsInOrder m) (f : ℕ) (
       let sa = p.demands 1 (asks_typed is_scalar a) refl ra.0 ra.1 in
       let scalar_a = scalar_from (resolved m.types a.ty) ra.0 ra.1 sa in
       let as_a = p.demands 2 (asks_typed (is_as (resolved m.types a.ty)) b) refl rb.0 rb.1 in
-      let same : resolved m.types b.ty ≡ resolved m.types a.ty = rb.1 ∙ ap (λ (q : ResolvedType). Some q) (sym (same_type_true ra.0 rb.0 (subst (λ (o : Option ResolvedType). is_as o rb.0 ≡ true) ra.1 as_a))) ∙ sym ra.1 in
+      let same : resolved m.types b.ty ≡ resolved m.types a.ty = rb.1
+      ∙ ap (λ (q : ResolvedType). Some q) (sym (same_type_true ra.0 rb.0 (subst (λ (o : Option ResolvedType). is_as o rb.0 ≡ true) ra.1 as_a))) ∙ sym ra.1 in
       let r : result ≡ Some scalar_a.scalar = given (solid m.types a.ty ra.0 ra.1 sa) ∙ scalar_a.is in (
         operand_fits m accepted f d there (Select s c a b) p 0 c.ty c.value refl (scalar.Int W1) (ap scalar_in bit),
-        subst (λ (o : Option Scalar). IsSomeAnd o (λ x. BothHaveType (program_of m) (scalars_of m d) x (value_of (scope_of m d) (resolved m.types a.ty) a.value) (value_of (scope_of m d) (resolved m.types b.ty) b.value))) (sym r) (
-          operand_fits m accepted f d there (Select s c a b) p 1 a.ty a.value refl scalar_a.scalar scalar_a.is,
-          operand_fits m accepted f d there (Select s c a b) p 2 b.ty b.value refl scalar_a.scalar (ap scalar_in same ∙ scalar_a.is),
-        ),
+        subst (λ (o : Option Scalar). IsSomeAnd o (λ x. BothHaveType (program_of m) (scalars_of m d) x (value_of (scope_of m d) (resolved m.types a.ty) a.value)
+            (value_of (scope_of m d) (resolved m.types b.ty) b.value))) (sym r) (
+              operand_fits m accepted f d there (Select s c a b) p 1 a.ty a.value refl scalar_a.scalar scalar_a.is,
+              operand_fits m accepted f d there (Select s c a b) p 2 b.ty b.value refl scalar_a.scalar (ap scalar_in same ∙ scalar_a.is),
+            ),
       )
 
   pub phi_fits : (s : _) (t : Ty) (i : Incoming) (all : List Incoming) → Passes m d (Phi s t i all) → Row (Phi s t i all)
@@ -285,7 +302,8 @@ module _ (m : Tree) (accepted : IsUnrefused m) (order : IsInOrder m) (f : ℕ) (
       let sc = p.demands 0 (asks is_scalar t) refl r.0 r.1 in
       let scalar_t = scalar_from (resolved m.types t) r.0 r.1 sc in
       let k : result ≡ Some scalar_t.scalar = given (solid m.types t r.0 r.1 sc) ∙ scalar_t.is in
-      subst (λ (o : Option Scalar). IsSomeAnd o (λ x. AllByRecursion (FitsIncoming (program_of m) (scalars_of m d) x) (map (incoming_at (scope_of m d) (first_block m.functions f) t) (i ∷ all)))) (sym k)
+      subst (λ (o : Option Scalar). IsSomeAnd o (λ x. AllByRecursion (FitsIncoming (program_of m) (scalars_of m d) x)
+      (map (incoming_at (scope_of m d) (first_block m.functions f) t) (i ∷ all)))) (sym k)
       (incoming_row (Phi s t i all) t (i ∷ all) scalar_t.scalar scalar_t.is
       (λ (n : ℕ) (j : Incoming) e. (
         operand_fits m accepted f d there (Phi s t i all) p n t j.value (map_there (λ (x : Incoming). operand t x.value) (i ∷ all) n j e),
@@ -310,7 +328,8 @@ module _ (m : Tree) (accepted : IsUnrefused m) (order : IsInOrder m) (f : ℕ) (
       let w = integer_is r.0 (p.demands 0 (asks_typed is_integer v) refl r.0 r.1) in
       let e : resolved m.types v.ty ≡ Some (IntegerType w.0) = r.1 ∙ ap (λ (q : ResolvedType). Some q) w.1 in (
         nothing refl,
-        operand_fits m accepted f d there (Switch s v b all) p 0 v.ty v.value refl (scalar.Int (width_in (resolved m.types v.ty))) (ap scalar_in e ∙ ap (λ (q : Width). Some (scalar.Int q)) (sym (ap width_in e))),
+        operand_fits m accepted f d there (Switch s v b all) p 0 v.ty v.value refl (scalar.Int (width_in (resolved m.types v.ty)))
+            (ap scalar_in e ∙ ap (λ (q : Width). Some (scalar.Int q)) (sym (ap width_in e))),
         cases_row m d (first_block m.functions f) v.ty w.0 e all,
       )
 
@@ -343,7 +362,8 @@ module _ (m : Tree) (accepted : IsUnrefused m) (order : IsInOrder m) (f : ℕ) (
   unfolding gives op_at
   alloca_fits s t n p result given nothing = given refl
 
-  pointer_operand : (o : Op) → Passes m d o → (i : ℕ) (t : Ty) (v : _) → slice_get (value_operands (scope_of m d) o) i ≡ Some (record { constant = false; ty = t; value = v }) → (r : ResolvedType) → resolved m.types t ≡ Some r → is_pointer r ≡ true → HasType (program_of m) (scalars_of m d) scalar.Ptr (value_of (scope_of m d) (resolved m.types t) v)
+  pointer_operand : (o : Op) → Passes m d o → (i : ℕ) (t : Ty) (v : _) → slice_get (value_operands (scope_of m d) o) i ≡ Some (record { constant = false; ty = t; value = v })
+      → (r : ResolvedType) → resolved m.types t ≡ Some r → is_pointer r ≡ true → HasType (program_of m) (scalars_of m d) scalar.Ptr (value_of (scope_of m d) (resolved m.types t) v)
   pointer_operand o p i t v e r h k = operand_fits m accepted f d there o p i t v e scalar.Ptr (ap scalar_in (h ∙ ap (λ (q : ResolvedType). Some q) (pointer_is r k)))
 
   pub load_fits : (s : _) (t : Ty) (v : Typed) → Passes m d (Load s t v) → Row (Load s t v)
@@ -362,7 +382,8 @@ module _ (m : Tree) (accepted : IsUnrefused m) (order : IsInOrder m) (f : ℕ) (
       let rv = p.types 0 v.ty refl in
       let ra = p.types 1 at.ty refl in (
         nothing refl,
-        store_row (program_of m) (scalars_of m d) (scalar_in (resolved m.types d.result)) (resolved m.types v.ty) rv.0 (value_of (scope_of m d) (resolved m.types v.ty) v.value) rv.1 (p.demands 0 (asks_typed is_scalar v) refl rv.0 rv.1) (operand_fits m accepted f d there (Store s v at) p 0 v.ty v.value refl),
+        store_row (program_of m) (scalars_of m d) (scalar_in (resolved m.types d.result)) (resolved m.types v.ty) rv.0 (value_of (scope_of m d) (resolved m.types v.ty) v.value) rv.1
+            (p.demands 0 (asks_typed is_scalar v) refl rv.0 rv.1) (operand_fits m accepted f d there (Store s v at) p 0 v.ty v.value refl),
         pointer_operand (Store s v at) p 1 at.ty at.value refl ra.0 ra.1 (p.demands 1 (asks_typed is_pointer at) refl ra.0 ra.1),
       )
 

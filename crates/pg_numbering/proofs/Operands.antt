@@ -42,7 +42,8 @@ own_place (v ∷ vs) (suc i) u e =
 
 module _ (m : Tree) (accepted : IsUnrefused m) (f : ℕ) (d : Definition) (there : slice_get (named_functions m) f ≡ Some d) where
   -- a register
-  local_fits : (t : Option ResolvedType) (s : Scalar) (n : Name) → scalar_in t ≡ Some s → (o : Option Register) → register_named (registers_of m.types d) n.text ≡ o → wrong_register false t o ≡ false → is_some o ≡ true → HasType (program_of m) (scalars_of m d) s (value.Register (unwrap_or (register_number (registers_of m.types d) n.text) 0))
+  local_fits : (t : Option ResolvedType) (s : Scalar) (n : Name) → scalar_in t ≡ Some s → (o : Option Register) → register_named (registers_of m.types d) n.text ≡ o
+      → wrong_register false t o ≡ false → is_some o ≡ true → HasType (program_of m) (scalars_of m d) s (value.Register (unwrap_or (register_number (registers_of m.types d) n.text) 0))
   local_fits t s n e None h w u = absurd cc
   local_fits t s n e (Some r) h w u =
       let k = looked_up m accepted f d there n.text r h in
@@ -54,7 +55,8 @@ module _ (m : Tree) (accepted : IsUnrefused m) (f : ℕ) (d : Definition) (there
       ap (slice_get (scalars_of m d)) number ∙ k.there ∙ ap (λ (q : Scalar). Some q) scalars
 
   -- a global
-  global_fits : (t : Option ResolvedType) (s : Scalar) (n : Name) → scalar_in t ≡ Some s → (y : Symbol) → symbol m n.text ≡ y → wrong_symbol t y ≡ false → unknown_symbol y n.span ≡ [] → function_symbol y n.span ≡ [] → HasType (program_of m) (scalars_of m d) s (symbol_value y)
+  global_fits : (t : Option ResolvedType) (s : Scalar) (n : Name) → scalar_in t ≡ Some s → (y : Symbol) → symbol m n.text ≡ y → wrong_symbol t y ≡ false
+      → unknown_symbol y n.span ≡ [] → function_symbol y n.span ≡ [] → HasType (program_of m) (scalars_of m d) s (symbol_value y)
   global_fits t s n e (VariableOf i v) h w u k =
       let a = type_of_scalar t s e in
       let p : t ≡ Some PointerType = a.1 ∙ ap (λ (q : ResolvedType). Some q) (pointer_is a.0 (passes_from is_pointer t a.0 w a.1)) in
@@ -64,7 +66,8 @@ module _ (m : Tree) (accepted : IsUnrefused m) (f : ℕ) (d : Definition) (there
   global_fits t s n e NoSymbol h w u k = absurd cc
 
   -- a value that isn't refused at its type
-  pub value_fits : (t : Option ResolvedType) (s : Scalar) (v : Val) → scalar_in t ≡ Some s → is_wrong (scope_of m d) false t v ≡ false → unknown_value (scope_of m d) v ≡ [] → function_value (scope_of m d) v ≡ [] → HasType (program_of m) (scalars_of m d) s (value_of (scope_of m d) t v)
+  pub value_fits : (t : Option ResolvedType) (s : Scalar) (v : Val) → scalar_in t ≡ Some s → is_wrong (scope_of m d) false t v ≡ false → unknown_value (scope_of m d) v ≡ []
+      → function_value (scope_of m d) v ≡ [] → HasType (program_of m) (scalars_of m d) s (value_of (scope_of m d) t v)
   unfolding value_of
   value_fits t s (Local n) e w u k = local_fits t s n e (register_named (registers_of m.types d) n.text) refl w (else_none (is_some (register_named (registers_of m.types d) n.text)) n.span u)
   value_fits t s (Global n) e w u k = global_fits t s n e (symbol m n.text) refl w u k
@@ -120,7 +123,8 @@ module _ (m : Tree) (accepted : IsUnrefused m) (f : ℕ) (d : Definition) (there
       no_void_value v (subst (λ (q : Option ResolvedType). is_wrong (scope_of m d) false q v ≡ false) h (right_use u (p.uses k.0 u k.1))) (p.values k.0 u k.1)
 
   -- an operand of an operation
-  pub operand_fits : (o : Op) → Passes m d o → (i : ℕ) (t : Ty) (v : Val) → slice_get (value_operands (scope_of m d) o) i ≡ Some (record { constant = false; ty = t; value = v }) → (s : Scalar) → scalar_in (resolved m.types t) ≡ Some s → HasType (program_of m) (scalars_of m d) s (value_of (scope_of m d) (resolved m.types t) v)
+  pub operand_fits : (o : Op) → Passes m d o → (i : ℕ) (t : Ty) (v : Val) → slice_get (value_operands (scope_of m d) o) i ≡ Some (record { constant = false; ty = t; value = v })
+      → (s : Scalar) → scalar_in (resolved m.types t) ≡ Some s → HasType (program_of m) (scalars_of m d) s (value_of (scope_of m d) (resolved m.types t) v)
   operand_fits o p i t v e s h =
       let u : Use = record { constant = false; ty = t; value = v } in
       let k = own_place (value_operands (scope_of m d) o) i u e in

@@ -12,11 +12,13 @@ use Rattle.pg_rules.specs.LineConditions.{line_types, line_uses, unknown_callee,
 use Rattle.pg_rules.specs.Conditions.{scope_of, IsUnrefused}
 use Rattle.pg_numbering.proofs.Unrefused.{each_none}
 use Rattle.pg_numbering.proofs.Resolves.{Has}
-use Rattle.pg_numbering.proofs.Lines.{IsLine, unknown_values, known_callee, known_threads, line_type, line_demand, line_use, line_call, line_threads, line_return, line_labels, no_functions, supported_callee, supported_threads}
+use Rattle.pg_numbering.proofs.Lines.{IsLine, unknown_values, known_callee, known_threads, line_type, line_demand, line_use, line_call, line_threads, line_return, line_labels, no_functions}
+use Rattle.pg_numbering.proofs.Lines.{supported_callee, supported_threads}
 
 pub record Passes (m : Tree) (d : Definition) (o : Op) : Type 0 where
   pub types : (i : ℕ) (t : Ty) → slice_get (line_types o) i ≡ Some t → Has (resolved m.types t)
-  pub demands : (i : ℕ) (x : Demand) → slice_get (op_demands m.types (scope_of m d).result o ++ call_demands (scope_of m d) o) i ≡ Some x → (r : ResolvedType) → resolved m.types x.ty ≡ Some r → x.test r ≡ true
+  pub demands : (i : ℕ) (x : Demand) → slice_get (op_demands m.types (scope_of m d).result o ++ call_demands (scope_of m d) o) i ≡ Some x → (r : ResolvedType)
+      → resolved m.types x.ty ≡ Some r → x.test r ≡ true
   pub uses : (i : ℕ) (u : Use) → slice_get (line_uses (scope_of m d) o) i ≡ Some u → wrong_use (scope_of m d) u ≡ []
   pub values : (i : ℕ) (u : Use) → slice_get (line_uses (scope_of m d) o) i ≡ Some u → unknown_value (scope_of m d) u.value ≡ []
   pub no_functions : (i : ℕ) (u : Use) → slice_get (line_uses (scope_of m d) o) i ≡ Some u → function_value (scope_of m d) u.value ≡ []

@@ -138,7 +138,8 @@ unfolding gives op_types op_demands
 phi_gives m d (Phi s t i all) p e =
     let r = p.types 0 t refl in
     let scalar : is_scalar r.0 ≡ true = p.demands 0 (asks is_scalar t) refl r.0 r.1 in
-    not_from (is_void m.types t) (λ v. let same : r.0 ≡ VoidType = some_is r.0 VoidType (sym r.1 ∙ void_resolved m.types t v) in true≢false (sym scalar ∙ ap (λ (q : ResolvedType). is_scalar q) same))
+    not_from (is_void m.types t) (λ v. let same : r.0 ≡ VoidType = some_is r.0 VoidType (sym r.1 ∙ void_resolved m.types t v) in
+    true≢false (sym scalar ∙ ap (λ (q : ResolvedType). is_scalar q) same))
 phi_gives m d (Binary s o t a b) p e = absurd cc
 phi_gives m d (Icmp s o t a b) p e = absurd cc
 phi_gives m d (Cast s o v t) p e = absurd cc

@@ -44,7 +44,8 @@ numbered_found {X} {Y} g n xs i y e = by (slice_get xs i) refl
 
 -- ---- functions and globals
 
-pub function_there : (m : Tree) (f : ℕ) (d : Definition) → slice_get (named_functions m) f ≡ Some d → slice_get (program_of m).functions f ≡ Some (function_at m (first_block m.functions f) d)
+pub function_there : (m : Tree) (f : ℕ) (d : Definition) → slice_get (named_functions m) f ≡ Some d
+    → slice_get (program_of m).functions f ≡ Some (function_at m (first_block m.functions f) d)
 unfolding program_of
 function_there m f d e =
     let z : 0 + f ≡ f = omega arith in
@@ -131,7 +132,8 @@ pub block_found : (m : Tree) (k : ℕ) (x : numbered_block.Block) → slice_get 
 unfolding program_of
 block_found m k x e = by (found (blocks_of m) block_count (blocks_sized m) 0 (named_functions m) k x e)
   where
-    of : (r : IsIn (blocks_of m) block_count 0 (named_functions m) k x) → slice_get (blocks_of m r.place r.whole) r.inner ≡ Some x → (o : Option Block) → slice_get r.whole.blocks r.inner ≡ o → IsBlockOf m k x
+    of : (r : IsIn (blocks_of m) block_count 0 (named_functions m) k x) → slice_get (blocks_of m r.place r.whole) r.inner ≡ Some x → (o : Option Block)
+        → slice_get r.whole.blocks r.inner ≡ o → IsBlockOf m k x
     of r h None n = absurd (blocks_from_none r.place (first_line m.functions r.place) r.whole.blocks r.inner x h n)
     of r h (Some b) n = record {
       function = r.place;
@@ -141,7 +143,8 @@ block_found m k x e = by (found (blocks_of m) block_count (blocks_sized m) 0 (na
       plain = b;
       within = n;
       number = r.number ∙ ap (λ (q : ℕ). q + r.inner) (first_block_named m r.place);
-      is = some_is x (block_of r.place (first_line m.functions r.place + sum_by lines_in (take r.inner r.whole.blocks)) b) (sym h ∙ blocks_from_get r.place (first_line m.functions r.place) r.whole.blocks r.inner b n);
+      is = some_is x (block_of r.place (first_line m.functions r.place + sum_by lines_in (take r.inner r.whole.blocks)) b)
+          (sym h ∙ blocks_from_get r.place (first_line m.functions r.place) r.whole.blocks r.inner b n);
     }
 
     by : IsIn (blocks_of m) block_count 0 (named_functions m) k x → IsBlockOf m k x
@@ -194,12 +197,14 @@ line_there_in m first d i b j l h g =
 line_within : (bs : List Block) (i : ℕ) (b : Block) (j : ℕ) (l : Line) → slice_get bs i ≡ Some b → slice_get b.lines j ≡ Some l → sum_by lines_in (take i bs) + j < sum_by lines_in bs
 line_within bs i b j l h g = omega (arith, sum_within lines_in bs i b h, slice_get_within b.lines j l g)
 
-pub line_there : (m : Tree) (f : ℕ) (d : Definition) (i : ℕ) (b : Block) (j : ℕ) (l : Line) → slice_get (named_functions m) f ≡ Some d → slice_get d.blocks i ≡ Some b → slice_get b.lines j ≡ Some l
+pub line_there : (m : Tree) (f : ℕ) (d : Definition) (i : ℕ) (b : Block) (j : ℕ) (l : Line) → slice_get (named_functions m) f ≡ Some d → slice_get d.blocks i ≡ Some b
+    → slice_get b.lines j ≡ Some l
     → slice_get (program_of m).instrs (first_line m.functions f + sum_by lines_in (take i d.blocks) + j) ≡ Some (instr_at (scope_of m d) (first_block m.functions f) i l)
 unfolding program_of
 line_there m f d i b j l e h g =
     let z : 0 + f ≡ f = omega arith in
-    let at : first_line m.functions f + sum_by lines_in (take i d.blocks) + j ≡ sum_by line_count (take f (named_functions m)) + (sum_by lines_in (take i d.blocks) + j) = omega (arith, first_line_named m f) in
+    let at : first_line m.functions f + sum_by lines_in (take i d.blocks) + j ≡ sum_by line_count (take f (named_functions m)) + (sum_by lines_in (take i d.blocks) + j) =
+    omega (arith, first_line_named m f) in
     ap (slice_get (pieces (instrs_of m) 0 (named_functions m))) at
     ∙ stands (instrs_of m) line_count (instrs_sized m) 0 (named_functions m) f d (sum_by lines_in (take i d.blocks) + j) e (line_within d.blocks i b j l h g)
     ∙ ap (λ (q : ℕ). slice_get (instrs_of m q d) (sum_by lines_in (take i d.blocks) + j)) z
@@ -219,8 +224,10 @@ record IsLineIn (m : Tree) (first : ℕ) (d : Definition) (k : ℕ) (x : Instr) 
 line_found_in : (m : Tree) (first : ℕ) (d : Definition) (k : ℕ) (x : Instr) → slice_get (function_instrs m first d) k ≡ Some x → IsLineIn m first d k x
 line_found_in m first d k x e = by (found (lines_of m first d) lines_in (lines_sized m first d) 0 d.blocks k x e)
   where
-    of : (r : IsIn (lines_of m first d) lines_in 0 d.blocks k x) → option_map (instr_at (scope_of m d) first r.place) (slice_get r.whole.lines r.inner) ≡ Some x → (o : Option Line) → slice_get r.whole.lines r.inner ≡ o → IsLineIn m first d k x
-    of r h None n = absurd (let q : option_map (instr_at (scope_of m d) first r.place) None ≡ Some x = ap (λ (o : Option Line). option_map (instr_at (scope_of m d) first r.place) o) (sym n) ∙ h in cc)
+    of : (r : IsIn (lines_of m first d) lines_in 0 d.blocks k x) → option_map (instr_at (scope_of m d) first r.place) (slice_get r.whole.lines r.inner) ≡ Some x → (o : Option Line)
+        → slice_get r.whole.lines r.inner ≡ o → IsLineIn m first d k x
+    of r h None n = absurd (let q : option_map (instr_at (scope_of m d) first r.place) None ≡ Some x = ap (λ (o : Option Line). option_map (instr_at (scope_of m d) first r.place) o) (sym n)
+        ∙ h in cc)
     of r h (Some l) n = record {
       place = r.place;
       block = r.whole;
@@ -235,7 +242,8 @@ line_found_in m first d k x e = by (found (lines_of m first d) lines_in (lines_s
     by : IsIn (lines_of m first d) lines_in 0 d.blocks k x → IsLineIn m first d k x
     by r =
         let z : 0 + r.place ≡ r.place = omega arith in
-        of r (sym (slice_get-map (instr_at (scope_of m d) first r.place) r.whole.lines r.inner) ∙ subst (λ (q : ℕ). slice_get (lines_of m first d q r.whole) r.inner ≡ Some x) z r.inside) (slice_get r.whole.lines r.inner) refl
+        of r (sym (slice_get-map (instr_at (scope_of m d) first r.place) r.whole.lines r.inner) ∙ subst (λ (q : ℕ). slice_get (lines_of m first d q r.whole) r.inner ≡ Some x) z r.inside)
+        (slice_get r.whole.lines r.inner) refl
 
 pub line_found : (m : Tree) (k : ℕ) (x : Instr) → slice_get (program_of m).instrs k ≡ Some x → IsLineOf m k x
 unfolding program_of

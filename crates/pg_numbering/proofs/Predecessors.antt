@@ -12,7 +12,8 @@ use Rattle.pg_ir.specs.declared.instr.Instr.{Instr}
 use Rattle.pg_ir.specs.Program.{end_of}
 use Rattle.pg_ir.specs.Edges.{targets_in, successors, sources_of}
 use Rattle.pg_ast.specs.declared.names.Name.{Name}
-use Rattle.pg_ast.specs.Syntax.{Ty, Incoming, Line, Block, Op, Binary, Icmp, Cast, Select, Phi, Br, CondBr, Switch, Call, RetVoid, Ret, Unreachable, Alloca, Load, Store, GetElementPtr, Definition, Tree}
+use Rattle.pg_ast.specs.Syntax.{Ty, Incoming, Line, Block, Op, Binary, Icmp, Cast, Select, Phi, Br, CondBr, Switch, Call, RetVoid, Ret, Unreachable, Alloca, Load, Store, GetElementPtr}
+use Rattle.pg_ast.specs.Syntax.{Definition, Tree}
 use Rattle.pg_rules.specs.Names.{labels_of, label_number, first_block, first_line}
 use Rattle.pg_rules.specs.Written.{label_targets, label_sources, is_phi_op, is_ending}
 use Rattle.pg_rules.specs.BlockConditions.{phi_word, block_targets, has_text, goes_to}
@@ -47,7 +48,8 @@ text_found names text e =
 pub text_there : (names : List Name) (k : ℕ) (n : Name) (text : List ℕ) → slice_get names k ≡ Some n → n.text ≡ text → has_text names text ≡ true
 text_there names k n text e h = any_from (λ (x : Name). bytes_eq x.text text) names k n e ((bytes_eq-Decides n.text text).1 h)
 
-piece_there : {X Y : Type 0} (g : X → List Y) (xs : List X) (i : ℕ) (x : X) (j : ℕ) (y : Y) → slice_get xs i ≡ Some x → slice_get (g x) j ≡ Some y → (p : Y → Bool) → p y ≡ true → list_any p (flat_map g xs) ≡ true
+piece_there : {X Y : Type 0} (g : X → List Y) (xs : List X) (i : ℕ) (x : X) (j : ℕ) (y : Y) → slice_get xs i ≡ Some x → slice_get (g x) j ≡ Some y → (p : Y → Bool)
+    → p y ≡ true → list_any p (flat_map g xs) ≡ true
 piece_there g [] i x j y e h p t = absurd cc
 piece_there {X} {Y} g (z ∷ zs) zero x j y e h p t =
     let at : slice_get (g z) j ≡ Some y = subst (λ (q : X). slice_get (g q) j ≡ Some y) (sym (some_is z x e)) h in
@@ -76,7 +78,8 @@ phi_shown (Store s v at) e h = cc
 phi_shown (GetElementPtr s t v all) e h = cc
 
 -- the sources of a phi are the blocks of its labels
-sources_list : (m : Tree) (d : Definition) (first : ℕ) (t : Ty) (all : List Incoming) → map (λ (i : numbered_incoming.Incoming). i.block.0) (map (incoming_at (scope_of m d) first t) all) ≡ map (target d first) (map (λ (j : Incoming). j.block) all)
+sources_list : (m : Tree) (d : Definition) (first : ℕ) (t : Ty) (all : List Incoming)
+    → map (λ (i : numbered_incoming.Incoming). i.block.0) (map (incoming_at (scope_of m d) first t) all) ≡ map (target d first) (map (λ (j : Incoming). j.block) all)
 sources_list m d first t [] = refl
 sources_list m d first t (i ∷ is) = ap (λ (xs : List ℕ). target d first i.block ∷ xs) (sources_list m d first t is)
 
@@ -110,14 +113,16 @@ module _ (m : Tree) (accepted : IsUnrefused m) (order : IsInOrder m) (f : ℕ) (
       → successors (program_of m) (first_block m.functions f + i) ≡ map (target d (first_block m.functions f)) (label_targets l.op)
   unfolding successors
   successors_are i b j l e h last =
-      let at : end_of (program_of m) (first_block m.functions f + i) - 1 ≡ first_line m.functions f + sum_by lines_in (take i d.blocks) + j = omega (arith, end_is m accepted f d i b there e, last) in
+      let at : end_of (program_of m) (first_block m.functions f + i) - 1 ≡ first_line m.functions f + sum_by lines_in (take i d.blocks) + j =
+      omega (arith, end_is m accepted f d i b there e, last) in
       ap (λ (q : ℕ). targets_in (slice_get (program_of m).instrs q)) at
       ∙ ap (λ (o : Option Instr). targets_in o) (line_there m f d i b j l there e h)
       ∙ targets_are m d (first_block m.functions f) l.op
 
   module _ (place : ℕ) (block : Block) (within : slice_get d.blocks place ≡ Some block) where
     -- a block whose lines name the label of another goes on to that
-    pub goes_on : (q : ℕ) (c : Block) → slice_get d.blocks q ≡ Some c → goes_to block.label c ≡ true → Contains (successors (program_of m) (first_block m.functions f + q)) (first_block m.functions f + place)
+    pub goes_on : (q : ℕ) (c : Block) → slice_get d.blocks q ≡ Some c → goes_to block.label c ≡ true
+        → Contains (successors (program_of m) (first_block m.functions f + q)) (first_block m.functions f + place)
     goes_on q c at g =
         let lb = labelled m accepted order f d there place block within in
         let g2 : has_text (block_targets c) lb.0.text ≡ true = subst (λ (o : Option Name). goes_to o c ≡ true) lb.1 g in
@@ -125,12 +130,15 @@ module _ (m : Tree) (accepted : IsUnrefused m) (order : IsInOrder m) (f : ℕ) (
         let p = piece_found (λ (l : Line). label_targets l.op) c.lines t.0 t.1 t.2 in
         let last = (ends_where m accepted order f d there q c at p.place p.whole p.there).0 (targets_end p.whole.op p.inner t.1 p.inside) in
         let number : label_number (labels_of d) t.1.text ≡ Some place = number_of_label m accepted order f d there place block lb.0 t.1.text within lb.1 (sym t.3) in
-        let in_list : slice_get (map (target d (first_block m.functions f)) (label_targets p.whole.op)) p.inner ≡ Some (target d (first_block m.functions f) t.1) = map_there (target d (first_block m.functions f)) (label_targets p.whole.op) p.inner t.1 p.inside in
+        let in_list : slice_get (map (target d (first_block m.functions f)) (label_targets p.whole.op)) p.inner ≡ Some (target d (first_block m.functions f) t.1) =
+        map_there (target d (first_block m.functions f)) (label_targets p.whole.op) p.inner t.1 p.inside in
         subst (λ (xs : List ℕ). Contains xs (first_block m.functions f + place)) (sym (successors_are q c p.place p.whole at p.there last))
-        (subst (Contains (map (target d (first_block m.functions f)) (label_targets p.whole.op))) (target_number t.1 place number) (contains_at (map (target d (first_block m.functions f)) (label_targets p.whole.op)) p.inner (target d (first_block m.functions f) t.1) in_list))
+        (subst (Contains (map (target d (first_block m.functions f)) (label_targets p.whole.op))) (target_number t.1 place number)
+        (contains_at (map (target d (first_block m.functions f)) (label_targets p.whole.op)) p.inner (target d (first_block m.functions f) t.1) in_list))
 
     -- and a block that goes on to another names its label
-    pub names_label : (q : ℕ) (c : Block) → slice_get d.blocks q ≡ Some c → Contains (successors (program_of m) (first_block m.functions f + q)) (first_block m.functions f + place) → goes_to block.label c ≡ true
+    pub names_label : (q : ℕ) (c : Block) → slice_get d.blocks q ≡ Some c → Contains (successors (program_of m) (first_block m.functions f + q)) (first_block m.functions f + place)
+        → goes_to block.label c ≡ true
     names_label q c at h =
         let last = last_of c.lines some_line in
         let l = there_at c.lines last.0 (omega (arith, last.1)) in

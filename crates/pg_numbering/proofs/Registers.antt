@@ -1,5 +1,6 @@
 -- The registers of a function of an accepted tree: their types are scalars, and each has its number.
-use Rattle.std.proofs.Common.{◌≡◌, ℕ, zero, suc, ◌+◌, ◌≤◌, List, [], ◌∷◌, length, Bool, true, false, ◌||◌, refl, sym, ap, ◌∙◌, subst, arith, ◌⊎◌, inl, inr, cond, nat_lt, length-append}
+use Rattle.std.proofs.Common.{◌≡◌, ℕ, zero, suc, ◌+◌, ◌≤◌, List, [], ◌∷◌, length, Bool, true, false, ◌||◌, refl, sym, ap, ◌∙◌, subst, arith, ◌⊎◌, inl}
+use Rattle.std.proofs.Common.{inr, cond, nat_lt, length-append}
 use Rattle.std.specs.Prelude.{slice_get, Option, Some, None}
 use Rattle.std.specs.List.{filter_map, flat_map}
 use Rattle.std.specs.Option.{option_map}
@@ -14,7 +15,8 @@ use Rattle.pg_ast.specs.Syntax.{Line, Block, Param, Definition, Tree}
 use Rattle.pg_ast.specs.Numbers.{gives}
 use Rattle.pg_rules.specs.declared.fault.CheckKind.TheVariants.{TooLarge}
 use Rattle.pg_types.specs.Resolved.{ResolvedType, resolved}
-use Rattle.pg_rules.specs.Names.{Register, register, result_type, param_register, line_register, block_registers, registers_of, is_called, register_named, register_number, first_line, line_count}
+use Rattle.pg_rules.specs.Names.{Register, register, result_type, param_register, line_register, block_registers, registers_of, is_called, register_named, register_number, first_line}
+use Rattle.pg_rules.specs.Names.{line_count}
 use Rattle.pg_rules.specs.TypeConditions.{any_large}
 use Rattle.pg_rules.specs.Conditions.{body_types, is_too_large, body_refused, IsUnrefused}
 use Rattle.pg_rules.specs.Numbered.{scalar_in, named_functions, program_of}
@@ -75,7 +77,8 @@ module _ (m : Tree) (accepted : IsUnrefused m) where
     unfolding registers_of
     register_scalar i r e = by (append_cases (filter_map (param_register m.types) d.params) (flat_map (block_registers m.types) d.blocks) i r e)
       where
-        by : (slice_get (filter_map (param_register m.types) d.params) i ≡ Some r) ⊎ ((j : ℕ) × (slice_get (flat_map (block_registers m.types) d.blocks) j ≡ Some r) × (i ≡ length (filter_map (param_register m.types) d.params) + j)) → IsScalarOf r.ty
+        by : (slice_get (filter_map (param_register m.types) d.params) i ≡ Some r)
+            ⊎ ((j : ℕ) × (slice_get (flat_map (block_registers m.types) d.blocks) j ≡ Some r) × (i ≡ length (filter_map (param_register m.types) d.params) + j)) → IsScalarOf r.ty
         by (inl h) = param_made r (filter_found (param_register m.types) d.params i r h)
         by (inr h) =
             let p = piece_found (block_registers m.types) d.blocks h.0 r h.1 in
@@ -114,7 +117,8 @@ module _ (m : Tree) (accepted : IsUnrefused m) where
     pub params_within : length d.params ≤ length (scalars_of m d)
     unfolding registers_of
     params_within =
-        let a : length (registers_of m.types d) ≡ length (filter_map (param_register m.types) d.params) + length (flat_map (block_registers m.types) d.blocks) = length-append (filter_map (param_register m.types) d.params) (flat_map (block_registers m.types) d.blocks) in
+        let a : length (registers_of m.types d) ≡ length (filter_map (param_register m.types) d.params) + length (flat_map (block_registers m.types) d.blocks) =
+        length-append (filter_map (param_register m.types) d.params) (flat_map (block_registers m.types) d.blocks) in
         omega (arith, scalars_count, a, params_count)
 
     -- a parameter's register has its number
@@ -126,7 +130,8 @@ module _ (m : Tree) (accepted : IsUnrefused m) where
         let r = register (resolved m.types p.ty) name.0 in
         let own : param_register m.types p ≡ Some r = ap (λ (o : Option Name). option_map (register (resolved m.types p.ty)) o) name.1 in
         let at : slice_get (filter_map (param_register m.types) d.params) i ≡ Some r = total_get (param_register m.types) d.params all i p e ∙ own in
-        scalar_at i r (front_get (filter_map (param_register m.types) d.params) (flat_map (block_registers m.types) d.blocks) i (slice_get_within (filter_map (param_register m.types) d.params) i r at) ∙ at)
+        scalar_at i r (front_get (filter_map (param_register m.types) d.params) (flat_map (block_registers m.types) d.blocks) i
+        (slice_get_within (filter_map (param_register m.types) d.params) i r at) ∙ at)
       where
         all : IsTotal (param_register m.types) d.params
         all j q h =
@@ -140,12 +145,14 @@ module _ (m : Tree) (accepted : IsUnrefused m) where
 
     pub few_registers : length (registers_of m.types d) ≤ FUNCTION_REGISTER_LIMIT
     few_registers =
-        let a = (or_parts (any_large m.types (body_types d) || nat_lt FUNCTION_REGISTER_LIMIT (length (registers_of m.types d))) (nat_lt INSTRUCTION_LIMIT (first_line m.functions f + line_count d)) small).0 in
+        let a = (or_parts (any_large m.types (body_types d) || nat_lt FUNCTION_REGISTER_LIMIT (length (registers_of m.types d)))
+        (nat_lt INSTRUCTION_LIMIT (first_line m.functions f + line_count d)) small).0 in
         ltb-false FUNCTION_REGISTER_LIMIT (length (registers_of m.types d)) (or_parts (any_large m.types (body_types d)) (nat_lt FUNCTION_REGISTER_LIMIT (length (registers_of m.types d))) a).1
 
     pub few_lines : first_line m.functions f + line_count d ≤ INSTRUCTION_LIMIT
     few_lines =
-        let a = (or_parts (any_large m.types (body_types d) || nat_lt FUNCTION_REGISTER_LIMIT (length (registers_of m.types d))) (nat_lt INSTRUCTION_LIMIT (first_line m.functions f + line_count d)) small).1 in
+        let a = (or_parts (any_large m.types (body_types d) || nat_lt FUNCTION_REGISTER_LIMIT (length (registers_of m.types d)))
+        (nat_lt INSTRUCTION_LIMIT (first_line m.functions f + line_count d)) small).1 in
         ltb-false INSTRUCTION_LIMIT (first_line m.functions f + line_count d) a
 
     -- ---- in the program
@@ -171,7 +178,8 @@ module _ (m : Tree) (accepted : IsUnrefused m) (order : IsInOrder m) (d : Defini
       let k = place d.blocks at.place at.block at.within inner.0 (register (result_type m.types l.op) n) inner.1 in
       (length (filter_map (param_register m.types) d.params) + k.0, behind_get (filter_map (param_register m.types) d.params) (flat_map (block_registers m.types) d.blocks) k.0 ∙ k.1)
     where
-      place : (bs : List Block) (i : ℕ) (b : Block) → slice_get bs i ≡ Some b → (j : ℕ) (r : Register) → slice_get (block_registers m.types b) j ≡ Some r → (k : ℕ) × (slice_get (flat_map (block_registers m.types) bs) k ≡ Some r)
+      place : (bs : List Block) (i : ℕ) (b : Block) → slice_get bs i ≡ Some b → (j : ℕ) (r : Register) → slice_get (block_registers m.types b) j ≡ Some r
+          → (k : ℕ) × (slice_get (flat_map (block_registers m.types) bs) k ≡ Some r)
       place [] i b e j r h = absurd cc
       place (c ∷ cs) zero b e j r h =
           let own : slice_get (block_registers m.types c) j ≡ Some r = subst (λ (q : Block). slice_get (block_registers m.types q) j ≡ Some r) (sym (some_is c b e)) h in
@@ -187,7 +195,8 @@ module _ (m : Tree) (accepted : IsUnrefused m) (order : IsInOrder m) (d : Defini
       let k = set_there n e g in
       let r = register (result_type m.types l.op) n in
       let s = register_scalar m accepted at.function d at.there k.0 r k.1 in
-      let first : IsFirst (is_called n.text) (registers_of m.types d) k.0 r = record { there = k.1; passes = same_text n.text; before = λ (j : ℕ) (q : Register) h b. registers_differ m accepted order at.function d at.there j k.0 q r h b k.1 } in
+      let first : IsFirst (is_called n.text) (registers_of m.types d) k.0 r =
+      record { there = k.1; passes = same_text n.text; before = λ (j : ℕ) (q : Register) h b. registers_differ m accepted order at.function d at.there j k.0 q r h b k.1 } in
       record {
         number = k.0;
         is = first_position (is_called n.text) (registers_of m.types d) k.0 r first;

@@ -9,7 +9,8 @@ use Rattle.pg_lex.specs.declared.token.Span.{Span}
 use Rattle.pg_ast.specs.declared.names.Name.{Name}
 use Rattle.pg_ast.specs.Syntax.{Ty, Tys, I1, I8, I16, I32, I64, Ptr, Void, Array, Struct, Named, NoTys, MoreTys, NamedType}
 use Rattle.pg_ast.specs.Numbers.{type_named}
-use Rattle.pg_types.specs.Resolved.{ResolvedType, IntegerType, PointerType, VoidType, ArrayType, NoFields, MoreFields, part_type, array_type, with_field, element_count, type_by, fields_by, type_within, resolved}
+use Rattle.pg_types.specs.Resolved.{ResolvedType, IntegerType, PointerType, VoidType, ArrayType, NoFields, MoreFields, part_type, array_type, with_field, element_count, type_by, fields_by}
+use Rattle.pg_types.specs.Resolved.{type_within, resolved}
 use Rattle.pg_rules.specs.Written.{type_list, types_within, types_within_all}
 use Rattle.pg_rules.specs.TypeConditions.{is_void_part, unknown_type, void_part, wrong_count, wrong_type}
 use Rattle.pg_rules.specs.Places.{type_span}
@@ -87,7 +88,8 @@ module _ (types : List NamedType) (f : List ℕ → Option ResolvedType) (below 
         (behind_none (flat_map (void_part types) (type_list ts)) (flat_map (wrong_type types) (types_within_all ts)) r) h.1
     type_has (Named n) r h = h.0
 
-    fields_have : (ts : Tys) (front : ResolvedType) (o : Option ResolvedType) → o ≡ Some front → flat_map (void_part types) (type_list ts) ≡ [] → Right types (types_within_all ts) → AllByRecursion (NameHas f) (types_within_all ts) → Has (fields_by f o ts)
+    fields_have : (ts : Tys) (front : ResolvedType) (o : Option ResolvedType) → o ≡ Some front → flat_map (void_part types) (type_list ts) ≡ [] → Right types (types_within_all ts)
+        → AllByRecursion (NameHas f) (types_within_all ts) → Has (fields_by f o ts)
     fields_have NoTys front o e v r h = (front, e)
     fields_have (MoreTys t ts) front o e v r h =
         let one = type_has t (right_front types (types_within t) (types_within_all ts) r) (all_front (NameHas f) (types_within t) (types_within_all ts) h) in
@@ -116,7 +118,8 @@ known_from types n e = by (type_named types n.text) refl
 
 pub known_names : (types : List NamedType) (ts : List Ty) → flat_map (unknown_type types) ts ≡ [] → (i : ℕ) (n : Name) → slice_get (names_in_types ts) i ≡ Some n → IsKnown types n.text
 known_names types [] e i n h = absurd cc
-known_names types (Named m ∷ ts) e zero n h = subst (λ (q : Name). IsKnown types q.text) (some_is m n h) (known_from types m (front_none (unknown_type types (Named m)) (flat_map (unknown_type types) ts) e))
+known_names types (Named m ∷ ts) e zero n h = subst (λ (q : Name). IsKnown types q.text) (some_is m n h)
+    (known_from types m (front_none (unknown_type types (Named m)) (flat_map (unknown_type types) ts) e))
 known_names types (Named m ∷ ts) e (suc i) n h = known_names types ts (behind_none (unknown_type types (Named m)) (flat_map (unknown_type types) ts) e) i n h
 known_names types (t ∷ ts) e i n h = known_names types ts (behind_none (unknown_type types t) (flat_map (unknown_type types) ts) e) i n h
 

@@ -81,11 +81,13 @@ module _ (m : Tree) (accepted : IsUnrefused m) where
   solid t g (MoreFields s u) e = refl
   solid t g VoidType e = absurd (true≢false (sym (resolved_void m.types t e) ∙ not_true (is_void m.types t) g))
 
-  known_scalar : (t : Ty) → not (is_void m.types t) ≡ true → (k : Option Scalar) (o : Option ResolvedType) → resolved m.types t ≡ o → is_result k o ≡ true → IsScalarOf (resolved m.types t)
+  known_scalar : (t : Ty) → not (is_void m.types t) ≡ true → (k : Option Scalar) (o : Option ResolvedType) → resolved m.types t ≡ o → is_result k o ≡ true
+      → IsScalarOf (resolved m.types t)
   known_scalar t g None o e h = absurd (true≢false (sym (resolved_void m.types t (e ∙ result_void o h)) ∙ not_true (is_void m.types t) g))
   known_scalar t g (Some s) o e h = record { scalar = s; is = ap scalar_in e ∙ result_is (Some s) o h }
 
-  called_scalar : (t : Ty) (w : Option Written) (f : Name) → not (is_void m.types t) ≡ true → Has (resolved m.types t) → wrong_header m.types (header_of (symbol m f.text)) t w ≡ [] → CallsDefined m (symbol m f.text) ⊎ CallsKnown m (symbol m f.text) → IsScalarOf (resolved m.types t)
+  called_scalar : (t : Ty) (w : Option Written) (f : Name) → not (is_void m.types t) ≡ true → Has (resolved m.types t) → wrong_header m.types (header_of (symbol m f.text)) t w ≡ []
+      → CallsDefined m (symbol m f.text) ⊎ CallsKnown m (symbol m f.text) → IsScalarOf (resolved m.types t)
   unfolding numbered
   called_scalar t w f g r h (inl c) =
       let there = definition_there m f.text c.function c.definition c.is in
@@ -101,7 +103,8 @@ module _ (m : Tree) (accepted : IsUnrefused m) where
   unfolding gives op_types op_demands
   result_scalar d (Binary s o t a b) p g = let r = p.types 0 t refl in scalar_from (resolved m.types t) r.0 r.1 (integer_scalar r.0 (p.demands 0 (asks is_integer t) refl r.0 r.1))
   result_scalar d (Icmp s o t a b) p g = record { scalar = scalar.Int W1; is = refl }
-  result_scalar d (Cast s o v t) p g = let r = p.types 1 t refl in scalar_from (resolved m.types t) r.0 r.1 (cast_scalar o (resolved m.types v.ty) r.0 (p.demands 1 (asks (cast_to o (resolved m.types v.ty)) t) refl r.0 r.1))
+  result_scalar d (Cast s o v t) p g = let r = p.types 1 t refl in scalar_from (resolved m.types t) r.0 r.1
+      (cast_scalar o (resolved m.types v.ty) r.0 (p.demands 1 (asks (cast_to o (resolved m.types v.ty)) t) refl r.0 r.1))
   result_scalar d (Select s c a b) p g = let r = p.types 1 a.ty refl in scalar_from (resolved m.types a.ty) r.0 r.1 (p.demands 1 (asks_typed is_scalar a) refl r.0 r.1)
   result_scalar d (Phi s t i all) p g = let r = p.types 0 t refl in scalar_from (resolved m.types t) r.0 r.1 (p.demands 0 (asks is_scalar t) refl r.0 r.1)
   result_scalar d (Br s b) p g = absurd cc
@@ -109,7 +112,8 @@ module _ (m : Tree) (accepted : IsUnrefused m) where
   result_scalar d (Switch s v b all) p g = absurd cc
   result_scalar d (Call s t w f all) p g =
       called_scalar t w f g (p.types 0 t refl) (front_none (wrong_header m.types (header_of (symbol m f.text)) t w) _ p.call)
-      (callee_is m (symbol m f.text) f.span p.callee (front_none (variable_symbol (symbol m f.text) f.span) _ (behind_none (wrong_header m.types (header_of (symbol m f.text)) t w) _ p.call)) p.supported)
+      (callee_is m (symbol m f.text) f.span p.callee (front_none (variable_symbol (symbol m f.text) f.span) _ (behind_none (wrong_header m.types (header_of (symbol m f.text)) t w) _ p.call))
+      p.supported)
   result_scalar d (RetVoid s v) p g = absurd cc
   result_scalar d (Ret s v) p g = absurd cc
   result_scalar d (Unreachable s) p g = absurd cc

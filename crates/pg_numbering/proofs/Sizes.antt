@@ -1,5 +1,5 @@
 -- In an accepted tree no type is larger than types may be.
-use Rattle.std.proofs.Common.{◌≡◌, ℕ, zero, suc, ◌+◌, ◌-◌, ◌≤◌, List, [], ◌∷◌, length, Bool, false, refl, sym, ap, ◌∙◌, subst, arith, nat_lt}
+use Rattle.std.proofs.Common.{◌≡◌, ℕ, zero, suc, ◌-◌, ◌≤◌, List, [], ◌∷◌, length, Bool, false, refl, sym, ap, ◌∙◌, subst, arith, nat_lt}
 use Rattle.std.specs.Prelude.{slice_get, Option, Some, None}
 use Rattle.std.specs.List.{flat_map, list_any}
 use Rattle.std.specs.Option.{option_and_then}
@@ -15,7 +15,7 @@ use Rattle.pg_types.specs.Layout.{size_of, size_or_none}
 use Rattle.pg_rules.specs.Written.{types_within}
 use Rattle.pg_rules.specs.TypeConditions.{is_large, any_large}
 use Rattle.pg_rules.specs.Conditions.{item_refused, IsUnrefused}
-use Rattle.pg_types.proofs.Fuel.{Below, type_keeps, within_plus}
+use Rattle.pg_types.proofs.Fuel.{Below, type_keeps, within_less}
 use Rattle.pg_numbering.proofs.Flat.{some_is}
 use Rattle.pg_numbering.proofs.Unrefused.{at_if_none, items_pass}
 use Rattle.pg_numbering.proofs.Resolves.{item_of}
@@ -48,7 +48,8 @@ not_large types ts i t e h = own_type (is_large types) t (any_each (is_large typ
 
 -- ---- sizes
 
-module _ (types : List NamedType) (f : List ℕ → Option ResolvedType) (below : Below f (type_within (length types) types)) (names : (text : List ℕ) (r : ResolvedType) → f text ≡ Some r → size_of r ≤ SIZE_LIMIT) where
+module _ (types : List NamedType) (f : List ℕ → Option ResolvedType) (below : Below f (type_within (length types) types))
+    (names : (text : List ℕ) (r : ResolvedType) → f text ≡ Some r → size_of r ≤ SIZE_LIMIT) where
   -- a type that is resolved with some names is so with all
   sized : (t : Ty) (r : ResolvedType) → nat_lt SIZE_LIMIT (size_or_none (resolved types t)) ≡ false → type_by f t ≡ Some r → size_of r ≤ SIZE_LIMIT
   unfolding resolved
@@ -83,11 +84,10 @@ module _ (m : Tree) (accepted : IsUnrefused m) where
   name_size (suc n) l text r e = by (type_named m.types text) refl e (name_size n (omega (arith, l)))
     where
       below : Below (type_within n m.types) (type_within (length m.types) m.types)
-      below other q g =
-          let z : n + (length m.types - n) ≡ length m.types = omega (arith, l) in
-          subst (λ (k : ℕ). type_within k m.types other ≡ Some q) z (within_plus (length m.types - n) n m.types other q g)
+      below = within_less n (length m.types) m.types (omega (arith, l))
 
-      by : (o : Option Ty) → type_named m.types text ≡ o → option_and_then (λ t. type_by (type_within n m.types) t) o ≡ Some r → ((other : List ℕ) (q : ResolvedType) → type_within n m.types other ≡ Some q → size_of q ≤ SIZE_LIMIT) → size_of r ≤ SIZE_LIMIT
+      by : (o : Option Ty) → type_named m.types text ≡ o → option_and_then (λ t. type_by (type_within n m.types) t) o ≡ Some r
+          → ((other : List ℕ) (q : ResolvedType) → type_within n m.types other ≡ Some q → size_of q ≤ SIZE_LIMIT) → size_of r ≤ SIZE_LIMIT
       by None h g more = absurd cc
       by (Some t) h g more = size_by m.types (type_within n m.types) below more t r (item_small text t h) g
 

@@ -26,11 +26,13 @@ declared_stands : (m : Tree) (text : List ℕ) (o : Option Declaration) → find
 declared_stands m text None e = tt
 declared_stands m text (Some d) e = let f = from_find (λ (x : Declaration). bytes_eq x.name.text text) m.declares d e in (f.0, f.1.there)
 
-defined_stands : (m : Tree) (text : List ℕ) (o : Option (Numbered Definition)) (other : Symbol) → find (λ (d : Numbered Definition). bytes_eq d.1.name.text text) (enumerate_from 0 m.functions) ≡ o → Stands m other → Stands m (defined_as o other)
+defined_stands : (m : Tree) (text : List ℕ) (o : Option (Numbered Definition)) (other : Symbol)
+    → find (λ (d : Numbered Definition). bytes_eq d.1.name.text text) (enumerate_from 0 m.functions) ≡ o → Stands m other → Stands m (defined_as o other)
 defined_stands m text None other e h = h
 defined_stands m text (Some d) other e h = numbered_one (λ (x : Numbered Definition). bytes_eq x.1.name.text text) m.functions d.0 d.1 e
 
-variable_stands : (m : Tree) (text : List ℕ) (o : Option (Numbered Variable)) (other : Symbol) → find (λ (g : Numbered Variable). bytes_eq g.1.name.text text) (enumerate_from 0 m.globals) ≡ o → Stands m other → Stands m (variable_as o other)
+variable_stands : (m : Tree) (text : List ℕ) (o : Option (Numbered Variable)) (other : Symbol)
+    → find (λ (g : Numbered Variable). bytes_eq g.1.name.text text) (enumerate_from 0 m.globals) ≡ o → Stands m other → Stands m (variable_as o other)
 variable_stands m text None other e h = h
 variable_stands m text (Some g) other e h = numbered_one (λ (x : Numbered Variable). bytes_eq x.1.name.text text) m.globals g.0 g.1 e
 
@@ -38,8 +40,10 @@ stands : (m : Tree) (text : List ℕ) → Stands m (symbol m text)
 unfolding symbol
 stands m text =
     variable_stands m text (find (λ (g : Numbered Variable). bytes_eq g.1.name.text text) (enumerate_from 0 m.globals))
-    (defined_as (find (λ (d : Numbered Definition). bytes_eq d.1.name.text text) (enumerate_from 0 m.functions)) (declared_as (find (λ (d : Declaration). bytes_eq d.name.text text) m.declares))) refl
-    (defined_stands m text (find (λ (d : Numbered Definition). bytes_eq d.1.name.text text) (enumerate_from 0 m.functions)) (declared_as (find (λ (d : Declaration). bytes_eq d.name.text text) m.declares)) refl
+    (defined_as (find (λ (d : Numbered Definition). bytes_eq d.1.name.text text) (enumerate_from 0 m.functions))
+    (declared_as (find (λ (d : Declaration). bytes_eq d.name.text text) m.declares))) refl
+    (defined_stands m text (find (λ (d : Numbered Definition). bytes_eq d.1.name.text text) (enumerate_from 0 m.functions))
+    (declared_as (find (λ (d : Declaration). bytes_eq d.name.text text) m.declares)) refl
     (declared_stands m text (find (λ (d : Declaration). bytes_eq d.name.text text) m.declares) refl))
 
 pub variable_there : (m : Tree) (text : List ℕ) (i : ℕ) (v : Variable) → symbol m text ≡ VariableOf i v → slice_get m.globals i ≡ Some v

@@ -1,5 +1,6 @@
 -- In an accepted tree, whose names stand in text order, no two registers of a function have one name, and no two labels.
-use Rattle.std.proofs.Common.{◌≡◌, ℕ, zero, suc, ◌+◌, ◌-◌, ◌<◌, ◌≤◌, List, [], ◌∷◌, ◌++◌, length, drop, Bool, true, false, ◌&&◌, refl, sym, ap, ◌∙◌, subst, arith, ◌⊎◌, inl, inr, nat_lt, true≢false}
+use Rattle.std.proofs.Common.{◌≡◌, ℕ, zero, suc, ◌+◌, ◌-◌, ◌<◌, ◌≤◌, List, [], ◌∷◌, ◌++◌, length, drop, Bool, true, false, ◌&&◌, refl, sym, ap}
+use Rattle.std.proofs.Common.{◌∙◌, subst, arith, ◌⊎◌, inl, inr, nat_lt, true≢false}
 use Rattle.std.specs.Prelude.{slice_get, Option, Some}
 use Rattle.std.specs.List.{filter_map, flat_map, list_any}
 use Rattle.std.specs.Option.{option_map}
@@ -56,7 +57,8 @@ not_doubled all i a b e at (inr h) = by (bytes_eq a.text b.text) refl
 
 -- ---- parameters have names
 
-each_param : (next : ℕ) (ps : List Param) (types : List NamedType) → filter_map (λ (p : Param). p.name) (each_at behind_param param_at next ps) ≡ names_of (filter_map (param_register types) (each_at behind_param param_at next ps))
+each_param : (next : ℕ) (ps : List Param) (types : List NamedType) → filter_map (λ (p : Param). p.name) (each_at behind_param param_at next ps)
+    ≡ names_of (filter_map (param_register types) (each_at behind_param param_at next ps))
 each_param next [] types = refl
 each_param next (p ∷ ps) types = ap (λ (xs : List Name). name_at next p.name ∷ xs) (each_param (behind_param next p) ps types)
 
@@ -64,7 +66,8 @@ params_names : (types : List NamedType) (d : Definition) → param_names (number
 unfolding numbered
 params_names types d = each_param 0 d.params types
 
-each_registers : (next : ℕ) (ps : List Param) (types : List NamedType) → length (filter_map (param_register types) (each_at behind_param param_at next ps)) ≡ length (each_at behind_param param_at next ps)
+each_registers : (next : ℕ) (ps : List Param) (types : List NamedType)
+    → length (filter_map (param_register types) (each_at behind_param param_at next ps)) ≡ length (each_at behind_param param_at next ps)
 each_registers next [] types = refl
 each_registers next (p ∷ ps) types = ap suc (each_registers (behind_param next p) ps types)
 
@@ -126,32 +129,40 @@ module _ (m : Tree) (accepted : IsUnrefused m) (order : IsInOrder m) where
         ap (λ (xs : List Register). labels_of d ++ names_of xs) e
 
     -- two registers that both are parameters
-    among_params : (i j : ℕ) (a b : Name) → i < j → j < length params → slice_get (names_of (registers_of m.types d)) i ≡ Some a → slice_get (names_of (registers_of m.types d)) j ≡ Some b → bytes_eq a.text b.text ≡ false
+    among_params : (i j : ℕ) (a b : Name) → i < j → j < length params → slice_get (names_of (registers_of m.types d)) i ≡ Some a
+        → slice_get (names_of (registers_of m.types d)) j ≡ Some b → bytes_eq a.text b.text ≡ false
     among_params i j a b l k e g =
         let count : length (names_of params) ≡ length params = map_count (λ (r : Register). r.name) params in
-        let at : slice_get (param_names d) i ≡ Some a = ap (λ (xs : List Name). slice_get xs i) param_texts ∙ sym (front_get (names_of params) (names_of others) i (omega (arith, l, k, count))) ∙ sym (ap (λ (xs : List Name). slice_get xs i) names_split) ∙ e in
-        let there_b : slice_get (param_names d) j ≡ Some b = ap (λ (xs : List Name). slice_get xs j) param_texts ∙ sym (front_get (names_of params) (names_of others) j (omega (arith, k, count))) ∙ sym (ap (λ (xs : List Name). slice_get xs j) names_split) ∙ g in
-        not_doubled (param_names d) i a b (each_none (doubled (param_names d)) (param_names d) j b param_doubled there_b) at (pair_at Precedes (names_of (registers_of m.types d)) own_pairs i j a b l e g)
+        let at : slice_get (param_names d) i ≡ Some a = ap (λ (xs : List Name). slice_get xs i) param_texts
+        ∙ sym (front_get (names_of params) (names_of others) i (omega (arith, l, k, count))) ∙ sym (ap (λ (xs : List Name). slice_get xs i) names_split) ∙ e in
+        let there_b : slice_get (param_names d) j ≡ Some b = ap (λ (xs : List Name). slice_get xs j) param_texts
+        ∙ sym (front_get (names_of params) (names_of others) j (omega (arith, k, count))) ∙ sym (ap (λ (xs : List Name). slice_get xs j) names_split) ∙ g in
+        not_doubled (param_names d) i a b (each_none (doubled (param_names d)) (param_names d) j b param_doubled there_b) at
+        (pair_at Precedes (names_of (registers_of m.types d)) own_pairs i j a b l e g)
 
     -- a name of the body, and one of the function's registers
     of_body : (k i : ℕ) (a b : Name) → slice_get (body_names m.types d) k ≡ Some b → slice_get (own_names m.types d) i ≡ Some a → Precedes a b → bytes_eq a.text b.text ≡ false
     of_body k i a b at e p = not_doubled (own_names m.types d) i a b (each_none (doubled (own_names m.types d)) (body_names m.types d) k b body_doubled at) e p
 
-    behind_params : (i j : ℕ) (a b : Name) → i < j → length params ≤ j → slice_get (names_of (registers_of m.types d)) i ≡ Some a → slice_get (names_of (registers_of m.types d)) j ≡ Some b → bytes_eq a.text b.text ≡ false
+    behind_params : (i j : ℕ) (a b : Name) → i < j → length params ≤ j → slice_get (names_of (registers_of m.types d)) i ≡ Some a
+        → slice_get (names_of (registers_of m.types d)) j ≡ Some b → bytes_eq a.text b.text ≡ false
     behind_params i j a b l k e g =
         let count : length (names_of params) ≡ length params = map_count (λ (r : Register). r.name) params in
         let number : j ≡ length (names_of params) + (j - length params) = omega (arith, k, count) in
         let inner : slice_get (names_of others) (j - length params) ≡ Some b =
-        sym (behind_get (names_of params) (names_of others) (j - length params)) ∙ sym (ap (slice_get (names_of params ++ names_of others)) number) ∙ sym (ap (λ (xs : List Name). slice_get xs j) names_split) ∙ g in
+        sym (behind_get (names_of params) (names_of others) (j - length params)) ∙ sym (ap (slice_get (names_of params ++ names_of others)) number)
+        ∙ sym (ap (λ (xs : List Name). slice_get xs j) names_split) ∙ g in
         let body : slice_get (body_names m.types d) (length (labels_of d) + (j - length params)) ≡ Some b =
         ap (λ (xs : List Name). slice_get xs (length (labels_of d) + (j - length params))) body_split ∙ behind_get (labels_of d) (names_of others) (j - length params) ∙ inner in
-        of_body (length (labels_of d) + (j - length params)) (length (labels_of d) + i) a b body (behind_get (labels_of d) (names_of (registers_of m.types d)) i ∙ e) (pair_at Precedes (names_of (registers_of m.types d)) own_pairs i j a b l e g)
+        of_body (length (labels_of d) + (j - length params)) (length (labels_of d) + i) a b body (behind_get (labels_of d) (names_of (registers_of m.types d)) i ∙ e)
+        (pair_at Precedes (names_of (registers_of m.types d)) own_pairs i j a b l e g)
 
     name_at_place : (i : ℕ) (r : Register) → slice_get (registers_of m.types d) i ≡ Some r → slice_get (names_of (registers_of m.types d)) i ≡ Some r.name
     name_at_place i r e = slice_get-map (λ (x : Register). x.name) (registers_of m.types d) i ∙ ap (λ (o : Option Register). option_map (λ (x : Register). x.name) o) e
 
     -- no two registers have one name
-    pub registers_differ : (i j : ℕ) (r s : Register) → i < j → slice_get (registers_of m.types d) i ≡ Some r → slice_get (registers_of m.types d) j ≡ Some s → bytes_eq r.name.text s.name.text ≡ false
+    pub registers_differ : (i j : ℕ) (r s : Register) → i < j → slice_get (registers_of m.types d) i ≡ Some r → slice_get (registers_of m.types d) j ≡ Some s
+        → bytes_eq r.name.text s.name.text ≡ false
     registers_differ i j r s l e g = by (cases_lt j (length params))
       where
         by : (j < length params) ⊎ (length params ≤ j) → bytes_eq r.name.text s.name.text ≡ false

@@ -12,7 +12,8 @@ use Rattle.pg_rules.specs.declared.fault.CheckKind.{CheckKind}
 use Rattle.pg_rules.specs.declared.fault.CheckKind.TheVariants.{NoMain}
 use Rattle.pg_rules.specs.Names.{line_count, first_line}
 use Rattle.pg_rules.specs.Numbered.{named_functions}
-use Rattle.pg_rules.specs.Conditions.{RefusedPlaces, at_if, all_of, item_refused, global_refused, declaration_refused, definition_refused, body_refused, bodies, has_main, main_refused, heads_refused, phases, RefuseNothing, IsUnrefused}
+use Rattle.pg_rules.specs.Conditions.{RefusedPlaces, at_if, all_of, item_refused, global_refused, declaration_refused, definition_refused, body_refused, bodies, has_main, main_refused}
+use Rattle.pg_rules.specs.Conditions.{heads_refused, phases, RefuseNothing, IsUnrefused}
 use Rattle.pg_numbering.proofs.Flat.{enumerate_get, some_is, Numbered}
 use Rattle.pg_numbering.proofs.Tests.{not_false}
 
@@ -85,7 +86,8 @@ definitions_pass m h f d e k =
 
 -- ---- bodies
 
-body_passes : (m : Tree) (ds : List Definition) (lines : ℕ) (rest : List RefusedPlaces) → RefuseNothing (bodies m ds lines ++ rest) → (f : ℕ) (d : Definition) → slice_get ds f ≡ Some d → (k : CheckKind) → body_refused m (lines + sum_by line_count (take f ds)) (numbered m.types d) k ≡ []
+body_passes : (m : Tree) (ds : List Definition) (lines : ℕ) (rest : List RefusedPlaces) → RefuseNothing (bodies m ds lines ++ rest) → (f : ℕ) (d : Definition)
+    → slice_get ds f ≡ Some d → (k : CheckKind) → body_refused m (lines + sum_by line_count (take f ds)) (numbered m.types d) k ≡ []
 body_passes m [] lines rest h f d e k = absurd cc
 body_passes m (x ∷ xs) lines rest h zero d e k =
     let z : lines ≡ lines + 0 = omega arith in
@@ -112,7 +114,8 @@ named_from m f d e = by (slice_get m.functions f) refl (sym (slice_get-map (numb
     by None g h = absurd cc
     by (Some x) g h = record { plain = x; there = g; named = sym (some_is (numbered m.types x) d h) }
 
-pub bodies_pass : (m : Tree) → IsUnrefused m → (f : ℕ) (d : Definition) → slice_get (named_functions m) f ≡ Some d → (k : CheckKind) → body_refused m (first_line m.functions f) d k ≡ []
+pub bodies_pass : (m : Tree) → IsUnrefused m → (f : ℕ) (d : Definition) → slice_get (named_functions m) f ≡ Some d → (k : CheckKind)
+    → body_refused m (first_line m.functions f) d k ≡ []
 unfolding IsUnrefused phases first_line
 bodies_pass m h f d e k =
     let n = named_from m f d e in

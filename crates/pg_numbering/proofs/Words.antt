@@ -112,7 +112,8 @@ module _ (m : Tree) (accepted : IsUnrefused m) where
   global_word : (i : ℕ) (v : Variable) → slice_get m.globals i ≡ Some v → word_of (global_pointer m i v) < 2 ^ 64
   global_word i v e =
       let within = slice_get_within m.globals i v e in
-      word_below (start_granule m i) (size_or_none (resolved m.types v.ty)) 0 (omega (arith, start_below m accepted i (omega (arith, within)))) (omega (arith, size_fits m accepted i v e)) (omega arith)
+      word_below (start_granule m i) (size_or_none (resolved m.types v.ty)) 0 (omega (arith, start_below m accepted i (omega (arith, within)))) (omega (arith, size_fits m accepted i v e))
+      (omega arith)
 
   symbol_below : (text : List ℕ) (s : Symbol) → symbol m text ≡ s → symbol_word m s < 2 ^ 64
   symbol_below text (VariableOf i v) e = global_word i v (variable_there m text i v e)

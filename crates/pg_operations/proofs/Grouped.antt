@@ -14,7 +14,8 @@ use Rattle.pg_ast.specs.Syntax.{Ty, Val, Typed, Op, Case, Written}
 use Rattle.pg_ast.specs.Syntax as syntax
 use Rattle.pg_ast.specs.declared.names.Name.{Name}
 use Rattle.pg_lex.specs.declared.token.Span.{Span}
-use Rattle.pg_operations.specs.Rows.{written_or_none_at, called_at, callee_end_at, call_end_at, two_values_at, operands_at, cast_end_at, select_end_at, came_by, incoming_tail_at, access_end_at, gep_op_end_at, branch_end_at, case_by, case_end_at, closed_cases_at, switch_end_at}
+use Rattle.pg_operations.specs.Rows.{written_or_none_at, called_at, callee_end_at, call_end_at, two_values_at, operands_at, cast_end_at, select_end_at, came_by, incoming_tail_at}
+use Rattle.pg_operations.specs.Rows.{access_end_at, gep_op_end_at, branch_end_at, case_by, case_end_at, closed_cases_at, switch_end_at}
 
 -- the second of two readings takes the third with it
 then_in : {A B C : Type 0} (x : Read A) (r : A → List Token → Read B) (k : B → List Token → Read C) → (x >>= λ a ts. r a ts >>= k) ≡ ((x >>= r) >>= k)
@@ -75,22 +76,27 @@ second_by o c a ts = take_one (is Comma) ts >>= λ _ ts. typed_value_at ts >>= �
 abbrev second_in : Token → Typed → Typed → List Token → Read Op
 second_in o c a ts = behind_comma typed_value_at ts >>= λ b. Good (syntax.Select o.span c a b)
 
-pub select_grouped : (o : Token) (c : Typed) (ts : List Token) → (take_one (is Comma) ts >>= λ _ ts. typed_value_at ts >>= λ a ts. take_one (is Comma) ts >>= λ _ ts. typed_value_at ts >>= λ b. Good (syntax.Select o.span c a b)) ≡ select_end_at o c ts
-select_grouped o c ts = comma_grouped (second_by o c) ts ∙ then_as (behind_comma typed_value_at ts) (second_by o c) (second_in o c) (λ a us. comma_grouped (λ b. Good (syntax.Select o.span c a b)) us)
+pub select_grouped : (o : Token) (c : Typed) (ts : List Token)
+    → (take_one (is Comma) ts >>= λ _ ts. typed_value_at ts >>= λ a ts. take_one (is Comma) ts >>= λ _ ts. typed_value_at ts >>= λ b. Good (syntax.Select o.span c a b)) ≡ select_end_at o c ts
+select_grouped o c ts = comma_grouped (second_by o c) ts ∙ then_as (behind_comma typed_value_at ts) (second_by o c) (second_in o c)
+    (λ a us. comma_grouped (λ b. Good (syntax.Select o.span c a b)) us)
 
 label_close : (v : Val) (b : Token) (x : Read Token) → (x >>= λ _. Good (came_by v (name_of b))) ≡ ((x >>= λ _. Good (name_of b)) >>= λ n. Good (came_by v n))
 label_close v b (Good t rest) = refl
 label_close v b (Bad fault rest) = refl
 
-label_local : (v : Val) (x : Read Token) → (x >>= λ b ts. take_one (is CloseSquare) ts >>= λ _. Good (came_by v (name_of b))) ≡ ((x >>= λ b ts. take_one (is CloseSquare) ts >>= λ _. Good (name_of b)) >>= λ n. Good (came_by v n))
+label_local : (v : Val) (x : Read Token) → (x >>= λ b ts. take_one (is CloseSquare) ts >>= λ _. Good (came_by v (name_of b)))
+    ≡ ((x >>= λ b ts. take_one (is CloseSquare) ts >>= λ _. Good (name_of b)) >>= λ n. Good (came_by v n))
 label_local v (Good b rest) = label_close v b (take_one (is CloseSquare) rest)
 label_local v (Bad fault rest) = refl
 
-label_comma : (v : Val) (x : Read Token) → (x >>= λ _ ts. take_one (is Local) ts >>= λ b ts. take_one (is CloseSquare) ts >>= λ _. Good (came_by v (name_of b))) ≡ ((x >>= λ _ ts. take_one (is Local) ts >>= λ b ts. take_one (is CloseSquare) ts >>= λ _. Good (name_of b)) >>= λ n. Good (came_by v n))
+label_comma : (v : Val) (x : Read Token) → (x >>= λ _ ts. take_one (is Local) ts >>= λ b ts. take_one (is CloseSquare) ts >>= λ _. Good (came_by v (name_of b)))
+    ≡ ((x >>= λ _ ts. take_one (is Local) ts >>= λ b ts. take_one (is CloseSquare) ts >>= λ _. Good (name_of b)) >>= λ n. Good (came_by v n))
 label_comma v (Good t rest) = label_local v (take_one (is Local) rest)
 label_comma v (Bad fault rest) = refl
 
-pub incoming_grouped : (v : Val) (ts : List Token) → (take_one (is Comma) ts >>= λ _ ts. take_one (is Local) ts >>= λ b ts. take_one (is CloseSquare) ts >>= λ _. Good (came_by v (name_of b))) ≡ incoming_tail_at v ts
+pub incoming_grouped : (v : Val) (ts : List Token) → (take_one (is Comma) ts >>= λ _ ts. take_one (is Local) ts >>= λ b ts. take_one (is CloseSquare) ts >>= λ _. Good
+    (came_by v (name_of b))) ≡ incoming_tail_at v ts
 incoming_grouped v ts = label_comma v (take_one (is Comma) ts)
 
 address_aligned : (k : Typed → Op) (p : Typed) (x : Read (Unit {0})) → (x >>= λ _. Good (k p)) ≡ ((x >>= λ _. Good p) >>= λ q. Good (k q))
@@ -101,7 +107,8 @@ address_value : (k : Typed → Op) (x : Read Typed) → (x >>= λ p ts. alignmen
 address_value k (Good p rest) = address_aligned k p (alignment_at rest)
 address_value k (Bad fault rest) = refl
 
-address_comma : (k : Typed → Op) (x : Read Token) → (x >>= λ _ ts. typed_value_at ts >>= λ p ts. alignment_at ts >>= λ _. Good (k p)) ≡ ((x >>= λ _ ts. typed_value_at ts >>= λ p ts. alignment_at ts >>= λ _. Good p) >>= λ q. Good (k q))
+address_comma : (k : Typed → Op) (x : Read Token) → (x >>= λ _ ts. typed_value_at ts >>= λ p ts. alignment_at ts >>= λ _. Good (k p))
+    ≡ ((x >>= λ _ ts. typed_value_at ts >>= λ p ts. alignment_at ts >>= λ _. Good p) >>= λ q. Good (k q))
 address_comma k (Good t rest) = address_value k (typed_value_at rest)
 address_comma k (Bad fault rest) = refl
 
@@ -113,19 +120,26 @@ access_grouped k ts = address_comma k (take_one (is Comma) ts)
 abbrev element : Span → Ty → Typed × List Typed → List Token → Read Op
 element s t e = Good (syntax.GetElementPtr s t e.0 e.1)
 
-element_indices : (s : Span) (t : Ty) (p : Typed) (x : Read (Listing Typed)) → (x >>= λ more. Good (syntax.GetElementPtr s t p more.items)) ≡ ((x >>= λ more. Good (p, more.items)) >>= element s t)
+element_indices : (s : Span) (t : Ty) (p : Typed) (x : Read (Listing Typed))
+    → (x >>= λ more. Good (syntax.GetElementPtr s t p more.items)) ≡ ((x >>= λ more. Good (p, more.items)) >>= element s t)
 element_indices s t p (Good more rest) = refl
 element_indices s t p (Bad fault rest) = refl
 
-element_pointer : (s : Span) (t : Ty) (x : Read Typed) → (x >>= λ p ts. more_at begins_type typed_value_at (unless Unsupported no_type metadata_tail_at) ts >>= λ more. Good (syntax.GetElementPtr s t p more.items)) ≡ ((x >>= λ p ts. more_at begins_type typed_value_at (unless Unsupported no_type metadata_tail_at) ts >>= λ more. Good (p, more.items)) >>= element s t)
+element_pointer : (s : Span) (t : Ty) (x : Read Typed) → (x >>= λ p ts. more_at begins_type typed_value_at (unless Unsupported no_type metadata_tail_at) ts >>= λ more. Good
+    (syntax.GetElementPtr s t p more.items)) ≡ ((x >>= λ p ts. more_at begins_type typed_value_at (unless Unsupported no_type metadata_tail_at) ts >>= λ more. Good (p, more.items)) >>=
+    element s t)
 element_pointer s t (Good p rest) = element_indices s t p (more_at begins_type typed_value_at (unless Unsupported no_type metadata_tail_at) rest)
 element_pointer s t (Bad fault rest) = refl
 
-element_comma : (s : Span) (t : Ty) (x : Read Token) → (x >>= λ _ ts. typed_value_at ts >>= λ p ts. more_at begins_type typed_value_at (unless Unsupported no_type metadata_tail_at) ts >>= λ more. Good (syntax.GetElementPtr s t p more.items)) ≡ ((x >>= λ _ ts. typed_value_at ts >>= λ p ts. more_at begins_type typed_value_at (unless Unsupported no_type metadata_tail_at) ts >>= λ more. Good (p, more.items)) >>= element s t)
+element_comma : (s : Span) (t : Ty) (x : Read Token) → (x >>= λ _ ts. typed_value_at ts >>= λ p ts. more_at begins_type typed_value_at
+    (unless Unsupported no_type metadata_tail_at) ts >>= λ more. Good (syntax.GetElementPtr s t p more.items))
+    ≡ ((x >>= λ _ ts. typed_value_at ts >>= λ p ts. more_at begins_type typed_value_at (unless Unsupported no_type metadata_tail_at) ts >>= λ more. Good (p, more.items)) >>= element s t)
 element_comma s t (Good c rest) = element_pointer s t (typed_value_at rest)
 element_comma s t (Bad fault rest) = refl
 
-pub gep_grouped : (o : Token) (t : Ty) (ts : List Token) → (take_one (is Comma) ts >>= λ _ ts. typed_value_at ts >>= λ p ts. more_at begins_type typed_value_at (unless Unsupported no_type metadata_tail_at) ts >>= λ more. Good (syntax.GetElementPtr o.span t p more.items)) ≡ gep_op_end_at o t ts
+pub gep_grouped : (o : Token) (t : Ty) (ts : List Token)
+    → (take_one (is Comma) ts >>= λ _ ts. typed_value_at ts >>= λ p ts. more_at begins_type typed_value_at (unless Unsupported no_type metadata_tail_at) ts >>= λ more. Good
+    (syntax.GetElementPtr o.span t p more.items)) ≡ gep_op_end_at o t ts
 gep_grouped o t ts = element_comma o.span t (take_one (is Comma) ts)
 
 -- ---- two blocks
@@ -137,19 +151,23 @@ branch_second : (s : Span) (c : Typed) (a : Name) (x : Read Name) → (x >>= λ 
 branch_second s c a (Good b rest) = refl
 branch_second s c a (Bad fault rest) = refl
 
-branch_comma : (s : Span) (c : Typed) (a : Name) (x : Read Token) → (x >>= λ _ ts. target_at ts >>= λ b. Good (syntax.CondBr s c a b)) ≡ ((x >>= λ _ ts. target_at ts >>= λ b. Good (a, b)) >>= branched s c)
+branch_comma : (s : Span) (c : Typed) (a : Name) (x : Read Token) → (x >>= λ _ ts. target_at ts >>= λ b. Good (syntax.CondBr s c a b))
+    ≡ ((x >>= λ _ ts. target_at ts >>= λ b. Good (a, b)) >>= branched s c)
 branch_comma s c a (Good t rest) = branch_second s c a (target_at rest)
 branch_comma s c a (Bad fault rest) = refl
 
-branch_first : (s : Span) (c : Typed) (x : Read Name) → (x >>= λ a ts. take_one (is Comma) ts >>= λ _ ts. target_at ts >>= λ b. Good (syntax.CondBr s c a b)) ≡ ((x >>= λ a ts. take_one (is Comma) ts >>= λ _ ts. target_at ts >>= λ b. Good (a, b)) >>= branched s c)
+branch_first : (s : Span) (c : Typed) (x : Read Name) → (x >>= λ a ts. take_one (is Comma) ts >>= λ _ ts. target_at ts >>= λ b. Good (syntax.CondBr s c a b))
+    ≡ ((x >>= λ a ts. take_one (is Comma) ts >>= λ _ ts. target_at ts >>= λ b. Good (a, b)) >>= branched s c)
 branch_first s c (Good a rest) = branch_comma s c a (take_one (is Comma) rest)
 branch_first s c (Bad fault rest) = refl
 
-branch_begin : (s : Span) (c : Typed) (x : Read Token) → (x >>= λ _ ts. target_at ts >>= λ a ts. take_one (is Comma) ts >>= λ _ ts. target_at ts >>= λ b. Good (syntax.CondBr s c a b)) ≡ ((x >>= λ _ ts. target_at ts >>= λ a ts. take_one (is Comma) ts >>= λ _ ts. target_at ts >>= λ b. Good (a, b)) >>= branched s c)
+branch_begin : (s : Span) (c : Typed) (x : Read Token) → (x >>= λ _ ts. target_at ts >>= λ a ts. take_one (is Comma) ts >>= λ _ ts. target_at ts >>= λ b. Good (syntax.CondBr s c a b))
+    ≡ ((x >>= λ _ ts. target_at ts >>= λ a ts. take_one (is Comma) ts >>= λ _ ts. target_at ts >>= λ b. Good (a, b)) >>= branched s c)
 branch_begin s c (Good t rest) = branch_first s c (target_at rest)
 branch_begin s c (Bad fault rest) = refl
 
-pub branch_grouped : (o : Token) (c : Typed) (ts : List Token) → (take_one (is Comma) ts >>= λ _ ts. target_at ts >>= λ a ts. take_one (is Comma) ts >>= λ _ ts. target_at ts >>= λ b. Good (syntax.CondBr o.span c a b)) ≡ branch_end_at o c ts
+pub branch_grouped : (o : Token) (c : Typed) (ts : List Token)
+    → (take_one (is Comma) ts >>= λ _ ts. target_at ts >>= λ a ts. take_one (is Comma) ts >>= λ _ ts. target_at ts >>= λ b. Good (syntax.CondBr o.span c a b)) ≡ branch_end_at o c ts
 branch_grouped o c ts = branch_begin o.span c (take_one (is Comma) ts)
 
 -- ---- a case, and the cases of a switch
@@ -160,7 +178,8 @@ case_grouped v ts = then_in (take_one (is Comma) ts) (λ _. target_at) (λ b. Go
 abbrev switched : Span → Typed → Name × List Case → List Token → Read Op
 switched s v w = Good (syntax.Switch s v w.0 w.1)
 
-switch_close : (s : Span) (v : Typed) (b : Name) (all : List Case) (x : Read Token) → (x >>= λ _. Good (syntax.Switch s v b all)) ≡ (((x >>= λ _. Good all) >>= λ cs. Good (b, cs)) >>= switched s v)
+switch_close : (s : Span) (v : Typed) (b : Name) (all : List Case) (x : Read Token)
+    → (x >>= λ _. Good (syntax.Switch s v b all)) ≡ (((x >>= λ _. Good all) >>= λ cs. Good (b, cs)) >>= switched s v)
 switch_close s v b all (Good t rest) = refl
 switch_close s v b all (Bad fault rest) = refl
 
@@ -175,22 +194,28 @@ switch_cases : (s : Span) (v : Typed) (b : Name) (x : Read (List Case)) → (x >
 switch_cases s v b (Good all rest) = switch_unless s v b all rest (comes no_type rest)
 switch_cases s v b (Bad fault rest) = refl
 
-switch_open : (s : Span) (v : Typed) (b : Name) (x : Read Token) → (x >>= λ _ ts. all_of begins_type case_at ts >>= λ all. unless Unsupported no_type (λ ts. take_one (is CloseSquare) ts >>= λ _. Good (syntax.Switch s v b all)))
+switch_open : (s : Span) (v : Typed) (b : Name) (x : Read Token)
+    → (x >>= λ _ ts. all_of begins_type case_at ts >>= λ all. unless Unsupported no_type (λ ts. take_one (is CloseSquare) ts >>= λ _. Good (syntax.Switch s v b all)))
     ≡ ((x >>= λ _ ts. closed_cases_at ts >>= λ cs. Good (b, cs)) >>= switched s v)
 switch_open s v b (Good t rest) = switch_cases s v b (all_of begins_type case_at rest)
 switch_open s v b (Bad fault rest) = refl
 
-switch_default : (s : Span) (v : Typed) (x : Read Name) → (x >>= λ b ts. take_one (is OpenSquare) ts >>= λ _ ts. all_of begins_type case_at ts >>= λ all. unless Unsupported no_type (λ ts. take_one (is CloseSquare) ts >>= λ _. Good (syntax.Switch s v b all)))
+switch_default : (s : Span) (v : Typed) (x : Read Name)
+    → (x >>= λ b ts. take_one (is OpenSquare) ts >>= λ _ ts. all_of begins_type case_at ts >>= λ all. unless Unsupported no_type
+    (λ ts. take_one (is CloseSquare) ts >>= λ _. Good (syntax.Switch s v b all)))
     ≡ ((x >>= λ b ts. take_one (is OpenSquare) ts >>= λ _ ts. closed_cases_at ts >>= λ cs. Good (b, cs)) >>= switched s v)
 switch_default s v (Good b rest) = switch_open s v b (take_one (is OpenSquare) rest)
 switch_default s v (Bad fault rest) = refl
 
-switch_comma : (s : Span) (v : Typed) (x : Read Token) → (x >>= λ _ ts. target_at ts >>= λ b ts. take_one (is OpenSquare) ts >>= λ _ ts. all_of begins_type case_at ts >>= λ all. unless Unsupported no_type (λ ts. take_one (is CloseSquare) ts >>= λ _. Good (syntax.Switch s v b all)))
+switch_comma : (s : Span) (v : Typed) (x : Read Token) → (x >>= λ _ ts. target_at ts >>= λ b ts. take_one
+    (is OpenSquare) ts >>= λ _ ts. all_of begins_type case_at ts >>= λ all. unless Unsupported no_type (λ ts. take_one (is CloseSquare) ts >>= λ _. Good (syntax.Switch s v b all)))
     ≡ ((x >>= λ _ ts. target_at ts >>= λ b ts. take_one (is OpenSquare) ts >>= λ _ ts. closed_cases_at ts >>= λ cs. Good (b, cs)) >>= switched s v)
 switch_comma s v (Good t rest) = switch_default s v (target_at rest)
 switch_comma s v (Bad fault rest) = refl
 
-pub switch_grouped : (o : Token) (v : Typed) (ts : List Token) → (take_one (is Comma) ts >>= λ _ ts. target_at ts >>= λ b ts. take_one (is OpenSquare) ts >>= λ _ ts. all_of begins_type case_at ts >>= λ all. unless Unsupported no_type (λ ts. take_one (is CloseSquare) ts >>= λ _. Good (syntax.Switch o.span v b all)))
+pub switch_grouped : (o : Token) (v : Typed) (ts : List Token)
+    → (take_one (is Comma) ts >>= λ _ ts. target_at ts >>= λ b ts. take_one (is OpenSquare) ts >>= λ _ ts. all_of begins_type case_at ts >>= λ all. unless Unsupported no_type
+    (λ ts. take_one (is CloseSquare) ts >>= λ _. Good (syntax.Switch o.span v b all)))
     ≡ switch_end_at o v ts
 switch_grouped o v ts = switch_comma o.span v (take_one (is Comma) ts)
 

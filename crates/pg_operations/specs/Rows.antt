@@ -26,7 +26,8 @@ signature_at ts = type_at NESTING_LIMIT ts >>= λ t ts. written_or_none_at ts >>
 
 -- a global that is called, and its arguments
 abbrev pub called_at : List Token → Read (Name × List Typed)
-called_at ts = unless Unsupported (is_word ∪ is Local) (take_one (is Global)) ts >>= λ f ts. take_one (is OpenRound) ts >>= λ _ ts. listed_at CloseRound argument_at ts >>= λ all. Good (name_of f, all)
+called_at ts = unless Unsupported (is_word ∪ is Local) (take_one (is Global)) ts >>= λ f ts. take_one (is OpenRound) ts >>= λ _ ts. listed_at CloseRound argument_at ts >>= λ all. Good
+    (name_of f, all)
 
 -- what stands behind these types of a call
 abbrev pub callee_end_at : Token → Ty × Option Written → List Token → Read (Option Op)

@@ -8,53 +8,48 @@ ghost use Rattle.pg_grammar.specs.Views.{Reads, Takes};
 ghost use Rattle.pg_operations.specs.Rows.{targets_at, branch_end_at, case_end_at, closed_cases_at, ways_at, switch_end_at};
 ghost use Rattle.pg_ast.specs.Views.{op_of, typed_of, case_of};
 
+use pg_num::limits::NESTING_LIMIT;
 use pg_ast::{CaseNode, Name, OpNode, TypedVal};
 use pg_grammar::{Class, ReadError, ReadRefusal, Token};
-use pg_num::limits::NESTING_LIMIT;
-use pg_terms::{ClassSet, name, next_in, next_is, take, typed_value_in, unsupported};
-use std::alloc::Global;
+use pg_terms::{
+    ClassSet, Read, Text, keep, name, next_in, next_is, take, typed_value_in, unsupported,
+};
 
-fn target(alloc: Global, tokens: &[Token], at: usize) -> Result<(Name, usize), ReadError>
-    requires { at ≤ length tokens.now }
-    ensures read { Reads tokens.now at (λ x. x.0) (λ x. x.1) result (target_at (drop at tokens.now)) }
+fn target(text: &Text<'_>, at: usize) -> Read<Name>
+    requires { at ≤ length text.now.tokens.now }
+    ensures read { Reads text.now.tokens.now at (λ x. x.0) (λ x. x.1) result (target_at (drop at text.now.tokens.now)) }
     ensures on { IfOk result (λ x. at < x.1) }
 {
-    let (_, at) = take(tokens, at, Class::LabelWord)?;
-    let (label, at) = take(tokens, at, Class::Local)?;
-    Ok((name(alloc, label)?, at))
+    let (_, at) = take(text.tokens, at, Class::LabelWord)?;
+    let (label, at) = take(text.tokens, at, Class::Local)?;
+    Ok((name(text.alloc, label)?, at))
 }
 
 /// A branch, with a condition or without.
-pub fn branch(alloc: Global, tokens: &[Token], at: usize) -> Result<(OpNode, usize), ReadError>
-    requires { at ≤ length tokens.now }
-    ensures read { Reads tokens.now at (λ x. op_of x.0) (λ x. x.1) result (branch_at (drop at tokens.now)) }
+pub fn branch(text: &Text<'_>, at: usize) -> Read<OpNode>
+    requires { at ≤ length text.now.tokens.now }
+    ensures read { Reads text.now.tokens.now at (λ x. op_of x.0) (λ x. x.1) result (branch_at (drop at text.now.tokens.now)) }
     ensures on { IfOk result (λ x. at < x.1) }
 {
-    let (word, at) = take(tokens, at, Class::Br)?;
-    if next_is(tokens, at, Class::LabelWord) {
-        let (block, at) = target(alloc, tokens, at)?;
+    let (word, at) = take(text.tokens, at, Class::Br)?;
+    if next_is(text.tokens, at, Class::LabelWord) {
+        let (block, at) = target(text, at)?;
         let node = OpNode::Br {
             span: word.span,
             block,
         };
         return Ok((node, at));
     }
-    let (condition, at) = typed_value_in(alloc, tokens, at, NESTING_LIMIT)?;
-    branch_end(alloc, tokens, at, word, condition)
+    let (condition, at) = typed_value_in(text, at, NESTING_LIMIT)?;
+    branch_end(text, at, word, condition)
 }
 
 /// What stands behind the condition of a branch.
-fn branch_end(
-    alloc: Global,
-    tokens: &[Token],
-    at: usize,
-    word: &Token,
-    condition: TypedVal,
-) -> Result<(OpNode, usize), ReadError>
-    requires { at ≤ length tokens.now }
-    ensures { Reads tokens.now at (λ x. op_of x.0) (λ x. x.1) result (branch_end_at word.now (typed_of condition) (drop at tokens.now)) }
+fn branch_end(text: &Text<'_>, at: usize, word: &Token, condition: TypedVal) -> Read<OpNode>
+    requires { at ≤ length text.now.tokens.now }
+    ensures { Reads text.now.tokens.now at (λ x. op_of x.0) (λ x. x.1) result (branch_end_at word.now (typed_of condition) (drop at text.now.tokens.now)) }
 {
-    let (yes, no, at) = targets(alloc, tokens, at)?;
+    let (yes, no, at) = targets(text, at)?;
     let node = OpNode::CondBr {
         span: word.span,
         condition,
@@ -65,64 +60,57 @@ fn branch_end(
 }
 
 /// Two blocks, each behind a comma.
-fn targets(alloc: Global, tokens: &[Token], at: usize) -> Result<(Name, Name, usize), ReadError>
-    requires { at ≤ length tokens.now }
-    ensures { Reads tokens.now at (λ x. (x.0, x.1)) (λ x. x.2) result (targets_at (drop at tokens.now)) }
+fn targets(text: &Text<'_>, at: usize) -> Result<(Name, Name, usize), ReadError>
+    requires { at ≤ length text.now.tokens.now }
+    ensures { Reads text.now.tokens.now at (λ x. (x.0, x.1)) (λ x. x.2) result (targets_at (drop at text.now.tokens.now)) }
 {
-    let (_, at) = take(tokens, at, Class::Comma)?;
-    let (yes, at) = target(alloc, tokens, at)?;
-    let (_, at) = take(tokens, at, Class::Comma)?;
-    let (no, at) = target(alloc, tokens, at)?;
+    let (_, at) = take(text.tokens, at, Class::Comma)?;
+    let (yes, at) = target(text, at)?;
+    let (_, at) = take(text.tokens, at, Class::Comma)?;
+    let (no, at) = target(text, at)?;
     Ok((yes, no, at))
 }
 
-fn case(alloc: Global, tokens: &[Token], at: usize) -> Result<(CaseNode, usize), ReadError>
-    requires { at ≤ length tokens.now }
-    ensures read { Reads tokens.now at (λ x. case_of x.0) (λ x. x.1) result (case_at (drop at tokens.now)) }
+fn case(text: &Text<'_>, at: usize) -> Read<CaseNode>
+    requires { at ≤ length text.now.tokens.now }
+    ensures read { Reads text.now.tokens.now at (λ x. case_of x.0) (λ x. x.1) result (case_at (drop at text.now.tokens.now)) }
     ensures on { IfOk result (λ x. at < x.1) }
 {
-    let (value, at) = typed_value_in(alloc, tokens, at, NESTING_LIMIT)?;
-    case_end(alloc, tokens, at, value)
+    let (value, at) = typed_value_in(text, at, NESTING_LIMIT)?;
+    case_end(text, at, value)
 }
 
 /// What stands behind the value of a case.
-fn case_end(
-    alloc: Global,
-    tokens: &[Token],
-    at: usize,
-    value: TypedVal,
-) -> Result<(CaseNode, usize), ReadError>
-    requires { at ≤ length tokens.now }
-    ensures read { Reads tokens.now at (λ x. case_of x.0) (λ x. x.1) result (case_end_at (typed_of value) (drop at tokens.now)) }
+fn case_end(text: &Text<'_>, at: usize, value: TypedVal) -> Read<CaseNode>
+    requires { at ≤ length text.now.tokens.now }
+    ensures read { Reads text.now.tokens.now at (λ x. case_of x.0) (λ x. x.1) result (case_end_at (typed_of value) (drop at text.now.tokens.now)) }
     ensures on { IfOk result (λ x. at < x.1) }
 {
-    let (block, at) = comma_target(alloc, tokens, at)?;
+    let (block, at) = comma_target(text, at)?;
     Ok((CaseNode { value, block }, at))
 }
 
 /// A block behind a comma.
-fn comma_target(alloc: Global, tokens: &[Token], at: usize) -> Result<(Name, usize), ReadError>
-    requires { at ≤ length tokens.now }
-    ensures read { Reads tokens.now at (λ x. x.0) (λ x. x.1) result (behind_comma target_at (drop at tokens.now)) }
+fn comma_target(text: &Text<'_>, at: usize) -> Read<Name>
+    requires { at ≤ length text.now.tokens.now }
+    ensures read { Reads text.now.tokens.now at (λ x. x.0) (λ x. x.1) result (behind_comma target_at (drop at text.now.tokens.now)) }
     ensures on { IfOk result (λ x. at < x.1) }
 {
-    let (_, to) = take(tokens, at, Class::Comma)?;
-    target(alloc, tokens, to)
+    let (_, to) = take(text.tokens, at, Class::Comma)?;
+    target(text, to)
 }
 
-fn cases(alloc: Global, tokens: &[Token], at: usize) -> Result<(Vec<CaseNode>, usize), ReadError>
-    requires { at ≤ length tokens.now }
-    ensures { Reads tokens.now at (λ x. map case_of x.0.items) (λ x. x.1) result (all_of begins_type case_at (drop at tokens.now)) }
+fn cases(text: &Text<'_>, at: usize) -> Read<Vec<CaseNode>>
+    requires { at ≤ length text.now.tokens.now }
+    ensures { Reads text.now.tokens.now at (λ x. map case_of x.0.items) (λ x. x.1) result (all_of begins_type case_at (drop at text.now.tokens.now)) }
 {
-    let mut all = Vec::new(alloc);
+    let mut all = Vec::new(text.alloc);
     let mut place = at;
-    'items: while next_in(tokens, place, ClassSet::Type) {
-        match case(alloc, tokens, place) {
+    'items: while next_in(text.tokens, place, ClassSet::Type) {
+        match case(text, place) {
             Err(error) => return Err(error),
             Ok((next, to)) => {
-                if all.push(next).is_err() {
-                    return Err(ReadError::Memory);
-                }
+                keep(&mut all, next)?;
                 place = to;
             }
         }
@@ -131,28 +119,22 @@ fn cases(alloc: Global, tokens: &[Token], at: usize) -> Result<(Vec<CaseNode>, u
 }
 
 /// A choice of a block by a value.
-pub fn switch(alloc: Global, tokens: &[Token], at: usize) -> Result<(OpNode, usize), ReadError>
-    requires { at ≤ length tokens.now }
-    ensures read { Reads tokens.now at (λ x. op_of x.0) (λ x. x.1) result (switch_at (drop at tokens.now)) }
+pub fn switch(text: &Text<'_>, at: usize) -> Read<OpNode>
+    requires { at ≤ length text.now.tokens.now }
+    ensures read { Reads text.now.tokens.now at (λ x. op_of x.0) (λ x. x.1) result (switch_at (drop at text.now.tokens.now)) }
     ensures on { IfOk result (λ x. at < x.1) }
 {
-    let (word, at) = take(tokens, at, Class::Switch)?;
-    let (value, at) = typed_value_in(alloc, tokens, at, NESTING_LIMIT)?;
-    switch_end(alloc, tokens, at, word, value)
+    let (word, at) = take(text.tokens, at, Class::Switch)?;
+    let (value, at) = typed_value_in(text, at, NESTING_LIMIT)?;
+    switch_end(text, at, word, value)
 }
 
 /// What stands behind the value of a switch.
-fn switch_end(
-    alloc: Global,
-    tokens: &[Token],
-    at: usize,
-    word: &Token,
-    value: TypedVal,
-) -> Result<(OpNode, usize), ReadError>
-    requires { at ≤ length tokens.now }
-    ensures { Reads tokens.now at (λ x. op_of x.0) (λ x. x.1) result (switch_end_at word.now (typed_of value) (drop at tokens.now)) }
+fn switch_end(text: &Text<'_>, at: usize, word: &Token, value: TypedVal) -> Read<OpNode>
+    requires { at ≤ length text.now.tokens.now }
+    ensures { Reads text.now.tokens.now at (λ x. op_of x.0) (λ x. x.1) result (switch_end_at word.now (typed_of value) (drop at text.now.tokens.now)) }
 {
-    let (other, all, at) = ways(alloc, tokens, at)?;
+    let (other, all, at) = ways(text, at)?;
     let node = OpNode::Switch {
         span: word.span,
         value,
@@ -163,35 +145,27 @@ fn switch_end(
 }
 
 /// The default behind a comma, and the cases in their brackets.
-fn ways(
-    alloc: Global,
-    tokens: &[Token],
-    at: usize,
-) -> Result<(Name, Vec<CaseNode>, usize), ReadError>
-    requires { at ≤ length tokens.now }
-    ensures { Reads tokens.now at (λ x. (x.0, map case_of x.1.items)) (λ x. x.2) result (ways_at (drop at tokens.now)) }
+fn ways(text: &Text<'_>, at: usize) -> Result<(Name, Vec<CaseNode>, usize), ReadError>
+    requires { at ≤ length text.now.tokens.now }
+    ensures { Reads text.now.tokens.now at (λ x. (x.0, map case_of x.1.items)) (λ x. x.2) result (ways_at (drop at text.now.tokens.now)) }
 {
-    let (_, at) = take(tokens, at, Class::Comma)?;
-    let (other, at) = target(alloc, tokens, at)?;
-    let (_, at) = take(tokens, at, Class::OpenSquare)?;
-    let (all, at) = closed_cases(alloc, tokens, at)?;
+    let (_, at) = take(text.tokens, at, Class::Comma)?;
+    let (other, at) = target(text, at)?;
+    let (_, at) = take(text.tokens, at, Class::OpenSquare)?;
+    let (all, at) = closed_cases(text, at)?;
     Ok((other, all, at))
 }
 
 /// The cases of a switch, and the bracket behind them.
-fn closed_cases(
-    alloc: Global,
-    tokens: &[Token],
-    at: usize,
-) -> Result<(Vec<CaseNode>, usize), ReadError>
-    requires { at ≤ length tokens.now }
-    ensures { Reads tokens.now at (λ x. map case_of x.0.items) (λ x. x.1) result (closed_cases_at (drop at tokens.now)) }
+fn closed_cases(text: &Text<'_>, at: usize) -> Read<Vec<CaseNode>>
+    requires { at ≤ length text.now.tokens.now }
+    ensures { Reads text.now.tokens.now at (λ x. map case_of x.0.items) (λ x. x.1) result (closed_cases_at (drop at text.now.tokens.now)) }
 {
-    let (all, at) = cases(alloc, tokens, at)?;
-    if next_in(tokens, at, ClassSet::NoType) {
+    let (all, at) = cases(text, at)?;
+    if next_in(text.tokens, at, ClassSet::NoType) {
         return Err(ReadError::Refused(unsupported(at)));
     }
-    let (_, at) = take(tokens, at, Class::CloseSquare)?;
+    let (_, at) = take(text.tokens, at, Class::CloseSquare)?;
     Ok((all, at))
 }
 

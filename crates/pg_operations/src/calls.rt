@@ -12,11 +12,12 @@ ghost use Rattle.pg_grammar.specs.Views.{Reads, Takes};
 ghost use Rattle.pg_ast.specs.Views.{op_of, ty_of, typed_of, written_of};
 
 use crate::written::written;
+use pg_num::limits::NESTING_LIMIT;
 use pg_ast::{ArgNode, CallTypes, Name, OpNode, TypeNode};
 use pg_grammar::{Class, INNER_NESTING_LIMIT, ReadError, ReadRefusal, Token};
-use pg_num::limits::NESTING_LIMIT;
 use pg_terms::{
-    ClassSet, argument, attributes, name, next_in, next_is, skip_to, take, type_node, unsupported,
+    ClassSet, Read, Text, argument, attributes, keep, name, next_in, next_is, skip_to, take,
+    type_node, unsupported,
 };
 use std::alloc::Global;
 
@@ -33,51 +34,39 @@ fn call_word(tokens: &[Token], at: usize) -> Result<(&Token, usize), ReadRefusal
     Ok((word, at))
 }
 
-fn written_or_none(
-    alloc: Global,
-    tokens: &[Token],
-    at: usize,
-) -> Result<(Option<CallTypes>, usize), ReadError>
-    requires { at ≤ length tokens.now }
-    ensures { Reads tokens.now at (λ x. option_map written_of x.0) (λ x. x.1) result (written_or_none_at (drop at tokens.now)) }
+fn written_or_none(text: &Text<'_>, at: usize) -> Read<Option<CallTypes>>
+    requires { at ≤ length text.now.tokens.now }
+    ensures { Reads text.now.tokens.now at (λ x. option_map written_of x.0) (λ x. x.1) result (written_or_none_at (drop at text.now.tokens.now)) }
 {
-    if next_is(tokens, at, Class::OpenRound) {
-        let (types, at) = written(alloc, tokens, at)?;
+    if next_is(text.tokens, at, Class::OpenRound) {
+        let (types, at) = written(text, at)?;
         return Ok((Some(types), at));
     }
     Ok((None, at))
 }
 
 /// The types of a call: that of its result, and those that it writes for its callee, if any.
-fn signature(
-    alloc: Global,
-    tokens: &[Token],
-    at: usize,
-) -> Result<(TypeNode, Option<CallTypes>, usize), ReadError>
-    requires { at ≤ length tokens.now }
-    ensures { Reads tokens.now at (λ x. (ty_of x.0, option_map written_of x.1)) (λ x. x.2) result (signature_at (drop at tokens.now)) }
+fn signature(text: &Text<'_>, at: usize) -> Result<(TypeNode, Option<CallTypes>, usize), ReadError>
+    requires { at ≤ length text.now.tokens.now }
+    ensures { Reads text.now.tokens.now at (λ x. (ty_of x.0, option_map written_of x.1)) (λ x. x.2) result (signature_at (drop at text.now.tokens.now)) }
 {
-    let (ty, at) = type_node(alloc, tokens, at, NESTING_LIMIT)?;
-    let (written, at) = written_or_none(alloc, tokens, at)?;
+    let (ty, at) = type_node(text, at, NESTING_LIMIT)?;
+    let (written, at) = written_or_none(text, at)?;
     Ok((ty, written, at))
 }
 
 /// A global that is called, and its arguments.
-fn callee(
-    alloc: Global,
-    tokens: &[Token],
-    at: usize,
-) -> Result<(Name, Vec<ArgNode>, usize), ReadError>
-    requires { at ≤ length tokens.now }
-    ensures { Reads tokens.now at (λ x. (x.0, map typed_of x.1.items)) (λ x. x.2) result (called_at (drop at tokens.now)) }
+fn callee(text: &Text<'_>, at: usize) -> Result<(Name, Vec<ArgNode>, usize), ReadError>
+    requires { at ≤ length text.now.tokens.now }
+    ensures { Reads text.now.tokens.now at (λ x. (x.0, map typed_of x.1.items)) (λ x. x.2) result (called_at (drop at text.now.tokens.now)) }
 {
-    if next_in(tokens, at, ClassSet::NoCallee) {
+    if next_in(text.tokens, at, ClassSet::NoCallee) {
         return Err(ReadError::Refused(unsupported(at)));
     }
-    let (global, at) = take(tokens, at, Class::Global)?;
-    let (_, at) = take(tokens, at, Class::OpenRound)?;
-    let callee = name(alloc, global)?;
-    let (arguments, at) = arguments_to(alloc, tokens, at, Class::CloseRound)?;
+    let (global, at) = take(text.tokens, at, Class::Global)?;
+    let (_, at) = take(text.tokens, at, Class::OpenRound)?;
+    let callee = name(text.alloc, global)?;
+    let (arguments, at) = arguments_to(text, at, Class::CloseRound)?;
     Ok((callee, arguments, at))
 }
 
@@ -92,36 +81,27 @@ fn dropped_callee(tokens: &[Token], at: usize) -> Result<usize, ReadRefusal>
 
 /// A call without the attributes behind it, or nothing where it is dropped.
 #[tactic(auto, unfolding(pg_grammar::specs::ReaderOps::call_at))]
-pub fn call(
-    alloc: Global,
-    tokens: &[Token],
-    at: usize,
-) -> Result<(Option<OpNode>, usize), ReadError>
-    requires { at ≤ length tokens.now }
-    ensures read { Reads tokens.now at (λ x. option_map op_of x.0) (λ x. x.1) result (call_at (drop at tokens.now)) }
+pub fn call(text: &Text<'_>, at: usize) -> Read<Option<OpNode>>
+    requires { at ≤ length text.now.tokens.now }
+    ensures read { Reads text.now.tokens.now at (λ x. option_map op_of x.0) (λ x. x.1) result (call_at (drop at text.now.tokens.now)) }
     ensures on { IfOk result (λ x. at < x.1) }
 {
-    let (word, at) = call_word(tokens, at)?;
-    let at = attributes(tokens, at)?;
-    call_end(alloc, tokens, at, word)
+    let (word, at) = call_word(text.tokens, at)?;
+    let at = attributes(text.tokens, at)?;
+    call_end(text, at, word)
 }
 
 /// What stands behind the attributes of a call's result.
-fn call_end(
-    alloc: Global,
-    tokens: &[Token],
-    at: usize,
-    word: &Token,
-) -> Result<(Option<OpNode>, usize), ReadError>
-    requires { at ≤ length tokens.now }
-    ensures { Reads tokens.now at (λ x. option_map op_of x.0) (λ x. x.1) result (call_end_at word.now (drop at tokens.now)) }
+fn call_end(text: &Text<'_>, at: usize, word: &Token) -> Read<Option<OpNode>>
+    requires { at ≤ length text.now.tokens.now }
+    ensures { Reads text.now.tokens.now at (λ x. option_map op_of x.0) (λ x. x.1) result (call_end_at word.now (drop at text.now.tokens.now)) }
 {
-    let (ty, written, at) = signature(alloc, tokens, at)?;
-    if next_is(tokens, at, Class::DroppedGlobal) {
-        let at = dropped_callee(tokens, at)?;
+    let (ty, written, at) = signature(text, at)?;
+    if next_is(text.tokens, at, Class::DroppedGlobal) {
+        let at = dropped_callee(text.tokens, at)?;
         return Ok((None, at));
     }
-    let (callee, arguments, at) = callee(alloc, tokens, at)?;
+    let (callee, arguments, at) = callee(text, at)?;
     let node = OpNode::Call {
         span: word.span,
         ty,
@@ -132,47 +112,36 @@ fn call_end(
     Ok((Some(node), at))
 }
 
-fn arguments_to(
-    alloc: Global,
-    tokens: &[Token],
-    at: usize,
-    close: Class,
-) -> Result<(Vec<ArgNode>, usize), ReadError>
-    requires { at ≤ length tokens.now }
-    ensures { Reads tokens.now at (λ x. map typed_of x.0.items) (λ x. x.1) result (listed_at close argument_at (drop at tokens.now)) }
+fn arguments_to(text: &Text<'_>, at: usize, close: Class) -> Read<Vec<ArgNode>>
+    requires { at ≤ length text.now.tokens.now }
+    ensures { Reads text.now.tokens.now at (λ x. map typed_of x.0.items) (λ x. x.1) result (listed_at close argument_at (drop at text.now.tokens.now)) }
 {
-    let mut all = Vec::new(alloc);
-    if next_is(tokens, at, close) {
-        let (_, to) = take(tokens, at, close)?;
+    let mut all = Vec::new(text.alloc);
+    if next_is(text.tokens, at, close) {
+        let (_, to) = take(text.tokens, at, close)?;
         return Ok((all, to));
     }
-    let (first, at) = argument(alloc, tokens, at)?;
+    let (first, at) = argument(text, at)?;
     if all.push(first).is_err() {
         return Err(ReadError::Memory);
     }
-    let (all, at) = more_arguments(alloc, tokens, at, all)?;
-    let (_, at) = take(tokens, at, close)?;
+    let (all, at) = more_arguments(text, at, all)?;
+    let (_, at) = take(text.tokens, at, close)?;
     Ok((all, at))
 }
 
-fn more_arguments(
-    alloc: Global,
-    tokens: &[Token],
-    at: usize,
-    all: Vec<ArgNode>,
-) -> Result<(Vec<ArgNode>, usize), ReadError>
-    requires { at ≤ length tokens.now }
-    ensures { Reads tokens.now at (λ x. map typed_of x.0.items) (λ x. x.1) result (onto (map typed_of all.items) (all_of (is Comma) (behind_comma argument_at) (drop at tokens.now))) }
+fn more_arguments(text: &Text<'_>, at: usize, all: Vec<ArgNode>) -> Read<Vec<ArgNode>>
+    requires { at ≤ length text.now.tokens.now }
+    ensures { Reads text.now.tokens.now at (λ x. map typed_of x.0.items) (λ x. x.1) result
+        (onto (map typed_of all.items) (all_of (is Comma) (behind_comma argument_at) (drop at text.now.tokens.now))) }
 {
     let mut all = all;
     let mut place = at;
-    'items: while next_is(tokens, place, Class::Comma) {
-        match comma_argument(alloc, tokens, place) {
+    'items: while next_is(text.tokens, place, Class::Comma) {
+        match comma_argument(text, place) {
             Err(error) => return Err(error),
             Ok((next, to)) => {
-                if all.push(next).is_err() {
-                    return Err(ReadError::Memory);
-                }
+                keep(&mut all, next)?;
                 place = to;
             }
         }
@@ -180,11 +149,11 @@ fn more_arguments(
     Ok((all, place))
 }
 
-fn comma_argument(alloc: Global, tokens: &[Token], at: usize) -> Result<(ArgNode, usize), ReadError>
-    requires { at ≤ length tokens.now }
-    ensures read { Reads tokens.now at (λ x. typed_of x.0) (λ x. x.1) result (behind_comma argument_at (drop at tokens.now)) }
+fn comma_argument(text: &Text<'_>, at: usize) -> Read<ArgNode>
+    requires { at ≤ length text.now.tokens.now }
+    ensures read { Reads text.now.tokens.now at (λ x. typed_of x.0) (λ x. x.1) result (behind_comma argument_at (drop at text.now.tokens.now)) }
     ensures on { IfOk result (λ x. at < x.1) }
 {
-    let (_, to) = take(tokens, at, Class::Comma)?;
-    argument(alloc, tokens, to)
+    let (_, to) = take(text.tokens, at, Class::Comma)?;
+    argument(text, to)
 }

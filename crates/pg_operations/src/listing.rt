@@ -1,6 +1,6 @@
 //! Items behind commas, where something else may stand behind the last comma.
 
-ghost use Rattle.std.specs.Prelude.{◌≡◌, ◌≤◌, length, drop};
+ghost use Rattle.std.specs.Prelude.{◌≡◌, ◌≤◌, ◌++◌, ◌∷◌, [], length, drop, false, IfOk};
 ghost use Rattle.pg_grammar.specs.declared.class.Class.TheVariants.{OpenSquare};
 ghost use Rattle.pg_grammar.specs.Classes.{is};
 ghost use Rattle.pg_grammar.specs.Reading.{comes};
@@ -9,12 +9,26 @@ ghost use Rattle.pg_grammar.specs.ReaderOps.{begins_by};
 
 use pg_grammar::{Class, Token};
 use pg_terms::{ClassSet, next_in, next_is};
+use std::alloc::AllocError;
 
 /// Items behind commas, and whether a comma stands behind the last of them.
 #[derive(Debug, Drop)]
 pub struct Listing<T> {
     pub items: Vec<T>,
     pub comma: bool,
+}
+
+/// These items and one more, behind which no comma stands yet.
+pub fn with_item<T: Drop>(items: Vec<T>, next: T) -> Result<Listing<T>, AllocError>
+    ensures items { IfOk result (λ l. l.items.items ≡ items.items ++ next ∷ []) }
+    ensures comma { IfOk result (λ l. l.comma ≡ false) }
+{
+    let mut items = items;
+    items.push(next)?;
+    Ok(Listing {
+        items,
+        comma: false,
+    })
 }
 
 /// A type goes on behind a comma, or a comma where none stands.

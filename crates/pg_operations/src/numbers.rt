@@ -9,11 +9,11 @@ ghost use Rattle.pg_grammar.specs.Views.{Reads};
 ghost use Rattle.pg_operations.specs.Rows.{two_values_at, operands_at, binary_end_at, comparison_end_at, to_type_at, cast_end_at, select_end_at};
 ghost use Rattle.pg_ast.specs.Views.{op_of, ty_of, val_of, typed_of};
 
-use pg_ast::{BinaryOp, CastOp, OpNode, Predicate, TypeNode, TypedVal, ValNode};
-use pg_grammar::{Class, ReadError, Token};
+use pg_num::Compare;
 use pg_num::limits::NESTING_LIMIT;
-use pg_terms::{ClassSet, flags, take, take_in, type_node, typed_value_in, value};
-use std::alloc::Global;
+use pg_ast::{BinaryOp, CastOp, OpNode, TypeNode, TypedVal, ValNode};
+use pg_grammar::{Class, ReadError, Token};
+use pg_terms::{ClassSet, Read, Text, flags, take, take_in, type_node, typed_value_in, value};
 
 fn binary_op(class: Class) -> BinaryOp
     ensures { result ≡ binary_of class }
@@ -35,20 +35,20 @@ fn binary_op(class: Class) -> BinaryOp
     }
 }
 
-fn predicate_op(class: Class) -> Predicate
+fn predicate_op(class: Class) -> Compare
     ensures { result ≡ predicate_of class }
 {
     match class {
-        Class::Eq => Predicate::Eq,
-        Class::Ne => Predicate::Ne,
-        Class::Ugt => Predicate::Ugt,
-        Class::Uge => Predicate::Uge,
-        Class::Ult => Predicate::Ult,
-        Class::Ule => Predicate::Ule,
-        Class::Sgt => Predicate::Sgt,
-        Class::Sge => Predicate::Sge,
-        Class::Slt => Predicate::Slt,
-        _ => Predicate::Sle,
+        Class::Eq => Compare::Eq,
+        Class::Ne => Compare::Ne,
+        Class::Ugt => Compare::Ugt,
+        Class::Uge => Compare::Uge,
+        Class::Ult => Compare::Ult,
+        Class::Ule => Compare::Ule,
+        Class::Sgt => Compare::Sgt,
+        Class::Sge => Compare::Sge,
+        Class::Slt => Compare::Slt,
+        _ => Compare::Sle,
     }
 }
 
@@ -65,27 +65,22 @@ fn cast_op(class: Class) -> CastOp
 }
 
 /// An operation on two integers.
-pub fn binary(alloc: Global, tokens: &[Token], at: usize) -> Result<(OpNode, usize), ReadError>
-    requires { at ≤ length tokens.now }
-    ensures read { Reads tokens.now at (λ x. op_of x.0) (λ x. x.1) result (binary_at (drop at tokens.now)) }
+pub fn binary(text: &Text<'_>, at: usize) -> Read<OpNode>
+    requires { at ≤ length text.now.tokens.now }
+    ensures read { Reads text.now.tokens.now at (λ x. op_of x.0) (λ x. x.1) result (binary_at (drop at text.now.tokens.now)) }
     ensures on { IfOk result (λ x. at < x.1) }
 {
-    let (word, at) = take_in(tokens, at, ClassSet::Binary)?;
-    let at = flags(tokens, at);
-    binary_end(alloc, tokens, at, word)
+    let (word, at) = take_in(text.tokens, at, ClassSet::Binary)?;
+    let at = flags(text.tokens, at);
+    binary_end(text, at, word)
 }
 
 /// What stands behind the flags of an operation on two integers.
-fn binary_end(
-    alloc: Global,
-    tokens: &[Token],
-    at: usize,
-    word: &Token,
-) -> Result<(OpNode, usize), ReadError>
-    requires { at ≤ length tokens.now }
-    ensures { Reads tokens.now at (λ x. op_of x.0) (λ x. x.1) result (binary_end_at word.now (drop at tokens.now)) }
+fn binary_end(text: &Text<'_>, at: usize, word: &Token) -> Read<OpNode>
+    requires { at ≤ length text.now.tokens.now }
+    ensures { Reads text.now.tokens.now at (λ x. op_of x.0) (λ x. x.1) result (binary_end_at word.now (drop at text.now.tokens.now)) }
 {
-    let (ty, left, right, at) = operands(alloc, tokens, at)?;
+    let (ty, left, right, at) = operands(text, at)?;
     let op = binary_op(word.class);
     let node = OpNode::Binary {
         span: word.span,
@@ -98,66 +93,52 @@ fn binary_end(
 }
 
 /// A type and two values of it, with a comma between them.
-fn operands(
-    alloc: Global,
-    tokens: &[Token],
-    at: usize,
-) -> Result<(TypeNode, ValNode, ValNode, usize), ReadError>
-    requires { at ≤ length tokens.now }
-    ensures { Reads tokens.now at (λ x. (ty_of x.0, val_of x.1, val_of x.2)) (λ x. x.3) result (operands_at (drop at tokens.now)) }
+fn operands(text: &Text<'_>, at: usize) -> Result<(TypeNode, ValNode, ValNode, usize), ReadError>
+    requires { at ≤ length text.now.tokens.now }
+    ensures { Reads text.now.tokens.now at (λ x. (ty_of x.0, val_of x.1, val_of x.2)) (λ x. x.3) result (operands_at (drop at text.now.tokens.now)) }
 {
-    let (ty, at) = type_node(alloc, tokens, at, NESTING_LIMIT)?;
-    let (left, right, at) = two_values(alloc, tokens, at)?;
+    let (ty, at) = type_node(text, at, NESTING_LIMIT)?;
+    let (left, right, at) = two_values(text, at)?;
     Ok((ty, left, right, at))
 }
 
 /// Two values with a comma between them.
-fn two_values(
-    alloc: Global,
-    tokens: &[Token],
-    at: usize,
-) -> Result<(ValNode, ValNode, usize), ReadError>
-    requires { at ≤ length tokens.now }
-    ensures { Reads tokens.now at (λ x. (val_of x.0, val_of x.1)) (λ x. x.2) result (two_values_at (drop at tokens.now)) }
+fn two_values(text: &Text<'_>, at: usize) -> Result<(ValNode, ValNode, usize), ReadError>
+    requires { at ≤ length text.now.tokens.now }
+    ensures { Reads text.now.tokens.now at (λ x. (val_of x.0, val_of x.1)) (λ x. x.2) result (two_values_at (drop at text.now.tokens.now)) }
 {
-    let (left, at) = value(alloc, tokens, at, NESTING_LIMIT)?;
-    let (right, at) = second_value(alloc, tokens, at)?;
+    let (left, at) = value(text, at, NESTING_LIMIT)?;
+    let (right, at) = second_value(text, at)?;
     Ok((left, right, at))
 }
 
 /// A value behind a comma.
-fn second_value(alloc: Global, tokens: &[Token], at: usize) -> Result<(ValNode, usize), ReadError>
-    requires { at ≤ length tokens.now }
-    ensures { Reads tokens.now at (λ x. val_of x.0) (λ x. x.1) result (behind_comma (value_at NESTING_LIMIT) (drop at tokens.now)) }
+fn second_value(text: &Text<'_>, at: usize) -> Read<ValNode>
+    requires { at ≤ length text.now.tokens.now }
+    ensures { Reads text.now.tokens.now at (λ x. val_of x.0) (λ x. x.1) result (behind_comma (value_at NESTING_LIMIT) (drop at text.now.tokens.now)) }
 {
-    let (_, at) = take(tokens, at, Class::Comma)?;
-    value(alloc, tokens, at, NESTING_LIMIT)
+    let (_, at) = take(text.tokens, at, Class::Comma)?;
+    value(text, at, NESTING_LIMIT)
 }
 
 /// A comparison.
-pub fn comparison(alloc: Global, tokens: &[Token], at: usize) -> Result<(OpNode, usize), ReadError>
-    requires { at ≤ length tokens.now }
-    ensures read { Reads tokens.now at (λ x. op_of x.0) (λ x. x.1) result (icmp_at (drop at tokens.now)) }
+pub fn comparison(text: &Text<'_>, at: usize) -> Read<OpNode>
+    requires { at ≤ length text.now.tokens.now }
+    ensures read { Reads text.now.tokens.now at (λ x. op_of x.0) (λ x. x.1) result (icmp_at (drop at text.now.tokens.now)) }
     ensures on { IfOk result (λ x. at < x.1) }
 {
-    let (word, at) = take(tokens, at, Class::Icmp)?;
-    let at = flags(tokens, at);
-    let (predicate, at) = take_in(tokens, at, ClassSet::Predicate)?;
-    comparison_end(alloc, tokens, at, word, predicate)
+    let (word, at) = take(text.tokens, at, Class::Icmp)?;
+    let at = flags(text.tokens, at);
+    let (predicate, at) = take_in(text.tokens, at, ClassSet::Predicate)?;
+    comparison_end(text, at, word, predicate)
 }
 
 /// What stands behind the predicate of a comparison.
-fn comparison_end(
-    alloc: Global,
-    tokens: &[Token],
-    at: usize,
-    word: &Token,
-    predicate: &Token,
-) -> Result<(OpNode, usize), ReadError>
-    requires { at ≤ length tokens.now }
-    ensures { Reads tokens.now at (λ x. op_of x.0) (λ x. x.1) result (comparison_end_at word.now predicate.now (drop at tokens.now)) }
+fn comparison_end(text: &Text<'_>, at: usize, word: &Token, predicate: &Token) -> Read<OpNode>
+    requires { at ≤ length text.now.tokens.now }
+    ensures { Reads text.now.tokens.now at (λ x. op_of x.0) (λ x. x.1) result (comparison_end_at word.now predicate.now (drop at text.now.tokens.now)) }
 {
-    let (ty, left, right, at) = operands(alloc, tokens, at)?;
+    let (ty, left, right, at) = operands(text, at)?;
     let op = predicate_op(predicate.class);
     let node = OpNode::Icmp {
         span: word.span,
@@ -170,42 +151,31 @@ fn comparison_end(
 }
 
 /// A conversion.
-pub fn cast(alloc: Global, tokens: &[Token], at: usize) -> Result<(OpNode, usize), ReadError>
-    requires { at ≤ length tokens.now }
-    ensures read { Reads tokens.now at (λ x. op_of x.0) (λ x. x.1) result (cast_at (drop at tokens.now)) }
+pub fn cast(text: &Text<'_>, at: usize) -> Read<OpNode>
+    requires { at ≤ length text.now.tokens.now }
+    ensures read { Reads text.now.tokens.now at (λ x. op_of x.0) (λ x. x.1) result (cast_at (drop at text.now.tokens.now)) }
     ensures on { IfOk result (λ x. at < x.1) }
 {
-    let (word, at) = take_in(tokens, at, ClassSet::Cast)?;
-    cast_tail(alloc, tokens, at, word)
+    let (word, at) = take_in(text.tokens, at, ClassSet::Cast)?;
+    cast_tail(text, at, word)
 }
 
 /// What stands behind the first token of a conversion.
-pub fn cast_tail(
-    alloc: Global,
-    tokens: &[Token],
-    at: usize,
-    word: &Token,
-) -> Result<(OpNode, usize), ReadError>
-    requires { at ≤ length tokens.now }
-    ensures { Reads tokens.now at (λ x. op_of x.0) (λ x. x.1) result (cast_tail_at word.now (drop at tokens.now)) }
+pub fn cast_tail(text: &Text<'_>, at: usize, word: &Token) -> Read<OpNode>
+    requires { at ≤ length text.now.tokens.now }
+    ensures { Reads text.now.tokens.now at (λ x. op_of x.0) (λ x. x.1) result (cast_tail_at word.now (drop at text.now.tokens.now)) }
 {
-    let at = flags(tokens, at);
-    let (value, at) = typed_value_in(alloc, tokens, at, NESTING_LIMIT)?;
-    cast_end(alloc, tokens, at, word, value)
+    let at = flags(text.tokens, at);
+    let (value, at) = typed_value_in(text, at, NESTING_LIMIT)?;
+    cast_end(text, at, word, value)
 }
 
 /// What stands behind the value of a conversion.
-fn cast_end(
-    alloc: Global,
-    tokens: &[Token],
-    at: usize,
-    word: &Token,
-    value: TypedVal,
-) -> Result<(OpNode, usize), ReadError>
-    requires { at ≤ length tokens.now }
-    ensures { Reads tokens.now at (λ x. op_of x.0) (λ x. x.1) result (cast_end_at word.now (typed_of value) (drop at tokens.now)) }
+fn cast_end(text: &Text<'_>, at: usize, word: &Token, value: TypedVal) -> Read<OpNode>
+    requires { at ≤ length text.now.tokens.now }
+    ensures { Reads text.now.tokens.now at (λ x. op_of x.0) (λ x. x.1) result (cast_end_at word.now (typed_of value) (drop at text.now.tokens.now)) }
 {
-    let (ty, at) = to_type(alloc, tokens, at)?;
+    let (ty, at) = to_type(text, at)?;
     let op = cast_op(word.class);
     let node = OpNode::Cast {
         span: word.span,
@@ -217,38 +187,32 @@ fn cast_end(
 }
 
 /// A type behind the word `to`.
-fn to_type(alloc: Global, tokens: &[Token], at: usize) -> Result<(TypeNode, usize), ReadError>
-    requires { at ≤ length tokens.now }
-    ensures { Reads tokens.now at (λ x. ty_of x.0) (λ x. x.1) result (to_type_at (drop at tokens.now)) }
+fn to_type(text: &Text<'_>, at: usize) -> Read<TypeNode>
+    requires { at ≤ length text.now.tokens.now }
+    ensures { Reads text.now.tokens.now at (λ x. ty_of x.0) (λ x. x.1) result (to_type_at (drop at text.now.tokens.now)) }
 {
-    let (_, at) = take(tokens, at, Class::To)?;
-    type_node(alloc, tokens, at, NESTING_LIMIT)
+    let (_, at) = take(text.tokens, at, Class::To)?;
+    type_node(text, at, NESTING_LIMIT)
 }
 
 /// A choice of two values.
-pub fn select(alloc: Global, tokens: &[Token], at: usize) -> Result<(OpNode, usize), ReadError>
-    requires { at ≤ length tokens.now }
-    ensures read { Reads tokens.now at (λ x. op_of x.0) (λ x. x.1) result (select_at (drop at tokens.now)) }
+pub fn select(text: &Text<'_>, at: usize) -> Read<OpNode>
+    requires { at ≤ length text.now.tokens.now }
+    ensures read { Reads text.now.tokens.now at (λ x. op_of x.0) (λ x. x.1) result (select_at (drop at text.now.tokens.now)) }
     ensures on { IfOk result (λ x. at < x.1) }
 {
-    let (word, at) = take(tokens, at, Class::Select)?;
-    let (condition, at) = typed_value_in(alloc, tokens, at, NESTING_LIMIT)?;
-    select_end(alloc, tokens, at, word, condition)
+    let (word, at) = take(text.tokens, at, Class::Select)?;
+    let (condition, at) = typed_value_in(text, at, NESTING_LIMIT)?;
+    select_end(text, at, word, condition)
 }
 
 /// The two values behind the condition of a choice.
-fn select_end(
-    alloc: Global,
-    tokens: &[Token],
-    at: usize,
-    word: &Token,
-    condition: TypedVal,
-) -> Result<(OpNode, usize), ReadError>
-    requires { at ≤ length tokens.now }
-    ensures { Reads tokens.now at (λ x. op_of x.0) (λ x. x.1) result (select_end_at word.now (typed_of condition) (drop at tokens.now)) }
+fn select_end(text: &Text<'_>, at: usize, word: &Token, condition: TypedVal) -> Read<OpNode>
+    requires { at ≤ length text.now.tokens.now }
+    ensures { Reads text.now.tokens.now at (λ x. op_of x.0) (λ x. x.1) result (select_end_at word.now (typed_of condition) (drop at text.now.tokens.now)) }
 {
-    let (yes, at) = comma_value(alloc, tokens, at)?;
-    let (no, at) = comma_value(alloc, tokens, at)?;
+    let (yes, at) = comma_value(text, at)?;
+    let (no, at) = comma_value(text, at)?;
     let node = OpNode::Select {
         span: word.span,
         condition,
@@ -259,10 +223,10 @@ fn select_end(
 }
 
 /// A value and the type before it, behind a comma.
-fn comma_value(alloc: Global, tokens: &[Token], at: usize) -> Result<(TypedVal, usize), ReadError>
-    requires { at ≤ length tokens.now }
-    ensures { Reads tokens.now at (λ x. typed_of x.0) (λ x. x.1) result (behind_comma typed_value_at (drop at tokens.now)) }
+fn comma_value(text: &Text<'_>, at: usize) -> Read<TypedVal>
+    requires { at ≤ length text.now.tokens.now }
+    ensures { Reads text.now.tokens.now at (λ x. typed_of x.0) (λ x. x.1) result (behind_comma typed_value_at (drop at text.now.tokens.now)) }
 {
-    let (_, at) = take(tokens, at, Class::Comma)?;
-    typed_value_in(alloc, tokens, at, NESTING_LIMIT)
+    let (_, at) = take(text.tokens, at, Class::Comma)?;
+    typed_value_in(text, at, NESTING_LIMIT)
 }

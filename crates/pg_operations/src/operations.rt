@@ -12,9 +12,8 @@ use crate::memory::{alloca, load, store};
 use crate::numbers::{binary, cast, comparison, select};
 use crate::phi::phi;
 use pg_ast::OpNode;
-use pg_grammar::{Class, ReadError, ReadRefusal, Token};
-use pg_terms::{ClassSet, metadata, next_in, next_is};
-use std::alloc::Global;
+use pg_grammar::{Class, ReadRefusal, Token};
+use pg_terms::{ClassSet, Read, Text, metadata, next_in, next_is};
 
 /// The metadata behind an operation.
 fn lined_op(tokens: &[Token], at: usize, op: OpNode) -> Result<(OpNode, usize), ReadRefusal>
@@ -27,75 +26,75 @@ fn lined_op(tokens: &[Token], at: usize, op: OpNode) -> Result<(OpNode, usize), 
 
 /// Any operation but a call and a return, and the metadata behind it.
 #[tactic(auto, unfolding(pg_grammar::specs::ReaderOps::simple_op_at))]
-pub fn simple_op(alloc: Global, tokens: &[Token], at: usize) -> Result<(OpNode, usize), ReadError>
-    requires { at ≤ length tokens.now }
-    ensures read { Reads tokens.now at (λ x. op_of x.0) (λ x. x.1) result (simple_op_at (drop at tokens.now)) }
+pub fn simple_op(text: &Text<'_>, at: usize) -> Read<OpNode>
+    requires { at ≤ length text.now.tokens.now }
+    ensures read { Reads text.now.tokens.now at (λ x. op_of x.0) (λ x. x.1) result (simple_op_at (drop at text.now.tokens.now)) }
     ensures on { IfOk result (λ x. at < x.1) }
 {
-    if next_is(tokens, at, Class::GetElementPtr) {
-        return gep_op(alloc, tokens, at);
+    if next_is(text.tokens, at, Class::GetElementPtr) {
+        return gep_op(text, at);
     }
-    if next_in(tokens, at, ClassSet::Cast) {
-        let (op, at) = cast(alloc, tokens, at)?;
-        return Ok(lined_op(tokens, at, op)?);
+    if next_in(text.tokens, at, ClassSet::Cast) {
+        let (op, at) = cast(text, at)?;
+        return Ok(lined_op(text.tokens, at, op)?);
     }
-    plain_op(alloc, tokens, at)
+    plain_op(text, at)
 }
 
 #[tactic(auto, unfolding(pg_grammar::specs::ReaderOps::plain_op_at))]
-fn plain_op(alloc: Global, tokens: &[Token], at: usize) -> Result<(OpNode, usize), ReadError>
-    requires { at ≤ length tokens.now }
-    ensures read { Reads tokens.now at (λ x. op_of x.0) (λ x. x.1) result (plain_op_at (drop at tokens.now)) }
+fn plain_op(text: &Text<'_>, at: usize) -> Read<OpNode>
+    requires { at ≤ length text.now.tokens.now }
+    ensures read { Reads text.now.tokens.now at (λ x. op_of x.0) (λ x. x.1) result (plain_op_at (drop at text.now.tokens.now)) }
     ensures on { IfOk result (λ x. at < x.1) }
 {
-    if next_in(tokens, at, ClassSet::Binary) {
-        let (op, at) = binary(alloc, tokens, at)?;
-        return Ok(lined_op(tokens, at, op)?);
+    if next_in(text.tokens, at, ClassSet::Binary) {
+        let (op, at) = binary(text, at)?;
+        return Ok(lined_op(text.tokens, at, op)?);
     }
-    if next_is(tokens, at, Class::Icmp) {
-        let (op, at) = comparison(alloc, tokens, at)?;
-        return Ok(lined_op(tokens, at, op)?);
+    if next_is(text.tokens, at, Class::Icmp) {
+        let (op, at) = comparison(text, at)?;
+        return Ok(lined_op(text.tokens, at, op)?);
     }
-    if next_is(tokens, at, Class::Select) {
-        let (op, at) = select(alloc, tokens, at)?;
-        return Ok(lined_op(tokens, at, op)?);
+    if next_is(text.tokens, at, Class::Select) {
+        let (op, at) = select(text, at)?;
+        return Ok(lined_op(text.tokens, at, op)?);
     }
-    other_op(alloc, tokens, at)
+    other_op(text, at)
 }
 
-fn other_op(alloc: Global, tokens: &[Token], at: usize) -> Result<(OpNode, usize), ReadError>
-    requires { at ≤ length tokens.now }
-    ensures read { Reads tokens.now at (λ x. op_of x.0) (λ x. x.1) result (other_op_at (drop at tokens.now)) }
+fn other_op(text: &Text<'_>, at: usize) -> Read<OpNode>
+    requires { at ≤ length text.now.tokens.now }
+    ensures read { Reads text.now.tokens.now at (λ x. op_of x.0) (λ x. x.1) result (other_op_at (drop at text.now.tokens.now)) }
     ensures on { IfOk result (λ x. at < x.1) }
 {
-    if next_is(tokens, at, Class::Phi) {
-        return phi(alloc, tokens, at);
+    if next_is(text.tokens, at, Class::Phi) {
+        return phi(text, at);
     }
-    if next_is(tokens, at, Class::Br) {
-        let (op, at) = branch(alloc, tokens, at)?;
-        return Ok(lined_op(tokens, at, op)?);
+    if next_is(text.tokens, at, Class::Br) {
+        let (op, at) = branch(text, at)?;
+        return Ok(lined_op(text.tokens, at, op)?);
     }
-    if next_is(tokens, at, Class::Switch) {
-        let (op, at) = switch(alloc, tokens, at)?;
-        return Ok(lined_op(tokens, at, op)?);
+    if next_is(text.tokens, at, Class::Switch) {
+        let (op, at) = switch(text, at)?;
+        return Ok(lined_op(text.tokens, at, op)?);
     }
-    if next_is(tokens, at, Class::Unreachable) {
-        let (op, at) = unreachable_op(tokens, at)?;
-        return Ok(lined_op(tokens, at, op)?);
+    if next_is(text.tokens, at, Class::Unreachable) {
+        let (op, at) = unreachable_op(text.tokens, at)?;
+        return Ok(lined_op(text.tokens, at, op)?);
     }
-    memory_op(alloc, tokens, at)
+    memory_op(text, at)
 }
 
-fn memory_op(alloc: Global, tokens: &[Token], at: usize) -> Result<(OpNode, usize), ReadError>
-    requires { at ≤ length tokens.now }
-    ensures read { Reads tokens.now at (λ x. op_of x.0) (λ x. x.1) result (memory_op_at (drop at tokens.now)) }
+fn memory_op(text: &Text<'_>, at: usize) -> Read<OpNode>
+    requires { at ≤ length text.now.tokens.now }
+    ensures read { Reads text.now.tokens.now at (λ x. op_of x.0) (λ x. x.1) result (memory_op_at (drop at text.now.tokens.now)) }
     ensures on { IfOk result (λ x. at < x.1) }
 {
-    if next_is(tokens, at, Class::Alloca) {
-        return alloca(alloc, tokens, at);
+    if next_is(text.tokens, at, Class::Alloca) {
+        return alloca(text, at);
     }
-    if next_is(tokens, at, Class::Load) {
-        return load(alloc, tokens, at);
+    if next_is(text.tokens, at, Class::Load) {
+        return load(text, at);
     }
-    store(alloc, tokens, at)
+    store(text, at)
 }

@@ -9,75 +9,59 @@ ghost use Rattle.pg_operations.specs.Rows.{label_at, incoming_tail_at};
 ghost use Rattle.pg_grammar.specs.Views.{Reads};
 ghost use Rattle.pg_ast.specs.Views.{op_of, val_of, incoming_of};
 
-use crate::listing::{Listing, square_goes_on};
+use crate::listing::{Listing, square_goes_on, with_item};
+use pg_num::limits::NESTING_LIMIT;
 use pg_ast::{IncomingNode, Name, OpNode, ValNode};
 use pg_grammar::{Class, ReadError, Token};
-use pg_num::limits::NESTING_LIMIT;
-use pg_terms::{metadata_tail, name, take, type_node, value};
-use std::alloc::Global;
+use pg_terms::{Read, Text, metadata_tail, name, take, type_node, value};
 
-fn incoming(alloc: Global, tokens: &[Token], at: usize) -> Result<(IncomingNode, usize), ReadError>
-    requires { at ≤ length tokens.now }
-    ensures read { Reads tokens.now at (λ x. incoming_of x.0) (λ x. x.1) result (incoming_at (drop at tokens.now)) }
+fn incoming(text: &Text<'_>, at: usize) -> Read<IncomingNode>
+    requires { at ≤ length text.now.tokens.now }
+    ensures read { Reads text.now.tokens.now at (λ x. incoming_of x.0) (λ x. x.1) result (incoming_at (drop at text.now.tokens.now)) }
     ensures on { IfOk result (λ x. at < x.1) }
 {
-    let (_, at) = take(tokens, at, Class::OpenSquare)?;
-    let (value, at) = value(alloc, tokens, at, NESTING_LIMIT)?;
-    incoming_tail(alloc, tokens, at, value)
+    let (_, at) = take(text.tokens, at, Class::OpenSquare)?;
+    let (value, at) = value(text, at, NESTING_LIMIT)?;
+    incoming_tail(text, at, value)
 }
 
 /// What stands behind the value that comes from a block.
-fn incoming_tail(
-    alloc: Global,
-    tokens: &[Token],
-    at: usize,
-    value: ValNode,
-) -> Result<(IncomingNode, usize), ReadError>
-    requires { at ≤ length tokens.now }
-    ensures { Reads tokens.now at (λ x. incoming_of x.0) (λ x. x.1) result (incoming_tail_at (val_of value) (drop at tokens.now)) }
+fn incoming_tail(text: &Text<'_>, at: usize, value: ValNode) -> Read<IncomingNode>
+    requires { at ≤ length text.now.tokens.now }
+    ensures { Reads text.now.tokens.now at (λ x. incoming_of x.0) (λ x. x.1) result (incoming_tail_at (val_of value) (drop at text.now.tokens.now)) }
 {
-    let (block, at) = label(alloc, tokens, at)?;
+    let (block, at) = label(text, at)?;
     Ok((IncomingNode { value, block }, at))
 }
 
 /// A block's name between a comma and a closing bracket.
-fn label(alloc: Global, tokens: &[Token], at: usize) -> Result<(Name, usize), ReadError>
-    requires { at ≤ length tokens.now }
-    ensures { Reads tokens.now at (λ x. x.0) (λ x. x.1) result (label_at (drop at tokens.now)) }
+fn label(text: &Text<'_>, at: usize) -> Read<Name>
+    requires { at ≤ length text.now.tokens.now }
+    ensures { Reads text.now.tokens.now at (λ x. x.0) (λ x. x.1) result (label_at (drop at text.now.tokens.now)) }
 {
-    let (_, at) = take(tokens, at, Class::Comma)?;
-    let (local, at) = take(tokens, at, Class::Local)?;
-    let (_, at) = take(tokens, at, Class::CloseSquare)?;
-    let block = name(alloc, local)?;
+    let (_, at) = take(text.tokens, at, Class::Comma)?;
+    let (local, at) = take(text.tokens, at, Class::Local)?;
+    let (_, at) = take(text.tokens, at, Class::CloseSquare)?;
+    let block = name(text.alloc, local)?;
     Ok((block, at))
 }
 
 /// A comma, or the value behind one.
 fn incoming_or_comma(
-    alloc: Global,
-    tokens: &[Token],
+    text: &Text<'_>,
     at: usize,
     listing: Listing<IncomingNode>,
-) -> Result<(Listing<IncomingNode>, usize), ReadError>
-    requires { at ≤ length tokens.now }
-    ensures read { Reads tokens.now at (λ x. listing_of incoming_of x.0) (λ x. x.1) result (listing_at incoming_at (listing_of incoming_of listing) (drop at tokens.now)) }
+) -> Read<Listing<IncomingNode>>
+    requires { at ≤ length text.now.tokens.now }
+    ensures read { Reads text.now.tokens.now at (λ x. listing_of incoming_of x.0) (λ x. x.1) result (listing_at incoming_at (listing_of incoming_of listing) (drop at text.now.tokens.now)) }
     ensures on { IfOk result (λ x. at < x.1) }
 {
-    let Listing { mut items, comma } = listing;
+    let Listing { items, comma } = listing;
     if comma {
-        let (next, to) = incoming(alloc, tokens, at)?;
-        if items.push(next).is_err() {
-            return Err(ReadError::Memory);
-        }
-        return Ok((
-            Listing {
-                items,
-                comma: false,
-            },
-            to,
-        ));
+        let (next, to) = incoming(text, at)?;
+        return Ok((with_item(items, next)?, to));
     }
-    let (_, to) = take(tokens, at, Class::Comma)?;
+    let (_, to) = take(text.tokens, at, Class::Comma)?;
     Ok((Listing { items, comma: true }, to))
 }
 
@@ -86,7 +70,7 @@ fn incoming_end(
     tokens: &[Token],
     at: usize,
     listing: Listing<IncomingNode>,
-) -> Result<(Listing<IncomingNode>, usize), ReadError>
+) -> Read<Listing<IncomingNode>>
     requires { at ≤ length tokens.now }
     ensures { Reads tokens.now at (λ x. listing_of incoming_of x.0) (λ x. x.1) result (listing_end_at metadata_tail_at (listing_of incoming_of listing) (drop at tokens.now)) }
 {
@@ -98,21 +82,17 @@ fn incoming_end(
 }
 
 /// The values behind the first one, and the metadata behind them.
-fn more_incoming(
-    alloc: Global,
-    tokens: &[Token],
-    at: usize,
-) -> Result<(Listing<IncomingNode>, usize), ReadError>
-    requires { at ≤ length tokens.now }
-    ensures { Reads tokens.now at (λ x. listing_of incoming_of x.0) (λ x. x.1) result (more_at (is OpenSquare) incoming_at metadata_tail_at (drop at tokens.now)) }
+fn more_incoming(text: &Text<'_>, at: usize) -> Read<Listing<IncomingNode>>
+    requires { at ≤ length text.now.tokens.now }
+    ensures { Reads text.now.tokens.now at (λ x. listing_of incoming_of x.0) (λ x. x.1) result (more_at (is OpenSquare) incoming_at metadata_tail_at (drop at text.now.tokens.now)) }
 {
     let mut listing = Listing {
-        items: Vec::new(alloc),
+        items: Vec::new(text.alloc),
         comma: false,
     };
     let mut place = at;
-    'items: while square_goes_on(tokens, place, listing.comma) {
-        match incoming_or_comma(alloc, tokens, place, listing) {
+    'items: while square_goes_on(text.tokens, place, listing.comma) {
+        match incoming_or_comma(text, place, listing) {
             Err(error) => return Err(error),
             Ok((next, to)) => {
                 listing = next;
@@ -120,19 +100,19 @@ fn more_incoming(
             }
         }
     }
-    incoming_end(tokens, place, listing)
+    incoming_end(text.tokens, place, listing)
 }
 
 /// The choice of a value by the block before, and the metadata behind it.
-pub fn phi(alloc: Global, tokens: &[Token], at: usize) -> Result<(OpNode, usize), ReadError>
-    requires { at ≤ length tokens.now }
-    ensures read { Reads tokens.now at (λ x. op_of x.0) (λ x. x.1) result (phi_at (drop at tokens.now)) }
+pub fn phi(text: &Text<'_>, at: usize) -> Read<OpNode>
+    requires { at ≤ length text.now.tokens.now }
+    ensures read { Reads text.now.tokens.now at (λ x. op_of x.0) (λ x. x.1) result (phi_at (drop at text.now.tokens.now)) }
     ensures on { IfOk result (λ x. at < x.1) }
 {
-    let (word, at) = take(tokens, at, Class::Phi)?;
-    let (ty, at) = type_node(alloc, tokens, at, NESTING_LIMIT)?;
-    let (first, at) = incoming(alloc, tokens, at)?;
-    let (more, at) = more_incoming(alloc, tokens, at)?;
+    let (word, at) = take(text.tokens, at, Class::Phi)?;
+    let (ty, at) = type_node(text, at, NESTING_LIMIT)?;
+    let (first, at) = incoming(text, at)?;
+    let (more, at) = more_incoming(text, at)?;
     let node = OpNode::Phi {
         span: word.span,
         ty,

@@ -13,38 +13,38 @@ ghost use Rattle.pg_operations.specs.Listings.{listing_of};
 ghost use Rattle.pg_grammar.specs.Views.{Reads};
 ghost use Rattle.pg_ast.specs.Views.{ty_of, written_of};
 
-use crate::listing::{Listing, type_goes_on};
+use crate::listing::{Listing, type_goes_on, with_item};
+use pg_num::limits::NESTING_LIMIT;
 use pg_ast::{CallTypes, TypeNode};
 use pg_grammar::{Class, ReadError, Token};
-use pg_num::limits::NESTING_LIMIT;
-use pg_terms::{ClassSet, next_in, next_is, take, type_node, unsupported};
+use pg_terms::{ClassSet, Read, Text, next_in, next_is, take, type_node, unsupported};
 use std::alloc::{AllocError, Global};
 
 /// The types that a call writes for its callee's parameters.
 #[tactic(auto, unfolding(pg_grammar::specs::ReaderOps::written_at))]
-pub fn written(alloc: Global, tokens: &[Token], at: usize) -> Result<(CallTypes, usize), ReadError>
-    requires { at ≤ length tokens.now }
-    ensures { Reads tokens.now at (λ x. written_of x.0) (λ x. x.1) result (written_at (drop at tokens.now)) }
+pub fn written(text: &Text<'_>, at: usize) -> Read<CallTypes>
+    requires { at ≤ length text.now.tokens.now }
+    ensures { Reads text.now.tokens.now at (λ x. written_of x.0) (λ x. x.1) result (written_at (drop at text.now.tokens.now)) }
 {
-    let (_, at) = take(tokens, at, Class::OpenRound)?;
-    if next_is(tokens, at, Class::Dots) {
-        let (_, at) = take(tokens, at, Class::Dots)?;
-        let (_, at) = take(tokens, at, Class::CloseRound)?;
-        return Ok((untyped(alloc, true), at));
+    let (_, at) = take(text.tokens, at, Class::OpenRound)?;
+    if next_is(text.tokens, at, Class::Dots) {
+        let (_, at) = take(text.tokens, at, Class::Dots)?;
+        let (_, at) = take(text.tokens, at, Class::CloseRound)?;
+        return Ok((untyped(text.alloc, true), at));
     }
-    if next_is(tokens, at, Class::Comma) {
-        let (_, at) = take(tokens, at, Class::Comma)?;
-        let (_, at) = take(tokens, at, Class::Dots)?;
-        let (_, at) = take(tokens, at, Class::CloseRound)?;
-        return Ok((untyped(alloc, true), at));
+    if next_is(text.tokens, at, Class::Comma) {
+        let (_, at) = take(text.tokens, at, Class::Comma)?;
+        let (_, at) = take(text.tokens, at, Class::Dots)?;
+        let (_, at) = take(text.tokens, at, Class::CloseRound)?;
+        return Ok((untyped(text.alloc, true), at));
     }
-    if next_is(tokens, at, Class::CloseRound) {
-        let (_, at) = take(tokens, at, Class::CloseRound)?;
-        return Ok((untyped(alloc, false), at));
+    if next_is(text.tokens, at, Class::CloseRound) {
+        let (_, at) = take(text.tokens, at, Class::CloseRound)?;
+        return Ok((untyped(text.alloc, false), at));
     }
-    let (first, at) = type_node(alloc, tokens, at, NESTING_LIMIT)?;
-    let (more, at) = more_written(alloc, tokens, at)?;
-    let (_, at) = take(tokens, at, Class::CloseRound)?;
+    let (first, at) = type_node(text, at, NESTING_LIMIT)?;
+    let (more, at) = more_written(text, at)?;
+    let (_, at) = take(text.tokens, at, Class::CloseRound)?;
     let types = with_first(first, more.items)?;
     Ok((
         CallTypes {
@@ -74,22 +74,18 @@ fn with_first(first: TypeNode, types: Vec<TypeNode>) -> Result<Vec<TypeNode>, Al
 }
 
 /// The types behind the first one, and whether dots stand behind them.
-fn more_written(
-    alloc: Global,
-    tokens: &[Token],
-    at: usize,
-) -> Result<(Listing<TypeNode>, usize), ReadError>
-    requires { at ≤ length tokens.now }
-    ensures { Reads tokens.now at (λ x. listing_of ty_of x.0) (λ x. x.1) result
-        (more_at begins_type (type_at NESTING_LIMIT) (unless Unsupported no_type (drop_value_at (take_one (is Dots)))) (drop at tokens.now)) }
+fn more_written(text: &Text<'_>, at: usize) -> Read<Listing<TypeNode>>
+    requires { at ≤ length text.now.tokens.now }
+    ensures { Reads text.now.tokens.now at (λ x. listing_of ty_of x.0) (λ x. x.1) result
+        (more_at begins_type (type_at NESTING_LIMIT) (unless Unsupported no_type (drop_value_at (take_one (is Dots)))) (drop at text.now.tokens.now)) }
 {
     let mut listing = Listing {
-        items: Vec::new(alloc),
+        items: Vec::new(text.alloc),
         comma: false,
     };
     let mut place = at;
-    'items: while type_goes_on(tokens, place, listing.comma) {
-        match type_or_comma(alloc, tokens, place, listing) {
+    'items: while type_goes_on(text.tokens, place, listing.comma) {
+        match type_or_comma(text, place, listing) {
             Err(error) => return Err(error),
             Ok((next, to)) => {
                 listing = next;
@@ -97,53 +93,35 @@ fn more_written(
             }
         }
     }
-    written_end(tokens, place, listing)
+    written_end(text.tokens, place, listing)
 }
 
 /// A comma, or the type behind one.
-fn type_or_comma(
-    alloc: Global,
-    tokens: &[Token],
-    at: usize,
-    listing: Listing<TypeNode>,
-) -> Result<(Listing<TypeNode>, usize), ReadError>
-    requires { at ≤ length tokens.now }
-    ensures read { Reads tokens.now at (λ x. listing_of ty_of x.0) (λ x. x.1) result (listing_at (type_at NESTING_LIMIT) (listing_of ty_of listing) (drop at tokens.now)) }
+fn type_or_comma(text: &Text<'_>, at: usize, listing: Listing<TypeNode>) -> Read<Listing<TypeNode>>
+    requires { at ≤ length text.now.tokens.now }
+    ensures read { Reads text.now.tokens.now at (λ x. listing_of ty_of x.0) (λ x. x.1) result (listing_at (type_at NESTING_LIMIT) (listing_of ty_of listing) (drop at text.now.tokens.now)) }
     ensures on { IfOk result (λ x. at < x.1) }
 {
-    let Listing { mut items, comma } = listing;
+    let Listing { items, comma } = listing;
     if comma {
-        let (next, to) = some_type(alloc, tokens, at)?;
-        if items.push(next).is_err() {
-            return Err(ReadError::Memory);
-        }
-        return Ok((
-            Listing {
-                items,
-                comma: false,
-            },
-            to,
-        ));
+        let (next, to) = some_type(text, at)?;
+        return Ok((with_item(items, next)?, to));
     }
-    let (_, to) = take(tokens, at, Class::Comma)?;
+    let (_, to) = take(text.tokens, at, Class::Comma)?;
     Ok((Listing { items, comma: true }, to))
 }
 
 /// A type, which is a token at least.
-fn some_type(alloc: Global, tokens: &[Token], at: usize) -> Result<(TypeNode, usize), ReadError>
-    requires { at ≤ length tokens.now }
-    ensures read { Reads tokens.now at (λ x. ty_of x.0) (λ x. x.1) result (type_at NESTING_LIMIT (drop at tokens.now)) }
+fn some_type(text: &Text<'_>, at: usize) -> Read<TypeNode>
+    requires { at ≤ length text.now.tokens.now }
+    ensures read { Reads text.now.tokens.now at (λ x. ty_of x.0) (λ x. x.1) result (type_at NESTING_LIMIT (drop at text.now.tokens.now)) }
     ensures on { IfOk result (λ x. at < x.1) }
 {
-    type_node(alloc, tokens, at, NESTING_LIMIT)
+    type_node(text, at, NESTING_LIMIT)
 }
 
 /// The dots behind a comma that stands behind the types.
-fn written_end(
-    tokens: &[Token],
-    at: usize,
-    listing: Listing<TypeNode>,
-) -> Result<(Listing<TypeNode>, usize), ReadError>
+fn written_end(tokens: &[Token], at: usize, listing: Listing<TypeNode>) -> Read<Listing<TypeNode>>
     requires { at ≤ length tokens.now }
     ensures { Reads tokens.now at (λ x. listing_of ty_of x.0) (λ x. x.1) result
         (listing_end_at (unless Unsupported no_type (drop_value_at (take_one (is Dots)))) (listing_of ty_of listing) (drop at tokens.now)) }

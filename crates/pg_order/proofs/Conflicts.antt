@@ -1,13 +1,14 @@
 -- Two steps conflict exactly where they meet at a byte.
 use Rattle.std.proofs.Common.{◌≡◌, ℕ, ◌==◌, ◌+◌, Bool, true, false, Option, Some, None, refl, sym, ◌∙◌, arith}
 use Rattle.std.specs.Prelude.{◌&&◌, ◌||◌, not, max, nat_lt, nat_le}
-use Rattle.std.proofs.lemmas.Bool.{true≢false, eq-eqb, ne_eqb, ltb-true, leb-true, lt-ltb, le-leb, and_parts, and_from, not-true, not_from_false}
+use Rattle.std.proofs.lemmas.Bool.{true≢false, eq-eqb, ne_eqb, le-leb, and_parts, and_from, not-true, not_from_false}
 use Rattle.pg_num.specs.Places.{ByteRange}
 use Rattle.pg_plans.specs.Steps.{Conflict}
 use Rattle.pg_trace.specs.declared.step.Step.{Step}
 use Rattle.pg_trace.specs.declared.step.Access.{Access}
 use Rattle.pg_trace.specs.Steps.{access_of, range_of}
 use Rattle.pg_trace.specs.Races.{accesses_conflict, conflict, is_in, reads_in, share, steps_by, writes_in}
+use Rattle.pg_runs.proofs.Shares.{holds_share}
 
 -- both ranges hold the greater of their starts
 share_holds : (r s : ByteRange) → share r s ≡ true → (is_in r (max r.start s.start) ≡ true) × (is_in s (max r.start s.start) ≡ true)
@@ -16,18 +17,6 @@ share_holds r s h =
       and_from (nat_le r.start (max r.start s.start)) (nat_lt (max r.start s.start) (r.start + r.bytes)) (le-leb r.start (max r.start s.start) (omega arith)) p.0,
       and_from (nat_le s.start (max r.start s.start)) (nat_lt (max r.start s.start) (s.start + s.bytes)) (le-leb s.start (max r.start s.start) (omega arith)) p.1,
     )
-
--- two ranges that hold one byte share one
-holds_share : (r s : ByteRange) (b : ℕ) → is_in r b ≡ true → is_in s b ≡ true → share r s ≡ true
-holds_share r s b h k =
-    let p = and_parts (nat_le r.start b) (nat_lt b (r.start + r.bytes)) h in
-    let q = and_parts (nat_le s.start b) (nat_lt b (s.start + s.bytes)) k in
-    let a = leb-true r.start b p.0 in
-    let c = ltb-true b (r.start + r.bytes) p.1 in
-    let d = leb-true s.start b q.0 in
-    let e = ltb-true b (s.start + s.bytes) q.1 in
-    and_from (nat_lt (max r.start s.start) (r.start + r.bytes)) (nat_lt (max r.start s.start) (s.start + s.bytes))
-    (lt-ltb (max r.start s.start) (r.start + r.bytes) (omega (arith, a, c, d, e))) (lt-ltb (max r.start s.start) (s.start + s.bytes) (omega (arith, a, c, d, e)))
 
 -- the test of two accesses at one byte
 abbrev meet_in : Option Access → Option Access → ℕ → Bool

@@ -77,8 +77,11 @@ module _ (gated : List InstrId) where
   -- a run with these gates is ordered exactly where its steps are, read so
   pub order_gated : (T : List ℕ) (xs : List Step) → AreTurns (as_gated gated) T 0 xs → IsOrdered (as_gated gated) T xs → IsOrdered recorded T (map (with_gated gated) xs)
   order_gated T xs t o = ordered_as (as_gated gated) recorded IsGated (λ x y e. ap (λ (z : Step). z.thread.0) e) (λ x y e. ap (λ (z : Step). is_some (happening_in z.kind)) e)
-      (λ x x' y y' e f c. inl (meets x x' (subst (λ (z : Step). Conflict recorded (with_gated gated x) z) (sym f) (subst (λ (z : Step). Conflict recorded z y') (sym e) c)))) T xs (map (with_gated gated) xs) (paired xs) (turns_gated T 0 xs t) o
+      (λ x x' y y' e f c. inl (meets x x' (subst (λ (z : Step). Conflict recorded (with_gated gated x) z) (sym f) (subst (λ (z : Step). Conflict recorded z y') (sym e) c)))) T xs
+      (map (with_gated gated) xs) (paired xs) (turns_gated T 0 xs t) o
 
   pub order_read : (T : List ℕ) (xs : List Step) → AreTurns (as_gated gated) T 0 xs → IsOrdered recorded T (map (with_gated gated) xs) → IsOrdered (as_gated gated) T xs
-  order_read T xs t o = ordered_as recorded (as_gated gated) (λ y x. IsGated x y) (λ y x e. ap (λ (z : Step). z.thread.0) (sym e)) (λ y x e. ap (λ (z : Step). is_some (happening_in z.kind)) (sym e))
-      (λ y y' x x' e f c. inl (subst (λ (z : Step). Conflict recorded y z) f (subst (λ (z : Step). Conflict recorded z (with_gated gated x')) e (meets_back x x' c)))) T (map (with_gated gated) xs) xs (paired_back xs) t o
+  order_read T xs t o = ordered_as recorded (as_gated gated) (λ y x. IsGated x y) (λ y x e. ap (λ (z : Step). z.thread.0) (sym e))
+      (λ y x e. ap (λ (z : Step). is_some (happening_in z.kind)) (sym e))
+      (λ y y' x x' e f c. inl (subst (λ (z : Step). Conflict recorded y z) f (subst (λ (z : Step). Conflict recorded z (with_gated gated x')) e (meets_back x x' c)))) T
+      (map (with_gated gated) xs) xs (paired_back xs) t o

@@ -29,11 +29,14 @@ more_gates gated more xs h o =
     subst (λ (T : List ℕ). IsOrdered recorded T (map (with_gated more) xs)) (owners_gated more xs)
     (order_gated more (owners (as_gated more) xs) xs (own_turns (as_gated more) xs)
     (ordered_finer (as_gated gated) (as_gated more) finer (owners (as_gated gated) xs) (owners (as_gated more) xs) xs (own_turns (as_gated gated) xs) (own_turns (as_gated more) xs)
-    (either (times (as_gated gated) (owners (as_gated gated) xs) 0 xs) (order_read gated (owners (as_gated gated) xs) xs (own_turns (as_gated gated) xs) (subst (λ (T : List ℕ). IsOrdered recorded T (map (with_gated gated) xs)) (sym (owners_gated gated xs)) o)))))
+    (either (times (as_gated gated) (owners (as_gated gated) xs) 0 xs)
+    (order_read gated (owners (as_gated gated) xs) xs (own_turns (as_gated gated) xs)
+    (subst (λ (T : List ℕ). IsOrdered recorded T (map (with_gated gated) xs)) (sym (owners_gated gated xs)) o)))))
   where
     finer : IsFiner (as_gated gated) (as_gated more)
     finer = record { threads = λ x. refl; reads = λ x b. refl; writes = λ x b. refl; events = λ x e. event_grows (is_one_of gated x.instr.0) (is_one_of more x.instr.0) x.kind (h x.instr.0) e }
 
-    either : (ys : List (Timed Step)) → EachPair (λ x y. Conflict (as_gated gated) x.did y.did → AreOrdered x y) ys → EachPair (λ x y. Conflict (as_gated gated) x.did y.did → AreOrdered x y ⊎ ((gated_event more x.did ≡ true) × (gated_event more y.did ≡ true))) ys
+    either : (ys : List (Timed Step)) → EachPair (λ x y. Conflict (as_gated gated) x.did y.did → AreOrdered x y) ys
+        → EachPair (λ x y. Conflict (as_gated gated) x.did y.did → AreOrdered x y ⊎ ((gated_event more x.did ≡ true) × (gated_event more y.did ≡ true))) ys
     either [] k = tt
     either (y ∷ ys) k = (all_map (λ z f c. inl (f c)) ys k.0, either ys k.1)

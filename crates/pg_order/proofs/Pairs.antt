@@ -52,7 +52,8 @@ module _ (is_event : Step → Bool) where
   pairs_of_none xs j [] h a = subst (EachPair Settled) (sym (append-nil xs)) a
   pairs_of_none xs j (y ∷ ys) h a = go (position_from (λ x. is_unordered x y) 0 xs) refl (pairs_of_none (xs ++ y ∷ []) (j + 1) ys)
     where
-      go : (o : Option ℕ) → position_from (λ x. is_unordered x y) 0 xs ≡ o → (unordered_in (xs ++ y ∷ []) (j + 1) ys ≡ None → EachPair Settled (xs ++ y ∷ []) → EachPair Settled ((xs ++ y ∷ []) ++ ys)) → EachPair Settled (xs ++ y ∷ ys)
+      go : (o : Option ℕ) → position_from (λ x. is_unordered x y) 0 xs ≡ o
+          → (unordered_in (xs ++ y ∷ []) (j + 1) ys ≡ None → EachPair Settled (xs ++ y ∷ []) → EachPair Settled ((xs ++ y ∷ []) ++ ys)) → EachPair Settled (xs ++ y ∷ ys)
       go (Some i) e ih = let z = rw e at h in absurd (cc)
       go None e ih =
           let z = rw e at h in

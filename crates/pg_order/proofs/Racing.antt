@@ -1,5 +1,6 @@
 -- Two steps that conflict are ordered by what threads ask for, or both are events of the schedule of their trace.
-use Rattle.std.proofs.Common.{◌≡◌, ℕ, ◌+◌, ◌<◌, ◌⊎◌, Bool, true, false, List, [], ◌∷◌, ◌++◌, map, Option, Some, None, refl, sym, ap, ◌∙◌, subst, arith, zero, suc, inl, inr}
+use Rattle.std.proofs.Common.{◌≡◌, ℕ, ◌+◌, ◌<◌, ◌⊎◌, Bool, true, false, List, [], ◌∷◌, ◌++◌, map, Option, Some, None, refl, sym, ap, ◌∙◌, subst, arith}
+use Rattle.std.proofs.Common.{zero, suc, inl, inr}
 use Rattle.std.specs.Prelude.{◌==◌, ◌&&◌, ◌||◌, not, nat_lt, is_some, slice_get}
 use Rattle.std.specs.List.{AllByRecursion as AllOf, list_any, position_from}
 use Rattle.std.specs.Option.{option_to_list}
@@ -16,7 +17,8 @@ use Rattle.pg_trace.specs.declared.step.Step.{Step}
 use Rattle.pg_trace.specs.declared.step.StepKind.{StepKind}
 use Rattle.pg_trace.specs.declared.step.StepKind.TheVariants as kinds
 use Rattle.pg_trace.specs.declared.turn.Race.{Race}
-use Rattle.pg_trace.specs.Races.{accesses_conflict, asked, conflict, instrs_in, is_access, is_asked, is_one_of, is_racing, is_unordered, kind_gated, overlap, race_at, race_in, race_of, race_with, races_below, races_of, timed_by}
+use Rattle.pg_trace.specs.Races.{accesses_conflict, asked, conflict, instrs_in, is_access, is_asked, is_one_of, is_racing, is_unordered, kind_gated, overlap, race_at, race_in, race_of}
+use Rattle.pg_trace.specs.Races.{race_with, races_below, races_of, timed_by}
 use Rattle.pg_trace.specs.Steps.{access_in, access_of, happening_in}
 use Rattle.pg_order.proofs.Conflicts.{at_a_byte, in_conflict}
 use Rattle.pg_order.proofs.Gates.{as_gated, gated_event}
@@ -71,12 +73,16 @@ module _ (xs : List (Timed Step)) where
       plus_none : (n : ℕ) → 0 + n ≡ n
       plus_none n = omega arith
 
-  one_of_append : (rs ss : List Race) (id : ℕ) → is_one_of (map (λ (r : Race). r.instr) rs) id ≡ true ⊎ is_one_of (map (λ (r : Race). r.instr) ss) id ≡ true → is_one_of (map (λ (r : Race). r.instr) (rs ++ ss)) id ≡ true
+  one_of_append : (rs ss : List Race) (id : ℕ) → is_one_of (map (λ (r : Race). r.instr) rs) id ≡ true ⊎ is_one_of (map (λ (r : Race). r.instr) ss) id ≡ true
+      → is_one_of (map (λ (r : Race). r.instr) (rs ++ ss)) id ≡ true
   one_of_append [] ss id (inl h) = absurd (true≢false (sym h))
   one_of_append [] ss id (inr h) = h
   one_of_append (r ∷ rs) ss id h = go (r.instr.0 == id) refl (one_of_append rs ss id) h
     where
-      go : (b : Bool) → (r.instr.0 == id) ≡ b → (is_one_of (map (λ (r : Race). r.instr) rs) id ≡ true ⊎ is_one_of (map (λ (r : Race). r.instr) ss) id ≡ true → is_one_of (map (λ (r : Race). r.instr) (rs ++ ss)) id ≡ true) → is_one_of (map (λ (r : Race). r.instr) (r ∷ rs)) id ≡ true ⊎ is_one_of (map (λ (r : Race). r.instr) ss) id ≡ true → ((r.instr.0 == id) || is_one_of (map (λ (r : Race). r.instr) (rs ++ ss)) id) ≡ true
+      go : (b : Bool) → (r.instr.0 == id) ≡ b → (is_one_of (map (λ (r : Race). r.instr) rs) id ≡ true ⊎ is_one_of (map (λ (r : Race). r.instr) ss) id ≡ true
+          → is_one_of (map (λ (r : Race). r.instr) (rs ++ ss)) id ≡ true)
+          → is_one_of (map (λ (r : Race). r.instr) (r ∷ rs)) id ≡ true ⊎ is_one_of (map (λ (r : Race). r.instr) ss) id ≡ true
+          → ((r.instr.0 == id) || is_one_of (map (λ (r : Race). r.instr) (rs ++ ss)) id) ≡ true
       go true e more k = rw e refl
       go false e more (inl k) = rw e (more (inl (rw e at k)))
       go false e more (inr k) = rw e (more (inr k))
@@ -86,11 +92,13 @@ module _ (xs : List (Timed Step)) where
   gated_below zero id lt h = absurd (omega (arith, lt))
   gated_below (suc n) id lt h = one_of_append (races_below xs n) (option_to_list (race_in xs n)) id (go (gated_below n id) (cases_eq id n))
     where
-      go : (id < n → list_any (is_racing xs id) xs ≡ true → is_one_of (map (λ (r : Race). r.instr) (races_below xs n)) id ≡ true) → (id ≡ n) ⊎ (id ≡ n → ⊥) → (is_one_of (map (λ (r : Race). r.instr) (races_below xs n)) id ≡ true) ⊎ (is_one_of (map (λ (r : Race). r.instr) (option_to_list (race_in xs n))) id ≡ true)
+      go : (id < n → list_any (is_racing xs id) xs ≡ true → is_one_of (map (λ (r : Race). r.instr) (races_below xs n)) id ≡ true) → (id ≡ n) ⊎ (id ≡ n → ⊥)
+          → (is_one_of (map (λ (r : Race). r.instr) (races_below xs n)) id ≡ true) ⊎ (is_one_of (map (λ (r : Race). r.instr) (option_to_list (race_in xs n))) id ≡ true)
       go more (inr ne) = inl (more (omega (arith, lt, ne)) h)
       go more (inl e) =
           let k = race_there id h in
-          inr (subst (λ (o : Option Race). is_one_of (map (λ (r : Race). r.instr) (option_to_list o)) id ≡ true) (sym k.1 ∙ ap (race_in xs) e) (or_left (k.0.instr.0 == id) false (ap (λ (i : ℕ). i == id) k.2 ∙ same_as_itself id)))
+          inr (subst (λ (o : Option Race). is_one_of (map (λ (r : Race). r.instr) (option_to_list o)) id ≡ true) (sym k.1 ∙ ap (race_in xs) e)
+          (or_left (k.0.instr.0 == id) false (ap (λ (i : ℕ). i == id) k.2 ∙ same_as_itself id)))
 
 -- ---- two steps that conflict
 
@@ -142,7 +150,8 @@ overlap_turned x y h = let p = and_parts (not (nat_lt x.high y.low)) (not (nat_l
 unordered_turned : (x y : Timed Step) → is_unordered x y ≡ true → is_unordered y x ≡ true
 unordered_turned x y h =
     let p = and_parts (conflict x.did y.did) (overlap x y) h in
-    and_from (conflict y.did x.did) (overlap y x) (in_conflict (λ z. is_asked z.kind) y.did x.did (conflict_turned x.did y.did (at_a_byte (λ z. is_asked z.kind) x.did y.did p.0))) (overlap_turned x y p.1)
+    and_from (conflict y.did x.did) (overlap y x) (in_conflict (λ z. is_asked z.kind) y.did x.did (conflict_turned x.did y.did (at_a_byte (λ z. is_asked z.kind) x.did y.did p.0)))
+    (overlap_turned x y p.1)
 
 module _ (xs : List Step) where
   abbrev pub gates : List InstrId
@@ -152,29 +161,36 @@ module _ (xs : List Step) where
   listed = timed_by asked xs
 
   -- a step that races is an event of the schedule
-  racing_event : (x y : Timed Step) → IsIn x (timed_by asked xs) → IsIn y (timed_by asked xs) → is_unordered x y ≡ true → gated_event (map (λ (r : Race). r.instr) (races_of xs)) x.did ≡ true
-  racing_event x y i j u = go (accesses x.did.kind (conflict_access (access_of x.did) (access_of y.did) (and_parts (not (x.did.thread.0 == y.did.thread.0)) (accesses_conflict (access_of x.did) (access_of y.did)) (and_parts (conflict x.did y.did) (overlap x y) u).0).1).0)
+  racing_event : (x y : Timed Step) → IsIn x (timed_by asked xs) → IsIn y (timed_by asked xs) → is_unordered x y ≡ true
+      → gated_event (map (λ (r : Race). r.instr) (races_of xs)) x.did ≡ true
+  racing_event x y i j u = go (accesses x.did.kind
+      (conflict_access (access_of x.did) (access_of y.did) (and_parts (not (x.did.thread.0 == y.did.thread.0)) (accesses_conflict (access_of x.did) (access_of y.did))
+      (and_parts (conflict x.did y.did) (overlap x y) u).0).1).0)
     where
       bound : x.did.instr.0 < instrs_in xs
       bound = instr_below x.did xs (subst (IsIn x.did) (did_times asked (owners asked xs) 0 xs) (is_in_did x (timed_by asked xs) i))
 
       racing : is_access x.did.kind ≡ true → is_racing (timed_by asked xs) x.did.instr.0 x ≡ true
-      racing a = and_from (is_access x.did.kind && (x.did.instr.0 == x.did.instr.0)) (list_any (is_unordered x) (timed_by asked xs)) (and_from (is_access x.did.kind) (x.did.instr.0 == x.did.instr.0) a (same_as_itself x.did.instr.0)) (found (is_unordered x) y (timed_by asked xs) j u)
+      racing a = and_from (is_access x.did.kind && (x.did.instr.0 == x.did.instr.0)) (list_any (is_unordered x) (timed_by asked xs))
+          (and_from (is_access x.did.kind) (x.did.instr.0 == x.did.instr.0) a (same_as_itself x.did.instr.0)) (found (is_unordered x) y (timed_by asked xs) j u)
 
       go : (is_access x.did.kind ≡ true) ⊎ (is_asked x.did.kind ≡ true) → gated_event (map (λ (r : Race). r.instr) (races_of xs)) x.did ≡ true
       go (inr a) = asked_gated (is_one_of (map (λ (r : Race). r.instr) (races_of xs)) x.did.instr.0) x.did.kind a
       go (inl a) =
-          let g : is_one_of (map (λ (r : Race). r.instr) (races_of xs)) x.did.instr.0 ≡ true = gated_below (timed_by asked xs) (instrs_in xs) x.did.instr.0 bound (found (is_racing (timed_by asked xs) x.did.instr.0) x (timed_by asked xs) i (racing a)) in
+          let g : is_one_of (map (λ (r : Race). r.instr) (races_of xs)) x.did.instr.0 ≡ true =
+          gated_below (timed_by asked xs) (instrs_in xs) x.did.instr.0 bound (found (is_racing (timed_by asked xs) x.did.instr.0) x (timed_by asked xs) i (racing a)) in
           ap (λ (b : Bool). is_some (happening_in (kind_gated b x.did.kind))) g ∙ access_gated x.did.kind a
 
   Settles : Timed Step → Timed Step → Type 0
-  Settles x y = Conflict asked x.did y.did → AreOrdered x y ⊎ ((gated_event (map (λ (r : Race). r.instr) (races_of xs)) x.did ≡ true) × (gated_event (map (λ (r : Race). r.instr) (races_of xs)) y.did ≡ true))
+  Settles x y = Conflict asked x.did y.did
+      → AreOrdered x y ⊎ ((gated_event (map (λ (r : Race). r.instr) (races_of xs)) x.did ≡ true) × (gated_event (map (λ (r : Race). r.instr) (races_of xs)) y.did ≡ true))
 
   settles : (x y : Timed Step) → IsIn x (timed_by asked xs) → IsIn y (timed_by asked xs) → Settles x y
   unfolding Settles
   settles x y i j c = go (is_unordered x y) refl
     where
-      go : (b : Bool) → is_unordered x y ≡ b → AreOrdered x y ⊎ ((gated_event (map (λ (r : Race). r.instr) (races_of xs)) x.did ≡ true) × (gated_event (map (λ (r : Race). r.instr) (races_of xs)) y.did ≡ true))
+      go : (b : Bool) → is_unordered x y ≡ b → AreOrdered x y ⊎
+          ((gated_event (map (λ (r : Race). r.instr) (races_of xs)) x.did ≡ true) × (gated_event (map (λ (r : Race). r.instr) (races_of xs)) y.did ≡ true))
       go false u = inl (settled_of (λ z. is_asked z.kind) x y u c)
       go true u = inr (racing_event x y i j u, racing_event y x j i (unordered_turned x y u))
 

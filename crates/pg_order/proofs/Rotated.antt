@@ -25,7 +25,8 @@ dead_end : (p : NumberedProgram) (s : State) (v : ℤ) → deadlock_of p s ≡ e
 unfolding deadlock_of
 dead_end p s v e = absurd cc
 
-chosen_by : (p : NumberedProgram) (q : ℕ) (s : State) (u : Share) (e : Outcome) (v : ℤ) → chosen p q s u ≡ Err e → e ≡ ends.Exit v → (sync.over s.sync ≡ true) × (v ≡ exit_value_of s)
+chosen_by : (p : NumberedProgram) (q : ℕ) (s : State) (u : Share) (e : Outcome) (v : ℤ) → chosen p q s u ≡ Err e → e ≡ ends.Exit v
+    → (sync.over s.sync ≡ true) × (v ≡ exit_value_of s)
 unfolding chosen
 chosen_by p q s u e v c h = go (sync.over s.sync) refl c
   where
@@ -36,7 +37,8 @@ chosen_by p q s u e v c h = go (sync.over s.sync) refl c
     dead None k = dead_end p s v (err_same (deadlock_of p s) e k ∙ h)
     dead (Some w) k = absurd cc
 
-    go : (b : Bool) → sync.over s.sync ≡ b → (if sync.over s.sync then Err (exit_of s) else or_deadlock p s (next_share p q s u)) ≡ Err e → (sync.over s.sync ≡ true) × (v ≡ exit_value_of s)
+    go : (b : Bool) → sync.over s.sync ≡ b → (if sync.over s.sync then Err (exit_of s) else or_deadlock p s (next_share p q s u)) ≡ Err e
+        → (sync.over s.sync ≡ true) × (v ≡ exit_value_of s)
     go true o k = (o, sym (exit_same (exit_value_of s) v (err_same (exit_of s) e (rw o at k) ∙ h)))
     go false o k = absurd (dead (next_share p q s u) (rw o at k))
 
@@ -58,11 +60,13 @@ run_exits (suc n) p input q s u = go (λ t w. run_exits n p input q t w) (chosen
         let r = more t (record { thread = v.thread; left = v.left - 1 }) in
         record { short = let k = r.short in omega (arith, k); over = r.over }
 
-    go : ((t : State) (w : Share) → Exits n (run n p input q t w)) → (o : Result Share Outcome) → chosen p q s u ≡ o → Exits (suc n) (on_chosen s o (λ v. on_step s v (step [] p input s v.thread.0) (λ t w. run n p input q t w)))
+    go : ((t : State) (w : Share) → Exits n (run n p input q t w)) → (o : Result Share Outcome) → chosen p q s u ≡ o
+        → Exits (suc n) (on_chosen s o (λ v. on_step s v (step [] p input s v.thread.0) (λ t w. run n p input q t w)))
     go more (Err e) c = stops p q (suc n) s u e c
     go more (Ok v) c = stepped more v (step [] p input s v.thread.0)
 
-pub rotation_recorded : (p : NumberedProgram) (input : List ℤ) (q : ℕ) (v : ℤ) → (rotation_of p input q).end ≡ ends.Exit v → IsRecorded p input (rotation_of p input q).trace (rotation_of p input q).state × (v ≡ exit_value_of (rotation_of p input q).state)
+pub rotation_recorded : (p : NumberedProgram) (input : List ℤ) (q : ℕ) (v : ℤ) → (rotation_of p input q).end ≡ ends.Exit v
+    → IsRecorded p input (rotation_of p input q).trace (rotation_of p input q).state × (v ≡ exit_value_of (rotation_of p input q).state)
 unfolding rotation_of
 rotation_recorded p input q v e =
     let r = run_exits RECORDING_STEP_LIMIT p input q (initial p) (first_share q) in

@@ -37,7 +37,8 @@ use Rattle.pg_runs.proofs.Permitted as law
 use Rattle.pg_order.specs.Schedules.{GuidesAs, IsOrderedUpTo, along}
 use Rattle.pg_order.proofs.Gates.{as_gated, order_gated, owners_gated}
 use Rattle.pg_order.proofs.Racing.{races_order}
-use Rattle.pg_order.proofs.Strays.{StuckAt, guided_strays, strays_late}
+use Rattle.pg_order.proofs.Strays.{strays_late}
+use Rattle.pg_runs.proofs.Stuck.{StuckAt, guided_strays}
 use Rattle.pg_order.proofs.Turns.{owners_events}
 
 -- ---- the steps with the gates of their races
@@ -52,7 +53,8 @@ marked_is b kinds.Other = refl
 gates_are : (gated : List InstrId) (xs : List Step) → map (with_gates gated) xs ≡ map (with_gated gated) xs
 gates_are gated [] = refl
 gates_are gated (x ∷ xs) =
-    ap (λ (k : StepKind). record x { kind = k } ∷ map (with_gates gated) xs) (marked_is (is_one_of gated x.instr.0) x.kind) ∙ ap (λ (l : List Step). with_gated gated x ∷ l) (gates_are gated xs)
+    ap (λ (k : StepKind). record x { kind = k } ∷ map (with_gates gated) xs) (marked_is (is_one_of gated x.instr.0) x.kind)
+    ∙ ap (λ (l : List Step). with_gated gated x ∷ l) (gates_are gated xs)
 
 module _ (p : NumberedProgram) (input : List ℤ) (can : CanRun p input) (xs : List Step) (z : State) (h : IsRecorded p input xs z) where
   abbrev gates : List InstrId
@@ -75,21 +77,25 @@ module _ (p : NumberedProgram) (input : List ℤ) (can : CanRun p input) (xs : L
       omega (arith, a, b, c)
 
   ordered : IsOrderedAlong turns told
-  ordered = subst (λ (T : List ℕ). IsOrdered recorded T told) (owners_gated gates xs ∙ owners_events told) (order_gated gates (owners (as_gated gates) xs) xs (own_turns (as_gated gates) xs) (races_order xs))
+  ordered = subst (λ (T : List ℕ). IsOrdered recorded T told) (owners_gated gates xs ∙ owners_events told)
+      (order_gated gates (owners (as_gated gates) xs) xs (own_turns (as_gated gates) xs) (races_order xs))
 
   pub up_to : IsOrderedUpTo p input (schedule_of xs) xs z
   up_to =
       let s = last.shared p input turns gates can told z run refl budget ordered in record {
         last = (last.kept_run p input turns gates can told z run refl budget ordered).state;
-        ordered = subst (λ (l : List Step). IsOrderedFull p input turns gates l (last.kept_run p input turns gates can told z run refl budget ordered).state) (last.steps_are p input turns gates can told z run refl budget ordered) (last.is_ordered_full p input turns gates can told z run refl budget ordered);
+        ordered = subst (λ (l : List Step). IsOrderedFull p input turns gates l (last.kept_run p input turns gates can told z run refl budget ordered).state)
+            (last.steps_are p input turns gates can told z run refl budget ordered) (last.is_ordered_full p input turns gates can told z run refl budget ordered);
         over = ap (λ (q : Shared). sync.over q.objects.sync) s ∙ h.over;
         printed = ap (λ (q : Shared). q.printed) s;
-        value = ap (λ (n : ℕ). Rattle.pg_num.specs.Numbers.signed Rattle.pg_num.specs.declared.width.Width.TheVariants.W32 (Rattle.pg_num.specs.Numbers.truncated Rattle.pg_num.specs.declared.width.Width.TheVariants.W32 n)) (last.value p input turns gates can told z run refl budget ordered);
+        value = ap (λ (n : ℕ). Rattle.pg_num.specs.Numbers.signed Rattle.pg_num.specs.declared.width.Width.TheVariants.W32
+            (Rattle.pg_num.specs.Numbers.truncated Rattle.pg_num.specs.declared.width.Width.TheVariants.W32 n)) (last.value p input turns gates can told z run refl budget ordered);
       }
 
 -- ---- the guided run along turns of which an ordered full run has all, and is over
 
-module _ (p : NumberedProgram) (input : List ℤ) (turns : List Turn) (gated : List InstrId) (can : CanRun p input) (full : List Step) (w : State) (o : IsOrderedFull p input turns gated full w) (over : sync.over w.sync ≡ true) (none : turns_left turns full ≡ []) where
+module _ (p : NumberedProgram) (input : List ℤ) (turns : List Turn) (gated : List InstrId) (can : CanRun p input) (full : List Step) (w : State) (o : IsOrderedFull p input turns gated full w)
+    (over : sync.over w.sync ≡ true) (none : turns_left turns full ≡ []) where
   exits : full_end p turns full w ≡ ends.Exit (exit_value_of w)
   exits = ap (end_before p full w) none ∙ ap (λ (b : Bool). if b then ends.Exit (exit_value_of w) else ends.Strayed) over
 
@@ -129,7 +135,8 @@ module _ (p : NumberedProgram) (input : List ℤ) (turns : List Turn) (gated : L
       by (u ∷ us) q s = let k : Path (List Turn) (u ∷ us) [] = sym q ∙ none_after in absurd cc
       by [] q s =
           let h : IsPermitted p input turns gated (guided_of p input turns gated).trace (guided_of p input turns gated).state = guided_permitted p input turns gated in
-          let f : IsFull gated p turns (guided_of p input turns gated).trace (guided_of p input turns gated).state = subst (IsHeldBy gated p (guided_of p input turns gated).trace (guided_of p input turns gated).state) (sym (left_none h)) tt in
+          let f : IsFull gated p turns (guided_of p input turns gated).trace (guided_of p input turns gated).state =
+          subst (IsHeldBy gated p (guided_of p input turns gated).trace (guided_of p input turns gated).state) (sym (left_none h)) tt in
           let same = (law.ends p input turns gated can full w o (guided_of p input turns gated).trace (guided_of p input turns gated).state h f).state in
           let k : true ≡ false = sym over ∙ ap (λ (v : State). sync.over v.sync) (sym same) ∙ s in absurd cc
         where
@@ -141,14 +148,16 @@ module _ (p : NumberedProgram) (input : List ℤ) (turns : List Turn) (gated : L
 
           left_none : IsPermitted p input turns gated (guided_of p input turns gated).trace (guided_of p input turns gated).state → turns_left turns (guided_of p input turns gated).trace ≡ []
           left_none h =
-              let e : events (guided_of p input turns gated).trace ≡ turns = (guided_is p input turns gated).1 ∙ take_all (guided_of p input turns gated).turns turns (let a = late in let b = all in omega (arith, a, b)) in
+              let e : events (guided_of p input turns gated).trace ≡ turns =
+              (guided_is p input turns gated).1 ∙ take_all (guided_of p input turns gated).turns turns (let a = late in let b = all in omega (arith, a, b)) in
               ap (λ (l : List Turn). drop (length l) turns) e ∙ last.drop_all turns
 
   pub guided_ends : (guided_of p input turns gated).end ≡ ends.Exit (exit_value_of w)
   guided_ends = whole stays
 
   pub guided_as : EndsAs p input turns full w (guided_of p input turns gated).trace (guided_of p input turns gated).state
-  guided_as = law.ends p input turns gated can full w o (guided_of p input turns gated).trace (guided_of p input turns gated).state (guided_permitted p input turns gated) (guided_full (exit_value_of w) guided_ends)
+  guided_as = law.ends p input turns gated can full w o (guided_of p input turns gated).trace (guided_of p input turns gated).state (guided_permitted p input turns gated)
+      (guided_full (exit_value_of w) guided_ends)
 
   pub guided_ordered : IsOrderedFull p input turns gated (guided_of p input turns gated).trace (guided_of p input turns gated).state
   guided_ordered = record {
@@ -175,6 +184,7 @@ guides_as p input can xs z h =
     none_left : (u : IsOrderedUpTo p input (schedule_of xs) xs z) → turns_left (schedule_of xs).turns (along (schedule_of xs) xs) ≡ []
     none_left u = go (turns_left (schedule_of xs).turns (along (schedule_of xs) xs)) refl u.ordered.is_full
       where
-        go : (us : List Turn) → turns_left (schedule_of xs).turns (along (schedule_of xs) xs) ≡ us → IsHeldBy (schedule_of xs).gated p (along (schedule_of xs) xs) u.last us → turns_left (schedule_of xs).turns (along (schedule_of xs) xs) ≡ []
+        go : (us : List Turn) → turns_left (schedule_of xs).turns (along (schedule_of xs) xs) ≡ us → IsHeldBy (schedule_of xs).gated p (along (schedule_of xs) xs) u.last us
+            → turns_left (schedule_of xs).turns (along (schedule_of xs) xs) ≡ []
         go [] q k = q
         go (v ∷ us) q k = let n : true ≡ false = sym u.over ∙ k.going in absurd cc

@@ -44,7 +44,8 @@ exited_by r xs printed value h = go (nat_lt RECORDING_STEP_LIMIT (length r.trace
     go true q = absurd cc
     go false q = by_end r r.end xs printed value refl q
 
-pub exited : (p : NumberedProgram) (input : List ℤ) (turns : List Turn) (gated : List InstrId) (xs : List Step) (printed : List ℕ) (value : ℤ) → following_of p input turns gated ≡ Exits xs printed value → Exited (guided_of p input turns gated) xs
+pub exited : (p : NumberedProgram) (input : List ℤ) (turns : List Turn) (gated : List InstrId) (xs : List Step) (printed : List ℕ) (value : ℤ)
+    → following_of p input turns gated ≡ Exits xs printed value → Exited (guided_of p input turns gated) xs
 unfolding following_of
 exited p input turns gated xs printed value h = exited_by (guided_of p input turns gated) xs printed value h
 
@@ -65,7 +66,8 @@ none_left : (p : NumberedProgram) (xs : List Step) (s : State) (us : List Turn) 
 none_left p xs s [] value e = (refl, over_after s value e)
 none_left p xs s (u ∷ us) value e = go (has_spent xs u.thread.0) e
   where
-    go : (b : Bool) → (if b then ends.Budget u.thread else trapped s u.thread.0 (trap_of s u.thread.0 (next_of p s u.thread.0))) ≡ ends.Exit value → (u ∷ us ≡ []) × (sync.over s.sync ≡ true)
+    go : (b : Bool) → (if b then ends.Budget u.thread else trapped s u.thread.0 (trap_of s u.thread.0 (next_of p s u.thread.0))) ≡ ends.Exit value
+        → (u ∷ us ≡ []) × (sync.over s.sync ≡ true)
     go true k = absurd cc
     go false k = no_exit s u.thread.0 (trap_of s u.thread.0 (next_of p s u.thread.0)) value k ((u ∷ us ≡ []) × (sync.over s.sync ≡ true))
 
@@ -79,13 +81,15 @@ all_done p input turns gated xs h =
 pub all_turns : (p : NumberedProgram) (input : List ℤ) (turns : List Turn) (gated : List InstrId) (xs : List Step) → Exited (guided_of p input turns gated) xs → events xs ≡ turns
 all_turns p input turns gated xs h =
     let g = guided_of p input turns gated in
-    ap events (sym h.steps) ∙ sym (append-nil (events g.trace)) ∙ ap (λ (l : List Turn). events g.trace ++ l) (sym (all_done p input turns gated xs h).0) ∙ (guided_permitted p input turns gated).in_order
+    ap events (sym h.steps) ∙ sym (append-nil (events g.trace)) ∙ ap (λ (l : List Turn). events g.trace ++ l) (sym (all_done p input turns gated xs h).0)
+    ∙ (guided_permitted p input turns gated).in_order
 
 -- the owners of its events
 pub owners_events : (xs : List Step) → owners recorded xs ≡ owners_of (events xs)
 owners_events [] = refl
 owners_events (x ∷ xs) = go (happening_in x.kind) refl (owners_events xs)
   where
-    go : (o : Option Happening) → happening_in x.kind ≡ o → owners recorded xs ≡ owners_of (events xs) → cond (is_some (happening_in x.kind)) (x.thread.0 ∷ owners recorded xs) (owners recorded xs) ≡ owners_of (events (x ∷ xs))
+    go : (o : Option Happening) → happening_in x.kind ≡ o → owners recorded xs ≡ owners_of (events xs)
+        → cond (is_some (happening_in x.kind)) (x.thread.0 ∷ owners recorded xs) (owners recorded xs) ≡ owners_of (events (x ∷ xs))
     go None e ih = rw e ih
     go (Some h) e ih = rw e (ap (λ (l : List ℕ). x.thread.0 ∷ l) ih)

@@ -31,7 +31,8 @@ pub record IsGoodRun (p : NumberedProgram) (input : List ℤ) (s : Schedule) : T
   -- it is ordered
   pub ordered : IsOrderedAlong s.turns (run_along p input s).trace
   -- where it ends by a trap, the owner of the next turn traps by itself, and by no check on the objects
-  pub objects : (next : Turn) (later : List Turn) (name : TrapName) (id : InstrId) → turns_left s.turns (run_along p input s).trace ≡ next ∷ later → (run_along p input s).end ≡ ends.Trap name id →
+  pub objects : (next : Turn) (later : List Turn) (name : TrapName) (id : InstrId) → turns_left s.turns (run_along p input s).trace ≡ next ∷ later
+      → (run_along p input s).end ≡ ends.Trap name id →
       next_of p (run_along p input s).state next.thread.0 ≡ actions.Trap name
   -- each turn that it does returned its number of the schedule's replies
   pub replies : IsFrontOf (replies_of (run_along p input s).trace) s.replies

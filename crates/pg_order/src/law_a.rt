@@ -37,9 +37,11 @@ pub fn a_permitted_run_goes_on()
 /// doesn't trap and it has steps left.
 pub fn the_owner_of_the_next_turn_can_step()
     ensures performed { (p : NumberedProgram) (input : List ℤ) (turns later : List Turn) (next : Turn) (gated : List InstrId) (full xs : List Step) (w z : State) → CanRun p input
-        → IsOrderedFull p input turns gated full w → IsPermitted p input turns gated xs z → turns_left turns xs ≡ next ∷ later → length (events xs) < length (events full) → CanStep p input turns gated xs next.thread.0 }
+        → IsOrderedFull p input turns gated full w → IsPermitted p input turns gated xs z → turns_left turns xs ≡ next ∷ later → length (events xs) < length (events full)
+        → CanStep p input turns gated xs next.thread.0 }
     ensures free { (p : NumberedProgram) (input : List ℤ) (turns later : List Turn) (next : Turn) (gated : List InstrId) (full xs : List Step) (w z : State) → CanRun p input
-        → IsOrderedFull p input turns gated full w → IsPermitted p input turns gated xs z → turns_left turns xs ≡ next ∷ later → traps p z next.thread.0 ≡ false → has_spent xs next.thread.0 ≡ false → CanStep p input turns gated xs next.thread.0 }
+        → IsOrderedFull p input turns gated full w → IsPermitted p input turns gated xs z → turns_left turns xs ≡ next ∷ later → traps p z next.thread.0 ≡ false
+        → has_spent xs next.thread.0 ≡ false → CanStep p input turns gated xs next.thread.0 }
 {}
 
 /// A full permitted run ends as the ordered one: with the same state, and so with the same output, with the same events

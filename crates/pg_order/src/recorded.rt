@@ -17,7 +17,8 @@ use pg_machine::Outcome;
 /// Steps that are ordered along their events stay ordered where more loads and stores are events.
 pub fn more_gates_keep_the_order()
     ensures { (gated more : List InstrId) (xs : List Step) → ((i : ℕ) → is_one_of gated i ≡ true → is_one_of more i ≡ true)
-        → IsOrdered recorded (owners recorded (map (with_gated gated) xs)) (map (with_gated gated) xs) → IsOrdered recorded (owners recorded (map (with_gated more) xs)) (map (with_gated more) xs) }
+        → IsOrdered recorded (owners recorded (map (with_gated gated) xs)) (map (with_gated gated) xs)
+        → IsOrdered recorded (owners recorded (map (with_gated more) xs)) (map (with_gated more) xs) }
 {}
 
 /// A run that exits is, up to each thread's last turn, an ordered full run along the schedule of its trace, and that
@@ -34,7 +35,8 @@ pub fn the_schedule_of_a_recorded_run_is_good()
 
 /// A rotation run that exits is such a run.
 pub fn the_schedule_of_a_rotation_run_is_good()
-    ensures recorded { (p : NumberedProgram) (input : List ℤ) (q : ℕ) (value : ℤ) → (rotation_of p input q).end ≡ Outcome.Exit value → IsRecorded p input (rotation_of p input q).trace (rotation_of p input q).state × (value ≡ exit_value_of (rotation_of p input q).state) }
+    ensures recorded { (p : NumberedProgram) (input : List ℤ) (q : ℕ) (value : ℤ) → (rotation_of p input q).end ≡ Outcome.Exit value
+        → IsRecorded p input (rotation_of p input q).trace (rotation_of p input q).state × (value ≡ exit_value_of (rotation_of p input q).state) }
     ensures good { (p : NumberedProgram) (input : List ℤ) (q : ℕ) (value : ℤ) → CanRun p input → (rotation_of p input q).end ≡ Outcome.Exit value
         → GuidesAs p input (schedule_of (rotation_of p input q).trace) (rotation_of p input q).trace (rotation_of p input q).state }
 {}

@@ -1,9 +1,9 @@
 -- Along a run, where all decisions are taken, what is known is like what the machine has, on the run's own input.
-use Rattle.std.proofs.Common.{◌≡◌, ◌≢◌, ℕ, ◌⊎◌, ◌<◌, ◌^◌, ◌==◌, ◌-◌, ◌++◌, suc, Bool, true, false, List, [], ◌∷◌, length, Option, Some, None, refl, sym, ap, ◌∙◌, subst, inl, inr}
+use Rattle.std.proofs.Common.{◌≡◌, ◌≢◌, ℕ, ◌⊎◌, ◌<◌, ◌^◌, ◌==◌, ◌-◌, ◌++◌, suc, Bool, true, false, List, [], ◌∷◌, length, Option, Some, None}
+use Rattle.std.proofs.Common.{refl, sym, ap, ◌∙◌, subst, inl, inr}
 use Rattle.std.specs.Prelude.{nat_lt, is_some, slice_get, if◌then◌else◌}
 use Rattle.std.specs.List.{AllByRecursion as AllOf, list_any}
 use Rattle.std.proofs.lemmas.Bool.{cases_eq, eq-eqb, ne_eqb, true≢false}
-use Rattle.std.proofs.lemmas.Option.{slice_get_within}
 use Rattle.pg_num.specs.declared.layout.TheConstants.{MEMORY_BYTES}
 use Rattle.pg_ir.specs.WellFormed.{IsProgram}
 use Rattle.pg_mem.specs.Memory.{byte_at}
@@ -20,7 +20,7 @@ use Rattle.pg_machine.specs.State.{State, initial}
 use Rattle.pg_effects.specs.Effect as effects
 use Rattle.pg_effects.specs.Effect.{effect_of}
 use Rattle.pg_effects.specs.Reached.{IsReached}
-use Rattle.pg_effects.specs.Views.{LeadsTo, begun_in, cell_at, cell_written, is_thread, local_at, objects_of}
+use Rattle.pg_effects.specs.Views.{LeadsTo, cell_at, cell_written, is_thread, local_at, objects_of}
 use Rattle.pg_effects.proofs.Reaches.{reached_first, reached_step}
 use Rattle.pg_effects.proofs.Seen.{leads_to}
 use Rattle.pg_closed.specs.Closed.{admits}
@@ -31,7 +31,6 @@ use Rattle.pg_closed.specs.Rules.{asks_frames, asks_values, has_region, prints_i
 use Rattle.pg_least.specs.Keeps.{every}
 use Rattle.pg_least.proofs.Closes.{all_closed}
 use Rattle.pg_units.specs.Likes.{IsCellLike, IsLike, StandLike, like}
-use Rattle.pg_units.proofs.Likes.{valued_like}
 use Rattle.pg_units.specs.Moves.{deed_moved}
 use Rattle.pg_units.specs.Units.{PlanUnit, ReferenceRun, access_touch, behind, cell_known, deed_of, is_instance, is_written_in, reference_of, standing_of, turns_of, word_written, writes_cell}
 use Rattle.pg_units.proofs.Along.{IsMet, IsUnit, behind_is}
@@ -41,7 +40,7 @@ use Rattle.pg_units.proofs.Dispatch.{both_fits}
 use Rattle.pg_units.proofs.Good.{IsGood}
 use Rattle.pg_units.proofs.Made.{AreFresh, first_fresh, fresh_kept, others_kept}
 use Rattle.pg_units.proofs.Opened.{Beginning, Both, opened}
-use Rattle.pg_units.proofs.Remembered.{no_if, thread_is, yes_if}
+use Rattle.pg_units.proofs.Remembered.{begun_there, no_if, some_there, thread_is, yes_if}
 use Rattle.pg_units.proofs.Settled.{none_asked}
 use Rattle.pg_units.proofs.Starts.{start_fits}
 use Rattle.pg_units.proofs.Worded.{first_words}
@@ -53,17 +52,6 @@ use Rattle.pg_own_input.proofs.Steps.{good_both, good_start, none_bound}
 old_as : (o : Option ℕ) (n : ℕ) → plans.or_old o n ≡ effects.or_old o n
 old_as None n = refl
 old_as (Some m) n = refl
-
-begun_there : (o : Option LocalState) (l : LocalState) → begun_in o ≡ Some l → is_some o ≡ true
-begun_there None l e = absurd cc
-begun_there (Some k) l e = refl
-
-some_there : (ls : List LocalState) (u : ℕ) → is_some (slice_get ls u) ≡ true → u < length ls
-some_there ls u h = go (slice_get ls u) refl h
-  where
-    go : (o : Option LocalState) → slice_get ls u ≡ o → is_some o ≡ true → u < length ls
-    go None e k = absurd (true≢false (sym k))
-    go (Some l) e k = slice_get_within ls u l e
 
 -- all decisions leave no step out
 live_always : (es : List Extent) → is_live every.pinned es ≡ true
@@ -80,7 +68,13 @@ pub record IsTrue (r : ReferenceRun) (known : RunShadow) (s : State) : Type 0 wh
 
 -- step n, with what is known before it
 abbrev pub seen_at : ReferenceRun → ℕ → Moment → RunShadow → Seen
-seen_at r n m known = record { number = n; moment = m; region = region_of r.program r.regions m (instr_in r.program m); live = is_live every.pinned (thread_of known (thread_in m)).extents; before = known }
+seen_at r n m known = record {
+  number = n;
+  moment = m;
+  region = region_of r.program r.regions m (instr_in r.program m);
+  live = is_live every.pinned (thread_of known (thread_in m)).extents;
+  before = known;
+}
 
 -- nothing is unknown that a step asks for
 abbrev pub AsksNothing : ReferenceRun → Seen → Type 0
@@ -138,9 +132,12 @@ module _ (r : ReferenceRun) (program : IsProgram r.program) (small : length r.in
       fits : Fits (like r.input) (deed_of every u) (deed_moved r.program r.input s moves m.did.did)
       fits = go begins
         where
-          go : Both r.program r.input (thread_in m) s s (thread_of known (thread_in m)).calls ⊎ Beginning r.program (thread_in m) s s → Fits (like r.input) (deed_of every u) (deed_moved r.program r.input s moves m.did.did)
-          go (inl b) = both_fits r every r.input program small u s moves m.did.did (record { unit = unit; plain = single; reached = holds.reached; takes = h; own = refl; both = b; units = refl }) good (λ e. refl) holds.words (λ c e. holds.cells c)
-          go (inr b) = start_fits r every r.input u unit single s moves m.did.did holds.reached h refl refl (λ e. refl) holds.words (λ c e. holds.cells c) b (holds.started.fresh_calls (thread_in m) b.function b.first)
+          go : Both r.program r.input (thread_in m) s s (thread_of known (thread_in m)).calls ⊎ Beginning r.program (thread_in m) s s
+              → Fits (like r.input) (deed_of every u) (deed_moved r.program r.input s moves m.did.did)
+          go (inl b) = both_fits r every r.input program small u s moves m.did.did
+              (record { unit = unit; plain = single; reached = holds.reached; takes = h; own = refl; both = b; units = refl }) good (λ e. refl) holds.words (λ c e. holds.cells c)
+          go (inr b) = start_fits r every r.input u unit single s moves m.did.did holds.reached h refl refl (λ e. refl) holds.words (λ c e. holds.cells c) b
+              (holds.started.fresh_calls (thread_in m) b.function b.first)
 
       -- ---- what is known behind it
 
@@ -156,7 +153,8 @@ module _ (r : ReferenceRun) (program : IsProgram r.program) (small : length r.in
       own_stands : StandLike r.input (standing_of (local_at h.after (thread_in m)) (thread_of after (thread_in m)).calls) (local_at h.after (thread_in m))
       own_stands = subst (StandLike r.input (standing_of (local_at h.after (thread_in m)) (thread_of after (thread_in m)).calls))
           (sym (local_is (thread_in m) ∙ yes_if (thread_in m == thread_in m) _ _ (eq-eqb (thread_in m) (thread_in m) refl)))
-          (subst (λ (z : State). StandLike r.input (standing_of (local_at z (thread_in m)) (thread_of after (thread_in m)).calls) (effect_of r.program r.input s (thread_in m)).local) (behind_is r every s m.did.did h) fits.to.stands)
+          (subst (λ (z : State). StandLike r.input (standing_of (local_at z (thread_in m)) (thread_of after (thread_in m)).calls) (effect_of r.program r.input s (thread_in m)).local)
+          (behind_is r every s m.did.did h) fits.to.stands)
 
       other_local : (v : ℕ) → v ≢ thread_in m → local_at h.after v ≡ local_at s v
       other_local v w = local_is v ∙ no_if (v == thread_in m) _ _ (ne_eqb v (thread_in m) w)
@@ -174,7 +172,8 @@ module _ (r : ReferenceRun) (program : IsProgram r.program) (small : length r.in
       by_thread v (inr w) = other_stands v w
 
       single_writes : (c : ℕ) → writes_cell every x c ≡ may_write r.program every n m x.region known m.did.did.kind c
-      single_writes c = ap (λ (b : Bool). if nat_lt c MEMORY_BYTES then list_any (λ g. is_written_in g c) (access_touch every n (access_in m.did.did.kind) ++ (if b then prints_in x.region else [])) else is_thread (word_written (thread_in m) m.did.did.kind) (c - MEMORY_BYTES)) single
+      single_writes c = ap (λ (b : Bool). if nat_lt c MEMORY_BYTES then list_any (λ g. is_written_in g c)
+          (access_touch every n (access_in m.did.did.kind) ++ (if b then prints_in x.region else [])) else is_thread (word_written (thread_in m) m.did.did.kind) (c - MEMORY_BYTES)) single
 
       known_is : (c : ℕ) (b : Bool) → writes_cell every x c ≡ b → plans.or_old (if b then Some (cell_known after c) else None) (cell_known known c) ≡ cell_known after c
       known_is c true e = refl
@@ -199,7 +198,8 @@ module _ (r : ReferenceRun) (program : IsProgram r.program) (small : length r.in
   -- ---- the run
 
   -- what holds of each step where what is known is true holds along the run
-  along : (P : Seen → Type 0) → ((n : ℕ) (m : Moment) (known : RunShadow) (s : State) → Takes r.gated r.program r.input s m.did.did → IsTrue r known s → m.calls ≡ calls_of (slice_get s.locals (thread_in m)) → m.bytes ≡ byte_at s.memory → AsksNothing r (seen_at r n m known) → P (seen_at r n m known)) →
+  along : (P : Seen → Type 0) → ((n : ℕ) (m : Moment) (known : RunShadow) (s : State) → Takes r.gated r.program r.input s m.did.did → IsTrue r known s
+      → m.calls ≡ calls_of (slice_get s.locals (thread_in m)) → m.bytes ≡ byte_at s.memory → AsksNothing r (seen_at r n m known) → P (seen_at r n m known)) →
       (T : List ℕ) (k n : ℕ) (known : RunShadow) (s z : State) (xs : List Step) → IsRun r.gated r.program r.input s xs z → IsTrue r known s →
       AllOf (AsksNothing r) (seen_from (reference_of r) every n known (moments_from r.gated r.program r.input s (times recorded T k xs))) →
       AllOf P (seen_from (reference_of r) every n known (moments_from r.gated r.program r.input s (times recorded T k xs)))
@@ -230,13 +230,16 @@ module _ (r : ReferenceRun) (o : IsRecorded r) where
   asks_nothing =
       let R = reference_of r in
       let closed = all_closed R in
-      both_of (λ (x : Seen). asks_values R every x ≡ []) (λ (x : Seen). asks_frames R x ≡ []) (seen_in R every) (none_asked (asks_values R every) (seen_in R every) closed.values) (none_asked (asks_frames R) (seen_in R every) closed.frames)
+      both_of (λ (x : Seen). asks_values R every x ≡ []) (λ (x : Seen). asks_frames R x ≡ []) (seen_in R every) (none_asked (asks_values R every) (seen_in R every) closed.values)
+      (none_asked (asks_frames R) (seen_in R every) closed.frames)
 
   -- what holds of each step where what is known is true
-  pub each_step : (P : Seen → Type 0) → ((n : ℕ) (m : Moment) (known : RunShadow) (s : State) → Takes r.gated r.program r.input s m.did.did → IsTrue r known s → m.calls ≡ calls_of (slice_get s.locals (thread_in m)) → m.bytes ≡ byte_at s.memory → AsksNothing r (seen_at r n m known) → P (seen_at r n m known)) →
+  pub each_step : (P : Seen → Type 0) → ((n : ℕ) (m : Moment) (known : RunShadow) (s : State) → Takes r.gated r.program r.input s m.did.did → IsTrue r known s
+      → m.calls ≡ calls_of (slice_get s.locals (thread_in m)) → m.bytes ≡ byte_at s.memory → AsksNothing r (seen_at r n m known) → P (seen_at r n m known)) →
       AllOf P (seen_in (reference_of r) every)
   each_step P f = along r o.can.program o.can.small P f (turns_of r) 0 0 (start_of r.program) (initial r.program) o.last r.steps o.run first_true asks_nothing
 
   -- all decisions admit the input of their run
   pub all_admit : admits (reference_of r) every r.input ≡ true
-  all_admit = admitted_by r.input (reference_of r) every (each_step (IsGood (reference_of r) every r.input) (λ n m known s h holds calls bytes asks. good r o.can.program o.can.small n m known s h holds calls bytes asks))
+  all_admit = admitted_by r.input (reference_of r) every (each_step (IsGood (reference_of r) every r.input)
+      (λ n m known s h holds calls bytes asks. good r o.can.program o.can.small n m known s h holds calls bytes asks))

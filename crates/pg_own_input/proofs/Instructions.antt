@@ -41,7 +41,8 @@ use Rattle.pg_machine.specs.MachineStep.{access_told, event_told, is_gated, op_t
 use Rattle.pg_machine.specs.State.{State, instr_of}
 use Rattle.pg_machine.proofs.Actions.{barrier_init_is, call_is, create_is, divided_is, edge_is, init_is, join_is, number_is, object_is, on_all_is, on_place_is, on_value_is, room_is, wait_is}
 use Rattle.pg_closed.specs.Known.{Seen}
-use Rattle.pg_closed.specs.Rules.{Need, Value as ValueNeed, Frame as FrameNeed, access_needs_by, address_index, checked, edge_tests, equal_to, event_needs, is_case, operand_of, registers_before, same_frame, value_needs_by, write_needs}
+use Rattle.pg_closed.specs.Rules.{Need, Value as ValueNeed, Frame as FrameNeed, access_needs_by, address_index, checked, edge_tests, equal_to, event_needs, is_case, operand_of}
+use Rattle.pg_closed.specs.Rules.{registers_before, same_frame, value_needs_by, write_needs}
 use Rattle.pg_least.specs.Keeps.{every}
 use Rattle.pg_units.specs.Likes.{AreLike, IsLike}
 use Rattle.pg_units.proofs.Likes.{argument_like}
@@ -101,7 +102,8 @@ barrier_writes true s ns o = refl
 barrier_writes false s ns o = refl
 
 -- at step x, of thread t in state s, whose registers are like what is known of them: by an operation in the place of i's
-module _ (gated : List InstrId) (p : NumberedProgram) (input : List ℤ) (s : State) (t : ℕ) (x : Seen) (i : Instr) (rs : List (Option ℕ)) (answer number : ℕ) (alike : AreLike input (registers_before x) rs) where
+module _ (gated : List InstrId) (p : NumberedProgram) (input : List ℤ) (s : State) (t : ℕ) (x : Seen) (i : Instr) (rs : List (Option ℕ)) (answer number : ℕ)
+    (alike : AreLike input (registers_before x) rs) where
   abbrev instr : Op → Instr
   instr o = record i { op = o }
 
@@ -120,7 +122,8 @@ module _ (gated : List InstrId) (p : NumberedProgram) (input : List ℤ) (s : St
   AreNeeded o k = AllOf (IsGiven input) (value_needs_by p every x (record i { op = o }) k) × AllOf (IsGiven input) (access_needs_by p x (record i { op = o }) k)
 
   abbrev Fine : Op → Action → Type 0
-  Fine o action = CanStep action → AllOf (IsGiven input) (value_needs_by p every x (record i { op = o }) (told_by o action)) × AllOf (IsGiven input) (access_needs_by p x (record i { op = o }) (told_by o action))
+  Fine o action = CanStep action → AllOf (IsGiven input) (value_needs_by p every x (record i { op = o }) (told_by o action))
+      × AllOf (IsGiven input) (access_needs_by p x (record i { op = o }) (told_by o action))
 
   -- ---- operands
 
@@ -152,7 +155,8 @@ module _ (gated : List InstrId) (p : NumberedProgram) (input : List ℤ) (s : St
     abbrev call : Op
     call = op.CallKnown k args
 
-    each_checked : (e : Event) → e.operands ≡ first_four p rs args → (is : List ℕ) → AllOf (λ (j : ℕ). nat_lt j 3 ≡ true) is → AllOf (IsArgument p rs args) is → AllOf (IsGiven input) (map (equal_to p x (instr (op.CallKnown k args)) e) is)
+    each_checked : (e : Event) → e.operands ≡ first_four p rs args → (is : List ℕ) → AllOf (λ (j : ℕ). nat_lt j 3 ≡ true) is → AllOf (IsArgument p rs args) is
+        → AllOf (IsGiven input) (map (equal_to p x (instr (op.CallKnown k args)) e) is)
     each_checked e q [] h a = tt
     each_checked e q (j ∷ is) h a = (
       equal_given (op.CallKnown k args) j a.0.0 (slice_index e.operands j) a.0.1 (ap (λ (ns : List ℕ). slice_index ns j) q ∙ number_first p rs args j h.0 ∙ ap given a.0.1),
@@ -164,9 +168,16 @@ module _ (gated : List InstrId) (p : NumberedProgram) (input : List ℤ) (s : St
     values_given e kind q = each_checked e q (checked k) (checked_first k) g
 
     abbrev event_of : Request → Event
-    event_of r = record { kind = kind_of r; object = object_of t (Rattle.std.proofs.Common.length s.sync.threads) r; operands = first_four p rs args; reply = number; write = write_told s (first_four p rs args) r }
+    event_of r = record {
+      kind = kind_of r;
+      object = object_of t (Rattle.std.proofs.Common.length s.sync.threads) r;
+      operands = first_four p rs args;
+      reply = number;
+      write = write_told s (first_four p rs args) r;
+    }
 
-    event_given : (r : Request) (w : Option Write) → write_told s (first_four p rs args) r ≡ w → AllOf (IsGiven input) (write_needs p x (instr (op.CallKnown k args)) (access_by w)) → AreNeeded (op.CallKnown k args) (event_told s t (first_four p rs args) number r)
+    event_given : (r : Request) (w : Option Write) → write_told s (first_four p rs args) r ≡ w → AllOf (IsGiven input) (write_needs p x (instr (op.CallKnown k args)) (access_by w))
+        → AreNeeded (op.CallKnown k args) (event_told s t (first_four p rs args) number r)
     event_given r w e h = (
       values_given (event_of r) (kind_of r) refl,
       subst (λ (z : Option Write). AllOf (IsGiven input) (write_needs p x (instr (op.CallKnown k args)) (access_by z))) (sym e) h,
@@ -175,11 +186,13 @@ module _ (gated : List InstrId) (p : NumberedProgram) (input : List ℤ) (s : St
     plain_event : (r : Request) → write_told s (first_four p rs args) r ≡ None → AreNeeded (op.CallKnown k args) (event_told s t (first_four p rs args) number r)
     plain_event r e = event_given r None e tt
 
-  create_event : (args : List Value) → AllOf (IsArgument p rs args) (checked known.PthreadCreate) → (r : ByteRange) (f n : ℕ) → AreNeeded (op.CallKnown known.PthreadCreate args) (event_told s t (first_four p rs args) number (requests.Create r f n))
+  create_event : (args : List Value) → AllOf (IsArgument p rs args) (checked known.PthreadCreate) → (r : ByteRange) (f n : ℕ)
+      → AreNeeded (op.CallKnown known.PthreadCreate args) (event_told s t (first_four p rs args) number (requests.Create r f n))
   create_event args g r f n = event_given known.PthreadCreate args g (requests.Create r f n) (write_told s (first_four p rs args) (requests.Create r f n)) refl
       (frame_given (op.CallKnown known.PthreadCreate args) 0 g.0.0 (given (argument p rs args 0)) g.0.1 (ap given g.0.1), tt)
 
-  join_event : (args : List Value) → AllOf (IsArgument p rs args) (checked known.PthreadJoin) → (n : ℕ) (r : ByteRange) → AreNeeded (op.CallKnown known.PthreadJoin args) (event_told s t (first_four p rs args) number (requests.Join n (Some r)))
+  join_event : (args : List Value) → AllOf (IsArgument p rs args) (checked known.PthreadJoin) → (n : ℕ) (r : ByteRange)
+      → AreNeeded (op.CallKnown known.PthreadJoin args) (event_told s t (first_four p rs args) number (requests.Join n (Some r)))
   join_event args g n r = event_given known.PthreadJoin args g (requests.Join n (Some r)) (write_told s (first_four p rs args) (requests.Join n (Some r))) refl
       (frame_given (op.CallKnown known.PthreadJoin args) 1 g.1.0.0 (given (argument p rs args 1)) g.1.0.1 (ap given g.1.0.1), tt)
 
@@ -188,24 +201,43 @@ module _ (gated : List InstrId) (p : NumberedProgram) (input : List ℤ) (s : St
   known_fine u h known.PgInLen args = λ c. (tt, tt)
   known_fine u h known.PgOut args = number_is (Fine (op.CallKnown known.PgOut args)) p rs args _ (λ z c. absurd c) (λ n c. plain_event known.PgOut args tt (requests.Out n) refl)
   known_fine u h known.Putchar args = number_is (Fine (op.CallKnown known.Putchar args)) p rs args _ (λ z c. absurd c) (λ n c. plain_event known.Putchar args tt (requests.Putchar n) refl)
-  known_fine u h known.Malloc args = on_value_is (Fine (op.CallKnown known.Malloc args)) (argument p rs args 0) _ (λ z c. absurd c) (λ n e c. ((equal_given (op.CallKnown known.Malloc args) 0 n (given (argument p rs args 0)) e (ap given e), tt), tt))
+  known_fine u h known.Malloc args = on_value_is (Fine (op.CallKnown known.Malloc args)) (argument p rs args 0) _ (λ z c. absurd c)
+      (λ n e c. ((equal_given (op.CallKnown known.Malloc args) 0 n (given (argument p rs args 0)) e (ap given e), tt), tt))
   known_fine u h known.Free args = number_is (Fine (op.CallKnown known.Free args)) p rs args _ (λ z c. absurd c) (λ n c. (tt, tt))
-  known_fine u h known.PthreadCreate args = λ c. let g = given_args p u h rs args known.PthreadCreate c in create_is (Fine (op.CallKnown known.PthreadCreate args)) p rs args (λ z d. absurd d) (λ r f n q e d. create_event args g r f n) c
-  known_fine u h known.PthreadJoin args = λ c. let g = given_args p u h rs args known.PthreadJoin c in join_is (Fine (op.CallKnown known.PthreadJoin args)) p rs args (λ z d. absurd d) (λ n d. plain_event known.PthreadJoin args g (requests.Join n None) refl) (λ n r q d. join_event args g n r) c
-  known_fine u h known.PthreadExit args = number_is (Fine (op.CallKnown known.PthreadExit args)) p rs args _ (λ z c. absurd c) (λ n c. plain_event known.PthreadExit args tt (requests.Exit (exit_value u n) false) refl)
-  known_fine u h known.PthreadMutexInit args = λ c. let g = given_args p u h rs args known.PthreadMutexInit c in init_is (Fine (op.CallKnown known.PthreadMutexInit args)) p rs args _ (λ z d. absurd d) (λ o d. plain_event known.PthreadMutexInit args g (requests.MutexInit o) refl) c
-  known_fine u h known.PthreadMutexLock args = λ c. let g = given_args p u h rs args known.PthreadMutexLock c in object_is (Fine (op.CallKnown known.PthreadMutexLock args)) p rs args _ (λ z d. absurd d) (λ o d. plain_event known.PthreadMutexLock args g (requests.Lock o) refl) c
-  known_fine u h known.PthreadMutexTrylock args = λ c. let g = given_args p u h rs args known.PthreadMutexTrylock c in object_is (Fine (op.CallKnown known.PthreadMutexTrylock args)) p rs args _ (λ z d. absurd d) (λ o d. plain_event known.PthreadMutexTrylock args g (requests.Trylock o) refl) c
-  known_fine u h known.PthreadMutexUnlock args = λ c. let g = given_args p u h rs args known.PthreadMutexUnlock c in object_is (Fine (op.CallKnown known.PthreadMutexUnlock args)) p rs args _ (λ z d. absurd d) (λ o d. plain_event known.PthreadMutexUnlock args g (requests.Unlock o) refl) c
-  known_fine u h known.PthreadMutexDestroy args = λ c. let g = given_args p u h rs args known.PthreadMutexDestroy c in object_is (Fine (op.CallKnown known.PthreadMutexDestroy args)) p rs args _ (λ z d. absurd d) (λ o d. plain_event known.PthreadMutexDestroy args g (requests.MutexDestroy o) refl) c
-  known_fine u h known.PthreadCondInit args = λ c. let g = given_args p u h rs args known.PthreadCondInit c in init_is (Fine (op.CallKnown known.PthreadCondInit args)) p rs args _ (λ z d. absurd d) (λ o d. plain_event known.PthreadCondInit args g (requests.CondInit o) refl) c
-  known_fine u h known.PthreadCondWait args = λ c. let g = given_args p u h rs args known.PthreadCondWait c in wait_is (Fine (op.CallKnown known.PthreadCondWait args)) p h rs args (λ z d. absurd d) (λ o m d. plain_event known.PthreadCondWait args g (wait_request h o m) (wait_writes h s (first_four p rs args) o m)) c
-  known_fine u h known.PthreadCondSignal args = λ c. let g = given_args p u h rs args known.PthreadCondSignal c in object_is (Fine (op.CallKnown known.PthreadCondSignal args)) p rs args _ (λ z d. absurd d) (λ o d. plain_event known.PthreadCondSignal args g (requests.Signal o) refl) c
-  known_fine u h known.PthreadCondBroadcast args = λ c. let g = given_args p u h rs args known.PthreadCondBroadcast c in object_is (Fine (op.CallKnown known.PthreadCondBroadcast args)) p rs args _ (λ z d. absurd d) (λ o d. plain_event known.PthreadCondBroadcast args g (requests.Broadcast o) refl) c
-  known_fine u h known.PthreadCondDestroy args = λ c. let g = given_args p u h rs args known.PthreadCondDestroy c in object_is (Fine (op.CallKnown known.PthreadCondDestroy args)) p rs args _ (λ z d. absurd d) (λ o d. plain_event known.PthreadCondDestroy args g (requests.CondDestroy o) refl) c
-  known_fine u h known.PthreadBarrierInit args = λ c. let g = given_args p u h rs args known.PthreadBarrierInit c in barrier_init_is (Fine (op.CallKnown known.PthreadBarrierInit args)) p rs args (λ z d. absurd d) (λ o n d. plain_event known.PthreadBarrierInit args g (requests.BarrierInit o n) refl) c
-  known_fine u h known.PthreadBarrierWait args = λ c. let g = given_args p u h rs args known.PthreadBarrierWait c in object_is (Fine (op.CallKnown known.PthreadBarrierWait args)) p rs args _ (λ z d. absurd d) (λ o d. plain_event known.PthreadBarrierWait args g (barrier_request h o) (barrier_writes h s (first_four p rs args) o)) c
-  known_fine u h known.PthreadBarrierDestroy args = λ c. let g = given_args p u h rs args known.PthreadBarrierDestroy c in object_is (Fine (op.CallKnown known.PthreadBarrierDestroy args)) p rs args _ (λ z d. absurd d) (λ o d. plain_event known.PthreadBarrierDestroy args g (requests.BarrierDestroy o) refl) c
+  known_fine u h known.PthreadCreate args = λ c. let g = given_args p u h rs args known.PthreadCreate c in
+      create_is (Fine (op.CallKnown known.PthreadCreate args)) p rs args (λ z d. absurd d) (λ r f n q e d. create_event args g r f n) c
+  known_fine u h known.PthreadJoin args = λ c. let g = given_args p u h rs args known.PthreadJoin c in
+      join_is (Fine (op.CallKnown known.PthreadJoin args)) p rs args (λ z d. absurd d) (λ n d. plain_event known.PthreadJoin args g (requests.Join n None) refl) (λ n r q d. join_event args g n r) c
+  known_fine u h known.PthreadExit args = number_is (Fine (op.CallKnown known.PthreadExit args)) p rs args _ (λ z c. absurd c)
+      (λ n c. plain_event known.PthreadExit args tt (requests.Exit (exit_value u n) false) refl)
+  known_fine u h known.PthreadMutexInit args = λ c. let g = given_args p u h rs args known.PthreadMutexInit c in
+      init_is (Fine (op.CallKnown known.PthreadMutexInit args)) p rs args _ (λ z d. absurd d) (λ o d. plain_event known.PthreadMutexInit args g (requests.MutexInit o) refl) c
+  known_fine u h known.PthreadMutexLock args = λ c. let g = given_args p u h rs args known.PthreadMutexLock c in
+      object_is (Fine (op.CallKnown known.PthreadMutexLock args)) p rs args _ (λ z d. absurd d) (λ o d. plain_event known.PthreadMutexLock args g (requests.Lock o) refl) c
+  known_fine u h known.PthreadMutexTrylock args = λ c. let g = given_args p u h rs args known.PthreadMutexTrylock c in
+      object_is (Fine (op.CallKnown known.PthreadMutexTrylock args)) p rs args _ (λ z d. absurd d) (λ o d. plain_event known.PthreadMutexTrylock args g (requests.Trylock o) refl) c
+  known_fine u h known.PthreadMutexUnlock args = λ c. let g = given_args p u h rs args known.PthreadMutexUnlock c in
+      object_is (Fine (op.CallKnown known.PthreadMutexUnlock args)) p rs args _ (λ z d. absurd d) (λ o d. plain_event known.PthreadMutexUnlock args g (requests.Unlock o) refl) c
+  known_fine u h known.PthreadMutexDestroy args = λ c. let g = given_args p u h rs args known.PthreadMutexDestroy c in
+      object_is (Fine (op.CallKnown known.PthreadMutexDestroy args)) p rs args _ (λ z d. absurd d) (λ o d. plain_event known.PthreadMutexDestroy args g (requests.MutexDestroy o) refl) c
+  known_fine u h known.PthreadCondInit args = λ c. let g = given_args p u h rs args known.PthreadCondInit c in
+      init_is (Fine (op.CallKnown known.PthreadCondInit args)) p rs args _ (λ z d. absurd d) (λ o d. plain_event known.PthreadCondInit args g (requests.CondInit o) refl) c
+  known_fine u h known.PthreadCondWait args = λ c. let g = given_args p u h rs args known.PthreadCondWait c in
+      wait_is (Fine (op.CallKnown known.PthreadCondWait args)) p h rs args (λ z d. absurd d)
+      (λ o m d. plain_event known.PthreadCondWait args g (wait_request h o m) (wait_writes h s (first_four p rs args) o m)) c
+  known_fine u h known.PthreadCondSignal args = λ c. let g = given_args p u h rs args known.PthreadCondSignal c in
+      object_is (Fine (op.CallKnown known.PthreadCondSignal args)) p rs args _ (λ z d. absurd d) (λ o d. plain_event known.PthreadCondSignal args g (requests.Signal o) refl) c
+  known_fine u h known.PthreadCondBroadcast args = λ c. let g = given_args p u h rs args known.PthreadCondBroadcast c in
+      object_is (Fine (op.CallKnown known.PthreadCondBroadcast args)) p rs args _ (λ z d. absurd d) (λ o d. plain_event known.PthreadCondBroadcast args g (requests.Broadcast o) refl) c
+  known_fine u h known.PthreadCondDestroy args = λ c. let g = given_args p u h rs args known.PthreadCondDestroy c in
+      object_is (Fine (op.CallKnown known.PthreadCondDestroy args)) p rs args _ (λ z d. absurd d) (λ o d. plain_event known.PthreadCondDestroy args g (requests.CondDestroy o) refl) c
+  known_fine u h known.PthreadBarrierInit args = λ c. let g = given_args p u h rs args known.PthreadBarrierInit c in
+      barrier_init_is (Fine (op.CallKnown known.PthreadBarrierInit args)) p rs args (λ z d. absurd d) (λ o n d. plain_event known.PthreadBarrierInit args g (requests.BarrierInit o n) refl) c
+  known_fine u h known.PthreadBarrierWait args = λ c. let g = given_args p u h rs args known.PthreadBarrierWait c in
+      object_is (Fine (op.CallKnown known.PthreadBarrierWait args)) p rs args _ (λ z d. absurd d)
+      (λ o d. plain_event known.PthreadBarrierWait args g (barrier_request h o) (barrier_writes h s (first_four p rs args) o)) c
+  known_fine u h known.PthreadBarrierDestroy args = λ c. let g = given_args p u h rs args known.PthreadBarrierDestroy c in
+      object_is (Fine (op.CallKnown known.PthreadBarrierDestroy args)) p rs args _ (λ z d. absurd d) (λ o d. plain_event known.PthreadBarrierDestroy args g (requests.BarrierDestroy o) refl) c
 
   -- ---- each instruction
 
@@ -228,10 +260,12 @@ module _ (gated : List InstrId) (p : NumberedProgram) (input : List ℤ) (s : St
   op_fine r h depth used block (op.Br to) = edge_is (Fine (op.Br to)) p rs block to.0 (λ z c. absurd c) (λ c. (tt, tt))
   op_fine r h depth used block (op.CondBr v a b) =
       let Q = Fine (op.CondBr v a b) in
-      on_value_is Q (operand p rs v) _ (λ z c. absurd c) (λ n e. edge_is Q p rs block (chosen n a.0 b.0) (λ z c. absurd c) (λ c. branch_given (op.CondBr v a b) n (given (operand p rs v)) e (ap given e)))
+      on_value_is Q (operand p rs v) _ (λ z c. absurd c) (λ n e. edge_is Q p rs block (chosen n a.0 b.0) (λ z c. absurd c)
+      (λ c. branch_given (op.CondBr v a b) n (given (operand p rs v)) e (ap given e)))
   op_fine r h depth used block (op.Switch w on other cases) =
       let Q = Fine (op.Switch w on other cases) in
-      on_value_is Q (operand p rs on) _ (λ z c. absurd c) (λ n e. edge_is Q p rs block (case_of cases other.0 n) (λ z c. absurd c) (λ c. branch_given (op.Switch w on other cases) n (given (operand p rs on)) e (ap given e)))
+      on_value_is Q (operand p rs on) _ (λ z c. absurd c) (λ n e. edge_is Q p rs block (case_of cases other.0 n) (λ z c. absurd c)
+      (λ c. branch_given (op.Switch w on other cases) n (given (operand p rs on)) e (ap given e)))
   op_fine r h depth used block (op.Call g args) = on_all_is (Fine (op.Call g args)) p rs args _ (λ z c. absurd c) (call_is (Fine (op.Call g args)) p g depth used (λ z c. absurd c) (λ c. (tt, tt)))
   op_fine r h depth used block (op.Ret v) = returning_fine depth v
   op_fine r h depth used block op.Unreachable = λ c. absurd c

@@ -80,7 +80,8 @@ module _ (input : List ℤ) where
     each_met : (xs : List Seen) → AllOf (IsGood R d input) xs → Met (all_of (conditions_at R d) xs)
     each_met [] h = refl
     each_met (x ∷ xs) h = both_met (conditions_at R d x) (all_of (conditions_at R d) xs)
-        (both_met (all_of need_conditions (value_needs R d x)) (all_of need_conditions (frame_needs R x)) (needs_met (value_needs R d x) h.0.values) (needs_met (frame_needs R x) h.0.frames)) (each_met xs h.1)
+        (both_met (all_of need_conditions (value_needs R d x)) (all_of need_conditions (frame_needs R x)) (needs_met (value_needs R d x) h.0.values) (needs_met (frame_needs R x) h.0.frames))
+        (each_met xs h.1)
 
     -- an input on which all that is asked holds is admitted
     pub admitted_by : AllOf (IsGood R d input) (seen_in R d) → admits R d input ≡ true

@@ -1,10 +1,9 @@
 -- What a freeable branch step asks of its region's paths is given.
-use Rattle.std.proofs.Common.{◌≡◌, ℕ, ℤ, ◌+◌, Bool, true, false, List, [], ◌∷◌, Option, Some, None, Result, Ok, Err, refl, sym, ap, ◌∙◌, subst, arith, pos}
-use Rattle.std.specs.Prelude.{nat_le, nat_lt, option_and_then, if◌then◌else◌}
+use Rattle.std.proofs.Common.{◌≡◌, ℕ, ℤ, Bool, true, false, List, [], ◌∷◌, Option, Some, None, Result, Ok, Err, refl, sym, ap, ◌∙◌, subst, pos}
+use Rattle.std.specs.Prelude.{nat_lt, option_and_then, if◌then◌else◌}
 use Rattle.std.specs.List.{AllByRecursion as AllOf, list_any}
-use Rattle.std.proofs.lemmas.Bool.{and_parts, leb-true, lt-ltb, ltb-true}
 use Rattle.pg_num.specs.Places.{ByteRange}
-use Rattle.pg_num.specs.Pointers.{byte_place, moved_by, place_of, pointer_of}
+use Rattle.pg_num.specs.Pointers.{byte_place, moved_by, place_of}
 use Rattle.pg_num.specs.declared.layout.TheConstants.{MEMORY_BYTES}
 use Rattle.pg_num.specs.declared.places.PlaceFault.{PlaceFault}
 use Rattle.pg_num.proofs.Moves.{length-moved_by, start-moved_by}
@@ -17,7 +16,6 @@ use Rattle.pg_paths.specs.declared.path.Root.{Root}
 use Rattle.pg_paths.specs.declared.path.Root.TheVariants as root
 use Rattle.pg_paths.specs.Followed.{Followed, behind, cell_at, cell_in, followed, followed_from, root_value}
 use Rattle.pg_paths.specs.Paths.{offsets_of}
-use Rattle.pg_trace.specs.Races.{is_in}
 use Rattle.pg_machine.proofs.Named.{place_is}
 use Rattle.pg_closed.specs.Freeable.{BranchRegion, FreeAccess, FreeRegion, RegionAccess, Regions, accesses_at, if_apart, one_access, region_at, registers_by, stores_on}
 use Rattle.pg_closed.specs.Known.{Seen, is_branch, region_of}
@@ -27,17 +25,8 @@ use Rattle.pg_closed.specs.Shadows.{Shadow, Known, Framed, Unknown, loaded}
 use Rattle.pg_units.specs.Likes.{AreLike, IsInFrame, IsLike}
 use Rattle.pg_units.proofs.Accesses.{loaded_like}
 use Rattle.pg_units.proofs.Likes.{operand_like, valued_like}
-use Rattle.pg_units.proofs.Placed.{place_range}
 use Rattle.pg_own_input.proofs.Needs.{IsGiven, each_given}
-
--- the bytes of a place are in memory
-in_memory : (word size : ℕ) (r : ByteRange) (c : ℕ) → place_of word size ≡ Ok r → is_in (record { start = byte_place word; bytes = size }) c ≡ true → nat_lt c MEMORY_BYTES ≡ true
-in_memory word size r c e h =
-    let p = and_parts (nat_le ((pointer_of word).offset + size) (pointer_of word).length) (nat_le (byte_place word + size) MEMORY_BYTES) (place_range word size r e) in
-    let k = and_parts (nat_le (byte_place word) c) (nat_lt c (byte_place word + size)) h in
-    let i = leb-true (byte_place word + size) MEMORY_BYTES p.1 in
-    let j = ltb-true c (byte_place word + size) k.1 in
-    lt-ltb c MEMORY_BYTES (omega (arith, i, j))
+use Rattle.pg_units.proofs.Loads.{in_memory}
 
 -- a cell that is read is a place
 placed : (word k : ℕ) (cell : ByteRange) → cell_at word k ≡ Some cell → place_of (moved_by word (pos k)) 8 ≡ Ok cell
@@ -57,7 +46,8 @@ unfolding IsFollowed
 accesses_follow p m [] xs e = let q : [] ≡ xs = cc in subst (AllOf (IsFollowed p m)) q tt
 accesses_follow p m (a ∷ rest) xs e = go (followed p (registers_by (registers_in m.calls)) (number_in m) a.path) refl (accesses_at p m rest) refl e (λ ys q. accesses_follow p m rest ys q)
   where
-    go : (f : Option Followed) → followed p (registers_by (registers_in m.calls)) (number_in m) a.path ≡ f → (o : Option (List FreeAccess)) → accesses_at p m rest ≡ o → one_access a f o ≡ Some xs →
+    go : (f : Option Followed) → followed p (registers_by (registers_in m.calls)) (number_in m) a.path ≡ f → (o : Option (List FreeAccess)) → accesses_at p m rest ≡ o
+        → one_access a f o ≡ Some xs →
         ((ys : List FreeAccess) → accesses_at p m rest ≡ Some ys → AllOf (IsFollowed p m) ys) → AllOf (IsFollowed p m) xs
     go None q o r e more = absurd cc
     go (Some f) q None r e more = absurd cc
@@ -109,25 +99,31 @@ module _ (input : List ℤ) where
     abbrev memory : ByteRange → ℕ
     memory r = number_of m r.start r.bytes
 
-    path_given : (offsets : List ℕ) (word : ℕ) (s : Shadow) (at : Followed) → IsLike input s (Some word) → followed_from (λ (r : ByteRange). number_of m r.start r.bytes) word offsets ≡ Some at →
+    path_given : (offsets : List ℕ) (word : ℕ) (s : Shadow) (at : Followed) → IsLike input s (Some word)
+        → followed_from (λ (r : ByteRange). number_of m r.start r.bytes) word offsets ≡ Some at →
         AllOf (IsGiven input) (path_needs bytes s offsets at.pointers at.cells at.last)
     path_given [] word s at h e =
         let q : record { pointers = []; cells = []; last = word } ≡ at = cc in
         subst (λ (a : Followed). AllOf (IsGiven input) (path_needs bytes s [] a.pointers a.cells a.last)) q ((word, h, refl), tt)
     path_given (k ∷ ks) word s at h e = go (cell_at word k) refl e (λ cell f r. path_given ks (number_of m cell.start cell.bytes) (loaded bytes cell.start 8) f r)
       where
-        go : (o : Option ByteRange) → cell_at word k ≡ o → option_and_then (λ cell. behind word cell (followed_from (λ (r : ByteRange). number_of m r.start r.bytes) (number_of m cell.start cell.bytes) ks)) o ≡ Some at →
-            ((cell : ByteRange) (f : Followed) → IsLike input (loaded bytes cell.start 8) (Some (number_of m cell.start cell.bytes)) → followed_from (λ (r : ByteRange). number_of m r.start r.bytes) (number_of m cell.start cell.bytes) ks ≡ Some f →
+        go : (o : Option ByteRange) → cell_at word k ≡ o → option_and_then
+            (λ cell. behind word cell (followed_from (λ (r : ByteRange). number_of m r.start r.bytes) (number_of m cell.start cell.bytes) ks)) o ≡ Some at →
+            ((cell : ByteRange) (f : Followed) → IsLike input (loaded bytes cell.start 8) (Some (number_of m cell.start cell.bytes))
+            → followed_from (λ (r : ByteRange). number_of m r.start r.bytes) (number_of m cell.start cell.bytes) ks ≡ Some f →
             AllOf (IsGiven input) (path_needs bytes (loaded bytes cell.start 8) ks f.pointers f.cells f.last)) → AllOf (IsGiven input) (path_needs bytes s (k ∷ ks) at.pointers at.cells at.last)
         go None q e more = absurd cc
         go (Some cell) q e more = on (followed_from (λ (r : ByteRange). number_of m r.start r.bytes) (number_of m cell.start cell.bytes) ks) refl e
           where
-            on : (f : Option Followed) → followed_from (λ (r : ByteRange). number_of m r.start r.bytes) (number_of m cell.start cell.bytes) ks ≡ f → behind word cell f ≡ Some at → AllOf (IsGiven input) (path_needs bytes s (k ∷ ks) at.pointers at.cells at.last)
+            on : (f : Option Followed) → followed_from (λ (r : ByteRange). number_of m r.start r.bytes) (number_of m cell.start cell.bytes) ks ≡ f → behind word cell f ≡ Some at
+                → AllOf (IsGiven input) (path_needs bytes s (k ∷ ks) at.pointers at.cells at.last)
             on None r e = absurd cc
             on (Some f) r e =
                 let same : record { pointers = word ∷ f.pointers; cells = cell ∷ f.cells; last = f.last } ≡ at = cc in
-                subst (λ (a : Followed). AllOf (IsGiven input) (path_needs bytes s (k ∷ ks) a.pointers a.cells a.last)) same
-                ((moved_by word (pos k), moved_given k s word h, (Rattle.std.proofs.lemmas.Bool.eq-eqb (moved_by word (pos k)) (moved_by word (pos k)) refl, tt)), more cell f (cell_given word k cell q) r)
+                subst (λ (a : Followed). AllOf (IsGiven input) (path_needs bytes s (k ∷ ks) a.pointers a.cells a.last)) same (
+                  (moved_by word (pos k), moved_given k s word h, (Rattle.std.proofs.lemmas.Bool.eq-eqb (moved_by word (pos k)) (moved_by word (pos k)) refl, tt)),
+                  more cell f (cell_given word k cell q) r,
+                )
 
   module _ (p : NumberedProgram) (ks : List Shadow) (rs : List (Option ℕ)) (alike : AreLike input ks rs) where
     root_given : (r : Root) (word : ℕ) → root_value p (registers_by rs) r ≡ Some word → IsLike input (root_shadow p ks r) (Some word)
@@ -138,14 +134,17 @@ module _ (input : List ℤ) where
 
   -- ---- a step
 
-  module _ (p : NumberedProgram) (x : Seen) (alike : AreLike input (registers_before x) (registers_in x.moment.calls)) (cells : (c : ℕ) → nat_lt c MEMORY_BYTES ≡ true → IsLike input (x.before.bytes c) (Some (x.moment.bytes c))) where
+  module _ (p : NumberedProgram) (x : Seen) (alike : AreLike input (registers_before x) (registers_in x.moment.calls))
+      (cells : (c : ℕ) → nat_lt c MEMORY_BYTES ≡ true → IsLike input (x.before.bytes c) (Some (x.moment.bytes c))) where
     access_follows : (a : FreeAccess) → IsFollowed p x.moment a → AllOf (IsGiven input) (free_access_needs p x a)
     unfolding IsFollowed
     access_follows a e = go (root_value p (registers_by (registers_in x.moment.calls)) a.path.root) refl e
       where
-        go : (o : Option ℕ) → root_value p (registers_by (registers_in x.moment.calls)) a.path.root ≡ o → option_and_then (λ word. followed_from (number_in x.moment) word (offsets_of a.path.loads)) o ≡ Some a.at → AllOf (IsGiven input) (free_access_needs p x a)
+        go : (o : Option ℕ) → root_value p (registers_by (registers_in x.moment.calls)) a.path.root ≡ o
+            → option_and_then (λ word. followed_from (number_in x.moment) word (offsets_of a.path.loads)) o ≡ Some a.at → AllOf (IsGiven input) (free_access_needs p x a)
         go None q e = absurd cc
-        go (Some word) q e = path_given x.before.bytes x.moment.bytes cells (offsets_of a.path.loads) word (root_shadow p (registers_before x) a.path.root) a.at (root_given p (registers_before x) (registers_in x.moment.calls) alike a.path.root word q) e
+        go (Some word) q e = path_given x.before.bytes x.moment.bytes cells (offsets_of a.path.loads) word (root_shadow p (registers_before x) a.path.root) a.at
+            (root_given p (registers_before x) (registers_in x.moment.calls) alike a.path.root word q) e
 
     each_access : (xs : List FreeAccess) → AllOf (IsFollowed p x.moment) xs → AllOf (λ (a : FreeAccess). AllOf (IsGiven input) (free_access_needs p x a)) xs
     each_access [] h = tt

@@ -14,7 +14,8 @@ use Rattle.pg_instances.proofs.References.{extents_keep}
 use Rattle.pg_instances.proofs.Together.{exited}
 use Rattle.pg_own_input.proofs.Laws.{any_admit}
 
-pub reference_admits : (p : NumberedProgram) (input : List ℤ) (turns : List Turn) (gated : List InstrId) (sums : ℕ → Option RootedList) (regions : Regions) (xs : List Step) → IsReferenceRun p input turns gated sums regions xs →
+pub reference_admits : (p : NumberedProgram) (input : List ℤ) (turns : List Turn) (gated : List InstrId) (sums : ℕ → Option RootedList) (regions : Regions) (xs : List Step)
+    → IsReferenceRun p input turns gated sums regions xs →
     (d : Taken) → admits (record { program = p; regions = regions; moments = moments_of gated p input xs }) d input ≡ true
 reference_admits p input turns gated sums regions xs h d =
     let e = exited p input turns gated xs h.printed h.value h.exits in

@@ -21,7 +21,8 @@ use Rattle.pg_runs.proofs.Rules.{next_fresh}
 use Rattle.pg_closed.specs.Freeable.{FreeRegion}
 use Rattle.pg_closed.specs.Known.{Seen, is_branch, region_of, thread_of}
 use Rattle.pg_closed.specs.Moments.{calls_of, instr_in, registers_in, thread_in}
-use Rattle.pg_closed.specs.Rules.{Need, access_needs_by, access_needs_in, asks_frames, asks_values, frame_needs, is_bound, kind_in, region_needs_in, registers_before, value_needs, value_needs_by, value_needs_in}
+use Rattle.pg_closed.specs.Rules.{Need, access_needs_by, access_needs_in, asks_frames, asks_values, frame_needs, is_bound, kind_in, region_needs_in, registers_before, value_needs}
+use Rattle.pg_closed.specs.Rules.{value_needs_by, value_needs_in}
 use Rattle.pg_closed.specs.Shadows.{Shadow}
 use Rattle.pg_least.specs.Keeps.{every}
 use Rattle.pg_units.specs.Likes.{AreLike, IsLike}
@@ -40,7 +41,8 @@ pub none_bound : (b : Bool) → (b && not true) ≡ false
 none_bound true = refl
 none_bound false = refl
 
-module _ (r : ReferenceRun) (x : Seen) (s : State) (met : IsMet r every x s) (live : x.live ≡ true) (cells : (c : ℕ) → nat_lt c MEMORY_BYTES ≡ true → IsLike r.input (x.before.bytes c) (Some (x.moment.bytes c))) where
+module _ (r : ReferenceRun) (x : Seen) (s : State) (met : IsMet r every x s) (live : x.live ≡ true)
+    (cells : (c : ℕ) → nat_lt c MEMORY_BYTES ≡ true → IsLike r.input (x.before.bytes c) (Some (x.moment.bytes c))) where
   abbrev t : ℕ
   t = thread_in x.moment
 
@@ -77,7 +79,8 @@ module _ (r : ReferenceRun) (x : Seen) (s : State) (met : IsMet r every x s) (li
     pub registers_alike : AreLike r.input (registers_before x) (registers_in x.moment.calls)
     registers_alike = subst (AreLike r.input (registers_before x)) (sym registers_are) alike
 
-    kind_as : (a : Action) → kind_told r.gated r.program s (thread_in x.moment) (first_four r.program b.f.registers (operands_of b.x.op)) answer number a ≡ told_by r.gated r.program r.input s (thread_in x.moment) x b.x b.f.registers answer number alike b.x.op a
+    kind_as : (a : Action) → kind_told r.gated r.program s (thread_in x.moment) (first_four r.program b.f.registers (operands_of b.x.op)) answer number a
+        ≡ told_by r.gated r.program r.input s (thread_in x.moment) x b.x b.f.registers answer number alike b.x.op a
     kind_as actions.Local = ap (instr_told (first_four r.program b.f.registers (operands_of b.x.op)) number) place
     kind_as (actions.Load q) = refl
     kind_as (actions.Store q n) = refl
@@ -87,13 +90,15 @@ module _ (r : ReferenceRun) (x : Seen) (s : State) (met : IsMet r every x s) (li
     kind_is : kind_in x ≡ told_by r.gated r.program r.input s (thread_in x.moment) x b.x b.f.registers answer number alike b.x.op act
     kind_is =
         ap (λ (z : Step). z.kind) (told_met r every x s met)
-        ∙ ap (λ (ns : List ℕ). kind_told r.gated r.program s (thread_in x.moment) ns answer number (next_of r.program s (thread_in x.moment))) (operands_here r.program s (thread_in x.moment) b.h b.f b.fs b.n b.x b.here)
+        ∙ ap (λ (ns : List ℕ). kind_told r.gated r.program s (thread_in x.moment) ns answer number (next_of r.program s (thread_in x.moment)))
+        (operands_here r.program s (thread_in x.moment) b.h b.f b.fs b.n b.x b.here)
         ∙ ap (kind_told r.gated r.program s (thread_in x.moment) (first_four r.program b.f.registers (operands_of b.x.op)) answer number) next_at
         ∙ kind_as act
 
     needed : AllOf (IsGiven r.input) (value_needs_by r.program every x b.x (kind_in x)) × AllOf (IsGiven r.input) (access_needs_by r.program x b.x (kind_in x))
     needed = subst (λ (k : StepKind). AllOf (IsGiven r.input) (value_needs_by r.program every x b.x k) × AllOf (IsGiven r.input) (access_needs_by r.program x b.x k)) (sym kind_is)
-        (op_fine r.gated r.program r.input s (thread_in x.moment) x b.x b.f.registers answer number alike (region_at (running (thread_in x.moment) b.h b.f b.fs b.n)) b.h (length (b.f ∷ b.fs)) (total (b.f ∷ b.fs)) b.x.block.0 b.x.op can)
+        (op_fine r.gated r.program r.input s (thread_in x.moment) x b.x b.f.registers answer number alike (region_at (running (thread_in x.moment) b.h b.f b.fs b.n)) b.h (length (b.f ∷ b.fs))
+        (total (b.f ∷ b.fs)) b.x.block.0 b.x.op can)
 
     values_here : AreGiven (value_needs (reference_of r) every x)
     values_here = subst (AllOf (IsGiven r.input))
@@ -122,7 +127,8 @@ module _ (r : ReferenceRun) (x : Seen) (s : State) (met : IsMet r every x s) (li
     kind_starts : kind_in x ≡ start
     kind_starts =
         ap (λ (z : Step). z.kind) (told_met r every x s met)
-        ∙ ap (kind_told r.gated r.program s (thread_in x.moment) (operands_in r.program (slice_get s.locals (thread_in x.moment))) answer (number_in r.program (slice_get s.locals (thread_in x.moment)) answer)) starts
+        ∙ ap (kind_told r.gated r.program s (thread_in x.moment) (operands_in r.program (slice_get s.locals (thread_in x.moment))) answer
+        (number_in r.program (slice_get s.locals (thread_in x.moment)) answer)) starts
 
     no_values : (o : Option Instr) → AreGiven (value_needs_in r.program every x o)
     no_values None = tt
@@ -145,7 +151,8 @@ module _ (r : ReferenceRun) (x : Seen) (s : State) (met : IsMet r every x s) (li
         (subst (λ (o : Option FreeRegion). AllOf (IsGiven r.input) (region_needs_in r.program x o)) (sym (met.region ∙ no_region (instr_in r.program x.moment))) tt)
 
     no_frames : AreGiven (frame_needs (reference_of r) x)
-    no_frames = both_given r.input (access_needs_in r.program x (instr_in r.program x.moment)) (if x.live then region_needs_in r.program x x.region else []) (no_accesses (instr_in r.program x.moment)) no_regions
+    no_frames = both_given r.input (access_needs_in r.program x (instr_in r.program x.moment)) (if x.live then region_needs_in r.program x x.region else [])
+        (no_accesses (instr_in r.program x.moment)) no_regions
 
   -- ---- either
 

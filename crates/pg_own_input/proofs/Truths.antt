@@ -39,16 +39,20 @@ unfolding fresh
 fresh_calls p t f = refl
 
 module _ (r : ReferenceRun) (o : IsRecorded r) where
-  told : (n : ℕ) (m : Moment) (known : RunShadow) (s : State) → Takes r.gated r.program r.input s m.did.did → IsTrue r known s → m.calls ≡ calls_of (slice_get s.locals (thread_in m)) → m.bytes ≡ byte_at s.memory → AsksNothing r (seen_at r n m known) → IsTold r.input (seen_at r n m known)
+  told : (n : ℕ) (m : Moment) (known : RunShadow) (s : State) → Takes r.gated r.program r.input s m.did.did → IsTrue r known s → m.calls ≡ calls_of (slice_get s.locals (thread_in m))
+      → m.bytes ≡ byte_at s.memory → AsksNothing r (seen_at r n m known) → IsTold r.input (seen_at r n m known)
   told n m known s h holds calls bytes asks = record {
     registers = go (begins r o.can.program o.can.small n m known s h holds calls bytes);
     bytes = bytes_like r o.can.program o.can.small n m known s h holds calls bytes;
   }
     where
-      go : Both r.program r.input (thread_in m) s s (thread_of known (thread_in m)).calls ⊎ Beginning r.program (thread_in m) s s → AreLike r.input (registers_before (seen_at r n m known)) (registers_in m.calls)
-      go (inl b) = registers_alike r (seen_at r n m known) s (met r o.can.program o.can.small n m known s h holds calls bytes) (live r o.can.program o.can.small n m known s h holds calls bytes) (bytes_like r o.can.program o.can.small n m known s h holds calls bytes) b
+      go : Both r.program r.input (thread_in m) s s (thread_of known (thread_in m)).calls ⊎ Beginning r.program (thread_in m) s s
+          → AreLike r.input (registers_before (seen_at r n m known)) (registers_in m.calls)
+      go (inl b) = registers_alike r (seen_at r n m known) s (met r o.can.program o.can.small n m known s h holds calls bytes) (live r o.can.program o.can.small n m known s h holds calls bytes)
+          (bytes_like r o.can.program o.can.small n m known s h holds calls bytes) b
       go (inr b) = subst (AreLike r.input (registers_before (seen_at r n m known))) (sym (ap registers_in (calls ∙ ap calls_of b.first) ∙ fresh_calls r.program (thread_in m) b.function))
-          (subst (λ (ks : List Shadow). AreLike r.input ks (replicate (Rattle.std.proofs.Common.length (types_of r.program b.function)) Rattle.std.proofs.Common.None)) (sym (ap top_of (holds.started.fresh_calls (thread_in m) b.function b.first))) (unset_like r.input (Rattle.std.proofs.Common.length (types_of r.program b.function))))
+          (subst (λ (ks : List Shadow). AreLike r.input ks (replicate (Rattle.std.proofs.Common.length (types_of r.program b.function)) Rattle.std.proofs.Common.None))
+          (sym (ap top_of (holds.started.fresh_calls (thread_in m) b.function b.first))) (unset_like r.input (Rattle.std.proofs.Common.length (types_of r.program b.function))))
 
   all_told : AllOf (IsTold r.input) (seen_in (reference_of r) every)
   all_told = each_step r o (IsTold r.input) told
@@ -65,7 +69,8 @@ module _ (r : ReferenceRun) (d : Taken) where
   one_true x y h k = record {
     registers = λ live i f g e. like_known r.input d (slice_index_or (registers_before x) i unset) (slice_index_or (registers_before y) i unset) f g (registers_by (registers_in x.moment.calls) i) e
         (index_like (Likes every) (registers_before x) (registers_before y) i unset refl (h.registers live))
-        (operand_like r.input r.program (registers_before y) (registers_in x.moment.calls) (subst (λ (m : Moment). AreLike r.input (registers_before y) (registers_in m.calls)) (ap (λ (z : Seen). z.moment) h.same) k.registers) (value.Register i));
+        (operand_like r.input r.program (registers_before y) (registers_in x.moment.calls)
+        (subst (λ (m : Moment). AreLike r.input (registers_before y) (registers_in m.calls)) (ap (λ (z : Seen). z.moment) h.same) k.registers) (value.Register i));
     bytes = λ b f g l e. like_known r.input d (x.before.bytes b) (y.before.bytes b) f g (Some (x.moment.bytes b)) e (h.bytes b)
         (subst (λ (m : Moment). IsLike r.input (y.before.bytes b) (Some (m.bytes b))) (ap (λ (z : Seen). z.moment) h.same) (k.bytes b (lt-ltb b MEMORY_BYTES l)));
   }

@@ -13,5 +13,6 @@ use Rattle.pg_instances.specs.References.{IsReferenceRun}
 
 -- any decisions admit the own input of each reference run
 abbrev pub ReferencesAdmitOwn : Type 0
-ReferencesAdmitOwn = (p : NumberedProgram) (input : List ℤ) (turns : List Turn) (gated : List InstrId) (sums : ℕ → Option RootedList) (regions : Regions) (xs : List Step) → IsReferenceRun p input turns gated sums regions xs →
+ReferencesAdmitOwn = (p : NumberedProgram) (input : List ℤ) (turns : List Turn) (gated : List InstrId) (sums : ℕ → Option RootedList) (regions : Regions) (xs : List Step)
+    → IsReferenceRun p input turns gated sums regions xs →
     (d : Taken) → admits (record { program = p; regions = regions; moments = moments_of gated p input xs }) d input ≡ true

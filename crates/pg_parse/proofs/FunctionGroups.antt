@@ -28,7 +28,8 @@ declare_name : (t : Ty) (x : Read Token) → (x >>= λ n ts. take_one (is OpenRo
 declare_name t (Good n rest) = declare_open t n (take_one (is OpenRound) rest)
 declare_name t (Bad fault rest) = refl
 
-declare_type : (x : Read Ty) → (x >>= λ t ts. take_one global_name ts >>= λ n ts. take_one (is OpenRound) ts >>= λ _ ts. listed_at CloseRound dparam_at ts >>= λ ps. declared_by t (name_of n, ps))
+declare_type : (x : Read Ty) → (x >>= λ t ts. take_one global_name ts >>= λ n ts. take_one (is OpenRound) ts >>= λ _ ts. listed_at CloseRound dparam_at ts >>= λ ps. declared_by t
+    (name_of n, ps))
     ≡ (x >>= λ t ts. declared_at ts >>= declared_by t)
 declare_type (Good t rest) = declare_name t (take_one global_name rest)
 declare_type (Bad fault rest) = refl
@@ -61,18 +62,21 @@ define_open t n (Good b rest) = define_params t (name_of n) (listed_at CloseRoun
 define_open t n (Bad fault rest) = refl
 
 define_name : (t : Ty) (x : Read Token)
-    → (x >>= λ n ts. take_one (is OpenRound) ts >>= λ _ ts. listed_at CloseRound defined_param_at ts >>= λ ps ts. attributes_at ts >>= λ _ ts. body_at ts >>= λ bs. defined_by t (name_of n, ps, bs))
+    → (x >>= λ n ts. take_one (is OpenRound) ts >>= λ _ ts. listed_at CloseRound defined_param_at ts >>= λ ps ts. attributes_at ts >>= λ _ ts. body_at ts >>= λ bs. defined_by t
+    (name_of n, ps, bs))
     ≡ (((x >>= λ n ts. take_one (is OpenRound) ts >>= λ _. Good (name_of n)) >>= with_params_and_body) >>= defined_by t)
 define_name t (Good n rest) = define_open t n (take_one (is OpenRound) rest)
 define_name t (Bad fault rest) = refl
 
 define_type : (x : Read Ty)
-    → (x >>= λ t ts. take_one global_name ts >>= λ n ts. take_one (is OpenRound) ts >>= λ _ ts. listed_at CloseRound defined_param_at ts >>= λ ps ts. attributes_at ts >>= λ _ ts. body_at ts >>= λ bs. defined_by t (name_of n, ps, bs))
+    → (x >>= λ t ts. take_one global_name ts >>= λ n ts. take_one (is OpenRound) ts >>= λ _ ts. listed_at CloseRound defined_param_at ts >>= λ ps ts. attributes_at ts >>= λ _ ts. body_at
+    ts >>= λ bs. defined_by t (name_of n, ps, bs))
     ≡ (x >>= λ t ts. defined_at ts >>= defined_by t)
 define_type (Good t rest) = define_name t (take_one global_name rest)
 define_type (Bad fault rest) = refl
 
 pub define_grouped : (ts : List Token)
-    → (type_at NESTING_LIMIT ts >>= λ t ts. take_one global_name ts >>= λ n ts. take_one (is OpenRound) ts >>= λ _ ts. listed_at CloseRound defined_param_at ts >>= λ ps ts. attributes_at ts >>= λ _ ts. body_at ts >>= λ bs. defined_by t (name_of n, ps, bs))
+    → (type_at NESTING_LIMIT ts >>= λ t ts. take_one global_name ts >>= λ n ts. take_one
+    (is OpenRound) ts >>= λ _ ts. listed_at CloseRound defined_param_at ts >>= λ ps ts. attributes_at ts >>= λ _ ts. body_at ts >>= λ bs. defined_by t (name_of n, ps, bs))
     ≡ define_end_at ts
 define_grouped ts = define_type (type_at NESTING_LIMIT ts)

@@ -36,18 +36,22 @@ gep_either bs name o void t ts false = line_begun bs name o void (gep_op_tail_at
 
 gep_flags : (bs : List Block) (name : Option Name) (o void : Span) (t : Token) (x : Read (Unit {0}))
     → (x >>= λ _. choose (is OpenRound) (void_value_at bs name o void (gep_tail_at INNER_NESTING_LIMIT (value_at INNER_NESTING_LIMIT) t)) (λ ts. gep_op_tail_at t ts >>= two_lines bs name o void))
-    ≡ ((x >>= λ _. choose (is OpenRound) (λ ts. gep_tail_at INNER_NESTING_LIMIT (value_at INNER_NESTING_LIMIT) t ts >>= begun_value) (λ ts. gep_op_tail_at t ts >>= begun_line)) >>= behind_begun_at bs name o void)
+    ≡ ((x >>= λ _. choose (is OpenRound) (λ ts. gep_tail_at INNER_NESTING_LIMIT (value_at INNER_NESTING_LIMIT) t ts >>= begun_value) (λ ts. gep_op_tail_at t ts >>= begun_line)) >>=
+    behind_begun_at bs name o void)
 gep_flags bs name o void t (Good u rest) = gep_either bs name o void t rest (comes (is OpenRound) rest)
 gep_flags bs name o void t (Bad fault rest) = refl
 
 gep_word : (bs : List Block) (name : Option Name) (o void : Span) (x : Read Token)
-    → (x >>= λ t ts. flags_at ts >>= λ _. choose (is OpenRound) (void_value_at bs name o void (gep_tail_at INNER_NESTING_LIMIT (value_at INNER_NESTING_LIMIT) t)) (λ ts. gep_op_tail_at t ts >>= two_lines bs name o void))
-    ≡ ((x >>= λ t ts. flags_at ts >>= λ _. choose (is OpenRound) (λ ts. gep_tail_at INNER_NESTING_LIMIT (value_at INNER_NESTING_LIMIT) t ts >>= begun_value) (λ ts. gep_op_tail_at t ts >>= begun_line)) >>= behind_begun_at bs name o void)
+    → (x >>= λ t ts. flags_at ts >>= λ _. choose (is OpenRound) (void_value_at bs name o void (gep_tail_at INNER_NESTING_LIMIT (value_at INNER_NESTING_LIMIT) t))
+    (λ ts. gep_op_tail_at t ts >>= two_lines bs name o void))
+    ≡ ((x >>= λ t ts. flags_at ts >>= λ _. choose (is OpenRound) (λ ts. gep_tail_at INNER_NESTING_LIMIT (value_at INNER_NESTING_LIMIT) t ts >>= begun_value)
+    (λ ts. gep_op_tail_at t ts >>= begun_line)) >>= behind_begun_at bs name o void)
 gep_word bs name o void (Good t rest) = gep_flags bs name o void t (flags_at rest)
 gep_word bs name o void (Bad fault rest) = refl
 
 pub gep_grouped : (bs : List Block) (name : Option Name) (o void : Span) (ts : List Token)
-    → (take_one (is GetElementPtr) ts >>= λ t ts. flags_at ts >>= λ _. choose (is OpenRound) (void_value_at bs name o void (gep_tail_at INNER_NESTING_LIMIT (value_at INNER_NESTING_LIMIT) t)) (λ ts. gep_op_tail_at t ts >>= two_lines bs name o void))
+    → (take_one (is GetElementPtr) ts >>= λ t ts. flags_at ts >>= λ _. choose (is OpenRound) (void_value_at bs name o void (gep_tail_at INNER_NESTING_LIMIT (value_at INNER_NESTING_LIMIT) t))
+    (λ ts. gep_op_tail_at t ts >>= two_lines bs name o void))
     ≡ behind_gep_at bs name o void ts
 gep_grouped bs name o void ts = gep_word bs name o void (take_one (is GetElementPtr) ts)
 
@@ -70,12 +74,15 @@ cast_either bs name o void t ts true = value_begun bs name o void (int_to_ptr_ta
 cast_either bs name o void t ts false = cast_line bs name o void (cast_tail_at t ts)
 
 cast_word : (bs : List Block) (name : Option Name) (o void : Span) (x : Read Token)
-    → (x >>= λ t. choose (is OpenRound) (void_value_at bs name o void (int_to_ptr_tail_at INNER_NESTING_LIMIT t)) (λ ts. cast_tail_at t ts >>= λ p ts. metadata_at ts >>= λ _. two_lines bs name o void p))
-    ≡ ((x >>= λ t. choose (is OpenRound) (λ ts. int_to_ptr_tail_at INNER_NESTING_LIMIT t ts >>= begun_value) (λ ts. cast_tail_at t ts >>= λ p ts. metadata_at ts >>= λ _. begun_line p)) >>= behind_begun_at bs name o void)
+    → (x >>= λ t. choose (is OpenRound) (void_value_at bs name o void (int_to_ptr_tail_at INNER_NESTING_LIMIT t))
+    (λ ts. cast_tail_at t ts >>= λ p ts. metadata_at ts >>= λ _. two_lines bs name o void p))
+    ≡ ((x >>= λ t. choose (is OpenRound) (λ ts. int_to_ptr_tail_at INNER_NESTING_LIMIT t ts >>= begun_value) (λ ts. cast_tail_at t ts >>= λ p ts. metadata_at ts >>= λ _. begun_line p)) >>=
+    behind_begun_at bs name o void)
 cast_word bs name o void (Good t rest) = cast_either bs name o void t rest (comes (is OpenRound) rest)
 cast_word bs name o void (Bad fault rest) = refl
 
 pub cast_grouped : (bs : List Block) (name : Option Name) (o void : Span) (ts : List Token)
-    → (take_one (is IntToPtr) ts >>= λ t. choose (is OpenRound) (void_value_at bs name o void (int_to_ptr_tail_at INNER_NESTING_LIMIT t)) (λ ts. cast_tail_at t ts >>= λ p ts. metadata_at ts >>= λ _. two_lines bs name o void p))
+    → (take_one (is IntToPtr) ts >>= λ t. choose (is OpenRound) (void_value_at bs name o void (int_to_ptr_tail_at INNER_NESTING_LIMIT t))
+    (λ ts. cast_tail_at t ts >>= λ p ts. metadata_at ts >>= λ _. two_lines bs name o void p))
     ≡ behind_cast_at bs name o void ts
 cast_grouped bs name o void ts = cast_word bs name o void (take_one (is IntToPtr) ts)

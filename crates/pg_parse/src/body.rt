@@ -11,7 +11,7 @@ use crate::next::next_part;
 use crate::parts::{AfterPart, Body, add_return};
 use pg_ast::BlockNode;
 use pg_grammar::{Class, ReadError, Token};
-use pg_terms::{ClassSet, contains, is_class, next_in, take, unsupported};
+use pg_terms::{ClassSet, Read, Text, contains, is_class, next_in, take, unsupported};
 use std::alloc::{AllocError, Global};
 
 /// A token goes on with what stands before the place, or begins the next part.
@@ -45,38 +45,29 @@ fn finished(alloc: Global, body: Body) -> Result<Vec<BlockNode>, AllocError>
     }
 }
 
-fn body_end(
-    alloc: Global,
-    tokens: &[Token],
-    at: usize,
-    body: Body,
-) -> Result<(Vec<BlockNode>, usize), ReadError>
-    requires { at ≤ length tokens.now }
-    ensures { Reads tokens.now at (λ x. map block_of x.0.items) (λ x. x.1) result (body_end_at (body_of body) (drop at tokens.now)) }
+fn body_end(text: &Text<'_>, at: usize, body: Body) -> Read<Vec<BlockNode>>
+    requires { at ≤ length text.now.tokens.now }
+    ensures { Reads text.now.tokens.now at (λ x. map block_of x.0.items) (λ x. x.1) result (body_end_at (body_of body) (drop at text.now.tokens.now)) }
 {
-    if next_in(tokens, at, ClassSet::NoOperation) {
+    if next_in(text.tokens, at, ClassSet::NoOperation) {
         return Err(ReadError::Refused(unsupported(at)));
     }
-    let (_, to) = take(tokens, at, Class::CloseBrace)?;
-    let blocks = finished(alloc, body)?;
+    let (_, to) = take(text.tokens, at, Class::CloseBrace)?;
+    let blocks = finished(text.alloc, body)?;
     Ok((blocks, to))
 }
 
 /// A body behind its opening brace.
-fn body_parts(
-    alloc: Global,
-    tokens: &[Token],
-    at: usize,
-) -> Result<(Vec<BlockNode>, usize), ReadError>
-    requires { at ≤ length tokens.now }
-    ensures { Reads tokens.now at (λ x. map block_of x.0.items) (λ x. x.1) result (parts_at (drop at tokens.now)) }
+fn body_parts(text: &Text<'_>, at: usize) -> Read<Vec<BlockNode>>
+    requires { at ≤ length text.now.tokens.now }
+    ensures { Reads text.now.tokens.now at (λ x. map block_of x.0.items) (λ x. x.1) result (parts_at (drop at text.now.tokens.now)) }
 {
-    let blocks = Vec::new(alloc);
+    let blocks = Vec::new(text.alloc);
     let after = AfterPart::Complete;
     let mut body = Body { blocks, after };
     let mut place = at;
-    'reading: while part_next(tokens, place, &body.after) {
-        match next_part(alloc, tokens, place, body) {
+    'reading: while part_next(text.tokens, place, &body.after) {
+        match next_part(text, place, body) {
             Err(error) => return Err(error),
             Ok((next, to)) => {
                 body = next;
@@ -84,19 +75,15 @@ fn body_parts(
             }
         }
     }
-    body_end(alloc, tokens, place, body)
+    body_end(text, place, body)
 }
 
 /// The blocks of a function.
 #[tactic(auto, unfolding(pg_grammar::specs::ReaderItems::body_at))]
-pub fn body(
-    alloc: Global,
-    tokens: &[Token],
-    at: usize,
-) -> Result<(Vec<BlockNode>, usize), ReadError>
-    requires { at ≤ length tokens.now }
-    ensures { Reads tokens.now at (λ x. map block_of x.0.items) (λ x. x.1) result (body_at (drop at tokens.now)) }
+pub fn body(text: &Text<'_>, at: usize) -> Read<Vec<BlockNode>>
+    requires { at ≤ length text.now.tokens.now }
+    ensures { Reads text.now.tokens.now at (λ x. map block_of x.0.items) (λ x. x.1) result (body_at (drop at text.now.tokens.now)) }
 {
-    let (_, at) = take(tokens, at, Class::OpenBrace)?;
-    body_parts(alloc, tokens, at)
+    let (_, at) = take(text.tokens, at, Class::OpenBrace)?;
+    body_parts(text, at)
 }

@@ -5,24 +5,25 @@ ghost use Rattle.pg_grammar.specs.ReaderItems.{constancy_at, global_item_at, typ
 ghost use Rattle.pg_grammar.specs.Views.{Reads, Takes};
 ghost use Rattle.pg_ast.specs.Views.{global_of, type_item_of};
 
-use pg_ast::{GlobalItem, TypeItem};
-use pg_grammar::{Class, ReadError, ReadRefusal, Token};
 use pg_num::limits::NESTING_LIMIT;
-use pg_terms::{ClassSet, attributes, constant, name, next_is, take, take_in, type_node};
-use std::alloc::Global;
+use pg_ast::{GlobalItem, TypeItem};
+use pg_grammar::{Class, ReadRefusal, Token};
+use pg_terms::{
+    ClassSet, Read, Text, attributes, constant, name, next_is, take, take_in, type_node,
+};
 
 /// A named type.
 #[tactic(auto, unfolding(pg_grammar::specs::ReaderItems::type_item_at))]
-pub fn type_item(alloc: Global, tokens: &[Token], at: usize) -> Result<(TypeItem, usize), ReadError>
-    requires { at ≤ length tokens.now }
-    ensures read { Reads tokens.now at (λ x. type_item_of x.0) (λ x. x.1) result (type_item_at (drop at tokens.now)) }
+pub fn type_item(text: &Text<'_>, at: usize) -> Read<TypeItem>
+    requires { at ≤ length text.now.tokens.now }
+    ensures read { Reads text.now.tokens.now at (λ x. type_item_of x.0) (λ x. x.1) result (type_item_at (drop at text.now.tokens.now)) }
     ensures on { IfOk result (λ x. at < x.1) }
 {
-    let (token, at) = take(tokens, at, Class::Local)?;
-    let (_, at) = take(tokens, at, Class::Equals)?;
-    let (_, at) = take(tokens, at, Class::TypeWord)?;
-    let name = name(alloc, token)?;
-    let (ty, at) = type_node(alloc, tokens, at, NESTING_LIMIT)?;
+    let (token, at) = take(text.tokens, at, Class::Local)?;
+    let (_, at) = take(text.tokens, at, Class::Equals)?;
+    let (_, at) = take(text.tokens, at, Class::TypeWord)?;
+    let name = name(text.alloc, token)?;
+    let (ty, at) = type_node(text, at, NESTING_LIMIT)?;
     Ok((TypeItem { name, ty }, at))
 }
 
@@ -41,22 +42,18 @@ fn constancy(tokens: &[Token], at: usize) -> Result<(bool, usize), ReadRefusal>
 
 /// A global, up to its constant.
 #[tactic(auto, unfolding(pg_grammar::specs::ReaderItems::global_item_at))]
-pub fn global_item(
-    alloc: Global,
-    tokens: &[Token],
-    at: usize,
-) -> Result<(GlobalItem, usize), ReadError>
-    requires { at ≤ length tokens.now }
-    ensures read { Reads tokens.now at (λ x. global_of x.0) (λ x. x.1) result (global_item_at (drop at tokens.now)) }
+pub fn global_item(text: &Text<'_>, at: usize) -> Read<GlobalItem>
+    requires { at ≤ length text.now.tokens.now }
+    ensures read { Reads text.now.tokens.now at (λ x. global_of x.0) (λ x. x.1) result (global_item_at (drop at text.now.tokens.now)) }
     ensures on { IfOk result (λ x. at < x.1) }
 {
-    let (token, at) = take_in(tokens, at, ClassSet::GlobalName)?;
-    let (_, at) = take(tokens, at, Class::Equals)?;
-    let at = attributes(tokens, at)?;
-    let (is_constant, at) = constancy(tokens, at)?;
-    let name = name(alloc, token)?;
-    let (ty, at) = type_node(alloc, tokens, at, NESTING_LIMIT)?;
-    let (value, at) = constant(alloc, tokens, at, NESTING_LIMIT)?;
+    let (token, at) = take_in(text.tokens, at, ClassSet::GlobalName)?;
+    let (_, at) = take(text.tokens, at, Class::Equals)?;
+    let at = attributes(text.tokens, at)?;
+    let (is_constant, at) = constancy(text.tokens, at)?;
+    let name = name(text.alloc, token)?;
+    let (ty, at) = type_node(text, at, NESTING_LIMIT)?;
+    let (value, at) = constant(text, at, NESTING_LIMIT)?;
     Ok((
         GlobalItem {
             name,

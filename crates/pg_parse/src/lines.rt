@@ -11,15 +11,12 @@ use crate::returns::return_line;
 use pg_ast::{BlockNode, Name};
 use pg_grammar::{Class, INNER_NESTING_LIMIT, ReadError, Token};
 use pg_operations::{call, simple_op};
-use pg_terms::{ClassSet, metadata_tail, name, next_in, next_is, skip_to, take, unsupported};
-use std::alloc::Global;
+use pg_terms::{
+    ClassSet, Read, Text, metadata_tail, name, next_in, next_is, skip_to, take, unsupported,
+};
 
 /// What is certain behind a call, or behind one of its attributes.
-pub fn called(
-    tokens: &[Token],
-    at: usize,
-    blocks: Vec<BlockNode>,
-) -> Result<(Body, usize), ReadError>
+pub fn called(tokens: &[Token], at: usize, blocks: Vec<BlockNode>) -> Read<Body>
     requires { at ≤ length tokens.now }
     ensures { Reads tokens.now at (λ x. body_of x.0) (λ x. x.1) result (called_at (map block_of blocks.items) (drop at tokens.now)) }
 {
@@ -35,93 +32,76 @@ pub fn called(
 
 /// An operation, as far as it is certain.
 #[tactic(auto, unfolding(pg_grammar::specs::ReaderItems::op_at))]
-fn op(
-    alloc: Global,
-    tokens: &[Token],
-    at: usize,
-    blocks: Vec<BlockNode>,
-    name: Option<Name>,
-) -> Result<(Body, usize), ReadError>
-    requires { at ≤ length tokens.now }
-    ensures read { Reads tokens.now at (λ x. body_of x.0) (λ x. x.1) result (op_at (map block_of blocks.items) name (drop at tokens.now)) }
+fn op(text: &Text<'_>, at: usize, blocks: Vec<BlockNode>, name: Option<Name>) -> Read<Body>
+    requires { at ≤ length text.now.tokens.now }
+    ensures read { Reads text.now.tokens.now at (λ x. body_of x.0) (λ x. x.1) result (op_at (map block_of blocks.items) name (drop at text.now.tokens.now)) }
     ensures on { IfOk result (λ x. at < x.1) }
 {
-    if next_in(tokens, at, ClassSet::Call) {
-        let (op, at) = call(alloc, tokens, at)?;
-        let blocks = add_call(alloc, blocks, name, op)?;
-        return called(tokens, at, blocks);
+    if next_in(text.tokens, at, ClassSet::Call) {
+        let (op, at) = call(text, at)?;
+        let blocks = add_call(text.alloc, blocks, name, op)?;
+        return called(text.tokens, at, blocks);
     }
-    if next_is(tokens, at, Class::Ret) {
-        return return_line(alloc, tokens, at, blocks, name);
+    if next_is(text.tokens, at, Class::Ret) {
+        return return_line(text, at, blocks, name);
     }
-    let (op, to) = simple_op(alloc, tokens, at)?;
-    let blocks = add_line(alloc, blocks, name, op)?;
+    let (op, to) = simple_op(text, at)?;
+    let blocks = add_line(text.alloc, blocks, name, op)?;
     let after = AfterPart::Complete;
     Ok((Body { blocks, after }, to))
 }
 
 /// A line that is dropped, behind its first token.
-pub fn debug_tail(
-    alloc: Global,
-    tokens: &[Token],
-    at: usize,
-    blocks: Vec<BlockNode>,
-) -> Result<(Body, usize), ReadError>
-    requires { at ≤ length tokens.now }
-    ensures { Reads tokens.now at (λ x. body_of x.0) (λ x. x.1) result (debug_tail_at (map block_of blocks.items) (drop at tokens.now)) }
+pub fn debug_tail(text: &Text<'_>, at: usize, blocks: Vec<BlockNode>) -> Read<Body>
+    requires { at ≤ length text.now.tokens.now }
+    ensures { Reads text.now.tokens.now at (λ x. body_of x.0) (λ x. x.1) result (debug_tail_at (map block_of blocks.items) (drop at text.now.tokens.now)) }
 {
-    let (_, at) = take(tokens, at, Class::OpenRound)?;
-    let to = skip_to(tokens, at, INNER_NESTING_LIMIT, Class::CloseRound)?;
-    let blocks = add_part(alloc, blocks, BodyPart::Dropped)?;
+    let (_, at) = take(text.tokens, at, Class::OpenRound)?;
+    let to = skip_to(text.tokens, at, INNER_NESTING_LIMIT, Class::CloseRound)?;
+    let blocks = add_part(text.alloc, blocks, BodyPart::Dropped)?;
     let after = AfterPart::Complete;
     Ok((Body { blocks, after }, to))
 }
 
 /// A line behind the name of its result.
 pub fn named_tail(
-    alloc: Global,
-    tokens: &[Token],
+    text: &Text<'_>,
     at: usize,
     blocks: Vec<BlockNode>,
     result_name: Name,
-) -> Result<(Body, usize), ReadError>
-    requires { at ≤ length tokens.now }
-    ensures { Reads tokens.now at (λ x. body_of x.0) (λ x. x.1) result (named_tail_at (map block_of blocks.items) result_name (drop at tokens.now)) }
+) -> Read<Body>
+    requires { at ≤ length text.now.tokens.now }
+    ensures { Reads text.now.tokens.now at (λ x. body_of x.0) (λ x. x.1) result (named_tail_at (map block_of blocks.items) result_name (drop at text.now.tokens.now)) }
 {
-    let (_, at) = take(tokens, at, Class::Equals)?;
-    if next_in(tokens, at, ClassSet::NoOperation) {
+    let (_, at) = take(text.tokens, at, Class::Equals)?;
+    if next_in(text.tokens, at, ClassSet::NoOperation) {
         return Err(ReadError::Refused(unsupported(at)));
     }
-    op(alloc, tokens, at, blocks, Some(result_name))
+    op(text, at, blocks, Some(result_name))
 }
 
 /// A label or a line, as far as it is certain.
 #[tactic(auto, unfolding(pg_grammar::specs::ReaderItems::part_at))]
-pub fn part(
-    alloc: Global,
-    tokens: &[Token],
-    at: usize,
-    blocks: Vec<BlockNode>,
-) -> Result<(Body, usize), ReadError>
-    requires { at ≤ length tokens.now }
-    ensures read { Reads tokens.now at (λ x. body_of x.0) (λ x. x.1) result (part_at (map block_of blocks.items) (drop at tokens.now)) }
+pub fn part(text: &Text<'_>, at: usize, blocks: Vec<BlockNode>) -> Read<Body>
+    requires { at ≤ length text.now.tokens.now }
+    ensures read { Reads text.now.tokens.now at (λ x. body_of x.0) (λ x. x.1) result (part_at (map block_of blocks.items) (drop at text.now.tokens.now)) }
     ensures on { IfOk result (λ x. at < x.1) }
 {
-    if next_is(tokens, at, Class::Label) {
-        let (token, to) = take(tokens, at, Class::Label)?;
-        let label = name(alloc, token)?;
-        let blocks = add_part(alloc, blocks, BodyPart::Label(label))?;
+    if next_is(text.tokens, at, Class::Label) {
+        let (token, to) = take(text.tokens, at, Class::Label)?;
+        let label = name(text.alloc, token)?;
+        let blocks = add_part(text.alloc, blocks, BodyPart::Label(label))?;
         let after = AfterPart::Complete;
         return Ok((Body { blocks, after }, to));
     }
-    if next_is(tokens, at, Class::DebugAttr) {
-        let (_, at) = take(tokens, at, Class::DebugAttr)?;
-        return debug_tail(alloc, tokens, at, blocks);
+    if next_is(text.tokens, at, Class::DebugAttr) {
+        let (_, at) = take(text.tokens, at, Class::DebugAttr)?;
+        return debug_tail(text, at, blocks);
     }
-    if next_is(tokens, at, Class::Local) {
-        let (token, at) = take(tokens, at, Class::Local)?;
-        let result_name = name(alloc, token)?;
-        return named_tail(alloc, tokens, at, blocks, result_name);
+    if next_is(text.tokens, at, Class::Local) {
+        let (token, at) = take(text.tokens, at, Class::Local)?;
+        let result_name = name(text.alloc, token)?;
+        return named_tail(text, at, blocks, result_name);
     }
-    op(alloc, tokens, at, blocks, None)
+    op(text, at, blocks, None)
 }

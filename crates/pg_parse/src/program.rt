@@ -14,87 +14,78 @@ use crate::items::{
 };
 use pg_ast::Module;
 use pg_grammar::{Class, ReadError, Token};
-use pg_terms::{ClassSet, attribute, next_in, next_is, take, take_in, unsupported};
-use std::alloc::Global;
+use pg_terms::{
+    ClassSet, Read, Text, attribute, next_in, next_is, take, take_in, unsupported,
+};
 
 /// An item, but for what may still go on with it.
 #[tactic(auto, unfolding(pg_grammar::specs::ReaderItems::item_at))]
-fn item(
-    alloc: Global,
-    tokens: &[Token],
-    at: usize,
-    tree: Module,
-) -> Result<(Items, usize), ReadError>
-    requires { at ≤ length tokens.now }
-    ensures read { Reads tokens.now at (λ x. items_of x.0) (λ x. x.1) result (item_at (tree_of tree) (drop at tokens.now)) }
+fn item(text: &Text<'_>, at: usize, tree: Module) -> Read<Items>
+    requires { at ≤ length text.now.tokens.now }
+    ensures read { Reads text.now.tokens.now at (λ x. items_of x.0) (λ x. x.1) result (item_at (tree_of tree) (drop at text.now.tokens.now)) }
     ensures on { IfOk result (λ x. at < x.1) }
 {
     let after = AfterItem::Done;
-    if next_in(tokens, at, ClassSet::MetadataName) {
-        let (_, at) = take_in(tokens, at, ClassSet::MetadataName)?;
-        let to = metadata_item_tail(tokens, at)?;
+    if next_in(text.tokens, at, ClassSet::MetadataName) {
+        let (_, at) = take_in(text.tokens, at, ClassSet::MetadataName)?;
+        let to = metadata_item_tail(text.tokens, at)?;
         return Ok((Items { tree, after }, to));
     }
-    if next_in(tokens, at, ClassSet::GlobalName) {
-        let (item, to) = global_item(alloc, tokens, at)?;
+    if next_in(text.tokens, at, ClassSet::GlobalName) {
+        let (item, to) = global_item(text, at)?;
         let tree = with_global(tree, item)?;
         let after = AfterItem::Valued;
         return Ok((Items { tree, after }, to));
     }
-    if next_is(tokens, at, Class::Declare) {
-        let (item, to) = declare_item(alloc, tokens, at)?;
+    if next_is(text.tokens, at, Class::Declare) {
+        let (item, to) = declare_item(text, at)?;
         let tree = with_declared(tree, item)?;
         let after = AfterItem::Declared;
         return Ok((Items { tree, after }, to));
     }
-    if next_is(tokens, at, Class::Define) {
-        let (item, to) = define_item(alloc, tokens, at)?;
+    if next_is(text.tokens, at, Class::Define) {
+        let (item, to) = define_item(text, at)?;
         let tree = with_defined(tree, item)?;
         return Ok((Items { tree, after }, to));
     }
-    if next_is(tokens, at, Class::Local) {
-        let (item, to) = type_item(alloc, tokens, at)?;
+    if next_is(text.tokens, at, Class::Local) {
+        let (item, to) = type_item(text, at)?;
         let tree = with_type(tree, item)?;
         return Ok((Items { tree, after }, to));
     }
-    if next_is(tokens, at, Class::Attributes) {
-        let to = attributes_item(tokens, at)?;
+    if next_is(text.tokens, at, Class::Attributes) {
+        let to = attributes_item(text.tokens, at)?;
         return Ok((Items { tree, after }, to));
     }
-    let to = text_item(tokens, at)?;
+    let to = text_item(text.tokens, at)?;
     Ok((Items { tree, after }, to))
 }
 
 /// More attributes, or the next item: metadata where an equals sign stands behind the name.
-fn behind_attributes(
-    alloc: Global,
-    tokens: &[Token],
-    at: usize,
-    items: Items,
-) -> Result<(Items, usize), ReadError>
-    requires { at ≤ length tokens.now }
-    ensures read { Reads tokens.now at (λ x. items_of x.0) (λ x. x.1) result (behind_attributes_at (tree_of items.tree) (after_of items.after) (drop at tokens.now)) }
+fn behind_attributes(text: &Text<'_>, at: usize, items: Items) -> Read<Items>
+    requires { at ≤ length text.now.tokens.now }
+    ensures read { Reads text.now.tokens.now at (λ x. items_of x.0) (λ x. x.1) result (behind_attributes_at (tree_of items.tree) (after_of items.after) (drop at text.now.tokens.now)) }
     ensures on { IfOk result (λ x. at < x.1) }
 {
-    if next_in(tokens, at, ClassSet::MetadataName) {
-        let (_, at) = take_in(tokens, at, ClassSet::MetadataName)?;
-        if next_in(tokens, at, ClassSet::MetadataName) {
-            let (_, to) = take_in(tokens, at, ClassSet::MetadataName)?;
+    if next_in(text.tokens, at, ClassSet::MetadataName) {
+        let (_, at) = take_in(text.tokens, at, ClassSet::MetadataName)?;
+        if next_in(text.tokens, at, ClassSet::MetadataName) {
+            let (_, to) = take_in(text.tokens, at, ClassSet::MetadataName)?;
             return Ok((items, to));
         }
-        let to = metadata_item_tail(tokens, at)?;
+        let to = metadata_item_tail(text.tokens, at)?;
         let tree = items.tree;
         let after = AfterItem::Done;
         return Ok((Items { tree, after }, to));
     }
-    if next_in(tokens, at, ClassSet::Item) {
-        return item(alloc, tokens, at, items.tree);
+    if next_in(text.tokens, at, ClassSet::Item) {
+        return item(text, at, items.tree);
     }
-    let to = attribute(tokens, at)?;
+    let to = attribute(text.tokens, at)?;
     Ok((items, to))
 }
 
-fn comma(tokens: &[Token], at: usize, tree: Module) -> Result<(Items, usize), ReadError>
+fn comma(tokens: &[Token], at: usize, tree: Module) -> Read<Items>
     requires { at ≤ length tokens.now }
     ensures read { Reads tokens.now at (λ x. items_of x.0) (λ x. x.1) result (comma_at (tree_of tree) (drop at tokens.now)) }
     ensures on { IfOk result (λ x. at < x.1) }
@@ -106,35 +97,30 @@ fn comma(tokens: &[Token], at: usize, tree: Module) -> Result<(Items, usize), Re
 
 /// What goes on with the last item, or the next one.
 #[tactic(auto, unfolding(pg_grammar::specs::ReaderItems::next_item_at))]
-fn next_item(
-    alloc: Global,
-    tokens: &[Token],
-    at: usize,
-    items: Items,
-) -> Result<(Items, usize), ReadError>
-    requires { at ≤ length tokens.now }
-    ensures read { Reads tokens.now at (λ x. items_of x.0) (λ x. x.1) result (next_item_at (items_of items) (drop at tokens.now)) }
+fn next_item(text: &Text<'_>, at: usize, items: Items) -> Read<Items>
+    requires { at ≤ length text.now.tokens.now }
+    ensures read { Reads text.now.tokens.now at (λ x. items_of x.0) (λ x. x.1) result (next_item_at (items_of items) (drop at text.now.tokens.now)) }
     ensures on { IfOk result (λ x. at < x.1) }
 {
     match items.after {
-        AfterItem::Done => item(alloc, tokens, at, items.tree),
-        AfterItem::Declared => behind_attributes(alloc, tokens, at, items),
+        AfterItem::Done => item(text, at, items.tree),
+        AfterItem::Declared => behind_attributes(text, at, items),
         AfterItem::Valued => {
-            if next_is(tokens, at, Class::Comma) {
-                return comma(tokens, at, items.tree);
+            if next_is(text.tokens, at, Class::Comma) {
+                return comma(text.tokens, at, items.tree);
             }
-            item(alloc, tokens, at, items.tree)
+            item(text, at, items.tree)
         }
         AfterItem::Tailed => {
-            if next_is(tokens, at, Class::Comma) {
-                return comma(tokens, at, items.tree);
+            if next_is(text.tokens, at, Class::Comma) {
+                return comma(text.tokens, at, items.tree);
             }
-            behind_attributes(alloc, tokens, at, items)
+            behind_attributes(text, at, items)
         }
     }
 }
 
-fn items_end(tokens: &[Token], at: usize, items: Items) -> Result<(Module, usize), ReadError>
+fn items_end(tokens: &[Token], at: usize, items: Items) -> Read<Module>
     requires { at ≤ length tokens.now }
     ensures { Reads tokens.now at (λ x. tree_of x.0) (λ x. x.1) result (items_end_at (items_of items) (drop at tokens.now)) }
 {
@@ -146,15 +132,15 @@ fn items_end(tokens: &[Token], at: usize, items: Items) -> Result<(Module, usize
 
 /// The items of a text, up to the first token that can be none of them.
 #[tactic(auto, unfolding(pg_grammar::specs::ReaderItems::program_at))]
-pub fn program(alloc: Global, tokens: &[Token]) -> Result<(Module, usize), ReadError>
-    ensures { Reads tokens.now 0 (λ x. tree_of x.0) (λ x. x.1) result (program_at tokens.now) }
+pub fn program(text: &Text<'_>) -> Read<Module>
+    ensures { Reads text.now.tokens.now 0 (λ x. tree_of x.0) (λ x. x.1) result (program_at text.now.tokens.now) }
 {
-    let tree = no_items(alloc);
+    let tree = no_items(text.alloc);
     let after = AfterItem::Done;
     let mut items = Items { tree, after };
     let mut place = 0;
-    'reading: while item_next(tokens, place, items.after) {
-        match next_item(alloc, tokens, place, items) {
+    'reading: while item_next(text.tokens, place, items.after) {
+        match next_item(text, place, items) {
             Err(error) => return Err(error),
             Ok((next, to)) => {
                 items = next;
@@ -162,5 +148,5 @@ pub fn program(alloc: Global, tokens: &[Token]) -> Result<(Module, usize), ReadE
             }
         }
     }
-    items_end(tokens, place, items)
+    items_end(text.tokens, place, items)
 }

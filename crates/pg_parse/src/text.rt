@@ -14,6 +14,7 @@ use crate::program::program;
 use pg_ast::Module;
 use pg_grammar::{Fault, ReadError, ReadFault, ReadRefusal, Token, classify};
 use pg_lex::{Span, lex};
+use pg_terms::Text;
 use std::alloc::Global;
 
 /// The module that a program text of at most `PROGRAM_TEXT_LIMIT` bytes is, or its first refusal.
@@ -33,7 +34,8 @@ fn whole(alloc: Global, text: &[u8], tokens: &[Token]) -> Result<Module, ReadFau
     ensures found { IfOk result (λ m. ended (program_at tokens.now) ≡ Good (tree_of m) []) }
     ensures refused { IfErr result (λ e. e ≢ OutOfMemory → IsTold text.now tokens.now e) }
 {
-    match program(alloc, tokens) {
+    let read = Text { alloc, tokens };
+    match program(&read) {
         Err(ReadError::Memory) => Err(ReadFault::OutOfMemory),
         Err(ReadError::Refused(refusal)) => Err(refused(text, tokens, refusal)),
         Ok((tree, at)) => {

@@ -2,12 +2,4 @@
 #![tactic(auto)]
 
 #[cfg(test)]
-mod memory;
-#[cfg(test)]
-mod objects;
-#[cfg(test)]
-mod programs;
-#[cfg(test)]
-mod steps;
-#[cfg(test)]
-mod traces;
+mod tests;

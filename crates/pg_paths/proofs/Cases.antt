@@ -38,22 +38,26 @@ module _ (is_set : ℕ → Bool) (types : List Scalar) where
       set_path r x rest ys h ∙ rw (e, t) (ap (λ o. option_and_then loaded o) (to rest from q' k) ∙ l)
 
   -- the other way: the nearest instruction that sets the register, or none
-  widen : (r : ℕ) (y : Instr) (ys : List Instr) (q : Path) → is_register y.result r ≡ false → HasPath is_set types ys (value.Register r) q → HasPath is_set types (y ∷ ys) (value.Register r) q
+  widen : (r : ℕ) (y : Instr) (ys : List Instr) (q : Path) → is_register y.result r ≡ false → HasPath is_set types ys (value.Register r) q
+      → HasPath is_set types (y ∷ ys) (value.Register r) q
   widen r y ys q n (register e h) = register e (also n h)
   widen r y ys q n (getelementptr h e k) = getelementptr (before n h) e k
   widen r y ys q n (load h e t k l) = load (before n h) e t k l
 
-  by_base : (r : ℕ) (y : Instr) (ys : List Instr) (base : Value) (is : List Index) (q : Path) → is_register y.result r ≡ true → y.op ≡ op.Gep base is → ((q' : Path) → path_of is_set types ys base ≡ Some q' → HasPath is_set types ys base q') →
+  by_base : (r : ℕ) (y : Instr) (ys : List Instr) (base : Value) (is : List Index) (q : Path) → is_register y.result r ≡ true → y.op ≡ op.Gep base is
+      → ((q' : Path) → path_of is_set types ys base ≡ Some q' → HasPath is_set types ys base q') →
       (o : Option Path) → path_of is_set types ys base ≡ o → option_map (moved is) o ≡ Some q → HasPath is_set types (y ∷ ys) (value.Register r) q
   by_base r y ys base is q s e f None p k = absurd cc
   by_base r y ys base is q s e f (Some q') p k = let t : moved is q' ≡ q = cc in subst (λ (z : Path). HasPath is_set types (y ∷ ys) (value.Register r) z) t (getelementptr (here s) e (f q' p))
 
-  by_address : (r : ℕ) (y : Instr) (ys : List Instr) (w : Width) (from : Value) (q : Path) → is_register y.result r ≡ true → y.op ≡ op.Load w from → has_pointer types y.result ≡ true → ((q' : Path) → path_of is_set types ys from ≡ Some q' → HasPath is_set types ys from q') →
+  by_address : (r : ℕ) (y : Instr) (ys : List Instr) (w : Width) (from : Value) (q : Path) → is_register y.result r ≡ true → y.op ≡ op.Load w from
+      → has_pointer types y.result ≡ true → ((q' : Path) → path_of is_set types ys from ≡ Some q' → HasPath is_set types ys from q') →
       (o : Option Path) → path_of is_set types ys from ≡ o → option_and_then loaded o ≡ Some q → HasPath is_set types (y ∷ ys) (value.Register r) q
   by_address r y ys w from q s e t f None p k = absurd cc
   by_address r y ys w from q s e t f (Some q') p k = load (here s) e t (f q' p) k
 
-  by_op : (r : ℕ) (y : Instr) (ys : List Instr) (q : Path) → is_register y.result r ≡ true → ((v : Value) (q' : Path) → path_of is_set types ys v ≡ Some q' → HasPath is_set types ys v q') →
+  by_op : (r : ℕ) (y : Instr) (ys : List Instr) (q : Path) → is_register y.result r ≡ true
+      → ((v : Value) (q' : Path) → path_of is_set types ys v ≡ Some q' → HasPath is_set types ys v q') →
       (o : Op) → y.op ≡ o → (b : Bool) → has_pointer types y.result ≡ b → path_by (register_path is_set types ys) b o ≡ Some q → HasPath is_set types (y ∷ ys) (value.Register r) q
   by_op r y ys q s f (op.Gep base is) e b t k = by_base r y ys base is q s e (f base) (path_of is_set types ys base) refl k
   by_op r y ys q s f (op.Load w from) e true t k = by_address r y ys w from q s e t (f from) (path_of is_set types ys from) refl k
@@ -71,7 +75,8 @@ module _ (is_set : ℕ → Bool) (types : List Scalar) where
       go false s k = let t : rooted (root.Register r) ≡ q = cc in subst (λ (z : Path). HasPath is_set types [] (value.Register r) z) t (register s none)
   from (y ∷ ys) (value.Register r) q e = go (is_register y.result r) refl e (λ v q' k. from ys v q' k)
     where
-      go : (b : Bool) → is_register y.result r ≡ b → cond b (path_by (register_path is_set types ys) (has_pointer types y.result) y.op) (register_path is_set types ys r) ≡ Some q → ((v : Value) (q' : Path) → path_of is_set types ys v ≡ Some q' → HasPath is_set types ys v q') → HasPath is_set types (y ∷ ys) (value.Register r) q
+      go : (b : Bool) → is_register y.result r ≡ b → cond b (path_by (register_path is_set types ys) (has_pointer types y.result) y.op) (register_path is_set types ys r) ≡ Some q
+          → ((v : Value) (q' : Path) → path_of is_set types ys v ≡ Some q' → HasPath is_set types ys v q') → HasPath is_set types (y ∷ ys) (value.Register r) q
       go true s k f = by_op r y ys q s f y.op refl (has_pointer types y.result) refl k
       go false s k f = widen r y ys q s (f (value.Register r) q k)
 

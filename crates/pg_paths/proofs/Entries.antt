@@ -1,5 +1,6 @@
 -- The entries of registers, by the number of the block in which each was put.
-use Rattle.std.proofs.Common.{◌≡◌, ◌≢◌, ℕ, zero, suc, ◌+◌, ◌<◌, ◌≤◌, ◌==◌, Bool, true, false, cond, List, [], ◌∷◌, length, replicate, Option, Some, None, refl, sym, ap, ◌∙◌, subst, arith, inl, inr, ◌⊎◌}
+use Rattle.std.proofs.Common.{◌≡◌, ◌≢◌, ℕ, zero, suc, ◌+◌, ◌<◌, ◌≤◌, ◌==◌, Bool, true, false, cond, List, [], ◌∷◌, length, replicate, Option, Some}
+use Rattle.std.proofs.Common.{None, refl, sym, ap, ◌∙◌, subst, arith, inl, inr, ◌⊎◌}
 use Rattle.std.specs.Prelude.{slice_get, slice_set}
 use Rattle.std.proofs.lemmas.Bool.{cases_eq, eq-eqb, ne_eqb}
 use Rattle.pg_paths.specs.declared.entry.Entry.{Entry}
@@ -55,7 +56,8 @@ past_of false t e o le h = h
 pub past_set : (es : List Entry) (r t : ℕ) (e : Entry) → r < length es → e.turn ≤ t → ArePast es t → ArePast (slice_set es r e) t
 past_set es r t e lt le h = record { past = λ s. rw (get_set es r s e lt) (past_of (r == s) t e (slice_get es s) le (h.past s)) }
 
-put_one : (is_set : ℕ → Bool) (b : Bool) (t s : ℕ) (path : Option Path) (o : Option Entry) → entry_path is_set t (cond b (Some (record { turn = t; path = path })) o) s ≡ cond b path (entry_path is_set t o s)
+put_one : (is_set : ℕ → Bool) (b : Bool) (t s : ℕ) (path : Option Path) (o : Option Entry)
+    → entry_path is_set t (cond b (Some (record { turn = t; path = path })) o) s ≡ cond b path (entry_path is_set t o s)
 put_one is_set true t s path o = rw (eq-eqb t t refl) refl
 put_one is_set false t s path o = refl
 

@@ -1,2 +1,3 @@
 pub mod Entries
 pub mod Cases
+pub mod Elements

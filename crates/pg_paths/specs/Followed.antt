@@ -1,18 +1,14 @@
 -- A root path followed in memory: registers have numbers or were never set, and each place of eight bytes has a number.
 use Rattle.std.specs.Prelude.{ℕ, List, [], ◌∷◌, pos, Option, Some, None, Result, Ok, Err, option_map, option_and_then, slice_get}
 use Rattle.pg_num.specs.Places.{ByteRange}
-use Rattle.pg_num.specs.Pointers.{word_of, pointer_of, moved_by, place_of}
+use Rattle.pg_num.specs.Pointers.{pointer_of, moved_by, place_of}
 use Rattle.pg_num.specs.declared.places.PlaceFault.{PlaceFault}
-use Rattle.pg_ir.specs.declared.function.GlobalInfo.{GlobalInfo}
+pub use Rattle.pg_ir.specs.Program.{pointer_to}
 use Rattle.pg_ir.specs.Program.{NumberedProgram}
 use Rattle.pg_paths.specs.declared.path.Root.{Root}
 use Rattle.pg_paths.specs.declared.path.Root.TheVariants as root
 use Rattle.pg_paths.specs.declared.path.RootPath.{RootPath}
 use Rattle.pg_paths.specs.Paths.{offsets_of}
-
-abbrev pub pointer_to : Option GlobalInfo → Option ℕ
-pointer_to None = None
-pointer_to (Some g) = Some (word_of (record { start = g.start; length = g.size; offset = 0 }))
 
 -- the value of a root; a parameter has one only in a call
 abbrev pub root_value : NumberedProgram → (ℕ → Option ℕ) → Root → Option ℕ

@@ -1,3 +1,5 @@
+//! What is known of one register.
+
 use crate::path::Path;
 
 /// The path of a register that was set, if it has one, and by which block: the number that it has in the order in

@@ -1,3 +1,5 @@
+//! Root paths: where pointers come from.
+
 ghost use Rattle.std.specs.Prelude.{◌≡◌, ◌+◌, ◌%◌, ◌^◌};
 ghost use Rattle.pg_paths.specs.Paths.{one_more, appended, shifted, loaded, composed, rooted};
 

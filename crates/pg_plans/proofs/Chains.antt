@@ -1,5 +1,6 @@
 -- Ordered steps have a chain of events between them, and a chain stays where more steps are events.
-use Rattle.std.proofs.Common.{◌≡◌, ◌≢◌, ℕ, ◌==◌, ◌<◌, ◌≤◌, ◌⊎◌, Bool, true, false, cond, List, [], ◌∷◌, ◌++◌, length, Some, refl, sym, ap, ◌∙◌, subst, arith, suc, inl, inr}
+use Rattle.std.proofs.Common.{◌≡◌, ◌≢◌, ℕ, ◌==◌, ◌<◌, ◌≤◌, ◌⊎◌, Bool, true, false, cond, List, [], ◌∷◌, ◌++◌, length, Some, refl, sym, ap}
+use Rattle.std.proofs.Common.{◌∙◌, subst, arith, suc, inl, inr}
 use Rattle.std.specs.Prelude.{slice_get, ◌&&◌, ◌||◌}
 use Rattle.std.specs.List.{AllByRecursion as AllOf}
 use Rattle.std.proofs.lemmas.Bool.{true≢false, eqb-true, eqb-false, eq-eqb, and_parts, and_from, or_cases, or_left, or_right, cases_Bool}
@@ -18,7 +19,8 @@ module _ {A : Type 0} (V : View A) (T : List ℕ) where
   last_event u k [] a h = absurd (true≢false (sym h))
   last_event u k (x ∷ xs) a h = go (or_cases (V.is_event x && (u == V.thread x)) (has_event V u xs) h) (last_event u (done_after (V.is_event x) k) xs a.1)
     where
-      go : ((V.is_event x && (u == V.thread x)) ≡ true) ⊎ (has_event V u xs ≡ true) → (has_event V u xs ≡ true → done_after (V.is_event x) k < last_before u T (turns_done V (done_after (V.is_event x) k) xs)) →
+      go : ((V.is_event x && (u == V.thread x)) ≡ true) ⊎ (has_event V u xs ≡ true)
+          → (has_event V u xs ≡ true → done_after (V.is_event x) k < last_before u T (turns_done V (done_after (V.is_event x) k) xs)) →
           k < last_before u T (turns_done V (done_after (V.is_event x) k) xs)
       go (inl e) ih =
           let p = and_parts (V.is_event x) (u == V.thread x) e in
@@ -57,7 +59,8 @@ module _ {A : Type 0} (V : View A) (T : List ℕ) where
   -- ---- chains
 
   -- an event of t that isn't the present step leaves its next turn where it is
-  next_stays : (t k : ℕ) (x : A) → k ≤ length T → (V.is_event x ≡ true → slice_get T k ≡ Some (V.thread x)) → (V.is_event x && (t == V.thread x)) ≡ false → next_from t T k ≡ next_from t T (done_after (V.is_event x) k)
+  next_stays : (t k : ℕ) (x : A) → k ≤ length T → (V.is_event x ≡ true → slice_get T k ≡ Some (V.thread x)) → (V.is_event x && (t == V.thread x)) ≡ false
+      → next_from t T k ≡ next_from t T (done_after (V.is_event x) k)
   next_stays t k x le a h = go (V.is_event x) refl
     where
       other : (b c : Bool) → b ≡ true → (b && c) ≡ false → c ≡ false
@@ -121,7 +124,8 @@ module _ {A : Type 0} (V : View A) (T : List ℕ) where
   at_later P k [] y ys h = h.0
   at_later P k (x ∷ mid) y ys h = at_later P (done_after (V.is_event x) k) mid y ys h.1
 
-  from_later : (P : Timed A → Type 0) (k : ℕ) (xs : List A) → ((mid : List A) (y : A) (ys : List A) → xs ≡ mid ++ y ∷ ys → P (timed V T (turns_done V k mid) y)) → AllOf P (times V T k xs)
+  from_later : (P : Timed A → Type 0) (k : ℕ) (xs : List A) → ((mid : List A) (y : A) (ys : List A) → xs ≡ mid ++ y ∷ ys → P (timed V T (turns_done V k mid) y))
+      → AllOf P (times V T k xs)
   from_later P k [] h = tt
   from_later P k (x ∷ xs) h = (h [] x xs refl, from_later P (done_after (V.is_event x) k) xs (λ mid y ys e. h (x ∷ mid) y ys (ap (λ l. x ∷ l) e)))
 
@@ -141,9 +145,11 @@ module _ {A : Type 0} (V : View A) (T : List ℕ) where
   pub chain_between : (k : ℕ) (x : A) (xs : List A) → k ≤ length T → AreTurns V T k (x ∷ xs) → (mid : List A) (y : A) (ys : List A) → xs ≡ mid ++ y ∷ ys → Conflict V x y →
       AreOrdered (timed V T k x) (timed V T (turns_done V (done_after (V.is_event x) k) mid) y) → has_chain V (V.thread x) (V.thread y) (x ∷ mid ++ y ∷ []) ≡ true
   chain_between k x xs le a mid y ys e c o =
-      go o (at_later (λ z. (timed V T k x).low ≤ z.high) (done_after (V.is_event x) k) mid y ys (subst (λ l. AllOf (λ z. (timed V T k x).low ≤ z.high) (times V T (done_after (V.is_event x) k) l)) e (low_high V T k (x ∷ xs) le a).0))
+      go o (at_later (λ z. (timed V T k x).low ≤ z.high) (done_after (V.is_event x) k) mid y ys
+      (subst (λ l. AllOf (λ z. (timed V T k x).low ≤ z.high) (times V T (done_after (V.is_event x) k) l)) e (low_high V T k (x ∷ xs) le a).0))
     where
-      go : AreOrdered (timed V T k x) (timed V T (turns_done V (done_after (V.is_event x) k) mid) y) → (timed V T k x).low ≤ (timed V T (turns_done V (done_after (V.is_event x) k) mid) y).high → has_chain V (V.thread x) (V.thread y) (x ∷ mid ++ y ∷ []) ≡ true
+      go : AreOrdered (timed V T k x) (timed V T (turns_done V (done_after (V.is_event x) k) mid) y)
+          → (timed V T k x).low ≤ (timed V T (turns_done V (done_after (V.is_event x) k) mid) y).high → has_chain V (V.thread x) (V.thread y) (x ∷ mid ++ y ∷ []) ≡ true
       go (inl lt) up = chain_of_ordered (V.thread x) (V.thread y) k (x ∷ mid ++ y ∷ []) c.threads le (front_turns k (x ∷ xs) (x ∷ mid) y ys (ap (λ l. x ∷ l) e) a)
           (subst (λ n. next_from (V.thread x) T k < last_before (V.thread y) T n) (sym (done_last (done_after (V.is_event x) k) mid y)) lt)
       go (inr lt) up = absurd (omega arith)
@@ -152,7 +158,8 @@ module _ {A : Type 0} (V : View A) (T : List ℕ) where
   chained k [] le a o = tt
   chained k (x ∷ xs) le a o = (
     (λ mid y ys e c. chain_between k x xs le a mid y ys e c
-        (at_later (λ z. Conflict V x z.did → AreOrdered (timed V T k x) z) (done_after (V.is_event x) k) mid y ys (subst (λ l. AllOf (λ z. Conflict V x z.did → AreOrdered (timed V T k x) z) (times V T (done_after (V.is_event x) k) l)) e o.0) c)),
+        (at_later (λ z. Conflict V x z.did → AreOrdered (timed V T k x) z) (done_after (V.is_event x) k) mid y ys
+        (subst (λ l. AllOf (λ z. Conflict V x z.did → AreOrdered (timed V T k x) z) (times V T (done_after (V.is_event x) k) l)) e o.0) c)),
     chained (done_after (V.is_event x) k) xs (within_after V T k x le a.0) a.1 o.1,
   )
 
@@ -163,7 +170,8 @@ module _ {A : Type 0} (V : View A) (T : List ℕ) where
     ordered_of_chained (done_after (V.is_event x) k) xs (within_after V T k x le a.0) a.1 h.1,
   )
     where
-      here : (mid : List A) (y : A) (ys : List A) → xs ≡ mid ++ y ∷ ys → Conflict V x y → next_from (V.thread x) T k < last_before (V.thread y) T (done_after (V.is_event y) (turns_done V (done_after (V.is_event x) k) mid))
+      here : (mid : List A) (y : A) (ys : List A) → xs ≡ mid ++ y ∷ ys → Conflict V x y
+          → next_from (V.thread x) T k < last_before (V.thread y) T (done_after (V.is_event y) (turns_done V (done_after (V.is_event x) k) mid))
       here mid y ys e c = subst (λ n. next_from (V.thread x) T k < last_before (V.thread y) T n) (done_last (done_after (V.is_event x) k) mid y)
           (ordered_by_chain (V.thread x) (V.thread y) k (x ∷ mid ++ y ∷ []) le (front_turns k (x ∷ xs) (x ∷ mid) y ys (ap (λ l. x ∷ l) e) a) (h.0 mid y ys e c))
 
@@ -174,7 +182,8 @@ module _ {A : Type 0} (V W : View A) (finer : IsFiner V W) where
   event_finer u [] h = h
   event_finer u (x ∷ xs) h = go (or_cases (V.is_event x && (u == V.thread x)) (has_event V u xs) h) (event_finer u xs)
     where
-      go : ((V.is_event x && (u == V.thread x)) ≡ true) ⊎ (has_event V u xs ≡ true) → (has_event V u xs ≡ true → has_event W u xs ≡ true) → ((W.is_event x && (u == W.thread x)) || has_event W u xs) ≡ true
+      go : ((V.is_event x && (u == V.thread x)) ≡ true) ⊎ (has_event V u xs ≡ true) → (has_event V u xs ≡ true → has_event W u xs ≡ true)
+          → ((W.is_event x && (u == W.thread x)) || has_event W u xs) ≡ true
       go (inl e) ih = let p = and_parts (V.is_event x) (u == V.thread x) e in
           or_left (W.is_event x && (u == W.thread x)) (has_event W u xs) (and_from (W.is_event x) (u == W.thread x) (finer.events x p.0) (subst (λ t. (u == t) ≡ true) (finer.threads x) p.1))
       go (inr e) ih = or_right (W.is_event x && (u == W.thread x)) (has_event W u xs) (ih e)
@@ -193,7 +202,8 @@ module _ {A : Type 0} (V W : View A) (finer : IsFiner V W) where
   chain_finer t u (x ∷ xs) h = go (V.is_event x && (t == V.thread x)) (W.is_event x && (t == W.thread x)) refl refl h (chain_finer t u xs) (event_finer u xs) (chain_event t u xs)
     where
       go : (b c : Bool) → (V.is_event x && (t == V.thread x)) ≡ b → (W.is_event x && (t == W.thread x)) ≡ c → cond b (has_event V u xs) (has_chain V t u xs) ≡ true →
-          (has_chain V t u xs ≡ true → has_chain W t u xs ≡ true) → (has_event V u xs ≡ true → has_event W u xs ≡ true) → (has_chain W t u xs ≡ true → has_event W u xs ≡ true) →
+          (has_chain V t u xs ≡ true → has_chain W t u xs ≡ true) → (has_event V u xs ≡ true → has_event W u xs ≡ true)
+          → (has_chain W t u xs ≡ true → has_event W u xs ≡ true) →
           cond c (has_event W u xs) (has_chain W t u xs) ≡ true
       go true true p q h ih ev ch = ev h
       go true false p q h ih ev ch = absurd (true≢false (sym (later p) ∙ q))
@@ -205,7 +215,8 @@ module _ {A : Type 0} (V W : View A) (finer : IsFiner V W) where
 
   -- two events of different threads are a chain
   pub events_chain : (x : A) (mid : List A) (y : A) → W.is_event x ≡ true → W.is_event y ≡ true → has_chain W (W.thread x) (W.thread y) (x ∷ mid ++ y ∷ []) ≡ true
-  events_chain x mid y v w = let q : (W.is_event x && (W.thread x == W.thread x)) ≡ true = and_from (W.is_event x) (W.thread x == W.thread x) v (eq-eqb (W.thread x) (W.thread x) refl) in rw q (last mid)
+  events_chain x mid y v w = let q : (W.is_event x && (W.thread x == W.thread x)) ≡ true =
+      and_from (W.is_event x) (W.thread x == W.thread x) v (eq-eqb (W.thread x) (W.thread x) refl) in rw q (last mid)
     where
       last : (mid : List A) → has_event W (W.thread y) (mid ++ y ∷ []) ≡ true
       last [] = or_left (W.is_event y && (W.thread y == W.thread y)) false (and_from (W.is_event y) (W.thread y == W.thread y) w (eq-eqb (W.thread y) (W.thread y) refl))
@@ -219,8 +230,10 @@ module _ {A : Type 0} (V W : View A) (finer : IsFiner V W) where
   chained_finer (x ∷ xs) h =
       ((λ mid y ys e c. here mid y (h [] x mid y ys (ap (λ l. x ∷ l) e) c)), chained_finer xs (λ before z mid y ys e c. h (x ∷ before) z mid y ys (ap (λ l. x ∷ l) e) c))
     where
-      here : (mid : List A) (y : A) → (has_chain V (V.thread x) (V.thread y) (x ∷ mid ++ y ∷ []) ≡ true) ⊎ ((W.is_event x ≡ true) × (W.is_event y ≡ true)) → has_chain W (W.thread x) (W.thread y) (x ∷ mid ++ y ∷ []) ≡ true
-      here mid y (inl c) = chain_finer (W.thread x) (W.thread y) (x ∷ mid ++ y ∷ []) (subst (λ u. has_chain V (W.thread x) u (x ∷ mid ++ y ∷ []) ≡ true) (finer.threads y) (subst (λ t. has_chain V t (V.thread y) (x ∷ mid ++ y ∷ []) ≡ true) (finer.threads x) c))
+      here : (mid : List A) (y : A) → (has_chain V (V.thread x) (V.thread y) (x ∷ mid ++ y ∷ []) ≡ true) ⊎ ((W.is_event x ≡ true) × (W.is_event y ≡ true))
+          → has_chain W (W.thread x) (W.thread y) (x ∷ mid ++ y ∷ []) ≡ true
+      here mid y (inl c) = chain_finer (W.thread x) (W.thread y) (x ∷ mid ++ y ∷ [])
+          (subst (λ u. has_chain V (W.thread x) u (x ∷ mid ++ y ∷ []) ≡ true) (finer.threads y) (subst (λ t. has_chain V t (V.thread y) (x ∷ mid ++ y ∷ []) ≡ true) (finer.threads x) c))
       here mid y (inr e) = events_chain x mid y e.0 e.1
 
   conflict_coarser : (x y : A) → Conflict W x y → Conflict V x y
@@ -241,7 +254,8 @@ module _ {A : Type 0} (V W : View A) (finer : IsFiner V W) where
   settled_pairs T k (w ∷ xs) le a o [] x mid y ys e c =
       subst (λ q. (has_chain V (V.thread q) (V.thread y) (q ∷ mid ++ y ∷ []) ≡ true) ⊎ ((W.is_event q ≡ true) × (W.is_event y ≡ true))) (cons_head e)
       (go (at_later V T (λ z. Conflict V w z.did → AreOrdered (timed V T k w) z ⊎ ((W.is_event w ≡ true) × (W.is_event z.did ≡ true))) (done_after (V.is_event w) k) mid y ys
-      (subst (λ l. AllOf (λ z. Conflict V w z.did → AreOrdered (timed V T k w) z ⊎ ((W.is_event w ≡ true) × (W.is_event z.did ≡ true))) (times V T (done_after (V.is_event w) k) l)) (cons_tail e) o.0) conflict))
+      (subst (λ l. AllOf (λ z. Conflict V w z.did → AreOrdered (timed V T k w) z ⊎ ((W.is_event w ≡ true) × (W.is_event z.did ≡ true))) (times V T (done_after (V.is_event w) k) l))
+      (cons_tail e) o.0) conflict))
     where
       conflict : Conflict V w y
       conflict = subst (λ q. Conflict V q y) (sym (cons_head e)) (conflict_coarser x y c)

@@ -21,8 +21,10 @@ module _ {A : Type 0} (V : View A) where
 
   none_marked : (t : ℕ) (c : ℕ → ℕ) (xs : List (Timed A)) → c t ≡ 0 → AllOf (λ n. n.done ≡ true → V.thread n.step.did ≢ t) (marked V c xs)
   none_marked t c [] h = tt
-  none_marked t c (x ∷ xs) h =
-      ((λ w e. let z = ltb-true 0 (c (V.thread x.did)) w in let y : c (V.thread x.did) ≡ 0 = ap c e ∙ h in absurd (omega (arith, z, y))), none_marked t (one_less (V.thread x.did) c) xs (less_zero (V.thread x.did) t c h))
+  none_marked t c (x ∷ xs) h = (
+    (λ w e. let z = ltb-true 0 (c (V.thread x.did)) w in let y : c (V.thread x.did) ≡ 0 = ap c e ∙ h in absurd (omega (arith, z, y))),
+    none_marked t (one_less (V.thread x.did) c) xs (less_zero (V.thread x.did) t c h),
+  )
 
   -- the first steps of each thread are a cut
   pub cut_marked : (c : ℕ → ℕ) (xs : List (Timed A)) → IsCut V (marked V c xs)
@@ -59,7 +61,8 @@ module _ {A : Type 0} (V : View A) where
       t : ℕ
       t = V.thread m.step.did
 
-      counted : (b : Bool) → m.done ≡ b → nat_lt 0 (cond b (cond (V.thread m.step.did == V.thread m.step.did) (suc (count_done V ms (V.thread m.step.did))) (count_done V ms (V.thread m.step.did))) (count_done V ms (V.thread m.step.did))) ≡ b
+      counted : (b : Bool) → m.done ≡ b → nat_lt 0 (cond b
+          (cond (V.thread m.step.did == V.thread m.step.did) (suc (count_done V ms (V.thread m.step.did))) (count_done V ms (V.thread m.step.did))) (count_done V ms (V.thread m.step.did))) ≡ b
       counted true w = rw (eq-eqb (V.thread m.step.did) (V.thread m.step.did) refl) (lt-ltb 0 (suc (count_done V ms (V.thread m.step.did))) (omega arith))
       counted false w = let z = none_counted (V.thread m.step.did) ms (h.0 w) in le-ltb 0 (count_done V ms (V.thread m.step.did)) (omega (arith, z))
 
@@ -67,14 +70,17 @@ module _ {A : Type 0} (V : View A) where
       rest b w u = one b (u == V.thread m.step.did) w refl
         where
           one : (b e : Bool) → m.done ≡ b → (u == V.thread m.step.did) ≡ e →
-              cond (u == V.thread m.step.did) (cond m.done (cond (u == V.thread m.step.did) (suc (count_done V ms u)) (count_done V ms u)) (count_done V ms u) - 1) (cond m.done (cond (u == V.thread m.step.did) (suc (count_done V ms u)) (count_done V ms u)) (count_done V ms u)) ≡ count_done V ms u
+              cond (u == V.thread m.step.did) (cond m.done (cond (u == V.thread m.step.did) (suc (count_done V ms u)) (count_done V ms u)) (count_done V ms u) - 1)
+              (cond m.done (cond (u == V.thread m.step.did) (suc (count_done V ms u)) (count_done V ms u)) (count_done V ms u)) ≡ count_done V ms u
           one true true w v = rw (w, v) (omega arith)
           one true false w v = rw (w, v) refl
-          one false true w v = rw (w, v) (let q = eqb-true u (V.thread m.step.did) v in let z : count_done V ms u ≡ 0 = ap (count_done V ms) q ∙ none_counted (V.thread m.step.did) ms (h.0 w) in omega (arith, z))
+          one false true w v = rw (w, v) (let q = eqb-true u (V.thread m.step.did) v in
+              let z : count_done V ms u ≡ 0 = ap (count_done V ms) q ∙ none_counted (V.thread m.step.did) ms (h.0 w) in omega (arith, z))
           one false false w v = rw (w, v) refl
 
       go : (b : Bool) → m.done ≡ b → marked V (count_done V ms) (whole ms) ≡ ms → marked V (count_done V (m ∷ ms)) (m.step ∷ whole ms) ≡ m ∷ ms
       go b w ih =
           let head : nat_lt 0 (count_done V (m ∷ ms) (V.thread m.step.did)) ≡ m.done = rw w (counted b w) in
-          let tail : marked V (one_less (V.thread m.step.did) (count_done V (m ∷ ms))) (whole ms) ≡ ms = marked_same (one_less (V.thread m.step.did) (count_done V (m ∷ ms))) (count_done V ms) (whole ms) (rest b w) ∙ ih in
+          let tail : marked V (one_less (V.thread m.step.did) (count_done V (m ∷ ms))) (whole ms) ≡ ms =
+          marked_same (one_less (V.thread m.step.did) (count_done V (m ∷ ms))) (count_done V ms) (whole ms) (rest b w) ∙ ih in
           ap (λ d. (record { done = d; step = m.step }) ∷ marked V (one_less (V.thread m.step.did) (count_done V (m ∷ ms))) (whole ms)) head ∙ ap (λ l. m ∷ l) tail

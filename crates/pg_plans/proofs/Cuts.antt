@@ -1,5 +1,6 @@
 -- A cut, and the first step of a thread that isn't done: what it has to do with the others.
-use Rattle.std.proofs.Common.{◌≡◌, ◌≢◌, ℕ, ◌<◌, ◌≤◌, ◌⊎◌, Bool, true, false, List, ◌∷◌, ◌++◌, length, Some, refl, sym, ap, ◌∙◌, subst, arith, suc, inl, inr}
+use Rattle.std.proofs.Common.{◌≡◌, ◌≢◌, ℕ, ◌<◌, ◌≤◌, ◌⊎◌, Bool, true, false, List, ◌∷◌, ◌++◌, length, Some, refl, sym, ap, ◌∙◌, subst, arith}
+use Rattle.std.proofs.Common.{suc, inl, inr}
 use Rattle.std.specs.Prelude.{slice_get}
 use Rattle.std.specs.List.{AllByRecursion as AllOf}
 use Rattle.std.proofs.lemmas.Bool.{cases_eq, cases_lt, cases_Bool, cases_order, false_from_ne_true}
@@ -9,7 +10,8 @@ use Rattle.pg_plans.specs.Cuts.{Mark, pending, performed, whole, IsCut, IsWithin
 use Rattle.pg_plans.specs.Plans.{IsPlan}
 use Rattle.pg_plans.proofs.Lists.{all_map, both_of, all_left, all_right, all_join, pairs_before, pairs_after, did_append, whole_append, at_marks, at_steps, cut_at}
 use Rattle.pg_plans.proofs.Turns.{one_owner, last_of_own, last_same, next_of_own, next_same, owner_below}
-use Rattle.pg_plans.proofs.Times.{did_times, turns_left_of, turns_right_of, within_end, event_low, event_high, plain_low, low_high, events_low, events_below, highs_own, timed_at, times_front, last_bound}
+use Rattle.pg_plans.proofs.Times.{did_times, turns_left_of, turns_right_of, within_end, event_low, event_high, plain_low, low_high, events_low, events_below, highs_own, timed_at}
+use Rattle.pg_plans.proofs.Times.{times_front, last_bound}
 
 module _ {A : Type 0} (V : View A) (T : List ℕ) (plan : List A) (is_plan : IsPlan V T plan) (g : ℕ)
     (before after : List (Mark (Timed A))) (p : Timed A)
@@ -110,7 +112,8 @@ module _ {A : Type 0} (V : View A) (T : List ℕ) (plan : List A) (is_plan : IsP
   own_low = at_steps (λ x. V.thread x.did ≡ V.thread p.did → x.low ≤ g) before
       (all_map (λ m h e. one m m.done refl h e) before (both_of (λ m. m.done ≡ false → V.thread m.step.did ≢ V.thread p.did) (IsWithin g) before earlier within_before))
     where
-      one : (m : Mark (Timed A)) (b : Bool) → m.done ≡ b → (m.done ≡ false → V.thread m.step.did ≢ V.thread p.did) × IsWithin g m → V.thread m.step.did ≡ V.thread p.did → m.step.low ≤ g
+      one : (m : Mark (Timed A)) (b : Bool) → m.done ≡ b → (m.done ≡ false → V.thread m.step.did ≢ V.thread p.did) × IsWithin g m → V.thread m.step.did ≡ V.thread p.did
+          → m.step.low ≤ g
       one m true w h e = h.1.if_done w
       one m false w h e = absurd (h.0 w e)
 
@@ -174,7 +177,8 @@ module _ {A : Type 0} (V : View A) (T : List ℕ) (plan : List A) (is_plan : IsP
         (both_of (λ m. m.done ≡ false → g ≤ m.step.high) _ before open_high
         (both_of (λ m. m.step.low ≤ p.high) (λ m. IsOwn m.step) before before_low (all_left (λ m. IsOwn m.step) before (pending p ∷ after) owners_all)))))
       where
-        one : (m : Mark (Timed A)) → V.thread m.step.did ≢ V.thread p.did → Settled m.step p → g ≤ m.step.high → m.step.low ≤ p.high → IsOwn m.step → Conflict V m.step.did p.did → ⊥
+        one : (m : Mark (Timed A)) → V.thread m.step.did ≢ V.thread p.did → Settled m.step p → g ≤ m.step.high → m.step.low ≤ p.high → IsOwn m.step → Conflict V m.step.did p.did
+            → ⊥
         one m ne o gh lh own c = go (o c) (cases_Bool (V.is_event p.did))
           where
             go : AreOrdered m.step p → (V.is_event p.did ≡ true) ⊎ (V.is_event p.did ≡ false) → ⊥
@@ -197,13 +201,17 @@ module _ {A : Type 0} (V : View A) (T : List ℕ) (plan : List A) (is_plan : IsP
 
     -- where it is an event, the events before it are done, and none behind it is
     pub open_events : V.is_event p.did ≡ true → AllOf (λ m. m.done ≡ false → V.is_event m.step.did ≡ false) before
-    open_events v = all_map (λ m h w. false_from_ne_true (V.is_event m.step.did) (λ e. let a = h.0 e in let c = h.1.0 w in let d = h.1.1 in let q = p_turn v (next v) in absurd (omega (arith, a, c, d, q)))) before
-        (both_of (λ m. V.is_event m.step.did ≡ true → m.step.low ≡ suc m.step.high) _ before (all_left (λ m. V.is_event m.step.did ≡ true → m.step.low ≡ suc m.step.high) before (pending p ∷ after) events_all)
+    open_events v = all_map (λ m h w. false_from_ne_true (V.is_event m.step.did)
+        (λ e. let a = h.0 e in let c = h.1.0 w in let d = h.1.1 in let q = p_turn v (next v) in absurd (omega (arith, a, c, d, q)))) before
+        (both_of (λ m. V.is_event m.step.did ≡ true → m.step.low ≡ suc m.step.high) _ before
+        (all_left (λ m. V.is_event m.step.did ≡ true → m.step.low ≡ suc m.step.high) before (pending p ∷ after) events_all)
         (both_of (λ m. m.done ≡ false → g ≤ m.step.high) (λ m. m.step.low ≤ p.high) before open_high before_low))
 
     pub done_events : V.is_event p.did ≡ true → AllOf (λ m. m.done ≡ true → V.is_event m.step.did ≡ false) after
-    done_events v = all_map (λ m h w. false_from_ne_true (V.is_event m.step.did) (λ e. let a = h.0 e in let c = h.1.0 w in let d = h.1.1 in let q = p_event v in let r = p_turn v (next v) in absurd (omega (arith, a, c, d, q, r)))) after
-        (both_of (λ m. V.is_event m.step.did ≡ true → m.step.low ≡ suc m.step.high) _ after (all_right (λ m. V.is_event m.step.did ≡ true → m.step.low ≡ suc m.step.high) before (pending p ∷ after) events_all).1
+    done_events v = all_map (λ m h w. false_from_ne_true (V.is_event m.step.did)
+        (λ e. let a = h.0 e in let c = h.1.0 w in let d = h.1.1 in let q = p_event v in let r = p_turn v (next v) in absurd (omega (arith, a, c, d, q, r)))) after
+        (both_of (λ m. V.is_event m.step.did ≡ true → m.step.low ≡ suc m.step.high) _ after
+        (all_right (λ m. V.is_event m.step.did ≡ true → m.step.low ≡ suc m.step.high) before (pending p ∷ after) events_all).1
         (both_of (λ m. m.done ≡ true → m.step.low ≤ g) (λ m. p.low ≤ m.step.high) after done_low after_high))
 
     -- the marks once it is done

@@ -78,7 +78,8 @@ module _ {L B Y E A : Type 0} (P : Part L B Y E A) where
   skips s (d ∷ ds) h = skips (effect s d) ds h.1 ∙ P.stays s d h.0
 
   -- where no step that isn't done changes it, the steps that are done leave of it what all leave
-  pub agree : (s z : State L B Y) (ms : List (Mark (Timed (Deed L B Y E)))) → AllOf (λ m. m.done ≡ false → P.changes m.step.did ≡ false) ms → P.see s ≡ P.see z → P.see (effects s (did_of (kept ms))) ≡ P.see (effects z (did_of (whole ms)))
+  pub agree : (s z : State L B Y) (ms : List (Mark (Timed (Deed L B Y E)))) → AllOf (λ m. m.done ≡ false → P.changes m.step.did ≡ false) ms → P.see s ≡ P.see z
+      → P.see (effects s (did_of (kept ms))) ≡ P.see (effects z (did_of (whole ms)))
   agree s z [] h e = e
   agree s z (m ∷ ms) h e = go m.done refl (agree (effect s m.step.did) (effect z m.step.did) ms h.1 (P.follows s z m.step.did e)) (λ k. agree s (effect z m.step.did) ms h.1 k)
     where
@@ -172,7 +173,8 @@ module _ {L B Y E : Type 0} where
       events (inl v) = inr (ev v)
       events (inr v) = inl v
 
-      cells : (b : ℕ) → (deeds.writes p b ≡ true) ⊎ (deeds.writes p b ≡ false) → (deeds.writes d b ≡ true) ⊎ (deeds.writes d b ≡ false) → (deeds.writes p b ≡ false) ⊎ (deeds.writes d b ≡ false)
+      cells : (b : ℕ) → (deeds.writes p b ≡ true) ⊎ (deeds.writes p b ≡ false) → (deeds.writes d b ≡ true) ⊎ (deeds.writes d b ≡ false)
+          → (deeds.writes p b ≡ false) ⊎ (deeds.writes d b ≡ false)
       cells b (inr v) e = inl v
       cells b (inl v) (inr e) = inr e
       cells b (inl v) (inl e) = absurd (none (record { threads = λ q. ne (sym q); cell = b; meet = meet_written deeds p d b v e }))

@@ -1,5 +1,6 @@
 -- The law of plans: a machine that obeys a plan stands at its cuts, and its runs are ordered.
-use Rattle.std.proofs.Common.{◌≡◌, ◌≢◌, ℕ, ◌==◌, ◌<◌, ◌≤◌, ◌⊎◌, Bool, true, false, cond, List, [], ◌∷◌, ◌++◌, length, Some, refl, sym, ap, ◌∙◌, subst, arith, suc, inl, inr, append_assoc, append-nil}
+use Rattle.std.proofs.Common.{◌≡◌, ◌≢◌, ℕ, ◌==◌, ◌<◌, ◌≤◌, ◌⊎◌, Bool, true, false, cond, List, [], ◌∷◌, ◌++◌, length, Some, refl, sym, ap}
+use Rattle.std.proofs.Common.{◌∙◌, subst, arith, suc, inl, inr, append_assoc, append-nil}
 use Rattle.std.specs.Prelude.{slice_get, is_some, ◌||◌, ◌&&◌}
 use Rattle.std.specs.List.{AllByRecursion as AllOf, filter}
 use Rattle.std.proofs.lemmas.List.Elements.{filter-append}
@@ -54,10 +55,12 @@ module _ {L B E L' B' E' Y : Type 0} (K : Likeness L B E L' B' E') where
       go : (b : ℕ) → ((is_some (x.writes b) && touches deeds y b) ≡ true) ⊎ ((touches deeds x b && is_some (y.writes b)) ≡ true) → meet_at deeds q p b ≡ true
       go b (inl h) =
           let a = and_parts (is_some (x.writes b)) (touches deeds y b) h in
-          or_left (is_some (q.writes b) && touches deeds p b) (touches deeds q b && is_some (p.writes b)) (and_from (is_some (q.writes b)) (touches deeds p b) (f.writes b a.0) (touch_like b p y k a.1))
+          or_left (is_some (q.writes b) && touches deeds p b) (touches deeds q b && is_some (p.writes b))
+          (and_from (is_some (q.writes b)) (touches deeds p b) (f.writes b a.0) (touch_like b p y k a.1))
       go b (inr h) =
           let a = and_parts (touches deeds x b) (is_some (y.writes b)) h in
-          or_right (is_some (q.writes b) && touches deeds p b) (touches deeds q b && is_some (p.writes b)) (and_from (touches deeds q b) (is_some (p.writes b)) (touch_like b q x f a.0) (k.writes b a.1))
+          or_right (is_some (q.writes b) && touches deeds p b) (touches deeds q b && is_some (p.writes b))
+          (and_from (touches deeds q b) (is_some (p.writes b)) (touch_like b q x f a.0) (k.writes b a.1))
 
 pub conflict_back : {A : Type 0} (V : View A) (x y : A) → Conflict V x y → Conflict V y x
 conflict_back V x y c = record { threads = λ e. c.threads (sym e); cell = c.cell; meet = go (V.writes x c.cell) (V.reads x c.cell) (V.writes y c.cell) (V.reads y c.cell) c.meet }
@@ -103,7 +106,8 @@ module _ {L B E L' B' E' Y : Type 0} (K : Likeness L B E L' B' E') (T : List ℕ
       turn_round (inl a) = inr a
       turn_round (inr a) = inl a
 
-  one_of_all : (P : Timed (Deed L B Y E) → Type 0) (R : Timed (Deed L' B' Y E') → Type 0) → ((q : Timed (Deed L B Y E)) (x : Timed (Deed L' B' Y E')) → IsStep q x → P q → R x) → (qs : List (Timed (Deed L B Y E))) (x : Timed (Deed L' B' Y E')) → IsOneOf qs x → AllOf P qs → R x
+  one_of_all : (P : Timed (Deed L B Y E) → Type 0) (R : Timed (Deed L' B' Y E') → Type 0) → ((q : Timed (Deed L B Y E)) (x : Timed (Deed L' B' Y E')) → IsStep q x → P q → R x)
+      → (qs : List (Timed (Deed L B Y E))) (x : Timed (Deed L' B' Y E')) → IsOneOf qs x → AllOf P qs → R x
   one_of_all P R f [] x h a = absurd h
   one_of_all P R f (q ∷ qs) x (inl h) a = f q x h a.0
   one_of_all P R f (q ∷ qs) x (inr h) a = one_of_all P R f qs x h a.1
@@ -145,10 +149,12 @@ module _ {L B E L' B' E' Y : Type 0} (K : Likeness L B E L' B' E') (T : List ℕ
 
     -- the machine's step fits the plan's
     pub step_fits : Fits K p.did d
-    step_fits = obeys.fits xs p.did (did_of (whole after)) split s g d moved mine like_local (places.like_cell K T z plan is_plan s g before after p is_whole is_cut below alike earlier next) (places.like_objects K T z plan is_plan s g before after p is_whole is_cut below alike earlier next)
+    step_fits = obeys.fits xs p.did (did_of (whole after)) split s g d moved mine like_local (places.like_cell K T z plan is_plan s g before after p is_whole is_cut below alike earlier next)
+        (places.like_objects K T z plan is_plan s g before after p is_whole is_cut below alike earlier next)
 
     alike_after : Alike K (effects z (did_of (kept (before ++ performed p ∷ after)))) (effect s d)
-    alike_after = alike_same K (effect (effects z (did_of (kept (before ++ pending p ∷ after)))) p.did) (effects z (did_of (kept (before ++ performed p ∷ after)))) (effect s d) (places.same_after K T z plan is_plan s g before after p is_whole is_cut below alike earlier next)
+    alike_after = alike_same K (effect (effects z (did_of (kept (before ++ pending p ∷ after)))) p.did) (effects z (did_of (kept (before ++ performed p ∷ after)))) (effect s d)
+        (places.same_after K T z plan is_plan s g before after p is_whole is_cut below alike earlier next)
         (alike_effect K (effects z (did_of (kept (before ++ pending p ∷ after)))) s p.did d alike step_fits)
 
     pub keeps : Holds (effect s d) (done_after (deeds.is_event d) g)
@@ -167,19 +173,22 @@ module _ {L B E L' B' E' Y : Type 0} (K : Likeness L B E L' B' E') (T : List ℕ
     pub is_step : IsStep p (timed deeds T g d)
     is_step = record {
       fits = step_fits;
-      low = ap (λ e. last_before d.thread T (done_after e g)) event_here ∙ ap (λ u. last_before u T (done_after (deeds.is_event p.did) g)) mine ∙ cuts.same_low deeds T plan is_plan g before after p is_whole is_cut below earlier next;
+      low = ap (λ e. last_before d.thread T (done_after e g)) event_here ∙ ap (λ u. last_before u T (done_after (deeds.is_event p.did) g)) mine
+          ∙ cuts.same_low deeds T plan is_plan g before after p is_whole is_cut below earlier next;
       high = ap (λ u. next_from u T g) mine ∙ cuts.same_high deeds T plan is_plan g before after p is_whole is_cut below earlier within;
     }
 
     pub ordered_new : (x : Timed (Deed L' B' Y E')) → IsOneOf (kept (before ++ pending p ∷ after)) x → Conflict deeds x.did d → AreOrdered x (timed deeds T g d)
-    ordered_new x h = one_of_all (λ q. (Settled q p) ⊎ (Settled p q)) (λ x. Conflict deeds x.did d → AreOrdered x (timed deeds T g d)) (λ q x k o. ordered_like q p x (timed deeds T g d) k is_step o)
+    ordered_new x h = one_of_all (λ q. (Settled q p) ⊎ (Settled p q)) (λ x. Conflict deeds x.did d → AreOrdered x (timed deeds T g d))
+        (λ q x k o. ordered_like q p x (timed deeds T g d) k is_step o)
         (kept before ++ kept after) x (subst (λ l. IsOneOf l x) (kept_append before (pending p ∷ after)) h)
         (all_join (λ q. (Settled q p) ⊎ (Settled p q)) (kept before) (kept after)
         (all_kept (λ q. (Settled q p) ⊎ (Settled p q)) before (all_map (λ m k w. inl k) before (cuts.before_ordered deeds T plan is_plan g before after p is_whole is_cut below earlier)))
         (all_kept (λ q. (Settled q p) ⊎ (Settled p q)) after (all_map (λ m k w. inr k) after (cuts.after_ordered deeds T plan is_plan g before after p is_whole is_cut below earlier))))
 
     pub still_one : (x : Timed (Deed L' B' Y E')) → IsOneOf (kept (before ++ pending p ∷ after)) x → IsOneOf (kept (before ++ performed p ∷ after)) x
-    still_one x h = subst (λ l. IsOneOf l x) (sym (kept_append before (performed p ∷ after))) (one_more (kept before) (kept after) p x (subst (λ l. IsOneOf l x) (kept_append before (pending p ∷ after)) h))
+    still_one x h = subst (λ l. IsOneOf l x) (sym (kept_append before (performed p ∷ after)))
+        (one_more (kept before) (kept after) p x (subst (λ l. IsOneOf l x) (kept_append before (pending p ∷ after)) h))
 
     pub new_one : IsOneOf (kept (before ++ performed p ∷ after)) (timed deeds T g d)
     new_one = subst (λ l. IsOneOf l (timed deeds T g d)) (sym (kept_append before (performed p ∷ after))) (this_one (kept before) (kept after) p (timed deeds T g d) is_step)
@@ -229,7 +238,8 @@ module _ {L B E L' B' E' Y : Type 0} (K : Likeness L B E L' B' E') (T : List ℕ
   pub last_objects : (s : State L' B' Y) (g : ℕ) (h : Holds s g) → turns_done deeds 0 plan ≤ g → (effects z plan).objects ≡ s.objects
   last_objects s g h le =
       ap (λ l. (effects z l).objects) (sym (did_times deeds T 0 plan)) ∙ ap (λ l. (effects z (did_of l)).objects) (sym h.cut.is_whole)
-      ∙ sym (agree objects_part z z h.cut.marks (all_map (λ m k w. false_from_ne_true (deeds.is_event m.step.did) (λ e. let a = k.0 e in let c = k.1.if_open w in absurd (omega (arith, a, c)))) h.cut.marks
+      ∙ sym (agree objects_part z z h.cut.marks (all_map
+      (λ m k w. false_from_ne_true (deeds.is_event m.step.did) (λ e. let a = k.0 e in let c = k.1.if_open w in absurd (omega (arith, a, c)))) h.cut.marks
       (both_of (λ m. deeds.is_event m.step.did ≡ true → m.step.high < turns_done deeds 0 plan) (IsWithin g) h.cut.marks
       (at_marks (λ x. deeds.is_event x.did ≡ true → x.high < turns_done deeds 0 plan) h.cut.marks
       (subst (AllOf (λ x. deeds.is_event x.did ≡ true → x.high < turns_done deeds 0 plan)) (sym h.cut.is_whole) (events_below deeds T 0 plan is_plan.turns))) h.cut.below)) refl)
@@ -260,7 +270,8 @@ module _ {L B E L' B' E' Y : Type 0} (K : Likeness L B E L' B' E') (T : List ℕ
             is_now = refl;
             fits = step_fits s g f.before f.after f.step is_whole cut below like h.within h.reached early d m (sym f.thread);
             alone = cuts.cut_after deeds T plan is_plan g f.before f.after f.step is_whole cut below early;
-            latest = λ v. cuts.done_events deeds T plan is_plan g f.before f.after f.step is_whole cut below early (next s g f.before f.after f.step is_whole cut below like h.within h.reached early d m (sym f.thread)) v;
+            latest = λ v. cuts.done_events deeds T plan is_plan g f.before f.after f.step is_whole cut below early
+                (next s g f.before f.after f.step is_whole cut below like h.within h.reached early d m (sym f.thread)) v;
           }
 
   -- ---- the steps that a run performed
@@ -268,10 +279,12 @@ module _ {L B E L' B' E' Y : Type 0} (K : Likeness L B E L' B' E') (T : List ℕ
   abbrev done_steps : List (Mark (Timed (Deed L B Y E))) → List (Deed L B Y E)
   done_steps ms = did_of (kept ms)
 
-  done_pending : (before : List (Mark (Timed (Deed L B Y E)))) (p : Timed (Deed L B Y E)) (after : List (Mark (Timed (Deed L B Y E)))) → done_steps (before ++ pending p ∷ after) ≡ done_steps before ++ done_steps after
+  done_pending : (before : List (Mark (Timed (Deed L B Y E)))) (p : Timed (Deed L B Y E)) (after : List (Mark (Timed (Deed L B Y E))))
+      → done_steps (before ++ pending p ∷ after) ≡ done_steps before ++ done_steps after
   done_pending before p after = ap did_of (kept_append before (pending p ∷ after)) ∙ did_append (kept before) (kept after)
 
-  done_performed : (before : List (Mark (Timed (Deed L B Y E)))) (p : Timed (Deed L B Y E)) (after : List (Mark (Timed (Deed L B Y E)))) → done_steps (before ++ performed p ∷ after) ≡ done_steps before ++ p.did ∷ done_steps after
+  done_performed : (before : List (Mark (Timed (Deed L B Y E)))) (p : Timed (Deed L B Y E)) (after : List (Mark (Timed (Deed L B Y E))))
+      → done_steps (before ++ performed p ∷ after) ≡ done_steps before ++ p.did ∷ done_steps after
   done_performed before p after = ap did_of (kept_append before (performed p ∷ after)) ∙ did_append (kept before) (p ∷ kept after)
 
   fit_append : (ps : List (Deed L B Y E)) (ds : List (Deed L' B' Y E')) (p : Deed L B Y E) (d : Deed L' B' Y E') → FitEach K ps ds → Fits K p d → FitEach K (ps ++ p ∷ []) (ds ++ d ∷ [])
@@ -281,7 +294,8 @@ module _ {L B E L' B' E' Y : Type 0} (K : Likeness L B E L' B' E') (T : List ℕ
   fit_append (q ∷ ps) (e ∷ ds) p d h f = (h.0, fit_append ps ds p d h.1 f)
 
   -- one more step, chosen by a test on both sides
-  chosen : (c : Deed L B Y E → Bool) (e : Deed L' B' Y E' → Bool) (before : List (Mark (Timed (Deed L B Y E)))) (p : Timed (Deed L B Y E)) (after : List (Mark (Timed (Deed L B Y E)))) (es : List (Deed L' B' Y E')) (d : Deed L' B' Y E') →
+  chosen : (c : Deed L B Y E → Bool) (e : Deed L' B' Y E' → Bool) (before : List (Mark (Timed (Deed L B Y E)))) (p : Timed (Deed L B Y E)) (after : List (Mark (Timed (Deed L B Y E))))
+      (es : List (Deed L' B' Y E')) (d : Deed L' B' Y E') →
       c p.did ≡ e d → Fits K p.did d → (c p.did ≡ true → AllOf (λ m. m.done ≡ true → c m.step.did ≡ false) after) →
       FitEach K (filter c (done_steps (before ++ pending p ∷ after))) (filter e es) → FitEach K (filter c (done_steps (before ++ performed p ∷ after))) (filter e (es ++ d ∷ []))
   chosen c e before p after es d same f late h =
@@ -317,7 +331,8 @@ module _ {L B E L' B' E' Y : Type 0} (K : Likeness L B E L' B' E') (T : List ℕ
         threads = λ u. chosen (is_of_thread u) (is_of_thread u) st.before st.step st.after es d (ap (λ t. u == t) (sym st.fits.thread)) st.fits
             (λ v. all_map (λ m k w. ne_eqb u m.step.did.thread (λ q. k w (sym q ∙ eqb-true u st.step.did.thread v))) st.after st.alone) (was.threads u);
         events = chosen deeds.is_event deeds.is_event st.before st.step st.after es d (ap is_some (sym st.fits.objects)) st.fits st.latest was.events;
-        number = ap length (done_performed st.before st.step st.after) ∙ length_one (done_steps st.before) (done_steps st.after) st.step.did ∙ ap suc (sym (ap length (done_pending st.before st.step st.after)) ∙ was.number)
+        number = ap length (done_performed st.before st.step st.after) ∙ length_one (done_steps st.before) (done_steps st.after) st.step.did
+            ∙ ap suc (sym (ap length (done_pending st.before st.step st.after)) ∙ was.number)
             ∙ ap suc (sym (ap length (append-nil es))) ∙ sym (length_one es [] d);
       })
 

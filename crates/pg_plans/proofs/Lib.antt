@@ -12,3 +12,4 @@ pub mod Runs
 pub mod Kept
 pub mod Counts
 pub mod Words
+pub mod Walks

@@ -133,17 +133,20 @@ module _ {A : Type 0} (V : View A) where
   find u [] = inl tt
   find u (m ∷ ms) = go m.done refl (cases_eq (V.thread m.step.did) u) (find u ms)
     where
-      pass : (m.done ≡ false → V.thread m.step.did ≢ u) → AllOf (λ m. m.done ≡ false → V.thread m.step.did ≢ u) ms ⊎ First u ms → AllOf (λ m. m.done ≡ false → V.thread m.step.did ≢ u) (m ∷ ms) ⊎ First u (m ∷ ms)
+      pass : (m.done ≡ false → V.thread m.step.did ≢ u) → AllOf (λ m. m.done ≡ false → V.thread m.step.did ≢ u) ms ⊎ First u ms
+          → AllOf (λ m. m.done ≡ false → V.thread m.step.did ≢ u) (m ∷ ms) ⊎ First u (m ∷ ms)
       pass h (inl k) = inl (h, k)
       pass h (inr f) = inr (record { before = m ∷ f.before; step = f.step; after = f.after; parts = ap (λ l. m ∷ l) f.parts; thread = f.thread; earlier = (h, f.earlier) })
 
-      go : (b : Bool) → m.done ≡ b → (V.thread m.step.did ≡ u) ⊎ (V.thread m.step.did ≡ u → ⊥) → AllOf (λ m. m.done ≡ false → V.thread m.step.did ≢ u) ms ⊎ First u ms → AllOf (λ m. m.done ≡ false → V.thread m.step.did ≢ u) (m ∷ ms) ⊎ First u (m ∷ ms)
+      go : (b : Bool) → m.done ≡ b → (V.thread m.step.did ≡ u) ⊎ (V.thread m.step.did ≡ u → ⊥) → AllOf (λ m. m.done ≡ false → V.thread m.step.did ≢ u) ms ⊎ First u ms
+          → AllOf (λ m. m.done ≡ false → V.thread m.step.did ≢ u) (m ∷ ms) ⊎ First u (m ∷ ms)
       go true w e k = pass (λ w'. absurd (cc)) k
       go false w (inr ne) k = pass (λ w'. ne) k
       go false w (inl e) k = inr (record { before = []; step = m.step; after = ms; parts = ap (λ b. (record { done = b; step = m.step }) ∷ ms) w; thread = e; earlier = tt })
 
   -- behind a step that isn't done none of its thread is
-  pub cut_at : (ms : List (Mark (Timed A))) (m : Mark (Timed A)) (ns : List (Mark (Timed A))) → IsCut V (ms ++ m ∷ ns) → m.done ≡ false → AllOf (λ n. n.done ≡ true → V.thread n.step.did ≢ V.thread m.step.did) ns
+  pub cut_at : (ms : List (Mark (Timed A))) (m : Mark (Timed A)) (ns : List (Mark (Timed A))) → IsCut V (ms ++ m ∷ ns) → m.done ≡ false
+      → AllOf (λ n. n.done ≡ true → V.thread n.step.did ≢ V.thread m.step.did) ns
   cut_at [] m ns h w = h.0 w
   cut_at (x ∷ ms) m ns h w = cut_at ms m ns h.1 w
 
@@ -153,6 +156,7 @@ module _ {A : Type 0} (V : View A) where
   cut_flip [] p ns e h = ((λ w. absurd (cc)), h.1)
   cut_flip (m ∷ ms) p ns e h = ((λ w. flip_all ms (h.0 w) (λ k. e.0 w (sym k))), cut_flip ms p ns e.1 h.1)
     where
-      flip_all : (xs : List (Mark (Timed A))) → AllOf (λ n. n.done ≡ true → V.thread n.step.did ≢ V.thread m.step.did) (xs ++ pending p ∷ ns) → V.thread p.did ≢ V.thread m.step.did → AllOf (λ n. n.done ≡ true → V.thread n.step.did ≢ V.thread m.step.did) (xs ++ performed p ∷ ns)
+      flip_all : (xs : List (Mark (Timed A))) → AllOf (λ n. n.done ≡ true → V.thread n.step.did ≢ V.thread m.step.did) (xs ++ pending p ∷ ns) → V.thread p.did ≢ V.thread m.step.did
+          → AllOf (λ n. n.done ≡ true → V.thread n.step.did ≢ V.thread m.step.did) (xs ++ performed p ∷ ns)
       flip_all [] a ne = ((λ w. ne), a.1)
       flip_all (x ∷ xs) a ne = (a.0, flip_all xs a.1 ne)

@@ -21,8 +21,13 @@ module _ {A : Type 0} (V : View A) where
   turns_behind T [] = tt
   turns_behind T (x ∷ xs) = go (λ S. turns_behind S xs) (V.is_event x) refl
     where
-      go : ((S : List ℕ) → AreTurns V (S ++ owners V xs) (length S) xs) → (e : Bool) → V.is_event x ≡ e → (V.is_event x ≡ true → slice_get (T ++ owners V (x ∷ xs)) (length T) ≡ Some (V.thread x)) × AreTurns V (T ++ owners V (x ∷ xs)) (done_after (V.is_event x) (length T)) xs
-      go behind true w = rw w ((λ v. get_behind T (V.thread x) (owners V xs)), subst (λ l. AreTurns V l (suc (length T)) xs) (push_append T (owners V xs) (V.thread x)) (subst (λ n. AreTurns V ((T ++ V.thread x ∷ []) ++ owners V xs) n xs) (length_push T (V.thread x)) (behind (T ++ V.thread x ∷ []))))
+      go : ((S : List ℕ) → AreTurns V (S ++ owners V xs) (length S) xs) → (e : Bool) → V.is_event x ≡ e
+          → (V.is_event x ≡ true → slice_get (T ++ owners V (x ∷ xs)) (length T) ≡ Some (V.thread x)) × AreTurns V (T ++ owners V (x ∷ xs)) (done_after (V.is_event x) (length T)) xs
+      go behind true w = rw w (
+        (λ v. get_behind T (V.thread x) (owners V xs)),
+        subst (λ l. AreTurns V l (suc (length T)) xs) (push_append T (owners V xs) (V.thread x))
+            (subst (λ n. AreTurns V ((T ++ V.thread x ∷ []) ++ owners V xs) n xs) (length_push T (V.thread x)) (behind (T ++ V.thread x ∷ []))),
+      )
       go behind false w = rw w ((λ v. absurd (cc)), behind T)
 
   -- the events of a list are its own turns
@@ -33,7 +38,8 @@ module _ {A : Type 0} (V : View A) where
   owners_done k [] = omega arith
   owners_done k (x ∷ xs) = go (V.is_event x) refl (owners_done (suc k) xs) (owners_done k xs)
     where
-      go : (e : Bool) → V.is_event x ≡ e → turns_done V (suc k) xs ≡ suc k + length (owners V xs) → turns_done V k xs ≡ k + length (owners V xs) → turns_done V (done_after (V.is_event x) k) xs ≡ k + length (owners V (x ∷ xs))
+      go : (e : Bool) → V.is_event x ≡ e → turns_done V (suc k) xs ≡ suc k + length (owners V xs) → turns_done V k xs ≡ k + length (owners V xs)
+          → turns_done V (done_after (V.is_event x) k) xs ≡ k + length (owners V (x ∷ xs))
       go true w a b = rw w (omega (arith, a))
       go false w a b = rw w b
 

@@ -18,7 +18,8 @@ pub seen : {L B E Y A : Type 0} (z : State L B Y) (before after : List (Mark (Ti
     AllOf (λ m. m.done ≡ false → P.changes m.step.did ≡ false) before → AllOf (λ m. m.done ≡ true → P.changes m.step.did ≡ false) after →
     P.see (effects z (did_of (kept (before ++ pending p ∷ after)))) ≡ P.see (effects z (did_of (whole before)))
 seen z before after p P h k =
-    ap (λ l. P.see (effects z (did_of l))) (kept_append before (pending p ∷ after)) ∙ ap (λ l. P.see (effects z l)) (did_append (kept before) (kept after)) ∙ ap P.see (effects_append z (did_of (kept before)) (did_of (kept after)))
+    ap (λ l. P.see (effects z (did_of l))) (kept_append before (pending p ∷ after)) ∙ ap (λ l. P.see (effects z l)) (did_append (kept before) (kept after))
+    ∙ ap P.see (effects_append z (did_of (kept before)) (did_of (kept after)))
     ∙ skips P (effects z (did_of (kept before))) (did_of (kept after)) (all_did (λ d. P.changes d ≡ false) (kept after) (all_kept (λ x. P.changes x.did ≡ false) after k))
     ∙ agree P z z before h refl
 
@@ -39,7 +40,8 @@ module _ {L B E L' B' E' Y : Type 0} (K : Likeness L B E L' B' E') (T : List ℕ
   cut_after = cuts.cut_after deeds T plan is_plan g before after p is_whole is_cut below earlier
 
   pub state_split : effects z (did_of (kept (before ++ pending p ∷ after))) ≡ effects (effects z (did_of (kept before))) (did_of (kept after))
-  state_split = ap (λ l. effects z (did_of l)) (kept_append before (pending p ∷ after)) ∙ ap (effects z) (did_append (kept before) (kept after)) ∙ effects_append z (did_of (kept before)) (did_of (kept after))
+  state_split = ap (λ l. effects z (did_of l)) (kept_append before (pending p ∷ after)) ∙ ap (effects z) (did_append (kept before) (kept after))
+      ∙ effects_append z (did_of (kept before)) (did_of (kept after))
 
   pub like_local : K.local ((effects z xs).locals p.did.thread) (s.locals p.did.thread)
   like_local = subst (λ l. K.local l (s.locals p.did.thread)) (seen z before after p (local_part p.did.thread)
@@ -57,7 +59,8 @@ module _ {L B E L' B' E' Y : Type 0} (K : Likeness L B E L' B' E') (T : List ℕ
     like_cell b r = subst (λ v. K.cell v (s.cells b)) (seen z before after p (cell_part b)
         (all_map (λ m h w. false_from_ne_true (is_some (m.step.did.writes b)) (λ e. h.1 w (record { threads = h.0 w; cell = b; meet = meet_written_read deeds m.step.did p.did b e r }))) before
         (both_of (λ m. m.done ≡ false → m.step.did.thread ≢ p.did.thread) _ before earlier open_apart))
-        (all_map (λ m h w. false_from_ne_true (is_some (m.step.did.writes b)) (λ e. h.1 w (record { threads = λ q. h.0 w (sym q); cell = b; meet = meet_read_written deeds p.did m.step.did b r e }))) after
+        (all_map (λ m h w. false_from_ne_true (is_some (m.step.did.writes b))
+        (λ e. h.1 w (record { threads = λ q. h.0 w (sym q); cell = b; meet = meet_read_written deeds p.did m.step.did b r e }))) after
         (both_of (λ m. m.done ≡ true → m.step.did.thread ≢ p.did.thread) _ after cut_after done_apart))) (alike.cells b)
 
     pub like_objects : deeds.is_event p.did ≡ true → (effects z xs).objects ≡ s.objects
@@ -71,12 +74,14 @@ module _ {L B E L' B' E' Y : Type 0} (K : Likeness L B E L' B' E') (T : List ℕ
         (both_of (λ m. m.done ≡ true → Conflict deeds p.did m.step.did → ⊥) (λ m. deeds.is_event p.did ≡ true → m.done ≡ true → deeds.is_event m.step.did ≡ false) after done_apart
         (swap after (cuts.done_events deeds T plan is_plan g before after p is_whole is_cut below earlier next))))
       where
-        swap : (ms : List (Mark (Timed (Deed L B Y E)))) → (deeds.is_event p.did ≡ true → AllOf (λ m. m.done ≡ true → deeds.is_event m.step.did ≡ false) ms) → AllOf (λ m. deeds.is_event p.did ≡ true → m.done ≡ true → deeds.is_event m.step.did ≡ false) ms
+        swap : (ms : List (Mark (Timed (Deed L B Y E)))) → (deeds.is_event p.did ≡ true → AllOf (λ m. m.done ≡ true → deeds.is_event m.step.did ≡ false) ms)
+            → AllOf (λ m. deeds.is_event p.did ≡ true → m.done ≡ true → deeds.is_event m.step.did ≡ false) ms
         swap [] h = tt
         swap (m ∷ ms) h = ((λ v. (h v).0), swap ms (λ v. (h v).1))
 
     after_state : effects z (did_of (kept (before ++ performed p ∷ after))) ≡ effects (effect (effects z (did_of (kept before))) p.did) (did_of (kept after))
-    after_state = ap (λ l. effects z (did_of l)) (kept_append before (performed p ∷ after)) ∙ ap (effects z) (did_append (kept before) (p ∷ kept after)) ∙ effects_append z (did_of (kept before)) (p.did ∷ did_of (kept after))
+    after_state = ap (λ l. effects z (did_of l)) (kept_append before (performed p ∷ after)) ∙ ap (effects z) (did_append (kept before) (p ∷ kept after))
+        ∙ effects_append z (did_of (kept before)) (p.did ∷ did_of (kept after))
 
     pub same_after : Same (effect (effects z (did_of (kept (before ++ pending p ∷ after)))) p.did) (effects z (did_of (kept (before ++ performed p ∷ after))))
     same_after =

@@ -1,5 +1,6 @@
 -- The law of permitted runs, by the law of plans: the plan is the full run itself.
-use Rattle.std.proofs.Common.{◌≡◌, ◌≢◌, ℕ, ◌<◌, ◌≤◌, ◌⊎◌, Bool, true, false, cond, List, [], ◌∷◌, ◌++◌, length, map, Some, refl, sym, ap, ◌∙◌, subst, arith, suc, inl, inr}
+use Rattle.std.proofs.Common.{◌≡◌, ◌≢◌, ℕ, ◌<◌, ◌≤◌, ◌⊎◌, Bool, true, false, cond, List, [], ◌∷◌, ◌++◌, length, map, Some, refl, sym, ap, ◌∙◌}
+use Rattle.std.proofs.Common.{subst, arith, suc, inl, inr}
 use Rattle.std.specs.Prelude.{slice_get, is_some}
 use Rattle.std.specs.List.{AllByRecursion as AllOf, filter}
 use Rattle.std.proofs.lemmas.Bool.{true≢false, cases_Bool, or_left}
@@ -66,7 +67,8 @@ module _ {L B Y E : Type 0} (R : Rules L Y) (Does : State L B Y → Deed L B Y E
   turns_of s g (d ∷ ds) h = ((λ v. h.0.may.next (sym (takes_event s g d h.0) ∙ v)), turns_of (effect s d) (done_after (deeds.is_event d) g) ds h.1)
 
   -- the step at a place is a permitted one
-  takes_at : (s : State L B Y) (g : ℕ) (xs : List (Deed L B Y E)) (p : Deed L B Y E) (ys : List (Deed L B Y E)) → IsPermitted R Does T s g (xs ++ p ∷ ys) → Takes R Does T (effects s xs) (turns_done deeds g xs) p
+  takes_at : (s : State L B Y) (g : ℕ) (xs : List (Deed L B Y E)) (p : Deed L B Y E) (ys : List (Deed L B Y E)) → IsPermitted R Does T s g (xs ++ p ∷ ys)
+      → Takes R Does T (effects s xs) (turns_done deeds g xs) p
   takes_at s g [] p ys h = h.0
   takes_at s g (x ∷ xs) p ys h = takes_at (effect s x) (done_after (deeds.is_event x) g) xs p ys h.1
 
@@ -81,8 +83,10 @@ module _ {L B Y E : Type 0} (R : Rules L Y) (Does : State L B Y → Deed L B Y E
     takes_there xs p ys e = takes_at z 0 xs p ys (subst (IsPermitted R Does T z 0) e is_full.permitted)
 
     -- the machine takes the full run's step where it sees what the full run saw
-    same_step : (xs : List (Deed L B Y E)) (p : Deed L B Y E) (ys : List (Deed L B Y E)) → full ≡ xs ++ p ∷ ys → (s : State L B Y) (g : ℕ) (d : Deed L B Y E) → Takes R Does T s g d → d.thread ≡ p.thread →
-        (effects z xs).locals p.thread ≡ s.locals p.thread → ((b : ℕ) → p.reads b ≡ true → (effects z xs).cells b ≡ s.cells b) → (deeds.is_event p ≡ true → (effects z xs).objects ≡ s.objects) → IsSame p d
+    same_step : (xs : List (Deed L B Y E)) (p : Deed L B Y E) (ys : List (Deed L B Y E)) → full ≡ xs ++ p ∷ ys → (s : State L B Y) (g : ℕ) (d : Deed L B Y E) → Takes R Does T s g d
+        → d.thread ≡ p.thread →
+        (effects z xs).locals p.thread ≡ s.locals p.thread → ((b : ℕ) → p.reads b ≡ true → (effects z xs).cells b ≡ s.cells b)
+        → (deeds.is_event p ≡ true → (effects z xs).objects ≡ s.objects) → IsSame p d
     same_step xs p ys e s g d m u l c o =
         det.same (effects z xs) s p d (takes_there xs p ys e).is_step m.is_step u l c o
 
@@ -115,7 +119,8 @@ module _ {L B Y E : Type 0} (R : Rules L Y) (Does : State L B Y → Deed L B Y E
     pub the_obeys : Obeys (equal L B E) T z full (Takes R Does T)
     the_obeys = record {
       turn = λ s g d m v. m.may.next (sym (takes_event s g d m) ∙ v);
-      kind = λ xs p ys e s g d m u l. takes_event s g d m ∙ ap (λ t. R.is_event (s.locals t)) u ∙ ap R.is_event (sym l) ∙ sym (takes_event (effects z xs) (turns_done deeds 0 xs) p (takes_there xs p ys e));
+      kind = λ xs p ys e s g d m u l. takes_event s g d m ∙ ap (λ t. R.is_event (s.locals t)) u ∙ ap R.is_event (sym l)
+          ∙ sym (takes_event (effects z xs) (turns_done deeds 0 xs) p (takes_there xs p ys e));
       fits = λ xs p ys e s g d m u l c o. fits_of_same p d (same_step xs p ys e s g d m u l c o);
       no_more = none_more;
     }
@@ -126,7 +131,8 @@ module _ {L B Y E : Type 0} (R : Rules L Y) (Does : State L B Y → Deed L B Y E
     -- ---- the run isn't over before its last turn
 
     -- where the events of these steps have their turns below g, so many are done
-    turns_below : (g k : ℕ) (xs : List (Deed L B Y E)) → AreTurns deeds T k xs → k ≤ g → AllOf (λ x. deeds.is_event x.did ≡ true → x.low ≤ g) (times deeds T k xs) → turns_done deeds k xs ≤ g
+    turns_below : (g k : ℕ) (xs : List (Deed L B Y E)) → AreTurns deeds T k xs → k ≤ g → AllOf (λ x. deeds.is_event x.did ≡ true → x.low ≤ g) (times deeds T k xs)
+        → turns_done deeds k xs ≤ g
     turns_below g k [] t le h = le
     turns_below g k (x ∷ xs) t le h = turns_below g (done_after (deeds.is_event x) k) xs t.1 (go (deeds.is_event x) refl) h.1
       where
@@ -144,13 +150,15 @@ module _ {L B Y E : Type 0} (R : Rules L Y) (Does : State L B Y → Deed L B Y E
         split = sym marks_are ∙ whole_append o.before (pending o.step ∷ o.after)
 
         there : Takes R Does T (effects z (did_of (whole o.before))) (turns_done deeds 0 (did_of (whole o.before))) o.step.did
-        there = takes_there (did_of (whole o.before)) o.step.did (did_of (whole o.after)) (sym (did_times deeds T 0 full) ∙ ap did_of split ∙ did_append (whole o.before) (o.step ∷ whole o.after))
+        there = takes_there (did_of (whole o.before)) o.step.did (did_of (whole o.after))
+            (sym (did_times deeds T 0 full) ∙ ap did_of split ∙ did_append (whole o.before) (o.step ∷ whole o.after))
 
         below : IsBelow g (o.before ++ pending o.step ∷ o.after)
         below = subst (IsBelow g) o.parts h.cut.below
 
         objects : s.objects ≡ (effects z (did_of (whole o.before))).objects
-        objects = sym h.cut.alike.objects ∙ ap (λ l. (effects z (did_of (kept l))).objects) o.parts ∙ places.seen z o.before o.after o.step objects_part o.earlier (none_behind T full is_plan g o.before o.after o.step marks_are below o.event)
+        objects = sym h.cut.alike.objects ∙ ap (λ l. (effects z (did_of (kept l))).objects) o.parts
+            ∙ places.seen z o.before o.after o.step objects_part o.earlier (none_behind T full is_plan g o.before o.after o.step marks_are below o.event)
 
     -- before the last turn of the list a run isn't over
     not_over : (s : State L B Y) (g : ℕ) (h : AtCut s g) → g < length T → R.over s.objects ≡ false
@@ -164,7 +172,8 @@ module _ {L B Y E : Type 0} (R : Rules L Y) (Does : State L B Y → Deed L B Y E
             all_low = subst (AllOf (λ x. deeds.is_event x.did ≡ true → x.low ≤ g)) h.cut.is_whole (at_steps (λ x. deeds.is_event x.did ≡ true → x.low ≤ g) h.cut.marks
                 (all_map (λ m k e. one m m.done refl k e) h.cut.marks (both_of (λ m. m.done ≡ false → deeds.is_event m.step.did ≡ false) (IsWithin g) h.cut.marks a h.cut.below)))
               where
-                one : (m : Mark (Timed (Deed L B Y E))) (b : Bool) → m.done ≡ b → (m.done ≡ false → deeds.is_event m.step.did ≡ false) × IsWithin g m → deeds.is_event m.step.did ≡ true → m.step.low ≤ g
+                one : (m : Mark (Timed (Deed L B Y E))) (b : Bool) → m.done ≡ b → (m.done ≡ false → deeds.is_event m.step.did ≡ false) × IsWithin g m
+                    → deeds.is_event m.step.did ≡ true → m.step.low ≤ g
                 one m true w k e = k.1.if_done w
                 one m false w k e = absurd (true≢false (sym e ∙ k.0 w))
 
@@ -214,9 +223,11 @@ module _ {L B Y E : Type 0} (R : Rules L Y) (Does : State L B Y → Deed L B Y E
           high_is : p.high ≡ next_from p.did.thread T (turns_done deeds 0 xs)
           high_is = cuts.p_high_is deeds T full is_plan g before after p marks_are is_cut below earlier
 
-          go : (slice_get T (next_from p.did.thread T (turns_done deeds 0 xs)) ≡ Some p.did.thread) ⊎ (next_from p.did.thread T (turns_done deeds 0 xs) ≡ length T) → slice_get T p.high ≡ Some p.did.thread
+          go : (slice_get T (next_from p.did.thread T (turns_done deeds 0 xs)) ≡ Some p.did.thread) ⊎ (next_from p.did.thread T (turns_done deeds 0 xs) ≡ length T)
+              → slice_get T p.high ≡ Some p.did.thread
           go (inl o) = ap (slice_get T) high_is ∙ o
-          go (inr e) = let a = next_of_own p.did.thread T (turns_done deeds 0 xs) there.may.turn there.may.left there.may.own in let b = owner_below T there.may.turn p.did.thread there.may.own in absurd (omega (arith, a, b, e))
+          go (inr e) = let a = next_of_own p.did.thread T (turns_done deeds 0 xs) there.may.turn there.may.left there.may.own in let b =
+              owner_below T there.may.turn p.did.thread there.may.own in absurd (omega (arith, a, b, e))
 
       high : g ≤ p.high
       high = cuts.p_high deeds T full is_plan g before after p marks_are is_cut below earlier
@@ -231,7 +242,8 @@ module _ {L B Y E : Type 0} (R : Rules L Y) (Does : State L B Y → Deed L B Y E
         next = λ v. next (event_of v);
         ready = λ v.
             ap (λ l. R.ready p.did.thread l s.objects) (sym local)
-            ∙ ap (R.ready p.did.thread ((effects z xs).locals p.did.thread)) (sym (places.like_objects (equal L B E) T z full is_plan s g before after p marks_are is_cut below alike earlier next (event_of v)))
+            ∙ ap (R.ready p.did.thread ((effects z xs).locals p.did.thread))
+            (sym (places.like_objects (equal L B E) T z full is_plan s g before after p marks_are is_cut below alike earlier next (event_of v)))
             ∙ there.may.ready (ap R.is_event local ∙ v);
       }
 
@@ -244,7 +256,8 @@ module _ {L B Y E : Type 0} (R : Rules L Y) (Does : State L B Y → Deed L B Y E
         go (inr f) = subst (May R T s g) f.thread (may_here s g h f.before f.after f.step f.parts
             (subst (λ u. AllOf (λ m. m.done ≡ false → m.step.did.thread ≢ u) f.before) (sym f.thread) f.earlier) (λ v. n ∙ ap Some (sym f.thread)))
 
-    pub owner_rests : (run : List (Deed L B Y E)) (h : AtCut (effects z run) (turns_done deeds 0 run)) (t : ℕ) → slice_get T (turns_done deeds 0 run) ≡ Some t → May R T (effects z run) (turns_done deeds 0 run) t ⊎ IsAtEnd z full run t
+    pub owner_rests : (run : List (Deed L B Y E)) (h : AtCut (effects z run) (turns_done deeds 0 run)) (t : ℕ) → slice_get T (turns_done deeds 0 run) ≡ Some t
+        → May R T (effects z run) (turns_done deeds 0 run) t ⊎ IsAtEnd z full run t
     owner_rests run h t n = go (find deeds t h.cut.marks)
       where
         go : AllOf (λ m. m.done ≡ false → m.step.did.thread ≢ t) h.cut.marks ⊎ First deeds t h.cut.marks → May R T (effects z run) (turns_done deeds 0 run) t ⊎ IsAtEnd z full run t
@@ -283,12 +296,15 @@ module _ {L B Y E : Type 0} (R : Rules L Y) (Does : State L B Y → Deed L B Y E
 
             all_low : AllOf (λ x. deeds.is_event x.did ≡ true → x.low ≤ g) (times deeds T 0 (did_of (whole o.before)))
             all_low = subst (AllOf (λ x. deeds.is_event x.did ≡ true → x.low ≤ g)) (sym (times_front deeds T 0 full (whole o.before) (o.step ∷ whole o.after) split))
-                (at_steps (λ x. deeds.is_event x.did ≡ true → x.low ≤ g) o.before (all_map (λ m k e. k.1.if_done k.0) o.before (both_of (λ m. m.done ≡ true) (IsWithin g) o.before o.earlier (all_left (IsWithin g) o.before (pending o.step ∷ o.after) (subst (IsBelow g) o.parts h.cut.below)))))
+                (at_steps (λ x. deeds.is_event x.did ≡ true → x.low ≤ g) o.before
+                (all_map (λ m k e. k.1.if_done k.0) o.before
+                (both_of (λ m. m.done ≡ true) (IsWithin g) o.before o.earlier (all_left (IsWithin g) o.before (pending o.step ∷ o.after) (subst (IsBelow g) o.parts h.cut.below)))))
 
             next : deeds.is_event o.step.did ≡ true → slice_get T g ≡ Some o.step.did.thread
             next v =
                 let own = there.may.next (sym (takes_event (effects z (did_of (whole o.before))) (turns_done deeds 0 (did_of (whole o.before))) o.step.did there) ∙ v) in
-                let low = turns_below g 0 (did_of (whole o.before)) (turns_left_of deeds T 0 (did_of (whole o.before)) (o.step.did ∷ did_of (whole o.after)) (subst (AreTurns deeds T 0) steps is_plan.turns)) (omega arith) all_low in
+                let low = turns_below g 0 (did_of (whole o.before))
+                (turns_left_of deeds T 0 (did_of (whole o.before)) (o.step.did ∷ did_of (whole o.after)) (subst (AreTurns deeds T 0) steps is_plan.turns)) (omega arith) all_low in
                 let at = cuts.p_high_is deeds T full is_plan g o.before o.after o.step marks_are (subst (IsCut deeds) o.parts h.cut.is_cut) (subst (IsBelow g) o.parts h.cut.below) none in
                 let high = cuts.p_high deeds T full is_plan g o.before o.after o.step marks_are (subst (IsCut deeds) o.parts h.cut.is_cut) (subst (IsBelow g) o.parts h.cut.below) none in
                 let turn = next_own o.step.did.thread T (turns_done deeds 0 (did_of (whole o.before))) own in
@@ -297,7 +313,8 @@ module _ {L B Y E : Type 0} (R : Rules L Y) (Does : State L B Y → Deed L B Y E
 
     -- ---- the law
 
-    stands : (run : List (Deed L B Y E)) → IsPermitted R Does T z 0 run → Stands (equal L B E) T z full (Takes R Does T) is_plan the_obeys (effects z run) (turns_done deeds 0 run) run (times deeds T 0 run)
+    stands : (run : List (Deed L B Y E)) → IsPermitted R Does T z 0 run
+        → Stands (equal L B E) T z full (Takes R Does T) is_plan the_obeys (effects z run) (turns_done deeds 0 run) run (times deeds T 0 run)
     stands run perm = follows_plan (equal L B E) T z full (Takes R Does T) is_plan the_obeys z (record { locals = λ u. refl; cells = λ b. refl; objects = refl }) run (moves_of z 0 run perm)
 
     part : (run : List (Deed L B Y E)) → IsPermitted R Does T z 0 run → IsPart R T z full run
@@ -334,7 +351,8 @@ module _ {L B Y E : Type 0} (R : Rules L Y) (Does : State L B Y → Deed L B Y E
         short : length run ≤ length full
         short = let a = kept_short st.holds.cut.marks in let b = st.performs.number in let c = ap length all_steps in omega (arith, a, b, c)
 
-        end : ((t : ℕ) × May R T (effects z run) (turns_done deeds 0 run) t) ⊎ AllOf (λ m. m.done ≡ true) st.holds.cut.marks → ((t : ℕ) × May R T (effects z run) (turns_done deeds 0 run) t) ⊎ EndsAs T z full run
+        end : ((t : ℕ) × May R T (effects z run) (turns_done deeds 0 run) t) ⊎ AllOf (λ m. m.done ≡ true) st.holds.cut.marks
+            → ((t : ℕ) × May R T (effects z run) (turns_done deeds 0 run) t) ⊎ EndsAs T z full run
         end (inl m) = inl m
         end (inr a) =
             let q : did_of (kept st.holds.cut.marks) ≡ full = ap did_of (kept_all st.holds.cut.marks a) ∙ all_steps in
@@ -348,7 +366,8 @@ module _ {L B Y E : Type 0} (R : Rules L Y) (Does : State L B Y → Deed L B Y E
             turns_same : AllOf (λ m. m.done ≡ true) st.holds.cut.marks → turns_done deeds 0 run ≡ total
             turns_same a =
                 let low = turns_below (turns_done deeds 0 run) 0 full is_plan.turns (omega arith)
-                (subst (AllOf (λ x. deeds.is_event x.did ≡ true → x.low ≤ turns_done deeds 0 run)) st.holds.cut.is_whole (at_steps (λ x. deeds.is_event x.did ≡ true → x.low ≤ turns_done deeds 0 run) st.holds.cut.marks
+                (subst (AllOf (λ x. deeds.is_event x.did ≡ true → x.low ≤ turns_done deeds 0 run)) st.holds.cut.is_whole
+                (at_steps (λ x. deeds.is_event x.did ≡ true → x.low ≤ turns_done deeds 0 run) st.holds.cut.marks
                 (all_map (λ m k e. k.1.if_done k.0) st.holds.cut.marks (both_of (λ m. m.done ≡ true) (IsWithin (turns_done deeds 0 run)) st.holds.cut.marks a st.holds.cut.below)))) in
                 let up = st.holds.reached in
                 omega (arith, low, up)
@@ -368,5 +387,6 @@ determined M det = record {
 }
 
 -- the same for a machine whose steps are a function
-pub law_of_runs : {L B Y E : Type 0} (M : Machine L B Y E) (T : List ℕ) (s : State L B Y) (full : List (Deed L B Y E)) → HasOrdered M T s full → (run : List (Deed L B Y E)) → IsPermitted M.rules (does M) T s 0 run → IsPart M.rules T s full run
+pub law_of_runs : {L B Y E : Type 0} (M : Machine L B Y E) (T : List ℕ) (s : State L B Y) (full : List (Deed L B Y E)) → HasOrdered M T s full → (run : List (Deed L B Y E))
+    → IsPermitted M.rules (does M) T s 0 run → IsPart M.rules T s full run
 law_of_runs M T s full h run perm = law_of_steps M.rules (does M) T s full (determined M h.machine) h.is_full h.ordered run perm

@@ -109,7 +109,8 @@ module _ {A : Type 0} (V : View A) where
         subst (λ q. p ≡ timed V T (turns_done V (done_after (V.is_event q.did) k) (did_of ys)) p.did) (cons_head e) (timed_at (done_after (V.is_event x) k) xs ys p zs (cons_tail e))
 
     -- where no step of thread u has its last turn beyond g, u has no turn beyond g among those done
-    pub last_bound : (u g k : ℕ) (xs : List A) → AreTurns V T k xs → last_before u T k ≤ g → AllOf (λ y. V.thread y.did ≡ u → y.low ≤ g) (times V T k xs) → last_before u T (turns_done V k xs) ≤ g
+    pub last_bound : (u g k : ℕ) (xs : List A) → AreTurns V T k xs → last_before u T k ≤ g → AllOf (λ y. V.thread y.did ≡ u → y.low ≤ g) (times V T k xs)
+        → last_before u T (turns_done V k xs) ≤ g
     last_bound u g k [] h l a = l
     last_bound u g k (x ∷ xs) h l a = last_bound u g (done_after (V.is_event x) k) xs h.1 (go (cases_eq (V.thread x) u) (V.is_event x) refl) a.1
       where

@@ -1,5 +1,6 @@
 -- The last turn of a thread among the first ones, and its next turn.
-use Rattle.std.proofs.Common.{◌≡◌, ℕ, ◌==◌, ◌<◌, ◌≤◌, ◌⊎◌, Bool, true, false, cond, List, [], ◌∷◌, length, Option, Some, None, refl, sym, ap, ◌∙◌, arith, zero, suc, inl, inr}
+use Rattle.std.proofs.Common.{◌≡◌, ℕ, ◌==◌, ◌<◌, ◌≤◌, ◌⊎◌, Bool, true, false, cond, List, [], ◌∷◌, length, Option, Some, None, refl, sym, ap, ◌∙◌}
+use Rattle.std.proofs.Common.{arith, zero, suc, inl, inr}
 use Rattle.std.specs.Prelude.{slice_get}
 use Rattle.std.proofs.lemmas.Bool.{true≢false, eqb-true, eqb-false, eq-eqb, ne_eqb, cases_eq, cases_lt, cases_order}
 use Rattle.pg_plans.specs.Intervals.{is_of, last_before, next_from}
@@ -62,7 +63,8 @@ module _ (u : ℕ) (T : List ℕ) where
   last_is zero j h = absurd (omega arith)
   last_is (suc k) j h = go (λ q. last_is k j q) (is_of u (slice_get T k)) refl h
     where
-      go : (last_before u T k ≡ suc j → (slice_get T j ≡ Some u) × (j < k)) → (e : Bool) → is_of u (slice_get T k) ≡ e → cond e (suc k) (last_before u T k) ≡ suc j → (slice_get T j ≡ Some u) × (j < suc k)
+      go : (last_before u T k ≡ suc j → (slice_get T j ≡ Some u) × (j < k)) → (e : Bool) → is_of u (slice_get T k) ≡ e → cond e (suc k) (last_before u T k) ≡ suc j
+          → (slice_get T j ≡ Some u) × (j < suc k)
       go ih true w q = let e : j ≡ k = omega arith in rw e (is_of_some u (slice_get T k) w, omega arith)
       go ih false w q = let r = ih q in let l = r.1 in (r.0, omega (arith, l))
 
@@ -70,7 +72,8 @@ module _ (u : ℕ) (T : List ℕ) where
   last_grows a zero le = let e : a ≡ 0 = omega arith in rw e (omega arith)
   last_grows a (suc b) le = go (λ l. last_grows a b l) (cases_eq a (suc b)) (is_of u (slice_get T b)) refl
     where
-      go : (a ≤ b → last_before u T a ≤ last_before u T b) → (a ≡ suc b) ⊎ (a ≡ suc b → ⊥) → (e : Bool) → is_of u (slice_get T b) ≡ e → last_before u T a ≤ cond (is_of u (slice_get T b)) (suc b) (last_before u T b)
+      go : (a ≤ b → last_before u T a ≤ last_before u T b) → (a ≡ suc b) ⊎ (a ≡ suc b → ⊥) → (e : Bool) → is_of u (slice_get T b) ≡ e
+          → last_before u T a ≤ cond (is_of u (slice_get T b)) (suc b) (last_before u T b)
       go ih (inl q) e w = let z : last_before u T a ≤ last_before u T (suc b) = rw q (omega arith) in z
       go ih (inr n) true w = let h = last_up a in rw w (omega (arith, h))
       go ih (inr n) false w = rw w (ih (omega arith))
@@ -105,7 +108,8 @@ pub next_is : (u : ℕ) (T : List ℕ) (k : ℕ) → (slice_get T (next_from u T
 next_is u [] k = inr refl
 next_is u (o ∷ T) zero = go (u == o) refl (next_is u T 0)
   where
-    go : (e : Bool) → (u == o) ≡ e → (slice_get T (next_from u T 0) ≡ Some u) ⊎ (next_from u T 0 ≡ length T) → (slice_get (o ∷ T) (cond (u == o) 0 (suc (next_from u T 0))) ≡ Some u) ⊎ (cond (u == o) 0 (suc (next_from u T 0)) ≡ suc (length T))
+    go : (e : Bool) → (u == o) ≡ e → (slice_get T (next_from u T 0) ≡ Some u) ⊎ (next_from u T 0 ≡ length T)
+        → (slice_get (o ∷ T) (cond (u == o) 0 (suc (next_from u T 0))) ≡ Some u) ⊎ (cond (u == o) 0 (suc (next_from u T 0)) ≡ suc (length T))
     go true w h = rw w (inl (ap Some (sym (eqb-true u o w))))
     go false w (inl h) = rw w (inl h)
     go false w (inr h) = rw w (inr (ap suc h))
@@ -120,7 +124,8 @@ pub next_least : (u : ℕ) (T : List ℕ) (k i : ℕ) → k ≤ i → i < next_f
 next_least u [] k i le lt h = absurd (omega arith)
 next_least u (o ∷ T) zero i le lt h = go (λ j l. next_least u T 0 j (omega arith) l) (u == o) refl i lt h
   where
-    go : ((j : ℕ) → j < next_from u T 0 → slice_get T j ≡ Some u → ⊥) → (e : Bool) → (u == o) ≡ e → (i : ℕ) → i < cond (u == o) 0 (suc (next_from u T 0)) → slice_get (o ∷ T) i ≡ Some u → ⊥
+    go : ((j : ℕ) → j < next_from u T 0 → slice_get T j ≡ Some u → ⊥) → (e : Bool) → (u == o) ≡ e → (i : ℕ) → i < cond (u == o) 0 (suc (next_from u T 0))
+        → slice_get (o ∷ T) i ≡ Some u → ⊥
     go ih true w i l q = let z = rw w at l in absurd (omega arith)
     go ih false w zero l q = eqb-false u o w (cc)
     go ih false w (suc i) l q = let z = rw w at l in ih i (omega arith) q

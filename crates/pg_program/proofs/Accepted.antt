@@ -44,7 +44,8 @@ lines_same : (types : List NamedType) (next : ℕ) (ls : List Line) → flat_map
 lines_same types next [] = refl
 lines_same types next (l ∷ ls) = ap (λ (ts : List Ty). line_tys l ++ ts) (lines_same types (behind_line types next l) ls)
 
-blocks_same : (types : List NamedType) (next : ℕ) (bs : List Block) → flat_map line_tys (flat_map (λ (b : Block). b.lines) (each_at (behind_block types) (block_at types) next bs)) ≡ flat_map block_tys bs
+blocks_same : (types : List NamedType) (next : ℕ) (bs : List Block) → flat_map line_tys (flat_map (λ (b : Block). b.lines) (each_at (behind_block types) (block_at types) next bs))
+    ≡ flat_map block_tys bs
 unfolding block_at
 blocks_same types next [] = refl
 blocks_same types next (b ∷ bs) =
@@ -132,7 +133,13 @@ module _ (m : Tree) (accepted : IsUnrefused m) where
 
     function_fits : FunctionFits m.types d
     function_fits = record {
-      params = omega (arith, params_kept m.types d, params_within m accepted f (numbered m.types d) named, scalars_count m accepted f (numbered m.types d) named, few_registers m accepted f (numbered m.types d) named);
+      params = omega (
+        arith,
+        params_kept m.types d,
+        params_within m accepted f (numbered m.types d) named,
+        scalars_count m accepted f (numbered m.types d) named,
+        few_registers m accepted f (numbered m.types d) named,
+      );
       registers = few_registers m accepted f (numbered m.types d) named;
       blocks = blocks_fit;
     }

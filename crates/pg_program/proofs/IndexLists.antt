@@ -14,7 +14,8 @@ use Rattle.pg_rules.specs.Numbered.{index_at, indices_at, typed_value, width_in,
 abbrev index : Value → Width → Scale → Index
 index v w s = record { value = v; width = w; scale = s }
 
-pub index_made : (g : Scope) (i : TypedVal) (s : Scale) (v : Value) (w : Width) → v ≡ typed_value g (typed_of i) → w ≡ width_in (type_in g (typed_of i).ty) → index v w s ≡ index_at g (typed_of i) s
+pub index_made : (g : Scope) (i : TypedVal) (s : Scale) (v : Value) (w : Width) → v ≡ typed_value g (typed_of i) → w ≡ width_in (type_in g (typed_of i).ty)
+    → index v w s ≡ index_at g (typed_of i) s
 index_made g i s v w a b = ap (λ x. index x w s) a ∙ ap (λ x. index (typed_value g (typed_of i)) x s) b
 
 -- one index more

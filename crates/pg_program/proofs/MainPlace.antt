@@ -17,13 +17,15 @@ at_place : (all : List DefineItem) (place : ℕ) (x : DefineItem) → place < le
     → position_from is_main_item place (drop place all) ≡ cond (is_main_item x) (Some place) (position_from is_main_item (place + 1) (drop (place + 1) all))
 at_place all place x l e = ap (λ xs. position_from is_main_item place xs) (drop_is all place x x l e)
 
-pub main_skip : (all : List DefineItem) (place : ℕ) (x : DefineItem) → place < length all → x ≡ get_or all place x → is_main_item x ≡ false → Searched all place → Searched all (place + 1)
+pub main_skip : (all : List DefineItem) (place : ℕ) (x : DefineItem) → place < length all → x ≡ get_or all place x → is_main_item x ≡ false → Searched all place
+    → Searched all (place + 1)
 main_skip all place x l e h s = record {
   within = omega (arith, l);
   same = s.same ∙ at_place all place x l e ∙ ap (λ b. cond b (Some place) (position_from is_main_item (place + 1) (drop (place + 1) all))) h;
 }
 
-pub main_here : (all : List DefineItem) (place : ℕ) (x : DefineItem) → place < length all → x ≡ get_or all place x → is_main_item x ≡ true → Searched all place → position_from is_main_item 0 all ≡ Some place
+pub main_here : (all : List DefineItem) (place : ℕ) (x : DefineItem) → place < length all → x ≡ get_or all place x → is_main_item x ≡ true → Searched all place
+    → position_from is_main_item 0 all ≡ Some place
 main_here all place x l e h s =
     s.same ∙ at_place all place x l e ∙ ap (λ b. cond b (Some place) (position_from is_main_item (place + 1) (drop (place + 1) all))) h
 

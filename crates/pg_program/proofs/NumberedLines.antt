@@ -37,7 +37,8 @@ instr o block result = record { op = o; block = block_number block; result = res
 
 -- a result has the first of the names
 line_same : (g : Scope) (o : numbered_op.Op) (block next : ℕ) (t : Option ResolvedType) (b : Bool) (name : Option Name) (regs : List Register) (rest : List Name)
-    → instr o block (result_by g b (map name_in (cons_option (given_register t b (result_at b next name)) regs) ++ rest)) ≡ instr o block (if b then number_of_name g (result_at b next name) else None)
+    → instr o block (result_by g b (map name_in (cons_option (given_register t b (result_at b next name)) regs) ++ rest))
+    ≡ instr o block (if b then number_of_name g (result_at b next name) else None)
 line_same g o block next t true (Some n) regs rest = refl
 line_same g o block next t true None regs rest = refl
 line_same g o block next t false (Some n) regs rest = refl
@@ -89,7 +90,8 @@ blocks_numbered g first b next (k ∷ ks) =
     let here = numbered_lines types inner k.lines in
     let instrs = map (instr_at g first b) here in
     let e : first + b + 1 ≡ first + (b + 1) = omega arith in
-    ap (λ ns. lines_by g first (first + b) ns k.lines ++ blocks_by g first (first + b + 1) (names_after_lines types ns k.lines) ks) (map-append name_in (filter_map (line_register types) here) (flat_map (block_registers types) tail))
+    ap (λ ns. lines_by g first (first + b) ns k.lines ++ blocks_by g first (first + b + 1) (names_after_lines types ns k.lines) ks)
+    (map-append name_in (filter_map (line_register types) here) (flat_map (block_registers types) tail))
     ∙ ap (λ is. is ++ blocks_by g first (first + b + 1) (names_after_lines types (line_names types here ++ rest) k.lines) ks) (lines_numbered g first b inner rest k.lines)
     ∙ ap (λ ns. instrs ++ blocks_by g first (first + b + 1) ns ks) (lines_named types inner rest k.lines)
     ∙ ap (λ n. instrs ++ blocks_by g first n rest ks) e
@@ -104,7 +106,8 @@ params_named types next (p ∷ ps) rest = params_named types (behind_param next 
 
 -- the results take the names behind those of the parameters
 pub function_numbered : (m : Tree) (first : ℕ) (d : Definition)
-    → blocks_by (scope_of m (numbered m.types d)) first first (drop (length d.params) (map name_in (registers_of m.types (numbered m.types d)))) d.blocks ≡ function_instrs m first (numbered m.types d)
+    → blocks_by (scope_of m (numbered m.types d)) first first (drop (length d.params) (map name_in (registers_of m.types (numbered m.types d)))) d.blocks
+    ≡ function_instrs m first (numbered m.types d)
 unfolding numbered registers_of
 function_numbered m first d =
     let g = scope_of m (numbered m.types d) in

@@ -1,5 +1,6 @@
 -- Numbers that are below the number of things that have one.
-use Rattle.std.proofs.Common.{◌≡◌, ℕ, zero, suc, ◌+◌, ◌^◌, ◌<◌, ◌≤◌, Bool, true, false, cond, List, [], ◌∷◌, length, map, get_or, slice_get, Option, Some, None, IfSome, sym, ap, ◌∙◌, subst, arith}
+use Rattle.std.proofs.Common.{◌≡◌, ℕ, zero, suc, ◌+◌, ◌^◌, ◌<◌, ◌≤◌, Bool, true, false, cond, List, [], ◌∷◌, length, map, get_or, slice_get, Option, Some}
+use Rattle.std.proofs.Common.{None, IfSome, sym, ap, ◌∙◌, subst, arith}
 use Rattle.std.specs.List.{find, position, position_from, enumerate_from, filter_map, cons_option}
 use Rattle.std.specs.Str.{bytes_eq}
 use Rattle.std.proofs.lemmas.Iterator.Adapters.{position_from-zero}
@@ -71,10 +72,12 @@ found_below {X} t i (x ∷ xs) = by (t (i, x)) (find t (enumerate_from (i + 1) x
 pub symbol_short : (m : Tree) (text : List ℕ) → FewSymbols m → IsShort (symbol m text)
 unfolding symbol
 symbol_short m text few =
-    by (find (λ (g : ℕ × Variable). bytes_eq g.1.name.text text) (enumerate_from 0 m.globals)) (find (λ (d : ℕ × Definition). bytes_eq d.1.name.text text) (enumerate_from 0 m.functions)) (find (λ (d : Declaration). bytes_eq d.name.text text) m.declares)
+    by (find (λ (g : ℕ × Variable). bytes_eq g.1.name.text text) (enumerate_from 0 m.globals)) (find (λ (d : ℕ × Definition). bytes_eq d.1.name.text text) (enumerate_from 0 m.functions))
+    (find (λ (d : Declaration). bytes_eq d.name.text text) m.declares)
     (found_below (λ (g : ℕ × Variable). bytes_eq g.1.name.text text) 0 m.globals) (found_below (λ (d : ℕ × Definition). bytes_eq d.1.name.text text) 0 m.functions)
   where
-    by : (o : Option (ℕ × Variable)) (p : Option (ℕ × Definition)) (q : Option Declaration) → IfSome o (λ r. r.0 < 0 + length m.globals) → IfSome p (λ r. r.0 < 0 + length m.functions) → IsShort (variable_as o (defined_as p (declared_as q)))
+    by : (o : Option (ℕ × Variable)) (p : Option (ℕ × Definition)) (q : Option Declaration) → IfSome o (λ r. r.0 < 0 + length m.globals) → IfSome p (λ r. r.0 < 0 + length m.functions)
+        → IsShort (variable_as o (defined_as p (declared_as q)))
     by (Some g) p q h k = omega (arith, h, few.globals)
     by None (Some d) q h k = omega (arith, k, few.functions)
     by None None (Some d) h k = tt

@@ -9,13 +9,14 @@ use Rattle.pg_num.specs.declared.limits.TheConstants.{SIZE_LIMIT}
 use Rattle.pg_num.specs.declared.width.Width.TheVariants.{W1, W8, W16, W32, W64}
 use Rattle.pg_ast.specs.Syntax.{Ty, Tys, I1, I8, I16, I32, I64, Ptr, Void, Array, Struct, Named, NoTys, MoreTys, NamedType, Tree}
 use Rattle.pg_ast.specs.Numbers.{type_named}
-use Rattle.pg_types.specs.Resolved.{ResolvedType, IntegerType, PointerType, VoidType, ArrayType, NoFields, MoreFields, part_type, array_type, with_field, element_count, type_by, fields_by, type_within, resolved}
+use Rattle.pg_types.specs.Resolved.{ResolvedType, IntegerType, PointerType, VoidType, ArrayType, NoFields, MoreFields, part_type, array_type, with_field, element_count, type_by, fields_by}
+use Rattle.pg_types.specs.Resolved.{type_within, resolved}
 use Rattle.pg_types.specs.Layout.{size_of}
 use Rattle.pg_rules.specs.declared.fault.CheckKind.TheVariants.{TooLarge}
 use Rattle.pg_rules.specs.Written.{types_within, types_within_all}
 use Rattle.pg_rules.specs.TypeConditions.{is_large, any_large}
 use Rattle.pg_rules.specs.Conditions.{item_refused, IsUnrefused}
-use Rattle.pg_types.proofs.Fuel.{Below, within_plus}
+use Rattle.pg_types.proofs.Fuel.{Below, within_less}
 use Rattle.pg_numbering.proofs.Flat.{some_is}
 use Rattle.pg_numbering.proofs.Unrefused.{at_if_none, items_pass}
 use Rattle.pg_numbering.proofs.Resolves.{item_of}
@@ -90,7 +91,8 @@ field_added (Some s) p h f = by (part_type p) refl
 no_part : (p : Ty → Bool) (xs ys : List Ty) → list_any p (xs ++ ys) ≡ false → (list_any p xs ≡ false) × (list_any p ys ≡ false)
 no_part p xs ys e = or_parts (list_any p xs) (list_any p ys) (sym (list_any-append p xs ys) ∙ e)
 
-module _ (types : List NamedType) (f : List ℕ → Option ResolvedType) (below : Below f (type_within (length types) types)) (names : (text : List ℕ) (r : ResolvedType) → f text ≡ Some r → AllFit r) where
+module _ (types : List NamedType) (f : List ℕ → Option ResolvedType) (below : Below f (type_within (length types) types))
+    (names : (text : List ℕ) (r : ResolvedType) → f text ≡ Some r → AllFit r) where
   own_small : (t : Ty) (r : ResolvedType) → is_large types t ≡ false → type_by f t ≡ Some r → size_of r ≤ SIZE_LIMIT
   own_small t r l e = size_by types f below (λ text q h. own_size q (names text q h)) t r l e
 
@@ -133,11 +135,10 @@ module _ (m : Tree) (accepted : IsUnrefused m) where
   name_fits (suc n) l text r e = by (type_named m.types text) refl e (name_fits n (omega (arith, l)))
     where
       below : Below (type_within n m.types) (type_within (length m.types) m.types)
-      below other q g =
-          let z : n + (length m.types - n) ≡ length m.types = omega (arith, l) in
-          subst (λ (k : ℕ). type_within k m.types other ≡ Some q) z (within_plus (length m.types - n) n m.types other q g)
+      below = within_less n (length m.types) m.types (omega (arith, l))
 
-      by : (o : Option Ty) → type_named m.types text ≡ o → option_and_then (λ t. type_by (type_within n m.types) t) o ≡ Some r → ((other : List ℕ) → Fit (type_within n m.types other)) → AllFit r
+      by : (o : Option Ty) → type_named m.types text ≡ o → option_and_then (λ t. type_by (type_within n m.types) t) o ≡ Some r
+          → ((other : List ℕ) → Fit (type_within n m.types other)) → AllFit r
       by None h g more = absurd cc
       by (Some t) h g more = type_fits_by m.types (type_within n m.types) below more t (item_small text t h) r g
 

@@ -2,7 +2,9 @@
 use Rattle.std.proofs.Common.{◌≡◌, zero, suc, List, [], ◌∷◌, ◌++◌, map, subst}
 use Rattle.std.specs.List.{flat_map, AllByRecursion}
 use Rattle.std.proofs.lemmas.Grind.{flat_map-append}
-use Rattle.pg_ast.specs.Syntax.{Ty, Val, Int, True, False, Null, Undef, Poison, ZeroInitializer, Local, Global, GepVal, IntToPtrVal, Const, Consts, ValConst, BytesConst, ArrayConst, StructConst, NoConsts, MoreConsts, Incoming, Op, Binary, Icmp, Cast, Select, Phi, Br, CondBr, Switch, Call, RetVoid, Ret, Unreachable, Alloca, Load, Store, GetElementPtr, NamedType}
+use Rattle.pg_ast.specs.Syntax.{Ty, Val, Int, True, False, Null, Undef, Poison, ZeroInitializer, Local, Global, GepVal, IntToPtrVal, Const, Consts, ValConst, BytesConst, ArrayConst}
+use Rattle.pg_ast.specs.Syntax.{StructConst, NoConsts, MoreConsts, Incoming, Op, Binary, Icmp, Cast, Select, Phi, Br, CondBr, Switch, Call, RetVoid, Ret, Unreachable, Alloca, Load, Store}
+use Rattle.pg_ast.specs.Syntax.{GetElementPtr, NamedType}
 use Rattle.pg_rules.specs.Written.{Use, operand, typed_operand, inner_uses, index_uses, with_inner, operands, own_types, op_types, const_uses, part_uses}
 use Rattle.pg_rules.specs.LineConditions.{line_types}
 use Rattle.pg_numbering.proofs.Each.{all_front, all_behind, all_both}
@@ -32,8 +34,12 @@ module _ (types : List NamedType) where
   val_fits (Global n) h = tt
   val_fits (GepVal s t u p is) h =
       let inner : Fit (own_types p ++ flat_map own_of (inner_uses p ++ index_uses is)) = all_behind (TypeFits types) (own_types (GepVal s t u p is)) _ h in
-      let behind : Fit (flat_map own_of (inner_uses p) ++ flat_map own_of (index_uses is)) = subst Fit (flat_map-append own_of (inner_uses p) (index_uses is)) (all_behind (TypeFits types) (own_types p) _ inner) in
-      (h.0, val_fits p (all_both (TypeFits types) (own_types p) (flat_map own_of (inner_uses p)) (all_front (TypeFits types) (own_types p) _ inner) (all_front (TypeFits types) (flat_map own_of (inner_uses p)) _ behind)))
+      let behind : Fit (flat_map own_of (inner_uses p) ++ flat_map own_of (index_uses is)) =
+      subst Fit (flat_map-append own_of (inner_uses p) (index_uses is)) (all_behind (TypeFits types) (own_types p) _ inner) in (
+        h.0,
+        val_fits p (all_both (TypeFits types) (own_types p) (flat_map own_of (inner_uses p)) (all_front (TypeFits types) (own_types p) _ inner)
+            (all_front (TypeFits types) (flat_map own_of (inner_uses p)) _ behind)),
+      )
   val_fits (IntToPtrVal s t n u) h = tt
 
   uses_fit : (us : List Use) → Fit (flat_map own_of (flat_map with_inner us)) → AllByRecursion UseFits us

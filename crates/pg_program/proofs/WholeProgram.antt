@@ -40,6 +40,7 @@ program_made tree seen all functions blocks instrs globals main s a f b i g n =
     same_five numbered_program
     (f ∙ ap (λ xs. rows_from (function_row m (map define_of xs)) 0 xs) a ∙ singles_are (λ k d. function_at m (first_block m.functions k) d) m.types 0 items)
     (b ∙ ap (λ xs. rows_from (block_row (map define_of xs)) 0 xs) a ∙ block_rows_are m.functions m.types 0 items)
-    (i ∙ ap (λ t. rows_from (instr_row (tree_of t) (map define_of all)) 0 all) s ∙ ap (λ xs. rows_from (instr_row m (map define_of xs)) 0 xs) a ∙ rows_are (λ k d. function_instrs m (first_block m.functions k) d) m.types 0 items)
+    (i ∙ ap (λ t. rows_from (instr_row (tree_of t) (map define_of all)) 0 all) s ∙ ap (λ xs. rows_from (instr_row m (map define_of xs)) 0 xs) a
+    ∙ rows_are (λ k d. function_instrs m (first_block m.functions k) d) m.types 0 items)
     (g ∙ ap (λ t. map (λ (v : ℕ × Variable). global_at (tree_of t) v.0 v.1) (enumerate_from 0 (tree_of t).globals)) s)
     (n ∙ ap (λ xs. unwrap_or (position_from is_main_item 0 xs) 0) a ∙ ap (λ o. unwrap_or o 0) (main_place items))

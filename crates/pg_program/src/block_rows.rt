@@ -6,8 +6,8 @@ ghost use Rattle.pg_ast.specs.Syntax as syntax;
 ghost use Rattle.pg_ast.specs.Views.{block_of};
 ghost use Rattle.pg_rules.specs.Numbered.{blocks_from};
 
-use pg_ast::BlockNode;
 use pg_ir::{Block, InstrId};
+use pg_ast::BlockNode;
 use std::alloc::AllocError;
 
 /// Adds the basic blocks of a function, whose instructions are numbered from `first` on, and gives the number of the

@@ -5,8 +5,8 @@ ghost use Rattle.pg_rules.specs.Numbered.{call_of, known_call};
 ghost use Rattle.pg_rules.specs.Symbols.{symbol_of};
 ghost use Rattle.pg_program.specs.Room.{IsShort};
 
-use pg_ir::{Known, Op, Value, Values};
 use pg_rules::{SymbolNode, known_named};
+use pg_ir::{Known, Op, Value, Values};
 
 fn known_call(known: Option<Known>, args: Vec<Value>) -> Op
     ensures { result ≡ known_call known args.items }

@@ -13,15 +13,14 @@ ghost use Rattle.pg_program.specs.ScopeSizes.{IncomingIsSmall};
 use crate::function_scope::FunctionScope;
 use crate::operands::value_at;
 use crate::scope::block_at;
-use pg_ast::{CaseNode, IncomingNode, TypeNode, TypedVal};
-use pg_ir::{Case, Incoming};
 use pg_rules::number_at;
 use pg_types::TypeNumbers;
-use std::alloc::{AllocError, Global};
+use pg_ir::{Case, Incoming};
+use pg_ast::{CaseNode, IncomingNode, TypeNode, TypedVal};
+use std::alloc::AllocError;
 
 /// A value of a `phi`, and the number of the basic block that it comes from.
 fn incoming_at(
-    alloc: Global,
     scope: &FunctionScope<'_>,
     types: &TypeNumbers<'_>,
     ty: &TypeNode,
@@ -33,13 +32,12 @@ fn incoming_at(
         IfOk result (λ i. i ≡ incoming_at (scope_in scope.now names) scope.now.first (ty_of ty.now) (incoming_of incoming.now)) }
 {
     let block = block_at(scope, &incoming.block);
-    let value = value_at(alloc, scope, types, ty, &incoming.value)?;
+    let value = value_at(scope, types, ty, &incoming.value)?;
     Ok(Incoming { block, value })
 }
 
 /// Adds the values of a `phi`.
 fn add_incomings(
-    alloc: Global,
     scope: &FunctionScope<'_>,
     types: &TypeNumbers<'_>,
     ty: &TypeNode,
@@ -52,7 +50,7 @@ fn add_incomings(
         ++ map (incoming_at (scope_in scope.now names) scope.now.first (ty_of ty.now)) (map incoming_of all.now)) }
 {
     for incoming in all {
-        let one = incoming_at(alloc, scope, types, ty, incoming)?;
+        let one = incoming_at(scope, types, ty, incoming)?;
         found.push(one)?;
     }
     Ok(())
@@ -60,7 +58,6 @@ fn add_incomings(
 
 /// The values of a `phi`: the first and the others.
 pub(crate) fn incomings_at(
-    alloc: Global,
     scope: &FunctionScope<'_>,
     types: &TypeNumbers<'_>,
     ty: &TypeNode,
@@ -73,10 +70,10 @@ pub(crate) fn incomings_at(
     ensures incomings { (names : ScopeNames scope.now) → IfOk result (λ v. v.items ≡
         map (incoming_at (scope_in scope.now names) scope.now.first (ty_of ty.now)) (incoming_of first.now ∷ map incoming_of others.now)) }
 {
-    let one = incoming_at(alloc, scope, types, ty, first)?;
-    let mut found = Vec::new(alloc);
+    let one = incoming_at(scope, types, ty, first)?;
+    let mut found = Vec::new(scope.globals.alloc);
     found.push(one)?;
-    add_incomings(alloc, scope, types, ty, &mut found, others)?;
+    add_incomings(scope, types, ty, &mut found, others)?;
     Ok(found)
 }
 
@@ -106,7 +103,6 @@ fn case_at(
 
 /// The cases of a `switch`.
 pub(crate) fn cases_at(
-    alloc: Global,
     scope: &FunctionScope<'_>,
     types: &TypeNumbers<'_>,
     ty: &TypeNode,
@@ -116,7 +112,7 @@ pub(crate) fn cases_at(
     ensures cases { (names : ScopeNames scope.now) → IfOk result (λ v. v.items ≡
         map (case_at (scope_in scope.now names) scope.now.first (ty_of ty.now)) (map case_of cases.now)) }
 {
-    let mut found = Vec::new(alloc);
+    let mut found = Vec::new(scope.globals.alloc);
     for case in cases {
         let one = case_at(scope, types, ty, case)?;
         found.push(one)?;

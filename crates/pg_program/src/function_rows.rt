@@ -17,12 +17,12 @@ ghost use Rattle.pg_program.specs.Room.{FewSymbols, FunctionFits};
 use crate::function_scope::FunctionScope;
 use crate::line_rows::add_block_lines;
 use indexmap::IndexMap;
-use pg_ast::{DefineItem, Module, Name, TypeNode};
 use pg_constants::Globals;
-use pg_ir::{BlockNo, Function, Instr, Scalar, Scalars};
 use pg_names::{RegisterType, own_names};
-use pg_num::Width;
 use pg_types::{TypeKind, TypeNumbers, index_names};
+use pg_ir::{BlockNo, Function, Instr, Scalar, Scalars};
+use pg_num::Width;
+use pg_ast::{DefineItem, Module, Name, TypeNode};
 use std::alloc::{AllocError, Global};
 
 /// The texts of names.
@@ -50,7 +50,6 @@ fn name_places<'a>(
 
 /// Adds the instructions of a function, whose basic blocks are numbered from `first` on.
 pub(crate) fn add_function(
-    alloc: Global,
     globals: &Globals<'_>,
     types: &TypeNumbers<'_>,
     found: &mut Vec<Instr>,
@@ -64,11 +63,11 @@ pub(crate) fn add_function(
     ensures instrs { OnOk result (found.new.items ≡ found.old.items ++ function_instrs (tree_of globals.now.symbols.tree.now) first
         (numbered_item (tree_of globals.now.symbols.tree.now).types item.now)) }
 {
-    let own = own_names(alloc, types, item)?;
+    let own = own_names(globals.alloc, types, item)?;
     let names = own.registers.as_slice();
     let label_names = own.labels.as_slice();
-    let registers = name_places(alloc, names)?;
-    let labels = name_places(alloc, label_names)?;
+    let registers = name_places(globals.alloc, names)?;
+    let labels = name_places(globals.alloc, label_names)?;
     let scope = FunctionScope {
         globals,
         registers: &registers,
@@ -77,7 +76,7 @@ pub(crate) fn add_function(
     };
     let params = item.params.as_slice();
     let blocks = item.blocks.as_slice();
-    add_block_lines(alloc, &scope, types, found, names, params.len(), blocks)?;
+    add_block_lines(&scope, types, found, names, params.len(), blocks)?;
     Ok(())
 }
 

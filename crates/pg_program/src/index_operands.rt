@@ -10,16 +10,15 @@ ghost use Rattle.pg_program.specs.ScopeSizes.{TyIsSmall, TypedIsSmall};
 
 use crate::function_scope::FunctionScope;
 use crate::operands::{typed_value, typed_width};
-use pg_ast::{TypeNode, TypedVal};
 use pg_constants::index_scales;
-use pg_ir::{Index, Scale};
 use pg_rules::index_numbers;
 use pg_types::TypeNumbers;
-use std::alloc::{AllocError, Global};
+use pg_ir::{Index, Scale};
+use pg_ast::{TypeNode, TypedVal};
+use std::alloc::AllocError;
 
 /// An index of a `getelementptr`.
 fn index_at(
-    alloc: Global,
     scope: &FunctionScope<'_>,
     types: &TypeNumbers<'_>,
     index: &TypedVal,
@@ -30,7 +29,7 @@ fn index_at(
     ensures index { (names : ScopeNames scope.now) →
         IfOk result (λ i. i ≡ index_at (scope_in scope.now names) (typed_of index.now) scale) }
 {
-    let value = typed_value(alloc, scope, types, index)?;
+    let value = typed_value(scope, types, index)?;
     let width = typed_width(scope, types, index)?;
     Ok(Index {
         value,
@@ -41,7 +40,6 @@ fn index_at(
 
 /// Indices that move as they are scaled.
 fn scaled_indices(
-    alloc: Global,
     scope: &FunctionScope<'_>,
     types: &TypeNumbers<'_>,
     indices: &[TypedVal],
@@ -53,9 +51,9 @@ fn scaled_indices(
     ensures indices { (names : ScopeNames scope.now) →
         IfOk result (λ v. v.items ≡ indices_at (scope_in scope.now names) (map typed_of indices.now) scales.now) }
 {
-    let mut found = Vec::new(alloc);
+    let mut found = Vec::new(scope.globals.alloc);
     for place in 0..scales.len() {
-        let one = index_at(alloc, scope, types, &indices[place], scales[place])?;
+        let one = index_at(scope, types, &indices[place], scales[place])?;
         found.push(one)?;
     }
     Ok(found)
@@ -64,7 +62,6 @@ fn scaled_indices(
 /// The scales of indices, constants or not.
 #[tactic(auto, using(pg_constants::proofs::ScaleSteps::index_scales_are))]
 fn scales_at(
-    alloc: Global,
     scope: &FunctionScope<'_>,
     types: &TypeNumbers<'_>,
     ty: &TypeNode,
@@ -75,13 +72,12 @@ fn scales_at(
     ensures scales { IfOk result (λ v. v.items ≡
         index_scales (tree_of scope.now.globals.now.symbols.tree.now).types (ty_of ty.now) (map typed_of indices.now)) }
 {
-    let numbers = index_numbers(alloc, types, indices)?;
-    index_scales(alloc, types, ty, numbers.as_slice())
+    let numbers = index_numbers(scope.globals.alloc, types, indices)?;
+    index_scales(scope.globals.alloc, types, ty, numbers.as_slice())
 }
 
 /// The indices of a `getelementptr` into a type.
 pub(crate) fn indices_at(
-    alloc: Global,
     scope: &FunctionScope<'_>,
     types: &TypeNumbers<'_>,
     ty: &TypeNode,
@@ -94,6 +90,6 @@ pub(crate) fn indices_at(
         indices_at (scope_in scope.now names) (map typed_of indices.now)
         (index_scales (tree_of scope.now.globals.now.symbols.tree.now).types (ty_of ty.now) (map typed_of indices.now))) }
 {
-    let scales = scales_at(alloc, scope, types, ty, indices)?;
-    scaled_indices(alloc, scope, types, indices, scales.as_slice())
+    let scales = scales_at(scope, types, ty, indices)?;
+    scaled_indices(scope, types, indices, scales.as_slice())
 }

@@ -7,7 +7,7 @@ ghost use Rattle.pg_ir.specs.declared.instr.Op.TheVariants as operation;
 ghost use Rattle.pg_types.specs.Layout.{size_or_none};
 ghost use Rattle.pg_rules.specs.Names.{symbol};
 ghost use Rattle.pg_rules.specs.Constants.{index_scales};
-ghost use Rattle.pg_rules.specs.Numbered.{type_in, width_in, value_at, typed_value, block_at, binary_op, comparison_of, indices_at, cast_op, incoming_at, case_at, count_in, call_of, op_at};
+ghost use Rattle.pg_rules.specs.Numbered.{type_in, width_in, value_at, typed_value, block_at, binary_op, indices_at, cast_op, incoming_at, case_at, count_in, call_of, op_at};
 ghost use Rattle.pg_program.specs.Room.{OpFits, Each};
 ghost use Rattle.pg_program.specs.ScopeNames.{ScopeNames, scope_in};
 ghost use Rattle.pg_program.specs.ScopeSizes.{types_in, TyIsSmall, ValIsSmall, TypedIsSmall, IncomingIsSmall};
@@ -17,20 +17,19 @@ use crate::edges::{cases_at, incomings_at};
 use crate::function_scope::FunctionScope;
 use crate::index_operands::indices_at;
 use crate::operands::{size_at, typed_value, typed_width, value_at, values_at, width_at};
-use crate::operations::{binary_op, cast_op, comparison_of};
+use crate::operations::{binary_op, cast_op};
 use crate::scope::block_at;
-use pg_ast::{
-    BinaryOp, CaseNode, CastOp, CountNode, IncomingNode, Name, OpNode, Predicate, TypeNode,
-    TypedVal, ValNode,
-};
-use pg_ir::{Cases, Incomings, Indices, Op};
 use pg_rules::{literal_at, symbol};
 use pg_types::TypeNumbers;
-use std::alloc::{AllocError, Global};
+use pg_ir::{Cases, Incomings, Indices, Op};
+use pg_num::Compare;
+use pg_ast::{
+    BinaryOp, CaseNode, CastOp, CountNode, IncomingNode, Name, OpNode, TypeNode, TypedVal, ValNode,
+};
+use std::alloc::AllocError;
 
 /// An operation on two integers.
 fn binary_at(
-    alloc: Global,
     scope: &FunctionScope<'_>,
     types: &TypeNumbers<'_>,
     op: BinaryOp,
@@ -45,18 +44,17 @@ fn binary_at(
         binary_op op (width_in (type_in g (ty_of ty.now))) (value_at g (ty_of ty.now) (val_of left.now)) (value_at g (ty_of ty.now) (val_of right.now))) }
 {
     let width = width_at(scope, types, ty)?;
-    let left = value_at(alloc, scope, types, ty, left)?;
-    let right = value_at(alloc, scope, types, ty, right)?;
+    let left = value_at(scope, types, ty, left)?;
+    let right = value_at(scope, types, ty, right)?;
     let found = binary_op(op, width, left, right);
     Ok(found)
 }
 
 /// A comparison.
 fn compare_at(
-    alloc: Global,
     scope: &FunctionScope<'_>,
     types: &TypeNumbers<'_>,
-    predicate: Predicate,
+    predicate: Compare,
     ty: &TypeNode,
     left: &ValNode,
     right: &ValNode,
@@ -65,14 +63,13 @@ fn compare_at(
     requires left { ValIsSmall scope.now (val_of left.now) }
     requires right { ValIsSmall scope.now (val_of right.now) }
     ensures op { (names : ScopeNames scope.now) → let g = scope_in scope.now names in IfOk result (λ o. o ≡
-        operation.Compare (comparison_of predicate) (width_in (type_in g (ty_of ty.now))) (value_at g (ty_of ty.now) (val_of left.now)) (value_at g (ty_of ty.now) (val_of right.now))) }
+        operation.Compare predicate (width_in (type_in g (ty_of ty.now))) (value_at g (ty_of ty.now) (val_of left.now)) (value_at g (ty_of ty.now) (val_of right.now))) }
 {
     let width = width_at(scope, types, ty)?;
-    let left = value_at(alloc, scope, types, ty, left)?;
-    let right = value_at(alloc, scope, types, ty, right)?;
-    let op = comparison_of(predicate);
+    let left = value_at(scope, types, ty, left)?;
+    let right = value_at(scope, types, ty, right)?;
     Ok(Op::Compare {
-        op,
+        op: predicate,
         width,
         left,
         right,
@@ -81,7 +78,6 @@ fn compare_at(
 
 /// A conversion.
 fn cast_at(
-    alloc: Global,
     scope: &FunctionScope<'_>,
     types: &TypeNumbers<'_>,
     op: CastOp,
@@ -95,14 +91,13 @@ fn cast_at(
 {
     let from = typed_width(scope, types, value)?;
     let to = width_at(scope, types, ty)?;
-    let of = typed_value(alloc, scope, types, value)?;
+    let of = typed_value(scope, types, value)?;
     let found = cast_op(op, from, to, of);
     Ok(found)
 }
 
 /// A choice between two values.
 fn select_at(
-    alloc: Global,
     scope: &FunctionScope<'_>,
     types: &TypeNumbers<'_>,
     cond: &TypedVal,
@@ -116,9 +111,9 @@ fn select_at(
     ensures op { (names : ScopeNames scope.now) → let g = scope_in scope.now names in IfOk result (λ o. o ≡
         operation.Select (typed_value g (typed_of cond.now)) (typed_value g (typed_of first.now)) (typed_value g (typed_of second.now))) }
 {
-    let cond = typed_value(alloc, scope, types, cond)?;
-    let first = typed_value(alloc, scope, types, first)?;
-    let second = typed_value(alloc, scope, types, second)?;
+    let cond = typed_value(scope, types, cond)?;
+    let first = typed_value(scope, types, first)?;
+    let second = typed_value(scope, types, second)?;
     Ok(Op::Select {
         cond,
         yes: first,
@@ -128,7 +123,6 @@ fn select_at(
 
 /// A `phi`.
 fn phi_at(
-    alloc: Global,
     scope: &FunctionScope<'_>,
     types: &TypeNumbers<'_>,
     ty: &TypeNode,
@@ -141,7 +135,7 @@ fn phi_at(
     ensures op { (names : ScopeNames scope.now) → IfOk result (λ o. o ≡
         operation.Phi (map (incoming_at (scope_in scope.now names) scope.now.first (ty_of ty.now)) (incoming_of first.now ∷ map incoming_of others.now))) }
 {
-    let from = incomings_at(alloc, scope, types, ty, first, others)?;
+    let from = incomings_at(scope, types, ty, first, others)?;
     Ok(Op::Phi {
         from: Incomings::from_vec(from),
     })
@@ -158,7 +152,6 @@ fn branch_at(scope: &FunctionScope<'_>, block: &Name) -> Op
 
 /// A branch on a condition.
 fn conditional_branch_at(
-    alloc: Global,
     scope: &FunctionScope<'_>,
     types: &TypeNumbers<'_>,
     cond: &TypedVal,
@@ -170,7 +163,7 @@ fn conditional_branch_at(
     ensures op { (names : ScopeNames scope.now) → let g = scope_in scope.now names in IfOk result (λ o. o ≡
         operation.CondBr (typed_value g (typed_of cond.now)) (block_at g scope.now.first first.now) (block_at g scope.now.first second.now)) }
 {
-    let cond = typed_value(alloc, scope, types, cond)?;
+    let cond = typed_value(scope, types, cond)?;
     let first = block_at(scope, first);
     let second = block_at(scope, second);
     Ok(Op::CondBr {
@@ -182,7 +175,6 @@ fn conditional_branch_at(
 
 /// A branch on an integer.
 fn switch_at(
-    alloc: Global,
     scope: &FunctionScope<'_>,
     types: &TypeNumbers<'_>,
     value: &TypedVal,
@@ -196,9 +188,9 @@ fn switch_at(
         (map (case_at g scope.now.first (typed_of value.now).ty) (map case_of cases.now))) }
 {
     let width = typed_width(scope, types, value)?;
-    let on = typed_value(alloc, scope, types, value)?;
+    let on = typed_value(scope, types, value)?;
     let other = block_at(scope, block);
-    let found = cases_at(alloc, scope, types, &value.ty, cases)?;
+    let found = cases_at(scope, types, &value.ty, cases)?;
     let cases = Cases::from_vec(found);
     Ok(Op::Switch {
         width,
@@ -210,7 +202,6 @@ fn switch_at(
 
 /// A call.
 fn call_at(
-    alloc: Global,
     scope: &FunctionScope<'_>,
     types: &TypeNumbers<'_>,
     callee: &Name,
@@ -221,7 +212,7 @@ fn call_at(
     ensures op { (names : ScopeNames scope.now) → IfOk result (λ o. o ≡
         call_of (symbol (tree_of scope.now.globals.now.symbols.tree.now) callee.now.text) (map (typed_value (scope_in scope.now names)) (map typed_of args.now))) }
 {
-    let values = values_at(alloc, scope, types, args)?;
+    let values = values_at(scope, types, args)?;
     Ok(call_of(
         symbol(&scope.globals.symbols, callee.text.as_slice()),
         values,
@@ -230,7 +221,6 @@ fn call_at(
 
 /// A return of a value.
 fn return_at(
-    alloc: Global,
     scope: &FunctionScope<'_>,
     types: &TypeNumbers<'_>,
     value: &TypedVal,
@@ -240,7 +230,7 @@ fn return_at(
     ensures op { (names : ScopeNames scope.now) → IfOk result (λ o. o ≡
         operation.Ret (Some (typed_value (scope_in scope.now names) (typed_of value.now)))) }
 {
-    let value = typed_value(alloc, scope, types, value)?;
+    let value = typed_value(scope, types, value)?;
     Ok(Op::Ret { value: Some(value) })
 }
 
@@ -290,7 +280,6 @@ fn alloca_at(
 
 /// A load.
 fn load_at(
-    alloc: Global,
     scope: &FunctionScope<'_>,
     types: &TypeNumbers<'_>,
     ty: &TypeNode,
@@ -302,13 +291,12 @@ fn load_at(
         operation.Load (width_in (type_in g (ty_of ty.now))) (typed_value g (typed_of pointer.now))) }
 {
     let width = width_at(scope, types, ty)?;
-    let from = typed_value(alloc, scope, types, pointer)?;
+    let from = typed_value(scope, types, pointer)?;
     Ok(Op::Load { width, from })
 }
 
 /// A store.
 fn store_at(
-    alloc: Global,
     scope: &FunctionScope<'_>,
     types: &TypeNumbers<'_>,
     value: &TypedVal,
@@ -321,14 +309,13 @@ fn store_at(
         operation.Store (width_in (type_in g (typed_of value.now).ty)) (typed_value g (typed_of value.now)) (typed_value g (typed_of pointer.now))) }
 {
     let width = typed_width(scope, types, value)?;
-    let value = typed_value(alloc, scope, types, value)?;
-    let at = typed_value(alloc, scope, types, pointer)?;
+    let value = typed_value(scope, types, value)?;
+    let at = typed_value(scope, types, pointer)?;
     Ok(Op::Store { width, value, at })
 }
 
 /// A pointer that indices move.
 fn element_pointer_at(
-    alloc: Global,
     scope: &FunctionScope<'_>,
     types: &TypeNumbers<'_>,
     ty: &TypeNode,
@@ -343,8 +330,8 @@ fn element_pointer_at(
         operation.Gep (typed_value g (typed_of pointer.now)) (indices_at g (map typed_of indices.now)
         (index_scales (tree_of scope.now.globals.now.symbols.tree.now).types (ty_of ty.now) (map typed_of indices.now)))) }
 {
-    let base = typed_value(alloc, scope, types, pointer)?;
-    let indices = indices_at(alloc, scope, types, ty, indices)?;
+    let base = typed_value(scope, types, pointer)?;
+    let indices = indices_at(scope, types, ty, indices)?;
     Ok(Op::Gep {
         base,
         indices: Indices::from_vec(indices),
@@ -354,7 +341,6 @@ fn element_pointer_at(
 /// What an instruction does, its registers, basic blocks, globals and functions by their numbers.
 #[tactic(auto, unfolding(pg_rules::specs::Numbered::op_at, crate::specs::Room::OpFits))]
 pub(crate) fn op_at(
-    alloc: Global,
     scope: &FunctionScope<'_>,
     types: &TypeNumbers<'_>,
     op: &OpNode,
@@ -371,56 +357,56 @@ pub(crate) fn op_at(
             left,
             right,
             ..
-        } => { binary_at(alloc, scope, types, *op, ty, left, right) }
+        } => { binary_at(scope, types, *op, ty, left, right) }
         OpNode::Icmp {
             predicate,
             ty,
             left,
             right,
             ..
-        } => { compare_at(alloc, scope, types, *predicate, ty, left, right) }
-        OpNode::Cast { op, value, ty, .. } => cast_at(alloc, scope, types, *op, value, ty),
+        } => { compare_at(scope, types, *predicate, ty, left, right) }
+        OpNode::Cast { op, value, ty, .. } => cast_at(scope, types, *op, value, ty),
         OpNode::Select {
             condition,
             yes,
             no,
             ..
-        } => { select_at(alloc, scope, types, condition, yes, no) }
+        } => { select_at(scope, types, condition, yes, no) }
         OpNode::Phi {
             ty,
             first,
             others,
             ..
-        } => { phi_at(alloc, scope, types, ty, first, others.as_slice()) }
+        } => { phi_at(scope, types, ty, first, others.as_slice()) }
         OpNode::Br { block, .. } => Ok(branch_at(scope, block)),
         OpNode::CondBr {
             condition,
             yes,
             no,
             ..
-        } => { conditional_branch_at(alloc, scope, types, condition, yes, no) }
+        } => { conditional_branch_at(scope, types, condition, yes, no) }
         OpNode::Switch {
             value,
             other,
             cases,
             ..
-        } => { switch_at(alloc, scope, types, value, other, cases.as_slice()) }
+        } => { switch_at(scope, types, value, other, cases.as_slice()) }
         OpNode::Call {
             callee,
             arguments,
             ..
-        } => { call_at(alloc, scope, types, callee, arguments.as_slice()) }
+        } => { call_at(scope, types, callee, arguments.as_slice()) }
         OpNode::RetVoid { .. } => Ok(Op::Ret { value: None }),
-        OpNode::Ret { value, .. } => return_at(alloc, scope, types, value),
+        OpNode::Ret { value, .. } => return_at(scope, types, value),
         OpNode::Unreachable { .. } => Ok(Op::Unreachable),
         OpNode::Alloca { ty, count, .. } => alloca_at(scope, types, ty, count),
-        OpNode::Load { ty, pointer, .. } => load_at(alloc, scope, types, ty, pointer),
-        OpNode::Store { value, pointer, .. } => store_at(alloc, scope, types, value, pointer),
+        OpNode::Load { ty, pointer, .. } => load_at(scope, types, ty, pointer),
+        OpNode::Store { value, pointer, .. } => store_at(scope, types, value, pointer),
         OpNode::GetElementPtr {
             ty,
             pointer,
             indices,
             ..
-        } => { element_pointer_at(alloc, scope, types, ty, pointer, indices.as_slice()) }
+        } => { element_pointer_at(scope, types, ty, pointer, indices.as_slice()) }
     }
 }

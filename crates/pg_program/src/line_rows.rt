@@ -12,10 +12,10 @@ ghost use Rattle.pg_program.specs.LineRows.{result_by, names_after, op_instr, li
 
 use crate::function_scope::FunctionScope;
 use crate::instructions::op_at;
-use pg_ast::{BlockNode, LineNode, Name, OpNode, has_result};
-use pg_ir::{BlockNo, Instr};
 use pg_types::{TypeNumbers, place_of_name};
-use std::alloc::{AllocError, Global};
+use pg_ir::{BlockNo, Instr};
+use pg_ast::{BlockNode, LineNode, Name, OpNode, has_result};
+use std::alloc::AllocError;
 
 /// The number of a register, if one has this name.
 fn number_of_name(scope: &FunctionScope<'_>, name: &Name) -> Option<u32>
@@ -77,7 +77,6 @@ fn gives(scope: &FunctionScope<'_>, op: &OpNode) -> bool
 
 /// The instruction of an operation, whose result has the name at a place.
 fn op_instr(
-    alloc: Global,
     scope: &FunctionScope<'_>,
     types: &TypeNumbers<'_>,
     block: u32,
@@ -92,7 +91,7 @@ fn op_instr(
 {
     let gives = gives(scope, op);
     let result = result_by(scope, gives, names, at);
-    let op = op_at(alloc, scope, types, op)?;
+    let op = op_at(scope, types, op)?;
     Ok(Instr {
         op,
         block: BlockNo(block),
@@ -103,7 +102,6 @@ fn op_instr(
 /// Adds the instructions of lines of a basic block. The names of their results begin at a place; those of the lines behind
 /// them begin at the place that is returned.
 fn add_lines(
-    alloc: Global,
     scope: &FunctionScope<'_>,
     types: &TypeNumbers<'_>,
     found: &mut Vec<Instr>,
@@ -121,7 +119,7 @@ fn add_lines(
 {
     let mut at = start;
     for line in lines {
-        let one = op_instr(alloc, scope, types, block, names, at, &line.op)?;
+        let one = op_instr(scope, types, block, names, at, &line.op)?;
         found.push(one)?;
         let gives = gives(scope, &line.op);
         at = place_after(gives, names, at);
@@ -131,7 +129,6 @@ fn add_lines(
 
 /// Adds the instructions of a function's basic blocks. The names of their results begin at a place.
 pub(crate) fn add_block_lines(
-    alloc: Global,
     scope: &FunctionScope<'_>,
     types: &TypeNumbers<'_>,
     found: &mut Vec<Instr>,
@@ -149,7 +146,7 @@ pub(crate) fn add_block_lines(
     let mut number = scope.first;
     for block in blocks {
         let lines = block.lines.as_slice();
-        at = add_lines(alloc, scope, types, found, number, names, at, lines)?;
+        at = add_lines(scope, types, found, number, names, at, lines)?;
         number += 1;
     }
     Ok(())

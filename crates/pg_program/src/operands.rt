@@ -12,17 +12,18 @@ ghost use Rattle.pg_program.specs.Room.{IsShort, Each};
 ghost use Rattle.pg_program.specs.ScopeNames.{ScopeNames, scope_in};
 ghost use Rattle.pg_program.specs.ScopeSizes.{TyIsSmall, ValIsSmall, TypedIsSmall};
 ghost use Rattle.pg_constants.specs.Words.{kind_width};
+ghost use Rattle.pg_constants.specs.Sizes.{ValFits};
 ghost use Rattle.pg_types.specs.Resolved.{resolved};
 
 use crate::function_scope::FunctionScope;
 use crate::scope::register_number;
-use pg_ast::{TypeNode, TypedVal, ValNode};
-use pg_constants::{kind_word, size_or_none};
-use pg_ir::Value;
-use pg_num::Width;
+use pg_constants::{Globals, kind_word, size_or_none};
 use pg_rules::{SymbolNode, symbol};
 use pg_types::{KnownTypes, TypeKind, TypeNumbers};
-use std::alloc::{AllocError, Global};
+use pg_ir::Value;
+use pg_num::Width;
+use pg_ast::{TypeNode, TypedVal, ValNode};
+use std::alloc::AllocError;
 
 /// A global or a function by its number.
 fn symbol_value(symbol: SymbolNode<'_>) -> Value
@@ -39,26 +40,24 @@ fn symbol_value(symbol: SymbolNode<'_>) -> Value
 /// A constant of a type.
 #[tactic(auto, using(crate::proofs::KindWords::word_of_kind))]
 fn constant_at(
-    alloc: Global,
-    scope: &FunctionScope<'_>,
+    globals: &Globals<'_>,
     types: &TypeNumbers<'_>,
     ty: &TypeNode,
     value: &ValNode,
 ) -> Result<Value, AllocError>
-    requires items { types.now.items ≡ scope.now.globals.now.symbols.tree.now.types.items }
-    requires value { ValIsSmall scope.now (val_of value.now) }
-    ensures value { IfOk result (λ v. v ≡ Const (constant_word (tree_of scope.now.globals.now.symbols.tree.now)
+    requires items { types.now.items ≡ globals.now.symbols.tree.now.types.items }
+    requires fits { ValFits (tree_of globals.now.symbols.tree.now).types (val_of value.now) }
+    ensures constant { IfOk result (λ v. v ≡ Const (constant_word (tree_of globals.now.symbols.tree.now)
         (resolved (named_types types.now) (ty_of ty.now)) (val_of value.now))) }
 {
     let kind = types.kind(ty)?;
-    let word = kind_word(alloc, scope.globals, types, kind, value)?;
+    let word = kind_word(globals, types, kind, value)?;
     Ok(Value::Const(word))
 }
 
 /// A value at a type: a register, a global or a function by its number, and else a constant.
 #[tactic(auto, unfolding(pg_rules::specs::Numbered::value_of))]
 pub(crate) fn value_at(
-    alloc: Global,
     scope: &FunctionScope<'_>,
     types: &TypeNumbers<'_>,
     ty: &TypeNode,
@@ -75,13 +74,12 @@ pub(crate) fn value_at(
             &scope.globals.symbols,
             name.text.as_slice(),
         ))),
-        _ => constant_at(alloc, scope, types, ty, value),
+        _ => constant_at(scope.globals, types, ty, value),
     }
 }
 
 /// A value at the type that is written before it.
 pub(crate) fn typed_value(
-    alloc: Global,
     scope: &FunctionScope<'_>,
     types: &TypeNumbers<'_>,
     value: &TypedVal,
@@ -91,7 +89,7 @@ pub(crate) fn typed_value(
     ensures value { (names : ScopeNames scope.now) →
         IfOk result (λ v. v ≡ typed_value (scope_in scope.now names) (typed_of value.now)) }
 {
-    value_at(alloc, scope, types, &value.ty, &value.value)
+    value_at(scope, types, &value.ty, &value.value)
 }
 
 fn kind_width(kind: Option<TypeKind>) -> Width
@@ -149,7 +147,6 @@ pub(crate) fn size_at(
 
 /// The values of arguments.
 pub(crate) fn values_at(
-    alloc: Global,
     scope: &FunctionScope<'_>,
     types: &TypeNumbers<'_>,
     values: &[TypedVal],
@@ -159,9 +156,9 @@ pub(crate) fn values_at(
     ensures values { (names : ScopeNames scope.now) →
         IfOk result (λ v. v.items ≡ map (typed_value (scope_in scope.now names)) (map typed_of values.now)) }
 {
-    let mut found = Vec::new(alloc);
+    let mut found = Vec::new(scope.globals.alloc);
     for value in values {
-        let one = typed_value(alloc, scope, types, value)?;
+        let one = typed_value(scope, types, value)?;
         found.push(one)?;
     }
     Ok(found)

@@ -2,11 +2,11 @@
 
 ghost use Rattle.std.specs.Prelude.{◌≡◌};
 ghost use Rattle.pg_ir.specs.declared.instr.Op.TheVariants as operation;
-ghost use Rattle.pg_rules.specs.Numbered.{binary_op, comparison_of, cast_op};
+ghost use Rattle.pg_rules.specs.Numbered.{binary_op, cast_op};
 
-use pg_ast::{BinaryOp, CastOp, Predicate};
 use pg_ir::{Op, Value};
-use pg_num::{Bits, Compare, Division, Shift, Width};
+use pg_num::{Bits, Division, Shift, Width};
+use pg_ast::{BinaryOp, CastOp};
 
 /// An operation on two integers of a width.
 pub(crate) fn binary_op(op: BinaryOp, width: Width, left: Value, right: Value) -> Op
@@ -59,24 +59,6 @@ fn bits(op: Bits, width: Width, left: Value, right: Value) -> Op
         width,
         left,
         right,
-    }
-}
-
-/// The comparison of a predicate.
-pub(crate) fn comparison_of(predicate: Predicate) -> Compare
-    ensures { result ≡ comparison_of predicate }
-{
-    match predicate {
-        Predicate::Eq => Compare::Eq,
-        Predicate::Ne => Compare::Ne,
-        Predicate::Ugt => Compare::Ugt,
-        Predicate::Uge => Compare::Uge,
-        Predicate::Ult => Compare::Ult,
-        Predicate::Ule => Compare::Ule,
-        Predicate::Sgt => Compare::Sgt,
-        Predicate::Sge => Compare::Sge,
-        Predicate::Slt => Compare::Slt,
-        Predicate::Sle => Compare::Sle,
     }
 }
 

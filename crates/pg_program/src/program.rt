@@ -15,10 +15,10 @@ ghost use Rattle.pg_program.specs.Room.{FewSymbols, FunctionsFit, ProgramFits};
 
 use crate::block_rows::add_blocks;
 use crate::function_rows::{add_function, function_at};
-use pg_ast::{DefineItem, Module};
 use pg_constants::{Globals, add_globals, index_globals};
-use pg_ir::{Block, Function, GlobalInfo, Instr};
 use pg_types::TypeNumbers;
+use pg_ir::{Block, Function, GlobalInfo, Instr};
+use pg_ast::{DefineItem, Module};
 use std::alloc::{AllocError, Global};
 
 /// The parts of a numbered program, each kind in text order, and the number of its `main`.
@@ -84,7 +84,6 @@ fn blocks_of(alloc: Global, all: &[DefineItem]) -> Result<Vec<Block>, AllocError
 /// The instructions of functions by number.
 #[tactic(auto, using(crate::proofs::Rows::rows_none, crate::proofs::Rows::first_block_none))]
 fn instrs_of(
-    alloc: Global,
     globals: &Globals<'_>,
     types: &TypeNumbers<'_>,
     all: &[DefineItem],
@@ -94,10 +93,10 @@ fn instrs_of(
     requires fits { FunctionsFit (tree_of globals.now.symbols.tree.now).types (map define_of all.now) }
     ensures instrs { IfOk result (λ v. v.items ≡ rows_from (instr_row (tree_of globals.now.symbols.tree.now) (map define_of all.now)) 0 all.now) }
 {
-    let mut found = Vec::new(alloc);
+    let mut found = Vec::new(globals.alloc);
     let mut first = 0;
     for item in all {
-        add_function(alloc, globals, types, &mut found, item, first)?;
+        add_function(globals, types, &mut found, item, first)?;
         first = block_behind(first, item);
     }
     Ok(found)
@@ -157,7 +156,6 @@ fn function_parts(
 
 /// The instructions of functions and the globals of their module by number.
 fn instr_parts(
-    alloc: Global,
     globals: &Globals<'_>,
     types: &TypeNumbers<'_>,
     all: &[DefineItem],
@@ -170,14 +168,13 @@ fn instr_parts(
     ensures rows { IfOk result (λ v. v.1.items ≡
         map (λ (v : ℕ × Variable). global_at (tree_of globals.now.symbols.tree.now) v.0 v.1) (enumerate_from 0 (tree_of globals.now.symbols.tree.now).globals)) }
 {
-    let instrs = instrs_of(alloc, globals, types, all)?;
-    let variables = add_globals(alloc, globals, types)?;
+    let instrs = instrs_of(globals, types, all)?;
+    let variables = add_globals(globals, types)?;
     Ok((instrs, variables))
 }
 
 /// The parts of a module's numbered program, where its globals are known.
 fn parts_among(
-    alloc: Global,
     globals: &Globals<'_>,
     types: &TypeNumbers<'_>,
     tree: &Module,
@@ -188,8 +185,8 @@ fn parts_among(
     ensures program { IfOk result (λ p. numbered_program p.functions.items p.blocks.items p.instrs.items p.globals.items p.main ≡ program_of (tree_of tree.now)) }
 {
     let all = tree.functions.as_slice();
-    let (functions, blocks) = function_parts(alloc, types, tree, all)?;
-    let (instrs, variables) = instr_parts(alloc, globals, types, all)?;
+    let (functions, blocks) = function_parts(globals.alloc, types, tree, all)?;
+    let (instrs, variables) = instr_parts(globals, types, all)?;
     let main = main_number(all);
     Ok(ProgramParts {
         functions,
@@ -211,7 +208,7 @@ fn parts_of(
     ensures program { IfOk result (λ p. numbered_program p.functions.items p.blocks.items p.instrs.items p.globals.items p.main ≡ program_of (tree_of tree.now)) }
 {
     let globals = index_globals(alloc, types, tree)?;
-    parts_among(alloc, &globals, types, tree)
+    parts_among(&globals, types, tree)
 }
 
 /// The numbered program of a module that isn't refused: functions, basic blocks, instructions, globals, registers and

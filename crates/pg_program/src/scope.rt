@@ -6,9 +6,9 @@ ghost use Rattle.pg_rules.specs.Numbered.{block_at};
 ghost use Rattle.pg_program.specs.ScopeNames.{ScopeNames, scope_in};
 
 use crate::function_scope::FunctionScope;
-use pg_ast::Name;
-use pg_ir::BlockNo;
 use pg_types::place_of_name;
+use pg_ir::BlockNo;
+use pg_ast::Name;
 
 /// The number of a register, and 0 where there is none.
 pub(crate) fn register_number(scope: &FunctionScope<'_>, name: &Name) -> u32

@@ -1,5 +1,6 @@
 -- How many accesses a function has, counted before they are listed.
-use Rattle.std.proofs.Common.{◌≡◌, ℕ, zero, suc, ◌+◌, ◌<◌, ◌≤◌, Bool, true, false, cond, List, [], ◌∷◌, ◌++◌, length, get_or, drop, Option, Some, None, refl, sym, ap, ◌∙◌, subst, arith, length-append}
+use Rattle.std.proofs.Common.{◌≡◌, ℕ, zero, suc, ◌+◌, ◌<◌, ◌≤◌, Bool, true, false, cond, List, [], ◌∷◌, ◌++◌, length, get_or, drop, Option, Some, None, refl}
+use Rattle.std.proofs.Common.{sym, ap, ◌∙◌, subst, arith, length-append}
 use Rattle.std.specs.Prelude.{nat_le, slice_get}
 use Rattle.std.proofs.lemmas.Bool.{leb-true, leb-false, le-leb, lt-leb}
 use Rattle.pg_ir.specs.declared.known.Known.{Known}
@@ -18,7 +19,8 @@ use Rattle.pg_paths.specs.declared.path.Path.{Path}
 use Rattle.pg_paths.specs.Paths.{composed}
 use Rattle.pg_paths.specs.Registers.{value_path, register_path}
 use Rattle.pg_accesses.specs.declared.rooted.Rooted.{Rooted}
-use Rattle.pg_accesses.specs.Accesses.{RootedList, both, gathered, one_access, with_path, behind_path, behind_argument, called_access, called_accesses, known_accesses, op_accesses, accesses_from, block_accesses, sets, set_accesses}
+use Rattle.pg_accesses.specs.Accesses.{RootedList, both, gathered, one_access, with_path, behind_path, behind_argument, called_access, called_accesses, known_accesses, op_accesses}
+use Rattle.pg_accesses.specs.Accesses.{accesses_from, block_accesses, sets, set_accesses}
 use Rattle.pg_accesses.proofs.Passes.{parts}
 use Rattle.pg_quiet.specs.declared.limits.TheConstants.{SUMMARY_LIMIT}
 use Rattle.pg_quiet.specs.Blocks.{blocks_of}
@@ -115,7 +117,8 @@ module _ (m : Bool) (gated : ℕ → Bool) (sums : ℕ → Option RootedList) wh
   blocks_sized : (p : NumberedProgram) (is_set : ℕ → Bool) (bs : List ℕ) → Sized (gathered (block_accesses m p gated sums is_set) bs) (blocks_count p sums bs)
   blocks_sized p is_set [] = none_sized
   blocks_sized p is_set (b ∷ bs) =
-      both_sized (block_accesses m p gated sums is_set b) (gathered (block_accesses m p gated sums is_set) bs) (block_count p sums b) (blocks_count p sums bs) (block_sized p is_set b) (blocks_sized p is_set bs)
+      both_sized (block_accesses m p gated sums is_set b) (gathered (block_accesses m p gated sums is_set) bs) (block_count p sums b) (blocks_count p sums bs) (block_sized p is_set b)
+      (blocks_sized p is_set bs)
 
 root_sized : (a : Rooted) (o : Option Root) → Sized (with_root a o) 1
 root_sized a None = nothing_sized 1
@@ -125,7 +128,8 @@ seen_sized : (n : ℕ) (xs : RootedList) → Sized (seen n xs) (length xs)
 seen_sized n xs = gathered_sized (λ (a : Rooted). with_root a (seen_root n a.path.root)) (λ a. root_sized a (seen_root n a.path.root)) xs
 
 -- where more are counted than a summary may have there is none
-pub over : (p : NumberedProgram) (gated : ℕ → Bool) (sums : ℕ → Option RootedList) (f : ℕ) → nat_le (blocks_count p sums (blocks_of p f)) SUMMARY_LIMIT ≡ false → summary_by p gated sums f ≡ None
+pub over : (p : NumberedProgram) (gated : ℕ → Bool) (sums : ℕ → Option RootedList) (f : ℕ) → nat_le (blocks_count p sums (blocks_of p f)) SUMMARY_LIMIT ≡ false
+    → summary_by p gated sums f ≡ None
 over p gated sums f many = go (set_accesses true p gated sums (blocks_of p f)) refl
   where
     few : (xs ys : RootedList) → set_accesses true p gated sums (blocks_of p f) ≡ Some xs → (o : Option RootedList) → seen (parameter_count p f) xs ≡ o → if_few o ≡ None
@@ -143,13 +147,15 @@ over p gated sums f many = go (set_accesses true p gated sums (blocks_of p f)) r
 -- ---- counting
 
 -- an instruction more
-pub instr_more : (sums : ℕ → Option RootedList) (xs : List Instr) (k : ℕ) (x : Instr) → slice_get xs k ≡ Some x → instrs_count sums (drop k xs) ≡ op_count sums x.op + instrs_count sums (drop (k + 1) xs)
+pub instr_more : (sums : ℕ → Option RootedList) (xs : List Instr) (k : ℕ) (x : Instr) → slice_get xs k ≡ Some x
+    → instrs_count sums (drop k xs) ≡ op_count sums x.op + instrs_count sums (drop (k + 1) xs)
 instr_more sums [] zero x e = absurd cc
 instr_more sums [] (suc k) x e = absurd cc
 instr_more sums (y ∷ xs) zero x e = let q : y ≡ x = cc in ap (λ (z : Instr). op_count sums z.op + instrs_count sums xs) q
 instr_more sums (y ∷ xs) (suc k) x e = let q : suc k + 1 ≡ suc (k + 1) = omega arith in rw q (instr_more sums xs k x e)
 
-pub block_more : (p : NumberedProgram) (sums : ℕ → Option RootedList) (bs : List ℕ) (k d : ℕ) → k < length bs → blocks_count p sums (drop k bs) ≡ block_count p sums (get_or bs k d) + blocks_count p sums (drop (k + 1) bs)
+pub block_more : (p : NumberedProgram) (sums : ℕ → Option RootedList) (bs : List ℕ) (k d : ℕ) → k < length bs
+    → blocks_count p sums (drop k bs) ≡ block_count p sums (get_or bs k d) + blocks_count p sums (drop (k + 1) bs)
 block_more p sums [] k d lt = absurd (omega (arith, lt))
 block_more p sums (b ∷ bs) zero d lt = refl
 block_more p sums (b ∷ bs) (suc k) d lt = let q : suc k + 1 ≡ suc (k + 1) = omega arith in rw q (block_more p sums bs k d (omega (arith, lt)))
@@ -192,17 +198,20 @@ limit_at n k e le = rw e (sym (within_some k le))
 pub few_more : (n k : ℕ) → Some k ≡ within_limit n → k ≤ SUMMARY_LIMIT
 few_more n k e = let s = some_within n k (sym e) in omega (arith, s.0, s.1)
 
-pub counted_more : (p : NumberedProgram) (sums : ℕ → Option RootedList) (bs : List ℕ) (k count more : ℕ) → k < length bs → blocks_count p sums bs ≡ count + blocks_count p sums (drop k bs) → Some more ≡ within_limit (count + block_count p sums (get_or bs k 0)) →
+pub counted_more : (p : NumberedProgram) (sums : ℕ → Option RootedList) (bs : List ℕ) (k count more : ℕ) → k < length bs
+    → blocks_count p sums bs ≡ count + blocks_count p sums (drop k bs) → Some more ≡ within_limit (count + block_count p sums (get_or bs k 0)) →
     blocks_count p sums bs ≡ more + blocks_count p sums (drop (k + 1) bs)
 counted_more p sums bs k count more lt h e =
     let s = some_within (count + block_count p sums (get_or bs k 0)) more (sym e) in
     omega (arith, h, s.0, block_more p sums bs k 0 lt)
 
-pub counted_over : (p : NumberedProgram) (sums : ℕ → Option RootedList) (bs : List ℕ) (k count : ℕ) → k < length bs → blocks_count p sums bs ≡ count + blocks_count p sums (drop k bs) → None ≡ within_limit (count + block_count p sums (get_or bs k 0)) →
+pub counted_over : (p : NumberedProgram) (sums : ℕ → Option RootedList) (bs : List ℕ) (k count : ℕ) → k < length bs
+    → blocks_count p sums bs ≡ count + blocks_count p sums (drop k bs) → None ≡ within_limit (count + block_count p sums (get_or bs k 0)) →
     false ≡ nat_le (blocks_count p sums bs) SUMMARY_LIMIT
 counted_over p sums bs k count lt h e =
     let s = none_within (count + block_count p sums (get_or bs k 0)) (sym e) in
     sym (lt-leb (blocks_count p sums bs) SUMMARY_LIMIT (omega (arith, h, s, block_more p sums bs k 0 lt)))
 
-pub counted_all : (p : NumberedProgram) (sums : ℕ → Option RootedList) (bs : List ℕ) (k count : ℕ) → length bs ≤ k → count ≤ SUMMARY_LIMIT → blocks_count p sums bs ≡ count + blocks_count p sums (drop k bs) → true ≡ nat_le (blocks_count p sums bs) SUMMARY_LIMIT
+pub counted_all : (p : NumberedProgram) (sums : ℕ → Option RootedList) (bs : List ℕ) (k count : ℕ) → length bs ≤ k → count ≤ SUMMARY_LIMIT
+    → blocks_count p sums bs ≡ count + blocks_count p sums (drop k bs) → true ≡ nat_le (blocks_count p sums bs) SUMMARY_LIMIT
 counted_all p sums bs k count le few h = sym (le-leb (blocks_count p sums bs) SUMMARY_LIMIT (omega (arith, h, few, block_end p sums bs k le)))

@@ -10,7 +10,7 @@ use Rattle.pg_paths.specs.declared.path.Root.TheVariants as root
 use Rattle.pg_accesses.specs.declared.rooted.Rooted.{Rooted}
 use Rattle.pg_accesses.specs.Accesses.{RootedList, set_accesses, sets}
 use Rattle.pg_accesses.specs.Laws.{IsQuiet, IsOutside}
-use Rattle.pg_accesses.proofs.Elements.{here, there, only_here, none_in}
+use Rattle.pg_paths.proofs.Elements.{here, there, only_here, none_in}
 use Rattle.pg_accesses.proofs.Passes.{parts, set_quiet, set_outside}
 use Rattle.pg_quiet.specs.declared.limits.TheConstants.{SUMMARY_LIMIT}
 use Rattle.pg_quiet.specs.Blocks.{blocks_of}
@@ -25,7 +25,8 @@ module _ (p : NumberedProgram) (gated : ℕ → Bool) (sums : ℕ → Option Roo
   by_callees : (f : ℕ) (xs : RootedList) → HasSummary p gated sums f xs → summary_by p gated sums f ≡ Some xs
   by_callees f xs h = sym (h.summaries.quiet f h.function (h.summaries.others f xs h.function h.summary)) ∙ h.summary
 
-  pub passes_quiet : (f : ℕ) (xs : RootedList) → HasSummary p gated sums f xs → (i : ℕ) (x : Instr) → slice_get p.instrs i ≡ Some x → function_of p x.block.0 ≡ f → IsQuiet true gated sums i x.op
+  pub passes_quiet : (f : ℕ) (xs : RootedList) → HasSummary p gated sums f xs → (i : ℕ) (x : Instr) → slice_get p.instrs i ≡ Some x → function_of p x.block.0 ≡ f
+      → IsQuiet true gated sums i x.op
   passes_quiet f xs h i x at own =
       let ys = summary_some (parameter_count p f) (set_accesses true p gated sums (blocks_of p f)) xs (by_callees f xs h) in
       let s = stands p i x h.program at in
@@ -62,7 +63,8 @@ module _ (p : NumberedProgram) (gated : ℕ → Bool) (sums : ℕ → Option Roo
   with_seen n b None ys e a m = absurd cc
   with_seen n b (Some r) ys e a m =
       let t : record b { path = record { root = r; loads = b.path.loads } } ∷ [] ≡ ys = cc in
-      let q : record b { path = record { root = r; loads = b.path.loads } } ≡ a = only_here (record b { path = record { root = r; loads = b.path.loads } }) a (subst (λ (z : RootedList). Contains z a) (sym t) m) in
+      let q : record b { path = record { root = r; loads = b.path.loads } } ≡ a =
+      only_here (record b { path = record { root = r; loads = b.path.loads } }) a (subst (λ (z : RootedList). Contains z a) (sym t) m) in
       ap (λ (z : Rooted). Some z.path.root) q
 
   seen_each : (n : ℕ) (xs ys : RootedList) → seen n xs ≡ Some ys → (a : Rooted) → Contains ys a → (b : Rooted) × Contains xs b × (seen_root n b.path.root ≡ Some a.path.root)
@@ -72,7 +74,8 @@ module _ (p : NumberedProgram) (gated : ℕ → Bool) (sums : ℕ → Option Roo
       s : (y : RootedList) × (z : RootedList) × (with_root b (seen_root n b.path.root) ≡ Some y) × (seen n xs ≡ Some z) × (ys ≡ y ++ z)
       s = parts (with_root b (seen_root n b.path.root)) (seen n xs) ys e
 
-      go : Contains s.0 a ⊎ Contains s.1 a → (Contains s.1 a → (c : Rooted) × Contains xs c × (seen_root n c.path.root ≡ Some a.path.root)) → (c : Rooted) × Contains (b ∷ xs) c × (seen_root n c.path.root ≡ Some a.path.root)
+      go : Contains s.0 a ⊎ Contains s.1 a → (Contains s.1 a → (c : Rooted) × Contains xs c × (seen_root n c.path.root ≡ Some a.path.root))
+          → (c : Rooted) × Contains (b ∷ xs) c × (seen_root n c.path.root ≡ Some a.path.root)
       go (inl k) f = (b, here b xs, with_seen n b (seen_root n b.path.root) s.0 s.2 a k)
       go (inr k) f = let r = f k in (r.0, there b xs r.0 r.1, r.2)
 

@@ -29,16 +29,19 @@ block_end p (b ∷ bs) (suc k) le = block_end p bs k (omega (arith, le))
 pushed : (all old new next rest : List ℕ) → all ≡ old ++ (next ++ rest) → new ≡ old ++ next → all ≡ new ++ rest
 pushed all old new next rest h e = h ∙ sym (append_assoc old next rest) ∙ ap (λ l. l ++ rest) (sym e)
 
-pub instr_pushed : (xs : List Instr) (k : ℕ) (x : Instr) (all old new : List ℕ) → slice_get xs k ≡ Some x → all ≡ old ++ instrs_calls (drop k xs) → new ≡ old ++ op_calls x.op → all ≡ new ++ instrs_calls (drop (k + 1) xs)
+pub instr_pushed : (xs : List Instr) (k : ℕ) (x : Instr) (all old new : List ℕ) → slice_get xs k ≡ Some x → all ≡ old ++ instrs_calls (drop k xs) → new ≡ old ++ op_calls x.op
+    → all ≡ new ++ instrs_calls (drop (k + 1) xs)
 instr_pushed xs k x all old new e h g = pushed all old new (op_calls x.op) (instrs_calls (drop (k + 1) xs)) (h ∙ ap (λ l. old ++ l) (instr_more xs k x e)) g
 
-pub block_pushed : (p : NumberedProgram) (b k : ℕ) (y : Block) (before new : List ℕ) → slice_get p.blocks b ≡ Some y → y.count ≤ k → before ++ instrs_calls (instrs_of p b) ≡ new ++ instrs_calls (drop k (instrs_of p b)) → new ≡ before ++ block_calls p b
+pub block_pushed : (p : NumberedProgram) (b k : ℕ) (y : Block) (before new : List ℕ) → slice_get p.blocks b ≡ Some y → y.count ≤ k
+    → before ++ instrs_calls (instrs_of p b) ≡ new ++ instrs_calls (drop k (instrs_of p b)) → new ≡ before ++ block_calls p b
 unfolding block_calls
 block_pushed p b k y before new e le h =
     let q : instrs_calls (drop k (instrs_of p b)) ≡ [] = ap instrs_calls (instrs_end p b y k e le) in
     sym (h ∙ ap (λ l. new ++ l) q ∙ append-nil new)
 
-pub block_listed : (p : NumberedProgram) (bs : List ℕ) (k d : ℕ) (old new : List ℕ) → k < length bs → blocks_calls p bs ≡ old ++ blocks_calls p (drop k bs) → new ≡ old ++ block_calls p (get_or bs k d) → blocks_calls p bs ≡ new ++ blocks_calls p (drop (k + 1) bs)
+pub block_listed : (p : NumberedProgram) (bs : List ℕ) (k d : ℕ) (old new : List ℕ) → k < length bs → blocks_calls p bs ≡ old ++ blocks_calls p (drop k bs)
+    → new ≡ old ++ block_calls p (get_or bs k d) → blocks_calls p bs ≡ new ++ blocks_calls p (drop (k + 1) bs)
 block_listed p bs k d old new lt h e = pushed (blocks_calls p bs) old new (block_calls p (get_or bs k d)) (blocks_calls p (drop (k + 1) bs)) (h ∙ ap (λ l. old ++ l) (block_more p bs k d lt)) e
 
 pub all_listed : (p : NumberedProgram) (bs : List ℕ) (k : ℕ) (new : List ℕ) → length bs ≤ k → blocks_calls p bs ≡ new ++ blocks_calls p (drop k bs) → new ≡ blocks_calls p bs

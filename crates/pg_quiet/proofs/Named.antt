@@ -32,7 +32,8 @@ any_more f (y ∷ xs) zero x e = let q : y ≡ x = cc in ap (λ (z : Instr). f z
 any_more f (y ∷ xs) (suc i) x e = let q : suc i + 1 ≡ suc (i + 1) = omega arith in rw q (ap (λ b. f y || b) (any_more f xs i x e) ∙ or_swap (f y) (f x) (list_any f (take i xs)))
 
 -- one instruction more
-pub started_more : (xs : List Instr) (i f : ℕ) (x : Instr) (old new : Bool) → slice_get xs i ≡ Some x → old ≡ list_any (λ (z : Instr). is_register (op_starts z.op) f) (take i xs) → new ≡ (is_register (op_starts x.op) f || old) →
+pub started_more : (xs : List Instr) (i f : ℕ) (x : Instr) (old new : Bool) → slice_get xs i ≡ Some x → old ≡ list_any (λ (z : Instr). is_register (op_starts z.op) f) (take i xs)
+    → new ≡ (is_register (op_starts x.op) f || old) →
     new ≡ list_any (λ (z : Instr). is_register (op_starts z.op) f) (take (i + 1) xs)
 started_more xs i f x old new e h k = k ∙ ap (λ b. is_register (op_starts x.op) f || b) h ∙ sym (any_more (λ (z : Instr). is_register (op_starts z.op) f) xs i x e)
 
@@ -52,7 +53,8 @@ any_some : (f : Instr → Bool) (xs : List Instr) → list_any f xs ≡ true →
 any_some f [] e = absurd cc
 any_some f (y ∷ xs) e = go (f y) refl e (λ q. any_some f xs q)
   where
-    go : (b : Bool) → f y ≡ b → (b || list_any f xs) ≡ true → (list_any f xs ≡ true → (k : ℕ) × (x : Instr) × (slice_get xs k ≡ Some x) × (f x ≡ true)) → (k : ℕ) × (x : Instr) × (slice_get (y ∷ xs) k ≡ Some x) × (f x ≡ true)
+    go : (b : Bool) → f y ≡ b → (b || list_any f xs) ≡ true → (list_any f xs ≡ true → (k : ℕ) × (x : Instr) × (slice_get xs k ≡ Some x) × (f x ≡ true))
+        → (k : ℕ) × (x : Instr) × (slice_get (y ∷ xs) k ≡ Some x) × (f x ≡ true)
     go true q t h = (0, y, refl, q)
     go false q t h = let r = h t in (suc r.0, r.1, r.2, r.3)
 

@@ -1,5 +1,6 @@
 -- Where the instructions of a function stand, and which functions they call.
-use Rattle.std.proofs.Common.{◌≡◌, ℕ, zero, suc, ◌+◌, ◌-◌, ◌<◌, ◌≤◌, List, [], ◌∷◌, ◌++◌, length, drop, take, Option, Some, None, refl, sym, ap, ◌∙◌, subst, arith, inl, inr, ◌⊎◌, length-append}
+use Rattle.std.proofs.Common.{◌≡◌, ℕ, zero, suc, ◌+◌, ◌-◌, ◌<◌, ◌≤◌, List, [], ◌∷◌, ◌++◌, length, drop, take, Option, Some, None, refl, sym, ap}
+use Rattle.std.proofs.Common.{◌∙◌, subst, arith, inl, inr, ◌⊎◌, length-append}
 use Rattle.std.specs.Prelude.{Contains, slice_get, slice_range}
 use Rattle.std.proofs.lemmas.Bool.{cases_eq, cases_lt}
 use Rattle.std.proofs.lemmas.List.Elements.{Contains-append_left, Contains-append_right, Contains-append_cases}
@@ -12,7 +13,7 @@ use Rattle.pg_ir.specs.declared.instr.Op.TheVariants as op
 use Rattle.pg_ir.specs.Program.{NumberedProgram, types_of, result_of, function_of, first_of, first_in, end_of, end_in}
 use Rattle.pg_ir.specs.Edges.{instrs_of}
 use Rattle.pg_ir.specs.WellFormed.{IsProgram, FitsOp, FitsInstr, type_at}
-use Rattle.pg_accesses.proofs.Elements.{here, there, only_here, cases, none_in}
+use Rattle.pg_paths.proofs.Elements.{here, there, only_here, cases, none_in}
 use Rattle.pg_accesses.proofs.Blocks.{stands_in}
 use Rattle.pg_quiet.specs.Blocks.{blocks_of}
 use Rattle.pg_quiet.specs.Calls.{Calls, IsCallOf}
@@ -44,11 +45,13 @@ get_taken (y ∷ xs) (suc n) zero x e = (omega arith, e)
 get_taken (y ∷ xs) (suc n) (suc k) x e = let r = get_taken xs n k x e in (omega (arith, r.0), r.1)
 
 -- an instruction of a block of a function
-pub in_block : (p : NumberedProgram) (f b k : ℕ) (x : Instr) → IsProgram p → Contains (blocks_of p f) b → slice_get (instrs_of p b) k ≡ Some x → (slice_get p.instrs (first_of p b + k) ≡ Some x) × (function_of p x.block.0 ≡ f)
+pub in_block : (p : NumberedProgram) (f b k : ℕ) (x : Instr) → IsProgram p → Contains (blocks_of p f) b → slice_get (instrs_of p b) k ≡ Some x
+    → (slice_get p.instrs (first_of p b + k) ≡ Some x) × (function_of p x.block.0 ≡ f)
 unfolding instrs_of first_of end_of
 in_block p f b k x program c e = go (slice_get p.blocks b) refl e
   where
-    go : (o : Option Block) → slice_get p.blocks b ≡ o → slice_get (slice_range p.instrs (first_in o) (end_in o)) k ≡ Some x → (slice_get p.instrs (first_in o + k) ≡ Some x) × (function_of p x.block.0 ≡ f)
+    go : (o : Option Block) → slice_get p.blocks b ≡ o → slice_get (slice_range p.instrs (first_in o) (end_in o)) k ≡ Some x
+        → (slice_get p.instrs (first_in o + k) ≡ Some x) × (function_of p x.block.0 ≡ f)
     go None q e = absurd (let r = get_taken (drop 0 p.instrs) 0 k x e in omega (arith, r.0))
     go (Some y) q e =
         let r = get_taken (drop y.first.0 p.instrs) (y.first.0 + y.count - y.first.0) k x e in
@@ -57,7 +60,8 @@ in_block p f b k x program c e = go (slice_get p.blocks b) refl e
         (at, ap (function_of p) s ∙ (only_blocks p f b c).1)
 
 -- an instruction in its block
-pub stands : (p : NumberedProgram) (i : ℕ) (x : Instr) → IsProgram p → slice_get p.instrs i ≡ Some x → (k : ℕ) × (first_of p x.block.0 + k ≡ i) × (slice_get (instrs_of p x.block.0) k ≡ Some x)
+pub stands : (p : NumberedProgram) (i : ℕ) (x : Instr) → IsProgram p → slice_get p.instrs i ≡ Some x
+    → (k : ℕ) × (first_of p x.block.0 + k ≡ i) × (slice_get (instrs_of p x.block.0) k ≡ Some x)
 unfolding instrs_of
 stands p i x program e =
     let fits : FitsInstr p i x = program.instrs i x e in
@@ -116,7 +120,8 @@ blocks_only : (p : NumberedProgram) (bs : List ℕ) (g : ℕ) → Contains (bloc
 blocks_only p [] g c = absurd (none_in g c)
 blocks_only p (a ∷ bs) g c = go (Contains-append_cases (block_calls p a) (blocks_calls p bs) g c) (λ d. blocks_only p bs g d)
   where
-    go : Contains (block_calls p a) g ⊎ Contains (blocks_calls p bs) g → (Contains (blocks_calls p bs) g → (b : ℕ) × Contains bs b × Contains (block_calls p b) g) → (b : ℕ) × Contains (a ∷ bs) b × Contains (block_calls p b) g
+    go : Contains (block_calls p a) g ⊎ Contains (blocks_calls p bs) g → (Contains (blocks_calls p bs) g → (b : ℕ) × Contains bs b × Contains (block_calls p b) g)
+        → (b : ℕ) × Contains (a ∷ bs) b × Contains (block_calls p b) g
     go (inl d) h = (a, here a bs, d)
     go (inr d) h = let r = h d in (r.0, there a bs r.0 r.1, r.2)
 
@@ -141,7 +146,8 @@ op_small p types returns result g _ h e = absurd e
 
 pub callee_small : (p : NumberedProgram) (f g : ℕ) → IsProgram p → Calls p f g → g < length p.functions
 callee_small p f g program c =
-    op_small p (types_of p (function_of p c.instr.block.0)) (result_of p (function_of p c.instr.block.0)) (type_at (types_of p (function_of p c.instr.block.0)) c.instr.result) g c.instr.op (program.instrs c.at c.instr c.is).op c.call
+    op_small p (types_of p (function_of p c.instr.block.0)) (result_of p (function_of p c.instr.block.0)) (type_at (types_of p (function_of p c.instr.block.0)) c.instr.result) g c.instr.op
+    (program.instrs c.at c.instr c.is).op c.call
 
 -- ---- the graph of calls
 
@@ -170,7 +176,8 @@ calls_at : (p : NumberedProgram) (n f : ℕ) → f < n → slice_get (calls_belo
 calls_at p zero f lt = absurd (omega (arith, lt))
 calls_at p (suc n) f lt = go (cases_eq f n) (λ l. calls_at p n f l)
   where
-    go : (f ≡ n) ⊎ (f ≡ n → ⊥) → (f < n → slice_get (calls_below p n) f ≡ Some (blocks_calls p (blocks_of p f))) → slice_get (calls_below p n ++ blocks_calls p (blocks_of p n) ∷ []) f ≡ Some (blocks_calls p (blocks_of p f))
+    go : (f ≡ n) ⊎ (f ≡ n → ⊥) → (f < n → slice_get (calls_below p n) f ≡ Some (blocks_calls p (blocks_of p f)))
+        → slice_get (calls_below p n ++ blocks_calls p (blocks_of p n) ∷ []) f ≡ Some (blocks_calls p (blocks_of p f))
     go (inl e) h = got_last (calls_below p n) (blocks_calls p (blocks_of p n)) f (e ∙ sym (calls_size p n)) ∙ ap (λ z. Some (blocks_calls p (blocks_of p z))) (sym e)
     go (inr ne) h = let l : f < n = omega (arith, ne, lt) in got_before (calls_below p n) (blocks_calls p (blocks_of p n) ∷ []) f (omega (arith, l, calls_size p n)) ∙ h l
 

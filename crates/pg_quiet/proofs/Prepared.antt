@@ -23,20 +23,23 @@ pub params_are : (p : NumberedProgram) (f : ℕ) (y : Function) → slice_get p.
 unfolding parameter_count
 params_are p f y e = rw e refl
 
-pub by_accesses : (p : NumberedProgram) (gated : ℕ → Bool) (sums : ℕ → Option RootedList) (f n : ℕ) (xs : RootedList) → set_accesses true p gated sums (blocks_of p f) ≡ Some xs → parameter_count p f ≡ n → if_few (seen n xs) ≡ summary_by p gated sums f
+pub by_accesses : (p : NumberedProgram) (gated : ℕ → Bool) (sums : ℕ → Option RootedList) (f n : ℕ) (xs : RootedList) → set_accesses true p gated sums (blocks_of p f) ≡ Some xs
+    → parameter_count p f ≡ n → if_few (seen n xs) ≡ summary_by p gated sums f
 by_accesses p gated sums f n xs e k = ap (λ m. if_few (seen m xs)) (sym k) ∙ ap (seen_by_callers (parameter_count p f)) (sym e)
 
 pub few_functions : (p : NumberedProgram) → IsProgram p → length (calls_of p) < 2 ^ 32
 few_functions p program = omega (arith, graph_size p, program.few_functions)
 
-pub own_table : (p : NumberedProgram) (is_gated : ℕ → Bool) (gated : List Bool) (spans : List Span) (started : List Bool) (reaches : List Reach) → IsPrepared p is_gated gated spans started reaches → IsPrepared p (in_table gated) gated spans started reaches
+pub own_table : (p : NumberedProgram) (is_gated : ℕ → Bool) (gated : List Bool) (spans : List Span) (started : List Bool) (reaches : List Reach)
+    → IsPrepared p is_gated gated spans started reaches → IsPrepared p (in_table gated) gated spans started reaches
 own_table p is_gated gated spans started reaches h = record { table = λ i. refl; covers = h.covers; named = h.named; reach_count = h.reach_count; reached = h.reached }
 
 pub by_table : (p : NumberedProgram) (f g : ℕ → Bool) (sums : ℕ → Option RootedList) → ((i : ℕ) → f i ≡ g i) → AreSummaries p f sums → AreSummaries p g sums
 by_table p f g sums h s = subst (λ (F : ℕ → Bool). AreSummaries p F sums) (fun_ext h) s
 
 pub reached_in : (p : NumberedProgram) (g : EdgeLists) (reaches : List Reach) → g ≡ calls_of p → AreReaches g (length g) reaches → AreReaches (calls_of p) (length p.functions) reaches
-reached_in p g reaches e h = λ f lt. let n : length g ≡ length (calls_of p) = ap (λ (l : EdgeLists). length l) e in subst (λ (z : EdgeLists). IsReachOf z f (reach_at reaches f)) e (h f (omega (arith, lt, n, graph_size p)))
+reached_in p g reaches e h = λ f lt. let n : length g ≡ length (calls_of p) =
+    ap (λ (l : EdgeLists). length l) e in subst (λ (z : EdgeLists). IsReachOf z f (reach_at reaches f)) e (h f (omega (arith, lt, n, graph_size p)))
 
 -- ---- one summary is put
 

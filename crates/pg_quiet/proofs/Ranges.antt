@@ -1,12 +1,13 @@
 -- The blocks of a function lie in its span.
-use Rattle.std.proofs.Common.{◌≡◌, ◌≢◌, ℕ, zero, suc, ◌+◌, ◌<◌, ◌≤◌, ◌==◌, Bool, true, false, cond, List, [], ◌∷◌, ◌++◌, length, refl, sym, ap, ◌∙◌, subst, arith, inl, inr, ◌⊎◌}
+use Rattle.std.proofs.Common.{◌≡◌, ◌≢◌, ℕ, zero, suc, ◌+◌, ◌<◌, ◌≤◌, ◌==◌, Bool, true, false, cond, List, [], ◌∷◌, ◌++◌, length, refl, sym, ap}
+use Rattle.std.proofs.Common.{◌∙◌, subst, arith, inl, inr, ◌⊎◌}
 use Rattle.std.specs.Prelude.{Contains, Some, slice_get}
 use Rattle.std.proofs.lemmas.Bool.{cases_eq, eq-eqb, ne_eqb, eqb-true}
 use Rattle.std.proofs.lemmas.List.{append-nil}
 use Rattle.std.proofs.lemmas.List.Elements.{Contains-append_left, Contains-append_right, Contains-append_cases}
 use Rattle.pg_ir.specs.declared.function.Block.{Block}
 use Rattle.pg_ir.specs.Program.{NumberedProgram, function_of}
-use Rattle.pg_accesses.proofs.Elements.{here, only_here, none_in}
+use Rattle.pg_paths.proofs.Elements.{here, only_here, none_in}
 use Rattle.pg_quiet.specs.declared.span.Span.{Span}
 use Rattle.pg_quiet.specs.Spans.{Covers}
 use Rattle.pg_quiet.specs.Blocks.{blocks_below, blocks_of}
@@ -40,7 +41,8 @@ same_below p f a (suc n) h le = go (cases_eq a (suc n)) (λ l. same_below p f a 
 pub before_span : (p : NumberedProgram) (f : ℕ) (s : Span) → Covers p (length p.blocks) f s → [] ≡ blocks_below p f s.first
 before_span p f s h = sym (same_below p f 0 s.first (λ b lo hi e. omega (arith, hi, (h.covers b (omega (arith, hi, h.order, h.within)) e).0)) (omega arith))
 
-pub behind_span : (p : NumberedProgram) (f b : ℕ) (s : Span) (blocks : List ℕ) → Covers p (length p.blocks) f s → s.end ≤ b → b ≤ length p.blocks → blocks ≡ blocks_below p f b → blocks ≡ blocks_of p f
+pub behind_span : (p : NumberedProgram) (f b : ℕ) (s : Span) (blocks : List ℕ) → Covers p (length p.blocks) f s → s.end ≤ b → b ≤ length p.blocks → blocks ≡ blocks_below p f b
+    → blocks ≡ blocks_of p f
 unfolding blocks_of
 behind_span p f b s blocks h le few e = e ∙ sym (same_below p f b (length p.blocks) (λ x lo hi q. omega (arith, lo, le, (h.covers x hi q).1)) few)
 
@@ -62,7 +64,8 @@ below_only p f (suc n) b c = go (Contains-append_cases (blocks_below p f n) (con
     last true q d = let e : n ≡ b = only_here n b d in (omega (arith, e), ap (function_of p) (sym e) ∙ eqb-true (function_of p n) f q)
     last false q d = absurd (none_in b d)
 
-    go : Contains (blocks_below p f n) b ⊎ Contains (cond (function_of p n == f) (n ∷ []) []) b → (Contains (blocks_below p f n) b → (b < n) × (function_of p b ≡ f)) → (b < suc n) × (function_of p b ≡ f)
+    go : Contains (blocks_below p f n) b ⊎ Contains (cond (function_of p n == f) (n ∷ []) []) b → (Contains (blocks_below p f n) b → (b < n) × (function_of p b ≡ f))
+        → (b < suc n) × (function_of p b ≡ f)
     go (inl d) k = let r = k d in (omega (arith, r.0), r.1)
     go (inr d) k = last (function_of p n == f) refl d
 

@@ -12,7 +12,7 @@ use Rattle.pg_paths.specs.declared.path.Path.{Path}
 use Rattle.pg_paths.specs.Registers.{register_path}
 use Rattle.pg_accesses.specs.Accesses.{RootedList, gathered, called_accesses, op_accesses, accesses_from, block_accesses, sets, set_accesses}
 use Rattle.pg_accesses.specs.Laws.{IsQuiet}
-use Rattle.pg_accesses.proofs.Elements.{here, there}
+use Rattle.pg_paths.proofs.Elements.{here, there}
 use Rattle.pg_accesses.proofs.Passes.{set_quiet}
 use Rattle.pg_quiet.specs.Blocks.{blocks_of}
 use Rattle.pg_quiet.specs.Calls.{Calls, IsCallOf}
@@ -24,15 +24,19 @@ module _ (m : Bool) (gated : ℕ → Bool) (s s' : ℕ → Option RootedList) wh
   op_same f i (op.Call g args) h = ap (called_accesses f args) (h g refl)
   op_same f i _ h = refl
 
-  from_same : (is_set : ℕ → Bool) (types : List Scalar) (before : List Instr) (i : ℕ) (xs : List Instr) → ((k : ℕ) (x : Instr) → slice_get xs k ≡ Some x → (g : ℕ) → IsCallOf g x.op → s g ≡ s' g) →
+  from_same : (is_set : ℕ → Bool) (types : List Scalar) (before : List Instr) (i : ℕ) (xs : List Instr)
+      → ((k : ℕ) (x : Instr) → slice_get xs k ≡ Some x → (g : ℕ) → IsCallOf g x.op → s g ≡ s' g) →
       accesses_from m gated s is_set types before i xs ≡ accesses_from m gated s' is_set types before i xs
   from_same is_set types before i [] h = refl
   from_same is_set types before i (x ∷ xs) h =
-      let a : op_accesses m gated s (register_path is_set types before) i x.op ≡ op_accesses m gated s' (register_path is_set types before) i x.op = op_same (register_path is_set types before) i x.op (h 0 x refl) in
-      let b : accesses_from m gated s is_set types (x ∷ before) (i + 1) xs ≡ accesses_from m gated s' is_set types (x ∷ before) (i + 1) xs = from_same is_set types (x ∷ before) (i + 1) xs (λ k y e. h (suc k) y e) in
+      let a : op_accesses m gated s (register_path is_set types before) i x.op ≡ op_accesses m gated s' (register_path is_set types before) i x.op =
+      op_same (register_path is_set types before) i x.op (h 0 x refl) in
+      let b : accesses_from m gated s is_set types (x ∷ before) (i + 1) xs ≡ accesses_from m gated s' is_set types (x ∷ before) (i + 1) xs =
+      from_same is_set types (x ∷ before) (i + 1) xs (λ k y e. h (suc k) y e) in
       rw (a, b) refl
 
-  block_same : (p : NumberedProgram) (is_set : ℕ → Bool) (b : ℕ) → ((k : ℕ) (x : Instr) → slice_get (instrs_of p b) k ≡ Some x → (g : ℕ) → IsCallOf g x.op → s g ≡ s' g) → block_accesses m p gated s is_set b ≡ block_accesses m p gated s' is_set b
+  block_same : (p : NumberedProgram) (is_set : ℕ → Bool) (b : ℕ) → ((k : ℕ) (x : Instr) → slice_get (instrs_of p b) k ≡ Some x → (g : ℕ) → IsCallOf g x.op → s g ≡ s' g)
+      → block_accesses m p gated s is_set b ≡ block_accesses m p gated s' is_set b
   unfolding block_accesses
   block_same p is_set b h = from_same is_set (types_of p (function_of p b)) [] (first_of p b) (instrs_of p b) h
 
@@ -44,14 +48,16 @@ gathered_same f f' (x ∷ xs) h =
     rw (a, b) refl
 
 -- the same summaries of callees give the same summary
-pub summary_same : (p : NumberedProgram) (gated : ℕ → Bool) (s s' : ℕ → Option RootedList) (f : ℕ) → IsProgram p → ((g : ℕ) → Calls p f g → s g ≡ s' g) → summary_by p gated s f ≡ summary_by p gated s' f
+pub summary_same : (p : NumberedProgram) (gated : ℕ → Bool) (s s' : ℕ → Option RootedList) (f : ℕ) → IsProgram p → ((g : ℕ) → Calls p f g → s g ≡ s' g)
+    → summary_by p gated s f ≡ summary_by p gated s' f
 summary_same p gated s s' f program h = ap (seen_by_callers (parameter_count p f)) all
   where
     called : (b : ℕ) → Contains (blocks_of p f) b → (k : ℕ) (x : Instr) → slice_get (instrs_of p b) k ≡ Some x → (g : ℕ) → IsCallOf g x.op → s g ≡ s' g
     called b c k x e g call = let at = in_block p f b k x program c e in h g (record { at = first_of p b + k; instr = x; is = at.0; within = at.1; call = call })
 
     all : set_accesses true p gated s (blocks_of p f) ≡ set_accesses true p gated s' (blocks_of p f)
-    all = gathered_same (block_accesses true p gated s (sets p (blocks_of p f))) (block_accesses true p gated s' (sets p (blocks_of p f))) (blocks_of p f) (λ b c. block_same true gated s s' p (sets p (blocks_of p f)) b (called b c))
+    all = gathered_same (block_accesses true p gated s (sets p (blocks_of p f))) (block_accesses true p gated s' (sets p (blocks_of p f))) (blocks_of p f)
+        (λ b c. block_same true gated s s' p (sets p (blocks_of p f)) b (called b c))
 
 -- a function with a summary has accesses
 pub summary_some : (n : ℕ) (o : Option RootedList) (xs : RootedList) → seen_by_callers n o ≡ Some xs → (ys : RootedList) × (o ≡ Some ys)
@@ -63,7 +69,8 @@ call_some m gated sums i g (op.Call f args) h e = (h.0, ap sums (sym e) ∙ h.1)
 call_some m gated sums i g _ h e = absurd e
 
 -- a function that a quiet one calls is quiet
-pub callee_some : (p : NumberedProgram) (gated : ℕ → Bool) (sums : ℕ → Option RootedList) (f g : ℕ) (xs : RootedList) → IsProgram p → summary_by p gated sums f ≡ Some xs → Calls p f g → (bs : RootedList) × (sums g ≡ Some bs)
+pub callee_some : (p : NumberedProgram) (gated : ℕ → Bool) (sums : ℕ → Option RootedList) (f g : ℕ) (xs : RootedList) → IsProgram p → summary_by p gated sums f ≡ Some xs
+    → Calls p f g → (bs : RootedList) × (sums g ≡ Some bs)
 callee_some p gated sums f g xs program e c =
     let ys = summary_some (parameter_count p f) (set_accesses true p gated sums (blocks_of p f)) xs e in
     let s = stands p c.at c.instr program c.is in

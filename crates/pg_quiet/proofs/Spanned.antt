@@ -1,5 +1,6 @@
 -- Where the blocks of each function lie, one block after another.
-use Rattle.std.proofs.Common.{◌≡◌, ◌≢◌, ℕ, zero, suc, ◌+◌, ◌<◌, ◌≤◌, ◌^◌, ◌==◌, Bool, true, false, cond, List, length, get_or, replicate, refl, sym, ap, ◌∙◌, subst, arith, inl, inr, ◌⊎◌, get_or-set_same, get_or-set_other}
+use Rattle.std.proofs.Common.{◌≡◌, ◌≢◌, ℕ, zero, suc, ◌+◌, ◌<◌, ◌≤◌, ◌^◌, ◌==◌, Bool, true, false, cond, List, length, get_or, replicate, refl, sym, ap}
+use Rattle.std.proofs.Common.{◌∙◌, subst, arith, inl, inr, ◌⊎◌, get_or-set_same, get_or-set_other}
 use Rattle.std.proofs.Math.ListN.{set}
 use Rattle.std.proofs.lemmas.Bool.{cases_eq, cases_lt, eqb-true}
 use Rattle.std.proofs.lemmas.List.{get_or-replicate}
@@ -48,7 +49,8 @@ own_covers p n g s small h = go (s.end == 0) refl
         covers b lt e (inr i) true k = let o = h.covers b (omega (arith, lt, i)) e in absurd (omega (arith, o.1, eqb-true s.end 0 k))
         covers b lt e (inr i) false k = let o = h.covers b (omega (arith, lt, i)) e in (o.0, lt)
 
-pub one_more : (p : NumberedProgram) (n f : ℕ) (spans : List Span) → n < 2 ^ 32 → f < length spans → function_of p n ≡ f → ((g : ℕ) → g < length p.functions → Covers p n g (span_at spans g)) →
+pub one_more : (p : NumberedProgram) (n f : ℕ) (spans : List Span) → n < 2 ^ 32 → f < length spans → function_of p n ≡ f
+    → ((g : ℕ) → g < length p.functions → Covers p n g (span_at spans g)) →
     (g : ℕ) → g < length p.functions → Covers p (n + 1) g (span_at (set spans f (extended (span_at spans f) n)) g)
 one_more p n f spans small fits e h g lt = go (cases_eq f g)
   where

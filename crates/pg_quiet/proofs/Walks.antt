@@ -32,7 +32,8 @@ prepend e ne (first d n) = then (first e ne) d n
 prepend e ne (then w d n) = then (prepend e ne w) d n
 
 -- the calls of a caller reach more functions than those of a callee that doesn't reach itself
-pub fewer : (p : NumberedProgram) (reaches : List Reach) (f g : ℕ) → IsProgram p → AreReaches (calls_of p) (length p.functions) reaches → f < length p.functions → g < length p.functions → Calls p f g →
+pub fewer : (p : NumberedProgram) (reaches : List Reach) (f g : ℕ) → IsProgram p → AreReaches (calls_of p) (length p.functions) reaches → f < length p.functions → g < length p.functions
+    → Calls p f g →
     (reach_at reaches g).is_recursive ≡ false → (reach_at reaches g).size < (reach_at reaches f).size
 fewer p reaches f g program all lf lg c once =
     let a = all g lg in
@@ -46,8 +47,10 @@ fewer p reaches f g program all lf lg c once =
     (λ m. true≢false (sym (a.recursive.1 m) ∙ once)) in
     omega (arith, short, a.size, b.size)
 
-pub reaches_itself : (p : NumberedProgram) (reaches : List Reach) (f : ℕ) → IsProgram p → AreReaches (calls_of p) (length p.functions) reaches → f < length p.functions → (reach_at reaches f).is_recursive ≡ true → CallsReach p f f
+pub reaches_itself : (p : NumberedProgram) (reaches : List Reach) (f : ℕ) → IsProgram p → AreReaches (calls_of p) (length p.functions) reaches → f < length p.functions
+    → (reach_at reaches f).is_recursive ≡ true → CallsReach p f f
 reaches_itself p reaches f program all lt e = let a = all f lt in walk_reach p NO_FUNCTION f f program ((a.reach.exact f).0 (a.recursive.0 e))
 
-pub recurs : (p : NumberedProgram) (reaches : List Reach) (f : ℕ) → IsProgram p → AreReaches (calls_of p) (length p.functions) reaches → f < length p.functions → CallsReach p f f → (reach_at reaches f).is_recursive ≡ true
+pub recurs : (p : NumberedProgram) (reaches : List Reach) (f : ℕ) → IsProgram p → AreReaches (calls_of p) (length p.functions) reaches → f < length p.functions → CallsReach p f f
+    → (reach_at reaches f).is_recursive ≡ true
 recurs p reaches f program all lt r = let a = all f lt in a.recursive.1 ((a.reach.exact f).1 (reach_walk p f f program lt r).0)

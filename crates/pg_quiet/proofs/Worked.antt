@@ -1,7 +1,9 @@
 -- Functions are worked behind those that they call, so each summary stands by the final ones.
-use Rattle.std.proofs.Common.{◌≡◌, ◌≢◌, ℕ, ◌+◌, ◌<◌, ◌≤◌, ◌==◌, ◌&&◌, ◌||◌, Bool, true, false, not, List, length, Option, Some, None, refl, sym, ap, ◌∙◌, subst, arith, inl, inr, ◌⊎◌}
+use Rattle.std.proofs.Common.{◌≡◌, ◌≢◌, ℕ, ◌+◌, ◌<◌, ◌≤◌, ◌==◌, ◌&&◌, ◌||◌, Bool, true, false, not, List, length, Option, Some, None, refl, sym, ap}
+use Rattle.std.proofs.Common.{◌∙◌, subst, arith, inl, inr, ◌⊎◌}
 use Rattle.std.specs.Prelude.{nat_lt}
-use Rattle.std.proofs.lemmas.Bool.{true≢false, cases_eq, eqb-true, eqb-false, eq-eqb, ne_eqb, ltb-true, lt-ltb, and_parts, and_from, or_cases, or_left, or_right, not-true, not_from_false, false_from_ne_true, true_from_ne_false}
+use Rattle.std.proofs.lemmas.Bool.{true≢false, cases_eq, eqb-true, eqb-false, eq-eqb, ne_eqb, ltb-true, lt-ltb, and_parts, and_from, or_cases, or_left, or_right, not-true, not_from_false}
+use Rattle.std.proofs.lemmas.Bool.{false_from_ne_true, true_from_ne_false}
 use Rattle.pg_ir.specs.Program.{NumberedProgram}
 use Rattle.pg_ir.specs.WellFormed.{IsProgram}
 use Rattle.pg_accesses.specs.Accesses.{RootedList}
@@ -45,12 +47,14 @@ module _ (p : NumberedProgram) (started : List Bool) (reaches : List Reach) wher
       let b = and_parts (not (in_table started g)) (not (reach_at reaches g).is_recursive) a.1 in
       (eqb-false g p.main (not-true (g == p.main) a.0), not-true (in_table started g) b.0, not-true (reach_at reaches g).is_recursive b.1)
 
-  done_parts : (size f g : ℕ) → is_done p started reaches size f g ≡ true → (may_be_quiet p started reaches g ≡ true) × (((reach_at reaches g).size < size) ⊎ (((reach_at reaches g).size ≡ size) × (g < f)))
+  done_parts : (size f g : ℕ) → is_done p started reaches size f g ≡ true
+      → (may_be_quiet p started reaches g ≡ true) × (((reach_at reaches g).size < size) ⊎ (((reach_at reaches g).size ≡ size) × (g < f)))
   done_parts size f g e =
       let a = and_parts (may_be_quiet p started reaches g) (before size f (reach_at reaches g).size g) e in
       (a.0, before_cases size f (reach_at reaches g).size g a.1)
 
-  done_from : (size f g : ℕ) → may_be_quiet p started reaches g ≡ true → ((reach_at reaches g).size < size) ⊎ (((reach_at reaches g).size ≡ size) × (g < f)) → is_done p started reaches size f g ≡ true
+  done_from : (size f g : ℕ) → may_be_quiet p started reaches g ≡ true → ((reach_at reaches g).size < size) ⊎ (((reach_at reaches g).size ≡ size) × (g < f))
+      → is_done p started reaches size f g ≡ true
   done_from size f g m (inl lt) = and_from (may_be_quiet p started reaches g) (before size f (reach_at reaches g).size g) m (before_less size f (reach_at reaches g).size g lt)
   done_from size f g m (inr h) = and_from (may_be_quiet p started reaches g) (before size f (reach_at reaches g).size g) m (before_same size f (reach_at reaches g).size g h.0 h.1)
 
@@ -78,7 +82,8 @@ module _ (p : NumberedProgram) (started : List Bool) (reaches : List Reach) wher
         none f (inr k) = omega (arith, k.1)
 
     -- a function that isn't worked now
-    pub worked_skip : (sums : ℕ → Option RootedList) (size f : ℕ) → AreWorked p gated sums (is_done p started reaches size f) → ((reach_at reaches f).size ≡ size → may_be_quiet p started reaches f ≡ false) →
+    pub worked_skip : (sums : ℕ → Option RootedList) (size f : ℕ) → AreWorked p gated sums (is_done p started reaches size f)
+        → ((reach_at reaches f).size ≡ size → may_be_quiet p started reaches f ≡ false) →
         AreWorked p gated sums (is_done p started reaches size (f + 1))
     worked_skip sums size f h no' = record {
       worked = λ g lt e. h.worked g lt (older size f g e (λ q i. skipped g (done_parts size (f + 1) g e).0 q i));
@@ -89,13 +94,15 @@ module _ (p : NumberedProgram) (started : List Bool) (reaches : List Reach) wher
         skipped g m q i = true≢false (sym m ∙ ap (may_be_quiet p started reaches) i ∙ no' (subst (λ (z : ℕ). (reach_at reaches z).size ≡ size) i q))
 
     -- a round is over: all functions that reach so many are worked
-    pub round_over : (sums : ℕ → Option RootedList) (size f : ℕ) → length p.functions ≤ f → AreWorked p gated sums (is_done p started reaches size f) → AreWorked p gated sums (is_done p started reaches (size + 1) 0)
+    pub round_over : (sums : ℕ → Option RootedList) (size f : ℕ) → length p.functions ≤ f → AreWorked p gated sums (is_done p started reaches size f)
+        → AreWorked p gated sums (is_done p started reaches (size + 1) 0)
     round_over sums size f le h = record {
       worked = λ g lt e. let a = done_parts (size + 1) 0 g e in h.worked g lt (done_from size f g a.0 (back g lt a.1 (cases_eq (reach_at reaches g).size size)));
       others = λ g lt e. h.others g lt (false_from_ne_true (is_done p started reaches size f g) (λ t. true≢false (sym (on g t) ∙ e)));
     }
       where
-        back : (g : ℕ) → g < length p.functions → ((reach_at reaches g).size < size + 1) ⊎ (((reach_at reaches g).size ≡ size + 1) × (g < 0)) → ((reach_at reaches g).size ≡ size) ⊎ ((reach_at reaches g).size ≡ size → ⊥) →
+        back : (g : ℕ) → g < length p.functions → ((reach_at reaches g).size < size + 1) ⊎ (((reach_at reaches g).size ≡ size + 1) × (g < 0))
+            → ((reach_at reaches g).size ≡ size) ⊎ ((reach_at reaches g).size ≡ size → ⊥) →
             ((reach_at reaches g).size < size) ⊎ (((reach_at reaches g).size ≡ size) × (g < f))
         back g lt (inl k) (inl q) = inr (q, omega (arith, lt, le))
         back g lt (inl k) (inr ne) = inl (omega (arith, k, ne))
@@ -110,12 +117,14 @@ module _ (p : NumberedProgram) (started : List Bool) (reaches : List Reach) wher
 
     module _ (program : IsProgram p) (all : AreReaches (calls_of p) (length p.functions) reaches) where
       -- a function that is worked now
-      pub worked_more : (sums new : ℕ → Option RootedList) (size f : ℕ) → f < length p.functions → AreWorked p gated sums (is_done p started reaches size f) → may_be_quiet p started reaches f ≡ true → (reach_at reaches f).size ≡ size →
+      pub worked_more : (sums new : ℕ → Option RootedList) (size f : ℕ) → f < length p.functions → AreWorked p gated sums (is_done p started reaches size f)
+          → may_be_quiet p started reaches f ≡ true → (reach_at reaches f).size ≡ size →
           new f ≡ summary_by p gated sums f → ((g : ℕ) → g ≢ f → new g ≡ sums g) → AreWorked p gated new (is_done p started reaches size (f + 1))
       worked_more sums new size f lf h m at now other = record { worked = λ g lt e. worked g lt e (cases_eq g f); others = λ g lt e. others g lt e (cases_eq g f) }
         where
           kept : (g : ℕ) → g < length p.functions → (reach_at reaches g).size ≤ size → summary_by p gated sums g ≡ summary_by p gated new g
-          kept g lt le = summary_same p gated sums new g program (λ k c. sym (other k (λ e. omega (arith, fewer p reaches g f program all lt lf (subst (λ (z : ℕ). Calls p g z) e c) (may_parts f m).2, le, at))))
+          kept g lt le = summary_same p gated sums new g program
+              (λ k c. sym (other k (λ e. omega (arith, fewer p reaches g f program all lt lf (subst (λ (z : ℕ). Calls p g z) e c) (may_parts f m).2, le, at))))
 
           reached : (g : ℕ) → ((reach_at reaches g).size < size) ⊎ (((reach_at reaches g).size ≡ size) × (g < f + 1)) → (reach_at reaches g).size ≤ size
           reached g (inl lt) = omega (arith, lt)
@@ -129,7 +138,8 @@ module _ (p : NumberedProgram) (started : List Bool) (reaches : List Reach) wher
           others g lt e (inl q) = absurd (true≢false (sym (done_from size (f + 1) f m (inr (at, omega arith))) ∙ ap (is_done p started reaches size (f + 1)) (sym q) ∙ e))
           others g lt e (inr ne) = other g ne ∙ h.others g lt (false_from_ne_true (is_done p started reaches size f g) (λ t. true≢false (sym (newer size f g t) ∙ e)))
 
-      module _ (named : (f : ℕ) → f < length p.functions → in_table started f ≡ is_started p f) (sums : ℕ → Option RootedList) (size : ℕ) (most : (f : ℕ) → f < length p.functions → (reach_at reaches f).size < size)
+      module _ (named : (f : ℕ) → f < length p.functions → in_table started f ≡ is_started p f) (sums : ℕ → Option RootedList) (size : ℕ)
+          (most : (f : ℕ) → f < length p.functions → (reach_at reaches f).size < size)
           (h : AreWorked p gated sums (is_done p started reaches size 0)) where
         may_true : (f : ℕ) → f < length p.functions → CanBeQuiet p f → may_be_quiet p started reaches f ≡ true
         may_true f lt can =

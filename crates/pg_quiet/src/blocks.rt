@@ -1,3 +1,5 @@
+//! The blocks of a function.
+
 ghost use Rattle.std.specs.Prelude.{◌≡◌, ◌<◌, length, All, IfOk};
 ghost use Rattle.pg_ir.specs.Program.{function_of};
 ghost use Rattle.pg_quiet.specs.Blocks.{blocks_of};

@@ -1,3 +1,5 @@
+//! The functions that a function calls.
+
 ghost use Rattle.std.specs.Prelude.{◌≡◌, ℕ, ◌<◌, ◌++◌, length, All, IfOk, OnOk};
 ghost use Rattle.pg_cfg.specs.Graphs.{IsClosed};
 ghost use Rattle.pg_quiet.specs.Callees.{op_calls, block_calls, blocks_calls, calls_of};

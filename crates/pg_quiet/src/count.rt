@@ -1,3 +1,5 @@
+//! How many accesses summaries have.
+
 ghost use Rattle.std.specs.Prelude.{◌≡◌, ◌<◌, ◌≤◌, ◌+◌, length, nat_le, All};
 ghost use Rattle.pg_accesses.specs.Accesses.{summary_of};
 ghost use Rattle.pg_quiet.specs.declared.limits.TheConstants.{SUMMARY_LIMIT};

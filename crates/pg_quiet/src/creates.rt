@@ -1,3 +1,5 @@
+//! The functions with which threads begin.
+
 ghost use Rattle.std.specs.Prelude.{◌≡◌, ℕ, ◌<◌, ◌||◌, length, IfOk, Option};
 ghost use Rattle.std.specs.List.{list_any};
 ghost use Rattle.pg_accesses.specs.Tables.{in_table};

@@ -1,3 +1,5 @@
+//! The functions that calls reach.
+
 ghost use Rattle.std.specs.Prelude.{◌≡◌, ℕ, ◌<◌, ◌≤◌, ◌^◌, length, IfOk};
 ghost use Rattle.pg_cfg.specs.Graphs.{IsClosed, IsReach};
 ghost use Rattle.pg_quiet.specs.Reaches.{AreReaches, IsReachOf, reach_at};

@@ -1,3 +1,5 @@
+//! Accesses as the callers of a function see them.
+
 ghost use Rattle.std.specs.Prelude.{◌≡◌, IfOk, option_map};
 ghost use Rattle.pg_quiet.specs.Summaries.{seen_root, seen, if_few};
 

@@ -1,3 +1,5 @@
+//! The blocks among which those of a function are.
+
 ghost use Rattle.std.specs.Prelude.{◌≡◌, ℕ, ◌<◌, ◌≤◌, ◌+◌, ◌^◌, length, IfOk};
 ghost use Rattle.pg_ir.specs.Program.{function_of};
 ghost use Rattle.pg_quiet.specs.Spans.{span_at, extended, Covers};

@@ -1,3 +1,5 @@
+//! The summaries of quiet functions.
+
 ghost use Rattle.std.specs.Prelude.{◌≡◌, ℕ, ◌<◌, length, All, IfOk, option_map, None};
 ghost use Rattle.pg_ir.specs.declared.ids.InstrId.{InstrId};
 ghost use Rattle.pg_accesses.specs.Accesses.{is_gated, summary_of};

@@ -3,7 +3,7 @@
 use crate::programs::{ADDS_BY_CALLS, CALLERS, SIZES};
 use pg_accesses::{Rooted, Summary};
 use pg_ir::{InstrId, Program};
-use pg_paths::{Loads, Root, RootPath};
+use pg_paths::{Loads, Root};
 use pg_quiet::summaries;
 use pg_region::region_of;
 use pg_samples::{Parts, build};
@@ -13,13 +13,9 @@ use std::test::Fail;
 /// Instruction, whether it writes, root and loads.
 type Row = (u32, bool, Root, Loads);
 
-fn rooted(row: &Row) -> Rooted {
-    let (instr, writes, root, loads) = *row;
-    Rooted {
-        instr: InstrId(instr),
-        writes,
-        path: RootPath { root, loads },
-    }
+fn row_of(access: &Rooted) -> Row {
+    let path = access.path;
+    (access.instr.0, access.writes, path.root, path.loads)
 }
 
 /// Whether a function has a summary with these accesses.
@@ -28,7 +24,7 @@ fn has(sums: &[Option<Summary>], f: usize, rows: &[Row]) -> bool {
         Some(Some(summary)) => {
             let accesses = summary.accesses.as_slice();
             accesses.len() == rows.len()
-                && accesses.iter().zip(rows).all(|(a, row)| *a == rooted(row))
+                && accesses.iter().zip(rows).all(|(a, row)| row_of(a) == *row)
         }
         _ => false,
     }
@@ -84,7 +80,7 @@ fn region_with_a_call(rt: HostRuntime) -> Result<(), Fail> {
     ];
     let accesses = region.accesses.as_slice();
     assert!(rt; accesses.len() == 2);
-    assert!(rt; accesses.iter().zip(rows).all(|(a, row)| *a == rooted(&row)));
+    assert!(rt; accesses.iter().zip(rows).all(|(a, row)| row_of(a) == row));
     Ok(())
 }
 

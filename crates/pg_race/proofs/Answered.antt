@@ -1,5 +1,6 @@
 -- Which steps the touches of a trace's steps answer: those that are unordered with them.
-use Rattle.std.proofs.Common.{◌≡◌, ℕ, ◌==◌, ◌+◌, ◌-◌, ◌<◌, ◌≤◌, ◌⊎◌, Bool, true, false, List, [], ◌∷◌, ◌++◌, length, map, take, drop, Option, Some, None, refl, sym, ap, ◌∙◌, subst, arith, zero, suc, inl, inr}
+use Rattle.std.proofs.Common.{◌≡◌, ℕ, ◌==◌, ◌+◌, ◌-◌, ◌<◌, ◌≤◌, ◌⊎◌, Bool, true, false, List, [], ◌∷◌, ◌++◌, length, map, take, drop, Option}
+use Rattle.std.proofs.Common.{Some, None, refl, sym, ap, ◌∙◌, subst, arith, zero, suc, inl, inr}
 use Rattle.std.specs.Prelude.{◌&&◌, ◌||◌, not, max, nat_lt, slice_get}
 use Rattle.std.specs.List.{AllByRecursion as AllOf, list_any}
 use Rattle.std.proofs.lemmas.Bool.{cases_lt, eqb-true, eqb-false, eq-eqb, ne_eqb, lt-ltb, le-ltb, and_from, and_left, and_right, not_from_true, not_from_false}
@@ -18,7 +19,7 @@ use Rattle.pg_trace.specs.Steps.{access_of, range_of}
 use Rattle.pg_trace.specs.Races.{accesses_conflict, conflict, is_unordered, overlap, share, timed_by}
 use Rattle.pg_intervals.specs.declared.interval.Interval.{Interval}
 use Rattle.pg_intervals.specs.Intervals.{interval_of}
-use Rattle.pg_intervals.proofs.Walk.{drop_get}
+use Rattle.pg_plans.proofs.Walks.{drop_get}
 use Rattle.pg_tables.specs.Touches.{answers}
 use Rattle.pg_tables.proofs.Walk.{before_get, behind_get}
 use Rattle.pg_race.specs.Touching.{backward, beside, forward, touch_with}
@@ -109,9 +110,12 @@ none_right : (r : ByteRange) → share r (record { start = 0; bytes = 0 }) ≡ f
 none_right r = and_right (nat_lt (max r.start 0) (r.start + r.bytes)) (nat_lt (max r.start 0) (0 + 0)) (le-ltb (max r.start 0) (0 + 0) (omega arith))
 
 answer_parts : (t u : ThreadNo) (p n q m : ℕ) (a b : Option Access) → answers (touch_with t p n a) (touch_with u q m b) ≡ ((not (t.0 == u.0) && accesses_conflict a b) && nat_lt m p)
-answer_parts t u p n q m None None = ap (λ c. (not (t.0 == u.0) && c) && nat_lt m p) (and_right (false || false) (share (record { start = 0; bytes = 0 }) (record { start = 0; bytes = 0 })) (none_left (record { start = 0; bytes = 0 })))
-answer_parts t u p n q m None (Some b) = ap (λ c. (not (t.0 == u.0) && c) && nat_lt m p) (and_right (false || b.writes) (share (record { start = 0; bytes = 0 }) (range_of b)) (none_left (range_of b)))
-answer_parts t u p n q m (Some a) None = ap (λ c. (not (t.0 == u.0) && c) && nat_lt m p) (and_right (a.writes || false) (share (range_of a) (record { start = 0; bytes = 0 })) (none_right (range_of a)))
+answer_parts t u p n q m None None = ap (λ c. (not (t.0 == u.0) && c) && nat_lt m p)
+    (and_right (false || false) (share (record { start = 0; bytes = 0 }) (record { start = 0; bytes = 0 })) (none_left (record { start = 0; bytes = 0 })))
+answer_parts t u p n q m None (Some b) = ap (λ c. (not (t.0 == u.0) && c) && nat_lt m p)
+    (and_right (false || b.writes) (share (record { start = 0; bytes = 0 }) (range_of b)) (none_left (range_of b)))
+answer_parts t u p n q m (Some a) None = ap (λ c. (not (t.0 == u.0) && c) && nat_lt m p)
+    (and_right (a.writes || false) (share (range_of a) (record { start = 0; bytes = 0 })) (none_right (range_of a)))
 answer_parts t u p n q m (Some a) (Some b) = refl
 
 -- x stands before y
@@ -121,8 +125,11 @@ forward_answers x y h =
     ∙ ap (λ c. conflict x.did y.did && c) (apart (cases_lt x.high y.low))
   where
     apart : (x.high < y.low) ⊎ (y.low ≤ x.high) → nat_lt y.low (x.high + 1) ≡ overlap x y
-    apart (inl lt) = le-ltb y.low (x.high + 1) (omega (arith, lt)) ∙ sym (and_left (not (nat_lt x.high y.low)) (not (nat_lt y.high x.low)) (not_from_true (nat_lt x.high y.low) (lt-ltb x.high y.low lt)))
-    apart (inr ge) = lt-ltb y.low (x.high + 1) (omega (arith, ge)) ∙ sym (and_from (not (nat_lt x.high y.low)) (not (nat_lt y.high x.low)) (not_from_false (nat_lt x.high y.low) (le-ltb x.high y.low ge)) (not_from_false (nat_lt y.high x.low) (le-ltb y.high x.low h)))
+    apart (inl lt) = le-ltb y.low (x.high + 1) (omega (arith, lt)) ∙ sym
+        (and_left (not (nat_lt x.high y.low)) (not (nat_lt y.high x.low)) (not_from_true (nat_lt x.high y.low) (lt-ltb x.high y.low lt)))
+    apart (inr ge) = lt-ltb y.low (x.high + 1) (omega (arith, ge)) ∙ sym
+        (and_from (not (nat_lt x.high y.low)) (not (nat_lt y.high x.low)) (not_from_false (nat_lt x.high y.low) (le-ltb x.high y.low ge))
+        (not_from_false (nat_lt y.high x.low) (le-ltb y.high x.low h)))
 
 -- x stands behind y
 backward_answers : (n : ℕ) (x y : Timed Step) → y.low ≤ x.high → x.low ≤ n → y.high ≤ n → answers (backward n x) (backward n y) ≡ is_unordered y x
@@ -131,8 +138,11 @@ backward_answers n x y h l k =
     ∙ ap (λ c. c && nat_lt (n - y.high) (n + 1 - x.low)) (conflict_turn x.did y.did) ∙ ap (λ c. conflict y.did x.did && c) (apart (cases_lt y.high x.low))
   where
     apart : (y.high < x.low) ⊎ (x.low ≤ y.high) → nat_lt (n - y.high) (n + 1 - x.low) ≡ overlap y x
-    apart (inl lt) = le-ltb (n - y.high) (n + 1 - x.low) (omega (arith, lt, l)) ∙ sym (and_left (not (nat_lt y.high x.low)) (not (nat_lt x.high y.low)) (not_from_true (nat_lt y.high x.low) (lt-ltb y.high x.low lt)))
-    apart (inr ge) = lt-ltb (n - y.high) (n + 1 - x.low) (omega (arith, ge, k)) ∙ sym (and_from (not (nat_lt y.high x.low)) (not (nat_lt x.high y.low)) (not_from_false (nat_lt y.high x.low) (le-ltb y.high x.low ge)) (not_from_false (nat_lt x.high y.low) (le-ltb x.high y.low h)))
+    apart (inl lt) = le-ltb (n - y.high) (n + 1 - x.low) (omega (arith, lt, l))
+        ∙ sym (and_left (not (nat_lt y.high x.low)) (not (nat_lt x.high y.low)) (not_from_true (nat_lt y.high x.low) (lt-ltb y.high x.low lt)))
+    apart (inr ge) = lt-ltb (n - y.high) (n + 1 - x.low) (omega (arith, ge, k))
+        ∙ sym (and_from (not (nat_lt y.high x.low)) (not (nat_lt x.high y.low)) (not_from_false (nat_lt y.high x.low) (le-ltb y.high x.low ge))
+        (not_from_false (nat_lt x.high y.low) (le-ltb x.high y.low h)))
 
 -- ---- intervals
 
@@ -202,10 +212,13 @@ module _ (ys : List (Timed Step)) (pairs : EachPair (λ x y. x.low ≤ y.high) y
       behind_get (map (backward n) ys) i (backward n y) (get_map (backward n) ys i y h)
       ∙ ap Some (ap (list_any (λ x. answers x (backward n y))) (drop_map (backward n) (i + 1) ys) ∙ any_map (λ x. answers x (backward n y)) (backward n) (drop (i + 1) ys)
       ∙ any_same (λ x. answers (backward n x) (backward n y)) (is_unordered y) (drop (i + 1) ys)
-      (both_map (λ x. y.low ≤ x.high) (Within n) (λ x. answers (backward n x) (backward n y) ≡ is_unordered y x) (λ x l b. backward_answers n x y l b.0 w.0.1) (drop (i + 1) ys) (pairs_after (λ x y. x.low ≤ y.high) (take i ys) y (drop (i + 1) ys) parts) w.1))
+      (both_map (λ x. y.low ≤ x.high) (Within n) (λ x. answers (backward n x) (backward n y) ≡ is_unordered y x) (λ x l b. backward_answers n x y l b.0 w.0.1) (drop (i + 1) ys)
+      (pairs_after (λ x y. x.low ≤ y.high) (take i ys) y (drop (i + 1) ys) parts) w.1))
 
   own_ordered : is_unordered y y ≡ false
-  own_ordered = and_left (conflict y.did y.did) (overlap y y) (and_left (not (y.did.thread.0 == y.did.thread.0)) (accesses_conflict (access_of y.did) (access_of y.did)) (not_from_true (y.did.thread.0 == y.did.thread.0) (eq-eqb y.did.thread.0 y.did.thread.0 refl)))
+  own_ordered = and_left (conflict y.did y.did) (overlap y y)
+      (and_left (not (y.did.thread.0 == y.did.thread.0)) (accesses_conflict (access_of y.did) (access_of y.did))
+      (not_from_true (y.did.thread.0 == y.did.thread.0) (eq-eqb y.did.thread.0 y.did.thread.0 refl)))
 
   -- one before or behind y is all that is unordered with it
   pub either_side : (list_any (λ x. is_unordered x y) (take i ys) || list_any (is_unordered y) (drop (i + 1) ys)) ≡ list_any (is_unordered y) ys

@@ -27,7 +27,8 @@ pub instrs_none : (xs : List Step) → instrs_in (drop (length xs) xs) ≡ 0
 instrs_none xs = ap instrs_in (drop_all xs)
 
 -- one step more, from the end on
-pub instrs_more : (xs : List Step) (k : ℕ) (x : Step) (bound : ℕ) → k < length xs → slice_get xs (length xs - 1 - k) ≡ Some x → bound ≡ instrs_in (drop (length xs - k) xs) → max bound (x.instr.0 + 1) ≡ instrs_in (drop (length xs - (k + 1)) xs)
+pub instrs_more : (xs : List Step) (k : ℕ) (x : Step) (bound : ℕ) → k < length xs → slice_get xs (length xs - 1 - k) ≡ Some x → bound ≡ instrs_in (drop (length xs - k) xs)
+    → max bound (x.instr.0 + 1) ≡ instrs_in (drop (length xs - (k + 1)) xs)
 instrs_more xs k x bound lt h e =
     let i : length xs - 1 - k ≡ length xs - (k + 1) = omega arith in
     let n : (length xs - (k + 1)) + 1 ≡ length xs - k = omega arith in

@@ -1,5 +1,6 @@
 -- The search for the first unordered pair, by marks.
-use Rattle.std.proofs.Common.{◌≡◌, ℕ, ◌+◌, ◌<◌, ◌≤◌, Bool, false, List, [], ◌∷◌, ◌++◌, length, map, take, drop, Option, Some, None, refl, sym, ap, ◌∙◌, subst, arith, zero, suc}
+use Rattle.std.proofs.Common.{◌≡◌, ℕ, ◌+◌, ◌<◌, ◌≤◌, Bool, false, List, [], ◌∷◌, ◌++◌, length, map, take, drop, Option, Some, None, refl, sym, ap, ◌∙◌}
+use Rattle.std.proofs.Common.{subst, arith, zero, suc}
 use Rattle.std.specs.Prelude.{is_some, slice_get}
 use Rattle.std.specs.List.{list_any, position_from}
 use Rattle.std.proofs.lemmas.List.{drop_all}
@@ -10,7 +11,7 @@ use Rattle.pg_trace.specs.Races.{is_unordered, pair_or, recorded, timed_by, unor
 use Rattle.pg_intervals.specs.declared.interval.Interval.{Interval}
 use Rattle.pg_intervals.specs.Intervals.{interval_of}
 use Rattle.pg_intervals.proofs.Positions.{timed_length}
-use Rattle.pg_intervals.proofs.Walk.{drop_get, take_get}
+use Rattle.pg_plans.proofs.Walks.{drop_get, take_get}
 use Rattle.pg_race.specs.Touching.{AreWithin, IsWithin, beside}
 use Rattle.pg_race.specs.Firsts.{before_of}
 use Rattle.pg_race.proofs.Answered.{all_within, before_at, lows_below}
@@ -34,7 +35,8 @@ none_of None h = refl
 none_of (Some i) h = absurd (cc)
 
 -- a step without a mark has no step before it that is unordered with it
-pub none_unmarked : (xs : List Step) (j : ℕ) (y : Timed Step) (b : Bool) → slice_get (timed_by recorded xs) j ≡ Some y → slice_get (before_of (timed_by recorded xs)) j ≡ Some b → b ≡ false →
+pub none_unmarked : (xs : List Step) (j : ℕ) (y : Timed Step) (b : Bool) → slice_get (timed_by recorded xs) j ≡ Some y → slice_get (before_of (timed_by recorded xs)) j ≡ Some b
+    → b ≡ false →
     position_from (λ x. is_unordered x y) 0 (take j (timed_by recorded xs)) ≡ None
 none_unmarked xs j y b h m e =
     let ys = timed_by recorded xs in
@@ -70,10 +72,12 @@ intervals_within V xs ns e i v h =
 -- ---- touches
 
 module _ (f : Timed Step → Touch) where
-  beside_get : (xs : List Step) (ns : List Interval) (i : ℕ) (x : Step) (n : Interval) → slice_get xs i ≡ Some x → slice_get ns i ≡ Some n → slice_get (beside xs ns) i ≡ Some (record { did = x; low = n.low; high = n.high })
+  beside_get : (xs : List Step) (ns : List Interval) (i : ℕ) (x : Step) (n : Interval) → slice_get xs i ≡ Some x → slice_get ns i ≡ Some n
+      → slice_get (beside xs ns) i ≡ Some (record { did = x; low = n.low; high = n.high })
   beside_get [] ns i x n h g = absurd (cc)
   beside_get (y ∷ xs) [] i x n h g = absurd (cc)
-  beside_get (y ∷ xs) (m ∷ ns) zero x n h g = let q : y ≡ x = cc in let p : m ≡ n = cc in ap (λ z. Some (record { did = z; low = m.low; high = m.high })) q ∙ ap (λ k. Some (record { did = x; low = k.low; high = k.high })) p
+  beside_get (y ∷ xs) (m ∷ ns) zero x n h g = let q : y ≡ x = cc in let p : m ≡ n =
+      cc in ap (λ z. Some (record { did = z; low = m.low; high = m.high })) q ∙ ap (λ k. Some (record { did = x; low = k.low; high = k.high })) p
   beside_get (y ∷ xs) (m ∷ ns) (suc i) x n h g = beside_get xs ns i x n h g
 
   beside_length : (xs : List Step) (ns : List Interval) → length ns ≡ length xs → length (beside xs ns) ≡ length xs
@@ -85,7 +89,8 @@ module _ (f : Timed Step → Touch) where
   map_push [] z = refl
   map_push (y ∷ zs) z = ap (λ l. f y ∷ l) (map_push zs z)
 
-  pub touched_more : (xs : List Step) (ns : List Interval) (i : ℕ) (x : Step) (n : Interval) (items : List Touch) → slice_get xs i ≡ Some x → slice_get ns i ≡ Some n → items ≡ map f (take i (beside xs ns)) →
+  pub touched_more : (xs : List Step) (ns : List Interval) (i : ℕ) (x : Step) (n : Interval) (items : List Touch) → slice_get xs i ≡ Some x → slice_get ns i ≡ Some n
+      → items ≡ map f (take i (beside xs ns)) →
       items ++ f (record { did = x; low = n.low; high = n.high }) ∷ [] ≡ map f (take (i + 1) (beside xs ns))
   touched_more xs ns i x n items h g e =
       let z : Timed Step = record { did = x; low = n.low; high = n.high } in
@@ -95,5 +100,6 @@ module _ (f : Timed Step → Touch) where
   take_whole [] = refl
   take_whole (z ∷ zs) = ap (λ l. z ∷ l) (take_whole zs)
 
-  pub touched_all : (xs : List Step) (ns : List Interval) (i : ℕ) (items : List Touch) → length ns ≡ length xs → i ≡ length xs → items ≡ map f (take i (beside xs ns)) → items ≡ map f (beside xs ns)
+  pub touched_all : (xs : List Step) (ns : List Interval) (i : ℕ) (items : List Touch) → length ns ≡ length xs → i ≡ length xs → items ≡ map f (take i (beside xs ns))
+      → items ≡ map f (beside xs ns)
   touched_all xs ns i items l j e = e ∙ ap (map f) (ap (λ k. take k (beside xs ns)) (j ∙ sym (beside_length xs ns l)) ∙ take_whole (beside xs ns))

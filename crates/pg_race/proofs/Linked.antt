@@ -1,8 +1,9 @@
 -- What the links of each byte have when a step is put before them, and what a walk along them finds.
-use Rattle.std.proofs.Common.{◌≡◌, ℕ, ◌==◌, ◌+◌, ◌-◌, ◌<◌, ◌≤◌, ◌⊎◌, Bool, true, false, cond, List, [], ◌∷◌, ◌++◌, length, drop, Option, Some, None, refl, sym, ap, ◌∙◌, subst, arith, zero, suc, inl, inr}
+use Rattle.std.proofs.Common.{◌≡◌, ℕ, ◌==◌, ◌+◌, ◌-◌, ◌<◌, ◌≤◌, ◌⊎◌, Bool, true, false, cond, List, [], ◌∷◌, ◌++◌, length, drop, Option, Some}
+use Rattle.std.proofs.Common.{None, refl, sym, ap, ◌∙◌, subst, arith, zero, suc, inl, inr}
 use Rattle.std.specs.Prelude.{◌&&◌, ◌||◌, not, max, min, nat_le, nat_lt, slice_get, if◌then◌else◌}
 use Rattle.std.specs.List.{find, position_from}
-use Rattle.std.proofs.lemmas.Bool.{cases_lt, eqb-true, eqb-false, lt-ltb, ltb-true, le-ltb, le-leb, leb-true, and_from, and_parts, and_right}
+use Rattle.std.proofs.lemmas.Bool.{eqb-true, lt-ltb, ltb-true, le-ltb, le-leb, leb-true, and_from, and_parts, and_right}
 use Rattle.pg_plans.specs.Intervals.{Timed, did_of}
 use Rattle.pg_trace.specs.declared.step.Access.{Access}
 use Rattle.pg_trace.specs.declared.step.Step.{Step}
@@ -13,6 +14,7 @@ use Rattle.pg_tables.proofs.Greatest.{byte_more}
 use Rattle.pg_race.specs.declared.links.Link.{Link}
 use Rattle.pg_race.specs.declared.links.Links.{Links}
 use Rattle.pg_race.specs.Links.{AreLinks, AreListed, IsLink, accesses_byte, head_at, holds_byte, is_unordered_at, is_unordered_with, lesser, linked, numbers_of, on_link, steps_from, with_step}
+use Rattle.pg_tables.proofs.Notes.{in_last, in_next, in_same}
 
 -- ---- chains
 
@@ -28,7 +30,8 @@ module _ (n : ℕ) (ls : List Link) (links : AreLinks n ls) where
   enough (suc k) (suc m) zero h g = refl
   enough (suc k) (suc m) (suc i) h g = by (λ at. enough k m at) (slice_get ls i) refl
     where
-      by : ((at : ℕ) → at ≤ k → at ≤ m → steps_from k ls at ≡ steps_from m ls at) → (o : Option Link) → slice_get ls i ≡ o → on_link o (steps_from k ls) ≡ on_link o (steps_from m ls)
+      by : ((at : ℕ) → at ≤ k → at ≤ m → steps_from k ls at ≡ steps_from m ls at) → (o : Option Link) → slice_get ls i ≡ o
+          → on_link o (steps_from k ls) ≡ on_link o (steps_from m ls)
       by ih None e = refl
       by ih (Some l) e = let w = (links i l e).next in ap (λ (js : List ℕ). l.step ∷ js) (ih l.next (omega (arith, w, h)) (omega (arith, w, g)))
 
@@ -54,7 +57,8 @@ module _ (n : ℕ) (ls : List Link) (links : AreLinks n ls) where
       inside (z ∷ zs) zero l = refl
       inside (z ∷ zs) (suc j) l = inside zs j (omega (arith, l))
 
-      by : ((at : ℕ) → at ≤ length ls → steps_from k (ls ++ more) at ≡ steps_from k ls at) → (o : Option Link) → slice_get ls i ≡ o → on_link o (steps_from k (ls ++ more)) ≡ on_link o (steps_from k ls)
+      by : ((at : ℕ) → at ≤ length ls → steps_from k (ls ++ more) at ≡ steps_from k ls at) → (o : Option Link) → slice_get ls i ≡ o
+          → on_link o (steps_from k (ls ++ more)) ≡ on_link o (steps_from k ls)
       by ih None e = refl
       by ih (Some l) e = let w = (links i l e).next in ap (λ (js : List ℕ). l.step ∷ js) (ih l.next (omega (arith, w, h)))
 
@@ -73,27 +77,6 @@ link_cases (x ∷ ls) l m (suc i) e = by (link_cases ls l m i e)
     by (inr b) = inr (ap suc b.0, b.1)
 
 -- ---- a step put before those of one byte
-
--- the bytes of a range, one more and none
-in_last : (s n : ℕ) → is_in (record { start = s; bytes = n + 1 }) (s + n) ≡ true
-in_last s n = and_from (nat_le s (s + n)) (nat_lt (s + n) (s + (n + 1))) (le-leb s (s + n) (omega arith)) (lt-ltb (s + n) (s + (n + 1)) (omega arith))
-
-in_next : (s n : ℕ) → is_in (record { start = s; bytes = n }) (s + n) ≡ false
-in_next s n = and_right (nat_le s (s + n)) (nat_lt (s + n) (s + n)) (le-ltb (s + n) (s + n) (omega arith))
-
-in_same : (s n b : ℕ) → (b == s + n) ≡ false → is_in (record { start = s; bytes = n + 1 }) b ≡ is_in (record { start = s; bytes = n }) b
-in_same s n b h = go (cases_lt b (s + n))
-  where
-    above : s + n ≤ b → (b ≡ s + n → ⊥) → s + (n + 1) ≤ b
-    above ge ne = by (cases_lt (s + n) b)
-      where
-        by : (s + n < b) ⊎ (b ≤ s + n) → s + (n + 1) ≤ b
-        by (inl lt) = omega (arith, lt)
-        by (inr le) = absurd (ne (omega (arith, ge, le)))
-
-    go : (b < s + n) ⊎ (s + n ≤ b) → is_in (record { start = s; bytes = n + 1 }) b ≡ is_in (record { start = s; bytes = n }) b
-    go (inl lt) = ap (λ c. nat_le s b && c) (lt-ltb b (s + (n + 1)) (omega (arith, lt)) ∙ sym (lt-ltb b (s + n) lt))
-    go (inr ge) = ap (λ c. nat_le s b && c) (le-ltb b (s + (n + 1)) (above ge (eqb-false b (s + n) h)) ∙ sym (le-ltb b (s + n) ge))
 
 in_none : (s b : ℕ) → is_in (record { start = s; bytes = 0 }) b ≡ false
 in_none s b = go (nat_le s b) refl
@@ -131,8 +114,10 @@ module _ (n i s k : ℕ) (old new' : Links) (steps : ℕ → List ℕ) (lt : i <
           let h : head_at new' b ≡ length old.links.items + 1 = heads b ∙ ap (λ t. if t then length old.links.items + 1 else head_at old b) e in
           let z : length old.links.items + 1 - 1 ≡ length old.links.items = omega arith in
           ap (λ (ls : List Link). linked ls (head_at new' b)) links ∙ ap (linked (old.links.items ++ next ∷ [])) h
-          ∙ linked_at n (old.links.items ++ next ∷ []) are_links (length old.links.items + 1) next (omega arith) (ap (slice_get (old.links.items ++ next ∷ [])) z ∙ last_link old.links.items next)
-          ∙ ap (λ (js : List ℕ). i ∷ js) (longer n old.links.items a.links (next ∷ []) (head_at old (s + k)) (head_at old (s + k)) (a.heads (s + k)) ∙ a.chains (s + k) ∙ ap (with_step i steps (s + k)) (in_next s k))
+          ∙ linked_at n (old.links.items ++ next ∷ []) are_links (length old.links.items + 1) next (omega arith)
+          (ap (slice_get (old.links.items ++ next ∷ [])) z ∙ last_link old.links.items next)
+          ∙ ap (λ (js : List ℕ). i ∷ js) (longer n old.links.items a.links (next ∷ []) (head_at old (s + k)) (head_at old (s + k)) (a.heads (s + k)) ∙ a.chains (s + k)
+          ∙ ap (with_step i steps (s + k)) (in_next s k))
           ∙ sym (ap (λ d. with_step i steps d (is_in (record { start = s; bytes = k + 1 }) d)) q ∙ ap (with_step i steps (s + k)) (in_last s k))
       chain_of b false e =
           let h : head_at new' b ≡ head_at old b = heads b ∙ ap (λ t. if t then length old.links.items + 1 else head_at old b) e in
@@ -157,8 +142,10 @@ module _ (n i s k : ℕ) (old new' : Links) (steps : ℕ → List ℕ) (lt : i <
           omega (arith, h, long, w)
 
 -- as `noted_more`, by the number of the byte
-pub noted_byte : (n i s k byte : ℕ) (old new' : Links) (steps : ℕ → List ℕ) → i < n → AreListed n old (λ b. with_step i steps b (is_in (record { start = s; bytes = k }) b)) → byte ≡ s + k
-    → ((b : ℕ) → head_at new' b ≡ (if b == byte then length old.links.items + 1 else head_at old b)) → new'.links.items ≡ old.links.items ++ record { step = i; next = head_at old byte } ∷ []
+pub noted_byte : (n i s k byte : ℕ) (old new' : Links) (steps : ℕ → List ℕ) → i < n → AreListed n old (λ b. with_step i steps b (is_in (record { start = s; bytes = k }) b))
+    → byte ≡ s + k
+    → ((b : ℕ) → head_at new' b ≡ (if b == byte then length old.links.items + 1 else head_at old b))
+    → new'.links.items ≡ old.links.items ++ record { step = i; next = head_at old byte } ∷ []
     → AreListed n new' (λ b. with_step i steps b (is_in (record { start = s; bytes = k + 1 }) b))
 noted_byte n i s k byte old new' steps lt a e heads links =
     noted_more n i s k old new' steps lt a (λ b. heads b ∙ ap (λ d. if b == d then length old.links.items + 1 else head_at old b) e)
@@ -166,7 +153,8 @@ noted_byte n i s k byte old new' steps lt a e heads links =
 
 -- ---- from the last step on
 
-pub listed_none : (n : ℕ) (t : Links) (xs : List Step) → ((b : ℕ) → head_at t b ≡ 0) → t.links.items ≡ [] → AreListed n t (λ b. numbers_of (accesses_byte b) (length xs) (drop (length xs) xs))
+pub listed_none : (n : ℕ) (t : Links) (xs : List Step) → ((b : ℕ) → head_at t b ≡ 0) → t.links.items ≡ []
+    → AreListed n t (λ b. numbers_of (accesses_byte b) (length xs) (drop (length xs) xs))
 unfolding steps_from
 listed_none n t xs h e = record {
   chains = λ b. ap (linked t.links.items) (h b) ∙ sym (ap (numbers_of (accesses_byte b) (length xs)) (none xs));
@@ -187,28 +175,33 @@ front (y ∷ xs) zero x h = let q : y ≡ x = cc in ap (λ (z : Step). z ∷ xs)
 front (y ∷ xs) (suc i) x h = let ih = front xs i x h in let e : suc i + 1 ≡ suc (i + 1) = omega arith in rw e ih
 
 -- the steps from i on are step i, if it accesses the byte, and those behind it
-pub numbers_at : (xs : List Step) (i : ℕ) (x : Step) (b : ℕ) → slice_get xs i ≡ Some x → numbers_of (accesses_byte b) i (drop i xs) ≡ with_step i (λ c. numbers_of (accesses_byte c) (i + 1) (drop (i + 1) xs)) b (holds_byte b (access_of x))
+pub numbers_at : (xs : List Step) (i : ℕ) (x : Step) (b : ℕ) → slice_get xs i ≡ Some x
+    → numbers_of (accesses_byte b) i (drop i xs) ≡ with_step i (λ c. numbers_of (accesses_byte c) (i + 1) (drop (i + 1) xs)) b (holds_byte b (access_of x))
 numbers_at xs i x b h = ap (numbers_of (accesses_byte b) i) (front xs i x h)
 
 pub listed_next : (n : ℕ) (t : Links) (xs : List Step) (k i : ℕ) (x : Step) (o : Option Access) → k < length xs → i ≡ length xs - (k + 1) → slice_get xs i ≡ Some x → access_of x ≡ o
-    → AreListed n t (λ b. with_step i (λ c. numbers_of (accesses_byte c) (length xs - k) (drop (length xs - k) xs)) b (holds_byte b o)) → AreListed n t (λ b. numbers_of (accesses_byte b) (length xs - (k + 1)) (drop (length xs - (k + 1)) xs))
+    → AreListed n t (λ b. with_step i (λ c. numbers_of (accesses_byte c) (length xs - k) (drop (length xs - k) xs)) b (holds_byte b o))
+    → AreListed n t (λ b. numbers_of (accesses_byte b) (length xs - (k + 1)) (drop (length xs - (k + 1)) xs))
 listed_next n t xs k i x o lt q h e a = listed_same n t _ _ same a
   where
     next : length xs - k ≡ i + 1
     next = omega (arith, q, lt)
 
-    same : (b : ℕ) → with_step i (λ c. numbers_of (accesses_byte c) (length xs - k) (drop (length xs - k) xs)) b (holds_byte b o) ≡ numbers_of (accesses_byte b) (length xs - (k + 1)) (drop (length xs - (k + 1)) xs)
+    same : (b : ℕ) → with_step i (λ c. numbers_of (accesses_byte c) (length xs - k) (drop (length xs - k) xs)) b (holds_byte b o)
+        ≡ numbers_of (accesses_byte b) (length xs - (k + 1)) (drop (length xs - (k + 1)) xs)
     same b =
         ap (λ j. with_step i (λ c. numbers_of (accesses_byte c) j (drop j xs)) b (holds_byte b o)) next
         ∙ ap (λ p. with_step i (λ c. numbers_of (accesses_byte c) (i + 1) (drop (i + 1) xs)) b (holds_byte b p)) (sym e)
         ∙ sym (numbers_at xs i x b h) ∙ ap (λ j. numbers_of (accesses_byte b) j (drop j xs)) q
 
-pub listed_start : (n : ℕ) (t : Links) (xs : List Step) (k : ℕ) → k ≡ 0 → ((b : ℕ) → head_at t b ≡ 0) → t.links.items ≡ [] → AreListed n t (λ b. numbers_of (accesses_byte b) (length xs - k) (drop (length xs - k) xs))
+pub listed_start : (n : ℕ) (t : Links) (xs : List Step) (k : ℕ) → k ≡ 0 → ((b : ℕ) → head_at t b ≡ 0) → t.links.items ≡ []
+    → AreListed n t (λ b. numbers_of (accesses_byte b) (length xs - k) (drop (length xs - k) xs))
 listed_start n t xs k z h e =
     let q : length xs ≡ length xs - k = omega (arith, z) in
     listed_same n t _ _ (λ b. ap (λ j. numbers_of (accesses_byte b) j (drop j xs)) q) (listed_none n t xs h e)
 
-pub listed_end : (n : ℕ) (t : Links) (xs : List Step) (k : ℕ) → k ≡ length xs → AreListed n t (λ b. numbers_of (accesses_byte b) (length xs - k) (drop (length xs - k) xs)) → AreListed n t (λ b. numbers_of (accesses_byte b) 0 xs)
+pub listed_end : (n : ℕ) (t : Links) (xs : List Step) (k : ℕ) → k ≡ length xs → AreListed n t (λ b. numbers_of (accesses_byte b) (length xs - k) (drop (length xs - k) xs))
+    → AreListed n t (λ b. numbers_of (accesses_byte b) 0 xs)
 listed_end n t xs k z a = let q : length xs - k ≡ 0 = omega (arith, z) in listed_same n t _ _ (λ b. ap (λ j. numbers_of (accesses_byte b) j (drop j xs)) q) a
 
 -- ---- a walk along links
@@ -266,7 +259,8 @@ none_first p h k [] = refl
 none_first p h k (y ∷ ys) = none_first p h (k + 1) ys ∙ sym (ap (λ b. cond b (Some k) (position_from p (k + 1) ys)) (h y))
 
 -- a byte more
-pub byte_first : {A : Type 0} (f : A → ℕ → Bool) (s k : ℕ) (ys : List A) → position_from (λ y. any_byte (f y) s (k + 1)) 0 ys ≡ lesser (position_from (λ y. any_byte (f y) s k) 0 ys) (position_from (λ y. f y (s + k)) 0 ys)
+pub byte_first : {A : Type 0} (f : A → ℕ → Bool) (s k : ℕ) (ys : List A)
+    → position_from (λ y. any_byte (f y) s (k + 1)) 0 ys ≡ lesser (position_from (λ y. any_byte (f y) s k) 0 ys) (position_from (λ y. f y (s + k)) 0 ys)
 byte_first {A} f s k ys =
     let e : k + 1 ≡ suc k = omega arith in
     ap (λ n. position_from (λ y. any_byte (f y) s n) 0 ys) e ∙ either_first (λ y. any_byte (f y) s k) (λ y. f y (s + k)) 0 ys
@@ -276,20 +270,24 @@ byte_first {A} f s k ys =
 numbers_found : (all : List (Timed Step)) (x : Timed Step) (b k : ℕ) (ys : List (Timed Step)) → ((i : ℕ) → slice_get all (k + i) ≡ slice_get ys i)
     → find (is_unordered_at all x) (numbers_of (accesses_byte b) k (did_of ys)) ≡ position_from (λ (y : Timed Step). accesses_byte b y.did && is_unordered x y) k ys
 numbers_found all x b k [] h = refl
-numbers_found all x b k (y ∷ ys) h = by (accesses_byte b y.did) (is_unordered x y) first (numbers_found all x b (k + 1) ys (λ i. let z : (k + 1) + i ≡ k + suc i = omega arith in ap (slice_get all) z ∙ h (suc i)))
+numbers_found all x b k (y ∷ ys) h = by (accesses_byte b y.did) (is_unordered x y) first
+    (numbers_found all x b (k + 1) ys (λ i. let z : (k + 1) + i ≡ k + suc i = omega arith in ap (slice_get all) z ∙ h (suc i)))
   where
     first : is_unordered_at all x k ≡ is_unordered x y
     first = let z : k ≡ k + 0 = omega arith in ap (is_unordered_with x) (ap (slice_get all) z ∙ h 0)
 
-    by : (a c : Bool) → is_unordered_at all x k ≡ c → find (is_unordered_at all x) (numbers_of (accesses_byte b) (k + 1) (did_of ys)) ≡ position_from (λ (y : Timed Step). accesses_byte b y.did && is_unordered x y) (k + 1) ys
-        → find (is_unordered_at all x) (if a then k ∷ numbers_of (accesses_byte b) (k + 1) (did_of ys) else numbers_of (accesses_byte b) (k + 1) (did_of ys)) ≡ cond (a && c) (Some k) (position_from (λ (y : Timed Step). accesses_byte b y.did && is_unordered x y) (k + 1) ys)
+    by : (a c : Bool) → is_unordered_at all x k ≡ c → find (is_unordered_at all x) (numbers_of (accesses_byte b) (k + 1) (did_of ys))
+        ≡ position_from (λ (y : Timed Step). accesses_byte b y.did && is_unordered x y) (k + 1) ys
+        → find (is_unordered_at all x) (if a then k ∷ numbers_of (accesses_byte b) (k + 1) (did_of ys) else numbers_of (accesses_byte b) (k + 1) (did_of ys))
+        ≡ cond (a && c) (Some k) (position_from (λ (y : Timed Step). accesses_byte b y.did && is_unordered x y) (k + 1) ys)
     by true true e ih = ap (λ d. cond d (Some k) (find (is_unordered_at all x) (numbers_of (accesses_byte b) (k + 1) (did_of ys)))) e
     by true false e ih = ap (λ d. cond d (Some k) (find (is_unordered_at all x) (numbers_of (accesses_byte b) (k + 1) (did_of ys)))) e ∙ ih
     by false c e ih = ih
 
 pub first_of_byte : (ys : List (Timed Step)) (xs : List Step) (x : Timed Step) (b : ℕ) → did_of ys ≡ xs
     → find (is_unordered_at ys x) (numbers_of (accesses_byte b) 0 xs) ≡ position_from (λ (y : Timed Step). accesses_byte b y.did && is_unordered x y) 0 ys
-first_of_byte ys xs x b e = ap (λ zs. find (is_unordered_at ys x) (numbers_of (accesses_byte b) 0 zs)) (sym e) ∙ numbers_found ys x b 0 ys (λ i. let z : 0 + i ≡ i = omega arith in ap (slice_get ys) z)
+first_of_byte ys xs x b e = ap (λ zs. find (is_unordered_at ys x) (numbers_of (accesses_byte b) 0 zs)) (sym e)
+    ∙ numbers_found ys x b 0 ys (λ i. let z : 0 + i ≡ i = omega arith in ap (slice_get ys) z)
 
 -- ---- a step that is unordered with x accesses one of its bytes
 
@@ -313,10 +311,12 @@ shares a (Some c) h =
     let z : r.start + (max r.start s.start - r.start) ≡ max r.start s.start = omega arith in (
       max r.start s.start - r.start,
       omega (arith, l),
-      ap (is_in s) z ∙ and_from (nat_le s.start (max r.start s.start)) (nat_lt (max r.start s.start) (s.start + s.bytes)) (le-leb s.start (max r.start s.start) (omega arith)) (lt-ltb (max r.start s.start) (s.start + s.bytes) m),
+      ap (is_in s) z ∙ and_from (nat_le s.start (max r.start s.start)) (nat_lt (max r.start s.start) (s.start + s.bytes)) (le-leb s.start (max r.start s.start) (omega arith))
+          (lt-ltb (max r.start s.start) (s.start + s.bytes) m),
     )
 
-pub any_is_whole : (x : Timed Step) (a : Access) → access_of x.did ≡ Some a → (y : Timed Step) → any_byte (λ b. accesses_byte b y.did && is_unordered x y) (range_of a).start a.bytes ≡ is_unordered x y
+pub any_is_whole : (x : Timed Step) (a : Access) → access_of x.did ≡ Some a → (y : Timed Step)
+    → any_byte (λ b. accesses_byte b y.did && is_unordered x y) (range_of a).start a.bytes ≡ is_unordered x y
 any_is_whole x a e y = by (is_unordered x y) refl
   where
     by : (c : Bool) → is_unordered x y ≡ c → any_byte (λ b. accesses_byte b y.did && c) (range_of a).start a.bytes ≡ c

@@ -41,10 +41,12 @@ tests_false true false c h = refl
 tests_false false b c h = refl
 
 module _ (xs : List Step) (ns : List Interval) (e : ns ≡ map interval_of (timed_by asked xs)) (id i : ℕ) (x : Step) (h : slice_get xs i ≡ Some x) where
-  pub racing_true : (is_access x.kind && (x.instr.0 == id)) ≡ true → is_some (partner_of (timed_by asked xs) (slice_get (timed_by asked xs) i)) ≡ is_racing_at (timed_by asked xs) id (slice_get (timed_by asked xs) i)
+  pub racing_true : (is_access x.kind && (x.instr.0 == id)) ≡ true → is_some (partner_of (timed_by asked xs) (slice_get (timed_by asked xs) i))
+      ≡ is_racing_at (timed_by asked xs) id (slice_get (timed_by asked xs) i)
   racing_true v =
       let at = timed_get asked xs ns i x (record { low = 0; high = 0 }) e h in
-      rw at (tests_true (is_access x.kind) (x.instr.0 == id) _ _ v (position_any (is_unordered (record { did = x; low = (get_or ns i (record { low = 0; high = 0 })).low; high = (get_or ns i (record { low = 0; high = 0 })).high })) 0 (timed_by asked xs)))
+      rw at (tests_true (is_access x.kind) (x.instr.0 == id) _ _ v
+      (position_any (is_unordered (record { did = x; low = (get_or ns i (record { low = 0; high = 0 })).low; high = (get_or ns i (record { low = 0; high = 0 })).high })) 0 (timed_by asked xs)))
 
   pub racing_false : (is_access x.kind && (x.instr.0 == id)) ≡ false → false ≡ is_racing_at (timed_by asked xs) id (slice_get (timed_by asked xs) i)
   racing_false v =

@@ -1,5 +1,6 @@
 -- The table of first racing steps, from the end of a trace on, and traces of one thread.
-use Rattle.std.proofs.Common.{◌≡◌, ℕ, ◌==◌, ◌+◌, ◌<◌, ◌≤◌, ◌⊎◌, Bool, true, false, cond, List, [], ◌∷◌, ◌++◌, length, map, take, drop, set, get_or, replicate, Option, Some, None, refl, sym, ap, ◌∙◌, subst, arith, zero, suc, inl, inr}
+use Rattle.std.proofs.Common.{◌≡◌, ℕ, ◌==◌, ◌+◌, ◌<◌, ◌≤◌, ◌⊎◌, Bool, true, false, cond, List, [], ◌∷◌, ◌++◌, length, map, take, drop, set, get_or}
+use Rattle.std.proofs.Common.{replicate, Option, Some, None, refl, sym, ap, ◌∙◌, subst, arith, zero, suc, inl, inr}
 use Rattle.std.specs.Prelude.{◌&&◌, ◌||◌, not, slice_get}
 use Rattle.std.specs.List.{AllByRecursion as AllOf, list_all, list_any, position_from}
 use Rattle.std.specs.Option.{option_to_list}
@@ -10,7 +11,7 @@ use Rattle.pg_plans.proofs.Times.{did_times}
 use Rattle.pg_trace.specs.declared.step.Step.{Step}
 use Rattle.pg_trace.specs.Steps.{access_of}
 use Rattle.pg_trace.specs.Races.{accesses_conflict, asked, conflict, instrs_in, is_access, is_racing, is_unordered, overlap, race_at, race_in, races_below, races_of, timed_by}
-use Rattle.pg_intervals.proofs.Walk.{drop_get}
+use Rattle.pg_plans.proofs.Walks.{drop_get}
 use Rattle.pg_plans.specs.Steps.{View}
 use Rattle.pg_intervals.specs.Intervals.{interval_of}
 use Rattle.pg_intervals.proofs.Positions.{timed_get, timed_length}
@@ -30,6 +31,13 @@ position_below test k (x ∷ xs) i h = go (test x) refl (position_below test (k 
     go : (b : Bool) → test x ≡ b → (position_from test (k + 1) xs ≡ Some i → i < (k + 1) + length xs) → i < k + length (x ∷ xs)
     go true w ih = let z = rw w at h in let q : k ≡ i = cc in omega (arith, q)
     go false w ih = let z = rw w at h in let l = ih z in omega (arith, l)
+
+-- the first racing step stands in the trace
+pub racing_within : (xs : List Step) (id i : ℕ) → position_from (is_racing (timed_by asked xs) id) 0 (timed_by asked xs) ≡ Some i → i < length xs
+racing_within xs id i h =
+    let l = timed_length asked xs in
+    let b = position_below (is_racing (timed_by asked xs) id) 0 (timed_by asked xs) i h in
+    omega (arith, l, b)
 
 -- ---- instructions
 
@@ -119,7 +127,8 @@ module _ (xs : List Step) (i : ℕ) (x : Step) (h : slice_get xs i ≡ Some x) w
       let m : b ≡ list_any (λ z. is_unordered z step_at) (take i ys) = same_some (sym g ∙ ap (λ l. slice_get l i) e ∙ p) in
       let n : d ≡ list_any (is_unordered step_at) (drop (i + 1) ys) = same_some (sym k ∙ ap (λ l. slice_get l i) f ∙ q) in
       ap (is_raced ys) at_step
-      ∙ ap (λ t. is_access x.kind && t) (sym (either_side ys (lows_below asked xs) i step_at at_step) ∙ sym (ap (λ t. t || d) m ∙ ap (λ t. list_any (λ z. is_unordered z step_at) (take i ys) || t) n))
+      ∙ ap (λ t. is_access x.kind && t) (sym (either_side ys (lows_below asked xs) i step_at at_step)
+      ∙ sym (ap (λ t. t || d) m ∙ ap (λ t. list_any (λ z. is_unordered z step_at) (take i ys) || t) n))
     where
       same_some : {a b : Bool} → Some a ≡ Some b → a ≡ b
       same_some e = cc
@@ -142,7 +151,8 @@ pub marks_before : (V : View Step) (xs : List Step) (bs : List Bool) → bs ≡ 
 marks_before V xs bs e = ap length e ∙ before_length [] (map forward (timed_by V xs)) ∙ length_map forward (timed_by V xs) ∙ timed_length V xs
 
 pub marks_behind : (V : View Step) (xs : List Step) (bs : List Bool) → bs ≡ behind_of (timed_by V xs) → length bs ≡ length xs
-marks_behind V xs bs e = ap length e ∙ behind_length (map (backward (length (timed_by V xs))) (timed_by V xs)) ∙ length_map (backward (length (timed_by V xs))) (timed_by V xs) ∙ timed_length V xs
+marks_behind V xs bs e = ap length e ∙ behind_length (map (backward (length (timed_by V xs))) (timed_by V xs)) ∙ length_map (backward (length (timed_by V xs))) (timed_by V xs)
+    ∙ timed_length V xs
 
 -- ---- tests of all steps
 
@@ -151,7 +161,8 @@ all_fails p [] i x h f = absurd (cc)
 all_fails p (y ∷ xs) zero x h f = let q : y ≡ x = cc in and_left (p y) (list_all p xs) (ap p q ∙ f)
 all_fails p (y ∷ xs) (suc i) x h f = and_right (p y) (list_all p xs) (all_fails p xs i x h f)
 
-pub all_more : {A : Type 0} (p : A → Bool) (xs : List A) (i : ℕ) (x : A) → list_all p (take i xs) ≡ true → slice_get xs i ≡ Some x → p x ≡ true → list_all p (take (i + 1) xs) ≡ true
+pub all_more : {A : Type 0} (p : A → Bool) (xs : List A) (i : ℕ) (x : A) → list_all p (take i xs) ≡ true → slice_get xs i ≡ Some x → p x ≡ true
+    → list_all p (take (i + 1) xs) ≡ true
 all_more p [] i x a h f = absurd (cc)
 all_more p (y ∷ xs) zero x a h f = let q : y ≡ x = cc in and_from (p y) true (ap p q ∙ f) refl
 all_more p (y ∷ xs) (suc i) x a h f =
@@ -175,7 +186,8 @@ module _ (t : ℕ) where
   no_other y [] e a = refl
   no_other y (z ∷ zs) e a =
       let q = eq-eqb y.did.thread.0 z.did.thread.0 (e ∙ sym a.0) in
-      let w : is_unordered y z ≡ false = and_left (conflict y.did z.did) (overlap y z) (and_left (not (y.did.thread.0 == z.did.thread.0)) (accesses_conflict (access_of y.did) (access_of z.did)) (not_from_true (y.did.thread.0 == z.did.thread.0) q)) in
+      let w : is_unordered y z ≡ false = and_left (conflict y.did z.did) (overlap y z)
+      (and_left (not (y.did.thread.0 == z.did.thread.0)) (accesses_conflict (access_of y.did) (access_of z.did)) (not_from_true (y.did.thread.0 == z.did.thread.0) q)) in
       ap (λ b. b || list_any (is_unordered y) zs) w ∙ no_other y zs e a.1
 
   no_first : (ys : List (Timed Step)) (id k : ℕ) (zs : List (Timed Step)) → AllOf IsOf ys → AllOf IsOf zs → position_from (is_racing ys id) k zs ≡ None

@@ -9,6 +9,8 @@ use Rattle.pg_trace.specs.declared.step.Step.{Step}
 use Rattle.pg_trace.specs.Steps.{access_of}
 use Rattle.pg_intervals.specs.declared.interval.Interval.{Interval}
 use Rattle.pg_tables.specs.declared.touch.Touch.{Touch}
+use Rattle.pg_race.specs.declared.touching.Pass.{Pass}
+use Rattle.pg_race.specs.declared.touching.Pass.TheVariants.{Forward, Backward}
 
 -- the bytes of an access, none where there is no access
 abbrev pub touch_with : ThreadNo → ℕ → ℕ → Option Access → Touch
@@ -26,6 +28,11 @@ forward x = touch_of x.did (x.high + 1) x.low
 -- greater than the next turn of that
 abbrev pub backward : ℕ → Timed Step → Touch
 backward n x = touch_of x.did (n + 1 - x.low) (n - x.high)
+
+-- for a pass either way
+abbrev pub touch_for : Pass → ℕ → Timed Step → Touch
+touch_for Forward n x = forward x
+touch_for Backward n x = backward n x
 
 -- steps beside intervals
 abbrev pub beside : List Step → List Interval → List (Timed Step)

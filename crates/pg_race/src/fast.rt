@@ -1,3 +1,5 @@
+//! The races of a trace, by tables of the accesses of each byte.
+
 ghost use Rattle.std.specs.Prelude.{◌≡◌, ◌<◌, ◌==◌, not, IfOk, None, get_or, length};
 ghost use Rattle.std.specs.List.{list_all};
 ghost use Rattle.pg_intervals.specs.Intervals.{intervals_of};
@@ -11,7 +13,7 @@ use crate::firsts::firsts;
 use crate::links::{Links, links_of};
 use crate::pairs::instrs_in;
 use crate::partners::race_linked;
-use crate::touching;
+use crate::touching::{Pass, touches};
 use pg_intervals::{Interval, Turns, intervals};
 use pg_ir::{InstrId, ThreadNo};
 use pg_tables::{answered_before, answered_behind};
@@ -79,9 +81,9 @@ fn first_steps(
     requires intervals { intervals.now ≡ intervals_of turns.Asked t.now.steps }
     ensures { IfOk result (λ v. (length v.items ≡ defs.instrs_in t.now.steps) × AreFirst (defs.timed_by defs.asked t.now.steps) 0 v.items) }
 {
-    let forward = touching::forward(alloc, t, intervals)?;
+    let forward = touches(alloc, t, intervals, Pass::Forward)?;
     let before = answered_before(alloc, forward.as_slice())?;
-    let backward = touching::backward(alloc, t, intervals)?;
+    let backward = touches(alloc, t, intervals, Pass::Backward)?;
     let behind = answered_behind(alloc, backward.as_slice())?;
     firsts(alloc, t, before.as_slice(), behind.as_slice())
 }

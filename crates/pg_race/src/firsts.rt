@@ -1,3 +1,5 @@
+//! The first racing step of each instruction.
+
 ghost use Rattle.std.specs.Prelude.{◌≡◌, ◌<◌, ◌+◌, IfOk, None, Some, length, replicate, slice_get};
 ghost use Rattle.pg_race.specs.Firsts.{AreFirst, before_of, behind_of, is_raced};
 ghost use Rattle.pg_trace.specs.Races as races;

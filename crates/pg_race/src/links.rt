@@ -1,3 +1,5 @@
+//! The steps that access a byte, one behind another.
+
 ghost use Rattle.std.specs.Prelude.{◌≡◌, ◌==◌, ◌<◌, ◌≤◌, ◌+◌, ◌-◌, ◌++◌, ◌∷◌, [], ℕ, List, IfOk, OnOk, Some, length, slice_get, if◌then◌else◌};
 ghost use Rattle.pg_num.specs.Places.{ByteRange};
 ghost use Rattle.pg_race.specs.Links.{AreListed, accesses_byte, head_at, numbers_of, with_step};

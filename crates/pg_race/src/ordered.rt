@@ -1,3 +1,5 @@
+//! Whether all that conflicts is ordered.
+
 ghost use Rattle.std.specs.Prelude.{◌≡◌, ◌<◌, IfOk, Some, length, slice_get};
 ghost use Rattle.pg_intervals.specs.Intervals.{intervals_of};
 ghost use Rattle.pg_intervals.specs.declared.interval.Turns.TheVariants as turns;
@@ -6,7 +8,7 @@ ghost use Rattle.pg_race.specs.Partners.{earlier_of};
 ghost use Rattle.pg_trace.specs.Races as races;
 
 use crate::firsts::mark_at;
-use crate::touching;
+use crate::touching::{Pass, touches};
 use pg_intervals::{Interval, Turns, intervals, is_unordered, timed};
 use pg_tables::answered_before;
 use pg_trace::Trace;
@@ -55,7 +57,7 @@ pub fn is_ordered(alloc: Global, t: &Trace) -> Result<Option<(usize, usize)>, Al
     ensures { IfOk result (λ p. p ≡ races.first_unordered t.now.steps) }
 {
     let intervals = intervals(alloc, t, Turns::Recorded)?;
-    let touches = touching::forward(alloc, t, intervals.as_slice())?;
+    let touches = touches(alloc, t, intervals.as_slice(), Pass::Forward)?;
     let before = answered_before(alloc, touches.as_slice())?;
     Ok(first_pair(t, intervals.as_slice(), before.as_slice()))
 }

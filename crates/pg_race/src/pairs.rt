@@ -1,3 +1,5 @@
+//! The races of a trace, pair by pair.
+
 ghost use Rattle.std.specs.Prelude.{◌≡◌, ◌<◌, ◌≤◌, ◌==◌, ◌&&◌, ℕ, IfOk, Some, length, max, slice_get};
 ghost use Rattle.std.specs.List.{position_from};
 ghost use Rattle.pg_intervals.specs.Intervals.{intervals_of};
@@ -61,6 +63,16 @@ fn first_racing(t: &Trace, intervals: &[Interval], id: InstrId) -> Option<usize>
     None
 }
 
+/// The race of an instruction's access at this step, by the step that it races with, if there is one.
+pub(crate) fn race_with(instr: InstrId, step: usize, with: Option<usize>) -> Option<Race>
+    ensures { result ≡ races.race_with instr.0 step with }
+{
+    match with {
+        Some(with) => Some(Race { instr, step, with }),
+        None => None,
+    }
+}
+
 /// The race of an instruction with this first racing load or store, if it has one.
 fn race_from(t: &Trace, intervals: &[Interval], id: InstrId, first: Option<usize>) -> Option<Race>
     requires intervals { intervals.now ≡ intervals_of turns.Asked t.now.steps }
@@ -68,14 +80,7 @@ fn race_from(t: &Trace, intervals: &[Interval], id: InstrId, first: Option<usize
     ensures { result ≡ races.race_in (races.timed_by races.asked t.now.steps) id.0 }
 {
     match first {
-        Some(step) => match partner(t, intervals, step) {
-            Some(with) => Some(Race {
-                instr: id,
-                step,
-                with,
-            }),
-            None => None,
-        },
+        Some(step) => race_with(id, step, partner(t, intervals, step)),
         None => None,
     }
 }

@@ -1,3 +1,5 @@
+//! The first step that races with a step.
+
 ghost use Rattle.std.specs.Prelude.{◌≡◌, ◌<◌, ◌≤◌, ◌&&◌, length, slice_get};
 ghost use Rattle.std.specs.List.{find, position_from};
 ghost use Rattle.pg_plans.specs.Intervals.{Timed};
@@ -12,6 +14,7 @@ ghost use Rattle.pg_trace.specs.Steps.{range_of};
 ghost use Rattle.pg_trace.specs.declared.step.Step.{Step as AStep};
 
 use crate::links::{Links, byte_of};
+use crate::pairs::race_with;
 use pg_intervals::{Interval, TimedStep, is_unordered, timed};
 use pg_ir::InstrId;
 use pg_trace::{Access, Race, Trace};
@@ -62,7 +65,8 @@ fn first_at(
 ) -> Option<usize>
     requires intervals { intervals.now ≡ intervals_of turns.Asked t.now.steps }
     requires links { AreListed (length t.now.steps) links.now (λ b. numbers_of (accesses_byte b) 0 t.now.steps) }
-    ensures { result ≡ position_from (λ (y : Timed AStep). any_byte (λ b. accesses_byte b y.did && races.is_unordered (timed_of x.now) y) (range_of access).start access.bytes) 0 (races.timed_by races.asked t.now.steps) }
+    ensures { result ≡ position_from (λ (y : Timed AStep). any_byte (λ b. accesses_byte b y.did && races.is_unordered (timed_of x.now) y) (range_of access).start access.bytes) 0
+        (races.timed_by races.asked t.now.steps) }
 {
     let mut first = None;
     for k in 0..access.bytes {
@@ -100,14 +104,7 @@ pub(crate) fn race_linked(
     ensures { result ≡ races.race_in (races.timed_by races.asked t.now.steps) id.0 }
 {
     match first {
-        Some(step) => match partner(t, intervals, links, step) {
-            Some(with) => Some(Race {
-                instr: id,
-                step,
-                with,
-            }),
-            None => None,
-        },
+        Some(step) => race_with(id, step, partner(t, intervals, links, step)),
         None => None,
     }
 }

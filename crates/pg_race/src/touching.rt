@@ -1,5 +1,7 @@
+//! Steps as touches of bytes.
+
 ghost use Rattle.std.specs.Prelude.{◌≡◌, ◌<◌, IfOk, Some, length, map, slice_get};
-ghost use Rattle.pg_race.specs.Touching.{AreWithin, backward, beside, forward, touch_of};
+ghost use Rattle.pg_race.specs.Touching.{AreWithin, IsWithin, beside, touch_for, touch_of};
 
 use pg_intervals::Interval;
 use pg_tables::Touch;
@@ -39,42 +41,42 @@ fn interval_at(intervals: &[Interval], i: usize) -> Interval
     intervals[i]
 }
 
-/// The steps as touches for a pass forward.
-pub(crate) fn forward(
-    alloc: Global,
-    t: &Trace,
-    intervals: &[Interval],
-) -> Result<Vec<Touch>, AllocError>
-    requires as_many { length intervals.now ≡ length t.now.steps }
-    requires within { AreWithin intervals.now }
-    ensures { IfOk result (λ v. v.items ≡ map forward (beside t.now.steps intervals.now)) }
-{
-    let mut touches = Vec::with_capacity(alloc, t.len())?;
-    for i in 0..t.len() {
-        let interval = interval_at(intervals, i);
-        let rank = interval.high as u64 + 1;
-        touches.push(touch_of(&t.step(i), rank, interval.low as u64))?;
-    }
-    Ok(touches)
+/// The way in which a pass goes over the steps.
+#[derive(Clone, Copy, Debug, PartialEq, Eq)]
+pub(crate) enum Pass {
+    Forward,
+    Backward,
 }
 
-/// The steps as touches for a pass backward.
-pub(crate) fn backward(
+/// The step with this interval, one of these, as a touch for a pass.
+fn touch_for(pass: Pass, intervals: &[Interval], step: &Step, interval: Interval) -> Touch
+    requires { IsWithin (length intervals.now) interval }
+    ensures { result ≡ touch_for pass (length intervals.now) (record { did = step.now; low = interval.low; high = interval.high }) }
+{
+    let bound = intervals.len() as u64;
+    let low = interval.low as u64;
+    let high = interval.high as u64;
+    match pass {
+        Pass::Forward => touch_of(step, high + 1, low),
+        Pass::Backward => touch_of(step, bound + 1 - low, bound - high),
+    }
+}
+
+/// The steps as touches for a pass.
+pub(crate) fn touches(
     alloc: Global,
     t: &Trace,
     intervals: &[Interval],
+    pass: Pass,
 ) -> Result<Vec<Touch>, AllocError>
     requires as_many { length intervals.now ≡ length t.now.steps }
     requires within { AreWithin intervals.now }
-    ensures { IfOk result (λ v. v.items ≡ map (backward (length intervals.now)) (beside t.now.steps intervals.now)) }
+    ensures { IfOk result (λ v. v.items ≡ map (touch_for pass (length intervals.now)) (beside t.now.steps intervals.now)) }
 {
-    let bound = intervals.len() as u64;
     let mut touches = Vec::with_capacity(alloc, t.len())?;
     for i in 0..t.len() {
         let interval = interval_at(intervals, i);
-        let rank = bound + 1 - interval.low as u64;
-        let need = bound - interval.high as u64;
-        touches.push(touch_of(&t.step(i), rank, need))?;
+        touches.push(touch_for(pass, intervals, &t.step(i), interval))?;
     }
     Ok(touches)
 }

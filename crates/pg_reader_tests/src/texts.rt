@@ -1,8 +1,8 @@
 //! Texts with their canonical texts, and the longest text. The program `pg_texts` has those that are refused.
 
-use pg_ast::print_module;
 use pg_num::limits::PROGRAM_TEXT_LIMIT;
 use pg_parse::parse;
+use pg_ast::print_module;
 use std::alloc::{AllocError, Global};
 use std::process::Abort;
 use std::test::Fail;

@@ -1,8 +1,8 @@
 //! The numbers of the types of a text, and how they lie in memory.
 
-use pg_ast::{TypeItem, TypeNode};
-use pg_parse::parse;
 use pg_types::{KnownTypes, TypeNumbers};
+use pg_parse::parse;
+use pg_ast::{TypeItem, TypeNode};
 use std::alloc::{AllocError, Global};
 use std::test::Fail;
 

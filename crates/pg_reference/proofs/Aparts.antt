@@ -76,15 +76,18 @@ any_with f (b ∷ us) (y ∷ xs) (suc i) a x c e g =
     rw q (any_with f us xs i a x (omega (arith, c)) e g)
 
 -- no access so far passes the test
-pub any_next : (f : FreeAccess → Bool) (us : List Rooted) (xs : List At) (i : ℕ) (a : Rooted) (x : At) (whole : Bool) → length xs ≡ length us → slice_get us i ≡ Some a → slice_get xs i ≡ Some x → f (access_at a x) ≡ false →
+pub any_next : (f : FreeAccess → Bool) (us : List Rooted) (xs : List At) (i : ℕ) (a : Rooted) (x : At) (whole : Bool) → length xs ≡ length us → slice_get us i ≡ Some a
+    → slice_get xs i ≡ Some x → f (access_at a x) ≡ false →
     whole ≡ list_any f (accesses_with (drop i us) (drop i xs)) → whole ≡ list_any f (accesses_with (drop (i + 1) us) (drop (i + 1) xs))
 any_next f us xs i a x whole c e g h w = w ∙ any_with f us xs i a x c e g ∙ ap (λ b. b || list_any f (accesses_with (drop (i + 1) us) (drop (i + 1) xs))) h
 
-pub any_now : (f : FreeAccess → Bool) (us : List Rooted) (xs : List At) (i : ℕ) (a : Rooted) (x : At) (whole : Bool) → length xs ≡ length us → slice_get us i ≡ Some a → slice_get xs i ≡ Some x → f (access_at a x) ≡ true →
+pub any_now : (f : FreeAccess → Bool) (us : List Rooted) (xs : List At) (i : ℕ) (a : Rooted) (x : At) (whole : Bool) → length xs ≡ length us → slice_get us i ≡ Some a
+    → slice_get xs i ≡ Some x → f (access_at a x) ≡ true →
     whole ≡ list_any f (accesses_with (drop i us) (drop i xs)) → true ≡ whole
 any_now f us xs i a x whole c e g h w = sym (w ∙ any_with f us xs i a x c e g ∙ ap (λ b. b || list_any f (accesses_with (drop (i + 1) us) (drop (i + 1) xs))) h)
 
-pub any_end : (f : FreeAccess → Bool) (us : List Rooted) (xs : List At) (i : ℕ) (whole : Bool) → length us ≤ i → whole ≡ list_any f (accesses_with (drop i us) (drop i xs)) → false ≡ whole
+pub any_end : (f : FreeAccess → Bool) (us : List Rooted) (xs : List At) (i : ℕ) (whole : Bool) → length us ≤ i → whole ≡ list_any f (accesses_with (drop i us) (drop i xs))
+    → false ≡ whole
 any_end f us xs i whole le w = sym (w ∙ ap (λ (l : List Rooted). list_any f (accesses_with l (drop i xs))) (drop_end us i le))
   where
     drop_end : (us : List Rooted) (i : ℕ) → length us ≤ i → drop i us ≡ []

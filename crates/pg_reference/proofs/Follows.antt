@@ -1,5 +1,6 @@
 -- Paths that are followed, load by load, and the accesses of a region, path by path.
-use Rattle.std.proofs.Common.{◌≡◌, ℕ, zero, suc, ◌+◌, ◌<◌, ◌≤◌, List, [], ◌∷◌, ◌++◌, length, take, drop, true, false, Option, Some, None, option_and_then, pos, refl, sym, ap, ◌∙◌, subst, arith}
+use Rattle.std.proofs.Common.{◌≡◌, ℕ, zero, suc, ◌+◌, ◌<◌, ◌≤◌, List, [], ◌∷◌, ◌++◌, length, take, drop, true, false, Option, Some, None, option_and_then}
+use Rattle.std.proofs.Common.{pos, refl, sym, ap, ◌∙◌, subst, arith}
 use Rattle.std.specs.Prelude.{slice_get, Ok, Err}
 use Rattle.std.proofs.Math.ListN.{set}
 use Rattle.std.proofs.lemmas.List.{length-append}
@@ -49,7 +50,8 @@ behind_none [] ks = refl
 behind_none (w ∷ ws) [] = refl
 behind_none (w ∷ ws) (k ∷ ks) = ap (behind w (cell_of w k)) (behind_none ws ks)
 
-behind_some : (ws ks : List ℕ) (last : ℕ) → length ws ≡ length ks → all_behind ws ks (Some (record { pointers = []; cells = []; last = last })) ≡ Some (record { pointers = ws; cells = cells_of ws ks; last = last })
+behind_some : (ws ks : List ℕ) (last : ℕ) → length ws ≡ length ks
+    → all_behind ws ks (Some (record { pointers = []; cells = []; last = last })) ≡ Some (record { pointers = ws; cells = cells_of ws ks; last = last })
 behind_some [] ks last e = refl
 behind_some (w ∷ ws) [] last e = absurd (omega (arith, e))
 behind_some (w ∷ ws) (k ∷ ks) last e = ap (behind w (cell_of w k)) (behind_some ws ks last (omega (arith, e)))
@@ -100,10 +102,12 @@ module _ (memory : ByteRange → ℕ) (first : ℕ) (ks : List ℕ) where
   pub led_first : (ws : List ℕ) → Led 0 ws first
   led_first ws = refl
 
-  load_rest : (word i k : ℕ) → slice_get ks i ≡ Some k → followed_from memory word (drop i ks) ≡ option_and_then (λ cell. behind word cell (followed_from memory (memory cell) (drop (i + 1) ks))) (cell_at word k)
+  load_rest : (word i k : ℕ) → slice_get ks i ≡ Some k → followed_from memory word (drop i ks)
+      ≡ option_and_then (λ cell. behind word cell (followed_from memory (memory cell) (drop (i + 1) ks))) (cell_at word k)
   load_rest word i k e = ap (followed_from memory word) (drop_get ks i k e)
 
-  pub led_next : (i : ℕ) (ws : List ℕ) (word k next : ℕ) → i < length ws → i < length ks → slice_get ks i ≡ Some k → IsLoaded memory word k (Some next) → Led i ws word → Led (i + 1) (set ws i word) next
+  pub led_next : (i : ℕ) (ws : List ℕ) (word k next : ℕ) → i < length ws → i < length ks → slice_get ks i ≡ Some k → IsLoaded memory word k (Some next) → Led i ws word
+      → Led (i + 1) (set ws i word) next
   led_next i ws word k next a b e h l =
       let rest = followed_from memory next (drop (i + 1) ks) in
       let one : followed_from memory word (drop i ks) ≡ behind word (cell_of word k) rest = load_rest word i k e
@@ -116,9 +120,11 @@ module _ (memory : ByteRange → ℕ) (first : ℕ) (ks : List ℕ) where
 
   pub led_none : (i : ℕ) (ws : List ℕ) (word k : ℕ) → slice_get ks i ≡ Some k → IsLoaded memory word k None → Led i ws word → followed_from memory first ks ≡ None
   led_none i ws word k e h l =
-      l ∙ ap (all_behind (take i ws) (take i ks)) (load_rest word i k e ∙ ap (option_and_then (λ cell. behind word cell (followed_from memory (memory cell) (drop (i + 1) ks)))) h) ∙ behind_none (take i ws) (take i ks)
+      l ∙ ap (all_behind (take i ws) (take i ks)) (load_rest word i k e ∙ ap (option_and_then (λ cell. behind word cell (followed_from memory (memory cell) (drop (i + 1) ks)))) h)
+      ∙ behind_none (take i ws) (take i ks)
 
-  pub led_end : (i : ℕ) (ws : List ℕ) (word : ℕ) → i ≡ length ks → i ≤ length ws → Led i ws word → followed_from memory first ks ≡ Some (along ks (record { pointers = ws; last = word }))
+  pub led_end : (i : ℕ) (ws : List ℕ) (word : ℕ) → i ≡ length ks → i ≤ length ws → Led i ws word
+      → followed_from memory first ks ≡ Some (along ks (record { pointers = ws; last = word }))
   led_end i ws word e a l =
       let same : length (take i ws) ≡ length ks = length_take ws i a ∙ e in
       l ∙ ap (λ (ms : List ℕ). all_behind (take i ws) ms (followed_from memory word (drop i ks))) (take_whole ks i (omega (arith, e)))
@@ -146,14 +152,17 @@ split_at [] (suc i) = refl
 split_at (a ∷ us) (suc i) = ap (λ (m : List Rooted). a ∷ m) (split_at us i)
 
 module _ (p : NumberedProgram) (s : State) (t : ℕ) where
-  given_last : (us : List Rooted) (a : Rooted) (xs : List At) (x : At) → length xs ≡ length us → accesses_in p s t us ≡ Some (accesses_with us xs) → followed_in p s t a.path ≡ Some (along (offsets_of a.path.loads) x) →
+  given_last : (us : List Rooted) (a : Rooted) (xs : List At) (x : At) → length xs ≡ length us → accesses_in p s t us ≡ Some (accesses_with us xs)
+      → followed_in p s t a.path ≡ Some (along (offsets_of a.path.loads) x) →
       accesses_in p s t (us ++ a ∷ []) ≡ Some (accesses_with (us ++ a ∷ []) (xs ++ x ∷ []))
   given_last [] a [] x c h f = ap (λ (o : Option Followed). one_access (free_access a) o (Some [])) f
   given_last [] a (y ∷ xs) x c h f = absurd (omega (arith, c))
   given_last (b ∷ us) a [] x c h f = absurd (omega (arith, c))
   given_last (b ∷ us) a (y ∷ xs) x c h f = go (λ q. given_last us a xs x (omega (arith, c)) q f) (followed_in p s t b.path) (accesses_in p s t us) refl refl h
     where
-      go : (accesses_in p s t us ≡ Some (accesses_with us xs) → accesses_in p s t (us ++ a ∷ []) ≡ Some (accesses_with (us ++ a ∷ []) (xs ++ x ∷ []))) → (o : Option Followed) (u : Option (List FreeAccess)) → followed_in p s t b.path ≡ o → accesses_in p s t us ≡ u → one_access (free_access b) o u ≡ Some (access_at b y ∷ accesses_with us xs) →
+      go : (accesses_in p s t us ≡ Some (accesses_with us xs) → accesses_in p s t (us ++ a ∷ []) ≡ Some (accesses_with (us ++ a ∷ []) (xs ++ x ∷ [])))
+          → (o : Option Followed) (u : Option (List FreeAccess)) → followed_in p s t b.path ≡ o → accesses_in p s t us ≡ u
+          → one_access (free_access b) o u ≡ Some (access_at b y ∷ accesses_with us xs) →
           one_access (free_access b) (followed_in p s t b.path) (accesses_in p s t (us ++ a ∷ [])) ≡ Some (access_at b y ∷ accesses_with (us ++ a ∷ []) (xs ++ x ∷ []))
       go more None u e q k = absurd (none_some k)
         where
@@ -188,7 +197,8 @@ module _ (p : NumberedProgram) (s : State) (t : ℕ) where
       some_none k = cc
   none_front (a ∷ us) bs h = go (λ q. none_front us bs q) (followed_in p s t a.path) (accesses_in p s t us) refl refl h
     where
-      go : (accesses_in p s t us ≡ None → accesses_in p s t (us ++ bs) ≡ None) → (o : Option Followed) (u : Option (List FreeAccess)) → followed_in p s t a.path ≡ o → accesses_in p s t us ≡ u → one_access (free_access a) o u ≡ None → one_access (free_access a) (followed_in p s t a.path) (accesses_in p s t (us ++ bs)) ≡ None
+      go : (accesses_in p s t us ≡ None → accesses_in p s t (us ++ bs) ≡ None) → (o : Option Followed) (u : Option (List FreeAccess)) → followed_in p s t a.path ≡ o
+          → accesses_in p s t us ≡ u → one_access (free_access a) o u ≡ None → one_access (free_access a) (followed_in p s t a.path) (accesses_in p s t (us ++ bs)) ≡ None
       go more None u e q k = ap (λ (o : Option Followed). one_access (free_access a) o (accesses_in p s t (us ++ bs))) e
       go more (Some g) None e q k = ap (one_access (free_access a) (followed_in p s t a.path)) (more q) ∙ ap (λ (o : Option Followed). one_access (free_access a) o None) e
       go more (Some g) (Some vs) e q k = absurd (some_none k)
@@ -219,7 +229,8 @@ module _ (p : NumberedProgram) (s : State) (t : ℕ) where
   assoc [] ys zs = refl
   assoc (x ∷ xs) ys zs = ap (λ (m : List At). x ∷ m) (assoc xs ys zs)
 
-  pub followed_next : (us : List Rooted) (i : ℕ) (a : Rooted) (old cur new : List At) (x : At) → slice_get us i ≡ Some a → followed_in p s t a.path ≡ Some (along (offsets_of a.path.loads) x) → new ≡ cur ++ x ∷ [] → FollowedTo us i old cur → FollowedTo us (i + 1) old new
+  pub followed_next : (us : List Rooted) (i : ℕ) (a : Rooted) (old cur new : List At) (x : At) → slice_get us i ≡ Some a
+      → followed_in p s t a.path ≡ Some (along (offsets_of a.path.loads) x) → new ≡ cur ++ x ∷ [] → FollowedTo us i old cur → FollowedTo us (i + 1) old new
   followed_next us i a old cur new x e f n h = (
     h.0 ++ x ∷ [],
     record {
@@ -229,12 +240,14 @@ module _ (p : NumberedProgram) (s : State) (t : ℕ) where
     },
   )
 
-  pub followed_none : (us : List Rooted) (i : ℕ) (a : Rooted) (old cur : List At) → slice_get us i ≡ Some a → followed_in p s t a.path ≡ None → FollowedTo us i old cur → Adds p s t us old false cur
+  pub followed_none : (us : List Rooted) (i : ℕ) (a : Rooted) (old cur : List At) → slice_get us i ≡ Some a → followed_in p s t a.path ≡ None → FollowedTo us i old cur
+      → Adds p s t us old false cur
   followed_none us i a old cur e f h = (
     h.0,
     record {
       behind = h.1.behind;
-      none = ap (accesses_in p s t) (split_at us (i + 1) ∙ ap (λ (bs : List Rooted). bs ++ drop (i + 1) us) (take_accesses us i a e)) ∙ none_front (take i us ++ a ∷ []) (drop (i + 1) us) (none_last (take i us) a f);
+      none = ap (accesses_in p s t) (split_at us (i + 1) ∙ ap (λ (bs : List Rooted). bs ++ drop (i + 1) us) (take_accesses us i a e))
+          ∙ none_front (take i us ++ a ∷ []) (drop (i + 1) us) (none_last (take i us) a f);
     },
   )
 

@@ -1,5 +1,6 @@
 -- What makes a step freeable, as it is added.
-use Rattle.std.proofs.Common.{inl, inr, ◌⊎◌, ◌≡◌, ℕ, suc, ◌+◌, ◌<◌, ◌≤◌, List, [], ◌∷◌, ◌++◌, length, drop, take, Bool, true, false, Option, Some, None, option_map, refl, sym, ap, ◌∙◌, subst, arith}
+use Rattle.std.proofs.Common.{inl, inr, ◌⊎◌, ◌≡◌, ℕ, suc, ◌+◌, ◌<◌, ◌≤◌, List, [], ◌∷◌, ◌++◌, length, drop, take, Bool, true, false, Option, Some, None}
+use Rattle.std.proofs.Common.{option_map, refl, sym, ap, ◌∙◌, subst, arith}
 use Rattle.std.specs.Prelude.{not, slice_get, if◌then◌else◌}
 use Rattle.std.specs.List.{list_any}
 use Rattle.std.proofs.lemmas.Bool.{cases_eq}
@@ -30,7 +31,8 @@ module _ (p : NumberedProgram) (s : State) (t : ℕ) (us : List Rooted) (old : L
   added_count false new added first e f a h = absurd cc
 
   -- the paths were followed, and a store meets what is loaded or none does
-  pub tried : (b stored : Bool) (new added : List At) (first : ℕ) → b ≡ true → first ≡ length old → added ≡ drop first new → Adds p s t us old b new → stored ≡ list_any (stores_on (accesses_with us added)) (accesses_with us added) → TriesApart p s t us old (not stored) new
+  pub tried : (b stored : Bool) (new added : List At) (first : ℕ) → b ≡ true → first ≡ length old → added ≡ drop first new → Adds p s t us old b new
+      → stored ≡ list_any (stores_on (accesses_with us added)) (accesses_with us added) → TriesApart p s t us old (not stored) new
   tried false stored new added first e f a h q = absurd cc
   tried true stored new added first e f a h q = go stored (q ∙ ap (λ (xs : List At). list_any (stores_on (accesses_with us xs)) (accesses_with us xs)) (a ∙ added_is new h.0 first f h.1.behind))
     where
@@ -53,14 +55,16 @@ module _ (p : NumberedProgram) (s : State) (t : ℕ) (us : List Rooted) (old : L
   apart_added true new e h = h
   apart_added false new e h = absurd cc
 
-  pub apart_cut : (b : Bool) (new rest : List At) (first : ℕ) → b ≡ false → first ≡ length old → rest ≡ take first new → TriesApart p s t us old b new → AddsApart p s t us old false rest
+  pub apart_cut : (b : Bool) (new rest : List At) (first : ℕ) → b ≡ false → first ≡ length old → rest ≡ take first new → TriesApart p s t us old b new
+      → AddsApart p s t us old false rest
   apart_cut true new rest first e f r h = absurd cc
   apart_cut false new rest first e f r h = (r ∙ ap (λ (k : ℕ). take k new) f ∙ ap (take (length old)) h.1.behind ∙ take_front old h.0, h.1.none)
 
 -- ---- a free step
 
 -- one more leads to the same
-pub alike_next : (xs ys : List At) (k : ℕ) → ((j : ℕ) → j < k → slice_get xs j ≡ slice_get ys j) → slice_get xs k ≡ slice_get ys k → (j : ℕ) → j < k + 1 → slice_get xs j ≡ slice_get ys j
+pub alike_next : (xs ys : List At) (k : ℕ) → ((j : ℕ) → j < k → slice_get xs j ≡ slice_get ys j) → slice_get xs k ≡ slice_get ys k → (j : ℕ) → j < k + 1
+    → slice_get xs j ≡ slice_get ys j
 alike_next xs ys k h e j lt = go (cases_eq j k)
   where
     go : (j ≡ k) ⊎ (j ≡ k → ⊥) → slice_get xs j ≡ slice_get ys j
@@ -93,9 +97,18 @@ module _ (p : NumberedProgram) (s : State) (t : ℕ) (regions : List FoundRegion
 
     pub freed_none : (b : Bool) (new : List At) → b ≡ false → AddsApart p s t us old b new → (xs : List At) × IsFreed (freed p s t (slice_get regions n)) regions old new xs None
     freed_none true new e h = absurd cc
-    freed_none false new e h = ([], record { behind = h.0 ∙ sym (append_none old); fits = tt; given = sym (ap (freed p s t) at ∙ ap (λ (o : Option (List FreeAccess)). option_map (region_with r) (apart o)) (sym same_accesses) ∙ ap (option_map (region_with r)) h.1) })
+    freed_none false new e h = (
+      [],
+      record {
+        behind = h.0 ∙ sym (append_none old);
+        fits = tt;
+        given = sym
+            (ap (freed p s t) at ∙ ap (λ (o : Option (List FreeAccess)). option_map (region_with r) (apart o)) (sym same_accesses) ∙ ap (option_map (region_with r)) h.1);
+      },
+    )
 
-    pub freed_some : (b : Bool) (new : List At) (first : ℕ) → b ≡ true → first ≡ length old → AddsApart p s t us old b new → (xs : List At) × IsFreed (freed p s t (slice_get regions n)) regions old new xs (Some (record { region = n; first = first }))
+    pub freed_some : (b : Bool) (new : List At) (first : ℕ) → b ≡ true → first ≡ length old → AddsApart p s t us old b new
+        → (xs : List At) × IsFreed (freed p s t (slice_get regions n)) regions old new xs (Some (record { region = n; first = first }))
     freed_some false new first e f h = absurd cc
     freed_some true new first e f h = (
       h.0,
@@ -111,7 +124,9 @@ module _ (p : NumberedProgram) (s : State) (t : ℕ) (regions : List FoundRegion
     )
 
     -- those that are there already are taken in their place
-    pub freed_shared : (cur new : List At) (first result : ℕ) → first ≡ length old → (xs : List At) × IsFreed (freed p s t (slice_get regions n)) regions old cur xs (Some (record { region = n; first = first })) → IsShared cur first (length r.accesses.items) result new →
+    pub freed_shared : (cur new : List At) (first result : ℕ) → first ≡ length old
+        → (xs : List At) × IsFreed (freed p s t (slice_get regions n)) regions old cur xs (Some (record { region = n; first = first }))
+        → IsShared cur first (length r.accesses.items) result new →
         (xs : List At) × IsFreed (freed p s t (slice_get regions n)) regions old new xs (Some (record { region = n; first = result }))
     freed_shared cur new first result e h (inl q) =
         subst (λ (k : ℕ). (xs : List At) × IsFreed (freed p s t (slice_get regions n)) regions old new xs (Some (record { region = n; first = k }))) (sym q.0)
@@ -122,7 +137,8 @@ module _ (p : NumberedProgram) (s : State) (t : ℕ) (regions : List FoundRegion
         let room : result + length us ≤ length old = omega (arith, q.within, e) in
         let below : result ≤ length old = omega (arith, room) in
         let early : accesses_with us (drop result cur) ≡ accesses_with us (drop result old) =
-        ap (λ (l : List At). accesses_with us (drop result l)) h.1.behind ∙ ap (accesses_with us) (drop_front old h.0 result below) ∙ with_front us (drop result old) h.0 (omega (arith, room, length_drop old result below)) in (
+        ap (λ (l : List At). accesses_with us (drop result l)) h.1.behind ∙ ap (accesses_with us) (drop_front old h.0 result below)
+        ∙ with_front us (drop result old) h.0 (omega (arith, room, length_drop old result below)) in (
           [],
           record {
             behind = same ∙ sym (append_none old);
@@ -138,6 +154,7 @@ module _ (p : NumberedProgram) (s : State) (t : ℕ) (regions : List FoundRegion
 
 -- ---- the function of a step
 
-pub function_at : (p : NumberedProgram) (i : ℕ) (x : Instr) (b : Block) → slice_get p.instrs i ≡ Some x → slice_get p.blocks x.block.0 ≡ Some b → b.function ≡ function_of p (block_of p i)
+pub function_at : (p : NumberedProgram) (i : ℕ) (x : Instr) (b : Block) → slice_get p.instrs i ≡ Some x → slice_get p.blocks x.block.0 ≡ Some b
+    → b.function ≡ function_of p (block_of p i)
 unfolding function_of
 function_at p i x b e f = sym (ap function_in (ap (slice_get p.blocks) (ap block_in e) ∙ f))

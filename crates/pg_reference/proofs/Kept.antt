@@ -30,8 +30,10 @@ function_is p s x n =
     let calls : frames_of s x.thread.0 ≡ n.top ∷ n.below = ap frames_in n.is_local ∙ n.is_calls in
     ap (function_of p) block ∙ n.in_function ∙ sym (ap function_in calls)
 
-pub row_is : (p : NumberedProgram) (s : State) (x : Step) (targets : List (Option ℕ)) (free : Option FreeRegion) (regions : List FoundRegion) (old new xs : List At) (r : Row) → IsPresent p s x → AreTargets p targets s → r.depth ≡ depth_of s x.thread.0 → r.function ≡ function_of p (block_of p x.instr.0) →
-    r.edge ≡ edge_of p (moment_in s x) x.kind → r.target ≡ target_in targets x.thread.0 (depth_of s x.thread.0) → IsFreed free regions old new xs r.free → landmark_in new regions r ≡ landmark_with p free s x
+pub row_is : (p : NumberedProgram) (s : State) (x : Step) (targets : List (Option ℕ)) (free : Option FreeRegion) (regions : List FoundRegion) (old new xs : List At) (r : Row)
+    → IsPresent p s x → AreTargets p targets s → r.depth ≡ depth_of s x.thread.0 → r.function ≡ function_of p (block_of p x.instr.0) →
+    r.edge ≡ edge_of p (moment_in s x) x.kind → r.target ≡ target_in targets x.thread.0 (depth_of s x.thread.0) → IsFreed free regions old new xs r.free
+    → landmark_in new regions r ≡ landmark_with p free s x
 row_is p s x targets free regions old new xs r n h d f e t k =
     rw (d, f ∙ function_is p s x n, e, t ∙ target_is p targets s x.thread.0 h, k.given) refl
 
@@ -44,10 +46,12 @@ drop_step (y ∷ xs) zero x e = let q : y ≡ x = cc in ap (λ (z : Step). z ∷
 drop_step (y ∷ xs) (suc i) x e = let q : suc i + 1 ≡ suc (i + 1) = omega arith in rw q (drop_step xs i x e)
 
 -- the first of the steps that are left
-pub takes_next : (gated : List InstrId) (p : NumberedProgram) (input : List ℤ) (s z : State) (xs : List Step) (i : ℕ) (x : Step) → slice_get xs i ≡ Some x → IsRun gated p input s (drop i xs) z → (k : Takes gated p input s x) × IsRun gated p input k.after (drop (i + 1) xs) z
+pub takes_next : (gated : List InstrId) (p : NumberedProgram) (input : List ℤ) (s z : State) (xs : List Step) (i : ℕ) (x : Step) → slice_get xs i ≡ Some x
+    → IsRun gated p input s (drop i xs) z → (k : Takes gated p input s x) × IsRun gated p input k.after (drop (i + 1) xs) z
 takes_next gated p input s z xs i x e h = subst (λ (l : List Step). IsRun gated p input s l z) (drop_step xs i x e) h
 
-told_next : (tell : State → Step → Landmark) (gated : List InstrId) (p : NumberedProgram) (input : List ℤ) (s z : State) (xs : List Step) (i : ℕ) (x : Step) → slice_get xs i ≡ Some x → step gated p input s x.thread.0 ≡ Did x z → told_along tell gated p input s (drop i xs) ≡ tell s x ∷ told_along tell gated p input z (drop (i + 1) xs)
+told_next : (tell : State → Step → Landmark) (gated : List InstrId) (p : NumberedProgram) (input : List ℤ) (s z : State) (xs : List Step) (i : ℕ) (x : Step) → slice_get xs i ≡ Some x
+    → step gated p input s x.thread.0 ≡ Did x z → told_along tell gated p input s (drop i xs) ≡ tell s x ∷ told_along tell gated p input z (drop (i + 1) xs)
 unfolding told_along
 told_next tell gated p input s z xs i x e d =
     ap (told_along tell gated p input s) (drop_step xs i x e)
@@ -57,8 +61,10 @@ seam : (ls : List Landmark) (l : Landmark) (rest : List Landmark) → (ls ++ l �
 seam [] l rest = refl
 seam (m ∷ ls) l rest = ap (λ k. m ∷ k) (seam ls l rest)
 
-pub rows_next : (tell : State → Step → Landmark) (gated : List InstrId) (p : NumberedProgram) (input : List ℤ) (s z : State) (xs : List Step) (i : ℕ) (x : Step) (regions : List FoundRegion) (old new added : List At) (rs : List Row) (r : Row) (whole : List Landmark) → slice_get xs i ≡ Some x → step gated p input s x.thread.0 ≡ Did x z →
-    AllByRecursion (FitsRow old regions) rs → new ≡ old ++ added → landmark_in new regions r ≡ tell s x → map (landmark_in old regions) rs ++ told_along tell gated p input s (drop i xs) ≡ whole →
+pub rows_next : (tell : State → Step → Landmark) (gated : List InstrId) (p : NumberedProgram) (input : List ℤ) (s z : State) (xs : List Step) (i : ℕ) (x : Step)
+    (regions : List FoundRegion) (old new added : List At) (rs : List Row) (r : Row) (whole : List Landmark) → slice_get xs i ≡ Some x → step gated p input s x.thread.0 ≡ Did x z →
+    AllByRecursion (FitsRow old regions) rs → new ≡ old ++ added → landmark_in new regions r ≡ tell s x
+    → map (landmark_in old regions) rs ++ told_along tell gated p input s (drop i xs) ≡ whole →
     map (landmark_in new regions) (rs ++ r ∷ []) ++ told_along tell gated p input z (drop (i + 1) xs) ≡ whole
 rows_next tell gated p input s z xs i x regions old new added rs r whole e d fits n l w =
     let rest = told_along tell gated p input z (drop (i + 1) xs) in
@@ -70,7 +76,8 @@ rows_next tell gated p input s z xs i x regions old new added rs r whole e d fit
     ∙ ap (λ (k : List Landmark). map (landmark_in old regions) rs ++ k) (sym (told_next tell gated p input s z xs i x e d))
     ∙ w
 
-pub fits_next : (regions : List FoundRegion) (old new added : List At) (rs : List Row) (r : Row) → AllByRecursion (FitsRow old regions) rs → new ≡ old ++ added → FitsRow new regions r → AllByRecursion (FitsRow new regions) (rs ++ r ∷ [])
+pub fits_next : (regions : List FoundRegion) (old new added : List At) (rs : List Row) (r : Row) → AllByRecursion (FitsRow old regions) rs → new ≡ old ++ added → FitsRow new regions r
+    → AllByRecursion (FitsRow new regions) (rs ++ r ∷ [])
 fits_next regions old new added rs r fits n f = fits_last new regions rs r (subst (λ (ats : List At). AllByRecursion (FitsRow ats regions) rs) (sym n) (fits_more old added regions rs fits)) f
 
 drop_end : (xs : List Step) (i : ℕ) → length xs ≤ i → drop i xs ≡ []
@@ -84,7 +91,8 @@ append_none [] = refl
 append_none (l ∷ ls) = ap (λ k. l ∷ k) (append_none ls)
 
 -- behind the last step
-pub rows_whole : (tell : State → Step → Landmark) (gated : List InstrId) (p : NumberedProgram) (input : List ℤ) (s : State) (xs : List Step) (i : ℕ) (ls whole : List Landmark) → length xs ≤ i → ls ++ told_along tell gated p input s (drop i xs) ≡ whole → ls ≡ whole
+pub rows_whole : (tell : State → Step → Landmark) (gated : List InstrId) (p : NumberedProgram) (input : List ℤ) (s : State) (xs : List Step) (i : ℕ) (ls whole : List Landmark)
+    → length xs ≤ i → ls ++ told_along tell gated p input s (drop i xs) ≡ whole → ls ≡ whole
 unfolding told_along
 rows_whole tell gated p input s xs i ls whole le e =
     sym (append_none ls) ∙ ap (λ (k : List Landmark). ls ++ k) (ap (told_along tell gated p input s) (sym (drop_end xs i le))) ∙ e

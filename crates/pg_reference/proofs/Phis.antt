@@ -3,13 +3,13 @@ use Rattle.std.proofs.Common.{◌≡◌, ℕ, zero, suc, ◌+◌, ◌-◌, ◌<�
 use Rattle.std.specs.Prelude.{IfSome, slice_get, take_while}
 use Rattle.std.specs.List.{list_any, prefix_len}
 use Rattle.pg_num.specs.declared.limits.TheConstants.{FUNCTION_REGISTER_LIMIT}
-use Rattle.pg_ir.specs.declared.function.Function.{Function}
 use Rattle.pg_ir.specs.declared.instr.Instr.{Instr}
-use Rattle.pg_ir.specs.Program.{NumberedProgram, end_of, first_of, function_of, types_in, types_of}
+use Rattle.pg_ir.specs.Program.{NumberedProgram, end_of, first_of, function_of, types_of}
 use Rattle.pg_ir.specs.Edges.{instrs_of, is_phi, phis_of}
 use Rattle.pg_ir.specs.WellFormed.{IsProgram}
 use Rattle.pg_paths.specs.Registers.{is_register}
 use Rattle.pg_reference.specs.OfRegions.{phis_set}
+use Rattle.pg_step.proofs.Rooms.{few_registers}
 
 get_past : (xs : List Instr) (n k : ℕ) (x : Instr) → slice_get (take n xs) k ≡ Some x → slice_get xs k ≡ Some x
 get_past xs zero k x e = absurd (nothing k e)
@@ -39,14 +39,6 @@ unfolding phis_of instrs_of
 phi_at p b k x e =
     (first_of p b + k, get_rest p.instrs (first_of p b) k x (get_past (drop (first_of p b) p.instrs) (end_of p b - first_of p b) k x (get_while (λ (y : Instr). is_phi y.op) (instrs_of p b) k x e)))
 
-few_in : (p : NumberedProgram) (f : ℕ) (o : Option Function) → IsProgram p → slice_get p.functions f ≡ o → length (types_in o) ≤ FUNCTION_REGISTER_LIMIT
-few_in p f None program e = omega arith
-few_in p f (Some x) program e = (program.functions f x e).few
-
-few_registers : (p : NumberedProgram) (f : ℕ) → IsProgram p → length (types_of p f) ≤ FUNCTION_REGISTER_LIMIT
-unfolding types_of
-few_registers p f program = few_in p f (slice_get p.functions f) program refl
-
 small : (n m : ℕ) (o : Option ℕ) → n ≤ m → IfSome o (λ r. r < n) → IfSome o (λ r. r < m)
 small n m None le h = h
 small n m (Some r) le h = omega (arith, h, le)
@@ -63,5 +55,6 @@ take_whole (x ∷ xs) zero h = absurd (omega (arith, h))
 take_whole (x ∷ xs) (suc k) h = ap (λ (l : List Instr). x ∷ l) (take_whole xs k (omega (arith, h)))
 
 -- all phis were passed
-pub phis_whole : (p : NumberedProgram) (b k r : ℕ) (xs : List Instr) → xs ≡ phis_of p b → length xs ≤ k → list_any (λ (y : Instr). is_register y.result r) (take k (phis_of p b)) ≡ phis_set p b r
+pub phis_whole : (p : NumberedProgram) (b k r : ℕ) (xs : List Instr) → xs ≡ phis_of p b → length xs ≤ k
+    → list_any (λ (y : Instr). is_register y.result r) (take k (phis_of p b)) ≡ phis_set p b r
 phis_whole p b k r xs e le = ap (λ (l : List Instr). list_any (λ (y : Instr). is_register y.result r) l) (take_whole (phis_of p b) k (omega (arith, le, ap length e)))

@@ -33,7 +33,8 @@ pub record IsPresent (p : NumberedProgram) (s : State) (x : Step) : Type 0 where
   pub in_function : function_of p instr.block.0 ≡ top.function
 
 -- a step that was done had an action that can be done
-can_by : (gated : List InstrId) (p : NumberedProgram) (input : List ℤ) (s z : State) (t : ℕ) (x : Step) (act : Action) → settled gated p s t (taken p s t (answered p input s t act)) ≡ Did x z → may_act s t act ≡ true → CanStep act
+can_by : (gated : List InstrId) (p : NumberedProgram) (input : List ℤ) (s z : State) (t : ℕ) (x : Step) (act : Action)
+    → settled gated p s t (taken p s t (answered p input s t act)) ≡ Did x z → may_act s t act ≡ true → CanStep act
 unfolding answered
 can_by gated p input s z t x actions.Local e h = tt
 can_by gated p input s z t x (actions.In i) e h = tt
@@ -44,7 +45,8 @@ can_by gated p input s z t x (actions.Event r) e h = tt
 can_by gated p input s z t x (actions.Trap name) e h = absurd cc
 can_by gated p input s z t x actions.Ended e h = absurd cc
 
-pub did_can : (gated : List InstrId) (p : NumberedProgram) (input : List ℤ) (s z : State) (t : ℕ) (x : Step) → ready p s t ≡ true → step gated p input s t ≡ Did x z → CanStep (next_of p s t)
+pub did_can : (gated : List InstrId) (p : NumberedProgram) (input : List ℤ) (s z : State) (t : ℕ) (x : Step) → ready p s t ≡ true → step gated p input s t ≡ Did x z
+    → CanStep (next_of p s t)
 unfolding step
 did_can gated p input s z t x r e = can_by gated p input s z t x (next_of p s t) e (ready_acts p s t r)
 

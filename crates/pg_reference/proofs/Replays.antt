@@ -27,7 +27,8 @@ use Rattle.pg_reference.proofs.Present.{present}
 use Rattle.pg_reference.proofs.Steps.{state_in}
 
 -- the machine m has taken the first i steps of the trace, from the machine `first` on, and these rows are kept of them
-pub record Replayed (tell : State → Step → Landmark) (p : NumberedProgram) (regions : List FoundRegion) (first : BoundState) (xs : List Step) (i : ℕ) (m : BoundState) (rows : List Row) (ats : List At) : Type 0 where
+pub record Replayed (tell : State → Step → Landmark) (p : NumberedProgram) (regions : List FoundRegion) (first : BoundState) (xs : List Step) (i : ℕ) (m : BoundState) (rows : List Row)
+    (ats : List At) : Type 0 where
   pub gated : m.gated ≡ first.gated
   pub input : m.input ≡ first.input
   pub run : (z : State) × IsRun first.gated p first.input m.state (drop i xs) z
@@ -52,10 +53,12 @@ module _ (tell : State → Step → Landmark) (p : NumberedProgram) (regions : L
     pub takes_of : Takes m.gated p m.input m.state x
     takes_of = subst (λ (g : List InstrId). Takes g p m.input m.state x) (sym h.gated) (subst (λ (n : List ℤ). Takes first.gated p n m.state x) (sym h.input) taken.0)
 
-    pub replayed_next : (n : BoundState) (new added : List At) (r : Row) (more : List Row) → step m.gated p m.input m.state x.thread.0 ≡ steps.Did x n.state → n.gated ≡ m.gated → n.input ≡ m.input → new ≡ ats ++ added → landmark_in new regions r ≡ tell m.state x → FitsRow new regions r → more ≡ rows ++ r ∷ [] →
+    pub replayed_next : (n : BoundState) (new added : List At) (r : Row) (more : List Row) → step m.gated p m.input m.state x.thread.0 ≡ steps.Did x n.state → n.gated ≡ m.gated
+        → n.input ≡ m.input → new ≡ ats ++ added → landmark_in new regions r ≡ tell m.state x → FitsRow new regions r → more ≡ rows ++ r ∷ [] →
         Replayed tell p regions first xs (i + 1) n more new
     replayed_next n new added r more d g j e l f q =
-        let did : step first.gated p first.input m.state x.thread.0 ≡ steps.Did x n.state = ap (λ (v : List InstrId). step v p first.input m.state x.thread.0) (sym h.gated) ∙ ap (λ (v : List ℤ). step m.gated p v m.state x.thread.0) (sym h.input) ∙ d in
+        let did : step first.gated p first.input m.state x.thread.0 ≡ steps.Did x n.state =
+        ap (λ (v : List InstrId). step v p first.input m.state x.thread.0) (sym h.gated) ∙ ap (λ (v : List ℤ). step m.gated p v m.state x.thread.0) (sym h.input) ∙ d in
         let same : taken.0.after ≡ n.state = ap (λ (o : steps.Stepped). state_in o m.state) (sym taken.0.is_step ∙ did) in
         record {
           gated = g ∙ h.gated;
@@ -66,10 +69,13 @@ module _ (tell : State → Step → Landmark) (p : NumberedProgram) (regions : L
               ∙ rows_next tell first.gated p first.input m.state n.state xs i x regions ats new added rows r (told_along tell first.gated p first.input first.state xs) at did h.fits e l h.told;
         }
 
-  pub replayed_all : (i : ℕ) (m : BoundState) (rows : List Row) (ats : List At) → length xs ≤ i → Replayed tell p regions first xs i m rows ats → map (landmark_in ats regions) rows ≡ told_along tell first.gated p first.input first.state xs
+  pub replayed_all : (i : ℕ) (m : BoundState) (rows : List Row) (ats : List At) → length xs ≤ i → Replayed tell p regions first xs i m rows ats
+      → map (landmark_in ats regions) rows ≡ told_along tell first.gated p first.input first.state xs
   replayed_all i m rows ats le h = rows_whole tell first.gated p first.input m.state xs i (map (landmark_in ats regions) rows) (told_along tell first.gated p first.input first.state xs) le h.told
 
 -- a row as it is kept is the landmark of its step
-pub row_told : (gated : List InstrId) (p : NumberedProgram) (input : List ℤ) (s : State) (x : Step) (targets : List (Option ℕ)) (free : Option FreeRegion) (regions : List FoundRegion) (old new xs : List At) (r : Row) → IsMachine p s → Takes gated p input s x → AreTargets p targets s → r.depth ≡ depth_of s x.thread.0 →
-    r.function ≡ function_of p (block_of p x.instr.0) → r.edge ≡ edge_of p (moment_in s x) x.kind → r.target ≡ target_in targets x.thread.0 (depth_of s x.thread.0) → IsFreed free regions old new xs r.free → landmark_in new regions r ≡ landmark_with p free s x
+pub row_told : (gated : List InstrId) (p : NumberedProgram) (input : List ℤ) (s : State) (x : Step) (targets : List (Option ℕ)) (free : Option FreeRegion) (regions : List FoundRegion)
+    (old new xs : List At) (r : Row) → IsMachine p s → Takes gated p input s x → AreTargets p targets s → r.depth ≡ depth_of s x.thread.0 →
+    r.function ≡ function_of p (block_of p x.instr.0) → r.edge ≡ edge_of p (moment_in s x) x.kind → r.target ≡ target_in targets x.thread.0 (depth_of s x.thread.0)
+    → IsFreed free regions old new xs r.free → landmark_in new regions r ≡ landmark_with p free s x
 row_told gated p input s x targets free regions old new xs r m k h d f e t w = row_is p s x targets free regions old new xs r (present gated p input s x m k) h d f e t w

@@ -48,10 +48,12 @@ free_more ats ys regions (Some f) h = by_more ats ys f.first (slice_get regions 
 pub row_more : (ats ys : List At) (regions : List FoundRegion) (r : Row) → FitsRow ats regions r → landmark_in (ats ++ ys) regions r ≡ landmark_in ats regions r
 row_more ats ys regions r h = rw (free_more ats ys regions r.free h) refl
 
-pub rows_more : (ats ys : List At) (regions : List FoundRegion) (rs : List Row) → AllByRecursion (FitsRow ats regions) rs → map (landmark_in (ats ++ ys) regions) rs ≡ map (landmark_in ats regions) rs
+pub rows_more : (ats ys : List At) (regions : List FoundRegion) (rs : List Row) → AllByRecursion (FitsRow ats regions) rs
+    → map (landmark_in (ats ++ ys) regions) rs ≡ map (landmark_in ats regions) rs
 rows_more ats ys regions [] h = refl
 rows_more ats ys regions (r ∷ rs) h =
-    ap (λ (l : Landmark). l ∷ map (landmark_in (ats ++ ys) regions) rs) (row_more ats ys regions r h.0) ∙ ap (λ (l : List Landmark). landmark_in ats regions r ∷ l) (rows_more ats ys regions rs h.1)
+    ap (λ (l : Landmark). l ∷ map (landmark_in (ats ++ ys) regions) rs) (row_more ats ys regions r h.0)
+    ∙ ap (λ (l : List Landmark). landmark_in ats regions r ∷ l) (rows_more ats ys regions rs h.1)
 
 by_fits : (ats ys : List At) (first : ℕ) (o : Option FoundRegion) → FitsBy ats first o → FitsBy (ats ++ ys) first o
 by_fits ats ys first None h = tt
@@ -65,7 +67,8 @@ pub fits_more : (ats ys : List At) (regions : List FoundRegion) (rs : List Row) 
 fits_more ats ys regions [] h = tt
 fits_more ats ys regions (r ∷ rs) h = (in_fits ats ys regions r.free h.0, fits_more ats ys regions rs h.1)
 
-pub fits_last : (ats : List At) (regions : List FoundRegion) (rs : List Row) (r : Row) → AllByRecursion (FitsRow ats regions) rs → FitsRow ats regions r → AllByRecursion (FitsRow ats regions) (rs ++ r ∷ [])
+pub fits_last : (ats : List At) (regions : List FoundRegion) (rs : List Row) (r : Row) → AllByRecursion (FitsRow ats regions) rs → FitsRow ats regions r
+    → AllByRecursion (FitsRow ats regions) (rs ++ r ∷ [])
 fits_last ats regions [] r h k = (k, tt)
 fits_last ats regions (q ∷ rs) r h k = (h.0, fits_last ats regions rs r h.1 k)
 
@@ -79,7 +82,8 @@ nothing_at : (k : ℕ) → slice_get {X = FreeAccess} [] k ≡ None
 nothing_at zero = refl
 nothing_at (suc k) = refl
 
-pub with_at : (us : List Rooted) (xs : List At) (k : ℕ) (a : Rooted) (x : At) → slice_get us k ≡ Some a → slice_get xs k ≡ Some x → slice_get (accesses_with us xs) k ≡ Some (access_at a x)
+pub with_at : (us : List Rooted) (xs : List At) (k : ℕ) (a : Rooted) (x : At) → slice_get us k ≡ Some a → slice_get xs k ≡ Some x
+    → slice_get (accesses_with us xs) k ≡ Some (access_at a x)
 with_at [] xs zero a x e f = absurd cc
 with_at [] xs (suc k) a x e f = absurd cc
 with_at (b ∷ us) [] zero a x e f = absurd cc

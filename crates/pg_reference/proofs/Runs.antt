@@ -31,7 +31,9 @@ following_steps r xs output value h = go (nat_lt RECORDING_STEP_LIMIT (length r.
     go true h = absurd cc
     go false h = reached_steps r.trace xs r.state.printed output r.turns value r.end h
 
-pub followed_runs : (p : NumberedProgram) (input : List ℤ) (turns : List Turn) (gated : List InstrId) (xs : List Step) (output : List ℕ) (value : ℤ) → following_of p input turns gated ≡ Exits xs output value → IsRun gated p input (initial p) xs (guided_of p input turns gated).state
+pub followed_runs : (p : NumberedProgram) (input : List ℤ) (turns : List Turn) (gated : List InstrId) (xs : List Step) (output : List ℕ) (value : ℤ)
+    → following_of p input turns gated ≡ Exits xs output value → IsRun gated p input (initial p) xs (guided_of p input turns gated).state
 unfolding following_of
 followed_runs p input turns gated xs output value h =
-    subst (λ (ys : List Step). IsRun gated p input (initial p) ys (guided_of p input turns gated).state) (following_steps (guided_of p input turns gated) xs output value h) (guided_is p input turns gated).0
+    subst (λ (ys : List Step). IsRun gated p input (initial p) ys (guided_of p input turns gated).state) (following_steps (guided_of p input turns gated) xs output value h)
+    (guided_is p input turns gated).0

@@ -1,5 +1,6 @@
 -- Regions that were sought, one branch after another.
-use Rattle.std.proofs.Common.{◌≡◌, ℕ, zero, suc, ◌+◌, ◌<◌, ◌≤◌, Bool, true, false, List, [], ◌∷◌, ◌++◌, length, replicate, Option, Some, None, sym, ap, ◌∙◌, subst, arith, inl, inr, ◌⊎◌}
+use Rattle.std.proofs.Common.{◌≡◌, ℕ, zero, suc, ◌+◌, ◌<◌, ◌≤◌, Bool, true, false, List, [], ◌∷◌, ◌++◌, length, replicate, Option, Some, None, sym, ap}
+use Rattle.std.proofs.Common.{◌∙◌, subst, arith, inl, inr, ◌⊎◌}
 use Rattle.std.specs.Prelude.{slice_get, slice_set}
 use Rattle.std.proofs.lemmas.Bool.{cases_eq}
 use Rattle.std.proofs.lemmas.List.{length-replicate}
@@ -23,13 +24,15 @@ use Rattle.pg_reference.specs.Sought.{AddsRegion, AreFound, IsFoundAs, IsFoundIn
 
 -- ---- none was sought
 
-none_in : (p : NumberedProgram) (gated : ℕ → Bool) (sums : ℕ → Option RootedList) (regions : List FoundRegion) (c n k : ℕ) → IsFoundIn p gated sums regions c (slice_get (replicate n sought.Unsought) k)
+none_in : (p : NumberedProgram) (gated : ℕ → Bool) (sums : ℕ → Option RootedList) (regions : List FoundRegion) (c n k : ℕ)
+    → IsFoundIn p gated sums regions c (slice_get (replicate n sought.Unsought) k)
 none_in p gated sums regions c zero zero = tt
 none_in p gated sums regions c zero (suc k) = tt
 none_in p gated sums regions c (suc n) zero = tt
 none_in p gated sums regions c (suc n) (suc k) = none_in p gated sums regions c n k
 
-pub none_found : (p : NumberedProgram) (gated : ℕ → Bool) (sums : ℕ → Option RootedList) (blocks : List Sought) (regions : List FoundRegion) → blocks ≡ replicate (length p.blocks) sought.Unsought → AreFound p gated sums blocks regions
+pub none_found : (p : NumberedProgram) (gated : ℕ → Bool) (sums : ℕ → Option RootedList) (blocks : List Sought) (regions : List FoundRegion)
+    → blocks ≡ replicate (length p.blocks) sought.Unsought → AreFound p gated sums blocks regions
 none_found p gated sums blocks regions e = record {
   count = ap length e ∙ length-replicate (length p.blocks) sought.Unsought;
   found = λ c. subst (λ (l : List Sought). IsFoundIn p gated sums regions c (slice_get l c)) (sym e) (none_in p gated sums regions c (length p.blocks) c);
@@ -43,19 +46,22 @@ kept_more p r [] f (suc k) h = absurd h
 kept_more p r (g ∷ regions) f zero h = h
 kept_more p r (g ∷ regions) f (suc k) h = kept_more p r regions f k h
 
-as_more : (p : NumberedProgram) (gated : ℕ → Bool) (sums : ℕ → Option RootedList) (regions : List FoundRegion) (f : FoundRegion) (c : ℕ) (o : Option Sought) → IsFoundIn p gated sums regions c o → IsFoundIn p gated sums (regions ++ f ∷ []) c o
+as_more : (p : NumberedProgram) (gated : ℕ → Bool) (sums : ℕ → Option RootedList) (regions : List FoundRegion) (f : FoundRegion) (c : ℕ) (o : Option Sought)
+    → IsFoundIn p gated sums regions c o → IsFoundIn p gated sums (regions ++ f ∷ []) c o
 as_more p gated sums regions f c None h = tt
 as_more p gated sums regions f c (Some sought.Unsought) h = tt
 as_more p gated sums regions f c (Some sought.Nothing) h = h
 as_more p gated sums regions f c (Some (sought.At k)) h = (h.0, h.1, kept_more p h.0 regions f k h.2)
 
 -- what is known of other blocks is kept
-others_more : (p : NumberedProgram) (gated : ℕ → Bool) (sums : ℕ → Option RootedList) (region : Option Region) (old : List FoundRegion) (s : Sought) (new : List FoundRegion) (c : ℕ) (o : Option Sought) → AddsRegion p region old s new → IsFoundIn p gated sums old c o → IsFoundIn p gated sums new c o
+others_more : (p : NumberedProgram) (gated : ℕ → Bool) (sums : ℕ → Option RootedList) (region : Option Region) (old : List FoundRegion) (s : Sought) (new : List FoundRegion) (c : ℕ)
+    (o : Option Sought) → AddsRegion p region old s new → IsFoundIn p gated sums old c o → IsFoundIn p gated sums new c o
 others_more p gated sums None old s new c o a h = subst (λ (l : List FoundRegion). IsFoundIn p gated sums l c o) (sym a.1) h
 others_more p gated sums (Some r) old s new c o a h = subst (λ (l : List FoundRegion). IsFoundIn p gated sums l c o) (sym a.1.behind) (as_more p gated sums old a.0 c o h)
 
 -- and the region of this block is known
-own_found : (p : NumberedProgram) (gated : ℕ → Bool) (sums : ℕ → Option RootedList) (region : Option Region) (old : List FoundRegion) (s : Sought) (new : List FoundRegion) (c : ℕ) → AddsRegion p region old s new → RegionOf p gated sums c region → IsFoundAs p gated sums new c s
+own_found : (p : NumberedProgram) (gated : ℕ → Bool) (sums : ℕ → Option RootedList) (region : Option Region) (old : List FoundRegion) (s : Sought) (new : List FoundRegion) (c : ℕ)
+    → AddsRegion p region old s new → RegionOf p gated sums c region → IsFoundAs p gated sums new c s
 own_found p gated sums None old s new c a h = subst (IsFoundAs p gated sums new c) (sym a.0) h
 own_found p gated sums (Some r) old s new c a h =
     subst (IsFoundAs p gated sums new c) (sym a.1.number)
@@ -65,7 +71,8 @@ own_sought : (p : NumberedProgram) (region : Option Region) (old : List FoundReg
 own_sought p None old s new a = ap (λ (x : Sought). was_sought (Some x)) a.0
 own_sought p (Some r) old s new a = ap (λ (x : Sought). was_sought (Some x)) a.1.number
 
-module _ (p : NumberedProgram) (gated : ℕ → Bool) (sums : ℕ → Option RootedList) (region : Option Region) (blocks : List Sought) (old : List FoundRegion) (s : Sought) (new : List FoundRegion) (b : ℕ) (below : b < length p.blocks) (h : AreFound p gated sums blocks old) (a : AddsRegion p region old s new) where
+module _ (p : NumberedProgram) (gated : ℕ → Bool) (sums : ℕ → Option RootedList) (region : Option Region) (blocks : List Sought) (old : List FoundRegion) (s : Sought)
+    (new : List FoundRegion) (b : ℕ) (below : b < length p.blocks) (h : AreFound p gated sums blocks old) (a : AddsRegion p region old s new) where
   own_block : slice_get (slice_set blocks b s) b ≡ Some s
   own_block = set_own blocks b s (omega (arith, below, h.count))
 
@@ -73,7 +80,8 @@ module _ (p : NumberedProgram) (gated : ℕ → Bool) (sums : ℕ → Option Roo
   seek_more r = record { count = set_length blocks b s ∙ h.count; found = λ c. go c (cases_eq c b) }
     where
       go : (c : ℕ) → (c ≡ b) ⊎ (c ≡ b → ⊥) → IsFoundIn p gated sums new c (slice_get (slice_set blocks b s) c)
-      go c (inl e) = subst (λ (d : ℕ). IsFoundIn p gated sums new d (slice_get (slice_set blocks b s) d)) (sym e) (subst (IsFoundIn p gated sums new b) (sym own_block) (own_found p gated sums region old s new b a r))
+      go c (inl e) = subst (λ (d : ℕ). IsFoundIn p gated sums new d (slice_get (slice_set blocks b s) d)) (sym e)
+          (subst (IsFoundIn p gated sums new b) (sym own_block) (own_found p gated sums region old s new b a r))
       go c (inr d) = subst (IsFoundIn p gated sums new c) (sym (set_other blocks b c s d)) (others_more p gated sums region old s new c (slice_get blocks c) a (h.found c))
 
   pub seek_own : was_sought (slice_get (slice_set blocks b s) b) ≡ true
@@ -92,7 +100,8 @@ enters_within : (g : EdgeLists) (j c : ℕ) → IsClosed g → Enters g j c → 
 enters_within g j c closed (now e) = closed.closed c j e.leads
 enters_within g j c closed (after {b = b} w e) = closed.closed b j e.leads
 
-pub region_within : (p : NumberedProgram) (gated : ℕ → Bool) (sums : ℕ → Option RootedList) (f : FinderParts) (c : ℕ) (o : Option Region) → IsFinder p sums f → RegionOf p gated sums c o → WithinProgram p o
+pub region_within : (p : NumberedProgram) (gated : ℕ → Bool) (sums : ℕ → Option RootedList) (f : FinderParts) (c : ℕ) (o : Option Region) → IsFinder p sums f
+    → RegionOf p gated sums c o → WithinProgram p o
 region_within p gated sums f c None h r = tt
 region_within p gated sums f c (Some q) h r =
     let closed : IsClosed (flow_of p) = subst IsClosed h.flow h.closed in
@@ -101,7 +110,8 @@ region_within p gated sums f c (Some q) h r =
 -- ---- the steps of a trace
 
 -- step i is no branch step, or its branch was sought
-pub sought_next : (p : NumberedProgram) (old new : List Sought) (xs : List Step) (i : ℕ) (x : Step) → slice_get xs i ≡ Some x → WasSought p new x → ((c : ℕ) → was_sought (slice_get old c) ≡ true → was_sought (slice_get new c) ≡ true) →
+pub sought_next : (p : NumberedProgram) (old new : List Sought) (xs : List Step) (i : ℕ) (x : Step) → slice_get xs i ≡ Some x → WasSought p new x
+    → ((c : ℕ) → was_sought (slice_get old c) ≡ true → was_sought (slice_get new c) ≡ true) →
     ((n : ℕ) (y : Step) → n < i → slice_get xs n ≡ Some y → WasSought p old y) → (n : ℕ) (y : Step) → n < i + 1 → slice_get xs n ≡ Some y → WasSought p new y
 sought_next p old new xs i x e w k h n y lt g = go (cases_eq n i)
   where

@@ -37,8 +37,10 @@ module _ (gated : List InstrId) (p : NumberedProgram) (input : List ℤ) (s : St
   pub step_is : (r : Stepped) (w : State) → stepped_as r w ≡ step gated p input s x.thread.0 → step gated p input s x.thread.0 ≡ steps.Did x w
   step_is r w e = k.is_step ∙ ap (steps.Did x) (sym (after_is r w e))
 
-  pub targets_then : (targets new : List (Option ℕ)) (r : Stepped) (w : State) (i : Instr) (d : ℕ) → AreTargets p targets s → slice_get p.instrs x.instr.0 ≡ Some i → d ≡ depth_of s x.thread.0 → new ≡ with_target targets x.thread.0 d i.result → stepped_as r w ≡ step gated p input s x.thread.0 →
+  pub targets_then : (targets new : List (Option ℕ)) (r : Stepped) (w : State) (i : Instr) (d : ℕ) → AreTargets p targets s → slice_get p.instrs x.instr.0 ≡ Some i
+      → d ≡ depth_of s x.thread.0 → new ≡ with_target targets x.thread.0 d i.result → stepped_as r w ≡ step gated p input s x.thread.0 →
       AreTargets p new w
   targets_then targets new r w i d h at e n q =
       let one : new ≡ with_target targets x.thread.0 (length (frames_of s x.thread.0)) i.result = n ∙ ap (λ (b : ℕ). with_target targets x.thread.0 b i.result) e in
-      subst (λ (ts : List (Option ℕ)). AreTargets p ts w) (sym one) (subst (AreTargets p (with_target targets x.thread.0 (length (frames_of s x.thread.0)) i.result)) (sym (after_is r w q)) (targets_after gated p input s x targets m k h i at))
+      subst (λ (ts : List (Option ℕ)). AreTargets p ts w) (sym one)
+      (subst (AreTargets p (with_target targets x.thread.0 (length (frames_of s x.thread.0)) i.result)) (sym (after_is r w q)) (targets_after gated p input s x targets m k h i at))

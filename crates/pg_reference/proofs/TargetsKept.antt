@@ -1,5 +1,6 @@
 -- The registers that calls set in their callers, from step to step.
-use Rattle.std.proofs.Common.{◌≡◌, ℕ, ℤ, zero, suc, ◌+◌, ◌-◌, ◌<◌, ◌≤◌, List, [], ◌∷◌, ◌++◌, length, map, replicate, Bool, true, false, Option, Some, None, refl, sym, ap, ◌∙◌, subst, arith, inl, inr, ◌⊎◌}
+use Rattle.std.proofs.Common.{◌≡◌, ℕ, ℤ, zero, suc, ◌+◌, ◌-◌, ◌<◌, ◌≤◌, List, [], ◌∷◌, ◌++◌, length, map, replicate, Bool, true, false, Option, Some}
+use Rattle.std.proofs.Common.{None, refl, sym, ap, ◌∙◌, subst, arith, inl, inr, ◌⊎◌}
 use Rattle.std.specs.Prelude.{nat_lt, nat_le, slice_get, slice_set, if◌then◌else◌}
 use Rattle.std.proofs.lemmas.Bool.{cases_eq}
 use Rattle.std.proofs.lemmas.Bool.Decides.{nat_tests}
@@ -22,7 +23,8 @@ use Rattle.pg_step.specs.declared.action.Action.TheVariants as actions
 use Rattle.pg_step.specs.LocalState.{Frame, LocalState, fresh, region_of}
 use Rattle.pg_step.specs.Operands.{operand}
 use Rattle.pg_step.specs.States.{CanStep}
-use Rattle.pg_step.specs.Step.{after, are_set, begun_frame, call_action, entered, frames_action, frames_after, instr_action, instr_after, known_after, next, on_top, op_action, op_after, returned, top_height_of, top_registers, total, under_top}
+use Rattle.pg_step.specs.Step.{after, are_set, begun_frame, call_action, entered, frames_action, frames_after, instr_action, instr_after, known_after, next, on_top, op_action, op_after}
+use Rattle.pg_step.specs.Step.{returned, top_height_of, top_registers, total, under_top}
 use Rattle.pg_trace.specs.declared.step.Step.{Step}
 use Rattle.pg_machine.specs.Machine.{IsMachine}
 use Rattle.pg_machine.specs.Locality.{IfDid}
@@ -48,7 +50,8 @@ target_by p targets t (f ∷ g ∷ fs) h =
     let below : length (f ∷ g ∷ fs) - 1 ≡ length (g ∷ fs) = omega arith in
     rw (small, below, h.1) refl
 
-pub target_is : (p : NumberedProgram) (targets : List (Option ℕ)) (s : State) (t : ℕ) → AreTargets p targets s → target_in targets t (length (frames_of s t)) ≡ caller_target p (frames_of s t)
+pub target_is : (p : NumberedProgram) (targets : List (Option ℕ)) (s : State) (t : ℕ) → AreTargets p targets s
+    → target_in targets t (length (frames_of s t)) ≡ caller_target p (frames_of s t)
 target_is p targets s t h = target_by p targets t (frames_of s t) (h.each t)
 
 -- ---- before the first step
@@ -75,20 +78,23 @@ apart_places t u k n a b ne e = go (cases_eq u t)
     go (inr d) = d (omega (arith, e, a, b))
 
 -- another entry than the one that is written
-other_entry : (targets : List (Option ℕ)) (t u k n : ℕ) (v : Option ℕ) → k < CALL_DEPTH_LIMIT → ((u ≡ t) × (k ≡ n) → ⊥) → slice_get (with_target targets t n v) (place_of u k) ≡ slice_get targets (place_of u k)
+other_entry : (targets : List (Option ℕ)) (t u k n : ℕ) (v : Option ℕ) → k < CALL_DEPTH_LIMIT → ((u ≡ t) × (k ≡ n) → ⊥)
+    → slice_get (with_target targets t n v) (place_of u k) ≡ slice_get targets (place_of u k)
 other_entry targets t u k n v a ne = go (nat_lt n CALL_DEPTH_LIMIT) refl
   where
     go : (b : Bool) → nat_lt n CALL_DEPTH_LIMIT ≡ b → slice_get (if b then slice_set targets (place_of t n) v else targets) (place_of u k) ≡ slice_get targets (place_of u k)
     go true e = set_other targets (place_of t n) (place_of u k) v (apart_places t u k n a (grind (arith, nat_tests)) ne)
     go false e = refl
 
-own_entry : (targets : List (Option ℕ)) (t n : ℕ) (v : Option ℕ) → length targets ≡ 16384 → t < THREAD_LIMIT → n < CALL_DEPTH_LIMIT → slice_get (with_target targets t n v) (place_of t n) ≡ Some v
+own_entry : (targets : List (Option ℕ)) (t n : ℕ) (v : Option ℕ) → length targets ≡ 16384 → t < THREAD_LIMIT → n < CALL_DEPTH_LIMIT
+    → slice_get (with_target targets t n v) (place_of t n) ≡ Some v
 own_entry targets t n v c a b =
     let e : nat_lt n CALL_DEPTH_LIMIT ≡ true = grind (arith, nat_tests) in
     rw e (set_own targets (place_of t n) v (omega (arith, a, b, c)))
 
 -- the calls below the written entry keep theirs, and so do those of other threads
-kept_of : (p : NumberedProgram) (targets : List (Option ℕ)) (t u n : ℕ) (v : Option ℕ) (fs : List Frame) → (u ≡ t → length fs ≤ n) → AreTargetsOf p targets u fs → AreTargetsOf p (with_target targets t n v) u fs
+kept_of : (p : NumberedProgram) (targets : List (Option ℕ)) (t u n : ℕ) (v : Option ℕ) (fs : List Frame) → (u ≡ t → length fs ≤ n) → AreTargetsOf p targets u fs
+    → AreTargetsOf p (with_target targets t n v) u fs
 kept_of p targets t u n v [] le h = tt
 kept_of p targets t u n v (f ∷ []) le h = tt
 kept_of p targets t u n v (f ∷ g ∷ fs) le h =
@@ -111,11 +117,13 @@ returned_kept p targets t n (f ∷ []) h = tt
 returned_kept p targets t n (f ∷ g ∷ []) h = tt
 returned_kept p targets t n (f ∷ g ∷ e ∷ fs) h = h.2
 
-if_kept : (p : NumberedProgram) (targets : List (Option ℕ)) (t : ℕ) (b : Bool) (fs gs : List Frame) → AreTargetsOf p targets t fs → AreTargetsOf p targets t gs → AreTargetsOf p targets t (if b then fs else gs)
+if_kept : (p : NumberedProgram) (targets : List (Option ℕ)) (t : ℕ) (b : Bool) (fs gs : List Frame) → AreTargetsOf p targets t fs → AreTargetsOf p targets t gs
+    → AreTargetsOf p targets t (if b then fs else gs)
 if_kept p targets t true fs gs h k = h
 if_kept p targets t false fs gs h k = k
 
-known_kept : (p : NumberedProgram) (targets : List (Option ℕ)) (t : ℕ) (halfway : Bool) (k : Known) (fs gs : List Frame) → AreTargetsOf p targets t fs → AreTargetsOf p targets t gs → AreTargetsOf p targets t (known_after halfway k fs gs)
+known_kept : (p : NumberedProgram) (targets : List (Option ℕ)) (t : ℕ) (halfway : Bool) (k : Known) (fs gs : List Frame) → AreTargetsOf p targets t fs → AreTargetsOf p targets t gs
+    → AreTargetsOf p targets t (known_after halfway k fs gs)
 known_kept p targets t halfway known.PthreadExit fs gs h m = tt
 known_kept p targets t halfway known.PthreadCondWait fs gs h m = if_kept p targets t halfway gs fs m h
 known_kept p targets t halfway known.PthreadBarrierWait fs gs h m = if_kept p targets t halfway gs fs m h
@@ -126,7 +134,8 @@ call_room : (p : NumberedProgram) (g depth used : ℕ) → CanStep (call_action 
 unfolding call_action
 call_room p g depth used h = go (nat_le CALL_DEPTH_LIMIT depth) (nat_le (used + length (types_of p g)) THREAD_REGISTER_LIMIT) refl h
   where
-    go : (a b : Bool) → nat_le CALL_DEPTH_LIMIT depth ≡ a → CanStep (if a then actions.Trap traps.CallDepth else if b then actions.Local else actions.Trap traps.Registers) → depth < CALL_DEPTH_LIMIT
+    go : (a b : Bool) → nat_le CALL_DEPTH_LIMIT depth ≡ a → CanStep (if a then actions.Trap traps.CallDepth else if b then actions.Local else actions.Trap traps.Registers)
+        → depth < CALL_DEPTH_LIMIT
     go true b e h = absurd h
     go false true e h = grind (arith, nat_tests)
     go false false e h = absurd h
@@ -137,7 +146,8 @@ all_room false act h = absurd h
 
 -- ---- the calls of a thread that steps, the register of its next call being kept
 
-module _ (p : NumberedProgram) (targets : List (Option ℕ)) (t : ℕ) (l : LocalState) (f : Frame) (fs : List Frame) (x : Instr) (calls : l.frames ≡ f ∷ fs) (at : slice_get p.instrs f.place ≡ Some x) (h : AreTargetsOf p targets t (f ∷ fs))
+module _ (p : NumberedProgram) (targets : List (Option ℕ)) (t : ℕ) (l : LocalState) (f : Frame) (fs : List Frame) (x : Instr) (calls : l.frames ≡ f ∷ fs)
+    (at : slice_get p.instrs f.place ≡ Some x) (h : AreTargetsOf p targets t (f ∷ fs))
     (entry : length (f ∷ fs) < CALL_DEPTH_LIMIT → slice_get targets (place_of t (length (f ∷ fs))) ≡ Some x.result) where
   kept_calls : AreTargetsOf p targets t l.frames
   kept_calls = subst (AreTargetsOf p targets t) (sym calls) h
@@ -150,7 +160,8 @@ module _ (p : NumberedProgram) (targets : List (Option ℕ)) (t : ℕ) (l : Loca
   op_kept a (op.Br to) can = on_top_kept p targets t _ l.frames kept_calls
   op_kept a (op.CondBr c y n) can = on_top_kept p targets t _ l.frames kept_calls
   op_kept a (op.Switch w on other cases) can = on_top_kept p targets t _ l.frames kept_calls
-  op_kept a (op.Call g args) can = entered_kept (entered p g (top_height_of l.frames) (map (operand p (top_registers l.frames)) args)) (call_room p g (length (f ∷ fs)) (total (f ∷ fs)) (all_room (are_set p f.registers args) (call_action p g (length (f ∷ fs)) (total (f ∷ fs))) can))
+  op_kept a (op.Call g args) can = entered_kept (entered p g (top_height_of l.frames) (map (operand p (top_registers l.frames)) args))
+      (call_room p g (length (f ∷ fs)) (total (f ∷ fs)) (all_room (are_set p f.registers args) (call_action p g (length (f ∷ fs)) (total (f ∷ fs))) can))
   op_kept a (op.Ret v) can = returned_kept p targets t _ l.frames kept_calls
   op_kept a (op.Alloca bytes) can = on_top_kept p targets t _ l.frames kept_calls
   op_kept a (op.CallKnown k args) can = known_kept p targets t l.halfway k l.frames _ kept_calls (on_top_kept p targets t _ l.frames kept_calls)
@@ -171,7 +182,8 @@ module _ (p : NumberedProgram) (targets : List (Option ℕ)) (t : ℕ) (l : Loca
 
   pub own_kept : (a : ℕ) → CanStep (next p l) → AreTargetsOf p targets t (after p l a).frames
   unfolding next after
-  own_kept a can = subst (λ (gs : List Frame). AreTargetsOf p targets t (frames_after p l l.begun gs a).frames) (sym calls) (frames_kept a l.begun (subst (λ (gs : List Frame). CanStep (frames_action p l l.begun gs)) calls can))
+  own_kept a can = subst (λ (gs : List Frame). AreTargetsOf p targets t (frames_after p l l.begun gs a).frames) (sym calls)
+      (frames_kept a l.begun (subst (λ (gs : List Frame). CanStep (frames_action p l l.begun gs)) calls can))
 
 -- ---- all threads after a step
 
@@ -180,14 +192,17 @@ fresh_kept : (p : NumberedProgram) (targets : List (Option ℕ)) (u n f : ℕ) �
 unfolding fresh
 fresh_kept p targets u n f = tt
 
-made_kept : (p : NumberedProgram) (targets : List (Option ℕ)) (u n f : ℕ) (ls : List LocalState) → AreTargetsOf p targets u (frames_in (slice_get ls u)) → AreTargetsOf p targets u (frames_in (slice_get (ls ++ fresh p n f ∷ []) u))
+made_kept : (p : NumberedProgram) (targets : List (Option ℕ)) (u n f : ℕ) (ls : List LocalState) → AreTargetsOf p targets u (frames_in (slice_get ls u))
+    → AreTargetsOf p targets u (frames_in (slice_get (ls ++ fresh p n f ∷ []) u))
 made_kept p targets u n f ls h = go (cases_eq u (length ls))
   where
     go : (u ≡ length ls) ⊎ (u ≡ length ls → ⊥) → AreTargetsOf p targets u (frames_in (slice_get (ls ++ fresh p n f ∷ []) u))
-    go (inl e) = subst (λ (o : Option LocalState). AreTargetsOf p targets u (frames_in o)) (sym (last_own ls (fresh p n f)) ∙ ap (slice_get (ls ++ fresh p n f ∷ [])) (sym e)) (fresh_kept p targets u n f)
+    go (inl e) = subst (λ (o : Option LocalState). AreTargetsOf p targets u (frames_in o)) (sym (last_own ls (fresh p n f)) ∙ ap (slice_get (ls ++ fresh p n f ∷ [])) (sym e))
+        (fresh_kept p targets u n f)
     go (inr d) = subst (λ (o : Option LocalState). AreTargetsOf p targets u (frames_in o)) (sym (last_other ls (fresh p n f) u d)) h
 
-with_kept : (p : NumberedProgram) (targets : List (Option ℕ)) (s : State) (t u : ℕ) (act : Action) → AreTargetsOf p targets u (frames_of s u) → AreTargetsOf p targets u (frames_in (slice_get (locals_with (request_effect p s t act) s.locals) u))
+with_kept : (p : NumberedProgram) (targets : List (Option ℕ)) (s : State) (t u : ℕ) (act : Action) → AreTargetsOf p targets u (frames_of s u)
+    → AreTargetsOf p targets u (frames_in (slice_get (locals_with (request_effect p s t act) s.locals) u))
 with_kept p targets s t u (actions.Event (requests.Create r f n)) h = made_kept p targets u (length s.locals) f s.locals h
 with_kept p targets s t u (actions.Event r) h = h
 with_kept p targets s t u act h = h
@@ -197,7 +212,8 @@ with_longer p s t (actions.Event (requests.Create r f n)) = omega (arith, length
 with_longer p s t (actions.Event r) = omega arith
 with_longer p s t act = omega arith
 
-module _ (p : NumberedProgram) (input : List ℤ) (s : State) (x : Step) (targets : List (Option ℕ)) (n : IsPresent p s x) (can : CanStep (next p n.local)) (h : AreTargets p targets s) (few : x.thread.0 < THREAD_LIMIT) where
+module _ (p : NumberedProgram) (input : List ℤ) (s : State) (x : Step) (targets : List (Option ℕ)) (n : IsPresent p s x) (can : CanStep (next p n.local)) (h : AreTargets p targets s)
+    (few : x.thread.0 < THREAD_LIMIT) where
   -- with the register of the present instruction for a next call
   abbrev then_targets : List (Option ℕ)
   then_targets = with_target targets x.thread.0 (length (frames_of s x.thread.0)) n.instr.result
@@ -211,7 +227,8 @@ module _ (p : NumberedProgram) (input : List ℤ) (s : State) (x : Step) (target
   own_after_kept : (a : ℕ) → AreTargetsOf p then_targets x.thread.0 (after p n.local a).frames
   own_after_kept a =
       own_kept p then_targets x.thread.0 n.local n.top n.below n.instr n.is_calls n.is_instr (subst (AreTargetsOf p then_targets x.thread.0) own_frames (others_kept x.thread.0))
-      (λ room. subst (λ (fs : List Frame). slice_get (with_target targets x.thread.0 (length fs) n.instr.result) (place_of x.thread.0 (length (n.top ∷ n.below))) ≡ Some n.instr.result) (sym own_frames)
+      (λ room. subst (λ (fs : List Frame). slice_get (with_target targets x.thread.0 (length fs) n.instr.result) (place_of x.thread.0 (length (n.top ∷ n.below))) ≡ Some n.instr.result)
+      (sym own_frames)
       (own_entry targets x.thread.0 (length (n.top ∷ n.below)) n.instr.result h.count few room)) a can
 
   -- the threads, and the answer to the action, before the thread's own state changes
@@ -224,17 +241,21 @@ module _ (p : NumberedProgram) (input : List ℤ) (s : State) (x : Step) (target
   own_place : x.thread.0 < length then_locals
   own_place = omega (arith, slice_get_within s.locals x.thread.0 n.local n.is_local, with_longer p s x.thread.0 (next_of p s x.thread.0))
 
-  local_kept : (u : ℕ) → (u ≡ x.thread.0) ⊎ (u ≡ x.thread.0 → ⊥) → AreTargetsOf p then_targets u (frames_in (slice_get (slice_set then_locals x.thread.0 (after p n.local then_answer)) u))
+  local_kept : (u : ℕ) → (u ≡ x.thread.0) ⊎ (u ≡ x.thread.0 → ⊥)
+      → AreTargetsOf p then_targets u (frames_in (slice_get (slice_set then_locals x.thread.0 (after p n.local then_answer)) u))
   local_kept u (inl e) =
       subst (λ (v : ℕ). AreTargetsOf p then_targets v (frames_in (slice_get (slice_set then_locals x.thread.0 (after p n.local then_answer)) v))) (sym e)
-      (subst (λ (o : Option LocalState). AreTargetsOf p then_targets x.thread.0 (frames_in o)) (sym (set_own then_locals x.thread.0 (after p n.local then_answer) own_place)) (own_after_kept then_answer))
+      (subst (λ (o : Option LocalState). AreTargetsOf p then_targets x.thread.0 (frames_in o)) (sym (set_own then_locals x.thread.0 (after p n.local then_answer) own_place))
+      (own_after_kept then_answer))
   local_kept u (inr d) =
-      subst (λ (o : Option LocalState). AreTargetsOf p then_targets u (frames_in o)) (sym (set_other then_locals x.thread.0 u (after p n.local then_answer) d)) (with_kept p then_targets s x.thread.0 u (next_of p s x.thread.0) (others_kept u))
+      subst (λ (o : Option LocalState). AreTargetsOf p then_targets u (frames_in o)) (sym (set_other then_locals x.thread.0 u (after p n.local then_answer) d))
+      (with_kept p then_targets s x.thread.0 u (next_of p s x.thread.0) (others_kept u))
 
   each_kept : (u : ℕ) → AreTargetsOf p then_targets u (frames_of (effect s (effect_of p input s x.thread.0)) u)
   unfolding effect effect_of
   each_kept u =
-      subst (λ (o : Option LocalState). AreTargetsOf p then_targets u (frames_in (slice_get (local_set x.thread.0 (own_after p then_answer o) then_locals) u))) (sym n.is_local) (local_kept u (cases_eq u x.thread.0))
+      subst (λ (o : Option LocalState). AreTargetsOf p then_targets u (frames_in (slice_get (local_set x.thread.0 (own_after p then_answer o) then_locals) u))) (sym n.is_local)
+      (local_kept u (cases_eq u x.thread.0))
 
 target_length : (targets : List (Option ℕ)) (t n : ℕ) (v : Option ℕ) → length (with_target targets t n v) ≡ length targets
 target_length targets t n v = go (nat_lt n CALL_DEPTH_LIMIT)
@@ -247,7 +268,8 @@ did_effect : (gated : List InstrId) (p : NumberedProgram) (input : List ℤ) (s 
 did_effect gated p input s z t x e = subst (λ (o : Stepped). IfDid o (λ y w. w ≡ effect s (effect_of p input s t))) e (has_effect gated p input s t)
 
 -- after a step that was done, the register of its instruction being kept for a call
-pub targets_after : (gated : List InstrId) (p : NumberedProgram) (input : List ℤ) (s : State) (x : Step) (targets : List (Option ℕ)) → IsMachine p s → (k : Takes gated p input s x) → AreTargets p targets s → (i : Instr) → slice_get p.instrs x.instr.0 ≡ Some i →
+pub targets_after : (gated : List InstrId) (p : NumberedProgram) (input : List ℤ) (s : State) (x : Step) (targets : List (Option ℕ)) → IsMachine p s → (k : Takes gated p input s x)
+    → AreTargets p targets s → (i : Instr) → slice_get p.instrs x.instr.0 ≡ Some i →
     AreTargets p (with_target targets x.thread.0 (length (frames_of s x.thread.0)) i.result) k.after
 targets_after gated p input s x targets m k h i at =
     let n = present gated p input s x m k in
@@ -257,7 +279,8 @@ targets_after gated p input s x targets m k h i at =
     record {
       count = target_length targets x.thread.0 (length (frames_of s x.thread.0)) i.result ∙ h.count;
       each = λ u. subst (λ (j : Instr). AreTargetsOf p (with_target targets x.thread.0 (length (frames_of s x.thread.0)) j.result) u (frames_of k.after u)) e
-          (subst (λ (z : State). AreTargetsOf p (with_target targets x.thread.0 (length (frames_of s x.thread.0)) n.instr.result) u (frames_of z u)) (sym (did_effect gated p input s k.after x.thread.0 x k.is_step))
+          (subst (λ (z : State). AreTargetsOf p (with_target targets x.thread.0 (length (frames_of s x.thread.0)) n.instr.result) u (frames_of z u))
+          (sym (did_effect gated p input s k.after x.thread.0 x k.is_step))
           (each_kept p input s x targets n can h few u));
     }
   where

@@ -69,7 +69,8 @@ region_same : (p : NumberedProgram) (s : State) (x : Step) (o : Option FoundRegi
 region_same p s x None = refl
 region_same p s x (Some r) = ap (if_apart (kept_region r)) (accesses_same p s x r.accesses.items) ∙ apart_same r (accesses_in p s x.thread.0 r.accesses.items)
 
-module _ (p : NumberedProgram) (gated : ℕ → Bool) (sums : ℕ → Option RootedList) (regions : Regions) (are : AreRegions p gated sums regions) (blocks : List Sought) (found : List FoundRegion) (are_found : AreFound p gated sums blocks found) where
+module _ (p : NumberedProgram) (gated : ℕ → Bool) (sums : ℕ → Option RootedList) (regions : Regions) (are : AreRegions p gated sums regions) (blocks : List Sought)
+    (found : List FoundRegion) (are_found : AreFound p gated sums blocks found) where
   block_region : (c : ℕ) → Rattle.pg_reference.specs.Sought.was_sought (slice_get blocks c) ≡ true → regions c ≡ option_map kept_region (found_in blocks found c)
   block_region c h = are.given c ∙ sym (found_is p gated sums c found (slice_get blocks c) (are.found c) (are_found.found c) h (are.right c))
 
@@ -77,7 +78,8 @@ module _ (p : NumberedProgram) (gated : ℕ → Bool) (sums : ℕ → Option Roo
   region_by s x None e h = refl
   region_by s x (Some i) e h = go (is_branch x.kind) refl
     where
-      go : (b : Bool) → is_branch x.kind ≡ b → (if b then region_at p (moment_in s x) (regions i.block.0) else None) ≡ (if b then freed p s x.thread.0 (found_in blocks found i.block.0) else None)
+      go : (b : Bool) → is_branch x.kind ≡ b → (if b then region_at p (moment_in s x) (regions i.block.0) else None)
+          ≡ (if b then freed p s x.thread.0 (found_in blocks found i.block.0) else None)
       go true q = ap (region_at p (moment_in s x)) (block_region i.block.0 (h i e q)) ∙ region_same p s x (found_in blocks found i.block.0)
       go false q = refl
 
@@ -87,7 +89,8 @@ module _ (p : NumberedProgram) (gated : ℕ → Bool) (sums : ℕ → Option Roo
 
 -- ---- along a run
 
-told_same : {A : Type 0} (f g : State → Step → A) (gated : List InstrId) (p : NumberedProgram) (input : List ℤ) (s : State) (xs : List Step) → ((n : ℕ) (x : Step) → slice_get xs n ≡ Some x → (z : State) → f z x ≡ g z x) → told_along f gated p input s xs ≡ told_along g gated p input s xs
+told_same : {A : Type 0} (f g : State → Step → A) (gated : List InstrId) (p : NumberedProgram) (input : List ℤ) (s : State) (xs : List Step)
+    → ((n : ℕ) (x : Step) → slice_get xs n ≡ Some x → (z : State) → f z x ≡ g z x) → told_along f gated p input s xs ≡ told_along g gated p input s xs
 unfolding told_along
 told_same f g gated p input s [] h = refl
 told_same {A} f g gated p input s (x ∷ xs) h =
@@ -108,13 +111,15 @@ moments_told p regions gated input s (t ∷ ts) =
     ∙ ap (λ (l : List Landmark). landmark_of p regions (moment_in s t.did) ∷ l) (moments_told p regions gated input z ts)
 
 -- the landmarks of a run's moments are those by the regions that were found
-pub landmarks_told : (p : NumberedProgram) (gates : ℕ → Bool) (sums : ℕ → Option RootedList) (regions : Regions) → AreRegions p gates sums regions → (blocks : List Sought) (found : List FoundRegion) → AreFound p gates sums blocks found →
+pub landmarks_told : (p : NumberedProgram) (gates : ℕ → Bool) (sums : ℕ → Option RootedList) (regions : Regions) → AreRegions p gates sums regions
+    → (blocks : List Sought) (found : List FoundRegion) → AreFound p gates sums blocks found →
     (gated : List InstrId) (input : List ℤ) (xs : List Step) → ((n : ℕ) (x : Step) → slice_get xs n ≡ Some x → WasSought p blocks x) →
     map (landmark_of p regions) (moments_of gated p input xs) ≡ told_along (λ s x. landmark_with p (freed_in p blocks found s x) s x) gated p input (initial p) xs
 landmarks_told p gates sums regions are blocks found are_found gated input xs h =
     moments_told p regions gated input (initial p) (timed_by recorded xs)
     ∙ ap (told_along (λ z x. landmark_of p regions (moment_in z x)) gated p input (initial p)) (did_times recorded (owners recorded xs) 0 xs)
-    ∙ told_same (λ z x. landmark_of p regions (moment_in z x)) (λ s x. landmark_with p (freed_in p blocks found s x) s x) gated p input (initial p) xs (λ n x e z. landmark_same p gates sums regions are blocks found are_found z x (h n x e))
+    ∙ told_same (λ z x. landmark_of p regions (moment_in z x)) (λ s x. landmark_with p (freed_in p blocks found s x) s x) gated p input (initial p) xs
+    (λ n x e z. landmark_same p gates sums regions are blocks found are_found z x (h n x e))
 
 pub get_map : {A B : Type 0} (f : A → B) (xs : List A) (n : ℕ) → slice_get (map f xs) n ≡ option_map f (slice_get xs n)
 get_map f [] zero = refl
@@ -124,7 +129,8 @@ get_map f (x ∷ xs) (suc n) = get_map f xs n
 
 -- ---- what is handed out
 
-told_length : {A : Type 0} (f : State → Step → A) (gated : List InstrId) (p : NumberedProgram) (input : List ℤ) (s : State) (xs : List Step) → length (told_along f gated p input s xs) ≡ length xs
+told_length : {A : Type 0} (f : State → Step → A) (gated : List InstrId) (p : NumberedProgram) (input : List ℤ) (s : State) (xs : List Step)
+    → length (told_along f gated p input s xs) ≡ length xs
 unfolding told_along
 told_length f gated p input s [] = refl
 told_length f gated p input s (x ∷ xs) = ap suc (told_length f gated p input (state_after s (step gated p input s x.thread.0)) xs)
@@ -138,7 +144,8 @@ module _ (p : NumberedProgram) (blocks : List Sought) (found : List FoundRegion)
   pub row_count : length rows ≡ length xs
   row_count = sym (map_length (landmark_in ats found) rows) ∙ ap length told ∙ told_length (λ s x. landmark_with p (freed_in p blocks found s x) s x) gated p input (initial p) xs
 
-  pub landmark_each : (gates : ℕ → Bool) (sums : ℕ → Option RootedList) → AreFound p gates sums blocks found → ((n : ℕ) (x : Step) → slice_get xs n ≡ Some x → WasSought p blocks x) → (regions : Regions) → AreRegions p gates sums regions → (n : ℕ) →
+  pub landmark_each : (gates : ℕ → Bool) (sums : ℕ → Option RootedList) → AreFound p gates sums blocks found
+      → ((n : ℕ) (x : Step) → slice_get xs n ≡ Some x → WasSought p blocks x) → (regions : Regions) → AreRegions p gates sums regions → (n : ℕ) →
       option_map (landmark_in ats found) (slice_get rows n) ≡ option_map (landmark_of p regions) (slice_get (moments_of gated p input xs) n)
   landmark_each gates sums are_found h regions are n =
       sym (get_map (landmark_in ats found) rows n)

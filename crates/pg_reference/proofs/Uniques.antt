@@ -7,7 +7,7 @@ use Rattle.pg_cfg.specs.Graphs.{IsReach}
 use Rattle.pg_ir.specs.Program.{NumberedProgram}
 use Rattle.pg_accesses.specs.Accesses.{RootedList, set_accesses, sets}
 use Rattle.pg_accesses.specs.Tables.{in_table}
-use Rattle.pg_accesses.proofs.Elements.{here, there, cases, none_in}
+use Rattle.pg_paths.proofs.Elements.{here, there, cases, none_in}
 use Rattle.pg_region.specs.declared.region.Region.{Region}
 use Rattle.pg_region.specs.Regions.{flow_of, IsRegion, IsSmaller, RegionOf}
 use Rattle.pg_accesses.proofs.Ascending.{below, tail_of}
@@ -19,13 +19,15 @@ use Rattle.pg_reference.specs.OfRegions.{branch_region, free_access, may_set, ph
 use Rattle.pg_reference.specs.Sought.{IsFoundIn, IsKept, IsKeptIn, found_by, number_by, was_sought}
 
 -- ascending lists with the same members are equal
-same_list : (xs ys : List ℕ) → IsStrictlyIncreasing xs → IsStrictlyIncreasing ys → ((z : ℕ) → Contains xs z → Contains ys z) → ((z : ℕ) → Contains ys z → Contains xs z) → xs ≡ ys
+same_list : (xs ys : List ℕ) → IsStrictlyIncreasing xs → IsStrictlyIncreasing ys → ((z : ℕ) → Contains xs z → Contains ys z) → ((z : ℕ) → Contains ys z → Contains xs z)
+    → xs ≡ ys
 same_list [] [] a b f g = refl
 same_list [] (y ∷ ys) a b f g = absurd (none_in y (g y (here y ys)))
 same_list (x ∷ xs) [] a b f g = absurd (none_in x (f x (here x xs)))
 same_list (x ∷ xs) (y ∷ ys) a b f g =
     let e : x ≡ y = first (cases y ys x (f x (here x xs))) (cases x xs y (g y (here y ys))) in
-    rw e (ap (λ (l : List ℕ). y ∷ l) (same_list xs ys (tail_of x xs a) (tail_of y ys b) (λ z c. past y ys z (λ q. omega (arith, below x xs a z c, e, q)) (f z (there x xs z c))) (λ z c. past x xs z (λ q. omega (arith, below y ys b z c, e, q)) (g z (there y ys z c)))))
+    rw e (ap (λ (l : List ℕ). y ∷ l) (same_list xs ys (tail_of x xs a) (tail_of y ys b) (λ z c. past y ys z (λ q. omega (arith, below x xs a z c, e, q)) (f z (there x xs z c)))
+    (λ z c. past x xs z (λ q. omega (arith, below y ys b z c, e, q)) (g z (there y ys z c)))))
   where
     past : (w : ℕ) (ws : List ℕ) (z : ℕ) → (w ≡ z → ⊥) → Contains (w ∷ ws) z → Contains ws z
     past w ws z ne c = go (cases w ws z c)
@@ -87,7 +89,8 @@ kept_in p r None h = absurd h
 kept_in p r (Some f) h = kept_is p r f h
 
 -- the region that was found of a block whose branch was sought
-pub found_is : (p : NumberedProgram) (gated : ℕ → Bool) (sums : ℕ → Option RootedList) (c : ℕ) (regions : List FoundRegion) (o : Option Sought) (u : Option Region) → IsFoundIn p gated sums regions c o → was_sought o ≡ true → RegionOf p gated sums c u →
+pub found_is : (p : NumberedProgram) (gated : ℕ → Bool) (sums : ℕ → Option RootedList) (c : ℕ) (regions : List FoundRegion) (o : Option Sought) (u : Option Region)
+    → IsFoundIn p gated sums regions c o → was_sought o ≡ true → RegionOf p gated sums c u →
     option_map kept_region (found_by regions (number_by o)) ≡ branch_region p u
 found_is p gated sums c regions None u h s k = absurd cc
 found_is p gated sums c regions (Some sought.Unsought) u h s k = absurd cc

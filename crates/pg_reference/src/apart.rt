@@ -1,3 +1,5 @@
+//! Whether the frames of accesses are apart.
+
 ghost use Rattle.std.specs.Prelude.{◌≡◌, length};
 ghost use Rattle.std.specs.List.{list_any};
 ghost use Rattle.pg_trace.specs.Races.{share};

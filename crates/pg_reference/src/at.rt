@@ -1,3 +1,5 @@
+//! Where root paths lead at a step.
+
 ghost use Rattle.std.specs.Prelude.{◌≡◌, ◌<◌, Some, drop, length, slice_get, take};
 
 use pg_accesses::Rooted;

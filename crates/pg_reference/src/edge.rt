@@ -1,3 +1,5 @@
+//! The edge that a step takes.
+
 ghost use Rattle.std.specs.Prelude.{◌≡◌, ◌<◌, length};
 ghost use Rattle.pg_step.specs.Compute.{chosen};
 ghost use Rattle.pg_step.specs.Needs.{EndsBlock};
@@ -8,7 +10,6 @@ ghost use Rattle.pg_closed.specs.Extents.{edge_by};
 ghost use Rattle.pg_closed.specs.Known.{edge_of};
 ghost use Rattle.pg_reference.specs.Landmarks.{moment_in};
 
-use crate::follow::global_pointer;
 use pg_ir::{BlockNo, Instr, Op, Program, ThreadNo, Value};
 use pg_machine::Machine;
 use pg_trace::{Step, StepKind};
@@ -20,7 +21,7 @@ fn value(machine: &Machine, p: &Program, t: ThreadNo, of: Value) -> Option<u64>
     match of {
         Value::Register(r) => machine.register(t, r),
         Value::Const(n) => Some(n),
-        Value::Global(g) => global_pointer(p, g),
+        Value::Global(g) => p.global_pointer(g),
         Value::Function(f) => Some(f as u64),
     }
 }

@@ -1,7 +1,9 @@
-ghost use Rattle.std.specs.Prelude.{◌≡◌, ◌≤◌, ◌<◌, length, take, option_map, pos, slice_get, Some, None, IfOk};
+//! Root paths, followed at a step.
+
+ghost use Rattle.std.specs.Prelude.{◌≡◌, ◌≤◌, ◌<◌, length, take, option_map, pos, Some, None, IfOk};
 ghost use Rattle.pg_num.specs.Pointers.{moved_by};
 ghost use Rattle.pg_mem.specs.Memory.{read};
-ghost use Rattle.pg_paths.specs.Followed.{followed_from, pointer_to, root_value};
+ghost use Rattle.pg_paths.specs.Followed.{followed_from, root_value};
 ghost use Rattle.pg_paths.specs.Paths.{offsets_of};
 ghost use Rattle.pg_machine.specs.Readers.{register_of};
 ghost use Rattle.pg_reference.specs.Paths.{Adds, IsLoaded, along, cell_of, followed_in};
@@ -11,31 +13,16 @@ use pg_accesses::Rooted;
 use pg_ir::{Program, ThreadNo};
 use pg_machine::Machine;
 use pg_num::layout::GRANULE_BYTES;
-use pg_num::{Pointer, move_by, pack, place, unpack};
+use pg_num::{move_by, place, unpack};
 use pg_paths::{Loads, Root, RootPath};
 use std::alloc::AllocError;
-
-/// The pointer to a global, if there is one of this number.
-pub(crate) fn global_pointer(p: &Program, g: u32) -> Option<u64>
-    ensures { result ≡ pointer_to (slice_get p.now.globals g) }
-{
-    if g >= p.global_count() {
-        return None;
-    }
-    let global = p.global(g);
-    Some(pack(Pointer {
-        start: global.start,
-        length: global.size,
-        offset: 0,
-    }))
-}
 
 /// The value of a root of a thread's present call.
 fn root_value(machine: &Machine, p: &Program, t: ThreadNo, root: Root) -> Option<u64>
     ensures { result ≡ root_value p.now (register_of machine.now.state t.0) root }
 {
     match root {
-        Root::Global(g) => global_pointer(p, g),
+        Root::Global(g) => p.global_pointer(g),
         Root::Const(n) => Some(n),
         Root::Register(r) => machine.register(t, r),
         Root::Param(_) => None,

@@ -1,3 +1,5 @@
+//! What was found of a branch's region.
+
 use pg_accesses::Rooted;
 
 /// The region of a branch: its join, the registers that it may set, and its accesses.

@@ -1,3 +1,5 @@
+//! Whether a step is freeable.
+
 ghost use Rattle.std.specs.Prelude.{◌≡◌, ◌<◌, List, length, IfOk, slice_get};
 ghost use Rattle.std.specs.Option.{option_copied};
 ghost use Rattle.pg_reference.specs.Apart.{AddsApart, TriesApart};
@@ -117,7 +119,8 @@ pub(crate) fn free_step(
     last: &mut [Option<u32>],
 ) -> Result<Option<FreeStep>, AllocError>
     requires { step.now.instr.0 < length p.now.instrs }
-    ensures { IfOk result (λ f. (xs : List At) × IsFreed (freed_in p.now regions.now.blocks.items regions.now.regions.items machine.now.state step.now) regions.now.regions.items ats.old.items ats.new.items xs f) }
+    ensures { IfOk result (λ f. (xs : List At)
+        × IsFreed (freed_in p.now regions.now.blocks.items regions.now.regions.items machine.now.state step.now) regions.now.regions.items ats.old.items ats.new.items xs f) }
 {
     let StepKind::Branch { .. } = step.kind else {
         return Ok(None);

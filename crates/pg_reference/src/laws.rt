@@ -12,5 +12,6 @@ ghost use Rattle.pg_machine.specs.State.{initial};
 
 /// Where following a schedule exits, its steps are a run of the machine from the first state on.
 pub fn a_followed_run_is_a_run()
-    ensures { (p : NumberedProgram) (input : List ℤ) (turns : List Turn) (gated : List InstrId) (xs : List Step) (output : List ℕ) (value : ℤ) → following_of p input turns gated ≡ Exits xs output value → IsRun gated p input (initial p) xs (guided_of p input turns gated).state }
+    ensures { (p : NumberedProgram) (input : List ℤ) (turns : List Turn) (gated : List InstrId) (xs : List Step) (output : List ℕ) (value : ℤ)
+        → following_of p input turns gated ≡ Exits xs output value → IsRun gated p input (initial p) xs (guided_of p input turns gated).state }
 {}

@@ -1,41 +1,14 @@
-ghost use Rattle.std.specs.Prelude.{◌≡◌, ℕ, ◌<◌, ◌≤◌, ◌||◌, length, All, IfOk, IfSome, false, replicate};
+//! The registers that the blocks of a region may set.
+
+ghost use Rattle.std.specs.Prelude.{◌≡◌, ℕ, ◌<◌, ◌≤◌, ◌||◌, length, All, IfOk, false};
 ghost use Rattle.pg_num.specs.declared.limits.TheConstants.{FUNCTION_REGISTER_LIMIT};
-ghost use Rattle.pg_accesses.specs.Accesses.{block_sets, sets};
+ghost use Rattle.pg_accesses.specs.Accesses.{sets};
 ghost use Rattle.pg_accesses.specs.Tables.{in_table};
-ghost use Rattle.pg_paths.specs.Registers.{is_register};
 ghost use Rattle.pg_reference.specs.OfRegions.{phis_set};
 
-use pg_ir::{BlockNo, InstrId, Program};
-use pg_num::limits::FUNCTION_REGISTER_LIMIT;
+use pg_accesses::{add_set, sets_of};
+use pg_ir::{BlockNo, Program};
 use std::alloc::{AllocError, Global};
-
-/// Adds a register to a set, if there is one.
-#[tactic(auto, using(pg_accesses::proofs::Sets::added_one, pg_accesses::proofs::Sets::added_none))]
-fn add(set: &mut Vec<bool>, register: Option<u32>)
-    requires { IfSome register (λ r. r < length set.old.items) }
-    ensures sets { (r : ℕ) → in_table set.new.items r ≡ (is_register register r || in_table set.old.items r) }
-    ensures size { length set.new.items ≡ length set.old.items }
-{
-    if let Some(r) = register {
-        set[r as usize] = true;
-    }
-}
-
-/// Adds the registers that a block sets.
-fn add_block(set: &mut Vec<bool>, p: &Program, b: BlockNo)
-    requires block { b.0 < length p.now.blocks }
-    requires size { length set.old.items ≡ FUNCTION_REGISTER_LIMIT }
-    ensures sets { (r : ℕ) → in_table set.new.items r ≡ (block_sets p.now r b.0 || in_table set.old.items r) }
-    ensures size { length set.new.items ≡ FUNCTION_REGISTER_LIMIT }
-{
-    p.facts();
-    let block = *p.block(b);
-    let _function = p.function(block.function);
-    for k in 0..block.count {
-        let instr = p.instr(InstrId(block.first.0 + k));
-        add(set, instr.result);
-    }
-}
 
 /// Adds the registers that the `phi`s of a block set.
 fn add_phis(set: &mut Vec<bool>, p: &Program, b: BlockNo)
@@ -46,27 +19,8 @@ fn add_phis(set: &mut Vec<bool>, p: &Program, b: BlockNo)
 {
     p.facts();
     for phi in p.phis(b) {
-        add(set, phi.result);
+        add_set(set, phi.result);
     }
-}
-
-/// The set of none of so many registers.
-fn none_of(alloc: Global, count: usize) -> Result<Vec<bool>, AllocError>
-    ensures { IfOk result (λ set. set.items ≡ replicate count false) }
-{
-    vec![in alloc; false; count]
-}
-
-/// The registers that a set of blocks sets.
-fn sets_of(alloc: Global, p: &Program, blocks: &[u32]) -> Result<Vec<bool>, AllocError>
-    requires { All (λ b. b < length p.now.blocks) blocks.now }
-    ensures { IfOk result (λ set. (length set.items ≡ FUNCTION_REGISTER_LIMIT) × ((r : ℕ) → in_table set.items r ≡ sets p.now blocks.now r)) }
-{
-    let mut set = none_of(alloc, FUNCTION_REGISTER_LIMIT as usize)?;
-    for b in blocks {
-        add_block(&mut set, p, BlockNo(*b));
-    }
-    Ok(set)
 }
 
 /// One more than the greatest number of a set.

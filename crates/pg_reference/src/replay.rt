@@ -1,3 +1,5 @@
+//! The replay of a trace, which keeps what the trace lacks.
+
 ghost use Rattle.std.specs.Prelude.{◌≡◌, ◌<◌, ℕ, [], length, map, All, IfOk, OnOk, option_map, slice_get};
 ghost use Rattle.pg_ir.specs.declared.ids.InstrId.{InstrId};
 ghost use Rattle.pg_accesses.specs.Accesses.{is_gated, summary_of};
@@ -42,7 +44,8 @@ fn replay(
     requires run { (z : State) × IsRun machine.old.gated p.now machine.old.input machine.old.state t.now.steps z }
     requires rows { rows.old.items ≡ [] }
     ensures rows { OnOk result (map (landmark_in ats.new.items regions.now.regions.items) rows.new.items
-        ≡ told_along (λ s x. landmark_with p.now (freed_in p.now regions.now.blocks.items regions.now.regions.items s x) s x) machine.old.gated p.now machine.old.input machine.old.state t.now.steps) }
+        ≡ told_along (λ s x. landmark_with p.now (freed_in p.now regions.now.blocks.items regions.now.regions.items s x) s x) machine.old.gated p.now machine.old.input machine.old.state
+        t.now.steps) }
 {
     for i in 0..t.len() {
         let step = t.step(i);

@@ -1,3 +1,5 @@
+//! What a replay keeps of each step.
+
 /// A step at a branch that is freeable: which of the regions it has, and where its accesses begin among those of all steps.
 #[derive(Clone, Copy)]
 pub struct FreeStep {

@@ -1,3 +1,5 @@
+//! Reference runs, and what is read of them.
+
 ghost use Rattle.std.specs.Prelude.{◌≡◌, ℕ, IfNone, IfSome, None, Option, [], false, is_some, length, option_map, slice_get};
 ghost use Rattle.std.specs.Option.{option_copied};
 ghost use Rattle.pg_accesses.specs.Tables.{in_table};

@@ -1,3 +1,5 @@
+//! The regions of branches, each sought once.
+
 ghost use Rattle.std.specs.Prelude.{◌≡◌, ℕ, ◌<◌, Bool, Option, length, All, IfOk, OnOk, Some, true, replicate, slice_get};
 ghost use Rattle.pg_ir.specs.declared.ids.InstrId.{InstrId};
 ghost use Rattle.pg_accesses.specs.Accesses.{RootedList, is_gated, summary_of};

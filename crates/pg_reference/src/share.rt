@@ -1,3 +1,5 @@
+//! Whether paths lead to the same places.
+
 ghost use Rattle.std.specs.Prelude.{◌≡◌, ◌+◌, ◌≤◌, true};
 ghost use Rattle.pg_reference.specs.Shared.{AreAlike, IsShared};
 

@@ -1,3 +1,5 @@
+//! One step of a replay.
+
 ghost use Rattle.std.specs.Prelude.{◌≡◌, ◌<◌, List, length, IfOk, OnOk};
 ghost use Rattle.pg_ir.specs.Program.{function_of};
 ghost use Rattle.pg_region.specs.Regions.{block_of};
@@ -37,7 +39,8 @@ pub(crate) fn row_of(
     ensures function { IfOk result (λ r. r.function ≡ function_of p.now (block_of p.now step.now.instr.0)) }
     ensures edge { IfOk result (λ r. r.edge ≡ edge_of p.now (moment_in machine.now.state step.now) step.now.kind) }
     ensures target { IfOk result (λ r. r.target ≡ target_in targets.now.kept.items step.now.thread.0 (depth_of machine.now.state step.now.thread.0)) }
-    ensures free { IfOk result (λ r. (xs : List At) × IsFreed (freed_in p.now regions.now.blocks.items regions.now.regions.items machine.now.state step.now) regions.now.regions.items ats.old.items ats.new.items xs r.free) }
+    ensures free { IfOk result (λ r. (xs : List At)
+        × IsFreed (freed_in p.now regions.now.blocks.items regions.now.regions.items machine.now.state step.now) regions.now.regions.items ats.old.items ats.new.items xs r.free) }
 {
     let depth = machine.depth(step.thread);
     let free = free_step(machine, p, regions, step, ats, last)?;

@@ -1,3 +1,5 @@
+//! The registers that calls set in their callers.
+
 ghost use Rattle.std.specs.Prelude.{◌≡◌, ◌<◌, length, replicate, None, IfOk};
 ghost use Rattle.pg_num.specs.declared.limits.TheConstants.{THREAD_LIMIT};
 ghost use Rattle.pg_ir.specs.Program.{NumberedProgram};

@@ -4,7 +4,7 @@ use pg_ir::Known::{PgIn, PgOut};
 use pg_ir::Value::{Const, Global, Register};
 use pg_num::Width::{W1, W64};
 use pg_samples::Line::{Add, Branch, BranchIf, Call, Knows, Load, Return, Store, Trunc};
-use pg_samples::{Body, I1, I32, I64, PTR, Parts};
+use pg_samples::{Body, I1, I32, I64, PTR, Parts, main_alone};
 
 /// Main calls a function that adds one to its argument, and prints the sum.
 pub(crate) const ADDS_ONE: Parts = Parts {
@@ -33,53 +33,33 @@ pub(crate) const ADDS_ONE: Parts = Parts {
     main: 1,
 };
 
-/// Main stores a pointer to its second global at the first one, and where the input's first number is odd it stores one
+/// Main stores this pointer at the first of its two globals, and where the input's first number is odd it stores one
 /// through it.
-pub(crate) const STORES_THROUGH: Parts = Parts {
-    globals: &[(1, 8, b""), (2, 8, b"")],
-    functions: &[Body {
-        params: 0,
-        registers: &[I64, I1, PTR],
-        returned: Some(I32),
-        blocks: &[
+macro_rules! stores_through {
+    ($pointer:expr) => {
+        main_alone!(
+            &[(1, 8, b""), (2, 8, b"")],
+            &[I64, I1, PTR],
             &[
-                (None, Store(W64, Global(1), Global(0))),
-                (Some(0), Knows(PgIn, &[Const(0)])),
-                (Some(1), Trunc(W64, W1, Register(0))),
-                (None, BranchIf(Register(1), 1, 2)),
-            ],
-            &[
-                (Some(2), Load(W64, Global(0))),
-                (None, Store(W64, Const(1), Register(2))),
-                (None, Branch(2)),
-            ],
-            &[(None, Return(Some(Const(0))))],
-        ],
-    }],
-    main: 0,
-};
+                &[
+                    (None, Store(W64, $pointer, Global(0))),
+                    (Some(0), Knows(PgIn, &[Const(0)])),
+                    (Some(1), Trunc(W64, W1, Register(0))),
+                    (None, BranchIf(Register(1), 1, 2)),
+                ],
+                &[
+                    (Some(2), Load(W64, Global(0))),
+                    (None, Store(W64, Const(1), Register(2))),
+                    (None, Branch(2)),
+                ],
+                &[(None, Return(Some(Const(0))))],
+            ]
+        )
+    };
+}
 
-/// The same, but the pointer that is stored is that of the first global.
-pub(crate) const STORES_OVER: Parts = Parts {
-    globals: &[(1, 8, b""), (2, 8, b"")],
-    functions: &[Body {
-        params: 0,
-        registers: &[I64, I1, PTR],
-        returned: Some(I32),
-        blocks: &[
-            &[
-                (None, Store(W64, Global(0), Global(0))),
-                (Some(0), Knows(PgIn, &[Const(0)])),
-                (Some(1), Trunc(W64, W1, Register(0))),
-                (None, BranchIf(Register(1), 1, 2)),
-            ],
-            &[
-                (Some(2), Load(W64, Global(0))),
-                (None, Store(W64, Const(1), Register(2))),
-                (None, Branch(2)),
-            ],
-            &[(None, Return(Some(Const(0))))],
-        ],
-    }],
-    main: 0,
-};
+/// By a pointer to the second global.
+pub(crate) const STORES_THROUGH: Parts = stores_through!(Global(1));
+
+/// By a pointer to the first one, where it stands itself.
+pub(crate) const STORES_OVER: Parts = stores_through!(Global(0));

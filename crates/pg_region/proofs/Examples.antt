@@ -1,5 +1,6 @@
 -- The worked example: a loop over the elements of a global.
-use Rattle.std.proofs.Common.{◌≡◌, ◌≢◌, ℕ, zero, suc, ◌+◌, ◌≤◌, ◌==◌, Bool, true, false, List, [], ◌∷◌, length, Some, None, refl, sym, subst, arith, inl, inr, ◌⊎◌}
+use Rattle.std.proofs.Common.{◌≡◌, ◌≢◌, ℕ, zero, suc, ◌+◌, ◌≤◌, ◌==◌, Bool, true, false, List, [], ◌∷◌, length, Some, None, refl, sym, subst, arith, inl}
+use Rattle.std.proofs.Common.{inr, ◌⊎◌}
 use Rattle.std.specs.Prelude.{Contains, slice_get}
 use Rattle.std.specs.List.Sorted.{IsStrictlyIncreasing}
 use Rattle.std.proofs.lemmas.Bool.{cases_eq, true≢false}
@@ -14,7 +15,7 @@ use Rattle.pg_ir.specs.Program.{types_of, function_of, first_of, end_of}
 use Rattle.pg_ir.specs.Edges as edges
 use Rattle.pg_accesses.specs.Accesses.{RootedList, block_accesses, block_sets, set_accesses}
 use Rattle.pg_accesses.proofs.Ascending.{shorter}
-use Rattle.pg_accesses.proofs.Elements.{here, there, cases, only_here}
+use Rattle.pg_paths.proofs.Elements.{here, there, cases, only_here}
 use Rattle.pg_accesses.proofs.Passes.{set_quiet}
 use Rattle.pg_region.specs.Regions.{flow_of, IsJoin, IsSmaller}
 use Rattle.pg_region.specs.Examples.{loop_program, loop_flow, loop_accesses, no_summary, LoopHasRegion, GatedLoopHasNone}

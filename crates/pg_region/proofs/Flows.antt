@@ -1,5 +1,6 @@
 -- The flow of control between the blocks of a program is a closed graph.
-use Rattle.std.proofs.Common.{◌≡◌, ℕ, zero, suc, ◌+◌, ◌-◌, ◌<◌, ◌≤◌, ◌^◌, List, [], ◌∷◌, ◌++◌, length, get_or, Option, Some, None, refl, sym, ap, ◌∙◌, arith, inl, inr, ◌⊎◌, length-append}
+use Rattle.std.proofs.Common.{◌≡◌, ℕ, zero, suc, ◌+◌, ◌-◌, ◌<◌, ◌≤◌, ◌^◌, List, [], ◌∷◌, ◌++◌, length, get_or, Option, Some, None, refl, sym, ap}
+use Rattle.std.proofs.Common.{◌∙◌, arith, inl, inr, ◌⊎◌, length-append}
 use Rattle.std.specs.Prelude.{Contains, All, slice_get}
 use Rattle.std.proofs.lemmas.Bool.{cases_eq, cases_lt}
 use Rattle.std.proofs.lemmas.List.Elements.{Contains-get_or, All-from_recursion, All-contains}
@@ -28,15 +29,16 @@ got_last [] y (suc k) e = absurd (omega (arith, e))
 got_last (x ∷ xs) y zero e = absurd (omega (arith, e))
 got_last (x ∷ xs) y (suc k) e = got_last xs y k (omega (arith, e))
 
-flow_at : (p : NumberedProgram) (n b : ℕ) → b < n → slice_get (flow_between p n) b ≡ Some (edges.successors p b)
+pub flow_at : (p : NumberedProgram) (n b : ℕ) → b < n → slice_get (flow_between p n) b ≡ Some (edges.successors p b)
 flow_at p zero b lt = absurd (omega arith)
 flow_at p (suc n) b lt = go (cases_eq b n) (λ l. flow_at p n b l)
   where
-    go : (b ≡ n) ⊎ (b ≡ n → ⊥) → (b < n → slice_get (flow_between p n) b ≡ Some (edges.successors p b)) → slice_get (flow_between p n ++ edges.successors p n ∷ []) b ≡ Some (edges.successors p b)
+    go : (b ≡ n) ⊎ (b ≡ n → ⊥) → (b < n → slice_get (flow_between p n) b ≡ Some (edges.successors p b))
+        → slice_get (flow_between p n ++ edges.successors p n ∷ []) b ≡ Some (edges.successors p b)
     go (inl e) f = got_last (flow_between p n) (edges.successors p n) b (e ∙ sym (length_flow p n)) ∙ ap (λ z. Some (edges.successors p z)) (sym e)
     go (inr ne) f = let l : b < n = omega (arith, ne) in got_before (flow_between p n) (edges.successors p n ∷ []) b (omega (arith, l, length_flow p n)) ∙ f l
 
-got_past : (xs : EdgeLists) (k : ℕ) → length xs ≤ k → slice_get xs k ≡ None
+pub got_past : (xs : EdgeLists) (k : ℕ) → length xs ≤ k → slice_get xs k ≡ None
 got_past [] k le = refl
 got_past (x ∷ xs) zero le = absurd (omega arith)
 got_past (x ∷ xs) (suc k) le = got_past xs k (omega arith)
@@ -60,7 +62,8 @@ flow_closed p program few = record { closed = closed; few = omega (arith, few, l
     size : length (flow_between p (length p.blocks)) ≡ length p.blocks
     size = length_flow p (length p.blocks)
 
-    from_block : (a b : ℕ) → (a < length p.blocks) ⊎ (length p.blocks ≤ a) → Contains (targets_in (slice_get (flow_between p (length p.blocks)) a)) b → b < length (flow_between p (length p.blocks))
+    from_block : (a b : ℕ) → (a < length p.blocks) ⊎ (length p.blocks ≤ a) → Contains (targets_in (slice_get (flow_between p (length p.blocks)) a)) b
+        → b < length (flow_between p (length p.blocks))
     from_block a b (inl lt) c =
         let d = rw (flow_at p (length p.blocks) a lt) at c in
         let w : b < length p.blocks = targets_within p (slice_get p.instrs (end_of p a - 1)) (end_of p a - 1) b program refl d in
@@ -83,7 +86,8 @@ pub reach_within : (p : NumberedProgram) (c j : ℕ) (xs : List ℕ) → IsClose
 reach_within p c j xs closed reach = λ k d lt. let w = walk_within closed ((reach.exact (get_or xs k d)).0 (Contains-get_or xs k d lt)) in omega (arith, w, flow_size p)
 
 -- the targets of a block's last instruction are its successors
-pub successors_are : (p : NumberedProgram) (b : ℕ) (block : Block) (x : Instr) → slice_get p.blocks b ≡ Some block → 0 < block.count → slice_get p.instrs (block.first.0 + (block.count - 1)) ≡ Some x → edges.targets_of x.op ≡ edges.successors p b
+pub successors_are : (p : NumberedProgram) (b : ℕ) (block : Block) (x : Instr) → slice_get p.blocks b ≡ Some block → 0 < block.count
+    → slice_get p.instrs (block.first.0 + (block.count - 1)) ≡ Some x → edges.targets_of x.op ≡ edges.successors p b
 unfolding edges.successors end_of
 successors_are p b block x e pos at =
     let n : block.first.0 + block.count - 1 ≡ block.first.0 + (block.count - 1) = omega (arith, pos) in

@@ -2,7 +2,7 @@
 use Rattle.std.proofs.Common.{◌≡◌, ℕ, zero, suc, ◌+◌, ◌<◌, ◌↔◌, List, [], ◌∷◌, sym, subst, arith, inl, inr, ◌⊎◌}
 use Rattle.std.specs.Prelude.{Contains}
 use Rattle.std.specs.List.Sorted.{IsStrictlyIncreasing}
-use Rattle.pg_accesses.proofs.Elements.{here, there, cases, none_in}
+use Rattle.pg_paths.proofs.Elements.{here, there, cases, none_in}
 use Rattle.pg_accesses.proofs.Ascending.{tail_of, below}
 
 cons_ascends : (x : ℕ) (xs : List ℕ) → IsStrictlyIncreasing xs → ((z : ℕ) → Contains xs z → x < z) → IsStrictlyIncreasing (x ∷ xs)
@@ -21,7 +21,8 @@ has_part P [] a f = f [] (record { ascending = a; exact = λ x. (λ c. absurd (n
 has_part P (y ∷ ys) a f = has_part P ys (tail_of y ys a) (λ xs s. without xs s (λ q. also xs s q))
   where
     also : (xs : List ℕ) → IsPart P ys xs → P y → ⊥
-    also xs s q = f (y ∷ xs) (record { ascending = cons_ascends y xs s.ascending (λ z c. below y ys a z ((s.exact z).0 c).0); exact = λ x. (λ c. to x (cases y xs x c), λ d. from x d.1 (cases y ys x d.0)) })
+    also xs s q = f (y ∷ xs) (record
+        { ascending = cons_ascends y xs s.ascending (λ z c. below y ys a z ((s.exact z).0 c).0); exact = λ x. (λ c. to x (cases y xs x c), λ d. from x d.1 (cases y ys x d.0)) })
       where
         to : (x : ℕ) → (y ≡ x) ⊎ Contains xs x → Contains (y ∷ ys) x × P x
         to x (inl e) = (subst (λ (z : ℕ). Contains (y ∷ ys) z) e (here y ys), subst (λ (z : ℕ). P z) e q)

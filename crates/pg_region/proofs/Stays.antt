@@ -9,7 +9,8 @@ use Rattle.pg_accesses.specs.Accesses.{RootedList}
 use Rattle.pg_region.specs.Regions.{flow_of, IsJoin}
 use Rattle.pg_region.specs.Laws.{EdgesStayOrJoin}
 
-pub edges_stay : (p : NumberedProgram) (gated : ℕ → Bool) (sums : ℕ → Option RootedList) (c j : ℕ) (blocks : List ℕ) (accesses : RootedList) → IsJoin p gated sums c j blocks accesses → EdgesStayOrJoin p c j blocks
+pub edges_stay : (p : NumberedProgram) (gated : ℕ → Bool) (sums : ℕ → Option RootedList) (c j : ℕ) (blocks : List ℕ) (accesses : RootedList)
+    → IsJoin p gated sums c j blocks accesses → EdgesStayOrJoin p c j blocks
 edges_stay p gated sums c j blocks accesses h = record { inside = λ x y m e. go x y m e (cases_eq y j); first = λ y e. begin y e (cases_eq y j) }
   where
     go : (x y : ℕ) → Contains blocks x → Edge (flow_of p) x y → (y ≡ j) ⊎ (y ≡ j → ⊥) → (y ≡ j) ⊎ Contains blocks y

@@ -38,7 +38,8 @@ module _ (p : NumberedProgram) (gated : ℕ → Bool) (sums : ℕ → Option Roo
   not_met (first e h) = h
   not_met (then w e h) = h
 
-  module _ (c d v : ℕ) (outer inner : Region) (h : IsRegion p gated sums c outer) (k : IsRegion p gated sums d inner) (m : Contains outer.blocks.items d) (path : Path (flow_of p) outer.join v) (l : IsLoudBlock p gated sums v) where
+  module _ (c d v : ℕ) (outer inner : Region) (h : IsRegion p gated sums c outer) (k : IsRegion p gated sums d inner) (m : Contains outer.blocks.items d) (path : Path (flow_of p) outer.join v)
+      (l : IsLoudBlock p gated sums v) where
     -- no join has a proper part of the inner region before it
     no_fewer : (j : ℕ) → Enters (flow_of p) j d → ((x : ℕ) → Walk (flow_of p) j d x → Walk (flow_of p) inner.join d x) → Walk (flow_of p) inner.join d j → ⊥
     no_fewer j e w a = has_part (λ x. Walk (flow_of p) j d x) inner.blocks.items k.join.before.ascending found
@@ -48,7 +49,8 @@ module _ (p : NumberedProgram) (gated : ℕ → Bool) (sums : ℕ → Option Roo
             let part : (x : ℕ) → Contains xs x → Contains inner.blocks.items x = λ x c. ((s.exact x).0 c).0 in
             let reach : IsReach (flow_of p) d j xs = record { ascending = s.ascending; exact = λ x. (λ c. ((s.exact x).0 c).1, λ z. (s.exact x).1 ((k.join.before.exact x).1 (w x z), z)) } in
             let q = quiet_part false p gated sums inner.blocks.items xs inner.accesses.items k.join.quiet part in
-            let less : length xs < length inner.blocks.items = strictly_shorter inner.blocks.items xs j s.ascending k.join.before.ascending part ((k.join.before.exact j).1 a) (λ c. not_met ((reach.exact j).0 c) refl) in
+            let less : length xs < length inner.blocks.items = strictly_shorter inner.blocks.items xs j s.ascending k.join.before.ascending part ((k.join.before.exact j).1 a)
+            (λ c. not_met ((reach.exact j).0 c) refl) in
             against xs less (k.fewest j xs q.0 (record { reached = e; before = reach; quiet = q.1 }))
           where
             against : (xs : List ℕ) → length xs < length inner.blocks.items → IsSmaller inner.blocks.items inner.join xs j → ⊥

@@ -32,7 +32,11 @@ loop_program = record {
   instrs =
       record { op = op.CallKnown known.PgIn (value.Const 0 ∷ []); block = record { 0 = 0 }; result = Some 0 }
       ∷ record { op = op.Br (record { 0 = 1 }); block = record { 0 = 0 }; result = None }
-      ∷ record { op = op.Phi (record { block = record { 0 = 0 }; value = value.Const 0 } ∷ record { block = record { 0 = 2 }; value = value.Register 4 } ∷ []); block = record { 0 = 1 }; result = Some 1 }
+      ∷ record {
+        op = op.Phi (record { block = record { 0 = 0 }; value = value.Const 0 } ∷ record { block = record { 0 = 2 }; value = value.Register 4 } ∷ []);
+        block = record { 0 = 1 };
+        result = Some 1;
+      }
       ∷ record { op = op.Compare compares.Slt W64 (value.Register 1) (value.Register 0); block = record { 0 = 1 }; result = Some 2 }
       ∷ record { op = op.CondBr (value.Register 2) (record { 0 = 2 }) (record { 0 = 3 }); block = record { 0 = 1 }; result = None }
       ∷ record { op = op.Gep (value.Global 0) (record { value = value.Register 1; width = W64; scale = scale.Times 8 } ∷ []); block = record { 0 = 2 }; result = Some 3 }

@@ -15,7 +15,8 @@ pub record EdgesStayOrJoin (p : NumberedProgram) (c j : ℕ) (blocks : List ℕ)
   pub first : (y : ℕ) → Edge (flow_of p) c y → (y ≡ j) ⊎ Contains blocks y
 
 abbrev pub EdgesStay : Type 0
-EdgesStay = (p : NumberedProgram) (gated : ℕ → Bool) (sums : ℕ → Option RootedList) (c j : ℕ) (blocks : List ℕ) (accesses : RootedList) → IsJoin p gated sums c j blocks accesses → EdgesStayOrJoin p c j blocks
+EdgesStay = (p : NumberedProgram) (gated : ℕ → Bool) (sums : ℕ → Option RootedList) (c j : ℕ) (blocks : List ℕ) (accesses : RootedList) → IsJoin p gated sums c j blocks accesses
+    → EdgesStayOrJoin p c j blocks
 
 -- a block with an event, a gated access, an `alloca`, a call of a function that isn't quiet, or a `ret`
 pub record IsLoudBlock (p : NumberedProgram) (gated : ℕ → Bool) (sums : ℕ → Option RootedList) (v : ℕ) : Type 0 where
@@ -31,5 +32,6 @@ pub record AreNested (outer inner : Region) : Type 0 where
 
 -- a branch in the region of another has its own region in there, where a path goes from the outer join to a loud block
 abbrev pub RegionsNest : Type 0
-RegionsNest = (p : NumberedProgram) (gated : ℕ → Bool) (sums : ℕ → Option RootedList) (c d v : ℕ) (outer inner : Region) → IsRegion p gated sums c outer → IsRegion p gated sums d inner → Contains outer.blocks.items d →
+RegionsNest = (p : NumberedProgram) (gated : ℕ → Bool) (sums : ℕ → Option RootedList) (c d v : ℕ) (outer inner : Region) → IsRegion p gated sums c outer
+    → IsRegion p gated sums d inner → Contains outer.blocks.items d →
     Path (flow_of p) outer.join v → IsLoudBlock p gated sums v → AreNested outer inner

@@ -1,3 +1,5 @@
+//! The blocks to which control may go on.
+
 ghost use Rattle.std.specs.Prelude.{◌≡◌, ℕ, ◌<◌, ◌^◌, length, ◌∷◌, map, IfOk};
 ghost use Rattle.pg_ir.specs.declared.edge.Case.{Case};
 ghost use Rattle.pg_ir.specs.Edges.{successors, targets_of as op_targets};

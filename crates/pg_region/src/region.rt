@@ -1,3 +1,5 @@
+//! The region of a branch.
+
 use pg_accesses::Rooted;
 
 /// The region of a branch: the block at which its ways meet again, the numbers of the blocks that can be reached

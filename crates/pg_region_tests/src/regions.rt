@@ -1,9 +1,9 @@
 //! Regions of the branches of sample programs, where no function is quiet.
 
-use crate::programs::{CASES, CHAINS, CHOSEN_PLACE, LOOPS};
+use crate::programs::{CASES, CHAINS, LOOPS};
 use pg_accesses::{Rooted, Summary};
 use pg_ir::{InstrId, Program};
-use pg_paths::{Loads, Root, RootPath};
+use pg_paths::{Loads, Root};
 use pg_region::{Region, region_of};
 use pg_samples::{Parts, Sample, build};
 use std::alloc::{AllocError, Global};
@@ -12,13 +12,9 @@ use std::test::Fail;
 /// Instruction, whether it writes, root and loads.
 type Row = (u32, bool, Root, Loads);
 
-fn rooted(row: &Row) -> Rooted {
-    let (instr, writes, root, loads) = *row;
-    Rooted {
-        instr: InstrId(instr),
-        writes,
-        path: RootPath { root, loads },
-    }
+fn row_of(access: &Rooted) -> Row {
+    let path = access.path;
+    (access.instr.0, access.writes, path.root, path.loads)
 }
 
 fn is_region(region: &Region, join: u32, blocks: &[u32], rows: &[Row]) -> bool {
@@ -26,7 +22,7 @@ fn is_region(region: &Region, join: u32, blocks: &[u32], rows: &[Row]) -> bool {
         return false;
     }
     let accesses = region.accesses.as_slice();
-    accesses.len() == rows.len() && accesses.iter().zip(rows).all(|(a, row)| *a == rooted(row))
+    accesses.len() == rows.len() && accesses.iter().zip(rows).all(|(a, row)| row_of(a) == *row)
 }
 
 fn none_quiet(alloc: Global, count: u32) -> Result<Vec<Option<Summary>>, AllocError> {
@@ -181,7 +177,7 @@ fn loop_in_registers(rt: HostRuntime) -> Result<(), Fail> {
 #[test]
 fn root_behind_a_phi(rt: HostRuntime) -> Result<(), Fail> {
     let alloc = rt.alloc();
-    let p = of_parts(alloc, &CHOSEN_PLACE)?;
+    let p = sample(alloc, Sample::StoreAtOneOfTwo)?;
     let found = region(alloc, &p, 2)?.ok_or("none")?;
     assert!(rt; is_region(&found, 2, &[1], &[]), "{found:?}");
     let found = region(alloc, &p, 7)?.ok_or("none")?;

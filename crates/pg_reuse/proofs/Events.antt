@@ -6,8 +6,6 @@ use Rattle.std.proofs.lemmas.List.{length-append}
 use Rattle.std.proofs.lemmas.List.Elements.{filter-append}
 use Rattle.pg_trace.specs.declared.step.Happening.{Happening}
 use Rattle.pg_trace.specs.declared.step.Step.{Step}
-use Rattle.pg_trace.specs.declared.step.StepKind.{StepKind}
-use Rattle.pg_trace.specs.declared.step.StepKind.TheVariants as kinds
 use Rattle.pg_trace.specs.declared.turn.Turn.{Turn}
 use Rattle.pg_trace.specs.Races.{recorded, reply_in}
 use Rattle.pg_trace.specs.Steps.{event_of, events, happening_in, turn_at}
@@ -18,7 +16,7 @@ use Rattle.pg_runs.specs.Cuts.{IsFrontOf, steps_by}
 use Rattle.pg_runs.specs.LastTurns.{until_last}
 use Rattle.pg_order.specs.Good.{replies_of}
 use Rattle.pg_units.specs.Answered.{answered}
-use Rattle.pg_sound.proofs.Good.{first_replies}
+use Rattle.pg_sound.proofs.Good.{first_replies, no_reply}
 
 -- ---- fronts
 
@@ -31,7 +29,9 @@ front_of_front {A} xs ys zs f g = (f.0 ++ g.0, append_parts xs f.0 g.0 ∙ ap (�
 
 -- each the front of the other
 pub fronts_same : {A : Type 0} (xs ys : List A) → IsFrontOf xs ys → IsFrontOf ys xs → xs ≡ ys
-fronts_same {A} xs ys f g = sym (append-nil xs) ∙ ap (λ (l : List A). xs ++ l) (sym (none f.0 (let a = ap (λ (l : List A). length l) f.1 in let b = ap (λ (l : List A). length l) g.1 in let c = length-append xs f.0 in let d = length-append ys g.0 in omega (arith, a, b, c, d)))) ∙ f.1
+fronts_same {A} xs ys f g = sym (append-nil xs) ∙ ap (λ (l : List A). xs ++ l)
+    (sym (none f.0 (let a = ap (λ (l : List A). length l) f.1 in let b = ap (λ (l : List A). length l) g.1 in let c = length-append xs f.0 in let d = length-append ys g.0 in
+    omega (arith, a, b, c, d)))) ∙ f.1
   where
     none : (l : List A) → length l ≡ 0 → l ≡ []
     none [] e = refl
@@ -114,7 +114,8 @@ module _ (x y : Step) (xs ys : List Step) (owner : x.thread.0 ≡ y.thread.0) (h
       go true e = subst (λ (n : ℕ). IsFrontOf (steps_by n xs) (steps_by n ys)) (sym (same_number t x.thread.0 e)) ((h x.thread.0).0, let k = first in cc)
       go false e = (
         (h t).0,
-        ap (λ (l : List Step). l ++ (h t).0) (sym (left_one (λ (i : Step). t == i.thread.0) x xs e)) ∙ (h t).1 ∙ left_one (λ (i : Step). t == i.thread.0) y ys (ap (λ (n : ℕ). t == n) (sym owner) ∙ e),
+        ap (λ (l : List Step). l ++ (h t).0) (sym (left_one (λ (i : Step). t == i.thread.0) x xs e)) ∙ (h t).1
+            ∙ left_one (λ (i : Step). t == i.thread.0) y ys (ap (λ (n : ℕ). t == n) (sym owner) ∙ e),
       )
 
 one_owner : (t a b : ℕ) (ts ms ns : List ℕ) → a ∷ ms ≡ t ∷ ts → b ∷ ns ≡ t ∷ ts → a ≡ b
@@ -125,7 +126,8 @@ no_more a b ms ns e = cc
 
 nothing_first : (x : Step) (xs : List Step) → AreFirst (x ∷ xs) [] → ⊥
 nothing_first x xs h =
-    let a : x ∷ (steps_by x.thread.0 xs ++ (h x.thread.0).0) ≡ [] = ap (λ (l : List Step). l ++ (h x.thread.0).0) (sym (kept_one (λ (y : Step). x.thread.0 == y.thread.0) x xs (same_as_itself x.thread.0))) ∙ (h x.thread.0).1 in
+    let a : x ∷ (steps_by x.thread.0 xs ++ (h x.thread.0).0) ≡ [] =
+    ap (λ (l : List Step). l ++ (h x.thread.0).0) (sym (kept_one (λ (y : Step). x.thread.0 == y.thread.0) x xs (same_as_itself x.thread.0))) ∙ (h x.thread.0).1 in
     absurd cc
 
 more_first : (x y : Step) (xs ys : List Step) → x ≡ y → IsFrontOf xs ys → IsFrontOf (x ∷ xs) (y ∷ ys)
@@ -140,7 +142,8 @@ same_order (t ∷ ts) (x ∷ xs) (y ∷ ys) f g h =
     more_first x y xs ys (same_step x y xs ys owner h)
     (same_order ts xs ys (f.0, no_more x.thread.0 t (map owner_of xs ++ f.0) ts f.1) (g.0, no_more y.thread.0 t (map owner_of ys ++ g.0) ts g.1) (later x y xs ys owner h))
 
-pub replies_first : (turns : List Turn) (xs ys : List Step) → IsFrontOf (events xs) turns → IsFrontOf (events ys) turns → ((t : ℕ) → IsFrontOf (steps_by t xs) (steps_by t ys)) → IsFrontOf (replies_of xs) (replies_of ys)
+pub replies_first : (turns : List Turn) (xs ys : List Step) → IsFrontOf (events xs) turns → IsFrontOf (events ys) turns → ((t : ℕ) → IsFrontOf (steps_by t xs) (steps_by t ys))
+    → IsFrontOf (replies_of xs) (replies_of ys)
 replies_first turns xs ys f g h =
     let a = map_front turn_owner (events xs) turns f in
     let b = map_front turn_owner (events ys) turns g in
@@ -150,18 +153,6 @@ replies_first turns xs ys f g h =
     first_replies xs ys (map_front answered (told xs) (told ys) c)
 
 -- ---- up to each thread's last turn
-
--- a step that is no event has no reply
-no_reply : (k : StepKind) → happening_in k ≡ None → reply_in k ≡ None
-no_reply kinds.Other e = refl
-no_reply (kinds.Branch c) e = refl
-no_reply (kinds.Allocation m n) e = refl
-no_reply (kinds.Event v) e = absurd cc
-no_reply (kinds.Access a) e = go a.event _ e
-  where
-    go : (b : Bool) (v : Happening) → Path (Option Happening) (if b then Some v else None) None → Path (Option ℕ) (if b then Some 0 else None) None
-    go true v h = absurd cc
-    go false v h = refl
 
 -- all events are there, and so all replies
 module _ (us : List Turn) (x : Step) (xs : List Step) (e : us ≡ events (x ∷ xs)) (later : (vs : List Turn) → vs ≡ events xs → replies_of (until_last vs xs) ≡ replies_of xs) where

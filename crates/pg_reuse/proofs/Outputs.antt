@@ -51,7 +51,8 @@ module _ (gated : List InstrId) (p : NumberedProgram) (input : List ℤ) where
   unfolding turn_of
   prints_none t s z x h e = ap (λ (v : State). v.printed) (left_by gated p input s z t x e) ∙ keeps_printed t s (asks_none t s (next_of p s t) h)
 
-  on_walk_printed : (t n : ℕ) (s : State) (o : Stepped) (more : State → Walk) → stands gated p s t ≡ false → step gated p input s t ≡ o → ((z : State) → (more z).state.printed ≡ z.printed) → (on_plain s n o more).state.printed ≡ s.printed
+  on_walk_printed : (t n : ℕ) (s : State) (o : Stepped) (more : State → Walk) → stands gated p s t ≡ false → step gated p input s t ≡ o
+      → ((z : State) → (more z).state.printed ≡ z.printed) → (on_plain s n o more).state.printed ≡ s.printed
   on_walk_printed t n s (Trapped name id) more h e ih = refl
   on_walk_printed t n s (Did x z) more h e ih = ih z ∙ prints_none t s z x h e
 
@@ -79,7 +80,8 @@ module _ (gated : List InstrId) (p : NumberedProgram) (input : List ℤ) where
       let w = walk_alone (slice_index r.left t) gated p input t r.state in
       record {
         printed = walk_printed t (slice_index r.left t) r.state ∙ h.printed;
-        events = filter_map-append event_of r.trace w.trace ∙ ap (λ (us : List Turn). events r.trace ++ us) (alone gated p input t (slice_index r.left t) r.state).plain ∙ append-nil (events r.trace) ∙ h.events;
+        events = filter_map-append event_of r.trace w.trace ∙ ap (λ (us : List Turn). events r.trace ++ us) (alone gated p input t (slice_index r.left t) r.state).plain
+            ∙ append-nil (events r.trace) ∙ h.events;
       }
 
   others : (n : ℕ) (next : Turn) (later : List Turn) (r : GuidedRun) → GoesOn r (with_others n gated p input next later r)
@@ -88,7 +90,9 @@ module _ (gated : List InstrId) (p : NumberedProgram) (input : List ℤ) where
   others (suc t) next later r = go (not (t == next.thread.0) && has_turn t later) (others t next later r)
     where
       go : (b : Bool) → GoesOn r (with_others t gated p input next later r) →
-          GoesOn r (if b then with_walk (with_others t gated p input next later r) t (walk_alone (slice_index (with_others t gated p input next later r).left t) gated p input t (with_others t gated p input next later r).state) else with_others t gated p input next later r)
+          GoesOn r (if b then with_walk (with_others t gated p input next later r) t
+          (walk_alone (slice_index (with_others t gated p input next later r).left t) gated p input t (with_others t gated p input next later r).state) else with_others t gated p input next
+          later r)
       go true h = walked t r (with_others t gated p input next later r) h
       go false h = h
 
@@ -100,6 +104,7 @@ module _ (gated : List InstrId) (p : NumberedProgram) (input : List ℤ) where
   unfolding full_guided_of
   full_goes_on turns = go (stops_early (guided_of p input turns gated).end)
     where
-      go : (b : Bool) → GoesOn (guided_of p input turns gated) (if b then gone_on gated p input (drop (guided_of p input turns gated).turns turns) (guided_of p input turns gated) else guided_of p input turns gated)
+      go : (b : Bool) → GoesOn (guided_of p input turns gated)
+          (if b then gone_on gated p input (drop (guided_of p input turns gated).turns turns) (guided_of p input turns gated) else guided_of p input turns gated)
       go true = goes_on (drop (guided_of p input turns gated).turns turns) (guided_of p input turns gated)
       go false = stays (guided_of p input turns gated)

@@ -35,7 +35,8 @@ use Rattle.pg_reuse.proofs.Events.{fronts_same, replies_first, until_replies}
 
 -- ---- what is kept of an ordered run that exits
 
-module _ (p : NumberedProgram) (own : List ℤ) (s : Schedule) (steps : List Step) (printed : List ℕ) (value : ℤ) (d : Taken) (c : Conditions) (can : CanRun p own) (exits : following_of p own s.turns s.gated ≡ Exits steps printed value)
+module _ (p : NumberedProgram) (own : List ℤ) (s : Schedule) (steps : List Step) (printed : List ℕ) (value : ℤ) (d : Taken) (c : Conditions) (can : CanRun p own)
+    (exits : following_of p own s.turns s.gated ≡ Exits steps printed value)
     (ordered : IsOrderedAlong s.turns steps) (replies : replies_of steps ≡ s.replies) (sliced : IsSliced p own s.gated steps d c) where
   some : (regions : Regions) × AreRegions p (is_gated s.gated) sliced.sums regions
   some = regions_are p (is_gated s.gated) sliced.sums can.program sliced.summaries
@@ -48,12 +49,14 @@ module _ (p : NumberedProgram) (own : List ℤ) (s : Schedule) (steps : List Ste
   }
 
   pub good : (input : List ℤ) → length input < 2 ^ 64 → is_admitted input c ≡ true → IsGoodRun p input s
-  good input small e = good_run p own input s sliced.sums some.0 steps d recording_is (record { closed = (sliced.slice some.0 some.1).closed; admitted = sym (sliced.admits some.0 some.1 input) ∙ e; small = small })
+  good input small e = good_run p own input s sliced.sums some.0 steps d recording_is
+      (record { closed = (sliced.slice some.0 some.1).closed; admitted = sym (sliced.admits some.0 some.1 input) ∙ e; small = small })
 
 -- ---- the guided run along the schedule of a recorded run
 
 -- it has the schedule's replies, since each thread does the same
-recorded_replies : (p : NumberedProgram) (own : List ℤ) (xs : List Step) (z : State) → CanRun p own → IsRecorded p own xs z → replies_of (guided_of p own (schedule_of xs).turns (schedule_of xs).gated).trace ≡ (schedule_of xs).replies
+recorded_replies : (p : NumberedProgram) (own : List ℤ) (xs : List Step) (z : State) → CanRun p own → IsRecorded p own xs z
+    → replies_of (guided_of p own (schedule_of xs).turns (schedule_of xs).gated).trace ≡ (schedule_of xs).replies
 recorded_replies p own xs z can h =
     let s = schedule_of xs in
     let g = guided_of p own s.turns s.gated in
@@ -66,7 +69,8 @@ recorded_replies p own xs z can h =
     ∙ until_replies s.turns (map (with_gated s.gated) xs) refl
 
 -- by the steps with which it exits
-recorded_along : (p : NumberedProgram) (own : List ℤ) (xs : List Step) (z : State) (s : Schedule) (steps : List Step) (printed : List ℕ) (value : ℤ) → CanRun p own → IsRecorded p own xs z → s ≡ schedule_of xs
+recorded_along : (p : NumberedProgram) (own : List ℤ) (xs : List Step) (z : State) (s : Schedule) (steps : List Step) (printed : List ℕ) (value : ℤ) → CanRun p own
+    → IsRecorded p own xs z → s ≡ schedule_of xs
     → following_of p own s.turns s.gated ≡ Exits steps printed value → IsOrderedAlong s.turns steps × (replies_of steps ≡ s.replies)
 recorded_along p own xs z s steps printed value can h same e =
     let x = exited p own s.turns s.gated steps printed value e in
@@ -76,7 +80,8 @@ recorded_along p own xs z s steps printed value can h same e =
 
 -- ---- entries
 
-pub entry_good : (p : NumberedProgram) (own input : List ℤ) (xs : List Step) (z : State) (e : EntryParts) → CanRun p own → IsRecorded p own xs z → IsEntry p own xs z e → length input < 2 ^ 64 → is_admitted input e.precondition ≡ true → IsGoodRun p input e.schedule
+pub entry_good : (p : NumberedProgram) (own input : List ℤ) (xs : List Step) (z : State) (e : EntryParts) → CanRun p own → IsRecorded p own xs z → IsEntry p own xs z e
+    → length input < 2 ^ 64 → is_admitted input e.precondition ≡ true → IsGoodRun p input e.schedule
 entry_good p own input xs z e can h i small admitted =
     let v = i.serves in
     let here : CanRun p e.input = subst (λ (l : List ℤ). CanRun p l) (sym i.same_input) can in
@@ -84,10 +89,12 @@ entry_good p own input xs z e can h i small admitted =
     let k = recorded_along p e.input xs z e.schedule i.steps z.printed (exit_value_of z) here there i.schedule v.exits in
     good p e.input e.schedule i.steps z.printed (exit_value_of z) (decisions_of e) e.precondition here v.exits k.0 k.1 v.sliced input small admitted
 
-pub turns_good : (p : NumberedProgram) (own input : List ℤ) (turns : List Turn) (gated : List InstrId) (e : EntryParts) → CanRun p own → IsEntryOfTurns p own turns gated e → length input < 2 ^ 64 → is_admitted input e.precondition ≡ true → IsGoodRun p input e.schedule
+pub turns_good : (p : NumberedProgram) (own input : List ℤ) (turns : List Turn) (gated : List InstrId) (e : EntryParts) → CanRun p own → IsEntryOfTurns p own turns gated e
+    → length input < 2 ^ 64 → is_admitted input e.precondition ≡ true → IsGoodRun p input e.schedule
 turns_good p own input turns gated e can i small admitted =
     let v = i.serves in
     let here : CanRun p e.input = subst (λ (l : List ℤ). CanRun p l) (sym i.same_input) can in
-    let all : events i.steps ≡ e.schedule.turns = all_turns p e.input e.schedule.turns e.schedule.gated i.steps (exited p e.input e.schedule.turns e.schedule.gated i.steps i.printed i.value v.exits) in
+    let all : events i.steps ≡ e.schedule.turns = all_turns p e.input e.schedule.turns e.schedule.gated i.steps
+    (exited p e.input e.schedule.turns e.schedule.gated i.steps i.printed i.value v.exits) in
     let ordered : IsOrderedAlong e.schedule.turns i.steps = subst (λ (T : List ℕ). IsOrdered recorded T i.steps) (owners_events i.steps ∙ ap owners_of all) ((ordered_none i.steps).0 i.ordered) in
     good p e.input e.schedule i.steps i.printed i.value (decisions_of e) e.precondition here v.exits ordered (sym i.replies) v.sliced input small admitted

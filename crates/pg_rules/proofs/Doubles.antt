@@ -1,5 +1,6 @@
 -- Names that stand twice.
-use Rattle.std.proofs.Common.{◌≡◌, ℕ, zero, suc, ◌+◌, ◌<◌, ◌≤◌, nat_lt, min, Bool, true, false, cond, ◌&&◌, ◌||◌, List, [], ◌∷◌, length, drop, get_or, Option, Some, None, refl, ap, ◌∙◌, arith, Bor}
+use Rattle.std.proofs.Common.{◌≡◌, ℕ, zero, suc, ◌+◌, ◌<◌, ◌≤◌, nat_lt, min, Bool, true, false, cond, ◌&&◌, ◌||◌, List, [], ◌∷◌, length, drop, get_or}
+use Rattle.std.proofs.Common.{Option, Some, None, refl, ap, ◌∙◌, arith, Bor}
 use Rattle.std.specs.List.{list_any}
 use Rattle.std.specs.Str.{bytes_eq}
 use Rattle.std.proofs.lemmas.Bool.Decides.{nat_tests}
@@ -11,7 +12,8 @@ use Rattle.pg_rules.specs.Earliest.{earliest}
 use Rattle.pg_rules.specs.Starts.{names_behind, noted_start, starts_after, first_start, is_before}
 
 -- a start that is put in
-pub start_noted : (a b known : Option ℕ) (same : Bool) (start least : ℕ) → (same ≡ true → known ≡ a) → Some least ≡ noted_start known true start → b ≡ cond same (Some least) a → b ≡ noted_start a same start
+pub start_noted : (a b known : Option ℕ) (same : Bool) (start least : ℕ) → (same ≡ true → known ≡ a) → Some least ≡ noted_start known true start → b ≡ cond same (Some least) a
+    → b ≡ noted_start a same start
 start_noted a b known true start least n l e = e ∙ l ∙ ap (λ k. noted_start k true start) (n refl)
 start_noted None b known false start least n l e = e
 start_noted (Some p) b known false start least n l e = e
@@ -69,7 +71,8 @@ is_before_any known (n ∷ ns) text place =
     by (Some p) false rest = refl
 
 -- another of a name is before it
-pub doubled_is : (all : List Name) (n : Name) (known : Option ℕ) (test : Bool) (o : Option Span) → known ≡ first_start all n.text → test ≡ is_before known n.span.start → o ≡ earliest (at_if test n.span) → o ≡ earliest (doubled all n)
+pub doubled_is : (all : List Name) (n : Name) (known : Option ℕ) (test : Bool) (o : Option Span) → known ≡ first_start all n.text → test ≡ is_before known n.span.start
+    → o ≡ earliest (at_if test n.span) → o ≡ earliest (doubled all n)
 unfolding doubled
 doubled_is all n known test o k t e =
     e ∙ by test ∙ ap (λ b. earliest (cond b (n.span ∷ []) [])) (t ∙ ap (λ x. is_before x n.span.start) k ∙ is_before_any None all n.text n.span.start)

@@ -4,7 +4,6 @@ use Rattle.pg_lex.specs.declared.token.Span.{Span}
 use Rattle.pg_ast.specs.declared.names.Name.{Name}
 use Rattle.pg_ast.specs.declared.names.Literal.{Literal}
 use Rattle.pg_ast.specs.declared.ops.BinaryOp.TheVariants as binary
-use Rattle.pg_ast.specs.declared.ops.Predicate.TheVariants as predicate
 use Rattle.pg_ast.specs.Syntax as syntax
 use Rattle.pg_ast.specs.Syntax.{Ty, tys, Val, vals, Typed, Const, consts, Op, Line, NamedType, Variable, Definition, Tree}
 use Rattle.pg_ast.specs.Numbers.{numbered, gives, is_void, name_void, decimal_text, digits_text, after_name, behind_block, block_at}
@@ -22,12 +21,14 @@ use Rattle.pg_types.specs.Resolved.{ResolvedType, IntegerType, NoFields, MoreFie
 use Rattle.pg_types.specs.Layout.{size_of, fields_end, alignment_of, field_offsets}
 use Rattle.pg_rules.specs.KnownNames.{known_name, known_named}
 use Rattle.pg_rules.specs.Names.{symbol, registers_of, register_named, register_number, label_number, first_block, first_line, doubled}
-use Rattle.pg_rules.specs.Written.{inner_uses, index_uses, operands, types_within, types_within_all, op_types, op_demands, const_uses, part_uses, const_types, part_types, label_targets, label_sources}
+use Rattle.pg_rules.specs.Written.{inner_uses, index_uses, operands, types_within, types_within_all, op_types, op_demands, const_uses, part_uses, const_types, part_types}
+use Rattle.pg_rules.specs.Written.{label_targets, label_sources}
 use Rattle.pg_rules.specs.TypeConditions.{unknown_types, wrong_counts, wrong_types, any_large}
 use Rattle.pg_rules.specs.ValueConditions.{wrong_indices, wrong_use, wrong_const, wrong_elements, wrong_fields}
 use Rattle.pg_rules.specs.LineConditions.{line_refused}
 use Rattle.pg_rules.specs.BlockConditions.{predecessors, bad_phis}
-use Rattle.pg_rules.specs.Conditions.{RefusedPlaces, meets, self_contained, item_refused, globals_end, global_refused, declaration_refused, definition_refused, body_refused, main_refused, heads_refused, phases}
+use Rattle.pg_rules.specs.Conditions.{RefusedPlaces, meets, self_contained, item_refused, globals_end, global_refused, declaration_refused, definition_refused, body_refused, main_refused}
+use Rattle.pg_rules.specs.Conditions.{heads_refused, phases}
 use Rattle.pg_rules.specs.Constants.{start_granule, pointer_word, const_bytes, element_bytes, field_bytes}
 use Rattle.pg_rules.specs.Numbered.{value_of, op_at, program_of}
 
@@ -100,7 +101,12 @@ text_param = syntax.ParamOf (record { ty = syntax.Ptr (at 2); name = None })
 abbrev pub printing : Tree
 printing = record {
   types = [];
-  globals = record { name = name 10 (codes "s"); is_constant = true; ty = syntax.Array (at 11) (literal 12 (codes "2")) (syntax.I8 (at 13)); value = syntax.BytesConst (literal 14 (97 ∷ 0 ∷ [])) } ∷ [];
+  globals = record {
+    name = name 10 (codes "s");
+    is_constant = true;
+    ty = syntax.Array (at 11) (literal 12 (codes "2")) (syntax.I8 (at 13));
+    value = syntax.BytesConst (literal 14 (97 ∷ 0 ∷ []));
+  } ∷ [];
   declares = record { result = syntax.I32 (at 0); name = name 1 (codes "printf"); params = text_param ∷ syntax.Dots (at 3) ∷ [] } ∷ [];
   functions = record {
     result = syntax.I32 (at 20);
@@ -109,14 +115,17 @@ printing = record {
     blocks = record {
       label = None;
       lines =
-          set (name 22 (codes "1")) (syntax.Call (at 23) (syntax.I32 (at 24)) (Some (record { types = syntax.Ptr (at 25) ∷ []; dots = true })) (name 26 (codes "printf")) (typed (syntax.Ptr (at 27)) (syntax.Global (name 28 (codes "s"))) ∷ []))
+          set (name 22 (codes "1")) (syntax.Call (at 23) (syntax.I32 (at 24)) (Some (record { types = syntax.Ptr (at 25) ∷ []; dots = true })) (name 26 (codes "printf"))
+          (typed (syntax.Ptr (at 27)) (syntax.Global (name 28 (codes "s"))) ∷ []))
           ∷ line (syntax.Ret (at 29) (typed (syntax.I32 (at 30)) (syntax.Int (literal 31 (codes "0"))))) ∷ [];
     } ∷ [];
   } ∷ [];
 }
 
 printing_found : map found (phases printing) ≡ [] ∷ [] ∷ [] ∷ ((Unsupported, 26) ∷ []) ∷ [] ∷ []
-unfolding phases global_refused globals_end wrong_const declaration_refused definition_refused body_refused line_refused bad_phis predecessors heads_refused main_refused unknown_types wrong_counts wrong_types any_large resolved type_within type_by fields_by types_within types_within_all doubled size_of same_type known_named known_name symbol registers_of register_named label_number inner_uses operands op_types op_demands const_uses const_types label_targets label_sources wrong_use numbered gives is_void behind_block block_at decimal_text after_name
+unfolding phases global_refused globals_end wrong_const declaration_refused definition_refused body_refused line_refused bad_phis predecessors heads_refused main_refused unknown_types
+    wrong_counts wrong_types any_large resolved type_within type_by fields_by types_within types_within_all doubled size_of same_type known_named known_name symbol registers_of register_named
+    label_number inner_uses operands op_types op_demands const_uses const_types label_targets label_sources wrong_use numbered gives is_void behind_block block_at decimal_text after_name
 printing_found = refl
 
 -- ---- a numbered program
@@ -178,8 +187,18 @@ rows_types = record { name = name 0 (codes "s"); ty = syntax.Struct (at 1) (tys 
 abbrev pub rows_globals : List Variable
 rows_globals =
     record { name = name 2 (codes "a"); is_constant = false; ty = syntax.Array (at 3) (literal 4 (codes "2")) named_s; value = syntax.ValConst (syntax.ZeroInitializer (at 5)) }
-    ∷ record { name = name 6 (codes "p"); is_constant = false; ty = ptr; value = syntax.ValConst (syntax.GepVal (at 7) named_s ptr (syntax.Global (name 8 (codes "a"))) (vals (typed i64 (int (codes "1")) ∷ typed i32 (int (codes "1")) ∷ []))) }
-    ∷ record { name = name 9 (codes "n"); is_constant = true; ty = syntax.Struct (at 10) (tys (i8 ∷ i32 ∷ [])); value = syntax.StructConst (at 11) (consts (record { ty = i8; value = syntax.ValConst (int (codes "7")) } ∷ record { ty = i32; value = syntax.ValConst (int (codes "-2")) } ∷ [])) }
+    ∷ record {
+      name = name 6 (codes "p");
+      is_constant = false;
+      ty = ptr;
+      value = syntax.ValConst (syntax.GepVal (at 7) named_s ptr (syntax.Global (name 8 (codes "a"))) (vals (typed i64 (int (codes "1")) ∷ typed i32 (int (codes "1")) ∷ [])));
+    }
+    ∷ record {
+      name = name 9 (codes "n");
+      is_constant = true;
+      ty = syntax.Struct (at 10) (tys (i8 ∷ i32 ∷ []));
+      value = syntax.StructConst (at 11) (consts (record { ty = i8; value = syntax.ValConst (int (codes "7")) } ∷ record { ty = i32; value = syntax.ValConst (int (codes "-2")) } ∷ []));
+    }
     ∷ []
 
 abbrev pub rows_main : Definition
@@ -197,10 +216,11 @@ rows_main = record {
       ∷ record {
         label = Some (name 110 (codes "w"));
         lines =
-            set (name 111 (codes "k")) (syntax.Phi (at 112) i64 (record { value = int (codes "0"); block = label (codes "0") }) (record { value = register (codes "m"); block = label (codes "w") } ∷ []))
+            set (name 111 (codes "k")) (syntax.Phi (at 112) i64 (record { value = int (codes "0"); block = label (codes "0") })
+            (record { value = register (codes "m"); block = label (codes "w") } ∷ []))
             ∷ set (name 113 (codes "m")) (syntax.Binary (at 114) binary.Add i64 (register (codes "k")) (int (codes "1")))
             ∷ set (name 115 (codes "q")) (syntax.GetElementPtr (at 116) named_s (pointer (codes "a")) (typed i64 (register (codes "k")) ∷ typed i32 (int (codes "1")) ∷ []))
-            ∷ set (name 117 (codes "c")) (syntax.Icmp (at 118) predicate.Slt i64 (register (codes "m")) (int (codes "3")))
+            ∷ set (name 117 (codes "c")) (syntax.Icmp (at 118) compare.Slt i64 (register (codes "m")) (int (codes "3")))
             ∷ line (syntax.CondBr (at 119) (typed (syntax.I1 (at 120)) (register (codes "c"))) (label (codes "w")) (label (codes "o"))) ∷ [];
       }
       ∷ record { label = Some (name 130 (codes "o")); lines = line (syntax.Ret (at 131) (typed i32 (int (codes "0")))) ∷ [] }
@@ -213,17 +233,31 @@ rows = record {
   globals = rows_globals;
   declares = record { result = i32; name = name 20 (codes "pthread_create"); params = pointer_param ∷ pointer_param ∷ pointer_param ∷ pointer_param ∷ [] } ∷ [];
   functions =
-      record { result = ptr; name = name 30 (codes "f"); params = record { ty = ptr; name = None } ∷ []; blocks = record { label = None; lines = line (syntax.Ret (at 31) (typed ptr (register (codes "0")))) ∷ [] } ∷ [] }
+      record {
+        result = ptr;
+        name = name 30 (codes "f");
+        params = record { ty = ptr; name = None } ∷ [];
+        blocks = record { label = None; lines = line (syntax.Ret (at 31) (typed ptr (register (codes "0")))) ∷ [] } ∷ [];
+      }
       ∷ rows_main ∷ [];
 }
 
 rows_found : map found (phases rows) ≡ [] ∷ [] ∷ [] ∷ [] ∷ [] ∷ [] ∷ []
-unfolding phases item_refused self_contained meets global_refused globals_end wrong_const wrong_elements wrong_fields declaration_refused definition_refused body_refused line_refused bad_phis predecessors heads_refused main_refused unknown_types wrong_counts wrong_types any_large resolved type_within type_by fields_by types_within types_within_all doubled size_of alignment_of fields_end same_type known_named known_name symbol registers_of register_named label_number inner_uses index_uses operands op_types op_demands const_uses part_uses const_types part_types label_targets label_sources wrong_use wrong_indices numbered gives is_void name_void behind_block block_at decimal_text digits_text after_name
+unfolding phases item_refused self_contained meets global_refused globals_end wrong_const wrong_elements wrong_fields declaration_refused definition_refused body_refused line_refused bad_phis
+    predecessors heads_refused main_refused unknown_types wrong_counts wrong_types any_large resolved type_within type_by fields_by types_within types_within_all doubled size_of alignment_of
+    fields_end same_type known_named known_name symbol registers_of register_named label_number inner_uses index_uses operands op_types op_demands const_uses part_uses const_types part_types
+    label_targets label_sources wrong_use wrong_indices numbered gives is_void name_void behind_block block_at decimal_text digits_text after_name
 rows_found = refl
 
 rows_numbered : program_of rows ≡ numbered_program
     (record { params = 1; registers = scalar.Ptr ∷ []; first_block = record { 0 = 0 }; blocks = 1; result = Some scalar.Ptr }
-    ∷ record { params = 0; registers = scalar.Int W32 ∷ scalar.Int W64 ∷ scalar.Int W64 ∷ scalar.Ptr ∷ scalar.Int W1 ∷ []; first_block = record { 0 = 1 }; blocks = 3; result = Some (scalar.Int W32) }
+    ∷ record {
+      params = 0;
+      registers = scalar.Int W32 ∷ scalar.Int W64 ∷ scalar.Int W64 ∷ scalar.Ptr ∷ scalar.Int W1 ∷ [];
+      first_block = record { 0 = 1 };
+      blocks = 3;
+      result = Some (scalar.Int W32);
+    }
     ∷ [])
     (record { function = 0; first = record { 0 = 0 }; count = 1 }
     ∷ record { function = 1; first = record { 0 = 1 }; count = 2 }
@@ -233,9 +267,18 @@ rows_numbered : program_of rows ≡ numbered_program
     (record { op = op.Ret (Some (value.Register 0)); block = record { 0 = 0 }; result = None }
     ∷ record { op = op.CallKnown known.PthreadCreate (value.Global 0 ∷ value.Const 0 ∷ value.Function 0 ∷ value.Const 0 ∷ []); block = record { 0 = 1 }; result = Some 0 }
     ∷ record { op = op.Br (record { 0 = 2 }); block = record { 0 = 1 }; result = None }
-    ∷ record { op = op.Phi (record { block = record { 0 = 1 }; value = value.Const 0 } ∷ record { block = record { 0 = 2 }; value = value.Register 2 } ∷ []); block = record { 0 = 2 }; result = Some 1 }
+    ∷ record {
+      op = op.Phi (record { block = record { 0 = 1 }; value = value.Const 0 } ∷ record { block = record { 0 = 2 }; value = value.Register 2 } ∷ []);
+      block = record { 0 = 2 };
+      result = Some 1;
+    }
     ∷ record { op = op.Add W64 (value.Register 1) (value.Const 1); block = record { 0 = 2 }; result = Some 2 }
-    ∷ record { op = op.Gep (value.Global 0) (record { value = value.Register 1; width = W64; scale = scale.Times 16 } ∷ record { value = value.Const 1; width = W32; scale = scale.Field 8 } ∷ []); block = record { 0 = 2 }; result = Some 3 }
+    ∷ record {
+      op = op.Gep (value.Global 0) (record { value = value.Register 1; width = W64; scale = scale.Times 16 } ∷ record
+          { value = value.Const 1; width = W32; scale = scale.Field 8 } ∷ []);
+      block = record { 0 = 2 };
+      result = Some 3;
+    }
     ∷ record { op = op.Compare compare.Slt W64 (value.Register 2) (value.Const 3); block = record { 0 = 2 }; result = Some 4 }
     ∷ record { op = op.CondBr (value.Register 4) (record { 0 = 2 }) (record { 0 = 3 }); block = record { 0 = 2 }; result = None }
     ∷ record { op = op.Ret (Some (value.Const 0)); block = record { 0 = 3 }; result = None }
@@ -245,5 +288,6 @@ rows_numbered : program_of rows ≡ numbered_program
     ∷ record { start = 6; size = 8; bytes = 7 ∷ 0 ∷ 0 ∷ 0 ∷ 254 ∷ 255 ∷ 255 ∷ 255 ∷ [] }
     ∷ [])
     1
-unfolding program_of op_at value_of start_granule pointer_word const_bytes element_bytes field_bytes resolved type_within type_by fields_by size_of alignment_of fields_end known_named known_name symbol registers_of register_number label_number first_block first_line numbered gives is_void name_void behind_block block_at decimal_text digits_text after_name
+unfolding program_of op_at value_of start_granule pointer_word const_bytes element_bytes field_bytes resolved type_within type_by fields_by size_of alignment_of fields_end known_named known_name
+    symbol registers_of register_number label_number first_block first_line numbered gives is_void name_void behind_block block_at decimal_text digits_text after_name
 rows_numbered = refl

@@ -1,5 +1,6 @@
 -- The first refusals of parts: of a kind, of two parts, and of one thing of a list after the other.
-use Rattle.std.proofs.Common.{◌≡◌, ℕ, zero, suc, ◌+◌, ◌<◌, ◌≤◌, ◌==◌, nat_lt, Bool, true, false, cond, List, [], ◌∷◌, ◌++◌, length, map, take, get_or, Option, Some, None, refl, sym, ap, subst, ◌∙◌, ◌⊎◌, inl, inr, arith, rules}
+use Rattle.std.proofs.Common.{◌≡◌, ℕ, zero, suc, ◌+◌, ◌<◌, ◌≤◌, ◌==◌, nat_lt, Bool, true, false, cond, List, [], ◌∷◌, ◌++◌, length, map, take, get_or}
+use Rattle.std.proofs.Common.{Option, Some, None, refl, sym, ap, subst, ◌∙◌, ◌⊎◌, inl, inr, arith, rules}
 use Rattle.std.specs.Prelude.{Contains}
 use Rattle.std.specs.List.{enumerate_from}
 use Rattle.std.proofs.lemmas.Bool.Decides.{nat_tests}
@@ -131,7 +132,8 @@ front_none p q o n h = same_places q (joined p q) o (λ k. ap (λ ss. ss ++ q k)
 pub back_none : (p q : RefusedPlaces) (o : Option CheckRefusal) → IsFirstIn p o → RefusesNothing q → IsFirstIn (joined p q) o
 back_none p q o h n = same_places p (joined p q) o (λ k. sym (append-nil (p k)) ∙ ap (λ ss. p k ++ ss) (sym (n.none k))) h
 
-pub front_first : (p q : RefusedPlaces) (r : CheckRefusal) → IsEarliest p r.kind r.span → ((k : CheckKind) (s : Span) → Contains (q k) s → NoLater r.kind r.span k s) → IsEarliest (joined p q) r.kind r.span
+pub front_first : (p q : RefusedPlaces) (r : CheckRefusal) → IsEarliest p r.kind r.span → ((k : CheckKind) (s : Span) → Contains (q k) s → NoLater r.kind r.span k s)
+    → IsEarliest (joined p q) r.kind r.span
 front_first p q r h l = record {
   refused = Contains-append_left (p r.kind) (q r.kind) r.span h.refused;
   earliest = λ k s c. by k s (Contains-append_cases (p k) (q k) s c);

@@ -90,13 +90,15 @@ globals_refused :
     of_globals (global 0 (codes "a") (i8 1) (val (syntax.Local (name 2 (codes "b")))) ∷ []) ∷
     of_globals (global 0 (codes "a") (syntax.Void (at 1)) (val (syntax.Undef (at 2))) ∷ []) ∷
     of_globals (global 0 (codes "a") (array 1 (codes "2") (i8 3)) (syntax.BytesConst (literal 4 (97 ∷ []))) ∷ []) ∷
-    of_globals (global 0 (codes "a") (array 1 (codes "2") (i8 3)) (syntax.ArrayConst (at 4) (consts (typed_const (i8 5) (val (int 6 (codes "1"))) ∷ typed_const (syntax.I16 (at 7)) (val (int 8 (codes "1"))) ∷ []))) ∷ []) ∷
+    of_globals (global 0 (codes "a") (array 1 (codes "2") (i8 3))
+    (syntax.ArrayConst (at 4) (consts (typed_const (i8 5) (val (int 6 (codes "1"))) ∷ typed_const (syntax.I16 (at 7)) (val (int 8 (codes "1"))) ∷ []))) ∷ []) ∷
     of_globals (global 0 (codes "a") (array 1 (codes "2") (i8 3)) (syntax.ArrayConst (at 4) (consts (typed_const (i8 5) (val (int 6 (codes "1"))) ∷ []))) ∷ []) ∷
     of_globals (global 0 (codes "a") (struct 1 (i8 2 ∷ [])) (syntax.StructConst (at 4) (consts (typed_const (i8 5) (val (int 6 (codes "256"))) ∷ []))) ∷ []) ∷
     of_globals (global 0 (codes "a") (struct 1 []) (syntax.StructConst (at 4) (consts [])) ∷ []) ∷
     of_globals (global 0 (codes "a") (i8 1) (syntax.StructConst (at 4) (consts [])) ∷ []) ∷
     of_globals (global 0 (codes "f") (i8 1) (val (int 2 (codes "1"))) ∷ global 95 (codes "f") (i8 96) (val (int 97 (codes "1"))) ∷ []) ∷
-    of_globals (global 0 (codes "a") (syntax.Ptr (at 1)) (val (syntax.GepVal (at 2) (i8 3) (syntax.Ptr (at 4)) (syntax.Global (name 5 (codes "a"))) (vals (record { ty = i8 6; value = syntax.Local (name 7 (codes "x")) } ∷ [])))) ∷ []) ∷
+    of_globals (global 0 (codes "a") (syntax.Ptr (at 1)) (val
+    (syntax.GepVal (at 2) (i8 3) (syntax.Ptr (at 4)) (syntax.Global (name 5 (codes "a"))) (vals (record { ty = i8 6; value = syntax.Local (name 7 (codes "x")) } ∷ [])))) ∷ []) ∷
     of_globals (global 0 (codes "a") (syntax.Ptr (at 1)) (val (syntax.IntToPtrVal (at 2) (i8 3) (literal 4 (codes "256")) (i8 5))) ∷ []) ∷
     []
     ≡
@@ -116,7 +118,8 @@ globals_refused :
     ((UnknownName, 7) ∷ []) ∷
     ((WrongType, 5) ∷ (WrongType, 4) ∷ []) ∷
     []
-unfolding global_refused globals_end wrong_const wrong_elements wrong_fields unknown_types wrong_types any_large resolved type_within type_by fields_by types_within types_within_all doubled size_of fields_end alignment_of same_type symbol register_named inner_uses index_uses const_uses part_uses const_types part_types wrong_use wrong_indices
+unfolding global_refused globals_end wrong_const wrong_elements wrong_fields unknown_types wrong_types any_large resolved type_within type_by fields_by types_within types_within_all doubled
+    size_of fields_end alignment_of same_type symbol register_named inner_uses index_uses const_uses part_uses const_types part_types wrong_use wrong_indices
 globals_refused = refl
 
 -- ---- heads
@@ -174,5 +177,6 @@ heads :
     ((Doubled, 4) ∷ []) ∷
     ((Doubled, 4) ∷ []) ∷
     []
-unfolding heads_refused declaration_refused definition_refused unknown_types wrong_counts wrong_types any_large resolved type_within type_by fields_by types_within types_within_all doubled size_of fields_end alignment_of same_type known_named known_name numbered decimal_text digits_text after_name behind_block block_at
+unfolding heads_refused declaration_refused definition_refused unknown_types wrong_counts wrong_types any_large resolved type_within type_by fields_by types_within types_within_all doubled
+    size_of fields_end alignment_of same_type known_named known_name numbered decimal_text digits_text after_name behind_block block_at
 heads = refl

@@ -2,6 +2,7 @@ mod Examples
 mod RefusalExamples
 mod ItemExamples
 pub mod ConstantNumbers
+pub mod ConstantViews
 pub mod Doubles
 pub mod FirstRefusals
 pub mod MappedLists

@@ -10,7 +10,8 @@ unfolding earliest
 no_place = refl
 
 -- a row over the same types of the same items
-pub same_row : (row : List NamedType → Ty → List Span) (items other : List NamedType) (ts us : List Ty) (o : Option Span) → o ≡ earliest (flat_map (row items) ts) → items ≡ other → ts ≡ us → o ≡ earliest (flat_map (row other) us)
+pub same_row : (row : List NamedType → Ty → List Span) (items other : List NamedType) (ts us : List Ty) (o : Option Span) → o ≡ earliest (flat_map (row items) ts) → items ≡ other
+    → ts ≡ us → o ≡ earliest (flat_map (row other) us)
 same_row row items other ts us o e f g = e ∙ ap (λ x. earliest (flat_map (row x) ts)) f ∙ ap (λ x. earliest (flat_map (row other) x)) g
 
 -- one thing more, where it gives something

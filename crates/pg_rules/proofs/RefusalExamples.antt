@@ -140,7 +140,9 @@ refused :
     ((WrongType, 13) ∷ []) ∷
     ((WrongType, 16) ∷ []) ∷
     []
-unfolding body_refused line_refused bad_phis predecessors unknown_types wrong_types any_large resolved type_within type_by fields_by types_within types_within_all doubled size_of alignment_of fields_end same_type known_named known_name symbol registers_of register_named label_number inner_uses index_uses operands op_types op_demands label_targets label_sources wrong_use wrong_indices numbered gives is_void name_void behind_block block_at decimal_text digits_text after_name
+unfolding body_refused line_refused bad_phis predecessors unknown_types wrong_types any_large resolved type_within type_by fields_by types_within types_within_all doubled size_of alignment_of
+    fields_end same_type known_named known_name symbol registers_of register_named label_number inner_uses index_uses operands op_types op_demands label_targets label_sources wrong_use
+    wrong_indices numbered gives is_void name_void behind_block block_at decimal_text digits_text after_name
 refused = refl
 
 -- ---- calls, paths, labels, phis
@@ -162,7 +164,9 @@ from v place text = record { value = v; block = name place text }
 
 -- a block that goes on to itself or to %e, with a phi before or behind another instruction
 abbrev looping : List Line → List (CheckKind × ℕ)
-looping ls = of_blocks (block (line (syntax.Br (at 30) (name 31 (codes "l"))) ∷ []) ∷ record { label = Some (name 32 (codes "l")); lines = ls ++ line (syntax.CondBr (at 33) (typed i1 (syntax.True (at 34))) (name 35 (codes "l")) (name 36 (codes "e"))) ∷ [] } ∷ record { label = Some (name 37 (codes "e")); lines = ending ∷ [] } ∷ [])
+looping ls = of_blocks (block (line (syntax.Br (at 30) (name 31 (codes "l"))) ∷ []) ∷ record
+    { label = Some (name 32 (codes "l")); lines = ls ++ line (syntax.CondBr (at 33) (typed i1 (syntax.True (at 34))) (name 35 (codes "l")) (name 36 (codes "e"))) ∷ [] } ∷ record
+    { label = Some (name 37 (codes "e")); lines = ending ∷ [] } ∷ [])
 
 abbrev sum : Line
 sum = set (name 38 (codes "u")) (syntax.Binary (at 39) binary.Add i64 (local (codes "x")) (two (codes "1")))
@@ -248,5 +252,7 @@ refused_more :
     ((NoBlock, 43) ∷ []) ∷
     [] ∷
     []
-unfolding body_refused line_refused bad_phis predecessors unknown_types wrong_types any_large resolved type_within type_by fields_by types_within types_within_all doubled size_of alignment_of fields_end same_type known_named known_name symbol registers_of register_named label_number inner_uses index_uses operands op_types op_demands label_targets label_sources wrong_use wrong_indices numbered gives is_void name_void behind_block block_at decimal_text digits_text after_name
+unfolding body_refused line_refused bad_phis predecessors unknown_types wrong_types any_large resolved type_within type_by fields_by types_within types_within_all doubled size_of alignment_of
+    fields_end same_type known_named known_name symbol registers_of register_named label_number inner_uses index_uses operands op_types op_demands label_targets label_sources wrong_use
+    wrong_indices numbered gives is_void name_void behind_block block_at decimal_text digits_text after_name
 refused_more = refl

@@ -1,5 +1,6 @@
 -- Rows of places, one thing of a list after the other.
-use Rattle.std.proofs.Common.{◌≡◌, ℕ, zero, suc, ◌+◌, ◌<◌, ◌≤◌, nat_lt, Bool, true, false, cond, List, [], ◌∷◌, ◌++◌, length, map, take, get_or, Option, Some, None, refl, sym, ap, subst, ◌∙◌, append_assoc, arith}
+use Rattle.std.proofs.Common.{◌≡◌, ℕ, zero, suc, ◌+◌, ◌<◌, ◌≤◌, nat_lt, Bool, true, false, cond, List, [], ◌∷◌, ◌++◌, length, map, take, get_or, Option, Some}
+use Rattle.std.proofs.Common.{None, refl, sym, ap, subst, ◌∙◌, append_assoc, arith}
 use Rattle.std.specs.List.{flat_map, enumerate_from}
 use Rattle.std.proofs.lemmas.List.{append-nil, map-append, take_more}
 use Rattle.std.proofs.lemmas.Grind.{flat_map-append}
@@ -74,7 +75,8 @@ numbered_last f g k (y ∷ xs) (suc i) d x l e =
     ∙ ap (λ j. (f (k, g y) ++ front) ++ f (j, g x)) n
 
 pub numbered_step : {X Y : Type 0} (f : ℕ × Y → List Span) (g : X → Y) (xs : List X) (i : ℕ) (d x : X) (found own all : Option Span) → i < length xs → x ≡ get_or xs i d
-    → found ≡ earliest (flat_map f (enumerate_from 0 (map g (take i xs)))) → own ≡ earliest (f (i, g x)) → all ≡ earlier found own → all ≡ earliest (flat_map f (enumerate_from 0 (map g (take (i + 1) xs))))
+    → found ≡ earliest (flat_map f (enumerate_from 0 (map g (take i xs)))) → own ≡ earliest (f (i, g x)) → all ≡ earlier found own
+    → all ≡ earliest (flat_map f (enumerate_from 0 (map g (take (i + 1) xs))))
 numbered_step f g xs i d x found own all l e a b c =
     let s : 0 + i ≡ i = omega arith in
     let front = flat_map f (enumerate_from 0 (map g (take i xs))) in

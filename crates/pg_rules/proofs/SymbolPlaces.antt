@@ -17,7 +17,8 @@ record Missing {X : Type 0} (test : X → Bool) (k : ℕ) (xs : List X) (o : Opt
   none : find (λ (g : ℕ × X). test g.1) (enumerate_from k xs) ≡ None
 
 search_from : {X : Type 0} (text_of : X → List ℕ) (text : List ℕ) (k : ℕ) (xs : List X)
-    → Found (λ x. bytes_eq (text_of x) text) k xs (position_from (λ t. bytes_eq t text) k (map text_of xs)) ⊎ Missing (λ x. bytes_eq (text_of x) text) k xs (position_from (λ t. bytes_eq t text) k (map text_of xs))
+    → Found (λ x. bytes_eq (text_of x) text) k xs (position_from (λ t. bytes_eq t text) k (map text_of xs))
+    ⊎ Missing (λ x. bytes_eq (text_of x) text) k xs (position_from (λ t. bytes_eq t text) k (map text_of xs))
 search_from text_of text k [] = inr (record { nowhere = refl; none = refl })
 search_from {X = X} text_of text k (x ∷ xs) = by (bytes_eq (text_of x) text) refl (search_from text_of text (k + 1) xs)
   where
@@ -25,8 +26,10 @@ search_from {X = X} text_of text k (x ∷ xs) = by (bytes_eq (text_of x) text) r
     here = omega arith
 
     by : (b : Bool) → bytes_eq (text_of x) text ≡ b
-        → Found (λ y. bytes_eq (text_of y) text) (k + 1) xs (position_from (λ t. bytes_eq t text) (k + 1) (map text_of xs)) ⊎ Missing (λ y. bytes_eq (text_of y) text) (k + 1) xs (position_from (λ t. bytes_eq t text) (k + 1) (map text_of xs))
-        → Found (λ y. bytes_eq (text_of y) text) k (x ∷ xs) (position_from (λ t. bytes_eq t text) k (map text_of (x ∷ xs))) ⊎ Missing (λ y. bytes_eq (text_of y) text) k (x ∷ xs) (position_from (λ t. bytes_eq t text) k (map text_of (x ∷ xs)))
+        → Found (λ y. bytes_eq (text_of y) text) (k + 1) xs (position_from (λ t. bytes_eq t text) (k + 1) (map text_of xs))
+        ⊎ Missing (λ y. bytes_eq (text_of y) text) (k + 1) xs (position_from (λ t. bytes_eq t text) (k + 1) (map text_of xs))
+        → Found (λ y. bytes_eq (text_of y) text) k (x ∷ xs) (position_from (λ t. bytes_eq t text) k (map text_of (x ∷ xs)))
+        ⊎ Missing (λ y. bytes_eq (text_of y) text) k (x ∷ xs) (position_from (λ t. bytes_eq t text) k (map text_of (x ∷ xs)))
     by true e r = inl (record {
       place = 0;
       at = ap (λ b. cond b (Some k) (position_from (λ t. bytes_eq t text) (k + 1) (map text_of xs))) e ∙ ap (λ n. Some n) here;
@@ -37,7 +40,8 @@ search_from {X = X} text_of text k (x ∷ xs) = by (bytes_eq (text_of x) text) r
         inl (record {
           place = suc f.place;
           at = ap (λ b. cond b (Some k) (position_from (λ t. bytes_eq t text) (k + 1) (map text_of xs))) e ∙ f.at ∙ ap (λ n. Some n) s;
-          same = ap (λ b. cond b (Some (k, x)) (find (λ (g : ℕ × X). bytes_eq (text_of g.1) text) (enumerate_from (k + 1) xs))) e ∙ f.same ∙ ap (λ n. option_map (λ y. (n, y)) (slice_get xs f.place)) s;
+          same = ap (λ b. cond b (Some (k, x)) (find (λ (g : ℕ × X). bytes_eq (text_of g.1) text) (enumerate_from (k + 1) xs))) e ∙ f.same
+              ∙ ap (λ n. option_map (λ y. (n, y)) (slice_get xs f.place)) s;
         })
     by false e (inr m) = inr (record {
       nowhere = ap (λ b. cond b (Some k) (position_from (λ t. bytes_eq t text) (k + 1) (map text_of xs))) e ∙ m.nowhere;
@@ -45,7 +49,8 @@ search_from {X = X} text_of text k (x ∷ xs) = by (bytes_eq (text_of x) text) r
     })
 
 -- what is found of a name is what stands at its place
-pub found_is : {X : Type 0} (text_of : X → List ℕ) (text : List ℕ) (xs : List X) → find (λ (g : ℕ × X). bytes_eq (text_of g.1) text) (enumerate_from 0 xs) ≡ placed xs (first_place (map text_of xs) text)
+pub found_is : {X : Type 0} (text_of : X → List ℕ) (text : List ℕ) (xs : List X)
+    → find (λ (g : ℕ × X). bytes_eq (text_of g.1) text) (enumerate_from 0 xs) ≡ placed xs (first_place (map text_of xs) text)
 found_is {X = X} text_of text xs = by (search_from text_of text 0 xs)
   where
     by : Found (λ x. bytes_eq (text_of x) text) 0 xs (first_place (map text_of xs) text) ⊎ Missing (λ x. bytes_eq (text_of x) text) 0 xs (first_place (map text_of xs) text)
@@ -80,15 +85,19 @@ find_plain {X = X} test k (x ∷ xs) = by (test x) (find_plain test (k + 1) xs)
 
 -- a reference to the item of a name
 pub node_is : {X Y : Type 0} (v : X → Y) (text_of : Y → List ℕ) (text : List ℕ) (xs : List X) (o : Option ℕ) (r : Option (ℕ × Bor X)) → o ≡ first_place (map text_of (map v xs)) text
-    → option_map {U = ℕ × X} (λ (q : ℕ × Bor X). (q.0, q.1.now)) r ≡ placed xs o → option_map {U = ℕ × Y} (λ (q : ℕ × Bor X). (q.0, v q.1.now)) r ≡ find (λ (g : ℕ × Y). bytes_eq (text_of g.1) text) (enumerate_from 0 (map v xs))
+    → option_map {U = ℕ × X} (λ (q : ℕ × Bor X). (q.0, q.1.now)) r ≡ placed xs o
+    → option_map {U = ℕ × Y} (λ (q : ℕ × Bor X). (q.0, v q.1.now)) r ≡ find (λ (g : ℕ × Y). bytes_eq (text_of g.1) text) (enumerate_from 0 (map v xs))
 node_is {X = X} {Y = Y} v text_of text xs o r e h = by r ∙ ap (λ p. option_map {U = ℕ × Y} (λ (q : ℕ × X). (q.0, v q.1)) p) h ∙ node_found v text_of text xs o e
   where
-    by : (r : Option (ℕ × Bor X)) → option_map {U = ℕ × Y} (λ (q : ℕ × Bor X). (q.0, v q.1.now)) r ≡ option_map {U = ℕ × Y} (λ (q : ℕ × X). (q.0, v q.1)) (option_map {U = ℕ × X} (λ (q : ℕ × Bor X). (q.0, q.1.now)) r)
+    by : (r : Option (ℕ × Bor X)) → option_map {U = ℕ × Y} (λ (q : ℕ × Bor X). (q.0, v q.1.now)) r
+        ≡ option_map {U = ℕ × Y} (λ (q : ℕ × X). (q.0, v q.1)) (option_map {U = ℕ × X} (λ (q : ℕ × Bor X). (q.0, q.1.now)) r)
     by None = refl
     by (Some q) = refl
 
-pub plain_node_is : {X Y : Type 0} (v : X → Y) (text_of : Y → List ℕ) (text : List ℕ) (xs : List X) (o : Option ℕ) (r : Option (ℕ × Bor X)) → o ≡ first_place (map text_of (map v xs)) text
-    → option_map {U = ℕ × X} (λ (q : ℕ × Bor X). (q.0, q.1.now)) r ≡ placed xs o → option_map (λ (q : ℕ × Bor X). v q.1.now) r ≡ find (λ (y : Y). bytes_eq (text_of y) text) (map v xs)
+pub plain_node_is : {X Y : Type 0} (v : X → Y) (text_of : Y → List ℕ) (text : List ℕ) (xs : List X) (o : Option ℕ) (r : Option (ℕ × Bor X))
+    → o ≡ first_place (map text_of (map v xs)) text
+    → option_map {U = ℕ × X} (λ (q : ℕ × Bor X). (q.0, q.1.now)) r ≡ placed xs o
+    → option_map (λ (q : ℕ × Bor X). v q.1.now) r ≡ find (λ (y : Y). bytes_eq (text_of y) text) (map v xs)
 plain_node_is {X = X} {Y = Y} v text_of text xs o r e h =
     by r ∙ ap (λ p. option_map (λ (q : ℕ × Y). q.1) p) (node_is v text_of text xs o r e h) ∙ find_plain (λ (y : Y). bytes_eq (text_of y) text) 0 (map v xs)
   where

@@ -8,8 +8,6 @@ use Rattle.pg_num.specs.declared.width.Width.TheVariants.{W64}
 use Rattle.pg_num.specs.declared.operations.Division.TheVariants as division
 use Rattle.pg_num.specs.declared.operations.Shift.TheVariants as shift
 use Rattle.pg_num.specs.declared.operations.Bits.TheVariants as bits
-use Rattle.pg_num.specs.declared.operations.Compare as comparison
-use Rattle.pg_num.specs.declared.operations.Compare.TheVariants as compare
 use Rattle.pg_ir.specs.declared.ids.BlockNo.{BlockNo}
 use Rattle.pg_ir.specs.declared.value.Scalar.{Scalar}
 use Rattle.pg_ir.specs.declared.value.Scalar.TheVariants as scalar
@@ -30,8 +28,6 @@ use Rattle.pg_ir.specs.Program.{NumberedProgram, numbered_program}
 use Rattle.pg_ast.specs.declared.names.Name.{Name}
 use Rattle.pg_ast.specs.declared.ops.BinaryOp.{BinaryOp}
 use Rattle.pg_ast.specs.declared.ops.BinaryOp.TheVariants.{Add, Sub, Mul, Udiv, Sdiv, Urem, Srem, Shl, Lshr, Ashr, And, Or, Xor}
-use Rattle.pg_ast.specs.declared.ops.Predicate.{Predicate}
-use Rattle.pg_ast.specs.declared.ops.Predicate.TheVariants.{Eq, Ne, Ugt, Uge, Ult, Ule, Sgt, Sge, Slt, Sle}
 use Rattle.pg_ast.specs.declared.ops.CastOp.{CastOp}
 use Rattle.pg_ast.specs.declared.ops.CastOp.TheVariants.{Trunc, Zext, Sext, PtrToInt, IntToPtr}
 use Rattle.pg_ast.specs.Syntax.{Ty, Val, Int, Local, Global, Typed, Incoming, Case, Count, Op, Binary, Icmp, Cast}
@@ -100,18 +96,6 @@ binary_op And w a b = op.Bits bits.And w a b
 binary_op Or w a b = op.Bits bits.Or w a b
 binary_op Xor w a b = op.Bits bits.Xor w a b
 
-abbrev pub comparison_of : Predicate → comparison.Compare
-comparison_of Eq = compare.Eq
-comparison_of Ne = compare.Ne
-comparison_of Ugt = compare.Ugt
-comparison_of Uge = compare.Uge
-comparison_of Ult = compare.Ult
-comparison_of Ule = compare.Ule
-comparison_of Sgt = compare.Sgt
-comparison_of Sge = compare.Sge
-comparison_of Slt = compare.Slt
-comparison_of Sle = compare.Sle
-
 abbrev pub cast_op : CastOp → Width → Width → Value → numbered_op.Op
 cast_op Trunc from to v = op.Trunc from to v
 cast_op Zext from to v = op.Zext from to v
@@ -148,7 +132,7 @@ call_of s all = known_call (known_of s) all
 
 unfoldable pub op_at : Scope → ℕ → Op → numbered_op.Op
 op_at g first (Binary s o t a b) = binary_op o (width_in (type_in g t)) (value_at g t a) (value_at g t b)
-op_at g first (Icmp s p t a b) = op.Compare (comparison_of p) (width_in (type_in g t)) (value_at g t a) (value_at g t b)
+op_at g first (Icmp s p t a b) = op.Compare p (width_in (type_in g t)) (value_at g t a) (value_at g t b)
 op_at g first (Cast s o v t) = cast_op o (width_in (type_in g v.ty)) (width_in (type_in g t)) (typed_value g v)
 op_at g first (Select s c a b) = op.Select (typed_value g c) (typed_value g a) (typed_value g b)
 op_at g first (Phi s t i all) = op.Phi (map (incoming_at g first t) (i ∷ all))

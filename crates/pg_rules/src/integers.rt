@@ -9,9 +9,9 @@ ghost use Rattle.pg_types.specs.NumberedTypes.{named_types};
 ghost use Rattle.pg_rules.specs.ValueConditions.{constant_number, number_at, signed_at};
 ghost use Rattle.pg_rules.specs.Integers.{kind_number, signed_number, kind_signed, index_number};
 
-use pg_ast::{Literal, TypeNode, TypedVal, ValNode};
-use pg_num::{Width, to_signed};
 use pg_types::{TypeKind, TypeNumbers, literal_in};
+use pg_num::{Width, to_signed};
+use pg_ast::{Literal, TypeNode, TypedVal, ValNode};
 use std::alloc::{AllocError, Global};
 
 /// The number of a constant of a width; none where it has none.

@@ -12,10 +12,10 @@ ghost use Rattle.pg_rules.specs.CallConditions.{is_resolved};
 ghost use Rattle.pg_rules.specs.Conditions.{is_scalar_type, is_result, are_params};
 ghost use Rattle.pg_rules.specs.Signatures.{is_param};
 
-use pg_ast::{DparamNode, TypeNode};
+use pg_types::{TypeKind, TypeNumbers};
 use pg_ir::Scalar;
 use pg_num::Width;
-use pg_types::{TypeKind, TypeNumbers};
+use pg_ast::{DparamNode, TypeNode};
 use std::alloc::AllocError;
 
 fn same_width(one: Width, other: Width) -> bool

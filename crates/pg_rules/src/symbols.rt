@@ -11,8 +11,8 @@ ghost use Rattle.pg_rules.specs.Names.{symbol};
 ghost use Rattle.pg_rules.specs.Symbols.{AreSymbols, symbol_of, placed, variable_text, definition_text, declaration_text};
 
 use indexmap::IndexMap;
-use pg_ast::{DeclareItem, DefineItem, GlobalItem, Module};
 use pg_types::{index_names, place_of_name};
+use pg_ast::{DeclareItem, DefineItem, GlobalItem, Module};
 use std::alloc::{AllocError, Global};
 
 /// What a global name stands for; variables and defined functions with their numbers.

@@ -10,9 +10,9 @@ ghost use Rattle.pg_rules.specs.TypeConditions.{unknown_type, wrong_count, array
 
 use crate::earliest::earlier;
 use crate::places::type_span;
+use pg_types::{TypeKind, TypeNumbers, element_count};
 use pg_ast::{Literal, TypeNode};
 use pg_lex::Span;
-use pg_types::{TypeKind, TypeNumbers, element_count};
 use std::alloc::AllocError;
 
 /// A name without an item.

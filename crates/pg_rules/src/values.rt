@@ -9,9 +9,9 @@ ghost use Rattle.pg_types.specs.NumberedTypes.{named_types};
 ghost use Rattle.pg_rules.specs.Written.{isnt_void};
 ghost use Rattle.pg_rules.specs.ValueConditions.{fits_integer, fits};
 
-use pg_ast::{TypeNode, ValNode};
-use pg_num::Width;
 use pg_types::{TypeKind, TypeNumbers, literal_in};
+use pg_num::Width;
+use pg_ast::{TypeNode, ValNode};
 use std::alloc::AllocError;
 
 fn fits_integer(kind: TypeKind, text: &[u8]) -> bool

@@ -45,11 +45,11 @@ none_kept n e h = go (nat_lt n (oldest (begin {M = EntryParts}))) h
 module _ (p : NumberedProgram) (quantum : ℕ) (inputs : List (Option (List ℤ))) (answers : List Answer) (line number : ℕ) where
   recorded_line : (entry : EntryParts) (m : Made entry_admits (runs_of p quantum) 0 inputs answers line number entry) → IsRecordedLine p quantum inputs answers m.earlier number entry
   recorded_line entry m = record {
-    input = m.input;
-    is_input = m.is_input;
-    output = m.output;
-    end = m.end;
-    is_answer = m.is_answer;
+    input = m.reply.input;
+    is_input = m.reply.is_input;
+    output = m.reply.output;
+    end = m.reply.end;
+    is_answer = m.reply.is_answer;
     numbered = let n = m.numbered in omega (arith, n);
     recording = m.recording;
   }
@@ -63,11 +63,11 @@ module _ (p : NumberedProgram) (quantum : ℕ) (inputs : List (Option (List ℤ)
   reused_line r =
       let m = made r.entry r.origin in
       record {
-        input = r.input;
-        is_input = r.is_input;
-        output = r.output;
-        end = r.end;
-        is_answer = r.is_answer;
+        input = r.reply.input;
+        is_input = r.reply.is_input;
+        output = r.reply.output;
+        end = r.reply.end;
+        is_answer = r.reply.is_answer;
         entry = r.entry;
         earlier = m.earlier;
         before = m.before;
@@ -75,8 +75,8 @@ module _ (p : NumberedProgram) (quantum : ℕ) (inputs : List (Option (List ℤ)
         admitted = r.admitted;
         printed = r.run.printed;
         ends = r.run.ends;
-        goes_on = λ xs z permitted. goes_on p r.input r.entry xs z (r.run.served.runs xs z permitted);
-        full = λ xs z permitted is_full. as_replied p r.input r.entry r.output r.end xs z r.run (r.run.served.full xs z permitted is_full);
+        goes_on = λ xs z permitted. goes_on p r.reply.input r.entry xs z (r.run.served.runs xs z permitted);
+        full = λ xs z permitted is_full. as_replied p r.reply.input r.entry r.reply.output r.reply.end xs z r.run (r.run.served.full xs z permitted is_full);
         served = r.run.served;
       }
 

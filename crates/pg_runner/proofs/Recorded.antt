@@ -3,13 +3,12 @@ use Rattle.std.proofs.Common.{◌≡◌, ℕ, ℤ, zero, suc, ◌+◌, Bool, con
 use Rattle.std.specs.Prelude.{count_by, slice_get}
 use Rattle.std.proofs.lemmas.List.Sums.{sum_by-cons}
 use Rattle.pg_cache.specs.Kept.{Kept}
-use Rattle.pg_report.specs.declared.reply.EndLine.{EndLine}
 use Rattle.pg_report.specs.declared.reply.ReplyKind.{ReplyKind}
 use Rattle.pg_report.specs.declared.reply.ReplyKind.TheVariants.{Recorded, Reused, RefusedLine}
 use Rattle.pg_serve.specs.declared.runner.Refusal.{Refusal}
 use Rattle.pg_serve.specs.declared.runner.Refusal.TheVariants as refusals
 use Rattle.pg_serve.specs.Sessions.{Answer, AnswersAll, AnswersLine, Runs, by_recording, by_refusal, by_reuse, kind_of}
-use Rattle.pg_runner.proofs.Reused.{inserts, is_new, none_answered, same_value, told, told_so}
+use Rattle.pg_runner.proofs.Reused.{Replied, inserts, is_new, none_answered, replied_behind, same_value, told_so}
 
 same_number : (m n : ℕ) → Path ReplyKind (Recorded m) (Recorded n) → m ≡ n
 same_number m n e = cc
@@ -27,14 +26,10 @@ not_no_input n e = absurd cc
 module _ {M : Type 0} (admits : M → List ℤ → Bool) (runs : Runs M) where
   -- this line left this entry under this number, where so many were inserted before the first line
   pub record Records (from : ℕ) (inputs : List (Option (List ℤ))) (answers : List Answer) (line number : ℕ) : Type 0 where
-    pub input : List ℤ
-    pub is_input : slice_get inputs line ≡ Some (Some input)
-    pub output : List ℕ
-    pub end : EndLine
-    pub is_answer : slice_get answers line ≡ Some (told (Recorded number) output end)
+    pub reply : Replied inputs answers line (Recorded number)
     pub numbered : number ≡ from + count_by is_new (take line answers)
     pub entry : M
-    pub recording : runs.recorded input entry output end
+    pub recording : runs.recorded reply.input entry reply.output reply.end
 
   first : (kept next : Kept M) (x : Option (List ℤ)) (xs : List (Option (List ℤ))) (a : Answer) (rest : List Answer) (number : ℕ)
       → AnswersLine admits runs kept x a next → a.kind ≡ Recorded number → Records kept.inserted (x ∷ xs) (a ∷ rest) 0 number
@@ -43,11 +38,7 @@ module _ {M : Type 0} (admits : M → List ℤ → Bool) (runs : Runs M) where
   first kept next (Some input) xs a rest number (by_recording h) k =
       let n : kept.inserted ≡ number = same_number kept.inserted number (sym h.kind ∙ k) in
       record {
-        input = input;
-        is_input = refl;
-        output = a.output;
-        end = h.end;
-        is_answer = ap (λ (b : Answer). Some b) (told_so a (Recorded number) h.end k h.ends);
+        reply = record { input = input; is_input = refl; output = a.output; end = h.end; is_answer = ap (λ (b : Answer). Some b) (told_so a (Recorded number) h.end k h.ends) };
         numbered = omega (arith, n);
         entry = h.entry;
         recording = h.recording;
@@ -61,11 +52,7 @@ module _ {M : Type 0} (admits : M → List ℤ → Bool) (runs : Runs M) where
       let i = inserts admits runs kept next x a h in
       let k = sum_by-cons (λ (b : Answer). cond (is_new b) 1 0) a (take line rest) in
       record {
-        input = r.input;
-        is_input = r.is_input;
-        output = r.output;
-        end = r.end;
-        is_answer = r.is_answer;
+        reply = replied_behind xs rest x a line (Recorded number) r.reply;
         numbered = omega (arith, n, i, k);
         entry = r.entry;
         recording = r.recording;

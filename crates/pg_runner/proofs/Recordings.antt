@@ -81,11 +81,11 @@ module _ (p : NumberedProgram) (quantum : ℕ) where
   module _ (inputs : List (Option (List ℤ))) (answers : List Answer) (line number : ℕ) where
     abbrev recorded_line : (r : Records entry_admits (runs_of p quantum) 0 inputs answers line number) → IsRecordedLine p quantum inputs answers line number r.entry
     recorded_line r = record {
-      input = r.input;
-      is_input = r.is_input;
-      output = r.output;
-      end = r.end;
-      is_answer = r.is_answer;
+      input = r.reply.input;
+      is_input = r.reply.is_input;
+      output = r.reply.output;
+      end = r.reply.end;
+      is_answer = r.reply.is_answer;
       numbered = let n = r.numbered in omega (arith, n);
       recording = r.recording;
     }
@@ -93,20 +93,20 @@ module _ (p : NumberedProgram) (quantum : ℕ) where
     served_line : ExitsSo → GuidesSo → ServesSo → CanServe (record { program = p; quantum = quantum }) → AreShort inputs
         → Records entry_admits (runs_of p quantum) 0 inputs answers line number → IsServedRecording p quantum inputs answers line number
     served_line exits_so guides_so serves_so can short r =
-        let own = r.input in
+        let own = r.reply.input in
         let e = r.entry in
         let k = r.recording in
-        let small : length own < 2 ^ 64 = short line own r.is_input in
+        let small : length own < 2 ^ 64 = short line own r.reply.is_input in
         let can_run = can.can_run own small in
         let v = exits_so own k.value k.exits in
         let g = subst (λ (s : Schedule). GuidesAs p own s (rotation_of p own quantum).trace (rotation_of p own quantum).state) (sym k.is_entry.schedule) (guides_so own k.value can_run k.exits) in
         let admitted : entry_admits e own ≡ true = subst (λ (l : List ℤ). is_admitted l e.precondition ≡ true) k.is_entry.same_input k.is_entry.serves.own in
-        let served = serves_so own own e r.output r.end can_run k small admitted in
+        let served = serves_so own own e r.reply.output r.reply.end can_run k small admitted in
         record {
           entry = e;
           made = recorded_line r;
           goes_on = λ xs z permitted. goes_on p own e xs z (served.runs xs z permitted);
-          full = λ xs z permitted is_full. as_replied own e r.output r.end xs z k v g permitted (served.full xs z permitted is_full);
+          full = λ xs z permitted is_full. as_replied own e r.reply.output r.reply.end xs z k v g permitted (served.full xs z permitted is_full);
           served = served;
         }
 

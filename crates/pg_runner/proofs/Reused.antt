@@ -53,29 +53,34 @@ none_answered (b ∷ answers) line a e g = absurd cc
 
 -- ---- what is said of a line
 
+-- this line was this input, and the answer to it was of this kind
+pub record Replied (inputs : List (Option (List ℤ))) (answers : List Answer) (line : ℕ) (kind : ReplyKind) : Type 0 where
+  pub input : List ℤ
+  pub is_input : slice_get inputs line ≡ Some (Some input)
+  pub output : List ℕ
+  pub end : EndLine
+  pub is_answer : slice_get answers line ≡ Some (told kind output end)
+
+-- the same behind one line more
+abbrev pub replied_behind : (inputs : List (Option (List ℤ))) (answers : List Answer) (x : Option (List ℤ)) (a : Answer) (line : ℕ) (kind : ReplyKind)
+    → Replied inputs answers line kind → Replied (x ∷ inputs) (a ∷ answers) (suc line) kind
+replied_behind inputs answers x a line kind r = record { input = r.input; is_input = r.is_input; output = r.output; end = r.end; is_answer = r.is_answer }
+
 module _ {M : Type 0} (admits : M → List ℤ → Bool) (runs : Runs M) where
   -- before this line one of the lines left this entry under this number, where so many were inserted before the first line
   pub record Made (from : ℕ) (inputs : List (Option (List ℤ))) (answers : List Answer) (line number : ℕ) (entry : M) : Type 0 where
     pub earlier : ℕ
     pub before : earlier < line
-    pub input : List ℤ
-    pub is_input : slice_get inputs earlier ≡ Some (Some input)
-    pub output : List ℕ
-    pub end : EndLine
-    pub is_answer : slice_get answers earlier ≡ Some (told (Recorded number) output end)
+    pub reply : Replied inputs answers earlier (Recorded number)
     pub numbered : number ≡ from + count_by is_new (take earlier answers)
-    pub recording : runs.recorded input entry output end
+    pub recording : runs.recorded reply.input entry reply.output reply.end
 
   -- this line was answered by the entry of this number, which was kept before the first line or left by one of them
   pub record Reuses (kept : Kept M) (inputs : List (Option (List ℤ))) (answers : List Answer) (line number : ℕ) : Type 0 where
-    pub input : List ℤ
-    pub is_input : slice_get inputs line ≡ Some (Some input)
-    pub output : List ℕ
-    pub end : EndLine
-    pub is_answer : slice_get answers line ≡ Some (told (Reused number) output end)
+    pub reply : Replied inputs answers line (Reused number)
     pub entry : M
-    pub admitted : admits entry input ≡ true
-    pub run : runs.along entry input output end
+    pub admitted : admits entry reply.input ≡ true
+    pub run : runs.along entry reply.input reply.output reply.end
     pub origin : (value_of kept number ≡ Some entry) ⊎ Made kept.inserted inputs answers line number entry
 
   -- a line left this entry under this number
@@ -97,11 +102,7 @@ module _ {M : Type 0} (admits : M → List ℤ → Bool) (runs : Runs M) where
       let same : v.value ≡ h.entry = same_value v.value h.entry (sym v.is_value ∙ h.is_kept) in
       let n : h.number ≡ number = same_number h.number number (sym h.kind ∙ k) in
       record {
-        input = input;
-        is_input = refl;
-        output = a.output;
-        end = h.end;
-        is_answer = ap (λ (b : Answer). Some b) (told_so a (Reused number) h.end k h.ends);
+        reply = record { input = input; is_input = refl; output = a.output; end = h.end; is_answer = ap (λ (b : Answer). Some b) (told_so a (Reused number) h.end k h.ends) };
         entry = h.entry;
         admitted = ap (λ (m : M). admits m input) (sym same) ∙ v.admitted;
         run = h.run;
@@ -157,11 +158,7 @@ module _ {M : Type 0} (admits : M → List ℤ → Bool) (runs : Runs M) where
   later : (kept next : Kept M) (x : Option (List ℤ)) (xs : List (Option (List ℤ))) (a : Answer) (rest : List Answer) (line number : ℕ)
       → Fits kept → AnswersLine admits runs kept x a next → Reuses next xs rest line number → Reuses kept (x ∷ xs) (a ∷ rest) (suc line) number
   later kept next x xs a rest line number f h r = record {
-    input = r.input;
-    is_input = r.is_input;
-    output = r.output;
-    end = r.end;
-    is_answer = r.is_answer;
+    reply = replied_behind xs rest x a line (Reused number) r.reply;
     entry = r.entry;
     admitted = r.admitted;
     run = r.run;
@@ -174,11 +171,13 @@ module _ {M : Type 0} (admits : M → List ℤ → Bool) (runs : Runs M) where
       by (inr l) = inr (record {
         earlier = 0;
         before = omega arith;
-        input = l.input;
-        is_input = ap (λ (i : Option (List ℤ)). Some i) l.is_input;
-        output = a.output;
-        end = l.end;
-        is_answer = ap (λ (b : Answer). Some b) l.is_answer;
+        reply = record {
+          input = l.input;
+          is_input = ap (λ (i : Option (List ℤ)). Some i) l.is_input;
+          output = a.output;
+          end = l.end;
+          is_answer = ap (λ (b : Answer). Some b) l.is_answer;
+        };
         numbered = let n = l.numbered in omega (arith, n);
         recording = l.recording;
       })
@@ -189,11 +188,7 @@ module _ {M : Type 0} (admits : M → List ℤ → Bool) (runs : Runs M) where
       go (inr m) = inr (record {
         earlier = suc m.earlier;
         before = let b = m.before in omega (arith, b);
-        input = m.input;
-        is_input = m.is_input;
-        output = m.output;
-        end = m.end;
-        is_answer = m.is_answer;
+        reply = replied_behind xs rest x a m.earlier (Recorded number) m.reply;
         numbered = let n = m.numbered in let i = inserts kept next x a h in let k = sum_by-cons (λ (b : Answer). cond (is_new b) 1 0) a (take m.earlier rest) in omega (arith, n, i, k);
         recording = m.recording;
       })

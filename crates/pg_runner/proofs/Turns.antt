@@ -50,7 +50,7 @@ module _ (gated : List InstrId) (p : NumberedProgram) (input : List ℤ) where
       by ih w rest (Some e) = omega arith
       by ih w rest None = let h = ih w.state rest in omega (arith, h)
 
-done_turns : (p : NumberedProgram) (input : List ℤ) (us : List Turn) (gated : List InstrId) → (guided_of p input us gated).turns ≤ length us
+pub done_turns : (p : NumberedProgram) (input : List ℤ) (us : List Turn) (gated : List InstrId) → (guided_of p input us gated).turns ≤ length us
 unfolding guided_of
 done_turns p input us gated =
     let z : 0 + length us ≡ length us = omega arith in

@@ -1,3 +1,5 @@
+//! The program that a session runs.
+
 use crate::along::{own_input_is_small, ran};
 use crate::laws::a_kept_entry_serves_what_it_admits;
 use crate::recording::recorded;

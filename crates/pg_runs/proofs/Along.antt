@@ -1,5 +1,6 @@
 -- A permitted run of the machine is a permitted run of deeds.
-use Rattle.std.proofs.Common.{◌≡◌, ℕ, ℤ, ◌+◌, ◌<◌, ◌^◌, List, [], ◌∷◌, length, drop, Bool, true, false, Option, Some, None, refl, sym, ◌∙◌, ap, subst, arith, zero, suc}
+use Rattle.std.proofs.Common.{◌≡◌, ℕ, ℤ, ◌+◌, ◌<◌, ◌^◌, List, [], ◌∷◌, length, drop, Bool, true, false, Option, Some, None, refl, sym, ◌∙◌, ap, subst}
+use Rattle.std.proofs.Common.{arith, zero, suc}
 use Rattle.std.specs.Prelude.{◌==◌, is_some, if◌then◌else◌, cond}
 use Rattle.std.proofs.lemmas.List.Sums.{sum_by-cons}
 use Rattle.pg_ir.specs.declared.ids.InstrId.{InstrId}
@@ -29,7 +30,7 @@ use Rattle.pg_runs.proofs.Deeds.{deed_event, may_of, request_event}
 
 -- ---- numbers
 
-flipped : (u t : ℕ) (b : Bool) → (u == t) ≡ b → (t == u) ≡ b
+pub flipped : (u t : ℕ) (b : Bool) → (u == t) ≡ b → (t == u) ≡ b
 flipped u t true e = ap (λ (i : ℕ). t == i) (same_number u t e) ∙ same_as_itself t
 flipped u t false e = go (t == u) refl
   where
@@ -64,7 +65,8 @@ not_true false h = refl
 module _ (gated : List InstrId) (p : NumberedProgram) (input : List ℤ) where
   -- ---- what a step leaves
 
-  shared_left : (s : State) (t : ℕ) (r : Option RequestEffect) → is_some r ≡ false → Path Shared (shared_of s) (record { objects = objects_with t r (objects_of s); printed = effects.printed_with r s.printed })
+  shared_left : (s : State) (t : ℕ) (r : Option RequestEffect) → is_some r ≡ false
+      → Path Shared (shared_of s) (record { objects = objects_with t r (objects_of s); printed = effects.printed_with r s.printed })
   shared_left s t None h = refl
   shared_left s t (Some r) h = absurd cc
 
@@ -79,7 +81,8 @@ module _ (gated : List InstrId) (p : NumberedProgram) (input : List ℤ) where
   abbrev pub next_state : State → Step → State
   next_state s x = effect s (effect_of p input s x.thread.0)
 
-  pub leads : (s : State) (counts : ℕ → ℕ) (a : Seen) (x : Step) → IsReached p s → Same a (seen s counts) → Takes gated p input s x → Same (plans.effect a (deed_of p input s counts x)) (seen (next_state s x) (one_more x.thread.0 counts))
+  pub leads : (s : State) (counts : ℕ → ℕ) (a : Seen) (x : Step) → IsReached p s → Same a (seen s counts) → Takes gated p input s x
+      → Same (plans.effect a (deed_of p input s counts x)) (seen (next_state s x) (one_more x.thread.0 counts))
   leads s counts a x reached sees h = record {
     locals = λ u. locals u (u == x.thread.0) refl;
     cells = λ c. old_same (cell_written e c) (a.cells c) ∙ ap (effects.or_old (cell_written e c)) (sees.cells c) ∙ sym (to.cells c);
@@ -93,18 +96,24 @@ module _ (gated : List InstrId) (p : NumberedProgram) (input : List ℤ) where
       to = subst (LeadsTo (effect_of p input s x.thread.0) s) (left_by gated p input s h.after x.thread.0 x h.is_step) (leads_to gated p input s h.after x.thread.0 x reached h.is_ready h.is_step)
 
       own : (u : ℕ) (b : Bool) → (u == x.thread.0) ≡ b → local_at (next_state s x) u ≡ (if b then (effect_of p input s x.thread.0).local else local_at s u)
-      own u b q = to.locals u ∙ ap (λ (t : ℕ). if u == t then (effect_of p input s x.thread.0).local else local_at s u) (thread_is s x.thread.0) ∙ ap (λ (c : Bool). if c then (effect_of p input s x.thread.0).local else local_at s u) q
+      own u b q = to.locals u ∙ ap (λ (t : ℕ). if u == t then (effect_of p input s x.thread.0).local else local_at s u) (thread_is s x.thread.0)
+          ∙ ap (λ (c : Bool). if c then (effect_of p input s x.thread.0).local else local_at s u) q
 
-      locals : (u : ℕ) (b : Bool) → (u == x.thread.0) ≡ b → Path Thread (if u == x.thread.0 then record { local = (effect_of p input s x.thread.0).local; taken = suc (counts x.thread.0) } else a.locals u) (record { local = local_at (next_state s x) u; taken = one_more x.thread.0 counts u })
+      locals : (u : ℕ) (b : Bool) → (u == x.thread.0) ≡ b → Path Thread
+          (if u == x.thread.0 then record { local = (effect_of p input s x.thread.0).local; taken = suc (counts x.thread.0) } else a.locals u)
+          (record { local = local_at (next_state s x) u; taken = one_more x.thread.0 counts u })
       locals u true q = rw (q, flipped u x.thread.0 true q) (
           ap (λ (l : Option Rattle.pg_step.specs.LocalState.LocalState). record { local = l; taken = suc (counts x.thread.0) }) (sym (own u true q))
           ∙ ap (λ (i : ℕ). record { local = local_at (next_state s x) u; taken = suc (counts i) }) (sym (same_number u x.thread.0 q)))
-      locals u false q = rw (q, flipped u x.thread.0 false q) (sees.locals u ∙ ap (λ (l : Option Rattle.pg_step.specs.LocalState.LocalState). record { local = l; taken = counts u }) (sym (own u false q)))
+      locals u false q = rw (q, flipped u x.thread.0 false q)
+          (sees.locals u ∙ ap (λ (l : Option Rattle.pg_step.specs.LocalState.LocalState). record { local = l; taken = counts u }) (sym (own u false q)))
 
-      objects : (b : Bool) → is_some (event_of x) ≡ b → plans.or_old (if is_some (event_of x) then Some (shared_after s (effect_of p input s x.thread.0)) else None) a.objects ≡ shared_of (next_state s x)
+      objects : (b : Bool) → is_some (event_of x) ≡ b → plans.or_old (if is_some (event_of x) then Some (shared_after s (effect_of p input s x.thread.0)) else None) a.objects
+          ≡ shared_of (next_state s x)
       objects true v = rw v (after_shared s (effect_of p input s x.thread.0) to.objects)
       objects false v = rw v (sees.objects ∙ shared_left s (effect_of p input s x.thread.0).thread (effect_of p input s x.thread.0).request
-          (not_true (is_some (effect_of p input s x.thread.0).request) (λ r. let k = request_event gated p input s x h r in let q : true ≡ false = sym k ∙ v in cc)) ∙ after_shared s (effect_of p input s x.thread.0) to.objects)
+          (not_true (is_some (effect_of p input s x.thread.0).request) (λ r. let k = request_event gated p input s x h r in let q : true ≡ false = sym k ∙ v in cc))
+          ∙ after_shared s (effect_of p input s x.thread.0) to.objects)
 
   -- ---- a run
 
@@ -131,9 +140,11 @@ module _ (gated : List InstrId) (p : NumberedProgram) (input : List ℤ) where
       let w : m.takes.after ≡ next_state s x = left_by gated p input s m.takes.after t x m.takes.is_step in
       let next_reached : IsReached p (next_state s x) = subst (IsReached p) w (reached_step gated p input s m.takes.after t x program small reached m.takes.is_ready m.takes.is_step) in
       let more : PermittedSteps gated p input (next_state s x) (drop (done_after (deeds.is_event d) g) turns) (one_more t counts) xs z =
-      subst (λ (us : List Turn). PermittedSteps gated p input (next_state s x) us (one_more t counts) xs z) (left_behind (event_of x) g turns ∙ ap (λ (b : Bool). drop (done_after b g) turns) (sym (deed_event gated p input s counts x)))
+      subst (λ (us : List Turn). PermittedSteps gated p input (next_state s x) us (one_more t counts) xs z)
+      (left_behind (event_of x) g turns ∙ ap (λ (b : Bool). drop (done_after b g) turns) (sym (deed_event gated p input s counts x)))
       (subst (λ (v : State). PermittedSteps gated p input v (turns_behind (event_of x) (drop g turns)) (one_more t counts) xs z) w h.1) in
-      let rest = run_is (next_state s x) (one_more t counts) (plans.effect a d) turns (done_after (deeds.is_event d) g) xs z program small next_reached (leads s counts a x reached sees m.takes) more in
+      let rest = run_is (next_state s x) (one_more t counts) (plans.effect a d) turns (done_after (deeds.is_event d) g) xs z program small next_reached
+      (leads s counts a x reached sees m.takes) more in
       record {
         permitted = (
           record {
@@ -160,7 +171,8 @@ module _ (gated : List InstrId) (p : NumberedProgram) (input : List ℤ) where
       ∙ ap (λ (b : Bool). done_after b g + length (events xs)) (deed_event gated p input s counts x) ∙ more_events (event_of x) x xs g refl
 
   -- what a run leaves, whether it is permitted or not
-  pub looks_run : (s : State) (counts : ℕ → ℕ) (a : Seen) (xs : List Step) (z : State) → IsProgram p → length input < 2 ^ 64 → IsReached p s → Same a (seen s counts) → IsRun gated p input s xs z →
+  pub looks_run : (s : State) (counts : ℕ → ℕ) (a : Seen) (xs : List Step) (z : State) → IsProgram p → length input < 2 ^ 64 → IsReached p s → Same a (seen s counts)
+      → IsRun gated p input s xs z →
       Same (plans.effects a (deeds_of p input s counts xs)) (seen z (λ t. counts t + steps_of t xs)) × IsReached p z
   unfolding deeds_of
   looks_run s counts a [] z program small reached sees h = (
@@ -170,5 +182,6 @@ module _ (gated : List InstrId) (p : NumberedProgram) (input : List ℤ) where
   looks_run s counts a (x ∷ xs) z program small reached sees h =
       let w : h.0.after ≡ next_state s x = left_by gated p input s h.0.after x.thread.0 x h.0.is_step in
       let next_reached : IsReached p (next_state s x) = subst (IsReached p) w (reached_step gated p input s h.0.after x.thread.0 x program small reached h.0.is_ready h.0.is_step) in
-      let rest = looks_run (next_state s x) (one_more x.thread.0 counts) (plans.effect a (deed_of p input s counts x)) xs z program small next_reached (leads s counts a x reached sees h.0) (subst (λ (v : State). IsRun gated p input v xs z) w h.1) in
+      let rest = looks_run (next_state s x) (one_more x.thread.0 counts) (plans.effect a (deed_of p input s counts x)) xs z program small next_reached (leads s counts a x reached sees h.0)
+      (subst (λ (v : State). IsRun gated p input v xs z) w h.1) in
       (same_then rest.0 (counts_by z (λ u. one_more x.thread.0 counts u + steps_of u xs) (λ u. counts u + steps_of u (x ∷ xs)) (λ u. count_more u counts x xs)), rest.1)

@@ -1,5 +1,6 @@
 -- What a step does rests on its thread, on the cells that it reads, and, where it is an event, on the objects.
-use Rattle.std.proofs.Common.{◌≡◌, ℕ, ℤ, ◌+◌, ◌<◌, List, [], ◌∷◌, length, drop, Bool, true, false, Option, Some, None, Result, Ok, refl, sym, ◌∙◌, ap, subst, arith, zero, suc}
+use Rattle.std.proofs.Common.{◌≡◌, ℕ, ℤ, ◌+◌, ◌<◌, List, [], ◌∷◌, length, drop, Bool, true, false, Option, Some, None, Result, Ok, refl, sym, ◌∙◌, ap, subst}
+use Rattle.std.proofs.Common.{arith, zero, suc}
 use Rattle.std.specs.Prelude.{◌==◌, ◌&&◌, not, nat_lt, is_some, slice_get, if◌then◌else◌}
 use Rattle.std.proofs.lemmas.Bool.Decides.{nat_tests}
 use Rattle.std.proofs.lemmas.Bool.{and_parts, and_from}
@@ -40,7 +41,8 @@ use Rattle.pg_effects.proofs.Reaches.{present}
 use Rattle.pg_effects.proofs.Seen.{agree_like}
 use Rattle.pg_effects.proofs.Tells.{tells_alike}
 use Rattle.pg_effects.proofs.Threads.{event_is, tells_request}
-use Rattle.pg_runs.specs.Deeds.{Did as Deed', Does, Seen, Shared, Thread, deed_by, deed_of, goes_on, is_granted, local_event, local_goes, local_granted, owners_of, rules, seen, shared_after, shared_of}
+use Rattle.pg_runs.specs.Deeds.{Did as Deed', Does, Seen, Shared, Thread, deed_by, deed_of, goes_on, is_granted, local_event, local_goes, local_granted, owners_of, rules, seen, shared_after}
+use Rattle.pg_runs.specs.Deeds.{shared_of}
 use Rattle.pg_runs.proofs.Rules.{Steps, looks, none_granted, plain_granted, steps_by, turn_is}
 
 is_some_if : {A : Type 0} (b : Bool) (x : A) → is_some (if◌then◌else◌ {A = Option A} b (Some x) None) ≡ b
@@ -66,7 +68,8 @@ module _ (gated : List InstrId) (p : NumberedProgram) (input : List ℤ) where
   -- a step that is a request is an event
   pub request_event : (s : State) (x : Step) → Takes gated p input s x → is_some (effect_of p input s x.thread.0).request ≡ true → is_some (event_of x) ≡ true
   request_event s x h r =
-      let k : asks x.kind ≡ is_some (effect_of p input s x.thread.0).request = subst (λ (o : Stepped). IfDid o (λ y z. asks y.kind ≡ is_some (effect_of p input s x.thread.0).request)) h.is_step (tells_request gated p input s x.thread.0) in
+      let k : asks x.kind ≡ is_some (effect_of p input s x.thread.0).request =
+      subst (λ (o : Stepped). IfDid o (λ y z. asks y.kind ≡ is_some (effect_of p input s x.thread.0).request)) h.is_step (tells_request gated p input s x.thread.0) in
       some_turn x (happening_in x.kind) ∙ asks_happens x.kind (k ∙ r)
 
   -- whether a step is an event is seen of its thread
@@ -90,10 +93,12 @@ module _ (gated : List InstrId) (p : NumberedProgram) (input : List ℤ) where
 
   shared_same : (s z : State) (e : Effect) (b : Bool) → (b ≡ true → shared_of s ≡ shared_of z) →
       Path (Option Shared) (if b then Some (shared_after s e) else None) (if b then Some (shared_after z e) else None)
-  shared_same s z e true h = ap (λ (y : Shared). Some (record { objects = Rattle.pg_effects.specs.Views.objects_with e.thread e.request y.objects; printed = Rattle.pg_effects.specs.Effect.printed_with e.request y.printed })) (h refl)
+  shared_same s z e true h = ap (λ (y : Shared). Some
+      (record { objects = Rattle.pg_effects.specs.Views.objects_with e.thread e.request y.objects; printed = Rattle.pg_effects.specs.Effect.printed_with e.request y.printed })) (h refl)
   shared_same s z e false h = refl
 
-  same_by : (s z : State) (m n : ℕ → ℕ) (x : Step) (e : Effect) → m x.thread.0 ≡ n x.thread.0 → (is_some (event_of x) ≡ true → shared_of s ≡ shared_of z) → IsSame (deed_by s m x e) (deed_by z n x e)
+  same_by : (s z : State) (m n : ℕ → ℕ) (x : Step) (e : Effect) → m x.thread.0 ≡ n x.thread.0 → (is_some (event_of x) ≡ true → shared_of s ≡ shared_of z)
+      → IsSame (deed_by s m x e) (deed_by z n x e)
   same_by s z m n x e k o = record {
     thread = refl;
     to = ap (λ (i : ℕ). record { local = e.local; taken = suc i }) k;
@@ -119,7 +124,8 @@ module _ (gated : List InstrId) (p : NumberedProgram) (input : List ℤ) where
       let made : t < length s.locals = ready_made p s t h.takes.is_ready in
       let local : Path Thread (record { local = local_at s t; taken = h.counts t }) (record { local = local_at z t; taken = k.counts t }) =
       sym (h.looks.locals t) ∙ subst (λ (v : ℕ). a.locals v ≡ b.locals v) mine l ∙ k.looks.locals t in
-      let is_event : (is_some (event_of x) ≡ true → deeds.is_event p1 ≡ true) = λ v. ap is_some h.is_deed.objects ∙ is_some_if (is_some (event_of x)) (shared_after s (effect_of p input s t)) ∙ v in
+      let is_event : (is_some (event_of x) ≡ true → deeds.is_event p1 ≡ true) =
+      λ v. ap is_some h.is_deed.objects ∙ is_some_if (is_some (event_of x)) (shared_after s (effect_of p input s t)) ∙ v in
       let shared : (is_some (event_of x) ≡ true → shared_of s ≡ shared_of z) = λ v. sym h.looks.objects ∙ o (is_event v) ∙ k.looks.objects in
       let like : AreLikeFor (effect_of p input s t) s z = record {
         local = subst (λ (v : ℕ). local_at s v ≡ local_at z v) (sym (thread_is p input s t)) (ap (λ (q : Thread). q.local) local);
@@ -127,9 +133,12 @@ module _ (gated : List InstrId) (p : NumberedProgram) (input : List ℤ) where
         objects = λ r. ap (λ (q : Shared). q.objects) (shared (request_event s x h.takes r));
       } in
       let agree : AgreeFor (effect_of p input s t) s z = agree_like p input s z t h.reached k.reached made like in
-      let same_told : x ≡ y = told_same x y (sym (ap tells h.takes.is_step) ∙ tells_alike gated p input s z t agree ∙ ap (λ (v : ℕ). tells (step gated p input z v)) (sym theirs) ∙ ap tells k.takes.is_step) in
+      let same_told : x ≡ y = told_same x y (sym (ap tells h.takes.is_step) ∙ tells_alike gated p input s z t agree ∙ ap (λ (v : ℕ). tells (step gated p input z v)) (sym theirs)
+      ∙ ap tells k.takes.is_step) in
       let same_effect : effect_of p input s t ≡ effect_of p input z t = effect_alike p input s z t agree in
-      let other : IsSame d (deed_by z k.counts x (effect_of p input s t)) = subst (λ (e : Effect). IsSame d (deed_by z k.counts x e)) (sym same_effect) (subst (λ (v : Step). IsSame d (deed_by z k.counts v (effect_of p input z v.thread.0))) (sym same_told) k.is_deed) in
+      let other : IsSame d (deed_by z k.counts x (effect_of p input s t)) =
+      subst (λ (e : Effect). IsSame d (deed_by z k.counts x e)) (sym same_effect)
+      (subst (λ (v : Step). IsSame d (deed_by z k.counts v (effect_of p input z v.thread.0))) (sym same_told) k.is_deed) in
       deed_then h.is_deed (deed_then (same_by s z h.counts k.counts x (effect_of p input s t) (ap (λ (q : Thread). q.taken) local) shared) (deed_back other))
 
   pub determined : AreDetermined (rules gated p) (Does gated p input)
@@ -176,12 +185,15 @@ module _ (gated : List InstrId) (p : NumberedProgram) (input : List ℤ) where
         let below : nat_lt (counts t) GUIDED_STEP_LIMIT ≡ true = let b = m.budget in grind (arith, nat_tests) in
         record {
           going = ap (λ (q : Shared). sync.over q.objects.sync) sees.objects ∙ is_going p s t m.takes.is_ready;
-          can = ap (λ (l : Thread). local_goes p l.local && nat_lt l.taken GUIDED_STEP_LIMIT) (sees.locals t) ∙ and_from (local_goes p (local_at s t)) (nat_lt (counts t) GUIDED_STEP_LIMIT) (see.goes ∙ allowed.0) below;
+          can = ap (λ (l : Thread). local_goes p l.local && nat_lt l.taken GUIDED_STEP_LIMIT) (sees.locals t)
+              ∙ and_from (local_goes p (local_at s t)) (nat_lt (counts t) GUIDED_STEP_LIMIT) (see.goes ∙ allowed.0) below;
           turn = g + own.0;
           left = omega arith;
           own = sym (get_behind g turns own.0) ∙ own.1;
-          next = λ v. ap (slice_get (owners_of turns)) (plus_none g) ∙ sym (get_behind g turns 0) ∙ due_owner x (happening_in x.kind) (drop g turns) (event_seen s x reached m.takes ∙ ap (λ (l : Thread). local_event gated p l.local) (sym (sees.locals t)) ∙ v) m.due;
-          ready = λ v. ap (λ (l : Thread). local_granted p t l.local a.objects.objects) (sees.locals t) ∙ ap (λ (q : Shared). local_granted p t (local_at s t) q.objects) sees.objects ∙ see.granted ∙ allowed.1;
+          next = λ v. ap (slice_get (owners_of turns)) (plus_none g) ∙ sym (get_behind g turns 0)
+              ∙ due_owner x (happening_in x.kind) (drop g turns) (event_seen s x reached m.takes ∙ ap (λ (l : Thread). local_event gated p l.local) (sym (sees.locals t)) ∙ v) m.due;
+          ready = λ v. ap (λ (l : Thread). local_granted p t l.local a.objects.objects) (sees.locals t) ∙ ap (λ (q : Shared). local_granted p t (local_at s t) q.objects) sees.objects
+              ∙ see.granted ∙ allowed.1;
         }
       where
         plus_none : (n : ℕ) → n ≡ n + 0
@@ -196,7 +208,8 @@ module _ (gated : List InstrId) (p : NumberedProgram) (input : List ℤ) where
 
         granted_seen : local_event gated p (local_at s t) ≡ true → local_granted p t (local_at s t) (objects_of s) ≡ true
         granted_seen e =
-            ap (λ (q : Shared). local_granted p t (local_at s t) q.objects) (sym sees.objects) ∙ ap (λ (l : Thread). local_granted p t l.local a.objects.objects) (sym (sees.locals t)) ∙ m.ready (event_is_seen true e)
+            ap (λ (q : Shared). local_granted p t (local_at s t) q.objects) (sym sees.objects) ∙ ap (λ (l : Thread). local_granted p t l.local a.objects.objects) (sym (sees.locals t))
+            ∙ m.ready (event_is_seen true e)
 
         go : (o : Option LocalState) → slice_get s.locals t ≡ o → Steps gated p input t s
         go None e =
@@ -205,7 +218,8 @@ module _ (gated : List InstrId) (p : NumberedProgram) (input : List ℤ) where
             let q : true ≡ false = sym k ∙ n.1 in absurd cc
         go (Some l) e =
             let see = looks gated p s t l reached e in
-            let can = and_parts (local_goes p (local_at s t)) (nat_lt (counts t) GUIDED_STEP_LIMIT) (ap (λ (l : Thread). local_goes p l.local && nat_lt l.taken GUIDED_STEP_LIMIT) (sym (sees.locals t)) ∙ m.can) in
+            let can = and_parts (local_goes p (local_at s t)) (nat_lt (counts t) GUIDED_STEP_LIMIT)
+            (ap (λ (l : Thread). local_goes p l.local && nat_lt l.taken GUIDED_STEP_LIMIT) (sym (sees.locals t)) ∙ m.can) in
             steps_by gated p input t s (ap (λ (q : Shared). sync.over q.objects.sync) (sym sees.objects) ∙ m.going) (sym see.goes ∙ can.0) (by_event (is_some (turn_of gated p s t)) refl)
           where
             by_event : (b : Bool) → is_some (turn_of gated p s t) ≡ b → is_granted s.sync t (next_of p s t) ≡ true

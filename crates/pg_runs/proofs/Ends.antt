@@ -17,7 +17,8 @@ use Rattle.pg_runs.proofs.Deeds.{may_of}
 use Rattle.pg_runs.proofs.CutRun as law
 use Rattle.pg_runs.proofs.Maximal.{maximal}
 
-pub ends : (p : NumberedProgram) (input : List ℤ) (turns : List Turn) (gated : List InstrId) (xs : List Step) (x : Step) (z w : State) → CanRun p input → IsPermitted p input turns gated xs z → IsFull gated p turns xs z → IsPermitted p input turns gated (xs ++ x ∷ []) w → ⊥
+pub ends : (p : NumberedProgram) (input : List ℤ) (turns : List Turn) (gated : List InstrId) (xs : List Step) (x : Step) (z w : State) → CanRun p input
+    → IsPermitted p input turns gated xs z → IsFull gated p turns xs z → IsPermitted p input turns gated (xs ++ x ∷ []) w → ⊥
 ends p input turns gated xs x z w can h full more =
     let k = (permitted_more p input turns gated xs x w).0 more in
     let same : k.0 ≡ z = (same_runs gated p input (initial p) k.0 z xs xs k.1.run h.run refl).1 in

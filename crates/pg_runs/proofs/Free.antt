@@ -1,7 +1,6 @@
 -- A run whose events are the first turns: its steps that have a turn left are permitted ones.
-use Rattle.std.proofs.Common.{◌≡◌, ℕ, ℤ, ◌+◌, ◌-◌, ◌<◌, ◌≤◌, ◌^◌, List, [], ◌∷◌, ◌++◌, length, drop, Bool, Option, Some, None, refl, sym, ◌∙◌, ap, subst, arith}
-use Rattle.std.specs.Prelude.{◌==◌, slice_get, cond}
-use Rattle.std.proofs.lemmas.List.Sums.{sum_by-cons}
+use Rattle.std.proofs.Common.{◌≡◌, ℕ, ℤ, ◌+◌, ◌-◌, ◌<◌, ◌≤◌, ◌^◌, List, [], ◌∷◌, ◌++◌, length, drop, Bool, Some, refl, sym, ◌∙◌, ap, subst, arith}
+use Rattle.std.specs.Prelude.{slice_get}
 use Rattle.pg_num.specs.declared.limits.TheConstants.{GUIDED_STEP_LIMIT}
 use Rattle.pg_ir.specs.declared.ids.InstrId.{InstrId}
 use Rattle.pg_ir.specs.Program.{NumberedProgram}
@@ -17,7 +16,6 @@ use Rattle.pg_trace.specs.declared.step.Step.{Step}
 use Rattle.pg_machine.specs.State.{State}
 use Rattle.pg_machine.specs.Permitted.{turns_left}
 use Rattle.pg_machine.specs.Runs.{IsRun, Takes, event_of, events, steps_of}
-use Rattle.pg_machine.proofs.GuidedRuns.{same_as_itself}
 use Rattle.pg_effects.specs.PermittedSteps.{IsDue, one_more, turns_behind}
 use Rattle.pg_effects.specs.Reached.{IsReached}
 use Rattle.pg_effects.proofs.Apart.{left_by}
@@ -27,26 +25,7 @@ use Rattle.pg_runs.specs.Deeds.{Did as Deed', Does, Seen, deed_of, deeds_of, own
 use Rattle.pg_runs.proofs.Deeds.{deed_event, due_owner, get_behind, may_of}
 use Rattle.pg_runs.proofs.Along.{count_more, leads, left_behind, next_state}
 use Rattle.pg_runs.proofs.Maximal.{turn_there}
-
-head_or : Turn → List Turn → Turn
-head_or d [] = d
-head_or d (u ∷ us) = u
-
-tail_of : List Turn → List Turn
-tail_of [] = []
-tail_of (u ∷ us) = us
-
--- the events of a step and of those behind it are the first of the turns
-first_due : (v : Option Turn) (us : List Turn) (x : Step) (xs : List Step) → event_of x ≡ v → events (x ∷ xs) ++ turns_left us (x ∷ xs) ≡ us → IsDue v us × (events xs ++ turns_left (turns_behind v us) xs ≡ turns_behind v us)
-unfolding head_or tail_of
-first_due None us x xs e h = (tt, rw e at h)
-first_due (Some v) [] x xs e h = let k : Path (List Turn) (v ∷ (events xs ++ [])) [] = rw e at h in absurd cc
-first_due (Some v) (u ∷ us) x xs e h =
-    let k : v ∷ (events xs ++ drop (length (events xs)) us) ≡ u ∷ us = rw e at h in
-    (ap (head_or v) k, ap tail_of k)
-
-count_own : (x : Step) (xs : List Step) → steps_of x.thread.0 (x ∷ xs) ≡ 1 + steps_of x.thread.0 xs
-count_own x xs = sum_by-cons (λ (y : Step). cond (y.thread.0 == x.thread.0) 1 0) x xs ∙ ap (λ (b : Bool). cond b 1 0 + steps_of x.thread.0 xs) (same_as_itself x.thread.0)
+use Rattle.pg_effects.proofs.Permits.{count_own, first_due}
 
 module _ (gated : List InstrId) (p : NumberedProgram) (input : List ℤ) where
   -- x may be taken but that its thread may have no turn left
@@ -59,7 +38,8 @@ module _ (gated : List InstrId) (p : NumberedProgram) (input : List ℤ) where
   FreeSteps s us counts [] z = s ≡ z
   FreeSteps s us counts (x ∷ xs) z = (m : IsFree s us counts x) × FreeSteps m.takes.after (turns_behind (event_of x) us) (one_more x.thread.0 counts) xs z
 
-  pub free_steps : (s z : State) (us : List Turn) (counts : ℕ → ℕ) (xs : List Step) → IsRun gated p input s xs z → events xs ++ turns_left us xs ≡ us → ((t : ℕ) → counts t + steps_of t xs ≤ GUIDED_STEP_LIMIT) → FreeSteps s us counts xs z
+  pub free_steps : (s z : State) (us : List Turn) (counts : ℕ → ℕ) (xs : List Step) → IsRun gated p input s xs z → events xs ++ turns_left us xs ≡ us
+      → ((t : ℕ) → counts t + steps_of t xs ≤ GUIDED_STEP_LIMIT) → FreeSteps s us counts xs z
   free_steps s z us counts [] h e b = h
   free_steps s z us counts (x ∷ xs) h e b =
       let d = first_due (event_of x) us x xs refl e in (
@@ -71,10 +51,12 @@ module _ (gated : List InstrId) (p : NumberedProgram) (input : List ℤ) where
   behind_first : (s : State) (counts : ℕ → ℕ) (turns : List Turn) (g : ℕ) (x : Step) (xs : List Step) (z : State) (h : FreeSteps s (drop g turns) counts (x ∷ xs) z) →
       FreeSteps (next_state gated p input s x) (drop (done_after (deeds.is_event (deed_of p input s counts x)) g) turns) (one_more x.thread.0 counts) xs z
   behind_first s counts turns g x xs z h =
-      subst (λ (us : List Turn). FreeSteps (next_state gated p input s x) us (one_more x.thread.0 counts) xs z) (left_behind (event_of x) g turns ∙ ap (λ (b : Bool). drop (done_after b g) turns) (sym (deed_event gated p input s counts x)))
+      subst (λ (us : List Turn). FreeSteps (next_state gated p input s x) us (one_more x.thread.0 counts) xs z)
+      (left_behind (event_of x) g turns ∙ ap (λ (b : Bool). drop (done_after b g) turns) (sym (deed_event gated p input s counts x)))
       (subst (λ (v : State). FreeSteps v (turns_behind (event_of x) (drop g turns)) (one_more x.thread.0 counts) xs z) (left_by gated p input s h.0.takes.after x.thread.0 x h.0.takes.is_step) h.1)
 
-  pub free_turns : (s : State) (counts : ℕ → ℕ) (turns : List Turn) (g : ℕ) (xs : List Step) (z : State) → FreeSteps s (drop g turns) counts xs z → AreTurns deeds (owners_of turns) g (deeds_of p input s counts xs)
+  pub free_turns : (s : State) (counts : ℕ → ℕ) (turns : List Turn) (g : ℕ) (xs : List Step) (z : State) → FreeSteps s (drop g turns) counts xs z
+      → AreTurns deeds (owners_of turns) g (deeds_of p input s counts xs)
   unfolding deeds_of
   free_turns s counts turns g [] z h = tt
   free_turns s counts turns g (x ∷ xs) z h = (
@@ -86,8 +68,10 @@ module _ (gated : List InstrId) (p : NumberedProgram) (input : List ℤ) where
       plus k = let e : g ≡ g + 0 = omega arith in ap (slice_get (owners_of turns)) e ∙ sym (get_behind gated p input g turns 0) ∙ k
 
   -- a step that has a turn left is a permitted one
-  pub takes_at : (s : State) (counts : ℕ → ℕ) (a : Seen) (turns : List Turn) (g : ℕ) (xs : List Step) (z : State) → IsProgram p → length input < 2 ^ 64 → IsReached p s → Same a (seen s counts) → FreeSteps s (drop g turns) counts xs z →
-      (ds : List Deed') (d : Deed') (es : List Deed') → deeds_of p input s counts xs ≡ ds ++ d ∷ es → (turn : ℕ) → turns_done deeds g ds ≤ turn → slice_get (owners_of turns) turn ≡ Some d.thread →
+  pub takes_at : (s : State) (counts : ℕ → ℕ) (a : Seen) (turns : List Turn) (g : ℕ) (xs : List Step) (z : State) → IsProgram p → length input < 2 ^ 64 → IsReached p s
+      → Same a (seen s counts) → FreeSteps s (drop g turns) counts xs z →
+      (ds : List Deed') (d : Deed') (es : List Deed') → deeds_of p input s counts xs ≡ ds ++ d ∷ es → (turn : ℕ) → turns_done deeds g ds ≤ turn
+      → slice_get (owners_of turns) turn ≡ Some d.thread →
       PlanTakes (rules gated p) (Does gated p input) (owners_of turns) (plans.effects a ds) (turns_done deeds g ds) d
   unfolding deeds_of
   takes_at s counts a turns g [] z program small reached sees h [] d es e turn le own = absurd cc
@@ -112,5 +96,6 @@ module _ (gated : List InstrId) (p : NumberedProgram) (input : List ℤ) where
       let w = left_by gated p input s m.takes.after t x m.takes.is_step in
       let next_reached : IsReached p (next_state gated p input s x) = subst (IsReached p) w (reached_step gated p input s m.takes.after t x program small reached m.takes.is_ready m.takes.is_step) in
       subst (λ (i : Deed'). PlanTakes (rules gated p) (Does gated p input) (owners_of turns) (plans.effects (plans.effect a i) ds) (turns_done deeds (done_after (deeds.is_event i) g) ds) d) q
-      (takes_at (next_state gated p input s x) (one_more t counts) (plans.effect a (deed_of p input s counts x)) turns (done_after (deeds.is_event (deed_of p input s counts x)) g) xs z program small next_reached (leads gated p input s counts a x reached sees m.takes)
+      (takes_at (next_state gated p input s x) (one_more t counts) (plans.effect a (deed_of p input s counts x)) turns
+      (done_after (deeds.is_event (deed_of p input s counts x)) g) xs z program small next_reached (leads gated p input s counts a x reached sees m.takes)
       (behind_first s counts turns g x xs z h) ds d es (cons_tail e) turn (subst (λ (i : Deed'). turns_done deeds (done_after (deeds.is_event i) g) ds ≤ turn) (sym q) le) own)

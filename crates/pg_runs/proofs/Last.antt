@@ -1,5 +1,6 @@
 -- An ordered run with all turns, up to each thread's last turn, is an ordered full run along them.
-use Rattle.std.proofs.Common.{◌≡◌, ◌≢◌, ℕ, ℤ, ◌+◌, ◌<◌, ◌≤◌, List, [], ◌∷◌, ◌++◌, length, map, drop, Bool, true, false, cond, Some, refl, sym, ◌∙◌, ap, subst, arith, zero, suc, inl, inr, ◌⊎◌, append-nil}
+use Rattle.std.proofs.Common.{◌≡◌, ◌≢◌, ℕ, ℤ, ◌+◌, ◌<◌, ◌≤◌, List, [], ◌∷◌, ◌++◌, length, map, drop, Bool, true, false, cond, Some, refl, sym}
+use Rattle.std.proofs.Common.{◌∙◌, ap, subst, arith, zero, suc, inl, inr, ◌⊎◌, append-nil}
 use Rattle.std.specs.Prelude.{◌==◌, ◌||◌, nat_lt, is_some, slice_get, slice_index}
 use Rattle.std.specs.List.{AllByRecursion as AllOf, filter, filter_map}
 use Rattle.std.proofs.lemmas.Bool.Decides.{nat_tests}
@@ -15,7 +16,7 @@ use Rattle.pg_plans.specs.Effects.{Same, deeds}
 use Rattle.pg_plans.specs.Intervals.{AreOrdered, AreTurns, Timed, did_of, done_after, next_from, timed, times, turns_done}
 use Rattle.pg_plans.proofs.Effects.{agree, cell_part, objects_part, same_refl}
 use Rattle.pg_plans.proofs.Firsts.{same_chosen}
-use Rattle.pg_plans.proofs.Lists.{all_did, all_kept, all_left, all_map, all_right, at_marks, whole_append}
+use Rattle.pg_plans.proofs.Lists.{all_did, all_kept, all_map, all_right, at_marks, whole_append}
 use Rattle.pg_plans.proofs.Runs as runs
 use Rattle.pg_plans.proofs.Times.{did_times, events_below, low_up, timed_at, turns_left_of, within_after, within_end}
 use Rattle.pg_plans.proofs.Turns.{next_from_end, next_is, next_of_own, next_up}
@@ -24,7 +25,6 @@ use Rattle.pg_trace.specs.declared.step.Step.{Step}
 use Rattle.pg_machine.specs.State.{State, initial}
 use Rattle.pg_machine.specs.Permitted.{IsHeldBy, has_turn, turns_left}
 use Rattle.pg_machine.specs.Runs.{IsRun, event_of, events, steps_of}
-use Rattle.pg_machine.proofs.GuidedRuns.{same_as_itself, same_number}
 use Rattle.pg_effects.specs.Effect.{effect_of}
 use Rattle.pg_effects.specs.PermittedSteps.{none_taken, one_more, turns_behind}
 use Rattle.pg_effects.specs.Reached.{IsReached}
@@ -32,7 +32,7 @@ use Rattle.pg_effects.proofs.Reaches.{reached_first}
 use Rattle.pg_runs.specs.Cuts.{CanRun, IsOrderedAlong, IsOrderedFull}
 use Rattle.pg_runs.specs.Deeds.{Did as Deed', Does, Seen, deed_of, deeds_of, owners_of, rules, seen, shared_of}
 use Rattle.pg_runs.specs.LastTurns.{until_last}
-use Rattle.pg_runs.proofs.Along.{left_behind, looks_run}
+use Rattle.pg_runs.proofs.Along.{flipped, left_behind, looks_run}
 use Rattle.pg_runs.proofs.CutRun as cuts
 use Rattle.pg_runs.proofs.Deeds.{deed_event, determined}
 use Rattle.pg_runs.proofs.Parts.{TellsSo, all_tell, events_are, told_is, told_of}
@@ -74,7 +74,8 @@ next_grows T u k l le h = go (next_is u T l)
     go (inr e) = let a = next_from_end u T k in omega (arith, a, e)
 
 -- steps of a thread behind another have no earlier next turn
-highs_up : (T : List ℕ) (u k l : ℕ) (ds : List Deed') → k ≤ l → l ≤ length T → AreTurns deeds T l ds → AllOf (λ y. y.did.thread ≡ u → next_from u T k ≤ y.high) (times deeds T l ds)
+highs_up : (T : List ℕ) (u k l : ℕ) (ds : List Deed') → k ≤ l → l ≤ length T → AreTurns deeds T l ds
+    → AllOf (λ y. y.did.thread ≡ u → next_from u T k ≤ y.high) (times deeds T l ds)
 highs_up T u k l [] le h t = tt
 highs_up T u k l (d ∷ ds) le h t = (
   (λ e. ap_high e),
@@ -114,11 +115,13 @@ marks_below T k (d ∷ ds) h t = (
 
 -- ---- the kept steps in order
 
-kept_times : (T : List ℕ) (k : ℕ) (ms : List (Mark (Timed Deed'))) → whole ms ≡ times deeds T k (did_of (whole ms)) → AllOf (λ m. m.done ≡ false → deeds.is_event m.step.did ≡ false) ms → times deeds T k (did_of (kept ms)) ≡ kept ms
+kept_times : (T : List ℕ) (k : ℕ) (ms : List (Mark (Timed Deed'))) → whole ms ≡ times deeds T k (did_of (whole ms))
+    → AllOf (λ m. m.done ≡ false → deeds.is_event m.step.did ≡ false) ms → times deeds T k (did_of (kept ms)) ≡ kept ms
 kept_times T k [] e a = refl
 kept_times T k (m ∷ ms) e a = go m.done refl (kept_times T (done_after (deeds.is_event m.step.did) k) ms (Rattle.pg_plans.proofs.Lists.cons_tail e) a.1)
   where
-    go : (b : Bool) → m.done ≡ b → times deeds T (done_after (deeds.is_event m.step.did) k) (did_of (kept ms)) ≡ kept ms → times deeds T k (did_of (cond m.done (m.step ∷ kept ms) (kept ms))) ≡ cond m.done (m.step ∷ kept ms) (kept ms)
+    go : (b : Bool) → m.done ≡ b → times deeds T (done_after (deeds.is_event m.step.did) k) (did_of (kept ms)) ≡ kept ms
+        → times deeds T k (did_of (cond m.done (m.step ∷ kept ms) (kept ms))) ≡ cond m.done (m.step ∷ kept ms) (kept ms)
     go true w ih = rw w (ap (λ (l : List (Timed Deed')). timed deeds T k m.step.did ∷ l) ih ∙ ap (λ (x : Timed Deed'). x ∷ kept ms) (sym (Rattle.pg_plans.proofs.Lists.cons_head e)))
     go false w ih = rw w (ap (λ (n : ℕ). times deeds T n (did_of (kept ms))) (sym (ap (λ (v : Bool). done_after v k) (a.0 w))) ∙ ih)
 
@@ -135,14 +138,6 @@ kept_pairs R (m ∷ ms) h = go m.done (kept_pairs R ms h.1)
 
 -- ---- the turns that are left
 
-flipped : (u t : ℕ) (b : Bool) → (u == t) ≡ b → (t == u) ≡ b
-flipped u t true e = ap (λ (i : ℕ). t == i) (same_number u t e) ∙ same_as_itself t
-flipped u t false e = go (t == u) refl
-  where
-    go : (b : Bool) → (t == u) ≡ b → (t == u) ≡ false
-    go false q = q
-    go true q = let k : true ≡ false = sym (same_as_itself u) ∙ ap (λ (i : ℕ). u == i) (sym (same_number t u q)) ∙ e in absurd cc
-
 lt_suc : (a b : ℕ) → nat_lt (suc a) (suc b) ≡ nat_lt a b
 lt_suc a b = go (nat_lt a b) refl
   where
@@ -155,7 +150,8 @@ has_left t [] zero = false_from_ne_true (nat_lt 0 0) (λ q. let k = lt_is 0 0 q 
 has_left t [] (suc g) = false_from_ne_true (nat_lt 0 0) (λ q. let k = lt_is 0 0 q in absurd (omega (arith, k)))
 has_left t (u ∷ us) zero = go (t == u.thread.0) refl (has_left t us zero)
   where
-    go : (b : Bool) → (t == u.thread.0) ≡ b → nat_lt (next_from t (owners_of us) 0) (length (owners_of us)) ≡ has_turn t us → nat_lt (cond (t == u.thread.0) 0 (suc (next_from t (owners_of us) 0))) (suc (length (owners_of us))) ≡ ((u.thread.0 == t) || has_turn t us)
+    go : (b : Bool) → (t == u.thread.0) ≡ b → nat_lt (next_from t (owners_of us) 0) (length (owners_of us)) ≡ has_turn t us
+        → nat_lt (cond (t == u.thread.0) 0 (suc (next_from t (owners_of us) 0))) (suc (length (owners_of us))) ≡ ((u.thread.0 == t) || has_turn t us)
     go true e ih = rw (e, flipped t u.thread.0 true e) (is_lt 0 (suc (length (owners_of us))) (omega arith))
     go false e ih = rw (e, flipped t u.thread.0 false e) (lt_suc (next_from t (owners_of us) 0) (length (owners_of us)) ∙ ih)
 has_left t (u ∷ us) (suc g) = lt_suc (next_from t (owners_of us) g) (length (owners_of us)) ∙ has_left t us g
@@ -170,8 +166,15 @@ until_is p input turns s counts g (x ∷ xs) =
     ∙ ap (λ (b : Bool). until_last (drop (done_after b g) turns) xs) (deed_event [] p input s counts x) ∙ ap (λ (us : List Turn). until_last us xs) (sym (left_behind (event_of x) g turns)))
   where
     step : (b : Bool) → b ≡ has_turn x.thread.0 (drop g turns) →
-        told_of (did_of (kept (marks_by (length (owners_of turns)) (times deeds (owners_of turns) (done_after (deeds.is_event (deed_of p input s counts x)) g) (deeds_of p input (Rattle.pg_effects.specs.Effect.effect s (effect_of p input s x.thread.0)) (one_more x.thread.0 counts) xs))))) ≡ until_last (turns_behind (event_of x) (drop g turns)) xs →
-        told_of (did_of (cond b (timed deeds (owners_of turns) g (deed_of p input s counts x) ∷ kept (marks_by (length (owners_of turns)) (times deeds (owners_of turns) (done_after (deeds.is_event (deed_of p input s counts x)) g) (deeds_of p input (Rattle.pg_effects.specs.Effect.effect s (effect_of p input s x.thread.0)) (one_more x.thread.0 counts) xs)))) (kept (marks_by (length (owners_of turns)) (times deeds (owners_of turns) (done_after (deeds.is_event (deed_of p input s counts x)) g) (deeds_of p input (Rattle.pg_effects.specs.Effect.effect s (effect_of p input s x.thread.0)) (one_more x.thread.0 counts) xs))))))
+        told_of (did_of (kept (marks_by (length (owners_of turns))
+        (times deeds (owners_of turns) (done_after (deeds.is_event (deed_of p input s counts x)) g)
+        (deeds_of p input (Rattle.pg_effects.specs.Effect.effect s (effect_of p input s x.thread.0)) (one_more x.thread.0 counts) xs)))))
+        ≡ until_last (turns_behind (event_of x) (drop g turns)) xs →
+        told_of (did_of (cond b (timed deeds (owners_of turns) g (deed_of p input s counts x) ∷ kept
+        (marks_by (length (owners_of turns)) (times deeds (owners_of turns) (done_after (deeds.is_event (deed_of p input s counts x)) g)
+        (deeds_of p input (Rattle.pg_effects.specs.Effect.effect s (effect_of p input s x.thread.0)) (one_more x.thread.0 counts) xs))))
+        (kept (marks_by (length (owners_of turns)) (times deeds (owners_of turns) (done_after (deeds.is_event (deed_of p input s counts x)) g)
+        (deeds_of p input (Rattle.pg_effects.specs.Effect.effect s (effect_of p input s x.thread.0)) (one_more x.thread.0 counts) xs))))))
         ≡ until_last (drop g turns) (x ∷ xs)
     step true e ih = rw (sym e) (ap (λ (l : List Step). x ∷ l) ih)
     step false e ih = rw (sym e) ih
@@ -227,10 +230,13 @@ module _ (p : NumberedProgram) (input : List ℤ) (turns : List Turn) (gated : L
       high_is = ap (λ (y : Timed Deed'). y.high) place
 
       is_done : x.high < length (owners_of turns)
-      is_done = lt_is x.high (length (owners_of turns)) (sym ((all_right (λ m. m.done ≡ nat_lt m.step.high (length (owners_of turns))) ms (performed x ∷ ns) (subst (AllOf (λ m. m.done ≡ nat_lt m.step.high (length (owners_of turns)))) e (marks_say (length (owners_of turns)) (times deeds (owners_of turns) 0 plan)))).0))
+      is_done = lt_is x.high (length (owners_of turns)) (sym
+          ((all_right (λ m. m.done ≡ nat_lt m.step.high (length (owners_of turns))) ms (performed x ∷ ns)
+          (subst (AllOf (λ m. m.done ≡ nat_lt m.step.high (length (owners_of turns)))) e (marks_say (length (owners_of turns)) (times deeds (owners_of turns) 0 plan)))).0))
 
       within : turns_done deeds 0 (did_of (whole ms)) ≤ length (owners_of turns)
-      within = within_end deeds (owners_of turns) 0 (did_of (whole ms)) (omega arith) (turns_left_of deeds (owners_of turns) 0 (did_of (whole ms)) (x.did ∷ did_of (whole ns)) (subst (AreTurns deeds (owners_of turns) 0) steps plan_turns))
+      within = within_end deeds (owners_of turns) 0 (did_of (whole ms)) (omega arith)
+          (turns_left_of deeds (owners_of turns) 0 (did_of (whole ms)) (x.did ∷ did_of (whole ns)) (subst (AreTurns deeds (owners_of turns) 0) steps plan_turns))
 
       later : turns_done deeds 0 (did_of (whole ms)) ≤ x.high
       later = let a = next_up x.did.thread (owners_of turns) (turns_done deeds 0 (did_of (whole ms))) within in let b = high_is in omega (arith, a, b)
@@ -238,14 +244,16 @@ module _ (p : NumberedProgram) (input : List ℤ) (turns : List Turn) (gated : L
       own : slice_get (owners_of turns) x.high ≡ Some x.did.thread
       own = go (next_is x.did.thread (owners_of turns) (turns_done deeds 0 (did_of (whole ms))))
         where
-          go : (slice_get (owners_of turns) (next_from x.did.thread (owners_of turns) (turns_done deeds 0 (did_of (whole ms)))) ≡ Some x.did.thread) ⊎ (next_from x.did.thread (owners_of turns) (turns_done deeds 0 (did_of (whole ms))) ≡ length (owners_of turns)) → slice_get (owners_of turns) x.high ≡ Some x.did.thread
+          go : (slice_get (owners_of turns) (next_from x.did.thread (owners_of turns) (turns_done deeds 0 (did_of (whole ms)))) ≡ Some x.did.thread)
+              ⊎ (next_from x.did.thread (owners_of turns) (turns_done deeds 0 (did_of (whole ms))) ≡ length (owners_of turns)) → slice_get (owners_of turns) x.high ≡ Some x.did.thread
           go (inl o) = ap (slice_get (owners_of turns)) high_is ∙ o
           go (inr q) = let a = high_is in let b = is_done in absurd (omega (arith, a, b, q))
 
   -- the events are all done
   open_plain : AllOf (λ m. m.done ≡ false → deeds.is_event m.step.did ≡ false) marks
   open_plain = on_marks (λ m. m.done ≡ false → deeds.is_event m.step.did ≡ false) (length (owners_of turns)) (times deeds (owners_of turns) 0 plan)
-      (all_map (λ x f v. false_from_ne_true (deeds.is_event x.did) (λ e. let a = f e in let b = ge_is x.high (length (owners_of turns)) v in let c = within_end deeds (owners_of turns) 0 plan (omega arith) plan_turns in absurd (omega (arith, a, b, c))))
+      (all_map (λ x f v. false_from_ne_true (deeds.is_event x.did)
+      (λ e. let a = f e in let b = ge_is x.high (length (owners_of turns)) v in let c = within_end deeds (owners_of turns) 0 plan (omega arith) plan_turns in absurd (omega (arith, a, b, c))))
       (times deeds (owners_of turns) 0 plan) (events_below deeds (owners_of turns) 0 plan plan_turns))
 
   pub kept_run : cuts.KeptRun p input turns gated can full w run in_order budget ordered (length (owners_of turns)) marks whole_is cut_is below_is marks
@@ -259,14 +267,17 @@ module _ (p : NumberedProgram) (input : List ℤ) (turns : List Turn) (gated : L
 
   kept_events : events (told_of (did_of (kept marks))) ≡ turns
   kept_events =
-      sym (events_are (did_of (kept marks)) tell) ∙ ap (λ (l : List Deed'). filter_map event_of (map (λ (d : Deed'). d.told) l)) (same_chosen deeds.is_event marks open_plain ∙ ap (filter deeds.is_event) all_steps)
+      sym (events_are (did_of (kept marks)) tell) ∙ ap (λ (l : List Deed'). filter_map event_of (map (λ (d : Deed'). d.told) l))
+      (same_chosen deeds.is_event marks open_plain ∙ ap (filter deeds.is_event) all_steps)
       ∙ events_are plan (all_tell p input (initial p) none_taken full) ∙ ap events (told_is p input (initial p) none_taken full) ∙ all
 
   kept_none_left : turns_left turns (told_of (did_of (kept marks))) ≡ []
   kept_none_left = ap (λ (l : List Turn). drop (length l) turns) kept_events ∙ drop_all turns
 
   kept_told : AllOf (λ d. IsTold d.told d) (did_of (kept marks))
-  kept_told = all_did (λ d. IsTold d.told d) (kept marks) (all_kept (λ x. IsTold x.did.told x.did) marks (all_map (λ m k v. k) marks (at_marks (λ x. IsTold x.did.told x.did) marks (subst (AllOf (λ x. IsTold x.did.told x.did)) (sym whole_is) (told_times 0 plan (each_told gated p input (initial p) none_taken full w run))))))
+  kept_told = all_did (λ d. IsTold d.told d) (kept marks) (all_kept (λ x. IsTold x.did.told x.did) marks
+      (all_map (λ m k v. k) marks (at_marks (λ x. IsTold x.did.told x.did) marks
+      (subst (AllOf (λ x. IsTold x.did.told x.did)) (sym whole_is) (told_times 0 plan (each_told gated p input (initial p) none_taken full w run))))))
     where
       told_times : (k : ℕ) (ds : List Deed') → AllOf (λ d. IsTold d.told d) ds → AllOf (λ x. IsTold x.did.told x.did) (times deeds (owners_of turns) k ds)
       told_times k [] h = tt
@@ -280,9 +291,12 @@ module _ (p : NumberedProgram) (input : List ℤ) (turns : List Turn) (gated : L
     ordered = ordered_steps (owners_of turns) (told_of (did_of (kept marks))) (did_of (kept marks)) (paired_told (did_of (kept marks)) kept_told)
         (turns_as (owners_of turns) 0 (told_of (did_of (kept marks))) (deeds_of p input (initial p) none_taken (told_of (did_of (kept marks))))
         (all_told gated p input (initial p) none_taken (told_of (did_of (kept marks))) kept_run.state kept_run.permitted.run)
-        (runs.turns_of (rules gated p) (Does gated p input) (owners_of turns) (determined gated p input) first 0 (deeds_of p input (initial p) none_taken (told_of (did_of (kept marks)))) (cuts.ran p input turns gated can (told_of (did_of (kept marks))) kept_run.state kept_run.permitted).permitted))
-        (subst (EachPair (λ x y. Conflict deeds x.did y.did → AreOrdered x y)) (sym (kept_times (owners_of turns) 0 marks (whole_is ∙ ap (times deeds (owners_of turns) 0) (sym all_steps)) open_plain))
-        (kept_pairs (λ x y. Conflict deeds x.did y.did → AreOrdered x y) marks (subst (EachPair (λ x y. Conflict deeds x.did y.did → AreOrdered x y)) (sym whole_is) (cuts.is_plan p input turns gated can full w run in_order budget ordered).ordered)));
+        (runs.turns_of (rules gated p) (Does gated p input) (owners_of turns) (determined gated p input) first 0 (deeds_of p input (initial p) none_taken (told_of (did_of (kept marks))))
+        (cuts.ran p input turns gated can (told_of (did_of (kept marks))) kept_run.state kept_run.permitted).permitted))
+        (subst (EachPair (λ x y. Conflict deeds x.did y.did → AreOrdered x y))
+        (sym (kept_times (owners_of turns) 0 marks (whole_is ∙ ap (times deeds (owners_of turns) 0) (sym all_steps)) open_plain))
+        (kept_pairs (λ x y. Conflict deeds x.did y.did → AreOrdered x y) marks
+        (subst (EachPair (λ x y. Conflict deeds x.did y.did → AreOrdered x y)) (sym whole_is) (cuts.is_plan p input turns gated can full w run in_order budget ordered).ordered)));
   }
 
   pub steps_are : told_of (did_of (kept marks)) ≡ until_last turns full
@@ -303,11 +317,13 @@ module _ (p : NumberedProgram) (input : List ℤ) (turns : List Turn) (gated : L
       open_words : AllOf (λ m. m.done ≡ false → is_some (m.step.did.writes MEMORY_BYTES) ≡ false) marks
       open_words = all_map (λ m k v. false_from_ne_true (is_some (m.step.did.writes MEMORY_BYTES)) (λ q. true≢false (sym (k.0.word_written MEMORY_BYTES (omega arith) q) ∙ k.1 v))) marks
           (Rattle.pg_plans.proofs.Lists.both_of (λ m. IsTold m.step.did.told m.step.did) (λ m. m.done ≡ false → deeds.is_event m.step.did ≡ false) marks
-          (at_marks (λ x. IsTold x.did.told x.did) marks (subst (AllOf (λ x. IsTold x.did.told x.did)) (sym whole_is) (told_times 0 plan (each_told gated p input (initial p) none_taken full w run)))) open_plain)
+          (at_marks (λ x. IsTold x.did.told x.did) marks (subst (AllOf (λ x. IsTold x.did.told x.did)) (sym whole_is)
+          (told_times 0 plan (each_told gated p input (initial p) none_taken full w run)))) open_plain)
         where
           told_times : (k : ℕ) (ds : List Deed') → AllOf (λ d. IsTold d.told d) ds → AllOf (λ x. IsTold x.did.told x.did) (times deeds (owners_of turns) k ds)
           told_times k [] h = tt
           told_times k (d ∷ ds) h = (h.0, told_times (done_after (deeds.is_event d) k) ds h.1)
 
       word : slice_index kept_run.state.words 0 ≡ slice_index w.words 0
-      word = sym (kept_run.sees.cells MEMORY_BYTES) ∙ agree (cell_part MEMORY_BYTES) first first marks open_words refl ∙ ap (λ (l : List Deed'). (plans.effects first l).cells MEMORY_BYTES) all_steps ∙ looks.0.cells MEMORY_BYTES
+      word = sym (kept_run.sees.cells MEMORY_BYTES) ∙ agree (cell_part MEMORY_BYTES) first first marks open_words refl
+          ∙ ap (λ (l : List Deed'). (plans.effects first l).cells MEMORY_BYTES) all_steps ∙ looks.0.cells MEMORY_BYTES

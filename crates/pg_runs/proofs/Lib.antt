@@ -12,3 +12,5 @@ pub mod Law
 pub mod Permitted
 pub mod Ends
 pub mod Last
+pub mod Stuck
+pub mod Shares

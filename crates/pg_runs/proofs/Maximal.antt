@@ -1,5 +1,6 @@
 -- A full run can't be prolonged.
-use Rattle.std.proofs.Common.{◌≡◌, ℕ, ℤ, ◌+◌, ◌-◌, ◌≤◌, List, [], ◌∷◌, length, drop, Bool, true, false, Option, Some, None, refl, sym, ◌∙◌, ap, subst, arith, zero, suc}
+use Rattle.std.proofs.Common.{◌≡◌, ℕ, ℤ, ◌+◌, ◌-◌, ◌≤◌, List, [], ◌∷◌, length, drop, Bool, true, false, Option, Some, None, refl, sym, ◌∙◌, ap, subst}
+use Rattle.std.proofs.Common.{arith, zero, suc}
 use Rattle.std.specs.Prelude.{◌==◌, ◌&&◌, ◌||◌, nat_lt, is_some, slice_get}
 use Rattle.std.proofs.lemmas.Bool.Decides.{nat_tests}
 use Rattle.std.proofs.lemmas.Bool.{and_parts}
@@ -65,7 +66,8 @@ drop_end zero us e = rw e (omega arith)
 drop_end (suc g) [] e = omega arith
 drop_end (suc g) (u ∷ us) e = let k = drop_end g us e in omega (arith, k)
 
-module _ (gated : List InstrId) (p : NumberedProgram) (input : List ℤ) (turns : List Turn) (xs : List Step) (z : State) (a : Seen) (reached : IsReached p z) (sees : Same a (seen z (λ t. steps_of t xs))) (full : IsFull gated p turns xs z) where
+module _ (gated : List InstrId) (p : NumberedProgram) (input : List ℤ) (turns : List Turn) (xs : List Step) (z : State) (a : Seen) (reached : IsReached p z)
+    (sees : Same a (seen z (λ t. steps_of t xs))) (full : IsFull gated p turns xs z) where
   abbrev done : ℕ
   done = length (events xs)
 
@@ -90,10 +92,12 @@ module _ (gated : List InstrId) (p : NumberedProgram) (input : List ℤ) (turns 
       taken = k.takes
 
       no_traps : traps p z t ≡ false
-      no_traps = subst (λ (v : ℕ). traps p z v ≡ false) k.own (ap is_some (no_trap z k.told.thread.0 (next_of p z k.told.thread.0) (did_allowed gated p input z taken.after k.told.thread.0 k.told taken.is_step)))
+      no_traps = subst (λ (v : ℕ). traps p z v ≡ false) k.own
+          (ap is_some (no_trap z k.told.thread.0 (next_of p z k.told.thread.0) (did_allowed gated p input z taken.after k.told.thread.0 k.told taken.is_step)))
 
       left : nat_lt (steps_of t xs) GUIDED_STEP_LIMIT ≡ true
-      left = (and_parts (local_goes p (a.locals t).local) (nat_lt (steps_of t xs) GUIDED_STEP_LIMIT) (ap (λ (n : ℕ). local_goes p (a.locals t).local && nat_lt n GUIDED_STEP_LIMIT) (ap (λ (l : Thread). l.taken) (sym (sees.locals t))) ∙ m.can)).1
+      left = (and_parts (local_goes p (a.locals t).local) (nat_lt (steps_of t xs) GUIDED_STEP_LIMIT)
+          (ap (λ (n : ℕ). local_goes p (a.locals t).local && nat_lt n GUIDED_STEP_LIMIT) (ap (λ (l : Thread). l.taken) (sym (sees.locals t))) ∙ m.can)).1
 
       not_spent : has_spent xs t ≡ false
       not_spent = let l = left in grind (arith, nat_tests)
@@ -102,11 +106,13 @@ module _ (gated : List InstrId) (p : NumberedProgram) (input : List ℤ) (turns 
       goes = subst (λ (v : ℕ). is_ended (next_of p z v) ≡ false) k.own (not_ended z k.told.thread.0 (next_of p z k.told.thread.0) (ready_acts p z k.told.thread.0 taken.is_ready))
 
       first_owner : slice_get (owners_of turns) (length (events xs)) ≡ Some u.thread.0
-      first_owner = let q : length (events xs) ≡ length (events xs) + 0 = omega arith in ap (slice_get (owners_of turns)) q ∙ sym (get_behind gated p input (length (events xs)) turns 0) ∙ ap (λ (l : List Turn). slice_get (owners_of l) 0) e
+      first_owner = let q : length (events xs) ≡ length (events xs) + 0 =
+          omega arith in ap (slice_get (owners_of turns)) q ∙ sym (get_behind gated p input (length (events xs)) turns 0) ∙ ap (λ (l : List Turn). slice_get (owners_of l) 0) e
 
       -- thread t has a later turn, where it isn't the owner of the next
       later : (t ≡ u.thread.0 → ⊥) → has_turn t us ≡ true
-      later ne = at (m.turn - length (events xs)) (ap (λ (l : List Turn). slice_get (owners_of l) (m.turn - length (events xs))) (sym e) ∙ get_behind gated p input (length (events xs)) turns (m.turn - length (events xs)) ∙ ap (slice_get (owners_of turns)) sum ∙ m.own)
+      later ne = at (m.turn - length (events xs)) (ap (λ (l : List Turn). slice_get (owners_of l) (m.turn - length (events xs))) (sym e)
+          ∙ get_behind gated p input (length (events xs)) turns (m.turn - length (events xs)) ∙ ap (slice_get (owners_of turns)) sum ∙ m.own)
         where
           sum : length (events xs) + (m.turn - length (events xs)) ≡ m.turn
           sum = let l = m.left in omega (arith, l)
@@ -127,8 +133,11 @@ module _ (gated : List InstrId) (p : NumberedProgram) (input : List ℤ) (turns 
           let n : true ≡ false = sym w ∙ rw (goes, no_traps, not_spent, v) refl in
           absurd cc
       by_event true v ne =
-          let i : is_some (event_of k.told) ≡ true = ap is_some (event_is gated p input z taken.after k.told.thread.0 k.told taken.is_step) ∙ subst (λ (w : ℕ). is_some (turn_of gated p z w) ≡ true) (sym k.own) v in
-          let seen_event : (rules gated p).is_event (a.locals t) ≡ true = ap (λ (l : Thread). local_event gated p l.local) (sees.locals t) ∙ subst (λ (w : ℕ). local_event gated p (Rattle.pg_effects.specs.Views.local_at z w) ≡ true) k.own (sym (event_seen gated p input z k.told reached taken) ∙ i) in
+          let i : is_some (event_of k.told) ≡ true = ap is_some (event_is gated p input z taken.after k.told.thread.0 k.told taken.is_step)
+          ∙ subst (λ (w : ℕ). is_some (turn_of gated p z w) ≡ true) (sym k.own) v in
+          let seen_event : (rules gated p).is_event (a.locals t) ≡ true =
+          ap (λ (l : Thread). local_event gated p l.local) (sees.locals t)
+          ∙ subst (λ (w : ℕ). local_event gated p (Rattle.pg_effects.specs.Views.local_at z w) ≡ true) k.own (sym (event_seen gated p input z k.told reached taken) ∙ i) in
           let q : Path (Option ℕ) (Some t) (Some u.thread.0) = sym (m.next seen_event) ∙ first_owner in
           ne (let w : t ≡ u.thread.0 = cc in w)
 

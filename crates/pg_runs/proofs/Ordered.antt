@@ -51,7 +51,8 @@ module _ {A B : Type 0} (V : View A) (W : View B) (R : A → B → Type 0) where
     abbrev IsEventLow : Timed B → Type 0
     IsEventLow y = W.is_event y.did ≡ true → y.low ≡ suc y.high
 
-    settled : (x x' : Timed A) (y y' : Timed B) → Timely x y → Timely x' y' → SettledV x x' → y.low ≤ y'.high → IsEventLow y → IsEventLow y' → Conflict W y.did y'.did → AreOrdered y y'
+    settled : (x x' : Timed A) (y y' : Timed B) → Timely x y → Timely x' y' → SettledV x x' → y.low ≤ y'.high → IsEventLow y → IsEventLow y' → Conflict W y.did y'.did
+        → AreOrdered y y'
     settled x x' y y' h k s l e f c = go (meets x.did x'.did y.did y'.did h.did k.did c)
       where
         turned : AreOrdered x x' → AreOrdered y y'
@@ -65,7 +66,8 @@ module _ {A B : Type 0} (V : View A) (W : View B) (R : A → B → Type 0) where
     pub ordered_as : (T : List ℕ) (xs : List A) (ys : List B) → Paired xs ys → AreTurns W T 0 ys → IsOrdered V T xs → IsOrdered W T ys
     ordered_as T xs ys h t o = go (times V T 0 xs) (times W T 0 ys) (all_timely T 0 xs ys h) o (low_high W T 0 ys (omega arith) t) (events_low W T 0 ys t)
       where
-        one : (x : Timed A) (y : Timed B) → Timely x y → IsEventLow y → (xs : List (Timed A)) (ys : List (Timed B)) → AllTimely xs ys → AllOf (SettledV x) xs → AllOf (λ y'. y.low ≤ y'.high) ys → AllOf IsEventLow ys → AllOf (SettledW y) ys
+        one : (x : Timed A) (y : Timed B) → Timely x y → IsEventLow y → (xs : List (Timed A)) (ys : List (Timed B)) → AllTimely xs ys → AllOf (SettledV x) xs
+            → AllOf (λ y'. y.low ≤ y'.high) ys → AllOf IsEventLow ys → AllOf (SettledW y) ys
         one x y h e [] [] p s l q = tt
         one x y h e [] (y' ∷ ys) p s l q = absurd p
         one x y h e (x' ∷ xs) [] p s l q = absurd p

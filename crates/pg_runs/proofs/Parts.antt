@@ -48,7 +48,8 @@ module _ (p : NumberedProgram) (input : List ℤ) where
   thread_is s t = refl
 
   -- the local states of one thread
-  pub locals_are : (s : State) (counts : ℕ → ℕ) (t : ℕ) (xs : List Step) → map (λ (d : Deed'). d.to.local) (filter (is_of_thread t) (deeds_of p input s counts xs)) ≡ locals_by p input s t xs
+  pub locals_are : (s : State) (counts : ℕ → ℕ) (t : ℕ) (xs : List Step)
+      → map (λ (d : Deed'). d.to.local) (filter (is_of_thread t) (deeds_of p input s counts xs)) ≡ locals_by p input s t xs
   unfolding deeds_of effects_of
   locals_are s counts t [] = refl
   locals_are s counts t (x ∷ xs) =
@@ -59,9 +60,14 @@ module _ (p : NumberedProgram) (input : List ℤ) where
       more = deeds_of p input (effect s (effect_of p input s x.thread.0)) (one_more x.thread.0 counts) xs
 
       step : (b : Bool) → (t == (effect_of p input s x.thread.0).thread) ≡ b →
-          map (λ (d : Deed'). d.to.local) (filter (is_of_thread t) (deeds_of p input (effect s (effect_of p input s x.thread.0)) (one_more x.thread.0 counts) xs)) ≡ locals_by p input (effect s (effect_of p input s x.thread.0)) t xs →
-          map (λ (d : Deed'). d.to.local) (cond b (deed_of p input s counts x ∷ filter (is_of_thread t) (deeds_of p input (effect s (effect_of p input s x.thread.0)) (one_more x.thread.0 counts) xs)) (filter (is_of_thread t) (deeds_of p input (effect s (effect_of p input s x.thread.0)) (one_more x.thread.0 counts) xs)))
-          ≡ map (λ (e : Effect). e.local) (cond (t == (effect_of p input s x.thread.0).thread) (effect_of p input s x.thread.0 ∷ filter (λ (e : Effect). t == e.thread) (effects_of p input (effect s (effect_of p input s x.thread.0)) (threads_of xs))) (filter (λ (e : Effect). t == e.thread) (effects_of p input (effect s (effect_of p input s x.thread.0)) (threads_of xs))))
+          map (λ (d : Deed'). d.to.local) (filter (is_of_thread t) (deeds_of p input (effect s (effect_of p input s x.thread.0)) (one_more x.thread.0 counts) xs))
+          ≡ locals_by p input (effect s (effect_of p input s x.thread.0)) t xs →
+          map (λ (d : Deed'). d.to.local) (cond b
+          (deed_of p input s counts x ∷ filter (is_of_thread t) (deeds_of p input (effect s (effect_of p input s x.thread.0)) (one_more x.thread.0 counts) xs))
+          (filter (is_of_thread t) (deeds_of p input (effect s (effect_of p input s x.thread.0)) (one_more x.thread.0 counts) xs)))
+          ≡ map (λ (e : Effect). e.local) (cond (t == (effect_of p input s x.thread.0).thread)
+          (effect_of p input s x.thread.0 ∷ filter (λ (e : Effect). t == e.thread) (effects_of p input (effect s (effect_of p input s x.thread.0)) (threads_of xs)))
+          (filter (λ (e : Effect). t == e.thread) (effects_of p input (effect s (effect_of p input s x.thread.0)) (threads_of xs))))
       step true q ih = rw q (ap (λ (l : List (Option LocalState)). (effect_of p input s x.thread.0).local ∷ l) ih)
       step false q ih = rw q ih
 
@@ -89,7 +95,8 @@ steps_are t [] h = refl
 steps_are t (d ∷ ds) h = go (t == d.thread) refl (steps_are t ds h.1)
   where
     go : (b : Bool) → (t == d.thread) ≡ b → map (λ (d : Deed'). d.told) (filter (is_of_thread t) ds) ≡ steps_by t (told_of ds) →
-        map (λ (d : Deed'). d.told) (cond (t == d.thread) (d ∷ filter (is_of_thread t) ds) (filter (is_of_thread t) ds)) ≡ cond (t == d.told.thread.0) (d.told ∷ steps_by t (told_of ds)) (steps_by t (told_of ds))
+        map (λ (d : Deed'). d.told) (cond (t == d.thread) (d ∷ filter (is_of_thread t) ds) (filter (is_of_thread t) ds))
+        ≡ cond (t == d.told.thread.0) (d.told ∷ steps_by t (told_of ds)) (steps_by t (told_of ds))
     go true q ih = rw (q, ap (λ (u : ℕ). t == u) h.0.thread ∙ q) (ap (λ (l : List Step). d.told ∷ l) ih)
     go false q ih = rw (q, ap (λ (u : ℕ). t == u) h.0.thread ∙ q) ih
 
@@ -137,7 +144,8 @@ pub kept_told : (ms : List (Mark (Timed Deed'))) → did_of (kept (marks_told ms
 kept_told [] = refl
 kept_told (m ∷ ms) = go m.done (kept_told ms)
   where
-    go : (b : Bool) → did_of (kept (marks_told ms)) ≡ told_of (did_of (kept ms)) → did_of (cond b (timed_told m.step ∷ kept (marks_told ms)) (kept (marks_told ms))) ≡ told_of (did_of (cond b (m.step ∷ kept ms) (kept ms)))
+    go : (b : Bool) → did_of (kept (marks_told ms)) ≡ told_of (did_of (kept ms))
+        → did_of (cond b (timed_told m.step ∷ kept (marks_told ms)) (kept (marks_told ms))) ≡ told_of (did_of (cond b (m.step ∷ kept ms) (kept ms)))
     go true ih = ap (λ (l : List Step). m.step.did.told ∷ l) ih
     go false ih = ih
 
@@ -152,7 +160,8 @@ pub cut_told : (ms : List (Mark (Timed Deed'))) → AllOf (λ m. TellsSo m.step.
 cut_told [] a h = tt
 cut_told (m ∷ ms) a h = ((λ w. rest m.step.did ms a.0 a.1 (h.0 w)), cut_told ms a.1 h.1)
   where
-    rest : (d : Deed') (ns : List (Mark (Timed Deed'))) → TellsSo d → AllOf (λ m. TellsSo m.step.did) ns → AllOf (λ n. n.done ≡ true → n.step.did.thread ≢ d.thread) ns → AllOf (λ n. n.done ≡ true → n.step.did.thread.0 ≢ d.told.thread.0) (marks_told ns)
+    rest : (d : Deed') (ns : List (Mark (Timed Deed'))) → TellsSo d → AllOf (λ m. TellsSo m.step.did) ns → AllOf (λ n. n.done ≡ true → n.step.did.thread ≢ d.thread) ns
+        → AllOf (λ n. n.done ≡ true → n.step.did.thread.0 ≢ d.told.thread.0) (marks_told ns)
     rest d [] k b c = tt
     rest d (n ∷ ns) k b c = ((λ w e. c.0 w (sym b.0.thread ∙ e ∙ k.thread)), rest d ns k b.1 c.1)
 

@@ -1,5 +1,6 @@
 -- Where some full run along turns is ordered: what holds of each permitted run along them.
-use Rattle.std.proofs.Common.{◌≡◌, ◌≢◌, ℕ, ℤ, ◌+◌, ◌<◌, ◌≤◌, List, [], ◌∷◌, ◌++◌, length, map, drop, Bool, true, false, Option, Some, None, refl, sym, ◌∙◌, ap, subst, arith, inl, inr, ◌⊎◌}
+use Rattle.std.proofs.Common.{◌≡◌, ◌≢◌, ℕ, ℤ, ◌+◌, ◌<◌, ◌≤◌, List, [], ◌∷◌, ◌++◌, length, map, drop, Bool, true, false, Option, Some, None, refl, sym}
+use Rattle.std.proofs.Common.{◌∙◌, ap, subst, arith, inl, inr, ◌⊎◌}
 use Rattle.std.specs.Prelude.{◌==◌, ◌&&◌, ◌||◌, nat_le, is_some, slice_get, if◌then◌else◌}
 use Rattle.std.specs.List.{AllByRecursion as AllOf, filter, filter_map}
 use Rattle.std.proofs.lemmas.Bool.{ne_eqb}
@@ -42,7 +43,8 @@ use Rattle.pg_runs.proofs.Deeds.{determined, get_behind, steps_of_may}
 use Rattle.pg_runs.proofs.Maximal.{maximal}
 use Rattle.pg_runs.proofs.SameStates.{same_state}
 use Rattle.pg_runs.proofs.Tells.{all_told, ordered_steps, turns_as}
-use Rattle.pg_runs.proofs.Parts.{TellsSo, all_tell, below_told, cut_told, events_are, front_map, kept_told, locals_are, map_append, map_length, map_twice, marks_told, steps_are, tells_so, timed_told, times_told, told_is, told_of, whole_told}
+use Rattle.pg_runs.proofs.Parts.{TellsSo, all_tell, below_told, cut_told, events_are, front_map, kept_told, locals_are, map_append, map_length, map_twice, marks_told, steps_are, tells_so}
+use Rattle.pg_runs.proofs.Parts.{timed_told, times_told, told_is, told_of, whole_told}
 use Rattle.pg_runs.proofs.CutRun as cuts
 use Rattle.pg_runs.proofs.Law as law
 
@@ -101,14 +103,17 @@ end_same : (p : NumberedProgram) (xs ys : List Step) (z w : State) (us : List Tu
 end_same p xs ys z w [] h e = ap end_after e
 end_same p xs ys z w (u ∷ us) h e =
     ap (λ (s : State). end_before p xs s (u ∷ us)) e
-    ∙ ap (λ (b : Bool). if b then Rattle.pg_machine.specs.declared.guided_end.GuidedEnd.TheVariants.Budget u.thread else trapped w u.thread.0 (trap_of w u.thread.0 (next_of p w u.thread.0))) (spent_same xs ys h u.thread.0)
+    ∙ ap (λ (b : Bool). if b then Rattle.pg_machine.specs.declared.guided_end.GuidedEnd.TheVariants.Budget u.thread else trapped w u.thread.0 (trap_of w u.thread.0 (next_of p w u.thread.0)))
+    (spent_same xs ys h u.thread.0)
 
-held_same : (gated : List InstrId) (p : NumberedProgram) (xs ys : List Step) (z w : State) (us : List Turn) → ((t : ℕ) → steps_of t xs ≡ steps_of t ys) → z ≡ w → IsHeldBy gated p ys w us → IsHeldBy gated p xs z us
+held_same : (gated : List InstrId) (p : NumberedProgram) (xs ys : List Step) (z w : State) (us : List Turn) → ((t : ℕ) → steps_of t xs ≡ steps_of t ys) → z ≡ w
+    → IsHeldBy gated p ys w us → IsHeldBy gated p xs z us
 held_same gated p xs ys z w [] h e k = tt
 held_same gated p xs ys z w (u ∷ us) h e k = subst (λ (s : State). IsHeld gated p xs s u us) (sym e) (record {
   going = k.going;
   owner = ap (λ (b : Bool). traps p w u.thread.0 || b) (spent_same xs ys h u.thread.0) ∙ k.owner;
-  others = λ t n q. ap (λ (b : Bool). Rattle.pg_machine.specs.MachineStep.is_ended (next_of p w t) || traps p w t || b || is_some (Rattle.pg_machine.specs.MachineStep.turn_of gated p w t)) (spent_same xs ys h t) ∙ k.others t n q;
+  others = λ t n q. ap (λ (b : Bool). Rattle.pg_machine.specs.MachineStep.is_ended (next_of p w t) || traps p w t || b || is_some (Rattle.pg_machine.specs.MachineStep.turn_of gated p w t))
+      (spent_same xs ys h t) ∙ k.others t n q;
 })
 
 abbrev sync_of : Seen → sync.Sync
@@ -171,7 +176,8 @@ module _ (p : NumberedProgram) (input : List ℤ) (turns : List Turn) (gated : L
   rearranged_steps : (t : ℕ) (ps : List Deed') → AllOf TellsSo ps → IsRearranged (owners_of turns) first done ps → steps_by t xs ≡ steps_by t (told_of ps)
   rearranged_steps t ps a r = ap (steps_by t) (sym xs_told) ∙ sym (steps_are t done all_done) ∙ r.told t ∙ steps_are t ps a
 
-  rearranged_locals : (t : ℕ) (ps : List Deed') → IsRearranged (owners_of turns) first done ps → locals_by p input (initial p) t xs ≡ map (λ (d : Deed'). d.to.local) (filter (is_of_thread t) ps)
+  rearranged_locals : (t : ℕ) (ps : List Deed') → IsRearranged (owners_of turns) first done ps
+      → locals_by p input (initial p) t xs ≡ map (λ (d : Deed'). d.to.local) (filter (is_of_thread t) ps)
   rearranged_locals t ps r =
       sym (locals_are p input (initial p) none_taken t xs) ∙ sym (map_twice (λ (d : Deed'). d.to) (λ (l : Thread). l.local) (filter (is_of_thread t) done))
       ∙ ap (map (λ (l : Thread). l.local)) (r.locals t) ∙ map_twice (λ (d : Deed'). d.to) (λ (l : Thread). l.local) (filter (is_of_thread t) ps)
@@ -185,13 +191,19 @@ module _ (p : NumberedProgram) (input : List ℤ) (turns : List Turn) (gated : L
   own_front : (t : ℕ) → IsFrontOf (filter (is_of_thread t) (did_of (kept part.cut.marks))) (filter (is_of_thread t) plan)
   unfolding part
   own_front t =
-      let f = own_first deeds t (is_of_thread t) (is_own t) part.cut.marks part.cut.is_cut in
-      (f.0, f.1 ∙ ap (filter (is_of_thread t)) (cuts.all_steps p input turns gated can full w o.permitted.run o.permitted.in_order o.permitted.budget o.ordered (turns_done deeds 0 done) part.cut.marks part.cut.is_whole part.cut.is_cut part.cut.below))
+      let f = own_first deeds t (is_of_thread t) (is_own t) part.cut.marks part.cut.is_cut in (
+        f.0,
+        f.1 ∙ ap (filter (is_of_thread t)) (cuts.all_steps p input turns gated can full w o.permitted.run o.permitted.in_order o.permitted.budget o.ordered
+            (turns_done deeds 0 done) part.cut.marks part.cut.is_whole part.cut.is_cut part.cut.below),
+      )
 
   front_steps : (t : ℕ) → IsFrontOf (steps_by t xs) (steps_by t full)
   front_steps t =
-      let f = front_map (λ (d : Deed'). d.told) (filter (is_of_thread t) (did_of (kept part.cut.marks))) (filter (is_of_thread t) plan) (own_front t) in
-      (f.0, ap (λ (l : List Step). l ++ f.0) (rearranged_steps t (did_of (kept part.cut.marks)) tell_kept part.cut.steps ∙ sym (steps_are t (did_of (kept part.cut.marks)) tell_kept)) ∙ f.1 ∙ steps_are t plan all_plan ∙ ap (steps_by t) full_told)
+      let f = front_map (λ (d : Deed'). d.told) (filter (is_of_thread t) (did_of (kept part.cut.marks))) (filter (is_of_thread t) plan) (own_front t) in (
+        f.0,
+        ap (λ (l : List Step). l ++ f.0) (rearranged_steps t (did_of (kept part.cut.marks)) tell_kept part.cut.steps ∙ sym (steps_are t (did_of (kept part.cut.marks)) tell_kept)) ∙ f.1
+            ∙ steps_are t plan all_plan ∙ ap (steps_by t) full_told,
+      )
 
   front_locals : (t : ℕ) → IsFrontOf (locals_by p input (initial p) t xs) (locals_by p input (initial p) t full)
   front_locals t =
@@ -202,7 +214,8 @@ module _ (p : NumberedProgram) (input : List ℤ) (turns : List Turn) (gated : L
   unfolding part
   kept_state =
       let r = law.kept_run p input turns gated can full w o done perm in
-      let q : r.state ≡ z = same_state p input r.state z (λ t. steps_of t (told_of (did_of (kept part.cut.marks)))) (λ t. steps_of t xs) (cuts.ran p input turns gated can (told_of (did_of (kept part.cut.marks))) r.state r.permitted).reached reached
+      let q : r.state ≡ z = same_state p input r.state z (λ t. steps_of t (told_of (did_of (kept part.cut.marks)))) (λ t. steps_of t xs)
+      (cuts.ran p input turns gated can (told_of (did_of (kept part.cut.marks))) r.state r.permitted).reached reached
       (same_then (same_back r.sees) (same_then (same_back part.cut.same) sees)) in
       subst (λ (s : State). IsPermitted p input turns gated (told_of (did_of (kept part.cut.marks))) s) q r.permitted
 
@@ -211,7 +224,8 @@ module _ (p : NumberedProgram) (input : List ℤ) (turns : List Turn) (gated : L
   at_cut = record {
     marks = marks_told part.cut.marks;
     is_whole = whole_told part.cut.marks ∙ ap (map timed_told) part.cut.is_whole ∙ sym (times_told (owners_of turns) 0 plan all_plan) ∙ ap (times recorded (owners_of turns) 0) full_told;
-    is_cut = cut_told part.cut.marks (cuts.marks_tell p input turns gated can full w o.permitted.run o.permitted.in_order o.permitted.budget o.ordered (turns_done deeds 0 done) part.cut.marks part.cut.is_whole part.cut.is_cut part.cut.below) part.cut.is_cut;
+    is_cut = cut_told part.cut.marks (cuts.marks_tell p input turns gated can full w o.permitted.run o.permitted.in_order o.permitted.budget o.ordered
+        (turns_done deeds 0 done) part.cut.marks part.cut.is_whole part.cut.is_cut part.cut.below) part.cut.is_cut;
     below = below_told (length (events xs)) part.cut.marks (subst (λ (n : ℕ). IsBelow n part.cut.marks) turns_are part.cut.below);
     steps = λ t. rearranged_steps t (did_of (kept part.cut.marks)) tell_kept part.cut.steps ∙ ap (steps_by t) (sym (kept_told part.cut.marks));
     front = front_steps;
@@ -224,7 +238,8 @@ module _ (p : NumberedProgram) (input : List ℤ) (turns : List Turn) (gated : L
   pub ordered : IsOrderedAlong turns xs
   ordered =
       let t = all_told gated p input (initial p) none_taken xs z h.run in
-      ordered_steps (owners_of turns) xs done t (turns_as (owners_of turns) 0 xs done t (runs.turns_of (rules gated p) (Does gated p input) (owners_of turns) (determined gated p input) first 0 done perm)) part.ordered
+      ordered_steps (owners_of turns) xs done t (turns_as (owners_of turns) 0 xs done t
+      (runs.turns_of (rules gated p) (Does gated p input) (owners_of turns) (determined gated p input) first 0 done perm)) part.ordered
 
   length_is : (ys : List Step) → length (deeds_of p input (initial p) none_taken ys) ≡ length ys
   length_is ys = sym (map_length (λ (d : Deed'). d.told) (deeds_of p input (initial p) none_taken ys)) ∙ ap length (told_is p input (initial p) none_taken ys)
@@ -251,7 +266,15 @@ module _ (p : NumberedProgram) (input : List ℤ) (turns : List Turn) (gated : L
       takes : Takes (rules gated p) (Does gated p input) (owners_of turns) (plans.effects first done) (turns_done deeds 0 done) (deed_of p input z (λ u. steps_of u xs) k.told)
       takes = record {
         may = subst (May (rules gated p) (owners_of turns) (plans.effects first done) (turns_done deeds 0 done)) (sym k.own) m;
-        is_step = record { state = z; counts = λ u. steps_of u xs; reached = reached; looks = sees; told = k.told; takes = k.takes; is_deed = deed_refl (deed_of p input z (λ u. steps_of u xs) k.told) };
+        is_step = record {
+          state = z;
+          counts = λ u. steps_of u xs;
+          reached = reached;
+          looks = sees;
+          told = k.told;
+          takes = k.takes;
+          is_deed = deed_refl (deed_of p input z (λ u. steps_of u xs) k.told);
+        };
       }
 
       more : machines.IsPermitted (rules gated p) (Does gated p input) (owners_of turns) first 0 (done ++ deed_of p input z (λ u. steps_of u xs) k.told ∷ [])
@@ -262,7 +285,8 @@ module _ (p : NumberedProgram) (input : List ℤ) (turns : List Turn) (gated : L
 
       due : Rattle.pg_effects.specs.PermittedSteps.IsDue (event_of k.told) (turns_left turns xs)
       due = cuts.due_by p input turns gated can full w o.permitted.run o.permitted.in_order o.permitted.budget o.ordered xs k.told (subst (λ (l : List Step). IsFrontOf (events l) (events full)) told
-          (law.run_front p input turns gated can full w o (done ++ deed_of p input z (λ u. steps_of u xs) k.told ∷ []) more (all_join TellsSo done (deed_of p input z (λ u. steps_of u xs) k.told ∷ []) all_done (tells_so p input z (λ u. steps_of u xs) k.told, tt))))
+          (law.run_front p input turns gated can full w o (done ++ deed_of p input z (λ u. steps_of u xs) k.told ∷ []) more
+          (all_join TellsSo done (deed_of p input z (λ u. steps_of u xs) k.told ∷ []) all_done (tells_so p input z (λ u. steps_of u xs) k.told, tt))))
 
   -- ---- the end
 
@@ -295,15 +319,18 @@ module _ (p : NumberedProgram) (input : List ℤ) (turns : List Turn) (gated : L
   pub goes_on : IsFull gated p turns xs z ⊎ ((t : ℕ) × CanStep p input turns gated xs t)
   goes_on = go part.goes_on
     where
-      go : ((t : ℕ) × May (rules gated p) (owners_of turns) (plans.effects first done) (turns_done deeds 0 done) t) ⊎ machines.EndsAs (owners_of turns) first plan done → IsFull gated p turns xs z ⊎ ((t : ℕ) × CanStep p input turns gated xs t)
+      go : ((t : ℕ) × May (rules gated p) (owners_of turns) (plans.effects first done) (turns_done deeds 0 done) t) ⊎ machines.EndsAs (owners_of turns) first plan done
+          → IsFull gated p turns xs z ⊎ ((t : ℕ) × CanStep p input turns gated xs t)
       go (inl m) = inr (m.0, can_step m.0 m.1)
       go (inr e) = inl (full_as e)
 
   pub ends : IsFull gated p turns xs z → EndsAs p input turns full w xs z
   ends f = go part.goes_on
     where
-      go : ((t : ℕ) × May (rules gated p) (owners_of turns) (plans.effects first done) (turns_done deeds 0 done) t) ⊎ machines.EndsAs (owners_of turns) first plan done → EndsAs p input turns full w xs z
-      go (inl m) = absurd (maximal gated p input turns xs z (plans.effects first done) reached sees f m.0 (subst (λ (n : ℕ). May (rules gated p) (owners_of turns) (plans.effects first done) n m.0) turns_are m.1))
+      go : ((t : ℕ) × May (rules gated p) (owners_of turns) (plans.effects first done) (turns_done deeds 0 done) t) ⊎ machines.EndsAs (owners_of turns) first plan done
+          → EndsAs p input turns full w xs z
+      go (inl m) = absurd (maximal gated p input turns xs z (plans.effects first done) reached sees f m.0
+          (subst (λ (n : ℕ). May (rules gated p) (owners_of turns) (plans.effects first done) n m.0) turns_are m.1))
       go (inr e) = ends_as e
 
   -- ---- the owner of the next turn
@@ -318,7 +345,8 @@ module _ (p : NumberedProgram) (input : List ℤ) (turns : List Turn) (gated : L
   owner u us e lt = can_step u.thread.0 (part.owner u.thread.0 (let a = turns_are in let b = full_turns_are in omega (arith, a, b, lt)) (next_own u us e))
 
   -- and so it can where it doesn't trap and has steps left
-  pub owner_goes : (u : Turn) (us : List Turn) → turns_left turns xs ≡ u ∷ us → traps p z u.thread.0 ≡ false → has_spent xs u.thread.0 ≡ false → CanStep p input turns gated xs u.thread.0
+  pub owner_goes : (u : Turn) (us : List Turn) → turns_left turns xs ≡ u ∷ us → traps p z u.thread.0 ≡ false → has_spent xs u.thread.0 ≡ false
+      → CanStep p input turns gated xs u.thread.0
   owner_goes u us e no_trap steps = go (part.rests u.thread.0 (next_own u us e))
     where
       go : May (rules gated p) (owners_of turns) (plans.effects first done) (turns_done deeds 0 done) u.thread.0 ⊎ IsAtEnd first plan done u.thread.0 → CanStep p input turns gated xs u.thread.0
@@ -345,7 +373,8 @@ module _ (p : NumberedProgram) (input : List ℤ) (turns : List Turn) (gated : L
           same_traps : traps p w u.thread.0 ≡ false
           same_traps =
               traps_seen p w u.thread.0 full_reached
-              ∙ ap (λ (y : sync.Sync). trap_seen p u.thread.0 y (local_at w u.thread.0)) (sym (ap (λ (q : Shared). q.objects.sync) full_sees.objects) ∙ sym shared ∙ ap (λ (q : Shared). q.objects.sync) sees.objects)
+              ∙ ap (λ (y : sync.Sync). trap_seen p u.thread.0 y (local_at w u.thread.0))
+              (sym (ap (λ (q : Shared). q.objects.sync) full_sees.objects) ∙ sym shared ∙ ap (λ (q : Shared). q.objects.sync) sees.objects)
               ∙ ap (λ (l : Thread). trap_seen p u.thread.0 z.sync l.local) (sym (full_sees.locals u.thread.0) ∙ sym r.local ∙ sees.locals u.thread.0)
               ∙ sym (traps_seen p z u.thread.0 reached) ∙ no_trap
 

@@ -89,7 +89,8 @@ module _ (gated : List InstrId) (p : NumberedProgram) (s : State) (t : ℕ) (l :
       let n : next_of p s t ≡ next p l = next_is p s t l made in
       record {
         goes = ap (local_goes p) e ∙ ap goes_on (sym n);
-        event = ap (local_event gated p) e ∙ ap (λ (i : ℕ). is_event_at gated i (next p l)) (sym (instr_is s t l made)) ∙ ap (is_event_at gated (instr_of s t)) (sym n) ∙ sym (turn_is gated p s t);
+        event = ap (local_event gated p) e ∙ ap (λ (i : ℕ). is_event_at gated i (next p l)) (sym (instr_is s t l made)) ∙ ap (is_event_at gated (instr_of s t)) (sym n)
+            ∙ sym (turn_is gated p s t);
         granted = ap (λ (o : Option LocalState). local_granted p t o (objects_of s)) e ∙ ap (is_granted s.sync t) (sym n);
       }
 
@@ -98,7 +99,8 @@ module _ (gated : List InstrId) (p : NumberedProgram) (s : State) (t : ℕ) (l :
       let w = thread.waiting b in
       let e : local_at s t ≡ None = ap begun_in made ∙ ap (λ (c : Bool). if c then Some l else None) b in
       let n : next_of p s t ≡ actions.Event requests.Start = next_is p s t l made ∙ ap (next p) w.1 ∙ next_fresh p t w.0 in
-      let f : slice_get (map start_of s.locals) t ≡ Some (Some w.0) = start_at s.locals t l made ∙ ap (λ (m : LocalState). Some (start_of m)) w.1 ∙ ap (λ (o : Option ℕ). Some o) (starts_fresh p t w.0) in
+      let f : slice_get (map start_of s.locals) t ≡ Some (Some w.0) =
+      start_at s.locals t l made ∙ ap (λ (m : LocalState). Some (start_of m)) w.1 ∙ ap (λ (o : Option ℕ). Some o) (starts_fresh p t w.0) in
       record {
         goes = ap (local_goes p) e ∙ ap goes_on (sym n);
         event = ap (local_event gated p) e ∙ ap (is_event_at gated (instr_of s t)) (sym n) ∙ sym (turn_is gated p s t);

@@ -1,5 +1,6 @@
 -- States that runs reach and that look alike are equal.
-use Rattle.std.proofs.Common.{◌≡◌, ℕ, ℤ, ◌+◌, ◌-◌, ◌<◌, ◌≤◌, List, [], ◌∷◌, length, map, true, false, Some, refl, sym, ◌∙◌, ap, subst, arith, suc, inl, inr, ◌⊎◌}
+use Rattle.std.proofs.Common.{◌≡◌, ℕ, ℤ, ◌+◌, ◌-◌, ◌<◌, ◌≤◌, List, [], ◌∷◌, length, map, true, false, Some, refl, sym, ◌∙◌, ap, subst, arith, suc}
+use Rattle.std.proofs.Common.{inl, inr, ◌⊎◌}
 use Rattle.std.specs.Prelude.{nat_lt, slice_get, slice_index, if◌then◌else◌}
 use Rattle.std.proofs.lemmas.Bool.Decides.{nat_tests}
 use Rattle.std.proofs.lemmas.Bool.{cases_lt}
@@ -75,18 +76,21 @@ module _ (p : NumberedProgram) (input : List ℤ) (z w : State) (m n : ℕ → �
       go : (b < MEMORY_BYTES) ⊎ (MEMORY_BYTES ≤ b) → byte_at z.memory b ≡ byte_at w.memory b
       go (inl l) =
           let c : nat_lt b MEMORY_BYTES ≡ true = grind (arith, nat_tests) in
-          let k : (if nat_lt b MEMORY_BYTES then byte_at z.memory b else slice_index z.words (b - MEMORY_BYTES)) ≡ (if nat_lt b MEMORY_BYTES then byte_at w.memory b else slice_index w.words (b - MEMORY_BYTES)) = same.cells b in rw c at k
+          let k : (if nat_lt b MEMORY_BYTES then byte_at z.memory b else slice_index z.words (b - MEMORY_BYTES))
+          ≡ (if nat_lt b MEMORY_BYTES then byte_at w.memory b else slice_index w.words (b - MEMORY_BYTES)) = same.cells b in rw c at k
       go (inr l) = past_end z.memory w.memory b hz.memory.granules hw.memory.granules l
 
   word : (t : ℕ) → slice_index z.words t ≡ slice_index w.words t
   word t =
       let c : nat_lt (MEMORY_BYTES + t) MEMORY_BYTES ≡ false = grind (arith, nat_tests) in
       let i : MEMORY_BYTES + t - MEMORY_BYTES ≡ t = omega arith in
-      let k : (if nat_lt (MEMORY_BYTES + t) MEMORY_BYTES then byte_at z.memory (MEMORY_BYTES + t) else slice_index z.words (MEMORY_BYTES + t - MEMORY_BYTES)) ≡ (if nat_lt (MEMORY_BYTES + t) MEMORY_BYTES then byte_at w.memory (MEMORY_BYTES + t) else slice_index w.words (MEMORY_BYTES + t - MEMORY_BYTES)) = same.cells (MEMORY_BYTES + t) in
+      let k : (if nat_lt (MEMORY_BYTES + t) MEMORY_BYTES then byte_at z.memory (MEMORY_BYTES + t) else slice_index z.words (MEMORY_BYTES + t - MEMORY_BYTES))
+      ≡ (if nat_lt (MEMORY_BYTES + t) MEMORY_BYTES then byte_at w.memory (MEMORY_BYTES + t) else slice_index w.words (MEMORY_BYTES + t - MEMORY_BYTES)) = same.cells (MEMORY_BYTES + t) in
       rw (c, i) at k
 
   words : z.words ≡ w.words
   words = index_same z.words w.words (hz.machine.words ∙ threads ∙ sym hw.machine.words) word
 
   pub same_state : z ≡ w
-  same_state = made_of z w locals (same_bytes z.memory w.memory hz.memory hw.memory (λ at below. bytes at)) (ap (λ (o : Objects). o.sync) objects) words (ap (λ (q : Shared). q.printed) same.objects) (hz.value ∙ word 0 ∙ sym hw.value)
+  same_state = made_of z w locals (same_bytes z.memory w.memory hz.memory hw.memory (λ at below. bytes at)) (ap (λ (o : Objects). o.sync) objects) words
+      (ap (λ (q : Shared). q.printed) same.objects) (hz.value ∙ word 0 ∙ sym hw.value)

@@ -1,5 +1,6 @@
 -- The steps of a run and what they do: a step tells the cells that it touches, but for words, which only events touch.
-use Rattle.std.proofs.Common.{◌≡◌, ℕ, ℤ, ◌+◌, ◌-◌, ◌<◌, ◌≤◌, List, [], ◌∷◌, Bool, true, false, Option, Some, None, Ok, Err, refl, sym, ◌∙◌, ap, subst, arith, inl, inr, ◌⊎◌}
+use Rattle.std.proofs.Common.{◌≡◌, ℕ, ℤ, ◌+◌, ◌-◌, ◌<◌, ◌≤◌, List, [], ◌∷◌, Bool, true, false, Option, Some, None, Ok, Err, refl, sym, ◌∙◌, ap, subst}
+use Rattle.std.proofs.Common.{arith, inl, inr, ◌⊎◌}
 use Rattle.std.specs.Prelude.{◌&&◌, ◌||◌, not, map, nat_lt, nat_le, is_some, slice_get, slice_index, if◌then◌else◌, ⊤}
 use Rattle.std.specs.List.{AllByRecursion as AllOf}
 use Rattle.std.proofs.lemmas.Bool.Decides.{nat_tests}
@@ -41,8 +42,10 @@ use Rattle.pg_runs.proofs.Ordered.{Paired, ordered_as}
 
 -- ---- accesses are within memory
 
-fits_by : (word bytes : ℕ) (r : ByteRange) (a b : Bool) → in_range word bytes ≡ a → (if not a then Err fault.OutOfRange else if not b then Err fault.Misaligned else Ok (record { start = byte_place word; bytes = bytes })) ≡ Ok r → byte_place word + bytes ≤ MEMORY_BYTES
-fits_by word bytes r true b e h = let k = (and_parts (nat_le ((Rattle.pg_num.specs.Pointers.pointer_of word).offset + bytes) (Rattle.pg_num.specs.Pointers.pointer_of word).length) (nat_le (byte_place word + bytes) MEMORY_BYTES) e).1 in grind (arith, nat_tests)
+fits_by : (word bytes : ℕ) (r : ByteRange) (a b : Bool) → in_range word bytes ≡ a
+    → (if not a then Err fault.OutOfRange else if not b then Err fault.Misaligned else Ok (record { start = byte_place word; bytes = bytes })) ≡ Ok r → byte_place word + bytes ≤ MEMORY_BYTES
+fits_by word bytes r true b e h = let k = (and_parts (nat_le ((Rattle.pg_num.specs.Pointers.pointer_of word).offset + bytes) (Rattle.pg_num.specs.Pointers.pointer_of word).length)
+    (nat_le (byte_place word + bytes) MEMORY_BYTES) e).1 in grind (arith, nat_tests)
 fits_by word bytes r false b e h = absurd cc
 
 place_fits : (word bytes : ℕ) (r : ByteRange) → place_of word bytes ≡ Ok r → r.start + r.bytes ≤ MEMORY_BYTES
@@ -63,7 +66,8 @@ request_fits p input s t ns (requests.Join n (Some r)) h = place_fits (slice_ind
 request_fits p input s t ns (requests.Join n None) h = tt
 request_fits p input s t ns r h = tt
 
-action_fits : (p : NumberedProgram) (input : List ℤ) (s : State) (t : ℕ) (ns : List ℕ) (action : Action) → IsNamed ns action → Fits (effect_by p input s t action).reads × Fits (at_of (effect_by p input s t action).writes)
+action_fits : (p : NumberedProgram) (input : List ℤ) (s : State) (t : ℕ) (ns : List ℕ) (action : Action) → IsNamed ns action
+    → Fits (effect_by p input s t action).reads × Fits (at_of (effect_by p input s t action).writes)
 unfolding Fits at_of request_fits
 action_fits p input s t ns (actions.Load r) h = (place_fits (slice_index ns 0) r.bytes r h, tt)
 action_fits p input s t ns (actions.Store r n) h = (tt, place_fits (slice_index ns 1) r.bytes r h)
@@ -154,8 +158,10 @@ module _ (gated : List InstrId) (p : NumberedProgram) (input : List ℤ) where
         event = sym (some_turn x (happening_in x.kind)) ∙ sym (deed_event gated p input s counts x);
         reads = λ b l. ap (λ (c : Bool). if c then reads_byte e b else is_thread e.word_read (b - MEMORY_BYTES)) (below_is b l) ∙ reads_by (access_of x) e b a;
         writes = λ b l. ap (λ (c : Bool). is_some (if c then byte_written e b else word_in e.thread e.request (b - MEMORY_BYTES))) (below_is b l) ∙ writes_by (access_of x) e b a;
-        word_read = λ b l r. deed_event gated p input s counts x ∙ request_event gated p input s x h (read_asks p input s t (b - MEMORY_BYTES) (ap (λ (c : Bool). if c then reads_byte e b else is_thread e.word_read (b - MEMORY_BYTES)) (sym (above_is b l)) ∙ r));
-        word_written = λ b l r. deed_event gated p input s counts x ∙ request_event gated p input s x h (write_asks e.thread e.request (b - MEMORY_BYTES) (ap (λ (c : Bool). is_some (if c then byte_written e b else word_in e.thread e.request (b - MEMORY_BYTES))) (sym (above_is b l)) ∙ r));
+        word_read = λ b l r. deed_event gated p input s counts x ∙ request_event gated p input s x h
+            (read_asks p input s t (b - MEMORY_BYTES) (ap (λ (c : Bool). if c then reads_byte e b else is_thread e.word_read (b - MEMORY_BYTES)) (sym (above_is b l)) ∙ r));
+        word_written = λ b l r. deed_event gated p input s counts x ∙ request_event gated p input s x h
+            (write_asks e.thread e.request (b - MEMORY_BYTES) (ap (λ (c : Bool). is_some (if c then byte_written e b else word_in e.thread e.request (b - MEMORY_BYTES))) (sym (above_is b l)) ∙ r));
         read_within = λ b r. in_fits e.reads b fits.0 (reads_by (access_of x) e b a ∙ r);
         written_within = λ b r. write_in_fits e.writes b fits.1 (writes_by (access_of x) e b a ∙ r);
       }
@@ -163,7 +169,11 @@ module _ (gated : List InstrId) (p : NumberedProgram) (input : List ℤ) where
   pub all_told : (s : State) (counts : ℕ → ℕ) (xs : List Step) (z : State) → IsRun gated p input s xs z → Paired recorded deeds IsTold xs (deeds_of p input s counts xs)
   unfolding deeds_of
   all_told s counts [] z h = tt
-  all_told s counts (x ∷ xs) z h = (told s counts x h.0, all_told (effect s (effect_of p input s x.thread.0)) (one_more x.thread.0 counts) xs z (subst (λ (v : State). IsRun gated p input v xs z) (left_by gated p input s h.0.after x.thread.0 x h.0.is_step) h.1))
+  all_told s counts (x ∷ xs) z h = (
+    told s counts x h.0,
+    all_told (effect s (effect_of p input s x.thread.0)) (one_more x.thread.0 counts) xs z
+        (subst (λ (v : State). IsRun gated p input v xs z) (left_by gated p input s h.0.after x.thread.0 x h.0.is_step) h.1),
+  )
 
 -- ---- conflicts
 
@@ -198,7 +208,8 @@ module _ (x x' : Step) (d d' : Deed') (h : IsTold x d) (k : IsTold x' d') where
       go (inl l) = inl (record {
         threads = λ e. c.threads (sym h.thread ∙ e ∙ k.thread);
         cell = c.cell;
-        meet = sym (meets_same (is_some (d.writes c.cell)) (d.reads c.cell) (is_some (d'.writes c.cell)) (d'.reads c.cell) _ _ _ _ (h.writes c.cell l) (h.reads c.cell l) (k.writes c.cell l) (k.reads c.cell l)) ∙ c.meet;
+        meet = sym (meets_same (is_some (d.writes c.cell)) (d.reads c.cell) (is_some (d'.writes c.cell)) (d'.reads c.cell) _ _ _ _ (h.writes c.cell l) (h.reads c.cell l) (k.writes c.cell l)
+            (k.reads c.cell l)) ∙ c.meet;
       })
       go (inr l) =
           let b = both_touch (is_some (d.writes c.cell)) (d.reads c.cell) (is_some (d'.writes c.cell)) (d'.reads c.cell) c.meet in
@@ -217,11 +228,13 @@ module _ (x x' : Step) (d d' : Deed') (h : IsTold x d) (k : IsTold x' d') where
   as_deeds c = inl (record {
     threads = λ e. c.threads (h.thread ∙ e ∙ sym k.thread);
     cell = c.cell;
-    meet = meets_same (is_some (d.writes c.cell)) (d.reads c.cell) (is_some (d'.writes c.cell)) (d'.reads c.cell) _ _ _ _ (h.writes c.cell within) (h.reads c.cell within) (k.writes c.cell within) (k.reads c.cell within) ∙ c.meet;
+    meet = meets_same (is_some (d.writes c.cell)) (d.reads c.cell) (is_some (d'.writes c.cell)) (d'.reads c.cell) _ _ _ _ (h.writes c.cell within) (h.reads c.cell within) (k.writes c.cell within)
+        (k.reads c.cell within) ∙ c.meet;
   })
     where
       within : c.cell < MEMORY_BYTES
-      within = go (or_cases (reads_in (access_of x) c.cell) (writes_in (access_of x) c.cell) (both_touch (writes_in (access_of x) c.cell) (reads_in (access_of x) c.cell) (writes_in (access_of x') c.cell) (reads_in (access_of x') c.cell) c.meet).0)
+      within = go (or_cases (reads_in (access_of x) c.cell) (writes_in (access_of x) c.cell)
+          (both_touch (writes_in (access_of x) c.cell) (reads_in (access_of x) c.cell) (writes_in (access_of x') c.cell) (reads_in (access_of x') c.cell) c.meet).0)
         where
           go : (reads_in (access_of x) c.cell ≡ true) ⊎ (writes_in (access_of x) c.cell ≡ true) → c.cell < MEMORY_BYTES
           go (inl r) = h.read_within c.cell r
@@ -237,7 +250,8 @@ flipped (x ∷ xs) [] h = absurd h
 flipped (x ∷ xs) (d ∷ ds) h = (h.0, flipped xs ds h.1)
 
 pub ordered_steps : (T : List ℕ) (xs : List Step) (ds : List Deed') → Paired recorded deeds IsTold xs ds → AreTurns recorded T 0 xs → IsOrdered deeds T ds → IsOrdered recorded T xs
-ordered_steps T xs ds h t o = ordered_as deeds recorded (λ d x. IsTold x d) (λ d x k. sym k.thread) (λ d x k. sym k.event) (λ d d' x x' k l c. as_deeds x x' d d' k l c) T ds xs (flipped xs ds h) t o
+ordered_steps T xs ds h t o = ordered_as deeds recorded (λ d x. IsTold x d) (λ d x k. sym k.thread) (λ d x k. sym k.event) (λ d d' x x' k l c. as_deeds x x' d d' k l c) T ds xs
+    (flipped xs ds h) t o
 
 pub turns_as : (T : List ℕ) (n : ℕ) (xs : List Step) (ds : List Deed') → Paired recorded deeds IsTold xs ds → AreTurns deeds T n ds → AreTurns recorded T n xs
 turns_as T n [] [] h t = tt
@@ -252,7 +266,11 @@ module _ (gated : List InstrId) (p : NumberedProgram) (input : List ℤ) where
   pub each_told : (s : State) (counts : ℕ → ℕ) (xs : List Step) (z : State) → IsRun gated p input s xs z → AllOf (λ d. IsTold d.told d) (deeds_of p input s counts xs)
   unfolding deeds_of
   each_told s counts [] z h = tt
-  each_told s counts (x ∷ xs) z h = (told gated p input s counts x h.0, each_told (effect s (effect_of p input s x.thread.0)) (one_more x.thread.0 counts) xs z (subst (λ (v : State). IsRun gated p input v xs z) (left_by gated p input s h.0.after x.thread.0 x h.0.is_step) h.1))
+  each_told s counts (x ∷ xs) z h = (
+    told gated p input s counts x h.0,
+    each_told (effect s (effect_of p input s x.thread.0)) (one_more x.thread.0 counts) xs z
+        (subst (λ (v : State). IsRun gated p input v xs z) (left_by gated p input s h.0.after x.thread.0 x h.0.is_step) h.1),
+  )
 
 pub paired_told : (ds : List Deed') → AllOf (λ d. IsTold d.told d) ds → Paired recorded deeds IsTold (map (λ (d : Deed'). d.told) ds) ds
 paired_told [] h = tt

@@ -35,7 +35,8 @@ pub fn a_permitted_run_is_one_of_deeds()
 
 /// A full run can't be prolonged.
 pub fn a_full_run_is_maximal()
-    ensures { (p : NumberedProgram) (input : List ℤ) (turns : List Turn) (gated : List InstrId) (xs : List Step) (x : Step) (z w : State) → CanRun p input → IsPermitted p input turns gated xs z → IsFull gated p turns xs z
+    ensures { (p : NumberedProgram) (input : List ℤ) (turns : List Turn) (gated : List InstrId) (xs : List Step) (x : Step) (z w : State) → CanRun p input
+        → IsPermitted p input turns gated xs z → IsFull gated p turns xs z
         → IsPermitted p input turns gated (xs ++ x ∷ []) w → ⊥ }
 {}
 

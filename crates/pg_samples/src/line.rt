@@ -1,4 +1,6 @@
-use pg_ir::{Case, Index, Known, Value};
+//! What an instruction of a sample does, as plain data.
+
+use pg_ir::{Known, Value};
 use pg_num::{Bits, Compare, Division, Shift, Width};
 
 /// What an instruction does: an operation of a program, with its lists as plain data. Blocks and functions are named by
@@ -28,8 +30,8 @@ pub enum Line {
     Phi(&'static [(u32, Value)]),
     Branch(u32),
     BranchIf(Value, u32, u32),
-    /// The value, the block for all others, and the cases.
-    Switch(Width, Value, u32, &'static [Case]),
+    /// The value, the block for all others, and the block of each case's number.
+    Switch(Width, Value, u32, &'static [(u64, u32)]),
     Call(u32, &'static [Value]),
     Return(Option<Value>),
     Unreachable,
@@ -37,7 +39,8 @@ pub enum Line {
     Load(Width, Value),
     /// The value, and its place.
     Store(Width, Value, Value),
-    Gep(Value, &'static [Index]),
+    /// The pointer, and each index of 64 bits with how many bytes it steps over.
+    Gep(Value, &'static [(Value, u64)]),
     /// A call of a known function.
     Knows(Known, &'static [Value]),
 }

@@ -1,3 +1,5 @@
+//! Parts of sample programs.
+
 use crate::line::Line;
 use pg_ir::{Scalar, Value};
 use pg_num::Width;
@@ -32,4 +34,48 @@ pub struct Parts {
     pub globals: &'static [(u32, u32, &'static [u8])],
     pub functions: &'static [Body],
     pub main: u32,
+}
+
+/// The parts of a program of main alone, which returns a number of 32 bits: the globals, the types of main's registers, and
+/// its blocks.
+#[macro_export]
+macro_rules! main_alone {
+    ($globals:expr, $registers:expr, $blocks:expr) => {
+        $crate::Parts {
+            globals: $globals,
+            functions: &[$crate::Body {
+                params: 0,
+                registers: $registers,
+                returned: Some($crate::I32),
+                blocks: $blocks,
+            }],
+            main: 0,
+        }
+    };
+}
+
+/// The parts of a program of a function that threads begin with, and main: the globals, and of each of the two functions the
+/// types of its registers, and its blocks.
+#[macro_export]
+macro_rules! thread_and_main {
+    ($globals:expr, $own:expr, $thread:expr, $registers:expr, $main:expr) => {
+        $crate::Parts {
+            globals: $globals,
+            functions: &[
+                $crate::Body {
+                    params: 1,
+                    registers: $own,
+                    returned: Some($crate::PTR),
+                    blocks: $thread,
+                },
+                $crate::Body {
+                    params: 0,
+                    registers: $registers,
+                    returned: Some($crate::I32),
+                    blocks: $main,
+                },
+            ],
+            main: 1,
+        }
+    };
 }

@@ -1,3 +1,5 @@
+//! Sample programs for tests.
+
 use crate::building::build;
 use crate::parts::Parts;
 use crate::{objects, racing, straight, threads};
@@ -19,6 +21,9 @@ pub enum Sample {
     Recursion,
     /// A load at a place that is made from a number.
     PlaceByNumber,
+    /// Where the input's second number isn't zero, main stores one at the first of its globals, or at the second one where the
+    /// input's first number isn't zero.
+    StoreAtOneOfTwo,
     /// Main and a thread each add to a number under a mutex: the thread the input's first number, main one.
     TwoUnderMutex,
     /// Two threads each sum the input in a loop over their own memory, and add the sum to a number under a mutex.

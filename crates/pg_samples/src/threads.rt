@@ -5,6 +5,7 @@ use crate::line::Line::{
 };
 use crate::parts::{Body, I1, I32, I64, NULL, PTR, Parts};
 use crate::sample::Sample;
+use crate::thread_and_main;
 use pg_ir::Known::{PgIn, PgInLen, PgOut, PthreadCreate, PthreadJoin};
 use pg_ir::Value::{Const, Function, Global, Register};
 use pg_num::Width::W64;
@@ -81,125 +82,92 @@ const TWO_THAT_DIVIDE: Parts = Parts {
     main: 1,
 };
 
-const COUNTING_THREAD: Parts = Parts {
-    globals: &[(1, 8, b"")],
-    functions: &[
-        Body {
-            params: 1,
-            registers: &[PTR, I64, I64, I64, I1],
-            returned: Some(PTR),
-            blocks: &[
-                &[(Some(1), Knows(PgIn, &[Const(0)])), (None, Branch(1))],
-                &[
-                    (Some(2), Phi(&[(0, Const(0)), (1, Register(3))])),
-                    (Some(3), Add(W64, Register(2), Const(1))),
-                    (
-                        Some(4),
-                        Compares(Compare::Slt, W64, Register(3), Register(1)),
-                    ),
-                    (None, BranchIf(Register(4), 1, 2)),
-                ],
-                &[(None, Return(Some(NULL)))],
-            ],
-        },
-        Body {
-            params: 0,
-            registers: &[I32, I32, I64, I1],
-            returned: Some(I32),
-            blocks: &[
-                &[
-                    (
-                        Some(0),
-                        Knows(PthreadCreate, &[Global(0), NULL, Function(0), NULL]),
-                    ),
-                    (Some(1), Knows(PthreadJoin, &[Const(1), NULL])),
-                    (Some(2), Knows(PgIn, &[Const(1)])),
-                    (Some(3), Compares(Compare::Ne, W64, Register(2), Const(0))),
-                    (None, BranchIf(Register(3), 4, 5)),
-                ],
-                &[(None, Branch(5))],
-                &[(None, Return(Some(Const(0))))],
-            ],
-        },
+const COUNTING_THREAD: Parts = thread_and_main!(
+    &[(1, 8, b"")],
+    &[PTR, I64, I64, I64, I1],
+    &[
+        &[(Some(1), Knows(PgIn, &[Const(0)])), (None, Branch(1))],
+        &[
+            (Some(2), Phi(&[(0, Const(0)), (1, Register(3))])),
+            (Some(3), Add(W64, Register(2), Const(1))),
+            (
+                Some(4),
+                Compares(Compare::Slt, W64, Register(3), Register(1)),
+            ),
+            (None, BranchIf(Register(4), 1, 2)),
+        ],
+        &[(None, Return(Some(NULL)))],
     ],
-    main: 1,
-};
+    &[I32, I32, I64, I1],
+    &[
+        &[
+            (
+                Some(0),
+                Knows(PthreadCreate, &[Global(0), NULL, Function(0), NULL]),
+            ),
+            (Some(1), Knows(PthreadJoin, &[Const(1), NULL])),
+            (Some(2), Knows(PgIn, &[Const(1)])),
+            (Some(3), Compares(Compare::Ne, W64, Register(2), Const(0))),
+            (None, BranchIf(Register(3), 4, 5)),
+        ],
+        &[(None, Branch(5))],
+        &[(None, Return(Some(Const(0))))],
+    ]
+);
 
-const MANY_THREADS: Parts = Parts {
-    globals: &[(1, 8, b"")],
-    functions: &[
-        Body {
-            params: 1,
-            registers: &[PTR],
-            returned: Some(PTR),
-            blocks: &[&[(None, Return(Some(NULL)))]],
-        },
-        Body {
-            params: 0,
-            registers: &[I64, I64, I32, I64, I1],
-            returned: Some(I32),
-            blocks: &[
-                &[(Some(0), Knows(PgIn, &[Const(0)])), (None, Branch(2))],
-                &[
-                    (Some(1), Phi(&[(1, Const(0)), (2, Register(3))])),
-                    (
-                        Some(2),
-                        Knows(PthreadCreate, &[Global(0), NULL, Function(0), NULL]),
-                    ),
-                    (Some(3), Add(W64, Register(1), Const(1))),
-                    (
-                        Some(4),
-                        Compares(Compare::Slt, W64, Register(3), Register(0)),
-                    ),
-                    (None, BranchIf(Register(4), 2, 3)),
-                ],
-                &[(None, Return(Some(Const(0))))],
-            ],
-        },
-    ],
-    main: 1,
-};
+const MANY_THREADS: Parts = thread_and_main!(
+    &[(1, 8, b"")],
+    &[PTR],
+    &[&[(None, Return(Some(NULL)))]],
+    &[I64, I64, I32, I64, I1],
+    &[
+        &[(Some(0), Knows(PgIn, &[Const(0)])), (None, Branch(2))],
+        &[
+            (Some(1), Phi(&[(1, Const(0)), (2, Register(3))])),
+            (
+                Some(2),
+                Knows(PthreadCreate, &[Global(0), NULL, Function(0), NULL]),
+            ),
+            (Some(3), Add(W64, Register(1), Const(1))),
+            (
+                Some(4),
+                Compares(Compare::Slt, W64, Register(3), Register(0)),
+            ),
+            (None, BranchIf(Register(4), 2, 3)),
+        ],
+        &[(None, Return(Some(Const(0))))],
+    ]
+);
 
-const FOUR_THREADS: Parts = Parts {
-    globals: &[(1, 8, b"")],
-    functions: &[
-        Body {
-            params: 1,
-            registers: &[PTR, I64],
-            returned: Some(PTR),
-            blocks: &[&[
-                (Some(1), PtrToInt(W64, W64, Register(0))),
-                (None, Knows(PgOut, &[Register(1)])),
-                (None, Knows(PgOut, &[Register(1)])),
-                (None, Return(Some(Register(0)))),
-            ]],
-        },
-        Body {
-            params: 0,
-            registers: &[I32, I32, I32, I32, I32, I32],
-            returned: Some(I32),
-            blocks: &[&[
-                (
-                    Some(0),
-                    Knows(PthreadCreate, &[Global(0), NULL, Function(0), Const(1)]),
-                ),
-                (
-                    Some(1),
-                    Knows(PthreadCreate, &[Global(0), NULL, Function(0), Const(2)]),
-                ),
-                (
-                    Some(2),
-                    Knows(PthreadCreate, &[Global(0), NULL, Function(0), Const(3)]),
-                ),
-                (Some(3), Knows(PthreadJoin, &[Const(1), NULL])),
-                (Some(4), Knows(PthreadJoin, &[Const(2), NULL])),
-                (Some(5), Knows(PthreadJoin, &[Const(3), NULL])),
-                (None, Return(Some(Const(0)))),
-            ]],
-        },
-    ],
-    main: 1,
-};
+const FOUR_THREADS: Parts = thread_and_main!(
+    &[(1, 8, b"")],
+    &[PTR, I64],
+    &[&[
+        (Some(1), PtrToInt(W64, W64, Register(0))),
+        (None, Knows(PgOut, &[Register(1)])),
+        (None, Knows(PgOut, &[Register(1)])),
+        (None, Return(Some(Register(0)))),
+    ]],
+    &[I32, I32, I32, I32, I32, I32],
+    &[&[
+        (
+            Some(0),
+            Knows(PthreadCreate, &[Global(0), NULL, Function(0), Const(1)]),
+        ),
+        (
+            Some(1),
+            Knows(PthreadCreate, &[Global(0), NULL, Function(0), Const(2)]),
+        ),
+        (
+            Some(2),
+            Knows(PthreadCreate, &[Global(0), NULL, Function(0), Const(3)]),
+        ),
+        (Some(3), Knows(PthreadJoin, &[Const(1), NULL])),
+        (Some(4), Knows(PthreadJoin, &[Const(2), NULL])),
+        (Some(5), Knows(PthreadJoin, &[Const(3), NULL])),
+        (None, Return(Some(Const(0)))),
+    ]]
+);
 
 /// The parts of a sample, if it stands here.
 pub(crate) fn parts_of(sample: Sample) -> Option<Parts> {

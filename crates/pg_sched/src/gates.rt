@@ -1,3 +1,5 @@
+//! The instructions of races.
+
 ghost use Rattle.std.specs.Prelude.{◌≡◌, IfOk, map};
 ghost use Rattle.pg_trace.specs.declared.turn.Race.{Race};
 ghost use Rattle.pg_trace.specs.Races as races;
@@ -60,7 +62,7 @@ fn reply_of(event: &Event) -> u64
 }
 
 /// The reply at a step that is an event.
-pub(crate) fn reply_in(step: &Step) -> Option<u64>
+pub fn reply_in(step: &Step) -> Option<u64>
     ensures { result ≡ races.reply_in step.now.kind }
 {
     match &step.kind {

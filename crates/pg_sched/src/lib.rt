@@ -4,4 +4,5 @@
 mod gates;
 mod schedule;
 
+pub use gates::reply_in;
 pub use schedule::hybrid;

@@ -1,3 +1,5 @@
+//! The schedule of a trace.
+
 ghost use Rattle.std.specs.Prelude.{◌≡◌, IfOk, List, map};
 ghost use Rattle.std.specs.List.{filter_map};
 ghost use Rattle.pg_trace.specs.declared.step.Step.{Step};

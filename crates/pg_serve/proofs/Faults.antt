@@ -1,5 +1,6 @@
 -- Why a session ended, and how many bytes it took at most.
-use Rattle.std.proofs.Common.{◌≡◌, ℕ, ◌+◌, ◌≤◌, List, [], ◌++◌, refl, arith, subst, ◌∙◌, Result, Ok, Err, IsErrAnd, IsErrOf, Option, Some, None, length-append, ◌⊎◌, inl, inr}
+use Rattle.std.proofs.Common.{◌≡◌, ℕ, ◌+◌, ◌≤◌, List, [], ◌++◌, refl, arith, subst, ◌∙◌, Result, Ok, Err, IsErrAnd, IsErrOf, Option, Some, None, length-append}
+use Rattle.std.proofs.Common.{◌⊎◌, inl, inr}
 use Rattle.pg_io.specs.Faults.{Rose}
 use Rattle.pg_io.specs.Streams.{TakesAtMost}
 use Rattle.pg_io.proofs.Known.{consumes-append}

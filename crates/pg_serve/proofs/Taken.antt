@@ -1,5 +1,6 @@
 -- A session over a source: the bytes that it took so far.
-use Rattle.std.proofs.Common.{◌≡◌, ℕ, ℤ, ◌+◌, ◌≤◌, Bool, true, false, List, [], ◌++◌, length, length-take, take, refl, sym, ap, ◌∙◌, subst, arith, Ok, IsErrOf, Option, Some, None, is_some, append-nil, length-append, length-take-le, ◌⊎◌, inl, inr}
+use Rattle.std.proofs.Common.{◌≡◌, ℕ, ℤ, ◌+◌, ◌≤◌, Bool, true, false, List, [], ◌++◌, length, length-take, take, refl, sym, ap, ◌∙◌, subst, arith, Ok, IsErrOf}
+use Rattle.std.proofs.Common.{Option, Some, None, is_some, append-nil, length-append, length-take-le, ◌⊎◌, inl, inr}
 use Rattle.std.specs.Io.KnownBytes.{Consumes, IsAtEnd, Keeps}
 use Rattle.pg_io.specs.Streams.{TakesAtMost}
 use Rattle.pg_io.proofs.Known.{consumes-append}

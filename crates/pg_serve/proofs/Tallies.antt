@@ -1,5 +1,6 @@
 -- The counts of a trial, line by line.
-use Rattle.std.proofs.Common.{◌≡◌, ℕ, ℤ, zero, suc, ◌+◌, ◌*◌, ◌%◌, ◌^◌, ◌<◌, ◌≤◌, Bool, true, false, cond, List, [], ◌∷◌, ◌++◌, length, drop, map, get_or, refl, sym, ap, ◌∙◌, subst, arith, Option, Some, append-nil, length-append, append_assoc}
+use Rattle.std.proofs.Common.{◌≡◌, ℕ, ℤ, zero, suc, ◌+◌, ◌*◌, ◌%◌, ◌^◌, ◌<◌, ◌≤◌, Bool, true, false, cond, List, [], ◌∷◌, ◌++◌, length, drop}
+use Rattle.std.proofs.Common.{map, get_or, refl, sym, ap, ◌∙◌, subst, arith, Option, Some, append-nil, length-append, append_assoc}
 use Rattle.std.specs.Prelude.{◌==◌, count_by, flat_map, slice_range, IfOk, Result, Ok, Err}
 use Rattle.std.specs.List.{filter_map, sum_by}
 use Rattle.std.proofs.Math.Seq.{drop-cons}

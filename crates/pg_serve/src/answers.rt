@@ -95,8 +95,8 @@ pub(crate) fn answer_to<R: Runner>(
     cache: &mut Cache<R::Entry>,
     input: &[i64],
 ) -> Result<Answer, AllocError>
-    requires few { length input.now ≤ NUMBERS_LIMIT }
     requires exact { IsExact R.Entry.meaning }
+    requires few { length input.now ≤ NUMBERS_LIMIT }
     requires stands { Stands (R.runs (R.subject runner.old)) cache.old }
     requires count { cache.old.inserted < 2 ^ 64 - 1 }
     ensures answer { IfOk result (λ a. Answers (admits_by R.Entry.meaning R.Entry.test) (R.runs (R.subject runner.old)) cache.old input.now (answer_of a) cache.new) }

@@ -113,42 +113,6 @@ fn take_all<R: Runner, S: Source, K: Sink>(
     Ok(())
 }
 
-// Takes all of the source, and ends the last line.
-fn take_lines<R: Runner, S: Source, K: Sink>(
-    alloc: Global,
-    runner: &mut R,
-    session: &mut Session<R::Entry>,
-    src: &mut S,
-    out: &mut K,
-) -> Result<(), ServeFault>
-    requires exact { IsExact R.Entry.meaning }
-    requires kept { session.old.cache ≡ begin }
-    requires line { session.old.line.items ≡ [] }
-    ensures done { OnOk result (IfSome (S.rest src.old) (ServesAll (admits_by R.Entry.meaning R.Entry.test) (R.runs (R.subject runner.old)) (K.taken out.old) (K.taken out.new))) }
-    ensures input_limit { IsErrOf result ServeFault.InputLimit →
-        IfSome (S.rest src.old) (ServesLimit (admits_by R.Entry.meaning R.Entry.test) (R.runs (R.subject runner.old)) (K.taken out.old) (K.taken out.new)) }
-    ensures read_fault { IsErrOf result ServeFault.ReadFault →
-        IfSome (S.rest src.old) (ServesTaken (admits_by R.Entry.meaning R.Entry.test) (R.runs (R.subject runner.old)) (S.rest src.new) (K.taken out.old) (K.taken out.new)) }
-    ensures write_fault_cuts { IsErrOf result ServeFault.WriteFault →
-        IfSome (S.rest src.old) (λ input. ServesFront (admits_by R.Entry.meaning R.Entry.test) (R.runs (R.subject runner.old)) (lines_of input) (K.taken out.old) (K.taken out.new)) }
-    ensures out_of_memory_cuts { IsErrOf result ServeFault.OutOfMemory →
-        IfSome (S.rest src.old) (λ input. ServesFront (admits_by R.Entry.meaning R.Entry.test) (R.runs (R.subject runner.old)) (lines_of input) (K.taken out.old) (K.taken out.new)) }
-    ensures read_cause { IsErrOf result ServeFault.ReadFault → Rose (S.faults src.old) (S.faults src.new) }
-    ensures read_fault_within { IsErrOf result ServeFault.ReadFault → TakesAtMost (S.rest src.old) (S.rest src.new) SESSION_INPUT_LIMIT }
-    ensures read_count { IsErrOf result ServeFault.ReadFault ⊎ (S.faults src.new ≡ S.faults src.old) }
-    ensures write_cause { IsErrOf result ServeFault.WriteFault → Rose (K.faults out.old) (K.faults out.new) }
-    ensures write_count { IsErrOf result ServeFault.WriteFault ⊎ (K.faults out.new ≡ K.faults out.old) }
-    ensures takes { TakesAtMost (S.rest src.old) (S.rest src.new) (SESSION_INPUT_LIMIT + 1) }
-    ensures stays { R.subject runner.new ≡ R.subject runner.old }
-{
-    take_all(alloc, runner, session, src, out)?;
-    if session.line.is_empty() {
-        return Ok(());
-    }
-    end_line(alloc, runner, session, out)?;
-    Ok(())
-}
-
 /// Answers the lines of a source, and writes each reply before the next read. A line is answered `refused line` where it
 /// isn't one of numbers; else by the least-numbered entry of the last `CACHE_LIMIT` that admits it; else by a recording, whose
 /// entry is kept. At most `SESSION_INPUT_LIMIT` bytes are taken, and one more to see that there is one.
@@ -182,5 +146,11 @@ pub fn serve<R: Runner, S: Source, K: Sink>(
     ensures stays { R.subject runner.new ≡ R.subject runner.old }
 {
     let mut session = Session::new(alloc)?;
-    take_lines(alloc, runner, &mut session, src, out)
+    take_all(alloc, runner, &mut session, src, out)?;
+    if session.line.is_empty() {
+        return Ok(());
+    }
+    // The end of the source ends a line that has begun.
+    end_line(alloc, runner, &mut session, out)?;
+    Ok(())
 }

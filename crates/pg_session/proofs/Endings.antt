@@ -5,7 +5,8 @@ use Rattle.pg_io.specs.Streams.{AppendsFront, TakesAtMost}
 use Rattle.pg_command.specs.Commands.{Meaning}
 use Rattle.pg_session.specs.declared.status.Status.{Status}
 use Rattle.pg_session.specs.declared.status.Status.TheVariants.{Done, Usage, ProgramRefused, ShelfFault, ReadFault, WriteFault, InputLimit, OutOfMemory}
-use Rattle.pg_session.specs.Commands.{World, WritesWhole, WritesRefusal, FailsToFetch, FailsToRead, FailsToWrite, ExceedsLimit, LacksMemory, EndsAs, IsDue, NoFault, IsOr, DueOfText, most_taken, WritesTextFront}
+use Rattle.pg_session.specs.Commands.{World, WritesWhole, WritesRefusal, FailsToFetch, FailsToRead, FailsToWrite, ExceedsLimit, LacksMemory, EndsAs, IsDue, NoFault, IsOr, DueOfText}
+use Rattle.pg_session.specs.Commands.{most_taken, WritesTextFront}
 use Rattle.pg_session.specs.Replies.{IsReply, IsReplyStatus, IsWritten}
 use Rattle.pg_session.specs.Texts.{IsAccepted, IsRefusalLine}
 use Rattle.pg_session.proofs.TextVerdicts.{not_refused}

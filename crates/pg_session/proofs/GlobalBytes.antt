@@ -1,5 +1,6 @@
 -- The globals of the program of a module of a text of bytes begin with bytes.
-use Rattle.std.proofs.Common.{◌≡◌, ℕ, zero, suc, ◌+◌, ◌-◌, ◌/◌, ◌%◌, ◌<◌, List, [], ◌∷◌, ◌++◌, length, map, replicate, Bool, true, false, ◌==◌, refl, arith, lt-ltb, ltb-true, cond, lit<}
+use Rattle.std.proofs.Common.{◌≡◌, ℕ, zero, suc, ◌+◌, ◌-◌, ◌/◌, ◌%◌, ◌<◌, List, [], ◌∷◌, ◌++◌, length, map, replicate, Bool, true, false, ◌==◌}
+use Rattle.std.proofs.Common.{refl, arith, lt-ltb, ltb-true, cond, lit<}
 use Rattle.std.specs.Prelude.{All, ◌^◌, Option, Some, None, slice_index}
 use Rattle.std.specs.List.{list_all, enumerate_from}
 use Rattle.pg_ast.specs.Syntax.{Val, Const, Consts, ValConst, BytesConst, ArrayConst, StructConst, NoConsts, MoreConsts, Variable, Tree}

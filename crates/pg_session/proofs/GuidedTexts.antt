@@ -1,6 +1,7 @@
 -- The guided run of `once` exits with the rotation run's value, prints the same, and does all turns of the schedule.
-use Rattle.std.proofs.Common.{◌≡◌, ℕ, ℤ, zero, suc, ◌+◌, ◌<◌, ◌≤◌, List, [], ◌∷◌, ◌++◌, length, drop, take, Bool, true, false, Option, Some, None, refl, sym, ap, ap₂, ◌∙◌, subst, arith}
-use Rattle.std.specs.Prelude.{All, ◌^◌, slice_set, slice_index, if◌then◌else◌}
+use Rattle.std.proofs.Common.{◌≡◌, ℕ, ℤ, zero, suc, ◌+◌, ◌<◌, ◌≤◌, List, [], ◌∷◌, ◌++◌, length, drop, take, Bool, true, false, Option, Some, None, refl}
+use Rattle.std.proofs.Common.{sym, ap, ap₂, ◌∙◌, subst, arith}
+use Rattle.std.specs.Prelude.{All, ◌^◌, if◌then◌else◌}
 use Rattle.pg_ir.specs.declared.ids.InstrId.{InstrId}
 use Rattle.pg_ir.specs.declared.request.TrapName.{TrapName}
 use Rattle.pg_ir.specs.Program.{NumberedProgram}
@@ -16,10 +17,10 @@ use Rattle.pg_machine.specs.declared.outcome.Outcome.{Outcome}
 use Rattle.pg_machine.specs.declared.outcome.Outcome.TheVariants as outcomes
 use Rattle.pg_machine.specs.declared.guided_end.GuidedEnd.{GuidedEnd}
 use Rattle.pg_machine.specs.declared.guided_end.GuidedEnd.TheVariants as ends
-use Rattle.pg_machine.specs.State.{State, exit_value_of, initial, next_of}
+use Rattle.pg_machine.specs.State.{State, exit_value_of, next_of}
 use Rattle.pg_machine.specs.MachineStep.{trap_of}
 use Rattle.pg_machine.specs.Rotation.{RunResult, rotation_of}
-use Rattle.pg_machine.specs.Guided.{Walk, all_left, ended_at, guided, guided_of, walk}
+use Rattle.pg_machine.specs.Guided.{guided_of}
 use Rattle.pg_machine.specs.Runs.{events}
 use Rattle.pg_machine.specs.Permitted.{end_before, full_end, has_spent, trapped, turns_left}
 use Rattle.pg_effects.specs.Reached.{HoldBytes}
@@ -28,25 +29,9 @@ use Rattle.pg_order.specs.Schedules.{GuidesAs}
 use Rattle.pg_session.specs.Texts.{IsAccepted, guided_line, once_text, run_along, text_by}
 use Rattle.pg_session.specs.EndLines.{end_line}
 use Rattle.pg_session.proofs.GlobalBytes.{globals_hold_bytes}
+use Rattle.pg_runner.proofs.Turns.{done_turns}
 
 -- ---- a guided run that exits has done all turns
-
-module _ (gated : List InstrId) (p : NumberedProgram) (input : List ℤ) where
-  few : (us : List Turn) (k : ℕ) (s : State) (left : List ℕ) → (guided gated p input us k s left).turns ≤ k + length us
-  unfolding guided
-  few [] k s left = omega arith
-  few (u ∷ us) k s left = by (λ t l. few us (k + 1) t l) (walk (slice_index left u.thread.0) gated p input u s)
-      (slice_set left u.thread.0 (walk (slice_index left u.thread.0) gated p input u s).left) (walk (slice_index left u.thread.0) gated p input u s).end
-    where
-      by : ((t : State) (l : List ℕ) → (guided gated p input us (k + 1) t l).turns ≤ (k + 1) + length us) → (w : Walk) (rest : List ℕ) (e : Option GuidedEnd)
-          → (ended_at w rest k e (λ t l. guided gated p input us (k + 1) t l)).turns ≤ k + suc (length us)
-      by ih w rest (Some e) = omega arith
-      by ih w rest None = let h = ih w.state rest in omega (arith, h)
-
-few_turns : (p : NumberedProgram) (input : List ℤ) (us : List Turn) (gated : List InstrId) → (guided_of p input us gated).turns ≤ length us
-unfolding guided_of
-few_turns p input us gated = let z : 0 + length us ≡ length us = omega arith in
-    subst (λ (n : ℕ). (guided gated p input us 0 (initial p) all_left).turns ≤ n) z (few gated p input us 0 (initial p) all_left)
 
 -- the end of a full run with a turn left is no exit
 no_exit : (p : NumberedProgram) (xs : List Step) (s : State) (us : List Turn) (value : ℤ) → end_before p xs s us ≡ ends.Exit value → us ≡ []
@@ -77,7 +62,7 @@ all_turns p input us gated value e done =
     let none : turns_left us r.trace ≡ [] = no_exit p r.trace r.state (turns_left us r.trace) value e in
     let a : length us ≤ length (events r.trace) = none_behind (length (events r.trace)) us none in
     let b : length (events r.trace) ≤ r.turns = subst (λ (vs : List Turn). length vs ≤ r.turns) (sym done) (taken r.turns us) in
-    let c : r.turns ≤ length us = few_turns p input us gated in
+    let c : r.turns ≤ length us = done_turns p input us gated in
     omega (arith, a, b, c)
 
 -- ---- the guided run of `once`

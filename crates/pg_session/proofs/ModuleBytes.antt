@@ -12,7 +12,8 @@ use Rattle.pg_grammar.specs.declared.class.Class.TheVariants.{Comma, Dots, Close
 use Rattle.pg_grammar.specs.Classes.{is}
 use Rattle.pg_grammar.specs.Language.{give}
 use Rattle.pg_grammar.specs.Grammar.{name_of, typed_const_in, simple_const_in, const_in}
-use Rattle.pg_grammar.specs.GrammarItems.{param, dparam, node, text_item, type_item, global_item, declare_item, define_item, attributes_item, metadata_item, Item, TypeItem, GlobalItem, DeclareItem, DefineItem, OtherItem, item, tree, program}
+use Rattle.pg_grammar.specs.GrammarItems.{param, dparam, node, text_item, type_item, global_item, declare_item, define_item, attributes_item, metadata_item, Item, TypeItem, GlobalItem}
+use Rattle.pg_grammar.specs.GrammarItems.{DeclareItem, DefineItem, OtherItem, item, tree, program}
 use Rattle.pg_grammar.specs.Words.{classified}
 use Rattle.pg_grammar.specs.Accepted.{IsModule}
 use Rattle.pg_canonical.proofs.Names.{is_byte}

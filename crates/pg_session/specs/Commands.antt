@@ -37,6 +37,23 @@ pub record World : Type 0 where
   pub writes_before : ℕ
   pub writes_after : ℕ
 
+-- the same by its parts: of the shelf, of the source and of the sink, of each what is told of it and how many of its calls failed
+abbrev pub world : (List ℕ → Option (List ℕ)) → (List ℕ → ℕ) → (List ℕ → ℕ) → Option (List ℕ) → Option (List ℕ) → ℕ → ℕ → Option (List ℕ)
+    → Option (List ℕ) → ℕ → ℕ → World
+world texts fetches_before fetches_after rest_before rest_after reads_before reads_after taken_before taken_after writes_before writes_after = record {
+  texts = texts;
+  fetches_before = fetches_before;
+  fetches_after = fetches_after;
+  rest_before = rest_before;
+  rest_after = rest_after;
+  reads_before = reads_before;
+  reads_after = reads_after;
+  taken_before = taken_before;
+  taken_after = taken_after;
+  writes_before = writes_before;
+  writes_after = writes_after;
+}
+
 -- ---- whole texts
 
 -- a text of which this holds was written

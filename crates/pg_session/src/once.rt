@@ -3,7 +3,7 @@ ghost use Rattle.std.specs.Prelude.{◌≡◌, ◌≤◌, ◌<◌, ◌+◌, ◌�
 ghost use Rattle.pg_io.specs.Faults.{Rose};
 ghost use Rattle.pg_io.specs.Streams.{TakesAtMost};
 ghost use Rattle.pg_num.specs.declared.limits.TheConstants.{PROGRAM_TEXT_LIMIT, QUANTUM_LIMIT};
-ghost use Rattle.pg_session.specs.Commands.{EndsAs};
+ghost use Rattle.pg_session.specs.Commands.{EndsAs, world};
 ghost use Rattle.pg_session.specs.Replies.{IsReply, IsReplyStatus};
 ghost use Rattle.pg_session.specs.Texts.{IsOnceText};
 ghost use Rattle.pg_session.specs.declared.once.NoReply.TheVariants.{OutOfMemory};
@@ -88,19 +88,9 @@ pub(crate) fn once<S: Source, K: Sink>(
 ) -> Status
     requires least { 1 ≤ command.now.quantum }
     requires most { command.now.quantum ≤ QUANTUM_LIMIT }
-    ensures ends { (texts : List ℕ → Option (List ℕ)) (fetches : List ℕ → ℕ) → EndsAs (record {
-      texts = texts;
-      fetches_before = fetches;
-      fetches_after = fetches;
-      rest_before = S.rest src.old;
-      rest_after = S.rest src.new;
-      reads_before = S.faults src.old;
-      reads_after = S.faults src.new;
-      taken_before = K.taken out.old;
-      taken_after = K.taken out.new;
-      writes_before = K.faults out.old;
-      writes_after = K.faults out.new;
-    })
+    ensures ends { (texts : List ℕ → Option (List ℕ)) (fetches : List ℕ → ℕ) → EndsAs
+        (world texts fetches fetches (S.rest src.old) (S.rest src.new) (S.faults src.old) (S.faults src.new)
+        (K.taken out.old) (K.taken out.new) (K.faults out.old) (K.faults out.new))
         (once command.now.quantum command.now.numbers.items) result }
     ensures keeps { (result ≡ Status.ReadFault) ⊎ (result ≡ Status.OutOfMemory) → out.new ≡ out.old }
 {

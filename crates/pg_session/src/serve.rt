@@ -2,7 +2,7 @@
 ghost use Rattle.std.specs.Prelude.{◌≡◌, ◌≤◌, ℕ, List, string_bytes};
 ghost use Rattle.pg_num.specs.declared.limits.TheConstants.{QUANTUM_LIMIT};
 ghost use Rattle.pg_command.specs.Commands.{serve};
-ghost use Rattle.pg_session.specs.Commands.{EndsAs};
+ghost use Rattle.pg_session.specs.Commands.{EndsAs, world};
 ghost use Rattle.pg_session.specs.Statuses.{status_of};
 
 use crate::programs::{Loaded, NoProgram, fetch_program};
@@ -36,19 +36,8 @@ pub(crate) fn serve<S: Source, K: Sink, F: Shelf>(
 ) -> Status
     requires least { 1 ≤ command.now.quantum }
     requires most { command.now.quantum ≤ QUANTUM_LIMIT }
-    ensures ends { EndsAs (record {
-      texts = F.text shelf.old;
-      fetches_before = F.faults shelf.old;
-      fetches_after = F.faults shelf.new;
-      rest_before = S.rest src.old;
-      rest_after = S.rest src.new;
-      reads_before = S.faults src.old;
-      reads_after = S.faults src.new;
-      taken_before = K.taken out.old;
-      taken_after = K.taken out.new;
-      writes_before = K.faults out.old;
-      writes_after = K.faults out.new;
-    })
+    ensures ends { EndsAs (world (F.text shelf.old) (F.faults shelf.old) (F.faults shelf.new) (S.rest src.old) (S.rest src.new) (S.faults src.old) (S.faults src.new)
+        (K.taken out.old) (K.taken out.new) (K.faults out.old) (K.faults out.new))
         (serve (string_bytes command.now.file) command.now.quantum) result }
     ensures texts_stay { (name : List ℕ) → F.text shelf.new name ≡ F.text shelf.old name }
 {

@@ -1,6 +1,6 @@
 //! The call that does all that the program does.
 ghost use Rattle.std.specs.Prelude.{◌≡◌, ◌⊎◌, ℕ, List, map, string_bytes};
-ghost use Rattle.pg_session.specs.Commands.{Ends, IsSession};
+ghost use Rattle.pg_session.specs.Commands.{Ends, IsSession, world};
 
 use crate::once::once;
 use crate::serve::serve;
@@ -36,19 +36,8 @@ pub fn peregrine<S: Source, K: Sink, F: Shelf>(
     shelf: &mut F,
     out: &mut K,
 ) -> Status
-    ensures ends { Ends (record {
-      texts = F.text shelf.old;
-      fetches_before = F.faults shelf.old;
-      fetches_after = F.faults shelf.new;
-      rest_before = S.rest src.old;
-      rest_after = S.rest src.new;
-      reads_before = S.faults src.old;
-      reads_after = S.faults src.new;
-      taken_before = K.taken out.old;
-      taken_after = K.taken out.new;
-      writes_before = K.faults out.old;
-      writes_after = K.faults out.new;
-    })
+    ensures ends { Ends (world (F.text shelf.old) (F.faults shelf.old) (F.faults shelf.new) (S.rest src.old) (S.rest src.new) (S.faults src.old) (S.faults src.new)
+        (K.taken out.old) (K.taken out.new) (K.faults out.old) (K.faults out.new))
         (map string_bytes words.now) result }
     ensures usage_calls_nothing { result ≡ Status.Usage → (src.new ≡ src.old) × (shelf.new ≡ shelf.old) × (out.new ≡ out.old) }
     ensures fault_keeps_sink { (result ≡ Status.ReadFault) ⊎ (result ≡ Status.OutOfMemory) →

@@ -6,7 +6,7 @@ ghost use Rattle.pg_runs.specs.Cuts.{CanRun};
 ghost use Rattle.pg_command.specs.Commands.{show};
 ghost use Rattle.pg_runner.specs.Runs.{runs_of, shown};
 ghost use Rattle.pg_serve.specs.Shows.{IsShowText};
-ghost use Rattle.pg_session.specs.Commands.{EndsAs, Fetched, IsShown};
+ghost use Rattle.pg_session.specs.Commands.{EndsAs, Fetched, IsShown, world};
 ghost use Rattle.pg_session.specs.Replies.{IsReply, IsReplyStatus};
 
 use crate::programs::{Loaded, NoProgram, fetch_program};
@@ -70,19 +70,8 @@ pub(crate) fn show<K: Sink, F: Shelf>(
     requires least { 1 ≤ command.now.quantum }
     requires most { command.now.quantum ≤ QUANTUM_LIMIT }
     requires few { length command.now.numbers.items ≤ NUMBERS_LIMIT }
-    ensures ends { (rest : Option (List ℕ)) (reads : ℕ) → EndsAs (record {
-      texts = F.text shelf.old;
-      fetches_before = F.faults shelf.old;
-      fetches_after = F.faults shelf.new;
-      rest_before = rest;
-      rest_after = rest;
-      reads_before = reads;
-      reads_after = reads;
-      taken_before = K.taken out.old;
-      taken_after = K.taken out.new;
-      writes_before = K.faults out.old;
-      writes_after = K.faults out.new;
-    })
+    ensures ends { (rest : Option (List ℕ)) (reads : ℕ) → EndsAs (world (F.text shelf.old) (F.faults shelf.old) (F.faults shelf.new) rest rest reads reads
+        (K.taken out.old) (K.taken out.new) (K.faults out.old) (K.faults out.new))
         (show (string_bytes command.now.file) command.now.quantum command.now.numbers.items) result }
     ensures keeps { (result ≡ Status.ReadFault) ⊎ (result ≡ Status.OutOfMemory) → out.new ≡ out.old }
     ensures texts_stay { (name : List ℕ) → F.text shelf.new name ≡ F.text shelf.old name }

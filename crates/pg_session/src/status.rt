@@ -1,3 +1,5 @@
+//! The exit status of the program.
+
 ghost use Rattle.std.specs.Prelude.{◌≡◌};
 ghost use Rattle.pg_session.specs.Statuses.{status_code};
 

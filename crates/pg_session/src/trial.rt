@@ -7,7 +7,7 @@ ghost use Rattle.pg_runner.specs.Runs.{entry_admits, runs_of};
 ghost use Rattle.pg_serve.specs.Trials.{IsTrialText};
 ghost use Rattle.pg_trial.specs.Program.{trial_program};
 ghost use Rattle.pg_trial.specs.declared.line.TheConstants.{TRIAL_LIMIT};
-ghost use Rattle.pg_session.specs.Commands.{EndsAs, IsTrial};
+ghost use Rattle.pg_session.specs.Commands.{EndsAs, IsTrial, world};
 ghost use Rattle.pg_session.specs.Replies.{IsReply, IsReplyStatus};
 
 use crate::programs::{Loaded, load};
@@ -52,19 +52,9 @@ fn trial_reply(alloc: Global, number: u64) -> Result<Reply, AllocError>
 /// Writes the text of the trial that a number names.
 pub(crate) fn trial<K: Sink>(alloc: Global, number: u64, out: &mut K) -> Status
     requires { number ≤ TRIAL_LIMIT }
-    ensures ends { (texts : List ℕ → Option (List ℕ)) (fetches : List ℕ → ℕ) (rest : Option (List ℕ)) (reads : ℕ) → EndsAs (record {
-      texts = texts;
-      fetches_before = fetches;
-      fetches_after = fetches;
-      rest_before = rest;
-      rest_after = rest;
-      reads_before = reads;
-      reads_after = reads;
-      taken_before = K.taken out.old;
-      taken_after = K.taken out.new;
-      writes_before = K.faults out.old;
-      writes_after = K.faults out.new;
-    })
+    ensures ends { (texts : List ℕ → Option (List ℕ)) (fetches : List ℕ → ℕ) (rest : Option (List ℕ)) (reads : ℕ) → EndsAs
+        (world texts fetches fetches rest rest reads reads
+        (K.taken out.old) (K.taken out.new) (K.faults out.old) (K.faults out.new))
         (trial number) result }
     ensures keeps { (result ≡ Status.ReadFault) ⊎ (result ≡ Status.OutOfMemory) → out.new ≡ out.old }
 {

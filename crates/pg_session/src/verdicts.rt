@@ -6,13 +6,13 @@ ghost use Rattle.pg_grammar.specs.Accepted.{IsModule};
 ghost use Rattle.pg_session.specs.Verdicts.{IsVerdict};
 
 use crate::refusals::TextRefusal;
-use pg_ast::Module;
 use pg_check::{CheckFault, check};
-use pg_grammar::ReadFault;
+use pg_numbering::laws::a_module_is_in_order;
 use pg_ir::Program;
 use pg_num::limits::PROGRAM_TEXT_LIMIT;
-use pg_numbering::laws::a_module_is_in_order;
 use pg_parse::parse;
+use pg_ast::Module;
+use pg_grammar::ReadFault;
 use std::alloc::{AllocError, Global};
 
 /// A program text's program, or why it is refused.

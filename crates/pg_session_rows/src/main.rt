@@ -1,134 +1,16 @@
-//! Runs the top call on small programs. For each line of `rows.txt`, which has the words of a command line and the files that
-//! stand one behind the other as its program text, it prints the exit status and what was written. What comes of each
-//! row was written down by hand. Then it runs `once` on each line of `checks.txt`, a text that the checks refuse or nearly
-//! refuse, and prints what was written, and the text. `data/checks.py` made the output that is wanted of these.
+//! Runs the top call on small programs, and prints what comes of it: of texts, and of sessions, shows and trials. What comes of
+//! each row was written down by hand.
 #![tactic(auto)]
 
+mod running;
+mod sessions;
+mod texts;
+
+use crate::sessions::print_sessions;
+use crate::texts::print_texts;
 use anyhow::Result;
-use pg_ast::print_module;
-use pg_io::{MemoryShelf, MemorySink, MemorySource};
-use pg_num::limits::PROGRAM_TEXT_LIMIT;
-use pg_parse::parse;
-use pg_session::{Status, peregrine};
-use std::alloc::{AllocError, Global};
-use std::fs;
-
-/// The most bytes that a row writes.
-const ROOM: usize = 4096;
-
-/// The most bytes of one read.
-const PIECE: usize = 4096;
-
-/// A text in the style of clang's output.
-const SHORTENED: &str = "shortened.ll";
-
-/// The words of a line.
-fn words_of(alloc: Global, line: &str) -> Result<Vec<String>, AllocError> {
-    let mut words = Vec::new(alloc);
-    for word in line.split_whitespace() {
-        words.push(String::from_str(alloc, word)?)?;
-    }
-    Ok(words)
-}
-
-/// The status of the command whose words these are, and what it writes.
-fn outcome(alloc: Global, line: &str, text: Vec<u8>) -> Result<(Status, Vec<u8>), AllocError> {
-    let words = words_of(alloc, line)?;
-    let mut src = MemorySource::new(text, PIECE, Vec::new(alloc));
-    let mut shelf = MemoryShelf::new(alloc, Vec::new(alloc), Vec::new(alloc));
-    let mut out = MemorySink::new(alloc, ROOM, Vec::new(alloc))?;
-    let status = peregrine(alloc, &words, &mut src, &mut shelf, &mut out);
-    Ok((status, out.bytes().to_vec(alloc)?))
-}
-
-/// The files of these names, one behind the other.
-fn joined(rt: &HostRuntime, names: &str) -> Result<Vec<u8>> {
-    let mut text = Vec::new(rt.alloc());
-    for name in names.split_whitespace() {
-        let file = fs::read(rt, name)?;
-        text.extend_from_slice(file.as_slice())?;
-    }
-    Ok(text)
-}
-
-fn print_bytes(rt: &HostRuntime, bytes: &[u8]) -> Result<()> {
-    match str::from_utf8(bytes) {
-        Ok(text) => print!(rt; "{text}")?,
-        Err(_) => println!(rt; "bytes that are no text")?,
-    }
-    Ok(())
-}
-
-/// Runs a command line on a text, and prints what comes of it.
-fn print_outcome(rt: &HostRuntime, line: &str, name: &str, text: Vec<u8>) -> Result<()> {
-    let (status, written) = outcome(rt.alloc(), line, text)?;
-    let code = status.code();
-    println!(rt; "{line} < {name}: {code}")?;
-    print_bytes(rt, written.as_slice())
-}
-
-/// Runs `once` on a text in which `⏎` stands for a line feed, and prints what was written, and then the text.
-fn print_check(rt: &HostRuntime, text: &str) -> Result<()> {
-    let lines = text.replace(rt.alloc(), "⏎", "\n")?;
-    let (_, written) = outcome(rt.alloc(), "once", lines.as_bytes().to_vec(rt.alloc())?)?;
-    match str::from_utf8(written.as_slice()) {
-        Ok(said) => {
-            let said = said.trim_end();
-            println!(rt; "{said}: {text}")?;
-        }
-        Err(_) => println!(rt; "bytes that are no text: {text}")?,
-    }
-    Ok(())
-}
-
-/// Prints what comes of each line of `checks.txt`.
-fn print_checks(rt: &HostRuntime) -> Result<()> {
-    let texts = fs::read_to_string(rt, "checks.txt")?;
-    println!(rt; "checks.txt")?;
-    for text in texts.lines() {
-        print_check(rt, text)?;
-    }
-    Ok(())
-}
-
-/// Whether `once` answers anything else on a front of the text than that the program ran or was refused.
-fn has_other_front(alloc: Global, text: &[u8]) -> Result<bool, AllocError> {
-    for len in 0..text.len() {
-        let (status, _) = outcome(alloc, "once", text[..len].to_vec(alloc)?)?;
-        if status != Status::Done && status != Status::ProgramRefused {
-            return Ok(true);
-        }
-    }
-    Ok(false)
-}
-
-/// Prints the canonical text of a program.
-fn print_canonical(rt: &HostRuntime, text: &[u8]) -> Result<()> {
-    if text.len() > PROGRAM_TEXT_LIMIT {
-        println!(rt; "too long")?;
-        return Ok(());
-    }
-    match parse(rt.alloc(), text) {
-        Ok(program) => print_bytes(rt, print_module(rt.alloc(), &program)?.as_slice()),
-        Err(fault) => {
-            println!(rt; "{fault}")?;
-            Ok(())
-        }
-    }
-}
 
 fn main(rt: HostRuntime) -> Result<()> {
-    let rows = fs::read_to_string(&rt, "rows.txt")?;
-    for row in rows.lines() {
-        match row.split_once(" < ") {
-            Some((line, names)) => print_outcome(&rt, line, names, joined(&rt, names)?)?,
-            None => println!(rt; "no row: {row}")?,
-        }
-    }
-    let blanks = vec![in rt.alloc(); b' '; PROGRAM_TEXT_LIMIT + 1]?;
-    print_outcome(&rt, "once", "1048577 blanks", blanks)?;
-    let other = has_other_front(rt.alloc(), joined(&rt, SHORTENED)?.as_slice())?;
-    println!(rt; "a proper prefix of {SHORTENED} has another status than 0 and 3: {other}")?;
-    print_canonical(&rt, joined(&rt, "least.ll")?.as_slice())?;
-    print_checks(&rt)
+    print_texts(&rt)?;
+    print_sessions(&rt)
 }

@@ -1,21 +1,12 @@
-//! Sessions by the top call where a call on the outside fails. The program `pg_serve_rows` has sessions where none does.
+//! Sessions by the top call where a call on the outside fails. The program `pg_session_rows` has sessions where none does.
 
 ghost use Rattle.std.specs.Prelude.{◌<◌};
 
+use crate::session::SUM;
 use pg_io::{MemoryShelf, MemorySink, MemorySource, ShortSink, Sink};
 use pg_session::{Status, peregrine};
 use std::alloc::{AllocError, Global};
 use std::test::Fail;
-
-const SUM: &[u8] = b"declare i64 @pg_in(i64)\n\
-declare void @pg_out(i64)\n\
-define i32 @main() {\n\
-  %a = call i64 @pg_in(i64 0)\n\
-  %b = call i64 @pg_in(i64 1)\n\
-  %c = add i64 %a, %b\n\
-  call void @pg_out(i64 %c)\n\
-  ret i32 0\n\
-}\n";
 
 /// Three lines. Reads of four bytes give one line each.
 const LINES: &[u8] = b"1 2\n3 4\n5 6\n";

@@ -7,7 +7,7 @@ use pg_session::{Status, peregrine};
 use std::alloc::{AllocError, Global};
 use std::test::Fail;
 
-const SUM: &[u8] = b"declare i64 @pg_in(i64)\n\
+pub(crate) const SUM: &[u8] = b"declare i64 @pg_in(i64)\n\
 declare void @pg_out(i64)\n\
 define i32 @main() {\n\
   %a = call i64 @pg_in(i64 0)\n\

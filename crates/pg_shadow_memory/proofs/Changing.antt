@@ -1,5 +1,6 @@
 -- The sources of bytes with one change more, and the stamps that find a byte's last change.
-use Rattle.std.proofs.Common.{◌≡◌, ℕ, zero, suc, ◌+◌, ◌-◌, ◌<◌, ◌≤◌, ◌++◌, [], ◌∷◌, Bool, true, false, Option, Some, get_or, length, length-append, slice_get, refl, sym, ap, ◌∙◌, arith, subst, max, if◌then◌else◌}
+use Rattle.std.proofs.Common.{◌≡◌, ℕ, zero, suc, ◌+◌, ◌-◌, ◌<◌, ◌≤◌, ◌++◌, [], ◌∷◌, Bool, true, false, Option, Some, get_or, length, length-append}
+use Rattle.std.proofs.Common.{slice_get, refl, sym, ap, ◌∙◌, arith, subst, max, if◌then◌else◌}
 use Rattle.std.specs.Prelude.{nat_le, nat_lt}
 use Rattle.std.proofs.lemmas.Bool.{and_parts, leb-true, le-ltb, ltb-true, and_right}
 use Rattle.std.proofs.lemmas.Option.{slice_get-get_or}

@@ -1,5 +1,6 @@
 -- Numbers of bytes that are read: the lowest that isn't known has the blame; bytes of one number; bytes as at the start; others.
-use Rattle.std.proofs.Common.{◌≡◌, ℕ, zero, suc, ◌+◌, ◌-◌, ◌*◌, ◌/◌, ◌%◌, ◌^◌, ◌<◌, ◌≤◌, ℤ, List, [], ◌∷◌, true, Option, Some, None, IfSome, length, slice_index, arith, refl, ap, sym, ◌∙◌, subst}
+use Rattle.std.proofs.Common.{◌≡◌, ℕ, zero, suc, ◌+◌, ◌-◌, ◌*◌, ◌/◌, ◌%◌, ◌^◌, ◌<◌, ◌≤◌, ℤ, List, [], ◌∷◌, true, Option, Some, None, IfSome}
+use Rattle.std.proofs.Common.{length, slice_index, arith, refl, ap, sym, ◌∙◌, subst}
 use mathlib.Core.Path.{fun_ext}
 use Rattle.std.proofs.Math.Nat.{div-div-eq-div-mul, mod-eq_of_lt}
 use Rattle.std.proofs.lemmas.Nat.{mod-pow-add, pow-add}
@@ -119,7 +120,8 @@ byte_more v k n =
     ap (λ (j : ℕ). (j % 2 ^ (8 * n)) * 2 ^ 8 + m % 2 ^ 8) d ∙ sym (mod-pow-add m (8 * n) 8) ∙ ap (λ (j : ℕ). m % 2 ^ j) (sym b)
 
 more_bytes : (g : Option ℕ) (k n : ℕ) →
-    with_both (with_one g (λ v. Some (v / 2 ^ (8 * k) % 2 ^ 8))) (with_one g (λ v. Some (v / 2 ^ (8 * (k + 1)) % 2 ^ (8 * n)))) (λ low rest. Some (rest * 2 ^ 8 + low)) ≡ with_one g (λ v. Some (v / 2 ^ (8 * k) % 2 ^ (8 * suc n)))
+    with_both (with_one g (λ v. Some (v / 2 ^ (8 * k) % 2 ^ 8))) (with_one g (λ v. Some (v / 2 ^ (8 * (k + 1)) % 2 ^ (8 * n)))) (λ low rest. Some (rest * 2 ^ 8 + low))
+    ≡ with_one g (λ v. Some (v / 2 ^ (8 * k) % 2 ^ (8 * suc n)))
 more_bytes None k n = refl
 more_bytes (Some v) k n = ap (λ (m : ℕ). Some m) (byte_more v k n)
 
@@ -129,7 +131,8 @@ parts_loaded F g at k zero h =
     ∙ ap (λ f. valued f) (fun_ext (λ input. one_byte (g input) k))
   where
     part_first : (F : ℕ → Shadow) (g : OnInput) (at k : ℕ) → F (at + 0) ≡ byte_in (k + 0) (valued g) → F at ≡ byte_in k (valued g)
-    part_first F g at k h = let a : at + 0 ≡ at = omega arith in let b : k + 0 ≡ k = omega arith in subst (λ (j : ℕ). F at ≡ byte_in j (valued g)) b (subst (λ (j : ℕ). F j ≡ byte_in (k + 0) (valued g)) a h)
+    part_first F g at k h = let a : at + 0 ≡ at = omega arith in let b : k + 0 ≡ k =
+        omega arith in subst (λ (j : ℕ). F at ≡ byte_in j (valued g)) b (subst (λ (j : ℕ). F j ≡ byte_in (k + 0) (valued g)) a h)
 parts_loaded F g at k (suc n) h =
     let a : at + 0 ≡ at = omega arith in
     let b : k + 0 ≡ k = omega arith in

@@ -1,3 +1,5 @@
+//! A change of what is known of memory.
+
 ghost use Rattle.std.specs.Prelude.{◌≡◌, ◌≤◌, ◌-◌, ◌<◌};
 ghost use Rattle.pg_shadow_memory.specs.Sources.{IsPlaceIn, part_of};
 

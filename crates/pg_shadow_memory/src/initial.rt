@@ -1,3 +1,5 @@
+//! The bytes that memory begins with.
+
 ghost use Rattle.std.specs.Prelude.{◌≡◌, ◌≤◌, ◌+◌, ◌*◌, ℕ, IfNone, IfSome};
 ghost use Rattle.pg_mem.specs.Bytes.{number_of};
 ghost use Rattle.pg_mem.specs.Initial.{initial_byte, with_bytes_at};

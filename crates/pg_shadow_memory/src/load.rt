@@ -1,3 +1,5 @@
+//! The source of a number that is loaded.
+
 ghost use Rattle.std.specs.Prelude.{◌≡◌, ◌≤◌, ◌<◌, ◌+◌, ℕ, IfOk, length, true};
 ghost use Rattle.pg_closed.specs.Shadows as shadows;
 ghost use Rattle.pg_stamps.specs.declared.stamps.TheConstants.{PLACE_COUNT};
@@ -34,30 +36,6 @@ fn byte_node(
     }
 }
 
-/// The node of the number that known bytes from a place on make, each by a node of its own.
-fn join(
-    p: &Program,
-    nodes: &mut Nodes,
-    start: u64,
-    sources: &[ByteSource; 8],
-    count: u8,
-) -> Result<u32, AllocError>
-    requires some { 1 ≤ count }
-    requires count { count ≤ 8 }
-    requires end { start + count ≤ PLACE_COUNT }
-    requires known { AreKnown sources.now count }
-    requires named { AreNamed (length nodes.old) sources.now count }
-    ensures grew { Grew nodes.old nodes.new }
-    ensures is { IfOk result (λ k. k < length nodes.new) }
-    ensures value { IfOk result (λ k. shadows.valued (number_by nodes.new k) ≡ shadows.loaded (shadows_from p.now nodes.old start sources.now) start count) }
-{
-    let mut parts = [0; 8];
-    for k in 0..count {
-        parts[k as usize] = byte_node(p, nodes, start + k as u64, sources[k as usize])?;
-    }
-    added(nodes, Node::Join { parts, count })
-}
-
 /// The node of the number that known bytes from a place on make, the lowest first.
 pub(crate) fn number_node(
     p: &Program,
@@ -89,5 +67,9 @@ pub(crate) fn number_node(
     if are_initial(sources, count) {
         return added(nodes, Node::Const(initial_number(p, start, count)));
     }
-    join(p, nodes, start, sources, count)
+    let mut parts = [0; 8];
+    for k in 0..count {
+        parts[k as usize] = byte_node(p, nodes, start + k as u64, sources[k as usize])?;
+    }
+    added(nodes, Node::Join { parts, count })
 }

@@ -1,3 +1,5 @@
+//! What is known of the bytes of memory.
+
 use crate::change::Change;
 use crate::load::number_node;
 use crate::parts::first_unknown;

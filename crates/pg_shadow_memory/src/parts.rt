@@ -1,3 +1,5 @@
+//! Whether bytes are those of one number.
+
 ghost use Rattle.std.specs.Prelude.{◌≡◌, ◌≤◌, ◌*◌, ℕ, IfNone, IfSome, IsTrue};
 ghost use Rattle.pg_ir.specs.Program.{NumberedProgram};
 ghost use Rattle.pg_nodes.specs.Nodes.{NodeList};

@@ -1,3 +1,5 @@
+//! What is known of a byte or of a stored number.
+
 use pg_closed::Decision;
 
 /// What is known of a byte.

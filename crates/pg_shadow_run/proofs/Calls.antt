@@ -13,7 +13,8 @@ use Rattle.pg_shadow_run.proofs.Kept.{registers_kept, sources_kept}
 
 pub calls_kept : (old new : NodeList) (calls : CallList) → Grew old new → AreCalls (length old) calls → calls_by new calls ≡ calls_by old calls
 calls_kept old new [] g h = refl
-calls_kept old new (rs ∷ calls) g h = ap (λ (x : List Shadow). x ∷ calls_by new calls) (registers_kept old new rs g h.0) ∙ ap (λ (xs : List (List Shadow)). registers_by old rs ∷ xs) (calls_kept old new calls g h.1)
+calls_kept old new (rs ∷ calls) g h = ap (λ (x : List Shadow). x ∷ calls_by new calls) (registers_kept old new rs g h.0)
+    ∙ ap (λ (xs : List (List Shadow)). registers_by old rs ∷ xs) (calls_kept old new calls g h.1)
 
 pub calls_stay : (old new : NodeList) (calls : CallList) → Grew old new → AreCalls (length old) calls → AreCalls (length new) calls
 calls_stay old new [] g h = tt
@@ -44,7 +45,8 @@ pub across : (old new : NodeList) (f : List Shadow → List Shadow) (present aft
     AreCalls (length old) (calls_of present callers ended) → registers_by new after ≡ f (registers_by old present) →
     calls_by new (calls_of after callers ended) ≡ with_top f (calls_by old (calls_of present callers ended))
 across old new f present after callers true g a e = refl
-across old new f present after callers false g a e = ap (λ (x : List Shadow). x ∷ calls_by new (reverse callers)) e ∙ ap (λ (cs : List (List Shadow)). f (registers_by old present) ∷ cs) (calls_kept old new (reverse callers) g a.1)
+across old new f present after callers false g a e = ap (λ (x : List Shadow). x ∷ calls_by new (reverse callers)) e
+    ∙ ap (λ (cs : List (List Shadow)). f (registers_by old present) ∷ cs) (calls_kept old new (reverse callers) g a.1)
 
 pub across_are : (old new : NodeList) (present after : List Source) (callers : CallList) (ended : Bool) → Grew old new → AreCalls (length old) (calls_of present callers ended) →
     AreSources (length new) after → AreCalls (length new) (calls_of after callers ended)

@@ -20,8 +20,14 @@ use Rattle.pg_closed.specs.declared.decision.Decision.TheVariants.{Pinned}
 use Rattle.pg_closed.specs.Extents.{edge_by, edge_in}
 use Rattle.pg_closed.specs.Known.{after_branch, after_known, after_op, along_edge, entered, forgotten_from, operand_at, operand_shadows, optional_shadow, set_shadow, top_of, under_top, with_top}
 use Rattle.pg_shadow_run.specs.declared.step.OpStep.{OpStep}
+use Rattle.pg_shadow_run.specs.Events.{IsAsked, IsKnownCall}
 use Rattle.pg_shadow_run.specs.Sourced.{marked}
 use Rattle.pg_shadow_run.specs.Steps.{IsStepAt, branched, given_shadow, is_straight, known_shadow, set_given}
+
+-- each operand of a call of a function that the program doesn't define may be asked for
+pub call_asked : (o : Op) (k : ℕ) → IsKnownCall o → IsAsked o k
+call_asked (op.CallKnown f args) k h = tt
+call_asked o k h = absurd h
 
 known_same : (k : KnownFunction) (target : Option ℕ) (word : ℕ) (f : List Shadow → Shadow) (calls : List (List Shadow)) →
     with_top (λ rs. after_known k target word (f rs) rs) calls ≡ with_top (λ rs. set_given target (known_shadow k word (f rs)) rs) calls
@@ -39,7 +45,8 @@ straight_is p pinned n m region word x (op.Call g args) calls e h = absurd cc
 straight_is p pinned n m region word x (op.Ret v) calls e h = absurd cc
 straight_is p pinned n m region word x (op.CallKnown k args) calls e h =
     ap (λ (o : Op). with_top (λ rs. after_known k x.result word (operand_at p rs o 0) rs) calls) h ∙ known_same k x.result word (λ rs. operand_at p rs (op.CallKnown k args) 0) calls
-straight_is p pinned n m region word x (op.Gep base indices) calls e h = ap (λ (o : Op). with_top (λ rs. set_shadow x.result (moved (operand_at p rs o 0) (result_of o (operand_shadows p rs o))) rs) calls) h
+straight_is p pinned n m region word x (op.Gep base indices) calls e h =
+    ap (λ (o : Op). with_top (λ rs. set_shadow x.result (moved (operand_at p rs o 0) (result_of o (operand_shadows p rs o))) rs) calls) h
 straight_is p pinned n m region word x o calls e h = refl
 
 pub at_top : (target : Option ℕ) (g : List Shadow → Option Shadow) (calls : List (List Shadow)) →
@@ -71,7 +78,9 @@ branch_is p x s sets m region rs h = go s.freed s.pinned region h.freed h.marks
 
     go : (f b : Bool) (r : Option FreeRegion) → is_some r ≡ f → IfSome r (λ q. (k : ℕ) → q.sets k ≡ marked sets k) →
         (if f && not b then forgotten_from 0 (marked sets) (Pinned s.number) rs else along_edge p x.block.0 s.edge rs) ≡ after_branch p b s.number x (edge_in p m (Some x)) r rs
-    go false b None k l = (elim b as (λ z. (if false && not z then forgotten_from 0 (marked sets) (Pinned s.number) rs else along_edge p x.block.0 s.edge rs) ≡ after_branch p z s.number x (edge_in p m (Some x)) None rs) [ true ↦ e | false ↦ e ])
+    go false b None k l = (elim b as
+        (λ z. (if false && not z then forgotten_from 0 (marked sets) (Pinned s.number) rs else along_edge p x.block.0 s.edge rs) ≡ after_branch p z s.number x (edge_in p m (Some x)) None rs)
+        [ true ↦ e | false ↦ e ])
     go true b None k l = absurd cc
     go false b (Some q) k l = absurd cc
     go true true (Some q) k l = e

@@ -9,7 +9,8 @@ use Rattle.pg_shadow_run.specs.Sourced.{AreSources, registers_by}
 
 pub registers_kept : (old new : NodeList) (rs : List Source) → Grew old new → AreSources (length old) rs → registers_by new rs ≡ registers_by old rs
 registers_kept old new [] g h = refl
-registers_kept old new (s ∷ rs) g h = ap (λ (x : Shadow). x ∷ registers_by new rs) (shadow_kept old new s g h.0) ∙ ap (λ (xs : List Shadow). shadow_by old s ∷ xs) (registers_kept old new rs g h.1)
+registers_kept old new (s ∷ rs) g h = ap (λ (x : Shadow). x ∷ registers_by new rs) (shadow_kept old new s g h.0)
+    ∙ ap (λ (xs : List Shadow). shadow_by old s ∷ xs) (registers_kept old new rs g h.1)
 
 pub sources_up : (m n : ℕ) (rs : List Source) → m ≤ n → AreSources m rs → AreSources n rs
 sources_up m n [] h a = tt

@@ -1,5 +1,6 @@
 -- Registers that are set, or forgotten.
-use Rattle.std.proofs.Common.{◌≡◌, ℕ, zero, suc, ◌+◌, ◌<◌, ◌≤◌, List, [], ◌∷◌, ◌++◌, length, take, drop, Bool, true, false, Some, slice_get, slice_index_or, slice_set, cond, arith, refl, ap, sym, ◌∙◌, subst}
+use Rattle.std.proofs.Common.{◌≡◌, ℕ, zero, suc, ◌+◌, ◌<◌, ◌≤◌, List, [], ◌∷◌, ◌++◌, length, take, drop, Bool, true, false, Some, slice_get, slice_index_or}
+use Rattle.std.proofs.Common.{slice_set, cond, arith, refl, ap, sym, ◌∙◌, subst}
 use Rattle.pg_ir.specs.declared.instr.Instr.{Instr}
 use Rattle.pg_nodes.specs.Nodes.{NodeList}
 use Rattle.pg_closed.specs.declared.decision.Decision.{Decision}

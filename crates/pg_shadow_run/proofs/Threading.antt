@@ -19,7 +19,8 @@ one_kept old new t es g h = let e : calls_by new t ≡ calls_by old t = calls_ke
 pub threads_kept : (old new : NodeList) (ts : List CallList) (extents : List (List Extent)) → Grew old new → AreThreads (length old) ts → threads_by new ts extents ≡ threads_by old ts extents
 threads_kept old new [] extents g h = refl
 threads_kept old new (t ∷ ts) [] g h = ap (λ x. x ∷ threads_by new ts []) (one_kept old new t [] g h.0) ∙ ap (λ xs. thread_by old t [] ∷ xs) (threads_kept old new ts [] g h.1)
-threads_kept old new (t ∷ ts) (es ∷ extents) g h = ap (λ x. x ∷ threads_by new ts extents) (one_kept old new t es g h.0) ∙ ap (λ xs. thread_by old t es ∷ xs) (threads_kept old new ts extents g h.1)
+threads_kept old new (t ∷ ts) (es ∷ extents) g h = ap (λ x. x ∷ threads_by new ts extents) (one_kept old new t es g h.0)
+    ∙ ap (λ xs. thread_by old t es ∷ xs) (threads_kept old new ts extents g h.1)
 
 pub threads_stay : (old new : NodeList) (ts : List CallList) → Grew old new → AreThreads (length old) ts → AreThreads (length new) ts
 threads_stay old new [] g h = tt

@@ -1,3 +1,5 @@
+//! What is known of the registers of one call.
+
 use crate::edges::along_edge;
 use crate::registers::{forget, set};
 use pg_closed::Decision;

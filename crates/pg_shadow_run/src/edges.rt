@@ -1,4 +1,6 @@
-ghost use Rattle.std.specs.Prelude.{◌≡◌, ◌<◌, ◌∷◌, ◌++◌, [], Some, length, map, IfOk, IfSome, OnOk, OnErr};
+//! What `phi`s take along an edge.
+
+ghost use Rattle.std.specs.Prelude.{◌≡◌, ◌<◌, Some, length, map, IfOk, IfSome, OnOk, OnErr};
 ghost use Rattle.pg_ir.specs.declared.edge.Incoming.{Incoming};
 ghost use Rattle.pg_ir.specs.Edges.{incoming_from, incoming_of};
 ghost use Rattle.pg_closed.specs.Known.{phi_shadow};
@@ -26,31 +28,13 @@ fn incoming(listed: &[Incoming], from: u32) -> Option<Value>
 }
 
 /// The value that a `phi` takes, where this block is left.
-fn phi_operand(x: &Instr, from: u32) -> Option<Value>
+pub fn phi_operand(x: &Instr, from: u32) -> Option<Value>
     ensures { result ≡ incoming_from (incoming_of x.now.op) from }
 {
     match &x.op {
         Op::Phi { from: listed } => incoming(listed.as_slice(), from),
         _ => None,
     }
-}
-
-/// Adds the value that a `phi` takes to a list of sources.
-fn push_phi(
-    nodes: &mut Nodes,
-    p: &Program,
-    from: u32,
-    x: &Instr,
-    registers: &[Source],
-    sources: &mut Vec<Source>,
-) -> Result<(), AllocError>
-    requires registers { AreSources (length nodes.old) registers.now }
-    requires sources { AreSources (length nodes.old) sources.old.items }
-    ensures grew { Grew nodes.old nodes.new }
-    ensures is { OnOk result (AreSources (length nodes.new) sources.new.items) }
-    ensures value { OnOk result (registers_by nodes.new sources.new.items ≡ registers_by nodes.old sources.old.items ++ phi_shadow p.now (registers_by nodes.old registers.now) from x.now ∷ []) }
-{
-    push_optional(nodes, p, phi_operand(x, from), registers, sources)
 }
 
 /// The values that the `phi`s of a block take, where this block is left.
@@ -69,7 +53,8 @@ fn phi_sources(
 {
     let mut sources = Vec::new(alloc);
     for i in 0..phis.len() {
-        push_phi(nodes, p, from, &phis[i], registers, &mut sources)?;
+        let value = phi_operand(&phis[i], from);
+        push_optional(nodes, p, value, registers, &mut sources)?;
     }
     Ok(sources)
 }

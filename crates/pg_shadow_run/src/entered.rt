@@ -1,3 +1,5 @@
+//! The registers of a call that begins.
+
 ghost use Rattle.std.specs.Prelude.{◌≡◌, ◌++◌, ◌-◌, length, map, replicate, IfOk, OnOk};
 ghost use Rattle.pg_ir.specs.Program.{types_of};
 ghost use Rattle.pg_closed.specs.Shadows as shadows;
@@ -14,7 +16,7 @@ use std::alloc::{AllocError, Global};
 
 /// How many registers a function has, none where there is no such function.
 #[tactic(auto, unfolding(pg_ir::specs::Program::types_of), using(crate::proofs::Functions::no_types))]
-fn register_count(p: &Program, f: u32) -> usize
+pub fn register_count(p: &Program, f: u32) -> usize
     ensures { result ≡ length (types_of p.now f) }
 {
     if f < p.function_count() {

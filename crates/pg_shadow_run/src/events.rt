@@ -1,3 +1,5 @@
+//! What events leave in registers.
+
 ghost use Rattle.std.specs.Prelude.{◌≡◌};
 ghost use Rattle.pg_ir.specs.Program.{parameter_count};
 

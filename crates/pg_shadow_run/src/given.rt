@@ -1,3 +1,5 @@
+//! Arguments and operands by a frame's registers.
+
 ghost use Rattle.std.specs.Prelude.{◌≡◌, length, map, slice_index_or, IsTrue, IfOk, IfSome};
 ghost use Rattle.std.specs.Option.{option_map};
 ghost use Rattle.pg_closed.specs.Known as along;
@@ -32,26 +34,6 @@ fn argument(
     optional(nodes, p, args.get(k).copied(), registers)
 }
 
-/// An argument of the call of a function that the program doesn't define.
-pub(crate) fn call_argument(
-    nodes: &mut Nodes,
-    p: &Program,
-    op: &Op,
-    k: usize,
-    registers: &[Source],
-) -> Result<Source, AllocError>
-    requires call { IsKnownCall op.now }
-    requires sources { AreSources (length nodes.old) registers.now }
-    ensures grew { Grew nodes.old nodes.new }
-    ensures is { IfOk result (IsSource (length nodes.new)) }
-    ensures value { IfOk result (λ s. shadow_by nodes.new s ≡ operand_at p.now (registers_by nodes.old registers.now) op.now k) }
-{
-    match op {
-        Op::CallKnown { args, .. } => argument(nodes, p, args.as_slice(), k, registers),
-        _ => unreachable!(),
-    }
-}
-
 /// An operand that decisions and conditions ask for, by the registers of its frame; where there is none, one that was never
 /// set.
 ///
@@ -82,7 +64,7 @@ pub fn operand(
 }
 
 /// The number that is printed.
-#[tactic(auto, using(pg_sources::proofs::Grows::grew_then))]
+#[tactic(auto, using(pg_sources::proofs::Grows::grew_then, crate::proofs::Gives::call_asked))]
 pub(crate) fn printed(
     nodes: &mut Nodes,
     p: &Program,
@@ -95,7 +77,7 @@ pub(crate) fn printed(
     ensures is { IfOk result (IsSource (length nodes.new)) }
     ensures value { IfOk result (λ s. shadow_by nodes.new s ≡ along.low_byte (operand_at p.now (registers_by nodes.old registers.now) op.now 0)) }
 {
-    let s = call_argument(nodes, p, op, 0, registers)?;
+    let s = operand(nodes, p, op, 0, registers)?;
     low_byte(nodes, s)
 }
 

@@ -15,6 +15,8 @@ mod thread;
 mod threads;
 mod words;
 
+pub use edges::phi_operand;
+pub use entered::register_count;
 pub use given::operand;
 pub use step::OpStep;
 pub use thread::ThreadSources;

@@ -1,3 +1,5 @@
+//! What is known of operands.
+
 ghost use Rattle.std.specs.Prelude.{◌≡◌, ℕ, List, ◌∷◌, ◌++◌, [], IsTrue, length, map, IfOk, OnOk};
 ghost use Rattle.pg_ir.specs.declared.value.Index.{Index};
 ghost use Rattle.pg_step.specs.Compute.{computes};

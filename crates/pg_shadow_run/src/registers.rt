@@ -1,3 +1,5 @@
+//! Sources at numbers.
+
 ghost use Rattle.std.specs.Prelude.{◌≡◌, ℕ, length, slice_index_or, slice_set, cond};
 ghost use Rattle.pg_nodes.specs.Nodes.{NodeList};
 ghost use Rattle.pg_closed.specs.Known.{forgotten_from, set_shadow};

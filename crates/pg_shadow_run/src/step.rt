@@ -1,3 +1,5 @@
+//! What is read of a step.
+
 ghost use Rattle.std.specs.Prelude.{◌≡◌, ◌&&◌, not};
 
 /// What is read of a reference run at a step that is neither an access nor an event.

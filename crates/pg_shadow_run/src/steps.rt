@@ -1,3 +1,5 @@
+//! What steps other than accesses and events leave.
+
 use crate::given::given;
 use crate::operands::optional;
 use crate::step::OpStep;

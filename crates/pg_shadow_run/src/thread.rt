@@ -1,3 +1,5 @@
+//! What is known of the registers of a thread.
+
 use crate::call::Registers;
 use crate::entered::{entered, fresh};
 use pg_closed::Decision;

@@ -1,3 +1,5 @@
+//! What is known of the registers of all threads.
+
 ghost use Rattle.std.specs.Prelude.{◌≡◌, ◌<◌, ◌++◌, ◌∷◌, [], List, length, slice_index, IfOk, OnOk, OnErr};
 ghost use Rattle.pg_trace.specs.declared.turn.TurnKind.TheVariants.{Create};
 ghost use Rattle.pg_closed.specs.Extents.{Extent};

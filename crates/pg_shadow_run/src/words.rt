@@ -1,11 +1,13 @@
-ghost use Rattle.std.specs.Prelude.{◌≡◌, ◌++◌, ◌∷◌, [], length, slice_set, IfOk, OnOk, OnErr};
-ghost use Rattle.pg_closed.specs.Known.{exit_shadow, operand_at, returned_shadow};
+//! What returns and exits hand on.
+
+ghost use Rattle.std.specs.Prelude.{◌≡◌, length, slice_set, IfOk, OnOk, OnErr};
+ghost use Rattle.pg_closed.specs.Known.{exit_shadow, returned_shadow};
 ghost use Rattle.pg_closed.specs.Known as along;
 ghost use Rattle.pg_sources.specs.Sources.{Grew, IsSource, shadow_by};
 ghost use Rattle.pg_shadow_run.specs.Sourced.{AreSources, registers_by};
-ghost use Rattle.pg_shadow_run.specs.Events.{HasOperands, IsExit, IsKnownCall};
+ghost use Rattle.pg_shadow_run.specs.Events.{HasOperands, IsExit};
 
-use crate::given::call_argument;
+use crate::given::operand;
 use pg_ir::{Op, Program, Value};
 use pg_nodes::Nodes;
 use pg_sources::{Source, constant, value};
@@ -50,7 +52,7 @@ fn exit_source(
             if thread == 0 {
                 constant(nodes, 0)
             } else {
-                call_argument(nodes, p, op, 0, registers)
+                operand(nodes, p, op, 0, registers)
             }
         }
         _ => unreachable!(),
@@ -65,50 +67,6 @@ fn put_word(words: &mut Vec<Source>, thread: usize, s: Source)
     if thread < words.len() {
         words[thread] = s;
     }
-}
-
-/// The exit of a thread: its word is what it hands on.
-fn hand_on(
-    nodes: &mut Nodes,
-    p: &Program,
-    thread: usize,
-    op: &Op,
-    registers: &[Source],
-    words: &mut Vec<Source>,
-) -> Result<(), AllocError>
-    requires call { IsExit op.now }
-    requires registers { AreSources (length nodes.old) registers.now }
-    requires words { AreSources (length nodes.old) words.old.items }
-    ensures grew { Grew nodes.old nodes.new }
-    ensures is { OnOk result (AreSources (length nodes.new) words.new.items) }
-    ensures same { OnErr result (words.new.items ≡ words.old.items) }
-    ensures value { OnOk result (registers_by nodes.new words.new.items
-        ≡ slice_set (registers_by nodes.old words.old.items) thread (exit_shadow p.now thread (registers_by nodes.old registers.now) op.now)) }
-{
-    let s = exit_source(nodes, p, thread, op, registers)?;
-    put_word(words, thread, s);
-    Ok(())
-}
-
-/// A create: the word of the new thread is its argument.
-fn pass_on(
-    nodes: &mut Nodes,
-    p: &Program,
-    op: &Op,
-    registers: &[Source],
-    words: &mut Vec<Source>,
-) -> Result<(), AllocError>
-    requires call { IsKnownCall op.now }
-    requires registers { AreSources (length nodes.old) registers.now }
-    requires words { AreSources (length nodes.old) words.old.items }
-    ensures grew { Grew nodes.old nodes.new }
-    ensures is { OnOk result (AreSources (length nodes.new) words.new.items) }
-    ensures same { OnErr result (words.new.items ≡ words.old.items) }
-    ensures value { OnOk result (registers_by nodes.new words.new.items ≡ registers_by nodes.old words.old.items ++ operand_at p.now (registers_by nodes.old registers.now) op.now 3 ∷ []) }
-{
-    let s = call_argument(nodes, p, op, 3, registers)?;
-    words.push(s)?;
-    Ok(())
 }
 
 /// The words of the threads after an event: a thread's argument until it ends, then its exit value.
@@ -136,8 +94,16 @@ pub fn words_after(
         ≡ along.words_after p.now thread kind (registers_by nodes.old registers.now) op.now (registers_by nodes.old words.old.items)) }
 {
     match kind {
-        TurnKind::Exit => hand_on(nodes, p, thread, op, registers, words),
-        TurnKind::Create => pass_on(nodes, p, op, registers, words),
+        TurnKind::Exit => {
+            let s = exit_source(nodes, p, thread, op, registers)?;
+            put_word(words, thread, s);
+            Ok(())
+        }
+        TurnKind::Create => {
+            let s = operand(nodes, p, op, 3, registers)?;
+            words.push(s)?;
+            Ok(())
+        }
         _ => Ok(()),
     }
 }

@@ -1,5 +1,6 @@
 -- What is added for the paths of a region, and for operands, as nodes are added.
-use Rattle.std.proofs.Common.{◌≡◌, ℕ, zero, suc, ◌+◌, ◌<◌, ◌≤◌, Bool, true, false, List, [], ◌∷◌, ◌++◌, length, map, take, drop, Option, Some, None, IfSome, slice_get, refl, sym, ap, ◌∙◌, subst, arith}
+use Rattle.std.proofs.Common.{◌≡◌, ℕ, zero, suc, ◌+◌, ◌<◌, ◌≤◌, Bool, true, false, List, [], ◌∷◌, ◌++◌, length, map, take, drop, Option, Some, None, IfSome}
+use Rattle.std.proofs.Common.{slice_get, refl, sym, ap, ◌∙◌, subst, arith}
 use Rattle.std.specs.Prelude.{is_some}
 use Rattle.std.proofs.lemmas.Bool.{false≢true}
 use Rattle.pg_ir.specs.Program.{NumberedProgram}
@@ -24,7 +25,8 @@ use Rattle.pg_sources.specs.Sources.{Grew, IsSource, shadow_by}
 use Rattle.pg_sources.proofs.Grows.{grew_length, grew_then, shadow_kept, source_more}
 
 -- what was read by the registers stays so while nodes are added
-pub later : (f : List Shadow → Shadow) (first second ns : NodeList) (s : Source) (registers : List Source) → Grew first second → Grew second ns → IsSource (length second) s → AreSources (length first) registers →
+pub later : (f : List Shadow → Shadow) (first second ns : NodeList) (s : Source) (registers : List Source) → Grew first second → Grew second ns → IsSource (length second) s
+    → AreSources (length first) registers →
     shadow_by second s ≡ f (registers_by first registers) → shadow_by ns s ≡ f (registers_by ns registers)
 later f first second ns s registers g h is are e =
     shadow_kept second ns s h is ∙ e ∙ ap f (sym (registers_kept first ns registers (grew_then first second ns g h) are))
@@ -49,7 +51,8 @@ pub path_adds : (p : NumberedProgram) (ns : NodeList) (bytes : ℕ → Shadow) (
     Adds ns (path_needs bytes (root_shadow p rs a.path.root) (offsets_of a.path.loads) a.at.pointers a.at.cells a.at.last) old new
 path_adds p ns bytes rs from access offsets pointers old new e f l r h a q =
     subst (λ (y : FreeAccess). Adds ns (path_needs bytes (root_shadow p rs y.path.root) (offsets_of y.path.loads) y.at.pointers y.at.cells y.at.last) old new) q
-    (subst (λ (s : Shadow). Adds ns (path_needs bytes s (offsets_of access.path.loads) (cut access.pointers (offsets_of access.path.loads)) (cells_of (cut access.pointers (offsets_of access.path.loads)) (offsets_of access.path.loads)) access.last) old new) r
+    (subst (λ (s : Shadow). Adds ns (path_needs bytes s (offsets_of access.path.loads) (cut access.pointers (offsets_of access.path.loads))
+    (cells_of (cut access.pointers (offsets_of access.path.loads)) (offsets_of access.path.loads)) access.last) old new) r
     (subst (λ (ks : List ℕ). Adds ns (path_needs bytes from ks (cut access.pointers ks) (cells_of (cut access.pointers ks) ks) access.last) old new) e
     (subst (λ (ws : List ℕ). Adds ns (path_needs bytes from offsets ws (cells_of ws offsets) access.last) old new) f h)))
 
@@ -82,11 +85,13 @@ module _ (p : NumberedProgram) (ns : NodeList) (x : Seen) (bytes : ℕ → Shado
           subst (λ (b : ℕ → Shadow). Adds ns (path_needs b (root_shadow p (registers_before x) a.path.root) (offsets_of a.path.loads) a.at.pointers a.at.cells a.at.last) old between) (sym known)
           (subst (λ (l : List Shadow). Adds ns (path_needs bytes (root_shadow p l a.path.root) (offsets_of a.path.loads) a.at.pointers a.at.cells a.at.last) old between) (sym read) one)
 
-pub accesses_end : (p : NumberedProgram) (ns : NodeList) (x : Seen) (f : FreeRegion) (k : ℕ) (old : Asked) → length f.accesses ≤ k → Adds ns (all_of (free_access_needs p x) (drop k f.accesses)) old old
+pub accesses_end : (p : NumberedProgram) (ns : NodeList) (x : Seen) (f : FreeRegion) (k : ℕ) (old : Asked) → length f.accesses ≤ k
+    → Adds ns (all_of (free_access_needs p x) (drop k f.accesses)) old old
 accesses_end p ns x f k old h = subst (λ (xs : List FreeAccess). Adds ns (all_of (free_access_needs p x) xs) old old) (sym (past_all f.accesses k h)) (adds_none ns old)
 
 -- a landmark's region
-pub region_adds : (p : NumberedProgram) (ns : NodeList) (x : Seen) (q : Option FreeRegion) (f : FreeRegion) (old new : Asked) → q ≡ Some f → Adds ns (all_of (free_access_needs p x) f.accesses) old new → Adds ns (region_needs_in p x q) old new
+pub region_adds : (p : NumberedProgram) (ns : NodeList) (x : Seen) (q : Option FreeRegion) (f : FreeRegion) (old new : Asked) → q ≡ Some f
+    → Adds ns (all_of (free_access_needs p x) f.accesses) old new → Adds ns (region_needs_in p x q) old new
 region_adds p ns x q f old new e h = subst (λ (y : Option FreeRegion). Adds ns (region_needs_in p x y) old new) (sym e) h
 
 pub no_region_adds : (p : NumberedProgram) (ns : NodeList) (x : Seen) (q : Option FreeRegion) (old : Asked) → q ≡ None → Adds ns (region_needs_in p x q) old old
@@ -103,22 +108,26 @@ free_some None h = absurd (false≢true (sym h))
 free_some (Some f) h = (f, refl)
 
 -- where it has no region
-pub at_none : (o : Option Landmark) (P : Landmark → Type 0) → ((l : Landmark) → l.region ≡ None → P l) → (b : Bool) → b ≡ false → IfSome o (λ (l : Landmark). b ≡ is_some l.region) → IfSome o P
+pub at_none : (o : Option Landmark) (P : Landmark → Type 0) → ((l : Landmark) → l.region ≡ None → P l) → (b : Bool) → b ≡ false
+    → IfSome o (λ (l : Landmark). b ≡ is_some l.region) → IfSome o P
 at_none None P f b e h = tt
 at_none (Some l) P f b e h = f l (free_none l.region (sym e ∙ h))
 
 -- where it has one
-pub at_some : (o : Option Landmark) (P : Landmark → Type 0) → ((l : Landmark) (f : FreeRegion) → o ≡ Some l → l.region ≡ Some f → P l) → (b : Bool) → b ≡ true → IfSome o (λ (l : Landmark). b ≡ is_some l.region) → IfSome o P
+pub at_some : (o : Option Landmark) (P : Landmark → Type 0) → ((l : Landmark) (f : FreeRegion) → o ≡ Some l → l.region ≡ Some f → P l) → (b : Bool) → b ≡ true
+    → IfSome o (λ (l : Landmark). b ≡ is_some l.region) → IfSome o P
 at_some None P g b e h = tt
 at_some (Some l) P g b e h = let s = free_some l.region (sym e ∙ h) in g l s.0 refl s.1
 
 -- what is said of its region
-pub said_of : (P : FreeRegion → Type 0) (o : Option Landmark) (f : FreeRegion) → is_some o ≡ true → IfSome o (λ (l : Landmark). l.region ≡ Some f) → IfSome o (λ (l : Landmark). IfSome l.region P) → P f
+pub said_of : (P : FreeRegion → Type 0) (o : Option Landmark) (f : FreeRegion) → is_some o ≡ true → IfSome o (λ (l : Landmark). l.region ≡ Some f)
+    → IfSome o (λ (l : Landmark). IfSome l.region P) → P f
 said_of P None f h e a = absurd (false≢true h)
 said_of P (Some l) f h e a = subst (λ (y : Option FreeRegion). IfSome y P) e a
 
 -- what is said of each region
-pub each_region : (P Q : FreeRegion → Type 0) (o : Option Landmark) → ((f : FreeRegion) → P f → Q f) → IfSome o (λ (l : Landmark). IfSome l.region P) → IfSome o (λ (l : Landmark). IfSome l.region Q)
+pub each_region : (P Q : FreeRegion → Type 0) (o : Option Landmark) → ((f : FreeRegion) → P f → Q f) → IfSome o (λ (l : Landmark). IfSome l.region P)
+    → IfSome o (λ (l : Landmark). IfSome l.region Q)
 each_region P Q None g h = tt
 each_region P Q (Some l) g h = go l.region h
   where

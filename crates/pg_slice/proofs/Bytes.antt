@@ -1,5 +1,6 @@
 -- Bytes of memory that are stored, or forgotten.
-use Rattle.std.proofs.Common.{◌≡◌, ℕ, zero, suc, ◌+◌, ◌-◌, ◌≤◌, ◌&&◌, not, List, [], ◌∷◌, length, drop, Bool, true, false, Result, OnOk, IfSome, is_some, Option, Some, None, slice_get, arith, refl, ap, ◌∙◌, if◌then◌else◌}
+use Rattle.std.proofs.Common.{◌≡◌, ℕ, zero, suc, ◌+◌, ◌-◌, ◌≤◌, ◌&&◌, not, List, [], ◌∷◌, length, drop, Bool, true, false, Result, OnOk, IfSome, is_some}
+use Rattle.std.proofs.Common.{Option, Some, None, slice_get, arith, refl, ap, ◌∙◌, if◌then◌else◌}
 use Rattle.std.proofs.lemmas.Result.{on_ok_weaker}
 use Rattle.pg_num.specs.Places.{ByteRange}
 use Rattle.pg_ir.specs.Program.{NumberedProgram}
@@ -45,14 +46,16 @@ none_left [] (suc i) x bytes h = refl
 none_left (y ∷ xs) zero x bytes h = absurd (omega arith)
 none_left (y ∷ xs) (suc i) x bytes h = none_left xs i x bytes (omega arith)
 
-pub instance_freed : {T E : Type 0} (r : Result T E) (freed pinned : Bool) (n : ℕ) (region : Option FreeRegion) (before after : ℕ → Shadow) (b : ℕ) → (freed && not pinned) ≡ true → freed ≡ is_some region →
+pub instance_freed : {T E : Type 0} (r : Result T E) (freed pinned : Bool) (n : ℕ) (region : Option FreeRegion) (before after : ℕ → Shadow) (b : ℕ) → (freed && not pinned) ≡ true
+    → freed ≡ is_some region →
     IfSome region (λ (f : FreeRegion). OnOk r (after ≡ forgotten_bytes f.accesses (Pinned n) before)) → OnOk r (after b ≡ bytes_freed pinned n region before b)
 instance_freed r false pinned n region before after b i f h = absurd cc
 instance_freed r true true n region before after b i f h = absurd cc
 instance_freed r true false n None before after b i f h = absurd cc
 instance_freed r true false n (Some x) before after b i f h = on_ok_weaker r (λ e. ap (λ (g : ℕ → Shadow). g b) e) h
 
-pub none_freed : (freed pinned : Bool) (n : ℕ) (region : Option FreeRegion) (bytes : ℕ → Shadow) (b : ℕ) → (freed && not pinned) ≡ false → freed ≡ is_some region → bytes b ≡ bytes_freed pinned n region bytes b
+pub none_freed : (freed pinned : Bool) (n : ℕ) (region : Option FreeRegion) (bytes : ℕ → Shadow) (b : ℕ) → (freed && not pinned) ≡ false → freed ≡ is_some region
+    → bytes b ≡ bytes_freed pinned n region bytes b
 none_freed freed true n region bytes b i f = refl
 none_freed freed false n None bytes b i f = refl
 none_freed true false n (Some x) bytes b i f = absurd cc
@@ -61,8 +64,10 @@ none_freed false false n (Some x) bytes b i f = absurd cc
 -- ---- nodes are added, and then bytes are stored or forgotten
 
 -- a number is stored
-pub number_stored : (p : NumberedProgram) (old new : NodeList) (cs after : Changes) (start at count : ℕ) (h : Held) (s : Source) (x : Shadow) (b : ℕ) → Grew old new → AreSources (length old) cs →
-    shadows_of p new after ≡ stored (record { start = start; bytes = count }) (held_shadow new h) (shadows_of p new cs) → start ≡ at → ((k : ℕ) → byte_in k (held_shadow new h) ≡ byte_in k (shadow_by new s)) → shadow_by new s ≡ x →
+pub number_stored : (p : NumberedProgram) (old new : NodeList) (cs after : Changes) (start at count : ℕ) (h : Held) (s : Source) (x : Shadow) (b : ℕ) → Grew old new
+    → AreSources (length old) cs →
+    shadows_of p new after ≡ stored (record { start = start; bytes = count }) (held_shadow new h) (shadows_of p new cs) → start ≡ at
+    → ((k : ℕ) → byte_in k (held_shadow new h) ≡ byte_in k (shadow_by new s)) → shadow_by new s ≡ x →
     shadows_of p new after b ≡ stored (record { start = at; bytes = count }) x (shadows_of p old cs) b
 number_stored p old new cs after start at count h s x b g a e q k v =
     let from : ℕ → ByteRange = λ (i : ℕ). record { start = i; bytes = count } in

@@ -1,6 +1,5 @@
--- What a trace gives of one of its steps, and two facts of one result.
+-- What a trace gives of one of its steps.
 use Rattle.std.proofs.Common.{◌≡◌, ℕ, List, Some, IfSome, slice_get, subst}
-use Rattle.std.specs.Prelude.{Result, Ok, Err, IfOk}
 use Rattle.pg_ir.specs.declared.instr.Instr.{Instr}
 use Rattle.pg_ir.specs.Program.{NumberedProgram}
 use Rattle.pg_trace.specs.declared.step.Step.{Step}
@@ -11,7 +10,3 @@ fits_at p xs n x a e = subst (λ o. IfSome o (FitsStep p)) e (a n)
 
 pub kind_at : (p : NumberedProgram) (x : Step) (i : Instr) → FitsStep p x → slice_get p.instrs x.instr.0 ≡ Some i → FitsKind i.op x.kind
 kind_at p x i f e = subst (λ o. IfSome o (λ (j : Instr). FitsKind j.op x.kind)) e f.kind
-
-pub both_ok : {A E : Type 0} (r : Result A E) (P Q : A → Type 0) → IfOk r P → IfOk r Q → IfOk r (λ a. P a × Q a)
-both_ok (Ok a) P Q p q = (p, q)
-both_ok (Err e) P Q p q = tt

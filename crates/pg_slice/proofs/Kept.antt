@@ -23,7 +23,8 @@ kept_more old new s g a = record {
   words = sources_kept old new s.words.items g a.words;
 }
 
-pub knows_more : (p : NumberedProgram) (old new : NodeList) (pinned : ℕ → Bool) (s : RunSources) (k : RunShadow) → Grew old new → AreKept (length old) s → Knows p old pinned s k → Knows p new pinned s k
+pub knows_more : (p : NumberedProgram) (old new : NodeList) (pinned : ℕ → Bool) (s : RunSources) (k : RunShadow) → Grew old new → AreKept (length old) s → Knows p old pinned s k
+    → Knows p new pinned s k
 knows_more p old new pinned s k g a h = record {
   threads = h.threads ∙ sym (threads_kept old new s.threads.items (extents_of k) g a.threads);
   as_many = h.as_many;
@@ -34,13 +35,15 @@ knows_more p old new pinned s k g a h = record {
 
 -- ---- part by part
 
-pub threads_in : (p : NumberedProgram) (ns : NodeList) (pinned : ℕ → Bool) (s : RunSources) (k : RunShadow) → Knows p ns pinned s k → KnowsThreads ns pinned s.threads.items s.extents.items k.threads
+pub threads_in : (p : NumberedProgram) (ns : NodeList) (pinned : ℕ → Bool) (s : RunSources) (k : RunShadow) → Knows p ns pinned s k
+    → KnowsThreads ns pinned s.threads.items s.extents.items k.threads
 threads_in p ns pinned s k h = record { calls = h.threads; as_many = h.as_many; extents = h.extents }
 
 pub bytes_in : (p : NumberedProgram) (ns : NodeList) (pinned : ℕ → Bool) (s : RunSources) (k : RunShadow) → Knows p ns pinned s k → k.bytes ≡ shadows_of p ns s.memory
 bytes_in p ns pinned s k h = fun_ext (λ b. h.bytes b)
 
-pub registers_in : (p : NumberedProgram) (ns : NodeList) (pinned : ℕ → Bool) (s : RunSources) (k : RunShadow) (t : ℕ) → Knows p ns pinned s k → registers_by ns (sources_in s t) ≡ registers_of k t
+pub registers_in : (p : NumberedProgram) (ns : NodeList) (pinned : ℕ → Bool) (s : RunSources) (k : RunShadow) (t : ℕ) → Knows p ns pinned s k
+    → registers_by ns (sources_in s t) ≡ registers_of k t
 registers_in p ns pinned s k t h = registers_known ns s.threads.items t k.threads h.threads
 
 pub knows_by : (p : NumberedProgram) (ns : NodeList) (pinned : ℕ → Bool) (s : RunSources) (k : RunShadow) → KnowsThreads ns pinned s.threads.items s.extents.items k.threads →
@@ -49,21 +52,24 @@ knows_by p ns pinned s k t b w = record { threads = t.calls; as_many = t.as_many
 
 -- ---- one part changes
 
-pub bytes_known : (p : NumberedProgram) (old new : NodeList) (pinned : ℕ → Bool) (s z : RunSources) (k : RunShadow) (bytes : ℕ → Shadow) → Grew old new → AreKept (length old) s → Knows p old pinned s k →
+pub bytes_known : (p : NumberedProgram) (old new : NodeList) (pinned : ℕ → Bool) (s z : RunSources) (k : RunShadow) (bytes : ℕ → Shadow) → Grew old new → AreKept (length old) s
+    → Knows p old pinned s k →
     z.threads.items ≡ s.threads.items → z.words.items ≡ s.words.items → z.extents.items ≡ s.extents.items → ((b : ℕ) → bytes b ≡ shadows_of p new z.memory b) →
     Knows p new pinned z (record k { bytes = bytes })
 bytes_known p old new pinned s z k bytes g a h threads words extents e =
     let more = knows_more p old new pinned s k g a h in
     knows_by p new pinned z (record k { bytes = bytes }) (rw (threads, extents) (threads_in p new pinned s k more)) e (more.words ∙ ap (registers_by new) (sym words))
 
-pub words_known : (p : NumberedProgram) (old new : NodeList) (pinned : ℕ → Bool) (s z : RunSources) (k : RunShadow) (words : List Shadow) → Grew old new → AreKept (length old) s → Knows p old pinned s k →
+pub words_known : (p : NumberedProgram) (old new : NodeList) (pinned : ℕ → Bool) (s z : RunSources) (k : RunShadow) (words : List Shadow) → Grew old new → AreKept (length old) s
+    → Knows p old pinned s k →
     z.threads.items ≡ s.threads.items → z.memory ≡ s.memory → z.extents.items ≡ s.extents.items → words ≡ registers_by new z.words.items →
     Knows p new pinned z (record k { words = words })
 words_known p old new pinned s z k words g a h threads memory extents e =
     let more = knows_more p old new pinned s k g a h in
     knows_by p new pinned z (record k { words = words }) (rw (threads, extents) (threads_in p new pinned s k more)) (λ b. more.bytes b ∙ ap (λ cs. shadows_of p new cs b) (sym memory)) e
 
-pub threads_known : (p : NumberedProgram) (old new : NodeList) (pinned : ℕ → Bool) (s z : RunSources) (k : RunShadow) (ks : List ThreadShadow) → Grew old new → AreKept (length old) s → Knows p old pinned s k →
+pub threads_known : (p : NumberedProgram) (old new : NodeList) (pinned : ℕ → Bool) (s z : RunSources) (k : RunShadow) (ks : List ThreadShadow) → Grew old new → AreKept (length old) s
+    → Knows p old pinned s k →
     z.memory ≡ s.memory → z.words.items ≡ s.words.items → KnowsThreads new pinned z.threads.items z.extents.items ks →
     Knows p new pinned z (record k { threads = ks })
 threads_known p old new pinned s z k ks g a h memory words t =

@@ -14,3 +14,4 @@ pub mod Slicing
 pub mod Adding
 pub mod Ordering
 pub mod Filling
+pub mod SliceOf

@@ -1,5 +1,6 @@
 -- What all steps of a pass ask, by what each asks by itself and by the footprints that are met.
-use Rattle.std.proofs.Common.{◌≡◌, ℕ, zero, suc, ◌≤◌, ℤ, Bool, true, false, List, [], ◌∷◌, ◌++◌, length, map, take, refl, sym, ap, ◌∙◌, subst, arith, append_assoc, inl, inr, ◌⊎◌}
+use Rattle.std.proofs.Common.{◌≡◌, ℕ, zero, suc, ◌≤◌, ℤ, Bool, true, false, List, [], ◌∷◌, ◌++◌, length, map, take, refl, sym, ap, ◌∙◌, subst, arith}
+use Rattle.std.proofs.Common.{append_assoc, inl, inr, ◌⊎◌}
 use Rattle.std.specs.Prelude.{Contains, ◌↔◌, ◌&&◌, ◌||◌, not, if◌then◌else◌}
 use Rattle.std.specs.List.{list_any}
 use Rattle.std.proofs.lemmas.Bool.{false≢true, true≢false}
@@ -26,7 +27,7 @@ use Rattle.pg_closed.specs.Moments.{Moment, moments_from, moments_of, state_afte
 use Rattle.pg_closed.specs.Rules as rules
 use Rattle.pg_closed.specs.Rules.{Need, all_of, asks_disturbed, asks_frames, asks_pins, asks_shared, asks_values, frame_needs, is_disturbed, is_plain, is_shared, kind_in, need_blames, value_needs}
 use Rattle.pg_least.proofs.Asks.{asked_by, By_disturbed, By_frames, By_pins, By_shared, By_values, in_all_of, IsAskedBy, of_all}
-use Rattle.pg_least.proofs.Zips.{none_in}
+use Rattle.pg_paths.proofs.Elements.{none_in}
 use Rattle.pg_needs.specs.Asks.{all_hold, all_met}
 use Rattle.pg_nodes.specs.Nodes.{NodeList}
 use Rattle.pg_slice.specs.declared.pass.Gathered.{Gathered}
@@ -58,7 +59,8 @@ moments_length gated p input s (t ∷ ts) = ap suc (moments_length gated p input
 pub as_many : (gated : List InstrId) (p : NumberedProgram) (input : List ℤ) (xs : List Step) → length (moments_of gated p input xs) ≡ length xs
 as_many gated p input xs = moments_length gated p input (initial p) (timed_by recorded xs) ∙ timed_length recorded xs
 
-pub all_steps : (p : NumberedProgram) (regions : Regions) (gated : List InstrId) (input : List ℤ) (xs : List Step) (d : Taken) → first_steps (reference_of p regions gated input xs) d (length xs) ≡ seen_in (reference_of p regions gated input xs) d
+pub all_steps : (p : NumberedProgram) (regions : Regions) (gated : List InstrId) (input : List ℤ) (xs : List Step) (d : Taken)
+    → first_steps (reference_of p regions gated input xs) d (length xs) ≡ seen_in (reference_of p regions gated input xs) d
 all_steps p regions gated input xs d =
     let R = reference_of p regions gated input xs in
     let l = seen_length R d 0 (start_of p) (moments_of gated p input xs) ∙ as_many gated p input xs in
@@ -75,7 +77,8 @@ module _ (d : Taken) (q : Footprint → Bool) where
   abbrev met_of : Owner → List Footprint → List Decision
   met_of o ps = asks_of_met d ps (map (λ (f : Footprint). o) ps) (map q ps)
 
-  met_then : (o : Owner) (ps qs : List Footprint) (us : List Owner) (ns : List Bool) → asks_of_met d (ps ++ qs) (map (λ (f : Footprint). o) ps ++ us) (map q ps ++ ns) ≡ met_of o ps ++ asks_of_met d qs us ns
+  met_then : (o : Owner) (ps qs : List Footprint) (us : List Owner) (ns : List Bool)
+      → asks_of_met d (ps ++ qs) (map (λ (f : Footprint). o) ps ++ us) (map q ps ++ ns) ≡ met_of o ps ++ asks_of_met d qs us ns
   met_then o [] qs us ns = refl
   met_then o (p ∷ ps) qs us ns =
       ap (λ l. (if q p then met_asks d p.of_region o else []) ++ l) (met_then o ps qs us ns)
@@ -94,7 +97,8 @@ module _ (d : Taken) (q : Footprint → Bool) where
   met_parts : (y : Seen) → met_of (owner y) (prints_at y) ≡ met_of (owner y) (access_prints y) ++ met_of (owner y) (region_prints y)
   met_parts y =
       ap (λ os. asks_of_met d (prints_at y) os (map q (prints_at y))) (map_both (λ (f : Footprint). owner y) (access_prints y) (region_prints y))
-      ∙ ap (λ ms. asks_of_met d (prints_at y) (map (λ (f : Footprint). owner y) (access_prints y) ++ map (λ (f : Footprint). owner y) (region_prints y)) ms) (map_both q (access_prints y) (region_prints y))
+      ∙ ap (λ ms. asks_of_met d (prints_at y) (map (λ (f : Footprint). owner y) (access_prints y) ++ map (λ (f : Footprint). owner y) (region_prints y)) ms)
+      (map_both q (access_prints y) (region_prints y))
       ∙ met_then (owner y) (access_prints y) (region_prints y) (map (λ (f : Footprint). owner y) (region_prints y)) (map q (region_prints y))
 
   -- some of them is met, and it is asked for
@@ -105,7 +109,8 @@ module _ (d : Taken) (q : Footprint → Bool) where
   met_to r o y [] z c = absurd (none_in z c)
   met_to r o y (f ∷ fs) z c = go (q (of_step r y f)) (λ k. met_to r o y fs z k) c
     where
-      go : (b : Bool) → (Contains (met_of o (map (of_step r y) fs)) z → IsMet r o (map (of_step r y) fs) z) → Contains ((if b then met_asks d r o else []) ++ met_of o (map (of_step r y) fs)) z →
+      go : (b : Bool) → (Contains (met_of o (map (of_step r y) fs)) z → IsMet r o (map (of_step r y) fs) z)
+          → Contains ((if b then met_asks d r o else []) ++ met_of o (map (of_step r y) fs)) z →
           ((b || list_any q (map (of_step r y) fs)) ≡ true) × Contains (met_asks d r o) z
       go false more k = more k
       go true more k = (refl, split (Contains-append_cases (met_asks d r o) (met_of o (map (of_step r y) fs)) z k))
@@ -264,8 +269,10 @@ module _ (R : Reference) (d : Taken) where
 
   asked_one : (y : Seen) (z : Decision) → Contains all y → IsAskedBy R d all y z → Contains all_asked z
   asked_one y z i (By_pins c) = own_of y z i (subst (λ l. Contains l z) (sym (own_is y)) (Contains-append_left (asks_pins d y) (asks_values R d y ++ asks_frames R y) z c))
-  asked_one y z i (By_values c) = own_of y z i (subst (λ l. Contains l z) (sym (own_is y)) (Contains-append_right (asks_pins d y) (asks_values R d y ++ asks_frames R y) z (Contains-append_left (asks_values R d y) (asks_frames R y) z c)))
-  asked_one y z i (By_frames c) = own_of y z i (subst (λ l. Contains l z) (sym (own_is y)) (Contains-append_right (asks_pins d y) (asks_values R d y ++ asks_frames R y) z (Contains-append_right (asks_values R d y) (asks_frames R y) z c)))
+  asked_one y z i (By_values c) = own_of y z i (subst (λ l. Contains l z) (sym (own_is y))
+      (Contains-append_right (asks_pins d y) (asks_values R d y ++ asks_frames R y) z (Contains-append_left (asks_values R d y) (asks_frames R y) z c)))
+  asked_one y z i (By_frames c) = own_of y z i (subst (λ l. Contains l z) (sym (own_is y))
+      (Contains-append_right (asks_pins d y) (asks_values R d y ++ asks_frames R y) z (Contains-append_right (asks_values R d y) (asks_frames R y) z c)))
   asked_one y z i (By_disturbed c) = met_one y z i (Contains-append_right (met_of d q (owner y) (access_prints y)) (met_of d q (owner y) (region_prints y)) z (met_disturbed y z c))
   asked_one y z i (By_shared c) = met_one y z i (Contains-append_left (met_of d q (owner y) (access_prints y)) (met_of d q (owner y) (region_prints y)) z (met_shared y z c))
 
@@ -289,8 +296,10 @@ same_admitted R d ys input e = ap (λ (l : List Seen). all_met (all_of (conditio
 -- ---- a pass
 
 -- what is missing, by what is gathered
-pub missing_is : (p : NumberedProgram) (regions : Regions) (gated : List InstrId) (input : List ℤ) (xs : List Step) (d : Taken) (ns : NodeList) (g : Gathered) (whole : List Decision) → HasPassed (reference_of p regions gated input xs) d (length xs) ns g →
-    whole ≡ g.asked.missing.items ++ asks_of_met d g.prints.prints.items g.prints.owners.items (map (is_met g.prints.prints.items) g.prints.prints.items) → (z : Decision) → Contains whole z ↔ Contains (asks (reference_of p regions gated input xs) d) z
+pub missing_is : (p : NumberedProgram) (regions : Regions) (gated : List InstrId) (input : List ℤ) (xs : List Step) (d : Taken) (ns : NodeList) (g : Gathered) (whole : List Decision)
+    → HasPassed (reference_of p regions gated input xs) d (length xs) ns g →
+    whole ≡ g.asked.missing.items ++ asks_of_met d g.prints.prints.items g.prints.owners.items (map (is_met g.prints.prints.items) g.prints.prints.items) → (z : Decision) → Contains whole z
+    ↔ Contains (asks (reference_of p regions gated input xs) d) z
 missing_is p regions gated input xs d ns g whole a e z =
     let R = reference_of p regions gated input xs in
     let ys = first_steps R d (length xs) in
@@ -301,7 +310,8 @@ missing_is p regions gated input xs d ns g whole a e z =
     let h = all_are_asked R d ys ms ps (all_steps p regions gated input xs d) a.prints refl z in
     (λ k. h.0 (subst (λ (l : List Decision). Contains l z) same k), λ k. subst (λ (l : List Decision). Contains l z) (sym same) (h.1 k))
 
-pub admitted_is : (p : NumberedProgram) (regions : Regions) (gated : List InstrId) (input : List ℤ) (xs : List Step) (d : Taken) (ns : NodeList) (g : Gathered) (other : List ℤ) → HasPassed (reference_of p regions gated input xs) d (length xs) ns g →
+pub admitted_is : (p : NumberedProgram) (regions : Regions) (gated : List InstrId) (input : List ℤ) (xs : List Step) (d : Taken) (ns : NodeList) (g : Gathered) (other : List ℤ)
+    → HasPassed (reference_of p regions gated input xs) d (length xs) ns g →
     all_hold ns g.asked.checks.items other ≡ admits (reference_of p regions gated input xs) d other
 admitted_is p regions gated input xs d ns g other a =
     let R = reference_of p regions gated input xs in

@@ -1,5 +1,6 @@
 -- What a step asks of its operands, by those that are read.
-use Rattle.std.proofs.Common.{◌≡◌, ℕ, zero, suc, ◌<◌, ◌≤◌, Bool, true, false, cond, List, [], ◌∷◌, ◌++◌, length, map, Option, Some, None, IfSome, refl, sym, ap, ◌∙◌, arith, append_assoc}
+use Rattle.std.proofs.Common.{◌≡◌, ℕ, zero, suc, ◌<◌, ◌≤◌, Bool, true, false, cond, List, [], ◌∷◌, ◌++◌, length, map, Option, Some, None, IfSome, refl, sym, ap}
+use Rattle.std.proofs.Common.{◌∙◌, arith, append_assoc}
 use Rattle.std.specs.Prelude.{◌||◌, ◌&&◌, not, if◌then◌else◌, slice_index, is_some}
 use Rattle.std.proofs.lemmas.Bool.{false≢true}
 use Rattle.pg_ir.specs.declared.instr.Op.{Op}
@@ -33,7 +34,8 @@ of_two s (suc zero) h = refl
 of_two s (suc (suc k)) h = absurd (omega (arith, h))
 
 -- it asks of its address alone
-pub access_same : (fixed : Bool) (s : Shadow) (ss : List Shadow) (o : Op) (a : Access) → s ≡ at ss (address_index o) → step_needs fixed (s ∷ s ∷ []) o (kinds.Access a) ≡ step_needs fixed ss o (kinds.Access a)
+pub access_same : (fixed : Bool) (s : Shadow) (ss : List Shadow) (o : Op) (a : Access) → s ≡ at ss (address_index o)
+    → step_needs fixed (s ∷ s ∷ []) o (kinds.Access a) ≡ step_needs fixed ss o (kinds.Access a)
 access_same fixed s ss o a h =
     ap (λ (x : Shadow). (if a.event || fixed then Value x (test.Eq a.pointer ∷ []) ∷ [] else []) ++ frame_by x (Some a)) (of_two s (address_index o) (index_small o) ∙ h)
 
@@ -142,10 +144,6 @@ pub malloc_asked : (o : Op) → is_malloc o ≡ true → IsAsked o 0
 malloc_asked (op.CallKnown f args) h = tt
 malloc_asked o h = absurd (false≢true h)
 
-pub call_asked : (o : Op) (k : ℕ) → IsKnownCall o → IsAsked o k
-call_asked (op.CallKnown f args) k h = tt
-call_asked o k h = absurd h
-
 pub branch_asked : (o : Op) → FitsBranch o → IsAsked o 0
 branch_asked (op.CondBr c a b) h = tt
 branch_asked (op.Switch w on other cases) h = refl
@@ -155,7 +153,8 @@ branch_asked o h = absurd h
 pub branch_same : (fixed : Bool) (s : Shadow) (ss : List Shadow) (o : Op) (k : ℕ) → s ≡ at ss 0 → step_needs fixed (s ∷ []) o (kinds.Branch k) ≡ step_needs fixed ss o (kinds.Branch k)
 branch_same fixed s ss o k h = ap (λ (x : Shadow). (if fixed then Value x (edge_tests o k) ∷ [] else []) ++ []) h
 
-pub size_same : (fixed : Bool) (s : Shadow) (ss : List Shadow) (o : Op) (size place : ℕ) → s ≡ at ss 0 → step_needs fixed (s ∷ []) o (kinds.Allocation size place) ≡ step_needs fixed ss o (kinds.Allocation size place)
+pub size_same : (fixed : Bool) (s : Shadow) (ss : List Shadow) (o : Op) (size place : ℕ) → s ≡ at ss 0
+    → step_needs fixed (s ∷ []) o (kinds.Allocation size place) ≡ step_needs fixed ss o (kinds.Allocation size place)
 size_same fixed s ss o size place h = ap (λ (x : Shadow). (if is_malloc o then Value x (test.Eq size ∷ []) ∷ [] else []) ++ []) h
 
 pub no_size : (fixed : Bool) (ss : List Shadow) (o : Op) (size place : ℕ) → is_malloc o ≡ false → step_needs fixed ss o (kinds.Allocation size place) ≡ []

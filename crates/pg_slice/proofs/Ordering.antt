@@ -1,5 +1,6 @@
 -- Footprints that are added step by step are in order.
-use Rattle.std.proofs.Common.{◌≡◌, ◌≢◌, ℕ, zero, suc, ◌+◌, ◌<◌, ◌≤◌, List, [], ◌∷◌, ◌++◌, Some, slice_get, length, length-append, refl, sym, ap, ◌∙◌, subst, arith, append_assoc}
+use Rattle.std.proofs.Common.{◌≡◌, ◌≢◌, ℕ, zero, suc, ◌+◌, ◌<◌, ◌≤◌, List, [], ◌∷◌, ◌++◌, Some, slice_get, length, length-append, refl, sym, ap}
+use Rattle.std.proofs.Common.{◌∙◌, subst, arith, append-nil, append_assoc}
 use Rattle.std.specs.Prelude.{slice_index_or}
 use Rattle.std.specs.List.{AllByRecursion}
 use Rattle.pg_conflicts.specs.declared.footprint.Footprint.{Footprint}
@@ -17,25 +18,15 @@ use Rattle.pg_trace.specs.Races.{recorded, timed_by}
 use Rattle.pg_slice.specs.declared.prints.Owner.{Owner}
 use Rattle.pg_slice.specs.declared.prints.Prints.{Prints}
 use Rattle.pg_slice.specs.Timed.{AddsOf, AreEarlier, IsEarlier, IsOf}
-
-append_none : {A : Type 0} (xs : List A) → xs ++ [] ≡ xs
-append_none [] = refl
-append_none (x ∷ xs) = ap (λ ys. x ∷ ys) (append_none xs)
-
-all_append : {A : Type 0} (P : A → Type 0) (xs ys : List A) → AllByRecursion P xs → AllByRecursion P ys → AllByRecursion P (xs ++ ys)
-all_append P [] ys a b = b
-all_append P (x ∷ xs) ys a b = (a.0, all_append P xs ys a.1 b)
-
-all_weaker : {A : Type 0} (P Q : A → Type 0) (xs : List A) → ((x : A) → P x → Q x) → AllByRecursion P xs → AllByRecursion Q xs
-all_weaker P Q [] f a = tt
-all_weaker P Q (x ∷ xs) f a = (f x a.0, all_weaker P Q xs f a.1)
+use Rattle.pg_footprints.proofs.Ordered.{all_append, all_weaker}
 
 -- ---- footprints of one step
 
 pub adds_nothing : (x : Step) (i : Interval) (ps : Prints) → AddsOf x i ps ps
-adds_nothing x i ps = record { behind = []; owned = []; prints = sym (append_none ps.prints.items); owners = sym (append_none ps.owners.items); each = tt; as_many = refl }
+adds_nothing x i ps = record { behind = []; owned = []; prints = sym (append-nil ps.prints.items); owners = sym (append-nil ps.owners.items); each = tt; as_many = refl }
 
-pub adds_one : (x : Step) (i : Interval) (old new : Prints) (f : Footprint) (o : Owner) → new.prints.items ≡ old.prints.items ++ f ∷ [] → new.owners.items ≡ old.owners.items ++ o ∷ [] → f.thread.0 ≡ x.thread.0 → f.low ≡ i.low → f.high ≡ i.high →
+pub adds_one : (x : Step) (i : Interval) (old new : Prints) (f : Footprint) (o : Owner) → new.prints.items ≡ old.prints.items ++ f ∷ [] → new.owners.items ≡ old.owners.items ++ o ∷ []
+    → f.thread.0 ≡ x.thread.0 → f.low ≡ i.low → f.high ≡ i.high →
     AddsOf x i old new
 adds_one x i old new f o e w t l h = record { behind = f ∷ []; owned = o ∷ []; prints = e; owners = w; each = (record { thread = t; low = l; high = h }, tt); as_many = refl }
 
@@ -83,15 +74,18 @@ earlier_none xs ps e h = record {
   as_many = ap (λ l. length l) h ∙ sym (ap (λ l. length l) e);
 }
 
-pub earlier_more : (xs : List Step) (intervals : List Interval) (n : ℕ) (x : Step) (i : Interval) (old new : Prints) → intervals ≡ intervals_of Recorded xs → slice_get xs n ≡ Some x → i ≡ slice_index_or intervals n i →
+pub earlier_more : (xs : List Step) (intervals : List Interval) (n : ℕ) (x : Step) (i : Interval) (old new : Prints) → intervals ≡ intervals_of Recorded xs → slice_get xs n ≡ Some x
+    → i ≡ slice_index_or intervals n i →
     AddsOf x i old new → AreEarlier xs n old → AreEarlier xs (n + 1) new
 earlier_more xs intervals n x i old new e at is a b = record {
   order = subst (λ (l : List Footprint). InOrder l) (sym a.prints) (pairs_append old.prints.items a.behind b.order (own_order x i a.behind a.each)
-      (all_weaker (IsEarlier xs n) (λ p. AllByRecursion (stand p) a.behind) old.prints.items (λ p h. all_weaker (IsOf x i) (stand p) a.behind (λ q k d. subst (λ m. p.low ≤ m) (sym k.high) (up p h)) a.each) b.each));
+      (all_weaker (IsEarlier xs n) (λ p. AllByRecursion (stand p) a.behind) old.prints.items
+      (λ p h. all_weaker (IsOf x i) (stand p) a.behind (λ q k d. subst (λ m. p.low ≤ m) (sym k.high) (up p h)) a.each) b.each));
   each = subst (λ (l : List Footprint). AllByRecursion (IsEarlier xs (n + 1)) l) (sym a.prints) (all_append (IsEarlier xs (n + 1)) old.prints.items a.behind
       (all_weaker (IsEarlier xs n) (IsEarlier xs (n + 1)) old.prints.items (λ p h j t l. h j t (omega (arith, l))) b.each)
       (all_weaker (IsOf x i) (IsEarlier xs (n + 1)) a.behind (λ p h j t l k. subst (λ m. m ≤ t.high) (sym h.low) (below j t l k)) a.each));
-  as_many = ap (λ l. length l) a.owners ∙ length-append old.owners.items a.owned ∙ ap (λ m. m + length a.owned) b.as_many ∙ ap (λ m. length old.prints.items + m) a.as_many ∙ sym (length-append old.prints.items a.behind) ∙ sym (ap (λ l. length l) a.prints);
+  as_many = ap (λ l. length l) a.owners ∙ length-append old.owners.items a.owned ∙ ap (λ m. m + length a.owned) b.as_many ∙ ap (λ m. length old.prints.items + m) a.as_many
+      ∙ sym (length-append old.prints.items a.behind) ∙ sym (ap (λ l. length l) a.prints);
 }
   where
     here : Timed Step

@@ -1,5 +1,6 @@
 -- One step more of a pass.
-use Rattle.std.proofs.Common.{◌≡◌, ℕ, zero, suc, ◌+◌, ◌<◌, ◌≤◌, ℤ, Bool, true, false, List, [], ◌∷◌, ◌++◌, length, map, take, Option, Some, None, option_map, slice_get, refl, sym, ap, ◌∙◌, subst, arith, append_assoc}
+use Rattle.std.proofs.Common.{◌≡◌, ℕ, zero, suc, ◌+◌, ◌<◌, ◌≤◌, ℤ, Bool, true, false, List, [], ◌∷◌, ◌++◌, length, map, take, Option, Some, None}
+use Rattle.std.proofs.Common.{option_map, slice_get, refl, sym, ap, ◌∙◌, subst, arith, append_assoc}
 use Rattle.std.specs.Prelude.{◌&&◌, if◌then◌else◌, slice_index_or}
 use Rattle.std.specs.List.{list_all}
 use Rattle.pg_ir.specs.declared.ids.InstrId.{InstrId}
@@ -51,7 +52,8 @@ use Rattle.pg_slice.proofs.Along.{known_more, steps_more}
 
 -- ---- while nodes are added
 
-pub knows_kept : (p : NumberedProgram) (old new : NodeList) (pinned : ℕ → Bool) (s : RunSources) (k : RunShadow) → Grew old new → AreKept (length old) s → Knows p old pinned s k → Knows p new pinned s k
+pub knows_kept : (p : NumberedProgram) (old new : NodeList) (pinned : ℕ → Bool) (s : RunSources) (k : RunShadow) → Grew old new → AreKept (length old) s → Knows p old pinned s k
+    → Knows p new pinned s k
 knows_kept p old new pinned s k g a h = record {
   threads = h.threads ∙ sym (threads_kept old new s.threads.items (extents_of k) g a.threads);
   as_many = h.as_many;
@@ -89,7 +91,8 @@ all_more f (y ∷ xs) x = ap (λ l. f y ++ l) (all_more f xs x) ∙ sym (append_
 
 prints_more : (xs : List Seen) (x : Seen) → prints_of (xs ++ x ∷ []) ≡ prints_of xs ++ (access_prints x ++ region_prints x)
 prints_more [] x = append_none (access_prints x ++ region_prints x)
-prints_more (y ∷ xs) x = ap (λ l. (access_prints y ++ region_prints y) ++ l) (prints_more xs x) ∙ sym (append_assoc (access_prints y ++ region_prints y) (prints_of xs) (access_prints x ++ region_prints x))
+prints_more (y ∷ xs) x = ap (λ l. (access_prints y ++ region_prints y) ++ l) (prints_more xs x)
+    ∙ sym (append_assoc (access_prints y ++ region_prints y) (prints_of xs) (access_prints x ++ region_prints x))
 
 owners_more : (xs : List Seen) (x : Seen) → owners_of (xs ++ x ∷ []) ≡ owners_of xs ++ owners_at x
 owners_more [] x = append_none (owners_at x)
@@ -127,10 +130,12 @@ pub record IsMoment (gated : List InstrId) (p : NumberedProgram) (input : List �
   pub low : moment.did.low ≡ i.low
   pub high : moment.did.high ≡ i.high
 
-pub has_moment : (gated : List InstrId) (p : NumberedProgram) (input : List ℤ) (xs : List Step) (n : ℕ) (x : Step) (i : Interval) (intervals : List Interval) → intervals ≡ intervals_of Recorded xs →
+pub has_moment : (gated : List InstrId) (p : NumberedProgram) (input : List ℤ) (xs : List Step) (n : ℕ) (x : Step) (i : Interval) (intervals : List Interval)
+    → intervals ≡ intervals_of Recorded xs →
     slice_get xs n ≡ Some x → i ≡ slice_index_or intervals n i → IsMoment gated p input xs n x i
 has_moment gated p input xs n x i intervals e h at =
-    let m = moment_at gated p input (initial p) (timed_by recorded xs) n (record { did = x; low = (slice_index_or intervals n i).low; high = (slice_index_or intervals n i).high }) (timed_get recorded xs intervals n x i e h) in
+    let m = moment_at gated p input (initial p) (timed_by recorded xs) n (record { did = x; low = (slice_index_or intervals n i).low; high = (slice_index_or intervals n i).high })
+    (timed_get recorded xs intervals n x i e h) in
     record {
       moment = m.0;
       stands = m.1;
@@ -165,10 +170,12 @@ ends_few V T k (x ∷ xs) (suc n) t h =
     let l = e.0 in
     (omega (arith, l, o), e.1)
 
-pub few_turns : (xs : List Step) (intervals : List Interval) (n : ℕ) (x : Step) (i : Interval) → intervals ≡ intervals_of Recorded xs → slice_get xs n ≡ Some x → i ≡ slice_index_or intervals n i →
+pub few_turns : (xs : List Step) (intervals : List Interval) (n : ℕ) (x : Step) (i : Interval) → intervals ≡ intervals_of Recorded xs → slice_get xs n ≡ Some x
+    → i ≡ slice_index_or intervals n i →
     (i.low ≤ length xs) × (i.high ≤ length xs)
 few_turns xs intervals n x i e h at =
-    let f = ends_few recorded (owners recorded xs) 0 xs n (record { did = x; low = (slice_index_or intervals n i).low; high = (slice_index_or intervals n i).high }) (timed_get recorded xs intervals n x i e h) in
+    let f = ends_few recorded (owners recorded xs) 0 xs n (record { did = x; low = (slice_index_or intervals n i).low; high = (slice_index_or intervals n i).high })
+    (timed_get recorded xs intervals n x i e h) in
     let o = owners_few recorded xs in
     let low = f.0 in
     let high = f.1 in
@@ -178,7 +185,8 @@ few_turns xs intervals n x i e h at =
 
 -- ---- the pass
 
-pub is_at : (R : Reference) (d : Taken) (r : ReferenceRun) (n : ℕ) (x : Step) (i : Instr) (ns : NodeList) (s : RunSources) (m : Moment) → HasLandmarks R r → slice_get R.moments n ≡ Some m → m.did.did ≡ x →
+pub is_at : (R : Reference) (d : Taken) (r : ReferenceRun) (n : ℕ) (x : Step) (i : Instr) (ns : NodeList) (s : RunSources) (m : Moment) → HasLandmarks R r → slice_get R.moments n ≡ Some m
+    → m.did.did ≡ x →
     slice_get R.program.instrs x.instr.0 ≡ Some i → Knows R.program ns d.pinned s (known_at R d n) → IsAt R d R.program ns s r n x i (step_from R d n (known_at R d n) m)
 is_at R d r n x i ns s m marks got e h k = record {
   program = refl;
@@ -210,7 +218,8 @@ module _ (R : Reference) (d : Taken) (n : ℕ) (m : Moment) (got : slice_get R.m
   pub passed_more : (old new : NodeList) (g h : Gathered) → Grew old new → HasPassed R d n old g → Knows R.program new d.pinned h.sources (after_step R d n m (known_at R d n)) →
       h.asked.missing.items ≡ g.asked.missing.items ++ own_asks R d here →
       ((input : List ℤ) → all_hold new h.asked.checks.items input ≡ (all_hold new g.asked.checks.items input && all_met (conditions_at R d here) input)) →
-      AreNamed (length new) h.asked.checks.items → h.prints.prints.items ≡ g.prints.prints.items ++ (access_prints here ++ region_prints here) → h.prints.owners.items ≡ g.prints.owners.items ++ owners_at here →
+      AreNamed (length new) h.asked.checks.items → h.prints.prints.items ≡ g.prints.prints.items ++ (access_prints here ++ region_prints here)
+      → h.prints.owners.items ≡ g.prints.owners.items ++ owners_at here →
       HasPassed R d (n + 1) new h
   passed_more old new g h grew a known missing checks named prints owned = record {
     known = subst (λ (k : RunShadow). Knows R.program new d.pinned h.sources k) (sym (known_next R d n m got)) known;
@@ -239,7 +248,8 @@ module _ (R : Reference) (d : Taken) (n : ℕ) (m : Moment) (got : slice_get R.m
   }
 
 -- before the first step
-pub passed_none : (R : Reference) (d : Taken) (ns : NodeList) (g : Gathered) → Knows R.program ns d.pinned g.sources (start_of R.program) → g.asked.missing.items ≡ [] → g.asked.checks.items ≡ [] →
+pub passed_none : (R : Reference) (d : Taken) (ns : NodeList) (g : Gathered) → Knows R.program ns d.pinned g.sources (start_of R.program) → g.asked.missing.items ≡ []
+    → g.asked.checks.items ≡ [] →
     g.prints.prints.items ≡ [] → g.prints.owners.items ≡ [] → HasPassed R d 0 ns g
 unfolding known_from
 passed_none R d ns g known missing checks prints owned = record {

@@ -1,5 +1,6 @@
 -- The footprints of the regions of steps, one after another.
-use Rattle.std.proofs.Common.{◌≡◌, ℕ, zero, suc, ◌+◌, ◌<◌, ◌≤◌, Bool, true, false, List, [], ◌∷◌, ◌++◌, length, map, drop, Option, Some, None, IfSome, option_map, slice_get, refl, sym, ap, ◌∙◌, subst, arith, append_assoc}
+use Rattle.std.proofs.Common.{◌≡◌, ℕ, zero, suc, ◌+◌, ◌<◌, ◌≤◌, Bool, true, false, List, [], ◌∷◌, ◌++◌, length, map, drop, Option, Some, None, IfSome}
+use Rattle.std.proofs.Common.{option_map, slice_get, refl, sym, ap, ◌∙◌, subst, arith, append_assoc}
 use Rattle.std.specs.Prelude.{if◌then◌else◌, is_some}
 use Rattle.std.proofs.lemmas.Bool.{false≢true}
 use Rattle.pg_closed.specs.Freeable.{FreeAccess, FreeRegion, frame_of}
@@ -39,16 +40,19 @@ some_of None h = absurd (false≢true (sym h))
 some_of (Some a) h = (a, refl)
 
 -- its region
-pub no_region : (o : Option Landmark) (q : Option FreeRegion) → is_some o ≡ true → IfSome o (λ (l : Landmark). q ≡ l.region) → IfSome o (λ (l : Landmark). false ≡ is_some l.region) → q ≡ None
+pub no_region : (o : Option Landmark) (q : Option FreeRegion) → is_some o ≡ true → IfSome o (λ (l : Landmark). q ≡ l.region) → IfSome o (λ (l : Landmark). false ≡ is_some l.region)
+    → q ≡ None
 no_region None q h a b = absurd (false≢true h)
 no_region (Some l) q h a b = a ∙ none_of l.region b
 
-pub a_region : (o : Option Landmark) (q : Option FreeRegion) → is_some o ≡ true → IfSome o (λ (l : Landmark). q ≡ l.region) → IfSome o (λ (l : Landmark). true ≡ is_some l.region) → (f : FreeRegion) × (q ≡ Some f)
+pub a_region : (o : Option Landmark) (q : Option FreeRegion) → is_some o ≡ true → IfSome o (λ (l : Landmark). q ≡ l.region) → IfSome o (λ (l : Landmark). true ≡ is_some l.region)
+    → (f : FreeRegion) × (q ≡ Some f)
 a_region None q h a b = absurd (false≢true h)
 a_region (Some l) q h a b = let s = some_of l.region b in (s.0, a ∙ s.1)
 
 -- what is said of it
-pub of_region : (P : FreeRegion → Type 0) (o : Option Landmark) (q : Option FreeRegion) (f : FreeRegion) → is_some o ≡ true → IfSome o (λ (l : Landmark). q ≡ l.region) → q ≡ Some f → IfSome o (λ (l : Landmark). IfSome l.region P) → P f
+pub of_region : (P : FreeRegion → Type 0) (o : Option Landmark) (q : Option FreeRegion) (f : FreeRegion) → is_some o ≡ true → IfSome o (λ (l : Landmark). q ≡ l.region) → q ≡ Some f
+    → IfSome o (λ (l : Landmark). IfSome l.region P) → P f
 of_region P None q f h a e b = absurd (false≢true h)
 of_region P (Some l) q f h a e b = subst (λ (y : Option FreeRegion). IfSome y P) (sym a ∙ e) b
 
@@ -145,13 +149,15 @@ map_both f (x ∷ xs) ys = ap (λ l. f x ∷ l) (map_both f xs ys)
 pub then_added : {A : Type 0} (old between new xs ys : List A) → between ≡ old ++ xs → new ≡ between ++ ys → new ≡ old ++ (xs ++ ys)
 then_added old between new xs ys e f = f ∙ ap (λ l. l ++ ys) e ∙ append_assoc old xs ys
 
-pub then_owned : (x : Seen) (o : Owner) (old between new : List Owner) → o ≡ owner x → between ≡ old ++ map (λ (f : Footprint). o) (access_prints x) → new ≡ between ++ map (λ (f : Footprint). o) (region_prints x) → new ≡ old ++ owners_at x
+pub then_owned : (x : Seen) (o : Owner) (old between new : List Owner) → o ≡ owner x → between ≡ old ++ map (λ (f : Footprint). o) (access_prints x)
+    → new ≡ between ++ map (λ (f : Footprint). o) (region_prints x) → new ≡ old ++ owners_at x
 then_owned x o old between new h e f =
     then_added old between new (map (λ (y : Footprint). o) (access_prints x)) (map (λ (y : Footprint). o) (region_prints x)) e f
     ∙ ap (λ l. old ++ l) (sym (map_both (λ (y : Footprint). o) (access_prints x) (region_prints x)))
     ∙ ap (λ (z : Owner). old ++ map (λ (y : Footprint). z) (access_prints x ++ region_prints x)) h
 
-pub owner_is : (x : Seen) (step : Step) (i : Interval) (n : ℕ) (plain : Bool) → IsTimed x step i → x.number ≡ n → plain ≡ rules.is_plain step.kind → record { step = n; plain = plain } ≡ owner x
+pub owner_is : (x : Seen) (step : Step) (i : Interval) (n : ℕ) (plain : Bool) → IsTimed x step i → x.number ≡ n → plain ≡ rules.is_plain step.kind
+    → record { step = n; plain = plain } ≡ owner x
 owner_is x step i n plain t e h = rw (sym e, h, sym t.did) refl
 
 pub not_there : {A B : Type 0} (f : A → B) (o : Option A) (q : Option B) (b : B) → o ≡ None → option_map f o ≡ q → q ≡ Some b → ⊥

@@ -1,5 +1,6 @@
 -- What a step of a run reads of what is kept, and what a live step asks.
-use Rattle.std.proofs.Common.{◌≡◌, ℕ, zero, suc, ◌<◌, ◌≤◌, ℤ, Bool, true, false, cond, List, [], ◌∷◌, ◌++◌, length, map, Option, Some, None, IfSome, replicate, refl, sym, ap, ◌∙◌, subst, arith, append_assoc}
+use Rattle.std.proofs.Common.{◌≡◌, ℕ, zero, suc, ◌<◌, ◌≤◌, ℤ, Bool, true, false, cond, List, [], ◌∷◌, ◌++◌, length, map, Option, Some, None, IfSome, replicate}
+use Rattle.std.proofs.Common.{refl, sym, ap, ◌∙◌, subst, arith, append_assoc}
 use Rattle.std.specs.Prelude.{◌&&◌, not, if◌then◌else◌, is_some, slice_index_or}
 use Rattle.std.proofs.lemmas.Bool.{false≢true}
 use mathlib.Core.Path.{fun_ext}
@@ -48,14 +49,16 @@ use Rattle.pg_slice.specs.State.{AreKept, Knows, extents_of, sources_in}
 
 -- ---- the registers of a step's thread
 
-top_known : (ns : NodeList) (ts : List CallList) (extents : List (List Extent)) (t : ℕ) → top_of (slice_index_or (threads_by ns ts extents) t no_thread).calls ≡ registers_by ns (top_sources (slice_index_or ts t []))
+top_known : (ns : NodeList) (ts : List CallList) (extents : List (List Extent)) (t : ℕ)
+    → top_of (slice_index_or (threads_by ns ts extents) t no_thread).calls ≡ registers_by ns (top_sources (slice_index_or ts t []))
 top_known ns [] extents t = refl
 top_known ns (c ∷ ts) [] zero = sym (top_by ns c)
 top_known ns (c ∷ ts) [] (suc t) = top_known ns ts [] t
 top_known ns (c ∷ ts) (e ∷ extents) zero = sym (top_by ns c)
 top_known ns (c ∷ ts) (e ∷ extents) (suc t) = top_known ns ts extents t
 
-pub registers_at : (R : Reference) (d : Taken) (p : NumberedProgram) (ns : NodeList) (s : RunSources) (r : ReferenceRun) (n : ℕ) (step : Step) (i : Instr) (x : Seen) → IsAt R d p ns s r n step i x →
+pub registers_at : (R : Reference) (d : Taken) (p : NumberedProgram) (ns : NodeList) (s : RunSources) (r : ReferenceRun) (n : ℕ) (step : Step) (i : Instr) (x : Seen)
+    → IsAt R d p ns s r n step i x →
     registers_before x ≡ registers_by ns (sources_in s step.thread.0)
 registers_at R d p ns s r n step i x a =
     ap (λ ts. top_of (slice_index_or ts (thread_in x.moment) no_thread).calls) a.before.threads
@@ -105,7 +108,8 @@ module _ (R : Reference) (d : Taken) (x : Seen) where
       needs_at R d x ≡ step_needs (fixed_by d (kind_in x) x.number) (operand_shadows R.program (registers_before x) i.op) i.op (kind_in x) ++ region_needs_in R.program x x.region
   live_needs i l e =
       ap (λ (o : Option Instr). rules.value_needs_in R.program d x o ++ (rules.access_needs_in R.program x o ++ (if x.live then behind else []))) e
-      ∙ ap (λ (b : Bool). (if b then rules.value_needs_by R.program d x i (kind_in x) else []) ++ ((if b then rules.access_needs_by R.program x i (kind_in x) else []) ++ (if b then behind else []))) l
+      ∙ ap (λ (b : Bool). (if b then rules.value_needs_by R.program d x i (kind_in x) else [])
+      ++ ((if b then rules.access_needs_by R.program x i (kind_in x) else []) ++ (if b then behind else []))) l
       ∙ sym (append_assoc (rules.value_needs_by R.program d x i (kind_in x)) (rules.access_needs_by R.program x i (kind_in x)) behind)
       ∙ ap (λ (ns : List Need). ns ++ behind) (by_rules R.program d x i (kind_in x))
 
@@ -114,7 +118,8 @@ module _ (R : Reference) (d : Taken) (x : Seen) where
     where
       go : (o : Option Instr) → rules.value_needs_in R.program d x o ++ (rules.access_needs_in R.program x o ++ (if x.live then behind else [])) ≡ []
       go None = ap (λ (b : Bool). if b then behind else []) l
-      go (Some i) = ap (λ (b : Bool). (if b then rules.value_needs_by R.program d x i (kind_in x) else []) ++ ((if b then rules.access_needs_by R.program x i (kind_in x) else []) ++ (if b then behind else []))) l
+      go (Some i) = ap (λ (b : Bool). (if b then rules.value_needs_by R.program d x i (kind_in x) else [])
+          ++ ((if b then rules.access_needs_by R.program x i (kind_in x) else []) ++ (if b then behind else []))) l
 
   has_some : (q : Option FreeRegion) → has_region q ≡ is_some q
   has_some None = refl
@@ -142,8 +147,10 @@ module _ (R : Reference) (d : Taken) (x : Seen) where
   nothing_checked l = conditions_are ∙ ap (λ (ns : List Need). all_of need_conditions ns) (dead_needs l)
 
   -- the pin, then what the needs blame
-  pub own_live : (old between new : List Decision) (needs : List Need) (kind : StepKind) (n : ℕ) (region : Option FreeRegion) → x.live ≡ true → kind_in x ≡ kind → x.number ≡ n → x.region ≡ region →
-      between ≡ old ++ (if (is_branch kind && not (is_some region)) && not (d.pinned n) then Pinned n ∷ [] else []) → new ≡ between ++ all_of need_blames needs → needs_at R d x ≡ needs → new ≡ old ++ own_asks R d x
+  pub own_live : (old between new : List Decision) (needs : List Need) (kind : StepKind) (n : ℕ) (region : Option FreeRegion) → x.live ≡ true → kind_in x ≡ kind → x.number ≡ n
+      → x.region ≡ region →
+      between ≡ old ++ (if (is_branch kind && not (is_some region)) && not (d.pinned n) then Pinned n ∷ [] else []) → new ≡ between ++ all_of need_blames needs
+      → needs_at R d x ≡ needs → new ≡ old ++ own_asks R d x
   own_live old between new needs kind n region l k m q first second same =
       second
       ∙ ap (λ (ys : List Decision). ys ++ all_of need_blames needs) first
@@ -189,7 +196,8 @@ module _ (R : Reference) (d : Taken) (p : NumberedProgram) (old : NodeList) (s :
     bytes_now : y.before.bytes ≡ bytes.shadows_of p ns s.memory
     bytes_now = bytes_at R d p old s r n step i y a ∙ sym (shadows_kept p old ns s.memory grew kept.bytes)
 
-    steps_asked : (fixed : Bool) → fixed ≡ fixed_by d step.kind n → step_needs fixed (operand_shadows p (registers_by ns regs) i.op) i.op step.kind ≡ step_needs (fixed_by d (kind_in y) y.number) (operand_shadows R.program (registers_before y) i.op) i.op (kind_in y)
+    steps_asked : (fixed : Bool) → fixed ≡ fixed_by d step.kind n → step_needs fixed (operand_shadows p (registers_by ns regs) i.op) i.op step.kind
+        ≡ step_needs (fixed_by d (kind_in y) y.number) (operand_shadows R.program (registers_before y) i.op) i.op (kind_in y)
     steps_asked fixed h =
         ap (λ (b : Bool). step_needs b (operand_shadows p (registers_by ns regs) i.op) i.op step.kind) h
         ∙ ap (λ (k : ℕ). step_needs (fixed_by d step.kind k) (operand_shadows p (registers_by ns regs) i.op) i.op step.kind) (sym a.number)
@@ -197,8 +205,10 @@ module _ (R : Reference) (d : Taken) (p : NumberedProgram) (old : NodeList) (s :
         ∙ ap (λ (l : List Shadow). step_needs (fixed_by d (kind_in y) y.number) (operand_shadows p l i.op) i.op (kind_in y)) (sym registers_now)
         ∙ ap (λ (q : NumberedProgram). step_needs (fixed_by d (kind_in y) y.number) (operand_shadows q (registers_before y) i.op) i.op (kind_in y)) (sym a.program)
 
-    pub live_adds : (fixed : Bool) → fixed ≡ fixed_by d step.kind n → y.live ≡ true → (mid between new : Asked) → Adds ns (step_needs fixed (operand_shadows p (registers_by ns regs) i.op) i.op step.kind) mid between →
-        IfSome (landmark_at r n) (λ (l : Landmark). (x : Seen) → registers_before x ≡ registers_by ns regs → x.before.bytes ≡ bytes.shadows_of p ns s.memory → Adds ns (region_needs_in p x l.region) between new) →
+    pub live_adds : (fixed : Bool) → fixed ≡ fixed_by d step.kind n → y.live ≡ true → (mid between new : Asked)
+        → Adds ns (step_needs fixed (operand_shadows p (registers_by ns regs) i.op) i.op step.kind) mid between →
+        IfSome (landmark_at r n) (λ (l : Landmark). (x : Seen) → registers_before x ≡ registers_by ns regs → x.before.bytes ≡ bytes.shadows_of p ns s.memory
+        → Adds ns (region_needs_in p x l.region) between new) →
         Adds ns (needs_at R d y) mid new
     live_adds fixed h l mid between new first rest =
         subst (λ (needs : List Need). Adds ns needs mid new) (sym (live_needs R d y i l here))
@@ -208,8 +218,10 @@ module _ (R : Reference) (d : Taken) (p : NumberedProgram) (old : NodeList) (s :
         here : instr_in R.program y.moment ≡ Some i
         here = ap (λ (q : NumberedProgram). instr_in q y.moment) a.program ∙ a.instr
 
-        told : (x : Seen) → registers_before x ≡ registers_by ns regs → x.before.bytes ≡ bytes.shadows_of p ns s.memory → Adds ns (region_needs_in p x (region_of p R.regions y.moment (instr_in p y.moment))) between new
-        told = subst (λ (o : Option Landmark). IfSome o (λ (l : Landmark). (x : Seen) → registers_before x ≡ registers_by ns regs → x.before.bytes ≡ bytes.shadows_of p ns s.memory → Adds ns (region_needs_in p x l.region) between new)) a.landmark rest
+        told : (x : Seen) → registers_before x ≡ registers_by ns regs → x.before.bytes ≡ bytes.shadows_of p ns s.memory
+            → Adds ns (region_needs_in p x (region_of p R.regions y.moment (instr_in p y.moment))) between new
+        told = subst (λ (o : Option Landmark). IfSome o (λ (l : Landmark). (x : Seen) → registers_before x ≡ registers_by ns regs → x.before.bytes ≡ bytes.shadows_of p ns s.memory
+            → Adds ns (region_needs_in p x l.region) between new)) a.landmark rest
 
         second : Adds ns (region_needs_in R.program y y.region) between new
         second =
@@ -232,7 +244,8 @@ seen_by step rs f = record {
 }
 
 pub named_by : (p : NumberedProgram) (ns : NodeList) (step : Step) (rs : List Shadow) (f : ℕ → Shadow) (o : Option Landmark) (between new : Asked) → is_some o ≡ true →
-    IfSome o (λ (l : Landmark). (x : Seen) → registers_before x ≡ rs → x.before.bytes ≡ f → Adds ns (region_needs_in p x l.region) between new) → AreNamed (length ns) between.checks.items → AreNamed (length ns) new.checks.items
+    IfSome o (λ (l : Landmark). (x : Seen) → registers_before x ≡ rs → x.before.bytes ≡ f → Adds ns (region_needs_in p x l.region) between new)
+    → AreNamed (length ns) between.checks.items → AreNamed (length ns) new.checks.items
 named_by p ns step rs f None between new h a n = absurd (false≢true h)
 named_by p ns step rs f (Some l) between new h a n =
     let e = at_end step.thread.0 (record { calls = rs ∷ []; extents = [] }) in
@@ -244,12 +257,14 @@ region_of_it o a f P e h = subst (λ z. IfSome z (λ x. P (f x))) e h
 
 -- what a region asks, by what is read of it later
 abbrev pub RegionAsks : NumberedProgram → NodeList → List Source → bytes.Changes → Asked → Asked → Landmark → Type 0
-RegionAsks p after regs memory between new l = (ns : NodeList) (x : Seen) → Grew after ns → registers_before x ≡ registers_by ns regs → x.before.bytes ≡ bytes.shadows_of p ns memory → Adds ns (region_needs_in p x l.region) between new
+RegionAsks p after regs memory between new l = (ns : NodeList) (x : Seen) → Grew after ns → registers_before x ≡ registers_by ns regs → x.before.bytes ≡ bytes.shadows_of p ns memory
+    → Adds ns (region_needs_in p x l.region) between new
 
 abbrev pub RegionAdds : NumberedProgram → NodeList → List Shadow → (ℕ → Shadow) → Asked → Asked → Landmark → Type 0
 RegionAdds p ns rs f between new l = (x : Seen) → registers_before x ≡ rs → x.before.bytes ≡ f → Adds ns (region_needs_in p x l.region) between new
 
-pub told_at : (p : NumberedProgram) (after ns : NodeList) (regs : List Source) (memory : bytes.Changes) (between new : Asked) (o : Option Landmark) → Grew after ns → IfSome o (RegionAsks p after regs memory between new) →
+pub told_at : (p : NumberedProgram) (after ns : NodeList) (regs : List Source) (memory : bytes.Changes) (between new : Asked) (o : Option Landmark) → Grew after ns
+    → IfSome o (RegionAsks p after regs memory between new) →
     IfSome o (RegionAdds p ns (registers_by ns regs) (bytes.shadows_of p ns memory) between new)
 told_at p after ns regs memory between new None g h = tt
 told_at p after ns regs memory between new (Some l) g h = λ x e f. h ns x g e f

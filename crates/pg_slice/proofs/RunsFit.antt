@@ -53,25 +53,30 @@ module _ (gated : List InstrId) (p : NumberedProgram) (s : State) (t answer numb
   start_fits (op.Ret v) = (inl refl, refl)
   start_fits o = (refl, refl)
 
-  instr_fits : (l : LocalState) (f : Frame) (fs : List Frame) (o : Option Instr) → slice_get p.instrs f.place ≡ o → StandsAt p f.function o → ActionFits p (instr_action p l f fs o) → CanStep (instr_action p l f fs o) → instr_of s t ≡ f.place →
+  instr_fits : (l : LocalState) (f : Frame) (fs : List Frame) (o : Option Instr) → slice_get p.instrs f.place ≡ o → StandsAt p f.function o → ActionFits p (instr_action p l f fs o)
+      → CanStep (instr_action p l f fs o) → instr_of s t ≡ f.place →
       IsFit p f.place o (kind_told gated p s t (instr_operands p f.registers o) answer number (instr_action p l f fs o))
   instr_fits l f fs None e h a c i = absurd h
   instr_fits l f fs (Some x) e h a c i =
       let at : slice_get p.instrs (instr_of s t) ≡ Some x = ap (λ (k : ℕ). slice_get p.instrs k) i ∙ e in
-      let fit = present_told gated p s t answer number f.registers (region_of l) l.halfway (length (f ∷ fs)) (total (f ∷ fs)) x.block.0 x.op (ap (instr_told (first_four p f.registers (operands_of x.op)) number) at) a c in
+      let fit = present_told gated p s t answer number f.registers (region_of l) l.halfway (length (f ∷ fs)) (total (f ∷ fs)) x.block.0 x.op
+      (ap (instr_told (first_four p f.registers (operands_of x.op)) number) at) a c in
       (slice_get_within p.instrs f.place x e, fit.0, fit.1)
 
-  first_fits : (l : LocalState) (f : Frame) (fs : List Frame) (o : Option Instr) → slice_get p.instrs f.place ≡ o → StandsAt p f.function o → IsFit p f.place o (kind_told gated p s t (frames_operands p false (f ∷ fs)) answer number (frames_action p l false (f ∷ fs)))
+  first_fits : (l : LocalState) (f : Frame) (fs : List Frame) (o : Option Instr) → slice_get p.instrs f.place ≡ o → StandsAt p f.function o
+      → IsFit p f.place o (kind_told gated p s t (frames_operands p false (f ∷ fs)) answer number (frames_action p l false (f ∷ fs)))
   first_fits l f fs None e h = absurd h
   first_fits l f fs (Some x) e h = (slice_get_within p.instrs f.place x e, start_fits x.op, λ q. absurd cc)
 
-  frames_fit : (l : LocalState) (begun : Bool) (fs : List Frame) → AreFramesOf p fs → ActionFits p (frames_action p l begun fs) → CanStep (frames_action p l begun fs) → instr_of s t ≡ place_in fs →
+  frames_fit : (l : LocalState) (begun : Bool) (fs : List Frame) → AreFramesOf p fs → ActionFits p (frames_action p l begun fs) → CanStep (frames_action p l begun fs)
+      → instr_of s t ≡ place_in fs →
       IsFit p (place_in fs) (slice_get p.instrs (place_in fs)) (kind_told gated p s t (frames_operands p begun fs) answer number (frames_action p l begun fs))
   frames_fit l begun [] h a c i = absurd c
   frames_fit l false (f ∷ fs) h a c i = first_fits l f fs (slice_get p.instrs f.place) refl h.0.place
   frames_fit l true (f ∷ fs) h a c i = instr_fits l f fs (slice_get p.instrs f.place) refl h.0.place a c i
 
-  local_fits : (l : LocalState) → IsProgram p → IsOf p l → CanStep (next p l) → instr_of s t ≡ id_of l → IsFit p (id_of l) (slice_get p.instrs (id_of l)) (kind_told gated p s t (operand_values p l) answer number (next p l))
+  local_fits : (l : LocalState) → IsProgram p → IsOf p l → CanStep (next p l) → instr_of s t ≡ id_of l
+      → IsFit p (id_of l) (slice_get p.instrs (id_of l)) (kind_told gated p s t (operand_values p l) answer number (next p l))
   unfolding IsOf next operand_values id_of
   local_fits l program h c i = frames_fit l l.begun l.frames h.frames (action_fits p l program h) c i
 
@@ -101,7 +106,8 @@ told_is gated p input s z t x e = go (answered p input s t (next_of p s t)) e
     go (w, Err name) q = absurd cc
     go (w, Ok a) q = (a, ap (step_in x) q)
 
-pub step_fits : (gated : List InstrId) (p : NumberedProgram) (input : List ℤ) (s z : State) (t : ℕ) (x : Step) → IsProgram p → IsReached p s → ready p s t ≡ true → step gated p input s t ≡ Did x z → FitsStep p x
+pub step_fits : (gated : List InstrId) (p : NumberedProgram) (input : List ℤ) (s z : State) (t : ℕ) (x : Step) → IsProgram p → IsReached p s → ready p s t ≡ true
+    → step gated p input s t ≡ Did x z → FitsStep p x
 step_fits gated p input s z t x program h g e =
     let told = told_is gated p input s z t x e in
     let here = present s t (ready_made p s t g) in
@@ -111,12 +117,15 @@ step_fits gated p input s z t x program h g e =
 
 -- ---- a run
 
-steps_fit : (gated : List InstrId) (p : NumberedProgram) (input : List ℤ) (s z : State) (xs : List Step) → IsProgram p → length input < 2 ^ 64 → IsReached p s → IsRun gated p input s xs z → (n : ℕ) → IfSome (slice_get xs n) (FitsStep p)
+steps_fit : (gated : List InstrId) (p : NumberedProgram) (input : List ℤ) (s z : State) (xs : List Step) → IsProgram p → length input < 2 ^ 64 → IsReached p s
+    → IsRun gated p input s xs z → (n : ℕ) → IfSome (slice_get xs n) (FitsStep p)
 steps_fit gated p input s z [] program small h r n = tt
 steps_fit gated p input s z (x ∷ xs) program small h r zero = step_fits gated p input s r.0.after x.thread.0 x program h r.0.is_ready r.0.is_step
-steps_fit gated p input s z (x ∷ xs) program small h r (suc n) = steps_fit gated p input r.0.after z xs program small (reached_step gated p input s r.0.after x.thread.0 x program small h r.0.is_ready r.0.is_step) r.1 n
+steps_fit gated p input s z (x ∷ xs) program small h r (suc n) = steps_fit gated p input r.0.after z xs program small
+    (reached_step gated p input s r.0.after x.thread.0 x program small h r.0.is_ready r.0.is_step) r.1 n
 
-pub run_fits : (gated : List InstrId) (p : NumberedProgram) (input : List ℤ) (z : State) (xs : List Step) → IsProgram p → HoldBytes p.globals → length input < 2 ^ 64 → IsRun gated p input (initial p) xs z → AreSteps p xs
+pub run_fits : (gated : List InstrId) (p : NumberedProgram) (input : List ℤ) (z : State) (xs : List Step) → IsProgram p → HoldBytes p.globals → length input < 2 ^ 64
+    → IsRun gated p input (initial p) xs z → AreSteps p xs
 run_fits gated p input z xs program bytes small r = steps_fit gated p input (initial p) z xs program small (reached_first p program bytes) r
 
 -- ---- edges
@@ -154,7 +163,8 @@ instr_edge : (p : NumberedProgram) (m : Moment) (i : ℕ) (o : Option Instr) →
 instr_edge p m i None program e = tt
 instr_edge p m i (Some x) program e =
     let f = function_of p x.block.0 in
-    op_edge (λ b. b < length p.blocks) p m x.op (all_weaker (λ b. IsInFunction f (slice_get p.blocks b)) (λ b. b < length p.blocks) (targets_of x.op) (λ b h. block_below p f b (slice_get p.blocks b) refl h) (program.instrs i x e).targets)
+    op_edge (λ b. b < length p.blocks) p m x.op (all_weaker (λ b. IsInFunction f (slice_get p.blocks b)) (λ b. b < length p.blocks) (targets_of x.op)
+    (λ b h. block_below p f b (slice_get p.blocks b) refl h) (program.instrs i x e).targets)
 
 edge_stands : (p : NumberedProgram) (m : Moment) (k : StepKind) → IsProgram p → IfSome (edge_of p m k) (λ b. b < length p.blocks)
 edge_stands p m (kinds.Event e) program = tt

@@ -1,5 +1,6 @@
 -- From passes to the slice.
-use Rattle.std.proofs.Common.{◌≡◌, ℕ, zero, suc, ◌+◌, ◌<◌, Bool, true, false, List, [], ◌∷◌, length, take, slice_get, Some, refl, sym, ap, ◌∙◌, subst, inl, inr, ◌⊎◌, arith}
+use Rattle.std.proofs.Common.{◌≡◌, ℕ, zero, suc, ◌+◌, ◌<◌, Bool, true, false, List, [], ◌∷◌, length, take, slice_get, Some, refl, sym, ap, ◌∙◌, subst, inl, inr}
+use Rattle.std.proofs.Common.{◌⊎◌, arith}
 use Rattle.std.specs.Prelude.{All, Contains, ◌↔◌, ◌||◌}
 use Rattle.std.specs.List.{AllByRecursion}
 use Rattle.std.proofs.lemmas.List.Elements.{Contains-append_cases}
@@ -14,8 +15,8 @@ use Rattle.pg_decisions.specs.Steps as steps
 use Rattle.pg_least.specs.Keeps.{ExtentsKeep}
 use Rattle.pg_least.specs.Laws.{AsksAreAbove, AsksAreNew, AsksAreOfSteps, step_in}
 use Rattle.pg_least.proofs.Closes.{closed_if}
-use Rattle.pg_least.proofs.Zips.{cases_in, here, none_in, there}
-use Rattle.pg_intervals.proofs.Walk.{take_get}
+use Rattle.pg_paths.proofs.Elements.{cases as cases_in, here, none_in, there}
+use Rattle.pg_plans.proofs.Walks.{take_get}
 
 -- sets with the same decisions are the same
 pub same_taken : (d e : Taken) → ((x : Decision) → has d x ≡ has e x) → d ≡ e
@@ -29,7 +30,8 @@ step_same (Pinned n) = refl
 step_same (Exact n) = refl
 
 -- where nothing new is missing, nothing is asked
-pub closed_where_none : (R : Reference) (d : Taken) (missing : List Decision) (n : ℕ) → AsksAreNew R → AsksAreOfSteps R → n ≡ length R.moments → ((x : Decision) → Contains missing x ↔ Contains (asks R d) x) →
+pub closed_where_none : (R : Reference) (d : Taken) (missing : List Decision) (n : ℕ) → AsksAreNew R → AsksAreOfSteps R → n ≡ length R.moments
+    → ((x : Decision) → Contains missing x ↔ Contains (asks R d) x) →
     ((x : Decision) → Contains missing x → steps.step_of x < n → has d x ≡ true) → IsClosed R d
 closed_where_none R d missing n new_asked of_steps count same none =
     closed_if R d (λ x c.
@@ -58,7 +60,8 @@ second_false false b e = e
 second_false true b e = absurd (true≢false e)
 
 -- fewer are left where one of the two was taken
-pub or_less : (a b : Bool) (first old new : ℕ) → (a ≡ true → new < old) → (a ≡ false → new ≡ old) → (b ≡ true → old < first) → (b ≡ false → old ≡ first) → (a || b) ≡ true → new < first
+pub or_less : (a b : Bool) (first old new : ℕ) → (a ≡ true → new < old) → (a ≡ false → new ≡ old) → (b ≡ true → old < first) → (b ≡ false → old ≡ first)
+    → (a || b) ≡ true → new < first
 or_less true true first old new less same before stays e = let x = less refl in let y = before refl in omega (arith, x, y)
 or_less true false first old new less same before stays e = let x = less refl in let y = stays refl in omega (arith, x, y)
 or_less false true first old new less same before stays e = let x = same refl in let y = before refl in omega (arith, x, y)
@@ -77,7 +80,8 @@ one_in x y c = go (cases_in x [] y c)
     go (inr d) = absurd (none_in y d)
 
 pub taken_more : (old new : Taken) (n : ℕ) (missing : List Decision) (i : ℕ) (x : Decision) → slice_get missing i ≡ Some x →
-    ((y : Decision) → Contains (take i missing) y → steps.step_of y < n → has old y ≡ true) → (steps.step_of x < n → has new x ≡ true) → ((y : Decision) → has old y ≡ true → has new y ≡ true) →
+    ((y : Decision) → Contains (take i missing) y → steps.step_of y < n → has old y ≡ true) → (steps.step_of x < n → has new x ≡ true)
+    → ((y : Decision) → has old y ≡ true → has new y ≡ true) →
     (y : Decision) → Contains (take (i + 1) missing) y → steps.step_of y < n → has new y ≡ true
 taken_more old new n missing i x at before now kept y c s = go (Contains-append_cases (take i missing) (x ∷ []) y (subst (λ l. Contains l y) (take_get missing i x at) c))
   where

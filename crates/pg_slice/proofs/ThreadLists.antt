@@ -1,5 +1,6 @@
 -- The threads that are kept, while nodes are added, one of them changes, or one more is made.
-use Rattle.std.proofs.Common.{◌≡◌, ℕ, zero, suc, ◌<◌, ◌≤◌, List, [], ◌∷◌, ◌++◌, length, Bool, slice_index, slice_index_or, slice_set, arith, refl, ap, sym, ◌∙◌, subst}
+use Rattle.std.proofs.Common.{◌≡◌, ℕ, zero, suc, ◌<◌, ◌≤◌, List, [], ◌∷◌, ◌++◌, length, Bool, slice_index, slice_index_or, slice_set, arith, refl, ap, sym}
+use Rattle.std.proofs.Common.{◌∙◌, subst}
 use Rattle.std.proofs.lemmas.List.{length-map}
 use Rattle.pg_ir.specs.Program.{NumberedProgram}
 use Rattle.pg_nodes.specs.Nodes.{NodeList}
@@ -57,15 +58,18 @@ none_more [] (suc t) = refl
 none_more (e ∷ es) zero = refl
 none_more (e ∷ es) (suc t) = none_more es t
 
-created_extents : (p : NumberedProgram) (e : Event) (kind : TurnKind) (ks : List ThreadShadow) (t : ℕ) → slice_index_or (extents_in (threads_after p e kind ks)) t [] ≡ slice_index_or (extents_in ks) t []
+created_extents : (p : NumberedProgram) (e : Event) (kind : TurnKind) (ks : List ThreadShadow) (t : ℕ)
+    → slice_index_or (extents_in (threads_after p e kind ks)) t [] ≡ slice_index_or (extents_in ks) t []
 created_extents p e turns.Create ks t = ap (λ (es : List (List Extent)). slice_index_or es t []) (extents_push ks (fresh_thread p (slice_index e.operands 2))) ∙ none_more (extents_in ks) t
 created_extents p e kind ks t = refl
 
 -- a live step leaves those of each thread as they are
-pub same_extents : (f : List (List Shadow) → List (List Shadow)) (u : ℕ) (ks : List ThreadShadow) (t : ℕ) → (slice_index_or (on_thread f u ks) t no_thread).extents ≡ (slice_index_or ks t no_thread).extents
+pub same_extents : (f : List (List Shadow) → List (List Shadow)) (u : ℕ) (ks : List ThreadShadow) (t : ℕ)
+    → (slice_index_or (on_thread f u ks) t no_thread).extents ≡ (slice_index_or ks t no_thread).extents
 same_extents f u ks t = extents_at (on_thread f u ks) t ∙ ap (λ (es : List (List Extent)). slice_index_or es t []) (extents_on f u ks) ∙ sym (extents_at ks t)
 
-pub same_after : (p : NumberedProgram) (e : Event) (kind : TurnKind) (ks : List ThreadShadow) (t : ℕ) → (slice_index_or (threads_after p e kind ks) t no_thread).extents ≡ (slice_index_or ks t no_thread).extents
+pub same_after : (p : NumberedProgram) (e : Event) (kind : TurnKind) (ks : List ThreadShadow) (t : ℕ)
+    → (slice_index_or (threads_after p e kind ks) t no_thread).extents ≡ (slice_index_or ks t no_thread).extents
 same_after p e kind ks t = extents_at (threads_after p e kind ks) t ∙ created_extents p e kind ks t ∙ sym (extents_at ks t)
 
 -- ---- where extents end
@@ -84,20 +88,23 @@ found_open pinned (k ∷ ks) [] t d l h = absurd h
 found_open pinned (k ∷ ks) (x ∷ os) zero d l h = h.0
 found_open pinned (k ∷ ks) (x ∷ os) (suc t) d l h = found_open pinned ks os t d (omega arith) h.1
 
-pub no_open : (pinned : ℕ → Bool) (ks : List ThreadShadow) (os : List OpenExtents) (t : ℕ) → EachOpen pinned (extents_in ks) os → length os ≤ t → (slice_index_or ks t no_thread).extents ≡ []
+pub no_open : (pinned : ℕ → Bool) (ks : List ThreadShadow) (os : List OpenExtents) (t : ℕ) → EachOpen pinned (extents_in ks) os → length os ≤ t
+    → (slice_index_or ks t no_thread).extents ≡ []
 no_open pinned [] os t h l = refl
 no_open pinned (k ∷ ks) [] t h l = absurd h
 no_open pinned (k ∷ ks) (x ∷ os) zero h l = absurd (omega arith)
 no_open pinned (k ∷ ks) (x ∷ os) (suc t) h l = no_open pinned ks os t h.1 (omega arith)
 
-open_push : (pinned : ℕ → Bool) (es : List (List Extent)) (os : List OpenExtents) (o : OpenExtents) → EachOpen pinned es os → AreOpen pinned [] (open_at o) → EachOpen pinned (es ++ [] ∷ []) (os ++ o ∷ [])
+open_push : (pinned : ℕ → Bool) (es : List (List Extent)) (os : List OpenExtents) (o : OpenExtents) → EachOpen pinned es os → AreOpen pinned [] (open_at o)
+    → EachOpen pinned (es ++ [] ∷ []) (os ++ o ∷ [])
 open_push pinned [] [] o h a = (a, tt)
 open_push pinned [] (x ∷ os) o h a = absurd h
 open_push pinned (e ∷ es) [] o h a = absurd h
 open_push pinned (e ∷ es) (x ∷ os) o h a = (h.0, open_push pinned es os o h.1 a)
 
 -- those of one thread change
-pub opens_change : (pinned : ℕ → Bool) (ks : List ThreadShadow) (os : List OpenExtents) (t : ℕ) (es : List Extent) (o : OpenExtents) → t < length os → EachOpen pinned (extents_in ks) os → AreOpen pinned es (open_at o) →
+pub opens_change : (pinned : ℕ → Bool) (ks : List ThreadShadow) (os : List OpenExtents) (t : ℕ) (es : List Extent) (o : OpenExtents) → t < length os → EachOpen pinned (extents_in ks) os
+    → AreOpen pinned es (open_at o) →
     EachOpen pinned (extents_in (with_extents t es ks)) (slice_set os t o)
 opens_change pinned [] [] t es o l h a = absurd (omega arith)
 opens_change pinned [] (x ∷ os) t es o l h a = absurd h
@@ -162,20 +169,23 @@ registers_known ns (c ∷ calls) (suc t) (k ∷ ks) h =
     registers_known ns calls t ks b
 
 -- they change
-pub one_changes : (old new : NodeList) (pinned : ℕ → Bool) (f : List (List Shadow) → List (List Shadow)) (t : ℕ) (calls : List CallList) (after : CallList) (opens : List OpenExtents) (ks : List ThreadShadow) →
+pub one_changes : (old new : NodeList) (pinned : ℕ → Bool) (f : List (List Shadow) → List (List Shadow)) (t : ℕ) (calls : List CallList) (after : CallList) (opens : List OpenExtents)
+    (ks : List ThreadShadow) →
     Grew old new → AreThreads (length old) calls → t < length calls → calls_by new after ≡ f (calls_by old (slice_index_or calls t [])) →
     KnowsThreads old pinned calls opens ks → KnowsThreads new pinned (slice_set calls t after) opens (on_thread f t ks)
 one_changes old new pinned f t calls after opens ks g a h e k =
     let es = extents_in ks in
     let n : length es ≡ length calls = extents_length ks ∙ k.as_many in
     record {
-      calls = ap (λ (xs : List ThreadShadow). on_thread f t xs) k.calls ∙ sym (on_one old new f t calls after es g a n h e) ∙ ap (λ (xs : List (List Extent)). threads_by new (slice_set calls t after) xs) (sym (extents_on f t ks));
+      calls = ap (λ (xs : List ThreadShadow). on_thread f t xs) k.calls ∙ sym (on_one old new f t calls after es g a n h e)
+          ∙ ap (λ (xs : List (List Extent)). threads_by new (slice_set calls t after) xs) (sym (extents_on f t ks));
       as_many = set_length ks t _ ∙ k.as_many ∙ sym (set_length calls t after);
       extents = subst (λ (xs : List (List Extent)). EachOpen pinned xs opens) (sym (extents_on f t ks)) k.extents;
     }
 
 -- there is no such thread
-pub none_changes : (old new : NodeList) (pinned : ℕ → Bool) (f : List (List Shadow) → List (List Shadow)) (t : ℕ) (calls : List CallList) (opens : List OpenExtents) (ks : List ThreadShadow) →
+pub none_changes : (old new : NodeList) (pinned : ℕ → Bool) (f : List (List Shadow) → List (List Shadow)) (t : ℕ) (calls : List CallList) (opens : List OpenExtents)
+    (ks : List ThreadShadow) →
     Grew old new → AreThreads (length old) calls → length calls ≤ t → KnowsThreads old pinned calls opens ks → KnowsThreads new pinned calls opens (on_thread f t ks)
 none_changes old new pinned f t calls opens ks g a h k =
     let n = k.as_many in
@@ -189,7 +199,8 @@ by_length ns [] es = refl
 by_length ns (c ∷ calls) [] = ap (λ (n : ℕ). suc n) (by_length ns calls [])
 by_length ns (c ∷ calls) (e ∷ es) = ap (λ (n : ℕ). suc n) (by_length ns calls es)
 
-pub created : (old new : NodeList) (pinned : ℕ → Bool) (p : NumberedProgram) (e : Event) (calls after : List CallList) (opens : List OpenExtents) (o : OpenExtents) (ks : List ThreadShadow) → e.kind ≡ turns.Create →
+pub created : (old new : NodeList) (pinned : ℕ → Bool) (p : NumberedProgram) (e : Event) (calls after : List CallList) (opens : List OpenExtents) (o : OpenExtents) (ks : List ThreadShadow)
+    → e.kind ≡ turns.Create →
     ((extents : List (List Extent)) → length extents ≡ length calls → threads_by new after (extents ++ [] ∷ []) ≡ threads_after p e e.kind (threads_by old calls extents)) →
     AreOpen pinned [] (open_at o) → KnowsThreads old pinned calls opens ks → KnowsThreads new pinned after (opens ++ o ∷ []) (threads_after p e e.kind ks)
 created old new pinned p e calls after opens o ks h made a k =
@@ -210,7 +221,8 @@ none_created p e turns.Create ks h = absurd (h refl)
 none_created p e kind ks h = refl
 
 -- the main thread before the first step
-pub first_known : (ns : NodeList) (pinned : ℕ → Bool) (p : NumberedProgram) (main : CallList) (opens : List OpenExtents) → calls_by ns main ≡ fresh_registers p p.main ∷ [] → EachOpen pinned ([] ∷ []) opens →
+pub first_known : (ns : NodeList) (pinned : ℕ → Bool) (p : NumberedProgram) (main : CallList) (opens : List OpenExtents) → calls_by ns main ≡ fresh_registers p p.main ∷ []
+    → EachOpen pinned ([] ∷ []) opens →
     KnowsThreads ns pinned (main ∷ []) opens (fresh_thread p p.main ∷ [])
 first_known ns pinned p main opens e h = record {
   calls = ap (λ (cs : List (List Shadow)). let s : ThreadShadow = record { calls = cs; extents = [] } in s ∷ []) (sym e);

@@ -11,11 +11,14 @@ use Rattle.pg_trace.specs.declared.step.Step.{Step}
 use Rattle.pg_trace.specs.declared.step.StepKind.{StepKind}
 use Rattle.pg_trace.specs.declared.step.StepKind.TheVariants as kinds
 use Rattle.pg_trace.specs.declared.turn.TurnKind.TheVariants as turns
+use Rattle.pg_intervals.specs.declared.interval.Interval.{Interval}
+use Rattle.pg_intervals.specs.declared.interval.Turns.TheVariants.{Recorded}
+use Rattle.pg_intervals.specs.Intervals.{intervals_of}
 use Rattle.pg_closed.specs.Freeable.{Regions}
 use Rattle.pg_closed.specs.Known.{Reference}
 use Rattle.pg_closed.specs.Moments.{moments_of}
 use Rattle.pg_reference.specs.declared.run.ReferenceRun.{ReferenceRun}
-use Rattle.pg_reference.specs.Kept.{landmark_at}
+use Rattle.pg_reference.specs.Kept.{landmark_at, step_count}
 use Rattle.pg_reference.specs.Landmarks.{Landmark, landmark_of}
 use Rattle.pg_sources.specs.Forms.{CastFits}
 use Rattle.pg_shadow_run.specs.Steps.{is_plain}
@@ -77,3 +80,19 @@ pub record FitsStep (p : NumberedProgram) (x : Step) : Type 0 where
 -- each step of a list is one of its instruction
 abbrev pub AreSteps : NumberedProgram → List Step → Type 0
 AreSteps p xs = (n : ℕ) → IfSome (slice_get xs n) (FitsStep p)
+
+-- a step can be gone along: it is one of its instruction, the run has its number, and its edge leads to a block
+pub record CanGo (p : NumberedProgram) (x : Instr) (step : Step) (r : ReferenceRun) (n : ℕ) : Type 0 where
+  pub fits : FitsKind x.op step.kind
+  pub create : FitsCreate p step.kind
+  pub cast : CastFits x.op
+  pub number : n < step_count r
+  pub block : IfSome (landmark_at r n) (λ (l : Landmark). IfSome l.edge (λ b. b < length p.blocks))
+
+-- a run of a program, the intervals of its steps and its replay belong together
+pub record AreGiven (p : NumberedProgram) (xs : List Step) (vs : List Interval) (r : ReferenceRun) : Type 0 where
+  pub edges : EdgesStand p r
+  pub steps : AreSteps p xs
+  pub count : step_count r ≡ length xs
+  pub intervals : vs ≡ intervals_of Recorded xs
+  pub few : length xs < 4294967296

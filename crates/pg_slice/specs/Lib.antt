@@ -5,3 +5,4 @@ pub mod Prints
 pub mod Passes
 pub mod Timed
 pub mod Listed
+pub mod Sliced

@@ -1,5 +1,7 @@
 -- The steps of the footprints of a run, and what the footprints that are met ask.
 use Rattle.std.specs.Prelude.{ℕ, ◌&&◌, not, List, [], ◌∷◌, ◌++◌, map, Bool, true, false, if◌then◌else◌}
+use Rattle.pg_trace.specs.declared.step.Step.{Step}
+use Rattle.pg_intervals.specs.declared.interval.Interval.{Interval}
 use Rattle.pg_conflicts.specs.declared.footprint.Footprint.{Footprint}
 use Rattle.pg_closed.specs.declared.decision.Decision.{Decision}
 use Rattle.pg_closed.specs.declared.decision.Decision.TheVariants.{Pinned, Exact}
@@ -36,3 +38,15 @@ asks_of_met d (f ∷ fs) (o ∷ os) (m ∷ ms) = (if m then met_asks d f.of_regi
 -- of a region's access
 abbrev pub print_by : Seen → FreeAccess → Footprint
 print_by x a = of_step true x (record { bytes = frame_of a.at.last; writes = a.writes })
+
+-- of the frame of a pointer, by a step and its interval
+abbrev pub print_at : Step → Interval → ℕ → Bool → Bool → Footprint
+print_at step interval word writes of_region = record {
+  thread = step.thread;
+  low = interval.low;
+  high = interval.high;
+  start = (frame_of word).start;
+  bytes = (frame_of word).bytes;
+  writes = writes;
+  of_region = of_region;
+}

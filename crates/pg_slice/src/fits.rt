@@ -14,7 +14,8 @@ ghost use Rattle.pg_trace.specs.declared.step.Step.{Step};
 
 /// Each step of a run of a program is one of its instruction.
 pub fn runs_fit()
-    ensures { (gated : List InstrId) (p : NumberedProgram) (input : List ℤ) (z : State) (xs : List Step) → IsProgram p → HoldBytes p.globals → length input < 2 ^ 64 → IsRun gated p input (initial p) xs z → AreSteps p xs }
+    ensures { (gated : List InstrId) (p : NumberedProgram) (input : List ℤ) (z : State) (xs : List Step) → IsProgram p → HoldBytes p.globals → length input < 2 ^ 64
+        → IsRun gated p input (initial p) xs z → AreSteps p xs }
 {}
 
 /// Each edge of a replay of a program's run leads to a block of the program.

@@ -16,13 +16,13 @@ use pg_sources::Source;
 
 /// The bytes of a frame: the first one, and how many there are.
 #[derive(Clone, Copy)]
-pub(crate) struct FrameBytes {
-    pub(crate) start: u64,
-    pub(crate) bytes: u64,
+pub struct FrameBytes {
+    pub start: u64,
+    pub bytes: u64,
 }
 
 /// The frame of a pointer.
-pub(crate) fn frame(word: u64) -> FrameBytes
+pub fn frame(word: u64) -> FrameBytes
     ensures start { result.start ≡ (frame_of word).start }
     ensures bytes { result.bytes ≡ (frame_of word).bytes }
     ensures within { result.start + result.bytes ≤ PLACE_COUNT }

@@ -10,5 +10,6 @@ ghost use Rattle.pg_slice.specs.Along.{first_steps, step_from};
 /// and this one.
 pub fn one_step_more()
     ensures known { (R : Reference) (d : Taken) (n : ℕ) (m : Moment) → slice_get R.moments n ≡ Some m → known_at R d (suc n) ≡ after_step R d n m (known_at R d n) }
-    ensures steps { (R : Reference) (d : Taken) (n : ℕ) (m : Moment) → slice_get R.moments n ≡ Some m → first_steps R d (suc n) ≡ first_steps R d n ++ step_from R d n (known_at R d n) m ∷ [] }
+    ensures steps { (R : Reference) (d : Taken) (n : ℕ) (m : Moment) → slice_get R.moments n ≡ Some m
+        → first_steps R d (suc n) ≡ first_steps R d n ++ step_from R d n (known_at R d n) m ∷ [] }
 {}

@@ -4,6 +4,7 @@
 
 pub mod fits;
 mod frames;
+mod given;
 pub mod laws;
 mod live;
 mod memory;
@@ -12,8 +13,12 @@ mod pass;
 mod prints;
 mod slice;
 mod state;
+mod step;
 mod threads;
 
+pub use frames::{FrameBytes, frame};
+pub use given::GivenRun;
+pub use needs::is_malloc;
 pub use pass::{Passed, pass_over};
 pub use slice::{Slice, slice_by_passes, sliced, take_new};
 pub use state::RunSources;

@@ -16,11 +16,12 @@ ghost use Rattle.pg_sources.specs.Forms.{CastFits};
 ghost use Rattle.pg_sources.specs.Sources.{Grew, IsSource, shadow_by};
 ghost use Rattle.pg_shadow_run.specs.Events.{HasOperands};
 ghost use Rattle.pg_shadow_run.specs.Steps.{is_plain};
-ghost use Rattle.pg_slice.specs.Given.{FitsCreate, FitsEvent, FitsKind, IsAccess, is_op};
+ghost use Rattle.pg_slice.specs.Given.{CanGo, FitsEvent, IsAccess, is_op};
 ghost use Rattle.pg_slice.specs.State.{AreKept, Knows};
 
 use crate::memory::{forget_instance, load, store, word_of, write};
 use crate::state::RunSources;
+use crate::step::StepAt;
 use crate::threads::{after_access, after_event, after_op, thread_registers, with_created};
 use pg_decisions::DecisionSet;
 use pg_ir::{Instr, Op, Program};
@@ -28,8 +29,8 @@ use pg_nodes::Nodes;
 use pg_reference::ReferenceRun;
 use pg_shadow_run::{OpStep, words_after};
 use pg_sources::Source;
-use pg_trace::{Access, Event, Step, StepKind, TurnKind};
-use std::alloc::{AllocError, Global};
+use pg_trace::{Access, Event, StepKind, TurnKind};
+use std::alloc::AllocError;
 
 /// What is read of the run at a step that is neither an access nor an event.
 pub(crate) fn op_step(d: &DecisionSet, r: &ReferenceRun, n: usize, word: u64) -> OpStep
@@ -138,117 +139,104 @@ impl RunSources {
     /// The threads after a live event, by the function of the present call and the thread's argument.
     fn event_threads(
         &mut self,
-        alloc: Global,
         nodes: &mut Nodes,
-        p: &Program,
-        x: &Instr,
+        s: &StepAt,
         t: usize,
         e: Event,
         function: u32,
         argument: Source,
     ) -> Result<(), AllocError>
-        requires call { HasOperands e.kind x.now.op }
-        requires create { e.kind ≡ Create → slice_index e.operands 2 < length p.now.functions }
+        requires call { HasOperands e.kind s.now.x.now.op }
+        requires create { e.kind ≡ Create → slice_index e.operands 2 < length s.now.p.now.functions }
         requires argument { IsSource (length nodes.old) argument }
         requires sources { AreKept (length nodes.old) self.old }
         ensures grew { Grew nodes.old nodes.new }
         ensures is { OnOk result (AreKept (length nodes.new) self.new) }
-        ensures value { (m : Moment) (pinned : ℕ → Bool) (k : RunShadow) → function_in m.calls ≡ function → Knows p.now nodes.old pinned self.old k
-            → OnOk result (Knows p.now nodes.new pinned self.new
-            (record k { threads = threads_after p.now e e.kind (on_thread (along.after_event p.now m e e.kind (shadow_by nodes.old argument) x.now) t k.threads) })) }
+        ensures value { (m : Moment) (pinned : ℕ → Bool) (k : RunShadow) → function_in m.calls ≡ function → Knows s.now.p.now nodes.old pinned self.old k
+            → OnOk result (Knows s.now.p.now nodes.new pinned self.new
+            (record k { threads = threads_after s.now.p.now e e.kind (on_thread (along.after_event s.now.p.now m e e.kind (shadow_by nodes.old argument) s.now.x.now) t k.threads) })) }
     {
-        after_event(nodes, p, x, t, e, function, argument, &mut self.threads)?;
-        with_created(alloc, nodes, p, e, &mut self.threads, &mut self.extents)
+        after_event(nodes, s.p, s.x, t, e, function, argument, &mut self.threads)?;
+        with_created(s.alloc, nodes, s.p, e, &mut self.threads, &mut self.extents)
     }
 
     /// A live event, by the function of the present call.
     fn live_event(
         &mut self,
-        alloc: Global,
         nodes: &mut Nodes,
-        p: &Program,
-        x: &Instr,
+        s: &StepAt,
         t: usize,
         e: &Event,
         function: u32,
     ) -> Result<(), AllocError>
-        requires call { FitsEvent e.now x.now.op }
-        requires create { e.now.kind ≡ Create → slice_index e.now.operands 2 < length p.now.functions }
+        requires call { FitsEvent e.now s.now.x.now.op }
+        requires create { e.now.kind ≡ Create → slice_index e.now.operands 2 < length s.now.p.now.functions }
         requires sources { AreKept (length nodes.old) self.old }
         ensures grew { Grew nodes.old nodes.new }
         ensures is { OnOk result (AreKept (length nodes.new) self.new) }
-        ensures value { (d : Taken) (n : ℕ) (m : Moment) (region : Option FreeRegion) (k : RunShadow) → function_in m.calls ≡ function → thread_in m ≡ t → Knows p.now nodes.old d.pinned self.old k
-            → OnOk result (Knows p.now nodes.new d.pinned self.new (live_by p.now d n m region x.now (kinds.Event e.now) k)) }
+        ensures value { (d : Taken) (n : ℕ) (m : Moment) (region : Option FreeRegion) (k : RunShadow) → function_in m.calls ≡ function → thread_in m ≡ t
+            → Knows s.now.p.now nodes.old d.pinned self.old k
+            → OnOk result (Knows s.now.p.now nodes.new d.pinned self.new (live_by s.now.p.now d n m region s.now.x.now (kinds.Event e.now) k)) }
     {
         let argument = word_of(nodes, self.words.as_slice(), t)?;
         self.event_bytes(nodes, e)?;
-        self.event_words(nodes, p, x, t, e.kind)?;
-        self.event_threads(alloc, nodes, p, x, t, *e, function, argument)
+        self.event_words(nodes, s.p, s.x, t, e.kind)?;
+        self.event_threads(nodes, s, t, *e, function, argument)
     }
 
     /// A live step that is neither an access nor an event.
     fn live_op(
         &mut self,
-        alloc: Global,
         nodes: &mut Nodes,
-        p: &Program,
-        x: &Instr,
+        s: &StepAt,
         t: usize,
-        d: &DecisionSet,
-        r: &ReferenceRun,
-        n: usize,
         word: u64,
     ) -> Result<(), AllocError>
-        requires plain { IsTrue (is_plain x.now.op) }
-        requires cast { CastFits x.now.op }
-        requires number { n < step_count r.now }
-        requires block { IfSome (landmark_at r.now n) (λ l. IfSome l.edge (λ b. b < length p.now.blocks)) }
+        requires plain { IsTrue (is_plain s.now.x.now.op) }
+        requires cast { CastFits s.now.x.now.op }
+        requires number { s.now.n < step_count s.now.r.now }
+        requires block { IfSome (landmark_at s.now.r.now s.now.n) (λ l. IfSome l.edge (λ b. b < length s.now.p.now.blocks)) }
         requires sources { AreKept (length nodes.old) self.old }
         ensures grew { Grew nodes.old nodes.new }
         ensures is { OnOk result (AreKept (length nodes.new) self.new) }
-        ensures value { (m : Moment) (regions : Regions) (kind : AKind) (k : RunShadow) → landmark_at r.now n ≡ Some (landmark_of p.now regions m) → is_op kind ≡ true → result_in kind ≡ word
-            → m.did.did.kind ≡ kind → thread_in m ≡ t → instr_in p.now m ≡ Some x.now → Knows p.now nodes.old (taken_by d.now).pinned self.old k
-            → OnOk result (Knows p.now nodes.new (taken_by d.now).pinned self.new (live_by p.now (taken_by d.now) n m (region_of p.now regions m (Some x.now)) x.now kind k)) }
+        ensures value { (m : Moment) (regions : Regions) (kind : AKind) (k : RunShadow) → landmark_at s.now.r.now s.now.n ≡ Some (landmark_of s.now.p.now regions m) → is_op kind ≡ true
+            → result_in kind ≡ word
+            → m.did.did.kind ≡ kind → thread_in m ≡ t → instr_in s.now.p.now m ≡ Some s.now.x.now → Knows s.now.p.now nodes.old (taken_by s.now.d.now).pinned self.old k
+            → OnOk result (Knows s.now.p.now nodes.new (taken_by s.now.d.now).pinned self.new
+            (live_by s.now.p.now (taken_by s.now.d.now) s.now.n m (region_of s.now.p.now regions m (Some s.now.x.now)) s.now.x.now kind k)) }
     {
-        let step = op_step(d, r, n, word);
-        after_op(alloc, nodes, p, x, t, step, r.marks(n), &mut self.threads)?;
-        forget_instance(&mut self.memory, r, n, step)
+        let step = op_step(s.d, s.r, s.n, word);
+        after_op(
+            s.alloc,
+            nodes,
+            s.p,
+            s.x,
+            t,
+            step,
+            s.r.marks(s.n),
+            &mut self.threads,
+        )?;
+        forget_instance(&mut self.memory, s.r, s.n, step)
     }
 
     /// A live step.
-    pub(crate) fn live(
-        &mut self,
-        alloc: Global,
-        nodes: &mut Nodes,
-        p: &Program,
-        x: &Instr,
-        step: &Step,
-        d: &DecisionSet,
-        r: &ReferenceRun,
-        n: usize,
-    ) -> Result<(), AllocError>
-        requires fits { FitsKind x.now.op step.now.kind }
-        requires create { FitsCreate p.now step.now.kind }
-        requires cast { CastFits x.now.op }
-        requires number { n < step_count r.now }
-        requires block { IfSome (landmark_at r.now n) (λ l. IfSome l.edge (λ b. b < length p.now.blocks)) }
+    pub(crate) fn live(&mut self, nodes: &mut Nodes, s: &StepAt) -> Result<(), AllocError>
+        requires go { CanGo s.now.p.now s.now.x.now s.now.step.now s.now.r.now s.now.n }
         requires sources { AreKept (length nodes.old) self.old }
         ensures grew { Grew nodes.old nodes.new }
         ensures is { OnOk result (AreKept (length nodes.new) self.new) }
-        ensures value { (m : Moment) (regions : Regions) (k : RunShadow) → landmark_at r.now n ≡ Some (landmark_of p.now regions m) → m.did.did ≡ step.now → instr_in p.now m ≡ Some x.now
-            → Knows p.now nodes.old (taken_by d.now).pinned self.old k
-            → OnOk result (Knows p.now nodes.new (taken_by d.now).pinned self.new (live_after p.now (taken_by d.now) n m (region_of p.now regions m (instr_in p.now m)) (instr_in p.now m) k)) }
+        ensures value { (m : Moment) (regions : Regions) (k : RunShadow) → landmark_at s.now.r.now s.now.n ≡ Some (landmark_of s.now.p.now regions m) → m.did.did ≡ s.now.step.now
+            → instr_in s.now.p.now m ≡ Some s.now.x.now
+            → Knows s.now.p.now nodes.old (taken_by s.now.d.now).pinned self.old k
+            → OnOk result (Knows s.now.p.now nodes.new (taken_by s.now.d.now).pinned self.new
+            (live_after s.now.p.now (taken_by s.now.d.now) s.now.n m (region_of s.now.p.now regions m (instr_in s.now.p.now m)) (instr_in s.now.p.now m) k)) }
     {
-        let t = step.thread.0 as usize;
-        match &step.kind {
-            StepKind::Access(a) => self.live_access(nodes, p, x, t, *a, n, d.is_exact(n)),
-            StepKind::Event(e) => self.live_event(alloc, nodes, p, x, t, e, r.function(n)),
-            StepKind::Allocation { result, .. } => {
-                self.live_op(alloc, nodes, p, x, t, d, r, n, *result)
-            }
-            StepKind::Branch { .. } | StepKind::Other => {
-                self.live_op(alloc, nodes, p, x, t, d, r, n, 0)
-            }
+        let t = s.step.thread.0 as usize;
+        match &s.step.kind {
+            StepKind::Access(a) => self.live_access(nodes, s.p, s.x, t, *a, s.n, s.d.is_exact(s.n)),
+            StepKind::Event(e) => self.live_event(nodes, s, t, e, s.r.function(s.n)),
+            StepKind::Allocation { result, .. } => self.live_op(nodes, s, t, *result),
+            StepKind::Branch { .. } | StepKind::Other => self.live_op(nodes, s, t, 0),
         }
     }
 }

@@ -8,7 +8,6 @@ ghost use Rattle.pg_num.specs.declared.width.Width.{Width as AWidth};
 ghost use Rattle.pg_nodes.specs.Nodes.{NodeList};
 ghost use Rattle.pg_closed.specs.declared.decision.Decision.TheVariants.{Pinned};
 ghost use Rattle.pg_closed.specs.Freeable.{frame_of};
-ghost use Rattle.pg_trace.specs.Steps.{range_of, write_by};
 ghost use Rattle.pg_closed.specs.Known.{bytes_by, bytes_freed, bytes_stored, forgotten_bytes, load_of, written_shadow};
 ghost use Rattle.pg_closed.specs.Shadows as shadows;
 ghost use Rattle.pg_reference.specs.Kept.{landmark_at};
@@ -118,25 +117,6 @@ fn written(nodes: &mut Nodes, e: &Event, w: Write, words: &[Source]) -> Result<S
     }
 }
 
-/// Memory after what an event writes.
-fn write_word(
-    nodes: &mut Nodes,
-    memory: &mut ShadowMemory,
-    e: &Event,
-    w: Write,
-    words: &[Source],
-) -> Result<(), AllocError>
-    requires words { AreSources (length nodes.old) words.now }
-    requires names { bytes.AreSources (length nodes.old) memory.old }
-    ensures grew { Grew nodes.old nodes.new }
-    ensures is { OnOk result (bytes.AreSources (length nodes.new) memory.new) }
-    ensures value { (p : NumberedProgram) (b : ℕ) → OnOk result (bytes.shadows_of p nodes.new memory.new b
-        ≡ shadows.stored (range_of (write_by w)) (written_shadow e.now w e.now.kind (registers_by nodes.old words.now)) (bytes.shadows_of p nodes.old memory.old) b) }
-{
-    let s = written(nodes, e, w, words)?;
-    memory.store(place(w.pointer), 8, held(s))
-}
-
 /// Memory after a live event.
 #[tactic(auto, using(pg_sources::proofs::Grows::grew_none))]
 pub(crate) fn write(
@@ -153,7 +133,10 @@ pub(crate) fn write(
         ≡ bytes_by e.now e.now.write (registers_by nodes.old words.now) (bytes.shadows_of p nodes.old memory.old) b) }
 {
     match e.write {
-        Some(w) => write_word(nodes, memory, e, w, words),
+        Some(w) => {
+            let s = written(nodes, e, w, words)?;
+            memory.store(place(w.pointer), 8, held(s))
+        }
         None => Ok(()),
     }
 }

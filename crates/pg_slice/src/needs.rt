@@ -1,6 +1,6 @@
 //! What a live step asks by itself: its pin, the values and the frames that have to be known.
 
-ghost use Rattle.std.specs.Prelude.{◌≡◌, ◌<◌, ◌≤◌, Some, take, slice_get, ◌++◌, ◌∷◌, [], not, ◌&&◌, if◌then◌else◌, length, map, IfOk, IfSome, OnOk};
+ghost use Rattle.std.specs.Prelude.{◌≡◌, ◌<◌, ◌≤◌, Some, take, slice_get, ◌++◌, ◌∷◌, [], not, ◌&&◌, if◌then◌else◌, length, IfOk, IfSome, OnOk};
 ghost use Rattle.pg_trace.specs.declared.step.StepKind.TheVariants as kinds;
 ghost use Rattle.pg_nodes.specs.Nodes.{NodeList};
 ghost use Rattle.pg_closed.specs.declared.decision.Decision.TheVariants as decisions;
@@ -72,26 +72,42 @@ fn first(words: &[u64], count: usize) -> &[u64]
     &words[..count]
 }
 
+/// The registers of a frame, and memory, in a program.
+#[derive(Clone, Copy)]
+struct Frame<'a> {
+    p: &'a Program,
+    memory: &'a ShadowMemory,
+    registers: &'a [Source],
+}
+
 /// What a path of a region's access asks.
 fn access_needs(
     asked: &mut Asked,
     nodes: &mut Nodes,
-    p: &Program,
-    memory: &ShadowMemory,
-    registers: &[Source],
+    frame: &Frame,
     access: &FreeAccess,
 ) -> Result<(), AllocError>
-    requires registers { AreSources (length nodes.old) registers.now }
-    requires names { bytes.AreSources (length nodes.old) memory.now }
+    requires registers { AreSources (length nodes.old) frame.now.registers.now }
+    requires names { bytes.AreSources (length nodes.old) frame.now.memory.now }
     ensures grew { Grew nodes.old nodes.new }
-    ensures adds { IfOk result (λ u. (ns : NodeList) (a : AnAccess) → Grew nodes.new ns → access_as access.now ≡ a → Adds ns (rules.path_needs (bytes.shadows_of p.now ns memory.now)
-        (rules.root_shadow p.now (registers_by ns registers.now) a.path.root) (offsets_of a.path.loads) a.at.pointers a.at.cells a.at.last) asked.old asked.new) }
+    ensures adds { IfOk result (λ u. (ns : NodeList) (a : AnAccess) → Grew nodes.new ns → access_as access.now ≡ a
+        → Adds ns (rules.path_needs (bytes.shadows_of frame.now.p.now ns frame.now.memory.now)
+        (rules.root_shadow frame.now.p.now (registers_by ns frame.now.registers.now) a.path.root) (offsets_of a.path.loads) a.at.pointers a.at.cells a.at.last) asked.old asked.new) }
 {
-    let from = root(nodes, p, access.path.root, registers)?;
+    let from = root(nodes, frame.p, access.path.root, frame.registers)?;
     let (offsets, count) = offsets(access.path.loads);
     let at = first(&offsets, count);
     let pointers = first(&access.pointers, count);
-    path_needs(asked, p, nodes, memory, from, at, pointers, access.last)?;
+    path_needs(
+        asked,
+        frame.p,
+        nodes,
+        frame.memory,
+        from,
+        at,
+        pointers,
+        access.last,
+    )?;
     Ok(())
 }
 
@@ -99,21 +115,20 @@ fn access_needs(
 fn free_access_needs(
     asked: &mut Asked,
     nodes: &mut Nodes,
-    p: &Program,
-    memory: &ShadowMemory,
-    registers: &[Source],
+    frame: &Frame,
     r: &ReferenceRun,
     n: usize,
     k: usize,
 ) -> Result<(), AllocError>
-    requires registers { AreSources (length nodes.old) registers.now }
-    requires names { bytes.AreSources (length nodes.old) memory.now }
+    requires registers { AreSources (length nodes.old) frame.now.registers.now }
+    requires names { bytes.AreSources (length nodes.old) frame.now.memory.now }
     ensures grew { Grew nodes.old nodes.new }
     ensures adds { IfSome (landmark_at r.now n) (λ l. IfSome l.region (λ f. IfOk result (λ u. (ns : NodeList) (a : AnAccess) → Grew nodes.new ns → slice_get f.accesses k ≡ Some a
-        → Adds ns (rules.path_needs (bytes.shadows_of p.now ns memory.now) (rules.root_shadow p.now (registers_by ns registers.now) a.path.root) (offsets_of a.path.loads) a.at.pointers a.at.cells a.at.last) asked.old asked.new))) }
+        → Adds ns (rules.path_needs (bytes.shadows_of frame.now.p.now ns frame.now.memory.now) (rules.root_shadow frame.now.p.now (registers_by ns frame.now.registers.now) a.path.root)
+        (offsets_of a.path.loads) a.at.pointers a.at.cells a.at.last) asked.old asked.new))) }
 {
     if let Some(access) = r.access(n, k) {
-        access_needs(asked, nodes, p, memory, registers, &access)?;
+        access_needs(asked, nodes, frame, &access)?;
     }
     Ok(())
 }
@@ -122,24 +137,22 @@ fn free_access_needs(
 fn region_needs(
     asked: &mut Asked,
     nodes: &mut Nodes,
-    p: &Program,
-    memory: &ShadowMemory,
-    registers: &[Source],
+    frame: &Frame,
     r: &ReferenceRun,
     n: usize,
 ) -> Result<(), AllocError>
     requires number { n < step_count r.now }
-    requires registers { AreSources (length nodes.old) registers.now }
-    requires names { bytes.AreSources (length nodes.old) memory.now }
+    requires registers { AreSources (length nodes.old) frame.now.registers.now }
+    requires names { bytes.AreSources (length nodes.old) frame.now.memory.now }
     ensures grew { Grew nodes.old nodes.new }
-    ensures adds { IfSome (landmark_at r.now n) (λ l. IfOk result (λ u. (ns : NodeList) (x : Seen) → Grew nodes.new ns → rules.registers_before x ≡ registers_by ns registers.now
-        → x.before.bytes ≡ bytes.shadows_of p.now ns memory.now → Adds ns (rules.region_needs_in p.now x l.region) asked.old asked.new)) }
+    ensures adds { IfSome (landmark_at r.now n) (λ l. IfOk result (λ u. (ns : NodeList) (x : Seen) → Grew nodes.new ns → rules.registers_before x ≡ registers_by ns frame.now.registers.now
+        → x.before.bytes ≡ bytes.shadows_of frame.now.p.now ns frame.now.memory.now → Adds ns (rules.region_needs_in frame.now.p.now x l.region) asked.old asked.new)) }
 {
     if !r.is_free(n) {
         return Ok(());
     }
     for k in 0..r.access_count(n) {
-        free_access_needs(asked, nodes, p, memory, registers, r, n, k)?;
+        free_access_needs(asked, nodes, frame, r, n, k)?;
     }
     Ok(())
 }
@@ -164,46 +177,42 @@ fn address(
     }
 }
 
+/// A live step's operation, its kind, and the registers of its frame in a program.
+#[derive(Clone, Copy)]
+struct LiveOp<'a> {
+    p: &'a Program,
+    op: &'a Op,
+    kind: &'a StepKind,
+    registers: &'a [Source],
+}
+
 /// What a load or a store asks.
-fn at_needs(
-    asked: &mut Asked,
-    nodes: &mut Nodes,
-    p: &Program,
-    op: &Op,
-    kind: &StepKind,
-    registers: &[Source],
-    fixed: bool,
-) -> Result<(), AllocError>
-    requires access { IsAccess op.now }
-    requires kind { (a : AStepAccess) × (kind.now ≡ kinds.Access a) }
-    requires sources { AreSources (length nodes.old) registers.now }
+fn at_needs(asked: &mut Asked, nodes: &mut Nodes, s: &LiveOp, fixed: bool) -> Result<(), AllocError>
+    requires access { IsAccess s.now.op.now }
+    requires kind { (a : AStepAccess) × (s.now.kind.now ≡ kinds.Access a) }
+    requires sources { AreSources (length nodes.old) s.now.registers.now }
     ensures grew { Grew nodes.old nodes.new }
-    ensures adds { IfOk result (λ u. (ns : NodeList) → Grew nodes.new ns → Adds ns (steps.step_needs fixed (operand_shadows p.now (registers_by ns registers.now) op.now) op.now kind.now) asked.old asked.new) }
+    ensures adds { IfOk result (λ u. (ns : NodeList) → Grew nodes.new ns
+        → Adds ns (steps.step_needs fixed (operand_shadows s.now.p.now (registers_by ns s.now.registers.now) s.now.op.now) s.now.op.now s.now.kind.now) asked.old asked.new) }
 {
-    let at = address(nodes, p, op, registers)?;
-    step_needs(asked, op, kind, &[at, at], fixed)?;
+    let at = address(nodes, s.p, s.op, s.registers)?;
+    step_needs(asked, s.op, s.kind, &[at, at], fixed)?;
     Ok(())
 }
 
 /// What an event asks that is a call: its first three operands are read.
-fn call_needs(
-    asked: &mut Asked,
-    nodes: &mut Nodes,
-    p: &Program,
-    op: &Op,
-    kind: &StepKind,
-    registers: &[Source],
-) -> Result<(), AllocError>
-    requires call { IsKnownCall op.now }
-    requires kind { (e : AnEvent) × (kind.now ≡ kinds.Event e) }
-    requires sources { AreSources (length nodes.old) registers.now }
+fn call_needs(asked: &mut Asked, nodes: &mut Nodes, s: &LiveOp) -> Result<(), AllocError>
+    requires call { IsKnownCall s.now.op.now }
+    requires kind { (e : AnEvent) × (s.now.kind.now ≡ kinds.Event e) }
+    requires sources { AreSources (length nodes.old) s.now.registers.now }
     ensures grew { Grew nodes.old nodes.new }
-    ensures adds { IfOk result (λ u. (ns : NodeList) → Grew nodes.new ns → Adds ns (steps.step_needs false (operand_shadows p.now (registers_by ns registers.now) op.now) op.now kind.now) asked.old asked.new) }
+    ensures adds { IfOk result (λ u. (ns : NodeList) → Grew nodes.new ns
+        → Adds ns (steps.step_needs false (operand_shadows s.now.p.now (registers_by ns s.now.registers.now) s.now.op.now) s.now.op.now s.now.kind.now) asked.old asked.new) }
 {
-    let first = operand(nodes, p, op, 0, registers)?;
-    let second = operand(nodes, p, op, 1, registers)?;
-    let third = operand(nodes, p, op, 2, registers)?;
-    step_needs(asked, op, kind, &[first, second, third], false)?;
+    let first = operand(nodes, s.p, s.op, 0, s.registers)?;
+    let second = operand(nodes, s.p, s.op, 1, s.registers)?;
+    let third = operand(nodes, s.p, s.op, 2, s.registers)?;
+    step_needs(asked, s.op, s.kind, &[first, second, third], false)?;
     Ok(())
 }
 
@@ -211,28 +220,26 @@ fn call_needs(
 fn branch_needs(
     asked: &mut Asked,
     nodes: &mut Nodes,
-    p: &Program,
-    op: &Op,
-    kind: &StepKind,
-    registers: &[Source],
+    s: &LiveOp,
     fixed: bool,
 ) -> Result<(), AllocError>
-    requires fits { FitsBranch op.now }
-    requires kind { (condition : ℕ) × (kind.now ≡ kinds.Branch condition) }
-    requires sources { AreSources (length nodes.old) registers.now }
+    requires fits { FitsBranch s.now.op.now }
+    requires kind { (condition : ℕ) × (s.now.kind.now ≡ kinds.Branch condition) }
+    requires sources { AreSources (length nodes.old) s.now.registers.now }
     ensures grew { Grew nodes.old nodes.new }
-    ensures adds { IfOk result (λ u. (ns : NodeList) → Grew nodes.new ns → Adds ns (steps.step_needs fixed (operand_shadows p.now (registers_by ns registers.now) op.now) op.now kind.now) asked.old asked.new) }
+    ensures adds { IfOk result (λ u. (ns : NodeList) → Grew nodes.new ns
+        → Adds ns (steps.step_needs fixed (operand_shadows s.now.p.now (registers_by ns s.now.registers.now) s.now.op.now) s.now.op.now s.now.kind.now) asked.old asked.new) }
 {
     if !fixed {
         return Ok(());
     }
-    let on = operand(nodes, p, op, 0, registers)?;
-    step_needs(asked, op, kind, &[on], fixed)?;
+    let on = operand(nodes, s.p, s.op, 0, s.registers)?;
+    step_needs(asked, s.op, s.kind, &[on], fixed)?;
     Ok(())
 }
 
 /// Whether an instruction is a call of `malloc`.
-fn is_malloc(op: &Op) -> bool
+pub fn is_malloc(op: &Op) -> bool
     ensures { result ≡ rules.is_malloc op.now }
 {
     match op {
@@ -242,24 +249,18 @@ fn is_malloc(op: &Op) -> bool
 }
 
 /// What an allocation asks: the size of a `malloc`.
-fn size_needs(
-    asked: &mut Asked,
-    nodes: &mut Nodes,
-    p: &Program,
-    op: &Op,
-    kind: &StepKind,
-    registers: &[Source],
-) -> Result<(), AllocError>
-    requires kind { (size : ℕ) × (place : ℕ) × (kind.now ≡ kinds.Allocation size place) }
-    requires sources { AreSources (length nodes.old) registers.now }
+fn size_needs(asked: &mut Asked, nodes: &mut Nodes, s: &LiveOp) -> Result<(), AllocError>
+    requires kind { (size : ℕ) × (place : ℕ) × (s.now.kind.now ≡ kinds.Allocation size place) }
+    requires sources { AreSources (length nodes.old) s.now.registers.now }
     ensures grew { Grew nodes.old nodes.new }
-    ensures adds { IfOk result (λ u. (ns : NodeList) → Grew nodes.new ns → Adds ns (steps.step_needs false (operand_shadows p.now (registers_by ns registers.now) op.now) op.now kind.now) asked.old asked.new) }
+    ensures adds { IfOk result (λ u. (ns : NodeList) → Grew nodes.new ns
+        → Adds ns (steps.step_needs false (operand_shadows s.now.p.now (registers_by ns s.now.registers.now) s.now.op.now) s.now.op.now s.now.kind.now) asked.old asked.new) }
 {
-    if !is_malloc(op) {
+    if !is_malloc(s.op) {
         return Ok(());
     }
-    let size = operand(nodes, p, op, 0, registers)?;
-    step_needs(asked, op, kind, &[size], false)?;
+    let size = operand(nodes, s.p, s.op, 0, s.registers)?;
+    step_needs(asked, s.op, s.kind, &[size], false)?;
     Ok(())
 }
 
@@ -274,21 +275,15 @@ fn is_call(op: &Op) -> bool
 }
 
 /// What an event asks that is no load or store: a start and an exit by a return ask nothing.
-fn event_needs(
-    asked: &mut Asked,
-    nodes: &mut Nodes,
-    p: &Program,
-    op: &Op,
-    kind: &StepKind,
-    registers: &[Source],
-) -> Result<(), AllocError>
-    requires kind { (e : AnEvent) × (kind.now ≡ kinds.Event e) × FitsEvent e op.now }
-    requires sources { AreSources (length nodes.old) registers.now }
+fn event_needs(asked: &mut Asked, nodes: &mut Nodes, s: &LiveOp) -> Result<(), AllocError>
+    requires kind { (e : AnEvent) × (s.now.kind.now ≡ kinds.Event e) × FitsEvent e s.now.op.now }
+    requires sources { AreSources (length nodes.old) s.now.registers.now }
     ensures grew { Grew nodes.old nodes.new }
-    ensures adds { IfOk result (λ u. (ns : NodeList) → Grew nodes.new ns → Adds ns (steps.step_needs false (operand_shadows p.now (registers_by ns registers.now) op.now) op.now kind.now) asked.old asked.new) }
+    ensures adds { IfOk result (λ u. (ns : NodeList) → Grew nodes.new ns
+        → Adds ns (steps.step_needs false (operand_shadows s.now.p.now (registers_by ns s.now.registers.now) s.now.op.now) s.now.op.now s.now.kind.now) asked.old asked.new) }
 {
-    if is_call(op) {
-        call_needs(asked, nodes, p, op, kind, registers)?;
+    if is_call(s.op) {
+        call_needs(asked, nodes, s)?;
     }
     Ok(())
 }
@@ -297,22 +292,20 @@ fn event_needs(
 fn operand_needs(
     asked: &mut Asked,
     nodes: &mut Nodes,
-    p: &Program,
-    op: &Op,
-    kind: &StepKind,
-    registers: &[Source],
+    s: &LiveOp,
     fixed: bool,
 ) -> Result<(), AllocError>
-    requires fits { FitsKind op.now kind.now }
-    requires sources { AreSources (length nodes.old) registers.now }
+    requires fits { FitsKind s.now.op.now s.now.kind.now }
+    requires sources { AreSources (length nodes.old) s.now.registers.now }
     ensures grew { Grew nodes.old nodes.new }
-    ensures adds { IfOk result (λ u. (ns : NodeList) → Grew nodes.new ns → Adds ns (steps.step_needs fixed (operand_shadows p.now (registers_by ns registers.now) op.now) op.now kind.now) asked.old asked.new) }
+    ensures adds { IfOk result (λ u. (ns : NodeList) → Grew nodes.new ns
+        → Adds ns (steps.step_needs fixed (operand_shadows s.now.p.now (registers_by ns s.now.registers.now) s.now.op.now) s.now.op.now s.now.kind.now) asked.old asked.new) }
 {
-    match kind {
-        StepKind::Access(_) => at_needs(asked, nodes, p, op, kind, registers, fixed),
-        StepKind::Branch { .. } => branch_needs(asked, nodes, p, op, kind, registers, fixed),
-        StepKind::Allocation { .. } => size_needs(asked, nodes, p, op, kind, registers),
-        StepKind::Event(_) => event_needs(asked, nodes, p, op, kind, registers),
+    match s.kind {
+        StepKind::Access(_) => at_needs(asked, nodes, s, fixed),
+        StepKind::Branch { .. } => branch_needs(asked, nodes, s, fixed),
+        StepKind::Allocation { .. } => size_needs(asked, nodes, s),
+        StepKind::Event(_) => event_needs(asked, nodes, s),
         StepKind::Other => Ok(()),
     }
 }
@@ -380,15 +373,18 @@ pub(crate) fn needs(
     }
     pin_needs(&mut asked.missing, d, r, &step.kind, n)?;
     let registers = s.registers(t);
-    operand_needs(
-        asked,
-        nodes,
+    let live = LiveOp {
         p,
-        &x.op,
-        &step.kind,
+        op: &x.op,
+        kind: &step.kind,
         registers,
-        is_fixed(d, &step.kind, n),
-    )?;
-    region_needs(asked, nodes, p, &s.memory, registers, r, n)?;
+    };
+    operand_needs(asked, nodes, &live, is_fixed(d, &step.kind, n))?;
+    let frame = Frame {
+        p,
+        memory: &s.memory,
+        registers,
+    };
+    region_needs(asked, nodes, &frame, r, n)?;
     Ok(())
 }

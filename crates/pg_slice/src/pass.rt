@@ -1,17 +1,16 @@
+//! One pass over a reference run.
+
 ghost use Rattle.std.specs.Prelude.{◌≡◌, ◌<◌, ◌+◌, ◌↔◌, ℤ, List, [], Contains, Some, length, slice_get, slice_index_or, IfOk, OnOk};
 ghost use Rattle.pg_ir.specs.declared.ids.InstrId.{InstrId};
 ghost use Rattle.pg_closed.specs.Closed.{admits, asks};
 ghost use Rattle.pg_closed.specs.declared.decision.Decision.{Decision as ADecision};
 ghost use Rattle.pg_closed.specs.Freeable.{Regions};
 ghost use Rattle.pg_decisions.specs.Steps.{taken_by};
-ghost use Rattle.pg_intervals.specs.Intervals.{intervals_of};
-ghost use Rattle.pg_intervals.specs.declared.interval.Turns.TheVariants.{Recorded};
 ghost use Rattle.pg_needed.specs.Names.{AreNeeded};
 ghost use Rattle.pg_needs.specs.Asks.{AreNamed, all_hold};
 ghost use Rattle.pg_nodes.specs.Values.{is_admitted};
-ghost use Rattle.pg_reference.specs.Kept.{step_count};
 ghost use Rattle.pg_sources.specs.Sources.{Grew};
-ghost use Rattle.pg_slice.specs.Given.{AreSteps, EdgesStand, HasLandmarks, reference_of};
+ghost use Rattle.pg_slice.specs.Given.{AreGiven, HasLandmarks, reference_of};
 ghost use Rattle.std.specs.Prelude.{◌++◌, map};
 ghost use Rattle.pg_conflicts.specs.Meets.{InOrder, is_met};
 ghost use Rattle.pg_slice.specs.Prints.{asks_of_met};
@@ -19,19 +18,18 @@ ghost use Rattle.pg_slice.specs.Passes.{HasPassed};
 ghost use Rattle.pg_slice.specs.Timed.{AreEarlier};
 ghost use Rattle.pg_slice.specs.State.{AreKept};
 
+use crate::given::GivenRun;
 use crate::needs::needs;
-use crate::prints::{Prints, ask_met, print_live};
+use crate::prints::{Prints, TimedStep, ask_met, print_live};
 use crate::state::RunSources;
+use crate::step::StepAt;
 use pg_closed::Decision;
 use pg_conflicts::conflicts;
 use pg_decisions::DecisionSet;
 use pg_intervals::Interval;
-use pg_ir::Program;
 use pg_needed::needed;
 use pg_needs::Asked;
 use pg_nodes::{Check, Nodes, Precondition};
-use pg_reference::ReferenceRun;
-use pg_trace::Trace;
 use std::alloc::{AllocError, Global};
 
 /// What a pass over a reference run gives: the decisions that are missing, and what an input must give.
@@ -85,34 +83,52 @@ fn pass_step(
     alloc: Global,
     nodes: &mut Nodes,
     g: &mut Gathered,
-    p: &Program,
-    t: &Trace,
-    intervals: &[Interval],
-    r: &ReferenceRun,
+    run: &GivenRun,
     d: &DecisionSet,
     n: usize,
 ) -> Result<(), AllocError>
-    requires edges { EdgesStand p.now r.now }
-    requires steps { AreSteps p.now t.now.steps }
-    requires count { step_count r.now ≡ length t.now.steps }
-    requires intervals { intervals.now ≡ intervals_of Recorded t.now.steps }
-    requires few { length t.now.steps < 4294967296 }
-    requires number { n < length t.now.steps }
+    requires given { AreGiven run.now.p.now run.now.t.now.steps run.now.intervals.now run.now.r.now }
+    requires number { n < length run.now.t.now.steps }
     requires sources { AreKept (length nodes.old) g.old.sources }
     ensures grew { Grew nodes.old nodes.new }
     ensures sources { OnOk result (AreKept (length nodes.new) g.new.sources) }
-    ensures earlier { OnOk result (AreEarlier t.now.steps n g.old.prints → AreEarlier t.now.steps (n + 1) g.new.prints) }
+    ensures earlier { OnOk result (AreEarlier run.now.t.now.steps n g.old.prints → AreEarlier run.now.t.now.steps (n + 1) g.new.prints) }
     ensures named { OnOk result (AreNamed (length nodes.old) g.old.asked.checks.items → AreNamed (length nodes.new) g.new.asked.checks.items) }
-    ensures passed { OnOk result ((regions : Regions) (gated : List InstrId) (input : List ℤ) → HasLandmarks (reference_of p.now regions gated input t.now.steps) r.now
-        → HasPassed (reference_of p.now regions gated input t.now.steps) (taken_by d.now) n nodes.old g.old
-        → HasPassed (reference_of p.now regions gated input t.now.steps) (taken_by d.now) (n + 1) nodes.new g.new) }
+    ensures passed { OnOk result ((regions : Regions) (gated : List InstrId) (input : List ℤ) → HasLandmarks (reference_of run.now.p.now regions gated input run.now.t.now.steps) run.now.r.now
+        → HasPassed (reference_of run.now.p.now regions gated input run.now.t.now.steps) (taken_by d.now) n nodes.old g.old
+        → HasPassed (reference_of run.now.p.now regions gated input run.now.t.now.steps) (taken_by d.now) (n + 1) nodes.new g.new) }
 {
-    let step = t.step(n);
-    let x = p.instr(step.instr);
-    let interval = interval_at(intervals, n);
-    needs(&mut g.asked, nodes, p, &g.sources, &step, x, d, r, n)?;
-    print_live(&mut g.prints, &g.sources, &step, interval, r, n)?;
-    g.sources.step(alloc, nodes, p, x, &step, d, r, n)?;
+    let step = run.t.step(n);
+    let x = run.p.instr(step.instr);
+    let interval = interval_at(run.intervals, n);
+    needs(
+        &mut g.asked,
+        nodes,
+        run.p,
+        &g.sources,
+        &step,
+        x,
+        d,
+        run.r,
+        n,
+    )?;
+    let at = TimedStep {
+        step: &step,
+        interval,
+        r: run.r,
+        n,
+    };
+    print_live(&mut g.prints, &g.sources, &at)?;
+    let s = StepAt {
+        alloc,
+        p: run.p,
+        x,
+        step: &step,
+        d,
+        r: run.r,
+        n,
+    };
+    g.sources.step(nodes, &s)?;
     Ok(())
 }
 
@@ -120,32 +136,26 @@ fn pass_step(
 fn gather(
     alloc: Global,
     nodes: &mut Nodes,
-    p: &Program,
-    t: &Trace,
-    intervals: &[Interval],
-    r: &ReferenceRun,
+    run: &GivenRun,
     d: &DecisionSet,
 ) -> Result<Gathered, AllocError>
-    requires edges { EdgesStand p.now r.now }
-    requires steps { AreSteps p.now t.now.steps }
-    requires count { step_count r.now ≡ length t.now.steps }
-    requires intervals { intervals.now ≡ intervals_of Recorded t.now.steps }
-    requires few { length t.now.steps < 4294967296 }
+    requires given { AreGiven run.now.p.now run.now.t.now.steps run.now.intervals.now run.now.r.now }
     requires nodes { nodes.old ≡ [] }
     ensures order { IfOk result (λ g. InOrder g.prints.prints.items) }
     ensures owned { IfOk result (λ g. length g.prints.owners.items ≡ length g.prints.prints.items) }
     ensures named { IfOk result (λ g. AreNamed (length nodes.new) g.asked.checks.items) }
-    ensures passed { IfOk result (λ g. (regions : Regions) (gated : List InstrId) (input : List ℤ) → HasLandmarks (reference_of p.now regions gated input t.now.steps) r.now
-        → HasPassed (reference_of p.now regions gated input t.now.steps) (taken_by d.now) (length t.now.steps) nodes.new g) }
+    ensures passed { IfOk result (λ g. (regions : Regions) (gated : List InstrId) (input : List ℤ)
+        → HasLandmarks (reference_of run.now.p.now regions gated input run.now.t.now.steps) run.now.r.now
+        → HasPassed (reference_of run.now.p.now regions gated input run.now.t.now.steps) (taken_by d.now) (length run.now.t.now.steps) nodes.new g) }
 {
-    let sources = RunSources::start(alloc, nodes, p)?;
+    let sources = RunSources::start(alloc, nodes, run.p)?;
     let mut g = Gathered {
         sources,
         asked: Asked::new(alloc),
         prints: Prints::new(alloc),
     };
-    for n in 0..t.len() {
-        pass_step(alloc, nodes, &mut g, p, t, intervals, r, d, n)?;
+    for n in 0..run.t.len() {
+        pass_step(alloc, nodes, &mut g, run, d, n)?;
     }
     Ok(g)
 }
@@ -159,7 +169,8 @@ fn all_missing(
 ) -> Result<Vec<Decision>, AllocError>
     requires order { InOrder prints.now.prints.items }
     requires owned { length prints.now.owners.items ≡ length prints.now.prints.items }
-    ensures { IfOk result (λ v. v.items ≡ missing.items ++ asks_of_met (taken_by d.now) prints.now.prints.items prints.now.owners.items (map (is_met prints.now.prints.items) prints.now.prints.items)) }
+    ensures { IfOk result (λ v. v.items ≡ missing.items
+        ++ asks_of_met (taken_by d.now) prints.now.prints.items prints.now.owners.items (map (is_met prints.now.prints.items) prints.now.prints.items)) }
 {
     let marks = conflicts(alloc, prints.prints.as_slice())?;
     ask_met(
@@ -196,27 +207,18 @@ fn finished(alloc: Global, nodes: Nodes, g: Gathered, d: &DecisionSet) -> Result
 /// # Errors
 ///
 /// Where no memory is left.
-pub fn pass_over(
-    alloc: Global,
-    p: &Program,
-    t: &Trace,
-    intervals: &[Interval],
-    r: &ReferenceRun,
-    d: &DecisionSet,
-) -> Result<Passed, AllocError>
-    requires edges { EdgesStand p.now r.now }
-    requires steps { AreSteps p.now t.now.steps }
-    requires count { step_count r.now ≡ length t.now.steps }
-    requires intervals { intervals.now ≡ intervals_of Recorded t.now.steps }
-    requires few { length t.now.steps < 4294967296 }
-    ensures missing { IfOk result (λ s. (regions : Regions) (gated : List InstrId) (input : List ℤ) → HasLandmarks (reference_of p.now regions gated input t.now.steps) r.now
-        → (x : ADecision) → Contains s.missing.items x ↔ Contains (asks (reference_of p.now regions gated input t.now.steps) (taken_by d.now)) x) }
-    ensures admits { IfOk result (λ s. (regions : Regions) (gated : List InstrId) (input other : List ℤ) → HasLandmarks (reference_of p.now regions gated input t.now.steps) r.now
-        → is_admitted other s.precondition ≡ admits (reference_of p.now regions gated input t.now.steps) (taken_by d.now) other) }
+pub fn pass_over(alloc: Global, run: &GivenRun, d: &DecisionSet) -> Result<Passed, AllocError>
+    requires given { AreGiven run.now.p.now run.now.t.now.steps run.now.intervals.now run.now.r.now }
+    ensures missing { IfOk result (λ s. (regions : Regions) (gated : List InstrId) (input : List ℤ)
+        → HasLandmarks (reference_of run.now.p.now regions gated input run.now.t.now.steps) run.now.r.now
+        → (x : ADecision) → Contains s.missing.items x ↔ Contains (asks (reference_of run.now.p.now regions gated input run.now.t.now.steps) (taken_by d.now)) x) }
+    ensures admits { IfOk result (λ s. (regions : Regions) (gated : List InstrId) (input other : List ℤ)
+        → HasLandmarks (reference_of run.now.p.now regions gated input run.now.t.now.steps) run.now.r.now
+        → is_admitted other s.precondition ≡ admits (reference_of run.now.p.now regions gated input run.now.t.now.steps) (taken_by d.now) other) }
     ensures needed { IfOk result (λ s. AreNeeded s.precondition) }
 {
     let mut nodes = Nodes::new(alloc);
-    let g = gather(alloc, &mut nodes, p, t, intervals, r, d)?;
+    let g = gather(alloc, &mut nodes, run, d)?;
     let passed = finished(alloc, nodes, g, d)?;
     Ok(passed)
 }

@@ -12,10 +12,9 @@ ghost use Rattle.pg_slice.specs.Prints.{asks_of_met, owners_at};
 ghost use Rattle.std.specs.Prelude.{◌∷◌, [], true, if◌then◌else◌};
 ghost use Rattle.std.specs.Option.{option_to_list};
 ghost use Rattle.pg_closed.specs.Rules as rules;
-ghost use Rattle.pg_closed.specs.Freeable.{frame_of};
 ghost use Rattle.pg_slice.specs.Passes.{IsAt, IsTimed};
 ghost use Rattle.pg_slice.specs.Timed.{AddsOf};
-ghost use Rattle.pg_slice.specs.Prints.{met_asks, print_by};
+ghost use Rattle.pg_slice.specs.Prints.{met_asks, print_at, print_by};
 ghost use Rattle.pg_closed.specs.Freeable.{FreeAccess as AnAccess};
 ghost use Rattle.std.specs.Prelude.{Some, map, slice_get};
 ghost use Rattle.pg_conflicts.specs.declared.footprint.Footprint.{Footprint as AFootprint};
@@ -44,17 +43,26 @@ pub(crate) struct Prints {
     pub(crate) owners: Vec<Owner>,
 }
 
+/// A step of a run: what it did, its interval, and its number.
+#[derive(Clone, Copy)]
+pub(crate) struct TimedStep<'a> {
+    pub step: &'a Step,
+    pub interval: Interval,
+    pub r: &'a ReferenceRun,
+    pub n: usize,
+}
+
 /// The footprint of the frame of a pointer; the interval's ends are below two to the 32.
-fn print(step: &Step, interval: Interval, word: u64, writes: bool, of_region: bool) -> Footprint
-    requires low { interval.low < 4294967296 }
-    requires high { interval.high < 4294967296 }
-    ensures { result ≡ record { thread = step.now.thread; low = interval.low; high = interval.high; start = (frame_of word).start; bytes = (frame_of word).bytes; writes = writes; of_region = of_region } }
+fn print(at: &TimedStep, word: u64, writes: bool, of_region: bool) -> Footprint
+    requires low { at.now.interval.low < 4294967296 }
+    requires high { at.now.interval.high < 4294967296 }
+    ensures { result ≡ print_at at.now.step.now at.now.interval word writes of_region }
 {
     let f = frame(word);
     Footprint {
-        thread: step.thread,
-        low: interval.low as u32,
-        high: interval.high as u32,
+        thread: at.step.thread,
+        low: at.interval.low as u32,
+        high: at.interval.high as u32,
         start: f.start,
         bytes: f.bytes,
         writes,
@@ -84,98 +92,94 @@ impl Prints {
         Ok(())
     }
 
-    /// The footprints of a live step: of its access, and of its region.
-    pub(crate) fn add(
+    /// The footprint of the frame of a pointer more.
+    fn note(
         &mut self,
-        step: &Step,
-        interval: Interval,
-        r: &ReferenceRun,
-        n: usize,
+        at: &TimedStep,
+        word: u64,
+        writes: bool,
+        of_region: bool,
+        owner: Owner,
     ) -> Result<(), AllocError>
-        requires number { n < step_count r.now }
-        requires low { interval.low < 4294967296 }
-        requires high { interval.high < 4294967296 }
-        ensures timed { OnOk result (AddsOf step.now interval self.old self.new) }
-        ensures prints { OnOk result ((x : Seen) → IsTimed x step.now interval → x.live ≡ true → IfSome (landmark_at r.now n) (λ l. x.region ≡ l.region)
+        requires low { at.now.interval.low < 4294967296 }
+        requires high { at.now.interval.high < 4294967296 }
+        ensures timed { OnOk result (AddsOf at.now.step.now at.now.interval self.old self.new) }
+        ensures prints { OnOk result (self.new.prints.items ≡ self.old.prints.items ++ print_at at.now.step.now at.now.interval word writes of_region ∷ []) }
+        ensures owners { OnOk result (self.new.owners.items ≡ self.old.owners.items ++ owner ∷ []) }
+    {
+        self.push(print(at, word, writes, of_region), owner)?;
+        Ok(())
+    }
+
+    /// The footprints of a live step: of its access, and of its region.
+    pub(crate) fn add(&mut self, at: &TimedStep) -> Result<(), AllocError>
+        requires number { at.now.n < step_count at.now.r.now }
+        requires low { at.now.interval.low < 4294967296 }
+        requires high { at.now.interval.high < 4294967296 }
+        ensures timed { OnOk result (AddsOf at.now.step.now at.now.interval self.old self.new) }
+        ensures prints { OnOk result ((x : Seen) → IsTimed x at.now.step.now at.now.interval → x.live ≡ true → IfSome (landmark_at at.now.r.now at.now.n) (λ l. x.region ≡ l.region)
             → self.new.prints.items ≡ self.old.prints.items ++ (access_prints x ++ region_prints x)) }
-        ensures owners { OnOk result ((x : Seen) → IsTimed x step.now interval → x.live ≡ true → x.number ≡ n → IfSome (landmark_at r.now n) (λ l. x.region ≡ l.region)
+        ensures owners { OnOk result ((x : Seen) → IsTimed x at.now.step.now at.now.interval → x.live ≡ true → x.number ≡ at.now.n
+            → IfSome (landmark_at at.now.r.now at.now.n) (λ l. x.region ≡ l.region)
             → self.new.owners.items ≡ self.old.owners.items ++ owners_at x) }
     {
         let owner = Owner {
-            step: n,
-            plain: is_plain(&step.kind),
+            step: at.n,
+            plain: is_plain(&at.step.kind),
         };
-        self.add_access(step, interval, owner)?;
-        self.add_region(step, interval, r, n, owner)?;
+        self.add_access(at, owner)?;
+        self.add_region(at, owner)?;
         Ok(())
     }
 
     /// The footprint of the access of a live step, if it has one.
-    fn add_access(
-        &mut self,
-        step: &Step,
-        interval: Interval,
-        owner: Owner,
-    ) -> Result<(), AllocError>
-        requires low { interval.low < 4294967296 }
-        requires high { interval.high < 4294967296 }
-        ensures timed { OnOk result (AddsOf step.now interval self.old self.new) }
-        ensures prints { OnOk result ((x : Seen) → IsTimed x step.now interval → x.live ≡ true → self.new.prints.items ≡ self.old.prints.items ++ access_prints x) }
-        ensures owners { OnOk result ((x : Seen) → IsTimed x step.now interval → x.live ≡ true → self.new.owners.items ≡ self.old.owners.items ++ map (λ (f : AFootprint). owner) (access_prints x)) }
+    fn add_access(&mut self, at: &TimedStep, owner: Owner) -> Result<(), AllocError>
+        requires low { at.now.interval.low < 4294967296 }
+        requires high { at.now.interval.high < 4294967296 }
+        ensures timed { OnOk result (AddsOf at.now.step.now at.now.interval self.old self.new) }
+        ensures prints { OnOk result ((x : Seen) → IsTimed x at.now.step.now at.now.interval → x.live ≡ true → self.new.prints.items ≡ self.old.prints.items ++ access_prints x) }
+        ensures owners { OnOk result ((x : Seen) → IsTimed x at.now.step.now at.now.interval → x.live ≡ true
+            → self.new.owners.items ≡ self.old.owners.items ++ map (λ (f : AFootprint). owner) (access_prints x)) }
     {
-        if let Some(a) = step.access() {
-            self.push(print(step, interval, a.pointer, a.writes, false), owner)?;
+        if let Some(a) = at.step.access() {
+            self.note(at, a.pointer, a.writes, false, owner)?;
         }
         Ok(())
     }
 
     /// The footprint of an access of a region, if there is one with this number.
-    fn add_free(
-        &mut self,
-        step: &Step,
-        interval: Interval,
-        r: &ReferenceRun,
-        n: usize,
-        k: usize,
-        owner: Owner,
-    ) -> Result<(), AllocError>
-        requires low { interval.low < 4294967296 }
-        requires high { interval.high < 4294967296 }
-        ensures timed { OnOk result (AddsOf step.now interval self.old self.new) }
-        ensures prints { IfSome (landmark_at r.now n) (λ l. IfSome l.region (λ f. OnOk result ((x : Seen) (a : AnAccess) → IsTimed x step.now interval → slice_get f.accesses k ≡ Some a
+    fn add_free(&mut self, at: &TimedStep, k: usize, owner: Owner) -> Result<(), AllocError>
+        requires low { at.now.interval.low < 4294967296 }
+        requires high { at.now.interval.high < 4294967296 }
+        ensures timed { OnOk result (AddsOf at.now.step.now at.now.interval self.old self.new) }
+        ensures prints { IfSome (landmark_at at.now.r.now at.now.n)
+            (λ l. IfSome l.region (λ f. OnOk result ((x : Seen) (a : AnAccess) → IsTimed x at.now.step.now at.now.interval → slice_get f.accesses k ≡ Some a
             → self.new.prints.items ≡ self.old.prints.items ++ print_by x a ∷ []))) }
-        ensures owners { IfSome (landmark_at r.now n) (λ l. IfSome l.region (λ f. OnOk result ((a : AnAccess) → slice_get f.accesses k ≡ Some a
+        ensures owners { IfSome (landmark_at at.now.r.now at.now.n) (λ l. IfSome l.region (λ f. OnOk result ((a : AnAccess) → slice_get f.accesses k ≡ Some a
             → self.new.owners.items ≡ self.old.owners.items ++ owner ∷ []))) }
     {
-        if let Some(a) = r.access(n, k) {
-            self.push(print(step, interval, a.last, a.writes, true), owner)?;
+        if let Some(a) = at.r.access(at.n, k) {
+            self.note(at, a.last, a.writes, true, owner)?;
         }
         Ok(())
     }
 
     /// The footprints of the region of a live step, which is free where it has one.
-    fn add_region(
-        &mut self,
-        step: &Step,
-        interval: Interval,
-        r: &ReferenceRun,
-        n: usize,
-        owner: Owner,
-    ) -> Result<(), AllocError>
-        requires number { n < step_count r.now }
-        requires low { interval.low < 4294967296 }
-        requires high { interval.high < 4294967296 }
-        ensures timed { OnOk result (AddsOf step.now interval self.old self.new) }
-        ensures prints { OnOk result ((x : Seen) → IsTimed x step.now interval → x.live ≡ true → IfSome (landmark_at r.now n) (λ l. x.region ≡ l.region)
+    fn add_region(&mut self, at: &TimedStep, owner: Owner) -> Result<(), AllocError>
+        requires number { at.now.n < step_count at.now.r.now }
+        requires low { at.now.interval.low < 4294967296 }
+        requires high { at.now.interval.high < 4294967296 }
+        ensures timed { OnOk result (AddsOf at.now.step.now at.now.interval self.old self.new) }
+        ensures prints { OnOk result ((x : Seen) → IsTimed x at.now.step.now at.now.interval → x.live ≡ true → IfSome (landmark_at at.now.r.now at.now.n) (λ l. x.region ≡ l.region)
             → self.new.prints.items ≡ self.old.prints.items ++ region_prints x) }
-        ensures owners { OnOk result ((x : Seen) → IsTimed x step.now interval → x.live ≡ true → IfSome (landmark_at r.now n) (λ l. x.region ≡ l.region)
+        ensures owners { OnOk result ((x : Seen) → IsTimed x at.now.step.now at.now.interval → x.live ≡ true → IfSome (landmark_at at.now.r.now at.now.n) (λ l. x.region ≡ l.region)
             → self.new.owners.items ≡ self.old.owners.items ++ map (λ (f : AFootprint). owner) (region_prints x)) }
     {
-        if !r.is_free(n) {
+        if !at.r.is_free(at.n) {
             return Ok(());
         }
-        for k in 0..r.access_count(n) {
-            self.add_free(step, interval, r, n, k, owner)?;
+        for k in 0..at.r.access_count(at.n) {
+            self.add_free(at, k, owner)?;
         }
         Ok(())
     }
@@ -185,24 +189,23 @@ impl Prints {
 pub(crate) fn print_live(
     prints: &mut Prints,
     s: &RunSources,
-    step: &Step,
-    interval: Interval,
-    r: &ReferenceRun,
-    n: usize,
+    at: &TimedStep,
 ) -> Result<(), AllocError>
-    requires number { n < step_count r.now }
-    requires low { interval.low < 4294967296 }
-    requires high { interval.high < 4294967296 }
-    ensures timed { OnOk result (AddsOf step.now interval prints.old prints.new) }
-    ensures prints { OnOk result ((R : Reference) (d : Taken) (p : NumberedProgram) (ns : NodeList) (i : AnInstr) (y : Seen) → IsAt R d p ns s.now r.now n step.now i y → IsTimed y step.now interval
+    requires number { at.now.n < step_count at.now.r.now }
+    requires low { at.now.interval.low < 4294967296 }
+    requires high { at.now.interval.high < 4294967296 }
+    ensures timed { OnOk result (AddsOf at.now.step.now at.now.interval prints.old prints.new) }
+    ensures prints { OnOk result ((R : Reference) (d : Taken) (p : NumberedProgram) (ns : NodeList) (i : AnInstr) (y : Seen) → IsAt R d p ns s.now at.now.r.now at.now.n at.now.step.now i y
+        → IsTimed y at.now.step.now at.now.interval
         → prints.new.prints.items ≡ prints.old.prints.items ++ (access_prints y ++ region_prints y)) }
-    ensures owners { OnOk result ((R : Reference) (d : Taken) (p : NumberedProgram) (ns : NodeList) (i : AnInstr) (y : Seen) → IsAt R d p ns s.now r.now n step.now i y → IsTimed y step.now interval
+    ensures owners { OnOk result ((R : Reference) (d : Taken) (p : NumberedProgram) (ns : NodeList) (i : AnInstr) (y : Seen) → IsAt R d p ns s.now at.now.r.now at.now.n at.now.step.now i y
+        → IsTimed y at.now.step.now at.now.interval
         → prints.new.owners.items ≡ prints.old.owners.items ++ owners_at y) }
 {
-    if !s.is_live(step.thread.0 as usize) {
+    if !s.is_live(at.step.thread.0 as usize) {
         return Ok(());
     }
-    prints.add(step, interval, r, n)?;
+    prints.add(at)?;
     Ok(())
 }
 

@@ -1,29 +1,19 @@
-ghost use Rattle.std.specs.Prelude.{◌≡◌, ◌<◌, ◌⊎◌, ◌||◌, ℤ, All, List, Contains, Some, false, true, length, slice_get, IfOk};
-ghost use Rattle.pg_ir.specs.declared.ids.InstrId.{InstrId};
-ghost use Rattle.pg_closed.specs.Closed.{IsSlice, admits};
+//! The slice of a reference run, by passes.
+
+ghost use Rattle.std.specs.Prelude.{◌≡◌, ◌<◌, ◌⊎◌, ◌||◌, Contains, Some, false, true, length, slice_get, IfOk};
 ghost use Rattle.pg_closed.specs.declared.decision.Decision.{Decision as ADecision};
-ghost use Rattle.pg_closed.specs.Freeable.{Regions};
 ghost use Rattle.pg_closed.specs.Known.{has};
 ghost use Rattle.pg_closed.specs.Sets.{taken};
 ghost use Rattle.pg_decisions.specs.Marks.{members_from};
 ghost use Rattle.pg_decisions.specs.Steps.{AreOf, left_by, step_of, taken_by};
-ghost use Rattle.pg_intervals.specs.Intervals.{intervals_of};
-ghost use Rattle.pg_intervals.specs.declared.interval.Turns.TheVariants.{Recorded};
-ghost use Rattle.pg_least.specs.Keeps.{ExtentsKeep};
-ghost use Rattle.pg_needed.specs.Names.{AreNeeded};
-ghost use Rattle.pg_nodes.specs.Values.{is_admitted};
-ghost use Rattle.pg_reference.specs.Kept.{step_count};
-ghost use Rattle.pg_slice.specs.Listed.{AreListed};
-ghost use Rattle.pg_slice.specs.Given.{AreSteps, EdgesStand, HasLandmarks, reference_of};
+ghost use Rattle.pg_slice.specs.Given.{AreGiven};
+ghost use Rattle.pg_slice.specs.Sliced.{IsSliceOf};
 
+use crate::given::GivenRun;
 use crate::pass::pass_over;
 use pg_closed::{Decision, Decisions};
 use pg_decisions::DecisionSet;
-use pg_intervals::Interval;
-use pg_ir::Program;
 use pg_nodes::Precondition;
-use pg_reference::ReferenceRun;
-use pg_trace::Trace;
 use std::alloc::{AllocError, Global};
 
 /// The slice of a reference run, and what an input must give so that it serves.
@@ -120,31 +110,14 @@ pub fn sliced(
 /// # Errors
 ///
 /// Where no memory is left.
-pub fn slice_by_passes(
-    alloc: Global,
-    p: &Program,
-    t: &Trace,
-    intervals: &[Interval],
-    r: &ReferenceRun,
-) -> Result<Slice, AllocError>
-    requires edges { EdgesStand p.now r.now }
-    requires steps { AreSteps p.now t.now.steps }
-    requires count { step_count r.now ≡ length t.now.steps }
-    requires intervals { intervals.now ≡ intervals_of Recorded t.now.steps }
-    requires few { length t.now.steps < 4294967296 }
-    ensures slice { IfOk result (λ s. (regions : Regions) (gated : List InstrId) (input : List ℤ) → HasLandmarks (reference_of p.now regions gated input t.now.steps) r.now
-        → ExtentsKeep (reference_of p.now regions gated input t.now.steps) → IsSlice (reference_of p.now regions gated input t.now.steps) (taken s.decisions.pinned.items s.decisions.exact.items)) }
-    ensures admits { IfOk result (λ s. (regions : Regions) (gated : List InstrId) (input other : List ℤ) → HasLandmarks (reference_of p.now regions gated input t.now.steps) r.now
-        → is_admitted other s.precondition ≡ admits (reference_of p.now regions gated input t.now.steps) (taken s.decisions.pinned.items s.decisions.exact.items) other) }
-    ensures pinned { IfOk result (λ s. All (λ n. n < length t.now.steps) s.decisions.pinned.items) }
-    ensures exact { IfOk result (λ s. All (λ n. n < length t.now.steps) s.decisions.exact.items) }
-    ensures listed { IfOk result (λ s. AreListed (length t.now.steps) s.decisions) }
-    ensures needed { IfOk result (λ s. AreNeeded s.precondition) }
+pub fn slice_by_passes(alloc: Global, run: &GivenRun) -> Result<Slice, AllocError>
+    requires given { AreGiven run.now.p.now run.now.t.now.steps run.now.intervals.now run.now.r.now }
+    ensures { IfOk result (IsSliceOf run.now.p.now run.now.t.now.steps run.now.r.now) }
 {
-    let steps = t.len();
+    let steps = run.t.len();
     let mut d = DecisionSet::none(alloc, steps)?;
     loop {
-        let passed = pass_over(alloc, p, t, intervals, r, &d)?;
+        let passed = pass_over(alloc, run, &d)?;
         if !take_new(&mut d, steps, passed.missing.as_slice()) {
             return sliced(alloc, &d, passed.precondition);
         }

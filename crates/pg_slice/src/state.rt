@@ -1,3 +1,5 @@
+//! What is known before a step.
+
 ghost use Rattle.std.specs.Prelude.{◌≡◌, ◌<◌, ℕ, Bool, length, slice_get, IfOk, IfSome, Some, OnOk, if◌then◌else◌};
 ghost use Rattle.pg_ir.specs.Program.{NumberedProgram};
 ghost use Rattle.pg_nodes.specs.Nodes.{NodeList};
@@ -10,22 +12,21 @@ ghost use Rattle.pg_decisions.specs.Steps.{taken_by};
 ghost use Rattle.pg_extents.specs.Open.{left_free};
 ghost use Rattle.pg_reference.specs.Kept.{landmark_at, step_count};
 ghost use Rattle.pg_reference.specs.Landmarks.{landmark_of};
-ghost use Rattle.pg_sources.specs.Forms.{CastFits};
 ghost use Rattle.pg_sources.specs.Sources.{Grew};
-ghost use Rattle.pg_slice.specs.Given.{FitsCreate, FitsKind};
+ghost use Rattle.pg_slice.specs.Given.{CanGo};
 ghost use Rattle.pg_slice.specs.State.{AreKept, Knows, sources_in};
 
 use crate::memory::first_words;
+use crate::step::StepAt;
 use crate::threads::{first_extents, first_threads, pass_extents, thread_registers};
 use pg_decisions::DecisionSet;
 use pg_extents::OpenExtents;
-use pg_ir::{Instr, Program};
+use pg_ir::Program;
 use pg_nodes::Nodes;
 use pg_reference::ReferenceRun;
 use pg_shadow_memory::ShadowMemory;
 use pg_shadow_run::ThreadSources;
 use pg_sources::Source;
-use pg_trace::Step;
 use std::alloc::{AllocError, Global};
 
 /// What is known before a step of a reference run: of the registers of each thread's calls, of the bytes of memory, of each
@@ -109,32 +110,20 @@ impl RunSources {
     }
 
     /// A step as far as it is live: what isn't live passes without a trace.
-    fn live_if(
-        &mut self,
-        alloc: Global,
-        nodes: &mut Nodes,
-        p: &Program,
-        x: &Instr,
-        step: &Step,
-        d: &DecisionSet,
-        r: &ReferenceRun,
-        n: usize,
-    ) -> Result<(), AllocError>
-        requires fits { FitsKind x.now.op step.now.kind }
-        requires create { FitsCreate p.now step.now.kind }
-        requires cast { CastFits x.now.op }
-        requires number { n < step_count r.now }
-        requires block { IfSome (landmark_at r.now n) (λ l. IfSome l.edge (λ b. b < length p.now.blocks)) }
+    fn live_if(&mut self, nodes: &mut Nodes, s: &StepAt) -> Result<(), AllocError>
+        requires go { CanGo s.now.p.now s.now.x.now s.now.step.now s.now.r.now s.now.n }
         requires sources { AreKept (length nodes.old) self.old }
         ensures grew { Grew nodes.old nodes.new }
         ensures is { OnOk result (AreKept (length nodes.new) self.new) }
-        ensures value { (m : Moment) (regions : Regions) (k : RunShadow) → landmark_at r.now n ≡ Some (landmark_of p.now regions m) → m.did.did ≡ step.now → instr_in p.now m ≡ Some x.now
-            → Knows p.now nodes.old (taken_by d.now).pinned self.old k
-            → OnOk result (Knows p.now nodes.new (taken_by d.now).pinned self.new
-            (if extents.is_live (taken_by d.now).pinned (thread_of k (thread_in m)).extents then live_after p.now (taken_by d.now) n m (region_of p.now regions m (instr_in p.now m)) (instr_in p.now m) k else k)) }
+        ensures value { (m : Moment) (regions : Regions) (k : RunShadow) → landmark_at s.now.r.now s.now.n ≡ Some (landmark_of s.now.p.now regions m) → m.did.did ≡ s.now.step.now
+            → instr_in s.now.p.now m ≡ Some s.now.x.now
+            → Knows s.now.p.now nodes.old (taken_by s.now.d.now).pinned self.old k
+            → OnOk result (Knows s.now.p.now nodes.new (taken_by s.now.d.now).pinned self.new
+            (if extents.is_live (taken_by s.now.d.now).pinned (thread_of k (thread_in m)).extents
+            then live_after s.now.p.now (taken_by s.now.d.now) s.now.n m (region_of s.now.p.now regions m (instr_in s.now.p.now m)) (instr_in s.now.p.now m) k else k)) }
     {
-        if self.is_live(step.thread.0 as usize) {
-            self.live(alloc, nodes, p, x, step, d, r, n)
+        if self.is_live(s.step.thread.0 as usize) {
+            self.live(nodes, s)
         } else {
             Ok(())
         }
@@ -145,30 +134,17 @@ impl RunSources {
     /// # Errors
     ///
     /// Where no memory is left. Nothing is said of what is kept then.
-    pub(crate) fn step(
-        &mut self,
-        alloc: Global,
-        nodes: &mut Nodes,
-        p: &Program,
-        x: &Instr,
-        step: &Step,
-        d: &DecisionSet,
-        r: &ReferenceRun,
-        n: usize,
-    ) -> Result<(), AllocError>
-        requires fits { FitsKind x.now.op step.now.kind }
-        requires create { FitsCreate p.now step.now.kind }
-        requires cast { CastFits x.now.op }
-        requires number { n < step_count r.now }
-        requires block { IfSome (landmark_at r.now n) (λ l. IfSome l.edge (λ b. b < length p.now.blocks)) }
+    pub(crate) fn step(&mut self, nodes: &mut Nodes, s: &StepAt) -> Result<(), AllocError>
+        requires go { CanGo s.now.p.now s.now.x.now s.now.step.now s.now.r.now s.now.n }
         requires sources { AreKept (length nodes.old) self.old }
         ensures grew { Grew nodes.old nodes.new }
         ensures is { OnOk result (AreKept (length nodes.new) self.new) }
-        ensures value { (R : Reference) (m : Moment) (k : RunShadow) → R.program ≡ p.now → landmark_at r.now n ≡ Some (landmark_of p.now R.regions m) → m.did.did ≡ step.now
-            → slice_get p.now.instrs step.now.instr.0 ≡ Some x.now → Knows p.now nodes.old (taken_by d.now).pinned self.old k
-            → OnOk result (Knows p.now nodes.new (taken_by d.now).pinned self.new (after_step R (taken_by d.now) n m k)) }
+        ensures value { (R : Reference) (m : Moment) (k : RunShadow) → R.program ≡ s.now.p.now → landmark_at s.now.r.now s.now.n ≡ Some (landmark_of s.now.p.now R.regions m)
+            → m.did.did ≡ s.now.step.now
+            → slice_get s.now.p.now.instrs s.now.step.now.instr.0 ≡ Some s.now.x.now → Knows s.now.p.now nodes.old (taken_by s.now.d.now).pinned self.old k
+            → OnOk result (Knows s.now.p.now nodes.new (taken_by s.now.d.now).pinned self.new (after_step R (taken_by s.now.d.now) s.now.n m k)) }
     {
-        self.live_if(alloc, nodes, p, x, step, d, r, n)?;
-        self.pass(alloc, step.thread.0 as usize, d, r, n)
+        self.live_if(nodes, s)?;
+        self.pass(s.alloc, s.step.thread.0 as usize, s.d, s.r, s.n)
     }
 }

@@ -98,7 +98,8 @@ pub(crate) fn after_event(
     requires sources { AreThreads (length nodes.old) threads.old.items }
     ensures grew { Grew nodes.old nodes.new }
     ensures is { OnOk result (AreThreads (length nodes.new) threads.new.items) }
-    ensures value { (m : Moment) (pinned : ℕ → Bool) (opens : List AnOpen) (ks : List ThreadShadow) → function_in m.calls ≡ function → KnowsThreads nodes.old pinned threads.old.items opens ks
+    ensures value { (m : Moment) (pinned : ℕ → Bool) (opens : List AnOpen) (ks : List ThreadShadow) → function_in m.calls ≡ function
+        → KnowsThreads nodes.old pinned threads.old.items opens ks
         → OnOk result (KnowsThreads nodes.new pinned threads.new.items opens (on_thread (along.after_event p.now m e e.kind (shadow_by nodes.old argument) x.now) t ks)) }
 {
     if t < threads.len() {
@@ -173,7 +174,8 @@ pub(crate) fn pass_extents(
     edge: Option<u32>,
     extents: &mut Vec<OpenExtents>,
 ) -> Result<(), AllocError>
-    ensures { OnOk result ((pinned : ℕ → Bool) (n : ℕ) (region : Option FreeRegion) (ks : List ThreadShadow) → free ≡ left_free (pinned n) region → EachOpen pinned (extents_in ks) extents.old.items
+    ensures { OnOk result ((pinned : ℕ → Bool) (n : ℕ) (region : Option FreeRegion) (ks : List ThreadShadow) → free ≡ left_free (pinned n) region
+        → EachOpen pinned (extents_in ks) extents.old.items
         → EachOpen pinned (extents_in (with_extents t (open_after n depth region edge (slice_index_or ks t no_thread).extents) ks)) extents.new.items) }
 {
     if t < extents.len() {

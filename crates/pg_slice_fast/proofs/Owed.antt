@@ -14,7 +14,7 @@ use Rattle.pg_least.specs.Keeps.{ExtentsKeep, every}
 use Rattle.pg_least.specs.Along.{region_in}
 use Rattle.pg_least.proofs.Asks.{none_asked}
 use Rattle.pg_least.proofs.Likes.{Likes}
-use Rattle.pg_least.proofs.Zips.{cases_in, here, none_in}
+use Rattle.pg_paths.proofs.Elements.{cases as cases_in, here, none_in}
 use Rattle.pg_demands.specs.Along.{known_at}
 use Rattle.pg_demands.proofs.Back.{live_before}
 use Rattle.pg_slice_fast.specs.Rivals.{AreDisturbed, AreShared, IsLiveAt}

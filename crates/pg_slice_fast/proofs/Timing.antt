@@ -1,5 +1,6 @@
 -- The steps of a run by their numbers, with their threads and intervals.
-use Rattle.std.proofs.Common.{◌≡◌, ℕ, zero, suc, ◌<◌, ℤ, Bool, true, false, List, [], ◌∷◌, ◌++◌, Option, Some, None, length, option_map, slice_get, refl, sym, ap, ◌∙◌, subst, arith}
+use Rattle.std.proofs.Common.{◌≡◌, ℕ, zero, suc, ◌<◌, ℤ, Bool, true, false, List, [], ◌∷◌, ◌++◌, Option, Some, None, length, option_map, slice_get, refl, sym, ap}
+use Rattle.std.proofs.Common.{◌∙◌, subst, arith}
 use Rattle.std.specs.Prelude.{◌==◌, ◌&&◌, not, nat_lt, slice_index_or, IfSome, is_some}
 use Rattle.std.proofs.lemmas.Bool.{true≢false}
 use Rattle.pg_ir.specs.declared.ids.InstrId.{InstrId}
@@ -22,7 +23,7 @@ use Rattle.pg_slice.specs.Given.{reference_of}
 use Rattle.pg_slice.proofs.Passing.{has_moment}
 use Rattle.pg_slice_fast.specs.Settled.{AreLive, AreTogether, Disturbs, IsOwed, Shares}
 use Rattle.pg_walk.specs.Settled.{ArePinned}
-use Rattle.pg_walk.proofs.Moments.{has_at}
+use Rattle.pg_walk.proofs.Moments.{has_at, index_same}
 use Rattle.pg_slice_fast.proofs.Owed.{bound_pinned, disturbed_pinned, shared_exact}
 use Rattle.pg_slice_fast.proofs.Spreading.{is_live_at}
 
@@ -56,11 +57,6 @@ module _ (xs : List Step) (intervals : List Interval) (are : intervals ≡ inter
 
   an_interval : Interval
   an_interval = record { low = 0; high = 0 }
-
-  index_same : {A : Type 0} (ys : List A) (n : ℕ) (z : A) → slice_index_or ys n z ≡ slice_index_or ys n (slice_index_or ys n z)
-  index_same [] n z = refl
-  index_same (y ∷ ys) zero z = refl
-  index_same (y ∷ ys) (suc n) z = index_same ys n z
 
   did_at : (gated : List InstrId) (p : NumberedProgram) (input : List ℤ) (n : ℕ) (x : Step) (m : Moment) → slice_get xs n ≡ Some x
       → slice_get (moments_of gated p input xs) n ≡ Some m → m.did.did ≡ x

@@ -1,5 +1,5 @@
 -- Of which steps it is known that they are live, and what is owed by their frames.
-use Rattle.std.specs.Prelude.{◌≡◌, ◌==◌, ℕ, ℤ, List, Bool, true, false, Some, slice_get, slice_index_or}
+use Rattle.std.specs.Prelude.{◌≡◌, ◌==◌, ◌<◌, ℕ, ℤ, List, Bool, true, false, Some, length, slice_get, slice_index_or}
 use Rattle.pg_ir.specs.declared.ids.InstrId.{InstrId}
 use Rattle.pg_ir.specs.Program.{NumberedProgram}
 use Rattle.pg_trace.specs.declared.step.Step.{Step}
@@ -10,7 +10,11 @@ use Rattle.pg_closed.specs.Known.{Taken, has}
 use Rattle.pg_closed.specs.declared.decision.Decision.{Decision}
 use Rattle.pg_closed.specs.Moments.{Moment, thread_in}
 use Rattle.pg_least.specs.Keeps.{ExtentsKeep}
+use Rattle.pg_intervals.specs.declared.interval.Interval.{Interval}
+use Rattle.pg_intervals.specs.declared.interval.Turns.TheVariants.{Recorded}
+use Rattle.pg_intervals.specs.Intervals.{intervals_of}
 use Rattle.pg_reference.specs.declared.run.ReferenceRun.{ReferenceRun}
+use Rattle.pg_reference.specs.Kept.{step_count}
 use Rattle.pg_slice.specs.Given.{HasLandmarks, reference_of}
 use Rattle.pg_walk.specs.Chains.{Holds}
 use Rattle.pg_walk.specs.Settled.{ArePinned}
@@ -19,6 +23,14 @@ use Rattle.pg_slice_fast.specs.Rivals.{AreDisturbed, AreShared}
 -- each step is live that is marked so
 pub record AreLive (holders : List ℕ) (d : Taken) (live : List Bool) : Type 0 where
   pub by : (n : ℕ) → slice_index_or live n false ≡ true → ArePinned holders d (slice_index_or holders n 0)
+
+-- step n of a replayed run with its intervals is live, and so are the steps that are marked
+pub record IsAsked (r : ReferenceRun) (timed : List Interval) (holders : List ℕ) (xs : List Step) (d : Taken) (marks : List Bool) (n : ℕ) : Type 0 where
+  pub count : step_count r ≡ length xs
+  pub intervals : timed ≡ intervals_of Recorded xs
+  pub number : n < length xs
+  pub live : AreLive holders d marks
+  pub here : ArePinned holders d (slice_index_or holders n 0)
 
 -- the steps are of different threads, in overlapping intervals
 pub record AreTogether (xs : List Step) (n y : ℕ) : Type 0 where

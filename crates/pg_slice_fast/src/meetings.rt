@@ -9,7 +9,7 @@ ghost use Rattle.pg_slice_fast.specs.Settled.{AreTogether, Disturbs, Shares};
 use crate::prints::{accesses_meet, region_meets};
 use crate::rivals::{Places, Rivals, places_of};
 use pg_intervals::Interval;
-use pg_reference::ReferenceRun;
+use pg_slice::GivenRun;
 use pg_trace::{Step, StepKind, Trace};
 use pg_walk::marks::mark_at;
 
@@ -46,18 +46,18 @@ fn are_together(t: &Trace, intervals: &[Interval], n: usize, y: usize) -> bool
 }
 
 /// Whether a step disturbs a freeable one.
-fn disturbs(t: &Trace, intervals: &[Interval], r: &ReferenceRun, n: usize, y: usize) -> bool
-    requires count { step_count r.now ≡ length t.now.steps }
-    requires intervals { intervals.now ≡ intervals_of Recorded t.now.steps }
-    requires number { n < length t.now.steps }
-    requires other { y < length t.now.steps }
-    ensures { result ≡ true → Disturbs r.now t.now.steps n y }
+fn disturbs(run: &GivenRun, n: usize, y: usize) -> bool
+    requires count { step_count run.now.r.now ≡ length run.now.t.now.steps }
+    requires intervals { run.now.intervals.now ≡ intervals_of Recorded run.now.t.now.steps }
+    requires number { n < length run.now.t.now.steps }
+    requires other { y < length run.now.t.now.steps }
+    ensures { result ≡ true → Disturbs run.now.r.now run.now.t.now.steps n y }
 {
-    if !are_together(t, intervals, n, y) {
+    if !are_together(run.t, run.intervals, n, y) {
         return false;
     }
-    let z = t.step(y);
-    region_meets(r, n, &z, y)
+    let z = run.t.step(y);
+    region_meets(run.r, n, &z, y)
 }
 
 /// Whether a step is a load or a store that is no event.
@@ -98,46 +98,37 @@ fn behind(place: u64, to: u64) -> u64
 }
 
 /// Whether a step is live and disturbs a freeable one.
-fn is_disturbing(
-    t: &Trace,
-    intervals: &[Interval],
-    r: &ReferenceRun,
-    live: &[bool],
-    n: usize,
-    y: usize,
-) -> bool
-    requires count { step_count r.now ≡ length t.now.steps }
-    requires intervals { intervals.now ≡ intervals_of Recorded t.now.steps }
-    requires number { n < length t.now.steps }
-    ensures { result ≡ true → (y < length t.now.steps) × (slice_index_or live.now y false ≡ true) × Disturbs r.now t.now.steps n y }
+fn is_disturbing(run: &GivenRun, live: &[bool], n: usize, y: usize) -> bool
+    requires count { step_count run.now.r.now ≡ length run.now.t.now.steps }
+    requires intervals { run.now.intervals.now ≡ intervals_of Recorded run.now.t.now.steps }
+    requires number { n < length run.now.t.now.steps }
+    ensures { result ≡ true → (y < length run.now.t.now.steps) × (slice_index_or live.now y false ≡ true) × Disturbs run.now.r.now run.now.t.now.steps n y }
 {
-    if y >= t.len() {
+    if y >= run.t.len() {
         return false;
     }
     if !mark_at(live, y) {
         return false;
     }
-    disturbs(t, intervals, r, n, y)
+    disturbs(run, n, y)
 }
 
 /// A live step among those at these places that disturbs a freeable one.
 fn disturbing_at(
     rivals: &Rivals,
-    t: &Trace,
-    intervals: &[Interval],
-    r: &ReferenceRun,
+    run: &GivenRun,
     live: &[bool],
     n: usize,
     places: Places,
 ) -> Option<usize>
-    requires count { step_count r.now ≡ length t.now.steps }
-    requires intervals { intervals.now ≡ intervals_of Recorded t.now.steps }
-    requires number { n < length t.now.steps }
-    ensures { IfSome result (λ y. (y < length t.now.steps) × (slice_index_or live.now y false ≡ true) × Disturbs r.now t.now.steps n y) }
+    requires count { step_count run.now.r.now ≡ length run.now.t.now.steps }
+    requires intervals { run.now.intervals.now ≡ intervals_of Recorded run.now.t.now.steps }
+    requires number { n < length run.now.t.now.steps }
+    ensures { IfSome result (λ y. (y < length run.now.t.now.steps) × (slice_index_or live.now y false ≡ true) × Disturbs run.now.r.now run.now.t.now.steps n y) }
 {
     let mut places = places;
     while let Some(rival) = rivals.first_in(places) {
-        if is_disturbing(t, intervals, r, live, n, rival.step) {
+        if is_disturbing(run, live, n, rival.step) {
             return Some(rival.step);
         }
         places.from = behind(rival.place, places.to);
@@ -148,40 +139,31 @@ fn disturbing_at(
 /// A live step that disturbs a freeable one by the access with this number of its region.
 fn disturbing_one(
     rivals: &Rivals,
-    t: &Trace,
-    intervals: &[Interval],
-    r: &ReferenceRun,
+    run: &GivenRun,
     live: &[bool],
     n: usize,
     k: usize,
 ) -> Option<usize>
-    requires count { step_count r.now ≡ length t.now.steps }
-    requires intervals { intervals.now ≡ intervals_of Recorded t.now.steps }
-    requires number { n < length t.now.steps }
-    ensures { IfSome result (λ y. (y < length t.now.steps) × (slice_index_or live.now y false ≡ true) × Disturbs r.now t.now.steps n y) }
+    requires count { step_count run.now.r.now ≡ length run.now.t.now.steps }
+    requires intervals { run.now.intervals.now ≡ intervals_of Recorded run.now.t.now.steps }
+    requires number { n < length run.now.t.now.steps }
+    ensures { IfSome result (λ y. (y < length run.now.t.now.steps) × (slice_index_or live.now y false ≡ true) × Disturbs run.now.r.now run.now.t.now.steps n y) }
 {
-    match r.access(n, k) {
-        Some(access) => disturbing_at(rivals, t, intervals, r, live, n, places_of(access.last)),
+    match run.r.access(n, k) {
+        Some(access) => disturbing_at(rivals, run, live, n, places_of(access.last)),
         None => None,
     }
 }
 
 /// A live step that disturbs a freeable one.
-pub(crate) fn disturbing(
-    rivals: &Rivals,
-    t: &Trace,
-    intervals: &[Interval],
-    r: &ReferenceRun,
-    live: &[bool],
-    n: usize,
-) -> Option<usize>
-    requires count { step_count r.now ≡ length t.now.steps }
-    requires intervals { intervals.now ≡ intervals_of Recorded t.now.steps }
-    requires number { n < length t.now.steps }
-    ensures { IfSome result (λ y. (y < length t.now.steps) × (slice_index_or live.now y false ≡ true) × Disturbs r.now t.now.steps n y) }
+pub(crate) fn disturbing(rivals: &Rivals, run: &GivenRun, live: &[bool], n: usize) -> Option<usize>
+    requires count { step_count run.now.r.now ≡ length run.now.t.now.steps }
+    requires intervals { run.now.intervals.now ≡ intervals_of Recorded run.now.t.now.steps }
+    requires number { n < length run.now.t.now.steps }
+    ensures { IfSome result (λ y. (y < length run.now.t.now.steps) × (slice_index_or live.now y false ≡ true) × Disturbs run.now.r.now run.now.t.now.steps n y) }
 {
-    for k in 0..r.access_count(n) {
-        if let Some(y) = disturbing_one(rivals, t, intervals, r, live, n, k) {
+    for k in 0..run.r.access_count(n) {
+        if let Some(y) = disturbing_one(rivals, run, live, n, k) {
             return Some(y);
         }
     }

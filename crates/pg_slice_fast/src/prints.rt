@@ -1,16 +1,13 @@
 //! Whether the bytes that steps may access meet.
-ghost use Rattle.std.specs.Prelude.{◌≡◌, ◌<◌, ◌≤◌, ◌+◌, ◌++◌, true, IfSome};
+ghost use Rattle.std.specs.Prelude.{◌≡◌, ◌<◌, ◌+◌, ◌++◌, true, IfSome};
 ghost use Rattle.std.specs.List.{list_any};
-ghost use Rattle.pg_closed.specs.Freeable.{frame_of};
 ghost use Rattle.pg_closed.specs.Rules.{any_conflict, footprints_conflict, print_of, prints_in};
 ghost use Rattle.pg_reference.specs.Kept.{landmark_at, step_count};
-ghost use Rattle.pg_stamps.specs.declared.stamps.TheConstants.{PLACE_COUNT};
 ghost use Rattle.pg_trace.specs.Steps.{access_of};
 ghost use Rattle.pg_slice_fast.specs.Prints.{footprint_of};
 
-use pg_num::layout::GRANULE_BYTES;
-use pg_num::unpack;
 use pg_reference::ReferenceRun;
+use pg_slice::frame;
 use pg_trace::Step;
 
 /// The frame of a pointer, and whether it may be written.
@@ -18,26 +15,6 @@ use pg_trace::Step;
 pub struct Print {
     pub word: u64,
     pub writes: bool,
-}
-
-/// The bytes of a frame: the first one, and how many there are.
-#[derive(Clone, Copy)]
-struct FrameBytes {
-    start: u64,
-    bytes: u64,
-}
-
-/// The frame of a pointer.
-fn frame(word: u64) -> FrameBytes
-    ensures start { result.start ≡ (frame_of word).start }
-    ensures bytes { result.bytes ≡ (frame_of word).bytes }
-    ensures within { result.start + result.bytes ≤ PLACE_COUNT }
-{
-    let pointer = unpack(word);
-    FrameBytes {
-        start: GRANULE_BYTES as u64 * pointer.start as u64,
-        bytes: pointer.length as u64,
-    }
 }
 
 /// Whether frames meet, and one of them may be written.

@@ -10,16 +10,16 @@ ghost use Rattle.pg_decisions.specs.Steps.{AreOf, left_by, step_of, taken_by};
 ghost use Rattle.pg_intervals.specs.Intervals.{intervals_of};
 ghost use Rattle.pg_intervals.specs.declared.interval.Turns.TheVariants.{Recorded};
 ghost use Rattle.pg_reference.specs.Kept.{step_count};
-ghost use Rattle.pg_slice_fast.specs.Settled.{AreLive, IsOwed, Widens};
+ghost use Rattle.pg_slice_fast.specs.Settled.{AreLive, IsAsked, IsOwed, Widens};
 ghost use Rattle.pg_walk.specs.Settled.{ArePinned, AreSettled};
 
 use crate::meetings::{disturbing, sharing};
 use crate::rivals::Rivals;
 use pg_closed::Decision;
 use pg_decisions::DecisionSet;
-use pg_intervals::Interval;
 use pg_reference::ReferenceRun;
-use pg_trace::{Step, StepKind, Trace};
+use pg_slice::GivenRun;
+use pg_trace::{Step, StepKind};
 use pg_walk::extents::is_settled;
 use pg_walk::holders::holder_at;
 use pg_walk::marks::{no_marks, set_mark};
@@ -45,34 +45,22 @@ fn is_branch(step: &Step) -> bool
 }
 
 /// Whether the first rule or the fourth asks that a live step is pinned.
-fn asks_pin(
-    s: &Spread,
-    t: &Trace,
-    intervals: &[Interval],
-    r: &ReferenceRun,
-    holders: &[u32],
-    d: &DecisionSet,
-    n: usize,
-) -> bool
-    requires count { step_count r.now ≡ length t.now.steps }
-    requires intervals { intervals.now ≡ intervals_of Recorded t.now.steps }
-    requires number { n < length t.now.steps }
-    requires live { AreLive holders.now (taken_by d.now) s.now.live.items }
-    requires here { ArePinned holders.now (taken_by d.now) (slice_index_or holders.now n 0) }
-    ensures { result ≡ true → IsOwed r.now holders.now t.now.steps (taken_by d.now) (decisions.Pinned n) }
+fn asks_pin(s: &Spread, run: &GivenRun, holders: &[u32], d: &DecisionSet, n: usize) -> bool
+    requires { IsAsked run.now.r.now run.now.intervals.now holders.now run.now.t.now.steps (taken_by d.now) s.now.live.items n }
+    ensures { result ≡ true → IsOwed run.now.r.now holders.now run.now.t.now.steps (taken_by d.now) (decisions.Pinned n) }
 {
-    let x = t.step(n);
+    let x = run.t.step(n);
     if d.is_pinned(n) {
         return false;
     }
     if !is_branch(&x) {
         return false;
     }
-    if !r.is_free(n) {
+    if !run.r.is_free(n) {
         return true;
     }
-    match disturbing(&s.rivals, t, intervals, r, s.live.as_slice(), n) {
-        Some(rival) => rival < t.len(),
+    match disturbing(&s.rivals, run, s.live.as_slice(), n) {
+        Some(rival) => rival < run.t.len(),
         None => false,
     }
 }
@@ -86,35 +74,23 @@ fn pointer_of(step: &Step) -> u64 {
 }
 
 /// Whether the fifth rule asks that a live step is exact.
-fn asks_exact(
-    s: &Spread,
-    t: &Trace,
-    intervals: &[Interval],
-    r: &ReferenceRun,
-    holders: &[u32],
-    d: &DecisionSet,
-    n: usize,
-) -> bool
-    requires count { step_count r.now ≡ length t.now.steps }
-    requires intervals { intervals.now ≡ intervals_of Recorded t.now.steps }
-    requires number { n < length t.now.steps }
-    requires live { AreLive holders.now (taken_by d.now) s.now.live.items }
-    requires here { ArePinned holders.now (taken_by d.now) (slice_index_or holders.now n 0) }
-    ensures { result ≡ true → IsOwed r.now holders.now t.now.steps (taken_by d.now) (decisions.Exact n) }
+fn asks_exact(s: &Spread, run: &GivenRun, holders: &[u32], d: &DecisionSet, n: usize) -> bool
+    requires { IsAsked run.now.r.now run.now.intervals.now holders.now run.now.t.now.steps (taken_by d.now) s.now.live.items n }
+    ensures { result ≡ true → IsOwed run.now.r.now holders.now run.now.t.now.steps (taken_by d.now) (decisions.Exact n) }
 {
-    let x = t.step(n);
+    let x = run.t.step(n);
     if d.is_exact(n) {
         return false;
     }
     match sharing(
         &s.rivals,
-        t,
-        intervals,
+        run.t,
+        run.intervals,
         s.live.as_slice(),
         n,
         pointer_of(&x),
     ) {
-        Some(rival) => rival < t.len(),
+        Some(rival) => rival < run.t.len(),
         None => false,
     }
 }
@@ -178,113 +154,70 @@ fn mark_settled(s: &mut Spread, d: &DecisionSet, n: usize)
 }
 
 /// Takes what the rules ask of a live step.
-fn take_asked(
-    s: &Spread,
-    t: &Trace,
-    intervals: &[Interval],
-    r: &ReferenceRun,
-    holders: &[u32],
-    d: &mut DecisionSet,
-    n: usize,
-)
-    requires count { step_count r.now ≡ length t.now.steps }
-    requires intervals { intervals.now ≡ intervals_of Recorded t.now.steps }
-    requires number { n < length t.now.steps }
-    requires size { AreOf (length t.now.steps) d.old }
-    requires live { AreLive holders.now (taken_by d.old) s.now.live.items }
-    requires here { ArePinned holders.now (taken_by d.old) (slice_index_or holders.now n 0) }
-    ensures size { AreOf (length t.now.steps) d.new }
+fn take_asked(s: &Spread, run: &GivenRun, holders: &[u32], d: &mut DecisionSet, n: usize)
+    requires asked { IsAsked run.now.r.now run.now.intervals.now holders.now run.now.t.now.steps (taken_by d.old) s.now.live.items n }
+    requires size { AreOf (length run.now.t.now.steps) d.old }
+    ensures size { AreOf (length run.now.t.now.steps) d.new }
     ensures kept { AreWithin (taken_by d.old) (taken_by d.new) }
     ensures left { left_by d.new ≤ left_by d.old }
-    ensures widens { Widens r.now holders.now t.now.steps (taken_by d.old) (taken_by d.new) }
+    ensures widens { Widens run.now.r.now holders.now run.now.t.now.steps (taken_by d.old) (taken_by d.new) }
 {
-    let pin = asks_pin(s, t, intervals, r, holders, d, n);
-    take_if(d, t.len(), pin, Decision::Pinned(n));
-    let exact = asks_exact(s, t, intervals, r, holders, d, n);
-    take_if(d, t.len(), exact, Decision::Exact(n));
+    let pin = asks_pin(s, run, holders, d, n);
+    take_if(d, run.t.len(), pin, Decision::Pinned(n));
+    let exact = asks_exact(s, run, holders, d, n);
+    take_if(d, run.t.len(), exact, Decision::Exact(n));
 }
 
-/// A live step: what the rules ask of it is taken.
-fn spread_live(
-    s: &mut Spread,
-    t: &Trace,
-    intervals: &[Interval],
-    r: &ReferenceRun,
-    holders: &[u32],
-    d: &mut DecisionSet,
-    n: usize,
-) -> Result<(), AllocError>
-    requires count { step_count r.now ≡ length t.now.steps }
-    requires intervals { intervals.now ≡ intervals_of Recorded t.now.steps }
-    requires number { n < length t.now.steps }
-    requires size { AreOf (length t.now.steps) d.old }
-    requires live { AreLive holders.now (taken_by d.old) s.old.live.items }
-    requires settled { AreSettled holders.now (taken_by d.old) s.old.settled.items }
-    requires here { ArePinned holders.now (taken_by d.old) (slice_index_or holders.now n 0) }
-    ensures size { OnOk result (AreOf (length t.now.steps) d.new) }
-    ensures live { OnOk result (AreLive holders.now (taken_by d.new) s.new.live.items) }
-    ensures settled { OnOk result (AreSettled holders.now (taken_by d.new) s.new.settled.items) }
-    ensures left { OnOk result (left_by d.new ≤ left_by d.old) }
-    ensures widens { OnOk result (Widens r.now holders.now t.now.steps (taken_by d.old) (taken_by d.new)) }
-{
-    mark_live(s, n);
-    take_asked(s, t, intervals, r, holders, d, n);
-    mark_settled(s, d, n);
-    note(&mut s.rivals, &t.step(n), r, n)?;
-    Ok(())
-}
-
-/// Step n.
+/// What the rules ask of a step is taken, where it is live.
 fn spread_step(
     s: &mut Spread,
-    t: &Trace,
-    intervals: &[Interval],
-    r: &ReferenceRun,
+    run: &GivenRun,
     holders: &[u32],
     d: &mut DecisionSet,
     n: usize,
 ) -> Result<(), AllocError>
-    requires count { step_count r.now ≡ length t.now.steps }
-    requires intervals { intervals.now ≡ intervals_of Recorded t.now.steps }
-    requires number { n < length t.now.steps }
-    requires size { AreOf (length t.now.steps) d.old }
+    requires count { step_count run.now.r.now ≡ length run.now.t.now.steps }
+    requires intervals { run.now.intervals.now ≡ intervals_of Recorded run.now.t.now.steps }
+    requires number { n < length run.now.t.now.steps }
+    requires size { AreOf (length run.now.t.now.steps) d.old }
     requires live { AreLive holders.now (taken_by d.old) s.old.live.items }
     requires settled { AreSettled holders.now (taken_by d.old) s.old.settled.items }
-    ensures size { OnOk result (AreOf (length t.now.steps) d.new) }
+    ensures size { OnOk result (AreOf (length run.now.t.now.steps) d.new) }
     ensures live { OnOk result (AreLive holders.now (taken_by d.new) s.new.live.items) }
     ensures settled { OnOk result (AreSettled holders.now (taken_by d.new) s.new.settled.items) }
     ensures left { OnOk result (left_by d.new ≤ left_by d.old) }
-    ensures widens { OnOk result (Widens r.now holders.now t.now.steps (taken_by d.old) (taken_by d.new)) }
+    ensures widens { OnOk result (Widens run.now.r.now holders.now run.now.t.now.steps (taken_by d.old) (taken_by d.new)) }
 {
-    if is_settled(s.settled.as_slice(), holder_at(holders, n)) {
-        spread_live(s, t, intervals, r, holders, d, n)
-    } else {
-        Ok(())
+    if !is_settled(s.settled.as_slice(), holder_at(holders, n)) {
+        return Ok(());
     }
+    mark_live(s, n);
+    take_asked(s, run, holders, d, n);
+    mark_settled(s, d, n);
+    note(&mut s.rivals, &run.t.step(n), run.r, n)?;
+    Ok(())
 }
 
 /// All steps, one after another.
 fn spread_along(
     s: &mut Spread,
-    t: &Trace,
-    intervals: &[Interval],
-    r: &ReferenceRun,
+    run: &GivenRun,
     holders: &[u32],
     d: &mut DecisionSet,
 ) -> Result<(), AllocError>
-    requires count { step_count r.now ≡ length t.now.steps }
-    requires intervals { intervals.now ≡ intervals_of Recorded t.now.steps }
-    requires size { AreOf (length t.now.steps) d.old }
+    requires count { step_count run.now.r.now ≡ length run.now.t.now.steps }
+    requires intervals { run.now.intervals.now ≡ intervals_of Recorded run.now.t.now.steps }
+    requires size { AreOf (length run.now.t.now.steps) d.old }
     requires live { AreLive holders.now (taken_by d.old) s.old.live.items }
     requires settled { AreSettled holders.now (taken_by d.old) s.old.settled.items }
-    ensures size { OnOk result (AreOf (length t.now.steps) d.new) }
+    ensures size { OnOk result (AreOf (length run.now.t.now.steps) d.new) }
     ensures live { OnOk result (AreLive holders.now (taken_by d.new) s.new.live.items) }
     ensures settled { OnOk result (AreSettled holders.now (taken_by d.new) s.new.settled.items) }
     ensures left { OnOk result (left_by d.new ≤ left_by d.old) }
-    ensures widens { OnOk result (Widens r.now holders.now t.now.steps (taken_by d.old) (taken_by d.new)) }
+    ensures widens { OnOk result (Widens run.now.r.now holders.now run.now.t.now.steps (taken_by d.old) (taken_by d.new)) }
 {
-    for n in 0..t.len() {
-        spread_step(s, t, intervals, r, holders, d, n)?;
+    for n in 0..run.t.len() {
+        spread_step(s, run, holders, d, n)?;
     }
     Ok(())
 }
@@ -307,21 +240,19 @@ fn start(alloc: Global, steps: usize) -> Result<Spread, AllocError>
 /// second time along the run the steps that may meet one are known.
 pub(crate) fn spread_over(
     alloc: Global,
-    t: &Trace,
-    intervals: &[Interval],
-    r: &ReferenceRun,
+    run: &GivenRun,
     holders: &[u32],
     d: &mut DecisionSet,
 ) -> Result<(), AllocError>
-    requires count { step_count r.now ≡ length t.now.steps }
-    requires intervals { intervals.now ≡ intervals_of Recorded t.now.steps }
-    requires size { AreOf (length t.now.steps) d.old }
-    ensures size { OnOk result (AreOf (length t.now.steps) d.new) }
+    requires count { step_count run.now.r.now ≡ length run.now.t.now.steps }
+    requires intervals { run.now.intervals.now ≡ intervals_of Recorded run.now.t.now.steps }
+    requires size { AreOf (length run.now.t.now.steps) d.old }
+    ensures size { OnOk result (AreOf (length run.now.t.now.steps) d.new) }
     ensures left { OnOk result (left_by d.new ≤ left_by d.old) }
-    ensures widens { OnOk result (Widens r.now holders.now t.now.steps (taken_by d.old) (taken_by d.new)) }
+    ensures widens { OnOk result (Widens run.now.r.now holders.now run.now.t.now.steps (taken_by d.old) (taken_by d.new)) }
 {
-    let mut s = start(alloc, t.len())?;
-    spread_along(&mut s, t, intervals, r, holders, d)?;
-    spread_along(&mut s, t, intervals, r, holders, d)?;
+    let mut s = start(alloc, run.t.len())?;
+    spread_along(&mut s, run, holders, d)?;
+    spread_along(&mut s, run, holders, d)?;
     Ok(())
 }

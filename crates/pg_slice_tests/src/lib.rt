@@ -3,14 +3,4 @@
 #![tactic(auto)]
 
 #[cfg(test)]
-mod checks;
-#[cfg(test)]
-mod programs;
-#[cfg(test)]
-mod row;
-#[cfg(test)]
-mod runs;
-#[cfg(test)]
-mod slices;
-#[cfg(test)]
-mod sources;
+mod tests;

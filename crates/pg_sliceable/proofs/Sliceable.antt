@@ -38,20 +38,23 @@ reached_length ts xs printed output turns value e h = absurd cc
 following_few : (r : GuidedRun) (xs : List Step) (output : List ℕ) (value : ℤ) → following r ≡ Exits xs output value → length xs ≤ RECORDING_STEP_LIMIT
 following_few r xs output value h = go (nat_lt RECORDING_STEP_LIMIT (length r.trace)) refl h
   where
-    go : (b : Bool) → nat_lt RECORDING_STEP_LIMIT (length r.trace) ≡ b → (if b then Breaks else reached r.trace r.state.printed r.turns r.end) ≡ Exits xs output value → length xs ≤ RECORDING_STEP_LIMIT
+    go : (b : Bool) → nat_lt RECORDING_STEP_LIMIT (length r.trace) ≡ b → (if b then Breaks else reached r.trace r.state.printed r.turns r.end) ≡ Exits xs output value
+        → length xs ≤ RECORDING_STEP_LIMIT
     go true e q = absurd cc
     go false e q =
         let same : length r.trace ≡ length xs = reached_length r.trace xs r.state.printed output r.turns value r.end q in
         let few : length r.trace ≤ RECORDING_STEP_LIMIT = ltb-false RECORDING_STEP_LIMIT (length r.trace) e in
         omega (arith, same, few)
 
-exits_few : (p : NumberedProgram) (input : List ℤ) (turns : List Turn) (gated : List InstrId) (xs : List Step) (printed : List ℕ) (value : ℤ) → following_of p input turns gated ≡ Exits xs printed value → length xs < 4294967296
+exits_few : (p : NumberedProgram) (input : List ℤ) (turns : List Turn) (gated : List InstrId) (xs : List Step) (printed : List ℕ) (value : ℤ)
+    → following_of p input turns gated ≡ Exits xs printed value → length xs < 4294967296
 unfolding following_of
 exits_few p input turns gated xs printed value h = let few : length xs ≤ RECORDING_STEP_LIMIT = following_few (guided_of p input turns gated) xs printed value h in omega (arith, few)
 
 -- ---- runs and replays
 
-pub exits_sliceable : (p : NumberedProgram) (input : List ℤ) (turns : List Turn) (gated : List InstrId) (xs : List Step) (printed : List ℕ) (value : ℤ) → IsProgram p → HoldBytes p.globals → length input < 2 ^ 64 → following_of p input turns gated ≡ Exits xs printed value → CanBeSliced p input gated xs
+pub exits_sliceable : (p : NumberedProgram) (input : List ℤ) (turns : List Turn) (gated : List InstrId) (xs : List Step) (printed : List ℕ) (value : ℤ) → IsProgram p
+    → HoldBytes p.globals → length input < 2 ^ 64 → following_of p input turns gated ≡ Exits xs printed value → CanBeSliced p input gated xs
 exits_sliceable p input turns gated xs printed value program bytes small exits =
     let run = followed_runs p input turns gated xs printed value exits in
     record {
@@ -61,7 +64,8 @@ exits_sliceable p input turns gated xs printed value program bytes small exits =
       extents = λ sums regions summaries are. extents_keep p gated sums regions are program summaries input small bytes turns xs printed value exits;
     }
 
-pub replay_edges : (p : NumberedProgram) (input : List ℤ) (gated : List InstrId) (sums : ℕ → Option RootedList) (xs : List Step) (r : ReferenceRun) → IsProgram p → AreSummaries p (is_gated gated) sums → HasItsLandmarks p input gated sums xs r → EdgesStand p r
+pub replay_edges : (p : NumberedProgram) (input : List ℤ) (gated : List InstrId) (sums : ℕ → Option RootedList) (xs : List Step) (r : ReferenceRun) → IsProgram p
+    → AreSummaries p (is_gated gated) sums → HasItsLandmarks p input gated sums xs r → EdgesStand p r
 replay_edges p input gated sums xs r program summaries h =
     let regions = regions_are p (is_gated gated) sums program summaries in
     edges_are (reference_of p regions.0 gated input xs) r program (h regions.0 regions.1)

@@ -19,7 +19,8 @@ pub record CanBeSliced (p : NumberedProgram) (input : List ℤ) (gated : List In
   pub run : (z : State) × IsRun gated p input (initial p) xs z
   pub steps : AreSteps p xs
   pub few : length xs < 4294967296
-  pub extents : (sums : ℕ → Option RootedList) (regions : Regions) → AreSummaries p (is_gated gated) sums → AreRegions p (is_gated gated) sums regions → ExtentsKeep (reference_of p regions gated input xs)
+  pub extents : (sums : ℕ → Option RootedList) (regions : Regions) → AreSummaries p (is_gated gated) sums → AreRegions p (is_gated gated) sums regions
+      → ExtentsKeep (reference_of p regions gated input xs)
 
 -- the replay has the landmarks of the run, whatever gives the program's regions by these summaries
 abbrev pub HasItsLandmarks : NumberedProgram → List ℤ → List InstrId → (ℕ → Option RootedList) → List Step → ReferenceRun → Type 0

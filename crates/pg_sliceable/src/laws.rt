@@ -16,12 +16,14 @@ ghost use Rattle.pg_trace.specs.declared.turn.Turn.{Turn};
 
 /// Where the guided run of a program along turns exits, its steps can be sliced.
 pub fn exiting_runs_can_be_sliced()
-    ensures { (p : NumberedProgram) (input : List ℤ) (turns : List Turn) (gated : List InstrId) (xs : List Step) (printed : List ℕ) (value : ℤ) → IsProgram p → HoldBytes p.globals → length input < 2 ^ 64
+    ensures { (p : NumberedProgram) (input : List ℤ) (turns : List Turn) (gated : List InstrId) (xs : List Step) (printed : List ℕ) (value : ℤ) → IsProgram p → HoldBytes p.globals
+        → length input < 2 ^ 64
         → following_of p input turns gated ≡ Exits xs printed value → CanBeSliced p input gated xs }
 {}
 
 /// Each edge of a replay leads to a block of the program.
 pub fn replays_have_edges()
-    ensures { (p : NumberedProgram) (input : List ℤ) (gated : List InstrId) (sums : ℕ → Option RootedList) (xs : List Step) (r : ReferenceRun) → IsProgram p → AreSummaries p (is_gated gated) sums
+    ensures { (p : NumberedProgram) (input : List ℤ) (gated : List InstrId) (sums : ℕ → Option RootedList) (xs : List Step) (r : ReferenceRun) → IsProgram p
+        → AreSummaries p (is_gated gated) sums
         → HasItsLandmarks p input gated sums xs r → EdgesStand p r }
 {}

@@ -1,7 +1,8 @@
 -- What threads ask for, and how many turns are done.
 use Rattle.std.specs.List.{filter}
 use Rattle.std.specs.Prelude.{if◌then◌else◌, is_some, slice_get}
-use Rattle.std.proofs.Common.{◌++◌, ◌+◌, ◌∙◌, ◌∷◌, ◌≡◌, Bool, List, None, Option, Some, [], ap, arith, cond, drop, false, length, map, refl, subst, suc, sym, take, true, zero, ℕ}
+use Rattle.std.proofs.Common.{◌++◌, ◌+◌, ◌∙◌, ◌∷◌, ◌≡◌, Bool, List, None, Option, Some, [], ap, arith, cond, drop, false, length, map, refl, subst, suc, sym, take}
+use Rattle.std.proofs.Common.{true, zero, ℕ}
 use Rattle.std.proofs.lemmas.Bool.{true≢false}
 use Rattle.std.proofs.lemmas.List.{length-append}
 use Rattle.pg_plans.specs.Effects.{deeds}
@@ -117,11 +118,14 @@ pub count_turns : (k : ℕ) (es : List RunDeed) → turns_done deeds k es ≡ k 
 count_turns k [] = omega arith
 count_turns k (e ∷ es) = go (deeds.is_event e) refl (λ j. count_turns j es)
   where
-    go : (b : Bool) → deeds.is_event e ≡ b → ((j : ℕ) → turns_done deeds j es ≡ j + length (filter deeds.is_event es)) → turns_done deeds k (e ∷ es) ≡ k + length (filter deeds.is_event (e ∷ es))
+    go : (b : Bool) → deeds.is_event e ≡ b → ((j : ℕ) → turns_done deeds j es ≡ j + length (filter deeds.is_event es))
+        → turns_done deeds k (e ∷ es) ≡ k + length (filter deeds.is_event (e ∷ es))
     go true v more =
-        ap (λ (b : Bool). turns_done deeds (done_after b k) es) v ∙ more (suc k) ∙ (let n : suc k + length (filter deeds.is_event es) ≡ k + suc (length (filter deeds.is_event es)) = omega arith in n)
+        ap (λ (b : Bool). turns_done deeds (done_after b k) es) v ∙ more (suc k)
+        ∙ (let n : suc k + length (filter deeds.is_event es) ≡ k + suc (length (filter deeds.is_event es)) = omega arith in n)
         ∙ ap (λ (b : Bool). k + length (cond b (e ∷ filter deeds.is_event es) (filter deeds.is_event es))) (sym v)
-    go false v more = ap (λ (b : Bool). turns_done deeds (done_after b k) es) v ∙ more k ∙ ap (λ (b : Bool). k + length (cond b (e ∷ filter deeds.is_event es) (filter deeds.is_event es))) (sym v)
+    go false v more = ap (λ (b : Bool). turns_done deeds (done_after b k) es) v ∙ more k
+        ∙ ap (λ (b : Bool). k + length (cond b (e ∷ filter deeds.is_event es) (filter deeds.is_event es))) (sym v)
 
 pub slice_of : (o : Option LocalState) (l : LocalState) → begun_in o ≡ Some l → o ≡ Some l
 slice_of None l e = absurd cc

@@ -21,7 +21,7 @@ use Rattle.pg_paths.specs.Followed.{root_value}
 use Rattle.pg_paths.specs.Paths.{offsets_of}
 use Rattle.pg_accesses.specs.declared.rooted.Rooted.{Rooted}
 use Rattle.pg_accesses.specs.Accesses.{RootedList}
-use Rattle.pg_accesses.proofs.Elements.{cases, none_in}
+use Rattle.pg_paths.proofs.Elements.{cases, none_in}
 use Rattle.pg_quiet.specs.Summaries.{AreSummaries}
 use Rattle.pg_step.specs.declared.action.Action.{Action}
 use Rattle.pg_step.specs.declared.action.Action.TheVariants as actions
@@ -76,7 +76,8 @@ branch_op ns n c (op.Alloca b) e = absurd cc
 branch_op ns n c (op.CallKnown k args) e = absurd (known_no ns n c k e)
 branch_op ns n c o e = absurd cc
 
-pub branch_told : (gated : List InstrId) (p : NumberedProgram) (s : State) (t : ℕ) (ns : List ℕ) (a n c : ℕ) (x : Instr) (action : Action) → slice_get p.instrs (instr_of s t) ≡ Some x → kind_told gated p s t ns a n action ≡ kinds.Branch c → IsBranch x.op
+pub branch_told : (gated : List InstrId) (p : NumberedProgram) (s : State) (t : ℕ) (ns : List ℕ) (a n c : ℕ) (x : Instr) (action : Action) → slice_get p.instrs (instr_of s t) ≡ Some x
+    → kind_told gated p s t ns a n action ≡ kinds.Branch c → IsBranch x.op
 branch_told gated p s t ns a n c x actions.Local i e = branch_op ns n c x.op (sym (ap (instr_told ns n) i) ∙ e)
 branch_told gated p s t ns a n c x (actions.In k) i e = absurd cc
 branch_told gated p s t ns a n c x actions.InLen i e = absurd cc
@@ -95,7 +96,8 @@ register_like input (s ∷ ss) [] k h = absurd h
 register_like input (s ∷ ss) (v ∷ vs) zero h = h.0
 register_like input (s ∷ ss) (v ∷ vs) (suc k) h = register_like input ss vs k h.1
 
-root_like : (input : List ℤ) (p : NumberedProgram) (ss : List Shadow) (vs : List (Option ℕ)) (g : Root) → AreLike input ss vs → IsLike input (root_shadow p ss g) (root_value p (registers_by vs) g)
+root_like : (input : List ℤ) (p : NumberedProgram) (ss : List Shadow) (vs : List (Option ℕ)) (g : Root) → AreLike input ss vs
+    → IsLike input (root_shadow p ss g) (root_value p (registers_by vs) g)
 root_like input p ss vs (root.Register k) h = register_like input ss vs k h
 root_like input p ss vs (root.Global k) h = valued_like input (λ i. root_value p (λ j. None) (root.Global k)) (root_value p (registers_by vs) (root.Global k)) refl
 root_like input p ss vs (root.Const k) h = valued_like input (λ i. root_value p (λ j. None) (root.Const k)) (root_value p (registers_by vs) (root.Const k)) refl
@@ -126,7 +128,8 @@ in_function p f (Some y) x e h = let q : y ≡ x = cc in subst (λ (z : Instr). 
 -- ---- a unit whose branch step is left free
 
 module _ (r : ReferenceRun) (d : Taken) (input : List ℤ) (u : PlanUnit) (unit : IsUnit r d u) (free_here : is_instance d u.seen ≡ true)
-    (st : State) (reached : IsReached r.program st) (stands : StandLike input (standing_of (local_at u.state (thread_in u.seen.moment)) (thread_of u.seen.before (thread_in u.seen.moment)).calls) (local_at st (thread_in u.seen.moment))) where
+    (st : State) (reached : IsReached r.program st) (stands : StandLike input (standing_of (local_at u.state (thread_in u.seen.moment)) (thread_of u.seen.before (thread_in u.seen.moment)).calls)
+    (local_at st (thread_in u.seen.moment))) where
   abbrev p : NumberedProgram
   p = r.program
 
@@ -156,11 +159,14 @@ module _ (r : ReferenceRun) (d : Taken) (input : List ℤ) (u : PlanUnit) (unit 
           Both r.program input (thread_in u.seen.moment) u.state st (thread_of u.seen.before (thread_in u.seen.moment)).calls
       go (inl b) = b
       go (inr b) =
-          let none0 : local_at u.state (thread_in u.seen.moment) ≡ None = none_of (local_at u.state (thread_in u.seen.moment)) (subst (StandLike input (standing_of (local_at u.state (thread_in u.seen.moment)) (thread_of u.seen.before (thread_in u.seen.moment)).calls)) b.none stands) in
+          let none0 : local_at u.state (thread_in u.seen.moment) ≡ None =
+          none_of (local_at u.state (thread_in u.seen.moment))
+          (subst (StandLike input (standing_of (local_at u.state (thread_in u.seen.moment)) (thread_of u.seen.before (thread_in u.seen.moment)).calls)) b.none stands) in
           let event : is_event_at u.seen ≡ true = event0 ∙ ap (local_event r.gated r.program) none0 in
           absurd (true≢false (sym event ∙ not_event))
 
-  pub told0 : u.seen.moment.did.did ≡ step_told r.gated r.program u.state (thread_in u.seen.moment) (answer_to r.input u.state (thread_in u.seen.moment) (next_of r.program u.state (thread_in u.seen.moment)))
+  pub told0 : u.seen.moment.did.did ≡ step_told r.gated r.program u.state (thread_in u.seen.moment)
+      (answer_to r.input u.state (thread_in u.seen.moment) (next_of r.program u.state (thread_in u.seen.moment)))
   told0 = told_is r.gated r.program r.input u.state unit.met.takes.after (thread_in u.seen.moment) u.seen.moment.did.did unit.met.takes.is_step
 
   pub place0 : instr_of u.state (thread_in u.seen.moment) ≡ both.f0.place
@@ -173,10 +179,12 @@ module _ (r : ReferenceRun) (d : Taken) (input : List ℤ) (u : PlanUnit) (unit 
   is_branching =
       let o = slice_get u.state.locals (thread_in u.seen.moment) in
       let a = answer_to r.input u.state (thread_in u.seen.moment) (next_of r.program u.state (thread_in u.seen.moment)) in
-      branch_told r.gated r.program u.state (thread_in u.seen.moment) (operands_in r.program o) a (number_in r.program o a) step_free.number both.x (next_of r.program u.state (thread_in u.seen.moment))
+      branch_told r.gated r.program u.state (thread_in u.seen.moment) (operands_in r.program o) a (number_in r.program o a) step_free.number both.x
+      (next_of r.program u.state (thread_in u.seen.moment))
       (ap (slice_get r.program.instrs) place0 ∙ both.here0.instr) (sym (ap (λ (z : Step). z.kind) told0) ∙ step_free.kind)
 
-  module _ (program : IsProgram r.program) (sums : ℕ → Option RootedList) (are : AreRegions r.program (λ i. is_gated r.gated i) sums r.regions) (summaries : AreSummaries r.program (λ i. is_gated r.gated i) sums) (good : IsGood (reference_of r) d input u.seen)
+  module _ (program : IsProgram r.program) (sums : ℕ → Option RootedList) (are : AreRegions r.program (λ i. is_gated r.gated i) sums r.regions)
+      (summaries : AreSummaries r.program (λ i. is_gated r.gated i) sums) (good : IsGood (reference_of r) d input u.seen)
       (paths : (a : FreeAccess) → Contains (accesses_of u.seen.region) a → (c : ByteRange) → Contains a.at.cells c → (b : ℕ) → is_in c b ≡ true → reads_cell d u.seen b ≡ true)
       (cells : (c : ℕ) → reads_cell d u.seen c ≡ true → IsCellLike input (cell_known u.seen.before c) (cell_at st c)) where
     region_is : region_at r.program u.seen.moment (r.regions both.x.block.0) ≡ Some step_free.free
@@ -207,8 +215,10 @@ module _ (r : ReferenceRun) (d : Taken) (input : List ℤ) (u : PlanUnit) (unit 
         go : (x : Bool) → nat_lt b MEMORY_BYTES ≡ x → IsCellLike input (u.seen.before.bytes b) (byte_at st.memory b)
         go true e =
             subst (λ (n : ℕ). IsCellLike input (u.seen.before.bytes b) n) (ap (λ (x : Bool). if x then byte_at st.memory b else slice_index st.words (b - MEMORY_BYTES)) e)
-            (subst (λ (s : Shadow). IsCellLike input s (cell_at st b)) (ap (λ (x : Bool). if x then u.seen.before.bytes b else slice_index_or u.seen.before.words (b - MEMORY_BYTES) (always 0)) e) (cells b k))
-        go false e = absurd (true≢false (sym k ∙ ap (λ (x : Bool). if x then reads_byte d u.seen b else is_thread (word_read (thread_in u.seen.moment) (kind_in u.seen)) (b - MEMORY_BYTES)) e ∙ no_word))
+            (subst (λ (s : Shadow). IsCellLike input s (cell_at st b))
+            (ap (λ (x : Bool). if x then u.seen.before.bytes b else slice_index_or u.seen.before.words (b - MEMORY_BYTES) (always 0)) e) (cells b k))
+        go false e = absurd (true≢false (sym k ∙ ap (λ (x : Bool). if x then reads_byte d u.seen b else is_thread (word_read (thread_in u.seen.moment) (kind_in u.seen)) (b - MEMORY_BYTES)) e
+            ∙ no_word))
 
     -- each access leads where it was recorded to lead
     leads : (a : Rooted) → Contains freed_here.region.accesses.items a → Leads r.program (registers_by both.f.registers) (read st.memory) step_free.free.accesses a
@@ -221,7 +231,8 @@ module _ (r : ReferenceRun) (d : Taken) (input : List ℤ) (u : PlanUnit) (unit 
         let fa : FreeAccess = record { writes = a.writes; path = a.path; at = g.0 } in
         let rt = follows_root (moment_number m) ks (root_value r.program (registers_by (registers_in m.calls)) a.path.root) g.0 g.1 in
         let needs = needs_of fa g.2 in
-        let like : IsLike input s v = subst (λ (ss : List Shadow). IsLike input (root_shadow r.program ss a.path.root) v) (sym (ap top_of both.calls)) (root_like input r.program both.ks both.f.registers a.path.root both.top.registers) in
+        let like : IsLike input s v = subst (λ (ss : List Shadow). IsLike input (root_shadow r.program ss a.path.root) v) (sym (ap top_of both.calls))
+        (root_like input r.program both.ks both.f.registers a.path.root both.top.registers) in
         let w = root_there input u.seen.before.bytes (byte_at st.memory) (moment_number m) (read st.memory) (read_is st) ks s v rt.0 g.0 rt.2 like needs in
         let k = follow input u.seen.before.bytes (byte_at st.memory) (moment_number m) (read st.memory) (read_is st) ks s rt.0 w.0 g.0 rt.2 (subst (IsLike input s) w.1 like) needs
         (λ e i b j. byte_like b (paths fa (subst (λ (o : Option FreeRegion). Contains (accesses_of o) fa) (sym step_free.region) g.2) e i b j)) in
@@ -232,7 +243,8 @@ module _ (r : ReferenceRun) (d : Taken) (input : List ℤ) (u : PlanUnit) (unit 
           last = record { access = fa; among = g.2; kind = refl; same = sym k.last };
         }
 
-    at_the_branch : IsAtBranch (instance_of r.program (λ i. is_gated r.gated i) sums freed_here.region step_free.free st (running (thread_in u.seen.moment) both.h both.f both.fs both.n) both.f both.fs)
+    at_the_branch : IsAtBranch (instance_of r.program (λ i. is_gated r.gated i) sums freed_here.region step_free.free st
+        (running (thread_in u.seen.moment) both.h both.f both.fs both.n) both.f both.fs)
     at_the_branch =
         let l = running (thread_in u.seen.moment) both.h both.f both.fs both.n in
         let of = frames_of r.program st (thread_in u.seen.moment) l reached both.here.local in

@@ -1,6 +1,7 @@
 -- Extents that end together, and the edges that steps take.
 use Rattle.std.specs.Prelude.{◌&&◌, Contains, filter, if◌then◌else◌, slice_get, slice_index_or}
-use Rattle.std.proofs.Common.{◌++◌, ◌<◌, ◌==◌, ◌∙◌, ◌∷◌, ◌≡◌, ◌≤◌, Bool, List, None, Option, Some, [], ap, arith, cond, false, length, not, refl, subst, suc, sym, true, zero, ℕ}
+use Rattle.std.proofs.Common.{◌++◌, ◌<◌, ◌==◌, ◌∙◌, ◌∷◌, ◌≡◌, ◌≤◌, Bool, List, None, Option, Some, [], ap, arith, cond, false, length, not, refl, subst}
+use Rattle.std.proofs.Common.{suc, sym, true, zero, ℕ}
 use Rattle.std.proofs.lemmas.Bool.{and_from, and_parts, eq-eqb, eqb-true, true≢false}
 use Rattle.pg_cfg.specs.Graphs.{Walk}
 use Rattle.pg_cfg.specs.Graphs.Walk.{first as once, then as onward}
@@ -15,7 +16,7 @@ use Rattle.pg_step.specs.Step.{after, frames_after, instr_after, moved, op_after
 use Rattle.pg_step.specs.Told.{id_of, place_in}
 use Rattle.pg_trace.specs.declared.step.StepKind.{StepKind}
 use Rattle.pg_trace.specs.declared.step.StepKind.TheVariants as kinds
-use Rattle.pg_accesses.proofs.Elements.{here, there}
+use Rattle.pg_paths.proofs.Elements.{here, there}
 use Rattle.pg_region.specs.Regions.{flow_of}
 use Rattle.pg_machine.specs.State.{State, id_in, instr_of}
 use Rattle.pg_closed.specs.Extents.{Extent, begun, edge_by, edge_in, ends, is_live, open_after}
@@ -35,10 +36,12 @@ mid [] ys x = here x ys
 mid (z ∷ xs) ys x = there z (xs ++ x ∷ ys) x (mid xs ys x)
 
 module _ (depth : ℕ) (edge : Option ℕ) where
-  pub drop_one : (e : Extent) (xs : List Extent) → ends depth edge e ≡ true → filter (λ (e : Extent). not (ends depth edge e)) (e ∷ xs) ≡ filter (λ (e : Extent). not (ends depth edge e)) xs
+  pub drop_one : (e : Extent) (xs : List Extent) → ends depth edge e ≡ true
+      → filter (λ (e : Extent). not (ends depth edge e)) (e ∷ xs) ≡ filter (λ (e : Extent). not (ends depth edge e)) xs
   drop_one e xs h = ap (λ (b : Bool). cond (not b) (e ∷ filter (λ (e : Extent). not (ends depth edge e)) xs) (filter (λ (e : Extent). not (ends depth edge e)) xs)) h
 
-  pub keep_one : (e : Extent) (xs : List Extent) → ends depth edge e ≡ false → filter (λ (e : Extent). not (ends depth edge e)) (e ∷ xs) ≡ e ∷ filter (λ (e : Extent). not (ends depth edge e)) xs
+  pub keep_one : (e : Extent) (xs : List Extent) → ends depth edge e ≡ false
+      → filter (λ (e : Extent). not (ends depth edge e)) (e ∷ xs) ≡ e ∷ filter (λ (e : Extent). not (ends depth edge e)) xs
   keep_one e xs h = ap (λ (b : Bool). cond (not b) (e ∷ filter (λ (e : Extent). not (ends depth edge e)) xs) (filter (λ (e : Extent). not (ends depth edge e)) xs)) h
 
   pub all_end : (later earlier : List Extent) (e : Extent) → AreStacked depth edge (later ++ e ∷ earlier) → ends depth edge e ≡ true →
@@ -47,13 +50,16 @@ module _ (depth : ℕ) (edge : Option ℕ) where
   all_end (x ∷ later) earlier e s h = drop_one x (later ++ e ∷ earlier) (s.0 e (mid later earlier e) h) ∙ all_end later earlier e s.1 h
 
   pub it_stays : (later earlier : List Extent) (e : Extent) → ends depth edge e ≡ false →
-      filter (λ (e : Extent). not (ends depth edge e)) (later ++ e ∷ earlier) ≡ filter (λ (e : Extent). not (ends depth edge e)) later ++ e ∷ filter (λ (e : Extent). not (ends depth edge e)) earlier
+      filter (λ (e : Extent). not (ends depth edge e)) (later ++ e ∷ earlier) ≡ filter (λ (e : Extent). not (ends depth edge e)) later
+      ++ e ∷ filter (λ (e : Extent). not (ends depth edge e)) earlier
   it_stays [] earlier e h = keep_one e earlier h
   it_stays (x ∷ later) earlier e h = go (not (ends depth edge x)) (it_stays later earlier e h)
     where
-      go : (b : Bool) → filter (λ (e : Extent). not (ends depth edge e)) (later ++ e ∷ earlier) ≡ filter (λ (e : Extent). not (ends depth edge e)) later ++ e ∷ filter (λ (e : Extent). not (ends depth edge e)) earlier →
+      go : (b : Bool) → filter (λ (e : Extent). not (ends depth edge e)) (later ++ e ∷ earlier) ≡ filter (λ (e : Extent). not (ends depth edge e)) later
+          ++ e ∷ filter (λ (e : Extent). not (ends depth edge e)) earlier →
           cond b (x ∷ filter (λ (e : Extent). not (ends depth edge e)) (later ++ e ∷ earlier)) (filter (λ (e : Extent). not (ends depth edge e)) (later ++ e ∷ earlier))
-          ≡ cond b (x ∷ filter (λ (e : Extent). not (ends depth edge e)) later) (filter (λ (e : Extent). not (ends depth edge e)) later) ++ e ∷ filter (λ (e : Extent). not (ends depth edge e)) earlier
+          ≡ cond b (x ∷ filter (λ (e : Extent). not (ends depth edge e)) later) (filter (λ (e : Extent). not (ends depth edge e)) later)
+          ++ e ∷ filter (λ (e : Extent). not (ends depth edge e)) earlier
       go true k = ap (λ (l : List Extent). x ∷ l) k
       go false k = k
 
@@ -74,7 +80,8 @@ not_live pinned (x ∷ later) earlier e h = ap (λ (b : Bool). pinned x.step && 
     and_none true = refl
     and_none false = refl
 
-pub begun_on : (n depth : ℕ) (region : Option FreeRegion) (later earlier : List Extent) (e : Extent) → (more : List Extent) × (begun n depth region (later ++ e ∷ earlier) ≡ more ++ e ∷ earlier)
+pub begun_on : (n depth : ℕ) (region : Option FreeRegion) (later earlier : List Extent) (e : Extent)
+    → (more : List Extent) × (begun n depth region (later ++ e ∷ earlier) ≡ more ++ e ∷ earlier)
 begun_on n depth None later earlier e = (later, refl)
 begun_on n depth (Some r) later earlier e = (record { step = n; join = r.join; depth = depth } ∷ later, refl)
 
@@ -85,14 +92,18 @@ own_open (x ∷ xs) (suc t) es h = own_open xs t es (omega (arith, h))
 
 module _ (R : Reference) (d : Taken) (n : ℕ) (m : Moment) (known : RunShadow) where
   abbrev pub old_threads : List ThreadShadow
-  old_threads = (if is_live d.pinned (thread_of known (thread_in m)).extents then live_after R.program d n m (region_of R.program R.regions m (instr_in R.program m)) (instr_in R.program m) known else known).threads
+  old_threads = (if is_live d.pinned (thread_of known (thread_in m)).extents then live_after R.program d n m (region_of R.program R.regions m (instr_in R.program m))
+      (instr_in R.program m) known else known).threads
 
   abbrev pub new_extents : List Extent
   new_extents = open_after n (length m.calls) (region_of R.program R.regions m (instr_in R.program m)) (edge_of R.program m m.did.did.kind) (thread_of known (thread_in m)).extents
 
   -- the extents of a step's thread behind it
-  pub own_extents : thread_in m < length (after_step R d n m known).threads → (thread_of (after_step R d n m known) (thread_in m)).extents ≡ open_after n (length m.calls) (region_of R.program R.regions m (instr_in R.program m)) (edge_of R.program m m.did.did.kind) (thread_of known (thread_in m)).extents
-  own_extents lt = own_open old_threads (thread_in m) new_extents (subst (λ (k : ℕ). thread_in m < k) (length_set old_threads (thread_in m) (record (slice_index_or old_threads (thread_in m) no_thread) { extents = new_extents })) lt)
+  pub own_extents : thread_in m < length (after_step R d n m known).threads
+      → (thread_of (after_step R d n m known) (thread_in m)).extents
+      ≡ open_after n (length m.calls) (region_of R.program R.regions m (instr_in R.program m)) (edge_of R.program m m.did.did.kind) (thread_of known (thread_in m)).extents
+  own_extents lt = own_open old_threads (thread_in m) new_extents
+      (subst (λ (k : ℕ). thread_in m < k) (length_set old_threads (thread_in m) (record (slice_index_or old_threads (thread_in m) no_thread) { extents = new_extents })) lt)
 
 -- ---- the edge of a step
 
@@ -126,7 +137,8 @@ place_told s t l e = ap id_in e
 pub one_some : (a b : ℕ) → Path (Option ℕ) (Some a) (Some b) → a ≡ b
 one_some a b e = cc
 
-pub edge_frames : (p : NumberedProgram) (l : LocalState) (x : Instr) (a : ℕ) (o : Op) (f : Frame) (fs : List Frame) (to : ℕ) → l.frames ≡ f ∷ fs → edge_taken p f.registers o ≡ Some to → op_after p l x a o ≡ moved p f x.block.0 to ∷ fs
+pub edge_frames : (p : NumberedProgram) (l : LocalState) (x : Instr) (a : ℕ) (o : Op) (f : Frame) (fs : List Frame) (to : ℕ) → l.frames ≡ f ∷ fs
+    → edge_taken p f.registers o ≡ Some to → op_after p l x a o ≡ moved p f x.block.0 to ∷ fs
 edge_frames p l x a (op.Br b) f fs to e h = rw e (ap (λ (i : ℕ). moved p f x.block.0 i ∷ fs) (one_some b.0 to h))
 edge_frames p l x a (op.CondBr c y z) f fs to e h = rw e (ap (λ (i : ℕ). moved p f x.block.0 i ∷ fs) (one_some _ to h))
 edge_frames p l x a (op.Switch w on other cases) f fs to e h = rw e (ap (λ (i : ℕ). moved p f x.block.0 i ∷ fs) (one_some _ to h))
@@ -155,7 +167,8 @@ pub place_of_top : (l : LocalState) (f : Frame) (fs : List Frame) → l.frames �
 unfolding id_of
 place_of_top l f fs e = ap place_in e
 
-pub after_frames : (p : NumberedProgram) (l : LocalState) (f : Frame) (fs : List Frame) (x : Instr) (a : ℕ) → l.begun ≡ true → l.frames ≡ f ∷ fs → slice_get p.instrs f.place ≡ Some x → (after p l a).frames ≡ op_after p l x a x.op
+pub after_frames : (p : NumberedProgram) (l : LocalState) (f : Frame) (fs : List Frame) (x : Instr) (a : ℕ) → l.begun ≡ true → l.frames ≡ f ∷ fs
+    → slice_get p.instrs f.place ≡ Some x → (after p l a).frames ≡ op_after p l x a x.op
 unfolding after
 after_frames p l f fs x a b e i =
     ap (λ (k : Bool). (frames_after p l k l.frames a).frames) b

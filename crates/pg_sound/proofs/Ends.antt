@@ -1,6 +1,6 @@
 -- An unbroken permitted run on an admitted input, at its end: the moves into which it falls, what is done and what was answered.
 use Rattle.std.specs.List.{filter}
-use Rattle.std.proofs.Common.{◌<◌, ◌^◌, ◌∙◌, ◌≡◌, ◌≤◌, List, None, Option, Some, ap, arith, length, map, sym, true, ℕ, ℤ}
+use Rattle.std.proofs.Common.{◌∙◌, ◌≡◌, ◌≤◌, List, None, Option, Some, ap, arith, length, map, sym, true, ℕ, ℤ}
 use Rattle.pg_plans.specs.Cuts.{Mark, kept, whole}
 use Rattle.pg_plans.specs.Effects.{deeds, effects}
 use Rattle.pg_plans.specs.Intervals.{Timed, did_of, times, turns_done}
@@ -15,45 +15,42 @@ use Rattle.pg_trace.specs.declared.turn.Turn.{Turn}
 use Rattle.pg_accesses.specs.Accesses.{RootedList}
 use Rattle.pg_machine.specs.Permitted.{IsPermitted}
 use Rattle.pg_machine.specs.State.{State, initial}
-use Rattle.pg_closed.specs.Closed.{IsClosed, admits}
 use Rattle.pg_closed.specs.Known.{Taken}
-use Rattle.pg_closed.specs.Moments.{thread_in}
 use Rattle.pg_effects.specs.PermittedSteps.{none_taken}
 use Rattle.pg_effects.specs.Reached.{IsReached}
 use Rattle.pg_effects.specs.Views.{Objects}
 use Rattle.pg_effects.proofs.Permits.{permitted_is}
 use Rattle.pg_effects.proofs.Reaches.{reached_first, reached_run}
-use Rattle.pg_runs.specs.Deeds.{owners_of}
 use Rattle.pg_units.specs.Answered.{Answered, answers}
-use Rattle.pg_units.specs.Fits.{IsAlikeFor}
 use Rattle.pg_units.specs.Likes.{like}
-use Rattle.pg_units.specs.Lists.{Has}
-use Rattle.pg_units.specs.Moves.{LooksTo, RunDeed, RunState, moved}
-use Rattle.pg_units.specs.Order.{IsOrderedRun}
-use Rattle.pg_units.specs.Units.{ExtentsArePlain, PlanDeed, PlanUnit, ReferenceRun, is_instance, plan_of, plan_start, reference_of, turns_of, units_of}
+use Rattle.pg_units.specs.Moves.{RunDeed, RunState, moved}
+use Rattle.pg_units.specs.Units.{PlanDeed, ReferenceRun, plan_of, plan_start, turns_of}
 use Rattle.pg_units.proofs.Begins.{begins_alike}
 use Rattle.pg_units.proofs.Counted as counted
 use Rattle.pg_units.proofs.Made.{starts_are_fresh}
 use Rattle.pg_units.proofs.Remembered.{plan_leaves, plan_remembers}
 use Rattle.pg_units.proofs.Replies.{fit_answers, plan_answer, plan_answers, run_answer}
 use Rattle.pg_units.proofs.Settled.{is_plan}
-use Rattle.pg_sound.specs.Free.{BeginsInstance, IsAnyMove, UnitsJoinAgain}
+use Rattle.pg_sound.specs.Free.{IsAnyMove}
 use Rattle.pg_sound.specs.Unbroken.{IsUnbroken}
+use Rattle.pg_sound.proofs.Admitted.{IsAdmitted}
 use Rattle.pg_sound.proofs.Asks.{answers_length, count_turns, map_length, owners_length}
 use Rattle.pg_sound.proofs.Falling.{run_falls}
 use Rattle.pg_sound.proofs.Following.{moves_follow, obeys}
 use Rattle.pg_sound.proofs.Moving.{Falls}
 use Rattle.pg_sound.proofs.Ordering.{falls_answers}
 
-module _ (r : ReferenceRun) (d : Taken) (input : List ℤ) (sums : ℕ → Option RootedList) (turns : List Turn) (o : IsOrderedRun r) (plain : ExtentsArePlain r d) (closed : IsClosed (reference_of r) d) (admitted : admits (reference_of r) d input ≡ true) (small : length input < 2 ^ 64)
-    (same_turns : owners_of turns ≡ turns_of r) (again : UnitsJoinAgain r sums d) (own_turns : events r.steps ≡ turns) (over : sync.over o.last.sync ≡ true)
-    (begins : (u : PlanUnit) (a : RunState) (z : State) (c : ℕ → ℕ) → Has (units_of r d) u → is_instance d u.seen ≡ true → IsAlikeFor input d u a → LooksTo (thread_in u.seen.moment) a (moved z c) → IsReached r.program z → BeginsInstance r sums u z)
+module _ (r : ReferenceRun) (d : Taken) (input : List ℤ) (sums : ℕ → Option RootedList) (turns : List Turn) (given : IsAdmitted r d input sums turns)
     (xs : List Step) (z : State) (h : IsPermitted r.program input turns r.gated xs z) (unbroken : IsUnbroken xs) where
+  open given use {reference, plain, closed, admitted, small, same_turns, again, over, begins}
+
   abbrev first : RunState
   first = moved (initial r.program) none_taken
 
   pub fallen : Falls r d input sums turns (λ t. None) (initial r.program) first 0 xs z
-  fallen = run_falls r d input sums turns o plain (starts_are_fresh r d o plain) (plan_remembers r d o plain) closed admitted small same_turns again begins xs (initial r.program) z first none_taken none_taken (begins_alike r o input) (reached_first r.program o.can.program o.can.bytes) (same_refl first) ((permitted_is r.program input turns r.gated xs z).0 h) unbroken
+  fallen = run_falls r d input sums turns reference plain (starts_are_fresh r d reference plain) (plan_remembers r d reference plain) closed admitted small same_turns again begins xs
+      (initial r.program) z first none_taken none_taken (begins_alike r reference input) (reached_first r.program reference.can.program reference.can.bytes) (same_refl first)
+      ((permitted_is r.program input turns r.gated xs z).0 h) unbroken
 
   abbrev ds : List RunDeed
   ds = fallen.moves
@@ -61,9 +58,11 @@ module _ (r : ReferenceRun) (d : Taken) (input : List ℤ) (sums : ℕ → Optio
   abbrev g : ℕ
   g = turns_done deeds 0 fallen.moves
 
-  pub stands : Stands (like input) (turns_of r) (plan_start r) (plan_of r d) (IsAnyMove r d input sums turns) (is_plan r d o closed plain)
-      (obeys r d input sums turns o plain (starts_are_fresh r d o plain) (plan_remembers r d o plain) closed admitted small same_turns again) (effects first fallen.moves) (turns_done deeds 0 fallen.moves) fallen.moves (times deeds (turns_of r) 0 fallen.moves)
-  stands = moves_follow r d input sums turns o plain (starts_are_fresh r d o plain) (plan_remembers r d o plain) closed admitted small same_turns again first (begins_alike r o input) fallen.moves fallen.are
+  pub stands : Stands (like input) (turns_of r) (plan_start r) (plan_of r d) (IsAnyMove r d input sums turns) (is_plan r d reference closed plain)
+      (obeys r d input sums turns reference plain (starts_are_fresh r d reference plain) (plan_remembers r d reference plain) closed admitted small same_turns again) (effects first fallen.moves)
+      (turns_done deeds 0 fallen.moves) fallen.moves (times deeds (turns_of r) 0 fallen.moves)
+  stands = moves_follow r d input sums turns reference plain (starts_are_fresh r d reference plain) (plan_remembers r d reference plain) closed admitted small same_turns again first
+      (begins_alike r reference input) fallen.moves fallen.are
 
   abbrev marks : List (Mark (Timed PlanDeed))
   marks = stands.holds.cut.marks
@@ -77,7 +76,7 @@ module _ (r : ReferenceRun) (d : Taken) (input : List ℤ) (sums : ℕ → Optio
       omega (arith, n, a, b, c)
 
   pub reached : IsReached r.program z
-  reached = reached_run r.gated r.program input (initial r.program) z xs o.can.program small (reached_first r.program o.can.program o.can.bytes) h.run
+  reached = reached_run r.gated r.program input (initial r.program) z xs reference.can.program small (reached_first r.program reference.can.program reference.can.bytes) h.run
 
   pub plan_parts : did_of (whole marks) ≡ plan_of r d
   plan_parts = ap did_of stands.holds.cut.is_whole ∙ did_times deeds (turns_of r) 0 (plan_of r d)
@@ -88,6 +87,22 @@ module _ (r : ReferenceRun) (d : Taken) (input : List ℤ) (sums : ℕ → Optio
 
   pub theirs : map plan_answer (filter deeds.is_event (did_of (whole marks))) ≡ answers r.steps
   theirs = ap (λ (l : List PlanDeed). map plan_answer (filter deeds.is_event l)) plan_parts ∙ plan_answers r d plain
+
+  -- all of these
+  abbrev pub facts : record {
+    first : RunState;
+    fallen : Falls r d input sums turns (λ t. None) (initial r.program) first 0 xs z;
+    stands : Stands (like input) (turns_of r) (plan_start r) (plan_of r d) (IsAnyMove r d input sums turns) (is_plan r d reference closed plain)
+        (obeys r d input sums turns reference plain (starts_are_fresh r d reference plain) (plan_remembers r d reference plain) closed admitted small same_turns again) (effects first fallen.moves)
+        (turns_done deeds 0 fallen.moves) fallen.moves
+        (times deeds (turns_of r) 0 fallen.moves);
+    done_is : g ≡ length (events xs);
+    reached : IsReached r.program z;
+    plan_parts : did_of (whole marks) ≡ plan_of r d;
+    mine : answers xs ≡ map plan_answer (filter deeds.is_event (did_of (kept marks)));
+    theirs : map plan_answer (filter deeds.is_event (did_of (whole marks))) ≡ answers r.steps;
+  }
+  facts = record { first = first; fallen = fallen; stands = stands; done_is = done_is; reached = reached; plan_parts = plan_parts; mine = mine; theirs = theirs }
 
   abbrev turn_in : Answered → Option Turn
   turn_in a = a.turn
@@ -104,6 +119,7 @@ module _ (r : ReferenceRun) (d : Taken) (input : List ℤ) (sums : ℕ → Optio
       let c = counted.plan_turns r d plain in
       let le : turns_done deeds 0 (plan_of r d) ≤ g = (let n = done_is in omega (arith, a, b, c, k, n)) in
       ap (λ (q : Objects). sync.over q.sync) (sym fallen.objects
-      ∙ sym (follows.last_objects (like input) (turns_of r) (plan_start r) (plan_of r d) (IsAnyMove r d input sums turns) (is_plan r d o closed plain)
-      (obeys r d input sums turns o plain (starts_are_fresh r d o plain) (plan_remembers r d o plain) closed admitted small same_turns again) (effects first ds) g stands.holds le)
-      ∙ plan_leaves r d o plain) ∙ over
+      ∙ sym (follows.last_objects (like input) (turns_of r) (plan_start r) (plan_of r d) (IsAnyMove r d input sums turns) (is_plan r d reference closed plain)
+      (obeys r d input sums turns reference plain (starts_are_fresh r d reference plain) (plan_remembers r d reference plain) closed admitted small same_turns again)
+      (effects first ds) g stands.holds le)
+      ∙ plan_leaves r d reference plain) ∙ over

@@ -1,5 +1,6 @@
 -- A run of moves, of single steps and of whole instances, follows the plan.
-use Rattle.std.proofs.Common.{◌≡◌, ℕ, ℤ, ◌⊎◌, ◌<◌, ◌≤◌, ◌^◌, ◌++◌, true, false, List, ◌∷◌, length, map, drop, Option, Some, None, refl, sym, ap, ◌∙◌, subst, inl, inr}
+use Rattle.std.proofs.Common.{◌≡◌, ℕ, ℤ, ◌⊎◌, ◌<◌, ◌≤◌, ◌^◌, ◌++◌, true, false, List, ◌∷◌, length, map, drop, Option, Some, None, sym, ap, ◌∙◌}
+use Rattle.std.proofs.Common.{subst, inl, inr}
 use Rattle.std.specs.Prelude.{is_some, slice_get}
 use Rattle.std.proofs.lemmas.Bool.{true≢false}
 use Rattle.pg_accesses.specs.Accesses.{RootedList}
@@ -15,17 +16,16 @@ use Rattle.pg_runs.specs.Deeds.{owners_of}
 use Rattle.pg_closed.specs.Closed.{IsClosed, admits}
 use Rattle.pg_closed.specs.Known.{Taken}
 use Rattle.pg_closed.specs.Moments.{thread_in}
-use Rattle.pg_units.specs.Fits.{IsAlikeFor, IsRemembered, PlanRemembers, StartsAreFresh, thread_before}
-use Rattle.pg_units.specs.Likes.{IsCellLike, IsThreadLike, PlanThread, like}
-use Rattle.pg_units.specs.Lists.{Has}
+use Rattle.pg_units.specs.Fits.{IsAlikeFor, PlanRemembers, StartsAreFresh}
+use Rattle.pg_units.specs.Likes.{IsCellLike, IsThreadLike, like}
 use Rattle.pg_units.specs.Moves.{RunDeed, RunState}
 use Rattle.pg_units.specs.Order.{IsOrderedRun}
-use Rattle.pg_units.specs.Units.{ExtentsArePlain, PlanDeed, PlanUnit, ReferenceRun, deed_of, is_event_at, is_instance, plan_of, plan_start, reads_cell, reference_of, turns_of, units_of}
+use Rattle.pg_units.specs.Units.{ExtentsArePlain, PlanUnit, ReferenceRun, deed_of, is_event_at, is_instance, plan_of, plan_start, reads_cell, reference_of, turns_of, units_of}
 use Rattle.pg_units.proofs.Along.{IsUnit, all_units}
-use Rattle.pg_units.proofs.AtUnits.{fits_at, kind_at, none_left, none_left_by, turn_at_move}
+use Rattle.pg_units.proofs.AtUnits.{at_unit, fits_at, kind_at, none_left, none_left_by, turn_at_move}
 use Rattle.pg_units.proofs.Freed.{is_free}
-use Rattle.pg_units.proofs.Members.{all_has, has_right}
-use Rattle.pg_units.proofs.Obeying.{split}
+use Rattle.pg_units.proofs.Members.{all_has}
+use Rattle.pg_units.proofs.Obeying.{fits_over, kind_over}
 use Rattle.pg_units.proofs.Settled.{is_plan}
 use Rattle.pg_units.proofs.Turns.{is_some_if}
 use Rattle.pg_sound.specs.Free.{IsAnyMove, IsFreeMove, IsPartMove, IsSingleMove, IsWholeMove, JoinsAgain, UnitsJoinAgain}
@@ -34,29 +34,26 @@ use Rattle.pg_sound.proofs.Whole.{part_fits, whole_fits}
 
 -- ---- moves of instances
 
-no_objects : (r : ReferenceRun) (input : List ℤ) (sums : ℕ → Option RootedList) (turns : List Turn) (u : PlanUnit) (a : RunState) (g : ℕ) (e : RunDeed) → IsWholeMove r input sums turns u a g e ⊎ IsPartMove r input sums turns u a g e → e.objects ≡ None
+no_objects : (r : ReferenceRun) (input : List ℤ) (sums : ℕ → Option RootedList) (turns : List Turn) (u : PlanUnit) (a : RunState) (g : ℕ) (e : RunDeed)
+    → IsWholeMove r input sums turns u a g e ⊎ IsPartMove r input sums turns u a g e → e.objects ≡ None
 no_objects r input sums turns u a g e (inl w) = w.is_deed.objects
 no_objects r input sums turns u a g e (inr w) = w.is_deed.objects
 
-owner_of : (r : ReferenceRun) (input : List ℤ) (sums : ℕ → Option RootedList) (turns : List Turn) (u : PlanUnit) (a : RunState) (g : ℕ) (e : RunDeed) → IsWholeMove r input sums turns u a g e ⊎ IsPartMove r input sums turns u a g e → has_turn e.thread (drop g turns) ≡ true
+owner_of : (r : ReferenceRun) (input : List ℤ) (sums : ℕ → Option RootedList) (turns : List Turn) (u : PlanUnit) (a : RunState) (g : ℕ) (e : RunDeed)
+    → IsWholeMove r input sums turns u a g e ⊎ IsPartMove r input sums turns u a g e → has_turn e.thread (drop g turns) ≡ true
 owner_of r input sums turns u a g e (inl w) = subst (λ (t : ℕ). has_turn t (drop g turns) ≡ true) (sym w.is_deed.thread) w.steps.may.owner
 owner_of r input sums turns u a g e (inr w) = subst (λ (t : ℕ). has_turn t (drop g turns) ≡ true) (sym w.is_deed.thread) w.steps.may.owner
 
 -- ---- a run of moves
 
-module _ (r : ReferenceRun) (d : Taken) (input : List ℤ) (sums : ℕ → Option RootedList) (turns : List Turn) (o : IsOrderedRun r) (plain : ExtentsArePlain r d) (fresh : StartsAreFresh r d) (remembers : PlanRemembers r d)
-    (closed : IsClosed (reference_of r) d) (admitted : admits (reference_of r) d input ≡ true) (small : length input < 2 ^ 64) (same_turns : owners_of turns ≡ turns_of r) (again : UnitsJoinAgain r sums d) where
+module _ (r : ReferenceRun) (d : Taken) (input : List ℤ) (sums : ℕ → Option RootedList) (turns : List Turn) (o : IsOrderedRun r) (plain : ExtentsArePlain r d) (fresh : StartsAreFresh r d)
+    (remembers : PlanRemembers r d)
+    (closed : IsClosed (reference_of r) d) (admitted : admits (reference_of r) d input ≡ true) (small : length input < 2 ^ 64) (same_turns : owners_of turns ≡ turns_of r)
+    (again : UnitsJoinAgain r sums d) where
   -- a move at a unit
   module _ (us : List PlanUnit) (u : PlanUnit) (vs : List PlanUnit) (is : units_of r d ≡ us ++ u ∷ vs) (s : RunState) (g : ℕ) (e : RunDeed) (mine : e.thread ≡ thread_in u.seen.moment)
       (like_thread : IsThreadLike input ((effects (plan_start r) (map (deed_of d) us)).locals (thread_in u.seen.moment)) (s.locals (thread_in u.seen.moment))) where
-    has : Has (units_of r d) u
-    has = subst (λ (l : List PlanUnit). Has l u) (sym is) (has_right us (u ∷ vs) u (inl refl))
-
-    memory : IsRemembered r d us u
-    memory = remembers us u vs is
-
-    thread : IsThreadLike input (thread_before u) (s.locals (thread_in u.seen.moment))
-    thread = subst (λ (z : PlanThread). IsThreadLike input z (s.locals (thread_in u.seen.moment))) memory.thread like_thread
+    open at_unit r d input remembers us u vs is s like_thread use {has, memory, thread}
 
     unit : IsUnit r d u
     unit = all_has (IsUnit r d) (units_of r d) u (all_units r d o) has
@@ -94,14 +91,15 @@ module _ (r : ReferenceRun) (d : Taken) (input : List ℤ) (sums : ℕ → Optio
         }
 
         by : IsWholeMove r input sums turns u s g e ⊎ IsPartMove r input sums turns u s g e → Fits (like input) (deed_of d u) e
-        by (inl w) = whole_fits r d input sums turns u unit (free m) s g e alike o.can.program small (all_has (λ (v : PlanUnit). is_instance d v.seen ≡ true → JoinsAgain r sums v) (units_of r d) u again has (free m)) w
+        by (inl w) = whole_fits r d input sums turns u unit (free m) s g e alike o.can.program small
+            (all_has (λ (v : PlanUnit). is_instance d v.seen ≡ true → JoinsAgain r sums v) (units_of r d) u again has (free m)) w
         by (inr w) = part_fits r d input sums turns u unit (free m) s g e alike w
 
   pub obeys : Obeys (like input) (turns_of r) (plan_start r) (plan_of r d) (IsAnyMove r d input sums turns)
   obeys = record {
     turn = turn_of;
-    kind = λ xs p ys e s g m moved mine l. kind_of xs p ys e s g m moved mine l;
-    fits = λ xs p ys e s g m moved mine l c ob. fits_of xs p ys e s g m moved mine l c ob;
+    kind = kind_over r d input (IsAnyMove r d input sums turns) (λ us u vs is s g m moved mine l. kind_any us u vs is s g m mine l moved);
+    fits = fits_over r d input (IsAnyMove r d input sums turns) (λ us u vs is s g m moved mine l. fits_any us u vs is s g m mine l moved);
     no_more = λ s g m moved within l none ob. no_more s g m moved none;
   }
     where
@@ -109,29 +107,12 @@ module _ (r : ReferenceRun) (d : Taken) (input : List ℤ) (sums : ℕ → Optio
       turn_of s g m (inl k) h = turn_at_move r d input turns o plain fresh remembers closed admitted small same_turns s g m k.move h
       turn_of s g m (inr k) h = absurd (true≢false (sym h ∙ ap is_some (no_objects r input sums turns k.unit s g m k.move)))
 
-      no_more : (s : RunState) (g : ℕ) (m : RunDeed) → IsAnyMove r d input sums turns s g m → ((i : ℕ) → g ≤ i → slice_get (turns_of r) i ≡ Some m.thread → turns_done deeds 0 (plan_of r d) ≤ i) → ⊥
+      no_more : (s : RunState) (g : ℕ) (m : RunDeed) → IsAnyMove r d input sums turns s g m
+          → ((i : ℕ) → g ≤ i → slice_get (turns_of r) i ≡ Some m.thread → turns_done deeds 0 (plan_of r d) ≤ i) → ⊥
       no_more s g m (inl k) none = none_left r d input turns o plain fresh remembers closed admitted small same_turns s g m k.move none
       no_more s g m (inr k) none = none_left_by r d input turns o plain fresh remembers closed admitted small same_turns m.thread g (owner_of r input sums turns k.unit s g m k.move) none
 
-      kind_of : (xs : List PlanDeed) (p : PlanDeed) (ys : List PlanDeed) → plan_of r d ≡ xs ++ p ∷ ys → (s : RunState) (g : ℕ) (m : RunDeed) → IsAnyMove r d input sums turns s g m → m.thread ≡ p.thread →
-          IsThreadLike input ((effects (plan_start r) xs).locals p.thread) (s.locals p.thread) → deeds.is_event m ≡ deeds.is_event p
-      kind_of xs p ys e s g m moved mine l =
-          let k = split (deed_of d) (units_of r d) xs p ys e in
-          let l' = subst (λ (q : PlanDeed). IsThreadLike input ((effects (plan_start r) xs).locals q.thread) (s.locals q.thread)) (sym k.image) l in
-          let l'' = subst (λ (z : List PlanDeed). IsThreadLike input ((effects (plan_start r) z).locals (thread_in k.at.seen.moment)) (s.locals (thread_in k.at.seen.moment))) (sym k.images) l' in
-          kind_any k.before k.at k.after k.is s g m (mine ∙ ap (λ (q : PlanDeed). q.thread) (sym k.image)) l'' moved ∙ ap deeds.is_event k.image
-
-      fits_of : (xs : List PlanDeed) (p : PlanDeed) (ys : List PlanDeed) → plan_of r d ≡ xs ++ p ∷ ys → (s : RunState) (g : ℕ) (m : RunDeed) → IsAnyMove r d input sums turns s g m → m.thread ≡ p.thread →
-          IsThreadLike input ((effects (plan_start r) xs).locals p.thread) (s.locals p.thread) →
-          ((c : ℕ) → p.reads c ≡ true → IsCellLike input ((effects (plan_start r) xs).cells c) (s.cells c)) → (deeds.is_event p ≡ true → (effects (plan_start r) xs).objects ≡ s.objects) → Fits (like input) p m
-      fits_of xs p ys e s g m moved mine l c ob =
-          let k = split (deed_of d) (units_of r d) xs p ys e in
-          let l' = subst (λ (q : PlanDeed). IsThreadLike input ((effects (plan_start r) xs).locals q.thread) (s.locals q.thread)) (sym k.image) l in
-          let l'' = subst (λ (z : List PlanDeed). IsThreadLike input ((effects (plan_start r) z).locals (thread_in k.at.seen.moment)) (s.locals (thread_in k.at.seen.moment))) (sym k.images) l' in
-          subst (λ (q : PlanDeed). Fits (like input) q m) k.image (fits_any k.before k.at k.after k.is s g m (mine ∙ ap (λ (q : PlanDeed). q.thread) (sym k.image)) l'' moved
-          (λ b h. subst (λ (z : List PlanDeed). IsCellLike input ((effects (plan_start r) z).cells b) (s.cells b)) (sym k.images) (c b (sym (ap (λ (q : PlanDeed). q.reads b) k.image) ∙ h)))
-          (λ h. ap (λ (z : List PlanDeed). (effects (plan_start r) z).objects) k.images ∙ ob (sym (ap deeds.is_event k.image) ∙ h)))
-
   pub moves_follow : (s : RunState) → Alike (like input) (plan_start r) s → (ds : List RunDeed) → Moves (IsAnyMove r d input sums turns) s 0 ds →
-      Stands (like input) (turns_of r) (plan_start r) (plan_of r d) (IsAnyMove r d input sums turns) (is_plan r d o closed plain) obeys (effects s ds) (turns_done deeds 0 ds) ds (times deeds (turns_of r) 0 ds)
+      Stands (like input) (turns_of r) (plan_start r) (plan_of r d) (IsAnyMove r d input sums turns) (is_plan r d o closed plain) obeys (effects s ds) (turns_done deeds 0 ds) ds
+      (times deeds (turns_of r) 0 ds)
   moves_follow s a ds m = follows_plan (like input) (turns_of r) (plan_start r) (plan_of r d) (IsAnyMove r d input sums turns) (is_plan r d o closed plain) obeys s a ds m

@@ -22,10 +22,8 @@ use Rattle.pg_units.specs.Units.{ReferenceRun}
 use Rattle.pg_sound.specs.Invariant.{Invariant}
 use Rattle.pg_sound.specs.Recorded.{Admits, IsRecording, recording}
 use Rattle.pg_sound.specs.Unbroken.{BeginsWith, IsUnbroken}
-use Rattle.pg_sound.proofs.Guided.{begins}
-use Rattle.pg_sound.proofs.Joins.{units_again}
+use Rattle.pg_sound.proofs.Guided.{is_admitted}
 use Rattle.pg_sound.proofs.Prefix.{keeps}
-use Rattle.pg_sound.proofs.Recorded.{ordered_run, over_last, own, plain, same_owners}
 use Rattle.pg_sound.proofs.Stretch.{one_end, run_of}
 use Rattle.pg_sound.proofs.Unbroken.{full_unbroken}
 
@@ -49,7 +47,8 @@ unbroken_front (x ∷ y ∷ xs) ys h = ((λ e. go (h.0 e)), unbroken_front (y �
     go (inl k) = inl k
     go (inr k) = inr (none_in_front x.thread.0 (y ∷ xs) ys k)
 
-permitted_front : (gated : List InstrId) (p : NumberedProgram) (input : List ℤ) (us : List Turn) (counts : ℕ → ℕ) (s z : State) (xs ys : List Step) → PermittedSteps gated p input s us counts (xs ++ ys) z →
+permitted_front : (gated : List InstrId) (p : NumberedProgram) (input : List ℤ) (us : List Turn) (counts : ℕ → ℕ) (s z : State) (xs ys : List Step)
+    → PermittedSteps gated p input s us counts (xs ++ ys) z →
     (m : State) × PermittedSteps gated p input s us counts xs m
 permitted_front gated p input us counts s z [] ys h = (s, refl)
 permitted_front gated p input us counts s z (x ∷ xs) ys h =
@@ -58,7 +57,8 @@ permitted_front gated p input us counts s z (x ∷ xs) ys h =
 
 -- ---- the full guided run
 
-module _ (p : NumberedProgram) (recorded_input input : List ℤ) (s : Schedule) (sums : ℕ → Option RootedList) (regions : Regions) (xs : List Step) (d : Taken) (k : IsRecording p recorded_input s sums regions xs) (q : Admits p recorded_input s regions xs d input) where
+module _ (p : NumberedProgram) (recorded_input input : List ℤ) (s : Schedule) (sums : ℕ → Option RootedList) (regions : Regions) (xs : List Step) (d : Taken)
+    (k : IsRecording p recorded_input s sums regions xs) (q : Admits p recorded_input s regions xs d input) where
   abbrev r : ReferenceRun
   r = recording p recorded_input s regions xs
 
@@ -69,7 +69,8 @@ module _ (p : NumberedProgram) (recorded_input input : List ℤ) (s : Schedule) 
     permitted : IsPermitted p input s.turns s.gated front z
     permitted =
         let whole = (permitted_is p input s.turns s.gated f.trace f.state).0 (full_is p input s.turns s.gated).permitted in
-        let h = permitted_front s.gated p input s.turns none_taken (initial p) f.state front rest (subst (λ (l : List Step). PermittedSteps s.gated p input (initial p) s.turns none_taken l f.state) is whole) in
+        let h = permitted_front s.gated p input s.turns none_taken (initial p) f.state front rest
+        (subst (λ (l : List Step). PermittedSteps s.gated p input (initial p) s.turns none_taken l f.state) is whole) in
         let e : h.0 ≡ z = one_end s.gated p input (initial p) h.0 z front (run_of s.gated p input s.turns none_taken (initial p) h.0 front h.1) run in
         (permitted_is p input s.turns s.gated front z).1 (subst (PermittedSteps s.gated p input (initial p) s.turns none_taken front) e h.1)
 
@@ -77,6 +78,4 @@ module _ (p : NumberedProgram) (recorded_input input : List ℤ) (s : Schedule) 
     unbroken = unbroken_front front rest (subst IsUnbroken is (full_unbroken p input s.turns s.gated))
 
     pub prefix_keeps : Invariant r d input sums s.turns front z
-    prefix_keeps = keeps r d input sums s.turns (ordered_run p recorded_input s sums regions xs d k) (plain p recorded_input s sums regions xs d k) q.closed q.admitted q.small (same_owners p recorded_input s sums regions xs d k)
-        (units_again p recorded_input s.turns s.gated sums regions xs k.reference d) (own p recorded_input s sums regions xs d k) (over_last p recorded_input s sums regions xs d k) (begins p recorded_input input s sums regions xs d k q)
-        front z permitted unbroken
+    prefix_keeps = keeps r d input sums s.turns (is_admitted p recorded_input input s sums regions xs d k q) front z permitted unbroken

@@ -29,7 +29,7 @@ use Rattle.pg_units.specs.Answered.{Answered, AreFirst, answered, answers}
 -- ---- replies
 
 -- a step that is no event has no reply
-no_reply : (k : StepKind) → happening_in k ≡ None → reply_in k ≡ None
+pub no_reply : (k : StepKind) → happening_in k ≡ None → reply_in k ≡ None
 no_reply kinds.Other e = refl
 no_reply (kinds.Branch c) e = refl
 no_reply (kinds.Allocation m n) e = refl
@@ -47,7 +47,8 @@ pub replies_are : (xs : List Step) → replies_of xs ≡ filter_map given (answe
 replies_are [] = refl
 replies_are (x ∷ xs) = go (happening_in x.kind) refl (replies_are xs)
   where
-    go : (o : Option Happening) → happening_in x.kind ≡ o → replies_of xs ≡ filter_map given (answers xs) → replies_of (x ∷ xs) ≡ filter_map given (map answered (cond (is_some (happening_in x.kind)) (x ∷ filter recorded.is_event xs) (filter recorded.is_event xs)))
+    go : (o : Option Happening) → happening_in x.kind ≡ o → replies_of xs ≡ filter_map given (answers xs)
+        → replies_of (x ∷ xs) ≡ filter_map given (map answered (cond (is_some (happening_in x.kind)) (x ∷ filter recorded.is_event xs) (filter recorded.is_event xs)))
     go None e ih = rw (e, no_reply x.kind e) ih
     go (Some h) e ih = rw e (ap (λ (l : List ℕ). cons_option (reply_in x.kind) l) ih)
 
@@ -60,7 +61,8 @@ first_replies xs ys f = (
 -- ---- traps
 
 -- an action whose checks hold traps by itself
-pub own_trap : (s : State) (t : ℕ) (a : Action) (name : TrapName) → ((q : Request) → a ≡ actions.Event q → sync.check s.sync t q ≡ None) → trap_of s t a ≡ Some name → a ≡ actions.Trap name
+pub own_trap : (s : State) (t : ℕ) (a : Action) (name : TrapName) → ((q : Request) → a ≡ actions.Event q → sync.check s.sync t q ≡ None) → trap_of s t a ≡ Some name
+    → a ≡ actions.Trap name
 own_trap s t (actions.Trap n) name h e = let k : n ≡ name = cc in ap (λ (i : TrapName). actions.Trap i) k
 own_trap s t (actions.Event q) name h e = let k : None ≡ Some name = sym (h q refl) ∙ e in absurd cc
 own_trap s t actions.Ended name h e = absurd cc
@@ -74,10 +76,12 @@ trap_name : (s : State) (t : ℕ) (o : Option TrapName) (name : TrapName) (id : 
 trap_name s t None name id e = absurd cc
 trap_name s t (Some n) name id e = let k : n ≡ name = cc in ap (λ (i : TrapName). Some i) k
 
-pub trap_before : (p : NumberedProgram) (xs : List Step) (s : State) (u : Turn) (us : List Turn) (name : TrapName) (id : InstrId) → end_before p xs s (u ∷ us) ≡ ends.Trap name id → trap_of s u.thread.0 (next_of p s u.thread.0) ≡ Some name
+pub trap_before : (p : NumberedProgram) (xs : List Step) (s : State) (u : Turn) (us : List Turn) (name : TrapName) (id : InstrId) → end_before p xs s (u ∷ us) ≡ ends.Trap name id
+    → trap_of s u.thread.0 (next_of p s u.thread.0) ≡ Some name
 trap_before p xs s u us name id e = go (has_spent xs u.thread.0) e
   where
-    go : (b : Bool) → (if b then ends.Budget u.thread else trapped s u.thread.0 (trap_of s u.thread.0 (next_of p s u.thread.0))) ≡ ends.Trap name id → trap_of s u.thread.0 (next_of p s u.thread.0) ≡ Some name
+    go : (b : Bool) → (if b then ends.Budget u.thread else trapped s u.thread.0 (trap_of s u.thread.0 (next_of p s u.thread.0))) ≡ ends.Trap name id
+        → trap_of s u.thread.0 (next_of p s u.thread.0) ≡ Some name
     go true k = absurd cc
     go false k = trap_name s u.thread.0 (trap_of s u.thread.0 (next_of p s u.thread.0)) name id k
 

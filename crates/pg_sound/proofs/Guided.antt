@@ -57,6 +57,7 @@ use Rattle.pg_units.proofs.Settled.{at_units, is_plan}
 use Rattle.pg_sound.specs.Falls.{FallIntoMoves}
 use Rattle.pg_sound.specs.Free.{BeginsInstance, IsAnyMove, ReadsPaths}
 use Rattle.pg_sound.specs.Recorded.{Admits, IsRecording, recording}
+use Rattle.pg_sound.proofs.Admitted.{IsAdmitted}
 use Rattle.pg_sound.proofs.Begin as begin
 use Rattle.pg_sound.proofs.Falling.{run_falls}
 use Rattle.pg_sound.proofs.Following.{moves_follow, obeys}
@@ -69,22 +70,39 @@ use Rattle.pg_sound.proofs.Turns as turns
 use Rattle.pg_sound.proofs.Asks.{answers_length}
 use Rattle.pg_sound.proofs.Unbroken.{full_unbroken}
 
-module _ (p : NumberedProgram) (recorded_input input : List ℤ) (s : Schedule) (sums : ℕ → Option RootedList) (regions : Regions) (xs : List Step) (d : Taken) (k : IsRecording p recorded_input s sums regions xs) (q : Admits p recorded_input s regions xs d input) where
+module _ (p : NumberedProgram) (recorded_input input : List ℤ) (s : Schedule) (sums : ℕ → Option RootedList) (regions : Regions) (xs : List Step) (d : Taken)
+    (k : IsRecording p recorded_input s sums regions xs) (q : Admits p recorded_input s regions xs d input) where
   abbrev r : ReferenceRun
   r = recording p recorded_input s regions xs
 
   abbrev o : IsOrderedRun r
   o = ordered_run p recorded_input s sums regions xs d k
 
-  pub begins : (u : PlanUnit) (a : RunState) (z : State) (c : ℕ → ℕ) → Has (units_of r d) u → is_instance d u.seen ≡ true → IsAlikeFor input d u a → LooksTo (thread_in u.seen.moment) a (moved z c) → IsReached p z → BeginsInstance r sums u z
+  pub begins : (u : PlanUnit) (a : RunState) (z : State) (c : ℕ → ℕ) → Has (units_of r d) u → is_instance d u.seen ≡ true → IsAlikeFor input d u a
+      → LooksTo (thread_in u.seen.moment) a (moved z c) → IsReached p z → BeginsInstance r sums u z
   begins u a z c has free alike looks reached =
       let t = thread_in u.seen.moment in
       begin.begins r d input u (all_has (IsUnit r d) (units_of r d) u (all_units r d o) has) free z reached
       (subst (λ (l : MovedThread). StandLike input (standing_of (local_at u.state t) (thread_of u.seen.before t).calls) l.local) (looks.locals t refl) alike.thread.stands)
       o.can.program sums k.reference.regions_are k.reference.summaries
-      (all_has (λ (v : PlanUnit). (v.seen.live ≡ true) × IsGood (reference_of r) d input v.seen) (units_of r d) u (at_units r d (IsGood (reference_of r) d input) (all_good input (reference_of r) d q.closed q.admitted)) has).1
+      (all_has (λ (v : PlanUnit). (v.seen.live ≡ true) × IsGood (reference_of r) d input v.seen) (units_of r d) u
+      (at_units r d (IsGood (reference_of r) d input) (all_good input (reference_of r) d q.closed q.admitted)) has).1
       (all_has (ReadsPaths d) (units_of r d) u (paths_are_read r d o sums k.reference.regions_are k.reference.summaries) has free)
       (λ b h. subst (λ n. IsCellLike input (cell_known u.seen.before b) n) (looks.cells b) (alike.cells b h))
+
+  pub is_admitted : IsAdmitted r d input sums s.turns
+  is_admitted = record {
+    reference = o;
+    plain = plain p recorded_input s sums regions xs d k;
+    closed = q.closed;
+    admitted = q.admitted;
+    small = q.small;
+    same_turns = same_owners p recorded_input s sums regions xs d k;
+    again = units_again p recorded_input s.turns s.gated sums regions xs k.reference d;
+    own_turns = own p recorded_input s sums regions xs d k;
+    over = over_last p recorded_input s sums regions xs d k;
+    begins = begins;
+  }
 
   abbrev f : GuidedRun
   f = full_guided_of p input s.turns s.gated
@@ -93,8 +111,10 @@ module _ (p : NumberedProgram) (recorded_input input : List ℤ) (s : Schedule) 
   fallen =
       let h = plain p recorded_input s sums regions xs d k in
       let first = moved (initial p) none_taken in
-      let w = run_falls r d input sums s.turns o h (starts_are_fresh r d o h) (plan_remembers r d o h) q.closed q.admitted q.small (same_owners p recorded_input s sums regions xs d k) (units_again p recorded_input s.turns s.gated sums regions xs k.reference d) begins
-      f.trace (initial p) f.state first none_taken none_taken (begins_alike r o input) (reached_first p o.can.program o.can.bytes) (same_refl first) ((permitted_is p input s.turns s.gated f.trace f.state).0 (full_is p input s.turns s.gated).permitted) (full_unbroken p input s.turns s.gated) in
+      let w = run_falls r d input sums s.turns o h (starts_are_fresh r d o h) (plan_remembers r d o h) q.closed q.admitted q.small (same_owners p recorded_input s sums regions xs d k)
+      (units_again p recorded_input s.turns s.gated sums regions xs k.reference d) begins
+      f.trace (initial p) f.state first none_taken none_taken (begins_alike r o input) (reached_first p o.can.program o.can.bytes) (same_refl first)
+      ((permitted_is p input s.turns s.gated f.trace f.state).0 (full_is p input s.turns s.gated).permitted) (full_unbroken p input s.turns s.gated) in
       record { moves = w.moves; are = w.are; fall = w.fall }
 
   abbrev first : RunState
@@ -103,16 +123,20 @@ module _ (p : NumberedProgram) (recorded_input input : List ℤ) (s : Schedule) 
   -- its moves follow the plan
   abbrev Follow : Type 0
   Follow = Stands (like input) (turns_of r) (plan_start r) (plan_of r d) (IsAnyMove r d input sums s.turns) (is_plan r d o q.closed (plain p recorded_input s sums regions xs d k))
-      (obeys r d input sums s.turns o (plain p recorded_input s sums regions xs d k) (starts_are_fresh r d o (plain p recorded_input s sums regions xs d k)) (plan_remembers r d o (plain p recorded_input s sums regions xs d k)) q.closed q.admitted q.small (same_owners p recorded_input s sums regions xs d k) (units_again p recorded_input s.turns s.gated sums regions xs k.reference d))
+      (obeys r d input sums s.turns o (plain p recorded_input s sums regions xs d k) (starts_are_fresh r d o (plain p recorded_input s sums regions xs d k))
+      (plan_remembers r d o (plain p recorded_input s sums regions xs d k)) q.closed q.admitted q.small (same_owners p recorded_input s sums regions xs d k)
+      (units_again p recorded_input s.turns s.gated sums regions xs k.reference d))
       (effects first fallen.moves) (turns_done deeds 0 fallen.moves) fallen.moves (times deeds (turns_of r) 0 fallen.moves)
 
   follow : Follow
   follow =
       let h = plain p recorded_input s sums regions xs d k in
-      moves_follow r d input sums s.turns o h (starts_are_fresh r d o h) (plan_remembers r d o h) q.closed q.admitted q.small (same_owners p recorded_input s sums regions xs d k) (units_again p recorded_input s.turns s.gated sums regions xs k.reference d) first (begins_alike r o input) fallen.moves fallen.are
+      moves_follow r d input sums s.turns o h (starts_are_fresh r d o h) (plan_remembers r d o h) q.closed q.admitted q.small (same_owners p recorded_input s sums regions xs d k)
+      (units_again p recorded_input s.turns s.gated sums regions xs k.reference d) first (begins_alike r o input) fallen.moves fallen.are
 
   pub ordered : IsOrderedAlong s.turns f.trace
-  ordered = subst (λ (T : List ℕ). IsOrdered recorded T f.trace) (sym (same_owners p recorded_input s sums regions xs d k)) (falls_ordered (turns_of r) f.trace fallen.moves fallen.fall follow.settled)
+  ordered = subst (λ (T : List ℕ). IsOrdered recorded T f.trace) (sym (same_owners p recorded_input s sums regions xs d k))
+      (falls_ordered (turns_of r) f.trace fallen.moves fallen.fall follow.settled)
 
   -- what it has answered by then
   abbrev done : List PlanDeed
@@ -135,18 +159,18 @@ module _ (p : NumberedProgram) (recorded_input input : List ℤ) (s : Schedule) 
 
   -- the guided run doesn't stray
   pub no_stray : (guided_of p input s.turns s.gated).end ≢ ends.Strayed
-  no_stray = turns.no_stray r d input sums s.turns o (plain p recorded_input s sums regions xs d k) q.closed q.admitted q.small (same_owners p recorded_input s sums regions xs d k) (units_again p recorded_input s.turns s.gated sums regions xs k.reference d)
-      (own p recorded_input s sums regions xs d k) (over_last p recorded_input s sums regions xs d k) begins
+  no_stray = turns.no_stray r d input sums s.turns is_admitted
 
   -- no check on the objects fails at what the owner of the next turn asks
-  checks_hold : (u : Turn) (us : List Turn) (a : Request) → turns_left s.turns f.trace ≡ u ∷ us → next_of p f.state u.thread.0 ≡ actions.Event a → sync.check f.state.sync u.thread.0 a ≡ None
-  checks_hold u us a left e = turns.unchecked r d input sums s.turns o (plain p recorded_input s sums regions xs d k) q.closed q.admitted q.small (same_owners p recorded_input s sums regions xs d k) (units_again p recorded_input s.turns s.gated sums regions xs k.reference d)
-      (own p recorded_input s sums regions xs d k) (over_last p recorded_input s sums regions xs d k) begins f.trace f.state (full_is p input s.turns s.gated).permitted (full_unbroken p input s.turns s.gated) u us left a e
+  checks_hold : (u : Turn) (us : List Turn) (a : Request) → turns_left s.turns f.trace ≡ u ∷ us → next_of p f.state u.thread.0 ≡ actions.Event a
+      → sync.check f.state.sync u.thread.0 a ≡ None
+  checks_hold u us a left e = turns.unchecked r d input sums s.turns is_admitted f.trace f.state (full_is p input s.turns s.gated).permitted (full_unbroken p input s.turns s.gated) u us left a e
 
   end_is : f.end ≡ (guided_of p input s.turns s.gated).end
   end_is = (full_is p input s.turns s.gated).end
 
-  objects : (next : Turn) (later : List Turn) (name : TrapName) (id : InstrId) → turns_left s.turns f.trace ≡ next ∷ later → f.end ≡ ends.Trap name id → next_of p f.state next.thread.0 ≡ actions.Trap name
+  objects : (next : Turn) (later : List Turn) (name : TrapName) (id : InstrId) → turns_left s.turns f.trace ≡ next ∷ later → f.end ≡ ends.Trap name id
+      → next_of p f.state next.thread.0 ≡ actions.Trap name
   objects next later name id left e =
       let full = ((full_is p input s.turns s.gated).full no_stray).1 in
       let before : end_before p f.trace f.state (next ∷ later) ≡ ends.Trap name id = ap (end_before p f.trace f.state) (sym left) ∙ full ∙ sym end_is ∙ e in

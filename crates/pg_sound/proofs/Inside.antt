@@ -66,7 +66,8 @@ open_return : (depth n : ℕ) → IsOpen (return_action depth n)
 open_return depth n = either IsOpen (depth == 1) _ _ refl refl
 
 open_op : (p : NumberedProgram) (r : Region) (h : Bool) (rs : List (Option ℕ)) (depth used block : ℕ) (o : Op) → is_phi o ≡ false → IsOpen (op_action p r h rs depth used block o)
-open_op p r h rs depth used block (op.Divide d w a b) n = on_value_is IsOpen (operand p rs a) _ (λ n. refl) (λ m e. on_value_is IsOpen (operand p rs b) _ (λ n. refl) (λ n f. divided_is IsOpen (divided d w m n) (λ n. refl) refl))
+open_op p r h rs depth used block (op.Divide d w a b) n = on_value_is IsOpen (operand p rs a) _ (λ n. refl)
+    (λ m e. on_value_is IsOpen (operand p rs b) _ (λ n. refl) (λ n f. divided_is IsOpen (divided d w m n) (λ n. refl) refl))
 open_op p r h rs depth used block (op.Phi from) n = absurd (true≢false n)
 open_op p r h rs depth used block (op.Br to) n = edge_is IsOpen p rs block to.0 (λ n. refl) refl
 open_op p r h rs depth used block (op.CondBr v a b) n = on_value_is IsOpen (operand p rs v) _ (λ n. refl) (λ n e. edge_is IsOpen p rs block (chosen n a.0 b.0) (λ n. refl) refl)
@@ -77,7 +78,8 @@ open_op p r h rs depth used block (op.Ret (Some v)) n = on_value_is IsOpen (oper
 open_op p r h rs depth used block op.Unreachable n = refl
 open_op p r h rs depth used block (op.Alloca bytes) n = room_is IsOpen (has_room r (granules_for bytes)) (λ n. refl) refl
 open_op p r h rs depth used block (op.Load w from) n = on_value_is IsOpen (operand p rs from) _ (λ n. refl) (λ a e. on_place_is IsOpen a (bytes_of w) _ (λ n. refl) (λ q k. refl))
-open_op p r h rs depth used block (op.Store w v at) n = on_value_is IsOpen (operand p rs v) _ (λ n. refl) (λ n e. on_value_is IsOpen (operand p rs at) _ (λ n. refl) (λ a f. on_place_is IsOpen a (bytes_of w) _ (λ n. refl) (λ q k. refl)))
+open_op p r h rs depth used block (op.Store w v at) n = on_value_is IsOpen (operand p rs v) _ (λ n. refl)
+    (λ n e. on_value_is IsOpen (operand p rs at) _ (λ n. refl) (λ a f. on_place_is IsOpen a (bytes_of w) _ (λ n. refl) (λ q k. refl)))
 open_op p r h rs depth used block (op.CallKnown k args) n = open_known p r.thread h rs k args
 open_op p r h rs depth used block o n = on_all_is IsOpen p rs (operands_of o) _ (λ n. refl) refl
 
@@ -96,7 +98,8 @@ open_next p l b are some = go l.begun l.frames b are some
 
 -- ---- inside
 
-event_no : (I : Instance) (gated : List InstrId) (m : ByteRange → ℕ) (l : LocalState) (a : Action) → ((i : ℕ) → is_gated gated i ≡ I.gated i) → GoesFrom I m l a → is_event_at gated (id_of l) a ≡ false
+event_no : (I : Instance) (gated : List InstrId) (m : ByteRange → ℕ) (l : LocalState) (a : Action) → ((i : ℕ) → is_gated gated i ≡ I.gated i) → GoesFrom I m l a
+    → is_event_at gated (id_of l) a ≡ false
 event_no I gated m l (actions.Load r) g h = g (id_of l) ∙ h.0.plain
 event_no I gated m l (actions.Store r n) g h = g (id_of l) ∙ h.0.plain
 event_no I gated m l (actions.Event r) g h = absurd h
@@ -116,7 +119,8 @@ pub record IsLeft (gated : List InstrId) (p : NumberedProgram) (t : ℕ) (s : St
 pub left_on : (gated : List InstrId) (p : NumberedProgram) (t : ℕ) (s z : State) → IsLeft gated p t s → local_at s t ≡ local_at z t → IsLeft gated p t z
 left_on gated p t s z h e = record { local = h.local; is_local = sym e ∙ h.is_local; goes_on = h.goes_on; quiet = h.quiet }
 
-module _ (I : Instance) (gated : List InstrId) (m : ByteRange → ℕ) (l : LocalState) (branch : IsAtBranch I) (gates : (i : ℕ) → is_gated gated i ≡ I.gated i) (cells : KeepsCells I.recorded I.memory m) (small : (r : ByteRange) → m r < 2 ^ (8 * r.bytes)) (within : IsWithinExtent I l) where
+module _ (I : Instance) (gated : List InstrId) (m : ByteRange → ℕ) (l : LocalState) (branch : IsAtBranch I) (gates : (i : ℕ) → is_gated gated i ≡ I.gated i)
+    (cells : KeepsCells I.recorded I.memory m) (small : (r : ByteRange) → m r < 2 ^ (8 * r.bytes)) (within : IsWithinExtent I l) where
   proceeds : Proceeds I m l
   proceeds = go within
     where

@@ -1,279 +1,76 @@
 -- In a reference run the thread of a branch step that is left free comes to the join of its region, and its next unit begins there.
 use Rattle.std.specs.List.{AllByRecursion as AllOf, AllZip}
 use Rattle.std.specs.Prelude.{◌&&◌, Contains, filter, if◌then◌else◌, is_some, slice_get}
-use Rattle.std.proofs.Common.{◌++◌, ◌+◌, ◌<◌, ◌==◌, ◌^◌, ◌∙◌, ◌∷◌, ◌≡◌, ◌⊎◌, Bool, List, None, Option, Some, [], ap, arith, false, inl, inr, length, not, refl, subst, suc, sym, true, ℕ, ℤ}
-use Rattle.std.proofs.lemmas.Bool.{eq-eqb}
+use Rattle.std.proofs.Common.{◌++◌, ◌+◌, ◌<◌, ◌==◌, ◌^◌, ◌∙◌, ◌∷◌, ◌≡◌, ◌⊎◌, Bool, List, Option, Some, [], ap, arith, false, inl, inr}
+use Rattle.std.proofs.Common.{length, not, refl, subst, suc, sym, true, ℕ, ℤ}
 use Rattle.std.proofs.lemmas.Option.{slice_get_within}
 use Rattle.pg_plans.specs.Intervals.{done_after, timed, times}
-use Rattle.pg_ir.specs.Edges.{body_of}
 use Rattle.pg_ir.specs.Program.{NumberedProgram}
 use Rattle.pg_ir.specs.WellFormed.{IsProgram}
 use Rattle.pg_ir.specs.declared.ids.InstrId.{InstrId}
-use Rattle.pg_ir.specs.declared.instr.Instr.{Instr}
-use Rattle.pg_ir.proofs.Places.{block_held}
 use Rattle.pg_mem.specs.Memory.{byte_at}
 use Rattle.pg_step.specs.LocalState.{Frame, LocalState}
-use Rattle.pg_step.specs.States.{AreFramesOf}
-use Rattle.pg_step.specs.Step.{after, frames_action, instr_action, moved, next, top_registers, under_top}
-use Rattle.pg_step.specs.Told.{id_of}
-use Rattle.pg_step.specs.declared.action.Action.{Action}
-use Rattle.pg_step.specs.declared.action.Action.TheVariants as actions
+use Rattle.pg_step.specs.Step.{after}
 use Rattle.pg_trace.specs.Races.{recorded}
 use Rattle.pg_trace.specs.Steps.{happening_in, turn_at}
 use Rattle.pg_trace.specs.declared.step.Step.{Step}
-use Rattle.pg_trace.specs.declared.step.StepKind.{StepKind}
-use Rattle.pg_trace.specs.declared.step.StepKind.TheVariants as kinds
 use Rattle.pg_trace.specs.declared.turn.Turn.{Turn}
 use Rattle.pg_accesses.specs.Accesses.{RootedList}
-use Rattle.pg_accesses.proofs.Elements.{here, there}
+use Rattle.pg_paths.proofs.Elements.{here, there}
 use Rattle.pg_quiet.specs.Summaries.{AreSummaries}
 use Rattle.pg_region.specs.Regions.{IsRegion}
 use Rattle.pg_region.specs.declared.region.Region.{Region}
-use Rattle.pg_machine.specs.MachineStep.{Did, is_gated, kind_told, number_in, operands_in, ready, step, step_told}
-use Rattle.pg_machine.specs.Runs.{IsRun, Takes}
-use Rattle.pg_machine.specs.State.{State, initial, instr_of, next_of}
-use Rattle.pg_machine.proofs.Asks.{next_is, ready_made}
+use Rattle.pg_machine.specs.MachineStep.{is_gated, step}
+use Rattle.pg_machine.specs.Runs.{IsRun}
+use Rattle.pg_machine.specs.State.{State, initial}
 use Rattle.pg_closed.specs.Extents.{Extent, begun, ends, is_live}
-use Rattle.pg_closed.specs.Freeable.{FreeRegion, Regions, region_at}
-use Rattle.pg_closed.specs.Known.{Reference, RunShadow, Seen, Taken, after_step, edge_of, has, is_branch, region_of, seen_from, seen_in, start_of, thread_of}
-use Rattle.pg_closed.specs.Moments.{Moment, calls_of, instr_in, moments_from, registers_in, thread_in}
+use Rattle.pg_closed.specs.Freeable.{FreeRegion, Regions}
+use Rattle.pg_closed.specs.Known.{Reference, RunShadow, Seen, Taken, after_step, edge_of, has, region_of, seen_from, seen_in, start_of, thread_of}
+use Rattle.pg_closed.specs.Moments.{Moment, calls_of, instr_in, moments_from, thread_in}
 use Rattle.pg_closed.specs.declared.decision.Decision.{Decision}
 use Rattle.pg_closed.specs.declared.decision.Decision.TheVariants.{Exact, Pinned}
 use Rattle.pg_least.specs.Keeps.{AreStacked, every, steps_of}
 use Rattle.pg_least.specs.Laws.{SameExtents}
 use Rattle.pg_least.proofs.Whole.{plain_in, same_in}
-use Rattle.pg_effects.specs.Effect.{answer_to, effect_of, own_after}
 use Rattle.pg_effects.specs.PermittedSteps.{none_taken, one_more}
-use Rattle.pg_effects.specs.Reached.{IsReached}
-use Rattle.pg_effects.specs.Views.{begun_in, local_at}
-use Rattle.pg_effects.proofs.Reaches.{present, reached_first}
-use Rattle.pg_effects.proofs.Seen.{leads_to}
+use Rattle.pg_effects.specs.Views.{local_at}
+use Rattle.pg_effects.proofs.Reaches.{reached_first}
 use Rattle.pg_reference.specs.OfRegions.{AreRegions}
 use Rattle.pg_instances.specs.Free.{instance_of}
-use Rattle.pg_instances.specs.Inside.{Instance, IsAtJoin, IsBottom, IsInside, Joins, Stands, edge_at as edge_from, next_edge, region_set}
+use Rattle.pg_instances.specs.Inside.{IsAtJoin, IsInside, Joins}
 use Rattle.pg_instances.specs.References.{IsReferenceRun}
 use Rattle.pg_instances.specs.Stays.{CanStepInside, StaysInside}
 use Rattle.pg_instances.specs.Together.{AreTogether, IsNext}
 use Rattle.pg_instances.proofs.Alone.{inside_again}
-use Rattle.pg_instances.proofs.Edges.{body_within}
-use Rattle.pg_instances.proofs.Free.{apart_at, at_branch, leads_there}
-use Rattle.pg_instances.proofs.Freed.{Freed, freed, join_fits}
-use Rattle.pg_instances.proofs.LeadsOut.{frames_of}
-use Rattle.pg_instances.proofs.Machine.{step_stays}
-use Rattle.pg_instances.proofs.Opens.{bottom_of}
-use Rattle.pg_instances.proofs.Places.{at_block}
 use Rattle.pg_instances.proofs.References.{extents_keep}
 use Rattle.pg_instances.proofs.Together.{exited}
 use Rattle.pg_units.specs.Units.{Met, PlanUnit, ReferenceRun, behind, is_event_at, is_instance, last_from, met_with, next_local, reference_of, states_from, turns_of, unit_of, units_from, units_of}
 use Rattle.pg_units.proofs.Along.{behind_is}
-use Rattle.pg_units.proofs.Freed.{IsFree, is_free}
-use Rattle.pg_units.proofs.Here.{told_is}
 use Rattle.pg_units.proofs.Made.{first_fresh}
-use Rattle.pg_units.proofs.Remembered.{thread_is, yes_if}
+use Rattle.pg_units.proofs.Remembered.{yes_if}
 use Rattle.pg_units.proofs.Remembered as remembered
 use Rattle.pg_units.proofs.Worded.{first_words}
 use Rattle.pg_sound.specs.Free.{JoinsAgain}
-use Rattle.pg_sound.proofs.Begin.{branch_told, in_function}
-use Rattle.pg_sound.proofs.Edges.{after_frames, all_end, at_edge, begun_on, block_there, body_behind, edge_frames, edge_there, ends_parts, ends_there, it_stays, left_live, not_live, not_met, own_extents, place_of_top, place_told, quiet_edge, top_same}
+use Rattle.pg_sound.proofs.Edges.{all_end, begun_on, it_stays, left_live, not_live}
+use Rattle.pg_sound.proofs.Edges.{own_extents}
+use Rattle.pg_sound.proofs.LeftFree.{at, calls_there, can_there, free_step, freed_there, inside_open, joined_ends, local, local_there, stays}
 use Rattle.pg_sound.proofs.Recorded.{plain_events}
-use Rattle.pg_sound.proofs.Whole.{begun_some, quiet_event}
-
--- ---- one step within an instance
-
-module _ (r : ReferenceRun) (program : IsProgram r.program) (sums : ℕ → Option RootedList) (region : Region) (c : ℕ) (is_region : IsRegion r.program (λ i. is_gated r.gated i) sums c region) (q : FreeRegion) (s0 : State) (l0 : LocalState) (f0 : Frame) (fs0 : List Frame) where
-  abbrev I : Instance
-  I = instance_of r.program (λ i. is_gated r.gated i) sums region q s0 l0 f0 fs0
-
-  module _ (s : State) (t : ℕ) (l : LocalState) (x : Step) (can : CanStepInside (instance_of r.program (λ i. is_gated r.gated i) sums region q s0 l0 f0 fs0) r.gated s t l) (h : Takes r.gated r.program r.input s x) (own : x.thread.0 ≡ t) (reached : IsReached r.program s)
-      (m : Moment) (did : m.did.did ≡ x) (calls : m.calls ≡ calls_of (slice_get s.locals x.thread.0)) where
-    stays : StaysInside (instance_of r.program (λ i. is_gated r.gated i) sums region q s0 l0 f0 fs0) t l x s h.after
-    stays = step_stays (instance_of r.program (λ i. is_gated r.gated i) sums region q s0 l0 f0 fs0) r.gated r.input s h.after t l x can (subst (λ (u : ℕ). ready r.program s u ≡ true) own h.is_ready) (subst (λ (u : ℕ). step r.gated r.program r.input s u ≡ Did x h.after) own h.is_step)
-
-    frames : (f : Frame) × (fs : List Frame) × (l.frames ≡ f ∷ fs)
-    frames = go can.within
-      where
-        some : (fs : List Frame) → l.frames ≡ fs → Stands (instance_of r.program (λ i. is_gated r.gated i) sums region q s0 l0 f0 fs0) fs → (f : Frame) × (fs : List Frame) × (l.frames ≡ f ∷ fs)
-        some [] e k = absurd k
-        some (f ∷ fs) e k = (f, fs, e)
-
-        go : (l ≡ l0) ⊎ IsInside (instance_of r.program (λ i. is_gated r.gated i) sums region q s0 l0 f0 fs0) l → (f : Frame) × (fs : List Frame) × (l.frames ≡ f ∷ fs)
-        go (inl e) = (f0, fs0, ap (λ (z : LocalState). z.frames) e ∙ can.branch.frames)
-        go (inr i) = some l.frames refl i.stands
-
-    begun_here : l.begun ≡ true
-    begun_here = go can.within
-      where
-        go : (l ≡ l0) ⊎ IsInside (instance_of r.program (λ i. is_gated r.gated i) sums region q s0 l0 f0 fs0) l → l.begun ≡ true
-        go (inl e) = ap (λ (z : LocalState). z.begun) e ∙ can.branch.begun
-        go (inr i) = i.begun
-
-    begun_next : stays.local.begun ≡ true
-    begun_next = go stays.goes_on
-      where
-        go : IsInside (instance_of r.program (λ i. is_gated r.gated i) sums region q s0 l0 f0 fs0) stays.local ⊎ Joins (instance_of r.program (λ i. is_gated r.gated i) sums region q s0 l0 f0 fs0) l stays.local → stays.local.begun ≡ true
-        go (inl i) = i.begun
-        go (inr j) = j.there.begun
-
-    local_there : local_at h.after t ≡ Some stays.local
-    local_there = ap begun_in stays.is_local ∙ begun_some stays.local begun_next
-
-    local_here : slice_get s.locals x.thread.0 ≡ Some l
-    local_here = ap (slice_get s.locals) own ∙ can.is_local
-
-    after_is : stays.local ≡ after r.program l (answer_to r.input s x.thread.0 (next_of r.program s x.thread.0))
-    unfolding effect_of
-    after_is =
-        let to = leads_to r.gated r.program r.input s h.after x.thread.0 x reached h.is_ready h.is_step in
-        let one : local_at h.after t ≡ (effect_of r.program r.input s x.thread.0).local =
-        to.locals t ∙ ap (λ (v : ℕ). if t == v then (effect_of r.program r.input s x.thread.0).local else local_at s t) (thread_is r.program r.input s x.thread.0) ∙ yes_if (t == x.thread.0) _ _ (eq-eqb t x.thread.0 (sym own)) in
-        let two : Some stays.local ≡ Some (after r.program l (answer_to r.input s x.thread.0 (next_of r.program s x.thread.0))) = sym local_there ∙ one ∙ ap (own_after r.program (answer_to r.input s x.thread.0 (next_of r.program s x.thread.0))) local_here in
-        cc
-
-    calls_are : m.calls ≡ l.frames
-    calls_are = calls ∙ ap calls_of local_here
-
-    edge_is : edge_of r.program m m.did.did.kind ≡ next_edge r.program l
-    edge_is =
-        let told = told_is r.gated r.program r.input s h.after x.thread.0 x h.is_step in
-        let place : m.did.did.instr.0 ≡ id_of l = ap (λ (z : Step). z.instr.0) (did ∙ told) ∙ place_told s x.thread.0 l local_here in
-        ap (λ (z : Step). edge_of r.program m z.kind) did ∙ quiet_edge I r.program m x.kind stays.tells ∙ edge_there r.program m (instr_in r.program m)
-        ∙ ap (λ (rs : List (Option ℕ)). edge_from r.program rs (instr_in r.program m)) (ap registers_in calls_are ∙ top_same l.frames)
-        ∙ ap (λ (i : ℕ). edge_from r.program (top_registers l.frames) (slice_get r.program.instrs i)) place
-
-    module _ (e : Extent) (join : e.join ≡ region.join) (depth : e.depth ≡ length fs0 + 1) where
-      -- the edge to the join ends it
-      joined_ends : Joins (instance_of r.program (λ i. is_gated r.gated i) sums region q s0 l0 f0 fs0) l stays.local → ends (length m.calls) (edge_of r.program m m.did.did.kind) e ≡ true
-      joined_ends j =
-          let low : frames.1 ≡ fs0 = sym (ap under_top frames.2) ∙ j.lower in
-          let n : length m.calls ≡ suc (length fs0) = ap (λ (fs : List Frame). length fs) (calls_are ∙ frames.2) ∙ ap (λ (fs : List Frame). suc (length fs)) low in
-          ends_there (length m.calls) (edge_of r.program m m.did.did.kind) e (edge_is ∙ j.edge ∙ ap (λ (i : ℕ). Some i) (sym join)) (omega (arith, n, depth))
-
-      -- where it ends the thread isn't inside
-      inside_out : IsInside (instance_of r.program (λ i. is_gated r.gated i) sums region q s0 l0 f0 fs0) stays.local → ends (length m.calls) (edge_of r.program m m.did.did.kind) e ≡ true → ⊥
-      inside_out i k =
-          let z = ends_parts (length m.calls) (edge_of r.program m m.did.did.kind) e k in
-          let f = frames.0 in
-          let fs = frames.1 in
-          let to : next_edge r.program l ≡ Some region.join = sym edge_is ∙ z.0 ∙ ap (λ (n : ℕ). Some n) join in
-          let by : edge_from r.program f.registers (slice_get r.program.instrs f.place) ≡ Some region.join =
-          sym (ap (λ (gs : List Frame). edge_from r.program (top_registers gs) (slice_get r.program.instrs (id_of l))) frames.2 ∙ ap (λ (n : ℕ). edge_from r.program f.registers (slice_get r.program.instrs n)) (place_of_top l f fs frames.2)) ∙ to in
-          let y = at_edge r.program f.registers (slice_get r.program.instrs f.place) region.join by in
-          let a = answer_to r.input s x.thread.0 (next_of r.program s x.thread.0) in
-          let new : stays.local.frames ≡ moved r.program f y.0.block.0 region.join ∷ fs =
-          ap (λ (n : LocalState). n.frames) after_is ∙ after_frames r.program l f fs y.0 a begun_here frames.2 y.1 ∙ edge_frames r.program l y.0 a y.0.op f fs region.join frames.2 y.2 in
-          let g = moved r.program f y.0.block.0 region.join in
-          let n : length m.calls ≡ suc (length fs) = ap (λ (gs : List Frame). length gs) (calls_are ∙ frames.2) in
-          let bottom : IsBottom I g fs = bottom_of I g fs (subst (Stands I) new i.stands) (let u = z.1 in omega (arith, n, u, depth)) in
-          let w = block_there region.join (slice_get r.program.instrs (body_of r.program region.join)) (block_held r.program region.join (body_of r.program region.join) program (body_behind r.program region.join) (body_within r.program region.join program (join_fits r.program c region.join program is_region.join.reached))) in
-          let at = at_block I (region_set I) g w.0 program bottom.stands w.1 in
-          not_met r.program region.join c region.join ((is_region.join.before.exact region.join).0 (subst (λ (b : ℕ). Contains region.blocks.items b) (sym at.0 ∙ w.2) bottom.stands.among)) refl
-
-      inside_open : IsInside (instance_of r.program (λ i. is_gated r.gated i) sums region q s0 l0 f0 fs0) stays.local → ends (length m.calls) (edge_of r.program m m.did.did.kind) e ≡ false
-      inside_open i = go (ends (length m.calls) (edge_of r.program m m.did.did.kind) e) refl
-        where
-          go : (b : Bool) → ends (length m.calls) (edge_of r.program m m.did.did.kind) e ≡ b → b ≡ false
-          go true k = absurd (inside_out i k)
-          go false k = refl
-
--- ---- a branch step that is left free, in the reference run
-
-local_told : (gated : List InstrId) (p : NumberedProgram) (s : State) (t : ℕ) (ns : List ℕ) (a n c : ℕ) (action : Action) → kind_told gated p s t ns a n action ≡ kinds.Branch c → action ≡ actions.Local
-local_told gated p s t ns a n c actions.Local e = refl
-local_told gated p s t ns a n c (actions.In k) e = absurd cc
-local_told gated p s t ns a n c actions.InLen e = absurd cc
-local_told gated p s t ns a n c (actions.Load q) e = absurd cc
-local_told gated p s t ns a n c (actions.Store q m) e = absurd cc
-local_told gated p s t ns a n c (actions.Event q) e = absurd cc
-local_told gated p s t ns a n c (actions.Trap name) e = absurd cc
-local_told gated p s t ns a n c actions.Ended e = absurd cc
-
--- where a thread stands at an instruction
-pub record AtInstr (p : NumberedProgram) (l : LocalState) : Type 0 where
-  pub begun : l.begun ≡ true
-  pub frame : Frame
-  pub lower : List Frame
-  pub frames : l.frames ≡ frame ∷ lower
-  pub instr : Instr
-  pub is : slice_get p.instrs frame.place ≡ Some instr
-
-at_instr : (p : NumberedProgram) (l : LocalState) → next p l ≡ actions.Local → AtInstr p l
-unfolding next
-at_instr p l e = by l.begun refl l.frames refl e
-  where
-    by_instr : (f : Frame) (fs : List Frame) → l.begun ≡ true → l.frames ≡ f ∷ fs → (o : Option Instr) → slice_get p.instrs f.place ≡ o → instr_action p l f fs o ≡ actions.Local → AtInstr p l
-    by_instr f fs b g None i h = absurd cc
-    by_instr f fs b g (Some x) i h = record { begun = b; frame = f; lower = fs; frames = g; instr = x; is = i }
-
-    by : (b : Bool) → l.begun ≡ b → (fs : List Frame) → l.frames ≡ fs → frames_action p l b fs ≡ actions.Local → AtInstr p l
-    by b i [] g h = absurd cc
-    by false i (f ∷ fs) g h = absurd cc
-    by true i (f ∷ fs) g h = by_instr f fs i g (slice_get p.instrs f.place) refl h
-
-module _ (r : ReferenceRun) (d : Taken) (program : IsProgram r.program) (sums : ℕ → Option RootedList) (are : AreRegions r.program (λ i. is_gated r.gated i) sums r.regions) (summaries : AreSummaries r.program (λ i. is_gated r.gated i) sums)
-    (x : Seen) (s : State) (h : Takes r.gated r.program r.input s x.moment.did.did) (reached : IsReached r.program s) (calls : x.moment.calls ≡ calls_of (slice_get s.locals (thread_in x.moment))) (bytes : x.moment.bytes ≡ byte_at s.memory)
-    (region : x.region ≡ region_of r.program r.regions x.moment (instr_in r.program x.moment)) (free : is_instance d x ≡ true) where
-  abbrev t : ℕ
-  t = thread_in x.moment
-
-  pub free_step : IsFree r.program d x
-  free_step = is_free (reference_of r) d x region free
-
-  pub local : (l : LocalState) × (slice_get s.locals (thread_in x.moment) ≡ Some l)
-  local = present s (thread_in x.moment) (ready_made r.program s (thread_in x.moment) h.is_ready)
-
-  told : x.moment.did.did ≡ step_told r.gated r.program s (thread_in x.moment) (answer_to r.input s (thread_in x.moment) (next_of r.program s (thread_in x.moment)))
-  told = told_is r.gated r.program r.input s h.after (thread_in x.moment) x.moment.did.did h.is_step
-
-  kind_is : kind_told r.gated r.program s (thread_in x.moment) (operands_in r.program (slice_get s.locals (thread_in x.moment))) (answer_to r.input s (thread_in x.moment) (next_of r.program s (thread_in x.moment)))
-      (number_in r.program (slice_get s.locals (thread_in x.moment)) (answer_to r.input s (thread_in x.moment) (next_of r.program s (thread_in x.moment)))) (next_of r.program s (thread_in x.moment)) ≡ kinds.Branch free_step.number
-  kind_is = sym (ap (λ (z : Step). z.kind) told) ∙ free_step.kind
-
-  pub at : AtInstr r.program local.0
-  at = at_instr r.program local.0 (sym (next_is r.program s (thread_in x.moment) local.0 local.1) ∙ local_told r.gated r.program s (thread_in x.moment) (operands_in r.program (slice_get s.locals (thread_in x.moment))) (answer_to r.input s (thread_in x.moment) (next_of r.program s (thread_in x.moment))) (number_in r.program (slice_get s.locals (thread_in x.moment)) (answer_to r.input s (thread_in x.moment) (next_of r.program s (thread_in x.moment)))) free_step.number (next_of r.program s (thread_in x.moment)) kind_is)
-
-  place : instr_of s (thread_in x.moment) ≡ at.frame.place
-  place = place_told s (thread_in x.moment) local.0 local.1 ∙ place_of_top local.0 at.frame at.lower at.frames
-
-  instr_is : instr_in r.program x.moment ≡ Some at.instr
-  instr_is = ap (λ (z : Step). slice_get r.program.instrs z.instr.0) told ∙ ap (slice_get r.program.instrs) place ∙ at.is
-
-  region_is : region_at r.program x.moment (r.regions at.instr.block.0) ≡ Some free_step.free
-  region_is =
-      sym (ap (λ (k : StepKind). if is_branch k then region_at r.program x.moment (r.regions at.instr.block.0) else None) free_step.kind)
-      ∙ sym (ap (region_of r.program r.regions x.moment) instr_is) ∙ sym region ∙ free_step.region
-
-  pub freed_there : Freed r.program (λ i. is_gated r.gated i) sums are.found x.moment at.instr.block.0 free_step.free
-  freed_there = freed r.program (λ i. is_gated r.gated i) sums r.regions are x.moment at.instr.block.0 free_step.free region_is
-
-  calls_there : x.moment.calls ≡ at.frame ∷ at.lower
-  calls_there = calls ∙ ap calls_of local.1 ∙ at.frames
-
-  can_there : CanStepInside (instance_of r.program (λ i. is_gated r.gated i) sums freed_there.region free_step.free s local.0 at.frame at.lower) r.gated s (thread_in x.moment) local.0
-  can_there =
-      let of = subst (λ (fs : List Frame). AreFramesOf r.program fs) at.frames (frames_of r.program s (thread_in x.moment) local.0 reached local.1) in
-      record {
-        branch = at_branch r.program (λ i. is_gated r.gated i) sums freed_there.region free_step.free s local.0 at.frame at.lower at.instr program summaries at.begun at.frames at.is
-            (branch_told r.gated r.program s (thread_in x.moment) (operands_in r.program (slice_get s.locals (thread_in x.moment))) (answer_to r.input s (thread_in x.moment) (next_of r.program s (thread_in x.moment))) (number_in r.program (slice_get s.locals (thread_in x.moment)) (answer_to r.input s (thread_in x.moment) (next_of r.program s (thread_in x.moment)))) free_step.number at.instr (next_of r.program s (thread_in x.moment)) (ap (slice_get r.program.instrs) place ∙ at.is) kind_is)
-            (in_function r.program at.frame.function (slice_get r.program.instrs at.frame.place) at.instr at.is of.0.place)
-            (program.instrs at.frame.place at.instr at.is).block freed_there.is_region.join
-            (leads_there r.program (λ i. is_gated r.gated i) sums freed_there.region free_step.free s local.0 at.frame at.lower x.moment calls_there bytes freed_there.accesses) (apart_at free_step.free.accesses freed_there.apart);
-        gates = λ i. refl;
-        is_local = local.1;
-        within = inl refl;
-        cells = record { kept = λ frame c a b e f. refl };
-      }
+use Rattle.pg_sound.proofs.Whole.{quiet_event}
 
 -- ---- along the run
 
 abbrev IsStackedAt : Reference → Seen → Type 0
-IsStackedAt R y = AreStacked (length y.moment.calls) (edge_of R.program y.moment y.moment.did.did.kind) (begun y.number (length y.moment.calls) y.region (thread_of y.before (thread_in y.moment)).extents)
+IsStackedAt R y = AreStacked (length y.moment.calls) (edge_of R.program y.moment y.moment.did.did.kind)
+    (begun y.number (length y.moment.calls) y.region (thread_of y.before (thread_in y.moment)).extents)
 
 -- extents rest on no decision, so they are stacked under each
-stack_by : (R : Reference) (d e : Taken) (n : ℕ) (wd we : RunShadow) (ms : List Moment) → AllZip SameExtents (seen_from R d n wd ms) (seen_from R e n we ms) → AllOf (IsStackedAt R) (seen_from R e n we ms) → AllOf (IsStackedAt R) (seen_from R d n wd ms)
+stack_by : (R : Reference) (d e : Taken) (n : ℕ) (wd we : RunShadow) (ms : List Moment) → AllZip SameExtents (seen_from R d n wd ms) (seen_from R e n we ms)
+    → AllOf (IsStackedAt R) (seen_from R e n we ms) → AllOf (IsStackedAt R) (seen_from R d n wd ms)
 unfolding seen_from
 stack_by R d e n wd we [] z h = tt
 stack_by R d e n wd we (m ∷ ms) z h = (
-  subst (λ (es : List Extent). AreStacked (length m.calls) (edge_of R.program m m.did.did.kind) (begun n (length m.calls) (region_of R.program R.regions m (instr_in R.program m)) es)) (sym (z.0 (thread_in m))) h.0,
+  subst (λ (es : List Extent). AreStacked (length m.calls) (edge_of R.program m m.did.did.kind) (begun n (length m.calls) (region_of R.program R.regions m (instr_in R.program m)) es))
+      (sym (z.0 (thread_in m))) h.0,
   stack_by R d e (suc n) (after_step R d n m wd) (after_step R e n m we) ms z.1 h.1,
 )
 
@@ -282,13 +79,15 @@ each_of P [] h = tt
 each_of P (x ∷ xs) h = (h x (here x xs), each_of P xs (λ y c. h y (there x xs y c)))
 
 module _ (r : ReferenceRun) (d : Taken) (program : IsProgram r.program) (small0 : length r.input < 2 ^ 64) (last : State) where
-  module _ (sums : ℕ → Option RootedList) (region : Region) (c : ℕ) (is_region : IsRegion r.program (λ i. is_gated r.gated i) sums c region) (q : FreeRegion) (s0 : State) (l0 : LocalState) (f0 : Frame) (fs0 : List Frame)
+  module _ (sums : ℕ → Option RootedList) (region : Region) (c : ℕ) (is_region : IsRegion r.program (λ i. is_gated r.gated i) sums c region) (q : FreeRegion) (s0 : State) (l0 : LocalState)
+      (f0 : Frame) (fs0 : List Frame)
       (e : Extent) (join : e.join ≡ region.join) (depth : e.depth ≡ length fs0 + 1) (loose : d.pinned e.step ≡ false) where
     -- behind some steps the thread's next unit begins at the join
     abbrev Comes : ℕ → List Met → Type 0
     Comes t ms = (m : LocalState) × (next_local t last ms ≡ Some m) × IsAtJoin (instance_of r.program (λ i. is_gated r.gated i) sums region q s0 l0 f0 fs0) m
 
-    module _ (T : List ℕ) (k n : ℕ) (known : RunShadow) (s w : State) (x : Step) (ys : List Step) (t : ℕ) (l : LocalState) (own : x.thread.0 ≡ t) (end : last ≡ w) (run : IsRun r.gated r.program r.input s (x ∷ ys) w) (holds : remembered.Holds r d program small0 known s)
+    module _ (T : List ℕ) (k n : ℕ) (known : RunShadow) (s w : State) (x : Step) (ys : List Step) (t : ℕ) (l : LocalState) (own : x.thread.0 ≡ t) (end : last ≡ w)
+        (run : IsRun r.gated r.program r.input s (x ∷ ys) w) (holds : remembered.Holds r d program small0 known s)
         (together : AreTogether (x ∷ ys)) (can : CanStepInside (instance_of r.program (λ i. is_gated r.gated i) sums region q s0 l0 f0 fs0) r.gated s t l) where
       abbrev m : Moment
       m = record { did = timed recorded T k x; calls = calls_of (slice_get s.locals x.thread.0); bytes = byte_at s.memory }
@@ -305,9 +104,12 @@ module _ (r : ReferenceRun) (d : Taken) (program : IsProgram r.program) (small0 
       next_too : IsNext x.thread.0 ys
       next_too = together.0 (ap (turn_at x) (quiet_event (instance_of r.program (λ i. is_gated r.gated i) sums region q s0 l0 f0 fs0) x.kind stay.tells))
 
-      module _ (left : is_live d.pinned (thread_of known x.thread.0).extents ≡ false → is_some (happening_in x.kind) ≡ false) (left2 : AllOf (λ (x : Seen). x.live ≡ false → is_event_at x ≡ false) (seen_from (reference_of r) d (suc n) known2 (moments_from r.gated r.program r.input (behind r s x.thread.0) (times recorded T (done_after (recorded.is_event x) k) ys))))
+      module _ (left : is_live d.pinned (thread_of known x.thread.0).extents ≡ false → is_some (happening_in x.kind) ≡ false)
+          (left2 : AllOf (λ (x : Seen). x.live ≡ false → is_event_at x ≡ false)
+          (seen_from (reference_of r) d (suc n) known2 (moments_from r.gated r.program r.input (behind r s x.thread.0) (times recorded T (done_after (recorded.is_event x) k) ys))))
           (stacked : AreStacked (length m.calls) (edge_of r.program m x.kind) (begun n (length m.calls) (region_of r.program r.regions m (instr_in r.program m)) (thread_of known x.thread.0).extents))
-          (later earlier : List Extent) (split : begun n (length m.calls) (region_of r.program r.regions m (instr_in r.program m)) (thread_of known x.thread.0).extents ≡ later ++ e ∷ earlier) (fixed : is_live d.pinned earlier ≡ true) where
+          (later earlier : List Extent) (split : begun n (length m.calls) (region_of r.program r.regions m (instr_in r.program m)) (thread_of known x.thread.0).extents ≡ later ++ e ∷ earlier)
+          (fixed : is_live d.pinned earlier ≡ true) where
         holds2 : remembered.Holds r d program small0 known2 (behind r s x.thread.0)
         holds2 = subst (remembered.Holds r d program small0 known2) (sym (behind_is r d s x run.0)) (remembered.holds_after r d program small0 n m known s none_taken last [] run.0 holds left)
 
@@ -319,32 +121,42 @@ module _ (r : ReferenceRun) (d : Taken) (program : IsProgram r.program) (small0 
             own_extents (reference_of r) d n m known (omega (arith, own, size, within))
             ∙ ap (filter (λ (e : Extent). not (ends (length m.calls) (edge_of r.program m x.kind) e))) split
 
-        comes : ((later2 earlier2 : List Extent) → (thread_of known2 t).extents ≡ later2 ++ e ∷ earlier2 → is_live d.pinned earlier2 ≡ true → CanStepInside (instance_of r.program (λ i. is_gated r.gated i) sums region q s0 l0 f0 fs0) r.gated (behind r s x.thread.0) t stay.local →
-            Comes t (met_with (seen_from (reference_of r) d (suc n) known2 (moments_from r.gated r.program r.input (behind r s x.thread.0) (times recorded T (done_after (recorded.is_event x) k) ys))) (states_from r (behind r s x.thread.0) ys))) →
-            Comes t (met_with (seen_from (reference_of r) d (suc n) known2 (moments_from r.gated r.program r.input (behind r s x.thread.0) (times recorded T (done_after (recorded.is_event x) k) ys))) (states_from r (behind r s x.thread.0) ys))
+        comes : ((later2 earlier2 : List Extent) → (thread_of known2 t).extents ≡ later2 ++ e ∷ earlier2 → is_live d.pinned earlier2 ≡ true
+            → CanStepInside (instance_of r.program (λ i. is_gated r.gated i) sums region q s0 l0 f0 fs0) r.gated (behind r s x.thread.0) t stay.local →
+            Comes t (met_with (seen_from (reference_of r) d (suc n) known2
+            (moments_from r.gated r.program r.input (behind r s x.thread.0) (times recorded T (done_after (recorded.is_event x) k) ys))) (states_from r (behind r s x.thread.0) ys))) →
+            Comes t (met_with (seen_from (reference_of r) d (suc n) known2
+            (moments_from r.gated r.program r.input (behind r s x.thread.0) (times recorded T (done_after (recorded.is_event x) k) ys))) (states_from r (behind r s x.thread.0) ys))
         comes more = go stay.goes_on
           where
-            go : IsInside (instance_of r.program (λ i. is_gated r.gated i) sums region q s0 l0 f0 fs0) stay.local ⊎ Joins (instance_of r.program (λ i. is_gated r.gated i) sums region q s0 l0 f0 fs0) l stay.local →
-                Comes t (met_with (seen_from (reference_of r) d (suc n) known2 (moments_from r.gated r.program r.input (behind r s x.thread.0) (times recorded T (done_after (recorded.is_event x) k) ys))) (states_from r (behind r s x.thread.0) ys))
+            go : IsInside (instance_of r.program (λ i. is_gated r.gated i) sums region q s0 l0 f0 fs0) stay.local
+                ⊎ Joins (instance_of r.program (λ i. is_gated r.gated i) sums region q s0 l0 f0 fs0) l stay.local →
+                Comes t (met_with (seen_from (reference_of r) d (suc n) known2
+                (moments_from r.gated r.program r.input (behind r s x.thread.0) (times recorded T (done_after (recorded.is_event x) k) ys))) (states_from r (behind r s x.thread.0) ys))
             go (inr j) =
                 let over = joined_ends r program sums region c is_region q s0 l0 f0 fs0 s t l x can run.0 own holds.reached m refl refl e join depth j in
                 let rest = opened ∙ all_end (length m.calls) (edge_of r.program m x.kind) later earlier e (subst (AreStacked (length m.calls) (edge_of r.program m x.kind)) split stacked) over in
                 let live = ap (is_live d.pinned) rest ∙ left_live d.pinned (λ (e : Extent). not (ends (length m.calls) (edge_of r.program m x.kind) e)) earlier fixed in
                 let at = remembered.stays r d program small0 last T (done_after (recorded.is_event x) k) (suc n) known2 (behind r s x.thread.0) w ys x.thread.0 end run2 holds2 left2 live in (
                   stay.local,
-                  ap (λ (i : ℕ). next_local i last (met_with (seen_from (reference_of r) d (suc n) known2 (moments_from r.gated r.program r.input (behind r s x.thread.0) (times recorded T (done_after (recorded.is_event x) k) ys))) (states_from r (behind r s x.thread.0) ys))) (sym own)
+                  ap (λ (i : ℕ). next_local i last (met_with
+                      (seen_from (reference_of r) d (suc n) known2 (moments_from r.gated r.program r.input (behind r s x.thread.0) (times recorded T (done_after (recorded.is_event x) k) ys)))
+                      (states_from r (behind r s x.thread.0) ys))) (sym own)
                       ∙ at ∙ ap (λ (i : ℕ). local_at (behind r s x.thread.0) i) own ∙ ap (λ (z : State). local_at z t) (behind_is r d s x run.0)
                       ∙ local_there r program sums region c is_region q s0 l0 f0 fs0 s t l x can run.0 own holds.reached m refl refl,
                   j.there,
                 )
             go (inl i) =
                 let on = inside_open r program sums region c is_region q s0 l0 f0 fs0 s t l x can run.0 own holds.reached m refl refl e join depth i in
-                more (filter (λ (e : Extent). not (ends (length m.calls) (edge_of r.program m x.kind) e)) later) (filter (λ (e : Extent). not (ends (length m.calls) (edge_of r.program m x.kind) e)) earlier)
+                more (filter (λ (e : Extent). not (ends (length m.calls) (edge_of r.program m x.kind) e)) later)
+                (filter (λ (e : Extent). not (ends (length m.calls) (edge_of r.program m x.kind) e)) earlier)
                 (ap (λ (i : ℕ). (thread_of known2 i).extents) (sym own) ∙ opened ∙ it_stays (length m.calls) (edge_of r.program m x.kind) later earlier e on)
                 (left_live d.pinned (λ (e : Extent). not (ends (length m.calls) (edge_of r.program m x.kind) e)) earlier fixed)
-                (subst (λ (z : State). CanStepInside (instance_of r.program (λ i. is_gated r.gated i) sums region q s0 l0 f0 fs0) r.gated z t stay.local) (sym (behind_is r d s x run.0)) (inside_again (instance_of r.program (λ i. is_gated r.gated i) sums region q s0 l0 f0 fs0) r.gated s run.0.after t l x can stay i))
+                (subst (λ (z : State). CanStepInside (instance_of r.program (λ i. is_gated r.gated i) sums region q s0 l0 f0 fs0) r.gated z t stay.local) (sym (behind_is r d s x run.0))
+                (inside_again (instance_of r.program (λ i. is_gated r.gated i) sums region q s0 l0 f0 fs0) r.gated s run.0.after t l x can stay i))
 
-    rejoins : (T : List ℕ) (k n : ℕ) (known : RunShadow) (s w : State) (xs : List Step) (t : ℕ) (l : LocalState) (later earlier : List Extent) → last ≡ w → IsRun r.gated r.program r.input s xs w → remembered.Holds r d program small0 known s →
+    rejoins : (T : List ℕ) (k n : ℕ) (known : RunShadow) (s w : State) (xs : List Step) (t : ℕ) (l : LocalState) (later earlier : List Extent) → last ≡ w
+        → IsRun r.gated r.program r.input s xs w → remembered.Holds r d program small0 known s →
         AllOf (λ (x : Seen). x.live ≡ false → is_event_at x ≡ false) (seen_from (reference_of r) d n known (moments_from r.gated r.program r.input s (times recorded T k xs))) →
         AllOf (IsStackedAt (reference_of r)) (seen_from (reference_of r) d n known (moments_from r.gated r.program r.input s (times recorded T k xs))) →
         AreTogether xs → IsNext t xs → CanStepInside (instance_of r.program (λ i. is_gated r.gated i) sums region q s0 l0 f0 fs0) r.gated s t l →
@@ -357,32 +169,51 @@ module _ (r : ReferenceRun) (d : Taken) (program : IsProgram r.program) (small0 
         let es2 : (thread_of known x.thread.0).extents ≡ later ++ e ∷ earlier = ap (λ (i : ℕ). (thread_of known i).extents) mine ∙ es in
         let on = begun_on n (length mm.calls) (region_of r.program r.regions mm (instr_in r.program mm)) later earlier e in
         let dead : is_live d.pinned (thread_of known x.thread.0).extents ≡ false = ap (is_live d.pinned) es2 ∙ not_live d.pinned later earlier e loose in
-        let z = comes T k n known s w x ys t l mine end run holds together can left.0 left.1 stacked.0 on.0 earlier (ap (begun n (length mm.calls) (region_of r.program r.regions mm (instr_in r.program mm))) es2 ∙ on.1) fixed
+        let z = comes T k n known s w x ys t l mine end run holds together can left.0 left.1 stacked.0 on.0 earlier
+        (ap (begun n (length mm.calls) (region_of r.program r.regions mm (instr_in r.program mm))) es2 ∙ on.1) fixed
         (λ later2 earlier2 es3 fixed2 can2. rejoins T (done_after (recorded.is_event x) k) (suc n) (after_step (reference_of r) d n mm known) (behind r s x.thread.0) w ys t _ later2 earlier2 end
         (run2 T k n known s w x ys t l mine end run holds together can)
-        (holds2 T k n known s w x ys t l mine end run holds together can left.0 left.1 stacked.0 on.0 earlier (ap (begun n (length mm.calls) (region_of r.program r.regions mm (instr_in r.program mm))) es2 ∙ on.1) fixed) left.1 stacked.1 together.1
-        (subst (λ (i : ℕ). IsNext i ys) mine (next_too T k n known s w x ys t l mine end run holds together can)) can2 es3 fixed2) in
-        (z.0, ap (λ (v : Bool). if v && (x.thread.0 == t) then local_at s t else next_local t last (met_with (seen_from (reference_of r) d (suc n) (after_step (reference_of r) d n mm known) (moments_from r.gated r.program r.input (behind r s x.thread.0) (times recorded T (done_after (recorded.is_event x) k) ys))) (states_from r (behind r s x.thread.0) ys))) dead ∙ z.1, z.2)
+        (holds2 T k n known s w x ys t l mine end run holds together can left.0 left.1 stacked.0 on.0 earlier
+        (ap (begun n (length mm.calls) (region_of r.program r.regions mm (instr_in r.program mm))) es2 ∙ on.1) fixed) left.1 stacked.1 together.1
+        (subst (λ (i : ℕ). IsNext i ys) mine (next_too T k n known s w x ys t l mine end run holds together can)) can2 es3 fixed2) in (
+          z.0,
+          ap (λ (v : Bool). if v && (x.thread.0 == t) then local_at s t else next_local t last
+              (met_with (seen_from (reference_of r) d (suc n) (after_step (reference_of r) d n mm known)
+              (moments_from r.gated r.program r.input (behind r s x.thread.0) (times recorded T (done_after (recorded.is_event x) k) ys))) (states_from r (behind r s x.thread.0) ys))) dead ∙ z.1,
+          z.2,
+        )
 
 -- ---- each unit
 
-module _ (r : ReferenceRun) (d : Taken) (program : IsProgram r.program) (small0 : length r.input < 2 ^ 64) (last : State) (sums : ℕ → Option RootedList) (are : AreRegions r.program (λ i. is_gated r.gated i) sums r.regions) (summaries : AreSummaries r.program (λ i. is_gated r.gated i) sums) where
+module _ (r : ReferenceRun) (d : Taken) (program : IsProgram r.program) (small0 : length r.input < 2 ^ 64) (last : State) (sums : ℕ → Option RootedList)
+    (are : AreRegions r.program (λ i. is_gated r.gated i) sums r.regions) (summaries : AreSummaries r.program (λ i. is_gated r.gated i) sums) where
   abbrev Again : PlanUnit → Type 0
   Again u = is_instance d u.seen ≡ true → JoinsAgain r sums u
 
-  module _ (T : List ℕ) (k n : ℕ) (known : RunShadow) (s w : State) (x : Step) (ys : List Step) (counts : ℕ → ℕ) (end : last ≡ w) (run : IsRun r.gated r.program r.input s (x ∷ ys) w) (holds : remembered.Holds r d program small0 known s) (together : AreTogether (x ∷ ys)) where
+  module _ (T : List ℕ) (k n : ℕ) (known : RunShadow) (s w : State) (x : Step) (ys : List Step) (counts : ℕ → ℕ) (end : last ≡ w)
+      (run : IsRun r.gated r.program r.input s (x ∷ ys) w) (holds : remembered.Holds r d program small0 known s) (together : AreTogether (x ∷ ys)) where
     abbrev mu : Moment
     mu = record { did = timed recorded T k x; calls = calls_of (slice_get s.locals x.thread.0); bytes = byte_at s.memory }
 
     abbrev yu : Seen
-    yu = record { number = n; moment = record { did = timed recorded T k x; calls = calls_of (slice_get s.locals x.thread.0); bytes = byte_at s.memory }; region = region_of r.program r.regions mu (instr_in r.program mu); live = is_live d.pinned (thread_of known x.thread.0).extents; before = known }
+    yu = record {
+      number = n;
+      moment = record { did = timed recorded T k x; calls = calls_of (slice_get s.locals x.thread.0); bytes = byte_at s.memory };
+      region = region_of r.program r.regions mu (instr_in r.program mu);
+      live = is_live d.pinned (thread_of known x.thread.0).extents;
+      before = known;
+    }
 
     abbrev later_mets : List Met
-    later_mets = met_with (seen_from (reference_of r) d (suc n) (after_step (reference_of r) d n mu known) (moments_from r.gated r.program r.input (behind r s x.thread.0) (times recorded T (done_after (recorded.is_event x) k) ys))) (states_from r (behind r s x.thread.0) ys)
+    later_mets = met_with (seen_from (reference_of r) d (suc n) (after_step (reference_of r) d n mu known)
+        (moments_from r.gated r.program r.input (behind r s x.thread.0) (times recorded T (done_after (recorded.is_event x) k) ys))) (states_from r (behind r s x.thread.0) ys)
 
     unit_again : (left : is_live d.pinned (thread_of known x.thread.0).extents ≡ false → is_some (happening_in x.kind) ≡ false)
-        (left2 : AllOf (λ (x : Seen). x.live ≡ false → is_event_at x ≡ false) (seen_from (reference_of r) d (suc n) (after_step (reference_of r) d n mu known) (moments_from r.gated r.program r.input (behind r s x.thread.0) (times recorded T (done_after (recorded.is_event x) k) ys))))
-        (stacked : AllOf (IsStackedAt (reference_of r)) (yu ∷ seen_from (reference_of r) d (suc n) (after_step (reference_of r) d n mu known) (moments_from r.gated r.program r.input (behind r s x.thread.0) (times recorded T (done_after (recorded.is_event x) k) ys)))) →
+        (left2 : AllOf (λ (x : Seen). x.live ≡ false → is_event_at x ≡ false)
+        (seen_from (reference_of r) d (suc n) (after_step (reference_of r) d n mu known)
+        (moments_from r.gated r.program r.input (behind r s x.thread.0) (times recorded T (done_after (recorded.is_event x) k) ys))))
+        (stacked : AllOf (IsStackedAt (reference_of r)) (yu ∷ seen_from (reference_of r) d (suc n) (after_step (reference_of r) d n mu known)
+        (moments_from r.gated r.program r.input (behind r s x.thread.0) (times recorded T (done_after (recorded.is_event x) k) ys)))) →
         is_live d.pinned (thread_of known x.thread.0).extents ≡ true → Again (unit_of r d last counts (record { seen = yu; state = s }) later_mets)
     unit_again left left2 stacked live free =
         let f = free_step r d program sums are summaries yu s run.0 holds.reached refl refl refl free in
@@ -391,47 +222,74 @@ module _ (r : ReferenceRun) (d : Taken) (program : IsProgram r.program) (small0 
         let g = freed_there r d program sums are summaries yu s run.0 holds.reached refl refl refl free in
         let can = can_there r d program sums are summaries yu s run.0 holds.reached refl refl refl free in
         let e : Extent = record { step = n; join = f.free.join; depth = length (calls_of (slice_get s.locals x.thread.0)) } in
-        let deep : length (calls_of (slice_get s.locals x.thread.0)) ≡ length a.lower + 1 = (let q = ap (λ (fs : List Frame). length fs) (calls_there r d program sums are summaries yu s run.0 holds.reached refl refl refl free) in omega (arith, q)) in
+        let deep : length (calls_of (slice_get s.locals x.thread.0)) ≡ length a.lower + 1 =
+        (let q = ap (λ (fs : List Frame). length fs) (calls_there r d program sums are summaries yu s run.0 holds.reached refl refl refl free) in omega (arith, q)) in
         let split = ap (λ (o : Option FreeRegion). begun n (length (calls_of (slice_get s.locals x.thread.0))) o (thread_of known x.thread.0).extents) f.region in
         let z = comes r d program small0 last sums g.region a.instr.block.0 g.is_region f.free s l.0 a.frame a.lower e g.join deep f.pinned
         T k n known s w x ys x.thread.0 l.0 refl end run holds together can left left2 stacked.0 [] (thread_of known x.thread.0).extents split live
         (λ later2 earlier2 es2 fixed2 can2. rejoins r d program small0 last sums g.region a.instr.block.0 g.is_region f.free s l.0 a.frame a.lower e g.join deep f.pinned
         T (done_after (recorded.is_event x) k) (suc n) (after_step (reference_of r) d n mu known) (behind r s x.thread.0) w ys x.thread.0 _ later2 earlier2 end
         (run2 r d program small0 last sums g.region a.instr.block.0 g.is_region f.free s l.0 a.frame a.lower e g.join deep f.pinned T k n known s w x ys x.thread.0 l.0 refl end run holds together can)
-        (holds2 r d program small0 last sums g.region a.instr.block.0 g.is_region f.free s l.0 a.frame a.lower e g.join deep f.pinned T k n known s w x ys x.thread.0 l.0 refl end run holds together can left left2 stacked.0 [] (thread_of known x.thread.0).extents split live)
+        (holds2 r d program small0 last sums g.region a.instr.block.0 g.is_region f.free s l.0 a.frame a.lower e g.join deep f.pinned T k n known s w x ys x.thread.0 l.0 refl end run holds
+        together can left left2 stacked.0 [] (thread_of known x.thread.0).extents split live)
         left2 stacked.1 together.1
-        (next_too r d program small0 last sums g.region a.instr.block.0 g.is_region f.free s l.0 a.frame a.lower e g.join deep f.pinned T k n known s w x ys x.thread.0 l.0 refl end run holds together can) can2 es2 fixed2) in
+        (next_too r d program small0 last sums g.region a.instr.block.0 g.is_region f.free s l.0 a.frame a.lower e g.join deep f.pinned T k n known s w x ys x.thread.0 l.0 refl end run holds
+        together can) can2 es2 fixed2) in
         record {
-          begun = record { region = g.region; free = f.free; local = l.0; frame = a.frame; lower = a.lower; is_region = f.region; is_local = l.1; frames = a.frames; join = g.join; sets = g.sets; can = can };
+          begun = record {
+            region = g.region;
+            free = f.free;
+            local = l.0;
+            frame = a.frame;
+            lower = a.lower;
+            is_region = f.region;
+            is_local = l.1;
+            frames = a.frames;
+            join = g.join;
+            sets = g.sets;
+            can = can;
+          };
           local = z.0;
           is_local = yes_if (is_instance d yu) _ _ free ∙ z.1;
           joined = z.2;
         }
 
-  all_again : (T : List ℕ) (k n : ℕ) (known : RunShadow) (s w : State) (xs : List Step) (counts : ℕ → ℕ) → last ≡ w → IsRun r.gated r.program r.input s xs w → remembered.Holds r d program small0 known s →
+  all_again : (T : List ℕ) (k n : ℕ) (known : RunShadow) (s w : State) (xs : List Step) (counts : ℕ → ℕ) → last ≡ w → IsRun r.gated r.program r.input s xs w
+      → remembered.Holds r d program small0 known s →
       AllOf (λ (x : Seen). x.live ≡ false → is_event_at x ≡ false) (seen_from (reference_of r) d n known (moments_from r.gated r.program r.input s (times recorded T k xs))) →
       AllOf (IsStackedAt (reference_of r)) (seen_from (reference_of r) d n known (moments_from r.gated r.program r.input s (times recorded T k xs))) →
-      AreTogether xs → AllOf (λ (u : PlanUnit). is_instance d u.seen ≡ true → JoinsAgain r sums u) (units_from r d last counts (met_with (seen_from (reference_of r) d n known (moments_from r.gated r.program r.input s (times recorded T k xs))) (states_from r s xs)))
+      AreTogether xs → AllOf (λ (u : PlanUnit). is_instance d u.seen ≡ true → JoinsAgain r sums u)
+      (units_from r d last counts (met_with (seen_from (reference_of r) d n known (moments_from r.gated r.program r.input s (times recorded T k xs))) (states_from r s xs)))
   unfolding seen_from moments_from states_from units_from
   all_again T k n known s w [] counts end run holds left stacked together = tt
   all_again T k n known s w (x ∷ ys) counts end run holds left stacked together =
       go (is_live d.pinned (thread_of known x.thread.0).extents) refl (unit_again T k n known s w x ys counts end run holds together left.0 left.1 stacked)
-      (λ counts2. all_again T (done_after (recorded.is_event x) k) (suc n) (after_step (reference_of r) d n (mu T k n known s w x ys counts end run holds together) known) (behind r s x.thread.0) w ys counts2 end
+      (λ counts2. all_again T (done_after (recorded.is_event x) k) (suc n) (after_step (reference_of r) d n (mu T k n known s w x ys counts end run holds together) known)
+      (behind r s x.thread.0) w ys counts2 end
       (subst (λ (j : State). IsRun r.gated r.program r.input j ys w) (sym (behind_is r d s x run.0)) run.1)
-      (subst (remembered.Holds r d program small0 (after_step (reference_of r) d n (mu T k n known s w x ys counts end run holds together) known)) (sym (behind_is r d s x run.0)) (remembered.holds_after r d program small0 n (mu T k n known s w x ys counts end run holds together) known s none_taken last [] run.0 holds left.0))
+      (subst (remembered.Holds r d program small0 (after_step (reference_of r) d n (mu T k n known s w x ys counts end run holds together) known)) (sym (behind_is r d s x run.0))
+      (remembered.holds_after r d program small0 n (mu T k n known s w x ys counts end run holds together) known s none_taken last [] run.0 holds left.0))
       left.1 stacked.1 together.1)
     where
       go : (v : Bool) → is_live d.pinned (thread_of known x.thread.0).extents ≡ v →
-          (is_live d.pinned (thread_of known x.thread.0).extents ≡ true → is_instance d (yu T k n known s w x ys counts end run holds together) ≡ true → JoinsAgain r sums (unit_of r d last counts (record { seen = yu T k n known s w x ys counts end run holds together; state = s }) (later_mets T k n known s w x ys counts end run holds together))) →
-          ((counts2 : ℕ → ℕ) → AllOf (λ (u : PlanUnit). is_instance d u.seen ≡ true → JoinsAgain r sums u) (units_from r d last counts2 (later_mets T k n known s w x ys counts end run holds together))) →
-          AllOf (λ (u : PlanUnit). is_instance d u.seen ≡ true → JoinsAgain r sums u) (if v then unit_of r d last counts (record { seen = yu T k n known s w x ys counts end run holds together; state = s }) (later_mets T k n known s w x ys counts end run holds together) ∷ units_from r d last (one_more x.thread.0 counts) (later_mets T k n known s w x ys counts end run holds together) else units_from r d last counts (later_mets T k n known s w x ys counts end run holds together))
+          (is_live d.pinned (thread_of known x.thread.0).extents ≡ true → is_instance d (yu T k n known s w x ys counts end run holds together) ≡ true
+          → JoinsAgain r sums (unit_of r d last counts (record { seen = yu T k n known s w x ys counts end run holds together; state = s })
+          (later_mets T k n known s w x ys counts end run holds together))) →
+          ((counts2 : ℕ → ℕ) → AllOf (λ (u : PlanUnit). is_instance d u.seen ≡ true → JoinsAgain r sums u)
+          (units_from r d last counts2 (later_mets T k n known s w x ys counts end run holds together))) →
+          AllOf (λ (u : PlanUnit). is_instance d u.seen ≡ true → JoinsAgain r sums u)
+          (if v then unit_of r d last counts (record { seen = yu T k n known s w x ys counts end run holds together; state = s })
+          (later_mets T k n known s w x ys counts end run holds together) ∷ units_from r d last (one_more x.thread.0 counts)
+          (later_mets T k n known s w x ys counts end run holds together) else units_from r d last counts (later_mets T k n known s w x ys counts end run holds together))
       go true on one more = (one on, more (one_more x.thread.0 counts))
       go false off one more = more counts
 
 -- ---- the whole run
 
-pub units_again : (p : NumberedProgram) (input : List ℤ) (turns : List Turn) (gated : List InstrId) (sums : ℕ → Option RootedList) (regions : Regions) (xs : List Step) → IsReferenceRun p input turns gated sums regions xs → (d : Taken) →
-    AllOf (λ (u : PlanUnit). is_instance d u.seen ≡ true → JoinsAgain (record { program = p; input = input; gated = gated; regions = regions; steps = xs }) sums u) (units_of (record { program = p; input = input; gated = gated; regions = regions; steps = xs }) d)
+pub units_again : (p : NumberedProgram) (input : List ℤ) (turns : List Turn) (gated : List InstrId) (sums : ℕ → Option RootedList) (regions : Regions) (xs : List Step)
+    → IsReferenceRun p input turns gated sums regions xs → (d : Taken) →
+    AllOf (λ (u : PlanUnit). is_instance d u.seen ≡ true → JoinsAgain (record { program = p; input = input; gated = gated; regions = regions; steps = xs }) sums u)
+    (units_of (record { program = p; input = input; gated = gated; regions = regions; steps = xs }) d)
 units_again p input turns gated sums regions xs h d =
     let r : ReferenceRun = record { program = p; input = input; gated = gated; regions = regions; steps = xs } in
     let R = reference_of r in

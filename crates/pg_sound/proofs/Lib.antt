@@ -1,3 +1,4 @@
+pub mod Admitted
 pub mod Asks
 pub mod Begin
 pub mod Covered
@@ -10,6 +11,7 @@ pub mod Good
 pub mod Guided
 pub mod Inside
 pub mod Joins
+pub mod LeftFree
 pub mod Marked
 pub mod Memory
 pub mod Moving

@@ -1,7 +1,8 @@
 -- At a cut of a plan a unit is done exactly where its number is below that of the moves that its thread has done.
 use Rattle.std.specs.List.{AllByRecursion as AllOf}
 use Rattle.std.specs.Prelude.{if◌then◌else◌}
-use Rattle.std.proofs.Common.{◌++◌, ◌<◌, ◌==◌, ◌∙◌, ◌∷◌, ◌≡◌, ◌≢◌, ◌≤◌, ◌⊎◌, Bool, List, [], ap, arith, false, inl, inr, map, refl, subst, suc, sym, true, ℕ}
+use Rattle.std.proofs.Common.{◌++◌, ◌<◌, ◌==◌, ◌∙◌, ◌∷◌, ◌≡◌, ◌≢◌, ◌≤◌, ◌⊎◌, Bool, List, [], ap, arith, false, inl, inr, map, refl, subst}
+use Rattle.std.proofs.Common.{suc, sym, true, ℕ}
 use Rattle.std.proofs.lemmas.Bool.{cases_eq, eq-eqb, ne_eqb, true≢false}
 use Rattle.pg_plans.specs.Cuts.{IsCut, Mark, kept, whole}
 use Rattle.pg_plans.specs.Effects.{deeds, effect, effects}
@@ -50,7 +51,8 @@ module _ (d : Taken) where
 
   kept_still : (z : PlanState) (ms : Marks) (t : ℕ) → NoneDone t ms → count (behind z ms) t ≡ count z t
   kept_still z ms t h = ap (λ (l : PlanThread). l.units) (skips (local_part t) z (did_of (kept ms))
-      (all_did (λ (e : PlanDeed). (t == e.thread) ≡ false) (kept ms) (all_kept (λ (x : Timed PlanDeed). (t == x.did.thread) ≡ false) ms (all_map (λ m k w. ne_eqb t m.step.did.thread (λ e. k w (sym e))) ms h))))
+      (all_did (λ (e : PlanDeed). (t == e.thread) ≡ false) (kept ms)
+      (all_kept (λ (x : Timed PlanDeed). (t == x.did.thread) ≡ false) ms (all_map (λ m k w. ne_eqb t m.step.did.thread (λ e. k w (sym e))) ms h))))
 
   record Counted (z : PlanState) (ms : Marks) (us : List PlanUnit) : Type 0 where
     all : Told (count (behind z ms)) ms us
@@ -60,7 +62,8 @@ module _ (d : Taken) where
   at_most z c ms t (inl e) = omega (arith, e)
   at_most z c ms t (inr h) = h.0
 
-  counted : (z : PlanState) (c : ℕ → ℕ) (ms : Marks) (us : List PlanUnit) → did_of (whole ms) ≡ map (deed_of d) us → NumberedFrom c us → IsCut deeds ms → ((t : ℕ) → IsEither z c ms t) → Counted z ms us
+  counted : (z : PlanState) (c : ℕ → ℕ) (ms : Marks) (us : List PlanUnit) → did_of (whole ms) ≡ map (deed_of d) us → NumberedFrom c us → IsCut deeds ms
+      → ((t : ℕ) → IsEither z c ms t) → Counted z ms us
   counted z c [] [] e n h f = record { all = tt; least = λ t. omega arith }
   counted z c [] (u ∷ us) e n h f = absurd cc
   counted z c (m ∷ ms) [] e n h f = absurd cc
@@ -74,7 +77,8 @@ module _ (d : Taken) where
 
       -- done
       own_count : count (effect z m.step.did) (owner u) ≡ suc u.units
-      own_count = ap (λ (l : PlanThread). l.units) (yes_if (owner u == m.step.did.thread) m.step.did.to (z.locals (owner u)) (eq-eqb (owner u) m.step.did.thread (sym thread))) ∙ ap (λ (q : PlanDeed). q.to.units) deed
+      own_count = ap (λ (l : PlanThread). l.units) (yes_if (owner u == m.step.did.thread) m.step.did.to (z.locals (owner u)) (eq-eqb (owner u) m.step.did.thread (sym thread)))
+          ∙ ap (λ (q : PlanDeed). q.to.units) deed
 
       other_count : (t : ℕ) → (owner u ≡ t → ⊥) → count (effect z m.step.did) t ≡ count z t
       other_count t ne = ap (λ (l : PlanThread). l.units) (no_if (t == m.step.did.thread) m.step.did.to (z.locals t) (ne_eqb t m.step.did.thread (λ w. ne (sym (w ∙ thread)))))
@@ -117,7 +121,8 @@ module _ (d : Taken) where
       go true w more =
           let k = more (effect z m.step.did) (done_next w) in
           let same : behind z (m ∷ ms) ≡ behind (effect z m.step.did) ms = ap (λ (b : Bool). effects z (did_of (if b then m.step ∷ kept ms else kept ms))) w in
-          subst (λ (s : PlanState). Told (count s) (m ∷ ms) (u ∷ us) → ((t : ℕ) → count z t ≤ count s t) → Counted z (m ∷ ms) (u ∷ us)) same (λ a l. record { all = a; least = l }) (
+          subst (λ (s : PlanState). Told (count s) (m ∷ ms) (u ∷ us) → ((t : ℕ) → count z t ≤ count s t) → Counted z (m ∷ ms) (u ∷ us)) same
+          (λ a l. record { all = a; least = l }) (
             record {
               deed = deed;
               if_done = λ v. let a = k.least (owner u) in let b = own_count in omega (arith, a, b);
@@ -129,7 +134,8 @@ module _ (d : Taken) where
       go false w more =
           let k = more z (open_next w) in
           let same : behind z (m ∷ ms) ≡ behind z ms = ap (λ (b : Bool). effects z (did_of (if b then m.step ∷ kept ms else kept ms))) w in
-          subst (λ (s : PlanState). Told (count s) (m ∷ ms) (u ∷ us) → ((t : ℕ) → count z t ≤ count s t) → Counted z (m ∷ ms) (u ∷ us)) same (λ a l. record { all = a; least = l }) (
+          subst (λ (s : PlanState). Told (count s) (m ∷ ms) (u ∷ us) → ((t : ℕ) → count z t ≤ count s t) → Counted z (m ∷ ms) (u ∷ us)) same
+          (λ a l. record { all = a; least = l }) (
             record {
               deed = deed;
               if_done = λ v. absurd (true≢false (sym v ∙ w));
@@ -139,7 +145,8 @@ module _ (d : Taken) where
           )
           k.least
 
-  pub told_all : (z : PlanState) (c : ℕ → ℕ) (ms : Marks) (us : List PlanUnit) → did_of (whole ms) ≡ map (deed_of d) us → NumberedFrom c us → IsCut deeds ms → ((t : ℕ) → count z t ≡ c t) → Told (count (behind z ms)) ms us
+  pub told_all : (z : PlanState) (c : ℕ → ℕ) (ms : Marks) (us : List PlanUnit) → did_of (whole ms) ≡ map (deed_of d) us → NumberedFrom c us → IsCut deeds ms
+      → ((t : ℕ) → count z t ≡ c t) → Told (count (behind z ms)) ms us
   told_all z c ms us e n h f = (counted z c ms us e n h (λ t. inl (f t))).all
 
   -- ---- around one mark
@@ -159,10 +166,19 @@ module _ (d : Taken) where
   around n (k ∷ before) m after [] h = absurd h
   around n (k ∷ before) m after (u ∷ us) h =
       let a = around n before m after us h.1 in
-      record { earlier = u ∷ a.earlier; at = a.at; later = a.later; is = ap (λ (l : List PlanUnit). u ∷ l) a.is; told_before = (h.0, a.told_before); told_at = a.told_at; told_after = a.told_after }
+      record {
+        earlier = u ∷ a.earlier;
+        at = a.at;
+        later = a.later;
+        is = ap (λ (l : List PlanUnit). u ∷ l) a.is;
+        told_before = (h.0, a.told_before);
+        told_at = a.told_at;
+        told_after = a.told_after;
+      }
 
   -- the mark of a unit
-  pub mark_of : {P : Mark (Timed PlanDeed) → Type 0} (n : ℕ → ℕ) (ms : Marks) (us : List PlanUnit) (w : PlanUnit) → Told n ms us → AllOf P ms → Has us w → (m : Mark (Timed PlanDeed)) × IsMarked n m w × P m
+  pub mark_of : {P : Mark (Timed PlanDeed) → Type 0} (n : ℕ → ℕ) (ms : Marks) (us : List PlanUnit) (w : PlanUnit) → Told n ms us → AllOf P ms → Has us w
+      → (m : Mark (Timed PlanDeed)) × IsMarked n m w × P m
   mark_of n [] [] w h a k = absurd k
   mark_of n [] (u ∷ us) w h a k = absurd h
   mark_of n (m ∷ ms) [] w h a k = absurd h

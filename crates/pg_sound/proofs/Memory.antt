@@ -1,5 +1,6 @@
 -- Of a prefix that keeps the invariant: what a live step may read was last written by its source under the decisions.
-use Rattle.std.proofs.Common.{◌≡◌, ℕ, ℤ, ◌⊎◌, ◌<◌, ◌++◌, ◌||◌, Bool, true, false, List, [], ◌∷◌, arith, Option, Some, None, refl, sym, ap, ◌∙◌, subst, inl, inr, append_assoc}
+use Rattle.std.proofs.Common.{◌≡◌, ℕ, ℤ, ◌⊎◌, ◌<◌, ◌++◌, ◌||◌, Bool, true, false, List, [], ◌∷◌, arith, Option, Some, None, refl, sym, ap, ◌∙◌, subst}
+use Rattle.std.proofs.Common.{inl, inr, append_assoc}
 use Rattle.std.specs.Prelude.{if◌then◌else◌}
 use Rattle.std.specs.List.{AllByRecursion as AllOf}
 use Rattle.std.proofs.lemmas.Bool.{and_from, cases_eq, or_left, or_right, true≢false}
@@ -39,7 +40,8 @@ no_source : (d : Taken) (b : ℕ) (us : List PlanUnit) → source_in d b us ≡ 
 no_source d b [] e = tt
 no_source d b (u ∷ us) e = go (source_in d b us) refl (writes_cell d u.seen b) refl e (λ k. no_source d b us k)
   where
-    go : (o : Option PlanUnit) → source_in d b us ≡ o → (w : Bool) → writes_cell d u.seen b ≡ w → Rattle.pg_sound.specs.Prefixes.or_earlier o (if w then Some u else None) ≡ None → (source_in d b us ≡ None → AllOf (λ (u : PlanUnit). writes_cell d u.seen b ≡ false) us) → AllOf (λ (u : PlanUnit). writes_cell d u.seen b ≡ false) (u ∷ us)
+    go : (o : Option PlanUnit) → source_in d b us ≡ o → (w : Bool) → writes_cell d u.seen b ≡ w → Rattle.pg_sound.specs.Prefixes.or_earlier o (if w then Some u else None) ≡ None
+        → (source_in d b us ≡ None → AllOf (λ (u : PlanUnit). writes_cell d u.seen b ≡ false) us) → AllOf (λ (u : PlanUnit). writes_cell d u.seen b ≡ false) (u ∷ us)
     go (Some v) k w q h more = absurd cc
     go None k true q h more = absurd cc
     go None k false q h more = (q, more k)
@@ -48,12 +50,14 @@ source : (d : Taken) (b : ℕ) (us : List PlanUnit) (v : PlanUnit) → source_in
 source d b [] v e = absurd cc
 source d b (u ∷ us) v e = go (source_in d b us) refl (writes_cell d u.seen b) refl e (λ k. source d b us v k)
   where
-    go : (o : Option PlanUnit) → source_in d b us ≡ o → (w : Bool) → writes_cell d u.seen b ≡ w → Rattle.pg_sound.specs.Prefixes.or_earlier o (if w then Some u else None) ≡ Some v → (source_in d b us ≡ Some v → Source d b us v) → Source d b (u ∷ us) v
+    go : (o : Option PlanUnit) → source_in d b us ≡ o → (w : Bool) → writes_cell d u.seen b ≡ w → Rattle.pg_sound.specs.Prefixes.or_earlier o (if w then Some u else None) ≡ Some v
+        → (source_in d b us ≡ Some v → Source d b us v) → Source d b (u ∷ us) v
     go (Some x) k w q h more =
         let same : x ≡ v = cc in
         let s = more (k ∙ ap (λ (y : PlanUnit). Some y) same) in
         record { earlier = u ∷ s.earlier; later = s.later; is = ap (λ (l : List PlanUnit). u ∷ l) s.is; writes = s.writes; last = s.last }
-    go None k true q h more = let same : u ≡ v = cc in record { earlier = []; later = us; is = ap (λ (y : PlanUnit). y ∷ us) same; writes = subst (λ (y : PlanUnit). writes_cell d y.seen b ≡ true) same q; last = no_source d b us k }
+    go None k true q h more = let same : u ≡ v =
+        cc in record { earlier = []; later = us; is = ap (λ (y : PlanUnit). y ∷ us) same; writes = subst (λ (y : PlanUnit). writes_cell d y.seen b ≡ true) same q; last = no_source d b us k }
     go None k false q h more = absurd cc
 
 all_false : (d : Taken) (b : ℕ) (us : List PlanUnit) (w : PlanUnit) → AllOf (λ (u : PlanUnit). writes_cell d u.seen b ≡ false) us → Has us w → writes_cell d w.seen b ≡ true → ⊥
@@ -129,13 +133,15 @@ module _ (r : ReferenceRun) (d : Taken) (input : List ℤ) (sums : ℕ → Optio
       go : (us : List PlanUnit) × (vs : List PlanUnit) × (units_of r d ≡ us ++ e.unit ∷ vs) → ⊥
       go p = not_twice p.0 e.unit p.1 p.2 ((in_order before e later p.0 p.1 e.unit is p.2 (inl refl)).1 k)
 
-  module _ (before : List Portion) (e : Portion) (later : List Portion) (us vs : List PlanUnit) (b : ℕ) (is : es ≡ before ++ e ∷ later) (place : units_of r d ≡ us ++ e.unit ∷ vs) (lt : b < MEMORY_BYTES) (reads : reads_cell d e.unit.seen b ≡ true) where
+  module _ (before : List Portion) (e : Portion) (later : List Portion) (us vs : List PlanUnit) (b : ℕ) (is : es ≡ before ++ e ∷ later) (place : units_of r d ≡ us ++ e.unit ∷ vs)
+      (lt : b < MEMORY_BYTES) (reads : reads_cell d e.unit.seen b ≡ true) where
     has_before : (p : Portion) → Has before p → Has es p
     has_before p h = subst (λ (l : List Portion). Has l p) (sym is) (has_left before (e ∷ later) p h)
 
     -- a portion before this one that writes the byte does a unit before this one's
     writer_before : (p : Portion) → Has before p → (x : Step) → Has (p.step ∷ p.inner) x → recorded.writes x b ≡ true → Has us p.unit
-    writer_before p h x k w = (in_order before e later us vs p.unit is place (tied_by d p.unit e.unit b (may_write p (has_before p h) x k b w) (or_left (reads_cell d e.unit.seen b) (writes_cell d e.unit.seen b) reads))).1 (has_done before p h)
+    writer_before p h x k w = (in_order before e later us vs p.unit is place
+        (tied_by d p.unit e.unit b (may_write p (has_before p h) x k b w) (or_left (reads_cell d e.unit.seen b) (writes_cell d e.unit.seen b) reads))).1 (has_done before p h)
 
     from_none : source_in d b us ≡ None → NoneWrites b (steps_in before)
     from_none n = none_in b before (λ p h x k w. all_false d b us p.unit (no_source d b us n) (writer_before p h x k w) (may_write p (has_before p h) x k b w))
@@ -177,7 +183,8 @@ module _ (r : ReferenceRun) (d : Taken) (input : List ℤ) (sums : ℕ → Optio
               ∙ ap (λ (l : List Portion). part.before ++ part.portion ∷ l) (append_assoc f.0 (p ∷ f.1) (e ∷ later))
               ∙ sym (append_assoc part.before (part.portion ∷ []) (f.0 ++ p ∷ (f.1 ++ e ∷ later)))
               ∙ sym (append_assoc (part.before ++ part.portion ∷ []) f.0 (p ∷ (f.1 ++ e ∷ later))))
-              (subst (λ (l : List PlanUnit). Has l p.unit) (sym (done_append (part.before ++ part.portion ∷ []) f.0)) (has_left (units_done (part.before ++ part.portion ∷ [])) (units_done f.0) p.unit k))
+              (subst (λ (l : List PlanUnit). Has l p.unit) (sym (done_append (part.before ++ part.portion ∷ []) f.0))
+              (has_left (units_done (part.before ++ part.portion ∷ [])) (units_done f.0) p.unit k))
 
       later_none : (p : Portion) → Has part.later p → (x : Step) → Has (p.step ∷ p.inner) x → recorded.writes x b ≡ true → ⊥
       later_none p h x k w = go (has_cases s.earlier (v ∷ s.later) p.unit (subst (λ (l : List PlanUnit). Has l p.unit) s.is (writer_before p in_before x k w)))
@@ -189,11 +196,14 @@ module _ (r : ReferenceRun) (d : Taken) (input : List ℤ) (sums : ℕ → Optio
           writes = may_write p (has_before p in_before) x k b w
 
           done_there : Has (units_done part.before) p.unit ⊎ (v ≡ p.unit) → Has (units_done (part.before ++ part.portion ∷ [])) p.unit
-          done_there (inl q) = subst (λ (l : List PlanUnit). Has l p.unit) (sym (done_append part.before (part.portion ∷ []))) (has_left (units_done part.before) (part.portion.unit ∷ []) p.unit q)
-          done_there (inr q) = subst (λ (l : List PlanUnit). Has l p.unit) (sym (done_append part.before (part.portion ∷ []))) (has_right (units_done part.before) (part.portion.unit ∷ []) p.unit (inl (part.unit ∙ q)))
+          done_there (inl q) = subst (λ (l : List PlanUnit). Has l p.unit) (sym (done_append part.before (part.portion ∷ [])))
+              (has_left (units_done part.before) (part.portion.unit ∷ []) p.unit q)
+          done_there (inr q) = subst (λ (l : List PlanUnit). Has l p.unit) (sym (done_append part.before (part.portion ∷ [])))
+              (has_right (units_done part.before) (part.portion.unit ∷ []) p.unit (inl (part.unit ∙ q)))
 
           tied : AreTied d p.unit part.portion.unit
-          tied = tied_by d p.unit part.portion.unit b writes (or_right (reads_cell d part.portion.unit.seen b) (writes_cell d part.portion.unit.seen b) (subst (λ (y : PlanUnit). writes_cell d y.seen b ≡ true) (sym part.unit) s.writes))
+          tied = tied_by d p.unit part.portion.unit b writes
+              (or_right (reads_cell d part.portion.unit.seen b) (writes_cell d part.portion.unit.seen b) (subst (λ (y : PlanUnit). writes_cell d y.seen b ≡ true) (sym part.unit) s.writes))
 
           go : Has s.earlier p.unit ⊎ Has (v ∷ s.later) p.unit → ⊥
           go (inl q) = second p h (done_there (inl ((in_order part.before part.portion (part.later ++ e ∷ later) s.earlier (s.later ++ e.unit ∷ vs) p.unit all_parts place_part tied).0 q)))

@@ -88,9 +88,39 @@ module _ (r : ReferenceRun) (d : Taken) (input : List ℤ) (sums : ℕ → Optio
     pub counted : (t : ℕ) → ((effects a moves).locals t).moves ≡ counts_after (λ t. (a.locals t).moves) (units_done portions) t
     pub stand : (t : ℕ) → StandsBehind (at t) portions (effects a moves) z t
 
+  -- no steps are no moves
+  pub falls_none : (at : ℕ → Option Portion) (s z : State) (a : RunState) (g : ℕ) (c : ℕ → ℕ) → Looks at [] a s c → s ≡ z → Falls at s a g [] z
+  falls_none at s z a g c looks same = record {
+    moves = [];
+    are = tt;
+    fall = refl;
+    counts = c;
+    locals = λ t. by t (looks.locals t);
+    cells = λ b. looks.cells b ∙ ap (λ (v : State). cell_at v b) same;
+    objects = looks.objects ∙ ap objects_of same;
+    portions = [];
+    whole = refl;
+    chained = same;
+    each = tt;
+    along = tt;
+    stand = λ t. stand t (looks.locals t);
+    counted = λ t. refl;
+  }
+    where
+      stand : (t : ℕ) → (a.locals t ≡ (moved s c).locals t) ⊎ (IsLeft r.gated r.program t s × (Left (at t) t s × ((y : Step) → Has [] y → y.thread.0 ≡ t → ⊥)))
+          → StandsBehind (at t) [] a z t
+      stand t (inl e) = inl (ap (λ (l : MovedThread). l.local) e ∙ ap (λ (v : State). local_at v t) same)
+      stand t (inr k) = inr (inl (subst (Left (at t) t) same k.1.0, tt))
+
+      by : (t : ℕ) → (a.locals t ≡ (moved s c).locals t) ⊎ (IsLeft r.gated r.program t s × (Left (at t) t s × ((y : Step) → Has [] y → y.thread.0 ≡ t → ⊥)))
+          → (a.locals t ≡ (moved z c).locals t) ⊎ IsLeft r.gated r.program t z
+      by t (inl e) = inl (e ∙ ap (λ (v : State). (moved v c).locals t) same)
+      by t (inr k) = inr (subst (IsLeft r.gated r.program t) same k.0)
+
   -- ---- a move that does the unit u, from s on by the step x
 
-  module _ (at : ℕ → Option Portion) (x : Step) (s z : State) (c : ℕ → ℕ) (a : RunState) (u : PlanUnit) (own : thread_in u.seen.moment ≡ x.thread.0) (thread : IsThreadLike input (thread_before u) (a.locals (thread_in u.seen.moment)))
+  module _ (at : ℕ → Option Portion) (x : Step) (s z : State) (c : ℕ → ℕ) (a : RunState) (u : PlanUnit) (own : thread_in u.seen.moment ≡ x.thread.0)
+      (thread : IsThreadLike input (thread_before u) (a.locals (thread_in u.seen.moment)))
       (looks_own : a.locals x.thread.0 ≡ (moved s c).locals x.thread.0) (cells : (b : ℕ) → a.cells b ≡ cell_at s b) (objects : a.objects ≡ objects_of s) where
     -- what the unit rests on is alike in s too
     pub rests_alike : IsAlikeFor input d u a → RestsAlike input d u s
@@ -106,19 +136,24 @@ module _ (r : ReferenceRun) (d : Taken) (input : List ℤ) (sums : ℕ → Optio
     in_next p t = if t == x.thread.0 then p else at t
 
     -- how many moves each thread has done behind a move
-    moves_next : (e : RunDeed) → e.thread ≡ x.thread.0 → e.to.moves ≡ suc (c x.thread.0) → (t : ℕ) → ((effect a e).locals t).moves ≡ one_more (owner u) (λ (t : ℕ). (a.locals t).moves) t
+    moves_next : (e : RunDeed) → e.thread ≡ x.thread.0 → e.to.moves ≡ suc (c x.thread.0) → (t : ℕ)
+        → ((effect a e).locals t).moves ≡ one_more (owner u) (λ (t : ℕ). (a.locals t).moves) t
     moves_next e mine to t = by (cases_eq t x.thread.0)
       where
         by : (t ≡ x.thread.0) ⊎ (t ≡ x.thread.0 → ⊥) → ((effect a e).locals t).moves ≡ one_more (owner u) (λ (t : ℕ). (a.locals t).moves) t
-        by (inl k) = ap (λ (l : MovedThread). l.moves) (yes_if (t == e.thread) e.to (a.locals t) (eq-eqb t e.thread (k ∙ sym mine))) ∙ to ∙ ap (λ (l : MovedThread). suc l.moves) (sym looks_own) ∙ ap (λ (i : ℕ). suc (a.locals i).moves) (sym k)
+        by (inl k) = ap (λ (l : MovedThread). l.moves) (yes_if (t == e.thread) e.to (a.locals t) (eq-eqb t e.thread (k ∙ sym mine))) ∙ to
+            ∙ ap (λ (l : MovedThread). suc l.moves) (sym looks_own) ∙ ap (λ (i : ℕ). suc (a.locals i).moves) (sym k)
             ∙ sym (one_more_same (owner u) t (λ (t : ℕ). (a.locals t).moves) (own ∙ sym k))
-        by (inr ne) = ap (λ (l : MovedThread). l.moves) (no_if (t == e.thread) e.to (a.locals t) (ne_eqb t e.thread (λ w. ne (w ∙ mine)))) ∙ sym (one_more_other (owner u) t (λ (t : ℕ). (a.locals t).moves) (λ w. ne (sym w ∙ own)))
+        by (inr ne) = ap (λ (l : MovedThread). l.moves) (no_if (t == e.thread) e.to (a.locals t) (ne_eqb t e.thread (λ w. ne (w ∙ mine))))
+            ∙ sym (one_more_other (owner u) t (λ (t : ℕ). (a.locals t).moves) (λ w. ne (sym w ∙ own)))
 
-    pub along_next : (p : Portion) → p.unit ≡ u → (e : RunDeed) → e.thread ≡ x.thread.0 → e.to.moves ≡ suc (c x.thread.0) → InTurn r d (λ (t : ℕ). (a.locals t).moves) u → (es : List Portion) → AreInTurn r d (λ (t : ℕ). ((effect a e).locals t).moves) es →
+    pub along_next : (p : Portion) → p.unit ≡ u → (e : RunDeed) → e.thread ≡ x.thread.0 → e.to.moves ≡ suc (c x.thread.0) → InTurn r d (λ (t : ℕ). (a.locals t).moves) u
+        → (es : List Portion) → AreInTurn r d (λ (t : ℕ). ((effect a e).locals t).moves) es →
         (u.units ≡ (a.locals (owner u)).moves) × (InTurn r d (λ (t : ℕ). (a.locals t).moves) u × AreInTurn r d (one_more (owner u) (λ (t : ℕ). (a.locals t).moves)) es)
     along_next p is e mine to turn es k = (sym thread.moves, (turn, subst (λ (n : ℕ → ℕ). AreInTurn r d n es) (fun_ext (moves_next e mine to)) k))
 
-    pub counted_next : (e : RunDeed) → e.thread ≡ x.thread.0 → e.to.moves ≡ suc (c x.thread.0) → (ds : List RunDeed) (us : List PlanUnit) → ((t : ℕ) → ((effects (effect a e) ds).locals t).moves ≡ counts_after (λ (t : ℕ). ((effect a e).locals t).moves) us t) →
+    pub counted_next : (e : RunDeed) → e.thread ≡ x.thread.0 → e.to.moves ≡ suc (c x.thread.0) → (ds : List RunDeed) (us : List PlanUnit)
+        → ((t : ℕ) → ((effects (effect a e) ds).locals t).moves ≡ counts_after (λ (t : ℕ). ((effect a e).locals t).moves) us t) →
         (t : ℕ) → ((effects (effect a e) ds).locals t).moves ≡ counts_after (one_more (owner u) (λ (t : ℕ). (a.locals t).moves)) us t
     counted_next e mine to ds us k t = k t ∙ ap (λ (n : ℕ → ℕ). counts_after n us t) (fun_ext (moves_next e mine to))
 

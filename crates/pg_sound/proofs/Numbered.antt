@@ -1,7 +1,8 @@
 -- The units of each thread are numbered in order: by its number a unit is known among its thread's, and so is which are before it.
 use Rattle.std.specs.List.{AllByRecursion as AllOf}
 use Rattle.std.specs.Prelude.{if◌then◌else◌}
-use Rattle.std.proofs.Common.{◌++◌, ◌+◌, ◌<◌, ◌==◌, ◌∙◌, ◌∷◌, ◌≡◌, ◌≤◌, ◌⊎◌, Bool, List, [], ap, arith, cond, false, inl, inr, length, refl, subst, suc, sym, true, ℕ}
+use Rattle.std.proofs.Common.{◌++◌, ◌+◌, ◌<◌, ◌==◌, ◌∙◌, ◌∷◌, ◌≡◌, ◌≤◌, ◌⊎◌, Bool, List, [], ap, arith, cond, false, inl, inr, length, refl}
+use Rattle.std.proofs.Common.{subst, suc, sym, true, ℕ}
 use Rattle.std.proofs.lemmas.Bool.{cases_eq, eq-eqb, eqb-true, ne_eqb}
 use Rattle.pg_plans.proofs.Lists.{cons_head, cons_tail}
 use Rattle.pg_machine.specs.State.{State, initial}
@@ -83,7 +84,8 @@ one_place c (x ∷ us) [] u vs ws n e = absurd (again (subst (λ (v : PlanUnit).
 
     again : Has (us ++ u ∷ vs) x → ⊥
     again h = let k = (has_between (one_more (owner x) c) (us ++ u ∷ vs) x n.1 h).0 in let a = one_more_same (owner x) (owner x) c refl in let b = n.0 in omega (arith, k, a, b)
-one_place c (x ∷ us) (z ∷ zs) u vs ws n e = ap (λ (y : PlanUnit). y ∷ us) (cons_head e) ∙ ap (λ (l : List PlanUnit). z ∷ l) (one_place (one_more (owner x) c) us zs u vs ws n.1 (cons_tail e))
+one_place c (x ∷ us) (z ∷ zs) u vs ws n e = ap (λ (y : PlanUnit). y ∷ us) (cons_head e)
+    ∙ ap (λ (l : List PlanUnit). z ∷ l) (one_place (one_more (owner x) c) us zs u vs ws n.1 (cons_tail e))
 
 -- ---- the units of one thread
 
@@ -99,7 +101,8 @@ pub counts_are : (t : ℕ) (c : ℕ → ℕ) (us : List PlanUnit) → counts_aft
 counts_are t c [] = omega arith
 counts_are t c (u ∷ us) = go (t == owner u) refl (counts_are t (one_more (owner u) c) us)
   where
-    go : (b : Bool) → (t == owner u) ≡ b → counts_after (one_more (owner u) c) us t ≡ one_more (owner u) c t + length (units_by t us) → counts_after (one_more (owner u) c) us t ≡ c t + length (cond b (u ∷ units_by t us) (units_by t us))
+    go : (b : Bool) → (t == owner u) ≡ b → counts_after (one_more (owner u) c) us t ≡ one_more (owner u) c t + length (units_by t us)
+        → counts_after (one_more (owner u) c) us t ≡ c t + length (cond b (u ∷ units_by t us) (units_by t us))
     go true e k = let s = one_more_same (owner u) t c (sym (eqb-true t (owner u) e)) in omega (arith, k, s)
     go false e k = let s : one_more (owner u) c t ≡ c t = no_if (owner u == t) (suc (c t)) (c t) (same_turned (owner u) t ∙ e) in omega (arith, k, s)
 
@@ -119,7 +122,8 @@ pub all_by : (P : PlanUnit → Type 0) (t : ℕ) (us : List PlanUnit) → AllOf 
 all_by P t [] h = tt
 all_by P t (u ∷ us) h = go (t == owner u) refl (all_by P t us h.1)
   where
-    go : (b : Bool) → (t == owner u) ≡ b → AllOf (λ (u : PlanUnit). P u × (owner u ≡ t)) (units_by t us) → AllOf (λ (u : PlanUnit). P u × (owner u ≡ t)) (cond b (u ∷ units_by t us) (units_by t us))
+    go : (b : Bool) → (t == owner u) ≡ b → AllOf (λ (u : PlanUnit). P u × (owner u ≡ t)) (units_by t us)
+        → AllOf (λ (u : PlanUnit). P u × (owner u ≡ t)) (cond b (u ∷ units_by t us) (units_by t us))
     go true e k = ((h.0, sym (eqb-true t (owner u) e)), k)
     go false e k = k
 
@@ -151,11 +155,13 @@ module _ (r : ReferenceRun) (d : Taken) where
   one_unit u v a b e k = one_numbered none_taken (units_of r d) u v units_numbered a b e k
 
   -- of numbered units of the run those with lower numbers are members
-  pub found : (c : ℕ → ℕ) (us : List PlanUnit) (w : PlanUnit) → NumberedFrom c us → AllOf (Has (units_of r d)) us → Has (units_of r d) w → c (owner w) ≤ w.units → w.units < counts_after c us (owner w) → Has us w
+  pub found : (c : ℕ → ℕ) (us : List PlanUnit) (w : PlanUnit) → NumberedFrom c us → AllOf (Has (units_of r d)) us → Has (units_of r d) w → c (owner w) ≤ w.units
+      → w.units < counts_after c us (owner w) → Has us w
   found c [] w n a h le lt = absurd (omega (arith, le, lt))
   found c (u ∷ us) w n a h le lt = go (cases_eq (owner u) (owner w)) (cases_eq w.units (c (owner w))) (λ k. found (one_more (owner u) c) us w n.1 a.1 h k lt)
     where
-      go : (owner u ≡ owner w) ⊎ (owner u ≡ owner w → ⊥) → (w.units ≡ c (owner w)) ⊎ (w.units ≡ c (owner w) → ⊥) → (one_more (owner u) c (owner w) ≤ w.units → Has us w) → Has (u ∷ us) w
+      go : (owner u ≡ owner w) ⊎ (owner u ≡ owner w → ⊥) → (w.units ≡ c (owner w)) ⊎ (w.units ≡ c (owner w) → ⊥)
+          → (one_more (owner u) c (owner w) ≤ w.units → Has us w) → Has (u ∷ us) w
       go (inl e) (inl k) more = inl (one_unit u w a.0 h e (n.0 ∙ ap c e ∙ sym k))
       go (inl e) (inr k) more = inr (more (let s = one_more_same (owner u) (owner w) c e in higher s))
         where
@@ -169,7 +175,8 @@ module _ (r : ReferenceRun) (d : Taken) where
 
   -- ---- the first units of a thread
 
-  first_of : (t k : ℕ) (xs ys : List PlanUnit) → Consecutive k xs → Consecutive k ys → AllOf (λ (u : PlanUnit). Has (units_of r d) u × (owner u ≡ t)) xs → AllOf (λ (u : PlanUnit). Has (units_of r d) u × (owner u ≡ t)) ys →
+  first_of : (t k : ℕ) (xs ys : List PlanUnit) → Consecutive k xs → Consecutive k ys → AllOf (λ (u : PlanUnit). Has (units_of r d) u × (owner u ≡ t)) xs
+      → AllOf (λ (u : PlanUnit). Has (units_of r d) u × (owner u ≡ t)) ys →
       ((w : PlanUnit) → Has (units_of r d) w → owner w ≡ t → k ≤ w.units → Has ys w) → IsFrontOf xs ys
   first_of t k [] ys n m h g f = (ys, refl)
   first_of t k (a ∷ xs) [] n m h g f = absurd (f a h.0.0 h.0.1 (let e = n.0 in omega (arith, e)))
@@ -187,4 +194,5 @@ module _ (r : ReferenceRun) (d : Taken) where
 
   -- units of thread t, numbered from 0 on, are its first
   pub are_first : (t : ℕ) (xs : List PlanUnit) → Consecutive 0 xs → AllOf (λ (u : PlanUnit). Has (units_of r d) u × (owner u ≡ t)) xs → IsFrontOf xs (units_by t (units_of r d))
-  are_first t xs n h = first_of t 0 xs (units_by t (units_of r d)) n (by_thread t none_taken (units_of r d) units_numbered) h (all_by (Has (units_of r d)) t (units_of r d) (has_self (units_of r d))) (λ w x y le. has_by t (units_of r d) w x y)
+  are_first t xs n h = first_of t 0 xs (units_by t (units_of r d)) n (by_thread t none_taken (units_of r d) units_numbered) h
+      (all_by (Has (units_of r d)) t (units_of r d) (has_self (units_of r d))) (λ w x y le. has_by t (units_of r d) w x y)

@@ -3,7 +3,8 @@
 use mathlib.Core.Path.{fun_ext}
 use Rattle.std.specs.List.{AllByRecursion as AllOf}
 use Rattle.std.specs.Prelude.{is_some, slice_get}
-use Rattle.std.proofs.Common.{◌++◌, ◌<◌, ◌^◌, ◌∙◌, ◌∷◌, ◌≡◌, ◌≢◌, ◌⊎◌, Bool, List, Option, Some, ap, arith, false, inl, inr, length, refl, subst, suc, sym, true, ℕ, ℤ}
+use Rattle.std.proofs.Common.{◌++◌, ◌<◌, ◌^◌, ◌∙◌, ◌∷◌, ◌≡◌, ◌≢◌, ◌⊎◌, Bool, List, Option, Some, ap, arith, false, inl, inr, length, refl, subst}
+use Rattle.std.proofs.Common.{suc, sym, true, ℕ, ℤ}
 use Rattle.std.proofs.lemmas.Bool.{true≢false}
 use Rattle.pg_plans.specs.Cuts.{IsBelow, IsCut, Mark, kept, pending, whole}
 use Rattle.pg_plans.specs.Effects.{deeds, effects}
@@ -30,7 +31,8 @@ use Rattle.pg_units.specs.Likes.{IsCellLike, IsThreadLike, PlanThread, like}
 use Rattle.pg_units.specs.Lists.{Has}
 use Rattle.pg_units.specs.Moves.{RunDeed, RunState}
 use Rattle.pg_units.specs.Order.{IsOrderedRun}
-use Rattle.pg_units.specs.Units.{ExtentsArePlain, PlanDeed, PlanUnit, ReferenceRun, cell_known, deed_of, is_event_at, is_instance, plan_of, plan_start, reads_cell, reference_of, turns_of, units_of, writes_cell}
+use Rattle.pg_units.specs.Units.{ExtentsArePlain, PlanDeed, PlanUnit, ReferenceRun, cell_known, deed_of, is_event_at, is_instance, plan_of, plan_start, reads_cell, reference_of, turns_of}
+use Rattle.pg_units.specs.Units.{units_of, writes_cell}
 use Rattle.pg_units.proofs.Along.{IsUnit, all_units}
 use Rattle.pg_units.proofs.Freed.{is_free}
 use Rattle.pg_units.proofs.Members.{all_has, has_cases, has_right}
@@ -63,10 +65,13 @@ conflict_deeds d w u c = record {
   meet = rw (is_some_if (writes_cell d w.seen c.cell) (cell_known w.known c.cell), is_some_if (writes_cell d u.seen c.cell) (cell_known u.known c.cell)) c.meet;
 }
 
-module _ (r : ReferenceRun) (d : Taken) (input : List ℤ) (sums : ℕ → Option RootedList) (turns : List Turn) (o : IsOrderedRun r) (plain : ExtentsArePlain r d) (fresh : StartsAreFresh r d) (remembers : PlanRemembers r d)
-    (closed : IsClosed (reference_of r) d) (admitted : admits (reference_of r) d input ≡ true) (small : length input < 2 ^ 64) (same_turns : owners_of turns ≡ turns_of r) (again : UnitsJoinAgain r sums d) where
+module _ (r : ReferenceRun) (d : Taken) (input : List ℤ) (sums : ℕ → Option RootedList) (turns : List Turn) (o : IsOrderedRun r) (plain : ExtentsArePlain r d) (fresh : StartsAreFresh r d)
+    (remembers : PlanRemembers r d)
+    (closed : IsClosed (reference_of r) d) (admitted : admits (reference_of r) d input ≡ true) (small : length input < 2 ^ 64) (same_turns : owners_of turns ≡ turns_of r)
+    (again : UnitsJoinAgain r sums d) where
   abbrev pub Keeps : RunState → ℕ → Type 0
-  Keeps = follows.Holds (like input) (turns_of r) (plan_start r) (plan_of r d) (IsAnyMove r d input sums turns) (is_plan r d o closed plain) (obeys r d input sums turns o plain fresh remembers closed admitted small same_turns again)
+  Keeps = follows.Holds (like input) (turns_of r) (plan_start r) (plan_of r d) (IsAnyMove r d input sums turns) (is_plan r d o closed plain)
+      (obeys r d input sums turns o plain fresh remembers closed admitted small same_turns again)
 
   pub record Open (a : RunState) (g t : ℕ) : Type 0 where
     pub unit : PlanUnit
@@ -116,7 +121,8 @@ module _ (r : ReferenceRun) (d : Taken) (input : List ℤ) (sums : ℕ → Optio
 
     unit_cells : IsNext → (b : ℕ) → reads_cell d cut.at.seen b ≡ true → IsCellLike input (cell_known cut.at.seen.before b) (a.cells b)
     unit_cells next b w =
-        let k = places.like_cell (like input) (turns_of r) (plan_start r) (plan_of r d) (is_plan r d o closed plain) a g f.before f.after f.step is_whole is_cut below alike earlier next b (sym (ap (λ (q : PlanDeed). q.reads b) cut.image) ∙ w) in
+        let k = places.like_cell (like input) (turns_of r) (plan_start r) (plan_of r d) (is_plan r d o closed plain) a g f.before f.after f.step is_whole is_cut below alike earlier next b
+        (sym (ap (λ (q : PlanDeed). q.reads b) cut.image) ∙ w) in
         subst (λ s. IsCellLike input s (a.cells b)) (memory.cells b)
         (subst (λ (l : List PlanDeed). IsCellLike input ((effects (plan_start r) l).cells b) (a.cells b)) (sym cut.images) k)
 
@@ -126,7 +132,8 @@ module _ (r : ReferenceRun) (d : Taken) (input : List ℤ) (sums : ℕ → Optio
     unit_objects : IsNext → is_event_at cut.at.seen ≡ true → objects_of cut.at.state ≡ a.objects
     unit_objects next w =
         sym memory.objects ∙ ap (λ (l : List PlanDeed). (effects (plan_start r) l).objects) cut.images
-        ∙ places.like_objects (like input) (turns_of r) (plan_start r) (plan_of r d) (is_plan r d o closed plain) a g f.before f.after f.step is_whole is_cut below alike earlier next (event_is ∙ w)
+        ∙ places.like_objects (like input) (turns_of r) (plan_start r) (plan_of r d) (is_plan r d o closed plain) a g f.before f.after f.step is_whole is_cut below alike earlier next
+        (event_is ∙ w)
 
     unit_alike : IsNext → IsAlikeFor input d cut.at a
     unit_alike next = record { thread = unit_thread; cells = unit_cells next; objects = unit_objects next }
@@ -144,7 +151,8 @@ module _ (r : ReferenceRun) (d : Taken) (input : List ℤ) (sums : ℕ → Optio
         (told_all d (plan_start r) none_taken h.cut.marks (units_of r d) (ap did_of h.cut.is_whole ∙ did_times deeds (turns_of r) 0 (plan_of r d)) (units_numbered r d) h.cut.is_cut (λ t. refl))
 
     here : Around d (λ t. (a.locals t).moves) f.before (pending f.step) f.after (units_of r d)
-    here = around d (λ t. (a.locals t).moves) f.before (pending f.step) f.after (units_of r d) (subst (λ (ms : List (Mark (Timed PlanDeed))). Told d (λ t. (a.locals t).moves) ms (units_of r d)) f.parts told)
+    here = around d (λ t. (a.locals t).moves) f.before (pending f.step) f.after (units_of r d)
+        (subst (λ (ms : List (Mark (Timed PlanDeed))). Told d (λ t. (a.locals t).moves) ms (units_of r d)) f.parts told)
 
     same_deed : deed_of d here.at ≡ deed_of d cut.at
     same_deed = sym here.told_at.deed ∙ sym cut.image
@@ -175,7 +183,8 @@ module _ (r : ReferenceRun) (d : Taken) (input : List ℤ) (sums : ℕ → Optio
             (places.open_apart (like input) (turns_of r) (plan_start r) (plan_of r d) (is_plan r d o closed plain) a g f.before f.after f.step is_whole is_cut below alike earlier next) k in
             go m.0 m.1 m.2 m.0.done refl
           where
-            go : (m : Mark (Timed PlanDeed)) → IsMarked d (λ t. (a.locals t).moves) m w → (m.done ≡ false → Conflict deeds m.step.did f.step.did → ⊥) → (b : Bool) → m.done ≡ b → w.units < (a.locals (owner w)).moves
+            go : (m : Mark (Timed PlanDeed)) → IsMarked d (λ t. (a.locals t).moves) m w → (m.done ≡ false → Conflict deeds m.step.did f.step.did → ⊥) → (b : Bool) → m.done ≡ b
+                → w.units < (a.locals (owner w)).moves
             go m t apart true e = t.if_done e
             go m t apart false e = absurd (apart e (subst (λ (q : PlanDeed). Conflict deeds q f.step.did) (sym t.deed) conflict))
 
@@ -185,7 +194,8 @@ module _ (r : ReferenceRun) (d : Taken) (input : List ℤ) (sums : ℕ → Optio
             (places.done_apart (like input) (turns_of r) (plan_start r) (plan_of r d) (is_plan r d o closed plain) a g f.before f.after f.step is_whole is_cut below alike earlier next) k in
             go m.0 m.1 m.2 m.0.done refl
           where
-            go : (m : Mark (Timed PlanDeed)) → IsMarked d (λ t. (a.locals t).moves) m w → (m.done ≡ true → Conflict deeds f.step.did m.step.did → ⊥) → (b : Bool) → m.done ≡ b → ⊥
+            go : (m : Mark (Timed PlanDeed)) → IsMarked d (λ t. (a.locals t).moves) m w → (m.done ≡ true → Conflict deeds f.step.did m.step.did → ⊥) → (b : Bool) → m.done ≡ b
+                → ⊥
             go m t apart true e = apart e (subst (Conflict deeds f.step.did) (sym t.deed) (conflict_back deeds (deed_of d w) f.step.did conflict))
             go m t apart false e = let k = t.if_open e in absurd (omega (arith, k, lt))
 
@@ -205,7 +215,8 @@ module _ (r : ReferenceRun) (d : Taken) (input : List ℤ) (sums : ℕ → Optio
         let next : IsNext = (λ v. (obeys r d input sums turns o plain fresh remembers closed admitted small same_turns again).turn a g e m (kind ∙ v) ∙ ap (λ (i : ℕ). Some i) own) in
         record {
           alike = unit_alike next;
-          fits = subst (λ (q : PlanDeed). Fits (like input) q e) (sym cut.image) (follows.step_fits (like input) (turns_of r) (plan_start r) (plan_of r d) (IsAnyMove r d input sums turns) (is_plan r d o closed plain)
+          fits = subst (λ (q : PlanDeed). Fits (like input) q e) (sym cut.image)
+              (follows.step_fits (like input) (turns_of r) (plan_start r) (plan_of r d) (IsAnyMove r d input sums turns) (is_plan r d o closed plain)
               (obeys r d input sums turns o plain fresh remembers closed admitted small same_turns again) a g f.before f.after f.step is_whole is_cut below alike h.within h.reached earlier e m own);
           turn = in_turn next;
         }

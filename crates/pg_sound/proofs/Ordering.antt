@@ -23,7 +23,8 @@ touch_up r w r' w' f g h = go (or_cases r w h)
     go (inl k) = or_left r' w' (f k)
     go (inr k) = or_right r' w' (g k)
 
-meet_up : (w r v q w' r' v' q' : Bool) → (w ≡ true → w' ≡ true) → (r ≡ true → r' ≡ true) → (v ≡ true → v' ≡ true) → (q ≡ true → q' ≡ true) → ((w && (q || v)) || ((r || w) && v)) ≡ true → ((w' && (q' || v')) || ((r' || w') && v')) ≡ true
+meet_up : (w r v q w' r' v' q' : Bool) → (w ≡ true → w' ≡ true) → (r ≡ true → r' ≡ true) → (v ≡ true → v' ≡ true) → (q ≡ true → q' ≡ true)
+    → ((w && (q || v)) || ((r || w) && v)) ≡ true → ((w' && (q' || v')) || ((r' || w') && v')) ≡ true
 meet_up w r v q w' r' v' q' fw fr fv fq h = go (or_cases (w && (q || v)) ((r || w) && v) h)
   where
     go : ((w && (q || v)) ≡ true) ⊎ (((r || w) && v) ≡ true) → ((w' && (q' || v')) || ((r' || w') && v')) ≡ true
@@ -40,7 +41,8 @@ conflict_up : (e f : Timed RunDeed) (x y : Timed Step) → IsIn e x → IsIn f y
 conflict_up e f x y h k c = record {
   threads = λ q. c.threads (h.steps.thread ∙ q ∙ sym k.steps.thread);
   cell = c.cell;
-  meet = meet_up (recorded.writes x.did c.cell) (recorded.reads x.did c.cell) (recorded.writes y.did c.cell) (recorded.reads y.did c.cell) (is_some (e.did.writes c.cell)) (e.did.reads c.cell) (is_some (f.did.writes c.cell)) (f.did.reads c.cell)
+  meet = meet_up (recorded.writes x.did c.cell) (recorded.reads x.did c.cell) (recorded.writes y.did c.cell) (recorded.reads y.did c.cell) (is_some (e.did.writes c.cell)) (e.did.reads c.cell)
+      (is_some (f.did.writes c.cell)) (f.did.reads c.cell)
       (h.steps.writes c.cell) (h.steps.reads c.cell) (k.steps.writes c.cell) (k.steps.reads c.cell) c.meet;
 }
 
@@ -89,7 +91,8 @@ module _ (T : List ℕ) where
     high = ap (λ (t : ℕ). next_from t T k) h.thread;
   }
 
-  all_in : (k : ℕ) (e : RunDeed) (xs : List Step) → deeds.is_event e ≡ false → AllOf (IsStepOf e) xs → AllOf (λ (x : Step). recorded.is_event x ≡ false) xs → AllOf (IsIn (timed deeds T k e)) (times recorded T k xs)
+  all_in : (k : ℕ) (e : RunDeed) (xs : List Step) → deeds.is_event e ≡ false → AllOf (IsStepOf e) xs → AllOf (λ (x : Step). recorded.is_event x ≡ false) xs
+      → AllOf (IsIn (timed deeds T k e)) (times recorded T k xs)
   all_in k e [] v h q = tt
   all_in k e (x ∷ xs) v h q = (is_in k e x h.0 (q.0 ∙ sym v), subst (λ (b : Bool). AllOf (IsIn (timed deeds T k e)) (times recorded T (done_after b k) xs)) (sym q.0) (all_in k e xs v h.1 q.1))
 
@@ -105,12 +108,14 @@ module _ (T : List ℕ) where
       go : (v : Bool) → deeds.is_event e ≡ v → Group k e xs b.rest
       go true v = record {
         own = timed recorded T k b.first ∷ [];
-        parts = ap (times recorded T k) (b.whole ∙ ap (λ (l : List Step). b.first ∷ (l ++ b.rest)) (b.single v)) ∙ ap (λ (c : Bool). timed recorded T k b.first ∷ times recorded T (done_after c k) b.rest) b.event;
+        parts = ap (times recorded T k) (b.whole ∙ ap (λ (l : List Step). b.first ∷ (l ++ b.rest)) (b.single v))
+            ∙ ap (λ (c : Bool). timed recorded T k b.first ∷ times recorded T (done_after c k) b.rest) b.event;
         inside = (is_in k e b.first b.steps.0 b.event, tt);
       }
       go false v = record {
         own = times recorded T k (b.first ∷ b.inner);
-        parts = ap (times recorded T k) b.whole ∙ quiet_times k (b.first ∷ b.inner) b.rest (b.event ∙ v, b.plain) ∙ ap (λ (c : Bool). times recorded T k (b.first ∷ b.inner) ++ times recorded T (done_after c k) b.rest) (sym v);
+        parts = ap (times recorded T k) b.whole ∙ quiet_times k (b.first ∷ b.inner) b.rest (b.event ∙ v, b.plain)
+            ∙ ap (λ (c : Bool). times recorded T k (b.first ∷ b.inner) ++ times recorded T (done_after c k) b.rest) (sym v);
         inside = all_in k e (b.first ∷ b.inner) v b.steps (b.event ∙ v, b.plain);
       }
 
@@ -120,7 +125,8 @@ module _ (T : List ℕ) where
       let q = group k e xs h.0 in
       let j = done_after (deeds.is_event e) k in
       subst (AllOf (IsInOne (timed deeds T k e ∷ times deeds T j es))) (sym q.parts)
-      (all_join (IsInOne (timed deeds T k e ∷ times deeds T j es)) q.own (times recorded T j h.0.rest) (all_map (λ x w. inl w) q.own q.inside) (all_map (λ x w. inr w) (times recorded T j h.0.rest) (steps_in j h.0.rest es h.1)))
+      (all_join (IsInOne (timed deeds T k e ∷ times deeds T j es)) q.own (times recorded T j h.0.rest) (all_map (λ x w. inl w) q.own q.inside)
+      (all_map (λ x w. inr w) (times recorded T j h.0.rest) (steps_in j h.0.rest es h.1)))
 
   steps_ordered : (k : ℕ) (xs : List Step) (es : List RunDeed) → FallInto xs es → EachPair MovesAt (times deeds T k es) → EachPair StepsAt (times recorded T k xs)
   steps_ordered k xs [] h o = subst (λ (l : List Step). EachPair StepsAt (times recorded T k l)) (sym h) tt

@@ -11,7 +11,7 @@ use Rattle.pg_mem.specs.Bytes.{number_of}
 use Rattle.pg_nodes.specs.declared.check.Test.TheVariants as test
 use Rattle.pg_nodes.specs.Values.{is_met, with_one}
 use Rattle.pg_paths.specs.Followed.{Followed, behind, cell_at, cell_in, followed_from}
-use Rattle.pg_accesses.proofs.Elements.{cases, here, there, none_in}
+use Rattle.pg_paths.proofs.Elements.{cases, here, there, none_in}
 use Rattle.pg_trace.specs.Races.{is_in}
 use Rattle.pg_machine.proofs.Named.{place_is}
 use Rattle.pg_closed.specs.Freeable.{frame_of}
@@ -77,9 +77,11 @@ pub record Follows (now : ByteRange → ℕ) (ks : List ℕ) (w : ℕ) (g : Foll
   pub last : frame_of at.last ≡ frame_of g.last
   pub pointers : (v : ℕ) → Contains at.pointers v → (v0 : ℕ) × Contains g.pointers v0 × (frame_of v ≡ frame_of v0)
 
-tail_pointers : (recorded : ByteRange → ℕ) (g : Followed) (w w0 k : ℕ) (ks : List ℕ) (l : Loads recorded w0 k ks g) (at : Followed) → ((v : ℕ) → Contains at.pointers v → (v0 : ℕ) × Contains l.more.pointers v0 × (frame_of v ≡ frame_of v0)) → moved_by w (pos k) ≡ moved_by w0 (pos k) →
+tail_pointers : (recorded : ByteRange → ℕ) (g : Followed) (w w0 k : ℕ) (ks : List ℕ) (l : Loads recorded w0 k ks g) (at : Followed)
+    → ((v : ℕ) → Contains at.pointers v → (v0 : ℕ) × Contains l.more.pointers v0 × (frame_of v ≡ frame_of v0)) → moved_by w (pos k) ≡ moved_by w0 (pos k) →
     (v : ℕ) → Contains (w ∷ at.pointers) v → (v0 : ℕ) × Contains g.pointers v0 × (frame_of v ≡ frame_of v0)
-tail_pointers recorded g w w0 k ks l at points same v i = subst (λ (z : List ℕ). (v0 : ℕ) × Contains z v0 × (frame_of v ≡ frame_of v0)) (ap (λ (z : Followed). z.pointers) l.whole) (go (cases w at.pointers v i))
+tail_pointers recorded g w w0 k ks l at points same v i = subst (λ (z : List ℕ). (v0 : ℕ) × Contains z v0 × (frame_of v ≡ frame_of v0)) (ap (λ (z : Followed). z.pointers) l.whole)
+    (go (cases w at.pointers v i))
   where
     go : (w ≡ v) ⊎ Contains at.pointers v → (v0 : ℕ) × Contains (w0 ∷ l.more.pointers) v0 × (frame_of v ≡ frame_of v0)
     go (inl e) = (w0, here w0 l.more.pointers, sym (ap frame_of e) ∙ sym (moved_frame w k) ∙ ap frame_of same ∙ moved_frame w0 k)
@@ -95,7 +97,8 @@ module _ (input : List ℤ) (bytes : ℕ → Shadow) (memory : ℕ → ℕ) (rec
       subst (λ (n : ℕ). IsLike input (loaded bytes c.start 8) (Some n)) (sym (is_now c))
       (subst (λ (n : ℕ). IsLike input (loaded bytes c.start n) (Some (number_of memory c.start c.bytes))) e (loaded_like input bytes memory c.start c.bytes h))
 
-  pub follow : (ks : List ℕ) (s : Shadow) (w0 w : ℕ) (g : Followed) → followed_from recorded w0 ks ≡ Some g → IsLike input s (Some w) → AllOf (Holds input) (path_needs bytes s ks g.pointers g.cells g.last) → CellsLike g → Follows now ks w g
+  pub follow : (ks : List ℕ) (s : Shadow) (w0 w : ℕ) (g : Followed) → followed_from recorded w0 ks ≡ Some g → IsLike input s (Some w)
+      → AllOf (Holds input) (path_needs bytes s ks g.pointers g.cells g.last) → CellsLike g → Follows now ks w g
   follow [] s w0 w g e h needs cells = record {
     at = record { pointers = []; cells = []; last = w };
     is = refl;
@@ -104,15 +107,18 @@ module _ (input : List ℤ) (bytes : ℕ → Shadow) (memory : ℕ → ℕ) (rec
   }
   follow (k ∷ ks) s w0 w g e h needs cells = go (loads_of recorded w0 k ks g e) (λ s2 u0 u g2 e2 h2 n2 c2. follow ks s2 u0 u g2 e2 h2 n2 c2)
     where
-      go : Loads recorded w0 k ks g → ((s2 : Shadow) (u0 u : ℕ) (g2 : Followed) → followed_from recorded u0 ks ≡ Some g2 → IsLike input s2 (Some u) → AllOf (Holds input) (path_needs bytes s2 ks g2.pointers g2.cells g2.last) → CellsLike g2 → Follows now ks u g2) → Follows now (k ∷ ks) w g
+      go : Loads recorded w0 k ks g → ((s2 : Shadow) (u0 u : ℕ) (g2 : Followed) → followed_from recorded u0 ks ≡ Some g2 → IsLike input s2 (Some u)
+          → AllOf (Holds input) (path_needs bytes s2 ks g2.pointers g2.cells g2.last) → CellsLike g2 → Follows now ks u g2) → Follows now (k ∷ ks) w g
       go l more =
           let n = subst (λ (z : Followed). AllOf (Holds input) (path_needs bytes s (k ∷ ks) z.pointers z.cells z.last)) (sym l.whole) needs in
           let c = subst CellsLike (sym l.whole) cells in
           let f = n.0.0 in
           let value : f input ≡ Some (moved_by w (pos k)) = moved_value input k s f w n.0.1 h in
-          let same : moved_by w (pos k) ≡ moved_by w0 (pos k) = (let q : Some (moved_by w (pos k)) ≡ Some (moved_by w0 (pos k)) = sym value ∙ met_number (moved_by w0 (pos k)) (f input) n.0.2.0 in cc) in
+          let same : moved_by w (pos k) ≡ moved_by w0 (pos k) =
+          (let q : Some (moved_by w (pos k)) ≡ Some (moved_by w0 (pos k)) = sym value ∙ met_number (moved_by w0 (pos k)) (f input) n.0.2.0 in cc) in
           let cell : cell_at w k ≡ Some l.cell = ap (λ (z : ℕ). cell_in (place_of z 8)) same ∙ l.at in
-          let r = more (loaded bytes l.cell.start 8) (recorded l.cell) (now l.cell) l.more l.is (loads_like l.cell (cell_bytes w0 k l.cell l.at) (c l.cell (here l.cell l.more.cells))) n.1 (λ d i. c d (there l.cell l.more.cells d i)) in
+          let r = more (loaded bytes l.cell.start 8) (recorded l.cell) (now l.cell) l.more l.is (loads_like l.cell (cell_bytes w0 k l.cell l.at) (c l.cell (here l.cell l.more.cells))) n.1
+          (λ d i. c d (there l.cell l.more.cells d i)) in
           record {
             at = record { pointers = w ∷ r.at.pointers; cells = l.cell ∷ r.at.cells; last = r.at.last };
             is = ap (λ (o : Option ByteRange). option_and_then (λ (d : ByteRange). behind w d (followed_from now (now d) ks)) o) cell ∙ ap (behind w l.cell) r.is;
@@ -154,14 +160,16 @@ module _ (input : List ℤ) (bytes : ℕ → Shadow) (memory : ℕ → ℕ) (rec
 
   value_root : (s : Shadow) (v : Option ℕ) (k n : ℕ) (f : OnInput) → IsLike input s v → value_of (moved_shadow k s) ≡ Some f → f input ≡ Some n → (w : ℕ) × (v ≡ Some w)
   value_root (Known g u) v k n f h e m =
-      let same : (λ i. with_one (g i) (λ word. Some (moved_by word (pos k)))) ≡ f = (let q : Some (λ (i : List ℤ). with_one (g i) (λ word. Some (moved_by word (pos k)))) ≡ Some f = e in cc) in
+      let same : (λ i. with_one (g i) (λ word. Some (moved_by word (pos k)))) ≡ f =
+      (let q : Some (λ (i : List ℤ). with_one (g i) (λ word. Some (moved_by word (pos k)))) ≡ Some f = e in cc) in
       let q = one_there (g input) k n (ap (λ (z : OnInput). z input) same ∙ m) in
       (q.0, h.0 ∙ q.1)
   value_root (Framed g x) v k n f h e m = absurd cc
   value_root (Unknown x) v k n f h e m = absurd cc
 
   -- what is asked of a path asks that its root has a value
-  pub root_there : (ks : List ℕ) (s : Shadow) (v : Option ℕ) (w0 : ℕ) (g : Followed) → followed_from recorded w0 ks ≡ Some g → IsLike input s v → AllOf (Holds input) (path_needs bytes s ks g.pointers g.cells g.last) → (w : ℕ) × (v ≡ Some w)
+  pub root_there : (ks : List ℕ) (s : Shadow) (v : Option ℕ) (w0 : ℕ) (g : Followed) → followed_from recorded w0 ks ≡ Some g → IsLike input s v
+      → AllOf (Holds input) (path_needs bytes s ks g.pointers g.cells g.last) → (w : ℕ) × (v ≡ Some w)
   root_there [] s v w0 g e h needs = frame_root s v g.last h needs.0
   root_there (k ∷ ks) s v w0 g e h needs =
       let l = loads_of recorded w0 k ks g e in

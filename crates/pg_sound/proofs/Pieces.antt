@@ -1,21 +1,19 @@
 -- The front of an unbroken run, and the instance at the front of steps of one thread.
 use Rattle.std.specs.List.{AllByRecursion as AllOf}
 use Rattle.std.specs.Prelude.{slice_get}
-use Rattle.std.proofs.Common.{◌++◌, ◌==◌, ◌∙◌, ◌∷◌, ◌≡◌, ◌⊎◌, Bool, List, Some, [], ap, arith, cond, inl, inr, refl, subst, true, ℕ, ℤ}
+use Rattle.std.proofs.Common.{◌++◌, ◌==◌, ◌∙◌, ◌∷◌, ◌≡◌, ◌⊎◌, Bool, List, Some, [], ap, arith, cond, inl, inr, refl, subst, ℕ, ℤ}
 use Rattle.std.proofs.lemmas.Bool.{eq-eqb}
 use Rattle.std.proofs.lemmas.List.Sums.{sum_by-cons}
 use Rattle.pg_ir.specs.declared.ids.InstrId.{InstrId}
 use Rattle.pg_step.specs.LocalState.{LocalState}
 use Rattle.pg_trace.specs.declared.step.Step.{Step}
-use Rattle.pg_machine.specs.MachineStep.{Did, ready, step}
 use Rattle.pg_machine.specs.Runs.{IsRun, steps_of}
 use Rattle.pg_machine.specs.State.{State}
 use Rattle.pg_instances.specs.Inside.{Instance, IsAtJoin, IsInside, Joins}
 use Rattle.pg_instances.specs.Instances.{ChangesLittle}
 use Rattle.pg_instances.specs.Stays.{AreOf, CanStepInside, IsWithinExtent, StaysInside, TellsWithin}
 use Rattle.pg_instances.proofs.Alone.{inside_again}
-use Rattle.pg_instances.proofs.Instances.{has_instance}
-use Rattle.pg_instances.proofs.Machine.{step_stays}
+use Rattle.pg_instances.proofs.Instances.{changes_then, first_stays, has_instance}
 use Rattle.pg_units.specs.Lists.{Has}
 use Rattle.pg_sound.specs.Unbroken.{BeginsWith, IsUnbroken}
 use Rattle.pg_sound.proofs.Stretch.{IsQuietStep, no_turn}
@@ -58,24 +56,40 @@ module _ (I : Instance) (gated : List InstrId) (input : List ℤ) where
     pub tells : AllOf (λ (y : Step). TellsWithin I y.kind) (x ∷ inner)
     pub changes : ChangesLittle I t s state
 
-  little_then : (t : ℕ) (s v z : State) → ChangesLittle I t s v → ChangesLittle I t v z → ChangesLittle I t s z
-  little_then t s v z h k = record {
-    others = λ u ne. k.others u ne ∙ h.others u ne;
-    rest = record { sync = k.rest.sync ∙ h.rest.sync; words = k.rest.words ∙ h.rest.words; printed = k.rest.printed ∙ h.rest.printed; value = k.rest.value ∙ h.rest.value };
-    bytes = λ b lt o. k.bytes b lt o ∙ h.bytes b lt o;
-  }
-
-  pub part : (t : ℕ) (s z : State) (l : LocalState) (x : Step) (ys : List Step) → CanStepInside I gated s t l → IsRun gated I.program input s (x ∷ ys) z → AreOf t (x ∷ ys) → Part t s x ys
+  pub part : (t : ℕ) (s z : State) (l : LocalState) (x : Step) (ys : List Step) → CanStepInside I gated s t l → IsRun gated I.program input s (x ∷ ys) z → AreOf t (x ∷ ys)
+      → Part t s x ys
   part t s z l x ys c run of = go j.goes_on
     where
       j : StaysInside I t l x s run.0.after
-      j = step_stays I gated input s run.0.after t l x c (subst (λ (u : ℕ). ready I.program s u ≡ true) of.0 run.0.is_ready) (subst (λ (u : ℕ). step gated I.program input s u ≡ Did x run.0.after) of.0 run.0.is_step)
+      j = first_stays I gated input s z t l x ys c run of
 
       here : ChangesLittle I t s run.0.after
       here = record { others = j.others; rest = j.rest; bytes = j.bytes }
 
       go : IsInside I j.local ⊎ Joins I l j.local → Part t s x ys
-      go (inr k) = record { inner = []; rest = ys; parts = refl; local = j.local; state = run.0.after; is_local = j.is_local; run = (run.0, refl); ends = inl k.there; tells = (j.tells, tt); changes = here }
+      go (inr k) = record {
+        inner = [];
+        rest = ys;
+        parts = refl;
+        local = j.local;
+        state = run.0.after;
+        is_local = j.is_local;
+        run = (run.0, refl);
+        ends = inl k.there;
+        tells = (j.tells, tt);
+        changes = here;
+      }
       go (inl i) =
           let h = has_instance I gated input run.0.after z t j.local ys (inside_again I gated s run.0.after t l x c j i) run.1 of.1 in
-          record { inner = h.inner; rest = h.rest; parts = h.whole; local = h.local; state = h.state; is_local = h.is_local; run = (run.0, h.front); ends = h.ends; tells = (j.tells, h.tells); changes = little_then t s run.0.after h.state here h.changes }
+          record {
+            inner = h.inner;
+            rest = h.rest;
+            parts = h.whole;
+            local = h.local;
+            state = h.state;
+            is_local = h.is_local;
+            run = (run.0, h.front);
+            ends = h.ends;
+            tells = (j.tells, h.tells);
+            changes = changes_then I t s run.0.after h.state here h.changes;
+          }

@@ -44,7 +44,8 @@ module _ (r : ReferenceRun) (d : Taken) where
 
   module _ (es : List Portion) (turn : AreInTurn r d none_taken es) (has : AllOf (λ (e : Portion). Has (units_of r d) e.unit) es) where
     -- one unit against that of a portion
-    module _ (before : List Portion) (e : Portion) (later : List Portion) (us vs : List PlanUnit) (w : PlanUnit) (is : es ≡ before ++ e ∷ later) (place : units_of r d ≡ us ++ e.unit ∷ vs) where
+    module _ (before : List Portion) (e : Portion) (later : List Portion) (us vs : List PlanUnit) (w : PlanUnit) (is : es ≡ before ++ e ∷ later)
+        (place : units_of r d ≡ us ++ e.unit ∷ vs) where
       has_here : AllOf (λ (p : Portion). Has (units_of r d) p.unit) (before ++ e ∷ later)
       has_here = subst (AllOf (λ (p : Portion). Has (units_of r d) p.unit)) is has
 
@@ -69,9 +70,11 @@ module _ (r : ReferenceRun) (d : Taken) where
         (λ k. (here.turn us vs w place (from_done k) c).1 (has_between none_taken (units_done before) w here.front k).1),
       )
       tied (inl own) = (
-        (λ k. done (from_units k) (let a = (has_between none_taken us w numbers.0 k).1 in let b = numbers.1 in let q = here.number in let s = ap (counts_after none_taken us) own in let t = ap (counts_after none_taken (units_done before)) own in omega (arith, a, b, q, s, t))),
+        (λ k. done (from_units k) (let a = (has_between none_taken us w numbers.0 k).1 in let b = numbers.1 in let q = here.number in let s = ap (counts_after none_taken us) own in
+            let t = ap (counts_after none_taken (units_done before)) own in omega (arith, a, b, q, s, t))),
         (λ k. found r d none_taken us w numbers.0 (all_left_units us (e.unit ∷ vs) place) (from_done k) (omega arith)
-            (let a = (has_between none_taken (units_done before) w here.front k).1 in let b = numbers.1 in let q = here.number in let s = ap (counts_after none_taken us) own in let t = ap (counts_after none_taken (units_done before)) own in omega (arith, a, b, q, s, t))),
+            (let a = (has_between none_taken (units_done before) w here.front k).1 in let b = numbers.1 in let q = here.number in let s = ap (counts_after none_taken us) own in
+            let t = ap (counts_after none_taken (units_done before)) own in omega (arith, a, b, q, s, t))),
       )
 
     pub in_order : AreInOrder r d es
@@ -92,7 +95,8 @@ module _ (r : ReferenceRun) (d : Taken) where
     consecutive_more k (x ∷ us) u h e = (h.0, consecutive_more (suc k) us u h.1 (omega (arith, e)))
 
     -- the unit of thread t that has the next number is its next
-    pub next_of : (t : ℕ) (u : PlanUnit) → Has (units_of r d) u → owner u ≡ t → u.units ≡ counts_after none_taken (units_done es) t → IsFrontOf (units_by t (units_done es) ++ u ∷ []) (units_by t (units_of r d))
+    pub next_of : (t : ℕ) (u : PlanUnit) → Has (units_of r d) u → owner u ≡ t → u.units ≡ counts_after none_taken (units_done es) t
+        → IsFrontOf (units_by t (units_done es) ++ u ∷ []) (units_by t (units_of r d))
     next_of t u h own n = are_first r d t (units_by t (units_done es) ++ u ∷ [])
         (consecutive_more 0 (units_by t (units_done es)) u (by_thread t none_taken (units_done es) (numbered none_taken es turn)) (n ∙ counts_are t none_taken (units_done es)))
         (all_join (λ (v : PlanUnit). Has (units_of r d) v × (owner v ≡ t)) (units_by t (units_done es)) (u ∷ []) (all_by (Has (units_of r d)) t (units_done es) units_have) ((h, own), tt))

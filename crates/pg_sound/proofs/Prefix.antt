@@ -1,69 +1,50 @@
 -- An unbroken permitted run on an admitted input keeps the invariant.
-use Rattle.std.proofs.Common.{◌≡◌, ◌≢◌, ℕ, ℤ, ◌⊎◌, ◌<◌, ◌^◌, length, drop, true, false, List, [], ◌∷◌, Option, None, sym, ap, ◌∙◌, subst, inl, inr, append_assoc}
+use Rattle.std.proofs.Common.{◌≡◌, ◌≢◌, ℕ, ℤ, ◌⊎◌, drop, true, false, List, [], ◌∷◌, Option, None, sym, ap, ◌∙◌, subst, inl, inr}
+use Rattle.std.proofs.Common.{append_assoc}
 use Rattle.std.specs.List.{AllByRecursion as AllOf}
 use Rattle.pg_accesses.specs.Accesses.{RootedList}
 use Rattle.pg_plans.specs.Cuts.{Mark}
 use Rattle.pg_plans.specs.Effects.{deeds, effects}
-use Rattle.pg_plans.specs.Intervals.{IsOrdered, Timed, turns_done, times}
+use Rattle.pg_plans.specs.Intervals.{IsOrdered, Timed, turns_done}
 use Rattle.pg_plans.specs.Plans.{Follows}
 use Rattle.pg_plans.proofs.Follows as follows
-use Rattle.pg_plans.proofs.Follows.{Stands}
 use Rattle.pg_plans.proofs.Lists.{First, all_map, find}
-use Rattle.pg_sync.specs.Sync as sync
 use Rattle.pg_trace.specs.declared.step.Step.{Step}
 use Rattle.pg_trace.specs.declared.turn.Turn.{Turn}
 use Rattle.pg_trace.specs.Races.{recorded}
-use Rattle.pg_trace.specs.Steps.{events}
 use Rattle.pg_machine.specs.Permitted.{IsPermitted, has_turn, turns_left}
-use Rattle.pg_machine.specs.State.{State, initial}
+use Rattle.pg_machine.specs.State.{State}
 use Rattle.pg_effects.specs.PermittedSteps.{none_taken}
-use Rattle.pg_effects.specs.Reached.{IsReached}
 use Rattle.pg_effects.specs.Views.{local_at}
 use Rattle.pg_runs.specs.Cuts.{IsOrderedAlong}
-use Rattle.pg_runs.specs.Deeds.{owners_of}
-use Rattle.pg_closed.specs.Closed.{IsClosed, admits}
 use Rattle.pg_closed.specs.Known.{Taken, thread_of}
-use Rattle.pg_closed.specs.Moments.{thread_in}
-use Rattle.pg_units.specs.Fits.{IsAlikeFor}
 use Rattle.pg_units.specs.Likes.{StandLike, like}
 use Rattle.pg_units.specs.Lists.{Has}
-use Rattle.pg_units.specs.Moves.{LooksTo, RunState, moved}
-use Rattle.pg_units.specs.Order.{IsOrderedRun}
-use Rattle.pg_units.specs.Units.{ExtentsArePlain, PlanDeed, PlanUnit, ReferenceRun, is_instance, plan_of, plan_start, reference_of, standing_of, turns_of, units_of}
+use Rattle.pg_units.specs.Moves.{RunState}
+use Rattle.pg_units.specs.Units.{PlanDeed, ReferenceRun, plan_of, plan_start, standing_of, turns_of, units_of}
 use Rattle.pg_units.proofs.AtUnits.{none_left_by}
 use Rattle.pg_units.proofs.Made.{starts_are_fresh}
 use Rattle.pg_units.proofs.Remembered.{plan_remembers}
 use Rattle.pg_units.proofs.Settled.{is_plan}
-use Rattle.pg_sound.specs.Free.{BeginsInstance, IsAnyMove, UnitsJoinAgain}
+use Rattle.pg_sound.specs.Free.{IsAnyMove}
 use Rattle.pg_sound.specs.Invariant.{Invariant, IsInInstance, Portion, StandsAtNext, owner, units_by, units_done}
 use Rattle.pg_sound.specs.Unbroken.{IsUnbroken}
+use Rattle.pg_sound.proofs.Admitted.{IsAdmitted}
 use Rattle.pg_sound.proofs.Ends as ended
 use Rattle.pg_sound.proofs.Following.{obeys}
-use Rattle.pg_sound.proofs.Moving.{AreInTurn, Falls, StandsBehind}
+use Rattle.pg_sound.proofs.Moving.{AreInTurn, StandsBehind}
 use Rattle.pg_sound.proofs.Numbered.{counts_after}
 use Rattle.pg_sound.proofs.Opens.{Open, open_unit}
 use Rattle.pg_sound.proofs.Ordering.{falls_ordered}
 use Rattle.pg_sound.proofs.Portions as portions
 
-module _ (r : ReferenceRun) (d : Taken) (input : List ℤ) (sums : ℕ → Option RootedList) (turns : List Turn) (o : IsOrderedRun r) (plain : ExtentsArePlain r d) (closed : IsClosed (reference_of r) d) (admitted : admits (reference_of r) d input ≡ true) (small : length input < 2 ^ 64)
-    (same_turns : owners_of turns ≡ turns_of r) (again : UnitsJoinAgain r sums d) (own_turns : events r.steps ≡ turns) (over : sync.over o.last.sync ≡ true)
-    (begins : (u : PlanUnit) (a : RunState) (z : State) (c : ℕ → ℕ) → Has (units_of r d) u → is_instance d u.seen ≡ true → IsAlikeFor input d u a → LooksTo (thread_in u.seen.moment) a (moved z c) → IsReached r.program z → BeginsInstance r sums u z)
+module _ (r : ReferenceRun) (d : Taken) (input : List ℤ) (sums : ℕ → Option RootedList) (turns : List Turn) (given : IsAdmitted r d input sums turns)
     (xs : List Step) (z : State) (h : IsPermitted r.program input turns r.gated xs z) (unbroken : IsUnbroken xs) where
-  abbrev first : RunState
-  first = moved (initial r.program) none_taken
-
-  abbrev fallen : Falls r d input sums turns (λ t. None) (initial r.program) first 0 xs z
-  fallen = ended.fallen r d input sums turns o plain closed admitted small same_turns again own_turns over begins xs z h unbroken
+  open given use {reference, plain, closed, admitted, small, same_turns, again}
+  open ended.facts r d input sums turns given xs z h unbroken use {first, fallen, stands, done_is}
 
   abbrev at : RunState
   at = effects first fallen.moves
-
-  abbrev stands : Stands (like input) (turns_of r) (plan_start r) (plan_of r d) (IsAnyMove r d input sums turns) (is_plan r d o closed plain)
-      (obeys r d input sums turns o plain (starts_are_fresh r d o plain) (plan_remembers r d o plain) closed admitted small same_turns again) at (turns_done deeds 0 fallen.moves) fallen.moves (times deeds (turns_of r) 0 fallen.moves)
-  stands = ended.stands r d input sums turns o plain closed admitted small same_turns again own_turns over begins xs z h unbroken
-
-  done_is : turns_done deeds 0 fallen.moves ≡ length (events xs)
-  done_is = ended.done_is r d input sums turns o plain closed admitted small same_turns again own_turns over begins xs z h unbroken
 
   turn : AreInTurn r d none_taken fallen.portions
   turn = fallen.along
@@ -82,14 +63,16 @@ module _ (r : ReferenceRun) (d : Taken) (input : List ℤ) (sums : ℕ → Optio
       go (inr (inr i)) = inr i
 
   abbrev OpenAt : ℕ → Type 0
-  OpenAt t = Open r d input sums turns o plain (starts_are_fresh r d o plain) (plan_remembers r d o plain) closed admitted small same_turns again at (turns_done deeds 0 fallen.moves) t
+  OpenAt t = Open r d input sums turns reference plain (starts_are_fresh r d reference plain) (plan_remembers r d reference plain) closed admitted small same_turns again at
+      (turns_done deeds 0 fallen.moves) t
 
   at_next : (t : ℕ) → OpenAt t → (at.locals t).local ≡ local_at z t → StandsAtNext r d input fallen.portions t z
   at_next t q e =
       let number : q.unit.units ≡ counts_after none_taken (units_done fallen.portions) t = sym q.thread.moves ∙ ap (λ (i : ℕ). (at.locals i).moves) q.own ∙ fallen.counted t in
       let f = portions.next_of r d fallen.portions turn has t q.unit q.has q.own number in
       let stands : StandLike input (standing_of (local_at q.unit.state (owner q.unit)) (thread_of q.unit.seen.before (owner q.unit)).calls) (local_at z (owner q.unit)) =
-      subst (λ l. StandLike input (standing_of (local_at q.unit.state (owner q.unit)) (thread_of q.unit.seen.before (owner q.unit)).calls) l) (subst (λ (i : ℕ). (at.locals i).local ≡ local_at z i) (sym q.own) e) q.thread.stands in
+      subst (λ l. StandLike input (standing_of (local_at q.unit.state (owner q.unit)) (thread_of q.unit.seen.before (owner q.unit)).calls) l)
+      (subst (λ (i : ℕ). (at.locals i).local ≡ local_at z i) (sym q.own) e) q.thread.stands in
       record {
         unit = q.unit;
         later = f.0;
@@ -100,14 +83,19 @@ module _ (r : ReferenceRun) (d : Taken) (input : List ℤ) (sums : ℕ → Optio
   threads : (t : ℕ) → has_turn t (turns_left turns xs) ≡ true → StandsAtNext r d input fallen.portions t z ⊎ IsInInstance r d sums fallen.portions t z
   threads t w = go (find deeds t stands.holds.cut.marks)
     where
-      go : AllOf (λ (m : Mark (Timed PlanDeed)). m.done ≡ false → m.step.did.thread ≢ t) stands.holds.cut.marks ⊎ First deeds t stands.holds.cut.marks → StandsAtNext r d input fallen.portions t z ⊎ IsInInstance r d sums fallen.portions t z
-      go (inl none) = absurd (none_left_by r d input turns o plain (starts_are_fresh r d o plain) (plan_remembers r d o plain) closed admitted small same_turns t (turns_done deeds 0 fallen.moves)
+      go : AllOf (λ (m : Mark (Timed PlanDeed)). m.done ≡ false → m.step.did.thread ≢ t) stands.holds.cut.marks ⊎ First deeds t stands.holds.cut.marks
+          → StandsAtNext r d input fallen.portions t z ⊎ IsInInstance r d sums fallen.portions t z
+      go (inl none) = absurd (none_left_by r d input turns reference plain (starts_are_fresh r d reference plain) (plan_remembers r d reference plain) closed admitted small same_turns t
+          (turns_done deeds 0 fallen.moves)
           (subst (λ (n : ℕ). has_turn t (drop n turns) ≡ true) (sym done_is) w)
-          (follows.no_turn_left (like input) (turns_of r) (plan_start r) (plan_of r d) (IsAnyMove r d input sums turns) (is_plan r d o closed plain)
-          (obeys r d input sums turns o plain (starts_are_fresh r d o plain) (plan_remembers r d o plain) closed admitted small same_turns again) at (turns_done deeds 0 fallen.moves) stands.holds t none))
-      go (inr f) = by (where_is t) (open_unit r d input sums turns o plain (starts_are_fresh r d o plain) (plan_remembers r d o plain) closed admitted small same_turns again at (turns_done deeds 0 fallen.moves) stands.holds t f)
+          (follows.no_turn_left (like input) (turns_of r) (plan_start r) (plan_of r d) (IsAnyMove r d input sums turns) (is_plan r d reference closed plain)
+          (obeys r d input sums turns reference plain (starts_are_fresh r d reference plain) (plan_remembers r d reference plain) closed admitted small same_turns again) at
+          (turns_done deeds 0 fallen.moves) stands.holds t none))
+      go (inr f) = by (where_is t) (open_unit r d input sums turns reference plain (starts_are_fresh r d reference plain) (plan_remembers r d reference plain) closed admitted small same_turns again at
+          (turns_done deeds 0 fallen.moves) stands.holds t f)
         where
-          by : ((at.locals t).local ≡ local_at z t) ⊎ IsInInstance r d sums fallen.portions t z → OpenAt t → StandsAtNext r d input fallen.portions t z ⊎ IsInInstance r d sums fallen.portions t z
+          by : ((at.locals t).local ≡ local_at z t) ⊎ IsInInstance r d sums fallen.portions t z → OpenAt t
+              → StandsAtNext r d input fallen.portions t z ⊎ IsInInstance r d sums fallen.portions t z
           by (inl e) q = inl (at_next t q e)
           by (inr i) q = inr i
 

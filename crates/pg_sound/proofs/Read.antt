@@ -1,5 +1,6 @@
 -- What the paths of a unit's region load, where its branch step is left free, is what the unit reads.
-use Rattle.std.proofs.Common.{◌≡◌, ℕ, ◌+◌, ◌-◌, ◌⊎◌, ◌<◌, ◌≤◌, ◌++◌, zero, suc, not, Bool, true, false, List, [], ◌∷◌, length, arith, Option, Some, None, refl, sym, ap, ◌∙◌, subst, inl, inr}
+use Rattle.std.proofs.Common.{◌≡◌, ℕ, ◌+◌, ◌-◌, ◌⊎◌, ◌<◌, ◌≤◌, ◌++◌, zero, suc, not, Bool, true, false, List, [], ◌∷◌, length, arith, Option, Some}
+use Rattle.std.proofs.Common.{None, refl, sym, ap, ◌∙◌, subst, inl, inr}
 use Rattle.std.specs.Prelude.{Contains, nat_le, nat_lt, option_and_then, pos, if◌then◌else◌}
 use Rattle.std.specs.List.{AllByRecursion as AllOf, list_any}
 use Rattle.std.proofs.lemmas.Bool.{and_from, and_parts, leb-true, lt-ltb, ltb-true}
@@ -18,7 +19,7 @@ use Rattle.pg_paths.specs.Followed.{Followed, behind, cell_at, followed, followe
 use Rattle.pg_paths.specs.Paths.{offsets_of}
 use Rattle.pg_accesses.specs.declared.rooted.Rooted.{Rooted}
 use Rattle.pg_accesses.specs.Accesses.{RootedList}
-use Rattle.pg_accesses.proofs.Elements.{none_in, only_here}
+use Rattle.pg_paths.proofs.Elements.{none_in, only_here}
 use Rattle.pg_quiet.specs.Summaries.{AreSummaries}
 use Rattle.pg_trace.specs.declared.step.Access.{Access}
 use Rattle.pg_trace.specs.declared.step.StepKind.{StepKind}
@@ -42,7 +43,7 @@ use Rattle.pg_units.proofs.Placed.{in_frame, place_range}
 use Rattle.pg_sound.specs.Covered.{HasLoad, IsCovered, before_last}
 use Rattle.pg_sound.specs.Free.{PathsAreRead, ReadsPaths, accesses_of}
 use Rattle.pg_sound.proofs.Covered.{quiet_covered, some_loads}
-use Rattle.pg_sound.proofs.Joins as joins
+use Rattle.pg_sound.proofs.LeftFree as left_free
 use Rattle.pg_sound.proofs.Paths.{cell_of, loads_of, moved_frame}
 use Rattle.pg_sound.proofs.Whole.{some_map}
 
@@ -106,14 +107,16 @@ module _ (p : NumberedProgram) (registers : ℕ → Option ℕ) (memory : ByteRa
     cell : cell_at at.last offset ≡ Some c
 
   one_cell : (a : Rooted) → Contains xs a → (g : Followed) → followed p registers memory a.path ≡ Some g → (c : ByteRange) → Contains g.cells c →
-      ((b : Rooted) → Contains xs b → length (offsets_of b.path.loads) + 1 ≡ length (offsets_of a.path.loads) → (h : Followed) → followed p registers memory b.path ≡ Some h → Contains h.cells c → ReadAt c) → ReadAt c
+      ((b : Rooted) → Contains xs b → length (offsets_of b.path.loads) + 1 ≡ length (offsets_of a.path.loads) → (h : Followed) → followed p registers memory b.path ≡ Some h
+      → Contains h.cells c → ReadAt c) → ReadAt c
   one_cell a i g e c d more = by (before_last a.path.loads) refl
     where
       w : (w : ℕ) × (root_value p registers a.path.root ≡ Some w) × (followed_from memory w (offsets_of a.path.loads) ≡ Some g)
       w = follows_root memory (offsets_of a.path.loads) (root_value p registers a.path.root) g e
 
       by : (o : Option Loads) → before_last a.path.loads ≡ o → ReadAt c
-      by None o = absurd (none_in c (subst (λ (cs : List ByteRange). Contains cs c) (no_cells memory w.0 g (subst (λ (ks : List ℕ). followed_from memory w.0 ks ≡ Some g) (never_loads a.path.loads o) w.2)) d))
+      by None o = absurd (none_in c (subst (λ (cs : List ByteRange). Contains cs c)
+          (no_cells memory w.0 g (subst (λ (ks : List ℕ). followed_from memory w.0 ks ≡ Some g) (never_loads a.path.loads o) w.2)) d))
       by (Some l) o = pick (Contains-append_cases m.front.cells (m.cell ∷ []) c (subst (λ (cs : List ByteRange). Contains cs c) m.cells d))
         where
           b : HasLoad xs a.path.root l
@@ -135,7 +138,8 @@ module _ (p : NumberedProgram) (registers : ℕ → Option ℕ) (memory : ByteRa
           pick (inl z) = more b.0 b.1 shorter m.front front z
           pick (inr z) = record { access = b.0; among = b.1; reads = b.2; at = m.front; is = front; offset = k.0; cell = m.at ∙ ap (λ (q : ByteRange). Some q) (only_here m.cell c z) }
 
-  read_cells : (n : ℕ) (a : Rooted) → Contains xs a → length (offsets_of a.path.loads) ≤ n → (g : Followed) → followed p registers memory a.path ≡ Some g → (c : ByteRange) → Contains g.cells c → ReadAt c
+  read_cells : (n : ℕ) (a : Rooted) → Contains xs a → length (offsets_of a.path.loads) ≤ n → (g : Followed) → followed p registers memory a.path ≡ Some g → (c : ByteRange)
+      → Contains g.cells c → ReadAt c
   read_cells zero a i le g e c d = one_cell a i g e c d (λ b j k h f z. absurd (omega (arith, k, le)))
   read_cells (suc n) a i le g e c d = one_cell a i g e c d (λ b j k h f z. read_cells n b j (omega (arith, k, le)) h f c z)
 
@@ -155,15 +159,18 @@ in_pointer w k c b h i =
 
 -- ---- units
 
-module _ (r : ReferenceRun) (d : Taken) (program : IsProgram r.program) (sums : ℕ → Option RootedList) (are : AreRegions r.program (λ i. is_gated r.gated i) sums r.regions) (summaries : AreSummaries r.program (λ i. is_gated r.gated i) sums)
+module _ (r : ReferenceRun) (d : Taken) (program : IsProgram r.program) (sums : ℕ → Option RootedList) (are : AreRegions r.program (λ i. is_gated r.gated i) sums r.regions)
+    (summaries : AreSummaries r.program (λ i. is_gated r.gated i) sums)
     (u : PlanUnit) (unit : IsUnit r d u) (free : is_instance d u.seen ≡ true) where
   abbrev q : FreeRegion
-  q = (joins.free_step r d program sums are summaries u.seen u.state unit.met.takes unit.met.reached unit.met.calls unit.met.bytes unit.met.region free).free
+  q = (left_free.free_step r d program sums are summaries u.seen u.state unit.met.takes unit.met.reached unit.met.calls unit.met.bytes unit.met.region free).free
 
   reads_there : (c : ℕ) → c < MEMORY_BYTES → list_any (λ f. is_read_in f c) (prints_in (Some q)) ≡ true → reads_cell d u.seen c ≡ true
   reads_there c lt h =
-      let f = joins.free_step r d program sums are summaries u.seen u.state unit.met.takes unit.met.reached unit.met.calls unit.met.bytes unit.met.region free in
-      ap (λ (k : StepKind). if nat_lt c MEMORY_BYTES then list_any (λ f. is_read_in f c) (access_touch d u.seen.number (access_in k) ++ (if is_instance d u.seen then prints_in u.seen.region else [])) else is_thread (word_read (thread_in u.seen.moment) k) (c - MEMORY_BYTES)) f.kind
+      let f = left_free.free_step r d program sums are summaries u.seen u.state unit.met.takes unit.met.reached unit.met.calls unit.met.bytes unit.met.region free in
+      ap (λ (k : StepKind). if nat_lt c MEMORY_BYTES then list_any (λ f. is_read_in f c)
+      (access_touch d u.seen.number (access_in k) ++ (if is_instance d u.seen then prints_in u.seen.region else [])) else is_thread (word_read (thread_in u.seen.moment) k)
+      (c - MEMORY_BYTES)) f.kind
       ∙ ap (λ (y : Bool). if y then list_any (λ f. is_read_in f c) (if is_instance d u.seen then prints_in u.seen.region else []) else false) (lt-ltb c MEMORY_BYTES lt)
       ∙ ap (λ (y : Bool). list_any (λ f. is_read_in f c) (if y then prints_in u.seen.region else [])) free
       ∙ ap (λ (z : Option FreeRegion). list_any (λ f. is_read_in f c) (prints_in z)) f.region ∙ h
@@ -172,8 +179,8 @@ module _ (r : ReferenceRun) (d : Taken) (program : IsProgram r.program) (sums : 
   paths_read a i c k b h =
       let p = r.program in
       let m = u.seen.moment in
-      let f = joins.free_step r d program sums are summaries u.seen u.state unit.met.takes unit.met.reached unit.met.calls unit.met.bytes unit.met.region free in
-      let e = joins.freed_there r d program sums are summaries u.seen u.state unit.met.takes unit.met.reached unit.met.calls unit.met.bytes unit.met.region free in
+      let f = left_free.free_step r d program sums are summaries u.seen u.state unit.met.takes unit.met.reached unit.met.calls unit.met.bytes unit.met.region free in
+      let e = left_free.freed_there r d program sums are summaries u.seen u.state unit.met.takes unit.met.reached unit.met.calls unit.met.bytes unit.met.region free in
       let s = source_of p m e.region.accesses.items q.accesses a e.accesses (subst (λ (z : Option FreeRegion). Contains (accesses_of z) a) f.region i) in
       let covered = quiet_covered p (λ i. is_gated r.gated i) sums program summaries false e.region.blocks.items e.region.accesses.items e.is_region.join.quiet in
       let z = read_cells p (registers_by (registers_in m.calls)) (number_in m) e.region.accesses.items covered (length (offsets_of s.access.path.loads)) s.access s.among (omega arith) a.at s.is c k in
@@ -181,10 +188,12 @@ module _ (r : ReferenceRun) (d : Taken) (program : IsProgram r.program) (sums : 
       let same : w.0 ≡ z.at = (let y : Some w.0 ≡ Some z.at = sym w.1 ∙ z.is in cc) in
       let at = in_pointer z.at.last z.offset c b z.cell h in
       reads_there b at.1
-      (some_map (λ (f : Footprint). is_read_in f b) (λ (x : FreeAccess). record { bytes = frame_of x.at.last; writes = x.writes }) q.accesses (record { writes = z.access.writes; path = z.access.path; at = w.0 }) w.2
+      (some_map (λ (f : Footprint). is_read_in f b) (λ (x : FreeAccess). record { bytes = frame_of x.at.last; writes = x.writes }) q.accesses
+      (record { writes = z.access.writes; path = z.access.path; at = w.0 }) w.2
       (and_from (not z.access.writes) (is_in (frame_of w.0.last) b) (ap not z.reads) (ap (λ (y : Followed). is_in (frame_of y.last) b) same ∙ at.0)))
 
-pub paths_are_read : (r : ReferenceRun) (d : Taken) (o : IsOrderedRun r) (sums : ℕ → Option RootedList) (are : AreRegions r.program (λ i. is_gated r.gated i) sums r.regions) (summaries : AreSummaries r.program (λ i. is_gated r.gated i) sums) → PathsAreRead r d
+pub paths_are_read : (r : ReferenceRun) (d : Taken) (o : IsOrderedRun r) (sums : ℕ → Option RootedList) (are : AreRegions r.program (λ i. is_gated r.gated i) sums r.regions)
+    (summaries : AreSummaries r.program (λ i. is_gated r.gated i) sums) → PathsAreRead r d
 paths_are_read r d o sums are summaries = go (units_of r d) (all_units r d o)
   where
     go : (us : List PlanUnit) → AllOf (IsUnit r d) us → AllOf (ReadsPaths d) us

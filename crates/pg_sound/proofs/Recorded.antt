@@ -30,7 +30,8 @@ pub plain_events : (xs : List Seen) → AllOf IsPlain xs → AllOf (λ (x : Seen
 plain_events [] h = tt
 plain_events (x ∷ xs) h = (λ e. ap is_some (h.0 e), plain_events xs h.1)
 
-module _ (p : NumberedProgram) (recorded_input : List ℤ) (s : Schedule) (sums : ℕ → Option RootedList) (regions : Regions) (xs : List Step) (d : Taken) (k : IsRecording p recorded_input s sums regions xs) where
+module _ (p : NumberedProgram) (recorded_input : List ℤ) (s : Schedule) (sums : ℕ → Option RootedList) (regions : Regions) (xs : List Step) (d : Taken)
+    (k : IsRecording p recorded_input s sums regions xs) where
   abbrev pub r : ReferenceRun
   r = recording p recorded_input s regions xs
 
@@ -55,7 +56,8 @@ module _ (p : NumberedProgram) (recorded_input : List ℤ) (s : Schedule) (sums 
   pub plain : ExtentsArePlain r d
   plain =
       let h = k.reference in
-      plain_events (seen_in (reference_of r) d) (plain_in (reference_of r) (extents_keep p s.gated sums regions h.regions_are h.program h.summaries recorded_input h.small h.bytes s.turns xs h.printed h.value h.exits) d)
+      plain_events (seen_in (reference_of r) d) (plain_in (reference_of r)
+      (extents_keep p s.gated sums regions h.regions_are h.program h.summaries recorded_input h.small h.bytes s.turns xs h.printed h.value h.exits) d)
 
   pub ordered_run : IsOrderedRun r
   ordered_run = record {

@@ -1,5 +1,6 @@
 -- Stretches of a run: steps of one thread that are no events.
-use Rattle.std.proofs.Common.{◌≡◌, ℕ, ℤ, ◌⊎◌, ◌<◌, ◌≤◌, ◌^◌, ◌==◌, ◌||◌, ◌++◌, Bool, true, false, List, [], ◌∷◌, length, Option, Some, None, refl, sym, ap, ◌∙◌, subst, inl, inr}
+use Rattle.std.proofs.Common.{◌≡◌, ℕ, ℤ, ◌⊎◌, ◌<◌, ◌≤◌, ◌^◌, ◌==◌, ◌||◌, ◌++◌, Bool, true, false, List, [], ◌∷◌, length, Option, Some, None}
+use Rattle.std.proofs.Common.{refl, sym, ap, ◌∙◌, subst, inl, inr}
 use Rattle.std.specs.Prelude.{is_some, if◌then◌else◌}
 use Rattle.std.specs.List.{AllByRecursion as AllOf, list_any}
 use Rattle.std.proofs.lemmas.Bool.{cases_eq, cases_lt, false_from_ne_true, ne_eqb, true≢false}
@@ -95,11 +96,13 @@ module _ (gated : List InstrId) (p : NumberedProgram) (input : List ℤ) where
     pub front : PermittedSteps gated p input s us counts xs state
     pub behind : PermittedSteps gated p input state us counts' ys z
 
-  pub halves : (us : List Turn) (counts : ℕ → ℕ) (s z : State) (xs ys : List Step) → AllOf IsQuietStep xs → PermittedSteps gated p input s us counts (xs ++ ys) z → Halves s us counts xs ys z
+  pub halves : (us : List Turn) (counts : ℕ → ℕ) (s z : State) (xs ys : List Step) → AllOf IsQuietStep xs → PermittedSteps gated p input s us counts (xs ++ ys) z
+      → Halves s us counts xs ys z
   halves us counts s z [] ys q h = record { state = s; counts' = counts; front = refl; behind = h }
   halves us counts s z (x ∷ xs) ys q h =
       let e : turns_behind (event_of x) us ≡ us = ap (λ o. turns_behind o us) (no_turn x q.0) in
-      let k = halves us (one_more x.thread.0 counts) h.0.takes.after z xs ys q.1 (subst (λ (vs : List Turn). PermittedSteps gated p input h.0.takes.after vs (one_more x.thread.0 counts) (xs ++ ys) z) e h.1) in
+      let k = halves us (one_more x.thread.0 counts) h.0.takes.after z xs ys q.1
+      (subst (λ (vs : List Turn). PermittedSteps gated p input h.0.takes.after vs (one_more x.thread.0 counts) (xs ++ ys) z) e h.1) in
       record {
         state = k.state;
         counts' = k.counts';
@@ -116,7 +119,8 @@ module _ (gated : List InstrId) (p : NumberedProgram) (input : List ℤ) where
 
   module _ (program : IsProgram p) (small : length input < 2 ^ 64) where
     -- what a step doesn't write is no cell that it changes
-    unwritten : (counts : ℕ → ℕ) (s : State) (x : Step) → Takes gated p input s x → recorded.is_event x ≡ false → (b : ℕ) → recorded.writes x b ≡ false → is_some (cell_written (effect_of p input s x.thread.0) b) ≡ false
+    unwritten : (counts : ℕ → ℕ) (s : State) (x : Step) → Takes gated p input s x → recorded.is_event x ≡ false → (b : ℕ) → recorded.writes x b ≡ false
+        → is_some (cell_written (effect_of p input s x.thread.0) b) ≡ false
     unwritten counts s x h quiet b w = go (cases_lt b MEMORY_BYTES)
       where
         k : IsTold x (Rattle.pg_runs.specs.Deeds.deed_of p input s counts x)
@@ -126,22 +130,27 @@ module _ (gated : List InstrId) (p : NumberedProgram) (input : List ℤ) where
         go (inl l) = k.writes b l ∙ w
         go (inr g) = false_from_ne_true (is_some (cell_written (effect_of p input s x.thread.0) b)) (λ e. true≢false (sym (k.event ∙ k.word_written b g e) ∙ quiet))
 
-    one_leaves : (us : List Turn) (counts : ℕ → ℕ) (t : ℕ) (s : State) (x : Step) (m : MayTake gated p input s us counts x) → IsReached p s → x.thread.0 ≡ t → recorded.is_event x ≡ false → StretchLeaves t (x ∷ []) s m.takes.after
+    one_leaves : (us : List Turn) (counts : ℕ → ℕ) (t : ℕ) (s : State) (x : Step) (m : MayTake gated p input s us counts x) → IsReached p s → x.thread.0 ≡ t
+        → recorded.is_event x ≡ false → StretchLeaves t (x ∷ []) s m.takes.after
     unfolding moved_by
     one_leaves us counts t s x m reached own quiet =
         let k = (moves_lead gated p input us s counts (moved s counts) (x ∷ []) m.takes.after program small reached (same_refl (moved s counts)) (m, refl)).1 in
         record {
           locals = λ u ne. ap (λ (l : MovedThread). l.local) (sym (k.locals u) ∙ no_if (u == x.thread.0) _ _ (ne_eqb u x.thread.0 (λ q. ne (q ∙ own))));
-          cells = λ b w. sym (k.cells b) ∙ old_kept (cell_written (effect_of p input s x.thread.0) b) (cell_at s b) (unwritten counts s x m.takes quiet b (none_first (recorded.writes x b) false w));
-          objects = sym k.objects ∙ ap (λ (c : Bool). plans.or_old (if c then Some (objects_with (effect_of p input s x.thread.0).thread (effect_of p input s x.thread.0).request (objects_of s)) else None) (objects_of s)) (ap is_some (no_turn x quiet));
+          cells = λ b w. sym (k.cells b) ∙ old_kept (cell_written (effect_of p input s x.thread.0) b) (cell_at s b)
+              (unwritten counts s x m.takes quiet b (none_first (recorded.writes x b) false w));
+          objects = sym k.objects ∙ ap (λ (c : Bool). plans.or_old
+              (if c then Some (objects_with (effect_of p input s x.thread.0).thread (effect_of p input s x.thread.0).request (objects_of s)) else None) (objects_of s)) (ap is_some (no_turn x quiet));
         }
 
-    pub stretch_leaves : (us : List Turn) (counts : ℕ → ℕ) (t : ℕ) (s z : State) (xs : List Step) → PermittedSteps gated p input s us counts xs z → IsReached p s → AreOf t xs → AllOf IsQuietStep xs → StretchLeaves t xs s z
+    pub stretch_leaves : (us : List Turn) (counts : ℕ → ℕ) (t : ℕ) (s z : State) (xs : List Step) → PermittedSteps gated p input s us counts xs z → IsReached p s → AreOf t xs
+        → AllOf IsQuietStep xs → StretchLeaves t xs s z
     stretch_leaves us counts t s z [] h reached own quiet = subst (StretchLeaves t [] s) h (record { locals = λ u ne. refl; cells = λ b w. refl; objects = refl })
     stretch_leaves us counts t s z (x ∷ xs) h reached own quiet =
         let m = h.0 in
         let a = one_leaves us counts t s x m reached own.0 quiet.0 in
-        let b = stretch_leaves (turns_behind (event_of x) us) (one_more x.thread.0 counts) t m.takes.after z xs h.1 (reached_step gated p input s m.takes.after x.thread.0 x program small reached m.takes.is_ready m.takes.is_step) own.1 quiet.1 in
+        let b = stretch_leaves (turns_behind (event_of x) us) (one_more x.thread.0 counts) t m.takes.after z xs h.1
+        (reached_step gated p input s m.takes.after x.thread.0 x program small reached m.takes.is_ready m.takes.is_step) own.1 quiet.1 in
         record {
           locals = λ u ne. b.locals u ne ∙ a.locals u ne;
           cells = λ c w. b.cells c (none_second (recorded.writes x c) _ w) ∙ a.cells c (ap (λ (k : Bool). k || false) (none_first (recorded.writes x c) _ w));

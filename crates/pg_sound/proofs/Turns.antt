@@ -1,7 +1,8 @@
 -- On an admitted input the owner of the next turn does it, or doesn't come so far.
 use Rattle.std.specs.List.{AllByRecursion as AllOf, filter}
 use Rattle.std.specs.Prelude.{◌&&◌, is_some, slice_get}
-use Rattle.std.proofs.Common.{◌++◌, ◌+◌, ◌<◌, ◌^◌, ◌∙◌, ◌∷◌, ◌≡◌, ◌≢◌, ◌⊎◌, Bool, List, None, Option, Some, [], ap, arith, cond, drop, false, inl, inr, length, map, refl, subst, sym, take, true, ℕ, ℤ}
+use Rattle.std.proofs.Common.{◌++◌, ◌+◌, ◌∙◌, ◌∷◌, ◌≡◌, ◌≢◌, ◌⊎◌, Bool, List, None, Option, Some, [], ap, arith, cond, drop, false}
+use Rattle.std.proofs.Common.{inl, inr, length, map, refl, subst, sym, take, true, ℕ, ℤ}
 use Rattle.std.proofs.lemmas.Bool.{true≢false}
 use Rattle.std.proofs.lemmas.Option.{slice_get_within}
 use Rattle.pg_plans.specs.Cuts.{IsBelow, IsCut, Mark, kept, pending, whole}
@@ -11,7 +12,6 @@ use Rattle.pg_plans.specs.Plans.{Alike}
 use Rattle.pg_plans.proofs.Cuts as cuts
 use Rattle.pg_plans.proofs.Effects.{objects_part}
 use Rattle.pg_plans.proofs.Firsts.{OpenEvent, find_event, first_chosen, none_behind, same_chosen}
-use Rattle.pg_plans.proofs.Follows.{Stands}
 use Rattle.pg_plans.proofs.Follows as follows
 use Rattle.pg_plans.proofs.Lists.{First, did_append, find, whole_append}
 use Rattle.pg_plans.proofs.Places as places
@@ -31,16 +31,13 @@ use Rattle.pg_machine.specs.Guided.{GuidedRun, cannot_go, guided_of, is_turn}
 use Rattle.pg_machine.specs.MachineStep.{is_ended, may_act, trap_of, turn_of}
 use Rattle.pg_machine.specs.Permitted.{IsPermitted, turns_left}
 use Rattle.pg_machine.specs.Runs.{Takes}
-use Rattle.pg_machine.specs.State.{State, initial, next_of}
+use Rattle.pg_machine.specs.State.{State, next_of}
 use Rattle.pg_machine.specs.declared.guided_end.GuidedEnd.TheVariants as ends
 use Rattle.pg_machine.proofs.Asks.{next_is, ready_acts}
 use Rattle.pg_machine.proofs.GuidedPermitted.{guided_permitted}
 use Rattle.pg_machine.proofs.GuidedRuns.{guided_is, turn_is_itself}
-use Rattle.pg_closed.specs.Closed.{IsClosed, admits}
 use Rattle.pg_closed.specs.Known.{Taken, fresh_registers, thread_of}
 use Rattle.pg_closed.specs.Moments.{thread_in}
-use Rattle.pg_effects.specs.PermittedSteps.{none_taken}
-use Rattle.pg_effects.specs.Reached.{IsReached}
 use Rattle.pg_effects.specs.Views.{Objects, begun_in, cell_at, local_at, objects_of}
 use Rattle.pg_effects.proofs.Along.{is_going}
 use Rattle.pg_effects.proofs.Few.{did_allowed}
@@ -54,9 +51,9 @@ use Rattle.pg_units.specs.Answered.{Answered, answers}
 use Rattle.pg_units.specs.Fits.{IsAlikeFor, IsRemembered, thread_before}
 use Rattle.pg_units.specs.Likes.{IsCellLike, IsThreadLike, MovedThread, PlanThread, StandLike, like}
 use Rattle.pg_units.specs.Lists.{Has}
-use Rattle.pg_units.specs.Moves.{LooksTo, RunDeed, RunState, moved}
-use Rattle.pg_units.specs.Order.{IsOrderedRun}
-use Rattle.pg_units.specs.Units.{ExtentsArePlain, PlanDeed, PlanUnit, ReferenceRun, cell_known, deed_of, is_event_at, is_instance, plan_of, plan_start, reads_cell, reference_of, standing_of, turns_of, units_of}
+use Rattle.pg_units.specs.Moves.{RunDeed, moved}
+use Rattle.pg_units.specs.Units.{PlanDeed, PlanUnit, ReferenceRun, cell_known, deed_of, is_event_at, is_instance, plan_of, plan_start, reads_cell, reference_of, standing_of}
+use Rattle.pg_units.specs.Units.{turns_of, units_of}
 use Rattle.pg_units.proofs.Along.{IsUnit}
 use Rattle.pg_units.proofs.Counted as counted
 use Rattle.pg_units.proofs.Dispatch.{both_fits}
@@ -76,33 +73,24 @@ use Rattle.pg_units.proofs.Replies.{answered_turns, map_join, plan_answer}
 use Rattle.pg_units.proofs.Settled.{is_plan}
 use Rattle.pg_units.proofs.Starts.{start_fits}
 use Rattle.pg_units.proofs.StepFits.{good_at, unit_at, words_at}
-use Rattle.pg_units.proofs.Stuck.{IsStuck, StuckAt, guided_strays}
+use Rattle.pg_runs.proofs.Stuck.{IsStuck, StuckAt, guided_strays}
 use Rattle.pg_units.proofs.Turns.{is_some_if}
-use Rattle.pg_sound.specs.Free.{BeginsInstance, IsAnyMove, UnitsJoinAgain, begun_instance}
+use Rattle.pg_sound.specs.Free.{IsAnyMove, begun_instance}
 use Rattle.pg_sound.specs.Unbroken.{IsUnbroken}
+use Rattle.pg_sound.proofs.Admitted.{IsAdmitted}
 use Rattle.pg_sound.proofs.Asks.{allowed_by, asks_turn, can_by, front_length, front_whole, longer, same_head, slice_of, waiting_asks}
 use Rattle.pg_sound.proofs.Ends as ended
 use Rattle.pg_sound.proofs.Following.{obeys}
 use Rattle.pg_sound.proofs.Inside.{IsLeft, begun_within, left_within}
-use Rattle.pg_sound.proofs.Moving.{Falls}
 use Rattle.pg_sound.proofs.Unbroken.{guided_unbroken}
 use Rattle.pg_sound.proofs.Whole.{begun_some}
 
 -- ---- an unbroken permitted run on an admitted input
 
-module _ (r : ReferenceRun) (d : Taken) (input : List ℤ) (sums : ℕ → Option RootedList) (turns : List Turn) (o : IsOrderedRun r) (plain : ExtentsArePlain r d) (closed : IsClosed (reference_of r) d) (admitted : admits (reference_of r) d input ≡ true) (small : length input < 2 ^ 64)
-    (same_turns : owners_of turns ≡ turns_of r) (again : UnitsJoinAgain r sums d) (own_turns : events r.steps ≡ turns) (over : sync.over o.last.sync ≡ true)
-    (begins : (u : PlanUnit) (a : RunState) (z : State) (c : ℕ → ℕ) → Has (units_of r d) u → is_instance d u.seen ≡ true → IsAlikeFor input d u a → LooksTo (thread_in u.seen.moment) a (moved z c) → IsReached r.program z → BeginsInstance r sums u z)
+module _ (r : ReferenceRun) (d : Taken) (input : List ℤ) (sums : ℕ → Option RootedList) (turns : List Turn) (given : IsAdmitted r d input sums turns)
     (xs : List Step) (z : State) (h : IsPermitted r.program input turns r.gated xs z) (unbroken : IsUnbroken xs) where
-  abbrev first : RunState
-  first = moved (initial r.program) none_taken
-
-  abbrev fallen : Falls r d input sums turns (λ t. None) (initial r.program) first 0 xs z
-  fallen = ended.fallen r d input sums turns o plain closed admitted small same_turns again own_turns over begins xs z h unbroken
-
-  abbrev stands : Stands (like input) (turns_of r) (plan_start r) (plan_of r d) (IsAnyMove r d input sums turns) (is_plan r d o closed plain)
-      (obeys r d input sums turns o plain (starts_are_fresh r d o plain) (plan_remembers r d o plain) closed admitted small same_turns again) (effects first fallen.moves) (turns_done deeds 0 fallen.moves) fallen.moves (times deeds (turns_of r) 0 fallen.moves)
-  stands = ended.stands r d input sums turns o plain closed admitted small same_turns again own_turns over begins xs z h unbroken
+  open given use {reference, plain, closed, admitted, small, same_turns, again, own_turns, over, begins}
+  open ended.facts r d input sums turns given xs z h unbroken use {first, fallen, stands, done_is, reached, plan_parts, mine, theirs}
 
   abbrev ds : List RunDeed
   ds = fallen.moves
@@ -112,21 +100,6 @@ module _ (r : ReferenceRun) (d : Taken) (input : List ℤ) (sums : ℕ → Optio
 
   abbrev marks : List (Mark (Timed PlanDeed))
   marks = stands.holds.cut.marks
-
-  done_is : g ≡ length (events xs)
-  done_is = ended.done_is r d input sums turns o plain closed admitted small same_turns again own_turns over begins xs z h unbroken
-
-  reached : IsReached r.program z
-  reached = ended.reached r d input sums turns o plain closed admitted small same_turns again own_turns over begins xs z h unbroken
-
-  plan_parts : did_of (whole marks) ≡ plan_of r d
-  plan_parts = ended.plan_parts r d input sums turns o plain closed admitted small same_turns again own_turns over begins xs z h unbroken
-
-  mine : answers xs ≡ map plan_answer (filter deeds.is_event (did_of (kept marks)))
-  mine = ended.mine r d input sums turns o plain closed admitted small same_turns again own_turns over begins xs z h unbroken
-
-  theirs : map plan_answer (filter deeds.is_event (did_of (whole marks))) ≡ answers r.steps
-  theirs = ended.theirs r d input sums turns o plain closed admitted small same_turns again own_turns over begins xs z h unbroken
 
   abbrev turn_in : Answered → Option Turn
   turn_in a = a.turn
@@ -140,7 +113,8 @@ module _ (r : ReferenceRun) (d : Taken) (input : List ℤ) (sums : ℕ → Optio
     owner : slice_get (turns_of r) g ≡ Some u.thread.0
     owner =
         let plus : g ≡ length (events xs) + 0 = (let n = done_is in omega (arith, n)) in
-        ap (λ (l : List ℕ). slice_get l g) (sym same_turns) ∙ ap (slice_get (owners_of turns)) plus ∙ sym (get_behind r.gated r.program input (length (events xs)) turns 0) ∙ ap (λ (l : List Turn). slice_get (owners_of l) 0) left
+        ap (λ (l : List ℕ). slice_get l g) (sym same_turns) ∙ ap (slice_get (owners_of turns)) plus ∙ sym (get_behind r.gated r.program input (length (events xs)) turns 0)
+        ∙ ap (λ (l : List Turn). slice_get (owners_of l) 0) left
 
     all_turns : map turn_in (answers r.steps) ≡ map as_some (events xs) ++ Some u ∷ map as_some us
     all_turns = answered_turns r.steps ∙ ap (map as_some) (own_turns ∙ sym h.in_order ∙ ap (λ (l : List Turn). events xs ++ l) left) ∙ sym (map_join as_some (events xs) (u ∷ us))
@@ -157,7 +131,8 @@ module _ (r : ReferenceRun) (d : Taken) (input : List ℤ) (sums : ℕ → Optio
       whole_is = ap whole (sym parts) ∙ stands.holds.cut.is_whole
 
       plan_split : plan_of r d ≡ did_of (whole before) ++ p.did ∷ did_of (whole after)
-      plan_split = sym plan_parts ∙ ap (λ (l : List (Mark (Timed PlanDeed))). did_of (whole l)) parts ∙ ap did_of (whole_append before (pending p ∷ after)) ∙ did_append (whole before) (p ∷ whole after)
+      plan_split = sym plan_parts ∙ ap (λ (l : List (Mark (Timed PlanDeed))). did_of (whole l)) parts ∙ ap did_of (whole_append before (pending p ∷ after))
+          ∙ did_append (whole before) (p ∷ whole after)
 
       cut : Split (deed_of d) (units_of r d) (did_of (whole before)) p.did
       cut = split (deed_of d) (units_of r d) (did_of (whole before)) p.did (did_of (whole after)) plan_split
@@ -166,28 +141,34 @@ module _ (r : ReferenceRun) (d : Taken) (input : List ℤ) (sums : ℕ → Optio
       has_unit = subst (λ (l : List PlanUnit). Has l cut.at) (sym cut.is) (has_right cut.before (cut.at ∷ cut.after) cut.at (inl refl))
 
       memory : IsRemembered r d cut.before cut.at
-      memory = plan_remembers r d o plain cut.before cut.at cut.after cut.is
+      memory = plan_remembers r d reference plain cut.before cut.at cut.after cut.is
 
       alike_here : Alike (like input) (effects (plan_start r) (did_of (kept (before ++ pending p ∷ after)))) (effects first ds)
       alike_here = subst (λ (l : List (Mark (Timed PlanDeed))). Alike (like input) (effects (plan_start r) (did_of (kept l))) (effects first ds)) parts stands.holds.cut.alike
 
       module _ (event : deeds.is_event p.did ≡ true) (earlier : AllOf (λ (m : Mark (Timed PlanDeed)). m.done ≡ false → deeds.is_event m.step.did ≡ false) before) where
         behind : AllOf (λ (m : Mark (Timed PlanDeed)). m.done ≡ true → deeds.is_event m.step.did ≡ false) after
-        behind = none_behind (turns_of r) (plan_of r d) (is_plan r d o closed plain) g before after p whole_is (subst (IsBelow g) parts stands.holds.cut.below) event
+        behind = none_behind (turns_of r) (plan_of r d) (is_plan r d reference closed plain) g before after p whole_is (subst (IsBelow g) parts stands.holds.cut.below) event
 
         unit_objects : objects_of cut.at.state ≡ objects_of z
-        unit_objects = sym memory.objects ∙ ap (λ (l : List PlanDeed). (effects (plan_start r) l).objects) cut.images ∙ sym (places.seen (plan_start r) before after p objects_part earlier behind) ∙ alike_here.objects ∙ fallen.objects
+        unit_objects = sym memory.objects ∙ ap (λ (l : List PlanDeed). (effects (plan_start r) l).objects) cut.images
+            ∙ sym (places.seen (plan_start r) before after p objects_part earlier behind) ∙ alike_here.objects ∙ fallen.objects
 
         unit_turn : event_of cut.at.seen.moment.did.did ≡ Some u
         unit_turn =
             let rest = did_of (whole after) in
             let told : answers xs ++ plan_answer p.did ∷ map plan_answer (filter deeds.is_event rest) ≡ answers r.steps =
-            ap (λ (l : List Answered). l ++ plan_answer p.did ∷ map plan_answer (filter deeds.is_event rest)) (mine ∙ ap (λ (l : List (Mark (Timed PlanDeed))). map plan_answer (filter deeds.is_event (did_of (kept l)))) parts)
-            ∙ ap (λ (b : Bool). map plan_answer (filter deeds.is_event (did_of (kept (before ++ pending p ∷ after)))) ++ map plan_answer (cond b (p.did ∷ filter deeds.is_event rest) (filter deeds.is_event rest))) (sym event)
-            ∙ map_join plan_answer (filter deeds.is_event (did_of (kept (before ++ pending p ∷ after)))) (filter deeds.is_event (p.did ∷ rest)) ∙ ap (map plan_answer) (first_chosen deeds.is_event before p after earlier behind)
+            ap (λ (l : List Answered). l ++ plan_answer p.did ∷ map plan_answer (filter deeds.is_event rest))
+            (mine ∙ ap (λ (l : List (Mark (Timed PlanDeed))). map plan_answer (filter deeds.is_event (did_of (kept l)))) parts)
+            ∙ ap (λ (b : Bool). map plan_answer (filter deeds.is_event (did_of (kept (before ++ pending p ∷ after))))
+            ++ map plan_answer (cond b (p.did ∷ filter deeds.is_event rest) (filter deeds.is_event rest))) (sym event)
+            ∙ map_join plan_answer (filter deeds.is_event (did_of (kept (before ++ pending p ∷ after)))) (filter deeds.is_event (p.did ∷ rest))
+            ∙ ap (map plan_answer) (first_chosen deeds.is_event before p after earlier behind)
             ∙ ap (λ (l : List (Mark (Timed PlanDeed))). map plan_answer (filter deeds.is_event (did_of (whole l)))) (sym parts) ∙ theirs in
-            ap (λ (q : PlanDeed). event_of q.told) cut.image ∙ same_head (map as_some (events xs)) (event_of p.did.told) (Some u) (map turn_in (map plan_answer (filter deeds.is_event rest))) (map as_some us)
-            (ap (λ (l : List (Option Turn)). l ++ event_of p.did.told ∷ map turn_in (map plan_answer (filter deeds.is_event rest))) (sym (answered_turns xs)) ∙ map_join turn_in (answers xs) (plan_answer p.did ∷ map plan_answer (filter deeds.is_event rest)) ∙ ap (map turn_in) told ∙ all_turns)
+            ap (λ (q : PlanDeed). event_of q.told) cut.image ∙ same_head (map as_some (events xs)) (event_of p.did.told) (Some u) (map turn_in (map plan_answer (filter deeds.is_event rest)))
+            (map as_some us)
+            (ap (λ (l : List (Option Turn)). l ++ event_of p.did.told ∷ map turn_in (map plan_answer (filter deeds.is_event rest))) (sym (answered_turns xs))
+            ∙ map_join turn_in (answers xs) (plan_answer p.did ∷ map plan_answer (filter deeds.is_event rest)) ∙ ap (map turn_in) told ∙ all_turns)
 
         does : Does
         does = record { unit = cut.at; has = has_unit; objects = unit_objects; turn = unit_turn }
@@ -197,18 +178,20 @@ module _ (r : ReferenceRun) (d : Taken) (input : List ℤ) (sums : ℕ → Optio
     the_unit = go (find_event marks)
       where
         go : AllOf (λ (m : Mark (Timed PlanDeed)). m.done ≡ false → deeds.is_event m.step.did ≡ false) marks ⊎ OpenEvent marks → Does
-        go (inl a) = absurd (longer (map as_some (events xs)) (Some u) (map as_some us) (sym (answered_turns xs) ∙ ap (map turn_in) (mine ∙ ap (map plan_answer) (same_chosen deeds.is_event marks a) ∙ theirs) ∙ all_turns))
+        go (inl a) = absurd (longer (map as_some (events xs)) (Some u) (map as_some us)
+            (sym (answered_turns xs) ∙ ap (map turn_in) (mine ∙ ap (map plan_answer) (same_chosen deeds.is_event marks a) ∙ theirs) ∙ all_turns))
         go (inr e) = does e.before e.after e.step e.parts e.event e.earlier
 
     going : sync.over z.sync ≡ false
     going =
         let w = the_unit in
-        let v = unit_at r d input o plain small closed admitted w.unit w.has in
+        let v = unit_at r d input reference plain small closed admitted w.unit w.has in
         ap (λ (q : Objects). sync.over q.sync) (sym w.objects) ∙ is_going r.program w.unit.state (thread_in w.unit.seen.moment) v.met.takes.is_ready
 
     -- what its owner is stuck at, by the owner's number
     abbrev StuckBy : ℕ → Type 0
-    StuckBy t = (cannot_go z (next_of r.program z t) ≡ true) ⊎ ((w : Turn) × (trap_of z t (next_of r.program z t) ≡ None) × (turn_of r.gated r.program z t ≡ Some w) × ((is_turn w u && may_act z t (next_of r.program z t)) ≡ false))
+    StuckBy t = (cannot_go z (next_of r.program z t) ≡ true)
+        ⊎ ((w : Turn) × (trap_of z t (next_of r.program z t) ≡ None) × (turn_of r.gated r.program z t ≡ Some w) × ((is_turn w u && may_act z t (next_of r.program z t)) ≡ false))
 
     open_goes : (t : ℕ) → is_ended (next_of r.program z t) ≡ false → cannot_go z (next_of r.program z t) ≡ true → ⊥
     open_goes t e c = let q : cannot_go z (next_of r.program z t) ≡ false = rw (going, e) refl in absurd (true≢false (sym c ∙ q))
@@ -257,13 +240,13 @@ module _ (r : ReferenceRun) (d : Taken) (input : List ℤ) (sums : ℕ → Optio
       has = has_unit f.before f.after f.step f.parts
 
       unit : IsUnit r d v
-      unit = unit_at r d input o plain small closed admitted v has
+      unit = unit_at r d input reference plain small closed admitted v has
 
       good : IsGood (reference_of r) d input v.seen
-      good = good_at r d input o plain small closed admitted v has
+      good = good_at r d input reference plain small closed admitted v has
 
       words : length v.seen.before.words ≡ length v.state.locals
-      words = words_at r d input o plain small closed admitted v has
+      words = words_at r d input reference plain small closed admitted v has
 
       is_whole : whole (f.before ++ pending f.step ∷ f.after) ≡ times deeds (turns_of r) 0 (plan_of r d)
       is_whole = whole_is f.before f.after f.step f.parts
@@ -289,14 +272,16 @@ module _ (r : ReferenceRun) (d : Taken) (input : List ℤ) (sums : ℕ → Optio
       -- the thread stands alike, and the cells that the unit reads are alike
       thread : IsThreadLike input (thread_before v) ((effects first ds).locals t)
       thread =
-          let k = places.like_local (like input) (turns_of r) (plan_start r) (plan_of r d) (is_plan r d o closed plain) (effects first ds) g f.before f.after f.step is_whole is_cut below alike earlier in
+          let k = places.like_local (like input) (turns_of r) (plan_start r) (plan_of r d) (is_plan r d reference closed plain)
+          (effects first ds) g f.before f.after f.step is_whole is_cut below alike earlier in
           subst (λ (l : PlanThread). IsThreadLike input l ((effects first ds).locals t)) recalled.thread
           (subst (λ (l : List PlanDeed). IsThreadLike input ((effects (plan_start r) l).locals t) ((effects first ds).locals t)) (sym c.images)
           (subst (λ (q : PlanDeed). IsThreadLike input ((effects (plan_start r) (did_of (whole f.before))).locals q.thread) ((effects first ds).locals q.thread)) (sym c.image) k))
 
       cells : (b : ℕ) → reads_cell d v.seen b ≡ true → IsCellLike input (cell_known v.seen.before b) (cell_at z b)
       cells b w =
-          let k = places.like_cell (like input) (turns_of r) (plan_start r) (plan_of r d) (is_plan r d o closed plain) (effects first ds) g f.before f.after f.step is_whole is_cut below alike earlier next b (sym (ap (λ (q : PlanDeed). q.reads b) c.image) ∙ w) in
+          let k = places.like_cell (like input) (turns_of r) (plan_start r) (plan_of r d) (is_plan r d reference closed plain)
+          (effects first ds) g f.before f.after f.step is_whole is_cut below alike earlier next b (sym (ap (λ (q : PlanDeed). q.reads b) c.image) ∙ w) in
           subst (IsCellLike input (cell_known v.seen.before b)) (fallen.cells b)
           (subst (λ s. IsCellLike input s ((effects first ds).cells b)) (recalled.cells b)
           (subst (λ (l : List PlanDeed). IsCellLike input ((effects (plan_start r) l).cells b) ((effects first ds).cells b)) (sym c.images) k))
@@ -307,10 +292,18 @@ module _ (r : ReferenceRun) (d : Taken) (input : List ℤ) (sums : ℕ → Optio
 
       left_at : (effects first ds).locals t ≡ (moved z fallen.counts).locals t → is_instance d v.seen ≡ true → IsLeft r.gated r.program t z
       left_at here e =
-          let a : IsAlikeFor input d v (effects first ds) = record { thread = thread; cells = λ b w. subst (IsCellLike input (cell_known v.seen.before b)) (sym (fallen.cells b)) (cells b w); objects = λ k. absurd (true≢false (sym k ∙ free_event e)) } in
-          let b = begins v (effects first ds) z fallen.counts has e a (record { locals = λ i q. subst (λ (j : ℕ). (effects first ds).locals j ≡ (moved z fallen.counts).locals j) (sym q) here; cells = fallen.cells; objects = fallen.objects }) reached in
+          let a : IsAlikeFor input d v (effects first ds) =
+          record {
+            thread = thread;
+            cells = λ b w. subst (IsCellLike input (cell_known v.seen.before b)) (sym (fallen.cells b)) (cells b w);
+            objects = λ k. absurd (true≢false (sym k ∙ free_event e));
+          } in
+          let b = begins v (effects first ds) z fallen.counts has e a
+          (record { locals = λ i q. subst (λ (j : ℕ). (effects first ds).locals j ≡ (moved z fallen.counts).locals j) (sym q) here; cells = fallen.cells; objects = fallen.objects })
+          reached in
           left_within (begun_instance r sums v z b) r.gated (read z.memory) b.local b.can.branch b.can.gates b.can.cells (λ k. read-small z.memory k) b.can.within t z
-          (ap begun_in b.is_local ∙ begun_some b.local (begun_within (begun_instance r sums v z b) r.gated (read z.memory) b.local b.can.branch b.can.gates b.can.cells (λ k. read-small z.memory k) b.can.within)) (frames_of r.program z t b.local reached b.is_local)
+          (ap begun_in b.is_local ∙ begun_some b.local (begun_within (begun_instance r sums v z b) r.gated (read z.memory) b.local b.can.branch b.can.gates b.can.cells
+          (λ k. read-small z.memory k) b.can.within)) (frames_of r.program z t b.local reached b.is_local)
 
       -- where it is a single step, and the thread looks as it is
       module _ (here : (effects first ds).locals t ≡ (moved z fallen.counts).locals t) (single : is_instance d v.seen ≡ false) where
@@ -326,7 +319,7 @@ module _ (r : ReferenceRun) (d : Taken) (input : List ℤ) (sums : ℕ → Optio
           event_did = sym (ap deeds.is_event c.image) ∙ is_some_if (is_event_at v.seen) v.objects ∙ event
 
           events_before : AllOf (λ (m : Mark (Timed PlanDeed)). m.done ≡ false → deeds.is_event m.step.did ≡ false) f.before
-          events_before = cuts.open_events deeds (turns_of r) (plan_of r d) (is_plan r d o closed plain) g f.before f.after f.step is_whole is_cut below earlier next event_did
+          events_before = cuts.open_events deeds (turns_of r) (plan_of r d) (is_plan r d reference closed plain) g f.before f.after f.step is_whole is_cut below earlier next event_did
 
           same_objects : objects_of v.state ≡ objects_of z
           same_objects = unit_objects f.before f.after f.step f.parts event_did events_before
@@ -342,7 +335,8 @@ module _ (r : ReferenceRun) (d : Taken) (input : List ℤ) (sums : ℕ → Optio
         at_instruction b (inr k) =
             let p = r.program in
             let can : CanStep (next_of p z t) = can_by z t (next_of p z t) (open_here r d input v z unit b good) k.1 in
-            let same_event = events_alike r.gated p input t v.state z (thread_of v.seen.before t).calls b (facing.can0_at r d input v z unit b good b.x.op refl) (subst CanStep (facing.act_at r d input v z unit b good b.x.op refl) can) in
+            let same_event = events_alike r.gated p input t v.state z (thread_of v.seen.before t).calls b (facing.can0_at r d input v z unit b good b.x.op refl)
+            (subst CanStep (facing.act_at r d input v z unit b good b.x.op refl) can) in
             let seen : local_event r.gated p (local_at z t) ≡ true = (looks r.gated p z t (running t b.h b.f b.fs b.n) reached b.here.local).event ∙ ap is_some k.2 in
             let event : is_event_at v.seen ≡ true = event0 ∙ sym same_event ∙ seen in
             let same = same_objects event in
@@ -350,7 +344,7 @@ module _ (r : ReferenceRun) (d : Taken) (input : List ℤ) (sums : ℕ → Optio
             let on = goes_by r.gated p input z t (next_of p z t) (allowed_by z t (next_of p z t) k.1) may in
             let y = steps_by r.gated p input t z going on.0 on.1 in
             let q : Pair r d input v z fallen.counts y.told = record { unit = unit; plain = single; reached = reached; takes = y.takes; own = y.own; both = b; units = units } in
-            let fit = both_fits r d input o.can.program small v z fallen.counts y.told q good (λ w. same) words cells in
+            let fit = both_fits r d input reference.can.program small v z fallen.counts y.told q good (λ w. same) words cells in
             goes t y.told y.takes y.own (fit.told.turn ∙ same_turn event) (inr k)
 
         none_of : (l : Option LocalState) → StandLike input (standing_of l (thread_of v.seen.before t).calls) None → l ≡ None
@@ -363,12 +357,15 @@ module _ (r : ReferenceRun) (d : Taken) (input : List ℤ) (sums : ℕ → Optio
             let none0 : local_at v.state t ≡ None = none_of (local_at v.state t) (subst (StandLike input (standing_of (local_at v.state t) (thread_of v.seen.before t).calls)) b.none stand_alike) in
             let event : is_event_at v.seen ≡ true = event0 ∙ ap (local_event r.gated p) none0 in
             let same = same_objects event in
-            let on0 = goes_by r.gated p r.input v.state t (next_of p v.state t) (did_allowed r.gated p r.input v.state unit.met.takes.after t v.seen.moment.did.did unit.met.takes.is_step) (ready_acts p v.state t unit.met.takes.is_ready) in
+            let on0 = goes_by r.gated p r.input v.state t (next_of p v.state t) (did_allowed r.gated p r.input v.state unit.met.takes.after t v.seen.moment.did.did unit.met.takes.is_step)
+            (ready_acts p v.state t unit.met.takes.is_ready) in
             let granted0 : local_granted p t (local_at v.state t) (objects_of v.state) ≡ true = (looks r.gated p v.state t (fresh p t b.function) unit.met.reached b.first).granted ∙ on0.1 in
             let granted : local_granted p t (local_at z t) (objects_of z) ≡ true =
-            ap (λ (l : Option LocalState). local_granted p t l (objects_of z)) b.none ∙ ap (local_granted p t None) (sym same) ∙ sym (ap (λ (l : Option LocalState). local_granted p t l (objects_of v.state)) none0) ∙ granted0 in
+            ap (λ (l : Option LocalState). local_granted p t l (objects_of z)) b.none ∙ ap (local_granted p t None) (sym same)
+            ∙ sym (ap (λ (l : Option LocalState). local_granted p t l (objects_of v.state)) none0) ∙ granted0 in
             let y = made granted (slice_get z.locals t) refl in
-            let calls = all_has (λ (w : PlanUnit). (i : ℕ) → slice_get w.state.locals (thread_in w.seen.moment) ≡ Some (fresh r.program (thread_in w.seen.moment) i) → (thread_of w.seen.before (thread_in w.seen.moment)).calls ≡ fresh_registers r.program i ∷ []) (units_of r d) v (starts_are_fresh r d o plain) has b.function b.first in
+            let calls = all_has (λ (w : PlanUnit). (i : ℕ) → slice_get w.state.locals (thread_in w.seen.moment) ≡ Some (fresh r.program (thread_in w.seen.moment) i)
+            → (thread_of w.seen.before (thread_in w.seen.moment)).calls ≡ fresh_registers r.program i ∷ []) (units_of r d) v (starts_are_fresh r d reference plain) has b.function b.first in
             let fit = start_fits r d input v unit single z fallen.counts y.told reached y.takes y.own units (λ w. same) words cells b calls in
             goes t y.told y.takes y.own (fit.told.turn ∙ same_turn event) stuck
           where
@@ -394,7 +391,8 @@ module _ (r : ReferenceRun) (d : Taken) (input : List ℤ) (sums : ℕ → Optio
             go (inl b) =
                 let p = r.program in
                 let can : CanStep (next_of p z t) = subst CanStep (sym k) tt in
-                let same_event = events_alike r.gated p input t v.state z (thread_of v.seen.before t).calls b (facing.can0_at r d input v z unit b good b.x.op refl) (subst CanStep (facing.act_at r d input v z unit b good b.x.op refl) can) in
+                let same_event = events_alike r.gated p input t v.state z (thread_of v.seen.before t).calls b (facing.can0_at r d input v z unit b good b.x.op refl)
+                (subst CanStep (facing.act_at r d input v z unit b good b.x.op refl) can) in
                 let seen : local_event r.gated p (local_at z t) ≡ true = (looks r.gated p z t (running t b.h b.f b.fs b.n) reached b.here.local).event ∙ asks_turn r.gated p z t q k in
                 let event : is_event_at v.seen ≡ true = event0 ∙ sym same_event ∙ seen in
                 unchecked_here r d input v z unit b good (ap (λ (y : Objects). y.sync) (sym (same_objects event))) q k
@@ -424,8 +422,10 @@ module _ (r : ReferenceRun) (d : Taken) (input : List ℤ) (sums : ℕ → Optio
     -- a thread that has a turn left has a unit left
     none_open : AllOf (λ (m : Mark (Timed PlanDeed)). m.done ≡ false → m.step.did.thread ≢ u.thread.0) marks → ⊥
     none_open a =
-        let k = follows.no_turn_left (like input) (turns_of r) (plan_start r) (plan_of r d) (IsAnyMove r d input sums turns) (is_plan r d o closed plain)
-        (obeys r d input sums turns o plain (starts_are_fresh r d o plain) (plan_remembers r d o plain) closed admitted small same_turns again) (effects first ds) g stands.holds u.thread.0 a g (omega arith) owner in
+        let k = follows.no_turn_left (like input) (turns_of r) (plan_start r) (plan_of r d) (IsAnyMove r d input sums turns) (is_plan r d reference closed plain)
+        (obeys r d input sums turns reference plain (starts_are_fresh r d reference plain) (plan_remembers r d reference plain) closed admitted small same_turns again)
+        (effects first ds) g stands.holds u.thread.0 a g
+        (omega arith) owner in
         let n = counted.plan_turns r d plain in
         let w = slice_get_within (turns_of r) g u.thread.0 owner in
         absurd (omega (arith, k, n, w))
@@ -446,9 +446,7 @@ module _ (r : ReferenceRun) (d : Taken) (input : List ℤ) (sums : ℕ → Optio
 
 -- ---- the guided run
 
-module _ (r : ReferenceRun) (d : Taken) (input : List ℤ) (sums : ℕ → Option RootedList) (turns : List Turn) (o : IsOrderedRun r) (plain : ExtentsArePlain r d) (closed : IsClosed (reference_of r) d) (admitted : admits (reference_of r) d input ≡ true) (small : length input < 2 ^ 64)
-    (same_turns : owners_of turns ≡ turns_of r) (again : UnitsJoinAgain r sums d) (own_turns : events r.steps ≡ turns) (over : sync.over o.last.sync ≡ true)
-    (begins : (u : PlanUnit) (a : RunState) (z : State) (c : ℕ → ℕ) → Has (units_of r d) u → is_instance d u.seen ≡ true → IsAlikeFor input d u a → LooksTo (thread_in u.seen.moment) a (moved z c) → IsReached r.program z → BeginsInstance r sums u z) where
+module _ (r : ReferenceRun) (d : Taken) (input : List ℤ) (sums : ℕ → Option RootedList) (turns : List Turn) (given : IsAdmitted r d input sums turns) where
   abbrev w : GuidedRun
   w = guided_of r.program input turns r.gated
 
@@ -465,7 +463,8 @@ module _ (r : ReferenceRun) (d : Taken) (input : List ℤ) (sums : ℕ → Optio
       by : (us : List Turn) → drop w.turns turns ≡ us → StuckAt r.gated r.program input us w.state → ⊥
       by [] q stuck =
           let n : length (events w.trace) ≡ length turns = ap length (told ∙ front_whole w.turns turns q) in
-          absurd (true≢false (sym (ended.finished r d input sums turns o plain closed admitted small same_turns again own_turns over begins w.trace w.state permitted (guided_unbroken r.program input turns r.gated) (omega (arith, n))) ∙ stuck))
+          absurd (true≢false (sym (ended.finished r d input sums turns given w.trace w.state permitted
+          (guided_unbroken r.program input turns r.gated) (omega (arith, n))) ∙ stuck))
       by (u ∷ us) q stuck =
           let left : turns_left turns w.trace ≡ u ∷ us = ap (λ (i : ℕ). drop i turns) (ap length told ∙ front_length w.turns turns u us q) ∙ q in
-          not_stuck r d input sums turns o plain closed admitted small same_turns again own_turns over begins w.trace w.state permitted (guided_unbroken r.program input turns r.gated) u us left stuck
+          not_stuck r d input sums turns given w.trace w.state permitted (guided_unbroken r.program input turns r.gated) u us left stuck

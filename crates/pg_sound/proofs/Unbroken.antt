@@ -1,5 +1,6 @@
 -- The full guided run is unbroken.
-use Rattle.std.proofs.Common.{◌≡◌, ℕ, ℤ, ◌⊎◌, ◌+◌, ◌<◌, zero, suc, List, [], ◌∷◌, ◌++◌, drop, Bool, true, false, Option, Some, None, Result, Ok, Err, refl, sym, ap, ◌∙◌, subst, arith, inl, inr}
+use Rattle.std.proofs.Common.{◌≡◌, ℕ, ℤ, ◌⊎◌, ◌+◌, ◌<◌, zero, suc, List, [], ◌∷◌, ◌++◌, drop, Bool, true, false, Option, Some, None, Result, Ok, Err, refl}
+use Rattle.std.proofs.Common.{sym, ap, ◌∙◌, subst, arith, inl, inr}
 use Rattle.std.specs.Prelude.{◌==◌, ◌&&◌, not, is_some, slice_set, slice_index, if◌then◌else◌}
 use Rattle.std.proofs.lemmas.Bool.{true≢false}
 use Rattle.pg_num.specs.declared.limits.TheConstants.{THREAD_LIMIT}
@@ -58,7 +59,8 @@ unbroken_if p (x ∷ xs) h = (λ e. go (h.0 e), unbroken_if p xs h.1)
     go (inr k) = inr k.1
 
 -- a step of thread t before steps that begin with t, or are none
-goes_before : (p : ℕ → Type 0) (t : ℕ) (x : Step) (xs : List Step) → x.thread.0 ≡ t → BeginsWith t xs ⊎ (p t × (xs ≡ [])) → BeginsWith x.thread.0 xs ⊎ (p x.thread.0 × (steps_of x.thread.0 xs ≡ 0))
+goes_before : (p : ℕ → Type 0) (t : ℕ) (x : Step) (xs : List Step) → x.thread.0 ≡ t → BeginsWith t xs ⊎ (p t × (xs ≡ []))
+    → BeginsWith x.thread.0 xs ⊎ (p x.thread.0 × (steps_of x.thread.0 xs ≡ 0))
 goes_before p t x xs i (inl b) = inl (subst (λ (u : ℕ). BeginsWith u xs) (sym i) b)
 goes_before p t x xs i (inr k) = inr (subst p (sym i) k.0, ap (steps_of x.thread.0) k.1)
 
@@ -77,7 +79,8 @@ module _ (gated : List InstrId) (p : NumberedProgram) (input : List ℤ) where
   unfolding Leaves Stopped
   ends_here u n s e = record { leaves = tt; first = inr ((refl, refl), refl) }
 
-  walked_by : (u : Turn) (n : ℕ) (s : State) (b : Bool) (o : Stepped) (more : State → Walk) → due gated p u s ≡ Ok b → step gated p input s u.thread.0 ≡ o → ((z : State) → Walked u (more z)) → Walked u (on_step s n b o more)
+  walked_by : (u : Turn) (n : ℕ) (s : State) (b : Bool) (o : Stepped) (more : State → Walk) → due gated p u s ≡ Ok b → step gated p input s u.thread.0 ≡ o
+      → ((z : State) → Walked u (more z)) → Walked u (on_step s n b o more)
   unfolding Leaves Stopped BeginsWith turn_if
   walked_by u n s b (Trapped name id) more d e h = ends_here u (suc n) s _
   walked_by u n s true (Did x z) more d e h =
@@ -87,7 +90,8 @@ module _ (gated : List InstrId) (p : NumberedProgram) (input : List ℤ) where
       let i = thread_of gated p input s z u.thread.0 x e in
       record { leaves = (λ q. goes_before (Stopped u (more z).end) u.thread.0 x (more z).trace i (h z).first, (h z).leaves); first = inl i }
 
-  due_walked : (u : Turn) (n : ℕ) (s : State) (d : Result Bool GuidedEnd) → due gated p u s ≡ d → ((z : State) → Walked u (walk n gated p input u z)) → Walked u (on_due s n d (λ b. on_step s n b (step gated p input s u.thread.0) (λ t. walk n gated p input u t)))
+  due_walked : (u : Turn) (n : ℕ) (s : State) (d : Result Bool GuidedEnd) → due gated p u s ≡ d → ((z : State) → Walked u (walk n gated p input u z))
+      → Walked u (on_due s n d (λ b. on_step s n b (step gated p input s u.thread.0) (λ t. walk n gated p input u t)))
   due_walked u n s (Err end) e h = ends_here u (suc n) s end
   due_walked u n s (Ok b) e h = walked_by u n s b (step gated p input s u.thread.0) (λ t. walk n gated p input u t) e refl h
 
@@ -108,7 +112,8 @@ module _ (gated : List InstrId) (p : NumberedProgram) (input : List ℤ) where
     turns : r.turns ≡ k + count
     leaves : Leaves (IsNext (drop count us)) r.trace
 
-  guides_by : (u : Turn) (us : List Turn) (k : ℕ) (w : Walk) (left : List ℕ) (e : Option GuidedEnd) (more : State → List ℕ → GuidedRun) → w.end ≡ e → Walked u w → ((z : State) (rest : List ℕ) → Guides us (k + 1) (more z rest)) → Guides (u ∷ us) k (ended_at w left k e more)
+  guides_by : (u : Turn) (us : List Turn) (k : ℕ) (w : Walk) (left : List ℕ) (e : Option GuidedEnd) (more : State → List ℕ → GuidedRun) → w.end ≡ e → Walked u w
+      → ((z : State) (rest : List ℕ) → Guides us (k + 1) (more z rest)) → Guides (u ∷ us) k (ended_at w left k e more)
   unfolding Stopped IsNext
   guides_by u us k w left (Some e) more q h g = record { count = 0; turns = omega arith; leaves = leaves_more (Stopped u w.end) (IsNext (u ∷ us)) w.trace next h.leaves }
     where
@@ -130,7 +135,8 @@ module _ (gated : List InstrId) (p : NumberedProgram) (input : List ℤ) where
   guides [] k s left = record { count = 0; turns = omega arith; leaves = tt }
   guides (u ∷ us) k s left =
       let w = walk (slice_index left u.thread.0) gated p input u s in
-      guides_by u us k w (slice_set left u.thread.0 w.left) w.end (λ t rest. guided gated p input us (k + 1) t rest) refl (walked u (slice_index left u.thread.0) s) (λ z rest. guides us (k + 1) z rest)
+      guides_by u us k w (slice_set left u.thread.0 w.left) w.end (λ t rest. guided gated p input us (k + 1) t rest) refl (walked u (slice_index left u.thread.0) s)
+      (λ z rest. guides us (k + 1) z rest)
 
   -- ---- the other threads behind it
 
@@ -149,7 +155,8 @@ module _ (gated : List InstrId) (p : NumberedProgram) (input : List ℤ) where
       let i = thread_of gated p input s z t x e in
       record { leaves = (λ q. goes_before (λ (u : ℕ). u ≡ t) t x (more z).trace i (h z).first, (h z).leaves); first = inl i }
 
-  walk_by : (t n : ℕ) (s : State) (b : Bool) → ((z : State) → Alone t (walk_alone n gated p input t z)) → Alone t (if b then record { trace = []; state = s; left = suc n; end = None } else on_plain s n (step gated p input s t) (λ z. walk_alone n gated p input t z))
+  walk_by : (t n : ℕ) (s : State) (b : Bool) → ((z : State) → Alone t (walk_alone n gated p input t z))
+      → Alone t (if b then record { trace = []; state = s; left = suc n; end = None } else on_plain s n (step gated p input s t) (λ z. walk_alone n gated p input t z))
   walk_by t n s true h = rests_alone t (suc n) s
   walk_by t n s false h = steps_alone t n s (step gated p input s t) (λ z. walk_alone n gated p input t z) refl h
 
@@ -168,7 +175,8 @@ module _ (gated : List InstrId) (p : NumberedProgram) (input : List ℤ) where
     more_gone n t (inl e) = inl e
     more_gone n t (inr l) = inr (omega (arith, l))
 
-    goes : (t : ℕ) (r : GuidedRun) → (t ≡ next.thread.0 → ⊥) → Leaves (Gone t) r.trace → Leaves (Gone (suc t)) (with_walk r t (walk_alone (slice_index r.left t) gated p input t r.state)).trace
+    goes : (t : ℕ) (r : GuidedRun) → (t ≡ next.thread.0 → ⊥) → Leaves (Gone t) r.trace
+        → Leaves (Gone (suc t)) (with_walk r t (walk_alone (slice_index r.left t) gated p input t r.state)).trace
     unfolding Gone
     goes t r other h =
         let w = walk_alone (slice_index r.left t) gated p input t r.state in
@@ -182,7 +190,8 @@ module _ (gated : List InstrId) (p : NumberedProgram) (input : List ℤ) where
         own : (u : ℕ) → u ≡ t → Gone (suc t) u
         own u e = inr (omega (arith, e))
 
-    one : (t : ℕ) (r : GuidedRun) (a b : Bool) → (t == next.thread.0) ≡ a → Leaves (Gone t) r.trace → Leaves (Gone (suc t)) (if not a && b then with_walk r t (walk_alone (slice_index r.left t) gated p input t r.state) else r).trace
+    one : (t : ℕ) (r : GuidedRun) (a b : Bool) → (t == next.thread.0) ≡ a → Leaves (Gone t) r.trace
+        → Leaves (Gone (suc t)) (if not a && b then with_walk r t (walk_alone (slice_index r.left t) gated p input t r.state) else r).trace
     one t r true b e h = leaves_more (Gone t) (Gone (suc t)) r.trace (more_gone t) h
     one t r false false e h = leaves_more (Gone t) (Gone (suc t)) r.trace (more_gone t) h
     one t r false true e h = goes t r (λ q. true≢false (sym (same_as_itself next.thread.0) ∙ ap (λ (i : ℕ). i == next.thread.0) (sym q) ∙ e)) h

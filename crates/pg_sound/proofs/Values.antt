@@ -22,15 +22,18 @@ module _ (r : ReferenceRun) (d : Taken) (input : List ℤ) (sums : ℕ → Optio
   instrs_are : (t : ℕ) (es : List Portion) → AllOf (IsOfUnit r d input sums) es → instrs_done t es ≡ map instr_at (units_by t (units_done es))
   instrs_are t [] h = refl
   instrs_are t (e ∷ es) h =
-      ap (λ (i : ℕ). map (λ (p : Portion). p.step.instr) (cond (t == i) (e ∷ filter (λ (p : Portion). t == p.step.thread.0) es) (filter (λ (p : Portion). t == p.step.thread.0) es))) (ap (λ v. v.0) h.0.told.thread)
+      ap (λ (i : ℕ). map (λ (p : Portion). p.step.instr) (cond (t == i) (e ∷ filter (λ (p : Portion). t == p.step.thread.0) es) (filter (λ (p : Portion). t == p.step.thread.0) es)))
+      (ap (λ v. v.0) h.0.told.thread)
       ∙ go (t == owner e.unit) (instrs_are t es h.1)
     where
       go : (b : Bool) → instrs_done t es ≡ map instr_at (units_by t (units_done es)) →
-          map (λ (p : Portion). p.step.instr) (cond b (e ∷ filter (λ (p : Portion). t == p.step.thread.0) es) (filter (λ (p : Portion). t == p.step.thread.0) es)) ≡ map instr_at (cond b (e.unit ∷ units_by t (units_done es)) (units_by t (units_done es)))
+          map (λ (p : Portion). p.step.instr) (cond b (e ∷ filter (λ (p : Portion). t == p.step.thread.0) es) (filter (λ (p : Portion). t == p.step.thread.0) es))
+          ≡ map instr_at (cond b (e.unit ∷ units_by t (units_done es)) (units_by t (units_done es)))
       go true k = ap (λ (l : List InstrId). e.step.instr ∷ l) k ∙ ap (λ (i : InstrId). i ∷ map instr_at (units_by t (units_done es))) h.0.told.instr
       go false k = k
 
-  same : (t : ℕ) (es : List Portion) → AllOf (IsOfUnit r d input sums) es → IsFrontOf (units_by t (units_done es)) (units_by t (units_of r d)) → IsFrontOf (instrs_done t es) (map instr_at (units_by t (units_of r d)))
+  same : (t : ℕ) (es : List Portion) → AllOf (IsOfUnit r d input sums) es → IsFrontOf (units_by t (units_done es)) (units_by t (units_of r d))
+      → IsFrontOf (instrs_done t es) (map instr_at (units_by t (units_of r d)))
   same t es h f = (
     map instr_at f.0,
     ap (λ (l : List InstrId). Rattle.std.proofs.Common.◌++◌ l (map instr_at f.0)) (instrs_are t es h) ∙ map_join instr_at (units_by t (units_done es)) f.0 ∙ ap (map instr_at) f.1,
@@ -47,18 +50,22 @@ module _ (r : ReferenceRun) (d : Taken) (input : List ℤ) (sums : ℕ → Optio
       ap (λ (o : Option ℕ). Some o) like.0
   register_known (s ∷ ks) (v ∷ vs) (suc k) f g h e = register_known ks vs k f g h.1 e
 
-  call_known : (fs : List Frame) (calls : List (List Shadow)) (gs : List Frame) (i k : ℕ) (ks : List Shadow) (f g : OnInput) → AreCallsLike input fs calls gs → slice_get calls i ≡ Some ks → slice_get ks k ≡ Some (Known f g) →
+  call_known : (fs : List Frame) (calls : List (List Shadow)) (gs : List Frame) (i k : ℕ) (ks : List Shadow) (f g : OnInput) → AreCallsLike input fs calls gs → slice_get calls i ≡ Some ks
+      → slice_get ks k ≡ Some (Known f g) →
       (frame : Frame) × (slice_get gs i ≡ Some frame) × (slice_get frame.registers k ≡ Some (f input))
   call_known fs [] gs i k ks f g h e v = absurd cc
   call_known [] (c ∷ calls) gs i k ks f g h e v = absurd h
   call_known (x ∷ fs) (c ∷ calls) [] i k ks f g h e v = absurd h
-  call_known (x ∷ fs) (c ∷ calls) (y ∷ gs) zero k ks f g h e v = let same : c ≡ ks = cc in (y, refl, register_known ks y.registers k f g (subst (λ (l : List Shadow). AreLike input l y.registers) same h.0.registers) v)
+  call_known (x ∷ fs) (c ∷ calls) (y ∷ gs) zero k ks f g h e v = let same : c ≡ ks =
+      cc in (y, refl, register_known ks y.registers k f g (subst (λ (l : List Shadow). AreLike input l y.registers) same h.0.registers) v)
   call_known (x ∷ fs) (c ∷ calls) (y ∷ gs) (suc i) k ks f g h e v = call_known fs calls gs i k ks f g h.1 e v
 
   known : (e : Portion) → IsOfUnit r d input sums e → HasKnownValues input e
-  known e h l i k ks f g at c v = go (local_at e.unit.state (owner e.unit)) (subst (λ (o : Option LocalState). StandLike input (standing_of (local_at e.unit.state (owner e.unit)) (thread_of e.unit.seen.before (owner e.unit)).calls) o) at h.rests.thread)
+  known e h l i k ks f g at c v = go (local_at e.unit.state (owner e.unit))
+      (subst (λ (o : Option LocalState). StandLike input (standing_of (local_at e.unit.state (owner e.unit)) (thread_of e.unit.seen.before (owner e.unit)).calls) o) at h.rests.thread)
     where
-      go : (o : Option LocalState) → StandLike input (standing_of o (thread_of e.unit.seen.before (owner e.unit)).calls) (Some l) → (frame : Frame) × (slice_get l.frames i ≡ Some frame) × (slice_get frame.registers k ≡ Some (f input))
+      go : (o : Option LocalState) → StandLike input (standing_of o (thread_of e.unit.seen.before (owner e.unit)).calls) (Some l)
+          → (frame : Frame) × (slice_get l.frames i ≡ Some frame) × (slice_get frame.registers k ≡ Some (f input))
       go None s = absurd s
       go (Some z) s = call_known z.frames (thread_of e.unit.seen.before (owner e.unit)).calls l.frames i k ks f g s.calls c v
 

@@ -1,5 +1,6 @@
 -- A move of a whole instance fits the unit whose branch step is left free.
-use Rattle.std.proofs.Common.{◌≡◌, ℕ, ℤ, ◌+◌, ◌-◌, ◌⊎◌, ◌<◌, ◌^◌, ◌++◌, suc, not, Bool, true, false, List, [], ◌∷◌, length, arith, Option, Some, None, refl, sym, ap, ◌∙◌, subst, inl, inr}
+use Rattle.std.proofs.Common.{◌≡◌, ℕ, ℤ, ◌+◌, ◌-◌, ◌⊎◌, ◌<◌, ◌^◌, ◌++◌, suc, not, Bool, true, false, List, [], ◌∷◌, length, arith, Option, Some}
+use Rattle.std.proofs.Common.{None, refl, sym, ap, ◌∙◌, subst, inl, inr}
 use Rattle.std.specs.Prelude.{◌&&◌, ◌||◌, Contains, nat_le, nat_lt, map, slice_get, if◌then◌else◌}
 use Rattle.std.specs.List.{AllByRecursion as AllOf, list_any}
 use Rattle.std.proofs.lemmas.Bool.{and_from, and_parts, leb-true, le-leb, lt-ltb, ltb-true, true≢false}
@@ -16,7 +17,7 @@ use Rattle.pg_plans.specs.Effects.{IsSame, or_old}
 use Rattle.pg_plans.specs.Plans.{Fits}
 use Rattle.pg_plans.proofs.Lists.{cons_head, cons_tail}
 use Rattle.pg_accesses.specs.Accesses.{RootedList}
-use Rattle.pg_accesses.proofs.Elements.{cases, none_in}
+use Rattle.pg_paths.proofs.Elements.{cases, none_in}
 use Rattle.pg_step.specs.LocalState.{Frame, LocalState}
 use Rattle.pg_step.specs.Operands.{flat}
 use Rattle.pg_step.specs.States.{AreFramesOf, AreValuesOf}
@@ -51,7 +52,8 @@ use Rattle.pg_instances.proofs.LeadsOut.{frames_of}
 use Rattle.pg_units.specs.Fits.{IsAlikeFor}
 use Rattle.pg_units.specs.Likes.{AreCallsLike, AreLike, IsCellLike, IsLike, IsThreadLike, IsToldLike, MovedThread, StandLike, like}
 use Rattle.pg_units.specs.Moves.{RunDeed, RunState}
-use Rattle.pg_units.specs.Units.{PlanUnit, ReferenceRun, access_touch, cell_known, deed_of, is_event_at, is_instance, is_read_in, is_written_in, reads_cell, reference_of, standing_of, word_read, writes_cell}
+use Rattle.pg_units.specs.Units.{PlanUnit, ReferenceRun, access_touch, cell_known, deed_of, is_event_at, is_instance, is_read_in, is_written_in, reads_cell, reference_of, standing_of}
+use Rattle.pg_units.specs.Units.{word_read, writes_cell}
 use Rattle.pg_units.proofs.Along.{IsUnit}
 use Rattle.pg_units.proofs.Freed.{IsFree, IsUnknown, freed_unknown, writes_freed}
 use Rattle.pg_units.proofs.Here.{instr_here, running, told_is}
@@ -78,8 +80,11 @@ forgotten_like input k sets x [] [] (w ∷ ws) h n kept = absurd cc
 forgotten_like input k sets x [] (v ∷ vs) ws h n kept = absurd h
 forgotten_like input k sets x (s ∷ ss) [] ws h n kept = absurd h
 forgotten_like input k sets x (s ∷ ss) (v ∷ vs) [] h n kept = absurd cc
-forgotten_like input k sets x (s ∷ ss) (v ∷ vs) (w ∷ ws) h n kept =
-    (one (sets k) refl, forgotten_like input (suc k) sets x ss vs ws h.1 (omega (arith, n)) (λ i e. kept (suc i) (subst (λ (j : ℕ). sets j ≡ false) (let q : suc k + i ≡ k + suc i = omega arith in q) e)))
+forgotten_like input k sets x (s ∷ ss) (v ∷ vs) (w ∷ ws) h n kept = (
+  one (sets k) refl,
+  forgotten_like input (suc k) sets x ss vs ws h.1 (omega (arith, n))
+      (λ i e. kept (suc i) (subst (λ (j : ℕ). sets j ≡ false) (let q : suc k + i ≡ k + suc i = omega arith in q) e)),
+)
   where
     one : (b : Bool) → sets k ≡ b → IsLike input (if b then Unknown x else s) w
     one true e = tt
@@ -100,7 +105,8 @@ both_all P Q R f [] h k = tt
 both_all P Q R f (x ∷ xs) h k = (f x h.0 k.0, both_all P Q R f xs h.1 k.1)
 
 -- accesses lie in memory
-run_in_memory : (r : ReferenceRun) (input : List ℤ) (s z : State) (xs : List Step) → IsRun r.gated r.program input s xs z → AllOf (λ (x : Step). (b : ℕ) → (reads_in (access_of x) b ≡ true) ⊎ (writes_in (access_of x) b ≡ true) → b < MEMORY_BYTES) xs
+run_in_memory : (r : ReferenceRun) (input : List ℤ) (s z : State) (xs : List Step) → IsRun r.gated r.program input s xs z
+    → AllOf (λ (x : Step). (b : ℕ) → (reads_in (access_of x) b ≡ true) ⊎ (writes_in (access_of x) b ≡ true) → b < MEMORY_BYTES) xs
 run_in_memory r input s z [] h = tt
 run_in_memory r input s z (x ∷ xs) h = (within, run_in_memory r input h.0.after z xs h.1)
   where
@@ -130,26 +136,30 @@ some_map f g (y ∷ xs) x c h = go (cases y xs x c) (some_map f g xs x)
         any_true false = refl
 
 -- an access that leads to the frame of a recorded one of its kind reads or writes there
-reads_print : (q : FreeRegion) (a : Access) (b : ℕ) → LeadsTo q.accesses a.writes (frame_of a.pointer) → IsWithin (range_of a) (frame_of a.pointer) → (not a.writes && is_in (range_of a) b) ≡ true → list_any (λ f. is_read_in f b) (prints_in (Some q)) ≡ true
+reads_print : (q : FreeRegion) (a : Access) (b : ℕ) → LeadsTo q.accesses a.writes (frame_of a.pointer) → IsWithin (range_of a) (frame_of a.pointer)
+    → (not a.writes && is_in (range_of a) b) ≡ true → list_any (λ f. is_read_in f b) (prints_in (Some q)) ≡ true
 reads_print q a b l w h =
     let k = and_parts (not a.writes) (is_in (range_of a) b) h in
     some_map (λ (f : Footprint). is_read_in f b) (λ (x : FreeAccess). record { bytes = frame_of x.at.last; writes = x.writes }) q.accesses l.access l.among
     (and_from (not l.access.writes) (is_in (frame_of l.access.at.last) b) (ap not l.kind ∙ k.0) (ap (λ (z : ByteRange). is_in z b) l.same ∙ in_range (range_of a) (frame_of a.pointer) b w k.1))
 
-writes_print : (q : FreeRegion) (a : Access) (b : ℕ) → LeadsTo q.accesses a.writes (frame_of a.pointer) → IsWithin (range_of a) (frame_of a.pointer) → (a.writes && is_in (range_of a) b) ≡ true → list_any (λ f. is_written_in f b) (prints_in (Some q)) ≡ true
+writes_print : (q : FreeRegion) (a : Access) (b : ℕ) → LeadsTo q.accesses a.writes (frame_of a.pointer) → IsWithin (range_of a) (frame_of a.pointer)
+    → (a.writes && is_in (range_of a) b) ≡ true → list_any (λ f. is_written_in f b) (prints_in (Some q)) ≡ true
 writes_print q a b l w h =
     let k = and_parts a.writes (is_in (range_of a) b) h in
     some_map (λ (f : Footprint). is_written_in f b) (λ (x : FreeAccess). record { bytes = frame_of x.at.last; writes = x.writes }) q.accesses l.access l.among
     (and_from l.access.writes (is_in (frame_of l.access.at.last) b) (l.kind ∙ k.0) (ap (λ (z : ByteRange). is_in z b) l.same ∙ in_range (range_of a) (frame_of a.pointer) b w k.1))
 
-step_reads : (I : Instance) (q : FreeRegion) → I.recorded ≡ q.accesses → (k : StepKind) → TellsWithin I k → (b : ℕ) → reads_in (access_in k) b ≡ true → list_any (λ f. is_read_in f b) (prints_in (Some q)) ≡ true
+step_reads : (I : Instance) (q : FreeRegion) → I.recorded ≡ q.accesses → (k : StepKind) → TellsWithin I k → (b : ℕ) → reads_in (access_in k) b ≡ true
+    → list_any (λ f. is_read_in f b) (prints_in (Some q)) ≡ true
 step_reads I q e (kinds.Access a) h b r = reads_print q a b (subst (λ (xs : List FreeAccess). LeadsTo xs a.writes (frame_of a.pointer)) e h.frame) h.within r
 step_reads I q e kinds.Other h b r = absurd (true≢false (sym r))
 step_reads I q e (kinds.Branch c) h b r = absurd (true≢false (sym r))
 step_reads I q e (kinds.Event v) h b r = absurd h
 step_reads I q e (kinds.Allocation m n) h b r = absurd h
 
-step_writes : (I : Instance) (q : FreeRegion) → I.recorded ≡ q.accesses → (k : StepKind) → TellsWithin I k → (b : ℕ) → writes_in (access_in k) b ≡ true → list_any (λ f. is_written_in f b) (prints_in (Some q)) ≡ true
+step_writes : (I : Instance) (q : FreeRegion) → I.recorded ≡ q.accesses → (k : StepKind) → TellsWithin I k → (b : ℕ) → writes_in (access_in k) b ≡ true
+    → list_any (λ f. is_written_in f b) (prints_in (Some q)) ≡ true
 step_writes I q e (kinds.Access a) h b r = writes_print q a b (subst (λ (xs : List FreeAccess). LeadsTo xs a.writes (frame_of a.pointer)) e h.frame) h.within r
 step_writes I q e kinds.Other h b r = absurd (true≢false (sym r))
 step_writes I q e (kinds.Branch c) h b r = absurd (true≢false (sym r))
@@ -184,7 +194,8 @@ below_is b h = lt-ltb b MEMORY_BYTES h
 
 -- ---- the calls behind a branch step that is left free
 
-after_free : (p : NumberedProgram) (n res : ℕ) (m : Moment) (q : FreeRegion) (x : Instr) (o : Op) (ks : List Shadow) (more : List (List Shadow)) → IsBranch o → after_op p false n m (Some q) res x o (ks ∷ more) ≡ forgotten_from 0 q.sets (Pinned n) ks ∷ more
+after_free : (p : NumberedProgram) (n res : ℕ) (m : Moment) (q : FreeRegion) (x : Instr) (o : Op) (ks : List Shadow) (more : List (List Shadow)) → IsBranch o
+    → after_op p false n m (Some q) res x o (ks ∷ more) ≡ forgotten_from 0 q.sets (Pinned n) ks ∷ more
 after_free p n res m q x (op.CondBr c a b) ks more h = refl
 after_free p n res m q x (op.Switch w on other cs) ks more h = refl
 after_free p n res m q x o ks more h = absurd h
@@ -210,7 +221,8 @@ module _ (r : ReferenceRun) (d : Taken) (input : List ℤ) (sums : ℕ → Optio
   I = begun_instance r sums u m.state m.begun
 
   stands : StandLike input (standing_of (local_at u.state (thread_in u.seen.moment)) (thread_of u.seen.before (thread_in u.seen.moment)).calls) (local_at m.state (thread_in u.seen.moment))
-  stands = subst (λ (l : MovedThread). StandLike input (standing_of (local_at u.state (thread_in u.seen.moment)) (thread_of u.seen.before (thread_in u.seen.moment)).calls) l.local) (m.looks.locals (thread_in u.seen.moment) refl) alike.thread.stands
+  stands = subst (λ (l : MovedThread). StandLike input (standing_of (local_at u.state (thread_in u.seen.moment)) (thread_of u.seen.before (thread_in u.seen.moment)).calls) l.local)
+      (m.looks.locals (thread_in u.seen.moment) refl) alike.thread.stands
 
   abbrev b : Both r.program input (thread_in u.seen.moment) u.state m.state (thread_of u.seen.before (thread_in u.seen.moment)).calls
   b = begin.both r d input u unit free m.state m.reached stands
@@ -234,13 +246,15 @@ module _ (r : ReferenceRun) (d : Taken) (input : List ℤ) (sums : ℕ → Optio
       let n = u.seen.number in
       let w = u.seen.moment in
       ap (λ known. (thread_of known (thread_in u.seen.moment)).calls) unit.known
-      ∙ inner_calls (reference_of r) d n w u.seen.before b.x (begin.instr_is r d input u unit free m.state m.reached stands) (sym unit.met.live ∙ unit.live) b.ks b.more b.calls (subst IsInnerKind (sym step.kind) tt)
+      ∙ inner_calls (reference_of r) d n w u.seen.before b.x (begin.instr_is r d input u unit free m.state m.reached stands) (sym unit.met.live ∙ unit.live) b.ks b.more b.calls
+      (subst IsInnerKind (sym step.kind) tt)
       ∙ ap (λ (c : Bool). after_op r.program c n w (region_of r.program r.regions w (instr_in r.program w)) (result_in w.did.did.kind) b.x b.x.op (b.ks ∷ b.more)) step.pinned
       ∙ ap (λ (q : Option FreeRegion). after_op r.program false n w q (result_in w.did.did.kind) b.x b.x.op (b.ks ∷ b.more)) (sym unit.met.region ∙ step.region)
       ∙ after_free r.program n (result_in w.did.did.kind) w step.free b.x b.x.op b.ks b.more (begin.is_branching r d input u unit free m.state m.reached stands)
 
   -- a frame at the join has as many registers as the branch's
-  module _ (program : IsProgram r.program) (small : length input < 2 ^ 64) (local : LocalState) (is_local : slice_get m.end.locals (thread_in u.seen.moment) ≡ Some local) (joined : IsAtJoin (begun_instance r sums u m.state m.begun) local) where
+  module _ (program : IsProgram r.program) (small : length input < 2 ^ 64) (local : LocalState) (is_local : slice_get m.end.locals (thread_in u.seen.moment) ≡ Some local)
+      (joined : IsAtJoin (begun_instance r sums u m.state m.begun) local) where
     reached_end : IsReached r.program m.end
     reached_end = reached_run r.gated r.program input m.state m.end (m.told ∷ m.inner) program small m.reached m.run
 
@@ -255,7 +269,8 @@ module _ (r : ReferenceRun) (d : Taken) (input : List ℤ) (sums : ℕ → Optio
         ∙ sym (values_length (types_of r.program b.f.function) b.f.registers of.0.registers) ∙ sym (ap (λ (f : Frame). length f.registers) (cons_head frames))
 
   -- where the steps lead to the join, or a frame stands there with as many registers
-  module _ (local : LocalState) (joined : IsAtJoin (begun_instance r sums u m.state m.begun) local) (same_length : length joined.frame.registers ≡ length m.begun.frame.registers) (again : JoinsAgain r sums u) where
+  module _ (local : LocalState) (joined : IsAtJoin (begun_instance r sums u m.state m.begun) local) (same_length : length joined.frame.registers ≡ length m.begun.frame.registers)
+      (again : JoinsAgain r sums u) where
     theirs : again.begun.local ≡ running (thread_in u.seen.moment) b.h b.f0 b.fs0 b.n
     theirs = local_same again.begun.local (running (thread_in u.seen.moment) b.h b.f0 b.fs0 b.n) (slice_get u.state.locals (thread_in u.seen.moment)) again.begun.is_local b.here0.local
 
@@ -274,17 +289,21 @@ module _ (r : ReferenceRun) (d : Taken) (input : List ℤ) (sums : ℕ → Optio
 
     registers : AreLike input (forgotten_from 0 step.free.sets (Pinned u.seen.number) b.ks) joined.frame.registers
     registers = forgotten_like input 0 step.free.sets (Pinned u.seen.number) b.ks b.f.registers joined.frame.registers b.top.registers end_length
-        (λ i k. joined.joined.kept i (sym (m.begun.sets i) ∙ ap (λ (q : FreeRegion). q.sets i) (sym step_is_free) ∙ subst (λ (j : ℕ). step.free.sets j ≡ false) (let z : 0 + i ≡ i = omega arith in z) k) ∙ ap (λ (f : Frame). registers_by f.registers i) (cons_head frames))
+        (λ i k. joined.joined.kept i (sym (m.begun.sets i) ∙ ap (λ (q : FreeRegion). q.sets i) (sym step_is_free)
+        ∙ subst (λ (j : ℕ). step.free.sets j ≡ false) (let z : 0 + i ≡ i = omega arith in z) k) ∙ ap (λ (f : Frame). registers_by f.registers i) (cons_head frames))
 
     frames_like : AreCallsLike input (again.joined.frame ∷ again.begun.lower) (forgotten_from 0 step.free.sets (Pinned u.seen.number) b.ks ∷ b.more) (joined.frame ∷ m.begun.lower)
     frames_like = (
       record {
-        function = joined.joined.function ∙ ap (λ (f : Frame). f.function) (cons_head frames) ∙ b.top.function ∙ sym (ap (λ (f : Frame). f.function) (cons_head frames0)) ∙ sym again.joined.joined.function;
+        function = joined.joined.function ∙ ap (λ (f : Frame). f.function) (cons_head frames) ∙ b.top.function ∙ sym (ap (λ (f : Frame). f.function) (cons_head frames0))
+            ∙ sym again.joined.joined.function;
         place = joined.joined.place ∙ ap (body_of r.program) same_join ∙ sym again.joined.joined.place;
-        height = joined.joined.height ∙ ap (λ (f : Frame). f.height) (cons_head frames) ∙ b.top.height ∙ sym (ap (λ (f : Frame). f.height) (cons_head frames0)) ∙ sym again.joined.joined.height;
+        height = joined.joined.height ∙ ap (λ (f : Frame). f.height) (cons_head frames) ∙ b.top.height ∙ sym (ap (λ (f : Frame). f.height) (cons_head frames0))
+            ∙ sym again.joined.joined.height;
         registers = registers;
       },
-      subst (λ (fs : List Frame). AreCallsLike input again.begun.lower b.more fs) (sym (cons_tail frames)) (subst (λ (fs : List Frame). AreCallsLike input fs b.more b.fs) (sym (cons_tail frames0)) b.rest),
+      subst (λ (fs : List Frame). AreCallsLike input again.begun.lower b.more fs) (sym (cons_tail frames))
+          (subst (λ (fs : List Frame). AreCallsLike input fs b.more b.fs) (sym (cons_tail frames0)) b.rest),
     )
 
     -- the thread behind them
@@ -296,7 +315,8 @@ module _ (r : ReferenceRun) (d : Taken) (input : List ℤ) (sums : ℕ → Optio
           halfway = joined.halfway ∙ sym again.joined.halfway;
           heap = joined.heap ∙ ap (λ (l : LocalState). l.heap) mine ∙ sym (ap (λ (l : LocalState). l.heap) theirs) ∙ sym again.joined.heap;
           calls = subst (λ (fs : List Frame). AreCallsLike input fs (forgotten_from 0 step.free.sets (Pinned u.seen.number) b.ks ∷ b.more) local.frames) (sym again.joined.frames)
-              (subst (λ (fs : List Frame). AreCallsLike input (again.joined.frame ∷ again.begun.lower) (forgotten_from 0 step.free.sets (Pinned u.seen.number) b.ks ∷ b.more) fs) (sym joined.frames) frames_like);
+              (subst (λ (fs : List Frame). AreCallsLike input (again.joined.frame ∷ again.begun.lower) (forgotten_from 0 step.free.sets (Pinned u.seen.number) b.ks ∷ b.more) fs)
+              (sym joined.frames) frames_like);
         }))
 
   own : m.told.thread.0 ≡ thread_in u.seen.moment
@@ -305,7 +325,8 @@ module _ (r : ReferenceRun) (d : Taken) (input : List ℤ) (sums : ℕ → Optio
   -- ---- what is told
 
   told_here : m.told ≡ step_told r.gated r.program m.state (thread_in u.seen.moment) (answer_to input m.state (thread_in u.seen.moment) (next_of r.program m.state (thread_in u.seen.moment)))
-  told_here = told_is r.gated r.program input m.state m.run.0.after m.told.thread.0 m.told m.run.0.is_step ∙ ap (λ (v : ℕ). step_told r.gated r.program m.state v (answer_to input m.state v (next_of r.program m.state v))) own
+  told_here = told_is r.gated r.program input m.state m.run.0.after m.told.thread.0 m.told m.run.0.is_step
+      ∙ ap (λ (v : ℕ). step_told r.gated r.program m.state v (answer_to input m.state v (next_of r.program m.state v))) own
 
   same_place : instr_of m.state (thread_in u.seen.moment) ≡ instr_of u.state (thread_in u.seen.moment)
   same_place = instr_here r.program m.state (thread_in u.seen.moment) b.h b.f b.fs b.n b.x b.here ∙ b.top.place ∙ sym (begin.place0 r d input u unit free m.state m.reached stands)
@@ -325,7 +346,9 @@ module _ (r : ReferenceRun) (d : Taken) (input : List ℤ) (sums : ℕ → Optio
 
   reads_freed : (c : ℕ) → c < MEMORY_BYTES → list_any (λ f. is_read_in f c) (prints_in (Some m.begun.free)) ≡ true → reads_cell d u.seen c ≡ true
   reads_freed c lt h =
-      ap (λ (k : StepKind). if nat_lt c MEMORY_BYTES then list_any (λ f. is_read_in f c) (access_touch d u.seen.number (access_in k) ++ (if is_instance d u.seen then prints_in u.seen.region else [])) else is_thread (word_read (thread_in u.seen.moment) k) (c - MEMORY_BYTES)) step.kind
+      ap (λ (k : StepKind). if nat_lt c MEMORY_BYTES then list_any (λ f. is_read_in f c)
+      (access_touch d u.seen.number (access_in k) ++ (if is_instance d u.seen then prints_in u.seen.region else [])) else is_thread (word_read (thread_in u.seen.moment) k)
+      (c - MEMORY_BYTES)) step.kind
       ∙ ap (λ (y : Bool). if y then list_any (λ f. is_read_in f c) (if is_instance d u.seen then prints_in u.seen.region else []) else false) (below_is c lt)
       ∙ ap (λ (y : Bool). list_any (λ f. is_read_in f c) (if y then prints_in u.seen.region else [])) free
       ∙ ap (λ (q : Option FreeRegion). list_any (λ f. is_read_in f c) (prints_in q)) m.begun.is_region ∙ h
@@ -338,12 +361,14 @@ module _ (r : ReferenceRun) (d : Taken) (input : List ℤ) (sums : ℕ → Optio
 
   steps_read : (c : ℕ) → list_any (λ y. recorded.reads y c) (m.told ∷ m.inner) ≡ true → reads_cell d u.seen c ≡ true
   steps_read c h = any_of (λ (y : Step). recorded.reads y c) (reads_cell d u.seen c ≡ true) (m.told ∷ m.inner)
-      (both_all (λ (y : Step). TellsWithin I y.kind) (λ (y : Step). (b : ℕ) → (reads_in (access_of y) b ≡ true) ⊎ (writes_in (access_of y) b ≡ true) → b < MEMORY_BYTES) (λ (y : Step). recorded.reads y c ≡ true → reads_cell d u.seen c ≡ true)
+      (both_all (λ (y : Step). TellsWithin I y.kind) (λ (y : Step). (b : ℕ) → (reads_in (access_of y) b ≡ true) ⊎ (writes_in (access_of y) b ≡ true) → b < MEMORY_BYTES)
+      (λ (y : Step). recorded.reads y c ≡ true → reads_cell d u.seen c ≡ true)
       (λ y w k z. reads_freed c (k c (inl z)) (step_reads I m.begun.free refl y.kind w c z)) (m.told ∷ m.inner) m.tells (run_in_memory r input m.state m.end (m.told ∷ m.inner) m.run)) h
 
   steps_write : (c : ℕ) → list_any (λ y. recorded.writes y c) (m.told ∷ m.inner) ≡ true → writes_cell d u.seen c ≡ true
   steps_write c h = any_of (λ (y : Step). recorded.writes y c) (writes_cell d u.seen c ≡ true) (m.told ∷ m.inner)
-      (both_all (λ (y : Step). TellsWithin I y.kind) (λ (y : Step). (b : ℕ) → (reads_in (access_of y) b ≡ true) ⊎ (writes_in (access_of y) b ≡ true) → b < MEMORY_BYTES) (λ (y : Step). recorded.writes y c ≡ true → writes_cell d u.seen c ≡ true)
+      (both_all (λ (y : Step). TellsWithin I y.kind) (λ (y : Step). (b : ℕ) → (reads_in (access_of y) b ≡ true) ⊎ (writes_in (access_of y) b ≡ true) → b < MEMORY_BYTES)
+      (λ (y : Step). recorded.writes y c ≡ true → writes_cell d u.seen c ≡ true)
       (λ y w k z. writes_there c (k c (inr z)) (step_writes I m.begun.free refl y.kind w c z)) (m.told ∷ m.inner) m.tells (run_in_memory r input m.state m.end (m.told ∷ m.inner) m.run)) h
 
   -- nothing is known of what it may write
@@ -351,7 +376,8 @@ module _ (r : ReferenceRun) (d : Taken) (input : List ℤ) (sums : ℕ → Optio
   unknown_there c h = subst (λ known. IsUnknown (cell_known known c)) (sym unit.known) (freed_unknown (reference_of r) d u.seen unit.met.region (sym unit.met.live ∙ unit.live) free c h)
 
   cell_there : (c : ℕ) (v : Shadow) (w : ℕ) → IsCellLike input v w →
-      IsCellLike input (or_old (if writes_cell d u.seen c then Some (cell_known u.known c) else None) v) (or_old (if list_any (λ y. recorded.writes y c) (m.told ∷ m.inner) then Some (cell_at m.end c) else None) w)
+      IsCellLike input (or_old (if writes_cell d u.seen c then Some (cell_known u.known c) else None) v)
+      (or_old (if list_any (λ y. recorded.writes y c) (m.told ∷ m.inner) then Some (cell_at m.end c) else None) w)
   cell_there c v w h = go (writes_cell d u.seen c) refl (list_any (λ y. recorded.writes y c) (m.told ∷ m.inner)) refl
     where
       any_number : (n : ℕ) → IsUnknown (cell_known u.known c) → IsCellLike input (cell_known u.known c) n
@@ -376,7 +402,8 @@ module _ (r : ReferenceRun) (d : Taken) (input : List ℤ) (sums : ℕ → Optio
   either_true false y h = absurd (true≢false (sym h))
 
   -- wherever the thread is left, if that is alike with where the unit leads
-  module _ (local : LocalState) (there : StandLike input (standing_of u.local (thread_of u.known (thread_in u.seen.moment)).calls) (Some local)) (e : RunDeed) (is_deed : IsSame e (deed_along m.moves m.told m.inner m.end (Some local))) where
+  module _ (local : LocalState) (there : StandLike input (standing_of u.local (thread_of u.known (thread_in u.seen.moment)).calls) (Some local)) (e : RunDeed)
+      (is_deed : IsSame e (deed_along m.moves m.told m.inner m.end (Some local))) where
     to_like : IsThreadLike input (deed_of d u).to (deed_along m.moves m.told m.inner m.end (Some local)).to
     to_like = record {
       moves = ap (λ (i : ℕ). suc (m.moves i)) own ∙ ap suc (ap (λ (l : MovedThread). l.moves) (sym (m.looks.locals (thread_in u.seen.moment) refl)) ∙ alike.thread.moves);
@@ -391,14 +418,18 @@ module _ (r : ReferenceRun) (d : Taken) (input : List ℤ) (sums : ℕ → Optio
       objects = none_if (is_event_at u.seen) u.objects no_event;
       cells = cell_there;
       reads = λ c h. either_true (reads_cell d u.seen c) _ (steps_read c h);
-      writes = λ c h. is_some_if (writes_cell d u.seen c) (cell_known u.known c) ∙ steps_write c (sym (is_some_if (list_any (λ y. recorded.writes y c) (m.told ∷ m.inner)) (cell_at m.end c)) ∙ h);
+      writes = λ c h. is_some_if (writes_cell d u.seen c) (cell_known u.known c)
+          ∙ steps_write c (sym (is_some_if (list_any (λ y. recorded.writes y c) (m.told ∷ m.inner)) (cell_at m.end c)) ∙ h);
     })
 
 -- ---- moves of either kind fit
 
-module _ (r : ReferenceRun) (d : Taken) (input : List ℤ) (sums : ℕ → Option RootedList) (turns : List Turn) (u : PlanUnit) (unit : IsUnit r d u) (free : is_instance d u.seen ≡ true) (a : RunState) (g : ℕ) (e : RunDeed) (alike : IsAlikeFor input d u a) where
+module _ (r : ReferenceRun) (d : Taken) (input : List ℤ) (sums : ℕ → Option RootedList) (turns : List Turn) (u : PlanUnit) (unit : IsUnit r d u) (free : is_instance d u.seen ≡ true)
+    (a : RunState) (g : ℕ) (e : RunDeed) (alike : IsAlikeFor input d u a) where
   pub whole_fits : IsProgram r.program → length input < 2 ^ 64 → JoinsAgain r sums u → IsWholeMove r input sums turns u a g e → Fits (like input) (deed_of d u) e
-  whole_fits program small again w = steps_fit r d input sums turns u unit free a g w.steps alike w.local (joined_stands r d input sums turns u unit free a g w.steps alike w.local w.joined (joined_length r d input sums turns u unit free a g w.steps alike program small w.local w.is_local w.joined) again) e w.is_deed
+  whole_fits program small again w = steps_fit r d input sums turns u unit free a g w.steps alike w.local
+      (joined_stands r d input sums turns u unit free a g w.steps alike w.local w.joined
+      (joined_length r d input sums turns u unit free a g w.steps alike program small w.local w.is_local w.joined) again) e w.is_deed
 
   pub part_fits : IsPartMove r input sums turns u a g e → Fits (like input) (deed_of d u) e
   part_fits w = steps_fit r d input sums turns u unit free a g w.steps alike w.local w.stands e w.is_deed

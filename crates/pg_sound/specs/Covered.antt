@@ -26,4 +26,5 @@ abbrev pub IsCovered : RootedList → Type 0
 IsCovered xs = (a : Rooted) → Contains xs a → (l : Loads) → before_last a.path.loads ≡ Some l → HasLoad xs a.path.root l
 
 abbrev pub QuietSetsAreCovered : Type 0
-QuietSetsAreCovered = (p : NumberedProgram) (gated : ℕ → Bool) (sums : ℕ → Option RootedList) (may_return : Bool) (blocks : List ℕ) (xs : RootedList) → IsProgram p → AreSummaries p gated sums → set_accesses may_return p gated sums blocks ≡ Some xs → IsCovered xs
+QuietSetsAreCovered = (p : NumberedProgram) (gated : ℕ → Bool) (sums : ℕ → Option RootedList) (may_return : Bool) (blocks : List ℕ) (xs : RootedList) → IsProgram p
+    → AreSummaries p gated sums → set_accesses may_return p gated sums blocks ≡ Some xs → IsCovered xs

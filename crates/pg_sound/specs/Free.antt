@@ -35,7 +35,8 @@ accesses_of (Some q) = q.accesses
 
 -- each byte that a path of the unit's region loads is one that the unit reads, where its branch step is left free
 abbrev pub ReadsPaths : Taken → PlanUnit → Type 0
-ReadsPaths d u = is_instance d u.seen ≡ true → (a : FreeAccess) → Contains (accesses_of u.seen.region) a → (c : ByteRange) → Contains a.at.cells c → (b : ℕ) → is_in c b ≡ true → reads_cell d u.seen b ≡ true
+ReadsPaths d u = is_instance d u.seen ≡ true → (a : FreeAccess) → Contains (accesses_of u.seen.region) a → (c : ByteRange) → Contains a.at.cells c → (b : ℕ) → is_in c b ≡ true
+    → reads_cell d u.seen b ≡ true
 
 abbrev pub PathsAreRead : ReferenceRun → Taken → Type 0
 PathsAreRead r d = AllByRecursion (ReadsPaths d) (units_of r d)

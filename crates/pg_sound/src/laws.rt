@@ -43,7 +43,8 @@ pub fn an_admitted_input_has_a_good_run()
 /// In a reference run the thread of a branch step that is left free comes to the join of its region, in the branch's call, and its
 /// next unit begins there.
 pub fn a_reference_run_joins_again()
-    ensures { (p : NumberedProgram) (input : List ℤ) (turns : List Turn) (gated : List InstrId) (sums : ℕ → Option RootedList) (regions : Regions) (xs : List Step) (d : Taken) → IsReferenceRun p input turns gated sums regions xs
+    ensures { (p : NumberedProgram) (input : List ℤ) (turns : List Turn) (gated : List InstrId) (sums : ℕ → Option RootedList) (regions : Regions) (xs : List Step) (d : Taken)
+        → IsReferenceRun p input turns gated sums regions xs
         → UnitsJoinAgain (record { program = p; input = input; gated = gated; regions = regions; steps = xs }) sums d }
 {}
 
@@ -57,16 +58,19 @@ pub fn quiet_sets_are_covered()
 /// rests on, stands at that branch, and the region's paths lead from there where they were recorded to lead: its steps from
 /// there on stay within the region as it was recorded.
 pub fn a_free_branch_begins_an_instance()
-    ensures { (p : NumberedProgram) (recorded input : List ℤ) (s : Schedule) (sums : ℕ → Option RootedList) (regions : Regions) (xs : List Step) (d : Taken) (u : PlanUnit) (a : RunState) (z : State) (moves : ℕ → ℕ)
+    ensures { (p : NumberedProgram) (recorded input : List ℤ) (s : Schedule) (sums : ℕ → Option RootedList) (regions : Regions) (xs : List Step) (d : Taken) (u : PlanUnit) (a : RunState)
+        (z : State) (moves : ℕ → ℕ)
         → IsRecording p recorded s sums regions xs → Admits p recorded s regions xs d input
-        → Has (units_of (recording p recorded s regions xs) d) u → is_instance d u.seen ≡ true → IsAlikeFor input d u a → LooksTo (thread_in u.seen.moment) a (moved z moves) → IsReached p z
+        → Has (units_of (recording p recorded s regions xs) d) u → is_instance d u.seen ≡ true → IsAlikeFor input d u a → LooksTo (thread_in u.seen.moment) a (moved z moves)
+        → IsReached p z
         → BeginsInstance (recording p recorded s regions xs) sums u z }
 {}
 
 /// A move of a whole instance fits its unit: from its branch to the region's join a thread does what the unit allows, where all is
 /// alike that the unit rests on. It leaves the thread alike, touches and writes no more cells, and is no event.
 pub fn a_whole_instance_fits()
-    ensures { (p : NumberedProgram) (recorded input : List ℤ) (s : Schedule) (sums : ℕ → Option RootedList) (regions : Regions) (xs : List Step) (d : Taken) (u : PlanUnit) (a : RunState) (g : ℕ) (e : RunDeed)
+    ensures { (p : NumberedProgram) (recorded input : List ℤ) (s : Schedule) (sums : ℕ → Option RootedList) (regions : Regions) (xs : List Step) (d : Taken) (u : PlanUnit) (a : RunState)
+        (g : ℕ) (e : RunDeed)
         → IsRecording p recorded s sums regions xs → length input < 2 ^ 64 → Has (units_of (recording p recorded s regions xs) d) u → is_instance d u.seen ≡ true → IsAlikeFor input d u a
         → IsWholeMove (recording p recorded s regions xs) input sums s.turns u a g e → Fits (like input) (deed_of d u) e }
 {}
@@ -74,7 +78,8 @@ pub fn a_whole_instance_fits()
 /// And so does a part of an instance, behind which the thread takes no more steps: wherever it is left, it has touched and written
 /// no more cells, and is no event.
 pub fn a_part_of_an_instance_fits()
-    ensures { (p : NumberedProgram) (recorded input : List ℤ) (s : Schedule) (sums : ℕ → Option RootedList) (regions : Regions) (xs : List Step) (d : Taken) (u : PlanUnit) (a : RunState) (g : ℕ) (e : RunDeed)
+    ensures { (p : NumberedProgram) (recorded input : List ℤ) (s : Schedule) (sums : ℕ → Option RootedList) (regions : Regions) (xs : List Step) (d : Taken) (u : PlanUnit) (a : RunState)
+        (g : ℕ) (e : RunDeed)
         → IsRecording p recorded s sums regions xs → Has (units_of (recording p recorded s regions xs) d) u → is_instance d u.seen ≡ true → IsAlikeFor input d u a
         → IsPartMove (recording p recorded s regions xs) input sums s.turns u a g e → Fits (like input) (deed_of d u) e }
 {}
@@ -88,7 +93,8 @@ pub fn moves_follow_the_plan()
     ensures { (p : NumberedProgram) (recorded input : List ℤ) (s : Schedule) (sums : ℕ → Option RootedList) (regions : Regions) (xs : List Step) (d : Taken) (a : RunState) (ds : List RunDeed)
         → IsRecording p recorded s sums regions xs → Admits p recorded s regions xs d input
         → Alike (like input) (plan_start (recording p recorded s regions xs)) a → Moves (IsAnyMove (recording p recorded s regions xs) d input sums s.turns) a 0 ds
-        → (cut : Follows (like input) (turns_of (recording p recorded s regions xs)) (plan_start (recording p recorded s regions xs)) (plan_of (recording p recorded s regions xs) d) (turns_done deeds 0 ds) (effects a ds))
+        → (cut : Follows (like input) (turns_of (recording p recorded s regions xs)) (plan_start (recording p recorded s regions xs)) (plan_of (recording p recorded s regions xs) d)
+        (turns_done deeds 0 ds) (effects a ds))
         × Performs (like input) (did_of (kept cut.marks)) ds × IsOrdered deeds (turns_of (recording p recorded s regions xs)) ds }
 {}
 
@@ -120,7 +126,8 @@ pub fn an_admitted_input_has_an_ordered_full_run()
     ensures full { (p : NumberedProgram) (recorded input : List ℤ) (s : Schedule) (sums : ℕ → Option RootedList) (regions : Regions) (xs : List Step) (d : Taken)
         → IsRecording p recorded s sums regions xs → Admits p recorded s regions xs d input
         → IsOrderedFull p input s.turns s.gated (full_guided_of p input s.turns s.gated).trace (full_guided_of p input s.turns s.gated).state }
-    ensures permitted { (p : NumberedProgram) (recorded input : List ℤ) (s : Schedule) (sums : ℕ → Option RootedList) (regions : Regions) (xs : List Step) (d : Taken) (ys : List Step) (z : State)
+    ensures permitted { (p : NumberedProgram) (recorded input : List ℤ) (s : Schedule) (sums : ℕ → Option RootedList) (regions : Regions) (xs : List Step) (d : Taken) (ys : List Step)
+        (z : State)
         → IsRecording p recorded s sums regions xs → Admits p recorded s regions xs d input → IsPermitted p input s.turns s.gated ys z
         → IsAtCut p input s.turns s.gated (full_guided_of p input s.turns s.gated).trace ys z × IsOrderedAlong s.turns ys }
     ensures exits { (p : NumberedProgram) (recorded input : List ℤ) (s : Schedule) (sums : ℕ → Option RootedList) (regions : Regions) (xs : List Step) (d : Taken) (value : ℤ)

@@ -24,7 +24,8 @@ moved_none [] ns = refl
 moved_none (i ∷ is) [] = refl
 moved_none (i ∷ is) (n ∷ ns) = moved_none is ns
 
-along : (is : List Index) (ns : List (Option ℕ)) (w : ℕ) (n : ℕ → ℕ) (k : ℕ) → length ns ≡ length is → ((j : ℕ) → n (k + j) ≡ index_narrowed (slice_get is j) (given (number_of ns j))) →
+along : (is : List Index) (ns : List (Option ℕ)) (w : ℕ) (n : ℕ → ℕ) (k : ℕ) → length ns ≡ length is
+    → ((j : ℕ) → n (k + j) ≡ index_narrowed (slice_get is j) (given (number_of ns j))) →
     moved_each (Some w) is ns ≡ (if list_all is_set ns then Some (moved_along w is n k) else None)
 along [] [] w n k l h = refl
 along [] (m ∷ ns) w n k l h = absurd (omega arith)
@@ -39,7 +40,8 @@ gep_applied : (base : Value) (is : List Index) (ns : List (Option ℕ)) → leng
 gep_applied base is [] l = absurd (omega arith)
 gep_applied base is (None ∷ ns) l = moved_none is ns
 gep_applied base is (Some w ∷ ns) l =
-    along is ns w (λ k. narrowed (op.Gep base is) k (given (number_of (Some w ∷ ns) k))) 1 (omega arith) (λ j. let z : 1 + j ≡ suc j = omega arith in ap (λ k. narrowed (op.Gep base is) k (given (number_of (Some w ∷ ns) k))) z)
+    along is ns w (λ k. narrowed (op.Gep base is) k (given (number_of (Some w ∷ ns) k))) 1 (omega arith)
+    (λ j. let z : 1 + j ≡ suc j = omega arith in ap (λ k. narrowed (op.Gep base is) k (given (number_of (Some w ∷ ns) k))) z)
 
 -- the value of a node with these numbers is the result of the operation
 pub gep_is : (ns : NodeList) (base : Value) (is : List Index) (ss : List Source) (g : OnInput) → blamed ss ≡ None → length ss ≡ length is + 1 →

@@ -1,5 +1,6 @@
 -- Moves of pointers: they count modulo two to the 64, since an offset has 21 bits.
-use Rattle.std.proofs.Common.{◌≡◌, ℕ, zero, suc, ◌+◌, ◌-◌, ◌*◌, ◌/◌, ◌%◌, ◌^◌, ℤ, pos, negsuc, Bool, true, false, cond, nat_lt, Option, Some, None, arith, refl, ap, sym, ◌∙◌}
+use Rattle.std.proofs.Common.{◌≡◌, ℕ, zero, suc, ◌+◌, ◌-◌, ◌*◌, ◌/◌, ◌%◌, ◌^◌, ℤ, pos, negsuc, Bool, true, false, cond, nat_lt, Option, Some, None, arith}
+use Rattle.std.proofs.Common.{refl, ap, sym, ◌∙◌}
 use Rattle.std.specs.Prelude.{◌+ℤ◌, ◌*ℤ◌}
 use lib.IntN.{neg_ℤ}
 use Rattle.std.proofs.lemmas.Bool.Decides.{nat_tests}
@@ -91,7 +92,8 @@ moved_distance i (Times b) word m = moved_signed word _ ∙ moved_product word (
 moved_distance i (Field b) word m = moved_signed word b
 
 -- the node of a moved word
-pub moved_is : (i : Index) (word n delta : Option ℕ) → delta ≡ with_one n (λ m. Some (distance_of i i.scale m)) → with_both word delta (λ w d. Some (moved_by w (signed W64 d))) ≡ moved_if i word n
+pub moved_is : (i : Index) (word n delta : Option ℕ) → delta ≡ with_one n (λ m. Some (distance_of i i.scale m))
+    → with_both word delta (λ w d. Some (moved_by w (signed W64 d))) ≡ moved_if i word n
 moved_is i word n delta e = ap (λ x. with_both word x (λ w d. Some (moved_by w (signed W64 d)))) e ∙ go word n
   where
     go : (u v : Option ℕ) → with_both u (with_one v (λ m. Some (distance_of i i.scale m))) (λ w d. Some (moved_by w (signed W64 d))) ≡ moved_if i u v

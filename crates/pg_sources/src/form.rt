@@ -1,3 +1,5 @@
+//! How one node computes an operation.
+
 ghost use Rattle.std.specs.Prelude.{◌≡◌, None, length, slice_get};
 ghost use Rattle.pg_sources.specs.Sources as sources;
 ghost use Rattle.pg_sources.specs.Forms as forms;

@@ -1,3 +1,5 @@
+//! Nodes that are added.
+
 ghost use Rattle.std.specs.Prelude.{◌≡◌, ◌<◌, ℤ, List, length, IfOk};
 ghost use Rattle.pg_nodes.specs.Nodes.{IsNode};
 ghost use Rattle.pg_nodes.specs.Values.{node_number, numbers_of};

@@ -1,12 +1,12 @@
-ghost use Rattle.std.specs.Prelude.{◌≡◌, IsTrue, None, length, map, IfOk};
+//! The sources of results.
+
+ghost use Rattle.std.specs.Prelude.{◌≡◌, IsTrue, length, map, IfOk};
 ghost use Rattle.std.specs.List.{AllByRecursion};
 ghost use Rattle.pg_step.specs.Compute.{computes};
 ghost use Rattle.pg_step.specs.Operands.{operands_of};
 ghost use Rattle.pg_closed.specs.Shadows.{result_of};
 ghost use Rattle.pg_sources.specs.Sources.{Grew, IsSource, shadow_by};
-ghost use Rattle.pg_sources.specs.Sources as sources;
 ghost use Rattle.pg_sources.specs.Forms.{CastFits};
-ghost use Rattle.pg_sources.specs.Forms as forms;
 
 use crate::form::{blamed, form_of, node_by};
 use crate::growing::known;
@@ -15,46 +15,6 @@ use crate::source::Source;
 use pg_ir::Op;
 use pg_nodes::Nodes;
 use std::alloc::AllocError;
-
-/// The moved pointer of a `getelementptr` whose operands are all known.
-fn moved_pointer(nodes: &mut Nodes, op: &Op, operands: &[Source]) -> Result<Source, AllocError>
-    requires computes { IsTrue (computes op.now) }
-    requires other { forms.form_of op.now ≡ None }
-    requires known { sources.blamed operands.now ≡ None }
-    requires count { length operands.now ≡ length (operands_of op.now) }
-    requires sources { AllByRecursion (IsSource (length nodes.old)) operands.now }
-    ensures grew { Grew nodes.old nodes.new }
-    ensures is { IfOk result (IsSource (length nodes.new)) }
-    ensures value { IfOk result (λ s. shadow_by nodes.new s ≡ result_of op.now (map (shadow_by nodes.old) operands.now)) }
-{
-    match op {
-        Op::Gep { indices, .. } => {
-            let word = moved_along(nodes, indices.as_slice(), operands)?;
-            Ok(Source::Known {
-                value: word,
-                frame: word,
-            })
-        }
-        _ => unreachable!(),
-    }
-}
-
-/// The result of an operation whose operands are all known.
-fn computed(nodes: &mut Nodes, op: &Op, operands: &[Source]) -> Result<Source, AllocError>
-    requires computes { IsTrue (computes op.now) }
-    requires cast { CastFits op.now }
-    requires known { sources.blamed operands.now ≡ None }
-    requires count { length operands.now ≡ length (operands_of op.now) }
-    requires sources { AllByRecursion (IsSource (length nodes.old)) operands.now }
-    ensures grew { Grew nodes.old nodes.new }
-    ensures is { IfOk result (IsSource (length nodes.new)) }
-    ensures value { IfOk result (λ s. shadow_by nodes.new s ≡ result_of op.now (map (shadow_by nodes.old) operands.now)) }
-{
-    match form_of(op) {
-        Some(form) => known(nodes, node_by(form, operands)),
-        None => moved_pointer(nodes, op, operands),
-    }
-}
 
 /// The result of an operation that only computes, by its operands: unknown where one of them isn't known, and the first
 /// such one has the blame.
@@ -71,8 +31,20 @@ pub fn operation(nodes: &mut Nodes, op: &Op, operands: &[Source]) -> Result<Sour
     ensures is { IfOk result (IsSource (length nodes.new)) }
     ensures value { IfOk result (λ s. shadow_by nodes.new s ≡ result_of op.now (map (shadow_by nodes.old) operands.now)) }
 {
-    match blamed(operands) {
-        Some(by) => Ok(Source::Unknown(by)),
-        None => computed(nodes, op, operands),
+    if let Some(by) = blamed(operands) {
+        return Ok(Source::Unknown(by));
+    }
+    if let Some(form) = form_of(op) {
+        return known(nodes, node_by(form, operands));
+    }
+    match op {
+        Op::Gep { indices, .. } => {
+            let word = moved_along(nodes, indices.as_slice(), operands)?;
+            Ok(Source::Known {
+                value: word,
+                frame: word,
+            })
+        }
+        _ => unreachable!(),
     }
 }

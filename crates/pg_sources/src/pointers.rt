@@ -1,3 +1,5 @@
+//! The sources of moved pointers.
+
 ghost use Rattle.std.specs.Prelude.{◌≡◌, ℤ, ◌<◌, ◌+◌, None, Some, List, drop, length, IfOk};
 ghost use Rattle.std.specs.List.{AllByRecursion};
 ghost use Rattle.pg_num.specs.Numbers.{product_of, sign_extended, truncated};

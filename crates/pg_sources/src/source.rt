@@ -1,3 +1,5 @@
+//! What is known of a value.
+
 use pg_closed::Decision;
 
 /// What is known of a value along a reference run, by the number of a node of one list.

@@ -1,7 +1,8 @@
-ghost use Rattle.std.specs.Prelude.{◌≡◌, ◌<◌, ◌%◌, length, map, slice_get, slice_index_or, IfOk, Some, None};
+//! The sources of operands.
+
+ghost use Rattle.std.specs.Prelude.{◌≡◌, ◌<◌, ◌%◌, length, map, slice_index_or, IfOk, Some, None};
 ghost use Rattle.std.specs.List.{AllByRecursion};
 ghost use Rattle.pg_num.specs.Numbers.{modulus};
-ghost use Rattle.pg_step.specs.Operands.{pointer_to};
 ghost use Rattle.pg_closed.specs.Shadows.{Known, always, cut, shadow_of, valued};
 ghost use Rattle.pg_closed.specs.Shadows as shadows;
 ghost use Rattle.pg_closed.specs.Rules.{moved_shadow};
@@ -12,7 +13,7 @@ use crate::growing::{added, known};
 use crate::source::Source;
 use pg_ir::{Program, Value};
 use pg_nodes::{CastKind, Node, Nodes, Operation};
-use pg_num::{Division, Pointer, Width, pack};
+use pg_num::{Division, Width};
 use std::alloc::AllocError;
 
 /// A number that is the same on each input.
@@ -49,21 +50,6 @@ pub fn unset(nodes: &mut Nodes) -> Result<Source, AllocError>
             right: zero,
         },
     )
-}
-
-/// The word of the pointer to the first byte of a global, if there is one of this number.
-fn global_word(p: &Program, g: u32) -> Option<u64>
-    ensures { result ≡ pointer_to (slice_get p.now.globals g) }
-{
-    if g >= p.global_count() {
-        return None;
-    }
-    let global = p.global(g);
-    Some(pack(Pointer {
-        start: global.start,
-        length: global.size,
-        offset: 0,
-    }))
 }
 
 /// A number that is the same on each input, or has none on any.
@@ -113,7 +99,7 @@ pub fn value(
     match v {
         Value::Register(r) => register(nodes, r, registers),
         Value::Const(n) => constant(nodes, n),
-        Value::Global(g) => fixed(nodes, global_word(p, g)),
+        Value::Global(g) => fixed(nodes, p.global_pointer(g)),
         Value::Function(f) => constant(nodes, f as u64),
     }
 }

@@ -1,5 +1,6 @@
 -- The marks of one call, level by level: each place of the range is below a marked node, or below one that is still to be marked.
-use Rattle.std.proofs.Common.{◌≡◌, ℕ, zero, suc, ◌+◌, ◌-◌, ◌*◌, ◌/◌, ◌^◌, ◌<◌, ◌≤◌, ◌⊎◌, Bool, true, false, refl, sym, ap, ◌∙◌, subst, arith, inl, inr, max, if◌then◌else◌}
+use Rattle.std.proofs.Common.{◌≡◌, ℕ, zero, suc, ◌+◌, ◌-◌, ◌*◌, ◌/◌, ◌^◌, ◌<◌, ◌≤◌, ◌⊎◌, Bool, true, false, refl, sym, ap, ◌∙◌, subst}
+use Rattle.std.proofs.Common.{arith, inl, inr, max, if◌then◌else◌}
 use Rattle.std.specs.Prelude.{◌&&◌, nat_le, nat_lt}
 use Rattle.std.proofs.Math.Nat.{pow-succ'}
 use Rattle.std.proofs.lemmas.Bool.{cases_lt}
@@ -233,7 +234,8 @@ module _ (m n o : ℕ → ℕ) (start fin t h l r : ℕ) (lt : h < 27) (w : Rais
           more x lx (greatest_below m x h) (w.within x lx p.0 p.1) ∙ ap (max (greatest_below m x h)) j ∙ sym (before x lx)
 
   -- a node that was left, and whose parent isn't, is marked
-  just_marked : (x : ℕ) → x < PLACE_COUNT → l ≤ node_at x h → node_at x h < r → (node_at x (suc h) < (l + 1) / 2) ⊎ (r / 2 ≤ node_at x (suc h)) → greatest_below o x (suc h) ≡ max (greatest_below m x (suc h)) t
+  just_marked : (x : ℕ) → x < PLACE_COUNT → l ≤ node_at x h → node_at x h < r → (node_at x (suc h) < (l + 1) / 2) ⊎ (r / 2 ≤ node_at x (suc h))
+      → greatest_below o x (suc h) ≡ max (greatest_below m x (suc h)) t
   just_marked x lx a b c = go (is_marked l r (node_at x h)) refl
     where
       apart : (node_at x (suc h) < (l + 1) / 2) ⊎ (r / 2 ≤ node_at x (suc h)) → (l + 1) / 2 ≤ node_at x h / 2 → node_at x h / 2 < r / 2 → ⊥
@@ -249,7 +251,8 @@ module _ (m n o : ℕ → ℕ) (start fin t h l r : ℕ) (lt : h < 27) (w : Rais
           omega (arith, f, i, g, k)
       go false e = let q = unmarked_in l r (node_at x h) e a b in absurd (apart c q.0 q.1)
 
-  next_covered : (x : ℕ) → x < PLACE_COUNT → start ≤ x → x < fin → (node_at x (suc h) < (l + 1) / 2) ⊎ (r / 2 ≤ node_at x (suc h)) → greatest_below o x (suc h) ≡ max (greatest_below m x (suc h)) t
+  next_covered : (x : ℕ) → x < PLACE_COUNT → start ≤ x → x < fin → (node_at x (suc h) < (l + 1) / 2) ⊎ (r / 2 ≤ node_at x (suc h))
+      → greatest_below o x (suc h) ≡ max (greatest_below m x (suc h)) t
   next_covered x lx a b c = go (cases_lt (node_at x h) l) (cases_lt (node_at x h) r)
     where
       done : (node_at x h < l) ⊎ (r ≤ node_at x h) → greatest_below o x (suc h) ≡ max (greatest_below m x (suc h)) t
@@ -297,7 +300,8 @@ module _ (m n o : ℕ → ℕ) (start fin t h l r : ℕ) (lt : h < 27) (w : Rais
   }
 
 -- when no level is left, no node is
-pub ended : (m n : ℕ → ℕ) (start fin t l r : ℕ) → Raised m n start fin t 27 l r → (x : ℕ) → x < PLACE_COUNT → greatest_below n x 27 ≡ max (greatest_below m x 27) (if nat_le start x && nat_lt x fin then t else 0)
+pub ended : (m n : ℕ → ℕ) (start fin t l r : ℕ) → Raised m n start fin t 27 l r → (x : ℕ) → x < PLACE_COUNT
+    → greatest_below n x 27 ≡ max (greatest_below m x 27) (if nat_le start x && nat_lt x fin then t else 0)
 ended m n start fin t l r w x lx = go (cases_lt x start) (cases_lt x fin)
   where
     none_left : (node_at x 27 < l) ⊎ (r ≤ node_at x 27)

@@ -1,3 +1,5 @@
+//! Numbers at nodes, by classes.
+
 ghost use Rattle.std.specs.Prelude.{◌≡◌, ◌<◌};
 ghost use Rattle.pg_stamps.specs.Numbers.{class_of};
 

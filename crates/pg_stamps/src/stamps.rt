@@ -1,3 +1,5 @@
+//! The last change of each place.
+
 ghost use Rattle.std.specs.Prelude.{◌≡◌, ◌==◌, ◌&&◌, ◌+◌, ◌%◌, ◌<◌, ◌≤◌, ℕ, OnErr, OnOk, max, nat_le, nat_lt, if◌then◌else◌};
 ghost use Rattle.pg_stamps.specs.Marks.{greatest_at, is_marked, mark_of};
 

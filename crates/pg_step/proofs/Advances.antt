@@ -36,7 +36,8 @@ pub advanced_start : (p : NumberedProgram) (l : LocalState) → 0 < length l.fra
 unfolding advanced next
 advanced_start p l g b = sym (ap (λ (a : Action). done_if a l (after p l 0) (local_told p l)) (ap (λ (t : Bool). frames_action p l t l.frames) b ∙ start_action p l l.frames g))
 
-told_at : (p : NumberedProgram) (l : LocalState) (x : Instr) → l.begun ≡ true → 0 < length l.frames → slice_get p.instrs (id_of l) ≡ Some x → local_told p l ≡ op_local (number_at p (top_registers l.frames) (operands_of x.op) 0) (or_zero x.result (op_own p l (top_registers l.frames) 0 x.op)) x.op
+told_at : (p : NumberedProgram) (l : LocalState) (x : Instr) → l.begun ≡ true → 0 < length l.frames → slice_get p.instrs (id_of l) ≡ Some x
+    → local_told p l ≡ op_local (number_at p (top_registers l.frames) (operands_of x.op) 0) (or_zero x.result (op_own p l (top_registers l.frames) 0 x.op)) x.op
 unfolding local_told
 told_at p l x b g e =
     ap (instr_local (slice_index (operand_values p l) 0) (number_given p l 0)) e
@@ -48,7 +49,8 @@ unfolding advanced
 advanced_at p l x b g e =
     ap (λ (a : Action). done_if a l (after p l 0) (local_told p l)) (next_at p l x b g e)
     ∙ ap (λ (m : LocalState). done_if (op_action p (region_of l) l.halfway (top_registers l.frames) (length l.frames) (total l.frames) x.block.0 x.op) l m (local_told p l)) (after_at p l x 0 b g e)
-    ∙ ap (λ (t : LocalStep). done_if (op_action p (region_of l) l.halfway (top_registers l.frames) (length l.frames) (total l.frames) x.block.0 x.op) l (instr_after p l 0 (Some x)) t) (told_at p l x b g e)
+    ∙ ap (λ (t : LocalStep). done_if (op_action p (region_of l) l.halfway (top_registers l.frames) (length l.frames) (total l.frames) x.block.0 x.op) l (instr_after p l 0 (Some x)) t)
+    (told_at p l x b g e)
 
 done_of : (p : NumberedProgram) (l : LocalState) (t : LocalStep) (a : Action) → next p l ≡ a → IsProgram p → IsOf p l → IsOf p (done_if a l (after p l 0) t).0
 done_of p l t actions.Local e program h = still_of p l 0 program h (subst CanStep (sym e) tt) (omega arith)

@@ -22,7 +22,8 @@ use Rattle.pg_step.specs.Needs.{EndsBlock, are_given}
 
 -- ---- the values
 
-taken_each : (p : NumberedProgram) (rs : List (Option ℕ)) (from : ℕ) (xs : List Instr) → map (optional_operand p rs) (map (λ (x : Instr). incoming_from (incoming_of x.op) from) xs) ≡ phi_values p rs from xs
+taken_each : (p : NumberedProgram) (rs : List (Option ℕ)) (from : ℕ) (xs : List Instr)
+    → map (optional_operand p rs) (map (λ (x : Instr). incoming_from (incoming_of x.op) from) xs) ≡ phi_values p rs from xs
 taken_each p rs from [] = refl
 taken_each p rs from (x ∷ xs) = ap (λ (vs : List (Option ℕ)). phi_value p rs from x ∷ vs) (taken_each p rs from xs)
 
@@ -47,7 +48,8 @@ incoming_reads p n from (i ∷ is) h = go (i.block.0 == from) (incoming_reads p 
     go true more = h.0
     go false more = more
 
-row_reads : (p : NumberedProgram) (n from : ℕ) (xs : List Instr) → AllByRecursion (CanTakePhi p n) xs → AllByRecursion (CanReadReturned p n) (map (λ (x : Instr). incoming_from (incoming_of x.op) from) xs)
+row_reads : (p : NumberedProgram) (n from : ℕ) (xs : List Instr) → AllByRecursion (CanTakePhi p n) xs
+    → AllByRecursion (CanReadReturned p n) (map (λ (x : Instr). incoming_from (incoming_of x.op) from) xs)
 row_reads p n from [] h = tt
 row_reads p n from (x ∷ xs) h = (incoming_reads p n from (incoming_of x.op) h.0.values, row_reads p n from xs h.1)
 
@@ -82,11 +84,14 @@ ends_block p i x fits e = record {
 pub br_target : (p : NumberedProgram) (x : Instr) (to : BlockNo) → EndsBlock p x → x.op ≡ op.Br to → slice_get (successors p x.block.0) 0 ≡ Some to.0
 br_target p x to h e = ap (λ (ts : List ℕ). slice_get ts 0) (h.targets (ap is_terminator e) ∙ ap targets_of e)
 
-pub cond_target : (p : NumberedProgram) (x : Instr) (c : Value) (y n : BlockNo) (t to : ℕ) → EndsBlock p x → x.op ≡ op.CondBr c y n → slice_get (y.0 ∷ n.0 ∷ []) t ≡ Some to → slice_get (successors p x.block.0) t ≡ Some to
+pub cond_target : (p : NumberedProgram) (x : Instr) (c : Value) (y n : BlockNo) (t to : ℕ) → EndsBlock p x → x.op ≡ op.CondBr c y n → slice_get (y.0 ∷ n.0 ∷ []) t ≡ Some to
+    → slice_get (successors p x.block.0) t ≡ Some to
 cond_target p x c y n t to h e g = ap (λ (ts : List ℕ). slice_get ts t) (h.targets (ap is_terminator e) ∙ ap targets_of e) ∙ g
 
-pub switch_target : (p : NumberedProgram) (x : Instr) (w : Width) (on : Value) (other : BlockNo) (cases : List Case) (t to : ℕ) → EndsBlock p x → x.op ≡ op.Switch w on other cases → slice_get (other.0 ∷ map (λ (c : Case). c.to.0) cases) t ≡ Some to → slice_get (successors p x.block.0) t ≡ Some to
+pub switch_target : (p : NumberedProgram) (x : Instr) (w : Width) (on : Value) (other : BlockNo) (cases : List Case) (t to : ℕ) → EndsBlock p x → x.op ≡ op.Switch w on other cases
+    → slice_get (other.0 ∷ map (λ (c : Case). c.to.0) cases) t ≡ Some to → slice_get (successors p x.block.0) t ≡ Some to
 switch_target p x w on other cases t to h e g = ap (λ (ts : List ℕ). slice_get ts t) (h.targets (ap is_terminator e) ∙ ap targets_of e) ∙ g
 
-pub switch_cases : (p : NumberedProgram) (x : Instr) (w : Width) (on : Value) (other : BlockNo) (cases : List Case) → EndsBlock p x → x.op ≡ op.Switch w on other cases → cases ≡ block_cases p x.block.0
+pub switch_cases : (p : NumberedProgram) (x : Instr) (w : Width) (on : Value) (other : BlockNo) (cases : List Case) → EndsBlock p x → x.op ≡ op.Switch w on other cases
+    → cases ≡ block_cases p x.block.0
 switch_cases p x w on other cases h e = sym (h.cases (ap is_terminator e) ∙ ap cases_of e)

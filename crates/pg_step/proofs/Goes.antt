@@ -18,7 +18,8 @@ chosen_enters p n c a b h = go (c == 0)
     go true = h.1.0
     go false = h.0
 
-pub case_enters : (p : NumberedProgram) (n : ℕ) (cases : List Case) (other k : ℕ) → AllByRecursion (CanEnter p n) (other ∷ map (λ (c : Case). c.to.0) cases) → CanEnter p n (case_of cases other k)
+pub case_enters : (p : NumberedProgram) (n : ℕ) (cases : List Case) (other k : ℕ) → AllByRecursion (CanEnter p n) (other ∷ map (λ (c : Case). c.to.0) cases)
+    → CanEnter p n (case_of cases other k)
 case_enters p n [] other k h = h.0
 case_enters p n (c ∷ cs) other k h = go (c.value == k) (case_enters p n cs other k (h.0, h.1.1))
   where

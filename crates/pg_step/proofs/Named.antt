@@ -7,7 +7,8 @@ use Rattle.pg_ir.specs.Program.{NumberedProgram}
 use Rattle.pg_step.specs.Step.{known_action, object_action}
 use Rattle.pg_step.specs.Needs.{NamesObject, object_request}
 
-pub object_is : (p : NumberedProgram) (t : ℕ) (halfway : Bool) (rs : List (Option ℕ)) (k : Known) (args : List Value) → NamesObject k → object_action p rs args (λ o. object_request halfway k o) ≡ known_action p t halfway rs k args
+pub object_is : (p : NumberedProgram) (t : ℕ) (halfway : Bool) (rs : List (Option ℕ)) (k : Known) (args : List Value) → NamesObject k
+    → object_action p rs args (λ o. object_request halfway k o) ≡ known_action p t halfway rs k args
 object_is p t halfway rs known.PthreadMutexLock args h = refl
 object_is p t halfway rs known.PthreadMutexTrylock args h = refl
 object_is p t halfway rs known.PthreadMutexUnlock args h = refl

@@ -33,7 +33,8 @@ pub same_function : (p : NumberedProgram) (f : ℕ) (x : Instr) (o : Option Inst
 same_function p f x None e h = absurd h
 same_function p f x (Some y) e h = let same : y ≡ x = cc in subst (λ (z : Instr). function_of p z.block.0 ≡ f) same h.0
 
-pub typed_registers : (p : NumberedProgram) (fs : List Frame) (x : Instr) → AreFramesOf p fs → 0 < length fs → slice_get p.instrs (place_in fs) ≡ Some x → AreValuesOf (types_of p (function_of p x.block.0)) (top_registers fs)
+pub typed_registers : (p : NumberedProgram) (fs : List Frame) (x : Instr) → AreFramesOf p fs → 0 < length fs → slice_get p.instrs (place_in fs) ≡ Some x
+    → AreValuesOf (types_of p (function_of p x.block.0)) (top_registers fs)
 typed_registers p [] x h g e = absurd (omega arith)
 typed_registers p (f ∷ fs) x h g e = subst (λ (n : ℕ). AreValuesOf (types_of p n) f.registers) (sym (same_function p f.function x (slice_get p.instrs f.place) e h.0.place)) h.0.registers
 

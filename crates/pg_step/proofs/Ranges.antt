@@ -1,5 +1,6 @@
 -- The number that an operation gives is one of its register's type.
-use Rattle.std.proofs.Common.{◌≡◌, ℕ, zero, suc, ◌+◌, ◌-◌, ◌*◌, ◌/◌, ◌%◌, ◌<◌, ◌≤◌, ◌^◌, List, [], ◌∷◌, Bool, true, false, Option, Some, None, IsTrue, Ok, Err, ℤ, pos, negsuc, arith, lit<, refl, subst}
+use Rattle.std.proofs.Common.{◌≡◌, ℕ, zero, suc, ◌+◌, ◌-◌, ◌*◌, ◌/◌, ◌%◌, ◌<◌, ◌≤◌, ◌^◌, List, [], ◌∷◌, Bool, true, false, Option, Some, None}
+use Rattle.std.proofs.Common.{IsTrue, Ok, Err, ℤ, pos, negsuc, arith, lit<, refl, subst}
 use Rattle.std.specs.Prelude.{◌==◌, nat_lt, if◌then◌else◌}
 use Rattle.std.proofs.Math.Nat.{div-le_self}
 use Rattle.std.proofs.lemmas.Bool.Decides.{nat_tests}
@@ -114,7 +115,8 @@ pushed_small r bytes t h = omega (arith, room_is r (granules_for bytes) h)
 pub allocated_small : (r : Region) (bytes : ℕ) → r.thread < THREAD_LIMIT → allocated r bytes < 2 ^ 64
 allocated_small r bytes t = go (has_room r (granules_for bytes)) refl
   where
-    go : (b : Bool) → has_room r (granules_for bytes) ≡ b → (if b then word_of (record { start = 2 ^ 21 + r.thread * 2 ^ 15 + (REGION_GRANULES - r.heap - granules_for bytes); length = bytes; offset = 0 }) else 0) < 2 ^ 64
+    go : (b : Bool) → has_room r (granules_for bytes) ≡ b
+        → (if b then word_of (record { start = 2 ^ 21 + r.thread * 2 ^ 15 + (REGION_GRANULES - r.heap - granules_for bytes); length = bytes; offset = 0 }) else 0) < 2 ^ 64
     go false e = lit< tt
     go true e = omega (arith, room_is r (granules_for bytes) e)
 

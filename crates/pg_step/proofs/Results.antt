@@ -43,7 +43,8 @@ as_pointer W16 n h = omega arith
 as_pointer W32 n h = omega arith
 as_pointer W64 n h = h
 
-chosen_type : (p : NumberedProgram) (types : List Scalar) (rs : List (Option ℕ)) (result : Option Scalar) (c a b : Value) (s : Scalar) → IsProgram p → AreValuesOf types rs → IsSomeAnd result (λ q. BothHaveType p types q a b) → result ≡ Some s → BothHaveType p types s a b
+chosen_type : (p : NumberedProgram) (types : List Scalar) (rs : List (Option ℕ)) (result : Option Scalar) (c a b : Value) (s : Scalar) → IsProgram p → AreValuesOf types rs
+    → IsSomeAnd result (λ q. BothHaveType p types q a b) → result ≡ Some s → BothHaveType p types s a b
 chosen_type p types rs None c a b s program h t e = absurd t
 chosen_type p types rs (Some q) c a b s program h t e = let same : q ≡ s = cc in subst (λ (u : Scalar). BothHaveType p types u a b) same t
 
@@ -51,13 +52,16 @@ loaded_small : (result : Option Scalar) (s : Scalar) (w : Width) (n : ℕ) → H
 loaded_small None s w n h e = absurd h
 loaded_small (Some q) s w n h e = let same : q ≡ s = cc in subst (λ (v : Width). n % modulus w < modulus v) (sym h ∙ ap width_of same) (remainder_small w n)
 
-pub number_small : (p : NumberedProgram) (types : List Scalar) (rs : List (Option ℕ)) (returns result : Option Scalar) (r : Region) (o : Op) (answer : ℕ) (s : Scalar) → IsProgram p → AreValuesOf types rs → FitsOp p types returns result o → r.thread < THREAD_LIMIT → HasNumber r o → result ≡ Some s → result_of_op r o (number_at p rs (operands_of o)) answer < modulus (width_of s)
+pub number_small : (p : NumberedProgram) (types : List Scalar) (rs : List (Option ℕ)) (returns result : Option Scalar) (r : Region) (o : Op) (answer : ℕ) (s : Scalar) → IsProgram p
+    → AreValuesOf types rs → FitsOp p types returns result o → r.thread < THREAD_LIMIT → HasNumber r o → result ≡ Some s
+    → result_of_op r o (number_at p rs (operands_of o)) answer < modulus (width_of s)
 number_small p types rs returns result r (op.Add w a b) answer s program h t l n e = at_type result s (Int w) _ t.0 e (remainder_small w _)
 number_small p types rs returns result r (op.Sub w a b) answer s program h t l n e = at_type result s (Int w) _ t.0 e (residue_small w _)
 number_small p types rs returns result r (op.Mul w a b) answer s program h t l n e = at_type result s (Int w) _ t.0 e (remainder_small w _)
 number_small p types rs returns result r (op.Divide d w a b) answer s program h t l n e = at_type result s (Int w) _ t.0 e (divided_small d w _ _ (typed_number p types rs (Int w) a program h t.1.0))
 number_small p types rs returns result r (op.Shift d w a b) answer s program h t l n e = at_type result s (Int w) _ t.0 e (shifted_small d w _ _ (typed_number p types rs (Int w) a program h t.1.0))
-number_small p types rs returns result r (op.Bits d w a b) answer s program h t l n e = at_type result s (Int w) _ t.0 e (bits_small d w _ _ (typed_number p types rs (Int w) a program h t.1.0) (typed_number p types rs (Int w) b program h t.1.1))
+number_small p types rs returns result r (op.Bits d w a b) answer s program h t l n e =
+    at_type result s (Int w) _ t.0 e (bits_small d w _ _ (typed_number p types rs (Int w) a program h t.1.0) (typed_number p types rs (Int w) b program h t.1.1))
 number_small p types rs returns result r (op.Compare c w a b) answer s program h t l n e = at_type result s (Int W1) _ t.0 e (bool_small _)
 number_small p types rs returns result r (op.Trunc from to v) answer s program h t l n e = at_type result s (Int to) _ t.0 e (remainder_small to _)
 number_small p types rs returns result r (op.Zext from to v) answer s program h t l n e = at_type result s (Int to) _ t.0 e (wider from to _ t.1 (typed_number p types rs (Int from) v program h t.2))

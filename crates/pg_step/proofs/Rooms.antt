@@ -1,5 +1,6 @@
 -- A step that can be done has the room that it takes.
-use Rattle.std.proofs.Common.{◌≡◌, ℕ, ◌+◌, ◌<◌, ◌≤◌, List, [], ◌∷◌, length, suc, Bool, true, false, Option, Some, None, IfSome, IsTrue, arith, refl, sym, ◌∙◌, ap, subst}
+use Rattle.std.proofs.Common.{◌≡◌, ℕ, ◌+◌, ◌<◌, ◌≤◌, List, [], ◌∷◌, length, suc, Bool, true, false, Option, Some, None, IfSome, IsTrue, arith, refl, sym}
+use Rattle.std.proofs.Common.{◌∙◌, ap, subst}
 use Rattle.std.specs.Prelude.{slice_get, nat_le, if◌then◌else◌}
 use Rattle.std.proofs.lemmas.Bool.Decides.{nat_tests}
 use Rattle.std.proofs.lemmas.List.{length-take}
@@ -35,7 +36,9 @@ call_room : (p : NumberedProgram) (g depth used : ℕ) → CanStep (call_action 
 unfolding call_action
 call_room p g depth used h = go (nat_le CALL_DEPTH_LIMIT depth) (nat_le (used + length (types_of p g)) THREAD_REGISTER_LIMIT) refl refl h
   where
-    go : (a b : Bool) → nat_le CALL_DEPTH_LIMIT depth ≡ a → nat_le (used + length (types_of p g)) THREAD_REGISTER_LIMIT ≡ b → CanStep (if a then actions.Trap traps.CallDepth else if b then actions.Local else actions.Trap traps.Registers) → (depth < CALL_DEPTH_LIMIT) × (used + length (types_of p g) ≤ THREAD_REGISTER_LIMIT)
+    go : (a b : Bool) → nat_le CALL_DEPTH_LIMIT depth ≡ a → nat_le (used + length (types_of p g)) THREAD_REGISTER_LIMIT ≡ b
+        → CanStep (if a then actions.Trap traps.CallDepth else if b then actions.Local else actions.Trap traps.Registers)
+        → (depth < CALL_DEPTH_LIMIT) × (used + length (types_of p g) ≤ THREAD_REGISTER_LIMIT)
     go true b e f h = absurd h
     go false false e f h = absurd h
     go false true e f h = (grind (arith, nat_tests), grind (arith, nat_tests))
@@ -54,18 +57,20 @@ few_in : (p : NumberedProgram) (f : ℕ) (o : Option Function) → IsProgram p �
 few_in p f None program e = omega arith
 few_in p f (Some x) program e = (program.functions f x e).few
 
-few_registers : (p : NumberedProgram) (f : ℕ) → IsProgram p → length (types_of p f) ≤ FUNCTION_REGISTER_LIMIT
+pub few_registers : (p : NumberedProgram) (f : ℕ) → IsProgram p → length (types_of p f) ≤ FUNCTION_REGISTER_LIMIT
 unfolding types_of
 few_registers p f program = few_in p f (slice_get p.functions f) program refl
 
-call_fits : (p : NumberedProgram) (l : LocalState) (types : List Scalar) (g block : ℕ) (args : List Value) → IsProgram p → g < length p.functions → HaveTypes p types (parameter_types p g) args → CanStep (call_action p g (length l.frames) (total l.frames)) → CanCall p l g args
+call_fits : (p : NumberedProgram) (l : LocalState) (types : List Scalar) (g block : ℕ) (args : List Value) → IsProgram p → g < length p.functions
+    → HaveTypes p types (parameter_types p g) args → CanStep (call_action p g (length l.frames) (total l.frames)) → CanCall p l g args
 call_fits p l types g block args program within h can =
     let r = call_room p g (length l.frames) (total l.frames) can in
     let k : length args ≡ length (parameter_types p g) = as_many p types (parameter_types p g) args h in
     let n : length args ≤ length (types_of p g) = omega (arith, k, length-take (parameter_count p g) (types_of p g)) in
     record { function = within; depth = r.0; room = r.1; args = n; few = omega (arith, n, few_registers p g program) }
 
-result_fits : (p : NumberedProgram) (f : Frame) (o : Option Instr) → IsProgram p → slice_get p.instrs f.place ≡ o → StandsAt p f.function o → AreValuesOf (types_of p f.function) f.registers → ResultFits f.registers o
+result_fits : (p : NumberedProgram) (f : Frame) (o : Option Instr) → IsProgram p → slice_get p.instrs f.place ≡ o → StandsAt p f.function o
+    → AreValuesOf (types_of p f.function) f.registers → ResultFits f.registers o
 result_fits p f None program e s h = s
 result_fits p f (Some x) program e s h =
     let count : length (types_of p (function_of p x.block.0)) ≡ length f.registers = ap (λ (n : ℕ). length (types_of p n)) s.0 ∙ sym (length_values (types_of p f.function) f.registers h) in
@@ -79,14 +84,17 @@ caller_fits : (p : NumberedProgram) (fs : List Frame) → IsProgram p → AreFra
 caller_fits p [] program h = tt
 caller_fits p (f ∷ fs) program h = waiting_fits p f.function f.height fs program h.1
 
-room_of_op : (p : NumberedProgram) (l : LocalState) (types : List Scalar) (returns result : Option Scalar) (block : ℕ) (o : Op) → IsProgram p → AreFramesOf p l.frames → FitsOp p types returns result o → CanStep (op_action p (region_of l) l.halfway (top_registers l.frames) (length l.frames) (total l.frames) block o) → CanDo p l o
-room_of_op p l types returns result block (op.Call g args) program h t can = call_fits p l types g block args program t.1 t.2 (all_set (are_set p (top_registers l.frames) args) (call_action p g (length l.frames) (total l.frames)) can)
+room_of_op : (p : NumberedProgram) (l : LocalState) (types : List Scalar) (returns result : Option Scalar) (block : ℕ) (o : Op) → IsProgram p → AreFramesOf p l.frames
+    → FitsOp p types returns result o → CanStep (op_action p (region_of l) l.halfway (top_registers l.frames) (length l.frames) (total l.frames) block o) → CanDo p l o
+room_of_op p l types returns result block (op.Call g args) program h t can =
+    call_fits p l types g block args program t.1 t.2 (all_set (are_set p (top_registers l.frames) args) (call_action p g (length l.frames) (total l.frames)) can)
 room_of_op p l types returns result block (op.Ret v) program h t can = caller_fits p l.frames program h
 room_of_op p l types returns result block (op.Alloca bytes) program h t can = stack_room (has_room (region_of l) (granules_for bytes)) can
 room_of_op p l types returns result block op.Unreachable program h t can = absurd can
 room_of_op p l types returns result block o program h t can = tt
 
-pub can_do : (p : NumberedProgram) (l : LocalState) (x : Instr) → IsProgram p → IsOf p l → l.begun ≡ true → 0 < length l.frames → slice_get p.instrs (id_of l) ≡ Some x → CanStep (next p l) → CanDo p l x.op
+pub can_do : (p : NumberedProgram) (l : LocalState) (x : Instr) → IsProgram p → IsOf p l → l.begun ≡ true → 0 < length l.frames → slice_get p.instrs (id_of l) ≡ Some x
+    → CanStep (next p l) → CanDo p l x.op
 unfolding IsOf
 can_do p l x program h b g e can =
     let types = types_of p (function_of p x.block.0) in
@@ -102,15 +110,18 @@ edge_there : (p : NumberedProgram) (rs : List (Option ℕ)) (from to : ℕ) → 
 unfolding edge_action
 edge_there p rs from to h = set_there (have_values p rs from (phis_of p to)) h
 
-edge_given : (p : NumberedProgram) (rs : List (Option ℕ)) (from : ℕ) (o : Option ℕ) (to : ℕ → ℕ) → CanStep (on_value o (λ n. edge_action p rs from (to n))) → have_values p rs from (phis_of p (to (given o))) ≡ true
+edge_given : (p : NumberedProgram) (rs : List (Option ℕ)) (from : ℕ) (o : Option ℕ) (to : ℕ → ℕ) → CanStep (on_value o (λ n. edge_action p rs from (to n)))
+    → have_values p rs from (phis_of p (to (given o))) ≡ true
 edge_given p rs from None to h = absurd h
 edge_given p rs from (Some n) to h = edge_there p rs from (to n) h
 
-take_of_op : (p : NumberedProgram) (l : LocalState) (block : ℕ) (o : Op) → CanStep (op_action p (region_of l) l.halfway (top_registers l.frames) (length l.frames) (total l.frames) block o) → CanTake p l block o
+take_of_op : (p : NumberedProgram) (l : LocalState) (block : ℕ) (o : Op) → CanStep (op_action p (region_of l) l.halfway (top_registers l.frames) (length l.frames) (total l.frames) block o)
+    → CanTake p l block o
 take_of_op p l block (op.Br to) can = edge_there p (top_registers l.frames) block to.0 can
 take_of_op p l block (op.CondBr c a b) can = edge_given p (top_registers l.frames) block (operand p (top_registers l.frames) c) (λ n. chosen n a.0 b.0) can
 take_of_op p l block (op.Switch w on other cases) can = edge_given p (top_registers l.frames) block (operand p (top_registers l.frames) on) (λ n. case_of cases other.0 n) can
 take_of_op p l block o can = tt
 
-pub can_take : (p : NumberedProgram) (l : LocalState) (x : Instr) → l.begun ≡ true → 0 < length l.frames → slice_get p.instrs (id_of l) ≡ Some x → CanStep (next p l) → CanTake p l x.block.0 x.op
+pub can_take : (p : NumberedProgram) (l : LocalState) (x : Instr) → l.begun ≡ true → 0 < length l.frames → slice_get p.instrs (id_of l) ≡ Some x → CanStep (next p l)
+    → CanTake p l x.block.0 x.op
 can_take p l x b g e can = take_of_op p l x.block.0 x.op (subst CanStep (next_at p l x b g e) can)

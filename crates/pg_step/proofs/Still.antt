@@ -1,5 +1,6 @@
 -- A step keeps the state a state of the program.
-use Rattle.std.proofs.Common.{◌≡◌, ℕ, ◌+◌, ◌<◌, ◌≤◌, ◌^◌, List, [], ◌∷◌, length, map, Bool, true, false, Option, Some, None, arith, refl, sym, ◌∙◌, ap, subst, inl, inr}
+use Rattle.std.proofs.Common.{◌≡◌, ℕ, ◌+◌, ◌<◌, ◌≤◌, ◌^◌, List, [], ◌∷◌, length, map, Bool, true, false, Option, Some, None, arith, refl, sym, ◌∙◌, ap}
+use Rattle.std.proofs.Common.{subst, inl, inr}
 use Rattle.std.specs.Prelude.{slice_get, slice_set, ◌==◌, if◌then◌else◌}
 use Rattle.std.specs.List.{AllByRecursion}
 use Rattle.pg_num.specs.Numbers.{modulus}
@@ -24,7 +25,8 @@ use Rattle.pg_step.specs.LocalState.{Frame, LocalState, fresh, region_of, top_he
 use Rattle.pg_step.specs.Operands.{operand, given, number_at, operands_of}
 use Rattle.pg_step.specs.Compute.{chosen}
 use Rattle.pg_step.specs.EdgeStep.{case_of}
-use Rattle.pg_step.specs.Step.{next, after, frames_after, instr_after, op_after, known_after, heap_after, known_heap, heap_with, has_room, result_number, stepped, taken, returned, entered, target_in, begun_registers}
+use Rattle.pg_step.specs.Step.{next, after, frames_after, instr_after, op_after, known_after, heap_after, known_heap, heap_with, has_room, result_number, stepped, taken, returned, entered}
+use Rattle.pg_step.specs.Step.{target_in, begun_registers}
 use Rattle.pg_step.specs.Told.{id_of}
 use Rattle.pg_step.specs.States.{IsOf, IsStateOf, IsFrameOf, AreFramesOf, AreValuesOf, StandsAt, WaitFor, Calls, CallsFunction, CanStep}
 use Rattle.pg_step.specs.Needs.{CanDo}
@@ -64,7 +66,8 @@ here p f x program h e =
     }
 
 -- the frame after an instruction that sets its register
-set_frame : (p : NumberedProgram) (l : LocalState) (f : Frame) (x : Instr) (o : Op) (answer : ℕ) → x.op ≡ o → IsProgram p → l.thread < THREAD_LIMIT → Here p f x → HasNumber (region_of l) o → is_terminator o ≡ false → IsFrameOf p (stepped f x.result (result_number p (region_of l) f.registers o answer))
+set_frame : (p : NumberedProgram) (l : LocalState) (f : Frame) (x : Instr) (o : Op) (answer : ℕ) → x.op ≡ o → IsProgram p → l.thread < THREAD_LIMIT → Here p f x
+    → HasNumber (region_of l) o → is_terminator o ≡ false → IsFrameOf p (stepped f x.result (result_number p (region_of l) f.registers o answer))
 set_frame p l f x o answer e program t h n k =
     let fits = subst (λ (q : Op). FitsOp p (types_of p f.function) (result_of p f.function) (type_at (types_of p f.function) x.result) q) e h.fits in
     stepped_frame p f x (result_number p (region_of l) f.registers o answer) program h.frame h.at h.function h.phi (ap is_terminator e ∙ k)
@@ -72,12 +75,13 @@ set_frame p l f x o answer e program t h n k =
 
 -- ---- a return
 
-returned_small : (p : NumberedProgram) (types : List Scalar) (rs : List (Option ℕ)) (returns : Option Scalar) (v : Option Value) (s : Scalar) → IsProgram p → AreValuesOf types rs → FitsReturn p types returns v → returns ≡ Some s → number_at p rs (operands_of (op.Ret v)) 0 < modulus (width_of s)
+returned_small : (p : NumberedProgram) (types : List Scalar) (rs : List (Option ℕ)) (returns : Option Scalar) (v : Option Value) (s : Scalar) → IsProgram p → AreValuesOf types rs
+    → FitsReturn p types returns v → returns ≡ Some s → number_at p rs (operands_of (op.Ret v)) 0 < modulus (width_of s)
 returned_small p types rs None v s program h t e = absurd cc
 returned_small p types rs (Some q) None s program h t e = absurd t
 returned_small p types rs (Some q) (Some v) s program h t e = let same : q ≡ s = cc in typed_number p types rs s v program h (subst (λ (u : Scalar). FitsReturn p types (Some u) (Some v)) same t)
 
-call_result : (p : NumberedProgram) (types : List Scalar) (returns result : Option Scalar) (g : ℕ) (o : Op) → CallsFunction g o → FitsOp p types returns result o → result ≡ result_of p g
+pub call_result : (p : NumberedProgram) (types : List Scalar) (returns result : Option Scalar) (g : ℕ) (o : Op) → CallsFunction g o → FitsOp p types returns result o → result ≡ result_of p g
 call_result p types returns result g (op.Call f args) c t = t.0 ∙ ap (result_of p) c
 call_result p types returns result g (op.Add w a b) c t = absurd c
 call_result p types returns result g (op.Sub w a b) c t = absurd c
@@ -96,7 +100,8 @@ caller_there : (p : NumberedProgram) (f : Frame) (g : ℕ) (o : Option Instr) �
 caller_there p f g None e c = absurd c
 caller_there p f g (Some x) e c = (x, e)
 
-returned_frames : (p : NumberedProgram) (g height : ℕ) (fs : List Frame) (n : ℕ) → IsProgram p → WaitFor p g height fs → ((s : Scalar) → result_of p g ≡ Some s → n < modulus (width_of s)) → AreFramesOf p (returned p fs n)
+returned_frames : (p : NumberedProgram) (g height : ℕ) (fs : List Frame) (n : ℕ) → IsProgram p → WaitFor p g height fs
+    → ((s : Scalar) → result_of p g ≡ Some s → n < modulus (width_of s)) → AreFramesOf p (returned p fs n)
 returned_frames p g height [] n program h k = tt
 returned_frames p g height (f ∷ fs) n program h k =
     let found = caller_there p f g (slice_get p.instrs f.place) refl h.1 in
@@ -116,7 +121,8 @@ chosen_in p f c a b h = go (c == 0)
     go true = h.1.0
     go false = h.0
 
-case_in : (p : NumberedProgram) (f : ℕ) (cases : List Case) (other k : ℕ) → AllByRecursion (λ (d : ℕ). IsInFunction f (slice_get p.blocks d)) (other ∷ map (λ (c : Case). c.to.0) cases) → IsInFunction f (slice_get p.blocks (case_of cases other k))
+case_in : (p : NumberedProgram) (f : ℕ) (cases : List Case) (other k : ℕ)
+    → AllByRecursion (λ (d : ℕ). IsInFunction f (slice_get p.blocks d)) (other ∷ map (λ (c : Case). c.to.0) cases) → IsInFunction f (slice_get p.blocks (case_of cases other k))
 case_in p f [] other k h = h.0
 case_in p f (c ∷ cs) other k h = go (c.value == k) (case_in p f cs other k (h.0, h.1.1))
   where
@@ -154,13 +160,15 @@ taken_frame p f granules h = record { place = h.place; registers = h.registers }
 calls_here : (p : NumberedProgram) (f : Frame) (x : Instr) (g : ℕ) (args : List Value) → slice_get p.instrs f.place ≡ Some x → x.op ≡ op.Call g args → Calls g (slice_get p.instrs f.place)
 calls_here p f x g args at e = subst (λ (o : Option Instr). Calls g o) (sym at) (subst (λ (q : Op). CallsFunction g q) (sym e) refl)
 
-call_frames : (p : NumberedProgram) (f : Frame) (fs : List Frame) (x : Instr) (g : ℕ) (args : List Value) → IsProgram p → AreFramesOf p (f ∷ fs) → Here p f x → x.op ≡ op.Call g args → g < length p.functions → HaveTypes p (types_of p f.function) (parameter_types p g) args → AreFramesOf p (entered p g f.height (map (operand p f.registers) args) ∷ f ∷ fs)
+call_frames : (p : NumberedProgram) (f : Frame) (fs : List Frame) (x : Instr) (g : ℕ) (args : List Value) → IsProgram p → AreFramesOf p (f ∷ fs) → Here p f x → x.op ≡ op.Call g args
+    → g < length p.functions → HaveTypes p (types_of p f.function) (parameter_types p g) args → AreFramesOf p (entered p g f.height (map (operand p f.registers) args) ∷ f ∷ fs)
 unfolding entered
 call_frames p f fs x g args program h i e within t =
     let frame = entered_frame p (types_of p f.function) f.registers g f.height args program within h.0.registers t in
     (frame, (h.0, calls_here p f x g args i.at e, omega arith, h.1))
 
-op_still : (p : NumberedProgram) (t : ℕ) (hw : Bool) (f : Frame) (fs : List Frame) (heap : ℕ) (x : Instr) (answer : ℕ) (o : Op) → x.op ≡ o → IsProgram p → IsStateOf p (running t hw f fs heap) → Here p f x → CanDo p (running t hw f fs heap) o → AreFramesOf p (op_after p (running t hw f fs heap) x answer o)
+op_still : (p : NumberedProgram) (t : ℕ) (hw : Bool) (f : Frame) (fs : List Frame) (heap : ℕ) (x : Instr) (answer : ℕ) (o : Op) → x.op ≡ o → IsProgram p
+    → IsStateOf p (running t hw f fs heap) → Here p f x → CanDo p (running t hw f fs heap) o → AreFramesOf p (op_after p (running t hw f fs heap) x answer o)
 op_still p t hw f fs heap x answer (op.Br to) e program h i can =
     let targets = subst (λ (q : Op). AllByRecursion (λ (b : ℕ). IsInFunction f.function (slice_get p.blocks b)) (targets_of q)) e i.targets in
     (moved_frame p f x.block.0 to.0 program i.frame targets.0, h.frames.1)
@@ -180,12 +188,14 @@ op_still p t hw f fs heap x answer (op.Ret v) e program h i can =
 op_still p t hw f fs heap x answer op.Unreachable e program h i can = absurd can
 op_still p t hw f fs heap x answer (op.Alloca bytes) e program h i can =
     let l = running t hw f fs heap in (
-      taken_frame p (stepped f x.result (result_number p (region_of l) f.registers (op.Alloca bytes) answer)) (granules_for bytes) (set_frame p l f x (op.Alloca bytes) answer e program h.thread i can refl),
+      taken_frame p (stepped f x.result (result_number p (region_of l) f.registers (op.Alloca bytes) answer)) (granules_for bytes)
+          (set_frame p l f x (op.Alloca bytes) answer e program h.thread i can refl),
       wait_taller p f.function f.height (f.height + granules_for bytes) fs (omega arith) h.frames.1,
     )
 op_still p t hw f fs heap x answer (op.CallKnown k args) e program h i can =
     let l = running t hw f fs heap in
-    known_frames p hw k (f ∷ fs) (stepped f x.result (result_number p (region_of l) f.registers (op.CallKnown k args) answer) ∷ fs) h.frames (set_frame p l f x (op.CallKnown k args) answer e program h.thread i tt refl, h.frames.1)
+    known_frames p hw k (f ∷ fs) (stepped f x.result (result_number p (region_of l) f.registers (op.CallKnown k args) answer) ∷ fs) h.frames
+    (set_frame p l f x (op.CallKnown k args) answer e program h.thread i tt refl, h.frames.1)
 op_still p t hw f fs heap x answer o e program h i can = (set_frame p (running t hw f fs heap) f x o answer e program h.thread i tt refl, h.frames.1)
 
 -- ---- stack and heap after an instruction
@@ -224,14 +234,17 @@ known_height halfway known.PthreadBarrierWait f g fs e = go halfway
     go false = omega arith
 known_height halfway k f g fs e = omega (arith, e)
 
-op_region : (p : NumberedProgram) (t : ℕ) (hw : Bool) (f : Frame) (fs : List Frame) (heap : ℕ) (x : Instr) (answer : ℕ) (o : Op) → IsStateOf p (running t hw f fs heap) → CanDo p (running t hw f fs heap) o → top_height (op_after p (running t hw f fs heap) x answer o) + heap_after p (region_of (running t hw f fs heap)) f.registers o ≤ REGION_GRANULES
+op_region : (p : NumberedProgram) (t : ℕ) (hw : Bool) (f : Frame) (fs : List Frame) (heap : ℕ) (x : Instr) (answer : ℕ) (o : Op) → IsStateOf p (running t hw f fs heap)
+    → CanDo p (running t hw f fs heap) o → top_height (op_after p (running t hw f fs heap) x answer o) + heap_after p (region_of (running t hw f fs heap)) f.registers o ≤ REGION_GRANULES
 op_region p t hw f fs heap x answer (op.Call g args) h can = omega (arith, entered_height p g f.height (map (operand p f.registers) args), h.region)
 op_region p t hw f fs heap x answer (op.Ret v) h can = omega (arith, waiting_height p f.function f.height fs (number_at p f.registers (operands_of (op.Ret v)) 0) h.frames.1, h.region)
 op_region p t hw f fs heap x answer (op.Alloca bytes) h can = omega (arith, room_is (region_of (running t hw f fs heap)) (granules_for bytes) can)
-op_region p t hw f fs heap x answer (op.CallKnown k args) h can = known_region (region_of (running t hw f fs heap)) k (number_at p f.registers args 0) _ h.region (known_height hw k f (stepped f x.result (result_number p (region_of (running t hw f fs heap)) f.registers (op.CallKnown k args) answer)) fs refl)
+op_region p t hw f fs heap x answer (op.CallKnown k args) h can = known_region (region_of (running t hw f fs heap)) k (number_at p f.registers args 0) _ h.region
+    (known_height hw k f (stepped f x.result (result_number p (region_of (running t hw f fs heap)) f.registers (op.CallKnown k args) answer)) fs refl)
 op_region p t hw f fs heap x answer o h can = h.region
 
-instr_still : (p : NumberedProgram) (t : ℕ) (hw : Bool) (f : Frame) (fs : List Frame) (heap : ℕ) (x : Instr) (answer : ℕ) → IsProgram p → IsStateOf p (running t hw f fs heap) → slice_get p.instrs f.place ≡ Some x → CanDo p (running t hw f fs heap) x.op → IsStateOf p (instr_after p (running t hw f fs heap) answer (Some x))
+instr_still : (p : NumberedProgram) (t : ℕ) (hw : Bool) (f : Frame) (fs : List Frame) (heap : ℕ) (x : Instr) (answer : ℕ) → IsProgram p → IsStateOf p (running t hw f fs heap)
+    → slice_get p.instrs f.place ≡ Some x → CanDo p (running t hw f fs heap) x.op → IsStateOf p (instr_after p (running t hw f fs heap) answer (Some x))
 instr_still p t hw f fs heap x answer program h e can = record {
   thread = h.thread;
   frames = op_still p t hw f fs heap x answer x.op refl program h (here p f x program h.frames.0 e) can;
@@ -257,19 +270,24 @@ first_type : (p : NumberedProgram) (f : ℕ) → BeginsThread (slice_get p.funct
 unfolding types_of
 first_type p f h = thread_type (slice_get p.functions f) h
 
-either_typed : (types : List Scalar) (rs : List (Option ℕ)) (answer : ℕ) (b : Bool) → AreValuesOf types rs → slice_get types 0 ≡ Some Ptr → answer < 2 ^ 64 → AreValuesOf types (if b then rs else slice_set rs 0 (Some answer))
+either_typed : (types : List Scalar) (rs : List (Option ℕ)) (answer : ℕ) (b : Bool) → AreValuesOf types rs → slice_get types 0 ≡ Some Ptr → answer < 2 ^ 64
+    → AreValuesOf types (if b then rs else slice_set rs 0 (Some answer))
 either_typed types rs answer true h e l = h
 either_typed types rs answer false h e l = set_value types rs 0 Ptr (Some answer) h e l
 
-begun_typed : (p : NumberedProgram) (f answer : ℕ) (rs : List (Option ℕ)) → IsProgram p → StartsAs p f → AreValuesOf (types_of p f) rs → answer < 2 ^ 64 → AreValuesOf (types_of p f) (begun_registers (parameter_count p f) rs answer)
+begun_typed : (p : NumberedProgram) (f answer : ℕ) (rs : List (Option ℕ)) → IsProgram p → StartsAs p f → AreValuesOf (types_of p f) rs → answer < 2 ^ 64
+    → AreValuesOf (types_of p f) (begun_registers (parameter_count p f) rs answer)
 begun_typed p f answer rs program (inl e) h l = let z : parameter_count p f ≡ 0 = ap (parameter_count p) e ∙ main_count p program in rw z h
 begun_typed p f answer rs program (inr b) h l = either_typed (types_of p f) rs answer (parameter_count p f == 0) h (first_type p f b) l
 
-done_here : (p : NumberedProgram) (t : ℕ) (hw : Bool) (f : Frame) (fs : List Frame) (heap : ℕ) (x : Instr) → IsProgram p → IsStateOf p (running t hw f fs heap) → slice_get p.instrs f.place ≡ Some x → CanStep (next p (running t hw f fs heap)) → CanDo p (running t hw f fs heap) x.op
+done_here : (p : NumberedProgram) (t : ℕ) (hw : Bool) (f : Frame) (fs : List Frame) (heap : ℕ) (x : Instr) → IsProgram p → IsStateOf p (running t hw f fs heap)
+    → slice_get p.instrs f.place ≡ Some x → CanStep (next p (running t hw f fs heap)) → CanDo p (running t hw f fs heap) x.op
 unfolding IsOf id_of
 done_here p t hw f fs heap x program h e can = can_do p (running t hw f fs heap) x program h refl (omega arith) e can
 
-state_still : (p : NumberedProgram) (t : ℕ) (b hw : Bool) (fs : List Frame) (heap answer : ℕ) → IsProgram p → IsStateOf p (record { thread = t; begun = b; halfway = hw; frames = fs; heap = heap }) → CanStep (next p (record { thread = t; begun = b; halfway = hw; frames = fs; heap = heap })) → answer < 2 ^ 64 → IsStateOf p (frames_after p (record { thread = t; begun = b; halfway = hw; frames = fs; heap = heap }) b fs answer)
+state_still : (p : NumberedProgram) (t : ℕ) (b hw : Bool) (fs : List Frame) (heap answer : ℕ) → IsProgram p
+    → IsStateOf p (record { thread = t; begun = b; halfway = hw; frames = fs; heap = heap }) → CanStep (next p (record { thread = t; begun = b; halfway = hw; frames = fs; heap = heap }))
+    → answer < 2 ^ 64 → IsStateOf p (frames_after p (record { thread = t; begun = b; halfway = hw; frames = fs; heap = heap }) b fs answer)
 state_still p t b hw [] heap answer program h can l = h
 state_still p t false hw (f ∷ fs) heap answer program h can l = record {
   thread = h.thread;

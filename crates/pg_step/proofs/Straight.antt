@@ -26,5 +26,7 @@ goes_straight p l x answer (op.Alloca bytes) h = absurd h
 goes_straight p l x answer (op.CallKnown k args) h = absurd h
 goes_straight p l x answer o h = record { halfway = refl; frames = refl; heap = refl; own = refl }
 
-pub straight_state : (p : NumberedProgram) (l : LocalState) (x : Instr) (answer n : ℕ) (o : Op) → IsStraight o → n ≡ result_number p (region_of l) (top_registers l.frames) o answer → record l { halfway = false; frames = on_top (λ f. stepped f x.result n) l.frames } ≡ record l { halfway = halfway_after l.halfway o; frames = op_after p l x answer o; heap = heap_after p (region_of l) (top_registers l.frames) o }
+pub straight_state : (p : NumberedProgram) (l : LocalState) (x : Instr) (answer n : ℕ) (o : Op) → IsStraight o → n ≡ result_number p (region_of l) (top_registers l.frames) o answer
+    → record l { halfway = false; frames = on_top (λ f. stepped f x.result n) l.frames }
+    ≡ record l { halfway = halfway_after l.halfway o; frames = op_after p l x answer o; heap = heap_after p (region_of l) (top_registers l.frames) o }
 straight_state p l x answer n o h e = let g = goes_straight p l x answer o h in rw (g.halfway, g.frames, g.heap, e) refl

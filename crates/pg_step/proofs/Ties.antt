@@ -34,12 +34,14 @@ one_tie : (u : Option ℕ) (f : ℕ → ℕ) → with_value u (λ n. Some (f n))
 one_tie None f = refl
 one_tie (Some n) f = refl
 
-two_tie : (u v : Option ℕ) (f : ℕ → ℕ → ℕ) → with_values u v (λ m n. Some (f m n)) ≡ if_local (if is_set u && (is_set v && true) then actions.Local else actions.Trap traps.Unset) (f (given u) (given v))
+two_tie : (u v : Option ℕ) (f : ℕ → ℕ → ℕ) → with_values u v (λ m n. Some (f m n))
+    ≡ if_local (if is_set u && (is_set v && true) then actions.Local else actions.Trap traps.Unset) (f (given u) (given v))
 two_tie None v f = refl
 two_tie (Some m) None f = refl
 two_tie (Some m) (Some n) f = refl
 
-three_tie : (t u v : Option ℕ) (f : ℕ → ℕ → ℕ → ℕ) → with_value t (λ k. with_values u v (λ m n. Some (f k m n))) ≡ if_local (if is_set t && (is_set u && (is_set v && true)) then actions.Local else actions.Trap traps.Unset) (f (given t) (given u) (given v))
+three_tie : (t u v : Option ℕ) (f : ℕ → ℕ → ℕ → ℕ) → with_value t (λ k. with_values u v (λ m n. Some (f k m n)))
+    ≡ if_local (if is_set t && (is_set u && (is_set v && true)) then actions.Local else actions.Trap traps.Unset) (f (given t) (given u) (given v))
 three_tie None u v f = refl
 three_tie (Some k) None v f = refl
 three_tie (Some k) (Some m) None f = refl
@@ -50,20 +52,29 @@ quotient_tie (Ok n) = refl
 quotient_tie (Err divide.Zero) = refl
 quotient_tie (Err divide.Overflow) = refl
 
-divide_tie : (u v : Option ℕ) (f : ℕ → ℕ → Result ℕ DivideFault) → with_values u v (λ m n. quotient_of (f m n)) ≡ if_local (on_value u (λ m. on_value v (λ n. divided_action (f m n)))) (quotient_or_zero (f (given u) (given v)))
+divide_tie : (u v : Option ℕ) (f : ℕ → ℕ → Result ℕ DivideFault)
+    → with_values u v (λ m n. quotient_of (f m n)) ≡ if_local (on_value u (λ m. on_value v (λ n. divided_action (f m n)))) (quotient_or_zero (f (given u) (given v)))
 divide_tie None v f = refl
 divide_tie (Some m) None f = refl
 divide_tie (Some m) (Some n) f = quotient_tie (f m n)
 
-moves_tie : (p : NumberedProgram) (rs : List (Option ℕ)) (word : ℕ) (is : List Index) → moved_each_if p rs word is ≡ if_local (if are_set p rs (map (λ (i : Index). i.value) is) then actions.Local else actions.Trap traps.Unset) (moved_each p rs word is)
+moves_tie : (p : NumberedProgram) (rs : List (Option ℕ)) (word : ℕ) (is : List Index)
+    → moved_each_if p rs word is ≡ if_local (if are_set p rs (map (λ (i : Index). i.value) is) then actions.Local else actions.Trap traps.Unset) (moved_each p rs word is)
 moves_tie p rs word [] = refl
 moves_tie p rs word (i ∷ is) = go (operand p rs i.value) (λ n. moves_tie p rs (moved_by word (index_bytes i i.scale n)) is)
   where
-    go : (u : Option ℕ) → ((n : ℕ) → moved_each_if p rs (moved_by word (index_bytes i i.scale n)) is ≡ if_local (if are_set p rs (map (λ (j : Index). j.value) is) then actions.Local else actions.Trap traps.Unset) (moved_each p rs (moved_by word (index_bytes i i.scale n)) is)) → with_value u (λ n. moved_each_if p rs (moved_by word (index_bytes i i.scale n)) is) ≡ if_local (if is_set u && are_set p rs (map (λ (j : Index). j.value) is) then actions.Local else actions.Trap traps.Unset) (moved_each p rs (moved_by word (index_bytes i i.scale (given u))) is)
+    go : (u : Option ℕ) → ((n : ℕ)
+        → moved_each_if p rs (moved_by word (index_bytes i i.scale n)) is
+        ≡ if_local (if are_set p rs (map (λ (j : Index). j.value) is) then actions.Local else actions.Trap traps.Unset) (moved_each p rs (moved_by word (index_bytes i i.scale n)) is))
+        → with_value u (λ n. moved_each_if p rs (moved_by word (index_bytes i i.scale n)) is)
+        ≡ if_local (if is_set u && are_set p rs (map (λ (j : Index). j.value) is) then actions.Local else actions.Trap traps.Unset)
+        (moved_each p rs (moved_by word (index_bytes i i.scale (given u))) is)
     go None more = refl
     go (Some n) more = more n
 
-gep_tie : (p : NumberedProgram) (rs : List (Option ℕ)) (u : Option ℕ) (is : List Index) → with_value u (λ word. moved_each_if p rs word is) ≡ if_local (if is_set u && are_set p rs (map (λ (i : Index). i.value) is) then actions.Local else actions.Trap traps.Unset) (moved_each p rs (given u) is)
+gep_tie : (p : NumberedProgram) (rs : List (Option ℕ)) (u : Option ℕ) (is : List Index)
+    → with_value u (λ word. moved_each_if p rs word is) ≡ if_local (if is_set u && are_set p rs (map (λ (i : Index). i.value) is) then actions.Local else actions.Trap traps.Unset)
+    (moved_each p rs (given u) is)
 gep_tie p rs None is = refl
 gep_tie p rs (Some word) is = moves_tie p rs word is
 
@@ -73,7 +84,8 @@ with_value_same (Some n) f g h = h n
 
 -- ---- each operation
 
-pub tie : (p : NumberedProgram) (r : Region) (halfway : Bool) (rs : List (Option ℕ)) (depth used block answer : ℕ) (o : Op) → computes o ≡ true → computed_if o (argument p rs (operands_of o)) ≡ if_local (op_action p r halfway rs depth used block o) (result_number p r rs o answer)
+pub tie : (p : NumberedProgram) (r : Region) (halfway : Bool) (rs : List (Option ℕ)) (depth used block answer : ℕ) (o : Op) → computes o ≡ true
+    → computed_if o (argument p rs (operands_of o)) ≡ if_local (op_action p r halfway rs depth used block o) (result_number p r rs o answer)
 tie p r halfway rs depth used block answer (op.Add w a b) h = two_tie (operand p rs a) (operand p rs b) _
 tie p r halfway rs depth used block answer (op.Sub w a b) h = two_tie (operand p rs a) (operand p rs b) _
 tie p r halfway rs depth used block answer (op.Mul w a b) h = two_tie (operand p rs a) (operand p rs b) _
@@ -128,11 +140,13 @@ module _ (p : NumberedProgram) (l : LocalState) (x : Instr) (h : computes x.op �
   tie_here : computed_if x.op (argument p (top_registers l.frames) (operands_of x.op)) ≡ if_local action_at (result_number p (region_of l) (top_registers l.frames) x.op 0)
   tie_here = tie p (region_of l) l.halfway (top_registers l.frames) (length l.frames) (total l.frames) x.block.0 0 x.op h
 
-  pub computes_done : (n : ℕ) → computed_if x.op (argument p (top_registers l.frames) (operands_of x.op)) ≡ Some n → instr_done p l x ≡ (record l { halfway = false; frames = on_top (λ f. stepped f x.result n) l.frames }, Done told.Other)
+  pub computes_done : (n : ℕ) → computed_if x.op (argument p (top_registers l.frames) (operands_of x.op)) ≡ Some n
+      → instr_done p l x ≡ (record l { halfway = false; frames = on_top (λ f. stepped f x.result n) l.frames }, Done told.Other)
   computes_done n e =
       let rs = top_registers l.frames in
       let both = local_some action_at (result_number p (region_of l) rs x.op 0) n (sym tie_here ∙ e) in
-      let state : record l { halfway = false; frames = on_top (λ f. stepped f x.result n) l.frames } ≡ instr_after p l 0 (Some x) = straight_state p l x 0 n x.op (computes_straight x.op h) (sym both.1) in
+      let state : record l { halfway = false; frames = on_top (λ f. stepped f x.result n) l.frames } ≡ instr_after p l 0 (Some x) =
+      straight_state p l x 0 n x.op (computes_straight x.op h) (sym both.1) in
       ap (λ (a : Action). done_if a l (instr_after p l 0 (Some x)) (op_local (number_at p rs (operands_of x.op) 0) (or_zero x.result (op_own p l rs 0 x.op)) x.op)) both.0
       ∙ ap (λ (t : LocalStep). (instr_after p l 0 (Some x), Done t)) (computes_told (number_at p rs (operands_of x.op) 0) (or_zero x.result (op_own p l rs 0 x.op)) x.op h)
       ∙ ap (λ (m : LocalState). (m, Done told.Other)) (sym state)

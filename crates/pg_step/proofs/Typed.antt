@@ -38,7 +38,8 @@ value_at (t ∷ ss) [] r s h e = absurd h
 value_at (t ∷ ss) (v ∷ vs) zero s h e = let same : t ≡ s = cc in subst (λ (q : Scalar). IsValueOf q v) same h.0
 value_at (t ∷ ss) (v ∷ vs) (suc r) s h e = value_at ss vs r s h.1 e
 
-pub set_value : (ss : List Scalar) (vs : List (Option ℕ)) (r : ℕ) (s : Scalar) (n : Option ℕ) → AreValuesOf ss vs → slice_get ss r ≡ Some s → IsValueOf s n → AreValuesOf ss (slice_set vs r n)
+pub set_value : (ss : List Scalar) (vs : List (Option ℕ)) (r : ℕ) (s : Scalar) (n : Option ℕ) → AreValuesOf ss vs → slice_get ss r ≡ Some s → IsValueOf s n
+    → AreValuesOf ss (slice_set vs r n)
 set_value [] vs r s n h e k = absurd cc
 set_value (t ∷ ss) [] r s n h e k = absurd h
 set_value (t ∷ ss) (v ∷ vs) zero s n h e k = let same : s ≡ t = cc in (subst (λ (q : Scalar). IsValueOf q n) same k, h.1)
@@ -50,7 +51,8 @@ pointer_small : (p : NumberedProgram) (g : ℕ) (o : Option GlobalInfo) → IsPr
 pointer_small p g None program e = tt
 pointer_small p g (Some x) program e = let fits = global_fits 1 p.globals g x program.globals e in omega (arith, fits.below, fits.size)
 
-pub typed_operand : (p : NumberedProgram) (types : List Scalar) (rs : List (Option ℕ)) (s : Scalar) (v : Value) → IsProgram p → AreValuesOf types rs → HasType p types s v → IsValueOf s (operand p rs v)
+pub typed_operand : (p : NumberedProgram) (types : List Scalar) (rs : List (Option ℕ)) (s : Scalar) (v : Value) → IsProgram p → AreValuesOf types rs → HasType p types s v
+    → IsValueOf s (operand p rs v)
 typed_operand p types rs s (value.Register r) program h t = value_at types rs r s h t
 typed_operand p types rs s (value.Const n) program h t = t
 typed_operand p types rs s (value.Global g) program h t = subst (λ (q : Scalar). IsValueOf q (pointer_to (slice_get p.globals g))) (sym t.0) (pointer_small p g (slice_get p.globals g) program refl)
@@ -67,19 +69,23 @@ pub given_small : (s : Scalar) (o : Option ℕ) → IsValueOf s o → given o < 
 given_small s None h = some_values (width_of s)
 given_small s (Some n) h = h
 
-pub typed_number : (p : NumberedProgram) (types : List Scalar) (rs : List (Option ℕ)) (s : Scalar) (v : Value) → IsProgram p → AreValuesOf types rs → HasType p types s v → given (operand p rs v) < modulus (width_of s)
+pub typed_number : (p : NumberedProgram) (types : List Scalar) (rs : List (Option ℕ)) (s : Scalar) (v : Value) → IsProgram p → AreValuesOf types rs → HasType p types s v
+    → given (operand p rs v) < modulus (width_of s)
 typed_number p types rs s v program h t = given_small s (operand p rs v) (typed_operand p types rs s v program h t)
 
 -- ---- the operands of an operation fit
 
-typed_pair : (p : NumberedProgram) (types : List Scalar) (rs : List (Option ℕ)) (s : Scalar) (a b : Value) → IsProgram p → AreValuesOf types rs → BothHaveType p types s a b → HasWidth p rs (width_of s) a × HasWidth p rs (width_of s) b
+typed_pair : (p : NumberedProgram) (types : List Scalar) (rs : List (Option ℕ)) (s : Scalar) (a b : Value) → IsProgram p → AreValuesOf types rs → BothHaveType p types s a b
+    → HasWidth p rs (width_of s) a × HasWidth p rs (width_of s) b
 typed_pair p types rs s a b program h t = (typed_number p types rs s a program h t.0, typed_number p types rs s b program h t.1)
 
-typed_compared : (p : NumberedProgram) (types : List Scalar) (rs : List (Option ℕ)) (w : Width) (a b : Value) → IsProgram p → AreValuesOf types rs → FitsCompare p types w a b → HasWidth p rs w a × HasWidth p rs w b
+typed_compared : (p : NumberedProgram) (types : List Scalar) (rs : List (Option ℕ)) (w : Width) (a b : Value) → IsProgram p → AreValuesOf types rs → FitsCompare p types w a b
+    → HasWidth p rs w a × HasWidth p rs w b
 typed_compared p types rs w a b program h (inl t) = typed_pair p types rs (Int w) a b program h t
 typed_compared p types rs w a b program h (inr t) = subst (λ (v : Width). HasWidth p rs v a × HasWidth p rs v b) (sym t.0) (typed_pair p types rs Ptr a b program h t.1)
 
-typed_indices : (p : NumberedProgram) (types : List Scalar) (rs : List (Option ℕ)) (is : List Index) → IsProgram p → AreValuesOf types rs → AllByRecursion (FitsIndex p types) is → AllByRecursion (λ (i : Index). HasWidth p rs i.width i.value) is
+typed_indices : (p : NumberedProgram) (types : List Scalar) (rs : List (Option ℕ)) (is : List Index) → IsProgram p → AreValuesOf types rs → AllByRecursion (FitsIndex p types) is
+    → AllByRecursion (λ (i : Index). HasWidth p rs i.width i.value) is
 typed_indices p types rs [] program h t = tt
 typed_indices p types rs (i ∷ is) program h t = (typed_number p types rs (Int i.width) i.value program h t.0, typed_indices p types rs is program h t.1)
 
@@ -101,19 +107,22 @@ create_fits p types rs (a ∷ b ∷ []) program h = absurd h
 create_fits p types rs (a ∷ b ∷ f ∷ []) program h = absurd h
 create_fits p types rs (a ∷ b ∷ f ∷ c ∷ d ∷ more) program h = absurd h
 
-count_fits : (p : NumberedProgram) (types : List Scalar) (rs : List (Option ℕ)) (args : List Value) → IsProgram p → AreValuesOf types rs → HaveTypes p types (Ptr ∷ Ptr ∷ Int W32 ∷ []) args → number_at p rs args 2 < 2 ^ 32
+count_fits : (p : NumberedProgram) (types : List Scalar) (rs : List (Option ℕ)) (args : List Value) → IsProgram p → AreValuesOf types rs
+    → HaveTypes p types (Ptr ∷ Ptr ∷ Int W32 ∷ []) args → number_at p rs args 2 < 2 ^ 32
 count_fits p types rs (a ∷ b ∷ c ∷ []) program h t = typed_number p types rs (Int W32) c program h t.1.1.0
 count_fits p types rs [] program h t = absurd t
 count_fits p types rs (a ∷ []) program h t = absurd t.1
 count_fits p types rs (a ∷ b ∷ []) program h t = absurd t.1.1
 count_fits p types rs (a ∷ b ∷ c ∷ d ∷ more) program h t = absurd t.1.1.1
 
-known_fits : (p : NumberedProgram) (types : List Scalar) (rs : List (Option ℕ)) (k : Known) (args : List Value) → IsProgram p → AreValuesOf types rs → FitKnown p types k args → KnownWidths p rs k args
+known_fits : (p : NumberedProgram) (types : List Scalar) (rs : List (Option ℕ)) (k : Known) (args : List Value) → IsProgram p → AreValuesOf types rs → FitKnown p types k args
+    → KnownWidths p rs k args
 known_fits p types rs known.PthreadCreate args program h t = create_fits p types rs args program t
 known_fits p types rs known.PthreadBarrierInit args program h t = count_fits p types rs args program h t
 known_fits p types rs k args program h t = tt
 
-pub operands_fit : (p : NumberedProgram) (types : List Scalar) (rs : List (Option ℕ)) (returns result : Option Scalar) (o : Op) → IsProgram p → AreValuesOf types rs → FitsOp p types returns result o → OperandsFit p rs o
+pub operands_fit : (p : NumberedProgram) (types : List Scalar) (rs : List (Option ℕ)) (returns result : Option Scalar) (o : Op) → IsProgram p → AreValuesOf types rs
+    → FitsOp p types returns result o → OperandsFit p rs o
 operands_fit p types rs returns result (op.Divide d w a b) program h t = typed_pair p types rs (Int w) a b program h t.1
 operands_fit p types rs returns result (op.Shift s w a b) program h t = typed_number p types rs (Int w) a program h t.1.0
 operands_fit p types rs returns result (op.Compare c w a b) program h t = typed_compared p types rs w a b program h t.1

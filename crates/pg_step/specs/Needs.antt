@@ -1,6 +1,7 @@
 -- What the code of a step asks of the operands and of the state: that each number has its width, and
 -- that the step can be taken.
-use Rattle.std.specs.Prelude.{◌≡◌, ℕ, ◌+◌, ◌<◌, ◌&&◌, true, ◌≤◌, ◌^◌, List, [], ◌∷◌, length, Bool, IsTrue, Option, Some, None, IfSome, slice_get, if◌then◌else◌}
+use Rattle.std.specs.Prelude.{◌≡◌, ℕ, ◌+◌, ◌<◌, ◌&&◌, true, ◌≤◌, ◌^◌, List, [], ◌∷◌, length, Bool, IsTrue, Option, Some, None, IfSome, slice_get}
+use Rattle.std.specs.Prelude.{if◌then◌else◌}
 use Rattle.std.specs.List.{AllByRecursion}
 use Rattle.pg_num.specs.Numbers.{modulus}
 use Rattle.pg_num.specs.declared.layout.TheConstants.{REGION_GRANULES}

@@ -1,14 +1,13 @@
 -- The operands of an instruction, and their values in a frame.
 use Rattle.std.specs.Prelude.{ℕ, List, [], ◌∷◌, map, Option, Some, None, slice_get}
-use Rattle.pg_num.specs.Pointers.{word_of}
 use Rattle.pg_ir.specs.declared.value.Value.{Value}
 use Rattle.pg_ir.specs.declared.value.Value.TheVariants as value
 use Rattle.pg_ir.specs.declared.value.Index.{Index}
 use Rattle.pg_ir.specs.declared.edge.Case.{Case}
 use Rattle.pg_ir.specs.declared.edge.Incoming.{Incoming}
-use Rattle.pg_ir.specs.declared.function.GlobalInfo.{GlobalInfo}
 use Rattle.pg_ir.specs.declared.instr.Op.{Op}
 use Rattle.pg_ir.specs.declared.instr.Op.TheVariants as op
+pub use Rattle.pg_ir.specs.Program.{pointer_to}
 use Rattle.pg_ir.specs.Program.{NumberedProgram}
 
 -- ---- values
@@ -16,11 +15,6 @@ use Rattle.pg_ir.specs.Program.{NumberedProgram}
 abbrev pub flat : Option (Option ℕ) → Option ℕ
 flat None = None
 flat (Some v) = v
-
--- the pointer to the first byte of a global
-abbrev pub pointer_to : Option GlobalInfo → Option ℕ
-pointer_to None = None
-pointer_to (Some g) = Some (word_of (record { start = g.start; length = g.size; offset = 0 }))
 
 -- the value of an operand; a register that was never set has none
 abbrev pub operand : NumberedProgram → List (Option ℕ) → Value → Option ℕ

@@ -1,6 +1,7 @@
 -- A thread by itself: its next action, and its state after the step, as a table over instructions
 -- (LLVM Language Reference, "Instruction Reference"; POSIX.1-2017).
-use Rattle.std.specs.Prelude.{ℕ, ◌+◌, ◌-◌, ◌%◌, ◌==◌, List, [], ◌∷◌, ◌++◌, length, map, replicate, Bool, true, false, not, ◌&&◌, nat_le, Option, Some, None, Result, Ok, Err, slice_get, slice_set, if◌then◌else◌}
+use Rattle.std.specs.Prelude.{ℕ, ◌+◌, ◌-◌, ◌%◌, ◌==◌, List, [], ◌∷◌, ◌++◌, length, map, replicate, Bool, true, false, not, ◌&&◌, nat_le, Option, Some, None}
+use Rattle.std.specs.Prelude.{Result, Ok, Err, slice_get, slice_set, if◌then◌else◌}
 use Rattle.pg_num.specs.Numbers.{signed, modulus, divided}
 use Rattle.pg_num.specs.Places.{ByteRange}
 use Rattle.pg_num.specs.Pointers as pointers
@@ -10,8 +11,8 @@ use Rattle.pg_num.specs.declared.operations.DivideFault.{DivideFault}
 use Rattle.pg_num.specs.declared.operations.DivideFault.TheVariants as divide
 use Rattle.pg_num.specs.declared.places.PlaceFault.{PlaceFault}
 use Rattle.pg_num.specs.declared.places.PlaceFault.TheVariants as fault
-use Rattle.pg_num.specs.declared.width.Width.{Width}
-use Rattle.pg_num.specs.declared.width.Width.TheVariants.{W1, W8, W16, W32, W64}
+pub use Rattle.pg_num.specs.Numbers.{bytes_of}
+use Rattle.pg_num.specs.declared.width.Width.TheVariants.{W64}
 use Rattle.pg_ir.specs.declared.value.Value.{Value}
 use Rattle.pg_ir.specs.declared.value.Scalar.{Scalar}
 use Rattle.pg_ir.specs.declared.known.Known.{Known}
@@ -48,14 +49,6 @@ abbrev pub on_all : NumberedProgram → List (Option ℕ) → List Value → Act
 on_all p rs vs act = if are_set p rs vs then act else actions.Trap traps.Unset
 
 -- ---- memory
-
--- how many bytes a value of a width takes in memory
-abbrev pub bytes_of : Width → ℕ
-bytes_of W1 = 1
-bytes_of W8 = 1
-bytes_of W16 = 2
-bytes_of W32 = 4
-bytes_of W64 = 8
 
 abbrev pub placed : Result ByteRange PlaceFault → (ByteRange → Action) → Action
 placed (Ok r) act = act r
@@ -95,7 +88,8 @@ barrier_init_action p rs args =
 
 abbrev pub create_action : NumberedProgram → List (Option ℕ) → List Value → Action
 create_action p rs args =
-    on_value (argument p rs args 0) (λ w. on_value (argument p rs args 1) (λ a. on_value (argument p rs args 2) (λ f. on_value (argument p rs args 3) (λ n. on_place w 8 (λ r. on_null a (actions.Event (requests.Create r f n)))))))
+    on_value (argument p rs args 0) (λ w. on_value (argument p rs args 1)
+    (λ a. on_value (argument p rs args 2) (λ f. on_value (argument p rs args 3) (λ n. on_place w 8 (λ r. on_null a (actions.Event (requests.Create r f n)))))))
 
 -- the value of the joined thread is written unless the pointer is null
 abbrev pub join_at : ℕ → ℕ → Action
@@ -301,7 +295,8 @@ op_after p l x answer (op.Switch w on other cases) = on_top (λ f. moved p f x.b
 op_after p l x answer (op.Call g args) = entered p g (top_height_of l.frames) (map (operand p (top_registers l.frames)) args) ∷ l.frames
 op_after p l x answer (op.Ret v) = returned p (under_top l.frames) (number_at p (top_registers l.frames) (operands_of (op.Ret v)) 0)
 op_after p l x answer (op.Alloca bytes) = on_top (λ f. taken (stepped f x.result (pushed (region_of l) bytes)) (granules_for bytes)) l.frames
-op_after p l x answer (op.CallKnown k args) = known_after l.halfway k l.frames (on_top (λ f. stepped f x.result (result_number p (region_of l) (top_registers l.frames) (op.CallKnown k args) answer)) l.frames)
+op_after p l x answer (op.CallKnown k args) = known_after l.halfway k l.frames
+    (on_top (λ f. stepped f x.result (result_number p (region_of l) (top_registers l.frames) (op.CallKnown k args) answer)) l.frames)
 op_after p l x answer o = on_top (λ f. stepped f x.result (result_number p (region_of l) (top_registers l.frames) o answer)) l.frames
 
 abbrev pub known_halfway : Bool → Known → Bool

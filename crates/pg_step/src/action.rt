@@ -1,3 +1,5 @@
+//! What a thread's next step is.
+
 use pg_ir::{Request, TrapName};
 use pg_num::Place;
 

@@ -1,3 +1,5 @@
+//! Steps that only the thread's own state decides.
+
 ghost use Rattle.std.specs.Prelude.{◌≡◌, ℕ, true, false, length};
 ghost use Rattle.pg_ir.specs.Operands.{CanReadAll};
 ghost use Rattle.pg_step.specs.LocalState.{region_of};
@@ -78,7 +80,8 @@ impl Fiber {
     fn branch(&mut self, p: &Program, instr: &Instr, n: u64, told: LocalStep) -> Advance
         requires present { IsPresent p.now self.old instr.now }
         requires branch { IsBranch instr.now.op }
-        ensures { (self.new, result) ≡ done_if (edge_action p.now (top_registers self.old.frames) instr.now.block.0 (block_taken n instr.now.op)) self.old (record self.old { halfway = false; frames = on_top (λ f. moved p.now f instr.now.block.0 (block_taken n instr.now.op)) self.old.frames }) told }
+        ensures { (self.new, result) ≡ done_if (edge_action p.now (top_registers self.old.frames) instr.now.block.0 (block_taken n instr.now.op)) self.old
+            (record self.old { halfway = false; frames = on_top (λ f. moved p.now f instr.now.block.0 (block_taken n instr.now.op)) self.old.frames }) told }
     {
         if self.go(p, instr.block, edge_of(p, instr, n)) {
             Advance::Done(told)
@@ -106,7 +109,8 @@ impl Fiber {
     fn decide(&mut self, p: &Program, instr: &Instr) -> Advance
         requires present { IsPresent p.now self.old instr.now }
         requires straight { IsNoBranch instr.now.op }
-        requires room { CanStep (op_action p.now (region_of self.old) self.old.halfway (top_registers self.old.frames) (length self.old.frames) (total self.old.frames) instr.now.block.0 instr.now.op) → CanDo p.now self.old instr.now.op }
+        requires room { CanStep (op_action p.now (region_of self.old) self.old.halfway (top_registers self.old.frames) (length self.old.frames)
+            (total self.old.frames) instr.now.block.0 instr.now.op) → CanDo p.now self.old instr.now.op }
         ensures { (self.new, result) ≡ instr_done p.now self.old instr.now }
     {
         let action = action_of(p, &self.present(), instr);
@@ -123,7 +127,8 @@ impl Fiber {
     /// Does the present instruction if only the thread's own state decides and sees it, or tells what it asks.
     fn advance_by(&mut self, p: &Program, instr: &Instr) -> Advance
         requires present { IsPresent p.now self.old instr.now }
-        requires room { CanStep (op_action p.now (region_of self.old) self.old.halfway (top_registers self.old.frames) (length self.old.frames) (total self.old.frames) instr.now.block.0 instr.now.op) → CanDo p.now self.old instr.now.op }
+        requires room { CanStep (op_action p.now (region_of self.old) self.old.halfway (top_registers self.old.frames) (length self.old.frames)
+            (total self.old.frames) instr.now.block.0 instr.now.op) → CanDo p.now self.old instr.now.op }
         ensures { (self.new, result) ≡ instr_done p.now self.old instr.now }
     {
         match &instr.op {

@@ -1,3 +1,5 @@
+//! Operations that only compute.
+
 ghost use Rattle.std.specs.Prelude.{◌≡◌, ◌<◌, length};
 ghost use Rattle.std.specs.List.{AllByRecursion};
 ghost use Rattle.pg_ir.specs.declared.value.Index.{Index};
@@ -84,28 +86,33 @@ fn by_kind(p: &Program, registers: &[Option<u64>], op: &Op) -> u64
             width,
             left,
             right,
-        } => {
-            let (a, b) = pair(p, registers, *left, *right);
-            quotient(*op, *width, a, b)
-        }
+        } => quotient(
+            *op,
+            *width,
+            number_of(p, registers, *left),
+            number_of(p, registers, *right),
+        ),
         Op::Shift {
             op,
             width,
             left,
             right,
-        } => {
-            let (a, b) = pair(p, registers, *left, *right);
-            shift(*op, *width, a, b)
-        }
+        } => shift(
+            *op,
+            *width,
+            number_of(p, registers, *left),
+            number_of(p, registers, *right),
+        ),
         Op::Bits {
             op,
             left,
             right,
             ..
-        } => {
-            let (a, b) = pair(p, registers, *left, *right);
-            bits(*op, a, b)
-        }
+        } => bits(
+            *op,
+            number_of(p, registers, *left),
+            number_of(p, registers, *right),
+        ),
         Op::Compare {
             op,
             width,

@@ -1,3 +1,5 @@
+//! What `phi`s take along an edge.
+
 ghost use Rattle.std.specs.Prelude.{◌≡◌, ◌<◌, ◌≤◌, ◌∷◌, [], length, map, true, false, Some, slice_get, IfSome, vec_capacity};
 ghost use Rattle.std.specs.List.{AllByRecursion};
 ghost use Rattle.pg_ir.specs.Edges.{phis_of, successors};

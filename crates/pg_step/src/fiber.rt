@@ -1,3 +1,5 @@
+//! A thread by itself: its calls and their registers.
+
 ghost use Rattle.std.specs.Prelude.{◌≡◌, ◌<◌, ◌≤◌, ◌+◌, ◌∷◌, ◌==◌, [], length, map, slice_get, IfOk, IfSome, Some, true, false};
 ghost use Rattle.pg_num.specs.declared.layout.TheConstants.{REGION_GRANULES};
 ghost use Rattle.pg_num.specs.declared.limits.TheConstants.{CALL_DEPTH_LIMIT, FUNCTION_REGISTER_LIMIT, INSTRUCTION_LIMIT, THREAD_LIMIT, THREAD_REGISTER_LIMIT};
@@ -316,7 +318,10 @@ impl Fiber {
         requires going { 0 < length self.old.frames }
         requires operands { AllByRecursion (CanRead p.now (length (top_registers self.old.frames))) args.now }
         requires can { CanCall p.now self.old g args.now }
-        ensures { self.new ≡ record self.old { halfway = false; frames = entered p.now g (top_height_of self.old.frames) (map (operand p.now (top_registers self.old.frames)) args.now) ∷ self.old.frames } }
+        ensures { self.new ≡ record self.old {
+          halfway = false;
+          frames = entered p.now g (top_height_of self.old.frames) (map (operand p.now (top_registers self.old.frames)) args.now) ∷ self.old.frames;
+        } }
     {
         let _ended = self.ended;
         let used = self.registers.len() as u32;

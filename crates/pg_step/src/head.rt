@@ -1,3 +1,5 @@
+//! A call that waits for the one above it.
+
 /// A call that waits for the one above it: its function, the number of its instruction, how many
 /// registers it has, and how many granules of the stack it and the calls below it have.
 #[derive(Clone, Copy, Debug, PartialEq, Eq)]

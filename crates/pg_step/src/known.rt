@@ -1,3 +1,5 @@
+//! The actions of known functions.
+
 ghost use Rattle.std.specs.Prelude.{◌≡◌, ℕ, ◌<◌, ◌^◌, length, Err};
 ghost use Rattle.pg_step.specs.Operands.{number_at};
 ghost use Rattle.std.specs.List.{AllByRecursion};
@@ -7,7 +9,8 @@ ghost use Rattle.pg_num.specs.declared.width.Width.TheVariants.{W64};
 ghost use Rattle.pg_num.specs.declared.limits.TheConstants.{THREAD_LIMIT};
 ghost use Rattle.pg_ir.specs.Operands.{CanRead};
 ghost use Rattle.pg_step.specs.declared.action.Action.{Action};
-ghost use Rattle.pg_step.specs.Step.{placed, on_place, known_action, known_number, object_action, init_action, barrier_init_action, create_action, join_action, join_at, wait_action, wait_request, exit_value};
+ghost use Rattle.pg_step.specs.Step.{placed, on_place, known_action, known_number, object_action, init_action, barrier_init_action, create_action, join_action, join_at, wait_action};
+ghost use Rattle.pg_step.specs.Step.{wait_request, exit_value};
 ghost use Rattle.pg_step.specs.Needs.{object_request, TakesNumber, KnownWidths};
 
 use crate::action::Action;

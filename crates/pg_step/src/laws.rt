@@ -17,7 +17,8 @@ ghost use Rattle.pg_step.specs.Told.{id_of};
 pub fn a_result_is_computed()
     ensures operation { (p : NumberedProgram) (r : Region) (halfway : Bool) (rs : List (Option ℕ)) (depth used block answer : ℕ) (o : Op) → computes o ≡ true
         → computed_if o (argument p rs (operands_of o)) ≡ if_local (op_action p r halfway rs depth used block o) (result_number p r rs o answer) }
-    ensures step { (p : NumberedProgram) (l : LocalState) (x : Instr) (n answer : ℕ) → l.begun ≡ true → 0 < length l.frames → slice_get p.instrs (id_of l) ≡ Some x → computes x.op ≡ true
+    ensures step { (p : NumberedProgram) (l : LocalState) (x : Instr) (n answer : ℕ) → l.begun ≡ true → 0 < length l.frames → slice_get p.instrs (id_of l) ≡ Some x
+        → computes x.op ≡ true
         → computed_if x.op (argument p (top_registers l.frames) (operands_of x.op)) ≡ Some n
         → (next p l ≡ actions.Local) × (after p l answer ≡ record l { halfway = false; frames = on_top (λ f. stepped f x.result n) l.frames }) }
     ensures none { (p : NumberedProgram) (l : LocalState) (x : Instr) → l.begun ≡ true → 0 < length l.frames → slice_get p.instrs (id_of l) ≡ Some x → computes x.op ≡ true

@@ -1,3 +1,5 @@
+//! The numbers that operations give.
+
 ghost use Rattle.std.specs.Prelude.{◌≡◌, ◌<◌, length};
 ghost use Rattle.pg_ir.specs.Operands.{CanReadAll, CanReadReturned};
 ghost use Rattle.pg_ir.specs.declared.instr.Op.TheVariants.{Ret};

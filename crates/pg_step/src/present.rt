@@ -1,3 +1,5 @@
+//! By what a thread's next step is decided.
+
 use crate::region::Region;
 
 /// By what the next step of a thread is decided, beside its present instruction: the registers of

@@ -1,3 +1,5 @@
+//! What is read of a thread.
+
 ghost use Rattle.std.specs.Prelude.{◌≡◌, length, slice_get};
 ghost use Rattle.pg_step.specs.Operands.{flat};
 ghost use Rattle.pg_step.specs.Step.{top_registers};

@@ -1,3 +1,5 @@
+//! A thread's region of memory.
+
 ghost use Rattle.std.specs.Prelude.{◌≡◌, ◌+◌, ◌*◌, ◌<◌, ◌≤◌, ◌^◌, IsTrue};
 ghost use Rattle.pg_num.specs.declared.layout.TheConstants.{REGION_GRANULES};
 ghost use Rattle.pg_num.specs.declared.limits.TheConstants.{THREAD_LIMIT};

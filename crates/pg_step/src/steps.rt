@@ -1,3 +1,5 @@
+//! What a step leaves of a thread.
+
 ghost use Rattle.std.specs.Prelude.{◌≡◌, ◌<◌, ◌≤◌, ◌+◌, ◌∷◌, [], length, map, IfOk, IfSome, Some, true, false};
 ghost use Rattle.std.specs.List.{AllByRecursion};
 ghost use Rattle.pg_num.specs.declared.layout.TheConstants.{REGION_GRANULES};
@@ -79,8 +81,15 @@ impl Fiber {
         requires target { IfSome target (λ r. r < length (top_registers self.old.frames)) }
         requires thread { self.old.thread < THREAD_LIMIT }
         requires operands { AllByRecursion (CanRead p.now (length (top_registers self.old.frames))) args.now }
-        ensures state { self.new ≡ record self.old { halfway = known_halfway self.old.halfway function; frames = known_after self.old.halfway function self.old.frames (on_top (λ f. stepped f target (result_number p.now (region_of self.old) (top_registers self.old.frames) (CallKnown function args.now) reply)) self.old.frames); heap = known_heap (region_of self.old) function (number_at p.now (top_registers self.old.frames) args.now 0) } }
-        ensures number { result ≡ or_zero target (known_own self.old.halfway function (result_number p.now (region_of self.old) (top_registers self.old.frames) (CallKnown function args.now) reply)) }
+        ensures state { self.new ≡ record self.old {
+          halfway = known_halfway self.old.halfway function;
+          frames = known_after self.old.halfway function self.old.frames
+              (on_top (λ f. stepped f target (result_number p.now (region_of self.old) (top_registers self.old.frames) (CallKnown function args.now) reply)) self.old.frames);
+          heap =
+              known_heap (region_of self.old) function (number_at p.now (top_registers self.old.frames) args.now 0);
+        } }
+        ensures number { result ≡ or_zero target (known_own self.old.halfway function
+            (result_number p.now (region_of self.old) (top_registers self.old.frames) (CallKnown function args.now) reply)) }
     {
         let size = argument_number(p, self.top(), args, 0);
         let region = self.region();

@@ -1,5 +1,6 @@
 -- The waiters are at most as many as the threads that wait for a signal.
-use Rattle.std.proofs.Common.{◌≡◌, ℕ, ◌+◌, ◌^◌, ◌<◌, Fits, w8, rules, ◌≤◌, List, [], ◌∷◌, ◌++◌, length, Bool, true, false, Option, Some, None, refl, sym, ap, arith, zero, suc, length-append, length-set}
+use Rattle.std.proofs.Common.{◌≡◌, ℕ, ◌+◌, ◌^◌, ◌<◌, Fits, w8, rules, ◌≤◌, List, [], ◌∷◌, ◌++◌, length, Bool, true, false, Option, Some, None, refl, sym}
+use Rattle.std.proofs.Common.{ap, arith, zero, suc, length-append, length-set}
 use Rattle.std.specs.Prelude.{slice_get, slice_set, map, find, if◌then◌else◌}
 use Rattle.std.proofs.lemmas.List.{length-map}
 use Rattle.pg_num.specs.declared.limits.TheConstants.{THREAD_LIMIT}
@@ -11,7 +12,8 @@ use Rattle.pg_sync.specs.Stages.{is_unsignalled, unsignalled, unsignalled_count,
 use Rattle.pg_sync.specs.Sync.{at_stage, stage_in, set_stage_in, waits_on, without_first, one_if, release, is_at, joined_in, made}
 
 -- a change of one thread
-pub count_set : (ss : List Status) (t : ℕ) (s : Status) → t < length ss → unsignalled_count (slice_set ss t s) + one_if (is_unsignalled (stage_in (slice_get ss t))) ≡ unsignalled_count ss + one_if (unsignalled s)
+pub count_set : (ss : List Status) (t : ℕ) (s : Status) → t < length ss
+    → unsignalled_count (slice_set ss t s) + one_if (is_unsignalled (stage_in (slice_get ss t))) ≡ unsignalled_count ss + one_if (unsignalled s)
 count_set [] t s l = absurd (omega arith)
 count_set (x ∷ ss) zero s l = omega arith
 count_set (x ∷ ss) (suc t) s l = omega (arith, count_set ss t s (omega (arith, l)))
@@ -39,7 +41,8 @@ pub room_of_thread : (ss : List Status) (ws : List Waiter) (a b : ℕ) → FitsL
 unfolding FitsLimits
 room_of_thread ss ws a b f l = omega (arith, l, f.1)
 
-pub kept_at_stage : (ss : List Status) (ws : List Waiter) (a b t : ℕ) (s : Stage) → FitsLimits ss ws a b → is_unsignalled (stage_in (slice_get ss t)) ≡ false → FitsLimits (at_stage t s ss) ws a b
+pub kept_at_stage : (ss : List Status) (ws : List Waiter) (a b t : ℕ) (s : Stage) → FitsLimits ss ws a b → is_unsignalled (stage_in (slice_get ss t)) ≡ false
+    → FitsLimits (at_stage t s ss) ws a b
 unfolding FitsLimits
 kept_at_stage ss ws a b t s f h =
     let k = count_falls ss t (set_stage_in (slice_get ss t) s) in
@@ -50,7 +53,8 @@ count_at_most : (ss : List Status) → unsignalled_count ss ≤ length ss
 count_at_most [] = omega arith
 count_at_most (s ∷ ss) = omega (arith, count_at_most ss, one_at_most (unsignalled s))
 
-pub kept_by_wait : (ss : List Status) (ws : List Waiter) (a b t : ℕ) (w : Waiter) → FitsLimits ss ws a b → t < length ss → is_unsignalled (stage_in (slice_get ss t)) ≡ false → FitsLimits (at_stage t (Waiting false) ss) (ws ++ w ∷ []) a b
+pub kept_by_wait : (ss : List Status) (ws : List Waiter) (a b t : ℕ) (w : Waiter) → FitsLimits ss ws a b → t < length ss → is_unsignalled (stage_in (slice_get ss t)) ≡ false
+    → FitsLimits (at_stage t (Waiting false) ss) (ws ++ w ∷ []) a b
 unfolding FitsLimits
 kept_by_wait ss ws a b t w f l h =
     let k = count_set ss t (set_stage_in (slice_get ss t) (Waiting false)) l in
@@ -62,11 +66,13 @@ without_one : (c : ℕ) (ws : List Waiter) (w : Waiter) → find (waits_on c) ws
 without_one c [] w h = absurd cc
 without_one c (x ∷ ws) w h = go (λ k. without_one c ws w k) (waits_on c x) h
   where
-    go : (find (waits_on c) ws ≡ Some w → length (without_first c ws) + 1 ≡ length ws) → (b : Bool) → (if b then Some x else find (waits_on c) ws) ≡ Some w → length (if b then ws else x ∷ without_first c ws) + 1 ≡ length (x ∷ ws)
+    go : (find (waits_on c) ws ≡ Some w → length (without_first c ws) + 1 ≡ length ws) → (b : Bool) → (if b then Some x else find (waits_on c) ws) ≡ Some w
+        → length (if b then ws else x ∷ without_first c ws) + 1 ≡ length (x ∷ ws)
     go k true h = omega arith
     go k false h = omega (arith, k h)
 
-pub kept_by_signal : (ss : List Status) (ws : List Waiter) (a b c t : ℕ) (w : Waiter) → FitsLimits ss ws a b → find (waits_on c) ws ≡ Some w → FitsLimits (at_stage t (Waiting true) ss) (without_first c ws) a b
+pub kept_by_signal : (ss : List Status) (ws : List Waiter) (a b c t : ℕ) (w : Waiter) → FitsLimits ss ws a b → find (waits_on c) ws ≡ Some w
+    → FitsLimits (at_stage t (Waiting true) ss) (without_first c ws) a b
 unfolding FitsLimits
 kept_by_signal ss ws a b c t w f h =
     let k = count_falls ss t (set_stage_in (slice_get ss t) (Waiting true)) in
@@ -113,7 +119,8 @@ pub kept_by_create : (ss : List Status) (ws : List Waiter) (a b : ℕ) → FitsL
 unfolding FitsLimits
 kept_by_create ss ws a b f l = (omega (arith, l, length-append ss (made ∷ [])), f.1, f.2, omega (arith, f.3, count_made ss))
 
-pub room_of_waiter : (ss : List Status) (ws : List Waiter) (a b t : ℕ) (w : Waiter) → FitsLimits ss ws a b → t < length ss → is_unsignalled (stage_in (slice_get ss t)) ≡ false → length ws < b
+pub room_of_waiter : (ss : List Status) (ws : List Waiter) (a b t : ℕ) (w : Waiter) → FitsLimits ss ws a b → t < length ss → is_unsignalled (stage_in (slice_get ss t)) ≡ false
+    → length ws < b
 unfolding FitsLimits
 room_of_waiter ss ws a b t w f l h =
     let k = kept_by_wait ss ws a b t w f l h in

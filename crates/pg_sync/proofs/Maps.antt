@@ -30,7 +30,8 @@ unfolding put_object
 object_put_same b o [] = at_front b (entry b o) [] refl
 object_put_same b o (e ∷ es) = go (object_put_same b o es) (nat_lt e.place b) refl (e.place == b)
   where
-    go : object_at b (put_object b o es) ≡ Some o → (x : Bool) → nat_lt e.place b ≡ x → (y : Bool) → object_at b (if x then e ∷ put_object b o es else if y then entry b o ∷ es else entry b o ∷ e ∷ es) ≡ Some o
+    go : object_at b (put_object b o es) ≡ Some o → (x : Bool) → nat_lt e.place b ≡ x → (y : Bool)
+        → object_at b (if x then e ∷ put_object b o es else if y then entry b o ∷ es else entry b o ∷ e ∷ es) ≡ Some o
     go k true f y = behind b e (put_object b o es) (grind (arith, nat_tests)) ∙ k
     go k false f true = at_front b (entry b o) es refl
     go k false f false = at_front b (entry b o) (e ∷ es) refl
@@ -50,7 +51,8 @@ unfolding IsAscendingFrom drop_object
 object_drop_same low b [] a = nowhere b
 object_drop_same low b (e ∷ es) a = go (object_drop_same (e.place + 1) b es a.1) (nat_lt e.place b) refl (e.place == b) refl
   where
-    go : object_at b (drop_object b es) ≡ None → (x : Bool) → nat_lt e.place b ≡ x → (y : Bool) → (e.place == b) ≡ y → object_at b (if x then e ∷ drop_object b es else if y then es else e ∷ es) ≡ None
+    go : object_at b (drop_object b es) ≡ None → (x : Bool) → nat_lt e.place b ≡ x → (y : Bool) → (e.place == b) ≡ y
+        → object_at b (if x then e ∷ drop_object b es else if y then es else e ∷ es) ≡ None
     go k true f y g = behind b e (drop_object b es) (grind (arith, nat_tests)) ∙ k
     go k false f true g = let m : e.place ≡ b = grind (arith, nat_tests) in object_below b (e.place + 1) es a.1 (omega (arith, m))
     go k false f false g = before b e es (grind (arith, nat_tests))

@@ -1,5 +1,6 @@
 -- What a request whose checks hold may rely on.
-use Rattle.std.proofs.Common.{◌≡◌, ℕ, ◌+◌, ◌<◌, ◌≤◌, ◌==◌, ◌&&◌, not, List, [], ◌∷◌, length, Bool, true, false, Option, Some, None, refl, sym, ap, ◌∙◌, arith, zero, suc}
+use Rattle.std.proofs.Common.{◌≡◌, ℕ, ◌+◌, ◌<◌, ◌≤◌, ◌==◌, ◌&&◌, not, List, [], ◌∷◌, length, Bool, true, false, Option, Some, None, refl, sym, ap}
+use Rattle.std.proofs.Common.{◌∙◌, arith, zero, suc}
 use Rattle.std.specs.Prelude.{slice_get, map}
 use Rattle.std.proofs.lemmas.Bool.Decides.{nat_tests}
 use Rattle.pg_num.specs.declared.limits.TheConstants.{OBJECT_LIMIT}
@@ -45,7 +46,8 @@ room_first y c m r h =
     let z : one_if (is_missing (object_at c y.objects)) ≡ 1 = ap one_if h in
     omega (arith, room_for_some y (missing_of y c m) r (omega (arith, z)), z)
 
-pub room_second : (y : Sync) (c m : ℕ) (o : Object) → room_for y (missing_of y c m) ≡ None → is_missing (object_at m (put_object c o y.objects)) ≡ true → length (put_object c o y.objects) < OBJECT_LIMIT
+pub room_second : (y : Sync) (c m : ℕ) (o : Object) → room_for y (missing_of y c m) ≡ None → is_missing (object_at m (put_object c o y.objects)) ≡ true
+    → length (put_object c o y.objects) < OBJECT_LIMIT
 room_second y c m o r h = go (c == m) refl
   where
     go : (b : Bool) → (c == m) ≡ b → length (put_object c o y.objects) < OBJECT_LIMIT

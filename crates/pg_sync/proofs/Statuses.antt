@@ -8,12 +8,14 @@ get_mapped f [] i d h = absurd (omega arith)
 get_mapped f (x ∷ xs) zero d h = refl
 get_mapped f (x ∷ xs) (suc i) d h = get_mapped f xs i d (omega (arith, h))
 
-set_mapped : (f : Status → Status) (xs : List Status) (i : ℕ) (d : Status) → i < length xs → slice_set (map f (take i xs) ++ drop i xs) i (f (get_or xs i d)) ≡ map f (take (suc i) xs) ++ drop (suc i) xs
+set_mapped : (f : Status → Status) (xs : List Status) (i : ℕ) (d : Status) → i < length xs
+    → slice_set (map f (take i xs) ++ drop i xs) i (f (get_or xs i d)) ≡ map f (take (suc i) xs) ++ drop (suc i) xs
 set_mapped f [] i d h = absurd (omega arith)
 set_mapped f (x ∷ xs) zero d h = refl
 set_mapped f (x ∷ xs) (suc i) d h = ap (λ (ys : List Status). f x ∷ ys) (set_mapped f xs i d (omega (arith, h)))
 
-pub map_step : (f : Status → Status) (xs ys : List Status) (i : ℕ) (d : Status) → i < length xs → ys ≡ map f (take i xs) ++ drop i xs → slice_set ys i (f (get_or ys i d)) ≡ map f (take (i + 1) xs) ++ drop (i + 1) xs
+pub map_step : (f : Status → Status) (xs ys : List Status) (i : ℕ) (d : Status) → i < length xs → ys ≡ map f (take i xs) ++ drop i xs
+    → slice_set ys i (f (get_or ys i d)) ≡ map f (take (i + 1) xs) ++ drop (i + 1) xs
 map_step f xs ys i d l e =
     ap (λ (zs : List Status). slice_set zs i (f (get_or zs i d))) e
     ∙ ap (λ (x : Status). slice_set (map f (take i xs) ++ drop i xs) i (f x)) (get_mapped f xs i d l)

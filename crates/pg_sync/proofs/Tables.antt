@@ -1,5 +1,6 @@
 -- The table of objects by index: what finding, putting and taking away come to.
-use Rattle.std.proofs.Common.{◌≡◌, ℕ, Bool, ◌+◌, ◌<◌, ◌≤◌, ◌==◌, List, [], ◌∷◌, ◌++◌, length, take, drop, Option, Some, None, refl, sym, ap, ◌∙◌, arith, IfSome, true, false, get_or, add-one, zero, suc}
+use Rattle.std.proofs.Common.{◌≡◌, ℕ, Bool, ◌+◌, ◌<◌, ◌≤◌, ◌==◌, List, [], ◌∷◌, ◌++◌, length, take, drop, Option, Some, None, refl, sym, ap, ◌∙◌}
+use Rattle.std.proofs.Common.{arith, IfSome, true, false, get_or, add-one, zero, suc}
 use Rattle.std.specs.Prelude.{slice_get, slice_set, nat_lt, if◌then◌else◌}
 use Rattle.std.specs.List.{insert, remove}
 use Rattle.std.proofs.lemmas.Option.{gets, slice_get-get_or, slice_get_within, same_Some}
@@ -100,7 +101,8 @@ put_before : (b : ℕ) (o : Object) (x : Entry) (ys : List Entry) → b < x.plac
 unfolding put_object
 put_before b o x ys l = grind (arith, nat_tests)
 
-pub put_new : (b : ℕ) (o : Object) (xs : List Entry) (i : ℕ) → AllBelow b (take i xs) → IfSome (slice_get xs i) (λ e. b ≤ e.place) → place_is b (slice_get xs i) ≡ false → put_object b o xs ≡ insert xs i (entry b o)
+pub put_new : (b : ℕ) (o : Object) (xs : List Entry) (i : ℕ) → AllBelow b (take i xs) → IfSome (slice_get xs i) (λ e. b ≤ e.place) → place_is b (slice_get xs i) ≡ false
+    → put_object b o xs ≡ insert xs i (entry b o)
 unfolding put_object
 put_new b o xs i f h n = put_front b o xs i f ∙ go (slice_get xs i) refl h n
   where
@@ -108,7 +110,8 @@ put_new b o xs i f h n = put_front b o xs i f ∙ go (slice_get xs i) refl h n
     go None e h n = ap (λ (ys : List Entry). take i xs ++ put_object b o ys) (past xs i e) ∙ ap (λ (ys : List Entry). take i xs ++ entry b o ∷ ys) (sym (past xs i e))
     go (Some x) e h n =
         let m : b < x.place = grind (arith, nat_tests) in
-        ap (λ (ys : List Entry). take i xs ++ put_object b o ys) (split_at xs i x e) ∙ ap (λ (ys : List Entry). take i xs ++ ys) (put_before b o x (drop (i + 1) xs) m) ∙ ap (λ (ys : List Entry). take i xs ++ entry b o ∷ ys) (sym (split_at xs i x e))
+        ap (λ (ys : List Entry). take i xs ++ put_object b o ys) (split_at xs i x e) ∙ ap (λ (ys : List Entry). take i xs ++ ys) (put_before b o x (drop (i + 1) xs) m)
+        ∙ ap (λ (ys : List Entry). take i xs ++ entry b o ∷ ys) (sym (split_at xs i x e))
 
 drop_front : (b : ℕ) (xs : List Entry) (i : ℕ) → AllBelow b (take i xs) → drop_object b xs ≡ take i xs ++ drop_object b (drop i xs)
 drop_front b xs i h = ap (drop_object b) (sym (take-append-drop i xs)) ∙ drop_past b (take i xs) (drop i xs) h
@@ -128,7 +131,8 @@ drop_before : (b : ℕ) (x : Entry) (ys : List Entry) → b < x.place → drop_o
 unfolding drop_object
 drop_before b x ys l = grind (arith, nat_tests)
 
-pub drop_missing : (b : ℕ) (xs : List Entry) (i : ℕ) → AllBelow b (take i xs) → IfSome (slice_get xs i) (λ e. b ≤ e.place) → place_is b (slice_get xs i) ≡ false → drop_object b xs ≡ xs
+pub drop_missing : (b : ℕ) (xs : List Entry) (i : ℕ) → AllBelow b (take i xs) → IfSome (slice_get xs i) (λ e. b ≤ e.place) → place_is b (slice_get xs i) ≡ false
+    → drop_object b xs ≡ xs
 unfolding drop_object
 drop_missing b xs i f h n = drop_front b xs i f ∙ go (slice_get xs i) refl h n ∙ take-append-drop i xs
   where
@@ -136,7 +140,8 @@ drop_missing b xs i f h n = drop_front b xs i f ∙ go (slice_get xs i) refl h n
     go None e h n = ap (λ (ys : List Entry). take i xs ++ drop_object b ys) (past xs i e) ∙ ap (λ (ys : List Entry). take i xs ++ ys) (sym (past xs i e))
     go (Some x) e h n =
         let m : b < x.place = grind (arith, nat_tests) in
-        ap (λ (ys : List Entry). take i xs ++ drop_object b ys) (split_at xs i x e) ∙ ap (λ (ys : List Entry). take i xs ++ ys) (drop_before b x (drop (i + 1) xs) m) ∙ ap (λ (ys : List Entry). take i xs ++ ys) (sym (split_at xs i x e))
+        ap (λ (ys : List Entry). take i xs ++ drop_object b ys) (split_at xs i x e) ∙ ap (λ (ys : List Entry). take i xs ++ ys) (drop_before b x (drop (i + 1) xs) m)
+        ∙ ap (λ (ys : List Entry). take i xs ++ ys) (sym (split_at xs i x e))
 
 -- ---- order
 
@@ -150,7 +155,8 @@ unfolding IsAscendingFrom put_object
 ascending_put low b o [] h l = (l, tt)
 ascending_put low b o (e ∷ es) h l = go (λ k. ascending_put (e.place + 1) b o es h.1 k) (nat_lt e.place b) refl (e.place == b) refl
   where
-    go : (e.place + 1 ≤ b → IsAscendingFrom (e.place + 1) (put_object b o es)) → (x : Bool) → nat_lt e.place b ≡ x → (y : Bool) → (e.place == b) ≡ y → IsAscendingFrom low (if x then e ∷ put_object b o es else if y then entry b o ∷ es else entry b o ∷ e ∷ es)
+    go : (e.place + 1 ≤ b → IsAscendingFrom (e.place + 1) (put_object b o es)) → (x : Bool) → nat_lt e.place b ≡ x → (y : Bool) → (e.place == b) ≡ y
+        → IsAscendingFrom low (if x then e ∷ put_object b o es else if y then entry b o ∷ es else entry b o ∷ e ∷ es)
     go k true f y g = let m : e.place < b = grind (arith, nat_tests) in (h.0, k (omega (arith, m)))
     go k false f true g = let m : e.place ≡ b = grind (arith, nat_tests) in (l, rw (sym m) h.1)
     go k false f false g = let m : b < e.place = grind (arith, nat_tests) in (l, (omega (arith, m), h.1))
@@ -172,7 +178,9 @@ unfolding put_object object_at
 length_put b o [] = omega arith
 length_put b o (e ∷ es) = go (length_put b o es) (nat_lt e.place b) (e.place == b)
   where
-    go : length (put_object b o es) ≡ length es + one_if (is_missing (object_at b es)) → (x y : Bool) → length (if x then e ∷ put_object b o es else if y then entry b o ∷ es else entry b o ∷ e ∷ es) ≡ length (e ∷ es) + one_if (is_missing (if x then object_at b es else if y then Some e.object else None))
+    go : length (put_object b o es) ≡ length es + one_if (is_missing (object_at b es)) → (x y : Bool)
+        → length (if x then e ∷ put_object b o es else if y then entry b o ∷ es else entry b o ∷ e ∷ es)
+        ≡ length (e ∷ es) + one_if (is_missing (if x then object_at b es else if y then Some e.object else None))
     go k true y = omega (arith, k)
     go k false true = omega arith
     go k false false = omega arith
@@ -187,7 +195,8 @@ length_drop_object b (e ∷ es) = go (length_drop_object b es) (nat_lt e.place b
     go k false true = omega arith
     go k false false = omega arith
 
-pub lookup_missing : (b : ℕ) (xs : List Entry) (i : ℕ) → AllBelow b (take i xs) → IfSome (slice_get xs i) (λ e. b ≤ e.place) → place_is b (slice_get xs i) ≡ false → object_at b xs ≡ None
+pub lookup_missing : (b : ℕ) (xs : List Entry) (i : ℕ) → AllBelow b (take i xs) → IfSome (slice_get xs i) (λ e. b ≤ e.place) → place_is b (slice_get xs i) ≡ false
+    → object_at b xs ≡ None
 lookup_missing b xs i f h n = lookup_is b xs i f h ∙ go (slice_get xs i) n
   where
     go : (o : Option Entry) → place_is b o ≡ false → object_here b o ≡ None

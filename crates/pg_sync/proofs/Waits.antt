@@ -22,7 +22,8 @@ passed : (c : ℕ) (ws : List Waiter) → length ws ≤ position_or_len (waits_o
 passed c [] h = (refl, refl)
 passed c (w ∷ ws) h = go (λ k. passed c ws k) (waits_on c w) h
   where
-    go : (length ws ≤ position_or_len (waits_on c) ws → (find (waits_on c) ws ≡ None) × (without_first c ws ≡ ws)) → (b : Bool) → length (w ∷ ws) ≤ (if not b then (1 + position_or_len (waits_on c) ws) else 0)
+    go : (length ws ≤ position_or_len (waits_on c) ws → (find (waits_on c) ws ≡ None) × (without_first c ws ≡ ws)) → (b : Bool)
+        → length (w ∷ ws) ≤ (if not b then (1 + position_or_len (waits_on c) ws) else 0)
         → ((if b then Some w else find (waits_on c) ws) ≡ None) × ((if b then ws else w ∷ without_first c ws) ≡ w ∷ ws)
     go k true h = absurd (omega arith)
     go k false h = let r = k (omega (arith, h)) in (r.0, ap (λ (xs : List Waiter). w ∷ xs) r.1)
@@ -30,7 +31,8 @@ passed c (w ∷ ws) h = go (λ k. passed c ws k) (waits_on c w) h
 pub none_is : (c : ℕ) (ws : List Waiter) → position (waits_on c) ws ≡ None → (find (waits_on c) ws ≡ None) × (without_first c ws ≡ ws)
 none_is c ws h = go (nat_lt (position_or_len (waits_on c) ws) (length ws)) refl h
   where
-    go : (b : Bool) → nat_lt (position_or_len (waits_on c) ws) (length ws) ≡ b → (if b then Some (position_or_len (waits_on c) ws) else None) ≡ None → (find (waits_on c) ws ≡ None) × (without_first c ws ≡ ws)
+    go : (b : Bool) → nat_lt (position_or_len (waits_on c) ws) (length ws) ≡ b → (if b then Some (position_or_len (waits_on c) ws) else None) ≡ None
+        → (find (waits_on c) ws ≡ None) × (without_first c ws ≡ ws)
     go true e h = absurd cc
     go false e h = passed c ws (grind (arith, nat_tests))
 
@@ -45,7 +47,8 @@ pub nobody_leaves : (c : ℕ) (ws : List Waiter) → find (waits_on c) ws ≡ No
 nobody_leaves c [] h = refl
 nobody_leaves c (w ∷ ws) h = go (λ k. nobody_leaves c ws k) (waits_on c w) h
   where
-    go : (find (waits_on c) ws ≡ None → without_first c ws ≡ ws) → (b : Bool) → (if b then Some w else find (waits_on c) ws) ≡ None → (if b then ws else w ∷ without_first c ws) ≡ w ∷ ws
+    go : (find (waits_on c) ws ≡ None → without_first c ws ≡ ws) → (b : Bool) → (if b then Some w else find (waits_on c) ws) ≡ None
+        → (if b then ws else w ∷ without_first c ws) ≡ w ∷ ws
     go k true h = absurd cc
     go k false h = ap (λ (xs : List Waiter). w ∷ xs) (k h)
 
@@ -53,7 +56,8 @@ removed : (c : ℕ) (ws : List Waiter) → position_or_len (waits_on c) ws < len
 removed c [] h = absurd (omega arith)
 removed c (w ∷ ws) h = go (λ k. removed c ws k) (waits_on c w) h
   where
-    go : (position_or_len (waits_on c) ws < length ws → without_first c ws ≡ remove ws (position_or_len (waits_on c) ws)) → (b : Bool) → (if not b then (1 + position_or_len (waits_on c) ws) else 0) < length (w ∷ ws)
+    go : (position_or_len (waits_on c) ws < length ws → without_first c ws ≡ remove ws (position_or_len (waits_on c) ws)) → (b : Bool)
+        → (if not b then (1 + position_or_len (waits_on c) ws) else 0) < length (w ∷ ws)
         → (if b then ws else w ∷ without_first c ws) ≡ remove (w ∷ ws) (if not b then (1 + position_or_len (waits_on c) ws) else 0)
     go k true h = refl
     go k false h = ap (λ (xs : List Waiter). w ∷ xs) (k (omega (arith, h))) ∙ ap (remove (w ∷ ws)) (one_more (position_or_len (waits_on c) ws))

@@ -1,11 +1,13 @@
 -- Synchronisation by the table of POSIX.1-2017: for each request, the check that fails first, whether it
 -- is ready, and what it does. Checks come in this order: the kinds of the named objects, room for those
 -- that are missing, and their state.
-use Rattle.std.specs.Prelude.{ℕ, ◌+◌, ◌%◌, ◌==◌, ◌&&◌, ◌||◌, not, nat_lt, nat_le, List, [], ◌∷◌, ◌++◌, length, filter, find, map, Bool, true, false, Option, Some, None, is_some, Result, Ok, Err, slice_get, slice_set, if◌then◌else◌}
+use Rattle.std.specs.Prelude.{ℕ, ◌+◌, ◌%◌, ◌==◌, ◌&&◌, ◌||◌, not, nat_lt, nat_le, List, [], ◌∷◌, ◌++◌, length, filter, find, map, Bool, true, false, Option}
+use Rattle.std.specs.Prelude.{Some, None, is_some, Result, Ok, Err, slice_get, slice_set, if◌then◌else◌}
 use Rattle.std.specs.List.{list_all, list_any}
 use Rattle.pg_num.specs.declared.limits.TheConstants.{THREAD_LIMIT, OBJECT_LIMIT}
 use Rattle.pg_ir.specs.declared.request.Request.{Request}
-use Rattle.pg_ir.specs.declared.request.Request.TheVariants.{Start, Exit, Create, Join, MutexInit, Lock, Trylock, Unlock, MutexDestroy, CondInit, Wait, Wake, Signal, Broadcast, CondDestroy, BarrierInit, Arrive, Leave, BarrierDestroy, Out, Putchar}
+use Rattle.pg_ir.specs.declared.request.Request.TheVariants.{Start, Exit, Create, Join, MutexInit, Lock, Trylock, Unlock, MutexDestroy, CondInit, Wait, Wake, Signal, Broadcast, CondDestroy}
+use Rattle.pg_ir.specs.declared.request.Request.TheVariants.{BarrierInit, Arrive, Leave, BarrierDestroy, Out, Putchar}
 use Rattle.pg_ir.specs.declared.request.TrapName.{TrapName}
 use Rattle.pg_ir.specs.declared.request.TrapName.TheVariants.{NotOwner, WrongObject, BusyObject, TooManyObjects, TooManyThreads, BadJoin}
 use Rattle.pg_sync.specs.declared.errno.TheConstants.{EBUSY, EINVAL, PTHREAD_BARRIER_SERIAL_THREAD}

@@ -1,3 +1,5 @@
+//! The operations of synchronisation.
+
 ghost use Rattle.std.specs.Prelude.{◌≡◌, IfErr, None, true};
 ghost use Rattle.pg_sync.specs.Stages.{may_ask};
 ghost use Rattle.pg_sync.specs.Sync.{applied, check, done, may_go, named, ready, stage_of};

@@ -1,3 +1,5 @@
+//! Whether a request may be asked.
+
 ghost use Rattle.std.specs.Prelude.{◌≡◌};
 ghost use Rattle.pg_sync.specs.Stages.{is_leave, is_second_part, is_start, is_wake, may_ask};
 ghost use Rattle.pg_sync.specs.Sync.{stage_of};

@@ -1,3 +1,5 @@
+//! Barriers.
+
 ghost use Rattle.std.specs.Prelude.{◌≡◌, ◌+◌, ◌<◌, ◌==◌, length, map, true, false, Some, if◌then◌else◌};
 ghost use Rattle.pg_num.specs.declared.limits.TheConstants.{OBJECT_LIMIT};
 ghost use Rattle.pg_sync.specs.Objects.{is_missing, object_at, put_object};
@@ -16,7 +18,8 @@ use pg_ir::ThreadNo;
 impl SyncState {
     pub(crate) fn make_barrier(&mut self, place: u32, count: u32) -> Reply
         requires { is_missing (object_at place self.old.objects) ≡ true → length self.old.objects < OBJECT_LIMIT }
-        ensures { ◌≡◌ {A = Sync × Reply} (self.new, result) (if count == 0 then (self.old, answer EINVAL) else (record self.old { objects = put_object place (Object.Barrier count 0) self.old.objects }, answer 0)) }
+        ensures { ◌≡◌ {A = Sync × Reply} (self.new, result)
+            (if count == 0 then (self.old, answer EINVAL) else (record self.old { objects = put_object place (Object.Barrier count 0) self.old.objects }, answer 0)) }
     {
         if count == 0 {
             return answer(EINVAL);
@@ -30,7 +33,10 @@ impl SyncState {
     fn arrive_last(&mut self, t: ThreadNo, place: u32, count: u32)
         requires room { is_missing (object_at place self.old.objects) ≡ true → length self.old.objects < OBJECT_LIMIT }
         requires waits { is_unsignalled (stage_of self.old t.0) ≡ false }
-        ensures { self.new ≡ record self.old { objects = put_object place (Object.Barrier count 0) self.old.objects; threads = at_stage t.0 (Stage.Arrived place true true) (map (release place) self.old.threads) } }
+        ensures { self.new ≡ record self.old {
+          objects = put_object place (Object.Barrier count 0) self.old.objects;
+          threads = at_stage t.0 (Stage.Arrived place true true) (map (release place) self.old.threads);
+        } }
     {
         self.put(place, Object::Barrier { count, arrived: 0 });
         self.release_all(place);
@@ -49,7 +55,10 @@ impl SyncState {
         requires room { is_missing (object_at place self.old.objects) ≡ true → length self.old.objects < OBJECT_LIMIT }
         requires waits { is_unsignalled (stage_of self.old t.0) ≡ false }
         requires more { arrived < count }
-        ensures { self.new ≡ record self.old { objects = put_object place (Object.Barrier count (arrived + 1)) self.old.objects; threads = at_stage t.0 (Stage.Arrived place false false) self.old.threads } }
+        ensures { self.new ≡ record self.old {
+          objects = put_object place (Object.Barrier count (arrived + 1)) self.old.objects;
+          threads = at_stage t.0 (Stage.Arrived place false false) self.old.threads;
+        } }
     {
         self.put(
             place,

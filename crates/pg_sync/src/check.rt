@@ -1,3 +1,5 @@
+//! What a request traps for.
+
 ghost use Rattle.std.specs.Prelude.{◌≡◌, ◌≤◌, ◌==◌, ◌||◌, not};
 ghost use Rattle.pg_sync.specs.Objects.{has_arrived, is_barrier, is_free, is_held_by, is_missing, may_be_barrier, may_be_condition, may_be_mutex, object_at};
 ghost use Rattle.pg_sync.specs.Sync.{Sync, check, check_barrier, check_one, check_two, has_waiters, missing_of, ready, may_go, room_for, unless};

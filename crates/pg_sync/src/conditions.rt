@@ -1,3 +1,5 @@
+//! Condition variables.
+
 ghost use Rattle.std.specs.Prelude.{◌≡◌, ◌<◌, None, length, true, false};
 ghost use Rattle.pg_num.specs.declared.limits.TheConstants.{OBJECT_LIMIT};
 ghost use Rattle.pg_sync.specs.Objects.{is_missing, object_at, put_object};

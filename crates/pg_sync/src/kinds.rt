@@ -1,3 +1,5 @@
+//! The kinds of objects at a place.
+
 ghost use Rattle.std.specs.Prelude.{◌≡◌};
 ghost use Rattle.pg_sync.specs.Objects.{has_arrived, is_barrier, is_free, is_held_by, may_be_barrier, may_be_condition, may_be_mutex};
 

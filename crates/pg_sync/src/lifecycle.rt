@@ -1,3 +1,5 @@
+//! Creates, starts, exits and joins.
+
 ghost use Rattle.std.specs.Prelude.{◌≡◌, ◌<◌, ◌==◌, ◌&&◌, ◌||◌, ◌++◌, ◌∷◌, [], Some, length, false, slice_get, slice_set};
 ghost use Rattle.pg_num.specs.declared.limits.TheConstants.{THREAD_LIMIT};
 ghost use Rattle.pg_sync.specs.Stages.{is_unsignalled};

@@ -1,3 +1,5 @@
+//! Mutexes.
+
 ghost use Rattle.std.specs.Prelude.{◌≡◌, ◌<◌, length, true, if◌then◌else◌};
 ghost use Rattle.pg_num.specs.declared.limits.TheConstants.{OBJECT_LIMIT};
 ghost use Rattle.pg_sync.specs.Objects.{drop_object, is_free, is_missing, object_at};
@@ -33,7 +35,8 @@ impl SyncState {
 
     pub(crate) fn try_hold(&mut self, t: ThreadNo, place: u32) -> Reply
         requires { is_missing (object_at place self.old.objects) ≡ true → length self.old.objects < OBJECT_LIMIT }
-        ensures { ◌≡◌ {A = Sync × Reply} (self.new, result) (if is_free (object_at place self.old.objects) then (record self.old { objects = hold self.old t.0 place }, answer 0) else (self.old, answer EBUSY)) }
+        ensures { ◌≡◌ {A = Sync × Reply} (self.new, result)
+            (if is_free (object_at place self.old.objects) then (record self.old { objects = hold self.old t.0 place }, answer 0) else (self.old, answer EBUSY)) }
     {
         if !free(self.object(place)) {
             return answer(EBUSY);

@@ -1,3 +1,5 @@
+//! Synchronisation objects.
+
 use pg_ir::ThreadNo;
 
 /// A synchronisation object (POSIX.1-2017).

@@ -1,3 +1,5 @@
+//! What an operation answers.
+
 ghost use Rattle.std.specs.Prelude.{◌≡◌};
 ghost use Rattle.pg_sync.specs.Sync.{answer};
 

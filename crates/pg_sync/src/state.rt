@@ -1,3 +1,5 @@
+//! The state of synchronisation.
+
 ghost use Rattle.std.specs.Prelude.{◌≡◌, ◌<◌, ◌≤◌, ◌++◌, ◌∷◌, [], true, false, find, is_some, length, map, slice_get, slice_set, IfOk};
 ghost use Rattle.pg_num.specs.declared.limits.TheConstants.{OBJECT_LIMIT, THREAD_LIMIT};
 ghost use Rattle.pg_sync.specs.Objects.{IsAscendingFrom, drop_object, is_missing, object_at, put_object};

@@ -1,3 +1,5 @@
+//! How far threads have come.
+
 use pg_ir::ThreadNo;
 
 /// How far a thread has come.

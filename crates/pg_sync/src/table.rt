@@ -1,3 +1,5 @@
+//! Objects by place.
+
 ghost use Rattle.std.specs.Prelude.{◌≡◌, ◌<◌, ◌≤◌, [], true, length, take, IfOk, IfSome, slice_get};
 ghost use Rattle.pg_num.specs.declared.limits.TheConstants.{OBJECT_LIMIT};
 ghost use Rattle.pg_sync.specs.Objects.{IsAscendingFrom, drop_object, is_missing, object_at, put_object};

@@ -1,3 +1,5 @@
+//! The stages of threads.
+
 ghost use Rattle.std.specs.Prelude.{◌≡◌, ◌<◌, ◌≤◌, ◌++◌, ◌∷◌, [], length, map, slice_get, slice_set, vec_len, vec_capacity};
 ghost use Rattle.pg_sync.specs.Sync.{all_ended, at_stage, has_ended, is_released, is_signalled, joined_in, may_join, release, stage_in, was_last};
 

@@ -1,3 +1,5 @@
+//! Those that wait on conditions.
+
 ghost use Rattle.std.specs.Prelude.{◌≡◌, ◌<◌, ◌≤◌, ◌++◌, ◌∷◌, [], vec_len, vec_capacity, find, position};
 ghost use Rattle.pg_sync.specs.Sync.{has_waiters, waits_on, without_first};
 

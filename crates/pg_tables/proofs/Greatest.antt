@@ -7,7 +7,7 @@ use Rattle.pg_num.specs.Places.{ByteRange}
 use Rattle.pg_trace.specs.Races.{is_in, share}
 use Rattle.pg_tables.specs.declared.cell.Cell.{Cell}
 use Rattle.pg_tables.specs.declared.touch.Touch.{Touch}
-use Rattle.pg_tables.specs.Best.{other}
+use Rattle.pg_trace.specs.Best.{other}
 use Rattle.pg_tables.specs.Touches.{answers, any_byte, greatest, range_of, rank_if}
 use Rattle.pg_tables.specs.Cells.{Keeps, holds, is_above, met_by}
 
@@ -20,7 +20,8 @@ above : (p : Touch → Bool) (n : ℕ) (xs : List Touch) → n < greatest p xs �
 above p n [] h = absurd (omega arith)
 above p n (x ∷ xs) h = go (p x) refl (above p n xs) (cases_lt n x.rank)
   where
-    go : (b : Bool) → p x ≡ b → (n < greatest p xs → list_any (λ x. p x && nat_lt n x.rank) xs ≡ true) → (n < x.rank) ⊎ (x.rank ≤ n) → list_any (λ x. p x && nat_lt n x.rank) (x ∷ xs) ≡ true
+    go : (b : Bool) → p x ≡ b → (n < greatest p xs → list_any (λ x. p x && nat_lt n x.rank) xs ≡ true) → (n < x.rank) ⊎ (x.rank ≤ n)
+        → list_any (λ x. p x && nat_lt n x.rank) (x ∷ xs) ≡ true
     go true w ih (inl lt) = rw (w, lt-ltb n x.rank lt) refl
     go true w ih (inr le) = let z = rw w at h in rw (w, le-ltb n x.rank le) (ih (omega (arith, z, le)))
     go false w ih c = let z = rw w at h in rw w (ih (omega (arith, z)))

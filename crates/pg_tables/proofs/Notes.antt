@@ -5,20 +5,20 @@ use Rattle.std.proofs.lemmas.Bool.{cases_lt, eqb-true, eqb-false, lt-ltb, le-ltb
 use Rattle.pg_trace.specs.Races.{is_in}
 use Rattle.pg_tables.specs.declared.cell.Cell.{Cell}
 use Rattle.pg_tables.specs.declared.touch.Touch.{Touch}
-use Rattle.pg_tables.specs.Best.{IsBest, other}
+use Rattle.pg_trace.specs.Best.{IsBest, other}
 use Rattle.pg_tables.specs.Touches.{greatest, range_of, rank_if}
 use Rattle.pg_tables.specs.Cells.{AreBest, Keeps, Noted, holds, holds_in, no_cell, writes_at}
 use Rattle.pg_tables.proofs.Greatest.{greatest_push}
 
 -- ---- one byte more
 
-in_last : (s n : ℕ) → is_in (record { start = s; bytes = n + 1 }) (s + n) ≡ true
+pub in_last : (s n : ℕ) → is_in (record { start = s; bytes = n + 1 }) (s + n) ≡ true
 in_last s n = and_from (nat_le s (s + n)) (nat_lt (s + n) (s + (n + 1))) (le-leb s (s + n) (omega arith)) (lt-ltb (s + n) (s + (n + 1)) (omega arith))
 
-in_none : (s n : ℕ) → is_in (record { start = s; bytes = n }) (s + n) ≡ false
-in_none s n = and_right (nat_le s (s + n)) (nat_lt (s + n) (s + n)) (le-ltb (s + n) (s + n) (omega arith))
+pub in_next : (s n : ℕ) → is_in (record { start = s; bytes = n }) (s + n) ≡ false
+in_next s n = and_right (nat_le s (s + n)) (nat_lt (s + n) (s + n)) (le-ltb (s + n) (s + n) (omega arith))
 
-in_same : (s n b : ℕ) → (b == s + n) ≡ false → is_in (record { start = s; bytes = n + 1 }) b ≡ is_in (record { start = s; bytes = n }) b
+pub in_same : (s n b : ℕ) → (b == s + n) ≡ false → is_in (record { start = s; bytes = n + 1 }) b ≡ is_in (record { start = s; bytes = n }) b
 in_same s n b h = go (cases_lt b (s + n))
   where
     above : s + n ≤ b → (b ≡ s + n → ⊥) → s + (n + 1) ≤ b
@@ -47,7 +47,7 @@ module _ (old mid more : ℕ → Cell) (y : Touch) (s n : ℕ) (c : Cell) (noted
           go true e =
               let q = eqb-true b (s + n) e in
               let m : more b ≡ c = is b ∙ ap (λ t. if t then c else mid b) e in
-              let h = noted.all (s + n) u ∙ ap (λ t. max (other (old (s + n)).all u) (rank_if (t && not (y.thread.0 == u)) y.rank)) (in_none s n) in
+              let h = noted.all (s + n) u ∙ ap (λ t. max (other (old (s + n)).all u) (rank_if (t && not (y.thread.0 == u)) y.rank)) (in_next s n) in
               let a = all u in
               ap (λ d. other d.all u) m ∙ a ∙ ap (λ r. max r (rank_if (not (y.thread.0 == u)) y.rank)) (h ∙ none (other (old (s + n)).all u))
               ∙ sym (ap (λ d. max (other (old d).all u) (rank_if (is_in (record { start = s; bytes = n + 1 }) d && not (y.thread.0 == u)) y.rank)) q
@@ -67,7 +67,7 @@ module _ (old mid more : ℕ → Cell) (y : Touch) (s n : ℕ) (c : Cell) (noted
           go true e =
               let q = eqb-true b (s + n) e in
               let m : more b ≡ c = is b ∙ ap (λ t. if t then c else mid b) e in
-              let h = noted.writes (s + n) u ∙ ap (λ t. max (other (old (s + n)).writes u) (rank_if (y.writes && (t && not (y.thread.0 == u))) y.rank)) (in_none s n) in
+              let h = noted.writes (s + n) u ∙ ap (λ t. max (other (old (s + n)).writes u) (rank_if (y.writes && (t && not (y.thread.0 == u))) y.rank)) (in_next s n) in
               let a = writes u in
               ap (λ d. other d.writes u) m ∙ a ∙ ap (λ r. max r (rank_if (y.writes && not (y.thread.0 == u)) y.rank)) (h ∙ none y.writes (other (old (s + n)).writes u))
               ∙ sym (ap (λ d. max (other (old d).writes u) (rank_if (y.writes && (is_in (record { start = s; bytes = n + 1 }) d && not (y.thread.0 == u))) y.rank)) q
@@ -90,10 +90,14 @@ module _ (old mid more : ℕ → Cell) (y : Touch) (s n : ℕ) (c : Cell) (noted
 
 -- no byte
 pub noted_none : (cells : ℕ → Cell) (y : Touch) (s : ℕ) → AreBest cells → Noted cells cells (record { start = s; bytes = 0 }) y
-noted_none cells y s best = record { all = λ b u. same (is_in_none s b) (other (cells b).all u) (not (y.thread.0 == u)); writes = λ b u. same_writes y.writes (is_in_none s b) (other (cells b).writes u) (not (y.thread.0 == u)); best = best }
+noted_none cells y s best = record {
+  all = λ b u. same (is_in_next s b) (other (cells b).all u) (not (y.thread.0 == u));
+  writes = λ b u. same_writes y.writes (is_in_next s b) (other (cells b).writes u) (not (y.thread.0 == u));
+  best = best;
+}
   where
-    is_in_none : (s b : ℕ) → is_in (record { start = s; bytes = 0 }) b ≡ false
-    is_in_none s b = go (cases_lt b s)
+    is_in_next : (s b : ℕ) → is_in (record { start = s; bytes = 0 }) b ≡ false
+    is_in_next s b = go (cases_lt b s)
       where
         go : (b < s) ⊎ (s ≤ b) → is_in (record { start = s; bytes = 0 }) b ≡ false
         go (inl lt) = rw (lt-leb s b lt) refl

@@ -1,5 +1,6 @@
 -- What the passes over a list of touches keep.
-use Rattle.std.proofs.Common.{◌≡◌, ℕ, ◌+◌, ◌-◌, ◌<◌, Bool, List, [], ◌∷◌, ◌++◌, length, take, drop, Some, refl, sym, ap, ◌∙◌, arith, zero, suc, append_assoc, append-nil}
+use Rattle.std.proofs.Common.{◌≡◌, ℕ, ◌+◌, ◌-◌, ◌<◌, Bool, List, [], ◌∷◌, ◌++◌, length, take, drop, Some, refl, sym, ap, ◌∙◌, arith, zero, suc}
+use Rattle.std.proofs.Common.{append_assoc, append-nil}
 use Rattle.std.specs.Prelude.{reverse, slice_get}
 use Rattle.std.specs.List.{list_any}
 use Rattle.std.proofs.lemmas.List.{reverse-append, reverse-reverse, drop_all}
@@ -33,13 +34,15 @@ module _ (ts : List Touch) where
   before_end items i l e = sym (append-nil items) ∙ sym (ap (λ d. items ++ before_in (take i ts) d) (drop_all i ts (omega (arith, l)))) ∙ e
 
   -- backward, the answers so far are those of the last k, the last first
-  pub behind_step : (k : ℕ) (y : Touch) (items : List Bool) (b : Bool) → k < length ts → slice_get ts (length ts - 1 - k) ≡ Some y → items ≡ reverse (behind_in (drop (length ts - k) ts)) →
+  pub behind_step : (k : ℕ) (y : Touch) (items : List Bool) (b : Bool) → k < length ts → slice_get ts (length ts - 1 - k) ≡ Some y
+      → items ≡ reverse (behind_in (drop (length ts - k) ts)) →
       b ≡ list_any (λ x. answers x y) (drop (length ts - k) ts) → items ++ b ∷ [] ≡ reverse (behind_in (drop (length ts - (k + 1)) ts))
   behind_step k y items b lt h e q =
       let i : length ts - 1 - k ≡ length ts - (k + 1) = omega arith in
       let n : (length ts - (k + 1)) + 1 ≡ length ts - k = omega (arith, lt) in
       let d = drop_get ts (length ts - (k + 1)) y (ap (slice_get ts) (sym i) ∙ h) ∙ ap (λ j. y ∷ drop j ts) n in
-      ap (λ l. l ++ b ∷ []) e ∙ ap (λ c. reverse (behind_in (drop (length ts - k) ts)) ++ c ∷ []) q ∙ sym (ap (λ l. reverse (behind_in l)) d ∙ reverse_cons (list_any (λ x. answers x y) (drop (length ts - k) ts)) (behind_in (drop (length ts - k) ts)))
+      ap (λ l. l ++ b ∷ []) e ∙ ap (λ c. reverse (behind_in (drop (length ts - k) ts)) ++ c ∷ []) q
+      ∙ sym (ap (λ l. reverse (behind_in l)) d ∙ reverse_cons (list_any (λ x. answers x y) (drop (length ts - k) ts)) (behind_in (drop (length ts - k) ts)))
 
   pub behind_last : (k : ℕ) (y : Touch) → k < length ts → slice_get ts (length ts - 1 - k) ≡ Some y → drop (length ts - (k + 1)) ts ≡ y ∷ drop (length ts - k) ts
   behind_last k y lt h =

@@ -4,9 +4,9 @@ use Rattle.std.specs.Option.{unwrap_or}
 use Rattle.indexmap.specs.IndexMap.{get}
 use Rattle.pg_num.specs.Places.{ByteRange}
 use Rattle.pg_trace.specs.Races.{is_in}
-use Rattle.pg_tables.specs.Best.{IsBest, no_best, other}
+use Rattle.pg_trace.specs.Best.{IsBest, no_best, other}
 use Rattle.pg_tables.specs.Touches.{greatest, range_of, rank_if}
-use Rattle.pg_tables.specs.declared.best.Best.{Best}
+use Rattle.pg_trace.specs.declared.best.Best.{Best}
 use Rattle.pg_tables.specs.declared.cell.Cell.{Cell}
 use Rattle.pg_tables.specs.declared.table.Table.{Table}
 use Rattle.pg_tables.specs.declared.touch.Touch.{Touch}

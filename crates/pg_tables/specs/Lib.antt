@@ -1,3 +1,2 @@
-pub mod Best
 pub mod Touches
 pub mod Cells

@@ -1,3 +1,5 @@
+//! Which touches are answered by another, before or behind.
+
 ghost use Rattle.std.specs.Prelude.{◌≡◌, ◌<◌, ◌+◌, [], IfOk, OnOk, Some, length, slice_get};
 ghost use Rattle.pg_tables.specs.Cells.{AreBest, Noted, cell_at, is_above};
 ghost use Rattle.pg_tables.specs.Touches.{any_byte, before_in, behind_in, range_of};

@@ -1,10 +1,12 @@
+//! The ranks of a byte's accesses.
+
 ghost use Rattle.std.specs.Prelude.{◌≡◌, ◌==◌, ◌&&◌, not, ℕ, max};
-ghost use Rattle.pg_tables.specs.Best.{IsBest, other};
+ghost use Rattle.pg_trace.specs.Best.{IsBest, other};
 ghost use Rattle.pg_tables.specs.Cells.{met_by, no_cell};
 ghost use Rattle.pg_tables.specs.Touches.{rank_if};
 
-use crate::best::Best;
 use crate::touch::Touch;
+use pg_trace::Best;
 
 /// The ranks of the accesses of a byte, and of those that write it.
 #[derive(Clone, Copy)]

@@ -3,7 +3,6 @@
 #![tactic(auto)]
 
 mod answered;
-mod best;
 mod cell;
 mod table;
 mod touch;

@@ -1,3 +1,5 @@
+//! The cells of bytes.
+
 ghost use Rattle.std.specs.Prelude.{◌≡◌, ◌==◌, ℕ, IfOk, OnOk, if◌then◌else◌};
 ghost use Rattle.pg_tables.specs.Cells.{cell_at, no_cell};
 

@@ -1,3 +1,5 @@
+//! Touches: accesses with ranks.
+
 use pg_ir::ThreadNo;
 
 /// An access of some bytes, of none where nothing is accessed: its thread, the first byte and how many

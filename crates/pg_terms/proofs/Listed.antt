@@ -13,7 +13,8 @@ first_of a (Good more after) all rest e = e
 first_of a (Bad fault after) all rest e = e
 
 pub listed : {X A : Type 0} (v : X → A) (close : Class) (r : List Token → Read A) (x : X) (none front all : List X) (b : Bool) (t : Token) (ts one more rest : List Token)
-    → none ≡ [] → front ≡ (if b then none ++ x ∷ [] else none) → b ≡ true → comes (is close) ts ≡ false → r ts ≡ Good (v x) one → onto (map v front) (all_of (is Comma) (behind_comma r) one) ≡ Good (map v all) more → take_one (is close) more ≡ Good t rest
+    → none ≡ [] → front ≡ (if b then none ++ x ∷ [] else none) → b ≡ true → comes (is close) ts ≡ false → r ts ≡ Good (v x) one
+    → onto (map v front) (all_of (is Comma) (behind_comma r) one) ≡ Good (map v all) more → take_one (is close) more ≡ Good t rest
     → listed_at close r ts ≡ Good (map v all) rest
 listed v close r x none front all b t ts one more rest n p h k f m g =
     let z : front ≡ x ∷ [] = chosen b (none ++ x ∷ []) none front p h ∙ ap (λ xs. xs ++ x ∷ []) n in

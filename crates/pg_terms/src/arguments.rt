@@ -7,15 +7,14 @@ ghost use Rattle.pg_grammar.specs.Views.{Reads, Takes};
 ghost use Rattle.pg_terms.specs.Pending.{pending_of};
 ghost use Rattle.pg_ast.specs.Views.{val_of, typed_of};
 
-use crate::reader::{is_class, literal, next_is, take, take_if, unsupported};
+use crate::reader::{Read, Text, is_class, literal, next_is, take, take_if, unsupported};
 use crate::sets::{ClassSet, contains, next_in, take_if_in, take_in};
 use crate::skips::skip_to;
 use crate::types::type_node;
 use crate::values::{other_value, value};
+use pg_num::limits::NESTING_LIMIT;
 use pg_ast::{ArgNode, TypedVal, ValNode};
 use pg_grammar::{Class, INNER_NESTING_LIMIT, ReadError, ReadRefusal, Token};
-use pg_num::limits::NESTING_LIMIT;
-use std::alloc::Global;
 
 /// What stands before a place among the attributes of an argument: nothing that goes on, a word, a string,
 /// or a word and this integer.
@@ -106,39 +105,34 @@ fn pending_next(tokens: &[Token], at: usize, state: &Pending<'_>) -> bool
 }
 
 #[tactic(auto, unfolding(pg_grammar::specs::Reader::settled_at))]
-fn settled(
-    alloc: Global,
-    tokens: &[Token],
-    at: usize,
-    state: Pending<'_>,
-) -> Result<(ValNode, usize), ReadError>
-    requires { at ≤ length tokens.now }
-    ensures { Reads tokens.now at (λ x. val_of x.0) (λ x. x.1) result (settled_at (pending_of state.entry) (drop at tokens.now)) }
+fn settled(text: &Text<'_>, at: usize, state: Pending<'_>) -> Read<ValNode>
+    requires { at ≤ length text.now.tokens.now }
+    ensures { Reads text.now.tokens.now at (λ x. val_of x.0) (λ x. x.1) result (settled_at (pending_of state.entry) (drop at text.now.tokens.now)) }
 {
-    if next_is(tokens, at, Class::Refused) {
+    if next_is(text.tokens, at, Class::Refused) {
         return Err(ReadError::Refused(unsupported(at)));
     }
     match state {
-        Pending::Bare => other_value(alloc, tokens, at, NESTING_LIMIT),
+        Pending::Bare => other_value(text, at, NESTING_LIMIT),
         Pending::Held(number) => {
-            if next_in(tokens, at, ClassSet::Value) {
-                return value(alloc, tokens, at, NESTING_LIMIT);
+            if next_in(text.tokens, at, ClassSet::Value) {
+                return value(text, at, NESTING_LIMIT);
             }
-            Ok((ValNode::Int(literal(alloc, number)?), at))
+            Ok((ValNode::Int(literal(text.alloc, number)?), at))
         }
-        _ => value(alloc, tokens, at, NESTING_LIMIT),
+        _ => value(text, at, NESTING_LIMIT),
     }
 }
 
 #[tactic(auto, unfolding(pg_grammar::specs::Reader::attributed_at))]
-fn attributed(alloc: Global, tokens: &[Token], at: usize) -> Result<(ValNode, usize), ReadError>
-    requires { at ≤ length tokens.now }
-    ensures { Reads tokens.now at (λ x. val_of x.0) (λ x. x.1) result (attributed_at (drop at tokens.now)) }
+fn attributed(text: &Text<'_>, at: usize) -> Read<ValNode>
+    requires { at ≤ length text.now.tokens.now }
+    ensures { Reads text.now.tokens.now at (λ x. val_of x.0) (λ x. x.1) result (attributed_at (drop at text.now.tokens.now)) }
 {
     let mut state = Pending::Fresh;
     let mut place = at;
-    'items: while pending_next(tokens, place, &state) {
-        match take_pending(tokens, place, state) {
+    'items: while pending_next(text.tokens, place, &state) {
+        match take_pending(text.tokens, place, state) {
             Err(refusal) => return Err(ReadError::Refused(refusal)),
             Ok((next, to)) => {
                 state = next;
@@ -146,15 +140,15 @@ fn attributed(alloc: Global, tokens: &[Token], at: usize) -> Result<(ValNode, us
             }
         }
     }
-    settled(alloc, tokens, place, state)
+    settled(text, place, state)
 }
 
 /// An argument of a call.
-pub fn argument(alloc: Global, tokens: &[Token], at: usize) -> Result<(ArgNode, usize), ReadError>
-    requires { at ≤ length tokens.now }
-    ensures { Reads tokens.now at (λ x. typed_of x.0) (λ x. x.1) result (argument_at (drop at tokens.now)) }
+pub fn argument(text: &Text<'_>, at: usize) -> Read<ArgNode>
+    requires { at ≤ length text.now.tokens.now }
+    ensures { Reads text.now.tokens.now at (λ x. typed_of x.0) (λ x. x.1) result (argument_at (drop at text.now.tokens.now)) }
 {
-    let (ty, at) = type_node(alloc, tokens, at, NESTING_LIMIT)?;
-    let (value, at) = attributed(alloc, tokens, at)?;
+    let (ty, at) = type_node(text, at, NESTING_LIMIT)?;
+    let (value, at) = attributed(text, at)?;
     Ok((TypedVal { ty, value }, at))
 }

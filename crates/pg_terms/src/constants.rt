@@ -8,147 +8,112 @@ ghost use Rattle.pg_grammar.specs.Reader.{const_at, simple_const_at, array_const
 ghost use Rattle.pg_grammar.specs.Views.{Reads};
 ghost use Rattle.pg_ast.specs.Views.{const_of, typed_const_of};
 
-use crate::reader::{literal, next_is, take, take_if, too_deep};
+use crate::reader::{Read, Text, keep, literal, next_is, take, take_if, too_deep};
 use crate::sets::{ClassSet, next_in};
 use crate::types::type_node;
 use crate::values::value;
 use pg_ast::{ConstNode, TypedConst};
-use pg_grammar::{Class, ReadError, Token};
-use std::alloc::Global;
+use pg_grammar::{Class, ReadError};
 
-fn simple_const(
-    alloc: Global,
-    tokens: &[Token],
-    at: usize,
-    depth: u32,
-) -> Result<(ConstNode, usize), ReadError>
-    requires { at ≤ length tokens.now }
-    ensures { Reads tokens.now at (λ x. const_of x.0) (λ x. x.1) result (simple_const_at depth (drop at tokens.now)) }
+fn simple_const(text: &Text<'_>, at: usize, depth: u32) -> Read<ConstNode>
+    requires { at ≤ length text.now.tokens.now }
+    ensures { Reads text.now.tokens.now at (λ x. const_of x.0) (λ x. x.1) result (simple_const_at depth (drop at text.now.tokens.now)) }
 {
-    if let Some((token, to)) = take_if(tokens, at, Class::CStr) {
-        return Ok((ConstNode::Bytes(literal(alloc, token)?), to));
+    if let Some((token, to)) = take_if(text.tokens, at, Class::CStr) {
+        return Ok((ConstNode::Bytes(literal(text.alloc, token)?), to));
     }
-    let (value, to) = value(alloc, tokens, at, depth)?;
+    let (value, to) = value(text, at, depth)?;
     Ok((ConstNode::Val(value), to))
 }
 
 /// A constant in which at most `depth` brackets are open at once.
 #[cycle(constants)]
 #[tactic(auto, unfolding(pg_grammar::specs::Reader::const_at))]
-pub fn constant(
-    alloc: Global,
-    tokens: &[Token],
-    at: usize,
-    depth: u32,
-) -> Result<(ConstNode, usize), ReadError>
-    requires { at ≤ length tokens.now }
-    ensures { Reads tokens.now at (λ x. const_of x.0) (λ x. x.1) result (const_at depth (drop at tokens.now)) }
+pub fn constant(text: &Text<'_>, at: usize, depth: u32) -> Read<ConstNode>
+    requires { at ≤ length text.now.tokens.now }
+    ensures { Reads text.now.tokens.now at (λ x. const_of x.0) (λ x. x.1) result (const_at depth (drop at text.now.tokens.now)) }
 {
     if depth == 0 {
-        if next_in(tokens, at, ClassSet::OpensType) {
+        if next_in(text.tokens, at, ClassSet::OpensType) {
             return Err(ReadError::Refused(too_deep(at)));
         }
-        return simple_const(alloc, tokens, at, depth);
+        return simple_const(text, at, depth);
     }
-    if next_is(tokens, at, Class::OpenSquare) {
-        return array_const(alloc, tokens, at, depth - 1);
+    if next_is(text.tokens, at, Class::OpenSquare) {
+        return array_const(text, at, depth - 1);
     }
-    if next_is(tokens, at, Class::OpenBrace) {
-        return struct_const(alloc, tokens, at, depth - 1);
+    if next_is(text.tokens, at, Class::OpenBrace) {
+        return struct_const(text, at, depth - 1);
     }
-    simple_const(alloc, tokens, at, depth)
+    simple_const(text, at, depth)
 }
 
 #[cycle(constants)]
-fn array_const(
-    alloc: Global,
-    tokens: &[Token],
-    at: usize,
-    depth: u32,
-) -> Result<(ConstNode, usize), ReadError>
-    requires { at ≤ length tokens.now }
-    ensures { Reads tokens.now at (λ x. const_of x.0) (λ x. x.1) result (array_const_at depth (const_at depth) (drop at tokens.now)) }
+fn array_const(text: &Text<'_>, at: usize, depth: u32) -> Read<ConstNode>
+    requires { at ≤ length text.now.tokens.now }
+    ensures { Reads text.now.tokens.now at (λ x. const_of x.0) (λ x. x.1) result (array_const_at depth (const_at depth) (drop at text.now.tokens.now)) }
 {
-    let (first, at) = take(tokens, at, Class::OpenSquare)?;
-    let (all, at) = constants_to(alloc, tokens, at, depth, Class::CloseSquare)?;
+    let (first, at) = take(text.tokens, at, Class::OpenSquare)?;
+    let (all, at) = constants_to(text, at, depth, Class::CloseSquare)?;
     Ok((ConstNode::Array(first.span, all), at))
 }
 
 #[cycle(constants)]
-fn struct_const(
-    alloc: Global,
-    tokens: &[Token],
-    at: usize,
-    depth: u32,
-) -> Result<(ConstNode, usize), ReadError>
-    requires { at ≤ length tokens.now }
-    ensures { Reads tokens.now at (λ x. const_of x.0) (λ x. x.1) result (struct_const_at depth (const_at depth) (drop at tokens.now)) }
+fn struct_const(text: &Text<'_>, at: usize, depth: u32) -> Read<ConstNode>
+    requires { at ≤ length text.now.tokens.now }
+    ensures { Reads text.now.tokens.now at (λ x. const_of x.0) (λ x. x.1) result (struct_const_at depth (const_at depth) (drop at text.now.tokens.now)) }
 {
-    let (first, at) = take(tokens, at, Class::OpenBrace)?;
-    let (all, at) = constants_to(alloc, tokens, at, depth, Class::CloseBrace)?;
+    let (first, at) = take(text.tokens, at, Class::OpenBrace)?;
+    let (all, at) = constants_to(text, at, depth, Class::CloseBrace)?;
     Ok((ConstNode::Struct(first.span, all), at))
 }
 
 #[cycle(constants)]
-fn typed_const(
-    alloc: Global,
-    tokens: &[Token],
-    at: usize,
-    depth: u32,
-) -> Result<(TypedConst, usize), ReadError>
-    requires { at ≤ length tokens.now }
-    ensures { Reads tokens.now at (λ x. typed_const_of x.0) (λ x. x.1) result (typed_const_at depth (const_at depth) (drop at tokens.now)) }
+fn typed_const(text: &Text<'_>, at: usize, depth: u32) -> Read<TypedConst>
+    requires { at ≤ length text.now.tokens.now }
+    ensures { Reads text.now.tokens.now at (λ x. typed_const_of x.0) (λ x. x.1) result (typed_const_at depth (const_at depth) (drop at text.now.tokens.now)) }
 {
-    let (ty, at) = type_node(alloc, tokens, at, depth)?;
-    let (value, at) = constant(alloc, tokens, at, depth)?;
+    let (ty, at) = type_node(text, at, depth)?;
+    let (value, at) = constant(text, at, depth)?;
     Ok((TypedConst { ty, value }, at))
 }
 
 #[cycle(constants)]
-fn constants_to(
-    alloc: Global,
-    tokens: &[Token],
-    at: usize,
-    depth: u32,
-    close: Class,
-) -> Result<(Vec<TypedConst>, usize), ReadError>
-    requires { at ≤ length tokens.now }
-    ensures { Reads tokens.now at (λ x. map typed_const_of x.0.items) (λ x. x.1) result (listed_at close (typed_const_at depth (const_at depth)) (drop at tokens.now)) }
+fn constants_to(text: &Text<'_>, at: usize, depth: u32, close: Class) -> Read<Vec<TypedConst>>
+    requires { at ≤ length text.now.tokens.now }
+    ensures { Reads text.now.tokens.now at (λ x. map typed_const_of x.0.items) (λ x. x.1) result (listed_at close (typed_const_at depth (const_at depth)) (drop at text.now.tokens.now)) }
 {
-    if let Some((_, to)) = take_if(tokens, at, close) {
-        return Ok((Vec::new(alloc), to));
+    if let Some((_, to)) = take_if(text.tokens, at, close) {
+        return Ok((Vec::new(text.alloc), to));
     }
-    let (first, at) = typed_const(alloc, tokens, at, depth)?;
-    let mut all = Vec::new(alloc);
+    let (first, at) = typed_const(text, at, depth)?;
+    let mut all = Vec::new(text.alloc);
     if all.push(first).is_err() {
         return Err(ReadError::Memory);
     }
-    let (all, at) = more_constants(alloc, tokens, at, depth, all)?;
-    let (_, at) = take(tokens, at, close)?;
+    let (all, at) = more_constants(text, at, depth, all)?;
+    let (_, at) = take(text.tokens, at, close)?;
     Ok((all, at))
 }
 
 #[cycle(constants)]
 fn more_constants(
-    alloc: Global,
-    tokens: &[Token],
+    text: &Text<'_>,
     at: usize,
     depth: u32,
     all: Vec<TypedConst>,
-) -> Result<(Vec<TypedConst>, usize), ReadError>
-    requires { at ≤ length tokens.now }
-    ensures { Reads tokens.now at (λ x. map typed_const_of x.0.items) (λ x. x.1) result
-        (onto (map typed_const_of all.items) (all_of (is Comma) (behind_comma (typed_const_at depth (const_at depth))) (drop at tokens.now))) }
+) -> Read<Vec<TypedConst>>
+    requires { at ≤ length text.now.tokens.now }
+    ensures { Reads text.now.tokens.now at (λ x. map typed_const_of x.0.items) (λ x. x.1) result
+        (onto (map typed_const_of all.items) (all_of (is Comma) (behind_comma (typed_const_at depth (const_at depth))) (drop at text.now.tokens.now))) }
 {
     let mut all = all;
     let mut place = at;
-    'items: while next_is(tokens, place, Class::Comma) {
-        match comma_constant(alloc, tokens, place, depth) {
+    'items: while next_is(text.tokens, place, Class::Comma) {
+        match comma_constant(text, place, depth) {
             Err(error) => return Err(error),
             Ok((next, to)) => {
-                if all.push(next).is_err() {
-                    return Err(ReadError::Memory);
-                }
+                keep(&mut all, next)?;
                 place = to;
             }
         }
@@ -157,16 +122,11 @@ fn more_constants(
 }
 
 #[cycle(constants)]
-fn comma_constant(
-    alloc: Global,
-    tokens: &[Token],
-    at: usize,
-    depth: u32,
-) -> Result<(TypedConst, usize), ReadError>
-    requires { at ≤ length tokens.now }
-    ensures read { Reads tokens.now at (λ x. typed_const_of x.0) (λ x. x.1) result (behind_comma (typed_const_at depth (const_at depth)) (drop at tokens.now)) }
+fn comma_constant(text: &Text<'_>, at: usize, depth: u32) -> Read<TypedConst>
+    requires { at ≤ length text.now.tokens.now }
+    ensures read { Reads text.now.tokens.now at (λ x. typed_const_of x.0) (λ x. x.1) result (behind_comma (typed_const_at depth (const_at depth)) (drop at text.now.tokens.now)) }
     ensures on { IfOk result (λ x. at < x.1) }
 {
-    let (_, to) = take(tokens, at, Class::Comma)?;
-    typed_const(alloc, tokens, to, depth)
+    let (_, to) = take(text.tokens, at, Class::Comma)?;
+    typed_const(text, to, depth)
 }

@@ -18,7 +18,7 @@ pub use arguments::argument;
 pub use attribute_lists::{attribute, attributes};
 pub use constants::constant;
 pub use line_metadata::{metadata, metadata_tail};
-pub use reader::{is_class, literal, name, next_is, take, too_deep, unsupported};
+pub use reader::{Read, Text, is_class, keep, literal, name, next_is, take, too_deep, unsupported};
 pub use sets::{ClassSet, contains, next_in, take_in};
 pub use skips::{flags, skip_to};
 pub use types::{type_node, types_to};

@@ -1,6 +1,6 @@
 //! Reading one token of a class.
 
-ghost use Rattle.std.specs.Prelude.{◌≡◌, ◌≤◌, ◌+◌, length, drop, IfOk, Some};
+ghost use Rattle.std.specs.Prelude.{◌≡◌, ◌≤◌, ◌+◌, ◌++◌, ◌∷◌, [], length, drop, IfOk, OnOk, Some};
 ghost use Rattle.pg_grammar.specs.Classes.{is};
 ghost use Rattle.pg_grammar.specs.Reading.{comes, take_one};
 ghost use Rattle.pg_grammar.specs.Views.{Takes};
@@ -8,8 +8,26 @@ ghost use Rattle.pg_terms.specs.Tried.{Tries};
 ghost use Rattle.pg_grammar.specs.Grammar.{name_of, literal_of};
 
 use pg_ast::{Literal, Name};
-use pg_grammar::{Class, Fault, ReadRefusal, Token};
+use pg_grammar::{Class, Fault, ReadError, ReadRefusal, Token};
 use std::alloc::{AllocError, Global};
+
+/// What is read, and the place after it.
+pub type Read<T> = Result<(T, usize), ReadError>;
+
+/// The tokens of a text, and the memory in which trees are made of them.
+#[derive(Clone, Copy)]
+pub struct Text<'a> {
+    pub alloc: Global,
+    pub tokens: &'a [Token],
+}
+
+/// Adds a thing to a list.
+pub fn keep<T: Drop>(all: &mut Vec<T>, next: T) -> Result<(), AllocError>
+    ensures { OnOk result (all.new.items ≡ all.old.items ++ next ∷ []) }
+{
+    all.push(next)?;
+    Ok(())
+}
 
 /// The class is the wanted one.
 pub fn is_class(class: Class, wanted: Class) -> bool

@@ -206,20 +206,10 @@ fn is_attribute_word(class: Class) -> bool
         | Class::Align
         | Class::Volatile
         | Class::Flag
-        | Class::Eq
-        | Class::Ne
-        | Class::Ugt
-        | Class::Uge
-        | Class::Ult
-        | Class::Ule
-        | Class::Sgt
-        | Class::Sge
-        | Class::Slt
-        | Class::Sle
         | Class::TypeWord
         | Class::Distinct
         | Class::OtherWord => true,
-        _ => false,
+        _ => is_predicate(class),
     }
 }
 
@@ -306,19 +296,8 @@ fn is_value(class: Class) -> bool
     ensures { result ≡ begins_value class }
 {
     match class {
-        Class::Int
-        | Class::GetElementPtr
-        | Class::IntToPtr
-        | Class::Local
-        | Class::True
-        | Class::False
-        | Class::Null
-        | Class::Undef
-        | Class::Poison
-        | Class::ZeroInitializer
-        | Class::Global
-        | Class::DroppedGlobal => true,
-        _ => false,
+        Class::GetElementPtr | Class::IntToPtr | Class::Local => true,
+        _ => is_certain_value(class),
     }
 }
 
@@ -409,28 +388,8 @@ fn is_operation(class: Class) -> bool
     ensures { result ≡ op_word class }
 {
     match class {
-        Class::Call
-        | Class::TailWord
-        | Class::Ret
+        Class::Ret
         | Class::GetElementPtr
-        | Class::Trunc
-        | Class::Zext
-        | Class::Sext
-        | Class::PtrToInt
-        | Class::IntToPtr
-        | Class::Add
-        | Class::Sub
-        | Class::Mul
-        | Class::Udiv
-        | Class::Sdiv
-        | Class::Urem
-        | Class::Srem
-        | Class::Shl
-        | Class::Lshr
-        | Class::Ashr
-        | Class::And
-        | Class::Or
-        | Class::Xor
         | Class::Icmp
         | Class::Select
         | Class::Phi
@@ -440,7 +399,7 @@ fn is_operation(class: Class) -> bool
         | Class::Alloca
         | Class::Load
         | Class::Store => true,
-        _ => false,
+        _ => is_call(class) || is_cast(class) || is_binary(class),
     }
 }
 

@@ -11,7 +11,7 @@ ghost use Rattle.pg_terms.specs.Sets.{other_plain_value_at};
 ghost use Rattle.pg_terms.specs.Ends.{gep_pointer_at, gep_indices_at, gep_end_at, int_to_ptr_number_at, int_to_ptr_end_at};
 ghost use Rattle.pg_ast.specs.Views.{ty_of, val_of, typed_of};
 
-use crate::reader::{literal, name, next_is, take, take_if, too_deep};
+use crate::reader::{Read, Text, keep, literal, name, next_is, take, take_if, too_deep};
 use crate::sets::{ClassSet, next_in, take_in};
 use crate::skips::flags;
 use crate::types::type_node;
@@ -20,204 +20,161 @@ use pg_grammar::{Class, ReadError, Token};
 use std::alloc::Global;
 
 /// A value that is one word, or a global.
-pub fn plain_value(
-    alloc: Global,
-    tokens: &[Token],
-    at: usize,
-) -> Result<(ValNode, usize), ReadError>
-    requires { at ≤ length tokens.now }
-    ensures { Reads tokens.now at (λ x. val_of x.0) (λ x. x.1) result (plain_value_at (drop at tokens.now)) }
+pub fn plain_value(text: &Text<'_>, at: usize) -> Read<ValNode>
+    requires { at ≤ length text.now.tokens.now }
+    ensures { Reads text.now.tokens.now at (λ x. val_of x.0) (λ x. x.1) result (plain_value_at (drop at text.now.tokens.now)) }
 {
-    if let Some((token, to)) = take_if(tokens, at, Class::True) {
+    if let Some((token, to)) = take_if(text.tokens, at, Class::True) {
         return Ok((ValNode::True(token.span), to));
     }
-    if let Some((token, to)) = take_if(tokens, at, Class::False) {
+    if let Some((token, to)) = take_if(text.tokens, at, Class::False) {
         return Ok((ValNode::False(token.span), to));
     }
-    if let Some((token, to)) = take_if(tokens, at, Class::Null) {
+    if let Some((token, to)) = take_if(text.tokens, at, Class::Null) {
         return Ok((ValNode::Null(token.span), to));
     }
-    other_plain_value(alloc, tokens, at)
+    other_plain_value(text, at)
 }
 
-fn other_plain_value(
-    alloc: Global,
-    tokens: &[Token],
-    at: usize,
-) -> Result<(ValNode, usize), ReadError>
-    requires { at ≤ length tokens.now }
-    ensures { Reads tokens.now at (λ x. val_of x.0) (λ x. x.1) result (other_plain_value_at (drop at tokens.now)) }
+fn other_plain_value(text: &Text<'_>, at: usize) -> Read<ValNode>
+    requires { at ≤ length text.now.tokens.now }
+    ensures { Reads text.now.tokens.now at (λ x. val_of x.0) (λ x. x.1) result (other_plain_value_at (drop at text.now.tokens.now)) }
 {
-    if let Some((token, to)) = take_if(tokens, at, Class::Undef) {
+    if let Some((token, to)) = take_if(text.tokens, at, Class::Undef) {
         return Ok((ValNode::Undef(token.span), to));
     }
-    if let Some((token, to)) = take_if(tokens, at, Class::Poison) {
+    if let Some((token, to)) = take_if(text.tokens, at, Class::Poison) {
         return Ok((ValNode::Poison(token.span), to));
     }
-    if let Some((token, to)) = take_if(tokens, at, Class::ZeroInitializer) {
+    if let Some((token, to)) = take_if(text.tokens, at, Class::ZeroInitializer) {
         return Ok((ValNode::ZeroInitializer(token.span), to));
     }
-    let (token, to) = take_in(tokens, at, ClassSet::GlobalName)?;
-    Ok((ValNode::Global(name(alloc, token)?), to))
+    let (token, to) = take_in(text.tokens, at, ClassSet::GlobalName)?;
+    Ok((ValNode::Global(name(text.alloc, token)?), to))
 }
 
-fn named_value(alloc: Global, tokens: &[Token], at: usize) -> Result<(ValNode, usize), ReadError>
-    requires { at ≤ length tokens.now }
-    ensures { Reads tokens.now at (λ x. val_of x.0) (λ x. x.1) result (named_value_at (drop at tokens.now)) }
+fn named_value(text: &Text<'_>, at: usize) -> Read<ValNode>
+    requires { at ≤ length text.now.tokens.now }
+    ensures { Reads text.now.tokens.now at (λ x. val_of x.0) (λ x. x.1) result (named_value_at (drop at text.now.tokens.now)) }
 {
-    if let Some((token, to)) = take_if(tokens, at, Class::Local) {
-        return Ok((ValNode::Local(name(alloc, token)?), to));
+    if let Some((token, to)) = take_if(text.tokens, at, Class::Local) {
+        return Ok((ValNode::Local(name(text.alloc, token)?), to));
     }
-    plain_value(alloc, tokens, at)
+    plain_value(text, at)
 }
 
 /// A value in which at most `depth` brackets are open at once.
 #[cycle(values)]
-pub fn value(
-    alloc: Global,
-    tokens: &[Token],
-    at: usize,
-    depth: u32,
-) -> Result<(ValNode, usize), ReadError>
-    requires { at ≤ length tokens.now }
-    ensures { Reads tokens.now at (λ x. val_of x.0) (λ x. x.1) result (value_at depth (drop at tokens.now)) }
+pub fn value(text: &Text<'_>, at: usize, depth: u32) -> Read<ValNode>
+    requires { at ≤ length text.now.tokens.now }
+    ensures { Reads text.now.tokens.now at (λ x. val_of x.0) (λ x. x.1) result (value_at depth (drop at text.now.tokens.now)) }
 {
-    if let Some((token, to)) = take_if(tokens, at, Class::Int) {
-        return Ok((ValNode::Int(literal(alloc, token)?), to));
+    if let Some((token, to)) = take_if(text.tokens, at, Class::Int) {
+        return Ok((ValNode::Int(literal(text.alloc, token)?), to));
     }
-    other_value(alloc, tokens, at, depth)
+    other_value(text, at, depth)
 }
 
 /// Such a value, but no integer.
 #[cycle(values)]
 #[tactic(auto, unfolding(pg_grammar::specs::Reader::other_value_at))]
-pub fn other_value(
-    alloc: Global,
-    tokens: &[Token],
-    at: usize,
-    depth: u32,
-) -> Result<(ValNode, usize), ReadError>
-    requires { at ≤ length tokens.now }
-    ensures { Reads tokens.now at (λ x. val_of x.0) (λ x. x.1) result (other_value_at depth (drop at tokens.now)) }
+pub fn other_value(text: &Text<'_>, at: usize, depth: u32) -> Read<ValNode>
+    requires { at ≤ length text.now.tokens.now }
+    ensures { Reads text.now.tokens.now at (λ x. val_of x.0) (λ x. x.1) result (other_value_at depth (drop at text.now.tokens.now)) }
 {
     if depth == 0 {
-        if next_in(tokens, at, ClassSet::OpensValue) {
+        if next_in(text.tokens, at, ClassSet::OpensValue) {
             return Err(ReadError::Refused(too_deep(at)));
         }
-        return named_value(alloc, tokens, at);
+        return named_value(text, at);
     }
-    if next_is(tokens, at, Class::GetElementPtr) {
-        return gep(alloc, tokens, at, depth - 1);
+    if next_is(text.tokens, at, Class::GetElementPtr) {
+        return gep(text, at, depth - 1);
     }
-    if next_is(tokens, at, Class::IntToPtr) {
-        return int_to_ptr(alloc, tokens, at, depth - 1);
+    if next_is(text.tokens, at, Class::IntToPtr) {
+        return int_to_ptr(text, at, depth - 1);
     }
-    named_value(alloc, tokens, at)
+    named_value(text, at)
 }
 
 /// A value and the type before it.
 #[cycle(values)]
-pub fn typed_value_in(
-    alloc: Global,
-    tokens: &[Token],
-    at: usize,
-    depth: u32,
-) -> Result<(TypedVal, usize), ReadError>
-    requires { at ≤ length tokens.now }
-    ensures { Reads tokens.now at (λ x. typed_of x.0) (λ x. x.1) result (typed_in_at depth (value_at depth) (drop at tokens.now)) }
+pub fn typed_value_in(text: &Text<'_>, at: usize, depth: u32) -> Read<TypedVal>
+    requires { at ≤ length text.now.tokens.now }
+    ensures { Reads text.now.tokens.now at (λ x. typed_of x.0) (λ x. x.1) result (typed_in_at depth (value_at depth) (drop at text.now.tokens.now)) }
 {
-    let (ty, at) = type_node(alloc, tokens, at, depth)?;
-    let (value, at) = value(alloc, tokens, at, depth)?;
+    let (ty, at) = type_node(text, at, depth)?;
+    let (value, at) = value(text, at, depth)?;
     Ok((TypedVal { ty, value }, at))
 }
 
 #[cycle(values)]
-fn gep(
-    alloc: Global,
-    tokens: &[Token],
-    at: usize,
-    depth: u32,
-) -> Result<(ValNode, usize), ReadError>
-    requires { at ≤ length tokens.now }
-    ensures { Reads tokens.now at (λ x. val_of x.0) (λ x. x.1) result (gep_at depth (value_at depth) (drop at tokens.now)) }
+fn gep(text: &Text<'_>, at: usize, depth: u32) -> Read<ValNode>
+    requires { at ≤ length text.now.tokens.now }
+    ensures { Reads text.now.tokens.now at (λ x. val_of x.0) (λ x. x.1) result (gep_at depth (value_at depth) (drop at text.now.tokens.now)) }
 {
-    let (word, at) = take(tokens, at, Class::GetElementPtr)?;
-    let at = flags(tokens, at);
-    gep_tail(alloc, tokens, at, depth, word)
+    let (word, at) = take(text.tokens, at, Class::GetElementPtr)?;
+    let at = flags(text.tokens, at);
+    gep_tail(text, at, depth, word)
 }
 
 /// What stands behind the first token of a constant `getelementptr` and its flags.
 #[cycle(values)]
-pub fn gep_tail(
-    alloc: Global,
-    tokens: &[Token],
-    at: usize,
-    depth: u32,
-    word: &Token,
-) -> Result<(ValNode, usize), ReadError>
-    requires { at ≤ length tokens.now }
-    ensures { Reads tokens.now at (λ x. val_of x.0) (λ x. x.1) result (gep_tail_at depth (value_at depth) word.now (drop at tokens.now)) }
+pub fn gep_tail(text: &Text<'_>, at: usize, depth: u32, word: &Token) -> Read<ValNode>
+    requires { at ≤ length text.now.tokens.now }
+    ensures { Reads text.now.tokens.now at (λ x. val_of x.0) (λ x. x.1) result (gep_tail_at depth (value_at depth) word.now (drop at text.now.tokens.now)) }
 {
-    let (_, at) = take(tokens, at, Class::OpenRound)?;
-    let (ty, at) = type_node(alloc, tokens, at, depth)?;
-    gep_pointer(alloc, tokens, at, depth, word, ty)
+    let (_, at) = take(text.tokens, at, Class::OpenRound)?;
+    let (ty, at) = type_node(text, at, depth)?;
+    gep_pointer(text, at, depth, word, ty)
 }
 
 /// What stands behind the type that the indices walk.
 #[cycle(values)]
-fn gep_pointer(
-    alloc: Global,
-    tokens: &[Token],
-    at: usize,
-    depth: u32,
-    word: &Token,
-    ty: TypeNode,
-) -> Result<(ValNode, usize), ReadError>
-    requires { at ≤ length tokens.now }
-    ensures { Reads tokens.now at (λ x. val_of x.0) (λ x. x.1) result (gep_pointer_at depth (value_at depth) word.now (ty_of ty) (drop at tokens.now)) }
+fn gep_pointer(text: &Text<'_>, at: usize, depth: u32, word: &Token, ty: TypeNode) -> Read<ValNode>
+    requires { at ≤ length text.now.tokens.now }
+    ensures { Reads text.now.tokens.now at (λ x. val_of x.0) (λ x. x.1) result (gep_pointer_at depth (value_at depth) word.now (ty_of ty) (drop at text.now.tokens.now)) }
 {
-    let (_, at) = take(tokens, at, Class::Comma)?;
-    let (pointer, at) = typed_value_in(alloc, tokens, at, depth)?;
-    gep_indices(alloc, tokens, at, depth, word, ty, pointer)
+    let (_, at) = take(text.tokens, at, Class::Comma)?;
+    let (pointer, at) = typed_value_in(text, at, depth)?;
+    gep_indices(text, at, depth, word, ty, pointer)
 }
 
 /// What stands behind the pointer.
 #[cycle(values)]
 fn gep_indices(
-    alloc: Global,
-    tokens: &[Token],
+    text: &Text<'_>,
     at: usize,
     depth: u32,
     word: &Token,
     ty: TypeNode,
     pointer: TypedVal,
-) -> Result<(ValNode, usize), ReadError>
-    requires { at ≤ length tokens.now }
-    ensures { Reads tokens.now at (λ x. val_of x.0) (λ x. x.1) result (gep_indices_at depth (value_at depth) word.now (ty_of ty) (typed_of pointer) (drop at tokens.now)) }
+) -> Read<ValNode>
+    requires { at ≤ length text.now.tokens.now }
+    ensures { Reads text.now.tokens.now at (λ x. val_of x.0) (λ x. x.1) result (gep_indices_at depth (value_at depth) word.now (ty_of ty) (typed_of pointer) (drop at text.now.tokens.now)) }
 {
-    let (indices, at) = more_values(alloc, tokens, at, depth)?;
-    gep_end(alloc, tokens, at, word, ty, pointer, indices)
+    let (indices, at) = more_values(text, at, depth)?;
+    gep_end(text, at, word, ty, pointer, indices)
 }
 
 /// What stands behind the indices.
 fn gep_end(
-    alloc: Global,
-    tokens: &[Token],
+    text: &Text<'_>,
     at: usize,
     word: &Token,
     ty: TypeNode,
     pointer: TypedVal,
     indices: Vec<TypedVal>,
-) -> Result<(ValNode, usize), ReadError>
-    requires { at ≤ length tokens.now }
-    ensures { Reads tokens.now at (λ x. val_of x.0) (λ x. x.1) result (gep_end_at word.now (ty_of ty) (typed_of pointer) (map typed_of indices.items) (drop at tokens.now)) }
+) -> Read<ValNode>
+    requires { at ≤ length text.now.tokens.now }
+    ensures { Reads text.now.tokens.now at (λ x. val_of x.0) (λ x. x.1) result (gep_end_at word.now (ty_of ty) (typed_of pointer) (map typed_of indices.items) (drop at text.now.tokens.now)) }
 {
-    let (_, at) = take(tokens, at, Class::CloseRound)?;
+    let (_, at) = take(text.tokens, at, Class::CloseRound)?;
     let TypedVal {
         ty: pointer_ty,
         value,
     } = pointer;
-    let boxed = match Box::new(alloc, value) {
+    let boxed = match Box::new(text.alloc, value) {
         Ok(boxed) => boxed,
         Err(_) => return Err(ReadError::Memory),
     };
@@ -228,24 +185,17 @@ fn gep_end(
 }
 
 #[cycle(values)]
-fn more_values(
-    alloc: Global,
-    tokens: &[Token],
-    at: usize,
-    depth: u32,
-) -> Result<(Vec<TypedVal>, usize), ReadError>
-    requires { at ≤ length tokens.now }
-    ensures { Reads tokens.now at (λ x. map typed_of x.0.items) (λ x. x.1) result (all_of (is Comma) (behind_comma (typed_in_at depth (value_at depth))) (drop at tokens.now)) }
+fn more_values(text: &Text<'_>, at: usize, depth: u32) -> Read<Vec<TypedVal>>
+    requires { at ≤ length text.now.tokens.now }
+    ensures { Reads text.now.tokens.now at (λ x. map typed_of x.0.items) (λ x. x.1) result (all_of (is Comma) (behind_comma (typed_in_at depth (value_at depth))) (drop at text.now.tokens.now)) }
 {
-    let mut values = Vec::new(alloc);
+    let mut values = Vec::new(text.alloc);
     let mut place = at;
-    'items: while next_is(tokens, place, Class::Comma) {
-        match comma_value(alloc, tokens, place, depth) {
+    'items: while next_is(text.tokens, place, Class::Comma) {
+        match comma_value(text, place, depth) {
             Err(error) => return Err(error),
             Ok((next, to)) => {
-                if values.push(next).is_err() {
-                    return Err(ReadError::Memory);
-                }
+                keep(&mut values, next)?;
                 place = to;
             }
         }
@@ -255,81 +205,63 @@ fn more_values(
 
 /// A value and the type before it, behind a comma.
 #[cycle(values)]
-pub fn comma_value(
-    alloc: Global,
-    tokens: &[Token],
-    at: usize,
-    depth: u32,
-) -> Result<(TypedVal, usize), ReadError>
-    requires { at ≤ length tokens.now }
-    ensures read { Reads tokens.now at (λ x. typed_of x.0) (λ x. x.1) result (behind_comma (typed_in_at depth (value_at depth)) (drop at tokens.now)) }
+pub fn comma_value(text: &Text<'_>, at: usize, depth: u32) -> Read<TypedVal>
+    requires { at ≤ length text.now.tokens.now }
+    ensures read { Reads text.now.tokens.now at (λ x. typed_of x.0) (λ x. x.1) result (behind_comma (typed_in_at depth (value_at depth)) (drop at text.now.tokens.now)) }
     ensures on { IfOk result (λ x. at < x.1) }
 {
-    let (_, to) = take(tokens, at, Class::Comma)?;
-    typed_value_in(alloc, tokens, to, depth)
+    let (_, to) = take(text.tokens, at, Class::Comma)?;
+    typed_value_in(text, to, depth)
 }
 
-fn int_to_ptr(
-    alloc: Global,
-    tokens: &[Token],
-    at: usize,
-    depth: u32,
-) -> Result<(ValNode, usize), ReadError>
-    requires { at ≤ length tokens.now }
-    ensures { Reads tokens.now at (λ x. val_of x.0) (λ x. x.1) result (int_to_ptr_at depth (drop at tokens.now)) }
+fn int_to_ptr(text: &Text<'_>, at: usize, depth: u32) -> Read<ValNode>
+    requires { at ≤ length text.now.tokens.now }
+    ensures { Reads text.now.tokens.now at (λ x. val_of x.0) (λ x. x.1) result (int_to_ptr_at depth (drop at text.now.tokens.now)) }
 {
-    let (word, at) = take(tokens, at, Class::IntToPtr)?;
-    int_to_ptr_tail(alloc, tokens, at, depth, word)
+    let (word, at) = take(text.tokens, at, Class::IntToPtr)?;
+    int_to_ptr_tail(text, at, depth, word)
 }
 
 /// What stands behind the first token of a constant `inttoptr`.
-pub fn int_to_ptr_tail(
-    alloc: Global,
-    tokens: &[Token],
-    at: usize,
-    depth: u32,
-    word: &Token,
-) -> Result<(ValNode, usize), ReadError>
-    requires { at ≤ length tokens.now }
-    ensures { Reads tokens.now at (λ x. val_of x.0) (λ x. x.1) result (int_to_ptr_tail_at depth word.now (drop at tokens.now)) }
+pub fn int_to_ptr_tail(text: &Text<'_>, at: usize, depth: u32, word: &Token) -> Read<ValNode>
+    requires { at ≤ length text.now.tokens.now }
+    ensures { Reads text.now.tokens.now at (λ x. val_of x.0) (λ x. x.1) result (int_to_ptr_tail_at depth word.now (drop at text.now.tokens.now)) }
 {
-    let (_, at) = take(tokens, at, Class::OpenRound)?;
-    let (from, at) = type_node(alloc, tokens, at, depth)?;
-    int_to_ptr_number(alloc, tokens, at, depth, word, from)
+    let (_, at) = take(text.tokens, at, Class::OpenRound)?;
+    let (from, at) = type_node(text, at, depth)?;
+    int_to_ptr_number(text, at, depth, word, from)
 }
 
 /// What stands behind the type of the integer.
 fn int_to_ptr_number(
-    alloc: Global,
-    tokens: &[Token],
+    text: &Text<'_>,
     at: usize,
     depth: u32,
     word: &Token,
     from: TypeNode,
-) -> Result<(ValNode, usize), ReadError>
-    requires { at ≤ length tokens.now }
-    ensures { Reads tokens.now at (λ x. val_of x.0) (λ x. x.1) result (int_to_ptr_number_at depth word.now (ty_of from) (drop at tokens.now)) }
+) -> Read<ValNode>
+    requires { at ≤ length text.now.tokens.now }
+    ensures { Reads text.now.tokens.now at (λ x. val_of x.0) (λ x. x.1) result (int_to_ptr_number_at depth word.now (ty_of from) (drop at text.now.tokens.now)) }
 {
-    let (number, at) = take(tokens, at, Class::Int)?;
-    let (_, at) = take(tokens, at, Class::To)?;
-    let (to, at) = type_node(alloc, tokens, at, depth)?;
-    int_to_ptr_end(alloc, tokens, at, word, from, number, to)
+    let (number, at) = take(text.tokens, at, Class::Int)?;
+    let (_, at) = take(text.tokens, at, Class::To)?;
+    let (to, at) = type_node(text, at, depth)?;
+    int_to_ptr_end(text, at, word, from, number, to)
 }
 
 /// What stands behind the type of the result.
 fn int_to_ptr_end(
-    alloc: Global,
-    tokens: &[Token],
+    text: &Text<'_>,
     at: usize,
     word: &Token,
     from: TypeNode,
     number: &Token,
     to: TypeNode,
-) -> Result<(ValNode, usize), ReadError>
-    requires { at ≤ length tokens.now }
-    ensures { Reads tokens.now at (λ x. val_of x.0) (λ x. x.1) result (int_to_ptr_end_at word.now (ty_of from) (literal_of number.now) (ty_of to) (drop at tokens.now)) }
+) -> Read<ValNode>
+    requires { at ≤ length text.now.tokens.now }
+    ensures { Reads text.now.tokens.now at (λ x. val_of x.0) (λ x. x.1) result (int_to_ptr_end_at word.now (ty_of from) (literal_of number.now) (ty_of to) (drop at text.now.tokens.now)) }
 {
-    let (_, at) = take(tokens, at, Class::CloseRound)?;
-    let number = literal(alloc, number)?;
+    let (_, at) = take(text.tokens, at, Class::CloseRound)?;
+    let number = literal(text.alloc, number)?;
     Ok((ValNode::IntToPtr(word.span, from, number, to), at))
 }

@@ -3,10 +3,10 @@
 //! that is wanted.
 #![tactic(auto)]
 
-use pg_ast::print_module;
-use pg_grammar::ReadFault;
 use pg_num::limits::PROGRAM_TEXT_LIMIT;
 use pg_parse::parse;
+use pg_ast::print_module;
+use pg_grammar::ReadFault;
 use std::alloc::Global;
 use std::process::Abort;
 use std::{fs, io};

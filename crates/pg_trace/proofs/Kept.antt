@@ -67,7 +67,8 @@ steps_more es fs (c ∷ cs) h = rw (step_more es fs c (h 0 c (omega arith))) (ap
 pub with_cell : (es : List Event) (cs : List Cell) (c : Cell) → Names 0 c → steps_in es (cs ++ c ∷ []) ≡ steps_in es cs ++ step_in [] c ∷ []
 with_cell es cs c h = map-append (step_in es) cs (c ∷ []) ∙ rw (step_plain es c h) refl
 
-pub with_event : (es : List Event) (e : Event) (cs : List Cell) (c : Cell) → All (Names (length es)) cs → steps_in (es ++ e ∷ []) (cs ++ c ∷ []) ≡ steps_in es cs ++ step_in (es ++ e ∷ []) c ∷ []
+pub with_event : (es : List Event) (e : Event) (cs : List Cell) (c : Cell) → All (Names (length es)) cs
+    → steps_in (es ++ e ∷ []) (cs ++ c ∷ []) ≡ steps_in es cs ++ step_in (es ++ e ∷ []) c ∷ []
 with_event es e cs c h = map-append (step_in (es ++ e ∷ [])) cs (c ∷ []) ∙ rw (steps_more es (e ∷ []) cs h) refl
 
 pub one : (n : ℕ) (c : Cell) → Names n c → All (Names n) (c ∷ [])

@@ -1,5 +1,6 @@
 -- Which steps of a trace conflict, and whether they are ordered; its races, and the schedule that they give.
-use Rattle.std.specs.Prelude.{◌≡◌, ℕ, zero, suc, ◌+◌, ◌==◌, ◌&&◌, ◌||◌, not, max, nat_le, nat_lt, List, [], ◌∷◌, ◌++◌, map, Bool, true, false, Option, Some, None, is_some, slice_get, if◌then◌else◌}
+use Rattle.std.specs.Prelude.{◌≡◌, ℕ, zero, suc, ◌+◌, ◌==◌, ◌&&◌, ◌||◌, not, max, nat_le, nat_lt, List, [], ◌∷◌, ◌++◌, map, Bool, true, false, Option, Some}
+use Rattle.std.specs.Prelude.{None, is_some, slice_get, if◌then◌else◌}
 use Rattle.std.specs.List.{filter_map, list_any, position_from}
 use Rattle.std.specs.Option.{option_to_list}
 use Rattle.pg_num.specs.Places.{ByteRange}

@@ -1,3 +1,5 @@
+//! A step in the room of three words.
+
 use pg_ir::{InstrId, ThreadNo};
 
 /// What a cell of a trace keeps of its step.

@@ -1,3 +1,5 @@
+//! The kinds and objects of requests.
+
 ghost use Rattle.std.specs.Prelude.{◌≡◌, Some};
 ghost use Rattle.pg_trace.specs.KindNames.{kind_text};
 ghost use Rattle.pg_trace.specs.Kinds.{kind_number, kind_of, object_of};

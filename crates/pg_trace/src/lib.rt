@@ -1,6 +1,7 @@
 //! Steps, turns and schedules, as plain data.
 #![tactic(auto)]
 
+mod best;
 mod cell;
 mod kinds;
 mod lists;
@@ -9,6 +10,7 @@ mod step;
 mod trace;
 mod turn;
 
+pub use best::Best;
 pub use kinds::{happening_of, kind_of, object_of};
 pub use lists::{InstrIds, Replies, Turns};
 pub use schedule::Schedule;

@@ -1,3 +1,5 @@
+//! Lists of turns and replies.
+
 ghost use Rattle.std.specs.Prelude.{◌≡◌};
 
 use crate::turn::Turn;

@@ -1,3 +1,5 @@
+//! Schedules: orders of events.
+
 use crate::lists::{InstrIds, Replies, Turns};
 
 /// An order of events: the turns, the number that the pthread call of each turn returned at that turn (0

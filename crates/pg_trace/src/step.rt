@@ -1,3 +1,5 @@
+//! Steps of a run.
+
 ghost use Rattle.std.specs.Prelude.{◌≡◌};
 ghost use Rattle.pg_num.specs.Places.{meet};
 ghost use Rattle.pg_num.specs.Pointers.{byte_place};

@@ -1,3 +1,5 @@
+//! Traces: the steps of a run in their order.
+
 ghost use Rattle.std.specs.Prelude.{◌≡◌, ◌<◌, ◌-◌, ◌++◌, ◌∷◌, [], ℕ, List, length, slice_get, Some, IfOk};
 ghost use Rattle.pg_trace.specs.Cells.{access_with, kind_by, step_in, Names, NamesBy};
 ghost use Rattle.pg_trace.specs.declared.cell.Cell.{Cell};
@@ -31,7 +33,8 @@ impl Model for Trace {
 
     ghost view = { λ t. record { steps = steps_in t.events.items t.cells.items; room = t.room } };
 
-    ghost invariant = { λ t. All (Names (length t.events.items)) t.cells.items × (length t.events.items ≤ length t.cells.items) × (length t.cells.items ≤ t.room) × (t.room ≤ vec_capacity t.cells) × (t.room ≤ vec_capacity t.events) };
+    ghost invariant = { λ t. All (Names (length t.events.items)) t.cells.items × (length t.events.items ≤ length t.cells.items) × (length t.cells.items ≤ t.room)
+        × (t.room ≤ vec_capacity t.cells) × (t.room ≤ vec_capacity t.events) };
 }
 
 impl Trace {

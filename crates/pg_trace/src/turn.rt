@@ -1,3 +1,5 @@
+//! Turns: events in a list.
+
 use pg_ir::{InstrId, ThreadNo};
 
 /// The kinds of events: those that a thread asks for, and loads and stores whose instruction is gated.

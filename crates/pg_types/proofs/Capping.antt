@@ -11,7 +11,8 @@ use Rattle.pg_types.specs.Layout.{bytes_of, round_up, size_of, fields_end, align
 use Rattle.pg_types.specs.Capped.{capped, IsLayout}
 
 -- a type that isn't an aggregate
-scalar_layout : (l : Layout) (t : ResolvedType) (n : ℕ) → l.size ≡ n → l.fields_end ≡ 0 → l.alignment ≡ n → n ≡ capped (size_of t) → 0 ≡ capped (fields_end t) → n ≡ alignment_of t → IsLayout l t
+scalar_layout : (l : Layout) (t : ResolvedType) (n : ℕ) → l.size ≡ n → l.fields_end ≡ 0 → l.alignment ≡ n → n ≡ capped (size_of t) → 0 ≡ capped (fields_end t)
+    → n ≡ alignment_of t → IsLayout l t
 scalar_layout l t n s e a x y z = record { size = s ∙ x; fields_end = e ∙ y; alignment = a ∙ z }
 
 pub integer_layout : (l : Layout) (w : Width) → l.size ≡ bytes_of w → l.fields_end ≡ 0 → l.alignment ≡ bytes_of w → IsLayout l (IntegerType w)
@@ -52,7 +53,8 @@ min_times n s c = by_order n (cases_lt s c)
     by_order n (inl l) = let m : s ≤ c = omega (arith, l) in ap (λ x. min (n * x) c) (min-eq_left m)
     by_order n (inr l) = large n l
 
-pub array_layout : (n : ℕ) (l r : Layout) → r.size ≡ capped (n * l.size) → r.fields_end ≡ 0 → r.alignment ≡ l.alignment → (t : ResolvedType) → IsLayout l t → IsLayout r (ArrayType n t)
+pub array_layout : (n : ℕ) (l r : Layout) → r.size ≡ capped (n * l.size) → r.fields_end ≡ 0 → r.alignment ≡ l.alignment → (t : ResolvedType) → IsLayout l t
+    → IsLayout r (ArrayType n t)
 unfolding size_of fields_end alignment_of
 array_layout n l r s e a t h = record { size = s ∙ ap (λ s. capped (n * s)) h.size ∙ min_times n (size_of t) LAYOUT_CAP; fields_end = e; alignment = a ∙ h.alignment }
 
@@ -129,12 +131,14 @@ placed x y a h = min_placed x y a LAYOUT_CAP (limit_rounds a h) (rounds_up x a h
 rounded : (x a : ℕ) → IsAlignment a → capped (round_up (capped x) a) ≡ capped (round_up x a)
 rounded x a h = min_rounded x a LAYOUT_CAP (limit_rounds a h) (rounds_up x a h)
 
-pub field_layout : (f l r : Layout) → r.fields_end ≡ capped (round_up f.fields_end l.alignment + l.size) → r.alignment ≡ max f.alignment l.alignment → r.size ≡ capped (round_up r.fields_end r.alignment)
+pub field_layout : (f l r : Layout) → r.fields_end ≡ capped (round_up f.fields_end l.alignment + l.size) → r.alignment ≡ max f.alignment l.alignment
+    → r.size ≡ capped (round_up r.fields_end r.alignment)
     → (s t : ResolvedType) → IsLayout f s → IsLayout l t → IsLayout r (MoreFields s t)
 unfolding size_of fields_end alignment_of
 field_layout f l r e a z s t g h = record {
   size = z ∙ ap (λ n. capped (round_up n r.alignment)) ended ∙ ap (λ n. capped (round_up (capped (round_up (fields_end s) (alignment_of t) + size_of t)) n)) aligned
-      ∙ rounded (round_up (fields_end s) (alignment_of t) + size_of t) (max (alignment_of s) (alignment_of t)) (max_alignment (alignment_of s) (alignment_of t) (type_alignment s) (type_alignment t));
+      ∙ rounded (round_up (fields_end s) (alignment_of t) + size_of t) (max (alignment_of s) (alignment_of t))
+      (max_alignment (alignment_of s) (alignment_of t) (type_alignment s) (type_alignment t));
   fields_end = ended;
   alignment = aligned;
 }

@@ -1,9 +1,10 @@
 -- A type that is resolved stays so where more names are.
-use Rattle.std.proofs.Common.{◌≡◌, ℕ, zero, suc, ◌+◌, List, Option, Some, None, refl, ap, ◌∙◌, arith}
+use Rattle.std.proofs.Common.{◌≡◌, ℕ, zero, suc, ◌+◌, ◌-◌, ◌≤◌, List, Option, Some, None, refl, ap, subst, ◌∙◌, arith}
 use Rattle.std.specs.Option.{option_and_then}
 use Rattle.pg_ast.specs.Syntax.{Ty, Tys, I1, I8, I16, I32, I64, Ptr, Void, Array, Struct, Named, NoTys, MoreTys, NamedType}
 use Rattle.pg_ast.specs.Numbers.{type_named}
-use Rattle.pg_types.specs.Resolved.{ResolvedType, IntegerType, PointerType, VoidType, ArrayType, NoFields, MoreFields, part_type, array_type, with_field, element_count, type_by, fields_by, type_within}
+use Rattle.pg_types.specs.Resolved.{ResolvedType, IntegerType, PointerType, VoidType, ArrayType, NoFields, MoreFields, part_type, array_type, with_field, element_count, type_by, fields_by}
+use Rattle.pg_types.specs.Resolved.{type_within}
 
 -- what one gives, the other gives too
 abbrev pub Keeps : Option ResolvedType → Option ResolvedType → Type 0
@@ -61,7 +62,8 @@ unfolding type_within
 within_suc zero types text r e = cc
 within_suc (suc n) types text r e = by (within_suc n types) (type_named types text) e
   where
-    by : Below (type_within n types) (type_within (suc n) types) → (o : Option Ty) → option_and_then (λ t. type_by (type_within n types) t) o ≡ Some r → option_and_then (λ t. type_by (type_within (suc n) types) t) o ≡ Some r
+    by : Below (type_within n types) (type_within (suc n) types) → (o : Option Ty) → option_and_then (λ t. type_by (type_within n types) t) o ≡ Some r
+        → option_and_then (λ t. type_by (type_within (suc n) types) t) o ≡ Some r
     by b None h = cc
     by b (Some t) h = type_keeps (type_within n types) (type_within (suc n) types) b t r h
 
@@ -70,3 +72,9 @@ within_plus zero n types text r e = ap (λ m. type_within m types text) (omega a
 within_plus (suc k) n types text r e =
     let s : n + suc k ≡ suc (n + k) = omega arith in
     ap (λ m. type_within m types text) s ∙ within_suc (n + k) types text r (within_plus k n types text r e)
+
+-- any number of items more to go through
+pub within_less : (n k : ℕ) (types : List NamedType) → n ≤ k → Below (type_within n types) (type_within k types)
+within_less n k types l text r e =
+    let z : n + (k - n) ≡ k = omega (arith, l) in
+    subst (λ (q : ℕ). type_within q types text ≡ Some r) z (within_plus (k - n) n types text r e)

@@ -1,5 +1,6 @@
 -- The type items, when nothing more is found.
-use Rattle.std.proofs.Common.{◌≡◌, ℕ, zero, suc, ◌+◌, ◌-◌, ◌<◌, Bool, true, false, cond, List, [], ◌∷◌, ◌++◌, length, map, get_or, replicate, take, slice_get, Option, Some, None, refl, sym, ap, subst, ◌∙◌, arith, Bor}
+use Rattle.std.proofs.Common.{◌≡◌, ℕ, zero, suc, ◌+◌, ◌-◌, ◌<◌, Bool, true, false, cond, List, [], ◌∷◌, ◌++◌, length, map, get_or, replicate, take, slice_get}
+use Rattle.std.proofs.Common.{Option, Some, None, refl, sym, ap, subst, ◌∙◌, arith, Bor}
 use Rattle.std.specs.List.{position_from}
 use Rattle.std.specs.Option.{option_and_then}
 use Rattle.std.specs.Str.{bytes_eq}
@@ -27,7 +28,8 @@ pub record Holds (types : List TypeItem) (text : List ℕ) (t : Ty) (k n : ℕ) 
   pub ty : t ≡ ty_of item.ty
   pub text_is : item_text item ≡ text
 
-holder : (types : List TypeItem) (text : List ℕ) (t : Ty) (k : ℕ) → type_named (map type_item_of types) text ≡ Some t → (n : ℕ) × (position_from (λ u. bytes_eq u text) k (item_texts types) ≡ Some n) × Holds types text t k n
+holder : (types : List TypeItem) (text : List ℕ) (t : Ty) (k : ℕ) → type_named (map type_item_of types) text ≡ Some t
+    → (n : ℕ) × (position_from (λ u. bytes_eq u text) k (item_texts types) ≡ Some n) × Holds types text t k n
 holder [] text t k e = cc
 holder (x ∷ types) text t k e = by (bytes_eq x.name.text text) refl (holder types text t (k + 1)) e
   where
@@ -44,7 +46,8 @@ module _ {S : Type 0} (types : List TypeItem) (table : List ResolvedType) (place
     (known : (text : List ℕ) → known_place places text ≡ first_place (item_texts types) text) (lengths : length items ≡ length types)
     (found : AreFound types table (item_number places items) (found_count items)) (stuck : AreStuck types table (item_number places items) items (length types)) where
   -- an item without a number is open
-  open_item : (text : List ℕ) (t : Ty) → type_named (map type_item_of types) text ≡ Some t → item_number places items text ≡ None → type_by (named_by table (item_number places items)) t ≡ None
+  open_item : (text : List ℕ) (t : Ty) → type_named (map type_item_of types) text ≡ Some t → item_number places items text ≡ None
+      → type_by (named_by table (item_number places items)) t ≡ None
   unfolding item_number
   open_item text t e m =
       let h = holder types text t 0 e in
@@ -64,7 +67,8 @@ module _ {S : Type 0} (types : List TypeItem) (table : List ResolvedType) (place
           by (Some n) f = let g : Some n ≡ None = ap (λ y. option_and_then (λ x. x) y) (sym f) ∙ e in cc
 
   -- two numbers of items to go through give one type
-  one_type : (m n : ℕ) (text : List ℕ) (r s : ResolvedType) → type_within m (map type_item_of types) text ≡ Some r → type_within n (map type_item_of types) text ≡ Some s → Some r ≡ Some s
+  one_type : (m n : ℕ) (text : List ℕ) (r s : ResolvedType) → type_within m (map type_item_of types) text ≡ Some r → type_within n (map type_item_of types) text ≡ Some s
+      → Some r ≡ Some s
   one_type m n text r s e f =
       let c : n + m ≡ m + n = omega arith in
       sym (within_plus n m (map type_item_of types) text r e) ∙ ap (λ k. type_within k (map type_item_of types) text) (sym c) ∙ within_plus m n (map type_item_of types) text s f
@@ -126,7 +130,8 @@ none_number places n text = by (known_place places text)
     by None = refl
     by (Some p) = none_at n p
 
-pub none_found : {S : Type 0} (types : List TypeItem) (table : List ResolvedType) (places : IndexMap (Bor (List ℕ)) ℕ S) (items : List (Option ℕ)) (n : ℕ) → items ≡ replicate n None → AreFound types table (item_number places items) (found_count items)
+pub none_found : {S : Type 0} (types : List TypeItem) (table : List ResolvedType) (places : IndexMap (Bor (List ℕ)) ℕ S) (items : List (Option ℕ)) (n : ℕ) → items ≡ replicate n None
+    → AreFound types table (item_number places items) (found_count items)
 none_found types table places items n e = subst (λ xs. AreFound types table (item_number places xs) (found_count xs)) (sym e) (record {
   within = λ text. subst (λ o. IsWithin table o) (sym (none_number places n text)) tt;
   same = λ text t h. let g : None ≡ Some t = sym (none_number places n text) ∙ h in cc;

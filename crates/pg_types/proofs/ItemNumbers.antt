@@ -1,5 +1,6 @@
 -- The numbers of type items.
-use Rattle.std.proofs.Common.{◌≡◌, ℕ, zero, suc, ◌+◌, ◌<◌, ◌≤◌, Bool, true, false, true≢false, not, cond, List, [], ◌∷◌, length, map, get_or, slice_get, Option, Some, None, is_some, eqb, Result, Ok, Err, IfOk, IfSome, refl, sym, ap, ◌∙◌, add-one, arith}
+use Rattle.std.proofs.Common.{◌≡◌, ℕ, zero, suc, ◌+◌, ◌<◌, ◌≤◌, Bool, true, false, true≢false, not, cond, List, [], ◌∷◌, length, map, get_or, slice_get, Option}
+use Rattle.std.proofs.Common.{Some, None, is_some, eqb, Result, Ok, Err, IfOk, IfSome, refl, sym, ap, ◌∙◌, add-one, arith}
 use Rattle.std.specs.List.{position_from}
 use Rattle.std.specs.Option.{option_and_then, option_eq}
 use Rattle.std.proofs.lemmas.Bool.{eqb-true}
@@ -32,20 +33,25 @@ at_least test k (t ∷ ts) n e = by (test t) (at_least test (k + 1) ts n) e
     by true h f = let s : k ≡ n = some_is k n f in omega (arith, s)
     by false h f = let l : k + 1 ≤ n = h f in omega (arith, l)
 
-first_type_from : (text : List ℕ) (k : ℕ) (types : List TypeItem) (p n : ℕ) (i : TypeItem) → position_from (λ t. bytes_eq t text) k (item_texts types) ≡ Some n → n ≡ k + p → slice_get types p ≡ Some i → type_named (map type_item_of types) text ≡ Some (ty_of i.ty)
+first_type_from : (text : List ℕ) (k : ℕ) (types : List TypeItem) (p n : ℕ) (i : TypeItem) → position_from (λ t. bytes_eq t text) k (item_texts types) ≡ Some n → n ≡ k + p
+    → slice_get types p ≡ Some i → type_named (map type_item_of types) text ≡ Some (ty_of i.ty)
 first_type_from text k [] p n i e m s = cc
 first_type_from text k (x ∷ types) zero n i e m s = by (bytes_eq x.name.text text) e
   where
-    by : (b : Bool) → cond b (Some k) (position_from (λ t. bytes_eq t text) (k + 1) (item_texts types)) ≡ Some n → cond b (Some (ty_of x.ty)) (type_named (map type_item_of types) text) ≡ Some (ty_of i.ty)
+    by : (b : Bool) → cond b (Some k) (position_from (λ t. bytes_eq t text) (k + 1) (item_texts types)) ≡ Some n
+        → cond b (Some (ty_of x.ty)) (type_named (map type_item_of types) text) ≡ Some (ty_of i.ty)
     by true f = ap (λ (y : TypeItem). Some (ty_of y.ty)) (some_is x i s)
     by false f = let l = at_least (λ t. bytes_eq t text) (k + 1) (item_texts types) n f in absurd (omega (arith, l, m))
 first_type_from text k (x ∷ types) (suc p) n i e m s = by (bytes_eq x.name.text text) (λ f. first_type_from text (k + 1) types p n i f (omega (arith, m)) s) e
   where
-    by : (b : Bool) → (position_from (λ t. bytes_eq t text) (k + 1) (item_texts types) ≡ Some n → type_named (map type_item_of types) text ≡ Some (ty_of i.ty)) → cond b (Some k) (position_from (λ t. bytes_eq t text) (k + 1) (item_texts types)) ≡ Some n → cond b (Some (ty_of x.ty)) (type_named (map type_item_of types) text) ≡ Some (ty_of i.ty)
+    by : (b : Bool) → (position_from (λ t. bytes_eq t text) (k + 1) (item_texts types) ≡ Some n → type_named (map type_item_of types) text ≡ Some (ty_of i.ty))
+        → cond b (Some k) (position_from (λ t. bytes_eq t text) (k + 1) (item_texts types)) ≡ Some n
+        → cond b (Some (ty_of x.ty)) (type_named (map type_item_of types) text) ≡ Some (ty_of i.ty)
     by true h f = let q : k ≡ n = some_is k n f in absurd (omega (arith, q, m))
     by false h f = h f
 
-pub first_type : (text : List ℕ) (types : List TypeItem) (p : ℕ) (i : TypeItem) → first_place (item_texts types) text ≡ Some p → slice_get types p ≡ Some i → type_named (map type_item_of types) text ≡ Some (ty_of i.ty)
+pub first_type : (text : List ℕ) (types : List TypeItem) (p : ℕ) (i : TypeItem) → first_place (item_texts types) text ≡ Some p → slice_get types p ≡ Some i
+    → type_named (map type_item_of types) text ≡ Some (ty_of i.ty)
 first_type text types p i e s = first_type_from text 0 types p p i e (omega arith) s
 
 -- ---- the same names, the same types
@@ -57,19 +63,24 @@ same_names f g h t e = by (type_by g t) refl
     by None k = refl
     by (Some r) k = let m : type_by f t ≡ Some r = type_keeps g f (λ text q d. h text ∙ d) t r k in let n : None ≡ Some r = sym e ∙ m in cc
 
-pub stuck_by : (types : List TypeItem) (a b : List ResolvedType) (number : List ℕ → Option ℕ) (items : List (Option ℕ)) (place : ℕ) (item : TypeItem) → Grows a b → AreWithin a number → slice_get types place ≡ Some item → type_by (named_by a number) (ty_of item.ty) ≡ None → IsStuck types b number items place
+pub stuck_by : (types : List TypeItem) (a b : List ResolvedType) (number : List ℕ → Option ℕ) (items : List (Option ℕ)) (place : ℕ) (item : TypeItem) → Grows a b
+    → AreWithin a number → slice_get types place ≡ Some item → type_by (named_by a number) (ty_of item.ty) ≡ None → IsStuck types b number items place
 stuck_by types a b number items place item g w s e = λ i o.
     let same : item ≡ i = some_is item i (sym s ∙ o.item) in
-    same_names (named_by a number) (named_by b number) (λ text. sym (denoted_more a b (number text) g (w text))) (ty_of i.ty) (ap (λ (y : TypeItem). type_by (named_by a number) (ty_of y.ty)) (sym same) ∙ e)
+    same_names (named_by a number) (named_by b number) (λ text. sym (denoted_more a b (number text) g (w text))) (ty_of i.ty)
+    (ap (λ (y : TypeItem). type_by (named_by a number) (ty_of y.ty)) (sym same) ∙ e)
 
-below_within : (types : List TypeItem) (table : List ResolvedType) (number : List ℕ → Option ℕ) (count : ℕ) → AreFound types table number count → Below (named_by table number) (type_within count (map type_item_of types))
+below_within : (types : List TypeItem) (table : List ResolvedType) (number : List ℕ → Option ℕ) (count : ℕ) → AreFound types table number count
+    → Below (named_by table number) (type_within count (map type_item_of types))
 below_within types table number count f text r e = by (number text) refl e
   where
     by : (o : Option ℕ) → number text ≡ o → denoted table o ≡ Some r → type_within count (map type_item_of types) text ≡ Some r
     by None m h = cc
     by (Some t) m h = f.same text t m ∙ h
 
-pub found_by : (types : List TypeItem) (a b : List ResolvedType) (number : List ℕ → Option ℕ) (items : List (Option ℕ)) (place t : ℕ) (item : TypeItem) → AreFound types a number (found_count items) → IsOpen types items place item → t < length b → slice_get b t ≡ type_by (named_by a number) (ty_of item.ty) → IsFoundAt types b items place t
+pub found_by : (types : List TypeItem) (a b : List ResolvedType) (number : List ℕ → Option ℕ) (items : List (Option ℕ)) (place t : ℕ) (item : TypeItem)
+    → AreFound types a number (found_count items) → IsOpen types items place item → t < length b → slice_get b t ≡ type_by (named_by a number) (ty_of item.ty)
+    → IsFoundAt types b items place t
 unfolding type_within
 found_by types a b number items place t item f o l e =
     let some = slice_get-get_or b t (get_or b t resolved.VoidType) l in
@@ -93,7 +104,8 @@ known_is (Some q) place e = by (eqb q place) refl e
     by true h f = ap (λ n. Some n) (eqb-true q place h)
     by false h f = absurd (true≢false f)
 
-pub open_by : (types : List TypeItem) (items : List (Option ℕ)) (place : ℕ) (item : TypeItem) (known : Option ℕ) → place < length types → length items ≡ length types → item ≡ get_or types place item
+pub open_by : (types : List TypeItem) (items : List (Option ℕ)) (place : ℕ) (item : TypeItem) (known : Option ℕ) → place < length types → length items ≡ length types
+    → item ≡ get_or types place item
     → is_some (get_or items place None) ≡ false → known ≡ first_place (item_texts types) (item_text item) → not (option_eq eqb known (Some place)) ≡ false → IsOpen types items place item
 open_by types items place item known l m e s k n = record {
   item = slice_get_read types (length types) place item refl l e;
@@ -101,7 +113,8 @@ open_by types items place item known l m e s k n = record {
   none = slice_get-get_or items place None (omega (arith, l, m)) ∙ ap (λ o. Some o) (none_of (get_or items place None) s);
 }
 
-pub found_if : (types : List TypeItem) (a b : List ResolvedType) (number : List ℕ → Option ℕ) (items : List (Option ℕ)) (place : ℕ) (item : TypeItem) → AreFound types a number (found_count items) → IsOpen types items place item
+pub found_if : (types : List TypeItem) (a b : List ResolvedType) (number : List ℕ → Option ℕ) (items : List (Option ℕ)) (place : ℕ) (item : TypeItem)
+    → AreFound types a number (found_count items) → IsOpen types items place item
     → (o : Option ℕ) → IsWithin b o → denoted b o ≡ type_by (named_by a number) (ty_of item.ty) → IfSome o (λ t. IsFoundAt types b items place t)
 found_if types a b number items place item f p None w e = tt
 found_if types a b number items place item f p (Some t) w e = found_by types a b number items place t item f p w e

@@ -1,5 +1,6 @@
 -- One item more has a number.
-use Rattle.std.proofs.Common.{◌≡◌, ℕ, zero, suc, ◌+◌, ◌<◌, Bool, true, false, cond, List, [], ◌∷◌, length, map, get_or, slice_get, slice_set, Option, Some, None, ◌⊎◌, inl, inr, refl, sym, ap, subst, ◌∙◌, arith, Bor}
+use Rattle.std.proofs.Common.{◌≡◌, ℕ, zero, suc, ◌+◌, ◌<◌, Bool, true, false, cond, List, [], ◌∷◌, length, map, get_or, slice_get, slice_set, Option, Some, None}
+use Rattle.std.proofs.Common.{◌⊎◌, inl, inr, refl, sym, ap, subst, ◌∙◌, arith, Bor}
 use Rattle.std.specs.List.{position_from}
 use Rattle.std.specs.Option.{option_and_then}
 use Rattle.std.specs.Str.{bytes_eq}
@@ -43,7 +44,8 @@ count_more (Some x ∷ items) (suc place) t e = let h = count_more items place t
 
 -- ---- the text of the first item of a name
 
-place_text_from : (text : List ℕ) (k : ℕ) (types : List TypeItem) (p n : ℕ) (i : TypeItem) → position_from (λ t. bytes_eq t text) k (item_texts types) ≡ Some n → n ≡ k + p → slice_get types p ≡ Some i → item_text i ≡ text
+place_text_from : (text : List ℕ) (k : ℕ) (types : List TypeItem) (p n : ℕ) (i : TypeItem) → position_from (λ t. bytes_eq t text) k (item_texts types) ≡ Some n → n ≡ k + p
+    → slice_get types p ≡ Some i → item_text i ≡ text
 place_text_from text k [] p n i e m s = cc
 place_text_from text k (x ∷ types) zero n i e m s = by (bytes_eq x.name.text text) refl e
   where
@@ -52,7 +54,8 @@ place_text_from text k (x ∷ types) zero n i e m s = by (bytes_eq x.name.text t
     by false h f = let l = at_least (λ t. bytes_eq t text) (k + 1) (item_texts types) n f in absurd (omega (arith, l, m))
 place_text_from text k (x ∷ types) (suc p) n i e m s = by (bytes_eq x.name.text text) (λ f. place_text_from text (k + 1) types p n i f (omega (arith, m)) s) e
   where
-    by : (b : Bool) → (position_from (λ t. bytes_eq t text) (k + 1) (item_texts types) ≡ Some n → item_text i ≡ text) → cond b (Some k) (position_from (λ t. bytes_eq t text) (k + 1) (item_texts types)) ≡ Some n → item_text i ≡ text
+    by : (b : Bool) → (position_from (λ t. bytes_eq t text) (k + 1) (item_texts types) ≡ Some n → item_text i ≡ text)
+        → cond b (Some k) (position_from (λ t. bytes_eq t text) (k + 1) (item_texts types)) ≡ Some n → item_text i ≡ text
     by true h f = let q : k ≡ n = some_is k n f in absurd (omega (arith, q, m))
     by false h f = h f
 
@@ -67,12 +70,14 @@ still_found types a b number count g f = record {
   same = λ text t e. f.same text t e ∙ sym (denoted_more a b (Some t) g (subst (λ o. IsWithin a o) e (f.within text)));
 }
 
-put_number : {S : Type 0} (places : IndexMap (Bor (List ℕ)) ℕ S) (items : List (Option ℕ)) (place t u : ℕ) (text : List ℕ) → item_number places (slice_set items place (Some t)) text ≡ Some u
+put_number : {S : Type 0} (places : IndexMap (Bor (List ℕ)) ℕ S) (items : List (Option ℕ)) (place t u : ℕ) (text : List ℕ)
+    → item_number places (slice_set items place (Some t)) text ≡ Some u
     → ((known_place places text ≡ Some place) × (u ≡ t)) ⊎ (item_number places items text ≡ Some u)
 unfolding item_number
 put_number places items place t u text e = by (known_place places text) e
   where
-    at : (p : ℕ) (o : Option (Option ℕ)) → slice_get (slice_set items place (Some t)) p ≡ o → option_and_then (λ x. x) o ≡ Some u → ((Some p ≡ Some place) × (u ≡ t)) ⊎ (option_and_then (λ x. x) (slice_get items p) ≡ Some u)
+    at : (p : ℕ) (o : Option (Option ℕ)) → slice_get (slice_set items place (Some t)) p ≡ o → option_and_then (λ x. x) o ≡ Some u
+        → ((Some p ≡ Some place) × (u ≡ t)) ⊎ (option_and_then (λ x. x) (slice_get items p) ≡ Some u)
     at p None h f = cc
     at p (Some o) h f = here (set_get items place p (Some t) o h)
       where
@@ -87,7 +92,8 @@ put_number places items place t u text e = by (known_place places text) e
 
 -- one number more keeps what is found
 pub more_found : {S : Type 0} (types : List TypeItem) (a b : List ResolvedType) (places : IndexMap (Bor (List ℕ)) ℕ S) (items : List (Option ℕ)) (place t : ℕ)
-    → ((text : List ℕ) → known_place places text ≡ first_place (item_texts types) text) → Grows a b → AreFound types a (item_number places items) (found_count items) → IsFoundAt types b items place t
+    → ((text : List ℕ) → known_place places text ≡ first_place (item_texts types) text) → Grows a b → AreFound types a (item_number places items) (found_count items)
+    → IsFoundAt types b items place t
     → AreFound types b (item_number places (slice_set items place (Some t))) (found_count (slice_set items place (Some t)))
 more_found types a b places items place t known g f h = record {
   within = λ text. within_at text (item_number places (slice_set items place (Some t)) text) refl;
@@ -112,7 +118,8 @@ more_found types a b places items place t known g f h = record {
         → type_within (found_count (slice_set items place (Some t))) (map type_item_of types) text ≡ slice_get b u
     same_at text u (inl k) =
         let same = place_text text types place h.item (sym (known text) ∙ k.0) h.is_open.item in
-        ap (λ n. type_within n (map type_item_of types) text) counted ∙ ap (λ x. type_within (found_count items + 1) (map type_item_of types) x) (sym same) ∙ h.same ∙ ap (λ n. slice_get b n) (sym k.1)
+        ap (λ n. type_within n (map type_item_of types) text) counted ∙ ap (λ x. type_within (found_count items + 1) (map type_item_of types) x) (sym same) ∙ h.same
+        ∙ ap (λ n. slice_get b n) (sym k.1)
     same_at text u (inr k) =
         let w = subst (λ o. IsWithin a o) k (f.within text) in
         let r = get_or a u resolved.VoidType in
@@ -121,5 +128,6 @@ more_found types a b places items place t known g f h = record {
         ∙ within_plus 1 (found_count items) (map type_item_of types) text r (f.same text u k ∙ s)
         ∙ sym s ∙ sym (denoted_more a b (Some u) g w)
 
-pub still_stuck : (types : List TypeItem) (a b : List ResolvedType) (number : List ℕ → Option ℕ) (items : List (Option ℕ)) (place : ℕ) → Grows a b → AreWithin a number → IsStuck types a number items place → IsStuck types b number items place
+pub still_stuck : (types : List TypeItem) (a b : List ResolvedType) (number : List ℕ → Option ℕ) (items : List (Option ℕ)) (place : ℕ) → Grows a b → AreWithin a number
+    → IsStuck types a number items place → IsStuck types b number items place
 still_stuck types a b number items place g w s = λ i o. same_names (named_by a number) (named_by b number) (λ text. sym (denoted_more a b (number text) g (w text))) (ty_of i.ty) (s i o)

@@ -1,5 +1,6 @@
 -- Names that are looked up by their texts.
-use Rattle.std.proofs.Common.{◌≡◌, ℕ, zero, suc, ◌+◌, ◌<◌, ◌≤◌, Bool, true, false, cond, List, [], ◌∷◌, ◌++◌, take, get_or, length, Option, Some, None, refl, sym, ap, ◌∙◌, arith, Bor}
+use Rattle.std.proofs.Common.{◌≡◌, ℕ, zero, suc, ◌+◌, ◌<◌, ◌≤◌, Bool, true, false, cond, List, [], ◌∷◌, ◌++◌, take, get_or, length, Option, Some, None, refl}
+use Rattle.std.proofs.Common.{sym, ap, ◌∙◌, arith, Bor}
 use Rattle.std.specs.Str.{bytes_eq}
 use Rattle.std.specs.List.{position_from}
 use Rattle.pg_types.specs.NameIndex.{first_place, noted, texts_of}
@@ -20,7 +21,8 @@ position_more test at (s ∷ ts) t = by (test s) (position_more test (at + 1) ts
     by true h = refl
     by false h = let e : at + 1 + length ts ≡ at + suc (length ts) = omega arith in h ∙ ap (λ k. noted (position_from test (at + 1) ts) (test t) k) e
 
-texts_more : (names : List (Bor (List ℕ))) (i : ℕ) (n d : Bor (List ℕ)) → i < length names → n ≡ get_or names i d → texts_of (take (i + 1) names) ≡ texts_of (take i names) ++ n.now ∷ []
+texts_more : (names : List (Bor (List ℕ))) (i : ℕ) (n d : Bor (List ℕ)) → i < length names → n ≡ get_or names i d
+    → texts_of (take (i + 1) names) ≡ texts_of (take i names) ++ n.now ∷ []
 texts_more [] i n d l e = absurd (omega (arith, l))
 texts_more (m ∷ names) zero n d l e = ap (λ (x : Bor (List ℕ)). x.now ∷ []) (sym e)
 texts_more (m ∷ names) (suc i) n d l e =
@@ -33,7 +35,8 @@ texts_length [] (suc i) l = absurd (omega (arith, l))
 texts_length (m ∷ names) (suc i) l = ap suc (texts_length names i (omega (arith, l)))
 
 -- the places among one name more
-pub places_more : (names : List (Bor (List ℕ))) (i : ℕ) (n d : Bor (List ℕ)) (text : List ℕ) → i < length names → n ≡ get_or names i d → first_place (texts_of (take (i + 1) names)) text ≡ noted (first_place (texts_of (take i names)) text) (bytes_eq n.now text) i
+pub places_more : (names : List (Bor (List ℕ))) (i : ℕ) (n d : Bor (List ℕ)) (text : List ℕ) → i < length names → n ≡ get_or names i d
+    → first_place (texts_of (take (i + 1) names)) text ≡ noted (first_place (texts_of (take i names)) text) (bytes_eq n.now text) i
 places_more names i n d text l e =
     let c : 0 + length (texts_of (take i names)) ≡ i = let k = texts_length names i (omega (arith, l)) in omega (arith, k) in
     ap (λ ts. first_place ts text) (texts_more names i n d l e)

@@ -1,5 +1,6 @@
 -- Types by their numbers, where the table grows.
-use Rattle.std.proofs.Common.{◌≡◌, ℕ, zero, suc, ◌+◌, ◌<◌, ◌≤◌, List, [], ◌∷◌, ◌++◌, length, map, drop, get_or, slice_get, Option, Some, None, Result, Ok, Err, IfOk, refl, sym, ap, ◌∙◌, append_assoc, length-append, arith}
+use Rattle.std.proofs.Common.{◌≡◌, ℕ, zero, suc, ◌+◌, ◌<◌, ◌≤◌, List, [], ◌∷◌, ◌++◌, length, map, drop, get_or, slice_get, Option, Some, None, Result, Ok}
+use Rattle.std.proofs.Common.{Err, IfOk, refl, sym, ap, ◌∙◌, append_assoc, length-append, arith}
 use Rattle.pg_ast.specs.declared.types.TypeNode.{TypeNode}
 use Rattle.pg_ast.specs.Syntax.{tys}
 use Rattle.pg_ast.specs.Views.{ty_of}
@@ -27,7 +28,8 @@ pub denoted_more : (a b : List ResolvedType) (o : Option ℕ) → Grows a b → 
 denoted_more a b None g w = refl
 denoted_more a b (Some t) g w = ap (λ x. slice_get x t) g.1 ∙ front_kept a g.0 t w
 
-pub names_more : (a b : List ResolvedType) (number : List ℕ → Option ℕ) (named : List ℕ → Option ResolvedType) → Grows a b → AreWithin a number → Names a number named → Names b number named
+pub names_more : (a b : List ResolvedType) (number : List ℕ → Option ℕ) (named : List ℕ → Option ResolvedType) → Grows a b → AreWithin a number → Names a number named
+    → Names b number named
 names_more a b number named g w n = λ text. n text ∙ sym (denoted_more a b (number text) g (w text))
 
 -- one field more
@@ -42,7 +44,8 @@ field_step named front (g ∷ fs) (suc i) f l e =
     ∙ ap (λ n. fields_by named (with_field front (part_type (type_by named (ty_of f)))) (tys (map ty_of (drop n (g ∷ fs))))) (sym s)
 
 -- no field left
-pub fields_done : (named : List ℕ → Option ResolvedType) (front : Option ResolvedType) (fs : List TypeNode) (i : ℕ) → length fs ≤ i → fields_by named front (tys (map ty_of (drop i fs))) ≡ front
+pub fields_done : (named : List ℕ → Option ResolvedType) (front : Option ResolvedType) (fs : List TypeNode) (i : ℕ) → length fs ≤ i
+    → fields_by named front (tys (map ty_of (drop i fs))) ≡ front
 unfolding fields_by
 fields_done named front [] zero l = refl
 fields_done named front [] (suc i) l = refl

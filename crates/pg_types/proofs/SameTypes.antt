@@ -1,5 +1,6 @@
 -- Equal types have one number.
-use Rattle.std.proofs.Common.{◌≡◌, ℕ, zero, suc, ◌<◌, ◌≤◌, Bool, true, false, true≢false, ◌&&◌, ◌==◌, nat_lt, List, [], ◌∷◌, length, Some, slice_get, unwrap_or, refl, sym, ap, ◌∙◌, arith}
+use Rattle.std.proofs.Common.{◌≡◌, ℕ, zero, suc, ◌<◌, ◌≤◌, Bool, true, false, true≢false, ◌&&◌, ◌==◌, nat_lt, List, [], ◌∷◌, length, Some, slice_get}
+use Rattle.std.proofs.Common.{unwrap_or, refl, sym, ap, ◌∙◌, arith}
 use Rattle.std.specs.Map.{keys_of}
 use Rattle.std.proofs.lemmas.Bool.{ltb-true, eqb-true, eq-eqb}
 use Rattle.pg_num.specs.declared.width.Width.{Width}
@@ -30,7 +31,8 @@ module _ (es : List (Shape × Layout)) (table : IsTable es) where
   abbrev SameNumbers : ℕ → Type 0
   SameNumbers n = (i j : ℕ) → i < n → j < n → n ≤ length es → type_at (types_of es) i ≡ type_at (types_of es) j → i ≡ j
 
-  same_shapes : (n : ℕ) → n < length es → SameNumbers n → (i j : ℕ) → i ≤ n → j ≤ n → (s t : Shape) → slice_get (keys_of es) i ≡ Some s → slice_get (keys_of es) j ≡ Some t → type_of_shape (types_of es) s ≡ type_of_shape (types_of es) t → i ≡ j
+  same_shapes : (n : ℕ) → n < length es → SameNumbers n → (i j : ℕ) → i ≤ n → j ≤ n → (s t : Shape) → slice_get (keys_of es) i ≡ Some s
+      → slice_get (keys_of es) j ≡ Some t → type_of_shape (types_of es) s ≡ type_of_shape (types_of es) t → i ≡ j
   same_shapes n l h i j a b I1 I1 e f same = table.distinct i j I1 e f
   same_shapes n l h i j a b I1 _ e f same = cc
   same_shapes n l h i j a b I8 I8 e f same = table.distinct i j I8 e f
@@ -135,7 +137,8 @@ own_type resolved.NoFields = refl
 own_type (resolved.MoreFields s t) = ap (λ b. b && same_type t t) (own_type s) ∙ own_type t
 
 -- types are equal exactly where their numbers are
-pub same_by_number : (es : List (Shape × Layout)) (i j : ℕ) → IsTable es → i < length (types_of es) → j < length (types_of es) → (i == j) ≡ same_type (type_at (types_of es) i) (type_at (types_of es) j)
+pub same_by_number : (es : List (Shape × Layout)) (i j : ℕ) → IsTable es → i < length (types_of es) → j < length (types_of es)
+    → (i == j) ≡ same_type (type_at (types_of es) i) (type_at (types_of es) j)
 same_by_number es i j t a b = by (i == j) (same_type (type_at (types_of es) i) (type_at (types_of es) j)) refl refl
   where
     by : (x y : Bool) → (i == j) ≡ x → same_type (type_at (types_of es) i) (type_at (types_of es) j) ≡ y → x ≡ y

@@ -1,5 +1,6 @@
 -- Shapes that are equal as keys.
-use Rattle.std.proofs.Common.{◌≡◌, ℕ, ◌≤◌, Bool, cond, nat_lt, List, [], ◌∷◌, ◌++◌, length, true, false, true≢false, is_some, Option, Some, None, IfSome, slice_get, get_or, position, refl, sym, ap, ◌∙◌, rules, arith}
+use Rattle.std.proofs.Common.{◌≡◌, ℕ, ◌≤◌, Bool, cond, nat_lt, List, [], ◌∷◌, ◌++◌, length, true, false, true≢false, is_some, Option, Some, None, IfSome, slice_get}
+use Rattle.std.proofs.Common.{get_or, position, refl, sym, ap, ◌∙◌, rules, arith}
 use Rattle.std.specs.List.{position_or_len}
 use Rattle.std.proofs.lemmas.Bool.{ltb-false}
 use Rattle.std.proofs.lemmas.List.Sums.{fails_before_first}

@@ -1,5 +1,7 @@
 -- The types of a table by their numbers.
-use Rattle.std.proofs.Common.{◌≡◌, ℕ, zero, suc, ◌+◌, ◌<◌, ◌≤◌, Bool, true, false, ◌&&◌, nat_lt, List, [], ◌∷◌, ◌++◌, length, take, drop, Option, Some, slice_get, unwrap_or, Result, Ok, Err, IfOk, ◌⊎◌, inl, inr, refl, sym, ap, subst, ◌∙◌, append_assoc, length-append, length-take, take-append-drop, arith}
+use Rattle.std.proofs.Common.{◌≡◌, ℕ, zero, suc, ◌+◌, ◌<◌, ◌≤◌, Bool, true, false, ◌&&◌, nat_lt, List, [], ◌∷◌, ◌++◌, length, take, drop, Option, Some}
+use Rattle.std.proofs.Common.{slice_get, unwrap_or, Result, Ok, Err, IfOk, ◌⊎◌, inl, inr, refl, sym, ap, subst, ◌∙◌, append_assoc, length-append, length-take, take-append-drop}
+use Rattle.std.proofs.Common.{arith}
 use Rattle.std.specs.Option.{option_map}
 use Rattle.std.proofs.lemmas.Bool.{ltb-true, lt-ltb}
 use Rattle.std.proofs.lemmas.List.{take_more}
@@ -81,7 +83,8 @@ types_length types (s ∷ ss) =
     omega (arith, a, b)
 
 -- a shape whose parts stand before it has its type at its number
-pub type_found : (types : List ResolvedType) (ss : List Shape) (j n : ℕ) (s : Shape) → n ≡ length types + j → slice_get ss j ≡ Some s → refers_below n s ≡ true → slice_get (types_from types ss) n ≡ Some (type_of_shape (types_from types ss) s)
+pub type_found : (types : List ResolvedType) (ss : List Shape) (j n : ℕ) (s : Shape) → n ≡ length types + j → slice_get ss j ≡ Some s → refers_below n s ≡ true
+    → slice_get (types_from types ss) n ≡ Some (type_of_shape (types_from types ss) s)
 unfolding types_from
 type_found types [] j n s m e r = cc
 type_found types (x ∷ ss) zero n s m e r =
@@ -166,7 +169,8 @@ distinct_more ks s d a i j u e f = by (entry_cases ks s u i e) (entry_cases ks s
     by (inr p) (inl q) = absurd (a j (q ∙ ap (λ x. Some x) (sym p.1)))
     by (inr p) (inr q) = p.0 ∙ sym q.0
 
-last_table : (es : List (Shape × Layout)) (s : Shape) (l : Layout) → IsTable es → IsAbsent (keys_of es) s → refers_below (length es) s ≡ true → IsLayout l (type_of_shape (types_of es) s) → IsTable (es ++ (s, l) ∷ [])
+last_table : (es : List (Shape × Layout)) (s : Shape) (l : Layout) → IsTable es → IsAbsent (keys_of es) s → refers_below (length es) s ≡ true
+    → IsLayout l (type_of_shape (types_of es) s) → IsTable (es ++ (s, l) ∷ [])
 last_table es s l t a r h = record {
   refers = λ i u m e. refers_at i u m (entry_cases es (s, l) (u, m) i e);
   layouts = λ i u m e. layout_at i u m (entry_cases es (s, l) (u, m) i e);
@@ -180,7 +184,8 @@ last_table es s l t a r h = record {
     kept : (u : Shape) → refers_below (length es) u ≡ true → type_of_shape (types_of (es ++ (s, l) ∷ [])) u ≡ type_of_shape (types_of es) u
     kept u b = ap (λ ts. type_of_shape ts u) (one_more es s l) ∙ shape_kept (types_of es) (type_of_shape (types_of es) s ∷ []) u (subst (λ n. refers_below n u ≡ true) (sym (types_count es)) b)
 
-    layout_at : (i : ℕ) (u : Shape) (m : Layout) → (slice_get es i ≡ Some (u, m)) ⊎ ((i ≡ length es) × (◌≡◌ {A = Shape × Layout} (s, l) (u, m))) → IsLayout m (type_of_shape (types_of (es ++ (s, l) ∷ [])) u)
+    layout_at : (i : ℕ) (u : Shape) (m : Layout) → (slice_get es i ≡ Some (u, m)) ⊎ ((i ≡ length es) × (◌≡◌ {A = Shape × Layout} (s, l) (u, m)))
+        → IsLayout m (type_of_shape (types_of (es ++ (s, l) ∷ [])) u)
     layout_at i u m (inl e) =
         let w = slice_get_within es i (u, m) e in
         let b = refers_more i (length es) u (omega (arith, w)) (t.refers i u m e) in
@@ -188,7 +193,8 @@ last_table es s l t a r h = record {
     layout_at i u m (inr e) =
         subst (λ (x : Shape × Layout). IsLayout x.1 (type_of_shape (types_of (es ++ (s, l) ∷ [])) x.0)) e.1 (subst (λ y. IsLayout l y) (sym (kept s r)) h)
 
-pub added_table : (es fs : List (Shape × Layout)) (s : Shape) (l : Layout) → IsTable es → refers_below (length es) s ≡ true → IsLayout l (type_of_shape (types_of es) s) → IsAdded es fs s l → IsTable fs
+pub added_table : (es fs : List (Shape × Layout)) (s : Shape) (l : Layout) → IsTable es → refers_below (length es) s ≡ true → IsLayout l (type_of_shape (types_of es) s)
+    → IsAdded es fs s l → IsTable fs
 added_table es fs s l t r h (inl e) = subst (λ x. IsTable x) (sym e) t
 added_table es fs s l t r h (inr e) = subst (λ x. IsTable x) (sym e.1) (last_table es s l t e.0 r h)
 
@@ -196,7 +202,8 @@ added_table es fs s l t r h (inr e) = subst (λ x. IsTable x) (sym e.1) (last_ta
 pub table_found : (es : List (Shape × Layout)) (i : ℕ) (s : Shape) → IsTable es → slice_get (keys_of es) i ≡ Some s → slice_get (types_of es) i ≡ Some (type_of_shape (types_of es) s)
 table_found es i s t e = let k = key_entry es i s e in type_found [] (keys_of es) i i s (omega arith) e (t.refers i s k.0 k.1)
 
-pub added_found : (es fs : List (Shape × Layout)) (s : Shape) (l : Layout) (i : ℕ) → IsTable es → refers_below (length es) s ≡ true → IsLayout l (type_of_shape (types_of es) s) → IsAdded es fs s l → slice_get (keys_of fs) i ≡ Some s → slice_get (types_of fs) i ≡ Some (type_of_shape (types_of es) s)
+pub added_found : (es fs : List (Shape × Layout)) (s : Shape) (l : Layout) (i : ℕ) → IsTable es → refers_below (length es) s ≡ true → IsLayout l (type_of_shape (types_of es) s)
+    → IsAdded es fs s l → slice_get (keys_of fs) i ≡ Some s → slice_get (types_of fs) i ≡ Some (type_of_shape (types_of es) s)
 added_found es fs s l i t r h a e =
     let g = added_grows es fs s l a in
     let b = subst (λ n. refers_below n s ≡ true) (sym (types_count es)) r in
@@ -234,6 +241,11 @@ added_over below more new s l a (inl e) = inl (ap (λ x. below ++ x) e)
 added_over below more new s l a (inr e) =
     inr (subst (λ ks. IsAbsent ks s) (sym (keys_append below more)) (absent_both (keys_of below) (keys_of more) s a e.0), ap (λ x. below ++ x) e.1 ∙ sym (append_assoc below more ((s, l) ∷ [])))
 
+-- the same of a table that is seen as its entries
+pub added_seen : (below more new es : List (Shape × Layout)) (s : Shape) (l : Layout) → below ++ more ≡ es → IsAbsent (keys_of below) s → IsAdded more new s l
+    → IsAdded es (below ++ new) s l
+added_seen below more new es s l e a h = subst (λ x. IsAdded x (below ++ new) s l) e (added_over below more new s l a h)
+
 pub key_below : (below more : List (Shape × Layout)) (i : ℕ) (s : Shape) → slice_get (keys_of below) i ≡ Some s → slice_get (keys_of (below ++ more)) i ≡ Some s
 key_below below more i s e =
     ap (λ ks. slice_get ks i) (keys_append below more) ∙ front_kept (keys_of below) (keys_of more) i (slice_get_within (keys_of below) i s e) ∙ e
@@ -245,9 +257,11 @@ key_above below more i j s n e =
 
 -- ---- the entries of a table, one after another
 
-pub taken_more : (es fs : List (Shape × Layout)) (i p : ℕ) (s : Shape) (l : Layout) → IsTable es → slice_get es i ≡ Some (s, l) → IsAdded (take i es) fs s l → slice_get (keys_of fs) p ≡ Some s → fs ≡ take (i + 1) es
+pub taken_more : (es fs : List (Shape × Layout)) (i p : ℕ) (s : Shape) (l : Layout) → IsTable es → slice_get es i ≡ Some (s, l) → IsAdded (take i es) fs s l
+    → slice_get (keys_of fs) p ≡ Some s → fs ≡ take (i + 1) es
 taken_more es fs i p s l t e (inr a) k =
-    a.1 ∙ ap (λ (x : Shape × Layout). take i es ++ x ∷ []) (sym (some_same (sym (slice_get-get_or es i (s, l) (slice_get_within es i (s, l) e)) ∙ e))) ∙ sym (take_more es i (s, l) (slice_get_within es i (s, l) e))
+    a.1 ∙ ap (λ (x : Shape × Layout). take i es ++ x ∷ []) (sym (some_same (sym (slice_get-get_or es i (s, l) (slice_get_within es i (s, l) e)) ∙ e)))
+    ∙ sym (take_more es i (s, l) (slice_get_within es i (s, l) e))
 taken_more es fs i p s l t e (inl a) k =
     let f : slice_get (keys_of (take i es)) p ≡ Some s = ap (λ x. slice_get (keys_of x) p) (sym a) ∙ k in
     let w = slice_get_within (keys_of (take i es)) p s f in

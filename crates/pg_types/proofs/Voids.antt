@@ -6,7 +6,8 @@ use Rattle.pg_ast.specs.Syntax.{Ty, Tys, I1, I8, I16, I32, I64, Ptr, Void, Array
 use Rattle.pg_ast.specs.Numbers.{type_named, void_by, is_some_and, name_void, is_void}
 use Rattle.pg_types.specs.Resolved.{ResolvedType, VoidType, NoFields, part_type, array_type, with_field, element_count, type_by, fields_by, type_within, resolved}
 
-void_is : (f : List ℕ → Option ResolvedType) (v : List ℕ → Bool) → ((text : List ℕ) → v text ≡ true → f text ≡ Some VoidType) → (t : Ty) → void_by v t ≡ true → type_by f t ≡ Some VoidType
+void_is : (f : List ℕ → Option ResolvedType) (v : List ℕ → Bool) → ((text : List ℕ) → v text ≡ true → f text ≡ Some VoidType) → (t : Ty) → void_by v t ≡ true
+    → type_by f t ≡ Some VoidType
 unfolding type_by
 void_is f v h (Void s) e = refl
 void_is f v h (Named n) e = h n.text e
@@ -24,7 +25,8 @@ unfolding name_void type_within
 void_name types zero text e = absurd cc
 void_name types (suc n) text e = by (type_named types text) e (void_name types n)
   where
-    by : (o : Option Ty) → is_some_and o (λ t. void_by (name_void n types) t) ≡ true → ((other : List ℕ) → name_void n types other ≡ true → type_within n types other ≡ Some VoidType) → option_and_then (λ t. type_by (type_within n types) t) o ≡ Some VoidType
+    by : (o : Option Ty) → is_some_and o (λ t. void_by (name_void n types) t) ≡ true
+        → ((other : List ℕ) → name_void n types other ≡ true → type_within n types other ≡ Some VoidType) → option_and_then (λ t. type_by (type_within n types) t) o ≡ Some VoidType
     by None h more = absurd cc
     by (Some t) h more = void_is (type_within n types) (name_void n types) more t h
 
@@ -52,7 +54,8 @@ unfolding fields_by
 fields_not f NoTys front h e = h e
 fields_not f (MoreTys t ts) front h e = fields_not f ts (with_field front (part_type (type_by f t))) (field_not front (part_type (type_by f t))) e
 
-void_from : (f : List ℕ → Option ResolvedType) (v : List ℕ → Bool) → ((text : List ℕ) → f text ≡ Some VoidType → v text ≡ true) → (t : Ty) → type_by f t ≡ Some VoidType → void_by v t ≡ true
+void_from : (f : List ℕ → Option ResolvedType) (v : List ℕ → Bool) → ((text : List ℕ) → f text ≡ Some VoidType → v text ≡ true) → (t : Ty) → type_by f t ≡ Some VoidType
+    → void_by v t ≡ true
 unfolding type_by
 void_from f v h (Void s) e = refl
 void_from f v h (Named n) e = h n.text e
@@ -70,7 +73,8 @@ unfolding name_void type_within
 name_from types zero text e = absurd cc
 name_from types (suc n) text e = by (type_named types text) e (name_from types n)
   where
-    by : (o : Option Ty) → option_and_then (λ t. type_by (type_within n types) t) o ≡ Some VoidType → ((other : List ℕ) → type_within n types other ≡ Some VoidType → name_void n types other ≡ true) → is_some_and o (λ t. void_by (name_void n types) t) ≡ true
+    by : (o : Option Ty) → option_and_then (λ t. type_by (type_within n types) t) o ≡ Some VoidType
+        → ((other : List ℕ) → type_within n types other ≡ Some VoidType → name_void n types other ≡ true) → is_some_and o (λ t. void_by (name_void n types) t) ≡ true
     by None h more = absurd cc
     by (Some t) h more = void_from (type_within n types) (name_void n types) more t h
 

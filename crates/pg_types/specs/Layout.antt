@@ -1,16 +1,7 @@
 -- Sizes, alignments and offsets of types, in bytes.
 use Rattle.std.specs.Prelude.{ℕ, ◌+◌, ◌-◌, ◌*◌, ◌/◌, max, List, [], ◌∷◌, ◌++◌, Option, Some, None}
-use Rattle.pg_num.specs.declared.width.Width.{Width}
-use Rattle.pg_num.specs.declared.width.Width.TheVariants.{W1, W8, W16, W32, W64}
+pub use Rattle.pg_num.specs.Numbers.{bytes_of}
 use Rattle.pg_types.specs.Resolved.{ResolvedType, IntegerType, PointerType, VoidType, ArrayType, NoFields, MoreFields}
-
--- an i1 takes a byte
-abbrev pub bytes_of : Width → ℕ
-bytes_of W1 = 1
-bytes_of W8 = 1
-bytes_of W16 = 2
-bytes_of W32 = 4
-bytes_of W64 = 8
 
 -- the next multiple of an alignment
 abbrev pub round_up : ℕ → ℕ → ℕ

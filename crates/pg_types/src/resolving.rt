@@ -12,8 +12,8 @@ use crate::names::place_of_name;
 use crate::shape::Shape;
 use crate::table::TypeTable;
 use indexmap::IndexMap;
-use pg_ast::TypeNode;
 use pg_num::Width;
+use pg_ast::TypeNode;
 use std::alloc::AllocError;
 
 /// The number of the type of an item's name, if the item is known.
@@ -49,6 +49,7 @@ fn part_number(table: &TypeTable<'_>, number: Option<usize>) -> Option<usize>
     }
 }
 
+/// The number of an array, whose elements' type has a number.
 fn array_number(
     table: &mut TypeTable<'_>,
     count: Option<u64>,
@@ -56,16 +57,18 @@ fn array_number(
 ) -> Result<Option<usize>, AllocError>
     requires { IsWithin (types_of table.old) element }
     ensures value { IfOk result (λ o. denoted (types_of table.new) o ≡
-        array_type count (denoted (types_of table.old) element)) }
+        array_type count (part_type (denoted (types_of table.old) element))) }
     ensures within { IfOk result (λ o. IsWithin (types_of table.new) o) }
     ensures grows { Grows (types_of table.old) (types_of table.new) }
 {
-    match (count, element) {
+    let part = part_number(table, element);
+    match (count, part) {
         (Some(count), Some(element)) => Ok(Some(table.array(count, element)?)),
         _ => Ok(None),
     }
 }
 
+/// The number of a structure with one field more, whose type has a number.
 fn field_number(
     table: &mut TypeTable<'_>,
     front: Option<usize>,
@@ -74,11 +77,12 @@ fn field_number(
     requires front { IsWithin (types_of table.old) front }
     requires field { IsWithin (types_of table.old) field }
     ensures value { IfOk result (λ o. denoted (types_of table.new) o ≡
-        with_field (denoted (types_of table.old) front) (denoted (types_of table.old) field)) }
+        with_field (denoted (types_of table.old) front) (part_type (denoted (types_of table.old) field))) }
     ensures within { IfOk result (λ o. IsWithin (types_of table.new) o) }
     ensures grows { Grows (types_of table.old) (types_of table.new) }
 {
-    match (front, field) {
+    let part = part_number(table, field);
+    match (front, part) {
         (Some(front), Some(field)) => Ok(Some(table.with_field(front, field)?)),
         _ => Ok(None),
     }
@@ -109,31 +113,12 @@ pub fn type_number(
         TypeNode::Ptr(_) => Ok(Some(table.pointer()?)),
         TypeNode::Void(_) => Ok(Some(table.void()?)),
         TypeNode::Array(_, count, element) => {
-            let number = part_type_number(table, places, items, element)?;
+            let number = type_number(table, places, items, element)?;
             array_number(table, element_count(count.text.as_slice()), number)
         }
         TypeNode::Struct(_, fields) => fields_number(table, places, items, fields.as_slice()),
         TypeNode::Named(name) => Ok(named_number(places, items, name.text.as_slice())),
     }
-}
-
-/// The number of the type of an element or a field.
-#[cycle(resolve)]
-fn part_type_number(
-    table: &mut TypeTable<'_>,
-    places: &IndexMap<&[u8], usize>,
-    items: &[Option<usize>],
-    ty: &TypeNode,
-) -> Result<Option<usize>, AllocError>
-    requires { AreWithin (types_of table.old) (item_number places.now items.now) }
-    ensures value { (named : List ℕ → Option ResolvedType) →
-        Names (types_of table.old) (item_number places.now items.now) named →
-        IfOk result (λ o. denoted (types_of table.new) o ≡ part_type (type_by named (ty_of ty.now))) }
-    ensures within { IfOk result (λ o. IsWithin (types_of table.new) o) }
-    ensures grows { Grows (types_of table.old) (types_of table.new) }
-{
-    let number = type_number(table, places, items, ty)?;
-    Ok(part_number(table, number))
 }
 
 /// The number of a structure of fields.
@@ -154,7 +139,7 @@ fn fields_number(
 {
     let mut front = Some(table.no_fields()?);
     for field in fields {
-        let number = part_type_number(table, places, items, field)?;
+        let number = type_number(table, places, items, field)?;
         front = field_number(table, front, number)?;
     }
     Ok(front)

@@ -18,9 +18,9 @@ use crate::resolving::type_number;
 use crate::shape::Shape;
 use crate::table::TypeTable;
 use indexmap::IndexMap;
-use pg_ast::{TypeItem, TypeNode};
 use pg_num::Width;
 use pg_num::limits::SIZE_LIMIT;
+use pg_ast::{TypeItem, TypeNode};
 use std::alloc::{AllocError, Global};
 use std::marker::Model;
 

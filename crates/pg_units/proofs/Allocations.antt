@@ -1,5 +1,6 @@
 -- Allocations fit, and reads of the input.
-use Rattle.std.proofs.Common.{◌≡◌, ℕ, ℤ, pos, negsuc, ◌+◌, ◌<◌, ◌%◌, ◌^◌, Bool, true, false, List, [], ◌∷◌, length, map, Option, Some, None, refl, sym, ap, ◌∙◌, subst, arith}
+use Rattle.std.proofs.Common.{◌≡◌, ℕ, ℤ, pos, negsuc, ◌+◌, ◌<◌, ◌%◌, ◌^◌, Bool, true, false, List, [], ◌∷◌, length, Option, Some, None, refl, sym, ap}
+use Rattle.std.proofs.Common.{◌∙◌, subst, arith}
 use Rattle.std.specs.Prelude.{slice_get, slice_index_or, if◌then◌else◌}
 use Rattle.std.specs.List.{AllByRecursion as AllOf}
 use Rattle.pg_num.specs.Numbers.{modulus, signed}
@@ -30,7 +31,6 @@ use Rattle.pg_step.proofs.Ranges.{residue_small}
 use Rattle.pg_trace.specs.declared.step.Step.{Step}
 use Rattle.pg_trace.specs.declared.step.StepKind.{StepKind}
 use Rattle.pg_trace.specs.declared.step.StepKind.TheVariants as kinds
-use Rattle.pg_machine.specs.MachineStep as machine
 use Rattle.pg_machine.specs.MachineStep.{op_told}
 use Rattle.pg_machine.specs.State.{State}
 use Rattle.pg_effects.specs.Effect.{answer_to}
@@ -49,38 +49,34 @@ use Rattle.pg_units.proofs.Here.{running}
 use Rattle.pg_units.proofs.Inner.{IsInner, Pair, answer, answer0}
 use Rattle.pg_units.proofs.Likes.{argument_like, from_like, set_like, valued_like}
 use Rattle.pg_units.proofs.Results.{on_some, value_done}
+use Rattle.pg_num.specs.Inputs.{input_at, number_or_zero}
 
 room_done : (b : Bool) → CanStep (if b then actions.Local else actions.Trap traps.StackFull) → (if b then actions.Local else actions.Trap traps.StackFull) ≡ actions.Local
 room_done true h = refl
 room_done false h = absurd h
 
 -- a register, if there is one, gets the number that is told
-pub told_number : (input : List ℤ) (target : Option ℕ) (ks : List Shadow) (vs : List (Option ℕ)) (number n : ℕ) → AreLike input ks vs → number ≡ n → AreLike input (set_shadow target (always (or_zero target number)) ks) (set_register vs target (Some n))
+pub told_number : (input : List ℤ) (target : Option ℕ) (ks : List Shadow) (vs : List (Option ℕ)) (number n : ℕ) → AreLike input ks vs → number ≡ n
+    → AreLike input (set_shadow target (always (or_zero target number)) ks) (set_register vs target (Some n))
 told_number input None ks vs number n h e = h
 told_number input (Some t) ks vs number n h e = set_like input (Some t) ks vs (always number) (Some n) h (valued_like input (λ i. Some number) (Some n) (ap Some (sym e)))
 
 -- ---- the number of the input at an index
 
-same_input : (input : List ℤ) (i : ℤ) → machine.input_at input i ≡ nodes.input_at input i
-same_input input (pos i) = same (slice_get input i)
-  where
-    same : (o : Option ℤ) → machine.number_or_zero o ≡ nodes.number_or_zero o
-    same None = refl
-    same (Some n) = refl
-same_input input (negsuc i) = refl
-
-input_small : (input : List ℤ) (i : ℤ) → machine.input_at input i < modulus W64
+input_small : (input : List ℤ) (i : ℤ) → input_at input i < modulus W64
 input_small input (pos i) = small (slice_get input i)
   where
-    small : (o : Option ℤ) → machine.number_or_zero o < modulus W64
+    small : (o : Option ℤ) → number_or_zero o < modulus W64
     small None = Rattle.std.proofs.Common.lit< tt
     small (Some n) = residue_small W64 n
 input_small input (negsuc i) = Rattle.std.proofs.Common.lit< tt
 
-input_like : (input : List ℤ) (s : Shadow) (n : ℕ) → IsLike input s (Some n) → IsLike input (from_input s) (Some (machine.input_at input (signed W64 n) % modulus W64))
-input_like input s n h = from_like input (s ∷ []) (Some n ∷ []) (λ gs. valued (λ i. nodes.with_one (slice_index_or (gs i) 0 None) (λ k. Some (nodes.input_at i (signed W64 k))))) (Some (machine.input_at input (signed W64 n) % modulus W64)) (h, tt)
-    (λ gs e. valued_like input (λ i. nodes.with_one (slice_index_or (gs i) 0 None) (λ k. Some (nodes.input_at i (signed W64 k)))) (Some (machine.input_at input (signed W64 n) % modulus W64))
-    (ap Some (whole (machine.input_at input (signed W64 n)) (input_small input (signed W64 n)) ∙ same_input input (signed W64 n)) ∙ ap (λ (l : List (Option ℕ)). nodes.with_one (slice_index_or l 0 None) (λ k. Some (nodes.input_at input (signed W64 k)))) (sym e)))
+input_like : (input : List ℤ) (s : Shadow) (n : ℕ) → IsLike input s (Some n) → IsLike input (from_input s) (Some (input_at input (signed W64 n) % modulus W64))
+input_like input s n h = from_like input (s ∷ []) (Some n ∷ []) (λ gs. valued (λ i. nodes.with_one (slice_index_or (gs i) 0 None) (λ k. Some (input_at i (signed W64 k)))))
+    (Some (input_at input (signed W64 n) % modulus W64)) (h, tt)
+    (λ gs e. valued_like input (λ i. nodes.with_one (slice_index_or (gs i) 0 None) (λ k. Some (input_at i (signed W64 k)))) (Some (input_at input (signed W64 n) % modulus W64))
+    (ap Some (whole (input_at input (signed W64 n)) (input_small input (signed W64 n)))
+    ∙ ap (λ (l : List (Option ℕ)). nodes.with_one (slice_index_or l 0 None) (λ k. Some (input_at input (signed W64 k)))) (sym e)))
   where
     whole : (m : ℕ) → m < modulus W64 → m % modulus W64 ≡ m
     whole m l = omega arith
@@ -115,19 +111,26 @@ module _ (r : ReferenceRun) (d : Taken) (input : List ℤ) (program : IsProgram 
         b.rest,
       )
     where
-      told : q.both.x.op ≡ op.Alloca bytes → op_told (first_four r.program q.both.f0.registers (operands_of q.both.x.op)) (or_zero q.both.x.result (op_own r.program (running (thread_in u.seen.moment) q.both.h q.both.f0 q.both.fs0 q.both.n) q.both.f0.registers (answer0 r d input u st moves y q) q.both.x.op)) q.both.x.op ≡ kinds.Allocation 0 (or_zero q.both.x.result (pushed r0 bytes))
-      told k = ap (λ (z : Op). op_told (first_four r.program q.both.f0.registers (operands_of z)) (or_zero q.both.x.result (op_own r.program (running (thread_in u.seen.moment) q.both.h q.both.f0 q.both.fs0 q.both.n) q.both.f0.registers (answer0 r d input u st moves y q) z)) z) k
+      told : q.both.x.op ≡ op.Alloca bytes → op_told (first_four r.program q.both.f0.registers (operands_of q.both.x.op))
+          (or_zero q.both.x.result (op_own r.program (running (thread_in u.seen.moment) q.both.h q.both.f0 q.both.fs0 q.both.n) q.both.f0.registers
+          (answer0 r d input u st moves y q) q.both.x.op)) q.both.x.op ≡ kinds.Allocation 0 (or_zero q.both.x.result (pushed r0 bytes))
+      told k = ap (λ (z : Op). op_told (first_four r.program q.both.f0.registers (operands_of z))
+          (or_zero q.both.x.result (op_own r.program (running (thread_in u.seen.moment) q.both.h q.both.f0 q.both.fs0 q.both.n) q.both.f0.registers (answer0 r d input u st moves y q) z)) z) k
 
   -- ---- known functions that ask nothing of other threads
 
-  first_done : (args : List Value) (rs : List (Option ℕ)) (act : ℕ → Action) → CanStep (on_value (argument r.program rs args 0) act) → (n : ℕ) × (argument r.program rs args 0 ≡ Some n) × (on_value (argument r.program rs args 0) act ≡ act n)
+  first_done : (args : List Value) (rs : List (Option ℕ)) (act : ℕ → Action) → CanStep (on_value (argument r.program rs args 0) act)
+      → (n : ℕ) × (argument r.program rs args 0 ≡ Some n) × (on_value (argument r.program rs args 0) act ≡ act n)
   first_done args rs act h = let v = value_done (argument r.program rs args 0) act h in (v.0, v.1, on_some (argument r.program rs args 0) v.0 act v.1)
 
   first_like : (args : List Value) → IsLike input (operand_at r.program q.both.ks (op.CallKnown known.PgIn args) 0) (argument r.program q.both.f.registers args 0)
   first_like args = argument_like input r.program q.both.ks q.both.f.registers q.both.top.registers args 0
 
-  fits_known : (k : KnownFunction) (args : List Value) → q.both.x.op ≡ op.CallKnown k args → type_at (types_of r.program (function_of r.program q.both.x.block.0)) q.both.x.result ≡ returned_by k
-  fits_known k args e = (subst (FitsOp r.program (types_of r.program (function_of r.program q.both.x.block.0)) (result_of r.program (function_of r.program q.both.x.block.0)) (type_at (types_of r.program (function_of r.program q.both.x.block.0)) q.both.x.result)) e (program.instrs q.both.f.place q.both.x q.both.here.instr).op).0
+  fits_known : (k : KnownFunction) (args : List Value) → q.both.x.op ≡ op.CallKnown k args
+      → type_at (types_of r.program (function_of r.program q.both.x.block.0)) q.both.x.result ≡ returned_by k
+  fits_known k args e = (subst
+      (FitsOp r.program (types_of r.program (function_of r.program q.both.x.block.0)) (result_of r.program (function_of r.program q.both.x.block.0))
+      (type_at (types_of r.program (function_of r.program q.both.x.block.0)) q.both.x.result)) e (program.instrs q.both.f.place q.both.x q.both.here.instr).op).0
 
   pub pg_in_fits : (args : List Value) → q.both.x.op ≡ op.CallKnown known.PgIn args → Fits (like input) (deed_of d u) (deed_moved r.program input st moves y)
   pg_in_fits args e =
@@ -138,11 +141,12 @@ module _ (r : ReferenceRun) (d : Taken) (input : List ℤ) (program : IsProgram 
       let v = first_done args b.f.registers (λ n. actions.In (signed W64 n)) (can_at r d input u st moves y q o e) in
       let act0 = act0_at r d input u st moves y q o e ∙ v0.2 in
       let act = act_at r d input u st moves y q o e ∙ v.2 in
-      let a : answer r d input u st moves y q ≡ machine.input_at input (signed W64 v.0) = ap (answer_to input st (thread_in u.seen.moment)) act in
+      let a : answer r d input u st moves y q ≡ input_at input (signed W64 v.0) = ap (answer_to input st (thread_in u.seen.moment)) act in
       inner_at r d input u st moves y q o e (subst IsInner (sym act0) tt) (subst IsInner (sym act) tt) refl (
         frame_stepped input b.f0 b.f b.ks b.x.result (from_input (operand_at p b.ks b.x.op 0)) (answer0 r d input u st moves y q % modulus W64) (answer r d input u st moves y q % modulus W64) b.top
             (subst (λ (z : Op). IsLike input (from_input (operand_at p b.ks z 0)) (Some (answer r d input u st moves y q % modulus W64))) (sym e)
-            (subst (λ (n : ℕ). IsLike input (from_input (operand_at p b.ks o 0)) (Some (n % modulus W64))) (sym a) (input_like input (operand_at p b.ks o 0) v.0 (subst (λ (m : Option ℕ). IsLike input (operand_at p b.ks o 0) m) v.1 (first_like args))))),
+            (subst (λ (n : ℕ). IsLike input (from_input (operand_at p b.ks o 0)) (Some (n % modulus W64))) (sym a)
+            (input_like input (operand_at p b.ks o 0) v.0 (subst (λ (m : Option ℕ). IsLike input (operand_at p b.ks o 0) m) v.1 (first_like args))))),
         b.rest,
       )
 
@@ -175,7 +179,8 @@ module _ (r : ReferenceRun) (d : Taken) (input : List ℤ) (program : IsProgram 
       inner_at r d input u st moves y q o e (subst IsInner (sym act0) tt) (subst IsInner (sym act) tt) refl
       (record { function = b.top.function; place = ap (λ (i : ℕ). i + 1) b.top.place; height = b.top.height; registers = rw none b.top.registers }, b.rest)
 
-  pub malloc_fits : IsGood (reference_of r) d input u.seen → (args : List Value) → q.both.x.op ≡ op.CallKnown known.Malloc args → Fits (like input) (deed_of d u) (deed_moved r.program input st moves y)
+  pub malloc_fits : IsGood (reference_of r) d input u.seen → (args : List Value) → q.both.x.op ≡ op.CallKnown known.Malloc args
+      → Fits (like input) (deed_of d u) (deed_moved r.program input st moves y)
   malloc_fits good args e =
       let p = r.program in
       let b = q.both in
@@ -187,7 +192,8 @@ module _ (r : ReferenceRun) (d : Taken) (input : List ℤ) (program : IsProgram 
       let n0 = given (argument p b.f0.registers args 0) in
       let kind : kind_in u.seen ≡ kinds.Allocation n0 (or_zero b.x.result (allocated r0 n0)) = kind_local r d input u st moves y q act0 ∙ told e in
       let needs : value_needs (reference_of r) d u.seen ≡ ValueNeed (operand_of p u.seen b.x 0) (test.Eq n0 ∷ []) ∷ [] =
-      needs_here r d input u st moves y q (kinds.Allocation n0 (or_zero b.x.result (allocated r0 n0))) kind ∙ ap (λ (z : Op). if is_malloc z then ValueNeed (operand_of p u.seen b.x 0) (test.Eq n0 ∷ []) ∷ [] else []) e in
+      needs_here r d input u st moves y q (kinds.Allocation n0 (or_zero b.x.result (allocated r0 n0))) kind
+      ∙ ap (λ (z : Op). if is_malloc z then ValueNeed (operand_of p u.seen b.x 0) (test.Eq n0 ∷ []) ∷ [] else []) e in
       let h = (subst (AllOf (Holds input)) needs good.values).0 in
       let known : h.0 input ≡ Some v.0 = sym (size args e v.0 v.1 h.0 h.1) in
       let same : v.0 ≡ n0 = eq_met n0 v.0 (subst (λ (m : Option ℕ). is_met (test.Eq n0) m ≡ true) known h.2.0) in
@@ -198,16 +204,22 @@ module _ (r : ReferenceRun) (d : Taken) (input : List ℤ) (program : IsProgram 
           function = b.top.function;
           place = ap (λ (i : ℕ). i + 1) b.top.place;
           height = b.top.height;
-          registers = subst (λ (k : StepKind). AreLike input (set_shadow b.x.result (always (result_in k)) b.ks) (set_register b.f.registers b.x.result (Some (allocated r1 (given (argument p b.f.registers args 0)))))) (sym kind)
-              (told_number input b.x.result b.ks b.f.registers (allocated r0 n0) (allocated r1 (given (argument p b.f.registers args 0))) b.top.registers (ap (λ (z : Region). allocated z n0) (sym same_region) ∙ ap (allocated r1) (sym number)));
+          registers = subst (λ (k : StepKind). AreLike input (set_shadow b.x.result (always (result_in k)) b.ks)
+              (set_register b.f.registers b.x.result (Some (allocated r1 (given (argument p b.f.registers args 0)))))) (sym kind)
+              (told_number input b.x.result b.ks b.f.registers (allocated r0 n0) (allocated r1 (given (argument p b.f.registers args 0))) b.top.registers
+              (ap (λ (z : Region). allocated z n0) (sym same_region) ∙ ap (allocated r1) (sym number)));
         },
         b.rest,
       )
     where
-      told : q.both.x.op ≡ op.CallKnown known.Malloc args → op_told (first_four r.program q.both.f0.registers (operands_of q.both.x.op)) (or_zero q.both.x.result (op_own r.program (running (thread_in u.seen.moment) q.both.h q.both.f0 q.both.fs0 q.both.n) q.both.f0.registers (answer0 r d input u st moves y q) q.both.x.op)) q.both.x.op
+      told : q.both.x.op ≡ op.CallKnown known.Malloc args → op_told (first_four r.program q.both.f0.registers (operands_of q.both.x.op))
+          (or_zero q.both.x.result (op_own r.program (running (thread_in u.seen.moment) q.both.h q.both.f0 q.both.fs0 q.both.n) q.both.f0.registers
+          (answer0 r d input u st moves y q) q.both.x.op)) q.both.x.op
           ≡ kinds.Allocation (given (argument r.program q.both.f0.registers args 0)) (or_zero q.both.x.result (allocated r0 (given (argument r.program q.both.f0.registers args 0))))
-      told k = ap (λ (z : Op). op_told (first_four r.program q.both.f0.registers (operands_of z)) (or_zero q.both.x.result (op_own r.program (running (thread_in u.seen.moment) q.both.h q.both.f0 q.both.fs0 q.both.n) q.both.f0.registers (answer0 r d input u st moves y q) z)) z) k
+      told k = ap (λ (z : Op). op_told (first_four r.program q.both.f0.registers (operands_of z))
+          (or_zero q.both.x.result (op_own r.program (running (thread_in u.seen.moment) q.both.h q.both.f0 q.both.fs0 q.both.n) q.both.f0.registers (answer0 r d input u st moves y q) z)) z) k
 
-      size : (vs : List Value) → q.both.x.op ≡ op.CallKnown known.Malloc vs → (n : ℕ) → argument r.program q.both.f.registers vs 0 ≡ Some n → (f : OnInput) → value_of (operand_of r.program u.seen q.both.x 0) ≡ Some f → Some n ≡ f input
+      size : (vs : List Value) → q.both.x.op ≡ op.CallKnown known.Malloc vs → (n : ℕ) → argument r.program q.both.f.registers vs 0 ≡ Some n → (f : OnInput)
+          → value_of (operand_of r.program u.seen q.both.x 0) ≡ Some f → Some n ≡ f input
       size [] k n a f g = absurd cc
       size (v ∷ vs) k n a f g = sym a ∙ number_known r d input u st moves y q (op.CallKnown known.Malloc (v ∷ vs)) k 0 v refl f g

@@ -39,7 +39,8 @@ module _ (r : ReferenceRun) (d : Taken) where
   pub behind_is : (s : State) (x : Step) (h : Takes r.gated r.program r.input s x) → behind r s x.thread.0 ≡ h.after
   behind_is s x h = ap (state_after s) h.is_step
 
-  met_is : (T : List ℕ) (k n : ℕ) (known : RunShadow) (s z : State) (xs : List Step) → IsProgram r.program → length r.input < 2 ^ 64 → IsReached r.program s → IsRun r.gated r.program r.input s xs z →
+  met_is : (T : List ℕ) (k n : ℕ) (known : RunShadow) (s z : State) (xs : List Step) → IsProgram r.program → length r.input < 2 ^ 64 → IsReached r.program s
+      → IsRun r.gated r.program r.input s xs z →
       AllOf (λ (m : Met). IsMet r d m.seen m.state) (met_with (seen_from (reference_of r) d n known (moments_from r.gated r.program r.input s (times recorded T k xs))) (states_from r s xs))
   unfolding seen_from moments_from states_from
   met_is T k n known s z [] program small reached h = tt
@@ -55,7 +56,13 @@ module _ (r : ReferenceRun) (d : Taken) where
   all_met o = met_is (turns_of r) 0 0 (start_of r.program) (initial r.program) o.last r.steps o.can.program o.can.small (reached_first r.program o.can.program o.can.bytes) o.run
 
   unit_is : (last : State) (counts : ℕ → ℕ) (m : Met) (ms : List Met) → IsMet r d m.seen m.state → m.seen.live ≡ true → IsUnit r d (unit_of r d last counts m ms)
-  unit_is last counts m ms h e = record { met = h; live = e; known = refl; local = λ n. ap (λ (b : Bool). if b then next_local (thread_in m.seen.moment) last ms else local_at (behind r m.state (thread_in m.seen.moment)) (thread_in m.seen.moment)) n; objects = refl }
+  unit_is last counts m ms h e = record {
+    met = h;
+    live = e;
+    known = refl;
+    local = λ n. ap (λ (b : Bool). if b then next_local (thread_in m.seen.moment) last ms else local_at (behind r m.state (thread_in m.seen.moment)) (thread_in m.seen.moment)) n;
+    objects = refl;
+  }
 
   units_are : (last : State) (counts : ℕ → ℕ) (ms : List Met) → AllOf (λ (m : Met). IsMet r d m.seen m.state) ms → AllOf (IsUnit r d) (units_from r d last counts ms)
   unfolding units_from

@@ -1,6 +1,6 @@
 -- A run on any input begins like the plan of a run.
-use Rattle.std.proofs.Common.{lit<, ◌≡◌, ℕ, ℤ, ◌<◌, ◌^◌, ◌*◌, ◌-◌, ◌+◌, ◌&&◌, zero, suc, Bool, true, false, List, [], ◌∷◌, length, Option, Some, None, refl, sym, ap, subst}
-use Rattle.std.specs.Prelude.{nat_le, nat_lt, slice_index, slice_index_or, if◌then◌else◌}
+use Rattle.std.proofs.Common.{◌≡◌, ℕ, ℤ, ◌<◌, ◌^◌, ◌-◌, zero, suc, Bool, true, false, List, [], ◌∷◌, Option, Some, None, refl, sym, ap, subst}
+use Rattle.std.specs.Prelude.{nat_lt, slice_index, slice_index_or, if◌then◌else◌}
 use Rattle.std.proofs.lemmas.Bool.{ltb-true}
 use Rattle.pg_num.specs.declared.layout.TheConstants.{MEMORY_BYTES}
 use Rattle.pg_ir.specs.Program.{NumberedProgram}
@@ -14,7 +14,6 @@ use Rattle.pg_machine.specs.State.{initial}
 use Rattle.pg_effects.specs.PermittedSteps.{none_taken}
 use Rattle.pg_effects.specs.Views.{cell_at, local_at}
 use Rattle.pg_effects.specs.Reached.{HoldBytes}
-use Rattle.pg_ir.specs.declared.function.GlobalInfo.{GlobalInfo}
 use Rattle.pg_closed.specs.Known.{start_of, thread_of}
 use Rattle.pg_closed.specs.Shadows.{always}
 use Rattle.pg_units.specs.Likes.{IsCellLike, StandLike, like}
@@ -22,14 +21,7 @@ use Rattle.pg_units.proofs.Likes.{valued_like}
 use Rattle.pg_units.specs.Moves.{moved}
 use Rattle.pg_units.specs.Order.{IsOrderedRun}
 use Rattle.pg_units.specs.Units.{ReferenceRun, cell_known, plan_start, standing_of}
-
-byte_first : (gs : List GlobalInfo) (b : ℕ) → HoldBytes gs → initial_byte gs b < 2 ^ 8
-byte_first [] b h = lit< tt
-byte_first (g ∷ gs) b h = by (byte_first gs b h.1) (nat_le (g.start * 8) b && nat_lt b (g.start * 8 + length g.bytes))
-  where
-    by : initial_byte gs b < 2 ^ 8 → (c : Bool) → (if c then slice_index g.bytes (b - g.start * 8) else initial_byte gs b) < 2 ^ 8
-    by rest true = h.0 (b - g.start * 8)
-    by rest false = rest
+use Rattle.pg_effects.proofs.Reaches.{byte_first}
 
 none_begun : (p : NumberedProgram) (t : ℕ) → local_at (initial p) t ≡ None
 unfolding initial fresh
@@ -52,8 +44,10 @@ module _ (p : NumberedProgram) (input : List ℤ) where
   pub first_cell : HoldBytes p.globals → (c : ℕ) → IsCellLike input (cell_known (start_of p) c) (cell_at (initial p) c)
   first_cell bytes c = subst (IsCellLike input (cell_known (start_of p) c)) (sym (first_byte p c)) (go (nat_lt c MEMORY_BYTES) refl)
     where
-      go : (b : Bool) → nat_lt c MEMORY_BYTES ≡ b → IsCellLike input (if b then always (initial_byte p.globals c) else slice_index_or (always 0 ∷ []) (c - MEMORY_BYTES) (always 0)) (if b then byte_at (memory.initial p.globals) c else slice_index (0 ∷ []) (c - MEMORY_BYTES))
-      go true e = valued_like input (λ i. Some (initial_byte p.globals c)) (Some (byte_at (memory.initial p.globals) c)) (ap (λ (n : ℕ). Some n) (memory_byte p c (λ i. byte_first p.globals i bytes) (ltb-true c MEMORY_BYTES e)))
+      go : (b : Bool) → nat_lt c MEMORY_BYTES ≡ b → IsCellLike input (if b then always (initial_byte p.globals c) else slice_index_or (always 0 ∷ []) (c - MEMORY_BYTES) (always 0))
+          (if b then byte_at (memory.initial p.globals) c else slice_index (0 ∷ []) (c - MEMORY_BYTES))
+      go true e = valued_like input (λ i. Some (initial_byte p.globals c)) (Some (byte_at (memory.initial p.globals) c))
+          (ap (λ (n : ℕ). Some n) (memory_byte p c (λ i. byte_first p.globals i bytes) (ltb-true c MEMORY_BYTES e)))
       go false e = first_word input (c - MEMORY_BYTES)
 
   pub stands_first : (t : ℕ) → StandLike input (standing_of (local_at (initial p) t) (thread_of (start_of p) t).calls) (local_at (initial p) t)

@@ -1,5 +1,6 @@
 -- A single live step changes what is known only of the cells that it may write.
-use Rattle.std.proofs.Common.{◌≡◌, ℕ, ℤ, ◌-◌, ◌==◌, ◌&&◌, ◌||◌, zero, suc, not, Bool, true, false, List, [], ◌∷◌, ◌++◌, length, Option, Some, None, refl, sym, ap, ◌∙◌, subst}
+use Rattle.std.proofs.Common.{◌≡◌, ℕ, ℤ, ◌-◌, ◌==◌, ◌&&◌, ◌||◌, zero, suc, not, Bool, true, false, List, [], ◌∷◌, ◌++◌, length, Option, Some, None, refl}
+use Rattle.std.proofs.Common.{sym, ap, ◌∙◌, subst}
 use Rattle.std.specs.Prelude.{nat_lt, slice_get, slice_set, slice_index_or, if◌then◌else◌}
 use Rattle.std.specs.List.{list_any}
 use Rattle.std.proofs.lemmas.Bool.{true≢false}
@@ -113,7 +114,8 @@ op_for p rs r halfway depth used block o = any_for o (op_action p r halfway rs d
 frames_for : (p : NumberedProgram) (l : LocalState) (x : Instr) (b : Bool) (fs : List Frame) → slice_get p.instrs (place_in fs) ≡ Some x → IsFor x.op (frames_action p l b fs)
 frames_for p l x b [] e = tt
 frames_for p l x false (f ∷ fs) e = tt
-frames_for p l x true (f ∷ fs) e = subst (λ (o : Option Instr). IsFor x.op (instr_action p l f fs o)) (sym e) (op_for p f.registers (local_region l) l.halfway (length (f ∷ fs)) (total (f ∷ fs)) x.block.0 x.op)
+frames_for p l x true (f ∷ fs) e = subst (λ (o : Option Instr). IsFor x.op (instr_action p l f fs o)) (sym e)
+    (op_for p f.registers (local_region l) l.halfway (length (f ∷ fs)) (total (f ∷ fs)) x.block.0 x.op)
 
 next_for : (p : NumberedProgram) (s : State) (t : ℕ) (x : Instr) → slice_get p.instrs (instr_of s t) ≡ Some x → IsFor x.op (next_of p s t)
 unfolding next_of next instr_of id_of
@@ -139,13 +141,15 @@ inner_counted : (n : ℕ) (k : StepKind) → IsInnerKind k → IsCounted n k
 inner_counted n (kinds.Event e) h = absurd h
 inner_counted n k h = tt
 
-told_writing : (gated : List InstrId) (p : NumberedProgram) (s : State) (t : ℕ) (ns : List ℕ) (a n : ℕ) (o : Op) (action : Action) → IsFor o action → IsWriting o (kind_told gated p s t ns a n action)
+told_writing : (gated : List InstrId) (p : NumberedProgram) (s : State) (t : ℕ) (ns : List ℕ) (a n : ℕ) (o : Op) (action : Action) → IsFor o action
+    → IsWriting o (kind_told gated p s t ns a n action)
 told_writing gated p s t ns a n o actions.Local h = inner_writing o (kind_told gated p s t ns a n actions.Local) (kind_inner gated p s t ns a n actions.Local tt)
 told_writing gated p s t ns a n o (actions.Load r) h = load_for o _ h
 told_writing gated p s t ns a n o (actions.Store r m) h = store_for o _ refl
 told_writing gated p s t ns a n o action h = tt
 
-told_counted : (gated : List InstrId) (p : NumberedProgram) (s : State) (t : ℕ) (ns : List ℕ) (a n : ℕ) (action : Action) → IsCounted (length s.sync.threads) (kind_told gated p s t ns a n action)
+told_counted : (gated : List InstrId) (p : NumberedProgram) (s : State) (t : ℕ) (ns : List ℕ) (a n : ℕ) (action : Action)
+    → IsCounted (length s.sync.threads) (kind_told gated p s t ns a n action)
 told_counted gated p s t ns a n actions.Local = inner_counted (length s.sync.threads) (kind_told gated p s t ns a n actions.Local) (kind_inner gated p s t ns a n actions.Local tt)
 told_counted gated p s t ns a n (actions.Event (requests.Create r f m)) = refl
 told_counted gated p s t ns a n (actions.Event r) = tt
@@ -158,22 +162,26 @@ module _ (p : NumberedProgram) (d : Taken) (n : ℕ) (m : Moment) (region : Opti
   abbrev pub may_write : StepKind → ℕ → Bool
   may_write k c = if nat_lt c MEMORY_BYTES then list_any (λ f. is_written_in f c) (access_touch d n (access_in k) ++ []) else is_thread (word_written (thread_in m) k) (c - MEMORY_BYTES)
 
-  store_bytes : (a : Access) (c : ℕ) (x y w : Bool) (sh : Shadow) (bytes : ℕ → Shadow) → ((w && is_in (range_touched (y || x) a) c) || false) ≡ false → w ≡ true → (if x || y then stored (range_of a) sh bytes else spoiled (frame_of a.pointer) (Exact n) bytes) c ≡ bytes c
+  store_bytes : (a : Access) (c : ℕ) (x y w : Bool) (sh : Shadow) (bytes : ℕ → Shadow) → ((w && is_in (range_touched (y || x) a) c) || false) ≡ false → w ≡ true
+      → (if x || y then stored (range_of a) sh bytes else spoiled (frame_of a.pointer) (Exact n) bytes) c ≡ bytes c
   store_bytes a c x y false sh bytes h e = absurd (true≢false (sym e))
   store_bytes a c true true true sh bytes h e = outside (is_in (range_of a) c) _ _ (no_or (is_in (range_of a) c) h)
   store_bytes a c true false true sh bytes h e = outside (is_in (range_of a) c) _ _ (no_or (is_in (range_of a) c) h)
   store_bytes a c false true true sh bytes h e = outside (is_in (range_of a) c) _ _ (no_or (is_in (range_of a) c) h)
   store_bytes a c false false true sh bytes h e = outside (is_in (frame_of a.pointer) c) _ _ (no_or (is_in (frame_of a.pointer) c) h)
 
-  access_bytes : (a : Access) (c : ℕ) (rs : List Shadow) (o : Op) (bytes : ℕ → Shadow) → IsStoreWriting o a → list_any (λ f. is_written_in f c) (access_touch d n (Some a) ++ []) ≡ false → bytes_stored p (d.exact n || a.event) n a rs o bytes c ≡ bytes c
+  access_bytes : (a : Access) (c : ℕ) (rs : List Shadow) (o : Op) (bytes : ℕ → Shadow) → IsStoreWriting o a
+      → list_any (λ f. is_written_in f c) (access_touch d n (Some a) ++ []) ≡ false → bytes_stored p (d.exact n || a.event) n a rs o bytes c ≡ bytes c
   access_bytes a c rs (op.Store w v at) bytes e h = store_bytes a c (d.exact n) a.event a.writes _ bytes h e
   access_bytes a c rs o bytes e h = refl
 
-  event_bytes : (e : Event) (c : ℕ) (w : Option Write) (words : List Shadow) (bytes : ℕ → Shadow) → list_any (λ f. is_written_in f c) (access_touch d n (access_by w) ++ []) ≡ false → bytes_by e w words bytes c ≡ bytes c
+  event_bytes : (e : Event) (c : ℕ) (w : Option Write) (words : List Shadow) (bytes : ℕ → Shadow) → list_any (λ f. is_written_in f c) (access_touch d n (access_by w) ++ []) ≡ false
+      → bytes_by e w words bytes c ≡ bytes c
   event_bytes e c None words bytes h = refl
   event_bytes e c (Some w) words bytes h = outside (is_in (range_of (write_by w)) c) _ _ (no_or (is_in (range_of (write_by w)) c) h)
 
-  event_words : (e : Event) (i : ℕ) (k : TurnKind) (rs : List Shadow) (o : Op) (words : List Shadow) → is_counted (length words) e k → is_thread (event_word_written (thread_in m) e k) i ≡ false →
+  event_words : (e : Event) (i : ℕ) (k : TurnKind) (rs : List Shadow) (o : Op) (words : List Shadow) → is_counted (length words) e k
+      → is_thread (event_word_written (thread_in m) e k) i ≡ false →
       slice_index_or (words_after p (thread_in m) k rs o words) i (always 0) ≡ slice_index_or words i (always 0)
   event_words e i turns.Exit rs o words q h = word_other words (thread_in m) i _ _ (apart (thread_in m) i h)
   event_words e i turns.Create rs o words q h = word_older words i _ _ (λ z. apart e.object i h (q ∙ z))
@@ -184,8 +192,10 @@ module _ (p : NumberedProgram) (d : Taken) (n : ℕ) (m : Moment) (region : Opti
   freed_bytes false None bytes h = refl
   freed_bytes false (Some r) bytes h = absurd (true≢false h)
 
-  cells_by : (z : RunShadow) (k : StepKind) (c : ℕ) → may_write k c ≡ false → (list_any (λ f. is_written_in f c) (access_touch d n (access_in k) ++ []) ≡ false → z.bytes c ≡ s.bytes c) →
-      (is_thread (word_written (thread_in m) k) (c - MEMORY_BYTES) ≡ false → slice_index_or z.words (c - MEMORY_BYTES) (always 0) ≡ slice_index_or s.words (c - MEMORY_BYTES) (always 0)) → cell_known z c ≡ cell_known s c
+  cells_by : (z : RunShadow) (k : StepKind) (c : ℕ) → may_write k c ≡ false
+      → (list_any (λ f. is_written_in f c) (access_touch d n (access_in k) ++ []) ≡ false → z.bytes c ≡ s.bytes c) →
+      (is_thread (word_written (thread_in m) k) (c - MEMORY_BYTES) ≡ false → slice_index_or z.words (c - MEMORY_BYTES) (always 0) ≡ slice_index_or s.words (c - MEMORY_BYTES) (always 0))
+      → cell_known z c ≡ cell_known s c
   cells_by z k c h bytes words = go (nat_lt c MEMORY_BYTES) h
     where
       go : (b : Bool) → (if b then list_any (λ f. is_written_in f c) (access_touch d n (access_in k) ++ []) else is_thread (word_written (thread_in m) k) (c - MEMORY_BYTES)) ≡ false →
@@ -193,12 +203,17 @@ module _ (p : NumberedProgram) (d : Taken) (n : ℕ) (m : Moment) (region : Opti
       go true e = bytes e
       go false e = words e
 
-  pub live_cells : (x : Instr) (k : StepKind) → IsWriting x.op k → IsCounted (length s.words) k → (has_region region && not (d.pinned n)) ≡ false → (c : ℕ) → may_write k c ≡ false → cell_known (live_by p d n m region x k s) c ≡ cell_known s c
+  pub live_cells : (x : Instr) (k : StepKind) → IsWriting x.op k → IsCounted (length s.words) k → (has_region region && not (d.pinned n)) ≡ false → (c : ℕ) → may_write k c ≡ false
+      → cell_known (live_by p d n m region x k s) c ≡ cell_known s c
   live_cells x (kinds.Access a) w q f c h = cells_by (live_by p d n m region x (kinds.Access a) s) (kinds.Access a) c h (access_bytes a c _ x.op s.bytes w) (λ z. refl)
-  live_cells x (kinds.Event e) w q f c h = cells_by (live_by p d n m region x (kinds.Event e) s) (kinds.Event e) c h (event_bytes e c e.write s.words s.bytes) (event_words e (c - MEMORY_BYTES) e.kind _ x.op s.words q)
-  live_cells x kinds.Other w q f c h = cells_by (live_by p d n m region x kinds.Other s) kinds.Other c h (λ z. ap (λ (g : ℕ → Shadow). g c) (freed_bytes (d.pinned n) region s.bytes f)) (λ z. refl)
-  live_cells x (kinds.Branch b) w q f c h = cells_by (live_by p d n m region x (kinds.Branch b) s) (kinds.Branch b) c h (λ z. ap (λ (g : ℕ → Shadow). g c) (freed_bytes (d.pinned n) region s.bytes f)) (λ z. refl)
-  live_cells x (kinds.Allocation a b) w q f c h = cells_by (live_by p d n m region x (kinds.Allocation a b) s) (kinds.Allocation a b) c h (λ z. ap (λ (g : ℕ → Shadow). g c) (freed_bytes (d.pinned n) region s.bytes f)) (λ z. refl)
+  live_cells x (kinds.Event e) w q f c h = cells_by (live_by p d n m region x (kinds.Event e) s) (kinds.Event e) c h (event_bytes e c e.write s.words s.bytes)
+      (event_words e (c - MEMORY_BYTES) e.kind _ x.op s.words q)
+  live_cells x kinds.Other w q f c h = cells_by (live_by p d n m region x kinds.Other s) kinds.Other c h (λ z. ap (λ (g : ℕ → Shadow). g c) (freed_bytes (d.pinned n) region s.bytes f))
+      (λ z. refl)
+  live_cells x (kinds.Branch b) w q f c h = cells_by (live_by p d n m region x (kinds.Branch b) s) (kinds.Branch b) c h
+      (λ z. ap (λ (g : ℕ → Shadow). g c) (freed_bytes (d.pinned n) region s.bytes f)) (λ z. refl)
+  live_cells x (kinds.Allocation a b) w q f c h = cells_by (live_by p d n m region x (kinds.Allocation a b) s) (kinds.Allocation a b) c h
+      (λ z. ap (λ (g : ℕ → Shadow). g c) (freed_bytes (d.pinned n) region s.bytes f)) (λ z. refl)
 
 module _ (R : Reference) (d : Taken) (n : ℕ) (m : Moment) (known : RunShadow) (gated : List InstrId) (input : List ℤ) (s : State) (h : Takes gated R.program input s m.did.did) where
   abbrev region : Option FreeRegion
@@ -228,5 +243,7 @@ module _ (R : Reference) (d : Taken) (n : ℕ) (m : Moment) (known : RunShadow) 
       go : (o : Option Instr) → instr_in R.program m ≡ o → cell_known (live_after R.program d n m region o known) c ≡ cell_known known c
       go None e = refl
       go (Some x) e = live_cells R.program d n m region known x m.did.did.kind
-          (subst (IsWriting x.op) (sym kind_is) (told_writing gated R.program s (thread_in m) ns answer number x.op (next_of R.program s (thread_in m)) (next_for R.program s (thread_in m) x (sym here ∙ e))))
-          (subst (λ (i : ℕ). IsCounted i m.did.did.kind) threads (subst (IsCounted (length s.sync.threads)) (sym kind_is) (told_counted gated R.program s (thread_in m) ns answer number (next_of R.program s (thread_in m))))) plain c w
+          (subst (IsWriting x.op) (sym kind_is) (told_writing gated R.program s (thread_in m) ns answer number x.op (next_of R.program s (thread_in m))
+          (next_for R.program s (thread_in m) x (sym here ∙ e))))
+          (subst (λ (i : ℕ). IsCounted i m.did.did.kind) threads
+          (subst (IsCounted (length s.sync.threads)) (sym kind_is) (told_counted gated R.program s (thread_in m) ns answer number (next_of R.program s (thread_in m))))) plain c w

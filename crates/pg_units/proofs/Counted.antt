@@ -22,17 +22,22 @@ module _ (r : ReferenceRun) (d : Taken) where
   met_turns k [] = k
   met_turns k (m ∷ ms) = met_turns (done_after (is_event_at m.seen) k) ms
 
-  unit_turns : (T : List ℕ) (k : ℕ) (last : State) (counts : ℕ → ℕ) (ms : List Met) → AreTimed T k ms → turns_done deeds k (map (deed_of d) (units_from r d last counts ms)) ≡ met_turns k ms
+  unit_turns : (T : List ℕ) (k : ℕ) (last : State) (counts : ℕ → ℕ) (ms : List Met) → AreTimed T k ms
+      → turns_done deeds k (map (deed_of d) (units_from r d last counts ms)) ≡ met_turns k ms
   unfolding units_from
   unit_turns T k last counts [] h = refl
   unit_turns T k last counts (m ∷ ms) h = go m.seen.live refl (λ counts. unit_turns T (done_after (is_event_at m.seen) k) last counts ms h.1)
     where
-      go : (b : Bool) → m.seen.live ≡ b → ((counts : ℕ → ℕ) → turns_done deeds (done_after (is_event_at m.seen) k) (map (deed_of d) (units_from r d last counts ms)) ≡ met_turns (done_after (is_event_at m.seen) k) ms) →
-          turns_done deeds k (map (deed_of d) (if b then unit_of r d last counts m ms ∷ units_from r d last (one_more (thread_in m.seen.moment) counts) ms else units_from r d last counts ms)) ≡ met_turns (done_after (is_event_at m.seen) k) ms
-      go true e more = ap (λ (b : Bool). turns_done deeds (done_after b k) (map (deed_of d) (units_from r d last (one_more (thread_in m.seen.moment) counts) ms))) (deed_event r d (unit_of r d last counts m ms)) ∙ more (one_more (thread_in m.seen.moment) counts)
+      go : (b : Bool) → m.seen.live ≡ b → ((counts : ℕ → ℕ)
+          → turns_done deeds (done_after (is_event_at m.seen) k) (map (deed_of d) (units_from r d last counts ms)) ≡ met_turns (done_after (is_event_at m.seen) k) ms) →
+          turns_done deeds k (map (deed_of d) (if b then unit_of r d last counts m ms ∷ units_from r d last (one_more (thread_in m.seen.moment) counts) ms else units_from r d last counts ms))
+          ≡ met_turns (done_after (is_event_at m.seen) k) ms
+      go true e more = ap (λ (b : Bool). turns_done deeds (done_after b k) (map (deed_of d) (units_from r d last (one_more (thread_in m.seen.moment) counts) ms)))
+          (deed_event r d (unit_of r d last counts m ms)) ∙ more (one_more (thread_in m.seen.moment) counts)
       go false e more = ap (λ (b : Bool). turns_done deeds (done_after b k) (map (deed_of d) (units_from r d last counts ms))) (sym (h.0.plain e)) ∙ more counts
 
-  step_turns : (T : List ℕ) (k j n : ℕ) (known : RunShadow) (s : State) (xs : List Step) → met_turns k (met_with (seen_from (reference_of r) d n known (moments_from r.gated r.program r.input s (times recorded T j xs))) (states_from r s xs)) ≡ turns_done recorded k xs
+  step_turns : (T : List ℕ) (k j n : ℕ) (known : RunShadow) (s : State) (xs : List Step)
+      → met_turns k (met_with (seen_from (reference_of r) d n known (moments_from r.gated r.program r.input s (times recorded T j xs))) (states_from r s xs)) ≡ turns_done recorded k xs
   unfolding seen_from moments_from states_from
   step_turns T k j n known s [] = refl
   step_turns T k j n known s (x ∷ xs) = step_turns T (done_after (recorded.is_event x) k) (done_after (recorded.is_event x) j) (suc n) _ (behind r s x.thread.0) xs

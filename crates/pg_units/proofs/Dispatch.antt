@@ -29,13 +29,15 @@ use Rattle.pg_units.proofs.Loads.{load_fits}
 use Rattle.pg_units.proofs.Stores.{store_fits}
 use Rattle.pg_units.proofs.Threads.{create_fits, join_fits}
 
-module _ (r : ReferenceRun) (d : Taken) (input : List ℤ) (program : IsProgram r.program) (small : length input < 2 ^ 64) (u : PlanUnit) (st : State) (moves : ℕ → ℕ) (y : Step) (q : Pair r d input u st moves y)
+module _ (r : ReferenceRun) (d : Taken) (input : List ℤ) (program : IsProgram r.program) (small : length input < 2 ^ 64) (u : PlanUnit) (st : State) (moves : ℕ → ℕ) (y : Step)
+    (q : Pair r d input u st moves y)
     (good : IsGood (reference_of r) d input u.seen) (objects : is_event_at u.seen ≡ true → objects_of u.state ≡ objects_of st) (words : length u.seen.before.words ≡ length u.state.locals)
     (cells : (c : ℕ) → reads_cell d u.seen c ≡ true → IsCellLike input (cell_known u.seen.before c) (cell_at st c)) where
   abbrev Here : Type 0
   Here = Fits (like input) (deed_of d u) (deed_moved r.program input st moves y)
 
-  object : (k : KnownFunction) (args : List Value) → q.both.x.op ≡ op.CallKnown k args → Rattle.pg_units.proofs.Shapes.names_object k ≡ true → Rattle.pg_units.proofs.Requests.is_checked k ≡ true → Fits (like input) (deed_of d u) (deed_moved r.program input st moves y)
+  object : (k : KnownFunction) (args : List Value) → q.both.x.op ≡ op.CallKnown k args → Rattle.pg_units.proofs.Shapes.names_object k ≡ true
+      → Rattle.pg_units.proofs.Requests.is_checked k ≡ true → Fits (like input) (deed_of d u) (deed_moved r.program input st moves y)
   object k args e a b = object_fits r d input program u st moves y q good objects k args e a b
 
   known_fits : (k : KnownFunction) (args : List Value) → q.both.x.op ≡ op.CallKnown k args → Fits (like input) (deed_of d u) (deed_moved r.program input st moves y)
@@ -62,7 +64,8 @@ module _ (r : ReferenceRun) (d : Taken) (input : List ℤ) (program : IsProgram 
   known_fits known.PthreadBarrierWait args e = object known.PthreadBarrierWait args e refl refl
   known_fits known.PthreadBarrierDestroy args e = object known.PthreadBarrierDestroy args e refl refl
 
-  returns : (v : Option Value) → q.both.x.op ≡ op.Ret v → (b : Bool) → (length (q.both.f0 ∷ q.both.fs0) == 1) ≡ b → Fits (like input) (deed_of d u) (deed_moved r.program input st moves y)
+  returns : (v : Option Value) → q.both.x.op ≡ op.Ret v → (b : Bool) → (length (q.both.f0 ∷ q.both.fs0) == 1) ≡ b
+      → Fits (like input) (deed_of d u) (deed_moved r.program input st moves y)
   returns v e true h = ret_exit_fits r d input program u st moves y q good objects words v e h
   returns v e false h = ret_fits r d input program u st moves y q v e h
 

@@ -87,18 +87,24 @@ module _ (gated : List InstrId) (id : ℕ) where
   returning_so p rs depth None = return_so depth 0
   returning_so p rs depth (Some v) = on_value_is (IsSo (depth == 1)) (operand p rs v) _ (λ z c. absurd c) (λ n e. return_so depth n)
 
-  op_so : (p : NumberedProgram) (r : Region) (h : Bool) (rs : List (Option ℕ)) (depth used block : ℕ) (o : Op) → IsSo (op_asks (is_gated gated id) depth o) (op_action p r h rs depth used block o)
-  op_so p r h rs depth used block (op.Divide d w a b) = on_value_is (IsSo false) (operand p rs a) _ (λ z c. absurd c) (λ m e. on_value_is (IsSo false) (operand p rs b) _ (λ z c. absurd c) (λ n f. divided_is (IsSo false) (divided d w m n) (λ z c. absurd c) (λ c. refl)))
+  op_so : (p : NumberedProgram) (r : Region) (h : Bool) (rs : List (Option ℕ)) (depth used block : ℕ) (o : Op)
+      → IsSo (op_asks (is_gated gated id) depth o) (op_action p r h rs depth used block o)
+  op_so p r h rs depth used block (op.Divide d w a b) = on_value_is (IsSo false) (operand p rs a) _ (λ z c. absurd c)
+      (λ m e. on_value_is (IsSo false) (operand p rs b) _ (λ z c. absurd c) (λ n f. divided_is (IsSo false) (divided d w m n) (λ z c. absurd c) (λ c. refl)))
   op_so p r h rs depth used block (op.Phi from) = λ c. refl
   op_so p r h rs depth used block (op.Br to) = edge_is (IsSo false) p rs block to.0 (λ z c. absurd c) (λ c. refl)
-  op_so p r h rs depth used block (op.CondBr v a b) = on_value_is (IsSo false) (operand p rs v) _ (λ z c. absurd c) (λ n e. edge_is (IsSo false) p rs block (chosen n a.0 b.0) (λ z c. absurd c) (λ c. refl))
-  op_so p r h rs depth used block (op.Switch w on other cases) = on_value_is (IsSo false) (operand p rs on) _ (λ z c. absurd c) (λ n e. edge_is (IsSo false) p rs block (case_of cases other.0 n) (λ z c. absurd c) (λ c. refl))
+  op_so p r h rs depth used block (op.CondBr v a b) = on_value_is (IsSo false) (operand p rs v) _ (λ z c. absurd c)
+      (λ n e. edge_is (IsSo false) p rs block (chosen n a.0 b.0) (λ z c. absurd c) (λ c. refl))
+  op_so p r h rs depth used block (op.Switch w on other cases) = on_value_is (IsSo false) (operand p rs on) _ (λ z c. absurd c)
+      (λ n e. edge_is (IsSo false) p rs block (case_of cases other.0 n) (λ z c. absurd c) (λ c. refl))
   op_so p r h rs depth used block (op.Call g args) = on_all_is (IsSo false) p rs args _ (λ z c. absurd c) (call_is (IsSo false) p g depth used (λ z c. absurd c) (λ c. refl))
   op_so p r h rs depth used block (op.Ret v) = returning_so p rs depth v
   op_so p r h rs depth used block op.Unreachable = λ c. refl
   op_so p r h rs depth used block (op.Alloca bytes) = room_is (IsSo false) (has_room r (granules_for bytes)) (λ z c. absurd c) (λ c. refl)
-  op_so p r h rs depth used block (op.Load w from) = on_value_is (IsSo (is_gated gated id)) (operand p rs from) _ (λ z c. absurd c) (λ a e. on_place_is (IsSo (is_gated gated id)) a (bytes_of w) _ (λ z c. absurd c) (λ q k c. refl))
-  op_so p r h rs depth used block (op.Store w v at) = on_value_is (IsSo (is_gated gated id)) (operand p rs v) _ (λ z c. absurd c) (λ n e. on_value_is (IsSo (is_gated gated id)) (operand p rs at) _ (λ z c. absurd c) (λ a f. on_place_is (IsSo (is_gated gated id)) a (bytes_of w) _ (λ z c. absurd c) (λ q k c. refl)))
+  op_so p r h rs depth used block (op.Load w from) = on_value_is (IsSo (is_gated gated id)) (operand p rs from) _ (λ z c. absurd c)
+      (λ a e. on_place_is (IsSo (is_gated gated id)) a (bytes_of w) _ (λ z c. absurd c) (λ q k c. refl))
+  op_so p r h rs depth used block (op.Store w v at) = on_value_is (IsSo (is_gated gated id)) (operand p rs v) _ (λ z c. absurd c)
+      (λ n e. on_value_is (IsSo (is_gated gated id)) (operand p rs at) _ (λ z c. absurd c) (λ a f. on_place_is (IsSo (is_gated gated id)) a (bytes_of w) _ (λ z c. absurd c) (λ q k c. refl)))
   op_so p r h rs depth used block (op.CallKnown k args) = known_so p r.thread h rs k args
   op_so p r h rs depth used block o = on_all_is (IsSo false) p rs (Rattle.pg_step.specs.Operands.operands_of o) _ (λ z c. absurd c) (λ c. refl)
 

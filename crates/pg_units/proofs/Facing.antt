@@ -41,7 +41,8 @@ use Rattle.pg_units.proofs.Opened.{Both}
 use Rattle.pg_units.proofs.Requests.{given_args}
 use Rattle.pg_units.proofs.Shapes.{is_start, needs_event}
 
-module _ (r : ReferenceRun) (d : Taken) (input : List ℤ) (u : PlanUnit) (st : State) (unit : IsUnit r d u) (b : Both r.program input (thread_in u.seen.moment) u.state st (thread_of u.seen.before (thread_in u.seen.moment)).calls)
+module _ (r : ReferenceRun) (d : Taken) (input : List ℤ) (u : PlanUnit) (st : State) (unit : IsUnit r d u)
+    (b : Both r.program input (thread_in u.seen.moment) u.state st (thread_of u.seen.before (thread_in u.seen.moment)).calls)
     (good : IsGood (reference_of r) d input u.seen) where
   abbrev l0 : LocalState
   l0 = running (thread_in u.seen.moment) b.h b.f0 b.fs0 b.n
@@ -65,7 +66,8 @@ module _ (r : ReferenceRun) (d : Taken) (input : List ℤ) (u : PlanUnit) (st : 
   can0_at o e = meeting.can0_at r d input u.seen u.state st unit.met b o e
 
   needs_here : (k : StepKind) → kind_in u.seen ≡ k → value_needs (reference_of r) d u.seen ≡ value_needs_by r.program d u.seen b.x k
-  needs_here k e = ap (value_needs_in r.program d u.seen) (meeting.instr_is r d input u.seen u.state st unit.met b) ∙ ap (λ (c : Bool). if c then value_needs_by r.program d u.seen b.x (kind_in u.seen) else []) unit.live ∙ ap (value_needs_by r.program d u.seen b.x) e
+  needs_here k e = ap (value_needs_in r.program d u.seen) (meeting.instr_is r d input u.seen u.state st unit.met b)
+      ∙ ap (λ (c : Bool). if c then value_needs_by r.program d u.seen b.x (kind_in u.seen) else []) unit.live ∙ ap (value_needs_by r.program d u.seen b.x) e
 
   kind0_is : (r0 : Request) → next_of r.program u.state (thread_in u.seen.moment) ≡ actions.Event r0 → kind_in u.seen ≡ event_told u.state (thread_in u.seen.moment) numbers0 reply0 r0
   kind0_is r0 e =
@@ -77,11 +79,18 @@ module _ (r : ReferenceRun) (d : Taken) (input : List ℤ) (u : PlanUnit) (st : 
 
   -- ---- operands that are checked are the recorded ones
 
-  pub checked_same : (k : KnownFunction) (args : List Value) → b.x.op ≡ op.CallKnown k args → (r0 : Request) → next_of r.program u.state (thread_in u.seen.moment) ≡ actions.Event r0 → is_start (kind_of r0) ≡ false →
+  pub checked_same : (k : KnownFunction) (args : List Value) → b.x.op ≡ op.CallKnown k args → (r0 : Request) → next_of r.program u.state (thread_in u.seen.moment) ≡ actions.Event r0
+      → is_start (kind_of r0) ≡ false →
       AllOf (λ (i : ℕ). argument r.program b.f.registers args i ≡ argument r.program b.f0.registers args i) (checked k)
   checked_same k args e r0 act0 start =
       let p = r.program in
-      let ev : Event = record { kind = kind_of r0; object = object_of (thread_in u.seen.moment) (length u.state.sync.threads) r0; operands = numbers0; reply = reply0; write = write_told u.state numbers0 r0 } in
+      let ev : Event = record {
+        kind = kind_of r0;
+        object = object_of (thread_in u.seen.moment) (length u.state.sync.threads) r0;
+        operands = numbers0;
+        reply = reply0;
+        write = write_told u.state numbers0 r0;
+      } in
       let needs : value_needs (reference_of r) d u.seen ≡ map (equal_to p u.seen b.x ev) (checked k) =
       needs_here (kinds.Event ev) (kind0_is r0 act0) ∙ needs_event p u.seen b.x ev (kind_of r0) start ∙ ap (λ (z : Op). map (equal_to p u.seen b.x ev) (checked_of z)) e in
       each (checked k) (given_args p (thread_in u.seen.moment) b.h b.f0.registers args k (can0_at (op.CallKnown k args) e)) (subst (AllOf (Holds input)) needs good.values) (small k)
@@ -114,10 +123,12 @@ module _ (r : ReferenceRun) (d : Taken) (input : List ℤ) (u : PlanUnit) (st : 
           pick (suc (suc zero)) h = refl
           pick (suc (suc (suc i))) h = let lt = ltb-true (suc (suc (suc i))) 3 h in absurd (omega (arith, lt))
 
-      one : (i : ℕ) → nat_lt i 3 ≡ true → (n : ℕ) → argument r.program b.f0.registers args i ≡ Some n → (f : OnInput) → value_of (operand_of r.program u.seen b.x i) ≡ Some f → is_met (test.Eq (slice_index numbers0 i)) (f input) ≡ true → argument r.program b.f.registers args i ≡ argument r.program b.f0.registers args i
+      one : (i : ℕ) → nat_lt i 3 ≡ true → (n : ℕ) → argument r.program b.f0.registers args i ≡ Some n → (f : OnInput) → value_of (operand_of r.program u.seen b.x i) ≡ Some f
+          → is_met (test.Eq (slice_index numbers0 i)) (f input) ≡ true → argument r.program b.f.registers args i ≡ argument r.program b.f0.registers args i
       one i s n g f k m =
           let shadow : slice_index_or (map (shadow_of r.program b.ks) args) i unset ≡ operand_of r.program u.seen b.x i =
-          ap (λ (ss : List Shadow). operand_at r.program ss (op.CallKnown known.PgIn args) i) (sym (meeting.top_known r d input u.seen u.state st unit.met b)) ∙ sym (ap (λ (z : Op). slice_index_or (map (shadow_of r.program (registers_before u.seen)) (operands_of z)) i unset) e) in
+          ap (λ (ss : List Shadow). operand_at r.program ss (op.CallKnown known.PgIn args) i) (sym (meeting.top_known r d input u.seen u.state st unit.met b))
+          ∙ sym (ap (λ (z : Op). slice_index_or (map (shadow_of r.program (registers_before u.seen)) (operands_of z)) i unset) e) in
           let v : argument r.program b.f.registers args i ≡ f input = like_value input (operand_of r.program u.seen b.x i) f (argument r.program b.f.registers args i) k
           (subst (λ (z : Shadow). IsLike input z (argument r.program b.f.registers args i)) shadow (argument_like input r.program b.ks b.f.registers b.top.registers args i)) in
           v ∙ met (f input) m ∙ sym g
@@ -127,7 +138,14 @@ module _ (r : ReferenceRun) (d : Taken) (input : List ℤ) (u : PlanUnit) (st : 
           met (Some z) h = ap Some (eq_met (slice_index numbers0 i) z h ∙ number_of i s ∙ ap given g)
 
       each : (is : List ℕ) → AllOf (λ (i : ℕ). (n : ℕ) × (argument r.program b.f0.registers args i ≡ Some n)) is →
-          AllOf (Holds input) (map (equal_to r.program u.seen b.x (record { kind = kind_of r0; object = object_of (thread_in u.seen.moment) (length u.state.sync.threads) r0; operands = numbers0; reply = reply0; write = write_told u.state numbers0 r0 })) is) →
+          AllOf (Holds input) (map (equal_to r.program u.seen b.x
+          (record {
+            kind = kind_of r0;
+            object = object_of (thread_in u.seen.moment) (length u.state.sync.threads) r0;
+            operands = numbers0;
+            reply = reply0;
+            write = write_told u.state numbers0 r0;
+          })) is) →
           AllOf (λ (i : ℕ). nat_lt i 3 ≡ true) is → AllOf (λ (i : ℕ). argument r.program b.f.registers args i ≡ argument r.program b.f0.registers args i) is
       each [] g h s = tt
       each (i ∷ is) g h s = (one i s.0 g.0.0 g.0.1 h.0.0 h.0.1 h.0.2.0, each is g.1 h.1 s.1)

@@ -1,5 +1,6 @@
 -- What a step changes of the extents that are open, and what a branch step that is left free changes of what is known.
-use Rattle.std.proofs.Common.{◌≡◌, ◌≢◌, ℕ, ◌-◌, ◌&&◌, ◌||◌, zero, suc, not, Bool, true, false, cond, List, [], ◌∷◌, ◌++◌, length, map, Option, Some, None, refl, sym, ap, ◌∙◌, subst}
+use Rattle.std.proofs.Common.{◌≡◌, ◌≢◌, ℕ, ◌-◌, ◌&&◌, ◌||◌, zero, suc, not, Bool, true, false, cond, List, [], ◌∷◌, ◌++◌, length, map, Option, Some, None}
+use Rattle.std.proofs.Common.{refl, sym, ap, ◌∙◌, subst}
 use Rattle.std.specs.Prelude.{filter, nat_lt, slice_index_or, slice_set, if◌then◌else◌}
 use Rattle.std.specs.List.{list_all, list_any}
 use Rattle.std.proofs.lemmas.Bool.{and_from, and_parts, true≢false}
@@ -17,7 +18,8 @@ use Rattle.pg_closed.specs.declared.decision.Decision.{Decision}
 use Rattle.pg_closed.specs.declared.decision.Decision.TheVariants.{Pinned}
 use Rattle.pg_closed.specs.Extents.{Extent, begun, ends, is_live, open_after}
 use Rattle.pg_closed.specs.Freeable.{FreeAccess, FreeRegion, frame_of, region_at}
-use Rattle.pg_closed.specs.Known.{Reference, RunShadow, Seen, Taken, ThreadShadow, after_step, bytes_freed, edge_of, forgotten_bytes, fresh_thread, is_branch, live_after, live_by, no_thread, region_of, thread_of, threads_after, with_extents}
+use Rattle.pg_closed.specs.Known.{Reference, RunShadow, Seen, Taken, ThreadShadow, after_step, bytes_freed, edge_of, forgotten_bytes, fresh_thread, is_branch, live_after, live_by, no_thread}
+use Rattle.pg_closed.specs.Known.{region_of, thread_of, threads_after, with_extents}
 use Rattle.pg_closed.specs.Moments.{Moment, instr_in, thread_in}
 use Rattle.pg_closed.specs.Rules.{has_region, prints_in}
 use Rattle.pg_closed.specs.Shadows.{Shadow, Unknown, always, spoiled}
@@ -60,11 +62,13 @@ push_any p f [] (suc u) = refl
 push_any p f (x ∷ xs) zero = refl
 push_any p f (x ∷ xs) (suc u) = push_any p f xs u
 
-event_other : (p : NumberedProgram) (t : ℕ) (e : Event) (k : TurnKind) (old : List ThreadShadow) (z : ThreadShadow) (u : ℕ) → u ≢ t → extents_in (threads_after p e k (slice_set old t z)) u ≡ extents_in old u
+event_other : (p : NumberedProgram) (t : ℕ) (e : Event) (k : TurnKind) (old : List ThreadShadow) (z : ThreadShadow) (u : ℕ) → u ≢ t
+    → extents_in (threads_after p e k (slice_set old t z)) u ≡ extents_in old u
 event_other p t e turns.Create old z u h = push_any p _ (slice_set old t z) u ∙ set_other old t u z h
 event_other p t e k old z u h = set_other old t u z h
 
-live_other : (p : NumberedProgram) (d : Taken) (n : ℕ) (m : Moment) (region : Option FreeRegion) (x : Instr) (k : StepKind) (s : RunShadow) (u : ℕ) → u ≢ thread_in m → extents_in (live_by p d n m region x k s).threads u ≡ extents_in s.threads u
+live_other : (p : NumberedProgram) (d : Taken) (n : ℕ) (m : Moment) (region : Option FreeRegion) (x : Instr) (k : StepKind) (s : RunShadow) (u : ℕ) → u ≢ thread_in m
+    → extents_in (live_by p d n m region x k s).threads u ≡ extents_in s.threads u
 live_other p d n m region x (kinds.Event e) s u h = event_other p (thread_in m) e e.kind s.threads _ u h
 live_other p d n m region x (kinds.Access a) s u h = set_other s.threads (thread_in m) u _ h
 live_other p d n m region x kinds.Other s u h = set_other s.threads (thread_in m) u _ h
@@ -77,7 +81,8 @@ own_live pinned [] t es h = refl
 own_live pinned (x ∷ xs) zero es h = h
 own_live pinned (x ∷ xs) (suc t) es h = own_live pinned xs t es h
 
-begun_live : (pinned : ℕ → Bool) (n depth : ℕ) (region : Option FreeRegion) (es : List Extent) → (has_region region && not (pinned n)) ≡ false → is_live pinned es ≡ true → is_live pinned (begun n depth region es) ≡ true
+begun_live : (pinned : ℕ → Bool) (n depth : ℕ) (region : Option FreeRegion) (es : List Extent) → (has_region region && not (pinned n)) ≡ false → is_live pinned es ≡ true
+    → is_live pinned (begun n depth region es) ≡ true
 begun_live pinned n depth None es f h = h
 begun_live pinned n depth (Some r) es f h = and_from (pinned n) (is_live pinned es) (go (pinned n) f) h
   where
@@ -102,9 +107,11 @@ module _ (R : Reference) (d : Taken) (n : ℕ) (m : Moment) (known : RunShadow) 
       go false = refl
 
   -- behind a live step that isn't left free its thread's next step is live
-  pub live_behind : is_live d.pinned (thread_of known (thread_in m)).extents ≡ true → (has_region region && not (d.pinned n)) ≡ false → is_live d.pinned (thread_of (after_step R d n m known) (thread_in m)).extents ≡ true
+  pub live_behind : is_live d.pinned (thread_of known (thread_in m)).extents ≡ true → (has_region region && not (d.pinned n)) ≡ false
+      → is_live d.pinned (thread_of (after_step R d n m known) (thread_in m)).extents ≡ true
   live_behind h f = own_live d.pinned _ (thread_in m) _
-      (all_left (λ (e : Extent). d.pinned e.step) (λ (e : Extent). not (ends (length m.calls) (edge_of R.program m m.did.did.kind) e)) (begun n (length m.calls) region (thread_of known (thread_in m)).extents) (begun_live d.pinned n (length m.calls) region (thread_of known (thread_in m)).extents f h))
+      (all_left (λ (e : Extent). d.pinned e.step) (λ (e : Extent). not (ends (length m.calls) (edge_of R.program m m.did.did.kind) e))
+      (begun n (length m.calls) region (thread_of known (thread_in m)).extents) (begun_live d.pinned n (length m.calls) region (thread_of known (thread_in m)).extents f h))
 
 -- a step that is left out changes nothing but extents
 set_calls : (threads : List ThreadShadow) (t u : ℕ) (es : List Extent) → (slice_index_or (with_extents t es threads) u no_thread).calls ≡ (slice_index_or threads u no_thread).calls
@@ -122,14 +129,17 @@ module _ (R : Reference) (d : Taken) (n : ℕ) (m : Moment) (known : RunShadow) 
   opened = open_after n (length m.calls) here (edge_of R.program m m.did.did.kind) (thread_of known (thread_in m)).extents
 
   pub left_calls : (u : ℕ) → (thread_of (after_step R d n m known) u).calls ≡ (thread_of known u).calls
-  left_calls u = ap (λ (b : Bool). (slice_index_or (with_extents (thread_in m) opened (if b then live_after R.program d n m here (instr_in R.program m) known else known).threads) u no_thread).calls) dead ∙ set_calls known.threads (thread_in m) u opened
+  left_calls u = ap (λ (b : Bool). (slice_index_or
+      (with_extents (thread_in m) opened (if b then live_after R.program d n m here (instr_in R.program m) known else known).threads) u no_thread).calls) dead
+      ∙ set_calls known.threads (thread_in m) u opened
 
   pub left_cells : (c : ℕ) → cell_known (after_step R d n m known) c ≡ cell_known known c
   left_cells c = ap (λ (b : Bool). cell_known (if b then live_after R.program d n m here (instr_in R.program m) known else known) c) dead
 
 -- ---- bytes
 
-written_one : (a : FreeAccess) (x : Decision) (bytes : ℕ → Shadow) (c : ℕ) (w : Bool) → (w && is_in (frame_of a.at.last) c) ≡ false → (if w then spoiled (frame_of a.at.last) x bytes else bytes) c ≡ bytes c
+written_one : (a : FreeAccess) (x : Decision) (bytes : ℕ → Shadow) (c : ℕ) (w : Bool) → (w && is_in (frame_of a.at.last) c) ≡ false
+    → (if w then spoiled (frame_of a.at.last) x bytes else bytes) c ≡ bytes c
 written_one a x bytes c true h = go (is_in (frame_of a.at.last) c) h
   where
     go : (b : Bool) → b ≡ false → (if b then Unknown x else bytes c) ≡ bytes c
@@ -137,7 +147,8 @@ written_one a x bytes c true h = go (is_in (frame_of a.at.last) c) h
     go false e = refl
 written_one a x bytes c false h = refl
 
-forgotten_kept : (xs : List FreeAccess) (x : Decision) (bytes : ℕ → Shadow) (c : ℕ) → list_any (λ f. is_written_in f c) (map (λ (a : FreeAccess). record { bytes = frame_of a.at.last; writes = a.writes }) xs) ≡ false → forgotten_bytes xs x bytes c ≡ bytes c
+forgotten_kept : (xs : List FreeAccess) (x : Decision) (bytes : ℕ → Shadow) (c : ℕ)
+    → list_any (λ f. is_written_in f c) (map (λ (a : FreeAccess). record { bytes = frame_of a.at.last; writes = a.writes }) xs) ≡ false → forgotten_bytes xs x bytes c ≡ bytes c
 forgotten_kept [] x bytes c h = refl
 forgotten_kept (a ∷ xs) x bytes c h =
     let k = no_either (a.writes && is_in (frame_of a.at.last) c) _ h in
@@ -146,7 +157,8 @@ forgotten_kept (a ∷ xs) x bytes c h =
 abbrev pub IsUnknown : Shadow → Type 0
 IsUnknown s = (x : Decision) × (s ≡ Unknown x)
 
-written_unknown : (a : FreeAccess) (x : Decision) (bytes : ℕ → Shadow) (c : ℕ) (w : Bool) → (w && is_in (frame_of a.at.last) c) ≡ true → IsUnknown ((if w then spoiled (frame_of a.at.last) x bytes else bytes) c)
+written_unknown : (a : FreeAccess) (x : Decision) (bytes : ℕ → Shadow) (c : ℕ) (w : Bool) → (w && is_in (frame_of a.at.last) c) ≡ true
+    → IsUnknown ((if w then spoiled (frame_of a.at.last) x bytes else bytes) c)
 written_unknown a x bytes c true h = go (is_in (frame_of a.at.last) c) h
   where
     go : (b : Bool) → b ≡ true → IsUnknown (if b then Unknown x else bytes c)
@@ -162,12 +174,15 @@ still_unknown (a ∷ xs) x bytes c h = still_unknown xs x (if a.writes then spoi
     go true e = written_unknown a x bytes c a.writes e
     go false e = subst IsUnknown (sym (written_one a x bytes c a.writes e)) h
 
-forgotten_unknown : (xs : List FreeAccess) (x : Decision) (bytes : ℕ → Shadow) (c : ℕ) → list_any (λ f. is_written_in f c) (map (λ (a : FreeAccess). record { bytes = frame_of a.at.last; writes = a.writes }) xs) ≡ true → IsUnknown (forgotten_bytes xs x bytes c)
+forgotten_unknown : (xs : List FreeAccess) (x : Decision) (bytes : ℕ → Shadow) (c : ℕ)
+    → list_any (λ f. is_written_in f c) (map (λ (a : FreeAccess). record { bytes = frame_of a.at.last; writes = a.writes }) xs) ≡ true → IsUnknown (forgotten_bytes xs x bytes c)
 forgotten_unknown [] x bytes c h = absurd (true≢false (sym h))
 forgotten_unknown (a ∷ xs) x bytes c h = go (a.writes && is_in (frame_of a.at.last) c) refl h (forgotten_unknown xs x (if a.writes then spoiled (frame_of a.at.last) x bytes else bytes) c)
   where
-    go : (b : Bool) → (a.writes && is_in (frame_of a.at.last) c) ≡ b → (b || list_any (λ f. is_written_in f c) (map (λ (a : FreeAccess). record { bytes = frame_of a.at.last; writes = a.writes }) xs)) ≡ true →
-        (list_any (λ f. is_written_in f c) (map (λ (a : FreeAccess). record { bytes = frame_of a.at.last; writes = a.writes }) xs) ≡ true → IsUnknown (forgotten_bytes xs x (if a.writes then spoiled (frame_of a.at.last) x bytes else bytes) c)) → IsUnknown (forgotten_bytes (a ∷ xs) x bytes c)
+    go : (b : Bool) → (a.writes && is_in (frame_of a.at.last) c) ≡ b
+        → (b || list_any (λ f. is_written_in f c) (map (λ (a : FreeAccess). record { bytes = frame_of a.at.last; writes = a.writes }) xs)) ≡ true →
+        (list_any (λ f. is_written_in f c) (map (λ (a : FreeAccess). record { bytes = frame_of a.at.last; writes = a.writes }) xs) ≡ true
+        → IsUnknown (forgotten_bytes xs x (if a.writes then spoiled (frame_of a.at.last) x bytes else bytes) c)) → IsUnknown (forgotten_bytes (a ∷ xs) x bytes c)
     go true e k more = still_unknown xs x (if a.writes then spoiled (frame_of a.at.last) x bytes else bytes) c (written_unknown a x bytes c a.writes e)
     go false e k more = more k
 
@@ -208,15 +223,18 @@ is_free R d x e h =
         let w = branch_kind x.moment.did.did.kind (found j q (sym (ap (region_of R.program R.regions x.moment) i) ∙ sym e ∙ r)) in
         record { instr = j; is = i; number = w.0; kind = w.1; free = q; region = r; pinned = n }
 
-module _ (R : Reference) (d : Taken) (x : Seen) (e : x.region ≡ region_of R.program R.regions x.moment (instr_in R.program x.moment)) (live : is_live d.pinned (thread_of x.before (thread_in x.moment)).extents ≡ true) (h : is_instance d x ≡ true) where
+module _ (R : Reference) (d : Taken) (x : Seen) (e : x.region ≡ region_of R.program R.regions x.moment (instr_in R.program x.moment))
+    (live : is_live d.pinned (thread_of x.before (thread_in x.moment)).extents ≡ true) (h : is_instance d x ≡ true) where
   abbrev pub freed : IsFree R.program d x
   freed = is_free R d x e h
 
   -- what is known of cells behind it
-  pub cells_freed : (c : ℕ) → cell_known (after_step R d x.number x.moment x.before) c ≡ (if nat_lt c MEMORY_BYTES then forgotten_bytes (is_free R d x e h).free.accesses (Pinned x.number) x.before.bytes c else slice_index_or x.before.words (c - MEMORY_BYTES) (always 0))
+  pub cells_freed : (c : ℕ) → cell_known (after_step R d x.number x.moment x.before) c
+      ≡ (if nat_lt c MEMORY_BYTES then forgotten_bytes (is_free R d x e h).free.accesses (Pinned x.number) x.before.bytes c else slice_index_or x.before.words (c - MEMORY_BYTES) (always 0))
   cells_freed c =
       let f = is_free R d x e h in
-      ap (λ (b : Bool). cell_known (if b then live_after R.program d x.number x.moment (region_of R.program R.regions x.moment (instr_in R.program x.moment)) (instr_in R.program x.moment) x.before else x.before) c) live
+      ap (λ (b : Bool). cell_known (if b then live_after R.program d x.number x.moment (region_of R.program R.regions x.moment (instr_in R.program x.moment))
+      (instr_in R.program x.moment) x.before else x.before) c) live
       ∙ ap (λ (g : Option FreeRegion). cell_known (live_after R.program d x.number x.moment g (instr_in R.program x.moment) x.before) c) (sym e ∙ f.region)
       ∙ ap (λ (o : Option Instr). cell_known (live_after R.program d x.number x.moment (Some f.free) o x.before) c) f.is
       ∙ ap (λ (k : StepKind). cell_known (live_by R.program d x.number x.moment (Some f.free) f.instr k x.before) c) f.kind
@@ -226,7 +244,8 @@ module _ (R : Reference) (d : Taken) (x : Seen) (e : x.region ≡ region_of R.pr
   pub writes_freed : (c : ℕ) → writes_cell d x c ≡ (if nat_lt c MEMORY_BYTES then list_any (λ f. is_written_in f c) (prints_in (Some (is_free R d x e h).free)) else false)
   writes_freed c =
       let f = is_free R d x e h in
-      ap (λ (k : StepKind). if nat_lt c MEMORY_BYTES then list_any (λ g. is_written_in g c) (access_touch d x.number (access_in k) ++ (if is_instance d x then prints_in x.region else [])) else is_thread (word_written (thread_in x.moment) k) (c - MEMORY_BYTES)) f.kind
+      ap (λ (k : StepKind). if nat_lt c MEMORY_BYTES then list_any (λ g. is_written_in g c)
+      (access_touch d x.number (access_in k) ++ (if is_instance d x then prints_in x.region else [])) else is_thread (word_written (thread_in x.moment) k) (c - MEMORY_BYTES)) f.kind
       ∙ ap (λ (b : Bool). if nat_lt c MEMORY_BYTES then list_any (λ g. is_written_in g c) (if b then prints_in x.region else []) else false) h
       ∙ ap (λ (r : Option FreeRegion). if nat_lt c MEMORY_BYTES then list_any (λ g. is_written_in g c) (prints_in r) else false) f.region
 
@@ -235,7 +254,8 @@ module _ (R : Reference) (d : Taken) (x : Seen) (e : x.region ≡ region_of R.pr
   freed_kept c w = cells_freed c ∙ go (nat_lt c MEMORY_BYTES) (sym (writes_freed c) ∙ w)
     where
       go : (b : Bool) → (if b then list_any (λ f. is_written_in f c) (prints_in (Some (is_free R d x e h).free)) else false) ≡ false →
-          (if b then forgotten_bytes (is_free R d x e h).free.accesses (Pinned x.number) x.before.bytes c else slice_index_or x.before.words (c - MEMORY_BYTES) (always 0)) ≡ (if b then x.before.bytes c else slice_index_or x.before.words (c - MEMORY_BYTES) (always 0))
+          (if b then forgotten_bytes (is_free R d x e h).free.accesses (Pinned x.number) x.before.bytes c else slice_index_or x.before.words (c - MEMORY_BYTES) (always 0))
+          ≡ (if b then x.before.bytes c else slice_index_or x.before.words (c - MEMORY_BYTES) (always 0))
       go true k = forgotten_kept (is_free R d x e h).free.accesses (Pinned x.number) x.before.bytes c k
       go false k = refl
 

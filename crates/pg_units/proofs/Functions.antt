@@ -65,7 +65,8 @@ returning_named : (p : NumberedProgram) (rs : List (Option ℕ)) (ns : List ℕ)
 returning_named p rs ns depth None = either (IsCreateNamed ns) (depth == 1) _ _ tt tt
 returning_named p rs ns depth (Some v) = on_value_is (IsCreateNamed ns) (operand p rs v) _ (λ k. tt) (λ n e. either (IsCreateNamed ns) (depth == 1) _ _ tt tt)
 
-op_named : (p : NumberedProgram) (rs : List (Option ℕ)) (r : Region) (halfway : Bool) (depth used block : ℕ) (o : Op) → IsCreateNamed (first_four p rs (operands_of o)) (op_action p r halfway rs depth used block o)
+op_named : (p : NumberedProgram) (rs : List (Option ℕ)) (r : Region) (halfway : Bool) (depth used block : ℕ) (o : Op)
+    → IsCreateNamed (first_four p rs (operands_of o)) (op_action p r halfway rs depth used block o)
 op_named p rs r halfway depth used block (op.Divide d w a b) =
     let Q = IsCreateNamed (first_four p rs (operands_of (op.Divide d w a b))) in
     on_value_is Q (operand p rs a) _ (λ k. tt) (λ m e. on_value_is Q (operand p rs b) _ (λ k. tt) (λ n f. divided_is Q (divided d w m n) (λ k. tt) tt))
@@ -96,7 +97,8 @@ op_named p rs r halfway depth used block o = on_all_is (IsCreateNamed (first_fou
 
 -- ---- the next action
 
-instr_named : (p : NumberedProgram) (l : LocalState) (f : Frame) (fs : List Frame) (begun : Bool) (o : Option Instr) → begun ≡ true → slice_get p.instrs f.place ≡ o → IsCreateNamed (frames_operands p begun (f ∷ fs)) (instr_action p l f fs o)
+instr_named : (p : NumberedProgram) (l : LocalState) (f : Frame) (fs : List Frame) (begun : Bool) (o : Option Instr) → begun ≡ true → slice_get p.instrs f.place ≡ o
+    → IsCreateNamed (frames_operands p begun (f ∷ fs)) (instr_action p l f fs o)
 instr_named p l f fs true None b e = tt
 instr_named p l f fs true (Some x) b e = rw e (op_named p f.registers (region_of l) l.halfway (length (f ∷ fs)) (total (f ∷ fs)) x.block.0 x.op)
 instr_named p l f fs false o b e = absurd cc

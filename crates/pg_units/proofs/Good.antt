@@ -8,7 +8,8 @@ use Rattle.pg_nodes.specs.Values.{is_met}
 use Rattle.pg_plans.proofs.Lists.{all_map, both_of}
 use Rattle.pg_closed.specs.Closed.{IsClosed, admits, conditions, conditions_at}
 use Rattle.pg_closed.specs.Known.{Reference, Seen, Taken, seen_in}
-use Rattle.pg_closed.specs.Rules.{Condition, Need, Value, Frame, all_of, asks_frames, asks_pins, asks_values, conditions_with, frame_needs, is_bound, need_blames, need_conditions, value_needs, value_of}
+use Rattle.pg_closed.specs.Rules.{Condition, Need, Value, Frame, all_of, asks_frames, asks_pins, asks_values, conditions_with, frame_needs, is_bound, need_blames, need_conditions}
+use Rattle.pg_closed.specs.Rules.{value_needs, value_of}
 use Rattle.pg_closed.specs.Shadows.{OnInput, Known, Framed, Unknown, frame_word}
 use Rattle.pg_units.proofs.Settled.{append_none, none_asked, not_asked}
 
@@ -42,7 +43,8 @@ module _ (input : List ℤ) where
   holds_by (Frame (Framed f x) t) b h = (f, refl, one_met (is_met t (f input)) h)
   holds_by (Frame (Unknown x) t) b h = absurd cc
 
-  pub all_append : (xs ys : List Condition) → list_all (λ (c : Condition). is_met c.test (c.value input)) (xs ++ ys) ≡ true → (list_all (λ (c : Condition). is_met c.test (c.value input)) xs ≡ true) × (list_all (λ (c : Condition). is_met c.test (c.value input)) ys ≡ true)
+  pub all_append : (xs ys : List Condition) → list_all (λ (c : Condition). is_met c.test (c.value input)) (xs ++ ys) ≡ true
+      → (list_all (λ (c : Condition). is_met c.test (c.value input)) xs ≡ true) × (list_all (λ (c : Condition). is_met c.test (c.value input)) ys ≡ true)
   all_append [] ys h = (refl, h)
   all_append (x ∷ xs) ys h =
       let p = and_parts (is_met x.test (x.value input)) (list_all (λ (c : Condition). is_met c.test (c.value input)) (xs ++ ys)) h in
@@ -57,7 +59,8 @@ module _ (input : List ℤ) where
       (holds_by q k.0 j.0, hold_by qs k.1 j.1)
 
   module _ (R : Reference) (d : Taken) where
-    each_met : (xs : List Seen) → list_all (λ (c : Condition). is_met c.test (c.value input)) (all_of (conditions_at R d) xs) ≡ true → AllOf (λ (x : Seen). list_all (λ (c : Condition). is_met c.test (c.value input)) (conditions_at R d x) ≡ true) xs
+    each_met : (xs : List Seen) → list_all (λ (c : Condition). is_met c.test (c.value input)) (all_of (conditions_at R d) xs) ≡ true
+        → AllOf (λ (x : Seen). list_all (λ (c : Condition). is_met c.test (c.value input)) (conditions_at R d x) ≡ true) xs
     each_met [] h = tt
     each_met (x ∷ xs) h = let j = all_append (conditions_at R d x) (all_of (conditions_at R d) xs) h in (j.0, each_met xs j.1)
 
@@ -70,9 +73,11 @@ module _ (input : List ℤ) where
         all_map (λ x k. good x k.0 k.1.0 k.1.1.0 k.1.1.1) (seen_in R d)
         (both_of (λ (x : Seen). asks_values R d x ≡ []) _ (seen_in R d) (none_asked (asks_values R d) (seen_in R d) closed.values)
         (both_of (λ (x : Seen). asks_frames R x ≡ []) _ (seen_in R d) (none_asked (asks_frames R) (seen_in R d) closed.frames)
-        (both_of (λ (x : Seen). asks_pins d x ≡ []) (λ (x : Seen). list_all (λ (c : Condition). is_met c.test (c.value input)) (conditions_at R d x) ≡ true) (seen_in R d) (none_asked (asks_pins d) (seen_in R d) closed.pins) (met_all h))))
+        (both_of (λ (x : Seen). asks_pins d x ≡ []) (λ (x : Seen). list_all (λ (c : Condition). is_met c.test (c.value input)) (conditions_at R d x) ≡ true) (seen_in R d)
+        (none_asked (asks_pins d) (seen_in R d) closed.pins) (met_all h))))
       where
-        good : (x : Seen) → asks_values R d x ≡ [] → asks_frames R x ≡ [] → asks_pins d x ≡ [] → list_all (λ (c : Condition). is_met c.test (c.value input)) (conditions_at R d x) ≡ true → IsGood R d input x
+        good : (x : Seen) → asks_values R d x ≡ [] → asks_frames R x ≡ [] → asks_pins d x ≡ []
+            → list_all (λ (c : Condition). is_met c.test (c.value input)) (conditions_at R d x) ≡ true → IsGood R d input x
         good x a b c k =
             let j = all_append (all_of need_conditions (value_needs R d x)) (all_of need_conditions (frame_needs R x)) k in
             record { values = hold_by (value_needs R d x) a j.0; frames = hold_by (frame_needs R x) b j.1; pins = not_asked (is_bound x && not (d.pinned x.number)) _ c }

@@ -102,7 +102,8 @@ waits (op.Phi from) = true
 waits o = false
 
 op_free : (p : NumberedProgram) (r : Region) (h : Bool) (rs : List (Option ℕ)) (depth used block : ℕ) (o : Op) → waits o ≡ false → IsFree (op_action p r h rs depth used block o)
-op_free p r h rs depth used block (op.Divide d w a b) n = on_value_is IsFree (operand p rs a) _ free_trap (λ m e. on_value_is IsFree (operand p rs b) _ free_trap (λ n f. divided_is IsFree (divided d w m n) free_trap free_local))
+op_free p r h rs depth used block (op.Divide d w a b) n = on_value_is IsFree (operand p rs a) _ free_trap
+    (λ m e. on_value_is IsFree (operand p rs b) _ free_trap (λ n f. divided_is IsFree (divided d w m n) free_trap free_local))
 op_free p r h rs depth used block (op.Phi from) n = absurd (true≢false n)
 op_free p r h rs depth used block (op.Br to) n = edge_is IsFree p rs block to.0 free_trap free_local
 op_free p r h rs depth used block (op.CondBr v a b) n = on_value_is IsFree (operand p rs v) _ free_trap (λ n e. edge_is IsFree p rs block (chosen n a.0 b.0) free_trap free_local)
@@ -112,7 +113,8 @@ op_free p r h rs depth used block (op.Ret v) n = returning_free p rs depth v
 op_free p r h rs depth used block op.Unreachable n = free_trap _
 op_free p r h rs depth used block (op.Alloca bytes) n = room_is IsFree (has_room r (granules_for bytes)) free_trap free_local
 op_free p r h rs depth used block (op.Load w from) n = on_value_is IsFree (operand p rs from) _ free_trap (λ a e. on_place_is IsFree a (bytes_of w) _ free_trap (λ q k s t e. refl))
-op_free p r h rs depth used block (op.Store w v at) n = on_value_is IsFree (operand p rs v) _ free_trap (λ n e. on_value_is IsFree (operand p rs at) _ free_trap (λ a f. on_place_is IsFree a (bytes_of w) _ free_trap (λ q k s t e. refl)))
+op_free p r h rs depth used block (op.Store w v at) n = on_value_is IsFree (operand p rs v) _ free_trap
+    (λ n e. on_value_is IsFree (operand p rs at) _ free_trap (λ a f. on_place_is IsFree a (bytes_of w) _ free_trap (λ q k s t e. refl)))
 op_free p r h rs depth used block (op.CallKnown k args) n = known_free p r.thread h rs k args n
 op_free p r h rs depth used block o n = on_all_is IsFree p rs (operands_of o) _ free_trap free_local
 
@@ -165,8 +167,10 @@ check_putchar : (s : State) (t n : ℕ) → sync.check s.sync t (requests.Putcha
 unfolding sync.check
 check_putchar s t n = refl
 
-create_shape : (p : NumberedProgram) (rs : List (Option ℕ)) (args : List Value) → CanStep (create_action p rs args) → (g : ByteRange) × (f : ℕ) × (n : ℕ) × (create_action p rs args ≡ actions.Event (requests.Create g f n))
-create_shape p rs args = create_is (λ (a : Action). CanStep a → (g : ByteRange) × (f : ℕ) × (n : ℕ) × (a ≡ actions.Event (requests.Create g f n))) p rs args (λ name c. absurd c) (λ g f n k j c. (g, f, n, refl))
+create_shape : (p : NumberedProgram) (rs : List (Option ℕ)) (args : List Value) → CanStep (create_action p rs args)
+    → (g : ByteRange) × (f : ℕ) × (n : ℕ) × (create_action p rs args ≡ actions.Event (requests.Create g f n))
+create_shape p rs args = create_is (λ (a : Action). CanStep a → (g : ByteRange) × (f : ℕ) × (n : ℕ) × (a ≡ actions.Event (requests.Create g f n))) p rs args (λ name c. absurd c)
+    (λ g f n k j c. (g, f, n, refl))
 
 module _ (s : State) (t : ℕ) where
   trap_unchecked : (name : TrapName) → IsUnchecked s t (actions.Trap name)
@@ -175,7 +179,8 @@ module _ (s : State) (t : ℕ) where
   local_unchecked : IsUnchecked s t actions.Local
   local_unchecked q e = absurd cc
 
-  known_unchecked : (p : NumberedProgram) (u : ℕ) (h : Bool) (rs : List (Option ℕ)) (k : Known) (args : List Value) → is_checked k ≡ false → (k ≡ known.PthreadCreate → HasRoom s t) → IsUnchecked s t (known_action p u h rs k args)
+  known_unchecked : (p : NumberedProgram) (u : ℕ) (h : Bool) (rs : List (Option ℕ)) (k : Known) (args : List Value) → is_checked k ≡ false → (k ≡ known.PthreadCreate → HasRoom s t)
+      → IsUnchecked s t (known_action p u h rs k args)
   known_unchecked p u h rs known.PgIn args c room = number_is (IsUnchecked s t) p rs args _ trap_unchecked (λ n q e. absurd cc)
   known_unchecked p u h rs known.PgInLen args c room = λ q e. absurd cc
   known_unchecked p u h rs known.PgOut args c room = number_is (IsUnchecked s t) p rs args _ trap_unchecked (λ n. asked s t (requests.Out n) (check_out s t n))
@@ -197,18 +202,24 @@ module _ (s : State) (t : ℕ) where
   returning_unchecked p rs depth None = return_unchecked depth 0
   returning_unchecked p rs depth (Some v) = on_value_is (IsUnchecked s t) (operand p rs v) _ trap_unchecked (λ n e. return_unchecked depth n)
 
-  op_unchecked : (p : NumberedProgram) (r : Region) (h : Bool) (rs : List (Option ℕ)) (depth used block : ℕ) (o : Op) → waits o ≡ false → ((args : List Value) → o ≡ op.CallKnown known.PthreadCreate args → HasRoom s t) → IsUnchecked s t (op_action p r h rs depth used block o)
-  op_unchecked p r h rs depth used block (op.Divide d w a b) n room = on_value_is (IsUnchecked s t) (operand p rs a) _ trap_unchecked (λ m e. on_value_is (IsUnchecked s t) (operand p rs b) _ trap_unchecked (λ n f. divided_is (IsUnchecked s t) (divided d w m n) trap_unchecked local_unchecked))
+  op_unchecked : (p : NumberedProgram) (r : Region) (h : Bool) (rs : List (Option ℕ)) (depth used block : ℕ) (o : Op) → waits o ≡ false
+      → ((args : List Value) → o ≡ op.CallKnown known.PthreadCreate args → HasRoom s t) → IsUnchecked s t (op_action p r h rs depth used block o)
+  op_unchecked p r h rs depth used block (op.Divide d w a b) n room = on_value_is (IsUnchecked s t) (operand p rs a) _ trap_unchecked
+      (λ m e. on_value_is (IsUnchecked s t) (operand p rs b) _ trap_unchecked (λ n f. divided_is (IsUnchecked s t) (divided d w m n) trap_unchecked local_unchecked))
   op_unchecked p r h rs depth used block (op.Phi from) n room = absurd (true≢false n)
   op_unchecked p r h rs depth used block (op.Br to) n room = edge_is (IsUnchecked s t) p rs block to.0 trap_unchecked local_unchecked
-  op_unchecked p r h rs depth used block (op.CondBr v a b) n room = on_value_is (IsUnchecked s t) (operand p rs v) _ trap_unchecked (λ n e. edge_is (IsUnchecked s t) p rs block (chosen n a.0 b.0) trap_unchecked local_unchecked)
-  op_unchecked p r h rs depth used block (op.Switch w on other cases) n room = on_value_is (IsUnchecked s t) (operand p rs on) _ trap_unchecked (λ n e. edge_is (IsUnchecked s t) p rs block (case_of cases other.0 n) trap_unchecked local_unchecked)
+  op_unchecked p r h rs depth used block (op.CondBr v a b) n room = on_value_is (IsUnchecked s t) (operand p rs v) _ trap_unchecked
+      (λ n e. edge_is (IsUnchecked s t) p rs block (chosen n a.0 b.0) trap_unchecked local_unchecked)
+  op_unchecked p r h rs depth used block (op.Switch w on other cases) n room =
+      on_value_is (IsUnchecked s t) (operand p rs on) _ trap_unchecked (λ n e. edge_is (IsUnchecked s t) p rs block (case_of cases other.0 n) trap_unchecked local_unchecked)
   op_unchecked p r h rs depth used block (op.Call g args) n room = on_all_is (IsUnchecked s t) p rs args _ trap_unchecked (call_is (IsUnchecked s t) p g depth used trap_unchecked local_unchecked)
   op_unchecked p r h rs depth used block (op.Ret v) n room = returning_unchecked p rs depth v
   op_unchecked p r h rs depth used block op.Unreachable n room = trap_unchecked _
   op_unchecked p r h rs depth used block (op.Alloca bytes) n room = room_is (IsUnchecked s t) (has_room r (granules_for bytes)) trap_unchecked local_unchecked
-  op_unchecked p r h rs depth used block (op.Load w from) n room = on_value_is (IsUnchecked s t) (operand p rs from) _ trap_unchecked (λ a e. on_place_is (IsUnchecked s t) a (bytes_of w) _ trap_unchecked (λ g k q j. absurd cc))
-  op_unchecked p r h rs depth used block (op.Store w v at) n room = on_value_is (IsUnchecked s t) (operand p rs v) _ trap_unchecked (λ n e. on_value_is (IsUnchecked s t) (operand p rs at) _ trap_unchecked (λ a f. on_place_is (IsUnchecked s t) a (bytes_of w) _ trap_unchecked (λ g k q j. absurd cc)))
+  op_unchecked p r h rs depth used block (op.Load w from) n room = on_value_is (IsUnchecked s t) (operand p rs from) _ trap_unchecked
+      (λ a e. on_place_is (IsUnchecked s t) a (bytes_of w) _ trap_unchecked (λ g k q j. absurd cc))
+  op_unchecked p r h rs depth used block (op.Store w v at) n room = on_value_is (IsUnchecked s t) (operand p rs v) _ trap_unchecked
+      (λ n e. on_value_is (IsUnchecked s t) (operand p rs at) _ trap_unchecked (λ a f. on_place_is (IsUnchecked s t) a (bytes_of w) _ trap_unchecked (λ g k q j. absurd cc)))
   op_unchecked p r h rs depth used block (op.CallKnown k args) n room = known_unchecked p r.thread h rs k args n (λ e. room args (ap (λ (j : Known). op.CallKnown j args) e))
   op_unchecked p r h rs depth used block o n room = on_all_is (IsUnchecked s t) p rs (operands_of o) _ trap_unchecked local_unchecked
 
@@ -249,11 +260,13 @@ module _ (p : NumberedProgram) (t : ℕ) (h : Bool) (rs : List (Option ℕ)) (ar
   checked_asks known.PthreadBarrierDestroy c = named known.PthreadBarrierDestroy refl
   checked_asks k c = absurd cc
 
-module _ (r : ReferenceRun) (d : Taken) (input : List ℤ) (u : PlanUnit) (st : State) (unit : IsUnit r d u) (b : Both r.program input (thread_in u.seen.moment) u.state st (thread_of u.seen.before (thread_in u.seen.moment)).calls)
+module _ (r : ReferenceRun) (d : Taken) (input : List ℤ) (u : PlanUnit) (st : State) (unit : IsUnit r d u)
+    (b : Both r.program input (thread_in u.seen.moment) u.state st (thread_of u.seen.before (thread_in u.seen.moment)).calls)
     (good : IsGood (reference_of r) d input u.seen) where
   -- what holds of the reference run's action holds of the thread's, where it holds of each whose operands aren't all checked
   by_op : (P : Action → Type 0) → P (next_of r.program u.state (thread_in u.seen.moment)) →
-      ((o : Op) → b.x.op ≡ o → waits o ≡ false → P (op_action r.program (region_of (running (thread_in u.seen.moment) b.h b.f b.fs b.n)) b.h b.f.registers (length (b.f ∷ b.fs)) (total (b.f ∷ b.fs)) b.x.block.0 o)) →
+      ((o : Op) → b.x.op ≡ o → waits o ≡ false
+      → P (op_action r.program (region_of (running (thread_in u.seen.moment) b.h b.f b.fs b.n)) b.h b.f.registers (length (b.f ∷ b.fs)) (total (b.f ∷ b.fs)) b.x.block.0 o)) →
       P (next_of r.program st (thread_in u.seen.moment))
   by_op P same free = go b.x.op refl
     where
@@ -268,7 +281,8 @@ module _ (r : ReferenceRun) (d : Taken) (input : List ℤ) (u : PlanUnit) (st : 
           let q = checked_asks p t b.h b.f0.registers args k c (facing.can0_at r d input u st unit b good (op.CallKnown k args) e) in
           let act0 = facing.act0_at r d input u st unit b good (op.CallKnown k args) e in
           let same1 : next_of p st t ≡ next_of p u.state t =
-          facing.act_at r d input u st unit b good (op.CallKnown k args) e ∙ same_action p t b.h b.f.registers b.f0.registers args k c (facing.checked_same r d input u st unit b good k args e q.0 (act0 ∙ q.1) q.2) ∙ sym act0 in
+          facing.act_at r d input u st unit b good (op.CallKnown k args) e
+          ∙ same_action p t b.h b.f.registers b.f0.registers args k c (facing.checked_same r d input u st unit b good k args e q.0 (act0 ∙ q.1) q.2) ∙ sym act0 in
           subst P (sym same1) same
 
       go : (o : Op) → b.x.op ≡ o → P (next_of r.program st (thread_in u.seen.moment))
@@ -300,20 +314,25 @@ module _ (r : ReferenceRun) (d : Taken) (input : List ℤ) (u : PlanUnit) (st : 
 
   -- its thread hasn't ended
   pub open_here : is_ended (next_of r.program st (thread_in u.seen.moment)) ≡ false
-  open_here = by_op (λ (a : Action). is_ended a ≡ false) (can_open (next_of r.program u.state (thread_in u.seen.moment)) (can_step r.gated r.program r.input u.state u.seen.moment.did.did unit.met.takes))
+  open_here = by_op (λ (a : Action). is_ended a ≡ false)
+      (can_open (next_of r.program u.state (thread_in u.seen.moment)) (can_step r.gated r.program r.input u.state u.seen.moment.did.did unit.met.takes))
       (λ o e w. free_open st _ (op_free r.program (region_of (running (thread_in u.seen.moment) b.h b.f b.fs b.n)) b.h b.f.registers (length (b.f ∷ b.fs)) (total (b.f ∷ b.fs)) b.x.block.0 o w))
 
   -- and may go on, unless it traps
-  pub may_here : st.sync ≡ u.state.sync → trap_of st (thread_in u.seen.moment) (next_of r.program st (thread_in u.seen.moment)) ≡ None → may_act st (thread_in u.seen.moment) (next_of r.program st (thread_in u.seen.moment)) ≡ true
+  pub may_here : st.sync ≡ u.state.sync → trap_of st (thread_in u.seen.moment) (next_of r.program st (thread_in u.seen.moment)) ≡ None
+      → may_act st (thread_in u.seen.moment) (next_of r.program st (thread_in u.seen.moment)) ≡ true
   may_here same trap = by_op (λ (a : Action). trap_of st (thread_in u.seen.moment) a ≡ None → may_act st (thread_in u.seen.moment) a ≡ true)
-      (λ n. may_same st u.state (thread_in u.seen.moment) (next_of r.program u.state (thread_in u.seen.moment)) same ∙ ready_acts r.program u.state (thread_in u.seen.moment) unit.met.takes.is_ready)
-      (λ o e w n. op_free r.program (region_of (running (thread_in u.seen.moment) b.h b.f b.fs b.n)) b.h b.f.registers (length (b.f ∷ b.fs)) (total (b.f ∷ b.fs)) b.x.block.0 o w st (thread_in u.seen.moment) n) trap
+      (λ n. may_same st u.state (thread_in u.seen.moment) (next_of r.program u.state (thread_in u.seen.moment)) same
+      ∙ ready_acts r.program u.state (thread_in u.seen.moment) unit.met.takes.is_ready)
+      (λ o e w n. op_free r.program (region_of (running (thread_in u.seen.moment) b.h b.f b.fs b.n)) b.h b.f.registers (length (b.f ∷ b.fs)) (total (b.f ∷ b.fs)) b.x.block.0 o w st
+      (thread_in u.seen.moment) n) trap
 
   -- no check on the objects fails
   pub unchecked_here : st.sync ≡ u.state.sync → IsUnchecked st (thread_in u.seen.moment) (next_of r.program st (thread_in u.seen.moment))
   unchecked_here same = by_op (IsUnchecked st (thread_in u.seen.moment))
       (λ q k. ap (λ (y : sync.Sync). sync.check y (thread_in u.seen.moment) q) same ∙ subst (IsAllowed u.state (thread_in u.seen.moment)) k allowed0)
-      (λ o e w. op_unchecked st (thread_in u.seen.moment) r.program (region_of (running (thread_in u.seen.moment) b.h b.f b.fs b.n)) b.h b.f.registers (length (b.f ∷ b.fs)) (total (b.f ∷ b.fs)) b.x.block.0 o w (λ args k. room args (e ∙ k)))
+      (λ o e w. op_unchecked st (thread_in u.seen.moment) r.program (region_of (running (thread_in u.seen.moment) b.h b.f b.fs b.n)) b.h b.f.registers (length (b.f ∷ b.fs))
+      (total (b.f ∷ b.fs)) b.x.block.0 o w (λ args k. room args (e ∙ k)))
     where
       allowed0 : IsAllowed u.state (thread_in u.seen.moment) (next_of r.program u.state (thread_in u.seen.moment))
       allowed0 = did_allowed r.gated r.program r.input u.state unit.met.takes.after (thread_in u.seen.moment) u.seen.moment.did.did unit.met.takes.is_step

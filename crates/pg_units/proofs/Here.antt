@@ -25,11 +25,13 @@ running t h f fs n = record { thread = t; begun = true; halfway = h; frames = f 
 
 -- ---- what is told of a step
 
-told_by : (gated : List InstrId) (p : NumberedProgram) (s z : State) (t : ℕ) (x : Step) (a : Answered) (n : ℕ) → ((w : State) (m : ℕ) → a ≡ (w, Ok m) → m ≡ n) → settled gated p s t (taken p s t a) ≡ Did x z → x ≡ step_told gated p s t n
+told_by : (gated : List InstrId) (p : NumberedProgram) (s z : State) (t : ℕ) (x : Step) (a : Answered) (n : ℕ) → ((w : State) (m : ℕ) → a ≡ (w, Ok m) → m ≡ n)
+    → settled gated p s t (taken p s t a) ≡ Did x z → x ≡ step_told gated p s t n
 told_by gated p s z t x (w, Err name) n h e = absurd cc
 told_by gated p s z t x (w, Ok m) n h e = let q : x ≡ step_told gated p s t m = cc in q ∙ ap (step_told gated p s t) (h w m refl)
 
-pub told_is : (gated : List InstrId) (p : NumberedProgram) (input : List ℤ) (s z : State) (t : ℕ) (x : Step) → step gated p input s t ≡ Did x z → x ≡ step_told gated p s t (answer_to input s t (next_of p s t))
+pub told_is : (gated : List InstrId) (p : NumberedProgram) (input : List ℤ) (s z : State) (t : ℕ) (x : Step) → step gated p input s t ≡ Did x z
+    → x ≡ step_told gated p s t (answer_to input s t (next_of p s t))
 unfolding step
 told_is gated p input s z t x e = told_by gated p s z t x (answered p input s t (next_of p s t)) (answer_to input s t (next_of p s t)) (λ w m q. (answered_is p input s w t m (next_of p s t) q).1) e
 

@@ -40,7 +40,8 @@ use Rattle.pg_closed.specs.Rules.{kind_in}
 use Rattle.pg_closed.specs.Shadows.{Shadow}
 use Rattle.pg_units.specs.Likes.{AreCallsLike, StandLike, like}
 use Rattle.pg_units.specs.Moves.{deed_moved}
-use Rattle.pg_units.specs.Units.{PlanUnit, ReferenceRun, access_touch, cell_known, deed_of, instance_touch, is_event_at, is_instance, is_written_in, reference_of, standing_of, touch_of, word_read, word_written, writes_cell}
+use Rattle.pg_units.specs.Units.{PlanUnit, ReferenceRun, access_touch, cell_known, deed_of, instance_touch, is_event_at, is_instance, is_written_in, reference_of, standing_of, touch_of}
+use Rattle.pg_units.specs.Units.{word_read, word_written, writes_cell}
 use Rattle.pg_units.proofs.Along.{IsUnit, behind_is}
 use Rattle.pg_units.proofs.Here.{after_here, can_step, instr_here, next_here, running, told_is}
 use Rattle.pg_units.proofs.Known.{IsInnerKind, inner_calls}
@@ -69,7 +70,8 @@ instr_inner : (ns : List ℕ) (n : ℕ) (o : Option Instr) → IsInnerKind (inst
 instr_inner ns n None = tt
 instr_inner ns n (Some x) = op_inner ns n x.op
 
-pub kind_inner : (gated : List InstrId) (p : NumberedProgram) (s : State) (t : ℕ) (ns : List ℕ) (a n : ℕ) (action : Action) → IsInner action → IsInnerKind (kind_told gated p s t ns a n action)
+pub kind_inner : (gated : List InstrId) (p : NumberedProgram) (s : State) (t : ℕ) (ns : List ℕ) (a n : ℕ) (action : Action) → IsInner action
+    → IsInnerKind (kind_told gated p s t ns a n action)
 kind_inner gated p s t ns a n actions.Local h = instr_inner ns n (slice_get p.instrs (instr_of s t))
 kind_inner gated p s t ns a n (actions.In i) h = tt
 kind_inner gated p s t ns a n actions.InLen h = tt
@@ -135,7 +137,8 @@ writes_none e c a b =
 
 module _ (d : Taken) (u : PlanUnit) where
   pub no_touch : access_in (kind_in u.seen) ≡ None → is_instance d u.seen ≡ false → touch_of d u.seen ≡ []
-  no_touch a i = ap (λ (o : Option Access). access_touch d u.seen.number o ++ instance_touch d u.seen) a ∙ ap (λ (b : Bool). if b then Rattle.pg_closed.specs.Rules.prints_in u.seen.region else []) i
+  no_touch a i = ap (λ (o : Option Access). access_touch d u.seen.number o ++ instance_touch d u.seen) a
+      ∙ ap (λ (b : Bool). if b then Rattle.pg_closed.specs.Rules.prints_in u.seen.region else []) i
 
   pub unit_writes_none : (c : ℕ) → TellsNothing (kind_in u.seen) → is_instance d u.seen ≡ false → writes_cell d u.seen c ≡ false
   unit_writes_none c k i =
@@ -169,6 +172,12 @@ pub record Pair (r : ReferenceRun) (d : Taken) (input : List ℤ) (u : PlanUnit)
   pub both : Both r.program input (thread_in u.seen.moment) u.state st (thread_of u.seen.before (thread_in u.seen.moment)).calls
   pub units : moves (thread_in u.seen.moment) ≡ u.units
 
+-- the thread itself in both runs, and the effect of its step in the second
+pub record Locals : Type 0 where
+  pub l0 : LocalState
+  pub l : LocalState
+  pub ef : Effect
+
 module _ (r : ReferenceRun) (d : Taken) (input : List ℤ) (u : PlanUnit) (st : State) (moves : ℕ → ℕ) (y : Step) (q : Pair r d input u st moves y) where
   abbrev pub t : ℕ
   t = thread_in u.seen.moment
@@ -178,6 +187,9 @@ module _ (r : ReferenceRun) (d : Taken) (input : List ℤ) (u : PlanUnit) (st : 
 
   abbrev pub l : LocalState
   l = running (thread_in u.seen.moment) q.both.h q.both.f q.both.fs q.both.n
+
+  abbrev pub locals : Locals
+  locals = record { l0 = l0; l = l; ef = effect_of r.program input st y.thread.0 }
 
   abbrev pub act0 : Action
   act0 = next_of r.program u.state (thread_in u.seen.moment)
@@ -233,7 +245,8 @@ module _ (r : ReferenceRun) (d : Taken) (input : List ℤ) (u : PlanUnit) (st : 
   local0 =
       let k = leads_to r.gated r.program r.input u.state q.unit.met.takes.after (thread_in u.seen.moment) u.seen.moment.did.did q.unit.met.reached q.unit.met.takes.is_ready q.unit.met.takes.is_step in
       q.unit.local q.plain ∙ ap (λ (z : State). local_at z (thread_in u.seen.moment)) (behind_is r d u.state u.seen.moment.did.did q.unit.met.takes)
-      ∙ k.locals (thread_in u.seen.moment) ∙ own_here _ _ _ (eq-eqb (thread_in u.seen.moment) (thread_in u.seen.moment) refl) ∙ after_here r.program u.state (thread_in u.seen.moment) q.both.h q.both.f0 q.both.fs0 q.both.n q.both.x q.both.here0 answer0
+      ∙ k.locals (thread_in u.seen.moment) ∙ own_here _ _ _ (eq-eqb (thread_in u.seen.moment) (thread_in u.seen.moment) refl)
+      ∙ after_here r.program u.state (thread_in u.seen.moment) q.both.h q.both.f0 q.both.fs0 q.both.n q.both.x q.both.here0 answer0
 
   pub local : (effect_of r.program input st (thread_in u.seen.moment)).local ≡ Some (instr_after r.program l answer (Some q.both.x))
   unfolding effect_of
@@ -259,13 +272,17 @@ module _ (r : ReferenceRun) (d : Taken) (input : List ℤ) (u : PlanUnit) (st : 
 
   module _ (inner0 : IsInner act0) (inner : IsInner act) where
     inner_kind0 : IsInnerKind (kind_in u.seen)
-    inner_kind0 = subst IsInnerKind (sym (ap (λ (z : Step). z.kind) told0)) (kind_inner r.gated r.program u.state (thread_in u.seen.moment) (operands_in r.program (slice_get u.state.locals (thread_in u.seen.moment))) answer0 (number_in r.program (slice_get u.state.locals (thread_in u.seen.moment)) answer0) act0 inner0)
+    inner_kind0 = subst IsInnerKind (sym (ap (λ (z : Step). z.kind) told0))
+        (kind_inner r.gated r.program u.state (thread_in u.seen.moment) (operands_in r.program (slice_get u.state.locals (thread_in u.seen.moment))) answer0
+        (number_in r.program (slice_get u.state.locals (thread_in u.seen.moment)) answer0) act0 inner0)
 
     nothing0 : TellsNothing (kind_in u.seen)
     nothing0 = tells_nothing (kind_in u.seen) inner_kind0
 
     nothing : TellsNothing y.kind
-    nothing = tells_nothing y.kind (subst IsInnerKind (sym (ap (λ (z : Step). z.kind) told)) (kind_inner r.gated r.program st (thread_in u.seen.moment) (operands_in r.program (slice_get st.locals (thread_in u.seen.moment))) answer (number_in r.program (slice_get st.locals (thread_in u.seen.moment)) answer) act inner))
+    nothing = tells_nothing y.kind (subst IsInnerKind (sym (ap (λ (z : Step). z.kind) told))
+        (kind_inner r.gated r.program st (thread_in u.seen.moment) (operands_in r.program (slice_get st.locals (thread_in u.seen.moment))) answer
+        (number_in r.program (slice_get st.locals (thread_in u.seen.moment)) answer) act inner))
 
     untouched : TouchesNothing r.program st (thread_in u.seen.moment) act
     untouched = touches_nothing r.program st (thread_in u.seen.moment) act inner
@@ -287,12 +304,15 @@ module _ (r : ReferenceRun) (d : Taken) (input : List ℤ) (u : PlanUnit) (st : 
     e_request = ap (λ (v : ℕ). request_effect r.program st v (next_of r.program st v)) q.own ∙ untouched.request
 
     abbrev pub inner_known : List (List Shadow)
-    inner_known = after_op r.program (d.pinned u.seen.number) u.seen.number u.seen.moment (region_at r.program r.regions u.seen.moment (instr_in r.program u.seen.moment)) (result_in (kind_in u.seen)) q.both.x q.both.x.op (q.both.ks ∷ q.both.more)
+    inner_known = after_op r.program (d.pinned u.seen.number) u.seen.number u.seen.moment (region_at r.program r.regions u.seen.moment (instr_in r.program u.seen.moment))
+        (result_in (kind_in u.seen)) q.both.x q.both.x.op (q.both.ks ∷ q.both.more)
 
-    pub inner_fits : SameHeap → AreCallsLike input (op_after r.program l0 q.both.x answer0 q.both.x.op) inner_known (op_after r.program l q.both.x answer q.both.x.op) → Fits (like input) (deed_of d u) (deed_moved r.program input st moves y)
+    pub inner_fits : SameHeap → AreCallsLike input (op_after r.program l0 q.both.x answer0 q.both.x.op) inner_known (op_after r.program l q.both.x answer q.both.x.op)
+        → Fits (like input) (deed_of d u) (deed_moved r.program input st moves y)
     inner_fits heap c = record {
       thread = q.own;
-      to = stands inner_known (ap (λ (z : RunShadow). (thread_of z (thread_in u.seen.moment)).calls) q.unit.known ∙ inner_calls (reference_of r) d u.seen.number u.seen.moment u.seen.before q.both.x instr_is live_is q.both.ks q.both.more q.both.calls inner_kind0) heap c;
+      to = stands inner_known (ap (λ (z : RunShadow). (thread_of z (thread_in u.seen.moment)).calls) q.unit.known
+          ∙ inner_calls (reference_of r) d u.seen.number u.seen.moment u.seen.before q.both.x instr_is live_is q.both.ks q.both.more q.both.calls inner_kind0) heap c;
       told = record {
         thread = ap (λ (v : ℕ). record { 0 = v }) q.own;
         instr = same_instr;
@@ -300,7 +320,10 @@ module _ (r : ReferenceRun) (d : Taken) (input : List ℤ) (u : PlanUnit) (st : 
         reply = nothing.reply ∙ sym nothing0.reply;
       };
       objects = none_if (is_some (event_of y)) _ (ap is_some (ap (turn_at y) nothing.event)) ∙ sym (none_if (is_event_at u.seen) _ (ap is_some nothing0.event));
-      cells = λ b v w k. rw (none_if (writes_cell d u.seen b) (cell_known u.known b) (unit_writes_none d u b nothing0 q.plain), writes_none (effect_of r.program input st y.thread.0) b e_writes e_request) k;
+      cells = λ b v w k. rw (
+        none_if (writes_cell d u.seen b) (cell_known u.known b) (unit_writes_none d u b nothing0 q.plain),
+        writes_none (effect_of r.program input st y.thread.0) b e_writes e_request,
+      ) k;
       reads = λ b k. absurd (true≢false (sym k ∙ reads_none (effect_of r.program input st y.thread.0) b e_reads e_word));
       writes = λ b k. absurd (true≢false (sym k ∙ ap is_some (writes_none (effect_of r.program input st y.thread.0) b e_writes e_request)));
     }

@@ -40,7 +40,6 @@ pub mod Shapes
 pub mod Starts
 pub mod StepFits
 pub mod Stores
-pub mod Stuck
 pub mod Threads
 pub mod Turns
 pub mod Worded

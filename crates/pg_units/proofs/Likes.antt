@@ -48,14 +48,16 @@ module _ (input : List ℤ) where
   like_at (s ∷ ss) (v ∷ vs) zero h = h.0
   like_at (s ∷ ss) (v ∷ vs) (suc r) h = like_at ss vs r h.1
 
-  pub put_like : (ss : List Shadow) (vs : List (Option ℕ)) (r : ℕ) (s : Shadow) (v : Option ℕ) → AreLike input ss vs → IsLike input s v → AreLike input (slice_set ss r s) (slice_set vs r v)
+  pub put_like : (ss : List Shadow) (vs : List (Option ℕ)) (r : ℕ) (s : Shadow) (v : Option ℕ) → AreLike input ss vs → IsLike input s v
+      → AreLike input (slice_set ss r s) (slice_set vs r v)
   put_like [] [] r s v h k = tt
   put_like [] (w ∷ vs) r s v h k = absurd h
   put_like (z ∷ ss) [] r s v h k = absurd h
   put_like (z ∷ ss) (w ∷ vs) zero s v h k = (k, h.1)
   put_like (z ∷ ss) (w ∷ vs) (suc r) s v h k = (h.0, put_like ss vs r s v h.1 k)
 
-  pub set_like : (target : Option ℕ) (ss : List Shadow) (vs : List (Option ℕ)) (s : Shadow) (v : Option ℕ) → AreLike input ss vs → IsLike input s v → AreLike input (set_shadow target s ss) (set_register vs target v)
+  pub set_like : (target : Option ℕ) (ss : List Shadow) (vs : List (Option ℕ)) (s : Shadow) (v : Option ℕ) → AreLike input ss vs → IsLike input s v
+      → AreLike input (set_shadow target s ss) (set_register vs target v)
   set_like None ss vs s v h k = h
   set_like (Some r) ss vs s v h k = put_like ss vs r s v h k
 
@@ -100,11 +102,13 @@ module _ (input : List ℤ) where
   -- ---- results
 
   -- what is made of values that are all known
-  pub from_like : (ss : List Shadow) (ns : List (Option ℕ)) (F : (List ℤ → List (Option ℕ)) → Shadow) (v : Option ℕ) → AreLike input ss ns → ((gs : List ℤ → List (Option ℕ)) → gs input ≡ ns → IsLike input (F gs) v) → IsLike input (from_all ss F) v
+  pub from_like : (ss : List Shadow) (ns : List (Option ℕ)) (F : (List ℤ → List (Option ℕ)) → Shadow) (v : Option ℕ) → AreLike input ss ns
+      → ((gs : List ℤ → List (Option ℕ)) → gs input ≡ ns → IsLike input (F gs) v) → IsLike input (from_all ss F) v
   from_like [] [] F v h k = k (λ i. []) refl
   from_like [] (n ∷ ns) F v h k = absurd h
   from_like (s ∷ ss) [] F v h k = absurd h
-  from_like (Known g u ∷ ss) (n ∷ ns) F v h k = from_like ss ns (λ gs. F (λ i. g i ∷ gs i)) v h.1 (λ gs e. k (λ i. g i ∷ gs i) (ap (λ (l : List (Option ℕ)). g input ∷ l) e ∙ ap (λ (m : Option ℕ). m ∷ ns) (sym h.0.0)))
+  from_like (Known g u ∷ ss) (n ∷ ns) F v h k = from_like ss ns (λ gs. F (λ i. g i ∷ gs i)) v h.1
+      (λ gs e. k (λ i. g i ∷ gs i) (ap (λ (l : List (Option ℕ)). g input ∷ l) e ∙ ap (λ (m : Option ℕ). m ∷ ns) (sym h.0.0)))
   from_like (Framed g x ∷ ss) (n ∷ ns) F v h k = tt
   from_like (Unknown x ∷ ss) (n ∷ ns) F v h k = tt
 
@@ -152,7 +156,8 @@ module _ (input : List ℤ) where
 
     pub entered_like : (g : ℕ) (ss : List Shadow) (vs : List (Option ℕ)) → AreLike input ss vs → AreLike input (entered p g ss) (vs ++ replicate (length (types_of p g) - length vs) None)
     entered_like g ss vs h = append_like ss (replicate (length (types_of p g) - length ss) unset) vs (replicate (length (types_of p g) - length vs) None) h
-        (subst (λ (n : ℕ). AreLike input (replicate (length (types_of p g) - n) unset) (replicate (length (types_of p g) - length vs) None)) (sym (length_like ss vs h)) (unset_like (length (types_of p g) - length vs)))
+        (subst (λ (n : ℕ). AreLike input (replicate (length (types_of p g) - n) unset) (replicate (length (types_of p g) - length vs) None)) (sym (length_like ss vs h))
+        (unset_like (length (types_of p g) - length vs)))
 
   pub depth_like : (fs : List Frame) (known : List (List Shadow)) (gs : List Frame) → AreCallsLike input fs known gs → length gs ≡ length fs
   depth_like [] [] [] h = refl

@@ -1,5 +1,6 @@
 -- Nothing is known of a thread that hasn't begun: what stands for it is fresh, step by step.
-use Rattle.std.proofs.Common.{◌≡◌, ◌≢◌, ℕ, ℤ, ◌⊎◌, ◌<◌, zero, suc, Bool, true, false, List, [], ◌∷◌, ◌++◌, length, Option, Some, None, refl, sym, ap, ◌∙◌, subst, arith, inl, inr}
+use Rattle.std.proofs.Common.{◌≡◌, ◌≢◌, ℕ, ℤ, ◌⊎◌, ◌<◌, zero, suc, Bool, true, false, List, [], ◌∷◌, ◌++◌, length, Option, Some, None, refl, sym, ap}
+use Rattle.std.proofs.Common.{◌∙◌, subst, arith, inl, inr}
 use Rattle.std.specs.Prelude.{slice_get, slice_set, slice_index, slice_index_or, is_some, if◌then◌else◌}
 use Rattle.std.specs.List.{AllByRecursion as AllOf}
 use Rattle.std.proofs.lemmas.Bool.{cases_eq, true≢false}
@@ -38,7 +39,8 @@ use Rattle.pg_effects.proofs.Effects.{has_effect}
 use Rattle.pg_effects.proofs.Reaches.{present}
 use Rattle.pg_closed.specs.Extents.{Extent, is_live}
 use Rattle.pg_closed.specs.Freeable.{FreeRegion}
-use Rattle.pg_closed.specs.Known.{Reference, RunShadow, Seen, Taken, ThreadShadow, after_step, fresh_registers, fresh_thread, live_after, live_by, no_thread, region_of, seen_from, start_of, thread_of, threads_after, with_extents}
+use Rattle.pg_closed.specs.Known.{Reference, RunShadow, Seen, Taken, ThreadShadow, after_step, fresh_registers, fresh_thread, live_after, live_by, no_thread, region_of, seen_from, start_of}
+use Rattle.pg_closed.specs.Known.{thread_of, threads_after, with_extents}
 use Rattle.pg_closed.specs.Moments.{Moment, calls_of, instr_in, moments_from, thread_in}
 use Rattle.pg_units.specs.Fits.{StartsAreFresh}
 use Rattle.pg_units.specs.Order.{IsOrderedRun}
@@ -122,7 +124,8 @@ kept_by : (p : NumberedProgram) (t : ℕ) (e : Event) (k : TurnKind) (old : List
 kept_by p t e turns.Create old z = kept_push p t (slice_index e.operands 2) old z
 kept_by p t e k old z = kept_set p t old z
 
-live_kept : (p : NumberedProgram) (d : Taken) (n : ℕ) (m : Moment) (region : Option FreeRegion) (x : Instr) (k : StepKind) (s : RunShadow) → AreKept p (thread_in m) (made_of k) s.threads (live_by p d n m region x k s).threads
+live_kept : (p : NumberedProgram) (d : Taken) (n : ℕ) (m : Moment) (region : Option FreeRegion) (x : Instr) (k : StepKind) (s : RunShadow)
+    → AreKept p (thread_in m) (made_of k) s.threads (live_by p d n m region x k s).threads
 live_kept p d n m region x (kinds.Event e) s = kept_by p (thread_in m) e e.kind s.threads _
 live_kept p d n m region x (kinds.Access a) s = kept_set p (thread_in m) s.threads _
 live_kept p d n m region x kinds.Other s = kept_set p (thread_in m) s.threads _
@@ -167,7 +170,8 @@ none_inner (kinds.Allocation a b) h = refl
 none_inner (kinds.Access a) h = absurd h
 none_inner (kinds.Event e) h = absurd h
 
-told_made : (gated : List InstrId) (p : NumberedProgram) (s : State) (t : ℕ) (ns : List ℕ) (a n : ℕ) (action : Action) → IsCreateNamed ns action → made_of (kind_told gated p s t ns a n action) ≡ made_in action
+told_made : (gated : List InstrId) (p : NumberedProgram) (s : State) (t : ℕ) (ns : List ℕ) (a n : ℕ) (action : Action) → IsCreateNamed ns action
+    → made_of (kind_told gated p s t ns a n action) ≡ made_in action
 told_made gated p s t ns a n actions.Local h = none_inner (kind_told gated p s t ns a n actions.Local) (kind_inner gated p s t ns a n actions.Local tt)
 told_made gated p s t ns a n (actions.In i) h = refl
 told_made gated p s t ns a n actions.InLen h = refl
@@ -199,13 +203,15 @@ function_of p n m f g e =
 
 -- with the thread that is made
 made_fresh : (p : NumberedProgram) (made : Option ℕ) (threads : List ThreadShadow) (locals : List LocalState) → length threads ≡ length locals → (u f : ℕ) →
-    (slice_get locals u ≡ Some (fresh p u f) → calls_in threads u ≡ fresh_registers p f ∷ []) → slice_get (with_local p made locals) u ≡ Some (fresh p u f) → calls_in (with_thread p made threads) u ≡ fresh_registers p f ∷ []
+    (slice_get locals u ≡ Some (fresh p u f) → calls_in threads u ≡ fresh_registers p f ∷ []) → slice_get (with_local p made locals) u ≡ Some (fresh p u f)
+    → calls_in (with_thread p made threads) u ≡ fresh_registers p f ∷ []
 made_fresh p None threads locals e u f h k = h k
 made_fresh p (Some g) threads locals e u f h k = go (cases_eq u (length locals))
   where
     go : (u ≡ length locals) ⊎ (u ≢ length locals) → calls_in (with_thread p (Some g) threads) u ≡ fresh_registers p f ∷ []
     go (inl q) =
-        let own : Path (Option LocalState) (Some (fresh p (length locals) g)) (Some (fresh p u f)) = sym (last_own locals (fresh p (length locals) g)) ∙ ap (slice_get (locals ++ fresh p (length locals) g ∷ [])) (sym q) ∙ k in
+        let own : Path (Option LocalState) (Some (fresh p (length locals) g)) (Some (fresh p u f)) =
+        sym (last_own locals (fresh p (length locals) g)) ∙ ap (slice_get (locals ++ fresh p (length locals) g ∷ [])) (sym q) ∙ k in
         let same : fresh p (length locals) g ≡ fresh p u f = cc in
         push_new threads u (fresh_thread p g) (q ∙ sym e) ∙ ap (λ (i : ℕ). fresh_registers p i ∷ []) (function_of p (length locals) u g f same)
     go (inr q) =
@@ -251,7 +257,8 @@ module _ (R : Reference) (d : Taken) (n : ℕ) (m : Moment) (known : RunShadow) 
   live_keeps = go (instr_in R.program m) refl
     where
       go : (o : Option Instr) → instr_in R.program m ≡ o → AreKept R.program (thread_in m) made known.threads (live_after R.program d n m region o known).threads
-      go (Some x) e = subst (λ (q : Option ℕ). AreKept R.program (thread_in m) q known.threads (live_by R.program d n m region x m.did.did.kind known).threads) told (live_kept R.program d n m region x m.did.did.kind known)
+      go (Some x) e = subst (λ (q : Option ℕ). AreKept R.program (thread_in m) q known.threads (live_by R.program d n m region x m.did.did.kind known).threads) told
+          (live_kept R.program d n m region x m.did.did.kind known)
       go None e = subst (λ (q : Option ℕ). AreKept R.program (thread_in m) q known.threads known.threads) (sym (none_here e)) (kept_same R.program (thread_in m) known.threads)
 
   plain_none : is_some (happening_in m.did.did.kind) ≡ false → made ≡ None
@@ -264,7 +271,8 @@ module _ (R : Reference) (d : Taken) (n : ℕ) (m : Moment) (known : RunShadow) 
       go (kinds.Access a) w = refl
       go (kinds.Event v) w = absurd (true≢false w)
 
-  kept : (is_live d.pinned (thread_of known (thread_in m)).extents ≡ false → is_some (happening_in m.did.did.kind) ≡ false) → AreKept R.program (thread_in m) made known.threads (after_step R d n m known).threads
+  kept : (is_live d.pinned (thread_of known (thread_in m)).extents ≡ false → is_some (happening_in m.did.did.kind) ≡ false)
+      → AreKept R.program (thread_in m) made known.threads (after_step R d n m known).threads
   kept plain = kept_extents R.program (thread_in m) made known.threads _ _ (go (is_live d.pinned (thread_of known (thread_in m)).extents) refl)
     where
       go : (b : Bool) → is_live d.pinned (thread_of known (thread_in m)).extents ≡ b →
@@ -272,12 +280,15 @@ module _ (R : Reference) (d : Taken) (n : ℕ) (m : Moment) (known : RunShadow) 
       go true e = live_keeps
       go false e = subst (λ (q : Option ℕ). AreKept R.program (thread_in m) q known.threads known.threads) (sym (plain_none (plain e))) (kept_same R.program (thread_in m) known.threads)
 
-  effect_set : (effect s (effect_of R.program input s (thread_in m))).locals ≡ local_set (thread_in m) (own_after R.program (answer_to input s (thread_in m) (next_of R.program s (thread_in m))) (slice_get s.locals (thread_in m))) (locals_with (request_effect R.program s (thread_in m) (next_of R.program s (thread_in m))) s.locals)
+  effect_set : (effect s (effect_of R.program input s (thread_in m))).locals
+      ≡ local_set (thread_in m) (own_after R.program (answer_to input s (thread_in m) (next_of R.program s (thread_in m))) (slice_get s.locals (thread_in m)))
+      (locals_with (request_effect R.program s (thread_in m) (next_of R.program s (thread_in m))) s.locals)
   unfolding effect effect_of
   effect_set = refl
 
   -- what is known of another thread stays
-  pub others_kept : (is_live d.pinned (thread_of known (thread_in m)).extents ≡ false → is_some (happening_in m.did.did.kind) ≡ false) → (u : ℕ) → u ≢ thread_in m → u < length known.threads → (thread_of (after_step R d n m known) u).calls ≡ (thread_of known u).calls
+  pub others_kept : (is_live d.pinned (thread_of known (thread_in m)).extents ≡ false → is_some (happening_in m.did.did.kind) ≡ false) → (u : ℕ) → u ≢ thread_in m
+      → u < length known.threads → (thread_of (after_step R d n m known) u).calls ≡ (thread_of known u).calls
   others_kept plain u w q = (kept plain).others u w ∙ go made
     where
       go : (o : Option ℕ) → calls_in (with_thread R.program o known.threads) u ≡ calls_in known.threads u
@@ -285,10 +296,13 @@ module _ (R : Reference) (d : Taken) (n : ℕ) (m : Moment) (known : RunShadow) 
       go (Some f) = push_keeps known.threads u (fresh_thread R.program f) q
 
   -- the threads after the step
-  after_locals : h.after.locals ≡ local_set (thread_in m) (own_after R.program (answer_to input s (thread_in m) (next_of R.program s (thread_in m))) (slice_get s.locals (thread_in m))) (with_local R.program made s.locals)
+  after_locals : h.after.locals ≡ local_set (thread_in m) (own_after R.program (answer_to input s (thread_in m) (next_of R.program s (thread_in m))) (slice_get s.locals (thread_in m)))
+      (with_local R.program made s.locals)
   after_locals =
-      ap (λ (z : State). z.locals) (subst (λ (k : Stepped). IfDid k (λ y z. z ≡ effect s (effect_of R.program input s (thread_in m)))) h.is_step (has_effect gated R.program input s (thread_in m)))
-      ∙ effect_set ∙ ap (local_set (thread_in m) (own_after R.program (answer_to input s (thread_in m) (next_of R.program s (thread_in m))) (slice_get s.locals (thread_in m)))) (locals_are R.program s (thread_in m) (next_of R.program s (thread_in m)))
+      ap (λ (z : State). z.locals) (subst (λ (k : Stepped). IfDid k (λ y z. z ≡ effect s (effect_of R.program input s (thread_in m)))) h.is_step
+      (has_effect gated R.program input s (thread_in m)))
+      ∙ effect_set ∙ ap (local_set (thread_in m) (own_after R.program (answer_to input s (thread_in m) (next_of R.program s (thread_in m))) (slice_get s.locals (thread_in m))))
+      (locals_are R.program s (thread_in m) (next_of R.program s (thread_in m)))
 
   local_begun : (f : ℕ) → slice_get h.after.locals (thread_in m) ≡ Some (fresh R.program (thread_in m) f) → ⊥
   local_begun f e =
@@ -307,11 +321,13 @@ module _ (R : Reference) (d : Taken) (n : ℕ) (m : Moment) (known : RunShadow) 
       there None k = k
       there (Some f) k = let q = length_push s.locals (fresh R.program (length s.locals) f) in omega (arith, k, q)
 
-  pub fresh_kept : (is_live d.pinned (thread_of known (thread_in m)).extents ≡ false → is_some (happening_in m.did.did.kind) ≡ false) → AreFresh R.program known s → AreFresh R.program (after_step R d n m known) h.after
+  pub fresh_kept : (is_live d.pinned (thread_of known (thread_in m)).extents ≡ false → is_some (happening_in m.did.did.kind) ≡ false) → AreFresh R.program known s
+      → AreFresh R.program (after_step R d n m known) h.after
   fresh_kept plain e =
       let k = kept plain in
       record {
-        number = k.number ∙ numbers made ∙ sym (ap length after_locals ∙ set_number (own_after R.program (answer_to input s (thread_in m) (next_of R.program s (thread_in m))) (slice_get s.locals (thread_in m))) (with_local R.program made s.locals));
+        number = k.number ∙ numbers made ∙ sym (ap length after_locals
+            ∙ set_number (own_after R.program (answer_to input s (thread_in m) (next_of R.program s (thread_in m))) (slice_get s.locals (thread_in m))) (with_local R.program made s.locals));
         fresh_calls = λ u f q. by_thread u f q (cases_eq u (thread_in m));
       }
     where
@@ -327,10 +343,13 @@ module _ (R : Reference) (d : Taken) (n : ℕ) (m : Moment) (known : RunShadow) 
       set_get None ls u w = refl
       set_get (Some l) ls u w = set_other ls (thread_in m) u l w
 
-      by_thread : (u f : ℕ) → slice_get h.after.locals u ≡ Some (fresh R.program u f) → (u ≡ thread_in m) ⊎ (u ≢ thread_in m) → (thread_of (after_step R d n m known) u).calls ≡ fresh_registers R.program f ∷ []
+      by_thread : (u f : ℕ) → slice_get h.after.locals u ≡ Some (fresh R.program u f) → (u ≡ thread_in m) ⊎ (u ≢ thread_in m)
+          → (thread_of (after_step R d n m known) u).calls ≡ fresh_registers R.program f ∷ []
       by_thread u f q (inl w) = absurd (local_begun f (subst (λ (i : ℕ). slice_get h.after.locals i ≡ Some (fresh R.program i f)) w q))
       by_thread u f q (inr w) = (kept plain).others u w ∙ made_fresh R.program made known.threads s.locals e.number u f (e.fresh_calls u f)
-          (sym (ap (λ (ls : List LocalState). slice_get ls u) after_locals ∙ set_get (own_after R.program (answer_to input s (thread_in m) (next_of R.program s (thread_in m))) (slice_get s.locals (thread_in m))) (with_local R.program made s.locals) u w) ∙ q)
+          (sym (ap (λ (ls : List LocalState). slice_get ls u) after_locals
+          ∙ set_get (own_after R.program (answer_to input s (thread_in m) (next_of R.program s (thread_in m))) (slice_get s.locals (thread_in m))) (with_local R.program made s.locals) u w)
+          ∙ q)
 
 -- ---- along the run
 
@@ -345,18 +364,23 @@ first_fresh p = record { number = refl; fresh_calls = go }
 module _ (r : ReferenceRun) (d : Taken) where
   met_fresh : (T : List ℕ) (k n : ℕ) (known : RunShadow) (s z : State) (xs : List Step) → IsRun r.gated r.program r.input s xs z → AreFresh r.program known s →
       AllOf (λ (x : Seen). x.live ≡ false → is_event_at x ≡ false) (seen_from (reference_of r) d n known (moments_from r.gated r.program r.input s (times recorded T k xs))) →
-      AllOf (λ (m : Met). AreFresh r.program m.seen.before m.state) (met_with (seen_from (reference_of r) d n known (moments_from r.gated r.program r.input s (times recorded T k xs))) (states_from r s xs))
+      AllOf (λ (m : Met). AreFresh r.program m.seen.before m.state)
+      (met_with (seen_from (reference_of r) d n known (moments_from r.gated r.program r.input s (times recorded T k xs))) (states_from r s xs))
   unfolding seen_from moments_from states_from
   met_fresh T k n known s z [] h e plain = tt
   met_fresh T k n known s z (x ∷ xs) h e plain =
       let b = behind_is r d s x h.0 in (
         e,
         met_fresh T (done_after (recorded.is_event x) k) (suc n) _ (behind r s x.thread.0) z xs (subst (λ (w : State). IsRun r.gated r.program r.input w xs z) (sym b) h.1)
-            (subst (AreFresh r.program (after_step (reference_of r) d n (record { did = timed recorded T k x; calls = calls_of (slice_get s.locals x.thread.0); bytes = byte_at s.memory }) known)) (sym b)
-            (fresh_kept (reference_of r) d n (record { did = timed recorded T k x; calls = calls_of (slice_get s.locals x.thread.0); bytes = byte_at s.memory }) known r.gated r.input s h.0 plain.0 e)) plain.1,
+            (subst (AreFresh r.program (after_step (reference_of r) d n (record { did = timed recorded T k x; calls = calls_of (slice_get s.locals x.thread.0); bytes = byte_at s.memory }) known))
+            (sym b)
+            (fresh_kept (reference_of r) d n (record { did = timed recorded T k x; calls = calls_of (slice_get s.locals x.thread.0); bytes = byte_at s.memory }) known r.gated r.input s h.0
+            plain.0 e)) plain.1,
       )
 
   pub starts_are_fresh : IsOrderedRun r → ExtentsArePlain r d → StartsAreFresh r d
-  starts_are_fresh o plain = unit_facts r d (λ (x : Seen) (s : State). (f : ℕ) → slice_get s.locals (thread_in x.moment) ≡ Some (fresh r.program (thread_in x.moment) f) → (thread_of x.before (thread_in x.moment)).calls ≡ fresh_registers r.program f ∷ [])
+  starts_are_fresh o plain = unit_facts r d (λ (x : Seen) (s : State). (f : ℕ) → slice_get s.locals (thread_in x.moment) ≡ Some (fresh r.program (thread_in x.moment) f)
+      → (thread_of x.before (thread_in x.moment)).calls ≡ fresh_registers r.program f ∷ [])
       (last_from r (initial r.program) r.steps) none_taken (met_in r d)
-      (all_map (λ (m : Met) (h : AreFresh r.program m.seen.before m.state). h.fresh_calls (thread_in m.seen.moment)) (met_in r d) (met_fresh (turns_of r) 0 0 (start_of r.program) (initial r.program) o.last r.steps o.run (first_fresh r.program) plain))
+      (all_map (λ (m : Met) (h : AreFresh r.program m.seen.before m.state). h.fresh_calls (thread_in m.seen.moment)) (met_in r d)
+      (met_fresh (turns_of r) 0 0 (start_of r.program) (initial r.program) o.last r.steps o.run (first_fresh r.program) plain))

@@ -23,7 +23,8 @@ pub told_met : (r : ReferenceRun) (d : Taken) (x : Seen) (s : State) → IsMet r
     x.moment.did.did ≡ step_told r.gated r.program s (thread_in x.moment) (answer_to r.input s (thread_in x.moment) (next_of r.program s (thread_in x.moment)))
 told_met r d x s met = told_is r.gated r.program r.input s met.takes.after (thread_in x.moment) x.moment.did.did met.takes.is_step
 
-module _ (r : ReferenceRun) (d : Taken) (input : List ℤ) (x : Seen) (s st : State) (met : IsMet r d x s) (b : Both r.program input (thread_in x.moment) s st (thread_of x.before (thread_in x.moment)).calls) where
+module _ (r : ReferenceRun) (d : Taken) (input : List ℤ) (x : Seen) (s st : State) (met : IsMet r d x s)
+    (b : Both r.program input (thread_in x.moment) s st (thread_of x.before (thread_in x.moment)).calls) where
   pub place0 : slice_get r.program.instrs (instr_of s (thread_in x.moment)) ≡ Some b.x
   place0 = ap (slice_get r.program.instrs) (instr_here r.program s (thread_in x.moment) b.h b.f0 b.fs0 b.n b.x b.here0) ∙ b.here0.instr
 

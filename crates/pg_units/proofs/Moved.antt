@@ -1,5 +1,6 @@
 -- The steps that a run takes along turns are moves, and are ordered as these are.
-use Rattle.std.proofs.Common.{◌≡◌, ◌≢◌, ℕ, ℤ, ◌⊎◌, ◌<◌, ◌^◌, ◌==◌, ◌||◌, ◌&&◌, suc, Bool, true, false, List, [], ◌∷◌, length, drop, arith, ◌+◌, Option, Some, None, refl, sym, ap, ◌∙◌, subst, inl, inr}
+use Rattle.std.proofs.Common.{◌≡◌, ◌≢◌, ℕ, ℤ, ◌⊎◌, ◌<◌, ◌^◌, ◌==◌, ◌||◌, ◌&&◌, suc, Bool, true, false, List, [], ◌∷◌, length, drop, arith}
+use Rattle.std.proofs.Common.{◌+◌, Option, Some, None, refl, sym, ap, ◌∙◌, subst, inl, inr}
 use Rattle.std.specs.Prelude.{is_some, if◌then◌else◌}
 use Rattle.std.proofs.lemmas.Bool.{cases_eq, eq-eqb, ne_eqb, true≢false}
 use Rattle.pg_ir.specs.WellFormed.{IsProgram}
@@ -51,7 +52,8 @@ conflicts : (d d2 : RunDeed) (e e2 : Deed') → TouchSame d e → TouchSame d2 e
 conflicts d d2 e e2 h k c = inl (record {
   threads = λ q. c.threads (sym h.thread ∙ q ∙ k.thread);
   cell = c.cell;
-  meet = meet_same (is_some (d.writes c.cell)) (d.reads c.cell) (is_some (d2.writes c.cell)) (d2.reads c.cell) (is_some (e.writes c.cell)) (e.reads c.cell) (is_some (e2.writes c.cell)) (e2.reads c.cell) (h.writes c.cell) (h.reads c.cell) (k.writes c.cell) (k.reads c.cell) ∙ c.meet;
+  meet = meet_same (is_some (d.writes c.cell)) (d.reads c.cell) (is_some (d2.writes c.cell)) (d2.reads c.cell) (is_some (e.writes c.cell)) (e.reads c.cell) (is_some (e2.writes c.cell))
+      (e2.reads c.cell) (h.writes c.cell) (h.reads c.cell) (k.writes c.cell) (k.reads c.cell) ∙ c.meet;
 })
 
 module _ (gated : List InstrId) (p : NumberedProgram) (input : List ℤ) where
@@ -68,8 +70,10 @@ module _ (gated : List InstrId) (p : NumberedProgram) (input : List ℤ) where
     touch_same (effect s (effect_of p input s x.thread.0)) (one_more x.thread.0 counts) xs,
   )
 
-  pub ordered_moves : (T : List ℕ) (s : State) (counts : ℕ → ℕ) (xs : List Step) → AreTurns deeds T 0 (deeds_of p input s counts xs) → IsOrdered deeds T (moved_by s counts xs) → IsOrdered deeds T (deeds_of p input s counts xs)
-  ordered_moves T s counts xs t o = ordered_as deeds deeds TouchSame (λ d e h. h.thread) (λ d e h. h.event) (λ d d2 e e2 h k c. conflicts d d2 e e2 h k c) T (moved_by s counts xs) (deeds_of p input s counts xs) (touch_same s counts xs) t o
+  pub ordered_moves : (T : List ℕ) (s : State) (counts : ℕ → ℕ) (xs : List Step) → AreTurns deeds T 0 (deeds_of p input s counts xs) → IsOrdered deeds T (moved_by s counts xs)
+      → IsOrdered deeds T (deeds_of p input s counts xs)
+  ordered_moves T s counts xs t o = ordered_as deeds deeds TouchSame (λ d e h. h.thread) (λ d e h. h.event) (λ d d2 e e2 h k c. conflicts d d2 e e2 h k c) T (moved_by s counts xs)
+      (deeds_of p input s counts xs) (touch_same s counts xs) t o
 
   -- ---- a step leads to what its move leaves
 
@@ -90,28 +94,35 @@ module _ (gated : List InstrId) (p : NumberedProgram) (input : List ℤ) where
         local_is : (v : ℕ) → local_at (effect s (effect_of p input s x.thread.0)) v ≡ (if v == x.thread.0 then (effect_of p input s x.thread.0).local else local_at s v)
         local_is v = to.locals v ∙ ap (λ (t : ℕ). if v == t then (effect_of p input s x.thread.0).local else local_at s v) (thread_is p input s x.thread.0)
 
-        own : (v : ℕ) → v ≡ x.thread.0 → Path MovedThread (record { local = (effect_of p input s x.thread.0).local; moves = suc (counts x.thread.0) }) (record { local = local_at (effect s (effect_of p input s x.thread.0)) v; moves = one_more x.thread.0 counts v })
+        own : (v : ℕ) → v ≡ x.thread.0 → Path MovedThread (record { local = (effect_of p input s x.thread.0).local; moves = suc (counts x.thread.0) })
+            (record { local = local_at (effect s (effect_of p input s x.thread.0)) v; moves = one_more x.thread.0 counts v })
         own v q = ap (λ l. record { local = l; moves = suc (counts x.thread.0) }) (sym (local_is v ∙ yes_if (v == x.thread.0) _ _ (eq-eqb v x.thread.0 q)))
             ∙ ap (λ (k : ℕ). record { local = local_at (effect s (effect_of p input s x.thread.0)) v; moves = k })
             (ap (λ (i : ℕ). suc (counts i)) (sym q) ∙ sym (yes_if (x.thread.0 == v) (suc (counts v)) (counts v) (eq-eqb x.thread.0 v (sym q))))
 
-        by_thread : (v : ℕ) → (v ≡ x.thread.0) ⊎ (v ≢ x.thread.0) → (if v == x.thread.0 then (deed_moved p input s counts x).to else a.locals v) ≡ (moved (effect s (effect_of p input s x.thread.0)) (one_more x.thread.0 counts)).locals v
+        by_thread : (v : ℕ) → (v ≡ x.thread.0) ⊎ (v ≢ x.thread.0)
+            → (if v == x.thread.0 then (deed_moved p input s counts x).to else a.locals v) ≡ (moved (effect s (effect_of p input s x.thread.0)) (one_more x.thread.0 counts)).locals v
         by_thread v (inl q) = yes_if (v == x.thread.0) (deed_moved p input s counts x).to (a.locals v) (eq-eqb v x.thread.0 q) ∙ own v q
         by_thread v (inr q) = no_if (v == x.thread.0) (deed_moved p input s counts x).to (a.locals v) (ne_eqb v x.thread.0 q) ∙ looks.locals v
             ∙ ap (λ l. record { local = l; moves = counts v }) (sym (local_is v ∙ no_if (v == x.thread.0) _ _ (ne_eqb v x.thread.0 q)))
-            ∙ ap (λ (k : ℕ). record { local = local_at (effect s (effect_of p input s x.thread.0)) v; moves = k }) (sym (no_if (x.thread.0 == v) (suc (counts v)) (counts v) (ne_eqb x.thread.0 v (λ w. q (sym w)))))
+            ∙ ap (λ (k : ℕ). record { local = local_at (effect s (effect_of p input s x.thread.0)) v; moves = k })
+            (sym (no_if (x.thread.0 == v) (suc (counts v)) (counts v) (ne_eqb x.thread.0 v (λ w. q (sym w)))))
 
         none : is_some (event_of x) ≡ false → (o : Option RequestEffect) → (effect_of p input s x.thread.0).request ≡ o → o ≡ None
         none v None q = refl
         none v (Some k) q = absurd (true≢false (sym (request_event gated p input s x h (ap is_some q)) ∙ v))
 
-        by_event : (b : Bool) → is_some (event_of x) ≡ b → plans.or_old (if b then Some (objects_with (effect_of p input s x.thread.0).thread (effect_of p input s x.thread.0).request (objects_of s)) else None) a.objects ≡ objects_of (effect s (effect_of p input s x.thread.0))
+        by_event : (b : Bool) → is_some (event_of x) ≡ b → plans.or_old
+            (if b then Some (objects_with (effect_of p input s x.thread.0).thread (effect_of p input s x.thread.0).request (objects_of s)) else None) a.objects
+            ≡ objects_of (effect s (effect_of p input s x.thread.0))
         by_event true v = sym to.objects
-        by_event false v = looks.objects ∙ sym (to.objects ∙ ap (λ (o : Option RequestEffect). objects_with (effect_of p input s x.thread.0).thread o (objects_of s)) (none v (effect_of p input s x.thread.0).request refl))
+        by_event false v = looks.objects ∙ sym (to.objects
+            ∙ ap (λ (o : Option RequestEffect). objects_with (effect_of p input s x.thread.0).thread o (objects_of s)) (none v (effect_of p input s x.thread.0).request refl))
 
   -- ---- the steps of a permitted run are moves
 
-  pub moves_are : (turns : List Turn) (s : State) (counts : ℕ → ℕ) (a : RunState) (g : ℕ) (xs : List Step) (z : State) → IsProgram p → length input < 2 ^ 64 → IsReached p s → Same a (moved s counts) →
+  pub moves_are : (turns : List Turn) (s : State) (counts : ℕ → ℕ) (a : RunState) (g : ℕ) (xs : List Step) (z : State) → IsProgram p → length input < 2 ^ 64 → IsReached p s
+      → Same a (moved s counts) →
       PermittedSteps gated p input s (drop g turns) counts xs z → Moves (IsMove gated p input turns) a g (moved_by s counts xs)
   unfolding moved_by
   moves_are turns s counts a g [] z program small reached looks h = tt
@@ -121,15 +132,27 @@ module _ (gated : List InstrId) (p : NumberedProgram) (input : List ℤ) where
       let d = deed_moved p input s counts x in
       let w : m.takes.after ≡ effect s (effect_of p input s t) = left_by gated p input s m.takes.after t x m.takes.is_step in
       let more : PermittedSteps gated p input (effect s (effect_of p input s t)) (drop (done_after (deeds.is_event d) g) turns) (one_more t counts) xs z =
-      subst (λ (us : List Turn). PermittedSteps gated p input (effect s (effect_of p input s t)) us (one_more t counts) xs z) (left_behind (event_of x) g turns ∙ ap (λ (b : Bool). drop (done_after b g) turns) (sym (is_some_if (is_some (event_of x)) (objects_with (effect_of p input s t).thread (effect_of p input s t).request (objects_of s)))))
+      subst (λ (us : List Turn). PermittedSteps gated p input (effect s (effect_of p input s t)) us (one_more t counts) xs z)
+      (left_behind (event_of x) g turns ∙ ap (λ (b : Bool). drop (done_after b g) turns)
+      (sym (is_some_if (is_some (event_of x)) (objects_with (effect_of p input s t).thread (effect_of p input s t).request (objects_of s)))))
       (subst (λ (v : State). PermittedSteps gated p input v (turns_behind (event_of x) (drop g turns)) (one_more t counts) xs z) w h.1) in (
-        record { state = s; moves = counts; taken = counts; reached = reached; looks = record { locals = λ v e. looks.locals v; cells = looks.cells; objects = looks.objects }; told = x; may = m; is_deed = deed_refl d },
+        record {
+          state = s;
+          moves = counts;
+          taken = counts;
+          reached = reached;
+          looks = record { locals = λ v e. looks.locals v; cells = looks.cells; objects = looks.objects };
+          told = x;
+          may = m;
+          is_deed = deed_refl d;
+        },
         moves_are turns (effect s (effect_of p input s t)) (one_more t counts) (plans.effect a d) (done_after (deeds.is_event d) g) xs z program small
             (subst (IsReached p) w (reached_step gated p input s m.takes.after t x program small reached m.takes.is_ready m.takes.is_step)) (move_leads s counts a x reached looks m.takes) more,
       )
 
   -- they lead to the run's state
-  pub moves_lead : (us : List Turn) (s : State) (counts : ℕ → ℕ) (a : RunState) (xs : List Step) (z : State) → IsProgram p → length input < 2 ^ 64 → IsReached p s → Same a (moved s counts) →
+  pub moves_lead : (us : List Turn) (s : State) (counts : ℕ → ℕ) (a : RunState) (xs : List Step) (z : State) → IsProgram p → length input < 2 ^ 64 → IsReached p s
+      → Same a (moved s counts) →
       PermittedSteps gated p input s us counts xs z → (c : ℕ → ℕ) × Same (plans.effects a (moved_by s counts xs)) (moved z c)
   unfolding moved_by
   moves_lead us s counts a [] z program small reached looks h = (counts, subst (λ (v : State). Same a (moved v counts)) h looks)

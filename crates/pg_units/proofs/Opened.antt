@@ -71,7 +71,8 @@ parts input (f ∷ fs0) [] gs h = absurd h
 parts input (f ∷ fs0) (k ∷ known) [] h = absurd h
 parts input (f ∷ fs0) (k ∷ known) (g ∷ gs) h = inr (record { f0 = f; more0 = fs0; ks = k; more = known; f = g; fs = gs; is0 = refl; is_known = refl; is = refl; top = h.0; rest = h.1 })
 
-module _ (gated : List InstrId) (p : NumberedProgram) (input0 input : List ℤ) (s0 s : State) (x0 : Step) (known : List (List Shadow)) (reached0 : IsReached p s0) (takes0 : Takes gated p input0 s0 x0) (reached : IsReached p s) where
+module _ (gated : List InstrId) (p : NumberedProgram) (input0 input : List ℤ) (s0 s : State) (x0 : Step) (known : List (List Shadow)) (reached0 : IsReached p s0)
+    (takes0 : Takes gated p input0 s0 x0) (reached : IsReached p s) where
   abbrev t : ℕ
   t = x0.thread.0
 
@@ -98,15 +99,18 @@ module _ (gated : List InstrId) (p : NumberedProgram) (input0 input : List ℤ) 
           let k : next_of p s0 x0.thread.0 ≡ actions.Ended = next_is p s0 x0.thread.0 (running x0.thread.0 h f fs n) e ∙ ap (instr_action p (running x0.thread.0 h f fs n) f fs) q in
           absurd (subst CanStep k can)
 
-  both : (l0 k0 : LocalState) → slice_get s0.locals x0.thread.0 ≡ Some l0 → slice_get s.locals x0.thread.0 ≡ Some k0 → l0.begun ≡ true → k0.begun ≡ true → IsStandingLike input (record { local = l0; known = known }) k0 → Both p input x0.thread.0 s0 s known
+  both : (l0 k0 : LocalState) → slice_get s0.locals x0.thread.0 ≡ Some l0 → slice_get s.locals x0.thread.0 ≡ Some k0 → l0.begun ≡ true → k0.begun ≡ true
+      → IsStandingLike input (record { local = l0; known = known }) k0 → Both p input x0.thread.0 s0 s known
   both l0 k0 e0 e b0 b z = go (parts input l0.frames known k0.frames z.calls)
     where
       go : (l0.frames ≡ []) ⊎ Parts input l0.frames known k0.frames → Both p input x0.thread.0 s0 s known
       go (inl q) = absurd (no_end l0 e0 q)
       go (inr q) =
-          let is0 : slice_get s0.locals x0.thread.0 ≡ Some (running x0.thread.0 l0.halfway q.f0 q.more0 l0.heap) = e0 ∙ ap (λ (l : LocalState). Some l) (running_is l0 x0.thread.0 q.f0 q.more0 (thread_at s0 l0 reached0 e0).number b0 q.is0) in
+          let is0 : slice_get s0.locals x0.thread.0 ≡ Some (running x0.thread.0 l0.halfway q.f0 q.more0 l0.heap) =
+          e0 ∙ ap (λ (l : LocalState). Some l) (running_is l0 x0.thread.0 q.f0 q.more0 (thread_at s0 l0 reached0 e0).number b0 q.is0) in
           let is : slice_get s.locals x0.thread.0 ≡ Some (running x0.thread.0 l0.halfway q.f q.fs l0.heap) =
-          e ∙ ap (λ (l : LocalState). Some l) (running_is k0 x0.thread.0 q.f q.fs (thread_at s k0 reached e).number b q.is ∙ same_running x0.thread.0 k0.halfway l0.halfway q.f q.fs k0.heap l0.heap z.halfway z.heap) in
+          e ∙ ap (λ (l : LocalState). Some l) (running_is k0 x0.thread.0 q.f q.fs (thread_at s k0 reached e).number b q.is
+          ∙ same_running x0.thread.0 k0.halfway l0.halfway q.f q.fs k0.heap l0.heap z.halfway z.heap) in
           let i = instr_at l0.halfway q.f0 q.more0 l0.heap is0 in
           record {
             h = l0.halfway;
@@ -125,7 +129,8 @@ module _ (gated : List InstrId) (p : NumberedProgram) (input0 input : List ℤ) 
             rest = q.rest;
           }
 
-  begun_local : (z : State) (o : Option LocalState) (l : LocalState) → slice_get z.locals x0.thread.0 ≡ o → begun_in o ≡ Some l → (slice_get z.locals x0.thread.0 ≡ Some l) × (l.begun ≡ true)
+  begun_local : (z : State) (o : Option LocalState) (l : LocalState) → slice_get z.locals x0.thread.0 ≡ o → begun_in o ≡ Some l
+      → (slice_get z.locals x0.thread.0 ≡ Some l) × (l.begun ≡ true)
   begun_local z None l e q = absurd cc
   begun_local z (Some k) l e q = go k.begun refl q
     where

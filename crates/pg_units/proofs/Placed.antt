@@ -38,7 +38,8 @@ IsPlaced (Some a) = is_in_range a.pointer a.bytes ≡ true
 pub place_range : (word bytes : ℕ) (r : ByteRange) → place_of word bytes ≡ Ok r → is_in_range word bytes ≡ true
 place_range word bytes r e = go (is_in_range word bytes) (is_aligned word bytes) e
   where
-    go : (b c : Bool) → Path (Result ByteRange PlaceFault) (if not b then Err OutOfRange else if not c then Err Misaligned else Ok (record { start = byte_place word; bytes = bytes })) (Ok r) → b ≡ true
+    go : (b c : Bool) → Path (Result ByteRange PlaceFault) (if not b then Err OutOfRange else if not c then Err Misaligned else Ok (record { start = byte_place word; bytes = bytes })) (Ok r)
+        → b ≡ true
     go true c h = refl
     go false c h = absurd cc
 
@@ -63,7 +64,8 @@ request_placed s ns (requests.Join n (Some r)) h = place_range (slice_index ns 1
 request_placed s ns (requests.Join n None) h = tt
 request_placed s ns r h = tt
 
-kind_placed : (gated : List InstrId) (p : NumberedProgram) (s : State) (t : ℕ) (ns : List ℕ) (answer n : ℕ) (action : Action) → IsNamed ns action → IsPlaced (access_in (kind_told gated p s t ns answer n action))
+kind_placed : (gated : List InstrId) (p : NumberedProgram) (s : State) (t : ℕ) (ns : List ℕ) (answer n : ℕ) (action : Action) → IsNamed ns action
+    → IsPlaced (access_in (kind_told gated p s t ns answer n action))
 kind_placed gated p s t ns answer n actions.Local h = instr_placed ns n (slice_get p.instrs (Rattle.pg_machine.specs.State.instr_of s t))
 kind_placed gated p s t ns answer n (actions.Load r) h = place_range (slice_index ns 0) r.bytes r h
 kind_placed gated p s t ns answer n (actions.Store r m) h = place_range (slice_index ns 1) r.bytes r h
@@ -75,7 +77,8 @@ module _ (gated : List InstrId) (p : NumberedProgram) (input : List ℤ) where
   step_placed s x h =
       let t = x.thread.0 in
       let k = told gated p input s h.after t x h.is_step in
-      subst (λ (y : Step). IsPlaced (access_of y)) k.1 (kind_placed gated p s t (operands_in p (slice_get s.locals t)) k.0 (Rattle.pg_machine.specs.MachineStep.number_in p (slice_get s.locals t) k.0) (next_of p s t) (next_named p s t))
+      subst (λ (y : Step). IsPlaced (access_of y)) k.1 (kind_placed gated p s t (operands_in p (slice_get s.locals t)) k.0
+      (Rattle.pg_machine.specs.MachineStep.number_in p (slice_get s.locals t) k.0) (next_of p s t) (next_named p s t))
 
   pub run_placed : (s z : State) (xs : List Step) → IsRun gated p input s xs z → AllOf (λ (x : Step). IsPlaced (access_of x)) xs
   run_placed s z [] h = tt
@@ -90,4 +93,5 @@ in_frame a b h k =
     let i = leb-true (q.offset + a.bytes) q.length u.0 in
     let j = leb-true (byte_place a.pointer) b v.0 in
     let l = ltb-true b (byte_place a.pointer + a.bytes) v.1 in
-    and_from (nat_le (frame_of a.pointer).start b) (nat_lt b ((frame_of a.pointer).start + (frame_of a.pointer).bytes)) (le-leb (frame_of a.pointer).start b (omega (arith, j))) (lt-ltb b ((frame_of a.pointer).start + (frame_of a.pointer).bytes) (omega (arith, i, l)))
+    and_from (nat_le (frame_of a.pointer).start b) (nat_lt b ((frame_of a.pointer).start + (frame_of a.pointer).bytes)) (le-leb (frame_of a.pointer).start b (omega (arith, j)))
+    (lt-ltb b ((frame_of a.pointer).start + (frame_of a.pointer).bytes) (omega (arith, i, l)))

@@ -21,7 +21,8 @@ use Rattle.pg_closed.specs.Moments.{moments_from, thread_in}
 use Rattle.pg_units.specs.Answered.{Answered, answered, answers}
 use Rattle.pg_units.specs.Likes.{like}
 use Rattle.pg_units.specs.Moves.{RunDeed, deed_moved}
-use Rattle.pg_units.specs.Units.{ExtentsArePlain, Met, PlanDeed, ReferenceRun, behind, deed_of, is_event_at, last_from, met_in, met_with, plan_of, reference_of, states_from, turns_of, unit_of, units_from}
+use Rattle.pg_units.specs.Units.{ExtentsArePlain, Met, PlanDeed, ReferenceRun, behind, deed_of, is_event_at, last_from, met_in, met_with, plan_of, reference_of, states_from, turns_of}
+use Rattle.pg_units.specs.Units.{unit_of, units_from}
 use Rattle.pg_units.proofs.Moved.{moved_by}
 use Rattle.pg_units.proofs.Turns.{AreTimed, all_timed, deed_event, is_some_if}
 
@@ -37,7 +38,8 @@ fit_answers input [] [] h = refl
 fit_answers input [] (d ∷ ds) h = absurd h
 fit_answers input (p ∷ ps) [] h = absurd h
 fit_answers input (p ∷ ps) (d ∷ ds) h =
-    let first : run_answer d ≡ plan_answer p = ap (λ t. record { turn = t; reply = (run_answer d).reply }) h.0.told.turn ∙ ap (λ n. record { turn = (plan_answer p).turn; reply = n }) h.0.told.reply in
+    let first : run_answer d ≡ plan_answer p = ap (λ t. record { turn = t; reply = (run_answer d).reply }) h.0.told.turn
+    ∙ ap (λ n. record { turn = (plan_answer p).turn; reply = n }) h.0.told.reply in
     ap (λ (a : Answered). a ∷ map run_answer ds) first ∙ ap (λ (l : List Answered). plan_answer p ∷ l) (fit_answers input ps ds h.1)
 
 module _ (gated : List InstrId) (p : NumberedProgram) (input : List ℤ) where
@@ -46,10 +48,12 @@ module _ (gated : List InstrId) (p : NumberedProgram) (input : List ℤ) where
   moved_answers s counts [] = refl
   moved_answers s counts (x ∷ xs) =
       let later = moved_by gated p input (effect s (effect_of p input s x.thread.0)) (one_more x.thread.0 counts) xs in
-      ap (λ (b : Bool). map run_answer (cond b (deed_moved p input s counts x ∷ filter deeds.is_event later) (filter deeds.is_event later))) (is_some_if (is_some (event_of x)) _ ∙ some_turn x (happening_in x.kind))
+      ap (λ (b : Bool). map run_answer (cond b (deed_moved p input s counts x ∷ filter deeds.is_event later) (filter deeds.is_event later)))
+      (is_some_if (is_some (event_of x)) _ ∙ some_turn x (happening_in x.kind))
       ∙ go (recorded.is_event x) (filter deeds.is_event later) (moved_answers (effect s (effect_of p input s x.thread.0)) (one_more x.thread.0 counts) xs)
     where
-      go : (b : Bool) (ds : List RunDeed) → map run_answer ds ≡ answers xs → map run_answer (cond b (deed_moved p input s counts x ∷ ds) ds) ≡ map answered (cond b (x ∷ filter recorded.is_event xs) (filter recorded.is_event xs))
+      go : (b : Bool) (ds : List RunDeed) → map run_answer ds ≡ answers xs
+          → map run_answer (cond b (deed_moved p input s counts x ∷ ds) ds) ≡ map answered (cond b (x ∷ filter recorded.is_event xs) (filter recorded.is_event xs))
       go true ds e = ap (λ (l : List Answered). answered x ∷ l) e
       go false ds e = e
 
@@ -58,24 +62,29 @@ module _ (r : ReferenceRun) (d : Taken) where
   met_answers [] = []
   met_answers (m ∷ ms) = cond (is_event_at m.seen) (answered m.seen.moment.did.did ∷ met_answers ms) (met_answers ms)
 
-  unit_answers : (T : List ℕ) (k : ℕ) (last : State) (counts : ℕ → ℕ) (ms : List Met) → AreTimed T k ms → map plan_answer (filter deeds.is_event (map (deed_of d) (units_from r d last counts ms))) ≡ met_answers ms
+  unit_answers : (T : List ℕ) (k : ℕ) (last : State) (counts : ℕ → ℕ) (ms : List Met) → AreTimed T k ms
+      → map plan_answer (filter deeds.is_event (map (deed_of d) (units_from r d last counts ms))) ≡ met_answers ms
   unfolding units_from
   unit_answers T k last counts [] h = refl
   unit_answers T k last counts (m ∷ ms) h = go m.seen.live refl (λ counts. unit_answers T (done_after (is_event_at m.seen) k) last counts ms h.1)
     where
-      each : (b : Bool) (q : PlanDeed) (ds : List PlanDeed) → plan_answer q ≡ answered m.seen.moment.did.did → map plan_answer ds ≡ met_answers ms → map plan_answer (cond b (q ∷ ds) ds) ≡ cond b (answered m.seen.moment.did.did ∷ met_answers ms) (met_answers ms)
+      each : (b : Bool) (q : PlanDeed) (ds : List PlanDeed) → plan_answer q ≡ answered m.seen.moment.did.did → map plan_answer ds ≡ met_answers ms
+          → map plan_answer (cond b (q ∷ ds) ds) ≡ cond b (answered m.seen.moment.did.did ∷ met_answers ms) (met_answers ms)
       each true q ds e k = ap (λ (a : Answered). a ∷ map plan_answer ds) e ∙ ap (λ (l : List Answered). answered m.seen.moment.did.did ∷ l) k
       each false q ds e k = k
 
       go : (b : Bool) → m.seen.live ≡ b → ((counts : ℕ → ℕ) → map plan_answer (filter deeds.is_event (map (deed_of d) (units_from r d last counts ms))) ≡ met_answers ms) →
-          map plan_answer (filter deeds.is_event (map (deed_of d) (if b then unit_of r d last counts m ms ∷ units_from r d last (one_more (thread_in m.seen.moment) counts) ms else units_from r d last counts ms))) ≡ met_answers (m ∷ ms)
+          map plan_answer (filter deeds.is_event (map (deed_of d)
+          (if b then unit_of r d last counts m ms ∷ units_from r d last (one_more (thread_in m.seen.moment) counts) ms else units_from r d last counts ms))) ≡ met_answers (m ∷ ms)
       go true e more =
           let u = unit_of r d last counts m ms in
           let later = filter deeds.is_event (map (deed_of d) (units_from r d last (one_more (thread_in m.seen.moment) counts) ms)) in
-          ap (λ (b : Bool). map plan_answer (cond b (deed_of d u ∷ later) later)) (deed_event r d u) ∙ each (is_event_at m.seen) (deed_of d u) later refl (more (one_more (thread_in m.seen.moment) counts))
+          ap (λ (b : Bool). map plan_answer (cond b (deed_of d u ∷ later) later)) (deed_event r d u)
+          ∙ each (is_event_at m.seen) (deed_of d u) later refl (more (one_more (thread_in m.seen.moment) counts))
       go false e more = more counts ∙ sym (ap (λ (b : Bool). cond b (answered m.seen.moment.did.did ∷ met_answers ms) (met_answers ms)) (h.0.plain e))
 
-  step_answers : (T : List ℕ) (k n : ℕ) (known : RunShadow) (s : State) (xs : List Step) → met_answers (met_with (seen_from (reference_of r) d n known (moments_from r.gated r.program r.input s (times recorded T k xs))) (states_from r s xs)) ≡ answers xs
+  step_answers : (T : List ℕ) (k n : ℕ) (known : RunShadow) (s : State) (xs : List Step)
+      → met_answers (met_with (seen_from (reference_of r) d n known (moments_from r.gated r.program r.input s (times recorded T k xs))) (states_from r s xs)) ≡ answers xs
   unfolding seen_from moments_from states_from
   step_answers T k n known s [] = refl
   step_answers T k n known s (x ∷ xs) = go (recorded.is_event x) _ (step_answers T (done_after (recorded.is_event x) k) (suc n) _ (behind r s x.thread.0) xs)
@@ -85,7 +94,8 @@ module _ (r : ReferenceRun) (d : Taken) where
       go false l e = e
 
   pub plan_answers : ExtentsArePlain r d → map plan_answer (filter deeds.is_event (plan_of r d)) ≡ answers r.steps
-  plan_answers plain = unit_answers (turns_of r) 0 (last_from r (initial r.program) r.steps) none_taken (met_in r d) (all_timed r d plain) ∙ step_answers (turns_of r) 0 0 (start_of r.program) (initial r.program) r.steps
+  plan_answers plain = unit_answers (turns_of r) 0 (last_from r (initial r.program) r.steps) none_taken (met_in r d) (all_timed r d plain)
+      ∙ step_answers (turns_of r) 0 0 (start_of r.program) (initial r.program) r.steps
 
 pub map_join : {A B : Type 0} (f : A → B) (xs ys : List A) → map f xs ++ map f ys ≡ map f (xs ++ ys)
 map_join f [] ys = refl
@@ -97,6 +107,7 @@ answered_turns [] = refl
 answered_turns (x ∷ xs) = go (happening_in x.kind) refl (answered_turns xs)
   where
     go : (h : Option Happening) → happening_in x.kind ≡ h → map (λ (a : Answered). a.turn) (answers xs) ≡ map (λ (u : Turn). Some u) (events xs) →
-        map (λ (a : Answered). a.turn) (map answered (cond (is_some (happening_in x.kind)) (x ∷ filter recorded.is_event xs) (filter recorded.is_event xs))) ≡ map (λ (u : Turn). Some u) (cons_option (turn_at x (happening_in x.kind)) (events xs))
+        map (λ (a : Answered). a.turn) (map answered (cond (is_some (happening_in x.kind)) (x ∷ filter recorded.is_event xs) (filter recorded.is_event xs)))
+        ≡ map (λ (u : Turn). Some u) (cons_option (turn_at x (happening_in x.kind)) (events xs))
     go None e ih = rw e ih
     go (Some v) e ih = rw e (ap (λ (l : List (Option Turn)). event_of x ∷ l) ih ∙ ap (λ (h : Option Happening). turn_at x h ∷ map (λ (u : Turn). Some u) (events xs)) e)

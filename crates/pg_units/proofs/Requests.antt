@@ -70,11 +70,13 @@ made_core p s (requests.Putchar n) fs = refl
 made_core p s r fs = refl
 
 -- the objects behind a request
-objects_core : (p : NumberedProgram) (s : State) (t : ℕ) (r : Request) (o : Objects) → objects_with t (request_effect p s t (actions.Event r)) o ≡ record { sync = (sync.done s.sync t (core r)).0; starts = slice_set (start_core (core r) o.starts) t None }
+objects_core : (p : NumberedProgram) (s : State) (t : ℕ) (r : Request) (o : Objects)
+    → objects_with t (request_effect p s t (actions.Event r)) o ≡ record { sync = (sync.done s.sync t (core r)).0; starts = slice_set (start_core (core r) o.starts) t None }
 objects_core p s t r o = ap (λ (z : sync.Sync). record { sync = z; starts = slice_set (start_made (thread_made p s r) o.starts) t None }) (done_core s.sync t r)
     ∙ ap (λ (fs : List (Option ℕ)). record { sync = (sync.done s.sync t (core r)).0; starts = slice_set fs t None }) (made_core p s r o.starts)
 
-pub same_objects : (p : NumberedProgram) (s z : State) (t : ℕ) (r q : Request) (o : Objects) → core r ≡ core q → s.sync ≡ z.sync → objects_with t (request_effect p s t (actions.Event r)) o ≡ objects_with t (request_effect p z t (actions.Event q)) o
+pub same_objects : (p : NumberedProgram) (s z : State) (t : ℕ) (r q : Request) (o : Objects) → core r ≡ core q → s.sync ≡ z.sync
+    → objects_with t (request_effect p s t (actions.Event r)) o ≡ objects_with t (request_effect p z t (actions.Event q)) o
 same_objects p s z t r q o c e =
     objects_core p s t r o
     ∙ ap (λ (y : sync.Sync). record { sync = (sync.done y t (core r)).0; starts = slice_set (start_core (core r) o.starts) t None }) e
@@ -113,14 +115,17 @@ module _ (p : NumberedProgram) (t : ℕ) (h : Bool) (rs : List (Option ℕ)) (ar
       let v = value_done (argument p rs args 0) (λ a. on_value (argument p rs args 1) (λ b. act a b)) c in
       let w = value_done (argument p rs args 1) (λ b. act v.0 b) v.2 in ((v.0, v.1), (w.0, w.1))
 
-  three_given : (act : ℕ → ℕ → ℕ → Action) → CanStep (on_value (argument p rs args 0) (λ a. on_value (argument p rs args 1) (λ b. on_value (argument p rs args 2) (λ c. act a b c)))) → IsGiven p rs args 0 × (IsGiven p rs args 1 × IsGiven p rs args 2)
+  three_given : (act : ℕ → ℕ → ℕ → Action)
+      → CanStep (on_value (argument p rs args 0) (λ a. on_value (argument p rs args 1) (λ b. on_value (argument p rs args 2) (λ c. act a b c))))
+      → IsGiven p rs args 0 × (IsGiven p rs args 1 × IsGiven p rs args 2)
   three_given act c =
       let v = value_done (argument p rs args 0) (λ a. on_value (argument p rs args 1) (λ b. on_value (argument p rs args 2) (λ c. act a b c))) c in
       let w = value_done (argument p rs args 1) (λ b. on_value (argument p rs args 2) (λ c. act v.0 b c)) v.2 in
       let z = value_done (argument p rs args 2) (λ c. act v.0 w.0 c) w.2 in ((v.0, v.1), ((w.0, w.1), (z.0, z.1)))
 
   pub given_args : (k : Known) → CanStep (known_action p t h rs k args) → AllOf (IsGiven p rs args) (checked k)
-  given_args known.PthreadCreate c = let g = three_given (λ w a f. on_value (argument p rs args 3) (λ n. on_place w 8 (λ r. on_null a (actions.Event (requests.Create r f n))))) c in (g.0, (g.1.0, (g.1.1, tt)))
+  given_args known.PthreadCreate c = let g = three_given (λ w a f. on_value (argument p rs args 3) (λ n. on_place w 8 (λ r. on_null a (actions.Event (requests.Create r f n))))) c in
+      (g.0, (g.1.0, (g.1.1, tt)))
   given_args known.PthreadJoin c = let g = two_given (λ n w. Rattle.pg_step.specs.Step.join_at n w) c in (g.0, (g.1, tt))
   given_args known.PthreadMutexInit c = let g = two_given (λ w a. on_object w (λ o. on_null a (actions.Event (requests.MutexInit o)))) c in (g.0, (g.1, tt))
   given_args known.PthreadMutexLock c = (one_given (λ w. on_object w (λ o. actions.Event (requests.Lock o))) c, tt)
@@ -146,10 +151,14 @@ module _ (p : NumberedProgram) (t : ℕ) (h : Bool) (rs zs : List (Option ℕ)) 
   one_same : (act : ℕ → Action) → Same 0 → on_value (argument p rs args 0) act ≡ on_value (argument p zs args 0) act
   one_same act a = ap (λ (o : Option ℕ). on_value o act) a
 
-  two_same : (act : ℕ → ℕ → Action) → Same 0 → Same 1 → on_value (argument p rs args 0) (λ a. on_value (argument p rs args 1) (λ b. act a b)) ≡ on_value (argument p zs args 0) (λ a. on_value (argument p zs args 1) (λ b. act a b))
-  two_same act a b = ap (λ (o : Option ℕ). on_value o (λ m. on_value (argument p rs args 1) (λ n. act m n))) a ∙ ap (λ (o : Option ℕ). on_value (argument p zs args 0) (λ m. on_value o (λ n. act m n))) b
+  two_same : (act : ℕ → ℕ → Action) → Same 0 → Same 1 → on_value (argument p rs args 0) (λ a. on_value (argument p rs args 1) (λ b. act a b))
+      ≡ on_value (argument p zs args 0) (λ a. on_value (argument p zs args 1) (λ b. act a b))
+  two_same act a b = ap (λ (o : Option ℕ). on_value o (λ m. on_value (argument p rs args 1) (λ n. act m n))) a
+      ∙ ap (λ (o : Option ℕ). on_value (argument p zs args 0) (λ m. on_value o (λ n. act m n))) b
 
-  three_same : (act : ℕ → ℕ → ℕ → Action) → Same 0 → Same 1 → Same 2 → on_value (argument p rs args 0) (λ a. on_value (argument p rs args 1) (λ b. on_value (argument p rs args 2) (λ c. act a b c))) ≡ on_value (argument p zs args 0) (λ a. on_value (argument p zs args 1) (λ b. on_value (argument p zs args 2) (λ c. act a b c)))
+  three_same : (act : ℕ → ℕ → ℕ → Action) → Same 0 → Same 1 → Same 2
+      → on_value (argument p rs args 0) (λ a. on_value (argument p rs args 1) (λ b. on_value (argument p rs args 2) (λ c. act a b c)))
+      ≡ on_value (argument p zs args 0) (λ a. on_value (argument p zs args 1) (λ b. on_value (argument p zs args 2) (λ c. act a b c)))
   three_same act a b c =
       ap (λ (o : Option ℕ). on_value o (λ l. on_value (argument p rs args 1) (λ m. on_value (argument p rs args 2) (λ n. act l m n)))) a
       ∙ ap (λ (o : Option ℕ). on_value (argument p zs args 0) (λ l. on_value o (λ m. on_value (argument p rs args 2) (λ n. act l m n)))) b

@@ -1,5 +1,6 @@
 -- The number that a computing instruction gives is the operation's on the numbers of its operands, whose width they have.
-use Rattle.std.proofs.Common.{◌≡◌, ℕ, zero, suc, ◌%◌, ◌<◌, Bool, true, false, List, [], ◌∷◌, map, Option, Some, None, Result, Ok, Err, refl, sym, ap, ◌∙◌, subst, arith, inl, inr}
+use Rattle.std.proofs.Common.{◌≡◌, ℕ, zero, suc, ◌%◌, ◌<◌, Bool, true, false, List, [], ◌∷◌, map, Option, Some, None, Result, Ok, Err, refl, sym, ap, ◌∙◌, subst}
+use Rattle.std.proofs.Common.{arith, inl, inr}
 use Rattle.std.specs.Prelude.{◌==◌, ◌&&◌, slice_get, if◌then◌else◌}
 use Rattle.std.specs.List.{AllByRecursion, list_all}
 use Rattle.std.proofs.lemmas.Bool.{true≢false}
@@ -64,7 +65,8 @@ divided_done (Ok n) h = (n, refl)
 divided_done (Err divide.Zero) h = absurd h
 divided_done (Err divide.Overflow) h = absurd h
 
-pub divide_local : (d : ℕ → ℕ → Result ℕ DivideFault) (u v : Option ℕ) (m n q : ℕ) → u ≡ Some m → v ≡ Some n → d m n ≡ Ok q → on_value u (λ m. on_value v (λ n. divided_action (d m n))) ≡ actions.Local
+pub divide_local : (d : ℕ → ℕ → Result ℕ DivideFault) (u v : Option ℕ) (m n q : ℕ) → u ≡ Some m → v ≡ Some n → d m n ≡ Ok q
+    → on_value u (λ m. on_value v (λ n. divided_action (d m n))) ≡ actions.Local
 divide_local d u v m n q e f h = rw (e, f) (ap divided_action h)
 
 -- ---- operands have the widths that the operation takes
@@ -83,7 +85,8 @@ module _ (p : NumberedProgram) (program : IsProgram p) (types : List Scalar) (rs
   compared_small w a b (inl h) k = two_small (Int w) a b h k
   compared_small w a b (inr h) k = subst (λ (v : Width). number_at p rs (a ∷ b ∷ []) k < modulus v) (sym h.0) (two_small Ptr a b h.1 k)
 
-  index_small : (is : List Index) → AllByRecursion (FitsIndex p types) is → (k : ℕ) → index_narrowed (slice_get is k) (number_at p rs (map (λ (i : Index). i.value) is) k) ≡ number_at p rs (map (λ (i : Index). i.value) is) k
+  index_small : (is : List Index) → AllByRecursion (FitsIndex p types) is → (k : ℕ)
+      → index_narrowed (slice_get is k) (number_at p rs (map (λ (i : Index). i.value) is) k) ≡ number_at p rs (map (λ (i : Index). i.value) is) k
   index_small [] h k = refl
   index_small (i ∷ is) h zero = truncated_small i.width (given (operand p rs i.value)) (typed_number p types rs (Int i.width) i.value program typed h.0)
   index_small (i ∷ is) h (suc k) = index_small is h.1 k
@@ -117,10 +120,13 @@ module _ (p : NumberedProgram) (program : IsProgram p) (types : List Scalar) (rs
 
     plain : (o : Op) → FitsOp p types returns result o → computes o ≡ true → are_set p rs (operands_of o) ≡ true → by_all o ≡ Some (computed o (number_at p rs (operands_of o)))
     plain o h c e =
-        let same : (λ (k : ℕ). narrowed o k (given (number_of (map (operand p rs) (operands_of o)) k))) ≡ number_at p rs (operands_of o) = fun_ext (λ k. ap (narrowed o k) (given_at p rs (operands_of o) k) ∙ narrows_none o h c k) in
-        ap (λ (b : Bool). if b then Some (computed o (λ k. narrowed o k (given (number_of (map (operand p rs) (operands_of o)) k)))) else None) (all_set p rs (operands_of o) ∙ e) ∙ ap (λ (f : ℕ → ℕ). Some (computed o f)) same
+        let same : (λ (k : ℕ). narrowed o k (given (number_of (map (operand p rs) (operands_of o)) k))) ≡ number_at p rs (operands_of o) =
+        fun_ext (λ k. ap (narrowed o k) (given_at p rs (operands_of o) k) ∙ narrows_none o h c k) in
+        ap (λ (b : Bool). if b then Some (computed o (λ k. narrowed o k (given (number_of (map (operand p rs) (operands_of o)) k)))) else None) (all_set p rs (operands_of o) ∙ e)
+        ∙ ap (λ (f : ℕ → ℕ). Some (computed o f)) same
 
-    selected : (c a b : Option ℕ) → given c < 2 → (is_set c && (is_set a && (is_set b && true))) ≡ true → with_one c (λ n. if n % 2 == 0 then b else a) ≡ Some (chosen (given c) (given a) (given b))
+    selected : (c a b : Option ℕ) → given c < 2 → (is_set c && (is_set a && (is_set b && true))) ≡ true
+        → with_one c (λ n. if n % 2 == 0 then b else a) ≡ Some (chosen (given c) (given a) (given b))
     selected (Some c) (Some a) (Some b) l h = let e : c % 2 ≡ c = omega (arith, l) in rw e (pick (c == 0))
       where
         pick : (t : Bool) → (if t then Some b else Some a) ≡ Some (if t then b else a)
@@ -133,10 +139,13 @@ module _ (p : NumberedProgram) (program : IsProgram p) (types : List Scalar) (rs
     quotient : (d : Result ℕ DivideFault) (n : ℕ) → d ≡ Ok n → if_divided d ≡ Some (quotient_or_zero d)
     quotient d n e = rw e refl
 
-    divides : (d : ℕ → ℕ → Result ℕ DivideFault) (w : Width) (u v : Option ℕ) (m n q : ℕ) → u ≡ Some m → v ≡ Some n → m < modulus w → n < modulus w → d m n ≡ Ok q → with_both u v (λ m n. if_divided (d (truncated w m) (truncated w n))) ≡ Some (quotient_or_zero (d (given u) (given v)))
-    divides d w u v m n q e f i j h = rw (e, f) (ap (λ (k : ℕ). if_divided (d k (truncated w n))) (truncated_small w m i) ∙ ap (λ (k : ℕ). if_divided (d m k)) (truncated_small w n j) ∙ quotient (d m n) q h)
+    divides : (d : ℕ → ℕ → Result ℕ DivideFault) (w : Width) (u v : Option ℕ) (m n q : ℕ) → u ≡ Some m → v ≡ Some n → m < modulus w → n < modulus w → d m n ≡ Ok q
+        → with_both u v (λ m n. if_divided (d (truncated w m) (truncated w n))) ≡ Some (quotient_or_zero (d (given u) (given v)))
+    divides d w u v m n q e f i j h = rw (e, f) (ap (λ (k : ℕ). if_divided (d k (truncated w n))) (truncated_small w m i) ∙ ap (λ (k : ℕ). if_divided (d m k)) (truncated_small w n j)
+        ∙ quotient (d m n) q h)
 
-    pub computes_number : (r : Region) (halfway : Bool) (depth used block : ℕ) (o : Op) → FitsOp p types returns result o → computes o ≡ true → CanStep (op_action p r halfway rs depth used block o) → (op_action p r halfway rs depth used block o ≡ actions.Local) × Computes o
+    pub computes_number : (r : Region) (halfway : Bool) (depth used block : ℕ) (o : Op) → FitsOp p types returns result o → computes o ≡ true
+        → CanStep (op_action p r halfway rs depth used block o) → (op_action p r halfway rs depth used block o ≡ actions.Local) × Computes o
     computes_number r halfway depth used block (op.Add w a b) h c k = let e = if_done (are_set p rs (a ∷ b ∷ [])) k in (rw e refl, plain (op.Add w a b) h c e)
     computes_number r halfway depth used block (op.Sub w a b) h c k = let e = if_done (are_set p rs (a ∷ b ∷ [])) k in (rw e refl, plain (op.Sub w a b) h c e)
     computes_number r halfway depth used block (op.Mul w a b) h c k = let e = if_done (are_set p rs (a ∷ b ∷ [])) k in (rw e refl, plain (op.Mul w a b) h c e)
@@ -145,8 +154,10 @@ module _ (p : NumberedProgram) (program : IsProgram p) (types : List Scalar) (rs
         let n = value_done (operand p rs b) _ m.2 in
         let q = divided_done (divided d w m.0 n.0) n.2 in
         let i = typed_number p types rs (Int w) a program typed h.1.0 in
-        let j = typed_number p types rs (Int w) b program typed h.1.1 in
-        (divide_local (divided d w) (operand p rs a) (operand p rs b) m.0 n.0 q.0 m.1 n.1 q.1, divides (divided d w) w (operand p rs a) (operand p rs b) m.0 n.0 q.0 m.1 n.1 (rw m.1 at i) (rw n.1 at j) q.1)
+        let j = typed_number p types rs (Int w) b program typed h.1.1 in (
+          divide_local (divided d w) (operand p rs a) (operand p rs b) m.0 n.0 q.0 m.1 n.1 q.1,
+          divides (divided d w) w (operand p rs a) (operand p rs b) m.0 n.0 q.0 m.1 n.1 (rw m.1 at i) (rw n.1 at j) q.1,
+        )
     computes_number r halfway depth used block (op.Shift s w a b) h c k = let e = if_done (are_set p rs (a ∷ b ∷ [])) k in (rw e refl, plain (op.Shift s w a b) h c e)
     computes_number r halfway depth used block (op.Bits q w a b) h c k = let e = if_done (are_set p rs (a ∷ b ∷ [])) k in (rw e refl, plain (op.Bits q w a b) h c e)
     computes_number r halfway depth used block (op.Compare q w a b) h c k = let e = if_done (are_set p rs (a ∷ b ∷ [])) k in (rw e refl, plain (op.Compare q w a b) h c e)

@@ -19,7 +19,8 @@ use Rattle.pg_closed.specs.Known.{Reference, RunShadow, Seen, Taken, after_step,
 use Rattle.pg_closed.specs.Moments.{Moment, moments_from, thread_in}
 use Rattle.pg_closed.specs.Rules.{all_of, asks_disturbed, asks_shared, is_disturbed, is_shared, kind_in}
 use Rattle.pg_units.specs.Order.{Interval, IsOrderedRun, interval_of, interval_seen}
-use Rattle.pg_units.specs.Units.{ExtentsArePlain, Met, PlanDeed, PlanUnit, ReferenceRun, behind, deed_of, is_event_at, last_from, met_in, met_with, plan_of, reads_cell, reference_of, states_from, turns_of, unit_of, units_from, units_of, writes_cell}
+use Rattle.pg_units.specs.Units.{ExtentsArePlain, Met, PlanDeed, PlanUnit, ReferenceRun, behind, deed_of, is_event_at, last_from, met_in, met_with, plan_of, reads_cell, reference_of}
+use Rattle.pg_units.specs.Units.{states_from, turns_of, unit_of, units_from, units_of, writes_cell}
 use Rattle.pg_units.specs.Lists.{Has}
 use Rattle.pg_units.proofs.Members.{all_of_map, has_all, pairs_both, pairs_from, pairs_of_map}
 use Rattle.pg_units.proofs.Ordered.{IsFine, cells_ordered}
@@ -69,7 +70,8 @@ module _ (r : ReferenceRun) (d : Taken) where
       (subst (AllOf (λ (m : Moment). P m.did)) (sym (seen_times (reference_of r) d 0 (start_of r.program) (reference_of r).moments))
       (all_of_map (λ (m : Moment). m.did) P (reference_of r).moments (subst (AllOf P) (sym (moment_times r (initial r.program) ts)) h)))
 
-  pub pairs_at_seen : (R : Timed Step → Timed Step → Type 0) → EachPair R (times recorded (turns_of r) 0 r.steps) → EachPair (λ (x y : Seen). R x.moment.did y.moment.did) (seen_in (reference_of r) d)
+  pub pairs_at_seen : (R : Timed Step → Timed Step → Type 0) → EachPair R (times recorded (turns_of r) 0 r.steps)
+      → EachPair (λ (x y : Seen). R x.moment.did y.moment.did) (seen_in (reference_of r) d)
   pairs_at_seen R h = pairs_of_map (λ (x : Seen). x.moment) (λ (m n : Moment). R m.did n.did) (seen_in (reference_of r) d)
       (subst (EachPair (λ (m n : Moment). R m.did n.did)) (sym (seen_times (reference_of r) d 0 (start_of r.program) (reference_of r).moments))
       (pairs_of_map (λ (m : Moment). m.did) R (reference_of r).moments (subst (EachPair R) (sym (moment_times r (initial r.program) ts)) h)))
@@ -86,24 +88,31 @@ module _ (r : ReferenceRun) (d : Taken) where
   met_pairs R (x ∷ xs) [] h = tt
   met_pairs R (x ∷ xs) (s ∷ ss) h = (met_all (R x) xs ss h.0, met_pairs R xs ss h.1)
 
-  unit_all : (P : Seen → Type 0) (last : State) (counts : ℕ → ℕ) (ms : List Met) → AllOf (λ (m : Met). P m.seen) ms → AllOf (λ (u : PlanUnit). (u.seen.live ≡ true) × P u.seen) (units_from r d last counts ms)
+  unit_all : (P : Seen → Type 0) (last : State) (counts : ℕ → ℕ) (ms : List Met) → AllOf (λ (m : Met). P m.seen) ms
+      → AllOf (λ (u : PlanUnit). (u.seen.live ≡ true) × P u.seen) (units_from r d last counts ms)
   unfolding units_from
   unit_all P last counts [] h = tt
   unit_all P last counts (m ∷ ms) h = go m.seen.live refl (λ counts. unit_all P last counts ms h.1)
     where
       go : (b : Bool) → m.seen.live ≡ b → ((counts : ℕ → ℕ) → AllOf (λ (u : PlanUnit). (u.seen.live ≡ true) × P u.seen) (units_from r d last counts ms)) →
-          AllOf (λ (u : PlanUnit). (u.seen.live ≡ true) × P u.seen) (if b then unit_of r d last counts m ms ∷ units_from r d last (one_more (thread_in m.seen.moment) counts) ms else units_from r d last counts ms)
+          AllOf (λ (u : PlanUnit). (u.seen.live ≡ true) × P u.seen)
+          (if b then unit_of r d last counts m ms ∷ units_from r d last (one_more (thread_in m.seen.moment) counts) ms else units_from r d last counts ms)
       go true e more = ((e, h.0), more (one_more (thread_in m.seen.moment) counts))
       go false e more = more counts
 
-  unit_pairs : (R : Seen → Seen → Type 0) (last : State) (counts : ℕ → ℕ) (ms : List Met) → EachPair (λ (m n : Met). R m.seen n.seen) ms → EachPair (λ (u v : PlanUnit). R u.seen v.seen) (units_from r d last counts ms)
+  unit_pairs : (R : Seen → Seen → Type 0) (last : State) (counts : ℕ → ℕ) (ms : List Met) → EachPair (λ (m n : Met). R m.seen n.seen) ms
+      → EachPair (λ (u v : PlanUnit). R u.seen v.seen) (units_from r d last counts ms)
   unfolding units_from
   unit_pairs R last counts [] h = tt
   unit_pairs R last counts (m ∷ ms) h = go m.seen.live (λ counts. unit_pairs R last counts ms h.1)
     where
       go : (b : Bool) → ((counts : ℕ → ℕ) → EachPair (λ (u v : PlanUnit). R u.seen v.seen) (units_from r d last counts ms)) →
-          EachPair (λ (u v : PlanUnit). R u.seen v.seen) (if b then unit_of r d last counts m ms ∷ units_from r d last (one_more (thread_in m.seen.moment) counts) ms else units_from r d last counts ms)
-      go true more = (all_map (λ u k. k.1) (units_from r d last (one_more (thread_in m.seen.moment) counts) ms) (unit_all (R m.seen) last (one_more (thread_in m.seen.moment) counts) ms h.0), more (one_more (thread_in m.seen.moment) counts))
+          EachPair (λ (u v : PlanUnit). R u.seen v.seen) (if b then unit_of r d last counts m ms ∷ units_from r d last
+          (one_more (thread_in m.seen.moment) counts) ms else units_from r d last counts ms)
+      go true more = (
+        all_map (λ u k. k.1) (units_from r d last (one_more (thread_in m.seen.moment) counts) ms) (unit_all (R m.seen) last (one_more (thread_in m.seen.moment) counts) ms h.0),
+        more (one_more (thread_in m.seen.moment) counts),
+      )
       go false more = more counts
 
   pub at_units : (P : Seen → Type 0) → AllOf P (seen_in (reference_of r) d) → AllOf (λ (u : PlanUnit). (u.seen.live ≡ true) × P u.seen) (units_of r d)
@@ -124,9 +133,14 @@ module _ (r : ReferenceRun) (d : Taken) where
         let all = seen_in (reference_of r) d in
         all_map (λ x h. (h.0, h.1.0, h.1.1.0, h.1.1.1.0, h.1.1.1.1)) all
         (both_of (Has all) _ all (has_all all)
-        (both_of (λ (x : Seen). IsPlaced (access_in (kind_in x))) _ all (at_seen (λ (t : Timed Step). IsPlaced (access_of t.did)) (all_did (λ (x : Step). IsPlaced (access_of x)) ts (subst (AllOf (λ (x : Step). IsPlaced (access_of x))) (sym (did_times recorded (turns_of r) 0 r.steps)) (run_placed r.gated r.program r.input (initial r.program) o.last r.steps o.run))))
-        (both_of (λ (x : Seen). (is_disturbed all x && not (d.pinned x.number)) ≡ false) _ all (all_map (λ x h. not_asked (is_disturbed all x && not (d.pinned x.number)) _ h) all (none_asked (asks_disturbed d all) all closed.disturbed))
-        (both_of (λ (x : Seen). (is_shared all x && not (d.exact x.number)) ≡ false) (λ (x : Seen). is_event_at x ≡ true → x.moment.did.low ≡ suc x.moment.did.high) all (all_map (λ x h. not_asked (is_shared all x && not (d.exact x.number)) _ h) all (none_asked (asks_shared d all) all closed.shared))
+        (both_of (λ (x : Seen). IsPlaced (access_in (kind_in x))) _ all
+        (at_seen (λ (t : Timed Step). IsPlaced (access_of t.did))
+        (all_did (λ (x : Step). IsPlaced (access_of x)) ts
+        (subst (AllOf (λ (x : Step). IsPlaced (access_of x))) (sym (did_times recorded (turns_of r) 0 r.steps)) (run_placed r.gated r.program r.input (initial r.program) o.last r.steps o.run))))
+        (both_of (λ (x : Seen). (is_disturbed all x && not (d.pinned x.number)) ≡ false) _ all
+        (all_map (λ x h. not_asked (is_disturbed all x && not (d.pinned x.number)) _ h) all (none_asked (asks_disturbed d all) all closed.disturbed))
+        (both_of (λ (x : Seen). (is_shared all x && not (d.exact x.number)) ≡ false) (λ (x : Seen). is_event_at x ≡ true → x.moment.did.low ≡ suc x.moment.did.high) all
+        (all_map (λ x h. not_asked (is_shared all x && not (d.exact x.number)) _ h) all (none_asked (asks_shared d all) all closed.shared))
         (at_seen (λ (t : Timed Step). recorded.is_event t.did ≡ true → t.low ≡ suc t.high) (events_low recorded (turns_of r) 0 r.steps (own_turns recorded r.steps)))))))
 
     abbrev Pairs : Seen → Seen → Type 0
@@ -134,7 +148,8 @@ module _ (r : ReferenceRun) (d : Taken) where
 
     pairs : EachPair Pairs (seen_in (reference_of r) d)
     pairs = pairs_at_seen (λ (x y : Timed Step). (x.low ≤ y.high) × (Conflict recorded x.did y.did → AreOrdered x y))
-        (pairs_both (λ (x y : Timed Step). x.low ≤ y.high) (λ (x y : Timed Step). Conflict recorded x.did y.did → AreOrdered x y) ts (low_high recorded (turns_of r) 0 r.steps (omega arith) (own_turns recorded r.steps)) o.ordered)
+        (pairs_both (λ (x y : Timed Step). x.low ≤ y.high) (λ (x y : Timed Step). Conflict recorded x.did y.did → AreOrdered x y) ts
+        (low_high recorded (turns_of r) 0 r.steps (omega arith) (own_turns recorded r.steps)) o.ordered)
 
     abbrev Settled : PlanUnit → PlanUnit → Type 0
     Settled u v = Conflict deeds (deed_of d u) (deed_of d v) → AreOrdered u.seen.moment.did v.seen.moment.did
@@ -144,7 +159,8 @@ module _ (r : ReferenceRun) (d : Taken) where
 
     meet_of : (u v : PlanUnit) (c : ℕ) → meet_at deeds (deed_of d u) (deed_of d v) c ≡ true →
         ((writes_cell d u.seen c && (reads_cell d v.seen c || writes_cell d v.seen c)) || ((reads_cell d u.seen c || writes_cell d u.seen c) && writes_cell d v.seen c)) ≡ true
-    meet_of u v c h = rw (is_some_if (writes_cell d u.seen c) (Rattle.pg_units.specs.Units.cell_known u.known c)) at (rw (is_some_if (writes_cell d v.seen c) (Rattle.pg_units.specs.Units.cell_known v.known c)) at h)
+    meet_of u v c h = rw (is_some_if (writes_cell d u.seen c) (Rattle.pg_units.specs.Units.cell_known u.known c)) at
+        (rw (is_some_if (writes_cell d v.seen c) (Rattle.pg_units.specs.Units.cell_known v.known c)) at h)
 
     settled : EachPair Settled (units_of r d)
     settled = pairs_from (λ (u : PlanUnit). (u.seen.live ≡ true) × Facts u.seen) (λ (u v : PlanUnit). Pairs u.seen v.seen) Settled
@@ -154,7 +170,8 @@ module _ (r : ReferenceRun) (d : Taken) where
     abbrev SettledAt : Timed PlanDeed → Timed PlanDeed → Type 0
     SettledAt x y = Conflict deeds x.did y.did → AreOrdered x y
 
-    settle : (u v : PlanUnit) (x y : Timed PlanDeed) → x.did ≡ deed_of d u → y.did ≡ deed_of d v → interval_of x ≡ interval_seen u → interval_of y ≡ interval_seen v → Settled u v → SettledAt x y
+    settle : (u v : PlanUnit) (x y : Timed PlanDeed) → x.did ≡ deed_of d u → y.did ≡ deed_of d v → interval_of x ≡ interval_seen u → interval_of y ≡ interval_seen v
+        → Settled u v → SettledAt x y
     settle u v x y e f i j h c =
         let a = ap (λ (k : Interval). k.low) i in
         let b = ap (λ (k : Interval). k.high) i in
@@ -162,16 +179,19 @@ module _ (r : ReferenceRun) (d : Taken) where
         let q = ap (λ (k : Interval). k.high) j in
         go a b p q (h (rw e at (rw f at c)))
       where
-        go : x.low ≡ u.seen.moment.did.low → x.high ≡ u.seen.moment.did.high → y.low ≡ v.seen.moment.did.low → y.high ≡ v.seen.moment.did.high → AreOrdered u.seen.moment.did v.seen.moment.did → AreOrdered x y
+        go : x.low ≡ u.seen.moment.did.low → x.high ≡ u.seen.moment.did.high → y.low ≡ v.seen.moment.did.low → y.high ≡ v.seen.moment.did.high
+            → AreOrdered u.seen.moment.did v.seen.moment.did → AreOrdered x y
         go a b p q (inl lt) = inl (omega (arith, b, p, lt))
         go a b p q (inr lt) = inr (omega (arith, a, q, lt))
 
-    settle_all : (u : PlanUnit) (x : Timed PlanDeed) → x.did ≡ deed_of d u → interval_of x ≡ interval_seen u → (us : List PlanUnit) (xs : List (Timed PlanDeed)) → did_of xs ≡ map (deed_of d) us → map interval_of xs ≡ map interval_seen us → AllOf (Settled u) us → AllOf (SettledAt x) xs
+    settle_all : (u : PlanUnit) (x : Timed PlanDeed) → x.did ≡ deed_of d u → interval_of x ≡ interval_seen u → (us : List PlanUnit) (xs : List (Timed PlanDeed))
+        → did_of xs ≡ map (deed_of d) us → map interval_of xs ≡ map interval_seen us → AllOf (Settled u) us → AllOf (SettledAt x) xs
     settle_all u x e i us [] f j h = tt
     settle_all u x e i [] (y ∷ ys) f j h = absurd cc
     settle_all u x e i (v ∷ us) (y ∷ ys) f j h = (settle u v x y e (cons_head f) i (cons_head j) h.0, settle_all u x e i us ys (cons_tail f) (cons_tail j) h.1)
 
-    settle_pairs : (us : List PlanUnit) (xs : List (Timed PlanDeed)) → did_of xs ≡ map (deed_of d) us → map interval_of xs ≡ map interval_seen us → EachPair Settled us → EachPair SettledAt xs
+    settle_pairs : (us : List PlanUnit) (xs : List (Timed PlanDeed)) → did_of xs ≡ map (deed_of d) us → map interval_of xs ≡ map interval_seen us → EachPair Settled us
+        → EachPair SettledAt xs
     settle_pairs us [] f j h = tt
     settle_pairs [] (x ∷ xs) f j h = absurd cc
     settle_pairs (u ∷ us) (x ∷ xs) f j h = (settle_all u x (cons_head f) (cons_head j) us xs (cons_tail f) (cons_tail j) h.0, settle_pairs us xs (cons_tail f) (cons_tail j) h.1)

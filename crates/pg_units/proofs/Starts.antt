@@ -1,5 +1,6 @@
 -- The start of a thread fits.
-use Rattle.std.proofs.Common.{◌≡◌, ℕ, ℤ, ◌<◌, ◌+◌, ◌-◌, zero, suc, Bool, true, false, List, [], ◌∷◌, ◌++◌, length, map, replicate, Option, Some, None, refl, sym, ap, ◌∙◌, subst, arith, IfSome}
+use Rattle.std.proofs.Common.{◌≡◌, ℕ, ℤ, ◌<◌, ◌+◌, ◌-◌, zero, suc, Bool, true, false, List, [], ◌∷◌, ◌++◌, length, map, replicate, Option, Some, None, refl}
+use Rattle.std.proofs.Common.{sym, ap, ◌∙◌, subst, arith, IfSome}
 use Rattle.std.specs.Prelude.{◌==◌, nat_lt, is_some, slice_get, slice_index, slice_index_or, if◌then◌else◌}
 use Rattle.std.specs.List.{AllByRecursion as AllOf, list_any}
 use Rattle.std.proofs.lemmas.Bool.{eq-eqb, false_from_ne_true, ltb-true, or_left, true≢false}
@@ -38,7 +39,8 @@ use Rattle.pg_closed.specs.Rules.{kind_in}
 use Rattle.pg_closed.specs.Shadows.{Shadow, always, unset}
 use Rattle.pg_units.specs.Likes.{AreLike, IsCellLike, IsLike, IsToldLike, StandLike, like}
 use Rattle.pg_units.specs.Moves.{deed_moved}
-use Rattle.pg_units.specs.Units.{PlanUnit, ReferenceRun, access_touch, cell_known, deed_of, instance_touch, is_event_at, is_instance, is_written_in, reads_cell, reference_of, standing_of, word_read, word_written, writes_cell}
+use Rattle.pg_units.specs.Units.{PlanUnit, ReferenceRun, access_touch, cell_known, deed_of, instance_touch, is_event_at, is_instance, is_written_in, reads_cell, reference_of, standing_of}
+use Rattle.pg_units.specs.Units.{word_read, word_written, writes_cell}
 use Rattle.pg_units.proofs.Along.{IsUnit, behind_is}
 use Rattle.pg_units.proofs.Here.{told_is}
 use Rattle.pg_units.proofs.Inner.{none_if, own_here}
@@ -85,15 +87,18 @@ start_like p input t f a0 a argument h = record {
   calls = (record { function = refl; place = refl; height = refl; registers = registers (parameter_count p f == 0) }, tt);
 }
   where
-    registers : (b : Bool) → AreLike input (if b then fresh_registers p f else Rattle.std.specs.Prelude.slice_set (fresh_registers p f) 0 argument) (if b then replicate (length (types_of p f)) None else Rattle.std.specs.Prelude.slice_set (replicate (length (types_of p f)) None) 0 (Some a))
+    registers : (b : Bool) → AreLike input (if b then fresh_registers p f else Rattle.std.specs.Prelude.slice_set (fresh_registers p f) 0 argument)
+        (if b then replicate (length (types_of p f)) None else Rattle.std.specs.Prelude.slice_set (replicate (length (types_of p f)) None) 0 (Some a))
     registers true = unset_like input (length (types_of p f))
     registers false = put_like input (fresh_registers p f) (replicate (length (types_of p f)) None) 0 argument (Some a) (unset_like input (length (types_of p f))) h
 
 some_some : (a b : ℕ) → Path (Option (Option ℕ)) (Some (Some a)) (Some (Some b)) → a ≡ b
 some_some a b e = cc
 
-module _ (r : ReferenceRun) (d : Taken) (input : List ℤ) (u : PlanUnit) (unit : IsUnit r d u) (single : is_instance d u.seen ≡ false) (st : State) (moves : ℕ → ℕ) (y : Step) (reached : IsReached r.program st) (takes : Takes r.gated r.program input st y)
-    (own : y.thread.0 ≡ thread_in u.seen.moment) (units : moves (thread_in u.seen.moment) ≡ u.units) (objects : is_event_at u.seen ≡ true → objects_of u.state ≡ objects_of st) (words : length u.seen.before.words ≡ length u.state.locals)
+module _ (r : ReferenceRun) (d : Taken) (input : List ℤ) (u : PlanUnit) (unit : IsUnit r d u) (single : is_instance d u.seen ≡ false) (st : State) (moves : ℕ → ℕ) (y : Step)
+    (reached : IsReached r.program st) (takes : Takes r.gated r.program input st y)
+    (own : y.thread.0 ≡ thread_in u.seen.moment) (units : moves (thread_in u.seen.moment) ≡ u.units) (objects : is_event_at u.seen ≡ true → objects_of u.state ≡ objects_of st)
+    (words : length u.seen.before.words ≡ length u.state.locals)
     (cells : (c : ℕ) → reads_cell d u.seen c ≡ true → IsCellLike input (cell_known u.seen.before c) (cell_at st c)) (b : Beginning r.program (thread_in u.seen.moment) u.state st)
     (calls : (thread_of u.seen.before (thread_in u.seen.moment)).calls ≡ fresh_registers r.program b.function ∷ []) where
   abbrev ef : Effect
@@ -140,22 +145,27 @@ module _ (r : ReferenceRun) (d : Taken) (input : List ℤ) (u : PlanUnit) (unit 
       waits l e false w = w
       waits l e true w = let k : Path (Option LocalState) (Some l) None = sym (ap begun_in e ∙ ap (λ (z : Bool). if z then Some l else None) w) ∙ b.none in absurd cc
 
-      go : (l : LocalState) → slice_get st.locals (thread_in u.seen.moment) ≡ Some l → slice_get st.locals (thread_in u.seen.moment) ≡ Some (fresh r.program (thread_in u.seen.moment) b.function)
+      go : (l : LocalState) → slice_get st.locals (thread_in u.seen.moment) ≡ Some l
+          → slice_get st.locals (thread_in u.seen.moment) ≡ Some (fresh r.program (thread_in u.seen.moment) b.function)
       go l e =
           let p = r.program in
           let t = thread_in u.seen.moment in
           let w = (subst (λ (o : Option LocalState). IfSome o (IsThread p t)) e (reached.threads t)).waiting (waits l e l.begun refl) in
-          let k : Some (Some w.0) ≡ Some (Some b.function) = ap (λ (o : Option ℕ). Some o) (sym (starts_with p t w.0)) ∙ sym (get_map start_of st.locals t (fresh p t w.0) (e ∙ ap (λ (z : LocalState). Some z) w.1))
+          let k : Some (Some w.0) ≡ Some (Some b.function) = ap (λ (o : Option ℕ). Some o) (sym (starts_with p t w.0))
+          ∙ sym (get_map start_of st.locals t (fresh p t w.0) (e ∙ ap (λ (z : LocalState). Some z) w.1))
           ∙ ap (λ (q : Objects). slice_get q.starts t) same ∙ get_map start_of u.state.locals t (fresh p t b.function) b.first ∙ ap (λ (o : Option ℕ). Some o) (starts_with p t b.function) in
           e ∙ ap (λ (z : LocalState). Some z) w.1 ∙ ap (λ (f : ℕ). Some (fresh p t f)) (some_some w.0 b.function k)
 
   act : next_of r.program st (thread_in u.seen.moment) ≡ actions.Event requests.Start
   act = next_is r.program st (thread_in u.seen.moment) (fresh r.program (thread_in u.seen.moment) b.function) local_is ∙ next_fresh r.program (thread_in u.seen.moment) b.function
 
-  kind : y.kind ≡ event_told st (thread_in u.seen.moment) (operands_in r.program (slice_get st.locals (thread_in u.seen.moment))) (number_in r.program (slice_get st.locals (thread_in u.seen.moment)) answer) requests.Start
-  kind = ap (λ (z : Step). z.kind) told ∙ ap (kind_told r.gated r.program st (thread_in u.seen.moment) (operands_in r.program (slice_get st.locals (thread_in u.seen.moment))) answer (number_in r.program (slice_get st.locals (thread_in u.seen.moment)) answer)) act
+  kind : y.kind ≡ event_told st (thread_in u.seen.moment) (operands_in r.program (slice_get st.locals (thread_in u.seen.moment)))
+      (number_in r.program (slice_get st.locals (thread_in u.seen.moment)) answer) requests.Start
+  kind = ap (λ (z : Step). z.kind) told ∙ ap (kind_told r.gated r.program st (thread_in u.seen.moment) (operands_in r.program (slice_get st.locals (thread_in u.seen.moment))) answer
+      (number_in r.program (slice_get st.locals (thread_in u.seen.moment)) answer)) act
 
-  place_of : (s : State) → slice_get s.locals (thread_in u.seen.moment) ≡ Some (fresh r.program (thread_in u.seen.moment) b.function) → instr_of s (thread_in u.seen.moment) ≡ entry_of r.program b.function
+  place_of : (s : State) → slice_get s.locals (thread_in u.seen.moment) ≡ Some (fresh r.program (thread_in u.seen.moment) b.function)
+      → instr_of s (thread_in u.seen.moment) ≡ entry_of r.program b.function
   unfolding instr_of
   place_of s e = ap id_in e ∙ begins_at r.program (thread_in u.seen.moment) b.function
 
@@ -164,7 +174,8 @@ module _ (r : ReferenceRun) (d : Taken) (input : List ℤ) (u : PlanUnit) (unit 
 
   instr_is : (x : Instr) × (instr_in r.program u.seen.moment ≡ Some x)
   instr_is =
-      let k = frame_place r.program (thread_in u.seen.moment) b.function (all_at (IsOf r.program) u.state.locals (thread_in u.seen.moment) (fresh r.program (thread_in u.seen.moment) b.function) b.first unit.met.reached.machine.of) in
+      let k = frame_place r.program (thread_in u.seen.moment) b.function
+      (all_at (IsOf r.program) u.state.locals (thread_in u.seen.moment) (fresh r.program (thread_in u.seen.moment) b.function) b.first unit.met.reached.machine.of) in
       (k.0, ap (λ (z : Step). slice_get r.program.instrs z.instr.0) told0 ∙ ap (slice_get r.program.instrs) (place_of u.state b.first) ∙ k.1)
 
   -- the thread's argument
@@ -175,11 +186,14 @@ module _ (r : ReferenceRun) (d : Taken) (input : List ℤ) (u : PlanUnit) (unit 
       let out : nat_lt c MEMORY_BYTES ≡ false = false_from_ne_true (nat_lt c MEMORY_BYTES) (λ h. let lt = ltb-true c MEMORY_BYTES h in absurd (omega (arith, lt))) in
       let at : c - MEMORY_BYTES ≡ t = omega arith in
       let asked : word_read t (kind_in u.seen) ≡ Some t = ap (word_read t) kind0 in
-      let reads : reads_cell d u.seen c ≡ true = ap (λ (z : Bool). if z then Rattle.pg_units.specs.Units.reads_byte d u.seen c else is_thread (word_read t (kind_in u.seen)) (c - MEMORY_BYTES)) out ∙ ap (λ (o : Option ℕ). is_thread o (c - MEMORY_BYTES)) asked ∙ ap (λ (i : ℕ). t == i) at ∙ eq-eqb t t refl in
+      let reads : reads_cell d u.seen c ≡ true = ap (λ (z : Bool). if z then Rattle.pg_units.specs.Units.reads_byte d u.seen c else is_thread (word_read t (kind_in u.seen)) (c - MEMORY_BYTES))
+      out ∙ ap (λ (o : Option ℕ). is_thread o (c - MEMORY_BYTES)) asked ∙ ap (λ (i : ℕ). t == i) at ∙ eq-eqb t t refl in
       let made = ready_made r.program u.state t unit.met.takes.is_ready in
-      let x : cell_known u.seen.before c ≡ slice_index_or u.seen.before.words t unset = ap (λ (z : Bool). if z then u.seen.before.bytes c else slice_index_or u.seen.before.words (c - MEMORY_BYTES) (always 0)) out
+      let x : cell_known u.seen.before c ≡ slice_index_or u.seen.before.words t unset =
+      ap (λ (z : Bool). if z then u.seen.before.bytes c else slice_index_or u.seen.before.words (c - MEMORY_BYTES) (always 0)) out
       ∙ ap (λ (i : ℕ). slice_index_or u.seen.before.words i (always 0)) at ∙ sym (word_there u.seen.before.words t unset (always 0) (omega (arith, made, words))) in
-      let z : cell_at st c ≡ slice_index st.words t = ap (λ (z : Bool). if z then Rattle.pg_mem.specs.Memory.byte_at st.memory c else slice_index st.words (c - MEMORY_BYTES)) out ∙ ap (slice_index st.words) at in
+      let z : cell_at st c ≡ slice_index st.words t = ap (λ (z : Bool). if z then Rattle.pg_mem.specs.Memory.byte_at st.memory c else slice_index st.words (c - MEMORY_BYTES)) out
+      ∙ ap (slice_index st.words) at in
       subst (λ (s : Shadow). IsLike input s (Some (slice_index st.words t))) x (subst (λ (n : ℕ). IsLike input (cell_known u.seen.before c) (Some n)) z (cells c reads))
 
   local0 : u.local ≡ Some (after r.program (fresh r.program (thread_in u.seen.moment) b.function) answer0)
@@ -193,14 +207,16 @@ module _ (r : ReferenceRun) (d : Taken) (input : List ℤ) (u : PlanUnit) (unit 
   unfolding effect_of
   local = ap (own_after r.program answer) local_is
 
-  known_is : (thread_of u.known (thread_in u.seen.moment)).calls ≡ started (parameter_count r.program b.function) (slice_index_or u.seen.before.words (thread_in u.seen.moment) unset) (fresh_registers r.program b.function) ∷ []
+  known_is : (thread_of u.known (thread_in u.seen.moment)).calls ≡ started (parameter_count r.program b.function) (slice_index_or u.seen.before.words (thread_in u.seen.moment) unset)
+      (fresh_registers r.program b.function) ∷ []
   known_is =
       let p = r.program in
       let t = thread_in u.seen.moment in
       let ev : Event = record { kind = turns.Start; object = t; operands = ns0; reply = reply0; write = None } in
       ap (λ (z : RunShadow). (thread_of z t).calls) unit.known
       ∙ event_calls (reference_of r) d u.seen.number u.seen.moment u.seen.before instr_is.0 instr_is.1 (sym unit.met.live ∙ unit.live) (fresh_registers p b.function) [] calls ev kind0
-      ∙ ap (λ (f : ℕ). started (parameter_count p f) (slice_index_or u.seen.before.words t unset) (fresh_registers p b.function) ∷ []) (ap function_in (unit.met.calls ∙ ap calls_of b.first) ∙ calls_fresh p t b.function)
+      ∙ ap (λ (f : ℕ). started (parameter_count p f) (slice_index_or u.seen.before.words t unset) (fresh_registers p b.function) ∷ [])
+      (ap function_in (unit.met.calls ∙ ap calls_of b.first) ∙ calls_fresh p t b.function)
 
   e_request : ef.request ≡ request_effect r.program st (thread_in u.seen.moment) (actions.Event requests.Start)
   unfolding effect_of
@@ -238,7 +254,8 @@ module _ (r : ReferenceRun) (d : Taken) (input : List ℤ) (u : PlanUnit) (unit 
       let t = thread_in u.seen.moment in
       ap (λ (c : Bool). if c then Some (objects_with ef.thread ef.request (objects_of st)) else None) (ap (λ (k : StepKind). is_some (turn_at y (happening_in k))) kind)
       ∙ ap (λ (v : ℕ). Some (objects_with v ef.request (objects_of st))) e_thread ∙ ap (λ (z : Option RequestEffect). Some (objects_with t z (objects_of st))) e_request
-      ∙ ap (λ (o : Objects). Some o) (same_objects p st u.state t requests.Start requests.Start (objects_of st) refl (ap (λ (o : Objects). o.sync) same) ∙ ap (objects_with t (request_effect p u.state t (actions.Event requests.Start))) same ∙ sym unit_objects)
+      ∙ ap (λ (o : Objects). Some o) (same_objects p st u.state t requests.Start requests.Start (objects_of st) refl (ap (λ (o : Objects). o.sync) same)
+      ∙ ap (objects_with t (request_effect p u.state t (actions.Event requests.Start))) same ∙ sym unit_objects)
       ∙ sym (ap (λ (c : Bool). if c then Some u.objects else None) is_event)
 
   either_false : (c : Bool) → (if c then false else false) ≡ false
@@ -247,12 +264,15 @@ module _ (r : ReferenceRun) (d : Taken) (input : List ℤ) (u : PlanUnit) (unit 
 
   wc : (c : ℕ) → writes_cell d u.seen c ≡ false
   wc c =
-      ap (λ (k : StepKind). if nat_lt c MEMORY_BYTES then list_any (λ f. is_written_in f c) (access_touch d u.seen.number (access_in k) ++ instance_touch d u.seen) else is_thread (word_written (thread_in u.seen.moment) k) (c - MEMORY_BYTES)) kind0
-      ∙ ap (λ (z : Bool). if nat_lt c MEMORY_BYTES then list_any (λ f. is_written_in f c) (if z then Rattle.pg_closed.specs.Rules.prints_in u.seen.region else []) else false) single ∙ either_false (nat_lt c MEMORY_BYTES)
+      ap (λ (k : StepKind). if nat_lt c MEMORY_BYTES then list_any (λ f. is_written_in f c) (access_touch d u.seen.number (access_in k) ++ instance_touch d u.seen) else is_thread
+      (word_written (thread_in u.seen.moment) k) (c - MEMORY_BYTES)) kind0
+      ∙ ap (λ (z : Bool). if nat_lt c MEMORY_BYTES then list_any (λ f. is_written_in f c) (if z then Rattle.pg_closed.specs.Rules.prints_in u.seen.region else []) else false) single
+      ∙ either_false (nat_lt c MEMORY_BYTES)
 
   cw : (c : ℕ) → cell_written ef c ≡ None
   cw c = ap (λ z. if nat_lt c MEMORY_BYTES then byte_in z c else word_in ef.thread ef.request (c - MEMORY_BYTES)) e_writes
-      ∙ ap (λ (z : Option RequestEffect). if nat_lt c MEMORY_BYTES then None else word_in ef.thread z (c - MEMORY_BYTES)) e_request ∙ nones (nat_lt c MEMORY_BYTES) (ef.thread == (c - MEMORY_BYTES))
+      ∙ ap (λ (z : Option RequestEffect). if nat_lt c MEMORY_BYTES then None else word_in ef.thread z (c - MEMORY_BYTES)) e_request
+      ∙ nones (nat_lt c MEMORY_BYTES) (ef.thread == (c - MEMORY_BYTES))
     where
       nones : (x z : Bool) → Path (Option ℕ) (if x then None else (if z then None else None)) None
       nones true z = refl
@@ -260,11 +280,14 @@ module _ (r : ReferenceRun) (d : Taken) (input : List ℤ) (u : PlanUnit) (unit 
       nones false false = refl
 
   reads_in : (c : ℕ) → views.reads_cell ef c ≡ true → reads_cell d u.seen c ≡ true
-  reads_in c k = go (nat_lt c MEMORY_BYTES) refl (sym (ap (λ z. if nat_lt c MEMORY_BYTES then is_in_range z c else is_thread ef.word_read (c - MEMORY_BYTES)) e_reads ∙ ap (λ (o : Option ℕ). if nat_lt c MEMORY_BYTES then false else is_thread o (c - MEMORY_BYTES)) e_word) ∙ k)
+  reads_in c k = go (nat_lt c MEMORY_BYTES) refl (sym
+      (ap (λ z. if nat_lt c MEMORY_BYTES then is_in_range z c else is_thread ef.word_read (c - MEMORY_BYTES)) e_reads
+      ∙ ap (λ (o : Option ℕ). if nat_lt c MEMORY_BYTES then false else is_thread o (c - MEMORY_BYTES)) e_word) ∙ k)
     where
       go : (x : Bool) → nat_lt c MEMORY_BYTES ≡ x → (if x then false else (thread_in u.seen.moment == (c - MEMORY_BYTES))) ≡ true → reads_cell d u.seen c ≡ true
       go true e h = absurd (true≢false (sym h))
-      go false e h = ap (λ (z : Bool). if z then Rattle.pg_units.specs.Units.reads_byte d u.seen c else is_thread (word_read (thread_in u.seen.moment) (kind_in u.seen)) (c - MEMORY_BYTES)) e ∙ ap (λ (k : StepKind). is_thread (word_read (thread_in u.seen.moment) k) (c - MEMORY_BYTES)) kind0 ∙ h
+      go false e h = ap (λ (z : Bool). if z then Rattle.pg_units.specs.Units.reads_byte d u.seen c else is_thread (word_read (thread_in u.seen.moment) (kind_in u.seen)) (c - MEMORY_BYTES)) e
+          ∙ ap (λ (k : StepKind). is_thread (word_read (thread_in u.seen.moment) k) (c - MEMORY_BYTES)) kind0 ∙ h
 
   told_alike : IsToldLike u.seen.moment.did.did y
   told_alike = record {

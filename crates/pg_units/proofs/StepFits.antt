@@ -15,7 +15,8 @@ use Rattle.pg_units.specs.Likes.{IsCellLike, IsThreadLike, MovedThread, PlanThre
 use Rattle.pg_units.specs.Lists.{Has}
 use Rattle.pg_units.specs.Moves.{IsMove, RunDeed, RunState, deed_moved}
 use Rattle.pg_units.specs.Order.{IsOrderedRun}
-use Rattle.pg_units.specs.Units.{ExtentsArePlain, PlanDeed, PlanUnit, ReferenceRun, cell_known, deed_of, is_event_at, is_instance, is_placed_access, reads_cell, reference_of, standing_of, units_of, writes_cell}
+use Rattle.pg_units.specs.Units.{ExtentsArePlain, PlanDeed, PlanUnit, ReferenceRun, cell_known, deed_of, is_event_at, is_instance, is_placed_access, reads_cell, reference_of, standing_of}
+use Rattle.pg_units.specs.Units.{units_of, writes_cell}
 use Rattle.pg_units.proofs.Along.{IsUnit, all_units}
 use Rattle.pg_units.proofs.Dispatch.{both_fits}
 use Rattle.pg_units.proofs.Good.{IsGood, all_good}
@@ -48,7 +49,8 @@ module _ (r : ReferenceRun) (d : Taken) (input : List ℤ) (o : IsOrderedRun r) 
     thread_is = m.looks.locals (thread_in u.seen.moment) (sym own)
 
     pub stands_alike : StandLike input (standing_of (local_at u.state (thread_in u.seen.moment)) (thread_of u.seen.before (thread_in u.seen.moment)).calls) (local_at m.state (thread_in u.seen.moment))
-    stands_alike = subst (λ (l : MovedThread). StandLike input (standing_of (local_at u.state (thread_in u.seen.moment)) (thread_of u.seen.before (thread_in u.seen.moment)).calls) l.local) thread_is alike.thread.stands
+    stands_alike = subst (λ (l : MovedThread). StandLike input (standing_of (local_at u.state (thread_in u.seen.moment)) (thread_of u.seen.before (thread_in u.seen.moment)).calls) l.local)
+        thread_is alike.thread.stands
 
     pub cells_alike : (c : ℕ) → reads_cell d u.seen c ≡ true → IsCellLike input (cell_known u.seen.before c) (cell_at m.state c)
     cells_alike c h = subst (λ (n : ℕ). IsCellLike input (cell_known u.seen.before c) n) (m.looks.cells c) (alike.cells c h)
@@ -59,21 +61,28 @@ module _ (r : ReferenceRun) (d : Taken) (input : List ℤ) (o : IsOrderedRun r) 
     pub units_alike : m.moves (thread_in u.seen.moment) ≡ u.units
     units_alike = ap (λ (l : MovedThread). l.moves) (sym thread_is) ∙ alike.thread.moves
 
-    pub one_fits : (Beginning r.program (thread_in u.seen.moment) u.state m.state → Fits (like input) (deed_of d u) (deed_moved r.program input m.state m.moves m.told)) → Fits (like input) (deed_of d u) e
+    pub one_fits : (Beginning r.program (thread_in u.seen.moment) u.state m.state → Fits (like input) (deed_of d u) (deed_moved r.program input m.state m.moves m.told))
+        → Fits (like input) (deed_of d u) e
     one_fits begins = fits_same input (deed_of d u) e (deed_moved r.program input m.state m.moves m.told) m.is_deed
-        (go (opened r.gated r.program r.input input u.state m.state u.seen.moment.did.did (thread_of u.seen.before (thread_in u.seen.moment)).calls unit.met.reached unit.met.takes m.reached stands_alike))
+        (go (opened r.gated r.program r.input input u.state m.state u.seen.moment.did.did
+        (thread_of u.seen.before (thread_in u.seen.moment)).calls unit.met.reached unit.met.takes m.reached stands_alike))
       where
-        go : Both r.program input (thread_in u.seen.moment) u.state m.state (thread_of u.seen.before (thread_in u.seen.moment)).calls ⊎ Beginning r.program (thread_in u.seen.moment) u.state m.state → Fits (like input) (deed_of d u) (deed_moved r.program input m.state m.moves m.told)
-        go (inl b) = both_fits r d input o.can.program small u m.state m.moves m.told (record { unit = unit; plain = single; reached = m.reached; takes = m.may.takes; own = own; both = b; units = units_alike }) good objects_alike words cells_alike
+        go : Both r.program input (thread_in u.seen.moment) u.state m.state (thread_of u.seen.before (thread_in u.seen.moment)).calls
+            ⊎ Beginning r.program (thread_in u.seen.moment) u.state m.state → Fits (like input) (deed_of d u) (deed_moved r.program input m.state m.moves m.told)
+        go (inl b) = both_fits r d input o.can.program small u m.state m.moves m.told
+            (record { unit = unit; plain = single; reached = m.reached; takes = m.may.takes; own = own; both = b; units = units_alike }) good objects_alike words cells_alike
         go (inr b) = begins b
 
     -- it writes all that the unit may write, where that is at its recorded place
     pub one_writes : is_placed_access d u.seen ≡ true → (c : ℕ) → nat_lt c MEMORY_BYTES ≡ true → writes_cell d u.seen c ≡ true → is_some (e.writes c) ≡ true
     one_writes p c lt h = ap is_some (m.is_deed.writes c)
-        ∙ go (opened r.gated r.program r.input input u.state m.state u.seen.moment.did.did (thread_of u.seen.before (thread_in u.seen.moment)).calls unit.met.reached unit.met.takes m.reached stands_alike)
+        ∙ go (opened r.gated r.program r.input input u.state m.state u.seen.moment.did.did
+        (thread_of u.seen.before (thread_in u.seen.moment)).calls unit.met.reached unit.met.takes m.reached stands_alike)
       where
-        go : Both r.program input (thread_in u.seen.moment) u.state m.state (thread_of u.seen.before (thread_in u.seen.moment)).calls ⊎ Beginning r.program (thread_in u.seen.moment) u.state m.state → is_some ((deed_moved r.program input m.state m.moves m.told).writes c) ≡ true
-        go (inl b) = placed_writes r d input o.can.program u m.state m.moves m.told (record { unit = unit; plain = single; reached = m.reached; takes = m.may.takes; own = own; both = b; units = units_alike }) good objects_alike words cells_alike p c lt h
+        go : Both r.program input (thread_in u.seen.moment) u.state m.state (thread_of u.seen.before (thread_in u.seen.moment)).calls
+            ⊎ Beginning r.program (thread_in u.seen.moment) u.state m.state → is_some ((deed_moved r.program input m.state m.moves m.told).writes c) ≡ true
+        go (inl b) = placed_writes r d input o.can.program u m.state m.moves m.told
+            (record { unit = unit; plain = single; reached = m.reached; takes = m.may.takes; own = own; both = b; units = units_alike }) good objects_alike words cells_alike p c lt h
         go (inr b) = start_writes r d u unit single m.state b c lt h (is_some ((deed_moved r.program input m.state m.moves m.told).writes c) ≡ true)
 
   -- the facts of a unit
@@ -82,17 +91,21 @@ module _ (r : ReferenceRun) (d : Taken) (input : List ℤ) (o : IsOrderedRun r) 
     unit_at = all_has (IsUnit r d) (units_of r d) u (all_units r d o) has
 
     pub good_at : IsGood (reference_of r) d input u.seen
-    good_at = (all_has (λ (v : PlanUnit). (v.seen.live ≡ true) × IsGood (reference_of r) d input v.seen) (units_of r d) u (at_units r d (IsGood (reference_of r) d input) (all_good input (reference_of r) d closed admitted)) has).1
+    good_at = (all_has (λ (v : PlanUnit). (v.seen.live ≡ true) × IsGood (reference_of r) d input v.seen) (units_of r d) u
+        (at_units r d (IsGood (reference_of r) d input) (all_good input (reference_of r) d closed admitted)) has).1
 
     pub words_at : length u.seen.before.words ≡ length u.state.locals
     words_at = all_has (λ (v : PlanUnit). length v.seen.before.words ≡ length v.state.locals) (units_of r d) u (all_words r d o plain) has
 
-    module _ (fresh : StartsAreFresh r d) (single : is_instance d u.seen ≡ false) (turns : List Turn) (a : RunState) (g : ℕ) (e : RunDeed) (m : IsMove r.gated r.program input turns a g e) (alike : IsAlikeFor input d u a) (mine : e.thread ≡ thread_in u.seen.moment) where
+    module _ (fresh : StartsAreFresh r d) (single : is_instance d u.seen ≡ false) (turns : List Turn) (a : RunState) (g : ℕ) (e : RunDeed) (m : IsMove r.gated r.program input turns a g e)
+        (alike : IsAlikeFor input d u a) (mine : e.thread ≡ thread_in u.seen.moment) where
       pub unit_fits : Fits (like input) (deed_of d u) e
       unit_fits = one_fits u unit_at single good_at words_at turns a g e m alike mine (λ b.
-          start_fits r d input u unit_at single m.state m.moves m.told m.reached m.may.takes (own u unit_at single good_at words_at turns a g e m alike mine) (units_alike u unit_at single good_at words_at turns a g e m alike mine)
+          start_fits r d input u unit_at single m.state m.moves m.told m.reached m.may.takes (own u unit_at single good_at words_at turns a g e m alike mine)
+          (units_alike u unit_at single good_at words_at turns a g e m alike mine)
           (objects_alike u unit_at single good_at words_at turns a g e m alike mine) words_at (cells_alike u unit_at single good_at words_at turns a g e m alike mine) b
-          (all_has (λ (v : PlanUnit). (f : ℕ) → slice_get v.state.locals (thread_in v.seen.moment) ≡ Some (Rattle.pg_step.specs.LocalState.fresh r.program (thread_in v.seen.moment) f) → (thread_of v.seen.before (thread_in v.seen.moment)).calls ≡ fresh_registers r.program f ∷ []) (units_of r d) u fresh has b.function b.first))
+          (all_has (λ (v : PlanUnit). (f : ℕ) → slice_get v.state.locals (thread_in v.seen.moment) ≡ Some (Rattle.pg_step.specs.LocalState.fresh r.program (thread_in v.seen.moment) f)
+          → (thread_of v.seen.before (thread_in v.seen.moment)).calls ≡ fresh_registers r.program f ∷ []) (units_of r d) u fresh has b.function b.first))
 
       pub unit_writes : is_placed_access d u.seen ≡ true → (c : ℕ) → nat_lt c MEMORY_BYTES ≡ true → writes_cell d u.seen c ≡ true → is_some (e.writes c) ≡ true
       unit_writes = one_writes u unit_at single good_at words_at turns a g e m alike mine

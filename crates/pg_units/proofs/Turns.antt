@@ -12,7 +12,8 @@ use Rattle.pg_effects.specs.PermittedSteps.{none_taken, one_more}
 use Rattle.pg_closed.specs.Known.{RunShadow, Seen, Taken, seen_from, start_of}
 use Rattle.pg_closed.specs.Moments.{moments_from, thread_in}
 use Rattle.pg_units.specs.Order.{Interval, interval_of, interval_seen}
-use Rattle.pg_units.specs.Units.{ExtentsArePlain, Met, PlanUnit, ReferenceRun, behind, deed_of, is_event_at, last_from, met_in, met_with, plan_of, reference_of, states_from, turns_of, unit_of, units_from, units_of}
+use Rattle.pg_units.specs.Units.{ExtentsArePlain, Met, PlanUnit, ReferenceRun, behind, deed_of, is_event_at, last_from, met_in, met_with, plan_of, reference_of, states_from, turns_of}
+use Rattle.pg_units.specs.Units.{unit_of, units_from, units_of}
 
 pub is_some_if : {A : Type 0} (b : Bool) (x : A) → is_some (if◌then◌else◌ {A = Option A} b (Some x) None) ≡ b
 is_some_if true x = refl
@@ -51,7 +52,11 @@ module _ (r : ReferenceRun) (d : Taken) where
     where
       go : (b : Bool) → m.seen.live ≡ b → ((counts : ℕ → ℕ) → AreTurns deeds T (done_after (is_event_at m.seen) k) (map (deed_of d) (units_from r d last counts ms))) →
           AreTurns deeds T k (map (deed_of d) (if b then unit_of r d last counts m ms ∷ units_from r d last (one_more (thread_in m.seen.moment) counts) ms else units_from r d last counts ms))
-      go true e more = ((λ v. h.0.turn (sym (deed_event (unit_of r d last counts m ms)) ∙ v)), subst (λ (b : Bool). AreTurns deeds T (done_after b k) (map (deed_of d) (units_from r d last (one_more (thread_in m.seen.moment) counts) ms))) (sym (deed_event (unit_of r d last counts m ms))) (more (one_more (thread_in m.seen.moment) counts)))
+      go true e more = (
+        (λ v. h.0.turn (sym (deed_event (unit_of r d last counts m ms)) ∙ v)),
+        subst (λ (b : Bool). AreTurns deeds T (done_after b k) (map (deed_of d) (units_from r d last (one_more (thread_in m.seen.moment) counts) ms)))
+            (sym (deed_event (unit_of r d last counts m ms))) (more (one_more (thread_in m.seen.moment) counts)),
+      )
       go false e more = subst (λ (b : Bool). AreTurns deeds T (done_after b k) (map (deed_of d) (units_from r d last counts ms))) (h.0.plain e) (more counts)
 
   unit_intervals : (T : List ℕ) (k : ℕ) (last : State) (counts : ℕ → ℕ) (ms : List Met) → AreTimed T k ms →
@@ -65,8 +70,10 @@ module _ (r : ReferenceRun) (d : Taken) where
           let t : IsTimed T k u.seen = subst (IsTimed T k) (sym e) h.0 in
           ap (λ (b : Bool). record { low = last_before (thread_in u.seen.moment) T (done_after b k); high = next_from (thread_in u.seen.moment) T k }) (deed_event u) ∙ sym (ap interval_of t.did)
 
-      go : (b : Bool) → m.seen.live ≡ b → ((counts : ℕ → ℕ) → map interval_of (times deeds T (done_after (is_event_at m.seen) k) (map (deed_of d) (units_from r d last counts ms))) ≡ map interval_seen (units_from r d last counts ms)) →
-          map interval_of (times deeds T k (map (deed_of d) (if b then unit_of r d last counts m ms ∷ units_from r d last (one_more (thread_in m.seen.moment) counts) ms else units_from r d last counts ms)))
+      go : (b : Bool) → m.seen.live ≡ b → ((counts : ℕ → ℕ)
+          → map interval_of (times deeds T (done_after (is_event_at m.seen) k) (map (deed_of d) (units_from r d last counts ms))) ≡ map interval_seen (units_from r d last counts ms)) →
+          map interval_of (times deeds T k (map (deed_of d)
+          (if b then unit_of r d last counts m ms ∷ units_from r d last (one_more (thread_in m.seen.moment) counts) ms else units_from r d last counts ms)))
           ≡ map interval_seen (if b then unit_of r d last counts m ms ∷ units_from r d last (one_more (thread_in m.seen.moment) counts) ms else units_from r d last counts ms)
       go true e more =
           let u = unit_of r d last counts m ms in

@@ -18,7 +18,8 @@ use Rattle.pg_units.proofs.Words.{words_kept}
 
 module _ (r : ReferenceRun) (d : Taken) where
   -- facts on steps that were met, at units
-  pub unit_facts : (P : Seen → State → Type 0) (last : State) (counts : ℕ → ℕ) (ms : List Met) → AllOf (λ (m : Met). P m.seen m.state) ms → AllOf (λ (u : PlanUnit). P u.seen u.state) (units_from r d last counts ms)
+  pub unit_facts : (P : Seen → State → Type 0) (last : State) (counts : ℕ → ℕ) (ms : List Met) → AllOf (λ (m : Met). P m.seen m.state) ms
+      → AllOf (λ (u : PlanUnit). P u.seen u.state) (units_from r d last counts ms)
   unfolding units_from
   unit_facts P last counts [] h = tt
   unit_facts P last counts (m ∷ ms) h = go m.seen.live (λ counts. unit_facts P last counts ms h.1)
@@ -34,14 +35,16 @@ module _ (r : ReferenceRun) (d : Taken) where
 
   met_words : (T : List ℕ) (k n : ℕ) (known : RunShadow) (s z : State) (xs : List Step) → IsRun r.gated r.program r.input s xs z → length known.words ≡ length s.locals →
       AllOf (λ (x : Seen). x.live ≡ false → is_event_at x ≡ false) (seen_from (reference_of r) d n known (moments_from r.gated r.program r.input s (times recorded T k xs))) →
-      AllOf (λ (m : Met). length m.seen.before.words ≡ length m.state.locals) (met_with (seen_from (reference_of r) d n known (moments_from r.gated r.program r.input s (times recorded T k xs))) (states_from r s xs))
+      AllOf (λ (m : Met). length m.seen.before.words ≡ length m.state.locals)
+      (met_with (seen_from (reference_of r) d n known (moments_from r.gated r.program r.input s (times recorded T k xs))) (states_from r s xs))
   unfolding seen_from moments_from states_from
   met_words T k n known s z [] h e plain = tt
   met_words T k n known s z (x ∷ xs) h e plain =
       let b = behind_is r d s x h.0 in (
         e,
         met_words T (done_after (recorded.is_event x) k) (suc n) _ (behind r s x.thread.0) z xs (subst (λ (w : State). IsRun r.gated r.program r.input w xs z) (sym b) h.1)
-            (words_kept (reference_of r) d n (record { did = timed recorded T k x; calls = calls_of (slice_get s.locals x.thread.0); bytes = byte_at s.memory }) known r.gated r.input s h.0 plain.0 e ∙ sym (ap (λ (w : State). length w.locals) b)) plain.1,
+            (words_kept (reference_of r) d n (record { did = timed recorded T k x; calls = calls_of (slice_get s.locals x.thread.0); bytes = byte_at s.memory }) known r.gated r.input s h.0
+            plain.0 e ∙ sym (ap (λ (w : State). length w.locals) b)) plain.1,
       )
 
   pub all_words : IsOrderedRun r → ExtentsArePlain r d → AllOf (λ (u : PlanUnit). length u.seen.before.words ≡ length u.state.locals) (units_of r d)

@@ -67,7 +67,8 @@ words_by p t turns.Exit rs o words = length_set words t _
 words_by p t turns.Create rs o words = length_push words _
 words_by p t k rs o words = refl
 
-live_words : (p : NumberedProgram) (d : Taken) (n : ℕ) (m : Moment) (region : Option FreeRegion) (x : Instr) (k : StepKind) (s : RunShadow) → length (live_by p d n m region x k s).words ≡ more_of k (length s.words)
+live_words : (p : NumberedProgram) (d : Taken) (n : ℕ) (m : Moment) (region : Option FreeRegion) (x : Instr) (k : StepKind) (s : RunShadow)
+    → length (live_by p d n m region x k s).words ≡ more_of k (length s.words)
 live_words p d n m region x (kinds.Event e) s = words_by p (thread_in m) e.kind (registers_of s (thread_in m)) x.op s.words
 live_words p d n m region x (kinds.Access a) s = refl
 live_words p d n m region x k s = refl
@@ -97,7 +98,8 @@ module _ (gated : List InstrId) (p : NumberedProgram) (s : State) (t : ℕ) (ns 
   locals_by (actions.Trap name) = refl
   locals_by actions.Ended = refl
 
-effect_locals : (p : NumberedProgram) (input : List ℤ) (s : State) (t : ℕ) → length (effect s (effect_of p input s t)).locals ≡ length (locals_with (request_effect p s t (next_of p s t)) s.locals)
+effect_locals : (p : NumberedProgram) (input : List ℤ) (s : State) (t : ℕ)
+    → length (effect s (effect_of p input s t)).locals ≡ length (locals_with (request_effect p s t (next_of p s t)) s.locals)
 unfolding effect effect_of
 effect_locals p input s t = set_length t _ (locals_with (request_effect p s t (next_of p s t)) s.locals)
 
@@ -107,7 +109,8 @@ step_locals gated p input s x h =
     let o = slice_get s.locals t in
     let a = answer_to input s t (next_of p s t) in
     ap (λ (z : State). length z.locals) (subst (λ (k : Stepped). IfDid k (λ y z. z ≡ effect s (effect_of p input s t))) h.is_step (has_effect gated p input s t))
-    ∙ effect_locals p input s t ∙ locals_by gated p s t (operands_in p o) a (number_in p o a) (next_of p s t) ∙ sym (ap (λ (z : Step). more_of z.kind (length s.locals)) (told_is gated p input s h.after t x h.is_step))
+    ∙ effect_locals p input s t ∙ locals_by gated p s t (operands_in p o) a (number_in p o a) (next_of p s t)
+    ∙ sym (ap (λ (z : Step). more_of z.kind (length s.locals)) (told_is gated p input s h.after t x h.is_step))
 
 -- ---- a step that makes a thread stands at an instruction
 
@@ -115,7 +118,8 @@ is_more : TurnKind → Bool
 is_more turns.Create = true
 is_more k = false
 
-local_instr : (p : NumberedProgram) (l : LocalState) (b : Bool) (fs : List Frame) (r : Request) → frames_action p l b fs ≡ actions.Event r → (r ≡ requests.Start) ⊎ ((x : Instr) × (slice_get p.instrs (place_in fs) ≡ Some x))
+local_instr : (p : NumberedProgram) (l : LocalState) (b : Bool) (fs : List Frame) (r : Request) → frames_action p l b fs ≡ actions.Event r
+    → (r ≡ requests.Start) ⊎ ((x : Instr) × (slice_get p.instrs (place_in fs) ≡ Some x))
 local_instr p l b [] r e = absurd cc
 local_instr p l false (f ∷ fs) r e = let q : requests.Start ≡ r = cc in inl (sym q)
 local_instr p l true (f ∷ fs) r e = go (slice_get p.instrs f.place) refl
@@ -124,7 +128,8 @@ local_instr p l true (f ∷ fs) r e = go (slice_get p.instrs f.place) refl
     go (Some x) q = inr (x, q)
     go None q = let k : actions.Ended ≡ actions.Event r = sym (ap (instr_action p l f fs) q) ∙ e in absurd cc
 
-pub request_at : (p : NumberedProgram) (s : State) (t : ℕ) (r : Request) → next_of p s t ≡ actions.Event r → (r ≡ requests.Start) ⊎ ((x : Instr) × (slice_get p.instrs (instr_of s t) ≡ Some x))
+pub request_at : (p : NumberedProgram) (s : State) (t : ℕ) (r : Request) → next_of p s t ≡ actions.Event r
+    → (r ≡ requests.Start) ⊎ ((x : Instr) × (slice_get p.instrs (instr_of s t) ≡ Some x))
 unfolding next_of next instr_of id_of
 request_at p s t r e = go (slice_get s.locals t) e
   where
@@ -133,7 +138,8 @@ request_at p s t r e = go (slice_get s.locals t) e
     go (Some l) e = local_instr p l l.begun l.frames r e
 
 -- where no instruction stands none is made
-pub nowhere : (gated : List InstrId) (p : NumberedProgram) (s : State) (t : ℕ) (ns : List ℕ) (a n m : ℕ) (action : Action) → next_of p s t ≡ action → slice_get p.instrs (instr_of s t) ≡ None → more_of (kind_told gated p s t ns a n action) m ≡ m
+pub nowhere : (gated : List InstrId) (p : NumberedProgram) (s : State) (t : ℕ) (ns : List ℕ) (a n m : ℕ) (action : Action) → next_of p s t ≡ action
+    → slice_get p.instrs (instr_of s t) ≡ None → more_of (kind_told gated p s t ns a n action) m ≡ m
 nowhere gated p s t ns a n m actions.Local e h = inner_more (kind_told gated p s t ns a n actions.Local) m (kind_inner gated p s t ns a n actions.Local tt)
 nowhere gated p s t ns a n m (actions.Event r) e h = go (request_at p s t r e)
   where
@@ -153,7 +159,8 @@ module _ (R : Reference) (d : Taken) (n : ℕ) (m : Moment) (known : RunShadow) 
   live_keeps : length (live_after R.program d n m (region_of R.program R.regions m (instr_in R.program m)) (instr_in R.program m) known).words ≡ more_of m.did.did.kind (length known.words)
   live_keeps = go (instr_in R.program m) refl
     where
-      go : (o : Option Instr) → instr_in R.program m ≡ o → length (live_after R.program d n m (region_of R.program R.regions m (instr_in R.program m)) o known).words ≡ more_of m.did.did.kind (length known.words)
+      go : (o : Option Instr) → instr_in R.program m ≡ o → length (live_after R.program d n m (region_of R.program R.regions m (instr_in R.program m)) o known).words
+          ≡ more_of m.did.did.kind (length known.words)
       go (Some x) e = live_words R.program d n m (region_of R.program R.regions m (instr_in R.program m)) x m.did.did.kind known
       go None e =
           let p = R.program in
@@ -162,7 +169,8 @@ module _ (R : Reference) (d : Taken) (n : ℕ) (m : Moment) (known : RunShadow) 
           sym (ap (λ (z : Step). more_of z.kind (length known.words)) (told_is gated p input s h.after t m.did.did h.is_step)
           ∙ nowhere gated p s t (operands_in p (slice_get s.locals t)) a (number_in p (slice_get s.locals t) a) (length known.words) (next_of p s t) refl (sym is_instr ∙ e))
 
-  pub words_kept : (is_live d.pinned (thread_of known (thread_in m)).extents ≡ false → is_some (happening_in m.did.did.kind) ≡ false) → length known.words ≡ length s.locals → length (after_step R d n m known).words ≡ length h.after.locals
+  pub words_kept : (is_live d.pinned (thread_of known (thread_in m)).extents ≡ false → is_some (happening_in m.did.did.kind) ≡ false) → length known.words ≡ length s.locals
+      → length (after_step R d n m known).words ≡ length h.after.locals
   words_kept plain e = go (is_live d.pinned (thread_of known (thread_in m)).extents) refl
     where
       go : (b : Bool) → is_live d.pinned (thread_of known (thread_in m)).extents ≡ b → length (after_step R d n m known).words ≡ length h.after.locals

@@ -68,7 +68,8 @@ stores a = false
 abbrev IsQuiet : Action → Type 0
 IsQuiet a = stores a ≡ false
 
-quiet_known : (p : NumberedProgram) (t : ℕ) (h : Bool) (rs : List (Option ℕ)) (k : Known) (args : List Value) → (k ≡ known.PthreadCreate → ⊥) → (k ≡ known.PthreadJoin → ⊥) → IsQuiet (known_action p t h rs k args)
+quiet_known : (p : NumberedProgram) (t : ℕ) (h : Bool) (rs : List (Option ℕ)) (k : Known) (args : List Value) → (k ≡ known.PthreadCreate → ⊥) → (k ≡ known.PthreadJoin → ⊥)
+    → IsQuiet (known_action p t h rs k args)
 quiet_known p t h rs known.PgIn args c j = number_is IsQuiet p rs args _ (λ n. refl) (λ n. refl)
 quiet_known p t h rs known.PgInLen args c j = refl
 quiet_known p t h rs known.PgOut args c j = number_is IsQuiet p rs args _ (λ n. refl) (λ n. refl)
@@ -110,11 +111,13 @@ is_other (op.CallKnown k args) = false
 is_other o = true
 
 quiet_op : (p : NumberedProgram) (r : Region) (h : Bool) (rs : List (Option ℕ)) (depth used block : ℕ) (o : Op) → is_other o ≡ true → IsQuiet (op_action p r h rs depth used block o)
-quiet_op p r h rs depth used block (op.Divide d w a b) n = on_value_is IsQuiet (operand p rs a) _ (λ n. refl) (λ m e. on_value_is IsQuiet (operand p rs b) _ (λ n. refl) (λ n f. divided_is IsQuiet (divided d w m n) (λ n. refl) refl))
+quiet_op p r h rs depth used block (op.Divide d w a b) n = on_value_is IsQuiet (operand p rs a) _ (λ n. refl)
+    (λ m e. on_value_is IsQuiet (operand p rs b) _ (λ n. refl) (λ n f. divided_is IsQuiet (divided d w m n) (λ n. refl) refl))
 quiet_op p r h rs depth used block (op.Phi from) n = refl
 quiet_op p r h rs depth used block (op.Br to) n = edge_is IsQuiet p rs block to.0 (λ n. refl) refl
 quiet_op p r h rs depth used block (op.CondBr v a b) n = on_value_is IsQuiet (operand p rs v) _ (λ n. refl) (λ n e. edge_is IsQuiet p rs block (chosen n a.0 b.0) (λ n. refl) refl)
-quiet_op p r h rs depth used block (op.Switch w on other cases) n = on_value_is IsQuiet (operand p rs on) _ (λ n. refl) (λ n e. edge_is IsQuiet p rs block (case_of cases other.0 n) (λ n. refl) refl)
+quiet_op p r h rs depth used block (op.Switch w on other cases) n = on_value_is IsQuiet (operand p rs on) _ (λ n. refl)
+    (λ n e. edge_is IsQuiet p rs block (case_of cases other.0 n) (λ n. refl) refl)
 quiet_op p r h rs depth used block (op.Call g args) n = on_all_is IsQuiet p rs args _ (λ n. refl) (call_is IsQuiet p g depth used (λ n. refl) refl)
 quiet_op p r h rs depth used block (op.Ret None) n = quiet_return depth 0
 quiet_op p r h rs depth used block (op.Ret (Some v)) n = on_value_is IsQuiet (operand p rs v) _ (λ n. refl) (λ n e. quiet_return depth n)
@@ -140,13 +143,15 @@ told_quiet ns number (Some x) = go x.op
     go (op.CallKnown k args) = known_quiet k
     go o = refl
 
-asked_quiet : (gated : List InstrId) (p : NumberedProgram) (s : State) (t : ℕ) (ns : List ℕ) (answer number : ℕ) (q : Request) → asks_store q ≡ false → writes_by (access_in (kind_told gated p s t ns answer number (actions.Event q))) ≡ false
+asked_quiet : (gated : List InstrId) (p : NumberedProgram) (s : State) (t : ℕ) (ns : List ℕ) (answer number : ℕ) (q : Request) → asks_store q ≡ false
+    → writes_by (access_in (kind_told gated p s t ns answer number (actions.Event q))) ≡ false
 asked_quiet gated p s t ns answer number (requests.Create r f n) e = absurd (true≢false e)
 asked_quiet gated p s t ns answer number (requests.Join n (Some r)) e = absurd (true≢false e)
 asked_quiet gated p s t ns answer number (requests.Join n None) e = refl
 asked_quiet gated p s t ns answer number q e = refl
 
-action_quiet : (gated : List InstrId) (p : NumberedProgram) (s : State) (t : ℕ) (ns : List ℕ) (answer number : ℕ) (a : Action) → IsQuiet a → writes_by (access_in (kind_told gated p s t ns answer number a)) ≡ false
+action_quiet : (gated : List InstrId) (p : NumberedProgram) (s : State) (t : ℕ) (ns : List ℕ) (answer number : ℕ) (a : Action) → IsQuiet a
+    → writes_by (access_in (kind_told gated p s t ns answer number a)) ≡ false
 action_quiet gated p s t ns answer number actions.Local e = told_quiet ns number (slice_get p.instrs (instr_of s t))
 action_quiet gated p s t ns answer number (actions.Load r) e = refl
 action_quiet gated p s t ns answer number (actions.Store r n) e = absurd (true≢false e)
@@ -158,7 +163,8 @@ action_quiet gated p s t ns answer number a e = refl
 module _ (r : ReferenceRun) (d : Taken) (u : PlanUnit) (unit : Rattle.pg_units.proofs.Along.IsUnit r d u) (single : is_instance d u.seen ≡ false) where
   no_write : writes_by (access_in (kind_in u.seen)) ≡ false → (c : ℕ) → nat_lt c MEMORY_BYTES ≡ true → writes_cell d u.seen c ≡ false
   no_write e c lt =
-      ap (λ (b : Bool). if b then list_any (λ f. is_written_in f c) (access_touch d u.seen.number (access_in (kind_in u.seen)) ++ (if is_instance d u.seen then prints_in u.seen.region else [])) else is_thread (word_written (thread_in u.seen.moment) (kind_in u.seen)) (c - MEMORY_BYTES)) lt
+      ap (λ (b : Bool). if b then list_any (λ f. is_written_in f c) (access_touch d u.seen.number (access_in (kind_in u.seen)) ++ (if is_instance d u.seen then prints_in u.seen.region else []))
+      else is_thread (word_written (thread_in u.seen.moment) (kind_in u.seen)) (c - MEMORY_BYTES)) lt
       ∙ ap (λ (b : Bool). list_any (λ f. is_written_in f c) (access_touch d u.seen.number (access_in (kind_in u.seen)) ++ (if b then prints_in u.seen.region else []))) single
       ∙ go (access_in (kind_in u.seen)) e
     where
@@ -179,8 +185,10 @@ module _ (r : ReferenceRun) (d : Taken) (u : PlanUnit) (unit : Rattle.pg_units.p
   quiet_writes e c lt h P = absurd (true≢false (sym h ∙ no_write (quiet_here e) c lt))
 
   -- a thread that begins stores nothing
-  pub start_writes : (st : State) → Beginning r.program (thread_in u.seen.moment) u.state st → (c : ℕ) → nat_lt c MEMORY_BYTES ≡ true → writes_cell d u.seen c ≡ true → (P : Type 0) → P
-  start_writes st b c lt h P = quiet_writes (ap stores (next_is r.program u.state (thread_in u.seen.moment) (fresh r.program (thread_in u.seen.moment) b.function) b.first ∙ next_fresh r.program (thread_in u.seen.moment) b.function)) c lt h P
+  pub start_writes : (st : State) → Beginning r.program (thread_in u.seen.moment) u.state st → (c : ℕ) → nat_lt c MEMORY_BYTES ≡ true → writes_cell d u.seen c ≡ true
+      → (P : Type 0) → P
+  start_writes st b c lt h P = quiet_writes (ap stores
+      (next_is r.program u.state (thread_in u.seen.moment) (fresh r.program (thread_in u.seen.moment) b.function) b.first ∙ next_fresh r.program (thread_in u.seen.moment) b.function)) c lt h P
 
 -- ---- a step of a run
 
@@ -199,13 +207,17 @@ module _ (r : ReferenceRun) (d : Taken) (input : List ℤ) (program : IsProgram 
   known_writes known.PthreadJoin args e = join_as r d input program u st moves y q good objects words cells args e WritesAll
       (λ n act0 act. quiet_all (ap stores act0))
       (λ n R w0 place act0 act word0. joined_writes r d input program u st moves y q good objects words cells args e n R w0 place act0 act word0)
-  known_writes k args e = quiet_all (ap stores (act0_at r d input u st moves y q (op.CallKnown k args) e) ∙ quiet_known r.program (thread_in u.seen.moment) q.both.h q.both.f0.registers k args (λ w. absurd cc) (λ w. absurd cc))
+  known_writes k args e = quiet_all (ap stores (act0_at r d input u st moves y q (op.CallKnown k args) e)
+      ∙ quiet_known r.program (thread_in u.seen.moment) q.both.h q.both.f0.registers k args (λ w. absurd cc) (λ w. absurd cc))
 
   placed_op : (o : Op) → q.both.x.op ≡ o → is_placed_access d u.seen ≡ true → WritesAll
   placed_op (op.Store w v at) e p = store_as r d input program u st moves y q good objects w v at e WritesAll
-      (λ a n value writes act0 act. stored_writes r d input program u st moves y q good objects a w v at e n value writes act0 act (sym (ap (λ (k : StepKind). Rattle.pg_units.specs.Units.is_placed_in d u.seen.number (access_in k)) a.kind0) ∙ p))
+      (λ a n value writes act0 act. stored_writes r d input program u st moves y q good objects a w v at e n value writes act0 act
+      (sym (ap (λ (k : StepKind). Rattle.pg_units.specs.Units.is_placed_in d u.seen.number (access_in k)) a.kind0) ∙ p))
   placed_op (op.CallKnown k args) e p = known_writes k args e
-  placed_op o e p = quiet_all (ap stores (act0_at r d input u st moves y q o e) ∙ quiet_op r.program (region_of (running (thread_in u.seen.moment) q.both.h q.both.f0 q.both.fs0 q.both.n)) q.both.h q.both.f0.registers (length (q.both.f0 ∷ q.both.fs0)) (total (q.both.f0 ∷ q.both.fs0)) q.both.x.block.0 o refl)
+  placed_op o e p = quiet_all (ap stores (act0_at r d input u st moves y q o e)
+      ∙ quiet_op r.program (region_of (running (thread_in u.seen.moment) q.both.h q.both.f0 q.both.fs0 q.both.n)) q.both.h q.both.f0.registers (length (q.both.f0 ∷ q.both.fs0))
+      (total (q.both.f0 ∷ q.both.fs0)) q.both.x.block.0 o refl)
 
   pub placed_writes : is_placed_access d u.seen ≡ true → WritesAll
   placed_writes p = placed_op q.both.x.op refl p

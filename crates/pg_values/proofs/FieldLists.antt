@@ -1,5 +1,6 @@
 -- The fields of a structure, from the last to the first, and the one that an index chooses.
-use Rattle.std.proofs.Common.{◌≡◌, ℕ, zero, suc, arith, ◌<◌, List, [], ◌∷◌, ◌++◌, length, map, reverse, slice_get, unwrap_or, is_some, Option, Some, None, ℤ, pos, negsuc, refl, sym, ap, ◌∙◌, append_assoc}
+use Rattle.std.proofs.Common.{◌≡◌, ℕ, zero, suc, arith, ◌<◌, List, [], ◌∷◌, ◌++◌, length, map, reverse, slice_get, unwrap_or, is_some, Option, Some, None, ℤ, pos}
+use Rattle.std.proofs.Common.{negsuc, refl, sym, ap, ◌∙◌, append_assoc}
 use Rattle.std.specs.Option.{option_map}
 use Rattle.std.proofs.lemmas.List.{reverse-append, map-append, append-nil}
 use Rattle.std.proofs.lemmas.Option.{slice_get-map, slice_get_within}
@@ -39,7 +40,8 @@ pub all_behind : (table : List ResolvedType) (t : ResolvedType) (rest : ℕ) (fi
     → HasNoFields (type_at table rest) → FieldsBehind table (type_at table rest) t fields → AreFields table t (reverse fields)
 all_behind table t rest fields n b = ap (λ us. map (λ u. Some u) us ++ map (field_type table) (reverse fields)) (sym n) ∙ b
 
-chosen_type : (table : List ResolvedType) (a : Option ℕ) (b : Option ResolvedType) → option_map (field_type table) a ≡ option_map (λ u. Some u) b → (denoted table a ≡ b) × IsWithin table a × (is_some a ≡ is_some b)
+chosen_type : (table : List ResolvedType) (a : Option ℕ) (b : Option ResolvedType) → option_map (field_type table) a ≡ option_map (λ u. Some u) b
+    → (denoted table a ≡ b) × IsWithin table a × (is_some a ≡ is_some b)
 chosen_type table None None e = (refl, tt, refl)
 chosen_type table None (Some u) e = cc
 chosen_type table (Some f) None e = cc

@@ -2,6 +2,7 @@ mod FieldLists
 mod RegisterTypes
 mod IndexSteps
 mod Inner
+pub mod Joined
 mod Places
 mod TypedViews
 pub mod TypeRows

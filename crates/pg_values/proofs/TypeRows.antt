@@ -12,7 +12,8 @@ on_ok (Ok x) f h = f h
 on_ok (Err e) f h = tt
 
 -- two types more
-pub two_pushed : (front a b : List (Bor TypeNode)) (x y : Bor TypeNode) → a ≡ front ++ x ∷ [] → b ≡ a ++ y ∷ [] → tys_behind b ≡ tys_behind front ++ (ty_of x.now ∷ ty_of y.now ∷ [])
+pub two_pushed : (front a b : List (Bor TypeNode)) (x y : Bor TypeNode) → a ≡ front ++ x ∷ [] → b ≡ a ++ y ∷ []
+    → tys_behind b ≡ tys_behind front ++ (ty_of x.now ∷ ty_of y.now ∷ [])
 two_pushed front a b x y e f =
     ap (λ ts. tys_behind ts) (f ∙ ap (λ ts. ts ++ y ∷ []) e ∙ append_assoc front (x ∷ []) (y ∷ []))
     ∙ map-append ty_behind front (x ∷ y ∷ [])

@@ -2,10 +2,12 @@
 use Rattle.std.specs.Prelude.{Bool, true, false, List, Option, Some, None}
 use Rattle.pg_lex.specs.declared.token.Span.{Span}
 use Rattle.pg_ast.specs.Syntax.{Typed, NamedType}
+use Rattle.pg_ast.specs.Views.{ty_of, val_of}
 use Rattle.pg_types.specs.Resolved.{ResolvedType, is_integer}
 use Rattle.pg_types.specs.Kinds.{fails, is_as}
-use Rattle.pg_rules.specs.Written.{asks}
+use Rattle.pg_rules.specs.Written.{Use, asks}
 use Rattle.pg_rules.specs.TypeConditions.{unmet}
+use Rattle.pg_values.specs.declared.placed_value.PlacedValue.{PlacedValue}
 
 -- a register that has another type, or stands where none may
 abbrev pub wrong_typed : Bool → Option ResolvedType → Option (Option ResolvedType) → Bool
@@ -16,3 +18,7 @@ wrong_typed false t (Some r) = fails (is_as r) t
 -- an index whose type isn't an integer
 abbrev pub integer_row : List NamedType → Typed → List Span
 integer_row types i = unmet types (asks is_integer i.ty)
+
+-- a value by what is written
+abbrev pub placed_use : PlacedValue → Use
+placed_use v = record { constant = v.constant; ty = ty_of v.ty.now; value = val_of v.value.now }

@@ -12,10 +12,10 @@ ghost use Rattle.pg_rules.specs.ValueConditions.{field_at, wrong_indices};
 ghost use Rattle.pg_values.specs.Steps.{refused_field, step_place, step_type, step_places};
 
 use crate::fields::{field_chosen, fields_of};
-use pg_ast::{TypeNode, TypedVal};
-use pg_lex::Span;
 use pg_rules::{earlier, index_numbers, type_span, val_span};
 use pg_types::{KnownTypes, Shape, TypeNumbers};
+use pg_ast::{TypeNode, TypedVal};
+use pg_lex::Span;
 use std::alloc::{AllocError, Global};
 
 /// Where an index is refused, and the number of the type to which it goes.
@@ -57,25 +57,6 @@ fn step_into_fields(
     })
 }
 
-/// How an index goes into the structure without fields, which ends the path.
-fn step_into_none(
-    alloc: Global,
-    types: &KnownTypes<'_>,
-    number: usize,
-    chosen: Option<i64>,
-    index: &TypedVal,
-) -> Result<IndexStep, AllocError>
-    requires { number < length (table_of types.now) }
-    ensures place { IfOk result (λ r. r.place ≡ earliest (refused_field (field_at (type_at (table_of types.now) number) chosen) (typed_of index.now))) }
-    ensures next { IfOk result (λ r. r.next ≡ None) }
-{
-    let step = step_into_fields(alloc, types, number, chosen, index)?;
-    Ok(IndexStep {
-        place: step.place,
-        next: None,
-    })
-}
-
 /// How an index goes into what has no parts.
 #[tactic(auto, unfolding(pg_rules::specs::Earliest::earliest))]
 fn step_into_scalar(index: &TypedVal) -> IndexStep
@@ -88,32 +69,7 @@ fn step_into_scalar(index: &TypedVal) -> IndexStep
     }
 }
 
-/// How an index goes into a type of a number.
-#[tactic(auto, unfolding(pg_rules::specs::Earliest::earliest))]
-fn step_into(
-    alloc: Global,
-    types: &KnownTypes<'_>,
-    number: usize,
-    chosen: Option<i64>,
-    index: &TypedVal,
-) -> Result<IndexStep, AllocError>
-    requires { number < length (table_of types.now) }
-    ensures place { IfOk result (λ r. r.place ≡ earliest (step_place (Some (type_at (table_of types.now) number)) chosen (typed_of index.now))) }
-    ensures next { IfOk result (λ r. denoted (table_of types.now) r.next ≡ step_type (Some (type_at (table_of types.now) number)) chosen) }
-    ensures within { IfOk result (λ r. IsWithin (table_of types.now) r.next) }
-{
-    match types.shape_of_number(number) {
-        Shape::Array(_, element) => Ok(IndexStep {
-            place: None,
-            next: Some(element),
-        }),
-        Shape::NoFields => step_into_none(alloc, types, number, chosen, index),
-        Shape::MoreFields(_, _) => step_into_fields(alloc, types, number, chosen, index),
-        _ => Ok(step_into_scalar(index)),
-    }
-}
-
-/// How an index goes into a type, if there is one.
+/// How an index goes into a type, if there is one. The structure without fields ends the path.
 #[tactic(auto, unfolding(pg_rules::specs::Earliest::earliest))]
 fn step(
     alloc: Global,
@@ -128,7 +84,21 @@ fn step(
     ensures within { IfOk result (λ r. IsWithin (table_of types.now) r.next) }
 {
     match number {
-        Some(number) => step_into(alloc, types, number, chosen, index),
+        Some(number) => match types.shape_of_number(number) {
+            Shape::Array(_, element) => Ok(IndexStep {
+                place: None,
+                next: Some(element),
+            }),
+            Shape::NoFields => {
+                let step = step_into_fields(alloc, types, number, chosen, index)?;
+                Ok(IndexStep {
+                    place: step.place,
+                    next: None,
+                })
+            }
+            Shape::MoreFields(_, _) => step_into_fields(alloc, types, number, chosen, index),
+            _ => Ok(step_into_scalar(index)),
+        },
         None => Ok(IndexStep {
             place: None,
             next: None,

@@ -5,15 +5,21 @@ mod fields;
 mod indices;
 mod names;
 mod own_types;
+mod placed_value;
 mod registers;
 mod scope;
 mod type_tests;
+mod typed_tests;
 mod uses;
 
 pub use fields::fields_of;
 pub use indices::wrong_indices;
 pub use names::{function_values, unknown_values};
 pub use own_types::add_own_types;
-pub use scope::ValueScope;
+pub use placed_value::PlacedValue;
+pub use scope::{LineScope, ValueScope};
 pub use type_tests::{TypeTest, passes, unmet, unmet_as};
+pub use typed_tests::{
+    unmet_like, unmet_one, unmet_same, unmet_typed, unmet_typed_as, unmet_value, unmet_value_as,
+};
 pub use uses::wrong_values;

@@ -11,10 +11,10 @@ ghost use Rattle.pg_values.specs.Scopes.{IsScope};
 ghost use Rattle.pg_values.specs.Steps.{index_row};
 
 use crate::scope::ValueScope;
-use pg_ast::{Name, TypedVal, ValNode};
-use pg_lex::Span;
 use pg_rules::{SymbolNode, earlier, symbol};
 use pg_types::place_of_name;
+use pg_ast::{Name, TypedVal, ValNode};
+use pg_lex::Span;
 
 /// A name of a register that there isn't.
 #[tactic(auto, unfolding(pg_rules::specs::Earliest::earliest))]

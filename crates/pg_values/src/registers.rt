@@ -14,9 +14,9 @@ ghost use Rattle.pg_values.specs.Uses.{wrong_typed};
 
 use crate::scope::ValueScope;
 use crate::type_tests::{TypeTest, fails_kind};
-use pg_ast::{Name, TypeNode};
 use pg_names::RegisterType;
 use pg_types::{TypeNumbers, place_of_name};
+use pg_ast::{Name, TypeNode};
 use std::alloc::AllocError;
 
 /// The type at a place, if there is one.

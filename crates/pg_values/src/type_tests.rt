@@ -11,11 +11,11 @@ ghost use Rattle.pg_rules.specs.TypeConditions.{unmet};
 ghost use Rattle.pg_rules.specs.Earliest.{earliest};
 ghost use Rattle.pg_values.specs.Tests.{test_of};
 
-use pg_ast::TypeNode;
-use pg_lex::Span;
-use pg_num::Width;
 use pg_rules::type_span;
 use pg_types::{TypeKind, TypeNumbers};
+use pg_num::Width;
+use pg_ast::TypeNode;
+use pg_lex::Span;
 use std::alloc::AllocError;
 
 /// What is asked of a type.

@@ -16,16 +16,17 @@ ghost use Rattle.pg_rules.specs.ValueConditions.{Scope, fits, is_wrong, wrong_sy
 ghost use Rattle.pg_rules.specs.Earliest.{earliest};
 ghost use Rattle.pg_values.specs.Scopes.{IsScope};
 ghost use Rattle.pg_values.specs.Steps.{index_row};
-ghost use Rattle.pg_values.specs.Uses.{integer_row};
+ghost use Rattle.pg_values.specs.Uses.{integer_row, placed_use};
 
 use crate::indices::wrong_indices;
+use crate::placed_value::PlacedValue;
 use crate::registers::wrong_register;
 use crate::scope::ValueScope;
 use crate::type_tests::{TypeTest, fails_kind, unmet};
-use pg_ast::{Literal, Name, TypeNode, TypedVal, ValNode};
-use pg_lex::Span;
 use pg_rules::{SymbolNode, earlier, is_misplaced, symbol, val_span};
 use pg_types::{TypeKind, TypeNumbers, literal_in};
+use pg_ast::{Literal, Name, TypeNode, TypedVal, ValNode};
+use pg_lex::Span;
 use std::alloc::{AllocError, Global};
 
 /// Whether a global or a function of a name, if there is one, stands where no pointer may.
@@ -70,15 +71,14 @@ fn is_wrong(
 fn wrong_place(
     scope: &ValueScope<'_>,
     types: &TypeNumbers<'_>,
-    constant: bool,
-    ty: &TypeNode,
-    value: &ValNode,
+    used: PlacedValue<'_>,
 ) -> Result<Option<Span>, AllocError>
     ensures place { (g : Scope) → IsScope scope.now g → g.tree.types ≡ named_types types.now →
-        IfOk result (λ o. o ≡ earliest (if is_wrong g constant (resolved g.tree.types (ty_of ty.now)) (val_of value.now) then val_span (val_of value.now) ∷ [] else [])) }
+        IfOk result (λ o. o ≡ earliest (if is_wrong g used.entry.constant (resolved g.tree.types (ty_of used.entry.ty.now)) (val_of used.entry.value.now)
+        then val_span (val_of used.entry.value.now) ∷ [] else [])) }
 {
-    if is_wrong(scope, types, constant, ty, value)? {
-        Ok(Some(val_span(value)))
+    if is_wrong(scope, types, used.constant, used.ty, used.value)? {
+        Ok(Some(val_span(used.value)))
     } else {
         Ok(None)
     }
@@ -158,19 +158,16 @@ fn wrong_own_indices(
 
 /// The earliest place at which a value, those within it aside, doesn't fit.
 fn wrong_use(
-    alloc: Global,
     scope: &ValueScope<'_>,
     types: &TypeNumbers<'_>,
-    constant: bool,
-    ty: &TypeNode,
-    value: &ValNode,
+    used: PlacedValue<'_>,
 ) -> Result<Option<Span>, AllocError>
     ensures place { (g : Scope) → IsScope scope.now g → g.tree.types ≡ named_types types.now →
-        IfOk result (λ o. o ≡ earliest (wrong_use g (record { constant = constant; ty = ty_of ty.now; value = val_of value.now }))) }
+        IfOk result (λ o. o ≡ earliest (wrong_use g (placed_use used.entry))) }
 {
-    let own = wrong_place(scope, types, constant, ty, value)?;
-    let asked = unmet_own(types, value)?;
-    let indices = wrong_own_indices(alloc, types, value)?;
+    let own = wrong_place(scope, types, used)?;
+    let asked = unmet_own(types, used.value)?;
+    let indices = wrong_own_indices(scope.alloc, types, used.value)?;
     Ok(earlier(own, earlier(asked, indices)))
 }
 
@@ -206,7 +203,6 @@ fn wrong_literal(
 #[cycle(wrong)]
 #[tactic(auto, unfolding(pg_rules::specs::Earliest::earliest, pg_rules::specs::Written::inner_uses, pg_rules::specs::Written::index_uses))]
 fn wrong_within(
-    alloc: Global,
     scope: &ValueScope<'_>,
     types: &TypeNumbers<'_>,
     value: &ValNode,
@@ -216,9 +212,17 @@ fn wrong_within(
 {
     match value {
         ValNode::GetElementPtr(_, _, pointer, base, indices) => {
-            let own = wrong_use(alloc, scope, types, true, pointer, base)?;
-            let within = wrong_within(alloc, scope, types, base)?;
-            let others = wrong_index_uses(alloc, scope, types, indices.as_slice())?;
+            let own = wrong_use(
+                scope,
+                types,
+                PlacedValue {
+                    constant: true,
+                    ty: pointer,
+                    value: base,
+                },
+            )?;
+            let within = wrong_within(scope, types, base)?;
+            let others = wrong_index_uses(scope, types, indices.as_slice())?;
             Ok(earlier(earlier(own, within), others))
         }
         ValNode::IntToPtr(_, ty, literal, _) => wrong_literal(types, ty, literal),
@@ -228,7 +232,6 @@ fn wrong_within(
 
 #[cycle(wrong)]
 fn wrong_index_uses(
-    alloc: Global,
     scope: &ValueScope<'_>,
     types: &TypeNumbers<'_>,
     indices: &[TypedVal],
@@ -238,8 +241,16 @@ fn wrong_index_uses(
 {
     let mut found = None;
     for index in indices {
-        let own = wrong_use(alloc, scope, types, true, &index.ty, &index.value)?;
-        let within = wrong_within(alloc, scope, types, &index.value)?;
+        let own = wrong_use(
+            scope,
+            types,
+            PlacedValue {
+                constant: true,
+                ty: &index.ty,
+                value: &index.value,
+            },
+        )?;
+        let within = wrong_within(scope, types, &index.value)?;
         found = earlier(found, earlier(own, within));
     }
     Ok(found)
@@ -247,17 +258,14 @@ fn wrong_index_uses(
 
 /// The earliest place at which a value or one within it doesn't fit.
 pub fn wrong_values(
-    alloc: Global,
     scope: &ValueScope<'_>,
     types: &TypeNumbers<'_>,
-    constant: bool,
-    ty: &TypeNode,
-    value: &ValNode,
+    used: PlacedValue<'_>,
 ) -> Result<Option<Span>, AllocError>
     ensures place { (g : Scope) → IsScope scope.now g → g.tree.types ≡ named_types types.now →
-        IfOk result (λ o. o ≡ earliest (flat_map (wrong_use g) (with_inner (record { constant = constant; ty = ty_of ty.now; value = val_of value.now })))) }
+        IfOk result (λ o. o ≡ earliest (flat_map (wrong_use g) (with_inner (placed_use used.entry)))) }
 {
-    let own = wrong_use(alloc, scope, types, constant, ty, value)?;
-    let within = wrong_within(alloc, scope, types, value)?;
+    let own = wrong_use(scope, types, used)?;
+    let within = wrong_within(scope, types, used.value)?;
     Ok(earlier(own, within))
 }

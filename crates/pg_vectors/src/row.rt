@@ -1,3 +1,5 @@
+//! A row of a table of operations and their results.
+
 use pg_num::{
     Bits, Compare, DivideFault, Division, PlaceFault, Shift, Width, add, bits, compare,
     digits_in_u64, divide, move_by, mul, place, sext, shift, sub, to_signed, trunc,

@@ -1,5 +1,6 @@
 -- The extents that a step leaves open, as they are kept.
-use Rattle.std.proofs.Common.{◌≡◌, ℕ, zero, suc, ◌+◌, ◌-◌, ◌<◌, ◌≤◌, ◌==◌, Bool, true, false, List, [], ◌∷◌, ◌++◌, length, filter, Option, Some, None, refl, sym, ap, ◌∙◌, subst, inl, inr, ◌⊎◌, arith, eqb-true, eq-eqb, replicate}
+use Rattle.std.proofs.Common.{◌≡◌, ℕ, zero, suc, ◌+◌, ◌-◌, ◌<◌, ◌≤◌, ◌==◌, Bool, true, false, List, [], ◌∷◌, ◌++◌, length, filter, Option, Some, None}
+use Rattle.std.proofs.Common.{refl, sym, ap, ◌∙◌, subst, inl, inr, ◌⊎◌, arith, eqb-true, eq-eqb, replicate}
 use Rattle.std.specs.Prelude.{Contains, not, slice_get, slice_index_or, slice_set, option_map, is_some, IfSome}
 use Rattle.std.specs.List.{AllByRecursion}
 use Rattle.std.proofs.lemmas.Bool.{true≢false, cases_lt}
@@ -9,14 +10,15 @@ use Rattle.pg_closed.specs.Known.{Reference, RunShadow, Taken, ThreadShadow, aft
 use Rattle.pg_closed.specs.Moments.{Moment, instr_in, thread_in}
 use Rattle.pg_least.specs.Along.{region_in}
 use Rattle.pg_least.specs.Keeps.{AreStacked, ExtentsKeep, every, steps_of}
-use Rattle.pg_least.proofs.Zips.{here, there}
+use Rattle.pg_paths.proofs.Elements.{here, there}
 use Rattle.pg_least.proofs.Threads.{thread_made, thread_other, thread_own, made_by, made_in, own_made}
 use Rattle.pg_reference.specs.declared.run.ReferenceRun.{ReferenceRun}
 use Rattle.pg_reference.specs.Kept.{landmark_at}
 use Rattle.pg_reference.specs.Landmarks.{Landmark, landmark_of}
 use Rattle.pg_slice.specs.Given.{HasLandmarks}
 use Rattle.pg_walk.specs.Chains.{AreHeld, AreOlder, Holds, IsChain, IsHeld, IsLeft, IsNoted, begun_by}
-use Rattle.pg_backward.proofs.At.{at_step, next_step, of_every}
+use Rattle.pg_demands.proofs.Back.{of_every}
+use Rattle.pg_backward.proofs.At.{at_step, next_step}
 use Rattle.pg_demands.specs.Along.{known_at, known_from}
 use Rattle.pg_ir.specs.declared.instr.Instr.{Instr}
 use Rattle.pg_ir.specs.Program.{NumberedProgram}

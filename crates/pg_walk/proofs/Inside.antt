@@ -1,5 +1,6 @@
 -- A step in an open extent: the extent's branch step, and the call in which that stands.
-use Rattle.std.proofs.Common.{◌≡◌, ℕ, zero, suc, ◌<◌, ◌≤◌, ◌==◌, Bool, true, false, List, [], ◌∷◌, length, filter, Option, Some, None, refl, sym, ap, ◌∙◌, subst, inl, inr, ◌⊎◌, arith, eqb-true, eq-eqb}
+use Rattle.std.proofs.Common.{◌≡◌, ℕ, zero, suc, ◌<◌, ◌≤◌, ◌==◌, Bool, true, false, List, [], ◌∷◌, length, filter, Option, Some, None, refl, sym, ap, ◌∙◌}
+use Rattle.std.proofs.Common.{subst, inl, inr, ◌⊎◌, arith, eqb-true, eq-eqb}
 use Rattle.std.specs.Prelude.{Contains, not, slice_get, if◌then◌else◌}
 use Rattle.std.proofs.lemmas.Bool.{true≢false}
 use Rattle.std.proofs.lemmas.List.{length-map}
@@ -21,13 +22,13 @@ use Rattle.pg_least.specs.Keeps.{ExtentsKeep, KeepsTo, every, is_branching}
 use Rattle.pg_least.proofs.Heights.{region_branch}
 use Rattle.pg_least.proofs.Stands.{live_every}
 use Rattle.pg_least.proofs.Threads.{calls_after, own_calls, thread_own}
-use Rattle.pg_least.proofs.Zips.{cases_in, here, none_in, there}
+use Rattle.pg_paths.proofs.Elements.{cases as cases_in, here, none_in, there}
 use Rattle.pg_demands.specs.Along.{known_at, known_from}
 use Rattle.pg_demands.specs.Cells.{call_at}
 use Rattle.pg_demands.proofs.Steps.{eq_false, top_is}
 use Rattle.pg_backward.specs.Lens.{lens_by_kind, lens_of, rest_of}
 use Rattle.pg_backward.proofs.Lens.{kind_lens}
-use Rattle.pg_backward.proofs.At.{of_every}
+use Rattle.pg_demands.proofs.Back.{of_every}
 use Rattle.pg_walk.proofs.Chained.{begun_before, in_run, next_is, other_next, own_next}
 use Rattle.pg_walk.proofs.Moments.{get_there}
 

@@ -13,7 +13,7 @@ use Rattle.pg_slice.proofs.Passing.{has_moment}
 an_interval : Interval
 an_interval = record { low = 0; high = 0 }
 
-index_same : {A : Type 0} (ys : List A) (n : ℕ) (z : A) → slice_index_or ys n z ≡ slice_index_or ys n (slice_index_or ys n z)
+pub index_same : {A : Type 0} (ys : List A) (n : ℕ) (z : A) → slice_index_or ys n z ≡ slice_index_or ys n (slice_index_or ys n z)
 index_same [] n z = refl
 index_same (y ∷ ys) zero z = refl
 index_same (y ∷ ys) (suc n) z = index_same ys n z

@@ -6,11 +6,11 @@ use Rattle.std.proofs.lemmas.List.Elements.{Contains-append_right}
 use Rattle.pg_closed.specs.Moments.{Moment, thread_in}
 use Rattle.pg_closed.specs.Extents.{Extent, is_live}
 use Rattle.pg_closed.specs.Freeable.{FreeRegion}
-use Rattle.pg_closed.specs.Known.{Reference, RunShadow, Seen, Taken, registers_of, thread_of}
+use Rattle.pg_closed.specs.Known.{Reference, RunShadow, Taken, registers_of, thread_of}
 use Rattle.pg_least.specs.Keeps.{ExtentsKeep, every}
 use Rattle.pg_least.proofs.Likes.{Likes}
 use Rattle.pg_least.proofs.Stands.{or_this, stand}
-use Rattle.pg_least.proofs.Zips.{here}
+use Rattle.pg_paths.proofs.Elements.{here}
 use Rattle.pg_demands.specs.Along.{known_at}
 use Rattle.pg_demands.specs.Back.{byte_demand, register_demand}
 use Rattle.pg_demands.specs.Cells.{Demand, IsMet}
@@ -18,10 +18,10 @@ use Rattle.pg_demands.specs.Passed.{count_at, may_set_cell, region_at_step, sets
 use Rattle.pg_demands.proofs.Still.{pinned_if}
 use Rattle.pg_demanded.specs.declared.demanded.Demanded.{Demanded}
 use Rattle.pg_backward.specs.Met.{AreMet}
-use Rattle.pg_walk.specs.Sets.{SetsSome}
-use Rattle.pg_backward.proofs.At.{at_step, of_every, the_link}
+use Rattle.pg_backward.specs.Sets.{AsksRegion}
+use Rattle.pg_backward.proofs.At.{at_step, the_link}
 use Rattle.pg_walk.proofs.Inside.{inside}
-use Rattle.pg_walk.proofs.Skipped.{step_is}
+use Rattle.pg_walk.proofs.Skipped.{step_is, stood_at}
 
 -- what stands still among the older ones stands still among all
 stand_more : (e : Taken) (younger es : List Extent) (o : Extent) → stand e es ≡ Some o → stand e (younger ++ es) ≡ Some o
@@ -38,14 +38,7 @@ register_set r t depth count i l s = rw (eq-eqb t t refl, eq-eqb depth depth ref
 module _ (R : Reference) (keeps : ExtentsKeep R) (e : Taken) (n : ℕ) (m : Moment) (q : slice_get R.moments n ≡ Some m) (below : n ≤ length R.moments) (younger older : List Extent) (x : Extent)
     (whole : (thread_of (known_at R every n) (thread_in m)).extents ≡ younger ++ x ∷ older) (live : is_live e.pinned older ≡ true)
     (r : FreeRegion) (is : region_at_step R x.step ≡ Some r) where
-  abbrev t : ℕ
-  t = thread_in m
-
-  abbrev es : List Extent
-  es = (thread_of (known_at R every n) (thread_in m)).extents
-
-  abbrev y : Seen
-  y = of_every R n m (known_at R every n)
+  open stood_at R n m use {t, es, y}
 
   inside_it : Contains es x
   inside_it = subst (λ (zs : List Extent). Contains zs x) (sym whole) (Contains-append_right younger (x ∷ older) x (here x older))
@@ -59,9 +52,9 @@ module _ (R : Reference) (keeps : ExtentsKeep R) (e : Taken) (n : ℕ) (m : Mome
       (subst (λ (o : Option FreeRegion). sets_any o y x.depth (d ∷ []) ≡ true) (sym is) s)
 
   pub pinned_open : (count : ℕ) → count ≡ length (registers_of (known_at R every x.step) (thread_in m)) → (w : Demanded) → AreMet (known_at R e (suc n)) w →
-      SetsSome r (thread_in m) x.depth count w → e.pinned x.step ≡ true
+      AsksRegion (Some r) (thread_in m) x.depth count w → e.pinned x.step ≡ true
   pinned_open count c w met (inl s) =
       let z : count_at y x.depth ≡ count = (inside R keeps n below t x inside_it).count ∙ sym c in
-      by_demand (register_demand t x.depth s.register s.whole) (met.registers t x.depth s.register s.whole s.asked)
-      (subst (λ (k : ℕ). ((((t == t) && (x.depth == x.depth)) && (nat_lt s.register k && r.sets s.register)) || false) ≡ true) (sym z) (register_set r t x.depth count s.register s.there s.sets))
-  pinned_open count c w met (inr s) = by_demand (byte_demand s.byte true) (met.bytes s.byte s.asked) (rw s.writes refl)
+      by_demand (register_demand t x.depth s.0 s.1) (met.registers t x.depth s.0 s.1 s.4)
+      (subst (λ (k : ℕ). ((((t == t) && (x.depth == x.depth)) && (nat_lt s.0 k && r.sets s.0)) || false) ≡ true) (sym z) (register_set r t x.depth count s.0 s.2 s.3))
+  pinned_open count c w met (inr s) = by_demand (byte_demand s.0 true) (met.bytes s.0 s.2) (rw s.1 refl)

@@ -10,7 +10,7 @@ use Rattle.pg_backward.specs.Sets.{AsksRegion}
 use Rattle.pg_reference.specs.declared.run.ReferenceRun.{ReferenceRun}
 use Rattle.pg_reference.specs.Kept.{landmark_at}
 use Rattle.pg_reference.specs.Landmarks.{Landmark}
-use Rattle.pg_walk.specs.Sets.{Passes, PassesAt, SetsAt, SetsNone, SetsSome}
+use Rattle.pg_walk.specs.Sets.{Passes, PassesAt, SetsAt, SetsNone}
 
 -- ---- what is told of a step's landmark
 
@@ -19,14 +19,13 @@ pub asks_some : (r : ReferenceRun) (b t depth count : ℕ) (w : Demanded) (resul
 asks_some r b t depth count w result e d a = record { by = go (landmark_at r b) d a }
   where
     go : (o : Option Landmark) → IfSome o (λ (l : Landmark). depth ≡ l.depth) → IfSome o (λ (l : Landmark). result ≡ true → AsksRegion l.region t depth count w) →
-        IfSome o (λ (l : Landmark). IfSome l.region (λ (q : FreeRegion). SetsSome q t l.depth count w))
+        IfSome o (λ (l : Landmark). IfSome l.region (λ (q : FreeRegion). AsksRegion (Some q) t l.depth count w))
     go None d a = tt
     go (Some l) d a = on l.region (subst (λ (k : ℕ). AsksRegion l.region t k count w) d (a e))
       where
-        on : (p : Option FreeRegion) → AsksRegion p t l.depth count w → IfSome p (λ (q : FreeRegion). SetsSome q t l.depth count w)
+        on : (p : Option FreeRegion) → AsksRegion p t l.depth count w → IfSome p (λ (q : FreeRegion). AsksRegion (Some q) t l.depth count w)
         on None a = tt
-        on (Some q) (inl a) = inl (record { register = a.0; whole = a.1; asked = a.4; there = a.2; sets = a.3 })
-        on (Some q) (inr a) = inr (record { byte = a.0; asked = a.2; writes = a.1 })
+        on (Some q) a = a
 
 pub asks_none : (r : ReferenceRun) (b t depth count : ℕ) (w : Demanded) (result : Bool) → result ≡ false → IfSome (landmark_at r b) (λ (l : Landmark). depth ≡ l.depth)
     → ((i : ℕ) (v : Bool) → asked_of w t depth i ≡ Some v → i < count) → IfSome (landmark_at r b) (λ (l : Landmark). result ≡ false → AsksRegion l.region t depth count w → ⊥)
@@ -57,16 +56,16 @@ less_itself w = record { registers = λ i j k v a. a; bytes = λ b a. a }
 pub sets_less : (r : ReferenceRun) (b t count : ℕ) (old new : Demanded) → IsLess old new → SetsAt r b t count new → SetsAt r b t count old
 sets_less r b t count old new f s = record { by = go (landmark_at r b) s.by }
   where
-    some_less : (q : FreeRegion) (depth : ℕ) → SetsSome q t depth count new → SetsSome q t depth count old
-    some_less q depth (inl x) = inl (record { register = x.register; whole = x.whole; asked = f.registers t depth x.register x.whole x.asked; there = x.there; sets = x.sets })
-    some_less q depth (inr x) = inr (record { byte = x.byte; asked = f.bytes x.byte x.asked; writes = x.writes })
+    some_less : (q : FreeRegion) (depth : ℕ) → AsksRegion (Some q) t depth count new → AsksRegion (Some q) t depth count old
+    some_less q depth (inl x) = inl (x.0, x.1, x.2, x.3, f.registers t depth x.0 x.1 x.4)
+    some_less q depth (inr x) = inr (x.0, x.1, f.bytes x.0 x.2)
 
-    go : (o : Option Landmark) → IfSome o (λ (l : Landmark). IfSome l.region (λ (q : FreeRegion). SetsSome q t l.depth count new)) →
-        IfSome o (λ (l : Landmark). IfSome l.region (λ (q : FreeRegion). SetsSome q t l.depth count old))
+    go : (o : Option Landmark) → IfSome o (λ (l : Landmark). IfSome l.region (λ (q : FreeRegion). AsksRegion (Some q) t l.depth count new)) →
+        IfSome o (λ (l : Landmark). IfSome l.region (λ (q : FreeRegion). AsksRegion (Some q) t l.depth count old))
     go None h = tt
     go (Some l) h = on l.region h
       where
-        on : (p : Option FreeRegion) → IfSome p (λ (q : FreeRegion). SetsSome q t l.depth count new) → IfSome p (λ (q : FreeRegion). SetsSome q t l.depth count old)
+        on : (p : Option FreeRegion) → IfSome p (λ (q : FreeRegion). AsksRegion (Some q) t l.depth count new) → IfSome p (λ (q : FreeRegion). AsksRegion (Some q) t l.depth count old)
         on None h = tt
         on (Some q) h = some_less q l.depth h
 

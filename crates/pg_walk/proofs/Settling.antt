@@ -10,10 +10,11 @@ use Rattle.pg_closed.specs.Known.{Reference, Taken, registers_of, thread_of}
 use Rattle.pg_least.specs.Along.{region_in}
 use Rattle.pg_least.specs.Keeps.{every}
 use Rattle.pg_least.proofs.Stands.{live_more}
-use Rattle.pg_least.proofs.Zips.{here}
+use Rattle.pg_paths.proofs.Elements.{here}
 use Rattle.pg_demands.specs.Along.{known_at}
 use Rattle.pg_demands.specs.Passed.{region_at_step, region_then}
 use Rattle.pg_demanded.specs.declared.demanded.Demanded.{Demanded}
+use Rattle.pg_backward.specs.Sets.{AsksRegion}
 use Rattle.pg_backward.specs.declared.registers.Counts.{Counts}
 use Rattle.pg_backward.specs.Leaves.{IsLess}
 use Rattle.pg_backward.proofs.Meets.{less_met}
@@ -22,7 +23,7 @@ use Rattle.pg_reference.specs.declared.run.ReferenceRun.{ReferenceRun}
 use Rattle.pg_reference.specs.Kept.{landmark_at}
 use Rattle.pg_reference.specs.Landmarks.{Landmark, landmark_of}
 use Rattle.pg_walk.specs.Chains.{AreOlder, IsChain}
-use Rattle.pg_walk.specs.Sets.{Passes, PassesAt, SetsAt, SetsSome}
+use Rattle.pg_walk.specs.Sets.{Passes, PassesAt, SetsAt}
 use Rattle.pg_walk.specs.Settled.{ArePinned, Leads}
 use Rattle.pg_walk.specs.Walks.{IsTold, Walks}
 use Rattle.pg_walk.proofs.Chained.{get_is}
@@ -141,7 +142,7 @@ module _ (R : Reference) (r : ReferenceRun) (hs : List ℕ) (counts : List Count
       (subst (λ (u : ℕ). a.0.present ≡ length (registers_of (known_at R every b) u)) i.thread a.2.present) in
       subst (λ (k : ℕ). e.pinned k ≡ true) parts.step
       (pinned_open R told.keeps e n m q below parts.younger parts.older parts.this parts.whole (live_more d e parts.older within (pinned.by parts.older parts.chain)) i.region region_is
-      c.present (ap (λ (k : Counts). k.present) (sym z) ∙ g) w met (at_region (λ q k. SetsSome q t k c.present w) s.by))
+      c.present (ap (λ (k : Counts). k.present) (sym z) ∙ g) w met (at_region (λ q k. AsksRegion (Some q) t k c.present w) s.by))
 
   pub skip_open : (e : Taken) (w : Demanded) → PassesAt r b t w → AreMet (known_at R e (suc n)) w → AreMet (known_at R e (suc b)) w
   skip_open e w p met =

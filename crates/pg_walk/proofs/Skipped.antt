@@ -1,5 +1,6 @@
 -- What has to be known behind a step and passes an extent in which it stands has to be known behind the extent's branch step.
-use Rattle.std.proofs.Common.{◌≡◌, ℕ, zero, suc, ◌+◌, ◌<◌, ◌≤◌, ◌==◌, Bool, true, false, List, [], ◌∷◌, length, Option, Some, None, refl, sym, ap, ◌∙◌, subst, inl, inr, ◌⊎◌, arith, eqb-true, eq-eqb}
+use Rattle.std.proofs.Common.{◌≡◌, ℕ, zero, suc, ◌+◌, ◌<◌, ◌≤◌, ◌==◌, Bool, true, false, List, [], ◌∷◌, length, Option, Some, None, refl, sym, ap, ◌∙◌}
+use Rattle.std.proofs.Common.{subst, inl, inr, ◌⊎◌, arith, eqb-true, eq-eqb}
 use Rattle.std.specs.Prelude.{Contains, ◌&&◌, ◌||◌, nat_le, nat_lt, not, slice_get, if◌then◌else◌}
 use Rattle.std.specs.List.{AllByRecursion}
 use Rattle.std.proofs.lemmas.Bool.{true≢false, cases_lt, le-leb, lt-ltb}
@@ -9,7 +10,7 @@ use Rattle.pg_closed.specs.Freeable.{FreeRegion}
 use Rattle.pg_closed.specs.Known.{Reference, RunShadow, Seen, Taken, after_step, start_of, thread_of}
 use Rattle.pg_least.specs.Keeps.{ExtentsKeep, every}
 use Rattle.pg_least.proofs.Likes.{Likes}
-use Rattle.pg_least.proofs.Zips.{cases_in, none_in}
+use Rattle.pg_paths.proofs.Elements.{cases as cases_in, none_in}
 use Rattle.pg_demands.specs.Along.{known_at}
 use Rattle.pg_demands.specs.Back.{byte_demand, register_demand}
 use Rattle.pg_demands.specs.Cells.{Byte, Demand, IsMet, Register}
@@ -20,7 +21,8 @@ use Rattle.pg_demanded.specs.declared.demanded.Demanded.{Demanded}
 use Rattle.pg_demanded.specs.Asked.{asked_of, asks_byte}
 use Rattle.pg_backward.specs.Met.{AreMet}
 use Rattle.pg_walk.specs.Sets.{Passes}
-use Rattle.pg_backward.proofs.At.{At, at_step, next_step, of_every, the_link}
+use Rattle.pg_demands.proofs.Back.{of_every}
+use Rattle.pg_backward.proofs.At.{At, at_step, next_step, the_link}
 use Rattle.pg_walk.proofs.Chained.{in_run}
 use Rattle.pg_walk.proofs.Inside.{Begins, inside, opened}
 use Rattle.pg_walk.proofs.Moments.{get_there}
@@ -94,20 +96,22 @@ register_passes r t depth w p i j k v a = go (i == t) refl
 byte_passes : (r : FreeRegion) (t depth : ℕ) (w : Demanded) → Passes r t depth w → (b : ℕ) → asks_byte w b ≡ true → passes_cell r t depth (Byte b) ≡ true
 byte_passes r t depth w p b a = rw (p.none.bytes b a) refl
 
+-- a step's thread, the extents open there, and the step in the run in which all is known
+pub record Stood : Type 0 where
+  pub t : ℕ
+  pub es : List Extent
+  pub y : Seen
+
+abbrev pub stood_at : Reference → ℕ → Moment → Stood
+stood_at R n m = record { t = thread_in m; es = (thread_of (known_at R every n) (thread_in m)).extents; y = of_every R n m (known_at R every n) }
+
 module _ (R : Reference) (keeps : ExtentsKeep R) (e : Taken) where
   pub step_is : (n : ℕ) (m : Moment) → slice_get R.moments n ≡ Some m → known_at R e (suc n) ≡ after_step R e n m (known_at R e n)
   step_is n m q = let z : 0 + n ≡ n = omega arith in subst (λ (i : ℕ). known_at R e (suc n) ≡ after_step R e i m (known_at R e n)) z (next_step R e 0 n (start_of R.program) R.moments m q)
 
   module _ (n : ℕ) (m : Moment) (q : slice_get R.moments n ≡ Some m) (x : Extent) (c : Contains (thread_of (known_at R every n) (thread_in m)).extents x) (below : n ≤ length R.moments)
       (r : FreeRegion) (is : region_at_step R x.step ≡ Some r) where
-    abbrev t : ℕ
-    t = thread_in m
-
-    abbrev es : List Extent
-    es = (thread_of (known_at R every n) (thread_in m)).extents
-
-    abbrev y : Seen
-    y = of_every R n m (known_at R every n)
+    open stood_at R n m use {t, es, y}
 
     low : nat_le x.depth (length m.calls) ≡ true
     low =

@@ -1,5 +1,5 @@
 -- What the region of a branch step may set of what has to be known.
-use Rattle.std.specs.Prelude.{◌≡◌, ◌<◌, ◌⊎◌, ℕ, Bool, true, false, Some, IfSome}
+use Rattle.std.specs.Prelude.{◌≡◌, ◌<◌, ℕ, Bool, true, false, Some, IfSome}
 use Rattle.pg_closed.specs.Freeable.{FreeRegion}
 use Rattle.pg_least.specs.Keeps.{may_write}
 use Rattle.pg_reference.specs.declared.run.ReferenceRun.{ReferenceRun}
@@ -7,23 +7,9 @@ use Rattle.pg_reference.specs.Kept.{landmark_at}
 use Rattle.pg_reference.specs.Landmarks.{Landmark}
 use Rattle.pg_demanded.specs.declared.demanded.Demanded.{Demanded}
 use Rattle.pg_demanded.specs.Asked.{asked_of, asks_byte}
+use Rattle.pg_backward.specs.Sets.{AsksRegion}
 
--- a register of a call, which has so many
-pub record SetsRegister (q : FreeRegion) (t depth count : ℕ) (w : Demanded) : Type 0 where
-  pub register : ℕ
-  pub whole : Bool
-  pub asked : asked_of w t depth register ≡ Some whole
-  pub there : register < count
-  pub sets : q.sets register ≡ true
-
-pub record SetsByte (q : FreeRegion) (w : Demanded) : Type 0 where
-  pub byte : ℕ
-  pub asked : asks_byte w byte ≡ true
-  pub writes : may_write q.accesses byte ≡ true
-
-abbrev pub SetsSome : FreeRegion → ℕ → ℕ → ℕ → Demanded → Type 0
-SetsSome q t depth count w = SetsRegister q t depth count w ⊎ SetsByte q w
-
+-- nothing that has to be known
 pub record SetsNone (q : FreeRegion) (t depth : ℕ) (w : Demanded) : Type 0 where
   pub registers : (i : ℕ) (v : Bool) → asked_of w t depth i ≡ Some v → q.sets i ≡ false
   pub bytes : (b : ℕ) → asks_byte w b ≡ true → may_write q.accesses b ≡ false
@@ -35,7 +21,7 @@ pub record Passes (q : FreeRegion) (t depth : ℕ) (w : Demanded) : Type 0 where
 
 -- of step b of a replay, in a call with so many registers
 pub record SetsAt (r : ReferenceRun) (b t count : ℕ) (w : Demanded) : Type 0 where
-  pub by : IfSome (landmark_at r b) (λ (l : Landmark). IfSome l.region (λ (q : FreeRegion). SetsSome q t l.depth count w))
+  pub by : IfSome (landmark_at r b) (λ (l : Landmark). IfSome l.region (λ (q : FreeRegion). AsksRegion (Some q) t l.depth count w))
 
 pub record PassesAt (r : ReferenceRun) (b t : ℕ) (w : Demanded) : Type 0 where
   pub by : IfSome (landmark_at r b) (λ (l : Landmark). IfSome l.region (λ (q : FreeRegion). Passes q t l.depth w))

@@ -1,3 +1,5 @@
+//! The walk from the end of a run back.
+
 ghost use Rattle.std.specs.Prelude.{◌≡◌, ◌<◌, ◌≤◌, ℕ, suc, Bool, true, false, Some, IfOk, IfSome, IfNone, OnOk, length, slice_get, slice_index_or};
 ghost use Rattle.pg_backward.specs.declared.registers.Counts.{Counts as ACounts};
 ghost use Rattle.pg_backward.specs.Leaves.{IsLess};

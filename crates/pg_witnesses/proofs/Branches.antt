@@ -9,7 +9,8 @@ use Rattle.pg_reference.specs.OfRegions.{AreRegions, branch_region}
 use Rattle.pg_witnesses.proofs.Regions.{region_of}
 use Rattle.pg_witnesses.proofs.Short.{short_calls}
 
-pub regions_are : (p : NumberedProgram) (gated : ℕ → Bool) (sums : ℕ → Option RootedList) → IsProgram p → AreSummaries p gated sums → (regions : Regions) × AreRegions p gated sums regions
+pub regions_are : (p : NumberedProgram) (gated : ℕ → Bool) (sums : ℕ → Option RootedList) → IsProgram p → AreSummaries p gated sums
+    → (regions : Regions) × AreRegions p gated sums regions
 regions_are p gated sums program h =
     let short = short_calls p program gated sums h in (
       λ c. branch_region p (region_of p program gated sums short c).0,

@@ -1,5 +1,6 @@
 -- How many accesses a set of blocks has at most, where the summaries of the functions that it calls are short.
-use Rattle.std.proofs.Common.{◌≡◌, ℕ, zero, suc, ◌+◌, ◌-◌, ◌*◌, ◌<◌, ◌≤◌, Bool, true, false, cond, List, [], ◌∷◌, ◌++◌, length, take, drop, Option, Some, None, refl, ap, arith, length-append}
+use Rattle.std.proofs.Common.{◌≡◌, ℕ, zero, suc, ◌+◌, ◌-◌, ◌*◌, ◌<◌, ◌≤◌, Bool, true, false, cond, List, [], ◌∷◌, ◌++◌, length, take, drop, Option}
+use Rattle.std.proofs.Common.{Some, None, refl, ap, arith, length-append}
 use Rattle.std.specs.Prelude.{All, slice_get}
 use Rattle.std.specs.List.{AllByRecursion}
 use Rattle.std.proofs.lemmas.List.Elements.{All-drop, All-take, recursion_from_All}
@@ -19,7 +20,8 @@ use Rattle.pg_paths.specs.declared.path.RootPath.{RootPath}
 use Rattle.pg_paths.specs.Paths.{composed}
 use Rattle.pg_paths.specs.Registers.{register_path, value_path}
 use Rattle.pg_accesses.specs.declared.rooted.Rooted.{Rooted}
-use Rattle.pg_accesses.specs.Accesses.{RootedList, accesses_from, behind_argument, behind_path, block_accesses, both, called_access, called_accesses, gathered, known_accesses, one_access, op_accesses, set_accesses, sets, with_path}
+use Rattle.pg_accesses.specs.Accesses.{RootedList, accesses_from, behind_argument, behind_path, block_accesses, both, called_access, called_accesses, gathered, known_accesses, one_access}
+use Rattle.pg_accesses.specs.Accesses.{op_accesses, set_accesses, sets, with_path}
 use Rattle.pg_accesses.proofs.Passes.{parts}
 
 -- these are at most so many, if there are any to be had
@@ -119,7 +121,8 @@ module _ (m : Bool) (gated : ℕ → Bool) (sums : ℕ → Option RootedList) wh
 
   -- ---- blocks
 
-  from_most : (is_set : ℕ → Bool) (types : List Scalar) (before : List Instr) (i : ℕ) (xs : List Instr) → AllByRecursion (λ (x : Instr). CallsShort sums x.op) xs → Most (accesses_from m gated sums is_set types before i xs) (times (length xs) 1024)
+  from_most : (is_set : ℕ → Bool) (types : List Scalar) (before : List Instr) (i : ℕ) (xs : List Instr) → AllByRecursion (λ (x : Instr). CallsShort sums x.op) xs
+      → Most (accesses_from m gated sums is_set types before i xs) (times (length xs) 1024)
   from_most is_set types before i [] h = empty_most 0
   from_most is_set types before i (x ∷ xs) h =
       both_most (op_accesses m gated sums (register_path is_set types before) i x.op) (accesses_from m gated sums is_set types (x ∷ before) (i + 1) xs) 1024 (times (length xs) 1024)
@@ -149,7 +152,8 @@ module _ (m : Bool) (gated : ℕ → Bool) (sums : ℕ → Option RootedList) wh
     block_most is_set b ys e =
         let n = end_of p b - first_of p b in
         let xs : List Instr = take n (drop (first_of p b) p.instrs) in
-        let h = recursion_from_All (λ (x : Instr). CallsShort sums x.op) xs (All-take (λ (x : Instr). CallsShort sums x.op) n (drop (first_of p b) p.instrs) (All-drop (λ (x : Instr). CallsShort sums x.op) (first_of p b) p.instrs short)) in
+        let h = recursion_from_All (λ (x : Instr). CallsShort sums x.op) xs
+        (All-take (λ (x : Instr). CallsShort sums x.op) n (drop (first_of p b) p.instrs) (All-drop (λ (x : Instr). CallsShort sums x.op) (first_of p b) p.instrs short)) in
         let k : length ys ≤ times (length xs) 1024 = from_most is_set (types_of p (function_of p b)) [] (first_of p b) xs h ys e in
         omega (arith, k, times_linear (length xs), take_length n (drop (first_of p b) p.instrs), drop_length (first_of p b) p.instrs, few)
 

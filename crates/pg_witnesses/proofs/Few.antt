@@ -1,5 +1,6 @@
 -- A program has no more basic blocks than instructions.
-use Rattle.std.proofs.Common.{◌≡◌, ℕ, zero, suc, ◌+◌, ◌<◌, ◌≤◌, ◌==◌, ◌||◌, ◌⊎◌, Bool, true, false, List, [], ◌∷◌, length, Option, Some, None, refl, sym, ap, subst, arith, inl, inr}
+use Rattle.std.proofs.Common.{◌≡◌, ℕ, zero, suc, ◌+◌, ◌<◌, ◌≤◌, ◌==◌, ◌||◌, ◌⊎◌, Bool, true, false, List, [], ◌∷◌, length, Option, Some, None, refl}
+use Rattle.std.proofs.Common.{sym, ap, subst, arith, inl, inr}
 use Rattle.std.specs.Prelude.{slice_get}
 use Rattle.std.proofs.lemmas.Bool.{cases_eq, ne_eqb}
 use Rattle.pg_ir.specs.declared.function.Block.{Block}
@@ -82,7 +83,8 @@ block_by None = 0
 block_by (Some x) = x.block.0
 
 pub few_blocks : (p : NumberedProgram) → IsProgram p → length p.blocks ≤ length p.instrs
-few_blocks p program = no_more (length p.blocks) (length p.instrs) (λ b. first_by (slice_get p.blocks b)) (λ i. block_by (slice_get p.instrs i)) (λ b lt. let x = there p.blocks b lt in found b (slice_get p.blocks b) x.0 refl x.1)
+few_blocks p program = no_more (length p.blocks) (length p.instrs) (λ b. first_by (slice_get p.blocks b)) (λ i. block_by (slice_get p.instrs i))
+    (λ b lt. let x = there p.blocks b lt in found b (slice_get p.blocks b) x.0 refl x.1)
   where
     there : (xs : List Block) (t : ℕ) → t < length xs → (x : Block) × (slice_get xs t ≡ Some x)
     there [] t h = absurd (omega arith)

@@ -1,11 +1,12 @@
 -- Of each vertex of a finite graph, the vertices that walks from it meet before another.
-use Rattle.std.proofs.Common.{◌≡◌, ◌≢◌, ℕ, zero, suc, ◌+◌, ◌<◌, ◌≤◌, ◌==◌, ◌↔◌, ◌⊎◌, Bool, true, false, List, [], ◌∷◌, get_or, length, refl, sym, ap, ◌∙◌, subst, arith, inl, inr}
+use Rattle.std.proofs.Common.{◌≡◌, ◌≢◌, ℕ, zero, suc, ◌+◌, ◌<◌, ◌≤◌, ◌==◌, ◌↔◌, ◌⊎◌, Bool, true, false, List, [], ◌∷◌, get_or, length, refl}
+use Rattle.std.proofs.Common.{sym, ap, ◌∙◌, subst, arith, inl, inr}
 use Rattle.std.specs.Prelude.{All, Contains}
 use Rattle.std.specs.List.Sorted.{IsStrictlyIncreasing}
 use Rattle.std.proofs.lemmas.Bool.{cases_eq, cases_lt, eqb-true, or_cases, true≢false}
 use Rattle.std.proofs.lemmas.List.Elements.{All-contains, Contains-get_or}
 use Rattle.pg_accesses.proofs.Ascending.{shorter}
-use Rattle.pg_accesses.proofs.Elements.{cases, here, none_in, there}
+use Rattle.pg_paths.proofs.Elements.{cases, here, none_in, there}
 use Rattle.pg_cfg.specs.Graphs.{EdgeLists, IsReach, Walk, targets_of}
 use Rattle.pg_cfg.specs.Graphs.Walk.{first, then}
 use Rattle.pg_cfg.specs.Searches.{is_in, members_from}
@@ -23,7 +24,8 @@ members_length n (false ∷ set) = let h : length (members_from (n + 1) set) ≤
 ascending_few : (n : ℕ) (xs : List ℕ) → IsStrictlyIncreasing xs → All (λ b. b < n) xs → length xs ≤ n
 ascending_few n xs a h =
     let set = table (λ (z : ℕ). true) n in
-    let s : length xs ≤ length (members_from 0 set) = shorter (members_from 0 set) xs a (ascending 0 set) (λ z c. (members_exact set z).1 (table_at (λ (y : ℕ). true) false n z (All-contains (λ b. b < n) xs z h c))) in
+    let s : length xs ≤ length (members_from 0 set) = shorter (members_from 0 set) xs a (ascending 0 set)
+    (λ z c. (members_exact set z).1 (table_at (λ (y : ℕ). true) false n z (All-contains (λ b. b < n) xs z h c))) in
     omega (arith, s, members_length 0 set, table_length (λ (z : ℕ). true) 0 n)
 
 -- ---- the search
@@ -68,7 +70,8 @@ module _ (g : EdgeLists) (within : Within g) (a j : ℕ) where
   scan_below f zero = inr (λ y lt. absurd (omega (arith, lt)))
   scan_below f (suc m) = go (scan_below f m) (f m) refl (scan f (targets_of g m))
     where
-      go : ((y : ℕ) × (x : ℕ) × IsOpen f y x) ⊎ ((y : ℕ) → y < m → f y ≡ true → AreOld f (targets_of g y)) → (b : Bool) → f m ≡ b → ((x : ℕ) × IsNew f (targets_of g m) x) ⊎ AreOld f (targets_of g m) →
+      go : ((y : ℕ) × (x : ℕ) × IsOpen f y x) ⊎ ((y : ℕ) → y < m → f y ≡ true → AreOld f (targets_of g y)) → (b : Bool) → f m ≡ b
+          → ((x : ℕ) × IsNew f (targets_of g m) x) ⊎ AreOld f (targets_of g m) →
           ((y : ℕ) × (x : ℕ) × IsOpen f y x) ⊎ ((y : ℕ) → y < suc m → f y ≡ true → AreOld f (targets_of g y))
       go (inl n) b e s = inl n
       go (inr h) true e (inl n) = inl (m, n.0, (e, n.1))
@@ -89,7 +92,8 @@ module _ (g : EdgeLists) (within : Within g) (a j : ℕ) where
   abbrev Found : Type 0
   Found = (f : ℕ → Bool) × ((x : ℕ) → (f x ≡ true) ↔ Walk g j a x)
 
-  complete : (f : ℕ → Bool) → Sound f → AreOld f (targets_of g a) → ((y : ℕ) → y < length g → f y ≡ true → AreOld f (targets_of g y)) → {x : ℕ} → Walk g j a x → f x ≡ true
+  complete : (f : ℕ → Bool) → Sound f → AreOld f (targets_of g a) → ((y : ℕ) → y < length g → f y ≡ true → AreOld f (targets_of g y)) → {x : ℕ} → Walk g j a x
+      → f x ≡ true
   complete f s h k {x} (first e ne) = h x e.leads ne
   complete f s h k {x} (then {b = y} w e ne) = k y (walk_below w) (complete f s h k w) x e.leads ne
 
@@ -109,7 +113,8 @@ module _ (g : EdgeLists) (within : Within g) (a j : ℕ) where
   next : (f : ℕ → Bool) → Sound f → Closed f ⊎ ((x : ℕ) × Reached f x)
   next f s = go (scan f (targets_of g a)) (scan_below f (length g))
     where
-      go : ((x : ℕ) × IsNew f (targets_of g a) x) ⊎ AreOld f (targets_of g a) → ((y : ℕ) × (x : ℕ) × IsOpen f y x) ⊎ ((y : ℕ) → y < length g → f y ≡ true → AreOld f (targets_of g y)) → Closed f ⊎ ((x : ℕ) × Reached f x)
+      go : ((x : ℕ) × IsNew f (targets_of g a) x) ⊎ AreOld f (targets_of g a)
+          → ((y : ℕ) × (x : ℕ) × IsOpen f y x) ⊎ ((y : ℕ) → y < length g → f y ≡ true → AreOld f (targets_of g y)) → Closed f ⊎ ((x : ℕ) × Reached f x)
       go (inl n) q = inr (n.0, (first (record { leads = n.1.0 }) n.1.1, n.1.2))
       go (inr h) (inl n) = inr (n.1, (then (s n.0 n.2.0) (record { leads = n.2.1.0 }) n.2.1.1, n.2.1.2))
       go (inr h) (inr k) = inl (h, k)

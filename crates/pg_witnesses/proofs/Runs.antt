@@ -13,7 +13,8 @@ use Rattle.pg_instances.specs.References.{IsReferenceRun}
 use Rattle.pg_witnesses.proofs.Branches.{regions_are}
 use Rattle.pg_witnesses.proofs.Summaries.{summaries}
 
-pub exits_reference : (p : NumberedProgram) (input : List ℤ) (turns : List Turn) (gated : List InstrId) (xs : List Step) (printed : List ℕ) (value : ℤ) → IsProgram p → HoldBytes p.globals → length input < 2 ^ 64 → following_of p input turns gated ≡ Exits xs printed value →
+pub exits_reference : (p : NumberedProgram) (input : List ℤ) (turns : List Turn) (gated : List InstrId) (xs : List Step) (printed : List ℕ) (value : ℤ) → IsProgram p
+    → HoldBytes p.globals → length input < 2 ^ 64 → following_of p input turns gated ≡ Exits xs printed value →
     (sums : ℕ → Option RootedList) × (regions : Regions) × IsReferenceRun p input turns gated sums regions xs
 exits_reference p input turns gated xs printed value program bytes small exits =
     let sums = summaries p program (is_gated gated) in

@@ -1,5 +1,6 @@
 -- The functions of each program have their summaries.
-use Rattle.std.proofs.Common.{◌≡◌, ◌≢◌, ℕ, zero, suc, ◌+◌, ◌<◌, ◌≤◌, ◌==◌, ◌||◌, ◌↔◌, ◌⊎◌, Bool, true, false, cond, List, [], ◌∷◌, length, Option, None, refl, sym, ap, subst, arith, inl, inr}
+use Rattle.std.proofs.Common.{◌≡◌, ◌≢◌, ℕ, zero, suc, ◌+◌, ◌<◌, ◌≤◌, ◌==◌, ◌||◌, ◌↔◌, ◌⊎◌, Bool, true, false, cond, List, [], ◌∷◌}
+use Rattle.std.proofs.Common.{length, Option, None, refl, sym, ap, subst, arith, inl, inr}
 use Rattle.std.specs.Prelude.{Contains}
 use Rattle.std.proofs.lemmas.Bool.{cases_eq, eq-eqb, eqb-true, ne_eqb, or_cases, or_left, or_right, true≢false}
 use Rattle.pg_cfg.specs.Graphs.{IsReach, targets_of}
@@ -7,7 +8,7 @@ use Rattle.pg_ir.specs.Program.{NumberedProgram}
 use Rattle.pg_ir.specs.WellFormed.{IsProgram}
 use Rattle.pg_accesses.specs.Accesses.{RootedList}
 use Rattle.pg_accesses.specs.Tables.{in_table}
-use Rattle.pg_accesses.proofs.Elements.{cases, here, none_in, there}
+use Rattle.pg_paths.proofs.Elements.{cases, here, none_in, there}
 use Rattle.pg_quiet.specs.declared.reaches.Reach.{Reach}
 use Rattle.pg_quiet.specs.Callees.{calls_of}
 use Rattle.pg_quiet.specs.Creates.{is_started}

@@ -24,7 +24,8 @@ pub fn summaries_exist()
 
 /// By the summaries of a program's functions, the branch at the end of each block has its region, or has none.
 pub fn a_branch_has_its_region()
-    ensures { (p : NumberedProgram) (gated : ℕ → Bool) (sums : ℕ → Option RootedList) → IsProgram p → AreSummaries p gated sums → (c : ℕ) → (region : Option Region) × RegionOf p gated sums c region }
+    ensures { (p : NumberedProgram) (gated : ℕ → Bool) (sums : ℕ → Option RootedList) → IsProgram p → AreSummaries p gated sums → (c : ℕ)
+        → (region : Option Region) × RegionOf p gated sums c region }
 {}
 
 /// The branches of each program have regions, by the summaries of its functions.
@@ -35,6 +36,7 @@ pub fn regions_exist()
 /// Where the guided run of a program along turns exits, it is a reference run, with summaries of the program's functions and
 /// regions of its branches.
 pub fn exiting_runs_are_reference_runs()
-    ensures { (p : NumberedProgram) (input : List ℤ) (turns : List Turn) (gated : List InstrId) (xs : List Step) (printed : List ℕ) (value : ℤ) → IsProgram p → HoldBytes p.globals → length input < 2 ^ 64
+    ensures { (p : NumberedProgram) (input : List ℤ) (turns : List Turn) (gated : List InstrId) (xs : List Step) (printed : List ℕ) (value : ℤ) → IsProgram p → HoldBytes p.globals
+        → length input < 2 ^ 64
         → following_of p input turns gated ≡ Exits xs printed value → (sums : ℕ → Option RootedList) × (regions : Regions) × IsReferenceRun p input turns gated sums regions xs }
 {}

@@ -10,9 +10,7 @@ ghost use Rattle.pg_ast.specs.Text.{switch_text, called_text, gep_op_text, op_te
 ghost use Rattle.pg_ast.specs.Views.{ty_of, val_of, typed_of, incoming_of, case_of, written_of, count_of, op_of};
 
 use crate::names::Name;
-use crate::ops::{
-    ArgNode, BinaryOp, CallTypes, CaseNode, CastOp, CountNode, IncomingNode, OpNode, Predicate,
-};
+use crate::ops::{ArgNode, BinaryOp, CallTypes, CaseNode, CastOp, CountNode, IncomingNode, OpNode};
 use crate::print::names::{put, put_label_behind, put_name_behind, put_text};
 use crate::print::types::{put_more_types, put_type, put_type_behind};
 use crate::print::values::{
@@ -20,6 +18,7 @@ use crate::print::values::{
 };
 use crate::types::TypeNode;
 use crate::values::{TypedVal, ValNode};
+use pg_num::Compare;
 use std::alloc::AllocError;
 
 fn binary_name(op: BinaryOp) -> &'static str
@@ -42,20 +41,20 @@ fn binary_name(op: BinaryOp) -> &'static str
     }
 }
 
-fn predicate_name(predicate: Predicate) -> &'static str
+fn predicate_name(predicate: Compare) -> &'static str
     ensures { result.now ≡ predicate_word predicate }
 {
     match predicate {
-        Predicate::Eq => "eq",
-        Predicate::Ne => "ne",
-        Predicate::Ugt => "ugt",
-        Predicate::Uge => "uge",
-        Predicate::Ult => "ult",
-        Predicate::Ule => "ule",
-        Predicate::Sgt => "sgt",
-        Predicate::Sge => "sge",
-        Predicate::Slt => "slt",
-        Predicate::Sle => "sle",
+        Compare::Eq => "eq",
+        Compare::Ne => "ne",
+        Compare::Ugt => "ugt",
+        Compare::Uge => "uge",
+        Compare::Ult => "ult",
+        Compare::Ule => "ule",
+        Compare::Sgt => "sgt",
+        Compare::Sge => "sge",
+        Compare::Slt => "slt",
+        Compare::Sle => "sle",
     }
 }
 
@@ -274,7 +273,7 @@ fn put_binary(
 
 fn put_icmp(
     out: &mut Vec<u8>,
-    predicate: Predicate,
+    predicate: Compare,
     ty: &TypeNode,
     left: &ValNode,
     right: &ValNode,

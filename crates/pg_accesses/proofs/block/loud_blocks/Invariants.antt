@@ -10,5 +10,6 @@ invariant-loop-b l = record {
   count : count_in l.known ≡ count_in l.initial.known;
   size : length l.loud.items ≡ l.b;
   loud : (b : ℕ) → in_table l.loud.items b ≡ true → (is_set : ℕ → Bool) → block_accesses false l.p (in_table l.gated) (summary_of l.sums) is_set b ≡ None;
-  quiet : (b : ℕ) → b < l.b → in_table l.loud.items b ≡ false → (accesses : RootedList) × (block_accesses false l.p (in_table l.gated) (summary_of l.sums) (λ r. false) b ≡ Some accesses);
+  quiet : (b : ℕ) → b < l.b → in_table l.loud.items b ≡ false → (accesses : RootedList)
+      × (block_accesses false l.p (in_table l.gated) (summary_of l.sums) (λ r. false) b ≡ Some accesses);
 }

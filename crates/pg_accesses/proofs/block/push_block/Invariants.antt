@@ -14,6 +14,8 @@ invariant-loop-k l = record {
   count : count_in l.known ≡ count_in l.initial.known;
   paths : (r : ℕ) → path_in l.known r ≡ register_path (set_in l.initial.known) (types_of l.p (function_of l.p l.fn.b.0)) (reverse (take l.k (instrs_of l.p l.fn.b.0))) r;
   accesses :
-      behind l.initial.accesses.items (accesses_from l.may_return (in_table l.gated) (summary_of l.sums) (set_in l.initial.known) (types_of l.p (function_of l.p l.fn.b.0)) [] (first_of l.p l.fn.b.0) (instrs_of l.p l.fn.b.0))
-      ≡ behind l.accesses.items (accesses_from l.may_return (in_table l.gated) (summary_of l.sums) (set_in l.initial.known) (types_of l.p (function_of l.p l.fn.b.0)) (reverse (take l.k (instrs_of l.p l.fn.b.0))) (first_of l.p l.fn.b.0 + l.k) (drop l.k (instrs_of l.p l.fn.b.0)));
+      behind l.initial.accesses.items (accesses_from l.may_return (in_table l.gated) (summary_of l.sums) (set_in l.initial.known) (types_of l.p (function_of l.p l.fn.b.0)) []
+      (first_of l.p l.fn.b.0) (instrs_of l.p l.fn.b.0))
+      ≡ behind l.accesses.items (accesses_from l.may_return (in_table l.gated) (summary_of l.sums) (set_in l.initial.known) (types_of l.p (function_of l.p l.fn.b.0))
+      (reverse (take l.k (instrs_of l.p l.fn.b.0))) (first_of l.p l.fn.b.0 + l.k) (drop l.k (instrs_of l.p l.fn.b.0)));
 }

@@ -11,7 +11,8 @@ overflow_add-block c = omega (arith, c.block-block.ensures.fits.within, c.loop-k
 pub add_set-requires : goal.add_set-requires
 add_set-requires c =
     result_small c.args.p.now c.args.b.0 (c.block-block.result.now.first.0 + c.loop-k.k) (length c.loop-k.set.items) c.block-block.result.now c.function-function.result.now c.instr-instr.result.now
-    c.block-block.ensures.at c.function-function.ensures.at (omega (arith, c.function-function.ensures.fits.few, c.loop-k.invariant.size, c.requires.size)) c.block-block.ensures.fits (omega arith) (omega (arith, c.loop-k-test.true))
+    c.block-block.ensures.at c.function-function.ensures.at (omega (arith, c.function-function.ensures.fits.few, c.loop-k.invariant.size, c.requires.size)) c.block-block.ensures.fits
+    (omega arith) (omega (arith, c.loop-k-test.true))
     c.instr-instr.ensures.at c.instr-instr.ensures.fits
 
 pub loop-k-preserved : goal.loop-k-preserved
@@ -24,4 +25,5 @@ loop-k-preserved c = record {
 
 pub returns-clause-sets : goal.returns-clause-sets
 returns-clause-sets c = λ r.
-    c.loop-k.invariant.sets r ∙ ap (λ b. b || in_table c.args.set.now.items r) (sets_all c.args.p.now c.args.b.0 c.block-block.result.now c.loop-k.k r c.block-block.ensures.at (omega (arith, c.loop-k-test.false)))
+    c.loop-k.invariant.sets r ∙ ap (λ b. b || in_table c.args.set.now.items r)
+    (sets_all c.args.p.now c.args.b.0 c.block-block.result.now c.loop-k.k r c.block-block.ensures.at (omega (arith, c.loop-k-test.false)))

@@ -4,7 +4,7 @@ use Rattle.pg_decisions.specs.Steps.{AreOf, step_of, taken_by}
 use Rattle.pg_closed.specs.declared.decision.Decision.{Decision}
 use Rattle.pg_reference.specs.Landmarks.{landmark_of}
 use Rattle.pg_demands.specs.Along.{known_at}
-use Rattle.pg_backward.proofs.At.{seen_with}
+use Rattle.pg_demands.proofs.Back.{seen_with}
 use Rattle.pg_backward.proofs.Dispatch.{call_is, landmark_is, own_met, region_met}
 use Rattle.pg_backward.proofs.live.back_live.Goals as goal
 

@@ -13,10 +13,12 @@ loop-number-init c = λ all k. refl
 
 pub loop-number-preserved : goal.loop-number-preserved
 loop-number-preserved c = λ all k.
-    numbered_step (λ (b : ℕ × Block). bad_phis all (map named_block c.args.blocks.now) b.0 b.1) named_block c.args.blocks.now c.loop-number.number c.index-blocks-number.result c.index-blocks-number.result
+    numbered_step (λ (b : ℕ × Block). bad_phis all (map named_block c.args.blocks.now) b.0 b.1) named_block c.args.blocks.now c.loop-number.number c.index-blocks-number.result
+    c.index-blocks-number.result
     c.loop-number.found c.in_ok-own.own c.earlier-found.result c.loop-number-test.true c.index-blocks-number.is (c.loop-number.invariant all k) (c.in_ok-own.ensures all k) c.earlier-found.ensures
 
 pub returns : goal.returns
 returns c = λ all k.
-    row_whole (λ bs. c.loop-number.found ≡ earliest (flat_map (λ (b : ℕ × Block). bad_phis all (map named_block c.args.blocks.now) b.0 b.1) (enumerate_from 0 (map named_block bs)))) c.args.blocks.now c.loop-number.number c.loop-number-test.false
+    row_whole (λ bs. c.loop-number.found ≡ earliest (flat_map (λ (b : ℕ × Block). bad_phis all (map named_block c.args.blocks.now) b.0 b.1) (enumerate_from 0 (map named_block bs))))
+    c.args.blocks.now c.loop-number.number c.loop-number-test.false
     (c.loop-number.invariant all k)

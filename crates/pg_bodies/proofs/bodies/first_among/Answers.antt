@@ -35,7 +35,8 @@ returns-in-Some c = record {
       let i = c.loop-item.item-index in
       let item = c.item-item.result in
       let until = counted all i item c.as_slice.result.now c.lines_until-until.result c.as_slice.ensures.value (c.lines_until-until.ensures (lines_before all i) c.loop-item.invariant.count) in
-      c.loop-item.invariant.first (Some c.in-Some.refusal) (found_here m all i item _ c.in-Some.refusal c.loop-item-test.true c.item-item.is c.in-Some.is (c.in_ok-refusal.ensures.first m (lines_before all i) refl until));
+      c.loop-item.invariant.first (Some c.in-Some.refusal) (found_here m all i item _ c.in-Some.refusal c.loop-item-test.true c.item-item.is c.in-Some.is
+      (c.in_ok-refusal.ensures.first m (lines_before all i) refl until));
 }
 
 pub returns : goal.returns

@@ -11,6 +11,7 @@ abbrev pub invariant-loop-item : goal.invariant-loop-item
 invariant-loop-item l =
     let m = tree_of l.symbols.tree.now in
     record {
-      first : (o : Option CheckRefusal) → IsFirstAmong (bodies m (map define_of (drop l.item-index l.items)) (lines_before l.items l.item-index)) o → IsFirstAmong (bodies m (map define_of l.items) 0) o;
+      first : (o : Option CheckRefusal) → IsFirstAmong (bodies m (map define_of (drop l.item-index l.items)) (lines_before l.items l.item-index)) o
+          → IsFirstAmong (bodies m (map define_of l.items) 0) o;
       count : l.until ≡ capped (lines_before l.items l.item-index);
     }

@@ -65,11 +65,13 @@ returns c = record {
       (c.earlier_refusal-other.ensures phis large
       (c.refusal_at-3.ensures (part BadPhi)
       (phis_body m.types item nodes (map named_block c.as_slice-5.result.now) c.in_ok-phis.phis refl
-      (ap (λ bs. map named_block bs) c.as_slice-5.ensures.value ∙ c.in_ok-blocks.ensures ∙ ap (λ ns. bare_blocks ns c.as_slice-2.result.now) (c.as_slice.ensures.value ∙ own.labels) ∙ ap (λ bs. bare_blocks (labels_of d) bs) c.as_slice-2.ensures.value)
+      (ap (λ bs. map named_block bs) c.as_slice-5.ensures.value ∙ c.in_ok-blocks.ensures ∙ ap (λ ns. bare_blocks ns c.as_slice-2.result.now) (c.as_slice.ensures.value ∙ own.labels)
+      ∙ ap (λ bs. bare_blocks (labels_of d) bs) c.as_slice-2.ensures.value)
       (c.in_ok-phis.ensures (labels_of d) (λ text. c.requires.labels text ∙ ap (λ ns. label_number ns text) own.labels))))
       (c.refusal_at-4.ensures (part TooLarge)
       (c.place_if-2.ensures ∙ ap (λ b. earliest (at_if b span))
       (too_large m lines item c.args.own.now nodes c.in_ok-large.large c.are_too_many.result c.is_over_limits-over.result c.len-2.result own refl
-      (c.in_ok-large.ensures.large ∙ ap (λ bs. list_any (is_large_block (named_types c.args.types.now)) (map block_of bs)) c.as_slice-6.ensures.value ∙ ap (λ ts. list_any (is_large_block ts) (map block_of nodes)) (sym t))
+      (c.in_ok-large.ensures.large ∙ ap (λ bs. list_any (is_large_block (named_types c.args.types.now)) (map block_of bs)) c.as_slice-6.ensures.value
+      ∙ ap (λ ts. list_any (is_large_block ts) (map block_of nodes)) (sym t))
       registers (c.are_too_many.ensures _ u) c.is_over_limits-over.ensures)))));
 }

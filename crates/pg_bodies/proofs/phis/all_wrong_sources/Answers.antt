@@ -12,5 +12,6 @@ loop-line-init c = λ all k. refl
 
 pub loop-line-preserved : goal.loop-line-preserved
 loop-line-preserved c = λ all k.
-    row_step (wrong_sources all (names_behind c.args.before.now)) bare_node c.args.lines.now c.loop-line.line-index c.line-item.result c.line-item.result c.loop-line.found c.in_ok-own.own c.earlier-found.result
+    row_step (wrong_sources all (names_behind c.args.before.now)) bare_node c.args.lines.now c.loop-line.line-index c.line-item.result c.line-item.result c.loop-line.found c.in_ok-own.own
+    c.earlier-found.result
     c.loop-line-test.true c.line-item.is (c.loop-line.invariant all k) (c.in_ok-own.ensures all k) c.earlier-found.ensures

@@ -8,4 +8,5 @@ use Rattle.pg_bodies.proofs.targets.lines_go_to.Given as goal
 
 abbrev pub invariant-loop-line : goal.invariant-loop-line
 invariant-loop-line l =
-    has_text (flat_map (λ (x : Line). label_targets x.op) (map bare_node l.lines)) l.text ≡ has_text (flat_map (λ (x : Line). label_targets x.op) (map bare_node (drop l.line-index l.lines))) l.text
+    has_text (flat_map (λ (x : Line). label_targets x.op) (map bare_node l.lines)) l.text
+    ≡ has_text (flat_map (λ (x : Line). label_targets x.op) (map bare_node (drop l.line-index l.lines))) l.text

@@ -9,4 +9,5 @@ use Rattle.pg_rules.specs.CallConditions.{argument_demands}
 use Rattle.pg_calls.proofs.calls.argument_demands.Given as goal
 
 abbrev pub invariant-loop-place : goal.invariant-loop-place
-invariant-loop-place l = l.found ≡ earliest (flat_map (unmet (named_types l.types)) (argument_demands (named_types l.types) (tys_behind (take l.place l.params)) (map typed_of (take l.place l.arguments))))
+invariant-loop-place l = l.found ≡ earliest (flat_map (unmet (named_types l.types))
+    (argument_demands (named_types l.types) (tys_behind (take l.place l.params)) (map typed_of (take l.place l.arguments))))

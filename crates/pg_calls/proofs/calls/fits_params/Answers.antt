@@ -12,7 +12,8 @@ loop-place-preserved c =
     let ty = c.index-written-place.result in
     let passed : true ≡ c.in_ok-agrees_at.field-0 = search rules in
     let agrees = passed ∙ c.in_ok-agrees_at.ensures.same in
-    sym (fits_step (named_types c.args.types.now) param_behind ty_of c.args.params.now c.args.written.now place ty c.args.dots c.loop-place-test.true c.index-written-place.is agrees) ∙ c.loop-place.invariant
+    sym (fits_step (named_types c.args.types.now) param_behind ty_of c.args.params.now c.args.written.now place ty c.args.dots c.loop-place-test.true c.index-written-place.is agrees)
+    ∙ c.loop-place.invariant
 
 pub returns : goal.returns
 returns c = record {

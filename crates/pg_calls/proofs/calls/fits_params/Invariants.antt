@@ -6,4 +6,5 @@ use Rattle.pg_calls.specs.Headers.{params_behind}
 use Rattle.pg_calls.proofs.calls.fits_params.Given as goal
 
 abbrev pub invariant-loop-place : goal.invariant-loop-place
-invariant-loop-place l = fits_params (named_types l.types) (params_behind (drop l.place l.params)) (map ty_of (drop l.place l.written)) l.dots ≡ fits_params (named_types l.types) (params_behind l.params) (map ty_of l.written) l.dots
+invariant-loop-place l = fits_params (named_types l.types) (params_behind (drop l.place l.params)) (map ty_of (drop l.place l.written)) l.dots
+    ≡ fits_params (named_types l.types) (params_behind l.params) (map ty_of l.written) l.dots

@@ -8,4 +8,5 @@ use Rattle.pg_check.proofs.main_function.has_main.Given as goal
 
 abbrev pub invariant-loop-item : goal.invariant-loop-item
 invariant-loop-item l =
-    list_any (λ (d : Definition). bytes_eq d.name.text main_name) (map define_of l.items) ≡ list_any (λ (d : Definition). bytes_eq d.name.text main_name) (map define_of (drop l.item-index l.items))
+    list_any (λ (d : Definition). bytes_eq d.name.text main_name) (map define_of l.items)
+    ≡ list_any (λ (d : Definition). bytes_eq d.name.text main_name) (map define_of (drop l.item-index l.items))

@@ -6,22 +6,6 @@ use Rattle.pg_closed.specs.Closed.{admits, asks, conditions}
 use Rattle.pg_closed.specs.Known.{seen_from}
 use Rattle.pg_closed.proofs.examples.a_root_is_chosen_by_a_branch.Goals as goal
 
-pub returns-clause-none : goal.returns-clause-none
-unfolding asks seen_from instrs_of phis_of end_of first_of parameter_count types_of number_of
-returns-clause-none c = refl
-
-pub returns-clause-own : goal.returns-clause-own
-unfolding asks seen_from instrs_of phis_of end_of first_of parameter_count types_of number_of
-returns-clause-own c = refl
-
-pub returns-clause-closed : goal.returns-clause-closed
-unfolding asks seen_from instrs_of phis_of end_of first_of parameter_count types_of number_of
-returns-clause-closed c = refl
-
-pub returns-clause-same : goal.returns-clause-same
-unfolding admits conditions seen_from instrs_of phis_of end_of first_of parameter_count types_of number_of
-returns-clause-same c = refl
-
-pub returns-clause-other : goal.returns-clause-other
-unfolding admits conditions seen_from instrs_of phis_of end_of first_of parameter_count types_of number_of
-returns-clause-other c = refl
+pub returns : goal.returns
+unfolding asks seen_from instrs_of phis_of end_of first_of parameter_count types_of number_of admits conditions
+returns c = record { none = refl; own = refl; closed = refl; same = refl; other = refl }

@@ -6,14 +6,6 @@ use Rattle.pg_closed.specs.Closed.{admits, asks, conditions}
 use Rattle.pg_closed.specs.Known.{seen_from}
 use Rattle.pg_closed.proofs.examples.loops_are_free.Goals as goal
 
-pub returns-clause-none : goal.returns-clause-none
-unfolding asks seen_from instrs_of phis_of end_of first_of parameter_count types_of number_of
-returns-clause-none c = refl
-
-pub returns-clause-closed : goal.returns-clause-closed
-unfolding asks seen_from instrs_of phis_of end_of first_of parameter_count types_of number_of
-returns-clause-closed c = refl
-
-pub returns-clause-more : goal.returns-clause-more
-unfolding admits conditions seen_from instrs_of phis_of end_of first_of parameter_count types_of number_of
-returns-clause-more c = refl
+pub returns : goal.returns
+unfolding asks seen_from instrs_of phis_of end_of first_of parameter_count types_of number_of admits conditions
+returns c = record { none = refl; closed = refl; more = refl }

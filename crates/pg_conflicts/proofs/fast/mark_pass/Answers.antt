@@ -14,9 +14,11 @@ answered_before-requires-clause-within c =
 pub join-requires : goal.join-requires
 join-requires c =
     c.requires.marks
-    ∙ sym (ap length (c.as_slice-2.ensures.value ∙ c.in_ok-answered.ensures) ∙ before_length answers [] c.as_slice.result.now ∙ ap length (c.as_slice.ensures.value ∙ c.in_ok-touches.ensures) ∙ length-map c.args.placed.now (touch_of c.args.pass))
+    ∙ sym (ap length (c.as_slice-2.ensures.value ∙ c.in_ok-answered.ensures) ∙ before_length answers [] c.as_slice.result.now
+    ∙ ap length (c.as_slice.ensures.value ∙ c.in_ok-touches.ensures) ∙ length-map c.args.placed.now (touch_of c.args.pass))
 
 pub returns : goal.returns
 returns c =
     c.join.ensures
-    ∙ ap (or_each c.args.marks.now) (c.as_slice-2.ensures.value ∙ c.in_ok-answered.ensures ∙ ap (before_by answers []) (c.as_slice.ensures.value ∙ c.in_ok-touches.ensures) ∙ before_map answers (touch_of c.args.pass) [] c.args.placed.now)
+    ∙ ap (or_each c.args.marks.now) (c.as_slice-2.ensures.value ∙ c.in_ok-answered.ensures ∙ ap (before_by answers []) (c.as_slice.ensures.value ∙ c.in_ok-touches.ensures)
+    ∙ before_map answers (touch_of c.args.pass) [] c.args.placed.now)

@@ -2,7 +2,7 @@ use Rattle.std.proofs.Common.{◌+◌, ◌∷◌, [], ◌++◌, take, length, sy
 use Rattle.std.specs.Prelude.{nat_lt}
 use Rattle.pg_conflicts.specs.Merged.{IsMerged}
 use Rattle.pg_conflicts.proofs.Merging.{merged_more, merged_none}
-use Rattle.pg_conflicts.proofs.Walk.{take_get}
+use Rattle.pg_plans.proofs.Walks.{take_get}
 use Rattle.pg_conflicts.proofs.merged.merge_by.Goals as goal
 
 pub loop-i-init : goal.loop-i-init

@@ -1,5 +1,5 @@
 use Rattle.std.proofs.Common.{◌≤◌, ◌-◌, List}
-use Rattle.pg_conflicts.specs.declared.best.Best.{Best}
+use Rattle.pg_trace.specs.declared.best.Best.{Best}
 use Rattle.pg_conflicts.specs.Nodes.{path}
 use Rattle.pg_conflicts.specs.Ranks.{AreBest, Noted}
 use Rattle.pg_conflicts.proofs.nodes.note_path.Given as goal

@@ -12,8 +12,13 @@ use Rattle.pg_constants.proofs.constants.+words.Goals as goal
 pub pointer_word-requires : goal.pointer_word-requires
 pointer_word-requires t c =
     let m = tree_of c.args.globals.now.symbols.tree.now in
-    let g = c.in-GetElementPtr in
-    (search (rules, the_lemmas), (c.requires.items, subst (λ x. ValFits m.types (val_of x)) (sym c.deref.ensures) (gep_fits m.types c.args.value.now g.field-0 g.ty g.field-2 g.base g.indices g.is c.requires.fits).1))
+    let g = c.in-GetElementPtr in (
+      search (rules, the_lemmas),
+      (
+        c.requires.items,
+        subst (λ x. ValFits m.types (val_of x)) (sym c.deref.ensures) (gep_fits m.types c.args.value.now g.field-0 g.ty g.field-2 g.base g.indices g.is c.requires.fits).1,
+      ),
+    )
 
 pub moved_word-requires : goal.moved_word-requires
 moved_word-requires t c =

@@ -14,6 +14,7 @@ fields-preserved c =
     let l : IsLast table c.fields.rest c.in-Some.last = c.in-Some.ensures.last in
     record {
       within = omega (arith, l.below, c.fields.invariant.within);
-      behind = subst (λ fs. FieldsBehind table (type_at table c.in-Some.last.front) whole fs) (sym c.in_ok-push-in-Some.ensures.items) (one_behind table whole c.fields.rest c.in-Some.last c.fields.fields.items l c.fields.invariant.behind);
+      behind = subst (λ fs. FieldsBehind table (type_at table c.in-Some.last.front) whole fs) (sym c.in_ok-push-in-Some.ensures.items)
+          (one_behind table whole c.fields.rest c.in-Some.last c.fields.fields.items l c.fields.invariant.behind);
       ended = omega (arith, front_end (type_at table c.in-Some.last.front) (type_at table c.in-Some.last.field.number), ap fields_end l.whole, c.fields.invariant.ended);
     }

@@ -32,7 +32,8 @@ loop-global-preserved c =
     let start = c.loop-global.start in
     let next = start + c.granules_for-start.result in
     let size : c.size_or_none-size.result ≡ size_in types (global_of c.global-item.result) =
-    c.size_or_none-size.ensures.size ∙ ap (λ t. size_or_none t) c.in_ok-number.ensures.value ∙ ap (λ k. size_or_none (resolved (named_types k) (ty_of c.global-item.result.ty))) c.new-known.ensures in
+    c.size_or_none-size.ensures.size ∙ ap (λ t. size_or_none t) c.in_ok-number.ensures.value
+    ∙ ap (λ k. size_or_none (resolved (named_types k) (ty_of c.global-item.result.ty))) c.new-known.ensures in
     let granules = ap (λ n. start + n) (c.granules_for-start.ensures.granules ∙ ap (λ n. granules_for n) size) in
     record {
       whole =

@@ -136,7 +136,8 @@ add_const-returns-in_ok-add_fields-in-Struct t c = record {
       let m = tree_of c.args.globals.now.symbols.tree.now in
       let u = type_at (table_of c.args.known.now) c.args.number in
       on_ok c.fill.result _ _
-      (λ h. h ∙ struct_is m u c.args.value.now c.in-Struct.field-0 c.in-Struct.parts c.as_slice-in-Struct.result.now c.args.bytes.now.items c.add_fields.new.bytes.items c.size_of-size.result c.len-start.result
+      (λ h. h ∙ struct_is m u c.args.value.now c.in-Struct.field-0 c.in-Struct.parts c.as_slice-in-Struct.result.now c.args.bytes.now.items c.add_fields.new.bytes.items c.size_of-size.result
+      c.len-start.result
       c.in-Struct.is c.as_slice-in-Struct.ensures.value c.size_of-size.ensures.size (c.len-start.ensures ∙ c.args.bytes.now.ok.0) c.in_ok-add_fields-in-Struct.ensures.bytes)
       c.fill.ensures;
 }
@@ -177,11 +178,13 @@ add_fields-loop-place-preserved t c =
     let ts = field_list (type_at table c.args.number) in
     record {
       bytes =
-          field_step m c.loop-place.at c.in_ok-at-in-Some.at (type_at table c.in-Some.field.number) c.loop-place.bytes.items c.add_padding.new.bytes.items c.add_part.new.bytes.items ts c.args.parts.now c.loop-place.place c.index-parts-place.result _
+          field_step m c.loop-place.at c.in_ok-at-in-Some.at (type_at table c.in-Some.field.number) c.loop-place.bytes.items c.add_padding.new.bytes.items c.add_part.new.bytes.items ts
+          c.args.parts.now c.loop-place.place c.index-parts-place.result _
           c.loop-place-test.true c.index-parts-place.is c.in-Some.ensures.field.rest c.in_ok-at-in-Some.ensures.end c.in_ok-at-in-Some.ensures.bytes c.in_ok-add_part-in-Some.ensures.bytes
           ∙ c.loop-place.invariant.bytes;
       fits = (parts_next m.types c.args.parts.now c.loop-place.place c.index-parts-place.result _ c.loop-place-test.true c.index-parts-place.is c.loop-place.invariant.fits).1;
-      ended = end_step c.loop-place.at c.in_ok-at-in-Some.at c.loop-place.place ts (type_at table c.in-Some.field.number) (drop (c.loop-place.place + 1) ts) c.in-Some.ensures.field.rest c.in_ok-at-in-Some.ensures.end c.loop-place.invariant.ended;
+      ended = end_step c.loop-place.at c.in_ok-at-in-Some.at c.loop-place.place ts (type_at table c.in-Some.field.number)
+          (drop (c.loop-place.place + 1) ts) c.in-Some.ensures.field.rest c.in_ok-at-in-Some.ensures.end c.loop-place.invariant.ended;
     }
 
 pub add_fields-returns : goal.add_fields-returns

@@ -24,7 +24,8 @@ invariant-add_fields-loop-place l =
     let m = tree_of l.globals.symbols.tree.now in
     let ts = field_list (type_at (table_of l.known) l.number) in
     record {
-      bytes : l.bytes.items ++ field_bytes m l.at (drop l.place ts) (consts (map typed_const_of (drop l.place l.parts))) ≡ l.fn.bytes.items ++ field_bytes m 0 ts (consts (map typed_const_of l.parts));
+      bytes : l.bytes.items ++ field_bytes m l.at (drop l.place ts) (consts (map typed_const_of (drop l.place l.parts))) ≡ l.fn.bytes.items
+          ++ field_bytes m 0 ts (consts (map typed_const_of l.parts));
       fits : PartsFit m.types (consts (map typed_const_of (drop l.place l.parts)));
       ended : end_from l.at (drop l.place ts) ≤ SIZE_LIMIT;
     }

@@ -1,16 +1,16 @@
+use Rattle.std.proofs.Common.{◌∙◌}
 use Rattle.pg_entry.proofs.reference.sliced.Goals as goal
 
-pub slice-requires-clause-edges : goal.slice-requires-clause-edges
-slice-requires-clause-edges c = c.in_ok-replay.ensures.edges
-
-pub slice-requires-clause-steps : goal.slice-requires-clause-steps
-slice-requires-clause-steps c = c.requires.can.steps
-
-pub slice-requires-clause-count : goal.slice-requires-clause-count
-slice-requires-clause-count c = c.in_ok-replay.ensures.count
-
-pub slice-requires-clause-few : goal.slice-requires-clause-few
-slice-requires-clause-few c = c.requires.can.few
+pub slice-requires : goal.slice-requires
+slice-requires c = record {
+  given = record {
+    edges = c.in_ok-replay.ensures.edges;
+    steps = c.requires.can.steps;
+    count = c.in_ok-replay.ensures.count;
+    intervals = c.as_slice.ensures.value ∙ c.in_ok-intervals.ensures;
+    few = c.requires.can.few;
+  };
+}
 
 pub returns-clause-slice : goal.returns-clause-slice
 returns-clause-slice c =

@@ -6,5 +6,8 @@ pub from_recorded-requires-clause-recording : goal.from_recorded-requires-clause
 from_recorded-requires-clause-recording c =
     let p = c.args.p.now in
     let input = c.args.input.now in
-    let run = rotation_of p input 100 in
-    (run.state, recording p input run c.rotate_into.new.trace.steps c.in_ok-ended.ended.end c.in_ok-ended.ensures.trace c.in_ok-ended.ensures.end (c.the_schedule_of_a_rotation_run_is_good.ensures.recorded p input 100))
+    let run = rotation_of p input 100 in (
+      run.state,
+      recording p input run c.rotate_into.new.trace.steps c.in_ok-ended.ended.end c.in_ok-ended.ensures.trace c.in_ok-ended.ensures.end
+          (c.the_schedule_of_a_rotation_run_is_good.ensures.recorded p input 100),
+    )

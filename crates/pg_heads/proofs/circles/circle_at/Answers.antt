@@ -20,14 +20,14 @@ named_view n = fold-roll-TypeNode Ty ty_step (opened.Named n)
 
 pub returns-then-is_behind : goal.returns-then-is_behind
 returns-then-is_behind c = λ p text k t.
-    let types = map type_item_of c.args.items.now in
+    let types = map type_item_of c.args.ranked.now.items.now in
     let name = c.in-Named.name in
     subst (λ y. IsFirstIn (joined p (only WrongType (circle_at types text y))) c.args.known) (sym (ap ty_of c.in-Named.is ∙ named_view name))
     (behind_known p WrongType c.args.known name.span (meets (length types) types text name.text) (sym c.is_behind.ensures ∙ c.if-is_behind.true) k)
 
 pub returns-in_ok-back-in-Named : goal.returns-in_ok-back-in-Named
 returns-in_ok-back-in-Named c = λ p text k t.
-    let types = map type_item_of c.args.items.now in
+    let types = map type_item_of c.args.ranked.now.items.now in
     let name = c.in-Named.name in
     let places = at_if (meets (length types) types text name.text) name.span in
     subst (λ y. IsFirstIn (joined p (only WrongType (circle_at types text y))) c.earlier_refusal.result) (sym (ap ty_of c.in-Named.is ∙ named_view name))
@@ -37,6 +37,6 @@ returns-in_ok-back-in-Named c = λ p text k t.
 pub returns-in_default : goal.returns-in_default
 unfolding roll-TypeNode denote.Hole.Carrier.roll
 returns-in_default c = λ p text k t.
-    let types = map type_item_of c.args.items.now in
+    let types = map type_item_of c.args.ranked.now.items.now in
     let none : circle_at types text (ty_of c.args.ty.now) ≡ [] = search (rules, the_lemmas, c.in_default.not-Named, fold-roll-TypeNode, fold_out-TypeNode) in
     no_more p WrongType (circle_at types text (ty_of c.args.ty.now)) c.args.known none k

@@ -14,7 +14,7 @@ loop-ty-init c = λ p text k t. no_more p WrongType [] c.args.known refl k
 
 pub loop-ty-preserved : goal.loop-ty-preserved
 loop-ty-preserved c = λ p text k t.
-    let row = circle_at (map type_item_of c.args.items.now) text in
+    let row = circle_at (map type_item_of c.args.ranked.now.items.now) text in
     let front = flat_map row (tys_behind (take c.loop-ty.ty-index c.args.all.now)) in
     subst (λ ss. IsFirstIn (joined p (only WrongType ss)) c.in_ok-found.found)
     (sym (row_last row ty_behind c.args.all.now c.loop-ty.ty-index c.ty-item.result c.ty-item.result c.loop-ty-test.true c.ty-item.is))
@@ -23,5 +23,7 @@ loop-ty-preserved c = λ p text k t.
 
 pub returns : goal.returns
 returns c = λ p text k t.
-    row_whole (λ xs. IsFirstIn (joined p (only WrongType (flat_map (circle_at (map type_item_of c.args.items.now) text) (tys_behind xs)))) c.loop-ty.found) c.args.all.now c.loop-ty.ty-index c.loop-ty-test.false
+    row_whole (λ xs. IsFirstIn (joined p (only WrongType (flat_map (circle_at (map type_item_of c.args.ranked.now.items.now) text) (tys_behind xs)))) c.loop-ty.found) c.args.all.now
+    c.loop-ty.ty-index
+    c.loop-ty-test.false
     (c.loop-ty.invariant p text k t)

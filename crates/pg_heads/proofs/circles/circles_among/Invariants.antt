@@ -9,5 +9,5 @@ use Rattle.pg_heads.specs.Circles.{place_of, circle_at}
 use Rattle.pg_heads.proofs.circles.circles_among.Given as goal
 
 abbrev pub invariant-loop-ty : goal.invariant-loop-ty
-invariant-loop-ty l = (p : RefusedPlaces) (text : List ℕ) → IsFirstIn p l.fn.known → place_of (map type_item_of l.items) text ≡ Some l.target →
-    IsFirstIn (joined p (only WrongType (flat_map (circle_at (map type_item_of l.items) text) (tys_behind (take l.ty-index l.all))))) l.found
+invariant-loop-ty l = (p : RefusedPlaces) (text : List ℕ) → IsFirstIn p l.fn.known → place_of (map type_item_of l.ranked.items.now) text ≡ Some l.target →
+    IsFirstIn (joined p (only WrongType (flat_map (circle_at (map type_item_of l.ranked.items.now) text) (tys_behind (take l.ty-index l.all))))) l.found

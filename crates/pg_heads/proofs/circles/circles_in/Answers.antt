@@ -12,7 +12,7 @@ use Rattle.pg_heads.proofs.circles.circles_in.Goals as goal
 pub returns : goal.returns
 returns c = λ p text k t.
     let within =
-    ap (λ ts. tys_behind ts) c.as_slice.ensures.value ∙ c.in_ok-add_types_within.ensures ∙ ap (λ ts. tys_behind ts ++ types_within (ty_of c.args.ty.now)) c.new-within.ensures.items in
+    ap (λ ts. tys_behind ts) c.as_slice.ensures.value ∙ c.in_ok-add_types_within.ensures ∙ ap (λ ts. tys_behind ts ++ types_within (ty_of c.args.item.now.ty)) c.new-within.ensures.items in
     if_ok c.circles_among.result
-    (λ o h. subst (λ ts. IsFirstIn (joined p (only WrongType (flat_map (circle_at (map type_item_of c.args.items.now) text) ts))) o) within h)
+    (λ o h. subst (λ ts. IsFirstIn (joined p (only WrongType (flat_map (circle_at (map type_item_of c.args.ranked.now.items.now) text) ts))) o) within h)
     (c.circles_among.ensures p text k t)

@@ -34,7 +34,8 @@ pub returns-then-has : goal.returns-then-has
 returns-then-has c = λ h.
     let edges = next_places (map type_item_of c.args.items.now) in
     let front = c.loop-round.front.items in
-    let flat : c.as_slice-in-loop-round.result.now ≡ flat_map edges front = c.as_slice-in-loop-round.ensures.value ∙ c.in_ok-all.ensures h ∙ ap (λ xs. flat_map edges xs) c.as_slice.ensures.value in
+    let flat : c.as_slice-in-loop-round.result.now ≡ flat_map edges front =
+    c.as_slice-in-loop-round.ensures.value ∙ c.in_ok-all.ensures h ∙ ap (λ xs. flat_map edges xs) c.as_slice.ensures.value in
     let found : has (flat_map edges front) c.args.target ≡ true = ap (λ xs. has xs c.args.target) (sym flat) ∙ sym c.if-has.ensures in
     is_found edges c.args.target c.args.start (length c.args.items.now) c.loop-round.round c.loop-round.seen.items front c.loop-round-test.true (c.loop-round.invariant h) found
 
@@ -46,7 +47,8 @@ loop-round-preserved c = λ h.
     let front = c.loop-round.front.items in
     let all : c.in_ok-all.all.items ≡ flat_map edges front = c.in_ok-all.ensures h ∙ ap (λ xs. flat_map edges xs) c.as_slice.ensures.value in
     let away : has (flat_map edges front) c.args.target ≡ false = ap (λ xs. has xs c.args.target) (sym (c.as_slice-in-loop-round.ensures.value ∙ all)) ∙ sym c.if-has.ensures in
-    let noted = subst (λ xs. Noted xs c.loop-round.seen.items c.note_all-in-loop-round.new.seen.items c.in_ok-front-2.front.items) (c.as_slice-in-loop-round-2.ensures.value ∙ all) c.in_ok-front-2.ensures in
+    let noted = subst (λ xs. Noted xs c.loop-round.seen.items c.note_all-in-loop-round.new.seen.items c.in_ok-front-2.front.items)
+    (c.as_slice-in-loop-round-2.ensures.value ∙ all) c.in_ok-front-2.ensures in
     let within : Bounded edges n = subst (λ k. Bounded edges k) (item_count type_item_of c.args.items.now) (bounded types) in
     next_round edges c.args.target c.args.start n c.loop-round.round c.loop-round.seen.items c.note_all-in-loop-round.new.seen.items front c.in_ok-front-2.front.items
     c.loop-round-test.true within away noted (c.loop-round.invariant h)

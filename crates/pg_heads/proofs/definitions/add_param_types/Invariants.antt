@@ -8,4 +8,5 @@ use Rattle.pg_heads.proofs.definitions.add_param_types.Given as goal
 
 abbrev pub invariant-loop-param : goal.invariant-loop-param
 invariant-loop-param l =
-    tys_behind l.all.items ++ filter_map param_type (map (λ (p : Param). ParamOf p) (map param_of (drop l.param-index l.params))) ≡ tys_behind l.fn.all.items ++ filter_map param_type (map (λ (p : Param). ParamOf p) (map param_of l.params))
+    tys_behind l.all.items ++ filter_map param_type (map (λ (p : Param). ParamOf p) (map param_of (drop l.param-index l.params))) ≡ tys_behind l.fn.all.items
+    ++ filter_map param_type (map (λ (p : Param). ParamOf p) (map param_of l.params))

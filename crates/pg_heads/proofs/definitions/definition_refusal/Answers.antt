@@ -41,7 +41,8 @@ returns c = record {
       let span = c.args.item.now.name.span in
       let text = c.args.item.now.name.text in
       let head = head_types (definition_header (numbered m.types item)) in
-      let within = c.in_ok-within.ensures ∙ ap (λ ts. flat_map types_within (tys_behind ts)) c.as_slice.ensures.value ∙ ap (λ ts. flat_map types_within ts) (c.in_ok-head.ensures ∙ sym (head_same m.types item)) in
+      let within = c.in_ok-within.ensures ∙ ap (λ ts. flat_map types_within (tys_behind ts)) c.as_slice.ensures.value
+      ∙ ap (λ ts. flat_map types_within ts) (c.in_ok-head.ensures ∙ sym (head_same m.types item)) in
       let slice_wrong = ap (λ ts. tys_behind ts) c.as_slice-3.ensures.value ∙ within in
       let slice_large = ap (λ ts. tys_behind ts) c.as_slice-5.ensures.value ∙ within in
       let slice_unknown = ap (λ ts. tys_behind ts) c.as_slice-6.ensures.value ∙ within in
@@ -54,10 +55,13 @@ returns c = record {
       same_places (joined named (joined bad large)) part c.earlier_refusal.result (kinds m c.args.number (numbered m.types item))
       (c.earlier_refusal.ensures named (joined bad large)
       (c.name_or_type_refusal-named.ensures (part UnknownName) (part Doubled) (part WrongType)
-      (same_row unknown_type (named_types c.args.types.now) m.types (tys_behind c.as_slice-6.result.now) (flat_map types_within head) c.unknown_types-unknown.result c.unknown_types-unknown.ensures (sym t) slice_unknown)
-      (c.earlier-twice.ensures ∙ ap (λ o. earlier o c.in_ok-params.params) (c.doubled.ensures (symbol_names m) s) ∙ ap (λ o. earlier (earliest (doubled (symbol_names m) c.args.item.now.name)) o) params
+      (same_row unknown_type (named_types c.args.types.now) m.types (tys_behind c.as_slice-6.result.now)
+      (flat_map types_within head) c.unknown_types-unknown.result c.unknown_types-unknown.ensures (sym t) slice_unknown)
+      (c.earlier-twice.ensures ∙ ap (λ o. earlier o c.in_ok-params.params) (c.doubled.ensures (symbol_names m) s)
+      ∙ ap (λ o. earlier (earliest (doubled (symbol_names m) c.args.item.now.name)) o) params
       ∙ sym (earliest_more (doubled (symbol_names m) c.args.item.now.name) (flat_map (doubled names) names)))
-      (same_row wrong_type (named_types c.args.types.now) m.types (tys_behind c.as_slice-3.result.now) (flat_map types_within head) c.in_ok-wrong.wrong c.in_ok-wrong.ensures.place (sym t) slice_wrong))
+      (same_row wrong_type (named_types c.args.types.now) m.types (tys_behind c.as_slice-3.result.now) (flat_map types_within head) c.in_ok-wrong.wrong c.in_ok-wrong.ensures.place
+      (sym t) slice_wrong))
       (c.earlier_refusal-other.ensures bad large
       (c.refusal_at.ensures (part BadSignature)
       (c.place_if.ensures ∙ ap (λ b. earliest (at_if b span)) (c.in_ok-signature.ensures.same
@@ -66,6 +70,7 @@ returns c = record {
       ∙ ap (λ b. is_some (known_named text) || wrong_main m.types text (definition_header (numbered m.types item)) || b) (sym (wrong_definition_same m.types m.types item)))))
       (c.refusal_at-2.ensures (part TooLarge)
       (c.place_if-2.ensures ∙ ap (λ b. earliest (at_if b span)) (c.either-over.ensures
-      ∙ ap (λ b. b || c.is_past_limit.result) (c.in_ok-large.ensures.large ∙ ap (λ types. list_any (is_large types) (tys_behind c.as_slice-5.result.now)) (sym t) ∙ ap (λ ts. list_any (is_large m.types) ts) slice_large)
+      ∙ ap (λ b. b || c.is_past_limit.result) (c.in_ok-large.ensures.large ∙ ap (λ types. list_any (is_large types) (tys_behind c.as_slice-5.result.now)) (sym t)
+      ∙ ap (λ ts. list_any (is_large m.types) ts) slice_large)
       ∙ ap (λ b. list_any (is_large m.types) (flat_map types_within head) || b) c.is_past_limit.ensures)))));
 }

@@ -15,5 +15,6 @@ returns c =
     let types = const_types value in
     c.in_ok-add_use_types.ensures
     ∙ ap (λ us. tys_behind c.add_types.new.all.items ++ flat_map own_row us) c.requires
-    ∙ ap (λ ts. ts ++ flat_map own_row (const_uses ty value)) (one_and_others _ _ _ types _ c.in_ok-push.ensures.items c.in_ok-add_types.ensures ∙ ap (λ ts. tys_behind ts ++ (ty ∷ types)) c.new-all.ensures.items)
+    ∙ ap (λ ts. ts ++ flat_map own_row (const_uses ty value))
+    (one_and_others _ _ _ types _ c.in_ok-push.ensures.items c.in_ok-add_types.ensures ∙ ap (λ ts. tys_behind ts ++ (ty ∷ types)) c.new-all.ensures.items)
     ∙ ap (λ ts. ty ∷ (types ++ ts)) (own_rows (const_uses ty value))

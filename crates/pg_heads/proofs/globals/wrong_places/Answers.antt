@@ -22,7 +22,8 @@ returns c = record {
       let ty = ty_of item.ty in
       let value = const_of item.value in
       both _ _ _ _ _ c.earlier-3.ensures
-      (same_row wrong_type (named_types c.args.types.now) m.types (tys_behind c.args.within.now) (flat_map types_within (global_types (global_of item))) c.in_ok-written.written c.in_ok-written.ensures.place (sym t) c.requires.within)
+      (same_row wrong_type (named_types c.args.types.now) m.types (tys_behind c.args.within.now)
+      (flat_map types_within (global_types (global_of item))) c.in_ok-written.written c.in_ok-written.ensures.place (sym t) c.requires.within)
       (both _ _ _ _ _ c.earlier-2.ensures
       (c.in_ok-own.ensures.place ∙ ap (λ types. earliest (unmet types (asks isnt_void ty))) (sym t))
       (both _ _ _ _ _ c.earlier.ensures

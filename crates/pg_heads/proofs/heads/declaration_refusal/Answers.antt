@@ -19,7 +19,8 @@ use Rattle.pg_rules.proofs.FirstRefusals.{same_places}
 use Rattle.pg_heads.proofs.heads.declaration_refusal.Goals as goal
 
 kinds : (m : Tree) (d : Declaration) (kind : CheckKind)
-    → joined (names_and_types (declaration_refused m d UnknownName) (declaration_refused m d Doubled) (declaration_refused m d WrongType)) (only BadSignature (declaration_refused m d BadSignature)) kind
+    → joined (names_and_types (declaration_refused m d UnknownName) (declaration_refused m d Doubled) (declaration_refused m d WrongType))
+    (only BadSignature (declaration_refused m d BadSignature)) kind
     ≡ declaration_refused m d kind
 unfolding declaration_refused
 kinds m d UnknownName = append-nil (declaration_refused m d UnknownName)
@@ -29,7 +30,8 @@ kinds m d _ = refl
 
 pub wrong_signature-requires : goal.wrong_signature-requires
 wrong_signature-requires c =
-    ap (λ ts. tys_behind ts) c.as_slice-2.ensures.value ∙ c.in_ok-within.ensures ∙ ap (λ ts. flat_map types_within (tys_behind ts)) c.as_slice.ensures.value ∙ ap (λ ts. flat_map types_within ts) c.in_ok-head.ensures
+    ap (λ ts. tys_behind ts) c.as_slice-2.ensures.value ∙ c.in_ok-within.ensures ∙ ap (λ ts. flat_map types_within (tys_behind ts)) c.as_slice.ensures.value
+    ∙ ap (λ ts. flat_map types_within ts) c.in_ok-head.ensures
 
 pub returns : goal.returns
 unfolding declaration_refused unknown_types wrong_counts
@@ -49,9 +51,11 @@ returns c = record {
       same_places (joined named other) part c.earlier_refusal.result (kinds m item)
       (c.earlier_refusal.ensures named other
       (c.name_or_type_refusal-named.ensures (part UnknownName) (part Doubled) (part WrongType)
-      (same_row unknown_type (named_types c.args.types.now) m.types (tys_behind c.as_slice-3.result.now) (flat_map types_within (head_types header)) c.unknown_types-unknown.result c.unknown_types-unknown.ensures (sym t) slice_3)
+      (same_row unknown_type (named_types c.args.types.now) m.types (tys_behind c.as_slice-3.result.now)
+      (flat_map types_within (head_types header)) c.unknown_types-unknown.result c.unknown_types-unknown.ensures (sym t) slice_3)
       (c.doubled.ensures (symbol_names m) s)
       (c.wrong_counts-wrong.ensures ∙ ap (λ ts. earliest (flat_map array_count ts)) slice_4))
       (c.refusal_at-other.ensures (part BadSignature)
-      (c.place_if.ensures ∙ ap (λ b. earliest (at_if b span)) (c.in_ok-signature.ensures.same ∙ ap (λ types. declares_other_known types (known_named text) header || declares_other_main types text header) (sym t)))));
+      (c.place_if.ensures ∙ ap (λ b. earliest (at_if b span))
+      (c.in_ok-signature.ensures.same ∙ ap (λ types. declares_other_known types (known_named text) header || declares_other_main types text header) (sym t)))));
 }

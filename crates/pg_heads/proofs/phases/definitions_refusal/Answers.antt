@@ -19,7 +19,8 @@ loop-number-preserved c =
     record {
       first = λ m t s.
           numbered_part_step (definition_refused m) (λ d. numbered m.types (define_of d)) items number item c.earlier_refusal-found.result c.loop-number-test.true c.index-items-number.is
-          (c.earlier_refusal-found.ensures (all_of (definition_refused m) (enumerate_from 0 (map (λ d. numbered m.types (define_of d)) (take number items)))) (definition_refused m (number, numbered m.types (define_of item)))
+          (c.earlier_refusal-found.ensures (all_of (definition_refused m) (enumerate_from 0 (map (λ d. numbered m.types (define_of d)) (take number items))))
+          (definition_refused m (number, numbered m.types (define_of item)))
           (c.loop-number.invariant.first m t s)
           (c.in_ok-own.ensures.first m t s));
     }
@@ -27,6 +28,7 @@ loop-number-preserved c =
 pub returns : goal.returns
 returns c = record {
   first = λ m t s.
-      row_whole (λ xs. IsFirstIn (all_of (definition_refused m) (enumerate_from 0 (map (λ d. numbered m.types (define_of d)) xs))) c.loop-number.found) c.args.items.now c.loop-number.number c.loop-number-test.false
+      row_whole (λ xs. IsFirstIn (all_of (definition_refused m) (enumerate_from 0 (map (λ d. numbered m.types (define_of d)) xs))) c.loop-number.found) c.args.items.now c.loop-number.number
+      c.loop-number-test.false
       (c.loop-number.invariant.first m t s);
 }

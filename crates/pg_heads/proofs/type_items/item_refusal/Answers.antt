@@ -33,7 +33,7 @@ pub returns : goal.returns
 unfolding item_refused unknown_types wrong_types any_large
 returns c = record {
   first = λ p k.
-      let types = map type_item_of c.args.items.now in
+      let types = map type_item_of c.args.ranked.now.items.now in
       let item = type_item_of c.args.item.now in
       let all = flat_map types_within (item.ty ∷ []) in
       let span = c.args.item.now.name.span in
@@ -50,9 +50,13 @@ returns c = record {
       (c.earlier_refusal-found.ensures p own k
       (c.earlier_refusal-own.ensures named large
       (c.name_or_type_refusal-named.ensures (unknown_types types (item.ty ∷ [])) (doubled (type_names types) item.name) (wrong_types types (item.ty ∷ []))
-      (same_row unknown_type (named_types c.args.types.now) types (tys_behind c.as_slice-3.result.now) all c.unknown_types-unknown.result c.unknown_types-unknown.ensures old (ap (λ ts. tys_behind ts) c.as_slice-3.ensures.value ∙ within))
+      (same_row unknown_type (named_types c.args.types.now) types (tys_behind c.as_slice-3.result.now) all c.unknown_types-unknown.result c.unknown_types-unknown.ensures old
+      (ap (λ ts. tys_behind ts) c.as_slice-3.ensures.value ∙ within))
       (c.doubled.ensures (type_names types) c.requires.starts)
-      (same_row wrong_type (named_types c.args.types.now) types (tys_behind c.as_slice.result.now) all c.in_ok-wrong.wrong c.in_ok-wrong.ensures.place old (ap (λ ts. tys_behind ts) c.as_slice.ensures.value ∙ within)))
+      (same_row wrong_type (named_types c.args.types.now) types (tys_behind c.as_slice.result.now) all c.in_ok-wrong.wrong c.in_ok-wrong.ensures.place old
+      (ap (λ ts. tys_behind ts) c.as_slice.ensures.value ∙ within)))
       (c.refusal_at.ensures (item_refused types item TooLarge)
-      (c.place_if.ensures ∙ ap (λ b. earliest (at_if b span)) (c.in_ok-large.ensures.large ∙ ap (λ t. list_any (is_large t) (tys_behind c.as_slice-2.result.now)) old ∙ ap (λ ts. list_any (is_large types) ts) (ap (λ ts. tys_behind ts) c.as_slice-2.ensures.value ∙ within)))))));
+      (c.place_if.ensures ∙ ap (λ b. earliest (at_if b span))
+      (c.in_ok-large.ensures.large ∙ ap (λ t. list_any (is_large t) (tys_behind c.as_slice-2.result.now)) old
+      ∙ ap (λ ts. list_any (is_large types) ts) (ap (λ ts. tys_behind ts) c.as_slice-2.ensures.value ∙ within)))))));
 }

@@ -4,20 +4,23 @@ use Rattle.pg_types.specs.Known.{denoted}
 use Rattle.pg_types.specs.NumberedTypes.{items_of, named_types, table_of}
 use Rattle.pg_types.proofs.Resolutions.{denoted_more, within_more, grows_again}
 use Rattle.pg_rules.specs.Earliest.{earliest}
+use Rattle.pg_rules.proofs.ConstantViews.{val_view}
 use Rattle.pg_rules.proofs.Parts.{no_place}
 use Rattle.pg_rules.proofs.Rows.{row_step, numbered_step}
 use Rattle.pg_values.specs.Fields.{field_type}
 use Rattle.pg_heads.specs.ConstantParts.{part_row, field_row}
-use Rattle.pg_heads.proofs.PartPlaces.{val_view, bytes_view, val_place, bytes_place, array_places, struct_places, part_place}
+use Rattle.pg_heads.proofs.PartPlaces.{bytes_view, val_place, bytes_place, array_places, struct_places, part_place}
 use Rattle.pg_heads.proofs.wrong_constants.+wrong.Goals as goal
 
 pub wrong_numbered-returns-in-Val-clause-place : goal.wrong_numbered-returns-in-Val-clause-place
 wrong_numbered-returns-in-Val-clause-place t c =
-    val_place (named_types c.args.types.now) (denoted (table_of c.args.types.now) c.args.number) (const_of c.args.value.now) (val_of c.in-Val.field-0) (ap const_of c.in-Val.is ∙ val_view c.in-Val.field-0)
+    val_place (named_types c.args.types.now) (denoted (table_of c.args.types.now) c.args.number) (const_of c.args.value.now) (val_of c.in-Val.field-0)
+    (ap const_of c.in-Val.is ∙ val_view c.in-Val.field-0)
 
 pub wrong_numbered-returns-in-Bytes-clause-place : goal.wrong_numbered-returns-in-Bytes-clause-place
 wrong_numbered-returns-in-Bytes-clause-place t c =
-    bytes_place (named_types c.args.types.now) (denoted (table_of c.args.types.now) c.args.number) (const_of c.args.value.now) c.in-Bytes.literal c.wrong_bytes.result (ap const_of c.in-Bytes.is ∙ bytes_view c.in-Bytes.literal) c.wrong_bytes.ensures
+    bytes_place (named_types c.args.types.now) (denoted (table_of c.args.types.now) c.args.number) (const_of c.args.value.now) c.in-Bytes.literal c.wrong_bytes.result
+    (ap const_of c.in-Bytes.is ∙ bytes_view c.in-Bytes.literal) c.wrong_bytes.ensures
 
 pub wrong_numbered-returns-in_ok-inner-in-Array-clause-place : goal.wrong_numbered-returns-in_ok-inner-in-Array-clause-place
 wrong_numbered-returns-in_ok-inner-in-Array-clause-place t c =
@@ -61,7 +64,8 @@ wrong_elements-loop-part-preserved t c =
     in
     record {
       found =
-          row_step (part_row types (denoted start e)) typed_const_of c.args.parts.now c.loop-part.part-index c.part-item.result c.part-item.result c.loop-part.found c.in_ok-own.own c.earlier-found.result
+          row_step (part_row types (denoted start e)) typed_const_of c.args.parts.now c.loop-part.part-index c.part-item.result c.part-item.result c.loop-part.found c.in_ok-own.own
+          c.earlier-found.result
           c.loop-part-test.true c.part-item.is c.loop-part.invariant.found own c.earlier-found.ensures;
       within = within_more table _ e c.in_ok-own.ensures.grows c.loop-part.invariant.within;
       items = c.in_ok-own.ensures.items ∙ c.loop-part.invariant.items;

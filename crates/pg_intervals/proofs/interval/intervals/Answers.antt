@@ -8,12 +8,14 @@ use Rattle.pg_intervals.proofs.interval.intervals.Goals.{then-has, else-has}
 pub loop-k-init : goal.loop-k-init
 loop-k-init c =
     let e : length c.args.t.now.steps - 0 ≡ length c.args.t.now.steps = omega arith in
-    rw e (backward_start (view_of c.args.turns) c.args.t.now.steps c.in_ok-intervals.intervals.items c.in_ok-intervals.total _ c.in_ok-intervals.ensures.0 c.in_ok-intervals.ensures.1 refl (λ u h. get_or-replicate 256 u c.in_ok-intervals.total 0 h))
+    rw e (backward_start (view_of c.args.turns) c.args.t.now.steps c.in_ok-intervals.intervals.items c.in_ok-intervals.total _ c.in_ok-intervals.ensures.0 c.in_ok-intervals.ensures.1 refl
+    (λ u h. get_or-replicate 256 u c.in_ok-intervals.total 0 h))
 
 pub overflow_sub-due : goal.overflow_sub-due
 overflow_sub-due c =
     let e : length c.args.t.now.steps - c.loop-k.k ≡ (c.len.result - 1 - c.loop-k.k) + 1 = omega arith in
-    due_event (view_of c.args.turns) c.args.t.now.steps (c.len.result - 1 - c.loop-k.k) c.step-step.result c.loop-k.intervals.items c.loop-k.due c.loop-k.next c.step-step.ensures (sym c.if-has.ensures)
+    due_event (view_of c.args.turns) c.args.t.now.steps (c.len.result - 1 - c.loop-k.k) c.step-step.result c.loop-k.intervals.items c.loop-k.due c.loop-k.next c.step-step.ensures
+    (sym c.if-has.ensures)
     (subst (λ n. Backward (view_of c.args.turns) c.args.t.now.steps n c.loop-k.intervals.items c.loop-k.due c.loop-k.next) e c.loop-k.invariant)
 
 pub index_mut-requires : goal.index_mut-requires
@@ -32,6 +34,16 @@ loop-k-preserved c =
     let f = found V c.args.t.now.steps n c.step-step.result c.step-step.ensures c.loop-k.intervals.items c.loop-k.due c.loop-k.next b in
     let low = ap (λ z. z.low) (c.index_mut.ensures.value ∙ get_found c.loop-k.intervals.items n _ _ f) in
     elim c.if-has.branch [
-      | then-has w ↦ rw (q, low, w.next-is, w.due-is) (backward_event V c.args.t.now.steps n c.step-step.result c.step-step.ensures c.loop-k.intervals.items c.loop-k.due c.loop-k.next (sym w.if-has.ensures) lt b)
-      | else-has w ↦ rw (q, low, w.next-is, w.due-is) (backward_plain V c.args.t.now.steps n c.step-step.result c.step-step.ensures c.loop-k.intervals.items c.loop-k.due c.loop-k.next (sym w.if-has.ensures) lt b)
+      | then-has w ↦ rw (
+        q,
+        low,
+        w.next-is,
+        w.due-is,
+      ) (backward_event V c.args.t.now.steps n c.step-step.result c.step-step.ensures c.loop-k.intervals.items c.loop-k.due c.loop-k.next (sym w.if-has.ensures) lt b)
+      | else-has w ↦ rw (
+        q,
+        low,
+        w.next-is,
+        w.due-is,
+      ) (backward_plain V c.args.t.now.steps n c.step-step.result c.step-step.ensures c.loop-k.intervals.items c.loop-k.due c.loop-k.next (sym w.if-has.ensures) lt b)
     ]

@@ -12,6 +12,10 @@ pub loop-i-preserved : goal.loop-i-preserved
 loop-i-preserved c =
     let lt : c.step-step.result.thread.0 < 256 = first_of (omega arith, search rules) in
     elim c.if-has.branch [
-      | then-has w ↦ rw (c.in_ok-push.ensures.items, w.last-is, w.done-is) (forward_event (view_of c.args.turns) c.args.t.now.steps c.loop-i.i c.step-step.result c.loop-i.intervals.items c.loop-i.done c.loop-i.last c.step-step.ensures (sym w.if-has.ensures) lt c.loop-i.invariant)
-      | else-has w ↦ rw (c.in_ok-push.ensures.items, w.last-is, w.done-is) (forward_plain (view_of c.args.turns) c.args.t.now.steps c.loop-i.i c.step-step.result c.loop-i.intervals.items c.loop-i.done c.loop-i.last c.step-step.ensures (sym w.if-has.ensures) lt c.loop-i.invariant)
+      | then-has w ↦ rw (c.in_ok-push.ensures.items, w.last-is, w.done-is)
+          (forward_event (view_of c.args.turns) c.args.t.now.steps c.loop-i.i c.step-step.result c.loop-i.intervals.items c.loop-i.done c.loop-i.last c.step-step.ensures
+          (sym w.if-has.ensures) lt c.loop-i.invariant)
+      | else-has w ↦ rw (c.in_ok-push.ensures.items, w.last-is, w.done-is)
+          (forward_plain (view_of c.args.turns) c.args.t.now.steps c.loop-i.i c.step-step.result c.loop-i.intervals.items c.loop-i.done c.loop-i.last c.step-step.ensures
+          (sym w.if-has.ensures) lt c.loop-i.invariant)
     ]

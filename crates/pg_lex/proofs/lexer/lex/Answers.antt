@@ -22,7 +22,8 @@ lexing-preserved c =
     let token : Token = record { kind = c.in-Whole.kind; span = record { start = c.lexing.at; end = c.lexing.at + c.in-Whole.size } } in
     let pushed : c.push.new.self.items ≡ xs ++ token ∷ [] = chosen _ (xs ++ token ∷ []) xs c.push.new.self.items c.push.ensures.items c.if-is_err.ensures.negation in (
       omega (arith, i.0, w.1),
-      subst (λ found. Stands c.args.text.now found (c.lexing.at + c.in-Whole.size)) (sym pushed) (stands_whole c.args.text.now xs c.lexing.at c.in-Whole.size c.in-Whole.kind i.1 c.lexing-test.true c.in-Whole.ensures.exact),
+      subst (λ found. Stands c.args.text.now found (c.lexing.at + c.in-Whole.size)) (sym pushed)
+          (stands_whole c.args.text.now xs c.lexing.at c.in-Whole.size c.in-Whole.kind i.1 c.lexing-test.true c.in-Whole.ensures.exact),
       subst (λ found. IsAscending 0 found (c.lexing.at + c.in-Whole.size)) (sym pushed) (ascending_more 0 c.lexing.at c.in-Whole.size c.in-Whole.kind xs i.2 w.0),
     )
   where

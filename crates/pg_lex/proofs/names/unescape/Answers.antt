@@ -6,7 +6,8 @@ use Rattle.pg_lex.proofs.names.unescape.Goals as goal
 pub reading-preserved : goal.reading-preserved
 reading-preserved c = let e = c.escape_at-byte in (
   e.ensures.within,
-  reads_escape c.args.text.now c.reading.bytes.items c.push.new.self.items c.reading.at e.result.0 e.result.1 true c.reading-test.true e.ensures.byte e.ensures.size e.ensures.some e.ensures.within c.in_ok-push.ensures.items refl c.reading.invariant.1,
+  reads_escape c.args.text.now c.reading.bytes.items c.push.new.self.items c.reading.at e.result.0 e.result.1 true c.reading-test.true e.ensures.byte e.ensures.size e.ensures.some
+      e.ensures.within c.in_ok-push.ensures.items refl c.reading.invariant.1,
 )
 
 pub returns : goal.returns

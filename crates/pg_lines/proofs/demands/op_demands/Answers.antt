@@ -22,7 +22,8 @@ returns-in-Switch c = record {
       let value = c.in-Switch.value in
       if_ok c.unmet_switch.result
       (λ o h. h
-      ∙ ap (λ xs. earliest (flat_map (unmet types) (asks_typed (test_of Integer) (typed_of value) ∷ map (λ (k : Case). asks_typed (is_as (resolved types (typed_of value).ty)) k.value) (map case_of xs)))) c.as_slice.ensures.value
+      ∙ ap (λ xs. earliest (flat_map (unmet types)
+      (asks_typed (test_of Integer) (typed_of value) ∷ map (λ (k : Case). asks_typed (is_as (resolved types (typed_of value).ty)) k.value) (map case_of xs)))) c.as_slice.ensures.value
       ∙ ap (λ x. earliest (flat_map (unmet types) (op_demands types returned (op_of x)))) (sym c.in-Switch.is))
       c.unmet_switch.ensures.place;
 }

@@ -17,5 +17,6 @@ loop-case-init c = refl
 pub loop-case-preserved : goal.loop-case-preserved
 loop-case-preserved c =
     let own = c.in_ok-unmet_case.ensures.place in
-    row_step (unmet (named_types c.args.types.now)) (λ (k : CaseNode). asks_typed (is_as (resolved (named_types c.args.types.now) (typed_of c.args.expected.now).ty)) (case_of k).value) c.args.cases.now c.loop-case.case-index c.case-item.result c.case-item.result c.loop-case.found c.in_ok-unmet_case.field-0 c.earlier-found.result
+    row_step (unmet (named_types c.args.types.now)) (λ (k : CaseNode). asks_typed (is_as (resolved (named_types c.args.types.now) (typed_of c.args.expected.now).ty)) (case_of k).value)
+    c.args.cases.now c.loop-case.case-index c.case-item.result c.case-item.result c.loop-case.found c.in_ok-unmet_case.field-0 c.earlier-found.result
     c.loop-case-test.true c.case-item.is c.loop-case.invariant own c.earlier-found.ensures

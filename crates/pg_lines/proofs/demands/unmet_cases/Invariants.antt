@@ -11,4 +11,5 @@ use Rattle.pg_rules.specs.Written.{asks_typed}
 use Rattle.pg_lines.proofs.demands.unmet_cases.Given as goal
 
 abbrev pub invariant-loop-case : goal.invariant-loop-case
-invariant-loop-case l = l.found ≡ earliest (flat_map (unmet (named_types l.types)) (map (λ (k : CaseNode). asks_typed (is_as (resolved (named_types l.types) (typed_of l.expected).ty)) (case_of k).value) (take l.case-index l.cases)))
+invariant-loop-case l = l.found ≡ earliest (flat_map (unmet (named_types l.types))
+    (map (λ (k : CaseNode). asks_typed (is_as (resolved (named_types l.types) (typed_of l.expected).ty)) (case_of k).value) (take l.case-index l.cases)))

@@ -17,5 +17,6 @@ loop-index-init c = refl
 pub loop-index-preserved : goal.loop-index-preserved
 loop-index-preserved c =
     let own = c.in_ok-unmet_typed.ensures.place in
-    row_step (unmet (named_types c.args.types.now)) (λ (k : TypedVal). asks_typed (test_of Integer) (typed_of k)) c.args.indices.now c.loop-index.index-index c.index-item.result c.index-item.result c.loop-index.found c.in_ok-unmet_typed.field-0 c.earlier-found.result
+    row_step (unmet (named_types c.args.types.now)) (λ (k : TypedVal). asks_typed (test_of Integer) (typed_of k)) c.args.indices.now c.loop-index.index-index c.index-item.result
+    c.index-item.result c.loop-index.found c.in_ok-unmet_typed.field-0 c.earlier-found.result
     c.loop-index-test.true c.index-item.is c.loop-index.invariant own c.earlier-found.ensures

@@ -5,7 +5,7 @@ use Rattle.pg_types.specs.Kinds.{is_as}
 use Rattle.pg_rules.specs.Written.{asks_typed}
 use Rattle.pg_values.specs.declared.type_tests.TypeTest.TheVariants.{Scalar, Bit}
 use Rattle.pg_values.specs.Tests.{test_of}
-use Rattle.pg_calls.proofs.Joined.{two_demands}
+use Rattle.pg_values.proofs.Joined.{two_demands}
 use Rattle.pg_lines.proofs.demands.unmet_select.Goals as goal
 
 pub returns : goal.returns

@@ -3,7 +3,7 @@ use Rattle.pg_ast.specs.Views.{typed_of}
 use Rattle.pg_rules.specs.Written.{asks_typed}
 use Rattle.pg_values.specs.declared.type_tests.TypeTest.TheVariants.{Scalar, Pointer}
 use Rattle.pg_values.specs.Tests.{test_of}
-use Rattle.pg_calls.proofs.Joined.{two_demands}
+use Rattle.pg_values.proofs.Joined.{two_demands}
 use Rattle.pg_lines.proofs.demands.unmet_store.Goals as goal
 
 pub returns : goal.returns

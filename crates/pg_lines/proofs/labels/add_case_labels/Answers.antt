@@ -14,4 +14,5 @@ loop-case-preserved c =
     c.loop-case-test.true c.case-item.is c.loop-case.invariant refl c.in_ok-push.ensures.items
 
 pub returns : goal.returns
-returns c = mapped_all (λ (k : Case). k.block) case_of (names_behind c.args.all.now.items) c.args.cases.now c.loop-case.case-index (names_behind c.loop-case.all.items) c.loop-case-test.false c.loop-case.invariant
+returns c = mapped_all (λ (k : Case). k.block) case_of (names_behind c.args.all.now.items) c.args.cases.now c.loop-case.case-index
+    (names_behind c.loop-case.all.items) c.loop-case-test.false c.loop-case.invariant

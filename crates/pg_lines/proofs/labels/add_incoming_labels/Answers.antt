@@ -10,8 +10,10 @@ use Rattle.pg_lines.proofs.labels.add_incoming_labels.Goals as goal
 
 pub loop-incoming-preserved : goal.loop-incoming-preserved
 loop-incoming-preserved c =
-    listed_more (λ (n : Bor Name). n.now) (λ (j : Incoming). j.block) incoming_of (names_behind c.args.all.now.items) c.args.incomings.now c.loop-incoming.incoming-index c.incoming-item.result _ c.loop-incoming.all.items _ _
+    listed_more (λ (n : Bor Name). n.now) (λ (j : Incoming). j.block) incoming_of
+    (names_behind c.args.all.now.items) c.args.incomings.now c.loop-incoming.incoming-index c.incoming-item.result _ c.loop-incoming.all.items _ _
     c.loop-incoming-test.true c.incoming-item.is c.loop-incoming.invariant refl c.in_ok-push.ensures.items
 
 pub returns : goal.returns
-returns c = mapped_all (λ (j : Incoming). j.block) incoming_of (names_behind c.args.all.now.items) c.args.incomings.now c.loop-incoming.incoming-index (names_behind c.loop-incoming.all.items) c.loop-incoming-test.false c.loop-incoming.invariant
+returns c = mapped_all (λ (j : Incoming). j.block) incoming_of (names_behind c.args.all.now.items) c.args.incomings.now c.loop-incoming.incoming-index
+    (names_behind c.loop-incoming.all.items) c.loop-incoming-test.false c.loop-incoming.invariant

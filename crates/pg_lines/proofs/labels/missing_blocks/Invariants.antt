@@ -4,7 +4,7 @@ use Rattle.pg_rules.specs.Starts.{names_behind}
 use Rattle.pg_rules.specs.ValueConditions.{Scope}
 use Rattle.pg_rules.specs.LineConditions.{no_block}
 use Rattle.pg_rules.specs.Earliest.{earliest}
-use Rattle.pg_calls.specs.Scopes.{IsLineScope}
+use Rattle.pg_values.specs.Scopes.{IsLineScope}
 use Rattle.pg_lines.proofs.labels.missing_blocks.Given as goal
 
 abbrev pub invariant-loop-label : goal.invariant-loop-label

@@ -11,4 +11,5 @@ loop-case-preserved c =
     c.loop-case-test.true c.case-item.is c.loop-case.invariant c.value_type.ensures c.in_ok-push.ensures.items
 
 pub returns : goal.returns
-returns c = mapped_all (λ (k : Case). k.value.ty) case_of (tys_behind c.args.all.now.items) c.args.cases.now c.loop-case.case-index (tys_behind c.loop-case.all.items) c.loop-case-test.false c.loop-case.invariant
+returns c = mapped_all (λ (k : Case). k.value.ty) case_of (tys_behind c.args.all.now.items) c.args.cases.now c.loop-case.case-index
+    (tys_behind c.loop-case.all.items) c.loop-case-test.false c.loop-case.invariant

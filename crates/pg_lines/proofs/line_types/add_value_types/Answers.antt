@@ -11,4 +11,5 @@ loop-value-preserved c =
     c.loop-value-test.true c.value-item.is c.loop-value.invariant c.value_type.ensures c.in_ok-push.ensures.items
 
 pub returns : goal.returns
-returns c = mapped_all (λ (i : Typed). i.ty) typed_of (tys_behind c.args.all.now.items) c.args.values.now c.loop-value.value-index (tys_behind c.loop-value.all.items) c.loop-value-test.false c.loop-value.invariant
+returns c = mapped_all (λ (i : Typed). i.ty) typed_of (tys_behind c.args.all.now.items) c.args.values.now c.loop-value.value-index
+    (tys_behind c.loop-value.all.items) c.loop-value-test.false c.loop-value.invariant

@@ -2,7 +2,7 @@ use Rattle.std.proofs.Common.{◌≡◌, take}
 use Rattle.std.specs.List.{flat_map}
 use Rattle.pg_rules.specs.ValueConditions.{Scope}
 use Rattle.pg_rules.specs.Earliest.{earliest}
-use Rattle.pg_calls.specs.Scopes.{IsLineScope}
+use Rattle.pg_values.specs.Scopes.{IsLineScope}
 use Rattle.pg_lines.specs.Uses.{uses_of, unknown_row, row_within}
 use Rattle.pg_lines.proofs.line_uses.unknown_uses.Given as goal
 

@@ -3,7 +3,7 @@ use Rattle.std.specs.List.{flat_map}
 use Rattle.pg_types.specs.NumberedTypes.{named_types}
 use Rattle.pg_rules.specs.ValueConditions.{Scope, wrong_use}
 use Rattle.pg_rules.specs.Earliest.{earliest}
-use Rattle.pg_calls.specs.Scopes.{IsLineScope}
+use Rattle.pg_values.specs.Scopes.{IsLineScope}
 use Rattle.pg_lines.specs.Uses.{uses_of, row_within}
 use Rattle.pg_lines.proofs.line_uses.wrong_uses.Given as goal
 

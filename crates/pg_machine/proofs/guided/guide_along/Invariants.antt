@@ -12,5 +12,6 @@ invariant-loop-turn l = record {
   few : l.done + sum l.left.items ≤ THREAD_LIMIT * GUIDED_STEP_LIMIT;
   room : l.trace.room ≡ l.initial.trace.room;
   fits : length l.trace.steps ≤ l.trace.room;
-  along : AlongWith l.run.gated.now l.run.program.now l.run.input.now l.turns (guided_of l.run.program.now l.run.input.now l.turns l.run.gated.now) l.records l.initial.trace l.turn-index l.state l.left.items l.trace;
+  along : AlongWith l.run.gated.now l.run.program.now l.run.input.now l.turns
+      (guided_of l.run.program.now l.run.input.now l.turns l.run.gated.now) l.records l.initial.trace l.turn-index l.state l.left.items l.trace;
 }

@@ -9,5 +9,6 @@ invariant-loop-spent l = record {
   of : IsMachine l.run.program.now l.state;
   room : l.trace.room ≡ l.initial.trace.room;
   fits : length l.trace.steps ≤ l.trace.room;
-  on : OnWith l.run.gated.now l.run.program.now l.run.input.now l.turn l.left l.spent (walk l.left l.run.gated.now l.run.program.now l.run.input.now l.turn l.initial.state) l.records l.initial.trace l.state l.trace;
+  on : OnWith l.run.gated.now l.run.program.now l.run.input.now l.turn l.left l.spent
+      (walk l.left l.run.gated.now l.run.program.now l.run.input.now l.turn l.initial.state) l.records l.initial.trace l.state l.trace;
 }

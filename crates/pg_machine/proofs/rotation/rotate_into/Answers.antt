@@ -8,4 +8,5 @@ use Rattle.pg_machine.proofs.rotation.rotate_into.Goals as goal
 
 pub returns-clause-run : goal.returns-clause-run
 unfolding rotation_of
-returns-clause-run c = subst (λ (xs : List Step). IsRun [] c.args.p.now c.args.input.now (initial c.args.p.now) xs (rotation_of c.args.p.now c.args.input.now c.args.q).state) (ap (λ (r : RunResult). r.trace) c.in_ok-state.ensures.run) (rotation_runs c.args.p.now c.args.input.now c.args.q)
+returns-clause-run c = subst (λ (xs : List Step). IsRun [] c.args.p.now c.args.input.now (initial c.args.p.now) xs (rotation_of c.args.p.now c.args.input.now c.args.q).state)
+    (ap (λ (r : RunResult). r.trace) c.in_ok-state.ensures.run) (rotation_runs c.args.p.now c.args.input.now c.args.q)

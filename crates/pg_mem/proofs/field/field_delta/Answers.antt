@@ -10,7 +10,9 @@ returns-then-from-to-clause-part c = λ word small e.
 
 pub returns-then-from-to-clause-bytes : goal.returns-then-from-to-clause-bytes
 returns-then-from-to-clause-bytes c = λ word small e k h.
-    rw c.first-shift.ensures.value (ap (λ w. byte_of w k) (add_is word _ c.args.at.bytes c.args.from c.args.to small (rw (← c.first-shift.ensures.value) c.first-shift.ensures.in_granule) c.requires.to (part_number word _ c.args.at.bytes ∙ e) c.if-from-to.true)
+    rw c.first-shift.ensures.value (ap (λ w. byte_of w k)
+    (add_is word _ c.args.at.bytes c.args.from c.args.to small (rw (← c.first-shift.ensures.value) c.first-shift.ensures.in_granule) c.requires.to
+    (part_number word _ c.args.at.bytes ∙ e) c.if-from-to.true)
     ∙ byte_of-with_part word _ c.args.at.bytes c.args.to k c.requires.to)
 
 pub returns-else-from-to-clause-part : goal.returns-else-from-to-clause-part

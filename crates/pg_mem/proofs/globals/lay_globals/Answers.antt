@@ -11,6 +11,7 @@ loop-left-preserved c =
       within = omega arith;
       bytes = λ b.
           c.lay.ensures b
-          ∙ rw c.as_slice.ensures.items (with_bytes_at_same (c.global-global.result.now.start * 8) c.global-global.result.now.bytes (byte_at c.loop-left.memory) (initial_byte (drop (c.loop-left.left - 1 + 1) c.args.p.now.globals)) b (rw k (c.loop-left.invariant.bytes b)))
+          ∙ rw c.as_slice.ensures.items (with_bytes_at_same (c.global-global.result.now.start * 8) c.global-global.result.now.bytes (byte_at c.loop-left.memory)
+          (initial_byte (drop (c.loop-left.left - 1 + 1) c.args.p.now.globals)) b (rw k (c.loop-left.invariant.bytes b)))
           ∙ sym (initial_more c.args.p.now.globals (c.loop-left.left - 1) c.global-global.result.now b c.global-global.ensures.at);
     }

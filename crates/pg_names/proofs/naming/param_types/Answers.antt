@@ -8,5 +8,6 @@ use Rattle.pg_names.proofs.naming.param_types.Goals as goal
 
 pub returns : goal.returns
 returns c = λ types.
-    row_whole (λ ps. map (register_type types) c.loop-param.kinds.items ≡ map (λ (p : Param). resolved types p.ty) (map param_of ps)) c.args.params.now c.loop-param.param-index c.loop-param-test.false
+    row_whole (λ ps. map (register_type types) c.loop-param.kinds.items ≡ map (λ (p : Param). resolved types p.ty) (map param_of ps)) c.args.params.now c.loop-param.param-index
+    c.loop-param-test.false
     (c.loop-param.invariant types)

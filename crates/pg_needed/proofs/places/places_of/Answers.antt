@@ -19,6 +19,7 @@ loop-i-preserved c =
     let l = inv.as_many in
     record {
       as_many = ap length items ∙ n ∙ ap (λ k. k + 1) l;
-      each = subst (λ xs. (j : ℕ) → j < c.loop-i.i + 1 → slice_index xs j ≡ place c.args.marks.now j) (sym items) (places_next c.args.marks.now c.loop-i.places.items c.loop-i.i c.loop-i.place l inv.counted inv.each);
+      each = subst (λ xs. (j : ℕ) → j < c.loop-i.i + 1 → slice_index xs j ≡ place c.args.marks.now j) (sym items)
+          (places_next c.args.marks.now c.loop-i.places.items c.loop-i.i c.loop-i.place l inv.counted inv.each);
       counted = count_next c.args.marks.now c.loop-i.i c.loop-i.place c.counted-place.result c.is_set.result inv.counted c.is_set.ensures c.counted-place.ensures;
     }

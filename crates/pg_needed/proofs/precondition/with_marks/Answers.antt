@@ -11,4 +11,5 @@ with_checks-requires-clause-places c =
     let M = c.args.marks.now in
     let C = c.args.c.now in
     λ i. subst (λ ks. IfSome (slice_get ks i) (λ (k : Check). f k.node < length c.in_ok-nodes.nodes)) (sym c.checks.ensures.checks)
-    (subst (λ ns. IfSome (slice_get C.checks i) (λ (k : Check). f k.node < length ns)) (sym (c.in_ok-nodes.ensures ∙ ap (kept f M) c.nodes.ensures)) (checks_fit C M f c.requires.marks c.requires.places.each i))
+    (subst (λ ns. IfSome (slice_get C.checks i) (λ (k : Check). f k.node < length ns)) (sym (c.in_ok-nodes.ensures ∙ ap (kept f M) c.nodes.ensures))
+    (checks_fit C M f c.requires.marks c.requires.places.each i))

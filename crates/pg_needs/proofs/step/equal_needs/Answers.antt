@@ -13,7 +13,8 @@ loop-k-preserved c = λ ns h.
     let ss = map (shadow_by ns) c.args.operands.now in
     let e = c.args.event.now in
     let k = c.loop-k.k in
-    let one = subst (λ s. Adds ns (Value s (test.Eq (slice_index e.operands k) ∷ []) ∷ []) c.loop-k.asked c.need_value.new.self) (sym (c.operand.ensures.value ns)) (c.in_ok-need_value.ensures ns (c.operand.ensures.is (length ns) h)) in
+    let one = subst (λ s. Adds ns (Value s (test.Eq (slice_index e.operands k) ∷ []) ∷ []) c.loop-k.asked c.need_value.new.self) (sym (c.operand.ensures.value ns))
+    (c.in_ok-need_value.ensures ns (c.operand.ensures.is (length ns) h)) in
     subst (λ l. Adds ns l c.args.asked.now c.need_value.new.self) (sym (below_more ss e k))
     (adds_then ns (equal_needs ss e (below k)) (Value (at ss k) (test.Eq (slice_index e.operands k) ∷ []) ∷ []) c.args.asked.now c.loop-k.asked c.need_value.new.self (c.loop-k.invariant ns h) one)
 

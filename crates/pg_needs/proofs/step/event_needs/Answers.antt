@@ -15,4 +15,5 @@ pub returns : goal.returns
 returns c = λ ns h.
     let ss = map (shadow_by ns) c.args.operands.now in
     let other = sym c.is_start.ensures ∙ c.if-is_start.false in
-    subst (λ l. Adds ns l c.args.asked.now c.equal_needs.new.asked) (sym (event_by ss c.args.op.now c.args.event.now c.args.event.now.kind other ∙ ap (λ ks. equal_needs ss c.args.event.now ks) c.checked_of-count.ensures)) (c.in_ok-equal_needs.ensures ns h)
+    subst (λ l. Adds ns l c.args.asked.now c.equal_needs.new.asked)
+    (sym (event_by ss c.args.op.now c.args.event.now c.args.event.now.kind other ∙ ap (λ ks. equal_needs ss c.args.event.now ks) c.checked_of-count.ensures)) (c.in_ok-equal_needs.ensures ns h)

@@ -9,8 +9,6 @@ pub returns-clause-value : goal.returns-clause-value
 returns-clause-value c =
     let a = c.signed-dividend.result in
     let b = c.signed-divisor.result in
-    let fa : FitsSigned w128 a = search rules in
-    let fb : FitsSigned w128 b = search rules in
     let fq : FitsSigned w128 (int_div a b) = quotient_fits a b c.signed-dividend.ensures.low c.signed-dividend.ensures.high in
     rw (← c.signed-dividend.ensures.reading, ← c.signed-divisor.ensures.reading)
-    (c.wrap.ensures.value ∙ ap (residue c.args.w) (quot_is w128 a b fa fb fq))
+    (c.wrap.ensures.value ∙ ap (residue c.args.w) (quot_is w128 a b (search rules) (search rules) fq))

@@ -8,7 +8,5 @@ pub returns-clause-value : goal.returns-clause-value
 returns-clause-value c =
     let a = c.signed-dividend.result in
     let b = c.signed-divisor.result in
-    let fa : FitsSigned w128 a = search rules in
-    let fb : FitsSigned w128 b = search rules in
     rw (← c.signed-dividend.ensures.reading, ← c.signed-divisor.ensures.reading)
-    (c.wrap.ensures.value ∙ ap (residue c.args.w) (rem_is w128 a b fa fb))
+    (c.wrap.ensures.value ∙ ap (residue c.args.w) (rem_is w128 a b (search rules) (search rules)))

@@ -8,5 +8,6 @@ use Rattle.pg_operations.proofs.branches.case.Goals as goal
 
 pub returns-clause-read : goal.returns-clause-read
 returns-clause-read c = let b = c.in_ok-value.ensures in
-    reads_on c.case_end.result _ _ c.args.tokens.now c.args.at c.in_ok-value.at (case_end_at (typed_of c.in_ok-value.value) (drop c.in_ok-value.at c.args.tokens.now)) (case_at (drop c.args.at c.args.tokens.now)) c.case_end.ensures.read
-    (rw b.0 (sym (case_grouped (typed_of c.in_ok-value.value) (drop c.in_ok-value.at c.args.tokens.now)))) b.1
+    reads_on c.case_end.result _ _ c.args.text.now.tokens.now c.args.at c.in_ok-value.at (case_end_at (typed_of c.in_ok-value.value) (drop c.in_ok-value.at c.args.text.now.tokens.now))
+    (case_at (drop c.args.at c.args.text.now.tokens.now)) c.case_end.ensures.read
+    (rw b.0 (sym (case_grouped (typed_of c.in_ok-value.value) (drop c.in_ok-value.at c.args.text.now.tokens.now)))) b.1

@@ -7,7 +7,8 @@ use Rattle.pg_grammar.proofs.Loops.{Left}
 use Rattle.pg_operations.proofs.branches.cases.Given as goal
 
 abbrev pub invariant-items : goal.invariant-items
-invariant-items l = (l.at ≤ l.place) × (l.place ≤ length l.tokens) × Left begins_type case_at (map case_of l.all.items) (drop l.place l.tokens) (all_of begins_type case_at (drop l.at l.tokens))
+invariant-items l = (l.at ≤ l.place) × (l.place ≤ length l.text.tokens.now)
+    × Left begins_type case_at (map case_of l.all.items) (drop l.place l.text.tokens.now) (all_of begins_type case_at (drop l.at l.text.tokens.now))
 
 abbrev pub decreases-items : goal.decreases-items
-decreases-items l = length l.tokens - l.place
+decreases-items l = length l.text.tokens.now - l.place

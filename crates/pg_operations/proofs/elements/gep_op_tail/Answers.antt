@@ -8,5 +8,6 @@ use Rattle.pg_operations.proofs.elements.gep_op_tail.Goals as goal
 
 pub returns : goal.returns
 returns c = let b = c.in_ok-ty.ensures in
-    reads_on c.gep_op_end.result _ _ c.args.tokens.now c.args.at c.in_ok-ty.at (gep_op_end_at c.args.word.now (ty_of c.in_ok-ty.ty) (drop c.in_ok-ty.at c.args.tokens.now)) (gep_op_tail_at c.args.word.now (drop c.args.at c.args.tokens.now)) c.gep_op_end.ensures
-    (rw b.0 (sym (gep_grouped c.args.word.now (ty_of c.in_ok-ty.ty) (drop c.in_ok-ty.at c.args.tokens.now)))) b.1
+    reads_on c.gep_op_end.result _ _ c.args.text.now.tokens.now c.args.at c.in_ok-ty.at (gep_op_end_at c.args.word.now (ty_of c.in_ok-ty.ty) (drop c.in_ok-ty.at c.args.text.now.tokens.now))
+    (gep_op_tail_at c.args.word.now (drop c.args.at c.args.text.now.tokens.now)) c.gep_op_end.ensures
+    (rw b.0 (sym (gep_grouped c.args.word.now (ty_of c.in_ok-ty.ty) (drop c.in_ok-ty.at c.args.text.now.tokens.now)))) b.1

@@ -11,5 +11,6 @@ use Rattle.pg_operations.proofs.Longer.{some_read, reads_some}
 use Rattle.pg_operations.proofs.elements.index.Goals as goal
 
 pub returns-clause-on : goal.returns-clause-on
-returns-clause-on c = reads_some c.typed_value_in.result (λ (x : TypedVal × ℕ). typed_of x.0) (λ (x : TypedVal × ℕ). x.1) c.args.tokens.now c.args.at (typed_value_at (drop c.args.at c.args.tokens.now)) c.typed_value_in.ensures
-    (some_read typed_value_at typed_value begins_type no_type none typed_value_piece (drop c.args.at c.args.tokens.now))
+returns-clause-on c = reads_some c.typed_value_in.result (λ (x : TypedVal × ℕ). typed_of x.0) (λ (x : TypedVal × ℕ). x.1) c.args.text.now.tokens.now c.args.at
+    (typed_value_at (drop c.args.at c.args.text.now.tokens.now)) c.typed_value_in.ensures
+    (some_read typed_value_at typed_value begins_type no_type none typed_value_piece (drop c.args.at c.args.text.now.tokens.now))

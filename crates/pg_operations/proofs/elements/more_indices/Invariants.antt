@@ -10,7 +10,9 @@ use Rattle.pg_operations.proofs.MoreLoops.{More}
 use Rattle.pg_operations.proofs.elements.more_indices.Given as goal
 
 abbrev pub invariant-items : goal.invariant-items
-invariant-items l = (l.at ≤ l.place) × (l.place ≤ length l.tokens) × More begins_type typed_value_at (unless Unsupported no_type metadata_tail_at) (listing_of typed_of l.listing) (drop l.place l.tokens) (more_at begins_type typed_value_at (unless Unsupported no_type metadata_tail_at) (drop l.at l.tokens))
+invariant-items l = (l.at ≤ l.place) × (l.place ≤ length l.text.tokens.now)
+    × More begins_type typed_value_at (unless Unsupported no_type metadata_tail_at) (listing_of typed_of l.listing) (drop l.place l.text.tokens.now)
+    (more_at begins_type typed_value_at (unless Unsupported no_type metadata_tail_at) (drop l.at l.text.tokens.now))
 
 abbrev pub decreases-items : goal.decreases-items
-decreases-items l = length l.tokens - l.place
+decreases-items l = length l.text.tokens.now - l.place

@@ -9,5 +9,6 @@ use Rattle.pg_operations.proofs.numbers.binary.Goals as goal
 
 pub returns-clause-read : goal.returns-clause-read
 returns-clause-read c = let a = c.in_ok-word.ensures.read in let b = c.flags-at.ensures in let o = c.in_ok-word.word.now in
-    reads_on c.binary_end.result _ _ c.args.tokens.now c.args.at c.flags-at.result (binary_end_at o (drop c.flags-at.result c.args.tokens.now)) (binary_at (drop c.args.at c.args.tokens.now)) c.binary_end.ensures
-    (rw a.0 (rw b.read (sym (operands_grouped (syntax.Binary o.span (binary_of o.class)) (drop c.flags-at.result c.args.tokens.now))))) (omega (arith, a.1, b.from))
+    reads_on c.binary_end.result _ _ c.args.text.now.tokens.now c.args.at c.flags-at.result (binary_end_at o (drop c.flags-at.result c.args.text.now.tokens.now))
+    (binary_at (drop c.args.at c.args.text.now.tokens.now)) c.binary_end.ensures
+    (rw a.0 (rw b.read (sym (operands_grouped (syntax.Binary o.span (binary_of o.class)) (drop c.flags-at.result c.args.text.now.tokens.now))))) (omega (arith, a.1, b.from))

@@ -8,5 +8,7 @@ use Rattle.pg_operations.proofs.numbers.cast_tail.Goals as goal
 
 pub returns : goal.returns
 returns c = let a = c.flags-at.ensures in let b = c.in_ok-value.ensures in
-    reads_on c.cast_end.result _ _ c.args.tokens.now c.args.at c.in_ok-value.at (cast_end_at c.args.word.now (typed_of c.in_ok-value.value) (drop c.in_ok-value.at c.args.tokens.now)) (cast_tail_at c.args.word.now (drop c.args.at c.args.tokens.now)) c.cast_end.ensures
-    (rw a.read (rw b.0 (sym (cast_grouped c.args.word.now (typed_of c.in_ok-value.value) (drop c.in_ok-value.at c.args.tokens.now))))) (omega (arith, a.from, b.1))
+    reads_on c.cast_end.result _ _ c.args.text.now.tokens.now c.args.at c.in_ok-value.at
+    (cast_end_at c.args.word.now (typed_of c.in_ok-value.value) (drop c.in_ok-value.at c.args.text.now.tokens.now))
+    (cast_tail_at c.args.word.now (drop c.args.at c.args.text.now.tokens.now)) c.cast_end.ensures
+    (rw a.read (rw b.0 (sym (cast_grouped c.args.word.now (typed_of c.in_ok-value.value) (drop c.in_ok-value.at c.args.text.now.tokens.now))))) (omega (arith, a.from, b.1))

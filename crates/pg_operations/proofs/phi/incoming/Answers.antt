@@ -8,5 +8,6 @@ use Rattle.pg_operations.proofs.phi.incoming.Goals as goal
 
 pub returns-clause-read : goal.returns-clause-read
 returns-clause-read c = let a = c.in_ok-at.ensures.read in let b = c.in_ok-value.ensures in
-    reads_on c.incoming_tail.result _ _ c.args.tokens.now c.args.at c.in_ok-value.at (incoming_tail_at (val_of c.in_ok-value.value) (drop c.in_ok-value.at c.args.tokens.now)) (incoming_at (drop c.args.at c.args.tokens.now)) c.incoming_tail.ensures
-    (rw a.0 (rw b.0 (sym (incoming_grouped (val_of c.in_ok-value.value) (drop c.in_ok-value.at c.args.tokens.now))))) (omega (arith, a.1, b.1))
+    reads_on c.incoming_tail.result _ _ c.args.text.now.tokens.now c.args.at c.in_ok-value.at (incoming_tail_at (val_of c.in_ok-value.value) (drop c.in_ok-value.at c.args.text.now.tokens.now))
+    (incoming_at (drop c.args.at c.args.text.now.tokens.now)) c.incoming_tail.ensures
+    (rw a.0 (rw b.0 (sym (incoming_grouped (val_of c.in_ok-value.value) (drop c.in_ok-value.at c.args.text.now.tokens.now))))) (omega (arith, a.1, b.1))

@@ -8,7 +8,9 @@ use Rattle.pg_operations.proofs.MoreLoops.{More}
 use Rattle.pg_operations.proofs.phi.more_incoming.Given as goal
 
 abbrev pub invariant-items : goal.invariant-items
-invariant-items l = (l.at ≤ l.place) × (l.place ≤ length l.tokens) × More (is OpenSquare) incoming_at metadata_tail_at (listing_of incoming_of l.listing) (drop l.place l.tokens) (more_at (is OpenSquare) incoming_at metadata_tail_at (drop l.at l.tokens))
+invariant-items l = (l.at ≤ l.place) × (l.place ≤ length l.text.tokens.now)
+    × More (is OpenSquare) incoming_at metadata_tail_at (listing_of incoming_of l.listing) (drop l.place l.text.tokens.now)
+    (more_at (is OpenSquare) incoming_at metadata_tail_at (drop l.at l.text.tokens.now))
 
 abbrev pub decreases-items : goal.decreases-items
-decreases-items l = length l.tokens - l.place
+decreases-items l = length l.text.tokens.now - l.place

@@ -13,7 +13,9 @@ use Rattle.pg_operations.proofs.MoreLoops.{More}
 use Rattle.pg_operations.proofs.written.more_written.Given as goal
 
 abbrev pub invariant-items : goal.invariant-items
-invariant-items l = (l.at ≤ l.place) × (l.place ≤ length l.tokens) × More begins_type (type_at NESTING_LIMIT) (unless Unsupported no_type (drop_value_at (take_one (is Dots)))) (listing_of ty_of l.listing) (drop l.place l.tokens) (more_at begins_type (type_at NESTING_LIMIT) (unless Unsupported no_type (drop_value_at (take_one (is Dots)))) (drop l.at l.tokens))
+invariant-items l = (l.at ≤ l.place) × (l.place ≤ length l.text.tokens.now)
+    × More begins_type (type_at NESTING_LIMIT) (unless Unsupported no_type (drop_value_at (take_one (is Dots)))) (listing_of ty_of l.listing) (drop l.place l.text.tokens.now)
+    (more_at begins_type (type_at NESTING_LIMIT) (unless Unsupported no_type (drop_value_at (take_one (is Dots)))) (drop l.at l.text.tokens.now))
 
 abbrev pub decreases-items : goal.decreases-items
-decreases-items l = length l.tokens - l.place
+decreases-items l = length l.text.tokens.now - l.place

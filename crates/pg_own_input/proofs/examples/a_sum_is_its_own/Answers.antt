@@ -6,18 +6,6 @@ use Rattle.pg_closed.specs.Closed.{admits, conditions}
 use Rattle.pg_closed.specs.Known.{seen_from}
 use Rattle.pg_own_input.proofs.examples.a_sum_is_its_own.Goals as goal
 
-pub returns-clause-none : goal.returns-clause-none
+pub returns : goal.returns
 unfolding admits conditions seen_from instrs_of phis_of end_of first_of parameter_count types_of number_of
-returns-clause-none c = refl
-
-pub returns-clause-slice : goal.returns-clause-slice
-unfolding admits conditions seen_from instrs_of phis_of end_of first_of parameter_count types_of number_of
-returns-clause-slice c = refl
-
-pub returns-clause-all : goal.returns-clause-all
-unfolding admits conditions seen_from instrs_of phis_of end_of first_of parameter_count types_of number_of
-returns-clause-all c = refl
-
-pub returns-clause-other : goal.returns-clause-other
-unfolding admits conditions seen_from instrs_of phis_of end_of first_of parameter_count types_of number_of
-returns-clause-other c = refl
+returns c = record { none = refl; slice = refl; all = refl; other = refl }

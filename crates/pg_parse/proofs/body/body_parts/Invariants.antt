@@ -5,7 +5,8 @@ use Rattle.pg_grammar.proofs.Loops.{Runs}
 use Rattle.pg_parse.proofs.body.body_parts.Given as goal
 
 abbrev pub invariant-reading : goal.invariant-reading
-invariant-reading l = (l.at ≤ l.place) × (l.place ≤ length l.tokens) × Runs begins_next next_part_at body_end_at (body_of l.body) (drop l.place l.tokens) (parts_at (drop l.at l.tokens))
+invariant-reading l = (l.at ≤ l.place) × (l.place ≤ length l.text.tokens.now)
+    × Runs begins_next next_part_at body_end_at (body_of l.body) (drop l.place l.text.tokens.now) (parts_at (drop l.at l.text.tokens.now))
 
 abbrev pub decreases-reading : goal.decreases-reading
-decreases-reading l = length l.tokens - l.place
+decreases-reading l = length l.text.tokens.now - l.place

@@ -8,5 +8,6 @@ use Rattle.pg_parse.proofs.functions.declare_item.Goals as goal
 pub returns-clause-read : goal.returns-clause-read
 unfolding declare_item_at
 returns-clause-read c = let a = c.in_ok-at.ensures.read in let b = c.in_ok-at-2.ensures in
-    reads_on c.declare_end.result _ _ c.args.tokens.now c.args.at c.in_ok-at-2.at (declare_end_at (drop c.in_ok-at-2.at c.args.tokens.now)) (declare_item_at (drop c.args.at c.args.tokens.now)) c.declare_end.ensures
-    (rw a.0 (rw b.0 (sym (declare_grouped (drop c.in_ok-at-2.at c.args.tokens.now))))) (omega (arith, a.1, b.1))
+    reads_on c.declare_end.result _ _ c.args.text.now.tokens.now c.args.at c.in_ok-at-2.at (declare_end_at (drop c.in_ok-at-2.at c.args.text.now.tokens.now))
+    (declare_item_at (drop c.args.at c.args.text.now.tokens.now)) c.declare_end.ensures
+    (rw a.0 (rw b.0 (sym (declare_grouped (drop c.in_ok-at-2.at c.args.text.now.tokens.now))))) (omega (arith, a.1, b.1))

@@ -9,7 +9,9 @@ use Rattle.pg_grammar.proofs.Loops.{Left}
 use Rattle.pg_parse.proofs.params.more_params.Given as goal
 
 abbrev pub invariant-items : goal.invariant-items
-invariant-items l = (l.at ≤ l.place) × (l.place ≤ length l.tokens) × Left (is Comma) (behind_comma defined_param_at) (map param_of l.all.items) (drop l.place l.tokens) (onto (map param_of l.fn.all.items) (all_of (is Comma) (behind_comma defined_param_at) (drop l.at l.tokens)))
+invariant-items l = (l.at ≤ l.place) × (l.place ≤ length l.text.tokens.now)
+    × Left (is Comma) (behind_comma defined_param_at) (map param_of l.all.items) (drop l.place l.text.tokens.now)
+    (onto (map param_of l.fn.all.items) (all_of (is Comma) (behind_comma defined_param_at) (drop l.at l.text.tokens.now)))
 
 abbrev pub decreases-items : goal.decreases-items
-decreases-items l = length l.tokens - l.place
+decreases-items l = length l.text.tokens.now - l.place

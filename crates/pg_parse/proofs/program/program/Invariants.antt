@@ -5,7 +5,7 @@ use Rattle.pg_grammar.proofs.Loops.{Runs}
 use Rattle.pg_parse.proofs.program.program.Given as goal
 
 abbrev pub invariant-reading : goal.invariant-reading
-invariant-reading l = (l.place ≤ length l.tokens) × Runs begins_next_item next_item_at items_end_at (items_of l.items) (drop l.place l.tokens) (program_at l.tokens)
+invariant-reading l = (l.place ≤ length l.text.tokens.now) × Runs begins_next_item next_item_at items_end_at (items_of l.items) (drop l.place l.text.tokens.now) (program_at l.text.tokens.now)
 
 abbrev pub decreases-reading : goal.decreases-reading
-decreases-reading l = length l.tokens - l.place
+decreases-reading l = length l.text.tokens.now - l.place

@@ -15,11 +15,13 @@ use Rattle.pg_grammar.specs.Told.{IsTold}
 use Rattle.pg_grammar.proofs.TextLaws.{text_found, told_first}
 use Rattle.pg_parse.proofs.text.parse.Goals as goal
 
-found : (text : List ℕ) (ts : List Lexed) (us : List Token) (r : Result Module ReadFault) → tokens text ≡ Ok ts → us ≡ classified text ts → IfOk r (λ m. ended (program_at us) ≡ Good (tree_of m) []) → IfOk r (λ m. IsModule text (tree_of m))
+found : (text : List ℕ) (ts : List Lexed) (us : List Token) (r : Result Module ReadFault) → tokens text ≡ Ok ts → us ≡ classified text ts
+    → IfOk r (λ m. ended (program_at us) ≡ Good (tree_of m) []) → IfOk r (λ m. IsModule text (tree_of m))
 found text ts us (Ok m) w s e = text_found text ts [] (tree_of m) w (subst (λ xs. ended (program_at xs) ≡ Good (tree_of m) []) s e)
 found text ts us (Err f) w s e = tt
 
-refused : (text : List ℕ) (ts : List Lexed) (us : List Token) (r : Result Module ReadFault) → tokens text ≡ Ok ts → us ≡ classified text ts → IfErr r (λ e. e ≢ OutOfMemory → IsTold text us e) → IfErr r (λ e. e ≢ OutOfMemory → IsUnread text e)
+refused : (text : List ℕ) (ts : List Lexed) (us : List Token) (r : Result Module ReadFault) → tokens text ≡ Ok ts → us ≡ classified text ts
+    → IfErr r (λ e. e ≢ OutOfMemory → IsTold text us e) → IfErr r (λ e. e ≢ OutOfMemory → IsUnread text e)
 refused text ts us (Ok m) w s i = tt
 refused text ts us (Err f) w s i = λ n. told_first text ts f w (subst (λ xs. IsTold text xs f) s (i n))
 

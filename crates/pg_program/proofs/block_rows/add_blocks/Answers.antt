@@ -7,8 +7,10 @@ use Rattle.pg_program.proofs.block_rows.add_blocks.Goals as goal
 pub loop-block-preserved : goal.loop-block-preserved
 loop-block-preserved c = record {
   blocks =
-      ap (λ xs. xs ++ blocks_from c.args.function (c.loop-block.at + length c.as_slice-lines.result.now) (map block_of (drop (c.loop-block.block-index + 1) c.args.blocks.now))) c.in_ok-push.ensures.items
-      ∙ block_step c.args.function c.loop-block.at (c.loop-block.at + length c.as_slice-lines.result.now) (length c.as_slice-lines.result.now) c.loop-block.found.items c.args.blocks.now c.loop-block.block-index c.block-item.result _
+      ap (λ xs. xs ++ blocks_from c.args.function (c.loop-block.at + length c.as_slice-lines.result.now) (map block_of (drop (c.loop-block.block-index + 1) c.args.blocks.now)))
+      c.in_ok-push.ensures.items
+      ∙ block_step c.args.function c.loop-block.at (c.loop-block.at + length c.as_slice-lines.result.now)
+      (length c.as_slice-lines.result.now) c.loop-block.found.items c.args.blocks.now c.loop-block.block-index c.block-item.result _
       c.loop-block-test.true c.block-item.is (ap (λ ls. length ls) c.as_slice-lines.ensures.value) refl
       ∙ c.loop-block.invariant.blocks;
   next =

@@ -12,11 +12,13 @@ incoming_at-requires-clause-value c =
 
 pub loop-incoming-preserved : goal.loop-incoming-preserved
 loop-incoming-preserved c = λ names.
-    mapped_more (incoming_at (scope_in c.args.scope.now names) c.args.scope.now.first (ty_of c.args.ty.now)) incoming_of c.args.found.now.items c.args.all.now c.loop-incoming.incoming-index c.incoming-item.result _ c.loop-incoming.found.items _ c.in_ok-one.one
+    mapped_more (incoming_at (scope_in c.args.scope.now names) c.args.scope.now.first (ty_of c.args.ty.now)) incoming_of c.args.found.now.items c.args.all.now c.loop-incoming.incoming-index
+    c.incoming-item.result _ c.loop-incoming.found.items _ c.in_ok-one.one
     c.loop-incoming-test.true c.incoming-item.is (c.loop-incoming.invariant names) (c.in_ok-one.ensures.incoming names) c.in_ok-push.ensures.items
 
 pub returns : goal.returns
 returns c = record {
   incomings = λ names.
-      mapped_all (incoming_at (scope_in c.args.scope.now names) c.args.scope.now.first (ty_of c.args.ty.now)) incoming_of c.args.found.now.items c.args.all.now c.loop-incoming.incoming-index c.loop-incoming.found.items c.loop-incoming-test.false (c.loop-incoming.invariant names);
+      mapped_all (incoming_at (scope_in c.args.scope.now names) c.args.scope.now.first (ty_of c.args.ty.now)) incoming_of c.args.found.now.items c.args.all.now c.loop-incoming.incoming-index
+      c.loop-incoming.found.items c.loop-incoming-test.false (c.loop-incoming.invariant names);
 }

@@ -6,7 +6,8 @@ use Rattle.pg_program.proofs.function_rows.register_scalars.Goals as goal
 
 pub loop-place-preserved : goal.loop-place-preserved
 loop-place-preserved c =
-    kept_step (λ t. scalar_in (register_type (named_types c.args.types.now) t)) c.args.all.now c.loop-place.place c.index-all-place.result _ c.loop-place.found.items _ c.in_ok-one.one c.loop-place-test.true c.index-all-place.is
+    kept_step (λ t. scalar_in (register_type (named_types c.args.types.now) t)) c.args.all.now c.loop-place.place c.index-all-place.result _ c.loop-place.found.items _ c.in_ok-one.one
+    c.loop-place-test.true c.index-all-place.is
     c.in_ok-push_some.ensures c.loop-place.invariant
     (c.in_ok-one.ensures.scalar)
 

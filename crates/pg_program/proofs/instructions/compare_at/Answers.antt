@@ -1,3 +1,4 @@
+use Rattle.std.proofs.Common.{refl}
 use Rattle.pg_ir.specs.declared.instr.Op.TheVariants as operation
 use Rattle.pg_program.proofs.EqualParts.{same_four}
 use Rattle.pg_program.proofs.instructions.compare_at.Goals as goal
@@ -5,5 +6,5 @@ use Rattle.pg_program.proofs.instructions.compare_at.Goals as goal
 pub returns : goal.returns
 returns c = record {
   op = λ names.
-      same_four (λ o w a b. operation.Compare o w a b) c.comparison_of-op.ensures (c.in_ok-width.ensures.width names) (c.in_ok-left.ensures.value names) (c.in_ok-right.ensures.value names);
+      same_four (λ o w a b. operation.Compare o w a b) refl (c.in_ok-width.ensures.width names) (c.in_ok-left.ensures.value names) (c.in_ok-right.ensures.value names);
 }

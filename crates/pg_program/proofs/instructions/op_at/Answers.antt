@@ -13,7 +13,8 @@ use Rattle.pg_program.proofs.instructions.op_at.Goals as goal
 fits_as : (types : List NamedType) {a b : OpNode} → a ≡ b → OpFits types (op_of a) → OpFits types (op_of b)
 fits_as types e h = subst (λ o. OpFits types (op_of o)) e h
 
-made_as : {E : Type 0} (g : Scope) (first : ℕ) (r : Result numbered_op.Op E) {a b : OpNode} → a ≡ b → IfOk r (λ o. o ≡ op_at g first (op_of b)) → IfOk r (λ o. o ≡ op_at g first (op_of a))
+made_as : {E : Type 0} (g : Scope) (first : ℕ) (r : Result numbered_op.Op E) {a b : OpNode} → a ≡ b → IfOk r (λ o. o ≡ op_at g first (op_of b))
+    → IfOk r (λ o. o ≡ op_at g first (op_of a))
 made_as g first r e h = subst (λ o. IfOk r (λ x. x ≡ op_at g first (op_of o))) (sym e) h
 
 pub returns-in-Binary : goal.returns-in-Binary

@@ -11,5 +11,6 @@ pub returns : goal.returns
 returns c = record {
   op = λ names.
       same_four (λ w v b k. operation.Switch w v b k) (c.in_ok-width.ensures.width names) (c.in_ok-on.ensures.value names) (c.block_at-other.ensures names)
-      (c.from_vec-cases.ensures.items ∙ c.in_ok-found.ensures.cases names ∙ ap (λ t. map (case_at (scope_in c.args.scope.now names) c.args.scope.now.first t) (map case_of c.args.cases.now)) (sym (typed_ty c.args.value.now)));
+      (c.from_vec-cases.ensures.items ∙ c.in_ok-found.ensures.cases names
+      ∙ ap (λ t. map (case_at (scope_in c.args.scope.now names) c.args.scope.now.first t) (map case_of c.args.cases.now)) (sym (typed_ty c.args.value.now)));
 }

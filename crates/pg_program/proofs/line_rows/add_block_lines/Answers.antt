@@ -17,7 +17,8 @@ add_lines-requires-clause-fits c =
 pub loop-block-preserved : goal.loop-block-preserved
 loop-block-preserved c = record {
   instrs = λ own.
-      block_lines_step (scope_in c.args.scope.now own) c.args.scope.now.first c.loop-block.number (c.loop-block.number + 1) (drop c.loop-block.at c.args.names.now) (drop c.in_ok-at.at c.args.names.now) c.loop-block.found.items _ c.as_slice-lines.result.now c.args.blocks.now c.loop-block.block-index c.block-item.result _
+      block_lines_step (scope_in c.args.scope.now own) c.args.scope.now.first c.loop-block.number (c.loop-block.number + 1) (drop c.loop-block.at c.args.names.now)
+      (drop c.in_ok-at.at c.args.names.now) c.loop-block.found.items _ c.as_slice-lines.result.now c.args.blocks.now c.loop-block.block-index c.block-item.result _
       c.loop-block-test.true c.block-item.is refl c.as_slice-lines.ensures.value (c.in_ok-at.ensures.instrs own) c.in_ok-at.ensures.names
       ∙ c.loop-block.invariant.instrs own;
   number = omega (arith, c.loop-block.invariant.number);
@@ -26,6 +27,7 @@ loop-block-preserved c = record {
 pub returns : goal.returns
 returns c = record {
   instrs = λ own.
-      block_lines_end (scope_in c.args.scope.now own) c.args.scope.now.first c.loop-block.number (drop c.loop-block.at c.args.names.now) c.loop-block.found.items c.args.blocks.now c.loop-block.block-index c.loop-block-test.false
+      block_lines_end (scope_in c.args.scope.now own) c.args.scope.now.first c.loop-block.number
+      (drop c.loop-block.at c.args.names.now) c.loop-block.found.items c.args.blocks.now c.loop-block.block-index c.loop-block-test.false
       ∙ c.loop-block.invariant.instrs own;
 }

@@ -6,6 +6,7 @@ use Rattle.pg_program.proofs.line_rows.add_block_lines.Given as goal
 
 abbrev pub invariant-loop-block : goal.invariant-loop-block
 invariant-loop-block l = record {
-  instrs : (own : ScopeNames l.scope) → l.found.items ++ blocks_by (scope_in l.scope own) l.scope.first l.number (drop l.at l.names) (map block_of (drop l.block-index l.blocks)) ≡ l.fn.found.items ++ blocks_by (scope_in l.scope own) l.scope.first l.scope.first (drop l.start l.names) (map block_of l.blocks);
+  instrs : (own : ScopeNames l.scope) → l.found.items ++ blocks_by (scope_in l.scope own) l.scope.first l.number (drop l.at l.names) (map block_of (drop l.block-index l.blocks))
+      ≡ l.fn.found.items ++ blocks_by (scope_in l.scope own) l.scope.first l.scope.first (drop l.start l.names) (map block_of l.blocks);
   number : l.number ≡ l.scope.first + l.block-index;
 }

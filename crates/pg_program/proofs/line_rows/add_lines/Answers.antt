@@ -33,7 +33,8 @@ loop-line-preserved c =
 
 pub returns-clause-instrs : goal.returns-clause-instrs
 returns-clause-instrs c = λ own.
-    lines_end (scope_in c.args.scope.now own) c.args.scope.now.first c.args.block (drop c.loop-line.at c.args.names.now) c.loop-line.found.items c.args.lines.now c.loop-line.line-index c.loop-line-test.false
+    lines_end (scope_in c.args.scope.now own) c.args.scope.now.first c.args.block
+    (drop c.loop-line.at c.args.names.now) c.loop-line.found.items c.args.lines.now c.loop-line.line-index c.loop-line-test.false
     ∙ c.loop-line.invariant.instrs own
 
 pub returns-clause-names : goal.returns-clause-names

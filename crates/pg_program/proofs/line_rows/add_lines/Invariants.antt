@@ -6,6 +6,8 @@ use Rattle.pg_program.proofs.line_rows.add_lines.Given as goal
 
 abbrev pub invariant-loop-line : goal.invariant-loop-line
 invariant-loop-line l = record {
-  instrs : (own : ScopeNames l.scope) → l.found.items ++ lines_by (scope_in l.scope own) l.scope.first l.block (drop l.at l.names) (map line_of (drop l.line-index l.lines)) ≡ l.fn.found.items ++ lines_by (scope_in l.scope own) l.scope.first l.block (drop l.start l.names) (map line_of l.lines);
-  names : names_after_lines (tree_of l.scope.globals.now.symbols.tree.now).types (drop l.at l.names) (map line_of (drop l.line-index l.lines)) ≡ names_after_lines (tree_of l.scope.globals.now.symbols.tree.now).types (drop l.start l.names) (map line_of l.lines);
+  instrs : (own : ScopeNames l.scope) → l.found.items ++ lines_by (scope_in l.scope own) l.scope.first l.block (drop l.at l.names) (map line_of (drop l.line-index l.lines)) ≡ l.fn.found.items
+      ++ lines_by (scope_in l.scope own) l.scope.first l.block (drop l.start l.names) (map line_of l.lines);
+  names : names_after_lines (tree_of l.scope.globals.now.symbols.tree.now).types (drop l.at l.names) (map line_of (drop l.line-index l.lines))
+      ≡ names_after_lines (tree_of l.scope.globals.now.symbols.tree.now).types (drop l.start l.names) (map line_of l.lines);
 }

@@ -10,7 +10,8 @@ use Rattle.pg_program.proofs.program.blocks_of.Goals as goal
 
 pub add_blocks-requires : goal.add_blocks-requires
 add_blocks-requires c =
-    let room = lines_room c.args.all.now c.loop-item.item-index c.item-item.result _ c.loop-item.first INSTRUCTION_LIMIT c.loop-item-test.true c.item-item.is c.loop-item.invariant.first c.requires.lines in
+    let room = lines_room c.args.all.now c.loop-item.item-index c.item-item.result _ c.loop-item.first INSTRUCTION_LIMIT c.loop-item-test.true c.item-item.is c.loop-item.invariant.first
+    c.requires.lines in
     subst (λ xs. c.loop-item.first + sum_by (λ (b : Block). length b.lines) (map block_of xs) ≤ INSTRUCTION_LIMIT) (sym c.as_slice-blocks.ensures.value) room
 
 pub loop-item-preserved : goal.loop-item-preserved

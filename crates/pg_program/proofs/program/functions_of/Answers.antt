@@ -14,7 +14,8 @@ function_at-requires-clause-params c =
 
 pub function_at-requires-clause-blocks : goal.function_at-requires-clause-blocks
 function_at-requires-clause-blocks c =
-    let room = blocks_room c.args.all.now c.loop-item.item-index c.item-item.result _ c.loop-item.first INSTRUCTION_LIMIT c.loop-item-test.true c.item-item.is c.loop-item.invariant.first c.requires.fits.blocks in
+    let room = blocks_room c.args.all.now c.loop-item.item-index c.item-item.result _ c.loop-item.first INSTRUCTION_LIMIT c.loop-item-test.true c.item-item.is c.loop-item.invariant.first
+    c.requires.fits.blocks in
     omega (arith, room)
 
 pub block_behind-first-requires : goal.block_behind-first-requires
@@ -30,11 +31,13 @@ loop-item-preserved c =
           rows_pushed (function_row m (map define_of all)) all c.loop-item.item-index c.item-item.result _ c.loop-item.found.items _ (c.in_ok-one.one ∷ [])
           c.loop-item-test.true c.item-item.is c.in_ok-push.ensures.items c.loop-item.invariant.functions
           (ap (λ f. f ∷ []) (c.in_ok-one.ensures.function ∙ ap (λ n. function_at m n (numbered_item m.types c.item-item.result)) c.loop-item.invariant.first));
-      first = first_block_step all c.loop-item.item-index c.item-item.result _ c.loop-item.first c.block_behind-first.result c.loop-item-test.true c.item-item.is c.loop-item.invariant.first c.block_behind-first.ensures;
+      first = first_block_step all c.loop-item.item-index c.item-item.result _ c.loop-item.first c.block_behind-first.result c.loop-item-test.true c.item-item.is c.loop-item.invariant.first
+          c.block_behind-first.ensures;
     }
 
 pub returns : goal.returns
 returns c = record {
   functions =
-      rows_all (function_row (tree_of c.args.tree.now) (map define_of c.args.all.now)) c.args.all.now c.loop-item.item-index c.loop-item.found.items c.loop-item-test.false c.loop-item.invariant.functions;
+      rows_all (function_row (tree_of c.args.tree.now) (map define_of c.args.all.now)) c.args.all.now c.loop-item.item-index c.loop-item.found.items c.loop-item-test.false
+      c.loop-item.invariant.functions;
 }

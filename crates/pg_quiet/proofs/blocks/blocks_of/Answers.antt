@@ -33,4 +33,5 @@ loop-b-preserved c =
     ]
 
 pub returns-clause-blocks : goal.returns-clause-blocks
-returns-clause-blocks c = behind_span c.args.p.now c.args.f c.loop-b.b c.args.span c.loop-b.blocks.items c.requires (omega (arith, c.loop-b-test.false)) c.loop-b.invariant.upto c.loop-b.invariant.blocks
+returns-clause-blocks c = behind_span c.args.p.now c.args.f c.loop-b.b c.args.span c.loop-b.blocks.items c.requires
+    (omega (arith, c.loop-b-test.false)) c.loop-b.invariant.upto c.loop-b.invariant.blocks

@@ -8,5 +8,6 @@ returns-clause-calls c = c.loop-f.invariant.graph ∙ graph_is c.args.p.now c.lo
 
 pub returns-clause-closed : goal.returns-clause-closed
 returns-clause-closed c =
-    let is : c.loop-f.graph ≡ calls_of c.args.p.now = c.loop-f.invariant.graph ∙ graph_is c.args.p.now c.loop-f.f (omega (arith, c.loop-f-test.false, c.loop-f.invariant.upto, c.function_count-f-end.ensures.count)) in
+    let is : c.loop-f.graph ≡ calls_of c.args.p.now = c.loop-f.invariant.graph
+    ∙ graph_is c.args.p.now c.loop-f.f (omega (arith, c.loop-f-test.false, c.loop-f.invariant.upto, c.function_count-f-end.ensures.count)) in
     rw is (graph_closed c.args.p.now c.facts.ensures.holds)

@@ -7,7 +7,8 @@ use Rattle.pg_quiet.proofs.callees.push_callees.Goals as goal
 
 pub loop-k-preserved : goal.loop-k-preserved
 loop-k-preserved c =
-    let at : slice_get (instrs_of c.args.p.now c.args.b.0) c.loop-k.k ≡ Some c.instr-instr.result.now = instr_at c.args.p.now c.args.b.0 c.loop-k.k c.block-block.result.now c.instr-instr.result.now c.block-block.ensures.at c.loop-k-test.true c.instr-instr.ensures.at in
+    let at : slice_get (instrs_of c.args.p.now c.args.b.0) c.loop-k.k ≡ Some c.instr-instr.result.now =
+    instr_at c.args.p.now c.args.b.0 c.loop-k.k c.block-block.result.now c.instr-instr.result.now c.block-block.ensures.at c.loop-k-test.true c.instr-instr.ensures.at in
     instr_pushed (instrs_of c.args.p.now c.args.b.0) c.loop-k.k c.instr-instr.result.now _ c.loop-k.callees.items _ at c.loop-k.invariant c.in_ok-push_called.ensures
 
 pub returns : goal.returns

@@ -12,4 +12,5 @@ loop-i-preserved c = record {
 }
 
 pub returns-clause-started : goal.returns-clause-started
-returns-clause-started c = λ f lt. started_all c.args.p.now c.loop-i.i f (in_table c.loop-i.started.items f) (omega (arith, c.loop-i-test.false, c.instr_count-i-end.ensures.count)) (c.loop-i.invariant.started f lt)
+returns-clause-started c = λ f lt. started_all c.args.p.now c.loop-i.i f (in_table c.loop-i.started.items f) (omega (arith, c.loop-i-test.false, c.instr_count-i-end.ensures.count))
+    (c.loop-i.invariant.started f lt)

@@ -20,7 +20,9 @@ pub returns-in-Some : goal.returns-in-Some
 returns-in-Some c =
     let all : option_map (λ v. v.items) c.in_ok-accesses.field-0 ≡ set_accesses true c.args.p.now (in_table c.args.gated.now) (summary_of c.args.sums.now) (blocks_of c.args.p.now c.args.f) =
     rw (c.as_slice-2.ensures.value, c.in_ok-blocks.ensures.blocks) at c.in_ok-accesses.ensures in
-    let some : set_accesses true c.args.p.now (in_table c.args.gated.now) (summary_of c.args.sums.now) (blocks_of c.args.p.now c.args.f) ≡ Some c.in-Some.accesses.items = sym (rw c.in-Some.is at all) in
+    let some : set_accesses true c.args.p.now (in_table c.args.gated.now) (summary_of c.args.sums.now) (blocks_of c.args.p.now c.args.f) ≡ Some c.in-Some.accesses.items =
+    sym (rw c.in-Some.is at all) in
     let eq : if_few (seen c.function.result.now.params c.in-Some.accesses.items) ≡ summary_by c.args.p.now (in_table c.args.gated.now) (summary_of c.args.sums.now) c.args.f =
-    by_accesses c.args.p.now (in_table c.args.gated.now) (summary_of c.args.sums.now) c.args.f c.function.result.now.params c.in-Some.accesses.items some (params_are c.args.p.now c.args.f c.function.result.now c.function.ensures.at) in
+    by_accesses c.args.p.now (in_table c.args.gated.now) (summary_of c.args.sums.now) c.args.f c.function.result.now.params c.in-Some.accesses.items some
+    (params_are c.args.p.now c.args.f c.function.result.now c.function.ensures.at) in
     rw (← eq) (rw c.as_slice-in-Some.ensures.value at c.seen_by_callers.ensures)

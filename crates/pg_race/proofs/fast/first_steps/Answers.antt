@@ -7,17 +7,17 @@ use Rattle.pg_race.proofs.Answered.{beside_own}
 use Rattle.pg_race.proofs.Earlier.{intervals_length_of, intervals_within}
 use Rattle.pg_race.proofs.fast.first_steps.Goals as goal
 
-pub forward-requires-clause-as_many : goal.forward-requires-clause-as_many
-forward-requires-clause-as_many c = intervals_length_of defs.asked c.args.t.now.steps c.args.intervals.now c.requires.intervals
+pub touches-requires-clause-as_many : goal.touches-requires-clause-as_many
+touches-requires-clause-as_many c = intervals_length_of defs.asked c.args.t.now.steps c.args.intervals.now c.requires.intervals
 
-pub forward-requires-clause-within : goal.forward-requires-clause-within
-forward-requires-clause-within c = intervals_within defs.asked c.args.t.now.steps c.args.intervals.now c.requires.intervals
+pub touches-requires-clause-within : goal.touches-requires-clause-within
+touches-requires-clause-within c = intervals_within defs.asked c.args.t.now.steps c.args.intervals.now c.requires.intervals
 
-pub backward-requires-clause-as_many : goal.backward-requires-clause-as_many
-backward-requires-clause-as_many c = intervals_length_of defs.asked c.args.t.now.steps c.args.intervals.now c.requires.intervals
+pub touches-requires-2-clause-as_many : goal.touches-requires-2-clause-as_many
+touches-requires-2-clause-as_many c = intervals_length_of defs.asked c.args.t.now.steps c.args.intervals.now c.requires.intervals
 
-pub backward-requires-clause-within : goal.backward-requires-clause-within
-backward-requires-clause-within c = intervals_within defs.asked c.args.t.now.steps c.args.intervals.now c.requires.intervals
+pub touches-requires-2-clause-within : goal.touches-requires-2-clause-within
+touches-requires-2-clause-within c = intervals_within defs.asked c.args.t.now.steps c.args.intervals.now c.requires.intervals
 
 pub firsts-requires-clause-before : goal.firsts-requires-clause-before
 firsts-requires-clause-before c =
@@ -30,4 +30,5 @@ firsts-requires-clause-behind c =
     let ys = defs.timed_by defs.asked c.args.t.now.steps in
     let n = intervals_length_of defs.asked c.args.t.now.steps ns c.requires.intervals ∙ sym (timed_length defs.asked c.args.t.now.steps) in
     c.as_slice-4.ensures.value ∙ c.in_ok-behind.ensures
-    ∙ ap behind_in (c.as_slice-2.ensures.value ∙ c.in_ok-backward.ensures ∙ ap (map (backward (length ns))) (beside_own defs.asked c.args.t.now.steps ns c.requires.intervals) ∙ ap (λ k. map (backward k) ys) n)
+    ∙ ap behind_in (c.as_slice-2.ensures.value ∙ c.in_ok-backward.ensures ∙ ap (map (backward (length ns))) (beside_own defs.asked c.args.t.now.steps ns c.requires.intervals)
+    ∙ ap (λ k. map (backward k) ys) n)

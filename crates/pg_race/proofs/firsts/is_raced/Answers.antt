@@ -14,18 +14,21 @@ returns-then-earlier c =
     let b = c.mark_at-earlier.result in
     let d = c.mark_at-later.result in
     first_holds (races.is_access c.step-step.result.kind) b d (sym c.is_access.ensures ∙ c.if-is_access.true) c.if-earlier.true
-    ∙ sym (raced_is c.args.t.now.steps c.args.i c.step-step.result c.step-step.ensures c.args.before.now c.args.behind.now b d c.requires.before c.requires.behind c.mark_at-earlier.ensures c.mark_at-later.ensures)
+    ∙ sym (raced_is c.args.t.now.steps c.args.i c.step-step.result c.step-step.ensures c.args.before.now c.args.behind.now b d c.requires.before c.requires.behind c.mark_at-earlier.ensures
+    c.mark_at-later.ensures)
 
 pub returns-else-earlier : goal.returns-else-earlier
 returns-else-earlier c =
     let b = c.mark_at-earlier.result in
     let d = c.mark_at-later.result in
     second_decides (races.is_access c.step-step.result.kind) b d (sym c.is_access.ensures ∙ c.if-is_access.true) c.if-earlier.false
-    ∙ sym (raced_is c.args.t.now.steps c.args.i c.step-step.result c.step-step.ensures c.args.before.now c.args.behind.now b d c.requires.before c.requires.behind c.mark_at-earlier.ensures c.mark_at-later.ensures)
+    ∙ sym (raced_is c.args.t.now.steps c.args.i c.step-step.result c.step-step.ensures c.args.before.now c.args.behind.now b d c.requires.before c.requires.behind c.mark_at-earlier.ensures
+    c.mark_at-later.ensures)
 
 pub returns-else-is_access : goal.returns-else-is_access
 returns-else-is_access c =
     let b = c.mark_at-earlier.result in
     let d = c.mark_at-later.result in
     c.is_access.ensures ∙ none_holds (races.is_access c.step-step.result.kind) b d (sym c.is_access.ensures ∙ c.if-is_access.false)
-    ∙ sym (raced_is c.args.t.now.steps c.args.i c.step-step.result c.step-step.ensures c.args.before.now c.args.behind.now b d c.requires.before c.requires.behind c.mark_at-earlier.ensures c.mark_at-later.ensures)
+    ∙ sym (raced_is c.args.t.now.steps c.args.i c.step-step.result c.step-step.ensures c.args.before.now c.args.behind.now b d c.requires.before c.requires.behind c.mark_at-earlier.ensures
+    c.mark_at-later.ensures)

@@ -24,4 +24,5 @@ returns-then-is_unordered c =
     (get_take i j ys (timed_of c.timed-x.result) (omega arith) (c.timed-x.ensures turns.Recorded c.requires.intervals)) (sym c.is_unordered.ensures ∙ c.if-is_unordered.true)))
 
 pub loop-i-preserved : goal.loop-i-preserved
-loop-i-preserved c = none_more (λ z. races.is_unordered z (timed_of c.timed-y.result)) (races.timed_by races.recorded c.args.t.now.steps) c.loop-i.i (timed_of c.timed-x.result) c.loop-i.invariant (c.timed-x.ensures turns.Recorded c.requires.intervals) (sym c.is_unordered.ensures ∙ c.if-is_unordered.false)
+loop-i-preserved c = none_more (λ z. races.is_unordered z (timed_of c.timed-y.result)) (races.timed_by races.recorded c.args.t.now.steps) c.loop-i.i
+    (timed_of c.timed-x.result) c.loop-i.invariant (c.timed-x.ensures turns.Recorded c.requires.intervals) (sym c.is_unordered.ensures ∙ c.if-is_unordered.false)

@@ -28,8 +28,11 @@ loop-j-preserved c =
     let l = timed_length races.recorded c.args.t.now.steps in
     let at = get_some ys j (omega (arith, l)) in
     elim c.if-mark_at.branch [
-      | then-mark_at+in_default w ↦ c.loop-j.invariant ∙ pairs_next ys j at.0 at.1 ∙ ap (λ o. races.pair_or j o (races.unordered_in (take (j + 1) ys) (j + 1) (drop (j + 1) ys))) (sym (w.earlier.ensures ∙ ap (earlier_of ys j) at.1) ∙ w.in_default.is)
-      | else-mark_at w ↦ c.loop-j.invariant ∙ pairs_next ys j at.0 at.1 ∙ ap (λ o. races.pair_or j o (races.unordered_in (take (j + 1) ys) (j + 1) (drop (j + 1) ys))) (none_unmarked c.args.t.now.steps j at.0 c.mark_at.result at.1 (sym (ap (λ l. slice_get l j) c.requires.before) ∙ c.mark_at.ensures) w.if-mark_at.false)
+      | then-mark_at+in_default w ↦ c.loop-j.invariant ∙ pairs_next ys j at.0 at.1
+          ∙ ap (λ o. races.pair_or j o (races.unordered_in (take (j + 1) ys) (j + 1) (drop (j + 1) ys))) (sym (w.earlier.ensures ∙ ap (earlier_of ys j) at.1) ∙ w.in_default.is)
+      | else-mark_at w ↦ c.loop-j.invariant ∙ pairs_next ys j at.0 at.1
+          ∙ ap (λ o. races.pair_or j o (races.unordered_in (take (j + 1) ys) (j + 1) (drop (j + 1) ys)))
+          (none_unmarked c.args.t.now.steps j at.0 c.mark_at.result at.1 (sym (ap (λ l. slice_get l j) c.requires.before) ∙ c.mark_at.ensures) w.if-mark_at.false)
     ]
 
 pub returns : goal.returns

@@ -6,13 +6,14 @@ use Rattle.pg_race.proofs.Answered.{beside_own}
 use Rattle.pg_race.proofs.Earlier.{intervals_length_of, intervals_within}
 use Rattle.pg_race.proofs.ordered.is_ordered.Goals as goal
 
-pub forward-requires-clause-as_many : goal.forward-requires-clause-as_many
-forward-requires-clause-as_many c = intervals_length_of races.recorded c.args.t.now.steps _ (c.as_slice.ensures.value ∙ c.in_ok-intervals.ensures)
+pub touches-requires-clause-as_many : goal.touches-requires-clause-as_many
+touches-requires-clause-as_many c = intervals_length_of races.recorded c.args.t.now.steps _ (c.as_slice.ensures.value ∙ c.in_ok-intervals.ensures)
 
-pub forward-requires-clause-within : goal.forward-requires-clause-within
-forward-requires-clause-within c = intervals_within races.recorded c.args.t.now.steps _ (c.as_slice.ensures.value ∙ c.in_ok-intervals.ensures)
+pub touches-requires-clause-within : goal.touches-requires-clause-within
+touches-requires-clause-within c = intervals_within races.recorded c.args.t.now.steps _ (c.as_slice.ensures.value ∙ c.in_ok-intervals.ensures)
 
 pub first_pair-requires-clause-before : goal.first_pair-requires-clause-before
 first_pair-requires-clause-before c =
     c.as_slice-4.ensures.value ∙ c.in_ok-before.ensures
-    ∙ ap (before_in []) (c.as_slice-2.ensures.value ∙ c.in_ok-touches.ensures ∙ ap (map forward) (beside_own races.recorded c.args.t.now.steps _ (c.as_slice.ensures.value ∙ c.in_ok-intervals.ensures)))
+    ∙ ap (before_in []) (c.as_slice-2.ensures.value ∙ c.in_ok-touches.ensures
+    ∙ ap (map forward) (beside_own races.recorded c.args.t.now.steps _ (c.as_slice.ensures.value ∙ c.in_ok-intervals.ensures)))

@@ -25,4 +25,5 @@ returns-clause-position c =
     let l = timed_length races.asked c.args.t.now.steps in
     let q : c.loop-i.i ≡ length (races.timed_by races.asked c.args.t.now.steps) = omega (arith, l) in
     sym (none_all (races.is_racing (races.timed_by races.asked c.args.t.now.steps) c.args.id.0) (races.timed_by races.asked c.args.t.now.steps)
-    (subst (λ n. position_from (races.is_racing (races.timed_by races.asked c.args.t.now.steps) c.args.id.0) 0 (take n (races.timed_by races.asked c.args.t.now.steps)) ≡ None) q c.loop-i.invariant))
+    (subst (λ n. position_from (races.is_racing (races.timed_by races.asked c.args.t.now.steps) c.args.id.0) 0 (take n (races.timed_by races.asked c.args.t.now.steps)) ≡ None) q
+    c.loop-i.invariant))

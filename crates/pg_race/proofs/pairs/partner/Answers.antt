@@ -16,10 +16,12 @@ timed-y-requires-clause-as_many c = intervals_length c.args.t.now.steps c.args.i
 pub returns-then-is_unordered : goal.returns-then-is_unordered
 returns-then-is_unordered c =
     let at = c.timed-x.ensures turns.Asked c.requires.intervals in
-    rw at (sym (found (races.is_unordered (timed_of c.timed-x.result)) (races.timed_by races.asked c.args.t.now.steps) c.loop-j.j (timed_of c.timed-y.result) c.loop-j.invariant (c.timed-y.ensures turns.Asked c.requires.intervals) (sym c.is_unordered.ensures ∙ c.if-is_unordered.true)))
+    rw at (sym (found (races.is_unordered (timed_of c.timed-x.result)) (races.timed_by races.asked c.args.t.now.steps) c.loop-j.j (timed_of c.timed-y.result) c.loop-j.invariant
+    (c.timed-y.ensures turns.Asked c.requires.intervals) (sym c.is_unordered.ensures ∙ c.if-is_unordered.true)))
 
 pub loop-j-preserved : goal.loop-j-preserved
-loop-j-preserved c = none_more (races.is_unordered (timed_of c.timed-x.result)) (races.timed_by races.asked c.args.t.now.steps) c.loop-j.j (timed_of c.timed-y.result) c.loop-j.invariant (c.timed-y.ensures turns.Asked c.requires.intervals) (sym c.is_unordered.ensures ∙ c.if-is_unordered.false)
+loop-j-preserved c = none_more (races.is_unordered (timed_of c.timed-x.result)) (races.timed_by races.asked c.args.t.now.steps) c.loop-j.j (timed_of c.timed-y.result) c.loop-j.invariant
+    (c.timed-y.ensures turns.Asked c.requires.intervals) (sym c.is_unordered.ensures ∙ c.if-is_unordered.false)
 
 pub returns : goal.returns
 returns c =

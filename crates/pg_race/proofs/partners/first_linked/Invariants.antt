@@ -8,7 +8,8 @@ use Rattle.pg_race.proofs.partners.first_linked.Given as goal
 abbrev pub invariant-loop-at : goal.invariant-loop-at
 invariant-loop-at l = record {
   within : l.at ≤ length l.links.links.items;
-  found : find (is_unordered_at (races.timed_by races.asked l.t.steps) (timed_of l.x)) (linked l.links.links.items l.at) ≡ find (is_unordered_at (races.timed_by races.asked l.t.steps) (timed_of l.x)) (linked l.links.links.items l.from);
+  found : find (is_unordered_at (races.timed_by races.asked l.t.steps) (timed_of l.x)) (linked l.links.links.items l.at)
+      ≡ find (is_unordered_at (races.timed_by races.asked l.t.steps) (timed_of l.x)) (linked l.links.links.items l.from);
 }
 
 abbrev pub decreases-loop-at : goal.decreases-loop-at

@@ -22,7 +22,8 @@ returns-in-Some c =
     let x = timed_of c.timed-x.result in
     let a = c.in-Some.access in
     c.first_at.ensures
-    ∙ same_first (λ (y : Timed Step). any_byte (λ b. accesses_byte b y.did && races.is_unordered x y) (range_of a).start a.bytes) (races.is_unordered x) (any_is_whole x a (sym c.access.ensures ∙ c.in-Some.is)) 0 ys
+    ∙ same_first (λ (y : Timed Step). any_byte (λ b. accesses_byte b y.did && races.is_unordered x y) (range_of a).start a.bytes) (races.is_unordered x)
+    (any_is_whole x a (sym c.access.ensures ∙ c.in-Some.is)) 0 ys
     ∙ sym (ap (partner_of ys) (c.timed-x.ensures turns.Asked c.requires.intervals))
 
 pub returns-in-None : goal.returns-in-None

@@ -6,4 +6,5 @@ use Rattle.pg_reference.specs.Paths.{accesses_with}
 use Rattle.pg_reference.proofs.apart.store_on_loads.Given as goal
 
 abbrev pub invariant-loop-i : goal.invariant-loop-i
-invariant-loop-i l = list_any (stores_on (accesses_with l.accesses l.ats)) (accesses_with l.accesses l.ats) ≡ list_any (loads_stored (accesses_with l.accesses l.ats)) (accesses_with (drop l.i l.accesses) (drop l.i l.ats))
+invariant-loop-i l = list_any (stores_on (accesses_with l.accesses l.ats)) (accesses_with l.accesses l.ats)
+    ≡ list_any (loads_stored (accesses_with l.accesses l.ats)) (accesses_with (drop l.i l.accesses) (drop l.i l.ats))

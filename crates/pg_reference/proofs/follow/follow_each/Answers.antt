@@ -11,5 +11,6 @@ returns-in-None c =
 
 pub loop-i-preserved : goal.loop-i-preserved
 loop-i-preserved c =
-    followed_next c.args.p.now c.args.machine.now.state c.args.t.0 c.args.accesses.now c.loop-i.i c.rooted_at-access.result c.args.ats.now.items c.loop-i.ats.items c.push.new.self.items c.in-Some.at c.rooted_at-access.ensures
+    followed_next c.args.p.now c.args.machine.now.state c.args.t.0 c.args.accesses.now c.loop-i.i c.rooted_at-access.result c.args.ats.now.items c.loop-i.ats.items c.push.new.self.items
+    c.in-Some.at c.rooted_at-access.ensures
     (c.follow.ensures ∙ ap (option_map (along (offsets_of c.rooted_at-access.result.path.loads))) c.in-Some.is) c.in_ok-push-in-Some.ensures.items c.loop-i.invariant

@@ -4,4 +4,5 @@ use Rattle.pg_reference.proofs.Seeks.{none_found}
 use Rattle.pg_reference.proofs.seek.none_known.Goals as goal
 
 pub returns : goal.returns
-returns c = λ gated sums. none_found c.args.p.now gated sums c.in_ok-unsought.field-0.items c.new.result.items (c.in_ok-unsought.ensures ∙ ap (λ n. replicate n Unsought) c.block_count.ensures.count)
+returns c = λ gated sums. none_found c.args.p.now gated sums c.in_ok-unsought.field-0.items c.new.result.items
+    (c.in_ok-unsought.ensures ∙ ap (λ n. replicate n Unsought) c.block_count.ensures.count)

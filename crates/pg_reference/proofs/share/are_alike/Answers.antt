@@ -5,7 +5,8 @@ use Rattle.pg_reference.proofs.Frees.{alike_next}
 use Rattle.pg_reference.proofs.share.are_alike.Goals as goal
 
 pub loop-k-preserved : goal.loop-k-preserved
-loop-k-preserved c = alike_next c.from-before.result.now c.from-last.result.now c.loop-k.k c.loop-k.invariant (sym c.at_if-x.ensures ∙ c.is_same-same.ensures c.if-not-same.false ∙ c.at_if-y.ensures)
+loop-k-preserved c = alike_next c.from-before.result.now c.from-last.result.now c.loop-k.k c.loop-k.invariant
+    (sym c.at_if-x.ensures ∙ c.is_same-same.ensures c.if-not-same.false ∙ c.at_if-y.ensures)
 
 pub returns : goal.returns
 returns c = λ e k lt.

@@ -8,4 +8,5 @@ use Rattle.pg_rules.specs.Earliest.{earliest}
 use Rattle.pg_rules.proofs.starts.doubled_names.Given as goal
 
 abbrev pub invariant-loop-name : goal.invariant-loop-name
-invariant-loop-name l = (all : List Name) → ((text : List ℕ) → known_place l.starts text ≡ first_start all text) → l.found ≡ earliest (flat_map (doubled all) (names_behind (take l.name-index l.names)))
+invariant-loop-name l = (all : List Name) → ((text : List ℕ) → known_place l.starts text ≡ first_start all text)
+    → l.found ≡ earliest (flat_map (doubled all) (names_behind (take l.name-index l.names)))

@@ -12,5 +12,6 @@ loop-field-init c = refl
 
 pub loop-field-preserved : goal.loop-field-preserved
 loop-field-preserved c =
-    row_step (void_part (named_types c.args.types.now)) ty_of c.args.fields.now c.loop-field.field-index c.field-item.result c.field-item.result c.loop-field.found c.in_ok-void_part.field-0 c.earlier-found.result
+    row_step (void_part (named_types c.args.types.now)) ty_of c.args.fields.now c.loop-field.field-index c.field-item.result c.field-item.result c.loop-field.found c.in_ok-void_part.field-0
+    c.earlier-found.result
     c.loop-field-test.true c.field-item.is c.loop-field.invariant c.in_ok-void_part.ensures.place c.earlier-found.ensures

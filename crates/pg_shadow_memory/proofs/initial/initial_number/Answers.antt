@@ -18,6 +18,7 @@ overflow_add-number c = let s = digits_small c.loop-k.number c.loop-k.k (omega a
 
 pub loop-k-preserved : goal.loop-k-preserved
 loop-k-preserved c = record {
-  value = digit_next (initial_byte c.args.p.now.globals) c.args.start c.args.count c.loop-k.k c.loop-k.number c.initial_byte-byte.result (omega arith) c.loop-k.invariant.value c.initial_byte-byte.ensures;
+  value = digit_next (initial_byte c.args.p.now.globals) c.args.start c.args.count c.loop-k.k c.loop-k.number c.initial_byte-byte.result
+      (omega arith) c.loop-k.invariant.value c.initial_byte-byte.ensures;
   small = digit_small c.loop-k.number c.initial_byte-byte.result c.loop-k.k c.loop-k.invariant.small (omega (arith, c.initial_byte-byte.type_inv));
 }

@@ -12,7 +12,8 @@ returns-in-Initial-clause-node c =
     let ms = c.added.new.nodes in
     let b = c.args.byte in
     ok_both c.added.result _ _ _
-    (λ k below value. subst (λ (s : ByteSource). IsByteNode ms k (byte_shadow p ns b s)) (sym c.in-Initial.is) (initial_node p ns ms b c.initial_byte.result k c.initial_byte.ensures (omega (arith, c.initial_byte.type_inv)) below value))
+    (λ k below value. subst (λ (s : ByteSource). IsByteNode ms k (byte_shadow p ns b s)) (sym c.in-Initial.is)
+    (initial_node p ns ms b c.initial_byte.result k c.initial_byte.ensures (omega (arith, c.initial_byte.type_inv)) below value))
     c.added.ensures.is c.added.ensures.value
 
 pub returns-in-Part-clause-node : goal.returns-in-Part-clause-node

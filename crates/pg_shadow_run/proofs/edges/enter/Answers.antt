@@ -29,6 +29,7 @@ returns-clause-value c =
     let from = c.args.from.0 in
     let rs = registers_by old c.args.registers.now in
     c.set_phis.ensures.value new
-    ∙ ap (λ (zs : List Shadow). set_phis zs c.phis-phis.result.now (registers_by new c.as_slice.result.now)) (registers_kept old new c.args.registers.now c.phi_sources.ensures.grew c.requires.sources)
+    ∙ ap (λ (zs : List Shadow). set_phis zs c.phis-phis.result.now (registers_by new c.as_slice.result.now))
+    (registers_kept old new c.args.registers.now c.phi_sources.ensures.grew c.requires.sources)
     ∙ ap (λ (zs : List Shadow). set_phis rs c.phis-phis.result.now zs) (ap (registers_by new) c.as_slice.ensures.value ∙ c.in_ok-sources.ensures.value)
     ∙ ap (λ (xs : List Instr). set_phis rs xs (map (phi_shadow p rs from) xs)) c.phis-phis.ensures.phis

@@ -1,7 +1,8 @@
-use Rattle.std.proofs.Common.{◌∷◌, [], ◌++◌, List, length, ap, ◌∙◌, subst, sym}
+use Rattle.std.proofs.Common.{◌∷◌, [], ◌++◌, List, Option, ap, ◌∙◌}
 use Rattle.pg_ir.specs.declared.instr.Instr.{Instr}
+use Rattle.pg_ir.specs.declared.value.Value.{Value}
 use Rattle.pg_closed.specs.Shadows.{Shadow}
-use Rattle.pg_closed.specs.Known.{phi_shadow}
+use Rattle.pg_closed.specs.Known.{optional_shadow, phi_shadow}
 use Rattle.pg_sources.proofs.Grows.{grew_then}
 use Rattle.pg_shadow_run.specs.Sourced.{registers_by}
 use Rattle.pg_shadow_run.proofs.Kept.{registers_kept}
@@ -18,10 +19,11 @@ loop-i-preserved c =
     let f = phi_shadow p (registers_by first c.args.registers.now) c.args.from in
     let so_far = registers_by old c.loop-i.sources.items in
     record {
-      grew = grew_then first old c.push_phi.new.nodes c.loop-i.invariant.grew c.push_phi.ensures.grew;
-      is = c.in_ok-push_phi.ensures.is;
+      grew = grew_then first old c.push_optional.new.nodes c.loop-i.invariant.grew c.push_optional.ensures.grew;
+      is = c.in_ok-push_optional.ensures.is;
       value = one_pushed f xs i c.index-phis-i.result so_far _ _ c.loop-i-test.true
-          (c.in_ok-push_phi.ensures.value
+          (c.in_ok-push_optional.ensures.value
+          ∙ ap (λ (v : Option Value). so_far ++ optional_shadow p (registers_by old c.args.registers.now) v ∷ []) c.phi_operand-value.ensures
           ∙ ap (λ (rs : List Shadow). so_far ++ phi_shadow p rs c.args.from c.index-phis-i.result ∷ []) (registers_kept first old c.args.registers.now c.loop-i.invariant.grew c.requires.sources)
           ∙ ap (λ (x : Instr). so_far ++ f x ∷ []) c.index-phis-i.is)
           c.loop-i.invariant.value;

@@ -8,5 +8,6 @@ abbrev pub invariant-loop-i : goal.invariant-loop-i
 invariant-loop-i l = record {
   grew : Grew l.fn.nodes l.nodes;
   is : AreSources (length l.nodes) l.sources.items;
-  value : registers_by l.nodes l.sources.items ++ map (phi_shadow l.p (registers_by l.fn.nodes l.registers) l.from) (drop l.i l.phis) ≡ map (phi_shadow l.p (registers_by l.fn.nodes l.registers) l.from) l.phis;
+  value : registers_by l.nodes l.sources.items ++ map (phi_shadow l.p (registers_by l.fn.nodes l.registers) l.from) (drop l.i l.phis)
+      ≡ map (phi_shadow l.p (registers_by l.fn.nodes l.registers) l.from) l.phis;
 }

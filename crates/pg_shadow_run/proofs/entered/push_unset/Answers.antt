@@ -11,7 +11,8 @@ pub returns-clause-is : goal.returns-clause-is
 returns-clause-is c =
     let new = c.unset.new.nodes in
     let items = c.args.sources.now.items in
-    on_ok_weaker c.push_each.result (λ e. subst (λ (l : List Source). AreSources (length new) l) (sym e) (blanks_are (length new) items c.in_ok-blank.blank c.args.count (sources_kept c.args.nodes.now new items c.unset.ensures.grew c.requires) c.in_ok-blank.ensures.is)) c.push_each.ensures
+    on_ok_weaker c.push_each.result (λ e. subst (λ (l : List Source). AreSources (length new) l) (sym e)
+    (blanks_are (length new) items c.in_ok-blank.blank c.args.count (sources_kept c.args.nodes.now new items c.unset.ensures.grew c.requires) c.in_ok-blank.ensures.is)) c.push_each.ensures
 
 pub returns-clause-value : goal.returns-clause-value
 returns-clause-value c =

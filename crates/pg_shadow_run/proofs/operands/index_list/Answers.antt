@@ -14,7 +14,8 @@ loop-index-init c =
 pub loop-index-preserved : goal.loop-index-preserved
 loop-index-preserved c =
     let none : Index = record { value = Register 0; width = W1; scale = Times 0 } in
-    one_pushed (λ (i : Index). i.value) c.args.indices.now c.loop-index.index-index none c.loop-index.list.items c.push-in-loop-index.new.self.items _ c.loop-index-test.true c.in_ok-push-2.ensures.items c.loop-index.invariant
+    one_pushed (λ (i : Index). i.value) c.args.indices.now c.loop-index.index-index none c.loop-index.list.items c.push-in-loop-index.new.self.items _ c.loop-index-test.true
+    c.in_ok-push-2.ensures.items c.loop-index.invariant
 
 pub returns : goal.returns
 returns c = all_pushed (λ (i : Index). i.value) c.args.indices.now c.loop-index.index-index c.loop-index.list.items _ c.loop-index-test.false c.loop-index.invariant

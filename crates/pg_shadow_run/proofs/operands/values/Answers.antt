@@ -18,6 +18,7 @@ loop-arg-preserved c =
       grew = grew_then first old c.push_optional.new.nodes c.loop-arg.invariant.grew c.push_optional.ensures.grew;
       is = c.in_ok-push_optional.ensures.is;
       value = one_pushed (shadow_of p (registers_by first c.args.registers.now)) xs i (Register 0) (registers_by old c.loop-arg.sources.items) _ _ c.loop-arg-test.true
-          (c.in_ok-push_optional.ensures.value ∙ ap (λ (rs : List Shadow). registers_by old c.loop-arg.sources.items ++ shadow_of p rs (slice_index_or xs i (Register 0)) ∷ []) (registers_kept first old c.args.registers.now c.loop-arg.invariant.grew c.requires.sources))
+          (c.in_ok-push_optional.ensures.value ∙ ap (λ (rs : List Shadow). registers_by old c.loop-arg.sources.items ++ shadow_of p rs (slice_index_or xs i (Register 0)) ∷ [])
+          (registers_kept first old c.args.registers.now c.loop-arg.invariant.grew c.requires.sources))
           c.loop-arg.invariant.value;
     }

@@ -8,5 +8,6 @@ abbrev pub invariant-loop-arg : goal.invariant-loop-arg
 invariant-loop-arg l = record {
   grew : Grew l.fn.nodes l.nodes;
   is : AreSources (length l.nodes) l.sources.items;
-  value : registers_by l.nodes l.sources.items ++ map (shadow_of l.p (registers_by l.fn.nodes l.registers)) (drop l.arg-index l.args) ≡ map (shadow_of l.p (registers_by l.fn.nodes l.registers)) l.args;
+  value : registers_by l.nodes l.sources.items ++ map (shadow_of l.p (registers_by l.fn.nodes l.registers)) (drop l.arg-index l.args)
+      ≡ map (shadow_of l.p (registers_by l.fn.nodes l.registers)) l.args;
 }

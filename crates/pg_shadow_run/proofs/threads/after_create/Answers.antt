@@ -6,4 +6,5 @@ use Rattle.pg_shadow_run.proofs.threads.after_create.Goals as goal
 
 pub returns-clause-value : goal.returns-clause-value
 returns-clause-value c extents h =
-    on_ok_weaker c.push_thread.result (λ e. e ∙ create_is c.args.p.now c.args.e c.args.e.kind (threads_by c.args.nodes.now c.args.threads.now.items extents) c.requires.kind) (c.push_thread.ensures.value extents h)
+    on_ok_weaker c.push_thread.result (λ e. e ∙ create_is c.args.p.now c.args.e c.args.e.kind (threads_by c.args.nodes.now c.args.threads.now.items extents) c.requires.kind)
+    (c.push_thread.ensures.value extents h)

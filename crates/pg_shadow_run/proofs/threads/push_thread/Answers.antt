@@ -10,7 +10,8 @@ pub returns-clause-is : goal.returns-clause-is
 returns-clause-is c =
     let new = c.new.new.nodes in
     let items = c.args.threads.now.items in
-    subst (λ (ts : List CallList). AreThreads (length new) ts) (sym c.in_ok-push.ensures.items) (threads_push (length new) items c.in_ok-thread.thread (threads_stay c.args.nodes.now new items c.new.ensures.grew c.requires.sources) c.in_ok-thread.ensures.is)
+    subst (λ (ts : List CallList). AreThreads (length new) ts) (sym c.in_ok-push.ensures.items)
+    (threads_push (length new) items c.in_ok-thread.thread (threads_stay c.args.nodes.now new items c.new.ensures.grew c.requires.sources) c.in_ok-thread.ensures.is)
 
 pub returns-clause-value : goal.returns-clause-value
 returns-clause-value c extents h =

@@ -9,7 +9,8 @@ pub returns-then-is_instance-clause-value : goal.returns-then-is_instance-clause
 returns-then-is_instance-clause-value c p ns b =
     let s = c.args.step in
     if_some_from (landmark_at c.args.r.now c.args.n) _ (λ l e free.
-    instance_freed c.forget.result s.freed s.pinned c.args.n l.region (shadows_of p ns c.args.memory.now) (shadows_of p ns c.forget.new.memory) b (sym c.is_instance.ensures ∙ c.if-is_instance.true) free (rw e at (c.forget.ensures.value p ns)))
+    instance_freed c.forget.result s.freed s.pinned c.args.n l.region (shadows_of p ns c.args.memory.now) (shadows_of p ns c.forget.new.memory) b
+    (sym c.is_instance.ensures ∙ c.if-is_instance.true) free (rw e at (c.forget.ensures.value p ns)))
 
 pub returns-else-is_instance-clause-value : goal.returns-else-is_instance-clause-value
 returns-else-is_instance-clause-value c p ns b =

@@ -17,5 +17,6 @@ returns-clause-value c =
     let memory = bytes.shadows_of c.args.p.now c.args.nodes.now c.args.memory.now in
     IfOk-weaker c.within.result _ _ (λ r e.
     e
-    ∙ ap (λ (x : shadows.Shadow). shadows.cut (λ k. k % modulus w) x) (c.loaded.ensures.value c.load.new.nodes ∙ c.in_ok-number.ensures.value ∙ ap (λ (s : ℕ). shadows.loaded memory s a.bytes) c.place.ensures.place)
+    ∙ ap (λ (x : shadows.Shadow). shadows.cut (λ k. k % modulus w) x)
+    (c.loaded.ensures.value c.load.new.nodes ∙ c.in_ok-number.ensures.value ∙ ap (λ (s : ℕ). shadows.loaded memory s a.bytes) c.place.ensures.place)
     ∙ sym (ap (λ (b : Bool). load_of b c.args.n w a memory) c.if-not-exact.false)) c.within.ensures.value

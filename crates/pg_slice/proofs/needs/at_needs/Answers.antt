@@ -15,14 +15,14 @@ pub address-requires-clause-access : goal.address-requires-clause-access
 address-requires-clause-access c = c.requires.access
 
 pub step_needs-requires : goal.step_needs-requires
-step_needs-requires c = subst (λ (k : StepKind). AreEnough c.args.op.now k 2) (sym c.requires.kind.1) (access_enough c.args.op.now c.requires.kind.0)
+step_needs-requires c = subst (λ (k : StepKind). AreEnough c.args.s.now.op.now k 2) (sym c.requires.kind.1) (access_enough c.args.s.now.op.now c.requires.kind.0)
 
 pub returns-clause-adds : goal.returns-clause-adds
 returns-clause-adds c = λ ns g.
-    let p = c.args.p.now in
-    let o = c.args.op.now in
+    let p = c.args.s.now.p.now in
+    let o = c.args.s.now.op.now in
     let s = c.in_ok-at.at in
-    let regs = c.args.registers.now in
+    let regs = c.args.s.now.registers.now in
     let first = c.args.nodes.now in
     let second = c.address.new.nodes in
     let k = c.requires.kind in
@@ -30,4 +30,5 @@ returns-clause-adds c = λ ns g.
     let e = later (λ (rs : List Shadow). operand_at p rs o (address_index o)) first second ns s regs c.address.ensures.grew g c.in_ok-at.ensures.is c.requires.sources c.in_ok-at.ensures.value in
     subst (λ (y : StepKind). Adds ns (step_needs c.args.fixed (operand_shadows p (registers_by ns regs) o) o y) c.args.asked.now c.step_needs.new.asked) (sym k.1)
     (subst (λ (needs : List Need). Adds ns needs c.args.asked.now c.step_needs.new.asked) (access_same c.args.fixed (shadow_by ns s) (operand_shadows p (registers_by ns regs) o) o k.0 e)
-    (subst (λ (y : StepKind). Adds ns (step_needs c.args.fixed (shadow_by ns s ∷ shadow_by ns s ∷ []) o y) c.args.asked.now c.step_needs.new.asked) k.1 (c.in_ok-step_needs.ensures ns (is, (is, tt)))))
+    (subst (λ (y : StepKind). Adds ns (step_needs c.args.fixed (shadow_by ns s ∷ shadow_by ns s ∷ []) o y) c.args.asked.now c.step_needs.new.asked) k.1
+    (c.in_ok-step_needs.ensures ns (is, (is, tt)))))

@@ -14,22 +14,22 @@ use Rattle.pg_slice.proofs.needs.branch_needs.Goals as goal
 
 pub returns-then-not-fixed-clause-adds : goal.returns-then-not-fixed-clause-adds
 returns-then-not-fixed-clause-adds c = λ ns g.
-    let ss = operand_shadows c.args.p.now (registers_by ns c.args.registers.now) c.args.op.now in
-    subst (λ (y : StepKind). Adds ns (step_needs c.args.fixed ss c.args.op.now y) c.args.asked.now c.args.asked.now) (sym c.requires.kind.1)
+    let ss = operand_shadows c.args.s.now.p.now (registers_by ns c.args.s.now.registers.now) c.args.s.now.op.now in
+    subst (λ (y : StepKind). Adds ns (step_needs c.args.fixed ss c.args.s.now.op.now y) c.args.asked.now c.args.asked.now) (sym c.requires.kind.1)
     (rw c.if-not-fixed.true (adds_none ns c.args.asked.now))
 
 pub operand-requires-clause-asked : goal.operand-requires-clause-asked
-operand-requires-clause-asked c = branch_asked c.args.op.now c.requires.fits
+operand-requires-clause-asked c = branch_asked c.args.s.now.op.now c.requires.fits
 
 pub step_needs-requires : goal.step_needs-requires
-step_needs-requires c = subst (λ (k : StepKind). AreEnough c.args.op.now k 1) (sym c.requires.kind.1) (omega arith)
+step_needs-requires c = subst (λ (k : StepKind). AreEnough c.args.s.now.op.now k 1) (sym c.requires.kind.1) (omega arith)
 
 pub returns-clause-adds : goal.returns-clause-adds
 returns-clause-adds c = λ ns g.
-    let p = c.args.p.now in
-    let o = c.args.op.now in
+    let p = c.args.s.now.p.now in
+    let o = c.args.s.now.op.now in
     let s = c.in_ok-on.on in
-    let regs = c.args.registers.now in
+    let regs = c.args.s.now.registers.now in
     let first = c.args.nodes.now in
     let second = c.operand.new.nodes in
     let k = c.requires.kind in

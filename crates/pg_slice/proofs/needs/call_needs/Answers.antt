@@ -10,33 +10,35 @@ use Rattle.pg_sources.specs.Sources.{shadow_by}
 use Rattle.pg_sources.proofs.Grows.{grew_then}
 use Rattle.pg_trace.specs.declared.step.StepKind.{StepKind}
 use Rattle.pg_slice.proofs.Adding.{is_later, later}
-use Rattle.pg_slice.proofs.Needing.{call_asked, call_enough, event_asks_same}
+use Rattle.pg_shadow_run.proofs.Gives.{call_asked}
+use Rattle.pg_slice.proofs.Needing.{call_enough, event_asks_same}
 use Rattle.pg_slice.proofs.needs.call_needs.Goals as goal
 
 pub operand-requires-clause-asked : goal.operand-requires-clause-asked
-operand-requires-clause-asked c = call_asked c.args.op.now 0 c.requires.call
+operand-requires-clause-asked c = call_asked c.args.s.now.op.now 0 c.requires.call
 
 pub operand-requires-2-clause-asked : goal.operand-requires-2-clause-asked
-operand-requires-2-clause-asked c = call_asked c.args.op.now 1 c.requires.call
+operand-requires-2-clause-asked c = call_asked c.args.s.now.op.now 1 c.requires.call
 
 pub operand-requires-3-clause-asked : goal.operand-requires-3-clause-asked
-operand-requires-3-clause-asked c = call_asked c.args.op.now 2 c.requires.call
+operand-requires-3-clause-asked c = call_asked c.args.s.now.op.now 2 c.requires.call
 
 pub operand-requires-2-clause-sources : goal.operand-requires-2-clause-sources
-operand-requires-2-clause-sources c = sources_kept c.args.nodes.now c.operand.new.nodes c.args.registers.now c.operand.ensures.grew c.requires.sources
+operand-requires-2-clause-sources c = sources_kept c.args.nodes.now c.operand.new.nodes c.args.s.now.registers.now c.operand.ensures.grew c.requires.sources
 
 pub operand-requires-3-clause-sources : goal.operand-requires-3-clause-sources
 operand-requires-3-clause-sources c =
-    sources_kept c.args.nodes.now c.operand-2.new.nodes c.args.registers.now (grew_then c.args.nodes.now c.operand.new.nodes c.operand-2.new.nodes c.operand.ensures.grew c.operand-2.ensures.grew) c.requires.sources
+    sources_kept c.args.nodes.now c.operand-2.new.nodes c.args.s.now.registers.now
+    (grew_then c.args.nodes.now c.operand.new.nodes c.operand-2.new.nodes c.operand.ensures.grew c.operand-2.ensures.grew) c.requires.sources
 
 pub step_needs-requires : goal.step_needs-requires
-step_needs-requires c = subst (λ (k : StepKind). AreEnough c.args.op.now k 3) (sym c.requires.kind.1) (call_enough c.args.op.now c.requires.kind.0)
+step_needs-requires c = subst (λ (k : StepKind). AreEnough c.args.s.now.op.now k 3) (sym c.requires.kind.1) (call_enough c.args.s.now.op.now c.requires.kind.0)
 
 pub returns-clause-adds : goal.returns-clause-adds
 returns-clause-adds c = λ ns g.
-    let p = c.args.p.now in
-    let o = c.args.op.now in
-    let regs = c.args.registers.now in
+    let p = c.args.s.now.p.now in
+    let o = c.args.s.now.op.now in
+    let regs = c.args.s.now.registers.now in
     let n0 = c.args.nodes.now in
     let n1 = c.operand.new.nodes in
     let n2 = c.operand-2.new.nodes in

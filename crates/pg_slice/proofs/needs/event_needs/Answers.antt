@@ -10,14 +10,15 @@ use Rattle.pg_slice.proofs.Needing.{is_call, no_call}
 use Rattle.pg_slice.proofs.needs.event_needs.Goals as goal
 
 pub call_needs-requires-clause-call : goal.call_needs-requires-clause-call
-call_needs-requires-clause-call c = is_call c.args.op.now (sym c.is_call.ensures ∙ c.if-is_call.true)
+call_needs-requires-clause-call c = is_call c.args.s.now.op.now (sym c.is_call.ensures ∙ c.if-is_call.true)
 
 pub call_needs-requires-clause-kind : goal.call_needs-requires-clause-kind
 call_needs-requires-clause-kind c = let k = c.requires.kind in (k.0, k.1)
 
 pub returns-else-is_call-clause-adds : goal.returns-else-is_call-clause-adds
 returns-else-is_call-clause-adds c = λ ns g.
-    let ss = operand_shadows c.args.p.now (registers_by ns c.args.registers.now) c.args.op.now in
+    let ss = operand_shadows c.args.s.now.p.now (registers_by ns c.args.s.now.registers.now) c.args.s.now.op.now in
     let k = c.requires.kind in
-    subst (λ (y : StepKind). Adds ns (step_needs false ss c.args.op.now y) c.args.asked.now c.args.asked.now) (sym k.1)
-    (subst (λ (needs : List Need). Adds ns needs c.args.asked.now c.args.asked.now) (sym (no_call false ss c.args.op.now k.0 (sym c.is_call.ensures ∙ c.if-is_call.false) k.2)) (adds_none ns c.args.asked.now))
+    subst (λ (y : StepKind). Adds ns (step_needs false ss c.args.s.now.op.now y) c.args.asked.now c.args.asked.now) (sym k.1)
+    (subst (λ (needs : List Need). Adds ns needs c.args.asked.now c.args.asked.now) (sym (no_call false ss c.args.s.now.op.now k.0 (sym c.is_call.ensures ∙ c.if-is_call.false) k.2))
+    (adds_none ns c.args.asked.now))

@@ -18,7 +18,8 @@ returns-in_ok-access_needs-clause-adds c =
     let k = c.args.k in
     each_region (λ (f : FreeRegion). option_map access_as c.access.result ≡ slice_get f.accesses k)
     (λ (f : FreeRegion). (ns : NodeList) (a : FreeAccess) → Grew c.access_needs.new.nodes ns → slice_get f.accesses k ≡ Some a →
-    Adds ns (path_needs (bytes.shadows_of c.args.p.now ns c.args.memory.now) (root_shadow c.args.p.now (registers_by ns c.args.registers.now) a.path.root) (offsets_of a.path.loads) a.at.pointers a.at.cells a.at.last) c.args.asked.now c.access_needs.new.asked)
+    Adds ns (path_needs (bytes.shadows_of c.args.frame.now.p.now ns c.args.frame.now.memory.now) (root_shadow c.args.frame.now.p.now (registers_by ns c.args.frame.now.registers.now) a.path.root)
+    (offsets_of a.path.loads) a.at.pointers a.at.cells a.at.last) c.args.asked.now c.access_needs.new.asked)
     (landmark_at c.args.r.now c.args.n)
     (λ f got ns a g at.
     let e = taken_out access_as c.access.result c.in-Some.access (slice_get f.accesses k) c.in-Some.is got in
@@ -30,5 +31,6 @@ returns-in_default-clause-adds c =
     let k = c.args.k in
     each_region (λ (f : FreeRegion). option_map access_as c.access.result ≡ slice_get f.accesses k)
     (λ (f : FreeRegion). (ns : NodeList) (a : FreeAccess) → Grew c.args.nodes.now ns → slice_get f.accesses k ≡ Some a →
-    Adds ns (path_needs (bytes.shadows_of c.args.p.now ns c.args.memory.now) (root_shadow c.args.p.now (registers_by ns c.args.registers.now) a.path.root) (offsets_of a.path.loads) a.at.pointers a.at.cells a.at.last) c.args.asked.now c.args.asked.now)
+    Adds ns (path_needs (bytes.shadows_of c.args.frame.now.p.now ns c.args.frame.now.memory.now) (root_shadow c.args.frame.now.p.now (registers_by ns c.args.frame.now.registers.now) a.path.root)
+    (offsets_of a.path.loads) a.at.pointers a.at.cells a.at.last) c.args.asked.now c.args.asked.now)
     (landmark_at c.args.r.now c.args.n) (λ f got ns a g at. absurd (not_there access_as c.access.result (slice_get f.accesses k) a c.in_default.is got at)) c.access.ensures.access

@@ -15,5 +15,7 @@ use Rattle.pg_slice.proofs.needs.region_needs.Given as goal
 abbrev pub invariant-loop-k : goal.invariant-loop-k
 invariant-loop-k l =
     Grew l.initial.nodes l.nodes
-    × ((ns : NodeList) (x : Seen) (f : FreeRegion) (done : Asked) → Grew l.nodes ns → registers_before x ≡ registers_by ns l.registers → x.before.bytes ≡ bytes.shadows_of l.p ns l.memory →
-    IfSome (landmark_at l.r l.n) (λ m. m.region ≡ Some f) → Adds ns (all_of (free_access_needs l.p x) (drop l.k f.accesses)) l.asked done → Adds ns (all_of (free_access_needs l.p x) f.accesses) l.initial.asked done)
+    × ((ns : NodeList) (x : Seen) (f : FreeRegion) (done : Asked) → Grew l.nodes ns → registers_before x ≡ registers_by ns l.frame.registers.now
+    → x.before.bytes ≡ bytes.shadows_of l.frame.p.now ns l.frame.memory.now →
+    IfSome (landmark_at l.r l.n) (λ m. m.region ≡ Some f) → Adds ns (all_of (free_access_needs l.frame.p.now x) (drop l.k f.accesses)) l.asked done
+    → Adds ns (all_of (free_access_needs l.frame.p.now x) f.accesses) l.initial.asked done)

@@ -14,23 +14,24 @@ use Rattle.pg_slice.proofs.needs.size_needs.Goals as goal
 
 pub returns-then-not-is_malloc-clause-adds : goal.returns-then-not-is_malloc-clause-adds
 returns-then-not-is_malloc-clause-adds c = λ ns g.
-    let ss = operand_shadows c.args.p.now (registers_by ns c.args.registers.now) c.args.op.now in
+    let ss = operand_shadows c.args.s.now.p.now (registers_by ns c.args.s.now.registers.now) c.args.s.now.op.now in
     let k = c.requires.kind in
-    subst (λ (y : StepKind). Adds ns (step_needs false ss c.args.op.now y) c.args.asked.now c.args.asked.now) (sym k.2)
-    (subst (λ (needs : List Need). Adds ns needs c.args.asked.now c.args.asked.now) (sym (no_size false ss c.args.op.now k.0 k.1 (sym c.is_malloc.ensures ∙ c.if-not-is_malloc.true))) (adds_none ns c.args.asked.now))
+    subst (λ (y : StepKind). Adds ns (step_needs false ss c.args.s.now.op.now y) c.args.asked.now c.args.asked.now) (sym k.2)
+    (subst (λ (needs : List Need). Adds ns needs c.args.asked.now c.args.asked.now) (sym (no_size false ss c.args.s.now.op.now k.0 k.1 (sym c.is_malloc.ensures ∙ c.if-not-is_malloc.true)))
+    (adds_none ns c.args.asked.now))
 
 pub operand-requires-clause-asked : goal.operand-requires-clause-asked
-operand-requires-clause-asked c = malloc_asked c.args.op.now (sym c.is_malloc.ensures ∙ c.if-not-is_malloc.false)
+operand-requires-clause-asked c = malloc_asked c.args.s.now.op.now (sym c.is_malloc.ensures ∙ c.if-not-is_malloc.false)
 
 pub step_needs-requires : goal.step_needs-requires
-step_needs-requires c = subst (λ (k : StepKind). AreEnough c.args.op.now k 1) (sym c.requires.kind.2) (λ h. omega arith)
+step_needs-requires c = subst (λ (k : StepKind). AreEnough c.args.s.now.op.now k 1) (sym c.requires.kind.2) (λ h. omega arith)
 
 pub returns-clause-adds : goal.returns-clause-adds
 returns-clause-adds c = λ ns g.
-    let p = c.args.p.now in
-    let o = c.args.op.now in
+    let p = c.args.s.now.p.now in
+    let o = c.args.s.now.op.now in
     let s = c.in_ok-size.size in
-    let regs = c.args.registers.now in
+    let regs = c.args.s.now.registers.now in
     let first = c.args.nodes.now in
     let second = c.operand.new.nodes in
     let k = c.requires.kind in

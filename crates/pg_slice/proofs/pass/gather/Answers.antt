@@ -13,10 +13,11 @@ loop-n-init c =
     let g : Gathered = record { sources = c.in_ok-sources.sources; asked = c.new.result; prints = c.new-2.result } in
     let ns = c.start.new.nodes in (
       c.in_ok-sources.ensures.is,
-      earlier_none c.args.t.now.steps c.new-2.result c.new-2.ensures.prints c.new-2.ensures.owners,
+      earlier_none c.args.run.now.t.now.steps c.new-2.result c.new-2.ensures.prints c.new-2.ensures.owners,
       none_named (length ns) c.new.result.checks.items c.new.ensures.checks,
       λ regions gated input marks.
-          passed_none (reference_of c.args.p.now regions gated input c.args.t.now.steps) (taken_by c.args.d.now) ns g (c.in_ok-sources.ensures.knows (taken_by c.args.d.now).pinned) c.new.ensures.missing c.new.ensures.checks c.new-2.ensures.prints c.new-2.ensures.owners,
+          passed_none (reference_of c.args.run.now.p.now regions gated input c.args.run.now.t.now.steps) (taken_by c.args.d.now) ns g
+          (c.in_ok-sources.ensures.knows (taken_by c.args.d.now).pinned) c.new.ensures.missing c.new.ensures.checks c.new-2.ensures.prints c.new-2.ensures.owners,
     )
 
 pub loop-n-preserved : goal.loop-n-preserved
@@ -26,5 +27,6 @@ loop-n-preserved c =
 
 pub returns-clause-passed : goal.returns-clause-passed
 returns-clause-passed c = λ regions gated input marks.
-    let q : c.loop-n.n ≡ length c.args.t.now.steps = omega (arith, c.loop-n.auto.n-end, c.loop-n-test.false, c.len-n-end.ensures) in
-    subst (λ (k : ℕ). HasPassed (reference_of c.args.p.now regions gated input c.args.t.now.steps) (taken_by c.args.d.now) k c.loop-n.nodes c.loop-n.g) q (c.loop-n.invariant.3 regions gated input marks)
+    let q : c.loop-n.n ≡ length c.args.run.now.t.now.steps = omega (arith, c.loop-n.auto.n-end, c.loop-n-test.false, c.len-n-end.ensures) in
+    subst (λ (k : ℕ). HasPassed (reference_of c.args.run.now.p.now regions gated input c.args.run.now.t.now.steps) (taken_by c.args.d.now) k c.loop-n.nodes c.loop-n.g) q
+    (c.loop-n.invariant.3 regions gated input marks)

@@ -12,7 +12,7 @@ use Rattle.pg_slice.proofs.pass.gather.Given as goal
 abbrev pub invariant-loop-n : goal.invariant-loop-n
 invariant-loop-n l =
     AreKept (length l.nodes) l.g.sources
-    × AreEarlier l.t.steps l.n l.g.prints
+    × AreEarlier l.run.t.now.steps l.n l.g.prints
     × AreNamed (length l.nodes) l.g.asked.checks.items
-    × ((regions : Regions) (gated : List InstrId) (input : List ℤ) → HasLandmarks (reference_of l.p regions gated input l.t.steps) l.r →
-    HasPassed (reference_of l.p regions gated input l.t.steps) (taken_by l.d) l.n l.nodes l.g)
+    × ((regions : Regions) (gated : List InstrId) (input : List ℤ) → HasLandmarks (reference_of l.run.p.now regions gated input l.run.t.now.steps) l.run.r.now →
+    HasPassed (reference_of l.run.p.now regions gated input l.run.t.now.steps) (taken_by l.d) l.n l.nodes l.g)

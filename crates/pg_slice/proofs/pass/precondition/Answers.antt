@@ -1,5 +1,5 @@
 use Rattle.std.proofs.Common.{◌≡◌, ◌++◌, ◌∷◌, [], length, ap, sym, ◌∙◌, arith}
-use Rattle.pg_intervals.proofs.Walk.{take_get}
+use Rattle.pg_plans.proofs.Walks.{take_get}
 use Rattle.pg_needs.specs.Asks.{all_hold}
 use Rattle.pg_nodes.specs.Nodes.{Conditions}
 use Rattle.pg_slice.proofs.Passing.{check_in, taken_all}

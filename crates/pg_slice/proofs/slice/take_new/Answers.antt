@@ -2,7 +2,7 @@ use Rattle.std.proofs.Common.{refl, ap, sym, ◌∙◌, subst, arith, inl}
 use Rattle.std.specs.Prelude.{Contains}
 use Rattle.pg_decisions.specs.Steps.{left_by, taken_by}
 use Rattle.std.proofs.lemmas.Bool.{false≢true}
-use Rattle.pg_least.proofs.Zips.{none_in}
+use Rattle.pg_paths.proofs.Elements.{none_in}
 use Rattle.pg_slice.proofs.Passing.{taken_all}
 use Rattle.pg_slice.proofs.Slicing.{first_false, got_in, or_less, second_false, taken_more}
 use Rattle.pg_slice.proofs.slice.take_new.Goals as goal
@@ -26,7 +26,8 @@ loop-i-preserved c =
       λ y h. k.kept y (v.2 y h),
       λ y h. got_in (taken_by first) (taken_by old) missing i x y c.decision_at.ensures (v.3 y) (k.only y h),
       λ e. k.same (first_false c.take_one-took.result c.loop-i.any (sym any ∙ e)) ∙ v.4 (second_false c.take_one-took.result c.loop-i.any (sym any ∙ e)),
-      λ e. or_less c.take_one-took.result c.loop-i.any (left_by first) (left_by old) (left_by new) (λ t. k.less t) (λ t. ap left_by (k.same t)) (λ t. v.5 t) (λ t. ap left_by (v.4 t)) (sym any ∙ e),
+      λ e. or_less c.take_one-took.result c.loop-i.any (left_by first) (left_by old) (left_by new) (λ t. k.less t) (λ t. ap left_by (k.same t)) (λ t. v.5 t) (λ t. ap left_by (v.4 t))
+          (sym any ∙ e),
     )
 
 pub returns-clause-taken : goal.returns-clause-taken

@@ -13,7 +13,8 @@ returns-then-t-len-clause-is c =
     let old = c.args.nodes.now in
     let new = c.after_event.new.nodes in
     let calls = c.args.threads.now.items in
-    on_ok_weaker c.after_event.result (λ h. set_threads (length new) calls c.args.t c.after_event.new.self (threads_stay old new calls c.after_event.ensures.grew c.requires.sources) h) c.after_event.ensures.is
+    on_ok_weaker c.after_event.result (λ h. set_threads (length new) calls c.args.t c.after_event.new.self (threads_stay old new calls c.after_event.ensures.grew c.requires.sources) h)
+    c.after_event.ensures.is
 
 pub returns-then-t-len-clause-value : goal.returns-then-t-len-clause-value
 returns-then-t-len-clause-value c m pinned opens ks f k =

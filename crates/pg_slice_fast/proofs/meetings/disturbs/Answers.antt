@@ -8,7 +8,7 @@ use Rattle.pg_slice_fast.proofs.Spreading.{both_some}
 use Rattle.pg_slice_fast.proofs.meetings.disturbs.Goals as goal
 
 pub returns : goal.returns
-returns c = λ q. disturbs_by c.args.t.now.steps c.args.intervals.now c.requires.intervals c.args.r.now c.args.n c.args.y c.step-z.result c.step-z.ensures
+returns c = λ q. disturbs_by c.args.run.now.t.now.steps c.args.run.now.intervals.now c.requires.intervals c.args.run.now.r.now c.args.n c.args.y c.step-z.result c.step-z.ensures
     (c.are_together.ensures c.if-not-are_together.false)
-    (both_some {A = Landmark} {B = Landmark} (landmark_at c.args.r.now c.args.n) (landmark_at c.args.r.now c.args.y) c.region_meets.result
+    (both_some {A = Landmark} {B = Landmark} (landmark_at c.args.run.now.r.now c.args.n) (landmark_at c.args.run.now.r.now c.args.y) c.region_meets.result
     (λ (l k : Landmark). any_conflict (prints_in l.region) (print_of (access_of c.step-z.result) ++ prints_in k.region) ≡ true) q c.region_meets.ensures)

@@ -9,14 +9,14 @@ use Rattle.pg_slice_fast.proofs.Timing.{owed_bound, pin_by}
 use Rattle.pg_slice_fast.proofs.spread.asks_pin.Goals as goal
 
 pub returns-then-not-is_free : goal.returns-then-not-is_free
-returns-then-not-is_free c = λ q. owed_bound c.args.t.now.steps c.args.intervals.now c.requires.intervals c.args.r.now c.args.holders.now
+returns-then-not-is_free c = λ q. owed_bound c.args.run.now.t.now.steps c.args.run.now.intervals.now c.requires.intervals c.args.run.now.r.now c.args.holders.now
     (taken_by c.args.d.now) c.args.n c.step-x.result c.step-x.ensures c.requires.here
     (sym c.is_branch.ensures ∙ c.if-not-is_branch.false)
-    (subst (λ b. IfSome (landmark_at c.args.r.now c.args.n) (λ (l : Landmark). b ≡ is_some l.region)) c.if-not-is_free.true c.is_free.ensures.free)
+    (subst (λ b. IfSome (landmark_at c.args.run.now.r.now c.args.n) (λ (l : Landmark). b ≡ is_some l.region)) c.if-not-is_free.true c.is_free.ensures.free)
 
 pub returns-in-Some : goal.returns-in-Some
-returns-in-Some c = λ q. pin_by c.args.t.now.steps c.args.intervals.now c.requires.intervals c.args.r.now c.args.holders.now
+returns-in-Some c = λ q. pin_by c.args.run.now.t.now.steps c.args.run.now.intervals.now c.requires.intervals c.args.run.now.r.now c.args.holders.now
     (taken_by c.args.d.now) c.as_slice.result.now c.args.n c.step-x.result c.step-x.ensures c.requires.here
     (subst (λ l. AreLive c.args.holders.now (taken_by c.args.d.now) l) (sym c.as_slice.ensures.value) c.requires.live)
-    c.in-Some.rival (some_of c.disturbing.result c.in-Some.rival (λ y. (y < length c.args.t.now.steps) × (slice_index_or c.as_slice.result.now y false ≡ true)
-    × Disturbs c.args.r.now c.args.t.now.steps c.args.n y) c.disturbing.ensures c.in-Some.is)
+    c.in-Some.rival (some_of c.disturbing.result c.in-Some.rival (λ y. (y < length c.args.run.now.t.now.steps) × (slice_index_or c.as_slice.result.now y false ≡ true)
+    × Disturbs c.args.run.now.r.now c.args.run.now.t.now.steps c.args.n y) c.disturbing.ensures c.in-Some.is)

@@ -6,8 +6,8 @@ use Rattle.pg_slice_fast.proofs.spread.spread_along.Given as goal
 
 abbrev pub invariant-loop-n : goal.invariant-loop-n
 invariant-loop-n l =
-    AreOf (length l.t.steps) l.d
+    AreOf (length l.run.t.now.steps) l.d
     × AreLive l.holders (taken_by l.d) l.s.live.items
     × AreSettled l.holders (taken_by l.d) l.s.settled.items
     × (left_by l.d ≤ left_by l.initial.d)
-    × Widens l.r l.holders l.t.steps (taken_by l.initial.d) (taken_by l.d)
+    × Widens l.run.r.now l.holders l.run.t.now.steps (taken_by l.initial.d) (taken_by l.d)

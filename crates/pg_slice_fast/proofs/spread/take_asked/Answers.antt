@@ -4,9 +4,13 @@ use Rattle.pg_slice_fast.proofs.Spreading.{live_stays}
 use Rattle.pg_walk.proofs.Pinned.{pinned_more}
 use Rattle.pg_slice_fast.proofs.spread.take_asked.Goals as goal
 
-pub asks_exact-exact-requires-clause-live : goal.asks_exact-exact-requires-clause-live
-asks_exact-exact-requires-clause-live c = live_stays c.args.holders.now (taken_by c.args.d.now) (taken_by c.take_if.new.d) c.args.s.now.live.items c.take_if.ensures.kept c.requires.live
-
-pub asks_exact-exact-requires-clause-here : goal.asks_exact-exact-requires-clause-here
-asks_exact-exact-requires-clause-here c = pinned_more c.args.holders.now (taken_by c.args.d.now) (taken_by c.take_if.new.d)
-    (slice_index_or c.args.holders.now c.args.n 0) c.take_if.ensures.kept c.requires.here
+pub asks_exact-exact-requires : goal.asks_exact-exact-requires
+asks_exact-exact-requires c =
+    let asked = c.requires.asked in
+    record {
+      count = asked.count;
+      intervals = asked.intervals;
+      number = asked.number;
+      live = live_stays c.args.holders.now (taken_by c.args.d.now) (taken_by c.take_if.new.d) c.args.s.now.live.items c.take_if.ensures.kept asked.live;
+      here = pinned_more c.args.holders.now (taken_by c.args.d.now) (taken_by c.take_if.new.d) (slice_index_or c.args.holders.now c.args.n 0) c.take_if.ensures.kept asked.here;
+    }

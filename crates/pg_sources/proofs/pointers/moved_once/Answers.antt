@@ -11,4 +11,5 @@ returns-clause-value c =
     IfOk-weaker c.added.result _ _ (λ k h input.
     h input
     ∙ moved_is c.args.index _ _ _ (c.in_ok-delta.ensures.value input)
-    ∙ ap (λ word. moved_if c.args.index word (number_by c.args.nodes.now c.args.node input)) (number_kept c.args.nodes.now c.distance.new.nodes c.args.word input c.distance.ensures.grew c.requires.word)) c.added.ensures.value
+    ∙ ap (λ word. moved_if c.args.index word (number_by c.args.nodes.now c.args.node input))
+    (number_kept c.args.nodes.now c.distance.new.nodes c.args.word input c.distance.ensures.grew c.requires.word)) c.added.ensures.value

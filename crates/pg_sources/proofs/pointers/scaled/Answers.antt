@@ -8,11 +8,14 @@ use Rattle.pg_sources.proofs.Grows.{number_kept}
 use Rattle.pg_sources.proofs.pointers.scaled.Goals as goal
 
 times : (w : Width) (s : ℕ) (n wide scale : Option ℕ) → wide ≡ with_one n (λ m. Some (sign_extended w W64 (truncated w m))) → scale ≡ Some s →
-    with_both wide scale (λ x y. Some (product_of W64 (truncated W64 x) (truncated W64 y))) ≡ with_one n (λ m. Some (product_of W64 (truncated W64 (sign_extended w W64 (truncated w m))) (truncated W64 s)))
+    with_both wide scale (λ x y. Some (product_of W64 (truncated W64 x) (truncated W64 y)))
+    ≡ with_one n (λ m. Some (product_of W64 (truncated W64 (sign_extended w W64 (truncated w m))) (truncated W64 s)))
 times w s n wide scale e h =
-    ap (λ z. with_both wide z (λ x y. Some (product_of W64 (truncated W64 x) (truncated W64 y)))) h ∙ ap (λ z. with_both z (Some s) (λ x y. Some (product_of W64 (truncated W64 x) (truncated W64 y)))) e ∙ go n
+    ap (λ z. with_both wide z (λ x y. Some (product_of W64 (truncated W64 x) (truncated W64 y)))) h
+    ∙ ap (λ z. with_both z (Some s) (λ x y. Some (product_of W64 (truncated W64 x) (truncated W64 y)))) e ∙ go n
   where
-    go : (k : Option ℕ) → with_both (with_one k (λ m. Some (sign_extended w W64 (truncated w m)))) (Some s) (λ x y. Some (product_of W64 (truncated W64 x) (truncated W64 y))) ≡ with_one k (λ m. Some (product_of W64 (truncated W64 (sign_extended w W64 (truncated w m))) (truncated W64 s)))
+    go : (k : Option ℕ) → with_both (with_one k (λ m. Some (sign_extended w W64 (truncated w m)))) (Some s) (λ x y. Some (product_of W64 (truncated W64 x) (truncated W64 y)))
+        ≡ with_one k (λ m. Some (product_of W64 (truncated W64 (sign_extended w W64 (truncated w m))) (truncated W64 s)))
     go None = refl
     go (Some k) = refl
 

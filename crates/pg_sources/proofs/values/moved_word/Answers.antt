@@ -10,7 +10,8 @@ use Rattle.pg_sources.proofs.Grows.{grew_then, number_kept}
 use Rattle.pg_sources.proofs.Moves.{moved_signed}
 use Rattle.pg_sources.proofs.values.moved_word.Goals as goal
 
-moved_to : (k : ℕ) (u word delta : Option ℕ) → u ≡ word → delta ≡ Some k → with_both u delta (λ w d. Some (moved_by w (signed W64 d))) ≡ with_one word (λ w. Some (moved_by w (pos k)))
+moved_to : (k : ℕ) (u word delta : Option ℕ) → u ≡ word → delta ≡ Some k
+    → with_both u delta (λ w d. Some (moved_by w (signed W64 d))) ≡ with_one word (λ w. Some (moved_by w (pos k)))
 moved_to k u word delta e h =
     ap (λ x. with_both x delta (λ w d. Some (moved_by w (signed W64 d)))) e ∙ ap (λ x. with_both word x (λ w d. Some (moved_by w (signed W64 d)))) h ∙ go word
   where
@@ -27,4 +28,5 @@ returns-clause-value c =
     ap (λ (f : OnInput). Known f (number_by two c.args.frame)) (fun_ext (λ input.
     c.in_ok-value.ensures.value input
     ∙ moved_to c.args.k _ _ _ (number_kept old one c.args.base input c.added.ensures.grew c.requires.base) (c.in_ok-delta.ensures.value input)))
-    ∙ ap (λ (f : OnInput). Known (λ input. with_one (number_by old c.args.base input) (λ w. Some (moved_by w (pos c.args.k)))) f) (fun_ext (λ input. number_kept old two c.args.frame input grew c.requires.frame))
+    ∙ ap (λ (f : OnInput). Known (λ input. with_one (number_by old c.args.base input) (λ w. Some (moved_by w (pos c.args.k)))) f)
+    (fun_ext (λ input. number_kept old two c.args.frame input grew c.requires.frame))

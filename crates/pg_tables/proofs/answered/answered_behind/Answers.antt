@@ -14,7 +14,8 @@ loop-k-preserved c =
     let h = c.touch_at-touch.ensures in
     let b = c.is_met.ensures ∙ met y (cell_at c.loop-k.table) (drop (length ts - k) ts) inv.1 in (
       c.in_ok-push.ensures.items ∙ behind_step ts k y c.loop-k.answered.items c.is_met.result (omega arith) h inv.0 b,
-      subst (λ l. Keeps (cell_at c.note.new.table) l) (sym (behind_last ts k y (omega arith) h)) (keeps_cons (cell_at c.loop-k.table) (cell_at c.note.new.table) (drop (length ts - k) ts) y inv.1 c.in_ok-note.ensures),
+      subst (λ l. Keeps (cell_at c.note.new.table) l) (sym (behind_last ts k y (omega arith) h))
+          (keeps_cons (cell_at c.loop-k.table) (cell_at c.note.new.table) (drop (length ts - k) ts) y inv.1 c.in_ok-note.ensures),
     )
 
 pub returns : goal.returns

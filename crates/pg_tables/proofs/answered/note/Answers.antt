@@ -1,6 +1,6 @@
 use Rattle.std.proofs.Common.{◌==◌, ap, ◌∙◌}
 use Rattle.std.specs.Prelude.{◌&&◌, not, max, if◌then◌else◌}
-use Rattle.pg_tables.specs.Best.{other}
+use Rattle.pg_trace.specs.Best.{other}
 use Rattle.pg_tables.specs.Cells.{cell_at}
 use Rattle.pg_tables.specs.Touches.{rank_if}
 use Rattle.pg_tables.proofs.Notes.{noted_more}

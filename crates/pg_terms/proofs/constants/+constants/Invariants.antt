@@ -29,7 +29,9 @@ abbrev pub decreases-struct_const : goal.decreases-struct_const
 decreases-struct_const l = 6 * l.depth + 5
 
 abbrev pub invariant-more_constants-items : goal.invariant-more_constants-items
-invariant-more_constants-items l = (l.at ≤ l.place) × (l.place ≤ length l.tokens) × Left (is Comma) (behind_comma (typed_const_at l.depth (const_at l.depth))) (map typed_const_of l.all.items) (drop l.place l.tokens) (onto (map typed_const_of l.fn.all.items) (all_of (is Comma) (behind_comma (typed_const_at l.depth (const_at l.depth))) (drop l.at l.tokens)))
+invariant-more_constants-items l = (l.at ≤ l.place) × (l.place ≤ length l.text.tokens.now)
+    × Left (is Comma) (behind_comma (typed_const_at l.depth (const_at l.depth))) (map typed_const_of l.all.items) (drop l.place l.text.tokens.now)
+    (onto (map typed_const_of l.fn.all.items) (all_of (is Comma) (behind_comma (typed_const_at l.depth (const_at l.depth))) (drop l.at l.text.tokens.now)))
 
 abbrev pub decreases-more_constants-items : goal.decreases-more_constants-items
-decreases-more_constants-items l = length l.tokens - l.place
+decreases-more_constants-items l = length l.text.tokens.now - l.place

@@ -13,7 +13,8 @@ abbrev pub decreases-skip_to : goal.decreases-skip_to
 decreases-skip_to l = 3 * l.depth
 
 abbrev pub invariant-inside-loop-error : goal.invariant-inside-loop-error
-invariant-inside-loop-error l = (l.at ≤ l.place) × (l.place ≤ length l.tokens) × Rests brackets (bracketed_at (skip_at l.depth)) (drop l.place l.tokens) (inside_at (skip_at l.depth) (drop l.at l.tokens))
+invariant-inside-loop-error l = (l.at ≤ l.place) × (l.place ≤ length l.tokens)
+    × Rests brackets (bracketed_at (skip_at l.depth)) (drop l.place l.tokens) (inside_at (skip_at l.depth) (drop l.at l.tokens))
 
 abbrev pub decreases-inside-loop-error : goal.decreases-inside-loop-error
 decreases-inside-loop-error l = length l.tokens - l.place

@@ -23,10 +23,12 @@ abbrev pub decreases-type_node : goal.decreases-type_node
 decreases-type_node l = 5 * l.depth
 
 abbrev pub invariant-more_types-items : goal.invariant-more_types-items
-invariant-more_types-items l = (l.at ≤ l.place) × (l.place ≤ length l.tokens) × Left (is Comma) (behind_comma (type_at l.depth)) (map ty_of l.types.items) (drop l.place l.tokens) (onto (map ty_of l.fn.types.items) (all_of (is Comma) (behind_comma (type_at l.depth)) (drop l.at l.tokens)))
+invariant-more_types-items l = (l.at ≤ l.place) × (l.place ≤ length l.text.tokens.now)
+    × Left (is Comma) (behind_comma (type_at l.depth)) (map ty_of l.types.items) (drop l.place l.text.tokens.now)
+    (onto (map ty_of l.fn.types.items) (all_of (is Comma) (behind_comma (type_at l.depth)) (drop l.at l.text.tokens.now)))
 
 abbrev pub decreases-more_types-items : goal.decreases-more_types-items
-decreases-more_types-items l = length l.tokens - l.place
+decreases-more_types-items l = length l.text.tokens.now - l.place
 
 abbrev pub decreases-comma_type : goal.decreases-comma_type
 decreases-comma_type l = 5 * l.depth + 1

@@ -35,7 +35,9 @@ abbrev pub decreases-gep : goal.decreases-gep
 decreases-gep l = 9 * l.depth + 8
 
 abbrev pub invariant-more_values-items : goal.invariant-more_values-items
-invariant-more_values-items l = (l.at ≤ l.place) × (l.place ≤ length l.tokens) × Left (is Comma) (behind_comma (typed_in_at l.depth (value_at l.depth))) (map typed_of l.values.items) (drop l.place l.tokens) (all_of (is Comma) (behind_comma (typed_in_at l.depth (value_at l.depth))) (drop l.at l.tokens))
+invariant-more_values-items l = (l.at ≤ l.place) × (l.place ≤ length l.text.tokens.now)
+    × Left (is Comma) (behind_comma (typed_in_at l.depth (value_at l.depth))) (map typed_of l.values.items) (drop l.place l.text.tokens.now)
+    (all_of (is Comma) (behind_comma (typed_in_at l.depth (value_at l.depth))) (drop l.at l.text.tokens.now))
 
 abbrev pub decreases-more_values-items : goal.decreases-more_values-items
-decreases-more_values-items l = length l.tokens - l.place
+decreases-more_values-items l = length l.text.tokens.now - l.place

@@ -16,6 +16,8 @@ loop-place-preserved c =
       grows = grows_again (types_of c.args.table.now) before after c.loop-place.invariant.grows c.in_ok-more.ensures.grows;
       found = c.in_ok-more.ensures.found;
       no_less = omega (arith, l, c.loop-place.invariant.no_less);
-      more = more_now c.loop-place.found c.in_ok-more.more c.either-found.result (found_count c.args.items.now) a b c.either-found.ensures c.loop-place.invariant.no_less c.loop-place.invariant.more c.in_ok-more.ensures.more c.in_ok-more.ensures.same;
-      stuck = stuck_now c.loop-place.found c.in_ok-more.more c.either-found.result c.args.types.now before after c.args.places.now a b c.loop-place.place c.either-found.ensures c.in_ok-more.ensures.grows c.loop-place.invariant.found c.loop-place.invariant.stuck c.in_ok-more.ensures.same c.in_ok-more.ensures.stuck;
+      more = more_now c.loop-place.found c.in_ok-more.more c.either-found.result
+          (found_count c.args.items.now) a b c.either-found.ensures c.loop-place.invariant.no_less c.loop-place.invariant.more c.in_ok-more.ensures.more c.in_ok-more.ensures.same;
+      stuck = stuck_now c.loop-place.found c.in_ok-more.more c.either-found.result c.args.types.now before after c.args.places.now a b c.loop-place.place c.either-found.ensures
+          c.in_ok-more.ensures.grows c.loop-place.invariant.found c.loop-place.invariant.stuck c.in_ok-more.ensures.same c.in_ok-more.ensures.stuck;
     }

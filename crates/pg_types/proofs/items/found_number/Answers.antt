@@ -23,7 +23,8 @@ returns-clause-found c =
     let before = types_of c.args.table.now in
     let number = item_number c.args.places.now c.args.items.now in
     let is_open = open_by c.args.types.now c.args.items.now c.args.place c.index-types-place.result c.place_of_name.result c.requires.place c.requires.lengths c.index-types-place.is
-    (sym c.is_some.ensures ∙ c.if-is_some.false) (c.place_of_name.ensures ∙ ap (λ t. known_place c.args.places.now t) c.as_slice.ensures ∙ c.requires.places c.index-types-place.result.name.text) (sym c.ne.ensures ∙ c.if-ne.false) in
+    (sym c.is_some.ensures ∙ c.if-is_some.false) (c.place_of_name.ensures ∙ ap (λ t. known_place c.args.places.now t) c.as_slice.ensures
+    ∙ c.requires.places c.index-types-place.result.name.text) (sym c.ne.ensures ∙ c.if-ne.false) in
     both_ok c.type_number.result
     (λ o h w. found_if c.args.types.now before (types_of c.type_number.new.table) number c.args.items.now c.args.place c.index-types-place.result c.requires.found is_open o w h)
     (c.type_number.ensures.value (named_by before number) (λ text. refl))

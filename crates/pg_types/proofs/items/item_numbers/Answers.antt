@@ -17,4 +17,5 @@ returns-clause-names c =
     let begun = ap (λ xs. length xs) (c.as_mut_slice.ensures.value ∙ c.in_ok-items.ensures) ∙ length-replicate _ _ in
     let whole = written_back numbers (drop (length numbers) c.in_ok-items.items.items) c.in_ok-items.items.len (sym c.as_mut_slice.ensures.len ∙ sym c.find_all_items.auto.items) in
     subst (λ xs. Names (types_of c.find_all_items.new.table) (item_number c.args.places.now xs) (type_within (length c.args.types.now) (map type_item_of c.args.types.now))) (sym whole)
-    (names_found c.args.types.now (types_of c.find_all_items.new.table) c.args.places.now numbers c.requires (c.find_all_items.auto.items ∙ begun) c.in_ok-find_all_items.ensures.found c.in_ok-find_all_items.ensures.stuck)
+    (names_found c.args.types.now (types_of c.find_all_items.new.table) c.args.places.now numbers c.requires
+    (c.find_all_items.auto.items ∙ begun) c.in_ok-find_all_items.ensures.found c.in_ok-find_all_items.ensures.stuck)

@@ -4,4 +4,5 @@ use Rattle.pg_types.proofs.Capping.{field_layout}
 use Rattle.pg_types.proofs.measures.field_layout.Goals as goal
 
 pub returns : goal.returns
-returns c = field_layout c.args.front c.args.field _ (c.capped-fields_end.ensures.value ∙ ap (λ n. capped (n + c.args.field.size)) c.round_up-at.ensures.value) c.max-alignment.ensures (c.capped-size.ensures.value ∙ ap (λ n. capped n) c.round_up.ensures.value)
+returns c = field_layout c.args.front c.args.field _ (c.capped-fields_end.ensures.value ∙ ap (λ n. capped (n + c.args.field.size)) c.round_up-at.ensures.value) c.max-alignment.ensures
+    (c.capped-size.ensures.value ∙ ap (λ n. capped n) c.round_up.ensures.value)

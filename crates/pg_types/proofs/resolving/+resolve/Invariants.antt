@@ -11,5 +11,6 @@ invariant-fields_number-loop-field l = record {
   grows : Grows (types_of l.fn.table) (types_of l.table);
   known : AreWithin (types_of l.table) (item_number l.places l.items);
   within : IsWithin (types_of l.table) l.front;
-  value : (named : List ℕ → Option ResolvedType) → Names (types_of l.fn.table) (item_number l.places l.items) named → fields_by named (denoted (types_of l.table) l.front) (tys (map ty_of (drop l.field-index l.fields))) ≡ fields_by named (Some NoFields) (tys (map ty_of l.fields));
+  value : (named : List ℕ → Option ResolvedType) → Names (types_of l.fn.table) (item_number l.places l.items) named
+      → fields_by named (denoted (types_of l.table) l.front) (tys (map ty_of (drop l.field-index l.fields))) ≡ fields_by named (Some NoFields) (tys (map ty_of l.fields));
 }

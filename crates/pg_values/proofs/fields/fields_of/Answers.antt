@@ -12,5 +12,6 @@ fields-preserved c =
     let l : IsLast table c.fields.rest c.in-Some.last = subst (λ o. IfSome o (IsLast table c.fields.rest)) c.in-Some.is c.last_field.ensures.last in
     record {
       within = omega (arith, l.below, c.fields.invariant.within);
-      behind = subst (λ fs. FieldsBehind table (type_at table c.in-Some.last.front) whole fs) (sym c.in_ok-push-in-Some.ensures.items) (one_behind table whole c.fields.rest c.in-Some.last c.fields.fields.items l c.fields.invariant.behind);
+      behind = subst (λ fs. FieldsBehind table (type_at table c.in-Some.last.front) whole fs) (sym c.in_ok-push-in-Some.ensures.items)
+          (one_behind table whole c.fields.rest c.in-Some.last c.fields.fields.items l c.fields.invariant.behind);
     }

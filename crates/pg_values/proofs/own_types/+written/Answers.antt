@@ -16,7 +16,8 @@ add_inner-returns-in_ok-add_inner-in-GetElementPtr m c =
     on_ok c.add_inner_indices.result
     (λ h. three_rows front _ _ _ _ _ _
     (c.in_ok-add_own-in-GetElementPtr.ensures ∙ ap (λ x. front ++ own_types (val_of x)) c.deref.ensures)
-    (c.in_ok-add_inner-in-GetElementPtr.ensures ∙ ap (λ x. tys_behind c.add_own.new.all.items ++ flat_map (λ (u : Use). own_types u.value) (inner_uses (val_of x))) c.deref-in-GetElementPtr.ensures)
+    (c.in_ok-add_inner-in-GetElementPtr.ensures ∙ ap (λ x. tys_behind c.add_own.new.all.items ++ flat_map (λ (u : Use). own_types u.value) (inner_uses (val_of x)))
+    c.deref-in-GetElementPtr.ensures)
     (h ∙ ap (λ is. tys_behind c.add_inner.new.all.items ++ flat_map type_row (map typed_of is)) c.as_slice.ensures.value)
     ∙ ap (λ ts. front ++ ts) (sym (gep_rows (λ (u : Use). own_types u.value) p.field-0 p.field-1 p.field-2 p.base p.indices))
     ∙ ap (λ x. front ++ flat_map (λ (u : Use). own_types u.value) (inner_uses (val_of x))) (sym p.is))

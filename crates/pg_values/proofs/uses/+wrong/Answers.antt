@@ -20,7 +20,8 @@ wrong_index_uses-loop-index-preserved m c = λ g s t.
     row_step (index_row (wrong_use g)) typed_of c.args.indices.now c.loop-index.index-index c.index-item.result c.index-item.result
     c.loop-index.found c.earlier.result c.earlier-found.result c.loop-index-test.true c.index-item.is (c.loop-index.invariant g s t)
     (both _ _ _ _ _ c.earlier.ensures (c.in_ok-own.ensures.place g s t) (c.in_ok-within.ensures.place g s t)
-    ∙ ap (λ y. earliest (wrong_use g (constant_at y (val_of c.index-item.result.value)) ++ flat_map (wrong_use g) (inner_uses (val_of c.index-item.result.value)))) (sym (typed_ty c.index-item.result))
+    ∙ ap (λ y. earliest (wrong_use g (constant_at y (val_of c.index-item.result.value)) ++ flat_map (wrong_use g) (inner_uses (val_of c.index-item.result.value))))
+    (sym (typed_ty c.index-item.result))
     ∙ ap (λ v. earliest (wrong_use g (constant_at (typed_of c.index-item.result).ty v) ++ flat_map (wrong_use g) (inner_uses v))) (sym (typed_value c.index-item.result)))
     c.earlier-found.ensures
 

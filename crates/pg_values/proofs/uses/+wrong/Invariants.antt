@@ -9,4 +9,5 @@ use Rattle.pg_values.specs.Steps.{index_row}
 use Rattle.pg_values.proofs.uses.+wrong.Given as goal
 
 abbrev pub invariant-wrong_index_uses-loop-index : goal.invariant-wrong_index_uses-loop-index
-invariant-wrong_index_uses-loop-index l = (g : Scope) → IsScope l.scope g → g.tree.types ≡ named_types l.types → l.found ≡ earliest (flat_map (index_row (wrong_use g)) (map typed_of (take l.index-index l.indices)))
+invariant-wrong_index_uses-loop-index l = (g : Scope) → IsScope l.scope g → g.tree.types ≡ named_types l.types
+    → l.found ≡ earliest (flat_map (index_row (wrong_use g)) (map typed_of (take l.index-index l.indices)))

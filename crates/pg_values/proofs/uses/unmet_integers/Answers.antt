@@ -17,5 +17,6 @@ loop-index-init c = refl
 pub loop-index-preserved : goal.loop-index-preserved
 loop-index-preserved c =
     let own = c.in_ok-unmet.ensures.place ∙ ap (λ t. earliest (unmet (named_types c.args.types.now) (asks is_integer t))) (sym (typed_ty c.index-item.result)) in
-    row_step (integer_row (named_types c.args.types.now)) typed_of c.args.indices.now c.loop-index.index-index c.index-item.result c.index-item.result c.loop-index.found c.in_ok-unmet.field-0 c.earlier-found.result
+    row_step (integer_row (named_types c.args.types.now)) typed_of c.args.indices.now c.loop-index.index-index c.index-item.result c.index-item.result c.loop-index.found c.in_ok-unmet.field-0
+    c.earlier-found.result
     c.loop-index-test.true c.index-item.is c.loop-index.invariant own c.earlier-found.ensures

@@ -18,7 +18,8 @@ returns-in-GetElementPtr c = record {
       let p = c.in-GetElementPtr in
       if_ok c.unmet_walk.result
       (λ o h. h
-      ∙ ap (λ is. earliest (unmet types (asks isnt_void (ty_of p.ty)) ++ (unmet types (asks is_pointer (ty_of p.pointer)) ++ flat_map (integer_row types) (map typed_of is)))) c.as_slice.ensures.value
+      ∙ ap (λ is. earliest (unmet types (asks isnt_void (ty_of p.ty)) ++ (unmet types (asks is_pointer (ty_of p.pointer)) ++ flat_map (integer_row types) (map typed_of is))))
+      c.as_slice.ensures.value
       ∙ ap (λ xs. earliest xs) (sym (gep_demands types p.field-0 p.ty p.pointer p.field-3 p.indices))
       ∙ ap (λ x. earliest (flat_map (unmet types) (own_demands (val_of x)))) (sym p.is))
       c.unmet_walk.ensures.place;

@@ -12,7 +12,7 @@ pub returns : goal.returns
 unfolding wrong_use
 returns c = record {
   place = λ g s t.
-      let v = val_of c.args.value.now in
+      let v = val_of c.args.used.value.now in
       both _ _ _ _ _ c.earlier-2.ensures (c.in_ok-own.ensures.place g s t)
       (both _ _ _ _ _ c.earlier.ensures
       (c.in_ok-asked.ensures.place ∙ ap (λ types. earliest (flat_map (unmet types) (own_demands v))) (sym t))

@@ -30,6 +30,8 @@ pub returns-clause-held : goal.returns-clause-held
 returns-clause-held c = λ R m marks keeps q e a.
     let b = before_is c.args.tops.now.items c.as_slice.result.now c.args.thread c.holder_at-before.result c.as_slice.ensures.value c.holder_at-before.ensures in
     subst (λ (xs : List ℕ). AreHeld R c.args.r.now (c.args.n + 1) c.push.new.self.items xs) (sym c.set_top.ensures)
-    (hold_is R c.args.r.now c.args.n m c.args.holders.now.items c.args.tops.now.items c.args.thread c.holder_at-before.result c.begun-inner.result c.depth.result c.left_open-left.result c.edge.result c.push.new.self.items
-    c.as_slice-2.result.now b c.in_ok-push.ensures.items c.as_slice-2.ensures.value marks keeps q e c.requires.thread c.requires.long c.depth.ensures.depth c.edge.ensures.edge c.begun-inner.ensures.first
+    (hold_is R c.args.r.now c.args.n m c.args.holders.now.items c.args.tops.now.items c.args.thread c.holder_at-before.result c.begun-inner.result c.depth.result c.left_open-left.result
+    c.edge.result c.push.new.self.items
+    c.as_slice-2.result.now b c.in_ok-push.ensures.items c.as_slice-2.ensures.value marks keeps q e c.requires.thread c.requires.long c.depth.ensures.depth c.edge.ensures.edge
+    c.begun-inner.ensures.first
     c.left_open-left.ensures.left a)

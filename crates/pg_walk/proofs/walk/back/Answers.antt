@@ -26,7 +26,8 @@ returns-in_ok-back_live-in-None-clause-walks c = λ R e m told program closed q 
     let own = same_step c.args.t.now.steps c.args.n c.step-step.result m.did.did c.step-step.ensures at in
     let w = c.in_ok-passed.ensures.behind R e m told q (ap (λ (z : Step). z.thread.0) own) a in
     let p = if_none c.in_ok-passed.passed (ArePinned c.args.holders.now (taken_by c.settle_open.new.d) (slice_index_or c.args.holders.now c.args.n 0)) c.in-None.is c.in_ok-passed.ensures.live in
-    live_walks R c.args.p.now c.args.r.now c.args.holders.now c.args.counts.now told program c.args.n m q c.step-step.result own c.instr-x.result.now c.instr-x.ensures.at c.counts_at.result c.counts_at.ensures
+    live_walks R c.args.p.now c.args.r.now c.args.holders.now c.args.counts.now told program c.args.n m q c.step-step.result own c.instr-x.result.now c.instr-x.ensures.at c.counts_at.result
+    c.counts_at.ensures
     c.settle_open.new.w c.back_live.new.w (taken_by c.settle_open.new.d) (taken_by c.back_live.new.d) e closed c.in_ok-back_live-in-None.ensures.back p w
 
 pub returns-in_ok-back_live-in-None-clause-settled : goal.returns-in_ok-back_live-in-None-clause-settled

@@ -60,7 +60,8 @@ loop-b-preserved c =
       settled = settled_set hs new c.loop-b.settled.items c.set_mark.new.marks.items b p here c.set_mark.ensures.only (settled_stays hs old new c.loop-b.settled.items k.kept v.settled);
       size = k.size _ v.size;
       left = omega (arith, a, z);
-      behind = λ R e m told q own w. decided R c.args.r.now hs c.args.counts.now told c.args.n m q c.args.thread own c.pop.new.self.items b l.leads c.loop-b.w c.decide.new.w old new e k.less k.owed l.older (v.behind R e m told q own w);
+      behind = λ R e m told q own w. decided R c.args.r.now hs c.args.counts.now told c.args.n m q c.args.thread own c.pop.new.self.items b l.leads c.loop-b.w c.decide.new.w old new e k.less
+          k.owed l.older (v.behind R e m told q own w);
     }
 
 pub returns-then-decide-clause-size : goal.returns-then-decide-clause-size
@@ -74,7 +75,8 @@ returns-then-decide-clause-settled c = settled_stays c.args.holders.now (taken_b
 
 pub returns-then-decide-clause-earlier : goal.returns-then-decide-clause-earlier
 returns-then-decide-clause-earlier c =
-    (last_of c.args.holders.now (taken_by c.loop-b.d) c.args.n c.loop-b.open.items c.pop.new.self.items c.pop.result c.in-Some.b c.requires.older c.in-Some.is c.pop.ensures.items c.loop-b.invariant.left_open).earlier
+    (last_of c.args.holders.now (taken_by c.loop-b.d) c.args.n c.loop-b.open.items c.pop.new.self.items c.pop.result c.in-Some.b c.requires.older c.in-Some.is c.pop.ensures.items
+    c.loop-b.invariant.left_open).earlier
 
 pub returns-then-decide-clause-behind : goal.returns-then-decide-clause-behind
 returns-then-decide-clause-behind c = λ R e m told q own w.
@@ -90,5 +92,6 @@ returns-then-decide-clause-passed c = λ R e m told q own w.
     let v = c.loop-b.invariant in
     let k = c.decide.ensures in
     let l = last_of c.args.holders.now (taken_by c.loop-b.d) c.args.n c.loop-b.open.items c.pop.new.self.items c.pop.result c.in-Some.b c.requires.older c.in-Some.is c.pop.ensures.items v.left_open in
-    passed_over R c.args.r.now c.args.holders.now c.args.counts.now told c.args.n m q c.args.thread own c.pop.new.self.items c.in-Some.b l.leads c.loop-b.w c.decide.new.w (taken_by c.loop-b.d) (taken_by c.decide.new.d) e k.less k.owed l.older
+    passed_over R c.args.r.now c.args.holders.now c.args.counts.now told c.args.n m q c.args.thread own c.pop.new.self.items c.in-Some.b l.leads c.loop-b.w c.decide.new.w (taken_by c.loop-b.d)
+    (taken_by c.decide.new.d) e k.less k.owed l.older
     (k.passes c.if-decide.true) (v.behind R e m told q own w)

@@ -6,4 +6,5 @@ use Rattle.pg_ast.proofs.Counting.{Going}
 use Rattle.pg_ast.proofs.print.functions.put_blocks.Given as goal
 
 abbrev pub invariant-loop-each : goal.invariant-loop-each
-invariant-loop-each l = Going block_of (behind_block (map type_item_of l.types)) (block_at (map type_item_of l.types)) block_text l.all l.each-index l.initial.out.items l.initial.next l.out.items l.next
+invariant-loop-each l = Going block_of (behind_block (map type_item_of l.types))
+    (block_at (map type_item_of l.types)) block_text l.all l.each-index l.initial.out.items l.initial.next l.out.items l.next

@@ -11,7 +11,8 @@ pub put_val-returns-in_ok-put_more_typed-in-GetElementPtr : goal.put_val-returns
 put_val-returns-in_ok-put_more_typed-in-GetElementPtr t c =
     let g = c.in-GetElementPtr in
     let all = map typed_of g.indices.items in
-    let e : val_of c.args.node.now ≡ GepVal g.field-0 (ty_of g.ty) (ty_of g.pointer_type) (val_of g.pointer.value) (vals all) = ap val_of g.is ∙ gep_view g.field-0 g.ty g.pointer_type g.pointer g.indices in
+    let e : val_of c.args.node.now ≡ GepVal g.field-0 (ty_of g.ty) (ty_of g.pointer_type) (val_of g.pointer.value) (vals all) =
+    ap val_of g.is ∙ gep_view g.field-0 g.ty g.pointer_type g.pointer g.indices in
     let b : c.put_val.new.out.items ≡ c.put_gep_head.new.out.items ++ val_text (val_of g.pointer.value) = search rules in
     let d : c.put_more_typed.new.out.items ≡ c.put_val.new.out.items ++ flat_map more_typed_text all = search rules in
     on_ok c.put_text-in-GetElementPtr.result _ _

@@ -20,5 +20,6 @@ returns-clause-tables c =
       switch = subst (HasCases (block_cases p b) c.push_cases.new.rows.items) cases (rw c.block_cases.ensures at c.in_ok-push_cases.ensures.table);
     } in
     rw c.in_ok-push.ensures.items
-    (tables_pushed p old.edges.items c.push_edges.new.edges.items old.values.items c.push_edges.new.values.items old.cases.items c.push_cases.new.rows.items old.blocks.items table c.requires.tables c.in_ok-push_edges.ensures.edges c.in_ok-push_edges.ensures.values c.in_ok-push_cases.ensures.front
+    (tables_pushed p old.edges.items c.push_edges.new.edges.items old.values.items c.push_edges.new.values.items old.cases.items c.push_cases.new.rows.items old.blocks.items table
+    c.requires.tables c.in_ok-push_edges.ensures.edges c.in_ok-push_edges.ensures.values c.in_ok-push_cases.ensures.front
     (subst (λ (n : ℕ). FitsTable p c.push_edges.new.edges.items c.push_edges.new.values.items c.push_cases.new.rows.items n table) block here))

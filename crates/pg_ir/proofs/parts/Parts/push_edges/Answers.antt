@@ -20,7 +20,9 @@ loop-k-preserved c =
     let p = c.args.self.now in
     let start = length c.args.edges.now.items in
     let pushed : c.push.new.self.items ≡ c.loop-k.edges.items ++ c.in_ok-row.row ∷ [] = c.in_ok-push.ensures.items in
-    let rows = rows_pushed p c.args.from start c.loop-k.k c.in_ok-row.row (successors p c.args.from) c.loop-k.values.items c.row_of.new.values.items c.loop-k.edges.items c.loop-k.invariant.rows c.loop-k.invariant.count c.in_ok-row.ensures.front c.target.result c.target.ensures c.in_ok-row.ensures.row in
+    let rows = rows_pushed p c.args.from start c.loop-k.k c.in_ok-row.row
+    (successors p c.args.from) c.loop-k.values.items c.row_of.new.values.items c.loop-k.edges.items c.loop-k.invariant.rows c.loop-k.invariant.count c.in_ok-row.ensures.front c.target.result
+    c.target.ensures c.in_ok-row.ensures.row in
     record {
       entered = c.in_ok-row.ensures.entered;
       edges = front_trans _ _ _ c.loop-k.invariant.edges (values_front _ _ _ pushed);

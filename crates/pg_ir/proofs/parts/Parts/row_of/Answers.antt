@@ -19,7 +19,8 @@ returns-clause-entered c =
     let here = values_end c.args.self.now c.args.from c.args.to c.args.values.now.items c.push_row.new.values.items _ c.phis_of.ensures c.in_ok-push_row.ensures in
     let e : length c.args.values.now.items ≡ c.len-row.result = omega (arith, c.len-row.ensures) in
     subst (AreEntered c.args.self.now c.push_row.new.values.items) (sym c.keep_row.ensures)
-    (entered_set c.args.self.now c.args.values.now.items c.push_row.new.values.items c.args.entered.now c.args.to (record { from = c.args.from; row = c.len-row.result }) c.requires (values_front _ _ _ c.in_ok-push_row.ensures)
+    (entered_set c.args.self.now c.args.values.now.items c.push_row.new.values.items c.args.entered.now c.args.to (record { from = c.args.from; row = c.len-row.result }) c.requires
+    (values_front _ _ _ c.in_ok-push_row.ensures)
     (subst (λ (n : ℕ). HasRow (values_along c.args.self.now c.args.from c.args.to) c.push_row.new.values.items n) e here))
 
 pub returns-clause-row : goal.returns-clause-row

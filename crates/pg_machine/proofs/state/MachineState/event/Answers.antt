@@ -11,4 +11,5 @@ returns-in_ok-print-in-Out-clause-answer c =
 
 pub returns-in_ok-print-in-Putchar-clause-answer : goal.returns-in_ok-print-in-Putchar-clause-answer
 returns-in_ok-print-in-Putchar-clause-answer c =
-    c.settle-in-Putchar.ensures ∙ putchar_first c.args.p.now c.args.self.now c.print-in-Putchar.new.self c.args.t.0 c.in-Putchar.value c.args.r.now (printed_by (requests.Putchar c.in-Putchar.value)) c.in-Putchar.is refl c.in_ok-print-in-Putchar.ensures.printed
+    c.settle-in-Putchar.ensures ∙ putchar_first c.args.p.now c.args.self.now c.print-in-Putchar.new.self c.args.t.0 c.in-Putchar.value c.args.r.now
+    (printed_by (requests.Putchar c.in-Putchar.value)) c.in-Putchar.is refl c.in_ok-print-in-Putchar.ensures.printed

@@ -8,4 +8,5 @@ invariant_of-self c =
 
 pub invariant_of-self-else-granule-lt-GLOBALS_END : goal.invariant_of-self-else-granule-lt-GLOBALS_END
 invariant_of-self-else-granule-lt-GLOBALS_END c =
-    high_parts c.self.inside.globals c.self.inside.regions c.set-else-granule-lt-GLOBALS_END.new.self c.args.granule c.args.word c.self.invariant (omega (arith, c.if-granule-lt-GLOBALS_END.false)) c.requires c.ranges.word.fits c.set-else-granule-lt-GLOBALS_END.ensures
+    high_parts c.self.inside.globals c.self.inside.regions c.set-else-granule-lt-GLOBALS_END.new.self c.args.granule c.args.word c.self.invariant
+    (omega (arith, c.if-granule-lt-GLOBALS_END.false)) c.requires c.ranges.word.fits c.set-else-granule-lt-GLOBALS_END.ensures

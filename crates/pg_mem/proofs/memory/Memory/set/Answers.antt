@@ -11,5 +11,6 @@ returns-clause-value c =
 pub returns-clause-bytes : goal.returns-clause-bytes
 returns-clause-bytes c = λ b.
     rw (c.put_word.ensures, c.replaced.ensures, c.word-word.ensures)
-    (ap (λ (w : Words). byte_at w b) (sym (written_is_put c.args.self.now (record { start = c.args.start; bytes = c.args.bytes }) c.args.number c.facts.ensures c.requires.within c.requires.fits c.requires.small))
+    (ap (λ (w : Words). byte_at w b) (sym
+    (written_is_put c.args.self.now (record { start = c.args.start; bytes = c.args.bytes }) c.args.number c.facts.ensures c.requires.within c.requires.fits c.requires.small))
     ∙ byte_at-written c.args.self.now (record { start = c.args.start; bytes = c.args.bytes }) c.args.number b c.facts.ensures c.requires.within c.requires.fits c.requires.small)

@@ -10,7 +10,8 @@ returns-clause-value c ns =
     let items = c.self.inside.items in
     let new = c.forget.new.registers in
     let e : take items.len (new ++ drop (length new) items.items) ≡ new = lent _ _ _ (omega (arith, c.deref_mut.ensures.len, c.forget.auto.registers)) in
-    ap (registers_by ns) e ∙ c.forget.ensures.value ns ∙ ap (λ (l : List Source). forgotten_from 0 (marked c.args.sets.now) c.args.by (registers_by ns l)) (c.deref_mut.ensures.value ∙ c.self.view_is)
+    ap (registers_by ns) e ∙ c.forget.ensures.value ns ∙ ap (λ (l : List Source). forgotten_from 0 (marked c.args.sets.now) c.args.by (registers_by ns l))
+    (c.deref_mut.ensures.value ∙ c.self.view_is)
 
 pub returns-clause-is : goal.returns-clause-is
 returns-clause-is c n a =

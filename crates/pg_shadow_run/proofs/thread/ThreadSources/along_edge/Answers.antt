@@ -20,4 +20,5 @@ returns-else-self-clause-value c =
     let new = c.along_edge.new.nodes in
     let f = along_edge c.args.p.now c.args.from.0 c.args.edge in
     let sources = subst (λ (calls : CallList). AreCalls (length old) calls) (sym c.self.view_is) c.requires.sources in
-    on_ok_weaker c.along_edge.result (λ e. across old new f s.present c.along_edge.new.self s.callers.items s.ended c.along_edge.ensures.grew sources e ∙ ap (λ (calls : CallList). with_top f (calls_by old calls)) c.self.view_is) c.along_edge.ensures.value
+    on_ok_weaker c.along_edge.result (λ e. across old new f s.present c.along_edge.new.self s.callers.items s.ended c.along_edge.ensures.grew sources e
+    ∙ ap (λ (calls : CallList). with_top f (calls_by old calls)) c.self.view_is) c.along_edge.ensures.value

@@ -9,7 +9,8 @@ use Rattle.pg_shadow_run.proofs.thread.ThreadSources.enter.Goals as goal
 pub returns-clause-is : goal.returns-clause-is
 returns-clause-is c =
     let new = c.entered.new.nodes in
-    on_ok_weaker c.push.result (λ e. subst (λ (calls : CallList). AreCalls (length new) calls) (sym e) (c.in_ok-registers.ensures.is, calls_stay c.args.nodes.now new c.args.self.now c.entered.ensures.grew c.requires.sources)) c.push.ensures.pushed
+    on_ok_weaker c.push.result (λ e. subst (λ (calls : CallList). AreCalls (length new) calls) (sym e)
+    (c.in_ok-registers.ensures.is, calls_stay c.args.nodes.now new c.args.self.now c.entered.ensures.grew c.requires.sources)) c.push.ensures.pushed
 
 pub returns-clause-value : goal.returns-clause-value
 returns-clause-value c =

@@ -22,5 +22,6 @@ returns-clause-value c =
     let p = c.args.p.now in
     let kept = calls_kept old new calls c.optional.ensures.grew c.requires.sources in
     c.leave.ensures.value new
-    ∙ ap (λ (x : Shadow). with_top (set_shadow c.args.target x) (under_top (calls_by new calls))) (c.in_ok-s.ensures.value ∙ ap (λ (rs : List Shadow). optional_shadow p rs c.args.v) (ap (registers_by old) c.registers.ensures ∙ top_by old calls))
+    ∙ ap (λ (x : Shadow). with_top (set_shadow c.args.target x) (under_top (calls_by new calls)))
+    (c.in_ok-s.ensures.value ∙ ap (λ (rs : List Shadow). optional_shadow p rs c.args.v) (ap (registers_by old) c.registers.ensures ∙ top_by old calls))
     ∙ ap (λ (cs : List (List Shadow)). with_top (set_shadow c.args.target (optional_shadow p (top_of (calls_by old calls)) c.args.v)) (under_top cs)) kept

@@ -9,7 +9,8 @@ use Rattle.pg_shadow_run.proofs.Happens.{at_top_set}
 use Rattle.pg_shadow_run.proofs.thread.ThreadSources.print.Goals as goal
 
 pub printed-requires-clause-sources : goal.printed-requires-clause-sources
-printed-requires-clause-sources c = subst (λ (l : List Source). AreSources (length c.args.nodes.now) l) (sym c.registers.ensures) (top_are (length c.args.nodes.now) c.args.self.now c.requires.sources)
+printed-requires-clause-sources c = subst (λ (l : List Source). AreSources (length c.args.nodes.now) l) (sym c.registers.ensures)
+    (top_are (length c.args.nodes.now) c.args.self.now c.requires.sources)
 
 pub returns-clause-is : goal.returns-clause-is
 returns-clause-is c =

@@ -9,7 +9,7 @@ use Rattle.pg_slice.proofs.prints.Prints.add_region.Given as goal
 
 abbrev pub invariant-loop-k : goal.invariant-loop-k
 invariant-loop-k l =
-    AddsOf l.step l.interval l.initial.self l.self
-    × ((x : Seen) (f : FreeRegion) → IsTimed x l.step l.interval → IfSome (landmark_at l.r l.n) (λ m. m.region ≡ Some f) →
+    AddsOf l.at.step.now l.at.interval l.initial.self l.self
+    × ((x : Seen) (f : FreeRegion) → IsTimed x l.at.step.now l.at.interval → IfSome (landmark_at l.at.r.now l.at.n) (λ m. m.region ≡ Some f) →
     (l.self.prints.items ++ map (print_by x) (drop l.k f.accesses) ≡ l.initial.self.prints.items ++ map (print_by x) f.accesses)
     × (l.self.owners.items ++ map (λ (a : FreeAccess). l.owner) (drop l.k f.accesses) ≡ l.initial.self.owners.items ++ map (λ (a : FreeAccess). l.owner) f.accesses))

@@ -16,7 +16,8 @@ pub words_after-requires-clause-registers : goal.words_after-requires-clause-reg
 words_after-requires-clause-registers c =
     let old = c.args.nodes.now in
     let s = c.args.self.now in
-    let registers : c.thread_registers.result.now ≡ sources_in s c.args.t = c.thread_registers.ensures ∙ ap (λ (cs : List CallList). top_sources (slice_index_or cs c.args.t [])) c.as_slice.ensures.value in
+    let registers : c.thread_registers.result.now ≡ sources_in s c.args.t =
+    c.thread_registers.ensures ∙ ap (λ (cs : List CallList). top_sources (slice_index_or cs c.args.t [])) c.as_slice.ensures.value in
     subst (λ (rs : List Source). AreSources (length old) rs) (sym registers) (registers_are (length old) s.threads.items c.args.t c.requires.sources.threads)
 
 pub returns-clause-is : goal.returns-clause-is
@@ -38,9 +39,11 @@ returns-clause-value c pinned k h =
     let s = c.args.self.now in
     let p = c.args.p.now in
     let o = c.args.x.now.op in
-    let registers : c.thread_registers.result.now ≡ sources_in s c.args.t = c.thread_registers.ensures ∙ ap (λ (cs : List CallList). top_sources (slice_index_or cs c.args.t [])) c.as_slice.ensures.value in
+    let registers : c.thread_registers.result.now ≡ sources_in s c.args.t =
+    c.thread_registers.ensures ∙ ap (λ (cs : List CallList). top_sources (slice_index_or cs c.args.t [])) c.as_slice.ensures.value in
     on_ok_weaker c.words_after.result (λ e.
     words_known p old new pinned s _ k (along.words_after p c.args.t c.args.kind (along.registers_of k c.args.t) o k.words) c.words_after.ensures.grew c.requires.sources h refl refl refl
     (ap (λ (ws : List Shadow). along.words_after p c.args.t c.args.kind (along.registers_of k c.args.t) o ws) h.words
-    ∙ ap (λ (rs : List Shadow). along.words_after p c.args.t c.args.kind rs o (registers_by old s.words.items)) (sym (registers_in p old pinned s k c.args.t h) ∙ ap (registers_by old) (sym registers))
+    ∙ ap (λ (rs : List Shadow). along.words_after p c.args.t c.args.kind rs o (registers_by old s.words.items))
+    (sym (registers_in p old pinned s k c.args.t h) ∙ ap (registers_by old) (sym registers))
     ∙ sym e)) c.words_after.ensures.value

@@ -51,8 +51,11 @@ returns-in_ok-s-in-Load-clause-value c d m region k e t h =
     ∙ ap (λ (v : Width). load_of c.args.exact n v a (shadows_of p old s.memory)) q
     ∙ ap (λ (b : Bool). load_of b n w a (shadows_of p old s.memory)) (sym e)
     ∙ ap (λ (f : ℕ → Shadow). load_of (d.exact n) n w a f) (sym (bytes_in p old d.pinned s k h)) in
-    let threads = c.after_access.ensures.value new p (d.exact n) n a k.bytes d.pinned s.extents.items k.threads loaded (threads_stay old new s.threads.items g c.requires.sources.threads) (threads_in p new d.pinned s k more) in
-    load_known p new s _ d n m region x a k c.in-Load.width _ c.in-Load.is more (subst (λ (u : ℕ). KnowsThreads new d.pinned c.after_access.new.threads.items s.extents.items (on_thread (with_top (after_access p (d.exact n) n a k.bytes x x.op)) u k.threads)) (sym t) threads) refl refl
+    let threads = c.after_access.ensures.value new p (d.exact n) n a k.bytes d.pinned s.extents.items k.threads loaded (threads_stay old new s.threads.items g c.requires.sources.threads)
+    (threads_in p new d.pinned s k more) in
+    load_known p new s _ d n m region x a k c.in-Load.width _ c.in-Load.is more
+    (subst (λ (u : ℕ). KnowsThreads new d.pinned c.after_access.new.threads.items s.extents.items (on_thread (with_top (after_access p (d.exact n) n a k.bytes x x.op)) u k.threads))
+    (sym t) threads) refl refl
 
 -- ---- a store
 
@@ -60,7 +63,8 @@ pub store-requires-clause-registers : goal.store-requires-clause-registers
 store-requires-clause-registers c =
     let old = c.args.nodes.now in
     let s = c.args.self.now in
-    let registers : c.thread_registers.result.now ≡ sources_in s c.args.t = c.thread_registers.ensures ∙ ap (λ (cs : List CallList). top_sources (slice_index_or cs c.args.t [])) c.as_slice.ensures.value in
+    let registers : c.thread_registers.result.now ≡ sources_in s c.args.t =
+    c.thread_registers.ensures ∙ ap (λ (cs : List CallList). top_sources (slice_index_or cs c.args.t [])) c.as_slice.ensures.value in
     subst (λ (rs : List Source). AreSources (length old) rs) (sym registers) (registers_are (length old) s.threads.items c.args.t c.requires.sources.threads)
 
 pub returns-in-Store-clause-is : goal.returns-in-Store-clause-is
@@ -96,4 +100,5 @@ returns-in-Store-clause-value c d m region k e t h =
     f b
     ∙ ap (λ (y : Bool). bytes_stored p y n a (registers_by old c.thread_registers.result.now) o before b) same
     ∙ ap (λ (rs : List Source). bytes_stored p (d.exact n || a.event) n a (registers_by old rs) o before b) registers))
-    (on_ok_each c.store.result (λ b. shadows_of p new c.store.new.memory b ≡ bytes_stored p known n a (registers_by old c.thread_registers.result.now) o before b) (c.store.ensures.value c.in-Store.width c.in-Store.at))
+    (on_ok_each c.store.result (λ b. shadows_of p new c.store.new.memory b ≡ bytes_stored p known n a (registers_by old c.thread_registers.result.now) o before b)
+    (c.store.ensures.value c.in-Store.width c.in-Store.at))

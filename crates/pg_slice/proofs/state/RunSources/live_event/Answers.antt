@@ -15,10 +15,10 @@ pub event_bytes-requires : goal.event_bytes-requires
 event_bytes-requires c = record { sources = kept_more c.args.nodes.now c.word_of.new.nodes c.args.self.now c.word_of.ensures.grew c.requires.sources }
 
 pub event_words-requires-clause-call : goal.event_words-requires-clause-call
-event_words-requires-clause-call c = has_operands c.args.e.now c.args.x.now.op c.requires.call
+event_words-requires-clause-call c = has_operands c.args.e.now c.args.s.now.x.now.op c.requires.call
 
 pub event_threads-requires-clause-call : goal.event_threads-requires-clause-call
-event_threads-requires-clause-call c = has_operands c.args.e.now c.args.x.now.op c.requires.call
+event_threads-requires-clause-call c = has_operands c.args.e.now c.args.s.now.x.now.op c.requires.call
 
 pub event_threads-requires-clause-argument : goal.event_threads-requires-clause-argument
 event_threads-requires-clause-argument c =
@@ -39,8 +39,8 @@ returns-clause-grew c =
 
 pub returns-clause-value : goal.returns-clause-value
 returns-clause-value c d n m region k f t h =
-    let p = c.args.p.now in
-    let x = c.args.x.now in
+    let p = c.args.s.now.p.now in
+    let x = c.args.s.now.x.now in
     let e = c.args.e.now in
     let s = c.args.self.now in
     let u = c.args.t in
@@ -55,6 +55,7 @@ returns-clause-value c d n m region k f t h =
     let k2 : RunShadow = record k1 { words = words_after p u e.kind (registers_of k u) x.op k.words } in
     let g = grew_then n1 n2 n3 c.event_bytes.ensures.grew c.event_words.ensures.grew in
     let argument : shadow_by n3 source ≡ slice_index_or k.words u unset =
-    shadow_kept n1 n3 source g c.in_ok-argument.ensures.is ∙ c.in_ok-argument.ensures.value ∙ ap (λ (rs : List Source). slice_index_or (registers_by n0 rs) u unset) c.as_slice.ensures.value ∙ ap (λ (ws : List Shadow). slice_index_or ws u unset) (sym h.words) in
+    shadow_kept n1 n3 source g c.in_ok-argument.ensures.is ∙ c.in_ok-argument.ensures.value ∙ ap (λ (rs : List Source). slice_index_or (registers_by n0 rs) u unset) c.as_slice.ensures.value
+    ∙ ap (λ (ws : List Shadow). slice_index_or ws u unset) (sym h.words) in
     on_ok_weaker c.event_threads.result (λ q. subst (λ (z : RunShadow). Knows p n4 d.pinned c.event_threads.new.self z) (event_is p d n m region x e k u (shadow_by n3 source) t argument) q)
     (c.event_threads.ensures.value m d.pinned k2 f (c.in_ok-event_words.ensures.value d.pinned k1 (c.in_ok-event_bytes.ensures.value p d.pinned k first)))

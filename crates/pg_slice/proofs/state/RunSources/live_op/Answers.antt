@@ -14,7 +14,8 @@ use Rattle.pg_slice.proofs.Lives.{edge_stands, op_known, step_at}
 use Rattle.pg_slice.proofs.state.RunSources.live_op.Goals as goal
 
 pub after_op-requires-clause-block : goal.after_op-requires-clause-block
-after_op-requires-clause-block c = edge_stands c.args.r.now c.args.n (length c.args.p.now.blocks) c.op_step-step.result c.requires.number c.op_step-step.ensures.landmark c.requires.block
+after_op-requires-clause-block c = edge_stands c.args.s.now.r.now c.args.s.now.n
+    (length c.args.s.now.p.now.blocks) c.op_step-step.result c.requires.number c.op_step-step.ensures.landmark c.requires.block
 
 pub returns-clause-is : goal.returns-clause-is
 returns-clause-is c =
@@ -33,10 +34,10 @@ returns-clause-value c m regions kind k land is word did t i h =
     let old = c.args.nodes.now in
     let new = c.after_op.new.nodes in
     let s = c.args.self.now in
-    let p = c.args.p.now in
-    let x = c.args.x.now in
-    let n = c.args.n in
-    let d = taken_by c.args.d.now in
+    let p = c.args.s.now.p.now in
+    let x = c.args.s.now.x.now in
+    let n = c.args.s.now.n in
+    let d = taken_by c.args.s.now.d.now in
     let step = c.op_step-step.result in
     let region = region_of p regions m (Some x) in
     let here = region_of p regions m (instr_in p m) in
@@ -45,7 +46,8 @@ returns-clause-value c m regions kind k land is word did t i h =
     let same = rw land at c.op_step-step.ensures.landmark in
     let at = step_at p regions m x step c.marks.result.now kind is did i same (rw land at c.marks.ensures.marks) in
     let threads = c.in_ok-after_op.ensures.value m region d.pinned s.extents.items k.threads at (threads_in p old d.pinned s k h) in
-    let freed : (b : ℕ) → OnOk c.forget_instance.result (shadows_of p new c.forget_instance.new.memory b ≡ bytes_freed step.pinned n here (shadows_of p new s.memory) b) = λ b. (rw land at (c.forget_instance.ensures.value p new b)) same.0 in
+    let freed : (b : ℕ) → OnOk c.forget_instance.result (shadows_of p new c.forget_instance.new.memory b ≡ bytes_freed step.pinned n here (shadows_of p new s.memory) b) =
+    λ b. (rw land at (c.forget_instance.ensures.value p new b)) same.0 in
     on_ok_weaker c.forget_instance.result (λ f.
     op_known p new _ d n m region x kind k step c.args.t is c.op_step-step.ensures.number c.op_step-step.ensures.pinned (c.op_step-step.ensures.word ∙ sym word) t threads
     (λ b.

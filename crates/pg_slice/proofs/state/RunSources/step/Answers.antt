@@ -15,15 +15,16 @@ returns-clause-is c = on_ok_weaker c.pass.result (λ f. f _ c.in_ok-live_if.ensu
 
 pub returns-clause-value : goal.returns-clause-value
 returns-clause-value c R m k e land did i h =
-    let p = c.args.p.now in
-    let d = taken_by c.args.d.now in
+    let p = c.args.s.now.p.now in
+    let d = taken_by c.args.s.now.d.now in
     let new = c.live_if.new.nodes in
-    let n = c.args.n in
+    let n = c.args.s.now.n in
     let l = landmark_of p R.regions m in
     let z : RunShadow = live_if p R.regions d n m k (is_live d.pinned (thread_of k (thread_in m)).extents) in
-    let instr : instr_in p m ≡ Some c.args.x.now = ap (λ (y : Step). slice_get p.instrs y.instr.0) did ∙ i in
+    let instr : instr_in p m ≡ Some c.args.s.now.x.now = ap (λ (y : Step). slice_get p.instrs y.instr.0) did ∙ i in
     let known = c.in_ok-live_if.ensures.value m R.regions k land did instr h in
     let passed = rw land at (c.pass.ensures.value p new z known) in
     on_ok_weaker c.pass.result (λ q.
     subst (λ (y : RunShadow). Knows p new d.pinned c.pass.new.self y) (step_is R p d n m k e)
-    (subst (λ (t : ℕ). Knows p new d.pinned c.pass.new.self (let y : RunShadow = record z { threads = with_extents t (open_after n l.depth l.region l.edge (thread_of z t).extents) z.threads } in y)) (sym (ap (λ (y : Step). y.thread.0) did)) q)) passed
+    (subst (λ (t : ℕ). Knows p new d.pinned c.pass.new.self
+    (let y : RunShadow = record z { threads = with_extents t (open_after n l.depth l.region l.edge (thread_of z t).extents) z.threads } in y)) (sym (ap (λ (y : Step). y.thread.0) did)) q)) passed

@@ -29,7 +29,8 @@ loop-level-preserved c =
     let s : suc h ≡ h + 1 = omega arith in record {
       node = ap (λ (k : ℕ). k / 2) inv.node ∙ sym (node_next x h) ∙ ap (node_at x) s;
       levels = ap (λ (k : ℕ). k / 2) inv.levels ∙ shr-shr (c.classes.result / 2 ^ 37) h 1;
-      number = c.greater_at-number.ensures ∙ ap (λ (k : ℕ). max k (m c.loop-level.node)) inv.number ∙ ap (λ (k : ℕ). max (greatest_below m x h) (m k)) inv.node ∙ sym (greatest_next m x h) ∙ ap (greatest_below m x) s;
+      number = c.greater_at-number.ensures ∙ ap (λ (k : ℕ). max k (m c.loop-level.node)) inv.number ∙ ap (λ (k : ℕ). max (greatest_below m x h) (m k)) inv.node
+          ∙ sym (greatest_next m x h) ∙ ap (greatest_below m x) s;
     }
 
 pub returns-then-levels-eq0 : goal.returns-then-levels-eq0

@@ -11,7 +11,8 @@ loop-level-init c = record {
   raised =
       let m = mark_of c.args.self.now in
       let e : m ≡ mark_of (record { marks = c.reserve.new.self }) = ap (λ es n. unwrap_or (lookup (nat_eq n) es) 0) (sym c.reserve.ensures.entries) in
-      subst (λ (k : ℕ → ℕ). Raised m k c.args.start c.args.end c.args.number 0 (c.args.start + 67108864) (c.args.end + 67108864)) e (begun m c.args.start c.args.end c.args.number c.requires.order c.requires.end);
+      subst (λ (k : ℕ → ℕ). Raised m k c.args.start c.args.end c.args.number 0 (c.args.start + 67108864) (c.args.end + 67108864)) e
+      (begun m c.args.start c.args.end c.args.number c.requires.order c.requires.end);
   room = omega (arith, c.in_ok-reserve.ensures.room);
   some = omega arith;
   small = omega (arith, c.requires.order, c.requires.end);
@@ -29,7 +30,8 @@ loop-level-preserved c =
     let o = mark_of c.mark_level.new.self in
     let lt : h < 27 = omega arith in
     let s : suc h ≡ h + 1 = omega arith in record {
-      raised = subst (λ (k : ℕ). Raised m o c.args.start c.args.end c.args.number k ((c.loop-level.left + 1) / 2) (c.loop-level.right / 2)) s (next m n o c.args.start c.args.end c.args.number h c.loop-level.left c.loop-level.right lt inv.raised c.mark_level.ensures.marks);
+      raised = subst (λ (k : ℕ). Raised m o c.args.start c.args.end c.args.number k ((c.loop-level.left + 1) / 2) (c.loop-level.right / 2)) s
+          (next m n o c.args.start c.args.end c.args.number h c.loop-level.left c.loop-level.right lt inv.raised c.mark_level.ensures.marks);
       room = omega (arith, inv.room, c.mark_level.ensures.room);
       some = omega (arith, inv.some);
       small = omega (arith, inv.small);

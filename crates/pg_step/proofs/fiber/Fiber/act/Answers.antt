@@ -10,7 +10,8 @@ pub returns-in_default : goal.returns-in_default
 returns-in_default c =
     let l = c.args.self.now in
     let straight : IsStraight c.args.instr.now.op = search rules in
-    let n : c.plain_number-n.result ≡ result_number c.args.p.now (region_of l) (top_registers l.frames) c.args.instr.now.op c.args.reply = rw c.top-in_default.ensures at (c.plain_number-n.ensures (region_of l)) in
+    let n : c.plain_number-n.result ≡ result_number c.args.p.now (region_of l) (top_registers l.frames) c.args.instr.now.op c.args.reply =
+    rw c.top-in_default.ensures at (c.plain_number-n.ensures (region_of l)) in
     record {
       state = c.put_number.ensures.state ∙ straight_state c.args.p.now l c.args.instr.now c.args.reply c.plain_number-n.result c.args.instr.now.op straight n;
       number = c.put_number.ensures.number ∙ ap (or_zero c.args.instr.now.result) (n ∙ sym ((goes_straight c.args.p.now l c.args.instr.now c.args.reply c.args.instr.now.op straight).own));

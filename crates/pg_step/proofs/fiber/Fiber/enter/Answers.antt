@@ -20,18 +20,29 @@ push_call-requires-clause-operands c =
 pub push_call-requires-clause-room : goal.push_call-requires-clause-room
 push_call-requires-clause-room c =
     let s = c.self.inside in
-    let t = parts s.ended s.top s.base s.heads.items s.registers.items c.args.self.now.frames (ap (λ (l : LocalState). l.frames) c.self.view_is) c.requires.going c.self.invariant.above c.self.invariant.base in
+    let t = parts s.ended s.top s.base s.heads.items s.registers.items c.args.self.now.frames
+    (ap (λ (l : LocalState). l.frames) c.self.view_is) c.requires.going c.self.invariant.above c.self.invariant.base in
     omega (arith, t.registers, c.requires.can.room, c.register_count-count.ensures, c.self.invariant.registers, c.len-used.ensures)
 
 pub invariant_of-self : goal.invariant_of-self
 invariant_of-self c =
     let s = c.self.inside in
-    let t = parts s.ended s.top s.base s.heads.items s.registers.items c.args.self.now.frames (ap (λ (l : LocalState). l.frames) c.self.view_is) c.requires.going c.self.invariant.above c.self.invariant.base in
+    let t = parts s.ended s.top s.base s.heads.items s.registers.items c.args.self.now.frames
+    (ap (λ (l : LocalState). l.frames) c.self.view_is) c.requires.going c.self.invariant.above c.self.invariant.base in
     let k : counts c.push_head.new.heads.items ≡ counts s.heads.items + (c.len-used.result - s.base) = rw c.push_head.ensures.items (counts-push s.heads.items _) in
     let h : length c.push_head.new.heads.items ≡ length s.heads.items + 1 = rw c.push_head.ensures.items (length-append s.heads.items _) in
     let values = map (operand c.args.p.now (drop s.base s.registers.items)) c.args.args.now in
     let unset : List (Option ℕ) = replicate (c.register_count-count.result - length c.args.args.now) None in
-    let r : length c.push_call.new.registers.items ≡ length s.registers.items + c.register_count-count.result = rw c.push_call.ensures.items (omega (arith, length-append s.registers.items (values ++ unset), length-append values unset, length-map c.args.args.now (operand c.args.p.now (drop s.base s.registers.items)), length-replicate {A = Option ℕ} (c.register_count-count.result - length c.args.args.now) None, c.requires.can.args, c.register_count-count.ensures)) in
+    let r : length c.push_call.new.registers.items ≡ length s.registers.items + c.register_count-count.result =
+    rw c.push_call.ensures.items (omega (
+      arith,
+      length-append s.registers.items (values ++ unset),
+      length-append values unset,
+      length-map c.args.args.now (operand c.args.p.now (drop s.base s.registers.items)),
+      length-replicate {A = Option ℕ} (c.register_count-count.result - length c.args.args.now) None,
+      c.requires.can.args,
+      c.register_count-count.ensures,
+    )) in
     record {
       base = omega (arith, k, c.self.invariant.base, c.self.invariant.above, c.len-used.ensures);
       above = omega (arith, r, c.len-used.ensures);
@@ -45,5 +56,9 @@ invariant_of-self c =
 pub returns : goal.returns
 returns c =
     let s = c.self.inside in
-    let t = parts s.ended s.top s.base s.heads.items s.registers.items c.args.self.now.frames (ap (λ (l : LocalState). l.frames) c.self.view_is) c.requires.going c.self.invariant.above c.self.invariant.base in
-    rw (← c.self.view_is) (ap (λ (fs : List Frame). record { thread = s.thread.0; begun = s.begun; halfway = false; frames = fs; heap = s.heap }) (enter_view c.args.p.now s.ended s.top _ s.base c.len-used.result c.args.g c.register_count-count.result s.heads.items c.push_head.new.heads.items s.registers.items c.push_call.new.registers.items c.args.args.now t.goes c.self.invariant.above c.self.invariant.base (omega (arith, c.len-used.ensures)) c.push_head.ensures.items c.push_call.ensures.items c.register_count-count.ensures refl c.entry.ensures refl))
+    let t = parts s.ended s.top s.base s.heads.items s.registers.items c.args.self.now.frames
+    (ap (λ (l : LocalState). l.frames) c.self.view_is) c.requires.going c.self.invariant.above c.self.invariant.base in
+    rw (← c.self.view_is) (ap (λ (fs : List Frame). record { thread = s.thread.0; begun = s.begun; halfway = false; frames = fs; heap = s.heap })
+    (enter_view c.args.p.now s.ended s.top _ s.base c.len-used.result c.args.g c.register_count-count.result s.heads.items c.push_head.new.heads.items s.registers.items
+    c.push_call.new.registers.items c.args.args.now t.goes c.self.invariant.above c.self.invariant.base
+    (omega (arith, c.len-used.ensures)) c.push_head.ensures.items c.push_call.ensures.items c.register_count-count.ensures refl c.entry.ensures refl))

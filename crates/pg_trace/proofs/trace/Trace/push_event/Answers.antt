@@ -27,7 +27,8 @@ invariant_of-self c =
     let x : Cell = record { first = c.len-index.result; second = 0; instr = c.args.instr; thread = c.args.thread; kind = cells.Event; bytes = 0 } in
     let n : length c.push_reserved-2.new.self.items ≡ length s.cells.items + 1 = rw c.push_reserved-2.ensures.items (longer s.cells.items x) in
     let named : Names (length c.push_reserved.new.self.items) x = omega (arith, more, c.len-index.ensures) in
-    let kept = all_with (length c.push_reserved.new.self.items) s.cells.items x (all_names_more (length s.events.items) (length c.push_reserved.new.self.items) s.cells.items (omega (arith, more)) c.self.invariant.0) named in (
+    let kept = all_with (length c.push_reserved.new.self.items) s.cells.items x
+    (all_names_more (length s.events.items) (length c.push_reserved.new.self.items) s.cells.items (omega (arith, more)) c.self.invariant.0) named in (
       subst (λ (cs : List Cell). All (Names (length c.push_reserved.new.self.items)) cs) (sym c.push_reserved-2.ensures.items) kept,
       omega (arith, more, n, c.self.invariant.1),
       omega (arith, n, below),
@@ -42,4 +43,5 @@ returns c =
     rw (← c.self.view_is, c.push_reserved.ensures.items, c.push_reserved-2.ensures.items)
     (ap (λ (xs : List Step). record { steps = xs; room = s.room })
     (with_event s.events.items c.args.event s.cells.items _ c.self.invariant.0
-    ∙ ap (λ (k : StepKind). steps_in s.events.items s.cells.items ++ record { thread = c.args.thread; instr = c.args.instr; kind = k } ∷ []) (rw at (ap event_or_other (last s.events.items c.args.event)))))
+    ∙ ap (λ (k : StepKind). steps_in s.events.items s.cells.items ++ record { thread = c.args.thread; instr = c.args.instr; kind = k } ∷ [])
+    (rw at (ap event_or_other (last s.events.items c.args.event)))))

@@ -1,0 +1,8 @@
+//! Tests of slices.
+
+mod checks;
+mod programs;
+mod row;
+mod runs;
+mod slices;
+mod sources;
