@@ -1,11 +1,11 @@
 -- Phases one after the other.
 use Rattle.std.proofs.Common.{◌≡◌, List, [], ◌∷◌, ◌++◌, Option, Some, None, inl, inr, subst}
-use Rattle.pg_lex.specs.declared.token.Span.{Span}
-use Rattle.pg_ast.specs.Syntax.{Tree}
-use Rattle.pg_rules.specs.declared.fault.CheckKind.{CheckKind}
-use Rattle.pg_rules.specs.declared.refusals.CheckRefusal.{CheckRefusal}
-use Rattle.pg_rules.specs.Conditions.{RefusedPlaces, phases, IsFirstOf, RefuseNothing, IsFirstRefusal, IsUnrefused}
-use Rattle.pg_rules.specs.Earliest.{IsFirstIn, IsFirstAmong}
+use Rattle.pg_read_lex.specs.declared.token.Span.{Span}
+use Rattle.pg_read_ast.specs.Syntax.{Tree}
+use Rattle.pg_check_rules.specs.declared.fault.CheckKind.{CheckKind}
+use Rattle.pg_check_rules.specs.declared.refusals.CheckRefusal.{CheckRefusal}
+use Rattle.pg_check_rules.specs.Conditions.{RefusedPlaces, phases, IsFirstOf, RefuseNothing, IsFirstRefusal, IsUnrefused}
+use Rattle.pg_check_rules.specs.Earliest.{IsFirstIn, IsFirstAmong}
 use Rattle.pg_check.specs.Checked.{IsFoundIn}
 
 first_of_front : (xs ys : List RefusedPlaces) (kind : CheckKind) (span : Span) → IsFirstOf xs kind span → IsFirstOf (xs ++ ys) kind span

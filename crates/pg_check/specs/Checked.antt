@@ -1,13 +1,13 @@
 -- What the checks promise of a module.
 use Rattle.std.specs.Prelude.{◌≡◌, ◌++◌, ◌∷◌, [], List, Option, Some, None}
 use Rattle.std.specs.List.{enumerate_from}
-use Rattle.pg_ast.specs.Syntax.{Tree}
+use Rattle.pg_read_ast.specs.Syntax.{Tree}
 use Rattle.pg_ir.specs.Program.{NumberedProgram}
-use Rattle.pg_rules.specs.declared.fault.CheckFault.{CheckFault}
-use Rattle.pg_rules.specs.declared.fault.CheckFault.TheVariants.{At, OutOfMemory}
-use Rattle.pg_rules.specs.declared.refusals.CheckRefusal.{CheckRefusal}
-use Rattle.pg_rules.specs.Conditions.{RefusedPlaces, all_of, global_refused, heads_refused, main_refused, bodies, IsUnrefused, IsFirstRefusal}
-use Rattle.pg_rules.specs.Numbered.{program_of}
+use Rattle.pg_check_rules.specs.declared.fault.CheckFault.{CheckFault}
+use Rattle.pg_check_rules.specs.declared.fault.CheckFault.TheVariants.{At, OutOfMemory}
+use Rattle.pg_check_rules.specs.declared.refusals.CheckRefusal.{CheckRefusal}
+use Rattle.pg_check_rules.specs.Conditions.{RefusedPlaces, all_of, global_refused, heads_refused, main_refused, bodies, IsUnrefused, IsFirstRefusal}
+use Rattle.pg_check_rules.specs.Numbered.{program_of}
 
 -- a tree that nothing refuses, and its numbered program
 abbrev pub IsProgramOf : Tree → NumberedProgram → Type 0

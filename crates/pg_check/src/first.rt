@@ -1,20 +1,20 @@
 //! The first refusal of a module, phase by phase.
 
 ghost use Rattle.std.specs.Prelude.{◌≡◌, ℕ, List, IfOk};
-ghost use Rattle.pg_ast.specs.Views.{tree_of};
-ghost use Rattle.pg_types.specs.NameIndex.{known_place};
-ghost use Rattle.pg_rules.specs.Names.{symbol_names};
-ghost use Rattle.pg_rules.specs.Starts.{first_start};
-ghost use Rattle.pg_rules.specs.Earliest.{IsFirstAmong};
+ghost use Rattle.pg_read_ast.specs.Views.{tree_of};
+ghost use Rattle.pg_check_types.specs.NameIndex.{known_place};
+ghost use Rattle.pg_check_rules.specs.Names.{symbol_names};
+ghost use Rattle.pg_check_rules.specs.Starts.{first_start};
+ghost use Rattle.pg_check_rules.specs.Earliest.{IsFirstAmong};
 ghost use Rattle.pg_check.specs.Checked.{IsFoundIn, last_phases, phases_from_globals};
 
 use crate::main_function::main_refusal;
 use indexmap::IndexMap;
-use pg_bodies::first_of_bodies;
-use pg_heads::{globals_refusal, heads_refusal, types_refusal};
-use pg_rules::{CheckRefusal, Symbols, index_symbols, symbol_starts};
-use pg_types::TypeNumbers;
-use pg_ast::Module;
+use pg_check_bodies::first_of_bodies;
+use pg_check_heads::{globals_refusal, heads_refusal, types_refusal};
+use pg_check_rules::{CheckRefusal, Symbols, index_symbols, symbol_starts};
+use pg_check_types::TypeNumbers;
+use pg_read_ast::Module;
 use std::alloc::{AllocError, Global};
 
 /// The first refusal of the functions' bodies, and then of a program without `main`.

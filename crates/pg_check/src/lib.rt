@@ -6,4 +6,4 @@ mod first;
 mod main_function;
 
 pub use checking::check;
-pub use pg_rules::{CheckFault, CheckKind};
+pub use pg_check_rules::{CheckFault, CheckKind};

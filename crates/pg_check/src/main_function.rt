@@ -3,14 +3,14 @@
 ghost use Rattle.std.specs.Prelude.{◌≡◌, map};
 ghost use Rattle.std.specs.List.{list_any};
 ghost use Rattle.std.specs.Str.{bytes_eq};
-ghost use Rattle.pg_ast.specs.Syntax.{Definition};
-ghost use Rattle.pg_ast.specs.Views.{define_of, tree_of};
-ghost use Rattle.pg_rules.specs.Earliest.{IsFirstIn};
-ghost use Rattle.pg_rules.specs.Conditions.{main_name, has_main, main_refused};
+ghost use Rattle.pg_read_ast.specs.Syntax.{Definition};
+ghost use Rattle.pg_read_ast.specs.Views.{define_of, tree_of};
+ghost use Rattle.pg_check_rules.specs.Earliest.{IsFirstIn};
+ghost use Rattle.pg_check_rules.specs.Conditions.{main_name, has_main, main_refused};
 
-use pg_rules::{CheckKind, CheckRefusal, place_if, refusal_at};
-use pg_ast::{DefineItem, Module};
-use pg_lex::Span;
+use pg_check_rules::{CheckKind, CheckRefusal, place_if, refusal_at};
+use pg_read_ast::{DefineItem, Module};
+use pg_read_lex::Span;
 
 fn is_main(item: &DefineItem) -> bool
     ensures { result ≡ bytes_eq item.now.name.text main_name }

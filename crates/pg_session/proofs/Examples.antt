@@ -1,8 +1,8 @@
 -- The lines of some refusals.
 use Rattle.std.proofs.Common.{◌≡◌, [], refl, codes}
 use Rattle.std.specs.Fmt.{digits}
-use Rattle.pg_grammar.specs.declared.fault.ReadFault.TheVariants as reader
-use Rattle.pg_rules.specs.declared.fault.CheckKind.TheVariants as check
+use Rattle.pg_read_grammar.specs.declared.fault.ReadFault.TheVariants as reader
+use Rattle.pg_check_rules.specs.declared.fault.CheckKind.TheVariants as check
 use Rattle.pg_session.specs.declared.refusals.TextRefusal.TheVariants.{TooLong, Read, Check}
 use Rattle.pg_session.specs.Refusals.{refusal_line}
 

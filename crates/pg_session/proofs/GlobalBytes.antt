@@ -3,16 +3,16 @@ use Rattle.std.proofs.Common.{◌≡◌, ℕ, zero, suc, ◌+◌, ◌-◌, ◌/�
 use Rattle.std.proofs.Common.{refl, arith, lt-ltb, ltb-true, cond, lit<}
 use Rattle.std.specs.Prelude.{All, ◌^◌, Option, Some, None, slice_index}
 use Rattle.std.specs.List.{list_all, enumerate_from}
-use Rattle.pg_ast.specs.Syntax.{Val, Const, Consts, ValConst, BytesConst, ArrayConst, StructConst, NoConsts, MoreConsts, Variable, Tree}
-use Rattle.pg_types.specs.Resolved.{ResolvedType, IntegerType, PointerType, VoidType, ArrayType, NoFields, MoreFields, resolved}
-use Rattle.pg_types.specs.Layout.{bytes_of, round_up, alignment_of, size_of, field_list}
-use Rattle.pg_rules.specs.Constants.{constant_word, pointer_word, little_endian, filled, value_bytes, const_bytes, element_bytes, field_bytes, unless_zero, trimmed, bytes_at}
-use Rattle.pg_rules.specs.Numbered.{global_at, program_of}
-use Rattle.pg_grammar.specs.Accepted.{IsModule}
+use Rattle.pg_read_ast.specs.Syntax.{Val, Const, Consts, ValConst, BytesConst, ArrayConst, StructConst, NoConsts, MoreConsts, Variable, Tree}
+use Rattle.pg_check_types.specs.Resolved.{ResolvedType, IntegerType, PointerType, VoidType, ArrayType, NoFields, MoreFields, resolved}
+use Rattle.pg_check_types.specs.Layout.{bytes_of, round_up, alignment_of, size_of, field_list}
+use Rattle.pg_check_rules.specs.Constants.{constant_word, pointer_word, little_endian, filled, value_bytes, const_bytes, element_bytes, field_bytes, unless_zero, trimmed, bytes_at}
+use Rattle.pg_check_rules.specs.Numbered.{global_at, program_of}
+use Rattle.pg_read_grammar.specs.Accepted.{IsModule}
 use Rattle.pg_effects.specs.Reached.{HoldBytes}
-use Rattle.pg_canonical.proofs.Again.{Every}
-use Rattle.pg_canonical.proofs.Forms.{fore, aft, both}
-use Rattle.pg_canonical.proofs.Names.{is_byte}
+use Rattle.pg_read_canonical.proofs.Again.{Every}
+use Rattle.pg_read_canonical.proofs.Forms.{fore, aft, both}
+use Rattle.pg_read_canonical.proofs.Names.{is_byte}
 use Rattle.pg_session.proofs.ModuleBytes.{HasBytes, HaveBytes, GlobalHas, globals_have}
 
 -- ---- lists of bytes

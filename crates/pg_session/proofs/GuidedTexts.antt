@@ -6,10 +6,10 @@ use Rattle.pg_ir.specs.declared.ids.InstrId.{InstrId}
 use Rattle.pg_ir.specs.declared.request.TrapName.{TrapName}
 use Rattle.pg_ir.specs.Program.{NumberedProgram}
 use Rattle.pg_ir.specs.WellFormed.{IsProgram}
-use Rattle.pg_rules.specs.Numbered.{program_of}
-use Rattle.pg_rules.specs.Conditions.{IsUnrefused}
-use Rattle.pg_ast.specs.Syntax.{Tree}
-use Rattle.pg_grammar.specs.Accepted.{IsModule}
+use Rattle.pg_check_rules.specs.Numbered.{program_of}
+use Rattle.pg_check_rules.specs.Conditions.{IsUnrefused}
+use Rattle.pg_read_ast.specs.Syntax.{Tree}
+use Rattle.pg_read_grammar.specs.Accepted.{IsModule}
 use Rattle.pg_trace.specs.declared.step.Step.{Step}
 use Rattle.pg_trace.specs.declared.turn.Turn.{Turn}
 use Rattle.pg_trace.specs.Races.{schedule_of}

@@ -4,27 +4,27 @@ use Rattle.std.specs.Prelude.{All}
 use Rattle.std.specs.List.{list_all}
 use Rattle.std.proofs.lemmas.List.Sums.{list_all-from_AllPass}
 use Rattle.pg_num.specs.declared.limits.TheConstants.{NESTING_LIMIT}
-use Rattle.pg_ast.specs.Syntax.{Const, Consts, ValConst, BytesConst, ArrayConst, StructConst, NoConsts, MoreConsts, TypedC, consts, ParamOf, Variable, Tree}
-use Rattle.pg_grammar.specs.declared.nesting.TheConstants.{INNER_NESTING_LIMIT}
-use Rattle.pg_grammar.specs.declared.token.Token.{Token}
-use Rattle.pg_grammar.specs.declared.token.Fault.TheVariants.{Unsupported}
-use Rattle.pg_grammar.specs.declared.class.Class.TheVariants.{Comma, Dots, CloseRound, CloseBrace, CloseSquare}
-use Rattle.pg_grammar.specs.Classes.{is}
-use Rattle.pg_grammar.specs.Language.{give}
-use Rattle.pg_grammar.specs.Grammar.{name_of, typed_const_in, simple_const_in, const_in}
-use Rattle.pg_grammar.specs.GrammarItems.{param, dparam, node, text_item, type_item, global_item, declare_item, define_item, attributes_item, metadata_item, Item, TypeItem, GlobalItem}
-use Rattle.pg_grammar.specs.GrammarItems.{DeclareItem, DefineItem, OtherItem, item, tree, program}
-use Rattle.pg_grammar.specs.Words.{classified}
-use Rattle.pg_grammar.specs.Accepted.{IsModule}
-use Rattle.pg_canonical.proofs.Names.{is_byte}
-use Rattle.pg_canonical.proofs.Again.{Every}
-use Rattle.pg_canonical.proofs.Yields.{Yields, Any, yields_give, yields_one, yields_then, yields_or, yields_refused, yields_many, yields_listed}
-use Rattle.pg_canonical.proofs.Types.{type_yields}
-use Rattle.pg_canonical.proofs.Values.{value_yields}
-use Rattle.pg_canonical.proofs.Attributes.{attributes_then, attributes_yields, skip_yields}
-use Rattle.pg_canonical.proofs.Bodies.{body_yields}
-use Rattle.pg_canonical.proofs.Items.{global_rest, declare_rest, define_rest}
-use Rattle.pg_canonical.proofs.Formed.{tokens_formed}
+use Rattle.pg_read_ast.specs.Syntax.{Const, Consts, ValConst, BytesConst, ArrayConst, StructConst, NoConsts, MoreConsts, TypedC, consts, ParamOf, Variable, Tree}
+use Rattle.pg_read_grammar.specs.declared.nesting.TheConstants.{INNER_NESTING_LIMIT}
+use Rattle.pg_read_grammar.specs.declared.token.Token.{Token}
+use Rattle.pg_read_grammar.specs.declared.token.Fault.TheVariants.{Unsupported}
+use Rattle.pg_read_grammar.specs.declared.class.Class.TheVariants.{Comma, Dots, CloseRound, CloseBrace, CloseSquare}
+use Rattle.pg_read_grammar.specs.Classes.{is}
+use Rattle.pg_read_grammar.specs.Language.{give}
+use Rattle.pg_read_grammar.specs.Grammar.{name_of, typed_const_in, simple_const_in, const_in}
+use Rattle.pg_read_grammar.specs.GrammarItems.{param, dparam, node, text_item, type_item, global_item, declare_item, define_item, attributes_item, metadata_item, Item, TypeItem, GlobalItem}
+use Rattle.pg_read_grammar.specs.GrammarItems.{DeclareItem, DefineItem, OtherItem, item, tree, program}
+use Rattle.pg_read_grammar.specs.Words.{classified}
+use Rattle.pg_read_grammar.specs.Accepted.{IsModule}
+use Rattle.pg_read_canonical.proofs.Names.{is_byte}
+use Rattle.pg_read_canonical.proofs.Again.{Every}
+use Rattle.pg_read_canonical.proofs.Yields.{Yields, Any, yields_give, yields_one, yields_then, yields_or, yields_refused, yields_many, yields_listed}
+use Rattle.pg_read_canonical.proofs.Types.{type_yields}
+use Rattle.pg_read_canonical.proofs.Values.{value_yields}
+use Rattle.pg_read_canonical.proofs.Attributes.{attributes_then, attributes_yields, skip_yields}
+use Rattle.pg_read_canonical.proofs.Bodies.{body_yields}
+use Rattle.pg_read_canonical.proofs.Items.{global_rest, declare_rest, define_rest}
+use Rattle.pg_read_canonical.proofs.Formed.{tokens_formed}
 
 -- ---- constants
 

@@ -2,15 +2,15 @@
 use Rattle.std.proofs.Common.{◌≡◌, ℕ, ◌≤◌, List, length, nat_lt, Bool, true, false, refl, sym, ap, ◌∙◌, subst, arith, inl, inr, ◌⊎◌}
 use Rattle.std.proofs.lemmas.Bool.Decides.{nat_tests}
 use Rattle.pg_num.specs.declared.limits.TheConstants.{PROGRAM_TEXT_LIMIT}
-use Rattle.pg_lex.specs.declared.token.Span.{Span}
-use Rattle.pg_ast.specs.Syntax.{Tree}
-use Rattle.pg_grammar.specs.declared.fault.ReadFault.{ReadFault}
-use Rattle.pg_grammar.specs.Accepted.{IsModule, IsUnread}
-use Rattle.pg_grammar.proofs.TextLaws.{module_once, module_or_first, first_not_module, first_once}
+use Rattle.pg_read_lex.specs.declared.token.Span.{Span}
+use Rattle.pg_read_ast.specs.Syntax.{Tree}
+use Rattle.pg_read_grammar.specs.declared.fault.ReadFault.{ReadFault}
+use Rattle.pg_read_grammar.specs.Accepted.{IsModule, IsUnread}
+use Rattle.pg_read_grammar.proofs.TextLaws.{module_once, module_or_first, first_not_module, first_once}
 use Rattle.pg_ir.specs.Program.{NumberedProgram}
-use Rattle.pg_rules.specs.declared.fault.CheckKind.{CheckKind}
-use Rattle.pg_rules.specs.Conditions.{phases, IsFirstRefusal, IsUnrefused}
-use Rattle.pg_rules.specs.Numbered.{program_of}
+use Rattle.pg_check_rules.specs.declared.fault.CheckKind.{CheckKind}
+use Rattle.pg_check_rules.specs.Conditions.{phases, IsFirstRefusal, IsUnrefused}
+use Rattle.pg_check_rules.specs.Numbered.{program_of}
 use Rattle.pg_session.specs.declared.refusals.TextRefusal.{TextRefusal}
 use Rattle.pg_session.specs.declared.refusals.TextRefusal.TheVariants.{TooLong, Read, Check}
 use Rattle.pg_session.specs.Refusals.{IsRefusedFor, IsRefused, refusal_name, refusal_place, fault_name, fault_place, kind_name}

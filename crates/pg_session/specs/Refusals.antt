@@ -2,15 +2,15 @@
 use Rattle.std.specs.Prelude.{ℕ, ◌<◌, ◌≤◌, List, [], ◌++◌, length, take, slice_range, codes, Option, Some, None}
 use Rattle.std.specs.Fmt.{decimal}
 use Rattle.pg_num.specs.declared.limits.TheConstants.{PROGRAM_TEXT_LIMIT}
-use Rattle.pg_lex.specs.declared.token.Span.{Span}
-use Rattle.pg_lex.specs.Places.{line_after, column_after}
-use Rattle.pg_ast.specs.Syntax.{Tree}
-use Rattle.pg_grammar.specs.declared.fault.ReadFault.{ReadFault}
-use Rattle.pg_grammar.specs.declared.fault.ReadFault.TheVariants as reader
-use Rattle.pg_grammar.specs.Accepted.{IsModule, IsUnread}
-use Rattle.pg_rules.specs.declared.fault.CheckKind.{CheckKind}
-use Rattle.pg_rules.specs.declared.fault.CheckKind.TheVariants as check
-use Rattle.pg_rules.specs.Conditions.{IsFirstRefusal}
+use Rattle.pg_read_lex.specs.declared.token.Span.{Span}
+use Rattle.pg_read_lex.specs.Places.{line_after, column_after}
+use Rattle.pg_read_ast.specs.Syntax.{Tree}
+use Rattle.pg_read_grammar.specs.declared.fault.ReadFault.{ReadFault}
+use Rattle.pg_read_grammar.specs.declared.fault.ReadFault.TheVariants as reader
+use Rattle.pg_read_grammar.specs.Accepted.{IsModule, IsUnread}
+use Rattle.pg_check_rules.specs.declared.fault.CheckKind.{CheckKind}
+use Rattle.pg_check_rules.specs.declared.fault.CheckKind.TheVariants as check
+use Rattle.pg_check_rules.specs.Conditions.{IsFirstRefusal}
 use Rattle.pg_session.specs.declared.refusals.TextRefusal.{TextRefusal}
 use Rattle.pg_session.specs.declared.refusals.TextRefusal.TheVariants.{TooLong, Read, Check}
 

@@ -2,14 +2,14 @@
 use Rattle.std.specs.Prelude.{◌≡◌, ℕ, ◌≤◌, List, [], ◌++◌, length, codes, ℤ}
 use Rattle.std.specs.Fmt.{decimal, signed_decimal}
 use Rattle.pg_num.specs.declared.limits.TheConstants.{PROGRAM_TEXT_LIMIT}
-use Rattle.pg_ast.specs.Syntax.{Tree}
-use Rattle.pg_grammar.specs.Accepted.{IsModule}
+use Rattle.pg_read_ast.specs.Syntax.{Tree}
+use Rattle.pg_read_grammar.specs.Accepted.{IsModule}
 use Rattle.pg_ir.specs.declared.ids.InstrId.{InstrId}
 use Rattle.pg_ir.specs.declared.request.TrapName.{TrapName}
 use Rattle.pg_ir.specs.Program.{NumberedProgram}
 use Rattle.pg_ir.specs.TrapNames.{trap_text}
-use Rattle.pg_rules.specs.Conditions.{IsUnrefused}
-use Rattle.pg_rules.specs.Numbered.{program_of}
+use Rattle.pg_check_rules.specs.Conditions.{IsUnrefused}
+use Rattle.pg_check_rules.specs.Numbered.{program_of}
 use Rattle.pg_trace.specs.declared.step.Step.{Step}
 use Rattle.pg_trace.specs.Races.{schedule_of}
 use Rattle.pg_machine.specs.Rotation.{RunResult, rotation_of}

@@ -9,7 +9,7 @@ ghost use Rattle.pg_session.specs.declared.refusals.TextRefusal.{TextRefusal};
 ghost use Rattle.pg_session.specs.Refusals.{IsRefused, IsRefusedFor, refusal_name, refusal_place};
 ghost use Rattle.pg_session.specs.Texts.{IsAccepted, run_along};
 
-use pg_numbering::laws::an_accepted_module_is_a_program;
+use pg_check_numbering::laws::an_accepted_module_is_a_program;
 use pg_machine::guided_laws::{a_guided_run_is_a_run, a_guided_run_that_exits_is_full};
 use pg_machine::{GuidedEnd, Outcome};
 use pg_order::recorded::the_schedule_of_a_rotation_run_is_good;

@@ -4,8 +4,8 @@ ghost use Rattle.pg_num.specs.declared.limits.TheConstants.{PROGRAM_TEXT_LIMIT};
 ghost use Rattle.pg_session.specs.Refusals.{fault_name, kind_name, refusal_name, fault_place, refusal_place, fault_token, kind_token, refusal_token, token_text, refusal_head, refusal_line};
 
 use pg_check::CheckKind;
-use pg_grammar::ReadFault;
-use pg_lex::{Span, position};
+use pg_read_grammar::ReadFault;
+use pg_read_lex::{Span, position};
 use std::alloc::{AllocError, Global};
 
 /// Why a program text is refused.

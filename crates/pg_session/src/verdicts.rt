@@ -1,18 +1,18 @@
 //! What is found of a program text: its program, or why it is refused.
 ghost use Rattle.std.specs.Prelude.{◌≤◌, length, IfOk};
 ghost use Rattle.pg_num.specs.declared.limits.TheConstants.{PROGRAM_TEXT_LIMIT};
-ghost use Rattle.pg_ast.specs.Views.{tree_of};
-ghost use Rattle.pg_grammar.specs.Accepted.{IsModule};
+ghost use Rattle.pg_read_ast.specs.Views.{tree_of};
+ghost use Rattle.pg_read_grammar.specs.Accepted.{IsModule};
 ghost use Rattle.pg_session.specs.Verdicts.{IsVerdict};
 
 use crate::refusals::TextRefusal;
 use pg_check::{CheckFault, check};
-use pg_numbering::laws::a_module_is_in_order;
+use pg_check_numbering::laws::a_module_is_in_order;
 use pg_ir::Program;
 use pg_num::limits::PROGRAM_TEXT_LIMIT;
-use pg_parse::parse;
-use pg_ast::Module;
-use pg_grammar::ReadFault;
+use pg_read::parse;
+use pg_read_ast::Module;
+use pg_read_grammar::ReadFault;
 use std::alloc::{AllocError, Global};
 
 /// A program text's program, or why it is refused.

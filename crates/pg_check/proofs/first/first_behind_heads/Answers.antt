@@ -1,6 +1,6 @@
 use Rattle.std.proofs.Common.{[], ◌∷◌}
-use Rattle.pg_ast.specs.Views.{tree_of}
-use Rattle.pg_rules.specs.Conditions.{bodies, main_refused}
+use Rattle.pg_read_ast.specs.Views.{tree_of}
+use Rattle.pg_check_rules.specs.Conditions.{bodies, main_refused}
 use Rattle.pg_check.proofs.PhaseLists.{first_in_front, first_at_end}
 use Rattle.pg_check.proofs.first.first_behind_heads.Goals as goal
 

@@ -1,6 +1,6 @@
 use Rattle.std.proofs.Common.{IfOk, subst}
-use Rattle.pg_ast.specs.Views.{tree_of}
-use Rattle.pg_rules.specs.Earliest.{IsFirstAmong}
+use Rattle.pg_read_ast.specs.Views.{tree_of}
+use Rattle.pg_check_rules.specs.Earliest.{IsFirstAmong}
 use Rattle.pg_check.specs.Checked.{phases_from_globals}
 use Rattle.pg_check.proofs.first.first_behind_types.Goals as goal
 

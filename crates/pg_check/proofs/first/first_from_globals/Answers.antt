@@ -1,10 +1,10 @@
 use Rattle.std.proofs.Common.{Some, sym, ap}
 use Rattle.std.specs.List.{enumerate_from}
-use Rattle.pg_ast.specs.Views.{tree_of}
-use Rattle.pg_types.specs.NumberedTypes.{items_of}
-use Rattle.pg_types.proofs.Resolutions.{if_ok}
-use Rattle.pg_rules.specs.Conditions.{all_of, global_refused, heads_refused}
-use Rattle.pg_rules.proofs.FirstRefusals.{first_here, nothing_here, first_behind}
+use Rattle.pg_read_ast.specs.Views.{tree_of}
+use Rattle.pg_check_types.specs.NumberedTypes.{items_of}
+use Rattle.pg_check_types.proofs.Resolutions.{if_ok}
+use Rattle.pg_check_rules.specs.Conditions.{all_of, global_refused, heads_refused}
+use Rattle.pg_check_rules.proofs.FirstRefusals.{first_here, nothing_here, first_behind}
 use Rattle.pg_check.specs.Checked.{last_phases, phases_from_heads}
 use Rattle.pg_check.proofs.first.first_from_globals.Goals as goal
 

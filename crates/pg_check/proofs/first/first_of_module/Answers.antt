@@ -1,8 +1,8 @@
 use Rattle.std.proofs.Common.{Some}
-use Rattle.pg_ast.specs.Views.{tree_of}
-use Rattle.pg_types.proofs.Resolutions.{if_ok}
-use Rattle.pg_rules.specs.Conditions.{all_of, item_refused, phases}
-use Rattle.pg_rules.proofs.FirstRefusals.{first_here, nothing_here, first_behind}
+use Rattle.pg_read_ast.specs.Views.{tree_of}
+use Rattle.pg_check_types.proofs.Resolutions.{if_ok}
+use Rattle.pg_check_rules.specs.Conditions.{all_of, item_refused, phases}
+use Rattle.pg_check_rules.proofs.FirstRefusals.{first_here, nothing_here, first_behind}
 use Rattle.pg_check.specs.Checked.{phases_from_globals}
 use Rattle.pg_check.proofs.PhaseLists.{found_in}
 use Rattle.pg_check.proofs.first.first_of_module.Goals as goal

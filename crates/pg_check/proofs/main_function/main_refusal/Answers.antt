@@ -1,13 +1,13 @@
 use Rattle.std.proofs.Common.{◌≡◌, not, map, refl, ap, ◌∙◌}
 use Rattle.std.specs.List.{list_any}
 use Rattle.std.specs.Str.{bytes_eq}
-use Rattle.pg_ast.specs.Syntax.{Tree, Definition}
-use Rattle.pg_ast.specs.Views.{define_of, tree_of}
-use Rattle.pg_rules.specs.declared.fault.CheckKind.{CheckKind}
-use Rattle.pg_rules.specs.declared.fault.CheckKind.TheVariants.{NoMain}
-use Rattle.pg_rules.specs.Earliest.{earliest, only}
-use Rattle.pg_rules.specs.Conditions.{at_if, main_name, main_refused}
-use Rattle.pg_rules.proofs.FirstRefusals.{same_places}
+use Rattle.pg_read_ast.specs.Syntax.{Tree, Definition}
+use Rattle.pg_read_ast.specs.Views.{define_of, tree_of}
+use Rattle.pg_check_rules.specs.declared.fault.CheckKind.{CheckKind}
+use Rattle.pg_check_rules.specs.declared.fault.CheckKind.TheVariants.{NoMain}
+use Rattle.pg_check_rules.specs.Earliest.{earliest, only}
+use Rattle.pg_check_rules.specs.Conditions.{at_if, main_name, main_refused}
+use Rattle.pg_check_rules.proofs.FirstRefusals.{same_places}
 use Rattle.pg_check.proofs.main_function.main_refusal.Goals as goal
 
 kinds : (m : Tree) (kind : CheckKind) → only NoMain (main_refused m NoMain) kind ≡ main_refused m kind

@@ -1,4 +1,4 @@
-use Rattle.pg_ast.specs.Views.{tree_of}
+use Rattle.pg_read_ast.specs.Views.{tree_of}
 use Rattle.pg_session.proofs.verdicts.checked.Goals as goal
 
 pub check-requires : goal.check-requires

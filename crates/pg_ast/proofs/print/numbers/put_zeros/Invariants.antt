@@ -1,5 +1,0 @@
-use Rattle.std.proofs.Common.{◌≡◌, ◌++◌, replicate, ℕ}
-use Rattle.pg_ast.proofs.print.numbers.put_zeros.Given as goal
-
-abbrev pub invariant-loop : goal.invariant-loop
-invariant-loop l = l.out.items ≡ l.initial.out.items ++ replicate {A = ℕ} l.counter 48

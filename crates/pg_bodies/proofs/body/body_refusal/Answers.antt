@@ -1,6 +1,0 @@
-use Rattle.pg_bodies.proofs.body.body_refusal.Goals as goal
-
-pub returns : goal.returns
-returns c = record {
-  first = c.in_ok-found.ensures.first;
-}

@@ -1,9 +1,0 @@
-use Rattle.pg_rules.specs.CallConditions.{unsupported_thread}
-use Rattle.pg_calls.proofs.ThreadFunctions.{thread_row, thread_none}
-use Rattle.pg_calls.proofs.threads.unsupported_thread.Goals as goal
-
-pub returns-in-Some : goal.returns-in-Some
-returns-in-Some c = λ g s. thread_row (unsupported_thread g) _ _ _ (c.in-Some.ensures g s) (c.unsupported_value.ensures g s)
-
-pub returns-in-None : goal.returns-in-None
-returns-in-None c = λ g s. thread_none (unsupported_thread g) _ (c.in-None.ensures g s)

@@ -1,0 +1,17 @@
+use Rattle.std.proofs.Common.{true}
+use Rattle.pg_read_ast.specs.Views.{ty_of}
+use Rattle.pg_check_rules.specs.Written.{Use}
+use Rattle.pg_check_rules.specs.ValueConditions.{function_value}
+use Rattle.pg_check_rules.proofs.Parts.{no_place}
+use Rattle.pg_check_rules.proofs.Rows.{row_step}
+use Rattle.pg_check_heads.specs.Initialisers.{use_behind, within_row}
+use Rattle.pg_check_heads.proofs.initialiser_rows.function_uses.Goals as goal
+
+pub loop-one-init : goal.loop-one-init
+loop-one-init c = λ g s. no_place
+
+pub loop-one-preserved : goal.loop-one-preserved
+loop-one-preserved c = λ g s.
+    row_step (within_row (λ (u : Use). function_value g u.value)) use_behind c.args.uses.now c.loop-one.one-index c.one-item.result c.one-item.result
+    c.loop-one.found c.function_values.result c.earlier-found.result c.loop-one-test.true c.one-item.is (c.loop-one.invariant g s)
+    (c.function_values.ensures g true (ty_of c.one-item.result.ty.now) s) c.earlier-found.ensures

@@ -1,0 +1,12 @@
+use Rattle.std.proofs.Common.{sym, ap, ◌∙◌}
+use Rattle.pg_check_types.specs.Known.{denoted}
+use Rattle.pg_check_types.specs.Kinds.{fails}
+use Rattle.pg_check_types.specs.NumberedTypes.{table_of}
+use Rattle.pg_check_rules.specs.Conditions.{at_if}
+use Rattle.pg_check_rules.specs.Earliest.{earliest}
+use Rattle.pg_check_rules.specs.ValueConditions.{fits_bytes}
+use Rattle.pg_check_rules.proofs.Parts.{no_place}
+use Rattle.pg_check_heads.proofs.wrong_constants.wrong_bytes.Goals as goal
+
+pub returns-in-None : goal.returns-in-None
+returns-in-None c = no_place ∙ ap (λ o. earliest (at_if (fails (λ u. fits_bytes u c.args.literal.now.text) (denoted (table_of c.args.types.now) o)) c.args.literal.now.span)) (sym c.in-None.is)

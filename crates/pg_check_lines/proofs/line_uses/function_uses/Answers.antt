@@ -1,0 +1,17 @@
+use Rattle.std.proofs.Common.{refl}
+use Rattle.pg_check_rules.specs.Earliest.{earliest}
+use Rattle.pg_check_lines.specs.Uses.{function_row}
+use Rattle.pg_check_lines.proofs.UseRows.{use_step, use_whole}
+use Rattle.pg_check_lines.proofs.line_uses.function_uses.Goals as goal
+
+pub loop-one-init : goal.loop-one-init
+unfolding earliest
+loop-one-init c = λ g s. refl
+
+pub loop-one-preserved : goal.loop-one-preserved
+loop-one-preserved c = λ g s.
+    use_step (function_row g) c.args.uses.now c.loop-one.one-index c.one-item.result c.loop-one.found c.function_use.result c.earlier-found.result
+    c.loop-one-test.true c.one-item.is (c.loop-one.invariant g s) (c.function_use.ensures g s) c.earlier-found.ensures
+
+pub returns : goal.returns
+returns c = λ g s. use_whole (function_row g) c.args.uses.now c.loop-one.one-index c.loop-one.found c.loop-one-test.false (c.loop-one.invariant g s)

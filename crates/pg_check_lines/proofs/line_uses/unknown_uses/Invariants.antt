@@ -1,0 +1,10 @@
+use Rattle.std.proofs.Common.{◌≡◌, take}
+use Rattle.std.specs.List.{flat_map}
+use Rattle.pg_check_rules.specs.ValueConditions.{Scope}
+use Rattle.pg_check_rules.specs.Earliest.{earliest}
+use Rattle.pg_check_values.specs.Scopes.{IsLineScope}
+use Rattle.pg_check_lines.specs.Uses.{uses_of, unknown_row, row_within}
+use Rattle.pg_check_lines.proofs.line_uses.unknown_uses.Given as goal
+
+abbrev pub invariant-loop-one : goal.invariant-loop-one
+invariant-loop-one l = (g : Scope) → IsLineScope l.scope g → l.found ≡ earliest (flat_map (row_within (unknown_row g)) (uses_of (take l.one-index l.uses)))

@@ -1,0 +1,8 @@
+use Rattle.std.proofs.Common.{◌≡◌, map, take}
+use Rattle.pg_read_ast.specs.Views.{define_of}
+use Rattle.pg_check_types.specs.NameIndex.{texts_of}
+use Rattle.pg_check_rules.specs.Symbols.{definition_text}
+use Rattle.pg_check_rules.proofs.symbols.definition_names.Given as goal
+
+abbrev pub invariant-loop-item : goal.invariant-loop-item
+invariant-loop-item l = texts_of l.names.items ≡ map definition_text (map define_of (take l.item-index l.items))

@@ -1,0 +1,5 @@
+use Rattle.pg_check_values.proofs.Places.{both}
+use Rattle.pg_check_values.proofs.names.function_values.Goals as goal
+
+pub returns : goal.returns
+returns c = λ g k t s. both _ _ _ _ _ c.earlier.ensures (c.function_value.ensures g s) (c.function_within-within.ensures g s)

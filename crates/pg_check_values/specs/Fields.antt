@@ -1,0 +1,31 @@
+-- The fields of a structure by the numbers of their types.
+use Rattle.std.specs.Prelude.{◌≡◌, ℕ, ◌<◌, List, [], ◌++◌, reverse, length, map, slice_get, ℤ, pos, Option, Some, None}
+use Rattle.pg_check_types.specs.Resolved.{ResolvedType, MoreFields}
+use Rattle.pg_check_types.specs.Layout.{field_list}
+use Rattle.pg_check_types.specs.Table.{type_at}
+use Rattle.pg_check_values.specs.declared.fields.LastField.{LastField}
+
+abbrev pub HasNoFields : ResolvedType → Type 0
+HasNoFields t = field_list t ≡ []
+
+-- a structure is the fields before its last and that one
+pub record IsLast (table : List ResolvedType) (number : ℕ) (last : LastField) : Type 0 where
+  pub whole : type_at table number ≡ MoreFields (type_at table last.front) (type_at table last.field)
+  pub below : last.front < number
+  pub within : last.field < length table
+
+abbrev pub field_type : List ResolvedType → ℕ → Option ResolvedType
+field_type table n = slice_get table n
+
+-- these are the numbers of the fields of a type
+abbrev pub AreFields : List ResolvedType → ResolvedType → List ℕ → Type 0
+AreFields table t fields = map (field_type table) fields ≡ map (λ u. Some u) (field_list t)
+
+-- the field that an index chooses
+abbrev pub field_chosen : List ℕ → Option ℤ → Option ℕ
+field_chosen fields (Some (pos k)) = slice_get fields k
+field_chosen fields _ = None
+
+-- these are the fields of a type behind those of its front, the last first
+abbrev pub FieldsBehind : List ResolvedType → ResolvedType → ResolvedType → List ℕ → Type 0
+FieldsBehind table front t fields = map (λ u. Some u) (field_list front) ++ map (field_type table) (reverse fields) ≡ map (λ u. Some u) (field_list t)

@@ -1,6 +1,0 @@
-use Rattle.std.proofs.Common.{◌≡◌, take}
-use Rattle.pg_rules.specs.Constants.{trimmed}
-use Rattle.pg_constants.proofs.bytes.trimmed_length.Given as goal
-
-abbrev pub invariant-loop-place : goal.invariant-loop-place
-invariant-loop-place l = take l.length l.bytes ≡ trimmed (take l.place l.bytes)

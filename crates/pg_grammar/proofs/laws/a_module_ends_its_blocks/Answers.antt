@@ -1,5 +1,0 @@
-use Rattle.pg_grammar.proofs.EndingLaws.{module_ends}
-use Rattle.pg_grammar.proofs.laws.a_module_ends_its_blocks.Goals as goal
-
-pub returns : goal.returns
-returns c = module_ends

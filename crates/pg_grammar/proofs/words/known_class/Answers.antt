@@ -1,6 +1,0 @@
-use Rattle.pg_grammar.specs.Words.{words}
-use Rattle.pg_grammar.proofs.words.known_class.Goals as goal
-
-pub returns : goal.returns
-unfolding words
-returns c = c.find_class.ensures

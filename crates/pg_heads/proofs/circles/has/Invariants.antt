@@ -1,6 +1,0 @@
-use Rattle.std.proofs.Common.{◌≡◌, false, take}
-use Rattle.pg_heads.specs.Circles.{has}
-use Rattle.pg_heads.proofs.circles.has.Given as goal
-
-abbrev pub invariant-loop-index : goal.invariant-loop-index
-invariant-loop-index l = has (take l.index l.all) l.place ≡ false

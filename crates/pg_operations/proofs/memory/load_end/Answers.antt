@@ -1,5 +1,0 @@
-use Rattle.std.proofs.Common.{refl}
-use Rattle.pg_operations.proofs.memory.load_end.Goals as goal
-
-pub returns : goal.returns
-returns c = let e = c.in_ok-pointer.ensures in (rw e.0 refl, e.1, e.2)

@@ -1,5 +1,0 @@
-use Rattle.std.proofs.Common.{refl}
-use Rattle.pg_operations.proofs.phi.incoming_tail.Goals as goal
-
-pub returns : goal.returns
-returns c = let e = c.in_ok-block.ensures in (rw e.0 refl, e.1, e.2)

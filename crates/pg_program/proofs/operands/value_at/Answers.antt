@@ -1,8 +1,0 @@
-use Rattle.std.proofs.Common.{sym, subst}
-use Rattle.pg_ast.specs.Views.{tree_of}
-use Rattle.pg_program.specs.Room.{IsShort}
-use Rattle.pg_program.proofs.Places.{symbol_short}
-use Rattle.pg_program.proofs.operands.value_at.Goals as goal
-
-pub symbol_value-requires : goal.symbol_value-requires
-symbol_value-requires c = subst (λ s. IsShort s) (sym c.symbol.ensures) (symbol_short (tree_of c.args.scope.now.globals.now.symbols.tree.now) _ c.args.scope.now.few_symbols)

@@ -1,6 +1,0 @@
-use Rattle.pg_ast.specs.Views.{tree_of}
-use Rattle.pg_program.proofs.Accepted.{program_fits}
-use Rattle.pg_program.proofs.program.program_parts.Goals as goal
-
-pub parts_of-requires-clause-fits : goal.parts_of-requires-clause-fits
-parts_of-requires-clause-fits c = program_fits (tree_of c.args.tree.now) c.requires.accepted

@@ -1,0 +1,13 @@
+use Rattle.std.proofs.Common.{drop, arith, sym}
+use Rattle.pg_read_grammar.specs.ReaderItems.{define_item_at}
+use Rattle.pg_read.specs.FunctionParts.{define_end_at}
+use Rattle.pg_read_grammar.proofs.Loops.{reads_on}
+use Rattle.pg_read.proofs.FunctionGroups.{define_grouped}
+use Rattle.pg_read.proofs.functions.define_item.Goals as goal
+
+pub returns-clause-read : goal.returns-clause-read
+unfolding define_item_at
+returns-clause-read c = let a = c.in_ok-at.ensures.read in let b = c.in_ok-at-2.ensures in
+    reads_on c.define_end.result _ _ c.args.text.now.tokens.now c.args.at c.in_ok-at-2.at (define_end_at (drop c.in_ok-at-2.at c.args.text.now.tokens.now))
+    (define_item_at (drop c.args.at c.args.text.now.tokens.now)) c.define_end.ensures
+    (rw a.0 (rw b.0 (sym (define_grouped (drop c.in_ok-at-2.at c.args.text.now.tokens.now))))) (omega (arith, a.1, b.1))

@@ -1,0 +1,5 @@
+use Rattle.std.proofs.Common.{refl}
+use Rattle.pg_read_operations.proofs.numbers.binary_end.Goals as goal
+
+pub returns : goal.returns
+returns c = let e = c.in_ok-ty.ensures in let o = c.binary_op-op.ensures in (rw e.0 (rw o refl), e.1, e.2)

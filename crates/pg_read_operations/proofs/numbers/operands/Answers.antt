@@ -1,0 +1,6 @@
+use Rattle.std.proofs.Common.{arith, refl}
+use Rattle.pg_read_operations.proofs.numbers.operands.Goals as goal
+
+pub returns : goal.returns
+returns c = let a = c.in_ok-ty.ensures in let b = c.in_ok-left.ensures in
+    (rw a.0 (rw b.0 refl), omega (arith, a.1, b.1), b.2)

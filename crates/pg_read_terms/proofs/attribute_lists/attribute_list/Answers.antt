@@ -1,0 +1,26 @@
+use Rattle.std.proofs.Common.{drop, sym, ◌∙◌, arith}
+use Rattle.pg_read_grammar.specs.Reading.{all_of}
+use Rattle.pg_read_grammar.specs.Reader.{attribute_at, begins_attribute, drop_value_at}
+use Rattle.pg_read_grammar.proofs.Loops.{rests_next, rests_stop, rests_refuses}
+use Rattle.pg_read_terms.proofs.attribute_lists.attribute_list.Goals as goal
+
+pub returns-in-Err : goal.returns-in-Err
+returns-in-Err c = let i = c.loop-error.invariant in
+    rests_refuses begins_attribute attribute_at c.args.tokens.now c.args.at c.loop-error.place
+    (drop_value_at (all_of begins_attribute attribute_at) (drop c.args.at c.args.tokens.now)) c.in-Err.error i.2 (sym c.next_in.ensures ∙ c.loop-error-test.true) i.0 c.in-Err.ensures.read
+
+pub loop-error-preserved : goal.loop-error-preserved
+loop-error-preserved c = let i = c.loop-error.invariant in let o = c.in-Ok.ensures.read in (
+  omega (arith, i.0, o.1),
+  o.2,
+  rests_next begins_attribute attribute_at c.args.tokens.now c.loop-error.place c.in-Ok.to tt
+      (drop_value_at (all_of begins_attribute attribute_at) (drop c.args.at c.args.tokens.now)) i.2 (sym c.next_in.ensures ∙ c.loop-error-test.true) o.0 c.in-Ok.ensures.on o.2,
+)
+
+pub returns : goal.returns
+returns c = let i = c.loop-error.invariant in (
+  rests_stop begins_attribute attribute_at (drop c.loop-error.place c.args.tokens.now) (drop_value_at (all_of begins_attribute attribute_at) (drop c.args.at c.args.tokens.now)) i.2
+      (sym c.next_in.ensures ∙ c.loop-error-test.false),
+  i.0,
+  i.1,
+)

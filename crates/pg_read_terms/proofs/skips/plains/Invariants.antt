@@ -1,0 +1,12 @@
+use Rattle.std.proofs.Common.{◌≤◌, ◌-◌, length, drop}
+use Rattle.pg_read_grammar.specs.Grammar.{plain}
+use Rattle.pg_read_grammar.specs.Reading.{take_one}
+use Rattle.pg_read_grammar.specs.Reader.{plains_at}
+use Rattle.pg_read_grammar.proofs.Loops.{Rests}
+use Rattle.pg_read_terms.proofs.skips.plains.Given as goal
+
+abbrev pub invariant-loop-place : goal.invariant-loop-place
+invariant-loop-place l = (l.at ≤ l.place) × (l.place ≤ length l.tokens) × Rests plain (take_one plain) (drop l.place l.tokens) (plains_at (drop l.at l.tokens))
+
+abbrev pub decreases-loop-place : goal.decreases-loop-place
+decreases-loop-place l = length l.tokens - l.place

@@ -1,7 +1,0 @@
--- The names of parameters.
-use Rattle.std.specs.Prelude.{Option}
-use Rattle.pg_ast.specs.declared.names.Name.{Name}
-use Rattle.pg_ast.specs.Syntax.{Param}
-
-abbrev pub param_name : Param → Option Name
-param_name p = p.name

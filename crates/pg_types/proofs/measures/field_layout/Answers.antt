@@ -1,8 +1,0 @@
-use Rattle.std.proofs.Common.{◌+◌, ap, ◌∙◌}
-use Rattle.pg_types.specs.Capped.{capped}
-use Rattle.pg_types.proofs.Capping.{field_layout}
-use Rattle.pg_types.proofs.measures.field_layout.Goals as goal
-
-pub returns : goal.returns
-returns c = field_layout c.args.front c.args.field _ (c.capped-fields_end.ensures.value ∙ ap (λ n. capped (n + c.args.field.size)) c.round_up-at.ensures.value) c.max-alignment.ensures
-    (c.capped-size.ensures.value ∙ ap (λ n. capped n) c.round_up.ensures.value)

@@ -1,8 +1,0 @@
-use Rattle.std.proofs.Common.{◌≡◌, ◌++◌, map, take}
-use Rattle.pg_ast.specs.Syntax.{Typed}
-use Rattle.pg_ast.specs.Views.{typed_of}
-use Rattle.pg_rules.specs.Nodes.{tys_behind}
-use Rattle.pg_values.proofs.own_types.add_index_types.Given as goal
-
-abbrev pub invariant-loop-index : goal.invariant-loop-index
-invariant-loop-index l = tys_behind l.all.items ≡ tys_behind l.fn.all.items ++ map (λ (i : Typed). i.ty) (map typed_of (take l.index-index l.indices))

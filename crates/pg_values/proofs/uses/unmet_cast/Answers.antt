@@ -1,7 +1,0 @@
-use Rattle.pg_values.proofs.Places.{both_end}
-use Rattle.pg_values.proofs.uses.unmet_cast.Goals as goal
-
-pub returns : goal.returns
-returns c = record {
-  place = both_end _ _ _ _ _ c.earlier.ensures c.in_ok-first.ensures.place c.in_ok-second.ensures.place;
-}
