@@ -1,8 +1,6 @@
 -- How indices move within a type, one after the other.
-use Rattle.std.proofs.Common.{◌≡◌, ℕ, zero, suc, ◌+◌, ◌<◌, ◌≤◌, List, [], ◌∷◌, ◌++◌, length, map, drop, get_or, slice_get, unwrap_or, Option, Some, None, ℤ}
-use Rattle.std.proofs.Common.{pos, negsuc, ◌+ℤ◌, refl, sym, ap, ◌∙◌, arith}
-use Rattle.std.specs.Option.{option_map}
-use Rattle.std.proofs.lemmas.Option.{slice_get-map, slice_get_within}
+use Rattle.std.proofs.Common.{◌≡◌, ℕ, zero, suc, ◌+◌, ◌<◌, ◌≤◌, List, [], ◌∷◌, ◌++◌, length, map, drop, get_or, Option, Some, None, ℤ}
+use Rattle.std.proofs.Common.{◌+ℤ◌, refl, sym, ap, ◌∙◌, arith}
 use Rattle.std.proofs.lemmas.List.{append_assoc, append-nil}
 use Rattle.pg_read_ast.specs.declared.values.TypedVal.{TypedVal}
 use Rattle.pg_read_ast.specs.Views.{typed_of}
@@ -10,44 +8,11 @@ use Rattle.pg_read_ast.specs.Syntax.{Ty, Typed, NamedType}
 use Rattle.pg_ir.specs.declared.value.Scale.{Scale}
 use Rattle.pg_ir.specs.declared.value.Scale.TheVariants.{Times}
 use Rattle.pg_check_types.specs.Resolved.{ResolvedType, IntegerType, PointerType, VoidType, ArrayType, NoFields, MoreFields, resolved}
-use Rattle.pg_check_types.specs.Layout.{field_list, field_offsets, size_or_none}
-use Rattle.pg_check_types.specs.Known.{denoted, IsWithin}
-use Rattle.pg_check_constants.specs.declared.fields.Field as field
-use Rattle.pg_check_constants.specs.Fields.{AreFields, field_type, offset_in, field_chosen, offset_or_none, number_or_none}
+use Rattle.pg_check_types.specs.Layout.{size_or_none}
 use Rattle.pg_check_rules.specs.ValueConditions.{field_at}
-use Rattle.pg_check_rules.specs.Constants.{offset_at, step_scales, index_scales, moves, index_move}
+use Rattle.pg_check_rules.specs.Constants.{step_scales, index_scales, moves, index_move}
 use Rattle.pg_check_rules.specs.Integers.{index_number}
 use Rattle.pg_check_constants.specs.Indices.{scale_within, type_within, scales_within, scales_of, moves_of}
-
--- ---- the field that an index chooses
-
-chosen_type : (table : List ResolvedType) (a : Option field.Field) (b : Option ResolvedType) → option_map (field_type table) a ≡ option_map (λ u. Some u) b
-    → (denoted table (number_or_none a) ≡ b) × IsWithin table (number_or_none a)
-chosen_type table None None e = (refl, tt)
-chosen_type table None (Some u) e = cc
-chosen_type table (Some f) None e = cc
-chosen_type table (Some f) (Some u) e =
-    let s : slice_get table f.number ≡ Some u = ap (λ o. unwrap_or o None) e in
-    (s, slice_get_within table f.number u s)
-
-chosen_offset : (a : Option field.Field) (b : Option ℕ) → option_map offset_in a ≡ b → offset_or_none a ≡ unwrap_or b 0
-chosen_offset None b e = ap (λ o. unwrap_or o 0) e
-chosen_offset (Some f) b e = ap (λ o. unwrap_or o 0) e
-
-pub field_is : (table : List ResolvedType) (t : ResolvedType) (fields : List field.Field) (i : Option ℤ) → AreFields table t fields
-    → (denoted table (number_or_none (field_chosen fields i)) ≡ field_at t i) × IsWithin table (number_or_none (field_chosen fields i))
-field_is table t fields None a = (refl, tt)
-field_is table t fields (Some (negsuc k)) a = (refl, tt)
-field_is table t fields (Some (pos k)) a =
-    chosen_type table (slice_get fields k) (slice_get (field_list t) k)
-    (sym (slice_get-map (field_type table) fields k) ∙ ap (λ xs. slice_get xs k) a.types ∙ slice_get-map (λ u. Some u) (field_list t) k)
-
-pub field_offset_is : (table : List ResolvedType) (t : ResolvedType) (fields : List field.Field) (i : Option ℤ) → AreFields table t fields
-    → offset_or_none (field_chosen fields i) ≡ offset_at t i
-field_offset_is table t fields None a = refl
-field_offset_is table t fields (Some (negsuc k)) a = refl
-field_offset_is table t fields (Some (pos k)) a =
-    chosen_offset (slice_get fields k) (slice_get (field_offsets t) k) (sym (slice_get-map offset_in fields k) ∙ ap (λ xs. slice_get xs k) a.offsets)
 
 -- ---- a row of indices
 

@@ -7,7 +7,6 @@ use Rattle.pg_check_types.specs.Layout.{size_or_none, bytes_of}
 use Rattle.pg_check_types.specs.Table.{type_at}
 use Rattle.pg_check_types.specs.declared.kind.TypeKind.{TypeKind}
 use Rattle.pg_check_types.specs.declared.kind.TypeKind.TheVariants as kind
-use Rattle.pg_check_constants.specs.declared.fields.Field.{Field}
 use Rattle.pg_check_rules.specs.ValueConditions.{constant_number}
 use Rattle.pg_check_rules.specs.Constants.{little_endian, pointer_word, element_bytes, bytes_at, trimmed}
 
@@ -22,10 +21,10 @@ abbrev pub elements_at : Tree → Option ResolvedType → Consts → List ℕ
 elements_at m (Some t) cs = element_bytes m t cs
 elements_at m None cs = []
 
--- the field at a place of a structure of these types
-pub record IsFieldAt (table : List ResolvedType) (ts : List ResolvedType) (place : ℕ) (f : Field) : Type 0 where
-  pub within : f.number < length table
-  pub rest : drop place ts ≡ type_at table f.number ∷ drop (place + 1) ts
+-- the field at a place of a structure of these types, by the number of its type
+pub record IsFieldAt (table : List ResolvedType) (ts : List ResolvedType) (place f : ℕ) : Type 0 where
+  pub within : f < length table
+  pub rest : drop place ts ≡ type_at table f ∷ drop (place + 1) ts
 
 -- a variable that starts at a granule
 abbrev pub info_from : Tree → ℕ → Variable → GlobalInfo

@@ -1,4 +1,3 @@
-pub mod Fields
 pub mod Indices
 pub mod Initialisers
 pub mod Sizes

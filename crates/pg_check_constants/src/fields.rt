@@ -1,29 +1,15 @@
-//! The fields of a structure, each with its offset.
+//! Where the fields of a structure lie.
 
-ghost use Rattle.std.specs.Prelude.{◌≡◌, ◌<◌, ◌≤◌, IfOk, IfSome, length, None};
+ghost use Rattle.std.specs.Prelude.{◌≡◌, ◌<◌, ◌≤◌, ◌+◌, length, slice_get, unwrap_or};
 ghost use Rattle.pg_num.specs.declared.limits.TheConstants.{SIZE_LIMIT};
-ghost use Rattle.pg_check_types.specs.Layout.{size_of, size_or_none, fields_end, next_offset};
+ghost use Rattle.pg_check_types.specs.Layout.{size_of, size_or_none, fields_end, alignment_of, round_up, field_offsets};
 ghost use Rattle.pg_check_types.specs.Table.{type_at};
 ghost use Rattle.pg_check_types.specs.Known.{denoted, IsWithin};
 ghost use Rattle.pg_check_types.specs.NumberedTypes.{table_of};
-ghost use Rattle.pg_check_constants.specs.Fields.{HasNoFields, IsLast, AreFields, field_chosen};
+ghost use Rattle.pg_check_rules.specs.Constants.{offset_at};
+ghost use Rattle.pg_check_rules.specs.Fields.{AreFields};
 
-use pg_check_types::{KnownTypes, Shape, round_up};
-use std::alloc::{AllocError, Global};
-
-/// A field of a structure: the number of its type, and its offset in bytes.
-#[derive(Clone, Copy, Debug, PartialEq, Eq)]
-pub(crate) struct Field {
-    pub number: usize,
-    pub offset: u32,
-}
-
-/// The last field of a structure, and the number of the structure of the fields before it.
-#[derive(Clone, Copy, Debug, PartialEq, Eq)]
-pub(crate) struct LastField {
-    pub front: usize,
-    pub field: Field,
-}
+use pg_check_types::{KnownTypes, round_up};
 
 /// The size of a type in bytes.
 pub(crate) fn size_of(types: &KnownTypes<'_>, number: usize) -> u32
@@ -48,77 +34,66 @@ pub fn size_or_none(types: &KnownTypes<'_>, number: Option<usize>) -> u32
     }
 }
 
-/// The offset at which a further field is.
-fn next_offset(types: &KnownTypes<'_>, front: usize, field: usize) -> u32
-    requires front { front < length (table_of types.now) }
-    requires field { field < length (table_of types.now) }
-    requires fits { fields_end (type_at (table_of types.now) front) ≤ SIZE_LIMIT }
-    ensures { result ≡ next_offset (type_at (table_of types.now) front) (type_at (table_of types.now) field) }
-{
-    let end = types.layout_of_number(front).fields_end;
-    let alignment = types.layout_of_number(field).alignment;
-    round_up(end, alignment)
+/// Where a field begins in its structure, and where it ends.
+#[derive(Clone, Copy, Debug, PartialEq, Eq)]
+pub(crate) struct FieldRange {
+    pub start: u32,
+    pub end: u32,
 }
 
-/// The last field of a structure; none of a type that has no fields.
-fn last_field(types: &KnownTypes<'_>, number: usize) -> Option<LastField>
+/// Where a field lies that comes behind `at` bytes of its structure.
+pub(crate) fn field_range(types: &KnownTypes<'_>, at: u32, number: usize) -> FieldRange
     requires within { number < length (table_of types.now) }
-    requires fits { fields_end (type_at (table_of types.now) number) ≤ SIZE_LIMIT }
-    ensures last { IfSome result (IsLast (table_of types.now) number) }
-    ensures none { result ≡ None → HasNoFields (type_at (table_of types.now) number) }
+    requires at { at ≤ SIZE_LIMIT }
+    requires fits { round_up at (alignment_of (type_at (table_of types.now) number)) + size_of (type_at (table_of types.now) number) ≤ SIZE_LIMIT }
+    ensures start { result.start ≡ round_up at (alignment_of (type_at (table_of types.now) number)) }
+    ensures end { result.end ≡ round_up at (alignment_of (type_at (table_of types.now) number)) + size_of (type_at (table_of types.now) number) }
+    ensures behind { at ≤ result.start }
 {
-    match types.shape_of_number(number) {
-        Shape::MoreFields(front, field) => {
-            let offset = next_offset(types, front, field);
-            Some(LastField {
-                front,
-                field: Field {
-                    number: field,
-                    offset,
-                },
-            })
-        }
-        _ => None,
+    let layout = types.layout_of_number(number);
+    let start = round_up(at, layout.alignment);
+    FieldRange {
+        start,
+        end: start + layout.size,
     }
 }
 
-/// The fields of a structure in order; none of another type.
-pub(crate) fn fields_of(
-    alloc: Global,
+/// Where the field at a place of a structure begins, whose fields these are; 0 where there is none.
+fn field_offset(types: &KnownTypes<'_>, number: usize, fields: &[usize], place: usize) -> u32
+    requires fields { AreFields (table_of types.now) (type_at (table_of types.now) number) fields.now }
+    requires fits { fields_end (type_at (table_of types.now) number) ≤ SIZE_LIMIT }
+    ensures { result ≡ unwrap_or (slice_get (field_offsets (type_at (table_of types.now) number)) place) 0 }
+{
+    let mut at = 0;
+    for (index, field) in fields.iter().enumerate() {
+        let range = field_range(types, at, *field);
+        if index == place {
+            return range.start;
+        }
+        at = range.end;
+    }
+    0
+}
+
+/// Where the field begins that an index chooses of a structure, whose fields these are; 0 where it chooses none.
+pub(crate) fn offset_at(
     types: &KnownTypes<'_>,
     number: usize,
-) -> Result<Vec<Field>, AllocError>
-    requires within { number < length (table_of types.now) }
+    fields: &[usize],
+    index: Option<i64>,
+) -> u32
+    requires fields { AreFields (table_of types.now) (type_at (table_of types.now) number) fields.now }
     requires fits { fields_end (type_at (table_of types.now) number) ≤ SIZE_LIMIT }
-    ensures { IfOk result (λ v. AreFields (table_of types.now) (type_at (table_of types.now) number) v.items) }
-{
-    let mut fields = Vec::new(alloc);
-    let mut rest = number;
-    'fields: loop {
-        match last_field(types, rest) {
-            Some(last) => {
-                fields.push(last.field)?;
-                rest = last.front;
-            }
-            None => break,
-        }
-    }
-    fields.reverse();
-    Ok(fields)
-}
-
-/// The field that an index chooses.
-pub(crate) fn field_chosen(fields: &[Field], index: Option<i64>) -> Option<Field>
-    ensures { result ≡ field_chosen fields.now index }
+    ensures { result ≡ offset_at (type_at (table_of types.now) number) index }
 {
     match index {
         Some(index) => {
             if index < 0 {
-                None
+                0
             } else {
-                fields.get(index as usize).copied()
+                field_offset(types, number, fields, index as usize)
             }
         }
-        None => None,
+        None => 0,
     }
 }

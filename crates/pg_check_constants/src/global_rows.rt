@@ -18,6 +18,7 @@ use crate::bytes::trimmed_length;
 use crate::fields::size_or_none;
 use crate::globals::Globals;
 use crate::initialisers::add_const;
+use pg_check_rules::granules_for;
 use pg_check_types::{KnownTypes, TypeNumbers};
 use pg_ir::{Bytes, GlobalInfo};
 use pg_read_ast::{ConstNode, GlobalItem};
@@ -85,7 +86,7 @@ fn granule_behind(start: u32, size: u32) -> u32
     requires size { size ≤ SIZE_LIMIT }
     ensures { result ≡ start + granules_for size }
 {
-    start + ((size + 7) / 8).max(1)
+    start + granules_for(size)
 }
 
 /// The globals of a program, where these are its variables.

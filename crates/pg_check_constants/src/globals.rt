@@ -3,7 +3,6 @@
 ghost use Rattle.std.specs.Prelude.{◌≡◌, ◌≤◌, ◌^◌, ◌<◌, ◌+◌, IfOk, map, slice_get, unwrap_or};
 ghost use Rattle.pg_num.specs.Pointers.{word_of};
 ghost use Rattle.pg_num.specs.declared.limits.TheConstants.{SIZE_LIMIT};
-ghost use Rattle.pg_ir.specs.WellFormed.{granules_for};
 ghost use Rattle.pg_read_ast.specs.Views.{global_of, tree_of};
 ghost use Rattle.pg_check_types.specs.NumberedTypes.{named_types};
 ghost use Rattle.pg_check_rules.specs.Names.{symbol};
@@ -12,7 +11,7 @@ ghost use Rattle.pg_check_constants.specs.Words.{words_from};
 ghost use Rattle.pg_check_constants.specs.Sizes.{GlobalsFit};
 
 use crate::fields::size_or_none;
-use pg_check_rules::{SymbolNode, Symbols, index_symbols, symbol};
+use pg_check_rules::{SymbolNode, Symbols, granules_for, index_symbols, symbol};
 use pg_check_types::{KnownTypes, TypeNumbers};
 use pg_num::{Pointer, pack};
 use pg_read_ast::{GlobalItem, Module};
@@ -39,15 +38,6 @@ fn word_from(start: u32, size: u32) -> u64
         length: size,
         offset: 0,
     })
-}
-
-/// The granules that a global of a size takes.
-fn granules_for(size: u32) -> u32
-    requires { size ≤ SIZE_LIMIT }
-    ensures granules { result ≡ granules_for size }
-    ensures small { result ≤ 2 ^ 18 }
-{
-    ((size + 7) / 8).max(1)
 }
 
 /// The words of the pointers to globals.

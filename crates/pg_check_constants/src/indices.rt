@@ -12,11 +12,11 @@ ghost use Rattle.pg_check_types.specs.Known.{denoted, IsWithin};
 ghost use Rattle.pg_check_types.specs.NumberedTypes.{named_types, table_of};
 ghost use Rattle.pg_check_rules.specs.ValueConditions.{field_at};
 ghost use Rattle.pg_check_rules.specs.Constants.{index_move, offset_at};
-ghost use Rattle.pg_check_constants.specs.Fields.{offset_or_none, number_or_none};
 ghost use Rattle.pg_check_constants.specs.Sizes.{AllFit, TypeFits};
 ghost use Rattle.pg_check_constants.specs.Indices.{scale_within, type_within, scales_within, scales_of, moves_of};
 
-use crate::fields::{Field, field_chosen, fields_of, size_of, size_or_none};
+use crate::fields::{offset_at, size_of, size_or_none};
+use pg_check_rules::{field_chosen, fields_of};
 use pg_check_types::{KnownTypes, Shape, TypeNumbers};
 use pg_ir::Scale;
 use pg_num::move_by;
@@ -28,22 +28,6 @@ use std::alloc::{AllocError, Global};
 struct IndexStep {
     scale: Scale,
     next: Option<usize>,
-}
-
-fn field_step(field: Option<Field>) -> IndexStep
-    ensures scale { result.scale ≡ scales.Field (offset_or_none field) }
-    ensures next { result.next ≡ number_or_none field }
-{
-    match field {
-        Some(field) => IndexStep {
-            scale: Scale::Field(field.offset),
-            next: Some(field.number),
-        },
-        None => IndexStep {
-            scale: Scale::Field(0),
-            next: None,
-        },
-    }
 }
 
 /// How an index moves within a structure.
@@ -60,7 +44,12 @@ fn step_into_fields(
     ensures within { IfOk result (λ r. IsWithin (table_of types.now) r.next) }
 {
     let fields = fields_of(alloc, types, number)?;
-    Ok(field_step(field_chosen(fields.as_slice(), index)))
+    let fields = fields.as_slice();
+    let offset = offset_at(types, number, fields, index);
+    Ok(IndexStep {
+        scale: Scale::Field(offset),
+        next: field_chosen(fields, index),
+    })
 }
 
 /// How an index moves by whole elements.

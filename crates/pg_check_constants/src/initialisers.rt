@@ -1,6 +1,6 @@
 //! The bytes of initialisers.
 
-ghost use Rattle.std.specs.Prelude.{◌≡◌, ◌<◌, ◌≤◌, ◌+◌, ◌-◌, ◌++◌, OnOk, IfOk, IfSome, None, [], length, slice_get, map, drop, replicate};
+ghost use Rattle.std.specs.Prelude.{◌≡◌, ◌<◌, ◌≤◌, ◌+◌, ◌-◌, ◌++◌, OnOk, IfOk, IfSome, None, [], length, map, drop, replicate};
 ghost use Rattle.pg_num.specs.declared.limits.TheConstants.{SIZE_LIMIT};
 ghost use Rattle.pg_read_ast.specs.Syntax.{consts};
 ghost use Rattle.pg_read_ast.specs.Views.{val_of, const_of, typed_const_of, tree_of};
@@ -8,18 +8,17 @@ ghost use Rattle.pg_check_types.specs.Table.{type_at};
 ghost use Rattle.pg_check_types.specs.Known.{denoted, IsWithin};
 ghost use Rattle.pg_check_types.specs.NumberedTypes.{table_of};
 ghost use Rattle.pg_check_types.specs.Layout.{field_list, size_of, alignment_of, round_up};
-ghost use Rattle.pg_check_rules.specs.ValueConditions.{element_of};
 ghost use Rattle.pg_check_rules.specs.Constants.{value_bytes, const_bytes, element_bytes, field_bytes};
-ghost use Rattle.pg_check_constants.specs.Fields.{AreFields};
+ghost use Rattle.pg_check_rules.specs.Fields.{AreFields};
 ghost use Rattle.pg_check_constants.specs.Initialisers.{kind_bytes, IsFieldAt};
 ghost use Rattle.pg_check_constants.specs.Sizes.{AllFit, ValFits, ConstFits, PartsFit};
 
 use crate::bytes::{add_little_endian, add_zeros};
 use crate::constants::pointer_word;
-use crate::fields::{Field, fields_of, size_of};
+use crate::fields::{field_range, size_of};
 use crate::globals::Globals;
-use pg_check_rules::constant_number;
-use pg_check_types::{KnownTypes, Shape, TypeKind, TypeNumbers, bytes_of, round_up};
+use pg_check_rules::{constant_number, element_in, fields_of, nth_field};
+use pg_check_types::{KnownTypes, TypeKind, TypeNumbers, bytes_of};
 use pg_read_ast::{ConstNode, TypedConst, ValNode};
 use std::alloc::AllocError;
 
@@ -72,18 +71,6 @@ fn add_value(
     add_of_kind(globals, types, bytes, kind, size, value)
 }
 
-/// The number of the type of an array's elements; none of another type.
-fn element_number(known: &KnownTypes<'_>, number: usize) -> Option<usize>
-    requires { number < length (table_of known.now) }
-    ensures within { IsWithin (table_of known.now) result }
-    ensures element { denoted (table_of known.now) result ≡ element_of (Some (type_at (table_of known.now) number)) }
-{
-    match known.shape_of_number(number) {
-        Shape::Array(_, element) => Some(element),
-        _ => None,
-    }
-}
-
 /// Adds bytes as they are written.
 fn add_written(bytes: &mut Vec<u8>, text: &[u8]) -> Result<(), AllocError>
     ensures { OnOk result (bytes.new.items ≡ bytes.old.items ++ text.now) }
@@ -124,27 +111,19 @@ fn add_padding(
     ensures bytes { OnOk result (bytes.new.items ≡ bytes.old.items
         ++ replicate (round_up at (alignment_of (type_at (table_of known.now) number)) - at) 0) }
 {
-    let size = size_of(known, number);
-    let start = round_up(at, known.layout_of_number(number).alignment);
-    add_zeros(bytes, start - at)?;
-    Ok(start + size)
-}
-
-/// The field at a place among fields.
-fn field_in(fields: &[Field], place: usize) -> Option<Field>
-    ensures { result ≡ slice_get fields.now place }
-{
-    fields.get(place).copied()
+    let range = field_range(known, at, number);
+    add_zeros(bytes, range.start - at)?;
+    Ok(range.end)
 }
 
 /// The field at a place of a structure, whose fields these are.
-fn field_at(known: &KnownTypes<'_>, number: usize, fields: &[Field], place: usize) -> Option<Field>
+fn field_at(known: &KnownTypes<'_>, number: usize, fields: &[usize], place: usize) -> Option<usize>
     requires { AreFields (table_of known.now) (type_at (table_of known.now) number) fields.now }
-    ensures within { IfSome result (λ f. f.number < length (table_of known.now)) }
+    ensures within { IsWithin (table_of known.now) result }
     ensures field { IfSome result (IsFieldAt (table_of known.now) (field_list (type_at (table_of known.now) number)) place) }
     ensures none { result ≡ None → drop place (field_list (type_at (table_of known.now) number)) ≡ [] }
 {
-    field_in(fields, place)
+    nth_field(fields, place)
 }
 
 /// Adds the bytes of a constant of a type, which `known` knows by its number.
@@ -168,7 +147,7 @@ pub(crate) fn add_const(
     match value {
         ConstNode::Val(value) => add_value(globals, known, types, bytes, number, value),
         ConstNode::Bytes(literal) => add_written(bytes, literal.text.as_slice()),
-        ConstNode::Array(_, parts) => match element_number(known, number) {
+        ConstNode::Array(_, parts) => match element_in(known, number) {
             Some(element) => {
                 add_elements(globals, known, types, bytes, element, parts.as_slice())
             }
@@ -248,8 +227,8 @@ fn add_fields(
     for (place, part) in parts.iter().enumerate() {
         match field_at(known, number, fields.as_slice(), place) {
             Some(field) => {
-                at = add_padding(known, bytes, at, field.number)?;
-                add_part(globals, known, types, bytes, field.number, part)?;
+                at = add_padding(known, bytes, at, field)?;
+                add_part(globals, known, types, bytes, field, part)?;
             }
             None => return Ok(()),
         }

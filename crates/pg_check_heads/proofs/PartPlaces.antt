@@ -24,7 +24,7 @@ use Rattle.pg_check_rules.specs.ValueConditions.{wrong_const, wrong_elements, wr
 use Rattle.pg_check_rules.proofs.ConstantViews.{array_view, struct_view}
 use Rattle.pg_check_rules.proofs.Parts.{no_place}
 use Rattle.pg_check_rules.proofs.Rows.{earliest_more}
-use Rattle.pg_check_values.specs.Fields.{field_type}
+use Rattle.pg_check_rules.specs.Fields.{field_type}
 use Rattle.pg_check_heads.specs.ConstantParts.{part_row, field_row}
 use Rattle.pg_check_heads.proofs.ConstantRows.{part_ty, part_value}
 

@@ -4,7 +4,6 @@ ghost use Rattle.std.specs.Prelude.{◌≡◌, ◌+◌, ◌<◌, ◌≤◌, nat_
 ghost use Rattle.pg_num.specs.declared.layout.TheConstants.{GLOBALS_END};
 ghost use Rattle.pg_ir.specs.WellFormed.{granules_for};
 ghost use Rattle.pg_read_ast.specs.Views.{ty_of};
-ghost use Rattle.pg_check_types.specs.declared.cap.TheConstants.{LAYOUT_CAP};
 ghost use Rattle.pg_check_types.specs.Resolved.{resolved};
 ghost use Rattle.pg_check_types.specs.Layout.{size_of, size_or_none};
 ghost use Rattle.pg_check_types.specs.Table.{type_at};
@@ -12,17 +11,17 @@ ghost use Rattle.pg_check_types.specs.Known.{denoted, IsWithin};
 ghost use Rattle.pg_check_types.specs.NumberedTypes.{named_types, table_of};
 ghost use Rattle.pg_check_heads.specs.Ends.{ended};
 
+use pg_check_rules::granules_for;
 use pg_check_types::{KnownTypes, TypeNumbers};
 use pg_num::layout::GLOBALS_END;
 use pg_read_ast::TypeNode;
 use std::alloc::AllocError;
 
-/// The granules that a global of a size takes, as they are kept.
-fn granules_for(size: u32) -> u32
-    requires { size ≤ LAYOUT_CAP }
-    ensures { result ≡ ended (granules_for size) }
+/// A number of granules as it is kept: a larger one as the first that is too many.
+fn kept(granules: u32) -> u32
+    ensures { result ≡ ended granules }
 {
-    ((size + 7) / 8).max(1).min(GLOBALS_END + 1)
+    granules.min(GLOBALS_END + 1)
 }
 
 /// The granules that a global of the type of a number takes, as they are kept.
@@ -30,7 +29,7 @@ fn granules_of_type(types: &KnownTypes<'_>, number: usize) -> u32
     requires { number < length (table_of types.now) }
     ensures { result ≡ ended (granules_for (size_of (type_at (table_of types.now) number))) }
 {
-    granules_for(types.layout_of_number(number).size)
+    kept(granules_for(types.layout_of_number(number).size))
 }
 
 /// The granules that a global of the type of a number takes, and those of nothing where there is no number.
@@ -58,7 +57,7 @@ fn sum_of(one: u32, other: u32) -> u32
     requires other { other ≤ GLOBALS_END + 1 }
     ensures { result ≡ ended (one + other) }
 {
-    (one + other).min(GLOBALS_END + 1)
+    kept(one + other)
 }
 
 /// Where a global of a type ends that begins at a granule, or the first granule at which none may end if it ends behind

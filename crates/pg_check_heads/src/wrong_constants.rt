@@ -12,12 +12,11 @@ ghost use Rattle.pg_check_rules.specs.Conditions.{at_if};
 ghost use Rattle.pg_check_rules.specs.Places.{type_span};
 ghost use Rattle.pg_check_rules.specs.ValueConditions.{wrong_const, fits_bytes, fits_elements, fits_fields, element_of, fields_of};
 ghost use Rattle.pg_check_rules.specs.Earliest.{earliest};
-ghost use Rattle.pg_check_values.specs.Fields.{AreFields, field_type};
+ghost use Rattle.pg_check_rules.specs.Fields.{AreFields, field_type};
 ghost use Rattle.pg_check_heads.specs.ConstantParts.{AllWithin, part_row, field_row, fits_kind};
 
-use pg_check_rules::{earlier, place_if, type_span};
+use pg_check_rules::{earlier, element_in, fields_of, nth_field, place_if, type_span};
 use pg_check_types::{KnownTypes, Shape, TypeKind, TypeNumbers};
-use pg_check_values::fields_of;
 use pg_num::Width;
 use pg_read_ast::{ConstNode, Literal, TypeNode, TypedConst};
 use pg_read_lex::Span;
@@ -122,19 +121,7 @@ fn wrong_struct(
     }
 }
 
-/// The number of the type of an array's elements; none of another type.
-fn element_in(types: &KnownTypes<'_>, number: usize) -> Option<usize>
-    requires { number < length (table_of types.now) }
-    ensures within { IsWithin (table_of types.now) result }
-    ensures element { denoted (table_of types.now) result ≡ element_of (Some (type_at (table_of types.now) number)) }
-{
-    match types.shape_of_number(number) {
-        Shape::Array(_, element) => Some(element),
-        _ => None,
-    }
-}
-
-/// The same where there may be no type.
+/// The number of the type of an array's elements; none of another type, or of none.
 fn element_number(types: &KnownTypes<'_>, number: Option<usize>) -> Option<usize>
     requires { IsWithin (table_of types.now) number }
     ensures within { IsWithin (table_of types.now) result }
@@ -168,13 +155,7 @@ fn field_in(types: &KnownTypes<'_>, fields: &[usize], place: usize) -> Option<us
     ensures number { result ≡ slice_get fields.now place }
     ensures within { IsWithin (table_of types.now) result }
 {
-    at_place(fields, place)
-}
-
-fn at_place(numbers: &[usize], place: usize) -> Option<usize>
-    ensures { result ≡ slice_get numbers.now place }
-{
-    numbers.get(place).copied()
+    nth_field(fields, place)
 }
 
 /// A type that isn't the one that is asked for, both by their numbers.

@@ -12,9 +12,10 @@ ghost use Rattle.pg_check_program.specs.LineRows.{result_by, names_after, op_ins
 
 use crate::function_scope::FunctionScope;
 use crate::instructions::op_at;
+use pg_check_names::gives;
 use pg_check_types::{TypeNumbers, place_of_name};
 use pg_ir::{BlockNo, Instr};
-use pg_read_ast::{BlockNode, LineNode, Name, OpNode, has_result};
+use pg_read_ast::{BlockNode, LineNode, Name, OpNode};
 use std::alloc::AllocError;
 
 /// The number of a register, if one has this name.
@@ -40,11 +41,11 @@ fn named_result(scope: &FunctionScope<'_>, names: &[Name], at: usize) -> Option<
 }
 
 /// The register of a line's result, if it gives one: its name stands at a place.
-fn result_by(scope: &FunctionScope<'_>, gives: bool, names: &[Name], at: usize) -> Option<u32>
+fn result_by(scope: &FunctionScope<'_>, has_result: bool, names: &[Name], at: usize) -> Option<u32>
     ensures { (own : ScopeNames scope.now) →
-        result ≡ result_by (scope_in scope.now own) gives (drop at names.now) }
+        result ≡ result_by (scope_in scope.now own) has_result (drop at names.now) }
 {
-    if gives {
+    if has_result {
         named_result(scope, names, at)
     } else {
         None
@@ -60,37 +61,33 @@ fn place_behind(names: &[Name], at: usize) -> usize
 }
 
 /// Where the names of the lines behind one begin.
-fn place_after(gives: bool, names: &[Name], at: usize) -> usize
-    ensures { drop result names.now ≡ names_after gives (drop at names.now) }
+fn place_after(has_result: bool, names: &[Name], at: usize) -> usize
+    ensures { drop result names.now ≡ names_after has_result (drop at names.now) }
 {
-    if gives { place_behind(names, at) } else { at }
+    if has_result {
+        place_behind(names, at)
+    } else {
+        at
+    }
 }
 
-/// Whether an operation has a result.
-fn gives(scope: &FunctionScope<'_>, op: &OpNode) -> bool
-    ensures { result ≡ gives (tree_of scope.now.globals.now.symbols.tree.now).types (op_of op.now) }
-{
-    let globals = scope.globals;
-    let tree = globals.symbols.tree;
-    has_result(tree.types.as_slice(), op)
-}
-
-/// The instruction of an operation, whose result has the name at a place.
+/// The instruction of an operation. Where that has a result, the name at a place is the result's.
 fn op_instr(
     scope: &FunctionScope<'_>,
     types: &TypeNumbers<'_>,
     block: u32,
+    has_result: bool,
     names: &[Name],
     at: usize,
     op: &OpNode,
 ) -> Result<Instr, AllocError>
     requires items { types.now.items ≡ scope.now.globals.now.symbols.tree.now.types.items }
+    requires given { has_result ≡ gives (types_in scope.now) (op_of op.now) }
     requires fits { OpFits (types_in scope.now) (op_of op.now) }
     ensures instr { (own : ScopeNames scope.now) → IfOk result (λ i. i ≡
         op_instr (scope_in scope.now own) scope.now.first block (drop at names.now) (op_of op.now)) }
 {
-    let gives = gives(scope, op);
-    let result = result_by(scope, gives, names, at);
+    let result = result_by(scope, has_result, names, at);
     let op = op_at(scope, types, op)?;
     Ok(Instr {
         op,
@@ -119,10 +116,10 @@ fn add_lines(
 {
     let mut at = start;
     for line in lines {
-        let one = op_instr(scope, types, block, names, at, &line.op)?;
+        let has_result = gives(types, &line.op)?;
+        let one = op_instr(scope, types, block, has_result, names, at, &line.op)?;
         found.push(one)?;
-        let gives = gives(scope, &line.op);
-        at = place_after(gives, names, at);
+        at = place_after(has_result, names, at);
     }
     Ok(at)
 }

@@ -4,6 +4,7 @@ mod ItemExamples
 pub mod ConstantNumbers
 pub mod ConstantViews
 pub mod Doubles
+pub mod FieldLists
 pub mod FirstRefusals
 pub mod MappedLists
 mod OtherLengths

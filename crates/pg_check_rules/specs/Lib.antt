@@ -11,6 +11,7 @@ pub mod Conditions
 pub mod Constants
 pub mod Numbered
 pub mod Earliest
+pub mod Fields
 pub mod Nodes
 pub mod Starts
 pub mod Symbols

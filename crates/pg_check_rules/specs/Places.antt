@@ -1,8 +1,7 @@
--- The first tokens of types, values and constants.
+-- The first tokens of types and values.
 use Rattle.pg_read_lex.specs.declared.token.Span.{Span}
 use Rattle.pg_read_ast.specs.Syntax.{Ty, I1, I8, I16, I32, I64, Ptr, Void, Array, Struct, Named, Val, Int, True, False}
-use Rattle.pg_read_ast.specs.Syntax.{Null, Undef, Poison, ZeroInitializer, Local, Global, GepVal, IntToPtrVal, Const}
-use Rattle.pg_read_ast.specs.Syntax.{ValConst, BytesConst, ArrayConst, StructConst}
+use Rattle.pg_read_ast.specs.Syntax.{Null, Undef, Poison, ZeroInitializer, Local, Global, GepVal, IntToPtrVal}
 
 abbrev pub type_span : Ty → Span
 type_span (I1 s) = s
@@ -28,9 +27,3 @@ val_span (Local n) = n.span
 val_span (Global n) = n.span
 val_span (GepVal s t u p is) = s
 val_span (IntToPtrVal s t n u) = s
-
-abbrev pub const_span : Const → Span
-const_span (ValConst v) = val_span v
-const_span (BytesConst b) = b.span
-const_span (ArrayConst s cs) = s
-const_span (StructConst s cs) = s

@@ -4,6 +4,8 @@
 
 mod earliest;
 mod fault;
+mod fields;
+mod granules;
 mod integers;
 mod known;
 mod own_names;
@@ -19,6 +21,8 @@ mod within;
 
 pub use earliest::{earlier, place_if};
 pub use fault::{CheckFault, CheckKind};
+pub use fields::{element_in, field_chosen, fields_of, nth_field};
+pub use granules::granules_for;
 pub use integers::{constant_number, index_numbers, literal_at, number_at};
 pub use known::known_named;
 pub use own_names::{numbered_name, param_names, references};

@@ -1,4 +1,3 @@
-mod FieldLists
 mod RegisterTypes
 mod IndexSteps
 mod Inner

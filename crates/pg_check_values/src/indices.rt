@@ -11,8 +11,7 @@ ghost use Rattle.pg_check_rules.specs.Earliest.{earliest};
 ghost use Rattle.pg_check_rules.specs.ValueConditions.{field_at, wrong_indices};
 ghost use Rattle.pg_check_values.specs.Steps.{refused_field, step_place, step_type, step_places};
 
-use crate::fields::{field_chosen, fields_of};
-use pg_check_rules::{earlier, index_numbers, type_span, val_span};
+use pg_check_rules::{earlier, field_chosen, fields_of, index_numbers, type_span, val_span};
 use pg_check_types::{KnownTypes, Shape, TypeNumbers};
 use pg_read_ast::{TypeNode, TypedVal};
 use pg_read_lex::Span;

@@ -1,7 +1,6 @@
 //! What values are refused for, at the types at which they stand.
 #![tactic(auto)]
 
-mod fields;
 mod indices;
 mod names;
 mod own_types;
@@ -12,7 +11,6 @@ mod type_tests;
 mod typed_tests;
 mod uses;
 
-pub use fields::fields_of;
 pub use indices::wrong_indices;
 pub use names::{function_values, unknown_values};
 pub use own_types::add_own_types;

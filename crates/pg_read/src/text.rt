@@ -5,7 +5,7 @@ ghost use Rattle.pg_num.specs.declared.limits.TheConstants.{PROGRAM_TEXT_LIMIT};
 ghost use Rattle.pg_read_grammar.specs.declared.fault.ReadFault.TheVariants.{OutOfMemory};
 ghost use Rattle.pg_read_grammar.specs.Reading.{Good};
 ghost use Rattle.pg_read_grammar.specs.ReaderItems.{program_at};
-ghost use Rattle.pg_read_grammar.specs.Verdict.{ended};
+ghost use Rattle.pg_read_grammar.specs.Answers.{ended};
 ghost use Rattle.pg_read_grammar.specs.Accepted.{IsModule, IsUnread, place_of};
 ghost use Rattle.pg_read_grammar.specs.Told.{told, IsTold};
 ghost use Rattle.pg_read_ast.specs.Views.{tree_of};

@@ -18,7 +18,8 @@ use Rattle.pg_read_grammar.specs.Language.{Gram}
 use Rattle.pg_read_grammar.specs.GrammarItems.{no_item, program}
 use Rattle.pg_read_grammar.specs.Reading.{Read, Good, Bad}
 use Rattle.pg_read_grammar.specs.ReaderItems.{begins_item, program_at}
-use Rattle.pg_read_grammar.specs.Verdict.{IsRead, Refused, Cut, Answers, ended}
+use Rattle.pg_read_grammar.specs.Verdict.{IsRead, Refused, Cut}
+use Rattle.pg_read_grammar.specs.Answers.{Answers, ended}
 use Rattle.pg_read_grammar.specs.Words.{classified}
 use Rattle.pg_read_grammar.specs.Accepted.{IsModule, IsRefused, IsUnread, place_of}
 use Rattle.pg_read_grammar.specs.Told.{told, lexical_of, IsTold}

@@ -5,7 +5,8 @@ use Rattle.pg_read_grammar.specs.declared.class.Class.{Class}
 use Rattle.pg_read_grammar.specs.declared.token.Fault.{Fault}
 use Rattle.pg_read_grammar.specs.Language.{Lang, Gram}
 use Rattle.pg_read_grammar.specs.Reading.{Read}
-use Rattle.pg_read_grammar.specs.Verdict.{IsRead, IsMarked, Cut, Answers, ended}
+use Rattle.pg_read_grammar.specs.Verdict.{IsRead, IsMarked, Cut}
+use Rattle.pg_read_grammar.specs.Answers.{Answers, ended}
 use Rattle.pg_read_grammar.proofs.Pieces.{Piece, Met, Went, Stopped, Stops, Avoids, Same}
 
 ends : {A : Type 0} (av : Class → Bool) (a : A) → Avoids av None (λ (b : A) (us : List Token). (b ≡ a) × (us ≡ []))

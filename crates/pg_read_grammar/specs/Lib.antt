@@ -2,6 +2,7 @@ pub mod Classes
 pub mod Language
 pub mod Reading
 pub mod Verdict
+pub mod Answers
 pub mod Grammar
 pub mod GrammarOps
 pub mod GrammarItems

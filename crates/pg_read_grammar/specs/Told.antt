@@ -10,7 +10,7 @@ use Rattle.pg_read_grammar.specs.declared.fault.ReadFault.{ReadFault}
 use Rattle.pg_read_grammar.specs.declared.fault.ReadFault.TheVariants.{BadByte, OpenString, Unexpected, Unsupported, TooDeep, OutOfMemory}
 use Rattle.pg_read_grammar.specs.Reading.{Bad}
 use Rattle.pg_read_grammar.specs.ReaderItems.{program_at}
-use Rattle.pg_read_grammar.specs.Verdict.{ended}
+use Rattle.pg_read_grammar.specs.Answers.{ended}
 use Rattle.pg_read_grammar.specs.Accepted.{place_of}
 
 -- what is said of a fault at a place

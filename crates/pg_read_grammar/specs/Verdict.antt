@@ -1,9 +1,8 @@
--- What a reader of whole lists has to answer.
-use Rattle.std.specs.Prelude.{◌≡◌, ℕ, List, [], ◌∷◌, ◌++◌, Option, Some, None, ◌↔◌, drop}
+-- Which list of tokens is read whole, and where one that isn't is refused.
+use Rattle.std.specs.Prelude.{◌≡◌, List, [], ◌∷◌, ◌++◌, Option, Some, None, ◌↔◌}
 use Rattle.pg_read_grammar.specs.declared.token.Token.{Token}
 use Rattle.pg_read_grammar.specs.declared.token.Fault.{Fault}
 use Rattle.pg_read_grammar.specs.Language.{Gram}
-use Rattle.pg_read_grammar.specs.Reading.{Read, Good, Bad}
 
 -- the whole list is read as this value
 abbrev pub IsRead : {A : Type 0} → Gram A → List Token → A → Type 0
@@ -25,18 +24,3 @@ pub record Refused {A : Type 0} (g : Gram A) (fault : Option Fault) (front rest 
   pub dead : (us : List Token) (a : A) → Cut rest us → IsRead g (front ++ us) a → ⊥
   pub cause : (f : Fault) (t : Token) (us : List Token) → rest ≡ t ∷ us → IsMarked g f (front ++ t ∷ []) ↔ (fault ≡ Some f)
   pub at_end : rest ≡ [] → fault ≡ None
-
--- a whole list is read as the value, and as no other, or its first refused token stands at a place
-abbrev pub Answers : {A : Type 0} → Gram A → List Token → Read A → Type 0
-Answers {A} g ts (Good a rest) = (rest ≡ []) × IsRead g ts a × ((b : A) → IsRead g ts b → a ≡ b)
-Answers {A} g ts (Bad fault rest) = (front : List Token) × (ts ≡ front ++ rest) × Refused g fault front rest
-
--- the end is wanted after the value
-abbrev pub ended : {A : Type 0} → Read A → Read A
-ended (Good a []) = Good a []
-ended (Good a (t ∷ rest)) = Bad None (t ∷ rest)
-ended (Bad fault rest) = Bad fault rest
-
--- The token at this place is refused, and with this fault: the tokens before it begin a list of the grammar.
-abbrev pub IsRefusedAt : {A : Type 0} → Gram A → List Token → Option Fault → ℕ → Type 0
-IsRefusedAt g ts fault at = (front : List Token) × (ts ≡ front ++ drop at ts) × Refused g fault front (drop at ts)

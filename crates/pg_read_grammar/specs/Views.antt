@@ -1,7 +1,6 @@
 -- What a function says of the reading that it does.
-use Rattle.std.specs.Prelude.{◌≡◌, ◌≤◌, ℕ, List, Option, length, drop, Result, Ok, Err}
+use Rattle.std.specs.Prelude.{◌≡◌, ◌≤◌, ℕ, List, length, drop, Result, Ok, Err}
 use Rattle.pg_read_grammar.specs.declared.token.Token.{Token}
-use Rattle.pg_read_grammar.specs.declared.token.Fault.{Fault}
 use Rattle.pg_read_grammar.specs.declared.token.ReadRefusal.{ReadRefusal}
 use Rattle.pg_read_grammar.specs.declared.token.ReadError.{ReadError}
 use Rattle.pg_read_grammar.specs.declared.token.ReadError.TheVariants.{Memory, Refused}
@@ -28,11 +27,6 @@ Reads ts at value to (Err e) read = Fails ts at e read
 abbrev pub Takes : {X Y : Type 0} → List Token → ℕ → (X → Y) → (X → ℕ) → Result X ReadRefusal → Read Y → Type 0
 Takes ts at value to (Ok x) read = Gives ts at value to x read
 Takes ts at value to (Err r) read = Refuses ts at r read
-
--- what a refusal says, unless memory ran out
-abbrev pub IfRefused : ReadError → (Option Fault → ℕ → Type 0) → Type 0
-IfRefused Memory P = Unit {0}
-IfRefused (Refused r) P = P r.fault r.at
 
 -- read, with nothing kept
 abbrev pub done : List Token → Read (Unit {0})

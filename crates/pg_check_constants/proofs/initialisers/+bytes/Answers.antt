@@ -10,7 +10,7 @@ use Rattle.pg_check_rules.specs.Constants.{element_bytes}
 use Rattle.pg_check_constants.proofs.ConstantBytes.{array_is, no_array, struct_is, element_step, elements_end, field_step, parts_end, fields_end}
 use Rattle.pg_check_constants.proofs.ConstantSizes.{value_fits, elements_fit, fields_fit, parts_next, end_first, padding_fits, end_step, field_there}
 use Rattle.pg_check_types.proofs.Alignments.{end_behind}
-use Rattle.pg_check_constants.proofs.Sizes.{own_size, own_end, element_there}
+use Rattle.pg_check_constants.proofs.Sizes.{own_size, element_there}
 use Rattle.pg_check_constants.proofs.initialisers.+bytes.Goals as goal
 
 pub add_const-add_value-requires-clause-size : goal.add_const-add_value-requires-clause-size
@@ -71,9 +71,6 @@ add_elements-add_part-requires t c =
       ),
     )
 
-pub add_fields-fields_of-requires-clause-fits : goal.add_fields-fields_of-requires-clause-fits
-add_fields-fields_of-requires-clause-fits t c = own_end (type_at (table_of c.args.known.now) c.args.number) c.requires.ty
-
 pub add_fields-loop-place-init : goal.add_fields-loop-place-init
 add_fields-loop-place-init t c = record {
   bytes = search rules;
@@ -90,7 +87,7 @@ pub add_fields-add_padding-requires-clause-fits : goal.add_fields-add_padding-re
 add_fields-add_padding-requires-clause-fits t c =
     let table = table_of c.args.known.now in
     let ts = field_list (type_at table c.args.number) in
-    padding_fits c.loop-place.at c.loop-place.place ts (type_at table c.in-Some.field.number) (drop (c.loop-place.place + 1) ts) c.in-Some.ensures.field.rest c.loop-place.invariant.ended
+    padding_fits c.loop-place.at c.loop-place.place ts (type_at table c.in-Some.field) (drop (c.loop-place.place + 1) ts) c.in-Some.ensures.field.rest c.loop-place.invariant.ended
 
 pub add_fields-add_part-requires : goal.add_fields-add_part-requires
 add_fields-add_part-requires t c =
@@ -103,7 +100,7 @@ add_fields-add_part-requires t c =
         (
           c.in-Some.ensures.within,
           (
-            field_there (type_at table c.args.number) (type_at table c.in-Some.field.number) c.loop-place.place (drop (c.loop-place.place + 1) ts) c.requires.ty c.in-Some.ensures.field.rest,
+            field_there (type_at table c.args.number) (type_at table c.in-Some.field) c.loop-place.place (drop (c.loop-place.place + 1) ts) c.requires.ty c.in-Some.ensures.field.rest,
             (parts_next m.types c.args.parts.now c.loop-place.place c.index-parts-place.result _ c.loop-place-test.true c.index-parts-place.is c.loop-place.invariant.fits).0,
           ),
         ),
@@ -178,12 +175,12 @@ add_fields-loop-place-preserved t c =
     let ts = field_list (type_at table c.args.number) in
     record {
       bytes =
-          field_step m c.loop-place.at c.in_ok-at-in-Some.at (type_at table c.in-Some.field.number) c.loop-place.bytes.items c.add_padding.new.bytes.items c.add_part.new.bytes.items ts
+          field_step m c.loop-place.at c.in_ok-at-in-Some.at (type_at table c.in-Some.field) c.loop-place.bytes.items c.add_padding.new.bytes.items c.add_part.new.bytes.items ts
           c.args.parts.now c.loop-place.place c.index-parts-place.result _
           c.loop-place-test.true c.index-parts-place.is c.in-Some.ensures.field.rest c.in_ok-at-in-Some.ensures.end c.in_ok-at-in-Some.ensures.bytes c.in_ok-add_part-in-Some.ensures.bytes
           ∙ c.loop-place.invariant.bytes;
       fits = (parts_next m.types c.args.parts.now c.loop-place.place c.index-parts-place.result _ c.loop-place-test.true c.index-parts-place.is c.loop-place.invariant.fits).1;
-      ended = end_step c.loop-place.at c.in_ok-at-in-Some.at c.loop-place.place ts (type_at table c.in-Some.field.number)
+      ended = end_step c.loop-place.at c.in_ok-at-in-Some.at c.loop-place.place ts (type_at table c.in-Some.field)
           (drop (c.loop-place.place + 1) ts) c.in-Some.ensures.field.rest c.in_ok-at-in-Some.ensures.end c.loop-place.invariant.ended;
     }
 

@@ -9,6 +9,7 @@ use Rattle.pg_check_heads.proofs.global_ends.granules_of_type.Goals as goal
 
 pub returns : goal.returns
 returns c =
-    c.granules_for.ensures
+    c.kept.ensures
+    ∙ ap ended c.granules_for.ensures.granules
     ∙ ap (λ s. ended (granules_for s)) c.layout_of_number.ensures.size
     ∙ capped_granules (size_of (type_at (table_of c.args.types.now) c.args.number))

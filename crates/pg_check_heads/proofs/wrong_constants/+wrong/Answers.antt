@@ -7,7 +7,7 @@ use Rattle.pg_check_rules.specs.Earliest.{earliest}
 use Rattle.pg_check_rules.proofs.ConstantViews.{val_view}
 use Rattle.pg_check_rules.proofs.Parts.{no_place}
 use Rattle.pg_check_rules.proofs.Rows.{row_step, numbered_step}
-use Rattle.pg_check_values.specs.Fields.{field_type}
+use Rattle.pg_check_rules.specs.Fields.{field_type}
 use Rattle.pg_check_heads.specs.ConstantParts.{part_row, field_row}
 use Rattle.pg_check_heads.proofs.PartPlaces.{bytes_view, val_place, bytes_place, array_places, struct_places, part_place}
 use Rattle.pg_check_heads.proofs.wrong_constants.+wrong.Goals as goal

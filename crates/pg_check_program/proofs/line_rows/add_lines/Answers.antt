@@ -1,5 +1,6 @@
 use Rattle.std.proofs.Common.{◌+◌, ◌++◌, map, drop, ap, ◌∙◌}
-use Rattle.pg_read_ast.specs.Views.{line_of, tree_of}
+use Rattle.pg_read_ast.specs.Numbers.{gives}
+use Rattle.pg_read_ast.specs.Views.{line_of, op_of, tree_of, type_item_of}
 use Rattle.pg_check_program.specs.ScopeNames.{scope_in}
 use Rattle.pg_check_program.specs.LineRows.{lines_by, names_after}
 use Rattle.pg_check_program.proofs.LineSteps.{line_step, line_names_step, lines_end, line_names_end}
@@ -12,12 +13,16 @@ pub op_instr-requires-clause-fits : goal.op_instr-requires-clause-fits
 op_instr-requires-clause-fits c =
     one_fits (LineFits (types_in c.args.scope.now)) line_of c.args.lines.now c.loop-line.line-index c.line-item.result _ c.requires.fits c.loop-line-test.true c.line-item.is
 
+pub op_instr-requires-clause-given : goal.op_instr-requires-clause-given
+op_instr-requires-clause-given c = c.in_ok-has_result.ensures.same ∙ ap (λ xs. gives (map type_item_of xs) (op_of c.line-item.result.op)) c.requires.items
+
 pub loop-line-preserved : goal.loop-line-preserved
 loop-line-preserved c =
     let first = c.args.scope.now.first in
     let names = drop c.loop-line.at c.args.names.now in
     let behind = drop c.place_after-at.result c.args.names.now in
-    let after = c.place_after-at.ensures ∙ ap (λ b. names_after b names) c.gives-gives.ensures in
+    let same = c.in_ok-has_result.ensures.same ∙ ap (λ xs. gives (map type_item_of xs) (op_of c.line-item.result.op)) c.requires.items in
+    let after = c.place_after-at.ensures ∙ ap (λ b. names_after b names) same in
     record {
       instrs = λ own.
           let g = scope_in c.args.scope.now own in

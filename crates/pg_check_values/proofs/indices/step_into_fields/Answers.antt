@@ -2,8 +2,8 @@ use Rattle.std.proofs.Common.{is_some, sym, ap, subst, ◌∙◌}
 use Rattle.pg_check_types.specs.Table.{type_at}
 use Rattle.pg_check_types.specs.Known.{denoted, IsWithin}
 use Rattle.pg_check_types.specs.NumberedTypes.{table_of}
-use Rattle.pg_check_values.specs.Fields.{field_chosen}
-use Rattle.pg_check_values.proofs.FieldLists.{field_is}
+use Rattle.pg_check_rules.specs.Fields.{field_chosen}
+use Rattle.pg_check_rules.proofs.FieldLists.{field_is}
 use Rattle.pg_check_values.proofs.indices.step_into_fields.Goals as goal
 
 pub returns-clause-place : goal.returns-clause-place

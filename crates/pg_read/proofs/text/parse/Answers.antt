@@ -8,7 +8,7 @@ use Rattle.pg_read_grammar.specs.declared.fault.ReadFault.{ReadFault}
 use Rattle.pg_read_grammar.specs.declared.fault.ReadFault.TheVariants.{OutOfMemory}
 use Rattle.pg_read_grammar.specs.Reading.{Good}
 use Rattle.pg_read_grammar.specs.ReaderItems.{program_at}
-use Rattle.pg_read_grammar.specs.Verdict.{ended}
+use Rattle.pg_read_grammar.specs.Answers.{ended}
 use Rattle.pg_read_grammar.specs.Words.{classified}
 use Rattle.pg_read_grammar.specs.Accepted.{IsModule, IsUnread}
 use Rattle.pg_read_grammar.specs.Told.{IsTold}

@@ -3,7 +3,7 @@ use Rattle.std.specs.Prelude.{◌≡◌, ℕ, ◌<◌, List, [], ◌++◌, rever
 use Rattle.pg_check_types.specs.Resolved.{ResolvedType, MoreFields}
 use Rattle.pg_check_types.specs.Layout.{field_list}
 use Rattle.pg_check_types.specs.Table.{type_at}
-use Rattle.pg_check_values.specs.declared.fields.LastField.{LastField}
+use Rattle.pg_check_rules.specs.declared.fields.LastField.{LastField}
 
 abbrev pub HasNoFields : ResolvedType → Type 0
 HasNoFields t = field_list t ≡ []

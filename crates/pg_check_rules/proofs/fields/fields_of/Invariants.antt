@@ -1,8 +1,8 @@
 use Rattle.std.proofs.Common.{◌<◌, length}
 use Rattle.pg_check_types.specs.Table.{type_at}
 use Rattle.pg_check_types.specs.NumberedTypes.{table_of}
-use Rattle.pg_check_values.specs.Fields.{FieldsBehind}
-use Rattle.pg_check_values.proofs.fields.fields_of.Given as goal
+use Rattle.pg_check_rules.specs.Fields.{FieldsBehind}
+use Rattle.pg_check_rules.proofs.fields.fields_of.Given as goal
 
 abbrev pub invariant-fields : goal.invariant-fields
 invariant-fields l = record {

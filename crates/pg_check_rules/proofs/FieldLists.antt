@@ -9,8 +9,8 @@ use Rattle.pg_check_types.specs.Layout.{field_list}
 use Rattle.pg_check_types.specs.Table.{type_at}
 use Rattle.pg_check_types.specs.Known.{denoted, IsWithin}
 use Rattle.pg_check_rules.specs.ValueConditions.{field_at}
-use Rattle.pg_check_values.specs.declared.fields.LastField.{LastField}
-use Rattle.pg_check_values.specs.Fields.{HasNoFields, IsLast, AreFields, FieldsBehind, field_type, field_chosen}
+use Rattle.pg_check_rules.specs.declared.fields.LastField.{LastField}
+use Rattle.pg_check_rules.specs.Fields.{HasNoFields, IsLast, AreFields, FieldsBehind, field_type, field_chosen}
 
 in_table : (table : List ResolvedType) (t : ℕ) → t < length table → slice_get table t ≡ Some (type_at table t)
 in_table [] t l = absurd (omega (arith, l))

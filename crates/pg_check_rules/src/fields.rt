@@ -1,12 +1,26 @@
-//! The fields of a structure by number.
+//! The parts of types by number: the elements of an array, the fields of a structure.
 
-ghost use Rattle.std.specs.Prelude.{◌≡◌, ◌<◌, IfOk, IfSome, length, None};
+ghost use Rattle.std.specs.Prelude.{◌≡◌, ◌<◌, Some, IfOk, IfSome, length, slice_get, None};
 ghost use Rattle.pg_check_types.specs.Table.{type_at};
+ghost use Rattle.pg_check_types.specs.Known.{denoted, IsWithin};
 ghost use Rattle.pg_check_types.specs.NumberedTypes.{table_of};
-ghost use Rattle.pg_check_values.specs.Fields.{HasNoFields, IsLast, AreFields, field_chosen};
+ghost use Rattle.pg_check_rules.specs.ValueConditions.{element_of};
+ghost use Rattle.pg_check_rules.specs.Fields.{HasNoFields, IsLast, AreFields, field_chosen};
 
 use pg_check_types::{KnownTypes, Shape};
 use std::alloc::{AllocError, Global};
+
+/// The number of the type of an array's elements; none of another type.
+pub fn element_in(types: &KnownTypes<'_>, number: usize) -> Option<usize>
+    requires { number < length (table_of types.now) }
+    ensures within { IsWithin (table_of types.now) result }
+    ensures element { denoted (table_of types.now) result ≡ element_of (Some (type_at (table_of types.now) number)) }
+{
+    match types.shape_of_number(number) {
+        Shape::Array(_, element) => Some(element),
+        _ => None,
+    }
+}
 
 /// The last field of a structure, and the structure of the fields before it, by the numbers of their types.
 #[derive(Clone, Copy, Debug, PartialEq, Eq)]
@@ -51,8 +65,15 @@ pub fn fields_of(
     Ok(fields)
 }
 
+/// The field at a place among fields, counted from 0.
+pub fn nth_field(fields: &[usize], place: usize) -> Option<usize>
+    ensures { result ≡ slice_get fields.now place }
+{
+    fields.get(place).copied()
+}
+
 /// The field that an index chooses.
-pub(crate) fn field_chosen(fields: &[usize], index: Option<i64>) -> Option<usize>
+pub fn field_chosen(fields: &[usize], index: Option<i64>) -> Option<usize>
     ensures { result ≡ field_chosen fields.now index }
 {
     match index {
@@ -60,7 +81,7 @@ pub(crate) fn field_chosen(fields: &[usize], index: Option<i64>) -> Option<usize
             if index < 0 {
                 None
             } else {
-                fields.get(index as usize).copied()
+                nth_field(fields, index as usize)
             }
         }
         None => None,

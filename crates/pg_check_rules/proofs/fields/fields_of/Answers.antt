@@ -1,9 +1,9 @@
 use Rattle.std.proofs.Common.{IfSome, sym, subst, arith}
 use Rattle.pg_check_types.specs.Table.{type_at}
 use Rattle.pg_check_types.specs.NumberedTypes.{table_of}
-use Rattle.pg_check_values.specs.Fields.{IsLast, FieldsBehind}
-use Rattle.pg_check_values.proofs.FieldLists.{one_behind}
-use Rattle.pg_check_values.proofs.fields.fields_of.Goals as goal
+use Rattle.pg_check_rules.specs.Fields.{IsLast, FieldsBehind}
+use Rattle.pg_check_rules.proofs.FieldLists.{one_behind}
+use Rattle.pg_check_rules.proofs.fields.fields_of.Goals as goal
 
 pub fields-preserved : goal.fields-preserved
 fields-preserved c =
