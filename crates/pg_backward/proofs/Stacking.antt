@@ -15,25 +15,16 @@ use Rattle.pg_trace.specs.declared.step.StepKind.{StepKind}
 use Rattle.pg_trace.specs.declared.step.StepKind.TheVariants as kinds
 use Rattle.pg_closed.specs.Moments.{Moment, instr_in, thread_in}
 use Rattle.pg_closed.specs.Freeable.{FreeRegion}
-use Rattle.pg_closed.specs.Shadows.{Shadow}
 use Rattle.pg_closed.specs.Extents.{is_live}
-use Rattle.pg_closed.specs.Known.{Reference, RunShadow, ThreadShadow, after_step, no_thread, region_of, thread_of, top_of, under_top}
+use Rattle.pg_closed.specs.Known.{Reference, RunShadow, ThreadShadow, after_step, no_thread, region_of, thread_of}
 use Rattle.pg_least.specs.Keeps.{every}
 use Rattle.pg_least.proofs.Stands.{live_every}
 use Rattle.pg_least.proofs.Threads.{calls_after, length_next, made_at, made_by, made_in, own_calls, own_made, thread_made, thread_other, thread_own}
 use Rattle.pg_backward.specs.declared.counts.Held.{Held}
 use Rattle.pg_backward.specs.declared.counts.Calls.{Calls}
-use Rattle.pg_backward.specs.Lens.{first_of, lens_by_kind, lens_made, lens_made_by, lens_of, rest_of}
+use Rattle.pg_backward.specs.Lens.{lens_by_kind, lens_made, lens_made_by, lens_of}
 use Rattle.pg_backward.specs.Stacks.{AreStacks, IsStack}
 use Rattle.pg_backward.proofs.Lens.{kind_lens}
-
-pub first_top : (cs : List (List Shadow)) → first_of (lens_of cs) ≡ length (top_of cs)
-first_top [] = refl
-first_top (rs ∷ cs) = refl
-
-pub rest_top : (cs : List (List Shadow)) → first_of (rest_of (lens_of cs)) ≡ length (top_of (under_top cs))
-rest_top [] = refl
-rest_top (rs ∷ cs) = first_top cs
 
 made_lens_by : (p : NumberedProgram) (e : Event) (kind : TurnKind) → map (λ (h : ThreadShadow). lens_of h.calls) (made_by p e kind) ≡ lens_made_by p e kind
 made_lens_by p e turns.Create = ap (λ (l : ℕ). (l ∷ []) ∷ []) (length-replicate (length (types_of p _)) _)

@@ -9,7 +9,7 @@ use denote.Ref.{Bor}
 use Rattle.pg_read_ast.specs.declared.names.Name.{Name}
 use Rattle.pg_check_types.specs.NameIndex.{first_place, known_place}
 use Rattle.pg_check_rules.specs.Names.{Register, register_number, label_number}
-use Rattle.pg_check_rules.specs.BlockConditions.{has_text, same_labels, are_labels}
+use Rattle.pg_check_rules.specs.BlockConditions.{has_text, same_labels}
 use Rattle.pg_check_bodies.specs.BodyBlocks.{name_text, are_known}
 
 place_mapped : {X Y : Type 0} (p : Y → Bool) (f : X → Y) (k : ℕ) (xs : List X) → position_from p k (map f xs) ≡ position_from (λ x. p (f x)) k xs
@@ -44,11 +44,6 @@ label_there names text = ap (λ o. is_some o) (position_from-zero (λ (n : Name)
 all_same : {X : Type 0} (p q : X → Bool) → ((x : X) → p x ≡ q x) → (xs : List X) → list_all p xs ≡ list_all q xs
 all_same p q h [] = refl
 all_same p q h (x ∷ xs) = ap (λ b. b && list_all p xs) (h x) ∙ ap (λ b. q x && b) (all_same p q h xs)
-
--- names that an index of labels has
-pub known_labels : {S : Type 0} (m : IndexMap (Bor (List ℕ)) ℕ S) (labels names : List Name) → ((text : List ℕ) → known_place m text ≡ label_number labels text)
-    → are_known m names ≡ are_labels labels names
-known_labels m labels names h = all_same (λ (n : Name). is_some (known_place m n.text)) (λ (n : Name). is_some (label_number labels n.text)) (λ n. ap (λ o. is_some o) (h n.text)) names
 
 known_texts : {S : Type 0} (m : IndexMap (Bor (List ℕ)) ℕ S) (labels names : List Name) → ((text : List ℕ) → known_place m text ≡ label_number labels text)
     → are_known m names ≡ list_all (λ (n : Name). has_text labels n.text) names

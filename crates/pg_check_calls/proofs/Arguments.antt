@@ -23,12 +23,6 @@ argument_there f [] i x l e = absurd (omega (arith, l))
 argument_there f (y ∷ xs) zero x l e = ap (λ z. f z ∷ []) e
 argument_there f (y ∷ xs) (suc i) x l e = argument_there f xs i x (omega (arith, l)) e
 
-pub no_argument : {X : Type 0} (f : X → Typed) (xs : List X) (i : ℕ) → length xs ≤ i → [] ≡ take 1 (drop i (map f xs))
-no_argument f [] zero l = refl
-no_argument f [] (suc i) l = refl
-no_argument f (y ∷ xs) zero l = absurd (omega (arith, l))
-no_argument f (y ∷ xs) (suc i) l = no_argument f xs i (omega (arith, l))
-
 -- fewer arguments than parameters
 pub too_few : {X Y : Type 0} (g : X → Ty) (h : Y → Typed) (ps : List X) (vs : List Y) (n : Name) → length vs < length ps → Some n.span ≡ earliest (wrong_number (map g ps) (map h vs) n)
 unfolding earliest

@@ -45,11 +45,6 @@ pub fits_step : {X Y : Type 0} (types : List NamedType) (f : X → Dparam) (g : 
 fits_step types f g ps ts i t dots l e h =
     fits_at types f g ps ts i t dots l e ∙ ap (λ b. b && fits_params types (map f (drop (i + 1) ps)) (map g (drop (i + 1) ts)) dots) (sym h)
 
-pub fits_stop : {X Y : Type 0} (types : List NamedType) (f : X → Dparam) (g : Y → Ty) (ps : List X) (ts : List Y) (i : ℕ) (t : Y) (dots : Bool) → i < length ts → t ≡ get_or ts i t
-    → false ≡ first_agrees types (map f (drop i ps)) (g t) → false ≡ fits_params types (map f (drop i ps)) (map g (drop i ts)) dots
-fits_stop types f g ps ts i t dots l e h =
-    sym (fits_at types f g ps ts i t dots l e ∙ ap (λ b. b && fits_params types (map f (drop (i + 1) ps)) (map g (drop (i + 1) ts)) dots) (sym h))
-
 -- no written type is left
 pub fits_end : {Y : Type 0} (types : List NamedType) (g : Y → Ty) (qs : List Dparam) (ts : List Y) (i : ℕ) (dots : Bool) → length ts ≤ i
     → fits_params types qs (map g (drop i ts)) dots ≡ fits_params types qs [] dots

@@ -1,5 +1,5 @@
 -- Types that keep within the limit of sizes, and what they are made of.
-use Rattle.std.proofs.Common.{◌≡◌, ℕ, zero, suc, ◌<◌, ◌≤◌, List, [], ◌∷◌, ◌++◌, length, drop, slice_get, Option, Some, None, IfSome, ℤ, pos, negsuc, sym, ap}
+use Rattle.std.proofs.Common.{◌≡◌, ℕ, zero, suc, ◌<◌, ◌≤◌, List, [], ◌∷◌, ◌++◌, length, drop, slice_get, Option, Some, None, IfSome, ℤ, pos, negsuc, sym}
 use Rattle.std.proofs.Common.{subst, arith}
 use Rattle.std.specs.List.{AllByRecursion}
 use Rattle.pg_num.specs.declared.limits.TheConstants.{SIZE_LIMIT}
@@ -127,10 +127,6 @@ unfolding AllFit
 element_size t e n h s =
     let whole : AllFit (ArrayType n e) = subst AllFit (sym s) h in
     own_size e whole.1
-
--- the fields before the last of a structure end within it
-pub front_fits : (t s u : ResolvedType) → MoreFields s u ≡ t → fields_end t ≤ SIZE_LIMIT → fields_end s ≤ SIZE_LIMIT
-front_fits t s u e h = omega (arith, front_end s u, ap fields_end e, h)
 
 -- what is written of a type that fits, by its number
 pub written_fits : (o p : Option ResolvedType) → o ≡ p → IfSome p AllFit → IfSome o AllFit

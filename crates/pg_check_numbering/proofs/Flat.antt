@@ -134,17 +134,6 @@ sum_within size (y ∷ ys) zero x e =
 sum_within size (y ∷ ys) (suc i) x e =
     omega (arith, sum_within size ys i x e, sum_by-cons size y ys, sum_by-cons size y (take i ys))
 
--- two parts that share a number are one part
-pub sum_apart : {X : Type 0} (size : X → ℕ) (xs : List X) (i j : ℕ) (x y : X) → slice_get xs i ≡ Some x → slice_get xs j ≡ Some y → i < j
-    → sum_by size (take i xs) + size x ≤ sum_by size (take j xs)
-sum_apart size [] i j x y e f l = absurd cc
-sum_apart size (z ∷ zs) i zero x y e f l = absurd (omega (arith, l))
-sum_apart size (z ∷ zs) zero (suc j) x y e f l =
-    let same : size z ≡ size x = ap size (some_is z x e) in
-    omega (arith, same, sum_by-cons size z (take j zs))
-sum_apart size (z ∷ zs) (suc i) (suc j) x y e f l =
-    omega (arith, sum_apart size zs i j x y e f (omega (arith, l)), sum_by-cons size z (take i zs), sum_by-cons size z (take j zs))
-
 -- ---- maps that keep sizes
 
 pub sum_map : {X Y : Type 0} (f : X → Y) (size : X → ℕ) (other : Y → ℕ) → ((x : X) → other (f x) ≡ size x) → (xs : List X) → sum_by other (map f xs) ≡ sum_by size xs

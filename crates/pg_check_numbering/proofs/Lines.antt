@@ -139,11 +139,6 @@ module _ (m : Tree) (accepted : IsUnrefused m) where
   pub line_return : (d : Definition) (l : Line) → IsLine m d l → wrong_return (scope_of m d) l.op ≡ []
   line_return d l at = front_none _ _ (behind_none (flat_map (wrong_thread (scope_of m d)) (thread_functions (scope_of m d) l.op)) _ (behind_call d l at))
 
-  pub line_name : (d : Definition) (l : Line) → IsLine m d l → wrong_name (gives m.types l.op) l.name ≡ []
-  line_name d l at =
-      behind_none (wrong_path (scope_of m d) l.op) _ (behind_none (wrong_return (scope_of m d) l.op) _
-      (behind_none (flat_map (wrong_thread (scope_of m d)) (thread_functions (scope_of m d) l.op)) _ (behind_call d l at)))
-
   -- ---- labels and functions
 
   pub line_labels : (d : Definition) (l : Line) → IsLine m d l → flat_map (no_block (labels_of d)) (label_targets l.op ++ label_sources l.op) ≡ []

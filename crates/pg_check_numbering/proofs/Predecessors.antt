@@ -45,9 +45,6 @@ text_found names text e =
     let r = from_any (λ (n : Name). bytes_eq n.text text) names e in
     (r.0, r.1, r.2.there, (bytes_eq-Decides r.1.text text).0 r.2.passes)
 
-pub text_there : (names : List Name) (k : ℕ) (n : Name) (text : List ℕ) → slice_get names k ≡ Some n → n.text ≡ text → has_text names text ≡ true
-text_there names k n text e h = any_from (λ (x : Name). bytes_eq x.text text) names k n e ((bytes_eq-Decides n.text text).1 h)
-
 piece_there : {X Y : Type 0} (g : X → List Y) (xs : List X) (i : ℕ) (x : X) (j : ℕ) (y : Y) → slice_get xs i ≡ Some x → slice_get (g x) j ≡ Some y → (p : Y → Bool)
     → p y ≡ true → list_any p (flat_map g xs) ≡ true
 piece_there g [] i x j y e h p t = absurd cc

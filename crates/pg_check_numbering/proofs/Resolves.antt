@@ -42,9 +42,6 @@ right_behind types xs ys h = behind_none (flat_map (wrong_type types) xs) (flat_
 count_is : (text : List ℕ) (s : Span) → wrong_count text s ≡ [] → is_some (element_count text) ≡ true
 count_is text s e = else_none (is_some (element_count text)) s e
 
-not_void : (o : Option ResolvedType) (s : Span) → ◌≡◌ {A = List Span} (cond (is_void_part o) (s ∷ []) []) [] → is_void_part o ≡ false
-not_void o s e = then_none (is_void_part o) s e
-
 part_has : (r : ResolvedType) → is_void_part (Some r) ≡ false → part_type (Some r) ≡ Some r
 part_has (IntegerType w) e = refl
 part_has PointerType e = refl

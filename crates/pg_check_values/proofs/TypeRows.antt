@@ -1,22 +1,12 @@
 -- Types that are added one after the other.
-use Rattle.std.proofs.Common.{◌≡◌, ℕ, zero, suc, ◌+◌, ◌<◌, List, [], ◌∷◌, ◌++◌, length, map, take, get_or, Result, Ok, Err, OnOk, Bor, sym, ap, ◌∙◌, arith}
+use Rattle.std.proofs.Common.{◌≡◌, ℕ, zero, suc, ◌+◌, ◌<◌, List, [], ◌∷◌, ◌++◌, length, map, take, get_or, Result, Ok, Err, OnOk, sym, ap, ◌∙◌, arith}
 use Rattle.std.specs.List.{flat_map}
-use Rattle.std.proofs.lemmas.List.{append-nil, append_assoc, map-append}
-use Rattle.pg_read_ast.specs.declared.types.TypeNode.{TypeNode}
+use Rattle.std.proofs.lemmas.List.{append-nil, append_assoc}
 use Rattle.pg_read_ast.specs.Syntax.{Ty}
-use Rattle.pg_read_ast.specs.Views.{ty_of}
-use Rattle.pg_check_rules.specs.Nodes.{ty_behind, tys_behind}
 
 pub on_ok : {X E : Type 0} {P Q : Type 0} (o : Result X E) → (P → Q) → OnOk o P → OnOk o Q
 on_ok (Ok x) f h = f h
 on_ok (Err e) f h = tt
-
--- two types more
-pub two_pushed : (front a b : List (Bor TypeNode)) (x y : Bor TypeNode) → a ≡ front ++ x ∷ [] → b ≡ a ++ y ∷ []
-    → tys_behind b ≡ tys_behind front ++ (ty_of x.now ∷ ty_of y.now ∷ [])
-two_pushed front a b x y e f =
-    ap (λ ts. tys_behind ts) (f ∙ ap (λ ts. ts ++ y ∷ []) e ∙ append_assoc front (x ∷ []) (y ∷ []))
-    ∙ map-append ty_behind front (x ∷ y ∷ [])
 
 -- two types and then others
 pub with_others : (front a b : List Ty) (s t : Ty) (more : List Ty) → a ≡ front ++ (s ∷ t ∷ []) → b ≡ a ++ more → b ≡ front ++ (s ∷ t ∷ more)

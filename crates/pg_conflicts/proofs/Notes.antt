@@ -48,24 +48,11 @@ module _ (x : Touch) where
 
   -- ---- looking
 
-  -- at the first of the nodes that are left
-  pub path_found : (table : List Best) (n level node : ℕ) → level < n → has_above table node x.thread.0 x.need ≡ true → any_above table x (path (n - level) node) ≡ true
-  path_found table n level node lt h =
-      let e : suc (n - (level + 1)) ≡ n - level = omega (arith, lt) in
-      subst (λ k. any_above table x (path k node) ≡ true) e (ap (λ b. b || any_above table x (path (n - (level + 1)) (node / 2))) h)
-
   pub path_passed : (table : List Best) (n level node : ℕ) → level < n → has_above table node x.thread.0 x.need ≡ false
       → any_above table x (path (n - (level + 1)) (node / 2)) ≡ any_above table x (path (n - level) node)
   path_passed table n level node lt h =
       let e : suc (n - (level + 1)) ≡ n - level = omega (arith, lt) in
       subst (λ k. any_above table x (path (n - (level + 1)) (node / 2)) ≡ any_above table x (path k node)) e (sym (ap (λ b. b || any_above table x (path (n - (level + 1)) (node / 2))) h))
-
-  pub span_found : (table : List Best) (n level low high : ℕ) → level < n → any_above table x (ends low high) ≡ true → any_above table x (span (n - level) low high) ≡ true
-  span_found table n level low high lt h =
-      let e : suc (n - (level + 1)) ≡ n - level = omega (arith, lt) in
-      subst (λ k. any_above table x (span k low high) ≡ true) e
-      (list_any-append (λ v. has_above table v x.thread.0 x.need) (ends low high) (span (n - (level + 1)) (low / 2 + low % 2) (high / 2))
-      ∙ ap (λ b. b || any_above table x (span (n - (level + 1)) (low / 2 + low % 2) (high / 2))) h)
 
   pub span_passed : (table : List Best) (n level low high : ℕ) → level < n → any_above table x (ends low high) ≡ false
       → any_above table x (span (n - (level + 1)) (low / 2 + low % 2) (high / 2)) ≡ any_above table x (span (n - level) low high)
@@ -74,12 +61,6 @@ module _ (x : Touch) where
       subst (λ k. any_above table x (span (n - (level + 1)) (low / 2 + low % 2) (high / 2)) ≡ any_above table x (span k low high)) e
       (sym (list_any-append (λ v. has_above table v x.thread.0 x.need) (ends low high) (span (n - (level + 1)) (low / 2 + low % 2) (high / 2))
       ∙ ap (λ b. b || any_above table x (span (n - (level + 1)) (low / 2 + low % 2) (high / 2))) h))
-
-  pub path_end : (table : List Best) (n level node : ℕ) → n ≤ level → any_above table x (path (n - level) node) ≡ false
-  path_end table n level node le = let e : n - level ≡ 0 = omega (arith, le) in rw e refl
-
-  pub span_end : (table : List Best) (n level low high : ℕ) → n ≤ level → any_above table x (span (n - level) low high) ≡ false
-  span_end table n level low high le = let e : n - level ≡ 0 = omega (arith, le) in rw e refl
 
   pub path_whole : (old more : List Best) (n level node : ℕ) → n ≤ level → Noted old more [] x → Noted old more (path (n - level) node) x
   path_whole old more n level node le h = let e : 0 ≡ n - level = omega (arith, le) in subst (λ k. Noted old more (path k node) x) e h

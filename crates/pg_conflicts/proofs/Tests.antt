@@ -8,10 +8,6 @@ same_tests true c f g = sym (f refl)
 same_tests false true f g = g refl
 same_tests false false f g = refl
 
-pub false_test : (b : Bool) → (b ≡ true → ⊥) → b ≡ false
-false_test true h = absurd (h refl)
-false_test false h = refl
-
 -- ---- or and and, regrouped
 
 pub or_turn : (a b c d : Bool) → ((a || b) || (c || d)) ≡ ((a || c) || (b || d))

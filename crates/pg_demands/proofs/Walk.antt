@@ -38,9 +38,6 @@ all_of_all f P Q (x ∷ xs) h k = append_all Q (f x) (all_of f xs) (h x k.0) (al
 
 -- ---- decisions with more of them
 
-AreIn : Taken → List Decision → Type 0
-AreIn e xs = AllByRecursion (λ (x : Decision). has e x ≡ true) xs
-
 pin_in : (e : Taken) (n : ℕ) (xs : List Decision) → AllByRecursion (λ (x : Decision). has e x ≡ true) xs → list_any (is_pin n) xs ≡ true → e.pinned n ≡ true
 pin_in e n [] k h = absurd (true≢false (sym h))
 pin_in e n (Pinned m ∷ xs) k h = go (or_cases (m == n) (list_any (is_pin n) xs) h) (λ q. pin_in e n xs k.1 q)

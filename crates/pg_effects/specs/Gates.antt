@@ -1,10 +1,9 @@
 -- Steps as they are told where other loads and stores are events.
-use Rattle.std.specs.Prelude.{List, map, Bool}
+use Rattle.std.specs.Prelude.{List, Bool}
 use Rattle.pg_ir.specs.declared.ids.InstrId.{InstrId}
 use Rattle.pg_trace.specs.declared.step.Step.{Step}
 use Rattle.pg_trace.specs.declared.step.StepKind.{StepKind}
 use Rattle.pg_trace.specs.declared.step.StepKind.TheVariants as told
-use Rattle.pg_trace.specs.declared.turn.Turn.{Turn}
 use Rattle.pg_trace.specs.Steps.{events}
 use Rattle.pg_machine.specs.MachineStep.{Stepped, Did, Trapped, is_gated}
 
@@ -20,7 +19,3 @@ with_gates gated x = record x { kind = marked (is_gated gated x.instr.0) x.kind 
 abbrev pub gated_as : List InstrId → Stepped → Stepped
 gated_as gated (Did x s) = Did (with_gates gated x) s
 gated_as gated (Trapped name id) = Trapped name id
-
--- the turns of steps where the loads and stores of these instructions are events
-abbrev pub hybrid_turns : List InstrId → List Step → List Turn
-hybrid_turns gated xs = events (map (with_gates gated) xs)

@@ -39,7 +39,7 @@ use Rattle.pg_step.specs.Compute.{chosen}
 use Rattle.pg_step.specs.EdgeStep.{case_of}
 use Rattle.pg_step.specs.States.{Calls, CallsFunction}
 use Rattle.pg_step.specs.Step as step
-use Rattle.pg_step.specs.Step.{op_action, op_after, on_value, on_all, on_place, placed, are_set, call_action, edge_action, return_action, divided_action, stepped, entered, bytes_of}
+use Rattle.pg_step.specs.Step.{op_action, op_after, on_all, on_place, placed, are_set, call_action, return_action, stepped, entered, bytes_of}
 use Rattle.pg_step.specs.Step.{result_number, target_in, total, under_top}
 use Rattle.pg_machine.proofs.Actions.{OfTraps, on_value_is, on_all_is, edge_is, call_is, divided_is}
 use Rattle.pg_closed.specs.Freeable.{frame_of}
@@ -201,9 +201,6 @@ module _ (I : Instance) (program : IsProgram I.program) (sums : AreSummaries I.p
 
   abbrev HasIt : Path → ℕ → Type 0
   HasIt q n = HasPath I.program top.set.registers I.memory I.recorded q n
-
-  traps_go : (o : Op) → OfTraps (Q o)
-  traps_go o = λ n. tt
 
   -- an instruction that sets its register
   straight : (o : Op) → x.op ≡ o → is_terminator o ≡ false → (n : ℕ) → ((q : Path) → path_by paths is_pointer o ≡ Some q → HasIt q n)

@@ -59,10 +59,6 @@ module _ (p : NumberedProgram) (d e : Taken) (bound : ℕ) (L : Shadow → Shado
           let g : length cs ≡ length h.low = calls_long cs h.low h.like in
           absurd (omega (arith, a, b, g, l))
 
-  -- the first is as high as the part of the second that it is like
-  pub low_long : (cs ct : List (List Shadow)) (h : Above cs ct) → length cs ≡ length h.low
-  low_long cs ct h = calls_long cs h.low h.like
-
   module _ (sets : ℕ → Bool) (y : Decision) (new : has d y ≡ false) (taken : has e y ≡ true) where
     above_top : (f : List Shadow → List Shadow) (cs more low : List (List Shadow)) → CallsLike p d e bound L k cs low → IsTopForgotten sets y cs →
         (length more ≡ 0 → (rs : List Shadow) → Outside 0 sets rs (f rs)) → Above cs (with_top f (more ++ low))

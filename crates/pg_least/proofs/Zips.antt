@@ -2,7 +2,7 @@
 use Rattle.std.proofs.Common.{◌≡◌, ℕ, zero, suc, List, [], ◌∷◌, ◌++◌, length, replicate, map, refl, ap}
 use Rattle.std.specs.List.{AllZip}
 use Rattle.std.specs.Prelude.{Contains, slice_index_or, slice_set}
-use Rattle.pg_paths.proofs.Elements.{here, there}
+use Rattle.pg_paths.proofs.Elements.{here}
 
 pub all_none : {A : Type 0} (xs : List A) → ((z : A) → Contains xs z → ⊥) → xs ≡ []
 all_none [] h = refl
@@ -44,7 +44,3 @@ module _ {A : Type 0} (L : A → A → Type 0) where
   length_like [] (b ∷ ys) h = absurd h
   length_like (a ∷ xs) [] h = absurd h
   length_like (a ∷ xs) (b ∷ ys) h = ap suc (length_like xs ys h.1)
-
-  pub same_like : (xs : List A) → ((x : A) → Contains xs x → L x x) → AllZip L xs xs
-  same_like [] h = tt
-  same_like (x ∷ xs) h = (h x (here x xs), same_like xs (λ z c. h z (there x xs z c)))

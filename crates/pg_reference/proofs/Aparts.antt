@@ -1,14 +1,11 @@
 -- Whether a store's frame meets one from which a path loads, pointer by pointer.
-use Rattle.std.proofs.Common.{◌≡◌, ℕ, zero, suc, ◌+◌, ◌≤◌, List, [], ◌∷◌, length, drop, Bool, true, false, Some, refl, sym, ap, ◌∙◌, arith}
+use Rattle.std.proofs.Common.{◌≡◌, ℕ, ◌+◌, ◌≤◌, List, [], ◌∷◌, Bool, true, false, refl, sym, ap, ◌∙◌}
 use mathlib.Core.Path.{fun_ext}
-use Rattle.std.specs.Prelude.{◌&&◌, ◌||◌, slice_get}
+use Rattle.std.specs.Prelude.{◌&&◌, ◌||◌}
 use Rattle.std.specs.List.{list_any}
-use Rattle.pg_accesses.specs.declared.rooted.Rooted.{Rooted}
 use Rattle.pg_trace.specs.Races.{share}
 use Rattle.pg_closed.specs.Freeable.{FreeAccess, frame_of, loads_from, stores_on}
-use Rattle.pg_reference.specs.declared.at.At.{At}
 use Rattle.pg_reference.specs.Apart.{is_stored, loads_stored, stores_to}
-use Rattle.pg_reference.specs.Paths.{access_at, accesses_with}
 
 -- ---- tests of lists
 
@@ -57,41 +54,3 @@ stored_is xs =
     ∙ any_swap meets xs xs
     ∙ any_same (λ (b : FreeAccess). list_any (λ (a : FreeAccess). meets a b) xs) (λ (b : FreeAccess). list_any (is_stored xs) b.at.pointers) xs
     (λ b. any_swap (λ (a : FreeAccess) (from : ℕ). stores_to from a) xs b.at.pointers)
-
--- ---- accesses one after another
-
--- one access more
-any_with : (f : FreeAccess → Bool) (us : List Rooted) (xs : List At) (i : ℕ) (a : Rooted) (x : At) → length xs ≡ length us → slice_get us i ≡ Some a → slice_get xs i ≡ Some x →
-    list_any f (accesses_with (drop i us) (drop i xs)) ≡ (f (access_at a x) || list_any f (accesses_with (drop (i + 1) us) (drop (i + 1) xs)))
-any_with f [] xs zero a x c e g = absurd cc
-any_with f [] xs (suc i) a x c e g = absurd cc
-any_with f (b ∷ us) [] zero a x c e g = absurd cc
-any_with f (b ∷ us) [] (suc i) a x c e g = absurd cc
-any_with f (b ∷ us) (y ∷ xs) zero a x c e g =
-    let q : b ≡ a = cc in
-    let r : y ≡ x = cc in
-    rw (q, r) refl
-any_with f (b ∷ us) (y ∷ xs) (suc i) a x c e g =
-    let q : suc i + 1 ≡ suc (i + 1) = omega arith in
-    rw q (any_with f us xs i a x (omega (arith, c)) e g)
-
--- no access so far passes the test
-pub any_next : (f : FreeAccess → Bool) (us : List Rooted) (xs : List At) (i : ℕ) (a : Rooted) (x : At) (whole : Bool) → length xs ≡ length us → slice_get us i ≡ Some a
-    → slice_get xs i ≡ Some x → f (access_at a x) ≡ false →
-    whole ≡ list_any f (accesses_with (drop i us) (drop i xs)) → whole ≡ list_any f (accesses_with (drop (i + 1) us) (drop (i + 1) xs))
-any_next f us xs i a x whole c e g h w = w ∙ any_with f us xs i a x c e g ∙ ap (λ b. b || list_any f (accesses_with (drop (i + 1) us) (drop (i + 1) xs))) h
-
-pub any_now : (f : FreeAccess → Bool) (us : List Rooted) (xs : List At) (i : ℕ) (a : Rooted) (x : At) (whole : Bool) → length xs ≡ length us → slice_get us i ≡ Some a
-    → slice_get xs i ≡ Some x → f (access_at a x) ≡ true →
-    whole ≡ list_any f (accesses_with (drop i us) (drop i xs)) → true ≡ whole
-any_now f us xs i a x whole c e g h w = sym (w ∙ any_with f us xs i a x c e g ∙ ap (λ b. b || list_any f (accesses_with (drop (i + 1) us) (drop (i + 1) xs))) h)
-
-pub any_end : (f : FreeAccess → Bool) (us : List Rooted) (xs : List At) (i : ℕ) (whole : Bool) → length us ≤ i → whole ≡ list_any f (accesses_with (drop i us) (drop i xs))
-    → false ≡ whole
-any_end f us xs i whole le w = sym (w ∙ ap (λ (l : List Rooted). list_any f (accesses_with l (drop i xs))) (drop_end us i le))
-  where
-    drop_end : (us : List Rooted) (i : ℕ) → length us ≤ i → drop i us ≡ []
-    drop_end [] zero h = refl
-    drop_end [] (suc i) h = refl
-    drop_end (a ∷ us) zero h = absurd (omega (arith, h))
-    drop_end (a ∷ us) (suc i) h = drop_end us i (omega (arith, h))

@@ -1,35 +1,19 @@
 -- Paths that are followed, load by load, and the accesses of a region, path by path.
-use Rattle.std.proofs.Common.{◌≡◌, ℕ, zero, suc, ◌+◌, ◌<◌, ◌≤◌, List, [], ◌∷◌, ◌++◌, length, take, drop, true, false, Option, Some, None, option_and_then}
-use Rattle.std.proofs.Common.{pos, refl, sym, ap, ◌∙◌, subst, arith}
-use Rattle.std.specs.Prelude.{slice_get, Ok, Err}
+use Rattle.std.proofs.Common.{◌≡◌, ℕ, zero, suc, ◌+◌, ◌<◌, ◌≤◌, List, [], ◌∷◌, ◌++◌, length, take, drop, false, Option, Some, None, option_and_then}
+use Rattle.std.proofs.Common.{refl, sym, ap, ◌∙◌, subst, arith}
+use Rattle.std.specs.Prelude.{slice_get}
 use Rattle.std.proofs.Math.ListN.{set}
 use Rattle.std.proofs.lemmas.List.{length-append}
 use Rattle.pg_num.specs.Places.{ByteRange}
-use Rattle.pg_num.specs.Pointers.{moved_by, place_of}
-use Rattle.pg_num.specs.declared.places.PlaceFault.{PlaceFault}
 use Rattle.pg_ir.specs.Program.{NumberedProgram}
 use Rattle.pg_machine.specs.State.{State}
-use Rattle.pg_machine.proofs.Named.{place_is}
-use Rattle.pg_paths.specs.Followed.{Followed, behind, cell_at, cell_in, followed_from}
+use Rattle.pg_paths.specs.Followed.{Followed, behind, cell_at, followed_from}
 use Rattle.pg_paths.specs.Paths.{offsets_of}
 use Rattle.pg_accesses.specs.declared.rooted.Rooted.{Rooted}
 use Rattle.pg_closed.specs.Freeable.{FreeAccess, one_access}
 use Rattle.pg_reference.specs.declared.at.At.{At}
 use Rattle.pg_reference.specs.OfRegions.{free_access}
 use Rattle.pg_reference.specs.Paths.{Added, Adds, IsLoaded, access_at, accesses_in, accesses_with, along, cell_of, cells_of, followed_in}
-
--- ---- one load
-
-loaded_ok : (memory : ByteRange → ℕ) (word k : ℕ) (r : ByteRange) → place_of (moved_by word (pos k)) 8 ≡ Ok r → IsLoaded memory word k (Some (memory r))
-loaded_ok memory word k r e =
-    let q : cell_of word k ≡ r = place_is (moved_by word (pos k)) 8 r e in
-    (ap cell_in e ∙ ap Some (sym q), ap memory (sym q))
-
-pub loaded_some : (memory : ByteRange → ℕ) (word k : ℕ) (r : ByteRange) (n : ℕ) → place_of (moved_by word (pos k)) 8 ≡ Ok r → n ≡ memory r → IsLoaded memory word k (Some n)
-loaded_some memory word k r n e q = subst (λ (m : ℕ). IsLoaded memory word k (Some m)) (sym q) (loaded_ok memory word k r e)
-
-pub loaded_none : (memory : ByteRange → ℕ) (word k : ℕ) (f : PlaceFault) → place_of (moved_by word (pos k)) 8 ≡ Err f → IsLoaded memory word k None
-loaded_none memory word k f e = ap cell_in e
 
 -- ---- the loads of a path
 
@@ -99,9 +83,6 @@ module _ (memory : ByteRange → ℕ) (first : ℕ) (ks : List ℕ) where
   abbrev pub Led : ℕ → List ℕ → ℕ → Type 0
   Led i ws word = followed_from memory first ks ≡ all_behind (take i ws) (take i ks) (followed_from memory word (drop i ks))
 
-  pub led_first : (ws : List ℕ) → Led 0 ws first
-  led_first ws = refl
-
   load_rest : (word i k : ℕ) → slice_get ks i ≡ Some k → followed_from memory word (drop i ks)
       ≡ option_and_then (λ cell. behind word cell (followed_from memory (memory cell) (drop (i + 1) ks))) (cell_at word k)
   load_rest word i k e = ap (followed_from memory word) (drop_get ks i k e)
@@ -117,11 +98,6 @@ module _ (memory : ByteRange → ℕ) (first : ℕ) (ks : List ℕ) where
       l ∙ ap (all_behind (take i ws) (take i ks)) one ∙ sym (behind_last (take i ws) (take i ks) word k rest same)
       ∙ ap (λ (vs : List ℕ). all_behind vs (take i ks ++ k ∷ []) rest) (sym (take_set ws i word a))
       ∙ ap (λ (ms : List ℕ). all_behind (take (i + 1) (set ws i word)) ms rest) (sym (take_get ks i k e))
-
-  pub led_none : (i : ℕ) (ws : List ℕ) (word k : ℕ) → slice_get ks i ≡ Some k → IsLoaded memory word k None → Led i ws word → followed_from memory first ks ≡ None
-  led_none i ws word k e h l =
-      l ∙ ap (all_behind (take i ws) (take i ks)) (load_rest word i k e ∙ ap (option_and_then (λ cell. behind word cell (followed_from memory (memory cell) (drop (i + 1) ks)))) h)
-      ∙ behind_none (take i ws) (take i ks)
 
   pub led_end : (i : ℕ) (ws : List ℕ) (word : ℕ) → i ≡ length ks → i ≤ length ws → Led i ws word
       → followed_from memory first ks ≡ Some (along ks (record { pointers = ws; last = word }))
@@ -139,12 +115,6 @@ take_accesses [] zero a e = absurd cc
 take_accesses [] (suc i) a e = absurd cc
 take_accesses (b ∷ us) zero a e = let q : b ≡ a = cc in ap (λ (z : Rooted). z ∷ []) q
 take_accesses (b ∷ us) (suc i) a e = let q : suc i + 1 ≡ suc (i + 1) = omega arith in rw q (ap (λ (m : List Rooted). b ∷ m) (take_accesses us i a e))
-
-take_each : (us : List Rooted) (i : ℕ) → length us ≤ i → take i us ≡ us
-take_each [] zero h = refl
-take_each [] (suc i) h = refl
-take_each (a ∷ us) zero h = absurd (omega (arith, h))
-take_each (a ∷ us) (suc i) h = ap (λ (m : List Rooted). a ∷ m) (take_each us i (omega (arith, h)))
 
 split_at : (us : List Rooted) (i : ℕ) → us ≡ take i us ++ drop i us
 split_at us zero = refl
@@ -218,13 +188,6 @@ module _ (p : NumberedProgram) (s : State) (t : ℕ) where
   abbrev pub FollowedTo : List Rooted → ℕ → List At → List At → Type 0
   FollowedTo us i old new = (xs : List At) × Added p s t (take i us) old new xs
 
-  pub followed_first : (us : List Rooted) (old : List At) → FollowedTo us 0 old old
-  followed_first us old = ([], record { behind = sym (append_none old); count = refl; given = refl })
-    where
-      append_none : (xs : List At) → xs ++ [] ≡ xs
-      append_none [] = refl
-      append_none (x ∷ xs) = ap (λ (m : List At). x ∷ m) (append_none xs)
-
   assoc : (xs ys zs : List At) → (xs ++ ys) ++ zs ≡ xs ++ (ys ++ zs)
   assoc [] ys zs = refl
   assoc (x ∷ xs) ys zs = ap (λ (m : List At). x ∷ m) (assoc xs ys zs)
@@ -250,6 +213,3 @@ module _ (p : NumberedProgram) (s : State) (t : ℕ) where
           ∙ none_front (take i us ++ a ∷ []) (drop (i + 1) us) (none_last (take i us) a f);
     },
   )
-
-  pub followed_each : (us : List Rooted) (i : ℕ) (old cur : List At) → length us ≤ i → FollowedTo us i old cur → Adds p s t us old true cur
-  followed_each us i old cur le h = subst (λ (bs : List Rooted). (xs : List At) × Added p s t bs old cur xs) (take_each us i le) h

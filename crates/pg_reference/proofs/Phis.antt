@@ -1,14 +1,12 @@
 -- The registers that the phis of a block set.
 use Rattle.std.proofs.Common.{◌≡◌, ℕ, zero, suc, ◌+◌, ◌-◌, ◌<◌, ◌≤◌, Bool, List, [], ◌∷◌, length, take, drop, Option, Some, None, refl, ap, arith}
 use Rattle.std.specs.Prelude.{IfSome, slice_get, take_while}
-use Rattle.std.specs.List.{list_any, prefix_len}
+use Rattle.std.specs.List.{prefix_len}
 use Rattle.pg_num.specs.declared.limits.TheConstants.{FUNCTION_REGISTER_LIMIT}
 use Rattle.pg_ir.specs.declared.instr.Instr.{Instr}
 use Rattle.pg_ir.specs.Program.{NumberedProgram, end_of, first_of, function_of, types_of}
 use Rattle.pg_ir.specs.Edges.{instrs_of, is_phi, phis_of}
 use Rattle.pg_ir.specs.WellFormed.{IsProgram}
-use Rattle.pg_paths.specs.Registers.{is_register}
-use Rattle.pg_reference.specs.OfRegions.{phis_set}
 use Rattle.pg_step.proofs.Rooms.{few_registers}
 
 get_past : (xs : List Instr) (n k : ℕ) (x : Instr) → slice_get (take n xs) k ≡ Some x → slice_get xs k ≡ Some x
@@ -53,8 +51,3 @@ take_whole [] zero h = refl
 take_whole [] (suc k) h = refl
 take_whole (x ∷ xs) zero h = absurd (omega (arith, h))
 take_whole (x ∷ xs) (suc k) h = ap (λ (l : List Instr). x ∷ l) (take_whole xs k (omega (arith, h)))
-
--- all phis were passed
-pub phis_whole : (p : NumberedProgram) (b k r : ℕ) (xs : List Instr) → xs ≡ phis_of p b → length xs ≤ k
-    → list_any (λ (y : Instr). is_register y.result r) (take k (phis_of p b)) ≡ phis_set p b r
-phis_whole p b k r xs e le = ap (λ (l : List Instr). list_any (λ (y : Instr). is_register y.result r) l) (take_whole (phis_of p b) k (omega (arith, le, ap length e)))

@@ -1,5 +1,5 @@
 -- Regions that were sought, one branch after another.
-use Rattle.std.proofs.Common.{◌≡◌, ℕ, zero, suc, ◌+◌, ◌<◌, ◌≤◌, Bool, true, false, List, [], ◌∷◌, ◌++◌, length, replicate, Option, Some, None, sym, ap}
+use Rattle.std.proofs.Common.{◌≡◌, ℕ, zero, suc, ◌+◌, ◌<◌, ◌≤◌, Bool, true, List, [], ◌∷◌, ◌++◌, length, replicate, Option, Some, None, sym, ap}
 use Rattle.std.proofs.Common.{◌∙◌, subst, arith, inl, inr, ◌⊎◌}
 use Rattle.std.specs.Prelude.{slice_get, slice_set}
 use Rattle.std.proofs.lemmas.Bool.{cases_eq}
@@ -7,16 +7,14 @@ use Rattle.std.proofs.lemmas.List.{length-replicate}
 use Rattle.std.proofs.lemmas.Option.{slice_get_within}
 use Rattle.pg_cfg.specs.Graphs.{EdgeLists, Enters, IsClosed}
 use Rattle.pg_cfg.specs.Graphs.Enters.{now, after}
-use Rattle.pg_ir.specs.declared.instr.Instr.{Instr}
 use Rattle.pg_ir.specs.Program.{NumberedProgram}
 use Rattle.pg_accesses.specs.Accesses.{RootedList}
 use Rattle.pg_region.specs.declared.region.Region.{Region}
 use Rattle.pg_region.specs.Finders.{FinderParts, IsFinder}
-use Rattle.pg_region.specs.Regions.{RegionOf, block_in, block_of, flow_of}
+use Rattle.pg_region.specs.Regions.{RegionOf, flow_of}
 use Rattle.pg_region.proofs.Flows.{flow_size, reach_within}
 use Rattle.pg_machine.proofs.Threads.{last_own, set_length, set_other, set_own}
 use Rattle.pg_trace.specs.declared.step.Step.{Step}
-use Rattle.pg_closed.specs.Known.{is_branch}
 use Rattle.pg_reference.specs.declared.found.FoundRegion.{FoundRegion}
 use Rattle.pg_reference.specs.declared.found.Sought.{Sought}
 use Rattle.pg_reference.specs.declared.found.Sought.TheVariants as sought
@@ -108,30 +106,6 @@ region_within p gated sums f c (Some q) h r =
     (reach_within p c q.join q.blocks.items closed r.join.before, omega (arith, enters_within (flow_of p) q.join c closed r.join.reached, flow_size p))
 
 -- ---- the steps of a trace
-
--- step i is no branch step, or its branch was sought
-pub sought_next : (p : NumberedProgram) (old new : List Sought) (xs : List Step) (i : ℕ) (x : Step) → slice_get xs i ≡ Some x → WasSought p new x
-    → ((c : ℕ) → was_sought (slice_get old c) ≡ true → was_sought (slice_get new c) ≡ true) →
-    ((n : ℕ) (y : Step) → n < i → slice_get xs n ≡ Some y → WasSought p old y) → (n : ℕ) (y : Step) → n < i + 1 → slice_get xs n ≡ Some y → WasSought p new y
-sought_next p old new xs i x e w k h n y lt g = go (cases_eq n i)
-  where
-    go : (n ≡ i) ⊎ (n ≡ i → ⊥) → WasSought p new y
-    go (inl q) = let same : Some x ≡ Some y = sym e ∙ ap (slice_get xs) (sym q) ∙ g in subst (WasSought p new) (one x y same) w
-      where
-        one : (x y : Step) → Some x ≡ Some y → x ≡ y
-        one x y e = cc
-    go (inr d) = λ j at b. k j.block.0 (h n y (omega (arith, lt, d)) g j at b)
-
--- a branch step whose branch was sought
-pub was_now : (p : NumberedProgram) (blocks : List Sought) (x : Step) → was_sought (slice_get blocks (block_of p x.instr.0)) ≡ true → WasSought p blocks x
-was_now p blocks x h i at b = subst (λ (o : Option Instr). was_sought (slice_get blocks (block_in o)) ≡ true) at h
-
--- no branch step, or none of the program's
-pub not_branch : (p : NumberedProgram) (blocks : List Sought) (x : Step) → is_branch x.kind ≡ false → WasSought p blocks x
-not_branch p blocks x e i at b = absurd (two (is_branch x.kind) e b)
-  where
-    two : (c : Bool) → c ≡ false → c ≡ true → ⊥
-    two c e b = cc
 
 pub not_there : (p : NumberedProgram) (blocks : List Sought) (x : Step) → length p.instrs ≤ x.instr.0 → WasSought p blocks x
 not_there p blocks x le i at b = absurd (omega (arith, le, slice_get_within p.instrs x.instr.0 i at))

@@ -1,31 +1,11 @@
 -- Sets in short tables.
-use Rattle.std.proofs.Common.{◌≡◌, ℕ, zero, suc, ◌+◌, ◌<◌, ◌≤◌, Bool, false, List, [], ◌∷◌, length, take, refl, sym, ◌∙◌, subst, arith, inl, inr, ◌⊎◌}
+use Rattle.std.proofs.Common.{◌≡◌, ℕ, zero, suc, ◌+◌, ◌<◌, ◌≤◌, Bool, false, List, [], ◌∷◌, length, refl, sym, ◌∙◌, subst, arith, inl, inr, ◌⊎◌}
 use Rattle.std.proofs.lemmas.Bool.{cases_eq, cases_lt}
 use Rattle.pg_accesses.specs.Tables.{in_table}
 
 nothing_in : (r : ℕ) → in_table [] r ≡ false
 nothing_in zero = refl
 nothing_in (suc r) = refl
-
-taken_in : (n : ℕ) (set : List Bool) (r : ℕ) → r < n → in_table (take n set) r ≡ in_table set r
-taken_in zero set r lt = absurd (omega (arith, lt))
-taken_in (suc n) [] r lt = refl
-taken_in (suc n) (b ∷ set) zero lt = refl
-taken_in (suc n) (b ∷ set) (suc r) lt = taken_in n set r (omega (arith, lt))
-
-past_in : (n : ℕ) (set : List Bool) (r : ℕ) → n ≤ r → in_table (take n set) r ≡ false
-past_in zero set r le = nothing_in r
-past_in (suc n) [] r le = nothing_in r
-past_in (suc n) (b ∷ set) zero le = absurd (omega (arith, le))
-past_in (suc n) (b ∷ set) (suc r) le = past_in n set r (omega (arith, le))
-
--- a set without what stands behind its greatest number
-pub short_in : (n : ℕ) (set : List Bool) → ((r : ℕ) → n ≤ r → in_table set r ≡ false) → (r : ℕ) → in_table (take n set) r ≡ in_table set r
-short_in n set h r = go (cases_lt r n)
-  where
-    go : (r < n) ⊎ (n ≤ r) → in_table (take n set) r ≡ in_table set r
-    go (inl lt) = taken_in n set r lt
-    go (inr le) = past_in n set r le ∙ sym (h r le)
 
 past_end : (set : List Bool) (r : ℕ) → length set ≤ r → in_table set r ≡ false
 past_end [] r le = nothing_in r
@@ -42,9 +22,6 @@ none_in set end i e h r le lt = go (cases_eq r i)
     go : (r ≡ i) ⊎ (r ≡ i → ⊥) → in_table set r ≡ false
     go (inl q) = subst (λ (k : ℕ). in_table set k ≡ false) (sym q) e
     go (inr d) = h r le (omega (arith, lt, d))
-
-pub none_now : (set : List Bool) (i : ℕ) → NoneFrom set (i + 1) (i + 1)
-none_now set i r le lt = absurd (omega (arith, le, lt))
 
 pub none_behind : (set : List Bool) (end i : ℕ) → length set ≤ i → NoneFrom set end i → (r : ℕ) → end ≤ r → in_table set r ≡ false
 none_behind set end i le h r lo = go (cases_lt r i)

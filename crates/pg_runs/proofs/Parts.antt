@@ -153,9 +153,6 @@ pub below_told : (g : ℕ) (ms : List (Mark (Timed Deed'))) → IsBelow g ms →
 below_told g [] h = tt
 below_told g (m ∷ ms) h = (record { if_done = h.0.if_done; if_open = h.0.if_open }, below_told g ms h.1)
 
-abbrev MarkTells : Mark (Timed Deed') → Type 0
-MarkTells m = TellsSo m.step.did
-
 pub cut_told : (ms : List (Mark (Timed Deed'))) → AllOf (λ m. TellsSo m.step.did) ms → IsCut deeds ms → IsCut recorded (marks_told ms)
 cut_told [] a h = tt
 cut_told (m ∷ ms) a h = ((λ w. rest m.step.did ms a.0 a.1 (h.0 w)), cut_told ms a.1 h.1)

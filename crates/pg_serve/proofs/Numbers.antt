@@ -80,13 +80,6 @@ told_blank line numbers start at n below blank is t = record {
       ∙ ap (λ ws. numbers_then numbers (numbers_of ws)) (sym (words-blank line (slice_range line start at) at below blank)) ∙ t.leads;
 }
 
--- a word that is no number
-pub told_wrong : (line : List ℕ) (numbers : List ℤ) (start at : ℕ) → at < length line → is_blank (get_or line at 0) ≡ true
-    → number_of (slice_range line start at) ≡ None → Told line numbers start at → numbers_of (words_behind [] line) ≡ None
-told_wrong line numbers start at below blank is t =
-    sym t.leads ∙ ap (λ ws. numbers_then numbers (numbers_of ws)) (words-blank line (slice_range line start at) at below blank)
-    ∙ ap (λ o. numbers_then numbers (number_before o (numbers_of (words_behind [] (drop (at + 1) line))))) is
-
 -- the last word
 last-word : (line : List ℕ) (start : ℕ) → start ≤ length line → words_behind (slice_range line start (length line)) (drop (length line) line) ≡ drop start line ∷ []
 last-word line start within =
@@ -100,14 +93,6 @@ last-word line start within =
 pub told_last : (line : List ℕ) (numbers : List ℤ) (start at : ℕ) (n : ℤ) → length line ≤ at → at ≤ length line
     → number_of (drop start line) ≡ Some n → Told line numbers start at → numbers_of (words_behind [] line) ≡ Some (numbers ++ n ∷ [])
 told_last line numbers start at n above below is t =
-    let e : at ≡ length line = omega (arith, above, below) in
-    let u : Told line numbers start (length line) = subst (Told line numbers start) e t in
-    sym u.leads ∙ ap (λ ws. numbers_then numbers (numbers_of ws)) (last-word line start u.within)
-    ∙ ap (λ o. numbers_then numbers (number_before o (Some []))) is
-
-pub told_last_wrong : (line : List ℕ) (numbers : List ℤ) (start at : ℕ) → length line ≤ at → at ≤ length line
-    → number_of (drop start line) ≡ None → Told line numbers start at → numbers_of (words_behind [] line) ≡ None
-told_last_wrong line numbers start at above below is t =
     let e : at ≡ length line = omega (arith, above, below) in
     let u : Told line numbers start (length line) = subst (Told line numbers start) e t in
     sym u.leads ∙ ap (λ ws. numbers_then numbers (numbers_of ws)) (last-word line start u.within)

@@ -186,9 +186,6 @@ input_cut line = go (nat_le (length line) LINE_LIMIT) refl
 keep-cut : (begun : List ℕ) (x : ℕ) → keep (take (LINE_LIMIT + 1) begun) x ≡ take (LINE_LIMIT + 1) (begun ++ x ∷ [])
 keep-cut begun x = take-cut (LINE_LIMIT + 1) begun (x ∷ [])
 
-none-cut : take {A = ℕ} (LINE_LIMIT + 1) [] ≡ []
-none-cut = refl
-
 -- the lines that end are the same inputs
 inputs-cut : (begun bytes : List ℕ) → map input_of (ended_after (take (LINE_LIMIT + 1) begun) bytes) ≡ map input_of (ended_behind begun bytes)
 inputs-cut begun [] = refl

@@ -6,7 +6,7 @@ use Rattle.std.specs.List.{filter_map, sum_by}
 use Rattle.std.proofs.Math.Seq.{drop-cons}
 use Rattle.std.proofs.lemmas.Grind.{flat_map-append}
 use Rattle.std.proofs.lemmas.List.{map-append}
-use Rattle.std.proofs.lemmas.List.Sums.{count_by-le-length, sum_by-append}
+use Rattle.std.proofs.lemmas.List.Sums.{sum_by-append}
 use Rattle.std.proofs.lemmas.List.Elements.{filter_map-append}
 use Rattle.pg_cache.specs.Kept.{Kept}
 use Rattle.pg_num.specs.Numbers.{residue, sum_of}
@@ -27,9 +27,6 @@ use Rattle.pg_serve.proofs.Numbers.{range_more, range_none}
 pub record Summed (before : ℕ) (output : List ℕ) (total start at : ℕ) : Type 0 where
   pub within : start ≤ at
   pub leads : sum_from total (filter_map number_of (ended_behind (slice_range output start at) (drop at output))) ≡ sum_from before (numbers_printed output)
-
-pub summed_first : (before : ℕ) (output : List ℕ) → Summed before output before 0 0
-summed_first before output = record { within = omega arith; leads = refl }
 
 pub sum-append : (total : ℕ) (xs ys : List ℤ) → sum_from total (xs ++ ys) ≡ sum_from (sum_from total xs) ys
 sum-append total [] ys = refl
@@ -82,17 +79,6 @@ summed_line before output total next start at below ended is s =
           ∙ sym (sum-first total (slice_range output start at) rest)
           ∙ ap (λ ws. sum_from total (filter_map number_of ws)) (sym (lines-ended output (slice_range output start at) at below (is-ten (get_or output at 0) ended))) ∙ s.leads;
     }
-
-drop-all : (xs : List ℕ) → drop (length xs) xs ≡ []
-drop-all [] = refl
-drop-all (x ∷ xs) = drop-all xs
-
-pub summed_all : (before : ℕ) (output : List ℕ) (total start at : ℕ) → length output ≤ at → at ≤ length output
-    → Summed before output total start at → total ≡ sum_from before (numbers_printed output)
-summed_all before output total start at above below s =
-    let e : at ≡ length output = omega (arith, above, below) in
-    let none : drop at output ≡ [] = ap (λ n. drop n output) e ∙ drop-all output in
-    sym (ap (λ l. sum_from total (filter_map number_of (ended_behind (slice_range output start at) l))) none) ∙ s.leads
 
 -- ---- the answers so far
 
@@ -162,15 +148,6 @@ module _ {M : Type 0} (admits : M → List ℤ → Bool) (runs : Runs M) (number
     few_kept = omega arith;
     stands = stands_begin runs;
   }
-
-  pub few_recorded : (i : ℕ) (kept : Kept M) (r1 r2 r3 r4 r5 : ℕ) → Tallied admits runs number i kept r1 r2 r3 r4 r5 → r1 ≤ i
-  few_recorded i kept r1 r2 r3 r4 r5 t = omega (arith, t.recorded_is, t.lines, count_by-le-length (λ (a : Answer). is_recorded a.kind) t.answers)
-
-  pub few_reused : (i : ℕ) (kept : Kept M) (r1 r2 r3 r4 r5 : ℕ) → Tallied admits runs number i kept r1 r2 r3 r4 r5 → r2 ≤ i
-  few_reused i kept r1 r2 r3 r4 r5 t = omega (arith, t.reused_is, t.lines, count_by-le-length (λ (a : Answer). is_reused a.kind) t.answers)
-
-  pub few_refused : (i : ℕ) (kept : Kept M) (r1 r2 r3 r4 r5 : ℕ) → Tallied admits runs number i kept r1 r2 r3 r4 r5 → r3 ≤ i
-  few_refused i kept r1 r2 r3 r4 r5 t = omega (arith, t.refused_is, t.lines, count_by-le-length (λ (a : Answer). is_refused a.kind) t.answers)
 
   pub tallied_more : (i : ℕ) (kept next : Kept M) (a : Answer) (r1 r2 r3 r4 r5 n1 n2 n3 n4 n5 : ℕ) → Answers admits runs kept (trial_line number i) a next
       → n1 ≡ r1 + count_by is_recorded (a.kind ∷ []) → n2 ≡ r2 + count_by is_reused (a.kind ∷ []) → n3 ≡ r3 + count_by is_refused (a.kind ∷ [])

@@ -6,11 +6,11 @@ use Rattle.pg_io.specs.Faults.{Rose}
 use Rattle.pg_io.specs.Streams.{AppendsFront, TakesAtMost}
 use Rattle.pg_command.specs.Commands.{once}
 use Rattle.pg_session.specs.declared.status.Status.{Status}
-use Rattle.pg_session.specs.declared.status.Status.TheVariants.{ReadFault, WriteFault, OutOfMemory}
+use Rattle.pg_session.specs.declared.status.Status.TheVariants.{WriteFault}
 use Rattle.pg_session.specs.Commands.{World, EndsAs}
 use Rattle.pg_session.specs.Replies.{IsReply, IsReplyStatus, IsWritten}
 use Rattle.pg_session.specs.Texts.{IsOnceText}
-use Rattle.pg_session.proofs.Endings.{Says, ends_as, some_map, some_all, due_reply, due_none, front_of, none_failed}
+use Rattle.pg_session.proofs.Endings.{Says, ends_as, some_map, due_reply, front_of, none_failed}
 
 -- the shelf isn't used
 abbrev pub Fetches : World → Type 0
@@ -50,15 +50,3 @@ once_written w quantum numbers due written status fetches reads takes is r (inl 
     subst (EndsAs w (once quantum numbers)) (sym h.0) (once_replied w quantum numbers due written fetches reads h.2 takes is r h.1)
 once_written w quantum numbers due written status fetches reads takes is r (inr h) =
     subst (EndsAs w (once quantum numbers)) (sym h.0) (once_cut w quantum numbers due written fetches reads h.2 takes is r h.1)
-
-pub once_unread : (w : World) (quantum : ℕ) (numbers : List ℤ) → Fetches w → Rose w.reads_before w.reads_after → w.writes_after ≡ w.writes_before
-    → TakesAtMost w.rest_before w.rest_after (PROGRAM_TEXT_LIMIT + 1) → TakesAtMost w.rest_before w.rest_after PROGRAM_TEXT_LIMIT → w.taken_after ≡ w.taken_before
-    → EndsAs w (once quantum numbers) ReadFault
-once_unread w quantum numbers fetches rose writes takes within taken =
-    ends_as w (once quantum numbers) ReadFault (rose, within, taken)
-    (record { fetches = λ name. inr (fetches name); reads = inl refl; writes = inr writes }) takes (λ n. absurd (n.reads tt rose))
-
-pub once_no_memory : (w : World) (quantum : ℕ) (numbers : List ℤ) → Fetches w → w.reads_after ≡ w.reads_before → w.writes_after ≡ w.writes_before
-    → TakesAtMost w.rest_before w.rest_after (PROGRAM_TEXT_LIMIT + 1) → w.taken_after ≡ w.taken_before → EndsAs w (once quantum numbers) OutOfMemory
-once_no_memory w quantum numbers fetches reads writes takes taken =
-    ends_as w (once quantum numbers) OutOfMemory taken (none_failed w OutOfMemory fetches reads writes) takes (λ n. some_all w.rest_before _ due_none)

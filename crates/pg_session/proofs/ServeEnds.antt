@@ -14,7 +14,7 @@ use Rattle.pg_serve.specs.declared.fault.ServeFault.{ServeFault}
 use Rattle.pg_serve.specs.declared.fault.ServeFault.TheVariants as fault
 use Rattle.pg_runner.specs.Runs.{entry_admits, runs_of}
 use Rattle.pg_session.specs.declared.status.Status.{Status}
-use Rattle.pg_session.specs.declared.status.Status.TheVariants.{Done, ProgramRefused, ShelfFault, ReadFault, WriteFault, InputLimit, OutOfMemory}
+use Rattle.pg_session.specs.declared.status.Status.TheVariants.{Done, ProgramRefused, ReadFault, WriteFault, InputLimit, OutOfMemory}
 use Rattle.pg_session.specs.Commands.{World, EndsAs, DueOfText, DueOfInput, Fetched, WritesReplies}
 use Rattle.pg_session.specs.Replies.{IsWritten}
 use Rattle.pg_session.specs.Statuses.{status_of}
@@ -40,18 +40,6 @@ refused_due w text line l = ((λ p a. absurd (not_refused text p a (l.refusal, l
 pub record Unread (w : World) : Type 0 where
   pub reads : w.reads_after ≡ w.reads_before
   pub takes : TakesAtMost w.rest_before w.rest_after (SESSION_INPUT_LIMIT + 1)
-
-pub serve_unfetched : (w : World) (file : Word) (quantum : ℕ) → Unread w → Rose (w.fetches_before file) (w.fetches_after file)
-    → w.writes_after ≡ w.writes_before → w.rest_after ≡ w.rest_before → w.taken_after ≡ w.taken_before → EndsAs w (serve file quantum) ShelfFault
-serve_unfetched w file quantum unread rose writes rest taken =
-    ends_as w (serve file quantum) ShelfFault (record { rose = rose; rest = rest; taken = taken })
-    (record { fetches = λ name. inl refl; reads = inr unread.reads; writes = inr writes }) unread.takes (λ n. absurd (n.fetches file refl rose))
-
-pub serve_no_memory : (w : World) (file : Word) (quantum : ℕ) → Unread w → Fetches w → w.writes_after ≡ w.writes_before
-    → w.taken_after ≡ w.taken_before → EndsAs w (serve file quantum) OutOfMemory
-serve_no_memory w file quantum unread fetches writes taken =
-    ends_as w (serve file quantum) OutOfMemory (inl taken) (none_failed w OutOfMemory fetches unread.reads writes) unread.takes
-    (λ n. some_all (w.texts file) _ (no_memory_due w))
 
 pub serve_refused : (w : World) (file : Word) (quantum : ℕ) (line : List ℕ) → Unread w → Fetches w → w.writes_after ≡ w.writes_before
     → Fetched w.texts file (λ text. IsRefusalLine text line) → Appends w.taken_before w.taken_after line → EndsAs w (serve file quantum) ProgramRefused

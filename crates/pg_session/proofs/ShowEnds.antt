@@ -6,10 +6,10 @@ use Rattle.pg_io.specs.Streams.{AppendsFront, TakesAtMost}
 use Rattle.pg_command.specs.Once.{Word}
 use Rattle.pg_command.specs.Commands.{show}
 use Rattle.pg_session.specs.declared.status.Status.{Status}
-use Rattle.pg_session.specs.declared.status.Status.TheVariants.{ShelfFault, WriteFault, OutOfMemory}
+use Rattle.pg_session.specs.declared.status.Status.TheVariants.{WriteFault}
 use Rattle.pg_session.specs.Commands.{World, EndsAs, Fetched, IsShown}
 use Rattle.pg_session.specs.Replies.{IsReply, IsReplyStatus, IsWritten}
-use Rattle.pg_session.proofs.Endings.{Says, ends_as, some_all, some_same, due_reply, due_none, front_of, none_failed}
+use Rattle.pg_session.proofs.Endings.{Says, ends_as, some_same, due_reply, front_of, none_failed}
 
 -- the source isn't read
 pub record Unread (w : World) : Type 0 where
@@ -53,15 +53,3 @@ show_written w file quantum numbers due written status unread fetches is r (inl 
     subst (EndsAs w (show file quantum numbers)) (sym h.0) (show_replied w file quantum numbers due written unread fetches h.2 is r h.1)
 show_written w file quantum numbers due written status unread fetches is r (inr h) =
     subst (EndsAs w (show file quantum numbers)) (sym h.0) (show_cut w file quantum numbers due written unread fetches h.2 is r h.1)
-
-pub show_unfetched : (w : World) (file : Word) (quantum : ℕ) (numbers : List ℤ) → Unread w → Rose (w.fetches_before file) (w.fetches_after file)
-    → w.writes_after ≡ w.writes_before → w.rest_after ≡ w.rest_before → w.taken_after ≡ w.taken_before → EndsAs w (show file quantum numbers) ShelfFault
-show_unfetched w file quantum numbers unread rose writes rest taken =
-    ends_as w (show file quantum numbers) ShelfFault (record { rose = rose; rest = rest; taken = taken })
-    (record { fetches = λ name. inl refl; reads = inr unread.reads; writes = inr writes }) unread.takes (λ n. absurd (n.fetches file refl rose))
-
-pub show_no_memory : (w : World) (file : Word) (quantum : ℕ) (numbers : List ℤ) → Unread w → Fetches w → w.writes_after ≡ w.writes_before
-    → w.taken_after ≡ w.taken_before → EndsAs w (show file quantum numbers) OutOfMemory
-show_no_memory w file quantum numbers unread fetches writes taken =
-    ends_as w (show file quantum numbers) OutOfMemory taken (none_failed w OutOfMemory fetches unread.reads writes) unread.takes
-    (λ n. some_all (w.texts file) _ due_none)

@@ -10,10 +10,10 @@ use Rattle.pg_ir.specs.Program.{NumberedProgram}
 use Rattle.pg_runner.specs.Runs.{Subject, entry_admits, runs_of}
 use Rattle.pg_serve.specs.Trials.{IsTrialText}
 use Rattle.pg_session.specs.declared.status.Status.{Status}
-use Rattle.pg_session.specs.declared.status.Status.TheVariants.{WriteFault, OutOfMemory}
+use Rattle.pg_session.specs.declared.status.Status.TheVariants.{WriteFault}
 use Rattle.pg_session.specs.Commands.{World, EndsAs, IsTrial}
 use Rattle.pg_session.specs.Replies.{IsReply, IsReplyStatus, IsWritten}
-use Rattle.pg_session.proofs.Endings.{Says, ends_as, by_reply, due_reply, due_none, front_of, none_failed}
+use Rattle.pg_session.proofs.Endings.{Says, ends_as, by_reply, due_reply, front_of, none_failed}
 use Rattle.pg_session.proofs.ShowEnds.{Unread, Fetches}
 
 said : (w : World) (number : ℕ) (status : Status) (written : List ℕ) → IsReplyStatus status → IsReply (IsTrial trial_program number) trial_program status written
@@ -46,11 +46,6 @@ trial_written w number due written status unread fetches is r (inl h) =
     subst (EndsAs w (trial number)) (sym h.0) (trial_replied w number due written unread fetches h.2 is r h.1)
 trial_written w number due written status unread fetches is r (inr h) =
     subst (EndsAs w (trial number)) (sym h.0) (trial_cut w number due written unread fetches h.2 is r h.1)
-
-pub trial_no_memory : (w : World) (number : ℕ) → Unread w → Fetches w → w.writes_after ≡ w.writes_before → w.taken_after ≡ w.taken_before
-    → EndsAs w (trial number) OutOfMemory
-trial_no_memory w number unread fetches writes taken =
-    ends_as w (trial number) OutOfMemory taken (none_failed w OutOfMemory fetches unread.reads writes) unread.takes (λ n. due_none trial_program)
 
 -- the runner runs this program, with this quantum
 pub trial_of : (p : NumberedProgram) (s : Subject) (number : ℕ) (text : List ℕ) → s.program ≡ p → s.quantum ≡ DEFAULT_QUANTUM

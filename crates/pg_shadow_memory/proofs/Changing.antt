@@ -119,18 +119,6 @@ last_is_in cs (suc i) b d h z =
     let g : slice_get cs i ≡ Some (get_or cs i d) = slice_get-get_or cs i d (omega (arith, a)) in
     rw e (rw g at h.inside)
 
-pub last_source : (cs : Changes) (n b : ℕ) (d : Change) → IsLast cs n b → (n ≡ 0 → ⊥) → sources_of cs b ≡ part_of (get_or cs (n - 1) d).to (b - (get_or cs (n - 1) d).start)
-last_source cs zero b d h z = absurd (z refl)
-last_source cs (suc i) b d h z =
-    let e : suc i - 1 ≡ i = omega arith in
-    let a = h.among in
-    let g : slice_get cs i ≡ Some (get_or cs i d) = slice_get-get_or cs i d (omega (arith, a)) in
-    rw e (h.source ∙ ap (λ (o : Option Change). source_in o b) g)
-
-pub never_changed : (cs : Changes) (n b : ℕ) → IsLast cs n b → n ≡ 0 → sources_of cs b ≡ byte.Initial
-never_changed cs zero b h z = h.source
-never_changed cs (suc i) b h z = absurd (omega arith)
-
 pub part_is : (h : Held) (k : ℕ) → IsPlaceIn h k → IsPart (part_of h k)
 part_is (held.Known v) k i = i
 part_is (held.Unknown x) k i = tt

@@ -1,5 +1,5 @@
 -- The calls of a thread, of which one is entered, left or changed.
-use Rattle.std.proofs.Common.{◌≡◌, ℕ, zero, suc, ◌<◌, List, [], ◌∷◌, ◌++◌, length, replicate, reverse, Bool, true, false, arith, refl, ap, sym, ◌∙◌}
+use Rattle.std.proofs.Common.{◌≡◌, ℕ, zero, suc, ◌<◌, List, [], ◌∷◌, ◌++◌, length, replicate, reverse, Bool, true, false, refl, ap, ◌∙◌}
 use Rattle.std.proofs.lemmas.List.{reverse-append}
 use Rattle.pg_nodes.specs.Nodes.{NodeList}
 use Rattle.pg_closed.specs.Shadows.{Shadow}
@@ -65,24 +65,10 @@ ended_are n present callers false h = absurd cc
 
 -- ---- a call that is entered or left
 
--- the first call of a thread without calls
-pub first_pushed : (present : List Source) (callers : CallList) (ended : Bool) (fresh : List Source) → ended ≡ true → calls_of fresh [] false ≡ fresh ∷ calls_of present callers ended
-first_pushed present callers true fresh h = refl
-first_pushed present callers false fresh h = absurd cc
-
 pub pushed : (present : List Source) (callers : CallList) (ended : Bool) (fresh : List Source) (after : CallList) → ended ≡ false →
     after ≡ callers ++ present ∷ [] → calls_of fresh after ended ≡ fresh ∷ calls_of present callers ended
 pushed present callers true fresh after h e = absurd cc
 pushed present callers false fresh after h e = ap (λ (l : CallList). fresh ∷ reverse l) e ∙ ap (λ (l : CallList). fresh ∷ l) (reverse-append callers (present ∷ []))
-
-pub popped : (present caller : List Source) (callers after : CallList) (ended : Bool) → callers ≡ after ++ caller ∷ [] →
-    calls_of caller after ended ≡ under_sources (calls_of present callers ended)
-popped present caller callers after true e = refl
-popped present caller callers after false e = sym (ap (λ (l : CallList). reverse l) e ∙ reverse-append after (caller ∷ []))
-
-pub last_popped : (present : List Source) (callers : CallList) (ended : Bool) → callers ≡ [] → under_sources (calls_of present callers ended) ≡ []
-last_popped present callers true e = refl
-last_popped present callers false e = ap (λ (l : CallList). reverse l) e
 
 pub under_by : (ns : NodeList) (calls : CallList) → calls_by ns (under_sources calls) ≡ under_top (calls_by ns calls)
 under_by ns [] = refl

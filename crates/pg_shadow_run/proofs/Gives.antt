@@ -14,15 +14,15 @@ use Rattle.pg_ir.specs.declared.instr.Op.TheVariants as op
 use Rattle.pg_ir.specs.Program.{NumberedProgram}
 use Rattle.pg_closed.specs.Moments.{Moment}
 use Rattle.pg_closed.specs.Freeable.{FreeRegion}
-use Rattle.pg_closed.specs.Shadows.{Shadow, moved, result_of, shadow_of, unset}
+use Rattle.pg_closed.specs.Shadows.{Shadow, shadow_of, unset}
 use Rattle.pg_closed.specs.declared.decision.Decision.{Decision}
 use Rattle.pg_closed.specs.declared.decision.Decision.TheVariants.{Pinned}
 use Rattle.pg_closed.specs.Extents.{edge_by, edge_in}
-use Rattle.pg_closed.specs.Known.{after_branch, after_known, after_op, along_edge, entered, forgotten_from, operand_at, operand_shadows, optional_shadow, set_shadow, top_of, under_top, with_top}
+use Rattle.pg_closed.specs.Known.{after_branch, after_known, after_op, along_edge, entered, forgotten_from, optional_shadow, set_shadow, top_of, under_top, with_top}
 use Rattle.pg_shadow_run.specs.declared.step.OpStep.{OpStep}
 use Rattle.pg_shadow_run.specs.Events.{IsAsked, IsKnownCall}
 use Rattle.pg_shadow_run.specs.Sourced.{marked}
-use Rattle.pg_shadow_run.specs.Steps.{IsStepAt, branched, given_shadow, is_straight, known_shadow, set_given}
+use Rattle.pg_shadow_run.specs.Steps.{IsStepAt, branched, known_shadow, set_given}
 
 -- each operand of a call of a function that the program doesn't define may be asked for
 pub call_asked : (o : Op) (k : ℕ) → IsKnownCall o → IsAsked o k
@@ -35,19 +35,6 @@ known_same known.PgIn target word f calls = refl
 known_same known.PgInLen target word f calls = refl
 known_same known.Malloc target word f calls = refl
 known_same k target word f calls = refl
-
-pub straight_is : (p : NumberedProgram) (pinned : Bool) (n : ℕ) (m : Moment) (region : Option FreeRegion) (word : ℕ) (x : Instr) (o : Op) (calls : List (List Shadow)) →
-    is_straight o ≡ true → x.op ≡ o → after_op p pinned n m region word x o calls ≡ with_top (λ rs. set_given x.result (given_shadow p word o rs) rs) calls
-straight_is p pinned n m region word x (op.Br to) calls e h = absurd cc
-straight_is p pinned n m region word x (op.CondBr c a b) calls e h = absurd cc
-straight_is p pinned n m region word x (op.Switch w on other cases) calls e h = absurd cc
-straight_is p pinned n m region word x (op.Call g args) calls e h = absurd cc
-straight_is p pinned n m region word x (op.Ret v) calls e h = absurd cc
-straight_is p pinned n m region word x (op.CallKnown k args) calls e h =
-    ap (λ (o : Op). with_top (λ rs. after_known k x.result word (operand_at p rs o 0) rs) calls) h ∙ known_same k x.result word (λ rs. operand_at p rs (op.CallKnown k args) 0) calls
-straight_is p pinned n m region word x (op.Gep base indices) calls e h =
-    ap (λ (o : Op). with_top (λ rs. set_shadow x.result (moved (operand_at p rs o 0) (result_of o (operand_shadows p rs o))) rs) calls) h
-straight_is p pinned n m region word x o calls e h = refl
 
 pub at_top : (target : Option ℕ) (g : List Shadow → Option Shadow) (calls : List (List Shadow)) →
     with_top (set_given target (g (top_of calls))) calls ≡ with_top (λ rs. set_given target (g rs) rs) calls
@@ -89,10 +76,6 @@ branch_is p x s sets m region rs h = go s.freed s.pinned region h.freed h.marks
 pub with_top_same : (f g : List Shadow → List Shadow) (calls : List (List Shadow)) → ((rs : List Shadow) → f rs ≡ g rs) → with_top f calls ≡ with_top g calls
 with_top_same f g [] h = refl
 with_top_same f g (rs ∷ calls) h = ap (λ (x : List Shadow). x ∷ calls) (h rs)
-
-pub instance_is : (p : NumberedProgram) (s : OpStep) (sets : List Bool) (from : ℕ) (calls : List (List Shadow)) → (s.freed && not s.pinned) ≡ true →
-    with_top (forgotten_from 0 (marked sets) (Pinned s.number)) calls ≡ with_top (branched p s sets from) calls
-instance_is p s sets from calls e = with_top_same _ _ calls (λ rs. ap (λ (b : Bool). if b then forgotten_from 0 (marked sets) (Pinned s.number) rs else along_edge p from s.edge rs) (sym e))
 
 pub edge_is : (p : NumberedProgram) (s : OpStep) (sets : List Bool) (from : ℕ) (calls : List (List Shadow)) → (s.freed && not s.pinned) ≡ false →
     with_top (along_edge p from s.edge) calls ≡ with_top (branched p s sets from) calls

@@ -31,14 +31,8 @@ module _ (p : NumberedProgram) (m : Moment) (e : Event) (a : Shadow) (x : Instr)
   pub start_is : (kind : TurnKind) (f : ℕ) → kind ≡ turns.Start → function_in m.calls ≡ f → with_top (started (parameter_count p f) a) calls ≡ after_event p m e kind a x calls
   start_is kind f k h = ap (λ (g : ℕ). with_top (started (parameter_count p g) a) calls) (sym h) ∙ ap (λ (z : TurnKind). after_event p m e z a x calls) (sym k)
 
-  pub exit_is : (kind : TurnKind) → kind ≡ turns.Exit → [] ≡ after_event p m e kind a x calls
-  exit_is kind k = ap (λ (z : TurnKind). after_event p m e z a x calls) (sym k)
-
   pub wait_is : (kind : TurnKind) → kind ≡ turns.Wait → calls ≡ after_event p m e kind a x calls
   wait_is kind k = ap (λ (z : TurnKind). after_event p m e z a x calls) (sym k)
-
-  pub arrive_is : (kind : TurnKind) → kind ≡ turns.Arrive → calls ≡ after_event p m e kind a x calls
-  arrive_is kind k = ap (λ (z : TurnKind). after_event p m e z a x calls) (sym k)
 
   pub print_is : (kind : TurnKind) → kind ≡ turns.Putchar → with_top (λ rs. set_shadow x.result (low_byte (operand_at p rs x.op 0)) rs) calls ≡ after_event p m e kind a x calls
   print_is kind k = ap (λ (z : TurnKind). after_event p m e z a x calls) (sym k)

@@ -82,14 +82,6 @@ pub on_ok_each : {T E A : Type 0} (r : Result T E) (P : A → Type 0) → ((a : 
 on_ok_each (Ok x) P h = h
 on_ok_each (Err e) P h = tt
 
-pub on_ok_both : {T E P Q R : Type 0} (r : Result T E) → (P → Q → R) → OnOk r P → OnOk r Q → OnOk r R
-on_ok_both (Ok x) f p q = f p q
-on_ok_both (Err e) f p q = tt
-
-pub on_ok_always : {T E P : Type 0} (r : Result T E) → P → OnOk r P
-on_ok_always (Ok x) p = p
-on_ok_always (Err e) p = tt
-
 pub if_some_from : {A : Type 0} (o : Option A) (P : A → Type 0) → ((x : A) → o ≡ Some x → P x) → IfSome o P
 if_some_from None P h = tt
 if_some_from (Some x) P h = h x refl

@@ -11,10 +11,8 @@ use Rattle.pg_footprints.specs.Prints.{access_prints, of_step, region_prints}
 use Rattle.pg_intervals.specs.declared.interval.Interval.{Interval}
 use Rattle.pg_reference.specs.declared.run.ReferenceRun.{ReferenceRun}
 use Rattle.pg_reference.specs.Kept.{landmark_at, landmark_in, step_count}
-use Rattle.pg_reference.specs.declared.row.Row.{Row}
 use Rattle.pg_reference.specs.Landmarks.{Landmark}
 use Rattle.pg_trace.specs.declared.step.Step.{Step}
-use Rattle.pg_trace.specs.declared.step.StepKind.{StepKind}
 use Rattle.pg_trace.specs.declared.step.Access.{Access}
 use Rattle.pg_trace.specs.Steps.{access_in}
 use Rattle.pg_slice.specs.declared.prints.Owner.{Owner}
@@ -131,11 +129,6 @@ all_done f xs i old whole h k = sym (append_none old) ∙ ap (λ ys. old ++ map 
 -- an access that is handed out stands there
 pub taken_out : {A B : Type 0} (f : A → B) (o : Option A) (a : A) (q : Option B) → o ≡ Some a → option_map f o ≡ q → q ≡ Some (f a)
 taken_out f o a q e h = sym h ∙ ap (λ y. option_map f y) e
-
-pub not_past : {A B : Type 0} (f : A → B) (o : Option A) (xs : List B) (k : ℕ) → o ≡ None → option_map f o ≡ slice_get xs k → k < length xs → ⊥
-not_past f o [] k e h l = omega (arith, l)
-not_past f o (x ∷ xs) zero e h l = let n : option_map f o ≡ None = ap (λ y. option_map f y) e in absurd cc
-not_past f o (x ∷ xs) (suc k) e h l = not_past f o xs k e h (omega (arith, l))
 
 pub marked : (o : Option Landmark) (q : Option FreeRegion) (f : FreeRegion) → IfSome o (λ (l : Landmark). q ≡ l.region) → q ≡ Some f → IfSome o (λ (l : Landmark). l.region ≡ Some f)
 marked None q f h e = tt

@@ -183,15 +183,6 @@ one_changes old new pinned f t calls after opens ks g a h e k =
       extents = subst (λ (xs : List (List Extent)). EachOpen pinned xs opens) (sym (extents_on f t ks)) k.extents;
     }
 
--- there is no such thread
-pub none_changes : (old new : NodeList) (pinned : ℕ → Bool) (f : List (List Shadow) → List (List Shadow)) (t : ℕ) (calls : List CallList) (opens : List OpenExtents)
-    (ks : List ThreadShadow) →
-    Grew old new → AreThreads (length old) calls → length calls ≤ t → KnowsThreads old pinned calls opens ks → KnowsThreads new pinned calls opens (on_thread f t ks)
-none_changes old new pinned f t calls opens ks g a h k =
-    let n = k.as_many in
-    let e : on_thread f t ks ≡ ks = set_past ks t _ (omega (arith, n, h)) in
-    subst (λ (xs : List ThreadShadow). KnowsThreads new pinned calls opens xs) (sym e) (threads_more old new pinned calls opens ks g a k)
-
 -- ---- a thread that is made
 
 by_length : (ns : NodeList) (calls : List CallList) (es : List (List Extent)) → length (threads_by ns calls es) ≡ length calls

@@ -1,15 +1,14 @@
 -- Of steps that are live and whose frames meet, closed decisions fix what the rules say.
-use Rattle.std.proofs.Common.{◌≡◌, ℕ, Bool, true, false, List, [], ◌∷◌, ◌++◌, Option, Some, None, length, refl, sym, ap, ◌∙◌, inl, inr, ◌⊎◌}
+use Rattle.std.proofs.Common.{◌≡◌, ℕ, Bool, true, false, List, [], ◌∷◌, ◌++◌, Some, None, length, refl, sym, ap, ◌∙◌, inl, inr, ◌⊎◌}
 use Rattle.std.specs.Prelude.{Contains, ◌&&◌, ◌||◌, not, slice_get, if◌then◌else◌}
 use Rattle.std.specs.List.{list_any}
 use Rattle.std.proofs.lemmas.Bool.{true≢false}
 use Rattle.pg_closed.specs.declared.decision.Decision.{Decision}
 use Rattle.pg_closed.specs.declared.decision.Decision.TheVariants.{Pinned, Exact}
 use Rattle.pg_closed.specs.Closed.{IsClosed}
-use Rattle.pg_closed.specs.Freeable.{FreeRegion}
 use Rattle.pg_closed.specs.Known.{Reference, Seen, Taken, is_branch, seen_in}
 use Rattle.pg_closed.specs.Moments.{Moment}
-use Rattle.pg_closed.specs.Rules.{access_print, asks_disturbed, asks_pins, asks_shared, frames_meet, is_disturbed, is_shared, prints_in, region_prints}
+use Rattle.pg_closed.specs.Rules.{access_print, asks_disturbed, asks_pins, asks_shared, frames_meet, is_disturbed, is_shared, region_prints}
 use Rattle.pg_least.specs.Keeps.{ExtentsKeep, every}
 use Rattle.pg_least.specs.Along.{region_in}
 use Rattle.pg_least.proofs.Asks.{none_asked}
@@ -54,9 +53,6 @@ module _ (R : Reference) (keeps : ExtentsKeep R) (e : Taken) (closed : IsClosed 
   live_seen n m q live =
       let a = at_step R keeps e n m q in
       live_before R keeps e (length R.moments) (Likes every) (the_link e (length R.moments)) n m (known_at R e n) (known_at R every n) a.like a.in_run live
-
-  prints_seen : (b : Bool) → b ≡ true → (o : Option FreeRegion) → (if b then prints_in o else []) ≡ prints_in o
-  prints_seen b q o = rw q refl
 
   pub bound_pinned : (n : ℕ) (m : Moment) → slice_get R.moments n ≡ Some m → IsLiveAt R e n m → is_branch m.did.did.kind ≡ true → region_in R m ≡ None → e.pinned n ≡ true
   bound_pinned n m q live branch free =

@@ -1,9 +1,8 @@
 -- What is live stays so with more decisions, and decisions that are owed stay within each closed set.
 use Rattle.std.proofs.Common.{◌≡◌, ℕ, Bool, true, false, List, Option, Some, None, sym, subst, inl, inr, ◌⊎◌, replicate}
 use Rattle.std.specs.Prelude.{IfSome, slice_get, slice_index_or}
-use Rattle.pg_closed.specs.declared.decision.Decision.{Decision}
 use Rattle.pg_closed.specs.Closed.{AreWithin}
-use Rattle.pg_closed.specs.Known.{Reference, Taken, has}
+use Rattle.pg_closed.specs.Known.{Reference, Taken}
 use Rattle.pg_closed.specs.Moments.{Moment}
 use Rattle.pg_least.proofs.Stands.{live_more}
 use Rattle.pg_reference.specs.declared.run.ReferenceRun.{ReferenceRun}
@@ -12,7 +11,7 @@ use Rattle.pg_walk.specs.Chains.{Holds}
 use Rattle.pg_walk.specs.Settled.{ArePinned}
 use Rattle.pg_walk.proofs.Pinned.{none_marked, pinned_more}
 use Rattle.pg_slice_fast.specs.Rivals.{IsLiveAt}
-use Rattle.pg_slice_fast.specs.Settled.{AreLive, IsOwed, Widens}
+use Rattle.pg_slice_fast.specs.Settled.{AreLive, Widens}
 
 pub live_stays : (hs : List ℕ) (d e : Taken) (live : List Bool) → AreWithin d e → AreLive hs d live → AreLive hs e live
 live_stays hs d e live w a = record { by = λ n q. pinned_more hs d e (slice_index_or hs n 0) w (a.by n q) }
@@ -41,14 +40,6 @@ widens_then r hs xs a b c f g = record {
   by = λ p regions gated input marks keeps holds e closed w.
       g.by p regions gated input marks keeps holds e closed (f.by p regions gated input marks keeps holds e closed w);
 }
-
-pub widens_one : (r : ReferenceRun) (hs : List ℕ) (xs : List Step) (d new : Taken) (x : Decision) → IsOwed r hs xs d x →
-    ((y : Decision) → has new y ≡ true → (has d y ≡ true) ⊎ (x ≡ y)) → Widens r hs xs d new
-widens_one r hs xs d new x owed only = record { by = λ p regions gated input marks keeps holds e closed w. λ y q. go e (owed.by p regions gated input marks keeps holds e closed w) y w (only y q) }
-  where
-    go : (e : Taken) → has e x ≡ true → (y : Decision) → AreWithin d e → (has d y ≡ true) ⊎ (x ≡ y) → has e y ≡ true
-    go e h y w (inl q) = w y q
-    go e h y w (inr q) = subst (λ (z : Decision). has e z ≡ true) q h
 
 pub both_some : {A B : Type 0} (o : Option A) (q : Option B) (b : Bool) (P : A → B → Type 0) → b ≡ true
     → IfSome o (λ (x : A). IfSome q (λ (y : B). b ≡ true → P x y)) → IfSome o (λ (x : A). IfSome q (λ (y : B). P x y))

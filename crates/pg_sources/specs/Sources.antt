@@ -33,17 +33,6 @@ pub record Grew (old new : NodeList) : Type 0 where
 
 -- ---- parts of a source
 
--- the node of a known value
-abbrev pub node_if_known : Source → Option ℕ
-node_if_known (source.Known k j) = Some k
-node_if_known s = None
-
--- the node of a word that has the frame, where the frame is known
-abbrev pub node_of_frame : Source → Option ℕ
-node_of_frame (source.Known k j) = Some j
-node_of_frame (source.Framed k x) = Some k
-node_of_frame (source.Unknown x) = None
-
 -- the first decision that is blamed where not all are known
 abbrev pub blamed : List Source → Option Decision
 blamed [] = None

@@ -1,9 +1,9 @@
 -- Loads and stores fit: an exact one, or an event, at the same place; another within the recorded frame.
 use Rattle.std.proofs.Common.{◌≡◌, ℕ, ℤ, ◌==◌, ◌+◌, ◌-◌, ◌*◌, ◌^◌, zero, suc, Bool, true, false, List, [], ◌∷◌, ◌++◌, map, Option, Some, None, Result}
 use Rattle.std.proofs.Common.{Ok, Err, refl, sym, ap, ◌∙◌, subst, arith}
-use Rattle.std.specs.Prelude.{◌&&◌, ◌||◌, not, nat_lt, nat_le, is_some, slice_get, slice_index, if◌then◌else◌}
+use Rattle.std.specs.Prelude.{◌&&◌, ◌||◌, not, nat_lt, nat_le, is_some, slice_get, if◌then◌else◌}
 use Rattle.std.specs.List.{AllByRecursion as AllOf, list_any}
-use Rattle.std.proofs.lemmas.Bool.{and_parts, eqb-true, false_from_ne_true, or_cases, true≢false}
+use Rattle.std.proofs.lemmas.Bool.{and_parts, eqb-true, true≢false}
 use Rattle.pg_num.specs.Places.{ByteRange}
 use Rattle.pg_num.specs.Pointers.{byte_place, place_of, pointer_of}
 use Rattle.pg_num.specs.declared.layout.TheConstants.{MEMORY_BYTES}
@@ -30,9 +30,9 @@ use Rattle.pg_effects.specs.Views.{is_thread}
 use Rattle.pg_closed.specs.Freeable.{frame_of}
 use Rattle.pg_closed.specs.Known.{Taken, operand_at}
 use Rattle.pg_closed.specs.Moments.{thread_in}
-use Rattle.pg_closed.specs.Rules.{Footprint, Need, Value as ValueNeed, Frame as FrameNeed, access_needs_by, access_needs_in, address_index, frame_needs, kind_in, operand_of, same_frame}
-use Rattle.pg_closed.specs.Rules.{value_needs, value_needs_by}
-use Rattle.pg_closed.specs.Shadows.{OnInput, Shadow, Known, Framed, Unknown, byte_in as byte_shadow, cut, frame_word, joined, loaded, shadow_of, spoiled, stored, valued}
+use Rattle.pg_closed.specs.Rules.{Footprint, Need, Value as ValueNeed, Frame as FrameNeed, access_needs_by, access_needs_in, address_index, kind_in, operand_of, same_frame}
+use Rattle.pg_closed.specs.Rules.{value_needs}
+use Rattle.pg_closed.specs.Shadows.{OnInput, Shadow, Known, Framed, Unknown, cut, frame_word, joined, loaded, shadow_of, valued}
 use Rattle.pg_units.specs.Likes.{HaveOneFrame, IsInFrame, IsLike, IsToldLike}
 use Rattle.pg_units.specs.Units.{PlanUnit, ReferenceRun, access_touch, instance_touch, is_event_at, is_read_in, is_written_in, range_touched, reads_cell, reference_of, touch_of, word_read}
 use Rattle.pg_units.specs.Units.{word_written, writes_cell}
@@ -179,12 +179,6 @@ module _ (r : ReferenceRun) (d : Taken) (input : List ℤ) (u : PlanUnit) (st : 
 
     size0 : a.q0.bytes ≡ a.size
     size0 = ap (λ (z : ByteRange). z.bytes) (sym (place_is a.word0 a.size a.q0 a.place0))
-
-    size1 : a.q1.bytes ≡ a.size
-    size1 = ap (λ (z : ByteRange). z.bytes) (sym (place_is a.word a.size a.q1 a.place))
-
-    range0 : range_of told_access ≡ a.q0
-    range0 = ap (λ (n : ℕ). record { start = byte_place a.word0; bytes = n }) size0 ∙ place_is a.word0 a.size a.q0 a.place0
 
     pub same_range : fixed ≡ true → a.q1 ≡ range_of told_access
     same_range e = sym (place_is a.word a.size a.q1 a.place) ∙ ap (λ (w : ℕ). record { start = byte_place w; bytes = a.size }) (same_word e)

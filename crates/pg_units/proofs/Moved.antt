@@ -1,5 +1,5 @@
 -- The steps that a run takes along turns are moves, and are ordered as these are.
-use Rattle.std.proofs.Common.{◌≡◌, ◌≢◌, ℕ, ℤ, ◌⊎◌, ◌<◌, ◌^◌, ◌==◌, ◌||◌, ◌&&◌, suc, Bool, true, false, List, [], ◌∷◌, length, drop, arith}
+use Rattle.std.proofs.Common.{◌≡◌, ◌≢◌, ℕ, ℤ, ◌⊎◌, ◌<◌, ◌^◌, ◌==◌, ◌||◌, ◌&&◌, suc, Bool, true, false, List, [], ◌∷◌, length, drop}
 use Rattle.std.proofs.Common.{◌+◌, Option, Some, None, refl, sym, ap, ◌∙◌, subst, inl, inr}
 use Rattle.std.specs.Prelude.{is_some, if◌then◌else◌}
 use Rattle.std.proofs.lemmas.Bool.{cases_eq, eq-eqb, ne_eqb, true≢false}
@@ -7,14 +7,14 @@ use Rattle.pg_ir.specs.WellFormed.{IsProgram}
 use Rattle.pg_ir.specs.declared.ids.InstrId.{InstrId}
 use Rattle.pg_ir.specs.Program.{NumberedProgram}
 use Rattle.pg_plans.specs.Effects as plans
-use Rattle.pg_plans.specs.Effects.{Deed, Same, deeds}
-use Rattle.pg_plans.specs.Intervals.{AreTurns, IsOrdered, done_after, turns_done}
+use Rattle.pg_plans.specs.Effects.{Same, deeds}
+use Rattle.pg_plans.specs.Intervals.{done_after}
 use Rattle.pg_plans.specs.Plans.{Moves}
 use Rattle.pg_plans.specs.Steps.{Conflict}
 use Rattle.pg_plans.proofs.Effects.{deed_refl}
 use Rattle.pg_trace.specs.declared.step.Step.{Step}
 use Rattle.pg_trace.specs.declared.turn.Turn.{Turn}
-use Rattle.pg_trace.specs.Steps.{event_of, events}
+use Rattle.pg_trace.specs.Steps.{event_of}
 use Rattle.pg_machine.specs.Runs.{Takes}
 use Rattle.pg_machine.specs.State.{State}
 use Rattle.pg_effects.specs.Effect as effects
@@ -25,10 +25,9 @@ use Rattle.pg_effects.specs.Views.{LeadsTo, cell_written, local_at, objects_of, 
 use Rattle.pg_effects.proofs.Apart.{left_by}
 use Rattle.pg_effects.proofs.Reaches.{reached_step}
 use Rattle.pg_effects.proofs.Seen.{leads_to}
-use Rattle.pg_runs.specs.Deeds.{Did as Deed', deeds_of}
+use Rattle.pg_runs.specs.Deeds.{Did as Deed'}
 use Rattle.pg_runs.proofs.Along.{left_behind}
 use Rattle.pg_runs.proofs.Deeds.{request_event}
-use Rattle.pg_runs.proofs.Ordered.{Paired, ordered_as}
 use Rattle.pg_units.specs.Likes.{MovedThread}
 use Rattle.pg_units.specs.Moves.{IsMove, RunDeed, RunState, deed_moved, moved}
 use Rattle.pg_units.proofs.Remembered.{no_if, thread_is, yes_if}
@@ -61,19 +60,6 @@ module _ (gated : List InstrId) (p : NumberedProgram) (input : List ℤ) where
   unfoldable pub moved_by : State → (ℕ → ℕ) → List Step → List RunDeed
   moved_by s counts [] = []
   moved_by s counts (x ∷ xs) = deed_moved p input s counts x ∷ moved_by (effect s (effect_of p input s x.thread.0)) (one_more x.thread.0 counts) xs
-
-  touch_same : (s : State) (counts : ℕ → ℕ) (xs : List Step) → Paired deeds deeds TouchSame (moved_by s counts xs) (deeds_of p input s counts xs)
-  unfolding moved_by deeds_of
-  touch_same s counts [] = tt
-  touch_same s counts (x ∷ xs) = (
-    record { thread = refl; event = is_some_if (is_some (event_of x)) _ ∙ sym (is_some_if (is_some (event_of x)) _); reads = λ c. refl; writes = λ c. refl },
-    touch_same (effect s (effect_of p input s x.thread.0)) (one_more x.thread.0 counts) xs,
-  )
-
-  pub ordered_moves : (T : List ℕ) (s : State) (counts : ℕ → ℕ) (xs : List Step) → AreTurns deeds T 0 (deeds_of p input s counts xs) → IsOrdered deeds T (moved_by s counts xs)
-      → IsOrdered deeds T (deeds_of p input s counts xs)
-  ordered_moves T s counts xs t o = ordered_as deeds deeds TouchSame (λ d e h. h.thread) (λ d e h. h.event) (λ d d2 e e2 h k c. conflicts d d2 e e2 h k c) T (moved_by s counts xs)
-      (deeds_of p input s counts xs) (touch_same s counts xs) t o
 
   -- ---- a step leads to what its move leaves
 
@@ -163,15 +149,3 @@ module _ (gated : List InstrId) (p : NumberedProgram) (input : List ℤ) where
       moves_lead (turns_behind (event_of x) us) (effect s (effect_of p input s t)) (one_more t counts) (plans.effect a (deed_moved p input s counts x)) xs z program small
       (subst (IsReached p) w (reached_step gated p input s m.takes.after t x program small reached m.takes.is_ready m.takes.is_step)) (move_leads s counts a x reached looks m.takes)
       (subst (λ (v : State). PermittedSteps gated p input v (turns_behind (event_of x) us) (one_more t counts) xs z) w h.1)
-
-  -- and do as many turns as the steps
-  pub moves_done : (g : ℕ) (s : State) (counts : ℕ → ℕ) (xs : List Step) → turns_done deeds g (moved_by s counts xs) ≡ g + length (events xs)
-  unfolding moved_by
-  moves_done g s counts [] = omega arith
-  moves_done g s counts (x ∷ xs) =
-      ap (λ (b : Bool). turns_done deeds (done_after b g) (moved_by (effect s (effect_of p input s x.thread.0)) (one_more x.thread.0 counts) xs)) (is_some_if (is_some (event_of x)) _)
-      ∙ moves_done (done_after (is_some (event_of x)) g) (effect s (effect_of p input s x.thread.0)) (one_more x.thread.0 counts) xs ∙ go (event_of x)
-    where
-      go : (o : Option Turn) → done_after (is_some o) g + length (events xs) ≡ g + length (Rattle.std.specs.List.cons_option o (events xs))
-      go None = refl
-      go (Some v) = omega arith
