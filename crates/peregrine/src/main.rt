@@ -3,10 +3,10 @@
 
 ghost use Rattle.std.specs.Prelude.{◌≡◌};
 ghost use Rattle.std.specs.Process.{exit_status};
-ghost use Rattle.pg_session.specs.Statuses.{status_code};
+ghost use Rattle.pg_commands.specs.Statuses.{status_code};
 
+use pg_commands::{Status, peregrine};
 use pg_io::{FileShelf, ReaderSource, WriterSink};
-use pg_session::{Status, peregrine};
 use std::process::ExitCode;
 
 mod words;

@@ -1,7 +1,7 @@
 //! The words of a command line, from arguments that a test makes.
 
 use crate::words::words;
-use pg_session::Status;
+use pg_commands::Status;
 use std::env::{Env, FillError};
 use std::test::Fail;
 

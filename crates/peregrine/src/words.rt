@@ -1,7 +1,7 @@
 //! The words of the command line.
 ghost use Rattle.std.specs.Prelude.{◌≡◌, ◌⊎◌, IfErr};
 
-use pg_session::Status;
+use pg_commands::Status;
 use std::alloc::Global;
 use std::env::{Env, FillError};
 use std::{env, io};

@@ -6,7 +6,7 @@ use pg_ir::{
     Scalar, Scalars, ThreadNo, Value,
 };
 use pg_num::{Compare, Width};
-use pg_trace::{InstrIds, Replies, Schedule, Turn, TurnKind, Turns};
+use pg_run_trace::{InstrIds, Replies, Schedule, Turn, TurnKind, Turns};
 use std::alloc::Global;
 
 /// An instruction of a block, with the register that it sets.

@@ -7,7 +7,7 @@ mod counting;
 use crate::counting::{counting, start_and_exit};
 use anyhow::Result;
 use pg_ir::Program;
-use pg_machine::{guide, rotate};
+use pg_run::{guide, rotate};
 use std::alloc::Global;
 use std::env;
 

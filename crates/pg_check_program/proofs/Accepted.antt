@@ -18,15 +18,15 @@ use Rattle.pg_check_rules.specs.Names.{registers_of, line_count, first_line}
 use Rattle.pg_check_rules.specs.Constants.{start_granule}
 use Rattle.pg_check_rules.specs.Numbered.{named_functions}
 use Rattle.pg_check_rules.specs.Conditions.{global_types, globals_end, global_refused, body_types, is_too_large, body_refused, IsUnrefused}
-use Rattle.pg_check_numbering.proofs.Flat.{some_is}
-use Rattle.pg_check_numbering.proofs.Each.{all_front, all_behind}
-use Rattle.pg_check_numbering.proofs.Unrefused.{at_if_none, globals_pass, bodies_pass}
-use Rattle.pg_check_numbering.proofs.Naming.{blocks_kept, lines_kept, params_kept}
-use Rattle.pg_check_numbering.proofs.Placed.{functions_count, instrs_total}
-use Rattle.pg_check_numbering.proofs.Headers.{named_there}
-use Rattle.pg_check_numbering.proofs.Globals.{start_below, few_globals, globals_count}
-use Rattle.pg_check_numbering.proofs.FitsFunctions.{has_ending, few_functions, few_instrs}
-use Rattle.pg_check_numbering.proofs.Registers.{scalars_count, params_within, few_registers}
+use Rattle.pg_law_numbering.proofs.Flat.{some_is}
+use Rattle.pg_law_numbering.proofs.Each.{all_front, all_behind}
+use Rattle.pg_law_numbering.proofs.Unrefused.{at_if_none, globals_pass, bodies_pass}
+use Rattle.pg_law_numbering.proofs.Naming.{blocks_kept, lines_kept, params_kept}
+use Rattle.pg_law_numbering.proofs.Placed.{functions_count, instrs_total}
+use Rattle.pg_law_numbering.proofs.Headers.{named_there}
+use Rattle.pg_law_numbering.proofs.Globals.{start_below, few_globals, globals_count}
+use Rattle.pg_law_numbering.proofs.FitsFunctions.{has_ending, few_functions, few_instrs}
+use Rattle.pg_law_numbering.proofs.Registers.{scalars_count, params_within, few_registers}
 use Rattle.pg_check_constants.specs.Sizes.{TypeFits, GlobalFits, GlobalsFit}
 use Rattle.pg_check_program.specs.Room.{Each, BlockFits, FunctionFits, FunctionsFit, ProgramFits, blocks_in}
 use Rattle.pg_check_program.proofs.SmallTypes.{types_fit}

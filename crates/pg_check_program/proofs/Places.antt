@@ -10,7 +10,7 @@ use Rattle.pg_read_ast.specs.declared.names.Name.{Name}
 use Rattle.pg_read_ast.specs.Syntax.{NamedType, Block, Variable, Declaration, Definition, Tree}
 use Rattle.pg_read_ast.specs.Numbers.{numbered}
 use Rattle.pg_check_types.specs.NameIndex.{known_place}
-use Rattle.pg_check_numbering.proofs.Naming.{blocks_kept}
+use Rattle.pg_law_numbering.proofs.Naming.{blocks_kept}
 use Rattle.pg_check_rules.specs.Names.{symbol, variable_as, defined_as, declared_as, label_number, labels_of}
 use Rattle.pg_check_program.specs.Room.{HaveRoom, IsShort, FewSymbols, Each}
 

@@ -1,10 +1,10 @@
 //! What is counted of a recording.
 ghost use Rattle.std.specs.Prelude.{◌≡◌, length, count_by};
-ghost use Rattle.pg_closed.specs.Known as known;
-ghost use Rattle.pg_trace.specs.declared.step.Step.{Step as AStep};
+ghost use Rattle.pg_slice_rules.specs.Known as known;
+ghost use Rattle.pg_run_trace.specs.declared.step.Step.{Step as AStep};
 
-use pg_closed::Decisions;
-use pg_trace::{Schedule, StepKind, Trace};
+use pg_run_trace::{Schedule, StepKind, Trace};
+use pg_slice_rules::Decisions;
 
 /// The steps of the guided run, its turns, its steps at branches, the decisions of its slice; whether its input is admitted, and
 /// how many turns the guided run does again.

@@ -28,7 +28,7 @@ use crate::shapes::{Shape, name_of, parts_of, rounds_of};
 use crate::shares::{Shares, between, faster, percent};
 use anyhow::Result;
 use pg_ir::Program;
-use pg_samples::build;
+use pg_test_samples::build;
 use std::env;
 
 /// The words of the command line after the program's own name.

@@ -1,16 +1,15 @@
-//! The parts of recording a line, as `pg_entry` does it: each is a call of the crate that does the work.
+//! The parts of recording a line, as `pg_session_entry` does it: each is a call of the crate that does the work.
 ghost use Rattle.std.specs.Prelude.{◌≡◌, ◌<◌, All, true, length, IfOk, OnOk};
 ghost use Rattle.pg_num.specs.declared.limits.TheConstants.{RECORDING_STEP_LIMIT};
 ghost use Rattle.pg_ir.specs.declared.ids.InstrId.{InstrId as AnInstrId};
-ghost use Rattle.pg_trace.specs.Races.{schedule_of};
-ghost use Rattle.pg_machine.specs.Rotation.{rotation_of};
+ghost use Rattle.pg_run_trace.specs.Races.{schedule_of};
+ghost use Rattle.pg_run.specs.Rotation.{rotation_of};
 ghost use Rattle.pg_entry_bench.specs.declared.recording.TheConstants.{QUANTUM as ITS_QUANTUM};
 
 use pg_ir::{InstrId, Program};
-use pg_machine::rotate_into;
-use pg_race::races;
-use pg_sched::hybrid;
-use pg_trace::{Schedule, Trace};
+use pg_run::rotate_into;
+use pg_run_trace::{Schedule, Trace};
+use pg_schedule::{hybrid, races};
 use std::alloc::{AllocError, Global};
 
 /// The quantum of the runs by rotation.

@@ -1,6 +1,6 @@
 //! The sample programs that are measured.
 
-use pg_samples::Sample;
+use pg_test_samples::Sample;
 
 /// A sample program on an input.
 #[derive(Clone, Copy)]

@@ -6,11 +6,11 @@ use pg_ir::Value::{Const, Function, Global, Register};
 use pg_num::Bits::Xor;
 use pg_num::Compare::Slt;
 use pg_num::Width::{W1, W64};
-use pg_samples::Line::{
+use pg_test_samples::Line::{
     Add, Alloca, Bitwise, Branch, BranchIf, Call, Compares, Gep, IntToPtr, Knows, Load, Mul, Phi,
     PtrToInt, Return, Store, Trunc,
 };
-use pg_samples::{Body, I1, I32, I64, NULL, PTR, Parts, main_alone, thread_and_main};
+use pg_test_samples::{Body, I1, I32, I64, NULL, PTR, Parts, main_alone, thread_and_main};
 
 /// A program whose run can be long.
 #[derive(Clone, Copy, PartialEq, Eq)]

@@ -5,8 +5,8 @@
 
 use anyhow::Result;
 use pg_ir::{InstrId, ThreadNo};
-use pg_race::{is_ordered, races};
-use pg_trace::{Access, Event, Step, StepKind, Trace, TurnKind};
+use pg_run_trace::{Access, Event, Step, StepKind, Trace, TurnKind};
+use pg_schedule::{is_ordered, races};
 use std::alloc::Global;
 use std::env;
 use std::time::Instant;

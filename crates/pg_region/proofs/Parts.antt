@@ -2,8 +2,8 @@
 use Rattle.std.proofs.Common.{◌≡◌, ℕ, zero, suc, ◌+◌, ◌<◌, ◌↔◌, List, [], ◌∷◌, sym, subst, arith, inl, inr, ◌⊎◌}
 use Rattle.std.specs.Prelude.{Contains}
 use Rattle.std.specs.List.Sorted.{IsStrictlyIncreasing}
-use Rattle.pg_paths.proofs.Elements.{here, there, cases, none_in}
-use Rattle.pg_accesses.proofs.Ascending.{tail_of, below}
+use Rattle.pg_region_paths.proofs.Elements.{here, there, cases, none_in}
+use Rattle.pg_region_accesses.proofs.Ascending.{tail_of, below}
 
 cons_ascends : (x : ℕ) (xs : List ℕ) → IsStrictlyIncreasing xs → ((z : ℕ) → Contains xs z → x < z) → IsStrictlyIncreasing (x ∷ xs)
 cons_ascends x [] a b k lt = absurd (omega (arith, lt))

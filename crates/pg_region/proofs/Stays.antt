@@ -5,7 +5,7 @@ use Rattle.std.proofs.lemmas.Bool.{cases_eq}
 use Rattle.pg_cfg.specs.Graphs.{Edge}
 use Rattle.pg_cfg.specs.Graphs.Walk.{first, then}
 use Rattle.pg_ir.specs.Program.{NumberedProgram}
-use Rattle.pg_accesses.specs.Accesses.{RootedList}
+use Rattle.pg_region_accesses.specs.Accesses.{RootedList}
 use Rattle.pg_region.specs.Regions.{flow_of, IsJoin}
 use Rattle.pg_region.specs.Laws.{EdgesStayOrJoin}
 

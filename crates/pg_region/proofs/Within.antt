@@ -8,13 +8,13 @@ use Rattle.pg_cfg.specs.Nested.{HaveRegions}
 use Rattle.pg_cfg.specs.Nested.{AreNested as VerticesNest}
 use Rattle.pg_cfg.proofs.Nesting as nesting
 use Rattle.pg_ir.specs.Program.{NumberedProgram}
-use Rattle.pg_accesses.specs.Accesses.{RootedList, block_accesses, sets}
-use Rattle.pg_accesses.proofs.Fewer.{gathered_each, quiet_part, block_grows}
-use Rattle.pg_accesses.proofs.Passes.{block_quiet}
+use Rattle.pg_region_accesses.specs.Accesses.{RootedList, block_accesses, sets}
+use Rattle.pg_region_accesses.proofs.Fewer.{gathered_each, quiet_part, block_grows}
+use Rattle.pg_region_accesses.proofs.Passes.{block_quiet}
 use Rattle.pg_region.specs.declared.region.Region.{Region}
 use Rattle.pg_region.specs.Regions.{flow_of, IsJoin, IsRegion, IsSmaller}
 use Rattle.pg_region.specs.Laws.{IsLoudBlock, AreNested}
-use Rattle.pg_accesses.proofs.Ascending.{strictly_shorter}
+use Rattle.pg_region_accesses.proofs.Ascending.{strictly_shorter}
 use Rattle.pg_region.proofs.Parts.{IsPart, has_part}
 
 abbrev nothing : ℕ → Bool

@@ -4,8 +4,8 @@ use Rattle.pg_cfg.specs.Graphs.{Edge, Path}
 use Rattle.pg_ir.specs.declared.instr.Instr.{Instr}
 use Rattle.pg_ir.specs.Program.{NumberedProgram, first_of}
 use Rattle.pg_ir.specs.Edges.{instrs_of}
-use Rattle.pg_accesses.specs.Accesses.{RootedList}
-use Rattle.pg_accesses.specs.Laws.{IsQuiet}
+use Rattle.pg_region_accesses.specs.Accesses.{RootedList}
+use Rattle.pg_region_accesses.specs.Laws.{IsQuiet}
 use Rattle.pg_region.specs.declared.region.Region.{Region}
 use Rattle.pg_region.specs.Regions.{flow_of, IsJoin, IsRegion}
 

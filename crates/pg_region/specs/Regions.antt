@@ -6,7 +6,7 @@ use Rattle.pg_ir.specs.declared.instr.Instr.{Instr}
 use Rattle.pg_ir.specs.Program.{NumberedProgram}
 use Rattle.pg_ir.specs.Edges.{successors}
 use Rattle.pg_region.specs.declared.region.Region.{Region}
-use Rattle.pg_accesses.specs.Accesses.{RootedList, set_accesses}
+use Rattle.pg_region_accesses.specs.Accesses.{RootedList, set_accesses}
 
 -- the flow of control between the first blocks of a program
 abbrev pub flow_between : NumberedProgram → ℕ → EdgeLists

@@ -6,9 +6,9 @@ ghost use Rattle.pg_ir.specs.Edges.{successors, targets_of as op_targets};
 ghost use Rattle.pg_region.specs.Regions.{flow_of};
 ghost use Rattle.pg_cfg.specs.Graphs.{IsClosed};
 
-use pg_accesses::block_count;
 use pg_cfg::Graph;
 use pg_ir::{BlockNo, Case, InstrId, Op, Program};
+use pg_region_accesses::block_count;
 use std::alloc::{AllocError, Global};
 
 /// The blocks to which a `switch` may go on.

@@ -1,6 +1,6 @@
 //! The region of a branch.
 
-use pg_accesses::Rooted;
+use pg_region_accesses::Rooted;
 
 /// The region of a branch: the block at which its ways meet again, the numbers of the blocks that can be reached
 /// before, ascending, and what these access, in text order.

@@ -1,13 +1,8 @@
-mod Examples
-mod FirstRefusals
-pub mod ModuleBytes
-pub mod GlobalBytes
-pub mod GuidedTexts
-pub mod LongTexts
-pub mod Shelves
-pub mod TextVerdicts
-pub mod Endings
-pub mod OnceEnds
-pub mod ShowEnds
-pub mod TrialEnds
-pub mod ServeEnds
+pub mod Kept
+pub mod Numbers
+pub mod Steps
+pub mod Ends
+pub mod Tallies
+pub mod Pieces
+pub mod Taken
+pub mod Faults

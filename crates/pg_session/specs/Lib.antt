@@ -1,8 +1,9 @@
-pub mod Commands
-pub mod EndLines
-pub mod Programs
-pub mod Refusals
-pub mod Replies
-pub mod Statuses
+pub mod Lines
+pub mod Sessions
+pub mod Recordings
+pub mod Views
+pub mod Progress
 pub mod Texts
-pub mod Verdicts
+pub mod Faults
+pub mod Trials
+pub mod Shows

@@ -1,20 +1,16 @@
-//! The commands of the program: their words, their input and their text.
+//! Sessions: each line of input is answered, by the schedule of an entry that is kept or by a recording that is kept
+//! then. What is recorded and how a run along a schedule is made is left to a `Runner`.
 #![tactic(auto)]
 
-pub mod laws;
-mod once;
-mod programs;
-mod refusals;
-mod replies;
-mod serve;
+mod answers;
+mod fault;
+mod lines;
+mod runner;
+mod serving;
 mod session;
-mod show;
-mod status;
-mod texts;
-mod trial;
-mod verdicts;
+mod trials;
 
-pub use pg_io::{ReadAllFault, read_all, write_all};
-pub use refusals::TextRefusal;
-pub use session::peregrine;
-pub use status::Status;
+pub use fault::ServeFault;
+pub use runner::{Recording, Refusal, Run, Runner};
+pub use serving::serve;
+pub use trials::trial;

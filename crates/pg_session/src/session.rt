@@ -1,55 +1,158 @@
-//! The call that does all that the program does.
-ghost use Rattle.std.specs.Prelude.{◌≡◌, ◌⊎◌, ℕ, List, map, string_bytes};
-ghost use Rattle.pg_session.specs.Commands.{Ends, IsSession, world};
+//! A session over bytes that come in pieces: each line is answered as soon as it ends.
+ghost use Rattle.std.specs.Prelude.{◌≡◌, ◌≤◌, ◌<◌, ◌+◌, ◌-◌, ◌^◌, [], ◌∷◌, length, IfOk, OnOk, OnErr, IsErrOf, ◌⊎◌};
+ghost use Rattle.pg_io.specs.Faults.{Rose};
+ghost use Rattle.pg_num.specs.declared.limits.TheConstants.{LINE_LIMIT};
+ghost use Rattle.pg_session_texts.specs.Replies.{HasEnd};
+ghost use Rattle.pg_session.specs.Lines.{input_of};
+ghost use Rattle.pg_session.specs.Sessions.{AnswersLine, IsExact, admits_by, answer_text, begin};
+ghost use Rattle.pg_session.specs.Progress.{Answered, CutShort, IsReplyTo, Stands, begun_after, inputs_after, keep};
+ghost use Rattle.pg_session.specs.Views.{answer_of};
 
-use crate::once::once;
-use crate::serve::serve;
-use crate::show::show;
-use crate::status::Status;
-use crate::trial::trial;
-use pg_command::{Command, command};
-use pg_io::{Shelf, Sink, Source};
-use std::alloc::Global;
+use crate::answers::{Answer, answer_to};
+use crate::fault::ReplyFault;
+use crate::lines::input_of;
+use crate::runner::Runner;
+use pg_cache::Cache;
+use pg_io::{Sink, write_all};
+use pg_num::limits::{CACHE_LIMIT, LINE_LIMIT};
+use pg_session_texts::{ReplyKind, reply_text};
+use std::alloc::{AllocError, Global};
 
-/// Runs the command that the words are, without the program's own name. The words are read first. Each reply, each refusal
-/// line, and the whole text of `once`, `show` and `trial` is handed to the sink in one piece.
-///
-/// - `once` and up to 512 numbers runs the program text that is all that the source has, of which at most the limit and one
-///   more byte are taken. It writes what the program prints on these numbers, and then how its run ended. Where the rotation
-///   run exits, this is told of the guided run along the schedule of its trace.
-/// - `serve` and a file holds a session of the program whose text the shelf has under the file's name. Each line of the
-///   source is answered before the next read: by the least-numbered entry that is kept and admits its numbers, or by a
-///   recording, whose entry is kept then. At most the limit and one more byte are taken.
-/// - `show`, a file and up to 512 numbers writes what a session would record of these numbers as its first line: the turns,
-///   the races, the decisions, what was printed, and the end; or the reply to an input that isn't kept.
-/// - `trial` and a number up to 9,999 holds a session of the trial's program over 500 lines that the number settles, and
-///   writes its counts.
-///
-/// `once`, `serve` and `show` take `--quantum` and the steps of a thread's turn in a recording, from 1 to 10,000 and 100
-/// without it. A word that begins with `-` stands after `--`. In place of the text, a program text that is refused gives the line
-/// `program refused L:C NAME` with the line, the column and the name of its first refusal, and behind them the text of a token
-/// that isn't supported.
-pub fn peregrine<S: Source, K: Sink, F: Shelf>(
+/// The entries that are kept, and the line that has begun: its bytes, or so many that it is too long.
+#[derive(Drop)]
+pub(crate) struct Session<E: Drop> {
+    pub(crate) cache: Cache<E>,
+    pub(crate) line: Vec<u8>,
+}
+
+// The answer to a line.
+fn answer_line<R: Runner>(
     alloc: Global,
-    words: &[String],
-    src: &mut S,
-    shelf: &mut F,
-    out: &mut K,
-) -> Status
-    ensures ends { Ends (world (F.text shelf.old) (F.faults shelf.old) (F.faults shelf.new) (S.rest src.old) (S.rest src.new) (S.faults src.old) (S.faults src.new)
-        (K.taken out.old) (K.taken out.new) (K.faults out.old) (K.faults out.new))
-        (map string_bytes words.now) result }
-    ensures usage_calls_nothing { result ≡ Status.Usage → (src.new ≡ src.old) × (shelf.new ≡ shelf.old) × (out.new ≡ out.old) }
-    ensures fault_keeps_sink { (result ≡ Status.ReadFault) ⊎ (result ≡ Status.OutOfMemory) →
-        (out.new ≡ out.old) ⊎ IsSession (map string_bytes words.now) }
-    ensures texts_stay { (name : List ℕ) → F.text shelf.new name ≡ F.text shelf.old name }
+    runner: &mut R,
+    cache: &mut Cache<R::Entry>,
+    line: &[u8],
+) -> Result<Answer, AllocError>
+    requires exact { IsExact R.Entry.meaning }
+    requires stands { Stands (R.runs (R.subject runner.old)) cache.old }
+    requires count { cache.old.inserted < 2 ^ 64 - 1 }
+    ensures answer { IfOk result (λ a. AnswersLine (admits_by R.Entry.meaning R.Entry.test) (R.runs (R.subject runner.old)) cache.old (input_of line.now) (answer_of a) cache.new) }
+    ensures ends { IfOk result (λ a. HasEnd a.kind a.end) }
+    ensures stays { R.subject runner.new ≡ R.subject runner.old }
 {
-    match command(alloc, words) {
-        Ok(Some(Command::Once(command))) => once(alloc, &command, src, out),
-        Ok(Some(Command::Serve(command))) => serve(alloc, &command, src, shelf, out),
-        Ok(Some(Command::Show(command))) => show(alloc, &command, shelf, out),
-        Ok(Some(Command::Trial(number))) => trial(alloc, number, out),
-        Ok(None) => Status::Usage,
-        Err(_) => Status::OutOfMemory,
+    match input_of(alloc, line)? {
+        Some(input) => answer_to(alloc, runner, cache, &input),
+        None => Ok(Answer {
+            kind: ReplyKind::RefusedLine,
+            output: Vec::new(alloc),
+            end: None,
+        }),
     }
+}
+
+// The text of an answer.
+fn text_of(alloc: Global, answer: Answer) -> Result<Vec<u8>, AllocError>
+    requires { HasEnd answer.kind answer.end }
+    ensures { IfOk result (λ text. text.items ≡ answer_text (answer_of answer)) }
+{
+    let Answer { kind, output, end } = answer;
+    reply_text(alloc, &kind, &output, end.as_ref())
+}
+
+// The text of the reply to a line.
+fn reply<R: Runner>(
+    alloc: Global,
+    runner: &mut R,
+    cache: &mut Cache<R::Entry>,
+    line: &[u8],
+) -> Result<Vec<u8>, AllocError>
+    requires exact { IsExact R.Entry.meaning }
+    requires stands { Stands (R.runs (R.subject runner.old)) cache.old }
+    requires count { cache.old.inserted < 2 ^ 64 - 1 }
+    ensures text { IfOk result (λ text. IsReplyTo (admits_by R.Entry.meaning R.Entry.test) (R.runs (R.subject runner.old)) cache.old line.now cache.new text.items) }
+    ensures stays { R.subject runner.new ≡ R.subject runner.old }
+{
+    let answer = answer_line(alloc, runner, cache, line)?;
+    let text = text_of(alloc, answer)?;
+    Ok(text)
+}
+
+impl<E: Drop> Session<E> {
+    /// A session that keeps nothing so far.
+    pub(crate) fn new(alloc: Global) -> Result<Session<E>, AllocError>
+        ensures cache { IfOk result (λ s. s.cache ≡ begin) }
+        ensures line { IfOk result (λ s. s.line.items ≡ []) }
+    {
+        let cache = Cache::new(alloc, CACHE_LIMIT)?;
+        Ok(Session {
+            cache,
+            line: Vec::new(alloc),
+        })
+    }
+}
+
+/// Ends the line that has begun, and writes the reply to it.
+pub(crate) fn end_line<R: Runner, K: Sink>(
+    alloc: Global,
+    runner: &mut R,
+    session: &mut Session<R::Entry>,
+    out: &mut K,
+) -> Result<(), ReplyFault>
+    requires exact { IsExact R.Entry.meaning }
+    requires stands { Stands (R.runs (R.subject runner.old)) session.old.cache }
+    requires count { session.old.cache.inserted < 2 ^ 64 - 1 }
+    ensures answered { OnOk result (Answered (admits_by R.Entry.meaning R.Entry.test) (R.runs (R.subject runner.old)) session.old.cache (input_of session.old.line.items ∷ [])
+        session.new.cache (K.taken out.old) (K.taken out.new)) }
+    ensures cut { OnErr result (CutShort (admits_by R.Entry.meaning R.Entry.test)
+        (R.runs (R.subject runner.old)) session.old.cache (input_of session.old.line.items ∷ []) (K.taken out.old) (K.taken out.new)) }
+    ensures line { OnOk result (session.new.line.items ≡ []) }
+    ensures cause { IsErrOf result ReplyFault.WriteFault → Rose (K.faults out.old) (K.faults out.new) }
+    ensures count_stays { IsErrOf result ReplyFault.WriteFault ⊎ (K.faults out.new ≡ K.faults out.old) }
+    ensures stays { R.subject runner.new ≡ R.subject runner.old }
+{
+    let text = reply(alloc, runner, &mut session.cache, &session.line)?;
+    session.line.clear();
+    write_all(out, &text)?;
+    Ok(())
+}
+
+// Takes a byte of a line, unless the line is too long already.
+fn keep(line: &mut Vec<u8>, byte: u8) -> Result<(), AllocError>
+    requires { length line.old.items ≤ LINE_LIMIT + 1 }
+    ensures { OnOk result (line.new.items ≡ keep line.old.items byte) }
+{
+    if line.len() <= LINE_LIMIT {
+        line.push(byte)?;
+    }
+    Ok(())
+}
+
+/// Takes the bytes of a piece, and writes the reply to each line that ends in it.
+pub(crate) fn take_piece<R: Runner, K: Sink>(
+    alloc: Global,
+    runner: &mut R,
+    session: &mut Session<R::Entry>,
+    piece: &[u8],
+    out: &mut K,
+) -> Result<(), ReplyFault>
+    requires exact { IsExact R.Entry.meaning }
+    requires stands { Stands (R.runs (R.subject runner.old)) session.old.cache }
+    requires count { session.old.cache.inserted + length piece.now < 2 ^ 64 - 1 }
+    requires line { length session.old.line.items ≤ LINE_LIMIT + 1 }
+    ensures answered { OnOk result (Answered (admits_by R.Entry.meaning R.Entry.test) (R.runs (R.subject runner.old)) session.old.cache (inputs_after session.old.line.items piece.now)
+        session.new.cache (K.taken out.old) (K.taken out.new)) }
+    ensures cut { OnErr result (CutShort (admits_by R.Entry.meaning R.Entry.test)
+        (R.runs (R.subject runner.old)) session.old.cache (inputs_after session.old.line.items piece.now) (K.taken out.old) (K.taken out.new)) }
+    ensures line { OnOk result (session.new.line.items ≡ begun_after session.old.line.items piece.now) }
+    ensures cause { IsErrOf result ReplyFault.WriteFault → Rose (K.faults out.old) (K.faults out.new) }
+    ensures count_stays { IsErrOf result ReplyFault.WriteFault ⊎ (K.faults out.new ≡ K.faults out.old) }
+    ensures stays { R.subject runner.new ≡ R.subject runner.old }
+{
+    for byte in piece {
+        if *byte == b'\n' {
+            end_line(alloc, runner, session, out)?;
+        } else {
+            keep(&mut session.line, *byte)?;
+        }
+    }
+    Ok(())
 }

@@ -1,8 +1,3 @@
-pub mod Given
-pub mod Along
-pub mod State
 pub mod Prints
-pub mod Passes
-pub mod Timed
-pub mod Listed
-pub mod Sliced
+pub mod Rivals
+pub mod Settled

@@ -1,24 +1,11 @@
-//! The slice of a reference run: passes over the run under a set of decisions, each of which gives the decisions that are
-//! missing and what an input must give, until none is missing.
+//! The slice of a reference run by few passes: what a walk from its end back asks, and what live steps ask by their frames, is
+//! taken in before each.
 #![tactic(auto)]
 
-pub mod fits;
-mod frames;
-mod given;
-pub mod laws;
-mod live;
-mod memory;
-mod needs;
-mod pass;
+mod meetings;
 mod prints;
-mod slice;
-mod state;
-mod step;
-mod threads;
+mod rivals;
+mod slicing;
+mod spread;
 
-pub use frames::{FrameBytes, frame};
-pub use given::GivenRun;
-pub use needs::is_malloc;
-pub use pass::{Passed, pass_over};
-pub use slice::{Slice, slice_by_passes, sliced, take_new};
-pub use state::RunSources;
+pub use slicing::slice;

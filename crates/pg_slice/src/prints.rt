@@ -1,273 +1,138 @@
-//! The footprints of the steps of a run, and what is asked where they are met.
+//! Whether the bytes that steps may access meet.
+ghost use Rattle.std.specs.Prelude.{◌≡◌, ◌<◌, ◌+◌, ◌++◌, true, IfSome};
+ghost use Rattle.std.specs.List.{list_any};
+ghost use Rattle.pg_slice_rules.specs.Rules.{any_conflict, footprints_conflict, print_of, prints_in};
+ghost use Rattle.pg_slice_replay.specs.Kept.{landmark_at, step_count};
+ghost use Rattle.pg_run_trace.specs.Steps.{access_of};
+ghost use Rattle.pg_slice.specs.Prints.{footprint_of};
 
-ghost use Rattle.std.specs.Prelude.{◌≡◌, ◌<◌, ◌++◌, length, IfSome, OnOk};
-ghost use Rattle.pg_ir.specs.declared.instr.Instr.{Instr as AnInstr};
-ghost use Rattle.pg_ir.specs.Program.{NumberedProgram};
-ghost use Rattle.pg_nodes.specs.Nodes.{NodeList};
-ghost use Rattle.pg_closed.specs.Known.{Reference, Seen, Taken};
-ghost use Rattle.pg_decisions.specs.Steps.{taken_by};
-ghost use Rattle.pg_footprints.specs.Prints.{access_prints, region_prints};
-ghost use Rattle.pg_reference.specs.Kept.{landmark_at, step_count};
-ghost use Rattle.pg_slice.specs.Prints.{asks_of_met, owners_at};
-ghost use Rattle.std.specs.Prelude.{◌∷◌, [], true, if◌then◌else◌};
-ghost use Rattle.std.specs.Option.{option_to_list};
-ghost use Rattle.pg_closed.specs.Rules as rules;
-ghost use Rattle.pg_slice.specs.Passes.{IsAt, IsTimed};
-ghost use Rattle.pg_slice.specs.Timed.{AddsOf};
-ghost use Rattle.pg_slice.specs.Prints.{met_asks, print_at, print_by};
-ghost use Rattle.pg_closed.specs.Freeable.{FreeAccess as AnAccess};
-ghost use Rattle.std.specs.Prelude.{Some, map, slice_get};
-ghost use Rattle.pg_conflicts.specs.declared.footprint.Footprint.{Footprint as AFootprint};
+use pg_run_trace::Step;
+use pg_slice_passes::frame;
+use pg_slice_replay::ReferenceRun;
 
-use crate::frames::frame;
-use crate::state::RunSources;
-use pg_closed::Decision;
-use pg_conflicts::Footprint;
-use pg_decisions::DecisionSet;
-use pg_intervals::Interval;
-use pg_reference::ReferenceRun;
-use pg_trace::{Step, StepKind};
-use std::alloc::{AllocError, Global};
-
-/// The step of a footprint, and whether it is a load or a store that is no event.
+/// The frame of a pointer, and whether it may be written.
 #[derive(Clone, Copy)]
-pub struct Owner {
-    pub step: usize,
-    pub plain: bool,
+pub struct Print {
+    pub word: u64,
+    pub writes: bool,
 }
 
-/// The footprints of the steps of a run, and their steps.
-#[derive(Drop)]
-pub(crate) struct Prints {
-    pub(crate) prints: Vec<Footprint>,
-    pub(crate) owners: Vec<Owner>,
-}
-
-/// A step of a run: what it did, its interval, and its number.
-#[derive(Clone, Copy)]
-pub(crate) struct TimedStep<'a> {
-    pub step: &'a Step,
-    pub interval: Interval,
-    pub r: &'a ReferenceRun,
-    pub n: usize,
-}
-
-/// The footprint of the frame of a pointer; the interval's ends are below two to the 32.
-fn print(at: &TimedStep, word: u64, writes: bool, of_region: bool) -> Footprint
-    requires low { at.now.interval.low < 4294967296 }
-    requires high { at.now.interval.high < 4294967296 }
-    ensures { result ≡ print_at at.now.step.now at.now.interval word writes of_region }
+/// Whether frames meet, and one of them may be written.
+fn meet(a: Print, b: Print) -> bool
+    ensures { result ≡ footprints_conflict (footprint_of a) (footprint_of b) }
 {
-    let f = frame(word);
-    Footprint {
-        thread: at.step.thread,
-        low: at.interval.low as u32,
-        high: at.interval.high as u32,
-        start: f.start,
-        bytes: f.bytes,
-        writes,
-        of_region,
-    }
+    let one = frame(a.word);
+    let other = frame(b.word);
+    let start = one.start.max(other.start);
+    (a.writes || b.writes) && (start < one.start + one.bytes && start < other.start + other.bytes)
 }
 
-impl Prints {
-    /// No footprints.
-    pub(crate) fn new(alloc: Global) -> Prints
-        ensures prints { result.prints.items ≡ [] }
-        ensures owners { result.owners.items ≡ [] }
-    {
-        Prints {
-            prints: Vec::new(alloc),
-            owners: Vec::new(alloc),
-        }
-    }
-
-    /// One footprint more.
-    fn push(&mut self, print: Footprint, owner: Owner) -> Result<(), AllocError>
-        ensures prints { OnOk result (self.new.prints.items ≡ self.old.prints.items ++ print ∷ []) }
-        ensures owners { OnOk result (self.new.owners.items ≡ self.old.owners.items ++ owner ∷ []) }
-    {
-        self.prints.push(print)?;
-        self.owners.push(owner)?;
-        Ok(())
-    }
-
-    /// The footprint of the frame of a pointer more.
-    fn note(
-        &mut self,
-        at: &TimedStep,
-        word: u64,
-        writes: bool,
-        of_region: bool,
-        owner: Owner,
-    ) -> Result<(), AllocError>
-        requires low { at.now.interval.low < 4294967296 }
-        requires high { at.now.interval.high < 4294967296 }
-        ensures timed { OnOk result (AddsOf at.now.step.now at.now.interval self.old self.new) }
-        ensures prints { OnOk result (self.new.prints.items ≡ self.old.prints.items ++ print_at at.now.step.now at.now.interval word writes of_region ∷ []) }
-        ensures owners { OnOk result (self.new.owners.items ≡ self.old.owners.items ++ owner ∷ []) }
-    {
-        self.push(print(at, word, writes, of_region), owner)?;
-        Ok(())
-    }
-
-    /// The footprints of a live step: of its access, and of its region.
-    pub(crate) fn add(&mut self, at: &TimedStep) -> Result<(), AllocError>
-        requires number { at.now.n < step_count at.now.r.now }
-        requires low { at.now.interval.low < 4294967296 }
-        requires high { at.now.interval.high < 4294967296 }
-        ensures timed { OnOk result (AddsOf at.now.step.now at.now.interval self.old self.new) }
-        ensures prints { OnOk result ((x : Seen) → IsTimed x at.now.step.now at.now.interval → x.live ≡ true → IfSome (landmark_at at.now.r.now at.now.n) (λ l. x.region ≡ l.region)
-            → self.new.prints.items ≡ self.old.prints.items ++ (access_prints x ++ region_prints x)) }
-        ensures owners { OnOk result ((x : Seen) → IsTimed x at.now.step.now at.now.interval → x.live ≡ true → x.number ≡ at.now.n
-            → IfSome (landmark_at at.now.r.now at.now.n) (λ l. x.region ≡ l.region)
-            → self.new.owners.items ≡ self.old.owners.items ++ owners_at x) }
-    {
-        let owner = Owner {
-            step: at.n,
-            plain: is_plain(&at.step.kind),
-        };
-        self.add_access(at, owner)?;
-        self.add_region(at, owner)?;
-        Ok(())
-    }
-
-    /// The footprint of the access of a live step, if it has one.
-    fn add_access(&mut self, at: &TimedStep, owner: Owner) -> Result<(), AllocError>
-        requires low { at.now.interval.low < 4294967296 }
-        requires high { at.now.interval.high < 4294967296 }
-        ensures timed { OnOk result (AddsOf at.now.step.now at.now.interval self.old self.new) }
-        ensures prints { OnOk result ((x : Seen) → IsTimed x at.now.step.now at.now.interval → x.live ≡ true → self.new.prints.items ≡ self.old.prints.items ++ access_prints x) }
-        ensures owners { OnOk result ((x : Seen) → IsTimed x at.now.step.now at.now.interval → x.live ≡ true
-            → self.new.owners.items ≡ self.old.owners.items ++ map (λ (f : AFootprint). owner) (access_prints x)) }
-    {
-        if let Some(a) = at.step.access() {
-            self.note(at, a.pointer, a.writes, false, owner)?;
-        }
-        Ok(())
-    }
-
-    /// The footprint of an access of a region, if there is one with this number.
-    fn add_free(&mut self, at: &TimedStep, k: usize, owner: Owner) -> Result<(), AllocError>
-        requires low { at.now.interval.low < 4294967296 }
-        requires high { at.now.interval.high < 4294967296 }
-        ensures timed { OnOk result (AddsOf at.now.step.now at.now.interval self.old self.new) }
-        ensures prints { IfSome (landmark_at at.now.r.now at.now.n)
-            (λ l. IfSome l.region (λ f. OnOk result ((x : Seen) (a : AnAccess) → IsTimed x at.now.step.now at.now.interval → slice_get f.accesses k ≡ Some a
-            → self.new.prints.items ≡ self.old.prints.items ++ print_by x a ∷ []))) }
-        ensures owners { IfSome (landmark_at at.now.r.now at.now.n) (λ l. IfSome l.region (λ f. OnOk result ((a : AnAccess) → slice_get f.accesses k ≡ Some a
-            → self.new.owners.items ≡ self.old.owners.items ++ owner ∷ []))) }
-    {
-        if let Some(a) = at.r.access(at.n, k) {
-            self.note(at, a.last, a.writes, true, owner)?;
-        }
-        Ok(())
-    }
-
-    /// The footprints of the region of a live step, which is free where it has one.
-    fn add_region(&mut self, at: &TimedStep, owner: Owner) -> Result<(), AllocError>
-        requires number { at.now.n < step_count at.now.r.now }
-        requires low { at.now.interval.low < 4294967296 }
-        requires high { at.now.interval.high < 4294967296 }
-        ensures timed { OnOk result (AddsOf at.now.step.now at.now.interval self.old self.new) }
-        ensures prints { OnOk result ((x : Seen) → IsTimed x at.now.step.now at.now.interval → x.live ≡ true → IfSome (landmark_at at.now.r.now at.now.n) (λ l. x.region ≡ l.region)
-            → self.new.prints.items ≡ self.old.prints.items ++ region_prints x) }
-        ensures owners { OnOk result ((x : Seen) → IsTimed x at.now.step.now at.now.interval → x.live ≡ true → IfSome (landmark_at at.now.r.now at.now.n) (λ l. x.region ≡ l.region)
-            → self.new.owners.items ≡ self.old.owners.items ++ map (λ (f : AFootprint). owner) (region_prints x)) }
-    {
-        if !at.r.is_free(at.n) {
-            return Ok(());
-        }
-        for k in 0..at.r.access_count(at.n) {
-            self.add_free(at, k, owner)?;
-        }
-        Ok(())
-    }
-}
-
-/// The footprints of a step, where it is live.
-pub(crate) fn print_live(
-    prints: &mut Prints,
-    s: &RunSources,
-    at: &TimedStep,
-) -> Result<(), AllocError>
-    requires number { at.now.n < step_count at.now.r.now }
-    requires low { at.now.interval.low < 4294967296 }
-    requires high { at.now.interval.high < 4294967296 }
-    ensures timed { OnOk result (AddsOf at.now.step.now at.now.interval prints.old prints.new) }
-    ensures prints { OnOk result ((R : Reference) (d : Taken) (p : NumberedProgram) (ns : NodeList) (i : AnInstr) (y : Seen) → IsAt R d p ns s.now at.now.r.now at.now.n at.now.step.now i y
-        → IsTimed y at.now.step.now at.now.interval
-        → prints.new.prints.items ≡ prints.old.prints.items ++ (access_prints y ++ region_prints y)) }
-    ensures owners { OnOk result ((R : Reference) (d : Taken) (p : NumberedProgram) (ns : NodeList) (i : AnInstr) (y : Seen) → IsAt R d p ns s.now at.now.r.now at.now.n at.now.step.now i y
-        → IsTimed y at.now.step.now at.now.interval
-        → prints.new.owners.items ≡ prints.old.owners.items ++ owners_at y) }
+/// Whether a frame meets that of a step's access, if it has one.
+fn meets_access(a: Print, y: &Step) -> bool
+    ensures { result ≡ list_any (footprints_conflict (footprint_of a)) (print_of (access_of y.now)) }
 {
-    if !s.is_live(at.step.thread.0 as usize) {
-        return Ok(());
-    }
-    prints.add(at)?;
-    Ok(())
-}
-
-/// Whether a step is a load or a store that is no event.
-fn is_plain(kind: &StepKind) -> bool
-    ensures { result ≡ rules.is_plain kind.now }
-{
-    match kind {
-        StepKind::Access(a) => !a.event,
-        _ => false,
+    match y.access() {
+        Some(access) => meet(
+            a,
+            Print {
+                word: access.pointer,
+                writes: access.writes,
+            },
+        ),
+        None => false,
     }
 }
 
-/// What a footprint asks that is met, if it asks for more.
-fn met_ask(d: &DecisionSet, of_region: bool, owner: Owner) -> Option<Decision>
-    ensures { option_to_list result ≡ met_asks (taken_by d.now) of_region owner }
+/// Whether a frame meets that of the access with this number of a freeable step's region, if there is one.
+fn meets_one(a: Print, r: &ReferenceRun, y: usize, k: usize) -> bool
+    ensures { IfSome (landmark_at r.now y) (λ l. IfSome l.region (λ f. result ≡ true → list_any (footprints_conflict (footprint_of a)) (prints_in l.region) ≡ true)) }
 {
-    if of_region {
-        if d.is_pinned(owner.step) {
-            None
-        } else {
-            Some(Decision::Pinned(owner.step))
-        }
-    } else if owner.plain && !d.is_exact(owner.step) {
-        Some(Decision::Exact(owner.step))
-    } else {
-        None
+    match r.access(y, k) {
+        Some(access) => meet(
+            a,
+            Print {
+                word: access.last,
+                writes: access.writes,
+            },
+        ),
+        None => false,
     }
 }
 
-/// Adds what a footprint asks, if it is met.
-fn ask_if_met(
-    missing: &mut Vec<Decision>,
-    d: &DecisionSet,
-    of_region: bool,
-    owner: Owner,
-    mark: bool,
-) -> Result<(), AllocError>
-    ensures { OnOk result (missing.new.items ≡ missing.old.items ++ (if mark then met_asks (taken_by d.now) of_region owner else [])) }
+/// Whether a frame meets one of a freeable step's region.
+fn meets_region(a: Print, r: &ReferenceRun, y: usize) -> bool
+    requires { y < step_count r.now }
+    ensures { IfSome (landmark_at r.now y) (λ l. result ≡ true → list_any (footprints_conflict (footprint_of a)) (prints_in l.region) ≡ true) }
 {
-    if mark {
-        if let Some(x) = met_ask(d, of_region, owner) {
-            missing.push(x)?;
+    if !r.is_free(y) {
+        return false;
+    }
+    for k in 0..r.access_count(y) {
+        if meets_one(a, r, y, k) {
+            return true;
         }
     }
-    Ok(())
+    false
 }
 
-/// Adds what the fourth and the fifth rule ask, by which of the footprints are met.
-pub(crate) fn ask_met(
-    missing: &mut Vec<Decision>,
-    d: &DecisionSet,
-    prints: &[Footprint],
-    owners: &[Owner],
-    marks: &[bool],
-) -> Result<(), AllocError>
-    requires owners { length owners.now ≡ length prints.now }
-    requires marks { length marks.now ≡ length prints.now }
-    ensures { OnOk result (missing.new.items ≡ missing.old.items ++ asks_of_met (taken_by d.now) prints.now owners.now marks.now) }
+/// Whether a frame meets one of a live step.
+fn meets_step(a: Print, r: &ReferenceRun, step: &Step, y: usize) -> bool
+    requires { y < step_count r.now }
+    ensures { IfSome (landmark_at r.now y) (λ l. result ≡ true → list_any (footprints_conflict (footprint_of a)) (print_of (access_of step.now) ++ prints_in l.region) ≡ true) }
 {
-    for i in 0..prints.len() {
-        ask_if_met(missing, d, prints[i].of_region, owners[i], marks[i])?;
+    meets_access(a, step) || meets_region(a, r, y)
+}
+
+/// Whether the frame of the access with this number of a freeable step's region, if there is one, meets one of a live step.
+fn one_meets(r: &ReferenceRun, n: usize, k: usize, step: &Step, y: usize) -> bool
+    requires { y < step_count r.now }
+    ensures { IfSome (landmark_at r.now n) (λ l. IfSome l.region
+        (λ f. IfSome (landmark_at r.now y) (λ q. result ≡ true → any_conflict (prints_in l.region) (print_of (access_of step.now) ++ prints_in q.region) ≡ true))) }
+{
+    match r.access(n, k) {
+        Some(access) => meets_step(
+            Print {
+                word: access.last,
+                writes: access.writes,
+            },
+            r,
+            step,
+            y,
+        ),
+        None => false,
     }
-    Ok(())
+}
+
+/// Whether a frame of a freeable step's region meets one of a live step.
+pub(crate) fn region_meets(r: &ReferenceRun, n: usize, step: &Step, y: usize) -> bool
+    requires number { n < step_count r.now }
+    requires other { y < step_count r.now }
+    ensures { IfSome (landmark_at r.now n) (λ l. IfSome (landmark_at r.now y) (λ q. result ≡ true →
+        any_conflict (prints_in l.region) (print_of (access_of step.now) ++ prints_in q.region) ≡ true)) }
+{
+    if !r.is_free(n) {
+        return false;
+    }
+    for k in 0..r.access_count(n) {
+        if one_meets(r, n, k, step, y) {
+            return true;
+        }
+    }
+    false
+}
+
+/// Whether the frames of two steps' accesses meet, if they have some.
+pub(crate) fn accesses_meet(x: &Step, y: &Step) -> bool
+    ensures { result ≡ any_conflict (print_of (access_of x.now)) (print_of (access_of y.now)) }
+{
+    match x.access() {
+        Some(access) => meets_access(
+            Print {
+                word: access.pointer,
+                writes: access.writes,
+            },
+            y,
+        ),
+        None => false,
+    }
 }

@@ -1,6 +1,6 @@
 use Rattle.std.proofs.Common.{◌≡◌, ◌≤◌, count_by, take}
-use Rattle.pg_closed.specs.Known as known
-use Rattle.pg_trace.specs.declared.step.Step.{Step}
+use Rattle.pg_slice_rules.specs.Known as known
+use Rattle.pg_run_trace.specs.declared.step.Step.{Step}
 use Rattle.pg_entry_bench.proofs.counts.branch_count.Given as goal
 
 abbrev pub invariant-loop-i : goal.invariant-loop-i

@@ -1,9 +1,9 @@
 use Rattle.std.proofs.Common.{◌≡◌, List, rules, subst, sym}
-use Rattle.pg_accesses.specs.Accesses.{is_gated, summary_of}
+use Rattle.pg_region_accesses.specs.Accesses.{is_gated, summary_of}
 use Rattle.pg_ir.specs.declared.ids.InstrId.{InstrId}
-use Rattle.pg_machine.specs.Runs.{IsRun}
-use Rattle.pg_machine.specs.State.{State, initial}
-use Rattle.pg_quiet.specs.Summaries.{AreSummaries}
+use Rattle.pg_run.specs.Runs.{IsRun}
+use Rattle.pg_run.specs.State.{State, initial}
+use Rattle.pg_region_summaries.specs.Summaries.{AreSummaries}
 use Rattle.pg_entry_bench.proofs.measuring.replayed.Goals as goal
 
 pub reference-requires-clause-run : goal.reference-requires-clause-run

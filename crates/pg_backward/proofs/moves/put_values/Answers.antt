@@ -1,9 +1,0 @@
-use Rattle.std.proofs.Common.{true}
-use Rattle.pg_demands.specs.Cells.{IsMet}
-use Rattle.pg_demands.specs.Back.{of_value}
-use Rattle.pg_backward.proofs.Meets.{each_of}
-use Rattle.pg_backward.proofs.moves.put_values.Goals as goal
-
-pub loop-i-preserved : goal.loop-i-preserved
-loop-i-preserved c = λ s m h.
-    c.in_ok-put_value.ensures s (c.loop-i.invariant s m h) (each_of (of_value c.args.at.thread c.args.at.depth true) (IsMet s) c.args.values.now c.loop-i.i c.value_at.result c.value_at.ensures h)

@@ -1,7 +1,0 @@
-use Rattle.pg_closed.specs.Known.{RunShadow}
-use Rattle.pg_backward.specs.Met.{AreMet}
-use Rattle.pg_backward.specs.Wanted.{AreWanted}
-use Rattle.pg_backward.proofs.moves.put_wanted.Given as goal
-
-abbrev pub invariant-loop-i : goal.invariant-loop-i
-invariant-loop-i l = (s : RunShadow) → AreMet s l.initial.w → AreWanted s l.at.thread l.at.depth l.wanted → AreMet s l.w

@@ -1,6 +1,0 @@
-use Rattle.pg_reference.specs.Kept.{landmark_at}
-use Rattle.pg_backward.proofs.Regions.{FewAsked}
-use Rattle.pg_backward.proofs.region.asks_any.Given as goal
-
-abbrev pub invariant-loop-k : goal.invariant-loop-k
-invariant-loop-k l = FewAsked (landmark_at l.r l.n) l.k l.w

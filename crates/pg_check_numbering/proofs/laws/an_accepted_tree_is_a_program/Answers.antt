@@ -1,5 +1,0 @@
-use Rattle.pg_check_numbering.proofs.Law.{is_program}
-use Rattle.pg_check_numbering.proofs.laws.an_accepted_tree_is_a_program.Goals as goal
-
-pub returns : goal.returns
-returns c = is_program

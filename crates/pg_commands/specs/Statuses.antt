@@ -1,0 +1,22 @@
+-- The exit status of the process, and that of a session that ends before its input does.
+use Rattle.std.specs.Prelude.{ℕ}
+use Rattle.pg_session.specs.declared.fault.ServeFault.{ServeFault}
+use Rattle.pg_session.specs.declared.fault.ServeFault.TheVariants as fault
+use Rattle.pg_commands.specs.declared.status.Status.{Status}
+use Rattle.pg_commands.specs.declared.status.Status.TheVariants.{Done, Usage, ProgramRefused, ShelfFault, ReadFault, WriteFault, InputLimit, OutOfMemory}
+
+abbrev pub status_code : Status → ℕ
+status_code Done = 0
+status_code Usage = 2
+status_code ProgramRefused = 3
+status_code ShelfFault = 4
+status_code ReadFault = 5
+status_code WriteFault = 6
+status_code InputLimit = 7
+status_code OutOfMemory = 8
+
+abbrev pub status_of : ServeFault → Status
+status_of fault.ReadFault = ReadFault
+status_of fault.WriteFault = WriteFault
+status_of fault.InputLimit = InputLimit
+status_of fault.OutOfMemory = OutOfMemory

@@ -1,0 +1,55 @@
+//! The call that does all that the program does.
+ghost use Rattle.std.specs.Prelude.{◌≡◌, ◌⊎◌, ℕ, List, map, string_bytes};
+ghost use Rattle.pg_commands.specs.Commands.{Ends, IsSession, world};
+
+use crate::once::once;
+use crate::serve::serve;
+use crate::show::show;
+use crate::status::Status;
+use crate::trial::trial;
+use pg_commands_words::{Command, command};
+use pg_io::{Shelf, Sink, Source};
+use std::alloc::Global;
+
+/// Runs the command that the words are, without the program's own name. The words are read first. Each reply, each refusal
+/// line, and the whole text of `once`, `show` and `trial` is handed to the sink in one piece.
+///
+/// - `once` and up to 512 numbers runs the program text that is all that the source has, of which at most the limit and one
+///   more byte are taken. It writes what the program prints on these numbers, and then how its run ended. Where the rotation
+///   run exits, this is told of the guided run along the schedule of its trace.
+/// - `serve` and a file holds a session of the program whose text the shelf has under the file's name. Each line of the
+///   source is answered before the next read: by the least-numbered entry that is kept and admits its numbers, or by a
+///   recording, whose entry is kept then. At most the limit and one more byte are taken.
+/// - `show`, a file and up to 512 numbers writes what a session would record of these numbers as its first line: the turns,
+///   the races, the decisions, what was printed, and the end; or the reply to an input that isn't kept.
+/// - `trial` and a number up to 9,999 holds a session of the trial's program over 500 lines that the number settles, and
+///   writes its counts.
+///
+/// `once`, `serve` and `show` take `--quantum` and the steps of a thread's turn in a recording, from 1 to 10,000 and 100
+/// without it. A word that begins with `-` stands after `--`. In place of the text, a program text that is refused gives the line
+/// `program refused L:C NAME` with the line, the column and the name of its first refusal, and behind them the text of a token
+/// that isn't supported.
+pub fn peregrine<S: Source, K: Sink, F: Shelf>(
+    alloc: Global,
+    words: &[String],
+    src: &mut S,
+    shelf: &mut F,
+    out: &mut K,
+) -> Status
+    ensures ends { Ends (world (F.text shelf.old) (F.faults shelf.old) (F.faults shelf.new) (S.rest src.old) (S.rest src.new) (S.faults src.old) (S.faults src.new)
+        (K.taken out.old) (K.taken out.new) (K.faults out.old) (K.faults out.new))
+        (map string_bytes words.now) result }
+    ensures usage_calls_nothing { result ≡ Status.Usage → (src.new ≡ src.old) × (shelf.new ≡ shelf.old) × (out.new ≡ out.old) }
+    ensures fault_keeps_sink { (result ≡ Status.ReadFault) ⊎ (result ≡ Status.OutOfMemory) →
+        (out.new ≡ out.old) ⊎ IsSession (map string_bytes words.now) }
+    ensures texts_stay { (name : List ℕ) → F.text shelf.new name ≡ F.text shelf.old name }
+{
+    match command(alloc, words) {
+        Ok(Some(Command::Once(command))) => once(alloc, &command, src, out),
+        Ok(Some(Command::Serve(command))) => serve(alloc, &command, src, shelf, out),
+        Ok(Some(Command::Show(command))) => show(alloc, &command, shelf, out),
+        Ok(Some(Command::Trial(number))) => trial(alloc, number, out),
+        Ok(None) => Status::Usage,
+        Err(_) => Status::OutOfMemory,
+    }
+}

@@ -1,0 +1,61 @@
+//! The texts that are written.
+ghost use Rattle.std.specs.Prelude.{◌≡◌, ◌≤◌, IfOk, length, string_bytes};
+ghost use Rattle.pg_num.specs.declared.limits.TheConstants.{QUANTUM_LIMIT};
+ghost use Rattle.pg_run_trace.specs.Races.{schedule_of};
+ghost use Rattle.pg_law_runs.specs.Cuts.{CanRun};
+ghost use Rattle.pg_commands.specs.EndLines.{end_line};
+ghost use Rattle.pg_commands.specs.Texts.{once_text};
+
+use crate::laws::the_guided_run_of_once_exits;
+use pg_ir::Program;
+use pg_run::{Outcome, Recorded, rotate};
+use pg_run_trace::Trace;
+use pg_schedule::{hybrid, races};
+use std::alloc::{AllocError, Global};
+
+/// How many turns the schedule of a trace has.
+fn turn_count(alloc: Global, trace: &Trace) -> Result<usize, AllocError>
+    ensures { IfOk result (λ n. n ≡ length (schedule_of trace.now.steps).turns) }
+{
+    let races = races(alloc, trace)?;
+    let schedule = hybrid(alloc, trace, races.as_slice())?;
+    Ok(schedule.turns.as_slice().len())
+}
+
+/// The line that says how a run with this trace ended.
+fn end_line(alloc: Global, trace: &Trace, end: Outcome) -> Result<String, AllocError>
+    ensures { IfOk result (λ line. string_bytes line ≡ end_line trace.now.steps end) }
+{
+    match end {
+        Outcome::Exit(value) => {
+            let turns = turn_count(alloc, trace)?;
+            format!(in alloc; "exit {value} after {turns} turns\n")
+        }
+        Outcome::Trap(name, id) => {
+            let number = id.0;
+            format!(in alloc; "trap {name} at {number}\n")
+        }
+        Outcome::Budget => format!(in alloc; "budget\n"),
+    }
+}
+
+/// The text of `once`. Where the rotation run with this quantum exits, the guided run along the schedule of its trace
+/// prints the same, exits with the same value and does all turns of the schedule, so it isn't made.
+pub(crate) fn once_text(
+    alloc: Global,
+    program: &Program,
+    quantum: u32,
+    input: &[i64],
+) -> Result<Vec<u8>, AllocError>
+    requires least { 1 ≤ quantum }
+    requires most { quantum ≤ QUANTUM_LIMIT }
+    requires can_run { CanRun program.now input.now }
+    ensures { IfOk result (λ v. v.items ≡ once_text program.now quantum input.now) }
+{
+    the_guided_run_of_once_exits();
+    let Recorded { trace, output, end } = rotate(alloc, program, input, quantum)?;
+    let line = end_line(alloc, &trace, end)?;
+    let mut text = output;
+    text.extend_from_slice(line.as_bytes())?;
+    Ok(text)
+}

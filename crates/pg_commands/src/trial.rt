@@ -1,0 +1,66 @@
+//! The command `trial`: a session over stated lines, of which counts are told.
+ghost use Rattle.std.specs.Prelude.{◌≡◌, ◌≤◌, ◌<◌, ◌⊎◌, ◌^◌, ℕ, ℤ, List, length, Option, IfOk};
+ghost use Rattle.pg_law_runs.specs.Cuts.{CanRun};
+ghost use Rattle.pg_commands_words.specs.Commands.{trial};
+ghost use Rattle.pg_commands_words.specs.declared.values.TheConstants.{DEFAULT_QUANTUM};
+ghost use Rattle.pg_session_runner.specs.Runs.{entry_admits, runs_of};
+ghost use Rattle.pg_session.specs.Trials.{IsTrialText};
+ghost use Rattle.pg_session_trial.specs.Program.{trial_program};
+ghost use Rattle.pg_session_trial.specs.declared.line.TheConstants.{TRIAL_LIMIT};
+ghost use Rattle.pg_commands.specs.Commands.{EndsAs, IsTrial, world};
+ghost use Rattle.pg_commands.specs.Replies.{IsReply, IsReplyStatus};
+
+use crate::programs::{Loaded, load};
+use crate::replies::{Reply, write_text};
+use crate::status::Status;
+use pg_commands_words::DEFAULT_QUANTUM;
+use pg_io::Sink;
+use pg_ir::Program;
+use pg_session_runner::ProgramRunner;
+use pg_session_trial::trial_program;
+use std::alloc::{AllocError, Global};
+
+/// The text of the trial that a number names, of a program.
+fn trial_text(alloc: Global, program: &Program, number: u64) -> Result<Vec<u8>, AllocError>
+    requires can_run { (input : List ℤ) → length input < 2 ^ 64 → CanRun program.now input }
+    requires number { number ≤ TRIAL_LIMIT }
+    ensures { IfOk result (λ text. IsTrialText entry_admits (runs_of program.now DEFAULT_QUANTUM) number text.items) }
+{
+    let mut runner = ProgramRunner::new(program, DEFAULT_QUANTUM);
+    let text = pg_session::trial(alloc, &mut runner, number)?;
+    Ok(text)
+}
+
+/// The text of the trial that a number names.
+fn trial_reply(alloc: Global, number: u64) -> Result<Reply, AllocError>
+    requires { number ≤ TRIAL_LIMIT }
+    ensures status { IfOk result (λ r. IsReplyStatus r.status) }
+    ensures reply { IfOk result (λ r. IsReply (IsTrial trial_program number) trial_program r.status r.text.items) }
+{
+    match load(alloc, trial_program().as_bytes())? {
+        Loaded::Accepted(program) => Ok(Reply {
+            status: Status::Done,
+            text: trial_text(alloc, &program, number)?,
+        }),
+        Loaded::Refused(line) => Ok(Reply {
+            status: Status::ProgramRefused,
+            text: line,
+        }),
+    }
+}
+
+/// Writes the text of the trial that a number names.
+pub(crate) fn trial<K: Sink>(alloc: Global, number: u64, out: &mut K) -> Status
+    requires { number ≤ TRIAL_LIMIT }
+    ensures ends { (texts : List ℕ → Option (List ℕ)) (fetches : List ℕ → ℕ) (rest : Option (List ℕ)) (reads : ℕ) → EndsAs
+        (world texts fetches fetches rest rest reads reads
+        (K.taken out.old) (K.taken out.new) (K.faults out.old) (K.faults out.new))
+        (trial number) result }
+    ensures keeps { (result ≡ Status.ReadFault) ⊎ (result ≡ Status.OutOfMemory) → out.new ≡ out.old }
+{
+    let reply = match trial_reply(alloc, number) {
+        Ok(reply) => reply,
+        Err(_) => return Status::OutOfMemory,
+    };
+    write_text(out, &reply.text, reply.status)
+}

@@ -1,6 +1,0 @@
-use Rattle.std.proofs.Common.{◌≡◌, map, take, All}
-use Rattle.pg_conflicts.specs.Places.{IsPlaced, print_of}
-use Rattle.pg_conflicts.proofs.places.placed_among.Given as goal
-
-abbrev pub invariant-loop-i : goal.invariant-loop-i
-invariant-loop-i l = All (IsPlaced l.bytes) l.placed.items × (map print_of l.placed.items ≡ take l.i l.prints)

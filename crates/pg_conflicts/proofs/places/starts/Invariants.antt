@@ -1,6 +1,0 @@
-use Rattle.std.proofs.Common.{◌≡◌, map, take}
-use Rattle.pg_conflicts.specs.Places.{start_of}
-use Rattle.pg_conflicts.proofs.places.starts.Given as goal
-
-abbrev pub invariant-loop-print : goal.invariant-loop-print
-invariant-loop-print l = l.starts.items ≡ map start_of (take l.print-index l.prints)

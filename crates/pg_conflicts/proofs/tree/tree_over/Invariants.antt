@@ -1,5 +1,0 @@
-use Rattle.std.proofs.Common.{◌≡◌, ◌*◌, ◌^◌}
-use Rattle.pg_conflicts.proofs.tree.tree_over.Given as goal
-
-abbrev pub invariant-loop-levels : goal.invariant-loop-levels
-invariant-loop-levels l = 2 * l.leaves ≡ 2 ^ l.levels

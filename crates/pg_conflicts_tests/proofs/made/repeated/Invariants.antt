@@ -1,7 +1,0 @@
-use Rattle.std.proofs.Common.{◌/◌}
-use Rattle.pg_conflicts.specs.Meets.{InOrder}
-use Rattle.pg_conflicts_tests.proofs.Ordered.{AreUpTo}
-use Rattle.pg_conflicts_tests.proofs.made.repeated.Given as goal
-
-abbrev pub invariant-loop-k : goal.invariant-loop-k
-invariant-loop-k l = InOrder l.prints.items × AreUpTo (l.k / 8) l.prints.items

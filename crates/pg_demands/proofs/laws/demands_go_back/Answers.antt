@@ -1,5 +1,0 @@
-use Rattle.pg_demands.proofs.Due.{due_before}
-use Rattle.pg_demands.proofs.laws.demands_go_back.Goals as goal
-
-pub returns : goal.returns
-returns c = λ R keeps d n y a q h. due_before R keeps d n y a q h

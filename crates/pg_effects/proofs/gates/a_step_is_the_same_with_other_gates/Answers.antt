@@ -1,5 +1,0 @@
-use Rattle.pg_effects.proofs.Gating.{step_gated}
-use Rattle.pg_effects.proofs.gates.a_step_is_the_same_with_other_gates.Goals as goal
-
-pub returns : goal.returns
-returns c = step_gated

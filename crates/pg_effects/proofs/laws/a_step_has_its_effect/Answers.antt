@@ -1,5 +1,0 @@
-use Rattle.pg_effects.proofs.Effects.{has_effect}
-use Rattle.pg_effects.proofs.laws.a_step_has_its_effect.Goals as goal
-
-pub returns : goal.returns
-returns c = has_effect

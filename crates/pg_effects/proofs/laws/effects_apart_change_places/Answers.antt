@@ -1,5 +1,0 @@
-use Rattle.pg_effects.proofs.Cross.{effects_cross}
-use Rattle.pg_effects.proofs.laws.effects_apart_change_places.Goals as goal
-
-pub returns : goal.returns
-returns c = effects_cross

@@ -1,5 +1,0 @@
-use Rattle.pg_effects.proofs.Apart.{change_places}
-use Rattle.pg_effects.proofs.laws.steps_apart_change_places.Goals as goal
-
-pub returns : goal.returns
-returns c = change_places

@@ -1,5 +1,0 @@
-use Rattle.pg_effects.proofs.Permits.{permitted_is}
-use Rattle.pg_effects.proofs.permitted.a_permitted_run_is_permitted_step_by_step.Goals as goal
-
-pub returns : goal.returns
-returns c = permitted_is

@@ -1,5 +1,0 @@
-use Rattle.pg_effects.proofs.Permits.{permitted_more}
-use Rattle.pg_effects.proofs.permitted.a_permitted_run_may_take_a_step.Goals as goal
-
-pub returns : goal.returns
-returns c = permitted_more

@@ -1,5 +1,0 @@
-use Rattle.pg_effects.proofs.Permits.{steps_join}
-use Rattle.pg_effects.proofs.permitted.permitted_steps_join.Goals as goal
-
-pub returns : goal.returns
-returns c = steps_join

@@ -1,5 +1,0 @@
-use Rattle.pg_effects.proofs.Reaches.{reached_first}
-use Rattle.pg_effects.proofs.reached.the_first_state_is_reached.Goals as goal
-
-pub returns : goal.returns
-returns c = reached_first

@@ -1,5 +1,0 @@
-use Rattle.pg_effects.proofs.Along.{run_effects}
-use Rattle.pg_effects.proofs.runs.a_run_has_its_effects.Goals as goal
-
-pub returns : goal.returns
-returns c = run_effects

@@ -1,5 +1,0 @@
-use Rattle.pg_effects.proofs.Along.{runs_cross}
-use Rattle.pg_effects.proofs.runs.first_steps_change_places.Goals as goal
-
-pub returns : goal.returns
-returns c = runs_cross

@@ -1,5 +1,0 @@
-use Rattle.pg_effects.proofs.Seen.{leads_to}
-use Rattle.pg_effects.proofs.views.a_step_leads_to_what_it_writes.Goals as goal
-
-pub returns : goal.returns
-returns c = leads_to

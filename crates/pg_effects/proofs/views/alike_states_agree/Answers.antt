@@ -1,5 +1,0 @@
-use Rattle.pg_effects.proofs.Seen.{agree_like}
-use Rattle.pg_effects.proofs.views.alike_states_agree.Goals as goal
-
-pub returns : goal.returns
-returns c = agree_like

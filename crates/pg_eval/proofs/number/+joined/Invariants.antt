@@ -1,4 +1,0 @@
-use Rattle.pg_eval.proofs.number.+joined.Given as goal
-
-abbrev pub decreases-joined : goal.decreases-joined
-decreases-joined l = l.count

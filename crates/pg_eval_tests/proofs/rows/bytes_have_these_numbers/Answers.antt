@@ -1,7 +1,0 @@
-use Rattle.std.proofs.Common.{refl}
-use Rattle.pg_nodes.specs.Values.{joined, numbers_behind}
-use Rattle.pg_eval_tests.proofs.rows.bytes_have_these_numbers.Goals as goal
-
-pub returns : goal.returns
-unfolding joined numbers_behind
-returns c = refl

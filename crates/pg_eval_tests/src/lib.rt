@@ -1,5 +1,0 @@
-//! Worked rows of preconditions.
-#![tactic(auto)]
-
-mod quotient;
-pub mod rows;

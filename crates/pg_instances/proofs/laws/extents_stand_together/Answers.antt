@@ -1,5 +1,0 @@
-use Rattle.pg_instances.proofs.Together.{exited}
-use Rattle.pg_instances.proofs.laws.extents_stand_together.Goals as goal
-
-pub returns : goal.returns
-returns c = λ p input turns gated xs out value e. (exited p input turns gated xs out value e).together

@@ -1,0 +1,106 @@
+-- Replies of steps, and traps before a turn.
+use Rattle.std.proofs.Common.{◌≡◌, ℕ, Bool, true, false, cond, List, [], ◌∷◌, ◌++◌, map, Option, Some, None, refl, sym, ap, ◌∙◌, ℤ, length, ◌≤◌, arith, append-nil}
+use Rattle.std.specs.Prelude.{filter, is_some, if◌then◌else◌}
+use Rattle.std.specs.List.{cons_option, filter_map}
+use Rattle.std.proofs.lemmas.List.{length-append}
+use Rattle.std.proofs.lemmas.List.Elements.{filter_map-append}
+use Rattle.pg_ir.specs.declared.ids.InstrId.{InstrId}
+use Rattle.pg_ir.specs.declared.request.Request.{Request}
+use Rattle.pg_ir.specs.declared.request.TrapName.{TrapName}
+use Rattle.pg_ir.specs.Program.{NumberedProgram}
+use Rattle.pg_run_objects.specs.Sync as sync
+use Rattle.pg_run_thread.specs.declared.action.Action.{Action}
+use Rattle.pg_run_thread.specs.declared.action.Action.TheVariants as actions
+use Rattle.pg_run_trace.specs.declared.step.Happening.{Happening}
+use Rattle.pg_run_trace.specs.declared.step.Step.{Step}
+use Rattle.pg_run_trace.specs.declared.step.StepKind.{StepKind}
+use Rattle.pg_run_trace.specs.declared.step.StepKind.TheVariants as kinds
+use Rattle.pg_run_trace.specs.declared.turn.Turn.{Turn}
+use Rattle.pg_run_trace.specs.Races.{recorded, reply_in}
+use Rattle.pg_run_trace.specs.Steps.{happening_in}
+use Rattle.pg_run.specs.declared.guided_end.GuidedEnd.TheVariants as ends
+use Rattle.pg_run.specs.MachineStep.{trap_of}
+use Rattle.pg_run.specs.Permitted.{end_before, has_spent, trapped}
+use Rattle.pg_run.specs.State.{State, next_of}
+use Rattle.pg_law_order.specs.Good.{replies_of}
+use Rattle.pg_law_runs.specs.Cuts.{IsFrontOf}
+use Rattle.pg_law_plan.specs.Answered.{Answered, AreFirst, answered, answers}
+
+-- ---- replies
+
+-- a step that is no event has no reply
+pub no_reply : (k : StepKind) → happening_in k ≡ None → reply_in k ≡ None
+no_reply kinds.Other e = refl
+no_reply (kinds.Branch c) e = refl
+no_reply (kinds.Allocation m n) e = refl
+no_reply (kinds.Event v) e = absurd cc
+no_reply (kinds.Access a) e = go a.event _ e
+  where
+    go : (b : Bool) (v : Happening) → Path (Option Happening) (if b then Some v else None) None → Path (Option ℕ) (if b then Some 0 else None) None
+    go true v h = absurd cc
+    go false v h = refl
+
+abbrev pub given : Answered → Option ℕ
+given a = a.reply
+
+pub replies_are : (xs : List Step) → replies_of xs ≡ filter_map given (answers xs)
+replies_are [] = refl
+replies_are (x ∷ xs) = go (happening_in x.kind) refl (replies_are xs)
+  where
+    go : (o : Option Happening) → happening_in x.kind ≡ o → replies_of xs ≡ filter_map given (answers xs)
+        → replies_of (x ∷ xs) ≡ filter_map given (map answered (cond (is_some (happening_in x.kind)) (x ∷ filter recorded.is_event xs) (filter recorded.is_event xs)))
+    go None e ih = rw (e, no_reply x.kind e) ih
+    go (Some h) e ih = rw e (ap (λ (l : List ℕ). cons_option (reply_in x.kind) l) ih)
+
+pub first_replies : (xs ys : List Step) → AreFirst (answers xs) (answers ys) → IsFrontOf (replies_of xs) (replies_of ys)
+first_replies xs ys f = (
+  filter_map given f.0,
+  ap (λ (l : List ℕ). l ++ filter_map given f.0) (replies_are xs) ∙ sym (filter_map-append given (answers xs) f.0) ∙ ap (filter_map given) f.1 ∙ sym (replies_are ys),
+)
+
+-- ---- traps
+
+-- an action whose checks hold traps by itself
+pub own_trap : (s : State) (t : ℕ) (a : Action) (name : TrapName) → ((q : Request) → a ≡ actions.Event q → sync.check s.sync t q ≡ None) → trap_of s t a ≡ Some name
+    → a ≡ actions.Trap name
+own_trap s t (actions.Trap n) name h e = let k : n ≡ name = cc in ap (λ (i : TrapName). actions.Trap i) k
+own_trap s t (actions.Event q) name h e = let k : None ≡ Some name = sym (h q refl) ∙ e in absurd cc
+own_trap s t actions.Ended name h e = absurd cc
+own_trap s t actions.Local name h e = absurd cc
+own_trap s t (actions.In i) name h e = absurd cc
+own_trap s t actions.InLen name h e = absurd cc
+own_trap s t (actions.Load r) name h e = absurd cc
+own_trap s t (actions.Store r n) name h e = absurd cc
+
+trap_name : (s : State) (t : ℕ) (o : Option TrapName) (name : TrapName) (id : InstrId) → trapped s t o ≡ ends.Trap name id → o ≡ Some name
+trap_name s t None name id e = absurd cc
+trap_name s t (Some n) name id e = let k : n ≡ name = cc in ap (λ (i : TrapName). Some i) k
+
+pub trap_before : (p : NumberedProgram) (xs : List Step) (s : State) (u : Turn) (us : List Turn) (name : TrapName) (id : InstrId) → end_before p xs s (u ∷ us) ≡ ends.Trap name id
+    → trap_of s u.thread.0 (next_of p s u.thread.0) ≡ Some name
+trap_before p xs s u us name id e = go (has_spent xs u.thread.0) e
+  where
+    go : (b : Bool) → (if b then ends.Budget u.thread else trapped s u.thread.0 (trap_of s u.thread.0 (next_of p s u.thread.0))) ≡ ends.Trap name id
+        → trap_of s u.thread.0 (next_of p s u.thread.0) ≡ Some name
+    go true k = absurd cc
+    go false k = trap_name s u.thread.0 (trap_of s u.thread.0 (next_of p s u.thread.0)) name id k
+
+-- ---- exits
+
+no_exit : (s : State) (t : ℕ) (o : Option TrapName) (value : ℤ) → trapped s t o ≡ ends.Exit value → ⊥
+no_exit s t None value e = absurd cc
+no_exit s t (Some name) value e = absurd cc
+
+-- where a run exits no turn is left
+pub none_left : (p : NumberedProgram) (xs : List Step) (s : State) (us : List Turn) (value : ℤ) → end_before p xs s us ≡ ends.Exit value → us ≡ []
+none_left p xs s [] value e = refl
+none_left p xs s (u ∷ us) value e = go (has_spent xs u.thread.0) e
+  where
+    go : (b : Bool) → (if b then ends.Budget u.thread else trapped s u.thread.0 (trap_of s u.thread.0 (next_of p s u.thread.0))) ≡ ends.Exit value → u ∷ us ≡ []
+    go true k = absurd cc
+    go false k = absurd (no_exit s u.thread.0 (trap_of s u.thread.0 (next_of p s u.thread.0)) value k)
+
+-- a front that isn't shorter is the whole
+pub nothing : {A : Type 0} (xs ys rest : List A) → xs ++ rest ≡ ys → length ys ≤ length xs → xs ≡ ys
+nothing xs ys [] e h = sym (append-nil xs) ∙ e
+nothing xs ys (a ∷ rest) e h = let k = ap length e in let l = length-append xs (a ∷ rest) in absurd (omega (arith, k, l, h))

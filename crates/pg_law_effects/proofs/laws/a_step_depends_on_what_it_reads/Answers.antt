@@ -1,0 +1,9 @@
+use Rattle.pg_law_effects.proofs.Agrees.{effect_alike}
+use Rattle.pg_law_effects.proofs.Tells.{tells_alike}
+use Rattle.pg_law_effects.proofs.laws.a_step_depends_on_what_it_reads.Goals as goal
+
+pub returns-clause-effects : goal.returns-clause-effects
+returns-clause-effects c = effect_alike
+
+pub returns-clause-steps : goal.returns-clause-steps
+returns-clause-steps c = tells_alike

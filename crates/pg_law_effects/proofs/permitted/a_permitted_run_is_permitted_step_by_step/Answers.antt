@@ -1,0 +1,5 @@
+use Rattle.pg_law_effects.proofs.Permits.{permitted_is}
+use Rattle.pg_law_effects.proofs.permitted.a_permitted_run_is_permitted_step_by_step.Goals as goal
+
+pub returns : goal.returns
+returns c = permitted_is

@@ -1,0 +1,5 @@
+use Rattle.pg_law_effects.proofs.Permits.{steps_join}
+use Rattle.pg_law_effects.proofs.permitted.permitted_steps_join.Goals as goal
+
+pub returns : goal.returns
+returns c = steps_join

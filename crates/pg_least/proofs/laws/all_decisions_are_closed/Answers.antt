@@ -1,5 +1,0 @@
-use Rattle.pg_least.proofs.Closes.{all_closed}
-use Rattle.pg_least.proofs.laws.all_decisions_are_closed.Goals as goal
-
-pub returns : goal.returns
-returns c = λ R. all_closed R

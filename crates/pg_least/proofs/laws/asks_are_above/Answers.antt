@@ -1,5 +1,0 @@
-use Rattle.pg_least.proofs.Larger.{asks_above}
-use Rattle.pg_least.proofs.laws.asks_are_above.Goals as goal
-
-pub returns : goal.returns
-returns c = λ R keeps d e closed within x h. asks_above R keeps d e closed within x h

@@ -1,5 +1,0 @@
-use Rattle.pg_least.proofs.Closes.{asks_none, closed_where}
-use Rattle.pg_least.proofs.laws.closed_decisions_ask_for_nothing.Goals as goal
-
-pub returns : goal.returns
-returns c = λ R d. (λ closed. asks_none R d closed, λ h. closed_where R d h)

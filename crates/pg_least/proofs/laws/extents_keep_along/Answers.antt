@@ -1,5 +1,0 @@
-use Rattle.pg_least.proofs.Goes.{goes_keep}
-use Rattle.pg_least.proofs.laws.extents_keep_along.Goals as goal
-
-pub returns : goal.returns
-returns c = λ R goes. goes_keep R goes

@@ -1,5 +1,0 @@
-use Rattle.pg_least.proofs.Admits.{known_stays}
-use Rattle.pg_least.proofs.laws.known_values_stay_known.Goals as goal
-
-pub returns : goal.returns
-returns c = λ R keeps d e within. known_stays R keeps d e within

@@ -1,5 +1,0 @@
-use Rattle.pg_least.proofs.Whole.{plain_in}
-use Rattle.pg_least.proofs.laws.steps_left_out_are_no_events.Goals as goal
-
-pub returns : goal.returns
-returns c = λ R keeps d. plain_in R keeps d

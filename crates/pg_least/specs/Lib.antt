@@ -1,4 +1,0 @@
-pub mod Keeps
-pub mod Laws
-pub mod Along
-pub mod Kept

@@ -1,5 +1,0 @@
-use Rattle.pg_machine.proofs.Marks.{AreMarked}
-use Rattle.pg_machine.proofs.gated.marked.Given as goal
-
-abbrev pub invariant-loop-id : goal.invariant-loop-id
-invariant-loop-id l = AreMarked l.ids l.id-index l.marks.items

@@ -1,5 +1,0 @@
-use Rattle.pg_machine.proofs.GuidedRuns.{turn_is_itself}
-use Rattle.pg_machine.proofs.guided_laws.equal_turns_are_one_turn.Goals as goal
-
-pub returns : goal.returns
-returns c = turn_is_itself

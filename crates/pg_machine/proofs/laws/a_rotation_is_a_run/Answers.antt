@@ -1,5 +1,0 @@
-use Rattle.pg_machine.proofs.Runs.{rotation_runs}
-use Rattle.pg_machine.proofs.laws.a_rotation_is_a_run.Goals as goal
-
-pub returns : goal.returns
-returns c = rotation_runs

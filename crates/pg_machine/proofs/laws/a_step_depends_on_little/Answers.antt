@@ -1,5 +1,0 @@
-use Rattle.pg_machine.proofs.Locality.{steps_alike}
-use Rattle.pg_machine.proofs.laws.a_step_depends_on_little.Goals as goal
-
-pub returns : goal.returns
-returns c = steps_alike

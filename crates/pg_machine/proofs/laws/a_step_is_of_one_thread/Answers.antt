@@ -1,5 +1,0 @@
-use Rattle.pg_machine.proofs.Locality.{others_keep}
-use Rattle.pg_machine.proofs.laws.a_step_is_of_one_thread.Goals as goal
-
-pub returns : goal.returns
-returns c = others_keep

@@ -1,5 +1,0 @@
-use Rattle.pg_machine.proofs.Locality.{event_told}
-use Rattle.pg_machine.proofs.laws.a_step_tells_its_event.Goals as goal
-
-pub returns : goal.returns
-returns c = event_told

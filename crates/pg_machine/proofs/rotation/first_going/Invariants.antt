@@ -1,6 +1,0 @@
-use Rattle.std.proofs.Common.{◌≡◌, None}
-use Rattle.pg_machine.specs.Rotation.{first_true, hasnt_ended}
-use Rattle.pg_machine.proofs.rotation.first_going.Given as goal
-
-abbrev pub invariant-loop-t : goal.invariant-loop-t
-invariant-loop-t l = first_true (hasnt_ended l.p l.state) l.t ≡ None

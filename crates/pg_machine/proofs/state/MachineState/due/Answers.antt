@@ -1,5 +1,0 @@
-use Rattle.pg_machine.proofs.Dues.{ready_if_due}
-use Rattle.pg_machine.proofs.state.MachineState.due.Goals as goal
-
-pub returns-clause-ready : goal.returns-clause-ready
-returns-clause-ready c = ready_if_due c.args.gated.now c.args.p.now c.args.turn.now c.args.self.now c.args.action.now c.due_by.result c.due_by.ensures c.requires

@@ -1,6 +1,0 @@
-use Rattle.std.proofs.Common.{◌-◌, length}
-use Rattle.pg_needed.specs.Marks.{AreMarks}
-use Rattle.pg_needed.proofs.marks.mark_all.Given as goal
-
-abbrev pub invariant-loop-k : goal.invariant-loop-k
-invariant-loop-k l = AreMarks l.c l.marks (length l.c.nodes - l.k)

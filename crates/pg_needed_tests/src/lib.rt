@@ -1,5 +1,0 @@
-//! Tests of preconditions over needed nodes: a worked row.
-#![tactic(auto)]
-
-#[cfg(test)]
-mod rows;

@@ -1,7 +1,0 @@
-use Rattle.std.proofs.Common.{refl}
-use Rattle.pg_trace.specs.Races.{races_below}
-use Rattle.pg_order.proofs.examples.a_create_and_a_join_order.Goals as goal
-
-pub returns : goal.returns
-unfolding races_below
-returns c = record { order = refl; races = refl }

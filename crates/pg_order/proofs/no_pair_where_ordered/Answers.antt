@@ -1,5 +1,0 @@
-use Rattle.pg_order.proofs.Pairs.{ordered_none}
-use Rattle.pg_order.proofs.no_pair_where_ordered.Goals as goal
-
-pub returns : goal.returns
-returns c xs = ordered_none xs

@@ -1,5 +1,0 @@
-use Rattle.pg_order.proofs.More.{more_gates}
-use Rattle.pg_order.proofs.recorded.more_gates_keep_the_order.Goals as goal
-
-pub returns : goal.returns
-returns c = more_gates

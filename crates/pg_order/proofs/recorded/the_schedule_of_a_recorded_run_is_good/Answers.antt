@@ -1,5 +1,0 @@
-use Rattle.pg_order.proofs.Schedules.{guides_as}
-use Rattle.pg_order.proofs.recorded.the_schedule_of_a_recorded_run_is_good.Goals as goal
-
-pub returns : goal.returns
-returns c p input xs z can h = guides_as p input can xs z h

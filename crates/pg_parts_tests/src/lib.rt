@@ -1,5 +1,0 @@
-//! Tests of the parts that runs are made of: programs by number, memory, synchronisation objects, threads and traces.
-#![tactic(auto)]
-
-#[cfg(test)]
-mod tests;

@@ -1,5 +1,0 @@
-use Rattle.pg_plans.proofs.Chains.{ordered_finer}
-use Rattle.pg_plans.proofs.more_events_order_more.Goals as goal
-
-pub returns : goal.returns
-returns c V W turns more xs finer a b o = ordered_finer V W finer turns more xs a b o

@@ -1,5 +1,0 @@
-use Rattle.pg_plans.proofs.Runs.{law_of_runs}
-use Rattle.pg_plans.proofs.permitted_runs_are_parts.Goals as goal
-
-pub returns : goal.returns
-returns c M turns s full run h perm = law_of_runs M turns s full h run perm

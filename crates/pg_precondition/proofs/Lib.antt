@@ -1,0 +1,9 @@
+pub mod Added
+pub mod Fills
+pub mod Joins
+pub mod Keeping
+pub mod Lists
+pub mod Marking
+pub mod Numbers
+pub mod Placing
+pub mod Reaching

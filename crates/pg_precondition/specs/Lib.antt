@@ -1,0 +1,7 @@
+pub mod Nodes
+pub mod Values
+pub mod Bounds
+pub mod Scratches
+pub mod Kept
+pub mod Marks
+pub mod Names

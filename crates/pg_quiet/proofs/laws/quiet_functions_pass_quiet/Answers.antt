@@ -1,5 +1,0 @@
-use Rattle.pg_quiet.proofs.Lawful.{passes_quiet}
-use Rattle.pg_quiet.proofs.laws.quiet_functions_pass_quiet.Goals as goal
-
-pub returns : goal.returns
-returns c = λ p gated sums f xs h i x at own. passes_quiet p gated sums f xs h i x at own

@@ -1,5 +1,0 @@
-use Rattle.pg_quiet.proofs.Lawful.{reaches_quiet}
-use Rattle.pg_quiet.proofs.laws.quiet_functions_reach_quiet.Goals as goal
-
-pub returns : goal.returns
-returns c = λ p gated sums f xs h g r. reaches_quiet p gated sums f xs h g r

@@ -1,6 +1,0 @@
-use Rattle.std.proofs.Common.{◌<◌, ◌≤◌, ℕ}
-use Rattle.pg_quiet.specs.Reaches.{reach_at}
-use Rattle.pg_quiet.proofs.reaches.largest.Given as goal
-
-abbrev pub invariant-loop-reach : goal.invariant-loop-reach
-invariant-loop-reach l = (f : ℕ) → f < l.reach-index → (reach_at l.reaches f).size ≤ l.largest

@@ -1,8 +1,0 @@
-use Rattle.std.proofs.Common.{◌≡◌, None, take}
-use Rattle.std.specs.List.{position_from}
-use Rattle.pg_intervals.specs.Pairs.{timed_of}
-use Rattle.pg_trace.specs.Races as races
-use Rattle.pg_race.proofs.ordered.earlier.Given as goal
-
-abbrev pub invariant-loop-i : goal.invariant-loop-i
-invariant-loop-i l = position_from (λ x. races.is_unordered x (timed_of l.y)) 0 (take l.i (races.timed_by races.recorded l.t.steps)) ≡ None

@@ -1,6 +1,0 @@
-use Rattle.std.proofs.Common.{◌≡◌, drop, take}
-use Rattle.pg_trace.specs.Races as races
-use Rattle.pg_race.proofs.ordered.first_pair.Given as goal
-
-abbrev pub invariant-loop-j : goal.invariant-loop-j
-invariant-loop-j l = races.first_unordered l.t.steps ≡ races.unordered_in (take l.j (races.timed_by races.recorded l.t.steps)) l.j (drop l.j (races.timed_by races.recorded l.t.steps))

@@ -1,4 +1,0 @@
-pub mod Firsts
-pub mod Links
-pub mod Partners
-pub mod Touching

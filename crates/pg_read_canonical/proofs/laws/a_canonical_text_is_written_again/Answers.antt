@@ -1,5 +1,0 @@
-use Rattle.pg_read_canonical.proofs.Fixed.{written_again}
-use Rattle.pg_read_canonical.proofs.laws.a_canonical_text_is_written_again.Goals as goal
-
-pub returns : goal.returns
-returns c = written_again

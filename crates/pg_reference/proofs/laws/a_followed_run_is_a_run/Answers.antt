@@ -1,5 +1,0 @@
-use Rattle.pg_reference.proofs.Runs.{followed_runs}
-use Rattle.pg_reference.proofs.laws.a_followed_run_is_a_run.Goals as goal
-
-pub returns : goal.returns
-returns c = followed_runs

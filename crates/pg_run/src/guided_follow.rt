@@ -1,0 +1,124 @@
+//! Following a schedule from turn to turn.
+
+ghost use Rattle.std.specs.Prelude.{◌≡◌, List, IfOk, OnOk};
+ghost use Rattle.pg_num.specs.declared.limits.TheConstants.{RECORDING_STEP_LIMIT};
+ghost use Rattle.pg_run_trace.specs.declared.step.Step.{Step};
+ghost use Rattle.pg_run.specs.Follow.{end_as, followed_as, following_of, reached};
+
+use crate::gated::Gated;
+use crate::guided::{Stopped, guide_along};
+use crate::guided_end::GuidedEnd;
+use crate::run::Run;
+use pg_ir::Program;
+use pg_num::limits::RECORDING_STEP_LIMIT;
+use pg_run_trace::{Schedule, Trace};
+use std::alloc::{AllocError, Global};
+
+/// What following a schedule gives.
+#[derive(Drop)]
+pub enum Followed {
+    /// The guided run exits: its steps, what it printed, and main's value.
+    Exit {
+        trace: Trace,
+        output: Vec<u8>,
+        value: i32,
+    },
+    /// The guided run strays at this turn.
+    Strayed(u32),
+    /// The guided run ends by a trap or a spent budget, or would take one step more than a recording may
+    /// have.
+    Unfinished,
+}
+
+/// What following a schedule gives beside its steps.
+#[derive(Drop)]
+pub enum FollowEnd {
+    /// The guided run exits: what it printed, and main's value.
+    Exit { output: Vec<u8>, value: i32 },
+    /// The guided run strays at this turn.
+    Strayed(u32),
+    /// The guided run ends by a trap or a spent budget, or would take one step more than a recording may
+    /// have.
+    Unfinished,
+}
+
+/// What a guided run of few enough steps gives.
+fn answer(run: Stopped) -> FollowEnd
+    ensures { (xs : List Step) → end_as result xs ≡ reached xs run.state.printed run.turns run.end }
+{
+    match run.end {
+        GuidedEnd::Exit(value) => FollowEnd::Exit {
+            output: run.state.into_printed(),
+            value,
+        },
+        GuidedEnd::Strayed => FollowEnd::Strayed(run.turns),
+        _ => FollowEnd::Unfinished,
+    }
+}
+
+/// As `follow`, with its steps in a trace that is there, which has room for as many as a recording may have.
+/// The steps that it had are gone.
+///
+/// # Errors
+///
+/// Where no memory is left for it.
+#[tactic(auto, unfolding(crate::specs::Follow::following_of))]
+pub fn follow_into(
+    alloc: Global,
+    p: &Program,
+    input: &[i64],
+    s: &Schedule,
+    trace: &mut Trace,
+) -> Result<FollowEnd, AllocError>
+    requires room { trace.old.room ≡ RECORDING_STEP_LIMIT }
+    ensures followed { IfOk result (λ f. end_as f trace.new.steps ≡ following_of p.now input.now s.now.turns s.now.gated) }
+    ensures room { OnOk result (trace.new.room ≡ RECORDING_STEP_LIMIT) }
+{
+    let gated = Gated::new(alloc, p, s.gated.as_slice())?;
+    let run = Run {
+        alloc,
+        program: p,
+        input,
+        gated: &gated,
+    };
+    trace.clear();
+    match guide_along(&run, s.turns.as_slice(), trace, true)? {
+        Some(stopped) => Ok(answer(stopped)),
+        None => Ok(FollowEnd::Unfinished),
+    }
+}
+
+/// What following gives, with its steps.
+fn with_trace(end: FollowEnd, trace: Trace) -> Followed
+    ensures { followed_as result ≡ end_as end trace.steps }
+{
+    match end {
+        FollowEnd::Exit { output, value } => Followed::Exit {
+            trace,
+            output,
+            value,
+        },
+        FollowEnd::Strayed(turns) => Followed::Strayed(turns),
+        FollowEnd::Unfinished => Followed::Unfinished,
+    }
+}
+
+/// The guided run of a program on an input along a schedule, with its trace: exits, strays at a turn, or
+/// is unfinished, where it ends by a trap or a spent budget, or would take one step more than a
+/// recording may have.
+///
+/// # Errors
+///
+/// Where no memory is left for it.
+pub fn follow(
+    alloc: Global,
+    p: &Program,
+    input: &[i64],
+    s: &Schedule,
+) -> Result<Followed, AllocError>
+    ensures followed { IfOk result (λ f. followed_as f ≡ following_of p.now input.now s.now.turns s.now.gated) }
+{
+    let mut trace = Trace::with_room(alloc, RECORDING_STEP_LIMIT as usize)?;
+    let end = follow_into(alloc, p, input, s, &mut trace)?;
+    Ok(with_trace(end, trace))
+}

@@ -1,0 +1,45 @@
+-- The local state of a thread.
+use Rattle.std.specs.Prelude.{ℕ, ◌+◌, ◌*◌, List, [], ◌∷◌, length, Bool, false, Option, None, replicate}
+use Rattle.pg_num.specs.declared.layout.TheConstants.{GLOBALS_END, REGION_GRANULES}
+use Rattle.pg_run_thread.specs.declared.region.Region.{Region}
+use Rattle.pg_ir.specs.Program.{NumberedProgram, types_of, entry_of}
+
+-- one call: its function, the number of its present instruction, the value of each register that was
+-- set, and how many granules of the thread's stack it and the calls below it have
+pub record Frame : Type 0 where
+  pub function : ℕ
+  pub place : ℕ
+  pub registers : List (Option ℕ)
+  pub height : ℕ
+
+-- a thread by its number, whether it has begun, whether it has done the first half of a wait, its
+-- calls, the present one first, and how many granules its heap has; one that has ended has no call
+pub record LocalState : Type 0 where
+  pub thread : ℕ
+  pub begun : Bool
+  pub halfway : Bool
+  pub frames : List Frame
+  pub heap : ℕ
+
+-- a thread that will begin with function f
+unfoldable pub fresh : NumberedProgram → ℕ → ℕ → LocalState
+fresh p t f = record {
+  thread = t;
+  begun = false;
+  halfway = false;
+  frames = record { function = f; place = entry_of p f; registers = replicate (length (types_of p f)) None; height = 0 } ∷ [];
+  heap = 0;
+}
+
+-- ---- a thread's region of memory: its stack grows from the front, its heap from the end
+
+-- the granule at which the region of a thread begins
+abbrev pub region_start : ℕ → ℕ
+region_start t = GLOBALS_END + t * REGION_GRANULES
+
+abbrev pub top_height : List Frame → ℕ
+top_height [] = 0
+top_height (f ∷ fs) = f.height
+
+abbrev pub region_of : LocalState → Region
+region_of l = record { thread = l.thread; stack = top_height l.frames; heap = l.heap }

@@ -1,0 +1,29 @@
+-- The name of each kind of event, as it is printed.
+use Rattle.std.specs.Prelude.{ℕ, List, codes}
+use Rattle.pg_run_trace.specs.declared.turn.TurnKind.{TurnKind}
+use Rattle.pg_run_trace.specs.declared.turn.TurnKind.TheVariants as kinds
+
+abbrev pub kind_text : TurnKind → List ℕ
+kind_text kinds.Start = codes "start"
+kind_text kinds.Exit = codes "exit"
+kind_text kinds.Create = codes "create"
+kind_text kinds.Join = codes "join"
+kind_text kinds.MutexInit = codes "mutex-init"
+kind_text kinds.Lock = codes "lock"
+kind_text kinds.Trylock = codes "trylock"
+kind_text kinds.Unlock = codes "unlock"
+kind_text kinds.MutexDestroy = codes "mutex-destroy"
+kind_text kinds.CondInit = codes "cond-init"
+kind_text kinds.Wait = codes "wait"
+kind_text kinds.Wake = codes "wake"
+kind_text kinds.Signal = codes "signal"
+kind_text kinds.Broadcast = codes "broadcast"
+kind_text kinds.CondDestroy = codes "cond-destroy"
+kind_text kinds.BarrierInit = codes "barrier-init"
+kind_text kinds.Arrive = codes "arrive"
+kind_text kinds.Leave = codes "leave"
+kind_text kinds.BarrierDestroy = codes "barrier-destroy"
+kind_text kinds.Out = codes "out"
+kind_text kinds.Putchar = codes "putchar"
+kind_text kinds.Load = codes "load"
+kind_text kinds.Store = codes "store"

@@ -1,5 +1,0 @@
-use Rattle.pg_runs.proofs.Ends.{ends}
-use Rattle.pg_runs.proofs.a_full_run_is_maximal.Goals as goal
-
-pub returns : goal.returns
-returns c = ends

@@ -1,5 +1,0 @@
-use Rattle.pg_runs.proofs.Deeds.{determined}
-use Rattle.pg_runs.proofs.a_step_is_determined.Goals as goal
-
-pub returns : goal.returns
-returns c = determined

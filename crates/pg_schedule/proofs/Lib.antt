@@ -1,0 +1,12 @@
+pub mod IntervalWalk
+pub mod Positions
+pub mod Greatest
+pub mod Notes
+pub mod TableWalk
+pub mod AnsweredSteps
+pub mod Below
+pub mod Earlier
+pub mod Linked
+pub mod Steps
+pub mod RaceTable
+pub mod Chosen

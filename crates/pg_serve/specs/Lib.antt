@@ -1,9 +1,0 @@
-pub mod Lines
-pub mod Sessions
-pub mod Recordings
-pub mod Views
-pub mod Progress
-pub mod Texts
-pub mod Faults
-pub mod Trials
-pub mod Shows

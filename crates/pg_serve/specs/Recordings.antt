@@ -1,9 +1,0 @@
--- What comes of recording an input.
-use Rattle.std.specs.Prelude.{ℤ, List}
-use Rattle.pg_serve.specs.declared.runner.Recording.{Recording}
-use Rattle.pg_serve.specs.declared.runner.Recording.TheVariants.{Kept, Refused}
-use Rattle.pg_serve.specs.Sessions.{Runs}
-
-abbrev pub IsRecording : {V : Type 0} → Runs V → List ℤ → Recording V → Type 0
-IsRecording runs input (Kept entry run) = runs.recorded input entry run.output.items run.end
-IsRecording runs input (Refused refusal output) = runs.refused input refusal output.items

@@ -1,0 +1,5 @@
+use Rattle.pg_session.proofs.Numbers.{Told}
+use Rattle.pg_session.proofs.lines.numbers_of.Given as goal
+
+abbrev pub invariant-loop-at : goal.invariant-loop-at
+invariant-loop-at l = Told l.line l.numbers.items l.start l.at

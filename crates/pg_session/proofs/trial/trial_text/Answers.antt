@@ -1,5 +1,0 @@
-use Rattle.pg_session.proofs.TrialEnds.{trial_of}
-use Rattle.pg_session.proofs.trial.trial_text.Goals as goal
-
-pub returns : goal.returns
-returns c = trial_of _ c.new-runner.result _ _ c.new-runner.ensures.program c.new-runner.ensures.quantum c.in_ok-text.ensures.text

@@ -1,0 +1,68 @@
+//! What a session asks of a program.
+ghost use Rattle.std.specs.Prelude.{◌≡◌, ◌≤◌, true, length, IfOk};
+ghost use Rattle.pg_num.specs.declared.limits.TheConstants.{NUMBERS_LIMIT};
+ghost use Rattle.pg_session.specs.Sessions.{Runs, IsEntryOf};
+ghost use Rattle.pg_session.specs.Recordings.{IsRecording};
+
+use pg_cache::Admits;
+use pg_ir::{InstrId, TrapName};
+use pg_session_texts::EndLine;
+use std::alloc::{AllocError, Global};
+
+/// What a run along a schedule printed, and how it ended.
+#[derive(Drop)]
+pub struct Run {
+    pub output: Vec<u8>,
+    pub end: EndLine,
+}
+
+/// Why a recording gives no entry.
+#[derive(Clone, Copy, Debug, PartialEq, Eq)]
+pub enum Refusal {
+    /// It ended by this trap, at this instruction.
+    Trap(TrapName, InstrId),
+    /// It took all the steps that a recording may take.
+    Budget,
+}
+
+/// What came of recording an input.
+#[derive(Drop)]
+pub enum Recording<E: Drop> {
+    /// An entry, and the run along its schedule.
+    Kept(E, Run),
+    /// No entry, and what was printed.
+    Refused(Refusal, Vec<u8>),
+}
+
+/// Records the runs of a program, and runs it along schedules.
+pub trait Runner {
+    /// What is kept of a recording. It says of an input whether its schedule may be used for it.
+    type Entry: Admits + Drop;
+
+    // What is run. No call changes it.
+    ghost Subject: { Type 0 };
+
+    ghost subject: { Self → Subject };
+
+    // What comes of recording an input, and of a run along an entry's schedule.
+    ghost runs: { Subject → Runs Self.Entry };
+
+    /// Records a run on an input.
+    fn record(&mut self, alloc: Global, input: &[i64]) -> Result<Recording<Self::Entry>, AllocError>
+        requires { length input.now ≤ NUMBERS_LIMIT }
+        ensures gives { IfOk result (IsRecording (runs (subject self.old)) input.now) }
+        ensures stays { subject self.new ≡ subject self.old };
+
+    /// Runs along the schedule of an entry of the same program, which admits the input.
+    fn run_along(
+        &mut self,
+        alloc: Global,
+        entry: &Self::Entry,
+        input: &[i64],
+    ) -> Result<Run, AllocError>
+        requires few { length input.now ≤ NUMBERS_LIMIT }
+        requires entry { IsEntryOf (runs (subject self.old)) entry.now }
+        requires admitted { Self.Entry.test (Self.Entry.meaning entry.now) input.now ≡ true }
+        ensures gives { IfOk result (λ r. (runs (subject self.old)).along entry.now input.now r.output.items r.end) }
+        ensures stays { subject self.new ≡ subject self.old };
+}

@@ -1,0 +1,156 @@
+//! A session over a source and a sink.
+ghost use Rattle.std.specs.Prelude.{◌≡◌, ◌<◌, ◌+◌, ◌⊎◌, [], false, length, IfOk, IfSome, OnOk, IsErrOf};
+ghost use Rattle.pg_io.specs.Faults.{Rose};
+ghost use Rattle.pg_io.specs.Streams.{TakesAtMost};
+ghost use Rattle.pg_num.specs.declared.limits.TheConstants.{SESSION_INPUT_LIMIT};
+ghost use Rattle.pg_session.specs.Lines.{lines_of};
+ghost use Rattle.pg_session.specs.Progress.{HasAll, HasAnswered, HasCut, HasTaken};
+ghost use Rattle.pg_session.specs.Sessions.{IsExact, admits_by, begin};
+ghost use Rattle.pg_session.specs.Texts.{ServesAll, ServesFront, ServesLimit, ServesTaken};
+
+use crate::fault::ServeFault;
+use crate::runner::Runner;
+use crate::session::{Session, end_line, take_piece};
+use pg_io::{Failed, Sink, Source};
+use pg_num::limits::SESSION_INPUT_LIMIT;
+use std::alloc::Global;
+
+/// The most bytes that one call asks of a source.
+const PIECE: usize = 4_096;
+
+// Takes pieces of the source until it ends, or has given as many bytes as a session takes. Whether it ended.
+fn take_pieces<R: Runner, S: Source, K: Sink>(
+    alloc: Global,
+    runner: &mut R,
+    session: &mut Session<R::Entry>,
+    src: &mut S,
+    out: &mut K,
+) -> Result<bool, ServeFault>
+    requires exact { IsExact R.Entry.meaning }
+    requires kept { session.old.cache ≡ begin }
+    requires line { session.old.line.items ≡ [] }
+    ensures taken { IfOk result (λ ended. HasTaken (admits_by R.Entry.meaning R.Entry.test) (R.runs (R.subject runner.old)) (S.rest src.old) (S.rest src.new) (K.taken out.old) (K.taken out.new)
+        session.new.cache session.new.line.items ended) }
+    ensures read_fault { IsErrOf result ServeFault.ReadFault →
+        HasAnswered (admits_by R.Entry.meaning R.Entry.test) (R.runs (R.subject runner.old)) (S.rest src.old) (S.rest src.new) (K.taken out.old) (K.taken out.new) }
+    ensures cut { (IsErrOf result ServeFault.WriteFault ⊎ IsErrOf result ServeFault.OutOfMemory) →
+        HasCut (admits_by R.Entry.meaning R.Entry.test) (R.runs (R.subject runner.old)) (S.rest src.old) (S.rest src.new) (K.taken out.old) (K.taken out.new) }
+    ensures within { IsErrOf result ServeFault.InputLimit → ⊥ }
+    ensures takes { TakesAtMost (S.rest src.old) (S.rest src.new) SESSION_INPUT_LIMIT }
+    ensures read_cause { IsErrOf result ServeFault.ReadFault → Rose (S.faults src.old) (S.faults src.new) }
+    ensures read_count { IsErrOf result ServeFault.ReadFault ⊎ (S.faults src.new ≡ S.faults src.old) }
+    ensures write_cause { IsErrOf result ServeFault.WriteFault → Rose (K.faults out.old) (K.faults out.new) }
+    ensures write_count { IsErrOf result ServeFault.WriteFault ⊎ (K.faults out.new ≡ K.faults out.old) }
+    ensures stays { R.subject runner.new ≡ R.subject runner.old }
+{
+    let mut piece = [0; PIECE];
+    let mut taken: usize = 0;
+    while taken < SESSION_INPUT_LIMIT {
+        let room = PIECE.min(SESSION_INPUT_LIMIT - taken);
+        match src.read(&mut piece[..room]) {
+            Ok(0) => return Ok(true),
+            Ok(n) => {
+                take_piece(alloc, runner, session, &piece[..n], out)?;
+                taken += n;
+            }
+            Err(Failed) => return Err(ServeFault::ReadFault),
+        }
+    }
+    Ok(false)
+}
+
+// Asks whether the source has another byte.
+fn must_end<S: Source>(src: &mut S) -> Result<(), ServeFault>
+    ensures ended { OnOk result (IfSome (S.rest src.old) (λ bytes. bytes ≡ [])) }
+    ensures more { IsErrOf result ServeFault.InputLimit → IfSome (S.rest src.old) (λ bytes. 0 < length bytes) }
+    ensures no_write { IsErrOf result ServeFault.WriteFault → ⊥ }
+    ensures no_memory { IsErrOf result ServeFault.OutOfMemory → ⊥ }
+    ensures takes { TakesAtMost (S.rest src.old) (S.rest src.new) 1 }
+    ensures cause { IsErrOf result ServeFault.ReadFault → Rose (S.faults src.old) (S.faults src.new) }
+    ensures fault_takes_none { IsErrOf result ServeFault.ReadFault → TakesAtMost (S.rest src.old) (S.rest src.new) 0 }
+    ensures count { IsErrOf result ServeFault.ReadFault ⊎ (S.faults src.new ≡ S.faults src.old) }
+{
+    let mut byte = [0; 1];
+    match src.read(&mut byte) {
+        Ok(0) => Ok(()),
+        Ok(_) => Err(ServeFault::InputLimit),
+        Err(Failed) => Err(ServeFault::ReadFault),
+    }
+}
+
+// Takes all of the source, unless it has more bytes than a session takes.
+fn take_all<R: Runner, S: Source, K: Sink>(
+    alloc: Global,
+    runner: &mut R,
+    session: &mut Session<R::Entry>,
+    src: &mut S,
+    out: &mut K,
+) -> Result<(), ServeFault>
+    requires exact { IsExact R.Entry.meaning }
+    requires kept { session.old.cache ≡ begin }
+    requires line { session.old.line.items ≡ [] }
+    ensures all { OnOk result (HasAll (admits_by R.Entry.meaning R.Entry.test)
+        (R.runs (R.subject runner.old)) (S.rest src.old) (K.taken out.old) (K.taken out.new) session.new.cache session.new.line.items) }
+    ensures input_limit { IsErrOf result ServeFault.InputLimit →
+        IfSome (S.rest src.old) (ServesLimit (admits_by R.Entry.meaning R.Entry.test) (R.runs (R.subject runner.old)) (K.taken out.old) (K.taken out.new)) }
+    ensures read_fault { IsErrOf result ServeFault.ReadFault →
+        IfSome (S.rest src.old) (ServesTaken (admits_by R.Entry.meaning R.Entry.test) (R.runs (R.subject runner.old)) (S.rest src.new) (K.taken out.old) (K.taken out.new)) }
+    ensures cut { (IsErrOf result ServeFault.WriteFault ⊎ IsErrOf result ServeFault.OutOfMemory) →
+        IfSome (S.rest src.old) (λ input. ServesFront (admits_by R.Entry.meaning R.Entry.test) (R.runs (R.subject runner.old)) (lines_of input) (K.taken out.old) (K.taken out.new)) }
+    ensures takes { TakesAtMost (S.rest src.old) (S.rest src.new) (SESSION_INPUT_LIMIT + 1) }
+    ensures read_within { IsErrOf result ServeFault.ReadFault → TakesAtMost (S.rest src.old) (S.rest src.new) SESSION_INPUT_LIMIT }
+    ensures read_cause { IsErrOf result ServeFault.ReadFault → Rose (S.faults src.old) (S.faults src.new) }
+    ensures read_count { IsErrOf result ServeFault.ReadFault ⊎ (S.faults src.new ≡ S.faults src.old) }
+    ensures write_cause { IsErrOf result ServeFault.WriteFault → Rose (K.faults out.old) (K.faults out.new) }
+    ensures write_count { IsErrOf result ServeFault.WriteFault ⊎ (K.faults out.new ≡ K.faults out.old) }
+    ensures stays { R.subject runner.new ≡ R.subject runner.old }
+{
+    let ended = take_pieces(alloc, runner, session, src, out)?;
+    if ended {
+        return Ok(());
+    }
+    must_end(src)?;
+    Ok(())
+}
+
+/// Answers the lines of a source, and writes each reply before the next read. A line is answered `refused line` where it
+/// isn't one of numbers; else by the least-numbered entry of the last `CACHE_LIMIT` that admits it; else by a recording, whose
+/// entry is kept. At most `SESSION_INPUT_LIMIT` bytes are taken, and one more to see that there is one.
+///
+/// # Errors
+///
+/// `ReadFault` and `WriteFault` where a read or a write failed, `InputLimit` where the source has more bytes than a session
+/// takes, `OutOfMemory` where there was no memory.
+pub fn serve<R: Runner, S: Source, K: Sink>(
+    alloc: Global,
+    runner: &mut R,
+    src: &mut S,
+    out: &mut K,
+) -> Result<(), ServeFault>
+    requires { IsExact R.Entry.meaning }
+    ensures done { OnOk result (IfSome (S.rest src.old) (ServesAll (admits_by R.Entry.meaning R.Entry.test) (R.runs (R.subject runner.old)) (K.taken out.old) (K.taken out.new))) }
+    ensures input_limit { IsErrOf result ServeFault.InputLimit →
+        IfSome (S.rest src.old) (ServesLimit (admits_by R.Entry.meaning R.Entry.test) (R.runs (R.subject runner.old)) (K.taken out.old) (K.taken out.new)) }
+    ensures read_fault { IsErrOf result ServeFault.ReadFault →
+        IfSome (S.rest src.old) (ServesTaken (admits_by R.Entry.meaning R.Entry.test) (R.runs (R.subject runner.old)) (S.rest src.new) (K.taken out.old) (K.taken out.new)) }
+    ensures write_fault_cuts { IsErrOf result ServeFault.WriteFault →
+        IfSome (S.rest src.old) (λ input. ServesFront (admits_by R.Entry.meaning R.Entry.test) (R.runs (R.subject runner.old)) (lines_of input) (K.taken out.old) (K.taken out.new)) }
+    ensures out_of_memory_cuts { IsErrOf result ServeFault.OutOfMemory →
+        IfSome (S.rest src.old) (λ input. ServesFront (admits_by R.Entry.meaning R.Entry.test) (R.runs (R.subject runner.old)) (lines_of input) (K.taken out.old) (K.taken out.new)) }
+    ensures read_cause { IsErrOf result ServeFault.ReadFault → Rose (S.faults src.old) (S.faults src.new) }
+    ensures read_fault_within { IsErrOf result ServeFault.ReadFault → TakesAtMost (S.rest src.old) (S.rest src.new) SESSION_INPUT_LIMIT }
+    ensures read_count { IsErrOf result ServeFault.ReadFault ⊎ (S.faults src.new ≡ S.faults src.old) }
+    ensures write_cause { IsErrOf result ServeFault.WriteFault → Rose (K.faults out.old) (K.faults out.new) }
+    ensures write_count { IsErrOf result ServeFault.WriteFault ⊎ (K.faults out.new ≡ K.faults out.old) }
+    ensures takes { TakesAtMost (S.rest src.old) (S.rest src.new) (SESSION_INPUT_LIMIT + 1) }
+    ensures stays { R.subject runner.new ≡ R.subject runner.old }
+{
+    let mut session = Session::new(alloc)?;
+    take_all(alloc, runner, &mut session, src, out)?;
+    if session.line.is_empty() {
+        return Ok(());
+    }
+    // The end of the source ends a line that has begun.
+    end_line(alloc, runner, &mut session, out)?;
+    Ok(())
+}

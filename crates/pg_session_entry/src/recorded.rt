@@ -1,0 +1,20 @@
+//! What comes of recording a run.
+
+use crate::entry::Entry;
+use pg_run::Outcome;
+
+/// What comes of recording a run.
+#[derive(Drop)]
+pub enum Record {
+    /// The run exits: its entry, what it printed, and main's value.
+    Kept {
+        entry: Entry,
+        output: Vec<u8>,
+        value: i32,
+    },
+    /// The run ends by a trap, or has taken all the steps that a recording may have: its end, and what it printed.
+    Refused {
+        end: Outcome,
+        output: Vec<u8>,
+    },
+}

@@ -1,0 +1,95 @@
+-- What a session promises of each line of input that it records or answers by reuse: the reply is that of every run of the
+-- program on the line's input that the turns of the recording permit.
+use Rattle.std.specs.Prelude.{◌≡◌, ◌≤◌, ◌<◌, ◌^◌, ◌⊎◌, ℕ, ℤ, List, count_by, length, take, true, Option, Some, slice_get}
+use Rattle.pg_ir.specs.Program.{NumberedProgram}
+use Rattle.pg_precondition.specs.Values.{is_admitted}
+use Rattle.pg_run_trace.specs.declared.schedule.Schedule.{Schedule}
+use Rattle.pg_run_trace.specs.declared.step.Step.{Step}
+use Rattle.pg_run.specs.Permitted.{IsFull, IsPermitted, full_end}
+use Rattle.pg_run.specs.Runs.{events}
+use Rattle.pg_run.specs.State.{State}
+use Rattle.pg_law_runs.specs.Cuts.{CanStep, IsOrderedAlong}
+use Rattle.pg_law_order.specs.Good.{run_along}
+use Rattle.pg_session_texts.specs.declared.reply.EndLine.{EndLine}
+use Rattle.pg_session_texts.specs.declared.reply.ReplyKind.TheVariants.{Recorded, Reused}
+use Rattle.pg_session_entry.specs.Entries.{EntryParts}
+use Rattle.pg_law_reuse.specs.Served.{IsServed, guided_along}
+use Rattle.pg_session.specs.Sessions.{Answer}
+use Rattle.pg_session.specs.Trials.{is_recorded}
+use Rattle.pg_session_runner.specs.Runs.{IsKept, end_line_of}
+
+-- ---- runs that the turns of a schedule permit
+
+-- a run of the program on an input that the schedule's turns permit, with the steps xs that lead to z, as far as it came:
+pub record GoesOn (p : NumberedProgram) (input : List ℤ) (s : Schedule) (xs : List Step) (z : State) : Type 0 where
+  -- the turns order each two of its steps that conflict
+  pub ordered : IsOrderedAlong s.turns xs
+  -- it isn't stuck: it is full, or some thread can step
+  pub goes_on : IsFull s.gated p s.turns xs z ⊎ ((t : ℕ) × CanStep p input s.turns s.gated xs t)
+  -- and it becomes full, since it never has more steps than this
+  pub steps : length xs ≤ length (run_along p input s).trace
+
+-- and once it is full, it is as a reply says:
+pub record IsAsReplied (p : NumberedProgram) (s : Schedule) (xs : List Step) (z : State) (output : List ℕ) (end : EndLine) : Type 0 where
+  -- it printed these bytes
+  pub printed : z.printed ≡ output
+  -- it ended so: with this value of main, by this trap at this instruction, or by this thread's spent budget, after so many turns
+  pub ends : end_line_of (length (events xs)) (full_end p s.turns xs z) ≡ Some end
+
+-- ---- a line that was recorded
+
+-- the line of this place was recorded, and its entry got this number
+pub record IsRecordedLine (p : NumberedProgram) (quantum : ℕ) (inputs : List (Option (List ℤ))) (answers : List Answer) (line number : ℕ) (entry : EntryParts) : Type 0 where
+  -- the line was this input, and this was answered
+  pub input : List ℤ
+  pub is_input : slice_get inputs line ≡ Some (Some input)
+  pub output : List ℕ
+  pub end : EndLine
+  pub is_answer : slice_get answers line ≡ Some (record { kind = Recorded number; output = output; end = Some end })
+  -- so many lines before it were recorded
+  pub numbered : number ≡ count_by (λ (a : Answer). is_recorded a.kind) (take line answers)
+  -- the entry is that of the program's rotation run on that input
+  pub recording : IsKept p quantum input entry output end
+
+-- and the reply is that of every run of the program on the line's input that the entry's turns permit:
+pub record IsServedRecording (p : NumberedProgram) (quantum : ℕ) (inputs : List (Option (List ℤ))) (answers : List Answer) (line number : ℕ) : Type 0 where
+  pub entry : EntryParts
+  pub made : IsRecordedLine p quantum inputs answers line number entry
+  -- each goes on until it is full,
+  pub goes_on : (xs : List Step) (z : State) → IsPermitted p made.input entry.schedule.turns entry.schedule.gated xs z → GoesOn p made.input entry.schedule xs z
+  -- and then is as the reply says
+  pub full : (xs : List Step) (z : State) → IsPermitted p made.input entry.schedule.turns entry.schedule.gated xs z → IsFull entry.schedule.gated p entry.schedule.turns xs z
+      → IsAsReplied p entry.schedule xs z made.output made.end
+  pub served : IsServed p made.input entry.schedule
+
+-- the inputs of the lines are no longer than a slice may be
+abbrev pub AreShort : List (Option (List ℤ)) → Type 0
+AreShort inputs = (line : ℕ) (input : List ℤ) → slice_get inputs line ≡ Some (Some input) → length input < 2 ^ 64
+
+-- ---- a line that was answered by reuse
+
+-- the line of this place was answered by the entry of this number:
+pub record IsReusedLine (p : NumberedProgram) (quantum : ℕ) (inputs : List (Option (List ℤ))) (answers : List Answer) (line number : ℕ) : Type 0 where
+  -- the line was this input, and this was answered: what was printed, and how the run ended
+  pub input : List ℤ
+  pub is_input : slice_get inputs line ≡ Some (Some input)
+  pub output : List ℕ
+  pub end : EndLine
+  pub is_answer : slice_get answers line ≡ Some (record { kind = Reused number; output = output; end = Some end })
+  -- an earlier line was recorded, as the entry of that number
+  pub entry : EntryParts
+  pub earlier : ℕ
+  pub before : earlier < line
+  pub made : IsRecordedLine p quantum inputs answers earlier number entry
+  -- the entry's precondition admits the input
+  pub admitted : is_admitted input entry.precondition ≡ true
+  -- the reply is that of the guided run along the entry's schedule
+  pub printed : output ≡ (guided_along p input entry.schedule).state.printed
+  pub ends : end_line_of (guided_along p input entry.schedule).turns (guided_along p input entry.schedule).end ≡ Some end
+  -- each run of the program on the input that the entry's turns permit goes on until it is full,
+  pub goes_on : (xs : List Step) (z : State) → IsPermitted p input entry.schedule.turns entry.schedule.gated xs z → GoesOn p input entry.schedule xs z
+  -- and then is as the reply says
+  pub full : (xs : List Step) (z : State) → IsPermitted p input entry.schedule.turns entry.schedule.gated xs z → IsFull entry.schedule.gated p entry.schedule.turns xs z
+      → IsAsReplied p entry.schedule xs z output end
+  -- and more is said of these runs there: their cuts, the replies of their calls, and the steps of each thread
+  pub served : IsServed p input entry.schedule

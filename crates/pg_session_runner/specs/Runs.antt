@@ -1,0 +1,89 @@
+-- What a session asks of the runs of a program: what comes of recording an input, and of a run along an entry's schedule.
+use Rattle.std.specs.Prelude.{◌≡◌, ◌<◌, ◌≤◌, ◌^◌, ℕ, ℤ, pos, Bool, List, length, Option, Some, None}
+use Rattle.pg_num.specs.declared.limits.TheConstants.{QUANTUM_LIMIT}
+use Rattle.pg_ir.specs.Program.{NumberedProgram}
+use Rattle.pg_precondition.specs.Values.{is_admitted}
+use Rattle.pg_run.specs.declared.guided_end.GuidedEnd.{GuidedEnd}
+use Rattle.pg_run.specs.declared.guided_end.GuidedEnd.TheVariants as guided
+use Rattle.pg_run.specs.declared.outcome.Outcome.{Outcome}
+use Rattle.pg_run.specs.declared.outcome.Outcome.TheVariants as outcomes
+use Rattle.pg_run.specs.Rotation.{rotation_of}
+use Rattle.pg_law_runs.specs.Cuts.{CanRun}
+use Rattle.pg_session_texts.specs.declared.reply.EndLine.{EndLine}
+use Rattle.pg_session_texts.specs.declared.reply.EndLine.TheVariants as ends
+use Rattle.pg_session_texts.specs.Shows.{show_text}
+use Rattle.pg_session_entry.specs.Entries.{EntryParts, IsEntry}
+use Rattle.pg_law_reuse.specs.Served.{IsServed, guided_along}
+use Rattle.pg_session.specs.declared.runner.Refusal.{Refusal}
+use Rattle.pg_session.specs.declared.runner.Refusal.TheVariants as refusals
+use Rattle.pg_session.specs.Sessions.{Runs}
+
+-- ---- recording
+
+-- the rotation run of the program on the input exits: this is the entry of that run, this is what it printed, and this is how
+-- the guided run along the entry's schedule ends, which does all turns
+pub record IsKept (p : NumberedProgram) (quantum : ℕ) (input : List ℤ) (entry : EntryParts) (output : List ℕ) (end : EndLine) : Type 0 where
+  pub value : ℤ
+  pub exits : (rotation_of p input quantum).end ≡ outcomes.Exit value
+  pub is_entry : IsEntry p input (rotation_of p input quantum).trace (rotation_of p input quantum).state entry
+  pub printed : output ≡ (rotation_of p input quantum).state.printed
+  pub ends : end ≡ ends.Exit value (length entry.schedule.turns)
+
+-- how a run ends that isn't kept
+abbrev pub outcome_of : Refusal → Outcome
+outcome_of (refusals.Trap name id) = outcomes.Trap name id
+outcome_of refusals.Budget = outcomes.Budget
+
+-- the rotation run of the program on the input ends so, and this is what it printed
+pub record IsNotKept (p : NumberedProgram) (quantum : ℕ) (input : List ℤ) (refusal : Refusal) (output : List ℕ) : Type 0 where
+  pub ends : (rotation_of p input quantum).end ≡ outcome_of refusal
+  pub printed : output ≡ (rotation_of p input quantum).state.printed
+
+-- ---- runs along an entry's schedule
+
+-- the end line of a guided run that did so many turns; one that strays has none
+abbrev pub end_line_of : ℕ → GuidedEnd → Option EndLine
+end_line_of turns (guided.Exit value) = Some (ends.Exit value turns)
+end_line_of turns (guided.Trap name id) = Some (ends.Trap name id turns)
+end_line_of turns (guided.Budget thread) = Some (ends.Budget thread turns)
+end_line_of turns guided.Strayed = None
+
+-- the guided run of the program on the input along the entry's schedule printed this and ended so, and
+pub record RunsAlong (p : NumberedProgram) (entry : EntryParts) (input : List ℤ) (output : List ℕ) (end : EndLine) : Type 0 where
+  pub printed : output ≡ (guided_along p input entry.schedule).state.printed
+  pub ends : end_line_of (guided_along p input entry.schedule).turns (guided_along p input entry.schedule).end ≡ Some end
+  -- each run of the program on the input that the entry's turns permit is as that run: it goes on until it is full, and then
+  -- has printed the same and ends in the same way
+  pub served : IsServed p input entry.schedule
+
+-- ---- sessions
+
+-- a program, and the quantum of its recordings
+pub record Subject : Type 0 where
+  pub program : NumberedProgram
+  pub quantum : ℕ
+
+-- the runs of a program, recorded in rotation with this quantum
+abbrev pub runs_of : NumberedProgram → ℕ → Runs EntryParts
+runs_of p quantum = record { recorded = IsKept p quantum; refused = IsNotKept p quantum; along = RunsAlong p }
+
+-- what an input must give so that an entry's schedule serves it
+abbrev pub entry_admits : EntryParts → List ℤ → Bool
+entry_admits entry input = is_admitted input entry.precondition
+
+-- the program can run on each input of a session, and the quantum is within its limits
+pub record CanServe (s : Subject) : Type 0 where
+  pub can_run : (input : List ℤ) → length input < 2 ^ 64 → CanRun s.program input
+  pub least : 1 ≤ s.quantum
+  pub most : s.quantum ≤ QUANTUM_LIMIT
+
+-- ---- what is shown of an entry
+
+abbrev pub exit_value : EndLine → ℤ
+exit_value (ends.Exit value turns) = value
+exit_value (ends.Trap name id turns) = pos 0
+exit_value (ends.Budget thread turns) = pos 0
+
+-- the text of `show` for an entry, with what was printed and how the run along its schedule ended
+abbrev pub shown : EntryParts → List ℕ → EndLine → List ℕ
+shown entry output end = show_text entry.schedule entry.ids entry.pinned entry.exact entry.races output (exit_value end)

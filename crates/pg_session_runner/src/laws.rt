@@ -1,0 +1,56 @@
+//! What holds of the entries of a program and of a session's lines: each law is the clause of a function that does nothing.
+ghost use Rattle.std.specs.Prelude.{◌≡◌, ◌<◌, ◌^◌, ℕ, ℤ, List, length, true, Option, Some, slice_get};
+ghost use Rattle.pg_ir.specs.Program.{NumberedProgram};
+ghost use Rattle.pg_cache.specs.Kept.{Kept};
+ghost use Rattle.pg_run.specs.Rotation.{rotation_of};
+ghost use Rattle.pg_law_runs.specs.Cuts.{CanRun};
+ghost use Rattle.pg_session_texts.specs.declared.reply.EndLine.{EndLine};
+ghost use Rattle.pg_session_texts.specs.declared.reply.ReplyKind.TheVariants.{Recorded, Reused};
+ghost use Rattle.pg_session_entry.specs.Entries.{EntryParts, IsEntry};
+ghost use Rattle.pg_law_reuse.specs.Served.{IsServed};
+ghost use Rattle.pg_session.specs.Sessions.{Answer, AnswersAll, begin};
+ghost use Rattle.pg_session_runner.specs.Headline.{AreShort, IsReusedLine, IsServedRecording};
+ghost use Rattle.pg_session_runner.specs.Runs.{CanServe, IsKept, entry_admits, runs_of};
+
+use pg_law_order::recorded::the_schedule_of_a_rotation_run_is_good;
+use pg_law_reuse::laws::an_entry_serves_what_it_admits;
+use pg_run::Outcome;
+
+/// The schedule of a recorded run has so few turns that 32 bits count them.
+pub fn a_recorded_schedule_has_few_turns()
+    ensures { (p : NumberedProgram) (quantum : ℕ) (input : List ℤ) (value : ℤ) (entry : EntryParts) → (rotation_of p input quantum).end ≡ Outcome.Exit value
+        → IsEntry p input (rotation_of p input quantum).trace (rotation_of p input quantum).state entry → length entry.schedule.turns < 2 ^ 32 }
+{
+    the_schedule_of_a_rotation_run_is_good();
+}
+
+/// The entry of a recording serves each input that its precondition admits.
+pub fn a_kept_entry_serves_what_it_admits()
+    ensures { (p : NumberedProgram) (quantum : ℕ) (own input : List ℤ) (entry : EntryParts) (output : List ℕ) (end : EndLine) → CanRun p own → IsKept p quantum own entry output end
+        → length input < 2 ^ 64 → entry_admits entry input ≡ true → IsServed p input entry.schedule }
+{
+    the_schedule_of_a_rotation_run_is_good();
+    an_entry_serves_what_it_admits();
+}
+
+/// In a session that records the runs of a program with this quantum, each line that is answered by reuse is answered by an entry
+/// that an earlier line left and that admits the line's input, and the reply is that of every run of the program on the input that
+/// the entry's turns permit: each goes on until it is full, is ordered, printed the same, and ended in the same way.
+pub fn each_reused_line_is_served()
+    ensures { (p : NumberedProgram) (quantum : ℕ) (inputs : List (Option (List ℤ))) (answers : List Answer) (kept : Kept EntryParts)
+        → AnswersAll entry_admits (runs_of p quantum) begin inputs answers kept
+        → (line number : ℕ) (answer : Answer) → slice_get answers line ≡ Some answer → answer.kind ≡ Reused number
+        → IsReusedLine p quantum inputs answers line number }
+{}
+
+/// And each line that is recorded gets the reply of every run of the program on the line's input that the turns of its own entry
+/// permit.
+pub fn each_recorded_line_is_served()
+    ensures { (p : NumberedProgram) (quantum : ℕ) (inputs : List (Option (List ℤ))) (answers : List Answer) (kept : Kept EntryParts)
+        → CanServe (record { program = p; quantum = quantum }) → AreShort inputs → AnswersAll entry_admits (runs_of p quantum) begin inputs answers kept
+        → (line number : ℕ) (answer : Answer) → slice_get answers line ≡ Some answer → answer.kind ≡ Recorded number
+        → IsServedRecording p quantum inputs answers line number }
+{
+    the_schedule_of_a_rotation_run_is_good();
+    a_kept_entry_serves_what_it_admits();
+}

@@ -1,0 +1,67 @@
+//! What a session keeps of a recording.
+ghost use Rattle.std.specs.Prelude.{◌≡◌, ◌≤◌, ◌<◌, ◌^◌, length, IfOk};
+ghost use Rattle.pg_num.specs.declared.limits.TheConstants.{QUANTUM_LIMIT};
+ghost use Rattle.pg_law_runs.specs.Cuts.{CanRun};
+ghost use Rattle.pg_session_entry.specs.Records.{IsExit};
+ghost use Rattle.pg_session.specs.Recordings.{IsRecording};
+ghost use Rattle.pg_session_runner.specs.Runs.{outcome_of, runs_of};
+
+use crate::laws::a_recorded_schedule_has_few_turns;
+use pg_ir::Program;
+use pg_run::Outcome;
+use pg_session::{Recording, Refusal, Run};
+use pg_session_entry::{Entry, Record, record};
+use pg_session_texts::EndLine;
+use std::alloc::{AllocError, Global};
+
+/// Why a run that doesn't exit isn't kept.
+fn refusal_of(end: Outcome) -> Refusal
+    requires { IsExit end → ⊥ }
+    ensures { outcome_of result ≡ end }
+{
+    match end {
+        Outcome::Trap(name, id) => Refusal::Trap(name, id),
+        Outcome::Budget => Refusal::Budget,
+        Outcome::Exit(_) => unreachable!(),
+    }
+}
+
+/// The end of the run along an entry's schedule that exits with this value: it does all turns.
+fn end_along(entry: &Entry, value: i32) -> EndLine
+    requires { length entry.now.schedule.turns < 2 ^ 32 }
+    ensures { result ≡ EndLine.Exit value (length entry.now.schedule.turns) }
+{
+    let turns = entry.schedule().turns.as_slice().len();
+    EndLine::Exit(value, turns as u32)
+}
+
+/// Records the run of a program on an input in which threads take their turns in number order, each with a quantum of up to
+/// `quantum` steps.
+///
+/// # Errors
+///
+/// Where no memory is left.
+pub(crate) fn recorded(
+    alloc: Global,
+    p: &Program,
+    input: &[i64],
+    quantum: u32,
+) -> Result<Recording<Entry>, AllocError>
+    requires can_run { CanRun p.now input.now }
+    requires least { 1 ≤ quantum }
+    requires most { quantum ≤ QUANTUM_LIMIT }
+    ensures { IfOk result (IsRecording (runs_of p.now quantum) input.now) }
+{
+    a_recorded_schedule_has_few_turns();
+    match record(alloc, p, input, quantum)? {
+        Record::Kept {
+            entry,
+            output,
+            value,
+        } => {
+            let end = end_along(&entry, value);
+            Ok(Recording::Kept(entry, Run { output, end }))
+        }
+        Record::Refused { end, output } => Ok(Recording::Refused(refusal_of(end), output)),
+    }
+}

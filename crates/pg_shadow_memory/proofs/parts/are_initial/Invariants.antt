@@ -1,5 +1,0 @@
-use Rattle.pg_shadow_memory.specs.Loads.{AreInitial}
-use Rattle.pg_shadow_memory.proofs.parts.are_initial.Given as goal
-
-abbrev pub invariant-loop-k : goal.invariant-loop-k
-invariant-loop-k l = AreInitial l.sources l.k

@@ -1,5 +1,0 @@
-use Rattle.pg_shadow_memory.specs.Loads.{ArePartsOf}
-use Rattle.pg_shadow_memory.proofs.parts.are_parts.Given as goal
-
-abbrev pub invariant-loop-k : goal.invariant-loop-k
-invariant-loop-k l = ArePartsOf l.of l.sources l.k

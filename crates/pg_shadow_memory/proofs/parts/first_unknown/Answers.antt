@@ -1,6 +1,0 @@
-use Rattle.std.proofs.Common.{arith}
-use Rattle.pg_shadow_memory.proofs.Loading.{first_blamed}
-use Rattle.pg_shadow_memory.proofs.parts.first_unknown.Goals as goal
-
-pub returns-in-Unknown-clause-some : goal.returns-in-Unknown-clause-some
-returns-in-Unknown-clause-some c = first_blamed c.args.sources.now c.args.count c.loop-k.k c.in-Unknown.by c.loop-k.invariant (omega arith) c.in-Unknown.is

@@ -1,5 +1,0 @@
-use Rattle.pg_shadow_memory.specs.Loads.{AreKnown}
-use Rattle.pg_shadow_memory.proofs.parts.first_unknown.Given as goal
-
-abbrev pub invariant-loop-k : goal.invariant-loop-k
-invariant-loop-k l = AreKnown l.sources l.k

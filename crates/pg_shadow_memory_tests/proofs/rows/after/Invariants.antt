@@ -1,6 +1,0 @@
-use Rattle.std.proofs.Common.{◌<◌, ℕ}
-use Rattle.pg_shadow_memory.specs.Changes.{AreSources}
-use Rattle.pg_shadow_memory_tests.proofs.rows.after.Given as goal
-
-abbrev pub invariant-loop-act : goal.invariant-loop-act
-invariant-loop-act l = (n : ℕ) → 0 < n → AreSources n l.memory

@@ -1,5 +1,0 @@
-use Rattle.pg_shadow_run.proofs.Threading.{on_one}
-use Rattle.pg_shadow_run.proofs.laws.one_thread_changes.Goals as goal
-
-pub returns : goal.returns
-returns c old new f t threads calls extents grew are long within e = on_one old new f t threads calls extents grew are long within e

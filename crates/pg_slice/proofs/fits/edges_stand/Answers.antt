@@ -1,5 +1,0 @@
-use Rattle.pg_slice.proofs.RunsFit.{edges_are}
-use Rattle.pg_slice.proofs.fits.edges_stand.Goals as goal
-
-pub returns : goal.returns
-returns c = edges_are

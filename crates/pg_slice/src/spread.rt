@@ -1,0 +1,258 @@
+//! What live steps ask by what they are, by their frames and by those of others: the first rule, the fourth and the fifth.
+ghost use Rattle.std.specs.Prelude.{◌≡◌, ◌<◌, ◌≤◌, ℕ, List, true, false, IfOk, OnOk, length, slice_index_or};
+ghost use Rattle.pg_slice_rules.specs.Known as known;
+ghost use Rattle.pg_slice_rules.specs.Known.{Taken};
+ghost use Rattle.pg_slice_rules.specs.declared.decision.Decision.TheVariants as decisions;
+ghost use Rattle.pg_slice_replay.specs.declared.run.ReferenceRun.{ReferenceRun as AReferenceRun};
+ghost use Rattle.pg_run_trace.specs.declared.step.Step.{Step as AStep};
+ghost use Rattle.pg_slice_rules.specs.Closed.{AreWithin};
+ghost use Rattle.pg_slice_decisions.specs.Steps.{AreOf, left_by, step_of, taken_by};
+ghost use Rattle.pg_schedule.specs.Intervals.{intervals_of};
+ghost use Rattle.pg_schedule.specs.declared.interval.Turns.TheVariants.{Recorded};
+ghost use Rattle.pg_slice_replay.specs.Kept.{step_count};
+ghost use Rattle.pg_slice.specs.Settled.{AreLive, IsAsked, IsOwed, Widens};
+ghost use Rattle.pg_slice_walk.specs.Settled.{ArePinned, AreSettled};
+
+use crate::meetings::{disturbing, sharing};
+use crate::rivals::Rivals;
+use pg_run_trace::{Step, StepKind};
+use pg_slice_decisions::DecisionSet;
+use pg_slice_passes::GivenRun;
+use pg_slice_replay::ReferenceRun;
+use pg_slice_rules::Decision;
+use pg_slice_walk::extents::is_settled;
+use pg_slice_walk::holders::holder_at;
+use pg_slice_walk::marks::{no_marks, set_mark};
+use std::alloc::{AllocError, Global};
+
+/// What is found along a run: which steps are live, which branch steps are settled, since they and those in whose extents they
+/// stand are pinned, and the last steps that may access each frame.
+#[derive(Drop)]
+struct Spread {
+    live: Vec<bool>,
+    settled: Vec<bool>,
+    rivals: Rivals,
+}
+
+/// Whether a step is at a branch.
+fn is_branch(step: &Step) -> bool
+    ensures { result ≡ known.is_branch step.now.kind }
+{
+    match &step.kind {
+        StepKind::Branch { .. } => true,
+        _ => false,
+    }
+}
+
+/// Whether the first rule or the fourth asks that a live step is pinned.
+fn asks_pin(s: &Spread, run: &GivenRun, holders: &[u32], d: &DecisionSet, n: usize) -> bool
+    requires { IsAsked run.now.r.now run.now.intervals.now holders.now run.now.t.now.steps (taken_by d.now) s.now.live.items n }
+    ensures { result ≡ true → IsOwed run.now.r.now holders.now run.now.t.now.steps (taken_by d.now) (decisions.Pinned n) }
+{
+    let x = run.t.step(n);
+    if d.is_pinned(n) {
+        return false;
+    }
+    if !is_branch(&x) {
+        return false;
+    }
+    if !run.r.is_free(n) {
+        return true;
+    }
+    match disturbing(&s.rivals, run, s.live.as_slice(), n) {
+        Some(rival) => rival < run.t.len(),
+        None => false,
+    }
+}
+
+/// The pointer of a step's access; 0 where it has none.
+fn pointer_of(step: &Step) -> u64 {
+    match step.access() {
+        Some(access) => access.pointer,
+        None => 0,
+    }
+}
+
+/// Whether the fifth rule asks that a live step is exact.
+fn asks_exact(s: &Spread, run: &GivenRun, holders: &[u32], d: &DecisionSet, n: usize) -> bool
+    requires { IsAsked run.now.r.now run.now.intervals.now holders.now run.now.t.now.steps (taken_by d.now) s.now.live.items n }
+    ensures { result ≡ true → IsOwed run.now.r.now holders.now run.now.t.now.steps (taken_by d.now) (decisions.Exact n) }
+{
+    let x = run.t.step(n);
+    if d.is_exact(n) {
+        return false;
+    }
+    match sharing(
+        &s.rivals,
+        run.t,
+        run.intervals,
+        s.live.as_slice(),
+        n,
+        pointer_of(&x),
+    ) {
+        Some(rival) => rival < run.t.len(),
+        None => false,
+    }
+}
+
+/// Takes a decision in this case.
+fn take_if(d: &mut DecisionSet, steps: usize, asked: bool, x: Decision)
+    requires size { AreOf steps d.old }
+    requires step { step_of x < steps }
+    ensures size { AreOf steps d.new }
+    ensures kept { AreWithin (taken_by d.old) (taken_by d.new) }
+    ensures left { left_by d.new ≤ left_by d.old }
+    ensures widens { (r : AReferenceRun) (hs : List ℕ) (xs : List AStep) → (asked ≡ true → IsOwed r hs xs (taken_by d.old) x) → Widens r hs xs (taken_by d.old) (taken_by d.new) }
+{
+    if asked {
+        d.take(x);
+    }
+}
+
+/// Notes the frame of the access with this number of a freeable step's region, if there is one.
+fn note_one(
+    rivals: &mut Rivals,
+    step: &Step,
+    r: &ReferenceRun,
+    n: usize,
+    k: usize,
+) -> Result<(), AllocError> {
+    if let Some(access) = r.access(n, k) {
+        rivals.note(access.last, step.thread.0, access.writes, n)?;
+    }
+    Ok(())
+}
+
+/// Notes the frames of a live step.
+fn note(rivals: &mut Rivals, step: &Step, r: &ReferenceRun, n: usize) -> Result<(), AllocError> {
+    if let Some(access) = step.access() {
+        rivals.note(access.pointer, step.thread.0, access.writes, n)?;
+    }
+    for k in 0..r.access_count(n) {
+        note_one(rivals, step, r, n, k)?;
+    }
+    Ok(())
+}
+
+/// A step is live.
+fn mark_live(s: &mut Spread, n: usize)
+    ensures settled { s.new.settled.items ≡ s.old.settled.items }
+    ensures live { (hs : List ℕ) (d : Taken) → ArePinned hs d (slice_index_or hs n 0) → AreLive hs d s.old.live.items → AreLive hs d s.new.live.items }
+{
+    set_mark(&mut s.live, n);
+}
+
+/// A live branch step is settled where it is pinned.
+fn mark_settled(s: &mut Spread, d: &DecisionSet, n: usize)
+    ensures live { s.new.live.items ≡ s.old.live.items }
+    ensures settled { (hs : List ℕ) → ArePinned hs (taken_by d.now) (slice_index_or hs n 0)
+        → AreSettled hs (taken_by d.now) s.old.settled.items → AreSettled hs (taken_by d.now) s.new.settled.items }
+{
+    if d.is_pinned(n) {
+        set_mark(&mut s.settled, n);
+    }
+}
+
+/// Takes what the rules ask of a live step.
+fn take_asked(s: &Spread, run: &GivenRun, holders: &[u32], d: &mut DecisionSet, n: usize)
+    requires asked { IsAsked run.now.r.now run.now.intervals.now holders.now run.now.t.now.steps (taken_by d.old) s.now.live.items n }
+    requires size { AreOf (length run.now.t.now.steps) d.old }
+    ensures size { AreOf (length run.now.t.now.steps) d.new }
+    ensures kept { AreWithin (taken_by d.old) (taken_by d.new) }
+    ensures left { left_by d.new ≤ left_by d.old }
+    ensures widens { Widens run.now.r.now holders.now run.now.t.now.steps (taken_by d.old) (taken_by d.new) }
+{
+    let pin = asks_pin(s, run, holders, d, n);
+    take_if(d, run.t.len(), pin, Decision::Pinned(n));
+    let exact = asks_exact(s, run, holders, d, n);
+    take_if(d, run.t.len(), exact, Decision::Exact(n));
+}
+
+/// What the rules ask of a step is taken, where it is live.
+fn spread_step(
+    s: &mut Spread,
+    run: &GivenRun,
+    holders: &[u32],
+    d: &mut DecisionSet,
+    n: usize,
+) -> Result<(), AllocError>
+    requires count { step_count run.now.r.now ≡ length run.now.t.now.steps }
+    requires intervals { run.now.intervals.now ≡ intervals_of Recorded run.now.t.now.steps }
+    requires number { n < length run.now.t.now.steps }
+    requires size { AreOf (length run.now.t.now.steps) d.old }
+    requires live { AreLive holders.now (taken_by d.old) s.old.live.items }
+    requires settled { AreSettled holders.now (taken_by d.old) s.old.settled.items }
+    ensures size { OnOk result (AreOf (length run.now.t.now.steps) d.new) }
+    ensures live { OnOk result (AreLive holders.now (taken_by d.new) s.new.live.items) }
+    ensures settled { OnOk result (AreSettled holders.now (taken_by d.new) s.new.settled.items) }
+    ensures left { OnOk result (left_by d.new ≤ left_by d.old) }
+    ensures widens { OnOk result (Widens run.now.r.now holders.now run.now.t.now.steps (taken_by d.old) (taken_by d.new)) }
+{
+    if !is_settled(s.settled.as_slice(), holder_at(holders, n)) {
+        return Ok(());
+    }
+    mark_live(s, n);
+    take_asked(s, run, holders, d, n);
+    mark_settled(s, d, n);
+    note(&mut s.rivals, &run.t.step(n), run.r, n)?;
+    Ok(())
+}
+
+/// All steps, one after another.
+fn spread_along(
+    s: &mut Spread,
+    run: &GivenRun,
+    holders: &[u32],
+    d: &mut DecisionSet,
+) -> Result<(), AllocError>
+    requires count { step_count run.now.r.now ≡ length run.now.t.now.steps }
+    requires intervals { run.now.intervals.now ≡ intervals_of Recorded run.now.t.now.steps }
+    requires size { AreOf (length run.now.t.now.steps) d.old }
+    requires live { AreLive holders.now (taken_by d.old) s.old.live.items }
+    requires settled { AreSettled holders.now (taken_by d.old) s.old.settled.items }
+    ensures size { OnOk result (AreOf (length run.now.t.now.steps) d.new) }
+    ensures live { OnOk result (AreLive holders.now (taken_by d.new) s.new.live.items) }
+    ensures settled { OnOk result (AreSettled holders.now (taken_by d.new) s.new.settled.items) }
+    ensures left { OnOk result (left_by d.new ≤ left_by d.old) }
+    ensures widens { OnOk result (Widens run.now.r.now holders.now run.now.t.now.steps (taken_by d.old) (taken_by d.new)) }
+{
+    for n in 0..run.t.len() {
+        spread_step(s, run, holders, d, n)?;
+    }
+    Ok(())
+}
+
+/// Nothing is found so far.
+fn start(alloc: Global, steps: usize) -> Result<Spread, AllocError>
+    ensures live { IfOk result (λ s. (hs : List ℕ) (d : Taken) → AreLive hs d s.live.items) }
+    ensures settled { IfOk result (λ s. (hs : List ℕ) (d : Taken) → AreSettled hs d s.settled.items) }
+{
+    let live = no_marks(alloc, steps)?;
+    let settled = no_marks(alloc, steps)?;
+    Ok(Spread {
+        live,
+        settled,
+        rivals: Rivals::new(alloc),
+    })
+}
+
+/// Takes what the first rule, the fourth and the fifth ask of the steps that are live, and of those that are live then: the
+/// second time along the run the steps that may meet one are known.
+pub(crate) fn spread_over(
+    alloc: Global,
+    run: &GivenRun,
+    holders: &[u32],
+    d: &mut DecisionSet,
+) -> Result<(), AllocError>
+    requires count { step_count run.now.r.now ≡ length run.now.t.now.steps }
+    requires intervals { run.now.intervals.now ≡ intervals_of Recorded run.now.t.now.steps }
+    requires size { AreOf (length run.now.t.now.steps) d.old }
+    ensures size { OnOk result (AreOf (length run.now.t.now.steps) d.new) }
+    ensures left { OnOk result (left_by d.new ≤ left_by d.old) }
+    ensures widens { OnOk result (Widens run.now.r.now holders.now run.now.t.now.steps (taken_by d.old) (taken_by d.new)) }
+{
+    let mut s = start(alloc, run.t.len())?;
+    spread_along(&mut s, run, holders, d)?;
+    spread_along(&mut s, run, holders, d)?;
+    Ok(())
+}

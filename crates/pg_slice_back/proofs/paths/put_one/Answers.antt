@@ -1,0 +1,12 @@
+use Rattle.pg_slice_replay.specs.Given.{access_as}
+use Rattle.pg_law_demands.specs.Cells.{IsMet}
+use Rattle.pg_law_demands.specs.Demands.{free_access_demands}
+use Rattle.pg_slice_back.proofs.Meets.{each_of}
+use Rattle.pg_slice_back.proofs.Following.{got_access}
+use Rattle.pg_slice_back.proofs.paths.put_one.Goals as goal
+
+pub returns-in-Some : goal.returns-in-Some
+returns-in-Some c = λ l q s y e f th dp h m.
+    let a = c.in-Some.access in
+    c.in_ok-put_access.ensures s y th dp
+    (each_of (free_access_demands y) (IsMet s) q.accesses c.args.k (access_as a) (got_access _ l q c.args.k c.access.result a e f c.in-Some.is c.access.ensures.access) h) m

@@ -1,0 +1,17 @@
+use Rattle.std.proofs.Common.{◌≡◌, Some}
+use Rattle.std.specs.List.{AllByRecursion}
+use Rattle.pg_slice_rules.specs.Freeable.{FreeRegion}
+use Rattle.pg_slice_rules.specs.Known.{RunShadow, Seen}
+use Rattle.pg_slice_rules.specs.Moments.{thread_in}
+use Rattle.pg_law_least.specs.Keeps.{depth_of}
+use Rattle.pg_slice_replay.specs.Kept.{landmark_at}
+use Rattle.pg_slice_replay.specs.Landmarks.{Landmark}
+use Rattle.pg_law_demands.specs.Cells.{IsMet}
+use Rattle.pg_law_demands.specs.Demands.{region_demands}
+use Rattle.pg_slice_back.specs.Met.{AreMet}
+use Rattle.pg_slice_back.proofs.paths.put_region.Given as goal
+
+abbrev pub invariant-loop-k : goal.invariant-loop-k
+invariant-loop-k l =
+    (m : Landmark) (q : FreeRegion) (s : RunShadow) (y : Seen) → landmark_at l.r l.n ≡ Some m → m.region ≡ Some q → thread_in y.moment ≡ l.at.thread → depth_of y ≡ l.at.depth →
+    AllByRecursion (IsMet s) (region_demands y (Some q)) → AreMet s l.initial.w → AreMet s l.w

@@ -1,0 +1,16 @@
+use Rattle.std.proofs.Common.{false}
+use Rattle.pg_slice_replay.specs.Kept.{landmark_at}
+use Rattle.pg_slice_back.proofs.Regions.{few_next, few_none, none_written, silent}
+use Rattle.pg_slice_back.proofs.region.asks_any.Goals as goal
+
+pub loop-k-init : goal.loop-k-init
+loop-k-init c = few_none (landmark_at c.args.r.now c.args.n) c.args.w.now
+
+pub loop-k-preserved : goal.loop-k-preserved
+loop-k-preserved c =
+    few_next (landmark_at c.args.r.now c.args.n) c.loop-k.k c.args.w.now c.asks_one.result c.if-asks_one.false c.loop-k.invariant c.asks_one.ensures.none
+
+pub returns-clause-none : goal.returns-clause-none
+returns-clause-none c =
+    silent (landmark_at c.args.r.now c.args.n) c.args.w.now false (none_written (landmark_at c.args.r.now c.args.n) c.access_count-k-end.result c.loop-k.k c.args.w.now
+    c.loop-k-test.false c.access_count-k-end.ensures.count c.loop-k.invariant)

@@ -1,0 +1,10 @@
+use Rattle.std.proofs.Common.{◌-◌}
+use Rattle.pg_region_accesses.specs.Tables.{in_table}
+use Rattle.pg_slice_back.proofs.Regions.{Unasked}
+use Rattle.pg_slice_back.proofs.region.asks_marked.Given as goal
+
+abbrev pub invariant-loop-register : goal.invariant-loop-register
+invariant-loop-register l = Unasked (in_table l.marks) l.at.thread l.at.depth l.count l.w l.from
+
+abbrev pub decreases-loop-register : goal.decreases-loop-register
+decreases-loop-register l = 4294967296 - l.from

@@ -1,0 +1,154 @@
+//! Back over the accesses of loads and stores.
+
+ghost use Rattle.std.specs.Prelude.{◌≡◌, ◌<◌, ◌||◌, ℕ, Bool, true, false, Some, IfOk, IfSome, OnOk};
+ghost use Rattle.std.specs.List.{AllByRecursion};
+ghost use Rattle.pg_slice_rules.specs.Freeable.{frame_of};
+ghost use Rattle.pg_slice_rules.specs.Known.{RunShadow, Taken, has};
+ghost use Rattle.pg_slice_rules.specs.Shadows.{is_within};
+ghost use Rattle.pg_run_trace.specs.Steps.{range_of};
+ghost use Rattle.pg_slice_decisions.specs.Steps.{step_of};
+ghost use Rattle.pg_law_demands.specs.Cells.{IsMet};
+ghost use Rattle.pg_law_demands.specs.Back.{byte_demand, is_target, of_bytes, of_value, register_demand};
+ghost use Rattle.pg_slice_demands.specs.Asked.{asked_of, asks_byte};
+ghost use Rattle.pg_slice_back.specs.Bytes.{is_in};
+ghost use Rattle.pg_slice_back.specs.Met.{AreMet};
+ghost use Rattle.pg_slice_back.specs.Leaves.{Leaves, Without, none};
+
+use crate::bytes::{Bytes, frame_bytes, own_bytes};
+use crate::call::Call;
+use crate::moves::{leave, put_value};
+use pg_ir::Value;
+use pg_run_trace::Access;
+use pg_slice_demands::Demanded;
+use pg_slice_rules::Decision;
+use std::alloc::AllocError;
+
+/// So many bytes from one on have to be known.
+pub(crate) fn put_bytes(w: &mut Demanded, start: u64, count: u8) -> Result<(), AllocError>
+    requires { start < 4294967296 }
+    ensures { OnOk result ((s : RunShadow) → AreMet s w.old → AllByRecursion (IsMet s) (of_bytes start count) → AreMet s w.new) }
+{
+    for i in 0..count {
+        w.put_byte(start + i as u64)?;
+    }
+    Ok(())
+}
+
+/// Back over a load of so many bytes from one on: what is asked of the register that it sets is asked of them. Gives whether
+/// something was asked of that.
+fn back_loaded(
+    w: &mut Demanded,
+    at: Call,
+    target: Option<u32>,
+    start: u64,
+    count: u8,
+) -> Result<bool, AllocError>
+    requires { start < 4294967296 }
+    ensures asked { IfOk result (λ b. b ≡ true → (r : ℕ) × (v : Bool) × (target ≡ Some r) × (asked_of w.old at.thread at.depth r ≡ Some v)) }
+    ensures met { OnOk result ((after before : RunShadow) → Leaves at.thread at.depth (is_target target) none after before
+        → ((r : ℕ) (v : Bool) → target ≡ Some r → IsMet after (register_demand at.thread at.depth r v) → AllByRecursion (IsMet before) (of_bytes start count))
+        → AreMet after w.old → AreMet before w.new) }
+{
+    match leave(w, at, target) {
+        Some(_) => {
+            put_bytes(w, start, count)?;
+            Ok(true)
+        }
+        None => Ok(false),
+    }
+}
+
+/// Back over a load: where something is asked of the register that it sets, it is exact, and its bytes have to be known. Gives
+/// the decision then.
+pub(crate) fn back_load(
+    w: &mut Demanded,
+    at: Call,
+    target: Option<u32>,
+    a: Access,
+    n: usize,
+) -> Result<Option<Decision>, AllocError>
+    ensures step { IfOk result (λ o. IfSome o (λ z. step_of z ≡ n)) }
+    ensures met { IfOk result (λ o. (e : Taken) (after before : RunShadow) → Leaves at.thread at.depth (is_target target) none after before
+        → ((r : ℕ) (v : Bool) → target ≡ Some r → IsMet after (register_demand at.thread at.depth r v)
+        → AllByRecursion (IsMet before) (of_bytes (range_of a).start a.bytes) × (e.exact n ≡ true))
+        → AreMet after w.old → AreMet before w.new × IfSome o (λ z. has e z ≡ true)) }
+{
+    let own = own_bytes(a);
+    if back_loaded(w, at, target, own.from, a.bytes)? {
+        Ok(Some(Decision::Exact(n)))
+    } else {
+        Ok(None)
+    }
+}
+
+/// A byte of a store's own bytes, or of its frame, that has to be known.
+fn stored(w: &Demanded, own: Bytes, frame: Bytes) -> Option<u64>
+    ensures { IfSome result (λ b. (asks_byte w.now b ≡ true) × ((is_in own b || is_in frame b) ≡ true)) }
+{
+    match w.byte_in(own.from, own.to) {
+        Some(byte) => Some(byte),
+        None => w.byte_in(frame.from, frame.to),
+    }
+}
+
+/// That a store is exact, where it is no event and a byte has to be known that it may have written.
+fn store_fixed(w: &Demanded, a: Access, n: usize) -> Option<Decision>
+    ensures step { IfSome result (λ z. step_of z ≡ n) }
+    ensures fixed { (e : Taken) (after : RunShadow)
+        → ((b : ℕ) → (is_within (range_of a) b || is_within (frame_of a.pointer) b) ≡ true → a.event ≡ false → IsMet after (byte_demand b true)
+        → e.exact n ≡ true)
+        → AreMet after w.now → IfSome result (λ z. has e z ≡ true) }
+{
+    if a.event {
+        return None;
+    }
+    match stored(w, own_bytes(a), frame_bytes(a.pointer)) {
+        Some(_) => Some(Decision::Exact(n)),
+        None => None,
+    }
+}
+
+/// Back over a store of a value at some bytes: what is asked of these is asked of the value.
+fn back_stored(w: &mut Demanded, at: Call, value: Value, own: Bytes) -> Result<(), AllocError>
+    ensures { OnOk result ((after before : RunShadow) → Leaves at.thread at.depth none (is_in own) after before
+        → ((b : ℕ) → is_in own b ≡ true → IsMet after (byte_demand b true) → AllByRecursion (IsMet before) (of_value at.thread at.depth true value))
+        → AreMet after w.old → AreMet before w.new) }
+{
+    let _was = leave(w, at, None);
+    match w.byte_in(own.from, own.to) {
+        Some(_) => {
+            w.clear_bytes(own.from, own.to);
+            put_value(w, at, value, true)?;
+            Ok(())
+        }
+        None => Ok(()),
+    }
+}
+
+/// Back over a store: what is asked of its bytes is asked of its value. Gives the decision that it is exact, where that is due.
+pub(crate) fn back_store(
+    w: &mut Demanded,
+    at: Call,
+    value: Value,
+    a: Access,
+    n: usize,
+) -> Result<Option<Decision>, AllocError>
+    ensures step { IfOk result (λ o. IfSome o (λ z. step_of z ≡ n)) }
+    ensures met { IfOk result (λ o. (e : Taken) (after before : RunShadow) → Leaves at.thread at.depth none (is_within (range_of a)) after before
+        → ((b : ℕ) → is_within (range_of a) b ≡ true → IsMet after (byte_demand b true) → AllByRecursion (IsMet before) (of_value at.thread at.depth true value))
+        → ((b : ℕ) → (is_within (range_of a) b || is_within (frame_of a.pointer) b) ≡ true → a.event ≡ false → IsMet after (byte_demand b true) → e.exact n ≡ true)
+        → AreMet after w.old → AreMet before w.new × IfSome o (λ z. has e z ≡ true)) }
+{
+    let due = store_fixed(w, a, n);
+    back_stored(w, at, value, own_bytes(a))?;
+    Ok(due)
+}
+
+/// Nothing is asked any more of the register that an access sets, and of its bytes.
+pub(crate) fn leave_access(w: &mut Demanded, at: Call, target: Option<u32>, a: Access)
+    ensures { Without at.thread at.depth (is_target target) (is_within (range_of a)) w.old w.new }
+{
+    let _was = leave(w, at, target);
+    let own = own_bytes(a);
+    w.clear_bytes(own.from, own.to);
+}

@@ -1,0 +1,160 @@
+//! What events and allocations ask of their operands, the arguments of calls of functions that the program doesn't define.
+
+ghost use Rattle.std.specs.Prelude.{◌≡◌, true, [], Some, IfSome, OnOk, if◌then◌else◌, slice_get};
+ghost use Rattle.std.specs.List.{AllByRecursion};
+ghost use Rattle.pg_run_thread.specs.Operands.{operands_of};
+ghost use Rattle.pg_run_trace.specs.declared.step.StepKind.TheVariants as kinds;
+ghost use Rattle.pg_run_trace.specs.Steps.{access_by};
+ghost use Rattle.pg_slice_rules.specs.Known.{RunShadow, Seen};
+ghost use Rattle.pg_slice_rules.specs.Moments.{thread_in};
+ghost use Rattle.pg_slice_rules.specs.Rules as rules;
+ghost use Rattle.pg_slice_rules.specs.Rules.{all_of};
+ghost use Rattle.pg_law_least.specs.Keeps.{depth_of};
+ghost use Rattle.pg_law_demands.specs.Cells.{IsMet};
+ghost use Rattle.pg_law_demands.specs.Back.{of_operand};
+ghost use Rattle.pg_law_demands.specs.Demands.{checked_demands, kind_demands, operand_demands, write_demands};
+ghost use Rattle.pg_slice_rules.specs.Known.{Taken};
+ghost use Rattle.pg_slice_back.specs.Arguments.{is_start};
+ghost use Rattle.pg_slice_checks.specs.Steps.{below};
+ghost use Rattle.pg_slice_back.specs.Met.{AreMet};
+
+use crate::call::Call;
+use crate::moves::put_optional;
+use pg_ir::{Instr, Known, Op, Value};
+use pg_run_trace::{Event, TurnKind, Write};
+use pg_slice_checks::checked;
+use pg_slice_demands::Demanded;
+use pg_slice_passes::is_malloc;
+use std::alloc::AllocError;
+
+/// The value with this number, if there is one.
+fn value_if(values: &[Value], i: usize) -> Option<Value>
+    ensures { result ≡ slice_get values.now i }
+{
+    values.get(i).copied()
+}
+
+/// The argument with this number of a call of a function that the program doesn't define.
+fn argument(op: &Op, i: usize) -> Option<Value>
+    ensures { IfSome result (λ v. slice_get (operands_of op.now) i ≡ Some v) }
+{
+    match op {
+        Op::CallKnown { args, .. } => value_if(args.as_slice(), i),
+        _ => None,
+    }
+}
+
+/// An argument has to be known, whole or by its frame alone.
+pub(crate) fn put_argument(
+    w: &mut Demanded,
+    at: Call,
+    op: &Op,
+    i: usize,
+    whole: bool,
+) -> Result<(), AllocError>
+    ensures { OnOk result ((s : RunShadow) → AllByRecursion (IsMet s) (of_operand at.thread at.depth whole op.now i) → AreMet s w.old → AreMet s w.new) }
+{
+    put_optional(w, at, argument(op, i), whole)?;
+    Ok(())
+}
+
+/// How many of the first operands of an event's operation are checked.
+fn checked_count(op: &Op) -> usize
+    ensures { rules.checked_of op.now ≡ below result }
+{
+    match op {
+        Op::CallKnown { function, .. } => checked(*function),
+        _ => 0,
+    }
+}
+
+/// The operands of an event that are checked have to be known.
+fn put_checked(w: &mut Demanded, at: Call, x: &Instr) -> Result<(), AllocError>
+    ensures { OnOk result ((s : RunShadow) (y : Seen) → thread_in y.moment ≡ at.thread → depth_of y ≡ at.depth
+        → AllByRecursion (IsMet s) (all_of (operand_demands y x.now true) (rules.checked_of x.now.op))
+        → AreMet s w.old → AreMet s w.new) }
+{
+    for i in 0..checked_count(&x.op) {
+        put_argument(w, at, &x.op, i, true)?;
+    }
+    Ok(())
+}
+
+/// Whether an event begins a thread.
+fn is_start(kind: TurnKind) -> bool
+    ensures { result ≡ is_start kind }
+{
+    match kind {
+        TurnKind::Start => true,
+        _ => false,
+    }
+}
+
+/// What an event asks that calls a function: a start asks for nothing.
+fn put_called(w: &mut Demanded, at: Call, x: &Instr, kind: TurnKind) -> Result<(), AllocError>
+    ensures { OnOk result ((s : RunShadow) (y : Seen) → thread_in y.moment ≡ at.thread → depth_of y ≡ at.depth
+        → AllByRecursion (IsMet s) (checked_demands y x.now kind) → AreMet s w.old → AreMet s w.new) }
+{
+    if is_start(kind) {
+        return Ok(());
+    }
+    put_checked(w, at, x)?;
+    Ok(())
+}
+
+/// The operand that is the address of what an event writes.
+fn write_index(op: &Op) -> usize
+    ensures { result ≡ rules.write_index op.now }
+{
+    match op {
+        Op::CallKnown { function, .. } => {
+            if matches!(function, Known::PthreadJoin) {
+                1
+            } else {
+                0
+            }
+        }
+        _ => 0,
+    }
+}
+
+/// The frame of the address has to be known to which an event writes, if it writes.
+fn put_written(
+    w: &mut Demanded,
+    at: Call,
+    x: &Instr,
+    write: Option<Write>,
+) -> Result<(), AllocError>
+    ensures { OnOk result ((s : RunShadow) (y : Seen) → thread_in y.moment ≡ at.thread → depth_of y ≡ at.depth
+        → AllByRecursion (IsMet s) (write_demands y x.now (access_by write)) → AreMet s w.old → AreMet s w.new) }
+{
+    match write {
+        Some(_) => {
+            put_argument(w, at, &x.op, write_index(&x.op), false)?;
+            Ok(())
+        }
+        None => Ok(()),
+    }
+}
+
+/// What an event asks: its operands that are checked, and the frame of the address to which it writes.
+pub(crate) fn put_event(w: &mut Demanded, at: Call, x: &Instr, e: &Event) -> Result<(), AllocError>
+    ensures { OnOk result ((d : Taken) (s : RunShadow) (y : Seen) → thread_in y.moment ≡ at.thread → depth_of y ≡ at.depth
+        → AllByRecursion (IsMet s) (kind_demands d y x.now (kinds.Event e.now))
+        → AreMet s w.old → AreMet s w.new) }
+{
+    put_called(w, at, x, e.kind)?;
+    put_written(w, at, x, e.write)?;
+    Ok(())
+}
+
+/// What an allocation asks: the size of a `malloc`.
+pub(crate) fn put_size(w: &mut Demanded, at: Call, op: &Op) -> Result<(), AllocError>
+    ensures { OnOk result ((s : RunShadow) → AllByRecursion (IsMet s) (if rules.is_malloc op.now then of_operand at.thread at.depth true op.now 0 else []) → AreMet s w.old → AreMet s w.new) }
+{
+    if is_malloc(op) {
+        put_argument(w, at, op, 0, true)?;
+        return Ok(());
+    }
+    Ok(())
+}

@@ -1,0 +1,103 @@
+//! What steps ask of values: missing decisions and checks.
+
+use pg_ir::Case;
+use pg_num::unpack;
+use pg_precondition::{Check, Test};
+use pg_slice_rules::Decision;
+use pg_slice_values::Source;
+use std::alloc::{AllocError, Global};
+
+/// What was asked of values: the decisions that are missing, in the order in which they were asked for, and the checks
+/// of those values that are known.
+#[derive(Debug, Drop)]
+pub struct Asked {
+    pub missing: Vec<Decision>,
+    pub checks: Vec<Check>,
+}
+
+impl Asked {
+    ghost use Rattle.std.specs.Prelude.{◌≡◌, ◌∷◌, ◌++◌, [], length, map, IfOk, OnOk};
+    ghost use Rattle.pg_ir.specs.declared.edge.Case.{Case as ACase};
+    ghost use Rattle.pg_precondition.specs.Nodes.{NodeList};
+    ghost use Rattle.pg_precondition.specs.declared.check.Test.TheVariants as test;
+    ghost use Rattle.pg_slice_rules.specs.Rules.{Value, Frame, same_frame};
+    ghost use Rattle.pg_slice_values.specs.Sources.{IsSource, shadow_by};
+    ghost use Rattle.pg_slice_checks.specs.Asks.{Adds, other_than};
+
+    /// Nothing was asked.
+    pub fn new(alloc: Global) -> Asked
+        ensures missing { result.missing.items ≡ [] }
+        ensures checks { result.checks.items ≡ [] }
+    {
+        Asked {
+            missing: Vec::new(alloc),
+            checks: Vec::new(alloc),
+        }
+    }
+
+    /// Asks that a value is known, and on an input meets a test.
+    ///
+    /// # Errors
+    ///
+    /// Where no memory is left.
+    #[tactic(auto, using(crate::proofs::Added::one_check, crate::proofs::Added::one_missing))]
+    pub fn need_value(&mut self, s: Source, test: Test) -> Result<(), AllocError>
+        ensures { IfOk result (λ u. (ns : NodeList) → IsSource (length ns) s → Adds ns (Value (shadow_by ns s) (test ∷ []) ∷ []) self.old self.new) }
+    {
+        match s {
+            Source::Known { value, .. } => self.checks.push(Check { node: value, test })?,
+            Source::Framed(_, by) | Source::Unknown(by) => self.missing.push(by)?,
+        }
+        Ok(())
+    }
+
+    /// Asks that the frame of a value is known, and on an input is that of this word.
+    ///
+    /// # Errors
+    ///
+    /// Where no memory is left.
+    #[tactic(auto, using(crate::proofs::Added::one_check, crate::proofs::Added::one_missing))]
+    pub fn need_frame(&mut self, s: Source, word: u64) -> Result<(), AllocError>
+        ensures { IfOk result (λ u. (ns : NodeList) → IsSource (length ns) s → Adds ns (Frame (shadow_by ns s) (same_frame word) ∷ []) self.old self.new) }
+    {
+        let pointer = unpack(word);
+        let test = Test::Frame(pointer.start, pointer.length);
+        match s {
+            Source::Known { frame, .. } | Source::Framed(frame, _) => self
+                .checks
+                .push(Check { node: frame, test })?,
+            Source::Unknown(by) => self.missing.push(by)?,
+        }
+        Ok(())
+    }
+
+    /// Asks that a value is known, and on an input is none of these cases.
+    ///
+    /// # Errors
+    ///
+    /// Where no memory is left.
+    #[tactic(auto, using(crate::proofs::Added::one_missing, crate::proofs::Added::many_checks))]
+    pub fn need_none(&mut self, s: Source, cases: &[Case]) -> Result<(), AllocError>
+        ensures { IfOk result (λ u. (ns : NodeList) → IsSource (length ns) s → Adds ns (Value (shadow_by ns s) (map (λ (c : ACase). test.Ne c.value) cases.now) ∷ []) self.old self.new) }
+    {
+        match s {
+            Source::Known { value, .. } => self.check_others(value, cases)?,
+            Source::Framed(_, by) | Source::Unknown(by) => self.missing.push(by)?,
+        }
+        Ok(())
+    }
+
+    /// A check for each case that a node's number is another.
+    fn check_others(&mut self, node: u32, cases: &[Case]) -> Result<(), AllocError>
+        ensures checks { OnOk result (self.new.checks.items ≡ self.old.checks.items ++ map (other_than node) cases.now) }
+        ensures missing { self.new.missing ≡ self.old.missing }
+    {
+        for case in cases {
+            self.checks.push(Check {
+                node,
+                test: Test::Ne(case.value),
+            })?;
+        }
+        Ok(())
+    }
+}

@@ -1,0 +1,95 @@
+//! Root paths, followed in what is known.
+
+ghost use Rattle.std.specs.Prelude.{◌≡◌, ◌<◌, ◌+◌, ◌≤◌, ◌∷◌, [], pos, List, length, IfOk};
+ghost use Rattle.pg_num.specs.Places.{ByteRange};
+ghost use Rattle.pg_num.specs.Pointers.{byte_place, moved_by};
+ghost use Rattle.pg_precondition.specs.Nodes.{NodeList};
+ghost use Rattle.pg_slice_rules.specs.Rules as rules;
+ghost use Rattle.pg_slice_rules.specs.Shadows.{loaded};
+ghost use Rattle.pg_slice_values.specs.Sources.{Grew, IsSource, shadow_by};
+ghost use Rattle.pg_slice_memory.specs.Changes.{AreSources, shadows_of};
+ghost use Rattle.pg_stamps.specs.declared.stamps.TheConstants.{PLACE_COUNT};
+ghost use Rattle.pg_slice_checks.specs.Asks.{Adds};
+ghost use Rattle.pg_slice_checks.specs.Paths.{AreCells};
+
+use crate::asked::Asked;
+use pg_ir::Program;
+use pg_num::layout::GRANULE_BYTES;
+use pg_num::{move_by, unpack};
+use pg_precondition::{Nodes, Test};
+use pg_slice_memory::{Held, ShadowMemory};
+use pg_slice_values::{Source, offset};
+use std::alloc::AllocError;
+
+/// The word moved by so many bytes, which count modulo two to the 21.
+fn move_word(word: u64, bytes: u64) -> u64
+    ensures { result ≡ moved_by word (pos bytes) }
+{
+    move_by(word, (bytes % 0x20_0000) as i64)
+}
+
+/// The place of the byte to which a word points.
+fn place_of(word: u64) -> u64
+    ensures place { result ≡ byte_place word }
+    ensures within { result + 8 ≤ PLACE_COUNT }
+{
+    let pointer = unpack(word);
+    GRANULE_BYTES as u64 * pointer.start as u64 + pointer.offset as u64
+}
+
+/// What is known of eight bytes of memory.
+fn load(
+    p: &Program,
+    nodes: &mut Nodes,
+    memory: &ShadowMemory,
+    start: u64,
+) -> Result<Source, AllocError>
+    requires end { start + 8 ≤ PLACE_COUNT }
+    requires names { AreSources (length nodes.old) memory.now }
+    ensures grew { Grew nodes.old nodes.new }
+    ensures is { IfOk result (IsSource (length nodes.new)) }
+    ensures value { IfOk result (λ s. shadow_by nodes.new s ≡ loaded (shadows_of p.now nodes.old memory.now) start 8) }
+{
+    match memory.load(p, nodes, start, 8)? {
+        Held::Known(node) => Ok(Source::Known {
+            value: node,
+            frame: node,
+        }),
+        Held::Unknown(by) => Ok(Source::Unknown(by)),
+    }
+}
+
+/// What is asked of a path of a region's access at a step: that the address of each of its loads is known, and is what
+/// it was, and that its last pointer has a known frame, which is that of `last`. `root` is what is known of the path's
+/// root, `offsets` and `pointers` are those of its loads.
+///
+/// # Errors
+///
+/// Where no memory is left. Some of it may have been noted.
+pub fn path_needs(
+    asked: &mut Asked,
+    p: &Program,
+    nodes: &mut Nodes,
+    memory: &ShadowMemory,
+    root: Source,
+    offsets: &[u64],
+    pointers: &[u64],
+    last: u64,
+) -> Result<(), AllocError>
+    requires count { length offsets.now ≤ length pointers.now }
+    requires names { AreSources (length nodes.old) memory.now }
+    requires root { IsSource (length nodes.old) root }
+    ensures grew { Grew nodes.old nodes.new }
+    ensures adds { IfOk result (λ u. (ns : NodeList) (cells : List ByteRange) → Grew nodes.new ns → AreCells offsets.now pointers.now cells →
+        Adds ns (rules.path_needs (shadows_of p.now ns memory.now) (shadow_by ns root) offsets.now pointers.now cells last) asked.old asked.new) }
+{
+    let mut s = root;
+    for i in 0..offsets.len() {
+        let at = offset(nodes, offsets[i], s)?;
+        let address = move_word(pointers[i], offsets[i]);
+        asked.need_value(at, Test::Eq(address))?;
+        s = load(p, nodes, memory, place_of(address))?;
+    }
+    asked.need_frame(s, last)?;
+    Ok(())
+}

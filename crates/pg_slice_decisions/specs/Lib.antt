@@ -1,0 +1,4 @@
+pub mod Marks
+pub mod Steps
+pub mod Open
+pub mod Places

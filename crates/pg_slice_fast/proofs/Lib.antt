@@ -1,4 +1,0 @@
-pub mod Owed
-pub mod Spreading
-pub mod Timing
-pub mod Printing

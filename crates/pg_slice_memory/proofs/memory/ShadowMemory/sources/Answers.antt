@@ -1,0 +1,17 @@
+use Rattle.std.proofs.Common.{◌≡◌, ◌+◌, ◌∙◌, arith}
+use Rattle.std.proofs.Math.ListN.{length-set}
+use Rattle.pg_slice_memory.specs.declared.source.ByteSource.TheVariants as byte
+use Rattle.pg_slice_memory.specs.Changes.{sources_of}
+use Rattle.pg_slice_memory.specs.Sources.{IsPart}
+use Rattle.pg_slice_memory.proofs.Reading.{set_next}
+use Rattle.pg_slice_memory.proofs.memory.ShadowMemory.sources.Goals as goal
+
+pub loop-k-preserved : goal.loop-k-preserved
+loop-k-preserved c =
+    let cs = c.args.self.now in
+    let xs = c.loop-k.sources in
+    let k = c.loop-k.k in record {
+      size = length-set xs k c.at.result ∙ c.loop-k.invariant.size;
+      sources = set_next (λ j s. s ≡ sources_of cs (c.args.start + j)) xs k c.at.result byte.Initial (omega (arith, c.loop-k.invariant.size)) c.loop-k.invariant.sources c.at.ensures.source;
+      parts = set_next (λ j s. IsPart s) xs k c.at.result byte.Initial (omega (arith, c.loop-k.invariant.size)) c.loop-k.invariant.parts c.at.ensures.part;
+    }

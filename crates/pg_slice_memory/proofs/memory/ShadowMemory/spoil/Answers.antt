@@ -1,0 +1,25 @@
+use Rattle.std.proofs.Common.{◌≡◌, ◌++◌, ◌∷◌, []}
+use Rattle.std.proofs.lemmas.Result.{on_ok_weaker}
+use Rattle.pg_num.specs.Places.{ByteRange}
+use Rattle.pg_slice_memory.specs.declared.source.Held.TheVariants.{Unknown}
+use Rattle.pg_slice_memory.specs.Sources.{changed}
+use Rattle.pg_slice_memory.specs.Changes.{sources_of}
+use Rattle.pg_slice_memory.proofs.Changing.{sources_more}
+use Rattle.pg_slice_memory.proofs.Shown.{names_kept, spoil_shown}
+use Rattle.pg_slice_memory.proofs.memory.ShadowMemory.spoil.Goals as goal
+
+abbrev spoiled_range : goal.After-change → ByteRange
+spoiled_range c = record { start = c.args.start; bytes = c.args.bytes }
+
+sources_are : (c : goal.After-change) → c.change.new.self ≡ c.args.self.now ++ record { start = c.args.start; bytes = c.args.bytes; to = Unknown c.args.by } ∷ [] →
+    sources_of c.change.new.self ≡ changed (spoiled_range c) (Unknown c.args.by) (sources_of c.args.self.now)
+sources_are c e = sources_more c.args.self.now c.change.new.self (record { start = c.args.start; bytes = c.args.bytes; to = Unknown c.args.by }) e
+
+pub returns-clause-sources : goal.returns-clause-sources
+returns-clause-sources c = on_ok_weaker c.change.result (sources_are c) c.change.ensures.ok
+
+pub returns-clause-shadow : goal.returns-clause-shadow
+returns-clause-shadow c = on_ok_weaker c.change.result (λ e p ns. spoil_shown (spoiled_range c) c.args.by c.args.self.now c.change.new.self (sources_are c e) p ns) c.change.ensures.ok
+
+pub returns-clause-names : goal.returns-clause-names
+returns-clause-names c = on_ok_weaker c.change.result (λ e n s. names_kept (spoiled_range c) (Unknown c.args.by) c.args.self.now c.change.new.self (sources_are c e) n s tt) c.change.ensures.ok

@@ -1,0 +1,5 @@
+use Rattle.pg_slice_memory.specs.Loads.{AreInitial}
+use Rattle.pg_slice_memory.proofs.parts.are_initial.Given as goal
+
+abbrev pub invariant-loop-k : goal.invariant-loop-k
+invariant-loop-k l = AreInitial l.sources l.k

@@ -1,0 +1,31 @@
+//! A change of what is known of memory.
+
+ghost use Rattle.std.specs.Prelude.{◌≡◌, ◌≤◌, ◌-◌, ◌<◌};
+ghost use Rattle.pg_slice_memory.specs.Sources.{IsPlaceIn, part_of};
+
+use crate::source::{ByteSource, Held};
+
+/// The bytes from a place on that are from then on those of a number, or are not known any more.
+#[derive(Clone, Copy)]
+pub struct Change {
+    pub start: u64,
+    pub bytes: u64,
+    pub to: Held,
+}
+
+impl Change {
+    /// What is known of a byte after the change.
+    pub(crate) fn source(&self, byte: u64) -> ByteSource
+        requires from { self.now.start ≤ byte }
+        requires place { IsPlaceIn self.now.to (byte - self.now.start) }
+        ensures source { result ≡ part_of self.now.to (byte - self.now.start) }
+    {
+        match self.to {
+            Held::Known(of) => ByteSource::Part {
+                of,
+                at: (byte - self.start) as u8,
+            },
+            Held::Unknown(by) => ByteSource::Unknown(by),
+        }
+    }
+}

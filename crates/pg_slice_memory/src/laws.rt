@@ -1,0 +1,31 @@
+//! Laws on what is known of memory.
+
+ghost use Rattle.std.specs.Prelude.{◌≡◌, ◌≤◌, ◌<◌, ◌+◌, ◌^◌, ℕ, length};
+ghost use Rattle.pg_num.specs.declared.layout.TheConstants.{MEMORY_BYTES};
+ghost use Rattle.pg_ir.specs.Program.{NumberedProgram};
+ghost use Rattle.pg_precondition.specs.Nodes.{NodeList};
+ghost use Rattle.pg_num.specs.Places.{ByteRange};
+ghost use Rattle.pg_slice_rules.specs.declared.decision.Decision.{Decision};
+ghost use Rattle.pg_slice_rules.specs.Freeable.{frame_of};
+ghost use Rattle.pg_slice_rules.specs.Shadows.{Framed, OnInput, Shadow, Unknown, stored};
+ghost use Rattle.pg_stamps.specs.declared.stamps.TheConstants.{PLACE_COUNT};
+ghost use Rattle.pg_slice_memory.specs.Changes.{AreSources, Changes, shadows_of};
+ghost use Rattle.pg_slice_values.specs.Sources.{Grew};
+
+/// Nodes that are added change nothing of what is known of the bytes.
+#[tactic(auto, using(crate::proofs::Grows::names_more))]
+pub fn more_nodes_change_nothing()
+    ensures shadow { (p : NumberedProgram) (old new : NodeList) (cs : Changes) → Grew old new → AreSources (length old) cs → shadows_of p new cs ≡ shadows_of p old cs }
+    ensures names { (m n : ℕ) (cs : Changes) → m ≤ n → AreSources m cs → AreSources n cs }
+{}
+
+/// A pointer of which only the frame is known is stored as a number that isn't known.
+pub fn a_frame_gives_no_bytes()
+    ensures { (r : ByteRange) (f : OnInput) (x : Decision) (bytes : ℕ → Shadow) → stored r (Framed f x) bytes ≡ stored r (Unknown x) bytes }
+{}
+
+/// Each byte of memory has a place, and so has each byte of the frame of any word.
+pub fn frames_have_places()
+    ensures memory { MEMORY_BYTES ≤ PLACE_COUNT }
+    ensures frames { (word : ℕ) → word < 2 ^ 64 → (frame_of word).start + (frame_of word).bytes ≤ PLACE_COUNT }
+{}

@@ -1,0 +1,22 @@
+use Rattle.std.proofs.Common.{ℕ, Bool, length, ap, sym, ◌∙◌}
+use Rattle.std.specs.Prelude.{◌%◌}
+use Rattle.std.proofs.lemmas.Result.{IfOk-weaker}
+use Rattle.pg_num.specs.Numbers.{modulus}
+use Rattle.pg_slice_rules.specs.Known.{load_of}
+use Rattle.pg_slice_rules.specs.Shadows as shadows
+use Rattle.pg_slice_memory.specs.Changes as bytes
+use Rattle.pg_slice_passes.proofs.memory.load.Goals as goal
+
+pub within-requires : goal.within-requires
+within-requires c = c.loaded.ensures.is (length c.load.new.nodes) c.in_ok-number.ensures.is
+
+pub returns-clause-value : goal.returns-clause-value
+returns-clause-value c =
+    let w = c.args.width in
+    let a = c.args.a in
+    let memory = bytes.shadows_of c.args.p.now c.args.nodes.now c.args.memory.now in
+    IfOk-weaker c.within.result _ _ (λ r e.
+    e
+    ∙ ap (λ (x : shadows.Shadow). shadows.cut (λ k. k % modulus w) x)
+    (c.loaded.ensures.value c.load.new.nodes ∙ c.in_ok-number.ensures.value ∙ ap (λ (s : ℕ). shadows.loaded memory s a.bytes) c.place.ensures.place)
+    ∙ sym (ap (λ (b : Bool). load_of b c.args.n w a memory) c.if-not-exact.false)) c.within.ensures.value

@@ -1,0 +1,46 @@
+use Rattle.std.proofs.Common.{ℕ, Bool, length, ap, sym, ◌∙◌}
+use Rattle.std.proofs.lemmas.Result.{on_ok_weaker}
+use Rattle.pg_ir.specs.declared.instr.Op.TheVariants as op
+use Rattle.pg_slice_rules.specs.Known.{bytes_stored}
+use Rattle.pg_slice_rules.specs.Shadows.{shadow_of}
+use Rattle.pg_slice_rules.specs.declared.decision.Decision.TheVariants.{Exact}
+use Rattle.pg_slice_values.proofs.Grows.{grew_length}
+use Rattle.pg_slice_memory.specs.Changes.{shadows_of}
+use Rattle.pg_slice_memory.proofs.Grows.{names_more}
+use Rattle.pg_slice_registers.specs.Sourced.{registers_by}
+use Rattle.pg_slice_passes.proofs.Bytes.{frame_spoiled, number_stored}
+use Rattle.pg_slice_passes.proofs.memory.store.Goals as goal
+
+pub returns-in_ok-s-clause-is : goal.returns-in_ok-s-clause-is
+returns-in_ok-s-clause-is c =
+    let old = c.args.nodes.now in
+    let new = c.value.new.nodes in
+    on_ok_weaker c.store.result (λ f. f (length new) (names_more (length old) (length new) c.args.memory.now (grew_length old new c.value.ensures.grew) c.requires.names)
+    (c.held.ensures.is (length new) c.in_ok-s.ensures.is)) c.store.ensures.names
+
+pub returns-in_ok-s-clause-value : goal.returns-in_ok-s-clause-value
+returns-in_ok-s-clause-value c w at b =
+    let old = c.args.nodes.now in
+    let new = c.value.new.nodes in
+    let p = c.args.p.now in
+    let a = c.args.a in
+    let rs = registers_by old c.args.registers.now in
+    let before = shadows_of p old c.args.memory.now in
+    on_ok_weaker c.store.result (λ f.
+    number_stored p old new c.args.memory.now c.store.new.self c.place.result _ a.bytes c.held.result c.in_ok-s.s (shadow_of p rs c.args.v) b c.value.ensures.grew c.requires.names
+    (f p new) c.place.ensures.place (c.held.ensures.bytes new) c.in_ok-s.ensures.value
+    ∙ sym (ap (λ (k : Bool). bytes_stored p k c.args.n a rs (op.Store w c.args.v at) before b) c.if-known.true)) c.store.ensures.shadow
+
+pub returns-else-known-clause-is : goal.returns-else-known-clause-is
+returns-else-known-clause-is c = on_ok_weaker c.spoil.result (λ f. f (length c.args.nodes.now) c.requires.names) c.spoil.ensures.names
+
+pub returns-else-known-clause-value : goal.returns-else-known-clause-value
+returns-else-known-clause-value c w at b =
+    let old = c.args.nodes.now in
+    let p = c.args.p.now in
+    let a = c.args.a in
+    let rs = registers_by old c.args.registers.now in
+    on_ok_weaker c.spoil.result (λ f.
+    ap (λ (g : ℕ → _). g b) (frame_spoiled p old c.args.memory.now c.spoil.new.self c.frame-f.result.start c.frame-f.result.bytes a.pointer (Exact c.args.n)
+    (f p old) c.frame-f.ensures.start c.frame-f.ensures.bytes)
+    ∙ sym (ap (λ (k : Bool). bytes_stored p k c.args.n a rs (op.Store w c.args.v at) (shadows_of p old c.args.memory.now) b) c.if-known.false)) c.spoil.ensures.shadow

@@ -1,0 +1,49 @@
+use Rattle.std.proofs.Common.{◌≡◌, [], List, length, slice_index_or, refl, ap, sym, ◌∙◌, subst}
+use Rattle.std.proofs.lemmas.Result.{on_ok_weaker}
+use Rattle.pg_slice_rules.specs.Known as along
+use Rattle.pg_slice_rules.specs.Shadows.{Shadow}
+use Rattle.pg_slice_memory.proofs.Grows.{names_more}
+use Rattle.pg_slice_values.specs.declared.source.Source.{Source}
+use Rattle.pg_slice_values.proofs.Grows.{grew_length}
+use Rattle.pg_slice_registers.specs.Sourced.{AreSources, CallList, registers_by, top_sources}
+use Rattle.pg_slice_registers.proofs.Threading.{threads_stay}
+use Rattle.pg_slice_passes.specs.State.{sources_in}
+use Rattle.pg_slice_passes.proofs.Kept.{registers_in, words_known}
+use Rattle.pg_slice_passes.proofs.ThreadLists.{registers_are}
+use Rattle.pg_slice_passes.proofs.state.RunSources.event_words.Goals as goal
+
+pub words_after-requires-clause-registers : goal.words_after-requires-clause-registers
+words_after-requires-clause-registers c =
+    let old = c.args.nodes.now in
+    let s = c.args.self.now in
+    let registers : c.thread_registers.result.now ≡ sources_in s c.args.t =
+    c.thread_registers.ensures ∙ ap (λ (cs : List CallList). top_sources (slice_index_or cs c.args.t [])) c.as_slice.ensures.value in
+    subst (λ (rs : List Source). AreSources (length old) rs) (sym registers) (registers_are (length old) s.threads.items c.args.t c.requires.sources.threads)
+
+pub returns-clause-is : goal.returns-clause-is
+returns-clause-is c =
+    let old = c.args.nodes.now in
+    let new = c.words_after.new.nodes in
+    let s = c.args.self.now in
+    let g = c.words_after.ensures.grew in
+    on_ok_weaker c.words_after.result (λ a. record {
+      threads = threads_stay old new s.threads.items g c.requires.sources.threads;
+      bytes = names_more (length old) (length new) s.memory (grew_length old new g) c.requires.sources.bytes;
+      words = a;
+    }) c.words_after.ensures.is
+
+pub returns-clause-value : goal.returns-clause-value
+returns-clause-value c pinned k h =
+    let old = c.args.nodes.now in
+    let new = c.words_after.new.nodes in
+    let s = c.args.self.now in
+    let p = c.args.p.now in
+    let o = c.args.x.now.op in
+    let registers : c.thread_registers.result.now ≡ sources_in s c.args.t =
+    c.thread_registers.ensures ∙ ap (λ (cs : List CallList). top_sources (slice_index_or cs c.args.t [])) c.as_slice.ensures.value in
+    on_ok_weaker c.words_after.result (λ e.
+    words_known p old new pinned s _ k (along.words_after p c.args.t c.args.kind (along.registers_of k c.args.t) o k.words) c.words_after.ensures.grew c.requires.sources h refl refl refl
+    (ap (λ (ws : List Shadow). along.words_after p c.args.t c.args.kind (along.registers_of k c.args.t) o ws) h.words
+    ∙ ap (λ (rs : List Shadow). along.words_after p c.args.t c.args.kind rs o (registers_by old s.words.items))
+    (sym (registers_in p old pinned s k c.args.t h) ∙ ap (registers_by old) (sym registers))
+    ∙ sym e)) c.words_after.ensures.value

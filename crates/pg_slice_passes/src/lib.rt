@@ -1,0 +1,24 @@
+//! The slice of a reference run: passes over the run under a set of decisions, each of which gives the decisions that are
+//! missing and what an input must give, until none is missing.
+#![tactic(auto)]
+
+pub mod fits;
+mod frames;
+mod given;
+pub mod laws;
+mod live;
+mod memory;
+mod needs;
+mod pass;
+mod prints;
+mod slice;
+mod state;
+mod step;
+mod threads;
+
+pub use frames::{FrameBytes, frame};
+pub use given::GivenRun;
+pub use needs::is_malloc;
+pub use pass::{Passed, pass_over};
+pub use slice::{Slice, slice_by_passes, sliced, take_new};
+pub use state::RunSources;

@@ -1,0 +1,223 @@
+//! One pass over a reference run.
+
+ghost use Rattle.std.specs.Prelude.{◌≡◌, ◌<◌, ◌+◌, ◌↔◌, ℤ, List, [], Contains, Some, length, slice_get, slice_index_or, IfOk, OnOk};
+ghost use Rattle.pg_ir.specs.declared.ids.InstrId.{InstrId};
+ghost use Rattle.pg_slice_rules.specs.Closed.{admits, asks};
+ghost use Rattle.pg_slice_rules.specs.declared.decision.Decision.{Decision as ADecision};
+ghost use Rattle.pg_slice_rules.specs.Freeable.{Regions};
+ghost use Rattle.pg_slice_decisions.specs.Steps.{taken_by};
+ghost use Rattle.pg_precondition.specs.Names.{AreNeeded};
+ghost use Rattle.pg_slice_checks.specs.Asks.{AreNamed, all_hold};
+ghost use Rattle.pg_precondition.specs.Values.{is_admitted};
+ghost use Rattle.pg_slice_values.specs.Sources.{Grew};
+ghost use Rattle.pg_slice_passes.specs.Given.{AreGiven, HasLandmarks, reference_of};
+ghost use Rattle.std.specs.Prelude.{◌++◌, map};
+ghost use Rattle.pg_slice_conflicts.specs.Meets.{InOrder, is_met};
+ghost use Rattle.pg_slice_passes.specs.Prints.{asks_of_met};
+ghost use Rattle.pg_slice_passes.specs.Passes.{HasPassed};
+ghost use Rattle.pg_slice_passes.specs.Timed.{AreEarlier};
+ghost use Rattle.pg_slice_passes.specs.State.{AreKept};
+
+use crate::given::GivenRun;
+use crate::needs::needs;
+use crate::prints::{Prints, TimedStep, ask_met, print_live};
+use crate::state::RunSources;
+use crate::step::StepAt;
+use pg_precondition::{Check, Nodes, Precondition, needed};
+use pg_schedule::Interval;
+use pg_slice_checks::Asked;
+use pg_slice_conflicts::conflicts;
+use pg_slice_decisions::DecisionSet;
+use pg_slice_rules::Decision;
+use std::alloc::{AllocError, Global};
+
+/// What a pass over a reference run gives: the decisions that are missing, and what an input must give.
+#[derive(Drop)]
+pub struct Passed {
+    pub missing: Vec<Decision>,
+    pub precondition: Precondition,
+}
+
+/// What is gathered along a pass: what is known before the next step, what the steps before it asked by themselves, and their
+/// footprints.
+#[derive(Drop)]
+pub struct Gathered {
+    pub(crate) sources: RunSources,
+    pub(crate) asked: Asked,
+    pub(crate) prints: Prints,
+}
+
+/// The check with this number.
+fn check_at(checks: &[Check], i: usize) -> Check
+    requires { i < length checks.now }
+    ensures { slice_get checks.now i ≡ Some result }
+{
+    checks[i]
+}
+
+/// The checks over only those nodes that they need.
+fn precondition(alloc: Global, nodes: Nodes, checks: &[Check]) -> Result<Precondition, AllocError>
+    requires { AreNamed (length nodes) checks.now }
+    ensures admits { IfOk result (λ c. (input : List ℤ) → is_admitted input c ≡ all_hold nodes checks.now input) }
+    ensures needed { IfOk result (λ c. AreNeeded c) }
+{
+    let mut c = Precondition::new(alloc, nodes);
+    for i in 0..checks.len() {
+        c.push(check_at(checks, i))?;
+    }
+    let r = needed(alloc, &c)?;
+    Ok(r)
+}
+
+/// The interval of a step.
+fn interval_at(intervals: &[Interval], n: usize) -> Interval
+    requires { n < length intervals.now }
+    ensures { result ≡ slice_index_or intervals.now n result }
+{
+    intervals[n]
+}
+
+/// Step n of a pass.
+fn pass_step(
+    alloc: Global,
+    nodes: &mut Nodes,
+    g: &mut Gathered,
+    run: &GivenRun,
+    d: &DecisionSet,
+    n: usize,
+) -> Result<(), AllocError>
+    requires given { AreGiven run.now.p.now run.now.t.now.steps run.now.intervals.now run.now.r.now }
+    requires number { n < length run.now.t.now.steps }
+    requires sources { AreKept (length nodes.old) g.old.sources }
+    ensures grew { Grew nodes.old nodes.new }
+    ensures sources { OnOk result (AreKept (length nodes.new) g.new.sources) }
+    ensures earlier { OnOk result (AreEarlier run.now.t.now.steps n g.old.prints → AreEarlier run.now.t.now.steps (n + 1) g.new.prints) }
+    ensures named { OnOk result (AreNamed (length nodes.old) g.old.asked.checks.items → AreNamed (length nodes.new) g.new.asked.checks.items) }
+    ensures passed { OnOk result ((regions : Regions) (gated : List InstrId) (input : List ℤ) → HasLandmarks (reference_of run.now.p.now regions gated input run.now.t.now.steps) run.now.r.now
+        → HasPassed (reference_of run.now.p.now regions gated input run.now.t.now.steps) (taken_by d.now) n nodes.old g.old
+        → HasPassed (reference_of run.now.p.now regions gated input run.now.t.now.steps) (taken_by d.now) (n + 1) nodes.new g.new) }
+{
+    let step = run.t.step(n);
+    let x = run.p.instr(step.instr);
+    let interval = interval_at(run.intervals, n);
+    needs(
+        &mut g.asked,
+        nodes,
+        run.p,
+        &g.sources,
+        &step,
+        x,
+        d,
+        run.r,
+        n,
+    )?;
+    let at = TimedStep {
+        step: &step,
+        interval,
+        r: run.r,
+        n,
+    };
+    print_live(&mut g.prints, &g.sources, &at)?;
+    let s = StepAt {
+        alloc,
+        p: run.p,
+        x,
+        step: &step,
+        d,
+        r: run.r,
+        n,
+    };
+    g.sources.step(nodes, &s)?;
+    Ok(())
+}
+
+/// What is gathered over all steps.
+fn gather(
+    alloc: Global,
+    nodes: &mut Nodes,
+    run: &GivenRun,
+    d: &DecisionSet,
+) -> Result<Gathered, AllocError>
+    requires given { AreGiven run.now.p.now run.now.t.now.steps run.now.intervals.now run.now.r.now }
+    requires nodes { nodes.old ≡ [] }
+    ensures order { IfOk result (λ g. InOrder g.prints.prints.items) }
+    ensures owned { IfOk result (λ g. length g.prints.owners.items ≡ length g.prints.prints.items) }
+    ensures named { IfOk result (λ g. AreNamed (length nodes.new) g.asked.checks.items) }
+    ensures passed { IfOk result (λ g. (regions : Regions) (gated : List InstrId) (input : List ℤ)
+        → HasLandmarks (reference_of run.now.p.now regions gated input run.now.t.now.steps) run.now.r.now
+        → HasPassed (reference_of run.now.p.now regions gated input run.now.t.now.steps) (taken_by d.now) (length run.now.t.now.steps) nodes.new g) }
+{
+    let sources = RunSources::start(alloc, nodes, run.p)?;
+    let mut g = Gathered {
+        sources,
+        asked: Asked::new(alloc),
+        prints: Prints::new(alloc),
+    };
+    for n in 0..run.t.len() {
+        pass_step(alloc, nodes, &mut g, run, d, n)?;
+    }
+    Ok(g)
+}
+
+/// What is missing, with what the footprints ask that are met.
+fn all_missing(
+    alloc: Global,
+    mut missing: Vec<Decision>,
+    prints: &Prints,
+    d: &DecisionSet,
+) -> Result<Vec<Decision>, AllocError>
+    requires order { InOrder prints.now.prints.items }
+    requires owned { length prints.now.owners.items ≡ length prints.now.prints.items }
+    ensures { IfOk result (λ v. v.items ≡ missing.items
+        ++ asks_of_met (taken_by d.now) prints.now.prints.items prints.now.owners.items (map (is_met prints.now.prints.items) prints.now.prints.items)) }
+{
+    let marks = conflicts(alloc, prints.prints.as_slice())?;
+    ask_met(
+        &mut missing,
+        d,
+        prints.prints.as_slice(),
+        prints.owners.as_slice(),
+        marks.as_slice(),
+    )?;
+    Ok(missing)
+}
+
+/// What a pass gives, by what is gathered along it.
+fn finished(alloc: Global, nodes: Nodes, g: Gathered, d: &DecisionSet) -> Result<Passed, AllocError>
+    requires order { InOrder g.prints.prints.items }
+    requires owned { length g.prints.owners.items ≡ length g.prints.prints.items }
+    requires named { AreNamed (length nodes) g.asked.checks.items }
+    ensures missing { IfOk result (λ s. s.missing.items ≡ g.asked.missing.items
+        ++ asks_of_met (taken_by d.now) g.prints.prints.items g.prints.owners.items (map (is_met g.prints.prints.items) g.prints.prints.items)) }
+    ensures admits { IfOk result (λ s. (input : List ℤ) → is_admitted input s.precondition ≡ all_hold nodes g.asked.checks.items input) }
+    ensures needed { IfOk result (λ s. AreNeeded s.precondition) }
+{
+    let Gathered { asked, prints, .. } = g;
+    let precondition = precondition(alloc, nodes, asked.checks.as_slice())?;
+    let missing = all_missing(alloc, asked.missing, &prints, d)?;
+    Ok(Passed {
+        missing,
+        precondition,
+    })
+}
+
+/// A pass over a reference run under some decisions: the decisions that are missing, and what an input must give.
+///
+/// # Errors
+///
+/// Where no memory is left.
+pub fn pass_over(alloc: Global, run: &GivenRun, d: &DecisionSet) -> Result<Passed, AllocError>
+    requires given { AreGiven run.now.p.now run.now.t.now.steps run.now.intervals.now run.now.r.now }
+    ensures missing { IfOk result (λ s. (regions : Regions) (gated : List InstrId) (input : List ℤ)
+        → HasLandmarks (reference_of run.now.p.now regions gated input run.now.t.now.steps) run.now.r.now
+        → (x : ADecision) → Contains s.missing.items x ↔ Contains (asks (reference_of run.now.p.now regions gated input run.now.t.now.steps) (taken_by d.now)) x) }
+    ensures admits { IfOk result (λ s. (regions : Regions) (gated : List InstrId) (input other : List ℤ)
+        → HasLandmarks (reference_of run.now.p.now regions gated input run.now.t.now.steps) run.now.r.now
+        → is_admitted other s.precondition ≡ admits (reference_of run.now.p.now regions gated input run.now.t.now.steps) (taken_by d.now) other) }
+    ensures needed { IfOk result (λ s. AreNeeded s.precondition) }
+{
+    let mut nodes = Nodes::new(alloc);
+    let g = gather(alloc, &mut nodes, run, d)?;
+    let passed = finished(alloc, nodes, g, d)?;
+    Ok(passed)
+}

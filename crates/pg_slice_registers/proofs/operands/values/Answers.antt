@@ -1,0 +1,24 @@
+use Rattle.std.proofs.Common.{◌∷◌, [], ◌++◌, List, length, slice_index_or, ap, ◌∙◌}
+use Rattle.pg_ir.specs.declared.value.Value.TheVariants.{Register}
+use Rattle.pg_slice_rules.specs.Shadows.{Shadow, shadow_of}
+use Rattle.pg_slice_values.proofs.Grows.{grew_then}
+use Rattle.pg_slice_registers.specs.Sourced.{registers_by}
+use Rattle.pg_slice_registers.proofs.Kept.{registers_kept}
+use Rattle.pg_slice_registers.proofs.Gathered.{one_pushed}
+use Rattle.pg_slice_registers.proofs.operands.values.Goals as goal
+
+pub loop-arg-preserved : goal.loop-arg-preserved
+loop-arg-preserved c =
+    let first = c.args.nodes.now in
+    let old = c.loop-arg.nodes in
+    let i = c.loop-arg.arg-index in
+    let xs = c.args.args.now in
+    let p = c.args.p.now in
+    record {
+      grew = grew_then first old c.push_optional.new.nodes c.loop-arg.invariant.grew c.push_optional.ensures.grew;
+      is = c.in_ok-push_optional.ensures.is;
+      value = one_pushed (shadow_of p (registers_by first c.args.registers.now)) xs i (Register 0) (registers_by old c.loop-arg.sources.items) _ _ c.loop-arg-test.true
+          (c.in_ok-push_optional.ensures.value ∙ ap (λ (rs : List Shadow). registers_by old c.loop-arg.sources.items ++ shadow_of p rs (slice_index_or xs i (Register 0)) ∷ [])
+          (registers_kept first old c.args.registers.now c.loop-arg.invariant.grew c.requires.sources))
+          c.loop-arg.invariant.value;
+    }

@@ -1,0 +1,137 @@
+//! What events leave in registers.
+
+ghost use Rattle.std.specs.Prelude.{◌≡◌};
+ghost use Rattle.pg_ir.specs.Program.{parameter_count};
+
+use crate::given::printed;
+use crate::thread::ThreadSources;
+use pg_ir::{Instr, Op, Program};
+use pg_precondition::Nodes;
+use pg_run_trace::{Event, TurnKind};
+use pg_slice_values::{Source, constant};
+use std::alloc::AllocError;
+
+/// How many parameters a function has, none where there is no such function.
+#[tactic(auto, unfolding(pg_ir::specs::Program::parameter_count), using(crate::proofs::Functions::no_parameters))]
+fn parameter_count(p: &Program, f: u32) -> u32
+    ensures { result ≡ parameter_count p.now f }
+{
+    if f < p.function_count() {
+        p.function(f).params
+    } else {
+        0
+    }
+}
+
+impl ThreadSources {
+    ghost use Rattle.std.specs.Prelude.{◌≡◌, ℕ, Bool, length, OnOk, OnErr};
+    ghost use Rattle.pg_num.specs.declared.width.Width.{Width};
+    ghost use Rattle.pg_ir.specs.declared.instr.Op.TheVariants.{Load};
+    ghost use Rattle.pg_ir.specs.declared.value.Value.{Value};
+    ghost use Rattle.pg_ir.specs.Program.{NumberedProgram};
+    ghost use Rattle.pg_precondition.specs.Nodes.{NodeList};
+    ghost use Rattle.pg_run_trace.specs.declared.step.Access.{Access};
+    ghost use Rattle.pg_slice_rules.specs.Moments.{Moment};
+    ghost use Rattle.pg_slice_rules.specs.Shadows.{Shadow, always};
+    ghost use Rattle.pg_slice_rules.specs.Known.{function_in, load_of, low_byte, operand_at, set_shadow, started, with_top};
+    ghost use Rattle.pg_slice_rules.specs.Known as along;
+    ghost use Rattle.pg_slice_values.specs.Sources.{Grew, IsSource, shadow_by};
+    ghost use Rattle.pg_slice_registers.specs.Sourced.{AreCalls, calls_by};
+    ghost use Rattle.pg_slice_registers.specs.Events.{HasOperands, IsKnownCall};
+
+    /// A start: the first parameter, if there is one, is the thread's argument.
+    #[tactic(auto, using(crate::proofs::Happens::starts, crate::proofs::Happens::starts_not))]
+    fn begin(&mut self, parameters: u32, argument: Source)
+        ensures value { (ns : NodeList) → calls_by ns self.new ≡ with_top (started parameters (shadow_by ns argument)) (calls_by ns self.old) }
+        ensures is { (n : ℕ) → AreCalls n self.old → IsSource n argument → AreCalls n self.new }
+    {
+        if parameters != 0 {
+            self.set(Some(0), argument);
+        }
+    }
+
+    /// A print: its register gets the low byte of the number.
+    fn print(&mut self, nodes: &mut Nodes, p: &Program, x: &Instr) -> Result<(), AllocError>
+        requires call { IsKnownCall x.now.op }
+        requires sources { AreCalls (length nodes.old) self.old }
+        ensures grew { Grew nodes.old nodes.new }
+        ensures is { OnOk result (AreCalls (length nodes.new) self.new) }
+        ensures same { OnErr result (self.new ≡ self.old) }
+        ensures value { OnOk result (calls_by nodes.new self.new ≡ with_top (λ rs. set_shadow x.now.result (low_byte (operand_at p.now rs x.now.op 0)) rs) (calls_by nodes.old self.old)) }
+    {
+        let s = printed(nodes, p, &x.op, self.registers())?;
+        self.set(x.result, s);
+        Ok(())
+    }
+
+    /// The answer of a call: its register gets the recorded number.
+    fn answer(
+        &mut self,
+        nodes: &mut Nodes,
+        target: Option<u32>,
+        reply: u64,
+    ) -> Result<(), AllocError>
+        requires sources { AreCalls (length nodes.old) self.old }
+        ensures grew { Grew nodes.old nodes.new }
+        ensures is { OnOk result (AreCalls (length nodes.new) self.new) }
+        ensures same { OnErr result (self.new ≡ self.old) }
+        ensures value { OnOk result (calls_by nodes.new self.new ≡ with_top (set_shadow target (always reply)) (calls_by nodes.old self.old)) }
+    {
+        let s = constant(nodes, reply)?;
+        self.set(target, s);
+        Ok(())
+    }
+
+    /// A live step that is an event, by the function of the present call and the thread's argument, which a start gives
+    /// its first parameter.
+    ///
+    /// # Errors
+    ///
+    /// Where no memory is left. Nodes may have been added; the calls are as before.
+    #[tactic(auto, using(pg_slice_values::proofs::Grows::grew_none))]
+    pub fn after_event(
+        &mut self,
+        nodes: &mut Nodes,
+        p: &Program,
+        x: &Instr,
+        e: Event,
+        function: u32,
+        argument: Source,
+    ) -> Result<(), AllocError>
+        requires call { HasOperands e.kind x.now.op }
+        requires argument { IsSource (length nodes.old) argument }
+        requires sources { AreCalls (length nodes.old) self.old }
+        ensures grew { Grew nodes.old nodes.new }
+        ensures is { OnOk result (AreCalls (length nodes.new) self.new) }
+        ensures same { OnErr result (self.new ≡ self.old) }
+        ensures value { (m : Moment) → function_in m.calls ≡ function
+            → OnOk result (calls_by nodes.new self.new ≡ along.after_event p.now m e e.kind (shadow_by nodes.old argument) x.now (calls_by nodes.old self.old)) }
+    {
+        match e.kind {
+            TurnKind::Start => {
+                self.begin(parameter_count(p, function), argument);
+                Ok(())
+            }
+            TurnKind::Exit => {
+                self.end();
+                Ok(())
+            }
+            TurnKind::Wait => Ok(()),
+            TurnKind::Arrive => Ok(()),
+            TurnKind::Putchar => self.print(nodes, p, x),
+            _ => self.answer(nodes, x.result, e.reply),
+        }
+    }
+
+    /// A live load or store, by what a load gives.
+    pub fn after_access(&mut self, x: &Instr, loaded: Source)
+        ensures value { (ns : NodeList) (p : NumberedProgram) (exact : Bool) (n : ℕ) (a : Access) (bytes : ℕ → Shadow)
+            → ((w : Width) (from : Value) → x.now.op ≡ Load w from → shadow_by ns loaded ≡ load_of exact n w a bytes)
+            → calls_by ns self.new ≡ with_top (along.after_access p exact n a bytes x.now x.now.op) (calls_by ns self.old) }
+        ensures is { (n : ℕ) → AreCalls n self.old → IsSource n loaded → AreCalls n self.new }
+    {
+        if let Op::Load { .. } = &x.op {
+            self.set(x.result, loaded);
+        }
+    }
+}

@@ -1,0 +1,176 @@
+//! What is known of operands.
+
+ghost use Rattle.std.specs.Prelude.{◌≡◌, ℕ, List, ◌∷◌, ◌++◌, [], IsTrue, length, map, IfOk, OnOk};
+ghost use Rattle.pg_ir.specs.declared.value.Index.{Index};
+ghost use Rattle.pg_run_thread.specs.Compute.{computes};
+ghost use Rattle.pg_run_thread.specs.Operands.{operands_of};
+ghost use Rattle.pg_precondition.specs.Nodes.{NodeList};
+ghost use Rattle.pg_slice_rules.specs.Shadows.{Shadow, result_of, shadow_of};
+ghost use Rattle.pg_slice_rules.specs.Known.{operand_shadows, optional_shadow};
+ghost use Rattle.pg_slice_values.specs.Sources.{Grew, IsSource, shadow_by};
+ghost use Rattle.pg_slice_values.specs.Forms.{CastFits};
+ghost use Rattle.pg_slice_registers.specs.Sourced.{AreSources, registers_by, result_by};
+
+use pg_ir::{Index, Op, Program, Value};
+use pg_precondition::Nodes;
+use pg_slice_values::{Source, operation, unset, value};
+use std::alloc::{AllocError, Global};
+
+/// An operand that there may be, by the registers of its frame; one that is missing was never set.
+pub(crate) fn optional(
+    nodes: &mut Nodes,
+    p: &Program,
+    v: Option<Value>,
+    registers: &[Source],
+) -> Result<Source, AllocError>
+    requires { AreSources (length nodes.old) registers.now }
+    ensures grew { Grew nodes.old nodes.new }
+    ensures is { IfOk result (IsSource (length nodes.new)) }
+    ensures value { IfOk result (λ s. shadow_by nodes.new s ≡ optional_shadow p.now (registers_by nodes.old registers.now) v) }
+{
+    match v {
+        Some(v) => value(nodes, p, v, registers),
+        None => unset(nodes),
+    }
+}
+
+/// Adds an operand that there may be to a list of sources.
+pub(crate) fn push_optional(
+    nodes: &mut Nodes,
+    p: &Program,
+    v: Option<Value>,
+    registers: &[Source],
+    sources: &mut Vec<Source>,
+) -> Result<(), AllocError>
+    requires registers { AreSources (length nodes.old) registers.now }
+    requires sources { AreSources (length nodes.old) sources.old.items }
+    ensures grew { Grew nodes.old nodes.new }
+    ensures is { OnOk result (AreSources (length nodes.new) sources.new.items) }
+    ensures value { OnOk result (registers_by nodes.new sources.new.items ≡ registers_by nodes.old sources.old.items ++ optional_shadow p.now (registers_by nodes.old registers.now) v ∷ []) }
+{
+    let s = optional(nodes, p, v, registers)?;
+    sources.push(s)?;
+    Ok(())
+}
+
+/// The operands of a list, by the registers of their frame.
+pub(crate) fn values(
+    alloc: Global,
+    nodes: &mut Nodes,
+    p: &Program,
+    args: &[Value],
+    registers: &[Source],
+) -> Result<Vec<Source>, AllocError>
+    requires sources { AreSources (length nodes.old) registers.now }
+    ensures grew { Grew nodes.old nodes.new }
+    ensures is { IfOk result (λ v. AreSources (length nodes.new) v.items) }
+    ensures value { IfOk result (λ v. registers_by nodes.new v.items ≡ map (shadow_of p.now (registers_by nodes.old registers.now)) args.now) }
+{
+    let mut sources = Vec::new(alloc);
+    for arg in args {
+        push_optional(nodes, p, Some(*arg), registers, &mut sources)?;
+    }
+    Ok(sources)
+}
+
+/// The operands of a `getelementptr`: its base, and its indices.
+fn index_list(alloc: Global, base: Value, indices: &[Index]) -> Result<Vec<Value>, AllocError>
+    ensures { IfOk result (λ v. v.items ≡ base ∷ map (λ (i : Index). i.value) indices.now) }
+{
+    let mut list = Vec::new(alloc);
+    list.push(base)?;
+    for index in indices {
+        list.push(index.value)?;
+    }
+    Ok(list)
+}
+
+/// The operands of an operation that only computes.
+fn operand_list(alloc: Global, op: &Op) -> Result<Vec<Value>, AllocError>
+    requires { IsTrue (computes op.now) }
+    ensures { IfOk result (λ v. v.items ≡ operands_of op.now) }
+{
+    match op {
+        Op::Add { left, right, .. }
+        | Op::Sub { left, right, .. }
+        | Op::Mul { left, right, .. }
+        | Op::Divide { left, right, .. }
+        | Op::Shift { left, right, .. }
+        | Op::Bits { left, right, .. }
+        | Op::Compare { left, right, .. } => Vec::from_slice(alloc, &[*left, *right]),
+        Op::Trunc { of, .. }
+        | Op::Zext { of, .. }
+        | Op::Sext { of, .. }
+        | Op::PtrToInt { of, .. }
+        | Op::IntToPtr { of, .. } => Vec::from_slice(alloc, &[*of]),
+        Op::Select { cond, yes, no } => Vec::from_slice(alloc, &[*cond, *yes, *no]),
+        Op::Gep { base, indices } => index_list(alloc, *base, indices.as_slice()),
+        _ => unreachable!(),
+    }
+}
+
+/// The operands of an operation that only computes, by the registers of their frame.
+fn operands(
+    alloc: Global,
+    nodes: &mut Nodes,
+    p: &Program,
+    op: &Op,
+    registers: &[Source],
+) -> Result<Vec<Source>, AllocError>
+    requires computes { IsTrue (computes op.now) }
+    requires sources { AreSources (length nodes.old) registers.now }
+    ensures grew { Grew nodes.old nodes.new }
+    ensures is { IfOk result (λ v. AreSources (length nodes.new) v.items) }
+    ensures value { IfOk result (λ v. registers_by nodes.new v.items ≡ operand_shadows p.now (registers_by nodes.old registers.now) op.now) }
+{
+    let list = operand_list(alloc, op)?;
+    values(alloc, nodes, p, list.as_slice(), registers)
+}
+
+/// A result, which has the frame of its base where it is a moved pointer.
+fn with_frame(op: &Op, operands: &[Source], s: Source) -> Source
+    ensures value { (ns : NodeList) (ss : List Shadow) → shadow_by ns s ≡ result_of op.now ss
+        → registers_by ns operands.now ≡ ss → length operands.now ≡ length (operands_of op.now) → shadow_by ns result ≡ result_by op.now ss }
+    ensures is { (n : ℕ) → AreSources n operands.now → IsSource n s → IsSource n result }
+{
+    match op {
+        Op::Gep { .. } => match operands.first() {
+            Some(base) => s.moved(*base),
+            None => s,
+        },
+        _ => s,
+    }
+}
+
+/// The result of an operation that only computes, by its operands.
+fn result(nodes: &mut Nodes, op: &Op, operands: &[Source]) -> Result<Source, AllocError>
+    requires computes { IsTrue (computes op.now) }
+    requires cast { CastFits op.now }
+    requires count { length operands.now ≡ length (operands_of op.now) }
+    requires sources { AreSources (length nodes.old) operands.now }
+    ensures grew { Grew nodes.old nodes.new }
+    ensures is { IfOk result (IsSource (length nodes.new)) }
+    ensures value { IfOk result (λ s. shadow_by nodes.new s ≡ result_by op.now (registers_by nodes.old operands.now)) }
+{
+    let s = operation(nodes, op, operands)?;
+    Ok(with_frame(op, operands, s))
+}
+
+/// The result of an operation that only computes, by the registers of its frame.
+pub(crate) fn computed(
+    alloc: Global,
+    nodes: &mut Nodes,
+    p: &Program,
+    op: &Op,
+    registers: &[Source],
+) -> Result<Source, AllocError>
+    requires computes { IsTrue (computes op.now) }
+    requires cast { CastFits op.now }
+    requires sources { AreSources (length nodes.old) registers.now }
+    ensures grew { Grew nodes.old nodes.new }
+    ensures is { IfOk result (IsSource (length nodes.new)) }
+    ensures value { IfOk result (λ s. shadow_by nodes.new s ≡ result_by op.now (operand_shadows p.now (registers_by nodes.old registers.now) op.now)) }
+{
+    let operands = operands(alloc, nodes, p, op, registers)?;
+    result(nodes, op, operands.as_slice())
+}

@@ -1,0 +1,109 @@
+//! What returns and exits hand on.
+
+ghost use Rattle.std.specs.Prelude.{◌≡◌, length, slice_set, IfOk, OnOk, OnErr};
+ghost use Rattle.pg_slice_rules.specs.Known.{exit_shadow, returned_shadow};
+ghost use Rattle.pg_slice_rules.specs.Known as along;
+ghost use Rattle.pg_slice_values.specs.Sources.{Grew, IsSource, shadow_by};
+ghost use Rattle.pg_slice_registers.specs.Sourced.{AreSources, registers_by};
+ghost use Rattle.pg_slice_registers.specs.Events.{HasOperands, IsExit};
+
+use crate::given::operand;
+use pg_ir::{Op, Program, Value};
+use pg_precondition::Nodes;
+use pg_run_trace::TurnKind;
+use pg_slice_values::{Source, constant, value};
+use std::alloc::AllocError;
+
+/// The value that a return hands on, 0 where it has none.
+fn returned(
+    nodes: &mut Nodes,
+    p: &Program,
+    v: Option<Value>,
+    registers: &[Source],
+) -> Result<Source, AllocError>
+    requires sources { AreSources (length nodes.old) registers.now }
+    ensures grew { Grew nodes.old nodes.new }
+    ensures is { IfOk result (IsSource (length nodes.new)) }
+    ensures value { IfOk result (λ s. shadow_by nodes.new s ≡ returned_shadow p.now (registers_by nodes.old registers.now) v) }
+{
+    match v {
+        Some(v) => value(nodes, p, v, registers),
+        None => constant(nodes, 0),
+    }
+}
+
+/// What an exit hands on; the `pthread_exit` of main hands on 0.
+fn exit_source(
+    nodes: &mut Nodes,
+    p: &Program,
+    thread: usize,
+    op: &Op,
+    registers: &[Source],
+) -> Result<Source, AllocError>
+    requires call { IsExit op.now }
+    requires sources { AreSources (length nodes.old) registers.now }
+    ensures grew { Grew nodes.old nodes.new }
+    ensures is { IfOk result (IsSource (length nodes.new)) }
+    ensures value { IfOk result (λ s. shadow_by nodes.new s ≡ exit_shadow p.now thread (registers_by nodes.old registers.now) op.now) }
+{
+    match op {
+        Op::Ret { value } => returned(nodes, p, *value, registers),
+        Op::CallKnown { .. } => {
+            if thread == 0 {
+                constant(nodes, 0)
+            } else {
+                operand(nodes, p, op, 0, registers)
+            }
+        }
+        _ => unreachable!(),
+    }
+}
+
+/// Puts a word in its place; past the end there is none.
+#[tactic(auto, using(crate::proofs::Sets::set_past))]
+fn put_word(words: &mut Vec<Source>, thread: usize, s: Source)
+    ensures { words.new.items ≡ slice_set words.old.items thread s }
+{
+    if thread < words.len() {
+        words[thread] = s;
+    }
+}
+
+/// The words of the threads after an event: a thread's argument until it ends, then its exit value.
+///
+/// # Errors
+///
+/// Where no memory is left. Nodes may have been added; the words are as before.
+#[tactic(auto, using(pg_slice_values::proofs::Grows::grew_none))]
+pub fn words_after(
+    nodes: &mut Nodes,
+    p: &Program,
+    thread: usize,
+    kind: TurnKind,
+    op: &Op,
+    registers: &[Source],
+    words: &mut Vec<Source>,
+) -> Result<(), AllocError>
+    requires call { HasOperands kind op.now }
+    requires registers { AreSources (length nodes.old) registers.now }
+    requires words { AreSources (length nodes.old) words.old.items }
+    ensures grew { Grew nodes.old nodes.new }
+    ensures is { OnOk result (AreSources (length nodes.new) words.new.items) }
+    ensures same { OnErr result (words.new.items ≡ words.old.items) }
+    ensures value { OnOk result (registers_by nodes.new words.new.items
+        ≡ along.words_after p.now thread kind (registers_by nodes.old registers.now) op.now (registers_by nodes.old words.old.items)) }
+{
+    match kind {
+        TurnKind::Exit => {
+            let s = exit_source(nodes, p, thread, op, registers)?;
+            put_word(words, thread, s);
+            Ok(())
+        }
+        TurnKind::Create => {
+            let s = operand(nodes, p, op, 3, registers)?;
+            words.push(s)?;
+            Ok(())
+        }
+        _ => Ok(()),
+    }
+}

@@ -1,5 +1,0 @@
-use Rattle.pg_sliceable.proofs.Sliceable.{exits_sliceable}
-use Rattle.pg_sliceable.proofs.laws.exiting_runs_can_be_sliced.Goals as goal
-
-pub returns : goal.returns
-returns c = exits_sliceable

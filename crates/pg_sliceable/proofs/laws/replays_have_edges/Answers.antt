@@ -1,5 +1,0 @@
-use Rattle.pg_sliceable.proofs.Sliceable.{replay_edges}
-use Rattle.pg_sliceable.proofs.laws.replays_have_edges.Goals as goal
-
-pub returns : goal.returns
-returns c = replay_edges

@@ -1,5 +1,0 @@
-use Rattle.pg_sound.proofs.Unbroken.{full_unbroken}
-use Rattle.pg_sound.proofs.laws.full_guided_runs_are_unbroken.Goals as goal
-
-pub returns : goal.returns
-returns c p input turns gated = full_unbroken p input turns gated

@@ -1,5 +1,0 @@
-use Rattle.pg_sound.proofs.Fronts.{prefix_keeps}
-use Rattle.pg_sound.proofs.prefixes.each_prefix_keeps_the_invariant.Goals as goal
-
-pub returns : goal.returns
-returns c p recorded input s sums regions xs d front rest z k q is run = prefix_keeps p recorded input s sums regions xs d k q front rest z is run

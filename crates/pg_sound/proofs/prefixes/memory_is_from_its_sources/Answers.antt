@@ -1,5 +1,0 @@
-use Rattle.pg_sound.proofs.Memory.{memory}
-use Rattle.pg_sound.proofs.prefixes.memory_is_from_its_sources.Goals as goal
-
-pub returns : goal.returns
-returns c r d input sums turns xs z h = memory r d input sums h.portions h.each h.in_order

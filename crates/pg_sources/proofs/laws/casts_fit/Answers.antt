@@ -1,5 +1,0 @@
-use Rattle.pg_sources.proofs.Widths.{casts_fit}
-use Rattle.pg_sources.proofs.laws.casts_fit.Goals as goal
-
-pub returns : goal.returns
-returns c p types gives given o h = casts_fit p types gives given o h

@@ -1,6 +1,0 @@
-use Rattle.std.proofs.Common.{◌<◌, length, subst, sym}
-use Rattle.pg_nodes.specs.Nodes.{Conditions}
-use Rattle.pg_sources_tests.proofs.moved.condition.Goals as goal
-
-pub push-requires : goal.push-requires
-push-requires c = subst (λ (z : Conditions). c.in-Some.node < length z.nodes) (sym c.new-precondition.ensures) (c.in-Some.ensures.node (length c.args.nodes) c.requires)

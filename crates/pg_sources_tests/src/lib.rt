@@ -1,4 +1,0 @@
-//! Sources of worked operations.
-#![tactic(auto)]
-
-mod moved;

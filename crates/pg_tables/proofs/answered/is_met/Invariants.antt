@@ -1,7 +1,0 @@
-use Rattle.std.proofs.Common.{◌≡◌, false}
-use Rattle.pg_tables.specs.Cells.{cell_at, is_above}
-use Rattle.pg_tables.specs.Touches.{any_byte}
-use Rattle.pg_tables.proofs.answered.is_met.Given as goal
-
-abbrev pub invariant-loop-i : goal.invariant-loop-i
-invariant-loop-i l = any_byte (is_above (cell_at l.table) l.touch) l.touch.start l.i ≡ false

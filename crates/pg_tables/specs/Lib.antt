@@ -1,2 +1,0 @@
-pub mod Touches
-pub mod Cells

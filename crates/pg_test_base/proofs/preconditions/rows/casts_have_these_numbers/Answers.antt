@@ -1,0 +1,7 @@
+use Rattle.std.proofs.Common.{refl}
+use Rattle.pg_precondition.specs.Values.{joined, numbers_behind}
+use Rattle.pg_test_base.proofs.rows.casts_have_these_numbers.Goals as goal
+
+pub returns : goal.returns
+unfolding joined numbers_behind
+returns c = refl

@@ -1,0 +1,8 @@
+//! Tests of numbers, of sources, sinks and shelves, of trials, of the bounded cache, of command lines, and of preconditions.
+#![tactic(auto)]
+
+#[cfg(test)]
+mod needed;
+mod preconditions;
+#[cfg(test)]
+mod tests;

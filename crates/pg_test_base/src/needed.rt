@@ -1,0 +1,3 @@
+//! Tests of preconditions over needed nodes: a worked row.
+
+mod rows;

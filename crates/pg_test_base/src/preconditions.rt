@@ -1,0 +1,4 @@
+//! Worked rows of preconditions.
+
+mod quotient;
+pub mod rows;

@@ -1,0 +1,203 @@
+//! Command lines and what they are.
+
+use pg_commands_words::{Command, command};
+use std::alloc::{AllocError, Global};
+use std::test::Fail;
+
+fn texts(alloc: Global, words: &[&str]) -> Result<Vec<String>, AllocError> {
+    let mut all = Vec::new(alloc);
+    for word in words {
+        all.push(String::from_str(alloc, word)?)?;
+    }
+    Ok(all)
+}
+
+#[test]
+fn command_lines(rt: HostRuntime) -> Result<(), Fail> {
+    let rows: [(&[&str], Option<(u32, &[i64])>); 39] = [
+        (&["once", "3", "5"], Some((100, &[3, 5]))),
+        (&["once", "--quantum", "1", "1"], Some((1, &[1]))),
+        (&["once", "-5"], None),
+        (&["once", "1", "--quantum", "0"], None),
+        (&["once"], Some((100, &[]))),
+        (&["once", "--", "-5"], Some((100, &[-5]))),
+        (
+            &["once", "--quantum=7", "1", "--", "-2"],
+            Some((7, &[1, -2])),
+        ),
+        (&["once", "1", "--quantum", "5", "2"], Some((5, &[1, 2]))),
+        (
+            &["once", "1", "2", "--quantum=10000"],
+            Some((10_000, &[1, 2])),
+        ),
+        (
+            &["once", "--quantum=007", "007", "--", "-0"],
+            Some((7, &[7, 0])),
+        ),
+        (&["once", "1", "--"], Some((100, &[1]))),
+        (
+            &["once", "--", "9223372036854775807", "-9223372036854775808"],
+            Some((100, &[i64::MAX, i64::MIN])),
+        ),
+        (&["once", "--quantum"], None),
+        (&["once", "1", "--quantum"], None),
+        (&["once", "--quantum", "--", "5"], None),
+        (&["once", "--quantum", "-5"], None),
+        (&["once", "--quantum="], None),
+        (&["once", "--quantum", "5", "--quantum", "6"], None),
+        (&["once", "--quantum=5", "1", "--quantum=5"], None),
+        (&["once", "--quantum", "10001"], None),
+        (&["once", "--quantum", "+5"], None),
+        (&["once", "--", "--quantum", "5"], None),
+        (&["once", "--", "--"], None),
+        (&["once", "1", "--", "2", "--", "3"], None),
+        (&["--quantum", "5", "once"], None),
+        (&["--", "once"], None),
+        (&["once", "-"], None),
+        (&["once", ""], None),
+        (&["once", "+1"], None),
+        (&["once", "1 2"], None),
+        (&["once", "99999999999999999999"], None),
+        (&["once", "9223372036854775808"], None),
+        (&["once", "--", "-9223372036854775809"], None),
+        (&["once", "--help"], None),
+        (&["once", "--quant", "5"], None),
+        (&["once", "--quantum5"], None),
+        (&["once", "-q", "5"], None),
+        (&["once", "once"], None),
+        (&[], None),
+    ];
+    for (words, want) in rows {
+        let words = texts(rt.alloc(), words)?;
+        let found = command(rt.alloc(), &words)?;
+        match &found {
+            Some(Command::Once(once)) => {
+                assert_eq!(rt; Some((once.quantum, once.numbers.as_slice())), want)
+            }
+            Some(_) => assert!(rt; false),
+            None => assert!(rt; want.is_none()),
+        }
+    }
+    Ok(())
+}
+
+#[test]
+fn how_many_numbers(rt: HostRuntime) -> Result<(), Fail> {
+    let rows: [(usize, bool); 4] = [(0, true), (511, true), (512, true), (513, false)];
+    for (count, is_command) in rows {
+        let mut words = texts(rt.alloc(), &["once", "--"])?;
+        for _ in 0..count {
+            words.push(String::from_str(rt.alloc(), "1")?)?;
+        }
+        let found = command(rt.alloc(), &words)?;
+        match &found {
+            Some(Command::Once(once)) => assert!(rt; is_command && once.numbers.len() == count),
+            Some(_) => assert!(rt; false),
+            None => assert!(rt; !is_command),
+        }
+    }
+    Ok(())
+}
+
+#[test]
+fn sessions(rt: HostRuntime) -> Result<(), Fail> {
+    let rows: [(&[&str], Option<(&str, u32)>); 22] = [
+        (&["serve", "x"], Some(("x", 100))),
+        (&["serve", "x", "--quantum", "10"], Some(("x", 10))),
+        (&["serve", "--quantum=10", "x"], Some(("x", 10))),
+        (&["serve", "-"], Some(("-", 100))),
+        (&["serve", "--quantum", "7", "-"], Some(("-", 7))),
+        (&["serve", "--", "--quantum"], Some(("--quantum", 100))),
+        (&["serve", "--", "-"], Some(("-", 100))),
+        (&["serve", "x", "--"], Some(("x", 100))),
+        (&["serve", ""], Some(("", 100))),
+        (&["serve", "serve"], Some(("serve", 100))),
+        (&["serve"], None),
+        (&["serve", "--"], None),
+        (&["serve", "x", "y"], None),
+        (&["serve", "x", "--", "y"], None),
+        (&["serve", "-x"], None),
+        (&["serve", "x", "--quantum", "0"], None),
+        (&["serve", "x", "--quantum", "-"], None),
+        (&["serve", "x", "--quantum", "1", "--quantum", "1"], None),
+        (&["serve", "x", "--free"], None),
+        (&["serve", "x", "--book", "y"], None),
+        (&["serve", "x", "-q"], None),
+        (&["book", "x"], None),
+    ];
+    for (words, want) in rows {
+        let words = texts(rt.alloc(), words)?;
+        let found = command(rt.alloc(), &words)?;
+        match &found {
+            Some(Command::Serve(serve)) => {
+                assert_eq!(rt; Some((serve.file.as_str(), serve.quantum)), want)
+            }
+            Some(_) => assert!(rt; false),
+            None => assert!(rt; want.is_none()),
+        }
+    }
+    Ok(())
+}
+
+#[test]
+fn shows(rt: HostRuntime) -> Result<(), Fail> {
+    let rows: [(&[&str], Option<(&str, u32, &[i64])>); 12] = [
+        (&["show", "x"], Some(("x", 100, &[]))),
+        (&["show", "x", "1", "2"], Some(("x", 100, &[1, 2]))),
+        (&["show", "1", "2"], Some(("1", 100, &[2]))),
+        (&["show", "--quantum", "1", "x", "0"], Some(("x", 1, &[0]))),
+        (&["show", "x", "--", "-5"], Some(("x", 100, &[-5]))),
+        (&["show", "--", "-x", "-5"], Some(("-x", 100, &[-5]))),
+        (&["show", "-", "3"], Some(("-", 100, &[3]))),
+        (&["show"], None),
+        (&["show", "x", "y"], None),
+        (&["show", "x", "-5"], None),
+        (&["show", "x", "-"], None),
+        (&["show", "x", "1", "--quantum", "10001"], None),
+    ];
+    for (words, want) in rows {
+        let words = texts(rt.alloc(), words)?;
+        let found = command(rt.alloc(), &words)?;
+        match &found {
+            Some(Command::Show(show)) => {
+                assert_eq!(rt;
+                    Some((show.file.as_str(), show.quantum, show.numbers.as_slice())),
+                    want
+                )
+            }
+            Some(_) => assert!(rt; false),
+            None => assert!(rt; want.is_none()),
+        }
+    }
+    Ok(())
+}
+
+#[test]
+fn trials(rt: HostRuntime) -> Result<(), Fail> {
+    let rows: [(&[&str], Option<u64>); 14] = [
+        (&["trial", "7"], Some(7)),
+        (&["trial", "0"], Some(0)),
+        (&["trial", "9999"], Some(9_999)),
+        (&["trial", "007"], Some(7)),
+        (&["trial", "--", "7"], Some(7)),
+        (&["trial", "7", "--"], Some(7)),
+        (&["trial"], None),
+        (&["trial", "10000"], None),
+        (&["trial", "-7"], None),
+        (&["trial", "--", "-7"], None),
+        (&["trial", "+7"], None),
+        (&["trial", "7", "8"], None),
+        (&["trial", "7", "--quantum", "5"], None),
+        (&["trial", "--quantum=5", "7"], None),
+    ];
+    for (words, want) in rows {
+        let words = texts(rt.alloc(), words)?;
+        let found = command(rt.alloc(), &words)?;
+        match &found {
+            Some(Command::Trial(number)) => assert_eq!(rt; Some(*number), want),
+            Some(_) => assert!(rt; false),
+            None => assert!(rt; want.is_none()),
+        }
+    }
+    Ok(())
+}

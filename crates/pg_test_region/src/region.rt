@@ -1,0 +1,5 @@
+//! Tests of walks in graphs and of regions.
+
+mod graphs;
+mod programs;
+mod regions;

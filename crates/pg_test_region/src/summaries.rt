@@ -1,0 +1,4 @@
+//! Tests of quiet functions and their summaries.
+
+mod programs;
+mod rows;

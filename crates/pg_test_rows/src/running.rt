@@ -1,0 +1,52 @@
+//! Runs of the top call on texts in memory, and the files of a row.
+use anyhow::Result;
+use pg_commands::{Status, peregrine};
+use pg_io::{MemoryShelf, MemorySink, MemorySource};
+use std::alloc::{AllocError, Global};
+use std::fs;
+
+/// The most bytes that a row writes.
+const ROOM: usize = 65_536;
+
+/// A text in the style of clang's output.
+pub(crate) const SHORTENED: &str = "shortened.ll";
+
+/// The words of a line.
+fn words_of(alloc: Global, line: &str) -> Result<Vec<String>, AllocError> {
+    let mut words = Vec::new(alloc);
+    for word in line.split_whitespace() {
+        words.push(String::from_str(alloc, word)?)?;
+    }
+    Ok(words)
+}
+
+/// The status of the command whose words these are, with this shelf and this source, and what it writes.
+pub(crate) fn outcome(
+    alloc: Global,
+    line: &str,
+    mut shelf: MemoryShelf,
+    mut src: MemorySource,
+) -> Result<(Status, Vec<u8>), AllocError> {
+    let words = words_of(alloc, line)?;
+    let mut out = MemorySink::new(alloc, ROOM, Vec::new(alloc))?;
+    let status = peregrine(alloc, &words, &mut src, &mut shelf, &mut out);
+    Ok((status, out.bytes().to_vec(alloc)?))
+}
+
+/// The files of these names, one behind the other.
+pub(crate) fn joined(rt: &HostRuntime, names: &str) -> Result<Vec<u8>> {
+    let mut text = Vec::new(rt.alloc());
+    for name in names.split_whitespace() {
+        let file = fs::read(rt, name)?;
+        text.extend_from_slice(file.as_slice())?;
+    }
+    Ok(text)
+}
+
+pub(crate) fn print_bytes(rt: &HostRuntime, bytes: &[u8]) -> Result<()> {
+    match str::from_utf8(bytes) {
+        Ok(text) => print!(rt; "{text}")?,
+        Err(_) => println!(rt; "bytes that are no text")?,
+    }
+    Ok(())
+}

@@ -1,0 +1,6 @@
+//! Tests of the top call, and of what it reads and writes with.
+
+mod faults;
+mod long;
+mod session;
+mod streams;

@@ -1,0 +1,175 @@
+//! Sessions by the top call where a call on the outside fails. The program `pg_test_rows` has sessions where none does.
+
+ghost use Rattle.std.specs.Prelude.{◌<◌};
+
+use crate::commands::session::SUM;
+use pg_commands::{Status, peregrine};
+use pg_io::{MemoryShelf, MemorySink, MemorySource, ShortSink, Sink};
+use std::alloc::{AllocError, Global};
+use std::test::Fail;
+
+/// Three lines. Reads of four bytes give one line each.
+const LINES: &[u8] = b"1 2\n3 4\n5 6\n";
+
+/// The replies to the lines, one after another.
+const REPLIES: &[u8] = b"recorded 0\n3\nexit 0 after 3 turns\n\
+reused 0\n7\nexit 0 after 3 turns\n\
+reused 0\n11\nexit 0 after 3 turns\n";
+
+/// How many bytes the replies to this many lines have.
+const ENDS: [usize; 4] = [0, 34, 66, 99];
+
+/// The fetches, the reads and the writes that fail.
+#[derive(Clone, Copy)]
+struct Faults<'a> {
+    fetches: &'a [u64],
+    reads: &'a [u64],
+    writes: &'a [u64],
+}
+
+const NONE: Faults<'static> = Faults {
+    fetches: &[],
+    reads: &[],
+    writes: &[],
+};
+
+fn words_of(alloc: Global, line: &str) -> Result<Vec<String>, AllocError> {
+    let mut words = Vec::new(alloc);
+    for word in line.split_whitespace() {
+        words.push(String::from_str(alloc, word)?)?;
+    }
+    Ok(words)
+}
+
+/// The status of a command on the program `x` and the lines.
+fn served<K: Sink>(
+    alloc: Global,
+    line: &str,
+    faults: Faults<'_>,
+    out: &mut K,
+) -> Result<Status, AllocError> {
+    let words = words_of(alloc, line)?;
+    let name = String::from_str(alloc, "x")?;
+    let mut files = Vec::new(alloc);
+    files.push((name, SUM.to_vec(alloc)?))?;
+    let mut shelf = MemoryShelf::new(alloc, files, faults.fetches.to_vec(alloc)?);
+    let mut src = MemorySource::new(LINES.to_vec(alloc)?, 4, faults.reads.to_vec(alloc)?);
+    Ok(peregrine(alloc, &words, &mut src, &mut shelf, out))
+}
+
+/// The status of a session and what it wrote, whole pieces alone.
+fn outcome(alloc: Global, faults: Faults<'_>) -> Result<(Status, Vec<u8>), AllocError> {
+    let mut out = MemorySink::new(alloc, 200, faults.writes.to_vec(alloc)?)?;
+    let status = served(alloc, "serve x", faults, &mut out)?;
+    Ok((status, out.bytes().to_vec(alloc)?))
+}
+
+#[test]
+fn each_read_fails(rt: HostRuntime) -> Result<(), Fail> {
+    for k in 0..5 {
+        let (status, written) = outcome(
+            rt.alloc(),
+            Faults {
+                reads: &[k as u64],
+                ..NONE
+            },
+        )?;
+        let want = if k < 4 {
+            Status::ReadFault
+        } else {
+            Status::Done
+        };
+        assert_eq!(rt; status, want, "read {}", k);
+        assert_eq!(rt;
+            written.as_slice(),
+            &REPLIES[..ENDS[k.min(3)]],
+            "read {}",
+            k
+        );
+    }
+    Ok(())
+}
+
+#[test]
+fn each_write_fails(rt: HostRuntime) -> Result<(), Fail> {
+    for k in 0..4 {
+        let (status, written) = outcome(
+            rt.alloc(),
+            Faults {
+                writes: &[k as u64],
+                ..NONE
+            },
+        )?;
+        let want = if k < 3 {
+            Status::WriteFault
+        } else {
+            Status::Done
+        };
+        assert_eq!(rt; status, want, "write {}", k);
+        assert_eq!(rt; written.as_slice(), &REPLIES[..ENDS[k]], "write {}", k);
+    }
+    Ok(())
+}
+
+#[test]
+fn a_fetch_fails(rt: HostRuntime) -> Result<(), Fail> {
+    let (status, written) = outcome(
+        rt.alloc(),
+        Faults {
+            fetches: &[0],
+            ..NONE
+        },
+    )?;
+    assert_eq!(rt; status, Status::ShelfFault);
+    assert!(rt; written.is_empty());
+    let (status, written) = outcome(
+        rt.alloc(),
+        Faults {
+            fetches: &[1],
+            ..NONE
+        },
+    )?;
+    assert_eq!(rt; status, Status::Done);
+    assert_eq!(rt; written.as_slice(), REPLIES);
+    Ok(())
+}
+
+#[test]
+fn a_sink_takes_one_byte_a_call(rt: HostRuntime) -> Result<(), Fail> {
+    let alloc = rt.alloc();
+    let mut out = ShortSink::new(alloc, 200, 1, [5].to_vec(alloc)?)?;
+    assert_eq!(rt;
+        served(alloc, "serve x", NONE, &mut out)?,
+        Status::WriteFault
+    );
+    assert_eq!(rt; out.bytes(), b"recor".as_slice());
+    let mut out = ShortSink::new(alloc, 200, 1, Vec::new(alloc))?;
+    assert_eq!(rt; served(alloc, "serve x", NONE, &mut out)?, Status::Done);
+    assert_eq!(rt; out.bytes(), REPLIES);
+    Ok(())
+}
+
+#[test]
+fn show_reads_nothing(rt: HostRuntime) -> Result<(), Fail> {
+    let alloc = rt.alloc();
+    let faults = Faults {
+        reads: &[0],
+        ..NONE
+    };
+    let mut out = MemorySink::new(alloc, 200, Vec::new(alloc))?;
+    assert_eq!(rt;
+        served(alloc, "show x 1 2", faults, &mut out)?,
+        Status::Done
+    );
+    assert!(rt;
+        out.bytes()
+            .starts_with(b"recorded 0\nturn 0 thread 0 start at 0 on 0\n")
+    );
+    let mut out = MemorySink::new(alloc, 200, [0].to_vec(alloc)?)?;
+    assert_eq!(rt;
+        served(alloc, "show x 1 2", NONE, &mut out)?,
+        Status::WriteFault
+    );
+    assert!(rt; out.bytes().is_empty());
+    Ok(())
+}

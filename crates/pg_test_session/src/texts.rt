@@ -1,0 +1,4 @@
+//! Tests of the texts of a session: worked rows.
+
+mod replies;
+mod shows;

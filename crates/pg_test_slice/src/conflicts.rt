@@ -1,0 +1,5 @@
+//! Tests of conflicts of byte ranges: the two forms compared on made prints, and worked rows.
+
+mod kind;
+mod made;
+mod rows;

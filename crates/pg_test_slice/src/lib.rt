@@ -1,0 +1,12 @@
+//! Tests of slices, and of what they are made of: known values, memory, conflicts, replays.
+#![tactic(auto)]
+
+#[cfg(test)]
+mod conflicts;
+#[cfg(test)]
+mod memory;
+#[cfg(test)]
+mod replays;
+#[cfg(test)]
+mod slices;
+mod values;

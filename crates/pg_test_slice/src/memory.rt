@@ -1,0 +1,4 @@
+//! Tests of what is known of memory: worked rows, and how long forgotten megabytes take.
+
+mod rows;
+mod speed;

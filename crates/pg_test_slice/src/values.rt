@@ -1,0 +1,3 @@
+//! Sources of worked operations.
+
+mod moved;

@@ -1,5 +1,0 @@
-use Rattle.pg_units.proofs.Settled as law
-use Rattle.pg_units.proofs.plan.units_are_ordered.Goals as goal
-
-pub returns : goal.returns
-returns c r d o closed plain = law.is_plan r d o closed plain

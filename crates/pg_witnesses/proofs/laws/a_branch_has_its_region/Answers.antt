@@ -1,6 +1,0 @@
-use Rattle.pg_witnesses.proofs.Short.{short_calls}
-use Rattle.pg_witnesses.proofs.Regions.{region_of}
-use Rattle.pg_witnesses.proofs.laws.a_branch_has_its_region.Goals as goal
-
-pub returns : goal.returns
-returns c p gated sums program h b = region_of p program gated sums (short_calls p program gated sums h) b
