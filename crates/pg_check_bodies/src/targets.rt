@@ -11,6 +11,7 @@ ghost use Rattle.pg_check_rules.specs.BlockConditions.{has_text, goes_to, label_
 ghost use Rattle.pg_check_bodies.specs.BodyBlocks.{bare_node, named_block};
 
 use crate::blocks::NamedBlock;
+use pg_num::either;
 use pg_read_ast::{CaseNode, LineNode, Name, OpNode};
 use std::alloc::{AllocError, Global};
 
@@ -29,12 +30,6 @@ fn cases_go_to(cases: &[CaseNode], text: &[u8]) -> bool
         }
     }
     false
-}
-
-fn either(one: bool, other: bool) -> bool
-    ensures { result ≡ (one || other) }
-{
-    one || other
 }
 
 /// Whether an operation may go on to the block of a label.

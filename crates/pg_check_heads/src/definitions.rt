@@ -34,8 +34,8 @@ use pg_check_rules::{
 };
 use pg_check_types::{TypeKind, TypeNumbers};
 use pg_ir::Scalar;
-use pg_num::Width;
 use pg_num::limits::FUNCTION_LIMIT;
+use pg_num::{Width, either};
 use pg_read_ast::{DefineItem, NextNumber, ParamNode, TypeNode};
 use pg_read_lex::Span;
 use std::alloc::{AllocError, Global};
@@ -206,12 +206,6 @@ fn is_past_limit(number: usize) -> bool
     ensures { result ≡ nat_le FUNCTION_LIMIT number }
 {
     FUNCTION_LIMIT as usize <= number
-}
-
-fn either(one: bool, other: bool) -> bool
-    ensures { result ≡ (one || other) }
-{
-    one || other
 }
 
 /// The first refusal of the head of a function that is defined.

@@ -13,6 +13,7 @@ use crate::names::{index_names, place_of_name};
 use crate::resolving::type_number;
 use crate::table::TypeTable;
 use indexmap::IndexMap;
+use pg_num::either;
 use pg_read_ast::TypeItem;
 use std::alloc::{AllocError, Global};
 
@@ -95,12 +96,6 @@ fn find_item(
         }
         None => Ok(false),
     }
-}
-
-fn either(one: bool, other: bool) -> bool
-    ensures { result ≡ (one || other) }
-{
-    one || other
 }
 
 /// Notes the numbers of the types of two items, one so far from the start as the other is from the end,

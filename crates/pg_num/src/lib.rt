@@ -17,6 +17,7 @@ mod places;
 mod pointer;
 mod shifts;
 mod signed;
+mod truth;
 mod width;
 
 pub use access::place;
@@ -31,4 +32,5 @@ pub use places::{Place, PlaceFault};
 pub use pointer::{Pointer, move_by, move_by_index, pack, unpack};
 pub use shifts::shift;
 pub use signed::{from_signed, to_signed};
+pub use truth::either;
 pub use width::Width;

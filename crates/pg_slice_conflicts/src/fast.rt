@@ -13,14 +13,8 @@ use crate::pass::Pass;
 use crate::places::{Placed, place_all};
 use crate::table::{answered_before, no_marks};
 use crate::tree::{Tree, tree_over};
+use pg_num::either;
 use std::alloc::{AllocError, Global};
-
-/// Whether one of the two is set.
-fn either(a: bool, b: bool) -> bool
-    ensures { result ≡ (a || b) }
-{
-    a || b
-}
 
 /// Sets each mark that is set in the other list.
 fn join(marks: &mut [bool], others: &[bool])

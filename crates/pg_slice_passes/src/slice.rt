@@ -11,6 +11,7 @@ ghost use Rattle.pg_slice_passes.specs.Sliced.{IsSliceOf};
 
 use crate::given::GivenRun;
 use crate::pass::pass_over;
+use pg_num::either;
 use pg_precondition::Precondition;
 use pg_slice_decisions::DecisionSet;
 use pg_slice_rules::{Decision, Decisions};
@@ -56,13 +57,6 @@ fn decision_at(missing: &[Decision], i: usize) -> Decision
     ensures { slice_get missing.now i ≡ Some result }
 {
     missing[i]
-}
-
-/// Whether one of two tests holds.
-fn either(first: bool, second: bool) -> bool
-    ensures { result ≡ (first || second) }
-{
-    first || second
 }
 
 /// Takes those decisions on the first so many steps that aren't taken, and gives whether there were such.
