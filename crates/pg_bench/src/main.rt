@@ -1,72 +1,51 @@
-//! Takes a run of `examples/loop.ll` many times, so that its time tells how many steps the machine takes in
-//! a second: with no word the rotation run once, with `rotation N` or `guided N` that run N times.
+//! Measures the parts of the program. The first word says which, and the others what of it; with no word a row of each is told,
+//! without times.
+//!
+//!     steps [rotation N | guided N]         how many steps the machine takes
+//!     races STEPS THREADS                   the races of a made trace
+//!     regions [chain | functions | nested | exits]     the regions of the branches of a made program
+//!     recordings [shares N | slice LENGTH [SHAPE] | run LENGTH [SHAPE]]     what recording a line takes, and using its entry
 #![tactic(auto)]
 
-mod counting;
+mod races;
+mod recordings;
+mod regions;
+mod steps;
 
-use crate::counting::{counting, start_and_exit};
-use anyhow::Result;
-use pg_ir::Program;
-use pg_run::{guide, rotate};
-use std::alloc::Global;
+use anyhow::{Result, anyhow};
 use std::env;
 
-/// The quantum of the rotation runs.
-const QUANTUM: u32 = 100;
-
-/// How many steps these rotation runs have together.
-fn rotated(alloc: Global, p: &Program, runs: u32) -> Result<u64> {
-    let mut steps: u64 = 0;
-    for _ in 0..runs {
-        let recorded = rotate(alloc, p, &[], QUANTUM)?;
-        steps = steps.wrapping_add(recorded.trace.len() as u64);
-    }
-    Ok(steps)
-}
-
-/// How many turns these guided runs have together. They take the steps of as many rotation runs, and
-/// record none.
-fn guided(alloc: Global, p: &Program, runs: u32) -> Result<u64> {
-    let s = start_and_exit(alloc)?;
-    let mut turns: u64 = 0;
-    for _ in 0..runs {
-        let run = guide(alloc, p, &[], &s)?;
-        turns = turns.wrapping_add(run.turns as u64);
-    }
-    Ok(turns)
-}
-
-/// The words of the command line after the program's own name.
-fn words(rt: &HostRuntime) -> Result<Vec<String>> {
-    let words = env::args(rt)?.skip(1).collect(rt.alloc())?;
+/// The words of the command line behind so many, the program's own name among these.
+fn words_behind(rt: &HostRuntime, count: usize) -> Result<Vec<String>> {
+    let words = env::args(rt)?.skip(count).collect(rt.alloc())?;
     Ok(words)
 }
 
-/// The second word as a number, 1 where there is none.
-fn runs_of(words: &[String]) -> Result<u32> {
-    match words.get(1) {
-        Some(word) => Ok(word.parse::<u32>()?),
-        None => Ok(1),
-    }
+/// A row of each, without times.
+fn all(rt: &HostRuntime) -> Result<()> {
+    steps::run(rt, &[])?;
+    races::run(rt, &[])?;
+    regions::run(rt, &[])?;
+    recordings::run(rt, &[])
 }
 
-fn is_guided(words: &[String]) -> bool {
-    match words.get(0) {
-        Some(word) => word.as_str() == "guided",
-        None => false,
+/// What the first word names.
+fn named(rt: &HostRuntime, word: &str) -> Result<()> {
+    let words = words_behind(rt, 2)?;
+    let others = words.as_slice();
+    match word {
+        "steps" => steps::run(rt, others),
+        "races" => races::run(rt, others),
+        "regions" => regions::run(rt, others),
+        "recordings" => recordings::run(rt, others),
+        _ => Err(anyhow!("the first word is steps, races, regions or recordings")),
     }
 }
 
 fn main(rt: HostRuntime) -> Result<()> {
-    let words = words(&rt)?;
-    let runs = runs_of(&words)?;
-    let p = counting(rt.alloc(), 66_666)?;
-    if is_guided(&words) {
-        let turns = guided(rt.alloc(), &p, runs)?;
-        println!(rt; "{turns} turns")?;
-    } else {
-        let steps = rotated(rt.alloc(), &p, runs)?;
-        println!(rt; "{steps} steps")?;
+    let words = words_behind(&rt, 1)?;
+    match words.as_slice().get(0) {
+        Some(word) => named(&rt, word.as_str()),
+        None => all(&rt),
     }
-    Ok(())
 }

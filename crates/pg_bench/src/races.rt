@@ -1,14 +1,11 @@
 //! Takes the races of a made trace, and whether it is ordered, so that the time tells how they grow: the first
 //! word is the number of steps, the second the number of threads. With no word it takes 1,000 steps of 8 threads.
 //! The first racing steps of the instructions stand all along the trace.
-#![tactic(auto)]
-
 use anyhow::Result;
 use pg_ir::{InstrId, ThreadNo};
 use pg_run_trace::{Access, Event, Step, StepKind, Trace, TurnKind};
 use pg_schedule::{is_ordered, races};
 use std::alloc::Global;
-use std::env;
 use std::time::Instant;
 
 /// The instructions that access memory.
@@ -91,12 +88,6 @@ fn made(alloc: Global, steps: usize, threads: u8) -> Result<Trace> {
     Ok(trace)
 }
 
-/// The words of the command line after the program's own name.
-fn words(rt: &HostRuntime) -> Result<Vec<String>> {
-    let words = env::args(rt)?.skip(1).collect(rt.alloc())?;
-    Ok(words)
-}
-
 fn number_in(words: &[String], i: usize, none: u32) -> Result<u32> {
     match words.get(i) {
         Some(word) => Ok(word.parse::<u32>()?),
@@ -104,16 +95,16 @@ fn number_in(words: &[String], i: usize, none: u32) -> Result<u32> {
     }
 }
 
-fn main(rt: HostRuntime) -> Result<()> {
-    let words = words(&rt)?;
-    let steps = number_in(&words, 0, 1_000)? as usize;
-    let threads = (number_in(&words, 1, 8)? % 256) as u8;
+/// Measures what these words ask for.
+pub(crate) fn run(rt: &HostRuntime, words: &[String]) -> Result<()> {
+    let steps = number_in(words, 0, 1_000)? as usize;
+    let threads = (number_in(words, 1, 8)? % 256) as u8;
     let trace = made(rt.alloc(), steps, threads)?;
-    let start = Instant::now(&rt)?;
+    let start = Instant::now(rt)?;
     let found = races(rt.alloc(), &trace)?;
-    let raced = start.elapsed(&rt)?.as_millis();
+    let raced = start.elapsed(rt)?.as_millis();
     let pair = is_ordered(rt.alloc(), &trace)?;
-    let ordered = start.elapsed(&rt)?.as_millis();
+    let ordered = start.elapsed(rt)?.as_millis();
     let count = found.len();
     let is_ordered = pair.is_none();
     if words.is_empty() {

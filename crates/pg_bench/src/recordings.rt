@@ -10,8 +10,6 @@
 //! one shape alone, `branches`, `array`, or `chain`, a sum in memory of which a print depends. `run LENGTH SHAPE` does all but
 //! the slice, so that the memory of the slice can be told: `/usr/bin/time -v` prints the greatest resident set of either, and
 //! their difference, divided by the steps, is what the slice adds a step to the most that was taken before it.
-#![tactic(auto)]
-
 mod command;
 mod counts;
 mod measuring;
@@ -20,22 +18,15 @@ mod samples;
 mod shapes;
 mod shares;
 
-use crate::command::{Command, parse};
-use crate::counts::Counts;
-use crate::measuring::{Extent, Job, Report, measured};
-use crate::samples::{Measured, SAMPLES};
-use crate::shapes::{Shape, name_of, parts_of, rounds_of};
-use crate::shares::{Shares, between, faster, percent};
+use crate::recordings::command::{Command, parse};
+use crate::recordings::counts::Counts;
+use crate::recordings::measuring::{Extent, Job, Report, measured};
+use crate::recordings::samples::{Measured, SAMPLES};
+use crate::recordings::shapes::{Shape, name_of, parts_of, rounds_of};
+use crate::recordings::shares::{Shares, between, faster, percent};
 use anyhow::Result;
 use pg_ir::Program;
 use pg_test_samples::build;
-use std::env;
-
-/// The words of the command line after the program's own name.
-fn words(rt: &HostRuntime) -> Result<Vec<String>> {
-    let words = env::args(rt)?.skip(1).collect(rt.alloc())?;
-    Ok(words)
-}
 
 /// The fastest of so many measurements, and of one at least.
 fn fastest(rt: &HostRuntime, job: &Job, runs: u32) -> Result<Report> {
@@ -175,11 +166,11 @@ fn measure_shapes(
     measure_long(rt, extent, length, Shape::Array)
 }
 
-fn main(rt: HostRuntime) -> Result<()> {
-    let words = words(&rt)?;
-    match parse(words.as_slice())? {
-        Command::Counts => measure_samples(&rt, None),
-        Command::Shares(runs) => measure_samples(&rt, Some(runs)),
-        Command::Long(extent, length, shape) => measure_shapes(&rt, extent, length, shape),
+/// Measures what these words ask for.
+pub(crate) fn run(rt: &HostRuntime, words: &[String]) -> Result<()> {
+    match parse(words)? {
+        Command::Counts => measure_samples(rt, None),
+        Command::Shares(runs) => measure_samples(rt, Some(runs)),
+        Command::Long(extent, length, shape) => measure_shapes(rt, extent, length, shape),
     }
 }

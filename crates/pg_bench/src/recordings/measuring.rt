@@ -8,9 +8,9 @@ ghost use Rattle.pg_slice_replay.specs.Kept.{step_count};
 ghost use Rattle.pg_slice_passes.specs.Given.{AreGiven, AreSteps, EdgesStand};
 ghost use Rattle.pg_law_reference.specs.Sliceable.{CanBeSliced};
 
-use crate::counts::Counts;
-use crate::recording::{are_instructions, rotate, scheduled};
-use crate::shares::Moments;
+use crate::recordings::counts::Counts;
+use crate::recordings::recording::{are_instructions, rotate, scheduled};
+use crate::recordings::shares::Moments;
 use anyhow::{Result, anyhow};
 use pg_ir::Program;
 use pg_law_reference::laws::replays_have_edges;

@@ -1,7 +1,7 @@
 //! The words of the command line.
 
-use crate::measuring::Extent;
-use crate::shapes::{Shape, name_of};
+use crate::recordings::measuring::Extent;
+use crate::recordings::shapes::{Shape, name_of};
 use anyhow::{Result, anyhow};
 
 /// What is measured.

@@ -1,23 +1,14 @@
 //! Finds the regions of all branches of a made program, and tells how long that took: `chain`, one function of 60,000
 //! instructions with 5,000 branches; `functions`, 500 functions with ten branches each; `nested`, 10,000 branches of which
 //! each stands in the one before; `exits`, a loop with 10,000 exits. With no such word it takes a function with ten branches.
-#![tactic(auto)]
-
 mod shapes;
 
-use crate::shapes::{chains, exits, nested};
+use crate::regions::shapes::{chains, exits, nested};
 use anyhow::Result;
 use pg_ir::{InstrId, Op, Program};
 use pg_region::Finder;
 use std::alloc::Global;
-use std::env;
 use std::time::Instant;
-
-/// The words of the command line after the program's own name.
-fn words(rt: &HostRuntime) -> Result<Vec<String>> {
-    let words = env::args(rt)?.skip(1).collect(rt.alloc())?;
-    Ok(words)
-}
 
 /// The program that a word names, and where it names none that with ten branches.
 fn named(alloc: Global, word: &str) -> Result<Program> {
@@ -67,12 +58,12 @@ fn counts(alloc: Global, p: &Program) -> Result<(u32, u64)> {
     Ok((regions, blocks))
 }
 
-fn main(rt: HostRuntime) -> Result<()> {
-    let words = words(&rt)?;
-    let p = program(rt.alloc(), words.as_slice())?;
-    let start = Instant::now(&rt)?;
+/// Measures what these words ask for.
+pub(crate) fn run(rt: &HostRuntime, words: &[String]) -> Result<()> {
+    let p = program(rt.alloc(), words)?;
+    let start = Instant::now(rt)?;
     let (regions, blocks) = counts(rt.alloc(), &p)?;
-    let taken = start.elapsed(&rt)?.as_millis();
+    let taken = start.elapsed(rt)?.as_millis();
     if words.is_empty() {
         println!(rt; "{regions} regions of {blocks} blocks")?;
     } else {
