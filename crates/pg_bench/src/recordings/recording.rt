@@ -4,7 +4,7 @@ ghost use Rattle.pg_num.specs.declared.limits.TheConstants.{RECORDING_STEP_LIMIT
 ghost use Rattle.pg_ir.specs.declared.ids.InstrId.{InstrId as AnInstrId};
 ghost use Rattle.pg_run_trace.specs.Races.{schedule_of};
 ghost use Rattle.pg_run.specs.Rotation.{rotation_of};
-ghost use Rattle.pg_entry_bench.specs.declared.recording.TheConstants.{QUANTUM as ITS_QUANTUM};
+ghost use Rattle.pg_bench.specs.declared.recordings.recording.TheConstants.{QUANTUM as ITS_QUANTUM};
 
 use pg_ir::{InstrId, Program};
 use pg_run::rotate_into;

@@ -4,8 +4,8 @@ use Rattle.std.proofs.lemmas.List.Sums.{count_by_more_no, count_by_more_yes}
 use Rattle.std.proofs.lemmas.Option.{slice_get_within, get_or_from_slice_get}
 use Rattle.pg_slice_rules.specs.Known as known
 use Rattle.pg_run_trace.specs.declared.step.Step.{Step}
-use Rattle.pg_entry_bench.proofs.counts.branch_count.Goals as goal
-use Rattle.pg_entry_bench.proofs.counts.branch_count.Goals.{then-is_branch, else-is_branch}
+use Rattle.pg_bench.proofs.recordings.counts.branch_count.Goals as goal
+use Rattle.pg_bench.proofs.recordings.counts.branch_count.Goals.{then-is_branch, else-is_branch}
 
 abbrev at_branch : Step → Bool
 at_branch x = known.is_branch x.kind

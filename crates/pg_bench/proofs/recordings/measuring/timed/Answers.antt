@@ -1,5 +1,5 @@
 use Rattle.std.proofs.Common.{◌∙◌}
-use Rattle.pg_entry_bench.proofs.measuring.timed.Goals as goal
+use Rattle.pg_bench.proofs.recordings.measuring.timed.Goals as goal
 
 pub sliced-requires : goal.sliced-requires
 sliced-requires c = record {

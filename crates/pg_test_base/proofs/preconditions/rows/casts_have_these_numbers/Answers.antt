@@ -1,6 +1,6 @@
 use Rattle.std.proofs.Common.{refl}
 use Rattle.pg_precondition.specs.Values.{joined, numbers_behind}
-use Rattle.pg_test_base.proofs.rows.casts_have_these_numbers.Goals as goal
+use Rattle.pg_test_base.proofs.preconditions.rows.casts_have_these_numbers.Goals as goal
 
 pub returns : goal.returns
 unfolding joined numbers_behind

@@ -1,6 +1,6 @@
 use Rattle.std.proofs.Common.{refl}
 use Rattle.pg_precondition.specs.Values.{joined, numbers_behind}
-use Rattle.pg_test_base.proofs.rows.frames_are_met.Goals as goal
+use Rattle.pg_test_base.proofs.preconditions.rows.frames_are_met.Goals as goal
 
 pub returns-clause-moved : goal.returns-clause-moved
 unfolding joined numbers_behind

@@ -1,6 +1,6 @@
 use Rattle.std.proofs.Common.{◌<◌, ℕ, List, [], ◌∷◌, length, slice_index_or, zero, suc, arith}
 use Rattle.pg_ir.specs.declared.ids.InstrId.{InstrId}
-use Rattle.pg_test_region.proofs.rows.gated_store.Goals as goal
+use Rattle.pg_test_region.proofs.summaries.rows.gated_store.Goals as goal
 
 only : (n : ℕ) → 2 < n → (k : ℕ) (d : InstrId) → k < 1 → (slice_index_or (record { 0 = 2 } ∷ []) k d).0 < n
 only n few zero d lt = few

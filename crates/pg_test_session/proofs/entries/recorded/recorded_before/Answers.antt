@@ -1,6 +1,6 @@
 use Rattle.pg_run.specs.Rotation.{rotation_of}
 use Rattle.pg_session_entry.proofs.Serves.{recording}
-use Rattle.pg_test_session.proofs.recorded.recorded_before.Goals as goal
+use Rattle.pg_test_session.proofs.entries.recorded.recorded_before.Goals as goal
 
 pub from_recorded-requires-clause-recording : goal.from_recorded-requires-clause-recording
 from_recorded-requires-clause-recording c =

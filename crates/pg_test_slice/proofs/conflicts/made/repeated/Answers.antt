@@ -1,7 +1,7 @@
 use Rattle.std.proofs.Common.{◌+◌, ◌/◌, arith, sym, subst}
 use Rattle.pg_slice_conflicts.specs.Meets.{InOrder}
 use Rattle.pg_test_slice.proofs.Ordered.{AreUpTo, next_turn, order_push, up_push}
-use Rattle.pg_test_slice.proofs.made.repeated.Goals as goal
+use Rattle.pg_test_slice.proofs.conflicts.made.repeated.Goals as goal
 
 pub loop-k-init : goal.loop-k-init
 loop-k-init c = (subst InOrder (sym c.new-prints.ensures.items) tt, subst (AreUpTo (0 / 8)) (sym c.new-prints.ensures.items) tt)

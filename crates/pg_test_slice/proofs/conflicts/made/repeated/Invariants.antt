@@ -1,7 +1,7 @@
 use Rattle.std.proofs.Common.{◌/◌}
 use Rattle.pg_slice_conflicts.specs.Meets.{InOrder}
 use Rattle.pg_test_slice.proofs.Ordered.{AreUpTo}
-use Rattle.pg_test_slice.proofs.made.repeated.Given as goal
+use Rattle.pg_test_slice.proofs.conflicts.made.repeated.Given as goal
 
 abbrev pub invariant-loop-k : goal.invariant-loop-k
 invariant-loop-k l = InOrder l.prints.items × AreUpTo (l.k / 8) l.prints.items

@@ -4,7 +4,7 @@ use Rattle.pg_ir.specs.declared.ids.InstrId.{InstrId}
 use Rattle.pg_run.specs.Runs.{IsRun}
 use Rattle.pg_run.specs.State.{State, initial}
 use Rattle.pg_region_summaries.specs.Summaries.{AreSummaries}
-use Rattle.pg_test_slice.proofs.tests.runs.replayed.Goals as goal
+use Rattle.pg_test_slice.proofs.slices.tests.runs.replayed.Goals as goal
 
 pub reference-requires-clause-run : goal.reference-requires-clause-run
 reference-requires-clause-run g c =

@@ -1,5 +1,5 @@
 use Rattle.std.proofs.Common.{◌∙◌}
-use Rattle.pg_test_slice.proofs.tests.runs.timed.Goals as goal
+use Rattle.pg_test_slice.proofs.slices.tests.runs.timed.Goals as goal
 
 pub sliced-requires : goal.sliced-requires
 sliced-requires g c = record {
