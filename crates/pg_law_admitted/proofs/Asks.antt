@@ -26,7 +26,7 @@ use Rattle.pg_run.specs.State.{State, action_in, next_of}
 use Rattle.pg_law_effects.specs.Views.{begun_in, local_at}
 use Rattle.pg_law_effects.proofs.Few.{IsAllowed}
 use Rattle.pg_law_runs.specs.Deeds.{owners_of}
-use Rattle.pg_law_plan.specs.Answered.{Answered, answers}
+use Rattle.pg_law_runs.specs.Answered.{Answered, answers}
 use Rattle.pg_law_plan.specs.Moves.{RunDeed}
 use Rattle.pg_law_plan.proofs.Replies.{answered_turns}
 

@@ -39,7 +39,7 @@ use Rattle.pg_law_order.specs.Good.{IsGoodRun, replies_of}
 use Rattle.pg_law_runs.specs.Cuts.{CanRun, IsAtCut, IsFrontOf, IsOrderedAlong, IsOrderedFull}
 use Rattle.pg_law_runs.proofs.Maximal.{drop_end}
 use Rattle.pg_law_runs.proofs.Permitted as law
-use Rattle.pg_law_plan.specs.Answered.{Answered, AreFirst, answers}
+use Rattle.pg_law_runs.specs.Answered.{Answered, AreFirst, answers}
 use Rattle.pg_law_plan.specs.Fits.{IsAlikeFor}
 use Rattle.pg_law_plan.specs.Likes.{IsCellLike, MovedThread, StandLike, like}
 use Rattle.pg_law_plan.specs.Lists.{Has}
@@ -61,7 +61,8 @@ use Rattle.pg_law_admitted.proofs.Admitted.{IsAdmitted}
 use Rattle.pg_law_admitted.proofs.Begin as begin
 use Rattle.pg_law_admitted.proofs.Falling.{run_falls}
 use Rattle.pg_law_admitted.proofs.Following.{moves_follow, obeys}
-use Rattle.pg_law_admitted.proofs.Good.{first_replies, given, none_left, nothing, own_trap, replies_are, trap_before}
+use Rattle.pg_law_order.proofs.Replies.{first_replies, given, replies_are}
+use Rattle.pg_law_admitted.proofs.Good.{none_left, nothing, own_trap, trap_before}
 use Rattle.pg_law_admitted.proofs.Joins.{units_again}
 use Rattle.pg_law_admitted.proofs.Ordering.{falls_answers, falls_ordered}
 use Rattle.pg_law_admitted.proofs.Read.{paths_are_read}

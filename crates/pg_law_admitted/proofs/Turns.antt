@@ -47,7 +47,7 @@ use Rattle.pg_law_runs.specs.Deeds.{local_event, local_goes, local_granted, owne
 use Rattle.pg_law_runs.proofs.Deeds.{event_seen, get_behind, goes_by, some_turn}
 use Rattle.pg_law_runs.proofs.Maximal.{not_ended}
 use Rattle.pg_law_runs.proofs.Rules.{Steps, looks, none_granted, steps_by}
-use Rattle.pg_law_plan.specs.Answered.{Answered, answers}
+use Rattle.pg_law_runs.specs.Answered.{Answered, answers}
 use Rattle.pg_law_plan.specs.Fits.{IsAlikeFor, IsRemembered, thread_before}
 use Rattle.pg_law_plan.specs.Likes.{IsCellLike, IsThreadLike, MovedThread, PlanThread, StandLike, like}
 use Rattle.pg_law_plan.specs.Lists.{Has}

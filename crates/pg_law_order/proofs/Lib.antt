@@ -7,3 +7,7 @@ pub mod Strays
 pub mod Schedules
 pub mod Rotated
 pub mod Turns
+pub mod Replies
+pub mod Events
+pub mod Outputs
+pub mod Serves

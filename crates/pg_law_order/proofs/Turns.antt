@@ -49,6 +49,28 @@ pub exited : (p : NumberedProgram) (input : List ℤ) (turns : List Turn) (gated
 unfolding following_of
 exited p input turns gated xs printed value h = exited_by (guided_of p input turns gated) xs printed value h
 
+-- with this value, having printed this
+by_value : (r : GuidedRun) (e : GuidedEnd) (xs : List Step) (printed : List ℕ) (value : ℤ) → r.end ≡ e → reached r.trace r.state.printed r.turns e ≡ Exits xs printed value
+    → (r.end ≡ ends.Exit value) × (r.state.printed ≡ printed)
+by_value r (ends.Exit v) xs printed value q h = (let k : v ≡ value = cc in q ∙ ap (λ (n : ℤ). ends.Exit n) k, let k : r.state.printed ≡ printed = cc in k)
+by_value r (ends.Trap name id) xs printed value q h = absurd cc
+by_value r (ends.Budget t) xs printed value q h = absurd cc
+by_value r ends.Strayed xs printed value q h = absurd cc
+
+exits_by : (r : GuidedRun) (xs : List Step) (printed : List ℕ) (value : ℤ) → following r ≡ Exits xs printed value → (r.end ≡ ends.Exit value) × (r.state.printed ≡ printed)
+exits_by r xs printed value h = go (nat_lt RECORDING_STEP_LIMIT (length r.trace)) h
+  where
+    go : (b : Bool) → Path Following (if b then Breaks else reached r.trace r.state.printed r.turns r.end) (Exits xs printed value)
+        → (r.end ≡ ends.Exit value) × (r.state.printed ≡ printed)
+    go true q = absurd cc
+    go false q = by_value r r.end xs printed value refl q
+
+pub exits_with : (p : NumberedProgram) (input : List ℤ) (turns : List Turn) (gated : List InstrId) (xs : List Step) (printed : List ℕ) (value : ℤ)
+    → following_of p input turns gated ≡ Exits xs printed value
+    → ((guided_of p input turns gated).end ≡ ends.Exit value) × ((guided_of p input turns gated).state.printed ≡ printed)
+unfolding following_of
+exits_with p input turns gated xs printed value h = exits_by (guided_of p input turns gated) xs printed value h
+
 -- ---- its turns
 
 no_exit : (s : State) (t : ℕ) (o : Option TrapName) (value : ℤ) → trapped s t o ≡ ends.Exit value → (P : Type 0) → P

@@ -1,3 +1,4 @@
 pub mod Examples
 pub mod Good
 pub mod Schedules
+pub mod Served

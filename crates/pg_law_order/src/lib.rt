@@ -6,6 +6,10 @@ pub mod examples;
 pub mod guided;
 pub mod law_a;
 pub mod recorded;
+mod running;
+pub mod served;
+
+pub use running::can_run;
 
 ghost use Rattle.std.specs.Prelude.{◌≡◌, ◌↔◌, Bool, List, None, true};
 ghost use Rattle.pg_law_threads.specs.Intervals.{IsOrdered, owners};

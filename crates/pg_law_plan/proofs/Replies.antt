@@ -18,7 +18,7 @@ use Rattle.pg_law_effects.specs.PermittedSteps.{none_taken, one_more}
 use Rattle.pg_law_runs.proofs.Deeds.{some_turn}
 use Rattle.pg_slice_rules.specs.Known.{RunShadow, Taken, seen_from, start_of}
 use Rattle.pg_slice_rules.specs.Moments.{moments_from, thread_in}
-use Rattle.pg_law_plan.specs.Answered.{Answered, answered, answers}
+use Rattle.pg_law_runs.specs.Answered.{Answered, answered, answers}
 use Rattle.pg_law_plan.specs.Likes.{like}
 use Rattle.pg_law_plan.specs.Moves.{RunDeed, deed_moved}
 use Rattle.pg_law_plan.specs.Units.{ExtentsArePlain, Met, PlanDeed, ReferenceRun, behind, deed_of, is_event_at, last_from, met_in, met_with, plan_of, reference_of, states_from, turns_of}

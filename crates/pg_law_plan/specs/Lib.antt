@@ -1,4 +1,3 @@
-pub mod Answered
 pub mod Fits
 pub mod Likes
 pub mod Lists

@@ -1,4 +1,1 @@
-pub mod Events
-pub mod Outputs
 pub mod Recordings
-pub mod Serves

@@ -31,7 +31,7 @@ use Rattle.pg_law_order.proofs.Turns.{all_turns, exited, owners_events}
 use Rattle.pg_law_admitted.specs.Recorded.{IsRecording}
 use Rattle.pg_law_admitted.proofs.Guided.{good_run}
 use Rattle.pg_session_entry.specs.Entries.{EntryParts, IsEntry, IsEntryOfTurns, IsSliced, decisions_of}
-use Rattle.pg_law_reuse.proofs.Events.{fronts_same, replies_first, until_replies}
+use Rattle.pg_law_order.proofs.Events.{fronts_same, replies_first, until_replies}
 
 -- ---- what is kept of an ordered run that exits
 

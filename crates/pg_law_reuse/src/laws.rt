@@ -1,22 +1,18 @@
 //! An entry's turns serve every input that it admits: each law is the clause of a function that does nothing.
 
-ghost use Rattle.std.specs.Prelude.{◌≡◌, ◌≢◌, ◌<◌, ◌^◌, ℕ, ℤ, List, length, true};
+ghost use Rattle.std.specs.Prelude.{◌≡◌, ◌<◌, ◌^◌, ℕ, ℤ, List, length, true};
 ghost use Rattle.pg_ir.specs.Program.{NumberedProgram};
 ghost use Rattle.pg_ir.specs.declared.ids.InstrId.{InstrId};
 ghost use Rattle.pg_precondition.specs.Values.{is_admitted};
 ghost use Rattle.pg_run_trace.specs.declared.schedule.Schedule.{Schedule};
 ghost use Rattle.pg_run_trace.specs.declared.step.Step.{Step};
 ghost use Rattle.pg_run_trace.specs.declared.turn.Turn.{Turn};
-ghost use Rattle.pg_run.specs.Follow.{Strays, following_of};
-ghost use Rattle.pg_run.specs.Runs.{events};
 ghost use Rattle.pg_run.specs.State.{State};
 ghost use Rattle.pg_law_runs.specs.Cuts.{CanRun};
 ghost use Rattle.pg_law_runs.specs.LastTurns.{IsRecorded};
 ghost use Rattle.pg_law_order.specs.Good.{IsGoodRun};
 ghost use Rattle.pg_session_entry.specs.Entries.{EntryParts, IsEntry, IsEntryOfTurns};
-ghost use Rattle.pg_law_reuse.specs.Served.{IsServed, guided_along};
-
-use pg_run::GuidedEnd;
+ghost use Rattle.pg_law_order.specs.Served.{IsServed};
 
 /// The entry of a recorded run serves each input that its precondition admits: the full guided run along its schedule is good
 /// there, and each run that its turns permit is as that run.
@@ -33,22 +29,4 @@ pub fn an_entry_of_turns_serves_what_it_admits()
         → CanRun p own → IsEntryOfTurns p own turns gated e → length input < 2 ^ 64 → is_admitted input e.precondition ≡ true → IsGoodRun p input e.schedule }
     ensures served { (p : NumberedProgram) (own input : List ℤ) (turns : List Turn) (gated : List InstrId) (e : EntryParts)
         → CanRun p own → IsEntryOfTurns p own turns gated e → length input < 2 ^ 64 → is_admitted input e.precondition ≡ true → IsServed p input e.schedule }
-{}
-
-/// Where the full guided run along a schedule is good, the schedule serves the input: each run that its turns permit stands at a
-/// cut of the full guided run, is ordered, has the schedule's replies and isn't stuck, and where it is full prints and ends as
-/// the guided run.
-pub fn a_good_run_serves()
-    ensures { (p : NumberedProgram) (input : List ℤ) (s : Schedule) → CanRun p input → IsGoodRun p input s → IsServed p input s }
-{}
-
-/// Where a schedule serves an input, following its turns never strays.
-pub fn what_is_served_does_not_stray()
-    ensures end { (p : NumberedProgram) (input : List ℤ) (s : Schedule) → IsServed p input s → (guided_along p input s).end ≢ GuidedEnd.Strayed }
-    ensures follows { (p : NumberedProgram) (input : List ℤ) (s : Schedule) → IsServed p input s → (k : ℕ) → following_of p input s.turns s.gated ≢ Strays k }
-{}
-
-/// A guided run that exits has done all turns.
-pub fn a_guided_run_that_exits_has_all_turns()
-    ensures { (p : NumberedProgram) (input : List ℤ) (s : Schedule) (value : ℤ) → (guided_along p input s).end ≡ GuidedEnd.Exit value → events (guided_along p input s).trace ≡ s.turns }
 {}

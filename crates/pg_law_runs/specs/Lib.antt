@@ -1,3 +1,4 @@
 pub mod Deeds
 pub mod Cuts
 pub mod LastTurns
+pub mod Answered

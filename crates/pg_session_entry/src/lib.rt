@@ -8,11 +8,9 @@ mod recorded;
 mod recording;
 mod reference;
 mod replies;
-mod running;
 mod turns;
 
 pub use entry::Entry;
 pub use recorded::Record;
 pub use recording::{from_recorded, record};
-pub use running::can_run;
 pub use turns::{FromFault, follow_to_exit, from_turns};

@@ -13,7 +13,7 @@ ghost use Rattle.pg_session_entry.specs.Faults.{IsFault};
 use crate::entry::Entry;
 use crate::reference::entry_along;
 use crate::replies::replies_of;
-use crate::running::can_run;
+use pg_law_order::can_run;
 use pg_ir::{InstrId, Program};
 use pg_law_reference::laws::exiting_runs_can_be_sliced;
 use pg_num::limits::RECORDING_STEP_LIMIT;

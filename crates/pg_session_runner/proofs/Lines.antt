@@ -12,7 +12,7 @@ use Rattle.pg_run.specs.State.{State}
 use Rattle.pg_session_texts.specs.declared.reply.EndLine.{EndLine}
 use Rattle.pg_session_texts.specs.declared.reply.ReplyKind.TheVariants.{Reused}
 use Rattle.pg_session_entry.specs.Entries.{EntryParts}
-use Rattle.pg_law_reuse.specs.Served.{EndsAsGuided, RunsAsGuided, guided_along}
+use Rattle.pg_law_order.specs.Served.{EndsAsGuided, RunsAsGuided, guided_along}
 use Rattle.pg_session.specs.Sessions.{Answer, AnswersAll, begin}
 use Rattle.pg_session_runner.specs.Headline.{GoesOn, IsAsReplied, IsRecordedLine, IsReusedLine}
 use Rattle.pg_session_runner.specs.Runs.{RunsAlong, end_line_of, entry_admits, runs_of}

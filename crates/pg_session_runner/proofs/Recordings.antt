@@ -1,32 +1,29 @@
 -- What is said of a line that was recorded, for the runs of a program.
-use Rattle.std.proofs.Common.{◌≡◌, ℕ, ℤ, ◌<◌, ◌^◌, Bool, true, false, List, [], ◌∷◌, ◌++◌, length, Option, Some, None, refl, sym, ap, ◌∙◌, subst, arith, append-nil}
+use Rattle.std.proofs.Common.{◌≡◌, ℕ, ℤ, Bool, true, false, List, [], ◌∷◌, ◌++◌, length, Option, Some, None, refl, sym, ap, ◌∙◌, subst, arith, append-nil}
 use Rattle.std.specs.Prelude.{if◌then◌else◌, slice_get}
 use Rattle.pg_cache.specs.Kept.{Kept}
 use Rattle.pg_ir.specs.declared.ids.InstrId.{InstrId}
 use Rattle.pg_ir.specs.declared.request.TrapName.{TrapName}
 use Rattle.pg_ir.specs.Program.{NumberedProgram}
-use Rattle.pg_run_trace.specs.declared.schedule.Schedule.{Schedule}
 use Rattle.pg_run_trace.specs.declared.step.Step.{Step}
 use Rattle.pg_run_trace.specs.declared.turn.Turn.{Turn}
-use Rattle.pg_run_trace.specs.Races.{schedule_of}
 use Rattle.pg_run.specs.declared.guided_end.GuidedEnd.{GuidedEnd}
 use Rattle.pg_run.specs.declared.guided_end.GuidedEnd.TheVariants as guided
 use Rattle.pg_run.specs.declared.outcome.Outcome.TheVariants as outcomes
 use Rattle.pg_run.specs.MachineStep.{trap_of}
+use Rattle.pg_run.specs.Follow.{Exits, following_of}
 use Rattle.pg_run.specs.Permitted.{IsPermitted, end_before, full_end, has_spent, trapped, turns_left}
 use Rattle.pg_run.specs.Rotation.{rotation_of}
 use Rattle.pg_run.specs.Runs.{events}
 use Rattle.pg_run.specs.State.{State, exit_value_of, next_of}
-use Rattle.pg_precondition.specs.Values.{is_admitted}
-use Rattle.pg_law_runs.specs.Cuts.{CanRun}
-use Rattle.pg_law_order.specs.Schedules.{GuidesAs}
 use Rattle.pg_session_texts.specs.declared.reply.EndLine.{EndLine}
 use Rattle.pg_session_texts.specs.declared.reply.ReplyKind.TheVariants.{Recorded}
 use Rattle.pg_session_entry.specs.Entries.{EntryParts}
-use Rattle.pg_law_reuse.specs.Served.{EndsAsGuided, IsServed}
+use Rattle.pg_law_order.specs.Served.{EndsAsGuided, guided_along}
+use Rattle.pg_law_order.proofs.Turns.{exits_with}
 use Rattle.pg_session.specs.Sessions.{Answer, AnswersAll, begin}
-use Rattle.pg_session_runner.specs.Headline.{AreShort, IsAsReplied, IsRecordedLine, IsServedRecording}
-use Rattle.pg_session_runner.specs.Runs.{CanServe, IsKept, end_line_of, entry_admits, runs_of}
+use Rattle.pg_session_runner.specs.Headline.{IsAsReplied, IsRecordedLine, IsServedRecording}
+use Rattle.pg_session_runner.specs.Runs.{IsKept, end_line_of, entry_admits, runs_of}
 use Rattle.pg_session_runner.proofs.Lines.{goes_on}
 use Rattle.pg_session_runner.proofs.Recorded.{Records, records}
 
@@ -54,24 +51,24 @@ module _ (p : NumberedProgram) (quantum : ℕ) where
   abbrev pub ExitsSo : Type 0
   ExitsSo = (own : List ℤ) (value : ℤ) → (rotation_of p own quantum).end ≡ outcomes.Exit value → value ≡ exit_value_of (rotation_of p own quantum).state
 
-  -- and the guided run along its schedule is as that run
-  abbrev pub GuidesSo : Type 0
-  GuidesSo = (own : List ℤ) (value : ℤ) → CanRun p own → (rotation_of p own quantum).end ≡ outcomes.Exit value
-      → GuidesAs p own (schedule_of (rotation_of p own quantum).trace) (rotation_of p own quantum).trace (rotation_of p own quantum).state
-
-  -- its entry serves what it admits
-  abbrev pub ServesSo : Type 0
-  ServesSo = (own input : List ℤ) (entry : EntryParts) (output : List ℕ) (end : EndLine) → CanRun p own → IsKept p quantum own entry output end → length input < 2 ^ 64
-      → entry_admits entry input ≡ true → IsServed p input entry.schedule
+  -- the guided run along its schedule exits with that value, having printed the same
+  exits_along : (own : List ℤ) (e : EntryParts) (output : List ℕ) (end : EndLine) → (k : IsKept p quantum own e output end)
+      → ((guided_along p own e.schedule).end ≡ guided.Exit (exit_value_of (rotation_of p own quantum).state))
+      × ((guided_along p own e.schedule).state.printed ≡ (rotation_of p own quantum).state.printed)
+  exits_along own e output end k =
+      let z = (rotation_of p own quantum).state in
+      let i = k.is_entry in
+      exits_with p own e.schedule.turns e.schedule.gated i.steps z.printed (exit_value_of z)
+      (subst (λ (l : List ℤ). following_of p l e.schedule.turns e.schedule.gated ≡ Exits i.steps z.printed (exit_value_of z)) i.same_input i.serves.exits)
 
   as_replied : (own : List ℤ) (e : EntryParts) (output : List ℕ) (end : EndLine) (xs : List Step) (z : State) → (k : IsKept p quantum own e output end)
-      → k.value ≡ exit_value_of (rotation_of p own quantum).state → GuidesAs p own e.schedule (rotation_of p own quantum).trace (rotation_of p own quantum).state
-      → IsPermitted p own e.schedule.turns e.schedule.gated xs z → EndsAsGuided p own e.schedule xs z → IsAsReplied p e.schedule xs z output end
-  as_replied own e output end xs z k v g permitted h =
-      let ended : full_end p e.schedule.turns xs z ≡ guided.Exit k.value = h.end ∙ g.end ∙ ap (λ (n : ℤ). guided.Exit n) (sym v) in
+      → k.value ≡ exit_value_of (rotation_of p own quantum).state → IsPermitted p own e.schedule.turns e.schedule.gated xs z → EndsAsGuided p own e.schedule xs z → IsAsReplied p e.schedule xs z output end
+  as_replied own e output end xs z k v permitted h =
+      let g = exits_along own e output end k in
+      let ended : full_end p e.schedule.turns xs z ≡ guided.Exit k.value = h.end ∙ g.0 ∙ ap (λ (n : ℤ). guided.Exit n) (sym v) in
       let turns = all_turns p own e.schedule.turns e.schedule.gated xs z k.value permitted ended in
       record {
-        printed = h.output ∙ g.printed ∙ sym k.printed;
+        printed = h.output ∙ g.1 ∙ sym k.printed;
         ends = ap (λ (n : ℕ). end_line_of n (full_end p e.schedule.turns xs z)) turns ∙ ap (λ (f : GuidedEnd). end_line_of (length e.schedule.turns) f) ended
             ∙ ap (λ (l : EndLine). Some l) (sym k.ends);
       }
@@ -90,28 +87,20 @@ module _ (p : NumberedProgram) (quantum : ℕ) where
       recording = r.recording;
     }
 
-    served_line : ExitsSo → GuidesSo → ServesSo → CanServe (record { program = p; quantum = quantum }) → AreShort inputs
-        → Records entry_admits (runs_of p quantum) 0 inputs answers line number → IsServedRecording p quantum inputs answers line number
-    served_line exits_so guides_so serves_so can short r =
+    served_line : ExitsSo → Records entry_admits (runs_of p quantum) 0 inputs answers line number → IsServedRecording p quantum inputs answers line number
+    served_line exits_so r =
         let own = r.reply.input in
         let e = r.entry in
         let k = r.recording in
-        let small : length own < 2 ^ 64 = short line own r.reply.is_input in
-        let can_run = can.can_run own small in
         let v = exits_so own k.value k.exits in
-        let g = subst (λ (s : Schedule). GuidesAs p own s (rotation_of p own quantum).trace (rotation_of p own quantum).state) (sym k.is_entry.schedule) (guides_so own k.value can_run k.exits) in
-        let admitted : entry_admits e own ≡ true = subst (λ (l : List ℤ). is_admitted l e.precondition ≡ true) k.is_entry.same_input k.is_entry.serves.own in
-        let served = serves_so own own e r.reply.output r.reply.end can_run k small admitted in
         record {
           entry = e;
           made = recorded_line r;
-          goes_on = λ xs z permitted. goes_on p own e xs z (served.runs xs z permitted);
-          full = λ xs z permitted is_full. as_replied own e r.reply.output r.reply.end xs z k v g permitted (served.full xs z permitted is_full);
-          served = served;
+          goes_on = λ xs z permitted. goes_on p own e xs z (k.served.runs xs z permitted);
+          full = λ xs z permitted is_full. as_replied own e r.reply.output r.reply.end xs z k v permitted (k.served.full xs z permitted is_full);
+          served = k.served;
         }
 
-    pub line_is_served : ExitsSo → GuidesSo → ServesSo → (kept : Kept EntryParts) → CanServe (record { program = p; quantum = quantum }) → AreShort inputs
-        → AnswersAll entry_admits (runs_of p quantum) begin inputs answers kept → (a : Answer) → slice_get answers line ≡ Some a → a.kind ≡ Recorded number
-        → IsServedRecording p quantum inputs answers line number
-    line_is_served exits_so guides_so serves_so kept can short h a g k =
-        served_line exits_so guides_so serves_so can short (records entry_admits (runs_of p quantum) begin kept inputs answers h line number a g k)
+    pub line_is_served : ExitsSo → (kept : Kept EntryParts) → AnswersAll entry_admits (runs_of p quantum) begin inputs answers kept
+        → (a : Answer) → slice_get answers line ≡ Some a → a.kind ≡ Recorded number → IsServedRecording p quantum inputs answers line number
+    line_is_served exits_so kept h a g k = served_line exits_so (records entry_admits (runs_of p quantum) begin kept inputs answers h line number a g k)

@@ -1,6 +1,6 @@
 -- What a session promises of each line of input that it records or answers by reuse: the reply is that of every run of the
 -- program on the line's input that the turns of the recording permit.
-use Rattle.std.specs.Prelude.{◌≡◌, ◌≤◌, ◌<◌, ◌^◌, ◌⊎◌, ℕ, ℤ, List, count_by, length, take, true, Option, Some, slice_get}
+use Rattle.std.specs.Prelude.{◌≡◌, ◌≤◌, ◌<◌, ◌⊎◌, ℕ, ℤ, List, count_by, length, take, true, Option, Some, slice_get}
 use Rattle.pg_ir.specs.Program.{NumberedProgram}
 use Rattle.pg_precondition.specs.Values.{is_admitted}
 use Rattle.pg_run_trace.specs.declared.schedule.Schedule.{Schedule}
@@ -13,7 +13,7 @@ use Rattle.pg_law_order.specs.Good.{run_along}
 use Rattle.pg_session_texts.specs.declared.reply.EndLine.{EndLine}
 use Rattle.pg_session_texts.specs.declared.reply.ReplyKind.TheVariants.{Recorded, Reused}
 use Rattle.pg_session_entry.specs.Entries.{EntryParts}
-use Rattle.pg_law_reuse.specs.Served.{IsServed, guided_along}
+use Rattle.pg_law_order.specs.Served.{IsServed, guided_along}
 use Rattle.pg_session.specs.Sessions.{Answer}
 use Rattle.pg_session.specs.Trials.{is_recorded}
 use Rattle.pg_session_runner.specs.Runs.{IsKept, end_line_of}
@@ -61,10 +61,6 @@ pub record IsServedRecording (p : NumberedProgram) (quantum : ℕ) (inputs : Lis
   pub full : (xs : List Step) (z : State) → IsPermitted p made.input entry.schedule.turns entry.schedule.gated xs z → IsFull entry.schedule.gated p entry.schedule.turns xs z
       → IsAsReplied p entry.schedule xs z made.output made.end
   pub served : IsServed p made.input entry.schedule
-
--- the inputs of the lines are no longer than a slice may be
-abbrev pub AreShort : List (Option (List ℤ)) → Type 0
-AreShort inputs = (line : ℕ) (input : List ℤ) → slice_get inputs line ≡ Some (Some input) → length input < 2 ^ 64
 
 -- ---- a line that was answered by reuse
 

@@ -13,7 +13,7 @@ use Rattle.pg_session_texts.specs.declared.reply.EndLine.{EndLine}
 use Rattle.pg_session_texts.specs.declared.reply.EndLine.TheVariants as ends
 use Rattle.pg_session_texts.specs.Shows.{show_text}
 use Rattle.pg_session_entry.specs.Entries.{EntryParts, IsEntry}
-use Rattle.pg_law_reuse.specs.Served.{IsServed, guided_along}
+use Rattle.pg_law_order.specs.Served.{IsServed, guided_along}
 use Rattle.pg_session.specs.declared.runner.Refusal.{Refusal}
 use Rattle.pg_session.specs.declared.runner.Refusal.TheVariants as refusals
 use Rattle.pg_session.specs.Sessions.{Runs}
@@ -21,13 +21,16 @@ use Rattle.pg_session.specs.Sessions.{Runs}
 -- ---- recording
 
 -- the rotation run of the program on the input exits: this is the entry of that run, this is what it printed, and this is how
--- the guided run along the entry's schedule ends, which does all turns
+-- the guided run along the entry's schedule ends, which does all turns; and
 pub record IsKept (p : NumberedProgram) (quantum : ℕ) (input : List ℤ) (entry : EntryParts) (output : List ℕ) (end : EndLine) : Type 0 where
   pub value : ℤ
   pub exits : (rotation_of p input quantum).end ≡ outcomes.Exit value
   pub is_entry : IsEntry p input (rotation_of p input quantum).trace (rotation_of p input quantum).state entry
   pub printed : output ≡ (rotation_of p input quantum).state.printed
   pub ends : end ≡ ends.Exit value (length entry.schedule.turns)
+  -- each run of the program on the input that the entry's turns permit is as that run: it goes on until it is full, and then
+  -- has printed the same and ends in the same way
+  pub served : IsServed p input entry.schedule
 
 -- how a run ends that isn't kept
 abbrev pub outcome_of : Refusal → Outcome

@@ -1,6 +1,6 @@
 //! Runs along the schedule of an entry.
 ghost use Rattle.std.specs.Prelude.{◌≡◌, ◌≢◌, ◌<◌, ◌^◌, length, IfOk, Some};
-ghost use Rattle.pg_law_reuse.specs.Served.{IsServed};
+ghost use Rattle.pg_law_order.specs.Served.{IsServed};
 ghost use Rattle.pg_session_runner.specs.Runs.{RunsAlong, end_line_of};
 
 use pg_ir::Program;

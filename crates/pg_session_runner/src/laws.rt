@@ -7,10 +7,11 @@ ghost use Rattle.pg_law_runs.specs.Cuts.{CanRun};
 ghost use Rattle.pg_session_texts.specs.declared.reply.EndLine.{EndLine};
 ghost use Rattle.pg_session_texts.specs.declared.reply.ReplyKind.TheVariants.{Recorded, Reused};
 ghost use Rattle.pg_session_entry.specs.Entries.{EntryParts, IsEntry};
-ghost use Rattle.pg_law_reuse.specs.Served.{IsServed};
+ghost use Rattle.pg_law_order.specs.Good.{IsGoodRun};
+ghost use Rattle.pg_law_order.specs.Served.{IsServed};
 ghost use Rattle.pg_session.specs.Sessions.{Answer, AnswersAll, begin};
-ghost use Rattle.pg_session_runner.specs.Headline.{AreShort, IsReusedLine, IsServedRecording};
-ghost use Rattle.pg_session_runner.specs.Runs.{CanServe, IsKept, entry_admits, runs_of};
+ghost use Rattle.pg_session_runner.specs.Headline.{IsReusedLine, IsServedRecording};
+ghost use Rattle.pg_session_runner.specs.Runs.{IsKept, entry_admits, runs_of};
 
 use pg_law_order::recorded::the_schedule_of_a_rotation_run_is_good;
 use pg_law_reuse::laws::an_entry_serves_what_it_admits;
@@ -24,9 +25,11 @@ pub fn a_recorded_schedule_has_few_turns()
     the_schedule_of_a_rotation_run_is_good();
 }
 
-/// The entry of a recording serves each input that its precondition admits.
+/// The entry of a recording has a good run on each input that its precondition admits, and its schedule serves the input.
 pub fn a_kept_entry_serves_what_it_admits()
-    ensures { (p : NumberedProgram) (quantum : ℕ) (own input : List ℤ) (entry : EntryParts) (output : List ℕ) (end : EndLine) → CanRun p own → IsKept p quantum own entry output end
+    ensures good { (p : NumberedProgram) (quantum : ℕ) (own input : List ℤ) (entry : EntryParts) (output : List ℕ) (end : EndLine) → CanRun p own → IsKept p quantum own entry output end
+        → length input < 2 ^ 64 → entry_admits entry input ≡ true → IsGoodRun p input entry.schedule }
+    ensures served { (p : NumberedProgram) (quantum : ℕ) (own input : List ℤ) (entry : EntryParts) (output : List ℕ) (end : EndLine) → CanRun p own → IsKept p quantum own entry output end
         → length input < 2 ^ 64 → entry_admits entry input ≡ true → IsServed p input entry.schedule }
 {
     the_schedule_of_a_rotation_run_is_good();
@@ -47,10 +50,9 @@ pub fn each_reused_line_is_served()
 /// permit.
 pub fn each_recorded_line_is_served()
     ensures { (p : NumberedProgram) (quantum : ℕ) (inputs : List (Option (List ℤ))) (answers : List Answer) (kept : Kept EntryParts)
-        → CanServe (record { program = p; quantum = quantum }) → AreShort inputs → AnswersAll entry_admits (runs_of p quantum) begin inputs answers kept
+        → AnswersAll entry_admits (runs_of p quantum) begin inputs answers kept
         → (line number : ℕ) (answer : Answer) → slice_get answers line ≡ Some answer → answer.kind ≡ Recorded number
         → IsServedRecording p quantum inputs answers line number }
 {
     the_schedule_of_a_rotation_run_is_good();
-    a_kept_entry_serves_what_it_admits();
 }

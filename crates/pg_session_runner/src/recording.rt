@@ -8,6 +8,8 @@ ghost use Rattle.pg_session_runner.specs.Runs.{outcome_of, runs_of};
 
 use crate::laws::a_recorded_schedule_has_few_turns;
 use pg_ir::Program;
+use pg_law_order::recorded::the_schedule_of_a_rotation_run_is_good;
+use pg_law_reuse::laws::an_entry_serves_what_it_admits;
 use pg_run::Outcome;
 use pg_session::{Recording, Refusal, Run};
 use pg_session_entry::{Entry, Record, record};
@@ -53,6 +55,8 @@ pub(crate) fn recorded(
     ensures { IfOk result (IsRecording (runs_of p.now quantum) input.now) }
 {
     a_recorded_schedule_has_few_turns();
+    the_schedule_of_a_rotation_run_is_good();
+    an_entry_serves_what_it_admits();
     match record(alloc, p, input, quantum)? {
         Record::Kept {
             entry,

@@ -11,6 +11,6 @@ ran-requires c =
     let own : length e.input < 2 ^ 64 = subst (λ (l : List ℤ). length l < 2 ^ 64) kept.is_entry.same_input c.own_input_is_small.ensures in
     let small : length input < 2 ^ 64 = omega (arith, c.requires.few) in
     record {
-      served = c.a_kept_entry_serves_what_it_admits.ensures c.self.inside.program.now c.self.inside.quantum e.input input entry e.output e.end
+      served = c.a_kept_entry_serves_what_it_admits.ensures.served c.self.inside.program.now c.self.inside.quantum e.input input entry e.output e.end
           (c.self.invariant.can_run e.input own) kept small c.requires.admitted;
     }

@@ -17,9 +17,9 @@ use Rattle.pg_law_effects.proofs.FullEnds.{full_is}
 use Rattle.pg_law_runs.specs.Cuts.{CanRun, IsOrderedFull}
 use Rattle.pg_law_runs.proofs.Permitted as law
 use Rattle.pg_law_order.specs.Good.{IsGoodRun, replies_of, run_along}
-use Rattle.pg_law_reuse.specs.Served.{EndsAsGuided, IsServed, RunsAsGuided, guided_along}
-use Rattle.pg_law_reuse.proofs.Events.{front_of_front, replies_first}
-use Rattle.pg_law_reuse.proofs.Outputs.{full_goes_on}
+use Rattle.pg_law_order.specs.Served.{EndsAsGuided, IsServed, RunsAsGuided, guided_along}
+use Rattle.pg_law_order.proofs.Events.{front_of_front, replies_first}
+use Rattle.pg_law_order.proofs.Outputs.{full_goes_on}
 
 -- ---- what the full guided run does not, the guided run does not
 
@@ -31,32 +31,36 @@ stays p input s g = λ e. g.arrives (same_end p input s ∙ e)
 
 -- ---- the runs that its turns permit
 
+pub whole : (p : NumberedProgram) (input : List ℤ) (s : Schedule) → IsGoodRun p input s
+    → IsOrderedFull p input s.turns s.gated (run_along p input s).trace (run_along p input s).state
+whole p input s g = record {
+  permitted = (full_is p input s.turns s.gated).permitted;
+  is_full = ((full_is p input s.turns s.gated).full (stays p input s g)).0;
+  ordered = g.ordered;
+}
+
 module _ (p : NumberedProgram) (input : List ℤ) (s : Schedule) (can : CanRun p input) (g : IsGoodRun p input s) where
   abbrev f : GuidedRun
   f = full_guided_of p input s.turns s.gated
 
-  whole : IsOrderedFull p input s.turns s.gated f.trace f.state
-  whole = record {
-    permitted = (full_is p input s.turns s.gated).permitted;
-    is_full = ((full_is p input s.turns s.gated).full (stays p input s g)).0;
-    ordered = g.ordered;
-  }
+  ordered_full : IsOrderedFull p input s.turns s.gated f.trace f.state
+  ordered_full = whole p input s g
 
   runs : (xs : List Step) (z : State) → IsPermitted p input s.turns s.gated xs z → RunsAsGuided p input s xs z
   runs xs z h =
-      let c = law.at_cut p input s.turns s.gated can f.trace f.state whole xs z h in
+      let c = law.at_cut p input s.turns s.gated can f.trace f.state ordered_full xs z h in
       record {
         cut = c;
-        ordered = law.ordered p input s.turns s.gated can f.trace f.state whole xs z h;
+        ordered = law.ordered p input s.turns s.gated can f.trace f.state ordered_full xs z h;
         replies = front_of_front (replies_of xs) (replies_of f.trace) s.replies
-            (replies_first s.turns xs f.trace (turns_left s.turns xs, h.in_order) (turns_left s.turns f.trace, whole.permitted.in_order) c.front) g.replies;
-        goes_on = law.goes_on p input s.turns s.gated can f.trace f.state whole xs z h;
-        steps = law.short p input s.turns s.gated can f.trace f.state whole xs z h;
+            (replies_first s.turns xs f.trace (turns_left s.turns xs, h.in_order) (turns_left s.turns f.trace, ordered_full.permitted.in_order) c.front) g.replies;
+        goes_on = law.goes_on p input s.turns s.gated can f.trace f.state ordered_full xs z h;
+        steps = law.short p input s.turns s.gated can f.trace f.state ordered_full xs z h;
       }
 
   full : (xs : List Step) (z : State) → IsPermitted p input s.turns s.gated xs z → IsFull s.gated p s.turns xs z → EndsAsGuided p input s xs z
   full xs z h k =
-      let e = law.ends p input s.turns s.gated can f.trace f.state whole xs z h k in
+      let e = law.ends p input s.turns s.gated can f.trace f.state ordered_full xs z h k in
       let o = full_goes_on s.gated p input s.turns in
       record {
         output = ap (λ (v : State). v.printed) e.state ∙ o.printed;

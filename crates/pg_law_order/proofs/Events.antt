@@ -15,8 +15,8 @@ use Rattle.pg_law_effects.specs.PermittedSteps.{turns_behind}
 use Rattle.pg_law_runs.specs.Cuts.{IsFrontOf, steps_by}
 use Rattle.pg_law_runs.specs.LastTurns.{until_last}
 use Rattle.pg_law_order.specs.Good.{replies_of}
-use Rattle.pg_law_plan.specs.Answered.{answered}
-use Rattle.pg_law_admitted.proofs.Good.{first_replies, no_reply}
+use Rattle.pg_law_runs.specs.Answered.{answered}
+use Rattle.pg_law_order.proofs.Replies.{first_replies, no_reply}
 
 -- ---- fronts
 

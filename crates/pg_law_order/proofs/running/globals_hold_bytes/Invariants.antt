@@ -1,6 +1,6 @@
 use Rattle.std.proofs.Common.{◌≤◌, drop, length}
 use Rattle.pg_law_effects.specs.Reached.{HoldBytes}
-use Rattle.pg_session_entry.proofs.running.globals_hold_bytes.Given as goal
+use Rattle.pg_law_order.proofs.running.globals_hold_bytes.Given as goal
 
 abbrev pub invariant-loop-left : goal.invariant-loop-left
 invariant-loop-left l = record {

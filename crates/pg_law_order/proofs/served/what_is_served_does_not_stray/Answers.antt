@@ -1,5 +1,5 @@
-use Rattle.pg_law_reuse.proofs.Serves.{follows}
-use Rattle.pg_law_reuse.proofs.laws.what_is_served_does_not_stray.Goals as goal
+use Rattle.pg_law_order.proofs.Serves.{follows}
+use Rattle.pg_law_order.proofs.served.what_is_served_does_not_stray.Goals as goal
 
 pub returns-clause-end : goal.returns-clause-end
 returns-clause-end c p input s h = h.arrives

@@ -1,0 +1,5 @@
+use Rattle.pg_law_order.proofs.Serves.{whole}
+use Rattle.pg_law_order.proofs.served.a_good_run_is_an_ordered_full_run.Goals as goal
+
+pub returns : goal.returns
+returns c p input s g = whole p input s g

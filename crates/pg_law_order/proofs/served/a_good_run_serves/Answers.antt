@@ -1,0 +1,5 @@
+use Rattle.pg_law_order.proofs.Serves.{serves}
+use Rattle.pg_law_order.proofs.served.a_good_run_serves.Goals as goal
+
+pub returns : goal.returns
+returns c p input s can g = serves p input s can g
