@@ -9,13 +9,13 @@ pub mod recorded;
 mod running;
 pub mod served;
 
-pub use running::can_run;
-
 ghost use Rattle.std.specs.Prelude.{◌≡◌, ◌↔◌, Bool, List, None, true};
 ghost use Rattle.pg_law_threads.specs.Intervals.{IsOrdered, owners};
 ghost use Rattle.pg_law_threads.specs.Steps.{Conflict};
 ghost use Rattle.pg_run_trace.specs.declared.step.Step.{Step};
 ghost use Rattle.pg_run_trace.specs.Races.{conflict, first_unordered, recorded, steps_by};
+
+pub use running::can_run;
 
 /// Two steps conflict exactly where they are of different threads and meet at a byte that one of them writes.
 pub fn steps_conflict_at_a_byte()

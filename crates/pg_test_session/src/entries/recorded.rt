@@ -4,11 +4,11 @@ ghost use Rattle.pg_num.specs.declared.limits.TheConstants.{QUANTUM_LIMIT};
 
 use pg_cache::Admits;
 use pg_ir::{InstrId, Program, TrapName};
+use pg_law_order::can_run;
 use pg_law_order::recorded::the_schedule_of_a_rotation_run_is_good;
 use pg_num::limits::RECORDING_STEP_LIMIT;
 use pg_run::{Ended, Outcome, Recorded, rotate_into};
 use pg_run_trace::Trace;
-use pg_law_order::can_run;
 use pg_session_entry::{Entry, Record, from_recorded, record};
 use pg_test_samples::Sample;
 use std::alloc::{AllocError, Global};

@@ -2,8 +2,8 @@
 
 use pg_cache::Admits;
 use pg_ir::{InstrId, Program, ThreadNo};
-use pg_run_trace::{Turn, TurnKind};
 use pg_law_order::can_run;
+use pg_run_trace::{Turn, TurnKind};
 use pg_session_entry::{Entry, FromFault, from_turns};
 use pg_test_samples::Sample;
 use std::alloc::Global;
