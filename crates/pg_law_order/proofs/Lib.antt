@@ -11,3 +11,4 @@ pub mod Replies
 pub mod Events
 pub mod Outputs
 pub mod Serves
+pub mod GlobalBytes
