@@ -13,3 +13,5 @@ pub mod Kept
 pub mod Counts
 pub mod Words
 pub mod Walks
+pub mod Chosen
+pub mod Next

@@ -5,3 +5,4 @@ pub mod Effects
 pub mod Plans
 pub mod Machines
 pub mod Chains
+pub mod Standing

@@ -8,6 +8,7 @@ ghost use Rattle.pg_law_threads.specs.Cuts.{IsCut, Mark, count_done, marked, who
 ghost use Rattle.pg_law_threads.specs.Effects.{Deed, State};
 ghost use Rattle.pg_law_threads.specs.Intervals.{AreTurns, EndsBefore, IsOrdered, Timed, timed};
 ghost use Rattle.pg_law_threads.specs.Machines.{HasOrdered, IsPart, IsPermitted, Machine, does};
+ghost use Rattle.pg_law_threads.specs.Standing.{ArePlans, FindAndLeave};
 ghost use Rattle.pg_law_threads.specs.Steps.{View};
 
 /// One comparison of numbers says that the interval of one step ends no later than that of another begins.
@@ -39,4 +40,15 @@ pub fn cuts_are_counts()
 pub fn permitted_runs_are_parts()
     ensures { (M : Machine ℕ ℕ ℕ ℕ) (turns : List ℕ) (s : State ℕ ℕ ℕ) (full run : List (Deed ℕ ℕ ℕ ℕ))
         → HasOrdered M turns s full → IsPermitted M.rules (does M) turns s 0 run → IsPart M.rules turns s full run }
+{}
+
+/// The steps of a plan that a test chooses, all events among them, are a plan.
+pub fn chosen_steps_are_a_plan()
+    ensures { ArePlans }
+{}
+
+/// Where threads stand at a cut of a plan, a thread's next step finds in the cells that it touches what the plan has there; and once
+/// it is done the threads stand at a cut again, at which the others have done what they had.
+pub fn steps_find_and_leave()
+    ensures { FindAndLeave }
 {}
