@@ -4,9 +4,10 @@
 mod delta;
 mod field;
 mod globals;
-mod granules;
 pub mod laws;
+mod lazy_words;
 mod memory;
+mod pages;
 mod words;
 
 pub use delta::Delta;

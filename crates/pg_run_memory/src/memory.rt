@@ -7,7 +7,7 @@ ghost use Rattle.pg_run_memory.specs.Initial.{initial};
 ghost use Rattle.pg_run_memory.specs.Memory.{IsMemory, byte_at, read, written};
 
 use crate::globals::lay_globals;
-use crate::granules::Granules;
+use crate::pages::Pages;
 use crate::words::{part, replaced};
 use pg_ir::Program;
 use pg_num::Place;
@@ -18,8 +18,8 @@ use std::marker::Model;
 /// The memory of a run: 32 MiB, a byte at each place.
 #[derive(Drop)]
 pub struct Memory {
-    globals: Granules,
-    regions: Granules,
+    globals: Pages,
+    regions: Pages,
 }
 
 impl Model for Memory {
@@ -35,15 +35,15 @@ impl Model for Memory {
 }
 
 /// Memory in parts of these lengths, in which each byte is zero.
-#[tactic(auto, using(crate::proofs::Padding::zero_parts, crate::proofs::Padding::zero_both))]
+#[tactic(auto, using(crate::proofs::Padding::zero_both))]
 fn zero_parts(alloc: Global, globals: usize, regions: usize) -> Result<Memory, AllocError>
     requires globals { globals ≡ GLOBALS_END }
     requires regions { regions ≡ GRANULE_COUNT - GLOBALS_END }
     ensures { IfOk result (λ m. (b : ℕ) → byte_at m b ≡ 0) }
 {
     Ok(Memory {
-        globals: Granules::zeros(alloc, globals)?,
-        regions: Granules::zeros(alloc, regions)?,
+        globals: Pages::zeros(alloc, globals)?,
+        regions: Pages::zeros(alloc, regions)?,
     })
 }
 

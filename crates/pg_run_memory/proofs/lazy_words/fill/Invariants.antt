@@ -1,6 +1,6 @@
 use Rattle.std.proofs.Common.{◌≡◌, ◌≤◌, ◌-◌, length, vec_capacity}
 use Rattle.pg_run_memory.specs.Parts.{padded}
-use Rattle.pg_run_memory.proofs.granules.fill.Given as goal
+use Rattle.pg_run_memory.proofs.lazy_words.fill.Given as goal
 
 abbrev pub invariant-zeros : goal.invariant-zeros
 invariant-zeros l = record {

@@ -1,4 +1,4 @@
-//! The granules of a part of memory.
+//! Lists of words that are zero until they are written.
 
 ghost use Rattle.std.specs.Prelude.{◌≡◌, ◌<◌, ◌≤◌, length, replicate, slice_index, slice_set, vec_capacity, IfOk};
 ghost use Rattle.pg_run_memory.specs.Parts.{padded};
@@ -6,24 +6,24 @@ ghost use Rattle.pg_run_memory.specs.Parts.{padded};
 use std::alloc::{AllocError, Global};
 use std::marker::Model;
 
-/// The granules of a part of memory. Those behind the last that was written are zero, and stand nowhere
-/// until then: to make them takes room and no time.
+/// A list of words. Those behind the last that was written are zero, and stand nowhere until then: to make the list
+/// takes room and no time.
 #[derive(Drop)]
-pub(crate) struct Granules {
+pub(crate) struct LazyWords {
     words: Vec<u64>,
     count: usize,
 }
 
-impl Model for Granules {
+impl Model for LazyWords {
     ghost use Rattle.std.specs.Prelude.{◌≤◌, length, vec_capacity};
     ghost use Rattle.pg_run_memory.specs.Memory.{Words};
     ghost use Rattle.pg_run_memory.specs.Parts.{padded};
 
     ghost Value = { Words };
 
-    ghost view = { λ g. padded g.count g.words.items };
+    ghost view = { λ l. padded l.count l.words.items };
 
-    ghost invariant = { λ g. (length g.words.items ≤ g.count) × (g.count ≤ vec_capacity g.words) };
+    ghost invariant = { λ l. (length l.words.items ≤ l.count) × (l.count ≤ vec_capacity l.words) };
 }
 
 /// Adds zeros up to a length, where there is room for them.
@@ -38,36 +38,35 @@ fn fill(words: &mut Vec<u64>, count: usize)
     }
 }
 
-impl Granules {
-    /// So many granules of zeros.
+impl LazyWords {
+    /// So many zeros.
     #[tactic(auto, using(crate::proofs::Padding::padded_none))]
-    pub(crate) fn zeros(alloc: Global, count: usize) -> Result<Granules, AllocError>
-        ensures { IfOk result (λ g. g ≡ replicate count 0) }
+    pub(crate) fn zeros(alloc: Global, count: usize) -> Result<LazyWords, AllocError>
+        ensures { IfOk result (λ l. l ≡ replicate count 0) }
     {
-        Ok(Granules {
+        Ok(LazyWords {
             words: Vec::with_capacity(alloc, count)?,
             count,
         })
     }
 
-    /// The number of the eight bytes of a granule.
+    /// The word at an index, and zero past the end.
     #[tactic(auto, using(crate::proofs::Padding::padded_get))]
-    pub(crate) fn get(&self, i: u32) -> u64
-        ensures { result ≡ slice_index self.now i }
+    pub(crate) fn get(&self, index: usize) -> u64
+        ensures { result ≡ slice_index self.now index }
     {
-        match self.words.get(i as usize) {
+        match self.words.get(index) {
             Some(&word) => word,
             None => 0,
         }
     }
 
-    /// Puts a number into the eight bytes of a granule. Takes no memory.
+    /// Puts a word at an index. Takes no memory.
     #[tactic(auto, using(crate::proofs::Padding::set_within, crate::proofs::Padding::set_fits, crate::proofs::Padding::set_padded))]
-    pub(crate) fn set(&mut self, i: u32, word: u64)
-        requires { i < length self.old }
-        ensures { self.new ≡ slice_set self.old i word }
+    pub(crate) fn set(&mut self, index: usize, word: u64)
+        requires { index < length self.old }
+        ensures { self.new ≡ slice_set self.old index word }
     {
-        let index = i as usize;
         fill(&mut self.words, index + 1);
         self.words[index] = word;
     }
