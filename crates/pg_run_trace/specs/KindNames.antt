@@ -1,5 +1,7 @@
 -- The name of each kind of event, as it is printed.
-use Rattle.std.specs.Prelude.{ℕ, List, codes}
+use Rattle.std.specs.Prelude.{ℕ, List, [], ◌∷◌, Option, codes}
+use Rattle.std.specs.List.{find}
+use Rattle.std.specs.Str.{bytes_eq}
 use Rattle.pg_run_trace.specs.declared.turn.TurnKind.{TurnKind}
 use Rattle.pg_run_trace.specs.declared.turn.TurnKind.TheVariants as kinds
 
@@ -27,3 +29,14 @@ kind_text kinds.Out = codes "out"
 kind_text kinds.Putchar = codes "putchar"
 kind_text kinds.Load = codes "load"
 kind_text kinds.Store = codes "store"
+
+-- each kind once
+abbrev pub all_kinds : List TurnKind
+all_kinds =
+    kinds.Start ∷ kinds.Exit ∷ kinds.Create ∷ kinds.Join ∷ kinds.MutexInit ∷ kinds.Lock ∷ kinds.Trylock ∷ kinds.Unlock
+    ∷ kinds.MutexDestroy ∷ kinds.CondInit ∷ kinds.Wait ∷ kinds.Wake ∷ kinds.Signal ∷ kinds.Broadcast ∷ kinds.CondDestroy
+    ∷ kinds.BarrierInit ∷ kinds.Arrive ∷ kinds.Leave ∷ kinds.BarrierDestroy ∷ kinds.Out ∷ kinds.Putchar ∷ kinds.Load ∷ kinds.Store ∷ []
+
+-- the kind of a name, none where no kind has it
+unfoldable pub kind_named : List ℕ → Option TurnKind
+kind_named text = find (λ k. bytes_eq (kind_text k) text) all_kinds

@@ -1,14 +1,12 @@
 //! The kinds and objects of requests.
 
-ghost use Rattle.std.specs.Prelude.{◌≡◌, Some};
-ghost use Rattle.pg_run_trace.specs.KindNames.{kind_text};
-ghost use Rattle.pg_run_trace.specs.Kinds.{kind_number, kind_of, object_of};
+ghost use Rattle.std.specs.Prelude.{◌≡◌};
+ghost use Rattle.pg_run_trace.specs.Kinds.{kind_of, object_of};
 ghost use Rattle.pg_run_trace.specs.Recording.{happening_of};
 
 use crate::step::Happening;
 use crate::turn::TurnKind;
 use pg_ir::{Request, ThreadNo};
-use std::fmt;
 
 /// The kind of a request.
 pub fn kind_of(r: &Request) -> TurnKind
@@ -74,46 +72,5 @@ pub fn happening_of(t: ThreadNo, made: u8, r: &Request) -> Happening
     Happening {
         kind: kind_of(r),
         object: object_of(t, made, r),
-    }
-}
-
-impl TurnKind {
-    /// The name of the kind, as it is printed.
-    pub fn name(self) -> &'static str
-        ensures name { result.now ≡ kind_text self }
-    {
-        match self {
-            TurnKind::Start => "start",
-            TurnKind::Exit => "exit",
-            TurnKind::Create => "create",
-            TurnKind::Join => "join",
-            TurnKind::MutexInit => "mutex-init",
-            TurnKind::Lock => "lock",
-            TurnKind::Trylock => "trylock",
-            TurnKind::Unlock => "unlock",
-            TurnKind::MutexDestroy => "mutex-destroy",
-            TurnKind::CondInit => "cond-init",
-            TurnKind::Wait => "wait",
-            TurnKind::Wake => "wake",
-            TurnKind::Signal => "signal",
-            TurnKind::Broadcast => "broadcast",
-            TurnKind::CondDestroy => "cond-destroy",
-            TurnKind::BarrierInit => "barrier-init",
-            TurnKind::Arrive => "arrive",
-            TurnKind::Leave => "leave",
-            TurnKind::BarrierDestroy => "barrier-destroy",
-            TurnKind::Out => "out",
-            TurnKind::Putchar => "putchar",
-            TurnKind::Load => "load",
-            TurnKind::Store => "store",
-        }
-    }
-}
-
-impl fmt::Display for TurnKind {
-    ghost output = { λ kind. Some (kind_text kind) };
-
-    fn fmt<W: fmt::Write>(&self, f: &mut fmt::Formatter<W>) -> fmt::Result {
-        f.write_str(self.name())
     }
 }

@@ -3,7 +3,9 @@
 
 mod best;
 mod cell;
+mod kind_names;
 mod kinds;
+pub mod laws;
 mod lists;
 mod schedule;
 mod step;
