@@ -120,8 +120,9 @@ impl Fiber {
         self.ended
     }
 
-    pub(crate) fn has_begun(&self) -> bool
-        ensures { result ≡ self.now.begun }
+    /// Whether it has begun: the step that makes it begin was done.
+    pub fn has_begun(&self) -> bool
+        ensures begun { result ≡ self.now.begun }
     {
         self.begun
     }
