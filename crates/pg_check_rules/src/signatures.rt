@@ -92,7 +92,8 @@ pub fn are_params(
     Ok(true)
 }
 
-fn is_type(types: &TypeNumbers<'_>, ty: &TypeNode) -> Result<bool, AllocError>
+/// Whether what is written is a type.
+pub fn is_type(types: &TypeNumbers<'_>, ty: &TypeNode) -> Result<bool, AllocError>
     ensures same { IfOk result (λ b. b ≡ is_resolved (named_types types.now) (ty_of ty.now)) }
 {
     let kind = types.kind(ty)?;
