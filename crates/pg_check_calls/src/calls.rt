@@ -338,6 +338,7 @@ fn argument_demands(
     ensures place { IfOk result (λ o. o ≡ earliest (flat_map (unmet (named_types types.now)) (argument_demands (named_types types.now) (tys_behind params.now) (map typed_of arguments.now)))) }
 {
     let mut found = None;
+    // By place: of `zip` it would have to be proved that it ends.
     for place in 0..params.len().min(arguments.len()) {
         let own = unmet_typed_as(types, params[place], &arguments[place])?;
         found = earlier(found, own);

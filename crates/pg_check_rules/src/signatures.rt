@@ -84,6 +84,7 @@ pub fn are_params(
     if scalars.len() != params.len() {
         return Ok(false);
     }
+    // By place: of `zip` it would have to be proved that it ends.
     for index in 0..scalars.len() {
         if !is_param(types, scalars[index], &params[index])? {
             return Ok(false);
