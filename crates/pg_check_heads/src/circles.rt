@@ -16,7 +16,7 @@ use crate::ranked_items::RankedItems;
 use crate::ranks::rank_of;
 use indexmap::IndexMap;
 use pg_check_rules::{
-    CheckKind, CheckRefusal, add_types_within, earlier_refusal, place_if, refusal_at,
+    CheckKind, CheckRefusal, add_types_within, earlier_refusal, is_type, place_if, refusal_at,
 };
 use pg_check_types::{TypeNumbers, place_of_name};
 use pg_read_ast::{Name, TypeItem, TypeNode};
