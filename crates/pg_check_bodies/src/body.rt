@@ -88,6 +88,7 @@ fn all_lines_refusal(
         labels,
         result: &item.result,
     };
+    // As the result itself the call would be one goal over success and failure, which is slow to prove.
     let found = blocks_refusal(&scope, types, item.blocks.as_slice())?;
     Ok(found)
 }

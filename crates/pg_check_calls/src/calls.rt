@@ -23,7 +23,7 @@ use crate::headers::{HeaderNode, HeaderParam, callee_params, header_of};
 use crate::symbols_in_scope::{
     is_callable, symbol_named, unknown_name, unsupported_name, variable_symbol,
 };
-use pg_check_rules::{SymbolNode, earlier, type_span};
+use pg_check_rules::{SymbolNode, earlier, is_type, type_span};
 use pg_check_types::TypeNumbers;
 use pg_check_values::{LineScope, unmet_typed_as};
 use pg_read_ast::{CallTypes, Name, OpNode, TypeNode, TypedVal};
@@ -196,19 +196,12 @@ fn fits_params(
     Ok(ends_at(params, written.len(), dots))
 }
 
-fn is_resolved(types: &TypeNumbers<'_>, ty: &TypeNode) -> Result<bool, AllocError>
-    ensures same { IfOk result (λ b. b ≡ is_resolved (named_types types.now) (ty_of ty.now)) }
-{
-    let kind = types.kind(ty)?;
-    Ok(kind.is_some())
-}
-
 /// Whether each of these is a type.
 fn are_resolved(types: &TypeNumbers<'_>, written: &[TypeNode]) -> Result<bool, AllocError>
     ensures same { IfOk result (λ b. b ≡ list_all (is_resolved (named_types types.now)) (map ty_of written.now)) }
 {
     for ty in written {
-        if !is_resolved(types, ty)? {
+        if !is_type(types, ty)? {
             return Ok(false);
         }
     }
@@ -345,6 +338,7 @@ fn argument_demands(
     ensures place { IfOk result (λ o. o ≡ earliest (flat_map (unmet (named_types types.now)) (argument_demands (named_types types.now) (tys_behind params.now) (map typed_of arguments.now)))) }
 {
     let mut found = None;
+    // By place: of `zip` it would have to be proved that it ends.
     for place in 0..params.len().min(arguments.len()) {
         let own = unmet_typed_as(types, params[place], &arguments[place])?;
         found = earlier(found, own);

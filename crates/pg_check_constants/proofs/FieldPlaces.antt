@@ -1,7 +1,7 @@
 -- The fields of a structure by their places.
 use Rattle.std.proofs.Common.{◌≡◌, ℕ, zero, suc, ◌+◌, ◌<◌, ◌≤◌, List, [], ◌∷◌, length, map, drop, get_or, slice_get, unwrap_or, Option, Some, None, IfSome, refl, sym, ap}
 use Rattle.std.proofs.Common.{◌∙◌, arith}
-use Rattle.std.proofs.lemmas.Option.{slice_get_within}
+use Rattle.std.proofs.lemmas.Option.{slice_get_within, same_Some}
 use Rattle.pg_check_types.specs.Resolved.{ResolvedType, VoidType}
 use Rattle.pg_check_types.specs.Layout.{field_list}
 use Rattle.pg_check_types.specs.Known.{IsWithin}
@@ -9,15 +9,12 @@ use Rattle.pg_check_types.specs.Table.{type_at}
 use Rattle.pg_check_rules.specs.Fields.{AreFields, field_type}
 use Rattle.pg_check_constants.specs.Initialisers.{IsFieldAt}
 
-some_is : {X : Type 0} (x y : X) → Some x ≡ Some y → x ≡ y
-some_is x y e = ap (λ o. unwrap_or o x) e
-
 type_found : (table : List ResolvedType) (fs : List ℕ) (ts : List ResolvedType) (k f : ℕ)
     → map (field_type table) fs ≡ map (λ u. Some u) ts → slice_get fs k ≡ Some f → IsFieldAt table ts k f
 type_found table [] ts k f e s = cc
 type_found table (g ∷ fs) [] k f e s = cc
 type_found table (g ∷ fs) (u ∷ ts) zero f e s =
-    let same : g ≡ f = some_is g f s in
+    let same : g ≡ f = same_Some g f s in
     let found : slice_get table f ≡ Some u = ap (λ x. slice_get table x) (sym same) ∙ ap (λ xs. get_or xs 0 None) e in
     record {
       within = slice_get_within table f u found;

@@ -1,12 +1,10 @@
 //! Which type items contain themselves.
 
-ghost use Rattle.std.specs.Prelude.{◌≡◌, ◌<◌, ◌++◌, ◌∷◌, [], ℕ, List, IfOk, OnOk, Some, true, false, length, map, replicate, is_some, slice_get};
+ghost use Rattle.std.specs.Prelude.{◌≡◌, ◌<◌, ◌++◌, ◌∷◌, [], ℕ, List, IfOk, OnOk, Some, true, false, length, map, replicate, slice_get};
 ghost use Rattle.std.specs.List.{flat_map, filter_map};
 ghost use Rattle.pg_read_ast.specs.Syntax.{NamedType};
 ghost use Rattle.pg_read_ast.specs.Views.{ty_of, type_item_of};
 ghost use Rattle.pg_check_types.specs.NameIndex.{known_place};
-ghost use Rattle.pg_check_types.specs.NumberedTypes.{named_types};
-ghost use Rattle.pg_check_types.specs.Resolved.{resolved};
 ghost use Rattle.pg_check_rules.specs.Nodes.{tys_behind};
 ghost use Rattle.pg_check_rules.specs.Written.{types_within};
 ghost use Rattle.pg_check_rules.specs.declared.fault.CheckKind.TheVariants.{WrongType};
@@ -18,7 +16,7 @@ use crate::ranked_items::RankedItems;
 use crate::ranks::rank_of;
 use indexmap::IndexMap;
 use pg_check_rules::{
-    CheckKind, CheckRefusal, add_types_within, earlier_refusal, place_if, refusal_at,
+    CheckKind, CheckRefusal, add_types_within, earlier_refusal, is_type, place_if, refusal_at,
 };
 use pg_check_types::{TypeNumbers, place_of_name};
 use pg_read_ast::{Name, TypeItem, TypeNode};
@@ -266,14 +264,6 @@ fn circles_in(
     let mut within = Vec::new(ranked.alloc);
     add_types_within(&mut within, &item.ty)?;
     circles_among(ranked, target, known, within.as_slice())
-}
-
-/// Whether what is written is a type.
-fn is_type(types: &TypeNumbers<'_>, ty: &TypeNode) -> Result<bool, AllocError>
-    ensures same { IfOk result (λ b. b ≡ is_some (resolved (named_types types.now) (ty_of ty.now))) }
-{
-    let kind = types.kind(ty)?;
-    Ok(kind.is_some())
 }
 
 /// The first of the refusal that is known and those of names in a type item through which it contains itself. The first

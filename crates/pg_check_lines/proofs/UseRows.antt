@@ -3,7 +3,9 @@ use Rattle.std.proofs.Common.{◌≡◌, ℕ, zero, suc, ◌+◌, ◌<◌, ◌�
 use Rattle.std.specs.List.{flat_map}
 use Rattle.std.proofs.lemmas.Grind.{flat_map-append}
 use Rattle.pg_read_lex.specs.declared.token.Span.{Span}
-use Rattle.pg_check_rules.specs.Written.{Use, with_inner}
+use Rattle.pg_read_ast.specs.declared.names.Literal.{Literal}
+use Rattle.pg_read_ast.specs.Syntax.{Ty, Int}
+use Rattle.pg_check_rules.specs.Written.{Use, constant_at, inner_uses, with_inner}
 use Rattle.pg_check_rules.specs.Earliest.{earlier, earliest}
 use Rattle.pg_check_rules.proofs.Rows.{row_step, row_whole}
 use Rattle.pg_check_lines.specs.declared.operands.UseNode.{UseNode}
@@ -35,3 +37,8 @@ uses_done row front [] zero l = append-nil front
 uses_done row front [] (suc i) l = append-nil front
 uses_done row front (u ∷ us) zero l = absurd (omega (arith, l))
 uses_done row front (u ∷ us) (suc i) l = uses_done row front us i (omega (arith, l))
+
+-- no value stands within an integer
+pub literal_row : (row : Use → List Span) (t : Ty) (n : Literal) → earliest (row (constant_at t (Int n))) ≡ earliest (row_within row (constant_at t (Int n)))
+unfolding inner_uses
+literal_row row t n = ap (λ xs. earliest xs) (sym (append-nil (row (constant_at t (Int n)))))

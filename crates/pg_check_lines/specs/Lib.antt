@@ -1,4 +1,3 @@
 pub mod Cases
-pub mod Misfits
 pub mod Results
 pub mod Uses

@@ -1,11 +1,11 @@
 //! The cases of a `switch` that stand twice.
 
-ghost use Rattle.std.specs.Prelude.{◌≡◌, ◌==◌, ℕ, List, true, Some, None, IfOk, OnOk, map};
+ghost use Rattle.std.specs.Prelude.{◌≡◌, ◌==◌, ℕ, List, Some, None, IfOk, OnOk, map};
 ghost use Rattle.std.specs.List.{flat_map};
 ghost use Rattle.pg_read_ast.specs.Views.{ty_of, case_of, op_of};
 ghost use Rattle.pg_check_types.specs.NumberedTypes.{named_types};
 ghost use Rattle.pg_check_types.specs.Resolved.{resolved};
-ghost use Rattle.pg_check_rules.specs.Starts.{noted_start, is_before};
+ghost use Rattle.pg_check_rules.specs.Starts.{noted_start};
 ghost use Rattle.pg_check_rules.specs.ValueConditions.{Scope};
 ghost use Rattle.pg_check_rules.specs.LineConditions.{same_number, repeated_case, equal_cases};
 ghost use Rattle.pg_check_rules.specs.Earliest.{earliest};
@@ -14,7 +14,7 @@ ghost use Rattle.pg_check_lines.specs.Cases.{case_place, repeated, starts_behind
 
 use crate::line_types::value_type;
 use indexmap::IndexMap;
-use pg_check_rules::{earlier, number_at, place_if, val_span};
+use pg_check_rules::{earlier, earlier_start, is_before, number_at, place_if, val_span};
 use pg_check_types::TypeNumbers;
 use pg_read_ast::{CaseNode, OpNode, TypeNode};
 use pg_read_lex::Span;
@@ -58,15 +58,6 @@ fn case_places(
     Ok(places)
 }
 
-fn earlier_start(known: Option<u32>, start: u32) -> u32
-    ensures { Some result ≡ noted_start known true start }
-{
-    match known {
-        Some(known) => known.min(start),
-        None => start,
-    }
-}
-
 /// Keeps where a case of a number begins, if no other of it begins before.
 fn note_number(starts: &mut IndexMap<u64, u32>, number: u64, start: u32) -> Result<(), AllocError>
     ensures { OnOk result ((n : ℕ) → start_of starts.new n ≡ noted_start (start_of starts.old n) (number == n) start) }
@@ -105,15 +96,6 @@ fn known_start(starts: &IndexMap<u64, u32>, number: Option<u64>) -> Option<u32>
     match number {
         Some(number) => starts.get(&number).copied(),
         None => None,
-    }
-}
-
-fn is_before(known: Option<u32>, place: u32) -> bool
-    ensures { result ≡ is_before known place }
-{
-    match known {
-        Some(start) => start < place,
-        None => false,
     }
 }
 

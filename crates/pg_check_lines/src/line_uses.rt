@@ -2,21 +2,19 @@
 
 ghost use Rattle.std.specs.Prelude.{◌≡◌, IfOk};
 ghost use Rattle.std.specs.List.{flat_map};
-ghost use Rattle.pg_read_ast.specs.Syntax.{Int};
-ghost use Rattle.pg_read_ast.specs.Views.{count_of};
 ghost use Rattle.pg_check_types.specs.NumberedTypes.{named_types};
-ghost use Rattle.pg_check_rules.specs.Written.{with_inner, constant_at};
+ghost use Rattle.pg_check_rules.specs.Written.{with_inner};
 ghost use Rattle.pg_check_rules.specs.ValueConditions.{Scope, wrong_use};
 ghost use Rattle.pg_check_rules.specs.Earliest.{earliest};
 ghost use Rattle.pg_check_values.specs.Scopes.{IsLineScope};
-ghost use Rattle.pg_check_lines.specs.Misfits.{misfits};
 ghost use Rattle.pg_check_lines.specs.Uses.{use_of, uses_of, unknown_row, function_row, row_within};
 
 use crate::operands::UseNode;
-use pg_check_rules::{earlier, place_if};
-use pg_check_types::{TypeKind, TypeNumbers, literal_in};
-use pg_check_values::{LineScope, PlacedValue, function_values, unknown_values, wrong_values};
-use pg_read_ast::{CountNode, Literal};
+use pg_check_rules::earlier;
+use pg_check_types::TypeNumbers;
+use pg_check_values::{
+    LineScope, PlacedValue, function_values, unknown_values, wrong_literal, wrong_values,
+};
 use pg_read_lex::Span;
 use std::alloc::AllocError;
 
@@ -64,26 +62,6 @@ pub fn function_uses(scope: &LineScope<'_>, uses: &[UseNode<'_>]) -> Option<Span
     found
 }
 
-/// Whether an integer that is written doesn't fit a type of a kind.
-fn misfits(kind: Option<TypeKind>, literal: &Literal) -> bool
-    ensures { result ≡ misfits kind literal.now }
-{
-    match kind {
-        Some(TypeKind::Integer(width)) => literal_in(width, literal.text.as_slice()).is_none(),
-        Some(_) => true,
-        None => false,
-    }
-}
-
-/// The place of a number of elements that doesn't fit its type.
-fn wrong_count_use(types: &TypeNumbers<'_>, count: &CountNode) -> Result<Option<Span>, AllocError>
-    ensures place { (g : Scope) → g.tree.types ≡ named_types types.now →
-        IfOk result (λ o. o ≡ earliest (row_within (wrong_use g) (constant_at (count_of count.now).ty (Int (count_of count.now).count)))) }
-{
-    let kind = types.kind(&count.ty)?;
-    Ok(place_if(misfits(kind, &count.count), count.count.span))
-}
-
 /// The earliest place at which a value or one within it doesn't fit.
 fn wrong_use(
     scope: &LineScope<'_>,
@@ -102,7 +80,7 @@ fn wrong_use(
             };
             wrong_values(&scope.values, types, placed)
         }
-        UseNode::Count(count) => wrong_count_use(types, count),
+        UseNode::Count(count) => wrong_literal(types, &count.ty, &count.count),
     }
 }
 

@@ -6,6 +6,7 @@ use Rattle.std.proofs.lemmas.Bool.{or_parts}
 use Rattle.std.proofs.lemmas.Grind.{flat_map-append}
 use Rattle.std.proofs.lemmas.List.{take_all}
 use Rattle.std.proofs.lemmas.List.Sums.{sum_by-cons}
+use Rattle.std.proofs.lemmas.Option.{same_Some}
 use Rattle.pg_num.specs.declared.limits.TheConstants.{GLOBAL_LIMIT, INSTRUCTION_LIMIT, FUNCTION_REGISTER_LIMIT}
 use Rattle.pg_num.specs.declared.layout.TheConstants.{GLOBALS_END}
 use Rattle.pg_read_ast.specs.Syntax.{Ty, Line, Block, NamedType, Variable, Definition, Tree}
@@ -18,7 +19,6 @@ use Rattle.pg_check_rules.specs.Names.{registers_of, line_count, first_line}
 use Rattle.pg_check_rules.specs.Constants.{start_granule}
 use Rattle.pg_check_rules.specs.Numbered.{named_functions}
 use Rattle.pg_check_rules.specs.Conditions.{global_types, globals_end, global_refused, body_types, is_too_large, body_refused, IsUnrefused}
-use Rattle.pg_law_numbering.proofs.Flat.{some_is}
 use Rattle.pg_law_numbering.proofs.Each.{all_front, all_behind}
 use Rattle.pg_law_numbering.proofs.Unrefused.{at_if_none, globals_pass, bodies_pass}
 use Rattle.pg_law_numbering.proofs.Naming.{blocks_kept, lines_kept, params_kept}
@@ -61,7 +61,7 @@ types_same types d = blocks_same types (behind_all behind_param 0 d.params) d.bl
 -- what holds of all that the elements of a list have holds of what each has
 piece : {X Y : Type 0} (P : Y → Type 0) (g : X → List Y) (xs : List X) → AllByRecursion P (flat_map g xs) → (i : ℕ) (x : X) → slice_get xs i ≡ Some x → AllByRecursion P (g x)
 piece P g [] h i x e = absurd cc
-piece {X} P g (y ∷ ys) h zero x e = subst (λ (q : X). AllByRecursion P (g q)) (some_is y x e) (all_front P (g y) (flat_map g ys) h)
+piece {X} P g (y ∷ ys) h zero x e = subst (λ (q : X). AllByRecursion P (g q)) (same_Some y x e) (all_front P (g y) (flat_map g ys) h)
 piece P g (y ∷ ys) h (suc i) x e = piece P g ys (all_behind P (g y) (flat_map g ys) h) i x e
 
 -- ---- counts

@@ -5,6 +5,7 @@ use Rattle.std.specs.List.{flat_map, list_any, AllByRecursion}
 use Rattle.std.specs.Option.{option_and_then}
 use Rattle.std.proofs.lemmas.Bool.{or_parts}
 use Rattle.std.proofs.lemmas.List.Folds.{list_any-append}
+use Rattle.std.proofs.lemmas.Option.{same_Some}
 use Rattle.pg_num.specs.declared.limits.TheConstants.{SIZE_LIMIT}
 use Rattle.pg_num.specs.declared.width.Width.TheVariants.{W1, W8, W16, W32, W64}
 use Rattle.pg_read_ast.specs.Syntax.{Ty, Tys, I1, I8, I16, I32, I64, Ptr, Void, Array, Struct, Named, NoTys, MoreTys, NamedType, Tree}
@@ -17,7 +18,6 @@ use Rattle.pg_check_rules.specs.Written.{types_within, types_within_all}
 use Rattle.pg_check_rules.specs.TypeConditions.{is_large, any_large}
 use Rattle.pg_check_rules.specs.Conditions.{item_refused, IsUnrefused}
 use Rattle.pg_check_types.proofs.Fuel.{Below, within_less}
-use Rattle.pg_law_numbering.proofs.Flat.{some_is}
 use Rattle.pg_law_numbering.proofs.Unrefused.{at_if_none, items_pass}
 use Rattle.pg_law_numbering.proofs.Resolves.{item_of}
 use Rattle.pg_law_numbering.proofs.Sizes.{size_by}
@@ -73,7 +73,7 @@ array_fits n o r f l e = by n (part_type o) refl e
     by None p g h = absurd cc
     by (Some k) None g h = absurd cc
     by (Some k) (Some t) g h =
-        let same : ArrayType k t ≡ r = some_is (ArrayType k t) r h in
+        let same : ArrayType k t ≡ r = same_Some (ArrayType k t) r h in
         let small : size_of (ArrayType k t) ≤ SIZE_LIMIT = subst (λ (q : ResolvedType). size_of q ≤ SIZE_LIMIT) (sym same) l in
         subst AllFit same (small, f t (part_is o t g))
 
@@ -100,13 +100,13 @@ module _ (types : List NamedType) (f : List ℕ → Option ResolvedType) (below 
     unfolding type_by fields_by types_within types_within_all AllFit
 
     type_fits_by : (t : Ty) → list_any (is_large types) (types_within t) ≡ false → Fit (type_by f t)
-    type_fits_by (I1 s) l r e = subst AllFit (some_is (IntegerType W1) r e) tt
-    type_fits_by (I8 s) l r e = subst AllFit (some_is (IntegerType W8) r e) tt
-    type_fits_by (I16 s) l r e = subst AllFit (some_is (IntegerType W16) r e) tt
-    type_fits_by (I32 s) l r e = subst AllFit (some_is (IntegerType W32) r e) tt
-    type_fits_by (I64 s) l r e = subst AllFit (some_is (IntegerType W64) r e) tt
-    type_fits_by (Ptr s) l r e = subst AllFit (some_is PointerType r e) tt
-    type_fits_by (Void s) l r e = subst AllFit (some_is VoidType r e) tt
+    type_fits_by (I1 s) l r e = subst AllFit (same_Some (IntegerType W1) r e) tt
+    type_fits_by (I8 s) l r e = subst AllFit (same_Some (IntegerType W8) r e) tt
+    type_fits_by (I16 s) l r e = subst AllFit (same_Some (IntegerType W16) r e) tt
+    type_fits_by (I32 s) l r e = subst AllFit (same_Some (IntegerType W32) r e) tt
+    type_fits_by (I64 s) l r e = subst AllFit (same_Some (IntegerType W64) r e) tt
+    type_fits_by (Ptr s) l r e = subst AllFit (same_Some PointerType r e) tt
+    type_fits_by (Void s) l r e = subst AllFit (same_Some VoidType r e) tt
     type_fits_by (Array s n t) l r e =
         let p = or_parts (is_large types (Array s n t)) (list_any (is_large types) (types_within t)) l in
         array_fits (element_count n.text) (type_by f t) r (type_fits_by t p.1) (own_small (Array s n t) r p.0 e) e

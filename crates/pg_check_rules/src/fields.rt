@@ -52,6 +52,7 @@ pub fn fields_of(
 {
     let mut fields = Vec::new(alloc);
     let mut rest = number;
+    // The label names the loop for its invariant.
     'fields: loop {
         match last_field(types, rest) {
             Some(last) => {

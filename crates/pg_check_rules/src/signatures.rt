@@ -84,6 +84,7 @@ pub fn are_params(
     if scalars.len() != params.len() {
         return Ok(false);
     }
+    // By place: of `zip` it would have to be proved that it ends.
     for index in 0..scalars.len() {
         if !is_param(types, scalars[index], &params[index])? {
             return Ok(false);
@@ -92,7 +93,8 @@ pub fn are_params(
     Ok(true)
 }
 
-fn is_type(types: &TypeNumbers<'_>, ty: &TypeNode) -> Result<bool, AllocError>
+/// Whether what is written is a type.
+pub fn is_type(types: &TypeNumbers<'_>, ty: &TypeNode) -> Result<bool, AllocError>
     ensures same { IfOk result (λ b. b ≡ is_resolved (named_types types.now) (ty_of ty.now)) }
 {
     let kind = types.kind(ty)?;

@@ -16,7 +16,8 @@ use pg_read_ast::Name;
 use pg_read_lex::Span;
 use std::alloc::{AllocError, Global};
 
-fn earlier_start(known: Option<u32>, start: u32) -> u32
+/// The earlier of a start that is known, if there is one, and another.
+pub fn earlier_start(known: Option<u32>, start: u32) -> u32
     ensures { Some result ≡ noted_start known true start }
 {
     match known {
@@ -53,7 +54,8 @@ pub fn index_starts<'a>(
     Ok(starts)
 }
 
-fn is_before(known: Option<u32>, place: u32) -> bool
+/// Whether a start is known that lies before a place.
+pub fn is_before(known: Option<u32>, place: u32) -> bool
     ensures { result ≡ is_before known place }
 {
     match known {

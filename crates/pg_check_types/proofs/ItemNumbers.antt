@@ -5,7 +5,7 @@ use Rattle.std.specs.List.{position_from}
 use Rattle.std.specs.Option.{option_and_then, option_eq}
 use Rattle.std.proofs.lemmas.Bool.{eqb-true}
 use Rattle.std.specs.Str.{bytes_eq}
-use Rattle.std.proofs.lemmas.Option.{slice_get-get_or, slice_get_read}
+use Rattle.std.proofs.lemmas.Option.{slice_get-get_or, slice_get_read, same_Some}
 use Rattle.pg_read_ast.specs.declared.nodes.TypeItem.{TypeItem}
 use Rattle.pg_read_ast.specs.Syntax.{Ty}
 use Rattle.pg_read_ast.specs.Numbers.{type_named}
@@ -20,9 +20,6 @@ use Rattle.pg_check_types.proofs.Shapes.{none_of}
 use Rattle.pg_check_types.proofs.Fuel.{Below, type_keeps}
 use Rattle.pg_check_types.proofs.Resolutions.{denoted_more}
 
-pub some_is : {X : Type 0} (x y : X) → Some x ≡ Some y → x ≡ y
-some_is x y e = cc
-
 -- ---- the item of a name
 
 pub at_least : (test : List ℕ → Bool) (k : ℕ) (ts : List (List ℕ)) (n : ℕ) → position_from test k ts ≡ Some n → k ≤ n
@@ -30,7 +27,7 @@ at_least test k [] n e = cc
 at_least test k (t ∷ ts) n e = by (test t) (at_least test (k + 1) ts n) e
   where
     by : (b : Bool) → (position_from test (k + 1) ts ≡ Some n → k + 1 ≤ n) → cond b (Some k) (position_from test (k + 1) ts) ≡ Some n → k ≤ n
-    by true h f = let s : k ≡ n = some_is k n f in omega (arith, s)
+    by true h f = let s : k ≡ n = same_Some k n f in omega (arith, s)
     by false h f = let l : k + 1 ≤ n = h f in omega (arith, l)
 
 first_type_from : (text : List ℕ) (k : ℕ) (types : List TypeItem) (p n : ℕ) (i : TypeItem) → position_from (λ t. bytes_eq t text) k (item_texts types) ≡ Some n → n ≡ k + p
@@ -40,14 +37,14 @@ first_type_from text k (x ∷ types) zero n i e m s = by (bytes_eq x.name.text t
   where
     by : (b : Bool) → cond b (Some k) (position_from (λ t. bytes_eq t text) (k + 1) (item_texts types)) ≡ Some n
         → cond b (Some (ty_of x.ty)) (type_named (map type_item_of types) text) ≡ Some (ty_of i.ty)
-    by true f = ap (λ (y : TypeItem). Some (ty_of y.ty)) (some_is x i s)
+    by true f = ap (λ (y : TypeItem). Some (ty_of y.ty)) (same_Some x i s)
     by false f = let l = at_least (λ t. bytes_eq t text) (k + 1) (item_texts types) n f in absurd (omega (arith, l, m))
 first_type_from text k (x ∷ types) (suc p) n i e m s = by (bytes_eq x.name.text text) (λ f. first_type_from text (k + 1) types p n i f (omega (arith, m)) s) e
   where
     by : (b : Bool) → (position_from (λ t. bytes_eq t text) (k + 1) (item_texts types) ≡ Some n → type_named (map type_item_of types) text ≡ Some (ty_of i.ty))
         → cond b (Some k) (position_from (λ t. bytes_eq t text) (k + 1) (item_texts types)) ≡ Some n
         → cond b (Some (ty_of x.ty)) (type_named (map type_item_of types) text) ≡ Some (ty_of i.ty)
-    by true h f = let q : k ≡ n = some_is k n f in absurd (omega (arith, q, m))
+    by true h f = let q : k ≡ n = same_Some k n f in absurd (omega (arith, q, m))
     by false h f = h f
 
 pub first_type : (text : List ℕ) (types : List TypeItem) (p : ℕ) (i : TypeItem) → first_place (item_texts types) text ≡ Some p → slice_get types p ≡ Some i
@@ -66,7 +63,7 @@ same_names f g h t e = by (type_by g t) refl
 pub stuck_by : (types : List TypeItem) (a b : List ResolvedType) (number : List ℕ → Option ℕ) (items : List (Option ℕ)) (place : ℕ) (item : TypeItem) → Grows a b
     → AreWithin a number → slice_get types place ≡ Some item → type_by (named_by a number) (ty_of item.ty) ≡ None → IsStuck types b number items place
 stuck_by types a b number items place item g w s e = λ i o.
-    let same : item ≡ i = some_is item i (sym s ∙ o.item) in
+    let same : item ≡ i = same_Some item i (sym s ∙ o.item) in
     same_names (named_by a number) (named_by b number) (λ text. sym (denoted_more a b (number text) g (w text))) (ty_of i.ty)
     (ap (λ (y : TypeItem). type_by (named_by a number) (ty_of y.ty)) (sym same) ∙ e)
 

@@ -4,7 +4,7 @@ use Rattle.std.proofs.Common.{◌⊎◌, inl, inr, refl, sym, ap, subst, ◌∙�
 use Rattle.std.specs.List.{position_from}
 use Rattle.std.specs.Option.{option_and_then}
 use Rattle.std.specs.Str.{bytes_eq}
-use Rattle.std.proofs.lemmas.Option.{slice_get-get_or}
+use Rattle.std.proofs.lemmas.Option.{slice_get-get_or, same_Some}
 use Rattle.std.proofs.lemmas.Slice.Eq.{bytes_eq-Decides}
 use Rattle.indexmap.specs.IndexMap.{IndexMap}
 use Rattle.pg_read_ast.specs.declared.nodes.TypeItem.{TypeItem}
@@ -17,13 +17,13 @@ use Rattle.pg_check_types.specs.Known.{IsWithin, AreWithin, item_number}
 use Rattle.pg_check_types.specs.Items.{item_text, item_texts, found_count, AreFound, named_by, IsStuck, IsFoundAt}
 use Rattle.pg_check_types.proofs.Fuel.{within_plus}
 use Rattle.pg_check_types.proofs.Resolutions.{denoted_more, within_more, all_within_more}
-use Rattle.pg_check_types.proofs.ItemNumbers.{some_is, at_least, same_names}
+use Rattle.pg_check_types.proofs.ItemNumbers.{at_least, same_names}
 
 -- ---- a list with one element changed
 
 set_get : {X : Type 0} (xs : List X) (i j : ℕ) (v y : X) → slice_get (slice_set xs i v) j ≡ Some y → ((j ≡ i) × (y ≡ v)) ⊎ (slice_get xs j ≡ Some y)
 set_get [] i j v y e = inr e
-set_get (x ∷ xs) zero zero v y e = inl (refl, sym (some_is v y e))
+set_get (x ∷ xs) zero zero v y e = inl (refl, sym (same_Some v y e))
 set_get (x ∷ xs) zero (suc j) v y e = inr e
 set_get (x ∷ xs) (suc i) zero v y e = inr e
 set_get (x ∷ xs) (suc i) (suc j) v y e = more (set_get xs i j v y e)
@@ -50,13 +50,13 @@ place_text_from text k [] p n i e m s = cc
 place_text_from text k (x ∷ types) zero n i e m s = by (bytes_eq x.name.text text) refl e
   where
     by : (b : Bool) → bytes_eq x.name.text text ≡ b → cond b (Some k) (position_from (λ t. bytes_eq t text) (k + 1) (item_texts types)) ≡ Some n → item_text i ≡ text
-    by true h f = ap (λ (y : TypeItem). item_text y) (sym (some_is x i s)) ∙ (bytes_eq-Decides x.name.text text).0 h
+    by true h f = ap (λ (y : TypeItem). item_text y) (sym (same_Some x i s)) ∙ (bytes_eq-Decides x.name.text text).0 h
     by false h f = let l = at_least (λ t. bytes_eq t text) (k + 1) (item_texts types) n f in absurd (omega (arith, l, m))
 place_text_from text k (x ∷ types) (suc p) n i e m s = by (bytes_eq x.name.text text) (λ f. place_text_from text (k + 1) types p n i f (omega (arith, m)) s) e
   where
     by : (b : Bool) → (position_from (λ t. bytes_eq t text) (k + 1) (item_texts types) ≡ Some n → item_text i ≡ text)
         → cond b (Some k) (position_from (λ t. bytes_eq t text) (k + 1) (item_texts types)) ≡ Some n → item_text i ≡ text
-    by true h f = let q : k ≡ n = some_is k n f in absurd (omega (arith, q, m))
+    by true h f = let q : k ≡ n = same_Some k n f in absurd (omega (arith, q, m))
     by false h f = h f
 
 place_text : (text : List ℕ) (types : List TypeItem) (p : ℕ) (i : TypeItem) → first_place (item_texts types) text ≡ Some p → slice_get types p ≡ Some i → item_text i ≡ text
@@ -82,7 +82,7 @@ put_number places items place t u text e = by (known_place places text) e
     at p (Some o) h f = here (set_get items place p (Some t) o h)
       where
         here : ((p ≡ place) × (o ≡ Some t)) ⊎ (slice_get items p ≡ Some o) → ((Some p ≡ Some place) × (u ≡ t)) ⊎ (option_and_then (λ x. x) (slice_get items p) ≡ Some u)
-        here (inl k) = inl (ap (λ n. Some n) k.0, some_is u t (sym f ∙ k.1))
+        here (inl k) = inl (ap (λ n. Some n) k.0, same_Some u t (sym f ∙ k.1))
         here (inr k) = inr (ap (λ y. option_and_then (λ x. x) y) k ∙ f)
 
     by : (k : Option ℕ) → option_and_then (λ p. option_and_then (λ x. x) (slice_get (slice_set items place (Some t)) p)) k ≡ Some u

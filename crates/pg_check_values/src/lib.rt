@@ -20,4 +20,4 @@ pub use type_tests::{TypeTest, passes, unmet, unmet_as};
 pub use typed_tests::{
     unmet_like, unmet_one, unmet_same, unmet_typed, unmet_typed_as, unmet_value, unmet_value_as,
 };
-pub use uses::wrong_values;
+pub use uses::{wrong_literal, wrong_values};

@@ -171,6 +171,7 @@ fn wrong_use(
     Ok(earlier(own, earlier(asked, indices)))
 }
 
+/// Whether an integer that is written doesn't fit a type of a kind.
 fn misfit_literal(kind: Option<TypeKind>, literal: &Literal) -> bool
     ensures { (t : Option ResolvedType) → kind ≡ option_map kind_of t → result ≡ fails (λ u. fits u (Int literal.now)) t }
 {
@@ -183,7 +184,7 @@ fn misfit_literal(kind: Option<TypeKind>, literal: &Literal) -> bool
 
 /// The place of an integer that doesn't fit the type that is written before it.
 #[tactic(auto, unfolding(pg_check_rules::specs::Earliest::earliest, pg_check_rules::specs::ValueConditions::wrong_use))]
-fn wrong_literal(
+pub fn wrong_literal(
     types: &TypeNumbers<'_>,
     ty: &TypeNode,
     literal: &Literal,

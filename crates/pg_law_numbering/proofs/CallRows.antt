@@ -4,7 +4,7 @@ use Rattle.std.proofs.Common.{◌∙◌, subst, true≢false, arith, nat_lt, con
 use Rattle.std.specs.Prelude.{slice_get, Option, Some, None, is_some}
 use Rattle.std.specs.List.{filter_map}
 use Rattle.std.proofs.lemmas.Bool.{ltb-false, and_parts}
-use Rattle.std.proofs.lemmas.Option.{slice_get_within}
+use Rattle.std.proofs.lemmas.Option.{slice_get_within, same_Some}
 use Rattle.pg_read_lex.specs.declared.token.Span.{Span}
 use Rattle.pg_ir.specs.declared.value.Scalar.{Scalar}
 use Rattle.pg_ir.specs.declared.value.Scalar.TheVariants as scalar
@@ -30,7 +30,7 @@ use Rattle.pg_check_rules.specs.CallConditions.{wrong_thread, unsupported_thread
 use Rattle.pg_check_rules.specs.Conditions.{scope_of, is_scalar_type, are_params, IsUnrefused}
 use Rattle.pg_check_rules.specs.Numbered.{scalar_in, value_of, symbol_value, typed_value, known_call, call_of, op_at, named_functions, program_of}
 use Rattle.pg_check_types.specs.Kinds.{is_as, fails}
-use Rattle.pg_law_numbering.proofs.Flat.{some_is, behind_get, there_at, map_count, front_at, in_front}
+use Rattle.pg_law_numbering.proofs.Flat.{behind_get, there_at, map_count, front_at, in_front}
 use Rattle.pg_law_numbering.proofs.Unrefused.{front_none, behind_none, else_none, then_none}
 use Rattle.pg_check_types.proofs.SameTypes.{same_type_true}
 use Rattle.pg_law_numbering.proofs.Resolves.{Has}
@@ -82,7 +82,7 @@ demand_at : (types : List NamedType) (ps : List Ty) (all : List Typed) (k : ℕ)
 demand_at types [] all k t a e h = absurd cc
 demand_at types (p ∷ ps) [] k t a e h = absurd cc
 demand_at types (p ∷ ps) (b ∷ all) zero t a e h =
-    ap (λ (q : Ty). Some (asks_typed (is_as (resolved types q)) b)) (some_is p t e) ∙ ap (λ (q : Typed). Some (asks_typed (is_as (resolved types t)) q)) (some_is b a h)
+    ap (λ (q : Ty). Some (asks_typed (is_as (resolved types q)) b)) (same_Some p t e) ∙ ap (λ (q : Typed). Some (asks_typed (is_as (resolved types t)) q)) (same_Some b a h)
 demand_at types (p ∷ ps) (b ∷ all) (suc k) t a e h = demand_at types ps all k t a e h
 
 -- ---- parameters
@@ -275,7 +275,7 @@ module _ (m : Tree) (accepted : IsUnrefused m) (f : ℕ) (d : Definition) (there
       let count : length (numbered m.types x).params ≡ 1 = params_kept m.types x ∙ ap (λ (ps : List Param). length ps) q.1 in
       let p = there_at (numbered m.types x).params 0 (omega (arith, count)) in
       let plain = param_plain m.types x 0 p.0 p.1 in
-      let same : plain.0 ≡ q.0 = some_is plain.0 q.0 (sym plain.1 ∙ ap (λ (ps : List Param). slice_get ps 0) q.1) in
+      let same : plain.0 ≡ q.0 = same_Some plain.0 q.0 (sym plain.1 ∙ ap (λ (ps : List Param). slice_get ps 0) q.1) in
       let type : p.0.ty ≡ q.0.ty = plain.2 ∙ ap (λ (y : Param). y.ty) same in
       let rp = param_has m accepted g (numbered m.types x) named 0 p.0 p.1 in
       let none : fails is_pointer (resolved m.types p.0.ty) ≡ false = ap (λ (u : Ty). fails is_pointer (resolved m.types u)) type ∙ not_true (fails is_pointer (resolved m.types q.0.ty)) q.2 in

@@ -11,7 +11,7 @@ use Rattle.std.proofs.lemmas.Slice.Eq.{bytes_eq-Decides}
 use Rattle.std.proofs.lemmas.Cmp.{nat_list_eq_equiv}
 use Rattle.std.proofs.lemmas.Map.Made.{length-le_from_is_member}
 use Rattle.std.proofs.lemmas.Grind.{flat_map-append}
-use Rattle.std.proofs.lemmas.Option.{slice_get-map}
+use Rattle.std.proofs.lemmas.Option.{slice_get-map, same_Some}
 use Rattle.pg_read_ast.specs.declared.names.Name.{Name}
 use Rattle.pg_read_ast.specs.Syntax.{Ty, NamedType, Tree}
 use Rattle.pg_read_ast.specs.Numbers.{type_named}
@@ -21,7 +21,6 @@ use Rattle.pg_check_rules.specs.Written.{types_within}
 use Rattle.pg_check_rules.specs.TypeConditions.{unknown_type, wrong_type, unknown_types, wrong_types}
 use Rattle.pg_check_rules.specs.Conditions.{names_in, names_of_item, meets, self_contained, item_refused, IsUnrefused}
 use Rattle.pg_check_types.proofs.Fuel.{Below, within_less}
-use Rattle.pg_law_numbering.proofs.Flat.{some_is}
 use Rattle.pg_law_numbering.proofs.Unrefused.{front_none, behind_none, items_pass}
 use Rattle.pg_law_numbering.proofs.Resolves.{Has, Right, type_has, all_named, IsKnown, known_names, item_of}
 use Rattle.pg_law_numbering.proofs.Tests.{or_true, or_from_left, or_from_right, any_from, same_text}
@@ -99,13 +98,13 @@ filter_none {X} f p (y ∷ ys) i x e h = by (p y) refl i h e (λ j g k. filter_n
     by : (b : Bool) → p y ≡ b → (j : ℕ) → slice_get (y ∷ ys) j ≡ Some x → map f (cond b (y ∷ filter p ys) (filter p ys)) ≡ []
         → ((k : ℕ) → slice_get ys k ≡ Some x → map f (filter p ys) ≡ [] → p x ≡ false) → p x ≡ false
     by true q j g k more = absurd cc
-    by false q zero g k more = subst (λ (z : X). p z ≡ false) (some_is y x g) q
+    by false q zero g k more = subst (λ (z : X). p z ≡ false) (same_Some y x g) q
     by false q (suc j) g k more = more j g k
 
 -- the pieces of each element of a list are empty where those of all are
 pub each_inner : {X Y Z : Type 0} (f : Y → List Z) (g : X → List Y) (xs : List X) (i : ℕ) (x : X) → flat_map f (flat_map g xs) ≡ [] → slice_get xs i ≡ Some x → flat_map f (g x) ≡ []
 each_inner f g [] i x e h = absurd cc
-each_inner {X} f g (y ∷ ys) zero x e h = subst (λ (q : X). flat_map f (g q) ≡ []) (some_is y x h)
+each_inner {X} f g (y ∷ ys) zero x e h = subst (λ (q : X). flat_map f (g q) ≡ []) (same_Some y x h)
     (front_none (flat_map f (g y)) (flat_map f (flat_map g ys)) (sym (flat_map-append f (g y) (flat_map g ys)) ∙ e))
 each_inner f g (y ∷ ys) (suc i) x e h = each_inner f g ys i x (behind_none (flat_map f (g y)) (flat_map f (flat_map g ys)) (sym (flat_map-append f (g y) (flat_map g ys)) ∙ e)) h
 

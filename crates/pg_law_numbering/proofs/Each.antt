@@ -2,7 +2,7 @@
 use Rattle.std.proofs.Common.{◌≡◌, ℕ, zero, suc, List, [], ◌∷◌, ◌++◌, map, refl, subst}
 use Rattle.std.specs.Prelude.{slice_get, Some}
 use Rattle.std.specs.List.{AllByRecursion}
-use Rattle.pg_law_numbering.proofs.Flat.{some_is}
+use Rattle.std.proofs.lemmas.Option.{same_Some}
 
 pub all_front : {X : Type 0} (P : X → Type 0) (xs ys : List X) → AllByRecursion P (xs ++ ys) → AllByRecursion P xs
 all_front P [] ys h = tt
@@ -22,7 +22,7 @@ all_on P Q (x ∷ xs) f h = (f x h.0, all_on P Q xs f h.1)
 
 pub all_get : {X : Type 0} (P : X → Type 0) (xs : List X) → AllByRecursion P xs → (i : ℕ) (x : X) → slice_get xs i ≡ Some x → P x
 all_get P [] h i x e = absurd cc
-all_get P (y ∷ ys) h zero x e = subst P (some_is y x e) h.0
+all_get P (y ∷ ys) h zero x e = subst P (same_Some y x e) h.0
 all_get P (y ∷ ys) h (suc i) x e = all_get P ys h.1 i x e
 
 -- what holds of each element of the front of a list

@@ -4,6 +4,7 @@ use Rattle.std.proofs.Common.{true≢false, ◌↔◌}
 use Rattle.std.specs.Prelude.{slice_get, Some}
 use Rattle.std.specs.List.{list_any}
 use Rattle.std.proofs.lemmas.Bool.{and_parts}
+use Rattle.std.proofs.lemmas.Option.{same_Some}
 use Rattle.pg_read_ast.specs.Syntax.{Op, Binary, Icmp, Cast, Select, Phi, Br, CondBr, Switch, Call, RetVoid, Ret, Unreachable, Alloca, Load, Store, GetElementPtr, Line, Block, NamedType}
 use Rattle.pg_read_ast.specs.Syntax.{Definition, Tree}
 use Rattle.pg_read_ast.specs.Numbers.{each_at, line_at, behind_line, block_at, after}
@@ -13,7 +14,6 @@ use Rattle.pg_check_rules.specs.Numbered.{named_functions}
 use Rattle.pg_read_grammar.specs.GrammarItems.{ends_block}
 use Rattle.pg_read_grammar.specs.Endings.{ends_last, end_last}
 use Rattle.pg_law_numbering.specs.Parsed.{IsInOrder}
-use Rattle.pg_law_numbering.proofs.Flat.{some_is}
 use Rattle.pg_law_numbering.proofs.Unrefused.{named_from}
 use Rattle.pg_law_numbering.proofs.Naming.{block_plain}
 use Rattle.pg_law_numbering.proofs.FitsFunctions.{has_ending}
@@ -44,7 +44,7 @@ only_last (k ∷ []) zero l e h t = omega arith
 only_last (k ∷ []) (suc j) l e h t = absurd cc
 only_last (k ∷ n ∷ ls) zero l e h t =
     let own = sym (ending_is k.op) ∙ not_true (ends_block k.op) (and_parts (not (ends_block k.op)) (ends_last (n ∷ ls)) e).0 in
-    absurd (true≢false (sym t ∙ subst (λ (q : Line). is_ending q.op ≡ false) (some_is k l h) own))
+    absurd (true≢false (sym t ∙ subst (λ (q : Line). is_ending q.op ≡ false) (same_Some k l h) own))
 only_last (k ∷ n ∷ ls) (suc j) l e h t = omega (arith, only_last (n ∷ ls) j l (and_parts (not (ends_block k.op)) (ends_last (n ∷ ls)) e).1 h t)
 
 right_of : (a b : Bool) → a ≡ false → (a || b) ≡ true → b ≡ true
@@ -54,7 +54,7 @@ right_of false b h e = e
 the_last : (ls : List Line) (j : ℕ) (l : Line) → ends_last ls ≡ true → list_any (λ (x : Line). is_ending x.op) ls ≡ true → slice_get ls j ≡ Some l → j + 1 ≡ length ls
     → is_ending l.op ≡ true
 the_last [] j l e a h t = absurd cc
-the_last (k ∷ []) zero l e a h t = subst (λ (q : Line). is_ending q.op ≡ true) (some_is k l h) (by (is_ending k.op) a)
+the_last (k ∷ []) zero l e a h t = subst (λ (q : Line). is_ending q.op ≡ true) (same_Some k l h) (by (is_ending k.op) a)
   where
     by : (b : Bool) → (b || false) ≡ true → b ≡ true
     by true g = refl

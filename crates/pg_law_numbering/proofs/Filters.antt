@@ -3,7 +3,8 @@ use Rattle.std.proofs.Common.{◌≡◌, ℕ, zero, suc, ◌+◌, List, [], ◌�
 use Rattle.std.specs.Prelude.{slice_get, Option, Some, None}
 use Rattle.std.specs.List.{filter_map, flat_map, cons_option}
 use Rattle.std.specs.Option.{option_map}
-use Rattle.pg_law_numbering.proofs.Flat.{some_is, append_cases}
+use Rattle.std.proofs.lemmas.Option.{same_Some}
+use Rattle.pg_law_numbering.proofs.Flat.{append_cases}
 
 pub record IsOf {X Y : Type 0} (h : X → Option Y) (xs : List X) (y : Y) : Type 0 where
   pub place : ℕ
@@ -28,7 +29,7 @@ filter_found h (x ∷ xs) i y e = filter_case h x xs i y (h x) refl e (λ j g. f
 pub filter_there : {X Y : Type 0} (h : X → Option Y) (xs : List X) (i : ℕ) (x : X) (y : Y) → slice_get xs i ≡ Some x → h x ≡ Some y
     → (j : ℕ) × (slice_get (filter_map h xs) j ≡ Some y)
 filter_there h [] i x y e g = absurd cc
-filter_there {X} h (z ∷ zs) zero x y e g = (0, ap (λ o. slice_get (cons_option o (filter_map h zs)) 0) (subst (λ (q : X). h q ≡ Some y) (sym (some_is z x e)) g))
+filter_there {X} h (z ∷ zs) zero x y e g = (0, ap (λ o. slice_get (cons_option o (filter_map h zs)) 0) (subst (λ (q : X). h q ≡ Some y) (sym (same_Some z x e)) g))
 filter_there {X} {Y} h (z ∷ zs) (suc i) x y e g = by (h z) (filter_there h zs i x y e g)
   where
     by : (o : Option Y) → (j : ℕ) × (slice_get (filter_map h zs) j ≡ Some y) → (j : ℕ) × (slice_get (cons_option o (filter_map h zs)) j ≡ Some y)
@@ -53,7 +54,7 @@ pub total_get : {X Y : Type 0} (h : X → Option Y) (xs : List X) → IsTotal h 
 total_get h [] t i x e = absurd cc
 total_get {X} {Y} h (z ∷ zs) t zero x e =
     let r = t 0 z refl in
-    ap {B = Option Y} (λ o. slice_get (cons_option o (filter_map h zs)) 0) r.1 ∙ sym r.1 ∙ ap h (some_is z x e)
+    ap {B = Option Y} (λ o. slice_get (cons_option o (filter_map h zs)) 0) r.1 ∙ sym r.1 ∙ ap h (same_Some z x e)
 total_get {X} {Y} h (z ∷ zs) t (suc i) x e =
     let r = t 0 z refl in
     ap {B = Option Y} (λ o. slice_get (cons_option o (filter_map h zs)) (suc i)) r.1 ∙ total_get h zs (total_tail h z zs t) i x e
@@ -92,5 +93,5 @@ map_there g (y ∷ ys) (suc k) x e = map_there g ys k x e
 
 pub map_from : {X Y : Type 0} (g : X → Y) (xs : List X) (k : ℕ) (y : Y) → slice_get (map g xs) k ≡ Some y → (x : X) × (slice_get xs k ≡ Some x) × (y ≡ g x)
 map_from g [] k y e = absurd cc
-map_from g (x ∷ xs) zero y e = (x, refl, sym (some_is (g x) y e))
+map_from g (x ∷ xs) zero y e = (x, refl, sym (same_Some (g x) y e))
 map_from g (x ∷ xs) (suc k) y e = map_from g xs k y e

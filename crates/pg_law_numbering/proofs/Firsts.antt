@@ -4,8 +4,8 @@ use Rattle.std.proofs.Common.{nat_lt, ◌⊎◌, inl, inr, true≢false}
 use Rattle.std.specs.Prelude.{slice_get, Option, Some, None}
 use Rattle.std.specs.List.{find, position, position_or_len, list_any, enumerate_from}
 use Rattle.std.proofs.lemmas.Bool.{lt-ltb, ltb-true, or_from}
-use Rattle.std.proofs.lemmas.Option.{slice_get_within}
-use Rattle.pg_law_numbering.proofs.Flat.{some_is, Numbered}
+use Rattle.std.proofs.lemmas.Option.{slice_get_within, same_Some}
+use Rattle.pg_law_numbering.proofs.Flat.{Numbered}
 
 pub record IsFirst {X : Type 0} (p : X → Bool) (xs : List X) (i : ℕ) (x : X) : Type 0 where
   pub there : slice_get xs i ≡ Some x
@@ -24,12 +24,12 @@ search_step p x xs true e s = inl (0, x, record { there = refl; passes = e; befo
 search_step {X} p x xs false e (inl s) = inl (suc s.0, s.1, record { there = s.2.there; passes = s.2.passes; before = before })
   where
     before : (j : ℕ) (y : X) → j < suc s.0 → slice_get (x ∷ xs) j ≡ Some y → p y ≡ false
-    before zero y l h = subst (λ (q : X). p q ≡ false) (some_is x y h) e
+    before zero y l h = subst (λ (q : X). p q ≡ false) (same_Some x y h) e
     before (suc j) y l h = s.2.before j y (omega (arith, l)) h
 search_step {X} p x xs false e (inr s) = inr none
   where
     none : (j : ℕ) (y : X) → slice_get (x ∷ xs) j ≡ Some y → p y ≡ false
-    none zero y h = subst (λ (q : X). p q ≡ false) (some_is x y h) e
+    none zero y h = subst (λ (q : X). p q ≡ false) (same_Some x y h) e
     none (suc j) y h = s j y h
 
 pub look_up : {X : Type 0} (p : X → Bool) (xs : List X) → Search p xs
@@ -44,7 +44,7 @@ first_tail p y ys i x f = record { there = f.there; passes = f.passes; before = 
 first_length : {X : Type 0} (p : X → Bool) (xs : List X) (i : ℕ) (x : X) → IsFirst p xs i x → position_or_len p xs ≡ i
 first_length p [] i x f = absurd (let h = f.there in cc)
 first_length {X} p (y ∷ ys) zero x f =
-    let e : p y ≡ true = subst (λ (q : X). p q ≡ true) (sym (some_is y x f.there)) f.passes in
+    let e : p y ≡ true = subst (λ (q : X). p q ≡ true) (sym (same_Some y x f.there)) f.passes in
     ap (λ (b : Bool). cond (not b) (1 + position_or_len p ys) 0) e
 first_length p (y ∷ ys) (suc i) x f =
     let e : p y ≡ false = f.before 0 y (omega arith) refl in
@@ -60,7 +60,7 @@ first_position p xs i x f =
 pub first_find : {X : Type 0} (p : X → Bool) (xs : List X) (i : ℕ) (x : X) → IsFirst p xs i x → find p xs ≡ Some x
 first_find p [] i x f = absurd (let h = f.there in cc)
 first_find {X} p (y ∷ ys) zero x f =
-    let same = some_is y x f.there in
+    let same = same_Some y x f.there in
     let e : p y ≡ true = subst (λ (q : X). p q ≡ true) (sym same) f.passes in
     ap {B = Option X} (λ (b : Bool). cond b (Some y) (find p ys)) e ∙ f.there
 first_find {X} p (y ∷ ys) (suc i) x f =
@@ -88,7 +88,7 @@ pub from_find : {X : Type 0} (p : X → Bool) (xs : List X) (x : X) → find p x
 from_find {X} p xs x e = by (look_up p xs)
   where
     by : Search p xs → (i : ℕ) × IsFirst p xs i x
-    by (inl s) = (s.0, subst (λ (q : X). IsFirst p xs s.0 q) (some_is s.1 x (sym (first_find p xs s.0 s.1 s.2) ∙ e)) s.2)
+    by (inl s) = (s.0, subst (λ (q : X). IsFirst p xs s.0 q) (same_Some s.1 x (sym (first_find p xs s.0 s.1 s.2) ∙ e)) s.2)
     by (inr s) = absurd (let n = none_find p xs s in cc)
 
 pub from_any : {X : Type 0} (p : X → Bool) (xs : List X) → list_any p xs ≡ true → (i : ℕ) × (x : X) × IsFirst p xs i x
@@ -109,7 +109,7 @@ pub from_position : {X : Type 0} (p : X → Bool) (xs : List X) (i : ℕ) → po
 from_position {X} p xs i e = by (look_up p xs)
   where
     by : Search p xs → (x : X) × IsFirst p xs i x
-    by (inl s) = (s.1, subst (λ (q : ℕ). IsFirst p xs q s.1) (some_is s.0 i (sym (first_position p xs s.0 s.1 s.2) ∙ e)) s.2)
+    by (inl s) = (s.1, subst (λ (q : ℕ). IsFirst p xs q s.1) (same_Some s.0 i (sym (first_position p xs s.0 s.1 s.2) ∙ e)) s.2)
     by (inr s) = absurd (none_position p xs i s e)
 
 -- ---- elements with their numbers
@@ -117,7 +117,7 @@ from_position {X} p xs i e = by (look_up p xs)
 pub enumerate_found : {X : Type 0} (n : ℕ) (xs : List X) (i : ℕ) (e : Numbered X) → slice_get (enumerate_from n xs) i ≡ Some e → (slice_get xs i ≡ Some e.1) × (e.0 ≡ n + i)
 enumerate_found n [] i e h = absurd cc
 enumerate_found {X} n (x ∷ xs) zero e h =
-    let same : ◌≡◌ {A = Numbered X} (n, x) e = some_is (n, x) e h in
+    let same : ◌≡◌ {A = Numbered X} (n, x) e = same_Some (n, x) e h in
     let number : n ≡ e.0 = ap (λ (q : Numbered X). q.0) same in
     (ap {B = Option X} (λ (q : Numbered X). Some q.1) same, omega (arith, number))
 enumerate_found n (x ∷ xs) (suc i) e h = let r = enumerate_found (n + 1) xs i e h in (r.0, omega (arith, r.1))

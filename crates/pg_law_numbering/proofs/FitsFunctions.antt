@@ -8,7 +8,7 @@ use Rattle.std.specs.Str.{bytes_eq}
 use Rattle.std.proofs.lemmas.Bool.{or_parts, leb-false, and_parts}
 use Rattle.std.proofs.lemmas.List.Sums.{sum_by-cons, prefix_len_passes}
 use Rattle.std.proofs.lemmas.List.Folds.{length-prefix_len}
-use Rattle.std.proofs.lemmas.Option.{slice_get_within, slice_get-get_or}
+use Rattle.std.proofs.lemmas.Option.{slice_get_within, slice_get-get_or, same_Some}
 use Rattle.pg_num.specs.declared.limits.TheConstants.{FUNCTION_LIMIT, INSTRUCTION_LIMIT, FUNCTION_REGISTER_LIMIT}
 use Rattle.pg_num.specs.declared.width.Width.TheVariants.{W32}
 use Rattle.pg_ir.specs.declared.value.Scalar.TheVariants as scalar
@@ -30,7 +30,7 @@ use Rattle.pg_check_rules.specs.CallConditions.{definition_header}
 use Rattle.pg_check_rules.specs.LineConditions.{line_refused}
 use Rattle.pg_check_rules.specs.Conditions.{all_of, head_types, scope_of, all_lines, is_unfinished, body_refused, definition_refused, main_name, is_result, are_params, IsUnrefused}
 use Rattle.pg_check_rules.specs.Numbered.{named_functions, function_at, instr_at, program_of}
-use Rattle.pg_law_numbering.proofs.Flat.{some_is, sum_within, there_at, front_at, rest_at}
+use Rattle.pg_law_numbering.proofs.Flat.{sum_within, there_at, front_at, rest_at}
 use Rattle.pg_law_numbering.proofs.Unrefused.{front_none, at_if_none, bodies_pass, definitions_pass, named_from, main_is}
 use Rattle.pg_law_numbering.proofs.Naming.{block_count, first_block_named, first_line_named, all_lines_named, has_name}
 use Rattle.pg_law_numbering.proofs.Placed.{IsFunctionOf, function_found, function_there, functions_count, block_of, lines_in, IsBlockOf, block_there, block_found, blocks_total, line_there}
@@ -125,7 +125,7 @@ module _ (m : Tree) (accepted : IsUnrefused m) where
   piece_length : {X Y : Type 0} (g : X → List Y) (xs : List X) (i : ℕ) (x : X) → slice_get xs i ≡ Some x → length (g x) ≤ length (flat_map g xs)
   piece_length g [] i x e = absurd cc
   piece_length {X} g (y ∷ ys) zero x e =
-      let same : length (g y) ≡ length (g x) = ap (λ (q : X). length (g q)) (some_is y x e) in
+      let same : length (g y) ≡ length (g x) = ap (λ (q : X). length (g q)) (same_Some y x e) in
       omega (arith, same, length-append (g y) (flat_map g ys))
   piece_length g (y ∷ ys) (suc i) x e = omega (arith, piece_length g ys i x e, length-append (g y) (flat_map g ys))
 
@@ -194,7 +194,7 @@ module _ (m : Tree) (accepted : IsUnrefused m) where
         let x = instr_at (scope_of m d) (first_block m.functions f) i l in
         let at = instr_in j l g in
         let same : get_or (instrs_of (program_of m) (first_block m.functions f + i)) j x ≡ x =
-        some_is _ x (sym (slice_get-get_or (instrs_of (program_of m) (first_block m.functions f + i)) j x (slice_get_within (instrs_of (program_of m) (first_block m.functions f + i)) j x at))
+        same_Some _ x (sym (slice_get-get_or (instrs_of (program_of m) (first_block m.functions f + i)) j x (slice_get_within (instrs_of (program_of m) (first_block m.functions f + i)) j x at))
         ∙ at) in
         let t : is_phi x.op ≡ true = subst (λ (y : Instr). is_phi y.op ≡ true) same
         (prefix_len_passes (λ (y : Instr). is_phi y.op) (instrs_of (program_of m) (first_block m.functions f + i)) j x k) in
@@ -279,7 +279,7 @@ module _ (m : Tree) (accepted : IsUnrefused m) where
 
   take_whole : {X : Type 0} (size : X → ℕ) (xs : List X) (n : ℕ) (x : X) → length xs ≡ suc n → slice_get xs n ≡ Some x → sum_by size (take n xs) + size x ≡ sum_by size xs
   take_whole size [] n x e h = absurd cc
-  take_whole size (y ∷ []) zero x e h = let same : size y ≡ size x = ap size (some_is y x h) in omega (arith, same, sum_by-cons size y [])
+  take_whole size (y ∷ []) zero x e h = let same : size y ≡ size x = ap size (same_Some y x h) in omega (arith, same, sum_by-cons size y [])
   take_whole size (y ∷ z ∷ zs) zero x e h = absurd (omega (arith, e))
   take_whole size (y ∷ ys) (suc n) x e h = omega (arith, take_whole size ys n x (omega (arith, e)) h, sum_by-cons size y (take n ys), sum_by-cons size y ys)
 

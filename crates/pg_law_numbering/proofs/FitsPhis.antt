@@ -6,7 +6,7 @@ use Rattle.std.specs.Prelude.{slice_get, Option, Some, None, is_some, Contains, 
 use Rattle.std.specs.List.{flat_map, list_any, list_all, prefix_len, enumerate_from}
 use Rattle.std.proofs.lemmas.Bool.{and_parts, and_from, cases_lt, eq-eqb}
 use Rattle.std.proofs.lemmas.List.Sums.{prefix_len_passes}
-use Rattle.std.proofs.lemmas.Option.{slice_get_within, get_or_from_slice_get}
+use Rattle.std.proofs.lemmas.Option.{slice_get_within, get_or_from_slice_get, same_Some}
 use Rattle.pg_read_lex.specs.declared.token.Span.{Span}
 use Rattle.pg_ir.specs.declared.function.Function.{Function}
 use Rattle.pg_ir.specs.declared.function.Block as numbered_block
@@ -23,7 +23,7 @@ use Rattle.pg_check_rules.specs.LineConditions.{no_block}
 use Rattle.pg_check_rules.specs.Conditions.{scope_of, body_refused, IsUnrefused}
 use Rattle.pg_check_rules.specs.Numbered.{named_functions, instr_at, op_at, program_of}
 use Rattle.pg_law_numbering.specs.Parsed.{IsInOrder}
-use Rattle.pg_law_numbering.proofs.Flat.{some_is, Numbered, enumerate_get, behind_get, there_at, rest_at, in_front}
+use Rattle.pg_law_numbering.proofs.Flat.{Numbered, enumerate_get, behind_get, there_at, rest_at, in_front}
 use Rattle.pg_law_numbering.proofs.Unrefused.{front_none, behind_none, each_none, else_none, bodies_pass}
 use Rattle.pg_law_numbering.proofs.Placed.{lines_in, block_there, block_found, line_there, function_there}
 use Rattle.pg_law_numbering.proofs.Filters.{filter_found, filter_there, map_there, map_from}
@@ -195,7 +195,7 @@ module _ (m : Tree) (accepted : IsUnrefused m) (order : IsInOrder m) where
           let same : r.function ≡ f = one_function r.function f (slice_get (program_of m).blocks (first_block m.functions f + place))
           (stays r.function r.definition r.there r.place r.plain r.within (first_block m.functions f + place) h2) (in_function m accepted f d place block there within) in
           let there2 : slice_get (named_functions m) f ≡ Some r.definition = subst (λ (q : ℕ). slice_get (named_functions m) q ≡ Some r.definition) same r.there in
-          let definition : r.definition ≡ d = some_is r.definition d (sym there2 ∙ there) in
+          let definition : r.definition ≡ d = same_Some r.definition d (sym there2 ∙ there) in
           let at : slice_get d.blocks r.place ≡ Some r.plain = subst (λ (q : Definition). slice_get q.blocks r.place ≡ Some r.plain) definition r.within in
           let number : first_block m.functions f + r.place ≡ b = ap (λ (q : ℕ). first_block m.functions q + r.place) (sym same) ∙ sym r.number in
           subst (Contains (sources_of (op_at (scope_of m d) (first_block m.functions f) l.op))) number

@@ -4,9 +4,7 @@ use Rattle.std.proofs.Common.{length-append, ◌⊎◌, inl, inr}
 use Rattle.std.specs.Prelude.{slice_get, Option, Some, sum_by}
 use Rattle.std.specs.List.{flat_map, enumerate_from}
 use Rattle.std.proofs.lemmas.List.Sums.{sum_by-cons}
-
-pub some_is : {X : Type 0} (x y : X) → Some x ≡ Some y → x ≡ y
-some_is x y e = cc
+use Rattle.std.proofs.lemmas.Option.{same_Some}
 
 abbrev pub Numbered : Type 0 → Type 0
 Numbered X = ℕ × X
@@ -17,7 +15,7 @@ pub enumerate_get : {X : Type 0} (n : ℕ) (xs : List X) (i : ℕ) (x : X) → s
 enumerate_get n [] i x e = absurd cc
 enumerate_get {X} n (y ∷ ys) zero x e =
     let z : n ≡ n + 0 = omega arith in
-    let same : y ≡ x = some_is y x e in
+    let same : y ≡ x = same_Some y x e in
     ap {B = Option (Numbered X)} (λ (k : ℕ). Some (k, y)) z ∙ ap {B = Option (Numbered X)} (λ (k : X). Some (n + 0, k)) same
 enumerate_get {X} n (y ∷ ys) (suc i) x e =
     let z : n + 1 + i ≡ n + suc i = omega arith in
@@ -99,7 +97,7 @@ pub stands : {X A : Type 0} (g : ℕ → X → List A) (size : X → ℕ) → Ha
     → slice_get (pieces g n xs) (sum_by size (take i xs) + j) ≡ slice_get (g (n + i) x) j
 stands g size h n [] i x j e l = absurd cc
 stands {X} {A} g size h n (y ∷ ys) zero x j e l =
-    let same : y ≡ x = some_is y x e in
+    let same : y ≡ x = same_Some y x e in
     let z : n ≡ n + 0 = omega arith in
     let at : 0 + j ≡ j = omega arith in
     ap (slice_get (g n y ++ pieces g (n + 1) ys)) at
@@ -129,7 +127,7 @@ pieces_length g size h n (x ∷ xs) =
 pub sum_within : {X : Type 0} (size : X → ℕ) (xs : List X) (i : ℕ) (x : X) → slice_get xs i ≡ Some x → sum_by size (take i xs) + size x ≤ sum_by size xs
 sum_within size [] i x e = absurd cc
 sum_within size (y ∷ ys) zero x e =
-    let same : size y ≡ size x = ap size (some_is y x e) in
+    let same : size y ≡ size x = ap size (same_Some y x e) in
     omega (arith, same, sum_by-cons size y ys)
 sum_within size (y ∷ ys) (suc i) x e =
     omega (arith, sum_within size ys i x e, sum_by-cons size y ys, sum_by-cons size y (take i ys))
@@ -154,7 +152,7 @@ take_map f (suc n) (x ∷ xs) = ap (λ (q : List _). f x ∷ q) (take_map f n xs
 pub take_more : {X : Type 0} (size : X → ℕ) (xs : List X) (i : ℕ) (x : X) → slice_get xs i ≡ Some x → sum_by size (take (suc i) xs) ≡ sum_by size (take i xs) + size x
 take_more size [] i x e = absurd cc
 take_more size (y ∷ ys) zero x e =
-    let same : size y ≡ size x = ap size (some_is y x e) in
+    let same : size y ≡ size x = ap size (same_Some y x e) in
     let a : sum_by size (y ∷ []) ≡ size y + sum_by size [] = sum_by-cons size y [] in
     omega (arith, same, a)
 take_more size (y ∷ ys) (suc i) x e =

@@ -23,7 +23,7 @@ use Rattle.pg_check_rules.specs.LineConditions.{no_block}
 use Rattle.pg_check_rules.specs.Conditions.{scope_of, IsUnrefused}
 use Rattle.pg_check_rules.specs.Numbered.{named_functions, case_at, binary_op, cast_op, known_call, call_of, op_at, program_of}
 use Rattle.pg_law_numbering.specs.Parsed.{IsInOrder}
-use Rattle.pg_law_numbering.proofs.Flat.{some_is, there_at}
+use Rattle.pg_law_numbering.proofs.Flat.{there_at}
 use Rattle.pg_law_numbering.proofs.Unrefused.{else_none, named_from}
 use Rattle.pg_law_numbering.proofs.Naming.{has_label}
 use Rattle.pg_law_numbering.proofs.Filters.{total_get, total_length}
@@ -31,7 +31,7 @@ use Rattle.pg_law_numbering.proofs.Firsts.{IsFirst, from_position, first_positio
 use Rattle.pg_law_numbering.proofs.Unique.{labels_differ}
 use Rattle.pg_law_numbering.proofs.Passes.{Passes}
 use Rattle.pg_law_numbering.proofs.FitsFunctions.{in_function}
-use Rattle.std.proofs.lemmas.Option.{slice_get_within}
+use Rattle.std.proofs.lemmas.Option.{slice_get_within, same_Some}
 use Rattle.pg_law_numbering.proofs.Tests.{some_of}
 use Rattle.pg_law_numbering.proofs.Each.{all_from_front, mapped_all}
 
@@ -49,8 +49,8 @@ pub record Names (d : Definition) (n : Name) : Type 0 where
 pub label_text : (d : Definition) (n : Name) (k : Names d n) (i : ℕ) (b : Block) (l : Name) → k.number ≡ i → slice_get d.blocks i ≡ Some b → b.label ≡ Some l → n.text ≡ l.text
 label_text d n k i b l e h g =
     let there : slice_get d.blocks i ≡ Some k.block = subst (λ (x : ℕ). slice_get d.blocks x ≡ Some k.block) e k.there in
-    let blocks : k.block ≡ b = some_is k.block b (sym there ∙ h) in
-    let labels : k.label ≡ l = some_is k.label l (sym k.label_is ∙ ap (λ (x : Block). x.label) blocks ∙ g) in
+    let blocks : k.block ≡ b = same_Some k.block b (sym there ∙ h) in
+    let labels : k.label ≡ l = same_Some k.label l (sym k.label_is ∙ ap (λ (x : Block). x.label) blocks ∙ g) in
     sym k.text_is ∙ ap (λ (x : Name). x.text) labels
 
 module _ (m : Tree) (accepted : IsUnrefused m) (order : IsInOrder m) (f : ℕ) (d : Definition) (there : slice_get (named_functions m) f ≡ Some d) where

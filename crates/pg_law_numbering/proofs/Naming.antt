@@ -2,12 +2,13 @@
 use Rattle.std.proofs.Common.{◌≡◌, ℕ, zero, suc, ◌+◌, List, [], ◌∷◌, length, take, refl, sym, ap, ◌∙◌, subst, Bool, true, false}
 use Rattle.std.specs.Prelude.{slice_get, Option, Some, None, sum_by}
 use Rattle.std.proofs.lemmas.List.Sums.{sum_by-cons}
+use Rattle.std.proofs.lemmas.Option.{same_Some}
 use Rattle.pg_read_ast.specs.Syntax.{Line, Block, Param, NamedType, Definition, Tree}
 use Rattle.pg_read_ast.specs.declared.names.Name.{Name}
 use Rattle.pg_read_ast.specs.Numbers.{each_at, behind_all, name_at, param_at, behind_param, gives, result_at, line_at, behind_line, block_at, behind_block, after, numbered}
 use Rattle.pg_check_rules.specs.Names.{line_count, first_block, first_line}
 use Rattle.pg_check_rules.specs.Numbered.{named_functions}
-use Rattle.pg_law_numbering.proofs.Flat.{some_is, sum_map, take_map}
+use Rattle.pg_law_numbering.proofs.Flat.{sum_map, take_map}
 
 pub each_length : {X Y : Type 0} (behind : ℕ → X → ℕ) (give : ℕ → X → Y) (n : ℕ) (xs : List X) → length (each_at behind give n xs) ≡ length xs
 each_length behind give n [] = refl
@@ -64,7 +65,7 @@ all_lines_named m = sum_map (numbered m.types) line_count line_count (lines_kept
 pub each_found : {X Y : Type 0} (behind : ℕ → X → ℕ) (give : ℕ → X → Y) (n : ℕ) (xs : List X) (i : ℕ) (y : Y) → slice_get (each_at behind give n xs) i ≡ Some y
     → (k : ℕ) × (x : X) × (slice_get xs i ≡ Some x) × (y ≡ give k x)
 each_found behind give n [] i y e = absurd cc
-each_found behind give n (x ∷ xs) zero y e = (n, x, refl, sym (some_is (give n x) y e))
+each_found behind give n (x ∷ xs) zero y e = (n, x, refl, sym (same_Some (give n x) y e))
 each_found behind give n (x ∷ xs) (suc i) y e = each_found behind give (behind n x) xs i y e
 
 -- a block, and the one that is written

@@ -3,7 +3,7 @@ use Rattle.std.proofs.Common.{◌≡◌, ℕ, suc, ◌+◌, ◌<◌, List, [], �
 use Rattle.std.specs.Prelude.{slice_get, Option, Some, None, unwrap_or, IsSomeAnd}
 use Rattle.std.specs.List.{AllByRecursion}
 use Rattle.std.proofs.lemmas.Bool.{ltb-true, and_parts}
-use Rattle.std.proofs.lemmas.Option.{slice_get_within}
+use Rattle.std.proofs.lemmas.Option.{slice_get_within, same_Some}
 use Rattle.pg_num.specs.Numbers.{modulus, width_bits}
 use Rattle.pg_num.specs.declared.width.Width.{Width}
 use Rattle.pg_num.specs.declared.width.Width.TheVariants.{W1, W8, W16, W32, W64}
@@ -34,7 +34,7 @@ use Rattle.pg_check_rules.specs.Conditions.{scope_of, IsUnrefused}
 use Rattle.pg_check_rules.specs.Numbered.{scalar_in, width_in, value_of, binary_op, cast_op, incoming_at, case_at, indices_at, op_at, named_functions, program_of}
 use Rattle.pg_check_types.specs.Kinds.{is_as, fails}
 use Rattle.pg_law_numbering.specs.Parsed.{IsInOrder}
-use Rattle.pg_law_numbering.proofs.Flat.{some_is, in_front}
+use Rattle.pg_law_numbering.proofs.Flat.{in_front}
 use Rattle.pg_law_numbering.proofs.Unrefused.{then_none}
 use Rattle.pg_check_types.proofs.SameTypes.{same_type_true}
 use Rattle.pg_check_types.proofs.Voids.{void_resolved}
@@ -72,7 +72,7 @@ bit_is (MoreFields s t) e = absurd cc
 
 -- a scalar type isn't void
 solid : (types : List NamedType) (t : Ty) (r : ResolvedType) → resolved types t ≡ Some r → is_scalar r ≡ true → not (is_void types t) ≡ true
-solid types t r e h = not_from (is_void types t) (λ v. let same : r ≡ VoidType = some_is r VoidType (sym e ∙ void_resolved types t v) in
+solid types t r e h = not_from (is_void types t) (λ v. let same : r ≡ VoidType = same_Some r VoidType (sym e ∙ void_resolved types t v) in
     true≢false (sym h ∙ ap (λ (q : ResolvedType). is_scalar q) same))
 
 integer_solid : (types : List NamedType) (t : Ty) (w : Width) → resolved types t ≡ Some (IntegerType w) → not (is_void types t) ≡ true

@@ -2,7 +2,7 @@
 use Rattle.std.proofs.Common.{◌≡◌, ℕ, zero, suc, ◌+◌, List, [], ◌∷◌, length, true, false, refl, sym, ap, ◌∙◌, subst, arith}
 use Rattle.std.specs.Prelude.{slice_get, Option, Some, None, unwrap_or, is_some}
 use Rattle.std.specs.List.{flat_map}
-use Rattle.std.proofs.lemmas.Option.{slice_get_within}
+use Rattle.std.proofs.lemmas.Option.{slice_get_within, same_Some}
 use Rattle.pg_read_lex.specs.declared.token.Span.{Span}
 use Rattle.pg_ir.specs.declared.value.Scalar.{Scalar}
 use Rattle.pg_ir.specs.declared.value.Scalar.TheVariants as scalar
@@ -18,7 +18,7 @@ use Rattle.pg_check_rules.specs.ValueConditions.{unknown_symbol, function_symbol
 use Rattle.pg_check_rules.specs.CallConditions.{value_operands}
 use Rattle.pg_check_rules.specs.Conditions.{scope_of, IsUnrefused}
 use Rattle.pg_check_rules.specs.Numbered.{scalar_in, symbol_value, value_of, named_functions, program_of}
-use Rattle.pg_law_numbering.proofs.Flat.{some_is, behind_get}
+use Rattle.pg_law_numbering.proofs.Flat.{behind_get}
 use Rattle.pg_law_numbering.proofs.Unrefused.{front_none, else_none, then_none}
 use Rattle.pg_law_numbering.proofs.Scalars.{passes_from, pointer_is, same_from}
 use Rattle.pg_law_numbering.proofs.Symbols.{variable_there}
@@ -50,7 +50,7 @@ module _ (m : Tree) (accepted : IsUnrefused m) (f : ℕ) (d : Definition) (there
       let a = type_of_scalar t s e in
       let b = type_of_scalar r.ty k.scalar k.type_is in
       let same : t ≡ r.ty = same_from r.ty t b.0 a.0 b.1 a.1 w in
-      let scalars : k.scalar ≡ s = some_is k.scalar s (sym k.type_is ∙ sym (ap scalar_in same) ∙ e) in
+      let scalars : k.scalar ≡ s = same_Some k.scalar s (sym k.type_is ∙ sym (ap scalar_in same) ∙ e) in
       let number : unwrap_or (register_number (registers_of m.types d) n.text) 0 ≡ k.number = ap (λ (o : Option ℕ). unwrap_or o 0) k.is in
       ap (slice_get (scalars_of m d)) number ∙ k.there ∙ ap (λ (q : Scalar). Some q) scalars
 
@@ -60,7 +60,7 @@ module _ (m : Tree) (accepted : IsUnrefused m) (f : ℕ) (d : Definition) (there
   global_fits t s n e (VariableOf i v) h w u k =
       let a = type_of_scalar t s e in
       let p : t ≡ Some PointerType = a.1 ∙ ap (λ (q : ResolvedType). Some q) (pointer_is a.0 (passes_from is_pointer t a.0 w a.1)) in
-      (some_is s scalar.Ptr (sym e ∙ ap scalar_in p), omega (arith, globals_count m accepted, slice_get_within m.globals i v (variable_there m n.text i v h)))
+      (same_Some s scalar.Ptr (sym e ∙ ap scalar_in p), omega (arith, globals_count m accepted, slice_get_within m.globals i v (variable_there m n.text i v h)))
   global_fits t s n e (DefinitionOf g x) h w u k = absurd cc
   global_fits t s n e (DeclarationOf x) h w u k = absurd cc
   global_fits t s n e NoSymbol h w u k = absurd cc

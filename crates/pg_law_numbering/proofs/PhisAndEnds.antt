@@ -1,6 +1,7 @@
 -- Which instructions are phis, and which end a basic block.
 use Rattle.std.proofs.Common.{◌≡◌, ℕ, List, true, false, refl, sym, ap, ◌∙◌, ◌⊎◌, inl, inr, true≢false}
 use Rattle.std.specs.Prelude.{Option, Some, None}
+use Rattle.std.proofs.lemmas.Option.{same_Some}
 use Rattle.pg_num.specs.declared.width.Width.{Width}
 use Rattle.pg_ir.specs.declared.value.Value.{Value}
 use Rattle.pg_ir.specs.declared.known.Known.{Known}
@@ -18,7 +19,6 @@ use Rattle.pg_check_rules.specs.ValueConditions.{Scope}
 use Rattle.pg_check_rules.specs.CallConditions.{known_of, variable_symbol, wrong_header, header_of}
 use Rattle.pg_check_rules.specs.Conditions.{scope_of}
 use Rattle.pg_check_rules.specs.Numbered.{binary_op, cast_op, known_call, call_of, op_at}
-use Rattle.pg_law_numbering.proofs.Flat.{some_is}
 use Rattle.pg_law_numbering.proofs.Unrefused.{front_none, behind_none}
 use Rattle.pg_check_types.proofs.Voids.{void_resolved}
 use Rattle.pg_law_numbering.proofs.Callees.{CallsDefined, CallsKnown, callee_is}
@@ -138,7 +138,7 @@ unfolding gives op_types op_demands
 phi_gives m d (Phi s t i all) p e =
     let r = p.types 0 t refl in
     let scalar : is_scalar r.0 ≡ true = p.demands 0 (asks is_scalar t) refl r.0 r.1 in
-    not_from (is_void m.types t) (λ v. let same : r.0 ≡ VoidType = some_is r.0 VoidType (sym r.1 ∙ void_resolved m.types t v) in
+    not_from (is_void m.types t) (λ v. let same : r.0 ≡ VoidType = same_Some r.0 VoidType (sym r.1 ∙ void_resolved m.types t v) in
     true≢false (sym scalar ∙ ap (λ (q : ResolvedType). is_scalar q) same))
 phi_gives m d (Binary s o t a b) p e = absurd cc
 phi_gives m d (Icmp s o t a b) p e = absurd cc

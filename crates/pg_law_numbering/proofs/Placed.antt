@@ -5,7 +5,7 @@ use Rattle.std.specs.List.{enumerate_from}
 use Rattle.std.specs.Option.{option_map}
 use Rattle.std.proofs.lemmas.List.Sums.{sum_by-cons}
 use Rattle.std.proofs.lemmas.List.FromFn.{length-enumerate_from}
-use Rattle.std.proofs.lemmas.Option.{slice_get-map, slice_get_within}
+use Rattle.std.proofs.lemmas.Option.{slice_get-map, slice_get_within, same_Some}
 use Rattle.pg_ir.specs.declared.function.Function.{Function}
 use Rattle.pg_ir.specs.declared.function.Block as numbered_block
 use Rattle.pg_ir.specs.declared.instr.Instr.{Instr}
@@ -13,7 +13,7 @@ use Rattle.pg_read_ast.specs.Syntax.{Line, Block, Definition, Tree}
 use Rattle.pg_check_rules.specs.Names.{line_count, first_block, first_line}
 use Rattle.pg_check_rules.specs.Conditions.{scope_of}
 use Rattle.pg_check_rules.specs.Numbered.{named_functions, blocks_from, function_at, function_instrs, instr_at, program_of}
-use Rattle.pg_law_numbering.proofs.Flat.{some_is, Numbered, enumerate_get, IsIn, HaveSize, pieces, found, stands, pieces_length, sum_within, map_count}
+use Rattle.pg_law_numbering.proofs.Flat.{Numbered, enumerate_get, IsIn, HaveSize, pieces, found, stands, pieces_length, sum_within, map_count}
 use Rattle.pg_law_numbering.proofs.Naming.{block_count, first_block_named, first_line_named, all_lines_named}
 
 -- ---- lists with numbers
@@ -39,7 +39,7 @@ numbered_found {X} {Y} g n xs i y e = by (slice_get xs i) refl
     at x h = sym e ∙ map_numbered g n xs i x h
 
     by : (o : Option X) → slice_get xs i ≡ o → IsNumberedAt g n xs i y
-    by (Some x) h = record { plain = x; there = h; is = some_is y (g (n + i, x)) (at x h) }
+    by (Some x) h = record { plain = x; there = h; is = same_Some y (g (n + i, x)) (at x h) }
     by None h = absurd (none_numbered g n xs i y h e)
 
 -- ---- functions and globals
@@ -91,7 +91,7 @@ blocks_from_get : (f at : ℕ) (bs : List Block) (i : ℕ) (b : Block) → slice
 blocks_from_get f at [] i b e = absurd cc
 blocks_from_get f at (c ∷ cs) zero b e =
     let z : at ≡ at + 0 = omega arith in
-    ap (λ (q : ℕ). Some (block_of f q c)) z ∙ ap (λ (q : Block). Some (block_of f (at + 0) q)) (some_is c b e)
+    ap (λ (q : ℕ). Some (block_of f q c)) z ∙ ap (λ (q : Block). Some (block_of f (at + 0) q)) (same_Some c b e)
 blocks_from_get f at (c ∷ cs) (suc i) b e =
     let z : at + length c.lines + sum_by lines_in (take i cs) ≡ at + sum_by lines_in (c ∷ take i cs) = omega (arith, sum_by-cons lines_in c (take i cs)) in
     blocks_from_get f (at + length c.lines) cs i b e ∙ ap (λ (q : ℕ). Some (block_of f q b)) z
@@ -143,7 +143,7 @@ block_found m k x e = by (found (blocks_of m) block_count (blocks_sized m) 0 (na
       plain = b;
       within = n;
       number = r.number ∙ ap (λ (q : ℕ). q + r.inner) (first_block_named m r.place);
-      is = some_is x (block_of r.place (first_line m.functions r.place + sum_by lines_in (take r.inner r.whole.blocks)) b)
+      is = same_Some x (block_of r.place (first_line m.functions r.place + sum_by lines_in (take r.inner r.whole.blocks)) b)
           (sym h ∙ blocks_from_get r.place (first_line m.functions r.place) r.whole.blocks r.inner b n);
     }
 
@@ -236,7 +236,7 @@ line_found_in m first d k x e = by (found (lines_of m first d) lines_in (lines_s
       line = l;
       inside = n;
       number = r.number;
-      is = some_is x (instr_at (scope_of m d) first r.place l) (sym h ∙ ap (λ (o : Option Line). option_map (instr_at (scope_of m d) first r.place) o) n);
+      is = same_Some x (instr_at (scope_of m d) first r.place l) (sym h ∙ ap (λ (o : Option Line). option_map (instr_at (scope_of m d) first r.place) o) n);
     }
 
     by : IsIn (lines_of m first d) lines_in 0 d.blocks k x → IsLineIn m first d k x

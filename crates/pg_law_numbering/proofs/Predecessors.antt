@@ -5,7 +5,7 @@ use Rattle.std.specs.List.{flat_map, list_any}
 use Rattle.std.specs.Str.{bytes_eq}
 use Rattle.std.proofs.lemmas.Bool.{or_left, or_right}
 use Rattle.std.proofs.lemmas.List.Folds.{list_any-append}
-use Rattle.std.proofs.lemmas.Option.{slice_get_within, slice_get-get_or, get_or_from_slice_get}
+use Rattle.std.proofs.lemmas.Option.{slice_get_within, slice_get-get_or, get_or_from_slice_get, same_Some}
 use Rattle.std.proofs.lemmas.Slice.Eq.{bytes_eq-Decides}
 use Rattle.pg_ir.specs.declared.edge.Incoming as numbered_incoming
 use Rattle.pg_ir.specs.declared.instr.Instr.{Instr}
@@ -20,7 +20,7 @@ use Rattle.pg_check_rules.specs.BlockConditions.{phi_word, block_targets, has_te
 use Rattle.pg_check_rules.specs.Conditions.{scope_of, IsUnrefused}
 use Rattle.pg_check_rules.specs.Numbered.{named_functions, incoming_at, op_at, program_of}
 use Rattle.pg_law_numbering.specs.Parsed.{IsInOrder}
-use Rattle.pg_law_numbering.proofs.Flat.{some_is, there_at, in_front}
+use Rattle.pg_law_numbering.proofs.Flat.{there_at, in_front}
 use Rattle.pg_law_numbering.proofs.Placed.{lines_in, line_there}
 use Rattle.pg_law_numbering.proofs.Firsts.{from_any}
 use Rattle.pg_law_numbering.proofs.Filters.{piece_found, map_there, map_from}
@@ -49,7 +49,7 @@ piece_there : {X Y : Type 0} (g : X → List Y) (xs : List X) (i : ℕ) (x : X) 
     → p y ≡ true → list_any p (flat_map g xs) ≡ true
 piece_there g [] i x j y e h p t = absurd cc
 piece_there {X} {Y} g (z ∷ zs) zero x j y e h p t =
-    let at : slice_get (g z) j ≡ Some y = subst (λ (q : X). slice_get (g q) j ≡ Some y) (sym (some_is z x e)) h in
+    let at : slice_get (g z) j ≡ Some y = subst (λ (q : X). slice_get (g q) j ≡ Some y) (sym (same_Some z x e)) h in
     list_any-append p (g z) (flat_map g zs) ∙ or_left (list_any p (g z)) (list_any p (flat_map g zs)) (any_from p (g z) j y at t)
 piece_there g (z ∷ zs) (suc i) x j y e h p t =
     list_any-append p (g z) (flat_map g zs) ∙ or_right (list_any p (g z)) (list_any p (flat_map g zs)) (piece_there g zs i x j y e h p t)

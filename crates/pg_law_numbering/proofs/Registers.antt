@@ -5,7 +5,7 @@ use Rattle.std.specs.Prelude.{slice_get, Option, Some, None}
 use Rattle.std.specs.List.{filter_map, flat_map}
 use Rattle.std.specs.Option.{option_map}
 use Rattle.std.proofs.lemmas.Bool.{or_parts, ltb-false}
-use Rattle.std.proofs.lemmas.Option.{slice_get_within}
+use Rattle.std.proofs.lemmas.Option.{slice_get_within, same_Some}
 use Rattle.pg_num.specs.declared.limits.TheConstants.{FUNCTION_REGISTER_LIMIT, INSTRUCTION_LIMIT}
 use Rattle.pg_ir.specs.declared.value.Scalar.{Scalar}
 use Rattle.pg_ir.specs.declared.function.Function.{Function}
@@ -21,7 +21,7 @@ use Rattle.pg_check_rules.specs.TypeConditions.{any_large}
 use Rattle.pg_check_rules.specs.Conditions.{body_types, is_too_large, body_refused, IsUnrefused}
 use Rattle.pg_check_rules.specs.Numbered.{scalar_in, named_functions, program_of}
 use Rattle.pg_law_numbering.specs.Parsed.{IsInOrder}
-use Rattle.pg_law_numbering.proofs.Flat.{some_is, append_cases, front_get, behind_get}
+use Rattle.pg_law_numbering.proofs.Flat.{append_cases, front_get, behind_get}
 use Rattle.pg_law_numbering.proofs.Unrefused.{at_if_none, bodies_pass, named_from}
 use Rattle.pg_law_numbering.proofs.Naming.{has_name, has_param_name}
 use Rattle.pg_law_numbering.proofs.Placed.{function_there}
@@ -43,7 +43,7 @@ scalars_of m d = filter_map (λ (r : Register). scalar_in r.ty) (registers_of m.
 
 register_made : (t : Option ResolvedType) (o : Option Name) (r : Register) → option_map (register t) o ≡ Some r → (n : Name) × (o ≡ Some n) × (r ≡ register t n)
 register_made t None r e = absurd cc
-register_made t (Some n) r e = (n, refl, sym (some_is (register t n) r e))
+register_made t (Some n) r e = (n, refl, sym (same_Some (register t n) r e))
 
 line_made : (g : Bool) (t : Option ResolvedType) (o : Option Name) (r : Register) → cond g (option_map (register t) o) None ≡ Some r → (g ≡ true) × (r.ty ≡ t)
 line_made true t o r e = let k = register_made t o r e in (refl, ap (λ (q : Register). q.ty) k.2)
@@ -182,7 +182,7 @@ module _ (m : Tree) (accepted : IsUnrefused m) (order : IsInOrder m) (d : Defini
           → (k : ℕ) × (slice_get (flat_map (block_registers m.types) bs) k ≡ Some r)
       place [] i b e j r h = absurd cc
       place (c ∷ cs) zero b e j r h =
-          let own : slice_get (block_registers m.types c) j ≡ Some r = subst (λ (q : Block). slice_get (block_registers m.types q) j ≡ Some r) (sym (some_is c b e)) h in
+          let own : slice_get (block_registers m.types c) j ≡ Some r = subst (λ (q : Block). slice_get (block_registers m.types q) j ≡ Some r) (sym (same_Some c b e)) h in
           (j, front_get (block_registers m.types c) (flat_map (block_registers m.types) cs) j (slice_get_within (block_registers m.types c) j r own) ∙ own)
       place (c ∷ cs) (suc i) b e j r h =
           let k = place cs i b e j r h in

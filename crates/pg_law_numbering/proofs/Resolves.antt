@@ -5,6 +5,7 @@ use Rattle.std.specs.List.{flat_map, AllByRecursion}
 use Rattle.std.specs.Str.{bytes_eq}
 use Rattle.std.proofs.lemmas.Slice.Eq.{bytes_eq-Decides}
 use Rattle.std.proofs.lemmas.Grind.{flat_map-append}
+use Rattle.std.proofs.lemmas.Option.{same_Some}
 use Rattle.pg_read_lex.specs.declared.token.Span.{Span}
 use Rattle.pg_read_ast.specs.declared.names.Name.{Name}
 use Rattle.pg_read_ast.specs.Syntax.{Ty, Tys, I1, I8, I16, I32, I64, Ptr, Void, Array, Struct, Named, NoTys, MoreTys, NamedType}
@@ -16,7 +17,6 @@ use Rattle.pg_check_rules.specs.TypeConditions.{is_void_part, unknown_type, void
 use Rattle.pg_check_rules.specs.Places.{type_span}
 use Rattle.pg_check_rules.specs.Conditions.{names_in_types}
 use Rattle.pg_check_types.proofs.Fuel.{Below, type_keeps}
-use Rattle.pg_law_numbering.proofs.Flat.{some_is}
 use Rattle.pg_law_numbering.proofs.Unrefused.{front_none, behind_none, else_none, then_none}
 use Rattle.pg_law_numbering.proofs.Each.{all_front, all_behind}
 
@@ -115,7 +115,7 @@ known_from types n e = by (type_named types n.text) refl
 
 pub known_names : (types : List NamedType) (ts : List Ty) → flat_map (unknown_type types) ts ≡ [] → (i : ℕ) (n : Name) → slice_get (names_in_types ts) i ≡ Some n → IsKnown types n.text
 known_names types [] e i n h = absurd cc
-known_names types (Named m ∷ ts) e zero n h = subst (λ (q : Name). IsKnown types q.text) (some_is m n h)
+known_names types (Named m ∷ ts) e zero n h = subst (λ (q : Name). IsKnown types q.text) (same_Some m n h)
     (known_from types m (front_none (unknown_type types (Named m)) (flat_map (unknown_type types) ts) e))
 known_names types (Named m ∷ ts) e (suc i) n h = known_names types ts (behind_none (unknown_type types (Named m)) (flat_map (unknown_type types) ts) e) i n h
 known_names types (t ∷ ts) e i n h = known_names types ts (behind_none (unknown_type types t) (flat_map (unknown_type types) ts) e) i n h
@@ -134,7 +134,7 @@ item_of [] text t e = absurd cc
 item_of (i ∷ is) text t e = by (bytes_eq i.name.text text) refl (item_of is text t) e
   where
     by : (b : Bool) → bytes_eq i.name.text text ≡ b → (type_named is text ≡ Some t → IsItem is text t) → cond b (Some i.ty) (type_named is text) ≡ Some t → IsItem (i ∷ is) text t
-    by true h more g = record { place = 0; item = i; there = refl; text_is = (bytes_eq-Decides i.name.text text).0 h; ty_is = some_is i.ty t g }
+    by true h more g = record { place = 0; item = i; there = refl; text_is = (bytes_eq-Decides i.name.text text).0 h; ty_is = same_Some i.ty t g }
     by false h more g =
         let r = more g in
         record { place = suc r.place; item = r.item; there = r.there; text_is = r.text_is; ty_is = r.ty_is }

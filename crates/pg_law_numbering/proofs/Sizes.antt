@@ -5,6 +5,7 @@ use Rattle.std.specs.List.{flat_map, list_any}
 use Rattle.std.specs.Option.{option_and_then}
 use Rattle.std.proofs.lemmas.Bool.{or_parts, ltb-false}
 use Rattle.std.proofs.lemmas.List.Folds.{list_any-append}
+use Rattle.std.proofs.lemmas.Option.{same_Some}
 use Rattle.pg_num.specs.declared.limits.TheConstants.{SIZE_LIMIT}
 use Rattle.pg_num.specs.declared.width.Width.TheVariants.{W1, W8, W16, W32, W64}
 use Rattle.pg_read_ast.specs.Syntax.{Ty, I1, I8, I16, I32, I64, Ptr, Void, Array, Struct, Named, NamedType, Tree}
@@ -16,7 +17,6 @@ use Rattle.pg_check_rules.specs.Written.{types_within}
 use Rattle.pg_check_rules.specs.TypeConditions.{is_large, any_large}
 use Rattle.pg_check_rules.specs.Conditions.{item_refused, IsUnrefused}
 use Rattle.pg_check_types.proofs.Fuel.{Below, type_keeps, within_less}
-use Rattle.pg_law_numbering.proofs.Flat.{some_is}
 use Rattle.pg_law_numbering.proofs.Unrefused.{at_if_none, items_pass}
 use Rattle.pg_law_numbering.proofs.Resolves.{item_of}
 
@@ -25,7 +25,7 @@ use Rattle.pg_law_numbering.proofs.Resolves.{item_of}
 pub any_each : {X Y : Type 0} (p : Y → Bool) (g : X → List Y) (xs : List X) (i : ℕ) (x : X) → list_any p (flat_map g xs) ≡ false → slice_get xs i ≡ Some x → list_any p (g x) ≡ false
 any_each p g [] i x e h = absurd cc
 any_each {X} p g (y ∷ ys) zero x e h =
-    subst (λ (q : X). list_any p (g q) ≡ false) (some_is y x h) (or_parts (list_any p (g y)) (list_any p (flat_map g ys)) (sym (list_any-append p (g y) (flat_map g ys)) ∙ e)).0
+    subst (λ (q : X). list_any p (g q) ≡ false) (same_Some y x h) (or_parts (list_any p (g y)) (list_any p (flat_map g ys)) (sym (list_any-append p (g y) (flat_map g ys)) ∙ e)).0
 any_each p g (y ∷ ys) (suc i) x e h = any_each p g ys i x (or_parts (list_any p (g y)) (list_any p (flat_map g ys)) (sym (list_any-append p (g y) (flat_map g ys)) ∙ e)).1 h
 
 -- a type is one of those within it
@@ -59,13 +59,13 @@ module _ (types : List NamedType) (f : List ℕ → Option ResolvedType) (below 
 
   pub size_by : (t : Ty) (r : ResolvedType) → is_large types t ≡ false → type_by f t ≡ Some r → size_of r ≤ SIZE_LIMIT
   unfolding type_by size_of
-  size_by (I1 s) r l e = let n : size_of (IntegerType W1) ≤ SIZE_LIMIT = omega arith in subst (λ (q : ResolvedType). size_of q ≤ SIZE_LIMIT) (some_is (IntegerType W1) r e) n
-  size_by (I8 s) r l e = let n : size_of (IntegerType W8) ≤ SIZE_LIMIT = omega arith in subst (λ (q : ResolvedType). size_of q ≤ SIZE_LIMIT) (some_is (IntegerType W8) r e) n
-  size_by (I16 s) r l e = let n : size_of (IntegerType W16) ≤ SIZE_LIMIT = omega arith in subst (λ (q : ResolvedType). size_of q ≤ SIZE_LIMIT) (some_is (IntegerType W16) r e) n
-  size_by (I32 s) r l e = let n : size_of (IntegerType W32) ≤ SIZE_LIMIT = omega arith in subst (λ (q : ResolvedType). size_of q ≤ SIZE_LIMIT) (some_is (IntegerType W32) r e) n
-  size_by (I64 s) r l e = let n : size_of (IntegerType W64) ≤ SIZE_LIMIT = omega arith in subst (λ (q : ResolvedType). size_of q ≤ SIZE_LIMIT) (some_is (IntegerType W64) r e) n
-  size_by (Ptr s) r l e = let n : size_of PointerType ≤ SIZE_LIMIT = omega arith in subst (λ (q : ResolvedType). size_of q ≤ SIZE_LIMIT) (some_is PointerType r e) n
-  size_by (Void s) r l e = let n : size_of VoidType ≤ SIZE_LIMIT = omega arith in subst (λ (q : ResolvedType). size_of q ≤ SIZE_LIMIT) (some_is VoidType r e) n
+  size_by (I1 s) r l e = let n : size_of (IntegerType W1) ≤ SIZE_LIMIT = omega arith in subst (λ (q : ResolvedType). size_of q ≤ SIZE_LIMIT) (same_Some (IntegerType W1) r e) n
+  size_by (I8 s) r l e = let n : size_of (IntegerType W8) ≤ SIZE_LIMIT = omega arith in subst (λ (q : ResolvedType). size_of q ≤ SIZE_LIMIT) (same_Some (IntegerType W8) r e) n
+  size_by (I16 s) r l e = let n : size_of (IntegerType W16) ≤ SIZE_LIMIT = omega arith in subst (λ (q : ResolvedType). size_of q ≤ SIZE_LIMIT) (same_Some (IntegerType W16) r e) n
+  size_by (I32 s) r l e = let n : size_of (IntegerType W32) ≤ SIZE_LIMIT = omega arith in subst (λ (q : ResolvedType). size_of q ≤ SIZE_LIMIT) (same_Some (IntegerType W32) r e) n
+  size_by (I64 s) r l e = let n : size_of (IntegerType W64) ≤ SIZE_LIMIT = omega arith in subst (λ (q : ResolvedType). size_of q ≤ SIZE_LIMIT) (same_Some (IntegerType W64) r e) n
+  size_by (Ptr s) r l e = let n : size_of PointerType ≤ SIZE_LIMIT = omega arith in subst (λ (q : ResolvedType). size_of q ≤ SIZE_LIMIT) (same_Some PointerType r e) n
+  size_by (Void s) r l e = let n : size_of VoidType ≤ SIZE_LIMIT = omega arith in subst (λ (q : ResolvedType). size_of q ≤ SIZE_LIMIT) (same_Some VoidType r e) n
   size_by (Array s n t) r l e = sized (Array s n t) r l e
   size_by (Struct s ts) r l e = sized (Struct s ts) r l e
   size_by (Named n) r l e = names n.text r e

@@ -5,7 +5,7 @@ use Rattle.std.specs.List.{list_any, list_all}
 use Rattle.std.specs.Str.{bytes_eq}
 use Rattle.std.proofs.lemmas.Bool.{and_parts, or_parts}
 use Rattle.std.proofs.lemmas.Slice.Eq.{bytes_eq-Decides}
-use Rattle.pg_law_numbering.proofs.Flat.{some_is}
+use Rattle.std.proofs.lemmas.Option.{same_Some}
 
 pub not_false : (a : Bool) → not a ≡ false → a ≡ true
 not_false true e = refl
@@ -26,12 +26,12 @@ second_of false b h e = absurd cc
 
 pub all_in : {X : Type 0} (p : X → Bool) (xs : List X) (i : ℕ) (x : X) → list_all p xs ≡ true → slice_get xs i ≡ Some x → p x ≡ true
 all_in p [] i x e h = absurd cc
-all_in {X} p (y ∷ ys) zero x e h = subst (λ (q : X). p q ≡ true) (some_is y x h) (and_parts (p y) (list_all p ys) e).0
+all_in {X} p (y ∷ ys) zero x e h = subst (λ (q : X). p q ≡ true) (same_Some y x h) (and_parts (p y) (list_all p ys) e).0
 all_in p (y ∷ ys) (suc i) x e h = all_in p ys i x (and_parts (p y) (list_all p ys) e).1 h
 
 pub none_at : {X : Type 0} (p : X → Bool) (xs : List X) (i : ℕ) (x : X) → list_any p xs ≡ false → slice_get xs i ≡ Some x → p x ≡ false
 none_at p [] i x e h = absurd cc
-none_at {X} p (y ∷ ys) zero x e h = subst (λ (q : X). p q ≡ false) (some_is y x h) (or_parts (p y) (list_any p ys) e).0
+none_at {X} p (y ∷ ys) zero x e h = subst (λ (q : X). p q ≡ false) (same_Some y x h) (or_parts (p y) (list_any p ys) e).0
 none_at p (y ∷ ys) (suc i) x e h = none_at p ys i x (or_parts (p y) (list_any p ys) e).1 h
 
 pub or_true : (a b : Bool) → (a || b) ≡ true → (a ≡ true) ⊎ (b ≡ true)
@@ -48,7 +48,7 @@ or_from_right false b e = e
 
 pub any_from : {X : Type 0} (p : X → Bool) (xs : List X) (i : ℕ) (x : X) → slice_get xs i ≡ Some x → p x ≡ true → list_any p xs ≡ true
 any_from p [] i x e h = absurd cc
-any_from {X} p (y ∷ ys) zero x e h = or_from_left (p y) (list_any p ys) (subst (λ (q : X). p q ≡ true) (sym (some_is y x e)) h)
+any_from {X} p (y ∷ ys) zero x e h = or_from_left (p y) (list_any p ys) (subst (λ (q : X). p q ≡ true) (sym (same_Some y x e)) h)
 any_from p (y ∷ ys) (suc i) x e h = or_from_right (p y) (list_any p ys) (any_from p ys i x e h)
 
 pub same_text : (text : List ℕ) → bytes_eq text text ≡ true

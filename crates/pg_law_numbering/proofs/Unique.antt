@@ -7,7 +7,7 @@ use Rattle.std.specs.Option.{option_map}
 use Rattle.std.specs.Str.{bytes_eq}
 use Rattle.std.proofs.lemmas.Bool.{lt-ltb, and_from, cases_lt}
 use Rattle.std.proofs.lemmas.Slice.Eq.{bytes_eq-Decides}
-use Rattle.std.proofs.lemmas.Option.{slice_get-map, slice_get_within}
+use Rattle.std.proofs.lemmas.Option.{slice_get-map, slice_get_within, same_Some}
 use Rattle.std.proofs.lemmas.List.{map-append}
 use Rattle.pg_read_ast.specs.declared.names.Name.{Name}
 use Rattle.pg_read_ast.specs.Syntax.{Param, NamedType, Definition, Tree}
@@ -19,7 +19,7 @@ use Rattle.pg_check_rules.specs.Conditions.{all_of, own_names, body_names, param
 use Rattle.pg_check_rules.specs.Numbered.{named_functions}
 use Rattle.pg_read_grammar.specs.NameOrder.{written_names, ascend}
 use Rattle.pg_law_numbering.specs.Parsed.{IsInOrder}
-use Rattle.pg_law_numbering.proofs.Flat.{some_is, front_get, behind_get, map_count}
+use Rattle.pg_law_numbering.proofs.Flat.{front_get, behind_get, map_count}
 use Rattle.pg_law_numbering.proofs.Unrefused.{front_none, behind_none, each_none, then_none, definitions_pass, bodies_pass, named_from}
 use Rattle.pg_law_numbering.proofs.Filters.{behind_front}
 use Rattle.pg_law_numbering.proofs.Following.{Precedes, AllPairs, names_of, registers_ordered, labels_ordered}
@@ -31,7 +31,7 @@ use Rattle.pg_law_numbering.proofs.Each.{all_get}
 pub pair_at : {X : Type 0} (P : X → X → Type 0) (xs : List X) → AllPairs P xs → (i j : ℕ) (x y : X) → i < j → slice_get xs i ≡ Some x → slice_get xs j ≡ Some y → P x y
 pair_at P [] h i j x y l e g = absurd cc
 pair_at P (z ∷ zs) h i zero x y l e g = absurd (omega (arith, l))
-pair_at {X} P (z ∷ zs) h zero (suc j) x y l e g = subst (λ (q : X). P q y) (some_is z x e) (all_get (P z) zs h.0 j y g)
+pair_at {X} P (z ∷ zs) h zero (suc j) x y l e g = subst (λ (q : X). P q y) (same_Some z x e) (all_get (P z) zs h.0 j y g)
 pair_at P (z ∷ zs) h (suc i) (suc j) x y l e g = pair_at P zs h.1 i j x y (omega (arith, l)) e g
 
 -- ---- two of one name

@@ -4,7 +4,7 @@ use Rattle.std.specs.Prelude.{slice_get, Option, Some, None, sum_by}
 use Rattle.std.specs.List.{flat_map, enumerate_from}
 use Rattle.std.specs.Option.{option_map}
 use Rattle.std.proofs.lemmas.List.Sums.{sum_by-cons}
-use Rattle.std.proofs.lemmas.Option.{slice_get-map}
+use Rattle.std.proofs.lemmas.Option.{slice_get-map, same_Some}
 use Rattle.pg_read_lex.specs.declared.token.Span.{Span}
 use Rattle.pg_read_ast.specs.Syntax.{NamedType, Variable, Declaration, Definition, Tree}
 use Rattle.pg_read_ast.specs.Numbers.{numbered}
@@ -14,7 +14,7 @@ use Rattle.pg_check_rules.specs.Names.{line_count, first_line}
 use Rattle.pg_check_rules.specs.Numbered.{named_functions}
 use Rattle.pg_check_rules.specs.Conditions.{RefusedPlaces, at_if, all_of, item_refused, global_refused, declaration_refused, definition_refused, body_refused, bodies, has_main, main_refused}
 use Rattle.pg_check_rules.specs.Conditions.{heads_refused, phases, RefuseNothing, IsUnrefused}
-use Rattle.pg_law_numbering.proofs.Flat.{enumerate_get, some_is, Numbered}
+use Rattle.pg_law_numbering.proofs.Flat.{enumerate_get, Numbered}
 use Rattle.pg_law_numbering.proofs.Tests.{not_false}
 
 -- ---- lists of refusals that are empty
@@ -29,7 +29,7 @@ behind_none (x ∷ xs) ys e = absurd cc
 
 pub each_none : {X A : Type 0} (f : X → List A) (xs : List X) (i : ℕ) (x : X) → flat_map f xs ≡ [] → slice_get xs i ≡ Some x → f x ≡ []
 each_none f [] i x e g = absurd cc
-each_none {X} f (y ∷ ys) zero x e g = subst (λ (q : X). f q ≡ []) (some_is y x g) (front_none (f y) (flat_map f ys) e)
+each_none {X} f (y ∷ ys) zero x e g = subst (λ (q : X). f q ≡ []) (same_Some y x g) (front_none (f y) (flat_map f ys) e)
 each_none f (y ∷ ys) (suc i) x e g = each_none f ys i x (behind_none (f y) (flat_map f ys) e) g
 
 pub at_if_none : (b : Bool) (s : Span) → at_if b s ≡ [] → b ≡ false
@@ -91,7 +91,7 @@ body_passes : (m : Tree) (ds : List Definition) (lines : ℕ) (rest : List Refus
 body_passes m [] lines rest h f d e k = absurd cc
 body_passes m (x ∷ xs) lines rest h zero d e k =
     let z : lines ≡ lines + 0 = omega arith in
-    subst (λ (q : Definition). body_refused m (lines + 0) (numbered m.types q) k ≡ []) (some_is x d e)
+    subst (λ (q : Definition). body_refused m (lines + 0) (numbered m.types q) k ≡ []) (same_Some x d e)
     (subst (λ (q : ℕ). body_refused m q (numbered m.types x) k ≡ []) z (h.0.none k))
 body_passes m (x ∷ xs) lines rest h (suc f) d e k =
     let z : lines + line_count x + sum_by line_count (take f xs) ≡ lines + sum_by line_count (x ∷ take f xs) = omega (arith, sum_by-cons line_count x (take f xs)) in
@@ -112,7 +112,7 @@ named_from m f d e = by (slice_get m.functions f) refl (sym (slice_get-map (numb
   where
     by : (o : Option Definition) → slice_get m.functions f ≡ o → option_map (numbered m.types) o ≡ Some d → IsNamed m f d
     by None g h = absurd cc
-    by (Some x) g h = record { plain = x; there = g; named = sym (some_is (numbered m.types x) d h) }
+    by (Some x) g h = record { plain = x; there = g; named = sym (same_Some (numbered m.types x) d h) }
 
 pub bodies_pass : (m : Tree) → IsUnrefused m → (f : ℕ) (d : Definition) → slice_get (named_functions m) f ≡ Some d → (k : CheckKind)
     → body_refused m (first_line m.functions f) d k ≡ []

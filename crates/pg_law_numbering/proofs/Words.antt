@@ -2,7 +2,7 @@
 use Rattle.std.proofs.Common.{◌≡◌, ℕ, ◌+◌, ◌-◌, ◌*◌, ◌/◌, ◌%◌, ◌^◌, ◌<◌, ◌≤◌, List, refl, subst, arith}
 use Rattle.std.specs.Prelude.{slice_get, Option, Some, None, unwrap_or, ℤ, pos, negsuc, ◌+ℤ◌}
 use Rattle.std.specs.Option.{option_map}
-use Rattle.std.proofs.lemmas.Option.{slice_get_within}
+use Rattle.std.proofs.lemmas.Option.{slice_get_within, same_Some}
 use Rattle.pg_num.specs.Decimal.{decimal_between}
 use Rattle.pg_num.specs.Numbers.{modulus, residue}
 use Rattle.pg_num.specs.Pointers.{word_of, offset_of, moved_by}
@@ -19,7 +19,6 @@ use Rattle.pg_check_rules.specs.ValueConditions.{constant_number, number_at}
 use Rattle.pg_check_rules.specs.Constants.{start_granule, global_pointer, symbol_word, pointer_word, constant_word}
 use Rattle.pg_check_rules.specs.Conditions.{IsUnrefused}
 use Rattle.pg_check_rules.specs.Numbered.{scalar_in}
-use Rattle.pg_law_numbering.proofs.Flat.{some_is}
 use Rattle.pg_law_numbering.proofs.Symbols.{variable_there}
 use Rattle.pg_law_numbering.proofs.Globals.{start_below, size_fits}
 
@@ -137,8 +136,8 @@ module _ (m : Tree) (accepted : IsUnrefused m) where
 
   -- a constant at a scalar type
   pub constant_fits : (t : Option ResolvedType) (s : Scalar) (v : Val) → scalar_in t ≡ Some s → constant_word m t v < modulus (width_of s)
-  constant_fits (Some (IntegerType w)) s v e = subst (λ (q : Scalar). unwrap_or (constant_number w v) 0 < modulus (width_of q)) (some_is (scalar.Int w) s e) (constant_below w v)
-  constant_fits (Some PointerType) s v e = subst (λ (q : Scalar). pointer_word m v < modulus (width_of q)) (some_is scalar.Ptr s e) (pointer_below v)
+  constant_fits (Some (IntegerType w)) s v e = subst (λ (q : Scalar). unwrap_or (constant_number w v) 0 < modulus (width_of q)) (same_Some (scalar.Int w) s e) (constant_below w v)
+  constant_fits (Some PointerType) s v e = subst (λ (q : Scalar). pointer_word m v < modulus (width_of q)) (same_Some scalar.Ptr s e) (pointer_below v)
   constant_fits None s v e = absurd cc
   constant_fits (Some VoidType) s v e = absurd cc
   constant_fits (Some (ArrayType n t)) s v e = absurd cc
