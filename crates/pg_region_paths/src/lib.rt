@@ -2,10 +2,10 @@
 #![tactic(auto)]
 
 mod entry;
-mod known;
+mod root_paths;
 pub mod laws;
 mod path;
 
 pub use entry::Entry;
-pub use known::Known;
+pub use root_paths::RootPaths;
 pub use path::{Loads, Path, Root, RootPath};

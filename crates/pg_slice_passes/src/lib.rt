@@ -3,20 +3,20 @@
 #![tactic(auto)]
 
 pub mod fits;
-mod frames;
+mod bounds;
 mod given;
 pub mod laws;
 mod live;
 mod memory;
 mod needs;
 mod pass;
-mod prints;
+mod footprints;
 mod slice;
 mod state;
 mod step;
 mod threads;
 
-pub use frames::{FrameBytes, frame};
+pub use bounds::{Bounds, bounds};
 pub use given::GivenRun;
 pub use needs::is_malloc;
 pub use pass::{Passed, pass_over};
