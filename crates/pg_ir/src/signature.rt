@@ -14,14 +14,15 @@ impl LibraryCall {
     {
         match self {
             LibraryCall::PgInLen => &[],
-            LibraryCall::PgIn | LibraryCall::PgOut | LibraryCall::Malloc => &[Scalar::Int(Width::W64)],
+            LibraryCall::PgIn | LibraryCall::PgOut | LibraryCall::Malloc => &[Scalar::Int(
+                Width::W64,
+            )],
             LibraryCall::Putchar => &[Scalar::Int(Width::W32)],
             LibraryCall::PthreadCreate => &[Scalar::Ptr, Scalar::Ptr, Scalar::Ptr, Scalar::Ptr],
             LibraryCall::PthreadJoin => &[Scalar::Int(Width::W64), Scalar::Ptr],
-            LibraryCall::PthreadMutexInit | LibraryCall::PthreadCondInit | LibraryCall::PthreadCondWait => &[
-                Scalar::Ptr,
-                Scalar::Ptr,
-            ],
+            LibraryCall::PthreadMutexInit
+            | LibraryCall::PthreadCondInit
+            | LibraryCall::PthreadCondWait => &[Scalar::Ptr, Scalar::Ptr],
             LibraryCall::PthreadBarrierInit => &[Scalar::Ptr, Scalar::Ptr, Scalar::Int(Width::W32)],
             _ => &[Scalar::Ptr],
         }

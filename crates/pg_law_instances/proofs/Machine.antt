@@ -41,7 +41,8 @@ apart_ranges a b q r e h k x y = let hf = h.from in let he = h.end in let kf = k
 pub stored_keeps : (I : Instance) (m : Words) (place word n : ℕ) (q : ByteRange) → AreApart I.recorded → Accesses I place true word q → KeepsCells I.recorded I.memory (read m)
     → KeepsCells I.recorded I.memory (read (written m q n))
 stored_keeps I m place word n q apart a k = record {
-  kept = λ bounds r l w some lt. read-written_apart m q r n lt (apart_ranges (bounds_of word) bounds q r (apart (bounds_of word) bounds a.reached l) a.within w a.some some) ∙ k.kept bounds r l w some lt;
+  kept = λ bounds r l w some lt. read-written_apart m q r n lt (apart_ranges (bounds_of word) bounds q r (apart (bounds_of word) bounds a.reached l) a.within w a.some some)
+      ∙ k.kept bounds r l w some lt;
 }
 
 outside_range : (bounds q : ByteRange) (b : ℕ) → IsWithin q bounds → is_within bounds b ≡ false → is_within q b ≡ false

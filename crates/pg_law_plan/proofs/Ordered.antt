@@ -18,7 +18,8 @@ use Rattle.pg_law_effects.specs.Views.{is_thread}
 use Rattle.pg_slice_rules.specs.Freeable.{bounds_of}
 use Rattle.pg_slice_rules.specs.Known.{Seen, Taken}
 use Rattle.pg_slice_rules.specs.Moments.{thread_in}
-use Rattle.pg_slice_rules.specs.Rules.{Footprint, access_footprint, any_conflict, footprints_conflict, bounds_meet, has_region, is_disturbed, is_plain, is_shared, kind_in, footprint_of, footprints_in, region_footprints}
+use Rattle.pg_slice_rules.specs.Rules.{Footprint, access_footprint, any_conflict, footprints_conflict, bounds_meet, has_region}
+use Rattle.pg_slice_rules.specs.Rules.{is_disturbed, is_plain, is_shared, kind_in, footprint_of, footprints_in, region_footprints}
 use Rattle.pg_law_plan.specs.Units.{access_touch, instance_touch, is_event_at, is_instance, is_read_in, is_written_in, range_touched, reads_byte, reads_cell, touch_of, word_read, word_written}
 use Rattle.pg_law_plan.specs.Units.{writes_byte, writes_cell}
 use Rattle.pg_law_plan.specs.Lists.{Has}
@@ -319,7 +320,8 @@ module _ (d : Taken) (all : List Seen) where
     accesses_ordered ne o b f h a c i j w =
         let u = footprint_has x b f fx a i in
         let v = footprint_has y b h fy c j in
-        let m : Meeting (access_footprint x) (access_footprint y) b = record { first = u.0; second = v.0; has_first = u.1; has_second = v.1; in_first = u.2; in_second = v.2; writes = rw (u.3, v.3) w } in
+        let m : Meeting (access_footprint x) (access_footprint y) b = record { first = u.0; second = v.0; has_first = u.1; has_second = v.1;
+          in_first = u.2; in_second = v.2; writes = rw (u.3, v.3) w } in
         let p = fixed x y fx fy ne o (meeting_conflict (access_footprint x) (access_footprint y) b m) a.access a.is in
         let q = fixed y x fy fx (λ e. ne (sym e)) (overlap_back x.moment.did y.moment.did o)
         (meeting_conflict (access_footprint y) (access_footprint x) b (turned (access_footprint x) (access_footprint y) b m)) c.access c.is in

@@ -9,7 +9,7 @@ ghost use Rattle.pg_region_accesses.specs.Tables.{in_table};
 
 use crate::rooted::{Rooted, Summary};
 use pg_ir::{InstrId, Op, Value};
-use pg_region_paths::{RootPaths, Path, Root};
+use pg_region_paths::{Path, Root, RootPaths};
 use std::alloc::AllocError;
 
 /// Adds the access of an instruction, if its pointer has a path.

@@ -2,10 +2,10 @@
 #![tactic(auto)]
 
 mod entry;
-mod root_paths;
 pub mod laws;
 mod path;
+mod root_paths;
 
 pub use entry::Entry;
-pub use root_paths::RootPaths;
 pub use path::{Loads, Path, Root, RootPath};
+pub use root_paths::RootPaths;

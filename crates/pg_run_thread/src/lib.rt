@@ -8,16 +8,16 @@ mod decide;
 mod edges;
 mod fiber;
 mod head;
-mod library;
 pub mod laws;
+mod library;
 mod numbers;
 mod operands;
 mod optional;
 mod present;
 mod readers;
-mod thread_memory;
 mod room;
 mod steps;
+mod thread_memory;
 
 pub use action::Action;
 pub use advance::{Advance, LocalStep};

@@ -240,7 +240,12 @@ fn number_action(p: &Program, here: &Present, function: LibraryCall, args: &[Val
 
 /// The action of a call of a known function. `here` comes by its value: by reference, each step of the
 /// machine would have to put it into memory.
-pub(crate) fn library_action(p: &Program, here: Present, function: LibraryCall, args: &[Value]) -> Action
+pub(crate) fn library_action(
+    p: &Program,
+    here: Present,
+    function: LibraryCall,
+    args: &[Value],
+) -> Action
     requires operands { AllByRecursion (CanRead p.now (length here.registers.now)) args.now }
     requires width { KnownWidths p.now here.registers.now function args.now }
     ensures { result ≡ library_action p.now here.entry.memory.thread here.entry.halfway here.entry.registers.now function args.now }
@@ -271,7 +276,11 @@ pub(crate) fn library_number(memory: ThreadMemory, function: LibraryCall, n: u64
 {
     match function {
         LibraryCall::Malloc => allocated(memory, n),
-        LibraryCall::PgIn | LibraryCall::PgInLen | LibraryCall::PgOut | LibraryCall::Free | LibraryCall::PthreadExit => reply,
+        LibraryCall::PgIn
+        | LibraryCall::PgInLen
+        | LibraryCall::PgOut
+        | LibraryCall::Free
+        | LibraryCall::PthreadExit => reply,
         _ => trunc(Width::W32, reply),
     }
 }

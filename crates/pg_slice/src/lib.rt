@@ -2,8 +2,8 @@
 //! taken in before each.
 #![tactic(auto)]
 
-mod meetings;
 mod footprints;
+mod meetings;
 mod rivals;
 mod slicing;
 mod spread;

@@ -50,7 +50,11 @@ fn is_kept(kept: &[Footprint], number: usize, footprint: &Footprint) -> bool
 
 /// The number of a kept footprint that is equal to this one: the guess where it is right, else that of this footprint, which is
 /// then kept as the last.
-fn number_of(kept: &mut Vec<Footprint>, guess: usize, footprint: Footprint) -> Result<usize, AllocError>
+fn number_of(
+    kept: &mut Vec<Footprint>,
+    guess: usize,
+    footprint: Footprint,
+) -> Result<usize, AllocError>
     ensures number { IfOk result (λ k. slice_get kept.new.items k ≡ Some footprint) }
     ensures kept { IfOk result (λ k. kept.new.items ≡ (if nat_lt k (length kept.old.items) then kept.old.items else (kept.old.items ++ footprint ∷ []))) }
     ensures guess { slice_get kept.old.items guess ≡ Some footprint → IfOk result (λ k. k ≡ guess) }
@@ -65,7 +69,11 @@ fn number_of(kept: &mut Vec<Footprint>, guess: usize, footprint: Footprint) -> R
 
 /// The footprints merged, by slots each of which has the number of the footprint that it was last taken for. A footprint is kept again
 /// where another one took its slot in between; so the time is linear whatever the footprints are.
-fn merge_by(alloc: Global, slots: &mut [usize], footprints: &[Footprint]) -> Result<Merged, AllocError>
+fn merge_by(
+    alloc: Global,
+    slots: &mut [usize],
+    footprints: &[Footprint],
+) -> Result<Merged, AllocError>
     requires { 0 < length slots.old }
     ensures { IfOk result (λ m. IsMerged footprints.now m.kept.items m.numbers.items) }
 {

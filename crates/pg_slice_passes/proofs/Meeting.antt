@@ -25,7 +25,8 @@ use Rattle.pg_slice_rules.specs.Freeable.{Regions}
 use Rattle.pg_slice_rules.specs.Known.{Reference, RunShadow, Seen, Taken, after_step, seen_from, seen_in, start_of}
 use Rattle.pg_slice_rules.specs.Moments.{Moment, moments_from, moments_of, state_after}
 use Rattle.pg_slice_rules.specs.Rules as rules
-use Rattle.pg_slice_rules.specs.Rules.{Need, all_of, asks_disturbed, asks_bounds, asks_pins, asks_shared, asks_values, bounds_needs, is_disturbed, is_plain, is_shared, kind_in, need_blames, value_needs}
+use Rattle.pg_slice_rules.specs.Rules.{Need, all_of, asks_disturbed, asks_bounds, asks_pins, asks_shared, asks_values}
+use Rattle.pg_slice_rules.specs.Rules.{bounds_needs, is_disturbed, is_plain, is_shared, kind_in, need_blames, value_needs}
 use Rattle.pg_law_least.proofs.Asks.{asked_by, By_disturbed, By_bounds, By_pins, By_shared, By_values, in_all_of, IsAskedBy, of_all}
 use Rattle.pg_region_paths.proofs.Elements.{none_in}
 use Rattle.pg_slice_checks.specs.Asks.{all_hold, all_met}
@@ -298,7 +299,8 @@ same_admitted R d ys input e = ap (λ (l : List Seen). all_met (all_of (conditio
 -- what is missing, by what is gathered
 pub missing_is : (p : NumberedProgram) (regions : Regions) (gated : List InstrId) (input : List ℤ) (xs : List Step) (d : Taken) (ns : NodeList) (g : Gathered) (whole : List Decision)
     → HasPassed (reference_of p regions gated input xs) d (length xs) ns g →
-    whole ≡ g.asked.missing.items ++ asks_of_met d g.footprints.footprints.items g.footprints.owners.items (map (is_met g.footprints.footprints.items) g.footprints.footprints.items) → (z : Decision) → Contains whole z
+    whole ≡ g.asked.missing.items ++ asks_of_met d g.footprints.footprints.items g.footprints.owners.items (map (is_met g.footprints.footprints.items) g.footprints.footprints.items)
+      → (z : Decision) → Contains whole z
     ↔ Contains (asks (reference_of p regions gated input xs) d) z
 missing_is p regions gated input xs d ns g whole a e z =
     let R = reference_of p regions gated input xs in

@@ -137,7 +137,8 @@ impl Footprints {
         requires low { at.now.interval.low < 4294967296 }
         requires high { at.now.interval.high < 4294967296 }
         ensures timed { OnOk result (AddsOf at.now.step.now at.now.interval self.old self.new) }
-        ensures footprints { OnOk result ((x : Seen) → IsTimed x at.now.step.now at.now.interval → x.live ≡ true → self.new.footprints.items ≡ self.old.footprints.items ++ access_footprints x) }
+        ensures footprints { OnOk result ((x : Seen) → IsTimed x at.now.step.now at.now.interval → x.live ≡ true
+            → self.new.footprints.items ≡ self.old.footprints.items ++ access_footprints x) }
         ensures owners { OnOk result ((x : Seen) → IsTimed x at.now.step.now at.now.interval → x.live ≡ true
             → self.new.owners.items ≡ self.old.owners.items ++ map (λ (f : AFootprint). owner) (access_footprints x)) }
     {

@@ -2,15 +2,15 @@
 //! missing and what an input must give, until none is missing.
 #![tactic(auto)]
 
-pub mod fits;
 mod bounds;
+pub mod fits;
+mod footprints;
 mod given;
 pub mod laws;
 mod live;
 mod memory;
 mod needs;
 mod pass;
-mod footprints;
 mod slice;
 mod state;
 mod step;

@@ -18,9 +18,9 @@ ghost use Rattle.pg_slice_passes.specs.Passes.{HasPassed};
 ghost use Rattle.pg_slice_passes.specs.Timed.{AreEarlier};
 ghost use Rattle.pg_slice_passes.specs.State.{AreKept};
 
+use crate::footprints::{Footprints, TimedStep, add_footprints, ask_met};
 use crate::given::GivenRun;
 use crate::needs::needs;
-use crate::footprints::{Footprints, TimedStep, ask_met, add_footprints};
 use crate::state::RunSources;
 use crate::step::StepAt;
 use pg_precondition::{Check, Nodes, Precondition, needed};
@@ -192,7 +192,11 @@ fn finished(alloc: Global, nodes: Nodes, g: Gathered, d: &DecisionSet) -> Result
     ensures admits { IfOk result (λ s. (input : List ℤ) → is_admitted input s.precondition ≡ all_hold nodes g.asked.checks.items input) }
     ensures needed { IfOk result (λ s. AreNeeded s.precondition) }
 {
-    let Gathered { asked, footprints, .. } = g;
+    let Gathered {
+        asked,
+        footprints,
+        ..
+    } = g;
     let precondition = precondition(alloc, nodes, asked.checks.as_slice())?;
     let missing = all_missing(alloc, asked.missing, &footprints, d)?;
     Ok(Passed {

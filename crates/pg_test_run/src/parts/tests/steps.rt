@@ -273,7 +273,13 @@ const ROWS: [(&str, Parts, Action, u32, u64); 16] = [
         THREAD_MEMORY + 32_766 * GRANULE + EIGHT_BYTES,
     ),
     ("malloc full", MALLOC_FULL, RETURN, 2, 0),
-    ("stack again", STACK_AGAIN, RETURN, 2, THREAD_MEMORY + EIGHT_BYTES),
+    (
+        "stack again",
+        STACK_AGAIN,
+        RETURN,
+        2,
+        THREAD_MEMORY + EIGHT_BYTES,
+    ),
     (
         "swap",
         SWAP,
