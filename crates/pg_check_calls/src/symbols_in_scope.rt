@@ -11,7 +11,7 @@ ghost use Rattle.pg_check_values.specs.Scopes.{IsLineScope};
 use pg_check_rules::{SymbolNode, known_named, symbol};
 use pg_check_types::place_of_name;
 use pg_check_values::LineScope;
-use pg_ir::Known;
+use pg_ir::LibraryCall;
 use pg_read_ast::Name;
 use pg_read_lex::Span;
 
@@ -63,7 +63,7 @@ pub(crate) fn variable_symbol(symbol: SymbolNode<'_>, span: Span) -> Option<Span
 }
 
 /// The known function that a name stands for, where it is declared.
-pub(crate) fn known_of(symbol: SymbolNode<'_>) -> Option<Known>
+pub(crate) fn known_of(symbol: SymbolNode<'_>) -> Option<LibraryCall>
     ensures { result ≡ known_of (symbol_of symbol.entry) }
 {
     match symbol {

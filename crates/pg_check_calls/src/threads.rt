@@ -27,16 +27,16 @@ use crate::symbols_in_scope::{
 use pg_check_rules::{SymbolNode, val_span};
 use pg_check_types::{TypeKind, TypeNumbers};
 use pg_check_values::LineScope;
-use pg_ir::Known;
+use pg_ir::LibraryCall;
 use pg_read_ast::{Name, OpNode, TypeNode, TypedVal, ValNode};
 use pg_read_lex::Span;
 use std::alloc::{AllocError, Global};
 
-fn is_create_known(known: Option<Known>) -> bool
+fn is_create_known(known: Option<LibraryCall>) -> bool
     ensures { result ≡ is_create_known known }
 {
     match known {
-        Some(Known::PthreadCreate) => true,
+        Some(LibraryCall::PthreadCreate) => true,
         _ => false,
     }
 }

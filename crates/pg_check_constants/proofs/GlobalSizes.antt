@@ -47,7 +47,7 @@ sum_front f vs zero = omega arith
 sum_front f [] (suc k) = omega arith
 sum_front f (v ∷ vs) (suc k) = omega (arith, sum_by-cons f v (take k vs), sum_by-cons f v vs, sum_front f vs k)
 
--- each global starts below the threads' regions
+-- each global starts below the threads' memory
 pub start_within : (m : Tree) (k : ℕ) → GlobalsFit m.types m.globals → start_granule m k ≤ GLOBALS_END
 unfolding start_granule globals_end
 start_within m k h = omega (arith, sum_front (granules_of m.types) m.globals k, h.ended)

@@ -43,7 +43,7 @@ pub record GlobalFits (types : List NamedType) (v : Variable) : Type 0 where
   pub ty : TypeFits types v.ty
   pub value : ConstFits types v.value
 
--- globals of such types and constants end below the threads' regions
+-- globals of such types and constants end below the threads' memory
 pub record GlobalsFit (types : List NamedType) (vs : List Variable) : Type 0 where
   pub each : (i : ℕ) (v : Variable) → slice_get vs i ≡ Some v → GlobalFits types v
   pub ended : globals_end types vs ≤ GLOBALS_END

@@ -24,7 +24,7 @@ use pg_check_rules::{
     known_named, name_or_type_refusal, place_if, refusal_at, unknown_types, wrong_counts,
 };
 use pg_check_types::TypeNumbers;
-use pg_ir::{Known, Scalar};
+use pg_ir::{LibraryCall, Scalar};
 use pg_num::Width;
 use pg_read_ast::{DeclareItem, DparamNode, TypeNode};
 use std::alloc::{AllocError, Global};
@@ -136,7 +136,7 @@ fn declares_other_main(
 /// Whether a declared function is known and has other types than the known one.
 fn declares_other_known(
     types: &TypeNumbers<'_>,
-    known: Option<Known>,
+    known: Option<LibraryCall>,
     item: &DeclareItem,
     within: &[&TypeNode],
 ) -> Result<bool, AllocError>

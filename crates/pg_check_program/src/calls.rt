@@ -1,18 +1,18 @@
 //! Calls of what a name stands for.
 
 ghost use Rattle.std.specs.Prelude.{◌≡◌};
-ghost use Rattle.pg_check_rules.specs.Numbered.{call_of, known_call};
+ghost use Rattle.pg_check_rules.specs.Numbered.{call_of, library_call};
 ghost use Rattle.pg_check_rules.specs.Symbols.{symbol_of};
 ghost use Rattle.pg_check_program.specs.Room.{IsShort};
 
 use pg_check_rules::{SymbolNode, known_named};
-use pg_ir::{Known, Op, Value, Values};
+use pg_ir::{LibraryCall, Op, Value, Values};
 
-fn known_call(known: Option<Known>, args: Vec<Value>) -> Op
-    ensures { result ≡ known_call known args.items }
+fn library_call(known: Option<LibraryCall>, args: Vec<Value>) -> Op
+    ensures { result ≡ library_call known args.items }
 {
     match known {
-        Some(function) => Op::CallKnown {
+        Some(function) => Op::CallLibrary {
             function,
             args: Values::from_vec(args),
         },
@@ -30,7 +30,7 @@ pub(crate) fn call_of(symbol: SymbolNode<'_>, args: Vec<Value>) -> Op
             function: place as u32,
             args: Values::from_vec(args),
         },
-        SymbolNode::Declaration(item) => known_call(known_named(item.name.text.as_slice()), args),
+        SymbolNode::Declaration(item) => library_call(known_named(item.name.text.as_slice()), args),
         _ => Op::Unreachable,
     }
 }

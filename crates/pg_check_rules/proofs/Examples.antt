@@ -13,7 +13,7 @@ use Rattle.pg_ir.specs.declared.value.Scalar.TheVariants as scalar
 use Rattle.pg_ir.specs.declared.value.Value.TheVariants as value
 use Rattle.pg_ir.specs.declared.value.Scale.TheVariants as scale
 use Rattle.pg_ir.specs.declared.instr.Op.TheVariants as op
-use Rattle.pg_ir.specs.declared.known.Known.TheVariants as known
+use Rattle.pg_ir.specs.declared.library_call.LibraryCall.TheVariants as known
 use Rattle.pg_ir.specs.Program.{numbered_program}
 use Rattle.pg_check_rules.specs.declared.fault.CheckKind.{CheckKind}
 use Rattle.pg_check_rules.specs.declared.fault.CheckKind.TheVariants.{UnknownName, Doubled, WrongType, NoBlock, BadPhi, Unsupported, BadSignature, TooLarge, NoMain}
@@ -265,7 +265,7 @@ rows_numbered : program_of rows ≡ numbered_program
     ∷ record { function = 1; first = record { 0 = 8 }; count = 1 }
     ∷ [])
     (record { op = op.Ret (Some (value.Register 0)); block = record { 0 = 0 }; result = None }
-    ∷ record { op = op.CallKnown known.PthreadCreate (value.Global 0 ∷ value.Const 0 ∷ value.Function 0 ∷ value.Const 0 ∷ []); block = record { 0 = 1 }; result = Some 0 }
+    ∷ record { op = op.CallLibrary known.PthreadCreate (value.Global 0 ∷ value.Const 0 ∷ value.Function 0 ∷ value.Const 0 ∷ []); block = record { 0 = 1 }; result = Some 0 }
     ∷ record { op = op.Br (record { 0 = 2 }); block = record { 0 = 1 }; result = None }
     ∷ record {
       op = op.Phi (record { block = record { 0 = 1 }; value = value.Const 0 } ∷ record { block = record { 0 = 2 }; value = value.Register 2 } ∷ []);

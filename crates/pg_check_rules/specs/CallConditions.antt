@@ -2,8 +2,8 @@
 use Rattle.std.specs.Prelude.{nat_lt, ◌&&◌, ◌||◌, Bool, true, false, not, if◌then◌else◌, List, [], ◌∷◌, ◌++◌, map, length, take, drop, Option, Some, None, is_some}
 use Rattle.std.specs.List.{list_all, filter_map}
 use Rattle.pg_read_lex.specs.declared.token.Span.{Span}
-use Rattle.pg_ir.specs.declared.known.Known.{Known}
-use Rattle.pg_ir.specs.declared.known.Known.TheVariants.{PthreadCreate}
+use Rattle.pg_ir.specs.declared.library_call.LibraryCall.{LibraryCall}
+use Rattle.pg_ir.specs.declared.library_call.LibraryCall.TheVariants.{PthreadCreate}
 use Rattle.pg_read_ast.specs.declared.names.Name.{Name}
 use Rattle.pg_read_ast.specs.Syntax.{Ty, Val, Local, Global, Typed, Written, Op, Call, Param, Dparam, ParamOf, Dots, Declaration, Definition, NamedType}
 use Rattle.pg_check_types.specs.Resolved.{resolved, is_pointer}
@@ -55,11 +55,11 @@ fits_params types _ _ _ = false
 -- ---- callees
 
 -- a function that is known and declared
-abbrev pub known_of : Symbol → Option Known
+abbrev pub known_of : Symbol → Option LibraryCall
 known_of (DeclarationOf d) = known_named d.name.text
 known_of _ = None
 
-abbrev pub is_create_known : Option Known → Bool
+abbrev pub is_create_known : Option LibraryCall → Bool
 is_create_known (Some PthreadCreate) = true
 is_create_known _ = false
 

@@ -8,7 +8,7 @@ use Rattle.pg_read_lex.specs.declared.token.Span.{Span}
 use Rattle.pg_num.specs.declared.limits.TheConstants.{FUNCTION_LIMIT, GLOBAL_LIMIT, INSTRUCTION_LIMIT, FUNCTION_REGISTER_LIMIT}
 use Rattle.pg_num.specs.declared.layout.TheConstants.{GLOBALS_END}
 use Rattle.pg_num.specs.declared.width.Width.TheVariants.{W32}
-use Rattle.pg_ir.specs.declared.known.Known.{Known}
+use Rattle.pg_ir.specs.declared.library_call.LibraryCall.{LibraryCall}
 use Rattle.pg_ir.specs.declared.value.Scalar.{Scalar}
 use Rattle.pg_ir.specs.declared.value.Scalar.TheVariants.{Int, Ptr}
 use Rattle.pg_ir.specs.Signatures.{parameters_of, returned_by}
@@ -159,7 +159,7 @@ declares_other types ss r h = types_exist types (head_types h) && not (has_heade
 abbrev pub declares_other_main : List NamedType → List ℕ → Header → Bool
 declares_other_main types text h = bytes_eq text main_name && declares_other types [] (Some (Int W32)) h
 
-abbrev pub declares_other_known : List NamedType → Option Known → Header → Bool
+abbrev pub declares_other_known : List NamedType → Option LibraryCall → Header → Bool
 declares_other_known types None h = false
 declares_other_known types (Some k) h = declares_other types (parameters_of k) (returned_by k) h
 

@@ -2,15 +2,15 @@
 use Rattle.std.specs.Prelude.{ℕ, List, [], ◌∷◌, Option, codes}
 use Rattle.std.specs.List.{find}
 use Rattle.std.specs.Str.{bytes_eq}
-use Rattle.pg_ir.specs.declared.known.Known.{Known}
-use Rattle.pg_ir.specs.declared.known.Known.TheVariants.{PgIn, PgInLen, PgOut, Putchar, Malloc, Free, PthreadCreate}
-use Rattle.pg_ir.specs.declared.known.Known.TheVariants.{PthreadJoin, PthreadExit, PthreadMutexInit, PthreadMutexLock}
-use Rattle.pg_ir.specs.declared.known.Known.TheVariants.{PthreadMutexTrylock, PthreadMutexUnlock, PthreadMutexDestroy}
-use Rattle.pg_ir.specs.declared.known.Known.TheVariants.{PthreadCondInit, PthreadCondWait, PthreadCondSignal}
-use Rattle.pg_ir.specs.declared.known.Known.TheVariants.{PthreadCondBroadcast, PthreadCondDestroy, PthreadBarrierInit}
-use Rattle.pg_ir.specs.declared.known.Known.TheVariants.{PthreadBarrierWait, PthreadBarrierDestroy}
+use Rattle.pg_ir.specs.declared.library_call.LibraryCall.{LibraryCall}
+use Rattle.pg_ir.specs.declared.library_call.LibraryCall.TheVariants.{PgIn, PgInLen, PgOut, Putchar, Malloc, Free, PthreadCreate}
+use Rattle.pg_ir.specs.declared.library_call.LibraryCall.TheVariants.{PthreadJoin, PthreadExit, PthreadMutexInit, PthreadMutexLock}
+use Rattle.pg_ir.specs.declared.library_call.LibraryCall.TheVariants.{PthreadMutexTrylock, PthreadMutexUnlock, PthreadMutexDestroy}
+use Rattle.pg_ir.specs.declared.library_call.LibraryCall.TheVariants.{PthreadCondInit, PthreadCondWait, PthreadCondSignal}
+use Rattle.pg_ir.specs.declared.library_call.LibraryCall.TheVariants.{PthreadCondBroadcast, PthreadCondDestroy, PthreadBarrierInit}
+use Rattle.pg_ir.specs.declared.library_call.LibraryCall.TheVariants.{PthreadBarrierWait, PthreadBarrierDestroy}
 
-unfoldable pub known_name : Known → List ℕ
+unfoldable pub known_name : LibraryCall → List ℕ
 known_name PgIn = codes "pg_in"
 known_name PgInLen = codes "pg_in_len"
 known_name PgOut = codes "pg_out"
@@ -34,7 +34,7 @@ known_name PthreadBarrierInit = codes "pthread_barrier_init"
 known_name PthreadBarrierWait = codes "pthread_barrier_wait"
 known_name PthreadBarrierDestroy = codes "pthread_barrier_destroy"
 
-abbrev pub all_known : List Known
+abbrev pub all_known : List LibraryCall
 all_known =
     PgIn ∷ PgInLen ∷ PgOut ∷ Putchar ∷ Malloc ∷ Free ∷ PthreadCreate ∷ PthreadJoin ∷ PthreadExit
     ∷ PthreadMutexInit ∷ PthreadMutexLock ∷ PthreadMutexTrylock ∷ PthreadMutexUnlock ∷ PthreadMutexDestroy
@@ -42,5 +42,5 @@ all_known =
     ∷ PthreadBarrierInit ∷ PthreadBarrierWait ∷ PthreadBarrierDestroy ∷ []
 
 -- the known function of a name
-unfoldable pub known_named : List ℕ → Option Known
+unfoldable pub known_named : List ℕ → Option LibraryCall
 known_named text = find (λ k. bytes_eq (known_name k) text) all_known

@@ -20,7 +20,7 @@ use Rattle.pg_ir.specs.declared.edge.Incoming as numbered_incoming
 use Rattle.pg_ir.specs.declared.function.Function.{Function}
 use Rattle.pg_ir.specs.declared.function.Block as numbered_block
 use Rattle.pg_ir.specs.declared.function.GlobalInfo.{GlobalInfo}
-use Rattle.pg_ir.specs.declared.known.Known.{Known}
+use Rattle.pg_ir.specs.declared.library_call.LibraryCall.{LibraryCall}
 use Rattle.pg_ir.specs.declared.instr.Op as numbered_op
 use Rattle.pg_ir.specs.declared.instr.Op.TheVariants as op
 use Rattle.pg_ir.specs.declared.instr.Instr.{Instr}
@@ -122,13 +122,13 @@ abbrev pub indices_at : Scope → List Typed → List Scale → List Index
 indices_at g (i ∷ is) (s ∷ ss) = index_at g i s ∷ indices_at g is ss
 indices_at g _ _ = []
 
-abbrev pub known_call : Option Known → List Value → numbered_op.Op
-known_call (Some k) all = op.CallKnown k all
-known_call None all = op.Unreachable
+abbrev pub library_call : Option LibraryCall → List Value → numbered_op.Op
+library_call (Some k) all = op.CallLibrary k all
+library_call None all = op.Unreachable
 
 abbrev pub call_of : Symbol → List Value → numbered_op.Op
 call_of (DefinitionOf f d) all = op.Call f all
-call_of s all = known_call (known_of s) all
+call_of s all = library_call (known_of s) all
 
 unfoldable pub op_at : Scope → ℕ → Op → numbered_op.Op
 op_at g first (Binary s o t a b) = binary_op o (width_in (type_in g t)) (value_at g t a) (value_at g t b)

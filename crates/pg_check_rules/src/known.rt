@@ -5,66 +5,66 @@ ghost use Rattle.std.specs.List.{find};
 ghost use Rattle.std.specs.Str.{bytes_eq};
 ghost use Rattle.pg_check_rules.specs.KnownNames.{known_name, known_named};
 
-use pg_ir::Known;
+use pg_ir::LibraryCall;
 
 /// The known functions.
-const KNOWN_FUNCTIONS: [Known; 22] = [
-    Known::PgIn,
-    Known::PgInLen,
-    Known::PgOut,
-    Known::Putchar,
-    Known::Malloc,
-    Known::Free,
-    Known::PthreadCreate,
-    Known::PthreadJoin,
-    Known::PthreadExit,
-    Known::PthreadMutexInit,
-    Known::PthreadMutexLock,
-    Known::PthreadMutexTrylock,
-    Known::PthreadMutexUnlock,
-    Known::PthreadMutexDestroy,
-    Known::PthreadCondInit,
-    Known::PthreadCondWait,
-    Known::PthreadCondSignal,
-    Known::PthreadCondBroadcast,
-    Known::PthreadCondDestroy,
-    Known::PthreadBarrierInit,
-    Known::PthreadBarrierWait,
-    Known::PthreadBarrierDestroy,
+const KNOWN_FUNCTIONS: [LibraryCall; 22] = [
+    LibraryCall::PgIn,
+    LibraryCall::PgInLen,
+    LibraryCall::PgOut,
+    LibraryCall::Putchar,
+    LibraryCall::Malloc,
+    LibraryCall::Free,
+    LibraryCall::PthreadCreate,
+    LibraryCall::PthreadJoin,
+    LibraryCall::PthreadExit,
+    LibraryCall::PthreadMutexInit,
+    LibraryCall::PthreadMutexLock,
+    LibraryCall::PthreadMutexTrylock,
+    LibraryCall::PthreadMutexUnlock,
+    LibraryCall::PthreadMutexDestroy,
+    LibraryCall::PthreadCondInit,
+    LibraryCall::PthreadCondWait,
+    LibraryCall::PthreadCondSignal,
+    LibraryCall::PthreadCondBroadcast,
+    LibraryCall::PthreadCondDestroy,
+    LibraryCall::PthreadBarrierInit,
+    LibraryCall::PthreadBarrierWait,
+    LibraryCall::PthreadBarrierDestroy,
 ];
 
 #[tactic(auto, unfolding(crate::specs::KnownNames::known_name))]
-fn known_name(function: Known) -> &'static [u8]
+fn known_name(function: LibraryCall) -> &'static [u8]
     ensures { result.now ≡ known_name function }
 {
     match function {
-        Known::PgIn => b"pg_in",
-        Known::PgInLen => b"pg_in_len",
-        Known::PgOut => b"pg_out",
-        Known::Putchar => b"putchar",
-        Known::Malloc => b"malloc",
-        Known::Free => b"free",
-        Known::PthreadCreate => b"pthread_create",
-        Known::PthreadJoin => b"pthread_join",
-        Known::PthreadExit => b"pthread_exit",
-        Known::PthreadMutexInit => b"pthread_mutex_init",
-        Known::PthreadMutexLock => b"pthread_mutex_lock",
-        Known::PthreadMutexTrylock => b"pthread_mutex_trylock",
-        Known::PthreadMutexUnlock => b"pthread_mutex_unlock",
-        Known::PthreadMutexDestroy => b"pthread_mutex_destroy",
-        Known::PthreadCondInit => b"pthread_cond_init",
-        Known::PthreadCondWait => b"pthread_cond_wait",
-        Known::PthreadCondSignal => b"pthread_cond_signal",
-        Known::PthreadCondBroadcast => b"pthread_cond_broadcast",
-        Known::PthreadCondDestroy => b"pthread_cond_destroy",
-        Known::PthreadBarrierInit => b"pthread_barrier_init",
-        Known::PthreadBarrierWait => b"pthread_barrier_wait",
-        Known::PthreadBarrierDestroy => b"pthread_barrier_destroy",
+        LibraryCall::PgIn => b"pg_in",
+        LibraryCall::PgInLen => b"pg_in_len",
+        LibraryCall::PgOut => b"pg_out",
+        LibraryCall::Putchar => b"putchar",
+        LibraryCall::Malloc => b"malloc",
+        LibraryCall::Free => b"free",
+        LibraryCall::PthreadCreate => b"pthread_create",
+        LibraryCall::PthreadJoin => b"pthread_join",
+        LibraryCall::PthreadExit => b"pthread_exit",
+        LibraryCall::PthreadMutexInit => b"pthread_mutex_init",
+        LibraryCall::PthreadMutexLock => b"pthread_mutex_lock",
+        LibraryCall::PthreadMutexTrylock => b"pthread_mutex_trylock",
+        LibraryCall::PthreadMutexUnlock => b"pthread_mutex_unlock",
+        LibraryCall::PthreadMutexDestroy => b"pthread_mutex_destroy",
+        LibraryCall::PthreadCondInit => b"pthread_cond_init",
+        LibraryCall::PthreadCondWait => b"pthread_cond_wait",
+        LibraryCall::PthreadCondSignal => b"pthread_cond_signal",
+        LibraryCall::PthreadCondBroadcast => b"pthread_cond_broadcast",
+        LibraryCall::PthreadCondDestroy => b"pthread_cond_destroy",
+        LibraryCall::PthreadBarrierInit => b"pthread_barrier_init",
+        LibraryCall::PthreadBarrierWait => b"pthread_barrier_wait",
+        LibraryCall::PthreadBarrierDestroy => b"pthread_barrier_destroy",
     }
 }
 
 /// The one of these functions that has a name.
-fn known_among(functions: &[Known], text: &[u8]) -> Option<Known>
+fn known_among(functions: &[LibraryCall], text: &[u8]) -> Option<LibraryCall>
     ensures { result ≡ find (λ k. bytes_eq (known_name k) text.now) functions.now }
 {
     for function in functions {
@@ -77,7 +77,7 @@ fn known_among(functions: &[Known], text: &[u8]) -> Option<Known>
 
 /// The known function of a name.
 #[tactic(auto, unfolding(crate::specs::KnownNames::known_named))]
-pub fn known_named(text: &[u8]) -> Option<Known>
+pub fn known_named(text: &[u8]) -> Option<LibraryCall>
     ensures { result ≡ known_named text.now }
 {
     known_among(&KNOWN_FUNCTIONS, text)

@@ -1,4 +1,4 @@
--- Each global lies below the threads' regions.
+-- Each global lies below the threads' memory.
 use Rattle.std.proofs.Common.{◌≡◌, ℕ, ◌+◌, ◌≤◌, List, [], ◌∷◌, Some, arith, subst, zero, suc}
 use Rattle.std.specs.Prelude.{slice_get}
 use Rattle.pg_num.specs.declared.layout.TheConstants.{GLOBALS_END}

@@ -13,15 +13,15 @@ use Rattle.pg_ir.specs.declared.value.Value.TheVariants as value
 use Rattle.pg_ir.specs.declared.value.Index.{Index}
 use Rattle.pg_ir.specs.declared.edge.Incoming.{Incoming}
 use Rattle.pg_ir.specs.declared.function.Function.{Function}
-use Rattle.pg_ir.specs.declared.known.Known.{Known}
-use Rattle.pg_ir.specs.declared.known.Known.TheVariants.{PthreadCreate}
+use Rattle.pg_ir.specs.declared.library_call.LibraryCall.{LibraryCall}
+use Rattle.pg_ir.specs.declared.library_call.LibraryCall.TheVariants.{PthreadCreate}
 use Rattle.pg_ir.specs.declared.instr.Op.{Op}
 use Rattle.pg_ir.specs.declared.instr.Op.TheVariants as op
 use Rattle.pg_ir.specs.declared.instr.Instr.{Instr}
 use Rattle.pg_ir.specs.Program.{NumberedProgram, types_of, function_of, result_of}
 use Rattle.pg_ir.specs.Operands.{CanRead, CanReadAll, CanReadReturned}
 use Rattle.pg_ir.specs.Signatures.{parameters_of}
-use Rattle.pg_ir.specs.WellFormed.{HasType, HaveTypes, FitsOp, FitKnown, FitCreate, FitsReturn, StartsThread, BeginsThread, FitsInstr, BothHaveType, FitsCompare, FitsStored, FitsIncoming}
+use Rattle.pg_ir.specs.WellFormed.{HasType, HaveTypes, FitsOp, FitLibraryCall, FitCreate, FitsReturn, StartsThread, BeginsThread, FitsInstr, BothHaveType, FitsCompare, FitsStored, FitsIncoming}
 use Rattle.pg_ir.specs.WellFormed.{FitsIndex, parameter_types, type_at, width_of}
 
 modulus_small : (w : Width) → modulus w ≤ 2 ^ 64
@@ -62,7 +62,7 @@ create_reads p types (a ∷ b ∷ []) h = absurd h
 create_reads p types (a ∷ b ∷ f ∷ []) h = absurd h
 create_reads p types (a ∷ b ∷ f ∷ c ∷ d ∷ more) h = absurd h
 
-known_reads : (p : NumberedProgram) (types : List Scalar) (k : Known) (args : List Value) → FitKnown p types k args → AllByRecursion (CanRead p (length types)) args
+known_reads : (p : NumberedProgram) (types : List Scalar) (k : LibraryCall) (args : List Value) → FitLibraryCall p types k args → AllByRecursion (CanRead p (length types)) args
 known_reads p types PthreadCreate args h = create_reads p types args h
 known_reads p types k args h = typed_all_read p types (parameters_of k) args h
 
@@ -127,7 +127,7 @@ op_reads p types returns result (op.Alloca bytes) h = tt
 op_reads p types returns result (op.Load w from) h = typed_reads p types Ptr from h.1
 op_reads p types returns result (op.Store w v at) h = (stored_reads p types w v h.1, typed_reads p types Ptr at h.2)
 op_reads p types returns result (op.Gep base indices) h = (typed_reads p types Ptr base h.1, indices_read p types indices h.2)
-op_reads p types returns result (op.CallKnown k args) h = known_reads p types k args h.1
+op_reads p types returns result (op.CallLibrary k args) h = known_reads p types k args h.1
 
 pub instr_reads : (p : NumberedProgram) (i : ℕ) (x : Instr) → FitsInstr p i x → CanReadAll p (length (types_of p (function_of p x.block.0))) x.op
 instr_reads p i x h = op_reads p (types_of p (function_of p x.block.0)) (result_of p (function_of p x.block.0)) (type_at (types_of p (function_of p x.block.0)) x.result) x.op h.op

@@ -16,15 +16,15 @@ use Rattle.pg_ir.specs.declared.value.Index.{Index}
 use Rattle.pg_ir.specs.declared.edge.Case.{Case}
 use Rattle.pg_ir.specs.declared.edge.Incoming.{Incoming}
 use Rattle.pg_ir.specs.declared.function.Function.{Function}
-use Rattle.pg_ir.specs.declared.known.Known.{Known}
-use Rattle.pg_ir.specs.declared.known.Known.TheVariants.{PthreadCreate}
+use Rattle.pg_ir.specs.declared.library_call.LibraryCall.{LibraryCall}
+use Rattle.pg_ir.specs.declared.library_call.LibraryCall.TheVariants.{PthreadCreate}
 use Rattle.pg_ir.specs.declared.instr.Op.{Op}
 use Rattle.pg_ir.specs.declared.instr.Op.TheVariants as op
 use Rattle.pg_ir.specs.Program.{NumberedProgram, result_of}
 use Rattle.pg_ir.specs.Signatures.{parameters_of, returned_by}
-use Rattle.pg_ir.specs.TypeTests.{same_width, same_scalar, same_type, has_type, each_has_type, have_types, begins_thread, starts_thread, create_fits, known_fits, return_fits, has_width}
+use Rattle.pg_ir.specs.TypeTests.{same_width, same_scalar, same_type, has_type, each_has_type, have_types, begins_thread, starts_thread, create_fits, library_fits, return_fits, has_width}
 use Rattle.pg_ir.specs.TypeTests.{both_have_type, binary_fits, compared_fit, stored_fits, narrower, chosen_fit, incoming_fits, all_incoming_fit, cases_fit, indices_fit, op_fits}
-use Rattle.pg_ir.specs.WellFormed.{HasType, HaveTypes, FitsOp, FitKnown, FitCreate, FitsReturn, StartsThread, BeginsThread, BothHaveType, FitsBinary, FitsCompare, FitsStored, FitsIncoming}
+use Rattle.pg_ir.specs.WellFormed.{HasType, HaveTypes, FitsOp, FitLibraryCall, FitCreate, FitsReturn, StartsThread, BeginsThread, BothHaveType, FitsBinary, FitsCompare, FitsStored, FitsIncoming}
 use Rattle.pg_ir.specs.WellFormed.{FitsIndex, HasWidth, parameter_types, width_of}
 use Rattle.pg_ir.proofs.Decide.{decides_lt, decides_no, decides_sure, decides_three, decides_four, decides_all}
 
@@ -107,7 +107,7 @@ decides_create p types (a ∷ b ∷ []) = decides_no (λ h. h)
 decides_create p types (a ∷ b ∷ f ∷ []) = decides_no (λ h. h)
 decides_create p types (a ∷ b ∷ f ∷ c ∷ d ∷ more) = decides_no (λ h. h)
 
-decides_known : (p : NumberedProgram) (types : List Scalar) (k : Known) (args : List Value) → Decides (known_fits p types k args) (FitKnown p types k args)
+decides_known : (p : NumberedProgram) (types : List Scalar) (k : LibraryCall) (args : List Value) → Decides (library_fits p types k args) (FitLibraryCall p types k args)
 decides_known p types PthreadCreate args = decides_create p types args
 decides_known p types k args = decides_have p types (parameters_of k) args
 
@@ -203,4 +203,4 @@ decides_op p types returns result (op.Store w v at) =
     decides_result_two result None (stored_fits p types w v) (has_type p types Ptr at) (decides_stored p types w v) (decides_has p types Ptr at)
 decides_op p types returns result (op.Gep base indices) =
     decides_result_two result (Some Ptr) (has_type p types Ptr base) (indices_fit p types indices) (decides_has p types Ptr base) (decides_indices p types indices)
-decides_op p types returns result (op.CallKnown k args) = decides_result result (returned_by k) (known_fits p types k args) (decides_known p types k args)
+decides_op p types returns result (op.CallLibrary k args) = decides_result result (returned_by k) (library_fits p types k args) (decides_known p types k args)

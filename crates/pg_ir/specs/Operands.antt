@@ -48,7 +48,7 @@ CanReadAll p n (op.Alloca bytes) = Unit {0}
 CanReadAll p n (op.Load w from) = CanRead p n from
 CanReadAll p n (op.Store w v at) = CanRead p n v × CanRead p n at
 CanReadAll p n (op.Gep base indices) = CanRead p n base × AllByRecursion (λ (i : Index). CanRead p n i.value) indices
-CanReadAll p n (op.CallKnown k args) = AllByRecursion (CanRead p n) args
+CanReadAll p n (op.CallLibrary k args) = AllByRecursion (CanRead p n) args
 
 -- a phi's values can be read, and its register is one of the frame's
 pub record CanTakePhi (p : NumberedProgram) (n : ℕ) (x : Instr) : Type 0 where

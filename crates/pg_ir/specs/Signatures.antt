@@ -4,12 +4,12 @@ use Rattle.std.specs.Prelude.{List, [], ◌∷◌, Option, Some, None}
 use Rattle.pg_num.specs.declared.width.Width.TheVariants.{W32, W64}
 use Rattle.pg_ir.specs.declared.value.Scalar.{Scalar}
 use Rattle.pg_ir.specs.declared.value.Scalar.TheVariants.{Int, Ptr}
-use Rattle.pg_ir.specs.declared.known.Known.{Known}
-use Rattle.pg_ir.specs.declared.known.Known.TheVariants.{PgIn, PgInLen, PgOut, Putchar, Malloc, Free, PthreadCreate, PthreadJoin, PthreadExit, PthreadMutexInit, PthreadMutexLock}
-use Rattle.pg_ir.specs.declared.known.Known.TheVariants.{PthreadMutexTrylock, PthreadMutexUnlock, PthreadMutexDestroy, PthreadCondInit, PthreadCondWait, PthreadCondSignal}
-use Rattle.pg_ir.specs.declared.known.Known.TheVariants.{PthreadCondBroadcast, PthreadCondDestroy, PthreadBarrierInit, PthreadBarrierWait, PthreadBarrierDestroy}
+use Rattle.pg_ir.specs.declared.library_call.LibraryCall.{LibraryCall}
+use Rattle.pg_ir.specs.declared.library_call.LibraryCall.TheVariants.{PgIn, PgInLen, PgOut, Putchar, Malloc, Free, PthreadCreate, PthreadJoin, PthreadExit, PthreadMutexInit, PthreadMutexLock}
+use Rattle.pg_ir.specs.declared.library_call.LibraryCall.TheVariants.{PthreadMutexTrylock, PthreadMutexUnlock, PthreadMutexDestroy, PthreadCondInit, PthreadCondWait, PthreadCondSignal}
+use Rattle.pg_ir.specs.declared.library_call.LibraryCall.TheVariants.{PthreadCondBroadcast, PthreadCondDestroy, PthreadBarrierInit, PthreadBarrierWait, PthreadBarrierDestroy}
 
-abbrev pub parameters_of : Known → List Scalar
+abbrev pub parameters_of : LibraryCall → List Scalar
 parameters_of PgIn = Int W64 ∷ []
 parameters_of PgInLen = []
 parameters_of PgOut = Int W64 ∷ []
@@ -33,7 +33,7 @@ parameters_of PthreadBarrierInit = Ptr ∷ Ptr ∷ Int W32 ∷ []
 parameters_of PthreadBarrierWait = Ptr ∷ []
 parameters_of PthreadBarrierDestroy = Ptr ∷ []
 
-abbrev pub returned_by : Known → Option Scalar
+abbrev pub returned_by : LibraryCall → Option Scalar
 returned_by PgIn = Some (Int W64)
 returned_by PgInLen = Some (Int W64)
 returned_by PgOut = None

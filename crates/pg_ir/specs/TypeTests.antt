@@ -10,8 +10,8 @@ use Rattle.pg_ir.specs.declared.edge.Incoming.{Incoming}
 use Rattle.pg_ir.specs.declared.function.Function.{Function}
 use Rattle.pg_ir.specs.declared.instr.Op.{Op}
 use Rattle.pg_ir.specs.declared.instr.Op.TheVariants as op
-use Rattle.pg_ir.specs.declared.known.Known.{Known}
-use Rattle.pg_ir.specs.declared.known.Known.TheVariants.{PthreadCreate}
+use Rattle.pg_ir.specs.declared.library_call.LibraryCall.{LibraryCall}
+use Rattle.pg_ir.specs.declared.library_call.LibraryCall.TheVariants.{PthreadCreate}
 use Rattle.pg_ir.specs.declared.value.Index.{Index}
 use Rattle.pg_ir.specs.declared.value.Scalar.{Scalar}
 use Rattle.pg_ir.specs.declared.value.Scalar.TheVariants.{Int, Ptr}
@@ -59,9 +59,9 @@ create_fits p types (at ∷ attribute ∷ function ∷ argument ∷ []) =
     has_type p types Ptr at && (has_type p types Ptr attribute && (starts_thread p function && has_type p types Ptr argument))
 create_fits p types _ = false
 
-abbrev pub known_fits : NumberedProgram → List Scalar → Known → List Value → Bool
-known_fits p types PthreadCreate args = create_fits p types args
-known_fits p types k args = have_types p types (parameters_of k) args
+abbrev pub library_fits : NumberedProgram → List Scalar → LibraryCall → List Value → Bool
+library_fits p types PthreadCreate args = create_fits p types args
+library_fits p types k args = have_types p types (parameters_of k) args
 
 abbrev pub return_fits : NumberedProgram → List Scalar → Option Scalar → Option Value → Bool
 return_fits p types None None = true
@@ -143,7 +143,7 @@ control_op_fits p types returns result (op.Switch w on other cases) = same_type 
 control_op_fits p types returns result (op.Ret v) = same_type result None && return_fits p types returns v
 control_op_fits p types returns result op.Unreachable = same_type result None
 control_op_fits p types returns result (op.Call f args) = call_fits p types result f args
-control_op_fits p types returns result (op.CallKnown k args) = same_type result (returned_by k) && known_fits p types k args
+control_op_fits p types returns result (op.CallLibrary k args) = same_type result (returned_by k) && library_fits p types k args
 control_op_fits p types returns result _ = false
 
 -- decides FitsOp

@@ -12,8 +12,8 @@ use Rattle.pg_ir.specs.declared.value.Scalar.{Scalar}
 use Rattle.pg_ir.specs.declared.value.Scalar.TheVariants.{Int, Ptr}
 use Rattle.pg_ir.specs.declared.value.Value.{Value}
 use Rattle.pg_ir.specs.declared.value.Value.TheVariants as value
-use Rattle.pg_ir.specs.declared.known.Known.{Known}
-use Rattle.pg_ir.specs.declared.known.Known.TheVariants.{PthreadCreate}
+use Rattle.pg_ir.specs.declared.library_call.LibraryCall.{LibraryCall}
+use Rattle.pg_ir.specs.declared.library_call.LibraryCall.TheVariants.{PthreadCreate}
 use Rattle.pg_ir.specs.declared.function.Function.{Function}
 use Rattle.pg_ir.specs.declared.function.Block.{Block}
 use Rattle.pg_ir.specs.declared.function.GlobalInfo.{GlobalInfo}
@@ -61,9 +61,9 @@ FitCreate p types (at ∷ attribute ∷ function ∷ argument ∷ []) =
     HasType p types Ptr at × HasType p types Ptr attribute × StartsThread p function × HasType p types Ptr argument
 FitCreate p types _ = ⊥
 
-abbrev pub FitKnown : NumberedProgram → List Scalar → Known → List Value → Type 0
-FitKnown p types PthreadCreate args = FitCreate p types args
-FitKnown p types k args = HaveTypes p types (parameters_of k) args
+abbrev pub FitLibraryCall : NumberedProgram → List Scalar → LibraryCall → List Value → Type 0
+FitLibraryCall p types PthreadCreate args = FitCreate p types args
+FitLibraryCall p types k args = HaveTypes p types (parameters_of k) args
 
 -- a value is returned exactly where the function has a result
 abbrev pub FitsReturn : NumberedProgram → List Scalar → Option Scalar → Option Value → Type 0
@@ -131,7 +131,7 @@ FitsOp p types returns result (op.Alloca bytes) = result ≡ Some Ptr
 FitsOp p types returns result (op.Load w from) = HasWidth w result × HasType p types Ptr from
 FitsOp p types returns result (op.Store w v at) = (result ≡ None) × FitsStored p types w v × HasType p types Ptr at
 FitsOp p types returns result (op.Gep base indices) = (result ≡ Some Ptr) × HasType p types Ptr base × AllByRecursion (FitsIndex p types) indices
-FitsOp p types returns result (op.CallKnown k args) = (result ≡ returned_by k) × FitKnown p types k args
+FitsOp p types returns result (op.CallLibrary k args) = (result ≡ returned_by k) × FitLibraryCall p types k args
 
 abbrev pub type_at : List Scalar → Option ℕ → Option Scalar
 type_at types None = None
@@ -184,7 +184,7 @@ pub record FitsFunction (p : NumberedProgram) (f : ℕ) (x : Function) : Type 0 
 abbrev pub granules_for : ℕ → ℕ
 granules_for size = max 1 ((size + 7) / 8)
 
--- globals lie one after another from this granule on, below the threads' regions
+-- globals lie one after another from this granule on, below the threads' memory
 abbrev pub LieFrom : ℕ → List GlobalInfo → Type 0
 LieFrom at [] = at ≤ GLOBALS_END
 LieFrom at (g ∷ gs) = (g.start ≡ at) × (g.size ≤ SIZE_LIMIT) × (length g.bytes ≤ g.size) × LieFrom (at + granules_for g.size) gs

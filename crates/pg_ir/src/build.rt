@@ -31,7 +31,7 @@ fn global_fits(at: u64, g: &GlobalInfo) -> bool
 }
 
 #[tactic(auto, using(crate::proofs::GlobalsDecide::lie_stop))]
-/// Whether globals lie one after another from this granule on, below the threads' regions.
+/// Whether globals lie one after another from this granule on, below the threads' memory.
 fn lie_from(start: u64, globals: &[GlobalInfo]) -> bool
     requires { start ≤ 2 ^ 33 }
     ensures { result ≡ lie_from start globals.now }

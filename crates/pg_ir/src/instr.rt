@@ -1,7 +1,7 @@
 //! Instructions and their operations.
 
 use crate::ids::BlockNo;
-use crate::known::Known;
+use crate::library_call::LibraryCall;
 use crate::lists::{Cases, Incomings, Indices, Values};
 use crate::value::Value;
 use pg_num::{Bits, Compare, Division, Shift, Width};
@@ -122,8 +122,8 @@ pub enum Op {
         base: Value,
         indices: Indices,
     },
-    CallKnown {
-        function: Known,
+    CallLibrary {
+        function: LibraryCall,
         args: Values,
     },
 }

@@ -3,26 +3,27 @@
 ghost use Rattle.std.specs.Prelude.{◌≡◌};
 ghost use Rattle.pg_ir.specs.Signatures.{parameters_of, returned_by};
 
-use crate::known::Known;
+use crate::library_call::LibraryCall;
 use crate::value::Scalar;
 use pg_num::Width;
 
-impl Known {
+impl LibraryCall {
     /// The types of the function's parameters.
     pub fn parameters(self) -> &'static [Scalar]
         ensures { result.now ≡ parameters_of self }
     {
         match self {
-            Known::PgInLen => &[],
-            Known::PgIn | Known::PgOut | Known::Malloc => &[Scalar::Int(Width::W64)],
-            Known::Putchar => &[Scalar::Int(Width::W32)],
-            Known::PthreadCreate => &[Scalar::Ptr, Scalar::Ptr, Scalar::Ptr, Scalar::Ptr],
-            Known::PthreadJoin => &[Scalar::Int(Width::W64), Scalar::Ptr],
-            Known::PthreadMutexInit | Known::PthreadCondInit | Known::PthreadCondWait => &[
-                Scalar::Ptr,
-                Scalar::Ptr,
-            ],
-            Known::PthreadBarrierInit => &[Scalar::Ptr, Scalar::Ptr, Scalar::Int(Width::W32)],
+            LibraryCall::PgInLen => &[],
+            LibraryCall::PgIn | LibraryCall::PgOut | LibraryCall::Malloc => &[Scalar::Int(
+                Width::W64,
+            )],
+            LibraryCall::Putchar => &[Scalar::Int(Width::W32)],
+            LibraryCall::PthreadCreate => &[Scalar::Ptr, Scalar::Ptr, Scalar::Ptr, Scalar::Ptr],
+            LibraryCall::PthreadJoin => &[Scalar::Int(Width::W64), Scalar::Ptr],
+            LibraryCall::PthreadMutexInit
+            | LibraryCall::PthreadCondInit
+            | LibraryCall::PthreadCondWait => &[Scalar::Ptr, Scalar::Ptr],
+            LibraryCall::PthreadBarrierInit => &[Scalar::Ptr, Scalar::Ptr, Scalar::Int(Width::W32)],
             _ => &[Scalar::Ptr],
         }
     }
@@ -32,9 +33,9 @@ impl Known {
         ensures { result ≡ returned_by self }
     {
         match self {
-            Known::PgIn | Known::PgInLen => Some(Scalar::Int(Width::W64)),
-            Known::PgOut | Known::Free | Known::PthreadExit => None,
-            Known::Malloc => Some(Scalar::Ptr),
+            LibraryCall::PgIn | LibraryCall::PgInLen => Some(Scalar::Int(Width::W64)),
+            LibraryCall::PgOut | LibraryCall::Free | LibraryCall::PthreadExit => None,
+            LibraryCall::Malloc => Some(Scalar::Ptr),
             _ => Some(Scalar::Int(Width::W32)),
         }
     }

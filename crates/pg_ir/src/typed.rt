@@ -4,14 +4,14 @@ ghost use Rattle.std.specs.Prelude.{◌≡◌, nat_lt, length};
 ghost use Rattle.std.specs.List.{list_all};
 ghost use Rattle.pg_num.specs.Numbers.{modulus};
 ghost use Rattle.pg_ir.specs.WellFormed.{width_of};
-ghost use Rattle.pg_ir.specs.TypeTests.{has_type, each_has_type, have_types, begins_thread, starts_thread, create_fits, known_fits, return_fits, has_width, both_have_type, binary_fits};
+ghost use Rattle.pg_ir.specs.TypeTests.{has_type, each_has_type, have_types, begins_thread, starts_thread, create_fits, library_fits, return_fits, has_width, both_have_type, binary_fits};
 ghost use Rattle.pg_ir.specs.TypeTests.{compared_fit, stored_fits, narrower, chosen_fit, incoming_fits, all_incoming_fit, cases_fit, indices_fit, call_fits, value_op_fits, cast_fits};
 ghost use Rattle.pg_ir.specs.TypeTests.{memory_op_fits, control_op_fits, op_fits};
 
 use crate::edge::{Case, Incoming};
 use crate::function::Function;
 use crate::instr::Op;
-use crate::known::Known;
+use crate::library_call::LibraryCall;
 use crate::parts::Parts;
 use crate::value::{Index, Scalar, Value};
 use pg_num::Width;
@@ -125,11 +125,11 @@ impl Parts {
         }
     }
 
-    fn known_fits(&self, types: &[Scalar], function: Known, args: &[Value]) -> bool
-        ensures { result ≡ known_fits self.now types.now function args.now }
+    fn library_fits(&self, types: &[Scalar], function: LibraryCall, args: &[Value]) -> bool
+        ensures { result ≡ library_fits self.now types.now function args.now }
     {
         match function {
-            Known::PthreadCreate => self.create_fits(types, args),
+            LibraryCall::PthreadCreate => self.create_fits(types, args),
             _ => self.have_types(types, function.parameters(), args),
         }
     }
@@ -353,9 +353,9 @@ impl Parts {
                 *function,
                 args.as_slice(),
             ),
-            Op::CallKnown { function, args } => {
+            Op::CallLibrary { function, args } => {
                 result_type == function.returned()
-                    && self.known_fits(types, *function, args.as_slice())
+                    && self.library_fits(types, *function, args.as_slice())
             }
             _ => false,
         }

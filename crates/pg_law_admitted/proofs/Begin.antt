@@ -9,8 +9,8 @@ use Rattle.pg_ir.specs.declared.ids.InstrId.{InstrId}
 use Rattle.pg_ir.specs.declared.instr.Instr.{Instr}
 use Rattle.pg_ir.specs.declared.instr.Op.{Op}
 use Rattle.pg_ir.specs.declared.instr.Op.TheVariants as op
-use Rattle.pg_ir.specs.declared.known.Known.{Known as KnownFunction}
-use Rattle.pg_ir.specs.declared.known.Known.TheVariants as known
+use Rattle.pg_ir.specs.declared.library_call.LibraryCall.{LibraryCall}
+use Rattle.pg_ir.specs.declared.library_call.LibraryCall.TheVariants as known
 use Rattle.pg_ir.specs.Program.{NumberedProgram, function_of}
 use Rattle.pg_ir.specs.WellFormed.{IsProgram}
 use Rattle.pg_run_memory.specs.Bytes.{number_of}
@@ -32,7 +32,7 @@ use Rattle.pg_run_trace.specs.declared.step.StepKind.{StepKind}
 use Rattle.pg_run_trace.specs.declared.step.StepKind.TheVariants as kinds
 use Rattle.pg_run_trace.specs.Races.{is_in}
 use Rattle.pg_run_trace.specs.Steps.{happening_in}
-use Rattle.pg_run.specs.MachineStep.{is_gated, kind_told, known_told, instr_told, number_in, op_told, operands_in, step_told}
+use Rattle.pg_run.specs.MachineStep.{is_gated, kind_told, library_told, instr_told, number_in, op_told, operands_in, step_told}
 use Rattle.pg_run.specs.State.{State, instr_of, next_of}
 use Rattle.pg_law_effects.specs.Effect.{answer_to}
 use Rattle.pg_law_effects.specs.Reached.{IsReached}
@@ -40,7 +40,7 @@ use Rattle.pg_law_effects.specs.Views.{cell_at, is_thread, local_at}
 use Rattle.pg_slice_rules.specs.Freeable.{FreeAccess, FreeRegion, region_at}
 use Rattle.pg_slice_rules.specs.Known.{Taken, is_branch, region_of, thread_of, top_of}
 use Rattle.pg_slice_rules.specs.Moments.{instr_in, number_in as moment_number, registers_in, thread_in}
-use Rattle.pg_slice_rules.specs.Rules.{all_of, frame_needs, free_access_needs, kind_in, region_needs_in, registers_before, root_shadow, access_needs_in, access_needs_by}
+use Rattle.pg_slice_rules.specs.Rules.{all_of, bounds_needs, free_access_needs, kind_in, region_needs_in, registers_before, root_shadow, access_needs_in, access_needs_by}
 use Rattle.pg_slice_rules.specs.Shadows.{Shadow, always, unset}
 use Rattle.pg_law_instances.specs.Free.{instance_of}
 use Rattle.pg_law_instances.specs.Inside.{IsAtBranch, IsBranch, registers_by}
@@ -65,7 +65,7 @@ use Rattle.pg_law_admitted.proofs.Paths.{follow, root_there}
 
 -- ---- a step that tells a branch is one
 
-known_no : (ns : List ℕ) (n c : ℕ) (k : KnownFunction) → known_told ns n k ≡ kinds.Branch c → ⊥
+known_no : (ns : List ℕ) (n c : ℕ) (k : LibraryCall) → library_told ns n k ≡ kinds.Branch c → ⊥
 known_no ns n c known.Malloc e = absurd cc
 known_no ns n c k e = absurd cc
 
@@ -73,7 +73,7 @@ branch_op : (ns : List ℕ) (n c : ℕ) (o : Op) → op_told ns n o ≡ kinds.Br
 branch_op ns n c (op.CondBr v a b) e = tt
 branch_op ns n c (op.Switch w on other cs) e = tt
 branch_op ns n c (op.Alloca b) e = absurd cc
-branch_op ns n c (op.CallKnown k args) e = absurd (known_no ns n c k e)
+branch_op ns n c (op.CallLibrary k args) e = absurd (known_no ns n c k e)
 branch_op ns n c o e = absurd cc
 
 pub branch_told : (gated : List InstrId) (p : NumberedProgram) (s : State) (t : ℕ) (ns : List ℕ) (a n c : ℕ) (x : Instr) (action : Action) → slice_get p.instrs (instr_of s t) ≡ Some x
@@ -195,7 +195,7 @@ module _ (r : ReferenceRun) (d : Taken) (input : List ℤ) (u : PlanUnit) (unit 
     pub freed_here : Freed r.program (λ i. is_gated r.gated i) sums are.found u.seen.moment both.x.block.0 step_free.free
     freed_here = freed r.program (λ i. is_gated r.gated i) sums r.regions are u.seen.moment both.x.block.0 step_free.free region_is
 
-    needs_are : frame_needs (reference_of r) u.seen ≡ all_of (free_access_needs r.program u.seen) step_free.free.accesses
+    needs_are : bounds_needs (reference_of r) u.seen ≡ all_of (free_access_needs r.program u.seen) step_free.free.accesses
     needs_are =
         ap (λ (i : Option Instr). access_needs_in r.program u.seen i ++ (if u.seen.live then region_needs_in r.program u.seen u.seen.region else [])) instr_is
         ∙ ap (λ (b : Bool). (if b then access_needs_by r.program u.seen both.x (kind_in u.seen) else []) ++ (if b then region_needs_in r.program u.seen u.seen.region else [])) unit.live
@@ -203,7 +203,7 @@ module _ (r : ReferenceRun) (d : Taken) (input : List ℤ) (u : PlanUnit) (unit 
         ∙ ap (region_needs_in r.program u.seen) step_free.region
 
     needs_of : (a : FreeAccess) → Contains step_free.free.accesses a → AllOf (Holds input) (free_access_needs r.program u.seen a)
-    needs_of a c = asked_of (Holds input) (free_access_needs r.program u.seen) step_free.free.accesses a (subst (AllOf (Holds input)) needs_are good.frames) c
+    needs_of a c = asked_of (Holds input) (free_access_needs r.program u.seen) step_free.free.accesses a (subst (AllOf (Holds input)) needs_are good.bounds) c
 
     -- a byte that is read is alike
     byte_like : (b : ℕ) → reads_cell d u.seen b ≡ true → IsCellLike input (u.seen.before.bytes b) (byte_at st.memory b)

@@ -7,8 +7,8 @@ use Rattle.std.proofs.lemmas.List.Elements.{Contains-append_cases, Contains-appe
 use Rattle.pg_ir.specs.declared.instr.Instr.{Instr}
 use Rattle.pg_ir.specs.declared.instr.Op.{Op}
 use Rattle.pg_ir.specs.declared.instr.Op.TheVariants as op
-use Rattle.pg_ir.specs.declared.known.Known.{Known}
-use Rattle.pg_ir.specs.declared.known.Known.TheVariants as known
+use Rattle.pg_ir.specs.declared.library_call.LibraryCall.{LibraryCall}
+use Rattle.pg_ir.specs.declared.library_call.LibraryCall.TheVariants as known
 use Rattle.pg_ir.specs.declared.value.Scalar.{Scalar}
 use Rattle.pg_ir.specs.declared.value.Value.{Value}
 use Rattle.pg_ir.specs.declared.value.Value.TheVariants as value
@@ -268,7 +268,7 @@ module _ (all : RootedList) (is_set : ℕ → Bool) (types : List Scalar) where
           let k = gathered_source (λ (a : Rooted). called_access (register_path is_set types before) args a a.path.root) ys xs a is c in
           from_root k.0 a k.0.path.root k.2.0 k.1 refl k.2.1 k.2.2 l b
 
-    known_none : (k : Known) (xs : RootedList) → known_accesses k ≡ Some xs → Reads xs
+    known_none : (k : LibraryCall) (xs : RootedList) → known_accesses k ≡ Some xs → Reads xs
     known_none known.PgIn xs e a c l b = let i : [] ≡ xs = cc in absurd (none_in a (subst (λ (z : RootedList). Contains z a) (sym i) c))
     known_none known.PgInLen xs e a c l b = let i : [] ≡ xs = cc in absurd (none_in a (subst (λ (z : RootedList). Contains z a) (sym i) c))
     known_none k xs e a c l b = absurd cc
@@ -290,7 +290,7 @@ module _ (all : RootedList) (is_set : ℕ → Bool) (types : List Scalar) where
     op_sound before h i (op.Load w from) xs e k sub = access_sound before h i (gated i) false from (value_path (register_path is_set types before) from) xs refl e
     op_sound before h i (op.Store w v at) xs e k sub = access_sound before h i (gated i) true at (value_path (register_path is_set types before) at) xs refl e
     op_sound before h i (op.Call g args) xs e k sub = called_by before h args (sums g) xs e (λ ys q. k g args refl ys q) sub
-    op_sound before h i (op.CallKnown c args) xs e k sub = known_none c xs e
+    op_sound before h i (op.CallLibrary c args) xs e k sub = known_none c xs e
     op_sound before h i (op.Alloca n) xs e k sub = absurd cc
     op_sound before h i (op.Ret v) xs e k sub = return_none m xs e
     op_sound before h i o xs e k sub = nothing xs e

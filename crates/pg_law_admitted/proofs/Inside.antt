@@ -8,20 +8,20 @@ use Rattle.pg_ir.specs.declared.ids.InstrId.{InstrId}
 use Rattle.pg_ir.specs.declared.instr.Instr.{Instr}
 use Rattle.pg_ir.specs.declared.instr.Op.{Op}
 use Rattle.pg_ir.specs.declared.instr.Op.TheVariants as op
-use Rattle.pg_ir.specs.declared.known.Known.{Known}
-use Rattle.pg_ir.specs.declared.known.Known.TheVariants as known
+use Rattle.pg_ir.specs.declared.library_call.LibraryCall.{LibraryCall}
+use Rattle.pg_ir.specs.declared.library_call.LibraryCall.TheVariants as known
 use Rattle.pg_ir.specs.declared.value.Value.{Value}
 use Rattle.pg_ir.specs.Edges.{case_of, is_phi}
 use Rattle.pg_ir.specs.Program.{NumberedProgram}
 use Rattle.pg_ir.specs.WellFormed.{granules_for}
 use Rattle.pg_run_thread.specs.declared.action.Action.{Action}
 use Rattle.pg_run_thread.specs.declared.action.Action.TheVariants as actions
-use Rattle.pg_run_thread.specs.declared.region.Region.{Region}
+use Rattle.pg_run_thread.specs.declared.thread_memory.ThreadMemory.{ThreadMemory}
 use Rattle.pg_run_thread.specs.Compute.{chosen}
 use Rattle.pg_run_thread.specs.LocalState.{Frame, LocalState}
 use Rattle.pg_run_thread.specs.Operands.{operand, operands_of}
 use Rattle.pg_run_thread.specs.States.{AreFramesOf, StandsAt}
-use Rattle.pg_run_thread.specs.Step.{bytes_of, frames_action, has_room, instr_action, known_action, next, op_action, return_action}
+use Rattle.pg_run_thread.specs.Step.{bytes_of, frames_action, has_room, instr_action, library_action, next, op_action, return_action}
 use Rattle.pg_run_thread.specs.Told.{id_of}
 use Rattle.pg_run.specs.MachineStep.{is_ended, is_gated}
 use Rattle.pg_run.specs.State.{State}
@@ -38,7 +38,7 @@ use Rattle.pg_law_runs.specs.Deeds.{is_event_at, local_event}
 abbrev IsOpen : Action → Type 0
 IsOpen a = is_ended a ≡ false
 
-open_known : (p : NumberedProgram) (t : ℕ) (h : Bool) (rs : List (Option ℕ)) (k : Known) (args : List Value) → IsOpen (known_action p t h rs k args)
+open_known : (p : NumberedProgram) (t : ℕ) (h : Bool) (rs : List (Option ℕ)) (k : LibraryCall) (args : List Value) → IsOpen (library_action p t h rs k args)
 open_known p t h rs known.PgIn args = number_is IsOpen p rs args _ (λ n. refl) (λ n. refl)
 open_known p t h rs known.PgInLen args = refl
 open_known p t h rs known.PgOut args = number_is IsOpen p rs args _ (λ n. refl) (λ n. refl)
@@ -65,7 +65,7 @@ open_known p t h rs known.PthreadBarrierDestroy args = object_is IsOpen p rs arg
 open_return : (depth n : ℕ) → IsOpen (return_action depth n)
 open_return depth n = either IsOpen (depth == 1) _ _ refl refl
 
-open_op : (p : NumberedProgram) (r : Region) (h : Bool) (rs : List (Option ℕ)) (depth used block : ℕ) (o : Op) → is_phi o ≡ false → IsOpen (op_action p r h rs depth used block o)
+open_op : (p : NumberedProgram) (r : ThreadMemory) (h : Bool) (rs : List (Option ℕ)) (depth used block : ℕ) (o : Op) → is_phi o ≡ false → IsOpen (op_action p r h rs depth used block o)
 open_op p r h rs depth used block (op.Divide d w a b) n = on_value_is IsOpen (operand p rs a) _ (λ n. refl)
     (λ m e. on_value_is IsOpen (operand p rs b) _ (λ n. refl) (λ n f. divided_is IsOpen (divided d w m n) (λ n. refl) refl))
 open_op p r h rs depth used block (op.Phi from) n = absurd (true≢false n)
@@ -80,7 +80,7 @@ open_op p r h rs depth used block (op.Alloca bytes) n = room_is IsOpen (has_room
 open_op p r h rs depth used block (op.Load w from) n = on_value_is IsOpen (operand p rs from) _ (λ n. refl) (λ a e. on_place_is IsOpen a (bytes_of w) _ (λ n. refl) (λ q k. refl))
 open_op p r h rs depth used block (op.Store w v at) n = on_value_is IsOpen (operand p rs v) _ (λ n. refl)
     (λ n e. on_value_is IsOpen (operand p rs at) _ (λ n. refl) (λ a f. on_place_is IsOpen a (bytes_of w) _ (λ n. refl) (λ q k. refl)))
-open_op p r h rs depth used block (op.CallKnown k args) n = open_known p r.thread h rs k args
+open_op p r h rs depth used block (op.CallLibrary k args) n = open_known p r.thread h rs k args
 open_op p r h rs depth used block o n = on_all_is IsOpen p rs (operands_of o) _ (λ n. refl) refl
 
 open_instr : (p : NumberedProgram) (l : LocalState) (f : Frame) (fs : List Frame) (o : Option Instr) → StandsAt p f.function o → IsOpen (instr_action p l f fs o)

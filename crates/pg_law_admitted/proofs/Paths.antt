@@ -1,4 +1,4 @@
--- Where what is asked of a region's paths holds on an input, they lead to the recorded frames there.
+-- Where what is asked of a region's paths holds on an input, they lead to the recorded bounds there.
 use Rattle.std.proofs.Common.{◌≡◌, ℕ, ℤ, ◌*◌, true, List, [], ◌∷◌, Option, Some, None, Result, Ok, Err, refl, sym, ap, ◌∙◌, subst, inl, inr, ◌⊎◌}
 use Rattle.std.specs.Prelude.{pos, Contains, option_and_then}
 use Rattle.std.specs.List.{AllByRecursion as AllOf}
@@ -14,21 +14,21 @@ use Rattle.pg_region_paths.specs.Followed.{Followed, behind, cell_at, cell_in, f
 use Rattle.pg_region_paths.proofs.Elements.{cases, here, there, none_in}
 use Rattle.pg_run_trace.specs.Races.{is_in}
 use Rattle.pg_run.proofs.Named.{place_is}
-use Rattle.pg_slice_rules.specs.Freeable.{frame_of}
-use Rattle.pg_slice_rules.specs.Rules.{Frame, moved_shadow, path_needs, same_frame, value_of}
-use Rattle.pg_slice_rules.specs.Shadows.{OnInput, Shadow, Known, Framed, Unknown, loaded}
-use Rattle.pg_law_plan.specs.Likes.{HaveOneFrame, IsCellLike, IsFramed, IsInFrame, IsLike}
-use Rattle.pg_law_plan.proofs.Accesses.{framed_same, loaded_like}
+use Rattle.pg_slice_rules.specs.Freeable.{bounds_of}
+use Rattle.pg_slice_rules.specs.Rules.{Bounds, moved_shadow, path_needs, same_bounds, value_of}
+use Rattle.pg_slice_rules.specs.Shadows.{OnInput, Shadow, Known, Bounded, Unknown, loaded}
+use Rattle.pg_law_plan.specs.Likes.{HaveSameBounds, IsCellLike, HasBoundsIfAny, HasBoundsOf, IsLike}
+use Rattle.pg_law_plan.proofs.Accesses.{bounded_same, loaded_like}
 use Rattle.pg_law_plan.proofs.Branches.{eq_met}
 use Rattle.pg_law_plan.proofs.Good.{Holds}
 
 -- ---- one load
 
-one_frame : (word n : ℕ) → HaveOneFrame word n → frame_of n ≡ frame_of word
-one_frame word n h = ap (λ (s : ℕ). record { start = 8 * s; bytes = (pointer_of n).length }) h.start ∙ ap (λ (l : ℕ). record { start = 8 * (pointer_of word).start; bytes = l }) h.length
+equal_bounds : (word n : ℕ) → HaveSameBounds word n → bounds_of n ≡ bounds_of word
+equal_bounds word n h = ap (λ (s : ℕ). record { start = 8 * s; bytes = (pointer_of n).length }) h.start ∙ ap (λ (l : ℕ). record { start = 8 * (pointer_of word).start; bytes = l }) h.length
 
-pub moved_frame : (word k : ℕ) → frame_of (moved_by word (pos k)) ≡ frame_of word
-moved_frame word k = one_frame word (moved_by word (pos k)) (record { start = start-moved_by word (pos k); length = length-moved_by word (pos k) })
+pub moved_bounds : (word k : ℕ) → bounds_of (moved_by word (pos k)) ≡ bounds_of word
+moved_bounds word k = equal_bounds word (moved_by word (pos k)) (record { start = start-moved_by word (pos k); length = length-moved_by word (pos k) })
 
 met_number : (n : ℕ) (o : Option ℕ) → is_met (test.Eq n) o ≡ true → o ≡ Some n
 met_number n None h = absurd (true≢false (sym h))
@@ -39,7 +39,7 @@ moved_value : (input : List ℤ) (k : ℕ) (s : Shadow) (f : OnInput) (w : ℕ) 
 moved_value input k (Known g u) f w e h =
     let same : (λ i. with_one (g i) (λ word. Some (moved_by word (pos k)))) ≡ f = (let q : Some (λ (i : List ℤ). with_one (g i) (λ word. Some (moved_by word (pos k)))) ≡ Some f = e in cc) in
     sym (ap (λ (z : OnInput). z input) same) ∙ sym (ap (λ (o : Option ℕ). with_one o (λ word. Some (moved_by word (pos k)))) h.0)
-moved_value input k (Framed g x) f w e h = absurd cc
+moved_value input k (Bounded g x) f w e h = absurd cc
 moved_value input k (Unknown x) f w e h = absurd cc
 
 pub cell_of : (o : Result ByteRange PlaceFault) (c : ByteRange) → cell_in o ≡ Some c → o ≡ Ok c
@@ -70,21 +70,21 @@ loads_of recorded w0 k ks g e = by_cell (cell_at w0 k) refl e
 
 -- ---- whole paths
 
--- followed from a word now, a path leads to the recorded frame, by pointers with recorded frames
+-- followed from a word now, a path leads to the recorded bounds, by pointers with recorded bounds
 pub record Follows (now : ByteRange → ℕ) (ks : List ℕ) (w : ℕ) (g : Followed) : Type 0 where
   pub at : Followed
   pub is : followed_from now w ks ≡ Some at
-  pub last : frame_of at.last ≡ frame_of g.last
-  pub pointers : (v : ℕ) → Contains at.pointers v → (v0 : ℕ) × Contains g.pointers v0 × (frame_of v ≡ frame_of v0)
+  pub last : bounds_of at.last ≡ bounds_of g.last
+  pub pointers : (v : ℕ) → Contains at.pointers v → (v0 : ℕ) × Contains g.pointers v0 × (bounds_of v ≡ bounds_of v0)
 
 tail_pointers : (recorded : ByteRange → ℕ) (g : Followed) (w w0 k : ℕ) (ks : List ℕ) (l : Loads recorded w0 k ks g) (at : Followed)
-    → ((v : ℕ) → Contains at.pointers v → (v0 : ℕ) × Contains l.more.pointers v0 × (frame_of v ≡ frame_of v0)) → moved_by w (pos k) ≡ moved_by w0 (pos k) →
-    (v : ℕ) → Contains (w ∷ at.pointers) v → (v0 : ℕ) × Contains g.pointers v0 × (frame_of v ≡ frame_of v0)
-tail_pointers recorded g w w0 k ks l at points same v i = subst (λ (z : List ℕ). (v0 : ℕ) × Contains z v0 × (frame_of v ≡ frame_of v0)) (ap (λ (z : Followed). z.pointers) l.whole)
+    → ((v : ℕ) → Contains at.pointers v → (v0 : ℕ) × Contains l.more.pointers v0 × (bounds_of v ≡ bounds_of v0)) → moved_by w (pos k) ≡ moved_by w0 (pos k) →
+    (v : ℕ) → Contains (w ∷ at.pointers) v → (v0 : ℕ) × Contains g.pointers v0 × (bounds_of v ≡ bounds_of v0)
+tail_pointers recorded g w w0 k ks l at points same v i = subst (λ (z : List ℕ). (v0 : ℕ) × Contains z v0 × (bounds_of v ≡ bounds_of v0)) (ap (λ (z : Followed). z.pointers) l.whole)
     (go (cases w at.pointers v i))
   where
-    go : (w ≡ v) ⊎ Contains at.pointers v → (v0 : ℕ) × Contains (w0 ∷ l.more.pointers) v0 × (frame_of v ≡ frame_of v0)
-    go (inl e) = (w0, here w0 l.more.pointers, sym (ap frame_of e) ∙ sym (moved_frame w k) ∙ ap frame_of same ∙ moved_frame w0 k)
+    go : (w ≡ v) ⊎ Contains at.pointers v → (v0 : ℕ) × Contains (w0 ∷ l.more.pointers) v0 × (bounds_of v ≡ bounds_of v0)
+    go (inl e) = (w0, here w0 l.more.pointers, sym (ap bounds_of e) ∙ sym (moved_bounds w k) ∙ ap bounds_of same ∙ moved_bounds w0 k)
     go (inr c) = let q = points v c in (q.0, there w0 l.more.pointers q.0 q.1, q.2)
 
 module _ (input : List ℤ) (bytes : ℕ → Shadow) (memory : ℕ → ℕ) (recorded now : ByteRange → ℕ) (is_now : (c : ByteRange) → now c ≡ number_of memory c.start c.bytes) where
@@ -102,7 +102,7 @@ module _ (input : List ℤ) (bytes : ℕ → Shadow) (memory : ℕ → ℕ) (rec
   follow [] s w0 w g e h needs cells = record {
     at = record { pointers = []; cells = []; last = w };
     is = refl;
-    last = one_frame g.last w (framed_same input s needs.0.0 g.last w needs.0.1 h needs.0.2);
+    last = equal_bounds g.last w (bounded_same input s needs.0.0 g.last w needs.0.1 h needs.0.2);
     pointers = λ v c. absurd (none_in v c);
   }
   follow (k ∷ ks) s w0 w g e h needs cells = go (loads_of recorded w0 k ks g e) (λ s2 u0 u g2 e2 h2 n2 c2. follow ks s2 u0 u g2 e2 h2 n2 c2)
@@ -122,34 +122,34 @@ module _ (input : List ℤ) (bytes : ℕ → Shadow) (memory : ℕ → ℕ) (rec
           record {
             at = record { pointers = w ∷ r.at.pointers; cells = l.cell ∷ r.at.cells; last = r.at.last };
             is = ap (λ (o : Option ByteRange). option_and_then (λ (d : ByteRange). behind w d (followed_from now (now d) ks)) o) cell ∙ ap (behind w l.cell) r.is;
-            last = r.last ∙ ap (λ (z : Followed). frame_of z.last) l.whole;
+            last = r.last ∙ ap (λ (z : Followed). bounds_of z.last) l.whole;
             pointers = tail_pointers recorded g w w0 k ks l r.at r.pointers same;
           }
 
   -- ---- the root
 
-  met_some : (word : ℕ) (o : Option ℕ) → is_met (same_frame word) o ≡ true → (n : ℕ) × (o ≡ Some n)
+  met_some : (word : ℕ) (o : Option ℕ) → is_met (same_bounds word) o ≡ true → (n : ℕ) × (o ≡ Some n)
   met_some word None h = absurd (true≢false (sym h))
   met_some word (Some n) h = (n, refl)
 
-  in_some : (word : ℕ) (v : Option ℕ) → IsInFrame (Some word) v → (w : ℕ) × (v ≡ Some w)
+  in_some : (word : ℕ) (v : Option ℕ) → HasBoundsOf (Some word) v → (w : ℕ) × (v ≡ Some w)
   in_some word None h = absurd h
   in_some word (Some w) h = (w, refl)
 
-  framed_some : (word : ℕ) (v : Option ℕ) → IsFramed (Some word) v → (w : ℕ) × (v ≡ Some w)
-  framed_some word None h = absurd cc
-  framed_some word (Some w) h = (w, refl)
+  bounded_some : (word : ℕ) (v : Option ℕ) → HasBoundsIfAny (Some word) v → (w : ℕ) × (v ≡ Some w)
+  bounded_some word None h = absurd cc
+  bounded_some word (Some w) h = (w, refl)
 
-  frame_root : (s : Shadow) (v : Option ℕ) (last : ℕ) → IsLike input s v → Holds input (Frame s (same_frame last)) → (w : ℕ) × (v ≡ Some w)
-  frame_root (Known g u) v last h n =
+  bounds_root : (s : Shadow) (v : Option ℕ) (last : ℕ) → IsLike input s v → Holds input (Bounds s (same_bounds last)) → (w : ℕ) × (v ≡ Some w)
+  bounds_root (Known g u) v last h n =
       let same : u ≡ n.0 = (let q : Some u ≡ Some n.0 = n.1 in cc) in
       let m = met_some last (n.0 input) n.2 in
-      framed_some m.0 v (subst (λ (o : Option ℕ). IsFramed o v) (ap (λ (z : OnInput). z input) same ∙ m.1) h.1)
-  frame_root (Framed g x) v last h n =
+      bounded_some m.0 v (subst (λ (o : Option ℕ). HasBoundsIfAny o v) (ap (λ (z : OnInput). z input) same ∙ m.1) h.1)
+  bounds_root (Bounded g x) v last h n =
       let same : g ≡ n.0 = (let q : Some g ≡ Some n.0 = n.1 in cc) in
       let m = met_some last (n.0 input) n.2 in
-      in_some m.0 v (subst (λ (o : Option ℕ). IsInFrame o v) (ap (λ (z : OnInput). z input) same ∙ m.1) h)
-  frame_root (Unknown x) v last h n = absurd (no_word n.0 n.1)
+      in_some m.0 v (subst (λ (o : Option ℕ). HasBoundsOf o v) (ap (λ (z : OnInput). z input) same ∙ m.1) h)
+  bounds_root (Unknown x) v last h n = absurd (no_word n.0 n.1)
     where
       no_word : (f : OnInput) → Path (Option OnInput) None (Some f) → ⊥
       no_word f e = absurd cc
@@ -164,13 +164,13 @@ module _ (input : List ℤ) (bytes : ℕ → Shadow) (memory : ℕ → ℕ) (rec
       (let q : Some (λ (i : List ℤ). with_one (g i) (λ word. Some (moved_by word (pos k)))) ≡ Some f = e in cc) in
       let q = one_there (g input) k n (ap (λ (z : OnInput). z input) same ∙ m) in
       (q.0, h.0 ∙ q.1)
-  value_root (Framed g x) v k n f h e m = absurd cc
+  value_root (Bounded g x) v k n f h e m = absurd cc
   value_root (Unknown x) v k n f h e m = absurd cc
 
   -- what is asked of a path asks that its root has a value
   pub root_there : (ks : List ℕ) (s : Shadow) (v : Option ℕ) (w0 : ℕ) (g : Followed) → followed_from recorded w0 ks ≡ Some g → IsLike input s v
       → AllOf (Holds input) (path_needs bytes s ks g.pointers g.cells g.last) → (w : ℕ) × (v ≡ Some w)
-  root_there [] s v w0 g e h needs = frame_root s v g.last h needs.0
+  root_there [] s v w0 g e h needs = bounds_root s v g.last h needs.0
   root_there (k ∷ ks) s v w0 g e h needs =
       let l = loads_of recorded w0 k ks g e in
       let n = subst (λ (z : Followed). AllOf (Holds input) (path_needs bytes s (k ∷ ks) z.pointers z.cells z.last)) (sym l.whole) needs in

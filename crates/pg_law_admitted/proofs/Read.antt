@@ -27,10 +27,10 @@ use Rattle.pg_run_trace.specs.Races.{is_in}
 use Rattle.pg_run_trace.specs.Steps.{access_in}
 use Rattle.pg_run.specs.MachineStep.{is_gated}
 use Rattle.pg_law_effects.specs.Views.{is_thread}
-use Rattle.pg_slice_rules.specs.Freeable.{FreeAccess, FreeRegion, frame_of}
+use Rattle.pg_slice_rules.specs.Freeable.{FreeAccess, FreeRegion, bounds_of}
 use Rattle.pg_slice_rules.specs.Known.{Taken}
 use Rattle.pg_slice_rules.specs.Moments.{number_in, registers_in, thread_in}
-use Rattle.pg_slice_rules.specs.Rules.{Footprint, prints_in}
+use Rattle.pg_slice_rules.specs.Rules.{Footprint, footprints_in}
 use Rattle.pg_law_instances.specs.Inside.{registers_by}
 use Rattle.pg_law_instances.proofs.Free.{followed_at}
 use Rattle.pg_law_instances.proofs.Freed.{source_of}
@@ -39,12 +39,12 @@ use Rattle.pg_slice_replay.specs.OfRegions.{AreRegions}
 use Rattle.pg_law_plan.specs.Units.{PlanUnit, ReferenceRun, access_touch, is_instance, is_read_in, reads_cell, units_of, word_read}
 use Rattle.pg_law_plan.specs.Order.{IsOrderedRun}
 use Rattle.pg_law_plan.proofs.Along.{IsUnit, all_units}
-use Rattle.pg_law_plan.proofs.Placed.{in_frame, place_range}
+use Rattle.pg_law_plan.proofs.Placed.{in_bounds, place_range}
 use Rattle.pg_law_admitted.specs.Covered.{HasLoad, IsCovered, before_last}
 use Rattle.pg_law_admitted.specs.Free.{PathsAreRead, ReadsPaths, accesses_of}
 use Rattle.pg_law_admitted.proofs.Covered.{quiet_covered, some_loads}
 use Rattle.pg_law_admitted.proofs.LeftFree as left_free
-use Rattle.pg_law_admitted.proofs.Paths.{cell_of, loads_of, moved_frame}
+use Rattle.pg_law_admitted.proofs.Paths.{cell_of, loads_of, moved_bounds}
 use Rattle.pg_law_admitted.proofs.Whole.{some_map}
 
 -- ---- a path followed but for its last load
@@ -143,19 +143,19 @@ module _ (p : NumberedProgram) (registers : ℕ → Option ℕ) (memory : ByteRa
   read_cells zero a i le g e c d = one_cell a i g e c d (λ b j k h f z. absurd (omega (arith, k, le)))
   read_cells (suc n) a i le g e c d = one_cell a i g e c d (λ b j k h f z. read_cells n b j (omega (arith, k, le)) h f c z)
 
--- ---- in the frame of its pointer
+-- ---- in the bounds of its pointer
 
-in_pointer : (w k : ℕ) (c : ByteRange) (b : ℕ) → cell_at w k ≡ Some c → is_in c b ≡ true → (is_in (frame_of w) b ≡ true) × (b < MEMORY_BYTES)
+in_pointer : (w k : ℕ) (c : ByteRange) (b : ℕ) → cell_at w k ≡ Some c → is_in c b ≡ true → (is_in (bounds_of w) b ≡ true) × (b < MEMORY_BYTES)
 in_pointer w k c b h i =
     let v = moved_by w (pos k) in
     let place = cell_of (place_of v 8) c h in
     let acc : Access = record { pointer = v; number = 0; bytes = 8; writes = false; event = false } in
     let range = place_range v 8 c place in
     let same : record { start = byte_place v; bytes = 8 } ≡ c = place_is v 8 c place in
-    let in_v = in_frame acc b range (ap (λ (z : ByteRange). is_in z b) same ∙ i) in
+    let in_v = in_bounds acc b range (ap (λ (z : ByteRange). is_in z b) same ∙ i) in
     let u = leb-true (byte_place v + 8) MEMORY_BYTES (and_parts (nat_le ((pointer_of v).offset + 8) (pointer_of v).length) (nat_le (byte_place v + 8) MEMORY_BYTES) range).1 in
     let z = ltb-true b (byte_place v + 8) (and_parts (nat_le (byte_place v) b) (nat_lt b (byte_place v + 8)) (ap (λ (z : ByteRange). is_in z b) same ∙ i)).1 in
-    (ap (λ (z : ByteRange). is_in z b) (sym (moved_frame w k)) ∙ in_v, omega (arith, u, z))
+    (ap (λ (z : ByteRange). is_in z b) (sym (moved_bounds w k)) ∙ in_v, omega (arith, u, z))
 
 -- ---- units
 
@@ -165,15 +165,15 @@ module _ (r : ReferenceRun) (d : Taken) (program : IsProgram r.program) (sums : 
   abbrev q : FreeRegion
   q = (left_free.free_step r d program sums are summaries u.seen u.state unit.met.takes unit.met.reached unit.met.calls unit.met.bytes unit.met.region free).free
 
-  reads_there : (c : ℕ) → c < MEMORY_BYTES → list_any (λ f. is_read_in f c) (prints_in (Some q)) ≡ true → reads_cell d u.seen c ≡ true
+  reads_there : (c : ℕ) → c < MEMORY_BYTES → list_any (λ f. is_read_in f c) (footprints_in (Some q)) ≡ true → reads_cell d u.seen c ≡ true
   reads_there c lt h =
       let f = left_free.free_step r d program sums are summaries u.seen u.state unit.met.takes unit.met.reached unit.met.calls unit.met.bytes unit.met.region free in
       ap (λ (k : StepKind). if nat_lt c MEMORY_BYTES then list_any (λ f. is_read_in f c)
-      (access_touch d u.seen.number (access_in k) ++ (if is_instance d u.seen then prints_in u.seen.region else [])) else is_thread (word_read (thread_in u.seen.moment) k)
+      (access_touch d u.seen.number (access_in k) ++ (if is_instance d u.seen then footprints_in u.seen.region else [])) else is_thread (word_read (thread_in u.seen.moment) k)
       (c - MEMORY_BYTES)) f.kind
-      ∙ ap (λ (y : Bool). if y then list_any (λ f. is_read_in f c) (if is_instance d u.seen then prints_in u.seen.region else []) else false) (lt-ltb c MEMORY_BYTES lt)
-      ∙ ap (λ (y : Bool). list_any (λ f. is_read_in f c) (if y then prints_in u.seen.region else [])) free
-      ∙ ap (λ (z : Option FreeRegion). list_any (λ f. is_read_in f c) (prints_in z)) f.region ∙ h
+      ∙ ap (λ (y : Bool). if y then list_any (λ f. is_read_in f c) (if is_instance d u.seen then footprints_in u.seen.region else []) else false) (lt-ltb c MEMORY_BYTES lt)
+      ∙ ap (λ (y : Bool). list_any (λ f. is_read_in f c) (if y then footprints_in u.seen.region else [])) free
+      ∙ ap (λ (z : Option FreeRegion). list_any (λ f. is_read_in f c) (footprints_in z)) f.region ∙ h
 
   paths_read : (a : FreeAccess) → Contains (accesses_of u.seen.region) a → (c : ByteRange) → Contains a.at.cells c → (b : ℕ) → is_in c b ≡ true → reads_cell d u.seen b ≡ true
   paths_read a i c k b h =
@@ -188,9 +188,9 @@ module _ (r : ReferenceRun) (d : Taken) (program : IsProgram r.program) (sums : 
       let same : w.0 ≡ z.at = (let y : Some w.0 ≡ Some z.at = sym w.1 ∙ z.is in cc) in
       let at = in_pointer z.at.last z.offset c b z.cell h in
       reads_there b at.1
-      (some_map (λ (f : Footprint). is_read_in f b) (λ (x : FreeAccess). record { bytes = frame_of x.at.last; writes = x.writes }) q.accesses
+      (some_map (λ (f : Footprint). is_read_in f b) (λ (x : FreeAccess). record { bytes = bounds_of x.at.last; writes = x.writes }) q.accesses
       (record { writes = z.access.writes; path = z.access.path; at = w.0 }) w.2
-      (and_from (not z.access.writes) (is_in (frame_of w.0.last) b) (ap not z.reads) (ap (λ (y : Followed). is_in (frame_of y.last) b) same ∙ at.0)))
+      (and_from (not z.access.writes) (is_in (bounds_of w.0.last) b) (ap not z.reads) (ap (λ (y : Followed). is_in (bounds_of y.last) b) same ∙ at.0)))
 
 pub paths_are_read : (r : ReferenceRun) (d : Taken) (o : IsOrderedRun r) (sums : ℕ → Option RootedList) (are : AreRegions r.program (λ i. is_gated r.gated i) sums r.regions)
     (summaries : AreSummaries r.program (λ i. is_gated r.gated i) sums) → PathsAreRead r d

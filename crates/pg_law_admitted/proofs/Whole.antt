@@ -40,10 +40,10 @@ use Rattle.pg_law_effects.proofs.Reaches.{reached_run}
 use Rattle.pg_law_runs.proofs.Tells.{told}
 use Rattle.pg_slice_rules.specs.declared.decision.Decision.{Decision}
 use Rattle.pg_slice_rules.specs.declared.decision.Decision.TheVariants.{Pinned}
-use Rattle.pg_slice_rules.specs.Freeable.{FreeAccess, FreeRegion, frame_of}
+use Rattle.pg_slice_rules.specs.Freeable.{FreeAccess, FreeRegion, bounds_of}
 use Rattle.pg_slice_rules.specs.Known.{Taken, after_op, forgotten_from, region_of, result_in, thread_of}
 use Rattle.pg_slice_rules.specs.Moments.{Moment, instr_in, thread_in}
-use Rattle.pg_slice_rules.specs.Rules.{Footprint, prints_in}
+use Rattle.pg_slice_rules.specs.Rules.{Footprint, footprints_in}
 use Rattle.pg_slice_rules.specs.Shadows.{Shadow, Unknown}
 use Rattle.pg_law_instances.specs.Inside.{Instance, IsAtJoin, IsBranch, registers_by}
 use Rattle.pg_law_instances.specs.Leads.{IsReached as LeadsTo, IsWithin}
@@ -114,14 +114,14 @@ run_in_memory r input s z (x ∷ xs) h = (within, run_in_memory r input h.0.afte
     within b (inl e) = (told r.gated r.program input s none_taken x h.0).read_within b e
     within b (inr e) = (told r.gated r.program input s none_taken x h.0).written_within b e
 
-in_range : (q frame : ByteRange) (b : ℕ) → IsWithin q frame → is_in q b ≡ true → is_in frame b ≡ true
-in_range q frame b w h =
+in_range : (q bounds : ByteRange) (b : ℕ) → IsWithin q bounds → is_in q b ≡ true → is_in bounds b ≡ true
+in_range q bounds b w h =
     let v = and_parts (nat_le q.start b) (nat_lt b (q.start + q.bytes)) h in
     let i = leb-true q.start b v.0 in
     let j = ltb-true b (q.start + q.bytes) v.1 in
     let x = w.from in
     let y = w.end in
-    and_from (nat_le frame.start b) (nat_lt b (frame.start + frame.bytes)) (le-leb frame.start b (omega (arith, i, x))) (lt-ltb b (frame.start + frame.bytes) (omega (arith, j, y)))
+    and_from (nat_le bounds.start b) (nat_lt b (bounds.start + bounds.bytes)) (le-leb bounds.start b (omega (arith, i, x))) (lt-ltb b (bounds.start + bounds.bytes) (omega (arith, j, y)))
 
 pub some_map : {A B : Type 0} (f : B → Bool) (g : A → B) (xs : List A) (x : A) → Contains xs x → f (g x) ≡ true → list_any f (map g xs) ≡ true
 some_map f g [] x c h = absurd (none_in x c)
@@ -135,32 +135,32 @@ some_map f g (y ∷ xs) x c h = go (cases y xs x c) (some_map f g xs x)
         any_true true = refl
         any_true false = refl
 
--- an access that leads to the frame of a recorded one of its kind reads or writes there
-reads_print : (q : FreeRegion) (a : Access) (b : ℕ) → LeadsTo q.accesses a.writes (frame_of a.pointer) → IsWithin (range_of a) (frame_of a.pointer)
-    → (not a.writes && is_in (range_of a) b) ≡ true → list_any (λ f. is_read_in f b) (prints_in (Some q)) ≡ true
-reads_print q a b l w h =
+-- an access that leads to the bounds of a recorded one of its kind reads or writes there
+reads_footprint : (q : FreeRegion) (a : Access) (b : ℕ) → LeadsTo q.accesses a.writes (bounds_of a.pointer) → IsWithin (range_of a) (bounds_of a.pointer)
+    → (not a.writes && is_in (range_of a) b) ≡ true → list_any (λ f. is_read_in f b) (footprints_in (Some q)) ≡ true
+reads_footprint q a b l w h =
     let k = and_parts (not a.writes) (is_in (range_of a) b) h in
-    some_map (λ (f : Footprint). is_read_in f b) (λ (x : FreeAccess). record { bytes = frame_of x.at.last; writes = x.writes }) q.accesses l.access l.among
-    (and_from (not l.access.writes) (is_in (frame_of l.access.at.last) b) (ap not l.kind ∙ k.0) (ap (λ (z : ByteRange). is_in z b) l.same ∙ in_range (range_of a) (frame_of a.pointer) b w k.1))
+    some_map (λ (f : Footprint). is_read_in f b) (λ (x : FreeAccess). record { bytes = bounds_of x.at.last; writes = x.writes }) q.accesses l.access l.among
+    (and_from (not l.access.writes) (is_in (bounds_of l.access.at.last) b) (ap not l.kind ∙ k.0) (ap (λ (z : ByteRange). is_in z b) l.same ∙ in_range (range_of a) (bounds_of a.pointer) b w k.1))
 
-writes_print : (q : FreeRegion) (a : Access) (b : ℕ) → LeadsTo q.accesses a.writes (frame_of a.pointer) → IsWithin (range_of a) (frame_of a.pointer)
-    → (a.writes && is_in (range_of a) b) ≡ true → list_any (λ f. is_written_in f b) (prints_in (Some q)) ≡ true
-writes_print q a b l w h =
+writes_footprint : (q : FreeRegion) (a : Access) (b : ℕ) → LeadsTo q.accesses a.writes (bounds_of a.pointer) → IsWithin (range_of a) (bounds_of a.pointer)
+    → (a.writes && is_in (range_of a) b) ≡ true → list_any (λ f. is_written_in f b) (footprints_in (Some q)) ≡ true
+writes_footprint q a b l w h =
     let k = and_parts a.writes (is_in (range_of a) b) h in
-    some_map (λ (f : Footprint). is_written_in f b) (λ (x : FreeAccess). record { bytes = frame_of x.at.last; writes = x.writes }) q.accesses l.access l.among
-    (and_from l.access.writes (is_in (frame_of l.access.at.last) b) (l.kind ∙ k.0) (ap (λ (z : ByteRange). is_in z b) l.same ∙ in_range (range_of a) (frame_of a.pointer) b w k.1))
+    some_map (λ (f : Footprint). is_written_in f b) (λ (x : FreeAccess). record { bytes = bounds_of x.at.last; writes = x.writes }) q.accesses l.access l.among
+    (and_from l.access.writes (is_in (bounds_of l.access.at.last) b) (l.kind ∙ k.0) (ap (λ (z : ByteRange). is_in z b) l.same ∙ in_range (range_of a) (bounds_of a.pointer) b w k.1))
 
 step_reads : (I : Instance) (q : FreeRegion) → I.recorded ≡ q.accesses → (k : StepKind) → TellsWithin I k → (b : ℕ) → reads_in (access_in k) b ≡ true
-    → list_any (λ f. is_read_in f b) (prints_in (Some q)) ≡ true
-step_reads I q e (kinds.Access a) h b r = reads_print q a b (subst (λ (xs : List FreeAccess). LeadsTo xs a.writes (frame_of a.pointer)) e h.frame) h.within r
+    → list_any (λ f. is_read_in f b) (footprints_in (Some q)) ≡ true
+step_reads I q e (kinds.Access a) h b r = reads_footprint q a b (subst (λ (xs : List FreeAccess). LeadsTo xs a.writes (bounds_of a.pointer)) e h.bounds) h.within r
 step_reads I q e kinds.Other h b r = absurd (true≢false (sym r))
 step_reads I q e (kinds.Branch c) h b r = absurd (true≢false (sym r))
 step_reads I q e (kinds.Event v) h b r = absurd h
 step_reads I q e (kinds.Allocation m n) h b r = absurd h
 
 step_writes : (I : Instance) (q : FreeRegion) → I.recorded ≡ q.accesses → (k : StepKind) → TellsWithin I k → (b : ℕ) → writes_in (access_in k) b ≡ true
-    → list_any (λ f. is_written_in f b) (prints_in (Some q)) ≡ true
-step_writes I q e (kinds.Access a) h b r = writes_print q a b (subst (λ (xs : List FreeAccess). LeadsTo xs a.writes (frame_of a.pointer)) e h.frame) h.within r
+    → list_any (λ f. is_written_in f b) (footprints_in (Some q)) ≡ true
+step_writes I q e (kinds.Access a) h b r = writes_footprint q a b (subst (λ (xs : List FreeAccess). LeadsTo xs a.writes (bounds_of a.pointer)) e h.bounds) h.within r
 step_writes I q e kinds.Other h b r = absurd (true≢false (sym r))
 step_writes I q e (kinds.Branch c) h b r = absurd (true≢false (sym r))
 step_writes I q e (kinds.Event v) h b r = absurd h
@@ -344,20 +344,20 @@ module _ (r : ReferenceRun) (d : Taken) (input : List ℤ) (sums : ℕ → Optio
   abbrev xs : List Step
   xs = m.told ∷ m.inner
 
-  reads_freed : (c : ℕ) → c < MEMORY_BYTES → list_any (λ f. is_read_in f c) (prints_in (Some m.begun.free)) ≡ true → reads_cell d u.seen c ≡ true
+  reads_freed : (c : ℕ) → c < MEMORY_BYTES → list_any (λ f. is_read_in f c) (footprints_in (Some m.begun.free)) ≡ true → reads_cell d u.seen c ≡ true
   reads_freed c lt h =
       ap (λ (k : StepKind). if nat_lt c MEMORY_BYTES then list_any (λ f. is_read_in f c)
-      (access_touch d u.seen.number (access_in k) ++ (if is_instance d u.seen then prints_in u.seen.region else [])) else is_thread (word_read (thread_in u.seen.moment) k)
+      (access_touch d u.seen.number (access_in k) ++ (if is_instance d u.seen then footprints_in u.seen.region else [])) else is_thread (word_read (thread_in u.seen.moment) k)
       (c - MEMORY_BYTES)) step.kind
-      ∙ ap (λ (y : Bool). if y then list_any (λ f. is_read_in f c) (if is_instance d u.seen then prints_in u.seen.region else []) else false) (below_is c lt)
-      ∙ ap (λ (y : Bool). list_any (λ f. is_read_in f c) (if y then prints_in u.seen.region else [])) free
-      ∙ ap (λ (q : Option FreeRegion). list_any (λ f. is_read_in f c) (prints_in q)) m.begun.is_region ∙ h
+      ∙ ap (λ (y : Bool). if y then list_any (λ f. is_read_in f c) (if is_instance d u.seen then footprints_in u.seen.region else []) else false) (below_is c lt)
+      ∙ ap (λ (y : Bool). list_any (λ f. is_read_in f c) (if y then footprints_in u.seen.region else [])) free
+      ∙ ap (λ (q : Option FreeRegion). list_any (λ f. is_read_in f c) (footprints_in q)) m.begun.is_region ∙ h
 
-  writes_there : (c : ℕ) → c < MEMORY_BYTES → list_any (λ f. is_written_in f c) (prints_in (Some m.begun.free)) ≡ true → writes_cell d u.seen c ≡ true
+  writes_there : (c : ℕ) → c < MEMORY_BYTES → list_any (λ f. is_written_in f c) (footprints_in (Some m.begun.free)) ≡ true → writes_cell d u.seen c ≡ true
   writes_there c lt h =
       writes_freed (reference_of r) d u.seen unit.met.region (sym unit.met.live ∙ unit.live) free c
-      ∙ ap (λ (y : Bool). if y then list_any (λ f. is_written_in f c) (prints_in (Some step.free)) else false) (below_is c lt)
-      ∙ ap (λ (q : FreeRegion). list_any (λ f. is_written_in f c) (prints_in (Some q))) step_is_free ∙ h
+      ∙ ap (λ (y : Bool). if y then list_any (λ f. is_written_in f c) (footprints_in (Some step.free)) else false) (below_is c lt)
+      ∙ ap (λ (q : FreeRegion). list_any (λ f. is_written_in f c) (footprints_in (Some q))) step_is_free ∙ h
 
   steps_read : (c : ℕ) → list_any (λ y. recorded.reads y c) (m.told ∷ m.inner) ≡ true → reads_cell d u.seen c ≡ true
   steps_read c h = any_of (λ (y : Step). recorded.reads y c) (reads_cell d u.seen c ≡ true) (m.told ∷ m.inner)

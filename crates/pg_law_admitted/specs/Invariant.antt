@@ -56,7 +56,7 @@ AreChained r input s (e ∷ es) z = (e.state ≡ s) × ((m : State) × IsRun r.g
 -- ---- what a unit rests on
 
 -- in s the unit's thread stands at the unit's live step: in calls of the same functions, at the same places and with the same
--- heights of stack and heap; each known register has its number on this input, and each known frame is that of its pointer
+-- heights of stack and heap; each known register has its number on this input, and known bounds are those of its pointer
 abbrev pub StandsAtUnit : List ℤ → PlanUnit → State → Type 0
 StandsAtUnit input u s = StandLike input (standing_of (local_at u.state (owner u)) (thread_of u.seen.before (owner u)).calls) (local_at s (owner u))
 
@@ -77,7 +77,7 @@ may_touch d = record {
   writes = λ u c. writes_cell d u.seen c;
 }
 
--- its steps are of one thread, and each is no event and accesses recorded frames of the region alone
+-- its steps are of one thread, and each is no event and accesses recorded bounds of the region alone
 pub record StaysInInstance (r : ReferenceRun) (sums : ℕ → Option RootedList) (e : Portion) : Type 0 where
   pub begun : BeginsInstance r sums e.unit e.state
   pub own : AllByRecursion (λ (x : Step). x.thread.0 ≡ owner e.unit) (e.step ∷ e.inner)

@@ -75,7 +75,7 @@ KeepsMemory r d es =
     b < MEMORY_BYTES → reads_cell d e.unit.seen b ≡ true → IsFromSource d before b (source_in d b us)
 
 -- ---- free regions: a thread that has a turn left and doesn't stand at its next live step is inside an instance. In each
--- instance, finished or not, its thread has done no event, and has read and written only within the recorded frames
+-- instance, finished or not, its thread has done no event, and has read and written only within the recorded bounds
 
 pub record KeepsRegions (r : ReferenceRun) (d : Taken) (input : List ℤ) (sums : ℕ → Option RootedList) (turns : List Turn) (es : List Portion) (xs : List Step) (z : State) : Type 0 where
   pub threads : (t : ℕ) → has_turn t (turns_left turns xs) ≡ true → StandsAtNext r d input es t z ⊎ IsInInstance r d sums es t z

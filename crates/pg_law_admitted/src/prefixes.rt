@@ -43,7 +43,7 @@ pub fn memory_is_from_its_sources()
 {}
 
 /// Free regions: a thread that has a turn left and doesn't stand at its next live step is inside an instance. In each instance,
-/// finished or not, its thread has done no event, and has read and written only within the recorded frames.
+/// finished or not, its thread has done no event, and has read and written only within the recorded bounds.
 pub fn free_regions_are_kept_to()
     ensures { (r : ReferenceRun) (d : Taken) (input : List ℤ) (sums : ℕ → Option RootedList) (turns : List Turn) (xs : List Step) (z : State)
         → (h : Invariant r d input sums turns xs z) → KeepsRegions r d input sums turns h.portions xs z }

@@ -9,7 +9,7 @@ use Rattle.pg_run_trace.specs.declared.step.StepKind.TheVariants as kinds
 use Rattle.pg_run_trace.specs.declared.step.Access.{Access}
 use Rattle.pg_run_trace.specs.Steps.{range_of}
 use Rattle.pg_slice_rules.specs.Moments.{Moment, instr_in, thread_in}
-use Rattle.pg_slice_rules.specs.Freeable.{FreeRegion, frame_of}
+use Rattle.pg_slice_rules.specs.Freeable.{FreeRegion, bounds_of}
 use Rattle.pg_slice_rules.specs.Shadows.{Shadow, is_within, unset}
 use Rattle.pg_slice_rules.specs.Extents.{Extent, edge_in, is_live}
 use Rattle.pg_slice_rules.specs.Known.{Reference, RunShadow, Seen, Taken, ThreadShadow, after_step, is_branch, no_thread, region_of, registers_of, thread_of, top_of, under_top}
@@ -114,8 +114,8 @@ module _ (R : Reference) (keeps : ExtentsKeep R) (e : Taken) (bound : ℕ) (L : 
         subst (MaySetPhis R.program r.sets) (plain_edge R.program m m.did.did.kind (branch_plain m.did.did.kind b) ∙ ap (edge_in R.program m) q) (keeps.own y in_run r h)
 
     fits : (x : Instr) → instr_in R.program m ≡ Some x → (b : ℕ) (a : Access) → m.did.did.kind ≡ kinds.Access a → is_store x.op ≡ true → is_within (range_of a) b ≡ true →
-        is_within (frame_of a.pointer) b ≡ true
-    fits x q b a f h = keeps.frames y in_run a (record { instr = x; stands = q; store = h; kind = f }) b
+        is_within (bounds_of a.pointer) b ≡ true
+    fits x q b a f h = keeps.bounds y in_run a (record { instr = x; stands = q; store = h; kind = f }) b
 
     calls_now : (o : Option Instr) → instr_in R.program m ≡ o → (thread_of (after_step R e n m s) t).calls ≡ calls_after R.program e n m region o s cs
     calls_now o q =

@@ -23,10 +23,10 @@ use Rattle.pg_slice_rules.specs.declared.decision.Decision.{Decision}
 use Rattle.pg_slice_rules.specs.declared.decision.Decision.TheVariants.{Pinned, Exact}
 use Rattle.pg_slice_rules.specs.Moments.{Moment, instr_in, thread_in}
 use Rattle.pg_slice_rules.specs.Freeable.{FreeAccess, FreeRegion}
-use Rattle.pg_slice_rules.specs.Shadows.{Shadow, Known, Framed, Unknown, blames, frame_blames, loaded}
+use Rattle.pg_slice_rules.specs.Shadows.{Shadow, Known, Bounded, Unknown, blames, bounds_blames, loaded}
 use Rattle.pg_slice_rules.specs.Known.{Reference, RunShadow, Seen, Taken, has, is_branch, operand_at, registers_of, thread_of}
-use Rattle.pg_slice_rules.specs.Rules.{Need, Value, Frame, access_needs_by, access_needs_in, address_index, all_of, asks_pins, checked_of, edge_tests, equal_to, event_needs, frame_needs}
-use Rattle.pg_slice_rules.specs.Rules.{free_access_needs, has_region, is_malloc, moved_shadow, need_blames, operand_of, path_needs, region_needs_in, root_shadow, same_frame, value_needs}
+use Rattle.pg_slice_rules.specs.Rules.{Need, Value, Bounds, access_needs_by, access_needs_in, address_index, all_of, asks_pins, checked_of, edge_tests, equal_to, event_needs, bounds_needs}
+use Rattle.pg_slice_rules.specs.Rules.{free_access_needs, has_region, is_malloc, moved_shadow, need_blames, operand_of, path_needs, region_needs_in, root_shadow, same_bounds, value_needs}
 use Rattle.pg_slice_rules.specs.Rules.{value_needs_by, value_needs_in, write_index, write_needs}
 use Rattle.pg_slice_rules.specs.Closed.{AreWithin}
 use Rattle.pg_region_paths.proofs.Elements.{here, there}
@@ -43,13 +43,13 @@ IsQuiet ns = (a : Need) → Contains ns a → (z : Decision) → Contains (need_
 
 value_quiet : (s : Shadow) → ((z : Decision) → Contains (blames s) z → ⊥) → is_met true s ≡ true
 value_quiet (Known f g) q = refl
-value_quiet (Framed f x) q = absurd (q x (here x []))
+value_quiet (Bounded f x) q = absurd (q x (here x []))
 value_quiet (Unknown x) q = absurd (q x (here x []))
 
-frame_quiet : (s : Shadow) → ((z : Decision) → Contains (frame_blames s) z → ⊥) → is_met false s ≡ true
-frame_quiet (Known f g) q = refl
-frame_quiet (Framed f x) q = refl
-frame_quiet (Unknown x) q = absurd (q x (here x []))
+bounds_quiet : (s : Shadow) → ((z : Decision) → Contains (bounds_blames s) z → ⊥) → is_met false s ≡ true
+bounds_quiet (Known f g) q = refl
+bounds_quiet (Bounded f x) q = refl
+bounds_quiet (Unknown x) q = absurd (q x (here x []))
 
 first_quiet : (a : Need) (ns : List Need) → IsQuiet (a ∷ ns) → (z : Decision) → Contains (need_blames a) z → ⊥
 first_quiet a ns q z c = q a (here a ns) z c
@@ -66,12 +66,12 @@ right_quiet ns ms q b c z d = q b (Contains-append_right ns ms b c) z d
 one_value : (v : Shadow) (ts : List Test) → IsQuiet (Value v ts ∷ []) → is_met true v ≡ true
 one_value v ts q = value_quiet v (first_quiet (Value v ts) [] q)
 
-one_frame : (v : Shadow) (t : Test) → IsQuiet (Frame v t ∷ []) → is_met false v ≡ true
-one_frame v t q = frame_quiet v (first_quiet (Frame v t) [] q)
+one_bounds : (v : Shadow) (t : Test) → IsQuiet (Bounds v t ∷ []) → is_met false v ≡ true
+one_bounds v t q = bounds_quiet v (first_quiet (Bounds v t) [] q)
 
 moved_value : (k : ℕ) (s : Shadow) → is_met true (moved_shadow k s) ≡ true → is_met true s ≡ true
 moved_value k (Known f g) h = refl
-moved_value k (Framed f x) h = h
+moved_value k (Bounded f x) h = h
 moved_value k (Unknown x) h = h
 
 event_more : (a b c : Bool) → (b ≡ true → c ≡ true) → (a || b) ≡ true → (a || c) ≡ true
@@ -117,7 +117,7 @@ module _ (R : Reference) (d e : Taken) (within : AreWithin d e) (n : ℕ) (m : M
   write_own : (i : Instr) (o : Option Access) → IsQuiet (write_needs R.program x i o) → AreMet (write_demands z i o)
   unfolding AreMet
   write_own i None q = tt
-  write_own i (Some a) q = operand_own i (write_index i.op) false (one_frame (operand_of R.program x i (write_index i.op)) (same_frame a.pointer) q)
+  write_own i (Some a) q = operand_own i (write_index i.op) false (one_bounds (operand_of R.program x i (write_index i.op)) (same_bounds a.pointer) q)
 
   kind_own : (i : Instr) (kind : StepKind) → IsQuiet (value_needs_by R.program e x i kind) → IsQuiet (access_needs_by R.program x i kind) → AreMet (kind_demands d z i kind)
   unfolding AreMet
@@ -129,7 +129,7 @@ module _ (R : Reference) (d e : Taken) (within : AreWithin d e) (n : ℕ) (m : M
   kind_own i (kinds.Access v) q a = go (v.event || d.exact n) refl
     where
       go : (b : Bool) → (v.event || d.exact n) ≡ b → AllByRecursion (IsMet s) (operand_demands z i b (address_index i.op))
-      go false f = operand_own i (address_index i.op) false (one_frame (operand_of R.program x i (address_index i.op)) (same_frame v.pointer) a)
+      go false f = operand_own i (address_index i.op) false (one_bounds (operand_of R.program x i (address_index i.op)) (same_bounds v.pointer) a)
       go true f = let w : (v.event || e.exact n) ≡ true = event_more v.event (d.exact n) (e.exact n) (within (Exact n)) f in
           operand_own i (address_index i.op) true (one_value (operand_of R.program x i (address_index i.op)) (Eq v.pointer ∷ []) (rw w at q))
   kind_own i (kinds.Allocation operand result) q a = go (is_malloc i.op) refl
@@ -155,9 +155,9 @@ module _ (R : Reference) (d e : Taken) (within : AreWithin d e) (n : ℕ) (m : M
       → (offsets words : List ℕ) (cells : List ByteRange) (last : ℕ) →
       IsQuiet (path_needs s.bytes v offsets words cells last) → AreMet (path_demands word offsets words cells)
   unfolding AreMet
-  path_own word v f [] words cells last q = f false (one_frame v (same_frame last) q)
-  path_own word v f (k ∷ offsets) [] cells last q = f false (one_frame v (same_frame last) q)
-  path_own word v f (k ∷ offsets) (w ∷ words) [] last q = f false (one_frame v (same_frame last) q)
+  path_own word v f [] words cells last q = f false (one_bounds v (same_bounds last) q)
+  path_own word v f (k ∷ offsets) [] cells last q = f false (one_bounds v (same_bounds last) q)
+  path_own word v f (k ∷ offsets) (w ∷ words) [] last q = f false (one_bounds v (same_bounds last) q)
   path_own word v f (k ∷ offsets) (w ∷ words) (cell ∷ cells) last q = append_all (IsMet s) (word true) (path_demands (λ whole. of_bytes cell.start 8) offsets words cells)
       (f true (moved_value k v (value_quiet (moved_shadow k v)
       (first_quiet (Value (moved_shadow k v) (Eq (moved_by w (pos k)) ∷ [])) (path_needs s.bytes (loaded s.bytes cell.start 8) offsets words cells last) q))))
@@ -177,7 +177,7 @@ module _ (R : Reference) (d e : Taken) (within : AreWithin d e) (n : ℕ) (m : M
   region_own None q = tt
   region_own (Some r) q = accesses_own r.accesses q
 
-  pub step_own : IsQuiet (value_needs R e x) → IsQuiet (frame_needs R x) → AllByRecursion (IsMet s) (instr_demands d z (instr_in R.program m) ++ region_demands z region)
+  pub step_own : IsQuiet (value_needs R e x) → IsQuiet (bounds_needs R x) → AllByRecursion (IsMet s) (instr_demands d z (instr_in R.program m) ++ region_demands z region)
   unfolding AreMet
   step_own q a = append_all (IsMet s) (instr_demands d z (instr_in R.program m)) (region_demands z region)
       (instr_own (instr_in R.program m) q (left_quiet (access_needs_in R.program x (instr_in R.program m)) (region_needs_in R.program x region) a))

@@ -3,8 +3,8 @@ use Rattle.std.proofs.Common.{◌≡◌, ℕ, zero, suc, ◌+◌, ◌<◌, ◌�
 use Rattle.std.proofs.Common.{refl, sym, ap, ◌∙◌, subst, inl, inr, ◌⊎◌, arith}
 use Rattle.std.specs.Prelude.{Contains, slice_get, slice_index_or, if◌then◌else◌}
 use Rattle.std.proofs.lemmas.Bool.{eqb-true}
-use Rattle.pg_ir.specs.declared.known.Known.{Known as KnownFunction}
-use Rattle.pg_ir.specs.declared.known.Known.TheVariants as known
+use Rattle.pg_ir.specs.declared.library_call.LibraryCall.{LibraryCall}
+use Rattle.pg_ir.specs.declared.library_call.LibraryCall.TheVariants as known
 use Rattle.pg_ir.specs.declared.value.Value.{Value}
 use Rattle.pg_ir.specs.declared.instr.Instr.{Instr}
 use Rattle.pg_ir.specs.declared.instr.Op.{Op}
@@ -196,7 +196,7 @@ module _ (p : NumberedProgram) (e : Taken) (n : ℕ) (m : Moment) (region : Opti
     branch_same false None q l rs = outside_edge p sets x.block.0 (edge_in p m (Some x)) rs (phis l)
     branch_same false (Some g) q l rs = outside_forgotten 0 sets g.sets (Pinned n) rs (inner l g q)
 
-    known_same : (f : KnownFunction) (number : ℕ) (s : Shadow) → k ≡ depth → (rs : List Shadow) → Outside 0 sets rs (after_known f x.result number s rs)
+    known_same : (f : LibraryCall) (number : ℕ) (s : Shadow) → k ≡ depth → (rs : List Shadow) → Outside 0 sets rs (after_known f x.result number s rs)
     known_same known.PgIn number s l rs = outside_target sets x.result _ rs (result l)
     known_same known.PgInLen number s l rs = outside_target sets x.result _ rs (result l)
     known_same known.Malloc number s l rs = outside_target sets x.result _ rs (result l)
@@ -209,7 +209,7 @@ module _ (p : NumberedProgram) (e : Taken) (n : ℕ) (m : Moment) (region : Opti
     op_same pinned number (op.Call g args) q = called _
     op_same pinned number (op.Ret v) q = returned (optional_shadow p (top_of cs) v) (deeper v q) (target v q)
     op_same pinned number (op.Alloca bytes) q = outside_top _ (λ l rs. outside_target sets x.result _ rs (result l))
-    op_same pinned number (op.CallKnown f args) q = outside_top _ (λ l rs. known_same f number _ l rs)
+    op_same pinned number (op.CallLibrary f args) q = outside_top _ (λ l rs. known_same f number _ l rs)
     op_same pinned number (op.Gep base indices) q = outside_top _ (λ l rs. outside_target sets x.result _ rs (result l))
     op_same pinned number _ q = outside_top _ (λ l rs. outside_target sets x.result _ rs (result l))
 

@@ -5,8 +5,8 @@ use Rattle.std.specs.Prelude.{◌&&◌, ◌||◌, nat_lt, not, slice_get, slice_
 use Rattle.std.specs.List.{AllByRecursion}
 use Rattle.std.proofs.lemmas.Bool.{true≢false, eqb-true, eq-eqb}
 use Rattle.std.proofs.lemmas.List.{get_or-set_other}
-use Rattle.pg_ir.specs.declared.known.Known.{Known as KnownFunction}
-use Rattle.pg_ir.specs.declared.known.Known.TheVariants as known
+use Rattle.pg_ir.specs.declared.library_call.LibraryCall.{LibraryCall}
+use Rattle.pg_ir.specs.declared.library_call.LibraryCall.TheVariants as known
 use Rattle.pg_ir.specs.declared.value.Value.{Value}
 use Rattle.pg_ir.specs.declared.instr.Instr.{Instr}
 use Rattle.pg_ir.specs.declared.instr.Op.{Op}
@@ -24,8 +24,8 @@ use Rattle.pg_run_trace.specs.Steps.{range_of, write_by}
 use Rattle.pg_slice_rules.specs.declared.decision.Decision.{Decision}
 use Rattle.pg_slice_rules.specs.declared.decision.Decision.TheVariants.{Pinned, Exact}
 use Rattle.pg_slice_rules.specs.Moments.{Moment, thread_in}
-use Rattle.pg_slice_rules.specs.Freeable.{FreeRegion, frame_of}
-use Rattle.pg_slice_rules.specs.Shadows.{Shadow, Known, Framed, Unknown, always, applied, byte_in, is_within, loaded, shadow_of, unset}
+use Rattle.pg_slice_rules.specs.Freeable.{FreeRegion, bounds_of}
+use Rattle.pg_slice_rules.specs.Shadows.{Shadow, Known, Bounded, Unknown, always, applied, byte_in, is_within, loaded, shadow_of, unset}
 use Rattle.pg_slice_rules.specs.Extents.{edge_in}
 use Rattle.pg_slice_rules.specs.Known.{RunShadow, Taken, after_access, after_branch, after_event, after_known, after_op, along_edge, bytes_by, bytes_freed, bytes_stored, caller_target, entered}
 use Rattle.pg_slice_rules.specs.Known.{exit_shadow, from_input, function_in, has, load_of, operand_at, optional_shadow, registers_of, result_in, returned_shadow, set_shadow, started, thread_of}
@@ -130,10 +130,10 @@ module _ (p : NumberedProgram) (e : Taken) (n : ℕ) (m : Moment) (region : Opti
 
     input_met : (z : Shadow) → is_met whole (from_input z) ≡ true → is_met true z ≡ true
     input_met (Known f g) h = refl
-    input_met (Framed f y) h = absurd (true≢false (sym h))
+    input_met (Bounded f y) h = absurd (true≢false (sym h))
     input_met (Unknown y) h = absurd (true≢false (sym h))
 
-    known_back : (f : KnownFunction) (number : ℕ) → is_met whole (slice_index_or (after_known f x.result number (operand_at p rs x.op 0) rs) r unset) ≡ true →
+    known_back : (f : LibraryCall) (number : ℕ) → is_met whole (slice_index_or (after_known f x.result number (operand_at p rs x.op 0) rs) r unset) ≡ true →
         Asks e s (back_known t k f x r whole)
     known_back known.PgIn number h = set_back x.result _ _ h (λ z. (operand_met p s t k rs top x.op 0 true (input_met (operand_at p rs x.op 0) z), tt))
     known_back known.PgInLen number h = set_back x.result _ _ h (λ z. (tt, tt))
@@ -155,7 +155,7 @@ module _ (p : NumberedProgram) (e : Taken) (n : ℕ) (m : Moment) (region : Opti
     op_back number (op.Call g args) h = self (under _ h)
     op_back number (op.Ret v) h = (tt, tt)
     op_back number (op.Alloca bytes) h = set_back x.result _ _ (at_top _ h) (λ z. (tt, tt))
-    op_back number (op.CallKnown f args) h = known_back f number (at_top _ h)
+    op_back number (op.CallLibrary f args) h = known_back f number (at_top _ h)
     op_back number (op.Gep base indices) h = set_back x.result _ _ (at_top _ h) (λ z. (moved_met p s t k rs top x.op whole z, tt))
     op_back number o h = set_back x.result _ _ (at_top _ h) (λ z. (values_met p s t k rs top (operands_of o) (λ gs input. applied o (gs input)) whole z, tt))
 
@@ -300,7 +300,7 @@ module _ (p : NumberedProgram) (e : Taken) (n : ℕ) (m : Moment) (region : Opti
     other_op count number c (op.Call g args) h = call_other g args h
     other_op count number c (op.Ret v) h = caller_met v (caller_target p m.calls) count cs refl c h
     other_op count number c (op.Alloca bytes) h = keep_top _ h
-    other_op count number c (op.CallKnown f args) h = keep_top _ h
+    other_op count number c (op.CallLibrary f args) h = keep_top _ h
     other_op count number c (op.Gep base indices) h = keep_top _ h
     other_op count number c o h = keep_top _ h
 
@@ -334,11 +334,11 @@ module _ (p : NumberedProgram) (e : Taken) (n : ℕ) (m : Moment) (region : Opti
       plain_asks false true q f qs h = (h, (f, tt))
       plain_asks false false q f qs h = absurd (true≢false (sym q))
 
-      store_back : (a : Access) (o : Op) → (is_store o ≡ true → is_within (range_of a) b ≡ true → is_within (frame_of a.pointer) b ≡ true) →
+      store_back : (a : Access) (o : Op) → (is_store o ≡ true → is_within (range_of a) b ≡ true → is_within (bounds_of a.pointer) b ≡ true) →
           is_met whole (bytes_stored p (e.exact n || a.event) n a (registers_of s t) o s.bytes b) ≡ true → Asks e s (back_store t k n a b whole o)
-      store_back a (op.Store w v at) fits h = go (e.exact n || a.event) refl (is_within (range_of a) b) refl (is_within (frame_of a.pointer) b) refl h
+      store_back a (op.Store w v at) fits h = go (e.exact n || a.event) refl (is_within (range_of a) b) refl (is_within (bounds_of a.pointer) b) refl h
         where
-          go : (c : Bool) → (e.exact n || a.event) ≡ c → (i : Bool) → is_within (range_of a) b ≡ i → (f : Bool) → is_within (frame_of a.pointer) b ≡ f →
+          go : (c : Bool) → (e.exact n || a.event) ≡ c → (i : Bool) → is_within (range_of a) b ≡ i → (f : Bool) → is_within (bounds_of a.pointer) b ≡ f →
               is_met whole (bytes_stored p c n a (registers_of s t) (op.Store w v at) s.bytes b) ≡ true → Asks e s (back_store t k n a b whole (op.Store w v at))
           go true c true i f g h =
               let z : is_met whole (byte_in (b - (range_of a).start) (shadow_of p (registers_of s t) v)) ≡ true = rw i at h in
@@ -380,7 +380,7 @@ module _ (p : NumberedProgram) (e : Taken) (n : ℕ) (m : Moment) (region : Opti
           go false i h = let z : is_met whole (s.bytes b) ≡ true = rw i at h in rw i (self_byte z)
 
       pub byte_back : (kind : StepKind) →
-          ((a : Access) → kind ≡ kinds.Access a → is_store x.op ≡ true → is_within (range_of a) b ≡ true → is_within (frame_of a.pointer) b ≡ true) →
+          ((a : Access) → kind ≡ kinds.Access a → is_store x.op ≡ true → is_within (range_of a) b ≡ true → is_within (bounds_of a.pointer) b ≡ true) →
           is_met whole (known_bytes p e n m region x kind s b) ≡ true → Asks e s (back_byte t k n region x b whole kind)
       byte_back (kinds.Access a) fits h = store_back a x.op (fits a refl) h
       byte_back (kinds.Event v) fits h = write_back v v.write h

@@ -158,7 +158,7 @@ module _ (R : Reference) (keeps : ExtentsKeep R) (e : Taken) (bound : ℕ) (L : 
       byte_before false o g i f = refl
       byte_before true None g i f = refl
       byte_before true (Some z) g i f = bytes_kept R.program e n m region z (may_write q.accesses) i f m.did.did.kind keep.plain s
-          (λ a h v w. keep.stores a (record { instr = z; stands = g; store = v; kind = h }) i (keeps.frames y in_run a (record { instr = z; stands = g; store = v; kind = h }) i w))
+          (λ a h v w. keep.stores a (record { instr = z; stands = g; store = v; kind = h }) i (keeps.bounds y in_run a (record { instr = z; stands = g; store = v; kind = h }) i w))
           (λ a h v. keep.stores a (record { instr = z; stands = g; store = v; kind = h }) i)
           (λ p h. keep.inner_stores p h i)
 

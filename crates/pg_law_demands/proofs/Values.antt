@@ -13,7 +13,7 @@ use Rattle.pg_ir.specs.Program.{NumberedProgram}
 use Rattle.pg_ir.specs.Edges.{incoming_from, incoming_of, phis_of}
 use Rattle.pg_run_thread.specs.Operands.{operands_of}
 use Rattle.pg_slice_rules.specs.declared.decision.Decision.{Decision}
-use Rattle.pg_slice_rules.specs.Shadows.{OnInput, Shadow, Known, Framed, Unknown, cut, from_all, joined, loaded, moved, result_of, shadow_of, unset, valued}
+use Rattle.pg_slice_rules.specs.Shadows.{OnInput, Shadow, Known, Bounded, Unknown, cut, from_all, joined, loaded, moved, result_of, shadow_of, unset, valued}
 use Rattle.pg_slice_rules.specs.Known.{RunShadow, along_edge, entered, forgotten_from, operand_at, operand_shadows, optional_shadow, phi_shadow, set_phis, set_shadow, thread_of}
 use Rattle.pg_law_demands.specs.Cells.{IsMet, Register, call_at, is_met}
 use Rattle.pg_law_demands.specs.Back.{back_edge, back_moved, back_phi, is_target, last_phi, of_bytes, of_operand, of_optional, of_value, of_values, register_demand, this_phi}
@@ -71,14 +71,14 @@ index_phis f (x ∷ xs) rs r l =
 
 pub cut_met : (f : ℕ → ℕ) (whole : Bool) (s : Shadow) → is_met whole (cut f s) ≡ true → is_met true s ≡ true
 cut_met f whole (Known g k) h = refl
-cut_met f whole (Framed g x) h = h
+cut_met f whole (Bounded g x) h = h
 cut_met f whole (Unknown x) h = h
 
 joined_met : (whole : Bool) (low high : Shadow) → is_met whole (joined low high) ≡ true → (is_met true low ≡ true) × (is_met true high ≡ true)
 joined_met whole (Known f u) (Known g w) h = (refl, refl)
-joined_met whole (Known f u) (Framed g x) h = absurd (true≢false (sym h))
+joined_met whole (Known f u) (Bounded g x) h = absurd (true≢false (sym h))
 joined_met whole (Known f u) (Unknown x) h = absurd (true≢false (sym h))
-joined_met whole (Framed f x) high h = absurd (true≢false (sym h))
+joined_met whole (Bounded f x) high h = absurd (true≢false (sym h))
 joined_met whole (Unknown x) high h = absurd (true≢false (sym h))
 
 pub bytes_met : (s : RunShadow) (whole : Bool) (at n : ℕ) → is_met whole (loaded s.bytes at n) ≡ true → AllByRecursion (IsMet s) (of_bytes at n)
@@ -126,29 +126,29 @@ module _ (p : NumberedProgram) (s : RunShadow) (t k : ℕ) (rs : List Shadow) (t
           subst (λ (z : Shadow). is_met whole (from_all (z ∷ map (shadow_of p rs) vs) (λ gs. valued (F gs))) ≡ true) q h in
           append_all (IsMet s) (of_value t k true v) (of_values t k vs) (value_met v true (subst (λ (z : Shadow). is_met true z ≡ true) (sym q) refl))
           (more (λ gs. F (λ input. f input ∷ gs input)) z)
-      go (Framed f x) q more = absurd (none_unknown whole x (subst (λ (z : Shadow). is_met whole (from_all (z ∷ map (shadow_of p rs) vs) (λ gs. valued (F gs))) ≡ true) q h))
+      go (Bounded f x) q more = absurd (none_unknown whole x (subst (λ (z : Shadow). is_met whole (from_all (z ∷ map (shadow_of p rs) vs) (λ gs. valued (F gs))) ≡ true) q h))
       go (Unknown x) q more = absurd (none_unknown whole x (subst (λ (z : Shadow). is_met whole (from_all (z ∷ map (shadow_of p rs) vs) (λ gs. valued (F gs))) ≡ true) q h))
 
   -- ---- pointers that are moved
 
   moved_whole : (base z : Shadow) → is_met true (moved base z) ≡ true → is_met true z ≡ true
   moved_whole (Known f u) (Known g w) h = refl
-  moved_whole (Known f u) (Framed g x) h = h
+  moved_whole (Known f u) (Bounded g x) h = h
   moved_whole (Known f u) (Unknown x) h = absurd (true≢false (sym h))
-  moved_whole (Framed f y) (Known g w) h = refl
-  moved_whole (Framed f y) (Framed g x) h = h
-  moved_whole (Framed f y) (Unknown x) h = absurd (true≢false (sym h))
+  moved_whole (Bounded f y) (Known g w) h = refl
+  moved_whole (Bounded f y) (Bounded g x) h = h
+  moved_whole (Bounded f y) (Unknown x) h = absurd (true≢false (sym h))
   moved_whole (Unknown y) z h = h
 
-  moved_frame : (o : Op) (ss : List Shadow) → is_met false (moved (slice_index_or ss 0 unset) (result_of o ss)) ≡ true → is_met false (slice_index_or ss 0 unset) ≡ true
-  moved_frame o [] h = refl
-  moved_frame o (Known f g ∷ ss) h = refl
-  moved_frame o (Framed f x ∷ ss) h = refl
-  moved_frame o (Unknown x ∷ ss) h = absurd (true≢false (sym h))
+  moved_bounds : (o : Op) (ss : List Shadow) → is_met false (moved (slice_index_or ss 0 unset) (result_of o ss)) ≡ true → is_met false (slice_index_or ss 0 unset) ≡ true
+  moved_bounds o [] h = refl
+  moved_bounds o (Known f g ∷ ss) h = refl
+  moved_bounds o (Bounded f x ∷ ss) h = refl
+  moved_bounds o (Unknown x ∷ ss) h = absurd (true≢false (sym h))
 
   pub moved_met : (o : Op) (whole : Bool) → is_met whole (moved (operand_at p rs o 0) (result_of o (operand_shadows p rs o))) ≡ true → AllByRecursion (IsMet s) (back_moved t k o whole)
   moved_met o true h = values_met (operands_of o) _ true (moved_whole (operand_at p rs o 0) (result_of o (operand_shadows p rs o)) h)
-  moved_met o false h = operand_met o 0 false (moved_frame o (operand_shadows p rs o) h)
+  moved_met o false h = operand_met o 0 false (moved_bounds o (operand_shadows p rs o) h)
 
   -- ---- edges
 

@@ -9,7 +9,7 @@ use Rattle.pg_slice_rules.specs.Moments.{Moment, instr_in, thread_in}
 use Rattle.pg_slice_rules.specs.Shadows.{Shadow}
 use Rattle.pg_slice_rules.specs.Extents.{Extent, is_live}
 use Rattle.pg_slice_rules.specs.Known.{Reference, RunShadow, Seen, Taken, after_step, has, region_of, seen_from, seen_in, start_of, thread_of}
-use Rattle.pg_slice_rules.specs.Rules.{all_of, asks_frames, asks_pins, asks_values, frame_needs, need_blames, value_needs}
+use Rattle.pg_slice_rules.specs.Rules.{all_of, asks_bounds, asks_pins, asks_values, bounds_needs, need_blames, value_needs}
 use Rattle.pg_slice_rules.specs.Closed.{AreWithin, IsClosed}
 use Rattle.pg_law_least.specs.Keeps.{ExtentsKeep, every, steps_of}
 use Rattle.pg_region_paths.proofs.Elements.{here, there}
@@ -73,13 +73,13 @@ those_within d e xs w k (Exact n) h = go (or_cases (d.exact n) (list_any (is_fix
 pub record Closes (R : Reference) (e : Taken) (x : Seen) : Type 0 where
   pub pins : (z : Decision) → Contains (asks_pins e x) z → ⊥
   pub values : IsQuiet (value_needs R e x)
-  pub frames : IsQuiet (frame_needs R x)
+  pub bounds : IsQuiet (bounds_needs R x)
 
 pub closes : (R : Reference) (e : Taken) → IsClosed R e → (x : Seen) → Contains (seen_in R e) x → Closes R e x
 closes R e closed x c = record {
   pins = none_asked (asks_pins e) (seen_in R e) x closed.pins c;
   values = λ a i z k. none_asked (asks_values R e) (seen_in R e) x closed.values c z (of_all need_blames (value_needs R e x) a z i k);
-  frames = λ a i z k. none_asked (asks_frames R) (seen_in R e) x closed.frames c z (of_all need_blames (frame_needs R x) a z i k);
+  bounds = λ a i z k. none_asked (asks_bounds R) (seen_in R e) x closed.bounds c z (of_all need_blames (bounds_needs R x) a z i k);
 }
 
 module _ (R : Reference) (keeps : ExtentsKeep R) (d e : Taken) (within : AreWithin d e) (bound : ℕ) (L : Shadow → Shadow → Type 0) (link : IsLink e every bound L) where
@@ -117,7 +117,7 @@ module _ (R : Reference) (keeps : ExtentsKeep R) (d e : Taken) (within : AreWith
             let b : Asks e s (behind R y a) = behind_met a h in (
               append_all (IsMet s) (behind R y a).demands (step_demands R (and_those d (behind R y a).decisions) y) b.0
                   (step_own R (and_those d (behind R y a).decisions) e (those_within d e (behind R y a).decisions within b.1) n m y.region s
-                  (high R keeps e bound L link n m s u like in_run live) closed_live.values closed_live.frames),
+                  (high R keeps e bound L link n m s u like in_run live) closed_live.values closed_live.bounds),
               b.1,
             )
 

@@ -1,7 +1,7 @@
 -- One step back: where a demand is met after a live step, what is met before it, and which decisions are taken.
 use Rattle.std.specs.Prelude.{ℕ, zero, suc, ◌+◌, ◌==◌, ◌&&◌, not, nat_lt, List, [], ◌∷◌, length, Bool, true, false, Option, Some, None, if◌then◌else◌, slice_get}
-use Rattle.pg_ir.specs.declared.known.Known.{Known as KnownFunction}
-use Rattle.pg_ir.specs.declared.known.Known.TheVariants as known
+use Rattle.pg_ir.specs.declared.library_call.LibraryCall.{LibraryCall}
+use Rattle.pg_ir.specs.declared.library_call.LibraryCall.TheVariants as known
 use Rattle.pg_ir.specs.declared.value.Value.{Value}
 use Rattle.pg_ir.specs.declared.value.Value.TheVariants as value
 use Rattle.pg_ir.specs.declared.instr.Instr.{Instr}
@@ -21,7 +21,7 @@ use Rattle.pg_run_trace.specs.Steps.{range_of, write_by}
 use Rattle.pg_slice_rules.specs.declared.decision.Decision.{Decision}
 use Rattle.pg_slice_rules.specs.declared.decision.Decision.TheVariants.{Pinned, Exact}
 use Rattle.pg_slice_rules.specs.Moments.{Moment, thread_in}
-use Rattle.pg_slice_rules.specs.Freeable.{FreeRegion, frame_of}
+use Rattle.pg_slice_rules.specs.Freeable.{FreeRegion, bounds_of}
 use Rattle.pg_slice_rules.specs.Shadows.{is_within}
 use Rattle.pg_slice_rules.specs.Extents.{edge_in}
 use Rattle.pg_slice_rules.specs.Known.{Seen, caller_target, function_in, thread_of, top_of, under_top}
@@ -98,13 +98,13 @@ abbrev pub back_branch : NumberedProgram → ℕ → ℕ → ℕ → Instr → O
 back_branch p t k n x edge None r whole = only (back_edge p t k x.block.0 edge r whole)
 back_branch p t k n x edge (Some q) r whole = if q.sets r then fixing (Pinned n) (back_edge p t k x.block.0 edge r whole) else only (register_demand t k r whole ∷ [])
 
-abbrev pub back_known : ℕ → ℕ → KnownFunction → Instr → ℕ → Bool → Asked
+abbrev pub back_known : ℕ → ℕ → LibraryCall → Instr → ℕ → Bool → Asked
 back_known t k known.PgIn x r whole = if_set (is_target x.result r) (register_demand t k r whole) (only (of_operand t k true x.op 0))
 back_known t k known.PgInLen x r whole = if_set (is_target x.result r) (register_demand t k r whole) (only [])
 back_known t k known.Malloc x r whole = if_set (is_target x.result r) (register_demand t k r whole) (only [])
 back_known t k f x r whole = only (register_demand t k r whole ∷ [])
 
--- a pointer's frame is that of its base
+-- a pointer's bounds are those of its base
 abbrev pub back_moved : ℕ → ℕ → Op → Bool → List Demand
 back_moved t k o true = of_values t k (operands_of o)
 back_moved t k o false = of_operand t k false o 0
@@ -116,7 +116,7 @@ back_op p t k n m region x r whole (op.Switch w on other cases) = back_branch p 
 back_op p t k n m region x r whole (op.Call g args) = only (register_demand t k r whole ∷ [])
 back_op p t k n m region x r whole (op.Ret v) = only []
 back_op p t k n m region x r whole (op.Alloca bytes) = if_set (is_target x.result r) (register_demand t k r whole) (only [])
-back_op p t k n m region x r whole (op.CallKnown f args) = back_known t k f x r whole
+back_op p t k n m region x r whole (op.CallLibrary f args) = back_known t k f x r whole
 back_op p t k n m region x r whole (op.Gep base indices) = if_set (is_target x.result r) (register_demand t k r whole) (only (back_moved t k x.op whole))
 back_op p t k n m region x r whole o = if_set (is_target x.result r) (register_demand t k r whole) (only (of_values t k (operands_of o)))
 
@@ -190,7 +190,7 @@ if_plain false n qs = fixing (Exact n) qs
 abbrev pub back_store : ℕ → ℕ → ℕ → Access → ℕ → Bool → Op → Asked
 back_store t k n a b whole (op.Store w v at) =
     if is_within (range_of a) b then if_plain a.event n (of_value t k true v)
-    else if is_within (frame_of a.pointer) b then if_plain a.event n (byte_demand b whole ∷ []) else only (byte_demand b whole ∷ [])
+    else if is_within (bounds_of a.pointer) b then if_plain a.event n (byte_demand b whole ∷ []) else only (byte_demand b whole ∷ [])
 back_store t k n a b whole o = only (byte_demand b whole ∷ [])
 
 abbrev pub back_written : Event → TurnKind → Asked

@@ -1,6 +1,6 @@
 -- The parts of what is known along a run, one by one, and what may be asked of one.
 use Rattle.std.specs.Prelude.{◌≡◌, ℕ, suc, ◌==◌, not, List, [], ◌∷◌, length, Bool, true, false, if◌then◌else◌, slice_index_or}
-use Rattle.pg_slice_rules.specs.Shadows.{Shadow, Known, Framed, Unknown, unset}
+use Rattle.pg_slice_rules.specs.Shadows.{Shadow, Known, Bounded, Unknown, unset}
 use Rattle.pg_slice_rules.specs.Known.{RunShadow, thread_of}
 
 -- a register of a call of a thread, the call by how many calls the thread has with it on top; a byte; the word of a thread
@@ -9,7 +9,7 @@ pub data Cell : Type 0 where
   Byte : ℕ → Cell
   Word : ℕ → Cell
 
--- that a cell is known, or, where it isn't to be known whole, that its frame is
+-- that a cell is known, or, where it isn't to be known whole, that its bounds are
 pub record Demand : Type 0 where
   pub cell : Cell
   pub whole : Bool
@@ -26,7 +26,7 @@ cell_shadow s (Word t) = slice_index_or s.words t unset
 
 abbrev pub is_met : Bool → Shadow → Bool
 is_met whole (Known f g) = true
-is_met whole (Framed f x) = not whole
+is_met whole (Bounded f x) = not whole
 is_met whole (Unknown x) = false
 
 -- the demand is met by what is known

@@ -61,7 +61,7 @@ abbrev pub root_demands : Seen → Root → Bool → List Demand
 root_demands y (root.Register r) whole = register_demand (thread_in y.moment) (depth_of y) r whole ∷ []
 root_demands y r whole = []
 
--- along a path: the root is known where the path loads, and each cell that it loads is; else the root's frame is
+-- along a path: the root is known where the path loads, and each cell that it loads is; else the root's bounds are
 abbrev pub path_demands : (Bool → List Demand) → List ℕ → List ℕ → List ByteRange → List Demand
 path_demands word (k ∷ offsets) (w ∷ words) (cell ∷ cells) = word true ++ path_demands (λ whole. of_bytes cell.start 8) offsets words cells
 path_demands word offsets words cells = word false

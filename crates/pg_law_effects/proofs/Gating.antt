@@ -2,8 +2,8 @@
 use Rattle.std.proofs.Common.{◌≡◌, ℕ, ℤ, List, [], ◌∷◌, map, Bool, Option, Some, None, Result, Ok, Err, refl, sym, ◌∙◌, ap}
 use Rattle.std.specs.Prelude.{slice_get}
 use Rattle.pg_ir.specs.declared.ids.InstrId.{InstrId}
-use Rattle.pg_ir.specs.declared.known.Known.{Known}
-use Rattle.pg_ir.specs.declared.known.Known.TheVariants as known
+use Rattle.pg_ir.specs.declared.library_call.LibraryCall.{LibraryCall}
+use Rattle.pg_ir.specs.declared.library_call.LibraryCall.TheVariants as known
 use Rattle.pg_ir.specs.declared.instr.Op.{Op}
 use Rattle.pg_ir.specs.declared.instr.Op.TheVariants as op
 use Rattle.pg_ir.specs.declared.instr.Instr.{Instr}
@@ -14,14 +14,14 @@ use Rattle.pg_run_thread.specs.declared.action.Action.TheVariants as actions
 use Rattle.pg_run_trace.specs.declared.step.Step.{Step}
 use Rattle.pg_run_trace.specs.declared.step.StepKind.{StepKind}
 use Rattle.pg_run.specs.State.{State, initial, instr_of, next_of}
-use Rattle.pg_run.specs.MachineStep.{Answered, Stepped, Did, Trapped, answered, instr_told, is_gated, kind_told, known_told, local_after, number_in, op_told, operands_in, settled, step}
+use Rattle.pg_run.specs.MachineStep.{Answered, Stepped, Did, Trapped, answered, instr_told, is_gated, kind_told, library_told, local_after, number_in, op_told, operands_in, settled, step}
 use Rattle.pg_run.specs.MachineStep.{step_told, taken}
 use Rattle.pg_run.specs.Rotation.{rotation_of}
 use Rattle.pg_run.specs.Runs.{IsRun, Takes}
 use Rattle.pg_run.proofs.Runs.{rotation_runs}
 use Rattle.pg_law_effects.specs.Gates.{gated_as, marked, with_gates}
 
-known_marked : (b : Bool) (ns : List ℕ) (n : ℕ) (k : Known) → marked b (known_told ns n k) ≡ known_told ns n k
+known_marked : (b : Bool) (ns : List ℕ) (n : ℕ) (k : LibraryCall) → marked b (library_told ns n k) ≡ library_told ns n k
 known_marked b ns n known.Malloc = refl
 known_marked b ns n k = refl
 
@@ -29,7 +29,7 @@ op_marked : (b : Bool) (ns : List ℕ) (n : ℕ) (o : Op) → marked b (op_told 
 op_marked b ns n (op.CondBr c a d) = refl
 op_marked b ns n (op.Switch w on other cases) = refl
 op_marked b ns n (op.Alloca bytes) = refl
-op_marked b ns n (op.CallKnown k args) = known_marked b ns n k
+op_marked b ns n (op.CallLibrary k args) = known_marked b ns n k
 op_marked b ns n o = refl
 
 instr_marked : (b : Bool) (ns : List ℕ) (n : ℕ) (o : Option Instr) → marked b (instr_told ns n o) ≡ instr_told ns n o

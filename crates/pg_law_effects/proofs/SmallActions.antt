@@ -6,8 +6,8 @@ use Rattle.pg_num.specs.Numbers.{modulus, divided}
 use Rattle.pg_num.specs.Places.{ByteRange}
 use Rattle.pg_num.specs.declared.width.Width.{Width}
 use Rattle.pg_num.specs.declared.width.Width.TheVariants.{W1, W8, W16, W32, W64}
-use Rattle.pg_ir.specs.declared.known.Known.{Known}
-use Rattle.pg_ir.specs.declared.known.Known.TheVariants as known
+use Rattle.pg_ir.specs.declared.library_call.LibraryCall.{LibraryCall}
+use Rattle.pg_ir.specs.declared.library_call.LibraryCall.TheVariants as known
 use Rattle.pg_ir.specs.declared.request.Request.TheVariants as requests
 use Rattle.pg_ir.specs.declared.value.Scalar.{Scalar}
 use Rattle.pg_ir.specs.declared.value.Scalar.TheVariants.{Int, Ptr}
@@ -17,15 +17,15 @@ use Rattle.pg_ir.specs.declared.instr.Op.{Op}
 use Rattle.pg_ir.specs.declared.instr.Op.TheVariants as op
 use Rattle.pg_ir.specs.declared.instr.Instr.{Instr}
 use Rattle.pg_ir.specs.Program.{NumberedProgram, types_of, function_of, result_of}
-use Rattle.pg_ir.specs.WellFormed.{IsProgram, FitsOp, FitKnown, FitCreate, FitsReturn, HasType, HaveTypes, type_at, width_of}
-use Rattle.pg_run_thread.specs.declared.region.Region.{Region}
+use Rattle.pg_ir.specs.WellFormed.{IsProgram, FitsOp, FitLibraryCall, FitCreate, FitsReturn, HasType, HaveTypes, type_at, width_of}
+use Rattle.pg_run_thread.specs.declared.thread_memory.ThreadMemory.{ThreadMemory}
 use Rattle.pg_run_thread.specs.declared.action.Action.{Action}
 use Rattle.pg_run_thread.specs.declared.action.Action.TheVariants as actions
-use Rattle.pg_run_thread.specs.LocalState.{Frame, LocalState, region_of}
+use Rattle.pg_run_thread.specs.LocalState.{Frame, LocalState, own_memory}
 use Rattle.pg_run_thread.specs.Operands.{operand, argument, given, operands_of}
 use Rattle.pg_run_thread.specs.Compute.{chosen}
 use Rattle.pg_run_thread.specs.EdgeStep.{case_of}
-use Rattle.pg_run_thread.specs.Step.{next, frames_action, instr_action, op_action, create_action, exit_value, known_action, return_action, returning_action, bytes_of, total, has_room}
+use Rattle.pg_run_thread.specs.Step.{next, frames_action, instr_action, op_action, create_action, exit_value, library_action, return_action, returning_action, bytes_of, total, has_room}
 use Rattle.pg_run_thread.specs.States.{IsOf, AreFramesOf, AreValuesOf, StandsAt}
 use Rattle.pg_run_thread.proofs.Typed.{typed_number}
 use Rattle.pg_ir.specs.WellFormed.{granules_for}
@@ -89,8 +89,8 @@ create_small p types rs args program h t =
 
 -- ---- calls of known functions
 
-known_small : (p : NumberedProgram) (types : List Scalar) (t : ℕ) (halfway : Bool) (rs : List (Option ℕ)) (k : Known) (args : List Value) → IsProgram p → AreValuesOf types rs
-    → FitKnown p types k args → IsSmall (known_action p t halfway rs k args)
+known_small : (p : NumberedProgram) (types : List Scalar) (t : ℕ) (halfway : Bool) (rs : List (Option ℕ)) (k : LibraryCall) (args : List Value) → IsProgram p → AreValuesOf types rs
+    → FitLibraryCall p types k args → IsSmall (library_action p t halfway rs k args)
 known_small p types t halfway rs known.PgIn args program v h = number_is IsSmall p rs args _ traps_small (λ n. tt)
 known_small p types t halfway rs known.PgInLen args program v h = tt
 known_small p types t halfway rs known.PgOut args program v h = number_is IsSmall p rs args _ traps_small (λ n. tt)
@@ -132,7 +132,7 @@ returning_small p types rs returns depth None program h t = return_small p depth
 returning_small p types rs returns depth (Some v) program h t = on_value_is IsSmall (operand p rs v) _ traps_small
     (λ n e. return_small p depth n (returned_small p types rs returns v n program h t e))
 
-op_small : (p : NumberedProgram) (types : List Scalar) (rs : List (Option ℕ)) (returns result : Option Scalar) (r : Region) (halfway : Bool) (depth used block : ℕ) (o : Op) → IsProgram p
+op_small : (p : NumberedProgram) (types : List Scalar) (rs : List (Option ℕ)) (returns result : Option Scalar) (r : ThreadMemory) (halfway : Bool) (depth used block : ℕ) (o : Op) → IsProgram p
     → AreValuesOf types rs → FitsOp p types returns result o → IsSmall (op_action p r halfway rs depth used block o)
 op_small p types rs returns result r halfway depth used block (op.Divide d w a b) program h t =
     on_value_is IsSmall (operand p rs a) _ traps_small (λ m e. on_value_is IsSmall (operand p rs b) _ traps_small (λ n f. divided_is IsSmall (divided d w m n) traps_small tt))
@@ -152,7 +152,7 @@ op_small p types rs returns result r halfway depth used block (op.Store w v at) 
     on_value_is IsSmall (operand p rs v) _ traps_small (λ n e.
     on_value_is IsSmall (operand p rs at) _ traps_small (λ a f.
     on_place_is IsSmall a (bytes_of w) _ traps_small (λ q k. tt)))
-op_small p types rs returns result r halfway depth used block (op.CallKnown k args) program h t = known_small p types r.thread halfway rs k args program h t.1
+op_small p types rs returns result r halfway depth used block (op.CallLibrary k args) program h t = known_small p types r.thread halfway rs k args program h t.1
 op_small p types rs returns result r halfway depth used block o program h t = on_all_is IsSmall p rs (operands_of o) _ traps_small tt
 
 -- ---- the next action
@@ -163,7 +163,7 @@ instr_small p l f fs None program h e s = tt
 instr_small p l f fs (Some x) program h e s =
     let types = types_of p (function_of p x.block.0) in
     let values : AreValuesOf types f.registers = subst (λ (g : ℕ). AreValuesOf (types_of p g) f.registers) (sym s.0) h in
-    op_small p types f.registers (result_of p (function_of p x.block.0)) (type_at types x.result) (region_of l) l.halfway (length (f ∷ fs)) (total (f ∷ fs)) x.block.0 x.op program values
+    op_small p types f.registers (result_of p (function_of p x.block.0)) (type_at types x.result) (own_memory l) l.halfway (length (f ∷ fs)) (total (f ∷ fs)) x.block.0 x.op program values
     (program.instrs f.place x e).op
 
 frames_small : (p : NumberedProgram) (l : LocalState) (begun : Bool) (fs : List Frame) → IsProgram p → AreFramesOf p fs → IsSmall (frames_action p l begun fs)

@@ -4,8 +4,8 @@ use Rattle.std.specs.Prelude.{slice_get, slice_index, is_some}
 use Rattle.pg_num.specs.Places.{ByteRange}
 use Rattle.pg_num.specs.Pointers.{byte_place}
 use Rattle.pg_ir.specs.declared.ids.InstrId.{InstrId}
-use Rattle.pg_ir.specs.declared.known.Known.{Known}
-use Rattle.pg_ir.specs.declared.known.Known.TheVariants as known
+use Rattle.pg_ir.specs.declared.library_call.LibraryCall.{LibraryCall}
+use Rattle.pg_ir.specs.declared.library_call.LibraryCall.TheVariants as known
 use Rattle.pg_ir.specs.declared.instr.Op.{Op}
 use Rattle.pg_ir.specs.declared.instr.Op.TheVariants as op
 use Rattle.pg_ir.specs.declared.instr.Instr.{Instr}
@@ -23,7 +23,7 @@ use Rattle.pg_run_trace.specs.Steps.{access_in, access_of, event_of}
 use Rattle.pg_run.specs.Locality.{IfDid}
 use Rattle.pg_run.specs.Named.{IsNamed, IsRequestNamed}
 use Rattle.pg_run.specs.State.{State, instr_of, next_of}
-use Rattle.pg_run.specs.MachineStep.{Answered, Stepped, Did, Trapped, answered, event_told, instr_told, kind_told, known_told, number_in, op_told, operands_in, settled, step, step_told}
+use Rattle.pg_run.specs.MachineStep.{Answered, Stepped, Did, Trapped, answered, event_told, instr_told, kind_told, library_told, number_in, op_told, operands_in, settled, step, step_told}
 use Rattle.pg_run.specs.MachineStep.{taken, turn_of}
 use Rattle.pg_run.proofs.Named.{next_named, place_is}
 use Rattle.pg_run.proofs.Told.{event_told_is}
@@ -51,7 +51,7 @@ event_is gated p input s z t x e =
 -- ---- the access
 
 -- what only the thread's own state decides is no access and no event
-known_plain : (ns : List ℕ) (n : ℕ) (k : Known) → (access_in (known_told ns n k) ≡ None) × (asks (known_told ns n k) ≡ false)
+known_plain : (ns : List ℕ) (n : ℕ) (k : LibraryCall) → (access_in (library_told ns n k) ≡ None) × (asks (library_told ns n k) ≡ false)
 known_plain ns n known.Malloc = (refl, refl)
 known_plain ns n k = (refl, refl)
 
@@ -59,7 +59,7 @@ op_plain : (ns : List ℕ) (n : ℕ) (o : Op) → (access_in (op_told ns n o) �
 op_plain ns n (op.CondBr c a b) = (refl, refl)
 op_plain ns n (op.Switch w on other cases) = (refl, refl)
 op_plain ns n (op.Alloca bytes) = (refl, refl)
-op_plain ns n (op.CallKnown k args) = known_plain ns n k
+op_plain ns n (op.CallLibrary k args) = known_plain ns n k
 op_plain ns n o = (refl, refl)
 
 instr_plain : (ns : List ℕ) (n : ℕ) (o : Option Instr) → (access_in (instr_told ns n o) ≡ None) × (asks (instr_told ns n o) ≡ false)

@@ -10,8 +10,8 @@ use Rattle.pg_num.specs.declared.places.PlaceFault.{PlaceFault}
 use Rattle.pg_num.specs.declared.places.PlaceFault.TheVariants as fault
 use Rattle.pg_num.specs.declared.width.Width.{Width}
 use Rattle.pg_num.specs.declared.width.Width.TheVariants.{W1, W8, W16, W32, W64}
-use Rattle.pg_ir.specs.declared.known.Known.{Known}
-use Rattle.pg_ir.specs.declared.known.Known.TheVariants as known
+use Rattle.pg_ir.specs.declared.library_call.LibraryCall.{LibraryCall}
+use Rattle.pg_ir.specs.declared.library_call.LibraryCall.TheVariants as known
 use Rattle.pg_ir.specs.declared.request.Request.TheVariants as requests
 use Rattle.pg_ir.specs.declared.request.TrapName.TheVariants as traps
 use Rattle.pg_ir.specs.declared.value.Value.{Value}
@@ -33,7 +33,7 @@ use Rattle.pg_region_paths.proofs.Elements.{here}
 use Rattle.pg_region_summaries.specs.Summaries.{AreSummaries}
 use Rattle.pg_run_thread.specs.declared.action.Action.{Action}
 use Rattle.pg_run_thread.specs.declared.action.Action.TheVariants as actions
-use Rattle.pg_run_thread.specs.LocalState.{Frame, LocalState, region_of}
+use Rattle.pg_run_thread.specs.LocalState.{Frame, LocalState, own_memory}
 use Rattle.pg_run_thread.specs.Operands.{operand, operands_of, number_at, given, argument}
 use Rattle.pg_run_thread.specs.Compute.{chosen}
 use Rattle.pg_run_thread.specs.EdgeStep.{case_of}
@@ -42,10 +42,10 @@ use Rattle.pg_run_thread.specs.Step as step
 use Rattle.pg_run_thread.specs.Step.{op_action, op_after, on_all, on_place, placed, are_set, call_action, return_action, stepped, entered, bytes_of}
 use Rattle.pg_run_thread.specs.Step.{result_number, target_in, total, under_top}
 use Rattle.pg_run.proofs.Actions.{OfTraps, on_value_is, on_all_is, edge_is, call_is, divided_is}
-use Rattle.pg_slice_rules.specs.Freeable.{frame_of}
+use Rattle.pg_slice_rules.specs.Freeable.{bounds_of}
 use Rattle.pg_law_instances.specs.Leads.{IsReached, IsWithin, Leads, HasPath, KeepsCells}
 use Rattle.pg_law_instances.specs.Inside.{Instance, IsQuietSet, Stands, Waits, edge_taken, region_set}
-use Rattle.pg_law_instances.proofs.Paths.{within_frame, some_bytes, first_byte}
+use Rattle.pg_law_instances.proofs.Paths.{within_bounds, some_bytes, first_byte}
 use Rattle.pg_law_instances.proofs.Values.{load_has, gep_has, access_reached}
 use Rattle.pg_law_instances.proofs.Places.{at_block}
 use Rattle.pg_law_instances.proofs.Stepped.{table, types_at, stepped_stands}
@@ -55,12 +55,12 @@ use Rattle.pg_law_instances.proofs.Tops.{AtJoin, Arrived, Top, top_of}
 use Rattle.pg_num.proofs.Accesses.{place_of-bytes}
 use Rattle.pg_region_summaries.specs.Blocks.{blocks_of}
 
--- an access through this pointer, of an instruction that isn't gated, lies in its frame, which is the recorded frame of an access
+-- an access through this pointer, of an instruction that isn't gated, lies in its bounds, which are the recorded bounds of an access
 -- of its kind
 pub record Accesses (I : Instance) (place : ℕ) (writes : Bool) (word : ℕ) (r : ByteRange) : Type 0 where
   pub plain : I.gated place ≡ false
-  pub reached : IsReached I.recorded writes (frame_of word)
-  pub within : IsWithin r (frame_of word)
+  pub reached : IsReached I.recorded writes (bounds_of word)
+  pub within : IsWithin r (bounds_of word)
   pub start : r.start ≡ byte_place word
   pub some : 0 < r.bytes
 
@@ -242,15 +242,15 @@ module _ (I : Instance) (program : IsProgram I.program) (sums : AreSummaries I.p
   given_is : (v : Value) (w : ℕ) → operand I.program rs v ≡ Some w → given (operand I.program rs v) ≡ w
   given_is v w e = ap given e
 
-  known_goes : (k : Known) (args : List Value) (zs : RootedList) → x.op ≡ op.CallKnown k args → known_accesses k ≡ Some zs
-      → Q (op.CallKnown k args) (step.known_action I.program thread halfway rs k args)
-  known_goes known.PgIn args zs e q = on_value_is (Q (op.CallKnown known.PgIn args)) (argument I.program rs args 0) _ (λ n. tt)
-      (λ i t n. straight (op.CallKnown known.PgIn args) e refl _ (λ q k. absurd cc))
-  known_goes known.PgInLen args zs e q = λ n. straight (op.CallKnown known.PgInLen args) e refl _ (λ q k. absurd cc)
+  known_goes : (k : LibraryCall) (args : List Value) (zs : RootedList) → x.op ≡ op.CallLibrary k args → known_accesses k ≡ Some zs
+      → Q (op.CallLibrary k args) (step.library_action I.program thread halfway rs k args)
+  known_goes known.PgIn args zs e q = on_value_is (Q (op.CallLibrary known.PgIn args)) (argument I.program rs args 0) _ (λ n. tt)
+      (λ i t n. straight (op.CallLibrary known.PgIn args) e refl _ (λ q k. absurd cc))
+  known_goes known.PgInLen args zs e q = λ n. straight (op.CallLibrary known.PgInLen args) e refl _ (λ q k. absurd cc)
   known_goes _ args zs e q = absurd cc
 
   load_goes : (w : Width) (from : Value) (zs : RootedList) → x.op ≡ op.Load w from → OneAccess (I.gated f.place) f.place false (value_path paths from) zs → Leading zs
-      → Q (op.Load w from) (op_action I.program (region_of l) halfway rs (length (f ∷ fs)) (total (f ∷ fs)) x.block.0 (op.Load w from))
+      → Q (op.Load w from) (op_action I.program (own_memory l) halfway rs (length (f ∷ fs)) (total (f ∷ fs)) x.block.0 (op.Load w from))
   load_goes w from zs e one h =
       on_value_is (Q (op.Load w from)) (operand I.program rs from) _ (λ n. tt) (λ a o.
       place_known (Q (op.Load w from)) a (bytes_of w) _ (λ n. tt) (λ r t. (accessed a o r t, straight (op.Load w from) e refl (m r % modulus w) (λ q k. loads a o r t q is_pointer refl k))))
@@ -268,7 +268,7 @@ module _ (I : Instance) (program : IsProgram I.program) (sums : AreSummaries I.p
       accessed a o r t = rw o (record {
         plain = one.plain;
         reached = access_reached I.program top.set.registers I.memory I.recorded access one.path a lead refl (has a o);
-        within = within_frame a (bytes_of w) r t;
+        within = within_bounds a (bytes_of w) r t;
         start = first_byte a (bytes_of w) r t;
         some = some_bytes a (bytes_of w) r (width_bytes w) t;
       })
@@ -304,7 +304,7 @@ module _ (I : Instance) (program : IsProgram I.program) (sums : AreSummaries I.p
                   subst (λ (y : ℕ). m r < 2 ^ (8 * y)) n (small r) in k
 
   store_goes : (w : Width) (v to : Value) (zs : RootedList) → x.op ≡ op.Store w v to → OneAccess (I.gated f.place) f.place true (value_path paths to) zs → Leading zs
-      → Q (op.Store w v to) (op_action I.program (region_of l) halfway rs (length (f ∷ fs)) (total (f ∷ fs)) x.block.0 (op.Store w v to))
+      → Q (op.Store w v to) (op_action I.program (own_memory l) halfway rs (length (f ∷ fs)) (total (f ∷ fs)) x.block.0 (op.Store w v to))
   store_goes w v to zs e one h =
       on_value_is (Q (op.Store w v to)) (operand I.program rs v) _ (λ n. tt) (λ n u.
       on_value_is (Q (op.Store w v to)) (operand I.program rs to) _ (λ n. tt) (λ a o.
@@ -320,7 +320,7 @@ module _ (I : Instance) (program : IsProgram I.program) (sums : AreSummaries I.p
       accessed a o r t = rw o (record {
         plain = one.plain;
         reached = access_reached I.program top.set.registers I.memory I.recorded access one.path a lead refl (value_has I top.set f top.stands to one.path a one.is_path o);
-        within = within_frame a (bytes_of w) r t;
+        within = within_bounds a (bytes_of w) r t;
         start = first_byte a (bytes_of w) r t;
         some = some_bytes a (bytes_of w) r (width_bytes w) t;
       })
@@ -330,13 +330,13 @@ module _ (I : Instance) (program : IsProgram I.program) (sums : AreSummaries I.p
       (λ set. straight (op.Gep base indices) e refl _ (λ q k. moves set q k))
     where
       moves : are_set I.program rs (operands_of (op.Gep base indices)) ≡ true → (q : Path) → path_by paths is_pointer (op.Gep base indices) ≡ Some q
-          → HasIt q (result_number I.program (region_of l) rs (op.Gep base indices) 0)
+          → HasIt q (result_number I.program (own_memory l) rs (op.Gep base indices) 0)
       moves set q k =
           let b = mapped indices (value_path paths base) q k in
           let w = argument_set I.program rs (operands_of (op.Gep base indices)) 0 base set refl in
           let h : HasIt b.0 w.0 = value_has I top.set f top.stands base b.0 w.0 b.1 w.1 in
           let h' : HasIt b.0 (number_at I.program rs (operands_of (op.Gep base indices)) 0) = subst (λ (n : ℕ). HasIt b.0 n) (sym (given_is base w.0 w.1)) h in
-          subst (λ (z : Path). HasIt z (result_number I.program (region_of l) rs (op.Gep base indices) 0)) b.2
+          subst (λ (z : Path). HasIt z (result_number I.program (own_memory l) rs (op.Gep base indices) 0)) b.2
           (gep_has I.program top.set.registers I.memory I.recorded rs base indices b.0 (number_at I.program rs (operands_of (op.Gep base indices)) 0) h')
 
   call_goes : (g : ℕ) (args : List Value) (zs : RootedList) → x.op ≡ op.Call g args → called_accesses paths args (I.sums g) ≡ Some zs → Leading zs
@@ -371,7 +371,7 @@ module _ (I : Instance) (program : IsProgram I.program) (sums : AreSummaries I.p
             inside,
           )
 
-  return_goes : (v : Option Value) → top.set.returns ≡ true → Q (op.Ret v) (op_action I.program (region_of l) halfway rs (length (f ∷ fs)) (total (f ∷ fs)) x.block.0 (op.Ret v))
+  return_goes : (v : Option Value) → top.set.returns ≡ true → Q (op.Ret v) (op_action I.program (own_memory l) halfway rs (length (f ∷ fs)) (total (f ∷ fs)) x.block.0 (op.Ret v))
   return_goes v r = by_value v
     where
       below : Waits I.program f.function fs × Stands I fs
@@ -381,18 +381,18 @@ module _ (I : Instance) (program : IsProgram I.program) (sums : AreSummaries I.p
       back v n = subst (λ (b : Bool). Q (op.Ret v) (if b then actions.Event (requests.Exit n true) else actions.Local)) (sym (deep I.program f f.function fs below.0))
           (inl (returns_to I f.function (number_at I.program rs (operands_of (op.Ret v)) 0) fs program region below.0 below.1))
 
-      by_value : (v : Option Value) → Q (op.Ret v) (op_action I.program (region_of l) halfway rs (length (f ∷ fs)) (total (f ∷ fs)) x.block.0 (op.Ret v))
+      by_value : (v : Option Value) → Q (op.Ret v) (op_action I.program (own_memory l) halfway rs (length (f ∷ fs)) (total (f ∷ fs)) x.block.0 (op.Ret v))
       by_value None = back None 0
       by_value (Some w) = on_value_is (Q (op.Ret (Some w))) (operand I.program rs w) _ (λ n. tt) (λ n e. back (Some w) n)
 
   plain_goes : (o : Op) → x.op ≡ o → is_terminator o ≡ false → ((q : Path) → path_by paths is_pointer o ≡ Some q → ⊥)
-      → op_after I.program l x 0 o ≡ stepped f x.result (result_number I.program (region_of l) rs o 0) ∷ fs → (vs : List Value) → Q o (on_all I.program rs vs actions.Local)
+      → op_after I.program l x 0 o ≡ stepped f x.result (result_number I.program (own_memory l) rs o 0) ∷ fs → (vs : List Value) → Q o (on_all I.program rs vs actions.Local)
   plain_goes o e t none s vs = on_all_is (Q o) I.program rs vs actions.Local (λ n. tt)
-      (subst (Arrived I fs (edge_taken I.program rs o)) (sym s) (straight o e t (result_number I.program (region_of l) rs o 0) (λ q k. absurd (none q k))))
+      (subst (Arrived I fs (edge_taken I.program rs o)) (sym s) (straight o e t (result_number I.program (own_memory l) rs o 0) (λ q k. absurd (none q k))))
 
-  -- the action of a quiet operation: no event; an access leads to the recorded frame of an access of its kind; and the
+  -- the action of a quiet operation: no event; an access leads to the recorded bounds of an access of its kind; and the
   -- thread is inside or at the join behind it
-  pub op_goes : (o : Op) (zs : RootedList) → x.op ≡ o → Quietly o zs → Leading zs → Q o (op_action I.program (region_of l) halfway rs (length (f ∷ fs)) (total (f ∷ fs)) x.block.0 o)
+  pub op_goes : (o : Op) (zs : RootedList) → x.op ≡ o → Quietly o zs → Leading zs → Q o (op_action I.program (own_memory l) halfway rs (length (f ∷ fs)) (total (f ∷ fs)) x.block.0 o)
   op_goes (op.Divide d w a b) zs e q h =
       on_value_is (Q (op.Divide d w a b)) (operand I.program rs a) _ (λ n. tt)
       (λ i u. on_value_is (Q (op.Divide d w a b)) (operand I.program rs b) _ (λ n. tt)
@@ -414,5 +414,5 @@ module _ (I : Instance) (program : IsProgram I.program) (sums : AreSummaries I.p
   op_goes (op.Load w from) zs e q h = load_goes w from zs e (one_is (I.gated f.place) f.place false (value_path paths from) zs q) h
   op_goes (op.Store w v to) zs e q h = store_goes w v to zs e (one_is (I.gated f.place) f.place true (value_path paths to) zs q) h
   op_goes (op.Gep base indices) zs e q h = gep_goes base indices e
-  op_goes (op.CallKnown k args) zs e q h = known_goes k args zs e q
+  op_goes (op.CallLibrary k args) zs e q h = known_goes k args zs e q
   op_goes o zs e q h = plain_goes o e refl (λ q k. cc) refl (operands_of o)

@@ -17,7 +17,7 @@ use Rattle.pg_region.specs.declared.region.Region.{Region}
 use Rattle.pg_run_thread.specs.LocalState.{Frame, LocalState}
 use Rattle.pg_run.specs.State.{State}
 use Rattle.pg_slice_rules.specs.Moments.{Moment, number_in}
-use Rattle.pg_slice_rules.specs.Freeable.{FreeRegion, frame_of}
+use Rattle.pg_slice_rules.specs.Freeable.{FreeRegion, bounds_of}
 use Rattle.pg_law_instances.specs.Alike.{IsAlike, IsAlikeBranch, recorded_registers}
 use Rattle.pg_law_instances.specs.Free.{instance_of}
 use Rattle.pg_law_instances.specs.Inside.{IsAtBranch, registers_by}
@@ -65,7 +65,7 @@ module _ (p : NumberedProgram) (gated : ℕ → Bool) (sums : ℕ → Option Roo
       root : (w : ℕ) × (root_value p (recorded_registers m) a.path.root ≡ Some w) × (followed_from (number_in m) w (offsets_of a.path.loads) ≡ Some recorded.0)
       root = follows_root (number_in m) (offsets_of a.path.loads) (root_value p (recorded_registers m) a.path.root) recorded.0 recorded.1
 
-      reached : (last : ℕ) → frame_of last ≡ frame_of recorded.0.last → IsReached q.accesses a.writes (frame_of last)
+      reached : (last : ℕ) → bounds_of last ≡ bounds_of recorded.0.last → IsReached q.accesses a.writes (bounds_of last)
       reached last e = record { access = record { writes = a.writes; path = a.path; at = recorded.0 }; among = recorded.2; kind = refl; same = sym e }
 
       -- the path doesn't load
@@ -78,7 +78,7 @@ module _ (p : NumberedProgram) (gated : ℕ → Bool) (sums : ℕ → Option Roo
             is = root_follows (read s.memory) (offsets_of a.path.loads) (root_value p (registers_by f.registers) a.path.root) alike.word alike.is_word
                 ∙ ap (λ (v : Loads). followed_from (read s.memory) alike.word (offsets_of v)) e;
             loads = λ w d. absurd (none_in w d);
-            last = reached alike.word (alike.frame root.0 root.1 ∙ ap (λ (g : Followed). frame_of g.last) is);
+            last = reached alike.word (alike.bounds root.0 root.1 ∙ ap (λ (g : Followed). bounds_of g.last) is);
           }
 
       -- it loads
@@ -104,5 +104,5 @@ module _ (p : NumberedProgram) (gated : ℕ → Bool) (sums : ℕ → Option Roo
       go (FourTimes i j k n) e = some (no_never (FourTimes i j k n) e (λ k. cc))
 
   pub alike_begins : IsAtBranch (instance_of p gated sums r q s l f fs)
-  alike_begins = at_branch p gated sums r q s l f fs x h.program h.summaries h.begun h.frames h.is h.kind h.function (h.program.instrs f.place x h.is).block h.join access_leads
+  alike_begins = at_branch p gated sums r q s l f fs x h.program h.summaries h.begun h.bounds h.is h.kind h.function (h.program.instrs f.place x h.is).block h.join access_leads
       (apart_at q.accesses h.apart)

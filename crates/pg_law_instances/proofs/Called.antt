@@ -1,4 +1,4 @@
--- A call of a quiet function within an instance: what it accesses leads to recorded frames, too.
+-- A call of a quiet function within an instance: what it accesses leads to recorded bounds, too.
 use Rattle.std.proofs.Common.{◌≡◌, ℕ, zero, suc, ◌-◌, ◌<◌, Bool, true, false, cond, List, [], ◌∷◌, ◌++◌, length, map, replicate, Option, Some, None, refl, sym, ap}
 use Rattle.std.proofs.Common.{◌∙◌, subst, arith, inl}
 use Rattle.std.specs.Prelude.{Contains, slice_get, nat_lt, nat_le}
@@ -33,7 +33,7 @@ use Rattle.pg_run_thread.specs.LocalState.{Frame}
 use Rattle.pg_run_thread.specs.Operands.{operand, flat, pointer_to}
 use Rattle.pg_run_thread.specs.EdgeStep.{is_set}
 use Rattle.pg_run_thread.specs.Step.{entered, are_set}
-use Rattle.pg_slice_rules.specs.Freeable.{frame_of}
+use Rattle.pg_slice_rules.specs.Freeable.{bounds_of}
 use Rattle.pg_law_instances.specs.Leads.{HasPath, Leads, IsReached}
 use Rattle.pg_law_instances.specs.Inside.{Instance, QuietSet, IsQuietSet, StandsIn, registers_by}
 use Rattle.pg_law_instances.proofs.Places.{gathered_part}
@@ -155,7 +155,7 @@ module _ (I : Instance) (a : QuietSet) (f : Frame) (s : StandsIn I a f) (args : 
         at = l.at;
         is = rw (sym same, sym loads) l.is;
         loads = l.loads;
-        last = subst (λ (z : Bool). IsReached I.recorded z (frame_of l.at.last)) kind l.last;
+        last = subst (λ (z : Bool). IsReached I.recorded z (bounds_of l.at.last)) kind l.last;
       }
 
   -- an access of the callee, by the summary's and the caller's
@@ -198,7 +198,7 @@ module _ (I : Instance) (a : QuietSet) (f : Frame) (s : StandsIn I a f) (args : 
           let one : called_access (table I a f s) args b (root.Param k) ≡ Some g.0 = subst (λ (y : Root). called_access (table I a f s) args b y ≡ Some g.0) (sym t) g.1 in
           argument_there x b k g.0 (slice_get args k) refl one refl refl (λ z d. h z (g.2 z d)) q
 
-  -- what the callee accesses leads to recorded frames
+  -- what the callee accesses leads to recorded bounds
   pub callee_leads : (n : ℕ) (ys called zs : RootedList) → set_accesses true I.program I.gated I.sums (blocks_of I.program n) ≡ Some ys
       → seen (parameter_count I.program n) ys ≡ Some called → called_accesses (table I a f s) args (Some called) ≡ Some zs → LeadHere zs → (x : Rooted) → Contains ys x → LeadsThere x
   callee_leads n ys called zs e k c h x m =

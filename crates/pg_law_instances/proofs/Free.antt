@@ -22,7 +22,7 @@ use Rattle.pg_run_trace.specs.Races.{share}
 use Rattle.pg_run.specs.State.{State}
 use Rattle.pg_slice_rules.specs.Moments.{Moment, number_in, registers_in}
 use Rattle.pg_slice_rules.specs.Freeable as free
-use Rattle.pg_slice_rules.specs.Freeable.{FreeAccess, FreeRegion, RegionAccess, accesses_at, frame_of, loads_from, stores_on}
+use Rattle.pg_slice_rules.specs.Freeable.{FreeAccess, FreeRegion, RegionAccess, accesses_at, bounds_of, loads_from, stores_on}
 use Rattle.pg_law_instances.specs.Leads.{Leads}
 use Rattle.pg_law_instances.specs.Inside.{Instance, IsQuietSet, IsAtBranch, IsBranch, AreApart, region_set, registers_by}
 use Rattle.pg_slice_replay.specs.OfRegions.{free_access}
@@ -83,9 +83,9 @@ apart_at xs e stored loaded r l =
     let one : stores_on xs r.access ≡ false = none_of (stores_on xs) xs r.access e r.among in
     let any : list_any (loads_from r.access.at.last) xs ≡ false = not_both r.access.writes (list_any (loads_from r.access.at.last) xs) one r.kind in
     let load : loads_from r.access.at.last l.access ≡ false = none_of (loads_from r.access.at.last) xs l.access any l.among in
-    let at : share (frame_of r.access.at.last) (frame_of l.pointer) ≡ false =
-    none_of (λ (from : ℕ). share (frame_of r.access.at.last) (frame_of from)) l.access.at.pointers l.pointer load l.loads in
-    subst (λ (z : ByteRange). share z loaded ≡ false) r.same (subst (λ (z : ByteRange). share (frame_of r.access.at.last) z ≡ false) l.same at)
+    let at : share (bounds_of r.access.at.last) (bounds_of l.pointer) ≡ false =
+    none_of (λ (from : ℕ). share (bounds_of r.access.at.last) (bounds_of from)) l.access.at.pointers l.pointer load l.loads in
+    subst (λ (z : ByteRange). share z loaded ≡ false) r.same (subst (λ (z : ByteRange). share (bounds_of r.access.at.last) z ≡ false) l.same at)
 
 -- ---- the region
 
@@ -118,7 +118,7 @@ module _ (p : NumberedProgram) (gated : ℕ → Bool) (sums : ℕ → Option Roo
       go d (inl e) = inr (refl, e)
       go d (inr m) = inl m
 
-  -- a thread at a branch whose region's accesses lead to recorded frames is at the branch of the instance
+  -- a thread at a branch whose region's accesses lead to recorded bounds is at the branch of the instance
   pub at_branch : (x : Instr) → IsProgram p → AreSummaries p gated sums → l.begun ≡ true → l.frames ≡ f ∷ fs → slice_get p.instrs f.place ≡ Some x → IsBranch x.op
       → function_of p x.block.0 ≡ f.function → x.block.0 < length p.blocks →
       IsJoin p gated sums x.block.0 r.join r.blocks.items r.accesses.items → LeadsAll → AreApart q.accesses → IsAtBranch I
@@ -136,7 +136,7 @@ module _ (p : NumberedProgram) (gated : ℕ → Bool) (sums : ℕ → Option Roo
     apart = apart;
   }
 
-  -- in the run that recorded the frames they lead there
+  -- in the run that recorded the bounds they lead there
   pub leads_there : (m : Moment) → m.calls ≡ f ∷ fs → m.bytes ≡ byte_at s.memory → accesses_at p m (map free_access r.accesses.items) ≡ Some q.accesses → LeadsAll
   unfolding read
   leads_there m calls bytes e a c = go (followed_at p m r.accesses.items q.accesses a e c)

@@ -22,7 +22,7 @@ use Rattle.pg_run.specs.MachineStep.{is_gated}
 use Rattle.pg_run.specs.Runs.{IsRun}
 use Rattle.pg_slice_rules.specs.Moments.{Moment, instr_in}
 use Rattle.pg_slice_rules.specs.Extents.{Extent, begun, ends, open_after}
-use Rattle.pg_slice_rules.specs.Freeable.{FreeRegion, Regions, frame_of, region_at}
+use Rattle.pg_slice_rules.specs.Freeable.{FreeRegion, Regions, bounds_of, region_at}
 use Rattle.pg_slice_rules.specs.Known.{Reference, Seen, is_branch, region_of}
 use Rattle.pg_slice_rules.specs.Rules.{kind_in}
 use Rattle.pg_slice_rules.specs.Shadows.{is_within}
@@ -64,8 +64,8 @@ branch_none (told.Allocation a r) e = refl
 branch_none (told.Access a) e = absurd cc
 branch_none (told.Event v) e = absurd cc
 
-within_frame : (a b : ByteRange) (i : ℕ) → IsWithin a b → is_within a i ≡ true → is_within b i ≡ true
-within_frame a b i h e = let f = h.from in let g = h.end in grind (arith, nat_tests, e, f, g)
+within_bounds : (a b : ByteRange) (i : ℕ) → IsWithin a b → is_within a i ≡ true → is_within b i ≡ true
+within_bounds a b i h e = let f = h.from in let g = h.end in grind (arith, nat_tests, e, f, g)
 
 module _ (p : NumberedProgram) (gates : List InstrId) (sums : ℕ → Option RootedList) (regions : Regions) (are : AreRegions p (λ i. is_gated gates i) sums regions) (moments : List Moment)
     (free_of : ℕ → Option FreeRegion) (block_of : ℕ → ℕ) (program : IsProgram p) (summaries : AreSummaries p (λ i. is_gated gates i) sums)
@@ -140,13 +140,13 @@ module _ (p : NumberedProgram) (gates : List InstrId) (sums : ℕ → Option Roo
 
     -- ---- what holds before the step
 
-    pub store_frames : (a : Access) → StoresBy R y a → (b : ℕ) → is_within (range_of a) b ≡ true → is_within (frame_of a.pointer) b ≡ true
-    store_frames a st b v = go took_one.did
+    pub store_bounds : (a : Access) → StoresBy R y a → (b : ℕ) → is_within (range_of a) b ≡ true → is_within (bounds_of a.pointer) b ≡ true
+    store_bounds a st b v = go took_one.did
       where
         k : x.kind ≡ told.Access a
         k = sym kind_is ∙ st.kind
 
-        go : IsPlain ⊎ IsRequest → is_within (frame_of a.pointer) b ≡ true
+        go : IsPlain ⊎ IsRequest → is_within (bounds_of a.pointer) b ≡ true
         go (inr q) = absurd (let u : told.Event q.event ≡ told.Access a = sym q.is ∙ k in cc)
         go (inl q) = by_access (subst (TellsPlain (is_gated gates q.frame.place) q.instr.op) k q.tells).by
           where
@@ -154,9 +154,9 @@ module _ (p : NumberedProgram) (gates : List InstrId) (sums : ℕ → Option Roo
             store = ap (λ (j : Instr). is_store j.op) (same_instr p gates sums regions are moments free_of block_of program summaries input small s w z t l x xs y h run together next q st.instr
                 st.stands) ∙ st.store
 
-            by_access : (IsLoad q.instr.op × (a.writes ≡ false)) ⊎ (IsStore q.instr.op × (a.writes ≡ true) × IsPlacedAt a.pointer (range_of a)) → is_within (frame_of a.pointer) b ≡ true
+            by_access : (IsLoad q.instr.op × (a.writes ≡ false)) ⊎ (IsStore q.instr.op × (a.writes ≡ true) × IsPlacedAt a.pointer (range_of a)) → is_within (bounds_of a.pointer) b ≡ true
             by_access (inl c) = absurd (no_store q.instr.op c.0 store)
-            by_access (inr c) = within_frame (range_of a) (frame_of a.pointer) b c.2.within v
+            by_access (inr c) = within_bounds (range_of a) (bounds_of a.pointer) b c.2.within v
 
     pub branch_is : (r : FreeRegion) → y.region ≡ Some r → (i : Instr) → instr_of R y ≡ Some i → is_branching i.op ≡ true
     branch_is r e i v = go took_one.did

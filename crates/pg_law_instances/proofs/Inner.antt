@@ -3,8 +3,8 @@ use Rattle.std.proofs.Common.{◌≡◌, ℕ, ◌*◌, ◌<◌, ◌^◌, Bool, t
 use Rattle.std.proofs.Common.{◌⊎◌}
 use Rattle.std.specs.Prelude.{Contains, slice_get, slice_index}
 use Rattle.pg_num.specs.Places.{ByteRange}
-use Rattle.pg_ir.specs.declared.known.Known.{Known}
-use Rattle.pg_ir.specs.declared.known.Known.TheVariants as known
+use Rattle.pg_ir.specs.declared.library_call.LibraryCall.{LibraryCall}
+use Rattle.pg_ir.specs.declared.library_call.LibraryCall.TheVariants as known
 use Rattle.pg_ir.specs.declared.instr.Instr.{Instr}
 use Rattle.pg_ir.specs.declared.instr.Op.{Op}
 use Rattle.pg_ir.specs.declared.instr.Op.TheVariants as op
@@ -14,8 +14,8 @@ use Rattle.pg_region_paths.specs.declared.path.Path.{Path}
 use Rattle.pg_region_accesses.specs.Accesses.{RootedList, known_accesses, op_accesses}
 use Rattle.pg_run_thread.specs.declared.action.Action.{Action}
 use Rattle.pg_run_thread.specs.declared.action.Action.TheVariants as actions
-use Rattle.pg_run_thread.specs.declared.region.Region.{Region}
-use Rattle.pg_run_thread.specs.LocalState.{Frame, LocalState, region_of}
+use Rattle.pg_run_thread.specs.declared.thread_memory.ThreadMemory.{ThreadMemory}
+use Rattle.pg_run_thread.specs.LocalState.{Frame, LocalState, own_memory}
 use Rattle.pg_run_thread.specs.Operands.{operand, operands_of, given, first_four}
 use Rattle.pg_run_thread.specs.Compute.{chosen}
 use Rattle.pg_run_thread.specs.EdgeStep.{case_of}
@@ -44,20 +44,20 @@ IsCalmKind told.Other = Unit {0}
 IsCalmKind (told.Branch c) = Unit {0}
 IsCalmKind k = ⊥
 
-pub record IsCalm (p : NumberedProgram) (h : Bool) (r : Region) (rs : List (Option ℕ)) (o : Op) : Type 0 where
+pub record IsCalm (p : NumberedProgram) (h : Bool) (r : ThreadMemory) (rs : List (Option ℕ)) (o : Op) : Type 0 where
   pub halfway : halfway_after h o ≡ false
   pub heap : heap_after p r rs o ≡ r.heap
   pub told : (ns : List ℕ) (n : ℕ) → IsCalmKind (op_told ns n o)
 
-known_calm : (p : NumberedProgram) (h : Bool) (r : Region) (rs : List (Option ℕ)) (k : Known) (args : List Value) (zs : RootedList) → known_accesses k ≡ Some zs
-    → IsCalm p h r rs (op.CallKnown k args)
+known_calm : (p : NumberedProgram) (h : Bool) (r : ThreadMemory) (rs : List (Option ℕ)) (k : LibraryCall) (args : List Value) (zs : RootedList) → known_accesses k ≡ Some zs
+    → IsCalm p h r rs (op.CallLibrary k args)
 known_calm p h r rs known.PgIn args zs e = record { halfway = refl; heap = refl; told = λ ns n. tt }
 known_calm p h r rs known.PgInLen args zs e = record { halfway = refl; heap = refl; told = λ ns n. tt }
 known_calm p h r rs _ args zs e = absurd cc
 
-pub quiet_calm : (p : NumberedProgram) (h : Bool) (r : Region) (rs : List (Option ℕ)) (m : Bool) (gated : ℕ → Bool) (sums : ℕ → Option RootedList) (f : ℕ → Option Path) (i : ℕ)
+pub quiet_calm : (p : NumberedProgram) (h : Bool) (r : ThreadMemory) (rs : List (Option ℕ)) (m : Bool) (gated : ℕ → Bool) (sums : ℕ → Option RootedList) (f : ℕ → Option Path) (i : ℕ)
     (o : Op) (zs : RootedList) → op_accesses m gated sums f i o ≡ Some zs → IsCalm p h r rs o
-quiet_calm p h r rs m gated sums f i (op.CallKnown k args) zs e = known_calm p h r rs k args zs e
+quiet_calm p h r rs m gated sums f i (op.CallLibrary k args) zs e = known_calm p h r rs k args zs e
 quiet_calm p h r rs m gated sums f i (op.Alloca bytes) zs e = absurd cc
 quiet_calm p h r rs m gated sums f i o zs e = record { halfway = refl; heap = refl; told = λ ns n. tt }
 
@@ -87,7 +87,7 @@ module _ (I : Instance) (m : ByteRange → ℕ) (thread heap : ℕ) (halfway : B
   there = record { thread = thread; begun = true; halfway = halfway; frames = f ∷ fs; heap = heap }
 
   arrived : thread ≡ I.state.thread → heap ≡ I.state.heap → (x : Instr) (n : ℕ) → slice_get I.program.instrs f.place ≡ Some x
-      → IsCalm I.program halfway (region_of there) f.registers x.op → Arrived I fs (edge_taken I.program f.registers x.op) (op_after I.program there x n x.op)
+      → IsCalm I.program halfway (own_memory there) f.registers x.op → Arrived I fs (edge_taken I.program f.registers x.op) (op_after I.program there x n x.op)
       → GoesOn I there (after I.program there n)
   unfolding id_of
   arrived t h x n at calm a = subst (GoesOn I there) (sym (after_at I.program there x n refl (omega arith) at)) (go a)
@@ -105,7 +105,7 @@ module _ (I : Instance) (m : ByteRange → ℕ) (thread heap : ℕ) (halfway : B
   unfolding id_of
   operand_first x k at = ap (λ (ns : List ℕ). slice_index ns k) (operands_at I.program there x refl (omega arith) at)
 
-  lift : thread ≡ I.state.thread → heap ≡ I.state.heap → (x : Instr) → slice_get I.program.instrs f.place ≡ Some x → IsCalm I.program halfway (region_of there) f.registers x.op
+  lift : thread ≡ I.state.thread → heap ≡ I.state.heap → (x : Instr) → slice_get I.program.instrs f.place ≡ Some x → IsCalm I.program halfway (own_memory there) f.registers x.op
       → (a : Action) → Goes I m there f.place f.registers x x.op a → GoesFrom I m there a
   unfolding id_of
   lift t h x at calm actions.Local g = arrived t h x 0 at calm g
@@ -128,12 +128,12 @@ module _ (I : Instance) (m : ByteRange → ℕ) (thread heap : ℕ) (halfway : B
   unfolding id_of
   none_there e = record { goes = subst (GoesFrom I m there) (sym (ended e)) tt; calm = λ y q. absurd cc }
 
-  some_there : thread ≡ I.state.thread → heap ≡ I.state.heap → (x : Instr) → slice_get I.program.instrs f.place ≡ Some x → IsCalm I.program halfway (region_of there) f.registers x.op →
-      Goes I m there f.place f.registers x x.op (op_action I.program (region_of there) halfway f.registers (length (f ∷ fs)) (total (f ∷ fs)) x.block.0 x.op) → Proceeds I m there
+  some_there : thread ≡ I.state.thread → heap ≡ I.state.heap → (x : Instr) → slice_get I.program.instrs f.place ≡ Some x → IsCalm I.program halfway (own_memory there) f.registers x.op →
+      Goes I m there f.place f.registers x x.op (op_action I.program (own_memory there) halfway f.registers (length (f ∷ fs)) (total (f ∷ fs)) x.block.0 x.op) → Proceeds I m there
   unfolding id_of
   some_there t h x at calm g = record {
     goes = subst (GoesFrom I m there) (sym (next_at I.program there x refl (omega arith) at))
-        (lift t h x at calm (op_action I.program (region_of there) halfway f.registers (length (f ∷ fs)) (total (f ∷ fs)) x.block.0 x.op) g);
+        (lift t h x at calm (op_action I.program (own_memory there) halfway f.registers (length (f ∷ fs)) (total (f ∷ fs)) x.block.0 x.op) g);
     calm = λ y q ns n. subst (λ (z : Instr). IsCalmKind (op_told ns n z.op)) (same_instr x y at q) (calm.told ns n);
   }
 
@@ -147,7 +147,7 @@ module _ (I : Instance) (m : ByteRange → ℕ) (thread heap : ℕ) (halfway : B
       go (Some x) e =
           let top = top_of I f fs b.region s in
           let q = quiet_at I top.set f x b.program top.quiet top.stands e in
-          some_there t h x e (quiet_calm I.program halfway (region_of there) f.registers top.set.returns I.gated I.sums _ f.place x.op q.0 q.1)
+          some_there t h x e (quiet_calm I.program halfway (own_memory there) f.registers top.set.returns I.gated I.sums _ f.place x.op q.0 q.1)
           (op_goes I b.program b.summaries b.region m keeps small thread heap halfway f fs s x e x.op q.0 refl q.1 q.2)
 
   -- at the branch
@@ -157,7 +157,7 @@ module _ (I : Instance) (m : ByteRange → ℕ) (thread heap : ℕ) (halfway : B
       at : slice_get I.program.instrs f.place ≡ Some b.branch
       at = rw fe b.is
 
-      calm : (o : Op) → IsBranch o → IsCalm I.program halfway (region_of there) f.registers o
+      calm : (o : Op) → IsBranch o → IsCalm I.program halfway (own_memory there) f.registers o
       calm (op.CondBr c x y) k = record { halfway = refl; heap = refl; told = λ ns n. tt }
       calm (op.Switch w on other cases) k = record { halfway = refl; heap = refl; told = λ ns n. tt }
       calm o k = absurd k
@@ -199,7 +199,7 @@ module _ (I : Instance) (m : ByteRange → ℕ) (thread heap : ℕ) (halfway : B
           )
 
       goes : (o : Op) → b.branch.op ≡ o → IsBranch o → Goes I m there f.place f.registers b.branch o
-          (op_action I.program (region_of there) halfway f.registers (length (f ∷ fs)) (total (f ∷ fs)) b.branch.block.0 o)
+          (op_action I.program (own_memory there) halfway f.registers (length (f ∷ fs)) (total (f ∷ fs)) b.branch.block.0 o)
       goes (op.CondBr c x y) e k =
           on_value_is (Goes I m there f.place f.registers b.branch (op.CondBr c x y)) (operand I.program f.registers c) _ (λ n. tt)
           (λ n u. edge_is (Goes I m there f.place f.registers b.branch (op.CondBr c x y)) I.program f.registers b.branch.block.0 (chosen n x.0 y.0) (λ n. tt)

@@ -16,7 +16,7 @@ use Rattle.pg_region.proofs.Within.{regions_nest}
 use Rattle.pg_run_thread.specs.LocalState.{Frame, LocalState}
 use Rattle.pg_run.specs.State.{State}
 use Rattle.pg_run.specs.MachineStep.{is_gated}
-use Rattle.pg_slice_rules.specs.Freeable.{FreeRegion, frame_of}
+use Rattle.pg_slice_rules.specs.Freeable.{FreeRegion, bounds_of}
 use Rattle.pg_law_instances.specs.Free.{instance_of}
 use Rattle.pg_law_instances.specs.Inner.{GoesOnInside, LiesWithin}
 use Rattle.pg_law_instances.specs.Inside.{Instance, IsBottom, Stands, region_set, registers_by}
@@ -45,10 +45,10 @@ module _ (p : NumberedProgram) (gated : List InstrId) (sums : ℕ → Option Roo
       regions_nest p (λ i. is_gated gated i) sums c x.block.0 v.block outer inner is_outer is_inner d v.path v.loud
 
   leads : (a : Rooted) (f : Followed) → Contains inner.accesses.items a → followed p (registers_by frame.registers) (read s.memory) a.path ≡ Some f
-      → LeadsTo q.accesses a.writes (frame_of f.last)
+      → LeadsTo q.accesses a.writes (bounds_of f.last)
   leads a f m e = go stands
     where
-      go : Stands I (frame ∷ below) → LeadsTo q.accesses a.writes (frame_of f.last)
+      go : Stands I (frame ∷ below) → LeadsTo q.accesses a.writes (bounds_of f.last)
       go (inl b) = inner_reached I (region_set I) frame (read s.memory) inner.blocks.items inner.accesses.items a f h.can.branch.region b.stands h.can.cells is_inner.join.quiet (nest b).blocks m e
       go (inr b) =
           let blk = (at_block I b.0.set frame x h.can.branch.program b.0.stands at).0 in

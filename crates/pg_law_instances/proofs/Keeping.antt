@@ -33,7 +33,7 @@ use Rattle.pg_run.specs.Runs.{IsRun}
 use Rattle.pg_law_effects.specs.Reached.{IsReached}
 use Rattle.pg_slice_rules.specs.Moments.{Moment, instr_in, number_in, registers_in}
 use Rattle.pg_slice_rules.specs.Extents.{Extent, edge_by, edge_in}
-use Rattle.pg_slice_rules.specs.Freeable.{FreeAccess, FreeRegion, Regions, frame_of, region_at}
+use Rattle.pg_slice_rules.specs.Freeable.{FreeAccess, FreeRegion, Regions, bounds_of, region_at}
 use Rattle.pg_slice_rules.specs.Known.{Reference, Seen, caller_target, edge_of, is_branch, region_of, target_of}
 use Rattle.pg_slice_rules.specs.Rules.{kind_in}
 use Rattle.pg_slice_rules.specs.Shadows.{is_within}
@@ -232,21 +232,21 @@ module _ (p : NumberedProgram) (gates : List InstrId) (sums : ℕ → Option Roo
             go (g ∷ gs) (inl b) n = absurd (let k = ap (λ (cs : List Frame). length cs) b.lower in omega (arith, k, n, o.depth))
             go (g ∷ gs) (inr a) n = of_instr g gs (bottom_of I g gs a.1 (omega (arith, n, o.depth))) (slice_get p.instrs g.place) refl
 
-        stores_here : (a : Access) → StoresBy R y a → (b : ℕ) → is_within (frame_of a.pointer) b ≡ true → may_write o.free.accesses b ≡ true
+        stores_here : (a : Access) → StoresBy R y a → (b : ℕ) → is_within (bounds_of a.pointer) b ≡ true → may_write o.free.accesses b ≡ true
         stores_here a st b v =
             let k : x.kind ≡ told.Access a = sym kind_here ∙ st.kind in
             let within : AccessesWithin I a = subst (TellsWithin I) k stays.tells in
             let tells : TellsAccess (is_gated gates f.place) q.instr.op a = subst (TellsPlain (is_gated gates f.place) q.instr.op) k q.tells in
             let store : is_store q.instr.op ≡ true = ap (λ (j : Instr). is_store j.op) (same_instr st.instr st.stands) ∙ st.store in
-            reached_write o.free.accesses (frame_of a.pointer) a.writes b within.frame (writes store tells.by) v
+            reached_write o.free.accesses (bounds_of a.pointer) a.writes b within.bounds (writes store tells.by) v
           where
             writes : is_store q.instr.op ≡ true → (IsLoad q.instr.op × (a.writes ≡ false)) ⊎ (IsStore q.instr.op × (a.writes ≡ true) × IsPlacedAt a.pointer (range_of a))
                 → a.writes ≡ true
             writes u (inl c) = absurd (no_store q.instr.op c.0 u)
             writes u (inr c) = c.1
 
-        -- the accesses of a region that begins here lead to recorded frames
-        pub inner_leads : (r : FreeRegion) → y.region ≡ Some r → (a : FreeAccess) → Contains r.accesses a → LeadsTo o.free.accesses a.writes (frame_of a.at.last)
+        -- the accesses of a region that begins here lead to recorded bounds
+        pub inner_leads : (r : FreeRegion) → y.region ≡ Some r → (a : FreeAccess) → Contains r.accesses a → LeadsTo o.free.accesses a.writes (bounds_of a.at.last)
         unfolding read
         inner_leads r v a c = by_stands stands
           where
@@ -261,10 +261,10 @@ module _ (p : NumberedProgram) (gates : List InstrId) (sums : ℕ → Option Roo
                 subst (λ (b : ℕ → ℕ). followed p (registers_by f.registers) (λ (r : ByteRange). number_of b r.start r.bytes) source.access.path ≡ Some a.at) h.moment.bytes
                 (subst (λ (cs : List Frame). followed p (registers_by (registers_in cs)) (number_in y.moment) source.access.path ≡ Some a.at) calls_here source.is)
 
-            lead : LeadsTo o.free.accesses source.access.writes (frame_of a.at.last) → LeadsTo o.free.accesses a.writes (frame_of a.at.last)
-            lead k = subst (λ (b : Bool). LeadsTo o.free.accesses b (frame_of a.at.last)) (sym source.kind) k
+            lead : LeadsTo o.free.accesses source.access.writes (bounds_of a.at.last) → LeadsTo o.free.accesses a.writes (bounds_of a.at.last)
+            lead k = subst (λ (b : Bool). LeadsTo o.free.accesses b (bounds_of a.at.last)) (sym source.kind) k
 
-            by_stands : Stands I (f ∷ q.below) → LeadsTo o.free.accesses a.writes (frame_of a.at.last)
+            by_stands : Stands I (f ∷ q.below) → LeadsTo o.free.accesses a.writes (bounds_of a.at.last)
             by_stands (inl b) =
                 lead (inner_reached I (region_set I) f (read s.memory) g.region.blocks.items g.region.accesses.items source.access a.at o.can.branch.region b.stands o.can.cells g.is_region.join.quiet
                 (open_nested p gates sums are.found free_of block_of input (x ∷ xs) s z t l e program summaries small o h.reached run together next q.instr.block.0 g.region g.is_region
@@ -280,9 +280,9 @@ module _ (p : NumberedProgram) (gates : List InstrId) (sums : ℕ → Option Roo
 
         inner_stores_here : (r : FreeRegion) → y.region ≡ Some r → (b : ℕ) → may_write r.accesses b ≡ true → may_write o.free.accesses b ≡ true
         inner_stores_here r v b u =
-            let a = any_source (λ (c : FreeAccess). c.writes && is_within (frame_of c.at.last) b) r.accesses u in
-            let k = and_parts a.0.writes (is_within (frame_of a.0.at.last) b) a.2 in
-            reached_write o.free.accesses (frame_of a.0.at.last) a.0.writes b (inner_leads r v a.0 a.1) k.0 k.1
+            let a = any_source (λ (c : FreeAccess). c.writes && is_within (bounds_of c.at.last) b) r.accesses u in
+            let k = and_parts a.0.writes (is_within (bounds_of a.0.at.last) b) a.2 in
+            reached_write o.free.accesses (bounds_of a.0.at.last) a.0.writes b (inner_leads r v a.0 a.1) k.0 k.1
 
         pub keeps_here : KeepsTo R o.free e.depth y
         keeps_here = record {

@@ -15,7 +15,7 @@ use Rattle.pg_region_accesses.specs.Laws.{IsQuiet}
 use Rattle.pg_region_summaries.specs.Summaries.{AreSummaries}
 use Rattle.pg_run_thread.specs.declared.action.Action.{Action}
 use Rattle.pg_run_thread.specs.declared.action.Action.TheVariants as actions
-use Rattle.pg_run_thread.specs.LocalState.{Frame, LocalState, region_of}
+use Rattle.pg_run_thread.specs.LocalState.{Frame, LocalState, own_memory}
 use Rattle.pg_run_thread.specs.Step.{next, op_action, frames_action, instr_action, total}
 use Rattle.pg_run_thread.specs.States.{AreFramesOf, IsOf}
 use Rattle.pg_run_trace.specs.declared.step.Step.{Step}
@@ -87,7 +87,7 @@ pub record Present (p : NumberedProgram) (l : LocalState) (a : Action) : Type 0 
   pub instr : Instr
   pub frames : l.frames ≡ frame ∷ below
   pub is : slice_get p.instrs frame.place ≡ Some instr
-  pub action : op_action p (region_of l) l.halfway frame.registers (length (frame ∷ below)) (total (frame ∷ below)) instr.block.0 instr.op ≡ a
+  pub action : op_action p (own_memory l) l.halfway frame.registers (length (frame ∷ below)) (total (frame ∷ below)) instr.block.0 instr.op ≡ a
 
 pub present : (p : NumberedProgram) (l : LocalState) (a : Action) → l.begun ≡ true → next p l ≡ a → (a ≡ actions.Ended → ⊥) → Present p l a
 unfolding next
@@ -124,7 +124,7 @@ module _ (p : NumberedProgram) (gates : List InstrId) (gated : ℕ → Bool) (sa
   asked_loud s t l x z m r e b y q =
       let h = present p l (actions.Event q.request) b q.asks (not_event_ended q.request) in
       not_quiet p gated sums program summaries j l.frames h.frame h.below h.instr h.frames (frames_of p s t l r e) y h.is (λ k.
-      subst (AsksNothing h.below h.instr.op) h.action (quiet_asks_nothing p (region_of l) l.halfway h.frame h.below h.instr.block.0 gated sums h.frame.place h.instr.op k))
+      subst (AsksNothing h.below h.instr.op) h.action (quiet_asks_nothing p (own_memory l) l.halfway h.frame h.below h.instr.block.0 gated sums h.frame.place h.instr.op k))
 
   -- a step of a thread beyond the join, where more is known of what follows it
   beyond_step : (x : Step) (xs : List Step) (s z : State) (t : ℕ) (l : LocalState) → IsReached p s → slice_get s.locals t ≡ Some l → l.begun ≡ true → IsBeyond l.frames

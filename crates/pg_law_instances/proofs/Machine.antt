@@ -24,7 +24,7 @@ use Rattle.pg_run.specs.MachineStep.{Did, answered, instr_told, is_gated, kind_t
 use Rattle.pg_num.specs.Inputs.{input_at}
 use Rattle.pg_run.proofs.Asks.{next_is, ready_acts}
 use Rattle.pg_run.proofs.Threads.{set_own, set_other}
-use Rattle.pg_slice_rules.specs.Freeable.{frame_of}
+use Rattle.pg_slice_rules.specs.Freeable.{bounds_of}
 use Rattle.pg_slice_rules.specs.Shadows.{is_within}
 use Rattle.pg_num.specs.declared.layout.TheConstants.{MEMORY_BYTES}
 use Rattle.pg_law_instances.specs.Leads.{IsWithin, KeepsCells}
@@ -41,17 +41,18 @@ apart_ranges a b q r e h k x y = let hf = h.from in let he = h.end in let kf = k
 pub stored_keeps : (I : Instance) (m : Words) (place word n : ℕ) (q : ByteRange) → AreApart I.recorded → Accesses I place true word q → KeepsCells I.recorded I.memory (read m)
     → KeepsCells I.recorded I.memory (read (written m q n))
 stored_keeps I m place word n q apart a k = record {
-  kept = λ frame r l w some lt. read-written_apart m q r n lt (apart_ranges (frame_of word) frame q r (apart (frame_of word) frame a.reached l) a.within w a.some some) ∙ k.kept frame r l w some lt;
+  kept = λ bounds r l w some lt. read-written_apart m q r n lt (apart_ranges (bounds_of word) bounds q r (apart (bounds_of word) bounds a.reached l) a.within w a.some some)
+      ∙ k.kept bounds r l w some lt;
 }
 
-outside_range : (frame q : ByteRange) (b : ℕ) → IsWithin q frame → is_within frame b ≡ false → is_within q b ≡ false
-outside_range frame q b h e = let f = h.from in let g = h.end in grind (arith, nat_tests, e, f, g)
+outside_range : (bounds q : ByteRange) (b : ℕ) → IsWithin q bounds → is_within bounds b ≡ false → is_within q b ≡ false
+outside_range bounds q b h e = let f = h.from in let g = h.end in grind (arith, nat_tests, e, f, g)
 
--- a store leaves each byte outside of the frames of stores
+-- a store leaves each byte outside of the bounds of stores
 pub stored_bytes : (I : Instance) (m : Words) (place word n : ℕ) (q : ByteRange) → Accesses I place true word q → (b : ℕ) → b < MEMORY_BYTES → IsOutside I.recorded b
     → byte_at (written m q n) b ≡ byte_at m b
 stored_bytes I m place word n q a b lt h =
-    let e : is_within q b ≡ false = outside_range (frame_of word) q b a.within (h (frame_of word) a.reached) in
+    let e : is_within q b ≡ false = outside_range (bounds_of word) q b a.within (h (bounds_of word) a.reached) in
     byte_at-written_law m q n b lt ∙ ap (λ (c : Bool). if c then byte_of n (b - q.start) else byte_at m b) e
 
 -- ---- what is told
@@ -120,7 +121,7 @@ module _ (I : Instance) (gated : List InstrId) (input : List ℤ) (s z : State) 
       AccessesWithin I (record { pointer = w; number = number; bytes = r.bytes; writes = writes; event = is_gated gated (instr_of s t) })
   access_within w r writes number place e a = record {
     plain = event_none (instr_of s t) instr_here (subst (λ (i : ℕ). I.gated i ≡ false) e a.plain);
-    frame = a.reached;
+    bounds = a.reached;
     within = record { from = (let f = a.within.from in omega (arith, f, a.start)); end = (let f = a.within.end in omega (arith, f, a.start)) };
   }
 

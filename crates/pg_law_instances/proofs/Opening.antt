@@ -4,8 +4,8 @@ use Rattle.std.proofs.Common.{subst, arith, inl, inr, ◌⊎◌}
 use Rattle.std.specs.Prelude.{Contains, slice_get}
 use Rattle.std.proofs.lemmas.Bool.{and_parts, and_from, eq-eqb, eqb-true, true≢false}
 use Rattle.pg_ir.specs.declared.ids.InstrId.{InstrId}
-use Rattle.pg_ir.specs.declared.known.Known.{Known}
-use Rattle.pg_ir.specs.declared.known.Known.TheVariants as known
+use Rattle.pg_ir.specs.declared.library_call.LibraryCall.{LibraryCall}
+use Rattle.pg_ir.specs.declared.library_call.LibraryCall.TheVariants as known
 use Rattle.pg_ir.specs.declared.instr.Instr.{Instr}
 use Rattle.pg_ir.specs.declared.instr.Op.{Op}
 use Rattle.pg_ir.specs.declared.instr.Op.TheVariants as op
@@ -26,7 +26,7 @@ use Rattle.pg_run_trace.specs.declared.step.Step.{Step}
 use Rattle.pg_run_trace.specs.declared.step.StepKind.{StepKind}
 use Rattle.pg_run_trace.specs.declared.step.StepKind.TheVariants as told
 use Rattle.pg_run.specs.State.{State}
-use Rattle.pg_run.specs.MachineStep.{is_gated, known_told, op_told}
+use Rattle.pg_run.specs.MachineStep.{is_gated, library_told, op_told}
 use Rattle.pg_run.specs.Runs.{IsRun}
 use Rattle.pg_slice_rules.specs.Moments.{Moment}
 use Rattle.pg_slice_rules.specs.Extents.{Extent, ends}
@@ -59,9 +59,9 @@ branch_op : (o : Op) (ns : List ℕ) (n c : ℕ) → told.Branch c ≡ op_told n
 branch_op (op.CondBr v a b) ns n c e = (tt, refl)
 branch_op (op.Switch w on other cases) ns n c e = (tt, refl)
 branch_op (op.Alloca b) ns n c e = absurd cc
-branch_op (op.CallKnown k args) ns n c e = known_no k e
+branch_op (op.CallLibrary k args) ns n c e = known_no k e
   where
-    known_no : (k : Known) → told.Branch c ≡ known_told ns n k → IsBranch (op.CallKnown k args) × (is_branching (op.CallKnown k args) ≡ true)
+    known_no : (k : LibraryCall) → told.Branch c ≡ library_told ns n k → IsBranch (op.CallLibrary k args) × (is_branching (op.CallLibrary k args) ≡ true)
     known_no known.Malloc e = absurd cc
     known_no k e = absurd cc
 branch_op o ns n c e = absurd cc

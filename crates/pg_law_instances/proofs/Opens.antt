@@ -26,7 +26,7 @@ use Rattle.pg_run.specs.MachineStep.{is_gated}
 use Rattle.pg_run.specs.Runs.{IsRun}
 use Rattle.pg_law_effects.specs.Reached.{IsReached}
 use Rattle.pg_slice_rules.specs.Extents.{Extent}
-use Rattle.pg_slice_rules.specs.Freeable.{FreeAccess, FreeRegion, frame_of}
+use Rattle.pg_slice_rules.specs.Freeable.{FreeAccess, FreeRegion, bounds_of}
 use Rattle.pg_slice_rules.specs.Shadows.{is_within}
 use Rattle.pg_law_instances.specs.Free.{instance_of}
 use Rattle.pg_law_instances.specs.Inside.{Instance, IsBottom, IsInside, Stands, edge_taken, may_set, phis_set, region_set, IsQuietSet}
@@ -119,11 +119,11 @@ bottom_edge I f fs x to program q b e t =
     go (inl m) = inl m
     go (inr m) = inr m.1
 
--- a frame to which a store of a region leads may be written
-pub reached_write : (xs : List FreeAccess) (frame : ByteRange) (w : Bool) (b : ℕ) → leads.IsReached xs w frame → w ≡ true → is_within frame b ≡ true → may_write xs b ≡ true
-reached_write xs frame w b r e h =
-    some_of (λ (f : FreeAccess). f.writes && is_within (frame_of f.at.last) b) xs r.access r.among
-    (both r.access.writes (is_within (frame_of r.access.at.last) b) (r.kind ∙ e) (ap (λ (z : ByteRange). is_within z b) r.same ∙ h))
+-- bounds to which a store of a region leads may be written
+pub reached_write : (xs : List FreeAccess) (bounds : ByteRange) (w : Bool) (b : ℕ) → leads.IsReached xs w bounds → w ≡ true → is_within bounds b ≡ true → may_write xs b ≡ true
+reached_write xs bounds w b r e h =
+    some_of (λ (f : FreeAccess). f.writes && is_within (bounds_of f.at.last) b) xs r.access r.among
+    (both r.access.writes (is_within (bounds_of r.access.at.last) b) (r.kind ∙ e) (ap (λ (z : ByteRange). is_within z b) r.same ∙ h))
   where
     both : (a c : Bool) → a ≡ true → c ≡ true → (a && c) ≡ true
     both true c q k = k

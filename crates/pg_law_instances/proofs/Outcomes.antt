@@ -3,8 +3,8 @@ use Rattle.std.proofs.Common.{◌≡◌, ℕ, Bool, true, false, List, [], ◌�
 use Rattle.std.specs.Prelude.{Contains, ◌==◌, if◌then◌else◌}
 use Rattle.std.proofs.lemmas.Bool.Decides.{nat_tests}
 use Rattle.pg_num.specs.Numbers.{divided}
-use Rattle.pg_ir.specs.declared.known.Known.{Known}
-use Rattle.pg_ir.specs.declared.known.Known.TheVariants as known
+use Rattle.pg_ir.specs.declared.library_call.LibraryCall.{LibraryCall}
+use Rattle.pg_ir.specs.declared.library_call.LibraryCall.TheVariants as known
 use Rattle.pg_ir.specs.declared.request.Request.TheVariants as requests
 use Rattle.pg_ir.specs.declared.value.Value.{Value}
 use Rattle.pg_ir.specs.declared.instr.Instr.{Instr}
@@ -16,17 +16,17 @@ use Rattle.pg_ir.specs.WellFormed.{granules_for}
 use Rattle.pg_region_paths.proofs.Elements.{here}
 use Rattle.pg_run_thread.specs.declared.action.Action.{Action}
 use Rattle.pg_run_thread.specs.declared.action.Action.TheVariants as actions
-use Rattle.pg_run_thread.specs.LocalState.{Frame, LocalState, region_of}
+use Rattle.pg_run_thread.specs.LocalState.{Frame, LocalState, own_memory}
 use Rattle.pg_run_thread.specs.Operands.{given, operand, operands_of, number_at}
 use Rattle.pg_run_thread.specs.Compute.{chosen}
 use Rattle.pg_run_thread.specs.EdgeStep.{case_of}
 use Rattle.pg_run_thread.specs.States.{CallsFunction}
 use Rattle.pg_run_thread.specs.Step as step
-use Rattle.pg_run_thread.specs.Step.{op_action, op_after, known_action, bytes_of, entered, return_action, returning_action, returned, stepped, total, has_room, result_number}
+use Rattle.pg_run_thread.specs.Step.{op_action, op_after, library_action, bytes_of, entered, return_action, returning_action, returned, stepped, total, has_room, result_number}
 use Rattle.pg_run.proofs.Actions.{on_value_is, on_all_is, edge_is, call_is, divided_is, room_is, number_is, object_is, init_is, barrier_init_is, wait_is, create_is, join_is}
 use Rattle.pg_law_instances.specs.Inside.{edge_taken}
 use Rattle.pg_law_instances.specs.Moves.{Moves, RequestMoves, IsPlacedAt, IsLoad, IsStore}
-use Rattle.pg_law_instances.proofs.Paths.{within_frame, first_byte}
+use Rattle.pg_law_instances.proofs.Paths.{within_bounds, first_byte}
 use Rattle.pg_law_instances.proofs.Edges.{chosen_among, switched_among}
 use Rattle.pg_law_instances.proofs.Actions.{place_known}
 
@@ -66,37 +66,37 @@ module _ (p : NumberedProgram) (t : ℕ) (h : Bool) (f : Frame) (fs : List Frame
   along : (o : Op) (to : ℕ) → is_terminator o ≡ true → Contains (targets_of o) to → edge_taken p rs o ≡ Some to → Moves p f fs x o (step.moved p f x.block.0 to ∷ fs)
   along o to k c e = inl (record { to = to; ends = k; among = c; edge = e; is = refl })
 
-  known_outcome : (k : Known) (args : List Value) → Q (op.CallKnown k args) (known_action p t h rs k args)
-  known_outcome known.PgIn args = number_is (Q (op.CallKnown known.PgIn args)) p rs args _ (λ n. tt) (λ i n. past (op.CallKnown known.PgIn args) _ refl (λ g c. c))
-  known_outcome known.PgInLen args = λ n. past (op.CallKnown known.PgInLen args) _ refl (λ g c. c)
-  known_outcome known.PgOut args = number_is (Q (op.CallKnown known.PgOut args)) p rs args _ (λ n. tt) (λ i n. refl)
-  known_outcome known.Putchar args = number_is (Q (op.CallKnown known.Putchar args)) p rs args _ (λ n. tt) (λ i n. refl)
-  known_outcome known.Malloc args = number_is (Q (op.CallKnown known.Malloc args)) p rs args _ (λ n. tt) (λ i. past (op.CallKnown known.Malloc args) _ refl (λ g c. c))
-  known_outcome known.Free args = number_is (Q (op.CallKnown known.Free args)) p rs args _ (λ n. tt) (λ i. past (op.CallKnown known.Free args) _ refl (λ g c. c))
-  known_outcome known.PthreadExit args = number_is (Q (op.CallKnown known.PthreadExit args)) p rs args _ (λ n. tt) (λ i n. refl)
-  known_outcome known.PthreadCreate args = create_is (Q (op.CallKnown known.PthreadCreate args)) p rs args (λ n. tt) (λ r g n k q m. refl)
-  known_outcome known.PthreadJoin args = join_is (Q (op.CallKnown known.PthreadJoin args)) p rs args (λ n. tt) (λ n m. refl) (λ n r k m. refl)
-  known_outcome known.PthreadMutexInit args = init_is (Q (op.CallKnown known.PthreadMutexInit args)) p rs args _ (λ n. tt) (λ o n. refl)
-  known_outcome known.PthreadCondInit args = init_is (Q (op.CallKnown known.PthreadCondInit args)) p rs args _ (λ n. tt) (λ o n. refl)
-  known_outcome known.PthreadMutexLock args = object_is (Q (op.CallKnown known.PthreadMutexLock args)) p rs args _ (λ n. tt) (λ o n. refl)
-  known_outcome known.PthreadMutexTrylock args = object_is (Q (op.CallKnown known.PthreadMutexTrylock args)) p rs args _ (λ n. tt) (λ o n. refl)
-  known_outcome known.PthreadMutexUnlock args = object_is (Q (op.CallKnown known.PthreadMutexUnlock args)) p rs args _ (λ n. tt) (λ o n. refl)
-  known_outcome known.PthreadMutexDestroy args = object_is (Q (op.CallKnown known.PthreadMutexDestroy args)) p rs args _ (λ n. tt) (λ o n. refl)
-  known_outcome known.PthreadCondSignal args = object_is (Q (op.CallKnown known.PthreadCondSignal args)) p rs args _ (λ n. tt) (λ o n. refl)
-  known_outcome known.PthreadCondBroadcast args = object_is (Q (op.CallKnown known.PthreadCondBroadcast args)) p rs args _ (λ n. tt) (λ o n. refl)
-  known_outcome known.PthreadCondDestroy args = object_is (Q (op.CallKnown known.PthreadCondDestroy args)) p rs args _ (λ n. tt) (λ o n. refl)
-  known_outcome known.PthreadBarrierDestroy args = object_is (Q (op.CallKnown known.PthreadBarrierDestroy args)) p rs args _ (λ n. tt) (λ o n. refl)
-  known_outcome known.PthreadBarrierInit args = barrier_init_is (Q (op.CallKnown known.PthreadBarrierInit args)) p rs args (λ n. tt) (λ o n m. refl)
-  known_outcome known.PthreadCondWait args = wait_is (Q (op.CallKnown known.PthreadCondWait args)) p h rs args (λ n. tt) (λ o m n. waited o m n h)
+  known_outcome : (k : LibraryCall) (args : List Value) → Q (op.CallLibrary k args) (library_action p t h rs k args)
+  known_outcome known.PgIn args = number_is (Q (op.CallLibrary known.PgIn args)) p rs args _ (λ n. tt) (λ i n. past (op.CallLibrary known.PgIn args) _ refl (λ g c. c))
+  known_outcome known.PgInLen args = λ n. past (op.CallLibrary known.PgInLen args) _ refl (λ g c. c)
+  known_outcome known.PgOut args = number_is (Q (op.CallLibrary known.PgOut args)) p rs args _ (λ n. tt) (λ i n. refl)
+  known_outcome known.Putchar args = number_is (Q (op.CallLibrary known.Putchar args)) p rs args _ (λ n. tt) (λ i n. refl)
+  known_outcome known.Malloc args = number_is (Q (op.CallLibrary known.Malloc args)) p rs args _ (λ n. tt) (λ i. past (op.CallLibrary known.Malloc args) _ refl (λ g c. c))
+  known_outcome known.Free args = number_is (Q (op.CallLibrary known.Free args)) p rs args _ (λ n. tt) (λ i. past (op.CallLibrary known.Free args) _ refl (λ g c. c))
+  known_outcome known.PthreadExit args = number_is (Q (op.CallLibrary known.PthreadExit args)) p rs args _ (λ n. tt) (λ i n. refl)
+  known_outcome known.PthreadCreate args = create_is (Q (op.CallLibrary known.PthreadCreate args)) p rs args (λ n. tt) (λ r g n k q m. refl)
+  known_outcome known.PthreadJoin args = join_is (Q (op.CallLibrary known.PthreadJoin args)) p rs args (λ n. tt) (λ n m. refl) (λ n r k m. refl)
+  known_outcome known.PthreadMutexInit args = init_is (Q (op.CallLibrary known.PthreadMutexInit args)) p rs args _ (λ n. tt) (λ o n. refl)
+  known_outcome known.PthreadCondInit args = init_is (Q (op.CallLibrary known.PthreadCondInit args)) p rs args _ (λ n. tt) (λ o n. refl)
+  known_outcome known.PthreadMutexLock args = object_is (Q (op.CallLibrary known.PthreadMutexLock args)) p rs args _ (λ n. tt) (λ o n. refl)
+  known_outcome known.PthreadMutexTrylock args = object_is (Q (op.CallLibrary known.PthreadMutexTrylock args)) p rs args _ (λ n. tt) (λ o n. refl)
+  known_outcome known.PthreadMutexUnlock args = object_is (Q (op.CallLibrary known.PthreadMutexUnlock args)) p rs args _ (λ n. tt) (λ o n. refl)
+  known_outcome known.PthreadMutexDestroy args = object_is (Q (op.CallLibrary known.PthreadMutexDestroy args)) p rs args _ (λ n. tt) (λ o n. refl)
+  known_outcome known.PthreadCondSignal args = object_is (Q (op.CallLibrary known.PthreadCondSignal args)) p rs args _ (λ n. tt) (λ o n. refl)
+  known_outcome known.PthreadCondBroadcast args = object_is (Q (op.CallLibrary known.PthreadCondBroadcast args)) p rs args _ (λ n. tt) (λ o n. refl)
+  known_outcome known.PthreadCondDestroy args = object_is (Q (op.CallLibrary known.PthreadCondDestroy args)) p rs args _ (λ n. tt) (λ o n. refl)
+  known_outcome known.PthreadBarrierDestroy args = object_is (Q (op.CallLibrary known.PthreadBarrierDestroy args)) p rs args _ (λ n. tt) (λ o n. refl)
+  known_outcome known.PthreadBarrierInit args = barrier_init_is (Q (op.CallLibrary known.PthreadBarrierInit args)) p rs args (λ n. tt) (λ o n m. refl)
+  known_outcome known.PthreadCondWait args = wait_is (Q (op.CallLibrary known.PthreadCondWait args)) p h rs args (λ n. tt) (λ o m n. waited o m n h)
     where
       waited : (o m n : ℕ) (b : Bool) → RequestMoves (f ∷ fs) (step.wait_request b o m)
-          (if b then stepped f x.result (result_number p (region_of (running t h f fs heap)) rs (op.CallKnown known.PthreadCondWait args) n) ∷ fs else f ∷ fs)
+          (if b then stepped f x.result (result_number p (own_memory (running t h f fs heap)) rs (op.CallLibrary known.PthreadCondWait args) n) ∷ fs else f ∷ fs)
       waited o m n true = refl
       waited o m n false = refl
-  known_outcome known.PthreadBarrierWait args = object_is (Q (op.CallKnown known.PthreadBarrierWait args)) p rs args _ (λ n. tt) (λ o n. waited o n h)
+  known_outcome known.PthreadBarrierWait args = object_is (Q (op.CallLibrary known.PthreadBarrierWait args)) p rs args _ (λ n. tt) (λ o n. waited o n h)
     where
       waited : (o n : ℕ) (b : Bool) → RequestMoves (f ∷ fs) (step.barrier_request b o)
-          (if b then stepped f x.result (result_number p (region_of (running t h f fs heap)) rs (op.CallKnown known.PthreadBarrierWait args) n) ∷ fs else f ∷ fs)
+          (if b then stepped f x.result (result_number p (own_memory (running t h f fs heap)) rs (op.CallLibrary known.PthreadBarrierWait args) n) ∷ fs else f ∷ fs)
       waited o n true = refl
       waited o n false = refl
 
@@ -122,7 +122,7 @@ module _ (p : NumberedProgram) (t : ℕ) (h : Bool) (f : Frame) (fs : List Frame
   returning None = back None 0
   returning (Some w) = on_value_is (Q (op.Ret (Some w))) (operand p rs w) _ (λ n. tt) (λ n e. back (Some w) n)
 
-  pub op_outcome : (o : Op) → Q o (op_action p (region_of (running t h f fs heap)) h rs (length (f ∷ fs)) (total (f ∷ fs)) x.block.0 o)
+  pub op_outcome : (o : Op) → Q o (op_action p (own_memory (running t h f fs heap)) h rs (length (f ∷ fs)) (total (f ∷ fs)) x.block.0 o)
   op_outcome (op.Divide d w a b) = on_value_is (Q (op.Divide d w a b)) (operand p rs a) _ (λ n. tt)
       (λ i u. on_value_is (Q (op.Divide d w a b)) (operand p rs b) _ (λ n. tt)
       (λ j v. divided_is (Q (op.Divide d w a b)) (divided d w i j) (λ n. tt) (past (op.Divide d w a b) _ refl (λ g c. c))))
@@ -145,11 +145,11 @@ module _ (p : NumberedProgram) (t : ℕ) (h : Bool) (f : Frame) (fs : List Frame
       }))))
   op_outcome (op.Ret v) = returning v
   op_outcome op.Unreachable = tt
-  op_outcome (op.Alloca bytes) = room_is (Q (op.Alloca bytes)) (has_room (region_of (running t h f fs heap)) (granules_for bytes)) (λ n. tt)
+  op_outcome (op.Alloca bytes) = room_is (Q (op.Alloca bytes)) (has_room (own_memory (running t h f fs heap)) (granules_for bytes)) (λ n. tt)
       (inr (inr (inr (record {
         plain = refl;
         no_call = λ g c. c;
-        frame = step.taken (stepped f x.result (step.pushed (region_of (running t h f fs heap)) bytes)) (granules_for bytes);
+        frame = step.taken (stepped f x.result (step.pushed (own_memory (running t h f fs heap)) bytes)) (granules_for bytes);
         function = refl;
         place = refl;
         is = refl;
@@ -160,9 +160,9 @@ module _ (p : NumberedProgram) (t : ℕ) (h : Bool) (f : Frame) (fs : List Frame
       on_value_is (Q (op.Store w v at)) (operand p rs v) _ (λ n. tt) (λ n u.
       on_value_is (Q (op.Store w v at)) (operand p rs at) _ (λ n. tt) (λ a k.
       place_known (Q (op.Store w v at)) a (bytes_of w) _ (λ n. tt) (λ r e. (
-        subst (λ (n : ℕ). IsPlacedAt n r) (sym (ap given k)) (record { start = first_byte a (bytes_of w) r e; within = within_frame a (bytes_of w) r e }),
+        subst (λ (n : ℕ). IsPlacedAt n r) (sym (ap given k)) (record { start = first_byte a (bytes_of w) r e; within = within_bounds a (bytes_of w) r e }),
         tt,
         past (op.Store w v at) _ refl (λ g c. c),
       ))))
-  op_outcome (op.CallKnown k args) = known_outcome k args
+  op_outcome (op.CallLibrary k args) = known_outcome k args
   op_outcome o = on_all_is (Q o) p rs (operands_of o) actions.Local (λ n. tt) (past o _ refl (λ g c. c))

@@ -6,7 +6,7 @@ use Rattle.pg_num.specs.Places.{ByteRange}
 use Rattle.pg_num.specs.Pointers.{moved_by, place_of, pointer_of, byte_place}
 use Rattle.pg_num.specs.declared.layout.TheConstants.{MEMORY_BYTES}
 use Rattle.pg_num.specs.declared.places.PlaceFault.{PlaceFault}
-use Rattle.pg_num.proofs.Accesses.{place_of-start, place_of-in_frame, place_of-bytes}
+use Rattle.pg_num.proofs.Accesses.{place_of-start, place_of-in_bounds, place_of-bytes}
 use Rattle.std.proofs.lemmas.Bool.Decides.{nat_tests}
 use Rattle.pg_ir.specs.declared.value.Value.{Value}
 use Rattle.pg_ir.specs.declared.value.Value.TheVariants as value
@@ -19,9 +19,9 @@ use Rattle.pg_region_paths.specs.Followed as followed
 use Rattle.pg_region_paths.specs.Followed.{Followed, followed_from, cell_at, cell_in, root_value}
 use Rattle.pg_run_thread.specs.Operands.{operand, number_at, optional_operand, given}
 use Rattle.pg_run_thread.specs.Compute.{index_bytes, moved_along}
-use Rattle.pg_slice_rules.specs.Freeable.{frame_of}
+use Rattle.pg_slice_rules.specs.Freeable.{bounds_of}
 use Rattle.pg_law_instances.specs.Leads.{IsWithin, IsMoved}
-use Rattle.pg_law_instances.proofs.Moves.{frame_moved, moved_moved}
+use Rattle.pg_law_instances.proofs.Moves.{bounds_moved, moved_moved}
 
 -- ---- places
 
@@ -35,12 +35,12 @@ within_memory w n r e = go (place_of w n) e (bound w n)
     go (Ok s) e h = let q : s ≡ r = cc in subst (λ (z : ByteRange). z.start + z.bytes ≤ MEMORY_BYTES) q h
     go (Err f) e h = absurd cc
 
-pub within_frame : (w n : ℕ) (r : ByteRange) → place_of w n ≡ Ok r → IsWithin r (frame_of w)
-within_frame w n r e = go (place_of w n) e (place_of-start w n) (place_of-in_frame w n)
+pub within_bounds : (w n : ℕ) (r : ByteRange) → place_of w n ≡ Ok r → IsWithin r (bounds_of w)
+within_bounds w n r e = go (place_of w n) e (place_of-start w n) (place_of-in_bounds w n)
   where
     go : (o : Result ByteRange PlaceFault) → o ≡ Ok r → IfOk o (λ r. r.start ≡ 8 * (pointer_of w).start + (pointer_of w).offset)
-        → IfOk o (λ r. r.start + r.bytes ≤ 8 * (pointer_of w).start + (pointer_of w).length) → IsWithin r (frame_of w)
-    go (Ok s) e h k = let q : s ≡ r = cc in subst (λ (z : ByteRange). IsWithin z (frame_of w)) q (record { from = omega (arith, h); end = k })
+        → IfOk o (λ r. r.start + r.bytes ≤ 8 * (pointer_of w).start + (pointer_of w).length) → IsWithin r (bounds_of w)
+    go (Ok s) e h k = let q : s ≡ r = cc in subst (λ (z : ByteRange). IsWithin z (bounds_of w)) q (record { from = omega (arith, h); end = k })
     go (Err f) e h k = absurd cc
 
 pub some_bytes : (w n : ℕ) (r : ByteRange) → 0 < n → place_of w n ≡ Ok r → 0 < r.bytes
@@ -59,9 +59,9 @@ first_byte w n r e = go (place_of w n) e (place_of-start w n)
 
 -- ---- pointers that were moved
 
-pub same_frame : (last : ℕ) (added : Option ℕ) (w : ℕ) → IsMoved last added w → frame_of w ≡ frame_of last
-same_frame last None w h = h
-same_frame last (Some k) w h = ap frame_of h ∙ frame_moved last (pos k)
+pub same_bounds : (last : ℕ) (added : Option ℕ) (w : ℕ) → IsMoved last added w → bounds_of w ≡ bounds_of last
+same_bounds last None w h = h
+same_bounds last (Some k) w h = ap bounds_of h ∙ bounds_moved last (pos k)
 
 bytes_same : (i : Index) (s : Scale) (n : ℕ) → index_bytes i s n ≡ constant_bytes i.width s n
 bytes_same i (Times bytes) n = refl
@@ -69,16 +69,16 @@ bytes_same i (Field bytes) n = refl
 
 one_index : (last : ℕ) (added : Option ℕ) (w n : ℕ) (i : Index) (v : Value) → IsMoved last added w → ((c : ℕ) → v ≡ value.Const c → n ≡ c)
     → IsMoved last (added_index added i.width i.scale v) (moved_by w (index_bytes i i.scale n))
-one_index last None w n i v h k = frame_moved w (index_bytes i i.scale n) ∙ h
+one_index last None w n i v h k = bounds_moved w (index_bytes i i.scale n) ∙ h
 one_index last (Some j) w n i (value.Const c) h k =
     let e : n ≡ c = k c refl in
     ap (λ (z : ℕ). moved_by z (index_bytes i i.scale n)) h
     ∙ ap (λ (z : ℕ). moved_by (moved_by last (pos j)) (index_bytes i i.scale z)) e
     ∙ ap (moved_by (moved_by last (pos j))) (bytes_same i i.scale c)
     ∙ moved_moved last j (constant_bytes i.width i.scale c)
-one_index last (Some j) w n i (value.Register r) h k = frame_moved w (index_bytes i i.scale n) ∙ same_frame last (Some j) w h
-one_index last (Some j) w n i (value.Global r) h k = frame_moved w (index_bytes i i.scale n) ∙ same_frame last (Some j) w h
-one_index last (Some j) w n i (value.Function r) h k = frame_moved w (index_bytes i i.scale n) ∙ same_frame last (Some j) w h
+one_index last (Some j) w n i (value.Register r) h k = bounds_moved w (index_bytes i i.scale n) ∙ same_bounds last (Some j) w h
+one_index last (Some j) w n i (value.Global r) h k = bounds_moved w (index_bytes i i.scale n) ∙ same_bounds last (Some j) w h
+one_index last (Some j) w n i (value.Function r) h k = bounds_moved w (index_bytes i i.scale n) ∙ same_bounds last (Some j) w h
 
 constant_at : (p : NumberedProgram) (rs : List (Option ℕ)) (vs : List Value) (k : ℕ) (v : Value) → slice_get vs k ≡ Some v → (c : ℕ) → v ≡ value.Const c → number_at p rs vs k ≡ c
 constant_at p rs vs k v e c q = ap (λ (o : Option Value). given (optional_operand p rs o)) e ∙ ap (λ (z : Value). given (operand p rs z)) q

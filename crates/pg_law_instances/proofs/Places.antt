@@ -108,7 +108,7 @@ pub block_accesses_at : (m : Bool) (p : NumberedProgram) (gated : ℕ → Bool) 
 unfolding block_accesses
 block_accesses_at m p gated sums is_set b ys k x e at = accesses_at m gated sums is_set (types_of p (function_of p b)) [] (first_of p b) (instrs_of p b) ys k x e at
 
--- what the instruction of a frame accesses leads to recorded frames
+-- what the instruction of a frame accesses leads to recorded bounds
 pub quiet_at : (I : Instance) (a : QuietSet) (f : Frame) (x : Instr) → IsProgram I.program → IsQuietSet I a → (s : StandsIn I a f) → slice_get I.program.instrs f.place ≡ Some x →
     (zs : RootedList) × (op_accesses a.returns I.gated I.sums
     (register_path (sets I.program a.blocks) (types_of I.program (function_of I.program s.block)) (passed [] (instrs_of I.program s.block) s.behind)) f.place x.op ≡ Some zs)

@@ -3,8 +3,8 @@ use Rattle.std.proofs.Common.{◌≡◌, ℕ, Bool, true, false, List, [], ◌�
 use Rattle.std.specs.Prelude.{◌==◌, if◌then◌else◌}
 use Rattle.std.proofs.lemmas.Bool.Decides.{nat_tests}
 use Rattle.pg_num.specs.Numbers.{divided}
-use Rattle.pg_ir.specs.declared.known.Known.{Known}
-use Rattle.pg_ir.specs.declared.known.Known.TheVariants as known
+use Rattle.pg_ir.specs.declared.library_call.LibraryCall.{LibraryCall}
+use Rattle.pg_ir.specs.declared.library_call.LibraryCall.TheVariants as known
 use Rattle.pg_ir.specs.declared.request.Request.TheVariants as requests
 use Rattle.pg_ir.specs.declared.value.Value.{Value}
 use Rattle.pg_ir.specs.declared.instr.Op.{Op}
@@ -14,12 +14,12 @@ use Rattle.pg_region_accesses.specs.Accesses.{RootedList}
 use Rattle.pg_region_accesses.specs.Laws.{IsQuiet}
 use Rattle.pg_run_thread.specs.declared.action.Action.{Action}
 use Rattle.pg_run_thread.specs.declared.action.Action.TheVariants as actions
-use Rattle.pg_run_thread.specs.declared.region.Region.{Region}
+use Rattle.pg_run_thread.specs.declared.thread_memory.ThreadMemory.{ThreadMemory}
 use Rattle.pg_run_thread.specs.LocalState.{Frame}
 use Rattle.pg_run_thread.specs.Operands.{argument, operand, operands_of}
 use Rattle.pg_run_thread.specs.Compute.{chosen}
 use Rattle.pg_run_thread.specs.EdgeStep.{case_of}
-use Rattle.pg_run_thread.specs.Step.{op_action, known_action, return_action, returning_action, bytes_of, total}
+use Rattle.pg_run_thread.specs.Step.{op_action, library_action, return_action, returning_action, bytes_of, total}
 use Rattle.pg_run.proofs.Actions.{on_value_is, on_all_is, on_place_is, edge_is, call_is, divided_is}
 use Rattle.pg_law_instances.specs.Moves.{IsReturn}
 
@@ -28,15 +28,15 @@ abbrev pub AsksNothing : List Frame → Op → Action → Type 0
 AsksNothing below o (actions.Event r) = IsReturn o × (below ≡ [])
 AsksNothing below o a = Unit {0}
 
-module _ (p : NumberedProgram) (r : Region) (h : Bool) (f : Frame) (fs : List Frame) (block : ℕ) (gated : ℕ → Bool) (sums : ℕ → Option RootedList) where
+module _ (p : NumberedProgram) (r : ThreadMemory) (h : Bool) (f : Frame) (fs : List Frame) (block : ℕ) (gated : ℕ → Bool) (sums : ℕ → Option RootedList) where
   abbrev rs : List (Option ℕ)
   rs = f.registers
 
   abbrev Q : Op → Action → Type 0
   Q o = AsksNothing fs o
 
-  known_nothing : (k : Known) (args : List Value) → (k ≡ known.PgIn) ⊎ (k ≡ known.PgInLen) → Q (op.CallKnown k args) (known_action p r.thread h rs k args)
-  known_nothing known.PgIn args q = on_value_is (Q (op.CallKnown known.PgIn args)) (argument p rs args 0) _ (λ n. tt) (λ n e. tt)
+  known_nothing : (k : LibraryCall) (args : List Value) → (k ≡ known.PgIn) ⊎ (k ≡ known.PgInLen) → Q (op.CallLibrary k args) (library_action p r.thread h rs k args)
+  known_nothing known.PgIn args q = on_value_is (Q (op.CallLibrary known.PgIn args)) (argument p rs args 0) _ (λ n. tt) (λ n e. tt)
   known_nothing known.PgInLen args q = tt
   known_nothing k args (inl e) = absurd cc
   known_nothing k args (inr e) = absurd cc
@@ -79,7 +79,7 @@ module _ (p : NumberedProgram) (r : Region) (h : Bool) (f : Frame) (fs : List Fr
       on_value_is (Q (op.Store w v at)) (operand p rs v) _ (λ n. tt) (λ n u.
       on_value_is (Q (op.Store w v at)) (operand p rs at) _ (λ n. tt) (λ a k.
       on_place_is (Q (op.Store w v at)) a (bytes_of w) _ (λ n. tt) (λ r e. tt)))
-  quiet_asks_nothing i (op.CallKnown k args) q = known_nothing k args q
+  quiet_asks_nothing i (op.CallLibrary k args) q = known_nothing k args q
   quiet_asks_nothing i o q = on_all_is (Q o) p rs (operands_of o) actions.Local (λ n. tt) tt
 
 -- what is quiet where a function may return is quiet elsewhere unless it returns
@@ -88,7 +88,7 @@ quieter gated sums i (op.Ret v) q = absurd cc
 quieter gated sums i (op.Load w from) q = q
 quieter gated sums i (op.Store w v at) q = q
 quieter gated sums i (op.Call g args) q = q
-quieter gated sums i (op.CallKnown k args) q = q
+quieter gated sums i (op.CallLibrary k args) q = q
 quieter gated sums i (op.Alloca bytes) q = q
 quieter gated sums i o q = tt
 

@@ -35,13 +35,13 @@ use Rattle.pg_law_effects.specs.Reached.{HoldBytes, IsReached}
 use Rattle.pg_law_effects.proofs.Reaches.{present, reached_first, reached_step}
 use Rattle.pg_slice_rules.specs.Moments.{Moment, calls_of, instr_in, moments_from, moments_of, state_after, thread_in}
 use Rattle.pg_slice_rules.specs.Extents.{Extent, is_live, begun}
-use Rattle.pg_slice_rules.specs.Freeable.{FreeRegion, Regions, frame_of}
+use Rattle.pg_slice_rules.specs.Freeable.{FreeRegion, Regions, bounds_of}
 use Rattle.pg_slice_rules.specs.Known.{Reference, RunShadow, Seen, after_step, region_of, seen_from, start_of, thread_of, ThreadShadow}
 use Rattle.pg_law_least.specs.Keeps as keeps_of
 use Rattle.pg_law_least.specs.Keeps.{ExtentsKeep, depth_of, edge_at, every, instr_of, open_before}
 use Rattle.pg_slice_replay.specs.OfRegions.{AreRegions}
 use Rattle.pg_law_instances.specs.Together.{AreTogether, IsNext}
-use Rattle.pg_law_instances.proofs.Heads.{IsStack, branch_is, keeps, left, left_none, left_open, left_stack, nested, own_phis, store_frames}
+use Rattle.pg_law_instances.proofs.Heads.{IsStack, branch_is, keeps, left, left_none, left_open, left_stack, nested, own_phis, store_bounds}
 use Rattle.pg_law_instances.proofs.Keeping.{IsSeen, instr_here}
 use Rattle.pg_law_instances.proofs.LeadsOut.{frames_of}
 use Rattle.pg_law_instances.proofs.Opens.{Open}
@@ -64,7 +64,7 @@ did_times V T k (x ∷ xs) = ap (λ (l : List _). x ∷ l) (did_times V T (done_
 pub record Facts (R : Reference) (free_of : ℕ → Option FreeRegion) (y : Seen) : Type 0 where
   pub known : thread_in y.moment < length y.before.threads
   pub calls : length (thread_of y.before (thread_in y.moment)).calls ≡ depth_of y
-  pub frames : (a : Access) → keeps_of.StoresBy R y a → (b : ℕ) → is_within (range_of a) b ≡ true → is_within (frame_of a.pointer) b ≡ true
+  pub bounds : (a : Access) → keeps_of.StoresBy R y a → (b : ℕ) → is_within (range_of a) b ≡ true → is_within (bounds_of a.pointer) b ≡ true
   pub branches : (r : FreeRegion) → y.region ≡ Some r → (i : Instr) → instr_of R y ≡ Some i → keeps_of.is_branching i.op ≡ true
   pub own : (r : FreeRegion) → y.region ≡ Some r → keeps_of.MaySetPhis R.program r.sets (edge_at R y)
   pub together : (t : ℕ) (e : Extent) → Contains (keeps_of.open_in y t) e → thread_in y.moment ≡ t
@@ -144,7 +144,7 @@ module _ (p : NumberedProgram) (gates : List InstrId) (sums : ℕ → Option Roo
     facts = record {
       known = (let a = ready_made p s t inv.run.0.is_ready in let b = inv.matches.count in omega (arith, a, b));
       calls = inv.matches.calls t l local.1 ∙ ap (λ (o : Option LocalState). length (calls_of o)) (sym local.1);
-      frames = store_frames p gates sums regions are moments free_of block_of program summaries input small s v z t l x.did (did_of ts) y seen inv.run inv.together refl es opens_here
+      bounds = store_bounds p gates sums regions are moments free_of block_of program summaries input small s v z t l x.did (did_of ts) y seen inv.run inv.together refl es opens_here
           (inv.stack t) named_here.free named_here.block;
       branches = branch_is p gates sums regions are moments free_of block_of program summaries input small s v z t l x.did (did_of ts) y seen inv.run inv.together refl es opens_here
           (inv.stack t) named_here.free named_here.block;
@@ -403,7 +403,7 @@ module _ (p : NumberedProgram) (gates : List InstrId) (sums : ℕ → Option Roo
   extents_keep = record {
     known = λ y c. (facts_of y c).known;
     calls = λ y c. (facts_of y c).calls;
-    frames = λ y c. (facts_of y c).frames;
+    bounds = λ y c. (facts_of y c).bounds;
     branches = λ y c. (facts_of y c).branches;
     own = λ y c. (facts_of y c).own;
     together = λ y c. (facts_of y c).together;

@@ -9,14 +9,14 @@ use Rattle.pg_ir.specs.declared.ids.InstrId.{InstrId}
 use Rattle.pg_ir.specs.declared.instr.Instr.{Instr}
 use Rattle.pg_ir.specs.declared.instr.Op.{Op}
 use Rattle.pg_ir.specs.declared.instr.Op.TheVariants as op
-use Rattle.pg_ir.specs.declared.known.Known.TheVariants as known
+use Rattle.pg_ir.specs.declared.library_call.LibraryCall.TheVariants as known
 use Rattle.pg_ir.specs.declared.request.Request.{Request}
 use Rattle.pg_ir.specs.declared.request.Request.TheVariants as requests
 use Rattle.pg_ir.specs.declared.request.TrapName.{TrapName}
 use Rattle.pg_ir.specs.Program.{NumberedProgram}
 use Rattle.pg_run_thread.specs.declared.action.Action.{Action}
 use Rattle.pg_run_thread.specs.declared.action.Action.TheVariants as actions
-use Rattle.pg_run_thread.specs.LocalState.{Frame, LocalState, region_of, fresh}
+use Rattle.pg_run_thread.specs.LocalState.{Frame, LocalState, own_memory, fresh}
 use Rattle.pg_run_thread.specs.Operands.{operands_of, first_four}
 use Rattle.pg_run_thread.specs.Step.{next, after, frames_action, instr_action, op_action, op_after, total, on_top}
 use Rattle.pg_run_thread.specs.Told.{id_of, place_in, operand_values}
@@ -33,7 +33,7 @@ use Rattle.pg_run_trace.specs.Kinds.{kind_of, object_of}
 use Rattle.pg_run_trace.specs.Steps.{range_of}
 use Rattle.pg_run.specs.State.{State, id_in, instr_of, next_of}
 use Rattle.pg_run.specs.MachineStep.{Answered, Stepped, Did, answered, instr_told, is_gated, kind_told, may_act, number_in, op_told, operands_in, ready, settled, step, step_told, taken}
-use Rattle.pg_run.specs.MachineStep.{known_told, write_told}
+use Rattle.pg_run.specs.MachineStep.{library_told, write_told}
 use Rattle.pg_num.specs.Inputs.{input_at}
 use Rattle.pg_run.proofs.Asks.{next_is, ready_acts}
 use Rattle.pg_run.proofs.Threads.{set_own, set_other, set_length, last_other}
@@ -42,7 +42,7 @@ use Rattle.pg_law_effects.specs.Effect.{answer_to, effect, effect_of, locals_wit
 use Rattle.pg_law_effects.proofs.Effects.{has_effect}
 use Rattle.pg_law_instances.specs.Moves.{Moves, RequestMoves, IsPlacedAt, IsLoad, IsStore}
 use Rattle.pg_law_instances.proofs.Outcomes.{Outcome, op_outcome, running}
-use Rattle.pg_ir.specs.declared.known.Known.{Known}
+use Rattle.pg_ir.specs.declared.library_call.LibraryCall.{LibraryCall}
 
 -- ---- what is told of a step that asks nothing of other threads
 
@@ -154,21 +154,21 @@ tells_instr b ns n o = go (op_told ns n o) refl
     go (told.Allocation a r) e = inr (ns, n, sym e)
     go (told.Access a) e = absurd (never o a e)
       where
-        known_never : (k : Known) (a : Access) → known_told ns n k ≡ told.Access a → ⊥
+        known_never : (k : LibraryCall) (a : Access) → library_told ns n k ≡ told.Access a → ⊥
         known_never known.Malloc a e = cc
         known_never k a e = cc
 
         never : (o : Op) (a : Access) → op_told ns n o ≡ told.Access a → ⊥
-        never (op.CallKnown k args) a e = known_never k a e
+        never (op.CallLibrary k args) a e = known_never k a e
         never o a e = cc
     go (told.Event a) e = absurd (never o a e)
       where
-        known_never : (k : Known) (a : Event) → known_told ns n k ≡ told.Event a → ⊥
+        known_never : (k : LibraryCall) (a : Event) → library_told ns n k ≡ told.Event a → ⊥
         known_never known.Malloc a e = cc
         known_never k a e = cc
 
         never : (o : Op) (a : Event) → op_told ns n o ≡ told.Event a → ⊥
-        never (op.CallKnown k args) a e = known_never k a e
+        never (op.CallLibrary k args) a e = known_never k a e
         never o a e = cc
 
 told_by : (gated : List InstrId) (p : NumberedProgram) (s z : State) (t : ℕ) (x : Step) (a : Answered) → settled gated p s t a ≡ Did x z → (n : ℕ) × (x ≡ step_told gated p s t n)
@@ -288,7 +288,7 @@ module _ (gated : List InstrId) (p : NumberedProgram) (input : List ℤ) (s z : 
     unfolding id_of
     at_id = ap (λ (gs : List Frame). slice_get p.instrs (place_in gs)) frames ∙ at
 
-    action_is : next p l ≡ op_action p (region_of (running l.thread l.halfway f fs l.heap)) l.halfway f.registers (length (f ∷ fs)) (total (f ∷ fs)) i.block.0 i.op
+    action_is : next p l ≡ op_action p (own_memory (running l.thread l.halfway f fs l.heap)) l.halfway f.registers (length (f ∷ fs)) (total (f ∷ fs)) i.block.0 i.op
     unfolding id_of
     action_is = ap (next p) (sym same_state) ∙ next_at p (running l.thread l.halfway f fs l.heap) i refl (omega arith) at
 

@@ -23,10 +23,10 @@ use Rattle.pg_region_accesses.specs.declared.rooted.Rooted.{Rooted}
 use Rattle.pg_region_paths.proofs.Elements.{here, there, cases}
 use Rattle.pg_run_thread.specs.Operands.{number_at}
 use Rattle.pg_run_thread.specs.Compute.{moved_along}
-use Rattle.pg_slice_rules.specs.Freeable.{FreeAccess, frame_of}
+use Rattle.pg_slice_rules.specs.Freeable.{FreeAccess, bounds_of}
 use Rattle.pg_law_instances.specs.Leads.{IsLoaded, IsReached, IsWithin, Leads, IsMoved, HasPath, KeepsCells}
-use Rattle.pg_law_instances.proofs.Moves.{frame_moved, moved_twice}
-use Rattle.pg_law_instances.proofs.Paths.{within_memory, within_frame, some_bytes, same_frame, gep_moved, FollowsBoth, follows_both, LoadsFirst, loads_first, loads_again}
+use Rattle.pg_law_instances.proofs.Moves.{bounds_moved, moved_twice}
+use Rattle.pg_law_instances.proofs.Paths.{within_memory, within_bounds, some_bytes, same_bounds, gep_moved, FollowsBoth, follows_both, LoadsFirst, loads_first, loads_again}
 
 -- ---- offsets
 
@@ -77,7 +77,7 @@ follows_root memory ks (Some w) at e = (w, refl, e)
 
 module _ (p : NumberedProgram) (registers : ℕ → Option ℕ) (memory : ByteRange → ℕ) (xs : List FreeAccess) where
   abbrev Recorded : Followed → Type 0
-  Recorded at = (v : ℕ) → Contains at.pointers v → IsLoaded xs (frame_of v)
+  Recorded at = (v : ℕ) → Contains at.pointers v → IsLoaded xs (bounds_of v)
 
   -- the value of a root has the root as its path
   pub root_has : (r : Root) (w : ℕ) → root_value p registers r ≡ Some w → HasPath p registers memory xs (rooted r) w
@@ -112,14 +112,14 @@ module _ (p : NumberedProgram) (registers : ℕ → Option ℕ) (memory : ByteRa
           let m : LoadsFirst memory b.first.last k [] b.second = loads_first memory b.first.last k [] b.second b.is_second in
           let at_first : followed.followed p registers memory (root_path_of q) ≡ Some b.first = root_follows memory (offsets_of q.loads) (root_value p registers q.root) r.0 r.1 ∙ b.is_first in
           let in_first : Recorded b.first = λ x c. rec x (subst (λ (z : List ℕ). Contains z x) (sym b.pointers) (Contains-append_left b.first.pointers b.second.pointers x c)) in
-          let in_second : (x : ℕ) → Contains b.second.pointers x → IsLoaded xs (frame_of x) =
+          let in_second : (x : ℕ) → Contains b.second.pointers x → IsLoaded xs (bounds_of x) =
           λ x c. rec x (subst (λ (z : List ℕ). Contains z x) (sym b.pointers) (Contains-append_right b.first.pointers b.second.pointers x c)) in
-          let pointer : IsLoaded xs (frame_of b.first.last) = in_second b.first.last (subst (λ (z : List ℕ). Contains z b.first.last) (sym m.pointers) (here b.first.last m.more.pointers)) in
+          let pointer : IsLoaded xs (bounds_of b.first.last) = in_second b.first.last (subst (λ (z : List ℕ). Contains z b.first.last) (sym m.pointers) (here b.first.last m.more.pointers)) in
           let word : w ≡ moved_by b.first.last (pos k) = subst (λ (z : Option ℕ). IsMoved b.first.last z w) a (h.value b.first at_first in_first) in
           let c : m.cell ≡ cell = cell_is (place_of w 8) m.cell cell (ap (λ (z : ℕ). cell_in (place_of z 8)) word ∙ m.is_cell) e in
-          let frame : frame_of w ≡ frame_of b.first.last = same_frame b.first.last (Some k) w word in
-          let within : IsWithin cell (frame_of b.first.last) = subst (λ (z : ByteRange). IsWithin cell z) frame (within_frame w 8 cell e) in
-          let held : now cell ≡ memory cell = keeps.kept (frame_of b.first.last) cell pointer within (some_bytes w 8 cell (omega arith) e) (within_memory w 8 cell e) in
+          let bounds : bounds_of w ≡ bounds_of b.first.last = same_bounds b.first.last (Some k) w word in
+          let within : IsWithin cell (bounds_of b.first.last) = subst (λ (z : ByteRange). IsWithin cell z) bounds (within_bounds w 8 cell e) in
+          let held : now cell ≡ memory cell = keeps.kept (bounds_of b.first.last) cell pointer within (some_bytes w 8 cell (omega arith) e) (within_memory w 8 cell e) in
           let end : at.last ≡ memory cell = b.last ∙ m.last ∙ ends m.more (memory m.cell) m.is_more ∙ ap memory c in
           v ∙ held ∙ sym end ∙ sym (moved_by-zero at.last)
         where
@@ -138,22 +138,22 @@ module _ (p : NumberedProgram) (registers : ℕ → Option ℕ) (memory : ByteRa
 
   -- ---- accesses
 
-  -- an access through a pointer with its path is in the recorded frame of an access of its kind
-  pub access_reached : (a : Rooted) (q : Path) (w : ℕ) → Leads p registers memory xs a → a.path ≡ root_path_of q → HasPath p registers memory xs q w → IsReached xs a.writes (frame_of w)
+  -- an access through a pointer with its path is in the recorded bounds of an access of its kind
+  pub access_reached : (a : Rooted) (q : Path) (w : ℕ) → Leads p registers memory xs a → a.path ≡ root_path_of q → HasPath p registers memory xs q w → IsReached xs a.writes (bounds_of w)
   access_reached a q w l e h =
       let f : followed.followed p registers memory (root_path_of q) ≡ Some l.at = subst (λ (z : RootPath). followed.followed p registers memory z ≡ Some l.at) e l.is in
-      subst (λ (z : ByteRange). IsReached xs a.writes z) (sym (same_frame l.at.last q.added w (h.value l.at f l.loads))) l.last
+      subst (λ (z : ByteRange). IsReached xs a.writes z) (sym (same_bounds l.at.last q.added w (h.value l.at f l.loads))) l.last
 
   -- ---- arguments
 
   -- loads from w that lead where a path that was followed leads
   abbrev Behind : ℕ → ℕ → List ℕ → Followed → Type 0
-  Behind w k ks f = (g : Followed) × (followed_from memory w (k ∷ ks) ≡ Some g) × ((x : ℕ) → Contains g.pointers x → (y : ℕ) × Contains f.pointers y × (frame_of y ≡ frame_of x))
+  Behind w k ks f = (g : Followed) × (followed_from memory w (k ∷ ks) ≡ Some g) × ((x : ℕ) → Contains g.pointers x → (y : ℕ) × Contains f.pointers y × (bounds_of y ≡ bounds_of x))
       × (g.last ≡ f.last)
 
   -- the same loads from a pointer that was moved, the first of them by as much less
   moved_loads : (last j a : ℕ) (ks : List ℕ) (w : ℕ) (f : Followed) → w ≡ moved_by last (pos j) → followed_from memory last (moved_offset j a ∷ ks) ≡ Some f →
-      (g : Followed) × (followed_from memory w (a ∷ ks) ≡ Some g) × ((x : ℕ) → Contains g.pointers x → (y : ℕ) × Contains f.pointers y × (frame_of y ≡ frame_of x))
+      (g : Followed) × (followed_from memory w (a ∷ ks) ≡ Some g) × ((x : ℕ) → Contains g.pointers x → (y : ℕ) × Contains f.pointers y × (bounds_of y ≡ bounds_of x))
       × (g.last ≡ f.last)
   moved_loads last j a ks w f m e =
       let l : LoadsFirst memory last (moved_offset j a) ks f = loads_first memory last (moved_offset j a) ks f e in
@@ -164,8 +164,8 @@ module _ (p : NumberedProgram) (registers : ℕ → Option ℕ) (memory : ByteRa
         sym l.last,
       )
     where
-      go : (l : LoadsFirst memory last (moved_offset j a) ks f) (x : ℕ) → (w ≡ x) ⊎ Contains l.more.pointers x → (y : ℕ) × Contains f.pointers y × (frame_of y ≡ frame_of x)
-      go l x (inl q) = (last, subst (λ (z : List ℕ). Contains z last) (sym l.pointers) (here last l.more.pointers), sym (frame_moved last (pos j)) ∙ ap frame_of (sym m ∙ q))
+      go : (l : LoadsFirst memory last (moved_offset j a) ks f) (x : ℕ) → (w ≡ x) ⊎ Contains l.more.pointers x → (y : ℕ) × Contains f.pointers y × (bounds_of y ≡ bounds_of x)
+      go l x (inl q) = (last, subst (λ (z : List ℕ). Contains z last) (sym l.pointers) (here last l.more.pointers), sym (bounds_moved last (pos j)) ∙ ap bounds_of (sym m ∙ q))
       go l x (inr k) = (x, subst (λ (z : List ℕ). Contains z x) (sym l.pointers) (there last l.more.pointers x k), refl)
 
   -- in a callee the accesses from a parameter lead where those of the caller from the argument's path lead
@@ -179,8 +179,8 @@ module _ (p : NumberedProgram) (registers : ℕ → Option ℕ) (memory : ByteRa
           ∙ root_follows memory (offsets_of a.path.loads) (params r) w at
           ∙ ap (λ (z : Loads). followed_from memory w (offsets_of z)) t ∙ v
 
-      reached : (last : ℕ) → frame_of last ≡ frame_of l.at.last → IsReached xs a.writes (frame_of last)
-      reached last s = subst (λ (z : Bool). IsReached xs z (frame_of last)) kind (subst (λ (z : ByteRange). IsReached xs b.writes z) (sym s) l.last)
+      reached : (last : ℕ) → bounds_of last ≡ bounds_of l.at.last → IsReached xs a.writes (bounds_of last)
+      reached last s = subst (λ (z : Bool). IsReached xs z (bounds_of last)) kind (subst (λ (z : ByteRange). IsReached xs b.writes z) (sym s) l.last)
 
       -- no load in the callee
       never : a.path.loads ≡ Never → Some (root_path_of q) ≡ Some b.path → Leads p params memory xs a
@@ -191,17 +191,17 @@ module _ (p : NumberedProgram) (registers : ℕ → Option ℕ) (memory : ByteRa
             at = record { pointers = []; cells = []; last = w };
             is = follows (record { pointers = []; cells = []; last = w }) Never t refl;
             loads = λ x c. absurd (omega (arith, c.1));
-            last = reached w (same_frame l.at.last q.added w (h.value l.at f l.loads));
+            last = reached w (same_bounds l.at.last q.added w (h.value l.at f l.loads));
           }
 
       -- from the pointers that follow the argument's path
       finish : (k : ℕ) (ks : List ℕ) (ls : Loads) → a.path.loads ≡ ls → offsets_of ls ≡ k ∷ ks → (second : Followed)
-          → ((x : ℕ) → Contains second.pointers x → IsLoaded xs (frame_of x)) → l.at.last ≡ second.last → Behind w k ks second → Leads p params memory xs a
+          → ((x : ℕ) → Contains second.pointers x → IsLoaded xs (bounds_of x)) → l.at.last ≡ second.last → Behind w k ks second → Leads p params memory xs a
       finish k ks ls t s second loaded e g = record {
         at = g.0;
         is = follows g.0 ls t (ap (followed_from memory w) s ∙ g.1);
         loads = λ z c. let y = g.2 z c in subst (λ (n : ByteRange). IsLoaded xs n) y.2 (loaded y.0 y.1);
-        last = reached g.0.last (ap frame_of (g.3 ∙ sym e));
+        last = reached g.0.last (ap bounds_of (g.3 ∙ sym e));
       }
 
       -- from the loads of the argument's path, and those behind

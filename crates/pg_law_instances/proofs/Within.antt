@@ -1,4 +1,4 @@
--- A freeable branch step inside: its region's accesses lead to frames of the outer region's.
+-- A freeable branch step inside: its region's accesses lead to bounds of the outer region's.
 use Rattle.std.proofs.Common.{◌≡◌, ℕ, ◌+◌, Bool, false, List, [], ◌∷◌, ◌++◌, Option, Some, Result, Ok, Err, pos, refl, sym, ap, ◌∙◌, subst, arith, inl, inr, ◌⊎◌}
 use Rattle.std.specs.Prelude.{Contains}
 use Rattle.std.proofs.lemmas.List.Elements.{Contains-append_cases}
@@ -29,12 +29,12 @@ use Rattle.pg_region_summaries.proofs.Ranges.{has_block}
 use Rattle.pg_region.specs.declared.region.Region.{Region}
 use Rattle.pg_region.specs.Regions.{IsJoin}
 use Rattle.pg_run_thread.specs.LocalState.{Frame}
-use Rattle.pg_slice_rules.specs.Freeable.{FreeAccess, frame_of}
+use Rattle.pg_slice_rules.specs.Freeable.{FreeAccess, bounds_of}
 use Rattle.pg_law_instances.specs.Leads.{IsLoaded, IsReached, IsWithin, Leads, KeepsCells}
 use Rattle.pg_law_instances.specs.Inside.{Instance, QuietSet, IsQuietSet, StandsIn, registers_by}
 use Rattle.pg_law_instances.proofs.Flow.{walk_fits}
-use Rattle.pg_law_instances.proofs.Moves.{frame_moved}
-use Rattle.pg_law_instances.proofs.Paths.{within_memory, within_frame, some_bytes, LoadsFirst, loads_first, loads_again}
+use Rattle.pg_law_instances.proofs.Moves.{bounds_moved}
+use Rattle.pg_law_instances.proofs.Paths.{within_memory, within_bounds, some_bytes, LoadsFirst, loads_first, loads_again}
 use Rattle.pg_law_instances.proofs.Places.{gathered_part}
 use Rattle.pg_law_instances.proofs.Values.{follows_root, root_follows}
 use Rattle.pg_region_summaries.specs.Blocks.{blocks_of}
@@ -63,7 +63,7 @@ op_either m gated sums f i (op.Ret v) ys e = absurd cc
 op_either m gated sums f i (op.Load w from) ys e = e
 op_either m gated sums f i (op.Store w v at) ys e = e
 op_either m gated sums f i (op.Call g args) ys e = e
-op_either m gated sums f i (op.CallKnown k args) ys e = e
+op_either m gated sums f i (op.CallLibrary k args) ys e = e
 op_either m gated sums f i (op.Alloca bytes) ys e = e
 op_either m gated sums f i o ys e = e
 
@@ -97,19 +97,19 @@ placed_by : (o : Result ByteRange PlaceFault) (c : ByteRange) → cell_in o ≡ 
 placed_by (Err f) c e = absurd cc
 placed_by (Ok r) c e = let q : r ≡ c = cc in ap (λ (z : ByteRange). Ok z) q
 
--- a path that loads from recorded frames alone leads to the same pointer
+-- a path that loads from recorded bounds alone leads to the same pointer
 pub same_loads : (xs : List FreeAccess) (before now : ByteRange → ℕ) → KeepsCells xs before now → (ks : List ℕ) (w : ℕ) (at : Followed) → followed_from before w ks ≡ Some at
-    → ((v : ℕ) → Contains at.pointers v → IsLoaded xs (frame_of v)) → (f : Followed) × (followed_from now w ks ≡ Some f) × (f.last ≡ at.last)
+    → ((v : ℕ) → Contains at.pointers v → IsLoaded xs (bounds_of v)) → (f : Followed) × (followed_from now w ks ≡ Some f) × (f.last ≡ at.last)
 same_loads xs before now keeps [] w at e h = (at, e, refl)
 same_loads xs before now keeps (k ∷ ks) w at e h = go (loads_first before w k ks at e) (λ u more q i. same_loads xs before now keeps ks u more q i)
   where
-    go : LoadsFirst before w k ks at → ((u : ℕ) (more : Followed) → followed_from before u ks ≡ Some more → ((v : ℕ) → Contains more.pointers v → IsLoaded xs (frame_of v))
+    go : LoadsFirst before w k ks at → ((u : ℕ) (more : Followed) → followed_from before u ks ≡ Some more → ((v : ℕ) → Contains more.pointers v → IsLoaded xs (bounds_of v))
         → (f : Followed) × (followed_from now u ks ≡ Some f) × (f.last ≡ more.last)) → (f : Followed) × (followed_from now w (k ∷ ks) ≡ Some f) × (f.last ≡ at.last)
     go l rest =
-        let loaded : IsLoaded xs (frame_of w) = h w (subst (λ (z : List ℕ). Contains z w) (sym l.pointers) (here w l.more.pointers)) in
+        let loaded : IsLoaded xs (bounds_of w) = h w (subst (λ (z : List ℕ). Contains z w) (sym l.pointers) (here w l.more.pointers)) in
         let place : place_of (moved_by w (pos k)) 8 ≡ Ok l.cell = placed_by (place_of (moved_by w (pos k)) 8) l.cell l.is_cell in
-        let within : IsWithin l.cell (frame_of w) = subst (λ (z : ByteRange). IsWithin l.cell z) (frame_moved w (pos k)) (within_frame (moved_by w (pos k)) 8 l.cell place) in
-        let held : now l.cell ≡ before l.cell = keeps.kept (frame_of w) l.cell loaded within (some_bytes (moved_by w (pos k)) 8 l.cell (omega arith) place)
+        let within : IsWithin l.cell (bounds_of w) = subst (λ (z : ByteRange). IsWithin l.cell z) (bounds_moved w (pos k)) (within_bounds (moved_by w (pos k)) 8 l.cell place) in
+        let held : now l.cell ≡ before l.cell = keeps.kept (bounds_of w) l.cell loaded within (some_bytes (moved_by w (pos k)) 8 l.cell (omega arith) place)
         (within_memory (moved_by w (pos k)) 8 l.cell place) in
         let r = rest (before l.cell) l.more l.is_more (λ v c. h v (subst (λ (z : List ℕ). Contains z v) (sym l.pointers) (there w l.more.pointers v c))) in
         let q : followed_from now (now l.cell) ks ≡ Some r.0 = subst (λ (u : ℕ). followed_from now u ks ≡ Some r.0) (sym held) r.1 in
@@ -123,10 +123,10 @@ root_same I a f s (root.Const n) o = refl
 root_same I a f s (root.Register r) o = s.kept r o
 root_same I a f s (root.Param k) o = absurd o
 
--- an access of a part of the set, followed from the frame in memory as it is now, leads to a recorded frame of its kind
+-- an access of a part of the set, followed from the frame in memory as it is now, leads to recorded bounds of its kind
 pub inner_reached : (I : Instance) (a : QuietSet) (f : Frame) (now : ByteRange → ℕ) (small : List ℕ) (some : RootedList) (x : Rooted) (at : Followed) → IsQuietSet I a → StandsIn I a f
     → KeepsCells I.recorded I.memory now → set_accesses false I.program I.gated I.sums small ≡ Some some → ((b : ℕ) → Contains small b → Contains a.blocks b) → Contains some x →
-    followed.followed I.program (registers_by f.registers) now x.path ≡ Some at → IsReached I.recorded x.writes (frame_of at.last)
+    followed.followed I.program (registers_by f.registers) now x.path ≡ Some at → IsReached I.recorded x.writes (bounds_of at.last)
 inner_reached I a f now small some x at q s keeps e h c g =
     let among : Contains a.accesses x = part_among a.returns I.program I.gated I.sums a.blocks small a.accesses some q.quiet e h x c in
     let l : Leads I.program a.registers I.memory I.recorded x = q.leads x among in
@@ -136,7 +136,7 @@ inner_reached I a f now small some x at q s keeps e h c g =
     let there_is : followed.followed I.program (registers_by f.registers) now x.path ≡ Some m.0 =
     root_follows now (offsets_of x.path.loads) (root_value I.program (registers_by f.registers) x.path.root) r.0 (root_same I a f s x.path.root out ∙ r.1) ∙ m.1 in
     let same : m.0 ≡ at = (let z : Some m.0 ≡ Some at = sym there_is ∙ g in cc) in
-    subst (λ (z : ℕ). IsReached I.recorded x.writes (frame_of z)) (sym m.2 ∙ ap (λ (z : Followed). z.last) same) l.last
+    subst (λ (z : ℕ). IsReached I.recorded x.writes (bounds_of z)) (sym m.2 ∙ ap (λ (z : Followed). z.last) same) l.last
 
 -- the blocks before a join stand in the function of the branch
 pub region_function : (p : NumberedProgram) (gated : ℕ → Bool) (sums : ℕ → Option RootedList) (c : ℕ) (r : Region) → IsProgram p

@@ -17,7 +17,7 @@ use Rattle.pg_region.specs.Regions.{IsJoin}
 use Rattle.pg_run_thread.specs.LocalState.{Frame, LocalState}
 use Rattle.pg_run.specs.State.{State}
 use Rattle.pg_slice_rules.specs.Moments.{Moment, number_in, registers_in}
-use Rattle.pg_slice_rules.specs.Freeable.{FreeRegion, accesses_at, frame_of, stores_on}
+use Rattle.pg_slice_rules.specs.Freeable.{FreeRegion, accesses_at, bounds_of, stores_on}
 use Rattle.pg_law_instances.specs.Free.{instance_of}
 use Rattle.pg_law_instances.specs.Inside.{IsAtBranch, IsBranch, registers_by}
 use Rattle.pg_slice_replay.specs.OfRegions.{free_access}
@@ -26,12 +26,12 @@ use Rattle.pg_slice_replay.specs.OfRegions.{free_access}
 abbrev pub recorded_registers : Moment → ℕ → Option ℕ
 recorded_registers m = registers_by (registers_in m.calls)
 
--- the path's root has a number, in the recorded frame; and where the path loads, the root has the recorded number, and so has
+-- the path's root has a number, in the recorded bounds; and where the path loads, the root has the recorded number, and so has
 -- each cell that it loads
 pub record IsAlike (p : NumberedProgram) (m : Moment) (registers : ℕ → Option ℕ) (memory : ByteRange → ℕ) (path : RootPath) : Type 0 where
   pub word : ℕ
   pub is_word : root_value p registers path.root ≡ Some word
-  pub frame : (w : ℕ) → root_value p (recorded_registers m) path.root ≡ Some w → frame_of word ≡ frame_of w
+  pub bounds : (w : ℕ) → root_value p (recorded_registers m) path.root ≡ Some w → bounds_of word ≡ bounds_of w
   pub same : (w : ℕ) → root_value p (recorded_registers m) path.root ≡ Some w → (path.loads ≡ Never → ⊥) → word ≡ w
   pub cells : (at : Followed) → followed p (recorded_registers m) (number_in m) path ≡ Some at → (c : ByteRange) → Contains at.cells c → memory c ≡ number_in m c
 
@@ -42,7 +42,7 @@ pub record IsAlikeBranch (p : NumberedProgram) (gated : ℕ → Bool) (sums : �
   pub program : IsProgram p
   pub summaries : AreSummaries p gated sums
   pub begun : l.begun ≡ true
-  pub frames : l.frames ≡ f ∷ fs
+  pub bounds : l.bounds ≡ f ∷ fs
   pub is : slice_get p.instrs f.place ≡ Some x
   pub kind : IsBranch x.op
   pub function : function_of p x.block.0 ≡ f.function

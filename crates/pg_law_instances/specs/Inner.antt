@@ -16,7 +16,7 @@ use Rattle.pg_run.specs.State.{State}
 use Rattle.pg_run.specs.MachineStep.{is_gated}
 use Rattle.pg_run.specs.Runs.{IsRun}
 use Rattle.pg_law_effects.specs.Reached.{IsReached}
-use Rattle.pg_slice_rules.specs.Freeable.{FreeRegion, frame_of}
+use Rattle.pg_slice_rules.specs.Freeable.{FreeRegion, bounds_of}
 use Rattle.pg_law_instances.specs.Free.{instance_of}
 use Rattle.pg_law_instances.specs.Inside.{Instance, IsInside, registers_by}
 use Rattle.pg_law_instances.specs.Leads.{IsReached as LeadsTo}
@@ -35,11 +35,11 @@ pub record GoesOnInside (I : Instance) (gated : List InstrId) (input : List ℤ)
   pub together : AreTogether steps
   pub next : IsNext t steps
 
--- at a branch the region's accesses lead from here to recorded frames of accesses of their kind; and in the branch's frame of
+-- at a branch the region's accesses lead from here to recorded bounds of accesses of their kind; and in the branch's frame of
 -- the instance the inner region lies in the outer one, and its join is the outer one's or lies there too
 pub record LiesWithin (outer inner : Region) (I : Instance) (s : State) (frame : Frame) (below : List Frame) : Type 0 where
   pub leads : (a : Rooted) (at : Followed) → Contains inner.accesses.items a → followed I.program (registers_by frame.registers) (read s.memory) a.path ≡ Some at →
-      LeadsTo I.recorded a.writes (frame_of at.last)
+      LeadsTo I.recorded a.writes (bounds_of at.last)
   pub nested : length below ≡ length I.lower → AreNested outer inner
 
 abbrev pub InnerRegionsLieWithin : Type 0

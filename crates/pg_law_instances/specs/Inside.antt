@@ -57,7 +57,7 @@ pub record QuietSet : Type 0 where
   pub accesses : RootedList
   pub registers : ℕ → Option ℕ
 
--- its blocks are quiet, their accesses lead to recorded frames, and its edges stay in it or, in the branch's frame, lead to
+-- its blocks are quiet, their accesses lead to recorded bounds, and its edges stay in it or, in the branch's frame, lead to
 -- the join
 pub record IsQuietSet (I : Instance) (a : QuietSet) : Type 0 where
   pub quiet : set_accesses a.returns I.program I.gated I.sums a.blocks ≡ Some a.accesses
@@ -184,11 +184,11 @@ IsBranch (op.CondBr c a b) = Unit {0}
 IsBranch (op.Switch w on other cases) = Unit {0}
 IsBranch _ = ⊥
 
--- no frame of a recorded store meets one from which a recorded path loads
+-- the bounds of no recorded store meet those from which a recorded path loads
 abbrev pub AreApart : List FreeAccess → Type 0
 AreApart xs = (stored loaded : ByteRange) → IsReached xs true stored → IsLoaded xs loaded → share stored loaded ≡ false
 
--- the thread stands at the branch, whose region is quiet with accesses that lead to recorded frames
+-- the thread stands at the branch, whose region is quiet with accesses that lead to recorded bounds
 pub record IsAtBranch (I : Instance) : Type 0 where
   pub program : IsProgram I.program
   pub summaries : AreSummaries I.program I.gated I.sums

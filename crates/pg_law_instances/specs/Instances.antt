@@ -12,14 +12,14 @@ use Rattle.pg_run.specs.Locality.{LeavesRest}
 use Rattle.pg_law_instances.specs.Inside.{Instance, IsAtJoin}
 use Rattle.pg_law_instances.specs.Stays.{AreOf, CanStepInside, IsOutside, IsWithinExtent, TellsWithin}
 
--- from s to z nothing has changed but thread t's local state, and bytes in the frames of recorded stores
+-- from s to z nothing has changed but thread t's local state, and bytes in the bounds of recorded stores
 pub record ChangesLittle (I : Instance) (t : ℕ) (s z : State) : Type 0 where
   pub others : (u : ℕ) → (u ≡ t → ⊥) → slice_get z.locals u ≡ slice_get s.locals u
   pub rest : LeavesRest s z
   pub bytes : (b : ℕ) → b < MEMORY_BYTES → IsOutside I.recorded b → byte_at z.memory b ≡ byte_at s.memory b
 
 -- of steps of thread t alone, those up to the first that leads to the join, or all where none does: each is no event and
--- accesses recorded frames alone, and together they change little
+-- accesses recorded bounds alone, and together they change little
 pub record HasInstance (I : Instance) (gated : List InstrId) (input : List ℤ) (t : ℕ) (s : State) (xs : List Step) (z : State) : Type 0 where
   pub inner : List Step
   pub rest : List Step

@@ -12,7 +12,7 @@ use Rattle.pg_ir.specs.Edges.{is_terminator, targets_of}
 use Rattle.pg_run_thread.specs.LocalState.{Frame}
 use Rattle.pg_run_thread.specs.States.{CallsFunction}
 use Rattle.pg_run_thread.specs.Step.{moved, returned}
-use Rattle.pg_slice_rules.specs.Freeable.{frame_of}
+use Rattle.pg_slice_rules.specs.Freeable.{bounds_of}
 use Rattle.pg_law_instances.specs.Leads.{IsWithin}
 use Rattle.pg_law_instances.specs.Inside.{edge_taken}
 
@@ -72,7 +72,7 @@ abbrev pub RequestMoves : List Frame → Request → List Frame → Type 0
 RequestMoves before (requests.Exit n is_return) fs = fs ≡ []
 RequestMoves before r fs = length fs ≡ length before
 
--- the bytes of an access by this pointer, which lie in its frame
+-- the bytes of an access by this pointer, which lie in its bounds
 pub record IsPlacedAt (word : ℕ) (r : ByteRange) : Type 0 where
   pub start : r.start ≡ byte_place word
-  pub within : IsWithin r (frame_of word)
+  pub within : IsWithin r (bounds_of word)

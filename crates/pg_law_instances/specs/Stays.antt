@@ -15,18 +15,18 @@ use Rattle.pg_run.specs.State.{State}
 use Rattle.pg_run.specs.MachineStep.{Did, is_gated, ready, step}
 use Rattle.pg_run.specs.Locality.{LeavesRest}
 use Rattle.pg_run.specs.Runs.{IsRun, Takes}
-use Rattle.pg_slice_rules.specs.Freeable.{FreeAccess, frame_of}
+use Rattle.pg_slice_rules.specs.Freeable.{FreeAccess, bounds_of}
 use Rattle.pg_slice_rules.specs.Shadows.{is_within}
 use Rattle.pg_law_instances.specs.Leads.{IsReached, IsWithin, KeepsCells}
 use Rattle.pg_law_instances.specs.Inside.{Instance, IsInside, Joins, IsAtBranch}
 
--- an access that is no event, in the frame of its pointer, which is the recorded frame of an access of its kind
+-- an access that is no event, in the bounds of its pointer, which are the recorded bounds of an access of its kind
 pub record AccessesWithin (I : Instance) (a : Access) : Type 0 where
   pub plain : a.event ≡ false
-  pub frame : IsReached I.recorded a.writes (frame_of a.pointer)
-  pub within : IsWithin (range_of a) (frame_of a.pointer)
+  pub bounds : IsReached I.recorded a.writes (bounds_of a.pointer)
+  pub within : IsWithin (range_of a) (bounds_of a.pointer)
 
--- a step that isn't an event and allocates nothing, and whose access is within recorded frames
+-- a step that isn't an event and allocates nothing, and whose access is within recorded bounds
 abbrev pub TellsWithin : Instance → StepKind → Type 0
 TellsWithin I kinds.Other = Unit {0}
 TellsWithin I (kinds.Branch c) = Unit {0}
@@ -37,13 +37,13 @@ TellsWithin I k = ⊥
 abbrev pub IsWithinExtent : Instance → LocalState → Type 0
 IsWithinExtent I l = (l ≡ I.state) ⊎ IsInside I l
 
--- a byte in no frame to which a recorded store leads
+-- a byte in no bounds to which a recorded store leads
 abbrev pub IsOutside : List FreeAccess → ℕ → Type 0
-IsOutside xs b = (frame : ByteRange) → IsReached xs true frame → is_within frame b ≡ false
+IsOutside xs b = (bounds : ByteRange) → IsReached xs true bounds → is_within bounds b ≡ false
 
--- a step of thread t, whose local state is l, from s to z tells no event and no allocation, and accesses recorded frames
+-- a step of thread t, whose local state is l, from s to z tells no event and no allocation, and accesses recorded bounds
 -- alone; it leaves the thread inside or takes the edge to the join; and it leaves the other threads, all but memory, the
--- numbers that recorded paths load, and each byte outside of the frames of recorded stores
+-- numbers that recorded paths load, and each byte outside of the bounds of recorded stores
 pub record StaysInside (I : Instance) (t : ℕ) (l : LocalState) (x : Step) (s z : State) : Type 0 where
   pub tells : TellsWithin I x.kind
   pub local : LocalState

@@ -14,7 +14,7 @@ pub fn alike_states_begin_instances()
 {}
 
 /// A step of a thread at a branch step whose region is quiet, or inside, stays inside or leads to the join: it is no event
-/// and allocates nothing, accesses recorded frames alone, and sets in the branch's frame only registers that may be set.
+/// and allocates nothing, accesses recorded bounds alone, and sets in the branch's frame only registers that may be set.
 pub fn a_step_inside_stays()
     ensures { StepsInsideStay }
 {}
@@ -25,8 +25,8 @@ pub fn the_thread_alone()
     ensures { TheThreadAlone }
 {}
 
-/// Those steps together, up to the first that leads to the join, change the thread's local state and bytes in the frames of
-/// recorded stores, and nothing else; they are no events, and access recorded frames alone.
+/// Those steps together, up to the first that leads to the join, change the thread's local state and bytes in the bounds of
+/// recorded stores, and nothing else; they are no events, and access recorded bounds alone.
 pub fn runs_have_instances()
     ensures { RunsHaveInstances }
 {}
@@ -38,7 +38,7 @@ pub fn extents_stand_together()
 {}
 
 /// A branch that a thread inside reaches, in the branch's frame or in that of a quiet function, has a region whose
-/// accesses lead to recorded frames of the outer one's; in the branch's frame that region lies in the outer one, and its
+/// accesses lead to recorded bounds of the outer one's; in the branch's frame that region lies in the outer one, and its
 /// join is the outer join or lies there too.
 pub fn inner_regions_lie_within()
     ensures { InnerRegionsLieWithin }

@@ -6,9 +6,9 @@ use Rattle.std.proofs.lemmas.Bool.{and_parts, and_from}
 use Rattle.std.proofs.lemmas.List.Elements.{Contains-append_cases, Contains-append_left, Contains-append_right}
 use Rattle.pg_precondition.specs.declared.check.Test.{Test}
 use Rattle.pg_precondition.specs.Values.{is_met}
-use Rattle.pg_slice_rules.specs.Shadows.{OnInput, Shadow, Known, Framed, Unknown, unset}
+use Rattle.pg_slice_rules.specs.Shadows.{OnInput, Shadow, Known, Bounded, Unknown, unset}
 use Rattle.pg_slice_rules.specs.Known.{Reference, Seen, Taken, seen_in}
-use Rattle.pg_slice_rules.specs.Rules.{Condition, Need, Value, Frame, all_of, frame_needs, need_conditions, registers_before, value_needs}
+use Rattle.pg_slice_rules.specs.Rules.{Condition, Need, Value, Bounds, all_of, bounds_needs, need_conditions, registers_before, value_needs}
 use Rattle.pg_slice_rules.specs.Closed.{AreWithin, admits, conditions, conditions_at}
 use Rattle.pg_law_least.specs.Keeps.{ExtentsKeep}
 use Rattle.pg_law_least.specs.Laws.{StayKnown}
@@ -16,7 +16,7 @@ use Rattle.pg_law_least.proofs.Zips.{index_like}
 use Rattle.pg_region_paths.proofs.Elements.{cases as cases_in, here, none_in, there}
 use Rattle.pg_law_least.proofs.Links.{IsLink}
 use Rattle.pg_law_least.proofs.Likes.{Likes, likes_link}
-use Rattle.pg_law_least.proofs.Needs.{NeedLike, NeedsWithin, SeenLike, frames_within, values_within}
+use Rattle.pg_law_least.proofs.Needs.{NeedLike, NeedsWithin, SeenLike, bounds_within, values_within}
 use Rattle.pg_law_least.proofs.Whole.{run_like}
 use Rattle.pg_law_least.proofs.Asks.{all_in, in_all_of, of_all}
 use Rattle.pg_law_least.proofs.Larger.{partner}
@@ -47,24 +47,24 @@ module _ (e : Taken) (input : List ℤ) where
       (c : Condition) → Contains (need_conditions a) c → IsMet c
   need_met (Value (Known f g) a) (Value t b) h met c q =
       met c (subst (λ (z : Need). Contains (need_conditions z) c) (sym (ap (λ (s : Shadow). Value s b) h.0 ∙ ap (Value (Known f g)) h.1)) q)
-  need_met (Value (Framed g x) a) (Value t b) h met c q = absurd (none_in c q)
+  need_met (Value (Bounded g x) a) (Value t b) h met c q = absurd (none_in c q)
   need_met (Value (Unknown x) a) (Value t b) h met c q = absurd (none_in c q)
-  need_met (Value s a) (Frame t b) h met c q = absurd h
-  need_met (Frame s a) (Value t b) h met c q = absurd h
-  need_met (Frame (Known f g) a) (Frame t b) h met c q =
-      met c (subst (λ (z : Need). Contains (need_conditions z) c) (sym (ap (λ (s : Shadow). Frame s b) h.0 ∙ ap (Frame (Known f g)) h.1)) q)
-  need_met (Frame (Framed g x) a) (Frame (Known u w) b) h met c q = only (cases_in _ [] c q)
+  need_met (Value s a) (Bounds t b) h met c q = absurd h
+  need_met (Bounds s a) (Value t b) h met c q = absurd h
+  need_met (Bounds (Known f g) a) (Bounds t b) h met c q =
+      met c (subst (λ (z : Need). Contains (need_conditions z) c) (sym (ap (λ (s : Shadow). Bounds s b) h.0 ∙ ap (Bounds (Known f g)) h.1)) q)
+  need_met (Bounds (Bounded g x) a) (Bounds (Known u w) b) h met c q = only (cases_in _ [] c q)
     where
       only : (record { value = g; test = a } ≡ c) ⊎ Contains [] c → IsMet c
       only (inl f) = subst IsMet f (word_met w g b a h.0.0 h.1 (met (record { value = w; test = b }) (here (record { value = w; test = b }) [])))
       only (inr n) = absurd (none_in c n)
-  need_met (Frame (Framed g x) a) (Frame (Framed u y) b) h met c q = only (cases_in _ [] c q)
+  need_met (Bounds (Bounded g x) a) (Bounds (Bounded u y) b) h met c q = only (cases_in _ [] c q)
     where
       only : (record { value = g; test = a } ≡ c) ⊎ Contains [] c → IsMet c
       only (inl f) = subst IsMet f (word_met u g b a h.0 h.1 (met (record { value = u; test = b }) (here (record { value = u; test = b }) [])))
       only (inr n) = absurd (none_in c n)
-  need_met (Frame (Framed g x) a) (Frame (Unknown y) b) h met c q = absurd h.0
-  need_met (Frame (Unknown x) a) (Frame t b) h met c q = absurd (none_in c q)
+  need_met (Bounds (Bounded g x) a) (Bounds (Unknown y) b) h met c q = absurd h.0
+  need_met (Bounds (Unknown x) a) (Bounds t b) h met c q = absurd (none_in c q)
 
   needs_met : (ns ms : List Need) → NeedsWithin (Likes e) ns ms →
       ((c : Condition) → Contains (all_of need_conditions ms) c → IsMet c) → (c : Condition) → Contains (all_of need_conditions ns) c → IsMet c
@@ -79,13 +79,13 @@ module _ (R : Reference) (d e : Taken) (input : List ℤ) (within : AreWithin d 
 
   seen_met : (x y : Seen) → SeenLike (Likes e) x y → ((c : Condition) → Contains (conditions_at R e y) c → is_met c.test (c.value input) ≡ true) →
       (c : Condition) → Contains (conditions_at R d x) c → is_met c.test (c.value input) ≡ true
-  seen_met x y h met c q = go (Contains-append_cases (all_of need_conditions (value_needs R d x)) (all_of need_conditions (frame_needs R x)) c q)
+  seen_met x y h met c q = go (Contains-append_cases (all_of need_conditions (value_needs R d x)) (all_of need_conditions (bounds_needs R x)) c q)
     where
-      go : Contains (all_of need_conditions (value_needs R d x)) c ⊎ Contains (all_of need_conditions (frame_needs R x)) c → is_met c.test (c.value input) ≡ true
+      go : Contains (all_of need_conditions (value_needs R d x)) c ⊎ Contains (all_of need_conditions (bounds_needs R x)) c → is_met c.test (c.value input) ≡ true
       go (inl f) = needs_met e input (value_needs R d x) (value_needs R e y) (values_within R d e 0 (Likes e) link x y h)
-          (λ c f. met c (Contains-append_left (all_of need_conditions (value_needs R e y)) (all_of need_conditions (frame_needs R y)) c f)) c f
-      go (inr f) = needs_met e input (frame_needs R x) (frame_needs R y) (frames_within R d e 0 (Likes e) link x y h)
-          (λ c f. met c (Contains-append_right (all_of need_conditions (value_needs R e y)) (all_of need_conditions (frame_needs R y)) c f)) c f
+          (λ c f. met c (Contains-append_left (all_of need_conditions (value_needs R e y)) (all_of need_conditions (bounds_needs R y)) c f)) c f
+      go (inr f) = needs_met e input (bounds_needs R x) (bounds_needs R y) (bounds_within R d e 0 (Likes e) link x y h)
+          (λ c f. met c (Contains-append_right (all_of need_conditions (value_needs R e y)) (all_of need_conditions (bounds_needs R y)) c f)) c f
 
   conditions_met : ((c : Condition) → Contains (all_of (conditions_at R e) (seen_in R e)) c → is_met c.test (c.value input) ≡ true) → (c : Condition) →
       Contains (all_of (conditions_at R d) (seen_in R d)) c → is_met c.test (c.value input) ≡ true

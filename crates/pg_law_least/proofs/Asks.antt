@@ -5,7 +5,7 @@ use Rattle.std.specs.List.{AllByRecursion}
 use Rattle.std.proofs.lemmas.List.Elements.{Contains-append_cases, Contains-append_left, Contains-append_right}
 use Rattle.pg_slice_rules.specs.declared.decision.Decision.{Decision}
 use Rattle.pg_slice_rules.specs.Known.{Reference, Seen, Taken}
-use Rattle.pg_slice_rules.specs.Rules.{all_of, asks_disturbed, asks_frames, asks_pins, asks_shared, asks_values}
+use Rattle.pg_slice_rules.specs.Rules.{all_of, asks_disturbed, asks_bounds, asks_pins, asks_shared, asks_values}
 use Rattle.pg_slice_rules.specs.Closed.{asks_at}
 use Rattle.pg_region_paths.proofs.Elements.{cases as cases_in, here, none_in, there}
 
@@ -51,25 +51,25 @@ asked_if true false y x h = go (cases_in y [] x h)
 pub data IsAskedBy (R : Reference) (d : Taken) (all : List Seen) (y : Seen) (x : Decision) : Type 0 where
   By_pins : Contains (asks_pins d y) x → IsAskedBy R d all y x
   By_values : Contains (asks_values R d y) x → IsAskedBy R d all y x
-  By_frames : Contains (asks_frames R y) x → IsAskedBy R d all y x
+  By_bounds : Contains (asks_bounds R y) x → IsAskedBy R d all y x
   By_disturbed : Contains (asks_disturbed d all y) x → IsAskedBy R d all y x
   By_shared : Contains (asks_shared d all y) x → IsAskedBy R d all y x
 
 pub asked_by : (R : Reference) (d : Taken) (all : List Seen) (y : Seen) (x : Decision) → Contains (asks_at R d all y) x → IsAskedBy R d all y x
-asked_by R d all y x c = shared (Contains-append_cases (asks_pins d y ++ asks_values R d y ++ asks_frames R y ++ asks_disturbed d all y) (asks_shared d all y) x c)
+asked_by R d all y x c = shared (Contains-append_cases (asks_pins d y ++ asks_values R d y ++ asks_bounds R y ++ asks_disturbed d all y) (asks_shared d all y) x c)
   where
     pins : Contains (asks_pins d y) x ⊎ Contains (asks_values R d y) x → IsAskedBy R d all y x
     pins (inl h) = By_pins h
     pins (inr h) = By_values h
 
-    frames : Contains (asks_pins d y ++ asks_values R d y) x ⊎ Contains (asks_frames R y) x → IsAskedBy R d all y x
-    frames (inl h) = pins (Contains-append_cases (asks_pins d y) (asks_values R d y) x h)
-    frames (inr h) = By_frames h
+    bounds : Contains (asks_pins d y ++ asks_values R d y) x ⊎ Contains (asks_bounds R y) x → IsAskedBy R d all y x
+    bounds (inl h) = pins (Contains-append_cases (asks_pins d y) (asks_values R d y) x h)
+    bounds (inr h) = By_bounds h
 
-    disturbed : Contains (asks_pins d y ++ asks_values R d y ++ asks_frames R y) x ⊎ Contains (asks_disturbed d all y) x → IsAskedBy R d all y x
-    disturbed (inl h) = frames (Contains-append_cases (asks_pins d y ++ asks_values R d y) (asks_frames R y) x h)
+    disturbed : Contains (asks_pins d y ++ asks_values R d y ++ asks_bounds R y) x ⊎ Contains (asks_disturbed d all y) x → IsAskedBy R d all y x
+    disturbed (inl h) = bounds (Contains-append_cases (asks_pins d y ++ asks_values R d y) (asks_bounds R y) x h)
     disturbed (inr h) = By_disturbed h
 
-    shared : Contains (asks_pins d y ++ asks_values R d y ++ asks_frames R y ++ asks_disturbed d all y) x ⊎ Contains (asks_shared d all y) x → IsAskedBy R d all y x
-    shared (inl h) = disturbed (Contains-append_cases (asks_pins d y ++ asks_values R d y ++ asks_frames R y) (asks_disturbed d all y) x h)
+    shared : Contains (asks_pins d y ++ asks_values R d y ++ asks_bounds R y ++ asks_disturbed d all y) x ⊎ Contains (asks_shared d all y) x → IsAskedBy R d all y x
+    shared (inl h) = disturbed (Contains-append_cases (asks_pins d y ++ asks_values R d y ++ asks_bounds R y) (asks_disturbed d all y) x h)
     shared (inr h) = By_shared h

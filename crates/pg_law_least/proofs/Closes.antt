@@ -6,12 +6,12 @@ use Rattle.std.proofs.lemmas.Bool.{true≢false}
 use Rattle.pg_slice_rules.specs.declared.decision.Decision.{Decision}
 use Rattle.pg_slice_rules.specs.declared.decision.Decision.TheVariants.{Pinned, Exact}
 use Rattle.pg_slice_rules.specs.Known.{Reference, Seen, Taken, has, seen_in}
-use Rattle.pg_slice_rules.specs.Rules.{all_of, asks_disturbed, asks_frames, asks_pins, asks_shared, asks_values}
+use Rattle.pg_slice_rules.specs.Rules.{all_of, asks_disturbed, asks_bounds, asks_pins, asks_shared, asks_values}
 use Rattle.pg_slice_rules.specs.Closed.{IsClosed, IsSlice, asks, asks_at}
 use Rattle.pg_law_least.specs.Keeps.{every}
 use Rattle.pg_law_least.proofs.Zips.{all_none}
 use Rattle.pg_region_paths.proofs.Elements.{none_in}
-use Rattle.pg_law_least.proofs.Asks.{By_disturbed, By_frames, By_pins, By_shared, By_values, IsAskedBy, asked_by, in_all_of, none_asked, of_all}
+use Rattle.pg_law_least.proofs.Asks.{By_disturbed, By_bounds, By_pins, By_shared, By_values, IsAskedBy, asked_by, in_all_of, none_asked, of_all}
 use Rattle.pg_law_least.proofs.Missing.{asks_new}
 
 none_of : (f g : Seen → List Decision) (all : List Seen) → ((y : Seen) (x : Decision) → Contains (f y) x → Contains (g y) x) → ((x : Decision) → Contains (all_of g all) x → ⊥) →
@@ -21,19 +21,19 @@ none_of f g all h k = all_none (all_of f all) (λ x c. let q = in_all_of f all x
 pub closed_if : (R : Reference) (d : Taken) → ((x : Decision) → Contains (asks R d) x → ⊥) → IsClosed R d
 unfolding asks
 closed_if R d h = record {
-  pins = none_of (asks_pins d) (asks_at R d all) all (λ y x c. Contains-append_left (asks_pins d y ++ asks_values R d y ++ asks_frames R y ++ asks_disturbed d all y) (asks_shared d all y) x
-      (Contains-append_left (asks_pins d y ++ asks_values R d y ++ asks_frames R y) (asks_disturbed d all y) x
-      (Contains-append_left (asks_pins d y ++ asks_values R d y) (asks_frames R y) x (Contains-append_left (asks_pins d y) (asks_values R d y) x c)))) h;
-  values = none_of (asks_values R d) (asks_at R d all) all (λ y x c. Contains-append_left (asks_pins d y ++ asks_values R d y ++ asks_frames R y ++ asks_disturbed d all y) (asks_shared d all y) x
-      (Contains-append_left (asks_pins d y ++ asks_values R d y ++ asks_frames R y) (asks_disturbed d all y) x
-      (Contains-append_left (asks_pins d y ++ asks_values R d y) (asks_frames R y) x (Contains-append_right (asks_pins d y) (asks_values R d y) x c)))) h;
-  frames = none_of (asks_frames R) (asks_at R d all) all (λ y x c. Contains-append_left (asks_pins d y ++ asks_values R d y ++ asks_frames R y ++ asks_disturbed d all y) (asks_shared d all y) x
-      (Contains-append_left (asks_pins d y ++ asks_values R d y ++ asks_frames R y) (asks_disturbed d all y) x
-      (Contains-append_right (asks_pins d y ++ asks_values R d y) (asks_frames R y) x c))) h;
-  disturbed = none_of (asks_disturbed d all) (asks_at R d all) all (λ y x c. Contains-append_left (asks_pins d y ++ asks_values R d y ++ asks_frames R y ++ asks_disturbed d all y)
+  pins = none_of (asks_pins d) (asks_at R d all) all (λ y x c. Contains-append_left (asks_pins d y ++ asks_values R d y ++ asks_bounds R y ++ asks_disturbed d all y) (asks_shared d all y) x
+      (Contains-append_left (asks_pins d y ++ asks_values R d y ++ asks_bounds R y) (asks_disturbed d all y) x
+      (Contains-append_left (asks_pins d y ++ asks_values R d y) (asks_bounds R y) x (Contains-append_left (asks_pins d y) (asks_values R d y) x c)))) h;
+  values = none_of (asks_values R d) (asks_at R d all) all (λ y x c. Contains-append_left (asks_pins d y ++ asks_values R d y ++ asks_bounds R y ++ asks_disturbed d all y) (asks_shared d all y) x
+      (Contains-append_left (asks_pins d y ++ asks_values R d y ++ asks_bounds R y) (asks_disturbed d all y) x
+      (Contains-append_left (asks_pins d y ++ asks_values R d y) (asks_bounds R y) x (Contains-append_right (asks_pins d y) (asks_values R d y) x c)))) h;
+  bounds = none_of (asks_bounds R) (asks_at R d all) all (λ y x c. Contains-append_left (asks_pins d y ++ asks_values R d y ++ asks_bounds R y ++ asks_disturbed d all y) (asks_shared d all y) x
+      (Contains-append_left (asks_pins d y ++ asks_values R d y ++ asks_bounds R y) (asks_disturbed d all y) x
+      (Contains-append_right (asks_pins d y ++ asks_values R d y) (asks_bounds R y) x c))) h;
+  disturbed = none_of (asks_disturbed d all) (asks_at R d all) all (λ y x c. Contains-append_left (asks_pins d y ++ asks_values R d y ++ asks_bounds R y ++ asks_disturbed d all y)
       (asks_shared d all y) x
-      (Contains-append_right (asks_pins d y ++ asks_values R d y ++ asks_frames R y) (asks_disturbed d all y) x c)) h;
-  shared = none_of (asks_shared d all) (asks_at R d all) all (λ y x c. Contains-append_right (asks_pins d y ++ asks_values R d y ++ asks_frames R y ++ asks_disturbed d all y)
+      (Contains-append_right (asks_pins d y ++ asks_values R d y ++ asks_bounds R y) (asks_disturbed d all y) x c)) h;
+  shared = none_of (asks_shared d all) (asks_at R d all) all (λ y x c. Contains-append_right (asks_pins d y ++ asks_values R d y ++ asks_bounds R y ++ asks_disturbed d all y)
       (asks_shared d all y) x c) h;
 }
   where
@@ -44,7 +44,7 @@ closed_if R d h = record {
 closed_none : (R : Reference) (d : Taken) → IsClosed R d → (y : Seen) (x : Decision) → Contains (seen_in R d) y → IsAskedBy R d (seen_in R d) y x → ⊥
 closed_none R d closed y x c (By_pins a) = none_asked (asks_pins d) (seen_in R d) y closed.pins c x a
 closed_none R d closed y x c (By_values a) = none_asked (asks_values R d) (seen_in R d) y closed.values c x a
-closed_none R d closed y x c (By_frames a) = none_asked (asks_frames R) (seen_in R d) y closed.frames c x a
+closed_none R d closed y x c (By_bounds a) = none_asked (asks_bounds R) (seen_in R d) y closed.bounds c x a
 closed_none R d closed y x c (By_disturbed a) = none_asked (asks_disturbed d (seen_in R d)) (seen_in R d) y closed.disturbed c x a
 closed_none R d closed y x c (By_shared a) = none_asked (asks_shared d (seen_in R d)) (seen_in R d) y closed.shared c x a
 

@@ -16,7 +16,7 @@ use Rattle.pg_run_trace.specs.declared.step.StepKind.{StepKind}
 use Rattle.pg_run_trace.specs.declared.step.StepKind.TheVariants as kinds
 use Rattle.pg_run_trace.specs.Steps.{range_of}
 use Rattle.pg_slice_rules.specs.Moments.{Moment, instr_in}
-use Rattle.pg_slice_rules.specs.Freeable.{FreeRegion, frame_of}
+use Rattle.pg_slice_rules.specs.Freeable.{FreeRegion, bounds_of}
 use Rattle.pg_slice_rules.specs.Shadows.{is_within}
 use Rattle.pg_slice_rules.specs.Extents.{begun}
 use Rattle.pg_slice_rules.specs.Known.{edge_of}
@@ -47,7 +47,7 @@ quiet : (n i : ℕ) (kind : StepKind) (rs : List (Option ℕ)) (bytes : ℕ → 
 quiet n i kind rs bytes low x e q g k c d = record {
   known = omega arith;
   calls = refl;
-  frames = λ a h. absurd (no_store n m x a e q h);
+  bounds = λ a h. absurd (no_store n m x a e q h);
   branches = λ r f. no_region (region_in kept m) r g f;
   own = λ r f. no_region (region_in kept m) r g f;
   together = λ t o h. absurd (none_in o h);
@@ -110,17 +110,17 @@ module _ (n i : ℕ) (kind : StepKind) (rs : List (Option ℕ)) (bytes : ℕ →
   moment = step_of i kind rs bytes 1
 
   goes_by : calls_behind (instr_in kept.program moment) kind 1 ≡ 1 → made_behind (instr_in kept.program moment) kind ≡ 0
-      → ((c : Access) → StoresBy kept (step_at kept n moment) c → (j : ℕ) → is_within (range_of c) j ≡ true → is_within (frame_of c.pointer) j ≡ true)
+      → ((c : Access) → StoresBy kept (step_at kept n moment) c → (j : ℕ) → is_within (range_of c) j ≡ true → is_within (bounds_of c.pointer) j ≡ true)
       → ((r : FreeRegion) → region_in kept moment ≡ Some r → (x : Instr) → instr_in kept.program moment ≡ Some x → is_branching x.op ≡ true)
       → ((r : FreeRegion) → region_in kept moment ≡ Some r → MaySetPhis kept.program r.sets (edge_of kept.program moment kind))
       → ((t : ℕ) (o : OpenExtent) → Contains (a t) o → 0 ≡ t) → AreStacked 1 (edge_of kept.program moment kind) (begun n 1 (region_in kept moment) (extents_in (a 0)))
       → ((o : OpenExtent) → Contains (a 0) o → KeepsTo kept o.region o.extent.depth (step_at kept n moment))
       → b 0 ≡ extents_behind n 1 (region_in kept moment) (edge_of kept.program moment kind) (a 0) → ((u : ℕ) → (u ≡ 0 → ⊥) → b u ≡ a u)
       → StepGoes kept n (record first_track { extents = a }) moment (record first_track { extents = b })
-  goes_by c d frames branches own together nested keep own_extents other_extents = record {
+  goes_by c d bounds branches own together nested keep own_extents other_extents = record {
     known = omega arith;
     calls = refl;
-    frames = frames;
+    bounds = bounds;
     branches = branches;
     own = own;
     together = together;
@@ -182,7 +182,7 @@ no_return n m x e q h =
 store_step : StepGoes kept 7 inside (step_of 8 (kinds.Access stored) registers rooted_bytes0 1) inside
 unfolding instrs_of phis_of end_of first_of
 store_step = goes_by 7 8 (kinds.Access stored) registers rooted_bytes0 inside.extents inside.extents refl refl
-    (λ a h j q. subst (λ (a : Access). is_within (range_of a) j ≡ true → is_within (frame_of a.pointer) j ≡ true) (same_access stored a h.kind) (λ q. q) q)
+    (λ a h j q. subst (λ (a : Access). is_within (range_of a) j ≡ true → is_within (bounds_of a.pointer) j ≡ true) (same_access stored a h.kind) (λ q. q) q)
     (λ r f. no_region None r refl f) (λ r f. no_region None r refl f) (λ t o h. sym (own_in t o h).0) (λ o c e. absurd (none_in o c), tt)
     (λ o h. subst (λ (o : OpenExtent). KeepsTo kept o.region o.extent.depth (step_at kept 7 m)) (own_in 0 o h).1 kept_to) refl (λ u o. refl)
   where
@@ -197,7 +197,7 @@ store_step = goes_by 7 8 (kinds.Access stored) registers rooted_bytes0 inside.ex
       inner = λ l q f. no_region None q refl f;
       deeper = λ h. absurd (no_return 7 m _ refl refl h);
       target = λ h. absurd (no_return 7 m _ refl refl h);
-      stores = λ a h b q. or_left _ false (subst (λ (a : Access). is_within (frame_of a.pointer) b ≡ true) (sym (same_access stored a h.kind)) q);
+      stores = λ a h b q. or_left _ false (subst (λ (a : Access). is_within (bounds_of a.pointer) b ≡ true) (sym (same_access stored a h.kind)) q);
       inner_stores = λ q f. no_region None q refl f;
     }
 

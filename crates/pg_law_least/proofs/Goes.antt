@@ -11,7 +11,7 @@ use Rattle.pg_run_trace.specs.declared.step.StepKind.TheVariants as kinds
 use Rattle.pg_run_trace.specs.declared.step.Access.{Access}
 use Rattle.pg_run_trace.specs.declared.step.Event.{Event}
 use Rattle.pg_slice_rules.specs.Moments.{Moment, instr_in, thread_in}
-use Rattle.pg_slice_rules.specs.Freeable.{FreeRegion, frame_of}
+use Rattle.pg_slice_rules.specs.Freeable.{FreeRegion, bounds_of}
 use Rattle.pg_slice_rules.specs.Shadows.{is_within}
 use Rattle.pg_run_trace.specs.Steps.{range_of}
 use Rattle.pg_slice_rules.specs.Extents.{Extent, begun, ends, open_after}
@@ -298,7 +298,7 @@ module _ (R : Reference) where
   record StepKeeps (y : Seen) : Type 0 where
     known : thread_in y.moment < length y.before.threads
     calls : length (thread_of y.before (thread_in y.moment)).calls ≡ depth_of y
-    frames : (a : Access) → StoresBy R y a → (b : ℕ) → is_within (range_of a) b ≡ true → is_within (frame_of a.pointer) b ≡ true
+    bounds : (a : Access) → StoresBy R y a → (b : ℕ) → is_within (range_of a) b ≡ true → is_within (bounds_of a.pointer) b ≡ true
     branches : (r : FreeRegion) → y.region ≡ Some r → (i : Instr) → instr_of R y ≡ Some i → is_branching i.op ≡ true
     own : (r : FreeRegion) → y.region ≡ Some r → MaySetPhis R.program r.sets (edge_at R y)
     together : (t : ℕ) (e : Extent) → Contains (open_in y t) e → thread_in y.moment ≡ t
@@ -310,7 +310,7 @@ module _ (R : Reference) where
   step_keeps n m u a b tracks goes = record {
     known = begun_here;
     calls = tracks.calls (thread_in m) goes.known ∙ goes.calls;
-    frames = λ c q. goes.frames c (record { instr = q.instr; stands = q.stands; store = q.store; kind = q.kind });
+    bounds = λ c q. goes.bounds c (record { instr = q.instr; stands = q.stands; store = q.store; kind = q.kind });
     branches = goes.branches;
     own = goes.own;
     together = λ t e c. let o = named_in (a.extents t) e (subst (λ (es : List Extent). Contains es e) (tracks.extents t) c) in goes.together t o.0 o.1;
@@ -349,7 +349,7 @@ module _ (R : Reference) where
   goes_keep goes = record {
     known = λ y c. (each y c).known;
     calls = λ y c. (each y c).calls;
-    frames = λ y c. (each y c).frames;
+    bounds = λ y c. (each y c).bounds;
     branches = λ y c. (each y c).branches;
     own = λ y c. (each y c).own;
     together = λ y c. (each y c).together;

@@ -40,7 +40,7 @@ module _ (p : NumberedProgram) (d : Taken) (n : ℕ) (m : Moment) (region : Opti
   op_length pinned result x (op.Call g args) cs = refl
   op_length pinned result x (op.Ret v) cs = top_length _ (under_top cs) ∙ under_length cs
   op_length pinned result x (op.Alloca bytes) cs = top_length _ cs
-  op_length pinned result x (op.CallKnown f args) cs = top_length _ cs
+  op_length pinned result x (op.CallLibrary f args) cs = top_length _ cs
   op_length pinned result x (op.Gep base indices) cs = top_length _ cs
   op_length pinned result x _ cs = top_length _ cs
 

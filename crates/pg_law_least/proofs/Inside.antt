@@ -4,8 +4,8 @@ use Rattle.std.proofs.Common.{arith, length-append}
 use Rattle.std.specs.Prelude.{◌||◌, if◌then◌else◌}
 use Rattle.std.proofs.lemmas.Bool.{true≢false}
 use Rattle.pg_num.specs.Places.{ByteRange}
-use Rattle.pg_ir.specs.declared.known.Known.{Known as KnownFunction}
-use Rattle.pg_ir.specs.declared.known.Known.TheVariants as known
+use Rattle.pg_ir.specs.declared.library_call.LibraryCall.{LibraryCall}
+use Rattle.pg_ir.specs.declared.library_call.LibraryCall.TheVariants as known
 use Rattle.pg_ir.specs.declared.value.Value.{Value}
 use Rattle.pg_ir.specs.declared.instr.Instr.{Instr}
 use Rattle.pg_ir.specs.declared.instr.Op.{Op}
@@ -18,7 +18,7 @@ use Rattle.pg_run_trace.specs.Steps.{happening_in, range_of}
 use Rattle.pg_slice_rules.specs.declared.decision.Decision.{Decision}
 use Rattle.pg_slice_rules.specs.declared.decision.Decision.TheVariants.{Pinned}
 use Rattle.pg_slice_rules.specs.Moments.{Moment, instr_in}
-use Rattle.pg_slice_rules.specs.Freeable.{FreeRegion, frame_of}
+use Rattle.pg_slice_rules.specs.Freeable.{FreeRegion, bounds_of}
 use Rattle.pg_slice_rules.specs.Shadows.{Shadow, Unknown, is_within, spoiled, stored, byte_in}
 use Rattle.pg_slice_rules.specs.Extents.{edge_by, edge_in}
 use Rattle.pg_slice_rules.specs.Known.{RunShadow, Taken, after_access, after_branch, after_known, after_op, bytes_freed, bytes_stored, caller_target, edge_of, forgotten_bytes, has, result_in}
@@ -115,7 +115,7 @@ module _ (p : NumberedProgram) (d e : Taken) (bound : ℕ) (L : Shadow → Shado
       branch_kept false None q l rs = outside_edge p sets x.block.0 (edge_in p m (Some x)) rs (phis l)
       branch_kept false (Some r) q l rs = outside_forgotten 0 sets r.sets (Pinned n) rs (inner l r q)
 
-      known_kept : (f : KnownFunction) (number : ℕ) (s : Shadow) → length m.calls ≡ depth → (rs : List Shadow) → Outside 0 sets rs (after_known f x.result number s rs)
+      known_kept : (f : LibraryCall) (number : ℕ) (s : Shadow) → length m.calls ≡ depth → (rs : List Shadow) → Outside 0 sets rs (after_known f x.result number s rs)
       known_kept known.PgIn number s l rs = outside_target sets x.result _ rs (result l)
       known_kept known.PgInLen number s l rs = outside_target sets x.result _ rs (result l)
       known_kept known.Malloc number s l rs = outside_target sets x.result _ rs (result l)
@@ -128,7 +128,7 @@ module _ (p : NumberedProgram) (d e : Taken) (bound : ℕ) (L : Shadow → Shado
       op_kept pinned number (op.Call g args) q = above_call _ cs more low like
       op_kept pinned number (op.Ret v) q = returned _ (deeper v q) (λ l rs. outside_target sets (caller_target p m.calls) _ rs (target v q l)) more refl
       op_kept pinned number (op.Alloca bytes) q = top_kept _ (λ l rs. outside_target sets x.result _ rs (result l))
-      op_kept pinned number (op.CallKnown f args) q = top_kept _ (λ l rs. known_kept f number _ l rs)
+      op_kept pinned number (op.CallLibrary f args) q = top_kept _ (λ l rs. known_kept f number _ l rs)
       op_kept pinned number (op.Gep base indices) q = top_kept _ (λ l rs. outside_target sets x.result _ rs (result l))
       op_kept pinned number _ q = top_kept _ (λ l rs. outside_target sets x.result _ rs (result l))
 
@@ -159,9 +159,9 @@ module _ (p : NumberedProgram) (e : Taken) (n : ℕ) (m : Moment) (region : Opti
       go false q = rw q refl
 
   store_kept : (a : Access) (rs : List Shadow) (bytes : ℕ → Shadow) (o : Op) (known : Bool) → (is_store o ≡ true → is_within (range_of a) b ≡ true → writes b ≡ true) →
-      (is_store o ≡ true → is_within (frame_of a.pointer) b ≡ true → writes b ≡ true) → bytes_stored p known n a rs o bytes b ≡ bytes b
+      (is_store o ≡ true → is_within (bounds_of a.pointer) b ≡ true → writes b ≡ true) → bytes_stored p known n a rs o bytes b ≡ bytes b
   store_kept a rs bytes (op.Store w v at) true h g = stored_kept (range_of a) _ bytes (h refl)
-  store_kept a rs bytes (op.Store w v at) false h g = spoiled_kept (frame_of a.pointer) _ bytes (g refl)
+  store_kept a rs bytes (op.Store w v at) false h g = spoiled_kept (bounds_of a.pointer) _ bytes (g refl)
   store_kept a rs bytes _ known h g = refl
 
   free_kept : (o : Option FreeRegion) (pinned : Bool) (bytes : ℕ → Shadow) → ((q : FreeRegion) → o ≡ Some q → may_write q.accesses b ≡ true → writes b ≡ true) →
@@ -177,7 +177,7 @@ module _ (p : NumberedProgram) (e : Taken) (n : ℕ) (m : Moment) (region : Opti
 
   pub bytes_kept : (kind : StepKind) → happening_in kind ≡ None → (t : RunShadow) →
       ((a : Access) → kind ≡ kinds.Access a → is_store x.op ≡ true → is_within (range_of a) b ≡ true → writes b ≡ true) →
-      ((a : Access) → kind ≡ kinds.Access a → is_store x.op ≡ true → is_within (frame_of a.pointer) b ≡ true → writes b ≡ true) →
+      ((a : Access) → kind ≡ kinds.Access a → is_store x.op ≡ true → is_within (bounds_of a.pointer) b ≡ true → writes b ≡ true) →
       ((q : FreeRegion) → region ≡ Some q → may_write q.accesses b ≡ true → writes b ≡ true) →
       known_bytes p e n m region x kind t b ≡ t.bytes b
   bytes_kept (kinds.Access a) q t h g f = store_kept a _ t.bytes x.op (e.exact n || a.event) (h a refl) (g a refl)

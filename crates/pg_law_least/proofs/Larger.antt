@@ -7,18 +7,18 @@ use Rattle.pg_run_trace.specs.Races.{overlap}
 use Rattle.pg_slice_rules.specs.declared.decision.Decision.{Decision}
 use Rattle.pg_slice_rules.specs.declared.decision.Decision.TheVariants.{Pinned, Exact}
 use Rattle.pg_slice_rules.specs.Moments.{thread_in}
-use Rattle.pg_slice_rules.specs.Shadows.{Shadow, Known, Framed, Unknown, blames, frame_blames}
+use Rattle.pg_slice_rules.specs.Shadows.{Shadow, Known, Bounded, Unknown, blames, bounds_blames}
 use Rattle.pg_slice_rules.specs.Known.{Reference, RunShadow, Seen, Taken, has, seen_in}
-use Rattle.pg_slice_rules.specs.Rules.{Footprint, Need, Value, Frame, access_print, all_of, any_conflict, asks_disturbed, asks_frames, asks_pins, asks_shared, asks_values, frame_needs}
-use Rattle.pg_slice_rules.specs.Rules.{frames_meet, is_bound, is_disturbed, is_plain, is_shared, kind_in, need_blames, region_prints, value_needs}
+use Rattle.pg_slice_rules.specs.Rules.{Footprint, Need, Value, Bounds, access_footprint, all_of, any_conflict, asks_disturbed, asks_bounds, asks_pins, asks_shared, asks_values, bounds_needs}
+use Rattle.pg_slice_rules.specs.Rules.{bounds_meet, is_bound, is_disturbed, is_plain, is_shared, kind_in, need_blames, region_footprints, value_needs}
 use Rattle.pg_slice_rules.specs.Closed.{AreWithin, IsClosed, asks, asks_at}
 use Rattle.pg_law_least.specs.Keeps.{ExtentsKeep}
 use Rattle.pg_region_paths.proofs.Elements.{cases as cases_in, here, none_in, there}
 use Rattle.pg_law_least.proofs.Links.{IsLink}
 use Rattle.pg_law_least.proofs.Likes.{Likes, likes_link}
-use Rattle.pg_law_least.proofs.Needs.{NeedLike, NeedsWithin, SeenLike, frames_within, seen_as, values_within}
+use Rattle.pg_law_least.proofs.Needs.{NeedLike, NeedsWithin, SeenLike, bounds_within, seen_as, values_within}
 use Rattle.pg_law_least.proofs.Whole.{run_like}
-use Rattle.pg_law_least.proofs.Asks.{By_disturbed, By_frames, By_pins, By_shared, By_values, IsAskedBy, all_in, asked_by, asked_if, in_all_of, none_asked, of_all}
+use Rattle.pg_law_least.proofs.Asks.{By_disturbed, By_bounds, By_pins, By_shared, By_values, IsAskedBy, all_in, asked_by, asked_if, in_all_of, none_asked, of_all}
 
 -- ---- lists that are alike
 
@@ -60,7 +60,7 @@ no_conflict : (xs : List Footprint) → any_conflict xs [] ≡ false
 no_conflict [] = refl
 no_conflict (x ∷ xs) = no_conflict xs
 
--- the prints of a step, by whether it is live
+-- the footprints of a step, by whether it is live
 if_live : Bool → List Footprint → List Footprint
 if_live b xs = if b then xs else []
 
@@ -85,17 +85,17 @@ conflict_shared false b c d xs ys f g q = absurd (true≢false (sym q))
 both_more : (a b c d : Bool) → ((a && b) && c) ≡ true → (c ≡ true → d ≡ true) → ((a && b) && d) ≡ true
 both_more a b c d q h = let p = and_parts (a && b) c q in and_from (a && b) d p.0 (h p.1)
 
--- the frames of two steps that meet still do
+-- the bounds of two steps that meet still do
 meet_more : (x z : Seen) (live also : Bool) (before after : RunShadow) → (x.live ≡ true → live ≡ true) → (z.live ≡ true → also ≡ true) →
-    frames_meet x (region_prints x) z (access_print z ++ region_prints z) ≡ true →
-    frames_meet (seen_as x live before) (region_prints (seen_as x live before)) (seen_as z also after) (access_print (seen_as z also after) ++ region_prints (seen_as z also after)) ≡ true
+    bounds_meet x (region_footprints x) z (access_footprint z ++ region_footprints z) ≡ true →
+    bounds_meet (seen_as x live before) (region_footprints (seen_as x live before)) (seen_as z also after) (access_footprint (seen_as z also after) ++ region_footprints (seen_as z also after)) ≡ true
 unfolding if_live
 meet_more x z live also before after f g q =
     both_more (not (thread_in x.moment == thread_in z.moment)) (overlap x.moment.did z.moment.did) _ _ q (λ r. conflict_more x.live z.live live also _ _ _ f g r)
 
 shared_more : (x z : Seen) (live also : Bool) (before after : RunShadow) → (x.live ≡ true → live ≡ true) → (z.live ≡ true → also ≡ true) →
-    frames_meet x (access_print x) z (access_print z) ≡ true →
-    frames_meet (seen_as x live before) (access_print (seen_as x live before)) (seen_as z also after) (access_print (seen_as z also after)) ≡ true
+    bounds_meet x (access_footprint x) z (access_footprint z) ≡ true →
+    bounds_meet (seen_as x live before) (access_footprint (seen_as x live before)) (seen_as z also after) (access_footprint (seen_as z also after)) ≡ true
 unfolding if_live
 shared_more x z live also before after f g q =
     both_more (not (thread_in x.moment == thread_in z.moment)) (overlap x.moment.did z.moment.did) _ _ q (λ r. conflict_shared x.live z.live live also _ _ f g r)
@@ -105,13 +105,13 @@ shared_more x z live also before after f g q =
 module _ (e : Taken) where
   blamed_above : (s t : Shadow) (z : Decision) → Likes e s t → Contains (blames s) z → ((w : Decision) → Contains (blames t) w → ⊥) → has e z ≡ true
   blamed_above (Known f g) t z h c none = absurd (none_in z c)
-  blamed_above (Framed g x) (Known u w) z h c none = only (cases_in x [] z c)
+  blamed_above (Bounded g x) (Known u w) z h c none = only (cases_in x [] z c)
     where
       only : (x ≡ z) ⊎ Contains [] z → has e z ≡ true
       only (inl q) = subst (λ (z : Decision). has e z ≡ true) q h.1
       only (inr c) = absurd (none_in z c)
-  blamed_above (Framed g x) (Framed u y) z h c none = absurd (none y (here y []))
-  blamed_above (Framed g x) (Unknown y) z h c none = absurd h
+  blamed_above (Bounded g x) (Bounded u y) z h c none = absurd (none y (here y []))
+  blamed_above (Bounded g x) (Unknown y) z h c none = absurd h
   blamed_above (Unknown x) t z (inl q) c none = only (cases_in x [] z c)
     where
       only : (x ≡ z) ⊎ Contains [] z → has e z ≡ true
@@ -119,21 +119,21 @@ module _ (e : Taken) where
       only (inr c) = absurd (none_in z c)
   blamed_above (Unknown x) t z (inr q) c none = absurd (none q.0 (subst (λ (s : Shadow). Contains (blames s) q.0) (sym q.1) (here q.0 [])))
 
-  frame_above : (s t : Shadow) (z : Decision) → Likes e s t → Contains (frame_blames s) z → ((w : Decision) → Contains (frame_blames t) w → ⊥) → has e z ≡ true
-  frame_above (Known f g) t z h c none = absurd (none_in z c)
-  frame_above (Framed g x) t z h c none = absurd (none_in z c)
-  frame_above (Unknown x) t z (inl q) c none = only (cases_in x [] z c)
+  bounds_above : (s t : Shadow) (z : Decision) → Likes e s t → Contains (bounds_blames s) z → ((w : Decision) → Contains (bounds_blames t) w → ⊥) → has e z ≡ true
+  bounds_above (Known f g) t z h c none = absurd (none_in z c)
+  bounds_above (Bounded g x) t z h c none = absurd (none_in z c)
+  bounds_above (Unknown x) t z (inl q) c none = only (cases_in x [] z c)
     where
       only : (x ≡ z) ⊎ Contains [] z → has e z ≡ true
       only (inl f) = subst (λ (z : Decision). has e z ≡ true) f q
       only (inr c) = absurd (none_in z c)
-  frame_above (Unknown x) t z (inr q) c none = absurd (none q.0 (subst (λ (s : Shadow). Contains (frame_blames s) q.0) (sym q.1) (here q.0 [])))
+  bounds_above (Unknown x) t z (inr q) c none = absurd (none q.0 (subst (λ (s : Shadow). Contains (bounds_blames s) q.0) (sym q.1) (here q.0 [])))
 
   need_above : (a b : Need) (z : Decision) → NeedLike (Likes e) a b → Contains (need_blames a) z → ((w : Decision) → Contains (need_blames b) w → ⊥) → has e z ≡ true
   need_above (Value s a) (Value t b) z h c none = blamed_above s t z h.0 c none
-  need_above (Value s a) (Frame t b) z h c none = absurd h
-  need_above (Frame s a) (Value t b) z h c none = absurd h
-  need_above (Frame s a) (Frame t b) z h c none = frame_above s t z h.0 c none
+  need_above (Value s a) (Bounds t b) z h c none = absurd h
+  need_above (Bounds s a) (Value t b) z h c none = absurd h
+  need_above (Bounds s a) (Bounds t b) z h c none = bounds_above s t z h.0 c none
 
   needs_above : (ns ms : List Need) (z : Decision) → NeedsWithin (Likes e) ns ms → Contains (all_of need_blames ns) z → ((w : Decision) → Contains (all_of need_blames ms) w → ⊥) →
       has e z ≡ true
@@ -154,18 +154,18 @@ module _ (R : Reference) (d e : Taken) (within : AreWithin d e) (closed : IsClos
   bound_at : (x y : Seen) → SeenLike (Likes e) x y → is_bound x ≡ true → is_bound y ≡ true
   bound_at x y h q = subst (λ (z : Seen). is_bound z ≡ true) (sym h.same) (bound_more x y.live y.before h.live q)
 
-  meets_at : (x y : Seen) → SeenLike (Likes e) x y → (z w : Seen) → SeenLike (Likes e) z w → frames_meet x (region_prints x) z (access_print z ++ region_prints z) ≡ true →
-      frames_meet y (region_prints y) w (access_print w ++ region_prints w) ≡ true
+  meets_at : (x y : Seen) → SeenLike (Likes e) x y → (z w : Seen) → SeenLike (Likes e) z w → bounds_meet x (region_footprints x) z (access_footprint z ++ region_footprints z) ≡ true →
+      bounds_meet y (region_footprints y) w (access_footprint w ++ region_footprints w) ≡ true
   meets_at x y h z w g q =
-      subst (λ (y : Seen). frames_meet y (region_prints y) w (access_print w ++ region_prints w) ≡ true) (sym h.same)
-      (subst (λ (w : Seen). frames_meet (seen_as x y.live y.before) (region_prints (seen_as x y.live y.before)) w (access_print w ++ region_prints w) ≡ true) (sym g.same)
+      subst (λ (y : Seen). bounds_meet y (region_footprints y) w (access_footprint w ++ region_footprints w) ≡ true) (sym h.same)
+      (subst (λ (w : Seen). bounds_meet (seen_as x y.live y.before) (region_footprints (seen_as x y.live y.before)) w (access_footprint w ++ region_footprints w) ≡ true) (sym g.same)
       (meet_more x z y.live w.live y.before w.before h.live g.live q))
 
-  shares_at : (x y : Seen) → SeenLike (Likes e) x y → (z w : Seen) → SeenLike (Likes e) z w → frames_meet x (access_print x) z (access_print z) ≡ true →
-      frames_meet y (access_print y) w (access_print w) ≡ true
+  shares_at : (x y : Seen) → SeenLike (Likes e) x y → (z w : Seen) → SeenLike (Likes e) z w → bounds_meet x (access_footprint x) z (access_footprint z) ≡ true →
+      bounds_meet y (access_footprint y) w (access_footprint w) ≡ true
   shares_at x y h z w g q =
-      subst (λ (y : Seen). frames_meet y (access_print y) w (access_print w) ≡ true) (sym h.same)
-      (subst (λ (w : Seen). frames_meet (seen_as x y.live y.before) (access_print (seen_as x y.live y.before)) w (access_print w) ≡ true) (sym g.same)
+      subst (λ (y : Seen). bounds_meet y (access_footprint y) w (access_footprint w) ≡ true) (sym h.same)
+      (subst (λ (w : Seen). bounds_meet (seen_as x y.live y.before) (access_footprint (seen_as x y.live y.before)) w (access_footprint w) ≡ true) (sym g.same)
       (shared_more x z y.live w.live y.before w.before h.live g.live q))
 
   disturbed_at : (x y : Seen) → SeenLike (Likes e) x y → is_disturbed (seen_in R d) x ≡ true → is_disturbed (seen_in R e) y ≡ true
@@ -176,9 +176,9 @@ module _ (R : Reference) (d e : Taken) (within : AreWithin d e) (closed : IsClos
 
   shared_at : (x y : Seen) → SeenLike (Likes e) x y → is_shared (seen_in R d) x ≡ true → is_shared (seen_in R e) y ≡ true
   shared_at x y h q =
-      let p = and_parts (is_plain (kind_in x)) (list_any (λ (z : Seen). frames_meet x (access_print x) z (access_print z)) (seen_in R d)) q in
-      and_from (is_plain (kind_in y)) (list_any (λ (z : Seen). frames_meet y (access_print y) z (access_print z)) (seen_in R e)) (plain_at x y h p.0)
-      (any_zip (SeenLike (Likes e)) (λ (z : Seen). frames_meet x (access_print x) z (access_print z)) (λ (z : Seen). frames_meet y (access_print y) z (access_print z)) (seen_in R d)
+      let p = and_parts (is_plain (kind_in x)) (list_any (λ (z : Seen). bounds_meet x (access_footprint x) z (access_footprint z)) (seen_in R d)) q in
+      and_from (is_plain (kind_in y)) (list_any (λ (z : Seen). bounds_meet y (access_footprint y) z (access_footprint z)) (seen_in R e)) (plain_at x y h p.0)
+      (any_zip (SeenLike (Likes e)) (λ (z : Seen). bounds_meet x (access_footprint x) z (access_footprint z)) (λ (z : Seen). bounds_meet y (access_footprint y) z (access_footprint z)) (seen_in R d)
       (seen_in R e) alike (λ z w g r. shares_at x y h z w g r) p.1)
 
   rule_above : (x y : Seen) → SeenLike (Likes e) x y → Contains (seen_in R e) y → (z : Decision) → IsAskedBy R d (seen_in R d) x z → has e z ≡ true
@@ -188,8 +188,8 @@ module _ (R : Reference) (d e : Taken) (within : AreWithin d e) (closed : IsClos
       subst (λ (z : Decision). has e z ≡ true) q.0 (rw (number_of x y h) at t)
   rule_above x y h c z (By_values a) = needs_above e (value_needs R d x) (value_needs R e y) z (values_within R d e 0 (Likes e) link x y h) a
       (none_asked (asks_values R e) (seen_in R e) y closed.values c)
-  rule_above x y h c z (By_frames a) = needs_above e (frame_needs R x) (frame_needs R y) z (frames_within R d e 0 (Likes e) link x y h) a
-      (none_asked (asks_frames R) (seen_in R e) y closed.frames c)
+  rule_above x y h c z (By_bounds a) = needs_above e (bounds_needs R x) (bounds_needs R y) z (bounds_within R d e 0 (Likes e) link x y h) a
+      (none_asked (asks_bounds R) (seen_in R e) y closed.bounds c)
   rule_above x y h c z (By_disturbed a) =
       let q = asked_if (is_disturbed (seen_in R d) x) (d.pinned x.number) (Pinned x.number) z a in
       let t : e.pinned y.number ≡ true = taken_if (is_disturbed (seen_in R e) y) (e.pinned y.number) (Pinned y.number) (disturbed_at x y h q.1)

@@ -13,7 +13,7 @@ use Rattle.pg_ir.specs.declared.instr.Op.TheVariants as op
 use Rattle.pg_ir.specs.Program.{NumberedProgram}
 use Rattle.pg_ir.specs.Edges.{phis_of}
 use Rattle.pg_slice_rules.specs.declared.decision.Decision.{Decision}
-use Rattle.pg_slice_rules.specs.Freeable.{FreeAccess, frame_of}
+use Rattle.pg_slice_rules.specs.Freeable.{FreeAccess, bounds_of}
 use Rattle.pg_slice_rules.specs.Shadows.{OnInput, Shadow, Unknown, cut, from_all, is_within, joined, loaded, moved, result_of, shadow_of, spoiled, stored, unset, valued, byte_in}
 use Rattle.pg_slice_rules.specs.Known.{Taken, along_edge, forgotten_bytes, forgotten_from, has, operand_at, operand_shadows, optional_shadow, phi_shadow, set_phis, set_shadow}
 use Rattle.pg_slice_rules.specs.Rules.{moved_shadow}
@@ -102,14 +102,14 @@ are_forgotten r sets x (s ∷ rs) = (λ q. rw q refl, are_forgotten (suc r) sets
 
 pub forgotten_byte : (xs : List FreeAccess) (x : Decision) (bytes : ℕ → Shadow) (b : ℕ) → forgotten_bytes xs x bytes b ≡ (if may_write xs b then Unknown x else bytes b)
 forgotten_byte [] x bytes b = refl
-forgotten_byte (a ∷ xs) x bytes b = go a.writes (is_within (frame_of a.at.last) b) (may_write xs b) refl refl refl
-    (forgotten_byte xs x (if a.writes then spoiled (frame_of a.at.last) x bytes else bytes) b)
+forgotten_byte (a ∷ xs) x bytes b = go a.writes (is_within (bounds_of a.at.last) b) (may_write xs b) refl refl refl
+    (forgotten_byte xs x (if a.writes then spoiled (bounds_of a.at.last) x bytes else bytes) b)
   where
-    go : (w i m : Bool) → a.writes ≡ w → is_within (frame_of a.at.last) b ≡ i → may_write xs b ≡ m →
-        forgotten_bytes xs x (if a.writes then spoiled (frame_of a.at.last) x bytes else bytes) b ≡
-        (if may_write xs b then Unknown x else (if a.writes then spoiled (frame_of a.at.last) x bytes else bytes) b) →
-        forgotten_bytes xs x (if a.writes then spoiled (frame_of a.at.last) x bytes else bytes) b ≡
-        (if (a.writes && is_within (frame_of a.at.last) b) || may_write xs b then Unknown x else bytes b)
+    go : (w i m : Bool) → a.writes ≡ w → is_within (bounds_of a.at.last) b ≡ i → may_write xs b ≡ m →
+        forgotten_bytes xs x (if a.writes then spoiled (bounds_of a.at.last) x bytes else bytes) b ≡
+        (if may_write xs b then Unknown x else (if a.writes then spoiled (bounds_of a.at.last) x bytes else bytes) b) →
+        forgotten_bytes xs x (if a.writes then spoiled (bounds_of a.at.last) x bytes else bytes) b ≡
+        (if (a.writes && is_within (bounds_of a.at.last) b) || may_write xs b then Unknown x else bytes b)
     go true true true e f g h = h ∙ (rw (e, f, g) refl)
     go true true false e f g h = h ∙ (rw (e, f, g) refl)
     go true false true e f g h = h ∙ (rw (e, f, g) refl)

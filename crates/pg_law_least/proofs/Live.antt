@@ -7,8 +7,8 @@ use Rattle.std.proofs.lemmas.List.Elements.{AllZip-push}
 use Rattle.pg_ir.specs.declared.value.Index.{Index}
 use Rattle.pg_ir.specs.declared.value.Value.{Value}
 use Rattle.pg_run_thread.specs.Operands.{operands_of}
-use Rattle.pg_ir.specs.declared.known.Known.{Known as KnownFunction}
-use Rattle.pg_ir.specs.declared.known.Known.TheVariants as known
+use Rattle.pg_ir.specs.declared.library_call.LibraryCall.{LibraryCall}
+use Rattle.pg_ir.specs.declared.library_call.LibraryCall.TheVariants as known
 use Rattle.pg_ir.specs.declared.instr.Instr.{Instr}
 use Rattle.pg_ir.specs.declared.instr.Op.{Op}
 use Rattle.pg_ir.specs.declared.instr.Op.TheVariants as op
@@ -23,7 +23,7 @@ use Rattle.pg_run_trace.specs.declared.step.Write.{Write}
 use Rattle.pg_run_trace.specs.Steps.{range_of, write_by}
 use Rattle.pg_slice_rules.specs.declared.decision.Decision.TheVariants.{Pinned, Exact}
 use Rattle.pg_slice_rules.specs.Moments.{Moment, thread_in}
-use Rattle.pg_slice_rules.specs.Freeable.{FreeRegion, frame_of}
+use Rattle.pg_slice_rules.specs.Freeable.{FreeRegion, bounds_of}
 use Rattle.pg_slice_rules.specs.Shadows.{Shadow, always, is_within, moved, result_of, applied, unset}
 use Rattle.pg_slice_rules.specs.Extents.{edge_in}
 use Rattle.pg_slice_rules.specs.Known.{RunShadow, Taken, after_access, after_branch, after_event, after_known, after_op, along_edge, bytes_by, bytes_freed, bytes_stored, caller_target, entered}
@@ -84,7 +84,7 @@ module _ (p : NumberedProgram) (d e : Taken) (bound : ℕ) (L : Shadow → Shado
   input_like : (s t : Shadow) → L s t → L (from_input s) (from_input t)
   input_like s t h = k.all (s ∷ []) (t ∷ []) _ (h, tt)
 
-  known_like : (f : KnownFunction) (target : Option ℕ) (result : ℕ) (s t : Shadow) (rs rt : List Shadow) → L s t → AllZip L rs rt →
+  known_like : (f : LibraryCall) (target : Option ℕ) (result : ℕ) (s t : Shadow) (rs rt : List Shadow) → L s t → AllZip L rs rt →
       AllZip L (after_known f target result s rs) (after_known f target result t rt)
   known_like known.PgIn target result s t rs rt q h = target_like p d e bound L k target (from_input s) (from_input t) rs rt (input_like s t q) h
   known_like known.PgInLen target result s t rs rt q h = target_like p d e bound L k target _ _ rs rt (k.known (λ input. Some (length input))) h
@@ -122,7 +122,7 @@ module _ (p : NumberedProgram) (d e : Taken) (bound : ℕ) (L : Shadow → Shado
       op_like result (op.Ret v) q cs ct h = with_top_like _ _ (under_top cs) (under_top ct)
           (λ rs rt z. target_like p d e bound L k (caller_target p m.calls) _ _ rs rt (optional_like p d e bound L k (top_of cs) (top_of ct) v (top_like cs ct h)) z) (under_like cs ct h)
       op_like result (op.Alloca bytes) q cs ct h = with_top_like _ _ cs ct (λ rs rt z. target_like p d e bound L k x.result _ _ rs rt (k.known (λ input. Some result)) z) h
-      op_like result (op.CallKnown f args) q cs ct h = with_top_like _ _ cs ct (λ rs rt z. known_like f x.result result _ _ rs rt (operand_like p d e bound L k rs rt x.op 0 z) z) h
+      op_like result (op.CallLibrary f args) q cs ct h = with_top_like _ _ cs ct (λ rs rt z. known_like f x.result result _ _ rs rt (operand_like p d e bound L k rs rt x.op 0 z) z) h
       op_like result (op.Gep base indices) q cs ct h = with_top_like _ _ cs ct (λ rs rt z. target_like p d e bound L k x.result _ _ rs rt (moved_like x.op base indices q rs rt z) z) h
       op_like result o q cs ct h = with_top_like _ _ cs ct (λ rs rt z. target_like p d e bound L k x.result _ _ rs rt (result_like o rs rt z) z) h
 
@@ -164,7 +164,7 @@ module _ (p : NumberedProgram) (d e : Taken) (bound : ℕ) (L : Shadow → Shado
       -- ---- bytes
 
       store_by : (b c : Bool) → d.exact n ≡ b → e.exact n ≡ c → (o : Op) (a : Access) →
-          (is_store o ≡ true → d.exact n ≡ false → e.exact n ≡ true → (i : ℕ) → is_within (range_of a) i ≡ true → is_within (frame_of a.pointer) i ≡ true) →
+          (is_store o ≡ true → d.exact n ≡ false → e.exact n ≡ true → (i : ℕ) → is_within (range_of a) i ≡ true → is_within (bounds_of a.pointer) i ≡ true) →
           (rs rt : List Shadow) → AllZip L rs rt → (bs bt : ℕ → Shadow) → ((i : ℕ) → L (bs i) (bt i)) → (i : ℕ) →
           L (bytes_stored p (b || a.event) n a rs o bs i) (bytes_stored p (c || a.event) n a rt o bt i)
       store_by true true f g (op.Store w v at) a fits rs rt z bs bt h i = stored_like p d e bound L k (range_of a) _ _ bs bt i (value_like p d e bound L k rs rt v z) (h i)
@@ -174,8 +174,8 @@ module _ (p : NumberedProgram) (d e : Taken) (bound : ℕ) (L : Shadow → Shado
           go : (c : Bool) → e.exact n ≡ c → (b : Bool) → L (bytes_stored p b n a rs (op.Store w v at) bs i) (bytes_stored p (c || b) n a rt (op.Store w v at) bt i)
           go true q true = stored_like p d e bound L k (range_of a) _ _ bs bt i (value_like p d e bound L k rs rt v z) (h i)
           go false q true = stored_like p d e bound L k (range_of a) _ _ bs bt i (value_like p d e bound L k rs rt v z) (h i)
-          go true q false = stored_left p d e bound L k (range_of a) (frame_of a.pointer) (Exact n) _ bs bt i (fits refl f q i) f q (h i)
-          go false q false = spoiled_like p d e bound L k (frame_of a.pointer) (Exact n) bs bt i l f (h i)
+          go true q false = stored_left p d e bound L k (range_of a) (bounds_of a.pointer) (Exact n) _ bs bt i (fits refl f q i) f q (h i)
+          go false q false = spoiled_like p d e bound L k (bounds_of a.pointer) (Exact n) bs bt i l f (h i)
       store_by b c f g _ a fits rs rt z bs bt h i = h i
 
       free_by : (b c : Bool) → d.pinned n ≡ b → e.pinned n ≡ c → (free : Option FreeRegion) (bs bt : ℕ → Shadow) → ((i : ℕ) → L (bs i) (bt i)) → (i : ℕ) →
@@ -197,7 +197,7 @@ module _ (p : NumberedProgram) (d e : Taken) (bound : ℕ) (L : Shadow → Shado
       write_like v (Some w) ws wt q bs bt h i = stored_like p d e bound L k (range_of (write_by w)) _ _ bs bt i (written_like v w v.kind ws wt q) (h i)
 
       pub bytes_like : (kind : StepKind) (s t : RunShadow) → ((a : Access) → kind ≡ kinds.Access a → is_store x.op ≡ true → d.exact n ≡ false → e.exact n ≡ true →
-          (i : ℕ) → is_within (range_of a) i ≡ true → is_within (frame_of a.pointer) i ≡ true) →
+          (i : ℕ) → is_within (range_of a) i ≡ true → is_within (bounds_of a.pointer) i ≡ true) →
           AllZip L (registers_of s (thread_in m)) (registers_of t (thread_in m)) → ((b : ℕ) → L (s.bytes b) (t.bytes b)) → AllZip L s.words t.words → (i : ℕ) →
           L (known_bytes p d n m region x kind s i) (known_bytes p e n m region x kind t i)
       bytes_like (kinds.Access a) s t fits z bytes words i = store_by (d.exact n) (e.exact n) refl refl x.op a (fits a refl) _ _ z s.bytes t.bytes bytes i

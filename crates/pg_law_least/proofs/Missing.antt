@@ -15,9 +15,9 @@ use Rattle.pg_slice_rules.specs.declared.decision.Decision.{Decision}
 use Rattle.pg_slice_rules.specs.declared.decision.Decision.TheVariants.{Pinned, Exact}
 use Rattle.pg_slice_rules.specs.Moments.{Moment, instr_in, thread_in}
 use Rattle.pg_slice_rules.specs.Freeable.{FreeRegion}
-use Rattle.pg_slice_rules.specs.Shadows.{Shadow, Known, Framed, Unknown, blames, frame_blames, unset}
+use Rattle.pg_slice_rules.specs.Shadows.{Shadow, Known, Bounded, Unknown, blames, bounds_blames, unset}
 use Rattle.pg_slice_rules.specs.Known.{Reference, RunShadow, Seen, Taken, ThreadShadow, after_step, fresh_thread, no_thread, seen_from, seen_in, start_of, thread_of, with_extents}
-use Rattle.pg_slice_rules.specs.Rules.{Need, Value, Frame, is_bound, is_disturbed, is_shared, need_blames, value_needs, frame_needs}
+use Rattle.pg_slice_rules.specs.Rules.{Need, Value, Bounds, is_bound, is_disturbed, is_shared, need_blames, value_needs, bounds_needs}
 use Rattle.pg_slice_rules.specs.Closed.{asks, asks_at}
 use Rattle.pg_law_least.proofs.Zips.{replicate_like}
 use Rattle.pg_region_paths.proofs.Elements.{cases as cases_in, none_in}
@@ -26,8 +26,8 @@ use Rattle.pg_law_least.proofs.Live.{CallsLike, bytes_like, calls_like, top_like
 use Rattle.pg_law_least.proofs.Threads.{bytes_next, calls_after, bytes_after, words_behind, extents_after, made_at, made_by, made_in, next_calls, next_made, own_region, live_at, threads_next}
 use Rattle.pg_law_least.proofs.Threads.{with_calls, words_next}
 use Rattle.pg_law_least.proofs.New.{BlamesNew, IsNew, SameNew, new_link}
-use Rattle.pg_law_least.proofs.Needs.{NeedLike, NeedsWithin, SeenLike, frames_within, values_within}
-use Rattle.pg_law_least.proofs.Asks.{By_disturbed, By_frames, By_pins, By_shared, By_values, IsAskedBy, all_in, asked_by, asked_if, in_all_of}
+use Rattle.pg_law_least.proofs.Needs.{NeedLike, NeedsWithin, SeenLike, bounds_within, values_within}
+use Rattle.pg_law_least.proofs.Asks.{By_disturbed, By_bounds, By_pins, By_shared, By_values, IsAskedBy, all_in, asked_by, asked_if, in_all_of}
 
 set_all : {A : Type 0} (P : A → Type 0) (xs : List A) (i : ℕ) (x : A) → AllByRecursion P xs → P x → AllByRecursion P (slice_set xs i x)
 set_all P [] i x h k = tt
@@ -156,7 +156,7 @@ module _ (R : Reference) (d : Taken) (bound : ℕ) where
 
   blamed : (s : Shadow) (x : Decision) → BlamesNew d bound s → Contains (blames s) x → IsNew d bound x
   blamed (Known f g) x h c = absurd (none_in x c)
-  blamed (Framed f y) x h c = only (cases_in y [] x c)
+  blamed (Bounded f y) x h c = only (cases_in y [] x c)
     where
       only : (y ≡ x) ⊎ Contains [] x → IsNew d bound x
       only (inl e) = subst (IsNew d bound) e h
@@ -167,16 +167,16 @@ module _ (R : Reference) (d : Taken) (bound : ℕ) where
       only (inl e) = subst (IsNew d bound) e h
       only (inr t) = absurd (none_in x t)
 
-  frame_blamed : (s : Shadow) (x : Decision) → BlamesNew d bound s → Contains (frame_blames s) x → IsNew d bound x
-  frame_blamed (Known f g) x h c = absurd (none_in x c)
-  frame_blamed (Framed f y) x h c = absurd (none_in x c)
-  frame_blamed (Unknown y) x h c = blamed (Unknown y) x h c
+  bounds_blamed : (s : Shadow) (x : Decision) → BlamesNew d bound s → Contains (bounds_blames s) x → IsNew d bound x
+  bounds_blamed (Known f g) x h c = absurd (none_in x c)
+  bounds_blamed (Bounded f y) x h c = absurd (none_in x c)
+  bounds_blamed (Unknown y) x h c = blamed (Unknown y) x h c
 
   need_new : (a b : Need) (x : Decision) → NeedLike L a b → Contains (need_blames a) x → IsNew d bound x
   need_new (Value s a) (Value t b) x h c = blamed s x h.0.1 c
-  need_new (Value s a) (Frame t b) x h c = absurd h
-  need_new (Frame s a) (Value t b) x h c = absurd h
-  need_new (Frame s a) (Frame t b) x h c = frame_blamed s x h.0.1 c
+  need_new (Value s a) (Bounds t b) x h c = absurd h
+  need_new (Bounds s a) (Value t b) x h c = absurd h
+  need_new (Bounds s a) (Bounds t b) x h c = bounds_blamed s x h.0.1 c
 
   needs_new : (ns ms : List Need) (x : Decision) → NeedsWithin L ns ms → (a : Need) → Contains ns a → Contains (need_blames a) x → IsNew d bound x
   needs_new ns ms x h a c q = let b = all_in (λ (a : Need). (b : Need) × Contains ms b × NeedLike L a b) ns a h c in need_new a b.0 x b.2 q
@@ -184,7 +184,7 @@ module _ (R : Reference) (d : Taken) (bound : ℕ) where
   rule_new : (all : List Seen) (y : Seen) (x : Decision) → SeenLike L y y → y.number < bound → IsAskedBy R d all y x → IsNew d bound x
   rule_new all y x h l (By_pins c) = let q = asked_if (is_bound y) (d.pinned y.number) (Pinned y.number) x c in subst (IsNew d bound) q.0 (q.2, l)
   rule_new all y x h l (By_values c) = let q = in_all_of need_blames (value_needs R d y) x c in needs_new _ _ x (values_within R d d bound L k y y h) q.0 q.1 q.2
-  rule_new all y x h l (By_frames c) = let q = in_all_of need_blames (frame_needs R y) x c in needs_new _ _ x (frames_within R d d bound L k y y h) q.0 q.1 q.2
+  rule_new all y x h l (By_bounds c) = let q = in_all_of need_blames (bounds_needs R y) x c in needs_new _ _ x (bounds_within R d d bound L k y y h) q.0 q.1 q.2
   rule_new all y x h l (By_disturbed c) = let q = asked_if (is_disturbed all y) (d.pinned y.number) (Pinned y.number) x c in subst (IsNew d bound) q.0 (q.2, l)
   rule_new all y x h l (By_shared c) = let q = asked_if (is_shared all y) (d.exact y.number) (Exact y.number) x c in subst (IsNew d bound) q.0 (q.2, l)
 

@@ -22,8 +22,8 @@ use Rattle.pg_slice_rules.specs.Moments.{instr_in, thread_in}
 use Rattle.pg_slice_rules.specs.Freeable.{FreeAccess, FreeRegion}
 use Rattle.pg_slice_rules.specs.Shadows.{Shadow, loaded}
 use Rattle.pg_slice_rules.specs.Known.{Reference, RunShadow, Seen, Taken, registers_of}
-use Rattle.pg_slice_rules.specs.Rules.{Need, Value, Frame, access_needs_by, access_needs_in, all_of, checked_of, address_index, equal_to, event_needs, frame_needs, free_access_needs, is_malloc}
-use Rattle.pg_slice_rules.specs.Rules.{kind_in, operand_of, path_needs, region_needs_in, registers_before, root_shadow, same_frame, value_needs, value_needs_by, value_needs_in, write_index}
+use Rattle.pg_slice_rules.specs.Rules.{Need, Value, Bounds, access_needs_by, access_needs_in, all_of, checked_of, address_index, equal_to, event_needs, bounds_needs, free_access_needs, is_malloc}
+use Rattle.pg_slice_rules.specs.Rules.{kind_in, operand_of, path_needs, region_needs_in, registers_before, root_shadow, same_bounds, value_needs, value_needs_by, value_needs_in, write_index}
 use Rattle.pg_slice_rules.specs.Rules.{write_needs}
 use Rattle.pg_law_least.proofs.Zips.{append_like, map_like}
 use Rattle.pg_region_paths.proofs.Elements.{here}
@@ -31,13 +31,13 @@ use Rattle.pg_law_least.proofs.Links.{IsLink, loaded_like, operand_like, registe
 
 -- ---- needs that are alike
 
--- a test of a frame
-abbrev pub IsFrameTest : Test → Type 0
-IsFrameTest a = (word : ℕ) × (a ≡ same_frame word)
+-- a test of bounds
+abbrev pub IsBoundsTest : Test → Type 0
+IsBoundsTest a = (word : ℕ) × (a ≡ same_bounds word)
 
 abbrev pub NeedLike : (Shadow → Shadow → Type 0) → Need → Need → Type 0
 NeedLike L (Value s a) (Value t b) = L s t × (b ≡ a)
-NeedLike L (Frame s a) (Frame t b) = L s t × (b ≡ a) × IsFrameTest a
+NeedLike L (Bounds s a) (Bounds t b) = L s t × (b ≡ a) × IsBoundsTest a
 NeedLike L m n = ⊥
 
 -- each of the first is like one of the second
@@ -102,15 +102,15 @@ module _ (R : Reference) (d e : Taken) (bound : ℕ) (L : Shadow → Shadow → 
     values_by i (kinds.Event v) = event_like i v v.kind
     values_by i kinds.Other = tt
 
-    frame_like : (i : Instr) (j w : ℕ) → NeedsWithin L (Frame (operand_of R.program x i j) (same_frame w) ∷ []) (Frame (operand_of R.program y i j) (same_frame w) ∷ [])
-    frame_like i j w = zip_needs L (Frame (operand_of R.program x i j) (same_frame w) ∷ []) (Frame (operand_of R.program y i j) (same_frame w) ∷ []) ((operands_like i j, refl, (w, refl)), tt)
+    bounds_like : (i : Instr) (j w : ℕ) → NeedsWithin L (Bounds (operand_of R.program x i j) (same_bounds w) ∷ []) (Bounds (operand_of R.program y i j) (same_bounds w) ∷ [])
+    bounds_like i j w = zip_needs L (Bounds (operand_of R.program x i j) (same_bounds w) ∷ []) (Bounds (operand_of R.program y i j) (same_bounds w) ∷ []) ((operands_like i j, refl, (w, refl)), tt)
 
     write_like : (i : Instr) (a : Option Access) → NeedsWithin L (write_needs R.program x i a) (write_needs R.program y i a)
     write_like i None = tt
-    write_like i (Some a) = frame_like i (write_index i.op) a.pointer
+    write_like i (Some a) = bounds_like i (write_index i.op) a.pointer
 
     accesses_by : (i : Instr) (kind : StepKind) → NeedsWithin L (access_needs_by R.program x i kind) (access_needs_by R.program y i kind)
-    accesses_by i (kinds.Access a) = frame_like i (address_index i.op) a.pointer
+    accesses_by i (kinds.Access a) = bounds_like i (address_index i.op) a.pointer
     accesses_by i (kinds.Event v) = write_like i (access_in (kinds.Event v))
     accesses_by i kind = tt
 
@@ -164,8 +164,8 @@ module _ (R : Reference) (d e : Taken) (bound : ℕ) (L : Shadow → Shadow → 
     values_as : NeedsWithin L (value_needs R d x) (value_needs R e (seen_as x live before))
     values_as = live_values (instr_in R.program x.moment) x.live live refl refl
 
-    frames_as : NeedsWithin L (frame_needs R x) (frame_needs R (seen_as x live before))
-    frames_as = append_needs L _ _ _ _ (live_accesses (instr_in R.program x.moment) x.live live refl refl) (live_regions x.live live refl refl)
+    bounds_as : NeedsWithin L (bounds_needs R x) (bounds_needs R (seen_as x live before))
+    bounds_as = append_needs L _ _ _ _ (live_accesses (instr_in R.program x.moment) x.live live refl refl) (live_regions x.live live refl refl)
 
   as_like : (x y : Seen) → SeenLike L x y → SeenLike L x (seen_as x y.live y.before)
   as_like x y h = subst (SeenLike L x) h.same h
@@ -173,5 +173,5 @@ module _ (R : Reference) (d e : Taken) (bound : ℕ) (L : Shadow → Shadow → 
   pub values_within : (x y : Seen) → SeenLike L x y → NeedsWithin L (value_needs R d x) (value_needs R e y)
   values_within x y h = subst (λ (z : Seen). NeedsWithin L (value_needs R d x) (value_needs R e z)) (sym h.same) (values_as x y.live y.before h.live (as_like x y h).registers h.bytes)
 
-  pub frames_within : (x y : Seen) → SeenLike L x y → NeedsWithin L (frame_needs R x) (frame_needs R y)
-  frames_within x y h = subst (λ (z : Seen). NeedsWithin L (frame_needs R x) (frame_needs R z)) (sym h.same) (frames_as x y.live y.before h.live (as_like x y h).registers h.bytes)
+  pub bounds_within : (x y : Seen) → SeenLike L x y → NeedsWithin L (bounds_needs R x) (bounds_needs R y)
+  bounds_within x y h = subst (λ (z : Seen). NeedsWithin L (bounds_needs R x) (bounds_needs R z)) (sym h.same) (bounds_as x y.live y.before h.live (as_like x y h).registers h.bytes)

@@ -5,7 +5,7 @@ use Rattle.std.specs.Prelude.{slice_index_or}
 use Rattle.std.proofs.lemmas.Bool.{true≢false}
 use Rattle.pg_ir.specs.declared.instr.Op.{Op}
 use Rattle.pg_slice_rules.specs.declared.decision.Decision.{Decision}
-use Rattle.pg_slice_rules.specs.Shadows.{OnInput, Shadow, Known, Framed, Unknown, applied, cut, from_all, moved, result_of, unset, valued}
+use Rattle.pg_slice_rules.specs.Shadows.{OnInput, Shadow, Known, Bounded, Unknown, applied, cut, from_all, moved, result_of, unset, valued}
 use Rattle.pg_slice_rules.specs.Known.{Taken, has}
 use Rattle.pg_slice_rules.specs.Rules.{moved_shadow}
 use Rattle.pg_law_least.specs.Laws.{step_in}
@@ -17,7 +17,7 @@ IsNew d bound x = (has d x ≡ false) × (step_in x < bound)
 
 abbrev pub BlamesNew : Taken → ℕ → Shadow → Type 0
 BlamesNew d bound (Known f g) = Unit {0}
-BlamesNew d bound (Framed f x) = IsNew d bound x
+BlamesNew d bound (Bounded f x) = IsNew d bound x
 BlamesNew d bound (Unknown x) = IsNew d bound x
 
 -- the same value, which blames such a decision
@@ -30,7 +30,7 @@ module _ (d : Taken) (bound : ℕ) where
   all_new [] (t ∷ ts) F h = absurd h
   all_new (s ∷ ss) [] F h = absurd h
   all_new (Known g k ∷ ss) (t ∷ ts) F h = all_new ss ts (λ gs. F (λ input. g input ∷ gs input)) h.1
-  all_new (Framed g x ∷ ss) (t ∷ ts) F h = h.0.1
+  all_new (Bounded g x ∷ ss) (t ∷ ts) F h = h.0.1
   all_new (Unknown x ∷ ss) (t ∷ ts) F h = h.0.1
 
   same_list : (ss ts : List Shadow) → AllZip (SameNew d bound) ss ts → ss ≡ ts
@@ -41,20 +41,20 @@ module _ (d : Taken) (bound : ℕ) where
 
   cut_new : (f : ℕ → ℕ) (s : Shadow) → BlamesNew d bound s → BlamesNew d bound (cut f s)
   cut_new f (Known g k) h = tt
-  cut_new f (Framed g x) h = h
+  cut_new f (Bounded g x) h = h
   cut_new f (Unknown x) h = h
 
   moved_new : (b s : Shadow) → BlamesNew d bound s → BlamesNew d bound (moved b s)
   moved_new (Known f g) (Known u w) h = tt
-  moved_new (Framed f y) (Known u w) h = tt
+  moved_new (Bounded f y) (Known u w) h = tt
   moved_new (Known f g) (Unknown x) h = h
-  moved_new (Framed f y) (Unknown x) h = h
+  moved_new (Bounded f y) (Unknown x) h = h
   moved_new (Unknown y) (Unknown x) h = h
   moved_new b s h = h
 
   shift_new : (k : ℕ) (s : Shadow) → BlamesNew d bound s → BlamesNew d bound (moved_shadow k s)
   shift_new k (Known f g) h = tt
-  shift_new k (Framed f x) h = h
+  shift_new k (Bounded f x) h = h
   shift_new k (Unknown x) h = h
 
   gep_new : (o : Op) (ss ts : List Shadow) → AllZip (SameNew d bound) ss ts →

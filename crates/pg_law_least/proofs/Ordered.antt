@@ -19,14 +19,14 @@ use Rattle.pg_slice_rules.specs.Known.{Reference, RunShadow, Seen, Taken, after_
 use Rattle.pg_slice_rules.specs.Moments.{Moment, moments_from, moments_of, state_after}
 use Rattle.pg_slice_rules.specs.Rules as rules
 use Rattle.pg_law_least.specs.FootprintLaws.{AreInOrder}
-use Rattle.pg_law_least.specs.Prints.{access_prints, of_step, prints_of, region_prints}
+use Rattle.pg_law_least.specs.Footprints.{access_footprints, of_step, footprints_of, region_footprints}
 
 -- ---- footprints
 
 abbrev stand : Footprint → Footprint → Type 0
 stand p q = p.thread.0 ≢ q.thread.0 → p.low ≤ q.high
 
--- a print of this step
+-- a footprint of this step
 record IsOf (x : Seen) (p : Footprint) : Type 0 where
   thread : p.thread.0 ≡ x.moment.did.did.thread.0
   low : p.low ≡ x.moment.did.low
@@ -44,8 +44,8 @@ all_of_step : (r : Bool) (x : Seen) (fs : List rules.Footprint) → AllByRecursi
 all_of_step r x [] = tt
 all_of_step r x (f ∷ fs) = (record { thread = refl; low = refl; high = refl }, all_of_step r x fs)
 
-prints_are_of : (x : Seen) → AllByRecursion (IsOf x) (access_prints x ++ region_prints x)
-prints_are_of x = all_append (IsOf x) (access_prints x) (region_prints x) (all_of_step false x (rules.access_print x)) (all_of_step true x (rules.region_prints x))
+footprints_are_of : (x : Seen) → AllByRecursion (IsOf x) (access_footprints x ++ region_footprints x)
+footprints_are_of x = all_append (IsOf x) (access_footprints x) (region_footprints x) (all_of_step false x (rules.access_footprint x)) (all_of_step true x (rules.region_footprints x))
 
 -- those of one step are of one thread
 own_order : (x : Seen) (ps : List Footprint) → AllByRecursion (IsOf x) ps → EachPair stand ps
@@ -53,24 +53,24 @@ own_order x [] a = tt
 own_order x (p ∷ ps) a = (all_weaker (IsOf x) (stand p) ps (λ q h n. absurd (n (a.0.thread ∙ sym h.thread))) a.1, own_order x ps a.1)
 
 -- a step stands before those of later ones
-later : (x : Seen) (ys : List Seen) → AllByRecursion (λ y. x.moment.did.low ≤ y.moment.did.high) ys → AllByRecursion (λ (q : Footprint). x.moment.did.low ≤ q.high) (prints_of ys)
+later : (x : Seen) (ys : List Seen) → AllByRecursion (λ y. x.moment.did.low ≤ y.moment.did.high) ys → AllByRecursion (λ (q : Footprint). x.moment.did.low ≤ q.high) (footprints_of ys)
 later x [] a = tt
 later x (y ∷ ys) a =
-    all_append (λ (q : Footprint). x.moment.did.low ≤ q.high) (access_prints y ++ region_prints y) (prints_of ys)
-    (all_weaker (IsOf y) (λ (q : Footprint). x.moment.did.low ≤ q.high) (access_prints y ++ region_prints y) (λ q h. subst (λ n. x.moment.did.low ≤ n) (sym h.high) a.0) (prints_are_of y))
+    all_append (λ (q : Footprint). x.moment.did.low ≤ q.high) (access_footprints y ++ region_footprints y) (footprints_of ys)
+    (all_weaker (IsOf y) (λ (q : Footprint). x.moment.did.low ≤ q.high) (access_footprints y ++ region_footprints y) (λ q h. subst (λ n. x.moment.did.low ≤ n) (sym h.high) a.0) (footprints_are_of y))
     (later x ys a.1)
 
 pairs_append : (ps qs : List Footprint) → EachPair stand ps → EachPair stand qs → AllByRecursion (λ p. AllByRecursion (stand p) qs) ps → EachPair stand (ps ++ qs)
 pairs_append [] qs a b c = b
 pairs_append (p ∷ ps) qs a b c = (all_append (stand p) ps qs a.0 c.0, pairs_append ps qs a.1 b c.1)
 
-pub prints_order : (ys : List Seen) → AreInOrder ys → InOrder (prints_of ys)
-prints_order [] o = tt
-prints_order (y ∷ ys) o =
-    pairs_append (access_prints y ++ region_prints y) (prints_of ys) (own_order y (access_prints y ++ region_prints y) (prints_are_of y)) (prints_order ys o.1)
-    (all_weaker (IsOf y) (λ p. AllByRecursion (stand p) (prints_of ys)) (access_prints y ++ region_prints y)
-    (λ p h. all_weaker (λ (q : Footprint). y.moment.did.low ≤ q.high) (stand p) (prints_of ys) (λ q l n. subst (λ k. k ≤ q.high) (sym h.low) l) (later y ys o.0))
-    (prints_are_of y))
+pub footprints_order : (ys : List Seen) → AreInOrder ys → InOrder (footprints_of ys)
+footprints_order [] o = tt
+footprints_order (y ∷ ys) o =
+    pairs_append (access_footprints y ++ region_footprints y) (footprints_of ys) (own_order y (access_footprints y ++ region_footprints y) (footprints_are_of y)) (footprints_order ys o.1)
+    (all_weaker (IsOf y) (λ p. AllByRecursion (stand p) (footprints_of ys)) (access_footprints y ++ region_footprints y)
+    (λ p h. all_weaker (λ (q : Footprint). y.moment.did.low ≤ q.high) (stand p) (footprints_of ys) (λ q l n. subst (λ k. k ≤ q.high) (sym h.low) l) (later y ys o.0))
+    (footprints_are_of y))
 
 -- ---- steps
 

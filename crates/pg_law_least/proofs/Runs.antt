@@ -11,7 +11,7 @@ use Rattle.pg_run_trace.specs.declared.step.Access.{Access}
 use Rattle.pg_run_trace.specs.Steps.{happening_in, range_of}
 use Rattle.pg_slice_rules.specs.declared.decision.Decision.TheVariants.{Pinned}
 use Rattle.pg_slice_rules.specs.Moments.{Moment, instr_in, thread_in}
-use Rattle.pg_slice_rules.specs.Freeable.{FreeRegion, frame_of}
+use Rattle.pg_slice_rules.specs.Freeable.{FreeRegion, bounds_of}
 use Rattle.pg_slice_rules.specs.Shadows.{Shadow, Unknown, is_within}
 use Rattle.pg_slice_rules.specs.Extents.{Extent, begun, edge_in, ends, is_live, open_after}
 use Rattle.pg_slice_rules.specs.Known.{Reference, RunShadow, Seen, Taken, ThreadShadow, after_step, edge_of, is_branch, region_of, thread_of}
@@ -148,8 +148,8 @@ module _ (R : Reference) (keeps : ExtentsKeep R) (d e : Taken) (bound : ℕ) (L 
         subst (MaySetPhis R.program r.sets) z (keeps.own y in_run r h)
 
     fits : (x : Instr) → i ≡ Some x → (a : Access) → kind ≡ kinds.Access a → is_store x.op ≡ true → (b : ℕ) → is_within (range_of a) b ≡ true →
-        is_within (frame_of a.pointer) b ≡ true
-    fits x q a f h b = keeps.frames y in_run a (record { instr = x; stands = q; store = h; kind = f }) b
+        is_within (bounds_of a.pointer) b ≡ true
+    fits x q a f h b = keeps.bounds y in_run a (record { instr = x; stands = q; store = h; kind = f }) b
 
     module _ (h : stand d es ≡ None) where
       alike : Alike R keeps d e bound L k cs ct

@@ -11,7 +11,7 @@ use Rattle.pg_run_trace.specs.declared.turn.TurnKind.{TurnKind}
 use Rattle.pg_run_trace.specs.declared.turn.TurnKind.TheVariants as turns
 use Rattle.pg_run_trace.specs.Steps.{range_of}
 use Rattle.pg_slice_rules.specs.Moments.{Moment, instr_in, thread_in}
-use Rattle.pg_slice_rules.specs.Freeable.{FreeRegion, frame_of}
+use Rattle.pg_slice_rules.specs.Freeable.{FreeRegion, bounds_of}
 use Rattle.pg_slice_rules.specs.Shadows.{is_within}
 use Rattle.pg_slice_rules.specs.Extents.{Extent, begun, ends}
 use Rattle.pg_slice_rules.specs.Known.{Reference, Seen, edge_of, region_of, start_of}
@@ -94,8 +94,8 @@ pub record StepGoes (R : Reference) (n : ℕ) (a : Track) (m : Moment) (b : Trac
   -- its thread has begun, and has so many calls
   pub known : thread_in m < a.threads
   pub calls : a.calls (thread_in m) ≡ length m.calls
-  -- a store accesses bytes of its pointer's frame
-  pub frames : (c : Access) → StoresBy R (step_at R n m) c → (j : ℕ) → is_within (range_of c) j ≡ true → is_within (frame_of c.pointer) j ≡ true
+  -- a store accesses bytes of its pointer's bounds
+  pub bounds : (c : Access) → StoresBy R (step_at R n m) c → (j : ℕ) → is_within (range_of c) j ≡ true → is_within (bounds_of c.pointer) j ≡ true
   -- a freeable branch step stands at a branch, and its edge sets registers of its region alone
   pub branches : (r : FreeRegion) → region_in R m ≡ Some r → (i : Instr) → instr_in R.program m ≡ Some i → is_branching i.op ≡ true
   pub own : (r : FreeRegion) → region_in R m ≡ Some r → MaySetPhis R.program r.sets (edge_of R.program m m.did.did.kind)

@@ -12,7 +12,7 @@ use Rattle.pg_run_trace.specs.declared.step.Access.{Access}
 use Rattle.pg_run_trace.specs.declared.step.StepKind.TheVariants as kinds
 use Rattle.pg_run_trace.specs.Steps.{happening_in, range_of}
 use Rattle.pg_slice_rules.specs.Moments.{instr_in, thread_in}
-use Rattle.pg_slice_rules.specs.Freeable.{FreeAccess, FreeRegion, frame_of}
+use Rattle.pg_slice_rules.specs.Freeable.{FreeAccess, FreeRegion, bounds_of}
 use Rattle.pg_slice_rules.specs.Shadows.{is_within}
 use Rattle.pg_slice_rules.specs.Extents.{Extent, begun, ends}
 use Rattle.pg_slice_rules.specs.Known.{Reference, Seen, Taken, caller_target, edge_of, seen_in, thread_of}
@@ -58,9 +58,9 @@ phis_entered p (Some to) = phis_of p to
 abbrev pub MaySetPhis : NumberedProgram → (ℕ → Bool) → Option ℕ → Type 0
 MaySetPhis p sets edge = (i : Instr) → Contains (phis_entered p edge) i → MaySet sets i.result
 
--- the byte lies in the frame of a store of the region
+-- the byte lies in the bounds of a store of the region
 abbrev pub may_write : List FreeAccess → ℕ → Bool
-may_write xs b = list_any (λ (f : FreeAccess). f.writes && is_within (frame_of f.at.last) b) xs
+may_write xs b = list_any (λ (f : FreeAccess). f.writes && is_within (bounds_of f.at.last) b) xs
 
 abbrev pub is_store : Op → Bool
 is_store (op.Store w v at) = true
@@ -99,8 +99,8 @@ pub record KeepsTo (R : Reference) (r : FreeRegion) (depth : ℕ) (y : Seen) : T
   -- it doesn't return from the branch's frame, and a return into it sets a register of the region
   pub deeper : Returns R y → depth < depth_of y
   pub target : Returns R y → depth_of y ≡ suc depth → MaySet r.sets (caller_target R.program y.moment.calls)
-  -- it stores in frames of the region's stores, and so does its own region
-  pub stores : (a : Access) → StoresBy R y a → (b : ℕ) → is_within (frame_of a.pointer) b ≡ true → may_write r.accesses b ≡ true
+  -- it stores in bounds of the region's stores, and so does its own region
+  pub stores : (a : Access) → StoresBy R y a → (b : ℕ) → is_within (bounds_of a.pointer) b ≡ true → may_write r.accesses b ≡ true
   pub inner_stores : (q : FreeRegion) → y.region ≡ Some q → (b : ℕ) → may_write q.accesses b ≡ true → may_write r.accesses b ≡ true
 
 -- ---- the run
@@ -117,8 +117,8 @@ pub record ExtentsKeep (R : Reference) : Type 0 where
   -- the thread of a step has begun, and has as many calls as what is known of them
   pub known : (y : Seen) → Contains (steps_of R) y → thread_in y.moment < length y.before.threads
   pub calls : (y : Seen) → Contains (steps_of R) y → length (thread_of y.before (thread_in y.moment)).calls ≡ depth_of y
-  -- a store accesses bytes of its pointer's frame
-  pub frames : (y : Seen) → Contains (steps_of R) y → (a : Access) → StoresBy R y a → (b : ℕ) → is_within (range_of a) b ≡ true → is_within (frame_of a.pointer) b ≡ true
+  -- a store accesses bytes of its pointer's bounds
+  pub bounds : (y : Seen) → Contains (steps_of R) y → (a : Access) → StoresBy R y a → (b : ℕ) → is_within (range_of a) b ≡ true → is_within (bounds_of a.pointer) b ≡ true
   -- a freeable branch step stands at a conditional branch or a switch, and its edge sets registers of its region alone
   pub branches : (y : Seen) → Contains (steps_of R) y → (r : FreeRegion) → y.region ≡ Some r → (i : Instr) → instr_of R y ≡ Some i → is_branching i.op ≡ true
   pub own : (y : Seen) → Contains (steps_of R) y → (r : FreeRegion) → y.region ≡ Some r → MaySetPhis R.program r.sets (edge_at R y)

@@ -47,7 +47,7 @@ SliceIsOne R = (d e : Taken) → IsSlice R d → IsSlice R e → (x : Decision) 
 abbrev pub SmallerAdmitsMore : Reference → Type 0
 SmallerAdmitsMore R = (d e : Taken) → AreWithin d e → (input : List ℤ) → admits R e input ≡ true → admits R d input ≡ true
 
--- what is known before the first step is known before the second, with the same number and the same frame on each input: of registers of the
+-- what is known before the first step is known before the second, with the same number and the same bounds on each input: of registers of the
 -- thread, where the first step is live, of bytes and of words
 pub record StayKnown (x y : Seen) : Type 0 where
   pub registers : x.live ≡ true → (r : ℕ) (f g : OnInput) → slice_index_or (registers_before x) r unset ≡ Known f g → slice_index_or (registers_before y) r unset ≡ Known f g

@@ -3,4 +3,4 @@ pub mod Laws
 pub mod Along
 pub mod Kept
 pub mod FootprintLaws
-pub mod Prints
+pub mod Footprints

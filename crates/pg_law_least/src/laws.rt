@@ -2,7 +2,7 @@
 //! freeable branch steps.
 
 ghost use Rattle.pg_law_least.specs.Along.{Goes};
-ghost use Rattle.pg_law_least.specs.FootprintLaws.{DisturbedByPrints, PrintsInOrder, SharedByPrints, StepsInOrder};
+ghost use Rattle.pg_law_least.specs.FootprintLaws.{DisturbedByFootprints, FootprintsInOrder, SharedByFootprints, StepsInOrder};
 ghost use Rattle.pg_law_least.specs.Keeps.{ExtentsKeep};
 ghost use Rattle.pg_law_least.specs.Kept.{kept};
 ghost use Rattle.pg_law_least.specs.Laws.{AllAreClosed, AsksAreAbove, AsksAreNew, AsksAreOfSteps, ClosedAskNothing, ExtentsStay, HasSlice, KnownStays, LeftOutArePlain, SliceIsOne, SmallerAdmitsMore};
@@ -68,18 +68,18 @@ pub fn a_run_keeps_its_extents()
 {}
 
 /// A live freeable branch step is disturbed just where a footprint of its region meets one of those of all steps.
-pub fn disturbed_by_prints()
-    ensures { DisturbedByPrints }
+pub fn disturbed_by_footprints()
+    ensures { DisturbedByFootprints }
 {}
 
 /// A live load or store that isn't an event has to be exact just where its footprint meets one of those of all steps.
-pub fn shared_by_prints()
-    ensures { SharedByPrints }
+pub fn shared_by_footprints()
+    ensures { SharedByFootprints }
 {}
 
 /// The footprints of steps are in order where the steps are.
-pub fn prints_in_order()
-    ensures { PrintsInOrder }
+pub fn footprints_in_order()
+    ensures { FootprintsInOrder }
 {}
 
 /// The steps of a reference run with the intervals of a trace are in order, and so are their footprints.

@@ -9,12 +9,12 @@ use Rattle.pg_read_lex.specs.declared.token.Span.{Span}
 use Rattle.pg_ir.specs.declared.value.Scalar.{Scalar}
 use Rattle.pg_ir.specs.declared.value.Scalar.TheVariants as scalar
 use Rattle.pg_ir.specs.declared.value.Value.{Value}
-use Rattle.pg_ir.specs.declared.known.Known.{Known}
-use Rattle.pg_ir.specs.declared.known.Known.TheVariants as known
+use Rattle.pg_ir.specs.declared.library_call.LibraryCall.{LibraryCall}
+use Rattle.pg_ir.specs.declared.library_call.LibraryCall.TheVariants as known
 use Rattle.pg_ir.specs.declared.function.Function.{Function}
 use Rattle.pg_ir.specs.Program.{NumberedProgram, types_of, result_of, parameter_count, parameter_count_in}
 use Rattle.pg_ir.specs.Signatures.{parameters_of, returned_by}
-use Rattle.pg_ir.specs.WellFormed.{HasType, HaveTypes, BeginsThread, StartsThread, FitCreate, FitKnown, FitsOp, parameter_types}
+use Rattle.pg_ir.specs.WellFormed.{HasType, HaveTypes, BeginsThread, StartsThread, FitCreate, FitLibraryCall, FitsOp, parameter_types}
 use Rattle.pg_read_ast.specs.declared.names.Name.{Name}
 use Rattle.pg_read_ast.specs.Syntax.{Ty, Val, Int, True, False, Null, Undef, Poison, ZeroInitializer, Local, Global, GepVal, IntToPtrVal, Typed, Written, Op, Call, Param, Dparam, ParamOf}
 use Rattle.pg_read_ast.specs.Syntax.{Metadata, Dots, NamedType, Definition, Tree}
@@ -28,7 +28,7 @@ use Rattle.pg_check_rules.specs.CallConditions.{definition_header, declaration_h
 use Rattle.pg_check_rules.specs.CallConditions.{is_callable, wrong_header, argument_demands, call_demands, wrong_number, thread_functions, value_operands, is_pointer_param, is_thread_header}
 use Rattle.pg_check_rules.specs.CallConditions.{wrong_thread, unsupported_thread, unsupported_thread_symbol}
 use Rattle.pg_check_rules.specs.Conditions.{scope_of, is_scalar_type, are_params, IsUnrefused}
-use Rattle.pg_check_rules.specs.Numbered.{scalar_in, value_of, symbol_value, typed_value, known_call, call_of, op_at, named_functions, program_of}
+use Rattle.pg_check_rules.specs.Numbered.{scalar_in, value_of, symbol_value, typed_value, library_call, call_of, op_at, named_functions, program_of}
 use Rattle.pg_check_types.specs.Kinds.{is_as, fails}
 use Rattle.pg_law_numbering.proofs.Flat.{behind_get, there_at, map_count, front_at, in_front}
 use Rattle.pg_law_numbering.proofs.Unrefused.{front_none, behind_none, else_none, then_none}
@@ -40,7 +40,7 @@ use Rattle.pg_law_numbering.proofs.Placed.{function_there, functions_count}
 use Rattle.pg_law_numbering.proofs.Scalars.{scalar_type_is, result_is, passes_from, pointer_is}
 use Rattle.pg_law_numbering.proofs.Symbols.{definition_there, declaration_there}
 use Rattle.pg_law_numbering.proofs.Headers.{named_there, param_type_at, result_has, param_has}
-use Rattle.pg_law_numbering.proofs.Callees.{CallsDefined, CallsKnown, defined_agrees, declared_agrees, known_result, known_params}
+use Rattle.pg_law_numbering.proofs.Callees.{CallsDefined, CallsLibrary, defined_agrees, declared_agrees, known_result, known_params}
 use Rattle.pg_law_numbering.proofs.Passes.{Passes}
 use Rattle.pg_law_numbering.proofs.PhisAndEnds.{callee_of}
 use Rattle.pg_law_numbering.proofs.Registers.{scalars_of, types_are_of, result_is_of, params_within, param_at_number}
@@ -121,30 +121,30 @@ pointer_param types (q ∷ r ∷ ps) e = absurd cc
 
 -- ---- known functions
 
-known_fits : (p : NumberedProgram) (types : List Scalar) (k : Known) (args : List Value) → (is_create_known (Some k) ≡ false → HaveTypes p types (parameters_of k) args)
-    → (k ≡ known.PthreadCreate → FitCreate p types args) → FitKnown p types k args
-known_fits p types known.PgIn args h c = h refl
-known_fits p types known.PgInLen args h c = h refl
-known_fits p types known.PgOut args h c = h refl
-known_fits p types known.Putchar args h c = h refl
-known_fits p types known.Malloc args h c = h refl
-known_fits p types known.Free args h c = h refl
-known_fits p types known.PthreadCreate args h c = c refl
-known_fits p types known.PthreadJoin args h c = h refl
-known_fits p types known.PthreadExit args h c = h refl
-known_fits p types known.PthreadMutexInit args h c = h refl
-known_fits p types known.PthreadMutexLock args h c = h refl
-known_fits p types known.PthreadMutexTrylock args h c = h refl
-known_fits p types known.PthreadMutexUnlock args h c = h refl
-known_fits p types known.PthreadMutexDestroy args h c = h refl
-known_fits p types known.PthreadCondInit args h c = h refl
-known_fits p types known.PthreadCondWait args h c = h refl
-known_fits p types known.PthreadCondSignal args h c = h refl
-known_fits p types known.PthreadCondBroadcast args h c = h refl
-known_fits p types known.PthreadCondDestroy args h c = h refl
-known_fits p types known.PthreadBarrierInit args h c = h refl
-known_fits p types known.PthreadBarrierWait args h c = h refl
-known_fits p types known.PthreadBarrierDestroy args h c = h refl
+library_fits : (p : NumberedProgram) (types : List Scalar) (k : LibraryCall) (args : List Value) → (is_create_known (Some k) ≡ false → HaveTypes p types (parameters_of k) args)
+    → (k ≡ known.PthreadCreate → FitCreate p types args) → FitLibraryCall p types k args
+library_fits p types known.PgIn args h c = h refl
+library_fits p types known.PgInLen args h c = h refl
+library_fits p types known.PgOut args h c = h refl
+library_fits p types known.Putchar args h c = h refl
+library_fits p types known.Malloc args h c = h refl
+library_fits p types known.Free args h c = h refl
+library_fits p types known.PthreadCreate args h c = c refl
+library_fits p types known.PthreadJoin args h c = h refl
+library_fits p types known.PthreadExit args h c = h refl
+library_fits p types known.PthreadMutexInit args h c = h refl
+library_fits p types known.PthreadMutexLock args h c = h refl
+library_fits p types known.PthreadMutexTrylock args h c = h refl
+library_fits p types known.PthreadMutexUnlock args h c = h refl
+library_fits p types known.PthreadMutexDestroy args h c = h refl
+library_fits p types known.PthreadCondInit args h c = h refl
+library_fits p types known.PthreadCondWait args h c = h refl
+library_fits p types known.PthreadCondSignal args h c = h refl
+library_fits p types known.PthreadCondBroadcast args h c = h refl
+library_fits p types known.PthreadCondDestroy args h c = h refl
+library_fits p types known.PthreadBarrierInit args h c = h refl
+library_fits p types known.PthreadBarrierWait args h c = h refl
+library_fits p types known.PthreadBarrierDestroy args h c = h refl
 
 module _ (m : Tree) (accepted : IsUnrefused m) (f : ℕ) (d : Definition) (there : slice_get (named_functions m) f ≡ Some d) where
   -- what a call gives is what its type is
@@ -337,7 +337,7 @@ module _ (m : Tree) (accepted : IsUnrefused m) (f : ℕ) (d : Definition) (there
   create_row s t w n (a ∷ b ∷ c ∷ []) p callable create l h = absurd (omega (arith, l))
   create_row s t w n (a ∷ b ∷ c ∷ e ∷ g ∷ gs) p callable create l h = absurd (omega (arith, l))
 
-  known_row : (s : Span) (t : Ty) (w : Option Written) (n : Name) (all : List Typed) → Passes m d (Call s t w n all) → (c : CallsKnown m (symbol m n.text)) → (result : Option Scalar)
+  known_row : (s : Span) (t : Ty) (w : Option Written) (n : Name) (all : List Typed) → Passes m d (Call s t w n all) → (c : CallsLibrary m (symbol m n.text)) → (result : Option Scalar)
       → result ≡ scalar_in (resolved m.types t) → FitsOp (program_of m) (scalars_of m d) (scalar_in (resolved m.types d.result)) result
       (call_of (symbol m n.text) (map (typed_value (scope_of m d)) all))
   unfolding op_types
@@ -348,8 +348,8 @@ module _ (m : Tree) (accepted : IsUnrefused m) (f : ℕ) (d : Definition) (there
       let header = front_none (wrong_header m.types (header_of (symbol m n.text)) t w) _ p.call in
       let types = declared_agrees m accepted at.0 x c.known t w at.1 c.name_is (subst (λ (y : Symbol). wrong_header m.types (header_of y) t w ≡ []) c.is header) (p.types 0 t refl) in
       let returned : result ≡ returned_by k = r ∙ ap scalar_in types ∙ result_is (returned_by k) (resolved m.types x.result) (known_result m accepted at.0 x k at.1 c.name_is) in
-      let callable : is_callable (symbol m n.text) ≡ true = ap (λ (y : Symbol). is_callable y) c.is ∙ ap (λ (o : Option Known). is_some o) c.name_is in
-      let created : is_create (scope_of m d) n ≡ is_create_known (Some k) = ap (λ (y : Symbol). is_create_known (known_of y)) c.is ∙ ap (λ (o : Option Known). is_create_known o) c.name_is in
+      let callable : is_callable (symbol m n.text) ≡ true = ap (λ (y : Symbol). is_callable y) c.is ∙ ap (λ (o : Option LibraryCall). is_some o) c.name_is in
+      let created : is_create (scope_of m d) n ≡ is_create_known (Some k) = ap (λ (y : Symbol). is_create_known (known_of y)) c.is ∙ ap (λ (o : Option LibraryCall). is_create_known o) c.name_is in
       let params : callee_params (symbol m n.text) ≡ param_types (declaration_header x) = ap (λ (y : Symbol). callee_params y) c.is in
       let are = known_params m accepted at.0 x k at.1 c.name_is in
       let count = arguments_count s t w n all p callable in
@@ -357,21 +357,21 @@ module _ (m : Tree) (accepted : IsUnrefused m) (f : ℕ) (d : Definition) (there
       let lengths : length (parameters_of k) ≡ length args =
       omega (arith, known_length m.types (parameters_of k) x.params are, count, ap (λ (xs : List Ty). length xs) params, map_count (typed_value (scope_of m d)) all) in
       let parameter = λ (i : ℕ) (y : Scalar) (h : slice_get (parameters_of k) i ≡ Some y). known_at m.types (parameters_of k) x.params i y are h in
-      let fit : FitKnown (program_of m) (scalars_of m d) k args =
-      known_fits (program_of m) (scalars_of m d) k args
+      let fit : FitLibraryCall (program_of m) (scalars_of m d) k args =
+      library_fits (program_of m) (scalars_of m d) k args
       (λ none. have_types (program_of m) (scalars_of m d) (parameters_of k) args lengths
       (λ (i : ℕ) (y : Scalar) (v : Value) a b.
       let u = parameter i y a in
       let arg = map_from (typed_value (scope_of m d)) all i v b in
       subst (HasType (program_of m) (scalars_of m d) y) (sym arg.2)
       (argument_fits s t w n all p callable (created ∙ none) i u.0 arg.0 y (ap (λ (xs : List Ty). slice_get xs i) params ∙ u.1) arg.1 u.2)))
-      (λ is. create_row s t w n all p callable (created ∙ ap (λ (q : Known). is_create_known (Some q)) is)
-      (sym (map_count (typed_value (scope_of m d)) all) ∙ sym lengths ∙ ap (λ (q : Known). length (parameters_of q)) is)
+      (λ is. create_row s t w n all p callable (created ∙ ap (λ (q : LibraryCall). is_create_known (Some q)) is)
+      (sym (map_count (typed_value (scope_of m d)) all) ∙ sym lengths ∙ ap (λ (q : LibraryCall). length (parameters_of q)) is)
       (λ (i : ℕ) (y : Scalar) h.
-      let u = parameter i y (ap (λ (q : Known). slice_get (parameters_of q) i) is ∙ h) in
+      let u = parameter i y (ap (λ (q : LibraryCall). slice_get (parameters_of q) i) is ∙ h) in
       (u.0, ap (λ (xs : List Ty). slice_get xs i) params ∙ u.1, u.2))) in
       subst (λ (y : Symbol). FitsOp (program_of m) (scalars_of m d) (scalar_in (resolved m.types d.result)) result (call_of y args)) (sym c.is)
-      (subst (λ (o : Option Known). FitsOp (program_of m) (scalars_of m d) (scalar_in (resolved m.types d.result)) result (known_call o args)) (sym c.name_is) (returned, fit))
+      (subst (λ (o : Option LibraryCall). FitsOp (program_of m) (scalars_of m d) (scalar_in (resolved m.types d.result)) result (library_call o args)) (sym c.name_is) (returned, fit))
 
   -- ---- calls
 
@@ -381,7 +381,7 @@ module _ (m : Tree) (accepted : IsUnrefused m) (f : ℕ) (d : Definition) (there
   unfolding gives op_at
   call_fits s t w n all p result given nothing = by (callee_of m d s t w n all p)
     where
-      by : CallsDefined m (symbol m n.text) ⊎ CallsKnown m (symbol m n.text)
+      by : CallsDefined m (symbol m n.text) ⊎ CallsLibrary m (symbol m n.text)
           → FitsOp (program_of m) (scalars_of m d) (scalar_in (resolved m.types d.result)) result (call_of (symbol m n.text) (map (typed_value (scope_of m d)) all))
       by (inl c) = defined_row s t w n all p c result (result_given t result given nothing)
       by (inr c) = known_row s t w n all p c result (result_given t result given nothing)

@@ -8,7 +8,7 @@ use Rattle.std.proofs.lemmas.Bool.{and_from, or_parts}
 use Rattle.std.proofs.lemmas.Option.{slice_get-map}
 use Rattle.pg_read_lex.specs.declared.token.Span.{Span}
 use Rattle.pg_num.specs.declared.width.Width.TheVariants.{W32}
-use Rattle.pg_ir.specs.declared.known.Known.{Known}
+use Rattle.pg_ir.specs.declared.library_call.LibraryCall.{LibraryCall}
 use Rattle.pg_ir.specs.declared.value.Scalar.TheVariants as scalar
 use Rattle.pg_ir.specs.Signatures.{parameters_of, returned_by}
 use Rattle.pg_read_ast.specs.Syntax.{Ty, Param, ParamOf, Declaration, Definition, Tree}
@@ -92,7 +92,7 @@ module _ (m : Tree) (accepted : IsUnrefused m) where
       (ap (λ (ss : List Span). is_nowhere ss) (declarations_pass m accepted j d e UnknownName)) (ap (λ (ss : List Span). is_nowhere ss) (declarations_pass m accepted j d e WrongType))
 
   -- a function that is known has the types that it is known for
-  pub known_header : (j : ℕ) (d : Declaration) (k : Known) → slice_get m.declares j ≡ Some d → known_named d.name.text ≡ Some k
+  pub known_header : (j : ℕ) (d : Declaration) (k : LibraryCall) → slice_get m.declares j ≡ Some d → known_named d.name.text ≡ Some k
       → has_header m.types (parameters_of k) (returned_by k) (declaration_header d) ≡ true
   unfolding declaration_refused
   known_header j d k e known =
@@ -100,5 +100,5 @@ module _ (m : Tree) (accepted : IsUnrefused m) where
       (at_if_none (declares_other_known m.types (known_named d.name.text) (declaration_header d) || declares_other_main m.types d.name.text (declaration_header d)) d.name.span
       (declarations_pass m accepted j d e BadSignature))).0 in
       let other : declares_other m.types (parameters_of k) (returned_by k) (declaration_header d) ≡ false =
-      sym (ap (λ (o : Option Known). declares_other_known m.types o (declaration_header d)) known) ∙ w in
+      sym (ap (λ (o : Option LibraryCall). declares_other_known m.types o (declaration_header d)) known) ∙ w in
       second_of (types_exist m.types (head_types (declaration_header d))) (has_header m.types (parameters_of k) (returned_by k) (declaration_header d)) (declared_exist j d e) other

@@ -6,7 +6,7 @@ use Rattle.std.specs.Str.{bytes_eq}
 use Rattle.std.proofs.lemmas.Slice.Eq.{bytes_eq-Decides}
 use Rattle.pg_num.specs.declared.width.Width.{Width}
 use Rattle.pg_ir.specs.declared.value.Value.{Value}
-use Rattle.pg_ir.specs.declared.known.Known.{Known}
+use Rattle.pg_ir.specs.declared.library_call.LibraryCall.{LibraryCall}
 use Rattle.pg_ir.specs.declared.edge.Case as numbered_case
 use Rattle.pg_ir.specs.Edges.{targets_of}
 use Rattle.pg_ir.specs.WellFormed.{IsInFunction}
@@ -21,7 +21,7 @@ use Rattle.pg_check_rules.specs.Written.{label_targets, label_sources, is_ending
 use Rattle.pg_check_rules.specs.CallConditions.{known_of}
 use Rattle.pg_check_rules.specs.LineConditions.{no_block}
 use Rattle.pg_check_rules.specs.Conditions.{scope_of, IsUnrefused}
-use Rattle.pg_check_rules.specs.Numbered.{named_functions, case_at, binary_op, cast_op, known_call, call_of, op_at, program_of}
+use Rattle.pg_check_rules.specs.Numbered.{named_functions, case_at, binary_op, cast_op, library_call, call_of, op_at, program_of}
 use Rattle.pg_law_numbering.specs.Parsed.{IsInOrder}
 use Rattle.pg_law_numbering.proofs.Flat.{there_at}
 use Rattle.pg_law_numbering.proofs.Unrefused.{else_none, named_from}
@@ -120,7 +120,7 @@ cast_targets cast.Sext v w a = refl
 cast_targets cast.PtrToInt v w a = refl
 cast_targets cast.IntToPtr v w a = refl
 
-known_targets : (k : Option Known) (all : List Value) → targets_of (known_call k all) ≡ []
+known_targets : (k : Option LibraryCall) (all : List Value) → targets_of (library_call k all) ≡ []
 known_targets None all = refl
 known_targets (Some k) all = refl
 

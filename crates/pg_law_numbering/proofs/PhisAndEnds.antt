@@ -4,7 +4,7 @@ use Rattle.std.specs.Prelude.{Option, Some, None}
 use Rattle.std.proofs.lemmas.Option.{same_Some}
 use Rattle.pg_num.specs.declared.width.Width.{Width}
 use Rattle.pg_ir.specs.declared.value.Value.{Value}
-use Rattle.pg_ir.specs.declared.known.Known.{Known}
+use Rattle.pg_ir.specs.declared.library_call.LibraryCall.{LibraryCall}
 use Rattle.pg_ir.specs.Edges.{is_phi, is_terminator}
 use Rattle.pg_read_ast.specs.declared.ops.BinaryOp.{BinaryOp}
 use Rattle.pg_read_ast.specs.declared.ops.BinaryOp.TheVariants as binary
@@ -18,10 +18,10 @@ use Rattle.pg_check_rules.specs.Written.{asks, op_types, op_demands, is_phi_op, 
 use Rattle.pg_check_rules.specs.ValueConditions.{Scope}
 use Rattle.pg_check_rules.specs.CallConditions.{known_of, variable_symbol, wrong_header, header_of}
 use Rattle.pg_check_rules.specs.Conditions.{scope_of}
-use Rattle.pg_check_rules.specs.Numbered.{binary_op, cast_op, known_call, call_of, op_at}
+use Rattle.pg_check_rules.specs.Numbered.{binary_op, cast_op, library_call, call_of, op_at}
 use Rattle.pg_law_numbering.proofs.Unrefused.{front_none, behind_none}
 use Rattle.pg_check_types.proofs.Voids.{void_resolved}
-use Rattle.pg_law_numbering.proofs.Callees.{CallsDefined, CallsKnown, callee_is}
+use Rattle.pg_law_numbering.proofs.Callees.{CallsDefined, CallsLibrary, callee_is}
 use Rattle.pg_law_numbering.proofs.Passes.{Passes}
 use Rattle.pg_law_numbering.proofs.Tests.{not_from}
 
@@ -49,7 +49,7 @@ cast_phi cast.Sext v w a = refl
 cast_phi cast.PtrToInt v w a = refl
 cast_phi cast.IntToPtr v w a = refl
 
-known_phi : (k : Option Known) (all : List Value) → is_phi (known_call k all) ≡ false
+known_phi : (k : Option LibraryCall) (all : List Value) → is_phi (library_call k all) ≡ false
 known_phi None all = refl
 known_phi (Some k) all = refl
 
@@ -103,12 +103,12 @@ cast_end cast.PtrToInt v w a = refl
 cast_end cast.IntToPtr v w a = refl
 
 -- what a line calls can be called, so it is no end
-call_end : (m : Tree) (s : Symbol) (all : List Value) → CallsDefined m s ⊎ CallsKnown m s → is_terminator (call_of s all) ≡ false
+call_end : (m : Tree) (s : Symbol) (all : List Value) → CallsDefined m s ⊎ CallsLibrary m s → is_terminator (call_of s all) ≡ false
 call_end m s all (inl c) = ap (λ (q : Symbol). is_terminator (call_of q all)) c.is
 call_end m s all (inr c) =
-    ap (λ (q : Symbol). is_terminator (call_of q all)) c.is ∙ ap (λ (k : Option Known). is_terminator (known_call k all)) c.name_is
+    ap (λ (q : Symbol). is_terminator (call_of q all)) c.is ∙ ap (λ (k : Option LibraryCall). is_terminator (library_call k all)) c.name_is
 
-pub callee_of : (m : Tree) (d : Definition) (s : _) (t : _) (w : _) (f : _) (all : _) → Passes m d (Call s t w f all) → CallsDefined m (symbol m f.text) ⊎ CallsKnown m (symbol m f.text)
+pub callee_of : (m : Tree) (d : Definition) (s : _) (t : _) (w : _) (f : _) (all : _) → Passes m d (Call s t w f all) → CallsDefined m (symbol m f.text) ⊎ CallsLibrary m (symbol m f.text)
 callee_of m d s t w f all p =
     callee_is m (symbol m f.text) f.span p.callee (front_none (variable_symbol (symbol m f.text) f.span) _ (behind_none (wrong_header m.types (header_of (symbol m f.text)) t w) _ p.call)) p.supported
 

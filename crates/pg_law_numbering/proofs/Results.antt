@@ -22,7 +22,7 @@ use Rattle.pg_check_types.proofs.Voids.{resolved_void}
 use Rattle.pg_law_numbering.proofs.Scalars.{IsScalarOf, scalar_from, integer_scalar, pointer_scalar, returnable_or, result_is}
 use Rattle.pg_law_numbering.proofs.Symbols.{definition_there, declaration_there}
 use Rattle.pg_law_numbering.proofs.Headers.{named_there, result_returnable}
-use Rattle.pg_law_numbering.proofs.Callees.{CallsDefined, CallsKnown, callee_is, defined_agrees, declared_agrees, known_result}
+use Rattle.pg_law_numbering.proofs.Callees.{CallsDefined, CallsLibrary, callee_is, defined_agrees, declared_agrees, known_result}
 use Rattle.pg_law_numbering.proofs.Passes.{Passes}
 use Rattle.pg_law_numbering.proofs.Tests.{not_true}
 
@@ -87,7 +87,7 @@ module _ (m : Tree) (accepted : IsUnrefused m) where
   known_scalar t g (Some s) o e h = record { scalar = s; is = ap scalar_in e ∙ result_is (Some s) o h }
 
   called_scalar : (t : Ty) (w : Option Written) (f : Name) → not (is_void m.types t) ≡ true → Has (resolved m.types t) → wrong_header m.types (header_of (symbol m f.text)) t w ≡ []
-      → CallsDefined m (symbol m f.text) ⊎ CallsKnown m (symbol m f.text) → IsScalarOf (resolved m.types t)
+      → CallsDefined m (symbol m f.text) ⊎ CallsLibrary m (symbol m f.text) → IsScalarOf (resolved m.types t)
   unfolding numbered
   called_scalar t w f g r h (inl c) =
       let there = definition_there m f.text c.function c.definition c.is in

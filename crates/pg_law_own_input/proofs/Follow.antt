@@ -27,7 +27,7 @@ use Rattle.pg_slice_rules.specs.Closed.{admits}
 use Rattle.pg_slice_rules.specs.Extents.{Extent, is_live}
 use Rattle.pg_slice_rules.specs.Known.{RunShadow, Seen, after_step, region_of, seen_from, seen_in, start_of, thread_of}
 use Rattle.pg_slice_rules.specs.Moments.{Moment, calls_of, instr_in, moments_from, thread_in}
-use Rattle.pg_slice_rules.specs.Rules.{asks_frames, asks_values, has_region, prints_in}
+use Rattle.pg_slice_rules.specs.Rules.{asks_bounds, asks_values, has_region, footprints_in}
 use Rattle.pg_law_least.specs.Keeps.{every}
 use Rattle.pg_law_least.proofs.Closes.{all_closed}
 use Rattle.pg_law_plan.specs.Likes.{IsCellLike, IsLike, StandLike, like}
@@ -78,7 +78,7 @@ seen_at r n m known = record {
 
 -- nothing is unknown that a step asks for
 abbrev pub AsksNothing : ReferenceRun → Seen → Type 0
-AsksNothing r x = (asks_values (reference_of r) every x ≡ []) × (asks_frames (reference_of r) x ≡ [])
+AsksNothing r x = (asks_values (reference_of r) every x ≡ []) × (asks_bounds (reference_of r) x ≡ [])
 
 module _ (r : ReferenceRun) (program : IsProgram r.program) (small : length r.input < 2 ^ 64) where
   -- ---- a step
@@ -173,7 +173,7 @@ module _ (r : ReferenceRun) (program : IsProgram r.program) (small : length r.in
 
       single_writes : (c : ℕ) → writes_cell every x c ≡ may_write r.program every n m x.region known m.did.did.kind c
       single_writes c = ap (λ (b : Bool). if nat_lt c MEMORY_BYTES then list_any (λ g. is_written_in g c)
-          (access_touch every n (access_in m.did.did.kind) ++ (if b then prints_in x.region else [])) else is_thread (word_written (thread_in m) m.did.did.kind) (c - MEMORY_BYTES)) single
+          (access_touch every n (access_in m.did.did.kind) ++ (if b then footprints_in x.region else [])) else is_thread (word_written (thread_in m) m.did.did.kind) (c - MEMORY_BYTES)) single
 
       known_is : (c : ℕ) (b : Bool) → writes_cell every x c ≡ b → plans.or_old (if b then Some (cell_known after c) else None) (cell_known known c) ≡ cell_known after c
       known_is c true e = refl
@@ -230,8 +230,8 @@ module _ (r : ReferenceRun) (o : IsRecorded r) where
   asks_nothing =
       let R = reference_of r in
       let closed = all_closed R in
-      both_of (λ (x : Seen). asks_values R every x ≡ []) (λ (x : Seen). asks_frames R x ≡ []) (seen_in R every) (none_asked (asks_values R every) (seen_in R every) closed.values)
-      (none_asked (asks_frames R) (seen_in R every) closed.frames)
+      both_of (λ (x : Seen). asks_values R every x ≡ []) (λ (x : Seen). asks_bounds R x ≡ []) (seen_in R every) (none_asked (asks_values R every) (seen_in R every) closed.values)
+      (none_asked (asks_bounds R) (seen_in R every) closed.bounds)
 
   -- what holds of each step where what is known is true
   pub each_step : (P : Seen → Type 0) → ((n : ℕ) (m : Moment) (known : RunShadow) (s : State) → Takes r.gated r.program r.input s m.did.did → IsTrue r known s

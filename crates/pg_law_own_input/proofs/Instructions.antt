@@ -10,8 +10,8 @@ use Rattle.pg_ir.specs.declared.ids.InstrId.{InstrId}
 use Rattle.pg_ir.specs.declared.instr.Instr.{Instr}
 use Rattle.pg_ir.specs.declared.instr.Op.{Op}
 use Rattle.pg_ir.specs.declared.instr.Op.TheVariants as op
-use Rattle.pg_ir.specs.declared.known.Known.{Known as KnownFunction}
-use Rattle.pg_ir.specs.declared.known.Known.TheVariants as known
+use Rattle.pg_ir.specs.declared.library_call.LibraryCall.{LibraryCall}
+use Rattle.pg_ir.specs.declared.library_call.LibraryCall.TheVariants as known
 use Rattle.pg_ir.specs.declared.request.Request.{Request}
 use Rattle.pg_ir.specs.declared.request.Request.TheVariants as requests
 use Rattle.pg_ir.specs.declared.value.Value.{Value}
@@ -23,11 +23,11 @@ use Rattle.pg_precondition.specs.declared.check.Test.TheVariants as test
 use Rattle.pg_precondition.specs.Values.{is_met}
 use Rattle.pg_run_thread.specs.declared.action.Action.{Action}
 use Rattle.pg_run_thread.specs.declared.action.Action.TheVariants as actions
-use Rattle.pg_run_thread.specs.declared.region.Region.{Region}
+use Rattle.pg_run_thread.specs.declared.thread_memory.ThreadMemory.{ThreadMemory}
 use Rattle.pg_run_thread.specs.Compute.{chosen}
 use Rattle.pg_run_thread.specs.Operands.{argument, first_four, given, operand, operands_of}
 use Rattle.pg_run_thread.specs.States.{CanStep}
-use Rattle.pg_run_thread.specs.Step.{barrier_request, bytes_of, exit_value, has_room, known_action, op_action, return_action, returning_action, wait_request}
+use Rattle.pg_run_thread.specs.Step.{barrier_request, bytes_of, exit_value, has_room, library_action, op_action, return_action, returning_action, wait_request}
 use Rattle.pg_run_trace.specs.declared.step.Access.{Access}
 use Rattle.pg_run_trace.specs.declared.step.Event.{Event}
 use Rattle.pg_run_trace.specs.declared.step.StepKind.{StepKind}
@@ -41,8 +41,8 @@ use Rattle.pg_run.specs.MachineStep.{access_told, event_told, is_gated, op_told,
 use Rattle.pg_run.specs.State.{State, instr_of}
 use Rattle.pg_run.proofs.Actions.{barrier_init_is, call_is, create_is, divided_is, edge_is, init_is, join_is, number_is, object_is, on_all_is, on_place_is, on_value_is, room_is, wait_is}
 use Rattle.pg_slice_rules.specs.Known.{Seen}
-use Rattle.pg_slice_rules.specs.Rules.{Need, Value as ValueNeed, Frame as FrameNeed, access_needs_by, address_index, checked, edge_tests, equal_to, event_needs, is_case, operand_of}
-use Rattle.pg_slice_rules.specs.Rules.{registers_before, same_frame, value_needs_by, write_needs}
+use Rattle.pg_slice_rules.specs.Rules.{Need, Value as ValueNeed, Bounds as BoundsNeed, access_needs_by, address_index, checked, edge_tests, equal_to, event_needs, is_case, operand_of}
+use Rattle.pg_slice_rules.specs.Rules.{registers_before, same_bounds, value_needs_by, write_needs}
 use Rattle.pg_law_least.specs.Keeps.{every}
 use Rattle.pg_law_plan.specs.Likes.{AreLike, IsLike}
 use Rattle.pg_law_plan.proofs.Likes.{argument_like}
@@ -68,7 +68,7 @@ edges_met (op.Switch w on other cases) n = go (is_case n cases) refl
 edges_met o n = (eq-eqb n n refl, tt)
 
 -- the operands that are checked are among the first four
-checked_first : (k : KnownFunction) → AllOf (λ (i : ℕ). nat_lt i 3 ≡ true) (checked k)
+checked_first : (k : LibraryCall) → AllOf (λ (i : ℕ). nat_lt i 3 ≡ true) (checked k)
 checked_first known.PthreadCreate = (refl, (refl, (refl, tt)))
 checked_first known.PthreadJoin = (refl, (refl, tt))
 checked_first known.PthreadMutexInit = (refl, (refl, tt))
@@ -133,8 +133,8 @@ module _ (gated : List InstrId) (p : NumberedProgram) (input : List ℤ) (s : St
   equal_given : (o : Op) (k n m : ℕ) → argument p rs (operands_of o) k ≡ Some n → m ≡ n → IsGiven input (ValueNeed (operand_of p x (instr o) k) (test.Eq m ∷ []))
   equal_given o k n m e q = (n, operand_is o k n e, (eq_met m n q, tt))
 
-  frame_given : (o : Op) (k n m : ℕ) → argument p rs (operands_of o) k ≡ Some n → m ≡ n → IsGiven input (FrameNeed (operand_of p x (instr o) k) (same_frame m))
-  frame_given o k n m e q = (n, operand_is o k n e, ap same_frame q)
+  bounds_given : (o : Op) (k n m : ℕ) → argument p rs (operands_of o) k ≡ Some n → m ≡ n → IsGiven input (BoundsNeed (operand_of p x (instr o) k) (same_bounds m))
+  bounds_given o k n m e q = (n, operand_is o k n e, ap same_bounds q)
 
   branch_given : (o : Op) (n c : ℕ) → argument p rs (operands_of o) 0 ≡ Some n → c ≡ n → AreNeeded o (kinds.Branch c)
   branch_given o n c e q = (((n, operand_is o 0 n e, subst (λ (z : ℕ). AllOf (λ (t : Test). is_met t (Some n) ≡ true) (edge_tests o z)) (sym q) (edges_met o n)), tt), tt)
@@ -146,24 +146,24 @@ module _ (gated : List InstrId) (p : NumberedProgram) (input : List ℤ) (s : St
   access_given : (o : Op) (n : ℕ) (a : Access) → argument p rs (operands_of o) (address_index o) ≡ Some n → a.pointer ≡ n → AreNeeded o (kinds.Access a)
   access_given o n a e q = (
     given_if (a.event || true) (ValueNeed (operand_of p x (instr o) (address_index o)) (test.Eq a.pointer ∷ [])) (equal_given o (address_index o) n a.pointer e q),
-    (frame_given o (address_index o) n a.pointer e q, tt),
+    (bounds_given o (address_index o) n a.pointer e q, tt),
   )
 
   -- ---- events
 
-  module _ (k : KnownFunction) (args : List Value) (g : AllOf (IsArgument p rs args) (checked k)) where
+  module _ (k : LibraryCall) (args : List Value) (g : AllOf (IsArgument p rs args) (checked k)) where
     abbrev call : Op
-    call = op.CallKnown k args
+    call = op.CallLibrary k args
 
     each_checked : (e : Event) → e.operands ≡ first_four p rs args → (is : List ℕ) → AllOf (λ (j : ℕ). nat_lt j 3 ≡ true) is → AllOf (IsArgument p rs args) is
-        → AllOf (IsGiven input) (map (equal_to p x (instr (op.CallKnown k args)) e) is)
+        → AllOf (IsGiven input) (map (equal_to p x (instr (op.CallLibrary k args)) e) is)
     each_checked e q [] h a = tt
     each_checked e q (j ∷ is) h a = (
-      equal_given (op.CallKnown k args) j a.0.0 (slice_index e.operands j) a.0.1 (ap (λ (ns : List ℕ). slice_index ns j) q ∙ number_first p rs args j h.0 ∙ ap given a.0.1),
+      equal_given (op.CallLibrary k args) j a.0.0 (slice_index e.operands j) a.0.1 (ap (λ (ns : List ℕ). slice_index ns j) q ∙ number_first p rs args j h.0 ∙ ap given a.0.1),
       each_checked e q is h.1 a.1,
     )
 
-    values_given : (e : Event) (kind : TurnKind) → e.operands ≡ first_four p rs args → AllOf (IsGiven input) (event_needs p x (instr (op.CallKnown k args)) e kind)
+    values_given : (e : Event) (kind : TurnKind) → e.operands ≡ first_four p rs args → AllOf (IsGiven input) (event_needs p x (instr (op.CallLibrary k args)) e kind)
     values_given e turns.Start q = tt
     values_given e kind q = each_checked e q (checked k) (checked_first k) g
 
@@ -176,68 +176,68 @@ module _ (gated : List InstrId) (p : NumberedProgram) (input : List ℤ) (s : St
       write = write_told s (first_four p rs args) r;
     }
 
-    event_given : (r : Request) (w : Option Write) → write_told s (first_four p rs args) r ≡ w → AllOf (IsGiven input) (write_needs p x (instr (op.CallKnown k args)) (access_by w))
-        → AreNeeded (op.CallKnown k args) (event_told s t (first_four p rs args) number r)
+    event_given : (r : Request) (w : Option Write) → write_told s (first_four p rs args) r ≡ w → AllOf (IsGiven input) (write_needs p x (instr (op.CallLibrary k args)) (access_by w))
+        → AreNeeded (op.CallLibrary k args) (event_told s t (first_four p rs args) number r)
     event_given r w e h = (
       values_given (event_of r) (kind_of r) refl,
-      subst (λ (z : Option Write). AllOf (IsGiven input) (write_needs p x (instr (op.CallKnown k args)) (access_by z))) (sym e) h,
+      subst (λ (z : Option Write). AllOf (IsGiven input) (write_needs p x (instr (op.CallLibrary k args)) (access_by z))) (sym e) h,
     )
 
-    plain_event : (r : Request) → write_told s (first_four p rs args) r ≡ None → AreNeeded (op.CallKnown k args) (event_told s t (first_four p rs args) number r)
+    plain_event : (r : Request) → write_told s (first_four p rs args) r ≡ None → AreNeeded (op.CallLibrary k args) (event_told s t (first_four p rs args) number r)
     plain_event r e = event_given r None e tt
 
   create_event : (args : List Value) → AllOf (IsArgument p rs args) (checked known.PthreadCreate) → (r : ByteRange) (f n : ℕ)
-      → AreNeeded (op.CallKnown known.PthreadCreate args) (event_told s t (first_four p rs args) number (requests.Create r f n))
+      → AreNeeded (op.CallLibrary known.PthreadCreate args) (event_told s t (first_four p rs args) number (requests.Create r f n))
   create_event args g r f n = event_given known.PthreadCreate args g (requests.Create r f n) (write_told s (first_four p rs args) (requests.Create r f n)) refl
-      (frame_given (op.CallKnown known.PthreadCreate args) 0 g.0.0 (given (argument p rs args 0)) g.0.1 (ap given g.0.1), tt)
+      (bounds_given (op.CallLibrary known.PthreadCreate args) 0 g.0.0 (given (argument p rs args 0)) g.0.1 (ap given g.0.1), tt)
 
   join_event : (args : List Value) → AllOf (IsArgument p rs args) (checked known.PthreadJoin) → (n : ℕ) (r : ByteRange)
-      → AreNeeded (op.CallKnown known.PthreadJoin args) (event_told s t (first_four p rs args) number (requests.Join n (Some r)))
+      → AreNeeded (op.CallLibrary known.PthreadJoin args) (event_told s t (first_four p rs args) number (requests.Join n (Some r)))
   join_event args g n r = event_given known.PthreadJoin args g (requests.Join n (Some r)) (write_told s (first_four p rs args) (requests.Join n (Some r))) refl
-      (frame_given (op.CallKnown known.PthreadJoin args) 1 g.1.0.0 (given (argument p rs args 1)) g.1.0.1 (ap given g.1.0.1), tt)
+      (bounds_given (op.CallLibrary known.PthreadJoin args) 1 g.1.0.0 (given (argument p rs args 1)) g.1.0.1 (ap given g.1.0.1), tt)
 
-  known_fine : (u : ℕ) (h : Bool) (k : KnownFunction) (args : List Value) → Fine (op.CallKnown k args) (known_action p u h rs k args)
-  known_fine u h known.PgIn args = number_is (Fine (op.CallKnown known.PgIn args)) p rs args _ (λ z c. absurd c) (λ n c. (tt, tt))
+  known_fine : (u : ℕ) (h : Bool) (k : LibraryCall) (args : List Value) → Fine (op.CallLibrary k args) (library_action p u h rs k args)
+  known_fine u h known.PgIn args = number_is (Fine (op.CallLibrary known.PgIn args)) p rs args _ (λ z c. absurd c) (λ n c. (tt, tt))
   known_fine u h known.PgInLen args = λ c. (tt, tt)
-  known_fine u h known.PgOut args = number_is (Fine (op.CallKnown known.PgOut args)) p rs args _ (λ z c. absurd c) (λ n c. plain_event known.PgOut args tt (requests.Out n) refl)
-  known_fine u h known.Putchar args = number_is (Fine (op.CallKnown known.Putchar args)) p rs args _ (λ z c. absurd c) (λ n c. plain_event known.Putchar args tt (requests.Putchar n) refl)
-  known_fine u h known.Malloc args = on_value_is (Fine (op.CallKnown known.Malloc args)) (argument p rs args 0) _ (λ z c. absurd c)
-      (λ n e c. ((equal_given (op.CallKnown known.Malloc args) 0 n (given (argument p rs args 0)) e (ap given e), tt), tt))
-  known_fine u h known.Free args = number_is (Fine (op.CallKnown known.Free args)) p rs args _ (λ z c. absurd c) (λ n c. (tt, tt))
+  known_fine u h known.PgOut args = number_is (Fine (op.CallLibrary known.PgOut args)) p rs args _ (λ z c. absurd c) (λ n c. plain_event known.PgOut args tt (requests.Out n) refl)
+  known_fine u h known.Putchar args = number_is (Fine (op.CallLibrary known.Putchar args)) p rs args _ (λ z c. absurd c) (λ n c. plain_event known.Putchar args tt (requests.Putchar n) refl)
+  known_fine u h known.Malloc args = on_value_is (Fine (op.CallLibrary known.Malloc args)) (argument p rs args 0) _ (λ z c. absurd c)
+      (λ n e c. ((equal_given (op.CallLibrary known.Malloc args) 0 n (given (argument p rs args 0)) e (ap given e), tt), tt))
+  known_fine u h known.Free args = number_is (Fine (op.CallLibrary known.Free args)) p rs args _ (λ z c. absurd c) (λ n c. (tt, tt))
   known_fine u h known.PthreadCreate args = λ c. let g = given_args p u h rs args known.PthreadCreate c in
-      create_is (Fine (op.CallKnown known.PthreadCreate args)) p rs args (λ z d. absurd d) (λ r f n q e d. create_event args g r f n) c
+      create_is (Fine (op.CallLibrary known.PthreadCreate args)) p rs args (λ z d. absurd d) (λ r f n q e d. create_event args g r f n) c
   known_fine u h known.PthreadJoin args = λ c. let g = given_args p u h rs args known.PthreadJoin c in
-      join_is (Fine (op.CallKnown known.PthreadJoin args)) p rs args (λ z d. absurd d) (λ n d. plain_event known.PthreadJoin args g (requests.Join n None) refl) (λ n r q d. join_event args g n r) c
-  known_fine u h known.PthreadExit args = number_is (Fine (op.CallKnown known.PthreadExit args)) p rs args _ (λ z c. absurd c)
+      join_is (Fine (op.CallLibrary known.PthreadJoin args)) p rs args (λ z d. absurd d) (λ n d. plain_event known.PthreadJoin args g (requests.Join n None) refl) (λ n r q d. join_event args g n r) c
+  known_fine u h known.PthreadExit args = number_is (Fine (op.CallLibrary known.PthreadExit args)) p rs args _ (λ z c. absurd c)
       (λ n c. plain_event known.PthreadExit args tt (requests.Exit (exit_value u n) false) refl)
   known_fine u h known.PthreadMutexInit args = λ c. let g = given_args p u h rs args known.PthreadMutexInit c in
-      init_is (Fine (op.CallKnown known.PthreadMutexInit args)) p rs args _ (λ z d. absurd d) (λ o d. plain_event known.PthreadMutexInit args g (requests.MutexInit o) refl) c
+      init_is (Fine (op.CallLibrary known.PthreadMutexInit args)) p rs args _ (λ z d. absurd d) (λ o d. plain_event known.PthreadMutexInit args g (requests.MutexInit o) refl) c
   known_fine u h known.PthreadMutexLock args = λ c. let g = given_args p u h rs args known.PthreadMutexLock c in
-      object_is (Fine (op.CallKnown known.PthreadMutexLock args)) p rs args _ (λ z d. absurd d) (λ o d. plain_event known.PthreadMutexLock args g (requests.Lock o) refl) c
+      object_is (Fine (op.CallLibrary known.PthreadMutexLock args)) p rs args _ (λ z d. absurd d) (λ o d. plain_event known.PthreadMutexLock args g (requests.Lock o) refl) c
   known_fine u h known.PthreadMutexTrylock args = λ c. let g = given_args p u h rs args known.PthreadMutexTrylock c in
-      object_is (Fine (op.CallKnown known.PthreadMutexTrylock args)) p rs args _ (λ z d. absurd d) (λ o d. plain_event known.PthreadMutexTrylock args g (requests.Trylock o) refl) c
+      object_is (Fine (op.CallLibrary known.PthreadMutexTrylock args)) p rs args _ (λ z d. absurd d) (λ o d. plain_event known.PthreadMutexTrylock args g (requests.Trylock o) refl) c
   known_fine u h known.PthreadMutexUnlock args = λ c. let g = given_args p u h rs args known.PthreadMutexUnlock c in
-      object_is (Fine (op.CallKnown known.PthreadMutexUnlock args)) p rs args _ (λ z d. absurd d) (λ o d. plain_event known.PthreadMutexUnlock args g (requests.Unlock o) refl) c
+      object_is (Fine (op.CallLibrary known.PthreadMutexUnlock args)) p rs args _ (λ z d. absurd d) (λ o d. plain_event known.PthreadMutexUnlock args g (requests.Unlock o) refl) c
   known_fine u h known.PthreadMutexDestroy args = λ c. let g = given_args p u h rs args known.PthreadMutexDestroy c in
-      object_is (Fine (op.CallKnown known.PthreadMutexDestroy args)) p rs args _ (λ z d. absurd d) (λ o d. plain_event known.PthreadMutexDestroy args g (requests.MutexDestroy o) refl) c
+      object_is (Fine (op.CallLibrary known.PthreadMutexDestroy args)) p rs args _ (λ z d. absurd d) (λ o d. plain_event known.PthreadMutexDestroy args g (requests.MutexDestroy o) refl) c
   known_fine u h known.PthreadCondInit args = λ c. let g = given_args p u h rs args known.PthreadCondInit c in
-      init_is (Fine (op.CallKnown known.PthreadCondInit args)) p rs args _ (λ z d. absurd d) (λ o d. plain_event known.PthreadCondInit args g (requests.CondInit o) refl) c
+      init_is (Fine (op.CallLibrary known.PthreadCondInit args)) p rs args _ (λ z d. absurd d) (λ o d. plain_event known.PthreadCondInit args g (requests.CondInit o) refl) c
   known_fine u h known.PthreadCondWait args = λ c. let g = given_args p u h rs args known.PthreadCondWait c in
-      wait_is (Fine (op.CallKnown known.PthreadCondWait args)) p h rs args (λ z d. absurd d)
+      wait_is (Fine (op.CallLibrary known.PthreadCondWait args)) p h rs args (λ z d. absurd d)
       (λ o m d. plain_event known.PthreadCondWait args g (wait_request h o m) (wait_writes h s (first_four p rs args) o m)) c
   known_fine u h known.PthreadCondSignal args = λ c. let g = given_args p u h rs args known.PthreadCondSignal c in
-      object_is (Fine (op.CallKnown known.PthreadCondSignal args)) p rs args _ (λ z d. absurd d) (λ o d. plain_event known.PthreadCondSignal args g (requests.Signal o) refl) c
+      object_is (Fine (op.CallLibrary known.PthreadCondSignal args)) p rs args _ (λ z d. absurd d) (λ o d. plain_event known.PthreadCondSignal args g (requests.Signal o) refl) c
   known_fine u h known.PthreadCondBroadcast args = λ c. let g = given_args p u h rs args known.PthreadCondBroadcast c in
-      object_is (Fine (op.CallKnown known.PthreadCondBroadcast args)) p rs args _ (λ z d. absurd d) (λ o d. plain_event known.PthreadCondBroadcast args g (requests.Broadcast o) refl) c
+      object_is (Fine (op.CallLibrary known.PthreadCondBroadcast args)) p rs args _ (λ z d. absurd d) (λ o d. plain_event known.PthreadCondBroadcast args g (requests.Broadcast o) refl) c
   known_fine u h known.PthreadCondDestroy args = λ c. let g = given_args p u h rs args known.PthreadCondDestroy c in
-      object_is (Fine (op.CallKnown known.PthreadCondDestroy args)) p rs args _ (λ z d. absurd d) (λ o d. plain_event known.PthreadCondDestroy args g (requests.CondDestroy o) refl) c
+      object_is (Fine (op.CallLibrary known.PthreadCondDestroy args)) p rs args _ (λ z d. absurd d) (λ o d. plain_event known.PthreadCondDestroy args g (requests.CondDestroy o) refl) c
   known_fine u h known.PthreadBarrierInit args = λ c. let g = given_args p u h rs args known.PthreadBarrierInit c in
-      barrier_init_is (Fine (op.CallKnown known.PthreadBarrierInit args)) p rs args (λ z d. absurd d) (λ o n d. plain_event known.PthreadBarrierInit args g (requests.BarrierInit o n) refl) c
+      barrier_init_is (Fine (op.CallLibrary known.PthreadBarrierInit args)) p rs args (λ z d. absurd d) (λ o n d. plain_event known.PthreadBarrierInit args g (requests.BarrierInit o n) refl) c
   known_fine u h known.PthreadBarrierWait args = λ c. let g = given_args p u h rs args known.PthreadBarrierWait c in
-      object_is (Fine (op.CallKnown known.PthreadBarrierWait args)) p rs args _ (λ z d. absurd d)
+      object_is (Fine (op.CallLibrary known.PthreadBarrierWait args)) p rs args _ (λ z d. absurd d)
       (λ o d. plain_event known.PthreadBarrierWait args g (barrier_request h o) (barrier_writes h s (first_four p rs args) o)) c
   known_fine u h known.PthreadBarrierDestroy args = λ c. let g = given_args p u h rs args known.PthreadBarrierDestroy c in
-      object_is (Fine (op.CallKnown known.PthreadBarrierDestroy args)) p rs args _ (λ z d. absurd d) (λ o d. plain_event known.PthreadBarrierDestroy args g (requests.BarrierDestroy o) refl) c
+      object_is (Fine (op.CallLibrary known.PthreadBarrierDestroy args)) p rs args _ (λ z d. absurd d) (λ o d. plain_event known.PthreadBarrierDestroy args g (requests.BarrierDestroy o) refl) c
 
   -- ---- each instruction
 
@@ -252,7 +252,7 @@ module _ (gated : List InstrId) (p : NumberedProgram) (input : List ℤ) (s : St
   returning_fine depth None = return_fine None depth 0
   returning_fine depth (Some v) = on_value_is (Fine (op.Ret (Some v))) (operand p rs v) _ (λ z c. absurd c) (λ n e. return_fine (Some v) depth n)
 
-  pub op_fine : (r : Region) (h : Bool) (depth used block : ℕ) (o : Op) → Fine o (op_action p r h rs depth used block o)
+  pub op_fine : (r : ThreadMemory) (h : Bool) (depth used block : ℕ) (o : Op) → Fine o (op_action p r h rs depth used block o)
   op_fine r h depth used block (op.Divide d w a b) =
       let Q = Fine (op.Divide d w a b) in
       on_value_is Q (operand p rs a) _ (λ z c. absurd c) (λ m e. on_value_is Q (operand p rs b) _ (λ z c. absurd c) (λ n f. divided_is Q (divided d w m n) (λ z c. absurd c) (λ c. (tt, tt))))
@@ -278,5 +278,5 @@ module _ (gated : List InstrId) (p : NumberedProgram) (input : List ℤ) (s : St
       let Q = Fine (op.Store w v at) in
       on_value_is Q (operand p rs v) _ (λ z c. absurd c) (λ n f. on_value_is Q (operand p rs at) _ (λ z c. absurd c) (λ a e. on_place_is Q a (bytes_of w) _ (λ z c. absurd c) (λ q k c.
       access_given (op.Store w v at) a (record { pointer = given (operand p rs at); number = n; bytes = q.bytes; writes = true; event = is_gated gated (instr_of s t) }) e (ap given e))))
-  op_fine r h depth used block (op.CallKnown k args) = known_fine r.thread h k args
+  op_fine r h depth used block (op.CallLibrary k args) = known_fine r.thread h k args
   op_fine r h depth used block o = on_all_is (Fine o) p rs (operands_of o) _ (λ z c. absurd c) (λ c. (tt, tt))

@@ -8,9 +8,9 @@ use Rattle.pg_precondition.specs.declared.check.Test.{Test}
 use Rattle.pg_precondition.specs.Values.{is_met}
 use Rattle.pg_slice_rules.specs.Closed.{admits, conditions, conditions_at}
 use Rattle.pg_slice_rules.specs.Known.{Reference, Seen, Taken, seen_in}
-use Rattle.pg_slice_rules.specs.Rules.{Condition, Need, Value, Frame, all_of, conditions_with, frame_needs, if_some, need_blames, need_conditions, same_frame, value_needs}
-use Rattle.pg_slice_rules.specs.Shadows.{OnInput, Known, Framed, Unknown}
-use Rattle.pg_law_plan.specs.Likes.{HaveOneFrame, IsInFrame, IsLike}
+use Rattle.pg_slice_rules.specs.Rules.{Condition, Need, Value, Bounds, all_of, conditions_with, bounds_needs, if_some, need_blames, need_conditions, same_bounds, value_needs}
+use Rattle.pg_slice_rules.specs.Shadows.{OnInput, Known, Bounded, Unknown}
+use Rattle.pg_law_plan.specs.Likes.{HaveSameBounds, HasBoundsOf, IsLike}
 use Rattle.pg_law_plan.proofs.Good.{Holds, IsGood}
 use Rattle.pg_law_plan.proofs.Settled.{append_none}
 
@@ -20,23 +20,23 @@ module _ (input : List ℤ) where
   -- a number that is like the value meets what is asked of it
   abbrev pub IsGiven : Need → Type 0
   IsGiven (Value s ts) = (n : ℕ) × IsLike input s (Some n) × AllOf (λ (t : Test). is_met t (Some n) ≡ true) ts
-  IsGiven (Frame s t) = (n : ℕ) × IsLike input s (Some n) × (t ≡ same_frame n)
+  IsGiven (Bounds s t) = (n : ℕ) × IsLike input s (Some n) × (t ≡ same_bounds n)
 
-  met_frame : (n word : ℕ) → HaveOneFrame word n → is_met (same_frame n) (Some word) ≡ true
-  met_frame n word h = and_from ((pointer_of word).start == (pointer_of n).start) ((pointer_of word).length == (pointer_of n).length)
+  met_bounds : (n word : ℕ) → HaveSameBounds word n → is_met (same_bounds n) (Some word) ≡ true
+  met_bounds n word h = and_from ((pointer_of word).start == (pointer_of n).start) ((pointer_of word).length == (pointer_of n).length)
       (eq-eqb (pointer_of word).start (pointer_of n).start (sym h.start)) (eq-eqb (pointer_of word).length (pointer_of n).length (sym h.length))
 
-  framed : (n : ℕ) (o : Option ℕ) → IsInFrame o (Some n) → is_met (same_frame n) o ≡ true
-  framed n None h = absurd h
-  framed n (Some word) h = met_frame n word h
+  bounded : (n : ℕ) (o : Option ℕ) → HasBoundsOf o (Some n) → is_met (same_bounds n) o ≡ true
+  bounded n None h = absurd h
+  bounded n (Some word) h = met_bounds n word h
 
   holds : (q : Need) → need_blames q ≡ [] → IsGiven q → Holds input q
   holds (Value (Known f g) ts) b h = (f, refl, subst (λ (o : Option ℕ). AllOf (λ (t : Test). is_met t o ≡ true) ts) h.1.0 h.2)
-  holds (Value (Framed f x) ts) b h = absurd cc
+  holds (Value (Bounded f x) ts) b h = absurd cc
   holds (Value (Unknown x) ts) b h = absurd cc
-  holds (Frame (Known f g) t) b h = (g, refl, subst (λ (z : Test). is_met z (g input) ≡ true) (sym h.2) (framed h.0 (g input) h.1.1))
-  holds (Frame (Framed f x) t) b h = (f, refl, subst (λ (z : Test). is_met z (f input) ≡ true) (sym h.2) (framed h.0 (f input) h.1))
-  holds (Frame (Unknown x) t) b h = absurd cc
+  holds (Bounds (Known f g) t) b h = (g, refl, subst (λ (z : Test). is_met z (g input) ≡ true) (sym h.2) (bounded h.0 (g input) h.1.1))
+  holds (Bounds (Bounded f x) t) b h = (f, refl, subst (λ (z : Test). is_met z (f input) ≡ true) (sym h.2) (bounded h.0 (f input) h.1))
+  holds (Bounds (Unknown x) t) b h = absurd cc
 
   -- what is asked and known holds
   pub hold_all : (qs : List Need) → all_of need_blames qs ≡ [] → AllOf IsGiven qs → AllOf (Holds input) qs
@@ -70,7 +70,7 @@ module _ (input : List ℤ) where
 
   need_met : (q : Need) → Holds input q → Met (need_conditions q)
   need_met (Value s ts) h = subst (λ (o : Option OnInput). Met (if_some o ts)) (sym h.1) (with_met h.0 ts h.2)
-  need_met (Frame s t) h = subst (λ (o : Option OnInput). Met (if_some o (t ∷ []))) (sym h.1) (with_met h.0 (t ∷ []) (h.2, tt))
+  need_met (Bounds s t) h = subst (λ (o : Option OnInput). Met (if_some o (t ∷ []))) (sym h.1) (with_met h.0 (t ∷ []) (h.2, tt))
 
   needs_met : (qs : List Need) → AllOf (Holds input) qs → Met (all_of need_conditions qs)
   needs_met [] h = refl
@@ -80,7 +80,7 @@ module _ (input : List ℤ) where
     each_met : (xs : List Seen) → AllOf (IsGood R d input) xs → Met (all_of (conditions_at R d) xs)
     each_met [] h = refl
     each_met (x ∷ xs) h = both_met (conditions_at R d x) (all_of (conditions_at R d) xs)
-        (both_met (all_of need_conditions (value_needs R d x)) (all_of need_conditions (frame_needs R x)) (needs_met (value_needs R d x) h.0.values) (needs_met (frame_needs R x) h.0.frames))
+        (both_met (all_of need_conditions (value_needs R d x)) (all_of need_conditions (bounds_needs R x)) (needs_met (value_needs R d x) h.0.values) (needs_met (bounds_needs R x) h.0.bounds))
         (each_met xs h.1)
 
     -- an input on which all that is asked holds is admitted

@@ -21,8 +21,8 @@ use Rattle.pg_slice_rules.specs.Freeable.{BranchRegion, FreeAccess, FreeRegion, 
 use Rattle.pg_slice_rules.specs.Known.{Seen, is_branch, region_of}
 use Rattle.pg_slice_rules.specs.Moments.{Moment, number_in, registers_in}
 use Rattle.pg_slice_rules.specs.Rules.{free_access_needs, moved_shadow, path_needs, region_needs_in, registers_before, root_shadow}
-use Rattle.pg_slice_rules.specs.Shadows.{Shadow, Known, Framed, Unknown, loaded}
-use Rattle.pg_law_plan.specs.Likes.{AreLike, IsInFrame, IsLike}
+use Rattle.pg_slice_rules.specs.Shadows.{Shadow, Known, Bounded, Unknown, loaded}
+use Rattle.pg_law_plan.specs.Likes.{AreLike, HasBoundsOf, IsLike}
 use Rattle.pg_law_plan.proofs.Accesses.{loaded_like}
 use Rattle.pg_law_plan.proofs.Likes.{operand_like, valued_like}
 use Rattle.pg_law_own_input.proofs.Needs.{IsGiven, each_given}
@@ -79,13 +79,13 @@ region_follows p regions m (Some i) q e = go (is_branch m.did.did.kind) (regions
 -- ---- along a path
 
 module _ (input : List ℤ) where
-  still_framed : (k word : ℕ) (o : Option ℕ) → IsInFrame o (Some word) → IsInFrame o (Some (moved_by word (pos k)))
-  still_framed k word None h = absurd h
-  still_framed k word (Some w) h = record { start = start-moved_by word (pos k) ∙ h.start; length = length-moved_by word (pos k) ∙ h.length }
+  still_bounded : (k word : ℕ) (o : Option ℕ) → HasBoundsOf o (Some word) → HasBoundsOf o (Some (moved_by word (pos k)))
+  still_bounded k word None h = absurd h
+  still_bounded k word (Some w) h = record { start = start-moved_by word (pos k) ∙ h.start; length = length-moved_by word (pos k) ∙ h.length }
 
   moved_given : (k : ℕ) (s : Shadow) (word : ℕ) → IsLike input s (Some word) → IsLike input (moved_shadow k s) (Some (moved_by word (pos k)))
-  moved_given k (Known f g) word h = (ap (λ (o : Option ℕ). with_one o (λ w. Some (moved_by w (pos k)))) h.0, still_framed k word (g input) h.1)
-  moved_given k (Framed f x) word h = still_framed k word (f input) h
+  moved_given k (Known f g) word h = (ap (λ (o : Option ℕ). with_one o (λ w. Some (moved_by w (pos k)))) h.0, still_bounded k word (g input) h.1)
+  moved_given k (Bounded f x) word h = still_bounded k word (f input) h
   moved_given k (Unknown x) word h = tt
 
   module _ (bytes : ℕ → Shadow) (m : ℕ → ℕ) (cells : (c : ℕ) → nat_lt c MEMORY_BYTES ≡ true → IsLike input (bytes c) (Some (m c))) where

@@ -7,7 +7,7 @@ use Rattle.pg_ir.specs.declared.instr.Instr.{Instr}
 use Rattle.pg_ir.specs.declared.request.Request.TheVariants as requests
 use Rattle.pg_run_thread.specs.declared.action.Action.{Action}
 use Rattle.pg_run_thread.specs.declared.action.Action.TheVariants as actions
-use Rattle.pg_run_thread.specs.LocalState.{fresh, region_of as region_at}
+use Rattle.pg_run_thread.specs.LocalState.{fresh, own_memory}
 use Rattle.pg_run_thread.specs.Operands.{first_four, operands_of}
 use Rattle.pg_run_thread.specs.States.{CanStep}
 use Rattle.pg_run_thread.specs.Step.{op_action, total}
@@ -21,7 +21,7 @@ use Rattle.pg_law_runs.proofs.Rules.{next_fresh}
 use Rattle.pg_slice_rules.specs.Freeable.{FreeRegion}
 use Rattle.pg_slice_rules.specs.Known.{Seen, is_branch, region_of, thread_of}
 use Rattle.pg_slice_rules.specs.Moments.{calls_of, instr_in, registers_in, thread_in}
-use Rattle.pg_slice_rules.specs.Rules.{Need, access_needs_by, access_needs_in, asks_frames, asks_values, frame_needs, is_bound, kind_in, region_needs_in, registers_before, value_needs}
+use Rattle.pg_slice_rules.specs.Rules.{Need, access_needs_by, access_needs_in, asks_bounds, asks_values, bounds_needs, is_bound, kind_in, region_needs_in, registers_before, value_needs}
 use Rattle.pg_slice_rules.specs.Rules.{value_needs_by, value_needs_in}
 use Rattle.pg_slice_rules.specs.Shadows.{Shadow}
 use Rattle.pg_law_least.specs.Keeps.{every}
@@ -59,7 +59,7 @@ module _ (r : ReferenceRun) (x : Seen) (s : State) (met : IsMet r every x s) (li
     number = number_in r.program (slice_get s.locals (thread_in x.moment)) answer
 
     abbrev act : Action
-    act = op_action r.program (region_at (running (thread_in x.moment) b.h b.f b.fs b.n)) b.h b.f.registers (length (b.f ∷ b.fs)) (total (b.f ∷ b.fs)) b.x.block.0 b.x.op
+    act = op_action r.program (own_memory (running (thread_in x.moment) b.h b.f b.fs b.n)) b.h b.f.registers (length (b.f ∷ b.fs)) (total (b.f ∷ b.fs)) b.x.block.0 b.x.op
 
     place : slice_get r.program.instrs (instr_of s (thread_in x.moment)) ≡ Some b.x
     place = place0 r every r.input x s s met b
@@ -97,7 +97,7 @@ module _ (r : ReferenceRun) (x : Seen) (s : State) (met : IsMet r every x s) (li
 
     needed : AllOf (IsGiven r.input) (value_needs_by r.program every x b.x (kind_in x)) × AllOf (IsGiven r.input) (access_needs_by r.program x b.x (kind_in x))
     needed = subst (λ (k : StepKind). AllOf (IsGiven r.input) (value_needs_by r.program every x b.x k) × AllOf (IsGiven r.input) (access_needs_by r.program x b.x k)) (sym kind_is)
-        (op_fine r.gated r.program r.input s (thread_in x.moment) x b.x b.f.registers answer number alike (region_at (running (thread_in x.moment) b.h b.f b.fs b.n)) b.h (length (b.f ∷ b.fs))
+        (op_fine r.gated r.program r.input s (thread_in x.moment) x b.x b.f.registers answer number alike (own_memory (running (thread_in x.moment) b.h b.f b.fs b.n)) b.h (length (b.f ∷ b.fs))
         (total (b.f ∷ b.fs)) b.x.block.0 b.x.op can)
 
     values_here : AreGiven (value_needs (reference_of r) every x)
@@ -112,8 +112,8 @@ module _ (r : ReferenceRun) (x : Seen) (s : State) (met : IsMet r every x s) (li
     regions_here = subst (λ (c : Bool). AllOf (IsGiven r.input) (if c then region_needs_in r.program x x.region else [])) (sym live)
         (region_given r.input r.program x registers_alike cells r.regions (instr_in r.program x.moment) met.region)
 
-    frames_here : AreGiven (frame_needs (reference_of r) x)
-    frames_here = both_given r.input (access_needs_in r.program x (instr_in r.program x.moment)) (if x.live then region_needs_in r.program x x.region else []) accesses_here regions_here
+    bounds_here : AreGiven (bounds_needs (reference_of r) x)
+    bounds_here = both_given r.input (access_needs_in r.program x (instr_in r.program x.moment)) (if x.live then region_needs_in r.program x x.region else []) accesses_here regions_here
 
   -- ---- at a start
 
@@ -150,22 +150,22 @@ module _ (r : ReferenceRun) (x : Seen) (s : State) (met : IsMet r every x s) (li
     no_regions = subst (λ (c : Bool). AllOf (IsGiven r.input) (if c then region_needs_in r.program x x.region else [])) (sym live)
         (subst (λ (o : Option FreeRegion). AllOf (IsGiven r.input) (region_needs_in r.program x o)) (sym (met.region ∙ no_region (instr_in r.program x.moment))) tt)
 
-    no_frames : AreGiven (frame_needs (reference_of r) x)
-    no_frames = both_given r.input (access_needs_in r.program x (instr_in r.program x.moment)) (if x.live then region_needs_in r.program x x.region else [])
+    no_bounds : AreGiven (bounds_needs (reference_of r) x)
+    no_bounds = both_given r.input (access_needs_in r.program x (instr_in r.program x.moment)) (if x.live then region_needs_in r.program x x.region else [])
         (no_accesses (instr_in r.program x.moment)) no_regions
 
   -- ---- either
 
-  module _ (values : asks_values (reference_of r) every x ≡ []) (frames : asks_frames (reference_of r) x ≡ []) where
-    good : AreGiven (value_needs (reference_of r) every x) → AreGiven (frame_needs (reference_of r) x) → IsGood (reference_of r) every r.input x
+  module _ (values : asks_values (reference_of r) every x ≡ []) (bounds : asks_bounds (reference_of r) x ≡ []) where
+    good : AreGiven (value_needs (reference_of r) every x) → AreGiven (bounds_needs (reference_of r) x) → IsGood (reference_of r) every r.input x
     good h k = record {
       values = hold_all r.input (value_needs (reference_of r) every x) values h;
-      frames = hold_all r.input (frame_needs (reference_of r) x) frames k;
+      bounds = hold_all r.input (bounds_needs (reference_of r) x) bounds k;
       pins = none_bound (is_bound x);
     }
 
     pub good_both : Both r.program r.input (thread_in x.moment) s s (thread_of x.before (thread_in x.moment)).calls → IsGood (reference_of r) every r.input x
-    good_both b = good (values_here b) (frames_here b)
+    good_both b = good (values_here b) (bounds_here b)
 
     pub good_start : Beginning r.program (thread_in x.moment) s s → IsGood (reference_of r) every r.input x
-    good_start b = good (no_values b (instr_in r.program x.moment)) (no_frames b)
+    good_start b = good (no_values b (instr_in r.program x.moment)) (no_bounds b)

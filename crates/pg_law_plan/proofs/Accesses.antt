@@ -1,4 +1,4 @@
--- Loads and stores fit: an exact one, or an event, at the same place; another within the recorded frame.
+-- Loads and stores fit: an exact one, or an event, at the same place; another within the recorded bounds.
 use Rattle.std.proofs.Common.{◌≡◌, ℕ, ℤ, ◌==◌, ◌+◌, ◌-◌, ◌*◌, ◌^◌, zero, suc, Bool, true, false, List, [], ◌∷◌, ◌++◌, map, Option, Some, None, Result}
 use Rattle.std.proofs.Common.{Ok, Err, refl, sym, ap, ◌∙◌, subst, arith}
 use Rattle.std.specs.Prelude.{◌&&◌, ◌||◌, not, nat_lt, nat_le, is_some, slice_get, if◌then◌else◌}
@@ -27,20 +27,20 @@ use Rattle.pg_run_trace.specs.Steps.{access_in, event_of, happening_in, range_of
 use Rattle.pg_run.specs.State.{State}
 use Rattle.pg_run.proofs.Named.{place_is}
 use Rattle.pg_law_effects.specs.Views.{is_thread}
-use Rattle.pg_slice_rules.specs.Freeable.{frame_of}
+use Rattle.pg_slice_rules.specs.Freeable.{bounds_of}
 use Rattle.pg_slice_rules.specs.Known.{Taken, operand_at}
 use Rattle.pg_slice_rules.specs.Moments.{thread_in}
-use Rattle.pg_slice_rules.specs.Rules.{Footprint, Need, Value as ValueNeed, Frame as FrameNeed, access_needs_by, access_needs_in, address_index, kind_in, operand_of, same_frame}
+use Rattle.pg_slice_rules.specs.Rules.{Footprint, Need, Value as ValueNeed, Bounds as BoundsNeed, access_needs_by, access_needs_in, address_index, kind_in, operand_of, same_bounds}
 use Rattle.pg_slice_rules.specs.Rules.{value_needs}
-use Rattle.pg_slice_rules.specs.Shadows.{OnInput, Shadow, Known, Framed, Unknown, cut, frame_word, joined, loaded, shadow_of, valued}
-use Rattle.pg_law_plan.specs.Likes.{HaveOneFrame, IsInFrame, IsLike, IsToldLike}
+use Rattle.pg_slice_rules.specs.Shadows.{OnInput, Shadow, Known, Bounded, Unknown, cut, bounds_word, joined, loaded, shadow_of, valued}
+use Rattle.pg_law_plan.specs.Likes.{HaveSameBounds, HasBoundsOf, IsLike, IsToldLike}
 use Rattle.pg_law_plan.specs.Units.{PlanUnit, ReferenceRun, access_touch, instance_touch, is_event_at, is_read_in, is_written_in, range_touched, reads_cell, reference_of, touch_of, word_read}
 use Rattle.pg_law_plan.specs.Units.{word_written, writes_cell}
 use Rattle.pg_law_plan.proofs.Branches.{eq_met, needs_here, top_known}
 use Rattle.pg_law_plan.proofs.Good.{Holds, IsGood}
 use Rattle.pg_law_plan.proofs.Inner.{Pair, instr_is, same_instr}
 use Rattle.pg_law_plan.proofs.Likes.{from_like, like_value, operand_like, valued_like}
-use Rattle.pg_law_plan.proofs.Placed.{in_frame, place_range}
+use Rattle.pg_law_plan.proofs.Placed.{in_bounds, place_range}
 
 -- ---- actions that can be done
 
@@ -52,36 +52,36 @@ place_done word bytes act h = go (place_of word bytes) refl h
     go (Err fault.OutOfRange) e h = absurd h
     go (Err fault.Misaligned) e h = absurd h
 
--- ---- frames
+-- ---- bounds
 
-frame_is : (word n : ℕ) → HaveOneFrame word n → frame_of n ≡ frame_of word
-frame_is word n h = ap (λ (s : ℕ). record { start = 8 * s; bytes = (pointer_of n).length }) h.start ∙ ap (λ (l : ℕ). record { start = 8 * (pointer_of word).start; bytes = l }) h.length
+bounds_is : (word n : ℕ) → HaveSameBounds word n → bounds_of n ≡ bounds_of word
+bounds_is word n h = ap (λ (s : ℕ). record { start = 8 * s; bytes = (pointer_of n).length }) h.start ∙ ap (λ (l : ℕ). record { start = 8 * (pointer_of word).start; bytes = l }) h.length
 
-met_frame : (word : ℕ) (o : Option ℕ) → is_met (same_frame word) o ≡ true → (n : ℕ) × (o ≡ Some n) × HaveOneFrame word n
-met_frame word None h = absurd (true≢false (sym h))
-met_frame word (Some n) h =
+met_bounds : (word : ℕ) (o : Option ℕ) → is_met (same_bounds word) o ≡ true → (n : ℕ) × (o ≡ Some n) × HaveSameBounds word n
+met_bounds word None h = absurd (true≢false (sym h))
+met_bounds word (Some n) h =
     let p = and_parts ((pointer_of n).start == (pointer_of word).start) ((pointer_of n).length == (pointer_of word).length) h in
     (n, refl, record { start = eqb-true (pointer_of n).start (pointer_of word).start p.0; length = eqb-true (pointer_of n).length (pointer_of word).length p.1 })
 
-pub framed_same : (input : List ℤ) (s : Shadow) (f : OnInput) (word0 word : ℕ) → frame_word s ≡ Some f → IsLike input s (Some word) → is_met (same_frame word0) (f input) ≡ true
-    → HaveOneFrame word0 word
-framed_same input (Known v g) f word0 word e h m =
+pub bounded_same : (input : List ℤ) (s : Shadow) (f : OnInput) (word0 word : ℕ) → bounds_word s ≡ Some f → IsLike input s (Some word) → is_met (same_bounds word0) (f input) ≡ true
+    → HaveSameBounds word0 word
+bounded_same input (Known v g) f word0 word e h m =
     let same : g ≡ f = cc in
-    let k = met_frame word0 (f input) m in
-    let j : HaveOneFrame k.0 word = subst (λ (o : Option ℕ). IsInFrame o (Some word)) (ap (λ (z : OnInput). z input) same ∙ k.1) h.1 in
+    let k = met_bounds word0 (f input) m in
+    let j : HaveSameBounds k.0 word = subst (λ (o : Option ℕ). HasBoundsOf o (Some word)) (ap (λ (z : OnInput). z input) same ∙ k.1) h.1 in
     record { start = j.start ∙ k.2.start; length = j.length ∙ k.2.length }
-framed_same input (Framed g x) f word0 word e h m =
+bounded_same input (Bounded g x) f word0 word e h m =
     let same : g ≡ f = cc in
-    let k = met_frame word0 (f input) m in
-    let j : HaveOneFrame k.0 word = subst (λ (o : Option ℕ). IsInFrame o (Some word)) (ap (λ (z : OnInput). z input) same ∙ k.1) h in
+    let k = met_bounds word0 (f input) m in
+    let j : HaveSameBounds k.0 word = subst (λ (o : Option ℕ). HasBoundsOf o (Some word)) (ap (λ (z : OnInput). z input) same ∙ k.1) h in
     record { start = j.start ∙ k.2.start; length = j.length ∙ k.2.length }
-framed_same input (Unknown x) f word0 word e h m = absurd cc
+bounded_same input (Unknown x) f word0 word e h m = absurd cc
 
 -- ---- bytes
 
 pub cut_like : (input : List ℤ) (f : ℕ → ℕ) (s : Shadow) (n : ℕ) → IsLike input s (Some n) → IsLike input (cut f s) (Some (f n))
 cut_like input f (Known g u) n h = valued_like input (λ i. nodes.with_one (g i) (λ m. Some (f m))) (Some (f n)) (ap (λ (o : Option ℕ). nodes.with_one o (λ m. Some (f m))) h.0)
-cut_like input f (Framed g x) n h = tt
+cut_like input f (Bounded g x) n h = tt
 cut_like input f (Unknown x) n h = tt
 
 joined_like : (input : List ℤ) (low high : Shadow) (b n : ℕ) → IsLike input low (Some b) → IsLike input high (Some n) → IsLike input (joined low high) (Some (n * 2 ^ 8 + b))
@@ -153,16 +153,16 @@ module _ (r : ReferenceRun) (d : Taken) (input : List ℤ) (u : PlanUnit) (st : 
         at_known (w ∷ vs) zero v g = let same : v ≡ w = cc in ap (shadow_of r.program q.both.ks) same
         at_known (w ∷ vs) (suc i) v g = at_known vs i v g
 
-    -- the address has the recorded frame
-    pub one_frame : HaveOneFrame a.word0 a.word
-    one_frame =
+    -- the address has the recorded bounds
+    pub equal_bounds : HaveSameBounds a.word0 a.word
+    equal_bounds =
         let needs : access_needs_in r.program u.seen (Rattle.pg_slice_rules.specs.Moments.instr_in r.program u.seen.moment)
-        ≡ FrameNeed (operand_of r.program u.seen q.both.x (address_index q.both.x.op)) (same_frame a.word0) ∷ [] =
+        ≡ BoundsNeed (operand_of r.program u.seen q.both.x (address_index q.both.x.op)) (same_bounds a.word0) ∷ [] =
         ap (access_needs_in r.program u.seen) (instr_is r d input u st moves y q) ∙ ap (λ (b : Bool). if b then access_needs_by r.program u.seen q.both.x (kind_in u.seen) else []) q.unit.live
         ∙ ap (access_needs_by r.program u.seen q.both.x) a.kind0 in
-        let h = first_of (FrameNeed (operand_of r.program u.seen q.both.x (address_index q.both.x.op)) (same_frame a.word0)) _
-        (subst (λ (ns : List Need). AllOf (Holds input) (ns ++ (if u.seen.live then Rattle.pg_slice_rules.specs.Rules.region_needs_in r.program u.seen u.seen.region else []))) needs good.frames) in
-        framed_same input (operand_of r.program u.seen q.both.x (address_index q.both.x.op)) h.0 a.word0 a.word h.1 address_like h.2
+        let h = first_of (BoundsNeed (operand_of r.program u.seen q.both.x (address_index q.both.x.op)) (same_bounds a.word0)) _
+        (subst (λ (ns : List Need). AllOf (Holds input) (ns ++ (if u.seen.live then Rattle.pg_slice_rules.specs.Rules.region_needs_in r.program u.seen u.seen.region else []))) needs good.bounds) in
+        bounded_same input (operand_of r.program u.seen q.both.x (address_index q.both.x.op)) h.0 a.word0 a.word h.1 address_like h.2
       where
         first_of : (n : Need) (ns : List Need) → AllOf (Holds input) (n ∷ ns) → Holds input n
         first_of n ns h = h.0
@@ -192,12 +192,12 @@ module _ (r : ReferenceRun) (d : Taken) (input : List ℤ) (u : PlanUnit) (st : 
         go true e = subst (λ (z : ByteRange). is_in z c ≡ true) (same_range e) h
         go false e =
             let access : Access = record { pointer = a.word; number = a.number; bytes = a.size; writes = a.writes; event = a.event } in
-            subst (λ (z : ByteRange). is_in z c ≡ true) (frame_is a.word0 a.word one_frame)
-            (in_frame access c (place_range a.word a.size a.q1 a.place) (subst (λ (z : ByteRange). is_in z c ≡ true) (sym (place_is a.word a.size a.q1 a.place)) h))
+            subst (λ (z : ByteRange). is_in z c ≡ true) (bounds_is a.word0 a.word equal_bounds)
+            (in_bounds access c (place_range a.word a.size a.q1 a.place) (subst (λ (z : ByteRange). is_in z c ≡ true) (sym (place_is a.word a.size a.q1 a.place)) h))
 
     touch_here : touch_of d u.seen ≡ record { bytes = range_touched fixed told_access; writes = a.writes } ∷ []
     touch_here = ap (λ (k : StepKind). access_touch d u.seen.number (access_in k) ++ instance_touch d u.seen) a.kind0
-        ∙ ap (λ (b : Bool). record { bytes = range_touched fixed told_access; writes = a.writes } ∷ (if b then Rattle.pg_slice_rules.specs.Rules.prints_in u.seen.region else [])) q.plain
+        ∙ ap (λ (b : Bool). record { bytes = range_touched fixed told_access; writes = a.writes } ∷ (if b then Rattle.pg_slice_rules.specs.Rules.footprints_in u.seen.region else [])) q.plain
 
     no_word : word_written (thread_in u.seen.moment) (kind_in u.seen) ≡ None
     no_word = ap (word_written (thread_in u.seen.moment)) a.kind0

@@ -7,8 +7,8 @@ use Rattle.pg_num.specs.Numbers.{modulus, signed}
 use Rattle.pg_num.specs.declared.width.Width.TheVariants.{W64}
 use Rattle.pg_ir.specs.declared.instr.Op.{Op}
 use Rattle.pg_ir.specs.declared.instr.Op.TheVariants as op
-use Rattle.pg_ir.specs.declared.known.Known.{Known as KnownFunction}
-use Rattle.pg_ir.specs.declared.known.Known.TheVariants as known
+use Rattle.pg_ir.specs.declared.library_call.LibraryCall.{LibraryCall}
+use Rattle.pg_ir.specs.declared.library_call.LibraryCall.TheVariants as known
 use Rattle.pg_ir.specs.declared.request.TrapName.TheVariants as traps
 use Rattle.pg_ir.specs.declared.value.Value.{Value}
 use Rattle.pg_ir.specs.Program.{function_of, result_of, types_of}
@@ -20,9 +20,9 @@ use Rattle.pg_precondition.specs.Values.{is_met}
 use Rattle.pg_law_threads.specs.Plans.{Fits}
 use Rattle.pg_run_thread.specs.declared.action.Action.{Action}
 use Rattle.pg_run_thread.specs.declared.action.Action.TheVariants as actions
-use Rattle.pg_run_thread.specs.declared.region.Region.{Region}
+use Rattle.pg_run_thread.specs.declared.thread_memory.ThreadMemory.{ThreadMemory}
 use Rattle.pg_run_thread.specs.EdgeStep.{set_register}
-use Rattle.pg_run_thread.specs.LocalState.{region_of}
+use Rattle.pg_run_thread.specs.LocalState.{own_memory}
 use Rattle.pg_run_thread.specs.Operands.{argument, first_four, given, operands_of}
 use Rattle.pg_run_thread.specs.States.{CanStep}
 use Rattle.pg_run_thread.specs.Step.{allocated, has_room, heap_with, on_value, pushed}
@@ -82,11 +82,11 @@ input_like input s n h = from_like input (s ∷ []) (Some n ∷ []) (λ gs. valu
     whole m l = omega arith
 
 module _ (r : ReferenceRun) (d : Taken) (input : List ℤ) (program : IsProgram r.program) (u : PlanUnit) (st : State) (moves : ℕ → ℕ) (y : Step) (q : Pair r d input u st moves y) where
-  abbrev r0 : Region
-  r0 = region_of (running (thread_in u.seen.moment) q.both.h q.both.f0 q.both.fs0 q.both.n)
+  abbrev r0 : ThreadMemory
+  r0 = own_memory (running (thread_in u.seen.moment) q.both.h q.both.f0 q.both.fs0 q.both.n)
 
-  abbrev r1 : Region
-  r1 = region_of (running (thread_in u.seen.moment) q.both.h q.both.f q.both.fs q.both.n)
+  abbrev r1 : ThreadMemory
+  r1 = own_memory (running (thread_in u.seen.moment) q.both.h q.both.f q.both.fs q.both.n)
 
   same_region : r1 ≡ r0
   same_region = ap (λ (h : ℕ). record { thread = thread_in u.seen.moment; stack = h; heap = q.both.n }) q.both.top.height
@@ -106,7 +106,7 @@ module _ (r : ReferenceRun) (d : Taken) (input : List ℤ) (program : IsProgram 
           place = ap (λ (i : ℕ). i + 1) b.top.place;
           height = ap (λ (i : ℕ). i + granules_for bytes) b.top.height;
           registers = subst (λ (k : StepKind). AreLike input (set_shadow b.x.result (always (result_in k)) b.ks) (set_register b.f.registers b.x.result (Some (pushed r1 bytes)))) (sym kind)
-              (told_number input b.x.result b.ks b.f.registers (pushed r0 bytes) (pushed r1 bytes) b.top.registers (ap (λ (z : Region). pushed z bytes) (sym same_region)));
+              (told_number input b.x.result b.ks b.f.registers (pushed r0 bytes) (pushed r1 bytes) b.top.registers (ap (λ (z : ThreadMemory). pushed z bytes) (sym same_region)));
         },
         b.rest,
       )
@@ -123,20 +123,20 @@ module _ (r : ReferenceRun) (d : Taken) (input : List ℤ) (program : IsProgram 
       → (n : ℕ) × (argument r.program rs args 0 ≡ Some n) × (on_value (argument r.program rs args 0) act ≡ act n)
   first_done args rs act h = let v = value_done (argument r.program rs args 0) act h in (v.0, v.1, on_some (argument r.program rs args 0) v.0 act v.1)
 
-  first_like : (args : List Value) → IsLike input (operand_at r.program q.both.ks (op.CallKnown known.PgIn args) 0) (argument r.program q.both.f.registers args 0)
+  first_like : (args : List Value) → IsLike input (operand_at r.program q.both.ks (op.CallLibrary known.PgIn args) 0) (argument r.program q.both.f.registers args 0)
   first_like args = argument_like input r.program q.both.ks q.both.f.registers q.both.top.registers args 0
 
-  fits_known : (k : KnownFunction) (args : List Value) → q.both.x.op ≡ op.CallKnown k args
+  fits_known : (k : LibraryCall) (args : List Value) → q.both.x.op ≡ op.CallLibrary k args
       → type_at (types_of r.program (function_of r.program q.both.x.block.0)) q.both.x.result ≡ returned_by k
   fits_known k args e = (subst
       (FitsOp r.program (types_of r.program (function_of r.program q.both.x.block.0)) (result_of r.program (function_of r.program q.both.x.block.0))
       (type_at (types_of r.program (function_of r.program q.both.x.block.0)) q.both.x.result)) e (program.instrs q.both.f.place q.both.x q.both.here.instr).op).0
 
-  pub pg_in_fits : (args : List Value) → q.both.x.op ≡ op.CallKnown known.PgIn args → Fits (like input) (deed_of d u) (deed_moved r.program input st moves y)
+  pub pg_in_fits : (args : List Value) → q.both.x.op ≡ op.CallLibrary known.PgIn args → Fits (like input) (deed_of d u) (deed_moved r.program input st moves y)
   pg_in_fits args e =
       let p = r.program in
       let b = q.both in
-      let o = op.CallKnown known.PgIn args in
+      let o = op.CallLibrary known.PgIn args in
       let v0 = first_done args b.f0.registers (λ n. actions.In (signed W64 n)) (can0_at r d input u st moves y q o e) in
       let v = first_done args b.f.registers (λ n. actions.In (signed W64 n)) (can_at r d input u st moves y q o e) in
       let act0 = act0_at r d input u st moves y q o e ∙ v0.2 in
@@ -150,10 +150,10 @@ module _ (r : ReferenceRun) (d : Taken) (input : List ℤ) (program : IsProgram 
         b.rest,
       )
 
-  pub pg_in_len_fits : (args : List Value) → length input < 2 ^ 64 → q.both.x.op ≡ op.CallKnown known.PgInLen args → Fits (like input) (deed_of d u) (deed_moved r.program input st moves y)
+  pub pg_in_len_fits : (args : List Value) → length input < 2 ^ 64 → q.both.x.op ≡ op.CallLibrary known.PgInLen args → Fits (like input) (deed_of d u) (deed_moved r.program input st moves y)
   pg_in_len_fits args small e =
       let b = q.both in
-      let o = op.CallKnown known.PgInLen args in
+      let o = op.CallLibrary known.PgInLen args in
       let act0 = act0_at r d input u st moves y q o e in
       let act = act_at r d input u st moves y q o e in
       let a : answer r d input u st moves y q ≡ length input = ap (answer_to input st (thread_in u.seen.moment)) act in
@@ -166,11 +166,11 @@ module _ (r : ReferenceRun) (d : Taken) (input : List ℤ) (program : IsProgram 
       whole : (m : ℕ) → m < 2 ^ 64 → m % modulus W64 ≡ m
       whole m l = omega arith
 
-  pub free_fits : (args : List Value) → q.both.x.op ≡ op.CallKnown known.Free args → Fits (like input) (deed_of d u) (deed_moved r.program input st moves y)
+  pub free_fits : (args : List Value) → q.both.x.op ≡ op.CallLibrary known.Free args → Fits (like input) (deed_of d u) (deed_moved r.program input st moves y)
   free_fits args e =
       let p = r.program in
       let b = q.both in
-      let o = op.CallKnown known.Free args in
+      let o = op.CallLibrary known.Free args in
       let v0 = first_done args b.f0.registers (λ n. actions.Local) (can0_at r d input u st moves y q o e) in
       let v = first_done args b.f.registers (λ n. actions.Local) (can_at r d input u st moves y q o e) in
       let act0 = act0_at r d input u st moves y q o e ∙ v0.2 in
@@ -179,12 +179,12 @@ module _ (r : ReferenceRun) (d : Taken) (input : List ℤ) (program : IsProgram 
       inner_at r d input u st moves y q o e (subst IsInner (sym act0) tt) (subst IsInner (sym act) tt) refl
       (record { function = b.top.function; place = ap (λ (i : ℕ). i + 1) b.top.place; height = b.top.height; registers = rw none b.top.registers }, b.rest)
 
-  pub malloc_fits : IsGood (reference_of r) d input u.seen → (args : List Value) → q.both.x.op ≡ op.CallKnown known.Malloc args
+  pub malloc_fits : IsGood (reference_of r) d input u.seen → (args : List Value) → q.both.x.op ≡ op.CallLibrary known.Malloc args
       → Fits (like input) (deed_of d u) (deed_moved r.program input st moves y)
   malloc_fits good args e =
       let p = r.program in
       let b = q.both in
-      let o = op.CallKnown known.Malloc args in
+      let o = op.CallLibrary known.Malloc args in
       let v0 = first_done args b.f0.registers (λ n. actions.Local) (can0_at r d input u st moves y q o e) in
       let v = first_done args b.f.registers (λ n. actions.Local) (can_at r d input u st moves y q o e) in
       let act0 = act0_at r d input u st moves y q o e ∙ v0.2 in
@@ -199,7 +199,7 @@ module _ (r : ReferenceRun) (d : Taken) (input : List ℤ) (program : IsProgram 
       let same : v.0 ≡ n0 = eq_met n0 v.0 (subst (λ (m : Option ℕ). is_met (test.Eq n0) m ≡ true) known h.2.0) in
       let number : given (argument p b.f.registers args 0) ≡ n0 = ap given v.1 ∙ same in
       inner_at r d input u st moves y q o e (subst IsInner (sym act0) tt) (subst IsInner (sym act) tt)
-      (ap (heap_with r1) number ∙ ap (λ (z : Region). heap_with z n0) same_region) (
+      (ap (heap_with r1) number ∙ ap (λ (z : ThreadMemory). heap_with z n0) same_region) (
         record {
           function = b.top.function;
           place = ap (λ (i : ℕ). i + 1) b.top.place;
@@ -207,19 +207,19 @@ module _ (r : ReferenceRun) (d : Taken) (input : List ℤ) (program : IsProgram 
           registers = subst (λ (k : StepKind). AreLike input (set_shadow b.x.result (always (result_in k)) b.ks)
               (set_register b.f.registers b.x.result (Some (allocated r1 (given (argument p b.f.registers args 0)))))) (sym kind)
               (told_number input b.x.result b.ks b.f.registers (allocated r0 n0) (allocated r1 (given (argument p b.f.registers args 0))) b.top.registers
-              (ap (λ (z : Region). allocated z n0) (sym same_region) ∙ ap (allocated r1) (sym number)));
+              (ap (λ (z : ThreadMemory). allocated z n0) (sym same_region) ∙ ap (allocated r1) (sym number)));
         },
         b.rest,
       )
     where
-      told : q.both.x.op ≡ op.CallKnown known.Malloc args → op_told (first_four r.program q.both.f0.registers (operands_of q.both.x.op))
+      told : q.both.x.op ≡ op.CallLibrary known.Malloc args → op_told (first_four r.program q.both.f0.registers (operands_of q.both.x.op))
           (or_zero q.both.x.result (op_own r.program (running (thread_in u.seen.moment) q.both.h q.both.f0 q.both.fs0 q.both.n) q.both.f0.registers
           (answer0 r d input u st moves y q) q.both.x.op)) q.both.x.op
           ≡ kinds.Allocation (given (argument r.program q.both.f0.registers args 0)) (or_zero q.both.x.result (allocated r0 (given (argument r.program q.both.f0.registers args 0))))
       told k = ap (λ (z : Op). op_told (first_four r.program q.both.f0.registers (operands_of z))
           (or_zero q.both.x.result (op_own r.program (running (thread_in u.seen.moment) q.both.h q.both.f0 q.both.fs0 q.both.n) q.both.f0.registers (answer0 r d input u st moves y q) z)) z) k
 
-      size : (vs : List Value) → q.both.x.op ≡ op.CallKnown known.Malloc vs → (n : ℕ) → argument r.program q.both.f.registers vs 0 ≡ Some n → (f : OnInput)
+      size : (vs : List Value) → q.both.x.op ≡ op.CallLibrary known.Malloc vs → (n : ℕ) → argument r.program q.both.f.registers vs 0 ≡ Some n → (f : OnInput)
           → value_of (operand_of r.program u.seen q.both.x 0) ≡ Some f → Some n ≡ f input
       size [] k n a f g = absurd cc
-      size (v ∷ vs) k n a f g = sym a ∙ number_known r d input u st moves y q (op.CallKnown known.Malloc (v ∷ vs)) k 0 v refl f g
+      size (v ∷ vs) k n a f g = sym a ∙ number_known r d input u st moves y q (op.CallLibrary known.Malloc (v ∷ vs)) k 0 v refl f g

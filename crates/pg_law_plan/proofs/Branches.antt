@@ -20,7 +20,7 @@ use Rattle.pg_run_thread.specs.declared.action.Action.{Action}
 use Rattle.pg_run_thread.specs.declared.action.Action.TheVariants as actions
 use Rattle.pg_run_thread.specs.Compute.{chosen}
 use Rattle.pg_run_thread.specs.EdgeStep.{have_values}
-use Rattle.pg_run_thread.specs.LocalState.{Frame, region_of}
+use Rattle.pg_run_thread.specs.LocalState.{Frame, own_memory}
 use Rattle.pg_run_thread.specs.Operands.{first_four, given, number_at, operand, operands_of}
 use Rattle.pg_run_thread.specs.States.{CanStep}
 use Rattle.pg_run_thread.specs.Step.{edge_action, heap_after, moved, on_value, op_action, op_after, total}
@@ -31,7 +31,7 @@ use Rattle.pg_run_trace.specs.declared.step.StepKind.TheVariants as kinds
 use Rattle.pg_run.specs.MachineStep.{instr_told, kind_told, number_in, op_told, operands_in}
 use Rattle.pg_run.specs.State.{State, next_of}
 use Rattle.pg_slice_rules.specs.Extents.{edge_by, edge_in}
-use Rattle.pg_slice_rules.specs.Known.{Taken, after_branch, after_op, along_edge, is_branch, operand_at, region_of as region_at, result_in, top_of}
+use Rattle.pg_slice_rules.specs.Known.{Taken, after_branch, after_op, along_edge, is_branch, operand_at, region_of, result_in, top_of}
 use Rattle.pg_slice_rules.specs.Moments.{calls_of, instr_in, registers_in, thread_in}
 use Rattle.pg_slice_rules.specs.Rules.{Value as ValueNeed, edge_tests, has_region, is_bound, is_case, kind_in, operand_of, registers_before, value_needs, value_needs_by, value_needs_in, value_of}
 use Rattle.pg_slice_rules.specs.Shadows.{OnInput, Shadow}
@@ -114,24 +114,24 @@ module _ (r : ReferenceRun) (d : Taken) (input : List ℤ) (u : PlanUnit) (st : 
 
   -- where the operation is this one
   pub inner_at : (o : Op) → q.both.x.op ≡ o → (inner0 : IsInner (next_of r.program u.state (thread_in u.seen.moment))) (inner : IsInner (next_of r.program st (thread_in u.seen.moment))) →
-      heap_after r.program (region_of l) q.both.f.registers o ≡ heap_after r.program (region_of l0) q.both.f0.registers o →
+      heap_after r.program (own_memory l) q.both.f.registers o ≡ heap_after r.program (own_memory l0) q.both.f0.registers o →
       AreCallsLike input (op_after r.program l0 q.both.x (answer0 r d input u st moves y q) o)
-      (after_op r.program (d.pinned u.seen.number) u.seen.number u.seen.moment (region_at r.program r.regions u.seen.moment (instr_in r.program u.seen.moment))
+      (after_op r.program (d.pinned u.seen.number) u.seen.number u.seen.moment (region_of r.program r.regions u.seen.moment (instr_in r.program u.seen.moment))
       (result_in (kind_in u.seen)) q.both.x o (q.both.ks ∷ q.both.more))
       (op_after r.program l q.both.x (answer r d input u st moves y q) o) →
       Fits (like input) (deed_of d u) (deed_moved r.program input st moves y)
   inner_at o e inner0 inner heap c = inner_fits r d input u st moves y q inner0 inner
-      (subst (λ (z : Op). heap_after r.program (region_of l) q.both.f.registers z ≡ heap_after r.program (region_of l0) q.both.f0.registers z) (sym e) heap)
+      (subst (λ (z : Op). heap_after r.program (own_memory l) q.both.f.registers z ≡ heap_after r.program (own_memory l0) q.both.f0.registers z) (sym e) heap)
       (subst (λ (z : Op). AreCallsLike input (op_after r.program l0 q.both.x (answer0 r d input u st moves y q) z)
-      (after_op r.program (d.pinned u.seen.number) u.seen.number u.seen.moment (region_at r.program r.regions u.seen.moment (instr_in r.program u.seen.moment))
+      (after_op r.program (d.pinned u.seen.number) u.seen.number u.seen.moment (region_of r.program r.regions u.seen.moment (instr_in r.program u.seen.moment))
       (result_in (kind_in u.seen)) q.both.x z (q.both.ks ∷ q.both.more))
       (op_after r.program l q.both.x (answer r d input u st moves y q) z)) (sym e) c)
 
   abbrev pub Act0 : Op → Action
-  Act0 o = op_action r.program (region_of l0) q.both.h q.both.f0.registers (length (q.both.f0 ∷ q.both.fs0)) (total (q.both.f0 ∷ q.both.fs0)) q.both.x.block.0 o
+  Act0 o = op_action r.program (own_memory l0) q.both.h q.both.f0.registers (length (q.both.f0 ∷ q.both.fs0)) (total (q.both.f0 ∷ q.both.fs0)) q.both.x.block.0 o
 
   abbrev pub Act : Op → Action
-  Act o = op_action r.program (region_of l) q.both.h q.both.f.registers (length (q.both.f ∷ q.both.fs)) (total (q.both.f ∷ q.both.fs)) q.both.x.block.0 o
+  Act o = op_action r.program (own_memory l) q.both.h q.both.f.registers (length (q.both.f ∷ q.both.fs)) (total (q.both.f ∷ q.both.fs)) q.both.x.block.0 o
 
   pub can0_at : (o : Op) → q.both.x.op ≡ o → CanStep (Act0 o)
   can0_at o e = subst (λ (z : Op). CanStep (Act0 z)) e (can0 r d input u st moves y q)
@@ -250,9 +250,9 @@ module _ (r : ReferenceRun) (d : Taken) (input : List ℤ) (u : PlanUnit) (st : 
             (or_zero q.both.x.result (op_own r.program l0 q.both.f0.registers (answer0 r d input u st moves y q) z)) z) k
 
         after_pinned : d.pinned u.seen.number ≡ true → (g : Option ℕ)
-            → after_branch r.program (d.pinned u.seen.number) u.seen.number q.both.x g (region_at r.program r.regions u.seen.moment (instr_in r.program u.seen.moment)) q.both.ks
+            → after_branch r.program (d.pinned u.seen.number) u.seen.number q.both.x g (region_of r.program r.regions u.seen.moment (instr_in r.program u.seen.moment)) q.both.ks
             ≡ along_edge r.program q.both.x.block.0 g q.both.ks
-        after_pinned k g = ap (λ (z : Bool). after_branch r.program z u.seen.number q.both.x g (region_at r.program r.regions u.seen.moment (instr_in r.program u.seen.moment)) q.both.ks) k
+        after_pinned k g = ap (λ (z : Bool). after_branch r.program z u.seen.number q.both.x g (region_of r.program r.regions u.seen.moment (instr_in r.program u.seen.moment)) q.both.ks) k
 
     pub switch_fits : (w : Width) (on : Value) (other : BlockNo) (cs : List Case) → q.both.x.op ≡ op.Switch w on other cs
         → Fits (like input) (deed_of d u) (deed_moved r.program input st moves y)
@@ -289,6 +289,6 @@ module _ (r : ReferenceRun) (d : Taken) (input : List ℤ) (u : PlanUnit) (st : 
             (or_zero q.both.x.result (op_own r.program l0 q.both.f0.registers (answer0 r d input u st moves y q) z)) z) k
 
         after_pinned : d.pinned u.seen.number ≡ true → (g : Option ℕ)
-            → after_branch r.program (d.pinned u.seen.number) u.seen.number q.both.x g (region_at r.program r.regions u.seen.moment (instr_in r.program u.seen.moment)) q.both.ks
+            → after_branch r.program (d.pinned u.seen.number) u.seen.number q.both.x g (region_of r.program r.regions u.seen.moment (instr_in r.program u.seen.moment)) q.both.ks
             ≡ along_edge r.program q.both.x.block.0 g q.both.ks
-        after_pinned k g = ap (λ (z : Bool). after_branch r.program z u.seen.number q.both.x g (region_at r.program r.regions u.seen.moment (instr_in r.program u.seen.moment)) q.both.ks) k
+        after_pinned k g = ap (λ (z : Bool). after_branch r.program z u.seen.number q.both.x g (region_of r.program r.regions u.seen.moment (instr_in r.program u.seen.moment)) q.both.ks) k

@@ -17,8 +17,8 @@ use Rattle.pg_run.specs.Runs.{Takes}
 use Rattle.pg_run.specs.State.{State, action_in, id_in, instr_of, next_of}
 use Rattle.pg_run_thread.specs.declared.action.Action.{Action}
 use Rattle.pg_run_thread.specs.declared.action.Action.TheVariants as actions
-use Rattle.pg_run_thread.specs.declared.region.Region.{Region}
-use Rattle.pg_run_thread.specs.LocalState.{Frame, LocalState, region_of as local_region}
+use Rattle.pg_run_thread.specs.declared.thread_memory.ThreadMemory.{ThreadMemory}
+use Rattle.pg_run_thread.specs.LocalState.{Frame, LocalState, own_memory}
 use Rattle.pg_run_thread.specs.Operands.{operand}
 use Rattle.pg_run_thread.specs.Step.{bytes_of, frames_action, instr_action, next, op_action, total}
 use Rattle.pg_run_thread.specs.Told.{id_of, place_in}
@@ -36,7 +36,7 @@ use Rattle.pg_law_effects.specs.Effect.{answer_to}
 use Rattle.pg_law_effects.specs.Views.{is_thread}
 use Rattle.pg_slice_rules.specs.declared.decision.Decision.TheVariants.{Exact}
 use Rattle.pg_slice_rules.specs.Extents.{is_live}
-use Rattle.pg_slice_rules.specs.Freeable.{FreeRegion, frame_of}
+use Rattle.pg_slice_rules.specs.Freeable.{FreeRegion, bounds_of}
 use Rattle.pg_slice_rules.specs.Known.{Reference, RunShadow, Taken, after_step, bytes_by, bytes_freed, bytes_stored, live_after, live_by, region_of, thread_of, words_after}
 use Rattle.pg_slice_rules.specs.Moments.{Moment, instr_in, thread_in}
 use Rattle.pg_slice_rules.specs.Rules.{has_region}
@@ -105,7 +105,7 @@ any_for : (o : Op) (action : Action) → IsNoStore o → IsFor o action
 any_for o (actions.Load r) h = h
 any_for o action h = tt
 
-op_for : (p : NumberedProgram) (rs : List (Option ℕ)) (r : Region) (halfway : Bool) (depth used block : ℕ) (o : Op) → IsFor o (op_action p r halfway rs depth used block o)
+op_for : (p : NumberedProgram) (rs : List (Option ℕ)) (r : ThreadMemory) (halfway : Bool) (depth used block : ℕ) (o : Op) → IsFor o (op_action p r halfway rs depth used block o)
 op_for p rs r halfway depth used block (op.Store w v at) =
     let Q = IsFor (op.Store w v at) in
     on_value_is Q (operand p rs v) _ (λ k. tt) (λ n e. on_value_is Q (operand p rs at) _ (λ k. tt) (λ a f. on_place_is Q a (bytes_of w) _ (λ k. tt) (λ q h. tt)))
@@ -115,7 +115,7 @@ frames_for : (p : NumberedProgram) (l : LocalState) (x : Instr) (b : Bool) (fs :
 frames_for p l x b [] e = tt
 frames_for p l x false (f ∷ fs) e = tt
 frames_for p l x true (f ∷ fs) e = subst (λ (o : Option Instr). IsFor x.op (instr_action p l f fs o)) (sym e)
-    (op_for p f.registers (local_region l) l.halfway (length (f ∷ fs)) (total (f ∷ fs)) x.block.0 x.op)
+    (op_for p f.registers (own_memory l) l.halfway (length (f ∷ fs)) (total (f ∷ fs)) x.block.0 x.op)
 
 next_for : (p : NumberedProgram) (s : State) (t : ℕ) (x : Instr) → slice_get p.instrs (instr_of s t) ≡ Some x → IsFor x.op (next_of p s t)
 unfolding next_of next instr_of id_of
@@ -163,12 +163,12 @@ module _ (p : NumberedProgram) (d : Taken) (n : ℕ) (m : Moment) (region : Opti
   may_write k c = if nat_lt c MEMORY_BYTES then list_any (λ f. is_written_in f c) (access_touch d n (access_in k) ++ []) else is_thread (word_written (thread_in m) k) (c - MEMORY_BYTES)
 
   store_bytes : (a : Access) (c : ℕ) (x y w : Bool) (sh : Shadow) (bytes : ℕ → Shadow) → ((w && is_in (range_touched (y || x) a) c) || false) ≡ false → w ≡ true
-      → (if x || y then stored (range_of a) sh bytes else spoiled (frame_of a.pointer) (Exact n) bytes) c ≡ bytes c
+      → (if x || y then stored (range_of a) sh bytes else spoiled (bounds_of a.pointer) (Exact n) bytes) c ≡ bytes c
   store_bytes a c x y false sh bytes h e = absurd (true≢false (sym e))
   store_bytes a c true true true sh bytes h e = outside (is_in (range_of a) c) _ _ (no_or (is_in (range_of a) c) h)
   store_bytes a c true false true sh bytes h e = outside (is_in (range_of a) c) _ _ (no_or (is_in (range_of a) c) h)
   store_bytes a c false true true sh bytes h e = outside (is_in (range_of a) c) _ _ (no_or (is_in (range_of a) c) h)
-  store_bytes a c false false true sh bytes h e = outside (is_in (frame_of a.pointer) c) _ _ (no_or (is_in (frame_of a.pointer) c) h)
+  store_bytes a c false false true sh bytes h e = outside (is_in (bounds_of a.pointer) c) _ _ (no_or (is_in (bounds_of a.pointer) c) h)
 
   access_bytes : (a : Access) (c : ℕ) (rs : List Shadow) (o : Op) (bytes : ℕ → Shadow) → IsStoreWriting o a
       → list_any (λ f. is_written_in f c) (access_touch d n (Some a) ++ []) ≡ false → bytes_stored p (d.exact n || a.event) n a rs o bytes c ≡ bytes c

@@ -11,10 +11,10 @@ use Rattle.pg_ir.specs.Program.{NumberedProgram, function_of, result_of as retur
 use Rattle.pg_ir.specs.WellFormed.{FitsOp, IsProgram, type_at}
 use Rattle.pg_law_threads.specs.Plans.{Fits}
 use Rattle.pg_run_thread.specs.declared.action.Action.TheVariants as actions
-use Rattle.pg_run_thread.specs.declared.region.Region.{Region}
+use Rattle.pg_run_thread.specs.declared.thread_memory.ThreadMemory.{ThreadMemory}
 use Rattle.pg_run_thread.specs.Compute.{computed, computes}
 use Rattle.pg_run_thread.specs.EdgeStep.{is_set}
-use Rattle.pg_run_thread.specs.LocalState.{Frame, LocalState, region_of}
+use Rattle.pg_run_thread.specs.LocalState.{Frame, LocalState, own_memory}
 use Rattle.pg_run_thread.specs.Needs.{IsStraight}
 use Rattle.pg_run_thread.specs.Operands.{given, number_at, operand, operands_of}
 use Rattle.pg_run_thread.specs.States.{AreFramesOf, AreValuesOf, CanStep, IsOf}
@@ -34,7 +34,7 @@ use Rattle.pg_law_plan.specs.Moves.{deed_moved}
 use Rattle.pg_law_plan.specs.Units.{PlanUnit, ReferenceRun, deed_of}
 use Rattle.pg_law_plan.proofs.Here.{Here, running}
 use Rattle.pg_law_plan.proofs.Inner.{IsInner, Pair, act0_is, act_is, answer, answer0, can, can0, inner_fits, locals}
-use Rattle.pg_law_plan.proofs.Likes.{along_frame, moved_like, operand_like, operands_like, result_like, set_like}
+use Rattle.pg_law_plan.proofs.Likes.{along_bounds, moved_like, operand_like, operands_like, result_like, set_like}
 use Rattle.pg_law_plan.proofs.Results.{computes_number, if_done}
 
 -- ---- the registers of a thread at an instruction have their types
@@ -62,20 +62,20 @@ frame_stepped input f0 f ks target s n0 n h k = record {
 module _ (r : ReferenceRun) (d : Taken) (input : List ℤ) (u : PlanUnit) (st : State) (moves : ℕ → ℕ) (y : Rattle.pg_run_trace.specs.declared.step.Step.Step) (q : Pair r d input u st moves y) where
   open locals r d input u st moves y q use {l0, l}
 
-  pub straight_heap : IsStraight q.both.x.op → heap_after r.program (region_of l) q.both.f.registers q.both.x.op ≡ heap_after r.program (region_of l0) q.both.f0.registers q.both.x.op
+  pub straight_heap : IsStraight q.both.x.op → heap_after r.program (own_memory l) q.both.f.registers q.both.x.op ≡ heap_after r.program (own_memory l0) q.both.f0.registers q.both.x.op
   straight_heap g = (goes_straight r.program l q.both.x 0 q.both.x.op g).heap ∙ sym (goes_straight r.program l0 q.both.x 0 q.both.x.op g).heap
 
-  pub straight_calls : (g : IsStraight q.both.x.op) (a0 a : ℕ) (s : Shadow) → IsLike input s (Some (result_number r.program (region_of l) q.both.f.registers q.both.x.op a)) →
+  pub straight_calls : (g : IsStraight q.both.x.op) (a0 a : ℕ) (s : Shadow) → IsLike input s (Some (result_number r.program (own_memory l) q.both.f.registers q.both.x.op a)) →
       AreCallsLike input (op_after r.program l0 q.both.x a0 q.both.x.op) (set_shadow q.both.x.result s q.both.ks ∷ q.both.more) (op_after r.program l q.both.x a q.both.x.op)
   straight_calls g a0 a s k = rw ((goes_straight r.program l0 q.both.x a0 q.both.x.op g).frames, (goes_straight r.program l q.both.x a q.both.x.op g).frames)
       ((frame_stepped input q.both.f0 q.both.f q.both.ks q.both.x.result s _ _ q.both.top k, q.both.rest))
 
 -- ---- computing instructions
 
-result_computed : (r : Region) (o : Op) (n : ℕ → ℕ) (answer : ℕ) → computes o ≡ true → result_of_op r o n answer ≡ computed o n
+result_computed : (r : ThreadMemory) (o : Op) (n : ℕ → ℕ) (answer : ℕ) → computes o ≡ true → result_of_op r o n answer ≡ computed o n
 result_computed r (op.Alloca bytes) n answer h = absurd cc
 result_computed r (op.Load w from) n answer h = absurd cc
-result_computed r (op.CallKnown k args) n answer h = absurd cc
+result_computed r (op.CallLibrary k args) n answer h = absurd cc
 result_computed r o n answer h = refl
 
 pub record Computed (p : NumberedProgram) (input : List ℤ) (pinned : Bool) (num : ℕ) (m : Moment) (region : Option FreeRegion) (res : ℕ) (x : Instr) (ks : List Shadow)
@@ -131,11 +131,11 @@ module _ (p : NumberedProgram) (input : List ℤ) (ks : List Shadow) (rs : List 
           (computed (op.Gep base indices) (number_at p rs (operands_of (op.Gep base indices))))
           (subst (λ (v : Option ℕ). IsLike input (shadow_of p ks base) v) (set_number (operand p rs base) (s base indices refl)) (operand_like input p ks rs like_rs base))
           (number_like (op.Gep base indices) k)
-          (along_frame input (given (operand p rs base)) indices (number_at p rs (operands_of (op.Gep base indices))) 1));
+          (along_bounds input (given (operand p rs base)) indices (number_at p rs (operands_of (op.Gep base indices))) 1));
     }
     computed_shadow o e c s k = absurd cc
 
-base_set : (p : NumberedProgram) (r : Region) (h : Bool) (rs : List (Option ℕ)) (depth used block : ℕ) (o : Op) (base : Value) (is : List Index) → o ≡ op.Gep base is
+base_set : (p : NumberedProgram) (r : ThreadMemory) (h : Bool) (rs : List (Option ℕ)) (depth used block : ℕ) (o : Op) (base : Value) (is : List Index) → o ≡ op.Gep base is
     → CanStep (op_action p r h rs depth used block o) → is_set (operand p rs base) ≡ true
 base_set p r h rs depth used block o base is e k =
     let j : CanStep (op_action p r h rs depth used block (op.Gep base is)) = subst (λ (z : Op). CanStep (op_action p r h rs depth used block z)) e k in
@@ -158,16 +158,16 @@ module _ (r : ReferenceRun) (d : Taken) (input : List ℤ) (program : IsProgram 
       let returns = returned_of p (function_of p b.x.block.0) in
       let typed = typed_here p st t b.h b.f b.fs b.n b.x q.reached b.here in
       let typed0 = typed_here p u.state t b.h b.f0 b.fs0 b.n b.x q.unit.met.reached b.here0 in
-      let k = computes_number p program types b.f.registers typed returns (type_at types b.x.result) (region_of (running t b.h b.f b.fs b.n)) b.h (length (b.f ∷ b.fs))
+      let k = computes_number p program types b.f.registers typed returns (type_at types b.x.result) (own_memory (running t b.h b.f b.fs b.n)) b.h (length (b.f ∷ b.fs))
       (total (b.f ∷ b.fs)) b.x.block.0 b.x.op fits_op c (can r d input u st moves y q) in
-      let k0 = computes_number p program types b.f0.registers typed0 returns (type_at types b.x.result) (region_of (running t b.h b.f0 b.fs0 b.n)) b.h (length (b.f0 ∷ b.fs0))
+      let k0 = computes_number p program types b.f0.registers typed0 returns (type_at types b.x.result) (own_memory (running t b.h b.f0 b.fs0 b.n)) b.h (length (b.f0 ∷ b.fs0))
       (total (b.f0 ∷ b.fs0)) b.x.block.0 b.x.op fits_op c (can0 r d input u st moves y q) in
       let local : next_of p st t ≡ actions.Local = act_is r d input u st moves y q ∙ k.0 in
       let local0 : next_of p u.state t ≡ actions.Local = act0_is r d input u st moves y q ∙ k0.0 in
       let s = computed_shadow p input b.ks b.f.registers b.top.registers (d.pinned u.seen.number) u.seen.number u.seen.moment
       (Rattle.pg_slice_rules.specs.Known.region_of p r.regions u.seen.moment (instr_in p u.seen.moment))
       (Rattle.pg_slice_rules.specs.Known.result_in (Rattle.pg_slice_rules.specs.Rules.kind_in u.seen)) b.x b.more b.x.op refl c
-      (λ base is e. base_set p (region_of (running t b.h b.f b.fs b.n)) b.h b.f.registers (length (b.f ∷ b.fs)) (total (b.f ∷ b.fs)) b.x.block.0 b.x.op base is e
+      (λ base is e. base_set p (own_memory (running t b.h b.f b.fs b.n)) b.h b.f.registers (length (b.f ∷ b.fs)) (total (b.f ∷ b.fs)) b.x.block.0 b.x.op base is e
       (can r d input u st moves y q)) k.1 in
       let g = computes_straight b.x.op c in
       inner_fits r d input u st moves y q (subst IsInner (sym local0) tt) (subst IsInner (sym local) tt) (straight_heap r d input u st moves y q g)
@@ -175,4 +175,4 @@ module _ (r : ReferenceRun) (d : Taken) (input : List ℤ) (program : IsProgram 
       (op_after p (running t b.h b.f b.fs b.n) b.x (answer r d input u st moves y q) b.x.op)) (sym s.after)
       (straight_calls r d input u st moves y q g (answer0 r d input u st moves y q) (answer r d input u st moves y q) s.shadow
       (subst (λ (v : ℕ). IsLike input s.shadow (Some v))
-      (sym (result_computed (region_of (running t b.h b.f b.fs b.n)) b.x.op (number_at p b.f.registers (operands_of b.x.op)) (answer r d input u st moves y q) c)) s.is_like)))
+      (sym (result_computed (own_memory (running t b.h b.f b.fs b.n)) b.x.op (number_at p b.f.registers (operands_of b.x.op)) (answer r d input u st moves y q) c)) s.is_like)))

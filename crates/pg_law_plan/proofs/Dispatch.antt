@@ -3,8 +3,8 @@ use Rattle.std.proofs.Common.{◌≡◌, ℕ, ℤ, ◌<◌, ◌^◌, Bool, true,
 use Rattle.std.specs.Prelude.{◌==◌}
 use Rattle.pg_ir.specs.declared.instr.Op.{Op}
 use Rattle.pg_ir.specs.declared.instr.Op.TheVariants as op
-use Rattle.pg_ir.specs.declared.known.Known.{Known as KnownFunction}
-use Rattle.pg_ir.specs.declared.known.Known.TheVariants as known
+use Rattle.pg_ir.specs.declared.library_call.LibraryCall.{LibraryCall}
+use Rattle.pg_ir.specs.declared.library_call.LibraryCall.TheVariants as known
 use Rattle.pg_ir.specs.declared.value.Value.{Value}
 use Rattle.pg_ir.specs.WellFormed.{IsProgram}
 use Rattle.pg_law_threads.specs.Plans.{Fits}
@@ -36,33 +36,33 @@ module _ (r : ReferenceRun) (d : Taken) (input : List ℤ) (program : IsProgram 
   abbrev Here : Type 0
   Here = Fits (like input) (deed_of d u) (deed_moved r.program input st moves y)
 
-  object : (k : KnownFunction) (args : List Value) → q.both.x.op ≡ op.CallKnown k args → Rattle.pg_law_plan.proofs.Shapes.names_object k ≡ true
+  object : (k : LibraryCall) (args : List Value) → q.both.x.op ≡ op.CallLibrary k args → Rattle.pg_law_plan.proofs.Shapes.names_object k ≡ true
       → Rattle.pg_law_plan.proofs.Requests.is_checked k ≡ true → Fits (like input) (deed_of d u) (deed_moved r.program input st moves y)
   object k args e a b = object_fits r d input program u st moves y q good objects k args e a b
 
-  known_fits : (k : KnownFunction) (args : List Value) → q.both.x.op ≡ op.CallKnown k args → Fits (like input) (deed_of d u) (deed_moved r.program input st moves y)
-  known_fits known.PgIn args e = pg_in_fits r d input program u st moves y q args e
-  known_fits known.PgInLen args e = pg_in_len_fits r d input program u st moves y q args small e
-  known_fits known.PgOut args e = out_fits r d input program u st moves y q good objects args e
-  known_fits known.Putchar args e = putchar_fits r d input program u st moves y q good objects args e
-  known_fits known.Malloc args e = malloc_fits r d input program u st moves y q good args e
-  known_fits known.Free args e = free_fits r d input program u st moves y q args e
-  known_fits known.PthreadCreate args e = create_fits r d input program u st moves y q good objects words args e
-  known_fits known.PthreadJoin args e = join_fits r d input program u st moves y q good objects words cells args e
-  known_fits known.PthreadExit args e = pthread_exit_fits r d input program u st moves y q good objects words args e
-  known_fits known.PthreadMutexInit args e = object known.PthreadMutexInit args e refl refl
-  known_fits known.PthreadMutexLock args e = object known.PthreadMutexLock args e refl refl
-  known_fits known.PthreadMutexTrylock args e = object known.PthreadMutexTrylock args e refl refl
-  known_fits known.PthreadMutexUnlock args e = object known.PthreadMutexUnlock args e refl refl
-  known_fits known.PthreadMutexDestroy args e = object known.PthreadMutexDestroy args e refl refl
-  known_fits known.PthreadCondInit args e = object known.PthreadCondInit args e refl refl
-  known_fits known.PthreadCondWait args e = object known.PthreadCondWait args e refl refl
-  known_fits known.PthreadCondSignal args e = object known.PthreadCondSignal args e refl refl
-  known_fits known.PthreadCondBroadcast args e = object known.PthreadCondBroadcast args e refl refl
-  known_fits known.PthreadCondDestroy args e = object known.PthreadCondDestroy args e refl refl
-  known_fits known.PthreadBarrierInit args e = object known.PthreadBarrierInit args e refl refl
-  known_fits known.PthreadBarrierWait args e = object known.PthreadBarrierWait args e refl refl
-  known_fits known.PthreadBarrierDestroy args e = object known.PthreadBarrierDestroy args e refl refl
+  library_fits : (k : LibraryCall) (args : List Value) → q.both.x.op ≡ op.CallLibrary k args → Fits (like input) (deed_of d u) (deed_moved r.program input st moves y)
+  library_fits known.PgIn args e = pg_in_fits r d input program u st moves y q args e
+  library_fits known.PgInLen args e = pg_in_len_fits r d input program u st moves y q args small e
+  library_fits known.PgOut args e = out_fits r d input program u st moves y q good objects args e
+  library_fits known.Putchar args e = putchar_fits r d input program u st moves y q good objects args e
+  library_fits known.Malloc args e = malloc_fits r d input program u st moves y q good args e
+  library_fits known.Free args e = free_fits r d input program u st moves y q args e
+  library_fits known.PthreadCreate args e = create_fits r d input program u st moves y q good objects words args e
+  library_fits known.PthreadJoin args e = join_fits r d input program u st moves y q good objects words cells args e
+  library_fits known.PthreadExit args e = pthread_exit_fits r d input program u st moves y q good objects words args e
+  library_fits known.PthreadMutexInit args e = object known.PthreadMutexInit args e refl refl
+  library_fits known.PthreadMutexLock args e = object known.PthreadMutexLock args e refl refl
+  library_fits known.PthreadMutexTrylock args e = object known.PthreadMutexTrylock args e refl refl
+  library_fits known.PthreadMutexUnlock args e = object known.PthreadMutexUnlock args e refl refl
+  library_fits known.PthreadMutexDestroy args e = object known.PthreadMutexDestroy args e refl refl
+  library_fits known.PthreadCondInit args e = object known.PthreadCondInit args e refl refl
+  library_fits known.PthreadCondWait args e = object known.PthreadCondWait args e refl refl
+  library_fits known.PthreadCondSignal args e = object known.PthreadCondSignal args e refl refl
+  library_fits known.PthreadCondBroadcast args e = object known.PthreadCondBroadcast args e refl refl
+  library_fits known.PthreadCondDestroy args e = object known.PthreadCondDestroy args e refl refl
+  library_fits known.PthreadBarrierInit args e = object known.PthreadBarrierInit args e refl refl
+  library_fits known.PthreadBarrierWait args e = object known.PthreadBarrierWait args e refl refl
+  library_fits known.PthreadBarrierDestroy args e = object known.PthreadBarrierDestroy args e refl refl
 
   returns : (v : Option Value) → q.both.x.op ≡ op.Ret v → (b : Bool) → (length (q.both.f0 ∷ q.both.fs0) == 1) ≡ b
       → Fits (like input) (deed_of d u) (deed_moved r.program input st moves y)
@@ -97,7 +97,7 @@ module _ (r : ReferenceRun) (d : Taken) (input : List ℤ) (program : IsProgram 
   op_fits (op.Alloca bytes) e = alloca_fits r d input program u st moves y q bytes e
   op_fits (op.Load w from) e = load_fits r d input program u st moves y q good objects cells w from e
   op_fits (op.Store w v at) e = store_fits r d input program u st moves y q good objects w v at e
-  op_fits (op.CallKnown k args) e = known_fits k args e
+  op_fits (op.CallLibrary k args) e = library_fits k args e
 
   pub both_fits : Fits (like input) (deed_of d u) (deed_moved r.program input st moves y)
   both_fits = op_fits q.both.x.op refl

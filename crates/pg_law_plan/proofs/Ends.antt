@@ -5,7 +5,7 @@ use Rattle.std.proofs.lemmas.Bool.{eqb-true, true≢false}
 use Rattle.pg_num.specs.declared.layout.TheConstants.{MEMORY_BYTES}
 use Rattle.pg_ir.specs.declared.instr.Op.{Op}
 use Rattle.pg_ir.specs.declared.instr.Op.TheVariants as op
-use Rattle.pg_ir.specs.declared.known.Known.TheVariants as known
+use Rattle.pg_ir.specs.declared.library_call.LibraryCall.TheVariants as known
 use Rattle.pg_ir.specs.declared.request.Request.TheVariants as requests
 use Rattle.pg_ir.specs.declared.value.Value.{Value}
 use Rattle.pg_ir.specs.Program.{NumberedProgram}
@@ -13,7 +13,7 @@ use Rattle.pg_ir.specs.WellFormed.{IsProgram}
 use Rattle.pg_law_threads.specs.Effects.{or_old}
 use Rattle.pg_law_threads.specs.Plans.{Fits}
 use Rattle.pg_run_thread.specs.declared.action.Action.TheVariants as actions
-use Rattle.pg_run_thread.specs.LocalState.{Frame, region_of}
+use Rattle.pg_run_thread.specs.LocalState.{Frame, own_memory}
 use Rattle.pg_run_thread.specs.Operands.{argument, number_at, operand, operands_of}
 use Rattle.pg_run_thread.specs.States.{CanStep}
 use Rattle.pg_run_thread.specs.Step.{exit_value, heap_after, on_value, op_after, return_action, returning_action, stepped}
@@ -21,7 +21,7 @@ use Rattle.pg_run_trace.specs.declared.step.Step.{Step}
 use Rattle.pg_run.specs.State.{State, next_of}
 use Rattle.pg_run.proofs.Asks.{ready_made}
 use Rattle.pg_law_effects.specs.Views.{cell_written, objects_of}
-use Rattle.pg_slice_rules.specs.Known.{RunShadow, Taken, bytes_by, exit_shadow, live_by, low_byte, operand_at, region_of as region_at, registers_of, set_shadow, thread_of, words_after}
+use Rattle.pg_slice_rules.specs.Known.{RunShadow, Taken, bytes_by, exit_shadow, live_by, low_byte, operand_at, region_of, registers_of, set_shadow, thread_of, words_after}
 use Rattle.pg_slice_rules.specs.Moments.{thread_in}
 use Rattle.pg_slice_rules.specs.Shadows.{Shadow, always}
 use Rattle.pg_law_plan.specs.Likes.{IsCellLike, IsLike, like}
@@ -108,7 +108,7 @@ module _ (r : ReferenceRun) (d : Taken) (input : List ℤ) (program : IsProgram 
         go false true h = refl
         go false false h = absurd (true≢false (sym h))
 
-    pub exit_fits : heap_after r.program (region_of l) q.both.f.registers q.both.x.op ≡ heap_after r.program (region_of l0) q.both.f0.registers q.both.x.op →
+    pub exit_fits : heap_after r.program (own_memory l) q.both.f.registers q.both.x.op ≡ heap_after r.program (own_memory l0) q.both.f0.registers q.both.x.op →
         op_after r.program l0 q.both.x (answer0 r d input u st moves y q) q.both.x.op ≡ [] → op_after r.program l q.both.x (answer r d input u st moves y q) q.both.x.op ≡ []
         → Fits (like input) (deed_of d u) (deed_moved r.program input st moves y)
     exit_fits heap a0 a = event_fits r d input program u st moves y q good objects (requests.Exit n0 b) (requests.Exit n1 b) act0 act refl []
@@ -124,7 +124,7 @@ module _ (r : ReferenceRun) (d : Taken) (input : List ℤ) (program : IsProgram 
       let x = returning_exit p b.f.registers (length (b.f ∷ b.fs)) v deep' (can_at r d input u st moves y q (op.Ret v) e) in
       exit_fits x0.number x.number true (act0_at r d input u st moves y q (op.Ret v) e ∙ x0.is) (act_at r d input u st moves y q (op.Ret v) e ∙ x.is)
       (subst (λ (z : Op). IsLike input (exit_shadow p (thread_in u.seen.moment) b.ks z) (Some x.number)) (sym e) (value v refl x.number x.none x.some))
-      (ap (heap_after p (region_of l) b.f.registers) e ∙ sym (ap (heap_after p (region_of l0) b.f0.registers) e))
+      (ap (heap_after p (own_memory l) b.f.registers) e ∙ sym (ap (heap_after p (own_memory l0) b.f0.registers) e))
       (ap (op_after p l0 b.x (answer0 r d input u st moves y q)) e ∙ ap (λ (fs : List Frame). Rattle.pg_run_thread.specs.Step.returned p fs (number_at p b.f0.registers (operands_of (op.Ret v)) 0))
       (no_frames b.fs0 deep))
       (ap (op_after p l b.x (answer r d input u st moves y q)) e ∙ ap (λ (fs : List Frame). Rattle.pg_run_thread.specs.Step.returned p fs (number_at p b.f.registers (operands_of (op.Ret v)) 0))
@@ -136,12 +136,12 @@ module _ (r : ReferenceRun) (d : Taken) (input : List ℤ) (program : IsProgram 
       value (Some z) k n none some = rw k (subst (λ (o : Option ℕ). IsLike input (Rattle.pg_slice_rules.specs.Shadows.shadow_of r.program q.both.ks z) o) (some z k)
           (operand_like input r.program q.both.ks q.both.f.registers q.both.top.registers z))
 
-  pub pthread_exit_fits : (args : List Value) → q.both.x.op ≡ op.CallKnown known.PthreadExit args → Fits (like input) (deed_of d u) (deed_moved r.program input st moves y)
+  pub pthread_exit_fits : (args : List Value) → q.both.x.op ≡ op.CallLibrary known.PthreadExit args → Fits (like input) (deed_of d u) (deed_moved r.program input st moves y)
   pthread_exit_fits args e =
       let p = r.program in
       let b = q.both in
       let t = thread_in u.seen.moment in
-      let o = op.CallKnown known.PthreadExit args in
+      let o = op.CallLibrary known.PthreadExit args in
       let v0 = value_done (argument p b.f0.registers args 0) (λ n. actions.Event (requests.Exit (exit_value t n) false)) (can0_at r d input u st moves y q o e) in
       let v = value_done (argument p b.f.registers args 0) (λ n. actions.Event (requests.Exit (exit_value t n) false)) (can_at r d input u st moves y q o e) in
       exit_fits (exit_value t v0.0) (exit_value t v.0) false
@@ -149,10 +149,10 @@ module _ (r : ReferenceRun) (d : Taken) (input : List ℤ) (program : IsProgram 
       (act_at r d input u st moves y q o e ∙ on_some (argument p b.f.registers args 0) v.0 (λ n. actions.Event (requests.Exit (exit_value t n) false)) v.1)
       (subst (λ (z : Op). IsLike input (exit_shadow p t b.ks z) (Some (exit_value t v.0))) (sym e)
       (value (t == 0) v.0 (subst (λ (m : Option ℕ). IsLike input (operand_at p b.ks o 0) m) v.1 (argument_like input p b.ks b.f.registers b.top.registers args 0))))
-      (ap (heap_after p (region_of l) b.f.registers) e ∙ sym (ap (heap_after p (region_of l0) b.f0.registers) e))
+      (ap (heap_after p (own_memory l) b.f.registers) e ∙ sym (ap (heap_after p (own_memory l0) b.f0.registers) e))
       (ap (op_after p l0 b.x (answer0 r d input u st moves y q)) e) (ap (op_after p l b.x (answer r d input u st moves y q)) e)
     where
-      value : (z : Bool) (n : ℕ) → IsLike input (operand_at r.program q.both.ks (op.CallKnown known.PthreadExit args) 0) (Some n)
-          → IsLike input (if z then always 0 else operand_at r.program q.both.ks (op.CallKnown known.PthreadExit args) 0) (Some (if z then 0 else n))
+      value : (z : Bool) (n : ℕ) → IsLike input (operand_at r.program q.both.ks (op.CallLibrary known.PthreadExit args) 0) (Some n)
+          → IsLike input (if z then always 0 else operand_at r.program q.both.ks (op.CallLibrary known.PthreadExit args) 0) (Some (if z then 0 else n))
       value true n h = valued_like input (λ i. Some 0) (Some 0) refl
       value false n h = h

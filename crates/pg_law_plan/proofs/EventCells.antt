@@ -10,7 +10,7 @@ use Rattle.pg_num.specs.declared.layout.TheConstants.{MEMORY_BYTES}
 use Rattle.pg_num.specs.declared.width.Width.TheVariants.{W32}
 use Rattle.pg_ir.specs.declared.instr.Op.{Op}
 use Rattle.pg_ir.specs.declared.instr.Op.TheVariants as op
-use Rattle.pg_ir.specs.declared.known.Known.TheVariants as known
+use Rattle.pg_ir.specs.declared.library_call.LibraryCall.TheVariants as known
 use Rattle.pg_ir.specs.declared.request.Request.{Request}
 use Rattle.pg_ir.specs.declared.request.Request.TheVariants as requests
 use Rattle.pg_ir.specs.declared.value.Value.{Value}
@@ -19,7 +19,7 @@ use Rattle.pg_law_threads.specs.Effects.{or_old}
 use Rattle.pg_law_threads.specs.Plans.{Fits}
 use Rattle.pg_run_objects.specs.Sync as sync
 use Rattle.pg_run_thread.specs.declared.action.Action.TheVariants as actions
-use Rattle.pg_run_thread.specs.LocalState.{region_of}
+use Rattle.pg_run_thread.specs.LocalState.{own_memory}
 use Rattle.pg_run_thread.specs.Operands.{argument}
 use Rattle.pg_run_thread.specs.Step.{heap_after, op_after}
 use Rattle.pg_run_trace.specs.declared.step.Event.{Event}
@@ -36,7 +36,7 @@ use Rattle.pg_law_effects.specs.Effect.{Effect, MadeThread, RequestEffect, answe
 use Rattle.pg_law_effects.specs.Meets.{byte_in, is_in_range}
 use Rattle.pg_law_effects.specs.Views.{cell_at, cell_written, is_thread, objects_of, word_in, word_made}
 use Rattle.pg_law_effects.specs.Views as views
-use Rattle.pg_slice_rules.specs.Known.{RunShadow, Taken, bytes_by, exit_shadow, live_by, low_byte, operand_at, region_of as region_at, registers_of, set_shadow, thread_of, words_after}
+use Rattle.pg_slice_rules.specs.Known.{RunShadow, Taken, bytes_by, exit_shadow, live_by, low_byte, operand_at, region_of, registers_of, set_shadow, thread_of, words_after}
 use Rattle.pg_slice_rules.specs.Moments.{instr_in, thread_in}
 use Rattle.pg_slice_rules.specs.Rules.{kind_in}
 use Rattle.pg_slice_rules.specs.Shadows.{Shadow, always}
@@ -99,7 +99,7 @@ module _ (r : ReferenceRun) (d : Taken) (input : List ℤ) (program : IsProgram 
         ap (λ (z : RunShadow). z.words) (q.unit.known
         ∙ after_live (reference_of r) d u.seen.number u.seen.moment u.seen.before q.both.x (instr_is r d input u st moves y q) (live_is r d input u st moves y q))
         ∙ ap (λ (k : StepKind). (live_by r.program d u.seen.number u.seen.moment
-        (region_at r.program r.regions u.seen.moment (instr_in r.program u.seen.moment)) q.both.x k u.seen.before).words) kind_event
+        (region_of r.program r.regions u.seen.moment (instr_in r.program u.seen.moment)) q.both.x k u.seen.before).words) kind_event
         ∙ ap (λ (ks : List Shadow). words_after r.program (thread_in u.seen.moment) (kind_of r0) ks q.both.x.op u.seen.before.words) (top_known r d input u st moves y q)
 
     pub known_bytes : u.known.bytes ≡ bytes_by ev (write_told u.state (Rattle.pg_law_plan.proofs.Events.numbers0 r d input program u st moves y q good objects) r0) u.seen.before.words
@@ -108,7 +108,7 @@ module _ (r : ReferenceRun) (d : Taken) (input : List ℤ) (program : IsProgram 
         ap (λ (z : RunShadow). z.bytes) (q.unit.known
         ∙ after_live (reference_of r) d u.seen.number u.seen.moment u.seen.before q.both.x (instr_is r d input u st moves y q) (live_is r d input u st moves y q))
         ∙ ap (λ (k : StepKind). (live_by r.program d u.seen.number u.seen.moment
-        (region_at r.program r.regions u.seen.moment (instr_in r.program u.seen.moment)) q.both.x k u.seen.before).bytes) kind_event
+        (region_of r.program r.regions u.seen.moment (instr_in r.program u.seen.moment)) q.both.x k u.seen.before).bytes) kind_event
 
     pub cw_is : (c : ℕ) → cell_written ef c ≡ (if nat_lt c MEMORY_BYTES then byte_in (request_write st r1) c else word_made (thread_made r.program st r1) (c - MEMORY_BYTES)
         (if thread_in u.seen.moment == (c - MEMORY_BYTES) then word_left r1 else None))
@@ -126,7 +126,7 @@ module _ (r : ReferenceRun) (d : Taken) (input : List ℤ) (program : IsProgram 
         ap (λ (k : StepKind). if nat_lt c MEMORY_BYTES then list_any (λ f. is_written_in f c) (access_touch d u.seen.number (access_in k) ++ instance_touch d u.seen) else is_thread
         (word_written (thread_in u.seen.moment) k) (c - MEMORY_BYTES)) kind_event
         ∙ ap (λ (b : Bool). if nat_lt c MEMORY_BYTES then list_any (λ f. is_written_in f c)
-        (access_touch d u.seen.number (access_in (kinds.Event ev)) ++ (if b then Rattle.pg_slice_rules.specs.Rules.prints_in u.seen.region else [])) else is_thread
+        (access_touch d u.seen.number (access_in (kinds.Event ev)) ++ (if b then Rattle.pg_slice_rules.specs.Rules.footprints_in u.seen.region else [])) else is_thread
         (word_written (thread_in u.seen.moment) (kinds.Event ev)) (c - MEMORY_BYTES)) q.plain
 
     pub rc_is : (c : ℕ) → reads_cell d u.seen c ≡ (if nat_lt c MEMORY_BYTES then list_any (λ f. is_read_in f c)
@@ -136,7 +136,7 @@ module _ (r : ReferenceRun) (d : Taken) (input : List ℤ) (program : IsProgram 
         ap (λ (k : StepKind). if nat_lt c MEMORY_BYTES then list_any (λ f. is_read_in f c) (access_touch d u.seen.number (access_in k) ++ instance_touch d u.seen) else is_thread
         (word_read (thread_in u.seen.moment) k) (c - MEMORY_BYTES)) kind_event
         ∙ ap (λ (b : Bool). if nat_lt c MEMORY_BYTES then list_any (λ f. is_read_in f c)
-        (access_touch d u.seen.number (access_in (kinds.Event ev)) ++ (if b then Rattle.pg_slice_rules.specs.Rules.prints_in u.seen.region else [])) else is_thread
+        (access_touch d u.seen.number (access_in (kinds.Event ev)) ++ (if b then Rattle.pg_slice_rules.specs.Rules.footprints_in u.seen.region else [])) else is_thread
         (word_read (thread_in u.seen.moment) (kinds.Event ev)) (c - MEMORY_BYTES)) q.plain
 
     pub er_is : (c : ℕ) → views.reads_cell ef c ≡ (if nat_lt c MEMORY_BYTES then false else is_thread (word_asked (thread_in u.seen.moment) r1) (c - MEMORY_BYTES))
@@ -153,7 +153,7 @@ module _ (r : ReferenceRun) (d : Taken) (input : List ℤ) (program : IsProgram 
     -- ---- put together
 
     pub event_fits : (known : List (List Shadow)) → (thread_of u.known (thread_in u.seen.moment)).calls ≡ known →
-        heap_after r.program (region_of l) q.both.f.registers q.both.x.op ≡ heap_after r.program (region_of l0) q.both.f0.registers q.both.x.op →
+        heap_after r.program (own_memory l) q.both.f.registers q.both.x.op ≡ heap_after r.program (own_memory l0) q.both.f0.registers q.both.x.op →
         AreCallsLike input (op_after r.program l0 q.both.x (answer0 r d input u st moves y q) q.both.x.op) known (op_after r.program l q.both.x (answer r d input u st moves y q) q.both.x.op) →
         reply_of (kind_of r0) (reply r d input program u st moves y q good objects) ≡ reply_of (kind_of r0) (reply0 r d input program u st moves y q good objects) →
         ((c : ℕ) (s : Shadow) (m : ℕ) → IsCellLike input s m → IsCellLike input (or_old (if writes_cell d u.seen c then Some (cell_known u.known c) else None) s)
@@ -207,15 +207,15 @@ module _ (r : ReferenceRun) (d : Taken) (input : List ℤ) (program : IsProgram 
   unfolding sync.done
   out_done s t n = refl
 
-  pub out_fits : (args : List Value) → q.both.x.op ≡ op.CallKnown known.PgOut args → Fits (like input) (deed_of d u) (deed_moved r.program input st moves y)
+  pub out_fits : (args : List Value) → q.both.x.op ≡ op.CallLibrary known.PgOut args → Fits (like input) (deed_of d u) (deed_moved r.program input st moves y)
   out_fits args e =
       let p = r.program in
       let b = q.both in
-      let v0 = value_done (argument p b.f0.registers args 0) (λ n. actions.Event (requests.Out n)) (can0_at r d input u st moves y q (op.CallKnown known.PgOut args) e) in
-      let v = value_done (argument p b.f.registers args 0) (λ n. actions.Event (requests.Out n)) (can_at r d input u st moves y q (op.CallKnown known.PgOut args) e) in
+      let v0 = value_done (argument p b.f0.registers args 0) (λ n. actions.Event (requests.Out n)) (can0_at r d input u st moves y q (op.CallLibrary known.PgOut args) e) in
+      let v = value_done (argument p b.f.registers args 0) (λ n. actions.Event (requests.Out n)) (can_at r d input u st moves y q (op.CallLibrary known.PgOut args) e) in
       shaped_fits r d input program u st moves y q good objects known.PgOut args e (requests.Out v0.0) (requests.Out v.0)
-      (act0_at r d input u st moves y q (op.CallKnown known.PgOut args) e ∙ on_some (argument p b.f0.registers args 0) v0.0 (λ n. actions.Event (requests.Out n)) v0.1)
-      (act_at r d input u st moves y q (op.CallKnown known.PgOut args) e ∙ on_some (argument p b.f.registers args 0) v.0 (λ n. actions.Event (requests.Out n)) v.1)
+      (act0_at r d input u st moves y q (op.CallLibrary known.PgOut args) e ∙ on_some (argument p b.f0.registers args 0) v0.0 (λ n. actions.Event (requests.Out n)) v0.1)
+      (act_at r d input u st moves y q (op.CallLibrary known.PgOut args) e ∙ on_some (argument p b.f.registers args 0) v.0 (λ n. actions.Event (requests.Out n)) v.1)
       refl (shape_out b.h v0.0) (shape_out b.h v.0) (λ s. out_done s (thread_in u.seen.moment) v.0 ∙ sym (out_done s (thread_in u.seen.moment) v0.0))
 
   putchar_done : (s : sync.Sync) (t n : ℕ) → (sync.done s t (requests.Putchar n)).1.value ≡ n % 256
@@ -225,12 +225,12 @@ module _ (r : ReferenceRun) (d : Taken) (input : List ℤ) (program : IsProgram 
   low_small : (n : ℕ) → n % 256 % modulus W32 ≡ n % 2 ^ 8
   low_small n = omega arith
 
-  pub putchar_fits : (args : List Value) → q.both.x.op ≡ op.CallKnown known.Putchar args → Fits (like input) (deed_of d u) (deed_moved r.program input st moves y)
+  pub putchar_fits : (args : List Value) → q.both.x.op ≡ op.CallLibrary known.Putchar args → Fits (like input) (deed_of d u) (deed_moved r.program input st moves y)
   putchar_fits args e =
       let p = r.program in
       let b = q.both in
       let t = thread_in u.seen.moment in
-      let o = op.CallKnown known.Putchar args in
+      let o = op.CallLibrary known.Putchar args in
       let v0 = value_done (argument p b.f0.registers args 0) (λ n. actions.Event (requests.Putchar n)) (can0_at r d input u st moves y q o e) in
       let v = value_done (argument p b.f.registers args 0) (λ n. actions.Event (requests.Putchar n)) (can_at r d input u st moves y q o e) in
       let act0 = act0_at r d input u st moves y q o e ∙ on_some (argument p b.f0.registers args 0) v0.0 (λ n. actions.Event (requests.Putchar n)) v0.1 in
@@ -240,7 +240,7 @@ module _ (r : ReferenceRun) (d : Taken) (input : List ℤ) (program : IsProgram 
       let none = cells_nothing r0 r1 act0 act refl refl refl refl refl refl in
       let a : answer r d input u st moves y q ≡ v.0 % 256 = ap (answer_to input st t) act ∙ putchar_done st.sync t v.0 in
       event_fits r0 r1 act0 act refl (set_shadow b.x.result (low_byte (operand_at p b.ks b.x.op 0)) b.ks ∷ b.more) (known_is r0 r1 act0 act refl)
-      (ap (heap_after p (region_of l) b.f.registers) e ∙ sym (ap (heap_after p (region_of l0) b.f0.registers) e))
+      (ap (heap_after p (own_memory l) b.f.registers) e ∙ sym (ap (heap_after p (own_memory l0) b.f0.registers) e))
       (subst (λ (z : Op). AreCallsLike input (op_after p l0 b.x (answer0 r d input u st moves y q) z) (set_shadow b.x.result (low_byte (operand_at p b.ks z 0)) b.ks ∷ b.more)
       (op_after p l b.x (answer r d input u st moves y q) z)) (sym e) (
         frame_stepped input b.f0 b.f b.ks b.x.result (low_byte (operand_at p b.ks o 0)) (answer0 r d input u st moves y q % modulus W32) (answer r d input u st moves y q % modulus W32) b.top

@@ -6,8 +6,8 @@ use Rattle.pg_ir.specs.declared.ids.InstrId.{InstrId}
 use Rattle.pg_ir.specs.declared.instr.Instr.{Instr}
 use Rattle.pg_ir.specs.declared.instr.Op.{Op}
 use Rattle.pg_ir.specs.declared.instr.Op.TheVariants as op
-use Rattle.pg_ir.specs.declared.known.Known.{Known}
-use Rattle.pg_ir.specs.declared.known.Known.TheVariants as known
+use Rattle.pg_ir.specs.declared.library_call.LibraryCall.{LibraryCall}
+use Rattle.pg_ir.specs.declared.library_call.LibraryCall.TheVariants as known
 use Rattle.pg_ir.specs.declared.request.Request.TheVariants as requests
 use Rattle.pg_ir.specs.declared.value.Value.{Value}
 use Rattle.pg_ir.specs.Edges.{case_of}
@@ -15,12 +15,12 @@ use Rattle.pg_ir.specs.Program.{NumberedProgram}
 use Rattle.pg_ir.specs.WellFormed.{granules_for}
 use Rattle.pg_run_thread.specs.declared.action.Action.{Action}
 use Rattle.pg_run_thread.specs.declared.action.Action.TheVariants as actions
-use Rattle.pg_run_thread.specs.declared.region.Region.{Region}
+use Rattle.pg_run_thread.specs.declared.thread_memory.ThreadMemory.{ThreadMemory}
 use Rattle.pg_run_thread.specs.Compute.{chosen}
-use Rattle.pg_run_thread.specs.LocalState.{Frame, LocalState, region_of}
+use Rattle.pg_run_thread.specs.LocalState.{Frame, LocalState, own_memory}
 use Rattle.pg_run_thread.specs.Operands.{operand}
 use Rattle.pg_run_thread.specs.States.{CanStep}
-use Rattle.pg_run_thread.specs.Step.{bytes_of, has_room, known_action, next, op_action, return_action, returning_action, total}
+use Rattle.pg_run_thread.specs.Step.{bytes_of, has_room, library_action, next, op_action, return_action, returning_action, total}
 use Rattle.pg_run_thread.specs.Told.{id_of}
 use Rattle.pg_run.specs.MachineStep.{is_gated}
 use Rattle.pg_run.specs.State.{State}
@@ -33,7 +33,7 @@ use Rattle.pg_law_plan.proofs.Likes.{depth_like}
 use Rattle.pg_law_plan.proofs.Opened.{Both}
 
 -- a call of a known function that is an event
-abbrev pub known_asks : Known → Bool
+abbrev pub known_asks : LibraryCall → Bool
 known_asks known.PgIn = false
 known_asks known.PgInLen = false
 known_asks known.Malloc = false
@@ -45,14 +45,14 @@ abbrev pub op_asks : Bool → ℕ → Op → Bool
 op_asks gate depth (op.Load w from) = gate
 op_asks gate depth (op.Store w v at) = gate
 op_asks gate depth (op.Ret v) = depth == 1
-op_asks gate depth (op.CallKnown k args) = known_asks k
+op_asks gate depth (op.CallLibrary k args) = known_asks k
 op_asks gate depth o = false
 
 module _ (gated : List InstrId) (id : ℕ) where
   abbrev IsSo : Bool → Action → Type 0
   IsSo b a = CanStep a → is_event_at gated id a ≡ b
 
-  known_so : (p : NumberedProgram) (t : ℕ) (h : Bool) (rs : List (Option ℕ)) (k : Known) (args : List Value) → IsSo (known_asks k) (known_action p t h rs k args)
+  known_so : (p : NumberedProgram) (t : ℕ) (h : Bool) (rs : List (Option ℕ)) (k : LibraryCall) (args : List Value) → IsSo (known_asks k) (library_action p t h rs k args)
   known_so p t h rs known.PgIn args = number_is (IsSo false) p rs args _ (λ z c. absurd c) (λ n c. refl)
   known_so p t h rs known.PgInLen args = λ c. refl
   known_so p t h rs known.PgOut args = number_is (IsSo true) p rs args _ (λ z c. absurd c) (λ n c. refl)
@@ -87,7 +87,7 @@ module _ (gated : List InstrId) (id : ℕ) where
   returning_so p rs depth None = return_so depth 0
   returning_so p rs depth (Some v) = on_value_is (IsSo (depth == 1)) (operand p rs v) _ (λ z c. absurd c) (λ n e. return_so depth n)
 
-  op_so : (p : NumberedProgram) (r : Region) (h : Bool) (rs : List (Option ℕ)) (depth used block : ℕ) (o : Op)
+  op_so : (p : NumberedProgram) (r : ThreadMemory) (h : Bool) (rs : List (Option ℕ)) (depth used block : ℕ) (o : Op)
       → IsSo (op_asks (is_gated gated id) depth o) (op_action p r h rs depth used block o)
   op_so p r h rs depth used block (op.Divide d w a b) = on_value_is (IsSo false) (operand p rs a) _ (λ z c. absurd c)
       (λ m e. on_value_is (IsSo false) (operand p rs b) _ (λ z c. absurd c) (λ n f. divided_is (IsSo false) (divided d w m n) (λ z c. absurd c) (λ c. refl)))
@@ -105,12 +105,12 @@ module _ (gated : List InstrId) (id : ℕ) where
       (λ a e. on_place_is (IsSo (is_gated gated id)) a (bytes_of w) _ (λ z c. absurd c) (λ q k c. refl))
   op_so p r h rs depth used block (op.Store w v at) = on_value_is (IsSo (is_gated gated id)) (operand p rs v) _ (λ z c. absurd c)
       (λ n e. on_value_is (IsSo (is_gated gated id)) (operand p rs at) _ (λ z c. absurd c) (λ a f. on_place_is (IsSo (is_gated gated id)) a (bytes_of w) _ (λ z c. absurd c) (λ q k c. refl)))
-  op_so p r h rs depth used block (op.CallKnown k args) = known_so p r.thread h rs k args
+  op_so p r h rs depth used block (op.CallLibrary k args) = known_so p r.thread h rs k args
   op_so p r h rs depth used block o = on_all_is (IsSo false) p rs (Rattle.pg_run_thread.specs.Operands.operands_of o) _ (λ z c. absurd c) (λ c. refl)
 
 module _ (gated : List InstrId) (p : NumberedProgram) (s : State) (t : ℕ) (h : Bool) (f : Frame) (fs : List Frame) (n : ℕ) (x : Instr) (here : Here p s t h f fs n x)
-    (can : CanStep (op_action p (region_of (running t h f fs n)) h f.registers (length (f ∷ fs)) (total (f ∷ fs)) x.block.0 x.op)) where
-  next_is : next p (running t h f fs n) ≡ op_action p (region_of (running t h f fs n)) h f.registers (length (f ∷ fs)) (total (f ∷ fs)) x.block.0 x.op
+    (can : CanStep (op_action p (own_memory (running t h f fs n)) h f.registers (length (f ∷ fs)) (total (f ∷ fs)) x.block.0 x.op)) where
+  next_is : next p (running t h f fs n) ≡ op_action p (own_memory (running t h f fs n)) h f.registers (length (f ∷ fs)) (total (f ∷ fs)) x.block.0 x.op
   unfolding next
   next_is = rw here.instr refl
 
@@ -121,11 +121,11 @@ module _ (gated : List InstrId) (p : NumberedProgram) (s : State) (t : ℕ) (h :
   pub event_here : local_event gated p (local_at s t) ≡ op_asks (is_gated gated f.place) (length (f ∷ fs)) x.op
   event_here = ap (λ (o : Option LocalState). local_event gated p (begun_in o)) here.local
       ∙ ap (λ (i : ℕ). is_event_at gated i (next p (running t h f fs n))) id_is ∙ ap (is_event_at gated f.place) next_is
-      ∙ op_so gated f.place p (region_of (running t h f fs n)) h f.registers (length (f ∷ fs)) (total (f ∷ fs)) x.block.0 x.op can
+      ∙ op_so gated f.place p (own_memory (running t h f fs n)) h f.registers (length (f ∷ fs)) (total (f ∷ fs)) x.block.0 x.op can
 
 module _ (gated : List InstrId) (p : NumberedProgram) (input : List ℤ) (t : ℕ) (s0 s : State) (known : List (List Shadow)) (b : Both p input t s0 s known)
-    (can0 : CanStep (op_action p (region_of (running t b.h b.f0 b.fs0 b.n)) b.h b.f0.registers (length (b.f0 ∷ b.fs0)) (total (b.f0 ∷ b.fs0)) b.x.block.0 b.x.op))
-    (can : CanStep (op_action p (region_of (running t b.h b.f b.fs b.n)) b.h b.f.registers (length (b.f ∷ b.fs)) (total (b.f ∷ b.fs)) b.x.block.0 b.x.op)) where
+    (can0 : CanStep (op_action p (own_memory (running t b.h b.f0 b.fs0 b.n)) b.h b.f0.registers (length (b.f0 ∷ b.fs0)) (total (b.f0 ∷ b.fs0)) b.x.block.0 b.x.op))
+    (can : CanStep (op_action p (own_memory (running t b.h b.f b.fs b.n)) b.h b.f.registers (length (b.f ∷ b.fs)) (total (b.f ∷ b.fs)) b.x.block.0 b.x.op)) where
   pub events_alike : local_event gated p (local_at s t) ≡ local_event gated p (local_at s0 t)
   events_alike = event_here gated p s t b.h b.f b.fs b.n b.x b.here can
       ∙ ap (λ (i : ℕ). op_asks (is_gated gated i) (length (b.f ∷ b.fs)) b.x.op) b.top.place

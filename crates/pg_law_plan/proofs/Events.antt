@@ -6,7 +6,7 @@ use Rattle.std.proofs.lemmas.Bool.{true≢false}
 use Rattle.pg_num.specs.declared.layout.TheConstants.{MEMORY_BYTES}
 use Rattle.pg_ir.specs.declared.instr.Op.{Op}
 use Rattle.pg_ir.specs.declared.instr.Op.TheVariants as op
-use Rattle.pg_ir.specs.declared.known.Known.{Known as KnownFunction}
+use Rattle.pg_ir.specs.declared.library_call.LibraryCall.{LibraryCall}
 use Rattle.pg_ir.specs.declared.request.Request.{Request}
 use Rattle.pg_ir.specs.declared.value.Value.{Value}
 use Rattle.pg_ir.specs.Signatures.{returned_by}
@@ -14,10 +14,10 @@ use Rattle.pg_ir.specs.WellFormed.{IsProgram}
 use Rattle.pg_law_threads.specs.Plans.{Fits}
 use Rattle.pg_run_objects.specs.Sync as sync
 use Rattle.pg_run_thread.specs.declared.action.Action.TheVariants as actions
-use Rattle.pg_run_thread.specs.LocalState.{region_of}
+use Rattle.pg_run_thread.specs.LocalState.{own_memory}
 use Rattle.pg_run_thread.specs.Operands.{argument, first_four, number_at, operands_of}
 use Rattle.pg_run_thread.specs.Step.{cut_to, heap_after, op_after, result_number, stepped}
-use Rattle.pg_run_thread.specs.Told.{known_own, op_own, or_zero}
+use Rattle.pg_run_thread.specs.Told.{library_own, op_own, or_zero}
 use Rattle.pg_run_trace.specs.declared.turn.TurnKind.{TurnKind}
 use Rattle.pg_run_trace.specs.declared.step.Event.{Event}
 use Rattle.pg_run_trace.specs.declared.step.Step.{Step}
@@ -157,7 +157,7 @@ module _ (r : ReferenceRun) (d : Taken) (input : List ℤ) (program : IsProgram 
   either_none true = refl
   either_none false = refl
 
-  pub shaped_fits : (k : KnownFunction) (args : List Value) → q.both.x.op ≡ op.CallKnown k args → (r0 r1 : Request)
+  pub shaped_fits : (k : LibraryCall) (args : List Value) → q.both.x.op ≡ op.CallLibrary k args → (r0 r1 : Request)
       → next_of r.program u.state (thread_in u.seen.moment) ≡ actions.Event r0 → next_of r.program st (thread_in u.seen.moment) ≡ actions.Event r1 → core r1 ≡ core r0 →
       Shape k q.both.h r0 → Shape k q.both.h r1 → ((s : sync.Sync) → (sync.done s (thread_in u.seen.moment) r1).1.value ≡ (sync.done s (thread_in u.seen.moment) r0).1.value)
       → Fits (like input) (deed_of d u) (deed_moved r.program input st moves y)
@@ -188,8 +188,8 @@ module _ (r : ReferenceRun) (d : Taken) (input : List ℤ) (program : IsProgram 
         thread = q.own;
         to = stands r d input u st moves y q (if s0.goes then with_top (set_shadow b.x.result (always reply0)) (b.ks ∷ b.more) else (b.ks ∷ b.more))
             (event_known r0 r1 act0 act same ∙ s0.shadows p u.seen.moment (event0 r0 r1 act0 act same) (slice_index_or u.seen.before.words t unset) b.x (b.ks ∷ b.more))
-            (subst (λ (z : Op). heap_after p (region_of l) b.f.registers z ≡ heap_after p (region_of l0) b.f0.registers z) (sym e)
-            (s0.heap (region_of l) (number_at p b.f.registers args 0) ∙ sym (s0.heap (region_of l0) (number_at p b.f0.registers args 0))))
+            (subst (λ (z : Op). heap_after p (own_memory l) b.f.registers z ≡ heap_after p (own_memory l0) b.f0.registers z) (sym e)
+            (s0.heap (own_memory l) (number_at p b.f.registers args 0) ∙ sym (s0.heap (own_memory l0) (number_at p b.f0.registers args 0))))
             (subst (λ (z : Op). AreCallsLike input (op_after p l0 b.x (answer0 r d input u st moves y q) z)
             (if s0.goes then with_top (set_shadow b.x.result (always (or_zero b.x.result (op_own p l0 b.f0.registers (answer0 r d input u st moves y q) z)))) (b.ks ∷ b.more) else
             (b.ks ∷ b.more)) (op_after p l b.x (answer r d input u st moves y q) z)) (sym e)
@@ -203,24 +203,24 @@ module _ (r : ReferenceRun) (d : Taken) (input : List ℤ) (program : IsProgram 
       }
     where
       calls_like : answer r d input u st moves y q ≡ answer0 r d input u st moves y q → (s : Shape k q.both.h r0) →
-          AreCallsLike input (op_after r.program l0 q.both.x (answer0 r d input u st moves y q) (op.CallKnown k args))
+          AreCallsLike input (op_after r.program l0 q.both.x (answer0 r d input u st moves y q) (op.CallLibrary k args))
           (if s.goes then with_top (set_shadow q.both.x.result
-          (always (or_zero q.both.x.result (op_own r.program l0 q.both.f0.registers (answer0 r d input u st moves y q) (op.CallKnown k args))))) (q.both.ks ∷ q.both.more) else
-          (q.both.ks ∷ q.both.more)) (op_after r.program l q.both.x (answer r d input u st moves y q) (op.CallKnown k args))
+          (always (or_zero q.both.x.result (op_own r.program l0 q.both.f0.registers (answer0 r d input u st moves y q) (op.CallLibrary k args))))) (q.both.ks ∷ q.both.more) else
+          (q.both.ks ∷ q.both.more)) (op_after r.program l q.both.x (answer r d input u st moves y q) (op.CallLibrary k args))
       calls_like alike s = rw (
         s.frames (q.both.f0 ∷ q.both.fs0)
-            (stepped q.both.f0 q.both.x.result (result_number r.program (region_of l0) q.both.f0.registers (op.CallKnown k args) (answer0 r d input u st moves y q)) ∷ q.both.fs0),
+            (stepped q.both.f0 q.both.x.result (result_number r.program (own_memory l0) q.both.f0.registers (op.CallLibrary k args) (answer0 r d input u st moves y q)) ∷ q.both.fs0),
         s.frames (q.both.f ∷ q.both.fs) (stepped q.both.f q.both.x.result
-            (result_number r.program (region_of l) q.both.f.registers (op.CallKnown k args) (answer r d input u st moves y q)) ∷ q.both.fs),
+            (result_number r.program (own_memory l) q.both.f.registers (op.CallLibrary k args) (answer r d input u st moves y q)) ∷ q.both.fs),
       ) (go s.goes refl)
         where
           go : (g : Bool) → s.goes ≡ g
               → AreCallsLike input (if g then stepped q.both.f0 q.both.x.result
-              (result_number r.program (region_of l0) q.both.f0.registers (op.CallKnown k args) (answer0 r d input u st moves y q)) ∷ q.both.fs0 else (q.both.f0 ∷ q.both.fs0))
+              (result_number r.program (own_memory l0) q.both.f0.registers (op.CallLibrary k args) (answer0 r d input u st moves y q)) ∷ q.both.fs0 else (q.both.f0 ∷ q.both.fs0))
               (if g then with_top (set_shadow q.both.x.result
-              (always (or_zero q.both.x.result (op_own r.program l0 q.both.f0.registers (answer0 r d input u st moves y q) (op.CallKnown k args))))) (q.both.ks ∷ q.both.more) else
+              (always (or_zero q.both.x.result (op_own r.program l0 q.both.f0.registers (answer0 r d input u st moves y q) (op.CallLibrary k args))))) (q.both.ks ∷ q.both.more) else
               (q.both.ks ∷ q.both.more)) (if g then stepped q.both.f q.both.x.result
-              (result_number r.program (region_of l) q.both.f.registers (op.CallKnown k args) (answer r d input u st moves y q)) ∷ q.both.fs else (q.both.f ∷ q.both.fs))
+              (result_number r.program (own_memory l) q.both.f.registers (op.CallLibrary k args) (answer r d input u st moves y q)) ∷ q.both.fs else (q.both.f ∷ q.both.fs))
           go false v = (q.both.top, q.both.rest)
           go true v = (
             record {
@@ -228,20 +228,20 @@ module _ (r : ReferenceRun) (d : Taken) (input : List ℤ) (program : IsProgram 
               place = ap (λ (i : ℕ). i + 1) q.both.top.place;
               height = q.both.top.height;
               registers = told_number input q.both.x.result q.both.ks q.both.f.registers
-                  (known_own q.both.h k (result_number r.program (region_of l0) q.both.f0.registers (op.CallKnown k args) (answer0 r d input u st moves y q)))
-                  (result_number r.program (region_of l) q.both.f.registers (op.CallKnown k args) (answer r d input u st moves y q)) q.both.top.registers
-                  (s.own v (result_number r.program (region_of l0) q.both.f0.registers (op.CallKnown k args) (answer0 r d input u st moves y q))
-                  ∙ s.number (region_of l0) (number_at r.program q.both.f0.registers args 0) (answer0 r d input u st moves y q) ∙ ap (cut_to (returned_by k)) (sym alike)
-                  ∙ sym (s.number (region_of l) (number_at r.program q.both.f.registers args 0) (answer r d input u st moves y q)));
+                  (library_own q.both.h k (result_number r.program (own_memory l0) q.both.f0.registers (op.CallLibrary k args) (answer0 r d input u st moves y q)))
+                  (result_number r.program (own_memory l) q.both.f.registers (op.CallLibrary k args) (answer r d input u st moves y q)) q.both.top.registers
+                  (s.own v (result_number r.program (own_memory l0) q.both.f0.registers (op.CallLibrary k args) (answer0 r d input u st moves y q))
+                  ∙ s.number (own_memory l0) (number_at r.program q.both.f0.registers args 0) (answer0 r d input u st moves y q) ∙ ap (cut_to (returned_by k)) (sym alike)
+                  ∙ sym (s.number (own_memory l) (number_at r.program q.both.f.registers args 0) (answer r d input u st moves y q)));
             },
             q.both.rest,
           )
 
       own_same : answer r d input u st moves y q ≡ answer0 r d input u st moves y q → Shape k q.both.h r0
-          → op_own r.program l q.both.f.registers (answer r d input u st moves y q) (op.CallKnown k args)
-          ≡ op_own r.program l0 q.both.f0.registers (answer0 r d input u st moves y q) (op.CallKnown k args)
-      own_same alike s = ap (known_own q.both.h k) (s.number (region_of l) (number_at r.program q.both.f.registers args 0) (answer r d input u st moves y q) ∙ ap (cut_to (returned_by k)) alike
-          ∙ sym (s.number (region_of l0) (number_at r.program q.both.f0.registers args 0) (answer0 r d input u st moves y q)))
+          → op_own r.program l q.both.f.registers (answer r d input u st moves y q) (op.CallLibrary k args)
+          ≡ op_own r.program l0 q.both.f0.registers (answer0 r d input u st moves y q) (op.CallLibrary k args)
+      own_same alike s = ap (library_own q.both.h k) (s.number (own_memory l) (number_at r.program q.both.f.registers args 0) (answer r d input u st moves y q) ∙ ap (cut_to (returned_by k)) alike
+          ∙ sym (s.number (own_memory l0) (number_at r.program q.both.f0.registers args 0) (answer0 r d input u st moves y q)))
 
       same_reply : answer r d input u st moves y q ≡ answer0 r d input u st moves y q → Shape k q.both.h r0 → (g : Bool) → g ≡ g → reply ≡ reply0
       same_reply alike s g w =
@@ -250,20 +250,20 @@ module _ (r : ReferenceRun) (d : Taken) (input : List ℤ) (program : IsProgram 
 
   -- ---- operands that are checked are the recorded ones
 
-  pub checked_same : (k : KnownFunction) (args : List Value) → q.both.x.op ≡ op.CallKnown k args → (r0 : Request)
+  pub checked_same : (k : LibraryCall) (args : List Value) → q.both.x.op ≡ op.CallLibrary k args → (r0 : Request)
       → next_of r.program u.state (thread_in u.seen.moment) ≡ actions.Event r0 → is_start (kind_of r0) ≡ false →
       AllOf (λ (i : ℕ). argument r.program q.both.f.registers args i ≡ argument r.program q.both.f0.registers args i) (checked k)
   checked_same k args e r0 act0 start = facing.checked_same r d input u st q.unit q.both good k args e r0 act0 start
 
   -- ---- calls that name objects
 
-  pub object_fits : (k : KnownFunction) (args : List Value) → q.both.x.op ≡ op.CallKnown k args → names_object k ≡ true → is_checked k ≡ true
+  pub object_fits : (k : LibraryCall) (args : List Value) → q.both.x.op ≡ op.CallLibrary k args → names_object k ≡ true → is_checked k ≡ true
       → Fits (like input) (deed_of d u) (deed_moved r.program input st moves y)
   object_fits k args e names c =
       let p = r.program in
       let t = thread_in u.seen.moment in
       let b = q.both in
-      let s = shape_of p t b.h b.f0.registers k args names (can0_at r d input u st moves y q (op.CallKnown k args) e) in
-      let act0 = act0_at r d input u st moves y q (op.CallKnown k args) e ∙ s.1 in
-      let act = act_at r d input u st moves y q (op.CallKnown k args) e ∙ same_action p t b.h b.f.registers b.f0.registers args k c (checked_same k args e s.0 act0 s.2.start) ∙ s.1 in
+      let s = shape_of p t b.h b.f0.registers k args names (can0_at r d input u st moves y q (op.CallLibrary k args) e) in
+      let act0 = act0_at r d input u st moves y q (op.CallLibrary k args) e ∙ s.1 in
+      let act = act_at r d input u st moves y q (op.CallLibrary k args) e ∙ same_action p t b.h b.f.registers b.f0.registers args k c (checked_same k args e s.0 act0 s.2.start) ∙ s.1 in
       shaped_fits k args e s.0 s.0 act0 act refl s.2 s.2 (λ z. refl)

@@ -6,8 +6,8 @@ use Rattle.std.specs.List.{AllByRecursion as AllOf}
 use Rattle.std.proofs.lemmas.Bool.{ltb-true, true≢false}
 use Rattle.pg_ir.specs.declared.instr.Op.{Op}
 use Rattle.pg_ir.specs.declared.instr.Op.TheVariants as op
-use Rattle.pg_ir.specs.declared.known.Known.{Known as KnownFunction}
-use Rattle.pg_ir.specs.declared.known.Known.TheVariants as known
+use Rattle.pg_ir.specs.declared.library_call.LibraryCall.{LibraryCall}
+use Rattle.pg_ir.specs.declared.library_call.LibraryCall.TheVariants as known
 use Rattle.pg_ir.specs.declared.request.Request.{Request}
 use Rattle.pg_ir.specs.declared.value.Value.{Value}
 use Rattle.pg_precondition.specs.declared.check.Test.TheVariants as test
@@ -79,7 +79,7 @@ module _ (r : ReferenceRun) (d : Taken) (input : List ℤ) (u : PlanUnit) (st : 
 
   -- ---- operands that are checked are the recorded ones
 
-  pub checked_same : (k : KnownFunction) (args : List Value) → b.x.op ≡ op.CallKnown k args → (r0 : Request) → next_of r.program u.state (thread_in u.seen.moment) ≡ actions.Event r0
+  pub checked_same : (k : LibraryCall) (args : List Value) → b.x.op ≡ op.CallLibrary k args → (r0 : Request) → next_of r.program u.state (thread_in u.seen.moment) ≡ actions.Event r0
       → is_start (kind_of r0) ≡ false →
       AllOf (λ (i : ℕ). argument r.program b.f.registers args i ≡ argument r.program b.f0.registers args i) (checked k)
   checked_same k args e r0 act0 start =
@@ -93,10 +93,10 @@ module _ (r : ReferenceRun) (d : Taken) (input : List ℤ) (u : PlanUnit) (st : 
       } in
       let needs : value_needs (reference_of r) d u.seen ≡ map (equal_to p u.seen b.x ev) (checked k) =
       needs_here (kinds.Event ev) (kind0_is r0 act0) ∙ needs_event p u.seen b.x ev (kind_of r0) start ∙ ap (λ (z : Op). map (equal_to p u.seen b.x ev) (checked_of z)) e in
-      each (checked k) (given_args p (thread_in u.seen.moment) b.h b.f0.registers args k (can0_at (op.CallKnown k args) e)) (subst (AllOf (Holds input)) needs good.values) (small k)
+      each (checked k) (given_args p (thread_in u.seen.moment) b.h b.f0.registers args k (can0_at (op.CallLibrary k args) e)) (subst (AllOf (Holds input)) needs good.values) (small k)
     where
       -- the checked operands are among the first four
-      small : (k : KnownFunction) → AllOf (λ (i : ℕ). nat_lt i 3 ≡ true) (checked k)
+      small : (k : LibraryCall) → AllOf (λ (i : ℕ). nat_lt i 3 ≡ true) (checked k)
       small known.PthreadCreate = (refl, (refl, (refl, tt)))
       small known.PthreadJoin = (refl, (refl, tt))
       small known.PthreadMutexInit = (refl, (refl, tt))
@@ -127,7 +127,7 @@ module _ (r : ReferenceRun) (d : Taken) (input : List ℤ) (u : PlanUnit) (st : 
           → is_met (test.Eq (slice_index numbers0 i)) (f input) ≡ true → argument r.program b.f.registers args i ≡ argument r.program b.f0.registers args i
       one i s n g f k m =
           let shadow : slice_index_or (map (shadow_of r.program b.ks) args) i unset ≡ operand_of r.program u.seen b.x i =
-          ap (λ (ss : List Shadow). operand_at r.program ss (op.CallKnown known.PgIn args) i) (sym (meeting.top_known r d input u.seen u.state st unit.met b))
+          ap (λ (ss : List Shadow). operand_at r.program ss (op.CallLibrary known.PgIn args) i) (sym (meeting.top_known r d input u.seen u.state st unit.met b))
           ∙ sym (ap (λ (z : Op). slice_index_or (map (shadow_of r.program (registers_before u.seen)) (operands_of z)) i unset) e) in
           let v : argument r.program b.f.registers args i ≡ f input = like_value input (operand_of r.program u.seen b.x i) f (argument r.program b.f.registers args i) k
           (subst (λ (z : Shadow). IsLike input z (argument r.program b.f.registers args i)) shadow (argument_like input r.program b.ks b.f.registers b.top.registers args i)) in

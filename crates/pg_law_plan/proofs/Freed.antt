@@ -17,11 +17,11 @@ use Rattle.pg_run_trace.specs.Steps.{access_in}
 use Rattle.pg_slice_rules.specs.declared.decision.Decision.{Decision}
 use Rattle.pg_slice_rules.specs.declared.decision.Decision.TheVariants.{Pinned}
 use Rattle.pg_slice_rules.specs.Extents.{Extent, begun, ends, is_live, open_after}
-use Rattle.pg_slice_rules.specs.Freeable.{FreeAccess, FreeRegion, frame_of, region_at}
+use Rattle.pg_slice_rules.specs.Freeable.{FreeAccess, FreeRegion, bounds_of, region_at}
 use Rattle.pg_slice_rules.specs.Known.{Reference, RunShadow, Seen, Taken, ThreadShadow, after_step, bytes_freed, edge_of, forgotten_bytes, fresh_thread, is_branch, live_after, live_by, no_thread}
 use Rattle.pg_slice_rules.specs.Known.{region_of, thread_of, threads_after, with_extents}
 use Rattle.pg_slice_rules.specs.Moments.{Moment, instr_in, thread_in}
-use Rattle.pg_slice_rules.specs.Rules.{has_region, prints_in}
+use Rattle.pg_slice_rules.specs.Rules.{has_region, footprints_in}
 use Rattle.pg_slice_rules.specs.Shadows.{Shadow, Unknown, always, spoiled}
 use Rattle.pg_law_plan.specs.Units.{access_touch, cell_known, is_instance, is_written_in, word_written, writes_cell}
 use Rattle.pg_law_effects.specs.Views.{is_thread}
@@ -138,9 +138,9 @@ module _ (R : Reference) (d : Taken) (n : ℕ) (m : Moment) (known : RunShadow) 
 
 -- ---- bytes
 
-written_one : (a : FreeAccess) (x : Decision) (bytes : ℕ → Shadow) (c : ℕ) (w : Bool) → (w && is_in (frame_of a.at.last) c) ≡ false
-    → (if w then spoiled (frame_of a.at.last) x bytes else bytes) c ≡ bytes c
-written_one a x bytes c true h = go (is_in (frame_of a.at.last) c) h
+written_one : (a : FreeAccess) (x : Decision) (bytes : ℕ → Shadow) (c : ℕ) (w : Bool) → (w && is_in (bounds_of a.at.last) c) ≡ false
+    → (if w then spoiled (bounds_of a.at.last) x bytes else bytes) c ≡ bytes c
+written_one a x bytes c true h = go (is_in (bounds_of a.at.last) c) h
   where
     go : (b : Bool) → b ≡ false → (if b then Unknown x else bytes c) ≡ bytes c
     go true e = absurd (true≢false e)
@@ -148,18 +148,18 @@ written_one a x bytes c true h = go (is_in (frame_of a.at.last) c) h
 written_one a x bytes c false h = refl
 
 forgotten_kept : (xs : List FreeAccess) (x : Decision) (bytes : ℕ → Shadow) (c : ℕ)
-    → list_any (λ f. is_written_in f c) (map (λ (a : FreeAccess). record { bytes = frame_of a.at.last; writes = a.writes }) xs) ≡ false → forgotten_bytes xs x bytes c ≡ bytes c
+    → list_any (λ f. is_written_in f c) (map (λ (a : FreeAccess). record { bytes = bounds_of a.at.last; writes = a.writes }) xs) ≡ false → forgotten_bytes xs x bytes c ≡ bytes c
 forgotten_kept [] x bytes c h = refl
 forgotten_kept (a ∷ xs) x bytes c h =
-    let k = no_either (a.writes && is_in (frame_of a.at.last) c) _ h in
-    forgotten_kept xs x (if a.writes then spoiled (frame_of a.at.last) x bytes else bytes) c k.1 ∙ written_one a x bytes c a.writes k.0
+    let k = no_either (a.writes && is_in (bounds_of a.at.last) c) _ h in
+    forgotten_kept xs x (if a.writes then spoiled (bounds_of a.at.last) x bytes else bytes) c k.1 ∙ written_one a x bytes c a.writes k.0
 
 abbrev pub IsUnknown : Shadow → Type 0
 IsUnknown s = (x : Decision) × (s ≡ Unknown x)
 
-written_unknown : (a : FreeAccess) (x : Decision) (bytes : ℕ → Shadow) (c : ℕ) (w : Bool) → (w && is_in (frame_of a.at.last) c) ≡ true
-    → IsUnknown ((if w then spoiled (frame_of a.at.last) x bytes else bytes) c)
-written_unknown a x bytes c true h = go (is_in (frame_of a.at.last) c) h
+written_unknown : (a : FreeAccess) (x : Decision) (bytes : ℕ → Shadow) (c : ℕ) (w : Bool) → (w && is_in (bounds_of a.at.last) c) ≡ true
+    → IsUnknown ((if w then spoiled (bounds_of a.at.last) x bytes else bytes) c)
+written_unknown a x bytes c true h = go (is_in (bounds_of a.at.last) c) h
   where
     go : (b : Bool) → b ≡ true → IsUnknown (if b then Unknown x else bytes c)
     go true e = (x, refl)
@@ -168,22 +168,22 @@ written_unknown a x bytes c false h = absurd (true≢false (sym h))
 
 still_unknown : (xs : List FreeAccess) (x : Decision) (bytes : ℕ → Shadow) (c : ℕ) → IsUnknown (bytes c) → IsUnknown (forgotten_bytes xs x bytes c)
 still_unknown [] x bytes c h = h
-still_unknown (a ∷ xs) x bytes c h = still_unknown xs x (if a.writes then spoiled (frame_of a.at.last) x bytes else bytes) c (go (a.writes && is_in (frame_of a.at.last) c) refl)
+still_unknown (a ∷ xs) x bytes c h = still_unknown xs x (if a.writes then spoiled (bounds_of a.at.last) x bytes else bytes) c (go (a.writes && is_in (bounds_of a.at.last) c) refl)
   where
-    go : (b : Bool) → (a.writes && is_in (frame_of a.at.last) c) ≡ b → IsUnknown ((if a.writes then spoiled (frame_of a.at.last) x bytes else bytes) c)
+    go : (b : Bool) → (a.writes && is_in (bounds_of a.at.last) c) ≡ b → IsUnknown ((if a.writes then spoiled (bounds_of a.at.last) x bytes else bytes) c)
     go true e = written_unknown a x bytes c a.writes e
     go false e = subst IsUnknown (sym (written_one a x bytes c a.writes e)) h
 
 forgotten_unknown : (xs : List FreeAccess) (x : Decision) (bytes : ℕ → Shadow) (c : ℕ)
-    → list_any (λ f. is_written_in f c) (map (λ (a : FreeAccess). record { bytes = frame_of a.at.last; writes = a.writes }) xs) ≡ true → IsUnknown (forgotten_bytes xs x bytes c)
+    → list_any (λ f. is_written_in f c) (map (λ (a : FreeAccess). record { bytes = bounds_of a.at.last; writes = a.writes }) xs) ≡ true → IsUnknown (forgotten_bytes xs x bytes c)
 forgotten_unknown [] x bytes c h = absurd (true≢false (sym h))
-forgotten_unknown (a ∷ xs) x bytes c h = go (a.writes && is_in (frame_of a.at.last) c) refl h (forgotten_unknown xs x (if a.writes then spoiled (frame_of a.at.last) x bytes else bytes) c)
+forgotten_unknown (a ∷ xs) x bytes c h = go (a.writes && is_in (bounds_of a.at.last) c) refl h (forgotten_unknown xs x (if a.writes then spoiled (bounds_of a.at.last) x bytes else bytes) c)
   where
-    go : (b : Bool) → (a.writes && is_in (frame_of a.at.last) c) ≡ b
-        → (b || list_any (λ f. is_written_in f c) (map (λ (a : FreeAccess). record { bytes = frame_of a.at.last; writes = a.writes }) xs)) ≡ true →
-        (list_any (λ f. is_written_in f c) (map (λ (a : FreeAccess). record { bytes = frame_of a.at.last; writes = a.writes }) xs) ≡ true
-        → IsUnknown (forgotten_bytes xs x (if a.writes then spoiled (frame_of a.at.last) x bytes else bytes) c)) → IsUnknown (forgotten_bytes (a ∷ xs) x bytes c)
-    go true e k more = still_unknown xs x (if a.writes then spoiled (frame_of a.at.last) x bytes else bytes) c (written_unknown a x bytes c a.writes e)
+    go : (b : Bool) → (a.writes && is_in (bounds_of a.at.last) c) ≡ b
+        → (b || list_any (λ f. is_written_in f c) (map (λ (a : FreeAccess). record { bytes = bounds_of a.at.last; writes = a.writes }) xs)) ≡ true →
+        (list_any (λ f. is_written_in f c) (map (λ (a : FreeAccess). record { bytes = bounds_of a.at.last; writes = a.writes }) xs) ≡ true
+        → IsUnknown (forgotten_bytes xs x (if a.writes then spoiled (bounds_of a.at.last) x bytes else bytes) c)) → IsUnknown (forgotten_bytes (a ∷ xs) x bytes c)
+    go true e k more = still_unknown xs x (if a.writes then spoiled (bounds_of a.at.last) x bytes else bytes) c (written_unknown a x bytes c a.writes e)
     go false e k more = more k
 
 -- ---- a branch step that is left free
@@ -241,19 +241,19 @@ module _ (R : Reference) (d : Taken) (x : Seen) (e : x.region ≡ region_of R.pr
       ∙ ap (λ (b : Bool). if nat_lt c MEMORY_BYTES then bytes_freed b x.number (Some f.free) x.before.bytes c else slice_index_or x.before.words (c - MEMORY_BYTES) (always 0)) f.pinned
 
   -- what it may write
-  pub writes_freed : (c : ℕ) → writes_cell d x c ≡ (if nat_lt c MEMORY_BYTES then list_any (λ f. is_written_in f c) (prints_in (Some (is_free R d x e h).free)) else false)
+  pub writes_freed : (c : ℕ) → writes_cell d x c ≡ (if nat_lt c MEMORY_BYTES then list_any (λ f. is_written_in f c) (footprints_in (Some (is_free R d x e h).free)) else false)
   writes_freed c =
       let f = is_free R d x e h in
       ap (λ (k : StepKind). if nat_lt c MEMORY_BYTES then list_any (λ g. is_written_in g c)
-      (access_touch d x.number (access_in k) ++ (if is_instance d x then prints_in x.region else [])) else is_thread (word_written (thread_in x.moment) k) (c - MEMORY_BYTES)) f.kind
-      ∙ ap (λ (b : Bool). if nat_lt c MEMORY_BYTES then list_any (λ g. is_written_in g c) (if b then prints_in x.region else []) else false) h
-      ∙ ap (λ (r : Option FreeRegion). if nat_lt c MEMORY_BYTES then list_any (λ g. is_written_in g c) (prints_in r) else false) f.region
+      (access_touch d x.number (access_in k) ++ (if is_instance d x then footprints_in x.region else [])) else is_thread (word_written (thread_in x.moment) k) (c - MEMORY_BYTES)) f.kind
+      ∙ ap (λ (b : Bool). if nat_lt c MEMORY_BYTES then list_any (λ g. is_written_in g c) (if b then footprints_in x.region else []) else false) h
+      ∙ ap (λ (r : Option FreeRegion). if nat_lt c MEMORY_BYTES then list_any (λ g. is_written_in g c) (footprints_in r) else false) f.region
 
   -- it changes no other cells
   pub freed_kept : (c : ℕ) → writes_cell d x c ≡ false → cell_known (after_step R d x.number x.moment x.before) c ≡ cell_known x.before c
   freed_kept c w = cells_freed c ∙ go (nat_lt c MEMORY_BYTES) (sym (writes_freed c) ∙ w)
     where
-      go : (b : Bool) → (if b then list_any (λ f. is_written_in f c) (prints_in (Some (is_free R d x e h).free)) else false) ≡ false →
+      go : (b : Bool) → (if b then list_any (λ f. is_written_in f c) (footprints_in (Some (is_free R d x e h).free)) else false) ≡ false →
           (if b then forgotten_bytes (is_free R d x e h).free.accesses (Pinned x.number) x.before.bytes c else slice_index_or x.before.words (c - MEMORY_BYTES) (always 0))
           ≡ (if b then x.before.bytes c else slice_index_or x.before.words (c - MEMORY_BYTES) (always 0))
       go true k = forgotten_kept (is_free R d x e h).free.accesses (Pinned x.number) x.before.bytes c k
@@ -263,7 +263,7 @@ module _ (R : Reference) (d : Taken) (x : Seen) (e : x.region ≡ region_of R.pr
   pub freed_unknown : (c : ℕ) → writes_cell d x c ≡ true → IsUnknown (cell_known (after_step R d x.number x.moment x.before) c)
   freed_unknown c w = subst IsUnknown (sym (cells_freed c)) (go (nat_lt c MEMORY_BYTES) (sym (writes_freed c) ∙ w))
     where
-      go : (b : Bool) → (if b then list_any (λ f. is_written_in f c) (prints_in (Some (is_free R d x e h).free)) else false) ≡ true →
+      go : (b : Bool) → (if b then list_any (λ f. is_written_in f c) (footprints_in (Some (is_free R d x e h).free)) else false) ≡ true →
           IsUnknown (if b then forgotten_bytes (is_free R d x e h).free.accesses (Pinned x.number) x.before.bytes c else slice_index_or x.before.words (c - MEMORY_BYTES) (always 0))
       go true k = forgotten_unknown (is_free R d x e h).free.accesses (Pinned x.number) x.before.bytes c k
       go false k = absurd (true≢false (sym k))

@@ -2,8 +2,8 @@
 use Rattle.std.proofs.Common.{◌≡◌, ℕ, List, [], ◌∷◌, length, Bool, true, false, Option, Some, None, refl, sym, ap}
 use Rattle.std.specs.Prelude.{slice_get, slice_index, ◌==◌}
 use Rattle.pg_num.specs.Numbers.{divided}
-use Rattle.pg_ir.specs.declared.known.Known.{Known}
-use Rattle.pg_ir.specs.declared.known.Known.TheVariants as known
+use Rattle.pg_ir.specs.declared.library_call.LibraryCall.{LibraryCall}
+use Rattle.pg_ir.specs.declared.library_call.LibraryCall.TheVariants as known
 use Rattle.pg_ir.specs.declared.request.Request.TheVariants as requests
 use Rattle.pg_ir.specs.declared.value.Value.{Value}
 use Rattle.pg_ir.specs.declared.instr.Op.{Op}
@@ -13,12 +13,12 @@ use Rattle.pg_ir.specs.Program.{NumberedProgram}
 use Rattle.pg_ir.specs.WellFormed.{granules_for}
 use Rattle.pg_run_thread.specs.declared.action.Action.{Action}
 use Rattle.pg_run_thread.specs.declared.action.Action.TheVariants as actions
-use Rattle.pg_run_thread.specs.declared.region.Region.{Region}
-use Rattle.pg_run_thread.specs.LocalState.{Frame, LocalState, region_of}
+use Rattle.pg_run_thread.specs.declared.thread_memory.ThreadMemory.{ThreadMemory}
+use Rattle.pg_run_thread.specs.LocalState.{Frame, LocalState, own_memory}
 use Rattle.pg_run_thread.specs.Operands.{first_four, given, operand, operands_of}
 use Rattle.pg_run_thread.specs.Compute.{chosen}
 use Rattle.pg_run_thread.specs.EdgeStep.{case_of}
-use Rattle.pg_run_thread.specs.Step.{bytes_of, frames_action, has_room, instr_action, known_action, next, op_action, returning_action, total}
+use Rattle.pg_run_thread.specs.Step.{bytes_of, frames_action, has_room, instr_action, library_action, next, op_action, returning_action, total}
 use Rattle.pg_run_thread.specs.Told.{frames_operands, operand_values}
 use Rattle.pg_run.specs.MachineStep.{operands_in}
 use Rattle.pg_ir.specs.declared.request.Request.{Request}
@@ -33,7 +33,7 @@ abbrev pub IsCreateNamed : List ℕ → Action → Type 0
 IsCreateNamed ns (actions.Event r) = is_given_to ns r
 IsCreateNamed ns action = Unit {0}
 
-known_named : (p : NumberedProgram) (t : ℕ) (halfway : Bool) (rs : List (Option ℕ)) (k : Known) (args : List Value) → IsCreateNamed (first_four p rs args) (known_action p t halfway rs k args)
+known_named : (p : NumberedProgram) (t : ℕ) (halfway : Bool) (rs : List (Option ℕ)) (k : LibraryCall) (args : List Value) → IsCreateNamed (first_four p rs args) (library_action p t halfway rs k args)
 known_named p t halfway rs known.PgIn args = number_is (IsCreateNamed (first_four p rs args)) p rs args _ (λ k. tt) (λ n. tt)
 known_named p t halfway rs known.PgInLen args = tt
 known_named p t halfway rs known.PgOut args = number_is (IsCreateNamed (first_four p rs args)) p rs args _ (λ k. tt) (λ n. tt)
@@ -65,7 +65,7 @@ returning_named : (p : NumberedProgram) (rs : List (Option ℕ)) (ns : List ℕ)
 returning_named p rs ns depth None = either (IsCreateNamed ns) (depth == 1) _ _ tt tt
 returning_named p rs ns depth (Some v) = on_value_is (IsCreateNamed ns) (operand p rs v) _ (λ k. tt) (λ n e. either (IsCreateNamed ns) (depth == 1) _ _ tt tt)
 
-op_named : (p : NumberedProgram) (rs : List (Option ℕ)) (r : Region) (halfway : Bool) (depth used block : ℕ) (o : Op)
+op_named : (p : NumberedProgram) (rs : List (Option ℕ)) (r : ThreadMemory) (halfway : Bool) (depth used block : ℕ) (o : Op)
     → IsCreateNamed (first_four p rs (operands_of o)) (op_action p r halfway rs depth used block o)
 op_named p rs r halfway depth used block (op.Divide d w a b) =
     let Q = IsCreateNamed (first_four p rs (operands_of (op.Divide d w a b))) in
@@ -92,7 +92,7 @@ op_named p rs r halfway depth used block (op.Store w v at) =
     on_value_is Q (operand p rs v) _ (λ k. tt) (λ n e.
     on_value_is Q (operand p rs at) _ (λ k. tt) (λ a f.
     on_place_is Q a (bytes_of w) _ (λ k. tt) (λ q h. tt)))
-op_named p rs r halfway depth used block (op.CallKnown k args) = known_named p r.thread halfway rs k args
+op_named p rs r halfway depth used block (op.CallLibrary k args) = known_named p r.thread halfway rs k args
 op_named p rs r halfway depth used block o = on_all_is (IsCreateNamed (first_four p rs (operands_of o))) p rs (operands_of o) _ (λ k. tt) tt
 
 -- ---- the next action
@@ -100,7 +100,7 @@ op_named p rs r halfway depth used block o = on_all_is (IsCreateNamed (first_fou
 instr_named : (p : NumberedProgram) (l : LocalState) (f : Frame) (fs : List Frame) (begun : Bool) (o : Option Instr) → begun ≡ true → slice_get p.instrs f.place ≡ o
     → IsCreateNamed (frames_operands p begun (f ∷ fs)) (instr_action p l f fs o)
 instr_named p l f fs true None b e = tt
-instr_named p l f fs true (Some x) b e = rw e (op_named p f.registers (region_of l) l.halfway (length (f ∷ fs)) (total (f ∷ fs)) x.block.0 x.op)
+instr_named p l f fs true (Some x) b e = rw e (op_named p f.registers (own_memory l) l.halfway (length (f ∷ fs)) (total (f ∷ fs)) x.block.0 x.op)
 instr_named p l f fs false o b e = absurd cc
 
 frames_named : (p : NumberedProgram) (l : LocalState) (begun : Bool) (fs : List Frame) → IsCreateNamed (frames_operands p begun fs) (frames_action p l begun fs)

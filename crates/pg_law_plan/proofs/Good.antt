@@ -8,19 +8,19 @@ use Rattle.pg_precondition.specs.Values.{is_met}
 use Rattle.pg_law_threads.proofs.Lists.{all_map, both_of}
 use Rattle.pg_slice_rules.specs.Closed.{IsClosed, admits, conditions, conditions_at}
 use Rattle.pg_slice_rules.specs.Known.{Reference, Seen, Taken, seen_in}
-use Rattle.pg_slice_rules.specs.Rules.{Condition, Need, Value, Frame, all_of, asks_frames, asks_pins, asks_values, conditions_with, frame_needs, is_bound, need_blames, need_conditions}
+use Rattle.pg_slice_rules.specs.Rules.{Condition, Need, Value, Bounds, all_of, asks_bounds, asks_pins, asks_values, conditions_with, bounds_needs, is_bound, need_blames, need_conditions}
 use Rattle.pg_slice_rules.specs.Rules.{value_needs, value_of}
-use Rattle.pg_slice_rules.specs.Shadows.{OnInput, Known, Framed, Unknown, frame_word}
+use Rattle.pg_slice_rules.specs.Shadows.{OnInput, Known, Bounded, Unknown, bounds_word}
 use Rattle.pg_law_plan.proofs.Settled.{append_none, none_asked, not_asked}
 
 -- what is asked of a value holds on the input
 abbrev pub Holds : List ℤ → Need → Type 0
 Holds input (Value s tests) = (f : OnInput) × (value_of s ≡ Some f) × AllOf (λ (t : Test). is_met t (f input) ≡ true) tests
-Holds input (Frame s t) = (f : OnInput) × (frame_word s ≡ Some f) × (is_met t (f input) ≡ true)
+Holds input (Bounds s t) = (f : OnInput) × (bounds_word s ≡ Some f) × (is_met t (f input) ≡ true)
 
 pub record IsGood (R : Reference) (d : Taken) (input : List ℤ) (x : Seen) : Type 0 where
   pub values : AllOf (Holds input) (value_needs R d x)
-  pub frames : AllOf (Holds input) (frame_needs R x)
+  pub bounds : AllOf (Holds input) (bounds_needs R x)
   pub pins : (is_bound x && not (d.pinned x.number)) ≡ false
 
 module _ (input : List ℤ) where
@@ -37,11 +37,11 @@ module _ (input : List ℤ) where
 
   holds_by : (q : Need) → need_blames q ≡ [] → list_all (λ (c : Condition). is_met c.test (c.value input)) (need_conditions q) ≡ true → Holds input q
   holds_by (Value (Known f g) ts) b h = (f, refl, with_met f ts h)
-  holds_by (Value (Framed f x) ts) b h = absurd cc
+  holds_by (Value (Bounded f x) ts) b h = absurd cc
   holds_by (Value (Unknown x) ts) b h = absurd cc
-  holds_by (Frame (Known f g) t) b h = (g, refl, one_met (is_met t (g input)) h)
-  holds_by (Frame (Framed f x) t) b h = (f, refl, one_met (is_met t (f input)) h)
-  holds_by (Frame (Unknown x) t) b h = absurd cc
+  holds_by (Bounds (Known f g) t) b h = (g, refl, one_met (is_met t (g input)) h)
+  holds_by (Bounds (Bounded f x) t) b h = (f, refl, one_met (is_met t (f input)) h)
+  holds_by (Bounds (Unknown x) t) b h = absurd cc
 
   pub all_append : (xs ys : List Condition) → list_all (λ (c : Condition). is_met c.test (c.value input)) (xs ++ ys) ≡ true
       → (list_all (λ (c : Condition). is_met c.test (c.value input)) xs ≡ true) × (list_all (λ (c : Condition). is_met c.test (c.value input)) ys ≡ true)
@@ -72,12 +72,12 @@ module _ (input : List ℤ) where
     all_good closed h =
         all_map (λ x k. good x k.0 k.1.0 k.1.1.0 k.1.1.1) (seen_in R d)
         (both_of (λ (x : Seen). asks_values R d x ≡ []) _ (seen_in R d) (none_asked (asks_values R d) (seen_in R d) closed.values)
-        (both_of (λ (x : Seen). asks_frames R x ≡ []) _ (seen_in R d) (none_asked (asks_frames R) (seen_in R d) closed.frames)
+        (both_of (λ (x : Seen). asks_bounds R x ≡ []) _ (seen_in R d) (none_asked (asks_bounds R) (seen_in R d) closed.bounds)
         (both_of (λ (x : Seen). asks_pins d x ≡ []) (λ (x : Seen). list_all (λ (c : Condition). is_met c.test (c.value input)) (conditions_at R d x) ≡ true) (seen_in R d)
         (none_asked (asks_pins d) (seen_in R d) closed.pins) (met_all h))))
       where
-        good : (x : Seen) → asks_values R d x ≡ [] → asks_frames R x ≡ [] → asks_pins d x ≡ []
+        good : (x : Seen) → asks_values R d x ≡ [] → asks_bounds R x ≡ [] → asks_pins d x ≡ []
             → list_all (λ (c : Condition). is_met c.test (c.value input)) (conditions_at R d x) ≡ true → IsGood R d input x
         good x a b c k =
-            let j = all_append (all_of need_conditions (value_needs R d x)) (all_of need_conditions (frame_needs R x)) k in
-            record { values = hold_by (value_needs R d x) a j.0; frames = hold_by (frame_needs R x) b j.1; pins = not_asked (is_bound x && not (d.pinned x.number)) _ c }
+            let j = all_append (all_of need_conditions (value_needs R d x)) (all_of need_conditions (bounds_needs R x)) k in
+            record { values = hold_by (value_needs R d x) a j.0; bounds = hold_by (bounds_needs R x) b j.1; pins = not_asked (is_bound x && not (d.pinned x.number)) _ c }

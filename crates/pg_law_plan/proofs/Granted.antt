@@ -7,8 +7,8 @@ use Rattle.pg_num.specs.Numbers.{divided}
 use Rattle.pg_num.specs.Places.{ByteRange}
 use Rattle.pg_ir.specs.declared.instr.Op.{Op}
 use Rattle.pg_ir.specs.declared.instr.Op.TheVariants as op
-use Rattle.pg_ir.specs.declared.known.Known.{Known}
-use Rattle.pg_ir.specs.declared.known.Known.TheVariants as known
+use Rattle.pg_ir.specs.declared.library_call.LibraryCall.{LibraryCall}
+use Rattle.pg_ir.specs.declared.library_call.LibraryCall.TheVariants as known
 use Rattle.pg_ir.specs.declared.request.Request.{Request}
 use Rattle.pg_ir.specs.declared.request.Request.TheVariants as requests
 use Rattle.pg_ir.specs.declared.request.TrapName.{TrapName}
@@ -19,12 +19,12 @@ use Rattle.pg_ir.specs.WellFormed.{granules_for}
 use Rattle.pg_run_objects.specs.Sync as sync
 use Rattle.pg_run_thread.specs.declared.action.Action.{Action}
 use Rattle.pg_run_thread.specs.declared.action.Action.TheVariants as actions
-use Rattle.pg_run_thread.specs.declared.region.Region.{Region}
+use Rattle.pg_run_thread.specs.declared.thread_memory.ThreadMemory.{ThreadMemory}
 use Rattle.pg_run_thread.specs.Compute.{chosen}
-use Rattle.pg_run_thread.specs.LocalState.{region_of}
+use Rattle.pg_run_thread.specs.LocalState.{own_memory}
 use Rattle.pg_run_thread.specs.Operands.{operand, operands_of}
 use Rattle.pg_run_thread.specs.States.{CanStep}
-use Rattle.pg_run_thread.specs.Step.{bytes_of, create_action, has_room, known_action, op_action, return_action, returning_action, total}
+use Rattle.pg_run_thread.specs.Step.{bytes_of, create_action, has_room, library_action, op_action, return_action, returning_action, total}
 use Rattle.pg_run_trace.specs.Kinds.{kind_of}
 use Rattle.pg_run.specs.MachineStep.{is_ended, may_act, trap_of}
 use Rattle.pg_run.specs.State.{State, next_of}
@@ -74,7 +74,7 @@ free_trap name s t e = absurd cc
 free_local : IsFree actions.Local
 free_local s t e = refl
 
-known_free : (p : NumberedProgram) (t : ℕ) (h : Bool) (rs : List (Option ℕ)) (k : Known) (args : List Value) → is_checked k ≡ false → IsFree (known_action p t h rs k args)
+known_free : (p : NumberedProgram) (t : ℕ) (h : Bool) (rs : List (Option ℕ)) (k : LibraryCall) (args : List Value) → is_checked k ≡ false → IsFree (library_action p t h rs k args)
 known_free p t h rs known.PgIn args c = number_is IsFree p rs args _ free_trap (λ n s t e. refl)
 known_free p t h rs known.PgInLen args c = λ s t e. refl
 known_free p t h rs known.PgOut args c = number_is IsFree p rs args _ free_trap free_out
@@ -97,11 +97,11 @@ returning_free p rs depth None = return_free depth 0
 returning_free p rs depth (Some v) = on_value_is IsFree (operand p rs v) _ free_trap (λ n e. return_free depth n)
 
 abbrev waits : Op → Bool
-waits (op.CallKnown k args) = is_checked k
+waits (op.CallLibrary k args) = is_checked k
 waits (op.Phi from) = true
 waits o = false
 
-op_free : (p : NumberedProgram) (r : Region) (h : Bool) (rs : List (Option ℕ)) (depth used block : ℕ) (o : Op) → waits o ≡ false → IsFree (op_action p r h rs depth used block o)
+op_free : (p : NumberedProgram) (r : ThreadMemory) (h : Bool) (rs : List (Option ℕ)) (depth used block : ℕ) (o : Op) → waits o ≡ false → IsFree (op_action p r h rs depth used block o)
 op_free p r h rs depth used block (op.Divide d w a b) n = on_value_is IsFree (operand p rs a) _ free_trap
     (λ m e. on_value_is IsFree (operand p rs b) _ free_trap (λ n f. divided_is IsFree (divided d w m n) free_trap free_local))
 op_free p r h rs depth used block (op.Phi from) n = absurd (true≢false n)
@@ -115,7 +115,7 @@ op_free p r h rs depth used block (op.Alloca bytes) n = room_is IsFree (has_room
 op_free p r h rs depth used block (op.Load w from) n = on_value_is IsFree (operand p rs from) _ free_trap (λ a e. on_place_is IsFree a (bytes_of w) _ free_trap (λ q k s t e. refl))
 op_free p r h rs depth used block (op.Store w v at) n = on_value_is IsFree (operand p rs v) _ free_trap
     (λ n e. on_value_is IsFree (operand p rs at) _ free_trap (λ a f. on_place_is IsFree a (bytes_of w) _ free_trap (λ q k s t e. refl)))
-op_free p r h rs depth used block (op.CallKnown k args) n = known_free p r.thread h rs k args n
+op_free p r h rs depth used block (op.CallLibrary k args) n = known_free p r.thread h rs k args n
 op_free p r h rs depth used block o n = on_all_is IsFree p rs (operands_of o) _ free_trap free_local
 
 free_open : (s : State) (a : Action) → IsFree a → is_ended a ≡ false
@@ -179,8 +179,8 @@ module _ (s : State) (t : ℕ) where
   local_unchecked : IsUnchecked s t actions.Local
   local_unchecked q e = absurd cc
 
-  known_unchecked : (p : NumberedProgram) (u : ℕ) (h : Bool) (rs : List (Option ℕ)) (k : Known) (args : List Value) → is_checked k ≡ false → (k ≡ known.PthreadCreate → HasRoom s t)
-      → IsUnchecked s t (known_action p u h rs k args)
+  known_unchecked : (p : NumberedProgram) (u : ℕ) (h : Bool) (rs : List (Option ℕ)) (k : LibraryCall) (args : List Value) → is_checked k ≡ false → (k ≡ known.PthreadCreate → HasRoom s t)
+      → IsUnchecked s t (library_action p u h rs k args)
   known_unchecked p u h rs known.PgIn args c room = number_is (IsUnchecked s t) p rs args _ trap_unchecked (λ n q e. absurd cc)
   known_unchecked p u h rs known.PgInLen args c room = λ q e. absurd cc
   known_unchecked p u h rs known.PgOut args c room = number_is (IsUnchecked s t) p rs args _ trap_unchecked (λ n. asked s t (requests.Out n) (check_out s t n))
@@ -202,8 +202,8 @@ module _ (s : State) (t : ℕ) where
   returning_unchecked p rs depth None = return_unchecked depth 0
   returning_unchecked p rs depth (Some v) = on_value_is (IsUnchecked s t) (operand p rs v) _ trap_unchecked (λ n e. return_unchecked depth n)
 
-  op_unchecked : (p : NumberedProgram) (r : Region) (h : Bool) (rs : List (Option ℕ)) (depth used block : ℕ) (o : Op) → waits o ≡ false
-      → ((args : List Value) → o ≡ op.CallKnown known.PthreadCreate args → HasRoom s t) → IsUnchecked s t (op_action p r h rs depth used block o)
+  op_unchecked : (p : NumberedProgram) (r : ThreadMemory) (h : Bool) (rs : List (Option ℕ)) (depth used block : ℕ) (o : Op) → waits o ≡ false
+      → ((args : List Value) → o ≡ op.CallLibrary known.PthreadCreate args → HasRoom s t) → IsUnchecked s t (op_action p r h rs depth used block o)
   op_unchecked p r h rs depth used block (op.Divide d w a b) n room = on_value_is (IsUnchecked s t) (operand p rs a) _ trap_unchecked
       (λ m e. on_value_is (IsUnchecked s t) (operand p rs b) _ trap_unchecked (λ n f. divided_is (IsUnchecked s t) (divided d w m n) trap_unchecked local_unchecked))
   op_unchecked p r h rs depth used block (op.Phi from) n room = absurd (true≢false n)
@@ -220,7 +220,7 @@ module _ (s : State) (t : ℕ) where
       (λ a e. on_place_is (IsUnchecked s t) a (bytes_of w) _ trap_unchecked (λ g k q j. absurd cc))
   op_unchecked p r h rs depth used block (op.Store w v at) n room = on_value_is (IsUnchecked s t) (operand p rs v) _ trap_unchecked
       (λ n e. on_value_is (IsUnchecked s t) (operand p rs at) _ trap_unchecked (λ a f. on_place_is (IsUnchecked s t) a (bytes_of w) _ trap_unchecked (λ g k q j. absurd cc)))
-  op_unchecked p r h rs depth used block (op.CallKnown k args) n room = known_unchecked p r.thread h rs k args n (λ e. room args (ap (λ (j : Known). op.CallKnown j args) e))
+  op_unchecked p r h rs depth used block (op.CallLibrary k args) n room = known_unchecked p r.thread h rs k args n (λ e. room args (ap (λ (j : LibraryCall). op.CallLibrary j args) e))
   op_unchecked p r h rs depth used block o n room = on_all_is (IsUnchecked s t) p rs (operands_of o) _ trap_unchecked local_unchecked
 
 -- by the objects alone
@@ -240,10 +240,10 @@ abbrev AsksPlain : Action → Type 0
 AsksPlain a = CanStep a → (r : Request) × (a ≡ actions.Event r) × (is_start (kind_of r) ≡ false)
 
 module _ (p : NumberedProgram) (t : ℕ) (h : Bool) (rs : List (Option ℕ)) (args : List Value) where
-  named : (k : Known) → names_object k ≡ true → AsksPlain (known_action p t h rs k args)
+  named : (k : LibraryCall) → names_object k ≡ true → AsksPlain (library_action p t h rs k args)
   named k n c = let s = shape_of p t h rs k args n c in (s.0, s.1, s.2.start)
 
-  checked_asks : (k : Known) → is_checked k ≡ true → AsksPlain (known_action p t h rs k args)
+  checked_asks : (k : LibraryCall) → is_checked k ≡ true → AsksPlain (library_action p t h rs k args)
   checked_asks known.PthreadJoin c = join_is AsksPlain p rs args (λ z c. absurd c) (λ n c. (requests.Join n None, refl, refl)) (λ n r k c. (requests.Join n (Some r), refl, refl))
   checked_asks known.PthreadMutexInit c = named known.PthreadMutexInit refl
   checked_asks known.PthreadMutexLock c = named known.PthreadMutexLock refl
@@ -266,27 +266,27 @@ module _ (r : ReferenceRun) (d : Taken) (input : List ℤ) (u : PlanUnit) (st : 
   -- what holds of the reference run's action holds of the thread's, where it holds of each whose operands aren't all checked
   by_op : (P : Action → Type 0) → P (next_of r.program u.state (thread_in u.seen.moment)) →
       ((o : Op) → b.x.op ≡ o → waits o ≡ false
-      → P (op_action r.program (region_of (running (thread_in u.seen.moment) b.h b.f b.fs b.n)) b.h b.f.registers (length (b.f ∷ b.fs)) (total (b.f ∷ b.fs)) b.x.block.0 o)) →
+      → P (op_action r.program (own_memory (running (thread_in u.seen.moment) b.h b.f b.fs b.n)) b.h b.f.registers (length (b.f ∷ b.fs)) (total (b.f ∷ b.fs)) b.x.block.0 o)) →
       P (next_of r.program st (thread_in u.seen.moment))
   by_op P same free = go b.x.op refl
     where
       plain : (o : Op) → b.x.op ≡ o → waits o ≡ false → P (next_of r.program st (thread_in u.seen.moment))
       plain o e w = subst P (sym (facing.act_at r d input u st unit b good o e)) (free o e w)
 
-      called : (k : Known) (args : List Value) → b.x.op ≡ op.CallKnown k args → (c : Bool) → is_checked k ≡ c → P (next_of r.program st (thread_in u.seen.moment))
-      called k args e false c = plain (op.CallKnown k args) e c
+      called : (k : LibraryCall) (args : List Value) → b.x.op ≡ op.CallLibrary k args → (c : Bool) → is_checked k ≡ c → P (next_of r.program st (thread_in u.seen.moment))
+      called k args e false c = plain (op.CallLibrary k args) e c
       called k args e true c =
           let p = r.program in
           let t = thread_in u.seen.moment in
-          let q = checked_asks p t b.h b.f0.registers args k c (facing.can0_at r d input u st unit b good (op.CallKnown k args) e) in
-          let act0 = facing.act0_at r d input u st unit b good (op.CallKnown k args) e in
+          let q = checked_asks p t b.h b.f0.registers args k c (facing.can0_at r d input u st unit b good (op.CallLibrary k args) e) in
+          let act0 = facing.act0_at r d input u st unit b good (op.CallLibrary k args) e in
           let same1 : next_of p st t ≡ next_of p u.state t =
-          facing.act_at r d input u st unit b good (op.CallKnown k args) e
+          facing.act_at r d input u st unit b good (op.CallLibrary k args) e
           ∙ same_action p t b.h b.f.registers b.f0.registers args k c (facing.checked_same r d input u st unit b good k args e q.0 (act0 ∙ q.1) q.2) ∙ sym act0 in
           subst P (sym same1) same
 
       go : (o : Op) → b.x.op ≡ o → P (next_of r.program st (thread_in u.seen.moment))
-      go (op.CallKnown k args) e = called k args e (is_checked k) refl
+      go (op.CallLibrary k args) e = called k args e (is_checked k) refl
       go (op.Phi from) e = absurd (facing.can0_at r d input u st unit b good (op.Phi from) e)
       go (op.Add w a b) e = plain (op.Add w a b) e refl
       go (op.Sub w a b) e = plain (op.Sub w a b) e refl
@@ -316,7 +316,7 @@ module _ (r : ReferenceRun) (d : Taken) (input : List ℤ) (u : PlanUnit) (st : 
   pub open_here : is_ended (next_of r.program st (thread_in u.seen.moment)) ≡ false
   open_here = by_op (λ (a : Action). is_ended a ≡ false)
       (can_open (next_of r.program u.state (thread_in u.seen.moment)) (can_step r.gated r.program r.input u.state u.seen.moment.did.did unit.met.takes))
-      (λ o e w. free_open st _ (op_free r.program (region_of (running (thread_in u.seen.moment) b.h b.f b.fs b.n)) b.h b.f.registers (length (b.f ∷ b.fs)) (total (b.f ∷ b.fs)) b.x.block.0 o w))
+      (λ o e w. free_open st _ (op_free r.program (own_memory (running (thread_in u.seen.moment) b.h b.f b.fs b.n)) b.h b.f.registers (length (b.f ∷ b.fs)) (total (b.f ∷ b.fs)) b.x.block.0 o w))
 
   -- and may go on, unless it traps
   pub may_here : st.sync ≡ u.state.sync → trap_of st (thread_in u.seen.moment) (next_of r.program st (thread_in u.seen.moment)) ≡ None
@@ -324,21 +324,21 @@ module _ (r : ReferenceRun) (d : Taken) (input : List ℤ) (u : PlanUnit) (st : 
   may_here same trap = by_op (λ (a : Action). trap_of st (thread_in u.seen.moment) a ≡ None → may_act st (thread_in u.seen.moment) a ≡ true)
       (λ n. may_same st u.state (thread_in u.seen.moment) (next_of r.program u.state (thread_in u.seen.moment)) same
       ∙ ready_acts r.program u.state (thread_in u.seen.moment) unit.met.takes.is_ready)
-      (λ o e w n. op_free r.program (region_of (running (thread_in u.seen.moment) b.h b.f b.fs b.n)) b.h b.f.registers (length (b.f ∷ b.fs)) (total (b.f ∷ b.fs)) b.x.block.0 o w st
+      (λ o e w n. op_free r.program (own_memory (running (thread_in u.seen.moment) b.h b.f b.fs b.n)) b.h b.f.registers (length (b.f ∷ b.fs)) (total (b.f ∷ b.fs)) b.x.block.0 o w st
       (thread_in u.seen.moment) n) trap
 
   -- no check on the objects fails
   pub unchecked_here : st.sync ≡ u.state.sync → IsUnchecked st (thread_in u.seen.moment) (next_of r.program st (thread_in u.seen.moment))
   unchecked_here same = by_op (IsUnchecked st (thread_in u.seen.moment))
       (λ q k. ap (λ (y : sync.Sync). sync.check y (thread_in u.seen.moment) q) same ∙ subst (IsAllowed u.state (thread_in u.seen.moment)) k allowed0)
-      (λ o e w. op_unchecked st (thread_in u.seen.moment) r.program (region_of (running (thread_in u.seen.moment) b.h b.f b.fs b.n)) b.h b.f.registers (length (b.f ∷ b.fs))
+      (λ o e w. op_unchecked st (thread_in u.seen.moment) r.program (own_memory (running (thread_in u.seen.moment) b.h b.f b.fs b.n)) b.h b.f.registers (length (b.f ∷ b.fs))
       (total (b.f ∷ b.fs)) b.x.block.0 o w (λ args k. room args (e ∙ k)))
     where
       allowed0 : IsAllowed u.state (thread_in u.seen.moment) (next_of r.program u.state (thread_in u.seen.moment))
       allowed0 = did_allowed r.gated r.program r.input u.state unit.met.takes.after (thread_in u.seen.moment) u.seen.moment.did.did unit.met.takes.is_step
 
-      room : (args : List Value) → b.x.op ≡ op.CallKnown known.PthreadCreate args → HasRoom st (thread_in u.seen.moment)
+      room : (args : List Value) → b.x.op ≡ op.CallLibrary known.PthreadCreate args → HasRoom st (thread_in u.seen.moment)
       room args e =
-          let c = create_shape r.program b.f0.registers args (facing.can0_at r d input u st unit b good (op.CallKnown known.PthreadCreate args) e) in
-          let k = subst (IsAllowed u.state (thread_in u.seen.moment)) (facing.act0_at r d input u st unit b good (op.CallKnown known.PthreadCreate args) e ∙ c.3) allowed0 in
+          let c = create_shape r.program b.f0.registers args (facing.can0_at r d input u st unit b good (op.CallLibrary known.PthreadCreate args) e) in
+          let k = subst (IsAllowed u.state (thread_in u.seen.moment)) (facing.act0_at r d input u st unit b good (op.CallLibrary known.PthreadCreate args) e ∙ c.3) allowed0 in
           λ g f n. one_check st (thread_in u.seen.moment) g f n c.0 c.1 c.2 ∙ ap (λ (y : sync.Sync). sync.check y (thread_in u.seen.moment) (requests.Create c.0 c.1 c.2)) same ∙ k

@@ -4,7 +4,7 @@ use Rattle.std.specs.Prelude.{slice_get}
 use Rattle.pg_ir.specs.declared.ids.InstrId.{InstrId}
 use Rattle.pg_ir.specs.declared.instr.Instr.{Instr}
 use Rattle.pg_ir.specs.Program.{NumberedProgram}
-use Rattle.pg_run_thread.specs.LocalState.{Frame, LocalState, region_of}
+use Rattle.pg_run_thread.specs.LocalState.{Frame, LocalState, own_memory}
 use Rattle.pg_run_thread.specs.Operands.{first_four, operands_of}
 use Rattle.pg_run_thread.specs.States.{CanStep}
 use Rattle.pg_run_thread.specs.Step.{after, instr_after, next, op_action, total}
@@ -48,11 +48,11 @@ module _ (p : NumberedProgram) (s : State) (t : ℕ) (h : Bool) (f : Frame) (fs 
   abbrev l : LocalState
   l = running t h f fs n
 
-  next_at : next p l ≡ op_action p (region_of l) h f.registers (length (f ∷ fs)) (total (f ∷ fs)) x.block.0 x.op
+  next_at : next p l ≡ op_action p (own_memory l) h f.registers (length (f ∷ fs)) (total (f ∷ fs)) x.block.0 x.op
   unfolding next
   next_at = rw here.instr refl
 
-  pub next_here : next_of p s t ≡ op_action p (region_of (running t h f fs n)) h f.registers (length (f ∷ fs)) (total (f ∷ fs)) x.block.0 x.op
+  pub next_here : next_of p s t ≡ op_action p (own_memory (running t h f fs n)) h f.registers (length (f ∷ fs)) (total (f ∷ fs)) x.block.0 x.op
   unfolding next_of
   next_here = ap (action_in p) here.local ∙ next_at
 

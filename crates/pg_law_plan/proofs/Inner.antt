@@ -9,13 +9,13 @@ use Rattle.pg_ir.specs.declared.ids.InstrId.{InstrId}
 use Rattle.pg_ir.specs.declared.instr.Instr.{Instr}
 use Rattle.pg_ir.specs.declared.instr.Op.{Op}
 use Rattle.pg_ir.specs.declared.instr.Op.TheVariants as op
-use Rattle.pg_ir.specs.declared.known.Known.{Known}
-use Rattle.pg_ir.specs.declared.known.Known.TheVariants as known
+use Rattle.pg_ir.specs.declared.library_call.LibraryCall.{LibraryCall}
+use Rattle.pg_ir.specs.declared.library_call.LibraryCall.TheVariants as known
 use Rattle.pg_ir.specs.Program.{NumberedProgram}
 use Rattle.pg_law_threads.specs.Plans.{Fits}
 use Rattle.pg_run_thread.specs.declared.action.Action.{Action}
 use Rattle.pg_run_thread.specs.declared.action.Action.TheVariants as actions
-use Rattle.pg_run_thread.specs.LocalState.{LocalState, region_of}
+use Rattle.pg_run_thread.specs.LocalState.{LocalState, own_memory}
 use Rattle.pg_run_thread.specs.States.{CanStep}
 use Rattle.pg_run_thread.specs.Step.{heap_after, instr_after, op_action, op_after, total}
 use Rattle.pg_run_trace.specs.declared.step.Access.{Access}
@@ -24,7 +24,7 @@ use Rattle.pg_run_trace.specs.declared.step.StepKind.{StepKind}
 use Rattle.pg_run_trace.specs.declared.step.StepKind.TheVariants as kinds
 use Rattle.pg_run_trace.specs.Races.{reply_in}
 use Rattle.pg_run_trace.specs.Steps.{access_in, event_of, happening_in, turn_at}
-use Rattle.pg_run.specs.MachineStep.{instr_told, kind_told, known_told, number_in, op_told, operands_in, step_told}
+use Rattle.pg_run.specs.MachineStep.{instr_told, kind_told, library_told, number_in, op_told, operands_in, step_told}
 use Rattle.pg_run.specs.Runs.{Takes}
 use Rattle.pg_run.specs.State.{State, instr_of, next_of}
 use Rattle.pg_law_effects.specs.Effect.{Effect, RequestEffect, Write, answer_to, effect_by, effect_of, range_read, request_effect, word_read_by, write_of}
@@ -34,7 +34,7 @@ use Rattle.pg_law_effects.specs.Views.{LeadsTo, Objects, cell_written, is_thread
 use Rattle.pg_law_effects.specs.Views as views
 use Rattle.pg_law_effects.proofs.Seen.{leads_to}
 use Rattle.pg_slice_rules.specs.Extents.{is_live}
-use Rattle.pg_slice_rules.specs.Known.{RunShadow, Taken, after_op, region_of as region_at, result_in, thread_of}
+use Rattle.pg_slice_rules.specs.Known.{RunShadow, Taken, after_op, region_of, result_in, thread_of}
 use Rattle.pg_slice_rules.specs.Moments.{instr_in, thread_in}
 use Rattle.pg_slice_rules.specs.Rules.{kind_in}
 use Rattle.pg_slice_rules.specs.Shadows.{Shadow}
@@ -55,7 +55,7 @@ IsInner (actions.In i) = Unit {0}
 IsInner actions.InLen = Unit {0}
 IsInner action = ⊥
 
-known_inner : (ns : List ℕ) (n : ℕ) (k : Known) → IsInnerKind (known_told ns n k)
+known_inner : (ns : List ℕ) (n : ℕ) (k : LibraryCall) → IsInnerKind (library_told ns n k)
 known_inner ns n known.Malloc = tt
 known_inner ns n k = tt
 
@@ -63,7 +63,7 @@ op_inner : (ns : List ℕ) (n : ℕ) (o : Op) → IsInnerKind (op_told ns n o)
 op_inner ns n (op.CondBr c a b) = tt
 op_inner ns n (op.Switch w on other cases) = tt
 op_inner ns n (op.Alloca bytes) = tt
-op_inner ns n (op.CallKnown k args) = known_inner ns n k
+op_inner ns n (op.CallLibrary k args) = known_inner ns n k
 op_inner ns n o = tt
 
 instr_inner : (ns : List ℕ) (n : ℕ) (o : Option Instr) → IsInnerKind (instr_told ns n o)
@@ -138,7 +138,7 @@ writes_none e c a b =
 module _ (d : Taken) (u : PlanUnit) where
   pub no_touch : access_in (kind_in u.seen) ≡ None → is_instance d u.seen ≡ false → touch_of d u.seen ≡ []
   no_touch a i = ap (λ (o : Option Access). access_touch d u.seen.number o ++ instance_touch d u.seen) a
-      ∙ ap (λ (b : Bool). if b then Rattle.pg_slice_rules.specs.Rules.prints_in u.seen.region else []) i
+      ∙ ap (λ (b : Bool). if b then Rattle.pg_slice_rules.specs.Rules.footprints_in u.seen.region else []) i
 
   pub unit_writes_none : (c : ℕ) → TellsNothing (kind_in u.seen) → is_instance d u.seen ≡ false → writes_cell d u.seen c ≡ false
   unit_writes_none c k i =
@@ -227,16 +227,16 @@ module _ (r : ReferenceRun) (d : Taken) (input : List ℤ) (u : PlanUnit) (st : 
   pub instr_at0 : slice_get r.program.instrs (instr_of u.state (thread_in u.seen.moment)) ≡ Some q.both.x
   instr_at0 = ap (slice_get r.program.instrs) place_here0 ∙ q.both.here0.instr
 
-  pub act0_is : act0 ≡ op_action r.program (region_of l0) q.both.h q.both.f0.registers (length (q.both.f0 ∷ q.both.fs0)) (total (q.both.f0 ∷ q.both.fs0)) q.both.x.block.0 q.both.x.op
+  pub act0_is : act0 ≡ op_action r.program (own_memory l0) q.both.h q.both.f0.registers (length (q.both.f0 ∷ q.both.fs0)) (total (q.both.f0 ∷ q.both.fs0)) q.both.x.block.0 q.both.x.op
   act0_is = next_here r.program u.state (thread_in u.seen.moment) q.both.h q.both.f0 q.both.fs0 q.both.n q.both.x q.both.here0
 
-  pub act_is : act ≡ op_action r.program (region_of l) q.both.h q.both.f.registers (length (q.both.f ∷ q.both.fs)) (total (q.both.f ∷ q.both.fs)) q.both.x.block.0 q.both.x.op
+  pub act_is : act ≡ op_action r.program (own_memory l) q.both.h q.both.f.registers (length (q.both.f ∷ q.both.fs)) (total (q.both.f ∷ q.both.fs)) q.both.x.block.0 q.both.x.op
   act_is = next_here r.program st (thread_in u.seen.moment) q.both.h q.both.f q.both.fs q.both.n q.both.x q.both.here
 
-  pub can0 : CanStep (op_action r.program (region_of l0) q.both.h q.both.f0.registers (length (q.both.f0 ∷ q.both.fs0)) (total (q.both.f0 ∷ q.both.fs0)) q.both.x.block.0 q.both.x.op)
+  pub can0 : CanStep (op_action r.program (own_memory l0) q.both.h q.both.f0.registers (length (q.both.f0 ∷ q.both.fs0)) (total (q.both.f0 ∷ q.both.fs0)) q.both.x.block.0 q.both.x.op)
   can0 = subst CanStep act0_is (can_step r.gated r.program r.input u.state u.seen.moment.did.did q.unit.met.takes)
 
-  pub can : CanStep (op_action r.program (region_of l) q.both.h q.both.f.registers (length (q.both.f ∷ q.both.fs)) (total (q.both.f ∷ q.both.fs)) q.both.x.block.0 q.both.x.op)
+  pub can : CanStep (op_action r.program (own_memory l) q.both.h q.both.f.registers (length (q.both.f ∷ q.both.fs)) (total (q.both.f ∷ q.both.fs)) q.both.x.block.0 q.both.x.op)
   can = subst CanStep act_is (subst (λ (v : ℕ). CanStep (next_of r.program st v)) q.own (can_step r.gated r.program input st y q.takes))
 
   -- the local states behind them
@@ -254,7 +254,7 @@ module _ (r : ReferenceRun) (d : Taken) (input : List ℤ) (u : PlanUnit) (st : 
 
   -- the thread behind them
   abbrev pub SameHeap : Type 0
-  SameHeap = heap_after r.program (region_of l) q.both.f.registers q.both.x.op ≡ heap_after r.program (region_of l0) q.both.f0.registers q.both.x.op
+  SameHeap = heap_after r.program (own_memory l) q.both.f.registers q.both.x.op ≡ heap_after r.program (own_memory l0) q.both.f0.registers q.both.x.op
 
   pub stands : (known : List (List Shadow)) → (thread_of u.known (thread_in u.seen.moment)).calls ≡ known → SameHeap →
       AreCallsLike input (op_after r.program l0 q.both.x answer0 q.both.x.op) known (op_after r.program l q.both.x answer q.both.x.op) →
@@ -304,7 +304,7 @@ module _ (r : ReferenceRun) (d : Taken) (input : List ℤ) (u : PlanUnit) (st : 
     e_request = ap (λ (v : ℕ). request_effect r.program st v (next_of r.program st v)) q.own ∙ untouched.request
 
     abbrev pub inner_known : List (List Shadow)
-    inner_known = after_op r.program (d.pinned u.seen.number) u.seen.number u.seen.moment (region_at r.program r.regions u.seen.moment (instr_in r.program u.seen.moment))
+    inner_known = after_op r.program (d.pinned u.seen.number) u.seen.number u.seen.moment (region_of r.program r.regions u.seen.moment (instr_in r.program u.seen.moment))
         (result_in (kind_in u.seen)) q.both.x q.both.x.op (q.both.ks ∷ q.both.more)
 
     pub inner_fits : SameHeap → AreCallsLike input (op_after r.program l0 q.both.x answer0 q.both.x.op) inner_known (op_after r.program l q.both.x answer q.both.x.op)

@@ -14,29 +14,29 @@ use Rattle.pg_run_thread.specs.Compute.{index_bytes, moved_along}
 use Rattle.pg_run_thread.specs.EdgeStep.{over_edge, phi_values, set_each, set_register}
 use Rattle.pg_run_thread.specs.LocalState.{Frame}
 use Rattle.pg_run_thread.specs.Operands.{flat, operand, optional_operand}
-use Rattle.pg_slice_rules.specs.Shadows.{OnInput, Shadow, Known, Framed, Unknown, applied, from_all, moved, result_of, shadow_of, unset, valued}
+use Rattle.pg_slice_rules.specs.Shadows.{OnInput, Shadow, Known, Bounded, Unknown, applied, from_all, moved, result_of, shadow_of, unset, valued}
 use Rattle.pg_slice_rules.specs.Known.{along_edge, entered, optional_shadow, phi_shadow, set_phis, set_shadow}
 use Rattle.pg_slice_rules.specs.Rules.{value_of}
-use Rattle.pg_law_plan.specs.Likes.{AreCallsLike, AreLike, HaveOneFrame, IsFramed, IsInFrame, IsLike}
+use Rattle.pg_law_plan.specs.Likes.{AreCallsLike, AreLike, HaveSameBounds, HasBoundsIfAny, HasBoundsOf, IsLike}
 
--- a number has its own frame
-pub same_frame : (n : ℕ) → HaveOneFrame n n
-same_frame n = record { start = refl; length = refl }
+-- a number has its own bounds
+pub same_bounds : (n : ℕ) → HaveSameBounds n n
+same_bounds n = record { start = refl; length = refl }
 
-own_framed : (v : Option ℕ) → IsFramed v v
-own_framed None = refl
-own_framed (Some n) = same_frame n
+own_bounded : (v : Option ℕ) → HasBoundsIfAny v v
+own_bounded None = refl
+own_bounded (Some n) = same_bounds n
 
 module _ (input : List ℤ) where
   -- ---- values
 
-  -- a known value that has its own frame
+  -- a known value that has its own bounds
   pub valued_like : (f : OnInput) (v : Option ℕ) → v ≡ f input → IsLike input (valued f) v
-  valued_like f v e = (e, subst (λ (o : Option ℕ). IsFramed o v) e (own_framed v))
+  valued_like f v e = (e, subst (λ (o : Option ℕ). HasBoundsIfAny o v) e (own_bounded v))
 
   pub like_value : (s : Shadow) (f : OnInput) (v : Option ℕ) → value_of s ≡ Some f → IsLike input s v → v ≡ f input
   like_value (Known g u) f v e h = let same : g ≡ f = cc in h.0 ∙ ap (λ (z : OnInput). z input) same
-  like_value (Framed g x) f v e h = absurd cc
+  like_value (Bounded g x) f v e h = absurd cc
   like_value (Unknown x) f v e h = absurd cc
 
   -- ---- lists
@@ -109,31 +109,31 @@ module _ (input : List ℤ) where
   from_like (s ∷ ss) [] F v h k = absurd h
   from_like (Known g u ∷ ss) (n ∷ ns) F v h k = from_like ss ns (λ gs. F (λ i. g i ∷ gs i)) v h.1
       (λ gs e. k (λ i. g i ∷ gs i) (ap (λ (l : List (Option ℕ)). g input ∷ l) e ∙ ap (λ (m : Option ℕ). m ∷ ns) (sym h.0.0)))
-  from_like (Framed g x ∷ ss) (n ∷ ns) F v h k = tt
+  from_like (Bounded g x ∷ ss) (n ∷ ns) F v h k = tt
   from_like (Unknown x ∷ ss) (n ∷ ns) F v h k = tt
 
   pub result_like : (o : Op) (ss : List Shadow) (ns : List (Option ℕ)) → AreLike input ss ns → IsLike input (result_of o ss) (applied o ns)
   result_like o ss ns h = from_like ss ns (λ gs. valued (λ i. applied o (gs i))) (applied o ns) h (λ gs e. valued_like (λ i. applied o (gs i)) (applied o ns) (ap (applied o) (sym e)))
 
-  -- a pointer that is moved keeps its frame
-  pub along_frame : (word : ℕ) (is : List Index) (n : ℕ → ℕ) (k : ℕ) → HaveOneFrame word (moved_along word is n k)
-  along_frame word [] n k = same_frame word
-  along_frame word (i ∷ is) n k =
+  -- a pointer that is moved keeps its bounds
+  pub along_bounds : (word : ℕ) (is : List Index) (n : ℕ → ℕ) (k : ℕ) → HaveSameBounds word (moved_along word is n k)
+  along_bounds word [] n k = same_bounds word
+  along_bounds word (i ∷ is) n k =
       let w = moved_by word (index_bytes i i.scale (n k)) in
-      let h = along_frame w is n (k + 1) in
+      let h = along_bounds w is n (k + 1) in
       record { start = h.start ∙ start-moved_by word (index_bytes i i.scale (n k)); length = h.length ∙ length-moved_by word (index_bytes i i.scale (n k)) }
 
-  framed_like : (word : Option ℕ) (b m : ℕ) → IsInFrame word (Some b) → HaveOneFrame b m → IsInFrame word (Some m)
-  framed_like None b m h k = absurd h
-  framed_like (Some w) b m h k = record { start = k.start ∙ h.start; length = k.length ∙ h.length }
+  bounded_like : (word : Option ℕ) (b m : ℕ) → HasBoundsOf word (Some b) → HaveSameBounds b m → HasBoundsOf word (Some m)
+  bounded_like None b m h k = absurd h
+  bounded_like (Some w) b m h k = record { start = k.start ∙ h.start; length = k.length ∙ h.length }
 
-  pub moved_like : (base s : Shadow) (b m : ℕ) → IsLike input base (Some b) → IsLike input s (Some m) → HaveOneFrame b m → IsLike input (moved base s) (Some m)
-  moved_like (Known f u) (Known g w) b m h k e = (k.0, framed_like (u input) b m h.1 e)
-  moved_like (Known f u) (Framed g x) b m h k e = k
-  moved_like (Known f u) (Unknown x) b m h k e = framed_like (u input) b m h.1 e
-  moved_like (Framed f y) (Known g w) b m h k e = (k.0, framed_like (f input) b m h e)
-  moved_like (Framed f y) (Framed g x) b m h k e = k
-  moved_like (Framed f y) (Unknown x) b m h k e = framed_like (f input) b m h e
+  pub moved_like : (base s : Shadow) (b m : ℕ) → IsLike input base (Some b) → IsLike input s (Some m) → HaveSameBounds b m → IsLike input (moved base s) (Some m)
+  moved_like (Known f u) (Known g w) b m h k e = (k.0, bounded_like (u input) b m h.1 e)
+  moved_like (Known f u) (Bounded g x) b m h k e = k
+  moved_like (Known f u) (Unknown x) b m h k e = bounded_like (u input) b m h.1 e
+  moved_like (Bounded f y) (Known g w) b m h k e = (k.0, bounded_like (f input) b m h e)
+  moved_like (Bounded f y) (Bounded g x) b m h k e = k
+  moved_like (Bounded f y) (Unknown x) b m h k e = bounded_like (f input) b m h e
   moved_like (Unknown y) s b m h k e = k
 
   -- ---- edges and calls

@@ -17,7 +17,7 @@ use Rattle.pg_run_memory.specs.Memory.{Words, byte_at, read}
 use Rattle.pg_law_threads.specs.Plans.{Fits}
 use Rattle.pg_run_thread.specs.declared.action.Action.{Action}
 use Rattle.pg_run_thread.specs.declared.action.Action.TheVariants as actions
-use Rattle.pg_run_thread.specs.LocalState.{region_of}
+use Rattle.pg_run_thread.specs.LocalState.{own_memory}
 use Rattle.pg_run_thread.specs.Operands.{first_four, given, operand, operands_of}
 use Rattle.pg_run_thread.specs.Step.{bytes_of, heap_after, on_place, op_after}
 use Rattle.pg_run_trace.specs.declared.step.Step.{Step}
@@ -233,10 +233,10 @@ module _ (r : ReferenceRun) (d : Taken) (input : List ℤ) (program : IsProgram 
               }
             where
               heap_same : q.both.x.op ≡ op.Load w from → heap_after r.program
-                  (region_of (running (thread_in u.seen.moment) q.both.h q.both.f q.both.fs q.both.n)) q.both.f.registers q.both.x.op
-                  ≡ heap_after r.program (region_of (running (thread_in u.seen.moment) q.both.h q.both.f0 q.both.fs0 q.both.n)) q.both.f0.registers q.both.x.op
-              heap_same e = ap (heap_after r.program (region_of (running (thread_in u.seen.moment) q.both.h q.both.f q.both.fs q.both.n)) q.both.f.registers) e
-                  ∙ sym (ap (heap_after r.program (region_of (running (thread_in u.seen.moment) q.both.h q.both.f0 q.both.fs0 q.both.n)) q.both.f0.registers) e)
+                  (own_memory (running (thread_in u.seen.moment) q.both.h q.both.f q.both.fs q.both.n)) q.both.f.registers q.both.x.op
+                  ≡ heap_after r.program (own_memory (running (thread_in u.seen.moment) q.both.h q.both.f0 q.both.fs0 q.both.n)) q.both.f0.registers q.both.x.op
+              heap_same e = ap (heap_after r.program (own_memory (running (thread_in u.seen.moment) q.both.h q.both.f q.both.fs q.both.n)) q.both.f.registers) e
+                  ∙ sym (ap (heap_after r.program (own_memory (running (thread_in u.seen.moment) q.both.h q.both.f0 q.both.fs0 q.both.n)) q.both.f0.registers) e)
 
               calls_like : q.both.x.op ≡ op.Load w from → IsLike input (load_of (d.exact u.seen.number) u.seen.number w (told_access r d input u st moves y q good a) u.seen.before.bytes)
                   (Some (answer r d input u st moves y q % modulus w)) →

@@ -2,7 +2,7 @@
 use Rattle.std.specs.Prelude.{slice_get}
 use Rattle.std.proofs.Common.{◌∙◌, ◌∷◌, ◌≡◌, List, Some, ap, length, subst, ℤ}
 use Rattle.pg_ir.specs.declared.instr.Op.{Op}
-use Rattle.pg_run_thread.specs.LocalState.{region_of}
+use Rattle.pg_run_thread.specs.LocalState.{own_memory}
 use Rattle.pg_run_thread.specs.States.{CanStep}
 use Rattle.pg_run_thread.specs.Step.{op_action, total}
 use Rattle.pg_run_thread.specs.declared.action.Action.{Action}
@@ -36,10 +36,10 @@ module _ (r : ReferenceRun) (d : Taken) (input : List ℤ) (x : Seen) (s st : St
 
   -- what the thread is to do there, in both states
   abbrev pub Act0 : Op → Action
-  Act0 o = op_action r.program (region_of (running (thread_in x.moment) b.h b.f0 b.fs0 b.n)) b.h b.f0.registers (length (b.f0 ∷ b.fs0)) (total (b.f0 ∷ b.fs0)) b.x.block.0 o
+  Act0 o = op_action r.program (own_memory (running (thread_in x.moment) b.h b.f0 b.fs0 b.n)) b.h b.f0.registers (length (b.f0 ∷ b.fs0)) (total (b.f0 ∷ b.fs0)) b.x.block.0 o
 
   abbrev pub Act : Op → Action
-  Act o = op_action r.program (region_of (running (thread_in x.moment) b.h b.f b.fs b.n)) b.h b.f.registers (length (b.f ∷ b.fs)) (total (b.f ∷ b.fs)) b.x.block.0 o
+  Act o = op_action r.program (own_memory (running (thread_in x.moment) b.h b.f b.fs b.n)) b.h b.f.registers (length (b.f ∷ b.fs)) (total (b.f ∷ b.fs)) b.x.block.0 o
 
   pub act0_at : (o : Op) → b.x.op ≡ o → next_of r.program s (thread_in x.moment) ≡ Act0 o
   act0_at o e = next_here r.program s (thread_in x.moment) b.h b.f0 b.fs0 b.n b.x b.here0 ∙ ap Act0 e

@@ -15,15 +15,16 @@ use Rattle.pg_run_trace.specs.declared.step.Write.{Write}
 use Rattle.pg_run_trace.specs.Races.{is_in, overlap, recorded, share}
 use Rattle.pg_run_trace.specs.Steps.{access_by, access_in, access_of, happening_in, range_of}
 use Rattle.pg_law_effects.specs.Views.{is_thread}
-use Rattle.pg_slice_rules.specs.Freeable.{frame_of}
+use Rattle.pg_slice_rules.specs.Freeable.{bounds_of}
 use Rattle.pg_slice_rules.specs.Known.{Seen, Taken}
 use Rattle.pg_slice_rules.specs.Moments.{thread_in}
-use Rattle.pg_slice_rules.specs.Rules.{Footprint, access_print, any_conflict, footprints_conflict, frames_meet, has_region, is_disturbed, is_plain, is_shared, kind_in, print_of, prints_in, region_prints}
+use Rattle.pg_slice_rules.specs.Rules.{Footprint, access_footprint, any_conflict, footprints_conflict, bounds_meet, has_region}
+use Rattle.pg_slice_rules.specs.Rules.{is_disturbed, is_plain, is_shared, kind_in, footprint_of, footprints_in, region_footprints}
 use Rattle.pg_law_plan.specs.Units.{access_touch, instance_touch, is_event_at, is_instance, is_read_in, is_written_in, range_touched, reads_byte, reads_cell, touch_of, word_read, word_written}
 use Rattle.pg_law_plan.specs.Units.{writes_byte, writes_cell}
 use Rattle.pg_law_plan.specs.Lists.{Has}
 use Rattle.pg_law_plan.proofs.Members.{any_found, has_any, has_cases, has_left, has_right}
-use Rattle.pg_law_plan.proofs.Placed.{IsPlaced, in_frame}
+use Rattle.pg_law_plan.proofs.Placed.{IsPlaced, in_bounds}
 use Rattle.pg_law_runs.proofs.Shares.{holds_share}
 
 -- ---- ranges that share a byte
@@ -65,20 +66,20 @@ turned xs ys b m = record {
 -- ---- what is read or written is touched
 
 record Touch (xs : List Footprint) (b : ℕ) : Type 0 where
-  print : Footprint
-  has : Has xs print
-  holds : is_in print.bytes b ≡ true
+  footprint : Footprint
+  has : Has xs footprint
+  holds : is_in footprint.bytes b ≡ true
 
 read_touch : (xs : List Footprint) (b : ℕ) → list_any (λ f. is_read_in f b) xs ≡ true → Touch xs b
-read_touch xs b h = let k = any_found (λ f. is_read_in f b) xs h in record { print = k.0; has = k.1; holds = (and_parts (not k.0.writes) (is_in k.0.bytes b) k.2).1 }
+read_touch xs b h = let k = any_found (λ f. is_read_in f b) xs h in record { footprint = k.0; has = k.1; holds = (and_parts (not k.0.writes) (is_in k.0.bytes b) k.2).1 }
 
 record Write' (xs : List Footprint) (b : ℕ) : Type 0 where
   touch : Touch xs b
-  writes : touch.print.writes ≡ true
+  writes : touch.footprint.writes ≡ true
 
 write_touch : (xs : List Footprint) (b : ℕ) → list_any (λ f. is_written_in f b) xs ≡ true → Write' xs b
 write_touch xs b h = let k = any_found (λ f. is_written_in f b) xs h in let j =
-    and_parts k.0.writes (is_in k.0.bytes b) k.2 in record { touch = record { print = k.0; has = k.1; holds = j.1 }; writes = j.0 }
+    and_parts k.0.writes (is_in k.0.bytes b) k.2 in record { touch = record { footprint = k.0; has = k.1; holds = j.1 }; writes = j.0 }
 
 touched : (xs : List Footprint) (b : ℕ) → (list_any (λ f. is_read_in f b) xs || list_any (λ f. is_written_in f b) xs) ≡ true → Touch xs b
 touched xs b h = go (or_cases (list_any (λ f. is_read_in f b) xs) (list_any (λ f. is_written_in f b) xs) h)
@@ -97,13 +98,13 @@ or_second false b h = h
 
 meeting_of : (xs ys : List Footprint) (b : ℕ) → Write' xs b → Touch ys b → Meeting xs ys b
 meeting_of xs ys b w t = record {
-  first = w.touch.print;
-  second = t.print;
+  first = w.touch.footprint;
+  second = t.footprint;
   has_first = w.touch.has;
   has_second = t.has;
   in_first = w.touch.holds;
   in_second = t.holds;
-  writes = or_first w.touch.print.writes t.print.writes w.writes;
+  writes = or_first w.touch.footprint.writes t.footprint.writes w.writes;
 }
 
 meet_cases : (r w r' w' : Bool) (P : Type 0) → (w ≡ true → (r' || w') ≡ true → P) → ((r || w) ≡ true → w' ≡ true → P) → ((w && (r' || w')) || ((r || w) && w')) ≡ true → P
@@ -187,33 +188,33 @@ fixed_by true false h k = absurd (true≢false k)
 fixed_by false m h k = absurd (true≢false (sym h))
 
 module _ (d : Taken) (all : List Seen) where
-  -- its frames hold what it touches
+  -- its bounds hold what it touches
   enlarged : (x : Seen) → IsFine d all x → (b : ℕ) (f : Footprint) → Has (touch_of d x) f → is_in f.bytes b ≡ true
-      → (h : Footprint) × Has (access_print x ++ region_prints x) h × (is_in h.bytes b ≡ true) × (h.writes ≡ f.writes)
+      → (h : Footprint) × Has (access_footprint x ++ region_footprints x) h × (is_in h.bytes b ≡ true) × (h.writes ≡ f.writes)
   enlarged x fine b f h k = go (has_cases (access_touch d x.number (access_in (kind_in x))) (instance_touch d x) f h)
     where
-      from_access : (o : Option Access) → IsPlaced o → Has (access_touch d x.number o) f → (h : Footprint) × Has (print_of o) h × (is_in h.bytes b ≡ true) × (h.writes ≡ f.writes)
+      from_access : (o : Option Access) → IsPlaced o → Has (access_touch d x.number o) f → (h : Footprint) × Has (footprint_of o) h × (is_in h.bytes b ≡ true) × (h.writes ≡ f.writes)
       from_access None p h = absurd h
       from_access (Some a) p (inl e) = (
-        record { bytes = frame_of a.pointer; writes = a.writes },
+        record { bytes = bounds_of a.pointer; writes = a.writes },
         inl refl,
         within (a.event || d.exact x.number) (subst (λ (q : Footprint). is_in q.bytes b ≡ true) (sym e) k),
         ap (λ (q : Footprint). q.writes) e,
       )
         where
-          within : (fixed : Bool) → is_in (range_touched fixed a) b ≡ true → is_in (frame_of a.pointer) b ≡ true
-          within true i = in_frame a b p i
+          within : (fixed : Bool) → is_in (range_touched fixed a) b ≡ true → is_in (bounds_of a.pointer) b ≡ true
+          within true i = in_bounds a b p i
           within false i = i
       from_access (Some a) p (inr e) = absurd e
 
-      from_instance : (i : Bool) → Has (if i then prints_in x.region else []) f → Has (prints_in x.region) f
+      from_instance : (i : Bool) → Has (if i then footprints_in x.region else []) f → Has (footprints_in x.region) f
       from_instance true h = h
       from_instance false h = absurd h
 
       go : Has (access_touch d x.number (access_in (kind_in x))) f ⊎ Has (instance_touch d x) f
-          → (h : Footprint) × Has (access_print x ++ region_prints x) h × (is_in h.bytes b ≡ true) × (h.writes ≡ f.writes)
-      go (inl h) = let q = from_access (access_in (kind_in x)) fine.placed h in (q.0, has_left (access_print x) (region_prints x) q.0 (rw fine.live q.1), q.2, q.3)
-      go (inr h) = (f, has_right (access_print x) (region_prints x) f (rw fine.live (from_instance (is_instance d x) h)), k, refl)
+          → (h : Footprint) × Has (access_footprint x ++ region_footprints x) h × (is_in h.bytes b ≡ true) × (h.writes ≡ f.writes)
+      go (inl h) = let q = from_access (access_in (kind_in x)) fine.placed h in (q.0, has_left (access_footprint x) (region_footprints x) q.0 (rw fine.live q.1), q.2, q.3)
+      go (inr h) = (f, has_right (access_footprint x) (region_footprints x) f (rw fine.live (from_instance (is_instance d x) h)), k, refl)
 
   -- ---- an instance overlaps with nothing that it meets
 
@@ -221,23 +222,23 @@ module _ (d : Taken) (all : List Seen) where
       Has (instance_touch d x) f → Has (touch_of d y) h → is_in f.bytes b ≡ true → is_in h.bytes b ≡ true → (f.writes || h.writes) ≡ true → ⊥
   not_instance x y fx fy ne o b f h hf hh bf bh w = go (is_instance d x) refl hf
     where
-      go : (i : Bool) → is_instance d x ≡ i → Has (if i then prints_in x.region else []) f → ⊥
+      go : (i : Bool) → is_instance d x ≡ i → Has (if i then footprints_in x.region else []) f → ⊥
       go false e k = k
       go true e k =
           let u = enlarged y fy b h hh bh in
-          let m : Meeting (region_prints x) (access_print y ++ region_prints y) b =
+          let m : Meeting (region_footprints x) (access_footprint y ++ region_footprints y) b =
           record { first = f; second = u.0; has_first = rw fx.live k; has_second = u.1; in_first = bf; in_second = u.2; writes = rw u.3 w } in
-          let meets : frames_meet x (region_prints x) y (access_print y ++ region_prints y) ≡ true =
-          and_from (not (thread_in x.moment == thread_in y.moment) && overlap x.moment.did y.moment.did) (any_conflict (region_prints x) (access_print y ++ region_prints y))
+          let meets : bounds_meet x (region_footprints x) y (access_footprint y ++ region_footprints y) ≡ true =
+          and_from (not (thread_in x.moment == thread_in y.moment) && overlap x.moment.did y.moment.did) (any_conflict (region_footprints x) (access_footprint y ++ region_footprints y))
           (and_from (not (thread_in x.moment == thread_in y.moment)) (overlap x.moment.did y.moment.did)
           (not_from_false (thread_in x.moment == thread_in y.moment) (ne_eqb (thread_in x.moment) (thread_in y.moment) ne)) o)
-          (meeting_conflict (region_prints x) (access_print y ++ region_prints y) b m) in
-          let disturbed : is_disturbed all x ≡ true = has_any (λ z. frames_meet x (region_prints x) z (access_print z ++ region_prints z)) all y fy.has meets in
+          (meeting_conflict (region_footprints x) (access_footprint y ++ region_footprints y) b m) in
+          let disturbed : is_disturbed all x ≡ true = has_any (λ z. bounds_meet x (region_footprints x) z (access_footprint z ++ region_footprints z)) all y fy.has meets in
           let pinned = fixed_by (is_disturbed all x) (d.pinned x.number) disturbed fx.pins in
           let free = not-true (d.pinned x.number) (and_parts (has_region x.region) (not (d.pinned x.number)) e).1 in
           true≢false (sym pinned ∙ free)
 
-  -- ---- two accesses in frames that conflict are exact or events
+  -- ---- two accesses in bounds that conflict are exact or events
 
   event_of_write : (o : Option Write) (a : Access) → access_by o ≡ Some a → a.event ≡ true
   event_of_write None a e = absurd cc
@@ -251,18 +252,18 @@ module _ (d : Taken) (all : List Seen) where
   plain_by (kinds.Allocation b c) a e v = absurd cc
 
   fixed : (x y : Seen) → IsFine d all x → IsFine d all y → thread_in x.moment ≢ thread_in y.moment → overlap x.moment.did y.moment.did ≡ true →
-      any_conflict (access_print x) (access_print y) ≡ true → (a : Access) → access_in (kind_in x) ≡ Some a → (a.event || d.exact x.number) ≡ true
+      any_conflict (access_footprint x) (access_footprint y) ≡ true → (a : Access) → access_in (kind_in x) ≡ Some a → (a.event || d.exact x.number) ≡ true
   fixed x y fx fy ne o m a e = go a.event refl
     where
       go : (b : Bool) → a.event ≡ b → (a.event || d.exact x.number) ≡ true
       go true v = rw v refl
       go false v =
-          let meets : frames_meet x (access_print x) y (access_print y) ≡ true =
-          and_from (not (thread_in x.moment == thread_in y.moment) && overlap x.moment.did y.moment.did) (any_conflict (access_print x) (access_print y))
+          let meets : bounds_meet x (access_footprint x) y (access_footprint y) ≡ true =
+          and_from (not (thread_in x.moment == thread_in y.moment) && overlap x.moment.did y.moment.did) (any_conflict (access_footprint x) (access_footprint y))
           (and_from (not (thread_in x.moment == thread_in y.moment)) (overlap x.moment.did y.moment.did)
           (not_from_false (thread_in x.moment == thread_in y.moment) (ne_eqb (thread_in x.moment) (thread_in y.moment) ne)) o) m in
-          let shared : is_shared all x ≡ true = and_from (is_plain (kind_in x)) (list_any (λ z. frames_meet x (access_print x) z (access_print z)) all) (plain_by (kind_in x) a e v)
-          (has_any (λ z. frames_meet x (access_print x) z (access_print z)) all y fy.has meets) in
+          let shared : is_shared all x ≡ true = and_from (is_plain (kind_in x)) (list_any (λ z. bounds_meet x (access_footprint x) z (access_footprint z)) all) (plain_by (kind_in x) a e v)
+          (has_any (λ z. bounds_meet x (access_footprint x) z (access_footprint z)) all y fy.has meets) in
           rw v (fixed_by (is_shared all x) (d.exact x.number) shared fx.exact)
 
   meet_true : (w i v k : Bool) → i ≡ true → k ≡ true → (w || v) ≡ true → ((w && i) && ((not v && k) || (v && k))) || (((not w && i) || (w && i)) && (v && k)) ≡ true
@@ -288,44 +289,45 @@ module _ (d : Taken) (all : List Seen) where
     record Access' (s : Seen) (b : ℕ) (f : Footprint) : Type 0 where
       access : Access
       is : access_in (kind_in s) ≡ Some access
-      print : f ≡ record { bytes = range_touched (access.event || d.exact s.number) access; writes = access.writes }
+      footprint : f ≡ record { bytes = range_touched (access.event || d.exact s.number) access; writes = access.writes }
 
     access_of_touch : (s : Seen) (b : ℕ) (f : Footprint) (o : Option Access) → access_in (kind_in s) ≡ o → Has (access_touch d s.number o) f → Access' s b f
     access_of_touch s b f None e h = absurd h
-    access_of_touch s b f (Some a) e (inl h) = record { access = a; is = e; print = sym h }
+    access_of_touch s b f (Some a) e (inl h) = record { access = a; is = e; footprint = sym h }
     access_of_touch s b f (Some a) e (inr h) = absurd h
 
-    print_has : (s : Seen) (b : ℕ) (f : Footprint) → IsFine d all s → (a : Access' s b f) → is_in f.bytes b ≡ true
-        → (h : Footprint) × Has (access_print s) h × (is_in h.bytes b ≡ true) × (h.writes ≡ f.writes)
-    print_has s b f fine a i = (
-      record { bytes = frame_of a.access.pointer; writes = a.access.writes },
+    footprint_has : (s : Seen) (b : ℕ) (f : Footprint) → IsFine d all s → (a : Access' s b f) → is_in f.bytes b ≡ true
+        → (h : Footprint) × Has (access_footprint s) h × (is_in h.bytes b ≡ true) × (h.writes ≡ f.writes)
+    footprint_has s b f fine a i = (
+      record { bytes = bounds_of a.access.pointer; writes = a.access.writes },
       rw fine.live (rw a.is (inl refl)),
-      within (a.access.event || d.exact s.number) (subst (λ (q : Footprint). is_in q.bytes b ≡ true) a.print i),
-      sym (ap (λ (q : Footprint). q.writes) a.print),
+      within (a.access.event || d.exact s.number) (subst (λ (q : Footprint). is_in q.bytes b ≡ true) a.footprint i),
+      sym (ap (λ (q : Footprint). q.writes) a.footprint),
     )
       where
         placed : Rattle.pg_num.specs.Pointers.is_in_range a.access.pointer a.access.bytes ≡ true
         placed = subst IsPlaced a.is fine.placed
 
-        within : (fixed : Bool) → is_in (range_touched fixed a.access) b ≡ true → is_in (frame_of a.access.pointer) b ≡ true
-        within true k = in_frame a.access b placed k
+        within : (fixed : Bool) → is_in (range_touched fixed a.access) b ≡ true → is_in (bounds_of a.access.pointer) b ≡ true
+        within true k = in_bounds a.access b placed k
         within false k = k
 
     range_in : (s : Seen) (b : ℕ) (f : Footprint) (a : Access' s b f) → (a.access.event || d.exact s.number) ≡ true → is_in f.bytes b ≡ true → is_in (range_of a.access) b ≡ true
-    range_in s b f a e i = subst (λ (q : Bool). is_in (range_touched q a.access) b ≡ true) e (subst (λ (q : Footprint). is_in q.bytes b ≡ true) a.print i)
+    range_in s b f a e i = subst (λ (q : Bool). is_in (range_touched q a.access) b ≡ true) e (subst (λ (q : Footprint). is_in q.bytes b ≡ true) a.footprint i)
 
     accesses_ordered : thread_in x.moment ≢ thread_in y.moment → overlap x.moment.did y.moment.did ≡ true → (b : ℕ) (f h : Footprint) → Access' x b f → Access' y b h
         → is_in f.bytes b ≡ true → is_in h.bytes b ≡ true → (f.writes || h.writes) ≡ true → AreOrdered x.moment.did y.moment.did
     accesses_ordered ne o b f h a c i j w =
-        let u = print_has x b f fx a i in
-        let v = print_has y b h fy c j in
-        let m : Meeting (access_print x) (access_print y) b = record { first = u.0; second = v.0; has_first = u.1; has_second = v.1; in_first = u.2; in_second = v.2; writes = rw (u.3, v.3) w } in
-        let p = fixed x y fx fy ne o (meeting_conflict (access_print x) (access_print y) b m) a.access a.is in
+        let u = footprint_has x b f fx a i in
+        let v = footprint_has y b h fy c j in
+        let m : Meeting (access_footprint x) (access_footprint y) b = record { first = u.0; second = v.0; has_first = u.1; has_second = v.1;
+          in_first = u.2; in_second = v.2; writes = rw (u.3, v.3) w } in
+        let p = fixed x y fx fy ne o (meeting_conflict (access_footprint x) (access_footprint y) b m) a.access a.is in
         let q = fixed y x fy fx (λ e. ne (sym e)) (overlap_back x.moment.did y.moment.did o)
-        (meeting_conflict (access_print y) (access_print x) b (turned (access_print x) (access_print y) b m)) c.access c.is in
+        (meeting_conflict (access_footprint y) (access_footprint x) b (turned (access_footprint x) (access_footprint y) b m)) c.access c.is in
         ordered (steps_conflict x.moment.did.did y.moment.did.did a.access c.access b ne a.is c.is (range_in x b f a p i) (range_in y b h c q j)
-        (subst (λ (k : Bool). (k || c.access.writes) ≡ true) (ap (λ (k : Footprint). k.writes) a.print)
-        (subst (λ (k : Bool). (f.writes || k) ≡ true) (ap (λ (k : Footprint). k.writes) c.print) w)))
+        (subst (λ (k : Bool). (k || c.access.writes) ≡ true) (ap (λ (k : Footprint). k.writes) a.footprint)
+        (subst (λ (k : Bool). (f.writes || k) ≡ true) (ap (λ (k : Footprint). k.writes) c.footprint) w)))
 
     meeting_ordered : thread_in x.moment ≢ thread_in y.moment → (b : ℕ) → Meeting (touch_of d x) (touch_of d y) b → AreOrdered x.moment.did y.moment.did
     meeting_ordered ne b m = go (cases_Bool (overlap x.moment.did y.moment.did)) (parts x m.first m.has_first) (parts y m.second m.has_second)

@@ -1,4 +1,4 @@
--- The bytes of each access of a run lie in its pointer's frame.
+-- The bytes of each access of a run lie in its pointer's bounds.
 use Rattle.std.proofs.Common.{◌≡◌, ℕ, ℤ, ◌+◌, Bool, true, false, List, [], ◌∷◌, Option, Some, None, Result, Ok, Err, refl, subst, arith}
 use Rattle.std.specs.Prelude.{not, nat_le, nat_lt, slice_get, slice_index, ⊤, if◌then◌else◌}
 use Rattle.std.specs.List.{AllByRecursion as AllOf}
@@ -8,8 +8,8 @@ use Rattle.pg_num.specs.Pointers.{byte_place, is_aligned, is_in_range, place_of,
 use Rattle.pg_num.specs.declared.places.PlaceFault.{PlaceFault}
 use Rattle.pg_num.specs.declared.places.PlaceFault.TheVariants.{OutOfRange, Misaligned}
 use Rattle.pg_ir.specs.declared.ids.InstrId.{InstrId}
-use Rattle.pg_ir.specs.declared.known.Known.{Known}
-use Rattle.pg_ir.specs.declared.known.Known.TheVariants as known
+use Rattle.pg_ir.specs.declared.library_call.LibraryCall.{LibraryCall}
+use Rattle.pg_ir.specs.declared.library_call.LibraryCall.TheVariants as known
 use Rattle.pg_ir.specs.declared.instr.Instr.{Instr}
 use Rattle.pg_ir.specs.declared.instr.Op.{Op}
 use Rattle.pg_ir.specs.declared.instr.Op.TheVariants as op
@@ -22,13 +22,13 @@ use Rattle.pg_run_trace.specs.declared.step.Access.{Access}
 use Rattle.pg_run_trace.specs.declared.step.Step.{Step}
 use Rattle.pg_run_trace.specs.Races.{is_in}
 use Rattle.pg_run_trace.specs.Steps.{access_by, access_in, access_of, range_of}
-use Rattle.pg_run.specs.MachineStep.{instr_told, kind_told, known_told, op_told, operands_in, step, step_told, write_told}
+use Rattle.pg_run.specs.MachineStep.{instr_told, kind_told, library_told, op_told, operands_in, step, step_told, write_told}
 use Rattle.pg_run.specs.Named.{IsNamed, IsRequestNamed}
 use Rattle.pg_run.specs.Runs.{IsRun, Takes}
 use Rattle.pg_run.specs.State.{State, next_of}
 use Rattle.pg_run.proofs.Named.{next_named}
 use Rattle.pg_law_effects.proofs.Threads.{told}
-use Rattle.pg_slice_rules.specs.Freeable.{frame_of}
+use Rattle.pg_slice_rules.specs.Freeable.{bounds_of}
 
 -- an access in the range of its pointer
 abbrev pub IsPlaced : Option Access → Type 0
@@ -43,7 +43,7 @@ place_range word bytes r e = go (is_in_range word bytes) (is_aligned word bytes)
     go true c h = refl
     go false c h = absurd cc
 
-known_placed : (ns : List ℕ) (n : ℕ) (k : Known) → IsPlaced (access_in (known_told ns n k))
+known_placed : (ns : List ℕ) (n : ℕ) (k : LibraryCall) → IsPlaced (access_in (library_told ns n k))
 known_placed ns n known.Malloc = tt
 known_placed ns n k = tt
 
@@ -51,7 +51,7 @@ op_placed : (ns : List ℕ) (n : ℕ) (o : Op) → IsPlaced (access_in (op_told 
 op_placed ns n (op.CondBr c a b) = tt
 op_placed ns n (op.Switch w on other cases) = tt
 op_placed ns n (op.Alloca bytes) = tt
-op_placed ns n (op.CallKnown k args) = known_placed ns n k
+op_placed ns n (op.CallLibrary k args) = known_placed ns n k
 op_placed ns n o = tt
 
 instr_placed : (ns : List ℕ) (n : ℕ) (o : Option Instr) → IsPlaced (access_in (instr_told ns n o))
@@ -84,14 +84,14 @@ module _ (gated : List InstrId) (p : NumberedProgram) (input : List ℤ) where
   run_placed s z [] h = tt
   run_placed s z (x ∷ xs) h = (step_placed s x h.0, run_placed h.0.after z xs h.1)
 
--- such an access lies in the frame
-pub in_frame : (a : Access) (b : ℕ) → is_in_range a.pointer a.bytes ≡ true → is_in (range_of a) b ≡ true → is_in (frame_of a.pointer) b ≡ true
-in_frame a b h k =
+-- such an access lies in the bounds
+pub in_bounds : (a : Access) (b : ℕ) → is_in_range a.pointer a.bytes ≡ true → is_in (range_of a) b ≡ true → is_in (bounds_of a.pointer) b ≡ true
+in_bounds a b h k =
     let q = pointer_of a.pointer in
     let u = and_parts (nat_le (q.offset + a.bytes) q.length) (nat_le (byte_place a.pointer + a.bytes) Rattle.pg_num.specs.declared.layout.TheConstants.MEMORY_BYTES) h in
     let v = and_parts (nat_le (byte_place a.pointer) b) (nat_lt b (byte_place a.pointer + a.bytes)) k in
     let i = leb-true (q.offset + a.bytes) q.length u.0 in
     let j = leb-true (byte_place a.pointer) b v.0 in
     let l = ltb-true b (byte_place a.pointer + a.bytes) v.1 in
-    and_from (nat_le (frame_of a.pointer).start b) (nat_lt b ((frame_of a.pointer).start + (frame_of a.pointer).bytes)) (le-leb (frame_of a.pointer).start b (omega (arith, j)))
-    (lt-ltb b ((frame_of a.pointer).start + (frame_of a.pointer).bytes) (omega (arith, i, l)))
+    and_from (nat_le (bounds_of a.pointer).start b) (nat_lt b ((bounds_of a.pointer).start + (bounds_of a.pointer).bytes)) (le-leb (bounds_of a.pointer).start b (omega (arith, j)))
+    (lt-ltb b ((bounds_of a.pointer).start + (bounds_of a.pointer).bytes) (omega (arith, i, l)))

@@ -28,7 +28,7 @@ use Rattle.pg_law_runs.proofs.Deeds.{request_event, some_turn}
 use Rattle.pg_slice_rules.specs.Extents.{is_live}
 use Rattle.pg_slice_rules.specs.Known.{RunShadow, Seen, Taken, ThreadShadow, after_step, no_thread, region_of, seen_from, start_of, thread_of}
 use Rattle.pg_slice_rules.specs.Moments.{Moment, calls_of, instr_in, moments_from, thread_in}
-use Rattle.pg_slice_rules.specs.Rules.{prints_in}
+use Rattle.pg_slice_rules.specs.Rules.{footprints_in}
 use Rattle.pg_run_trace.specs.Steps.{access_in}
 use Rattle.std.specs.List.{list_any}
 use Rattle.std.specs.Prelude.{nat_lt, ◌-◌}
@@ -143,7 +143,7 @@ module _ (r : ReferenceRun) (d : Taken) (program : IsProgram r.program) (small :
 
     single_writes : is_instance d x ≡ false → (c : ℕ) → writes_cell d x c ≡ may_write r.program d n m x.region known m.did.did.kind c
     single_writes f c = ap (λ (b : Bool). if nat_lt c MEMORY_BYTES then list_any (λ g. is_written_in g c)
-        (access_touch d n (access_in m.did.did.kind) ++ (if b then prints_in x.region else [])) else is_thread (word_written (thread_in m) m.did.did.kind) (c - MEMORY_BYTES)) f
+        (access_touch d n (access_in m.did.did.kind) ++ (if b then footprints_in x.region else [])) else is_thread (word_written (thread_in m) m.did.did.kind) (c - MEMORY_BYTES)) f
 
     -- a unit changes no cells but those that it may write
     cells_same : is_live d.pinned (thread_of known (thread_in m)).extents ≡ true → (c : ℕ) → writes_cell d x c ≡ false → cell_known after c ≡ cell_known known c

@@ -2,8 +2,8 @@
 use Rattle.std.proofs.Common.{◌≡◌, ℕ, Bool, true, false, List, [], ◌∷◌, ◌++◌, length, Option, Some, None, refl, sym, ap, ◌∙◌}
 use Rattle.std.specs.Prelude.{slice_set}
 use Rattle.std.specs.List.{AllByRecursion as AllOf}
-use Rattle.pg_ir.specs.declared.known.Known.{Known}
-use Rattle.pg_ir.specs.declared.known.Known.TheVariants as known
+use Rattle.pg_ir.specs.declared.library_call.LibraryCall.{LibraryCall}
+use Rattle.pg_ir.specs.declared.library_call.LibraryCall.TheVariants as known
 use Rattle.pg_ir.specs.declared.request.Request.{Request}
 use Rattle.pg_ir.specs.declared.request.Request.TheVariants as requests
 use Rattle.pg_ir.specs.declared.value.Value.{Value}
@@ -14,7 +14,7 @@ use Rattle.pg_run_thread.specs.declared.action.Action.TheVariants as actions
 use Rattle.pg_run_thread.specs.LocalState.{fresh}
 use Rattle.pg_run_thread.specs.Operands.{argument}
 use Rattle.pg_run_thread.specs.States.{CanStep}
-use Rattle.pg_run_thread.specs.Step.{known_action, on_null, on_object, on_place, on_value, top_function}
+use Rattle.pg_run_thread.specs.Step.{library_action, on_null, on_object, on_place, on_value, top_function}
 use Rattle.pg_run_trace.specs.Kinds.{kind_of, object_of}
 use Rattle.pg_run.specs.State.{State}
 use Rattle.pg_law_effects.specs.Effect.{request_effect, thread_made}
@@ -89,7 +89,7 @@ abbrev pub IsGiven : NumberedProgram → List (Option ℕ) → List Value → �
 IsGiven p rs args i = (n : ℕ) × (argument p rs args i ≡ Some n)
 
 -- functions of which each operand is checked
-abbrev pub is_checked : Known → Bool
+abbrev pub is_checked : LibraryCall → Bool
 is_checked known.PthreadJoin = true
 is_checked known.PthreadMutexInit = true
 is_checked known.PthreadMutexLock = true
@@ -123,7 +123,7 @@ module _ (p : NumberedProgram) (t : ℕ) (h : Bool) (rs : List (Option ℕ)) (ar
       let w = value_done (argument p rs args 1) (λ b. on_value (argument p rs args 2) (λ c. act v.0 b c)) v.2 in
       let z = value_done (argument p rs args 2) (λ c. act v.0 w.0 c) w.2 in ((v.0, v.1), ((w.0, w.1), (z.0, z.1)))
 
-  pub given_args : (k : Known) → CanStep (known_action p t h rs k args) → AllOf (IsGiven p rs args) (checked k)
+  pub given_args : (k : LibraryCall) → CanStep (library_action p t h rs k args) → AllOf (IsGiven p rs args) (checked k)
   given_args known.PthreadCreate c = let g = three_given (λ w a f. on_value (argument p rs args 3) (λ n. on_place w 8 (λ r. on_null a (actions.Event (requests.Create r f n))))) c in
       (g.0, (g.1.0, (g.1.1, tt)))
   given_args known.PthreadJoin c = let g = two_given (λ n w. Rattle.pg_run_thread.specs.Step.join_at n w) c in (g.0, (g.1, tt))
@@ -164,7 +164,7 @@ module _ (p : NumberedProgram) (t : ℕ) (h : Bool) (rs zs : List (Option ℕ)) 
       ∙ ap (λ (o : Option ℕ). on_value (argument p zs args 0) (λ l. on_value o (λ m. on_value (argument p rs args 2) (λ n. act l m n)))) b
       ∙ ap (λ (o : Option ℕ). on_value (argument p zs args 0) (λ l. on_value (argument p zs args 1) (λ m. on_value o (λ n. act l m n)))) c
 
-  pub same_action : (k : Known) → is_checked k ≡ true → AllOf Same (checked k) → known_action p t h rs k args ≡ known_action p t h zs k args
+  pub same_action : (k : LibraryCall) → is_checked k ≡ true → AllOf Same (checked k) → library_action p t h rs k args ≡ library_action p t h zs k args
   same_action known.PthreadJoin c s = two_same (λ n w. Rattle.pg_run_thread.specs.Step.join_at n w) s.0 s.1.0
   same_action known.PthreadMutexInit c s = two_same (λ w a. on_object w (λ o. on_null a (actions.Event (requests.MutexInit o)))) s.0 s.1.0
   same_action known.PthreadMutexLock c s = one_same (λ w. on_object w (λ o. actions.Event (requests.Lock o))) s.0

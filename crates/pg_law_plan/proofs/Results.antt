@@ -22,7 +22,7 @@ use Rattle.pg_ir.specs.WellFormed.{BothHaveType, FitsCompare, FitsIndex, FitsOp,
 use Rattle.pg_precondition.specs.Values.{if_divided, number_of, with_both, with_one}
 use Rattle.pg_run_thread.specs.declared.action.Action.{Action}
 use Rattle.pg_run_thread.specs.declared.action.Action.TheVariants as actions
-use Rattle.pg_run_thread.specs.declared.region.Region.{Region}
+use Rattle.pg_run_thread.specs.declared.thread_memory.ThreadMemory.{ThreadMemory}
 use Rattle.pg_run_thread.specs.Compute.{chosen, computed, computes, quotient_or_zero}
 use Rattle.pg_run_thread.specs.EdgeStep.{is_set}
 use Rattle.pg_run_thread.specs.Operands.{given, number_at, operand, operands_of}
@@ -144,7 +144,7 @@ module _ (p : NumberedProgram) (program : IsProgram p) (types : List Scalar) (rs
     divides d w u v m n q e f i j h = rw (e, f) (ap (λ (k : ℕ). if_divided (d k (truncated w n))) (truncated_small w m i) ∙ ap (λ (k : ℕ). if_divided (d m k)) (truncated_small w n j)
         ∙ quotient (d m n) q h)
 
-    pub computes_number : (r : Region) (halfway : Bool) (depth used block : ℕ) (o : Op) → FitsOp p types returns result o → computes o ≡ true
+    pub computes_number : (r : ThreadMemory) (halfway : Bool) (depth used block : ℕ) (o : Op) → FitsOp p types returns result o → computes o ≡ true
         → CanStep (op_action p r halfway rs depth used block o) → (op_action p r halfway rs depth used block o ≡ actions.Local) × Computes o
     computes_number r halfway depth used block (op.Add w a b) h c k = let e = if_done (are_set p rs (a ∷ b ∷ [])) k in (rw e refl, plain (op.Add w a b) h c e)
     computes_number r halfway depth used block (op.Sub w a b) h c k = let e = if_done (are_set p rs (a ∷ b ∷ [])) k in (rw e refl, plain (op.Sub w a b) h c e)

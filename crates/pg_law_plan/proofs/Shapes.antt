@@ -2,8 +2,8 @@
 use Rattle.std.proofs.Common.{◌≡◌, ℕ, Bool, true, false, List, Option, Some, None, refl, ap}
 use Rattle.std.specs.Prelude.{if◌then◌else◌}
 use Rattle.pg_ir.specs.declared.instr.Instr.{Instr}
-use Rattle.pg_ir.specs.declared.known.Known.{Known}
-use Rattle.pg_ir.specs.declared.known.Known.TheVariants as known
+use Rattle.pg_ir.specs.declared.library_call.LibraryCall.{LibraryCall}
+use Rattle.pg_ir.specs.declared.library_call.LibraryCall.TheVariants as known
 use Rattle.pg_ir.specs.declared.request.Request.{Request}
 use Rattle.pg_ir.specs.declared.request.Request.TheVariants as requests
 use Rattle.pg_ir.specs.declared.value.Value.{Value}
@@ -12,11 +12,11 @@ use Rattle.pg_ir.specs.Signatures.{returned_by}
 use Rattle.pg_run_objects.specs.declared.reply.Reply.{Reply}
 use Rattle.pg_run_thread.specs.declared.action.Action.{Action}
 use Rattle.pg_run_thread.specs.declared.action.Action.TheVariants as actions
-use Rattle.pg_run_thread.specs.declared.region.Region.{Region}
+use Rattle.pg_run_thread.specs.declared.thread_memory.ThreadMemory.{ThreadMemory}
 use Rattle.pg_run_thread.specs.LocalState.{Frame}
 use Rattle.pg_run_thread.specs.States.{CanStep}
-use Rattle.pg_run_thread.specs.Step.{barrier_request, cut_to, known_action, known_after, known_heap, known_number, wait_request}
-use Rattle.pg_run_thread.specs.Told.{known_own}
+use Rattle.pg_run_thread.specs.Step.{barrier_request, cut_to, library_action, library_after, library_heap, library_number, wait_request}
+use Rattle.pg_run_thread.specs.Told.{library_own}
 use Rattle.pg_run_trace.specs.declared.turn.TurnKind.{TurnKind}
 use Rattle.pg_run_trace.specs.declared.turn.TurnKind.TheVariants as turns
 use Rattle.pg_run_trace.specs.declared.step.Event.{Event}
@@ -36,14 +36,14 @@ is_start turns.Start = true
 is_start k = false
 
 -- a request of function k that touches no cell: the thread goes on with the answer in its register, or stays where it is
-pub record Shape (k : Known) (h : Bool) (r : Request) : Type 0 where
+pub record Shape (k : LibraryCall) (h : Bool) (r : Request) : Type 0 where
   pub goes : Bool
-  pub frames : (fs next_fs : List Frame) → known_after h k fs next_fs ≡ (if goes then next_fs else fs)
+  pub frames : (fs next_fs : List Frame) → library_after h k fs next_fs ≡ (if goes then next_fs else fs)
   pub shadows : (p : NumberedProgram) (m : Moment) (e : Event) (argument : Shadow) (x : Instr) (calls : List (List Shadow))
       → after_event p m e (kind_of r) argument x calls ≡ (if goes then with_top (set_shadow x.result (always e.reply)) calls else calls)
-  pub own : goes ≡ true → (n : ℕ) → known_own h k n ≡ n
-  pub number : (z : Region) (n a : ℕ) → known_number z k n a ≡ cut_to (returned_by k) a
-  pub heap : (z : Region) (n : ℕ) → known_heap z k n ≡ z.heap
+  pub own : goes ≡ true → (n : ℕ) → library_own h k n ≡ n
+  pub number : (z : ThreadMemory) (n a : ℕ) → library_number z k n a ≡ cut_to (returned_by k) a
+  pub heap : (z : ThreadMemory) (n : ℕ) → library_heap z k n ≡ z.heap
   pub start : is_start (kind_of r) ≡ false
   pub answer : (s : State) (t : ℕ) (reply : Reply) → answer_of s t reply r ≡ reply.value
   pub told : (s : State) (ns : List ℕ) → write_told s ns r ≡ None
@@ -54,11 +54,11 @@ pub record Shape (k : Known) (h : Bool) (r : Request) : Type 0 where
   pub read : (t : ℕ) (e : Event) → e.write ≡ None → event_word_read t e (kind_of r) ≡ None
   pub written : (t : ℕ) (e : Event) → event_word_written t e (kind_of r) ≡ None
 
-abbrev a_shape : (k : Known) (h : Bool) (r : Request) (goes : Bool) → ((fs next_fs : List Frame) → known_after h k fs next_fs ≡ (if goes then next_fs else fs))
+abbrev a_shape : (k : LibraryCall) (h : Bool) (r : Request) (goes : Bool) → ((fs next_fs : List Frame) → library_after h k fs next_fs ≡ (if goes then next_fs else fs))
     → ((p : NumberedProgram) (m : Moment) (e : Event) (argument : Shadow) (x : Instr) (calls : List (List Shadow))
     → after_event p m e (kind_of r) argument x calls ≡ (if goes then with_top (set_shadow x.result (always e.reply)) calls else calls))
-    → (goes ≡ true → (n : ℕ) → known_own h k n ≡ n) → ((z : Region) (n a : ℕ) → known_number z k n a ≡ cut_to (returned_by k) a)
-    → ((z : Region) (n : ℕ) → known_heap z k n ≡ z.heap) → is_start (kind_of r) ≡ false
+    → (goes ≡ true → (n : ℕ) → library_own h k n ≡ n) → ((z : ThreadMemory) (n a : ℕ) → library_number z k n a ≡ cut_to (returned_by k) a)
+    → ((z : ThreadMemory) (n : ℕ) → library_heap z k n ≡ z.heap) → is_start (kind_of r) ≡ false
     → ((s : State) (t : ℕ) (reply : Reply) → answer_of s t reply r ≡ reply.value) → ((s : State) (ns : List ℕ) → write_told s ns r ≡ None)
     → ((s : State) → request_write s r ≡ None) → word_left r ≡ None → ((p : NumberedProgram) (s : State) → thread_made p s r ≡ None) → ((t : ℕ) → word_asked t r ≡ None)
     → ((t : ℕ) (e : Event) → e.write ≡ None → event_word_read t e (kind_of r) ≡ None) → ((t : ℕ) (e : Event) → event_word_written t e (kind_of r) ≡ None) → Shape k h r
@@ -148,7 +148,7 @@ shape_join h n = a_shape known.PthreadJoin h (requests.Join n None) true (λ f g
     (λ t e w. ap (λ o. if Rattle.std.specs.Prelude.is_some o then Some e.object else None) w) (λ t e. refl)
 
 -- functions that name objects, and touch no cell
-abbrev pub names_object : Known → Bool
+abbrev pub names_object : LibraryCall → Bool
 names_object known.PthreadMutexInit = true
 names_object known.PthreadMutexLock = true
 names_object known.PthreadMutexTrylock = true
@@ -165,10 +165,10 @@ names_object known.PthreadBarrierDestroy = true
 names_object k = false
 
 -- what such a call asks, where it doesn't trap
-abbrev pub Asks : Known → Bool → Action → Type 0
+abbrev pub Asks : LibraryCall → Bool → Action → Type 0
 Asks k h a = CanStep a → (r : Request) × (a ≡ actions.Event r) × Shape k h r
 
-pub shape_of : (p : NumberedProgram) (t : ℕ) (h : Bool) (rs : List (Option ℕ)) (k : Known) (args : List Value) → names_object k ≡ true → Asks k h (known_action p t h rs k args)
+pub shape_of : (p : NumberedProgram) (t : ℕ) (h : Bool) (rs : List (Option ℕ)) (k : LibraryCall) (args : List Value) → names_object k ≡ true → Asks k h (library_action p t h rs k args)
 shape_of p t h rs known.PthreadMutexInit args n = init_is (Asks known.PthreadMutexInit h) p rs args (λ o. requests.MutexInit o) (λ z c. absurd c)
     (λ o c. (requests.MutexInit o, refl, shape_MutexInit h o))
 shape_of p t h rs known.PthreadMutexLock args n = object_is (Asks known.PthreadMutexLock h) p rs args (λ o. requests.Lock o) (λ z c. absurd c) (λ o c. (requests.Lock o, refl, shape_Lock h o))

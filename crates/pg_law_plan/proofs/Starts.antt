@@ -266,7 +266,7 @@ module _ (r : ReferenceRun) (d : Taken) (input : List ℤ) (u : PlanUnit) (unit 
   wc c =
       ap (λ (k : StepKind). if nat_lt c MEMORY_BYTES then list_any (λ f. is_written_in f c) (access_touch d u.seen.number (access_in k) ++ instance_touch d u.seen) else is_thread
       (word_written (thread_in u.seen.moment) k) (c - MEMORY_BYTES)) kind0
-      ∙ ap (λ (z : Bool). if nat_lt c MEMORY_BYTES then list_any (λ f. is_written_in f c) (if z then Rattle.pg_slice_rules.specs.Rules.prints_in u.seen.region else []) else false) single
+      ∙ ap (λ (z : Bool). if nat_lt c MEMORY_BYTES then list_any (λ f. is_written_in f c) (if z then Rattle.pg_slice_rules.specs.Rules.footprints_in u.seen.region else []) else false) single
       ∙ either_false (nat_lt c MEMORY_BYTES)
 
   cw : (c : ℕ) → cell_written ef c ≡ None

@@ -14,7 +14,7 @@ use Rattle.pg_run_memory.specs.Bytes.{byte_of}
 use Rattle.pg_law_threads.specs.Effects.{or_old}
 use Rattle.pg_law_threads.specs.Plans.{Fits}
 use Rattle.pg_run_thread.specs.declared.action.Action.TheVariants as actions
-use Rattle.pg_run_thread.specs.LocalState.{region_of}
+use Rattle.pg_run_thread.specs.LocalState.{own_memory}
 use Rattle.pg_run_thread.specs.Operands.{first_four, given, operand, operands_of}
 use Rattle.pg_run_thread.specs.Step.{bytes_of, heap_after, on_place, on_value, op_after}
 use Rattle.pg_run_trace.specs.declared.step.Access.{Access}
@@ -29,8 +29,8 @@ use Rattle.pg_law_effects.specs.Effect.{Effect, RequestEffect, Write, effect_of}
 use Rattle.pg_law_effects.specs.Meets.{byte_in}
 use Rattle.pg_law_effects.specs.Views.{cell_written, objects_of, word_in}
 use Rattle.pg_slice_rules.specs.declared.decision.Decision.TheVariants.{Exact}
-use Rattle.pg_slice_rules.specs.Freeable.{frame_of}
-use Rattle.pg_slice_rules.specs.Known.{RunShadow, Taken, after_access, bytes_stored, live_by, region_of as region_at, registers_of}
+use Rattle.pg_slice_rules.specs.Freeable.{bounds_of}
+use Rattle.pg_slice_rules.specs.Known.{RunShadow, Taken, after_access, bytes_stored, live_by, region_of, registers_of}
 use Rattle.pg_slice_rules.specs.Moments.{instr_in, thread_in}
 use Rattle.pg_slice_rules.specs.Rules.{address_index, kind_in}
 use Rattle.pg_slice_rules.specs.Shadows.{Shadow, Unknown, byte_in as byte_shadow, shadow_of, stored}
@@ -74,7 +74,7 @@ module _ (r : ReferenceRun) (d : Taken) (input : List ℤ) (program : IsProgram 
         ap (λ (z : RunShadow). z.bytes) (q.unit.known
         ∙ after_live (reference_of r) d u.seen.number u.seen.moment u.seen.before q.both.x (instr_is r d input u st moves y q) (live_is r d input u st moves y q))
         ∙ ap (λ (k : StepKind). (live_by r.program d u.seen.number u.seen.moment
-        (region_at r.program r.regions u.seen.moment (instr_in r.program u.seen.moment)) q.both.x k u.seen.before).bytes) a.kind0
+        (region_of r.program r.regions u.seen.moment (instr_in r.program u.seen.moment)) q.both.x k u.seen.before).bytes) a.kind0
         ∙ ap (λ (b : Bool). bytes_stored r.program b u.seen.number t (registers_of u.seen.before (thread_in u.seen.moment)) q.both.x.op u.seen.before.bytes)
         (or_turn (d.exact u.seen.number) a.event)
         ∙ ap (λ (ks : List Shadow). bytes_stored r.program is_fixed u.seen.number t ks q.both.x.op u.seen.before.bytes) (top_known r d input u st moves y q)
@@ -116,7 +116,7 @@ module _ (r : ReferenceRun) (d : Taken) (input : List ℤ) (program : IsProgram 
                 (Some (or_old (if b then Some (byte_of n (c - (range_of t).start)) else None) m))
             here true h k = k
             here false h k = absurd (true≢false (sym h))
-        go false f i = here (is_in (frame_of t.pointer) c) i
+        go false f i = here (is_in (bounds_of t.pointer) c) i
           where
             here : (b : Bool) → b ≡ true → IsLike input (if b then Unknown (Exact u.seen.number) else u.seen.before.bytes c)
                 (Some (or_old (if is_in a.q1 c then Some (byte_of n (c - a.q1.start)) else None) m))
@@ -151,10 +151,10 @@ module _ (r : ReferenceRun) (d : Taken) (input : List ℤ) (program : IsProgram 
         (op_after r.program (running (thread_in u.seen.moment) q.both.h q.both.f q.both.fs q.both.n) q.both.x (answer r d input u st moves y q) z)) (sym e)
         (record { function = q.both.top.function; place = ap (λ (i : ℕ). i + 1) q.both.top.place; height = q.both.top.height; registers = rw no_target q.both.top.registers }, q.both.rest)
 
-    heap_same : heap_after r.program (region_of (running (thread_in u.seen.moment) q.both.h q.both.f q.both.fs q.both.n)) q.both.f.registers q.both.x.op
-        ≡ heap_after r.program (region_of (running (thread_in u.seen.moment) q.both.h q.both.f0 q.both.fs0 q.both.n)) q.both.f0.registers q.both.x.op
-    heap_same = ap (heap_after r.program (region_of (running (thread_in u.seen.moment) q.both.h q.both.f q.both.fs q.both.n)) q.both.f.registers) e
-        ∙ sym (ap (heap_after r.program (region_of (running (thread_in u.seen.moment) q.both.h q.both.f0 q.both.fs0 q.both.n)) q.both.f0.registers) e)
+    heap_same : heap_after r.program (own_memory (running (thread_in u.seen.moment) q.both.h q.both.f q.both.fs q.both.n)) q.both.f.registers q.both.x.op
+        ≡ heap_after r.program (own_memory (running (thread_in u.seen.moment) q.both.h q.both.f0 q.both.fs0 q.both.n)) q.both.f0.registers q.both.x.op
+    heap_same = ap (heap_after r.program (own_memory (running (thread_in u.seen.moment) q.both.h q.both.f q.both.fs q.both.n)) q.both.f.registers) e
+        ∙ sym (ap (heap_after r.program (own_memory (running (thread_in u.seen.moment) q.both.h q.both.f0 q.both.fs0 q.both.n)) q.both.f0.registers) e)
 
     written_in : (c : ℕ) → is_some (cell_written ef c) ≡ true → writes_cell d u.seen c ≡ true
     written_in c k = unit_writes c ∙ go (nat_lt c MEMORY_BYTES) refl (sym (ap is_some (written_is c)) ∙ k)

@@ -8,7 +8,7 @@ use Rattle.pg_num.specs.Places.{ByteRange}
 use Rattle.pg_num.specs.declared.layout.TheConstants.{MEMORY_BYTES}
 use Rattle.pg_ir.specs.declared.instr.Op.{Op}
 use Rattle.pg_ir.specs.declared.instr.Op.TheVariants as op
-use Rattle.pg_ir.specs.declared.known.Known.TheVariants as known
+use Rattle.pg_ir.specs.declared.library_call.LibraryCall.TheVariants as known
 use Rattle.pg_ir.specs.declared.request.Request.{Request}
 use Rattle.pg_ir.specs.declared.request.Request.TheVariants as requests
 use Rattle.pg_ir.specs.declared.value.Value.{Value}
@@ -20,7 +20,7 @@ use Rattle.pg_run_objects.specs.Sync as sync
 use Rattle.pg_run_objects.specs.declared.status.Status.{Status}
 use Rattle.pg_run_thread.specs.declared.action.Action.{Action}
 use Rattle.pg_run_thread.specs.declared.action.Action.TheVariants as actions
-use Rattle.pg_run_thread.specs.LocalState.{region_of}
+use Rattle.pg_run_thread.specs.LocalState.{own_memory}
 use Rattle.pg_run_thread.specs.Operands.{argument, given, operands_of}
 use Rattle.pg_run_thread.specs.States.{CanStep}
 use Rattle.pg_run_thread.specs.Step.{heap_after, on_value, op_after}
@@ -147,7 +147,7 @@ module _ (r : ReferenceRun) (d : Taken) (input : List ℤ) (program : IsProgram 
 
   -- ---- creates
 
-  module _ (args : List Value) (e : q.both.x.op ≡ op.CallKnown known.PthreadCreate args) (R : ByteRange) (g n0 n1 w0 : ℕ) (place : place_of w0 8 ≡ Ok R)
+  module _ (args : List Value) (e : q.both.x.op ≡ op.CallLibrary known.PthreadCreate args) (R : ByteRange) (g n0 n1 w0 : ℕ) (place : place_of w0 8 ≡ Ok R)
       (act0 : next_of r.program u.state (thread_in u.seen.moment) ≡ actions.Event (requests.Create R g n0))
       (act : next_of r.program st (thread_in u.seen.moment) ≡ actions.Event (requests.Create R g n1))
       (word0 : argument r.program q.both.f0.registers args 0 ≡ Some w0) (number : argument r.program q.both.f.registers args 3 ≡ Some n1) where
@@ -171,7 +171,7 @@ module _ (r : ReferenceRun) (d : Taken) (input : List ℤ) (program : IsProgram 
 
     argument_known : IsLike input (operand_at r.program q.both.ks q.both.x.op 3) (Some n1)
     argument_known = subst (λ (z : Op). IsLike input (operand_at r.program q.both.ks z 3) (Some n1)) (sym e)
-        (subst (λ (m : Option ℕ). IsLike input (operand_at r.program q.both.ks (op.CallKnown known.PthreadCreate args) 3) m) number
+        (subst (λ (m : Option ℕ). IsLike input (operand_at r.program q.both.ks (op.CallLibrary known.PthreadCreate args) 3) m) number
         (argument_like input r.program q.both.ks q.both.f.registers q.both.top.registers args 3))
 
     word_is : (c : ℕ) → nat_lt c MEMORY_BYTES ≡ false → (length u.state.sync.threads == (c - MEMORY_BYTES)) ≡ true → IsLike input (cell_known u.known c) (Some n1)
@@ -242,7 +242,7 @@ module _ (r : ReferenceRun) (d : Taken) (input : List ℤ) (program : IsProgram 
 
     pub created_fits : Fits (like input) (deed_of d u) (deed_moved r.program input st moves y)
     created_fits = event_fits r d input program u st moves y q good objects r0 r1 act0 act refl _ (known_is r d input program u st moves y q good objects r0 r1 act0 act refl)
-        (ap (heap_after r.program (region_of l) q.both.f.registers) e ∙ sym (ap (heap_after r.program (region_of l0) q.both.f0.registers) e))
+        (ap (heap_after r.program (own_memory l) q.both.f.registers) e ∙ sym (ap (heap_after r.program (own_memory l0) q.both.f0.registers) e))
         (subst (λ (z : Op). AreCallsLike input (op_after r.program l0 q.both.x (answer0 r d input u st moves y q) z)
         (set_shadow q.both.x.result (always (or_zero q.both.x.result (op_own r.program l0 q.both.f0.registers (answer0 r d input u st moves y q) z))) q.both.ks ∷ q.both.more)
         (op_after r.program l q.both.x (answer r d input u st moves y q) z)) (sym e) (
@@ -263,11 +263,11 @@ module _ (r : ReferenceRun) (d : Taken) (input : List ℤ) (program : IsProgram 
       next_of r.program u.state (thread_in u.seen.moment) ≡ actions.Event (requests.Create R g n0) → next_of r.program st (thread_in u.seen.moment) ≡ actions.Event (requests.Create R g n1) →
       argument r.program q.both.f0.registers args 0 ≡ Some w0 → argument r.program q.both.f.registers args 3 ≡ Some n1 → P
 
-  pub create_as : (args : List Value) → q.both.x.op ≡ op.CallKnown known.PthreadCreate args → (P : Type 0) → AsCreate args P → P
+  pub create_as : (args : List Value) → q.both.x.op ≡ op.CallLibrary known.PthreadCreate args → (P : Type 0) → AsCreate args P → P
   create_as args e P with_create =
       let p = r.program in
       let b = q.both in
-      let o = op.CallKnown known.PthreadCreate args in
+      let o = op.CallLibrary known.PthreadCreate args in
       let c0 = creates p b.f0.registers args (can0_at r d input u st moves y q o e) in
       let c = creates p b.f.registers args (can_at r d input u st moves y q o e) in
       let act0 = act0_at r d input u st moves y q o e ∙ c0.is in
@@ -280,14 +280,14 @@ module _ (r : ReferenceRun) (d : Taken) (input : List ℤ) (program : IsProgram 
       ∙ ap (λ (z : ℕ). actions.Event (requests.Create c0.range z c.number)) f in
       with_create c0.range c0.function c0.number c.number c0.word c0.place act0 act c0.is_word c.is_number
 
-  pub create_fits : (args : List Value) → q.both.x.op ≡ op.CallKnown known.PthreadCreate args → Fits (like input) (deed_of d u) (deed_moved r.program input st moves y)
+  pub create_fits : (args : List Value) → q.both.x.op ≡ op.CallLibrary known.PthreadCreate args → Fits (like input) (deed_of d u) (deed_moved r.program input st moves y)
   create_fits args e = create_as args e (Fits (like input) (deed_of d u) (deed_moved r.program input st moves y))
       (λ R g n0 n1 w0 place act0 act word0 number. created_fits args e R g n0 n1 w0 place act0 act word0 number)
 
   -- ---- joins
 
   module _ (cells : (c : ℕ) → reads_cell d u.seen c ≡ true → IsCellLike input (cell_known u.seen.before c) (cell_at st c)) where
-    module _ (args : List Value) (e : q.both.x.op ≡ op.CallKnown known.PthreadJoin args) (g : ℕ) (R : ByteRange) (w0 : ℕ) (place : place_of w0 8 ≡ Ok R)
+    module _ (args : List Value) (e : q.both.x.op ≡ op.CallLibrary known.PthreadJoin args) (g : ℕ) (R : ByteRange) (w0 : ℕ) (place : place_of w0 8 ≡ Ok R)
         (act0 : next_of r.program u.state (thread_in u.seen.moment) ≡ actions.Event (requests.Join g (Some R)))
         (act : next_of r.program st (thread_in u.seen.moment) ≡ actions.Event (requests.Join g (Some R)))
         (word0 : argument r.program q.both.f0.registers args 1 ≡ Some w0) where
@@ -391,7 +391,7 @@ module _ (r : ReferenceRun) (d : Taken) (input : List ℤ) (program : IsProgram 
 
       pub joined_fits : Fits (like input) (deed_of d u) (deed_moved r.program input st moves y)
       joined_fits = event_fits r d input program u st moves y q good objects rj rj act0 act refl _ (known_is r d input program u st moves y q good objects rj rj act0 act refl)
-          (ap (heap_after r.program (region_of l) q.both.f.registers) e ∙ sym (ap (heap_after r.program (region_of l0) q.both.f0.registers) e))
+          (ap (heap_after r.program (own_memory l) q.both.f.registers) e ∙ sym (ap (heap_after r.program (own_memory l0) q.both.f0.registers) e))
           (subst (λ (z : Op). AreCallsLike input (op_after r.program l0 q.both.x (answer0 r d input u st moves y q) z)
           (set_shadow q.both.x.result (always (or_zero q.both.x.result (op_own r.program l0 q.both.f0.registers (answer0 r d input u st moves y q) z))) q.both.ks ∷ q.both.more)
           (op_after r.program l q.both.x (answer r d input u st moves y q) z)) (sym e) (
@@ -417,11 +417,11 @@ module _ (r : ReferenceRun) (d : Taken) (input : List ℤ) (program : IsProgram 
         → next_of r.program st (thread_in u.seen.moment) ≡ actions.Event (requests.Join n (Some R)) →
         argument r.program q.both.f0.registers args 1 ≡ Some w0 → P
 
-    pub join_as : (args : List Value) → q.both.x.op ≡ op.CallKnown known.PthreadJoin args → (P : Type 0) → AsJoin P → AsPlacedJoin args P → P
+    pub join_as : (args : List Value) → q.both.x.op ≡ op.CallLibrary known.PthreadJoin args → (P : Type 0) → AsJoin P → AsPlacedJoin args P → P
     join_as args e P plain placed =
         let p = r.program in
         let b = q.both in
-        let o = op.CallKnown known.PthreadJoin args in
+        let o = op.CallLibrary known.PthreadJoin args in
         let n = value_done (argument p b.f0.registers args 0) (λ t. on_value (argument p b.f0.registers args 1) (λ w. join_at t w)) (can0_at r d input u st moves y q o e) in
         let w = value_done (argument p b.f0.registers args 1) (λ w. join_at n.0 w) n.2 in
         let is : join_action p b.f0.registers args ≡ join_at n.0 w.0 =
@@ -432,9 +432,9 @@ module _ (r : ReferenceRun) (d : Taken) (input : List ℤ) (program : IsProgram 
         both_acts : (a : Request) → join_action r.program q.both.f0.registers args ≡ actions.Event a → Rattle.pg_law_plan.proofs.Shapes.is_start (kind_of a) ≡ false →
             (next_of r.program u.state (thread_in u.seen.moment) ≡ actions.Event a) × (next_of r.program st (thread_in u.seen.moment) ≡ actions.Event a)
         both_acts a k s =
-            let act0 = act0_at r d input u st moves y q (op.CallKnown known.PthreadJoin args) e ∙ k in (
+            let act0 = act0_at r d input u st moves y q (op.CallLibrary known.PthreadJoin args) e ∙ k in (
               act0,
-              act_at r d input u st moves y q (op.CallKnown known.PthreadJoin args) e
+              act_at r d input u st moves y q (op.CallLibrary known.PthreadJoin args) e
                   ∙ same_action r.program (thread_in u.seen.moment) q.both.h q.both.f.registers q.both.f0.registers args known.PthreadJoin refl
                   (checked_same r d input program u st moves y q good objects known.PthreadJoin args e a act0 s) ∙ k,
             )
@@ -452,7 +452,7 @@ module _ (r : ReferenceRun) (d : Taken) (input : List ℤ) (program : IsProgram 
             let k = both_acts (requests.Join n (Some g.0)) (is ∙ there ∙ g.2) refl in
             placed n g.0 w g.1 k.0 k.1 v
 
-    pub join_fits : (args : List Value) → q.both.x.op ≡ op.CallKnown known.PthreadJoin args → Fits (like input) (deed_of d u) (deed_moved r.program input st moves y)
+    pub join_fits : (args : List Value) → q.both.x.op ≡ op.CallLibrary known.PthreadJoin args → Fits (like input) (deed_of d u) (deed_moved r.program input st moves y)
     join_fits args e = join_as args e (Fits (like input) (deed_of d u) (deed_moved r.program input st moves y))
         (λ n act0 act. shaped_fits r d input program u st moves y q good objects known.PthreadJoin args e (requests.Join n None) (requests.Join n None) act0 act refl (shape_join q.both.h n)
         (shape_join q.both.h n) (λ s. refl))

@@ -12,18 +12,18 @@ use Rattle.pg_ir.specs.declared.ids.InstrId.{InstrId}
 use Rattle.pg_ir.specs.declared.instr.Instr.{Instr}
 use Rattle.pg_ir.specs.declared.instr.Op.{Op}
 use Rattle.pg_ir.specs.declared.instr.Op.TheVariants as op
-use Rattle.pg_ir.specs.declared.known.Known.{Known}
-use Rattle.pg_ir.specs.declared.known.Known.TheVariants as known
+use Rattle.pg_ir.specs.declared.library_call.LibraryCall.{LibraryCall}
+use Rattle.pg_ir.specs.declared.library_call.LibraryCall.TheVariants as known
 use Rattle.pg_ir.specs.declared.request.Request.{Request}
 use Rattle.pg_ir.specs.declared.request.Request.TheVariants as requests
 use Rattle.pg_ir.specs.declared.value.Value.{Value}
 use Rattle.pg_run_thread.specs.Compute.{chosen}
-use Rattle.pg_run_thread.specs.LocalState.{fresh, region_of}
+use Rattle.pg_run_thread.specs.LocalState.{fresh, own_memory}
 use Rattle.pg_run_thread.specs.Operands.{operand, operands_of}
-use Rattle.pg_run_thread.specs.Step.{bytes_of, has_room, known_action, op_action, return_action, total}
+use Rattle.pg_run_thread.specs.Step.{bytes_of, has_room, library_action, op_action, return_action, total}
 use Rattle.pg_run_thread.specs.declared.action.Action.{Action}
 use Rattle.pg_run_thread.specs.declared.action.Action.TheVariants as actions
-use Rattle.pg_run_thread.specs.declared.region.Region.{Region}
+use Rattle.pg_run_thread.specs.declared.thread_memory.ThreadMemory.{ThreadMemory}
 use Rattle.pg_run_trace.specs.Steps.{access_in}
 use Rattle.pg_run_trace.specs.declared.step.Access.{Access}
 use Rattle.pg_run_trace.specs.declared.step.Step.{Step}
@@ -34,7 +34,7 @@ use Rattle.pg_run.proofs.Actions.{barrier_init_is, call_is, divided_is, edge_is,
 use Rattle.pg_run.proofs.Asks.{next_is}
 use Rattle.pg_slice_rules.specs.Known.{Taken}
 use Rattle.pg_slice_rules.specs.Moments.{thread_in}
-use Rattle.pg_slice_rules.specs.Rules.{kind_in, prints_in}
+use Rattle.pg_slice_rules.specs.Rules.{kind_in, footprints_in}
 use Rattle.pg_law_effects.specs.Effect.{answer_to, effect_of}
 use Rattle.pg_law_effects.specs.Views.{cell_at, cell_written, is_thread, objects_of}
 use Rattle.pg_law_runs.proofs.Rules.{next_fresh}
@@ -68,8 +68,8 @@ stores a = false
 abbrev IsQuiet : Action → Type 0
 IsQuiet a = stores a ≡ false
 
-quiet_known : (p : NumberedProgram) (t : ℕ) (h : Bool) (rs : List (Option ℕ)) (k : Known) (args : List Value) → (k ≡ known.PthreadCreate → ⊥) → (k ≡ known.PthreadJoin → ⊥)
-    → IsQuiet (known_action p t h rs k args)
+quiet_known : (p : NumberedProgram) (t : ℕ) (h : Bool) (rs : List (Option ℕ)) (k : LibraryCall) (args : List Value) → (k ≡ known.PthreadCreate → ⊥) → (k ≡ known.PthreadJoin → ⊥)
+    → IsQuiet (library_action p t h rs k args)
 quiet_known p t h rs known.PgIn args c j = number_is IsQuiet p rs args _ (λ n. refl) (λ n. refl)
 quiet_known p t h rs known.PgInLen args c j = refl
 quiet_known p t h rs known.PgOut args c j = number_is IsQuiet p rs args _ (λ n. refl) (λ n. refl)
@@ -107,10 +107,10 @@ quiet_return depth n = either IsQuiet (depth == 1) _ _ refl refl
 -- neither a store nor a call of a known function
 abbrev is_other : Op → Bool
 is_other (op.Store w v at) = false
-is_other (op.CallKnown k args) = false
+is_other (op.CallLibrary k args) = false
 is_other o = true
 
-quiet_op : (p : NumberedProgram) (r : Region) (h : Bool) (rs : List (Option ℕ)) (depth used block : ℕ) (o : Op) → is_other o ≡ true → IsQuiet (op_action p r h rs depth used block o)
+quiet_op : (p : NumberedProgram) (r : ThreadMemory) (h : Bool) (rs : List (Option ℕ)) (depth used block : ℕ) (o : Op) → is_other o ≡ true → IsQuiet (op_action p r h rs depth used block o)
 quiet_op p r h rs depth used block (op.Divide d w a b) n = on_value_is IsQuiet (operand p rs a) _ (λ n. refl)
     (λ m e. on_value_is IsQuiet (operand p rs b) _ (λ n. refl) (λ n f. divided_is IsQuiet (divided d w m n) (λ n. refl) refl))
 quiet_op p r h rs depth used block (op.Phi from) n = refl
@@ -125,14 +125,14 @@ quiet_op p r h rs depth used block op.Unreachable n = refl
 quiet_op p r h rs depth used block (op.Alloca bytes) n = room_is IsQuiet (has_room r (granules_for bytes)) (λ n. refl) refl
 quiet_op p r h rs depth used block (op.Load w from) n = on_value_is IsQuiet (operand p rs from) _ (λ n. refl) (λ a e. on_place_is IsQuiet a (bytes_of w) _ (λ n. refl) (λ q k. refl))
 quiet_op p r h rs depth used block (op.Store w v at) n = absurd (true≢false (sym n))
-quiet_op p r h rs depth used block (op.CallKnown k args) n = absurd (true≢false (sym n))
+quiet_op p r h rs depth used block (op.CallLibrary k args) n = absurd (true≢false (sym n))
 quiet_op p r h rs depth used block o n = on_all_is IsQuiet p rs (operands_of o) _ (λ n. refl) refl
 
 told_quiet : (ns : List ℕ) (number : ℕ) (o : Option Instr) → writes_by (access_in (instr_told ns number o)) ≡ false
 told_quiet ns number None = refl
 told_quiet ns number (Some x) = go x.op
   where
-    known_quiet : (k : Known) → writes_by (access_in (Rattle.pg_run.specs.MachineStep.known_told ns number k)) ≡ false
+    known_quiet : (k : LibraryCall) → writes_by (access_in (Rattle.pg_run.specs.MachineStep.library_told ns number k)) ≡ false
     known_quiet known.Malloc = refl
     known_quiet k = refl
 
@@ -140,7 +140,7 @@ told_quiet ns number (Some x) = go x.op
     go (op.CondBr c a b) = refl
     go (op.Switch w on other cases) = refl
     go (op.Alloca bytes) = refl
-    go (op.CallKnown k args) = known_quiet k
+    go (op.CallLibrary k args) = known_quiet k
     go o = refl
 
 asked_quiet : (gated : List InstrId) (p : NumberedProgram) (s : State) (t : ℕ) (ns : List ℕ) (answer number : ℕ) (q : Request) → asks_store q ≡ false
@@ -163,9 +163,9 @@ action_quiet gated p s t ns answer number a e = refl
 module _ (r : ReferenceRun) (d : Taken) (u : PlanUnit) (unit : Rattle.pg_law_plan.proofs.Along.IsUnit r d u) (single : is_instance d u.seen ≡ false) where
   no_write : writes_by (access_in (kind_in u.seen)) ≡ false → (c : ℕ) → nat_lt c MEMORY_BYTES ≡ true → writes_cell d u.seen c ≡ false
   no_write e c lt =
-      ap (λ (b : Bool). if b then list_any (λ f. is_written_in f c) (access_touch d u.seen.number (access_in (kind_in u.seen)) ++ (if is_instance d u.seen then prints_in u.seen.region else []))
+      ap (λ (b : Bool). if b then list_any (λ f. is_written_in f c) (access_touch d u.seen.number (access_in (kind_in u.seen)) ++ (if is_instance d u.seen then footprints_in u.seen.region else []))
       else is_thread (word_written (thread_in u.seen.moment) (kind_in u.seen)) (c - MEMORY_BYTES)) lt
-      ∙ ap (λ (b : Bool). list_any (λ f. is_written_in f c) (access_touch d u.seen.number (access_in (kind_in u.seen)) ++ (if b then prints_in u.seen.region else []))) single
+      ∙ ap (λ (b : Bool). list_any (λ f. is_written_in f c) (access_touch d u.seen.number (access_in (kind_in u.seen)) ++ (if b then footprints_in u.seen.region else []))) single
       ∙ go (access_in (kind_in u.seen)) e
     where
       go : (o : Option Access) → writes_by o ≡ false → list_any (λ f. is_written_in f c) (access_touch d u.seen.number o ++ []) ≡ false
@@ -201,22 +201,22 @@ module _ (r : ReferenceRun) (d : Taken) (input : List ℤ) (program : IsProgram 
   quiet_all : IsQuiet (next_of r.program u.state (thread_in u.seen.moment)) → WritesAll
   quiet_all e c lt h = quiet_writes r d u q.unit q.plain e c lt h (is_some (cell_written (effect_of r.program input st y.thread.0) c) ≡ true)
 
-  known_writes : (k : Known) (args : List Value) → q.both.x.op ≡ op.CallKnown k args → WritesAll
+  known_writes : (k : LibraryCall) (args : List Value) → q.both.x.op ≡ op.CallLibrary k args → WritesAll
   known_writes known.PthreadCreate args e = create_as r d input program u st moves y q good objects words args e WritesAll
       (λ R g n0 n1 w0 place act0 act word0 number. created_writes r d input program u st moves y q good objects words args e R g n0 n1 w0 place act0 act word0 number)
   known_writes known.PthreadJoin args e = join_as r d input program u st moves y q good objects words cells args e WritesAll
       (λ n act0 act. quiet_all (ap stores act0))
       (λ n R w0 place act0 act word0. joined_writes r d input program u st moves y q good objects words cells args e n R w0 place act0 act word0)
-  known_writes k args e = quiet_all (ap stores (act0_at r d input u st moves y q (op.CallKnown k args) e)
+  known_writes k args e = quiet_all (ap stores (act0_at r d input u st moves y q (op.CallLibrary k args) e)
       ∙ quiet_known r.program (thread_in u.seen.moment) q.both.h q.both.f0.registers k args (λ w. absurd cc) (λ w. absurd cc))
 
   placed_op : (o : Op) → q.both.x.op ≡ o → is_placed_access d u.seen ≡ true → WritesAll
   placed_op (op.Store w v at) e p = store_as r d input program u st moves y q good objects w v at e WritesAll
       (λ a n value writes act0 act. stored_writes r d input program u st moves y q good objects a w v at e n value writes act0 act
       (sym (ap (λ (k : StepKind). Rattle.pg_law_plan.specs.Units.is_placed_in d u.seen.number (access_in k)) a.kind0) ∙ p))
-  placed_op (op.CallKnown k args) e p = known_writes k args e
+  placed_op (op.CallLibrary k args) e p = known_writes k args e
   placed_op o e p = quiet_all (ap stores (act0_at r d input u st moves y q o e)
-      ∙ quiet_op r.program (region_of (running (thread_in u.seen.moment) q.both.h q.both.f0 q.both.fs0 q.both.n)) q.both.h q.both.f0.registers (length (q.both.f0 ∷ q.both.fs0))
+      ∙ quiet_op r.program (own_memory (running (thread_in u.seen.moment) q.both.h q.both.f0 q.both.fs0 q.both.n)) q.both.h q.both.f0.registers (length (q.both.f0 ∷ q.both.fs0))
       (total (q.both.f0 ∷ q.both.fs0)) q.both.x.block.0 o refl)
 
   pub placed_writes : is_placed_access d u.seen ≡ true → WritesAll

@@ -6,30 +6,30 @@ use Rattle.pg_run_thread.specs.LocalState.{Frame, LocalState}
 use Rattle.pg_run_trace.specs.declared.step.Step.{Step}
 use Rattle.pg_run_trace.specs.Races.{reply_in}
 use Rattle.pg_run_trace.specs.Steps.{event_of}
-use Rattle.pg_slice_rules.specs.Shadows.{Shadow, Known, Framed, Unknown}
+use Rattle.pg_slice_rules.specs.Shadows.{Shadow, Known, Bounded, Unknown}
 
 -- ---- numbers
 
--- two words have one frame: the same start, and the same length
-pub record HaveOneFrame (word n : ℕ) : Type 0 where
+-- two words have the same bounds: the same start, and the same length
+pub record HaveSameBounds (word n : ℕ) : Type 0 where
   pub start : (pointer_of n).start ≡ (pointer_of word).start
   pub length : (pointer_of n).length ≡ (pointer_of word).length
 
--- a number that is there has the frame of this word, which is there too
-abbrev pub IsInFrame : Option ℕ → Option ℕ → Type 0
-IsInFrame (Some word) (Some n) = HaveOneFrame word n
-IsInFrame _ _ = ⊥
+-- a number that is there has the bounds of this word, which is there too
+abbrev pub HasBoundsOf : Option ℕ → Option ℕ → Type 0
+HasBoundsOf (Some word) (Some n) = HaveSameBounds word n
+HasBoundsOf _ _ = ⊥
 
 -- the same of a number that may not be there, where the word isn't there either
-abbrev pub IsFramed : Option ℕ → Option ℕ → Type 0
-IsFramed word None = word ≡ None
-IsFramed word (Some n) = IsInFrame word (Some n)
+abbrev pub HasBoundsIfAny : Option ℕ → Option ℕ → Type 0
+HasBoundsIfAny word None = word ≡ None
+HasBoundsIfAny word (Some n) = HasBoundsOf word (Some n)
 
--- on this input a value, none where it was never set, is like what is known of it: a known one is that number, with that frame; of
--- another, which is set, its frame may be known, and else it may be any or none
+-- on this input a value, none where it was never set, is like what is known of it: a known one is that number, with those bounds; of
+-- another, which is set, its bounds may be known, and else it may be any or none
 abbrev pub IsLike : List ℤ → Shadow → Option ℕ → Type 0
-IsLike input (Known f g) v = (v ≡ f input) × IsFramed (g input) v
-IsLike input (Framed f x) v = IsInFrame (f input) v
+IsLike input (Known f g) v = (v ≡ f input) × HasBoundsIfAny (g input) v
+IsLike input (Bounded f x) v = HasBoundsOf (f input) v
 IsLike input (Unknown x) v = ⊤
 
 abbrev pub IsCellLike : List ℤ → Shadow → ℕ → Type 0

@@ -23,10 +23,10 @@ use Rattle.pg_run.specs.State.{State, initial}
 use Rattle.pg_run.specs.MachineStep.{step}
 use Rattle.pg_law_effects.specs.PermittedSteps.{none_taken, one_more}
 use Rattle.pg_law_effects.specs.Views.{Objects, is_thread, local_at, objects_of}
-use Rattle.pg_slice_rules.specs.Freeable.{Regions, frame_of}
+use Rattle.pg_slice_rules.specs.Freeable.{Regions, bounds_of}
 use Rattle.pg_slice_rules.specs.Known.{Reference, RunShadow, Seen, Taken, after_step, seen_in, start_of, thread_of}
 use Rattle.pg_slice_rules.specs.Moments.{moments_of, state_after, thread_in}
-use Rattle.pg_slice_rules.specs.Rules.{Footprint, has_region, kind_in, prints_in}
+use Rattle.pg_slice_rules.specs.Rules.{Footprint, has_region, kind_in, footprints_in}
 use Rattle.pg_slice_rules.specs.Shadows.{Shadow, always}
 use Rattle.pg_law_plan.specs.Likes.{PlanThread, Standing}
 
@@ -123,7 +123,7 @@ units_from r d last counts (m ∷ ms) =
 abbrev pub units_of : ReferenceRun → Taken → List PlanUnit
 units_of r d = units_from r d (last_from r (initial r.program) r.steps) none_taken (met_in r d)
 
--- ---- what a unit may touch: of an access that is exact or an event its bytes, of another its frame; of an instance the frames
+-- ---- what a unit may touch: of an access that is exact or an event its bytes, of another its bounds; of an instance the bounds
 -- of its region
 
 -- an access is at its recorded place on each admitted input: it is exact, or an event
@@ -131,7 +131,7 @@ abbrev pub is_placed : Taken → ℕ → Access → Bool
 is_placed d n a = a.event || d.exact n
 
 abbrev pub range_touched : Bool → Access → ByteRange
-range_touched fixed a = if fixed then range_of a else frame_of a.pointer
+range_touched fixed a = if fixed then range_of a else bounds_of a.pointer
 
 abbrev pub access_touch : Taken → ℕ → Option Access → List Footprint
 access_touch d n None = []
@@ -146,7 +146,7 @@ abbrev pub is_placed_access : Taken → Seen → Bool
 is_placed_access d x = is_placed_in d x.number (access_in (kind_in x))
 
 abbrev pub instance_touch : Taken → Seen → List Footprint
-instance_touch d x = if is_instance d x then prints_in x.region else []
+instance_touch d x = if is_instance d x then footprints_in x.region else []
 
 abbrev pub touch_of : Taken → Seen → List Footprint
 touch_of d x = access_touch d x.number (access_in (kind_in x)) ++ instance_touch d x

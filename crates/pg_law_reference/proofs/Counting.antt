@@ -4,8 +4,8 @@ use Rattle.std.proofs.Common.{Some, None, refl, ap, arith, length-append}
 use Rattle.std.specs.Prelude.{All, slice_get}
 use Rattle.std.specs.List.{AllByRecursion}
 use Rattle.std.proofs.lemmas.List.Elements.{All-drop, All-take, recursion_from_All}
-use Rattle.pg_ir.specs.declared.known.Known.{Known}
-use Rattle.pg_ir.specs.declared.known.Known.TheVariants.{PgIn, PgInLen}
+use Rattle.pg_ir.specs.declared.library_call.LibraryCall.{LibraryCall}
+use Rattle.pg_ir.specs.declared.library_call.LibraryCall.TheVariants.{PgIn, PgInLen}
 use Rattle.pg_ir.specs.declared.value.Value.{Value}
 use Rattle.pg_ir.specs.declared.value.Scalar.{Scalar}
 use Rattle.pg_ir.specs.declared.instr.Instr.{Instr}
@@ -95,7 +95,7 @@ call_most f args (Some xs) h ys e =
     let k : length ys ≤ times (length xs) 1 = gathered_most (λ (a : Rooted). called_access f args a a.path.root) 1 (λ a. called_most f args a a.path.root) xs ys e in
     omega (arith, k, times_one (length xs), h)
 
-known_most : (k : Known) → Most (known_accesses k) 1024
+known_most : (k : LibraryCall) → Most (known_accesses k) 1024
 known_most PgIn = empty_most 1024
 known_most PgInLen = empty_most 1024
 known_most _ = none_most 1024
@@ -114,7 +114,7 @@ module _ (m : Bool) (gated : ℕ → Bool) (sums : ℕ → Option RootedList) wh
   op_most f i (op.Load w from) h = gated_most (gated i) (one_access i false (value_path f from)) 1024 (access_most i false (value_path f from))
   op_most f i (op.Store w v at) h = gated_most (gated i) (one_access i true (value_path f at)) 1024 (access_most i true (value_path f at))
   op_most f i (op.Call g args) h = call_most f args (sums g) h
-  op_most f i (op.CallKnown k args) h = known_most k
+  op_most f i (op.CallLibrary k args) h = known_most k
   op_most f i (op.Alloca bytes) h = none_most 1024
   op_most f i (op.Ret v) h = return_most m
   op_most f i _ h = empty_most 1024

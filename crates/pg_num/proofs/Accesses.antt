@@ -1,4 +1,4 @@
--- The place of an access: an aligned range of one granule, within the pointer's frame.
+-- The place of an access: an aligned range of one granule, within the pointer's bounds.
 use Rattle.std.proofs.Common.{◌≡◌, ℕ, ◌+◌, ◌*◌, ◌/◌, ◌%◌, ◌≤◌, arith}
 use Rattle.std.specs.Prelude.{IfOk, IsTrue}
 use Rattle.std.proofs.lemmas.Bool.Decides.{nat_tests}
@@ -17,5 +17,5 @@ place_of-bytes word bytes = grind (arith, nat_tests)
 pub place_of-start : (word bytes : ℕ) → IfOk (place_of word bytes) (λ r. r.start ≡ 8 * (pointer_of word).start + (pointer_of word).offset)
 place_of-start word bytes = grind (arith, nat_tests)
 
-pub place_of-in_frame : (word bytes : ℕ) → IfOk (place_of word bytes) (λ r. r.start + r.bytes ≤ 8 * (pointer_of word).start + (pointer_of word).length)
-place_of-in_frame word bytes = grind (arith, nat_tests)
+pub place_of-in_bounds : (word bytes : ℕ) → IfOk (place_of word bytes) (λ r. r.start + r.bytes ≤ 8 * (pointer_of word).start + (pointer_of word).length)
+place_of-in_bounds word bytes = grind (arith, nat_tests)

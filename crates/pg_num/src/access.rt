@@ -12,7 +12,7 @@ use crate::pointer::unpack;
 ///
 /// # Errors
 ///
-/// `OutOfRange` where the bytes don't lie within the pointer's frame and within memory. Else `Misaligned` where the
+/// `OutOfRange` where the bytes don't lie within the pointer's bounds and within memory. Else `Misaligned` where the
 /// pointer's offset is no multiple of `bytes`.
 pub fn place(word: u64, bytes: u8) -> Result<Place, PlaceFault>
     requires { IsTrue (is_size bytes) }

@@ -3,13 +3,13 @@
 ghost use Rattle.std.specs.Prelude.{◌≡◌, ℕ, ◌+◌, ◌*◌, ◌/◌, ◌%◌, ◌^◌, ◌≤◌, ◌<◌, ℤ, pos, ◌+ℤ◌, IfOk, IsTrue};
 ghost use Rattle.pg_num.specs.Places.{ByteRange, IsPlace, IsWithinGranule, is_size};
 ghost use Rattle.pg_num.specs.Pointers.{moved_by, offset_of, place_of, pointer_of, word_of};
-ghost use Rattle.pg_num.specs.declared.layout.TheConstants.{GLOBALS_END, GRANULE_BYTES, GRANULE_COUNT, MEMORY_BYTES, REGION_GRANULES};
+ghost use Rattle.pg_num.specs.declared.layout.TheConstants.{GLOBALS_END, GRANULE_BYTES, GRANULE_COUNT, MEMORY_BYTES, THREAD_GRANULES};
 ghost use Rattle.pg_num.specs.declared.limits.TheConstants.{BOOK_LIMIT, CACHE_LIMIT, CALL_DEPTH_LIMIT, FUNCTION_LIMIT, FUNCTION_REGISTER_LIMIT, GLOBAL_LIMIT, GUIDED_STEP_LIMIT};
 ghost use Rattle.pg_num.specs.declared.limits.TheConstants.{INSTRUCTION_LIMIT, LINE_LIMIT, NESTING_LIMIT, NUMBERS_LIMIT, OBJECT_LIMIT, PROGRAM_TEXT_LIMIT, QUANTUM_LIMIT};
 ghost use Rattle.pg_num.specs.declared.limits.TheConstants.{RECORDING_STEP_LIMIT, SESSION_INPUT_LIMIT, SIZE_LIMIT, THREAD_LIMIT, THREAD_REGISTER_LIMIT};
 
-/// A move keeps the frame, which is the start and the length, and adds the number to the offset, modulo two to the 21.
-pub fn a_move_keeps_the_frame()
+/// A move keeps the bounds, which are the start and the length, and adds the number to the offset, modulo two to the 21.
+pub fn a_move_keeps_the_bounds()
     ensures start { (word : ℕ) (delta : ℤ) → (pointer_of (moved_by word delta)).start ≡ (pointer_of word).start }
     ensures length { (word : ℕ) (delta : ℤ) → (pointer_of (moved_by word delta)).length ≡ (pointer_of word).length }
     ensures offset { (word : ℕ) (delta : ℤ) → (pointer_of (moved_by word delta)).offset ≡ offset_of (pos (pointer_of word).offset +ℤ delta) }
@@ -23,25 +23,25 @@ pub fn moves_add()
 {}
 
 /// An access that has a place has as many bytes as it asks for, at a multiple of their number, within one granule,
-/// within memory and within the pointer's frame; and each place is that of an access.
+/// within memory and within the pointer's bounds; and each place is that of an access.
 pub fn an_access_is_in_one_granule()
     ensures place { (word bytes : ℕ) → IsTrue (is_size bytes) → IfOk (place_of word bytes) (λ r. IsPlace r) }
     ensures granule { (word bytes : ℕ) → IsTrue (is_size bytes) → IfOk (place_of word bytes) (λ r. IsWithinGranule (r.start / 8) (r.start % 8) r.bytes) }
     ensures bytes { (word bytes : ℕ) → IfOk (place_of word bytes) (λ r. r.bytes ≡ bytes) }
     ensures start { (word bytes : ℕ) → IfOk (place_of word bytes) (λ r. r.start ≡ 8 * (pointer_of word).start + (pointer_of word).offset) }
-    ensures frame { (word bytes : ℕ) → IfOk (place_of word bytes) (λ r. r.start + r.bytes ≤ 8 * (pointer_of word).start + (pointer_of word).length) }
+    ensures bounds { (word bytes : ℕ) → IfOk (place_of word bytes) (λ r. r.start + r.bytes ≤ 8 * (pointer_of word).start + (pointer_of word).length) }
     ensures each { (r : ByteRange) → IsPlace r
         → place_of (word_of (record { start = r.start / 8; length = 8; offset = r.start % 8 })) r.bytes ≡ Ok r }
 {}
 
-/// How memory is laid out, as numbers: the regions of all threads fill what lies behind the globals' part.
+/// How memory is laid out, as numbers: the memory of all threads fills what lies behind the globals' part.
 pub fn the_layout_is_these_numbers()
     ensures granule { GRANULE_BYTES ≡ 8 }
     ensures granules { GRANULE_COUNT ≡ 2 ^ 22 }
     ensures memory { MEMORY_BYTES ≡ 2 ^ 25 }
     ensures globals { GLOBALS_END ≡ 2 ^ 21 }
-    ensures region { REGION_GRANULES ≡ 2 ^ 15 }
-    ensures regions { GLOBALS_END + THREAD_LIMIT * REGION_GRANULES ≡ GRANULE_COUNT }
+    ensures region { THREAD_GRANULES ≡ 2 ^ 15 }
+    ensures regions { GLOBALS_END + THREAD_LIMIT * THREAD_GRANULES ≡ GRANULE_COUNT }
 {}
 
 /// The limits of a program, as numbers.

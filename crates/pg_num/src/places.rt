@@ -5,7 +5,7 @@ use std::marker::Model;
 /// Why an access has no place.
 #[derive(Clone, Copy, Debug, PartialEq, Eq)]
 pub enum PlaceFault {
-    /// The bytes don't lie within the pointer's frame, or not within memory.
+    /// The bytes don't lie within the pointer's bounds, or not within memory.
     OutOfRange,
     /// The offset is no multiple of the number of bytes.
     Misaligned,

@@ -1,4 +1,4 @@
-//! Pointers as words, with their frames.
+//! Pointers as words, with their bounds.
 
 ghost use Rattle.std.specs.Prelude.{◌≡◌, ◌<◌, ◌-◌, ◌^◌, ◌*ℤ◌, ◌≤ℤ◌, ◌<ℤ◌, pos, negsuc};
 ghost use Rattle.pg_num.specs.Numbers.{modulus, signed};
@@ -6,15 +6,15 @@ ghost use Rattle.pg_num.specs.Pointers.{IsPointer, word_of, pointer_of, moved_by
 
 use crate::width::Width;
 
-/// The parts of a pointer. The bytes from granule `start` on, `length` of them, are its frame, and `offset` is
+/// The parts of a pointer. The bytes from granule `start` on, `length` of them, are its bounds, and `offset` is
 /// where it points within them or behind them.
 #[derive(Clone, Copy, Debug, PartialEq, Eq)]
 pub struct Pointer {
-    /// The number of the granule at which the frame begins, below two to the 22.
+    /// The number of the granule at which the bounds begin, below two to the 22.
     pub start: u32,
-    /// The bytes of the frame, below two to the 21.
+    /// How many bytes lie within the bounds, below two to the 21.
     pub length: u32,
-    /// The distance from the frame's begin in bytes, below two to the 21.
+    /// The distance from the begin of the bounds in bytes, below two to the 21.
     pub offset: u32,
 }
 

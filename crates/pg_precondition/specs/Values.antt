@@ -94,7 +94,7 @@ numbers_of input nodes = numbers_behind input [] nodes
 abbrev pub meets : Test → ℕ → Bool
 meets (test.Eq m) n = n == m
 meets (test.Ne m) n = not (n == m)
-meets (test.Frame start length) n = (pointer_of n).start == start && (pointer_of n).length == length
+meets (test.Bounds start length) n = (pointer_of n).start == start && (pointer_of n).length == length
 
 abbrev pub is_met : Test → Option ℕ → Bool
 is_met t None = false

@@ -7,8 +7,8 @@ pub enum Test {
     Eq(u64),
     /// It is another number.
     Ne(u64),
-    /// It is the word of a pointer whose frame begins at this granule and has so many bytes.
-    Frame(u32, u32),
+    /// It is the word of a pointer whose bounds begin at this granule and hold so many bytes.
+    Bounds(u32, u32),
 }
 
 /// A node's number meets a test. A node without a number meets none.

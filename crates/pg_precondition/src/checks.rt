@@ -16,7 +16,7 @@ fn meets(test: Test, n: u64) -> bool
     match test {
         Test::Eq(m) => n == m,
         Test::Ne(m) => n != m,
-        Test::Frame(start, length) => {
+        Test::Bounds(start, length) => {
             let pointer = unpack(n);
             pointer.start == start && pointer.length == length
         }

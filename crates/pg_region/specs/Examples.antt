@@ -3,7 +3,7 @@ use Rattle.std.specs.Prelude.{◌≡◌, ℕ, ◌==◌, [], ◌∷◌, true, fal
 use Rattle.pg_cfg.specs.Graphs.{EdgeLists, IsReach}
 use Rattle.pg_num.specs.declared.width.Width.TheVariants.{W1, W64}
 use Rattle.pg_num.specs.declared.operations.Compare.TheVariants as compares
-use Rattle.pg_ir.specs.declared.known.Known.TheVariants as known
+use Rattle.pg_ir.specs.declared.library_call.LibraryCall.TheVariants as known
 use Rattle.pg_ir.specs.declared.instr.Op.TheVariants as op
 use Rattle.pg_ir.specs.declared.value.Scalar.TheVariants.{Int, Ptr}
 use Rattle.pg_ir.specs.declared.value.Scale.TheVariants as scale
@@ -30,7 +30,7 @@ loop_program = record {
       ∷ record { function = 0; first = record { 0 = 9 }; count = 1 }
       ∷ [];
   instrs =
-      record { op = op.CallKnown known.PgIn (value.Const 0 ∷ []); block = record { 0 = 0 }; result = Some 0 }
+      record { op = op.CallLibrary known.PgIn (value.Const 0 ∷ []); block = record { 0 = 0 }; result = Some 0 }
       ∷ record { op = op.Br (record { 0 = 1 }); block = record { 0 = 0 }; result = None }
       ∷ record {
         op = op.Phi (record { block = record { 0 = 0 }; value = value.Const 0 } ∷ record { block = record { 0 = 2 }; value = value.Register 4 } ∷ []);

@@ -2,8 +2,8 @@
 use Rattle.std.proofs.Common.{◌≡◌, ℕ, zero, suc, ◌+◌, Bool, true, false, cond, List, [], ◌∷◌, ◌++◌, Option, Some, None, refl, sym, subst, arith, inl, inr, ◌⊎◌}
 use Rattle.std.specs.Prelude.{Contains, option_map, option_and_then, slice_get}
 use Rattle.std.proofs.lemmas.List.Elements.{Contains-append_cases}
-use Rattle.pg_ir.specs.declared.known.Known.{Known}
-use Rattle.pg_ir.specs.declared.known.Known.TheVariants.{PgIn, PgInLen}
+use Rattle.pg_ir.specs.declared.library_call.LibraryCall.{LibraryCall}
+use Rattle.pg_ir.specs.declared.library_call.LibraryCall.TheVariants.{PgIn, PgInLen}
 use Rattle.pg_ir.specs.declared.value.Value.{Value}
 use Rattle.pg_ir.specs.declared.value.Value.TheVariants as value
 use Rattle.pg_ir.specs.declared.value.Index.{Index}
@@ -46,7 +46,7 @@ called_some : (f : ℕ → Option Path) (args : List Value) (o : Option RootedLi
 called_some f args None ys e = cc
 called_some f args (Some called) ys e = (called, refl)
 
-reads_input : (k : Known) (ys : RootedList) → known_accesses k ≡ Some ys → (k ≡ PgIn) ⊎ (k ≡ PgInLen)
+reads_input : (k : LibraryCall) (ys : RootedList) → known_accesses k ≡ Some ys → (k ≡ PgIn) ⊎ (k ≡ PgInLen)
 reads_input PgIn ys e = inl refl
 reads_input PgInLen ys e = inr refl
 reads_input _ ys e = absurd cc
@@ -56,7 +56,7 @@ op_quiet : (m : Bool) (gated : ℕ → Bool) (sums : ℕ → Option RootedList) 
 op_quiet m gated sums f i (op.Load w from) ys e = not_gated (gated i) (one_access i false (value_path f from)) ys e
 op_quiet m gated sums f i (op.Store w v at) ys e = not_gated (gated i) (one_access i true (value_path f at)) ys e
 op_quiet m gated sums f i (op.Call g args) ys e = called_some f args (sums g) ys e
-op_quiet m gated sums f i (op.CallKnown k args) ys e = reads_input k ys e
+op_quiet m gated sums f i (op.CallLibrary k args) ys e = reads_input k ys e
 op_quiet m gated sums f i (op.Alloca bytes) ys e = absurd cc
 op_quiet m gated sums f i (op.Ret v) ys e = may m ys e
 op_quiet m gated sums f i _ ys e = tt
@@ -194,7 +194,7 @@ module _ (is_set : ℕ → Bool) where
   gated_outside true o h ys e = absurd cc
   gated_outside false o h ys e = h ys e
 
-  known_outside : (k : Known) (ys : RootedList) → known_accesses k ≡ Some ys → AllOutside ys
+  known_outside : (k : LibraryCall) (ys : RootedList) → known_accesses k ≡ Some ys → AllOutside ys
   known_outside PgIn ys e = none_outside ys e
   known_outside PgInLen ys e = none_outside ys e
   known_outside _ ys e = absurd cc
@@ -208,7 +208,7 @@ module _ (is_set : ℕ → Bool) where
   op_outside m gated sums f h i (op.Load w from) ys e = gated_outside (gated i) (one_access i false (value_path f from)) (access_outside i false (value_path f from) (value_outside f h from)) ys e
   op_outside m gated sums f h i (op.Store w v at) ys e = gated_outside (gated i) (one_access i true (value_path f at)) (access_outside i true (value_path f at) (value_outside f h at)) ys e
   op_outside m gated sums f h i (op.Call g args) ys e = summary_outside f h args (sums g) ys e
-  op_outside m gated sums f h i (op.CallKnown k args) ys e = known_outside k ys e
+  op_outside m gated sums f h i (op.CallLibrary k args) ys e = known_outside k ys e
   op_outside m gated sums f h i (op.Alloca bytes) ys e = absurd cc
   op_outside m gated sums f h i (op.Ret v) ys e = return_outside m ys e
   op_outside m gated sums f h i _ ys e = none_outside ys e

@@ -2,8 +2,8 @@
 use Rattle.std.specs.Prelude.{ℕ, ◌+◌, ◌==◌, List, [], ◌∷◌, ◌++◌, Bool, true, false, Option, Some, None, slice_get, if◌then◌else◌}
 use Rattle.std.specs.List.{list_any}
 use Rattle.pg_ir.specs.declared.ids.InstrId.{InstrId}
-use Rattle.pg_ir.specs.declared.known.Known.{Known}
-use Rattle.pg_ir.specs.declared.known.Known.TheVariants.{PgIn, PgInLen}
+use Rattle.pg_ir.specs.declared.library_call.LibraryCall.{LibraryCall}
+use Rattle.pg_ir.specs.declared.library_call.LibraryCall.TheVariants.{PgIn, PgInLen}
 use Rattle.pg_ir.specs.declared.value.Value.{Value}
 use Rattle.pg_ir.specs.declared.value.Scalar.{Scalar}
 use Rattle.pg_ir.specs.declared.instr.Instr.{Instr}
@@ -78,7 +78,7 @@ called_accesses f args None = None
 called_accesses f args (Some xs) = gathered (λ (a : Rooted). called_access f args a a.path.root) xs
 
 -- calls of other functions than the program's own: only those that read the input are quiet
-abbrev pub known_accesses : Known → Option RootedList
+abbrev pub known_accesses : LibraryCall → Option RootedList
 known_accesses PgIn = Some []
 known_accesses PgInLen = Some []
 known_accesses k = None
@@ -89,7 +89,7 @@ abbrev pub op_accesses : Bool → (ℕ → Bool) → (ℕ → Option RootedList)
 op_accesses may_return gated sums f i (op.Load w from) = if gated i then None else one_access i false (value_path f from)
 op_accesses may_return gated sums f i (op.Store w v at) = if gated i then None else one_access i true (value_path f at)
 op_accesses may_return gated sums f i (op.Call g args) = called_accesses f args (sums g)
-op_accesses may_return gated sums f i (op.CallKnown k args) = known_accesses k
+op_accesses may_return gated sums f i (op.CallLibrary k args) = known_accesses k
 op_accesses may_return gated sums f i (op.Alloca bytes) = None
 op_accesses may_return gated sums f i (op.Ret v) = if may_return then Some [] else None
 op_accesses may_return gated sums f i _ = Some []

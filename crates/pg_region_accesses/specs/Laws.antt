@@ -1,6 +1,6 @@
 -- Laws on what sets of blocks access.
 use Rattle.std.specs.Prelude.{◌≡◌, ℕ, ◌+◌, ◌⊎◌, List, Bool, true, false, Option, Some, Contains, slice_get}
-use Rattle.pg_ir.specs.declared.known.Known.TheVariants.{PgIn, PgInLen}
+use Rattle.pg_ir.specs.declared.library_call.LibraryCall.TheVariants.{PgIn, PgInLen}
 use Rattle.pg_ir.specs.declared.instr.Instr.{Instr}
 use Rattle.pg_ir.specs.declared.instr.Op.{Op}
 use Rattle.pg_ir.specs.declared.instr.Op.TheVariants as op
@@ -27,7 +27,7 @@ abbrev pub IsQuiet : Bool → (ℕ → Bool) → (ℕ → Option RootedList) →
 IsQuiet may_return gated sums i (op.Load w from) = gated i ≡ false
 IsQuiet may_return gated sums i (op.Store w v at) = gated i ≡ false
 IsQuiet may_return gated sums i (op.Call g args) = (called : RootedList) × (sums g ≡ Some called)
-IsQuiet may_return gated sums i (op.CallKnown k args) = (k ≡ PgIn) ⊎ (k ≡ PgInLen)
+IsQuiet may_return gated sums i (op.CallLibrary k args) = (k ≡ PgIn) ⊎ (k ≡ PgInLen)
 IsQuiet may_return gated sums i (op.Alloca bytes) = ⊥
 IsQuiet may_return gated sums i (op.Ret v) = may_return ≡ true
 IsQuiet may_return gated sums i _ = Unit {0}

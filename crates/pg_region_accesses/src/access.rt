@@ -2,14 +2,14 @@
 
 ghost use Rattle.std.specs.Prelude.{◌≡◌, Some, IfOk, is_some};
 ghost use Rattle.std.specs.Option.{option_copied};
-ghost use Rattle.pg_region_paths.specs.Known.{path_in};
+ghost use Rattle.pg_region_paths.specs.RootPaths.{path_in};
 ghost use Rattle.pg_region_accesses.specs.Accesses.{one_access, behind_argument, called_access, called_accesses, known_accesses, op_accesses, summary_of};
 ghost use Rattle.pg_region_accesses.specs.Appends.{Appends};
 ghost use Rattle.pg_region_accesses.specs.Tables.{in_table};
 
 use crate::rooted::{Rooted, Summary};
 use pg_ir::{InstrId, Op, Value};
-use pg_region_paths::{Known, Path, Root};
+use pg_region_paths::{Path, Root, RootPaths};
 use std::alloc::AllocError;
 
 /// Adds the access of an instruction, if its pointer has a path.
@@ -35,7 +35,7 @@ fn push_access(
 /// Adds an access of a callee whose path begins at a parameter, by the argument of the call.
 fn push_behind(
     accesses: &mut Vec<Rooted>,
-    known: &Known,
+    known: &RootPaths,
     access: Rooted,
     argument: Option<Value>,
 ) -> Result<bool, AllocError>
@@ -62,7 +62,7 @@ fn push_behind(
 /// Adds an access of a callee in the place of the call.
 fn push_called(
     accesses: &mut Vec<Rooted>,
-    known: &Known,
+    known: &RootPaths,
     args: &[Value],
     access: Rooted,
 ) -> Result<bool, AllocError>
@@ -84,7 +84,7 @@ fn push_called(
 /// Adds the accesses of a callee in the place of the call.
 fn push_each_called(
     accesses: &mut Vec<Rooted>,
-    known: &Known,
+    known: &RootPaths,
     args: &[Value],
     called: &[Rooted],
 ) -> Result<bool, AllocError>
@@ -119,11 +119,11 @@ fn is_gated(gated: &[bool], instr: InstrId) -> bool
 }
 
 /// Whether a call of a function that the program doesn't define is quiet: those that read the input are.
-fn is_quiet(function: pg_ir::Known) -> bool
+fn is_quiet(function: pg_ir::LibraryCall) -> bool
     ensures { result ≡ is_some (known_accesses function) }
 {
     match function {
-        pg_ir::Known::PgIn | pg_ir::Known::PgInLen => true,
+        pg_ir::LibraryCall::PgIn | pg_ir::LibraryCall::PgInLen => true,
         _ => false,
     }
 }
@@ -134,7 +134,7 @@ pub(crate) fn push_op(
     may_return: bool,
     gated: &[bool],
     sums: &[Option<Summary>],
-    known: &Known,
+    known: &RootPaths,
     instr: InstrId,
     op: &Op,
 ) -> Result<bool, AllocError>
@@ -157,7 +157,7 @@ pub(crate) fn push_op(
             Some(called) => push_each_called(accesses, known, args.as_slice(), called),
             None => Ok(false),
         },
-        Op::CallKnown { function, .. } => Ok(is_quiet(*function)),
+        Op::CallLibrary { function, .. } => Ok(is_quiet(*function)),
         Op::Alloca { .. } => Ok(false),
         Op::Ret { .. } => Ok(may_return),
         _ => Ok(true),

@@ -2,7 +2,7 @@
 
 ghost use Rattle.std.specs.Prelude.{◌≡◌, ℕ, ◌<◌, ◌≤◌, length, All, IfOk, OnOk, IfSome, option_map, if◌then◌else◌};
 ghost use Rattle.pg_num.specs.declared.limits.TheConstants.{FUNCTION_REGISTER_LIMIT};
-ghost use Rattle.pg_region_paths.specs.Known.{path_in, set_in, count_in};
+ghost use Rattle.pg_region_paths.specs.RootPaths.{path_in, set_in, count_in};
 ghost use Rattle.pg_region_paths.specs.Fits.{FitsGep};
 ghost use Rattle.pg_region_paths.specs.Registers.{is_register, has_pointer, path_by};
 ghost use Rattle.pg_region_accesses.specs.Accesses.{block_accesses, op_accesses, set_accesses, summary_of};
@@ -16,7 +16,7 @@ use crate::register_sets::{none_of, sets_of};
 use crate::rooted::{Rooted, Summary};
 use pg_ir::{BlockNo, Instr, InstrId, Program, Scalar};
 use pg_num::limits::FUNCTION_REGISTER_LIMIT;
-use pg_region_paths::Known;
+use pg_region_paths::RootPaths;
 use std::alloc::{AllocError, Global};
 
 /// Adds what an instruction accesses, passes it, and gives whether it is quiet; a return is where `may_return` says so.
@@ -25,7 +25,7 @@ fn push_instr(
     may_return: bool,
     gated: &[bool],
     sums: &[Option<Summary>],
-    known: &mut Known,
+    known: &mut RootPaths,
     types: &[Scalar],
     id: InstrId,
     instr: &Instr,
@@ -50,7 +50,7 @@ pub(crate) fn push_block(
     may_return: bool,
     gated: &[bool],
     sums: &[Option<Summary>],
-    known: &mut Known,
+    known: &mut RootPaths,
     b: BlockNo,
 ) -> Result<bool, AllocError>
     requires block { b.0 < length p.now.blocks }
@@ -89,7 +89,7 @@ pub fn accesses_of(
     ensures { IfOk result (λ accesses. option_map (λ v. v.items) accesses ≡ set_accesses may_return p.now (in_table gated.now) (summary_of sums.now) blocks.now) }
 {
     let set = sets_of(alloc, p, blocks)?;
-    let mut known = Known::new(alloc, set)?;
+    let mut known = RootPaths::new(alloc, set)?;
     let mut accesses = Vec::new(alloc);
     for b in blocks {
         if !push_block(
@@ -117,7 +117,7 @@ pub fn loud_blocks(
     ensures { IfOk result (λ loud. (length loud.items ≡ length p.now.blocks) × AreLoud p.now (in_table gated.now) (summary_of sums.now) loud.items) }
 {
     let unset = none_of(alloc, FUNCTION_REGISTER_LIMIT as usize)?;
-    let mut known = Known::new(alloc, unset)?;
+    let mut known = RootPaths::new(alloc, unset)?;
     let mut accesses = Vec::new(alloc);
     let mut loud = Vec::new(alloc);
     for b in 0..block_count(p) {

@@ -5,7 +5,7 @@ use Rattle.std.specs.Prelude.{slice_get, slice_set}
 use Rattle.std.proofs.lemmas.Bool.{cases_eq, eq-eqb, ne_eqb}
 use Rattle.pg_region_paths.specs.declared.entry.Entry.{Entry}
 use Rattle.pg_region_paths.specs.declared.path.Path.{Path}
-use Rattle.pg_region_paths.specs.Known.{root_at, entry_path, IsPast, ArePast}
+use Rattle.pg_region_paths.specs.RootPaths.{root_at, entry_path, IsPast, ArePast}
 
 pub past_none : (n : ℕ) (e : Entry) (t : ℕ) → e.turn ≤ t → ArePast (replicate n e) t
 past_none n e t le = record { past = λ r. go n r }

@@ -44,10 +44,10 @@ followed_from memory word (k ∷ ks) = option_and_then (λ cell. behind word cel
 abbrev pub followed : NumberedProgram → (ℕ → Option ℕ) → (ByteRange → ℕ) → RootPath → Option Followed
 followed p registers memory path = option_and_then (λ word. followed_from memory word (offsets_of path.loads)) (root_value p registers path.root)
 
--- the bytes of a pointer's frame, from its start on
-pub record Frame : Type 0 where
+-- the bytes within a pointer's bounds, from its start on
+pub record Bounds : Type 0 where
   pub start : ℕ
   pub length : ℕ
 
-abbrev pub frame_of : ℕ → Frame
-frame_of word = record { start = (pointer_of word).start; length = (pointer_of word).length }
+abbrev pub bounds_of : ℕ → Bounds
+bounds_of word = record { start = (pointer_of word).start; length = (pointer_of word).length }

@@ -1,6 +1,6 @@
 pub mod Paths
 pub mod Registers
 pub mod Followed
-pub mod Known
+pub mod RootPaths
 pub mod Fits
 pub mod Relation

@@ -2,10 +2,10 @@
 #![tactic(auto)]
 
 mod entry;
-mod known;
 pub mod laws;
 mod path;
+mod root_paths;
 
 pub use entry::Entry;
-pub use known::Known;
 pub use path::{Loads, Path, Root, RootPath};
+pub use root_paths::RootPaths;

@@ -3,8 +3,8 @@ use Rattle.std.proofs.Common.{◌≡◌, ℕ, zero, suc, ◌+◌, ◌<◌, ◌�
 use Rattle.std.proofs.Common.{sym, ap, ◌∙◌, subst, arith, length-append}
 use Rattle.std.specs.Prelude.{nat_le, slice_get}
 use Rattle.std.proofs.lemmas.Bool.{leb-true, leb-false, le-leb, lt-leb}
-use Rattle.pg_ir.specs.declared.known.Known.{Known}
-use Rattle.pg_ir.specs.declared.known.Known.TheVariants.{PgIn, PgInLen}
+use Rattle.pg_ir.specs.declared.library_call.LibraryCall.{LibraryCall}
+use Rattle.pg_ir.specs.declared.library_call.LibraryCall.TheVariants.{PgIn, PgInLen}
 use Rattle.pg_ir.specs.declared.value.Value.{Value}
 use Rattle.pg_ir.specs.declared.value.Scalar.{Scalar}
 use Rattle.pg_ir.specs.declared.instr.Instr.{Instr}
@@ -85,7 +85,7 @@ call_sized : (f : ℕ → Option Path) (args : List Value) (o : Option RootedLis
 call_sized f args None = nothing_sized 0
 call_sized f args (Some xs) = gathered_sized (λ (a : Rooted). called_access f args a a.path.root) (λ a. called_sized f args a a.path.root) xs
 
-known_sized : (k : Known) → Sized (known_accesses k) 0
+known_sized : (k : LibraryCall) → Sized (known_accesses k) 0
 known_sized PgIn = none_sized
 known_sized PgInLen = none_sized
 known_sized _ = nothing_sized 0
@@ -99,7 +99,7 @@ module _ (m : Bool) (gated : ℕ → Bool) (sums : ℕ → Option RootedList) wh
   op_sized f i (op.Load w from) = gated_sized (gated i) (one_access i false (value_path f from)) 1 (access_sized i false (value_path f from))
   op_sized f i (op.Store w v at) = gated_sized (gated i) (one_access i true (value_path f at)) 1 (access_sized i true (value_path f at))
   op_sized f i (op.Call g args) = call_sized f args (sums g)
-  op_sized f i (op.CallKnown k args) = known_sized k
+  op_sized f i (op.CallLibrary k args) = known_sized k
   op_sized f i (op.Alloca bytes) = nothing_sized 0
   op_sized f i (op.Ret v) = return_sized m
   op_sized f i _ = none_sized

@@ -3,8 +3,8 @@ use Rattle.std.proofs.Common.{◌≡◌, ℕ, zero, suc, ◌+◌, ◌≤◌, ◌
 use Rattle.std.specs.Prelude.{slice_get}
 use Rattle.std.specs.List.{list_any}
 use Rattle.std.proofs.lemmas.Bool.{eq-eqb, eqb-true}
-use Rattle.pg_ir.specs.declared.known.Known.{Known}
-use Rattle.pg_ir.specs.declared.known.Known.TheVariants.{PthreadCreate}
+use Rattle.pg_ir.specs.declared.library_call.LibraryCall.{LibraryCall}
+use Rattle.pg_ir.specs.declared.library_call.LibraryCall.TheVariants.{PthreadCreate}
 use Rattle.pg_ir.specs.declared.value.Value.{Value}
 use Rattle.pg_ir.specs.declared.value.Value.TheVariants as value
 use Rattle.pg_ir.specs.declared.instr.Instr.{Instr}
@@ -58,12 +58,12 @@ any_some f (y ∷ xs) e = go (f y) refl e (λ q. any_some f xs q)
     go true q t h = (0, y, refl, q)
     go false q t h = let r = h t in (suc r.0, r.1, r.2, r.3)
 
-known_names : (f : ℕ) (k : Known) (args : List Value) → NamesStarted f (op.CallKnown k args) → is_register (op_starts (op.CallKnown k args)) f ≡ true
+known_names : (f : ℕ) (k : LibraryCall) (args : List Value) → NamesStarted f (op.CallLibrary k args) → is_register (op_starts (op.CallLibrary k args)) f ≡ true
 known_names f PthreadCreate args e = rw e (eq-eqb f f refl)
 known_names f _ args e = absurd e
 
 names : (f : ℕ) (o : Op) → NamesStarted f o → is_register (op_starts o) f ≡ true
-names f (op.CallKnown k args) e = known_names f k args e
+names f (op.CallLibrary k args) e = known_names f k args e
 names f _ e = absurd e
 
 value_named : (f : ℕ) (o : Option Value) → is_register (named o) f ≡ true → o ≡ Some (value.Function f)
@@ -73,12 +73,12 @@ value_named f (Some (value.Register r)) e = absurd cc
 value_named f (Some (value.Const n)) e = absurd cc
 value_named f (Some (value.Global g)) e = absurd cc
 
-known_named : (f : ℕ) (k : Known) (args : List Value) → is_register (op_starts (op.CallKnown k args)) f ≡ true → NamesStarted f (op.CallKnown k args)
+known_named : (f : ℕ) (k : LibraryCall) (args : List Value) → is_register (op_starts (op.CallLibrary k args)) f ≡ true → NamesStarted f (op.CallLibrary k args)
 known_named f PthreadCreate args e = value_named f (slice_get args 2) e
 known_named f _ args e = absurd cc
 
 op_named : (f : ℕ) (o : Op) → is_register (op_starts o) f ≡ true → NamesStarted f o
-op_named f (op.CallKnown k args) e = known_named f k args e
+op_named f (op.CallLibrary k args) e = known_named f k args e
 op_named f _ e = absurd cc
 
 pub started_true : (p : NumberedProgram) (f : ℕ) → IsStarted p f → is_started p f ≡ true

@@ -1,6 +1,6 @@
 -- Which functions call which, and which begin threads.
 use Rattle.std.specs.Prelude.{◌≡◌, ◌≢◌, ℕ, ◌⊎◌, Some, slice_get}
-use Rattle.pg_ir.specs.declared.known.Known.TheVariants.{PthreadCreate}
+use Rattle.pg_ir.specs.declared.library_call.LibraryCall.TheVariants.{PthreadCreate}
 use Rattle.pg_ir.specs.declared.value.Value.TheVariants as value
 use Rattle.pg_ir.specs.declared.instr.Instr.{Instr}
 use Rattle.pg_ir.specs.declared.instr.Op.{Op}
@@ -25,7 +25,7 @@ pub data CallsReach (p : NumberedProgram) (f : ℕ) : ℕ → Type 0 where
   further : {g h : ℕ} → CallsReach p f g → Calls p g h → CallsReach p f h
 
 abbrev pub NamesStarted : ℕ → Op → Type 0
-NamesStarted f (op.CallKnown PthreadCreate args) = slice_get args 2 ≡ Some (value.Function f)
+NamesStarted f (op.CallLibrary PthreadCreate args) = slice_get args 2 ≡ Some (value.Function f)
 NamesStarted f _ = ⊥
 
 -- a create names the function

@@ -1,7 +1,7 @@
 -- The functions that creates name.
 use Rattle.std.specs.Prelude.{ℕ, Bool, Option, Some, None, slice_get}
 use Rattle.std.specs.List.{list_any}
-use Rattle.pg_ir.specs.declared.known.Known.TheVariants.{PthreadCreate}
+use Rattle.pg_ir.specs.declared.library_call.LibraryCall.TheVariants.{PthreadCreate}
 use Rattle.pg_ir.specs.declared.value.Value.{Value}
 use Rattle.pg_ir.specs.declared.value.Value.TheVariants as value
 use Rattle.pg_ir.specs.declared.instr.Instr.{Instr}
@@ -16,7 +16,7 @@ named _ = None
 
 -- the function with which a thread begins that the operation makes, if it makes one
 abbrev pub op_starts : Op → Option ℕ
-op_starts (op.CallKnown PthreadCreate args) = named (slice_get args 2)
+op_starts (op.CallLibrary PthreadCreate args) = named (slice_get args 2)
 op_starts _ = None
 
 unfoldable pub is_started : NumberedProgram → ℕ → Bool

@@ -6,15 +6,15 @@ ghost use Rattle.pg_region_accesses.specs.Tables.{in_table};
 ghost use Rattle.pg_region_paths.specs.Registers.{is_register};
 ghost use Rattle.pg_region_summaries.specs.Creates.{op_starts, is_started};
 
-use pg_ir::{InstrId, Known, Op, Program, Value};
+use pg_ir::{InstrId, LibraryCall, Op, Program, Value};
 use std::alloc::{AllocError, Global};
 
 /// The function with which a thread begins that an operation makes, if it makes one.
 fn started_by(op: &Op) -> Option<u32>
     ensures { result ≡ op_starts op.now }
 {
-    let Op::CallKnown {
-        function: Known::PthreadCreate,
+    let Op::CallLibrary {
+        function: LibraryCall::PthreadCreate,
         args,
     } = op
     else {

@@ -6,8 +6,8 @@ use Rattle.pg_num.specs.Numbers.{modulus, divided}
 use Rattle.pg_num.specs.Places.{ByteRange}
 use Rattle.pg_num.specs.declared.width.Width.{Width}
 use Rattle.pg_num.specs.declared.width.Width.TheVariants.{W1, W8, W16, W32, W64}
-use Rattle.pg_ir.specs.declared.known.Known.{Known}
-use Rattle.pg_ir.specs.declared.known.Known.TheVariants as known
+use Rattle.pg_ir.specs.declared.library_call.LibraryCall.{LibraryCall}
+use Rattle.pg_ir.specs.declared.library_call.LibraryCall.TheVariants as known
 use Rattle.pg_ir.specs.declared.value.Scalar.{Scalar}
 use Rattle.pg_ir.specs.declared.value.Scalar.TheVariants.{Int, Ptr}
 use Rattle.pg_ir.specs.declared.value.Value.{Value}
@@ -16,13 +16,13 @@ use Rattle.pg_ir.specs.declared.instr.Op.{Op}
 use Rattle.pg_ir.specs.declared.instr.Op.TheVariants as op
 use Rattle.pg_ir.specs.declared.instr.Instr.{Instr}
 use Rattle.pg_ir.specs.Program.{NumberedProgram, types_of, function_of, result_of}
-use Rattle.pg_ir.specs.WellFormed.{IsProgram, FitsOp, FitsStored, FitKnown, FitCreate, StartsThread, BeginsThread, type_at}
-use Rattle.pg_run_thread.specs.declared.region.Region.{Region}
-use Rattle.pg_run_thread.specs.LocalState.{Frame, LocalState, region_of}
+use Rattle.pg_ir.specs.WellFormed.{IsProgram, FitsOp, FitsStored, FitLibraryCall, FitCreate, StartsThread, BeginsThread, type_at}
+use Rattle.pg_run_thread.specs.declared.thread_memory.ThreadMemory.{ThreadMemory}
+use Rattle.pg_run_thread.specs.LocalState.{Frame, LocalState, own_memory}
 use Rattle.pg_run_thread.specs.Operands.{operand, argument, given, operands_of}
 use Rattle.pg_run_thread.specs.Compute.{chosen}
 use Rattle.pg_run_thread.specs.EdgeStep.{case_of}
-use Rattle.pg_run_thread.specs.Step.{next, frames_action, instr_action, op_action, known_action, return_action, returning_action, bytes_of, total, has_room}
+use Rattle.pg_run_thread.specs.Step.{next, frames_action, instr_action, op_action, library_action, return_action, returning_action, bytes_of, total, has_room}
 use Rattle.pg_run_thread.specs.States.{IsOf, AreFramesOf, AreValuesOf, StandsAt}
 use Rattle.pg_run_thread.proofs.Typed.{typed_number}
 use Rattle.pg_ir.specs.WellFormed.{granules_for}
@@ -70,32 +70,32 @@ third_begins p types rs (a ∷ b ∷ g ∷ c ∷ d ∷ more) f h e = absurd h
 
 -- ---- calls of known functions
 
-known_fits : (p : NumberedProgram) (types : List Scalar) (t : ℕ) (halfway : Bool) (rs : List (Option ℕ)) (k : Known) (args : List Value) → FitKnown p types k args
-    → ActionFits p (known_action p t halfway rs k args)
-known_fits p types t halfway rs known.PgIn args h = number_is (ActionFits p) p rs args _ (traps_fit p) (λ n. tt)
-known_fits p types t halfway rs known.PgInLen args h = tt
-known_fits p types t halfway rs known.PgOut args h = number_is (ActionFits p) p rs args _ (traps_fit p) (λ n. tt)
-known_fits p types t halfway rs known.Putchar args h = number_is (ActionFits p) p rs args _ (traps_fit p) (λ n. tt)
-known_fits p types t halfway rs known.Malloc args h = number_is (ActionFits p) p rs args _ (traps_fit p) (λ n. tt)
-known_fits p types t halfway rs known.Free args h = number_is (ActionFits p) p rs args _ (traps_fit p) (λ n. tt)
-known_fits p types t halfway rs known.PthreadCreate args h = create_is (ActionFits p) p rs args (traps_fit p) (λ r f n k e. (third_begins p types rs args f h e, k))
-known_fits p types t halfway rs known.PthreadJoin args h = join_is (ActionFits p) p rs args (traps_fit p) (λ n. tt) (λ n r k. k)
-known_fits p types t halfway rs known.PthreadExit args h = number_is (ActionFits p) p rs args _ (traps_fit p) (λ n. tt)
-known_fits p types t halfway rs known.PthreadMutexInit args h = init_is (ActionFits p) p rs args _ (traps_fit p) (λ o. tt)
-known_fits p types t halfway rs known.PthreadMutexLock args h = object_is (ActionFits p) p rs args _ (traps_fit p) (λ o. tt)
-known_fits p types t halfway rs known.PthreadMutexTrylock args h = object_is (ActionFits p) p rs args _ (traps_fit p) (λ o. tt)
-known_fits p types t halfway rs known.PthreadMutexUnlock args h = object_is (ActionFits p) p rs args _ (traps_fit p) (λ o. tt)
-known_fits p types t halfway rs known.PthreadMutexDestroy args h = object_is (ActionFits p) p rs args _ (traps_fit p) (λ o. tt)
-known_fits p types t halfway rs known.PthreadCondInit args h = init_is (ActionFits p) p rs args _ (traps_fit p) (λ o. tt)
-known_fits p types t true rs known.PthreadCondWait args h = wait_is (ActionFits p) p true rs args (traps_fit p) (λ c m. tt)
-known_fits p types t false rs known.PthreadCondWait args h = wait_is (ActionFits p) p false rs args (traps_fit p) (λ c m. tt)
-known_fits p types t halfway rs known.PthreadCondSignal args h = object_is (ActionFits p) p rs args _ (traps_fit p) (λ o. tt)
-known_fits p types t halfway rs known.PthreadCondBroadcast args h = object_is (ActionFits p) p rs args _ (traps_fit p) (λ o. tt)
-known_fits p types t halfway rs known.PthreadCondDestroy args h = object_is (ActionFits p) p rs args _ (traps_fit p) (λ o. tt)
-known_fits p types t halfway rs known.PthreadBarrierInit args h = barrier_init_is (ActionFits p) p rs args (traps_fit p) (λ o n. tt)
-known_fits p types t true rs known.PthreadBarrierWait args h = object_is (ActionFits p) p rs args _ (traps_fit p) (λ o. tt)
-known_fits p types t false rs known.PthreadBarrierWait args h = object_is (ActionFits p) p rs args _ (traps_fit p) (λ o. tt)
-known_fits p types t halfway rs known.PthreadBarrierDestroy args h = object_is (ActionFits p) p rs args _ (traps_fit p) (λ o. tt)
+library_fits : (p : NumberedProgram) (types : List Scalar) (t : ℕ) (halfway : Bool) (rs : List (Option ℕ)) (k : LibraryCall) (args : List Value) → FitLibraryCall p types k args
+    → ActionFits p (library_action p t halfway rs k args)
+library_fits p types t halfway rs known.PgIn args h = number_is (ActionFits p) p rs args _ (traps_fit p) (λ n. tt)
+library_fits p types t halfway rs known.PgInLen args h = tt
+library_fits p types t halfway rs known.PgOut args h = number_is (ActionFits p) p rs args _ (traps_fit p) (λ n. tt)
+library_fits p types t halfway rs known.Putchar args h = number_is (ActionFits p) p rs args _ (traps_fit p) (λ n. tt)
+library_fits p types t halfway rs known.Malloc args h = number_is (ActionFits p) p rs args _ (traps_fit p) (λ n. tt)
+library_fits p types t halfway rs known.Free args h = number_is (ActionFits p) p rs args _ (traps_fit p) (λ n. tt)
+library_fits p types t halfway rs known.PthreadCreate args h = create_is (ActionFits p) p rs args (traps_fit p) (λ r f n k e. (third_begins p types rs args f h e, k))
+library_fits p types t halfway rs known.PthreadJoin args h = join_is (ActionFits p) p rs args (traps_fit p) (λ n. tt) (λ n r k. k)
+library_fits p types t halfway rs known.PthreadExit args h = number_is (ActionFits p) p rs args _ (traps_fit p) (λ n. tt)
+library_fits p types t halfway rs known.PthreadMutexInit args h = init_is (ActionFits p) p rs args _ (traps_fit p) (λ o. tt)
+library_fits p types t halfway rs known.PthreadMutexLock args h = object_is (ActionFits p) p rs args _ (traps_fit p) (λ o. tt)
+library_fits p types t halfway rs known.PthreadMutexTrylock args h = object_is (ActionFits p) p rs args _ (traps_fit p) (λ o. tt)
+library_fits p types t halfway rs known.PthreadMutexUnlock args h = object_is (ActionFits p) p rs args _ (traps_fit p) (λ o. tt)
+library_fits p types t halfway rs known.PthreadMutexDestroy args h = object_is (ActionFits p) p rs args _ (traps_fit p) (λ o. tt)
+library_fits p types t halfway rs known.PthreadCondInit args h = init_is (ActionFits p) p rs args _ (traps_fit p) (λ o. tt)
+library_fits p types t true rs known.PthreadCondWait args h = wait_is (ActionFits p) p true rs args (traps_fit p) (λ c m. tt)
+library_fits p types t false rs known.PthreadCondWait args h = wait_is (ActionFits p) p false rs args (traps_fit p) (λ c m. tt)
+library_fits p types t halfway rs known.PthreadCondSignal args h = object_is (ActionFits p) p rs args _ (traps_fit p) (λ o. tt)
+library_fits p types t halfway rs known.PthreadCondBroadcast args h = object_is (ActionFits p) p rs args _ (traps_fit p) (λ o. tt)
+library_fits p types t halfway rs known.PthreadCondDestroy args h = object_is (ActionFits p) p rs args _ (traps_fit p) (λ o. tt)
+library_fits p types t halfway rs known.PthreadBarrierInit args h = barrier_init_is (ActionFits p) p rs args (traps_fit p) (λ o n. tt)
+library_fits p types t true rs known.PthreadBarrierWait args h = object_is (ActionFits p) p rs args _ (traps_fit p) (λ o. tt)
+library_fits p types t false rs known.PthreadBarrierWait args h = object_is (ActionFits p) p rs args _ (traps_fit p) (λ o. tt)
+library_fits p types t halfway rs known.PthreadBarrierDestroy args h = object_is (ActionFits p) p rs args _ (traps_fit p) (λ o. tt)
 
 -- ---- operations
 
@@ -106,7 +106,7 @@ returning_fits : (p : NumberedProgram) (rs : List (Option ℕ)) (depth : ℕ) (v
 returning_fits p rs depth None = return_fits p depth 0
 returning_fits p rs depth (Some v) = on_value_is (ActionFits p) (operand p rs v) _ (traps_fit p) (λ n e. return_fits p depth n)
 
-op_fits : (p : NumberedProgram) (types : List Scalar) (rs : List (Option ℕ)) (returns result : Option Scalar) (r : Region) (halfway : Bool) (depth used block : ℕ) (o : Op) → IsProgram p
+op_fits : (p : NumberedProgram) (types : List Scalar) (rs : List (Option ℕ)) (returns result : Option Scalar) (r : ThreadMemory) (halfway : Bool) (depth used block : ℕ) (o : Op) → IsProgram p
     → AreValuesOf types rs → FitsOp p types returns result o → ActionFits p (op_action p r halfway rs depth used block o)
 op_fits p types rs returns result r halfway depth used block (op.Divide d w a b) program h t =
     on_value_is (ActionFits p) (operand p rs a) _ (traps_fit p)
@@ -127,7 +127,7 @@ op_fits p types rs returns result r halfway depth used block (op.Store w v at) p
     on_value_is (ActionFits p) (operand p rs v) _ (traps_fit p) (λ n e.
     on_value_is (ActionFits p) (operand p rs at) _ (traps_fit p) (λ a f.
     on_place_is (ActionFits p) a (bytes_of w) _ (traps_fit p) (λ q k. store_fits p types rs w v n q program h t.1 e k)))
-op_fits p types rs returns result r halfway depth used block (op.CallKnown k args) program h t = known_fits p types r.thread halfway rs k args t.1
+op_fits p types rs returns result r halfway depth used block (op.CallLibrary k args) program h t = library_fits p types r.thread halfway rs k args t.1
 op_fits p types rs returns result r halfway depth used block o program h t = on_all_is (ActionFits p) p rs (operands_of o) _ (traps_fit p) tt
 
 -- ---- the next action
@@ -138,7 +138,7 @@ instr_fits p l f fs None program h e s = tt
 instr_fits p l f fs (Some x) program h e s =
     let types = types_of p (function_of p x.block.0) in
     let values : AreValuesOf types f.registers = subst (λ (g : ℕ). AreValuesOf (types_of p g) f.registers) (sym s.0) h in
-    op_fits p types f.registers (result_of p (function_of p x.block.0)) (type_at types x.result) (region_of l) l.halfway (length (f ∷ fs)) (total (f ∷ fs)) x.block.0 x.op program values
+    op_fits p types f.registers (result_of p (function_of p x.block.0)) (type_at types x.result) (own_memory l) l.halfway (length (f ∷ fs)) (total (f ∷ fs)) x.block.0 x.op program values
     (program.instrs f.place x e).op
 
 frames_fit : (p : NumberedProgram) (l : LocalState) (begun : Bool) (fs : List Frame) → IsProgram p → AreFramesOf p fs → ActionFits p (frames_action p l begun fs)

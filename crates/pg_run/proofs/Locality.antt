@@ -4,8 +4,8 @@ use Rattle.std.specs.Prelude.{slice_get, slice_index}
 use Rattle.std.proofs.lemmas.Option.{slice_get_within}
 use Rattle.pg_num.specs.Places.{ByteRange}
 use Rattle.pg_ir.specs.declared.ids.InstrId.{InstrId}
-use Rattle.pg_ir.specs.declared.known.Known.{Known}
-use Rattle.pg_ir.specs.declared.known.Known.TheVariants.{Malloc}
+use Rattle.pg_ir.specs.declared.library_call.LibraryCall.{LibraryCall}
+use Rattle.pg_ir.specs.declared.library_call.LibraryCall.TheVariants.{Malloc}
 use Rattle.pg_ir.specs.declared.instr.Op.{Op}
 use Rattle.pg_ir.specs.declared.instr.Op.TheVariants as op
 use Rattle.pg_ir.specs.declared.instr.Instr.{Instr}
@@ -28,7 +28,7 @@ use Rattle.pg_run_trace.specs.Steps.{access_by, access_in, access_of, event_of}
 use Rattle.pg_run_trace.specs.declared.step.Step.{Step}
 use Rattle.pg_run.specs.Locality.{IfDid, Agree, AgreeAsked, AreAlike, AsTold, LeavesRest, is_request}
 use Rattle.pg_run.specs.State.{State, action_in, id_in, instr_of, next_of}
-use Rattle.pg_run.specs.MachineStep.{Answered, answered, happening_of, instr_told, is_gated, kind_told, known_told, local_after, number_in, on_applied, op_told, operands_in, requested}
+use Rattle.pg_run.specs.MachineStep.{Answered, answered, happening_of, instr_told, is_gated, kind_told, library_told, local_after, number_in, on_applied, op_told, operands_in, requested}
 use Rattle.pg_run.specs.MachineStep.{settled, step, step_told, taken, turn_of, turn_with, write_told}
 use Rattle.pg_run.specs.Named.{IsNamed, IsRequestNamed}
 use Rattle.pg_run.proofs.Asks.{same_local}
@@ -92,7 +92,7 @@ instr_silent : (ns : List ℕ) (number : ℕ) (o : Option Instr) → access_in (
 instr_silent ns number None = refl
 instr_silent ns number (Some x) = go x.op
   where
-    known : (k : Known) → access_in (known_told ns number k) ≡ None
+    known : (k : LibraryCall) → access_in (library_told ns number k) ≡ None
     known Malloc = refl
     known k = refl
 
@@ -100,7 +100,7 @@ instr_silent ns number (Some x) = go x.op
     go (op.CondBr c a b) = refl
     go (op.Switch w on other cases) = refl
     go (op.Alloca bytes) = refl
-    go (op.CallKnown k args) = known k
+    go (op.CallLibrary k args) = known k
     go o = refl
 
 memory_after : (gated : List InstrId) (p : NumberedProgram) (input : List ℤ) (s z : State) (t a n : ℕ) (act : Action) (ns : List ℕ) → IsNamed ns act

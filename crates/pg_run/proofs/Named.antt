@@ -6,8 +6,8 @@ use Rattle.pg_num.specs.Places.{ByteRange}
 use Rattle.pg_num.specs.Pointers.{byte_place, is_aligned, is_in_range, place_of}
 use Rattle.pg_num.specs.declared.places.PlaceFault.{PlaceFault}
 use Rattle.pg_num.specs.declared.places.PlaceFault.TheVariants as fault
-use Rattle.pg_ir.specs.declared.known.Known.{Known}
-use Rattle.pg_ir.specs.declared.known.Known.TheVariants as known
+use Rattle.pg_ir.specs.declared.library_call.LibraryCall.{LibraryCall}
+use Rattle.pg_ir.specs.declared.library_call.LibraryCall.TheVariants as known
 use Rattle.pg_ir.specs.declared.request.Request.TheVariants as requests
 use Rattle.pg_ir.specs.declared.request.TrapName.TheVariants as traps
 use Rattle.pg_ir.specs.declared.value.Value.{Value}
@@ -18,12 +18,12 @@ use Rattle.pg_ir.specs.Program.{NumberedProgram}
 use Rattle.pg_ir.specs.WellFormed.{granules_for}
 use Rattle.pg_run_thread.specs.declared.action.Action.{Action}
 use Rattle.pg_run_thread.specs.declared.action.Action.TheVariants as actions
-use Rattle.pg_run_thread.specs.declared.region.Region.{Region}
-use Rattle.pg_run_thread.specs.LocalState.{Frame, LocalState, region_of}
+use Rattle.pg_run_thread.specs.declared.thread_memory.ThreadMemory.{ThreadMemory}
+use Rattle.pg_run_thread.specs.LocalState.{Frame, LocalState, own_memory}
 use Rattle.pg_run_thread.specs.Operands.{argument, first_four, given, operand, operands_of}
 use Rattle.pg_run_thread.specs.Compute.{chosen}
 use Rattle.pg_run_thread.specs.EdgeStep.{case_of}
-use Rattle.pg_run_thread.specs.Step.{bytes_of, frames_action, has_room, instr_action, join_at, known_action, next, on_place, op_action, placed, return_action, returning_action, total}
+use Rattle.pg_run_thread.specs.Step.{bytes_of, frames_action, has_room, instr_action, join_at, library_action, next, on_place, op_action, placed, return_action, returning_action, total}
 use Rattle.pg_run_thread.specs.Told.{frames_operands, operand_values}
 use Rattle.pg_run.specs.MachineStep.{operands_in}
 use Rattle.pg_run.specs.Named.{IsNamed}
@@ -70,7 +70,7 @@ load_named p rs bytes a from r e h = word_is (operand p rs from) a r.bytes r e (
 join_named : (ns : List ℕ) (o : Option ℕ) (target w : ℕ) → slice_index ns 1 ≡ given o → o ≡ Some w → IsNamed ns (join_at target w)
 join_named ns o target w n e = either (IsNamed ns) (w == 0) _ _ tt (on_place_found (IsNamed ns) w 8 _ (λ k. tt) (λ r h. subst (λ (k : ℕ). place_of k 8 ≡ Ok r) (sym n) (word_is o w 8 r e h)))
 
-known_named : (p : NumberedProgram) (t : ℕ) (halfway : Bool) (rs : List (Option ℕ)) (k : Known) (args : List Value) → IsNamed (first_four p rs args) (known_action p t halfway rs k args)
+known_named : (p : NumberedProgram) (t : ℕ) (halfway : Bool) (rs : List (Option ℕ)) (k : LibraryCall) (args : List Value) → IsNamed (first_four p rs args) (library_action p t halfway rs k args)
 known_named p t halfway rs known.PgIn args = number_is (IsNamed (first_four p rs args)) p rs args _ (λ k. tt) (λ n. tt)
 known_named p t halfway rs known.PgInLen args = tt
 known_named p t halfway rs known.PgOut args = number_is (IsNamed (first_four p rs args)) p rs args _ (λ k. tt) (λ n. tt)
@@ -111,7 +111,7 @@ returning_named : (p : NumberedProgram) (rs : List (Option ℕ)) (ns : List ℕ)
 returning_named p rs ns depth None = either (IsNamed ns) (depth == 1) _ _ tt tt
 returning_named p rs ns depth (Some v) = on_value_is (IsNamed ns) (operand p rs v) _ (λ k. tt) (λ n e. either (IsNamed ns) (depth == 1) _ _ tt tt)
 
-op_named : (p : NumberedProgram) (rs : List (Option ℕ)) (r : Region) (halfway : Bool) (depth used block : ℕ) (o : Op)
+op_named : (p : NumberedProgram) (rs : List (Option ℕ)) (r : ThreadMemory) (halfway : Bool) (depth used block : ℕ) (o : Op)
     → IsNamed (first_four p rs (operands_of o)) (op_action p r halfway rs depth used block o)
 op_named p rs r halfway depth used block (op.Divide d w a b) =
     let Q = IsNamed (first_four p rs (operands_of (op.Divide d w a b))) in
@@ -138,7 +138,7 @@ op_named p rs r halfway depth used block (op.Store w v at) =
     on_value_is Q (operand p rs v) _ (λ k. tt) (λ n e.
     on_value_is Q (operand p rs at) _ (λ k. tt) (λ a f.
     on_place_found Q a (bytes_of w) _ (λ k. tt) (λ q h. load_named p rs (bytes_of w) a at q f h)))
-op_named p rs r halfway depth used block (op.CallKnown k args) = known_named p r.thread halfway rs k args
+op_named p rs r halfway depth used block (op.CallLibrary k args) = known_named p r.thread halfway rs k args
 op_named p rs r halfway depth used block o = on_all_is (IsNamed (first_four p rs (operands_of o))) p rs (operands_of o) _ (λ k. tt) tt
 
 -- ---- the next action
@@ -146,7 +146,7 @@ op_named p rs r halfway depth used block o = on_all_is (IsNamed (first_four p rs
 instr_named : (p : NumberedProgram) (l : LocalState) (f : Frame) (fs : List Frame) (begun : Bool) (o : Option Instr) → begun ≡ true → slice_get p.instrs f.place ≡ o
     → IsNamed (frames_operands p begun (f ∷ fs)) (instr_action p l f fs o)
 instr_named p l f fs true None b e = tt
-instr_named p l f fs true (Some x) b e = rw e (op_named p f.registers (region_of l) l.halfway (length (f ∷ fs)) (total (f ∷ fs)) x.block.0 x.op)
+instr_named p l f fs true (Some x) b e = rw e (op_named p f.registers (own_memory l) l.halfway (length (f ∷ fs)) (total (f ∷ fs)) x.block.0 x.op)
 instr_named p l f fs false o b e = absurd cc
 
 frames_named : (p : NumberedProgram) (l : LocalState) (begun : Bool) (fs : List Frame) → IsNamed (frames_operands p begun fs) (frames_action p l begun fs)

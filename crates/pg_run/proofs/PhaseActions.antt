@@ -3,8 +3,8 @@ use Rattle.std.proofs.Common.{◌≡◌, ℕ, suc, List, [], ◌∷◌, length, 
 use Rattle.std.specs.Prelude.{slice_get, ◌==◌, if◌then◌else◌}
 use Rattle.std.proofs.lemmas.Bool.Decides.{nat_tests}
 use Rattle.pg_num.specs.Numbers.{divided}
-use Rattle.pg_ir.specs.declared.known.Known.{Known}
-use Rattle.pg_ir.specs.declared.known.Known.TheVariants as known
+use Rattle.pg_ir.specs.declared.library_call.LibraryCall.{LibraryCall}
+use Rattle.pg_ir.specs.declared.library_call.LibraryCall.TheVariants as known
 use Rattle.pg_ir.specs.declared.value.Value.{Value}
 use Rattle.pg_ir.specs.declared.instr.Op.{Op}
 use Rattle.pg_ir.specs.declared.instr.Op.TheVariants as op
@@ -14,15 +14,15 @@ use Rattle.pg_ir.specs.Program.{NumberedProgram}
 use Rattle.pg_ir.specs.WellFormed.{granules_for}
 use Rattle.pg_run_thread.specs.declared.action.Action.{Action}
 use Rattle.pg_run_thread.specs.declared.action.Action.TheVariants as actions
-use Rattle.pg_run_thread.specs.declared.region.Region.{Region}
-use Rattle.pg_run_thread.specs.LocalState.{Frame, LocalState, region_of}
+use Rattle.pg_run_thread.specs.declared.thread_memory.ThreadMemory.{ThreadMemory}
+use Rattle.pg_run_thread.specs.LocalState.{Frame, LocalState, own_memory}
 use Rattle.pg_run_thread.specs.Operands.{operand, operands_of}
 use Rattle.pg_run_thread.specs.Compute.{chosen}
 use Rattle.pg_run_thread.specs.EdgeStep.{case_of}
-use Rattle.pg_run_thread.specs.Step.{next, after, frames_action, instr_action, op_action, known_action, return_action, returning_action, bytes_of, total, has_room, halfway_after, op_after}
+use Rattle.pg_run_thread.specs.Step.{next, after, frames_action, instr_action, op_action, library_action, return_action, returning_action, bytes_of, total, has_room, halfway_after, op_after}
 use Rattle.pg_run_thread.specs.Step.{instr_after, frames_after, begun_frame, returned}
 use Rattle.pg_run_thread.specs.States.{CanStep}
-use Rattle.pg_run.specs.Phases.{Phase, Going, InCondition, InBarrier, Over, known_phase, op_phase, instr_phase, frames_phase, phase_of, phase_before, phase_after}
+use Rattle.pg_run.specs.Phases.{Phase, Going, InCondition, InBarrier, Over, library_phase, op_phase, instr_phase, frames_phase, phase_of, phase_before, phase_after}
 use Rattle.pg_run.proofs.Actions.{OfTraps, on_value_is, on_all_is, on_place_is, number_is, object_is, init_is, barrier_init_is, wait_is, create_is, join_is, either, edge_is, call_is}
 use Rattle.pg_run.proofs.Actions.{divided_is, room_is}
 
@@ -35,7 +35,7 @@ Before x act = CanStep act → x ≡ phase_before act
 traps_before : (x : Phase) → OfTraps (Before x)
 traps_before x n c = absurd c
 
-known_before : (p : NumberedProgram) (t : ℕ) (halfway : Bool) (rs : List (Option ℕ)) (k : Known) (args : List Value) → Before (known_phase halfway k) (known_action p t halfway rs k args)
+known_before : (p : NumberedProgram) (t : ℕ) (halfway : Bool) (rs : List (Option ℕ)) (k : LibraryCall) (args : List Value) → Before (library_phase halfway k) (library_action p t halfway rs k args)
 known_before p t halfway rs known.PgIn args = number_is (Before Going) p rs args _ (traps_before Going) (λ n c. refl)
 known_before p t halfway rs known.PgInLen args = λ c. refl
 known_before p t halfway rs known.PgOut args = number_is (Before Going) p rs args _ (traps_before Going) (λ n c. refl)
@@ -68,7 +68,7 @@ returning_before : (p : NumberedProgram) (rs : List (Option ℕ)) (depth : ℕ) 
 returning_before p rs depth None = return_before depth 0
 returning_before p rs depth (Some v) = on_value_is (Before Going) (operand p rs v) _ (traps_before Going) (λ n e. return_before depth n)
 
-op_before : (p : NumberedProgram) (r : Region) (halfway : Bool) (rs : List (Option ℕ)) (depth used block : ℕ) (o : Op) → Before (op_phase halfway o) (op_action p r halfway rs depth used block o)
+op_before : (p : NumberedProgram) (r : ThreadMemory) (halfway : Bool) (rs : List (Option ℕ)) (depth used block : ℕ) (o : Op) → Before (op_phase halfway o) (op_action p r halfway rs depth used block o)
 op_before p r halfway rs depth used block (op.Divide d w a b) =
     on_value_is (Before Going) (operand p rs a) _ (traps_before Going)
     (λ m e. on_value_is (Before Going) (operand p rs b) _ (traps_before Going) (λ n f. divided_is (Before Going) (divided d w m n) (traps_before Going) (λ c. refl)))
@@ -88,12 +88,12 @@ op_before p r halfway rs depth used block (op.Store w v at) =
     on_value_is (Before Going) (operand p rs v) _ (traps_before Going) (λ n e.
     on_value_is (Before Going) (operand p rs at) _ (traps_before Going) (λ a f.
     on_place_is (Before Going) a (bytes_of w) _ (traps_before Going) (λ q k c. refl)))
-op_before p r halfway rs depth used block (op.CallKnown k args) = known_before p r.thread halfway rs k args
+op_before p r halfway rs depth used block (op.CallLibrary k args) = known_before p r.thread halfway rs k args
 op_before p r halfway rs depth used block o = on_all_is (Before Going) p rs (operands_of o) _ (traps_before Going) (λ c. refl)
 
 instr_before : (p : NumberedProgram) (l : LocalState) (f : Frame) (fs : List Frame) (o : Option Instr) → Before (instr_phase l.halfway o) (instr_action p l f fs o)
 instr_before p l f fs None = λ c. absurd c
-instr_before p l f fs (Some x) = op_before p (region_of l) l.halfway f.registers (length (f ∷ fs)) (total (f ∷ fs)) x.block.0 x.op
+instr_before p l f fs (Some x) = op_before p (own_memory l) l.halfway f.registers (length (f ∷ fs)) (total (f ∷ fs)) x.block.0 x.op
 
 frames_before : (p : NumberedProgram) (l : LocalState) (begun : Bool) (fs : List Frame) → Before (frames_phase p begun l.halfway fs) (frames_action p l begun fs)
 frames_before p l begun [] = λ c. absurd c
@@ -114,13 +114,13 @@ traps_after : (x : Phase) → OfTraps (After x)
 traps_after x n c = absurd c
 
 -- a frame that isn't between the halves of a wait
-known_goes : (k : Known) → known_phase false k ≡ Going
+known_goes : (k : LibraryCall) → library_phase false k ≡ Going
 known_goes known.PthreadCondWait = refl
 known_goes known.PthreadBarrierWait = refl
 known_goes k = refl
 
 op_goes : (o : Op) → op_phase false o ≡ Going
-op_goes (op.CallKnown k args) = known_goes k
+op_goes (op.CallLibrary k args) = known_goes k
 op_goes o = refl
 
 instr_goes : (o : Option Instr) → instr_phase false o ≡ Going
@@ -136,8 +136,8 @@ abbrev phase_then : NumberedProgram → LocalState → Instr → ℕ → Op → 
 phase_then p l x answer o = frames_phase p true (halfway_after l.halfway o) (op_after p l x answer o)
 
 -- the phase after a call of a known function
-known_then : (p : NumberedProgram) (t : ℕ) (hw : Bool) (f : Frame) (fs : List Frame) (heap : ℕ) (x : Instr) (answer : ℕ) (k : Known) (args : List Value)
-    → slice_get p.instrs f.place ≡ Some x → x.op ≡ op.CallKnown k args → After (phase_then p (running t hw f fs heap) x answer (op.CallKnown k args)) (known_action p t hw f.registers k args)
+known_then : (p : NumberedProgram) (t : ℕ) (hw : Bool) (f : Frame) (fs : List Frame) (heap : ℕ) (x : Instr) (answer : ℕ) (k : LibraryCall) (args : List Value)
+    → slice_get p.instrs f.place ≡ Some x → x.op ≡ op.CallLibrary k args → After (phase_then p (running t hw f fs heap) x answer (op.CallLibrary k args)) (library_action p t hw f.registers k args)
 known_then p t hw f fs heap x answer known.PgIn args e g = number_is (After _) p f.registers args _ (traps_after _) (λ n c. instr_goes _)
 known_then p t hw f fs heap x answer known.PgOut args e g = number_is (After _) p f.registers args _ (traps_after _) (λ n c. instr_goes _)
 known_then p t hw f fs heap x answer known.Putchar args e g = number_is (After _) p f.registers args _ (traps_after _) (λ n c. instr_goes _)
@@ -183,7 +183,7 @@ returning_then p f fs n (Some v) = on_value_is (After _) (operand p f.registers 
 
 op_then : (p : NumberedProgram) (t : ℕ) (hw : Bool) (f : Frame) (fs : List Frame) (heap : ℕ) (x : Instr) (answer : ℕ) (depth used block : ℕ) (o : Op)
     → slice_get p.instrs f.place ≡ Some x → x.op ≡ o → depth ≡ length (f ∷ fs)
-    → After (phase_then p (running t hw f fs heap) x answer o) (op_action p (region_of (running t hw f fs heap)) hw f.registers depth used block o)
+    → After (phase_then p (running t hw f fs heap) x answer o) (op_action p (own_memory (running t hw f fs heap)) hw f.registers depth used block o)
 op_then p t hw f fs heap x answer depth used block (op.Divide d w a b) e g k =
     on_value_is (After _) (operand p f.registers a) _ (traps_after _)
     (λ m q. on_value_is (After _) (operand p f.registers b) _ (traps_after _) (λ n r. divided_is (After _) (divided d w m n) (traps_after _) (λ c. instr_goes _)))
@@ -197,14 +197,14 @@ op_then p t hw f fs heap x answer depth used block (op.Call h args) e g k =
     on_all_is (After _) p f.registers args _ (traps_after _) (call_is (After _) p h depth used (traps_after _) (λ c. instr_goes _))
 op_then p t hw f fs heap x answer depth used block (op.Ret v) e g k = rw k (returning_then p f fs _ v)
 op_then p t hw f fs heap x answer depth used block op.Unreachable e g k = λ c. absurd c
-op_then p t hw f fs heap x answer depth used block (op.Alloca bytes) e g k = room_is (After _) (has_room (region_of (running t hw f fs heap)) (granules_for bytes)) (traps_after _) (λ c. instr_goes _)
+op_then p t hw f fs heap x answer depth used block (op.Alloca bytes) e g k = room_is (After _) (has_room (own_memory (running t hw f fs heap)) (granules_for bytes)) (traps_after _) (λ c. instr_goes _)
 op_then p t hw f fs heap x answer depth used block (op.Load w from) e g k =
     on_value_is (After _) (operand p f.registers from) _ (traps_after _) (λ a q. on_place_is (After _) a (bytes_of w) _ (traps_after _) (λ r s c. instr_goes _))
 op_then p t hw f fs heap x answer depth used block (op.Store w v at) e g k =
     on_value_is (After _) (operand p f.registers v) _ (traps_after _) (λ n q.
     on_value_is (After _) (operand p f.registers at) _ (traps_after _) (λ a r.
     on_place_is (After _) a (bytes_of w) _ (traps_after _) (λ s z c. instr_goes _)))
-op_then p t hw f fs heap x answer depth used block (op.CallKnown n args) e g k = known_then p t hw f fs heap x answer n args e g
+op_then p t hw f fs heap x answer depth used block (op.CallLibrary n args) e g k = known_then p t hw f fs heap x answer n args e g
 op_then p t hw f fs heap x answer depth used block o e g k = on_all_is (After _) p f.registers (operands_of o) _ (traps_after _) (λ c. instr_goes _)
 
 instr_then : (p : NumberedProgram) (t : ℕ) (hw : Bool) (f : Frame) (fs : List Frame) (heap answer : ℕ) (o : Option Instr) → slice_get p.instrs f.place ≡ o

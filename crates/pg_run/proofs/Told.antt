@@ -4,8 +4,8 @@ use Rattle.std.specs.Prelude.{slice_get, slice_index, if◌then◌else◌}
 use Rattle.pg_num.specs.Places.{ByteRange}
 use Rattle.pg_num.specs.Pointers.{byte_place}
 use Rattle.pg_ir.specs.declared.ids.InstrId.{InstrId}
-use Rattle.pg_ir.specs.declared.known.Known.{Known}
-use Rattle.pg_ir.specs.declared.known.Known.TheVariants as known
+use Rattle.pg_ir.specs.declared.library_call.LibraryCall.{LibraryCall}
+use Rattle.pg_ir.specs.declared.library_call.LibraryCall.TheVariants as known
 use Rattle.pg_ir.specs.declared.instr.Op.{Op}
 use Rattle.pg_ir.specs.declared.instr.Op.TheVariants as op
 use Rattle.pg_ir.specs.declared.instr.Instr.{Instr}
@@ -19,14 +19,14 @@ use Rattle.pg_run_trace.specs.declared.turn.Turn.{Turn}
 use Rattle.pg_run_trace.specs.declared.turn.TurnKind.TheVariants as turns
 use Rattle.pg_run_trace.specs.Steps.{event_of, happening_in, turn_at}
 use Rattle.pg_run.specs.Filled.{filled}
-use Rattle.pg_run.specs.MachineStep.{happening_if, happening_of, instr_told, is_gated, kind_told, known_told, number_in, op_told, operands_in, step_told, turn_of, turn_with}
+use Rattle.pg_run.specs.MachineStep.{happening_if, happening_of, instr_told, is_gated, kind_told, library_told, number_in, op_told, operands_in, step_told, turn_of, turn_with}
 use Rattle.pg_run.specs.Named.{IsNamed}
 use Rattle.pg_run.specs.State.{State, instr_of, next_of}
 use Rattle.pg_run.proofs.Named.{next_named, place_is}
 
 -- ---- what is filled
 
-known_filled : (ns : List ℕ) (answer number : ℕ) (k : Known) → filled (known_told ns 0 k) answer number ≡ known_told ns number k
+known_filled : (ns : List ℕ) (answer number : ℕ) (k : LibraryCall) → filled (library_told ns 0 k) answer number ≡ library_told ns number k
 known_filled ns answer number known.Malloc = refl
 known_filled ns answer number k = refl
 
@@ -34,7 +34,7 @@ op_filled : (ns : List ℕ) (answer number : ℕ) (o : Op) → filled (op_told n
 op_filled ns answer number (op.CondBr c a b) = refl
 op_filled ns answer number (op.Switch w on other cases) = refl
 op_filled ns answer number (op.Alloca bytes) = refl
-op_filled ns answer number (op.CallKnown k args) = known_filled ns answer number k
+op_filled ns answer number (op.CallLibrary k args) = known_filled ns answer number k
 op_filled ns answer number o = refl
 
 instr_filled : (ns : List ℕ) (answer number : ℕ) (o : Option Instr) → filled (instr_told ns 0 o) answer number ≡ instr_told ns number o
@@ -63,9 +63,9 @@ op_quiet : (ns : List ℕ) (number : ℕ) (o : Op) → happening_in (op_told ns 
 op_quiet ns number (op.CondBr c a b) = refl
 op_quiet ns number (op.Switch w on other cases) = refl
 op_quiet ns number (op.Alloca bytes) = refl
-op_quiet ns number (op.CallKnown k args) = go k
+op_quiet ns number (op.CallLibrary k args) = go k
   where
-    go : (f : Known) → happening_in (known_told ns number f) ≡ None
+    go : (f : LibraryCall) → happening_in (library_told ns number f) ≡ None
     go known.Malloc = refl
     go f = refl
 op_quiet ns number o = refl

@@ -3,8 +3,8 @@ use Rattle.std.proofs.Common.{◌≡◌, ℕ, ℤ, zero, suc, ◌<◌, ◌≤◌
 use Rattle.std.proofs.Common.{refl, sym, ◌∙◌, ap, subst, arith, length-append, append_assoc, append-nil}
 use Rattle.std.specs.Prelude.{slice_get, slice_set, slice_index}
 use Rattle.pg_ir.specs.declared.ids.InstrId.{InstrId}
-use Rattle.pg_ir.specs.declared.known.Known.{Known}
-use Rattle.pg_ir.specs.declared.known.Known.TheVariants as known
+use Rattle.pg_ir.specs.declared.library_call.LibraryCall.{LibraryCall}
+use Rattle.pg_ir.specs.declared.library_call.LibraryCall.TheVariants as known
 use Rattle.pg_ir.specs.declared.instr.Op.{Op}
 use Rattle.pg_ir.specs.declared.instr.Op.TheVariants as op
 use Rattle.pg_ir.specs.declared.instr.Instr.{Instr}
@@ -19,12 +19,12 @@ use Rattle.pg_run_thread.specs.declared.advance.LocalStep.{LocalStep}
 use Rattle.pg_run_thread.specs.LocalState.{LocalState}
 use Rattle.pg_run_thread.specs.Step.{next, after}
 use Rattle.pg_run_thread.specs.Told.{id_of, number_given, operand_values}
-use Rattle.pg_run_thread.specs.Advance.{advanced, done_if, instr_local, known_local, local_told, op_local}
+use Rattle.pg_run_thread.specs.Advance.{advanced, done_if, instr_local, library_local, local_told, op_local}
 use Rattle.pg_run_trace.specs.declared.step.Step.{Step}
 use Rattle.pg_run_trace.specs.declared.step.StepKind.{StepKind}
 use Rattle.pg_run_trace.specs.Recording.{Recording}
 use Rattle.pg_run.specs.State.{State, instr_of, next_of}
-use Rattle.pg_run.specs.MachineStep.{Answered, Did, answered, instr_told, kind_told, known_told, number_in, op_told, operands_in, ready, step, step_told, taken}
+use Rattle.pg_run.specs.MachineStep.{Answered, Did, answered, instr_told, kind_told, library_told, number_in, op_told, operands_in, ready, step, step_told, taken}
 use Rattle.pg_run.specs.Machine.{IsMachine}
 use Rattle.pg_run.specs.Went.{GoesOn, Went, WentRecorded, advance_in, kind_of, locals_advanced}
 use Rattle.pg_run.specs.WithSteps.{with_steps}
@@ -33,7 +33,7 @@ use Rattle.pg_run.proofs.Goes.{did_is, stands}
 
 -- ---- what is told
 
-known_kind : (ns : List ℕ) (number : ℕ) (k : Known) → kind_of (known_local (slice_index ns 0) number k) ≡ known_told ns number k
+known_kind : (ns : List ℕ) (number : ℕ) (k : LibraryCall) → kind_of (library_local (slice_index ns 0) number k) ≡ library_told ns number k
 known_kind ns number known.Malloc = refl
 known_kind ns number k = refl
 
@@ -41,7 +41,7 @@ op_kind : (ns : List ℕ) (number : ℕ) (o : Op) → kind_of (op_local (slice_i
 op_kind ns number (op.CondBr c a b) = refl
 op_kind ns number (op.Switch w on other cases) = refl
 op_kind ns number (op.Alloca bytes) = refl
-op_kind ns number (op.CallKnown k args) = known_kind ns number k
+op_kind ns number (op.CallLibrary k args) = known_kind ns number k
 op_kind ns number o = refl
 
 instr_kind : (ns : List ℕ) (number : ℕ) (o : Option Instr) → kind_of (instr_local (slice_index ns 0) number o) ≡ instr_told ns number o

@@ -4,8 +4,8 @@ use Rattle.std.specs.Prelude.{slice_set, slice_index, if◌then◌else◌}
 use Rattle.std.specs.List.{list_any}
 use Rattle.pg_num.specs.Places.{ByteRange}
 use Rattle.pg_ir.specs.declared.ids.InstrId.{InstrId}
-use Rattle.pg_ir.specs.declared.known.Known.{Known}
-use Rattle.pg_ir.specs.declared.known.Known.TheVariants as known
+use Rattle.pg_ir.specs.declared.library_call.LibraryCall.{LibraryCall}
+use Rattle.pg_ir.specs.declared.library_call.LibraryCall.TheVariants as known
 use Rattle.pg_ir.specs.declared.instr.Op.{Op}
 use Rattle.pg_ir.specs.declared.instr.Op.TheVariants as op
 use Rattle.pg_ir.specs.declared.instr.Instr.{Instr}
@@ -159,16 +159,16 @@ write_told s ns r = None
 abbrev pub event_told : State → ℕ → List ℕ → ℕ → Request → StepKind
 event_told s t ns number r = told.Event (record { kind = kind_of r; object = object_of t (length s.sync.threads) r; operands = ns; reply = number; write = write_told s ns r })
 
-abbrev pub known_told : List ℕ → ℕ → Known → StepKind
-known_told ns number known.Malloc = told.Allocation (slice_index ns 0) number
-known_told ns number k = told.Other
+abbrev pub library_told : List ℕ → ℕ → LibraryCall → StepKind
+library_told ns number known.Malloc = told.Allocation (slice_index ns 0) number
+library_told ns number k = told.Other
 
 -- of the steps that only the thread's own state decides: a branch by its condition, and an allocation
 abbrev pub op_told : List ℕ → ℕ → Op → StepKind
 op_told ns number (op.CondBr c a b) = told.Branch (slice_index ns 0)
 op_told ns number (op.Switch w on other cases) = told.Branch (slice_index ns 0)
 op_told ns number (op.Alloca bytes) = told.Allocation 0 number
-op_told ns number (op.CallKnown k args) = known_told ns number k
+op_told ns number (op.CallLibrary k args) = library_told ns number k
 op_told ns number o = told.Other
 
 abbrev pub instr_told : List ℕ → ℕ → Option Instr → StepKind

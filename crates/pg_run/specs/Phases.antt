@@ -1,7 +1,7 @@
 -- How far a thread has come, by its local state and by its stage among the objects.
 use Rattle.std.specs.Prelude.{List, [], ◌∷◌, Bool, true, false, Option, Some, None, slice_get, if◌then◌else◌}
-use Rattle.pg_ir.specs.declared.known.Known.{Known}
-use Rattle.pg_ir.specs.declared.known.Known.TheVariants as known
+use Rattle.pg_ir.specs.declared.library_call.LibraryCall.{LibraryCall}
+use Rattle.pg_ir.specs.declared.library_call.LibraryCall.TheVariants as known
 use Rattle.pg_ir.specs.declared.instr.Op.{Op}
 use Rattle.pg_ir.specs.declared.instr.Op.TheVariants as op
 use Rattle.pg_ir.specs.declared.instr.Instr.{Instr}
@@ -24,13 +24,13 @@ pub data Phase : Type 0 where
 
 -- ---- by the local state
 
-abbrev pub known_phase : Bool → Known → Phase
-known_phase halfway known.PthreadCondWait = if halfway then InCondition else Going
-known_phase halfway known.PthreadBarrierWait = if halfway then InBarrier else Going
-known_phase halfway k = Going
+abbrev pub library_phase : Bool → LibraryCall → Phase
+library_phase halfway known.PthreadCondWait = if halfway then InCondition else Going
+library_phase halfway known.PthreadBarrierWait = if halfway then InBarrier else Going
+library_phase halfway k = Going
 
 abbrev pub op_phase : Bool → Op → Phase
-op_phase halfway (op.CallKnown k args) = known_phase halfway k
+op_phase halfway (op.CallLibrary k args) = library_phase halfway k
 op_phase halfway o = Going
 
 abbrev pub instr_phase : Bool → Option Instr → Phase

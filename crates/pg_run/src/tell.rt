@@ -10,7 +10,7 @@ ghost use Rattle.pg_run.specs.MachineStep.{access_told, event_told, happening_if
 
 use crate::gated::Gated;
 use crate::state::MachineState;
-use pg_ir::{InstrId, Known, Op, Program, Request, ThreadNo};
+use pg_ir::{InstrId, LibraryCall, Op, Program, Request, ThreadNo};
 use pg_num::Place;
 use pg_run_thread::{Action, LocalStep};
 use pg_run_trace::{
@@ -168,8 +168,8 @@ impl MachineState {
                 operand: 0,
                 result: 0,
             },
-            Op::CallKnown {
-                function: Known::Malloc,
+            Op::CallLibrary {
+                function: LibraryCall::Malloc,
                 ..
             } => StepKind::Allocation {
                 operand: self.operands(p, t)[0],

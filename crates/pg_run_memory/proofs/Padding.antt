@@ -115,14 +115,14 @@ set_memory m g w h l small = record {
 pub low_parts : (a b c : Words) (g w : ℕ) → AreParts a b → g < GLOBALS_END → w < 2 ^ 64 → c ≡ slice_set a g w → AreParts c b
 low_parts a b c g w h l small e = rw e (record {
   globals_end = length-set a g w ∙ h.globals_end;
-  regions_end = h.regions_end;
+  threads_end = h.threads_end;
   memory = rw (low_set a b GLOBALS_END g w h.globals_end l) (set_memory (a ++ b) g w h.memory (omega arith) small);
 })
 
 pub high_parts : (a b c : Words) (g w : ℕ) → AreParts a b → GLOBALS_END ≤ g → g < GRANULE_COUNT → w < 2 ^ 64 → c ≡ slice_set b (g - GLOBALS_END) w → AreParts a c
 high_parts a b c g w h k l small e = rw e (record {
   globals_end = h.globals_end;
-  regions_end = length-set b (g - GLOBALS_END) w ∙ h.regions_end;
+  threads_end = length-set b (g - GLOBALS_END) w ∙ h.threads_end;
   memory = rw (high_set a b GLOBALS_END g w h.globals_end k) (set_memory (a ++ b) g w h.memory l small);
 })
 
@@ -136,7 +136,7 @@ both_zero a b m n e f = rw (e, f) (replicate_add m n)
 pub zero_parts : (a b : Words) (m n : ℕ) → a ≡ replicate m 0 → b ≡ replicate n 0 → m ≡ GLOBALS_END → n ≡ GRANULE_COUNT - GLOBALS_END → AreParts a b
 zero_parts a b m n e f h k = record {
   globals_end = ap length e ∙ length-replicate {A = ℕ} m 0 ∙ h;
-  regions_end = ap length f ∙ length-replicate {A = ℕ} n 0 ∙ k;
+  threads_end = ap length f ∙ length-replicate {A = ℕ} n 0 ∙ k;
   memory = record {
     granules = ap length (both_zero a b m n e f) ∙ length-replicate {A = ℕ} (m + n) 0 ∙ (let z : m + n ≡ GRANULE_COUNT = omega (arith, h, k) in z);
     small = λ g. rw (both_zero a b m n e f) (rw (zero_word (m + n) g) (omega arith));

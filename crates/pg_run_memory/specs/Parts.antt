@@ -1,4 +1,4 @@
--- Memory as it is kept: the granules of the globals and those of the threads' regions, each with zeros behind the
+-- Memory as it is kept: the granules of the globals and those of the threads, each with zeros behind the
 -- last that was written.
 use Rattle.std.specs.Prelude.{◌≡◌, ℕ, zero, suc, ◌-◌, ◌++◌, [], ◌∷◌, length}
 use Rattle.pg_num.specs.declared.layout.TheConstants.{GLOBALS_END, GRANULE_COUNT}
@@ -10,7 +10,7 @@ padded zero ws = ws
 padded (suc n) [] = 0 ∷ padded n []
 padded (suc n) (w ∷ ws) = w ∷ padded n ws
 
-pub record AreParts (globals regions : Words) : Type 0 where
+pub record AreParts (globals threads : Words) : Type 0 where
   pub globals_end : length globals ≡ GLOBALS_END
-  pub regions_end : length regions ≡ GRANULE_COUNT - GLOBALS_END
-  pub memory : IsMemory (globals ++ regions)
+  pub threads_end : length threads ≡ GRANULE_COUNT - GLOBALS_END
+  pub memory : IsMemory (globals ++ threads)

@@ -19,7 +19,7 @@ use std::marker::Model;
 #[derive(Drop)]
 pub struct Memory {
     globals: Pages,
-    regions: Pages,
+    threads: Pages,
 }
 
 impl Model for Memory {
@@ -29,21 +29,21 @@ impl Model for Memory {
 
     ghost Value = { Words };
 
-    ghost view = { λ m. m.globals ++ m.regions };
+    ghost view = { λ m. m.globals ++ m.threads };
 
-    ghost invariant = { λ m. AreParts m.globals m.regions };
+    ghost invariant = { λ m. AreParts m.globals m.threads };
 }
 
 /// Memory in parts of these lengths, in which each byte is zero.
 #[tactic(auto, using(crate::proofs::Padding::zero_both))]
-fn zero_parts(alloc: Global, globals: usize, regions: usize) -> Result<Memory, AllocError>
+fn zero_parts(alloc: Global, globals: usize, threads: usize) -> Result<Memory, AllocError>
     requires globals { globals ≡ GLOBALS_END }
-    requires regions { regions ≡ GRANULE_COUNT - GLOBALS_END }
+    requires threads { threads ≡ GRANULE_COUNT - GLOBALS_END }
     ensures { IfOk result (λ m. (b : ℕ) → byte_at m b ≡ 0) }
 {
     Ok(Memory {
         globals: Pages::zeros(alloc, globals)?,
-        regions: Pages::zeros(alloc, regions)?,
+        threads: Pages::zeros(alloc, threads)?,
     })
 }
 
@@ -106,7 +106,7 @@ impl Memory {
         if granule < GLOBALS_END {
             self.globals.get(granule)
         } else {
-            self.regions.get(granule - GLOBALS_END)
+            self.threads.get(granule - GLOBALS_END)
         }
     }
 
@@ -119,7 +119,7 @@ impl Memory {
         if granule < GLOBALS_END {
             self.globals.set(granule, word);
         } else {
-            self.regions.set(granule - GLOBALS_END, word);
+            self.threads.set(granule - GLOBALS_END, word);
         }
     }
 

@@ -10,7 +10,7 @@ use Rattle.pg_run_thread.specs.declared.action.Action.TheVariants as actions
 use Rattle.pg_run_thread.specs.declared.advance.Advance.{Advance}
 use Rattle.pg_run_thread.specs.declared.advance.Advance.TheVariants.{Asks}
 use Rattle.pg_run_thread.specs.declared.advance.LocalStep.{LocalStep}
-use Rattle.pg_run_thread.specs.LocalState.{Frame, LocalState, region_of}
+use Rattle.pg_run_thread.specs.LocalState.{Frame, LocalState, own_memory}
 use Rattle.pg_run_thread.specs.Operands.{number_at, operands_of}
 use Rattle.pg_run_thread.specs.Step.{next, after, frames_action, instr_after, op_action, top_registers, total}
 use Rattle.pg_run_thread.specs.Told.{id_of, number_given, operand_values, op_own, or_zero}
@@ -48,8 +48,8 @@ pub advanced_at : (p : NumberedProgram) (l : LocalState) (x : Instr) → l.begun
 unfolding advanced
 advanced_at p l x b g e =
     ap (λ (a : Action). done_if a l (after p l 0) (local_told p l)) (next_at p l x b g e)
-    ∙ ap (λ (m : LocalState). done_if (op_action p (region_of l) l.halfway (top_registers l.frames) (length l.frames) (total l.frames) x.block.0 x.op) l m (local_told p l)) (after_at p l x 0 b g e)
-    ∙ ap (λ (t : LocalStep). done_if (op_action p (region_of l) l.halfway (top_registers l.frames) (length l.frames) (total l.frames) x.block.0 x.op) l (instr_after p l 0 (Some x)) t)
+    ∙ ap (λ (m : LocalState). done_if (op_action p (own_memory l) l.halfway (top_registers l.frames) (length l.frames) (total l.frames) x.block.0 x.op) l m (local_told p l)) (after_at p l x 0 b g e)
+    ∙ ap (λ (t : LocalStep). done_if (op_action p (own_memory l) l.halfway (top_registers l.frames) (length l.frames) (total l.frames) x.block.0 x.op) l (instr_after p l 0 (Some x)) t)
     (told_at p l x b g e)
 
 done_of : (p : NumberedProgram) (l : LocalState) (t : LocalStep) (a : Action) → next p l ≡ a → IsProgram p → IsOf p l → IsOf p (done_if a l (after p l 0) t).0

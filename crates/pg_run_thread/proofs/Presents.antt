@@ -54,7 +54,7 @@ is_present p l x program h g e =
       edges = subst (λ (n : ℕ). CanGoOn p n x.op) count (can_go_on p (place_in l.frames) x program fits);
       widths = operands_fit p types (top_registers l.frames) (result_of p (function_of p x.block.0)) (type_at types x.result) x.op program values fits.op;
       thread = h.thread;
-      region = h.region;
+      memory = h.memory;
       ends = ends_block p (place_in l.frames) x fits e;
     }
 

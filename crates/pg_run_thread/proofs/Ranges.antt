@@ -8,7 +8,7 @@ use Rattle.std.specs.Int.Bits.{and_lt}
 use Rattle.std.proofs.lemmas.Nat.{or_lt, xor_lt}
 use Rattle.pg_num.specs.Numbers.{modulus, width_bits, residue, half, divided, quotient_of, overflows, shifted, shifted_within, shifted_out, bits_of}
 use Rattle.pg_num.specs.Pointers.{moved_by, offset_of, word_of}
-use Rattle.pg_num.specs.declared.layout.TheConstants.{REGION_GRANULES}
+use Rattle.pg_num.specs.declared.layout.TheConstants.{THREAD_GRANULES}
 use Rattle.pg_num.specs.declared.limits.TheConstants.{THREAD_LIMIT}
 use Rattle.pg_num.specs.declared.operations.Division.{Division}
 use Rattle.pg_num.specs.declared.operations.Division.TheVariants.{Udiv, Sdiv, Urem, Srem}
@@ -19,16 +19,16 @@ use Rattle.pg_num.specs.declared.operations.Bits.{Bits}
 use Rattle.pg_num.specs.declared.operations.Bits.TheVariants.{And, Or, Xor}
 use Rattle.pg_num.specs.declared.width.Width.{Width}
 use Rattle.pg_num.specs.declared.width.Width.TheVariants.{W1}
-use Rattle.pg_ir.specs.declared.known.Known.{Known}
-use Rattle.pg_ir.specs.declared.known.Known.TheVariants as known
+use Rattle.pg_ir.specs.declared.library_call.LibraryCall.{LibraryCall}
+use Rattle.pg_ir.specs.declared.library_call.LibraryCall.TheVariants as known
 use Rattle.pg_ir.specs.declared.value.Index.{Index}
 use Rattle.pg_ir.specs.declared.value.Scalar.{Scalar}
 use Rattle.pg_ir.specs.declared.value.Scalar.TheVariants.{Ptr}
 use Rattle.pg_ir.specs.WellFormed.{width_of, granules_for}
 use Rattle.pg_ir.specs.Signatures.{returned_by}
-use Rattle.pg_run_thread.specs.declared.region.Region.{Region}
+use Rattle.pg_run_thread.specs.declared.thread_memory.ThreadMemory.{ThreadMemory}
 use Rattle.pg_run_thread.specs.Compute.{quotient_or_zero, number_of_bool, chosen, moved_along, index_bytes}
-use Rattle.pg_run_thread.specs.Step.{has_room, pushed, allocated, cut_to, known_number}
+use Rattle.pg_run_thread.specs.Step.{has_room, pushed, allocated, cut_to, library_number}
 use Rattle.pg_run_thread.proofs.Typed.{some_values}
 
 pub remainder_small : (w : Width) (n : ℕ) → n % modulus w < modulus w
@@ -106,17 +106,17 @@ pub along_small : (word : ℕ) (is : List Index) (n : ℕ → ℕ) (k : ℕ) →
 along_small word [] n k h = h
 along_small word (i ∷ is) n k h = along_small (moved_by word (index_bytes i i.scale (n k))) is n (k + 1) (moved_small word _ h)
 
-pub room_is : (r : Region) (g : ℕ) → IsTrue (has_room r g) → r.stack + g + r.heap ≤ REGION_GRANULES
+pub room_is : (r : ThreadMemory) (g : ℕ) → IsTrue (has_room r g) → r.stack + g + r.heap ≤ THREAD_GRANULES
 room_is r g h = grind (arith, nat_tests)
 
-pub pushed_small : (r : Region) (bytes : ℕ) → r.thread < THREAD_LIMIT → IsTrue (has_room r (granules_for bytes)) → pushed r bytes < 2 ^ 64
+pub pushed_small : (r : ThreadMemory) (bytes : ℕ) → r.thread < THREAD_LIMIT → IsTrue (has_room r (granules_for bytes)) → pushed r bytes < 2 ^ 64
 pushed_small r bytes t h = omega (arith, room_is r (granules_for bytes) h)
 
-pub allocated_small : (r : Region) (bytes : ℕ) → r.thread < THREAD_LIMIT → allocated r bytes < 2 ^ 64
+pub allocated_small : (r : ThreadMemory) (bytes : ℕ) → r.thread < THREAD_LIMIT → allocated r bytes < 2 ^ 64
 allocated_small r bytes t = go (has_room r (granules_for bytes)) refl
   where
     go : (b : Bool) → has_room r (granules_for bytes) ≡ b
-        → (if b then word_of (record { start = 2 ^ 21 + r.thread * 2 ^ 15 + (REGION_GRANULES - r.heap - granules_for bytes); length = bytes; offset = 0 }) else 0) < 2 ^ 64
+        → (if b then word_of (record { start = 2 ^ 21 + r.thread * 2 ^ 15 + (THREAD_GRANULES - r.heap - granules_for bytes); length = bytes; offset = 0 }) else 0) < 2 ^ 64
     go false e = lit< tt
     go true e = omega (arith, room_is r (granules_for bytes) e)
 
@@ -126,6 +126,6 @@ pub cut_small : (o : Option Scalar) (s : Scalar) (n : ℕ) → o ≡ Some s → 
 cut_small None s n e = absurd cc
 cut_small (Some t) s n e = let same : t ≡ s = cc in subst (λ (q : Scalar). n % modulus (width_of t) < modulus (width_of q)) same (remainder_small (width_of t) n)
 
-pub known_small : (r : Region) (k : Known) (n answer : ℕ) (s : Scalar) → r.thread < THREAD_LIMIT → returned_by k ≡ Some s → known_number r k n answer < modulus (width_of s)
+pub known_small : (r : ThreadMemory) (k : LibraryCall) (n answer : ℕ) (s : Scalar) → r.thread < THREAD_LIMIT → returned_by k ≡ Some s → library_number r k n answer < modulus (width_of s)
 known_small r known.Malloc n answer s t e = let same : Ptr ≡ s = cc in subst (λ (q : Scalar). allocated r n < modulus (width_of q)) same (allocated_small r n t)
 known_small r k n answer s t e = cut_small (returned_by k) s answer e

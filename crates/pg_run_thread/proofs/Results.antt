@@ -13,7 +13,7 @@ use Rattle.pg_ir.specs.declared.instr.Op.{Op}
 use Rattle.pg_ir.specs.declared.instr.Op.TheVariants as op
 use Rattle.pg_ir.specs.Program.{NumberedProgram}
 use Rattle.pg_ir.specs.WellFormed.{IsProgram, FitsOp, BothHaveType, HasWidth, width_of, granules_for}
-use Rattle.pg_run_thread.specs.declared.region.Region.{Region}
+use Rattle.pg_run_thread.specs.declared.thread_memory.ThreadMemory.{ThreadMemory}
 use Rattle.pg_run_thread.specs.Operands.{number_at, operands_of}
 use Rattle.pg_run_thread.specs.Step.{has_room, result_of_op}
 use Rattle.pg_run_thread.specs.States.{AreValuesOf}
@@ -21,7 +21,7 @@ use Rattle.pg_run_thread.proofs.Typed.{some_values, typed_number}
 use Rattle.pg_run_thread.proofs.Ranges.{remainder_small, residue_small, divided_small, shifted_small, bits_small, bool_small, chosen_small, along_small, pushed_small, known_small}
 
 -- what an operation needs so that its number is one of its type
-abbrev pub HasNumber : Region → Op → Type 0
+abbrev pub HasNumber : ThreadMemory → Op → Type 0
 HasNumber r (op.Alloca bytes) = IsTrue (has_room r (granules_for bytes))
 HasNumber r (op.Call g args) = ⊥
 HasNumber r o = Unit {0}
@@ -52,7 +52,7 @@ loaded_small : (result : Option Scalar) (s : Scalar) (w : Width) (n : ℕ) → H
 loaded_small None s w n h e = absurd h
 loaded_small (Some q) s w n h e = let same : q ≡ s = cc in subst (λ (v : Width). n % modulus w < modulus v) (sym h ∙ ap width_of same) (remainder_small w n)
 
-pub number_small : (p : NumberedProgram) (types : List Scalar) (rs : List (Option ℕ)) (returns result : Option Scalar) (r : Region) (o : Op) (answer : ℕ) (s : Scalar) → IsProgram p
+pub number_small : (p : NumberedProgram) (types : List Scalar) (rs : List (Option ℕ)) (returns result : Option Scalar) (r : ThreadMemory) (o : Op) (answer : ℕ) (s : Scalar) → IsProgram p
     → AreValuesOf types rs → FitsOp p types returns result o → r.thread < THREAD_LIMIT → HasNumber r o → result ≡ Some s
     → result_of_op r o (number_at p rs (operands_of o)) answer < modulus (width_of s)
 number_small p types rs returns result r (op.Add w a b) answer s program h t l n e = at_type result s (Int w) _ t.0 e (remainder_small w _)
@@ -82,4 +82,4 @@ number_small p types rs returns result r (op.Alloca bytes) answer s program h t 
 number_small p types rs returns result r (op.Load w from) answer s program h t l n e = loaded_small result s w answer t.0 e
 number_small p types rs returns result r (op.Store w v at) answer s program h t l n e = some_values (width_of s)
 number_small p types rs returns result r (op.Gep base indices) answer s program h t l n e = at_type result s Ptr _ t.0 e (along_small _ indices _ 1 (typed_number p types rs Ptr base program h t.1))
-number_small p types rs returns result r (op.CallKnown k args) answer s program h t l n e = known_small r k _ answer s l (sym t.0 ∙ e)
+number_small p types rs returns result r (op.CallLibrary k args) answer s program h t l n e = known_small r k _ answer s l (sym t.0 ∙ e)

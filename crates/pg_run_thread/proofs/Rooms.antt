@@ -16,7 +16,7 @@ use Rattle.pg_ir.specs.Program.{NumberedProgram, types_of, types_in, function_of
 use Rattle.pg_ir.specs.WellFormed.{IsProgram, FitsOp, HaveTypes, parameter_types, type_at, granules_for}
 use Rattle.pg_run_thread.specs.declared.action.Action.{Action}
 use Rattle.pg_run_thread.specs.declared.action.Action.TheVariants as actions
-use Rattle.pg_run_thread.specs.LocalState.{Frame, LocalState, region_of}
+use Rattle.pg_run_thread.specs.LocalState.{Frame, LocalState, own_memory}
 use Rattle.pg_run_thread.specs.Step.{next, op_action, edge_action, on_value, are_set, call_action, has_room, total, top_registers, under_top}
 use Rattle.pg_run_thread.specs.Told.{id_of}
 use Rattle.pg_run_thread.specs.Compute.{chosen}
@@ -85,11 +85,11 @@ caller_fits p [] program h = tt
 caller_fits p (f ∷ fs) program h = waiting_fits p f.function f.height fs program h.1
 
 room_of_op : (p : NumberedProgram) (l : LocalState) (types : List Scalar) (returns result : Option Scalar) (block : ℕ) (o : Op) → IsProgram p → AreFramesOf p l.frames
-    → FitsOp p types returns result o → CanStep (op_action p (region_of l) l.halfway (top_registers l.frames) (length l.frames) (total l.frames) block o) → CanDo p l o
+    → FitsOp p types returns result o → CanStep (op_action p (own_memory l) l.halfway (top_registers l.frames) (length l.frames) (total l.frames) block o) → CanDo p l o
 room_of_op p l types returns result block (op.Call g args) program h t can =
     call_fits p l types g block args program t.1 t.2 (all_set (are_set p (top_registers l.frames) args) (call_action p g (length l.frames) (total l.frames)) can)
 room_of_op p l types returns result block (op.Ret v) program h t can = caller_fits p l.frames program h
-room_of_op p l types returns result block (op.Alloca bytes) program h t can = stack_room (has_room (region_of l) (granules_for bytes)) can
+room_of_op p l types returns result block (op.Alloca bytes) program h t can = stack_room (has_room (own_memory l) (granules_for bytes)) can
 room_of_op p l types returns result block op.Unreachable program h t can = absurd can
 room_of_op p l types returns result block o program h t can = tt
 
@@ -115,7 +115,7 @@ edge_given : (p : NumberedProgram) (rs : List (Option ℕ)) (from : ℕ) (o : Op
 edge_given p rs from None to h = absurd h
 edge_given p rs from (Some n) to h = edge_there p rs from (to n) h
 
-take_of_op : (p : NumberedProgram) (l : LocalState) (block : ℕ) (o : Op) → CanStep (op_action p (region_of l) l.halfway (top_registers l.frames) (length l.frames) (total l.frames) block o)
+take_of_op : (p : NumberedProgram) (l : LocalState) (block : ℕ) (o : Op) → CanStep (op_action p (own_memory l) l.halfway (top_registers l.frames) (length l.frames) (total l.frames) block o)
     → CanTake p l block o
 take_of_op p l block (op.Br to) can = edge_there p (top_registers l.frames) block to.0 can
 take_of_op p l block (op.CondBr c a b) can = edge_given p (top_registers l.frames) block (operand p (top_registers l.frames) c) (λ n. chosen n a.0 b.0) can

@@ -4,12 +4,12 @@ use Rattle.std.proofs.Common.{subst, inl, inr}
 use Rattle.std.specs.Prelude.{slice_get, slice_set, ◌==◌, if◌then◌else◌}
 use Rattle.std.specs.List.{AllByRecursion}
 use Rattle.pg_num.specs.Numbers.{modulus}
-use Rattle.pg_num.specs.declared.layout.TheConstants.{REGION_GRANULES}
+use Rattle.pg_num.specs.declared.layout.TheConstants.{THREAD_GRANULES}
 use Rattle.pg_num.specs.declared.limits.TheConstants.{THREAD_LIMIT}
 use Rattle.pg_ir.specs.declared.edge.Case.{Case}
 use Rattle.pg_ir.specs.declared.function.Function.{Function}
-use Rattle.pg_ir.specs.declared.known.Known.{Known}
-use Rattle.pg_ir.specs.declared.known.Known.TheVariants as known
+use Rattle.pg_ir.specs.declared.library_call.LibraryCall.{LibraryCall}
+use Rattle.pg_ir.specs.declared.library_call.LibraryCall.TheVariants as known
 use Rattle.pg_ir.specs.declared.value.Scalar.{Scalar}
 use Rattle.pg_ir.specs.declared.value.Scalar.TheVariants.{Ptr}
 use Rattle.pg_ir.specs.declared.value.Value.{Value}
@@ -20,12 +20,12 @@ use Rattle.pg_ir.specs.Program.{NumberedProgram, types_of, types_in, function_of
 use Rattle.pg_ir.specs.Edges.{is_terminator, is_phi, targets_of}
 use Rattle.pg_ir.specs.WellFormed.{IsProgram, FitsOp, FitsReturn, HaveTypes, parameter_types, IsInFunction, StartsAs, BeginsThread, IsMain, type_at, width_of, granules_for}
 use Rattle.pg_ir.proofs.Places.{starts_within}
-use Rattle.pg_run_thread.specs.declared.region.Region.{Region}
-use Rattle.pg_run_thread.specs.LocalState.{Frame, LocalState, fresh, region_of, top_height}
+use Rattle.pg_run_thread.specs.declared.thread_memory.ThreadMemory.{ThreadMemory}
+use Rattle.pg_run_thread.specs.LocalState.{Frame, LocalState, fresh, own_memory, top_height}
 use Rattle.pg_run_thread.specs.Operands.{operand, given, number_at, operands_of}
 use Rattle.pg_run_thread.specs.Compute.{chosen}
 use Rattle.pg_run_thread.specs.EdgeStep.{case_of}
-use Rattle.pg_run_thread.specs.Step.{next, after, frames_after, instr_after, op_after, known_after, heap_after, known_heap, heap_with, has_room, result_number, stepped, taken, returned, entered}
+use Rattle.pg_run_thread.specs.Step.{next, after, frames_after, instr_after, op_after, library_after, heap_after, library_heap, heap_with, has_room, result_number, stepped, taken, returned, entered}
 use Rattle.pg_run_thread.specs.Step.{target_in, begun_registers}
 use Rattle.pg_run_thread.specs.Told.{id_of}
 use Rattle.pg_run_thread.specs.States.{IsOf, IsStateOf, IsFrameOf, AreFramesOf, AreValuesOf, StandsAt, WaitFor, Calls, CallsFunction, CanStep}
@@ -67,11 +67,11 @@ here p f x program h e =
 
 -- the frame after an instruction that sets its register
 set_frame : (p : NumberedProgram) (l : LocalState) (f : Frame) (x : Instr) (o : Op) (answer : ℕ) → x.op ≡ o → IsProgram p → l.thread < THREAD_LIMIT → Here p f x
-    → HasNumber (region_of l) o → is_terminator o ≡ false → IsFrameOf p (stepped f x.result (result_number p (region_of l) f.registers o answer))
+    → HasNumber (own_memory l) o → is_terminator o ≡ false → IsFrameOf p (stepped f x.result (result_number p (own_memory l) f.registers o answer))
 set_frame p l f x o answer e program t h n k =
     let fits = subst (λ (q : Op). FitsOp p (types_of p f.function) (result_of p f.function) (type_at (types_of p f.function) x.result) q) e h.fits in
-    stepped_frame p f x (result_number p (region_of l) f.registers o answer) program h.frame h.at h.function h.phi (ap is_terminator e ∙ k)
-    (λ s r. number_small p (types_of p f.function) f.registers (result_of p f.function) (type_at (types_of p f.function) x.result) (region_of l) o answer s program h.frame.registers fits t n r)
+    stepped_frame p f x (result_number p (own_memory l) f.registers o answer) program h.frame h.at h.function h.phi (ap is_terminator e ∙ k)
+    (λ s r. number_small p (types_of p f.function) f.registers (result_of p f.function) (type_at (types_of p f.function) x.result) (own_memory l) o answer s program h.frame.registers fits t n r)
 
 -- ---- a return
 
@@ -132,19 +132,19 @@ case_in p f (c ∷ cs) other k h = go (c.value == k) (case_in p f cs other k (h.
 
 -- ---- the frames after an instruction
 
-known_frames : (p : NumberedProgram) (halfway : Bool) (k : Known) (fs next_fs : List Frame) → AreFramesOf p fs → AreFramesOf p next_fs → AreFramesOf p (known_after halfway k fs next_fs)
-known_frames p halfway known.PthreadExit fs next_fs h n = tt
-known_frames p halfway known.PthreadCondWait fs next_fs h n = go halfway
+library_frames : (p : NumberedProgram) (halfway : Bool) (k : LibraryCall) (fs next_fs : List Frame) → AreFramesOf p fs → AreFramesOf p next_fs → AreFramesOf p (library_after halfway k fs next_fs)
+library_frames p halfway known.PthreadExit fs next_fs h n = tt
+library_frames p halfway known.PthreadCondWait fs next_fs h n = go halfway
   where
     go : (t : Bool) → AreFramesOf p (if t then next_fs else fs)
     go true = n
     go false = h
-known_frames p halfway known.PthreadBarrierWait fs next_fs h n = go halfway
+library_frames p halfway known.PthreadBarrierWait fs next_fs h n = go halfway
   where
     go : (t : Bool) → AreFramesOf p (if t then next_fs else fs)
     go true = n
     go false = h
-known_frames p halfway k fs next_fs h n = n
+library_frames p halfway k fs next_fs h n = n
 
 wait_taller : (p : NumberedProgram) (g low high : ℕ) (fs : List Frame) → low ≤ high → WaitFor p g low fs → WaitFor p g high fs
 wait_taller p g low high [] l h = tt
@@ -188,14 +188,14 @@ op_still p t hw f fs heap x answer (op.Ret v) e program h i can =
 op_still p t hw f fs heap x answer op.Unreachable e program h i can = absurd can
 op_still p t hw f fs heap x answer (op.Alloca bytes) e program h i can =
     let l = running t hw f fs heap in (
-      taken_frame p (stepped f x.result (result_number p (region_of l) f.registers (op.Alloca bytes) answer)) (granules_for bytes)
+      taken_frame p (stepped f x.result (result_number p (own_memory l) f.registers (op.Alloca bytes) answer)) (granules_for bytes)
           (set_frame p l f x (op.Alloca bytes) answer e program h.thread i can refl),
       wait_taller p f.function f.height (f.height + granules_for bytes) fs (omega arith) h.frames.1,
     )
-op_still p t hw f fs heap x answer (op.CallKnown k args) e program h i can =
+op_still p t hw f fs heap x answer (op.CallLibrary k args) e program h i can =
     let l = running t hw f fs heap in
-    known_frames p hw k (f ∷ fs) (stepped f x.result (result_number p (region_of l) f.registers (op.CallKnown k args) answer) ∷ fs) h.frames
-    (set_frame p l f x (op.CallKnown k args) answer e program h.thread i tt refl, h.frames.1)
+    library_frames p hw k (f ∷ fs) (stepped f x.result (result_number p (own_memory l) f.registers (op.CallLibrary k args) answer) ∷ fs) h.frames
+    (set_frame p l f x (op.CallLibrary k args) answer e program h.thread i tt refl, h.frames.1)
 op_still p t hw f fs heap x answer o e program h i can = (set_frame p (running t hw f fs heap) f x o answer e program h.thread i tt refl, h.frames.1)
 
 -- ---- stack and heap after an instruction
@@ -208,40 +208,40 @@ entered_height : (p : NumberedProgram) (g height : ℕ) (values : List (Option �
 unfolding entered
 entered_height p g height values = refl
 
-heap_room : (r : Region) (n : ℕ) → r.stack + r.heap ≤ REGION_GRANULES → r.stack + heap_with r n ≤ REGION_GRANULES
+heap_room : (r : ThreadMemory) (n : ℕ) → r.stack + r.heap ≤ THREAD_GRANULES → r.stack + heap_with r n ≤ THREAD_GRANULES
 heap_room r n h = go (has_room r (granules_for n)) refl
   where
-    go : (b : Bool) → has_room r (granules_for n) ≡ b → r.stack + (if b then r.heap + granules_for n else r.heap) ≤ REGION_GRANULES
+    go : (b : Bool) → has_room r (granules_for n) ≡ b → r.stack + (if b then r.heap + granules_for n else r.heap) ≤ THREAD_GRANULES
     go false e = h
     go true e = omega (arith, room_is r (granules_for n) e)
 
 -- where the stack is no more than it was, a call of a known function has room
-known_region : (r : Region) (k : Known) (n stack : ℕ) → r.stack + r.heap ≤ REGION_GRANULES → stack ≤ r.stack → stack + known_heap r k n ≤ REGION_GRANULES
+known_region : (r : ThreadMemory) (k : LibraryCall) (n stack : ℕ) → r.stack + r.heap ≤ THREAD_GRANULES → stack ≤ r.stack → stack + library_heap r k n ≤ THREAD_GRANULES
 known_region r known.Malloc n stack h l = omega (arith, heap_room r n h)
 known_region r k n stack h l = omega arith
 
-known_height : (halfway : Bool) (k : Known) (f g : Frame) (fs : List Frame) → g.height ≡ f.height → top_height (known_after halfway k (f ∷ fs) (g ∷ fs)) ≤ f.height
-known_height halfway known.PthreadExit f g fs e = omega arith
-known_height halfway known.PthreadCondWait f g fs e = go halfway
+library_height : (halfway : Bool) (k : LibraryCall) (f g : Frame) (fs : List Frame) → g.height ≡ f.height → top_height (library_after halfway k (f ∷ fs) (g ∷ fs)) ≤ f.height
+library_height halfway known.PthreadExit f g fs e = omega arith
+library_height halfway known.PthreadCondWait f g fs e = go halfway
   where
     go : (t : Bool) → top_height (if t then g ∷ fs else f ∷ fs) ≤ f.height
     go true = omega (arith, e)
     go false = omega arith
-known_height halfway known.PthreadBarrierWait f g fs e = go halfway
+library_height halfway known.PthreadBarrierWait f g fs e = go halfway
   where
     go : (t : Bool) → top_height (if t then g ∷ fs else f ∷ fs) ≤ f.height
     go true = omega (arith, e)
     go false = omega arith
-known_height halfway k f g fs e = omega (arith, e)
+library_height halfway k f g fs e = omega (arith, e)
 
 op_region : (p : NumberedProgram) (t : ℕ) (hw : Bool) (f : Frame) (fs : List Frame) (heap : ℕ) (x : Instr) (answer : ℕ) (o : Op) → IsStateOf p (running t hw f fs heap)
-    → CanDo p (running t hw f fs heap) o → top_height (op_after p (running t hw f fs heap) x answer o) + heap_after p (region_of (running t hw f fs heap)) f.registers o ≤ REGION_GRANULES
-op_region p t hw f fs heap x answer (op.Call g args) h can = omega (arith, entered_height p g f.height (map (operand p f.registers) args), h.region)
-op_region p t hw f fs heap x answer (op.Ret v) h can = omega (arith, waiting_height p f.function f.height fs (number_at p f.registers (operands_of (op.Ret v)) 0) h.frames.1, h.region)
-op_region p t hw f fs heap x answer (op.Alloca bytes) h can = omega (arith, room_is (region_of (running t hw f fs heap)) (granules_for bytes) can)
-op_region p t hw f fs heap x answer (op.CallKnown k args) h can = known_region (region_of (running t hw f fs heap)) k (number_at p f.registers args 0) _ h.region
-    (known_height hw k f (stepped f x.result (result_number p (region_of (running t hw f fs heap)) f.registers (op.CallKnown k args) answer)) fs refl)
-op_region p t hw f fs heap x answer o h can = h.region
+    → CanDo p (running t hw f fs heap) o → top_height (op_after p (running t hw f fs heap) x answer o) + heap_after p (own_memory (running t hw f fs heap)) f.registers o ≤ THREAD_GRANULES
+op_region p t hw f fs heap x answer (op.Call g args) h can = omega (arith, entered_height p g f.height (map (operand p f.registers) args), h.memory)
+op_region p t hw f fs heap x answer (op.Ret v) h can = omega (arith, waiting_height p f.function f.height fs (number_at p f.registers (operands_of (op.Ret v)) 0) h.frames.1, h.memory)
+op_region p t hw f fs heap x answer (op.Alloca bytes) h can = omega (arith, room_is (own_memory (running t hw f fs heap)) (granules_for bytes) can)
+op_region p t hw f fs heap x answer (op.CallLibrary k args) h can = known_region (own_memory (running t hw f fs heap)) k (number_at p f.registers args 0) _ h.memory
+    (library_height hw k f (stepped f x.result (result_number p (own_memory (running t hw f fs heap)) f.registers (op.CallLibrary k args) answer)) fs refl)
+op_region p t hw f fs heap x answer o h can = h.memory
 
 instr_still : (p : NumberedProgram) (t : ℕ) (hw : Bool) (f : Frame) (fs : List Frame) (heap : ℕ) (x : Instr) (answer : ℕ) → IsProgram p → IsStateOf p (running t hw f fs heap)
     → slice_get p.instrs f.place ≡ Some x → CanDo p (running t hw f fs heap) x.op → IsStateOf p (instr_after p (running t hw f fs heap) answer (Some x))
@@ -249,7 +249,7 @@ instr_still p t hw f fs heap x answer program h e can = record {
   thread = h.thread;
   frames = op_still p t hw f fs heap x answer x.op refl program h (here p f x program h.frames.0 e) can;
   start = λ b. absurd cc;
-  region = op_region p t hw f fs heap x answer x.op h can;
+  memory = op_region p t hw f fs heap x answer x.op h can;
 }
 
 -- ---- the first step
@@ -293,7 +293,7 @@ state_still p t false hw (f ∷ fs) heap answer program h can l = record {
   thread = h.thread;
   frames = (record { place = h.frames.0.place; registers = begun_typed p f.function answer f.registers program (h.start refl) h.frames.0.registers l }, h.frames.1);
   start = λ b. absurd cc;
-  region = h.region;
+  memory = h.memory;
 }
 state_still p t true hw (f ∷ fs) heap answer program h can l = go (slice_get p.instrs f.place) refl h.frames.0.place
   where
@@ -311,5 +311,5 @@ fresh_of p t f program s k = record {
   thread = k;
   frames = (record { place = entry_at p f program (starts_within p f program s); registers = fresh_typed (types_of p f) }, tt);
   start = λ b. s;
-  region = omega arith;
+  memory = omega arith;
 }

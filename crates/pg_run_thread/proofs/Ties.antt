@@ -13,8 +13,8 @@ use Rattle.pg_ir.specs.declared.instr.Instr.{Instr}
 use Rattle.pg_ir.specs.Program.{NumberedProgram}
 use Rattle.pg_run_thread.specs.declared.action.Action.{Action}
 use Rattle.pg_run_thread.specs.declared.action.Action.TheVariants as actions
-use Rattle.pg_run_thread.specs.declared.region.Region.{Region}
-use Rattle.pg_run_thread.specs.LocalState.{LocalState, region_of}
+use Rattle.pg_run_thread.specs.declared.thread_memory.ThreadMemory.{ThreadMemory}
+use Rattle.pg_run_thread.specs.LocalState.{LocalState, own_memory}
 use Rattle.pg_run_thread.specs.Operands.{operand, argument, given, number_at, operands_of}
 use Rattle.pg_run_thread.specs.Compute.{computed_if, computes, with_value, with_values, index_bytes, quotient_of, quotient_or_zero}
 use Rattle.pg_run_thread.specs.EdgeStep.{is_set}
@@ -84,7 +84,7 @@ with_value_same (Some n) f g h = h n
 
 -- ---- each operation
 
-pub tie : (p : NumberedProgram) (r : Region) (halfway : Bool) (rs : List (Option ℕ)) (depth used block answer : ℕ) (o : Op) → computes o ≡ true
+pub tie : (p : NumberedProgram) (r : ThreadMemory) (halfway : Bool) (rs : List (Option ℕ)) (depth used block answer : ℕ) (o : Op) → computes o ≡ true
     → computed_if o (argument p rs (operands_of o)) ≡ if_local (op_action p r halfway rs depth used block o) (result_number p r rs o answer)
 tie p r halfway rs depth used block answer (op.Add w a b) h = two_tie (operand p rs a) (operand p rs b) _
 tie p r halfway rs depth used block answer (op.Sub w a b) h = two_tie (operand p rs a) (operand p rs b) _
@@ -122,29 +122,29 @@ computes_straight (op.Switch w on other cases) h = absurd cc
 computes_straight (op.Call g args) h = absurd cc
 computes_straight (op.Ret v) h = absurd cc
 computes_straight (op.Alloca bytes) h = absurd cc
-computes_straight (op.CallKnown k args) h = absurd cc
+computes_straight (op.CallLibrary k args) h = absurd cc
 computes_straight o h = tt
 
 computes_told : (first number : ℕ) (o : Op) → computes o ≡ true → op_local first number o ≡ told.Other
 computes_told first number (op.CondBr c a b) h = absurd cc
 computes_told first number (op.Switch w on other cases) h = absurd cc
 computes_told first number (op.Alloca bytes) h = absurd cc
-computes_told first number (op.CallKnown k args) h = absurd cc
+computes_told first number (op.CallLibrary k args) h = absurd cc
 computes_told first number o h = refl
 
 module _ (p : NumberedProgram) (l : LocalState) (x : Instr) (h : computes x.op ≡ true) where
   -- the step's action
   abbrev pub action_at : Action
-  action_at = op_action p (region_of l) l.halfway (top_registers l.frames) (length l.frames) (total l.frames) x.block.0 x.op
+  action_at = op_action p (own_memory l) l.halfway (top_registers l.frames) (length l.frames) (total l.frames) x.block.0 x.op
 
-  tie_here : computed_if x.op (argument p (top_registers l.frames) (operands_of x.op)) ≡ if_local action_at (result_number p (region_of l) (top_registers l.frames) x.op 0)
-  tie_here = tie p (region_of l) l.halfway (top_registers l.frames) (length l.frames) (total l.frames) x.block.0 0 x.op h
+  tie_here : computed_if x.op (argument p (top_registers l.frames) (operands_of x.op)) ≡ if_local action_at (result_number p (own_memory l) (top_registers l.frames) x.op 0)
+  tie_here = tie p (own_memory l) l.halfway (top_registers l.frames) (length l.frames) (total l.frames) x.block.0 0 x.op h
 
   pub computes_done : (n : ℕ) → computed_if x.op (argument p (top_registers l.frames) (operands_of x.op)) ≡ Some n
       → instr_done p l x ≡ (record l { halfway = false; frames = on_top (λ f. stepped f x.result n) l.frames }, Done told.Other)
   computes_done n e =
       let rs = top_registers l.frames in
-      let both = local_some action_at (result_number p (region_of l) rs x.op 0) n (sym tie_here ∙ e) in
+      let both = local_some action_at (result_number p (own_memory l) rs x.op 0) n (sym tie_here ∙ e) in
       let state : record l { halfway = false; frames = on_top (λ f. stepped f x.result n) l.frames } ≡ instr_after p l 0 (Some x) =
       straight_state p l x 0 n x.op (computes_straight x.op h) (sym both.1) in
       ap (λ (a : Action). done_if a l (instr_after p l 0 (Some x)) (op_local (number_at p rs (operands_of x.op) 0) (or_zero x.result (op_own p l rs 0 x.op)) x.op)) both.0
@@ -152,4 +152,4 @@ module _ (p : NumberedProgram) (l : LocalState) (x : Instr) (h : computes x.op �
       ∙ ap (λ (m : LocalState). (m, Done told.Other)) (sym state)
 
   pub computes_asks : computed_if x.op (argument p (top_registers l.frames) (operands_of x.op)) ≡ None → instr_done p l x ≡ (l, Asks action_at)
-  computes_asks e = asked action_at (result_number p (region_of l) (top_registers l.frames) x.op 0) l _ _ (sym tie_here ∙ e)
+  computes_asks e = asked action_at (result_number p (own_memory l) (top_registers l.frames) x.op 0) l _ _ (sym tie_here ∙ e)

@@ -8,8 +8,8 @@ use Rattle.pg_num.specs.declared.width.Width.{Width}
 use Rattle.pg_num.specs.declared.width.Width.TheVariants.{W1, W8, W16, W32, W64}
 use Rattle.pg_ir.specs.declared.function.Function.{Function}
 use Rattle.pg_ir.specs.declared.function.GlobalInfo.{GlobalInfo}
-use Rattle.pg_ir.specs.declared.known.Known.{Known}
-use Rattle.pg_ir.specs.declared.known.Known.TheVariants as known
+use Rattle.pg_ir.specs.declared.library_call.LibraryCall.{LibraryCall}
+use Rattle.pg_ir.specs.declared.library_call.LibraryCall.TheVariants as known
 use Rattle.pg_ir.specs.declared.value.Index.{Index}
 use Rattle.pg_ir.specs.declared.value.Scalar.{Scalar}
 use Rattle.pg_ir.specs.declared.value.Scalar.TheVariants.{Int, Ptr}
@@ -18,7 +18,7 @@ use Rattle.pg_ir.specs.declared.value.Value.TheVariants as value
 use Rattle.pg_ir.specs.declared.instr.Op.{Op}
 use Rattle.pg_ir.specs.declared.instr.Op.TheVariants as op
 use Rattle.pg_ir.specs.Program.{NumberedProgram}
-use Rattle.pg_ir.specs.WellFormed.{HasType, HaveTypes, FitsOp, FitsCompare, FitsIndex, FitCreate, FitKnown, StartsThread, BeginsThread, IsProgram, BothHaveType, width_of}
+use Rattle.pg_ir.specs.WellFormed.{HasType, HaveTypes, FitsOp, FitsCompare, FitsIndex, FitCreate, FitLibraryCall, StartsThread, BeginsThread, IsProgram, BothHaveType, width_of}
 use Rattle.pg_ir.proofs.Globals.{global_fits}
 use Rattle.pg_run_thread.specs.Operands.{operand, given, number_at, flat, pointer_to}
 use Rattle.pg_run_thread.specs.States.{IsValueOf, AreValuesOf}
@@ -115,11 +115,11 @@ count_fits p types rs (a ∷ []) program h t = absurd t.1
 count_fits p types rs (a ∷ b ∷ []) program h t = absurd t.1.1
 count_fits p types rs (a ∷ b ∷ c ∷ d ∷ more) program h t = absurd t.1.1.1
 
-known_fits : (p : NumberedProgram) (types : List Scalar) (rs : List (Option ℕ)) (k : Known) (args : List Value) → IsProgram p → AreValuesOf types rs → FitKnown p types k args
+library_fits : (p : NumberedProgram) (types : List Scalar) (rs : List (Option ℕ)) (k : LibraryCall) (args : List Value) → IsProgram p → AreValuesOf types rs → FitLibraryCall p types k args
     → KnownWidths p rs k args
-known_fits p types rs known.PthreadCreate args program h t = create_fits p types rs args program t
-known_fits p types rs known.PthreadBarrierInit args program h t = count_fits p types rs args program h t
-known_fits p types rs k args program h t = tt
+library_fits p types rs known.PthreadCreate args program h t = create_fits p types rs args program t
+library_fits p types rs known.PthreadBarrierInit args program h t = count_fits p types rs args program h t
+library_fits p types rs k args program h t = tt
 
 pub operands_fit : (p : NumberedProgram) (types : List Scalar) (rs : List (Option ℕ)) (returns result : Option Scalar) (o : Op) → IsProgram p → AreValuesOf types rs
     → FitsOp p types returns result o → OperandsFit p rs o
@@ -129,5 +129,5 @@ operands_fit p types rs returns result (op.Compare c w a b) program h t = typed_
 operands_fit p types rs returns result (op.Sext from to v) program h t = typed_number p types rs (Int from) v program h t.2
 operands_fit p types rs returns result (op.Gep base indices) program h t = typed_indices p types rs indices program h t.2
 operands_fit p types rs returns result (op.Call g args) program h t = t.1
-operands_fit p types rs returns result (op.CallKnown k args) program h t = known_fits p types rs k args program h t.1
+operands_fit p types rs returns result (op.CallLibrary k args) program h t = library_fits p types rs k args program h t.1
 operands_fit p types rs returns result o program h t = tt

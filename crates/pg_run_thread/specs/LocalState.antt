@@ -1,7 +1,7 @@
 -- The local state of a thread.
 use Rattle.std.specs.Prelude.{ℕ, ◌+◌, ◌*◌, List, [], ◌∷◌, length, Bool, false, Option, None, replicate}
-use Rattle.pg_num.specs.declared.layout.TheConstants.{GLOBALS_END, REGION_GRANULES}
-use Rattle.pg_run_thread.specs.declared.region.Region.{Region}
+use Rattle.pg_num.specs.declared.layout.TheConstants.{GLOBALS_END, THREAD_GRANULES}
+use Rattle.pg_run_thread.specs.declared.thread_memory.ThreadMemory.{ThreadMemory}
 use Rattle.pg_ir.specs.Program.{NumberedProgram, types_of, entry_of}
 
 -- one call: its function, the number of its present instruction, the value of each register that was
@@ -31,15 +31,15 @@ fresh p t f = record {
   heap = 0;
 }
 
--- ---- a thread's region of memory: its stack grows from the front, its heap from the end
+-- ---- a thread's memory: its stack grows from the front, its heap from the end
 
--- the granule at which the region of a thread begins
-abbrev pub region_start : ℕ → ℕ
-region_start t = GLOBALS_END + t * REGION_GRANULES
+-- the granule at which the memory of a thread begins
+abbrev pub memory_start : ℕ → ℕ
+memory_start t = GLOBALS_END + t * THREAD_GRANULES
 
 abbrev pub top_height : List Frame → ℕ
 top_height [] = 0
 top_height (f ∷ fs) = f.height
 
-abbrev pub region_of : LocalState → Region
-region_of l = record { thread = l.thread; stack = top_height l.frames; heap = l.heap }
+abbrev pub own_memory : LocalState → ThreadMemory
+own_memory l = record { thread = l.thread; stack = top_height l.frames; heap = l.heap }

@@ -4,11 +4,11 @@ use Rattle.std.specs.Prelude.{◌≡◌, ℕ, ◌+◌, ◌<◌, ◌&&◌, true, 
 use Rattle.std.specs.Prelude.{if◌then◌else◌}
 use Rattle.std.specs.List.{AllByRecursion}
 use Rattle.pg_num.specs.Numbers.{modulus}
-use Rattle.pg_num.specs.declared.layout.TheConstants.{REGION_GRANULES}
+use Rattle.pg_num.specs.declared.layout.TheConstants.{THREAD_GRANULES}
 use Rattle.pg_num.specs.declared.limits.TheConstants.{CALL_DEPTH_LIMIT, THREAD_LIMIT, THREAD_REGISTER_LIMIT, FUNCTION_REGISTER_LIMIT, INSTRUCTION_LIMIT}
 use Rattle.pg_num.specs.declared.width.Width.{Width}
-use Rattle.pg_ir.specs.declared.known.Known.{Known}
-use Rattle.pg_ir.specs.declared.known.Known.TheVariants as known
+use Rattle.pg_ir.specs.declared.library_call.LibraryCall.{LibraryCall}
+use Rattle.pg_ir.specs.declared.library_call.LibraryCall.TheVariants as known
 use Rattle.pg_ir.specs.declared.request.Request.{Request}
 use Rattle.pg_ir.specs.declared.request.Request.TheVariants as requests
 use Rattle.pg_ir.specs.declared.value.Index.{Index}
@@ -22,7 +22,7 @@ use Rattle.pg_ir.specs.WellFormed.{granules_for}
 use Rattle.pg_ir.specs.Edges.{is_terminator, successors, targets_of, case_of, phis_of}
 use Rattle.pg_ir.specs.Tables.{block_cases, cases_of}
 use Rattle.pg_num.specs.Pointers.{moved_by}
-use Rattle.pg_run_thread.specs.LocalState.{Frame, LocalState, region_of, top_height}
+use Rattle.pg_run_thread.specs.LocalState.{Frame, LocalState, own_memory, top_height}
 use Rattle.pg_run_thread.specs.Operands.{operand, given, number_at}
 use Rattle.pg_run_thread.specs.Compute.{index_bytes, chosen, with_value}
 use Rattle.pg_run_thread.specs.EdgeStep.{is_set, have_values}
@@ -36,7 +36,7 @@ abbrev pub HasWidth : NumberedProgram → List (Option ℕ) → Width → Value 
 HasWidth p rs w v = given (operand p rs v) < modulus w
 
 -- the third operand of a create is the number of a function, that of a barrier's init has 32 bits
-abbrev pub KnownWidths : NumberedProgram → List (Option ℕ) → Known → List Value → Type 0
+abbrev pub KnownWidths : NumberedProgram → List (Option ℕ) → LibraryCall → List Value → Type 0
 KnownWidths p rs known.PthreadCreate args = number_at p rs args 2 < 2 ^ 32
 KnownWidths p rs known.PthreadBarrierInit args = number_at p rs args 2 < 2 ^ 32
 KnownWidths p rs k args = Unit {0}
@@ -49,7 +49,7 @@ OperandsFit p rs (op.Compare c w a b) = HasWidth p rs w a × HasWidth p rs w b
 OperandsFit p rs (op.Sext from to v) = HasWidth p rs from v
 OperandsFit p rs (op.Gep base indices) = AllByRecursion (λ (i : Index). HasWidth p rs i.width i.value) indices
 OperandsFit p rs (op.Call g args) = g < length p.functions
-OperandsFit p rs (op.CallKnown k args) = KnownWidths p rs k args
+OperandsFit p rs (op.CallLibrary k args) = KnownWidths p rs k args
 OperandsFit p rs _ = Unit {0}
 
 -- a pointer moved along the indices, one after another
@@ -88,7 +88,7 @@ IsPlain (op.Gep base indices) = Unit {0}
 IsPlain _ = ⊥
 
 -- known functions that take one number and name no object
-abbrev pub TakesNumber : Known → Type 0
+abbrev pub TakesNumber : LibraryCall → Type 0
 TakesNumber known.PgIn = Unit {0}
 TakesNumber known.PgOut = Unit {0}
 TakesNumber known.Putchar = Unit {0}
@@ -98,7 +98,7 @@ TakesNumber known.PthreadExit = Unit {0}
 TakesNumber _ = ⊥
 
 -- known functions that name one object, and take nothing else
-abbrev pub NamesObject : Known → Type 0
+abbrev pub NamesObject : LibraryCall → Type 0
 NamesObject known.PthreadMutexLock = Unit {0}
 NamesObject known.PthreadMutexTrylock = Unit {0}
 NamesObject known.PthreadMutexUnlock = Unit {0}
@@ -111,7 +111,7 @@ NamesObject known.PthreadBarrierDestroy = Unit {0}
 NamesObject _ = ⊥
 
 -- what a call that names one object asks of it
-abbrev pub object_request : Bool → Known → ℕ → Request
+abbrev pub object_request : Bool → LibraryCall → ℕ → Request
 object_request halfway known.PthreadMutexInit o = requests.MutexInit o
 object_request halfway known.PthreadMutexLock o = requests.Lock o
 object_request halfway known.PthreadMutexTrylock o = requests.Trylock o
@@ -167,7 +167,7 @@ pub record IsPresent (p : NumberedProgram) (l : LocalState) (x : Instr) : Type 0
   pub edges : CanGoOn p (length (top_registers l.frames)) x.op
   pub widths : OperandsFit p (top_registers l.frames) x.op
   pub thread : l.thread < THREAD_LIMIT
-  pub region : top_height l.frames + l.heap ≤ REGION_GRANULES
+  pub memory : top_height l.frames + l.heap ≤ THREAD_GRANULES
   pub ends : EndsBlock p x
 
 -- a new frame has room
@@ -191,7 +191,7 @@ CallerFits p (f ∷ fs) = ResultFits f.registers (slice_get p.instrs f.place)
 abbrev pub CanDo : NumberedProgram → LocalState → Op → Type 0
 CanDo p l (op.Call g args) = CanCall p l g args
 CanDo p l (op.Ret v) = CallerFits p (under_top l.frames)
-CanDo p l (op.Alloca bytes) = IsTrue (has_room (region_of l) (granules_for bytes))
+CanDo p l (op.Alloca bytes) = IsTrue (has_room (own_memory l) (granules_for bytes))
 CanDo p l op.Unreachable = ⊥
 CanDo p l _ = Unit {0}
 
@@ -202,11 +202,11 @@ CanTake p l block (op.CondBr c a b) = have_values p (top_registers l.frames) blo
 CanTake p l block (op.Switch w on other cases) = have_values p (top_registers l.frames) block (phis_of p (case_of cases other.0 (given (operand p (top_registers l.frames) on)))) ≡ true
 CanTake p l block _ = Unit {0}
 
--- operations whose number doesn't depend on the thread's region
-abbrev pub NeedsNoRegion : Op → Type 0
-NeedsNoRegion (op.Alloca bytes) = ⊥
-NeedsNoRegion (op.CallKnown k args) = ⊥
-NeedsNoRegion _ = Unit {0}
+-- operations whose number doesn't depend on the thread's memory
+abbrev pub NeedsNoMemory : Op → Type 0
+NeedsNoMemory (op.Alloca bytes) = ⊥
+NeedsNoMemory (op.CallLibrary k args) = ⊥
+NeedsNoMemory _ = Unit {0}
 
 -- operations that set their register and go on to the next instruction, and do nothing else
 abbrev pub IsStraight : Op → Type 0
@@ -216,5 +216,5 @@ IsStraight (op.Switch w on other cases) = ⊥
 IsStraight (op.Call g args) = ⊥
 IsStraight (op.Ret v) = ⊥
 IsStraight (op.Alloca bytes) = ⊥
-IsStraight (op.CallKnown k args) = ⊥
+IsStraight (op.CallLibrary k args) = ⊥
 IsStraight _ = Unit {0}

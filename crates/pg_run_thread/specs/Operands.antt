@@ -71,7 +71,7 @@ operands_of (op.Alloca bytes) = []
 operands_of (op.Load w from) = from ∷ []
 operands_of (op.Store w v at) = v ∷ at ∷ []
 operands_of (op.Gep base indices) = base ∷ map (λ (i : Index). i.value) indices
-operands_of (op.CallKnown k args) = args
+operands_of (op.CallLibrary k args) = args
 
 -- the values of the first four operands
 abbrev pub first_four : NumberedProgram → List (Option ℕ) → List Value → List ℕ

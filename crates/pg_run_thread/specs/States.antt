@@ -1,7 +1,7 @@
 -- The local states of a program's threads.
 use Rattle.std.specs.Prelude.{◌≡◌, ℕ, ◌+◌, ◌<◌, ◌≤◌, List, [], ◌∷◌, false, Option, Some, None, slice_get}
 use Rattle.pg_num.specs.Numbers.{modulus}
-use Rattle.pg_num.specs.declared.layout.TheConstants.{REGION_GRANULES}
+use Rattle.pg_num.specs.declared.layout.TheConstants.{THREAD_GRANULES}
 use Rattle.pg_num.specs.declared.limits.TheConstants.{THREAD_LIMIT}
 use Rattle.pg_ir.specs.declared.value.Scalar.{Scalar}
 use Rattle.pg_ir.specs.declared.instr.Op.{Op}
@@ -56,12 +56,12 @@ abbrev pub Starts : NumberedProgram → List Frame → Type 0
 Starts p [] = Unit {0}
 Starts p (f ∷ fs) = StartsAs p f.function
 
--- stack and heap fit into the thread's region
+-- stack and heap fit into the thread's memory
 pub record IsStateOf (p : NumberedProgram) (l : LocalState) : Type 0 where
   pub thread : l.thread < THREAD_LIMIT
   pub frames : AreFramesOf p l.frames
   pub start : l.begun ≡ false → Starts p l.frames
-  pub region : top_height l.frames + l.heap ≤ REGION_GRANULES
+  pub memory : top_height l.frames + l.heap ≤ THREAD_GRANULES
 
 unfoldable pub IsOf : NumberedProgram → LocalState → Type 0
 IsOf p l = IsStateOf p l

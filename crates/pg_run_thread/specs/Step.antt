@@ -5,7 +5,7 @@ use Rattle.std.specs.Prelude.{Result, Ok, Err, slice_get, slice_set, if◌then�
 use Rattle.pg_num.specs.Numbers.{signed, modulus, divided}
 use Rattle.pg_num.specs.Places.{ByteRange}
 use Rattle.pg_num.specs.Pointers as pointers
-use Rattle.pg_num.specs.declared.layout.TheConstants.{REGION_GRANULES}
+use Rattle.pg_num.specs.declared.layout.TheConstants.{THREAD_GRANULES}
 use Rattle.pg_num.specs.declared.limits.TheConstants.{CALL_DEPTH_LIMIT, THREAD_REGISTER_LIMIT}
 use Rattle.pg_num.specs.declared.operations.DivideFault.{DivideFault}
 use Rattle.pg_num.specs.declared.operations.DivideFault.TheVariants as divide
@@ -15,8 +15,8 @@ pub use Rattle.pg_num.specs.Numbers.{bytes_of}
 use Rattle.pg_num.specs.declared.width.Width.TheVariants.{W64}
 use Rattle.pg_ir.specs.declared.value.Value.{Value}
 use Rattle.pg_ir.specs.declared.value.Scalar.{Scalar}
-use Rattle.pg_ir.specs.declared.known.Known.{Known}
-use Rattle.pg_ir.specs.declared.known.Known.TheVariants as known
+use Rattle.pg_ir.specs.declared.library_call.LibraryCall.{LibraryCall}
+use Rattle.pg_ir.specs.declared.library_call.LibraryCall.TheVariants as known
 use Rattle.pg_ir.specs.declared.instr.Op.{Op}
 use Rattle.pg_ir.specs.declared.instr.Op.TheVariants as op
 use Rattle.pg_ir.specs.declared.instr.Instr.{Instr}
@@ -29,8 +29,8 @@ use Rattle.pg_ir.specs.Signatures.{returned_by}
 use Rattle.pg_ir.specs.WellFormed.{width_of, granules_for}
 use Rattle.pg_run_thread.specs.declared.action.Action.{Action}
 use Rattle.pg_run_thread.specs.declared.action.Action.TheVariants as actions
-use Rattle.pg_run_thread.specs.declared.region.Region.{Region}
-use Rattle.pg_run_thread.specs.LocalState.{Frame, LocalState, region_of, region_start}
+use Rattle.pg_run_thread.specs.declared.thread_memory.ThreadMemory.{ThreadMemory}
+use Rattle.pg_run_thread.specs.LocalState.{Frame, LocalState, own_memory, memory_start}
 use Rattle.pg_run_thread.specs.Operands.{operand, argument, given, number_at, operands_of}
 use Rattle.pg_run_thread.specs.Compute.{computed, chosen}
 use Rattle.pg_run_thread.specs.EdgeStep.{have_values, is_set, over_edge, set_register, case_of}
@@ -68,8 +68,8 @@ abbrev pub on_null : ℕ → Action → Action
 on_null attribute act = if attribute == 0 then act else actions.Trap traps.BadAttribute
 
 -- stack and heap together have room for so many granules more
-abbrev pub has_room : Region → ℕ → Bool
-has_room r granules = nat_le (r.stack + granules + r.heap) REGION_GRANULES
+abbrev pub has_room : ThreadMemory → ℕ → Bool
+has_room r granules = nat_le (r.stack + granules + r.heap) THREAD_GRANULES
 
 -- ---- calls of known functions
 
@@ -114,29 +114,29 @@ wait_action p halfway rs args =
 abbrev pub barrier_request : Bool → ℕ → Request
 barrier_request halfway o = if halfway then requests.Leave o else requests.Arrive o
 
-abbrev pub known_action : NumberedProgram → ℕ → Bool → List (Option ℕ) → Known → List Value → Action
-known_action p t halfway rs known.PgIn args = on_value (argument p rs args 0) (λ n. actions.In (signed W64 n))
-known_action p t halfway rs known.PgInLen args = actions.InLen
-known_action p t halfway rs known.PgOut args = on_value (argument p rs args 0) (λ n. actions.Event (requests.Out n))
-known_action p t halfway rs known.Putchar args = on_value (argument p rs args 0) (λ n. actions.Event (requests.Putchar n))
-known_action p t halfway rs known.Malloc args = on_value (argument p rs args 0) (λ n. actions.Local)
-known_action p t halfway rs known.Free args = on_value (argument p rs args 0) (λ n. actions.Local)
-known_action p t halfway rs known.PthreadCreate args = create_action p rs args
-known_action p t halfway rs known.PthreadJoin args = join_action p rs args
-known_action p t halfway rs known.PthreadExit args = on_value (argument p rs args 0) (λ n. actions.Event (requests.Exit (exit_value t n) false))
-known_action p t halfway rs known.PthreadMutexInit args = init_action p rs args (λ o. requests.MutexInit o)
-known_action p t halfway rs known.PthreadMutexLock args = object_action p rs args (λ o. requests.Lock o)
-known_action p t halfway rs known.PthreadMutexTrylock args = object_action p rs args (λ o. requests.Trylock o)
-known_action p t halfway rs known.PthreadMutexUnlock args = object_action p rs args (λ o. requests.Unlock o)
-known_action p t halfway rs known.PthreadMutexDestroy args = object_action p rs args (λ o. requests.MutexDestroy o)
-known_action p t halfway rs known.PthreadCondInit args = init_action p rs args (λ o. requests.CondInit o)
-known_action p t halfway rs known.PthreadCondWait args = wait_action p halfway rs args
-known_action p t halfway rs known.PthreadCondSignal args = object_action p rs args (λ o. requests.Signal o)
-known_action p t halfway rs known.PthreadCondBroadcast args = object_action p rs args (λ o. requests.Broadcast o)
-known_action p t halfway rs known.PthreadCondDestroy args = object_action p rs args (λ o. requests.CondDestroy o)
-known_action p t halfway rs known.PthreadBarrierInit args = barrier_init_action p rs args
-known_action p t halfway rs known.PthreadBarrierWait args = object_action p rs args (λ o. barrier_request halfway o)
-known_action p t halfway rs known.PthreadBarrierDestroy args = object_action p rs args (λ o. requests.BarrierDestroy o)
+abbrev pub library_action : NumberedProgram → ℕ → Bool → List (Option ℕ) → LibraryCall → List Value → Action
+library_action p t halfway rs known.PgIn args = on_value (argument p rs args 0) (λ n. actions.In (signed W64 n))
+library_action p t halfway rs known.PgInLen args = actions.InLen
+library_action p t halfway rs known.PgOut args = on_value (argument p rs args 0) (λ n. actions.Event (requests.Out n))
+library_action p t halfway rs known.Putchar args = on_value (argument p rs args 0) (λ n. actions.Event (requests.Putchar n))
+library_action p t halfway rs known.Malloc args = on_value (argument p rs args 0) (λ n. actions.Local)
+library_action p t halfway rs known.Free args = on_value (argument p rs args 0) (λ n. actions.Local)
+library_action p t halfway rs known.PthreadCreate args = create_action p rs args
+library_action p t halfway rs known.PthreadJoin args = join_action p rs args
+library_action p t halfway rs known.PthreadExit args = on_value (argument p rs args 0) (λ n. actions.Event (requests.Exit (exit_value t n) false))
+library_action p t halfway rs known.PthreadMutexInit args = init_action p rs args (λ o. requests.MutexInit o)
+library_action p t halfway rs known.PthreadMutexLock args = object_action p rs args (λ o. requests.Lock o)
+library_action p t halfway rs known.PthreadMutexTrylock args = object_action p rs args (λ o. requests.Trylock o)
+library_action p t halfway rs known.PthreadMutexUnlock args = object_action p rs args (λ o. requests.Unlock o)
+library_action p t halfway rs known.PthreadMutexDestroy args = object_action p rs args (λ o. requests.MutexDestroy o)
+library_action p t halfway rs known.PthreadCondInit args = init_action p rs args (λ o. requests.CondInit o)
+library_action p t halfway rs known.PthreadCondWait args = wait_action p halfway rs args
+library_action p t halfway rs known.PthreadCondSignal args = object_action p rs args (λ o. requests.Signal o)
+library_action p t halfway rs known.PthreadCondBroadcast args = object_action p rs args (λ o. requests.Broadcast o)
+library_action p t halfway rs known.PthreadCondDestroy args = object_action p rs args (λ o. requests.CondDestroy o)
+library_action p t halfway rs known.PthreadBarrierInit args = barrier_init_action p rs args
+library_action p t halfway rs known.PthreadBarrierWait args = object_action p rs args (λ o. barrier_request halfway o)
+library_action p t halfway rs known.PthreadBarrierDestroy args = object_action p rs args (λ o. requests.BarrierDestroy o)
 
 -- ---- the other instructions
 
@@ -168,9 +168,9 @@ divided_action (Ok n) = actions.Local
 divided_action (Err divide.Zero) = actions.Trap traps.DivideByZero
 divided_action (Err divide.Overflow) = actions.Trap traps.DivideOverflow
 
--- the action of an operation that stands in a block: by the thread's number and region, the present
+-- the action of an operation that stands in a block: by the thread's number and memory, the present
 -- frame's registers, and how many frames there are, with how many registers together
-abbrev pub op_action : NumberedProgram → Region → Bool → List (Option ℕ) → ℕ → ℕ → ℕ → Op → Action
+abbrev pub op_action : NumberedProgram → ThreadMemory → Bool → List (Option ℕ) → ℕ → ℕ → ℕ → Op → Action
 op_action p r halfway rs depth used block (op.Divide d w a b) = on_value (operand p rs a) (λ m. on_value (operand p rs b) (λ n. divided_action (divided d w m n)))
 op_action p r halfway rs depth used block (op.Phi from) = actions.Ended
 op_action p r halfway rs depth used block (op.Br to) = edge_action p rs block to.0
@@ -182,12 +182,12 @@ op_action p r halfway rs depth used block op.Unreachable = actions.Trap traps.Un
 op_action p r halfway rs depth used block (op.Alloca bytes) = if has_room r (granules_for bytes) then actions.Local else actions.Trap traps.StackFull
 op_action p r halfway rs depth used block (op.Load w from) = on_value (operand p rs from) (λ a. on_place a (bytes_of w) (λ q. actions.Load q))
 op_action p r halfway rs depth used block (op.Store w v at) = on_value (operand p rs v) (λ n. on_value (operand p rs at) (λ a. on_place a (bytes_of w) (λ q. actions.Store q n)))
-op_action p r halfway rs depth used block (op.CallKnown k args) = known_action p r.thread halfway rs k args
+op_action p r halfway rs depth used block (op.CallLibrary k args) = library_action p r.thread halfway rs k args
 op_action p r halfway rs depth used block o = on_all p rs (operands_of o) actions.Local
 
 abbrev pub instr_action : NumberedProgram → LocalState → Frame → List Frame → Option Instr → Action
 instr_action p l f fs None = actions.Ended
-instr_action p l f fs (Some x) = op_action p (region_of l) l.halfway f.registers (length (f ∷ fs)) (total (f ∷ fs)) x.block.0 x.op
+instr_action p l f fs (Some x) = op_action p (own_memory l) l.halfway f.registers (length (f ∷ fs)) (total (f ∷ fs)) x.block.0 x.op
 
 -- a thread's first step is its start
 abbrev pub frames_action : NumberedProgram → LocalState → Bool → List Frame → Action
@@ -206,14 +206,14 @@ if_local _ n = None
 -- ---- the number that an instruction gives its register
 
 -- the pointer to a new range of the stack
-abbrev pub pushed : Region → ℕ → ℕ
-pushed r bytes = pointers.word_of (record { start = region_start r.thread + r.stack; length = bytes; offset = 0 })
+abbrev pub pushed : ThreadMemory → ℕ → ℕ
+pushed r bytes = pointers.word_of (record { start = memory_start r.thread + r.stack; length = bytes; offset = 0 })
 
 -- the pointer to a new range of the heap, or null where there is no room
-abbrev pub allocated : Region → ℕ → ℕ
+abbrev pub allocated : ThreadMemory → ℕ → ℕ
 allocated r bytes =
     if has_room r (granules_for bytes)
-    then pointers.word_of (record { start = region_start r.thread + (REGION_GRANULES - r.heap - granules_for bytes); length = bytes; offset = 0 })
+    then pointers.word_of (record { start = memory_start r.thread + (THREAD_GRANULES - r.heap - granules_for bytes); length = bytes; offset = 0 })
     else 0
 
 -- an answer cut to the width of what a call returns
@@ -221,18 +221,18 @@ abbrev pub cut_to : Option Scalar → ℕ → ℕ
 cut_to None n = n
 cut_to (Some s) n = n % modulus (width_of s)
 
-abbrev pub known_number : Region → Known → ℕ → ℕ → ℕ
-known_number r known.Malloc n answer = allocated r n
-known_number r k n answer = cut_to (returned_by k) answer
+abbrev pub library_number : ThreadMemory → LibraryCall → ℕ → ℕ → ℕ
+library_number r known.Malloc n answer = allocated r n
+library_number r k n answer = cut_to (returned_by k) answer
 
 -- the result, by the number of each operand and the answer
-abbrev pub result_of_op : Region → Op → (ℕ → ℕ) → ℕ → ℕ
+abbrev pub result_of_op : ThreadMemory → Op → (ℕ → ℕ) → ℕ → ℕ
 result_of_op r (op.Alloca bytes) n answer = pushed r bytes
 result_of_op r (op.Load w from) n answer = answer % modulus w
-result_of_op r (op.CallKnown k args) n answer = known_number r k (n 0) answer
+result_of_op r (op.CallLibrary k args) n answer = library_number r k (n 0) answer
 result_of_op r o n answer = computed o n
 
-abbrev pub result_number : NumberedProgram → Region → List (Option ℕ) → Op → ℕ → ℕ
+abbrev pub result_number : NumberedProgram → ThreadMemory → List (Option ℕ) → Op → ℕ → ℕ
 result_number p r rs o answer = result_of_op r o (number_at p rs (operands_of o)) answer
 
 -- ---- the state after the step, with the answer of memory, of the input or of the event
@@ -282,11 +282,11 @@ abbrev pub taken : Frame → ℕ → Frame
 taken f granules = record f { height = f.height + granules }
 
 -- the first half of a wait leaves the thread at its instruction
-abbrev pub known_after : Bool → Known → List Frame → List Frame → List Frame
-known_after halfway known.PthreadExit fs next_fs = []
-known_after halfway known.PthreadCondWait fs next_fs = if halfway then next_fs else fs
-known_after halfway known.PthreadBarrierWait fs next_fs = if halfway then next_fs else fs
-known_after halfway k fs next_fs = next_fs
+abbrev pub library_after : Bool → LibraryCall → List Frame → List Frame → List Frame
+library_after halfway known.PthreadExit fs next_fs = []
+library_after halfway known.PthreadCondWait fs next_fs = if halfway then next_fs else fs
+library_after halfway known.PthreadBarrierWait fs next_fs = if halfway then next_fs else fs
+library_after halfway k fs next_fs = next_fs
 
 abbrev pub op_after : NumberedProgram → LocalState → Instr → ℕ → Op → List Frame
 op_after p l x answer (op.Br to) = on_top (λ f. moved p f x.block.0 to.0) l.frames
@@ -294,30 +294,30 @@ op_after p l x answer (op.CondBr c a b) = on_top (λ f. moved p f x.block.0 (cho
 op_after p l x answer (op.Switch w on other cases) = on_top (λ f. moved p f x.block.0 (case_of cases other.0 (given (operand p (top_registers l.frames) on)))) l.frames
 op_after p l x answer (op.Call g args) = entered p g (top_height_of l.frames) (map (operand p (top_registers l.frames)) args) ∷ l.frames
 op_after p l x answer (op.Ret v) = returned p (under_top l.frames) (number_at p (top_registers l.frames) (operands_of (op.Ret v)) 0)
-op_after p l x answer (op.Alloca bytes) = on_top (λ f. taken (stepped f x.result (pushed (region_of l) bytes)) (granules_for bytes)) l.frames
-op_after p l x answer (op.CallKnown k args) = known_after l.halfway k l.frames
-    (on_top (λ f. stepped f x.result (result_number p (region_of l) (top_registers l.frames) (op.CallKnown k args) answer)) l.frames)
-op_after p l x answer o = on_top (λ f. stepped f x.result (result_number p (region_of l) (top_registers l.frames) o answer)) l.frames
+op_after p l x answer (op.Alloca bytes) = on_top (λ f. taken (stepped f x.result (pushed (own_memory l) bytes)) (granules_for bytes)) l.frames
+op_after p l x answer (op.CallLibrary k args) = library_after l.halfway k l.frames
+    (on_top (λ f. stepped f x.result (result_number p (own_memory l) (top_registers l.frames) (op.CallLibrary k args) answer)) l.frames)
+op_after p l x answer o = on_top (λ f. stepped f x.result (result_number p (own_memory l) (top_registers l.frames) o answer)) l.frames
 
-abbrev pub known_halfway : Bool → Known → Bool
-known_halfway halfway known.PthreadCondWait = not halfway
-known_halfway halfway known.PthreadBarrierWait = not halfway
-known_halfway halfway k = false
+abbrev pub library_halfway : Bool → LibraryCall → Bool
+library_halfway halfway known.PthreadCondWait = not halfway
+library_halfway halfway known.PthreadBarrierWait = not halfway
+library_halfway halfway k = false
 
 abbrev pub halfway_after : Bool → Op → Bool
-halfway_after halfway (op.CallKnown k args) = known_halfway halfway k
+halfway_after halfway (op.CallLibrary k args) = library_halfway halfway k
 halfway_after halfway o = false
 
 -- the granules of the heap after an allocation
-abbrev pub heap_with : Region → ℕ → ℕ
+abbrev pub heap_with : ThreadMemory → ℕ → ℕ
 heap_with r bytes = if has_room r (granules_for bytes) then r.heap + granules_for bytes else r.heap
 
-abbrev pub known_heap : Region → Known → ℕ → ℕ
-known_heap r known.Malloc n = heap_with r n
-known_heap r k n = r.heap
+abbrev pub library_heap : ThreadMemory → LibraryCall → ℕ → ℕ
+library_heap r known.Malloc n = heap_with r n
+library_heap r k n = r.heap
 
-abbrev pub heap_after : NumberedProgram → Region → List (Option ℕ) → Op → ℕ
-heap_after p r rs (op.CallKnown k args) = known_heap r k (number_at p rs args 0)
+abbrev pub heap_after : NumberedProgram → ThreadMemory → List (Option ℕ) → Op → ℕ
+heap_after p r rs (op.CallLibrary k args) = library_heap r k (number_at p rs args 0)
 heap_after p r rs o = r.heap
 
 abbrev pub instr_after : NumberedProgram → LocalState → ℕ → Option Instr → LocalState
@@ -325,7 +325,7 @@ instr_after p l answer None = l
 instr_after p l answer (Some x) = record l {
   halfway = halfway_after l.halfway x.op;
   frames = op_after p l x answer x.op;
-  heap = heap_after p (region_of l) (top_registers l.frames) x.op;
+  heap = heap_after p (own_memory l) (top_registers l.frames) x.op;
 }
 
 -- a start gives the function's parameter, if it has one, its argument

@@ -1,12 +1,12 @@
 -- What a thread tells of its present step.
 use Rattle.std.specs.Prelude.{ℕ, List, [], ◌∷◌, Bool, true, false, Option, Some, None, slice_get, if◌then◌else◌}
-use Rattle.pg_ir.specs.declared.known.Known.{Known}
-use Rattle.pg_ir.specs.declared.known.Known.TheVariants as known
+use Rattle.pg_ir.specs.declared.library_call.LibraryCall.{LibraryCall}
+use Rattle.pg_ir.specs.declared.library_call.LibraryCall.TheVariants as known
 use Rattle.pg_ir.specs.declared.instr.Op.{Op}
 use Rattle.pg_ir.specs.declared.instr.Op.TheVariants as op
 use Rattle.pg_ir.specs.declared.instr.Instr.{Instr}
 use Rattle.pg_ir.specs.Program.{NumberedProgram}
-use Rattle.pg_run_thread.specs.LocalState.{Frame, LocalState, region_of}
+use Rattle.pg_run_thread.specs.LocalState.{Frame, LocalState, own_memory}
 use Rattle.pg_run_thread.specs.Operands.{operands_of, first_four}
 use Rattle.pg_run_thread.specs.Step.{result_number}
 
@@ -25,16 +25,16 @@ or_zero None n = 0
 or_zero (Some r) n = n
 
 -- the first half of a wait sets nothing
-abbrev pub known_own : Bool → Known → ℕ → ℕ
-known_own halfway known.PthreadCondWait n = if halfway then n else 0
-known_own halfway known.PthreadBarrierWait n = if halfway then n else 0
-known_own halfway k n = n
+abbrev pub library_own : Bool → LibraryCall → ℕ → ℕ
+library_own halfway known.PthreadCondWait n = if halfway then n else 0
+library_own halfway known.PthreadBarrierWait n = if halfway then n else 0
+library_own halfway k n = n
 
 -- a call's register is set by the step that returns to it
 abbrev pub op_own : NumberedProgram → LocalState → List (Option ℕ) → ℕ → Op → ℕ
 op_own p l rs answer (op.Call f args) = 0
-op_own p l rs answer (op.CallKnown k args) = known_own l.halfway k (result_number p (region_of l) rs (op.CallKnown k args) answer)
-op_own p l rs answer o = result_number p (region_of l) rs o answer
+op_own p l rs answer (op.CallLibrary k args) = library_own l.halfway k (result_number p (own_memory l) rs (op.CallLibrary k args) answer)
+op_own p l rs answer o = result_number p (own_memory l) rs o answer
 
 abbrev pub instr_own : NumberedProgram → LocalState → List (Option ℕ) → ℕ → Option Instr → ℕ
 instr_own p l rs answer None = 0

@@ -2,7 +2,7 @@
 
 ghost use Rattle.std.specs.Prelude.{◌≡◌, ℕ, true, false, length};
 ghost use Rattle.pg_ir.specs.Operands.{CanReadAll};
-ghost use Rattle.pg_run_thread.specs.LocalState.{region_of};
+ghost use Rattle.pg_run_thread.specs.LocalState.{own_memory};
 ghost use Rattle.pg_run_thread.specs.Compute.{computes};
 ghost use Rattle.pg_run_thread.specs.Operands.{number_at, operands_of};
 ghost use Rattle.pg_run_thread.specs.Step.{edge_action, instr_after, moved, next, on_top, op_action, top_registers, total};
@@ -17,7 +17,7 @@ use crate::edges::edge_of;
 use crate::fiber::Fiber;
 use crate::operands::{argument_number, value_of};
 use crate::optional::computed_if;
-use pg_ir::{Instr, Known, Op, Program, Request, TrapName};
+use pg_ir::{Instr, LibraryCall, Op, Program, Request, TrapName};
 
 /// What is told of a step that only the thread's own state decides and sees.
 #[derive(Clone, Copy, Debug, PartialEq, Eq)]
@@ -47,7 +47,7 @@ fn told_operand(p: &Program, registers: &[Option<u64>], op: &Op) -> u64
     ensures { (n : ℕ) → op_local result n op.now ≡ op_local (number_at p.now registers.now (operands_of op.now) 0) n op.now }
 {
     match op {
-        Op::CallKnown { args, .. } => argument_number(p, registers, args.as_slice(), 0),
+        Op::CallLibrary { args, .. } => argument_number(p, registers, args.as_slice(), 0),
         _ => 0,
     }
 }
@@ -63,8 +63,8 @@ fn told_of(op: &Op, operand: u64, number: u64) -> LocalStep
             operand: 0,
             result: number,
         },
-        Op::CallKnown {
-            function: Known::Malloc,
+        Op::CallLibrary {
+            function: LibraryCall::Malloc,
             ..
         } => LocalStep::Allocation {
             operand,
@@ -109,7 +109,7 @@ impl Fiber {
     fn decide(&mut self, p: &Program, instr: &Instr) -> Advance
         requires present { IsPresent p.now self.old instr.now }
         requires straight { IsNoBranch instr.now.op }
-        requires room { CanStep (op_action p.now (region_of self.old) self.old.halfway (top_registers self.old.frames) (length self.old.frames)
+        requires room { CanStep (op_action p.now (own_memory self.old) self.old.halfway (top_registers self.old.frames) (length self.old.frames)
             (total self.old.frames) instr.now.block.0 instr.now.op) → CanDo p.now self.old instr.now.op }
         ensures { (self.new, result) ≡ instr_done p.now self.old instr.now }
     {
@@ -127,7 +127,7 @@ impl Fiber {
     /// Does the present instruction if only the thread's own state decides and sees it, or tells what it asks.
     fn advance_by(&mut self, p: &Program, instr: &Instr) -> Advance
         requires present { IsPresent p.now self.old instr.now }
-        requires room { CanStep (op_action p.now (region_of self.old) self.old.halfway (top_registers self.old.frames) (length self.old.frames)
+        requires room { CanStep (op_action p.now (own_memory self.old) self.old.halfway (top_registers self.old.frames) (length self.old.frames)
             (total self.old.frames) instr.now.block.0 instr.now.op) → CanDo p.now self.old instr.now.op }
         ensures { (self.new, result) ≡ instr_done p.now self.old instr.now }
     {
@@ -146,7 +146,7 @@ impl Fiber {
             | Op::Alloca { .. }
             | Op::Load { .. }
             | Op::Store { .. }
-            | Op::CallKnown { .. } => self.decide(p, instr),
+            | Op::CallLibrary { .. } => self.decide(p, instr),
             _ => self.compute(p, instr),
         }
     }

@@ -14,10 +14,10 @@ ghost use Rattle.pg_run_thread.specs.Needs.{EndsBlock, HasWidth, OperandsFit, Is
 
 use crate::action::Action;
 use crate::edges::{edge_of, have_values};
-use crate::known::{fault_action, known_action};
+use crate::library::{fault_action, library_action};
 use crate::operands::{are_set, has_value, have_index_values, value_of};
 use crate::present::Present;
-use crate::region::{Region, granules_for, has_room};
+use crate::thread_memory::{ThreadMemory, granules_for, has_room};
 use pg_ir::{Instr, Op, Program, Request, TrapName, Value};
 use pg_num::limits::{CALL_DEPTH_LIMIT, THREAD_REGISTER_LIMIT};
 use pg_num::{DivideFault, Division, Width, divide, place};
@@ -166,10 +166,10 @@ fn bytes_of(width: Width) -> u8
 }
 
 /// The action of an allocation on the stack.
-fn alloca_action(region: Region, bytes: u128) -> Action
-    ensures { result ≡ (if has_room region (granules_for bytes) then actions.Local else actions.Trap traps.StackFull) }
+fn alloca_action(memory: ThreadMemory, bytes: u128) -> Action
+    ensures { result ≡ (if has_room memory (granules_for bytes) then actions.Local else actions.Trap traps.StackFull) }
 {
-    if has_room(region, granules_for(bytes)) {
+    if has_room(memory, granules_for(bytes)) {
         Action::Local
     } else {
         Action::Trap(TrapName::StackFull)
@@ -219,7 +219,7 @@ pub(crate) fn action_of(p: &Program, here: &Present, instr: &Instr) -> Action
     requires widths { OperandsFit p.now here.now.registers.now instr.now.op }
     requires ends { EndsBlock p.now instr.now }
     requires used { here.now.used ≤ THREAD_REGISTER_LIMIT }
-    ensures { result ≡ op_action p.now here.now.region here.now.halfway here.now.registers.now here.now.depth here.now.used instr.now.block.0 instr.now.op }
+    ensures { result ≡ op_action p.now here.now.memory here.now.halfway here.now.registers.now here.now.depth here.now.used instr.now.block.0 instr.now.op }
 {
     let registers = here.registers;
     match &instr.op {
@@ -245,10 +245,10 @@ pub(crate) fn action_of(p: &Program, here: &Present, instr: &Instr) -> Action
         Op::Call { function, .. } => call_action(p, *function, here.depth, here.used),
         Op::Ret { value } => returning_action(p, registers, here.depth, *value),
         Op::Unreachable => Action::Trap(TrapName::Unreachable),
-        Op::Alloca { bytes } => alloca_action(here.region, *bytes),
+        Op::Alloca { bytes } => alloca_action(here.memory, *bytes),
         Op::Load { width, from } => load_action(p, registers, *width, *from),
         Op::Store { width, value, at } => store_action(p, registers, *width, *value, *at),
-        Op::CallKnown { function, args } => known_action(p, *here, *function, args.as_slice()),
+        Op::CallLibrary { function, args } => library_action(p, *here, *function, args.as_slice()),
         op => plain_action(p, registers, op),
     }
 }

@@ -1,7 +1,7 @@
 //! A thread by itself: its calls and their registers.
 
 ghost use Rattle.std.specs.Prelude.{◌≡◌, ◌<◌, ◌≤◌, ◌+◌, ◌∷◌, ◌==◌, [], length, map, slice_get, IfOk, IfSome, Some, true, false};
-ghost use Rattle.pg_num.specs.declared.layout.TheConstants.{REGION_GRANULES};
+ghost use Rattle.pg_num.specs.declared.layout.TheConstants.{THREAD_GRANULES};
 ghost use Rattle.pg_num.specs.declared.limits.TheConstants.{CALL_DEPTH_LIMIT, FUNCTION_REGISTER_LIMIT, INSTRUCTION_LIMIT, THREAD_LIMIT, THREAD_REGISTER_LIMIT};
 ghost use Rattle.pg_ir.specs.Edges.{phis_of, successors};
 ghost use Rattle.pg_ir.specs.Program.{types_of, entry_of};
@@ -10,7 +10,7 @@ ghost use Rattle.pg_ir.specs.Operands.{CanEnter, CanRead};
 ghost use Rattle.pg_run_thread.specs.EdgeStep.{have_values};
 ghost use Rattle.pg_run_thread.specs.Operands.{operand};
 ghost use Rattle.pg_ir.specs.WellFormed.{StartsAs};
-ghost use Rattle.pg_run_thread.specs.LocalState.{fresh, region_of, top_height};
+ghost use Rattle.pg_run_thread.specs.LocalState.{fresh, own_memory, top_height};
 ghost use Rattle.pg_run_thread.specs.Step.{total, entered, on_top, top_height_of, under_top, top_registers, top_function, stepped, moved, taken, begun_registers};
 ghost use Rattle.pg_run_thread.specs.Needs.{CanCall};
 ghost use Rattle.pg_run_thread.specs.Told.{id_of, place_in};
@@ -19,8 +19,8 @@ ghost use Rattle.pg_run_thread.specs.States.{IsOf};
 use crate::edges::{set_register, take_edge};
 use crate::head::Head;
 use crate::present::Present;
-use crate::region::Region;
 use crate::room::{push_call, push_head, reserved};
+use crate::thread_memory::ThreadMemory;
 use pg_ir::{BlockNo, Edge, InstrId, Program, ThreadNo, Value};
 use pg_num::limits::{CALL_DEPTH_LIMIT, FUNCTION_REGISTER_LIMIT, THREAD_REGISTER_LIMIT};
 use std::alloc::{AllocError, Global};
@@ -182,14 +182,14 @@ impl Fiber {
         self.registers.len() as u32
     }
 
-    /// What the thread has of its region.
+    /// What the thread has taken of its memory.
     #[tactic(auto, unfolding(crate::specs::Stack::frames_of))]
-    pub(crate) fn region(&self) -> Region
+    pub(crate) fn memory(&self) -> ThreadMemory
         requires { 0 < length self.now.frames }
-        ensures { result ≡ region_of self.now }
+        ensures { result ≡ own_memory self.now }
     {
         let _ended = self.ended;
-        Region {
+        ThreadMemory {
             thread: self.thread.0,
             stack: self.top.height,
             heap: self.heap,
@@ -206,7 +206,7 @@ impl Fiber {
     pub(crate) fn present(&self) -> Present
         requires { 0 < length self.now.frames }
         ensures registers { result.registers.now ≡ top_registers self.now.frames }
-        ensures region { result.region ≡ region_of self.now }
+        ensures memory { result.memory ≡ own_memory self.now }
         ensures halfway { result.halfway ≡ self.now.halfway }
         ensures depth { result.depth ≡ length self.now.frames }
         ensures used { result.used ≡ total self.now.frames }
@@ -214,7 +214,7 @@ impl Fiber {
     {
         Present {
             registers: self.top(),
-            region: self.region(),
+            memory: self.memory(),
             halfway: self.is_halfway(),
             depth: self.depth(),
             used: self.used(),
@@ -241,7 +241,7 @@ impl Fiber {
         requires going { 0 < length self.old.frames }
         requires place { place_in self.old.frames < INSTRUCTION_LIMIT }
         requires target { IfSome target (λ r. r < length (top_registers self.old.frames)) }
-        requires room { top_height self.old.frames + granules ≤ REGION_GRANULES }
+        requires room { top_height self.old.frames + granules ≤ THREAD_GRANULES }
         ensures { self.new ≡ record self.old { halfway = false; frames = on_top (λ f. taken (stepped f target n) granules) self.old.frames } }
     {
         let _ended = self.ended;

@@ -3,10 +3,10 @@
 ghost use Rattle.std.specs.Prelude.{◌≡◌, ◌<◌, length};
 ghost use Rattle.pg_ir.specs.Operands.{CanReadAll, CanReadReturned};
 ghost use Rattle.pg_ir.specs.declared.instr.Op.TheVariants.{Ret};
-ghost use Rattle.pg_run_thread.specs.declared.region.Region.{Region};
+ghost use Rattle.pg_run_thread.specs.declared.thread_memory.ThreadMemory.{ThreadMemory};
 ghost use Rattle.pg_run_thread.specs.Operands.{number_at, operands_of};
 ghost use Rattle.pg_run_thread.specs.Step.{result_of_op};
-ghost use Rattle.pg_run_thread.specs.Needs.{OperandsFit, NeedsNoRegion};
+ghost use Rattle.pg_run_thread.specs.Needs.{OperandsFit, NeedsNoMemory};
 ghost use Rattle.pg_run_thread.specs.Told.{or_zero};
 
 use crate::compute::computed_of;
@@ -16,10 +16,10 @@ use pg_num::trunc;
 
 /// The number that an operation gives its register, by the numbers of its operands and the answer.
 pub(crate) fn plain_number(p: &Program, registers: &[Option<u64>], op: &Op, reply: u64) -> u64
-    requires alone { NeedsNoRegion op.now }
+    requires alone { NeedsNoMemory op.now }
     requires operands { CanReadAll p.now (length registers.now) op.now }
     requires widths { OperandsFit p.now registers.now op.now }
-    ensures { (r : Region) → result ≡ result_of_op r op.now (number_at p.now registers.now (operands_of op.now)) reply }
+    ensures { (r : ThreadMemory) → result ≡ result_of_op r op.now (number_at p.now registers.now (operands_of op.now)) reply }
 {
     match op {
         Op::Load { width, .. } => trunc(*width, reply),

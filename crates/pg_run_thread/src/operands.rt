@@ -211,7 +211,7 @@ pub(crate) fn operand_numbers(p: &Program, registers: &[Option<u64>], op: &Op) -
         Op::Store { value, at, .. } => two(p, registers, *value, *at),
         Op::Ret { value: Some(value) } => one(p, registers, *value),
         Op::Ret { value: None } | Op::Br { .. } | Op::Unreachable | Op::Alloca { .. } => [0; 4],
-        Op::Call { args, .. } | Op::CallKnown { args, .. } => four(p, registers, args.as_slice()),
+        Op::Call { args, .. } | Op::CallLibrary { args, .. } => four(p, registers, args.as_slice()),
         Op::Phi { from } => incoming_numbers(p, registers, from.as_slice()),
         Op::Switch { on, cases, .. } => switch_numbers(p, registers, *on, cases.as_slice()),
         Op::Gep { base, indices } => index_numbers(p, registers, *base, indices.as_slice()),

@@ -2,14 +2,14 @@
 
 ghost use Rattle.std.specs.Prelude.{◌≡◌, ◌<◌, ◌≤◌, ◌+◌, ◌∷◌, [], length, map, IfOk, IfSome, Some, true, false};
 ghost use Rattle.std.specs.List.{AllByRecursion};
-ghost use Rattle.pg_num.specs.declared.layout.TheConstants.{REGION_GRANULES};
+ghost use Rattle.pg_num.specs.declared.layout.TheConstants.{THREAD_GRANULES};
 ghost use Rattle.pg_num.specs.declared.limits.TheConstants.{INSTRUCTION_LIMIT, THREAD_LIMIT};
-ghost use Rattle.pg_ir.specs.declared.instr.Op.TheVariants.{Ret, CallKnown};
+ghost use Rattle.pg_ir.specs.declared.instr.Op.TheVariants.{Ret, CallLibrary};
 ghost use Rattle.pg_ir.specs.Operands.{CanRead, CanReadReturned};
-ghost use Rattle.pg_run_thread.specs.LocalState.{region_of};
+ghost use Rattle.pg_run_thread.specs.LocalState.{own_memory};
 ghost use Rattle.pg_run_thread.specs.Operands.{number_at, operands_of};
-ghost use Rattle.pg_run_thread.specs.Step.{on_top, under_top, top_registers, stepped, returned, result_number, known_after, known_halfway, known_heap, instr_after, next, after};
-ghost use Rattle.pg_run_thread.specs.Told.{place_in, operand_values, number_given, or_zero, known_own, op_own};
+ghost use Rattle.pg_run_thread.specs.Step.{on_top, under_top, top_registers, stepped, returned, result_number, library_after, library_halfway, library_heap, instr_after, next, after};
+ghost use Rattle.pg_run_thread.specs.Told.{place_in, operand_values, number_given, or_zero, library_own, op_own};
 ghost use Rattle.pg_run_thread.specs.Needs.{IsPresent, CallerFits, CanDo, CanTake};
 ghost use Rattle.pg_run_thread.specs.States.{IsOf, CanStep};
 ghost use Rattle.pg_ir.specs.Program.{parameter_count};
@@ -18,11 +18,11 @@ use crate::action::Action;
 use crate::decide::action_of;
 use crate::edges::edge_of;
 use crate::fiber::Fiber;
-use crate::known::known_number;
+use crate::library::library_number;
 use crate::numbers::{own_number, plain_number, returned_number};
 use crate::operands::{argument_number, number_of, operand_numbers};
-use crate::region::{granules_for, heap_with, pushed};
-use pg_ir::{Instr, Known, Op, Program, Request, Value};
+use crate::thread_memory::{granules_for, heap_with, pushed};
+use pg_ir::{Instr, LibraryCall, Op, Program, Request, Value};
 
 impl Fiber {
     /// Goes back to the caller, whose register gets the number.
@@ -71,7 +71,7 @@ impl Fiber {
     fn act_known(
         &mut self,
         p: &Program,
-        function: Known,
+        function: LibraryCall,
         args: &[Value],
         target: Option<u32>,
         reply: u64,
@@ -82,24 +82,24 @@ impl Fiber {
         requires thread { self.old.thread < THREAD_LIMIT }
         requires operands { AllByRecursion (CanRead p.now (length (top_registers self.old.frames))) args.now }
         ensures state { self.new ≡ record self.old {
-          halfway = known_halfway self.old.halfway function;
-          frames = known_after self.old.halfway function self.old.frames
-              (on_top (λ f. stepped f target (result_number p.now (region_of self.old) (top_registers self.old.frames) (CallKnown function args.now) reply)) self.old.frames);
+          halfway = library_halfway self.old.halfway function;
+          frames = library_after self.old.halfway function self.old.frames
+              (on_top (λ f. stepped f target (result_number p.now (own_memory self.old) (top_registers self.old.frames) (CallLibrary function args.now) reply)) self.old.frames);
           heap =
-              known_heap (region_of self.old) function (number_at p.now (top_registers self.old.frames) args.now 0);
+              library_heap (own_memory self.old) function (number_at p.now (top_registers self.old.frames) args.now 0);
         } }
-        ensures number { result ≡ or_zero target (known_own self.old.halfway function
-            (result_number p.now (region_of self.old) (top_registers self.old.frames) (CallKnown function args.now) reply)) }
+        ensures number { result ≡ or_zero target (library_own self.old.halfway function
+            (result_number p.now (own_memory self.old) (top_registers self.old.frames) (CallLibrary function args.now) reply)) }
     {
         let size = argument_number(p, self.top(), args, 0);
-        let region = self.region();
-        let n = known_number(region, function, size, reply);
+        let memory = self.memory();
+        let n = library_number(memory, function, size, reply);
         match function {
-            Known::PthreadExit => {
+            LibraryCall::PthreadExit => {
                 self.end();
                 own_number(target, n)
             }
-            Known::PthreadCondWait | Known::PthreadBarrierWait => {
+            LibraryCall::PthreadCondWait | LibraryCall::PthreadBarrierWait => {
                 if self.is_halfway() {
                     self.put_number(target, n)
                 } else {
@@ -107,8 +107,8 @@ impl Fiber {
                     0
                 }
             }
-            Known::Malloc => {
-                self.set_heap(heap_with(region, size));
+            LibraryCall::Malloc => {
+                self.set_heap(heap_with(memory, size));
                 self.put_number(target, n)
             }
             _ => self.put_number(target, n),
@@ -148,11 +148,11 @@ impl Fiber {
                 0
             }
             Op::Alloca { bytes } => {
-                let n = pushed(self.region(), *bytes);
+                let n = pushed(self.memory(), *bytes);
                 self.put_taking(instr.result, n, granules_for(*bytes) as u32);
                 own_number(instr.result, n)
             }
-            Op::CallKnown { function, args } => self.act_known(
+            Op::CallLibrary { function, args } => self.act_known(
                 p,
                 *function,
                 args.as_slice(),

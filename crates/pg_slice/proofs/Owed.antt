@@ -1,4 +1,4 @@
--- Of steps that are live and whose frames meet, closed decisions fix what the rules say.
+-- Of steps that are live and whose bounds meet, closed decisions fix what the rules say.
 use Rattle.std.proofs.Common.{◌≡◌, ℕ, Bool, true, false, List, [], ◌∷◌, ◌++◌, Some, None, length, refl, sym, ap, ◌∙◌, inl, inr, ◌⊎◌}
 use Rattle.std.specs.Prelude.{Contains, ◌&&◌, ◌||◌, not, slice_get, if◌then◌else◌}
 use Rattle.std.specs.List.{list_any}
@@ -8,7 +8,7 @@ use Rattle.pg_slice_rules.specs.declared.decision.Decision.TheVariants.{Pinned, 
 use Rattle.pg_slice_rules.specs.Closed.{IsClosed}
 use Rattle.pg_slice_rules.specs.Known.{Reference, Seen, Taken, is_branch, seen_in}
 use Rattle.pg_slice_rules.specs.Moments.{Moment}
-use Rattle.pg_slice_rules.specs.Rules.{access_print, asks_disturbed, asks_pins, asks_shared, frames_meet, is_disturbed, is_shared, region_prints}
+use Rattle.pg_slice_rules.specs.Rules.{access_footprint, asks_disturbed, asks_pins, asks_shared, bounds_meet, is_disturbed, is_shared, region_footprints}
 use Rattle.pg_law_least.specs.Keeps.{ExtentsKeep, every}
 use Rattle.pg_law_least.specs.Along.{region_in}
 use Rattle.pg_law_least.proofs.Asks.{none_asked}
@@ -64,17 +64,17 @@ module _ (R : Reference) (keeps : ExtentsKeep R) (e : Taken) (closed : IsClosed 
     disturbed_pinned d =
         let l = live_seen n m q live in
         let k = live_seen y my qy live_y in
-        let meets : frames_meet (seen n m) (region_prints (seen n m)) (seen y my) (access_print (seen y my) ++ region_prints (seen y my)) ≡ true =
+        let meets : bounds_meet (seen n m) (region_footprints (seen n m)) (seen y my) (access_footprint (seen y my) ++ region_footprints (seen y my)) ≡ true =
         rw (l, k) (both _ _ (both _ _ (rw d.apart refl) d.together) d.meet) in
         taken_if (is_disturbed (seen_in R e) (seen n m)) (e.pinned n) (Pinned n)
-        (any_in (λ (z : Seen). frames_meet (seen n m) (region_prints (seen n m)) z (access_print z ++ region_prints z)) (seen_in R e) (seen y my) (in_seen y my qy) meets)
+        (any_in (λ (z : Seen). bounds_meet (seen n m) (region_footprints (seen n m)) z (access_footprint z ++ region_footprints z)) (seen_in R e) (seen y my) (in_seen y my qy) meets)
         (none_asked (asks_disturbed e (seen_in R e)) (seen_in R e) (seen n m) closed.disturbed (in_seen n m q))
 
     pub shared_exact : AreShared m my → e.exact n ≡ true
     shared_exact d =
         let l = live_seen n m q live in
         let k = live_seen y my qy live_y in
-        let meets : frames_meet (seen n m) (access_print (seen n m)) (seen y my) (access_print (seen y my)) ≡ true = rw (l, k) (both _ _ (both _ _ (rw d.apart refl) d.together) d.meet) in
+        let meets : bounds_meet (seen n m) (access_footprint (seen n m)) (seen y my) (access_footprint (seen y my)) ≡ true = rw (l, k) (both _ _ (both _ _ (rw d.apart refl) d.together) d.meet) in
         taken_if (is_shared (seen_in R e) (seen n m)) (e.exact n) (Exact n)
-        (both _ _ d.plain (any_in (λ (z : Seen). frames_meet (seen n m) (access_print (seen n m)) z (access_print z)) (seen_in R e) (seen y my) (in_seen y my qy) meets))
+        (both _ _ d.plain (any_in (λ (z : Seen). bounds_meet (seen n m) (access_footprint (seen n m)) z (access_footprint z)) (seen_in R e) (seen y my) (in_seen y my qy) meets))
         (none_asked (asks_shared e (seen_in R e)) (seen_in R e) (seen n m) closed.shared (in_seen n m q))

@@ -14,7 +14,7 @@ use Rattle.pg_slice_rules.specs.declared.decision.Decision.TheVariants.{Pinned, 
 use Rattle.pg_slice_rules.specs.Freeable.{FreeRegion}
 use Rattle.pg_slice_rules.specs.Known.{Taken, is_branch}
 use Rattle.pg_slice_rules.specs.Moments.{Moment, moments_of}
-use Rattle.pg_slice_rules.specs.Rules.{any_conflict, is_plain, print_of, prints_in}
+use Rattle.pg_slice_rules.specs.Rules.{any_conflict, is_plain, footprint_of, footprints_in}
 use Rattle.pg_law_least.specs.Along.{region_in}
 use Rattle.pg_slice_replay.specs.declared.run.ReferenceRun.{ReferenceRun}
 use Rattle.pg_slice_replay.specs.Kept.{landmark_at}
@@ -64,7 +64,7 @@ module _ (xs : List Step) (intervals : List Interval) (are : intervals ≡ inter
 
   pub disturbs_by : (r : ReferenceRun) (n y : ℕ) (z : Step) → slice_get xs y ≡ Some z → AreTogether xs n y →
       IfSome (landmark_at r n) (λ (l : Landmark). IfSome (landmark_at r y) (λ (k : Landmark).
-      any_conflict (prints_in l.region) (print_of (access_of z) ++ prints_in k.region) ≡ true)) → Disturbs r xs n y
+      any_conflict (footprints_in l.region) (footprint_of (access_of z) ++ footprints_in k.region) ≡ true)) → Disturbs r xs n y
   disturbs_by r n y z g together meet = record {
     by = λ p regions gated input marks m my q qy.
         let R = reference_of p regions gated input xs in
@@ -72,15 +72,16 @@ module _ (xs : List Step) (intervals : List Interval) (are : intervals ≡ inter
         let b : my.did.did ≡ z = did_at gated p input y z my g qy in
         let e : landmark_at r n ≡ Some (landmark_of p regions m) = marks n ∙ ap (option_map (landmark_of p regions)) q in
         let f : landmark_at r y ≡ Some (landmark_of p regions my) = marks y ∙ ap (option_map (landmark_of p regions)) qy in
-        let c : any_conflict (prints_in (region_in R m)) (print_of (access_of z) ++ prints_in (region_in R my)) ≡ true =
-        subst (λ (o : Option Landmark). IfSome o (λ (k : Landmark). any_conflict (prints_in (region_in R m)) (print_of (access_of z) ++ prints_in k.region) ≡ true)) f
+        let c : any_conflict (footprints_in (region_in R m)) (footprint_of (access_of z) ++ footprints_in (region_in R my)) ≡ true =
+        subst (λ (o : Option Landmark). IfSome o (λ (k : Landmark). any_conflict (footprints_in (region_in R m)) (footprint_of (access_of z) ++ footprints_in k.region) ≡ true)) f
         (subst (λ (o : Option Landmark). IfSome o (λ (l : Landmark). IfSome (landmark_at r y) (λ (k : Landmark).
-        any_conflict (prints_in l.region) (print_of (access_of z) ++ prints_in k.region) ≡ true))) e meet) in
-        record { apart = t.0; together = t.1; meet = subst (λ (w : Step). any_conflict (prints_in (region_in R m)) (print_of (access_of w) ++ prints_in (region_in R my)) ≡ true) (sym b) c };
+        any_conflict (footprints_in l.region) (footprint_of (access_of z) ++ footprints_in k.region) ≡ true))) e meet) in
+        record { apart = t.0; together = t.1; meet = subst (λ (w : Step). any_conflict (footprints_in (region_in R m)) (footprint_of (access_of w) ++ footprints_in (region_in R my)) ≡ true)
+          (sym b) c };
   }
 
   pub shares_by : (n y : ℕ) (x z : Step) → slice_get xs n ≡ Some x → slice_get xs y ≡ Some z → AreTogether xs n y → is_plain x.kind ≡ true →
-      any_conflict (print_of (access_of x)) (print_of (access_of z)) ≡ true → Shares xs n y
+      any_conflict (footprint_of (access_of x)) (footprint_of (access_of z)) ≡ true → Shares xs n y
   shares_by n y x z h g together plain meet = record {
     by = λ p regions gated input m my q qy.
         let t = together.by p regions gated input m my q qy in
@@ -90,8 +91,8 @@ module _ (xs : List Step) (intervals : List Interval) (are : intervals ≡ inter
           plain = subst (λ (w : Step). is_plain w.kind ≡ true) (sym a) plain;
           apart = t.0;
           together = t.1;
-          meet = subst (λ (w : Step). any_conflict (print_of (access_of m.did.did)) (print_of (access_of w)) ≡ true) (sym b)
-              (subst (λ (w : Step). any_conflict (print_of (access_of w)) (print_of (access_of z)) ≡ true) (sym a) meet);
+          meet = subst (λ (w : Step). any_conflict (footprint_of (access_of m.did.did)) (footprint_of (access_of w)) ≡ true) (sym b)
+              (subst (λ (w : Step). any_conflict (footprint_of (access_of w)) (footprint_of (access_of z)) ≡ true) (sym a) meet);
         };
   }
 

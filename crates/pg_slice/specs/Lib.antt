@@ -1,3 +1,3 @@
-pub mod Prints
+pub mod Footprints
 pub mod Rivals
 pub mod Settled

@@ -1,4 +1,4 @@
--- Of which steps it is known that they are live, and what is owed by their frames.
+-- Of which steps it is known that they are live, and what is owed by their bounds.
 use Rattle.std.specs.Prelude.{◌≡◌, ◌==◌, ◌<◌, ℕ, ℤ, List, Bool, true, false, Some, length, slice_get, slice_index_or}
 use Rattle.pg_ir.specs.declared.ids.InstrId.{InstrId}
 use Rattle.pg_ir.specs.Program.{NumberedProgram}

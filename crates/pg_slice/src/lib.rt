@@ -1,9 +1,9 @@
-//! The slice of a reference run by few passes: what a walk from its end back asks, and what live steps ask by their frames, is
+//! The slice of a reference run by few passes: what a walk from its end back asks, and what live steps ask by their bounds, is
 //! taken in before each.
 #![tactic(auto)]
 
+mod footprints;
 mod meetings;
-mod prints;
 mod rivals;
 mod slicing;
 mod spread;

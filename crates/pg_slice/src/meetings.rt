@@ -6,7 +6,7 @@ ghost use Rattle.pg_schedule.specs.declared.interval.Turns.TheVariants.{Recorded
 ghost use Rattle.pg_slice_replay.specs.Kept.{step_count};
 ghost use Rattle.pg_slice.specs.Settled.{AreTogether, Disturbs, Shares};
 
-use crate::prints::{accesses_meet, region_meets};
+use crate::footprints::{accesses_meet, region_meets};
 use crate::rivals::{Places, Rivals, places_of};
 use pg_run_trace::{Step, StepKind, Trace};
 use pg_schedule::Interval;
@@ -70,7 +70,7 @@ fn is_plain(step: &Step) -> bool
     }
 }
 
-/// Whether a step is a load or a store that is no event and whose frame meets that of another's access.
+/// Whether a step is a load or a store that is no event and whose bounds meet those of another's access.
 fn shares(t: &Trace, intervals: &[Interval], n: usize, y: usize) -> bool
     requires intervals { intervals.now ≡ intervals_of Recorded t.now.steps }
     requires number { n < length t.now.steps }

@@ -5,13 +5,13 @@ use pg_num::unpack;
 use std::alloc::{AllocError, Global};
 use std::collections::BTreeMap;
 
-/// The last steps so far that may access a frame: of each thread, and by whether they write.
+/// The last steps so far that may access what lies within bounds: of each thread, and by whether they write.
 #[derive(Drop)]
 pub(crate) struct Rivals {
     last: BTreeMap<u64, usize>,
 }
 
-/// Where the steps of a thread stand that may access a frame, those that write and those that don't.
+/// Where the steps of a thread stand that may access what lies within bounds, those that write and those that don't.
 fn place(word: u64, thread: u8, writes: bool) -> u64 {
     (unpack(word).start as u64 * 256 + thread as u64) * 2 + writes as u64
 }
@@ -30,7 +30,7 @@ pub(crate) struct Places {
     pub(crate) to: u64,
 }
 
-/// The places of the steps that may access a frame.
+/// The places of the steps that may access what lies within bounds.
 pub(crate) fn places_of(word: u64) -> Places {
     let from = place(word, 0, false);
     Places {
@@ -47,7 +47,7 @@ impl Rivals {
         }
     }
 
-    /// A step may access a frame.
+    /// A step may access what lies within bounds.
     pub(crate) fn note(
         &mut self,
         word: u64,

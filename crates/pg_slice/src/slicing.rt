@@ -16,7 +16,7 @@ use pg_slice_walk::widen;
 use std::alloc::{AllocError, Global};
 
 /// Takes decisions that each closed set above the present ones has: those for which what has to be known along the run asks,
-/// and those for which the live steps ask by their frames.
+/// and those for which the live steps ask by their bounds.
 fn take_found(
     alloc: Global,
     run: &GivenRun,
@@ -36,7 +36,7 @@ fn take_found(
 }
 
 /// The slice of a reference run, and what an input must give so that it serves: from no decisions on, what is found by a
-/// walk from its end back and by the frames of live steps is taken in, and what a pass misses then, until nothing is missing
+/// walk from its end back and by the bounds of live steps is taken in, and what a pass misses then, until nothing is missing
 /// that isn't taken.
 ///
 /// # Errors

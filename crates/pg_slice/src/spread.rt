@@ -1,4 +1,4 @@
-//! What live steps ask by what they are, by their frames and by those of others: the first rule, the fourth and the fifth.
+//! What live steps ask by what they are, by their bounds and by those of others: the first rule, the fourth and the fifth.
 ghost use Rattle.std.specs.Prelude.{◌≡◌, ◌<◌, ◌≤◌, ℕ, List, true, false, IfOk, OnOk, length, slice_index_or};
 ghost use Rattle.pg_slice_rules.specs.Known as known;
 ghost use Rattle.pg_slice_rules.specs.Known.{Taken};
@@ -26,7 +26,7 @@ use pg_slice_walk::marks::{no_marks, set_mark};
 use std::alloc::{AllocError, Global};
 
 /// What is found along a run: which steps are live, which branch steps are settled, since they and those in whose extents they
-/// stand are pinned, and the last steps that may access each frame.
+/// stand are pinned, and the last steps that may access what lies within given bounds.
 #[derive(Drop)]
 struct Spread {
     live: Vec<bool>,
@@ -109,7 +109,7 @@ fn take_if(d: &mut DecisionSet, steps: usize, asked: bool, x: Decision)
     }
 }
 
-/// Notes the frame of the access with this number of a freeable step's region, if there is one.
+/// Notes the bounds of the access with this number of a freeable step's region, if there is one.
 fn note_one(
     rivals: &mut Rivals,
     step: &Step,
@@ -123,7 +123,7 @@ fn note_one(
     Ok(())
 }
 
-/// Notes the frames of a live step.
+/// Notes the bounds of a live step.
 fn note(rivals: &mut Rivals, step: &Step, r: &ReferenceRun, n: usize) -> Result<(), AllocError> {
     if let Some(access) = step.access() {
         rivals.note(access.pointer, step.thread.0, access.writes, n)?;

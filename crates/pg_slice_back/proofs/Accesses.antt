@@ -15,7 +15,7 @@ use Rattle.pg_run_trace.specs.declared.step.StepKind.TheVariants as kinds
 use Rattle.pg_run_trace.specs.declared.step.Access.{Access}
 use Rattle.pg_run_trace.specs.Steps.{range_of}
 use Rattle.pg_slice_rules.specs.Moments.{Moment}
-use Rattle.pg_slice_rules.specs.Freeable.{frame_of}
+use Rattle.pg_slice_rules.specs.Freeable.{bounds_of}
 use Rattle.pg_slice_rules.specs.Shadows.{is_within}
 use Rattle.pg_slice_rules.specs.Known.{Reference, RunShadow, Taken}
 use Rattle.pg_slice_replay.specs.declared.run.ReferenceRun.{ReferenceRun}
@@ -87,7 +87,7 @@ module _ (R : Reference) (e : Taken) (p : NumberedProgram) (r : ReferenceRun) (x
   not_set o i w f h = h.0.0
 
   not_stored : (o : Op) (b : ℕ) → is_within (range_of a) b ≡ false → Asks e s (back_store t k n a b true o) → IsMet s (byte_demand b true)
-  not_stored (op.Store w v at) b f h = go (is_within (range_of a) b) f (is_within (frame_of a.pointer) b) h
+  not_stored (op.Store w v at) b f h = go (is_within (range_of a) b) f (is_within (bounds_of a.pointer) b) h
     where
       go : (c : Bool) → c ≡ false → (d : Bool) →
           Asks e s (if c then if_plain a.event n (of_value t k true v) else if d then if_plain a.event n (byte_demand b true ∷ []) else only (byte_demand b true ∷ []))
@@ -138,12 +138,12 @@ module _ (R : Reference) (e : Taken) (p : NumberedProgram) (r : ReferenceRun) (x
     store_moves b f h = go (is_within (range_of a) b) f (stored b h)
       where
         go : (c : Bool) → c ≡ true → Asks e s (if c then if_plain a.event n (of_value t k true v)
-            else if is_within (frame_of a.pointer) b then if_plain a.event n (byte_demand b true ∷ []) else only (byte_demand b true ∷ [])) → AllByRecursion (IsMet s) (of_value t k true v)
+            else if is_within (bounds_of a.pointer) b then if_plain a.event n (byte_demand b true ∷ []) else only (byte_demand b true ∷ [])) → AllByRecursion (IsMet s) (of_value t k true v)
         go true f h = plain_first e s n a.event (of_value t k true v) h
         go false f h = absurd (true≢false (sym f))
 
-    pub store_fixes : (b : ℕ) → (is_within (range_of a) b || is_within (frame_of a.pointer) b) ≡ true → a.event ≡ false → IsMet after (byte_demand b true) → e.exact n ≡ true
-    store_fixes b f g h = go (is_within (range_of a) b) (is_within (frame_of a.pointer) b) f (stored b h)
+    pub store_fixes : (b : ℕ) → (is_within (range_of a) b || is_within (bounds_of a.pointer) b) ≡ true → a.event ≡ false → IsMet after (byte_demand b true) → e.exact n ≡ true
+    store_fixes b f g h = go (is_within (range_of a) b) (is_within (bounds_of a.pointer) b) f (stored b h)
       where
         go : (c d : Bool) → (c || d) ≡ true →
             Asks e s (if c then if_plain a.event n (of_value t k true v) else if d then if_plain a.event n (byte_demand b true ∷ []) else only (byte_demand b true ∷ [])) → e.exact n ≡ true

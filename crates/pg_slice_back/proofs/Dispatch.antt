@@ -19,7 +19,7 @@ use Rattle.pg_slice_rules.specs.declared.decision.Decision.{Decision}
 use Rattle.pg_slice_rules.specs.declared.decision.Decision.TheVariants.{Pinned}
 use Rattle.pg_slice_rules.specs.Closed.{AreWithin}
 use Rattle.pg_slice_rules.specs.Moments.{Moment, instr_in}
-use Rattle.pg_slice_rules.specs.Freeable.{FreeRegion, frame_of}
+use Rattle.pg_slice_rules.specs.Freeable.{FreeRegion, bounds_of}
 use Rattle.pg_slice_rules.specs.Shadows.{is_within}
 use Rattle.pg_slice_rules.specs.Extents.{edge_in}
 use Rattle.pg_slice_rules.specs.Known.{Reference, RunShadow, Seen, Taken, caller_target, has, is_branch}
@@ -94,7 +94,7 @@ module _ (R : Reference) (e : Taken) (p : NumberedProgram) (r : ReferenceRun) (x
       (closes R e st.closed (of_those R e n m s) h.in_those)
 
   asked_met : (d : Taken) → AreWithin d e → AllByRecursion (IsMet s) (instr_demands d (seen true) (instr_in R.program m) ++ region_demands (seen true) region)
-  asked_met d w = step_own R d e w n m region s (live.tall R e p r x step counts n m st) closed.values closed.frames
+  asked_met d w = step_own R d e w n m region s (live.tall R e p r x step counts n m st) closed.values closed.bounds
 
   pub region_met : AllByRecursion (IsMet s) (region_demands (seen true) region)
   region_met = all_right (IsMet s) (instr_demands e (seen true) (instr_in R.program m)) (region_demands (seen true) region) (asked_met e (λ w h. h))
@@ -146,7 +146,7 @@ module _ (R : Reference) (e : Taken) (p : NumberedProgram) (r : ReferenceRun) (x
       pub store_back : (w : Width) (v to : Value) → x.op ≡ op.Store w v to → (o : Option Decision) →
           ((e : Taken) (after before : RunShadow) → Leaves at.thread at.depth none (is_within (range_of a)) after before →
           ((b : ℕ) → is_within (range_of a) b ≡ true → IsMet after (byte_demand b true) → AllByRecursion (IsMet before) (of_value at.thread at.depth true v)) →
-          ((b : ℕ) → (is_within (range_of a) b || is_within (frame_of a.pointer) b) ≡ true → a.event ≡ false → IsMet after (byte_demand b true) → e.exact n ≡ true) →
+          ((b : ℕ) → (is_within (range_of a) b || is_within (bounds_of a.pointer) b) ≡ true → a.event ≡ false → IsMet after (byte_demand b true) → e.exact n ≡ true) →
           AreMet after old → AreMet before new × IfSome o (λ (z : Decision). has e z ≡ true)) → AreMet after old → AreMet s new × IfSome o (λ (z : Decision). has e z ≡ true)
       store_back w v to is o h =
           h e after s

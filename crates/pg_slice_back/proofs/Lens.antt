@@ -2,8 +2,8 @@
 use Rattle.std.proofs.Common.{◌≡◌, ℕ, suc, ◌+◌, ◌-◌, Bool, true, false, List, [], ◌∷◌, length, map, replicate, Option, Some, None, refl, ap, ◌∙◌, length-append}
 use Rattle.std.proofs.lemmas.List.{length-map, length-replicate}
 use Rattle.std.specs.Prelude.{if◌then◌else◌, ◌==◌}
-use Rattle.pg_ir.specs.declared.known.Known.{Known as KnownFunction}
-use Rattle.pg_ir.specs.declared.known.Known.TheVariants as known
+use Rattle.pg_ir.specs.declared.library_call.LibraryCall.{LibraryCall}
+use Rattle.pg_ir.specs.declared.library_call.LibraryCall.TheVariants as known
 use Rattle.pg_ir.specs.declared.instr.Instr.{Instr}
 use Rattle.pg_ir.specs.declared.instr.Op.{Op}
 use Rattle.pg_ir.specs.declared.instr.Op.TheVariants as op
@@ -49,7 +49,7 @@ branch_long p false n x edge (Some r) rs = forgotten_long 0 r.sets _ rs
 branch_long p false n x edge None rs = edge_long p x.block.0 edge rs
 branch_long p true n x edge region rs = edge_long p x.block.0 edge rs
 
-known_long : (k : KnownFunction) (target : Option ℕ) (result : ℕ) (s : Shadow) (rs : List Shadow) → length (after_known k target result s rs) ≡ length rs
+known_long : (k : LibraryCall) (target : Option ℕ) (result : ℕ) (s : Shadow) (rs : List Shadow) → length (after_known k target result s rs) ≡ length rs
 known_long known.PgIn target result s rs = length_set rs target _
 known_long known.PgInLen target result s rs = length_set rs target _
 known_long known.Malloc target result s rs = length_set rs target _
@@ -71,7 +71,7 @@ module _ (p : NumberedProgram) (d : Taken) (n : ℕ) (m : Moment) (region : Opti
       ∙ ap (λ (l : ℕ). l + (length (types_of p g) - l)) (length-map args (shadow_of p (top_of cs))))
   op_lens pinned result x (op.Ret v) cs = top_lens _ (λ rs. length_set rs (caller_target p m.calls) _) (under_top cs) ∙ under_lens cs
   op_lens pinned result x (op.Alloca bytes) cs = top_lens _ (λ rs. length_set rs x.result _) cs
-  op_lens pinned result x (op.CallKnown k args) cs = top_lens _ (λ rs. known_long k x.result result _ rs) cs
+  op_lens pinned result x (op.CallLibrary k args) cs = top_lens _ (λ rs. known_long k x.result result _ rs) cs
   op_lens pinned result x (op.Gep base indices) cs = top_lens _ (λ rs. length_set rs x.result _) cs
   op_lens pinned result x o cs = top_lens _ (λ rs. length_set rs x.result _) cs
 

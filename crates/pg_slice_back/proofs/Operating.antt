@@ -4,8 +4,8 @@ use Rattle.std.proofs.Common.{inl, inr, ◌⊎◌, arith, ltb-true, ltb-false}
 use Rattle.std.specs.Prelude.{nat_lt, slice_get, if◌then◌else◌}
 use Rattle.std.specs.List.{AllByRecursion}
 use Rattle.std.proofs.lemmas.Bool.{true≢false, eqb-true, eq-eqb, cases_lt, lt-ltb}
-use Rattle.pg_ir.specs.declared.known.Known.{Known as KnownFunction}
-use Rattle.pg_ir.specs.declared.known.Known.TheVariants as known
+use Rattle.pg_ir.specs.declared.library_call.LibraryCall.{LibraryCall}
+use Rattle.pg_ir.specs.declared.library_call.LibraryCall.TheVariants as known
 use Rattle.pg_ir.specs.declared.value.Value.{Value}
 use Rattle.pg_ir.specs.declared.instr.Instr.{Instr}
 use Rattle.pg_ir.specs.declared.instr.Op.{Op}
@@ -289,7 +289,7 @@ module _ (R : Reference) (e : Taken) (p : NumberedProgram) (r : ReferenceRun) (x
 
   -- ---- an operation that sets the register of its instruction
 
-  known_same : (f : KnownFunction) (i : ℕ) (w : Bool) → is_target x.result i ≡ false → Asks e s (back_known t k f x i w) → IsMet s (register_demand t k i w)
+  known_same : (f : LibraryCall) (i : ℕ) (w : Bool) → is_target x.result i ≡ false → Asks e s (back_known t k f x i w) → IsMet s (register_demand t k i w)
   known_same known.PgIn i w g h = unset_first e s (is_target x.result i) (register_demand t k i w) _ g h
   known_same known.PgInLen i w g h = unset_first e s (is_target x.result i) (register_demand t k i w) _ g h
   known_same known.Malloc i w g h = unset_first e s (is_target x.result i) (register_demand t k i w) _ g h
@@ -303,7 +303,7 @@ module _ (R : Reference) (e : Taken) (p : NumberedProgram) (r : ReferenceRun) (x
   result_same (op.Call f args) q i w g h = absurd (true≢false (sym q))
   result_same (op.Ret v) q i w g h = absurd (true≢false (sym q))
   result_same (op.Alloca bytes) q i w g h = unset_first e s (is_target x.result i) (register_demand t k i w) _ g h
-  result_same (op.CallKnown f args) q i w g h = known_same f i w g h
+  result_same (op.CallLibrary f args) q i w g h = known_same f i w g h
   result_same (op.Gep base indices) q i w g h = unset_first e s (is_target x.result i) (register_demand t k i w) _ g h
   result_same o q i w g h = unset_first e s (is_target x.result i) (register_demand t k i w) _ g h
 
@@ -316,8 +316,8 @@ module _ (R : Reference) (e : Taken) (p : NumberedProgram) (r : ReferenceRun) (x
   result_leaves q = op_leaves x.op refl (is_target (held_by x.result counts.present)) (λ j i w l h. result_low x.op q j i w h)
       (λ i w f l h. let c = st.counted.present in result_same x.op q i w (held_not x.result counts.present i f (omega (arith, l, c))) h)
 
-  known_moves : (f : KnownFunction) (args : List Value) → x.op ≡ op.CallKnown f args → (i : ℕ) (w : Bool) → is_target x.result i ≡ true → Asks e s (back_known t k f x i w) →
-      AllByRecursion (IsMet s) (made_by t k (op.CallKnown f args) w)
+  known_moves : (f : LibraryCall) (args : List Value) → x.op ≡ op.CallLibrary f args → (i : ℕ) (w : Bool) → is_target x.result i ≡ true → Asks e s (back_known t k f x i w) →
+      AllByRecursion (IsMet s) (made_by t k (op.CallLibrary f args) w)
   known_moves known.PgIn args q i w g h =
       subst (λ (o : Op). AllByRecursion (IsMet s) (of_operand t k true o 0)) q (set_asks e s (is_target x.result i) (register_demand t k i w) _ g h).0
   known_moves _ args q i w g h = tt
@@ -330,7 +330,7 @@ module _ (R : Reference) (e : Taken) (p : NumberedProgram) (r : ReferenceRun) (x
   result_moved (op.Call f args) z q i w g h = absurd (true≢false (sym q))
   result_moved (op.Ret v) z q i w g h = absurd (true≢false (sym q))
   result_moved (op.Alloca bytes) z q i w g h = tt
-  result_moved (op.CallKnown f args) z q i w g h = known_moves f args z i w g h
+  result_moved (op.CallLibrary f args) z q i w g h = known_moves f args z i w g h
   result_moved (op.Gep base indices) z q i w g h =
       subst (λ (o : Op). AllByRecursion (IsMet s) (back_moved t k o w)) z (set_asks e s (is_target x.result i) (register_demand t k i w) _ g h).0
   result_moved o z q i w g h = (set_asks e s (is_target x.result i) (register_demand t k i w) _ g h).0

@@ -3,7 +3,7 @@ use Rattle.std.proofs.Common.{◌≡◌, ◌<◌, ◌≤◌, ◌+◌, ◌⊎◌,
 use Rattle.std.proofs.Common.{◌∙◌, subst, arith}
 use Rattle.std.specs.Prelude.{◌&&◌, ◌||◌, slice_get, option_map, IfSome}
 use Rattle.std.proofs.lemmas.Bool.{cases_lt}
-use Rattle.pg_slice_rules.specs.Freeable.{FreeAccess, FreeRegion, frame_of}
+use Rattle.pg_slice_rules.specs.Freeable.{FreeAccess, FreeRegion, bounds_of}
 use Rattle.pg_slice_rules.specs.Shadows.{is_within}
 use Rattle.pg_law_least.specs.Keeps.{may_write}
 use Rattle.pg_slice_replay.specs.declared.run.FreeAccess as declared
@@ -22,16 +22,16 @@ or_left true b q = refl
 or_left false b q = absurd cc
 
 -- what one of them may write the region may
-may_one : (xs : List FreeAccess) (k : ℕ) (a : FreeAccess) (b : ℕ) → slice_get xs k ≡ Some a → (a.writes && is_within (frame_of a.at.last) b) ≡ true → may_write xs b ≡ true
+may_one : (xs : List FreeAccess) (k : ℕ) (a : FreeAccess) (b : ℕ) → slice_get xs k ≡ Some a → (a.writes && is_within (bounds_of a.at.last) b) ≡ true → may_write xs b ≡ true
 may_one [] k a b q h = absurd cc
 may_one (x ∷ xs) zero a b q h =
     let z : x ≡ a = cc in
-    or_left (x.writes && is_within (frame_of x.at.last) b) (may_write xs b) (subst (λ (y : FreeAccess). (y.writes && is_within (frame_of y.at.last) b) ≡ true) (sym z) h)
-may_one (x ∷ xs) (suc k) a b q h = or_right (x.writes && is_within (frame_of x.at.last) b) (may_write xs b) (may_one xs k a b q h)
+    or_left (x.writes && is_within (bounds_of x.at.last) b) (may_write xs b) (subst (λ (y : FreeAccess). (y.writes && is_within (bounds_of y.at.last) b) ≡ true) (sym z) h)
+may_one (x ∷ xs) (suc k) a b q h = or_right (x.writes && is_within (bounds_of x.at.last) b) (may_write xs b) (may_one xs k a b q h)
 
 pub one_asks : (o : Option Landmark) (k : ℕ) (found : Option declared.FreeAccess) (a : declared.FreeAccess) → found ≡ Some a →
     IfSome o (λ (l : Landmark). IfSome l.region (λ (q : FreeRegion). option_map access_as found ≡ slice_get q.accesses k)) → (result : Bool) (w : Demanded) →
-    (result ≡ true → AsksByte (λ b. a.writes && is_within (frame_of a.last) b) w)
+    (result ≡ true → AsksByte (λ b. a.writes && is_within (bounds_of a.last) b) w)
     → IfSome o (λ (l : Landmark). IfSome l.region (λ (q : FreeRegion). result ≡ true → AsksByte (may_write q.accesses) w))
 one_asks None k found a is h result w f = tt
 one_asks (Some l) k found a is h result w f = go l.region h
@@ -46,7 +46,7 @@ one_asks (Some l) k found a is h result w f = go l.region h
 -- of an access that is there nothing is asked, so nothing of the one with its number
 pub none_asks : (o : Option Landmark) (k : ℕ) (found : Option declared.FreeAccess) (a : declared.FreeAccess) → found ≡ Some a →
     IfSome o (λ (l : Landmark). IfSome l.region (λ (q : FreeRegion). option_map access_as found ≡ slice_get q.accesses k)) → (result : Bool) (w : Demanded) →
-    (result ≡ false → AsksByte (λ b. a.writes && is_within (frame_of a.last) b) w → ⊥)
+    (result ≡ false → AsksByte (λ b. a.writes && is_within (bounds_of a.last) b) w → ⊥)
     → IfSome o (λ (l : Landmark). IfSome l.region (λ (q : FreeRegion). result ≡ false → AsksOfAccess (slice_get q.accesses k) w → ⊥))
 none_asks None k found a is h result w f = tt
 none_asks (Some l) k found a is h result w f = go l.region h
@@ -72,9 +72,9 @@ none_there (Some l) k found is h result w = go l.region h
 one_of : (xs : List FreeAccess) (b : ℕ) (w : Demanded) → may_write xs b ≡ true → asks_byte w b ≡ true
     → (k : ℕ) × (k < length xs) × AsksOfAccess (slice_get xs k) w
 one_of [] b w h q = absurd cc
-one_of (x ∷ xs) b w h q = go (x.writes && is_within (frame_of x.at.last) b) refl (λ e. one_of xs b w e q)
+one_of (x ∷ xs) b w h q = go (x.writes && is_within (bounds_of x.at.last) b) refl (λ e. one_of xs b w e q)
   where
-    go : (v : Bool) → (x.writes && is_within (frame_of x.at.last) b) ≡ v → (may_write xs b ≡ true → (k : ℕ) × (k < length xs) × AsksOfAccess (slice_get xs k) w)
+    go : (v : Bool) → (x.writes && is_within (bounds_of x.at.last) b) ≡ v → (may_write xs b ≡ true → (k : ℕ) × (k < length xs) × AsksOfAccess (slice_get xs k) w)
         → (k : ℕ) × (k < length (x ∷ xs)) × AsksOfAccess (slice_get (x ∷ xs) k) w
     go true e later = (0, omega arith, (b, e, q))
     go false e later = let r = later (ap (λ v. v || may_write xs b) (sym e) ∙ h) in (suc r.0, omega (arith, r.1), r.2)

@@ -1,6 +1,6 @@
 -- What has to be known of that which the region of a freeable step may set.
 use Rattle.std.specs.Prelude.{◌≡◌, ◌<◌, ◌⊎◌, ◌&&◌, ℕ, Bool, true, Option, Some, None}
-use Rattle.pg_slice_rules.specs.Freeable.{FreeAccess, FreeRegion, frame_of}
+use Rattle.pg_slice_rules.specs.Freeable.{FreeAccess, FreeRegion, bounds_of}
 use Rattle.pg_slice_rules.specs.Shadows.{is_within}
 use Rattle.pg_law_least.specs.Keeps.{may_write}
 use Rattle.pg_slice_demands.specs.declared.demanded.Demanded.{Demanded}
@@ -16,7 +16,7 @@ AsksByte writes m = (b : ℕ) × (writes b ≡ true) × (asks_byte m b ≡ true)
 -- a byte that an access of a region may write
 abbrev pub AsksOfAccess : Option FreeAccess → Demanded → Type 0
 AsksOfAccess None m = ⊥
-AsksOfAccess (Some a) m = AsksByte (λ b. a.writes && is_within (frame_of a.at.last) b) m
+AsksOfAccess (Some a) m = AsksByte (λ b. a.writes && is_within (bounds_of a.at.last) b) m
 
 abbrev pub AsksRegion : Option FreeRegion → ℕ → ℕ → ℕ → Demanded → Type 0
 AsksRegion None t k count m = ⊥

@@ -2,7 +2,7 @@
 
 ghost use Rattle.std.specs.Prelude.{◌≡◌, ◌<◌, ◌||◌, ℕ, Bool, true, false, Some, IfOk, IfSome, OnOk};
 ghost use Rattle.std.specs.List.{AllByRecursion};
-ghost use Rattle.pg_slice_rules.specs.Freeable.{frame_of};
+ghost use Rattle.pg_slice_rules.specs.Freeable.{bounds_of};
 ghost use Rattle.pg_slice_rules.specs.Known.{RunShadow, Taken, has};
 ghost use Rattle.pg_slice_rules.specs.Shadows.{is_within};
 ghost use Rattle.pg_run_trace.specs.Steps.{range_of};
@@ -14,7 +14,7 @@ ghost use Rattle.pg_slice_back.specs.Bytes.{is_in};
 ghost use Rattle.pg_slice_back.specs.Met.{AreMet};
 ghost use Rattle.pg_slice_back.specs.Leaves.{Leaves, Without, none};
 
-use crate::bytes::{Bytes, frame_bytes, own_bytes};
+use crate::bytes::{Bytes, bytes_in_bounds, own_bytes};
 use crate::call::Call;
 use crate::moves::{leave, put_value};
 use pg_ir::Value;
@@ -81,13 +81,13 @@ pub(crate) fn back_load(
     }
 }
 
-/// A byte of a store's own bytes, or of its frame, that has to be known.
-fn stored(w: &Demanded, own: Bytes, frame: Bytes) -> Option<u64>
-    ensures { IfSome result (λ b. (asks_byte w.now b ≡ true) × ((is_in own b || is_in frame b) ≡ true)) }
+/// A byte of a store's own bytes, or of its bounds, that has to be known.
+fn stored(w: &Demanded, own: Bytes, bounds: Bytes) -> Option<u64>
+    ensures { IfSome result (λ b. (asks_byte w.now b ≡ true) × ((is_in own b || is_in bounds b) ≡ true)) }
 {
     match w.byte_in(own.from, own.to) {
         Some(byte) => Some(byte),
-        None => w.byte_in(frame.from, frame.to),
+        None => w.byte_in(bounds.from, bounds.to),
     }
 }
 
@@ -95,14 +95,14 @@ fn stored(w: &Demanded, own: Bytes, frame: Bytes) -> Option<u64>
 fn store_fixed(w: &Demanded, a: Access, n: usize) -> Option<Decision>
     ensures step { IfSome result (λ z. step_of z ≡ n) }
     ensures fixed { (e : Taken) (after : RunShadow)
-        → ((b : ℕ) → (is_within (range_of a) b || is_within (frame_of a.pointer) b) ≡ true → a.event ≡ false → IsMet after (byte_demand b true)
+        → ((b : ℕ) → (is_within (range_of a) b || is_within (bounds_of a.pointer) b) ≡ true → a.event ≡ false → IsMet after (byte_demand b true)
         → e.exact n ≡ true)
         → AreMet after w.now → IfSome result (λ z. has e z ≡ true) }
 {
     if a.event {
         return None;
     }
-    match stored(w, own_bytes(a), frame_bytes(a.pointer)) {
+    match stored(w, own_bytes(a), bytes_in_bounds(a.pointer)) {
         Some(_) => Some(Decision::Exact(n)),
         None => None,
     }
@@ -136,7 +136,7 @@ pub(crate) fn back_store(
     ensures step { IfOk result (λ o. IfSome o (λ z. step_of z ≡ n)) }
     ensures met { IfOk result (λ o. (e : Taken) (after before : RunShadow) → Leaves at.thread at.depth none (is_within (range_of a)) after before
         → ((b : ℕ) → is_within (range_of a) b ≡ true → IsMet after (byte_demand b true) → AllByRecursion (IsMet before) (of_value at.thread at.depth true value))
-        → ((b : ℕ) → (is_within (range_of a) b || is_within (frame_of a.pointer) b) ≡ true → a.event ≡ false → IsMet after (byte_demand b true) → e.exact n ≡ true)
+        → ((b : ℕ) → (is_within (range_of a) b || is_within (bounds_of a.pointer) b) ≡ true → a.event ≡ false → IsMet after (byte_demand b true) → e.exact n ≡ true)
         → AreMet after w.old → AreMet before w.new × IfSome o (λ z. has e z ≡ true)) }
 {
     let due = store_fixed(w, a, n);

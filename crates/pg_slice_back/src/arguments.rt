@@ -20,7 +20,7 @@ ghost use Rattle.pg_slice_back.specs.Met.{AreMet};
 
 use crate::call::Call;
 use crate::moves::put_optional;
-use pg_ir::{Instr, Known, Op, Value};
+use pg_ir::{Instr, LibraryCall, Op, Value};
 use pg_run_trace::{Event, TurnKind, Write};
 use pg_slice_checks::checked;
 use pg_slice_demands::Demanded;
@@ -39,12 +39,12 @@ fn argument(op: &Op, i: usize) -> Option<Value>
     ensures { IfSome result (λ v. slice_get (operands_of op.now) i ≡ Some v) }
 {
     match op {
-        Op::CallKnown { args, .. } => value_if(args.as_slice(), i),
+        Op::CallLibrary { args, .. } => value_if(args.as_slice(), i),
         _ => None,
     }
 }
 
-/// An argument has to be known, whole or by its frame alone.
+/// An argument has to be known, whole or by its bounds alone.
 pub(crate) fn put_argument(
     w: &mut Demanded,
     at: Call,
@@ -63,7 +63,7 @@ fn checked_count(op: &Op) -> usize
     ensures { rules.checked_of op.now ≡ below result }
 {
     match op {
-        Op::CallKnown { function, .. } => checked(*function),
+        Op::CallLibrary { function, .. } => checked(*function),
         _ => 0,
     }
 }
@@ -107,8 +107,8 @@ fn write_index(op: &Op) -> usize
     ensures { result ≡ rules.write_index op.now }
 {
     match op {
-        Op::CallKnown { function, .. } => {
-            if matches!(function, Known::PthreadJoin) {
+        Op::CallLibrary { function, .. } => {
+            if matches!(function, LibraryCall::PthreadJoin) {
                 1
             } else {
                 0
@@ -118,7 +118,7 @@ fn write_index(op: &Op) -> usize
     }
 }
 
-/// The frame of the address has to be known to which an event writes, if it writes.
+/// The bounds of the address have to be known to which an event writes, if it writes.
 fn put_written(
     w: &mut Demanded,
     at: Call,
@@ -137,7 +137,7 @@ fn put_written(
     }
 }
 
-/// What an event asks: its operands that are checked, and the frame of the address to which it writes.
+/// What an event asks: its operands that are checked, and the bounds of the address to which it writes.
 pub(crate) fn put_event(w: &mut Demanded, at: Call, x: &Instr, e: &Event) -> Result<(), AllocError>
     ensures { OnOk result ((d : Taken) (s : RunShadow) (y : Seen) → thread_in y.moment ≡ at.thread → depth_of y ≡ at.depth
         → AllByRecursion (IsMet s) (kind_demands d y x.now (kinds.Event e.now))

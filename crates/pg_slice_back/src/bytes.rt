@@ -1,7 +1,7 @@
-//! The bytes of accesses and of frames.
+//! The bytes of accesses and of bounds.
 
 ghost use Rattle.std.specs.Prelude.{◌≡◌, ◌<◌, ℕ};
-ghost use Rattle.pg_slice_rules.specs.Freeable.{frame_of};
+ghost use Rattle.pg_slice_rules.specs.Freeable.{bounds_of};
 ghost use Rattle.pg_slice_rules.specs.Shadows.{is_within};
 ghost use Rattle.pg_run_trace.specs.Steps.{range_of};
 ghost use Rattle.pg_slice_back.specs.Bytes.{is_in};
@@ -30,9 +30,9 @@ pub(crate) fn own_bytes(a: Access) -> Bytes
     }
 }
 
-/// The bytes of the frame of a pointer.
-pub(crate) fn frame_bytes(word: u64) -> Bytes
-    ensures { (b : ℕ) → is_in result b ≡ is_within (frame_of word) b }
+/// The bytes of the bounds of a pointer.
+pub(crate) fn bytes_in_bounds(word: u64) -> Bytes
+    ensures { (b : ℕ) → is_in result b ≡ is_within (bounds_of word) b }
 {
     let pointer = unpack(word);
     let from = GRANULE_BYTES as u64 * pointer.start as u64;

@@ -14,7 +14,7 @@ ghost use Rattle.pg_slice_back.specs.Made.{index_values, made_by};
 ghost use Rattle.pg_slice_back.specs.Wanted.{AreWanted};
 
 use crate::call::Call;
-use pg_ir::{Index, Known, Op, Value};
+use pg_ir::{Index, LibraryCall, Op, Value};
 use pg_slice_demands::Demanded;
 use std::alloc::{AllocError, Global};
 
@@ -117,7 +117,7 @@ fn put_both(w: &mut Demanded, at: Call, base: Value, indices: &[Index]) -> Resul
     Ok(())
 }
 
-/// The operands of a `getelementptr` have to be known: all of them, or the frame of its base.
+/// The operands of a `getelementptr` have to be known: all of them, or the bounds of its base.
 fn put_moved(
     w: &mut Demanded,
     at: Call,
@@ -155,8 +155,8 @@ fn put_operands(w: &mut Demanded, at: Call, op: &Op, whole: bool) -> Result<(), 
         | Op::IntToPtr { of, .. } => put_values(w, at, &[*of]),
         Op::Select { cond, yes, no } => put_values(w, at, &[*cond, *yes, *no]),
         Op::Gep { base, indices } => put_moved(w, at, *base, indices.as_slice(), whole),
-        Op::CallKnown {
-            function: Known::PgIn,
+        Op::CallLibrary {
+            function: LibraryCall::PgIn,
             args,
         } => put_optional(w, at, args.as_slice().first().copied(), true),
         _ => Ok(()),
@@ -187,7 +187,7 @@ pub(crate) fn back_result(
     }
 }
 
-/// A value that has to be known, whole or its frame alone.
+/// A value that has to be known, whole or its bounds alone.
 #[derive(Clone, Copy)]
 pub(crate) struct Wanted {
     pub(crate) value: Value,

@@ -55,7 +55,7 @@ fn put_condition(w: &mut Demanded, at: Call, op: &Op, pinned: bool) -> Result<()
     }
 }
 
-/// The address of an access has to be known, whole or by its frame alone.
+/// The address of an access has to be known, whole or by its bounds alone.
 fn put_address(w: &mut Demanded, at: Call, op: &Op, whole: bool) -> Result<(), AllocError>
     ensures { OnOk result ((s : RunShadow) → AllByRecursion (IsMet s) (of_operand at.thread at.depth whole op.now (address_index op.now)) → AreMet s w.old → AreMet s w.new) }
 {
@@ -70,7 +70,7 @@ fn is_fixed(event: bool, exact: bool) -> bool
 }
 
 /// What a live step asks by itself has to be known before it: the condition of a branch that is pinned; the address of an access,
-/// whole where it is exact or an event, else its frame; the size of a `malloc`; the operands of an event that are checked.
+/// whole where it is exact or an event, else its bounds; the size of a `malloc`; the operands of an event that are checked.
 pub(crate) fn put_own(
     w: &mut Demanded,
     d: &DecisionSet,

@@ -21,7 +21,7 @@ use pg_slice_demands::Demanded;
 use pg_slice_replay::{FreeAccess, ReferenceRun, cell_start, offsets};
 use std::alloc::AllocError;
 
-/// The root of a path has to be known, whole or by its frame alone.
+/// The root of a path has to be known, whole or by its bounds alone.
 fn put_root(w: &mut Demanded, at: Call, root: Root, whole: bool) -> Result<(), AllocError>
     ensures { OnOk result ((s : RunShadow) (y : Seen) → thread_in y.moment ≡ at.thread → depth_of y ≡ at.depth
         → AllByRecursion (IsMet s) (root_demands y root whole) → AreMet s w.old → AreMet s w.new) }
@@ -92,7 +92,7 @@ fn has_loads(count: usize) -> bool
     0 < count
 }
 
-/// The root of an access's path has to be known, by its frame alone where the path doesn't load, and the cells from which it
+/// The root of an access's path has to be known, by its bounds alone where the path doesn't load, and the cells from which it
 /// loads.
 fn put_access(w: &mut Demanded, at: Call, access: &FreeAccess) -> Result<(), AllocError>
     ensures { OnOk result ((s : RunShadow) (y : Seen) → thread_in y.moment ≡ at.thread → depth_of y ≡ at.depth → AllByRecursion (IsMet s) (free_access_demands y (access_as access.now))

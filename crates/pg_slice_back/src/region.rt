@@ -2,13 +2,13 @@
 
 ghost use Rattle.std.specs.Prelude.{◌≡◌, ◌<◌, ◌&&◌, nat_lt, true, false, Some, None, IfSome, slice_get};
 ghost use Rattle.pg_region_accesses.specs.Tables.{in_table};
-ghost use Rattle.pg_slice_rules.specs.Freeable.{frame_of};
+ghost use Rattle.pg_slice_rules.specs.Freeable.{bounds_of};
 ghost use Rattle.pg_slice_rules.specs.Shadows.{is_within};
 ghost use Rattle.pg_law_least.specs.Keeps.{may_write};
 ghost use Rattle.pg_slice_replay.specs.Kept.{landmark_at};
 ghost use Rattle.pg_slice_back.specs.Sets.{AsksByte, AsksOfAccess, AsksRegion, AsksRegister};
 
-use crate::bytes::frame_bytes;
+use crate::bytes::bytes_in_bounds;
 use crate::call::Call;
 use pg_slice_demands::Demanded;
 use pg_slice_replay::{FreeAccess, ReferenceRun};
@@ -46,14 +46,14 @@ fn asks_marked(w: &Demanded, at: Call, marks: &[bool], count: usize) -> bool
 
 /// Whether a byte has to be known that an access of a region may write.
 fn asks_written(w: &Demanded, access: &FreeAccess) -> bool
-    ensures some { result ≡ true → AsksByte (λ b. access.now.writes && is_within (frame_of access.now.last) b) w.now }
-    ensures none { result ≡ false → AsksByte (λ b. access.now.writes && is_within (frame_of access.now.last) b) w.now → ⊥ }
+    ensures some { result ≡ true → AsksByte (λ b. access.now.writes && is_within (bounds_of access.now.last) b) w.now }
+    ensures none { result ≡ false → AsksByte (λ b. access.now.writes && is_within (bounds_of access.now.last) b) w.now → ⊥ }
 {
     if !access.writes {
         return false;
     }
-    let frame = frame_bytes(access.last);
-    w.byte_in(frame.from, frame.to).is_some()
+    let bounds = bytes_in_bounds(access.last);
+    w.byte_in(bounds.from, bounds.to).is_some()
 }
 
 /// Whether a byte has to be known that the access with this number of a freeable step's region may write, if there is one.

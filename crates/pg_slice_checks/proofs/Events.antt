@@ -3,8 +3,8 @@ use Rattle.std.proofs.Common.{◌≡◌, ℕ, zero, suc, ◌+◌, ◌≤◌, Lis
 use Rattle.std.proofs.lemmas.Bool.{true≢false}
 use Rattle.pg_ir.specs.declared.instr.Op.{Op}
 use Rattle.pg_ir.specs.declared.instr.Op.TheVariants as op
-use Rattle.pg_ir.specs.declared.known.Known.{Known}
-use Rattle.pg_ir.specs.declared.known.Known.TheVariants as known
+use Rattle.pg_ir.specs.declared.library_call.LibraryCall.{LibraryCall}
+use Rattle.pg_ir.specs.declared.library_call.LibraryCall.TheVariants as known
 use Rattle.pg_precondition.specs.declared.check.Test.TheVariants as test
 use Rattle.pg_run_trace.specs.declared.step.Event.{Event}
 use Rattle.pg_run_trace.specs.declared.turn.TurnKind.{TurnKind}
@@ -24,7 +24,7 @@ pub below_length : (n : ℕ) → length (below n) ≡ n
 below_length zero = refl
 below_length (suc n) = length-append (below n) (n ∷ []) ∙ ap (λ k. k + 1) (below_length n) ∙ (let q : n + 1 ≡ suc n = omega arith in q)
 
-few_checked : (k : Known) → length (checked k) ≤ 4
+few_checked : (k : LibraryCall) → length (checked k) ≤ 4
 few_checked known.PgIn = omega arith
 few_checked known.PgInLen = omega arith
 few_checked known.PgOut = omega arith
@@ -49,7 +49,7 @@ few_checked known.PthreadBarrierWait = omega arith
 few_checked known.PthreadBarrierDestroy = omega arith
 
 few_of : (o : Op) → length (checked_of o) ≤ 4
-few_of (op.CallKnown k args) = few_checked k
+few_of (op.CallLibrary k args) = few_checked k
 few_of _ = omega arith
 
 pub few : (o : Op) (n : ℕ) → checked_of o ≡ below n → n ≤ 4

@@ -5,7 +5,7 @@ use Rattle.pg_num.specs.Pointers.{byte_place, moved_by}
 use Rattle.pg_ir.specs.Program.{NumberedProgram}
 use Rattle.pg_precondition.specs.Nodes.{NodeList}
 use Rattle.pg_precondition.specs.declared.check.Test.TheVariants as test
-use Rattle.pg_slice_rules.specs.Rules.{Frame, Need, Value, moved_shadow, path_needs, same_frame}
+use Rattle.pg_slice_rules.specs.Rules.{Bounds, Need, Value, moved_shadow, path_needs, same_bounds}
 use Rattle.pg_slice_rules.specs.Shadows.{Shadow, loaded}
 use Rattle.pg_slice_values.specs.Sources.{Grew, IsSource, shadow_by}
 use Rattle.pg_slice_values.specs.declared.source.Source.{Source}
@@ -25,7 +25,7 @@ none_left (k ∷ ks) (suc i) h = none_left ks i (omega (arith, h))
 
 -- behind the last load there is the last pointer
 pub path_ends : (bytes : ℕ → Shadow) (s : Shadow) (ks ws : List ℕ) (cells : List ByteRange) (last i : ℕ) → length ks ≤ i
-    → path_needs bytes s (drop i ks) (drop i ws) (drop i cells) last ≡ Frame s (same_frame last) ∷ []
+    → path_needs bytes s (drop i ks) (drop i ws) (drop i cells) last ≡ Bounds s (same_bounds last) ∷ []
 path_ends bytes s ks ws cells last i h = ap (λ l. path_needs bytes s l (drop i ws) (drop i cells) last) (none_left ks i h)
 
 -- load i of a path

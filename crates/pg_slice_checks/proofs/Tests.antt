@@ -16,8 +16,8 @@ use Rattle.pg_run_trace.specs.declared.step.StepKind.TheVariants as kinds
 use Rattle.pg_run_trace.specs.declared.step.Write.{Write}
 use Rattle.pg_run_trace.specs.Steps.{access_by, access_in}
 use Rattle.pg_slice_rules.specs.Shadows.{Shadow}
-use Rattle.pg_slice_rules.specs.Rules.{Frame, edge_tests, is_case, same_frame, write_index}
-use Rattle.pg_slice_checks.specs.Steps.{AreEnough, access_index, frame_by}
+use Rattle.pg_slice_rules.specs.Rules.{Bounds, edge_tests, is_case, same_bounds, write_index}
+use Rattle.pg_slice_checks.specs.Steps.{AreEnough, access_index, bounds_by}
 
 pub case_tests : (w : Width) (on : Value) (other : BlockNo) (cases : List Case) (n : ℕ) → is_case n cases ≡ true → edge_tests (op.Switch w on other cases) n ≡ test.Eq n ∷ []
 case_tests w on other cases n e = rw e refl
@@ -31,13 +31,13 @@ pub other_tests : (o : Op) (n : ℕ) → ((w : Width) (on : Value) (other : Bloc
 other_tests (op.Switch w on other cases) n h = absurd (h w on other cases refl)
 other_tests _ n h = refl
 
-pub frame_of_access : (s : Shadow) (a : Option Access) (pointer : ℕ) → Some pointer ≡ option_map (λ (x : Access). x.pointer) a → frame_by s a ≡ Frame s (same_frame pointer) ∷ []
-frame_of_access s None pointer e = absurd cc
-frame_of_access s (Some a) pointer e = let q : a.pointer ≡ pointer = cc in rw q refl
+pub bounds_of_access : (s : Shadow) (a : Option Access) (pointer : ℕ) → Some pointer ≡ option_map (λ (x : Access). x.pointer) a → bounds_by s a ≡ Bounds s (same_bounds pointer) ∷ []
+bounds_of_access s None pointer e = absurd cc
+bounds_of_access s (Some a) pointer e = let q : a.pointer ≡ pointer = cc in rw q refl
 
-pub frame_of_none : (s : Shadow) (a : Option Access) → None ≡ option_map (λ (x : Access). x.pointer) a → frame_by s a ≡ []
-frame_of_none s None e = refl
-frame_of_none s (Some a) e = absurd cc
+pub bounds_of_none : (s : Shadow) (a : Option Access) → None ≡ option_map (λ (x : Access). x.pointer) a → bounds_by s a ≡ []
+bounds_of_none s None e = refl
+bounds_of_none s (Some a) e = absurd cc
 
 pub index_of_access : (o : Op) (kind : StepKind) (n pointer : ℕ) → AreEnough o kind n → Some pointer ≡ option_map (λ (x : Access). x.pointer) (access_in kind) → access_index o kind < n
 index_of_access o kinds.Other n pointer h e = absurd cc

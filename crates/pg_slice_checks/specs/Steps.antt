@@ -12,7 +12,7 @@ use Rattle.pg_run_trace.specs.declared.step.StepKind.{StepKind}
 use Rattle.pg_run_trace.specs.declared.step.StepKind.TheVariants as kinds
 use Rattle.pg_run_trace.specs.Steps.{access_in}
 use Rattle.pg_slice_rules.specs.Shadows.{Shadow, unset}
-use Rattle.pg_slice_rules.specs.Rules.{Need, Value, Frame, address_index, checked_of, edge_tests, is_malloc, same_frame, write_index}
+use Rattle.pg_slice_rules.specs.Rules.{Need, Value, Bounds, address_index, checked_of, edge_tests, is_malloc, same_bounds, write_index}
 
 abbrev pub at : List Shadow → ℕ → Shadow
 at ss k = slice_index_or ss k unset
@@ -41,16 +41,16 @@ abbrev pub access_index : Op → StepKind → ℕ
 access_index o (kinds.Event e) = write_index o
 access_index o k = address_index o
 
-abbrev pub frame_by : Shadow → Option Access → List Need
-frame_by s None = []
-frame_by s (Some a) = Frame s (same_frame a.pointer) ∷ []
+abbrev pub bounds_by : Shadow → Option Access → List Need
+bounds_by s None = []
+bounds_by s (Some a) = Bounds s (same_bounds a.pointer) ∷ []
 
--- the frames that have to be known
-abbrev pub frame_needs : List Shadow → Op → StepKind → List Need
-frame_needs ss o kind = frame_by (at ss (access_index o kind)) (access_in kind)
+-- the bounds that have to be known
+abbrev pub bounds_needs : List Shadow → Op → StepKind → List Need
+bounds_needs ss o kind = bounds_by (at ss (access_index o kind)) (access_in kind)
 
 abbrev pub step_needs : Bool → List Shadow → Op → StepKind → List Need
-step_needs fixed ss o kind = value_needs fixed ss o kind ++ frame_needs ss o kind
+step_needs fixed ss o kind = value_needs fixed ss o kind ++ bounds_needs ss o kind
 
 -- ---- what is read of the operands
 

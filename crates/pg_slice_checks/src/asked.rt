@@ -20,7 +20,7 @@ impl Asked {
     ghost use Rattle.pg_ir.specs.declared.edge.Case.{Case as ACase};
     ghost use Rattle.pg_precondition.specs.Nodes.{NodeList};
     ghost use Rattle.pg_precondition.specs.declared.check.Test.TheVariants as test;
-    ghost use Rattle.pg_slice_rules.specs.Rules.{Value, Frame, same_frame};
+    ghost use Rattle.pg_slice_rules.specs.Rules.{Value, Bounds, same_bounds};
     ghost use Rattle.pg_slice_values.specs.Sources.{IsSource, shadow_by};
     ghost use Rattle.pg_slice_checks.specs.Asks.{Adds, other_than};
 
@@ -46,26 +46,26 @@ impl Asked {
     {
         match s {
             Source::Known { value, .. } => self.checks.push(Check { node: value, test })?,
-            Source::Framed(_, by) | Source::Unknown(by) => self.missing.push(by)?,
+            Source::Bounded(_, by) | Source::Unknown(by) => self.missing.push(by)?,
         }
         Ok(())
     }
 
-    /// Asks that the frame of a value is known, and on an input is that of this word.
+    /// Asks that the bounds of a value are known, and on an input are those of this word.
     ///
     /// # Errors
     ///
     /// Where no memory is left.
     #[tactic(auto, using(crate::proofs::Added::one_check, crate::proofs::Added::one_missing))]
-    pub fn need_frame(&mut self, s: Source, word: u64) -> Result<(), AllocError>
-        ensures { IfOk result (λ u. (ns : NodeList) → IsSource (length ns) s → Adds ns (Frame (shadow_by ns s) (same_frame word) ∷ []) self.old self.new) }
+    pub fn need_bounds(&mut self, s: Source, word: u64) -> Result<(), AllocError>
+        ensures { IfOk result (λ u. (ns : NodeList) → IsSource (length ns) s → Adds ns (Bounds (shadow_by ns s) (same_bounds word) ∷ []) self.old self.new) }
     {
         let pointer = unpack(word);
-        let test = Test::Frame(pointer.start, pointer.length);
+        let test = Test::Bounds(pointer.start, pointer.length);
         match s {
-            Source::Known { frame, .. } | Source::Framed(frame, _) => self
+            Source::Known { bounds, .. } | Source::Bounded(bounds, _) => self
                 .checks
-                .push(Check { node: frame, test })?,
+                .push(Check { node: bounds, test })?,
             Source::Unknown(by) => self.missing.push(by)?,
         }
         Ok(())
@@ -82,7 +82,7 @@ impl Asked {
     {
         match s {
             Source::Known { value, .. } => self.check_others(value, cases)?,
-            Source::Framed(_, by) | Source::Unknown(by) => self.missing.push(by)?,
+            Source::Bounded(_, by) | Source::Unknown(by) => self.missing.push(by)?,
         }
         Ok(())
     }

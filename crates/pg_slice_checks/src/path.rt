@@ -53,14 +53,14 @@ fn load(
     match memory.load(p, nodes, start, 8)? {
         Held::Known(node) => Ok(Source::Known {
             value: node,
-            frame: node,
+            bounds: node,
         }),
         Held::Unknown(by) => Ok(Source::Unknown(by)),
     }
 }
 
 /// What is asked of a path of a region's access at a step: that the address of each of its loads is known, and is what
-/// it was, and that its last pointer has a known frame, which is that of `last`. `root` is what is known of the path's
+/// it was, and that its last pointer has known bounds, which are those of `last`. `root` is what is known of the path's
 /// root, `offsets` and `pointers` are those of its loads.
 ///
 /// # Errors
@@ -90,6 +90,6 @@ pub fn path_needs(
         asked.need_value(at, Test::Eq(address))?;
         s = load(p, nodes, memory, place_of(address))?;
     }
-    asked.need_frame(s, last)?;
+    asked.need_bounds(s, last)?;
     Ok(())
 }

@@ -14,7 +14,7 @@ ghost use Rattle.pg_slice_checks.specs.Steps as steps;
 ghost use Rattle.pg_slice_checks.specs.Steps.{AreEnough, access_index, at, below};
 
 use crate::asked::Asked;
-use pg_ir::{Case, Known, Op};
+use pg_ir::{Case, LibraryCall, Op};
 use pg_precondition::Test;
 use pg_run_trace::{Event, StepKind, TurnKind};
 use pg_slice_values::Source;
@@ -33,31 +33,31 @@ fn is_case(n: u64, cases: &[Case]) -> bool
 }
 
 /// How many of a known function's operands are checked: the first ones.
-pub fn checked(known: Known) -> usize
+pub fn checked(known: LibraryCall) -> usize
     ensures { rules.checked known ≡ below result }
 {
     match known {
-        Known::PthreadCreate | Known::PthreadBarrierInit => 3,
-        Known::PthreadJoin
-        | Known::PthreadMutexInit
-        | Known::PthreadCondInit
-        | Known::PthreadCondWait => 2,
-        Known::PthreadMutexLock
-        | Known::PthreadMutexTrylock
-        | Known::PthreadMutexUnlock
-        | Known::PthreadMutexDestroy
-        | Known::PthreadCondSignal
-        | Known::PthreadCondBroadcast
-        | Known::PthreadCondDestroy
-        | Known::PthreadBarrierWait
-        | Known::PthreadBarrierDestroy => 1,
-        Known::PgIn
-        | Known::PgInLen
-        | Known::PgOut
-        | Known::Putchar
-        | Known::Malloc
-        | Known::Free
-        | Known::PthreadExit => 0,
+        LibraryCall::PthreadCreate | LibraryCall::PthreadBarrierInit => 3,
+        LibraryCall::PthreadJoin
+        | LibraryCall::PthreadMutexInit
+        | LibraryCall::PthreadCondInit
+        | LibraryCall::PthreadCondWait => 2,
+        LibraryCall::PthreadMutexLock
+        | LibraryCall::PthreadMutexTrylock
+        | LibraryCall::PthreadMutexUnlock
+        | LibraryCall::PthreadMutexDestroy
+        | LibraryCall::PthreadCondSignal
+        | LibraryCall::PthreadCondBroadcast
+        | LibraryCall::PthreadCondDestroy
+        | LibraryCall::PthreadBarrierWait
+        | LibraryCall::PthreadBarrierDestroy => 1,
+        LibraryCall::PgIn
+        | LibraryCall::PgInLen
+        | LibraryCall::PgOut
+        | LibraryCall::Putchar
+        | LibraryCall::Malloc
+        | LibraryCall::Free
+        | LibraryCall::PthreadExit => 0,
     }
 }
 
@@ -66,7 +66,7 @@ fn checked_of(op: &Op) -> usize
     ensures { rules.checked_of op.now ≡ below result }
 {
     match op {
-        Op::CallKnown { function, .. } => checked(*function),
+        Op::CallLibrary { function, .. } => checked(*function),
         _ => 0,
     }
 }
@@ -86,8 +86,8 @@ fn write_index(op: &Op) -> usize
     ensures { result ≡ rules.write_index op.now }
 {
     match op {
-        Op::CallKnown {
-            function: Known::PthreadJoin,
+        Op::CallLibrary {
+            function: LibraryCall::PthreadJoin,
             ..
         } => 1,
         _ => 0,
@@ -100,8 +100,8 @@ fn is_malloc(op: &Op) -> bool
 {
     matches!(
         op,
-        Op::CallKnown {
-            function: Known::Malloc,
+        Op::CallLibrary {
+            function: LibraryCall::Malloc,
             ..
         }
     )
@@ -239,9 +239,9 @@ fn access_index(op: &Op, kind: &StepKind) -> usize
     }
 }
 
-#[tactic(auto, using(crate::proofs::Added::adds_none, crate::proofs::Tests::frame_of_access, crate::proofs::Tests::frame_of_none, crate::proofs::Tests::index_of_access))]
-/// The frames that a step asks for.
-fn frame_needs(
+#[tactic(auto, using(crate::proofs::Added::adds_none, crate::proofs::Tests::bounds_of_access, crate::proofs::Tests::bounds_of_none, crate::proofs::Tests::index_of_access))]
+/// The bounds that a step asks for.
+fn bounds_needs(
     asked: &mut Asked,
     op: &Op,
     kind: &StepKind,
@@ -249,11 +249,11 @@ fn frame_needs(
 ) -> Result<(), AllocError>
     requires { AreEnough op.now kind.now (length operands.now) }
     ensures { IfOk result (λ u. (ns : NodeList) → AllByRecursion (IsSource (length ns)) operands.now
-        → Adds ns (steps.frame_needs (map (shadow_by ns) operands.now) op.now kind.now) asked.old asked.new) }
+        → Adds ns (steps.bounds_needs (map (shadow_by ns) operands.now) op.now kind.now) asked.old asked.new) }
 {
     if let Some(pointer) = access_of(kind) {
         let at = operand(operands, access_index(op, kind));
-        asked.need_frame(at, pointer)?;
+        asked.need_bounds(at, pointer)?;
     }
     Ok(())
 }
@@ -261,7 +261,7 @@ fn frame_needs(
 #[tactic(auto, using(crate::proofs::Added::adds_then))]
 /// What a live step asks for, by what is known of the operands of its instruction: that a pinned condition, an exact
 /// address, an event's address, the size of a `malloc` and the checked operands of a pthread call are known, and are
-/// what they were; and that an access has a known frame. A step is fixed where it is pinned or exact.
+/// what they were; and that an access has known bounds. A step is fixed where it is pinned or exact.
 ///
 /// # Errors
 ///
@@ -278,6 +278,6 @@ pub fn step_needs(
         → Adds ns (steps.step_needs fixed (map (shadow_by ns) operands.now) op.now kind.now) asked.old asked.new) }
 {
     value_needs(asked, op, kind, operands, fixed)?;
-    frame_needs(asked, op, kind, operands)?;
+    bounds_needs(asked, op, kind, operands)?;
     Ok(())
 }

@@ -1,4 +1,4 @@
--- The passes of a direction answer a print just where it conflicts with one that it minds.
+-- The passes of a direction answer a footprint just where it conflicts with one that it minds.
 use Rattle.std.proofs.Common.{◌≡◌, ℕ, ◌+◌, ◌-◌, ◌<◌, ◌≤◌, ◌==◌, ◌≢◌, Bool, true, false, List, refl, sym, ap, ◌∙◌, arith}
 use Rattle.std.specs.Prelude.{◌&&◌, ◌||◌, not, max, nat_lt}
 use Rattle.std.proofs.lemmas.Bool.{eqb-false, le-ltb, lt-ltb, ltb-true, ltb-false}
@@ -82,34 +82,35 @@ max_turn a b = omega arith
 
 module _ (bytes : List ℕ) (x y : Placed) (p : IsPlaced bytes x) (q : IsPlaced bytes y) where
   -- what ranks say matters only for those of different threads
-  apart : (t r o : Bool) → (y.print.thread.0 == x.print.thread.0) ≡ t → ((x.print.thread.0 ≡ y.print.thread.0 → ⊥) → r ≡ o)
-      → (not (y.print.thread.0 == x.print.thread.0) && r) ≡ (not (y.print.thread.0 == x.print.thread.0) && o)
+  apart : (t r o : Bool) → (y.footprint.thread.0 == x.footprint.thread.0) ≡ t → ((x.footprint.thread.0 ≡ y.footprint.thread.0 → ⊥) → r ≡ o)
+      → (not (y.footprint.thread.0 == x.footprint.thread.0) && r) ≡ (not (y.footprint.thread.0 == x.footprint.thread.0) && o)
   apart true r o e h = rw e refl
-  apart false r o e h = ap (λ c. not (y.print.thread.0 == x.print.thread.0) && c) (h (λ q. eqb-false y.print.thread.0 x.print.thread.0 e (sym q)))
+  apart false r o e h = ap (λ c. not (y.footprint.thread.0 == x.footprint.thread.0) && c) (h (λ q. eqb-false y.footprint.thread.0 x.footprint.thread.0 e (sym q)))
 
   -- x answers y in a direction just where y meets x
-  along : (b : Bool) → ((x.print.thread.0 ≡ y.print.thread.0 → ⊥) → nat_lt (need_of b y.print) (rank_of b x.print) ≡ overlap y.print x.print)
-      → answers_along b x y ≡ meets y.print x.print
+  along : (b : Bool) → ((x.footprint.thread.0 ≡ y.footprint.thread.0 → ⊥) → nat_lt (need_of b y.footprint) (rank_of b x.footprint) ≡ overlap y.footprint x.footprint)
+      → answers_along b x y ≡ meets y.footprint x.footprint
   along b e =
-      four_passes y.print.writes y.print.of_region x.print.writes x.print.of_region
-      ((nat_lt (max x.first y.first) x.end && nat_lt (max x.first y.first) y.end) && (not (x.print.thread.0 == y.print.thread.0) && nat_lt (need_of b y.print) (rank_of b x.print)))
-      ∙ ap (λ s. ((y.print.writes || x.print.writes) && (y.print.of_region || not x.print.of_region))
-      && (s && (not (x.print.thread.0 == y.print.thread.0) && nat_lt (need_of b y.print) (rank_of b x.print))))
+      four_passes y.footprint.writes y.footprint.of_region x.footprint.writes x.footprint.of_region
+      ((nat_lt (max x.first y.first) x.end && nat_lt (max x.first y.first) y.end) && (not (x.footprint.thread.0 == y.footprint.thread.0) && nat_lt (need_of b y.footprint) (rank_of b x.footprint)))
+      ∙ ap (λ s. ((y.footprint.writes || x.footprint.writes) && (y.footprint.of_region || not x.footprint.of_region))
+      && (s && (not (x.footprint.thread.0 == y.footprint.thread.0) && nat_lt (need_of b y.footprint) (rank_of b x.footprint))))
       share_turn
-      ∙ ap (λ s. ((y.print.writes || x.print.writes) && (y.print.of_region || not x.print.of_region)) && (races.share (bytes_of y.print) (bytes_of x.print) && s))
-      (ap (λ t. not t && nat_lt (need_of b y.print) (rank_of b x.print)) (eqb_turn x.print.thread.0 y.print.thread.0)
-      ∙ apart (y.print.thread.0 == x.print.thread.0) (nat_lt (need_of b y.print) (rank_of b x.print)) (overlap y.print x.print) refl e)
-      ∙ parts (y.print.writes || x.print.writes) (y.print.of_region || not x.print.of_region) (races.share (bytes_of y.print) (bytes_of x.print)) (not (y.print.thread.0 == x.print.thread.0))
-      (overlap y.print x.print)
+      ∙ ap (λ s. ((y.footprint.writes || x.footprint.writes) && (y.footprint.of_region || not x.footprint.of_region)) && (races.share (bytes_of y.footprint) (bytes_of x.footprint) && s))
+      (ap (λ t. not t && nat_lt (need_of b y.footprint) (rank_of b x.footprint)) (eqb_turn x.footprint.thread.0 y.footprint.thread.0)
+      ∙ apart (y.footprint.thread.0 == x.footprint.thread.0) (nat_lt (need_of b y.footprint) (rank_of b x.footprint)) (overlap y.footprint x.footprint) refl e)
+      ∙ parts (y.footprint.writes || x.footprint.writes) (y.footprint.of_region || not x.footprint.of_region) (races.share (bytes_of y.footprint) (bytes_of x.footprint))
+        (not (y.footprint.thread.0 == x.footprint.thread.0))
+      (overlap y.footprint x.footprint)
     where
-      share_turn : (nat_lt (max x.first y.first) x.end && nat_lt (max x.first y.first) y.end) ≡ races.share (bytes_of y.print) (bytes_of x.print)
+      share_turn : (nat_lt (max x.first y.first) x.end && nat_lt (max x.first y.first) y.end) ≡ races.share (bytes_of y.footprint) (bytes_of x.footprint)
       share_turn =
           and_turn (nat_lt (max x.first y.first) x.end) (nat_lt (max x.first y.first) y.end)
           ∙ ap (λ m. nat_lt m y.end && nat_lt m x.end) (max_turn x.first y.first)
           ∙ sym (share_places bytes y x q p)
 
-  pub forward : (x.print.thread.0 ≢ y.print.thread.0 → x.print.low ≤ y.print.high) → answers_along false x y ≡ meets y.print x.print
-  forward le = along false (λ n. forward_overlap x.print y.print (le n))
+  pub forward : (x.footprint.thread.0 ≢ y.footprint.thread.0 → x.footprint.low ≤ y.footprint.high) → answers_along false x y ≡ meets y.footprint x.footprint
+  forward le = along false (λ n. forward_overlap x.footprint y.footprint (le n))
 
-  pub backward : (y.print.thread.0 ≢ x.print.thread.0 → y.print.low ≤ x.print.high) → answers_along true x y ≡ meets y.print x.print
-  backward le = along true (λ n. backward_overlap x.print y.print p.low q.high (le (λ e. n (sym e))))
+  pub backward : (y.footprint.thread.0 ≢ x.footprint.thread.0 → y.footprint.low ≤ x.footprint.high) → answers_along true x y ≡ meets y.footprint x.footprint
+  backward le = along true (λ n. backward_overlap x.footprint y.footprint p.low q.high (le (λ e. n (sym e))))

@@ -129,19 +129,19 @@ stand_map f xs (n ∷ ns) (y ∷ ys) e =
 
 -- ---- the answers of a list by those of what is kept of it
 
-met_same : (prints kept xs : List Footprint) (ns : List ℕ) → IsMerged prints kept ns → map (is_met kept) xs ≡ map (is_met prints) xs
-met_same prints kept [] ns m = refl
-met_same prints kept (x ∷ xs) ns m =
-    ap (λ b. b ∷ map (is_met kept) xs) (merged_any (meets x) prints kept ns m) ∙ ap (λ l. is_met prints x ∷ l) (met_same prints kept xs ns m)
+met_same : (footprints kept xs : List Footprint) (ns : List ℕ) → IsMerged footprints kept ns → map (is_met kept) xs ≡ map (is_met footprints) xs
+met_same footprints kept [] ns m = refl
+met_same footprints kept (x ∷ xs) ns m =
+    ap (λ b. b ∷ map (is_met kept) xs) (merged_any (meets x) footprints kept ns m) ∙ ap (λ l. is_met footprints x ∷ l) (met_same footprints kept xs ns m)
 
-pub kept_in_order : (prints kept : List Footprint) (ns : List ℕ) → IsMerged prints kept ns → InOrder prints → InOrder kept
-kept_in_order prints kept ns m o = part_pairs (λ (x y : Footprint). x.thread.0 ≢ y.thread.0 → x.low ≤ y.high) m.part o
+pub kept_in_order : (footprints kept : List Footprint) (ns : List ℕ) → IsMerged footprints kept ns → InOrder footprints → InOrder kept
+kept_in_order footprints kept ns m o = part_pairs (λ (x y : Footprint). x.thread.0 ≢ y.thread.0 → x.low ≤ y.high) m.part o
 
-pub numbers_within : (prints kept : List Footprint) (ns : List ℕ) (answers : List Bool) → IsMerged prints kept ns → answers ≡ map (is_met kept) kept → All (λ k. k < length answers) ns
-numbers_within prints kept ns answers m e =
-    All-from_recursion (λ k. k < length answers) ns (within kept ns prints (length answers) (sym (ap length e ∙ length-map kept (is_met kept))) m.each)
+pub numbers_within : (footprints kept : List Footprint) (ns : List ℕ) (answers : List Bool) → IsMerged footprints kept ns → answers ≡ map (is_met kept) kept → All (λ k. k < length answers) ns
+numbers_within footprints kept ns answers m e =
+    All-from_recursion (λ k. k < length answers) ns (within kept ns footprints (length answers) (sym (ap length e ∙ length-map kept (is_met kept))) m.each)
 
-pub all_met : (prints kept : List Footprint) (ns : List ℕ) (answers spread : List Bool) → IsMerged prints kept ns → answers ≡ map (is_met kept) kept → StandAt answers ns spread →
-    spread ≡ map (is_met prints) prints
-all_met prints kept ns answers spread m e s =
-    some_same spread (map (is_met kept) prints) (sym s ∙ ap (λ l. map (slice_get l) ns) e ∙ stand_map (is_met kept) kept ns prints m.each) ∙ met_same prints kept prints ns m
+pub all_met : (footprints kept : List Footprint) (ns : List ℕ) (answers spread : List Bool) → IsMerged footprints kept ns → answers ≡ map (is_met kept) kept → StandAt answers ns spread →
+    spread ≡ map (is_met footprints) footprints
+all_met footprints kept ns answers spread m e s =
+    some_same spread (map (is_met kept) footprints) (sym s ∙ ap (λ l. map (slice_get l) ns) e ∙ stand_map (is_met kept) kept ns footprints m.each) ∙ met_same footprints kept footprints ns m

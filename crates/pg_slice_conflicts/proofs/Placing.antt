@@ -1,4 +1,4 @@
--- Prints that share a byte share a place, and the other way round.
+-- Footprints that share a byte share a place, and the other way round.
 use Rattle.std.proofs.Common.{◌≡◌, ℕ, ◌+◌, ◌<◌, ◌≤◌, ◌⊎◌, inl, inr, List, sym, ap, ◌∙◌, arith}
 use Rattle.std.specs.Prelude.{◌&&◌, max, nat_lt, slice_index_or, Contains}
 use Rattle.std.proofs.lemmas.Bool.{cases_lt, lt-ltb, le-ltb}
@@ -46,22 +46,22 @@ module _ (bytes : List ℕ) where
 
   -- the greater of two first bytes has the greater of their places
   pub share_places : (x y : Placed) → IsPlaced bytes x → IsPlaced bytes y →
-      races.share (bytes_of x.print) (bytes_of y.print) ≡ (nat_lt (max x.first y.first) x.end && nat_lt (max x.first y.first) y.end)
-  share_places x y p q = go (cases_lt x.print.start y.print.start)
+      races.share (bytes_of x.footprint) (bytes_of y.footprint) ≡ (nat_lt (max x.first y.first) x.end && nat_lt (max x.first y.first) y.end)
+  share_places x y p q = go (cases_lt x.footprint.start y.footprint.start)
     where
-      tests : (s k : ℕ) → IsPlace bytes s k → Contains bytes s → max x.print.start y.print.start ≡ s → max x.first y.first ≡ k →
-          races.share (bytes_of x.print) (bytes_of y.print) ≡ (nat_lt (max x.first y.first) x.end && nat_lt (max x.first y.first) y.end)
+      tests : (s k : ℕ) → IsPlace bytes s k → Contains bytes s → max x.footprint.start y.footprint.start ≡ s → max x.first y.first ≡ k →
+          races.share (bytes_of x.footprint) (bytes_of y.footprint) ≡ (nat_lt (max x.first y.first) x.end && nat_lt (max x.first y.first) y.end)
       tests s k r c e f =
-          ap (λ m. nat_lt m (x.print.start + x.print.bytes) && nat_lt m (y.print.start + y.print.bytes)) e
-          ∙ ap (λ b. b && nat_lt s (y.print.start + y.print.bytes)) (place_test s (x.print.start + x.print.bytes) k x.end r p.end c)
-          ∙ ap (λ b. nat_lt k x.end && b) (place_test s (y.print.start + y.print.bytes) k y.end r q.end c)
+          ap (λ m. nat_lt m (x.footprint.start + x.footprint.bytes) && nat_lt m (y.footprint.start + y.footprint.bytes)) e
+          ∙ ap (λ b. b && nat_lt s (y.footprint.start + y.footprint.bytes)) (place_test s (x.footprint.start + x.footprint.bytes) k x.end r p.end c)
+          ∙ ap (λ b. nat_lt k x.end && b) (place_test s (y.footprint.start + y.footprint.bytes) k y.end r q.end c)
           ∙ sym (ap (λ m. nat_lt m x.end && nat_lt m y.end) f)
 
-      go : (x.print.start < y.print.start) ⊎ (y.print.start ≤ x.print.start)
-          → races.share (bytes_of x.print) (bytes_of y.print) ≡ (nat_lt (max x.first y.first) x.end && nat_lt (max x.first y.first) y.end)
+      go : (x.footprint.start < y.footprint.start) ⊎ (y.footprint.start ≤ x.footprint.start)
+          → races.share (bytes_of x.footprint) (bytes_of y.footprint) ≡ (nat_lt (max x.first y.first) x.end && nat_lt (max x.first y.first) y.end)
       go (inl lt) =
-          let l = place_le x.print.start y.print.start x.first y.first p.first q.first (omega (arith, lt)) in
-          tests y.print.start y.first q.first q.start (omega (arith, lt)) (omega (arith, l))
+          let l = place_le x.footprint.start y.footprint.start x.first y.first p.first q.first (omega (arith, lt)) in
+          tests y.footprint.start y.first q.first q.start (omega (arith, lt)) (omega (arith, l))
       go (inr ge) =
-          let l = place_le y.print.start x.print.start y.first x.first q.first p.first ge in
-          tests x.print.start x.first p.first p.start (omega (arith, ge)) (omega (arith, l))
+          let l = place_le y.footprint.start x.footprint.start y.first x.first q.first p.first ge in
+          tests x.footprint.start x.first p.first p.start (omega (arith, ge)) (omega (arith, l))

@@ -21,7 +21,7 @@ overlap x y = not (nat_lt x.high y.low) && not (nat_lt y.high x.low)
 abbrev pub conflict : Footprint → Footprint → Bool
 conflict x y = not (x.thread.0 == y.thread.0) && overlap x y && ((x.writes || y.writes) && share (bytes_of x) (bytes_of y))
 
--- the print of a region's access minds all others, that of another access those of such
+-- the footprint of a region's access minds all others, that of another access those of such
 abbrev pub minds : Footprint → Footprint → Bool
 minds x y = x.of_region || not y.of_region
 

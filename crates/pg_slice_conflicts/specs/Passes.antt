@@ -1,4 +1,4 @@
--- Passes over prints, in each of which some ask, and those that stood before them answer.
+-- Passes over footprints, in each of which some ask, and those that stood before them answer.
 use Rattle.std.specs.Prelude.{ℕ, ◌+◌, ◌-◌, ◌&&◌, ◌||◌, not, max, nat_lt, List, [], ◌∷◌, ◌++◌, Bool, true, false, if◌then◌else◌}
 use Rattle.std.specs.List.{list_any}
 use Rattle.pg_slice_conflicts.specs.declared.footprint.Footprint.{Footprint}
@@ -22,7 +22,7 @@ abbrev pub before_by : {A : Type 0} → (A → A → Bool) → List A → List A
 before_by f xs [] = []
 before_by f xs (y ∷ ys) = list_any (λ x. f x y) xs ∷ before_by f (xs ++ y ∷ []) ys
 
--- ---- prints as touches
+-- ---- footprints as touches
 
 abbrev pub same : Bool → Bool → Bool
 same true b = b
@@ -38,13 +38,13 @@ need_of backward x = if backward then 4294967295 - x.high else x.low
 
 abbrev pub touch_of : Pass → Placed → Touch
 touch_of p z = record {
-  thread = z.print.thread;
+  thread = z.footprint.thread;
   first = z.first;
   end = z.end;
-  rank = rank_of p.backward z.print;
-  need = need_of p.backward z.print;
-  gives = (p.writes || z.print.writes) && (p.of_region || not z.print.of_region);
-  asks = same p.writes z.print.writes && same p.of_region z.print.of_region;
+  rank = rank_of p.backward z.footprint;
+  need = need_of p.backward z.footprint;
+  gives = (p.writes || z.footprint.writes) && (p.of_region || not z.footprint.of_region);
+  asks = same p.writes z.footprint.writes && same p.of_region z.footprint.of_region;
 }
 
 -- x, which stands before y, answers it in this pass

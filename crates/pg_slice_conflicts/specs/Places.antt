@@ -1,4 +1,4 @@
--- Where prints stand among the first bytes of all prints.
+-- Where footprints stand among the first bytes of all footprints.
 use Rattle.std.specs.Prelude.{◌≡◌, ℕ, ◌+◌, ◌<◌, ◌≤◌, List, length, map, slice_index_or, All, Contains}
 use Rattle.pg_slice_conflicts.specs.declared.footprint.Footprint.{Footprint}
 use Rattle.pg_slice_conflicts.specs.declared.places.Placed.{Placed}
@@ -6,8 +6,8 @@ use Rattle.pg_slice_conflicts.specs.declared.places.Placed.{Placed}
 abbrev pub start_of : Footprint → ℕ
 start_of x = x.start
 
-abbrev pub print_of : Placed → Footprint
-print_of z = z.print
+abbrev pub footprint_of : Placed → Footprint
+footprint_of z = z.footprint
 
 -- of these bytes, ascending, the first k are those below byte b
 pub record IsPlace (bytes : List ℕ) (b k : ℕ) : Type 0 where
@@ -15,17 +15,17 @@ pub record IsPlace (bytes : List ℕ) (b k : ℕ) : Type 0 where
   pub below : (i d : ℕ) → i < k → slice_index_or bytes i d < b
   pub from : (i d : ℕ) → k ≤ i → i < length bytes → b ≤ slice_index_or bytes i d
 
--- a print with the places of its first byte and of its end among these bytes, of which the first is one
+-- a footprint with the places of its first byte and of its end among these bytes, of which the first is one
 pub record IsPlaced (bytes : List ℕ) (z : Placed) : Type 0 where
-  pub low : z.print.low < 4294967296
-  pub high : z.print.high < 4294967296
-  pub first : IsPlace bytes z.print.start z.first
-  pub end : IsPlace bytes (z.print.start + z.print.bytes) z.end
-  pub start : Contains bytes z.print.start
+  pub low : z.footprint.low < 4294967296
+  pub high : z.footprint.high < 4294967296
+  pub first : IsPlace bytes z.footprint.start z.first
+  pub end : IsPlace bytes (z.footprint.start + z.footprint.bytes) z.end
+  pub start : Contains bytes z.footprint.start
 
--- prints with their places among as many bytes
-pub record ArePlaced (prints : List Footprint) (zs : List Placed) : Type 0 where
+-- footprints with their places among as many bytes
+pub record ArePlaced (footprints : List Footprint) (zs : List Placed) : Type 0 where
   pub bytes : List ℕ
-  pub as_many : length bytes ≡ length prints
+  pub as_many : length bytes ≡ length footprints
   pub each : All (IsPlaced bytes) zs
-  pub same : map print_of zs ≡ prints
+  pub same : map footprint_of zs ≡ footprints

@@ -1,4 +1,4 @@
-//! Which prints conflict, by trees of ranks.
+//! Which footprints conflict, by trees of ranks.
 
 ghost use Rattle.std.specs.Prelude.{◌≡◌, ◌≤◌, ◌||◌, [], All, IfOk, OnOk, false, length, map, replicate};
 ghost use Rattle.pg_slice_conflicts.specs.Joined.{or_each};
@@ -37,7 +37,7 @@ fn pass_of(backward: bool, writes: bool, of_region: bool) -> Pass
     }
 }
 
-/// Sets the marks of the prints that are answered in this pass.
+/// Sets the marks of the footprints that are answered in this pass.
 fn mark_pass(
     alloc: Global,
     tree: Tree,
@@ -56,7 +56,7 @@ fn mark_pass(
     Ok(())
 }
 
-/// Sets the marks of the prints that one before them answers in a pass of this direction.
+/// Sets the marks of the footprints that one before them answers in a pass of this direction.
 fn mark_along(
     alloc: Global,
     tree: Tree,
@@ -76,7 +76,7 @@ fn mark_along(
     Ok(())
 }
 
-/// Of each print whether one before it answers it in a pass of this direction.
+/// Of each footprint whether one before it answers it in a pass of this direction.
 fn answered_along(
     alloc: Global,
     tree: Tree,
@@ -92,13 +92,13 @@ fn answered_along(
     Ok(marks)
 }
 
-/// Of each print whether it conflicts with one that it minds, by the passes over all of them.
-fn conflicts_of_all(alloc: Global, prints: &[Footprint]) -> Result<Vec<bool>, AllocError>
-    requires { InOrder prints.now }
-    ensures { IfOk result (λ v. v.items ≡ map (is_met prints.now) prints.now) }
+/// Of each footprint whether it conflicts with one that it minds, by the passes over all of them.
+fn conflicts_of_all(alloc: Global, footprints: &[Footprint]) -> Result<Vec<bool>, AllocError>
+    requires { InOrder footprints.now }
+    ensures { IfOk result (λ v. v.items ≡ map (is_met footprints.now) footprints.now) }
 {
-    let tree = tree_over(prints.len())?;
-    let mut placed = place_all(alloc, prints)?;
+    let tree = tree_over(footprints.len())?;
+    let mut placed = place_all(alloc, footprints)?;
     let mut met = answered_along(alloc, tree, placed.as_slice(), false)?;
     placed.reverse();
     let mut behind = answered_along(alloc, tree, placed.as_slice(), true)?;
@@ -107,16 +107,16 @@ fn conflicts_of_all(alloc: Global, prints: &[Footprint]) -> Result<Vec<bool>, Al
     Ok(met)
 }
 
-/// Of each print whether it conflicts with one that it minds, in a time that is near-linear in the prints.
+/// Of each footprint whether it conflicts with one that it minds, in a time that is near-linear in the footprints.
 ///
 /// # Errors
 ///
 /// Where no memory is left for the answers or for the tables.
-pub fn conflicts(alloc: Global, prints: &[Footprint]) -> Result<Vec<bool>, AllocError>
-    requires { InOrder prints.now }
-    ensures { IfOk result (λ v. v.items ≡ map (is_met prints.now) prints.now) }
+pub fn conflicts(alloc: Global, footprints: &[Footprint]) -> Result<Vec<bool>, AllocError>
+    requires { InOrder footprints.now }
+    ensures { IfOk result (λ v. v.items ≡ map (is_met footprints.now) footprints.now) }
 {
-    let merged = merge(alloc, prints)?;
+    let merged = merge(alloc, footprints)?;
     let met = conflicts_of_all(alloc, merged.kept.as_slice())?;
     let answers = answers_at(alloc, met.as_slice(), merged.numbers.as_slice())?;
     Ok(answers)

@@ -17,10 +17,10 @@ pub struct Footprint {
     pub of_region: bool,
 }
 
-/// The print with this number.
-pub(crate) fn print_at(prints: &[Footprint], i: usize) -> Footprint
-    requires { i < length prints.now }
-    ensures { slice_get prints.now i ≡ Some result }
+/// The footprint with this number.
+pub(crate) fn footprint_at(footprints: &[Footprint], i: usize) -> Footprint
+    requires { i < length footprints.now }
+    ensures { slice_get footprints.now i ≡ Some result }
 {
-    prints[i]
+    footprints[i]
 }

@@ -1,13 +1,13 @@
-//! Prints of which most repetitions are left out. In a run the same bytes are accessed many times between two turns, and
-//! prints that are equal have the same answers.
+//! Footprints of which most repetitions are left out. In a run the same bytes are accessed many times between two turns, and
+//! footprints that are equal have the same answers.
 
 ghost use Rattle.std.specs.Prelude.{◌≡◌, ◌<◌, ◌∷◌, ◌++◌, ◌↔◌, [], All, IfOk, IsTrue, Some, length, nat_lt, slice_get, if◌then◌else◌};
 ghost use Rattle.pg_slice_conflicts.specs.Merged.{IsMerged, StandAt};
 
-use crate::footprint::{Footprint, print_at};
+use crate::footprint::{Footprint, footprint_at};
 use std::alloc::{AllocError, Global};
 
-/// Some prints of a list in their order, and of each print of the list the number of one of them that is equal to it.
+/// Some footprints of a list in their order, and of each footprint of the list the number of one of them that is equal to it.
 #[derive(Drop)]
 pub(crate) struct Merged {
     pub kept: Vec<Footprint>,
@@ -21,16 +21,16 @@ fn mixed(number: u64, word: u64) -> u64 {
         .rotate_left(31)
 }
 
-/// One of so many slots, by all that the print says.
-fn slot_of(print: &Footprint, count: usize) -> usize
+/// One of so many slots, by all that the footprint says.
+fn slot_of(footprint: &Footprint, count: usize) -> usize
     requires { 0 < count }
     ensures { result < count }
 {
-    let flags = 2 * u64::from(print.writes) + u64::from(print.of_region);
-    let mut number = mixed(print.start, print.bytes);
-    number = mixed(number, u64::from(print.low));
-    number = mixed(number, u64::from(print.high));
-    number = mixed(number, 4 * u64::from(print.thread.0) + flags);
+    let flags = 2 * u64::from(footprint.writes) + u64::from(footprint.of_region);
+    let mut number = mixed(footprint.start, footprint.bytes);
+    number = mixed(number, u64::from(footprint.low));
+    number = mixed(number, u64::from(footprint.high));
+    number = mixed(number, 4 * u64::from(footprint.thread.0) + flags);
     (number % count as u64) as usize
 }
 
@@ -41,53 +41,61 @@ fn same(x: &Footprint, y: &Footprint) -> bool
     *x == *y
 }
 
-/// Whether the kept print with this number is this one.
-fn is_kept(kept: &[Footprint], number: usize, print: &Footprint) -> bool
-    ensures { IsTrue result ↔ slice_get kept.now number ≡ Some print.now }
+/// Whether the kept footprint with this number is this one.
+fn is_kept(kept: &[Footprint], number: usize, footprint: &Footprint) -> bool
+    ensures { IsTrue result ↔ slice_get kept.now number ≡ Some footprint.now }
 {
-    number < kept.len() && same(&print_at(kept, number), print)
+    number < kept.len() && same(&footprint_at(kept, number), footprint)
 }
 
-/// The number of a kept print that is equal to this one: the guess where it is right, else that of this print, which is
+/// The number of a kept footprint that is equal to this one: the guess where it is right, else that of this footprint, which is
 /// then kept as the last.
-fn number_of(kept: &mut Vec<Footprint>, guess: usize, print: Footprint) -> Result<usize, AllocError>
-    ensures number { IfOk result (λ k. slice_get kept.new.items k ≡ Some print) }
-    ensures kept { IfOk result (λ k. kept.new.items ≡ (if nat_lt k (length kept.old.items) then kept.old.items else (kept.old.items ++ print ∷ []))) }
-    ensures guess { slice_get kept.old.items guess ≡ Some print → IfOk result (λ k. k ≡ guess) }
+fn number_of(
+    kept: &mut Vec<Footprint>,
+    guess: usize,
+    footprint: Footprint,
+) -> Result<usize, AllocError>
+    ensures number { IfOk result (λ k. slice_get kept.new.items k ≡ Some footprint) }
+    ensures kept { IfOk result (λ k. kept.new.items ≡ (if nat_lt k (length kept.old.items) then kept.old.items else (kept.old.items ++ footprint ∷ []))) }
+    ensures guess { slice_get kept.old.items guess ≡ Some footprint → IfOk result (λ k. k ≡ guess) }
 {
-    if is_kept(kept.as_slice(), guess, &print) {
+    if is_kept(kept.as_slice(), guess, &footprint) {
         return Ok(guess);
     }
     let number = kept.len();
-    kept.push(print)?;
+    kept.push(footprint)?;
     Ok(number)
 }
 
-/// The prints merged, by slots each of which has the number of the print that it was last taken for. A print is kept again
-/// where another one took its slot in between; so the time is linear whatever the prints are.
-fn merge_by(alloc: Global, slots: &mut [usize], prints: &[Footprint]) -> Result<Merged, AllocError>
+/// The footprints merged, by slots each of which has the number of the footprint that it was last taken for. A footprint is kept again
+/// where another one took its slot in between; so the time is linear whatever the footprints are.
+fn merge_by(
+    alloc: Global,
+    slots: &mut [usize],
+    footprints: &[Footprint],
+) -> Result<Merged, AllocError>
     requires { 0 < length slots.old }
-    ensures { IfOk result (λ m. IsMerged prints.now m.kept.items m.numbers.items) }
+    ensures { IfOk result (λ m. IsMerged footprints.now m.kept.items m.numbers.items) }
 {
     let mut kept = Vec::new(alloc);
-    let mut numbers = Vec::with_capacity(alloc, prints.len())?;
-    for i in 0..prints.len() {
-        let print = print_at(prints, i);
-        let slot = slot_of(&print, slots.len());
-        let number = number_of(&mut kept, slots[slot], print)?;
+    let mut numbers = Vec::with_capacity(alloc, footprints.len())?;
+    for i in 0..footprints.len() {
+        let footprint = footprint_at(footprints, i);
+        let slot = slot_of(&footprint, slots.len());
+        let number = number_of(&mut kept, slots[slot], footprint)?;
         slots[slot] = number;
         numbers.push(number)?;
     }
     Ok(Merged { kept, numbers })
 }
 
-/// The prints merged.
-pub(crate) fn merge(alloc: Global, prints: &[Footprint]) -> Result<Merged, AllocError>
-    ensures { IfOk result (λ m. IsMerged prints.now m.kept.items m.numbers.items) }
+/// The footprints merged.
+pub(crate) fn merge(alloc: Global, footprints: &[Footprint]) -> Result<Merged, AllocError>
+    ensures { IfOk result (λ m. IsMerged footprints.now m.kept.items m.numbers.items) }
 {
-    let count = 2 * prints.len() + 1;
+    let count = 2 * footprints.len() + 1;
     let mut slots = vec![in alloc; 0; count]?;
-    merge_by(alloc, slots.as_mut_slice(), prints)
+    merge_by(alloc, slots.as_mut_slice(), footprints)
 }
 
 /// The answer with this number.

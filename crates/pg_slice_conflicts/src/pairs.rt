@@ -1,9 +1,9 @@
-//! Which prints conflict, pair by pair.
+//! Which footprints conflict, pair by pair.
 
 ghost use Rattle.std.specs.Prelude.{◌≡◌, IfOk, map};
 ghost use Rattle.pg_slice_conflicts.specs.Meets as meets;
 
-use crate::footprint::{Footprint, print_at};
+use crate::footprint::{Footprint, footprint_at};
 use std::alloc::{AllocError, Global};
 
 /// Whether the two have a byte in common.
@@ -14,7 +14,7 @@ fn share(x: &Footprint, y: &Footprint) -> bool
     from - x.start < x.bytes && from - y.start < y.bytes
 }
 
-/// Whether a print conflicts with another that it minds.
+/// Whether a footprint conflicts with another that it minds.
 fn meets(x: &Footprint, y: &Footprint) -> bool
     ensures { result ≡ meets.meets x.now y.now }
 {
@@ -26,29 +26,29 @@ fn meets(x: &Footprint, y: &Footprint) -> bool
         && share(x, y)
 }
 
-/// Whether a print conflicts with one of these that it minds.
-fn is_met(prints: &[Footprint], x: &Footprint) -> bool
-    ensures { result ≡ meets.is_met prints.now x.now }
+/// Whether a footprint conflicts with one of these that it minds.
+fn is_met(footprints: &[Footprint], x: &Footprint) -> bool
+    ensures { result ≡ meets.is_met footprints.now x.now }
 {
-    for j in 0..prints.len() {
-        if meets(x, &print_at(prints, j)) {
+    for j in 0..footprints.len() {
+        if meets(x, &footprint_at(footprints, j)) {
             return true;
         }
     }
     false
 }
 
-/// Of each print whether it conflicts with one that it minds, by comparing each with all others.
+/// Of each footprint whether it conflicts with one that it minds, by comparing each with all others.
 ///
 /// # Errors
 ///
 /// Where no memory is left for the answers.
-pub fn conflicts_by_pairs(alloc: Global, prints: &[Footprint]) -> Result<Vec<bool>, AllocError>
-    ensures { IfOk result (λ v. v.items ≡ map (meets.is_met prints.now) prints.now) }
+pub fn conflicts_by_pairs(alloc: Global, footprints: &[Footprint]) -> Result<Vec<bool>, AllocError>
+    ensures { IfOk result (λ v. v.items ≡ map (meets.is_met footprints.now) footprints.now) }
 {
-    let mut met = Vec::with_capacity(alloc, prints.len())?;
-    for i in 0..prints.len() {
-        met.push(is_met(prints, &print_at(prints, i)))?;
+    let mut met = Vec::with_capacity(alloc, footprints.len())?;
+    for i in 0..footprints.len() {
+        met.push(is_met(footprints, &footprint_at(footprints, i)))?;
     }
     Ok(met)
 }

@@ -1,4 +1,4 @@
-//! One pass over all prints, in one direction.
+//! One pass over all footprints, in one direction.
 
 ghost use Rattle.std.specs.Prelude.{◌≡◌, map, IfOk};
 ghost use Rattle.pg_slice_conflicts.specs.Passes.{touch_of};
@@ -7,7 +7,7 @@ use crate::places::Placed;
 use pg_ir::ThreadNo;
 use std::alloc::{AllocError, Global};
 
-/// A print in one pass over all: its thread, its places, the rank that it gives to those of other threads and
+/// A footprint in one pass over all: its thread, its places, the rank that it gives to those of other threads and
 /// the one that it needs of them, and whether it gives and asks at all.
 #[derive(Clone, Copy)]
 pub(crate) struct Touch {
@@ -20,7 +20,7 @@ pub(crate) struct Touch {
     pub asks: bool,
 }
 
-/// A pass over all prints, from the last to the first where it goes backward. Those ask that write as it says and
+/// A pass over all footprints, from the last to the first where it goes backward. Those ask that write as it says and
 /// are of regions as it says.
 #[derive(Clone, Copy)]
 pub(crate) struct Pass {
@@ -30,16 +30,16 @@ pub(crate) struct Pass {
 }
 
 impl Pass {
-    /// A print as a touch of this pass.
+    /// A footprint as a touch of this pass.
     fn touch(self, placed: &Placed) -> Touch
         ensures { result ≡ touch_of self placed.now }
     {
-        let print = placed.print;
-        let high = u64::from(print.high);
-        let low = u64::from(print.low);
+        let footprint = placed.footprint;
+        let high = u64::from(footprint.high);
+        let low = u64::from(footprint.low);
         let bound = u64::from(u32::MAX);
         Touch {
-            thread: print.thread,
+            thread: footprint.thread,
             first: placed.first,
             end: placed.end,
             rank: if self.backward {
@@ -48,12 +48,12 @@ impl Pass {
                 high + 1
             },
             need: if self.backward { bound - high } else { low },
-            gives: (self.writes || print.writes) && (self.of_region || !print.of_region),
-            asks: self.writes == print.writes && self.of_region == print.of_region,
+            gives: (self.writes || footprint.writes) && (self.of_region || !footprint.of_region),
+            asks: self.writes == footprint.writes && self.of_region == footprint.of_region,
         }
     }
 
-    /// The prints as touches of this pass.
+    /// The footprints as touches of this pass.
     pub fn touches(self, alloc: Global, placed: &[Placed]) -> Result<Vec<Touch>, AllocError>
         ensures { IfOk result (λ v. v.items ≡ map (touch_of self) placed.now) }
     {

@@ -1,28 +1,28 @@
-//! Prints with their places among the first bytes of all.
+//! Footprints with their places among the first bytes of all.
 
 ghost use Rattle.std.specs.Prelude.{◌≡◌, ◌+◌, All, Contains, IfOk, map};
 ghost use Rattle.std.specs.List.Sorted.{IsNonDecreasing, IsPermutation};
-ghost use Rattle.pg_slice_conflicts.specs.Places.{ArePlaced, IsPlace, IsPlaced, print_of, start_of};
+ghost use Rattle.pg_slice_conflicts.specs.Places.{ArePlaced, IsPlace, IsPlaced, footprint_of, start_of};
 
-use crate::footprint::{Footprint, print_at};
+use crate::footprint::{Footprint, footprint_at};
 use std::alloc::{AllocError, Global};
 
-/// A print with its places: how many prints begin before its first byte, and how many before its end.
+/// A footprint with its places: how many footprints begin before its first byte, and how many before its end.
 #[derive(Clone, Copy)]
 pub(crate) struct Placed {
-    pub print: Footprint,
+    pub footprint: Footprint,
     pub first: usize,
     pub end: usize,
 }
 
-/// The first bytes of the prints, ascending.
-fn starts(alloc: Global, prints: &[Footprint]) -> Result<Vec<u64>, AllocError>
+/// The first bytes of the footprints, ascending.
+fn starts(alloc: Global, footprints: &[Footprint]) -> Result<Vec<u64>, AllocError>
     ensures ascending { IfOk result (λ v. IsNonDecreasing v.items) }
-    ensures same { IfOk result (λ v. IsPermutation (map start_of prints.now) v.items) }
+    ensures same { IfOk result (λ v. IsPermutation (map start_of footprints.now) v.items) }
 {
-    let mut starts = Vec::with_capacity(alloc, prints.len())?;
-    for print in prints {
-        starts.push(print.start)?;
+    let mut starts = Vec::with_capacity(alloc, footprints.len())?;
+    for footprint in footprints {
+        starts.push(footprint.start)?;
     }
     starts.sort_unstable();
     Ok(starts)
@@ -47,46 +47,46 @@ fn place_of_end(bytes: &[u64], start: u64, count: u64) -> usize
     }
 }
 
-/// The print with its places among these bytes.
-fn placed_at(bytes: &[u64], print: Footprint) -> Placed
+/// The footprint with its places among these bytes.
+fn placed_at(bytes: &[u64], footprint: Footprint) -> Placed
     requires ascending { IsNonDecreasing bytes.now }
-    requires start { Contains bytes.now print.start }
+    requires start { Contains bytes.now footprint.start }
     ensures placed { IsPlaced bytes.now result }
-    ensures print { result.print ≡ print }
+    ensures footprint { result.footprint ≡ footprint }
 {
     // Reads that let the proof know the numbers' bounds.
-    let _low = print.low;
-    let _high = print.high;
+    let _low = footprint.low;
+    let _high = footprint.high;
     Placed {
-        print,
-        first: place(bytes, print.start),
-        end: place_of_end(bytes, print.start, print.bytes),
+        footprint,
+        first: place(bytes, footprint.start),
+        end: place_of_end(bytes, footprint.start, footprint.bytes),
     }
 }
 
-/// The prints with their places among these bytes.
+/// The footprints with their places among these bytes.
 fn placed_among(
     alloc: Global,
     bytes: &[u64],
-    prints: &[Footprint],
+    footprints: &[Footprint],
 ) -> Result<Vec<Placed>, AllocError>
     requires ascending { IsNonDecreasing bytes.now }
-    requires same { IsPermutation (map start_of prints.now) bytes.now }
+    requires same { IsPermutation (map start_of footprints.now) bytes.now }
     ensures placed { IfOk result (λ v. All (IsPlaced bytes.now) v.items) }
-    ensures prints { IfOk result (λ v. map print_of v.items ≡ prints.now) }
+    ensures footprints { IfOk result (λ v. map footprint_of v.items ≡ footprints.now) }
 {
-    let mut placed = Vec::with_capacity(alloc, prints.len())?;
-    for i in 0..prints.len() {
-        placed.push(placed_at(bytes, print_at(prints, i)))?;
+    let mut placed = Vec::with_capacity(alloc, footprints.len())?;
+    for i in 0..footprints.len() {
+        placed.push(placed_at(bytes, footprint_at(footprints, i)))?;
     }
     Ok(placed)
 }
 
-/// The prints with their places.
-pub(crate) fn place_all(alloc: Global, prints: &[Footprint]) -> Result<Vec<Placed>, AllocError>
-    ensures { IfOk result (λ v. ArePlaced prints.now v.items) }
+/// The footprints with their places.
+pub(crate) fn place_all(alloc: Global, footprints: &[Footprint]) -> Result<Vec<Placed>, AllocError>
+    ensures { IfOk result (λ v. ArePlaced footprints.now v.items) }
 {
-    let bytes = starts(alloc, prints)?;
-    let placed = placed_among(alloc, bytes.as_slice(), prints)?;
+    let bytes = starts(alloc, footprints)?;
+    let placed = placed_among(alloc, bytes.as_slice(), footprints)?;
     Ok(placed)
 }

@@ -5,7 +5,7 @@ use Rattle.std.specs.BTreeMap.{get}
 use Rattle.pg_slice_demands.specs.declared.demanded.Demanded.{Demanded}
 use Rattle.pg_slice_demands.specs.Places.{register_place}
 
--- of a register of a call of a thread: all of its number, or the frame of the pointer that it holds, or nothing
+-- of a register of a call of a thread: all of its number, or the bounds of the pointer that it holds, or nothing
 abbrev pub asked_of : Demanded → ℕ → ℕ → ℕ → Option Bool
 asked_of m t k r = if nat_lt k 512 && nat_lt r 4096 then get nat_cmp m.cells (register_place t k r) else None
 

@@ -10,7 +10,7 @@ use crate::places::{BYTE_PLACES, CALLS, call_place, register_place};
 use std::alloc::{AllocError, Global};
 use std::collections::BTreeMap;
 
-/// What has to be known: cells by their places on a line, each as a number, or only the frame of the pointer that it holds.
+/// What has to be known: cells by their places on a line, each as a number, or only the bounds of the pointer that it holds.
 #[derive(Drop)]
 pub struct Demanded {
     cells: BTreeMap<u64, bool>,
@@ -27,14 +27,14 @@ impl Demanded {
         }
     }
 
-    /// What has to be known of the cell at a place: all of it, or its frame.
+    /// What has to be known of the cell at a place: all of it, or its bounds.
     fn at(&self, place: u64) -> Option<bool>
         ensures { result ≡ get nat_cmp self.now.cells place }
     {
         self.cells.get(&place).copied()
     }
 
-    /// The cell at a place has to be known, whole or its frame alone. One that has to be known whole still has.
+    /// The cell at a place has to be known, whole or its bounds alone. One that has to be known whole still has.
     fn put(&mut self, place: u64, whole: bool) -> Result<(), AllocError>
         ensures only { OnOk result ((q : ℕ) (w : Bool) → get nat_cmp self.new.cells q ≡ Some w → (get nat_cmp self.old.cells q ≡ Some w) ⊎ ((q ≡ place) × (w ≡ whole))) }
         ensures asked { OnOk result (get nat_cmp self.new.cells place ≡ Some (whole || unwrap_or (get nat_cmp self.old.cells place) false)) }
@@ -81,7 +81,7 @@ impl Demanded {
         }
     }
 
-    /// A register of a call has to be known, whole or by its frame alone. Nothing is asked of a register that has no place.
+    /// A register of a call has to be known, whole or by its bounds alone. Nothing is asked of a register that has no place.
     ///
     /// # Errors
     ///

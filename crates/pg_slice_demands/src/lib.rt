@@ -1,4 +1,4 @@
-//! What has to be known at a moment of a run: registers of the calls of threads, whole or by their frames alone, and bytes.
+//! What has to be known at a moment of a run: registers of the calls of threads, whole or by their bounds alone, and bytes.
 #![tactic(auto)]
 
 mod demanded;

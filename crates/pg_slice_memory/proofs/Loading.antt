@@ -13,7 +13,7 @@ use Rattle.pg_precondition.specs.Nodes.{NodeList}
 use Rattle.pg_precondition.specs.Values.{joined, number_of, numbers_of, with_both, with_one}
 use Rattle.pg_slice_rules.specs.declared.decision.Decision.{Decision}
 use Rattle.pg_slice_rules.specs.Shadows as shadows
-use Rattle.pg_slice_rules.specs.Shadows.{OnInput, Shadow, Known, Framed, Unknown, always, byte_in, is_known, loaded, valued}
+use Rattle.pg_slice_rules.specs.Shadows.{OnInput, Shadow, Known, Bounded, Unknown, always, byte_in, is_known, loaded, valued}
 use Rattle.pg_slice_memory.specs.declared.source.ByteSource.{ByteSource}
 use Rattle.pg_slice_memory.specs.declared.source.ByteSource.TheVariants as byte
 use Rattle.pg_slice_values.specs.Sources.{number_by}
@@ -42,7 +42,7 @@ shadow_at p ns start xs k = let e : start + k - start ≡ k = omega arith in ap 
 
 joined_unknown : (s : Shadow) (x : Decision) → is_known s ≡ true → shadows.joined s (Unknown x) ≡ Unknown x
 joined_unknown (Known g k) x h = refl
-joined_unknown (Framed g y) x h = absurd cc
+joined_unknown (Bounded g y) x h = absurd cc
 joined_unknown (Unknown y) x h = absurd cc
 
 loaded_unknown : (F : ℕ → Shadow) (at n k : ℕ) (x : Decision) → ((j : ℕ) → j < k → is_known (F (at + j)) ≡ true) → k < n → F (at + k) ≡ Unknown x → loaded F at n ≡ Unknown x

@@ -4,7 +4,7 @@ use mathlib.Core.Path.{fun_ext}
 use Rattle.pg_num.specs.Places.{ByteRange}
 use Rattle.pg_ir.specs.Program.{NumberedProgram}
 use Rattle.pg_precondition.specs.Nodes.{NodeList}
-use Rattle.pg_slice_rules.specs.Shadows.{Framed, OnInput, Shadow, Unknown, is_within, spoiled, stored, byte_in}
+use Rattle.pg_slice_rules.specs.Shadows.{Bounded, OnInput, Shadow, Unknown, is_within, spoiled, stored, byte_in}
 use Rattle.pg_slice_rules.specs.declared.decision.Decision.{Decision}
 use Rattle.pg_slice_memory.specs.declared.source.ByteSource.{ByteSource}
 use Rattle.pg_slice_memory.specs.declared.source.Held.{Held}
@@ -51,8 +51,8 @@ module _ (r : ByteRange) (x : Decision) (cs ds : Changes) (e : sources_of ds ≡
   pub spoil_shown : (p : NumberedProgram) (ns : NodeList) → shadows_of p ns ds ≡ spoiled r x (shadows_of p ns cs)
   spoil_shown p ns = store_shown r (held.Unknown x) cs ds e p ns ∙ fun_ext (λ b. unknown_shadow p ns b)
 
-pub frame_stored : (r : ByteRange) (f : OnInput) (x : Decision) (bytes : ℕ → Shadow) → stored r (Framed f x) bytes ≡ stored r (Unknown x) bytes
-frame_stored r f x bytes = fun_ext (λ b. same b)
+pub bounded_stored : (r : ByteRange) (f : OnInput) (x : Decision) (bytes : ℕ → Shadow) → stored r (Bounded f x) bytes ≡ stored r (Unknown x) bytes
+bounded_stored r f x bytes = fun_ext (λ b. same b)
   where
-    same : (b : ℕ) → stored r (Framed f x) bytes b ≡ stored r (Unknown x) bytes b
+    same : (b : ℕ) → stored r (Bounded f x) bytes b ≡ stored r (Unknown x) bytes b
     same b = refl

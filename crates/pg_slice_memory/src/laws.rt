@@ -6,8 +6,8 @@ ghost use Rattle.pg_ir.specs.Program.{NumberedProgram};
 ghost use Rattle.pg_precondition.specs.Nodes.{NodeList};
 ghost use Rattle.pg_num.specs.Places.{ByteRange};
 ghost use Rattle.pg_slice_rules.specs.declared.decision.Decision.{Decision};
-ghost use Rattle.pg_slice_rules.specs.Freeable.{frame_of};
-ghost use Rattle.pg_slice_rules.specs.Shadows.{Framed, OnInput, Shadow, Unknown, stored};
+ghost use Rattle.pg_slice_rules.specs.Freeable.{bounds_of};
+ghost use Rattle.pg_slice_rules.specs.Shadows.{Bounded, OnInput, Shadow, Unknown, stored};
 ghost use Rattle.pg_stamps.specs.declared.stamps.TheConstants.{PLACE_COUNT};
 ghost use Rattle.pg_slice_memory.specs.Changes.{AreSources, Changes, shadows_of};
 ghost use Rattle.pg_slice_values.specs.Sources.{Grew};
@@ -19,13 +19,13 @@ pub fn more_nodes_change_nothing()
     ensures names { (m n : ℕ) (cs : Changes) → m ≤ n → AreSources m cs → AreSources n cs }
 {}
 
-/// A pointer of which only the frame is known is stored as a number that isn't known.
-pub fn a_frame_gives_no_bytes()
-    ensures { (r : ByteRange) (f : OnInput) (x : Decision) (bytes : ℕ → Shadow) → stored r (Framed f x) bytes ≡ stored r (Unknown x) bytes }
+/// A pointer of which only the bounds are known is stored as a number that isn't known.
+pub fn bounds_give_no_bytes()
+    ensures { (r : ByteRange) (f : OnInput) (x : Decision) (bytes : ℕ → Shadow) → stored r (Bounded f x) bytes ≡ stored r (Unknown x) bytes }
 {}
 
-/// Each byte of memory has a place, and so has each byte of the frame of any word.
-pub fn frames_have_places()
+/// Each byte of memory has a place, and so has each byte within the bounds of any word.
+pub fn bounds_have_places()
     ensures memory { MEMORY_BYTES ≤ PLACE_COUNT }
-    ensures frames { (word : ℕ) → word < 2 ^ 64 → (frame_of word).start + (frame_of word).bytes ≤ PLACE_COUNT }
+    ensures bounds { (word : ℕ) → word < 2 ^ 64 → (bounds_of word).start + (bounds_of word).bytes ≤ PLACE_COUNT }
 {}

@@ -1,5 +1,5 @@
 //! What is known of each byte of memory along a reference run: the bytes of numbers of nodes, and the decisions that are
-//! blamed for the rest. Whole frames are forgotten without going over their bytes.
+//! blamed for the rest. All within given bounds is forgotten without going over the bytes.
 #![tactic(auto)]
 
 mod change;

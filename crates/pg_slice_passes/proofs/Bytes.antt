@@ -7,7 +7,7 @@ use Rattle.pg_ir.specs.Program.{NumberedProgram}
 use Rattle.pg_precondition.specs.Nodes.{NodeList}
 use Rattle.pg_slice_rules.specs.declared.decision.Decision.{Decision}
 use Rattle.pg_slice_rules.specs.declared.decision.Decision.TheVariants.{Pinned}
-use Rattle.pg_slice_rules.specs.Freeable.{FreeAccess, FreeRegion, frame_of}
+use Rattle.pg_slice_rules.specs.Freeable.{FreeAccess, FreeRegion, bounds_of}
 use Rattle.pg_slice_rules.specs.Known.{bytes_freed, forgotten_bytes}
 use Rattle.pg_slice_rules.specs.Shadows.{Shadow, byte_in, is_within, spoiled, stored}
 use Rattle.pg_slice_values.specs.declared.source.Source.{Source}
@@ -25,7 +25,7 @@ stored_as r s t bytes b h = ap (λ (x : Shadow). if is_within r b then x else by
 
 -- bytes after one of them
 abbrev pub after_one : FreeAccess → Decision → (ℕ → Shadow) → ℕ → Shadow
-after_one a x bytes = if a.writes then spoiled (frame_of a.at.last) x bytes else bytes
+after_one a x bytes = if a.writes then spoiled (bounds_of a.at.last) x bytes else bytes
 
 pub one_forgotten : (xs : List FreeAccess) (i : ℕ) (a : FreeAccess) (x : Decision) (bytes : ℕ → Shadow) → slice_get xs i ≡ Some a →
     forgotten_bytes (drop (i + 1) xs) x (after_one a x bytes) ≡ forgotten_bytes (drop i xs) x bytes
@@ -77,11 +77,11 @@ number_stored p old new cs after start at count h s x b g a e q k v =
     ∙ ap (λ (y : Shadow). stored (from start) y (shadows_of p old cs) b) v
     ∙ ap (λ (i : ℕ). stored (from i) x (shadows_of p old cs) b) q
 
--- a frame is forgotten
-pub frame_spoiled : (p : NumberedProgram) (ns : NodeList) (cs after : Changes) (start count word : ℕ) (x : Decision) →
-    shadows_of p ns after ≡ spoiled (record { start = start; bytes = count }) x (shadows_of p ns cs) → start ≡ (frame_of word).start → count ≡ (frame_of word).bytes →
-    shadows_of p ns after ≡ spoiled (frame_of word) x (shadows_of p ns cs)
-frame_spoiled p ns cs after start count word x e s n =
+-- what lies within bounds is forgotten
+pub bounds_spoiled : (p : NumberedProgram) (ns : NodeList) (cs after : Changes) (start count word : ℕ) (x : Decision) →
+    shadows_of p ns after ≡ spoiled (record { start = start; bytes = count }) x (shadows_of p ns cs) → start ≡ (bounds_of word).start → count ≡ (bounds_of word).bytes →
+    shadows_of p ns after ≡ spoiled (bounds_of word) x (shadows_of p ns cs)
+bounds_spoiled p ns cs after start count word x e s n =
     e
     ∙ ap (λ (i : ℕ). spoiled (record { start = i; bytes = count }) x (shadows_of p ns cs)) s
-    ∙ ap (λ (i : ℕ). spoiled (record { start = (frame_of word).start; bytes = i }) x (shadows_of p ns cs)) n
+    ∙ ap (λ (i : ℕ). spoiled (record { start = (bounds_of word).start; bytes = i }) x (shadows_of p ns cs)) n

@@ -7,8 +7,8 @@ use Rattle.pg_num.specs.declared.width.Width.{Width}
 use Rattle.pg_num.specs.declared.width.Width.TheVariants.{W1, W8, W16, W32, W64}
 use Rattle.pg_ir.specs.declared.function.Function.{Function}
 use Rattle.pg_ir.specs.declared.ids.InstrId.{InstrId}
-use Rattle.pg_ir.specs.declared.known.Known.{Known}
-use Rattle.pg_ir.specs.declared.known.Known.TheVariants as known
+use Rattle.pg_ir.specs.declared.library_call.LibraryCall.{LibraryCall}
+use Rattle.pg_ir.specs.declared.library_call.LibraryCall.TheVariants as known
 use Rattle.pg_ir.specs.declared.value.Value.{Value}
 use Rattle.pg_ir.specs.declared.instr.Op.{Op}
 use Rattle.pg_ir.specs.declared.instr.Op.TheVariants as op
@@ -17,11 +17,11 @@ use Rattle.pg_ir.specs.Program.{NumberedProgram}
 use Rattle.pg_ir.specs.WellFormed.{BeginsThread, granules_for}
 use Rattle.pg_run_thread.specs.declared.action.Action.{Action}
 use Rattle.pg_run_thread.specs.declared.action.Action.TheVariants as actions
-use Rattle.pg_run_thread.specs.declared.region.Region.{Region}
+use Rattle.pg_run_thread.specs.declared.thread_memory.ThreadMemory.{ThreadMemory}
 use Rattle.pg_run_thread.specs.Operands.{first_four, given, operand, operands_of}
 use Rattle.pg_run_thread.specs.Compute.{chosen}
 use Rattle.pg_run_thread.specs.EdgeStep.{case_of}
-use Rattle.pg_run_thread.specs.Step.{bytes_of, has_room, known_action, op_action, returning_action}
+use Rattle.pg_run_thread.specs.Step.{bytes_of, has_room, library_action, op_action, returning_action}
 use Rattle.pg_run_thread.specs.States.{CanStep}
 use Rattle.pg_run_trace.specs.declared.step.StepKind.{StepKind}
 use Rattle.pg_run.specs.Fits.{ActionFits}
@@ -61,50 +61,50 @@ module _ (gated : List InstrId) (p : NumberedProgram) (s : State) (t answer numb
   local_told : (ns : List ℕ) (o : Op) → IsPresent ns o → Fitting p o (op_told ns number o) → IsTold ns o actions.Local
   local_told ns o e h f c = subst (Fitting p o) (sym e) h
 
-  known_told : (u : ℕ) (halfway : Bool) (rs : List (Option ℕ)) (k : Known) (args : List Value) → IsPresent (first_four p rs args) (op.CallKnown k args)
-      → IsTold (first_four p rs args) (op.CallKnown k args) (known_action p u halfway rs k args)
-  known_told u halfway rs known.PgIn args e = number_is (IsTold (first_four p rs args) (op.CallKnown known.PgIn args)) p rs args _ (λ n h c. absurd c) (λ n f c. (refl, tt))
-  known_told u halfway rs known.PgInLen args e = λ f c. (refl, tt)
-  known_told u halfway rs known.PgOut args e = number_is (IsTold (first_four p rs args) (op.CallKnown known.PgOut args)) p rs args _ (λ n h c. absurd c) (λ n h c. (tt, λ q. absurd cc))
-  known_told u halfway rs known.Putchar args e = number_is (IsTold (first_four p rs args) (op.CallKnown known.Putchar args)) p rs args _ (λ n h c. absurd c) (λ n h c. (tt, λ q. absurd cc))
-  known_told u halfway rs known.Malloc args e = number_is (IsTold (first_four p rs args) (op.CallKnown known.Malloc args)) p rs args _ (λ n h c. absurd c)
-      (λ n. local_told (first_four p rs args) (op.CallKnown known.Malloc args) e (refl, tt))
-  known_told u halfway rs known.Free args e = number_is (IsTold (first_four p rs args) (op.CallKnown known.Free args)) p rs args _ (λ n h c. absurd c)
-      (λ n. local_told (first_four p rs args) (op.CallKnown known.Free args) e (refl, tt))
-  known_told u halfway rs known.PthreadCreate args e = create_is (IsTold (first_four p rs args) (op.CallKnown known.PthreadCreate args)) p rs args (λ n h c. absurd c)
+  library_told : (u : ℕ) (halfway : Bool) (rs : List (Option ℕ)) (k : LibraryCall) (args : List Value) → IsPresent (first_four p rs args) (op.CallLibrary k args)
+      → IsTold (first_four p rs args) (op.CallLibrary k args) (library_action p u halfway rs k args)
+  library_told u halfway rs known.PgIn args e = number_is (IsTold (first_four p rs args) (op.CallLibrary known.PgIn args)) p rs args _ (λ n h c. absurd c) (λ n f c. (refl, tt))
+  library_told u halfway rs known.PgInLen args e = λ f c. (refl, tt)
+  library_told u halfway rs known.PgOut args e = number_is (IsTold (first_four p rs args) (op.CallLibrary known.PgOut args)) p rs args _ (λ n h c. absurd c) (λ n h c. (tt, λ q. absurd cc))
+  library_told u halfway rs known.Putchar args e = number_is (IsTold (first_four p rs args) (op.CallLibrary known.Putchar args)) p rs args _ (λ n h c. absurd c) (λ n h c. (tt, λ q. absurd cc))
+  library_told u halfway rs known.Malloc args e = number_is (IsTold (first_four p rs args) (op.CallLibrary known.Malloc args)) p rs args _ (λ n h c. absurd c)
+      (λ n. local_told (first_four p rs args) (op.CallLibrary known.Malloc args) e (refl, tt))
+  library_told u halfway rs known.Free args e = number_is (IsTold (first_four p rs args) (op.CallLibrary known.Free args)) p rs args _ (λ n h c. absurd c)
+      (λ n. local_told (first_four p rs args) (op.CallLibrary known.Free args) e (refl, tt))
+  library_told u halfway rs known.PthreadCreate args e = create_is (IsTold (first_four p rs args) (op.CallLibrary known.PthreadCreate args)) p rs args (λ n h c. absurd c)
       (λ r g n k q f c. (tt, λ h. subst (λ (o : Option ℕ). given o < length p.functions) (sym q) (begins_below p g (slice_get p.functions g) refl f.0)))
-  known_told u halfway rs known.PthreadJoin args e = join_is (IsTold (first_four p rs args) (op.CallKnown known.PthreadJoin args)) p rs args (λ n h c. absurd c) (λ n h c. (tt, λ q. absurd cc))
+  library_told u halfway rs known.PthreadJoin args e = join_is (IsTold (first_four p rs args) (op.CallLibrary known.PthreadJoin args)) p rs args (λ n h c. absurd c) (λ n h c. (tt, λ q. absurd cc))
       (λ n r k h c. (tt, λ q. absurd cc))
-  known_told u halfway rs known.PthreadExit args e = number_is (IsTold (first_four p rs args) (op.CallKnown known.PthreadExit args)) p rs args _ (λ n h c. absurd c) (λ n h c. (tt, λ q. absurd cc))
-  known_told u halfway rs known.PthreadMutexInit args e = init_is (IsTold (first_four p rs args) (op.CallKnown known.PthreadMutexInit args)) p rs args _ (λ n h c. absurd c)
+  library_told u halfway rs known.PthreadExit args e = number_is (IsTold (first_four p rs args) (op.CallLibrary known.PthreadExit args)) p rs args _ (λ n h c. absurd c) (λ n h c. (tt, λ q. absurd cc))
+  library_told u halfway rs known.PthreadMutexInit args e = init_is (IsTold (first_four p rs args) (op.CallLibrary known.PthreadMutexInit args)) p rs args _ (λ n h c. absurd c)
       (λ o h c. (tt, λ q. absurd cc))
-  known_told u halfway rs known.PthreadMutexLock args e = object_is (IsTold (first_four p rs args) (op.CallKnown known.PthreadMutexLock args)) p rs args _ (λ n h c. absurd c)
+  library_told u halfway rs known.PthreadMutexLock args e = object_is (IsTold (first_four p rs args) (op.CallLibrary known.PthreadMutexLock args)) p rs args _ (λ n h c. absurd c)
       (λ o h c. (tt, λ q. absurd cc))
-  known_told u halfway rs known.PthreadMutexTrylock args e = object_is (IsTold (first_four p rs args) (op.CallKnown known.PthreadMutexTrylock args)) p rs args _ (λ n h c. absurd c)
+  library_told u halfway rs known.PthreadMutexTrylock args e = object_is (IsTold (first_four p rs args) (op.CallLibrary known.PthreadMutexTrylock args)) p rs args _ (λ n h c. absurd c)
       (λ o h c. (tt, λ q. absurd cc))
-  known_told u halfway rs known.PthreadMutexUnlock args e = object_is (IsTold (first_four p rs args) (op.CallKnown known.PthreadMutexUnlock args)) p rs args _ (λ n h c. absurd c)
+  library_told u halfway rs known.PthreadMutexUnlock args e = object_is (IsTold (first_four p rs args) (op.CallLibrary known.PthreadMutexUnlock args)) p rs args _ (λ n h c. absurd c)
       (λ o h c. (tt, λ q. absurd cc))
-  known_told u halfway rs known.PthreadMutexDestroy args e = object_is (IsTold (first_four p rs args) (op.CallKnown known.PthreadMutexDestroy args)) p rs args _ (λ n h c. absurd c)
+  library_told u halfway rs known.PthreadMutexDestroy args e = object_is (IsTold (first_four p rs args) (op.CallLibrary known.PthreadMutexDestroy args)) p rs args _ (λ n h c. absurd c)
       (λ o h c. (tt, λ q. absurd cc))
-  known_told u halfway rs known.PthreadCondInit args e = init_is (IsTold (first_four p rs args) (op.CallKnown known.PthreadCondInit args)) p rs args _ (λ n h c. absurd c)
+  library_told u halfway rs known.PthreadCondInit args e = init_is (IsTold (first_four p rs args) (op.CallLibrary known.PthreadCondInit args)) p rs args _ (λ n h c. absurd c)
       (λ o h c. (tt, λ q. absurd cc))
-  known_told u true rs known.PthreadCondWait args e = wait_is (IsTold (first_four p rs args) (op.CallKnown known.PthreadCondWait args)) p true rs args (λ n h c. absurd c)
+  library_told u true rs known.PthreadCondWait args e = wait_is (IsTold (first_four p rs args) (op.CallLibrary known.PthreadCondWait args)) p true rs args (λ n h c. absurd c)
       (λ v m h c. (tt, λ q. absurd cc))
-  known_told u false rs known.PthreadCondWait args e = wait_is (IsTold (first_four p rs args) (op.CallKnown known.PthreadCondWait args)) p false rs args (λ n h c. absurd c)
+  library_told u false rs known.PthreadCondWait args e = wait_is (IsTold (first_four p rs args) (op.CallLibrary known.PthreadCondWait args)) p false rs args (λ n h c. absurd c)
       (λ v m h c. (tt, λ q. absurd cc))
-  known_told u halfway rs known.PthreadCondSignal args e = object_is (IsTold (first_four p rs args) (op.CallKnown known.PthreadCondSignal args)) p rs args _ (λ n h c. absurd c)
+  library_told u halfway rs known.PthreadCondSignal args e = object_is (IsTold (first_four p rs args) (op.CallLibrary known.PthreadCondSignal args)) p rs args _ (λ n h c. absurd c)
       (λ o h c. (tt, λ q. absurd cc))
-  known_told u halfway rs known.PthreadCondBroadcast args e = object_is (IsTold (first_four p rs args) (op.CallKnown known.PthreadCondBroadcast args)) p rs args _ (λ n h c. absurd c)
+  library_told u halfway rs known.PthreadCondBroadcast args e = object_is (IsTold (first_four p rs args) (op.CallLibrary known.PthreadCondBroadcast args)) p rs args _ (λ n h c. absurd c)
       (λ o h c. (tt, λ q. absurd cc))
-  known_told u halfway rs known.PthreadCondDestroy args e = object_is (IsTold (first_four p rs args) (op.CallKnown known.PthreadCondDestroy args)) p rs args _ (λ n h c. absurd c)
+  library_told u halfway rs known.PthreadCondDestroy args e = object_is (IsTold (first_four p rs args) (op.CallLibrary known.PthreadCondDestroy args)) p rs args _ (λ n h c. absurd c)
       (λ o h c. (tt, λ q. absurd cc))
-  known_told u halfway rs known.PthreadBarrierInit args e = barrier_init_is (IsTold (first_four p rs args) (op.CallKnown known.PthreadBarrierInit args)) p rs args (λ n h c. absurd c)
+  library_told u halfway rs known.PthreadBarrierInit args e = barrier_init_is (IsTold (first_four p rs args) (op.CallLibrary known.PthreadBarrierInit args)) p rs args (λ n h c. absurd c)
       (λ o n h c. (tt, λ q. absurd cc))
-  known_told u true rs known.PthreadBarrierWait args e = object_is (IsTold (first_four p rs args) (op.CallKnown known.PthreadBarrierWait args)) p rs args _ (λ n h c. absurd c)
+  library_told u true rs known.PthreadBarrierWait args e = object_is (IsTold (first_four p rs args) (op.CallLibrary known.PthreadBarrierWait args)) p rs args _ (λ n h c. absurd c)
       (λ o h c. (tt, λ q. absurd cc))
-  known_told u false rs known.PthreadBarrierWait args e = object_is (IsTold (first_four p rs args) (op.CallKnown known.PthreadBarrierWait args)) p rs args _ (λ n h c. absurd c)
+  library_told u false rs known.PthreadBarrierWait args e = object_is (IsTold (first_four p rs args) (op.CallLibrary known.PthreadBarrierWait args)) p rs args _ (λ n h c. absurd c)
       (λ o h c. (tt, λ q. absurd cc))
-  known_told u halfway rs known.PthreadBarrierDestroy args e = object_is (IsTold (first_four p rs args) (op.CallKnown known.PthreadBarrierDestroy args)) p rs args _ (λ n h c. absurd c)
+  library_told u halfway rs known.PthreadBarrierDestroy args e = object_is (IsTold (first_four p rs args) (op.CallLibrary known.PthreadBarrierDestroy args)) p rs args _ (λ n h c. absurd c)
       (λ o h c. (tt, λ q. absurd cc))
 
   exit_told : (ns : List ℕ) (v : Option Value) (n : ℕ) → IsTold ns (op.Ret v) (actions.Event (requests.Exit n true))
@@ -119,7 +119,7 @@ module _ (gated : List InstrId) (p : NumberedProgram) (s : State) (t answer numb
   access_fits w n e = let b = bytes_between w n e in (tt, b.0, b.1)
 
   -- what is told of the action of the present operation fits it
-  pub present_told : (rs : List (Option ℕ)) (r : Region) (halfway : Bool) (depth used block : ℕ) (o : Op) → IsPresent (first_four p rs (operands_of o)) o
+  pub present_told : (rs : List (Option ℕ)) (r : ThreadMemory) (halfway : Bool) (depth used block : ℕ) (o : Op) → IsPresent (first_four p rs (operands_of o)) o
       → IsTold (first_four p rs (operands_of o)) o (op_action p r halfway rs depth used block o)
   present_told rs r halfway depth used block (op.Divide d w a b) e =
       let Q = IsTold (first_four p rs (operands_of (op.Divide d w a b))) (op.Divide d w a b) in
@@ -152,6 +152,6 @@ module _ (gated : List InstrId) (p : NumberedProgram) (s : State) (t answer numb
       let Q = IsTold (first_four p rs (operands_of (op.Store w v at))) (op.Store w v at) in
       on_value_is Q (operand p rs v) _ (λ n h c. absurd c)
       (λ n f. on_value_is Q (operand p rs at) _ (λ n h c. absurd c) (λ a h. on_place_is Q a (bytes_of w) _ (λ n h c. absurd c) (λ q k g c. (access_fits w q.bytes k, tt))))
-  present_told rs r halfway depth used block (op.CallKnown k args) e = known_told r.thread halfway rs k args e
+  present_told rs r halfway depth used block (op.CallLibrary k args) e = library_told r.thread halfway rs k args e
   present_told rs r halfway depth used block o e = on_all_is (IsTold (first_four p rs (operands_of o)) o) p rs (operands_of o) _ (λ n h c. absurd c)
       (local_told (first_four p rs (operands_of o)) o e (refl, tt))

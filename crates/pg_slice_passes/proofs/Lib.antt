@@ -7,7 +7,7 @@ pub mod Bytes
 pub mod Lives
 pub mod Needing
 pub mod Reading
-pub mod Printing
+pub mod RegionFootprints
 pub mod Passing
 pub mod Meeting
 pub mod Slicing

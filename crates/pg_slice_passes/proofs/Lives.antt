@@ -41,9 +41,9 @@ use Rattle.pg_slice_passes.proofs.Kept.{bytes_in, knows_by, knows_more, register
 -- ---- what fits
 
 pub has_operands : (e : Event) (o : Op) → FitsEvent e o → HasOperands e.kind o
-has_operands e (op.CallKnown k args) f = of_call e.kind
+has_operands e (op.CallLibrary k args) f = of_call e.kind
   where
-    of_call : (kind : TurnKind) → HasOperands kind (op.CallKnown k args)
+    of_call : (kind : TurnKind) → HasOperands kind (op.CallLibrary k args)
     of_call turns.Putchar = tt
     of_call turns.Create = tt
     of_call turns.Exit = tt

@@ -9,9 +9,9 @@ use Rattle.pg_ir.specs.declared.ids.InstrId.{InstrId}
 use Rattle.pg_ir.specs.Program.{NumberedProgram}
 use Rattle.pg_slice_conflicts.specs.declared.footprint.Footprint.{Footprint}
 use Rattle.pg_slice_conflicts.specs.Meets.{is_met}
-use Rattle.pg_law_least.specs.Prints.{access_prints, of_step, prints_of, region_prints, some_met}
-use Rattle.pg_law_least.proofs.Asked.{by_prints}
-use Rattle.pg_law_least.specs.FootprintLaws.{DisturbedByPrints, SharedByPrints}
+use Rattle.pg_law_least.specs.Footprints.{access_footprints, of_step, footprints_of, region_footprints, some_met}
+use Rattle.pg_law_least.proofs.Asked.{by_footprints}
+use Rattle.pg_law_least.specs.FootprintLaws.{DisturbedByFootprints, SharedByFootprints}
 use Rattle.pg_schedule.proofs.Positions.{timed_length}
 use Rattle.pg_run.specs.State.{State, initial}
 use Rattle.pg_run.specs.MachineStep.{step}
@@ -25,17 +25,18 @@ use Rattle.pg_slice_rules.specs.Freeable.{Regions}
 use Rattle.pg_slice_rules.specs.Known.{Reference, RunShadow, Seen, Taken, after_step, seen_from, seen_in, start_of}
 use Rattle.pg_slice_rules.specs.Moments.{Moment, moments_from, moments_of, state_after}
 use Rattle.pg_slice_rules.specs.Rules as rules
-use Rattle.pg_slice_rules.specs.Rules.{Need, all_of, asks_disturbed, asks_frames, asks_pins, asks_shared, asks_values, frame_needs, is_disturbed, is_plain, is_shared, kind_in, need_blames, value_needs}
-use Rattle.pg_law_least.proofs.Asks.{asked_by, By_disturbed, By_frames, By_pins, By_shared, By_values, in_all_of, IsAskedBy, of_all}
+use Rattle.pg_slice_rules.specs.Rules.{Need, all_of, asks_disturbed, asks_bounds, asks_pins, asks_shared, asks_values}
+use Rattle.pg_slice_rules.specs.Rules.{bounds_needs, is_disturbed, is_plain, is_shared, kind_in, need_blames, value_needs}
+use Rattle.pg_law_least.proofs.Asks.{asked_by, By_disturbed, By_bounds, By_pins, By_shared, By_values, in_all_of, IsAskedBy, of_all}
 use Rattle.pg_region_paths.proofs.Elements.{none_in}
 use Rattle.pg_slice_checks.specs.Asks.{all_hold, all_met}
 use Rattle.pg_precondition.specs.Nodes.{NodeList}
 use Rattle.pg_slice_passes.specs.declared.pass.Gathered.{Gathered}
-use Rattle.pg_slice_passes.specs.declared.prints.Owner.{Owner}
+use Rattle.pg_slice_passes.specs.declared.footprints.Owner.{Owner}
 use Rattle.pg_slice_passes.specs.Along.{conditions_before, first_steps, own_asks}
 use Rattle.pg_slice_passes.specs.Given.{reference_of}
 use Rattle.pg_slice_passes.specs.Passes.{HasPassed}
-use Rattle.pg_slice_passes.specs.Prints.{asks_of_met, met_asks, owner, owners_at, owners_of}
+use Rattle.pg_slice_passes.specs.Footprints.{asks_of_met, met_asks, owner, owners_at, owners_of}
 
 -- ---- all steps
 
@@ -84,22 +85,22 @@ module _ (d : Taken) (q : Footprint → Bool) where
       ap (λ l. (if q p then met_asks d p.of_region o else []) ++ l) (met_then o ps qs us ns)
       ∙ sym (append_assoc (if q p then met_asks d p.of_region o else []) (met_of o ps) (asks_of_met d qs us ns))
 
-  abbrev prints_at : Seen → List Footprint
-  prints_at y = access_prints y ++ region_prints y
+  abbrev footprints_at : Seen → List Footprint
+  footprints_at y = access_footprints y ++ region_footprints y
 
-  met_along : (ys : List Seen) → asks_of_met d (prints_of ys) (owners_of ys) (map q (prints_of ys)) ≡ all_of (λ y. met_of (owner y) (prints_at y)) ys
+  met_along : (ys : List Seen) → asks_of_met d (footprints_of ys) (owners_of ys) (map q (footprints_of ys)) ≡ all_of (λ y. met_of (owner y) (footprints_at y)) ys
   met_along [] = refl
   met_along (y ∷ ys) =
-      ap (λ ms. asks_of_met d (prints_at y ++ prints_of ys) (owners_at y ++ owners_of ys) ms) (map_both q (prints_at y) (prints_of ys))
-      ∙ met_then (owner y) (prints_at y) (prints_of ys) (owners_of ys) (map q (prints_of ys))
-      ∙ ap (λ l. met_of (owner y) (prints_at y) ++ l) (met_along ys)
+      ap (λ ms. asks_of_met d (footprints_at y ++ footprints_of ys) (owners_at y ++ owners_of ys) ms) (map_both q (footprints_at y) (footprints_of ys))
+      ∙ met_then (owner y) (footprints_at y) (footprints_of ys) (owners_of ys) (map q (footprints_of ys))
+      ∙ ap (λ l. met_of (owner y) (footprints_at y) ++ l) (met_along ys)
 
-  met_parts : (y : Seen) → met_of (owner y) (prints_at y) ≡ met_of (owner y) (access_prints y) ++ met_of (owner y) (region_prints y)
+  met_parts : (y : Seen) → met_of (owner y) (footprints_at y) ≡ met_of (owner y) (access_footprints y) ++ met_of (owner y) (region_footprints y)
   met_parts y =
-      ap (λ os. asks_of_met d (prints_at y) os (map q (prints_at y))) (map_both (λ (f : Footprint). owner y) (access_prints y) (region_prints y))
-      ∙ ap (λ ms. asks_of_met d (prints_at y) (map (λ (f : Footprint). owner y) (access_prints y) ++ map (λ (f : Footprint). owner y) (region_prints y)) ms)
-      (map_both q (access_prints y) (region_prints y))
-      ∙ met_then (owner y) (access_prints y) (region_prints y) (map (λ (f : Footprint). owner y) (region_prints y)) (map q (region_prints y))
+      ap (λ os. asks_of_met d (footprints_at y) os (map q (footprints_at y))) (map_both (λ (f : Footprint). owner y) (access_footprints y) (region_footprints y))
+      ∙ ap (λ ms. asks_of_met d (footprints_at y) (map (λ (f : Footprint). owner y) (access_footprints y) ++ map (λ (f : Footprint). owner y) (region_footprints y)) ms)
+      (map_both q (access_footprints y) (region_footprints y))
+      ∙ met_then (owner y) (access_footprints y) (region_footprints y) (map (λ (f : Footprint). owner y) (region_footprints y)) (map q (region_footprints y))
 
   -- some of them is met, and it is asked for
   abbrev IsMet : Bool → Owner → List Footprint → Decision → Type 0
@@ -156,39 +157,39 @@ shared_from plain true t x z c = go plain c.1
     go false c = c
 shared_from plain false t x z c = absurd (false≢true c.0)
 
-by_region : DisturbedByPrints
-by_region all x = by_prints true x (rules.region_prints x) all
+by_region : DisturbedByFootprints
+by_region all x = by_footprints true x (rules.region_footprints x) all
 
-by_access : SharedByPrints
-by_access all x = ap (λ (b : Bool). is_plain (kind_in x) && b) (by_prints false x (rules.access_print x) all)
+by_access : SharedByFootprints
+by_access all x = ap (λ (b : Bool). is_plain (kind_in x) && b) (by_footprints false x (rules.access_footprint x) all)
 
 module _ (R : Reference) (d : Taken) where
   abbrev all : List Seen
   all = seen_in R d
 
   abbrev q : Footprint → Bool
-  q = is_met (prints_of all)
+  q = is_met (footprints_of all)
 
-  disturbed_met : (y : Seen) (z : Decision) → Contains (met_of d q (owner y) (region_prints y)) z → Contains (asks_disturbed d all y) z
+  disturbed_met : (y : Seen) (z : Decision) → Contains (met_of d q (owner y) (region_footprints y)) z → Contains (asks_disturbed d all y) z
   disturbed_met y z c =
-      let m = met_to d q true (owner y) y (rules.region_prints y) z c in
+      let m = met_to d q true (owner y) y (rules.region_footprints y) z c in
       disturbed_from (is_disturbed all y) (d.pinned y.number) (Pinned y.number) z (by_region all y ∙ m.0, m.1)
 
-  met_disturbed : (y : Seen) (z : Decision) → Contains (asks_disturbed d all y) z → Contains (met_of d q (owner y) (region_prints y)) z
+  met_disturbed : (y : Seen) (z : Decision) → Contains (asks_disturbed d all y) z → Contains (met_of d q (owner y) (region_footprints y)) z
   met_disturbed y z c =
       let m = disturbed_to (is_disturbed all y) (d.pinned y.number) (Pinned y.number) z c in
-      met_from d q true (owner y) y (rules.region_prints y) z (sym (by_region all y) ∙ m.0, m.1)
+      met_from d q true (owner y) y (rules.region_footprints y) z (sym (by_region all y) ∙ m.0, m.1)
 
-  shared_met : (y : Seen) (z : Decision) → Contains (met_of d q (owner y) (access_prints y)) z → Contains (asks_shared d all y) z
+  shared_met : (y : Seen) (z : Decision) → Contains (met_of d q (owner y) (access_footprints y)) z → Contains (asks_shared d all y) z
   shared_met y z c =
-      let m = met_to d q false (owner y) y (rules.access_print y) z c in
-      let s = shared_from (is_plain (kind_in y)) (some_met (prints_of all) (access_prints y)) (d.exact y.number) (Exact y.number) z m in
+      let m = met_to d q false (owner y) y (rules.access_footprint y) z c in
+      let s = shared_from (is_plain (kind_in y)) (some_met (footprints_of all) (access_footprints y)) (d.exact y.number) (Exact y.number) z m in
       subst (λ (b : Bool). Contains (if b && not (d.exact y.number) then Exact y.number ∷ [] else []) z) (sym (by_access all y)) s
 
-  met_shared : (y : Seen) (z : Decision) → Contains (asks_shared d all y) z → Contains (met_of d q (owner y) (access_prints y)) z
+  met_shared : (y : Seen) (z : Decision) → Contains (asks_shared d all y) z → Contains (met_of d q (owner y) (access_footprints y)) z
   met_shared y z c =
       let s = subst (λ (b : Bool). Contains (if b && not (d.exact y.number) then Exact y.number ∷ [] else []) z) (by_access all y) c in
-      met_from d q false (owner y) y (rules.access_print y) z (shared_to (is_plain (kind_in y)) (some_met (prints_of all) (access_prints y)) (d.exact y.number) (Exact y.number) z s)
+      met_from d q false (owner y) y (rules.access_footprint y) z (shared_to (is_plain (kind_in y)) (some_met (footprints_of all) (access_footprints y)) (d.exact y.number) (Exact y.number) z s)
 
   -- ---- what a step asks by itself
 
@@ -196,95 +197,95 @@ module _ (R : Reference) (d : Taken) where
   of_both [] ys = refl
   of_both (n ∷ xs) ys = ap (λ l. need_blames n ++ l) (of_both xs ys) ∙ sym (append_assoc (need_blames n) (all_of need_blames xs) (all_of need_blames ys))
 
-  own_is : (y : Seen) → own_asks R d y ≡ asks_pins d y ++ (asks_values R d y ++ asks_frames R y)
-  own_is y = ap (λ l. asks_pins d y ++ l) (of_both (value_needs R d y) (frame_needs R y))
+  own_is : (y : Seen) → own_asks R d y ≡ asks_pins d y ++ (asks_values R d y ++ asks_bounds R y)
+  own_is y = ap (λ l. asks_pins d y ++ l) (of_both (value_needs R d y) (bounds_needs R y))
 
   -- ---- the whole
 
   abbrev all_asked : List Decision
-  all_asked = all_of (own_asks R d) all ++ asks_of_met d (prints_of all) (owners_of all) (map q (prints_of all))
+  all_asked = all_of (own_asks R d) all ++ asks_of_met d (footprints_of all) (owners_of all) (map q (footprints_of all))
 
   first : (y : Seen) (z : Decision) → Contains (asks_pins d y) z → Contains (asks_at R d all y) z
   first y z c =
-      Contains-append_left (((asks_pins d y ++ asks_values R d y) ++ asks_frames R y) ++ asks_disturbed d all y) (asks_shared d all y) z
-      (Contains-append_left ((asks_pins d y ++ asks_values R d y) ++ asks_frames R y) (asks_disturbed d all y) z
-      (Contains-append_left (asks_pins d y ++ asks_values R d y) (asks_frames R y) z
+      Contains-append_left (((asks_pins d y ++ asks_values R d y) ++ asks_bounds R y) ++ asks_disturbed d all y) (asks_shared d all y) z
+      (Contains-append_left ((asks_pins d y ++ asks_values R d y) ++ asks_bounds R y) (asks_disturbed d all y) z
+      (Contains-append_left (asks_pins d y ++ asks_values R d y) (asks_bounds R y) z
       (Contains-append_left (asks_pins d y) (asks_values R d y) z c)))
 
   second : (y : Seen) (z : Decision) → Contains (asks_values R d y) z → Contains (asks_at R d all y) z
   second y z c =
-      Contains-append_left (((asks_pins d y ++ asks_values R d y) ++ asks_frames R y) ++ asks_disturbed d all y) (asks_shared d all y) z
-      (Contains-append_left ((asks_pins d y ++ asks_values R d y) ++ asks_frames R y) (asks_disturbed d all y) z
-      (Contains-append_left (asks_pins d y ++ asks_values R d y) (asks_frames R y) z
+      Contains-append_left (((asks_pins d y ++ asks_values R d y) ++ asks_bounds R y) ++ asks_disturbed d all y) (asks_shared d all y) z
+      (Contains-append_left ((asks_pins d y ++ asks_values R d y) ++ asks_bounds R y) (asks_disturbed d all y) z
+      (Contains-append_left (asks_pins d y ++ asks_values R d y) (asks_bounds R y) z
       (Contains-append_right (asks_pins d y) (asks_values R d y) z c)))
 
-  third : (y : Seen) (z : Decision) → Contains (asks_frames R y) z → Contains (asks_at R d all y) z
+  third : (y : Seen) (z : Decision) → Contains (asks_bounds R y) z → Contains (asks_at R d all y) z
   third y z c =
-      Contains-append_left (((asks_pins d y ++ asks_values R d y) ++ asks_frames R y) ++ asks_disturbed d all y) (asks_shared d all y) z
-      (Contains-append_left ((asks_pins d y ++ asks_values R d y) ++ asks_frames R y) (asks_disturbed d all y) z
-      (Contains-append_right (asks_pins d y ++ asks_values R d y) (asks_frames R y) z c))
+      Contains-append_left (((asks_pins d y ++ asks_values R d y) ++ asks_bounds R y) ++ asks_disturbed d all y) (asks_shared d all y) z
+      (Contains-append_left ((asks_pins d y ++ asks_values R d y) ++ asks_bounds R y) (asks_disturbed d all y) z
+      (Contains-append_right (asks_pins d y ++ asks_values R d y) (asks_bounds R y) z c))
 
   fourth : (y : Seen) (z : Decision) → Contains (asks_disturbed d all y) z → Contains (asks_at R d all y) z
   fourth y z c =
-      Contains-append_left (((asks_pins d y ++ asks_values R d y) ++ asks_frames R y) ++ asks_disturbed d all y) (asks_shared d all y) z
-      (Contains-append_right ((asks_pins d y ++ asks_values R d y) ++ asks_frames R y) (asks_disturbed d all y) z c)
+      Contains-append_left (((asks_pins d y ++ asks_values R d y) ++ asks_bounds R y) ++ asks_disturbed d all y) (asks_shared d all y) z
+      (Contains-append_right ((asks_pins d y ++ asks_values R d y) ++ asks_bounds R y) (asks_disturbed d all y) z c)
 
   fifth : (y : Seen) (z : Decision) → Contains (asks_shared d all y) z → Contains (asks_at R d all y) z
-  fifth y z c = Contains-append_right (((asks_pins d y ++ asks_values R d y) ++ asks_frames R y) ++ asks_disturbed d all y) (asks_shared d all y) z c
+  fifth y z c = Contains-append_right (((asks_pins d y ++ asks_values R d y) ++ asks_bounds R y) ++ asks_disturbed d all y) (asks_shared d all y) z c
 
   own_asked : (y : Seen) (z : Decision) → Contains (own_asks R d y) z → Contains (asks_at R d all y) z
-  own_asked y z c = go (Contains-append_cases (asks_pins d y) (asks_values R d y ++ asks_frames R y) z (subst (λ l. Contains l z) (own_is y) c))
+  own_asked y z c = go (Contains-append_cases (asks_pins d y) (asks_values R d y ++ asks_bounds R y) z (subst (λ l. Contains l z) (own_is y) c))
     where
-      rest : Contains (asks_values R d y) z ⊎ Contains (asks_frames R y) z → Contains (asks_at R d all y) z
+      rest : Contains (asks_values R d y) z ⊎ Contains (asks_bounds R y) z → Contains (asks_at R d all y) z
       rest (inl a) = second y z a
       rest (inr a) = third y z a
 
-      go : Contains (asks_pins d y) z ⊎ Contains (asks_values R d y ++ asks_frames R y) z → Contains (asks_at R d all y) z
+      go : Contains (asks_pins d y) z ⊎ Contains (asks_values R d y ++ asks_bounds R y) z → Contains (asks_at R d all y) z
       go (inl a) = first y z a
-      go (inr a) = rest (Contains-append_cases (asks_values R d y) (asks_frames R y) z a)
+      go (inr a) = rest (Contains-append_cases (asks_values R d y) (asks_bounds R y) z a)
 
-  met_asked : (y : Seen) (z : Decision) → Contains (met_of d q (owner y) (prints_at d q y)) z → Contains (asks_at R d all y) z
-  met_asked y z c = go (Contains-append_cases (met_of d q (owner y) (access_prints y)) (met_of d q (owner y) (region_prints y)) z (subst (λ l. Contains l z) (met_parts d q y) c))
+  met_asked : (y : Seen) (z : Decision) → Contains (met_of d q (owner y) (footprints_at d q y)) z → Contains (asks_at R d all y) z
+  met_asked y z c = go (Contains-append_cases (met_of d q (owner y) (access_footprints y)) (met_of d q (owner y) (region_footprints y)) z (subst (λ l. Contains l z) (met_parts d q y) c))
     where
-      go : Contains (met_of d q (owner y) (access_prints y)) z ⊎ Contains (met_of d q (owner y) (region_prints y)) z → Contains (asks_at R d all y) z
+      go : Contains (met_of d q (owner y) (access_footprints y)) z ⊎ Contains (met_of d q (owner y) (region_footprints y)) z → Contains (asks_at R d all y) z
       go (inl a) = fifth y z (shared_met y z a)
       go (inr a) = fourth y z (disturbed_met y z a)
 
   asked_to : (z : Decision) → Contains all_asked z → Contains (all_of (asks_at R d all) all) z
-  asked_to z c = go (Contains-append_cases (all_of (own_asks R d) all) (asks_of_met d (prints_of all) (owners_of all) (map q (prints_of all))) z c)
+  asked_to z c = go (Contains-append_cases (all_of (own_asks R d) all) (asks_of_met d (footprints_of all) (owners_of all) (map q (footprints_of all))) z c)
     where
-      go : Contains (all_of (own_asks R d) all) z ⊎ Contains (asks_of_met d (prints_of all) (owners_of all) (map q (prints_of all))) z → Contains (all_of (asks_at R d all) all) z
+      go : Contains (all_of (own_asks R d) all) z ⊎ Contains (asks_of_met d (footprints_of all) (owners_of all) (map q (footprints_of all))) z → Contains (all_of (asks_at R d all) all) z
       go (inl a) = let h = in_all_of (own_asks R d) all z a in of_all (asks_at R d all) all h.0 z h.1 (own_asked h.0 z h.2)
       go (inr a) =
-          let h = in_all_of (λ y. met_of d q (owner y) (prints_at d q y)) all z (subst (λ l. Contains l z) (met_along d q all) a) in
+          let h = in_all_of (λ y. met_of d q (owner y) (footprints_at d q y)) all z (subst (λ l. Contains l z) (met_along d q all) a) in
           of_all (asks_at R d all) all h.0 z h.1 (met_asked h.0 z h.2)
 
   own_of : (y : Seen) (z : Decision) → Contains all y → Contains (own_asks R d y) z → Contains all_asked z
-  own_of y z i c = Contains-append_left (all_of (own_asks R d) all) (asks_of_met d (prints_of all) (owners_of all) (map q (prints_of all))) z (of_all (own_asks R d) all y z i c)
+  own_of y z i c = Contains-append_left (all_of (own_asks R d) all) (asks_of_met d (footprints_of all) (owners_of all) (map q (footprints_of all))) z (of_all (own_asks R d) all y z i c)
 
-  met_one : (y : Seen) (z : Decision) → Contains all y → Contains (met_of d q (owner y) (access_prints y) ++ met_of d q (owner y) (region_prints y)) z → Contains all_asked z
+  met_one : (y : Seen) (z : Decision) → Contains all y → Contains (met_of d q (owner y) (access_footprints y) ++ met_of d q (owner y) (region_footprints y)) z → Contains all_asked z
   met_one y z i c =
-      Contains-append_right (all_of (own_asks R d) all) (asks_of_met d (prints_of all) (owners_of all) (map q (prints_of all))) z
-      (subst (λ l. Contains l z) (sym (met_along d q all)) (of_all (λ y. met_of d q (owner y) (prints_at d q y)) all y z i (subst (λ l. Contains l z) (sym (met_parts d q y)) c)))
+      Contains-append_right (all_of (own_asks R d) all) (asks_of_met d (footprints_of all) (owners_of all) (map q (footprints_of all))) z
+      (subst (λ l. Contains l z) (sym (met_along d q all)) (of_all (λ y. met_of d q (owner y) (footprints_at d q y)) all y z i (subst (λ l. Contains l z) (sym (met_parts d q y)) c)))
 
   asked_one : (y : Seen) (z : Decision) → Contains all y → IsAskedBy R d all y z → Contains all_asked z
-  asked_one y z i (By_pins c) = own_of y z i (subst (λ l. Contains l z) (sym (own_is y)) (Contains-append_left (asks_pins d y) (asks_values R d y ++ asks_frames R y) z c))
+  asked_one y z i (By_pins c) = own_of y z i (subst (λ l. Contains l z) (sym (own_is y)) (Contains-append_left (asks_pins d y) (asks_values R d y ++ asks_bounds R y) z c))
   asked_one y z i (By_values c) = own_of y z i (subst (λ l. Contains l z) (sym (own_is y))
-      (Contains-append_right (asks_pins d y) (asks_values R d y ++ asks_frames R y) z (Contains-append_left (asks_values R d y) (asks_frames R y) z c)))
-  asked_one y z i (By_frames c) = own_of y z i (subst (λ l. Contains l z) (sym (own_is y))
-      (Contains-append_right (asks_pins d y) (asks_values R d y ++ asks_frames R y) z (Contains-append_right (asks_values R d y) (asks_frames R y) z c)))
-  asked_one y z i (By_disturbed c) = met_one y z i (Contains-append_right (met_of d q (owner y) (access_prints y)) (met_of d q (owner y) (region_prints y)) z (met_disturbed y z c))
-  asked_one y z i (By_shared c) = met_one y z i (Contains-append_left (met_of d q (owner y) (access_prints y)) (met_of d q (owner y) (region_prints y)) z (met_shared y z c))
+      (Contains-append_right (asks_pins d y) (asks_values R d y ++ asks_bounds R y) z (Contains-append_left (asks_values R d y) (asks_bounds R y) z c)))
+  asked_one y z i (By_bounds c) = own_of y z i (subst (λ l. Contains l z) (sym (own_is y))
+      (Contains-append_right (asks_pins d y) (asks_values R d y ++ asks_bounds R y) z (Contains-append_right (asks_values R d y) (asks_bounds R y) z c)))
+  asked_one y z i (By_disturbed c) = met_one y z i (Contains-append_right (met_of d q (owner y) (access_footprints y)) (met_of d q (owner y) (region_footprints y)) z (met_disturbed y z c))
+  asked_one y z i (By_shared c) = met_one y z i (Contains-append_left (met_of d q (owner y) (access_footprints y)) (met_of d q (owner y) (region_footprints y)) z (met_shared y z c))
 
   asked_from : (z : Decision) → Contains (all_of (asks_at R d all) all) z → Contains all_asked z
   asked_from z c = let h = in_all_of (asks_at R d all) all z c in asked_one h.0 z h.1 (asked_by R d all h.0 z h.2)
 
   -- the same decisions
-  pub all_are_asked : (ys : List Seen) (ms : List Bool) (prints : List Footprint) → ys ≡ seen_in R d → prints ≡ prints_of ys → ms ≡ map (is_met prints) prints → (z : Decision) →
-      Contains (all_of (own_asks R d) ys ++ asks_of_met d prints (owners_of ys) ms) z ↔ Contains (asks R d) z
+  pub all_are_asked : (ys : List Seen) (ms : List Bool) (footprints : List Footprint) → ys ≡ seen_in R d → footprints ≡ footprints_of ys → ms ≡ map (is_met footprints) footprints → (z : Decision) →
+      Contains (all_of (own_asks R d) ys ++ asks_of_met d footprints (owners_of ys) ms) z ↔ Contains (asks R d) z
   unfolding asks
-  all_are_asked ys ms prints e k h z =
-      let same : all_of (own_asks R d) ys ++ asks_of_met d prints (owners_of ys) ms ≡ all_asked = rw (h, k, e) refl in
+  all_are_asked ys ms footprints e k h z =
+      let same : all_of (own_asks R d) ys ++ asks_of_met d footprints (owners_of ys) ms ≡ all_asked = rw (h, k, e) refl in
       (λ c. asked_to z (subst (λ l. Contains l z) same c), λ c. subst (λ l. Contains l z) (sym same) (asked_from z c))
 
 -- ---- what an input must give
@@ -298,16 +299,17 @@ same_admitted R d ys input e = ap (λ (l : List Seen). all_met (all_of (conditio
 -- what is missing, by what is gathered
 pub missing_is : (p : NumberedProgram) (regions : Regions) (gated : List InstrId) (input : List ℤ) (xs : List Step) (d : Taken) (ns : NodeList) (g : Gathered) (whole : List Decision)
     → HasPassed (reference_of p regions gated input xs) d (length xs) ns g →
-    whole ≡ g.asked.missing.items ++ asks_of_met d g.prints.prints.items g.prints.owners.items (map (is_met g.prints.prints.items) g.prints.prints.items) → (z : Decision) → Contains whole z
+    whole ≡ g.asked.missing.items ++ asks_of_met d g.footprints.footprints.items g.footprints.owners.items (map (is_met g.footprints.footprints.items) g.footprints.footprints.items)
+      → (z : Decision) → Contains whole z
     ↔ Contains (asks (reference_of p regions gated input xs) d) z
 missing_is p regions gated input xs d ns g whole a e z =
     let R = reference_of p regions gated input xs in
     let ys = first_steps R d (length xs) in
-    let ps = g.prints.prints.items in
+    let ps = g.footprints.footprints.items in
     let ms = map (is_met ps) ps in
     let same : whole ≡ all_of (own_asks R d) ys ++ asks_of_met d ps (owners_of ys) ms =
-    e ∙ ap (λ (l : List Decision). l ++ asks_of_met d ps g.prints.owners.items ms) a.missing ∙ ap (λ (os : List Owner). all_of (own_asks R d) ys ++ asks_of_met d ps os ms) a.owners in
-    let h = all_are_asked R d ys ms ps (all_steps p regions gated input xs d) a.prints refl z in
+    e ∙ ap (λ (l : List Decision). l ++ asks_of_met d ps g.footprints.owners.items ms) a.missing ∙ ap (λ (os : List Owner). all_of (own_asks R d) ys ++ asks_of_met d ps os ms) a.owners in
+    let h = all_are_asked R d ys ms ps (all_steps p regions gated input xs d) a.footprints refl z in
     (λ k. h.0 (subst (λ (l : List Decision). Contains l z) same k), λ k. subst (λ (l : List Decision). Contains l z) (sym same) (h.1 k))
 
 pub admitted_is : (p : NumberedProgram) (regions : Regions) (gated : List InstrId) (input : List ℤ) (xs : List Step) (d : Taken) (ns : NodeList) (g : Gathered) (other : List ℤ)

@@ -5,8 +5,8 @@ use Rattle.std.specs.Prelude.{◌||◌, ◌&&◌, not, if◌then◌else◌, slic
 use Rattle.std.proofs.lemmas.Bool.{false≢true}
 use Rattle.pg_ir.specs.declared.instr.Op.{Op}
 use Rattle.pg_ir.specs.declared.instr.Op.TheVariants as op
-use Rattle.pg_ir.specs.declared.known.Known.{Known as KnownFunction}
-use Rattle.pg_ir.specs.declared.known.Known.TheVariants as known
+use Rattle.pg_ir.specs.declared.library_call.LibraryCall.{LibraryCall}
+use Rattle.pg_ir.specs.declared.library_call.LibraryCall.TheVariants as known
 use Rattle.pg_precondition.specs.declared.check.Test.TheVariants as test
 use Rattle.pg_run_trace.specs.declared.turn.TurnKind.{TurnKind}
 use Rattle.pg_run_trace.specs.declared.turn.TurnKind.TheVariants as turns
@@ -17,10 +17,10 @@ use Rattle.pg_run_trace.specs.declared.step.StepKind.TheVariants as kinds
 use Rattle.pg_run_trace.specs.Steps.{access_in, access_by}
 use Rattle.pg_slice_rules.specs.Shadows.{Shadow}
 use Rattle.pg_slice_rules.specs.Rules.{Need, Value, address_index, checked, checked_of, edge_tests, is_malloc, write_index}
-use Rattle.pg_slice_checks.specs.Steps.{AreEnough, at, equal_needs, event_needs, frame_by, frame_needs, step_needs, value_needs}
-use Rattle.pg_slice_registers.specs.Events.{IsKnownCall, IsAsked}
+use Rattle.pg_slice_checks.specs.Steps.{AreEnough, at, equal_needs, event_needs, bounds_by, bounds_needs, step_needs, value_needs}
+use Rattle.pg_slice_registers.specs.Events.{IsLibraryCall, IsAsked}
 use Rattle.pg_slice_passes.specs.Given.{FitsBranch, FitsEvent}
-use Rattle.pg_slice_passes.specs.Passes.{is_known_call}
+use Rattle.pg_slice_passes.specs.Passes.{is_library_call}
 
 -- ---- a load or a store
 
@@ -37,14 +37,14 @@ of_two s (suc (suc k)) h = absurd (omega (arith, h))
 pub access_same : (fixed : Bool) (s : Shadow) (ss : List Shadow) (o : Op) (a : Access) → s ≡ at ss (address_index o)
     → step_needs fixed (s ∷ s ∷ []) o (kinds.Access a) ≡ step_needs fixed ss o (kinds.Access a)
 access_same fixed s ss o a h =
-    ap (λ (x : Shadow). (if a.event || fixed then Value x (test.Eq a.pointer ∷ []) ∷ [] else []) ++ frame_by x (Some a)) (of_two s (address_index o) (index_small o) ∙ h)
+    ap (λ (x : Shadow). (if a.event || fixed then Value x (test.Eq a.pointer ∷ []) ∷ [] else []) ++ bounds_by x (Some a)) (of_two s (address_index o) (index_small o) ∙ h)
 
 pub access_enough : (o : Op) (a : Access) → AreEnough o (kinds.Access a) 2
 access_enough o a = let h = index_small o in omega (arith, h)
 
 -- ---- a call of a function that the program doesn't define
 
-few : (f : KnownFunction) → length (checked f) ≤ 3
+few : (f : LibraryCall) → length (checked f) ≤ 3
 few known.PthreadCreate = omega arith
 few known.PthreadJoin = omega arith
 few known.PthreadMutexInit = omega arith
@@ -63,11 +63,11 @@ few known.PthreadBarrierDestroy = omega arith
 few f = omega arith
 
 few_of : (o : Op) → length (checked_of o) ≤ 3
-few_of (op.CallKnown k args) = few k
+few_of (op.CallLibrary k args) = few k
 few_of o = omega arith
 
 write_small : (o : Op) → write_index o ≤ 1
-write_small (op.CallKnown known.PthreadJoin args) = omega arith
+write_small (op.CallLibrary known.PthreadJoin args) = omega arith
 write_small o = omega arith
 
 pub call_enough : (o : Op) (e : Event) → AreEnough o (kinds.Event e) 3
@@ -78,7 +78,7 @@ call_enough o e = (few_of o, go e.write)
     go (Some w) = let h = write_small o in omega (arith, h)
 
 module _ (xs ys : List Shadow) (first : at xs 0 ≡ at ys 0) (second : at xs 1 ≡ at ys 1) (third : at xs 2 ≡ at ys 2) where
-  equal_same : (e : Event) (f : KnownFunction) → equal_needs xs e (checked f) ≡ equal_needs ys e (checked f)
+  equal_same : (e : Event) (f : LibraryCall) → equal_needs xs e (checked f) ≡ equal_needs ys e (checked f)
   equal_same e known.PthreadCreate = rw (first, second, third) refl
   equal_same e known.PthreadBarrierInit = rw (first, second, third) refl
   equal_same e known.PthreadJoin = rw (first, second) refl
@@ -97,7 +97,7 @@ module _ (xs ys : List Shadow) (first : at xs 0 ≡ at ys 0) (second : at xs 1 �
   equal_same e f = refl
 
   equal_of : (e : Event) (o : Op) → equal_needs xs e (checked_of o) ≡ equal_needs ys e (checked_of o)
-  equal_of e (op.CallKnown f args) = equal_same e f
+  equal_of e (op.CallLibrary f args) = equal_same e f
   equal_of e o = refl
 
   event_same : (e : Event) (o : Op) (kind : TurnKind) → event_needs xs o e kind ≡ event_needs ys o e kind
@@ -112,36 +112,36 @@ module _ (xs ys : List Shadow) (first : at xs 0 ≡ at ys 0) (second : at xs 1 �
   -- it asks of the first three operands alone
   pub event_asks_same : (o : Op) (e : Event) → step_needs false xs o (kinds.Event e) ≡ step_needs false ys o (kinds.Event e)
   event_asks_same o e =
-      ap (λ (ns : List Need). ns ++ frame_by (at xs (write_index o)) (access_by e.write)) (event_same e o e.kind)
-      ∙ ap (λ (s : Shadow). event_needs ys o e e.kind ++ frame_by s (access_by e.write)) (at_write (write_index o) (write_small o))
+      ap (λ (ns : List Need). ns ++ bounds_by (at xs (write_index o)) (access_by e.write)) (event_same e o e.kind)
+      ∙ ap (λ (s : Shadow). event_needs ys o e e.kind ++ bounds_by s (access_by e.write)) (at_write (write_index o) (write_small o))
 
 -- ---- steps that ask nothing
 
-no_checks : (o : Op) → is_known_call o ≡ false → checked_of o ≡ []
-no_checks (op.CallKnown f args) h = absurd (false≢true (sym h))
+no_checks : (o : Op) → is_library_call o ≡ false → checked_of o ≡ []
+no_checks (op.CallLibrary f args) h = absurd (false≢true (sym h))
 no_checks o h = refl
 
 no_event : (ss : List Shadow) (e : Event) (o : Op) (kind : TurnKind) → checked_of o ≡ [] → event_needs ss o e kind ≡ []
 no_event ss e o turns.Start h = refl
 no_event ss e o kind h = ap (λ (ks : List ℕ). equal_needs ss e ks) h
 
-no_write : (o : Op) (e : Event) → is_known_call o ≡ false → FitsEvent e o → e.write ≡ None
-no_write (op.CallKnown f args) e h fits = absurd (false≢true (sym h))
+no_write : (o : Op) (e : Event) → is_library_call o ≡ false → FitsEvent e o → e.write ≡ None
+no_write (op.CallLibrary f args) e h fits = absurd (false≢true (sym h))
 no_write (op.Ret v) e h fits = fits.1
 no_write o e h fits = fits.1
 
 -- an event that is no call: a start, and an exit by a return
-pub no_call : (fixed : Bool) (ss : List Shadow) (o : Op) (e : Event) → is_known_call o ≡ false → FitsEvent e o → step_needs fixed ss o (kinds.Event e) ≡ []
+pub no_call : (fixed : Bool) (ss : List Shadow) (o : Op) (e : Event) → is_library_call o ≡ false → FitsEvent e o → step_needs fixed ss o (kinds.Event e) ≡ []
 no_call fixed ss o e h fits =
-    ap (λ (ns : List Need). ns ++ frame_by (at ss (write_index o)) (access_by e.write)) (no_event ss e o e.kind (no_checks o h))
-    ∙ ap (λ (w : Option Write). frame_by (at ss (write_index o)) (access_by w)) (no_write o e h fits)
+    ap (λ (ns : List Need). ns ++ bounds_by (at ss (write_index o)) (access_by e.write)) (no_event ss e o e.kind (no_checks o h))
+    ∙ ap (λ (w : Option Write). bounds_by (at ss (write_index o)) (access_by w)) (no_write o e h fits)
 
-pub is_call : (o : Op) → is_known_call o ≡ true → IsKnownCall o
-is_call (op.CallKnown f args) h = tt
+pub is_call : (o : Op) → is_library_call o ≡ true → IsLibraryCall o
+is_call (op.CallLibrary f args) h = tt
 is_call o h = absurd (false≢true h)
 
 pub malloc_asked : (o : Op) → is_malloc o ≡ true → IsAsked o 0
-malloc_asked (op.CallKnown f args) h = tt
+malloc_asked (op.CallLibrary f args) h = tt
 malloc_asked o h = absurd (false≢true h)
 
 pub branch_asked : (o : Op) → FitsBranch o → IsAsked o 0

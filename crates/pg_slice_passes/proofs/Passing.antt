@@ -7,7 +7,7 @@ use Rattle.pg_ir.specs.declared.ids.InstrId.{InstrId}
 use Rattle.pg_ir.specs.declared.instr.Instr.{Instr}
 use Rattle.pg_ir.specs.Program.{NumberedProgram}
 use Rattle.pg_slice_conflicts.specs.declared.footprint.Footprint.{Footprint}
-use Rattle.pg_law_least.specs.Prints.{access_prints, of_step, prints_of, region_prints}
+use Rattle.pg_law_least.specs.Footprints.{access_footprints, of_step, footprints_of, region_footprints}
 use Rattle.pg_schedule.specs.declared.interval.Interval.{Interval}
 use Rattle.pg_schedule.specs.declared.interval.Turns.TheVariants.{Recorded}
 use Rattle.pg_schedule.specs.Intervals.{interval_of, intervals_of}
@@ -40,13 +40,13 @@ use Rattle.pg_slice_registers.proofs.Threading.{threads_kept, threads_stay}
 use Rattle.pg_slice_values.specs.Sources.{Grew}
 use Rattle.pg_slice_values.proofs.Grows.{grew_length, number_kept}
 use Rattle.pg_slice_passes.specs.declared.pass.Gathered.{Gathered}
-use Rattle.pg_slice_passes.specs.declared.prints.Owner.{Owner}
+use Rattle.pg_slice_passes.specs.declared.footprints.Owner.{Owner}
 use Rattle.pg_slice_passes.specs.declared.state.RunSources.{RunSources}
 use Rattle.pg_law_demands.specs.Along.{known_at, known_from}
 use Rattle.pg_slice_passes.specs.Along.{asked_before, conditions_before, first_steps, own_asks, step_from}
 use Rattle.pg_slice_passes.specs.Given.{HasLandmarks}
 use Rattle.pg_slice_passes.specs.Passes.{HasPassed, IsAt, IsTimed}
-use Rattle.pg_slice_passes.specs.Prints.{owner, owners_at, owners_of}
+use Rattle.pg_slice_passes.specs.Footprints.{owner, owners_at, owners_of}
 use Rattle.pg_slice_passes.specs.State.{AreKept, Knows, extents_of}
 use Rattle.pg_slice_passes.proofs.Along.{known_more, steps_more}
 
@@ -89,10 +89,10 @@ all_more : {A B : Type 0} (f : A → List B) (xs : List A) (x : A) → all_of f 
 all_more f [] x = append_none (f x)
 all_more f (y ∷ xs) x = ap (λ l. f y ++ l) (all_more f xs x) ∙ sym (append_assoc (f y) (all_of f xs) (f x))
 
-prints_more : (xs : List Seen) (x : Seen) → prints_of (xs ++ x ∷ []) ≡ prints_of xs ++ (access_prints x ++ region_prints x)
-prints_more [] x = append_none (access_prints x ++ region_prints x)
-prints_more (y ∷ xs) x = ap (λ l. (access_prints y ++ region_prints y) ++ l) (prints_more xs x)
-    ∙ sym (append_assoc (access_prints y ++ region_prints y) (prints_of xs) (access_prints x ++ region_prints x))
+footprints_more : (xs : List Seen) (x : Seen) → footprints_of (xs ++ x ∷ []) ≡ footprints_of xs ++ (access_footprints x ++ region_footprints x)
+footprints_more [] x = append_none (access_footprints x ++ region_footprints x)
+footprints_more (y ∷ xs) x = ap (λ l. (access_footprints y ++ region_footprints y) ++ l) (footprints_more xs x)
+    ∙ sym (append_assoc (access_footprints y ++ region_footprints y) (footprints_of xs) (access_footprints x ++ region_footprints x))
 
 owners_more : (xs : List Seen) (x : Seen) → owners_of (xs ++ x ∷ []) ≡ owners_of xs ++ owners_at x
 owners_more [] x = append_none (owners_at x)
@@ -108,11 +108,12 @@ and_both f (x ∷ xs) ys = go (f x) (and_both f xs ys)
 
 -- ---- steps that aren't live
 
-pub no_prints_at : (x : Seen) → x.live ≡ false → access_prints x ++ region_prints x ≡ []
-no_prints_at x l = ap (λ (b : Bool). map (of_step false x) (if b then rules.print_of (access_in (rules.kind_in x)) else []) ++ map (of_step true x) (if b then rules.prints_in x.region else [])) l
+pub no_footprints_at : (x : Seen) → x.live ≡ false → access_footprints x ++ region_footprints x ≡ []
+no_footprints_at x l = ap (λ (b : Bool). map (of_step false x) (if b then rules.footprint_of (access_in (rules.kind_in x)) else [])
+      ++ map (of_step true x) (if b then rules.footprints_in x.region else [])) l
 
 pub no_owners_at : (x : Seen) → x.live ≡ false → owners_at x ≡ []
-no_owners_at x l = ap (λ (ps : List Footprint). map (λ (f : Footprint). owner x) ps) (no_prints_at x l)
+no_owners_at x l = ap (λ (ps : List Footprint). map (λ (f : Footprint). owner x) ps) (no_footprints_at x l)
 
 -- ---- the step with its interval
 
@@ -218,10 +219,10 @@ module _ (R : Reference) (d : Taken) (n : ℕ) (m : Moment) (got : slice_get R.m
   pub passed_more : (old new : NodeList) (g h : Gathered) → Grew old new → HasPassed R d n old g → Knows R.program new d.pinned h.sources (after_step R d n m (known_at R d n)) →
       h.asked.missing.items ≡ g.asked.missing.items ++ own_asks R d here →
       ((input : List ℤ) → all_hold new h.asked.checks.items input ≡ (all_hold new g.asked.checks.items input && all_met (conditions_at R d here) input)) →
-      AreNamed (length new) h.asked.checks.items → h.prints.prints.items ≡ g.prints.prints.items ++ (access_prints here ++ region_prints here)
-      → h.prints.owners.items ≡ g.prints.owners.items ++ owners_at here →
+      AreNamed (length new) h.asked.checks.items → h.footprints.footprints.items ≡ g.footprints.footprints.items ++ (access_footprints here ++ region_footprints here)
+      → h.footprints.owners.items ≡ g.footprints.owners.items ++ owners_at here →
       HasPassed R d (n + 1) new h
-  passed_more old new g h grew a known missing checks named prints owned = record {
+  passed_more old new g h grew a known missing checks named footprints owned = record {
     known = subst (λ (k : RunShadow). Knows R.program new d.pinned h.sources k) (sym (known_next R d n m got)) known;
     missing =
         missing
@@ -235,11 +236,11 @@ module _ (R : Reference) (d : Taken) (n : ℕ) (m : Moment) (got : slice_get R.m
         ∙ ap (λ (l : List Condition). all_met l input) (sym (all_more (conditions_at R d) (first_steps R d n) here))
         ∙ ap (λ (l : List Seen). all_met (all_of (conditions_at R d) l) input) (sym (steps_next R d n m got));
     named = named;
-    prints =
-        prints
-        ∙ ap (λ (l : List Footprint). l ++ (access_prints here ++ region_prints here)) a.prints
-        ∙ sym (prints_more (first_steps R d n) here)
-        ∙ ap (λ (l : List Seen). prints_of l) (sym (steps_next R d n m got));
+    footprints =
+        footprints
+        ∙ ap (λ (l : List Footprint). l ++ (access_footprints here ++ region_footprints here)) a.footprints
+        ∙ sym (footprints_more (first_steps R d n) here)
+        ∙ ap (λ (l : List Seen). footprints_of l) (sym (steps_next R d n m got));
     owners =
         owned
         ∙ ap (λ (l : List Owner). l ++ owners_at here) a.owners
@@ -250,14 +251,14 @@ module _ (R : Reference) (d : Taken) (n : ℕ) (m : Moment) (got : slice_get R.m
 -- before the first step
 pub passed_none : (R : Reference) (d : Taken) (ns : NodeList) (g : Gathered) → Knows R.program ns d.pinned g.sources (start_of R.program) → g.asked.missing.items ≡ []
     → g.asked.checks.items ≡ [] →
-    g.prints.prints.items ≡ [] → g.prints.owners.items ≡ [] → HasPassed R d 0 ns g
+    g.footprints.footprints.items ≡ [] → g.footprints.owners.items ≡ [] → HasPassed R d 0 ns g
 unfolding known_from
-passed_none R d ns g known missing checks prints owned = record {
+passed_none R d ns g known missing checks footprints owned = record {
   known = known;
   missing = missing;
   checks = λ input. ap (λ (l : List Check). all_hold ns l input) checks;
   named = subst (λ (l : List Check). AreNamed (length ns) l) (sym checks) tt;
-  prints = prints;
+  footprints = footprints;
   owners = owned;
 }
 

@@ -30,7 +30,7 @@ use Rattle.pg_slice_checks.specs.Asks.{Adds, AreNamed, all_hold, all_met}
 use Rattle.pg_slice_checks.specs.declared.asked.Asked.{Asked}
 use Rattle.pg_slice_checks.proofs.Added.{adds_then}
 use Rattle.pg_slice_checks.specs.Steps as steps
-use Rattle.pg_slice_checks.specs.Steps.{at, frame_by, step_needs}
+use Rattle.pg_slice_checks.specs.Steps.{at, bounds_by, step_needs}
 use Rattle.pg_slice_replay.specs.declared.run.ReferenceRun.{ReferenceRun}
 use Rattle.pg_slice_replay.specs.Kept.{landmark_at}
 use Rattle.pg_slice_replay.specs.Landmarks.{Landmark}
@@ -87,7 +87,7 @@ module _ (p : NumberedProgram) (d : Taken) (x : Seen) (i : Instr) where
   event_is e turns.Start = refl
   event_is e kind = refl
 
-  write_is : (a : Option Access) → rules.write_needs p x i a ≡ frame_by (at operands (rules.write_index i.op)) a
+  write_is : (a : Option Access) → rules.write_needs p x i a ≡ bounds_by (at operands (rules.write_index i.op)) a
   write_is None = refl
   write_is (Some a) = refl
 
@@ -141,7 +141,7 @@ module _ (R : Reference) (d : Taken) (x : Seen) where
   of_both f (n ∷ xs) ys = ap (λ l. f n ++ l) (of_both f xs ys) ∙ sym (append_assoc (f n) (all_of f xs) (all_of f ys))
 
   pub conditions_are : conditions_at R d x ≡ all_of need_conditions (needs_at R d x)
-  conditions_are = sym (of_both need_conditions (rules.value_needs R d x) (rules.frame_needs R x))
+  conditions_are = sym (of_both need_conditions (rules.value_needs R d x) (rules.bounds_needs R x))
 
   pub nothing_checked : x.live ≡ false → conditions_at R d x ≡ []
   nothing_checked l = conditions_are ∙ ap (λ (ns : List Need). all_of need_conditions ns) (dead_needs l)

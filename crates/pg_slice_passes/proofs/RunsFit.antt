@@ -13,7 +13,7 @@ use Rattle.pg_ir.specs.Edges.{case_of, targets_of}
 use Rattle.pg_ir.specs.Program.{NumberedProgram, function_of}
 use Rattle.pg_ir.specs.WellFormed.{IsInFunction, IsProgram}
 use Rattle.pg_run_thread.specs.declared.action.Action.{Action}
-use Rattle.pg_run_thread.specs.LocalState.{Frame, LocalState, region_of}
+use Rattle.pg_run_thread.specs.LocalState.{Frame, LocalState, own_memory}
 use Rattle.pg_run_thread.specs.Compute.{chosen}
 use Rattle.pg_run_thread.specs.Operands.{first_four, operands_of}
 use Rattle.pg_run_thread.specs.Step.{frames_action, instr_action, next, total}
@@ -49,7 +49,7 @@ IsFit p place o k = (place < length p.instrs) × IfSome o (λ (i : Instr). FitsK
 
 module _ (gated : List InstrId) (p : NumberedProgram) (s : State) (t answer number : ℕ) where
   start_fits : (o : Op) → FitsEvent (record { kind = turns.Start; object = t; operands = no_operands; reply = number; write = None }) o
-  start_fits (op.CallKnown k args) = tt
+  start_fits (op.CallLibrary k args) = tt
   start_fits (op.Ret v) = (inl refl, refl)
   start_fits o = (refl, refl)
 
@@ -59,7 +59,7 @@ module _ (gated : List InstrId) (p : NumberedProgram) (s : State) (t answer numb
   instr_fits l f fs None e h a c i = absurd h
   instr_fits l f fs (Some x) e h a c i =
       let at : slice_get p.instrs (instr_of s t) ≡ Some x = ap (λ (k : ℕ). slice_get p.instrs k) i ∙ e in
-      let fit = present_told gated p s t answer number f.registers (region_of l) l.halfway (length (f ∷ fs)) (total (f ∷ fs)) x.block.0 x.op
+      let fit = present_told gated p s t answer number f.registers (own_memory l) l.halfway (length (f ∷ fs)) (total (f ∷ fs)) x.block.0 x.op
       (ap (instr_told (first_four p f.registers (operands_of x.op)) number) at) a c in
       (slice_get_within p.instrs f.place x e, fit.0, fit.1)
 

@@ -5,7 +5,7 @@ use Rattle.pg_slice_rules.specs.Closed.{conditions_at}
 use Rattle.pg_slice_rules.specs.Extents.{is_live}
 use Rattle.pg_slice_rules.specs.Known.{Reference, RunShadow, Seen, Taken, region_of, seen_in, thread_of}
 use Rattle.pg_slice_rules.specs.Moments.{Moment, instr_in, thread_in}
-use Rattle.pg_slice_rules.specs.Rules.{Condition, Need, all_of, asks_pins, frame_needs, need_blames, value_needs}
+use Rattle.pg_slice_rules.specs.Rules.{Condition, Need, all_of, asks_pins, bounds_needs, need_blames, value_needs}
 
 abbrev pub first_steps : Reference → Taken → ℕ → List Seen
 first_steps R d n = take n (seen_in R d)
@@ -23,7 +23,7 @@ step_from R d n s m = record {
 -- ---- what a step asks by itself: the rules but for the two on conflicts
 
 abbrev pub needs_at : Reference → Taken → Seen → List Need
-needs_at R d x = value_needs R d x ++ frame_needs R x
+needs_at R d x = value_needs R d x ++ bounds_needs R x
 
 abbrev pub own_asks : Reference → Taken → Seen → List Decision
 own_asks R d x = asks_pins d x ++ all_of need_blames (needs_at R d x)

@@ -52,7 +52,7 @@ is_op kind = true
 
 -- a start may stand at any instruction and an exit at a return; all other events are calls
 abbrev pub FitsEvent : Event → Op → Type 0
-FitsEvent e (op.CallKnown k args) = Unit {0}
+FitsEvent e (op.CallLibrary k args) = Unit {0}
 FitsEvent e (op.Ret v) = ((e.kind ≡ turns.Start) ⊎ (e.kind ≡ turns.Exit)) × (e.write ≡ None)
 FitsEvent e o = (e.kind ≡ turns.Start) × (e.write ≡ None)
 

@@ -1,7 +1,7 @@
 pub mod Given
 pub mod Along
 pub mod State
-pub mod Prints
+pub mod Footprints
 pub mod Passes
 pub mod Timed
 pub mod Listed

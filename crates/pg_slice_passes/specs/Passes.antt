@@ -13,7 +13,7 @@ use Rattle.pg_run_trace.specs.declared.step.StepKind.TheVariants as kinds
 use Rattle.pg_slice_rules.specs.Extents.{is_live}
 use Rattle.pg_slice_rules.specs.Known.{Reference, Seen, Taken, region_of, thread_of}
 use Rattle.pg_slice_rules.specs.Moments.{instr_in, thread_in}
-use Rattle.pg_law_least.specs.Prints.{prints_of}
+use Rattle.pg_law_least.specs.Footprints.{footprints_of}
 use Rattle.pg_slice_replay.specs.declared.run.ReferenceRun.{ReferenceRun}
 use Rattle.pg_slice_replay.specs.Kept.{landmark_at}
 use Rattle.pg_slice_replay.specs.Landmarks.{landmark_of}
@@ -21,7 +21,7 @@ use Rattle.pg_slice_passes.specs.declared.pass.Gathered.{Gathered}
 use Rattle.pg_slice_passes.specs.declared.state.RunSources.{RunSources}
 use Rattle.pg_law_demands.specs.Along.{known_at}
 use Rattle.pg_slice_passes.specs.Along.{asked_before, conditions_before, first_steps}
-use Rattle.pg_slice_passes.specs.Prints.{owners_of}
+use Rattle.pg_slice_passes.specs.Footprints.{owners_of}
 use Rattle.pg_slice_passes.specs.State.{Knows}
 
 -- x is step n of the run under these decisions, of this instruction, before which this is kept
@@ -48,9 +48,9 @@ fixed_by d (kinds.Access a) n = d.exact n
 fixed_by d kind n = false
 
 -- a call of a function that the program doesn't define
-abbrev pub is_known_call : Op → Bool
-is_known_call (op.CallKnown k args) = true
-is_known_call o = false
+abbrev pub is_library_call : Op → Bool
+is_library_call (op.CallLibrary k args) = true
+is_library_call o = false
 
 -- by these nodes, over the first n steps
 pub record HasPassed (R : Reference) (d : Taken) (n : ℕ) (ns : NodeList) (g : Gathered) : Type 0 where
@@ -58,5 +58,5 @@ pub record HasPassed (R : Reference) (d : Taken) (n : ℕ) (ns : NodeList) (g : 
   pub missing : g.asked.missing.items ≡ asked_before R d n
   pub checks : (input : List ℤ) → all_hold ns g.asked.checks.items input ≡ all_met (conditions_before R d n) input
   pub named : AreNamed (length ns) g.asked.checks.items
-  pub prints : g.prints.prints.items ≡ prints_of (first_steps R d n)
-  pub owners : g.prints.owners.items ≡ owners_of (first_steps R d n)
+  pub footprints : g.footprints.footprints.items ≡ footprints_of (first_steps R d n)
+  pub owners : g.footprints.owners.items ≡ owners_of (first_steps R d n)

@@ -7,8 +7,8 @@ use Rattle.pg_schedule.specs.declared.interval.Interval.{Interval}
 use Rattle.pg_law_threads.specs.Intervals.{Timed}
 use Rattle.pg_run_trace.specs.declared.step.Step.{Step}
 use Rattle.pg_run_trace.specs.Races.{recorded, timed_by}
-use Rattle.pg_slice_passes.specs.declared.prints.Owner.{Owner}
-use Rattle.pg_slice_passes.specs.declared.prints.Prints.{Prints}
+use Rattle.pg_slice_passes.specs.declared.footprints.Owner.{Owner}
+use Rattle.pg_slice_passes.specs.declared.footprints.Footprints.{Footprints}
 
 -- it is one of a step with this interval
 pub record IsOf (x : Step) (i : Interval) (f : Footprint) : Type 0 where
@@ -17,10 +17,10 @@ pub record IsOf (x : Step) (i : Interval) (f : Footprint) : Type 0 where
   pub high : f.high ≡ i.high
 
 -- footprints of such a step were added, each with its owner
-pub record AddsOf (x : Step) (i : Interval) (old new : Prints) : Type 0 where
+pub record AddsOf (x : Step) (i : Interval) (old new : Footprints) : Type 0 where
   pub behind : List Footprint
   pub owned : List Owner
-  pub prints : new.prints.items ≡ old.prints.items ++ behind
+  pub footprints : new.footprints.items ≡ old.footprints.items ++ behind
   pub owners : new.owners.items ≡ old.owners.items ++ owned
   pub each : AllByRecursion (IsOf x i) behind
   pub as_many : length owned ≡ length behind
@@ -30,7 +30,7 @@ abbrev pub IsEarlier : List Step → ℕ → Footprint → Type 0
 IsEarlier xs n f = (j : ℕ) (t : Timed Step) → n ≤ j → slice_get (timed_by recorded xs) j ≡ Some t → f.low ≤ t.high
 
 -- footprints of the first n steps
-pub record AreEarlier (xs : List Step) (n : ℕ) (p : Prints) : Type 0 where
-  pub order : InOrder p.prints.items
-  pub each : AllByRecursion (IsEarlier xs n) p.prints.items
-  pub as_many : length p.owners.items ≡ length p.prints.items
+pub record AreEarlier (xs : List Step) (n : ℕ) (p : Footprints) : Type 0 where
+  pub order : InOrder p.footprints.items
+  pub each : AllByRecursion (IsEarlier xs n) p.footprints.items
+  pub as_many : length p.owners.items ≡ length p.footprints.items

@@ -2,21 +2,21 @@
 //! missing and what an input must give, until none is missing.
 #![tactic(auto)]
 
+mod bounds;
 pub mod fits;
-mod frames;
+mod footprints;
 mod given;
 pub mod laws;
 mod live;
 mod memory;
 mod needs;
 mod pass;
-mod prints;
 mod slice;
 mod state;
 mod step;
 mod threads;
 
-pub use frames::{FrameBytes, frame};
+pub use bounds::{Bounds, bounds};
 pub use given::GivenRun;
 pub use needs::is_malloc;
 pub use pass::{Passed, pass_over};

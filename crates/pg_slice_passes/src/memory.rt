@@ -7,7 +7,7 @@ ghost use Rattle.pg_ir.specs.Program.{NumberedProgram};
 ghost use Rattle.pg_num.specs.declared.width.Width.{Width as AWidth};
 ghost use Rattle.pg_precondition.specs.Nodes.{NodeList};
 ghost use Rattle.pg_slice_rules.specs.declared.decision.Decision.TheVariants.{Pinned};
-ghost use Rattle.pg_slice_rules.specs.Freeable.{frame_of};
+ghost use Rattle.pg_slice_rules.specs.Freeable.{bounds_of};
 ghost use Rattle.pg_slice_rules.specs.Known.{bytes_by, bytes_freed, bytes_stored, forgotten_bytes, load_of, written_shadow};
 ghost use Rattle.pg_slice_rules.specs.Shadows as shadows;
 ghost use Rattle.pg_slice_replay.specs.Kept.{landmark_at};
@@ -15,7 +15,7 @@ ghost use Rattle.pg_slice_values.specs.Sources.{Grew, IsSource, shadow_by};
 ghost use Rattle.pg_slice_memory.specs.Changes as bytes;
 ghost use Rattle.pg_slice_registers.specs.Sourced.{AreSources, registers_by};
 
-use crate::frames::{frame, held, loaded, place};
+use crate::bounds::{bounds, held, loaded, place};
 use pg_ir::{Program, Value};
 use pg_num::Width;
 use pg_precondition::Nodes;
@@ -76,7 +76,7 @@ pub(crate) fn load(
     within(nodes, width, loaded(number))
 }
 
-/// Memory after a live store: where it is exact or an event it has the value, else its frame isn't known.
+/// Memory after a live store: where it is exact or an event it has the value, else what lies within its bounds isn't known.
 pub(crate) fn store(
     nodes: &mut Nodes,
     p: &Program,
@@ -99,7 +99,7 @@ pub(crate) fn store(
         let s = value(nodes, p, v, registers)?;
         memory.store(place(a.pointer), a.bytes, held(s))
     } else {
-        let f = frame(a.pointer);
+        let f = bounds(a.pointer);
         memory.spoil(f.start, f.bytes, Decision::Exact(n))
     }
 }
@@ -141,14 +141,14 @@ pub(crate) fn write(
     }
 }
 
-/// Memory after an access of an instance's region: the frame of a store isn't known, a load changes nothing.
+/// Memory after an access of an instance's region: what lies within the bounds of a store isn't known, a load changes nothing.
 fn forget_access(memory: &mut ShadowMemory, access: FreeAccess, n: usize) -> Result<(), AllocError>
     ensures is { OnOk result ((k : ℕ) → bytes.AreSources k memory.old → bytes.AreSources k memory.new) }
     ensures value { (p : NumberedProgram) (ns : NodeList) → OnOk result (bytes.shadows_of p ns memory.new
-        ≡ (if access.writes then shadows.spoiled (frame_of access.last) (Pinned n) (bytes.shadows_of p ns memory.old) else bytes.shadows_of p ns memory.old)) }
+        ≡ (if access.writes then shadows.spoiled (bounds_of access.last) (Pinned n) (bytes.shadows_of p ns memory.old) else bytes.shadows_of p ns memory.old)) }
 {
     if access.writes {
-        let f = frame(access.last);
+        let f = bounds(access.last);
         memory.spoil(f.start, f.bytes, Decision::Pinned(n))
     } else {
         Ok(())
@@ -172,7 +172,7 @@ fn forget_next(
     }
 }
 
-/// Memory after a live instance of a region: the frames of its stores aren't known.
+/// Memory after a live instance of a region: what lies within the bounds of its stores isn't known.
 fn forget(memory: &mut ShadowMemory, r: &ReferenceRun, n: usize) -> Result<(), AllocError>
     ensures is { OnOk result ((k : ℕ) → bytes.AreSources k memory.old → bytes.AreSources k memory.new) }
     ensures value { (p : NumberedProgram) (ns : NodeList) → IfSome (landmark_at r.now n) (λ l. IfSome l.region (λ f. OnOk result (bytes.shadows_of p ns memory.new
@@ -191,7 +191,7 @@ fn is_instance(step: OpStep) -> bool
     step.freed && !step.pinned
 }
 
-/// Memory after a live step that is neither an access nor an event: an instance forgets the frames of its region's stores.
+/// Memory after a live step that is neither an access nor an event: an instance forgets what lies within those of its stores.
 pub(crate) fn forget_instance(
     memory: &mut ShadowMemory,
     r: &ReferenceRun,

@@ -1,4 +1,4 @@
-//! What a live step asks by itself: its pin, the values and the frames that have to be known.
+//! What a live step asks by itself: its pin, the values and the bounds that have to be known.
 
 ghost use Rattle.std.specs.Prelude.{◌≡◌, ◌<◌, ◌≤◌, Some, take, slice_get, ◌++◌, ◌∷◌, [], not, ◌&&◌, if◌then◌else◌, length, IfOk, IfSome, OnOk};
 ghost use Rattle.pg_run_trace.specs.declared.step.StepKind.TheVariants as kinds;
@@ -15,7 +15,7 @@ ghost use Rattle.pg_slice_memory.specs.Changes as bytes;
 ghost use Rattle.pg_slice_registers.specs.Sourced.{AreSources, registers_by};
 ghost use Rattle.pg_slice_values.specs.Sources.{Grew, IsSource, shadow_by};
 ghost use Rattle.pg_slice_passes.specs.Given.{FitsBranch, FitsEvent, FitsKind, IsAccess};
-ghost use Rattle.pg_slice_passes.specs.Passes.{is_known_call};
+ghost use Rattle.pg_slice_passes.specs.Passes.{is_library_call};
 ghost use Rattle.pg_slice_passes.specs.State.{AreKept};
 ghost use Rattle.std.specs.Prelude.{ℕ, false, ℤ, List, is_some};
 ghost use Rattle.pg_run_trace.specs.declared.step.Access.{Access as AStepAccess};
@@ -25,12 +25,12 @@ ghost use Rattle.pg_slice_rules.specs.Closed.{conditions_at};
 ghost use Rattle.pg_slice_rules.specs.Known.{is_branch, operand_at, operand_shadows};
 ghost use Rattle.pg_slice_checks.specs.Asks.{all_hold, all_met};
 ghost use Rattle.pg_slice_checks.specs.Steps as steps;
-ghost use Rattle.pg_slice_registers.specs.Events.{IsKnownCall};
+ghost use Rattle.pg_slice_registers.specs.Events.{IsLibraryCall};
 ghost use Rattle.pg_slice_passes.specs.Along.{own_asks};
 ghost use Rattle.pg_slice_passes.specs.Passes.{IsAt, fixed_by};
 
 use crate::state::RunSources;
-use pg_ir::{Instr, Known, Op, Program, Value};
+use pg_ir::{Instr, LibraryCall, Op, Program, Value};
 use pg_precondition::Nodes;
 use pg_region_paths::Root;
 use pg_run_trace::{Step, StepKind};
@@ -202,7 +202,7 @@ fn at_needs(asked: &mut Asked, nodes: &mut Nodes, s: &LiveOp, fixed: bool) -> Re
 
 /// What an event asks that is a call: its first three operands are read.
 fn call_needs(asked: &mut Asked, nodes: &mut Nodes, s: &LiveOp) -> Result<(), AllocError>
-    requires call { IsKnownCall s.now.op.now }
+    requires call { IsLibraryCall s.now.op.now }
     requires kind { (e : AnEvent) × (s.now.kind.now ≡ kinds.Event e) }
     requires sources { AreSources (length nodes.old) s.now.registers.now }
     ensures grew { Grew nodes.old nodes.new }
@@ -243,7 +243,7 @@ pub fn is_malloc(op: &Op) -> bool
     ensures { result ≡ rules.is_malloc op.now }
 {
     match op {
-        Op::CallKnown { function, .. } => matches!(function, Known::Malloc),
+        Op::CallLibrary { function, .. } => matches!(function, LibraryCall::Malloc),
         _ => false,
     }
 }
@@ -266,10 +266,10 @@ fn size_needs(asked: &mut Asked, nodes: &mut Nodes, s: &LiveOp) -> Result<(), Al
 
 /// Whether an instruction is a call of a function that the program doesn't define.
 fn is_call(op: &Op) -> bool
-    ensures { result ≡ is_known_call op.now }
+    ensures { result ≡ is_library_call op.now }
 {
     match op {
-        Op::CallKnown { .. } => true,
+        Op::CallLibrary { .. } => true,
         _ => false,
     }
 }
@@ -288,7 +288,7 @@ fn event_needs(asked: &mut Asked, nodes: &mut Nodes, s: &LiveOp) -> Result<(), A
     Ok(())
 }
 
-/// What the values and the frames of a live step's operands ask. A step is fixed where it is pinned or exact.
+/// What the values and the bounds of a live step's operands ask. A step is fixed where it is pinned or exact.
 fn operand_needs(
     asked: &mut Asked,
     nodes: &mut Nodes,

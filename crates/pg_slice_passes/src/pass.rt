@@ -13,14 +13,14 @@ ghost use Rattle.pg_slice_values.specs.Sources.{Grew};
 ghost use Rattle.pg_slice_passes.specs.Given.{AreGiven, HasLandmarks, reference_of};
 ghost use Rattle.std.specs.Prelude.{◌++◌, map};
 ghost use Rattle.pg_slice_conflicts.specs.Meets.{InOrder, is_met};
-ghost use Rattle.pg_slice_passes.specs.Prints.{asks_of_met};
+ghost use Rattle.pg_slice_passes.specs.Footprints.{asks_of_met};
 ghost use Rattle.pg_slice_passes.specs.Passes.{HasPassed};
 ghost use Rattle.pg_slice_passes.specs.Timed.{AreEarlier};
 ghost use Rattle.pg_slice_passes.specs.State.{AreKept};
 
+use crate::footprints::{Footprints, TimedStep, add_footprints, ask_met};
 use crate::given::GivenRun;
 use crate::needs::needs;
-use crate::prints::{Prints, TimedStep, ask_met, print_live};
 use crate::state::RunSources;
 use crate::step::StepAt;
 use pg_precondition::{Check, Nodes, Precondition, needed};
@@ -44,7 +44,7 @@ pub struct Passed {
 pub struct Gathered {
     pub(crate) sources: RunSources,
     pub(crate) asked: Asked,
-    pub(crate) prints: Prints,
+    pub(crate) footprints: Footprints,
 }
 
 /// The check with this number.
@@ -91,7 +91,7 @@ fn pass_step(
     requires sources { AreKept (length nodes.old) g.old.sources }
     ensures grew { Grew nodes.old nodes.new }
     ensures sources { OnOk result (AreKept (length nodes.new) g.new.sources) }
-    ensures earlier { OnOk result (AreEarlier run.now.t.now.steps n g.old.prints → AreEarlier run.now.t.now.steps (n + 1) g.new.prints) }
+    ensures earlier { OnOk result (AreEarlier run.now.t.now.steps n g.old.footprints → AreEarlier run.now.t.now.steps (n + 1) g.new.footprints) }
     ensures named { OnOk result (AreNamed (length nodes.old) g.old.asked.checks.items → AreNamed (length nodes.new) g.new.asked.checks.items) }
     ensures passed { OnOk result ((regions : Regions) (gated : List InstrId) (input : List ℤ) → HasLandmarks (reference_of run.now.p.now regions gated input run.now.t.now.steps) run.now.r.now
         → HasPassed (reference_of run.now.p.now regions gated input run.now.t.now.steps) (taken_by d.now) n nodes.old g.old
@@ -117,7 +117,7 @@ fn pass_step(
         r: run.r,
         n,
     };
-    print_live(&mut g.prints, &g.sources, &at)?;
+    add_footprints(&mut g.footprints, &g.sources, &at)?;
     let s = StepAt {
         alloc,
         p: run.p,
@@ -140,8 +140,8 @@ fn gather(
 ) -> Result<Gathered, AllocError>
     requires given { AreGiven run.now.p.now run.now.t.now.steps run.now.intervals.now run.now.r.now }
     requires nodes { nodes.old ≡ [] }
-    ensures order { IfOk result (λ g. InOrder g.prints.prints.items) }
-    ensures owned { IfOk result (λ g. length g.prints.owners.items ≡ length g.prints.prints.items) }
+    ensures order { IfOk result (λ g. InOrder g.footprints.footprints.items) }
+    ensures owned { IfOk result (λ g. length g.footprints.owners.items ≡ length g.footprints.footprints.items) }
     ensures named { IfOk result (λ g. AreNamed (length nodes.new) g.asked.checks.items) }
     ensures passed { IfOk result (λ g. (regions : Regions) (gated : List InstrId) (input : List ℤ)
         → HasLandmarks (reference_of run.now.p.now regions gated input run.now.t.now.steps) run.now.r.now
@@ -151,7 +151,7 @@ fn gather(
     let mut g = Gathered {
         sources,
         asked: Asked::new(alloc),
-        prints: Prints::new(alloc),
+        footprints: Footprints::new(alloc),
     };
     for n in 0..run.t.len() {
         pass_step(alloc, nodes, &mut g, run, d, n)?;
@@ -163,20 +163,20 @@ fn gather(
 fn all_missing(
     alloc: Global,
     mut missing: Vec<Decision>,
-    prints: &Prints,
+    footprints: &Footprints,
     d: &DecisionSet,
 ) -> Result<Vec<Decision>, AllocError>
-    requires order { InOrder prints.now.prints.items }
-    requires owned { length prints.now.owners.items ≡ length prints.now.prints.items }
+    requires order { InOrder footprints.now.footprints.items }
+    requires owned { length footprints.now.owners.items ≡ length footprints.now.footprints.items }
     ensures { IfOk result (λ v. v.items ≡ missing.items
-        ++ asks_of_met (taken_by d.now) prints.now.prints.items prints.now.owners.items (map (is_met prints.now.prints.items) prints.now.prints.items)) }
+        ++ asks_of_met (taken_by d.now) footprints.now.footprints.items footprints.now.owners.items (map (is_met footprints.now.footprints.items) footprints.now.footprints.items)) }
 {
-    let marks = conflicts(alloc, prints.prints.as_slice())?;
+    let marks = conflicts(alloc, footprints.footprints.as_slice())?;
     ask_met(
         &mut missing,
         d,
-        prints.prints.as_slice(),
-        prints.owners.as_slice(),
+        footprints.footprints.as_slice(),
+        footprints.owners.as_slice(),
         marks.as_slice(),
     )?;
     Ok(missing)
@@ -184,17 +184,21 @@ fn all_missing(
 
 /// What a pass gives, by what is gathered along it.
 fn finished(alloc: Global, nodes: Nodes, g: Gathered, d: &DecisionSet) -> Result<Passed, AllocError>
-    requires order { InOrder g.prints.prints.items }
-    requires owned { length g.prints.owners.items ≡ length g.prints.prints.items }
+    requires order { InOrder g.footprints.footprints.items }
+    requires owned { length g.footprints.owners.items ≡ length g.footprints.footprints.items }
     requires named { AreNamed (length nodes) g.asked.checks.items }
     ensures missing { IfOk result (λ s. s.missing.items ≡ g.asked.missing.items
-        ++ asks_of_met (taken_by d.now) g.prints.prints.items g.prints.owners.items (map (is_met g.prints.prints.items) g.prints.prints.items)) }
+        ++ asks_of_met (taken_by d.now) g.footprints.footprints.items g.footprints.owners.items (map (is_met g.footprints.footprints.items) g.footprints.footprints.items)) }
     ensures admits { IfOk result (λ s. (input : List ℤ) → is_admitted input s.precondition ≡ all_hold nodes g.asked.checks.items input) }
     ensures needed { IfOk result (λ s. AreNeeded s.precondition) }
 {
-    let Gathered { asked, prints, .. } = g;
+    let Gathered {
+        asked,
+        footprints,
+        ..
+    } = g;
     let precondition = precondition(alloc, nodes, asked.checks.as_slice())?;
-    let missing = all_missing(alloc, asked.missing, &prints, d)?;
+    let missing = all_missing(alloc, asked.missing, &footprints, d)?;
     Ok(Passed {
         missing,
         precondition,

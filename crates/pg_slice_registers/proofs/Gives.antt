@@ -5,8 +5,8 @@ use Rattle.std.specs.Prelude.{◌&&◌, not, if◌then◌else◌, IfSome, is_som
 use Rattle.pg_num.specs.declared.width.Width.{Width}
 use Rattle.pg_ir.specs.declared.edge.Case.{Case}
 use Rattle.pg_ir.specs.declared.ids.BlockNo.{BlockNo}
-use Rattle.pg_ir.specs.declared.known.Known.{Known as KnownFunction}
-use Rattle.pg_ir.specs.declared.known.Known.TheVariants as known
+use Rattle.pg_ir.specs.declared.library_call.LibraryCall.{LibraryCall}
+use Rattle.pg_ir.specs.declared.library_call.LibraryCall.TheVariants as known
 use Rattle.pg_ir.specs.declared.value.Value.{Value}
 use Rattle.pg_ir.specs.declared.instr.Instr.{Instr}
 use Rattle.pg_ir.specs.declared.instr.Op.{Op}
@@ -20,16 +20,16 @@ use Rattle.pg_slice_rules.specs.declared.decision.Decision.TheVariants.{Pinned}
 use Rattle.pg_slice_rules.specs.Extents.{edge_by, edge_in}
 use Rattle.pg_slice_rules.specs.Known.{after_branch, after_known, after_op, along_edge, entered, forgotten_from, optional_shadow, set_shadow, top_of, under_top, with_top}
 use Rattle.pg_slice_registers.specs.declared.step.OpStep.{OpStep}
-use Rattle.pg_slice_registers.specs.Events.{IsAsked, IsKnownCall}
+use Rattle.pg_slice_registers.specs.Events.{IsAsked, IsLibraryCall}
 use Rattle.pg_slice_registers.specs.Sourced.{marked}
 use Rattle.pg_slice_registers.specs.Steps.{IsStepAt, branched, known_shadow, set_given}
 
 -- each operand of a call of a function that the program doesn't define may be asked for
-pub call_asked : (o : Op) (k : ℕ) → IsKnownCall o → IsAsked o k
-call_asked (op.CallKnown f args) k h = tt
+pub call_asked : (o : Op) (k : ℕ) → IsLibraryCall o → IsAsked o k
+call_asked (op.CallLibrary f args) k h = tt
 call_asked o k h = absurd h
 
-known_same : (k : KnownFunction) (target : Option ℕ) (word : ℕ) (f : List Shadow → Shadow) (calls : List (List Shadow)) →
+known_same : (k : LibraryCall) (target : Option ℕ) (word : ℕ) (f : List Shadow → Shadow) (calls : List (List Shadow)) →
     with_top (λ rs. after_known k target word (f rs) rs) calls ≡ with_top (λ rs. set_given target (known_shadow k word (f rs)) rs) calls
 known_same known.PgIn target word f calls = refl
 known_same known.PgInLen target word f calls = refl

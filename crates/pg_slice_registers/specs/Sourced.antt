@@ -45,7 +45,7 @@ calls_of present callers false = present ∷ reverse callers
 abbrev pub marked : List Bool → ℕ → Bool
 marked bs k = slice_index_or bs k false
 
--- the result of an operation that only computes, by its operands: a moved pointer has the frame of its base
+-- the result of an operation that only computes, by its operands: a moved pointer has the bounds of its base
 abbrev pub result_by : Op → List Shadow → Shadow
 result_by (op.Gep base indices) ss = moved (slice_index_or ss 0 unset) (result_of (op.Gep base indices) ss)
 result_by o ss = result_of o ss

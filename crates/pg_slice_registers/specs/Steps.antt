@@ -1,7 +1,7 @@
 -- What a live step does to the registers of its thread, by what is read of the run.
 use Rattle.std.specs.Prelude.{◌≡◌, ◌&&◌, not, if◌then◌else◌, ℕ, List, length, Bool, true, Option, Some, None, IfSome, is_some}
-use Rattle.pg_ir.specs.declared.known.Known.{Known as KnownFunction}
-use Rattle.pg_ir.specs.declared.known.Known.TheVariants as known
+use Rattle.pg_ir.specs.declared.library_call.LibraryCall.{LibraryCall}
+use Rattle.pg_ir.specs.declared.library_call.LibraryCall.TheVariants as known
 use Rattle.pg_ir.specs.declared.instr.Instr.{Instr}
 use Rattle.pg_ir.specs.declared.instr.Op.{Op}
 use Rattle.pg_ir.specs.declared.instr.Op.TheVariants as op
@@ -27,7 +27,7 @@ pub record IsStepAt (p : NumberedProgram) (x : Instr) (s : OpStep) (sets : List 
 -- ---- instructions that at most set their register
 
 -- what the call of a known function gives its register; a malloc gives the word that it gave in the run
-abbrev pub known_shadow : KnownFunction → ℕ → Shadow → Option Shadow
+abbrev pub known_shadow : LibraryCall → ℕ → Shadow → Option Shadow
 known_shadow known.PgIn word s = Some (from_input s)
 known_shadow known.PgInLen word s = Some (valued (λ input. Some (length input)))
 known_shadow known.Malloc word s = Some (always word)
@@ -36,7 +36,7 @@ known_shadow k word s = None
 -- what an instruction gives its register
 abbrev pub given_shadow : NumberedProgram → ℕ → Op → List Shadow → Option Shadow
 given_shadow p word (op.Alloca bytes) rs = Some (always word)
-given_shadow p word (op.CallKnown k args) rs = known_shadow k word (operand_at p rs (op.CallKnown k args) 0)
+given_shadow p word (op.CallLibrary k args) rs = known_shadow k word (operand_at p rs (op.CallLibrary k args) 0)
 given_shadow p word o rs = Some (result_by o (operand_shadows p rs o))
 
 abbrev pub set_given : Option ℕ → Option Shadow → List Shadow → List Shadow
@@ -45,7 +45,7 @@ set_given target (Some s) rs = set_shadow target s rs
 
 abbrev pub is_straight : Op → Bool
 is_straight (op.Alloca bytes) = true
-is_straight (op.CallKnown k args) = true
+is_straight (op.CallLibrary k args) = true
 is_straight o = computes o
 
 -- ---- instructions whose step is neither an access nor an event

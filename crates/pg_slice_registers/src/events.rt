@@ -37,7 +37,7 @@ impl ThreadSources {
     ghost use Rattle.pg_slice_rules.specs.Known as along;
     ghost use Rattle.pg_slice_values.specs.Sources.{Grew, IsSource, shadow_by};
     ghost use Rattle.pg_slice_registers.specs.Sourced.{AreCalls, calls_by};
-    ghost use Rattle.pg_slice_registers.specs.Events.{HasOperands, IsKnownCall};
+    ghost use Rattle.pg_slice_registers.specs.Events.{HasOperands, IsLibraryCall};
 
     /// A start: the first parameter, if there is one, is the thread's argument.
     #[tactic(auto, using(crate::proofs::Happens::starts, crate::proofs::Happens::starts_not))]
@@ -52,7 +52,7 @@ impl ThreadSources {
 
     /// A print: its register gets the low byte of the number.
     fn print(&mut self, nodes: &mut Nodes, p: &Program, x: &Instr) -> Result<(), AllocError>
-        requires call { IsKnownCall x.now.op }
+        requires call { IsLibraryCall x.now.op }
         requires sources { AreCalls (length nodes.old) self.old }
         ensures grew { Grew nodes.old nodes.new }
         ensures is { OnOk result (AreCalls (length nodes.new) self.new) }

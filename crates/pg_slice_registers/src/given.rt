@@ -8,11 +8,11 @@ ghost use Rattle.pg_slice_rules.specs.Shadows.{shadow_of, unset};
 ghost use Rattle.pg_slice_values.specs.Sources.{Grew, IsSource, shadow_by};
 ghost use Rattle.pg_slice_values.specs.Forms.{CastFits};
 ghost use Rattle.pg_slice_registers.specs.Sourced.{AreSources, registers_by};
-ghost use Rattle.pg_slice_registers.specs.Events.{IsAsked, IsKnownCall};
+ghost use Rattle.pg_slice_registers.specs.Events.{IsAsked, IsLibraryCall};
 ghost use Rattle.pg_slice_registers.specs.Steps.{given_shadow, is_straight, known_shadow};
 
 use crate::operands::{computed, optional};
-use pg_ir::{Known, Op, Program, Value};
+use pg_ir::{LibraryCall, Op, Program, Value};
 use pg_precondition::Nodes;
 use pg_slice_values::{Source, constant, from_input, input_length, low_byte, value};
 use std::alloc::{AllocError, Global};
@@ -58,7 +58,7 @@ pub fn operand(
         Op::Switch { on, .. } => value(nodes, p, *on, registers),
         Op::Load { from, .. } => argument(nodes, p, &[*from], k, registers),
         Op::Store { value, at, .. } => argument(nodes, p, &[*value, *at], k, registers),
-        Op::CallKnown { args, .. } => argument(nodes, p, args.as_slice(), k, registers),
+        Op::CallLibrary { args, .. } => argument(nodes, p, args.as_slice(), k, registers),
         _ => unreachable!(),
     }
 }
@@ -71,7 +71,7 @@ pub(crate) fn printed(
     op: &Op,
     registers: &[Source],
 ) -> Result<Source, AllocError>
-    requires call { IsKnownCall op.now }
+    requires call { IsLibraryCall op.now }
     requires sources { AreSources (length nodes.old) registers.now }
     ensures grew { Grew nodes.old nodes.new }
     ensures is { IfOk result (IsSource (length nodes.new)) }
@@ -103,7 +103,7 @@ fn read_input(
 fn known_given(
     nodes: &mut Nodes,
     p: &Program,
-    function: Known,
+    function: LibraryCall,
     args: &[Value],
     word: u64,
     registers: &[Source],
@@ -115,9 +115,9 @@ fn known_given(
         ≡ known_shadow function word (slice_index_or (map (shadow_of p.now (registers_by nodes.old registers.now)) args.now) 0 unset)) }
 {
     match function {
-        Known::PgIn => Ok(Some(read_input(nodes, p, args, registers)?)),
-        Known::PgInLen => Ok(Some(input_length(nodes)?)),
-        Known::Malloc => Ok(Some(constant(nodes, word)?)),
+        LibraryCall::PgIn => Ok(Some(read_input(nodes, p, args, registers)?)),
+        LibraryCall::PgInLen => Ok(Some(input_length(nodes)?)),
+        LibraryCall::Malloc => Ok(Some(constant(nodes, word)?)),
         _ => Ok(None),
     }
 }
@@ -140,7 +140,7 @@ pub(crate) fn given(
 {
     match op {
         Op::Alloca { .. } => Ok(Some(constant(nodes, word)?)),
-        Op::CallKnown { function, args } => known_given(
+        Op::CallLibrary { function, args } => known_given(
             nodes,
             p,
             *function,

@@ -127,8 +127,8 @@ fn operands(
     values(alloc, nodes, p, list.as_slice(), registers)
 }
 
-/// A result, which has the frame of its base where it is a moved pointer.
-fn with_frame(op: &Op, operands: &[Source], s: Source) -> Source
+/// A result, which has the bounds of its base where it is a moved pointer.
+fn with_bounds(op: &Op, operands: &[Source], s: Source) -> Source
     ensures value { (ns : NodeList) (ss : List Shadow) → shadow_by ns s ≡ result_of op.now ss
         → registers_by ns operands.now ≡ ss → length operands.now ≡ length (operands_of op.now) → shadow_by ns result ≡ result_by op.now ss }
     ensures is { (n : ℕ) → AreSources n operands.now → IsSource n s → IsSource n result }
@@ -153,7 +153,7 @@ fn result(nodes: &mut Nodes, op: &Op, operands: &[Source]) -> Result<Source, All
     ensures value { IfOk result (λ s. shadow_by nodes.new s ≡ result_by op.now (registers_by nodes.old operands.now)) }
 {
     let s = operation(nodes, op, operands)?;
-    Ok(with_frame(op, operands, s))
+    Ok(with_bounds(op, operands, s))
 }
 
 /// The result of an operation that only computes, by the registers of its frame.

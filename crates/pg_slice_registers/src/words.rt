@@ -48,7 +48,7 @@ fn exit_source(
 {
     match op {
         Op::Ret { value } => returned(nodes, p, *value, registers),
-        Op::CallKnown { .. } => {
+        Op::CallLibrary { .. } => {
             if thread == 0 {
                 constant(nodes, 0)
             } else {

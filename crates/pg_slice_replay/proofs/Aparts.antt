@@ -1,10 +1,10 @@
--- Whether a store's frame meets one from which a path loads, pointer by pointer.
+-- Whether a store's bounds meet those from which a path loads, pointer by pointer.
 use Rattle.std.proofs.Common.{◌≡◌, ℕ, ◌+◌, ◌≤◌, List, [], ◌∷◌, Bool, true, false, refl, sym, ap, ◌∙◌}
 use mathlib.Core.Path.{fun_ext}
 use Rattle.std.specs.Prelude.{◌&&◌, ◌||◌}
 use Rattle.std.specs.List.{list_any}
 use Rattle.pg_run_trace.specs.Races.{share}
-use Rattle.pg_slice_rules.specs.Freeable.{FreeAccess, frame_of, loads_from, stores_on}
+use Rattle.pg_slice_rules.specs.Freeable.{FreeAccess, bounds_of, loads_from, stores_on}
 use Rattle.pg_slice_replay.specs.Apart.{is_stored, loads_stored, stores_to}
 
 -- ---- tests of lists
@@ -45,7 +45,7 @@ meets a b = list_any (λ from. stores_to from a) b.at.pointers
 stores_is : (xs : List FreeAccess) (a : FreeAccess) → stores_on xs a ≡ list_any (meets a) xs
 stores_is xs a =
     any_and a.writes (loads_from a.at.last) xs
-    ∙ any_same (λ (b : FreeAccess). a.writes && loads_from a.at.last b) (meets a) xs (λ b. any_and a.writes (λ from. share (frame_of a.at.last) (frame_of from)) b.at.pointers)
+    ∙ any_same (λ (b : FreeAccess). a.writes && loads_from a.at.last b) (meets a) xs (λ b. any_and a.writes (λ from. share (bounds_of a.at.last) (bounds_of from)) b.at.pointers)
 
 -- a store meets what is loaded exactly where a pointer of a load is stored to
 pub stored_is : (xs : List FreeAccess) → list_any (stores_on xs) xs ≡ list_any (loads_stored xs) xs

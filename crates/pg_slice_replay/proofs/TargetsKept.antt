@@ -8,8 +8,8 @@ use Rattle.std.proofs.lemmas.List.{length-append}
 use Rattle.std.proofs.lemmas.Option.{slice_get_within}
 use Rattle.pg_num.specs.declared.limits.TheConstants.{CALL_DEPTH_LIMIT, THREAD_LIMIT}
 use Rattle.pg_ir.specs.declared.ids.InstrId.{InstrId}
-use Rattle.pg_ir.specs.declared.known.Known.{Known}
-use Rattle.pg_ir.specs.declared.known.Known.TheVariants as known
+use Rattle.pg_ir.specs.declared.library_call.LibraryCall.{LibraryCall}
+use Rattle.pg_ir.specs.declared.library_call.LibraryCall.TheVariants as known
 use Rattle.pg_ir.specs.declared.instr.Instr.{Instr}
 use Rattle.pg_ir.specs.declared.instr.Op.{Op}
 use Rattle.pg_ir.specs.declared.instr.Op.TheVariants as op
@@ -20,10 +20,10 @@ use Rattle.pg_ir.specs.Program.{types_of}
 use Rattle.pg_num.specs.declared.limits.TheConstants.{THREAD_REGISTER_LIMIT}
 use Rattle.pg_run_thread.specs.declared.action.Action.{Action}
 use Rattle.pg_run_thread.specs.declared.action.Action.TheVariants as actions
-use Rattle.pg_run_thread.specs.LocalState.{Frame, LocalState, fresh, region_of}
+use Rattle.pg_run_thread.specs.LocalState.{Frame, LocalState, fresh, own_memory}
 use Rattle.pg_run_thread.specs.Operands.{operand}
 use Rattle.pg_run_thread.specs.States.{CanStep}
-use Rattle.pg_run_thread.specs.Step.{after, are_set, begun_frame, call_action, entered, frames_action, frames_after, instr_action, instr_after, known_after, next, on_top, op_action, op_after}
+use Rattle.pg_run_thread.specs.Step.{after, are_set, begun_frame, call_action, entered, frames_action, frames_after, instr_action, instr_after, library_after, next, on_top, op_action, op_after}
 use Rattle.pg_run_thread.specs.Step.{returned, top_height_of, top_registers, total, under_top}
 use Rattle.pg_run_trace.specs.declared.step.Step.{Step}
 use Rattle.pg_run.specs.Machine.{IsMachine}
@@ -122,8 +122,8 @@ if_kept : (p : NumberedProgram) (targets : List (Option ℕ)) (t : ℕ) (b : Boo
 if_kept p targets t true fs gs h k = h
 if_kept p targets t false fs gs h k = k
 
-known_kept : (p : NumberedProgram) (targets : List (Option ℕ)) (t : ℕ) (halfway : Bool) (k : Known) (fs gs : List Frame) → AreTargetsOf p targets t fs → AreTargetsOf p targets t gs
-    → AreTargetsOf p targets t (known_after halfway k fs gs)
+known_kept : (p : NumberedProgram) (targets : List (Option ℕ)) (t : ℕ) (halfway : Bool) (k : LibraryCall) (fs gs : List Frame) → AreTargetsOf p targets t fs → AreTargetsOf p targets t gs
+    → AreTargetsOf p targets t (library_after halfway k fs gs)
 known_kept p targets t halfway known.PthreadExit fs gs h m = tt
 known_kept p targets t halfway known.PthreadCondWait fs gs h m = if_kept p targets t halfway gs fs m h
 known_kept p targets t halfway known.PthreadBarrierWait fs gs h m = if_kept p targets t halfway gs fs m h
@@ -156,7 +156,7 @@ module _ (p : NumberedProgram) (targets : List (Option ℕ)) (t : ℕ) (l : Loca
   entered_kept : (e : Frame) → length (f ∷ fs) < CALL_DEPTH_LIMIT → AreTargetsOf p targets t (e ∷ l.frames)
   entered_kept e room = subst (λ (gs : List Frame). AreTargetsOf p targets t (e ∷ gs)) (sym calls) (room, entry room ∙ ap (λ (o : Option Instr). Some (target_of o)) (sym at), h)
 
-  op_kept : (a : ℕ) (o : Op) → CanStep (op_action p (region_of l) l.halfway f.registers (length (f ∷ fs)) (total (f ∷ fs)) x.block.0 o) → AreTargetsOf p targets t (op_after p l x a o)
+  op_kept : (a : ℕ) (o : Op) → CanStep (op_action p (own_memory l) l.halfway f.registers (length (f ∷ fs)) (total (f ∷ fs)) x.block.0 o) → AreTargetsOf p targets t (op_after p l x a o)
   op_kept a (op.Br to) can = on_top_kept p targets t _ l.frames kept_calls
   op_kept a (op.CondBr c y n) can = on_top_kept p targets t _ l.frames kept_calls
   op_kept a (op.Switch w on other cases) can = on_top_kept p targets t _ l.frames kept_calls
@@ -164,7 +164,7 @@ module _ (p : NumberedProgram) (targets : List (Option ℕ)) (t : ℕ) (l : Loca
       (call_room p g (length (f ∷ fs)) (total (f ∷ fs)) (all_room (are_set p f.registers args) (call_action p g (length (f ∷ fs)) (total (f ∷ fs))) can))
   op_kept a (op.Ret v) can = returned_kept p targets t _ l.frames kept_calls
   op_kept a (op.Alloca bytes) can = on_top_kept p targets t _ l.frames kept_calls
-  op_kept a (op.CallKnown k args) can = known_kept p targets t l.halfway k l.frames _ kept_calls (on_top_kept p targets t _ l.frames kept_calls)
+  op_kept a (op.CallLibrary k args) can = known_kept p targets t l.halfway k l.frames _ kept_calls (on_top_kept p targets t _ l.frames kept_calls)
   op_kept a o can = on_top_kept p targets t _ l.frames kept_calls
 
   instr_kept : (a : ℕ) (o : Option Instr) → slice_get p.instrs f.place ≡ o → CanStep (instr_action p l f fs o) → AreTargetsOf p targets t (instr_after p l a o).frames

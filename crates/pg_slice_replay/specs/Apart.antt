@@ -5,18 +5,18 @@ use Rattle.pg_ir.specs.Program.{NumberedProgram}
 use Rattle.pg_region_accesses.specs.declared.rooted.Rooted.{Rooted}
 use Rattle.pg_run_trace.specs.Races.{share}
 use Rattle.pg_run.specs.State.{State}
-use Rattle.pg_slice_rules.specs.Freeable.{FreeAccess, frame_of, stores_on}
+use Rattle.pg_slice_rules.specs.Freeable.{FreeAccess, bounds_of, stores_on}
 use Rattle.pg_slice_replay.specs.declared.at.At.{At}
 use Rattle.pg_slice_replay.specs.Paths.{accesses_in, accesses_with}
 
--- an access writes, and its frame shares a byte with that of a pointer
+-- an access writes, and its bounds share a byte with those of a pointer
 abbrev pub stores_to : ℕ → FreeAccess → Bool
-stores_to word a = a.writes && share (frame_of a.at.last) (frame_of word)
+stores_to word a = a.writes && share (bounds_of a.at.last) (bounds_of word)
 
 abbrev pub is_stored : List FreeAccess → ℕ → Bool
 is_stored xs word = list_any (stores_to word) xs
 
--- accesses, unless a store's frame meets one from which a path loads
+-- accesses, unless a store's bounds meet those from which a path loads
 abbrev pub apart : Option (List FreeAccess) → Option (List FreeAccess)
 apart None = None
 apart (Some xs) = if list_any (stores_on xs) xs then None else Some xs
@@ -40,6 +40,6 @@ abbrev pub AddsApart : NumberedProgram → State → ℕ → List Rooted → Lis
 AddsApart p s t us old true new = (xs : List At) × AddedApart p s t us old new xs
 AddsApart p s t us old false new = (new ≡ old) × (apart (accesses_in p s t us) ≡ None)
 
--- a store's frame shares a byte with that of a pointer from which the access loads
+-- a store's bounds share a byte with those of a pointer from which the access loads
 abbrev pub loads_stored : List FreeAccess → FreeAccess → Bool
 loads_stored xs b = list_any (is_stored xs) b.at.pointers

@@ -1,9 +1,9 @@
-//! Whether the frames of accesses are apart.
+//! Whether the bounds of accesses are apart.
 
 ghost use Rattle.std.specs.Prelude.{◌≡◌, length};
 ghost use Rattle.std.specs.List.{list_any};
 ghost use Rattle.pg_run_trace.specs.Races.{share};
-ghost use Rattle.pg_slice_rules.specs.Freeable.{frame_of, stores_on};
+ghost use Rattle.pg_slice_rules.specs.Freeable.{bounds_of, stores_on};
 ghost use Rattle.pg_slice_replay.specs.Paths.{access_at, accesses_with};
 ghost use Rattle.pg_slice_replay.specs.Apart.{is_stored, stores_to};
 
@@ -13,9 +13,9 @@ use pg_num::layout::GRANULE_BYTES;
 use pg_num::unpack;
 use pg_region_accesses::Rooted;
 
-/// Whether the frames of two pointers have a byte in common.
+/// Whether the bounds of two pointers have a byte in common.
 fn share(word: u64, other: u64) -> bool
-    ensures { result ≡ share (frame_of word) (frame_of other) }
+    ensures { result ≡ share (bounds_of word) (bounds_of other) }
 {
     let a = unpack(word);
     let b = unpack(other);
@@ -23,14 +23,14 @@ fn share(word: u64, other: u64) -> bool
     from < GRANULE_BYTES * a.start + a.length && from < GRANULE_BYTES * b.start + b.length
 }
 
-/// Whether an access is a store whose frame shares a byte with that of a pointer.
+/// Whether an access is a store whose bounds share a byte with those of a pointer.
 fn stores_to(access: &Rooted, at: &At, word: u64) -> bool
     ensures { result ≡ stores_to word (access_at access.now at.now) }
 {
     access.writes && share(at.last, word)
 }
 
-/// Whether a store's frame shares a byte with that of a pointer.
+/// Whether a store's bounds share a byte with those of a pointer.
 fn is_stored(accesses: &[Rooted], ats: &[At], word: u64) -> bool
     requires { length ats.now ≡ length accesses.now }
     ensures { result ≡ is_stored (accesses_with accesses.now ats.now) word }
@@ -43,7 +43,7 @@ fn is_stored(accesses: &[Rooted], ats: &[At], word: u64) -> bool
     false
 }
 
-/// Whether a store's frame shares a byte with that of one of these pointers.
+/// Whether a store's bounds share a byte with those of one of these pointers.
 fn are_stored(accesses: &[Rooted], ats: &[At], words: &[u64]) -> bool
     requires { length ats.now ≡ length accesses.now }
     ensures { result ≡ list_any (is_stored (accesses_with accesses.now ats.now)) words.now }
@@ -56,7 +56,7 @@ fn are_stored(accesses: &[Rooted], ats: &[At], words: &[u64]) -> bool
     false
 }
 
-/// Whether a store's frame shares a byte with one from which a path loads.
+/// Whether a store's bounds share a byte with those from which a path loads.
 pub(crate) fn store_on_loads(accesses: &[Rooted], ats: &[At]) -> bool
     requires { length ats.now ≡ length accesses.now }
     ensures { result ≡ list_any (stores_on (accesses_with accesses.now ats.now)) (accesses_with accesses.now ats.now) }

@@ -18,7 +18,7 @@ use pg_run::Machine;
 use pg_run_trace::{Step, StepKind};
 use std::alloc::AllocError;
 
-/// Adds where the paths of a region's accesses lead, and gives whether each can be followed and no store's frame shares a
+/// Adds where the paths of a region's accesses lead, and gives whether each can be followed and no store's bounds share a
 /// byte with one from which a path loads.
 fn try_apart(
     machine: &Machine,
@@ -40,7 +40,7 @@ fn try_apart(
     Ok(!stored)
 }
 
-/// Adds where the paths of a region's accesses lead, if each can be followed and no store's frame shares a byte with one
+/// Adds where the paths of a region's accesses lead, if each can be followed and no store's bounds share a byte with one
 /// from which a path loads; else adds nothing.
 fn follow_apart(
     machine: &Machine,

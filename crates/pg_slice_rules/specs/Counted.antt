@@ -2,7 +2,7 @@
 use Rattle.std.specs.Prelude.{ℕ, ◌==◌, List, [], ◌∷◌, true, false, Some, None, if◌then◌else◌}
 use Rattle.pg_num.specs.declared.width.Width.TheVariants.{W1, W32, W64}
 use Rattle.pg_num.specs.declared.operations.Compare.TheVariants as compares
-use Rattle.pg_ir.specs.declared.known.Known.TheVariants as known
+use Rattle.pg_ir.specs.declared.library_call.LibraryCall.TheVariants as known
 use Rattle.pg_ir.specs.declared.value.Scalar.TheVariants.{Int, Ptr}
 use Rattle.pg_ir.specs.declared.value.Value.TheVariants as value
 use Rattle.pg_ir.specs.declared.instr.Op.TheVariants as op
@@ -41,7 +41,7 @@ counted_program = record {
       ∷ (record { function = 1; first = (record { 0 = 18 }); count = 6 })
       ∷ [];
   instrs =
-      (record { op = op.CallKnown known.PgIn ((value.Const 0) ∷ []); block = (record { 0 = 0 }); result = (Some 1) })
+      (record { op = op.CallLibrary known.PgIn ((value.Const 0) ∷ []); block = (record { 0 = 0 }); result = (Some 1) })
       ∷ (record { op = op.Alloca 8; block = (record { 0 = 0 }); result = (Some 2) })
       ∷ (record { op = op.Store W64 (value.Const 0) (value.Register 2); block = (record { 0 = 0 }); result = None })
       ∷ (record { op = op.Br (record { 0 = 1 }); block = (record { 0 = 0 }); result = None })
@@ -53,7 +53,7 @@ counted_program = record {
       ∷ (record { op = op.Br (record { 0 = 1 }); block = (record { 0 = 2 }); result = None })
       ∷ (record { op = op.Store W64 (value.Register 3) (value.Global 0); block = (record { 0 = 3 }); result = None })
       ∷ (record { op = op.Ret (Some (value.Const 0)); block = (record { 0 = 3 }); result = None })
-      ∷ (record { op = op.CallKnown known.PthreadCreate ((value.Global 1) ∷ (value.Const 0) ∷ (value.Function 0) ∷ (value.Const 0) ∷ []); block = (record { 0 = 4 }); result = (Some 0) })
+      ∷ (record { op = op.CallLibrary known.PthreadCreate ((value.Global 1) ∷ (value.Const 0) ∷ (value.Function 0) ∷ (value.Const 0) ∷ []); block = (record { 0 = 4 }); result = (Some 0) })
       ∷ (record { op = op.Br (record { 0 = 5 }); block = (record { 0 = 4 }); result = None })
       ∷ (record {
         op = op.Phi ((record { block = (record { 0 = 4 }); value = (value.Const 0) }) ∷ (record { block = (record { 0 = 5 }); value = (value.Register 2) }) ∷ []);
@@ -65,9 +65,9 @@ counted_program = record {
       ∷ (record { op = op.CondBr (value.Register 3) (record { 0 = 5 }) (record { 0 = 6 }); block = (record { 0 = 5 }); result = None })
       ∷ (record { op = op.Store W64 (value.Const 100) (value.Global 0); block = (record { 0 = 6 }); result = None })
       ∷ (record { op = op.Load W64 (value.Global 1); block = (record { 0 = 6 }); result = (Some 4) })
-      ∷ (record { op = op.CallKnown known.PthreadJoin ((value.Register 4) ∷ (value.Const 0) ∷ []); block = (record { 0 = 6 }); result = (Some 5) })
+      ∷ (record { op = op.CallLibrary known.PthreadJoin ((value.Register 4) ∷ (value.Const 0) ∷ []); block = (record { 0 = 6 }); result = (Some 5) })
       ∷ (record { op = op.Load W64 (value.Global 0); block = (record { 0 = 6 }); result = (Some 6) })
-      ∷ (record { op = op.CallKnown known.PgOut ((value.Register 6) ∷ []); block = (record { 0 = 6 }); result = None })
+      ∷ (record { op = op.CallLibrary known.PgOut ((value.Register 6) ∷ []); block = (record { 0 = 6 }); result = None })
       ∷ (record { op = op.Ret (Some (value.Const 0)); block = (record { 0 = 6 }); result = None })
       ∷ [];
   globals =

@@ -10,11 +10,11 @@ use Rattle.pg_run_thread.specs.Operands as operands
 use Rattle.pg_run_trace.specs.Races.{share}
 use Rattle.pg_slice_rules.specs.Moments.{Moment, number_in, registers_in}
 
--- ---- frames
+-- ---- bounds
 
--- the bytes of the frame of a pointer
-abbrev pub frame_of : ℕ → ByteRange
-frame_of word = record { start = 8 * (pointer_of word).start; bytes = (pointer_of word).length }
+-- the bytes within the bounds of a pointer
+abbrev pub bounds_of : ℕ → ByteRange
+bounds_of word = record { start = 8 * (pointer_of word).start; bytes = (pointer_of word).length }
 
 -- ---- regions
 
@@ -60,11 +60,11 @@ abbrev pub accesses_at : NumberedProgram → Moment → List RegionAccess → Op
 accesses_at p m [] = Some []
 accesses_at p m (a ∷ xs) = one_access a (followed p (registers_by (registers_in m.calls)) (number_in m) a.path) (accesses_at p m xs)
 
--- a path loads from the frame of this pointer
+-- a path loads from the bounds of this pointer
 abbrev pub loads_from : ℕ → FreeAccess → Bool
-loads_from word a = list_any (λ from. share (frame_of word) (frame_of from)) a.at.pointers
+loads_from word a = list_any (λ from. share (bounds_of word) (bounds_of from)) a.at.pointers
 
--- a store's frame meets one from which a path loads
+-- a store's bounds meet those from which a path loads
 abbrev pub stores_on : List FreeAccess → FreeAccess → Bool
 stores_on xs a = a.writes && list_any (loads_from a.at.last) xs
 

@@ -5,8 +5,8 @@ use Rattle.std.specs.Prelude.{slice_get, slice_set, slice_index, slice_index_or,
 use Rattle.pg_num.specs.Numbers.{signed, modulus}
 use Rattle.pg_num.specs.declared.width.Width.{Width}
 use Rattle.pg_num.specs.declared.width.Width.TheVariants.{W64}
-use Rattle.pg_ir.specs.declared.known.Known.{Known as KnownFunction}
-use Rattle.pg_ir.specs.declared.known.Known.TheVariants as known
+use Rattle.pg_ir.specs.declared.library_call.LibraryCall.{LibraryCall}
+use Rattle.pg_ir.specs.declared.library_call.LibraryCall.TheVariants as known
 use Rattle.pg_ir.specs.declared.value.Value.{Value}
 use Rattle.pg_ir.specs.declared.instr.Instr.{Instr}
 use Rattle.pg_ir.specs.declared.instr.Op.{Op}
@@ -29,7 +29,7 @@ use Rattle.pg_run_trace.specs.Steps.{range_of, write_by}
 use Rattle.pg_slice_rules.specs.declared.decision.Decision.{Decision}
 use Rattle.pg_slice_rules.specs.declared.decision.Decision.TheVariants.{Pinned, Exact}
 use Rattle.pg_slice_rules.specs.Moments.{Moment, instr_in, thread_in}
-use Rattle.pg_slice_rules.specs.Freeable.{FreeAccess, FreeRegion, Regions, frame_of, region_at}
+use Rattle.pg_slice_rules.specs.Freeable.{FreeAccess, FreeRegion, Regions, bounds_of, region_at}
 use Rattle.pg_slice_rules.specs.Shadows.{Shadow, Unknown, always, cut, from_all, loaded, moved, result_of, shadow_of, spoiled, stored, unset, valued}
 use Rattle.pg_slice_rules.specs.Extents.{Extent, edge_in, is_live, open_after}
 
@@ -132,7 +132,7 @@ forgotten_from r sets x (s ∷ ss) = (if sets r then Unknown x else s) ∷ forgo
 
 abbrev pub forgotten_bytes : List FreeAccess → Decision → (ℕ → Shadow) → ℕ → Shadow
 forgotten_bytes [] x bytes = bytes
-forgotten_bytes (a ∷ xs) x bytes = forgotten_bytes xs x (if a.writes then spoiled (frame_of a.at.last) x bytes else bytes)
+forgotten_bytes (a ∷ xs) x bytes = forgotten_bytes xs x (if a.writes then spoiled (bounds_of a.at.last) x bytes else bytes)
 
 -- ---- the registers after a live step of each kind
 
@@ -145,7 +145,7 @@ abbrev pub from_input : Shadow → Shadow
 from_input s = from_all (s ∷ []) (λ gs. valued (λ input. with_one (slice_index_or (gs input) 0 None) (λ i. Some (input_at input (signed W64 i)))))
 
 -- the register of a call of a known function that asks nothing of other threads
-abbrev pub after_known : KnownFunction → Option ℕ → ℕ → Shadow → List Shadow → List Shadow
+abbrev pub after_known : LibraryCall → Option ℕ → ℕ → Shadow → List Shadow → List Shadow
 after_known known.PgIn target result s rs = set_shadow target (from_input s) rs
 after_known known.PgInLen target result s rs = set_shadow target (valued (λ input. Some (length input))) rs
 after_known known.Malloc target result s rs = set_shadow target (always result) rs
@@ -171,7 +171,7 @@ after_op p pinned n m region result x (op.Switch w on other cases) calls = with_
 after_op p pinned n m region result x (op.Call g args) calls = entered p g (map (shadow_of p (top_of calls)) args) ∷ calls
 after_op p pinned n m region result x (op.Ret v) calls = with_top (set_shadow (caller_target p m.calls) (optional_shadow p (top_of calls) v)) (under_top calls)
 after_op p pinned n m region result x (op.Alloca bytes) calls = with_top (set_shadow x.result (always result)) calls
-after_op p pinned n m region result x (op.CallKnown k args) calls = with_top (λ rs. after_known k x.result result (operand_at p rs x.op 0) rs) calls
+after_op p pinned n m region result x (op.CallLibrary k args) calls = with_top (λ rs. after_known k x.result result (operand_at p rs x.op 0) rs) calls
 after_op p pinned n m region result x (op.Gep base indices) calls = with_top (λ rs. set_shadow x.result (moved (operand_at p rs x.op 0) (result_of x.op (operand_shadows p rs x.op))) rs) calls
 after_op p pinned n m region result x o calls = with_top (λ rs. set_shadow x.result (result_of o (operand_shadows p rs o)) rs) calls
 
@@ -234,10 +234,10 @@ abbrev pub bytes_by : Event → Option Write → List Shadow → (ℕ → Shadow
 bytes_by e None words bytes = bytes
 bytes_by e (Some w) words bytes = stored (range_of (write_by w)) (written_shadow e w e.kind words) bytes
 
--- a store that is exact or an event passes its value on; another may have written anywhere in its frame
+-- a store that is exact or an event passes its value on; another may have written anywhere in its bounds
 abbrev pub bytes_stored : NumberedProgram → Bool → ℕ → Access → List Shadow → Op → (ℕ → Shadow) → ℕ → Shadow
 bytes_stored p known n a rs (op.Store w v at) bytes =
-    if known then stored (range_of a) (shadow_of p rs v) bytes else spoiled (frame_of a.pointer) (Exact n) bytes
+    if known then stored (range_of a) (shadow_of p rs v) bytes else spoiled (bounds_of a.pointer) (Exact n) bytes
 bytes_stored p known n a rs o bytes = bytes
 
 abbrev pub bytes_freed : Bool → ℕ → Option FreeRegion → (ℕ → Shadow) → ℕ → Shadow

@@ -2,7 +2,7 @@
 use Rattle.std.specs.Prelude.{ℕ, List, [], ◌∷◌, true, false, Some, None}
 use Rattle.pg_num.specs.declared.width.Width.TheVariants.{W32, W64}
 use Rattle.pg_num.specs.declared.operations.Division.TheVariants.{Sdiv}
-use Rattle.pg_ir.specs.declared.known.Known.TheVariants as known
+use Rattle.pg_ir.specs.declared.library_call.LibraryCall.TheVariants as known
 use Rattle.pg_ir.specs.declared.value.Scalar.TheVariants.{Int, Ptr}
 use Rattle.pg_ir.specs.declared.value.Scale.TheVariants.{Times}
 use Rattle.pg_ir.specs.declared.value.Value.TheVariants as value
@@ -22,7 +22,7 @@ offset_program = record {
   functions = (record { params = 0; registers = ((Int W64) ∷ (Int W64) ∷ Ptr ∷ []); first_block = (record { 0 = 0 }); blocks = 1; result = (Some (Int W32)) }) ∷ [];
   blocks = (record { function = 0; first = (record { 0 = 0 }); count = 5 }) ∷ [];
   instrs =
-      (record { op = op.CallKnown known.PgIn ((value.Const 0) ∷ []); block = (record { 0 = 0 }); result = (Some 0) })
+      (record { op = op.CallLibrary known.PgIn ((value.Const 0) ∷ []); block = (record { 0 = 0 }); result = (Some 0) })
       ∷ (record { op = op.Divide Sdiv W64 (value.Const 8) (value.Register 0); block = (record { 0 = 0 }); result = (Some 1) })
       ∷ (record { op = op.Gep (value.Global 0) ((record { value = value.Register 1; width = W64; scale = Times 8 }) ∷ []); block = (record { 0 = 0 }); result = (Some 2) })
       ∷ (record { op = op.Store W64 (value.Const 1) (value.Register 2); block = (record { 0 = 0 }); result = None })

@@ -2,7 +2,7 @@
 use Rattle.std.specs.Prelude.{ℕ, ◌==◌, List, [], ◌∷◌, true, Some, None, if◌then◌else◌}
 use Rattle.pg_num.specs.declared.width.Width.TheVariants.{W1, W32, W64}
 use Rattle.pg_num.specs.declared.operations.Compare.TheVariants as compares
-use Rattle.pg_ir.specs.declared.known.Known.TheVariants as known
+use Rattle.pg_ir.specs.declared.library_call.LibraryCall.TheVariants as known
 use Rattle.pg_ir.specs.declared.value.Scalar.TheVariants.{Int, Ptr}
 use Rattle.pg_ir.specs.declared.value.Value.TheVariants as value
 use Rattle.pg_ir.specs.declared.instr.Op.TheVariants as op
@@ -31,7 +31,7 @@ rooted_program = record {
       ∷ (record { function = 0; first = (record { 0 = 10 }); count = 1 })
       ∷ [];
   instrs =
-      (record { op = op.CallKnown known.PgIn ((value.Const 0) ∷ []); block = (record { 0 = 0 }); result = (Some 0) })
+      (record { op = op.CallLibrary known.PgIn ((value.Const 0) ∷ []); block = (record { 0 = 0 }); result = (Some 0) })
       ∷ (record { op = op.Compare compares.Ne W64 (value.Register 0) (value.Const 0); block = (record { 0 = 0 }); result = (Some 1) })
       ∷ (record { op = op.CondBr (value.Register 1) (record { 0 = 1 }) (record { 0 = 2 }); block = (record { 0 = 0 }); result = None })
       ∷ (record { op = op.Br (record { 0 = 2 }); block = (record { 0 = 1 }); result = None })
@@ -40,7 +40,7 @@ rooted_program = record {
         block = (record { 0 = 2 });
         result = (Some 2);
       })
-      ∷ (record { op = op.CallKnown known.PgIn ((value.Const 1) ∷ []); block = (record { 0 = 2 }); result = (Some 3) })
+      ∷ (record { op = op.CallLibrary known.PgIn ((value.Const 1) ∷ []); block = (record { 0 = 2 }); result = (Some 3) })
       ∷ (record { op = op.Compare compares.Ne W64 (value.Register 3) (value.Const 0); block = (record { 0 = 2 }); result = (Some 4) })
       ∷ (record { op = op.CondBr (value.Register 4) (record { 0 = 3 }) (record { 0 = 4 }); block = (record { 0 = 2 }); result = None })
       ∷ (record { op = op.Store W64 (value.Const 1) (value.Register 2); block = (record { 0 = 3 }); result = None })

@@ -4,8 +4,8 @@ use Rattle.std.specs.List.{list_any}
 use Rattle.pg_num.specs.Places.{ByteRange}
 use Rattle.pg_num.specs.Pointers.{moved_by, pointer_of}
 use Rattle.pg_ir.specs.declared.edge.Case.{Case}
-use Rattle.pg_ir.specs.declared.known.Known.{Known as KnownFunction}
-use Rattle.pg_ir.specs.declared.known.Known.TheVariants as known
+use Rattle.pg_ir.specs.declared.library_call.LibraryCall.{LibraryCall}
+use Rattle.pg_ir.specs.declared.library_call.LibraryCall.TheVariants as known
 use Rattle.pg_ir.specs.declared.instr.Instr.{Instr}
 use Rattle.pg_ir.specs.declared.instr.Op.{Op}
 use Rattle.pg_ir.specs.declared.instr.Op.TheVariants as op
@@ -28,15 +28,15 @@ use Rattle.pg_run_trace.specs.Steps.{access_in}
 use Rattle.pg_slice_rules.specs.declared.decision.Decision.{Decision}
 use Rattle.pg_slice_rules.specs.declared.decision.Decision.TheVariants.{Pinned, Exact}
 use Rattle.pg_slice_rules.specs.Moments.{instr_in, thread_in}
-use Rattle.pg_slice_rules.specs.Freeable.{FreeAccess, FreeRegion, frame_of}
-use Rattle.pg_slice_rules.specs.Shadows.{OnInput, Shadow, Known, Framed, Unknown, blames, frame_blames, frame_word, loaded, unset, valued}
+use Rattle.pg_slice_rules.specs.Freeable.{FreeAccess, FreeRegion, bounds_of}
+use Rattle.pg_slice_rules.specs.Shadows.{OnInput, Shadow, Known, Bounded, Unknown, blames, bounds_blames, bounds_word, loaded, unset, valued}
 use Rattle.pg_slice_rules.specs.Known.{Reference, Taken, Seen, is_branch, operand_at, registers_of}
 
--- ---- what is asked of one value: that it is known, or that its frame is, and what an input must give of it
+-- ---- what is asked of one value: that it is known, or that its bounds are, and what an input must give of it
 
 pub data Need : Type 0 where
   Value : Shadow → List Test → Need
-  Frame : Shadow → Test → Need
+  Bounds : Shadow → Test → Need
 
 -- a number on an input, and what it must be
 pub record Condition : Type 0 where
@@ -45,7 +45,7 @@ pub record Condition : Type 0 where
 
 abbrev pub need_blames : Need → List Decision
 need_blames (Value s tests) = blames s
-need_blames (Frame s t) = frame_blames s
+need_blames (Bounds s t) = bounds_blames s
 
 abbrev pub conditions_with : OnInput → List Test → List Condition
 conditions_with f [] = []
@@ -61,14 +61,14 @@ value_of s = None
 
 abbrev pub need_conditions : Need → List Condition
 need_conditions (Value s tests) = if_some (value_of s) tests
-need_conditions (Frame s t) = if_some (frame_word s) (t ∷ [])
+need_conditions (Bounds s t) = if_some (bounds_word s) (t ∷ [])
 
 abbrev pub all_of : {A B : Type 0} → (A → List B) → List A → List B
 all_of f [] = []
 all_of f (x ∷ xs) = f x ++ all_of f xs
 
-abbrev pub same_frame : ℕ → Test
-same_frame word = test.Frame (pointer_of word).start (pointer_of word).length
+abbrev pub same_bounds : ℕ → Test
+same_bounds word = test.Bounds (pointer_of word).start (pointer_of word).length
 
 -- ---- the steps by their parts
 
@@ -110,7 +110,7 @@ address_index (op.Store w v at) = 1
 address_index o = 0
 
 -- the operands that are checked: those of a pthread call, but for the argument of create and the value of exit
-abbrev pub checked : KnownFunction → List ℕ
+abbrev pub checked : LibraryCall → List ℕ
 checked known.PthreadCreate = 0 ∷ 1 ∷ 2 ∷ []
 checked known.PthreadJoin = 0 ∷ 1 ∷ []
 checked known.PthreadMutexInit = 0 ∷ 1 ∷ []
@@ -129,7 +129,7 @@ checked known.PthreadBarrierDestroy = 0 ∷ []
 checked k = []
 
 abbrev pub checked_of : Op → List ℕ
-checked_of (op.CallKnown k args) = checked k
+checked_of (op.CallLibrary k args) = checked k
 checked_of o = []
 
 abbrev pub equal_to : NumberedProgram → Seen → Instr → Event → ℕ → Need
@@ -141,7 +141,7 @@ event_needs p x i e turns.Start = []
 event_needs p x i e kind = map (equal_to p x i e) (checked_of i.op)
 
 abbrev pub is_malloc : Op → Bool
-is_malloc (op.CallKnown known.Malloc args) = true
+is_malloc (op.CallLibrary known.Malloc args) = true
 is_malloc o = false
 
 abbrev pub value_needs_by : NumberedProgram → Taken → Seen → Instr → StepKind → List Need
@@ -161,20 +161,20 @@ value_needs R d x = value_needs_in R.program d x (instr_in R.program x.moment)
 abbrev pub asks_values : Reference → Taken → Seen → List Decision
 asks_values R d x = all_of need_blames (value_needs R d x)
 
--- ---- rule 3: each live access has a known frame; of each path of a live freeable branch step, pinned or not, the root is known
--- where the path loads, each cell that it loads is known, and so is its last frame
+-- ---- rule 3: each live access has known bounds; of each path of a live freeable branch step, pinned or not, the root is known
+-- where the path loads, each cell that it loads is known, and so are its last bounds
 
 -- the address of a create's write is its first operand, that of a join's its second
 abbrev pub write_index : Op → ℕ
-write_index (op.CallKnown known.PthreadJoin args) = 1
+write_index (op.CallLibrary known.PthreadJoin args) = 1
 write_index o = 0
 
 abbrev pub write_needs : NumberedProgram → Seen → Instr → Option Access → List Need
 write_needs p x i None = []
-write_needs p x i (Some a) = Frame (operand_of p x i (write_index i.op)) (same_frame a.pointer) ∷ []
+write_needs p x i (Some a) = Bounds (operand_of p x i (write_index i.op)) (same_bounds a.pointer) ∷ []
 
 abbrev pub access_needs_by : NumberedProgram → Seen → Instr → StepKind → List Need
-access_needs_by p x i (kinds.Access a) = Frame (operand_of p x i (address_index i.op)) (same_frame a.pointer) ∷ []
+access_needs_by p x i (kinds.Access a) = Bounds (operand_of p x i (address_index i.op)) (same_bounds a.pointer) ∷ []
 access_needs_by p x i (kinds.Event e) = write_needs p x i (access_in (kinds.Event e))
 access_needs_by p x i k = []
 
@@ -189,14 +189,14 @@ root_shadow p rs r = valued (λ input. root_value p (λ k. None) r)
 -- a word that is moved to a load's address
 abbrev pub moved_shadow : ℕ → Shadow → Shadow
 moved_shadow k (Known f g) = Known (λ input. with_one (f input) (λ word. Some (moved_by word (pos k)))) g
-moved_shadow k (Framed f x) = Framed f x
+moved_shadow k (Bounded f x) = Bounded f x
 moved_shadow k (Unknown x) = Unknown x
 
--- along the loads of a path: each address is known, and so is the frame at the end
+-- along the loads of a path: each address is known, and so are the bounds at the end
 abbrev pub path_needs : (ℕ → Shadow) → Shadow → List ℕ → List ℕ → List ByteRange → ℕ → List Need
 path_needs bytes s (k ∷ offsets) (word ∷ words) (cell ∷ cells) last =
     Value (moved_shadow k s) (test.Eq (moved_by word (pos k)) ∷ []) ∷ path_needs bytes (loaded bytes cell.start 8) offsets words cells last
-path_needs bytes s offsets words cells last = Frame s (same_frame last) ∷ []
+path_needs bytes s offsets words cells last = Bounds s (same_bounds last) ∷ []
 
 abbrev pub free_access_needs : NumberedProgram → Seen → FreeAccess → List Need
 free_access_needs p x a = path_needs x.before.bytes (root_shadow p (registers_before x) a.path.root) (offsets_of a.path.loads) a.at.pointers a.at.cells a.at.last
@@ -205,13 +205,13 @@ abbrev pub region_needs_in : NumberedProgram → Seen → Option FreeRegion → 
 region_needs_in p x None = []
 region_needs_in p x (Some r) = all_of (free_access_needs p x) r.accesses
 
-abbrev pub frame_needs : Reference → Seen → List Need
-frame_needs R x = access_needs_in R.program x (instr_in R.program x.moment) ++ (if x.live then region_needs_in R.program x x.region else [])
+abbrev pub bounds_needs : Reference → Seen → List Need
+bounds_needs R x = access_needs_in R.program x (instr_in R.program x.moment) ++ (if x.live then region_needs_in R.program x x.region else [])
 
-abbrev pub asks_frames : Reference → Seen → List Decision
-asks_frames R x = all_of need_blames (frame_needs R x)
+abbrev pub asks_bounds : Reference → Seen → List Decision
+asks_bounds R x = all_of need_blames (bounds_needs R x)
 
--- ---- frames that conflict
+-- ---- bounds that conflict
 
 -- the bytes that may be accessed, and whether they are written
 pub record Footprint : Type 0 where
@@ -221,39 +221,39 @@ pub record Footprint : Type 0 where
 abbrev pub footprints_conflict : Footprint → Footprint → Bool
 footprints_conflict a b = (a.writes || b.writes) && share a.bytes b.bytes
 
-abbrev pub print_of : Option Access → List Footprint
-print_of None = []
-print_of (Some a) = record { bytes = frame_of a.pointer; writes = a.writes } ∷ []
+abbrev pub footprint_of : Option Access → List Footprint
+footprint_of None = []
+footprint_of (Some a) = record { bytes = bounds_of a.pointer; writes = a.writes } ∷ []
 
--- of a live access its frame
-abbrev pub access_print : Seen → List Footprint
-access_print x = if x.live then print_of (access_in (kind_in x)) else []
+-- of a live access its bounds
+abbrev pub access_footprint : Seen → List Footprint
+access_footprint x = if x.live then footprint_of (access_in (kind_in x)) else []
 
-abbrev pub prints_in : Option FreeRegion → List Footprint
-prints_in None = []
-prints_in (Some r) = map (λ (a : FreeAccess). record { bytes = frame_of a.at.last; writes = a.writes }) r.accesses
+abbrev pub footprints_in : Option FreeRegion → List Footprint
+footprints_in None = []
+footprints_in (Some r) = map (λ (a : FreeAccess). record { bytes = bounds_of a.at.last; writes = a.writes }) r.accesses
 
--- of a live freeable branch step the frames of its region
-abbrev pub region_prints : Seen → List Footprint
-region_prints x = if x.live then prints_in x.region else []
+-- of a live freeable branch step the bounds of its region
+abbrev pub region_footprints : Seen → List Footprint
+region_footprints x = if x.live then footprints_in x.region else []
 
 abbrev pub any_conflict : List Footprint → List Footprint → Bool
 any_conflict xs bs = list_any (λ a. list_any (footprints_conflict a) bs) xs
 
--- steps of different threads in overlapping intervals, with some frames that conflict
-abbrev pub frames_meet : Seen → List Footprint → Seen → List Footprint → Bool
-frames_meet x xs y bs = not (thread_in x.moment == thread_in y.moment) && overlap x.moment.did y.moment.did && any_conflict xs bs
+-- steps of different threads in overlapping intervals, with some bounds that conflict
+abbrev pub bounds_meet : Seen → List Footprint → Seen → List Footprint → Bool
+bounds_meet x xs y bs = not (thread_in x.moment == thread_in y.moment) && overlap x.moment.did y.moment.did && any_conflict xs bs
 
--- ---- rule 4: a live freeable branch step is pinned if a frame of its region conflicts, in overlapping intervals, with that of
+-- ---- rule 4: a live freeable branch step is pinned if bounds of its region conflict, in overlapping intervals, with those of
 -- another thread's live access or of another thread's live freeable branch step's region
 
 abbrev pub is_disturbed : List Seen → Seen → Bool
-is_disturbed ys x = list_any (λ y. frames_meet x (region_prints x) y (access_print y ++ region_prints y)) ys
+is_disturbed ys x = list_any (λ y. bounds_meet x (region_footprints x) y (access_footprint y ++ region_footprints y)) ys
 
 abbrev pub asks_disturbed : Taken → List Seen → Seen → List Decision
 asks_disturbed d ys x = if is_disturbed ys x && not (d.pinned x.number) then Pinned x.number ∷ [] else []
 
--- ---- rule 5: of two live accesses of different threads whose frames conflict in overlapping intervals, each that isn't an event
+-- ---- rule 5: of two live accesses of different threads whose bounds conflict in overlapping intervals, each that isn't an event
 -- is exact
 
 abbrev pub is_plain : StepKind → Bool
@@ -261,7 +261,7 @@ is_plain (kinds.Access a) = not a.event
 is_plain k = false
 
 abbrev pub is_shared : List Seen → Seen → Bool
-is_shared ys x = is_plain (kind_in x) && list_any (λ y. frames_meet x (access_print x) y (access_print y)) ys
+is_shared ys x = is_plain (kind_in x) && list_any (λ y. bounds_meet x (access_footprint x) y (access_footprint y)) ys
 
 abbrev pub asks_shared : Taken → List Seen → Seen → List Decision
 asks_shared d ys x = if is_shared ys x && not (d.exact x.number) then Exact x.number ∷ [] else []

@@ -21,14 +21,14 @@ use Rattle.pg_slice_rules.specs.declared.decision.Decision.{Decision}
 abbrev pub OnInput : Type 0
 OnInput = List ℤ → Option ℕ
 
--- a known value, and a word whose frame it has; a pointer of which only the frame is known, that of this word; or nothing. The
+-- a known value, and a word whose bounds it has; a pointer of which only the bounds are known, those of this word; or nothing. The
 -- decision is the one that is blamed for what isn't known
 pub data Shadow : Type 0 where
   Known : OnInput → OnInput → Shadow
-  Framed : OnInput → Decision → Shadow
+  Bounded : OnInput → Decision → Shadow
   Unknown : Decision → Shadow
 
--- a known value that has its own frame, as all have but pointers that a getelementptr moved
+-- a known value that has its own bounds, as all have but pointers that a getelementptr moved
 abbrev pub valued : OnInput → Shadow
 valued f = Known f f
 
@@ -39,11 +39,11 @@ unset = valued (λ input. None)
 abbrev pub always : ℕ → Shadow
 always n = valued (λ input. Some n)
 
--- a word whose frame a pointer has, where its frame is known
-abbrev pub frame_word : Shadow → Option OnInput
-frame_word (Known f g) = Some g
-frame_word (Framed f x) = Some f
-frame_word (Unknown x) = None
+-- a word whose bounds a pointer has, where its bounds are known
+abbrev pub bounds_word : Shadow → Option OnInput
+bounds_word (Known f g) = Some g
+bounds_word (Bounded f x) = Some f
+bounds_word (Unknown x) = None
 
 abbrev pub is_known : Shadow → Bool
 is_known (Known f g) = true
@@ -52,13 +52,13 @@ is_known s = false
 -- the decision that is blamed where the value isn't known
 abbrev pub blames : Shadow → List Decision
 blames (Known f g) = []
-blames (Framed f x) = x ∷ []
+blames (Bounded f x) = x ∷ []
 blames (Unknown x) = x ∷ []
 
--- and where the frame isn't
-abbrev pub frame_blames : Shadow → List Decision
-frame_blames (Unknown x) = x ∷ []
-frame_blames s = []
+-- and where the bounds aren't
+abbrev pub bounds_blames : Shadow → List Decision
+bounds_blames (Unknown x) = x ∷ []
+bounds_blames s = []
 
 -- ---- the results of operations
 
@@ -66,7 +66,7 @@ frame_blames s = []
 abbrev pub from_all : List Shadow → ((List ℤ → List (Option ℕ)) → Shadow) → Shadow
 from_all [] f = f (λ input. [])
 from_all (Known g h ∷ ss) f = from_all ss (λ gs. f (λ input. g input ∷ gs input))
-from_all (Framed g x ∷ ss) f = Unknown x
+from_all (Bounded g x ∷ ss) f = Unknown x
 from_all (Unknown x ∷ ss) f = Unknown x
 
 abbrev pub index_narrowed : Option Index → ℕ → ℕ
@@ -100,19 +100,19 @@ applied o ns = if list_all is_set ns then Some (computed o (λ k. narrowed o k (
 abbrev pub result_of : Op → List Shadow → Shadow
 result_of o ss = from_all ss (λ gs. valued (λ input. applied o (gs input)))
 
--- a pointer that is moved has the frame of its base, whether it is known where it points or not
-abbrev pub with_frame : Option OnInput → Shadow → Shadow
-with_frame (Some h) (Known f g) = Known f h
-with_frame (Some h) (Unknown x) = Framed h x
-with_frame _ s = s
+-- a pointer that is moved has the bounds of its base, whether it is known where it points or not
+abbrev pub with_bounds : Option OnInput → Shadow → Shadow
+with_bounds (Some h) (Known f g) = Known f h
+with_bounds (Some h) (Unknown x) = Bounded h x
+with_bounds _ s = s
 
 abbrev pub moved : Shadow → Shadow → Shadow
-moved base s = with_frame (frame_word base) s
+moved base s = with_bounds (bounds_word base) s
 
 -- a number that is cut
 abbrev pub cut : (ℕ → ℕ) → Shadow → Shadow
 cut f (Known g h) = valued (λ input. with_one (g input) (λ n. Some (f n)))
-cut f (Framed g x) = Unknown x
+cut f (Bounded g x) = Unknown x
 cut f (Unknown x) = Unknown x
 
 -- ---- bytes

@@ -2,7 +2,7 @@
 use Rattle.std.specs.Prelude.{ℕ, ◌==◌, List, [], ◌∷◌, true, false, Some, None, if◌then◌else◌}
 use Rattle.pg_num.specs.declared.width.Width.TheVariants.{W1, W32, W64}
 use Rattle.pg_num.specs.declared.operations.Compare.TheVariants as compares
-use Rattle.pg_ir.specs.declared.known.Known.TheVariants as known
+use Rattle.pg_ir.specs.declared.library_call.LibraryCall.TheVariants as known
 use Rattle.pg_ir.specs.declared.value.Scalar.TheVariants.{Int, Ptr}
 use Rattle.pg_ir.specs.declared.value.Scale.TheVariants.{Times}
 use Rattle.pg_ir.specs.declared.value.Value.TheVariants as value
@@ -53,22 +53,22 @@ summed_program = record {
       ∷ (record { op = op.Store W64 (value.Const 0) (value.Register 2); block = (record { 0 = 0 }); result = None })
       ∷ (record { op = op.Br (record { 0 = 1 }); block = (record { 0 = 0 }); result = None })
       ∷ (record { op = op.Load W64 (value.Register 2); block = (record { 0 = 1 }); result = (Some 3) })
-      ∷ (record { op = op.CallKnown known.PgInLen ([]); block = (record { 0 = 1 }); result = (Some 4) })
+      ∷ (record { op = op.CallLibrary known.PgInLen ([]); block = (record { 0 = 1 }); result = (Some 4) })
       ∷ (record { op = op.Compare compares.Slt W64 (value.Register 3) (value.Register 4); block = (record { 0 = 1 }); result = (Some 5) })
       ∷ (record { op = op.CondBr (value.Register 5) (record { 0 = 2 }) (record { 0 = 3 }); block = (record { 0 = 1 }); result = None })
-      ∷ (record { op = op.CallKnown known.PgIn ((value.Register 3) ∷ []); block = (record { 0 = 2 }); result = (Some 6) })
+      ∷ (record { op = op.CallLibrary known.PgIn ((value.Register 3) ∷ []); block = (record { 0 = 2 }); result = (Some 6) })
       ∷ (record { op = op.Load W64 (value.Register 1); block = (record { 0 = 2 }); result = (Some 7) })
       ∷ (record { op = op.Add W64 (value.Register 7) (value.Register 6); block = (record { 0 = 2 }); result = (Some 8) })
       ∷ (record { op = op.Store W64 (value.Register 8) (value.Register 1); block = (record { 0 = 2 }); result = None })
       ∷ (record { op = op.Add W64 (value.Register 3) (value.Const 1); block = (record { 0 = 2 }); result = (Some 9) })
       ∷ (record { op = op.Store W64 (value.Register 9) (value.Register 2); block = (record { 0 = 2 }); result = None })
       ∷ (record { op = op.Br (record { 0 = 1 }); block = (record { 0 = 2 }); result = None })
-      ∷ (record { op = op.CallKnown known.PthreadMutexLock ((value.Global 1) ∷ []); block = (record { 0 = 3 }); result = (Some 10) })
+      ∷ (record { op = op.CallLibrary known.PthreadMutexLock ((value.Global 1) ∷ []); block = (record { 0 = 3 }); result = (Some 10) })
       ∷ (record { op = op.Load W64 (value.Global 0); block = (record { 0 = 3 }); result = (Some 11) })
       ∷ (record { op = op.Load W64 (value.Register 1); block = (record { 0 = 3 }); result = (Some 12) })
       ∷ (record { op = op.Add W64 (value.Register 11) (value.Register 12); block = (record { 0 = 3 }); result = (Some 13) })
       ∷ (record { op = op.Store W64 (value.Register 13) (value.Global 0); block = (record { 0 = 3 }); result = None })
-      ∷ (record { op = op.CallKnown known.PthreadMutexUnlock ((value.Global 1) ∷ []); block = (record { 0 = 3 }); result = (Some 14) })
+      ∷ (record { op = op.CallLibrary known.PthreadMutexUnlock ((value.Global 1) ∷ []); block = (record { 0 = 3 }); result = (Some 14) })
       ∷ (record { op = op.Ret (Some (value.Const 0)); block = (record { 0 = 3 }); result = None })
       ∷ (record {
         op = op.Gep (value.Global 2) ((record { value = (value.Const 0); width = W64; scale = Times 16 }) ∷
@@ -76,14 +76,14 @@ summed_program = record {
         block = (record { 0 = 4 });
         result = (Some 0);
       })
-      ∷ (record { op = op.CallKnown known.PthreadCreate ((value.Global 2) ∷ (value.Const 0) ∷ (value.Function 0) ∷ (value.Const 0) ∷ []); block = (record { 0 = 4 }); result = (Some 1) })
-      ∷ (record { op = op.CallKnown known.PthreadCreate ((value.Register 0) ∷ (value.Const 0) ∷ (value.Function 0) ∷ (value.Const 0) ∷ []); block = (record { 0 = 4 }); result = (Some 2) })
+      ∷ (record { op = op.CallLibrary known.PthreadCreate ((value.Global 2) ∷ (value.Const 0) ∷ (value.Function 0) ∷ (value.Const 0) ∷ []); block = (record { 0 = 4 }); result = (Some 1) })
+      ∷ (record { op = op.CallLibrary known.PthreadCreate ((value.Register 0) ∷ (value.Const 0) ∷ (value.Function 0) ∷ (value.Const 0) ∷ []); block = (record { 0 = 4 }); result = (Some 2) })
       ∷ (record { op = op.Load W64 (value.Global 2); block = (record { 0 = 4 }); result = (Some 3) })
       ∷ (record { op = op.Load W64 (value.Register 0); block = (record { 0 = 4 }); result = (Some 4) })
-      ∷ (record { op = op.CallKnown known.PthreadJoin ((value.Register 3) ∷ (value.Const 0) ∷ []); block = (record { 0 = 4 }); result = (Some 5) })
-      ∷ (record { op = op.CallKnown known.PthreadJoin ((value.Register 4) ∷ (value.Const 0) ∷ []); block = (record { 0 = 4 }); result = (Some 6) })
+      ∷ (record { op = op.CallLibrary known.PthreadJoin ((value.Register 3) ∷ (value.Const 0) ∷ []); block = (record { 0 = 4 }); result = (Some 5) })
+      ∷ (record { op = op.CallLibrary known.PthreadJoin ((value.Register 4) ∷ (value.Const 0) ∷ []); block = (record { 0 = 4 }); result = (Some 6) })
       ∷ (record { op = op.Load W64 (value.Global 0); block = (record { 0 = 4 }); result = (Some 7) })
-      ∷ (record { op = op.CallKnown known.PgOut ((value.Register 7) ∷ []); block = (record { 0 = 4 }); result = None })
+      ∷ (record { op = op.CallLibrary known.PgOut ((value.Register 7) ∷ []); block = (record { 0 = 4 }); result = None })
       ∷ (record { op = op.Ret (Some (value.Const 0)); block = (record { 0 = 4 }); result = None })
       ∷ [];
   globals =

@@ -19,9 +19,9 @@ pub fn a_root_is_chosen_by_a_branch()
     ensures other { admits rooted (taken (3 ∷ []) []) (pos 1 ∷ pos 0 ∷ []) ≡ false }
 {}
 
-/// A pointer that a quotient of the input moves has its base's frame, also on an input on which the quotient is undefined:
+/// A pointer that a quotient of the input moves has its base's bounds, also on an input on which the quotient is undefined:
 /// that input is admitted, but where the store's address is asked for.
-pub fn an_undefined_offset_keeps_the_frame()
+pub fn an_undefined_offset_keeps_the_bounds()
     ensures none { asks offset (taken [] []) ≡ [] }
     ensures other { admits offset (taken [] []) (pos 3 ∷ []) ≡ true }
     ensures undefined { admits offset (taken [] []) (pos 0 ∷ []) ≡ true }

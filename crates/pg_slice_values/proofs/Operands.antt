@@ -14,21 +14,21 @@ use Rattle.pg_slice_values.specs.Forms.{node_at, numbers_from}
 pub all_blamed : (ns : NodeList) (ss : List Source) (x : Decision) (H : (List ℤ → List (Option ℕ)) → Shadow) → blamed ss ≡ Some x → from_all (map (shadow_by ns) ss) H ≡ Unknown x
 all_blamed ns [] x H e = absurd cc
 all_blamed ns (source.Known k j ∷ ss) x H e = all_blamed ns ss x (λ gs. H (λ input. number_by ns k input ∷ gs input)) e
-all_blamed ns (source.Framed k y ∷ ss) x H e = let h : y ≡ x = cc in ap (λ z. Unknown z) h
+all_blamed ns (source.Bounded k y ∷ ss) x H e = let h : y ≡ x = cc in ap (λ z. Unknown z) h
 all_blamed ns (source.Unknown y ∷ ss) x H e = let h : y ≡ x = cc in ap (λ z. Unknown z) h
 
 -- where all are known, their numbers are those of their nodes
 pub all_known : (ns : NodeList) (ss : List Source) (H : (List ℤ → List (Option ℕ)) → Shadow) → blamed ss ≡ None → from_all (map (shadow_by ns) ss) H ≡ H (numbers_from ns ss)
 all_known ns [] H e = refl
 all_known ns (source.Known k j ∷ ss) H e = all_known ns ss (λ gs. H (λ input. number_by ns k input ∷ gs input)) e
-all_known ns (source.Framed k y ∷ ss) H e = absurd cc
+all_known ns (source.Bounded k y ∷ ss) H e = absurd cc
 all_known ns (source.Unknown y ∷ ss) H e = absurd cc
 
 pub known_below : (n : ℕ) (ss : List Source) (i : ℕ) → blamed ss ≡ None → AllByRecursion (IsSource n) ss → i < length ss → node_at ss i < n
 known_below n [] i e a h = absurd (omega arith)
 known_below n (source.Known k j ∷ ss) zero e a h = a.0.0
 known_below n (source.Known k j ∷ ss) (suc i) e a h = known_below n ss i e a.1 (omega arith)
-known_below n (source.Framed k y ∷ ss) i e a h = absurd cc
+known_below n (source.Bounded k y ∷ ss) i e a h = absurd cc
 known_below n (source.Unknown y ∷ ss) i e a h = absurd cc
 
 -- the number of an operand is that of its node

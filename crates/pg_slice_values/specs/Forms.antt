@@ -70,7 +70,7 @@ CastFits _ = Unit {0}
 
 abbrev pub node_of : Source → ℕ
 node_of (source.Known k j) = k
-node_of (source.Framed k x) = k
+node_of (source.Bounded k x) = k
 node_of (source.Unknown x) = 0
 
 abbrev pub node_in : Option Source → ℕ

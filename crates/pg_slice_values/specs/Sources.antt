@@ -3,7 +3,7 @@ use Rattle.std.specs.Prelude.{◌≡◌, ℕ, ◌<◌, ◌++◌, List, [], ◌�
 use Rattle.pg_precondition.specs.Nodes.{NodeList}
 use Rattle.pg_precondition.specs.Values.{number_of, numbers_of}
 use Rattle.pg_slice_rules.specs.declared.decision.Decision.{Decision}
-use Rattle.pg_slice_rules.specs.Shadows.{OnInput, Shadow, Known, Framed, Unknown}
+use Rattle.pg_slice_rules.specs.Shadows.{OnInput, Shadow, Known, Bounded, Unknown}
 use Rattle.pg_slice_values.specs.declared.source.Source.{Source}
 use Rattle.pg_slice_values.specs.declared.source.Source.TheVariants as source
 
@@ -17,13 +17,13 @@ number_by ns k = λ input. number_of (numbers_of input ns) k
 -- what is known of a value, where the nodes are these
 abbrev pub shadow_by : NodeList → Source → Shadow
 shadow_by ns (source.Known k j) = Known (number_by ns k) (number_by ns j)
-shadow_by ns (source.Framed k x) = Framed (number_by ns k) x
+shadow_by ns (source.Bounded k x) = Bounded (number_by ns k) x
 shadow_by ns (source.Unknown x) = Unknown x
 
 -- the source's nodes are among the first n
 abbrev pub IsSource : ℕ → Source → Type 0
 IsSource n (source.Known k j) = (k < n) × (j < n)
-IsSource n (source.Framed k x) = k < n
+IsSource n (source.Bounded k x) = k < n
 IsSource n (source.Unknown x) = Unit {0}
 
 -- the new nodes are the old ones with more behind
@@ -37,5 +37,5 @@ pub record Grew (old new : NodeList) : Type 0 where
 abbrev pub blamed : List Source → Option Decision
 blamed [] = None
 blamed (source.Known k j ∷ ss) = blamed ss
-blamed (source.Framed k x ∷ ss) = Some x
+blamed (source.Bounded k x ∷ ss) = Some x
 blamed (source.Unknown x ∷ ss) = Some x

@@ -49,7 +49,7 @@ pub(crate) fn blamed(operands: &[Source]) -> Option<Decision>
     for operand in operands {
         match operand {
             Source::Known { .. } => {}
-            Source::Framed(_, by) | Source::Unknown(by) => return Some(*by),
+            Source::Bounded(_, by) | Source::Unknown(by) => return Some(*by),
         }
     }
     None
@@ -60,7 +60,7 @@ pub(crate) fn node_at(operands: &[Source], i: usize) -> u32
     ensures { result ≡ forms.node_at operands.now i }
 {
     match operands.get(i) {
-        Some(Source::Known { value: node, .. } | Source::Framed(node, _)) => *node,
+        Some(Source::Known { value: node, .. } | Source::Bounded(node, _)) => *node,
         _ => 0,
     }
 }

@@ -35,6 +35,6 @@ pub(crate) fn known(nodes: &mut Nodes, node: Node) -> Result<Source, AllocError>
     let number = added(nodes, node)?;
     Ok(Source::Known {
         value: number,
-        frame: number,
+        bounds: number,
     })
 }

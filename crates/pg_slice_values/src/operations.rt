@@ -42,7 +42,7 @@ pub fn operation(nodes: &mut Nodes, op: &Op, operands: &[Source]) -> Result<Sour
             let word = moved_along(nodes, indices.as_slice(), operands)?;
             Ok(Source::Known {
                 value: word,
-                frame: word,
+                bounds: word,
             })
         }
         _ => unreachable!(),

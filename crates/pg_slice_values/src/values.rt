@@ -126,7 +126,7 @@ pub fn within(nodes: &mut Nodes, w: Width, s: Source) -> Result<Source, AllocErr
                 of,
             },
         ),
-        Source::Framed(_, by) | Source::Unknown(by) => Ok(Source::Unknown(by)),
+        Source::Bounded(_, by) | Source::Unknown(by) => Ok(Source::Unknown(by)),
     }
 }
 
@@ -157,23 +157,23 @@ pub fn offset(nodes: &mut Nodes, k: u64, s: Source) -> Result<Source, AllocError
     ensures value { IfOk result (λ r. shadow_by nodes.new r ≡ moved_shadow k (shadow_by nodes.old s)) }
 {
     match s {
-        Source::Known { value, frame } => moved_word(nodes, k, value, frame),
-        Source::Framed(..) | Source::Unknown(_) => Ok(s),
+        Source::Known { value, bounds } => moved_word(nodes, k, value, bounds),
+        Source::Bounded(..) | Source::Unknown(_) => Ok(s),
     }
 }
 
-/// The value of a node's word, moved by so many bytes, with the frame of another node's word.
+/// The value of a node's word, moved by so many bytes, with the bounds of another node's word.
 #[tactic(auto, using(crate::proofs::Grows::grew_then, crate::proofs::Grows::grew_length))]
-fn moved_word(nodes: &mut Nodes, k: u64, base: u32, frame: u32) -> Result<Source, AllocError>
+fn moved_word(nodes: &mut Nodes, k: u64, base: u32, bounds: u32) -> Result<Source, AllocError>
     requires base { base < length nodes.old }
-    requires frame { frame < length nodes.old }
+    requires bounds { bounds < length nodes.old }
     ensures grew { Grew nodes.old nodes.new }
     ensures is { IfOk result (IsSource (length nodes.new)) }
-    ensures value { IfOk result (λ r. shadow_by nodes.new r ≡ moved_shadow k (Known (number_by nodes.old base) (number_by nodes.old frame))) }
+    ensures value { IfOk result (λ r. shadow_by nodes.new r ≡ moved_shadow k (Known (number_by nodes.old base) (number_by nodes.old bounds))) }
 {
     let delta = added(nodes, Node::Const(k))?;
     let value = added(nodes, Node::Gep { base, delta })?;
-    Ok(Source::Known { value, frame })
+    Ok(Source::Known { value, bounds })
 }
 
 /// The input's number at an index, which is read with its sign; 0 outside of the input.
@@ -190,7 +190,7 @@ pub fn from_input(nodes: &mut Nodes, s: Source) -> Result<Source, AllocError>
 {
     match s {
         Source::Known { value: index, .. } => known(nodes, Node::In(index)),
-        Source::Framed(_, by) | Source::Unknown(by) => Ok(Source::Unknown(by)),
+        Source::Bounded(_, by) | Source::Unknown(by) => Ok(Source::Unknown(by)),
     }
 }
 

@@ -1,6 +1,6 @@
 //! What an instruction of a sample does, as plain data.
 
-use pg_ir::{Known, Value};
+use pg_ir::{LibraryCall, Value};
 use pg_num::{Bits, Compare, Division, Shift, Width};
 
 /// What an instruction does: an operation of a program, with its lists as plain data. Blocks and functions are named by
@@ -42,5 +42,5 @@ pub enum Line {
     /// The pointer, and each index of 64 bits with how many bytes it steps over.
     Gep(Value, &'static [(Value, u64)]),
     /// A call of a known function.
-    Knows(Known, &'static [Value]),
+    Knows(LibraryCall, &'static [Value]),
 }

@@ -71,7 +71,7 @@ pub(crate) fn operation(alloc: Global, line: Line) -> Result<Op, AllocError> {
         }
         Line::Knows(function, args) => {
             let args = values(alloc, args)?;
-            Ok(Op::CallKnown { function, args })
+            Ok(Op::CallLibrary { function, args })
         }
         _ => Ok(without_list(line)),
     }

@@ -6,7 +6,7 @@ use crate::line::Line::{
 use crate::parts::{Body, I1, I32, I64, NULL, PTR, Parts};
 use crate::sample::Sample;
 use crate::{main_alone, thread_and_main};
-use pg_ir::Known::{
+use pg_ir::LibraryCall::{
     PgIn, PgInLen, PgOut, PthreadBarrierInit, PthreadBarrierWait, PthreadCondBroadcast,
     PthreadCondWait, PthreadCreate, PthreadJoin, PthreadMutexLock, PthreadMutexUnlock,
 };

@@ -7,7 +7,7 @@ use crate::line::Line::{
 use crate::parts::{I1, I32, I64, NULL, PTR, Parts};
 use crate::sample::Sample;
 use crate::thread_and_main;
-use pg_ir::Known::{PgIn, PgOut, PthreadCreate, PthreadJoin, Putchar};
+use pg_ir::LibraryCall::{PgIn, PgOut, PthreadCreate, PthreadJoin, Putchar};
 use pg_ir::Value::{Const, Function, Global, Register};
 use pg_num::Compare;
 use pg_num::Width::{W32, W64};

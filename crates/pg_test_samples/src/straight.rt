@@ -6,7 +6,7 @@ use crate::line::Line::{
 use crate::main_alone;
 use crate::parts::{I1, I32, I64, PTR, Parts};
 use crate::sample::Sample;
-use pg_ir::Known::{PgIn, PgOut};
+use pg_ir::LibraryCall::{PgIn, PgOut};
 use pg_ir::Value::{Const, Global, Register};
 use pg_num::Compare;
 use pg_num::Width::W64;

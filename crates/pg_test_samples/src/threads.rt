@@ -6,7 +6,7 @@ use crate::line::Line::{
 use crate::parts::{Body, I1, I32, I64, NULL, PTR, Parts};
 use crate::sample::Sample;
 use crate::thread_and_main;
-use pg_ir::Known::{PgIn, PgInLen, PgOut, PthreadCreate, PthreadJoin};
+use pg_ir::LibraryCall::{PgIn, PgInLen, PgOut, PthreadCreate, PthreadJoin};
 use pg_ir::Value::{Const, Function, Global, Register};
 use pg_num::Width::W64;
 use pg_num::{Compare, Division};

@@ -1,4 +1,4 @@
--- Prints that are added in order.
+-- Footprints that are added in order.
 use Rattle.std.proofs.Common.{ℕ, ◌≢◌, ◌+◌, ◌/◌, ◌≤◌, List, [], ◌∷◌, ◌++◌, arith}
 use Rattle.std.specs.List.{AllByRecursion}
 use Rattle.std.proofs.Math.Nat.{div-mul-le_self}

@@ -1,4 +1,4 @@
-//! Tests of conflicts of byte ranges: the two forms compared on made prints, and worked rows.
+//! Tests of conflicts of byte ranges: the two forms compared on made footprints, and worked rows.
 
 mod kind;
 mod made;

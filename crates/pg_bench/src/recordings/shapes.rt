@@ -1,7 +1,7 @@
 //! Programs whose runs are as long as it is asked: their input is how many rounds a loop has.
 ghost use Rattle.std.specs.Prelude.{◌≡◌, ◌-◌, ◌/◌};
 
-use pg_ir::Known::{PgIn, PgOut, PthreadCreate, PthreadJoin};
+use pg_ir::LibraryCall::{PgIn, PgOut, PthreadCreate, PthreadJoin};
 use pg_ir::Value::{Const, Function, Global, Register};
 use pg_num::Bits::Xor;
 use pg_num::Compare::Slt;

@@ -28,12 +28,12 @@ pub fn choices_have_these_numbers()
         (operation.Compare Slt) W64 0 1 ∷ node.Select 3 1 2 ∷ node.Select 0 1 2 ∷ []) ≡ Some 0 ∷ Some 7 ∷ None ∷ Some 1 ∷ Some 7 ∷ None ∷ [] }
 {}
 
-/// A pointer that is moved keeps its frame.
-pub fn frames_are_met()
+/// A pointer that is moved keeps its bounds.
+pub fn bounds_are_met()
     ensures moved { is_admitted (pos 5 ∷ []) (record {
       nodes = node.Const 0 ∷ node.In 0 ∷ node.Const 39582452154368 ∷ node.Gep 2 1 ∷ [];
-      checks = record { node = 3; test = test.Frame 9 16 } ∷ record { node = 3; test = test.Ne 39582452154368 } ∷ [];
+      checks = record { node = 3; test = test.Bounds 9 16 } ∷ record { node = 3; test = test.Ne 39582452154368 } ∷ [];
     }) ≡ true }
     ensures other { is_admitted (pos 5 ∷ []) (record
-        { nodes = node.Const 0 ∷ node.In 0 ∷ node.Const 39582452154368 ∷ node.Gep 2 1 ∷ []; checks = record { node = 3; test = test.Frame 9 8 } ∷ [] }) ≡ false }
+        { nodes = node.Const 0 ∷ node.In 0 ∷ node.Const 39582452154368 ∷ node.Gep 2 1 ∷ []; checks = record { node = 3; test = test.Bounds 9 8 } ∷ [] }) ≡ false }
 {}

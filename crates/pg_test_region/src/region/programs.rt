@@ -1,6 +1,6 @@
 //! Programs whose branches have regions, or none.
 
-use pg_ir::Known::PgIn;
+use pg_ir::LibraryCall::PgIn;
 use pg_ir::Value::{Const, Global, Register};
 use pg_num::Compare;
 use pg_num::Width::W64;

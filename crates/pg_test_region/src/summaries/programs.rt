@@ -1,6 +1,6 @@
 //! Programs of which some functions are quiet.
 
-use pg_ir::Known::{PgIn, PgInLen, PgOut, PthreadCreate, PthreadJoin};
+use pg_ir::LibraryCall::{PgIn, PgInLen, PgOut, PthreadCreate, PthreadJoin};
 use pg_ir::Value::{Const, Function, Global, Register};
 use pg_num::Compare;
 use pg_num::Width::W64;

@@ -1,8 +1,8 @@
-//! How the prints of a test are made.
+//! How the footprints of a test are made.
 
 ghost use Rattle.std.specs.Prelude.{◌<◌};
 
-/// How prints are made: of how many threads, among how many bytes, and how long they and their intervals are.
+/// How footprints are made: of how many threads, among how many bytes, and how long they and their intervals are.
 #[derive(Clone, Copy)]
 pub(crate) struct Kind {
     pub(crate) threads: u64,

@@ -1,4 +1,4 @@
-//! Prints that a generator makes, on which both forms agree.
+//! Footprints that a generator makes, on which both forms agree.
 
 ghost use Rattle.std.specs.Prelude.{◌≡◌, ◌<◌, ◌≤◌, IfOk};
 ghost use Rattle.pg_slice_conflicts.specs.Meets.{InOrder};
@@ -24,7 +24,7 @@ fn below(state: u64, bound: u64) -> u64
     (state >> 20) % bound
 }
 
-/// A print whose last turn is this one.
+/// A footprint whose last turn is this one.
 fn made(kind: Kind, low: u32, state: u64) -> Footprint
     ensures low { result.low ≡ low }
     ensures high { low ≤ result.high }
@@ -45,38 +45,38 @@ fn made(kind: Kind, low: u32, state: u64) -> Footprint
     }
 }
 
-/// So many prints in order.
-fn prints(alloc: Global, kind: Kind, count: u32) -> Result<Vec<Footprint>, AllocError>
+/// So many footprints in order.
+fn footprints(alloc: Global, kind: Kind, count: u32) -> Result<Vec<Footprint>, AllocError>
     ensures { IfOk result (λ v. InOrder v.items) }
 {
-    let mut prints = Vec::new(alloc);
+    let mut footprints = Vec::new(alloc);
     let mut state = 7;
     for k in 0..count {
         state = next(state);
-        prints.push(made(kind, k, state))?;
+        footprints.push(made(kind, k, state))?;
     }
-    Ok(prints)
+    Ok(footprints)
 }
 
-/// So many prints in order, eight at a turn, of which three at most are different.
+/// So many footprints in order, eight at a turn, of which three at most are different.
 fn repeated(alloc: Global, kind: Kind, count: u32) -> Result<Vec<Footprint>, AllocError>
     ensures { IfOk result (λ v. InOrder v.items) }
 {
-    let mut prints = Vec::new(alloc);
+    let mut footprints = Vec::new(alloc);
     for k in 0..count {
         let turn = k / 8;
         let state = next(3 * u64::from(turn) + u64::from(k % 3));
-        prints.push(made(kind, turn, next(state)))?;
+        footprints.push(made(kind, turn, next(state)))?;
     }
-    Ok(prints)
+    Ok(footprints)
 }
 
-/// How many of the answers on these prints are set, which both forms give alike.
-fn agree(rt: &impl Abort, alloc: Global, prints: &[Footprint]) -> Result<usize, Fail>
-    requires { InOrder prints.now }
+/// How many of the answers on these footprints are set, which both forms give alike.
+fn agree(rt: &impl Abort, alloc: Global, footprints: &[Footprint]) -> Result<usize, Fail>
+    requires { InOrder footprints.now }
 {
-    let fast = conflicts(alloc, prints)?;
-    let plain = conflicts_by_pairs(alloc, prints)?;
+    let fast = conflicts(alloc, footprints)?;
+    let plain = conflicts_by_pairs(alloc, footprints)?;
     assert_eq!(rt; fast.as_slice(), plain.as_slice());
     Ok(plain.as_slice().iter().filter(|b| **b).count())
 }
@@ -89,8 +89,8 @@ fn both_forms_agree_on_short_ranges(rt: HostRuntime) -> Result<(), Fail> {
         length: 9,
         turns: 120,
     };
-    let prints = prints(rt.alloc(), kind, 700)?;
-    let met = agree(&rt, rt.alloc(), prints.as_slice())?;
+    let footprints = footprints(rt.alloc(), kind, 700)?;
+    let met = agree(&rt, rt.alloc(), footprints.as_slice())?;
     assert_eq!(rt; met, 223);
     Ok(())
 }
@@ -103,22 +103,22 @@ fn both_forms_agree_on_long_ranges(rt: HostRuntime) -> Result<(), Fail> {
         length: 1 << 38,
         turns: 9,
     };
-    let prints = prints(rt.alloc(), kind, 500)?;
-    let met = agree(&rt, rt.alloc(), prints.as_slice())?;
+    let footprints = footprints(rt.alloc(), kind, 500)?;
+    let met = agree(&rt, rt.alloc(), footprints.as_slice())?;
     assert_eq!(rt; met, 207);
     Ok(())
 }
 
 #[test]
-fn both_forms_agree_on_repeated_prints(rt: HostRuntime) -> Result<(), Fail> {
+fn both_forms_agree_on_repeated_footprints(rt: HostRuntime) -> Result<(), Fail> {
     let kind = Kind {
         threads: 4,
         bytes: 900,
         length: 12,
         turns: 15,
     };
-    let prints = repeated(rt.alloc(), kind, 900)?;
-    let met = agree(&rt, rt.alloc(), prints.as_slice())?;
+    let footprints = repeated(rt.alloc(), kind, 900)?;
+    let met = agree(&rt, rt.alloc(), footprints.as_slice())?;
     assert_eq!(rt; met, 435);
     Ok(())
 }

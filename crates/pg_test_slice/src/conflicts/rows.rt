@@ -1,4 +1,4 @@
-//! Worked rows: each print beside whether it conflicts with one that it minds.
+//! Worked rows: each footprint beside whether it conflicts with one that it minds.
 
 use pg_ir::ThreadNo;
 use pg_slice_conflicts::{Footprint, conflicts_by_pairs};
@@ -19,8 +19,8 @@ fn write(thread: u8, low: u32, high: u32, start: u64) -> Footprint {
 
 #[test]
 fn writes_of_two_threads_meet(rt: HostRuntime) -> Result<(), Fail> {
-    let prints = [write(0, 0, 5, 16), write(1, 0, 5, 20), write(1, 0, 5, 24)];
-    let met = conflicts_by_pairs(rt.alloc(), &prints)?;
+    let footprints = [write(0, 0, 5, 16), write(1, 0, 5, 20), write(1, 0, 5, 24)];
+    let met = conflicts_by_pairs(rt.alloc(), &footprints)?;
     assert_eq!(rt; met.as_slice(), [true, true, false].as_slice());
     Ok(())
 }
@@ -41,11 +41,11 @@ fn reads_do_not_meet(rt: HostRuntime) -> Result<(), Fail> {
 
 #[test]
 fn what_a_turn_orders_does_not_meet(rt: HostRuntime) -> Result<(), Fail> {
-    let prints = [write(0, 0, 2, 16), write(1, 3, 5, 16)];
-    let met = conflicts_by_pairs(rt.alloc(), &prints)?;
+    let footprints = [write(0, 0, 2, 16), write(1, 3, 5, 16)];
+    let met = conflicts_by_pairs(rt.alloc(), &footprints)?;
     assert_eq!(rt; met.as_slice(), [false, false].as_slice());
-    let prints = [write(0, 0, 2, 16), write(1, 2, 5, 16)];
-    let met = conflicts_by_pairs(rt.alloc(), &prints)?;
+    let footprints = [write(0, 0, 2, 16), write(1, 2, 5, 16)];
+    let met = conflicts_by_pairs(rt.alloc(), &footprints)?;
     assert_eq!(rt; met.as_slice(), [true, true].as_slice());
     Ok(())
 }

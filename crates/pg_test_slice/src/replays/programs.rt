@@ -1,6 +1,6 @@
 //! Programs with calls, and with regions whose paths load.
 
-use pg_ir::Known::{PgIn, PgOut};
+use pg_ir::LibraryCall::{PgIn, PgOut};
 use pg_ir::Value::{Const, Global, Register};
 use pg_num::Width::{W1, W64};
 use pg_test_samples::Line::{Add, Branch, BranchIf, Call, Knows, Load, Return, Store, Trunc};

@@ -1,4 +1,4 @@
-use Rattle.pg_num.proofs.Accesses.{place_of-is_place, place_of-in_granule, place_of-bytes, place_of-start, place_of-in_frame}
+use Rattle.pg_num.proofs.Accesses.{place_of-is_place, place_of-in_granule, place_of-bytes, place_of-start, place_of-in_bounds}
 use Rattle.pg_num.proofs.laws.an_access_is_in_one_granule.Goals as goal
 
 pub returns-clause-place : goal.returns-clause-place
@@ -13,5 +13,5 @@ returns-clause-bytes c = place_of-bytes
 pub returns-clause-start : goal.returns-clause-start
 returns-clause-start c = place_of-start
 
-pub returns-clause-frame : goal.returns-clause-frame
-returns-clause-frame c = place_of-in_frame
+pub returns-clause-bounds : goal.returns-clause-bounds
+returns-clause-bounds c = place_of-in_bounds

@@ -1,6 +1,6 @@
 use Rattle.std.proofs.Common.{◌≡◌, drop}
 use Rattle.pg_region_accesses.specs.declared.rooted.Rooted.{Rooted}
-use Rattle.pg_region_paths.specs.Known.{path_in}
+use Rattle.pg_region_paths.specs.RootPaths.{path_in}
 use Rattle.pg_region_accesses.specs.Accesses.{gathered, called_access}
 use Rattle.pg_region_accesses.specs.Appends.{behind}
 use Rattle.pg_region_accesses.proofs.access.push_each_called.Given as goal

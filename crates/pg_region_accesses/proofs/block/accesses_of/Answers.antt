@@ -1,5 +1,5 @@
 use Rattle.std.proofs.Common.{None, Some, sym, arith}
-use Rattle.pg_region_paths.specs.Known.{set_in}
+use Rattle.pg_region_paths.specs.RootPaths.{set_in}
 use Rattle.pg_region_accesses.specs.Accesses.{block_accesses, summary_of}
 use Rattle.pg_region_accesses.specs.Tables.{in_table}
 use Rattle.pg_region_accesses.proofs.Gathers.{stops_at, ends_at}

@@ -1,5 +1,5 @@
 use Rattle.std.proofs.Common.{◌≡◌, drop, []}
-use Rattle.pg_region_paths.specs.Known.{set_in, count_in}
+use Rattle.pg_region_paths.specs.RootPaths.{set_in, count_in}
 use Rattle.pg_region_accesses.specs.Accesses.{gathered, block_accesses, summary_of}
 use Rattle.pg_region_accesses.specs.Appends.{behind}
 use Rattle.pg_region_accesses.specs.Tables.{in_table}

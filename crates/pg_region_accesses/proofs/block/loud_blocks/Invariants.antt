@@ -1,5 +1,5 @@
 use Rattle.std.proofs.Common.{◌≡◌, ℕ, ◌<◌, Bool, true, false, length, Some, None}
-use Rattle.pg_region_paths.specs.Known.{count_in}
+use Rattle.pg_region_paths.specs.RootPaths.{count_in}
 use Rattle.pg_region_accesses.specs.Accesses.{RootedList, block_accesses, summary_of}
 use Rattle.pg_region_accesses.specs.Tables.{in_table}
 use Rattle.pg_region_accesses.proofs.block.loud_blocks.Given as goal

@@ -30,8 +30,8 @@ loop-i-preserved c =
 pub returns-clause-adds : goal.returns-clause-adds
 returns-clause-adds c = λ ns cells k cut.
     let v = c.loop-i.invariant in
-    v.3 ns cells c.need_frame.new.self k cut
-    (subst (λ l. Adds ns l c.loop-i.asked c.need_frame.new.self)
+    v.3 ns cells c.need_bounds.new.self k cut
+    (subst (λ l. Adds ns l c.loop-i.asked c.need_bounds.new.self)
     (sym (path_ends (shadows_of c.args.p.now ns c.args.memory.now) (shadow_by ns c.loop-i.s) c.args.offsets.now c.args.pointers.now cells c.args.last c.loop-i.i
     (omega (arith, c.loop-i-test.false))))
-    (c.in_ok-need_frame.ensures ns (source_more (length c.loop-i.nodes) (length ns) c.loop-i.s (grew_length c.loop-i.nodes ns k) v.1)))
+    (c.in_ok-need_bounds.ensures ns (source_more (length c.loop-i.nodes) (length ns) c.loop-i.s (grew_length c.loop-i.nodes ns k) v.1)))

@@ -24,4 +24,4 @@ returns c =
     ∙ ap (or_each (before_by (answers_along false) [] zs))
     (c.as_slice-3.ensures.value ∙ c.reverse-2.ensures.items ∙ ap reverse
     (c.in_ok-behind.ensures ∙ ap (before_by (answers_along true) []) (c.as_slice-2.ensures.value ∙ c.reverse.ensures.items)))
-    ∙ all_answered c.args.prints.now zs c.in_ok-placed.ensures c.requires
+    ∙ all_answered c.args.footprints.now zs c.in_ok-placed.ensures c.requires

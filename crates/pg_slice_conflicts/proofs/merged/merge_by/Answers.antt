@@ -11,13 +11,13 @@ loop-i-init c =
 
 pub loop-i-preserved : goal.loop-i-preserved
 loop-i-preserved c =
-    let prints = c.args.prints.now in
+    let footprints = c.args.footprints.now in
     let i = c.loop-i.i in
     let kept = c.loop-i.kept.items in
     let numbers = c.loop-i.numbers.items in
     let more = c.number_of.new.kept.items in
     let k = c.in_ok-number.number in
-    let x = c.print_at-print.result in
-    subst (IsMerged (take (i + 1) prints) more) (sym c.in_ok-push.ensures.items)
-    (subst (λ l. IsMerged l more (numbers ++ k ∷ [])) (sym (take_get prints i x c.print_at-print.ensures))
-    (merged_more (take i prints) kept more numbers k x (nat_lt k (length kept)) c.loop-i.invariant c.in_ok-number.ensures.number c.in_ok-number.ensures.kept))
+    let x = c.footprint_at-footprint.result in
+    subst (IsMerged (take (i + 1) footprints) more) (sym c.in_ok-push.ensures.items)
+    (subst (λ l. IsMerged l more (numbers ++ k ∷ [])) (sym (take_get footprints i x c.footprint_at-footprint.ensures))
+    (merged_more (take i footprints) kept more numbers k x (nat_lt k (length kept)) c.loop-i.invariant c.in_ok-number.ensures.number c.in_ok-number.ensures.kept))

@@ -3,4 +3,4 @@ use Rattle.pg_slice_conflicts.specs.Merged.{IsMerged}
 use Rattle.pg_slice_conflicts.proofs.merged.merge_by.Given as goal
 
 abbrev pub invariant-loop-i : goal.invariant-loop-i
-invariant-loop-i l = IsMerged (take l.i l.prints) l.kept.items l.numbers.items
+invariant-loop-i l = IsMerged (take l.i l.footprints) l.kept.items l.numbers.items

@@ -6,4 +6,4 @@ use Rattle.pg_slice_conflicts.proofs.pairs.conflicts_by_pairs.Goals as goal
 pub loop-i-preserved : goal.loop-i-preserved
 loop-i-preserved c =
     c.in_ok-push.ensures.items ∙ ap (λ b. c.loop-i.met.items ++ b ∷ []) c.is_met.ensures
-    ∙ mapped_more (is_met c.args.prints.now) c.args.prints.now c.loop-i.i c.print_at.result c.loop-i.met.items c.print_at.ensures c.loop-i.invariant
+    ∙ mapped_more (is_met c.args.footprints.now) c.args.footprints.now c.loop-i.i c.footprint_at.result c.loop-i.met.items c.footprint_at.ensures c.loop-i.invariant

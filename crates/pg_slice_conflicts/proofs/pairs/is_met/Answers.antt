@@ -5,7 +5,7 @@ use Rattle.pg_slice_conflicts.proofs.Walk.{any_more}
 use Rattle.pg_slice_conflicts.proofs.pairs.is_met.Goals as goal
 
 pub returns-then-meets : goal.returns-then-meets
-returns-then-meets c = sym (any_passes_from_place (meets c.args.x.now) c.args.prints.now c.loop-j.j c.print_at.result c.print_at.ensures (sym c.meets.ensures ∙ c.if-meets.true))
+returns-then-meets c = sym (any_passes_from_place (meets c.args.x.now) c.args.footprints.now c.loop-j.j c.footprint_at.result c.footprint_at.ensures (sym c.meets.ensures ∙ c.if-meets.true))
 
 pub loop-j-preserved : goal.loop-j-preserved
-loop-j-preserved c = any_more (meets c.args.x.now) c.args.prints.now c.loop-j.j c.print_at.result c.print_at.ensures c.loop-j.invariant (sym c.meets.ensures ∙ c.if-meets.false)
+loop-j-preserved c = any_more (meets c.args.x.now) c.args.footprints.now c.loop-j.j c.footprint_at.result c.footprint_at.ensures c.loop-j.invariant (sym c.meets.ensures ∙ c.if-meets.false)

@@ -4,4 +4,4 @@ use Rattle.pg_slice_conflicts.specs.Meets.{meets}
 use Rattle.pg_slice_conflicts.proofs.pairs.is_met.Given as goal
 
 abbrev pub invariant-loop-j : goal.invariant-loop-j
-invariant-loop-j l = list_any (meets l.x) (take l.j l.prints) ≡ false
+invariant-loop-j l = list_any (meets l.x) (take l.j l.footprints) ≡ false

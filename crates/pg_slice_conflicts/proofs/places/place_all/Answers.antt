@@ -7,7 +7,8 @@ use Rattle.pg_slice_conflicts.proofs.places.place_all.Goals as goal
 pub returns : goal.returns
 returns c = record {
   bytes = c.as_slice.result.now;
-  as_many = ap length c.as_slice.ensures.value ∙ length_permutation (map start_of c.args.prints.now) c.in_ok-bytes.bytes.items c.in_ok-bytes.ensures.same ∙ length-map c.args.prints.now start_of;
+  as_many = ap length c.as_slice.ensures.value ∙ length_permutation (map start_of c.args.footprints.now) c.in_ok-bytes.bytes.items c.in_ok-bytes.ensures.same
+      ∙ length-map c.args.footprints.now start_of;
   each = c.in_ok-placed.ensures.placed;
-  same = c.in_ok-placed.ensures.prints;
+  same = c.in_ok-placed.ensures.footprints;
 }

@@ -8,7 +8,7 @@ use Rattle.pg_slice_values.proofs.Grows.{grew_length}
 use Rattle.pg_slice_memory.specs.Changes.{shadows_of}
 use Rattle.pg_slice_memory.proofs.Grows.{names_more}
 use Rattle.pg_slice_registers.specs.Sourced.{registers_by}
-use Rattle.pg_slice_passes.proofs.Bytes.{frame_spoiled, number_stored}
+use Rattle.pg_slice_passes.proofs.Bytes.{bounds_spoiled, number_stored}
 use Rattle.pg_slice_passes.proofs.memory.store.Goals as goal
 
 pub returns-in_ok-s-clause-is : goal.returns-in_ok-s-clause-is
@@ -41,6 +41,6 @@ returns-else-known-clause-value c w at b =
     let a = c.args.a in
     let rs = registers_by old c.args.registers.now in
     on_ok_weaker c.spoil.result (λ f.
-    ap (λ (g : ℕ → _). g b) (frame_spoiled p old c.args.memory.now c.spoil.new.self c.frame-f.result.start c.frame-f.result.bytes a.pointer (Exact c.args.n)
-    (f p old) c.frame-f.ensures.start c.frame-f.ensures.bytes)
+    ap (λ (g : ℕ → _). g b) (bounds_spoiled p old c.args.memory.now c.spoil.new.self c.bounds-f.result.start c.bounds-f.result.bytes a.pointer (Exact c.args.n)
+    (f p old) c.bounds-f.ensures.start c.bounds-f.ensures.bytes)
     ∙ sym (ap (λ (k : Bool). bytes_stored p k c.args.n a rs (op.Store w c.args.v at) (shadows_of p old c.args.memory.now) b) c.if-known.false)) c.spoil.ensures.shadow

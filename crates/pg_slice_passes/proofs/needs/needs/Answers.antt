@@ -21,7 +21,7 @@ use Rattle.pg_slice_passes.specs.Along.{needs_at, own_asks}
 use Rattle.pg_slice_passes.specs.Passes.{IsAt}
 use Rattle.pg_slice_passes.specs.State.{sources_in}
 use Rattle.pg_slice_passes.proofs.Passing.{named_more}
-use Rattle.pg_slice_passes.proofs.Printing.{is_there, none_added}
+use Rattle.pg_slice_passes.proofs.RegionFootprints.{is_there, none_added}
 use Rattle.pg_slice_passes.proofs.Reading.{checks_at, checks_dead, live_adds, live_is, named_by, nothing_own, own_live, region_of_it, sources_at, told_at}
 use Rattle.pg_slice_passes.proofs.needs.needs.Goals as goal
 

@@ -14,7 +14,7 @@ use Rattle.pg_slice_registers.proofs.Kept.{sources_kept}
 use Rattle.pg_slice_values.specs.Sources.{Grew}
 use Rattle.pg_slice_values.proofs.Grows.{grew_length, grew_none, grew_then}
 use Rattle.pg_slice_passes.proofs.Adding.{access_more, access_there, accesses_end, at_none, at_some, no_region_adds, region_adds, said_of}
-use Rattle.pg_slice_passes.proofs.Printing.{is_there}
+use Rattle.pg_slice_passes.proofs.RegionFootprints.{is_there}
 use Rattle.pg_slice_passes.proofs.needs.region_needs.Goals as goal
 
 pub returns-then-not-is_free-clause-adds : goal.returns-then-not-is_free-clause-adds

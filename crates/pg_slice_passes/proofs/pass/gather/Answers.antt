@@ -10,14 +10,14 @@ use Rattle.pg_slice_passes.proofs.pass.gather.Goals as goal
 
 pub loop-n-init : goal.loop-n-init
 loop-n-init c =
-    let g : Gathered = record { sources = c.in_ok-sources.sources; asked = c.new.result; prints = c.new-2.result } in
+    let g : Gathered = record { sources = c.in_ok-sources.sources; asked = c.new.result; footprints = c.new-2.result } in
     let ns = c.start.new.nodes in (
       c.in_ok-sources.ensures.is,
-      earlier_none c.args.run.now.t.now.steps c.new-2.result c.new-2.ensures.prints c.new-2.ensures.owners,
+      earlier_none c.args.run.now.t.now.steps c.new-2.result c.new-2.ensures.footprints c.new-2.ensures.owners,
       none_named (length ns) c.new.result.checks.items c.new.ensures.checks,
       λ regions gated input marks.
           passed_none (reference_of c.args.run.now.p.now regions gated input c.args.run.now.t.now.steps) (taken_by c.args.d.now) ns g
-          (c.in_ok-sources.ensures.knows (taken_by c.args.d.now).pinned) c.new.ensures.missing c.new.ensures.checks c.new-2.ensures.prints c.new-2.ensures.owners,
+          (c.in_ok-sources.ensures.knows (taken_by c.args.d.now).pinned) c.new.ensures.missing c.new.ensures.checks c.new-2.ensures.footprints c.new-2.ensures.owners,
     )
 
 pub loop-n-preserved : goal.loop-n-preserved

@@ -23,15 +23,15 @@ needs-requires-clause-fits c =
     kind_at c.args.run.now.p.now c.step-step.result c.instr-x.result.now
     (fits_at c.args.run.now.p.now c.args.run.now.t.now.steps c.args.n c.step-step.result c.requires.given.steps c.step-step.ensures) c.instr-x.ensures.at
 
-pub print_live-requires-clause-low : goal.print_live-requires-clause-low
-print_live-requires-clause-low c =
+pub add_footprints-requires-clause-low : goal.add_footprints-requires-clause-low
+add_footprints-requires-clause-low c =
     let f = few_turns c.args.run.now.t.now.steps c.args.run.now.intervals.now c.args.n c.step-step.result c.interval_at-interval.result c.requires.given.intervals c.step-step.ensures
     c.interval_at-interval.ensures in
     let l = f.0 in
     omega (arith, l, c.requires.given.few)
 
-pub print_live-requires-clause-high : goal.print_live-requires-clause-high
-print_live-requires-clause-high c =
+pub add_footprints-requires-clause-high : goal.add_footprints-requires-clause-high
+add_footprints-requires-clause-high c =
     let f = few_turns c.args.run.now.t.now.steps c.args.run.now.intervals.now c.args.n c.step-step.result c.interval_at-interval.result c.requires.given.intervals c.step-step.ensures
     c.interval_at-interval.ensures in
     let l = f.1 in
@@ -56,8 +56,8 @@ returns-clause-grew c = grew_then c.args.nodes.now c.needs.new.nodes c.step.new.
 
 pub returns-clause-earlier : goal.returns-clause-earlier
 returns-clause-earlier c =
-    earlier_more c.args.run.now.t.now.steps c.args.run.now.intervals.now c.args.n c.step-step.result c.interval_at-interval.result c.args.g.now.prints c.print_live.new.prints
-    c.requires.given.intervals c.step-step.ensures c.interval_at-interval.ensures c.in_ok-print_live.ensures.timed
+    earlier_more c.args.run.now.t.now.steps c.args.run.now.intervals.now c.args.n c.step-step.result c.interval_at-interval.result c.args.g.now.footprints c.add_footprints.new.footprints
+    c.requires.given.intervals c.step-step.ensures c.interval_at-interval.ensures c.in_ok-add_footprints.ensures.timed
 
 pub returns-clause-named : goal.returns-clause-named
 returns-clause-named c = λ h.
@@ -85,9 +85,9 @@ returns-clause-passed c = λ regions gated input marks before.
     let y = step_from R d n k m.moment in
     let at = is_at R d r n x i old s m.moment marks m.stands m.did c.instr-x.ensures.at before.known in
     let timed : IsTimed y x v = record { did = m.did; low = m.low; high = m.high } in
-    let h : Gathered = record { sources = c.step.new.self; asked = c.needs.new.asked; prints = c.print_live.new.prints } in
+    let h : Gathered = record { sources = c.step.new.self; asked = c.needs.new.asked; footprints = c.add_footprints.new.footprints } in
     passed_more R d n m.moment m.stands old new c.args.g.now h (grew_then old mid new g1 g2) before
     (c.in_ok-step.ensures.value R m.moment k refl at.landmark m.did c.instr-x.ensures.at (knows_kept p old mid d.pinned s k g1 c.requires.sources before.known))
     (c.in_ok-needs.ensures.missing R y at) (λ other. c.in_ok-needs.ensures.checks R y new other g2 at)
     (named_more (length mid) (length new) c.needs.new.asked.checks.items (grew_length mid new g2) (c.in_ok-needs.ensures.named before.named))
-    (c.in_ok-print_live.ensures.prints R d p old i y at timed) (c.in_ok-print_live.ensures.owners R d p old i y at timed)
+    (c.in_ok-add_footprints.ensures.footprints R d p old i y at timed) (c.in_ok-add_footprints.ensures.owners R d p old i y at timed)

@@ -25,8 +25,8 @@ returns-clause-value c =
     let one = c.added.new.nodes in
     let two = c.added-2.new.nodes in
     let grew = grew_then old one two c.added.ensures.grew c.added-2.ensures.grew in
-    ap (λ (f : OnInput). Known f (number_by two c.args.frame)) (fun_ext (λ input.
+    ap (λ (f : OnInput). Known f (number_by two c.args.bounds)) (fun_ext (λ input.
     c.in_ok-value.ensures.value input
     ∙ moved_to c.args.k _ _ _ (number_kept old one c.args.base input c.added.ensures.grew c.requires.base) (c.in_ok-delta.ensures.value input)))
     ∙ ap (λ (f : OnInput). Known (λ input. with_one (number_by old c.args.base input) (λ w. Some (moved_by w (pos c.args.k)))) f)
-    (fun_ext (λ input. number_kept old two c.args.frame input grew c.requires.frame))
+    (fun_ext (λ input. number_kept old two c.args.bounds input grew c.requires.bounds))

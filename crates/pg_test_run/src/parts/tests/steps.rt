@@ -2,7 +2,7 @@
 
 ghost use Rattle.pg_run_thread.specs.States.{IsOf};
 
-use pg_ir::Known::{Malloc, PthreadExit, PthreadMutexInit};
+use pg_ir::LibraryCall::{Malloc, PthreadExit, PthreadMutexInit};
 use pg_ir::Value::{Const, Register};
 use pg_ir::{InstrId, Program, Request, ThreadNo, TrapName};
 use pg_num::Width::{W8, W32, W64};
@@ -15,16 +15,16 @@ use pg_test_samples::{Body, I1, I8, I32, I64, Line, PTR, Parts, build, main_alon
 use std::alloc::Global;
 use std::test::Fail;
 
-/// The granule at which the region of main begins, as it stands in a pointer.
-const REGION: u64 = 0x8000_0000_0000_0000;
+/// The granule at which the memory of main begins, as it stands in a pointer.
+const THREAD_MEMORY: u64 = 0x8000_0000_0000_0000;
 
 /// One granule, and the length of eight bytes, as they stand in a pointer.
 const GRANULE: u64 = 0x400_0000_0000;
 
 const EIGHT_BYTES: u64 = 0x100_0000;
 
-/// All bytes of a region.
-const WHOLE_REGION: u64 = 262_144;
+/// All bytes of a thread's memory.
+const WHOLE_THREAD_MEMORY: u64 = 262_144;
 
 /// A place for an object, at the sixth eight bytes of the first granule, and four bytes behind that.
 const OBJECT: u64 = GRANULE + 5 * EIGHT_BYTES;
@@ -157,7 +157,7 @@ const MALLOC_FULL: Parts = main_alone!(
     &[],
     &[PTR, PTR],
     &[&[
-        (Some(0), Knows(Malloc, &[Const(WHOLE_REGION)])),
+        (Some(0), Knows(Malloc, &[Const(WHOLE_THREAD_MEMORY)])),
         (Some(1), Knows(Malloc, &[Const(8)])),
         END,
     ]]
@@ -270,10 +270,16 @@ const ROWS: [(&str, Parts, Action, u32, u64); 16] = [
         MALLOC_TWICE,
         RETURN,
         2,
-        REGION + 32_766 * GRANULE + EIGHT_BYTES,
+        THREAD_MEMORY + 32_766 * GRANULE + EIGHT_BYTES,
     ),
     ("malloc full", MALLOC_FULL, RETURN, 2, 0),
-    ("stack again", STACK_AGAIN, RETURN, 2, REGION + EIGHT_BYTES),
+    (
+        "stack again",
+        STACK_AGAIN,
+        RETURN,
+        2,
+        THREAD_MEMORY + EIGHT_BYTES,
+    ),
     (
         "swap",
         SWAP,

@@ -1,6 +1,6 @@
 //! Programs in which a branch rests on what came before: a choice, a sum, a thread's exit.
 
-use pg_ir::Known::{PgIn, PgInLen, PgOut, PthreadCreate, PthreadJoin};
+use pg_ir::LibraryCall::{PgIn, PgInLen, PgOut, PthreadCreate, PthreadJoin};
 use pg_ir::Value::{Const, Function, Global, Register};
 use pg_num::Compare::{Ne, Slt};
 use pg_num::Division::Sdiv;

@@ -12,8 +12,8 @@ use std::test::Fail;
 /// Two threads that store at one place: main's load of the thread's number is exact, since a join waits for that thread. Steps
 /// 0 and 1 are main's, start and create; 2 to 11 the thread's, with its test (9), its store and its exit; then main has 12 to
 /// 21, a branch and three rounds of three steps, 22, its store, and 23, the load. The checks are the create's three operands
-/// and its frame; the frames of the thread's store and load in its own memory, and of the two accesses of its loop; place and
-/// frame of the two stores, which are turns, and of the exact load; the join's two operands; the frame of the last load. Main's
+/// and its bounds; the bounds of the thread's store and load in its own memory, and of the two accesses of its loop; place and
+/// bounds of the two stores, which are turns, and of the exact load; the join's two operands; the bounds of the last load. Main's
 /// store comes behind the thread's whatever the thread has counted.
 const RACES: Row = Row {
     input: &[0],
@@ -53,10 +53,10 @@ fn racing_stores_are_kept_apart_by_their_order(rt: HostRuntime) -> Result<(), Fa
 /// Sums under a mutex, of which `docs/PRECONDITIONS.md` tells: main's loads of the threads' numbers are exact. Main has the
 /// steps 0 to 3, start, the second place and two creates. The first thread has its start, five steps before the loop, three
 /// rounds of eleven, a last test of four and seven up to its exit, 4 to 53; so has the other, 54 to 103. A test of the loop
-/// ends with the branch, its fourth step; only the first of each thread is live. The checks are three operands and a frame of
-/// each create; of each thread seven frames, of its first two stores, the test's load and the loop's four accesses, the two
-/// operands at the mutex, and three frames between them; place and frame of the two loads; two operands of each join; the
-/// frame of the last load. Two threads sum the input, so the whole is twice as much.
+/// ends with the branch, its fourth step; only the first of each thread is live. The checks are three operands and bounds of
+/// each create; of each thread the bounds of seven, its first two stores, the test's load and the loop's four accesses, the two
+/// operands at the mutex, and the bounds of three between them; place and bounds of the two loads; two operands of each join; the
+/// bounds of the last load. Two threads sum the input, so the whole is twice as much.
 const SUMS: Row = Row {
     input: &[1, 2, 3],
     quantum: 100,
@@ -143,8 +143,8 @@ fn sums_are_of_any_length(rt: HostRuntime) -> Result<(), Fail> {
 /// start and creates, both starts, both exits, two joins, a print and main's exit. Main has the steps 0 to 3, both starts are 4
 /// and 5. The first thread goes on with three steps, three rounds of seven, a last test of two, and its exit, 6 to 32: the
 /// branch is the second step of a round and of the last test, the store the fifth. So the other from 33 to 59. The checks are
-/// three operands and a frame of each create; of each thread four conditions, each with the frame of the loop's store, and
-/// place and frame of three stores; two operands of each join; the frames of two loads. Each thread reads one number. Another
+/// three operands and bounds of each create; of each thread four conditions, each with the bounds of the loop's store, and
+/// place and bounds of three stores; two operands of each join; the bounds of two loads. Each thread reads one number. Another
 /// count of rounds isn't admitted; of such an input nothing is said, and here the same turns come about.
 const STORES: Row = Row {
     input: &[3],
@@ -194,8 +194,8 @@ fn elements_that_may_meet_are_counted(rt: HostRuntime) -> Result<(), Fail> {
 /// loads. The loop accesses nothing, so it is free, and a quotient may be one that doesn't exist. The turns are main's start, a
 /// print and two creates, both starts, the second thread's exit, the first one's, and main's last four. Main has the steps 0 to
 /// 3, the starts are 4 and 5, the second thread goes on with three, 6 to 8, the first one with two, two rounds of seven, a last
-/// test of two, a cast and its exit, 9 to 28; then come main's loads. The checks are three operands and a frame of each create;
-/// place and frame of the two loads; two operands of each join, and the frame that the first writes; the frame of the last
+/// test of two, a cast and its exit, 9 to 28; then come main's loads. The checks are three operands and bounds of each create;
+/// place and bounds of the two loads; two operands of each join, and the bounds that the first writes; the bounds of the last
 /// load. An input may be admitted on which a thread traps: the second one before its exit, turn 6, or the first one before
 /// turn 7.
 const QUOTIENTS: Row = Row {
@@ -241,7 +241,7 @@ fn quotients_are_free(rt: HostRuntime) -> Result<(), Fail> {
 }
 
 /// A thread waits and another wakes it: all operands are constants, nothing branches and nothing is loaded or stored. The
-/// checks are three operands and a frame of each create; one operand of each lock, unlock and broadcast, two of the wait and
+/// checks are three operands and bounds of each create; one operand of each lock, unlock and broadcast, two of the wait and
 /// two again where it wakes; two operands of each join.
 const WAKES: Row = Row {
     input: &[],

@@ -27,7 +27,7 @@ const ROOTS: Row = Row {
     pinned: &[3],
     exact: &[],
     checks: 2,
-    tests: &[Test::Eq(0), Test::Frame(1, 8)],
+    tests: &[Test::Eq(0), Test::Bounds(1, 8)],
     reads: 1,
     admitted: &[&[0, 0], &[0, 7], &[]],
     others: &[&[1, 0]],
@@ -53,8 +53,8 @@ fn the_branch_that_chooses_a_root_is_pinned(rt: HostRuntime) -> Result<(), Fail>
 /// 27, a last test of four, 28 to 31, the load of the sum (32), a cast, and the branch to the print (34), which isn't free. Its
 /// condition rests on the sum, which the last round stored (24) behind the tests of the loop (9, 20 and 31): so these are pinned.
 /// The sum rests on the loads of the rounds, of the counter (6, 17 and 28) and of the sum (11 and 22), and on the stores before
-/// each of them: of the sum (3, 13 and 24) and of the counter (4, 15 and 26). The checks are place and frame of each of these
-/// twelve, four conditions, and at each test the frames of the loop's four accesses; they rest on two numbers, and on the length
+/// each of them: of the sum (3, 13 and 24) and of the counter (4, 15 and 26). The checks are place and bounds of each of these
+/// twelve, four conditions, and at each test the bounds of the loop's four accesses; they rest on two numbers, and on the length
 /// at each test. The input has two numbers then, whose sum is odd.
 const ODD: Row = Row {
     input: &[1, 2],
@@ -79,7 +79,7 @@ fn a_sum_that_a_print_depends_on_is_counted(rt: HostRuntime) -> Result<(), Fail>
 /// Main has the steps 0 to 3, start, the number, a cast and the create; the thread has its start and its exit; then come the
 /// join (6), the load of what it wrote (7), a comparison and the branch (9). The joined number is that of the exit, which is the
 /// argument of the create: neither is fixed, but both are known. The checks are the create's place, its null attributes, its
-/// function and the frame that it writes; the join's thread, its place and the frame that it writes; place and frame of the
+/// function and the bounds that it writes; the join's thread, its place and the bounds that it writes; place and bounds of the
 /// load; the condition.
 const JOINED: Row = Row {
     input: &[7],
@@ -92,12 +92,12 @@ const JOINED: Row = Row {
         Test::Eq(FIRST),
         Test::Eq(0),
         Test::Eq(0),
-        Test::Frame(1, 8),
+        Test::Bounds(1, 8),
         Test::Eq(1),
         Test::Eq(SECOND),
-        Test::Frame(2, 8),
+        Test::Bounds(2, 8),
         Test::Eq(SECOND),
-        Test::Frame(2, 8),
+        Test::Bounds(2, 8),
         Test::Eq(1),
     ],
     reads: 1,
@@ -113,7 +113,7 @@ fn a_joined_number_is_that_of_the_exit(rt: HostRuntime) -> Result<(), Fail> {
 }
 
 /// Main has its start, a load (1), a comparison, the select, the number, a comparison, the branch (6) and its exit. The branch's
-/// region stores at what is selected, of which no frame is known before the condition is: so the load is exact. It loads zero,
+/// region stores at what is selected, of which no bounds are known before the condition is: so the load is exact. It loads zero,
 /// so that the second global is selected.
 const SELECTED: Row = Row {
     input: &[0],
@@ -122,7 +122,7 @@ const SELECTED: Row = Row {
     pinned: &[],
     exact: &[1],
     checks: 3,
-    tests: &[Test::Eq(THIRD), Test::Frame(3, 8), Test::Frame(2, 8)],
+    tests: &[Test::Eq(THIRD), Test::Bounds(3, 8), Test::Bounds(2, 8)],
     reads: 0,
     admitted: &[&[0], &[4]],
     others: &[],
@@ -131,7 +131,7 @@ const SELECTED: Row = Row {
 };
 
 #[test]
-fn a_select_passes_no_frame_on(rt: HostRuntime) -> Result<(), Fail> {
+fn a_select_passes_no_bounds_on(rt: HostRuntime) -> Result<(), Fail> {
     check(&rt, rt.alloc(), &STORES_AT_THE_SELECTED, &SELECTED)
 }
 

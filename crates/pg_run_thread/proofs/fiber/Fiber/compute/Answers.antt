@@ -14,5 +14,5 @@ returns-in-Some c =
 pub returns-in-None : goal.returns-in-None
 returns-in-None c =
     ap (λ (a : Action). (c.args.self.now, Asks a)) (rw
-    (c.present.ensures.region, c.present.ensures.halfway, c.present.ensures.registers, c.present.ensures.depth, c.present.ensures.used) at c.action_of.ensures)
+    (c.present.ensures.memory, c.present.ensures.halfway, c.present.ensures.registers, c.present.ensures.depth, c.present.ensures.used) at c.action_of.ensures)
     ∙ sym (computes_asks c.args.p.now c.args.self.now c.args.instr.now c.requires.computes (sym (rw c.top.ensures at c.computed_if.ensures) ∙ c.in-None.is))

@@ -6,6 +6,6 @@ use Rattle.pg_slice_checks.proofs.asked.Asked.need_none.Goals as goal
 
 pub returns-in_ok-check_others-in-Known : goal.returns-in_ok-check_others-in-Known
 returns-in_ok-check_others-in-Known c = λ ns h.
-    let below : IsSource (length ns) (source.Known c.in-Known.value c.in-Known.frame) = rw c.in-Known.is at h in
-    rw c.in-Known.is (many_checks ns c.args.self.now c.check_others.new.self c.in-Known.value (number_by ns c.in-Known.frame) c.args.cases.now
+    let below : IsSource (length ns) (source.Known c.in-Known.value c.in-Known.bounds) = rw c.in-Known.is at h in
+    rw c.in-Known.is (many_checks ns c.args.self.now c.check_others.new.self c.in-Known.value (number_by ns c.in-Known.bounds) c.args.cases.now
     (ap (λ v. v.items) c.in_ok-check_others-in-Known.ensures.missing) c.in_ok-check_others-in-Known.ensures.checks below.0)

@@ -4,4 +4,4 @@ use Rattle.pg_test_slice.proofs.Ordered.{AreUpTo}
 use Rattle.pg_test_slice.proofs.conflicts.made.repeated.Given as goal
 
 abbrev pub invariant-loop-k : goal.invariant-loop-k
-invariant-loop-k l = InOrder l.prints.items × AreUpTo (l.k / 8) l.prints.items
+invariant-loop-k l = InOrder l.footprints.items × AreUpTo (l.k / 8) l.footprints.items

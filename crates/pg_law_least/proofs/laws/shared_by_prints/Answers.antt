@@ -1,8 +1,0 @@
-use Rattle.std.proofs.Common.{false, ap}
-use Rattle.std.specs.Prelude.{◌&&◌}
-use Rattle.pg_slice_rules.specs.Rules as rules
-use Rattle.pg_law_least.proofs.Asked.{by_prints}
-use Rattle.pg_law_least.proofs.laws.shared_by_prints.Goals as goal
-
-pub returns : goal.returns
-returns c = λ all x. ap (λ b. rules.is_plain (rules.kind_in x) && b) (by_prints false x (rules.access_print x) all)

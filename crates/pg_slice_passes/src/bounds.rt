@@ -1,0 +1,69 @@
+//! Places of memory, and values that are stored.
+
+ghost use Rattle.std.specs.Prelude.{◌≡◌, ◌+◌, ◌≤◌, ℕ, length};
+ghost use Rattle.pg_num.specs.Pointers.{byte_place};
+ghost use Rattle.pg_precondition.specs.Nodes.{NodeList};
+ghost use Rattle.pg_slice_rules.specs.Freeable.{bounds_of};
+ghost use Rattle.pg_slice_rules.specs.Shadows.{byte_in};
+ghost use Rattle.pg_slice_values.specs.Sources.{IsSource, shadow_by};
+ghost use Rattle.pg_slice_memory.specs.Sources.{IsHeld, held_shadow};
+ghost use Rattle.pg_stamps.specs.declared.stamps.TheConstants.{PLACE_COUNT};
+
+use pg_num::layout::GRANULE_BYTES;
+use pg_num::unpack;
+use pg_slice_memory::Held;
+use pg_slice_values::Source;
+
+/// The bytes within bounds: the first one, and how many there are.
+#[derive(Clone, Copy)]
+pub struct Bounds {
+    pub start: u64,
+    pub bytes: u64,
+}
+
+/// The bounds of a pointer.
+pub fn bounds(word: u64) -> Bounds
+    ensures start { result.start ≡ (bounds_of word).start }
+    ensures bytes { result.bytes ≡ (bounds_of word).bytes }
+    ensures within { result.start + result.bytes ≤ PLACE_COUNT }
+{
+    let pointer = unpack(word);
+    Bounds {
+        start: GRANULE_BYTES as u64 * pointer.start as u64,
+        bytes: pointer.length as u64,
+    }
+}
+
+/// The place of the byte to which a pointer points.
+pub(crate) fn place(word: u64) -> u64
+    ensures place { result ≡ byte_place word }
+    ensures within { result + 8 ≤ PLACE_COUNT }
+{
+    let pointer = unpack(word);
+    GRANULE_BYTES as u64 * pointer.start as u64 + pointer.offset as u64
+}
+
+/// A value as memory keeps it, which knows no bounds of a number that isn't known.
+pub(crate) fn held(s: Source) -> Held
+    ensures is { (n : ℕ) → IsSource n s → IsHeld n result }
+    ensures bytes { (ns : NodeList) (k : ℕ) → byte_in k (held_shadow ns result) ≡ byte_in k (shadow_by ns s) }
+{
+    match s {
+        Source::Known { value, .. } => Held::Known(value),
+        Source::Bounded(_, by) | Source::Unknown(by) => Held::Unknown(by),
+    }
+}
+
+/// A value that was loaded.
+pub(crate) fn loaded(held: Held) -> Source
+    ensures is { (n : ℕ) → IsHeld n held → IsSource n result }
+    ensures value { (ns : NodeList) → shadow_by ns result ≡ held_shadow ns held }
+{
+    match held {
+        Held::Known(node) => Source::Known {
+            value: node,
+            bounds: node,
+        },
+        Held::Unknown(by) => Source::Unknown(by),
+    }
+}

@@ -1,5 +1,0 @@
-use Rattle.pg_slice_registers.proofs.Sets.{source_got}
-use Rattle.pg_slice_registers.proofs.operands.with_frame.Goals as goal
-
-pub returns-in-Some-clause-is : goal.returns-in-Some-clause-is
-returns-in-Some-clause-is c n a h = c.moved.ensures.is n (source_got n c.args.operands.now 0 c.in-Some.base.now a c.in-Some.ensures.value) h
