@@ -15,7 +15,7 @@ use Rattle.pg_check_rules.specs.TypeConditions.{unmet}
 use Rattle.pg_check_rules.specs.CallConditions.{argument_demands, wrong_number}
 use Rattle.pg_check_rules.specs.Places.{type_span}
 use Rattle.pg_check_rules.proofs.Rows.{earliest_more}
-use Rattle.pg_check_values.proofs.Joined.{flat_more, one_row}
+use Rattle.pg_check_values.proofs.JoinedRows.{flat_more, one_row}
 
 -- one argument at a place
 pub argument_there : {X : Type 0} (f : X → Typed) (xs : List X) (i : ℕ) (x : X) → i < length xs → x ≡ get_or xs i x → f x ∷ [] ≡ take 1 (drop i (map f xs))

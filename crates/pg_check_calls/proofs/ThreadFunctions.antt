@@ -6,7 +6,7 @@ use Rattle.pg_read_ast.specs.Syntax.{Val, Typed}
 use Rattle.pg_check_rules.specs.Earliest.{earliest}
 use Rattle.pg_check_rules.specs.Written.{typed_operand}
 use Rattle.pg_check_calls.specs.Threads.{left_out, call_operands}
-use Rattle.pg_check_values.proofs.Joined.{one_row}
+use Rattle.pg_check_values.proofs.JoinedRows.{one_row}
 
 -- the third argument is left out
 pub third_left_out : (all : List Typed) → call_operands true all ≡ left_out (Some 2) (map typed_operand all)

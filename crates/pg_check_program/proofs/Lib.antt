@@ -1,4 +1,4 @@
-mod Accepted
+mod AcceptedNumbers
 mod BlockLists
 mod EqualParts
 mod IndexLists
@@ -8,8 +8,8 @@ mod MainPlace
 mod NamePlaces
 mod NumberedLines
 mod OwnScopes
-mod Places
-mod Rows
+mod BoundedNumbers
+mod ProgramRows
 mod Scalars
 mod SmallTypes
 mod SmallUses

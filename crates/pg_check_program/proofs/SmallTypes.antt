@@ -18,9 +18,9 @@ use Rattle.pg_check_rules.specs.Written.{types_within, types_within_all}
 use Rattle.pg_check_rules.specs.TypeConditions.{is_large, any_large}
 use Rattle.pg_check_rules.specs.Conditions.{item_refused, IsUnrefused}
 use Rattle.pg_check_types.proofs.Fuel.{Below, within_less}
-use Rattle.pg_law_numbering.proofs.Unrefused.{at_if_none, items_pass}
-use Rattle.pg_law_numbering.proofs.Resolves.{item_of}
-use Rattle.pg_law_numbering.proofs.Sizes.{size_by}
+use Rattle.pg_law_numbering.proofs.UnrefusedParts.{at_if_none, items_pass}
+use Rattle.pg_law_numbering.proofs.ResolvedTypes.{item_of}
+use Rattle.pg_law_numbering.proofs.TypeSizes.{size_by}
 use Rattle.pg_check_constants.specs.Sizes.{AllFit, FieldsFit, TypeFits}
 use Rattle.pg_check_constants.proofs.Sizes.{own_size}
 

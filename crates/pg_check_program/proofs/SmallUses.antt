@@ -7,7 +7,7 @@ use Rattle.pg_read_ast.specs.Syntax.{StructConst, NoConsts, MoreConsts, Incoming
 use Rattle.pg_read_ast.specs.Syntax.{GetElementPtr, NamedType}
 use Rattle.pg_check_rules.specs.Written.{Use, operand, typed_operand, inner_uses, index_uses, with_inner, operands, own_types, op_types, const_uses, part_uses}
 use Rattle.pg_check_rules.specs.LineConditions.{line_types}
-use Rattle.pg_law_numbering.proofs.Each.{all_front, all_behind, all_both}
+use Rattle.pg_law_numbering.proofs.EachElement.{all_front, all_behind, all_both}
 use Rattle.pg_check_constants.specs.Sizes.{TypeFits, ValFits, ConstFits, PartsFit}
 use Rattle.pg_check_program.specs.Room.{Each, OpFits}
 

@@ -18,7 +18,7 @@ use Rattle.pg_check_rules.specs.Numbered.{function_at, function_instrs, global_a
 use Rattle.pg_check_program.specs.FunctionRows.{rows_from, function_row, block_row, instr_row, is_main_item}
 use Rattle.pg_check_program.proofs.NamePlaces.{position_map}
 use Rattle.pg_check_program.proofs.EqualParts.{same_five}
-use Rattle.pg_check_program.proofs.Rows.{rows_are, singles_are, block_rows_are}
+use Rattle.pg_check_program.proofs.ProgramRows.{rows_are, singles_are, block_rows_are}
 
 main_place : (items : List DefineItem) → position_from is_main_item 0 items ≡ position (λ (d : Definition). bytes_eq d.name.text main_name) (map define_of items)
 main_place items =

@@ -32,7 +32,7 @@ pub struct ProgramParts {
 }
 
 /// The number of the basic block behind those of a function, whose first has this number.
-#[tactic(auto, using(crate::proofs::Rows::count_blocks))]
+#[tactic(auto, using(crate::proofs::ProgramRows::count_blocks))]
 fn block_behind(first: u32, item: &DefineItem) -> u32
     requires { first + length (define_of item.now).blocks ≤ INSTRUCTION_LIMIT }
     ensures { result ≡ first + length (define_of item.now).blocks }
@@ -42,7 +42,7 @@ fn block_behind(first: u32, item: &DefineItem) -> u32
 }
 
 /// The functions of a module by number.
-#[tactic(auto, using(crate::proofs::Rows::rows_none, crate::proofs::Rows::first_block_none))]
+#[tactic(auto, using(crate::proofs::ProgramRows::rows_none, crate::proofs::ProgramRows::first_block_none))]
 fn functions_of(
     alloc: Global,
     types: &TypeNumbers<'_>,
@@ -64,7 +64,7 @@ fn functions_of(
 }
 
 /// The basic blocks of functions by number.
-#[tactic(auto, using(crate::proofs::Rows::rows_none, crate::proofs::Rows::first_line_none))]
+#[tactic(auto, using(crate::proofs::ProgramRows::rows_none, crate::proofs::ProgramRows::first_line_none))]
 fn blocks_of(alloc: Global, all: &[DefineItem]) -> Result<Vec<Block>, AllocError>
     requires few { length all.now ≤ FUNCTION_LIMIT }
     requires lines { sum_by line_count (map define_of all.now) ≤ INSTRUCTION_LIMIT }
@@ -82,7 +82,7 @@ fn blocks_of(alloc: Global, all: &[DefineItem]) -> Result<Vec<Block>, AllocError
 }
 
 /// The instructions of functions by number.
-#[tactic(auto, using(crate::proofs::Rows::rows_none, crate::proofs::Rows::first_block_none))]
+#[tactic(auto, using(crate::proofs::ProgramRows::rows_none, crate::proofs::ProgramRows::first_block_none))]
 fn instrs_of(
     globals: &Globals<'_>,
     types: &TypeNumbers<'_>,

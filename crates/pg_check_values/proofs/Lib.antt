@@ -1,8 +1,8 @@
 mod RegisterTypes
 mod IndexSteps
-mod Inner
-pub mod Joined
-mod Places
+mod InnerValues
+pub mod JoinedRows
+mod EarliestPlaces
 mod TypedViews
 pub mod TypeRows
 mod Misfits

@@ -10,8 +10,8 @@ use Rattle.pg_check_rules.specs.Constants.{constant_word, pointer_word, little_e
 use Rattle.pg_check_rules.specs.Numbered.{global_at, program_of}
 use Rattle.pg_read_grammar.specs.Accepted.{IsModule}
 use Rattle.pg_law_effects.specs.Reached.{HoldBytes}
-use Rattle.pg_law_canonical.proofs.Again.{Every}
-use Rattle.pg_law_canonical.proofs.Forms.{fore, aft, both}
+use Rattle.pg_law_canonical.proofs.ReadAgain.{Every}
+use Rattle.pg_law_canonical.proofs.FirstTokens.{fore, aft, both}
 use Rattle.pg_law_canonical.proofs.Names.{is_byte}
 use Rattle.pg_commands.proofs.ModuleBytes.{HasBytes, HaveBytes, GlobalHas, globals_have}
 

@@ -29,7 +29,7 @@ use Rattle.pg_law_order.specs.Schedules.{GuidesAs}
 use Rattle.pg_commands.specs.Texts.{IsAccepted, guided_line, once_text, run_along, text_by}
 use Rattle.pg_commands.specs.EndLines.{end_line}
 use Rattle.pg_commands.proofs.GlobalBytes.{globals_hold_bytes}
-use Rattle.pg_session_runner.proofs.Turns.{done_turns}
+use Rattle.pg_session_runner.proofs.TurnCounts.{done_turns}
 
 -- ---- a guided run that exits has done all turns
 

@@ -4,9 +4,9 @@ pub mod ModuleBytes
 pub mod GlobalBytes
 pub mod GuidedTexts
 pub mod LongTexts
-pub mod Shelves
+pub mod ShelfFaults
 pub mod TextVerdicts
-pub mod Endings
+pub mod CommandEnds
 pub mod OnceEnds
 pub mod ShowEnds
 pub mod TrialEnds

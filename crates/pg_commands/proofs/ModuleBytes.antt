@@ -17,14 +17,14 @@ use Rattle.pg_read_grammar.specs.GrammarItems.{DeclareItem, DefineItem, OtherIte
 use Rattle.pg_read_grammar.specs.Words.{classified}
 use Rattle.pg_read_grammar.specs.Accepted.{IsModule}
 use Rattle.pg_law_canonical.proofs.Names.{is_byte}
-use Rattle.pg_law_canonical.proofs.Again.{Every}
-use Rattle.pg_law_canonical.proofs.Yields.{Yields, Any, yields_give, yields_one, yields_then, yields_or, yields_refused, yields_many, yields_listed}
+use Rattle.pg_law_canonical.proofs.ReadAgain.{Every}
+use Rattle.pg_law_canonical.proofs.PieceYields.{Yields, Any, yields_give, yields_one, yields_then, yields_or, yields_refused, yields_many, yields_listed}
 use Rattle.pg_law_canonical.proofs.Types.{type_yields}
 use Rattle.pg_law_canonical.proofs.Values.{value_yields}
-use Rattle.pg_law_canonical.proofs.Attributes.{attributes_then, attributes_yields, skip_yields}
+use Rattle.pg_law_canonical.proofs.LeftOutParts.{attributes_then, attributes_yields, skip_yields}
 use Rattle.pg_law_canonical.proofs.Bodies.{body_yields}
 use Rattle.pg_law_canonical.proofs.Items.{global_rest, declare_rest, define_rest}
-use Rattle.pg_law_canonical.proofs.Formed.{tokens_formed}
+use Rattle.pg_law_canonical.proofs.ByteTokens.{tokens_formed}
 
 -- ---- constants
 

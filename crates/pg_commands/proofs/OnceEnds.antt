@@ -10,7 +10,7 @@ use Rattle.pg_commands.specs.declared.status.Status.TheVariants.{WriteFault}
 use Rattle.pg_commands.specs.Commands.{World, EndsAs}
 use Rattle.pg_commands.specs.Replies.{IsReply, IsReplyStatus, IsWritten}
 use Rattle.pg_commands.specs.Texts.{IsOnceText}
-use Rattle.pg_commands.proofs.Endings.{Says, ends_as, some_map, due_reply, front_of, none_failed}
+use Rattle.pg_commands.proofs.CommandEnds.{Says, ends_as, some_map, due_reply, front_of, none_failed}
 
 -- the shelf isn't used
 abbrev pub Fetches : World → Type 0

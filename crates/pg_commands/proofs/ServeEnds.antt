@@ -19,7 +19,7 @@ use Rattle.pg_commands.specs.Commands.{World, EndsAs, DueOfText, DueOfInput, Fet
 use Rattle.pg_commands.specs.Replies.{IsWritten}
 use Rattle.pg_commands.specs.Statuses.{status_of}
 use Rattle.pg_commands.specs.Texts.{IsAccepted, IsRefusalLine}
-use Rattle.pg_commands.proofs.Endings.{ends_as, some_map, some_all, some_same, none_failed, stayed}
+use Rattle.pg_commands.proofs.CommandEnds.{ends_as, some_map, some_all, some_same, none_failed, stayed}
 use Rattle.pg_commands.proofs.ShowEnds.{Fetches}
 use Rattle.pg_commands.proofs.TextVerdicts.{not_refused}
 

@@ -9,7 +9,7 @@ use Rattle.pg_commands.specs.declared.status.Status.{Status}
 use Rattle.pg_commands.specs.declared.status.Status.TheVariants.{WriteFault}
 use Rattle.pg_commands.specs.Commands.{World, EndsAs, Fetched, IsShown}
 use Rattle.pg_commands.specs.Replies.{IsReply, IsReplyStatus, IsWritten}
-use Rattle.pg_commands.proofs.Endings.{Says, ends_as, some_same, due_reply, front_of, none_failed}
+use Rattle.pg_commands.proofs.CommandEnds.{Says, ends_as, some_same, due_reply, front_of, none_failed}
 
 -- the source isn't read
 pub record Unread (w : World) : Type 0 where

@@ -13,7 +13,7 @@ use Rattle.pg_commands.specs.declared.status.Status.{Status}
 use Rattle.pg_commands.specs.declared.status.Status.TheVariants.{WriteFault}
 use Rattle.pg_commands.specs.Commands.{World, EndsAs, IsTrial}
 use Rattle.pg_commands.specs.Replies.{IsReply, IsReplyStatus, IsWritten}
-use Rattle.pg_commands.proofs.Endings.{Says, ends_as, by_reply, due_reply, front_of, none_failed}
+use Rattle.pg_commands.proofs.CommandEnds.{Says, ends_as, by_reply, due_reply, front_of, none_failed}
 use Rattle.pg_commands.proofs.ShowEnds.{Unread, Fetches}
 
 said : (w : World) (number : ℕ) (status : Status) (written : List ℕ) → IsReplyStatus status → IsReply (IsTrial trial_program number) trial_program status written

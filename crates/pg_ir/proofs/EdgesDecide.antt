@@ -13,7 +13,7 @@ use Rattle.pg_ir.specs.declared.instr.Instr.{Instr}
 use Rattle.pg_ir.specs.Program.{NumberedProgram, end_of}
 use Rattle.pg_ir.specs.Edges.{targets_of, targets_in, successors, incoming_of, sources_of}
 use Rattle.pg_ir.specs.PlaceTests.{has_target, has_case_to, leads_to, goes_to, lists_block}
-use Rattle.pg_ir.proofs.Decide.{decides_no}
+use Rattle.pg_ir.proofs.DecidedFacts.{decides_no}
 
 -- ---- elements of a list
 

@@ -8,7 +8,7 @@ use Rattle.pg_num.specs.declared.layout.TheConstants.{GLOBALS_END}
 use Rattle.pg_ir.specs.declared.function.GlobalInfo.{GlobalInfo}
 use Rattle.pg_ir.specs.PlaceTests.{lie_from, global_fits}
 use Rattle.pg_ir.specs.WellFormed.{LieFrom, granules_for}
-use Rattle.pg_ir.proofs.Decide.{decides_le}
+use Rattle.pg_ir.proofs.DecidedFacts.{decides_le}
 
 lie_open : (at : ℕ) (gs : List GlobalInfo) (i : ℕ) (x : GlobalInfo) → i < length gs → x ≡ get_or gs i x
     → lie_from at (drop i gs) ≡ (global_fits at x && lie_from (at + granules_for x.size) (drop (suc i) gs))

@@ -20,7 +20,7 @@ use Rattle.pg_ir.specs.TypeTests.{same_type, op_fits}
 use Rattle.pg_ir.specs.PlaceTests.{phis_list, in_function, target_fits, case_targets_fit, targets_fit, follows_phi, sources_fit, is_entered, phi_fits, phi_fits_if_one, end_fits, place_fits}
 use Rattle.pg_ir.specs.PlaceTests.{result_fits, instr_op_fits, instr_fits, holds_instrs, block_fits, holds_blocks, function_fits, main_fits, counts_fit}
 use Rattle.pg_ir.specs.WellFormed.{FitsOp, FitsBlock, FitsFunction, IsInBlock, IsInFunction, IsMain, type_at}
-use Rattle.pg_ir.proofs.Decide.{decides_le, decides_lt, decides_no, decides_sure, decides_three, decides_four, decides_mapped, decides_then, decides_when, decides_alike, decides_range}
+use Rattle.pg_ir.proofs.DecidedFacts.{decides_le, decides_lt, decides_no, decides_sure, decides_three, decides_four, decides_mapped, decides_then, decides_when, decides_alike, decides_range}
 use Rattle.pg_ir.proofs.TypesDecide.{decides_op, decides_type}
 
 -- ---- targets

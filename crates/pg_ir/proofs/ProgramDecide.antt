@@ -19,8 +19,8 @@ use Rattle.pg_ir.specs.Edges.{is_phi, is_terminator, targets_of, targets_in, suc
 use Rattle.pg_ir.specs.PlaceTests.{phis_list, lists_block, goes_to, sources_fit, follows_phi, phi_at, instr_fits, block_fits, function_fits, main_fits, counts_fit, lie_from, functions_fit}
 use Rattle.pg_ir.specs.PlaceTests.{blocks_fit, instrs_fit, program_fits}
 use Rattle.pg_ir.specs.WellFormed.{IsProgram, FitsInstr, FitsBlock, FitsFunction, FitsPhi, FitsOp, FitsIncoming, IsInBlock, IsInFunction, IsPhi, type_at}
-use Rattle.pg_ir.proofs.Decide.{decides_numbered, decides_three}
-use Rattle.pg_ir.proofs.Leading.{Passes, leading_passes, leading_all, range_get, range_within}
+use Rattle.pg_ir.proofs.DecidedFacts.{decides_numbered, decides_three}
+use Rattle.pg_ir.proofs.LeadingElements.{Passes, leading_passes, leading_all, range_get, range_within}
 use Rattle.pg_ir.proofs.EdgesDecide.{told_in, each_in, all_in, in_all, decides_goes, decides_lists}
 use Rattle.pg_ir.proofs.PlaceDecide.{TargetFits, InstrFits, PhiFits, decides_instr, decides_block, decides_function, decides_main, decides_counts}
 use Rattle.pg_ir.proofs.GlobalsDecide.{decides_lie_from}

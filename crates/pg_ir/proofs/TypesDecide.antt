@@ -26,7 +26,7 @@ use Rattle.pg_ir.specs.TypeTests.{same_width, same_scalar, same_type, has_type, 
 use Rattle.pg_ir.specs.TypeTests.{both_have_type, binary_fits, compared_fit, stored_fits, narrower, chosen_fit, incoming_fits, all_incoming_fit, cases_fit, indices_fit, op_fits}
 use Rattle.pg_ir.specs.WellFormed.{HasType, HaveTypes, FitsOp, FitLibraryCall, FitCreate, FitsReturn, StartsThread, BeginsThread, BothHaveType, FitsBinary, FitsCompare, FitsStored, FitsIncoming}
 use Rattle.pg_ir.specs.WellFormed.{FitsIndex, HasWidth, parameter_types, width_of}
-use Rattle.pg_ir.proofs.Decide.{decides_lt, decides_no, decides_sure, decides_three, decides_four, decides_all}
+use Rattle.pg_ir.proofs.DecidedFacts.{decides_lt, decides_no, decides_sure, decides_three, decides_four, decides_all}
 
 width_at : ℕ → Width
 width_at n = if n == 1 then W1 else if n == 8 then W8 else if n == 16 then W16 else if n == 32 then W32 else W64

@@ -41,7 +41,7 @@ fn lists_block(block: u32, x: &Instr) -> bool
     }
 }
 
-#[tactic(auto, using(crate::proofs::Prefix::prefix_more, crate::proofs::Prefix::prefix_stop))]
+#[tactic(auto, using(crate::proofs::PassingPrefix::prefix_more, crate::proofs::PassingPrefix::prefix_stop))]
 pub(crate) fn count_phis(xs: &[Instr]) -> usize
     ensures { result ≡ prefix_len (λ x. is_phi x.op) xs.now }
 {
@@ -126,7 +126,7 @@ impl Parts {
     }
 
     /// How many phis a basic block begins with.
-    #[tactic(auto, unfolding(crate::specs::Edges::phis_of), using(crate::proofs::Prefix::prefix_length))]
+    #[tactic(auto, unfolding(crate::specs::Edges::phis_of), using(crate::proofs::PassingPrefix::prefix_length))]
     pub(crate) fn phi_count(&self, block: usize) -> usize
         ensures { result ≡ length (phis_of self.now block) }
     {

@@ -187,7 +187,7 @@ impl Parts {
     }
 
     /// The target with this number of a basic block.
-    #[tactic(auto, using(crate::proofs::Prepared::got_none))]
+    #[tactic(auto, using(crate::proofs::GrowingTables::got_none))]
     fn target(&self, block: usize, k: usize) -> u32
         requires { k < length (successors self.now block) }
         ensures { slice_get (successors self.now block) k ≡ Some result }

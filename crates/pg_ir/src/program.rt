@@ -47,7 +47,7 @@ impl Model for Program {
 }
 
 /// So many `phi`s with which a list of instructions begins.
-#[tactic(auto, using(crate::proofs::Prepared::phis_front, crate::proofs::Prepared::phis_within))]
+#[tactic(auto, using(crate::proofs::GrowingTables::phis_front, crate::proofs::GrowingTables::phis_within))]
 fn first_phis(instrs: &[Instr], count: usize) -> &[Instr]
     requires { count ≡ length (take_while (λ (x : Instr). is_phi x.op) instrs.now) }
     ensures { result.now ≡ take_while (λ (x : Instr). is_phi x.op) instrs.now }

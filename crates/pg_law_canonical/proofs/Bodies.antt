@@ -8,12 +8,12 @@ use Rattle.pg_read_ast.specs.Text.{name_text, line_text, label_line, block_text}
 use Rattle.pg_read_grammar.specs.GrammarItems.{Part, LabelPart, LinePart, DroppedPart, part, ends_block, ends, has_label, with_front, alone, before, blocks_of, body}
 use Rattle.pg_read_grammar.specs.Endings.{ends_last, end_last}
 use Rattle.pg_law_canonical.specs.Spans.{plain_name, plain_option, plain_op, plain_block}
-use Rattle.pg_law_canonical.proofs.Forms.{fore, aft, is_not, one_right}
-use Rattle.pg_law_canonical.proofs.Again.{Again, Every, anything, then_text, last_text, text_as, lined, many_text}
-use Rattle.pg_law_canonical.proofs.Lists.{mark_then}
+use Rattle.pg_law_canonical.proofs.FirstTokens.{fore, aft, is_not, one_right}
+use Rattle.pg_law_canonical.proofs.ReadAgain.{Again, Every, anything, then_text, last_text, text_as, lined, many_text}
+use Rattle.pg_law_canonical.proofs.CommaLists.{mark_then}
 use Rattle.pg_law_canonical.proofs.Tokens.{open_brace, close_brace}
-use Rattle.pg_law_canonical.proofs.Yields.{Yields, yields_give, yields_one, yields_then, yields_many}
-use Rattle.pg_law_canonical.proofs.Parts.{NameOption, LineAgain, PartAgain, PartHas, plain_part, part_text, line_again, label_again_part, part_yields}
+use Rattle.pg_law_canonical.proofs.PieceYields.{Yields, yields_give, yields_one, yields_then, yields_many}
+use Rattle.pg_law_canonical.proofs.BodyParts.{NameOption, LineAgain, PartAgain, PartHas, plain_part, part_text, line_again, label_again_part, part_yields}
 
 pub record BlockAgain (b : Block) : Type 1 where
   pub label : NameOption b.label

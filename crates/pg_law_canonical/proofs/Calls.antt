@@ -16,15 +16,15 @@ use Rattle.pg_read_grammar.specs.Grammar.{type_in, attributes, listed, argument,
 use Rattle.pg_read_grammar.specs.GrammarOps.{written, callee, dropped_callee, call}
 use Rattle.pg_read_grammar.specs.Words.{is_dropped}
 use Rattle.pg_law_canonical.specs.Spans.{nowhere, plain_name, plain_option, plain_type, plain_typed, plain_written, plain_op}
-use Rattle.pg_law_canonical.proofs.Texts.{stops}
-use Rattle.pg_law_canonical.proofs.Again.{Again, Fits, Every, given, weaker, then_text, last_text, left_text, right_text, spaced}
-use Rattle.pg_law_canonical.proofs.Lists.{mark_then, end_text, separated_text}
+use Rattle.pg_law_canonical.proofs.TokenTexts.{stops}
+use Rattle.pg_law_canonical.proofs.ReadAgain.{Again, Fits, Every, given, weaker, then_text, last_text, left_text, right_text, spaced}
+use Rattle.pg_law_canonical.proofs.CommaLists.{mark_then, end_text, separated_text}
 use Rattle.pg_law_canonical.proofs.Tokens.{open_round, close_round, comma, dots, callee_again}
 use Rattle.pg_law_canonical.proofs.WordTexts.{call_word}
-use Rattle.pg_law_canonical.proofs.Yields.{Yields, yields_give, yields_one, yields_then, yields_or, yields_refused, yields_separated, yields_listed}
+use Rattle.pg_law_canonical.proofs.PieceYields.{Yields, yields_give, yields_one, yields_then, yields_or, yields_refused, yields_separated, yields_listed}
 use Rattle.pg_law_canonical.proofs.Types.{TypeAgain, type_yields}
 use Rattle.pg_law_canonical.proofs.Values.{ap₃, ValueAgain, value_yields}
-use Rattle.pg_law_canonical.proofs.Attributes.{no_attributes, attributes_then, skip_yields}
+use Rattle.pg_law_canonical.proofs.LeftOutParts.{no_attributes, attributes_then, skip_yields}
 use Rattle.pg_law_canonical.proofs.Operations.{IsNameText, same_name, same_typed}
 
 -- ---- the types that a call writes

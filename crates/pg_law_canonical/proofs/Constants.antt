@@ -6,11 +6,11 @@ use Rattle.pg_read_ast.specs.Text.{type_text, const_text, consts_text, more_cons
 use Rattle.pg_read_grammar.specs.declared.class.Class.TheVariants.{CloseBrace, CloseSquare}
 use Rattle.pg_read_grammar.specs.Grammar.{listed, typed_const_in, array_const_of, struct_const_of, simple_const_in, const_in}
 use Rattle.pg_law_canonical.specs.Spans.{nowhere, plain_type, plain_const, plain_consts}
-use Rattle.pg_law_canonical.proofs.Texts.{stops}
-use Rattle.pg_law_canonical.proofs.Again.{Again, Every, then_text, last_text, left_text, right_text, text_as, spaced}
-use Rattle.pg_law_canonical.proofs.Lists.{mark_then, separated_text}
+use Rattle.pg_law_canonical.proofs.TokenTexts.{stops}
+use Rattle.pg_law_canonical.proofs.ReadAgain.{Again, Every, then_text, last_text, left_text, right_text, text_as, spaced}
+use Rattle.pg_law_canonical.proofs.CommaLists.{mark_then, separated_text}
 use Rattle.pg_law_canonical.proofs.Tokens.{open_brace, close_brace, open_square, close_square, bytes_again}
-use Rattle.pg_law_canonical.proofs.Yields.{Yields, yields_give, yields_one, yields_then, yields_or, yields_refused, yields_more, yields_listed}
+use Rattle.pg_law_canonical.proofs.PieceYields.{Yields, yields_give, yields_one, yields_then, yields_or, yields_refused, yields_more, yields_listed}
 use Rattle.pg_law_canonical.proofs.Types.{TypeAgain, type_yields}
 use Rattle.pg_law_canonical.proofs.Values.{value_yields}
 

@@ -11,11 +11,11 @@ use Rattle.pg_read_grammar.specs.Language.{give}
 use Rattle.pg_read_grammar.specs.Grammar.{name_of}
 use Rattle.pg_read_grammar.specs.GrammarItems.{param, dparam, node, text_item, type_item, global_item, declare_item, define_item, attributes_item, metadata_item, Item, TypeItem, GlobalItem}
 use Rattle.pg_read_grammar.specs.GrammarItems.{DeclareItem, DefineItem, OtherItem, item, tree, program}
-use Rattle.pg_law_canonical.proofs.Again.{Every}
-use Rattle.pg_law_canonical.proofs.Yields.{Yields, Any, yields_give, yields_one, yields_then, yields_or, yields_refused, yields_many, yields_listed}
+use Rattle.pg_law_canonical.proofs.ReadAgain.{Every}
+use Rattle.pg_law_canonical.proofs.PieceYields.{Yields, Any, yields_give, yields_one, yields_then, yields_or, yields_refused, yields_many, yields_listed}
 use Rattle.pg_law_canonical.proofs.Types.{type_yields}
 use Rattle.pg_law_canonical.proofs.Constants.{const_yields}
-use Rattle.pg_law_canonical.proofs.Attributes.{attributes_then, attributes_yields, skip_yields}
+use Rattle.pg_law_canonical.proofs.LeftOutParts.{attributes_then, attributes_yields, skip_yields}
 use Rattle.pg_law_canonical.proofs.Operations.{IsNameText}
 use Rattle.pg_law_canonical.proofs.Bodies.{body_yields}
 use Rattle.pg_law_canonical.proofs.Numbering.{ParamAgain}

@@ -15,15 +15,15 @@ use Rattle.pg_read_grammar.specs.Grammar.{drop_value, type_in, attributes, liste
 use Rattle.pg_read_grammar.specs.GrammarItems.{body, param, dparam, type_item, constancy, global_item, declare_item, define_item, Item, TypeItem, GlobalItem, DeclareItem, DefineItem}
 use Rattle.pg_read_grammar.specs.Endings.{end_last}
 use Rattle.pg_law_canonical.specs.Spans.{nowhere, plain_type, plain_const, plain_block, plain_param, plain_dparam, plain_named, plain_variable, plain_declaration, plain_definition}
-use Rattle.pg_law_canonical.proofs.Texts.{stops}
-use Rattle.pg_law_canonical.proofs.Again.{Again, Every, every_more, anything, given, then_text, last_text, left_text, right_text, text_as, spaced, fed, none_text}
-use Rattle.pg_law_canonical.proofs.Lists.{mark_then, end_text, separated_text}
+use Rattle.pg_law_canonical.proofs.TokenTexts.{stops}
+use Rattle.pg_law_canonical.proofs.ReadAgain.{Again, Every, every_more, anything, given, then_text, last_text, left_text, right_text, text_as, spaced, fed, none_text}
+use Rattle.pg_law_canonical.proofs.CommaLists.{mark_then, end_text, separated_text}
 use Rattle.pg_law_canonical.proofs.Tokens.{open_round, close_round, equals, dots, local_again, global_again}
 use Rattle.pg_law_canonical.proofs.WordTexts.{metadata_word, type_word, global_word, constant_word, declare_word, define_word}
 use Rattle.pg_law_canonical.proofs.Types.{TypeAgain}
 use Rattle.pg_law_canonical.proofs.Values.{ap₃}
 use Rattle.pg_law_canonical.proofs.Constants.{ConstAgain}
-use Rattle.pg_law_canonical.proofs.Attributes.{no_attributes}
+use Rattle.pg_law_canonical.proofs.LeftOutParts.{no_attributes}
 use Rattle.pg_law_canonical.proofs.Operations.{IsNameText, same_name}
 use Rattle.pg_law_canonical.proofs.Bodies.{BlockAgain, are_labelled, body_row}
 use Rattle.pg_law_canonical.proofs.Numbering.{ParamAgain}

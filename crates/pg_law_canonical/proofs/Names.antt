@@ -6,7 +6,7 @@ use Rattle.std.proofs.lemmas.Bool.{eqb-false}
 use Rattle.pg_read_lex.specs.Bytes.{is_quote, begins}
 use Rattle.pg_read_lex.specs.Names.{is_hexadecimal, hexadecimal_value, Escape, escape_of, unescaped_from, unescaped, name_of}
 use Rattle.pg_read_ast.specs.Text.{hexadecimal, is_escaped, escaped_byte, quoted, is_bare, name_text}
-use Rattle.pg_law_canonical.proofs.Forms.{if_true, if_false, fore, aft, both, none_left, none_right, is_not, inside, quoted_length, bare_unquoted}
+use Rattle.pg_law_canonical.proofs.FirstTokens.{if_true, if_false, fore, aft, both, none_left, none_right, is_not, inside, quoted_length, bare_unquoted}
 
 abbrev pub is_byte : ℕ → Bool
 is_byte b = nat_lt b 256

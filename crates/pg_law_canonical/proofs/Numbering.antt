@@ -10,12 +10,12 @@ use Rattle.pg_read_ast.specs.Syntax.{Line, Block, Param, NamedType}
 use Rattle.pg_read_ast.specs.Numbers.{digits_text, decimal_text, name_at, each_at, param_at, behind_param, result_at, line_at, behind_line, block_at, behind_block, gives}
 use Rattle.pg_read_grammar.specs.GrammarItems.{ends_block}
 use Rattle.pg_read_grammar.specs.Endings.{ends_last, end_last}
-use Rattle.pg_law_canonical.proofs.Forms.{both}
+use Rattle.pg_law_canonical.proofs.FirstTokens.{both}
 use Rattle.pg_law_canonical.proofs.Names.{is_byte}
-use Rattle.pg_law_canonical.proofs.Again.{Every}
+use Rattle.pg_law_canonical.proofs.ReadAgain.{Every}
 use Rattle.pg_law_canonical.proofs.Types.{TypeAgain}
 use Rattle.pg_law_canonical.proofs.Operations.{IsNameText}
-use Rattle.pg_law_canonical.proofs.Parts.{NameOption, LineAgain}
+use Rattle.pg_law_canonical.proofs.BodyParts.{NameOption, LineAgain}
 use Rattle.pg_law_canonical.proofs.Bodies.{BlockAgain, are_labelled}
 
 pub record ParamAgain (p : Param) : Type 1 where

@@ -9,12 +9,12 @@ use Rattle.pg_read_grammar.specs.Language.{give, ◌or◌}
 use Rattle.pg_read_grammar.specs.Grammar.{name_of, literal_of}
 use Rattle.pg_read_grammar.specs.GrammarOps.{binary_of, predicate_of, cast_of, binary, icmp, cast, select, phi, branch, switch, return, unreachable, alloca, load, store, gep, plain_op, simple_op, op}
 use Rattle.pg_law_canonical.specs.Spans as plain
-use Rattle.pg_law_canonical.proofs.Texts.{stops}
-use Rattle.pg_law_canonical.proofs.Again.{Again, last_text, left_text, right_text}
-use Rattle.pg_law_canonical.proofs.Yields.{Yields, yields_give, yields_one, yields_then, yields_or, yields_refused, yields_more, yields_many}
+use Rattle.pg_law_canonical.proofs.TokenTexts.{stops}
+use Rattle.pg_law_canonical.proofs.ReadAgain.{Again, last_text, left_text, right_text}
+use Rattle.pg_law_canonical.proofs.PieceYields.{Yields, yields_give, yields_one, yields_then, yields_or, yields_refused, yields_more, yields_many}
 use Rattle.pg_law_canonical.proofs.Types.{type_yields}
 use Rattle.pg_law_canonical.proofs.Values.{value_yields, typed_value_yields}
-use Rattle.pg_law_canonical.proofs.Attributes.{flags_then}
+use Rattle.pg_law_canonical.proofs.LeftOutParts.{flags_then}
 use Rattle.pg_law_canonical.proofs.Operations.{Reads, binary_row, icmp_row, cast_row, select_row, incoming_yields, phi_rest, phi_row, br_row, cond_row, case_yields, switch_row, ret_void_row}
 use Rattle.pg_law_canonical.proofs.Operations.{ret_row, unreachable_row, alloca_row, alloca_count_row, load_row, store_row, gep_row}
 use Rattle.pg_law_canonical.proofs.Calls.{CallAgain, call_yields}

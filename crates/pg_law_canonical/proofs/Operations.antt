@@ -19,17 +19,17 @@ use Rattle.pg_read_grammar.specs.Language.{◌>>=◌ as ◌then◌}
 use Rattle.pg_read_grammar.specs.Grammar.{name_of}
 use Rattle.pg_read_grammar.specs.GrammarOps.{typed_value, binary, icmp, cast, select, incoming, phi, branch, case_of, switch, return, unreachable, alloca, load, store, gep}
 use Rattle.pg_law_canonical.specs.Spans.{nowhere, plain_typed, plain_incoming, plain_case, plain_op}
-use Rattle.pg_law_canonical.proofs.Texts.{stops}
+use Rattle.pg_law_canonical.proofs.TokenTexts.{stops}
 use Rattle.pg_law_canonical.proofs.Names.{is_byte}
-use Rattle.pg_law_canonical.proofs.Again.{Again, Every, given, then_text, last_text, left_text, right_text, text_as, spaced, many_text}
-use Rattle.pg_law_canonical.proofs.Lists.{mark_then, end_text, commas_text, commas_fit}
+use Rattle.pg_law_canonical.proofs.ReadAgain.{Again, Every, given, then_text, last_text, left_text, right_text, text_as, spaced, many_text}
+use Rattle.pg_law_canonical.proofs.CommaLists.{mark_then, end_text, commas_text, commas_fit}
 use Rattle.pg_law_canonical.proofs.Tokens.{open_square, close_square, comma, int_text, local_again}
 use Rattle.pg_law_canonical.proofs.WordTexts.{binary_again, predicate_again, cast_again, icmp_word, select_word, phi_word, br_word, switch_word, label_word, ret_word, void_word}
 use Rattle.pg_law_canonical.proofs.WordTexts.{unreachable_word, alloca_word, load_word, store_word, getelementptr_word, to_word}
-use Rattle.pg_law_canonical.proofs.Yields.{Yields, yields_give, yields_one, yields_then}
+use Rattle.pg_law_canonical.proofs.PieceYields.{Yields, yields_give, yields_one, yields_then}
 use Rattle.pg_law_canonical.proofs.Types.{TypeAgain, type_yields}
 use Rattle.pg_law_canonical.proofs.Values.{ap₃, ValueAgain, TypedAgain, value_yields}
-use Rattle.pg_law_canonical.proofs.Attributes.{no_flags}
+use Rattle.pg_law_canonical.proofs.LeftOutParts.{no_flags}
 
 -- ---- values with their types
 

@@ -21,14 +21,14 @@ use Rattle.pg_read_grammar.proofs.ItemRows.{anything as avoided}
 use Rattle.pg_read_grammar.proofs.ItemLoops.{program_piece}
 use Rattle.pg_read_grammar.proofs.EndingLaws.{module_ends}
 use Rattle.pg_law_canonical.specs.Spans.{plain_named, plain_variable, plain_declaration, plain_definition, without_spans}
-use Rattle.pg_law_canonical.proofs.Forms.{fore, aft}
+use Rattle.pg_law_canonical.proofs.FirstTokens.{fore, aft}
 use Rattle.pg_law_canonical.proofs.Names.{is_byte}
-use Rattle.pg_law_canonical.proofs.Texts.{In}
-use Rattle.pg_law_canonical.proofs.Again.{Again, Every, every_more, anything, last_text, left_text, right_text, many_text}
+use Rattle.pg_law_canonical.proofs.TokenTexts.{In}
+use Rattle.pg_law_canonical.proofs.ReadAgain.{Again, Every, every_more, anything, last_text, left_text, right_text, many_text}
 use Rattle.pg_law_canonical.proofs.Numbering.{params_again, blocks_again, blocks_labelled, blocks_end}
 use Rattle.pg_law_canonical.proofs.Items.{plain_item, TypeHas, GlobalHas, DeclareHas, DefineHas, type_row, global_row, declare_row, define_row}
 use Rattle.pg_law_canonical.proofs.ItemYields.{TreeHas, program_yields}
-use Rattle.pg_law_canonical.proofs.Formed.{tokens_formed}
+use Rattle.pg_law_canonical.proofs.ByteTokens.{tokens_formed}
 
 -- ---- the items of a tree
 

@@ -15,10 +15,10 @@ use Rattle.pg_read_grammar.specs.Language.{one}
 use Rattle.pg_read_grammar.specs.Grammar.{global_name}
 use Rattle.pg_read_grammar.specs.Words.{word_class, is_dropped}
 use Rattle.pg_read_grammar.proofs.ClassTests.{is_self}
-use Rattle.pg_law_canonical.proofs.Texts.{stops}
-use Rattle.pg_law_canonical.proofs.Forms.{is_word_text, word_piece, int_some, int_piece, dots_piece, local_piece, global_piece, bytes_piece, label_piece}
+use Rattle.pg_law_canonical.proofs.TokenTexts.{stops}
+use Rattle.pg_law_canonical.proofs.FirstTokens.{is_word_text, word_piece, int_some, int_piece, dots_piece, local_piece, global_piece, bytes_piece, label_piece}
 use Rattle.pg_law_canonical.proofs.Names.{is_byte, quoted_name, text_name}
-use Rattle.pg_law_canonical.proofs.Again.{Again, IsToken, token_text, weaker}
+use Rattle.pg_law_canonical.proofs.ReadAgain.{Again, IsToken, token_text, weaker}
 
 -- ---- marks
 

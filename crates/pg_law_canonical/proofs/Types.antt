@@ -8,12 +8,12 @@ use Rattle.pg_read_ast.specs.Text.{type_text, fields_text, more_fields_text}
 use Rattle.pg_read_grammar.specs.declared.class.Class.TheVariants.{CloseBrace}
 use Rattle.pg_read_grammar.specs.Grammar.{simple_type, array_of, struct_of, listed, type_in, literal_of}
 use Rattle.pg_law_canonical.specs.Spans.{nowhere, plain_type, plain_types}
-use Rattle.pg_law_canonical.proofs.Texts.{stops}
-use Rattle.pg_law_canonical.proofs.Again.{Again, Every, then_text, last_text, left_text, right_text, text_as, spaced}
-use Rattle.pg_law_canonical.proofs.Lists.{mark_then, separated_text}
+use Rattle.pg_law_canonical.proofs.TokenTexts.{stops}
+use Rattle.pg_law_canonical.proofs.ReadAgain.{Again, Every, then_text, last_text, left_text, right_text, text_as, spaced}
+use Rattle.pg_law_canonical.proofs.CommaLists.{mark_then, separated_text}
 use Rattle.pg_law_canonical.proofs.Tokens.{open_brace, close_brace, open_square, close_square, int_text, local_again}
 use Rattle.pg_law_canonical.proofs.WordTexts.{i1_word, i8_word, i16_word, i32_word, i64_word, ptr_word, void_word, x_word}
-use Rattle.pg_law_canonical.proofs.Yields.{Yields, yields_give, yields_one, yields_then, yields_or, yields_refused, yields_more, yields_listed}
+use Rattle.pg_law_canonical.proofs.PieceYields.{Yields, yields_give, yields_one, yields_then, yields_or, yields_refused, yields_more, yields_listed}
 
 abbrev pub TypeAgain : ℕ → Ty → Type 1
 TypeAgain d t = Again stops (type_in d) (type_text t) (λ u. plain_type u ≡ plain_type t)

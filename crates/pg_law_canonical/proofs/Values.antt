@@ -11,12 +11,12 @@ use Rattle.pg_read_grammar.specs.Language.{one}
 use Rattle.pg_read_grammar.specs.Grammar.{flags, named_value, typed_in, gep_of, int_to_ptr_of, other_value_in, value_in, literal_of}
 use Rattle.pg_read_grammar.specs.Grammar as grammar
 use Rattle.pg_law_canonical.specs.Spans.{nowhere, plain_type, plain_value, plain_values, plain_typed}
-use Rattle.pg_law_canonical.proofs.Texts.{stops}
-use Rattle.pg_law_canonical.proofs.Again.{Again, Every, then_text, last_text, left_text, right_text, text_as, spaced, none_text}
-use Rattle.pg_law_canonical.proofs.Lists.{mark_then, no_text, commas_text}
+use Rattle.pg_law_canonical.proofs.TokenTexts.{stops}
+use Rattle.pg_law_canonical.proofs.ReadAgain.{Again, Every, then_text, last_text, left_text, right_text, text_as, spaced, none_text}
+use Rattle.pg_law_canonical.proofs.CommaLists.{mark_then, no_text, commas_text}
 use Rattle.pg_law_canonical.proofs.Tokens.{open_round, close_round, comma, int_text, local_again, global_again}
 use Rattle.pg_law_canonical.proofs.WordTexts.{true_word, false_word, null_word, undef_word, poison_word, zeroinitializer_word, getelementptr_word, inttoptr_word, to_word}
-use Rattle.pg_law_canonical.proofs.Yields.{Yields, yields_give, yields_one, yields_then, yields_or, yields_refused, yields_more, yields_many}
+use Rattle.pg_law_canonical.proofs.PieceYields.{Yields, yields_give, yields_one, yields_then, yields_or, yields_refused, yields_more, yields_many}
 use Rattle.pg_law_canonical.proofs.Types.{TypeAgain, type_yields}
 
 pub ap₃ : {A B C D : Type 0} (f : A → B → C → D) {a a' : A} {b b' : B} {c c' : C} → a ≡ a' → b ≡ b' → c ≡ c' → f a b c ≡ f a' b' c'

@@ -15,8 +15,8 @@ use Rattle.pg_read_grammar.specs.Classes.{is}
 use Rattle.pg_read_grammar.specs.Language.{one}
 use Rattle.pg_read_grammar.specs.GrammarOps.{binary_word, binary_of, predicate_word, predicate_of, cast_word, cast_of}
 use Rattle.pg_read_grammar.specs.Words.{word_class, words}
-use Rattle.pg_law_canonical.proofs.Texts.{stops}
-use Rattle.pg_law_canonical.proofs.Again.{Again, IsToken, weaker}
+use Rattle.pg_law_canonical.proofs.TokenTexts.{stops}
+use Rattle.pg_law_canonical.proofs.ReadAgain.{Again, IsToken, weaker}
 use Rattle.pg_law_canonical.proofs.Tokens.{word, word_of}
 
 pub i1_word : Again stops (one (is I1)) (codes "i1") (IsToken I1 (codes "i1"))

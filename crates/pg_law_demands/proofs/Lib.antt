@@ -1,9 +1,9 @@
 -- Proofs of the laws.
-pub mod Values
-pub mod Steps
-pub mod Back
-pub mod Own
-pub mod Walk
-pub mod Due
-pub mod Passed
-pub mod Still
+pub mod ValuesBefore
+pub mod DemandsBack
+pub mod StepBack
+pub mod OwnDemands
+pub mod WalkBack
+pub mod DueDemands
+pub mod PassedByExtents
+pub mod StepsInExtents

@@ -12,7 +12,7 @@ use Rattle.pg_region_summaries.specs.Blocks.{blocks_of}
 use Rattle.pg_region.specs.declared.region.Region.{Region}
 use Rattle.pg_region.specs.Regions.{IsRegion}
 use Rattle.pg_region.specs.Laws.{AreNested}
-use Rattle.pg_region.proofs.Within.{regions_nest}
+use Rattle.pg_region.proofs.NestedRegions.{regions_nest}
 use Rattle.pg_run_thread.specs.LocalState.{Frame, LocalState}
 use Rattle.pg_run.specs.State.{State}
 use Rattle.pg_run.specs.MachineStep.{is_gated}
@@ -21,11 +21,11 @@ use Rattle.pg_law_instances.specs.Free.{instance_of}
 use Rattle.pg_law_instances.specs.Inner.{GoesOnInside, LiesWithin}
 use Rattle.pg_law_instances.specs.Inside.{Instance, IsBottom, Stands, region_set, registers_by}
 use Rattle.pg_law_instances.specs.Leads.{IsReached as LeadsTo}
-use Rattle.pg_law_instances.proofs.Freed.{join_fits}
-use Rattle.pg_law_instances.proofs.LeadsOut.{leads_out}
-use Rattle.pg_law_instances.proofs.Opens.{bottom_of}
-use Rattle.pg_law_instances.proofs.Places.{at_block}
-use Rattle.pg_law_instances.proofs.Within.{inner_reached, region_function}
+use Rattle.pg_law_instances.proofs.FreeRegions.{join_fits}
+use Rattle.pg_law_instances.proofs.JoinLeadsOut.{leads_out}
+use Rattle.pg_law_instances.proofs.OpenExtentIsInstance.{bottom_of}
+use Rattle.pg_law_instances.proofs.FramePlaces.{at_block}
+use Rattle.pg_law_instances.proofs.InnerRegionPaths.{inner_reached, region_function}
 
 module _ (p : NumberedProgram) (gated : List InstrId) (sums : ℕ → Option RootedList) (input : List ℤ) (c : ℕ) (outer inner : Region) (q : FreeRegion) (first s : State) (l0 l : LocalState)
     (f0 frame : Frame) (fs0 below : List Frame) (t : ℕ) (x : Instr)

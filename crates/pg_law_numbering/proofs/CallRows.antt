@@ -30,23 +30,23 @@ use Rattle.pg_check_rules.specs.CallConditions.{wrong_thread, unsupported_thread
 use Rattle.pg_check_rules.specs.Conditions.{scope_of, is_scalar_type, are_params, IsUnrefused}
 use Rattle.pg_check_rules.specs.Numbered.{scalar_in, value_of, symbol_value, typed_value, library_call, call_of, op_at, named_functions, program_of}
 use Rattle.pg_check_types.specs.Kinds.{is_as, fails}
-use Rattle.pg_law_numbering.proofs.Flat.{behind_get, there_at, map_count, front_at, in_front}
-use Rattle.pg_law_numbering.proofs.Unrefused.{front_none, behind_none, else_none, then_none}
+use Rattle.pg_law_numbering.proofs.FlattenedLists.{behind_get, there_at, map_count, front_at, in_front}
+use Rattle.pg_law_numbering.proofs.UnrefusedParts.{front_none, behind_none, else_none, then_none}
 use Rattle.pg_check_types.proofs.SameTypes.{same_type_true}
-use Rattle.pg_law_numbering.proofs.Resolves.{Has}
+use Rattle.pg_law_numbering.proofs.ResolvedTypes.{Has}
 use Rattle.pg_check_types.proofs.Voids.{void_resolved}
-use Rattle.pg_law_numbering.proofs.Naming.{params_kept, param_plain}
-use Rattle.pg_law_numbering.proofs.Placed.{function_there, functions_count}
+use Rattle.pg_law_numbering.proofs.NamedDefinitions.{params_kept, param_plain}
+use Rattle.pg_law_numbering.proofs.NumberedPlaces.{function_there, functions_count}
 use Rattle.pg_law_numbering.proofs.Scalars.{scalar_type_is, result_is, passes_from, pointer_is}
-use Rattle.pg_law_numbering.proofs.Symbols.{definition_there, declaration_there}
+use Rattle.pg_law_numbering.proofs.GlobalSymbols.{definition_there, declaration_there}
 use Rattle.pg_law_numbering.proofs.Headers.{named_there, param_type_at, result_has, param_has}
 use Rattle.pg_law_numbering.proofs.Callees.{CallsDefined, CallsLibrary, defined_agrees, declared_agrees, known_result, known_params}
-use Rattle.pg_law_numbering.proofs.Passes.{Passes}
+use Rattle.pg_law_numbering.proofs.LineOperations.{Passes}
 use Rattle.pg_law_numbering.proofs.PhisAndEnds.{callee_of}
 use Rattle.pg_law_numbering.proofs.Registers.{scalars_of, types_are_of, result_is_of, params_within, param_at_number}
 use Rattle.pg_law_numbering.proofs.Operands.{type_of_scalar, operand_fits}
-use Rattle.pg_law_numbering.proofs.Tests.{not_true}
-use Rattle.pg_law_numbering.proofs.Filters.{map_there, map_from}
+use Rattle.pg_law_numbering.proofs.ChoiceTests.{not_true}
+use Rattle.pg_law_numbering.proofs.FilteredLists.{map_there, map_from}
 
 -- ---- lists
 

@@ -14,8 +14,8 @@ use Rattle.pg_check_rules.specs.Places.{type_span}
 use Rattle.pg_check_rules.specs.ValueConditions.{unknown_symbol}
 use Rattle.pg_check_rules.specs.CallConditions.{agree, Header, definition_header, declaration_header, written_fit, variable_symbol, unsupported_symbol, wrong_header}
 use Rattle.pg_check_rules.specs.Conditions.{is_result, are_params, IsUnrefused}
-use Rattle.pg_law_numbering.proofs.Unrefused.{else_none}
-use Rattle.pg_law_numbering.proofs.Resolves.{Has}
+use Rattle.pg_law_numbering.proofs.UnrefusedParts.{else_none}
+use Rattle.pg_law_numbering.proofs.ResolvedTypes.{Has}
 use Rattle.pg_law_numbering.proofs.Scalars.{agreed, result_there}
 use Rattle.pg_law_numbering.proofs.Headers.{named_there, result_has, known_header}
 

@@ -14,12 +14,12 @@ use Rattle.pg_check_rules.specs.Written.{const_types, part_types}
 use Rattle.pg_check_rules.specs.ValueConditions.{part_count, fits_bytes, fits_elements, wrong_part, wrong_const, wrong_elements, wrong_fields}
 use Rattle.pg_check_rules.specs.Constants.{constant_word, pointer_word, little_endian, filled, value_bytes, const_bytes, element_bytes, field_bytes, unless_zero, trimmed}
 use Rattle.pg_check_types.specs.Kinds.{is_as, fails}
-use Rattle.pg_law_numbering.proofs.Unrefused.{front_none, behind_none, then_none}
+use Rattle.pg_law_numbering.proofs.UnrefusedParts.{front_none, behind_none, then_none}
 use Rattle.pg_check_types.proofs.Alignments.{aligned, rounds_up, end_within, end_from, end_is, end_behind}
 use Rattle.pg_check_types.proofs.SameTypes.{same_type_true}
-use Rattle.pg_law_numbering.proofs.Resolves.{Has}
-use Rattle.pg_law_numbering.proofs.Tests.{not_false}
-use Rattle.pg_law_numbering.proofs.Each.{all_front, all_behind}
+use Rattle.pg_law_numbering.proofs.ResolvedTypes.{Has}
+use Rattle.pg_law_numbering.proofs.ChoiceTests.{not_false}
+use Rattle.pg_law_numbering.proofs.EachElement.{all_front, all_behind}
 
 -- ---- bytes
 

@@ -14,10 +14,10 @@ use Rattle.pg_check_rules.specs.Numbered.{named_functions}
 use Rattle.pg_read_grammar.specs.GrammarItems.{ends_block}
 use Rattle.pg_read_grammar.specs.Endings.{ends_last, end_last}
 use Rattle.pg_law_numbering.specs.Parsed.{IsInOrder}
-use Rattle.pg_law_numbering.proofs.Unrefused.{named_from}
-use Rattle.pg_law_numbering.proofs.Naming.{block_plain}
+use Rattle.pg_law_numbering.proofs.UnrefusedParts.{named_from}
+use Rattle.pg_law_numbering.proofs.NamedDefinitions.{block_plain}
 use Rattle.pg_law_numbering.proofs.FitsFunctions.{has_ending}
-use Rattle.pg_law_numbering.proofs.Tests.{not_true, all_in}
+use Rattle.pg_law_numbering.proofs.ChoiceTests.{not_true, all_in}
 
 -- the operations that end a block, as the grammar has them
 ending_is : (o : Op) → ends_block o ≡ is_ending o

@@ -30,19 +30,19 @@ use Rattle.pg_check_rules.specs.CallConditions.{definition_header}
 use Rattle.pg_check_rules.specs.LineConditions.{line_refused}
 use Rattle.pg_check_rules.specs.Conditions.{all_of, head_types, scope_of, all_lines, is_unfinished, body_refused, definition_refused, main_name, is_result, are_params, IsUnrefused}
 use Rattle.pg_check_rules.specs.Numbered.{named_functions, function_at, instr_at, program_of}
-use Rattle.pg_law_numbering.proofs.Flat.{sum_within, there_at, front_at, rest_at}
-use Rattle.pg_law_numbering.proofs.Unrefused.{front_none, at_if_none, bodies_pass, definitions_pass, named_from, main_is}
-use Rattle.pg_law_numbering.proofs.Naming.{block_count, first_block_named, first_line_named, all_lines_named, has_name}
-use Rattle.pg_law_numbering.proofs.Placed.{IsFunctionOf, function_found, function_there, functions_count, block_of, lines_in, IsBlockOf, block_there, block_found, blocks_total, line_there}
-use Rattle.pg_law_numbering.proofs.Placed.{instrs_total}
+use Rattle.pg_law_numbering.proofs.FlattenedLists.{sum_within, there_at, front_at, rest_at}
+use Rattle.pg_law_numbering.proofs.UnrefusedParts.{front_none, at_if_none, bodies_pass, definitions_pass, named_from, main_is}
+use Rattle.pg_law_numbering.proofs.NamedDefinitions.{block_count, first_block_named, first_line_named, all_lines_named, has_name}
+use Rattle.pg_law_numbering.proofs.NumberedPlaces.{IsFunctionOf, function_found, function_there, functions_count, block_of, lines_in, IsBlockOf, block_there, block_found, blocks_total, line_there}
+use Rattle.pg_law_numbering.proofs.NumberedPlaces.{instrs_total}
 use Rattle.pg_law_numbering.proofs.Headers.{main_header, named_there}
 use Rattle.pg_law_numbering.proofs.Scalars.{result_is}
-use Rattle.pg_law_numbering.proofs.Lines.{IsLine}
-use Rattle.pg_law_numbering.proofs.Passes.{passes}
-use Rattle.pg_law_numbering.proofs.Firsts.{from_any, first_position}
+use Rattle.pg_law_numbering.proofs.AcceptedLines.{IsLine}
+use Rattle.pg_law_numbering.proofs.LineOperations.{passes}
+use Rattle.pg_law_numbering.proofs.FirstPassing.{from_any, first_position}
 use Rattle.pg_law_numbering.proofs.PhisAndEnds.{op_phi, phi_gives}
 use Rattle.pg_law_numbering.proofs.Registers.{scalars_count, params_within, few_registers, few_lines}
-use Rattle.pg_law_numbering.proofs.Tests.{not_false, none_at}
+use Rattle.pg_law_numbering.proofs.ChoiceTests.{not_false, none_at}
 
 some_number : (n : ℕ) → (n == 0) ≡ false → 0 < n
 some_number zero e = absurd cc

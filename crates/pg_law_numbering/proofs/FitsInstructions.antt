@@ -17,9 +17,9 @@ use Rattle.pg_check_rules.specs.Written.{is_ending}
 use Rattle.pg_check_rules.specs.Conditions.{scope_of, IsUnrefused}
 use Rattle.pg_check_rules.specs.Numbered.{scalar_in, number_of_name, result_at, instr_at, op_at, named_functions, program_of}
 use Rattle.pg_law_numbering.specs.Parsed.{IsInOrder}
-use Rattle.pg_law_numbering.proofs.Placed.{lines_in, line_found, block_there}
-use Rattle.pg_law_numbering.proofs.Lines.{IsLine}
-use Rattle.pg_law_numbering.proofs.Passes.{Passes, passes}
+use Rattle.pg_law_numbering.proofs.NumberedPlaces.{lines_in, line_found, block_there}
+use Rattle.pg_law_numbering.proofs.AcceptedLines.{IsLine}
+use Rattle.pg_law_numbering.proofs.LineOperations.{Passes, passes}
 use Rattle.pg_law_numbering.proofs.PhisAndEnds.{op_phi, op_end}
 use Rattle.pg_law_numbering.proofs.Registers.{scalars_of, HasNumber, set_number, line_named, types_are_of, result_is_of}
 use Rattle.pg_law_numbering.proofs.FitsFunctions.{first_is, end_is}

@@ -23,17 +23,17 @@ use Rattle.pg_check_rules.specs.LineConditions.{no_block}
 use Rattle.pg_check_rules.specs.Conditions.{scope_of, body_refused, IsUnrefused}
 use Rattle.pg_check_rules.specs.Numbered.{named_functions, instr_at, op_at, program_of}
 use Rattle.pg_law_numbering.specs.Parsed.{IsInOrder}
-use Rattle.pg_law_numbering.proofs.Flat.{Numbered, enumerate_get, behind_get, there_at, rest_at, in_front}
-use Rattle.pg_law_numbering.proofs.Unrefused.{front_none, behind_none, each_none, else_none, bodies_pass}
-use Rattle.pg_law_numbering.proofs.Placed.{lines_in, block_there, block_found, line_there, function_there}
-use Rattle.pg_law_numbering.proofs.Filters.{filter_found, filter_there, map_there, map_from}
-use Rattle.pg_law_numbering.proofs.Lines.{IsLine}
-use Rattle.pg_law_numbering.proofs.Passes.{passes}
+use Rattle.pg_law_numbering.proofs.FlattenedLists.{Numbered, enumerate_get, behind_get, there_at, rest_at, in_front}
+use Rattle.pg_law_numbering.proofs.UnrefusedParts.{front_none, behind_none, each_none, else_none, bodies_pass}
+use Rattle.pg_law_numbering.proofs.NumberedPlaces.{lines_in, block_there, block_found, line_there, function_there}
+use Rattle.pg_law_numbering.proofs.FilteredLists.{filter_found, filter_there, map_there, map_from}
+use Rattle.pg_law_numbering.proofs.AcceptedLines.{IsLine}
+use Rattle.pg_law_numbering.proofs.LineOperations.{passes}
 use Rattle.pg_law_numbering.proofs.PhisAndEnds.{op_phi}
 use Rattle.pg_law_numbering.proofs.FitsFunctions.{first_is, has_ending, in_function}
 use Rattle.pg_law_numbering.proofs.Labels.{labelled, names_from, number_of_label, target}
 use Rattle.pg_law_numbering.proofs.Predecessors.{contains_at, contained, text_found, phi_shown, sources_are, target_number, successors_are, goes_on, names_label}
-use Rattle.pg_law_numbering.proofs.Tests.{second_of, all_in}
+use Rattle.pg_law_numbering.proofs.ChoiceTests.{second_of, all_in}
 
 -- ---- in the program
 

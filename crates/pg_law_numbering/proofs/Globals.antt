@@ -17,13 +17,13 @@ use Rattle.pg_check_rules.specs.ValueConditions.{wrong_const, wrong_use, unknown
 use Rattle.pg_check_rules.specs.Constants.{start_granule, const_bytes, bytes_at, trimmed}
 use Rattle.pg_check_rules.specs.Numbered.{global_at, program_of}
 use Rattle.pg_check_rules.specs.Conditions.{global_uses, global_types, granules_of, globals_end, outside, global_refused, IsUnrefused}
-use Rattle.pg_law_numbering.proofs.Flat.{Numbered, take_more, there_at}
-use Rattle.pg_law_numbering.proofs.Unrefused.{front_none, behind_none, at_if_none, globals_pass}
-use Rattle.pg_law_numbering.proofs.Resolves.{Has}
-use Rattle.pg_law_numbering.proofs.Chains.{types_are}
-use Rattle.pg_law_numbering.proofs.Sizes.{not_large, size_within}
+use Rattle.pg_law_numbering.proofs.FlattenedLists.{Numbered, take_more, there_at}
+use Rattle.pg_law_numbering.proofs.UnrefusedParts.{front_none, behind_none, at_if_none, globals_pass}
+use Rattle.pg_law_numbering.proofs.ResolvedTypes.{Has}
+use Rattle.pg_law_numbering.proofs.TypeNameChains.{types_are}
+use Rattle.pg_law_numbering.proofs.TypeSizes.{not_large, size_within}
 use Rattle.pg_law_numbering.proofs.ConstantBytes.{const_length, trimmed_length}
-use Rattle.pg_law_numbering.proofs.Each.{all_from_front}
+use Rattle.pg_law_numbering.proofs.EachElement.{all_from_front}
 
 -- ---- sums of the first elements
 

@@ -23,11 +23,11 @@ use Rattle.pg_check_rules.specs.Conditions.{head_types, has_header, has_other_he
 use Rattle.pg_check_rules.specs.Conditions.{wrong_definition, definition_refused, declaration_refused, IsUnrefused}
 use Rattle.pg_check_rules.specs.Numbered.{named_functions}
 use Rattle.pg_check_types.specs.Kinds.{fails}
-use Rattle.pg_law_numbering.proofs.Unrefused.{at_if_none, declarations_pass, definitions_pass}
-use Rattle.pg_law_numbering.proofs.Resolves.{Has}
-use Rattle.pg_law_numbering.proofs.Chains.{types_are}
+use Rattle.pg_law_numbering.proofs.UnrefusedParts.{at_if_none, declarations_pass, definitions_pass}
+use Rattle.pg_law_numbering.proofs.ResolvedTypes.{Has}
+use Rattle.pg_law_numbering.proofs.TypeNameChains.{types_are}
 use Rattle.pg_law_numbering.proofs.Scalars.{IsScalarOf, scalar_from, passes_from, all_resolved}
-use Rattle.pg_law_numbering.proofs.Tests.{second_of, none_at}
+use Rattle.pg_law_numbering.proofs.ChoiceTests.{second_of, none_at}
 
 pub named_there : (m : Tree) (f : ℕ) (d : Definition) → slice_get m.functions f ≡ Some d → slice_get (named_functions m) f ≡ Some (numbered m.types d)
 named_there m f d e = slice_get-map (numbered m.types) m.functions f ∙ ap (λ (o : Option Definition). option_map (numbered m.types) o) e

@@ -23,17 +23,17 @@ use Rattle.pg_check_rules.specs.LineConditions.{no_block}
 use Rattle.pg_check_rules.specs.Conditions.{scope_of, IsUnrefused}
 use Rattle.pg_check_rules.specs.Numbered.{named_functions, case_at, binary_op, cast_op, library_call, call_of, op_at, program_of}
 use Rattle.pg_law_numbering.specs.Parsed.{IsInOrder}
-use Rattle.pg_law_numbering.proofs.Flat.{there_at}
-use Rattle.pg_law_numbering.proofs.Unrefused.{else_none, named_from}
-use Rattle.pg_law_numbering.proofs.Naming.{has_label}
-use Rattle.pg_law_numbering.proofs.Filters.{total_get, total_length}
-use Rattle.pg_law_numbering.proofs.Firsts.{IsFirst, from_position, first_position}
-use Rattle.pg_law_numbering.proofs.Unique.{labels_differ}
-use Rattle.pg_law_numbering.proofs.Passes.{Passes}
+use Rattle.pg_law_numbering.proofs.FlattenedLists.{there_at}
+use Rattle.pg_law_numbering.proofs.UnrefusedParts.{else_none, named_from}
+use Rattle.pg_law_numbering.proofs.NamedDefinitions.{has_label}
+use Rattle.pg_law_numbering.proofs.FilteredLists.{total_get, total_length}
+use Rattle.pg_law_numbering.proofs.FirstPassing.{IsFirst, from_position, first_position}
+use Rattle.pg_law_numbering.proofs.UniqueNames.{labels_differ}
+use Rattle.pg_law_numbering.proofs.LineOperations.{Passes}
 use Rattle.pg_law_numbering.proofs.FitsFunctions.{in_function}
 use Rattle.std.proofs.lemmas.Option.{slice_get_within, same_Some}
-use Rattle.pg_law_numbering.proofs.Tests.{some_of}
-use Rattle.pg_law_numbering.proofs.Each.{all_from_front, mapped_all}
+use Rattle.pg_law_numbering.proofs.ChoiceTests.{some_of}
+use Rattle.pg_law_numbering.proofs.EachElement.{all_from_front, mapped_all}
 
 -- the block that a label names
 pub record Names (d : Definition) (n : Name) : Type 0 where

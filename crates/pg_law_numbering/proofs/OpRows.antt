@@ -34,21 +34,21 @@ use Rattle.pg_check_rules.specs.Conditions.{scope_of, IsUnrefused}
 use Rattle.pg_check_rules.specs.Numbered.{scalar_in, width_in, value_of, binary_op, cast_op, incoming_at, case_at, indices_at, op_at, named_functions, program_of}
 use Rattle.pg_check_types.specs.Kinds.{is_as, fails}
 use Rattle.pg_law_numbering.specs.Parsed.{IsInOrder}
-use Rattle.pg_law_numbering.proofs.Flat.{in_front}
-use Rattle.pg_law_numbering.proofs.Unrefused.{then_none}
+use Rattle.pg_law_numbering.proofs.FlattenedLists.{in_front}
+use Rattle.pg_law_numbering.proofs.UnrefusedParts.{then_none}
 use Rattle.pg_check_types.proofs.SameTypes.{same_type_true}
 use Rattle.pg_check_types.proofs.Voids.{void_resolved}
 use Rattle.pg_law_numbering.proofs.Scalars.{scalar_from, integer_is, pointer_is, void_type_is, isnt_void_type, returnable_or, passes_from}
-use Rattle.pg_law_numbering.proofs.Placed.{block_there}
-use Rattle.pg_law_numbering.proofs.Passes.{Passes}
+use Rattle.pg_law_numbering.proofs.NumberedPlaces.{block_there}
+use Rattle.pg_law_numbering.proofs.LineOperations.{Passes}
 use Rattle.pg_law_numbering.proofs.Registers.{scalars_of}
-use Rattle.pg_law_numbering.proofs.Words.{constant_below}
+use Rattle.pg_law_numbering.proofs.ConstantWidths.{constant_below}
 use Rattle.pg_law_numbering.proofs.Operands.{operand_fits, no_void_operand}
-use Rattle.pg_law_numbering.proofs.Results.{cast_scalar}
+use Rattle.pg_law_numbering.proofs.ScalarResults.{cast_scalar}
 use Rattle.pg_law_numbering.proofs.Labels.{names_from, target}
 use Rattle.pg_law_numbering.proofs.Headers.{result_has, result_returnable}
-use Rattle.pg_law_numbering.proofs.Tests.{not_from}
-use Rattle.pg_law_numbering.proofs.Filters.{map_there}
+use Rattle.pg_law_numbering.proofs.ChoiceTests.{not_from}
+use Rattle.pg_law_numbering.proofs.FilteredLists.{map_there}
 
 -- ---- lists
 

@@ -18,13 +18,13 @@ use Rattle.pg_check_rules.specs.ValueConditions.{unknown_symbol, function_symbol
 use Rattle.pg_check_rules.specs.CallConditions.{value_operands}
 use Rattle.pg_check_rules.specs.Conditions.{scope_of, IsUnrefused}
 use Rattle.pg_check_rules.specs.Numbered.{scalar_in, symbol_value, value_of, named_functions, program_of}
-use Rattle.pg_law_numbering.proofs.Flat.{behind_get}
-use Rattle.pg_law_numbering.proofs.Unrefused.{front_none, else_none, then_none}
+use Rattle.pg_law_numbering.proofs.FlattenedLists.{behind_get}
+use Rattle.pg_law_numbering.proofs.UnrefusedParts.{front_none, else_none, then_none}
 use Rattle.pg_law_numbering.proofs.Scalars.{passes_from, pointer_is, same_from}
-use Rattle.pg_law_numbering.proofs.Symbols.{variable_there}
+use Rattle.pg_law_numbering.proofs.GlobalSymbols.{variable_there}
 use Rattle.pg_law_numbering.proofs.Globals.{globals_count}
-use Rattle.pg_law_numbering.proofs.Words.{constant_fits}
-use Rattle.pg_law_numbering.proofs.Passes.{Passes}
+use Rattle.pg_law_numbering.proofs.ConstantWidths.{constant_fits}
+use Rattle.pg_law_numbering.proofs.LineOperations.{Passes}
 use Rattle.pg_law_numbering.proofs.Registers.{scalars_of, looked_up}
 
 -- a type that is a scalar is one

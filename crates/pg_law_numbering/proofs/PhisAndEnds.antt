@@ -19,11 +19,11 @@ use Rattle.pg_check_rules.specs.ValueConditions.{Scope}
 use Rattle.pg_check_rules.specs.CallConditions.{known_of, variable_symbol, wrong_header, header_of}
 use Rattle.pg_check_rules.specs.Conditions.{scope_of}
 use Rattle.pg_check_rules.specs.Numbered.{binary_op, cast_op, library_call, call_of, op_at}
-use Rattle.pg_law_numbering.proofs.Unrefused.{front_none, behind_none}
+use Rattle.pg_law_numbering.proofs.UnrefusedParts.{front_none, behind_none}
 use Rattle.pg_check_types.proofs.Voids.{void_resolved}
 use Rattle.pg_law_numbering.proofs.Callees.{CallsDefined, CallsLibrary, callee_is}
-use Rattle.pg_law_numbering.proofs.Passes.{Passes}
-use Rattle.pg_law_numbering.proofs.Tests.{not_from}
+use Rattle.pg_law_numbering.proofs.LineOperations.{Passes}
+use Rattle.pg_law_numbering.proofs.ChoiceTests.{not_from}
 
 -- ---- phis
 

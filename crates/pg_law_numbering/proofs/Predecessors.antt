@@ -20,16 +20,16 @@ use Rattle.pg_check_rules.specs.BlockConditions.{phi_word, block_targets, has_te
 use Rattle.pg_check_rules.specs.Conditions.{scope_of, IsUnrefused}
 use Rattle.pg_check_rules.specs.Numbered.{named_functions, incoming_at, op_at, program_of}
 use Rattle.pg_law_numbering.specs.Parsed.{IsInOrder}
-use Rattle.pg_law_numbering.proofs.Flat.{there_at, in_front}
-use Rattle.pg_law_numbering.proofs.Placed.{lines_in, line_there}
-use Rattle.pg_law_numbering.proofs.Firsts.{from_any}
-use Rattle.pg_law_numbering.proofs.Filters.{piece_found, map_there, map_from}
-use Rattle.pg_law_numbering.proofs.Lines.{IsLine}
-use Rattle.pg_law_numbering.proofs.Passes.{passes}
+use Rattle.pg_law_numbering.proofs.FlattenedLists.{there_at, in_front}
+use Rattle.pg_law_numbering.proofs.NumberedPlaces.{lines_in, line_there}
+use Rattle.pg_law_numbering.proofs.FirstPassing.{from_any}
+use Rattle.pg_law_numbering.proofs.FilteredLists.{piece_found, map_there, map_from}
+use Rattle.pg_law_numbering.proofs.AcceptedLines.{IsLine}
+use Rattle.pg_law_numbering.proofs.LineOperations.{passes}
 use Rattle.pg_law_numbering.proofs.FitsFunctions.{end_is, has_ending}
 use Rattle.pg_law_numbering.proofs.Labels.{label_text, labelled, names_from, number_of_label, target, targets_are, targets_end}
 use Rattle.pg_law_numbering.proofs.Endings.{ends_where}
-use Rattle.pg_law_numbering.proofs.Tests.{any_from}
+use Rattle.pg_law_numbering.proofs.ChoiceTests.{any_from}
 
 -- ---- lists
 

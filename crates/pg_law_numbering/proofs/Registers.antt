@@ -21,19 +21,19 @@ use Rattle.pg_check_rules.specs.TypeConditions.{any_large}
 use Rattle.pg_check_rules.specs.Conditions.{body_types, is_too_large, body_refused, IsUnrefused}
 use Rattle.pg_check_rules.specs.Numbered.{scalar_in, named_functions, program_of}
 use Rattle.pg_law_numbering.specs.Parsed.{IsInOrder}
-use Rattle.pg_law_numbering.proofs.Flat.{append_cases, front_get, behind_get}
-use Rattle.pg_law_numbering.proofs.Unrefused.{at_if_none, bodies_pass, named_from}
-use Rattle.pg_law_numbering.proofs.Naming.{has_name, has_param_name}
-use Rattle.pg_law_numbering.proofs.Placed.{function_there}
+use Rattle.pg_law_numbering.proofs.FlattenedLists.{append_cases, front_get, behind_get}
+use Rattle.pg_law_numbering.proofs.UnrefusedParts.{at_if_none, bodies_pass, named_from}
+use Rattle.pg_law_numbering.proofs.NamedDefinitions.{has_name, has_param_name}
+use Rattle.pg_law_numbering.proofs.NumberedPlaces.{function_there}
 use Rattle.pg_law_numbering.proofs.Scalars.{IsScalarOf}
 use Rattle.pg_law_numbering.proofs.Headers.{param_scalar}
-use Rattle.pg_law_numbering.proofs.Lines.{IsLine}
-use Rattle.pg_law_numbering.proofs.Passes.{passes}
-use Rattle.pg_law_numbering.proofs.Results.{result_scalar}
-use Rattle.pg_law_numbering.proofs.Filters.{IsOf, filter_found, filter_there, IsTotal, total_length, total_get, piece_found}
-use Rattle.pg_law_numbering.proofs.Firsts.{IsFirst, from_find, first_position}
-use Rattle.pg_law_numbering.proofs.Unique.{params_registers, registers_differ}
-use Rattle.pg_law_numbering.proofs.Tests.{same_text}
+use Rattle.pg_law_numbering.proofs.AcceptedLines.{IsLine}
+use Rattle.pg_law_numbering.proofs.LineOperations.{passes}
+use Rattle.pg_law_numbering.proofs.ScalarResults.{result_scalar}
+use Rattle.pg_law_numbering.proofs.FilteredLists.{IsOf, filter_found, filter_there, IsTotal, total_length, total_get, piece_found}
+use Rattle.pg_law_numbering.proofs.FirstPassing.{IsFirst, from_find, first_position}
+use Rattle.pg_law_numbering.proofs.UniqueNames.{params_registers, registers_differ}
+use Rattle.pg_law_numbering.proofs.ChoiceTests.{same_text}
 
 -- the types of a function's registers
 abbrev pub scalars_of : Tree → Definition → List Scalar

@@ -14,8 +14,8 @@ use Rattle.pg_check_rules.specs.Conditions.{is_scalar_type, is_result}
 use Rattle.pg_check_rules.specs.Numbered.{scalar_in}
 use Rattle.pg_check_types.specs.Kinds.{is_as, fails}
 use Rattle.pg_check_types.proofs.SameTypes.{same_type_true, same_width_true}
-use Rattle.pg_law_numbering.proofs.Resolves.{Has}
-use Rattle.pg_law_numbering.proofs.Tests.{not_false}
+use Rattle.pg_law_numbering.proofs.ResolvedTypes.{Has}
+use Rattle.pg_law_numbering.proofs.ChoiceTests.{not_false}
 
 -- a type that is a scalar
 pub record IsScalarOf (o : Option ResolvedType) : Type 0 where

@@ -8,7 +8,7 @@ use Rattle.pg_run_trace.specs.declared.step.Step.{Step}
 use Rattle.pg_run_trace.specs.declared.step.Access.{Access}
 use Rattle.pg_run_trace.specs.Steps.{access_of, range_of}
 use Rattle.pg_run_trace.specs.Races.{accesses_conflict, conflict, is_in, reads_in, share, steps_by, writes_in}
-use Rattle.pg_law_runs.proofs.Shares.{holds_share}
+use Rattle.pg_law_runs.proofs.SharedBytes.{holds_share}
 
 -- both ranges hold the greater of their starts
 share_holds : (r s : ByteRange) → share r s ≡ true → (is_in r (max r.start s.start) ≡ true) × (is_in s (max r.start s.start) ≡ true)

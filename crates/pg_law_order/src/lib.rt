@@ -4,7 +4,7 @@
 
 pub mod examples;
 pub mod guided;
-pub mod law_a;
+pub mod permitted_runs;
 pub mod recorded;
 mod running;
 pub mod served;

@@ -1,8 +1,8 @@
-pub mod Needs
-pub mod Instructions
-pub mod Paths
-pub mod Steps
-pub mod Follow
-pub mod Laws
-pub mod Truths
-pub mod References
+pub mod AskedValues
+pub mod InstructionAsks
+pub mod AskedPaths
+pub mod StepAsks
+pub mod KnownAlongRun
+pub mod FewerDecisions
+pub mod KnownIsTrue
+pub mod ReferenceRunsRecorded

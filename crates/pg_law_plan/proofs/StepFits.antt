@@ -17,15 +17,15 @@ use Rattle.pg_law_plan.specs.Moves.{IsMove, RunDeed, RunState, deed_moved}
 use Rattle.pg_law_plan.specs.Order.{IsOrderedRun}
 use Rattle.pg_law_plan.specs.Units.{ExtentsArePlain, PlanDeed, PlanUnit, ReferenceRun, cell_known, deed_of, is_event_at, is_instance, is_placed_access, reads_cell, reference_of, standing_of}
 use Rattle.pg_law_plan.specs.Units.{units_of, writes_cell}
-use Rattle.pg_law_plan.proofs.Along.{IsUnit, all_units}
-use Rattle.pg_law_plan.proofs.Dispatch.{both_fits}
-use Rattle.pg_law_plan.proofs.Good.{IsGood, all_good}
-use Rattle.pg_law_plan.proofs.Members.{all_has}
-use Rattle.pg_law_plan.proofs.Opened.{Beginning, Both, opened}
-use Rattle.pg_law_plan.proofs.Settled.{at_units}
-use Rattle.pg_law_plan.proofs.Starts.{start_fits}
-use Rattle.pg_law_plan.proofs.Worded.{all_words}
-use Rattle.pg_law_plan.proofs.Written.{placed_writes, start_writes}
+use Rattle.pg_law_plan.proofs.EachUnit.{IsUnit, all_units}
+use Rattle.pg_law_plan.proofs.InstructionFits.{both_fits}
+use Rattle.pg_law_plan.proofs.StepChecks.{IsGood, all_good}
+use Rattle.pg_law_plan.proofs.ListMembers.{all_has}
+use Rattle.pg_law_plan.proofs.AlikeThreads.{Beginning, Both, opened}
+use Rattle.pg_law_plan.proofs.UnitsArePlan.{at_units}
+use Rattle.pg_law_plan.proofs.ThreadStartFits.{start_fits}
+use Rattle.pg_law_plan.proofs.WordsBeforeUnits.{all_words}
+use Rattle.pg_law_plan.proofs.UnitWrites.{placed_writes, start_writes}
 
 -- what fits is seen place by place
 pub fits_same : (input : List ℤ) (p : PlanDeed) (d e : RunDeed) → IsSame d e → Fits (like input) p e → Fits (like input) p d

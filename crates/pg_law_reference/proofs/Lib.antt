@@ -1,12 +1,12 @@
-mod Tables
-mod Missing
-mod Reaching
-mod Few
-mod Filled
-mod Counting
-mod Short
-mod Regions
-pub mod Summaries
-pub mod Branches
-pub mod Runs
-pub mod Sliceable
+mod FunctionTables
+mod MissingNumbers
+mod ReachedVertices
+mod BlockCounts
+mod VecLists
+mod AccessCounts
+mod ShortSummaries
+mod RegionsExist
+pub mod SummariesExist
+pub mod BranchRegions
+pub mod ExitingRuns
+pub mod SliceableRuns

@@ -1,1 +1,1 @@
-pub mod Recordings
+pub mod EntryRecordings

@@ -47,7 +47,7 @@ fn all_hold(checks: &[Check], numbers: &[Option<u64>]) -> bool
     true
 }
 
-#[tactic(auto, using(crate::proofs::Fills::as_many))]
+#[tactic(auto, using(crate::proofs::NodeNumbers::as_many))]
 /// Whether an input meets a precondition: all checks hold of the numbers that the nodes have on it. The scratch is
 /// one with room for the precondition's nodes. Takes no memory.
 pub fn admits(c: &Precondition, scratch: &mut Scratch, input: &[i64]) -> bool

@@ -41,7 +41,7 @@ fn chosen(c: u64, yes: Option<u64>, no: Option<u64>) -> Option<u64>
     if c % 2 == 0 { no } else { yes }
 }
 
-#[tactic(auto, using(crate::proofs::Joins::joined_none, crate::proofs::Joins::joined_next, crate::proofs::Joins::bound_zero, crate::proofs::Joins::bound_next, crate::proofs::Joins::bound_small))]
+#[tactic(auto, using(crate::proofs::JoinedBytes::joined_none, crate::proofs::JoinedBytes::joined_next, crate::proofs::JoinedBytes::bound_zero, crate::proofs::JoinedBytes::bound_next, crate::proofs::JoinedBytes::bound_small))]
 /// The number whose bytes are those of `count` nodes from part `first` on, the lowest first.
 fn joined(known: &[Option<u64>], parts: &[u32; 8], first: u8, count: u8) -> Option<u64>
     requires within { first + count ≤ 8 }

@@ -44,7 +44,7 @@ impl Scratch {
         })
     }
 
-    #[tactic(auto, using(crate::proofs::Fills::filled, crate::proofs::Fills::all_filled))]
+    #[tactic(auto, using(crate::proofs::NodeNumbers::filled, crate::proofs::NodeNumbers::all_filled))]
     /// Computes the numbers of all nodes on an input. Takes no memory.
     pub(crate) fn fill(&mut self, nodes: &Nodes, input: &[i64])
         requires { length nodes.now ≤ self.old.room }

@@ -23,7 +23,7 @@ use Rattle.pg_read_grammar.proofs.LinearRows.{linear_case, linear_skip, linear_a
 use Rattle.pg_read_grammar.proofs.LinearOps.{linear_past, linear_typed_value, linear_metadata, linear_metadata_tail, linear_cast_tail, linear_gep_op_tail, linear_call_head, linear_simple_op}
 use Rattle.pg_read_grammar.proofs.LinearOps.{linear_part}
 use Rattle.pg_read_grammar.proofs.Gathered.{gathered, gathered_more, many_more}
-use Rattle.pg_read_grammar.proofs.Rests.{certain_value}
+use Rattle.pg_read_grammar.proofs.RowRests.{certain_value}
 use Rattle.pg_read_grammar.proofs.Firsts.{either_behind}
 use Rattle.pg_read_grammar.proofs.ValueCases.{void_type, certain_is_value, local_is_value, gep_is_value, int_to_ptr_is_value}
 use Rattle.pg_read_grammar.proofs.OpRests.{metadata_tail, gep_op_tail}

@@ -29,7 +29,7 @@ use Rattle.pg_read_grammar.proofs.LinearOps.{linear_call_head, linear_part}
 use Rattle.pg_read_grammar.proofs.Gathered.{added, gather, star, to_many, from_many}
 use Rattle.pg_read_grammar.proofs.Firsts.{first_comes, comes_first, item_comes, not_both}
 use Rattle.pg_read_grammar.proofs.ValueCases.{void_only, value_cases, gep_value, int_to_ptr_value}
-use Rattle.pg_read_grammar.proofs.Rests.{certain_value}
+use Rattle.pg_read_grammar.proofs.RowRests.{certain_value}
 use Rattle.pg_read_grammar.proofs.Rows.{attribute_item}
 use Rattle.pg_read_grammar.proofs.OpRests.{gep_op_tail}
 use Rattle.pg_read_grammar.proofs.OpRows.{begins_op, plain_op_item, call_item}

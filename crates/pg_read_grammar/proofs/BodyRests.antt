@@ -13,8 +13,8 @@ use Rattle.pg_read_lex.specs.declared.token.Span.{Span}
 use Rattle.pg_read_ast.specs.Syntax.{Val, Block}
 use Rattle.pg_read_ast.specs.Syntax as syntax
 use Rattle.pg_read_ast.specs.declared.names.Name.{Name}
-use Rattle.pg_read_grammar.proofs.Past.{past}
-use Rattle.pg_read_grammar.proofs.Rests.{certain_value}
+use Rattle.pg_read_grammar.proofs.ChoicesPast.{past}
+use Rattle.pg_read_grammar.proofs.RowRests.{certain_value}
 use Rattle.pg_read_grammar.proofs.OpRests.{with_metadata, metadata_tail, cast_tail, gep_op_tail}
 
 abbrev pub called : List Block → Gram Body

@@ -16,7 +16,7 @@ use Rattle.pg_read_ast.specs.declared.names.Name.{Name}
 use Rattle.pg_read_grammar.proofs.ClassTests.{within_is, apart}
 use Rattle.pg_read_grammar.proofs.Pieces.{Piece, Item}
 use Rattle.pg_read_grammar.proofs.Rules.{first, next, give_it, token, case, or_else, unless_it, recast, item_first, item_case, item_or, item_then}
-use Rattle.pg_read_grammar.proofs.Past.{past_piece, item_past}
+use Rattle.pg_read_grammar.proofs.ChoicesPast.{past_piece, item_past}
 use Rattle.pg_read_grammar.proofs.StateLoops.{loops, loop_piece}
 use Rattle.pg_read_grammar.proofs.Rows.{gep_tail_item, int_to_ptr_tail_item, other_value_piece, certain_item, flags_piece, skip_piece, attribute_item, behind_attribute}
 use Rattle.pg_read_grammar.proofs.OpRows.{typed_value_piece, metadata_piece, metadata_tail_item, cast_tail_piece, gep_op_tail_piece, simple_op_item, call_item}

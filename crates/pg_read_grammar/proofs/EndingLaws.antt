@@ -19,8 +19,8 @@ use Rattle.pg_read_grammar.proofs.LinearRows.{linear_listed, linear_type, linear
 use Rattle.pg_read_grammar.proofs.LinearOps.{linear_part}
 use Rattle.pg_read_grammar.proofs.LinearItems.{linear_body, linear_param, linear_node_tail, linear_global_head, linear_tails, linear_declare_head, linear_type_whole, linear_attributes_whole}
 use Rattle.pg_read_grammar.proofs.LinearItems.{linear_text_whole, linear_define_whole, linear_item}
-use Rattle.pg_read_grammar.proofs.Kept.{Keeps, keeps_give, keeps_refused, keeps_or, keeps_with, keeps_then, keeps_many}
-use Rattle.pg_read_grammar.proofs.Whole.{has_end}
+use Rattle.pg_read_grammar.proofs.HeldByValues.{Keeps, keeps_give, keeps_refused, keeps_or, keeps_with, keeps_then, keeps_many}
+use Rattle.pg_read_grammar.proofs.ReadToEnd.{has_end}
 use Rattle.pg_read_grammar.proofs.ItemLoops.{program_piece}
 
 -- ---- blocks

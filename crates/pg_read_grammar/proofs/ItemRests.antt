@@ -10,7 +10,7 @@ use Rattle.pg_read_grammar.specs.Grammar.{name_of, drop_value, type_in, skip_to,
 use Rattle.pg_read_grammar.specs.GrammarItems.{TypeItem, GlobalItem, DeclareItem, DefineItem, global_head, declare_head, define_whole, node, no_item}
 use Rattle.pg_read_grammar.specs.ReaderItems.{AfterItem, Done, Declared, Valued, Tailed, Items, items, add_item, begins_item}
 use Rattle.pg_read_ast.specs.Syntax.{NamedType, Tree}
-use Rattle.pg_read_grammar.proofs.Past.{past}
+use Rattle.pg_read_grammar.proofs.ChoicesPast.{past}
 
 -- = [distinct] (! { skip } | Meta ( skip ))
 abbrev pub node_tail : Gram (Unit {0})

@@ -17,7 +17,7 @@ use Rattle.pg_read_ast.specs.Syntax.{Tree}
 use Rattle.pg_read_grammar.proofs.ClassTests.{within, apart}
 use Rattle.pg_read_grammar.proofs.Pieces.{Piece, Item}
 use Rattle.pg_read_grammar.proofs.Rules.{first, next, give_it, token, token_of, case, or_else, unless_it, recast, item_first, item_case, item_or, item_then}
-use Rattle.pg_read_grammar.proofs.Past.{item_past}
+use Rattle.pg_read_grammar.proofs.ChoicesPast.{item_past}
 use Rattle.pg_read_grammar.proofs.StateLoops.{loops, loop_piece}
 use Rattle.pg_read_grammar.proofs.Rows.{type_piece, skip_piece, listed_by, const_piece, attribute_item, behind_attribute, attributes_piece, behind_attributes}
 use Rattle.pg_read_grammar.proofs.BodyLoops.{body_piece}

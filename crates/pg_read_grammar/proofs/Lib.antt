@@ -5,13 +5,13 @@ pub mod Choices
 pub mod Faults
 pub mod Repeats
 pub mod Rules
-pub mod Whole
+pub mod ReadToEnd
 pub mod Loops
-pub mod Rests
+pub mod RowRests
 pub mod Rows
 pub mod StateLoops
-pub mod Past
-pub mod Only
+pub mod ChoicesPast
+pub mod FirstTokenLists
 pub mod Gathered
 pub mod Listings
 pub mod Refusing
@@ -34,7 +34,7 @@ pub mod LinearItems
 pub mod ItemLoops
 pub mod TextLaws
 pub mod SplitLaws
-pub mod Kept
+pub mod HeldByValues
 pub mod EndingLaws
 pub mod NamePlaces
 pub mod NameLaws

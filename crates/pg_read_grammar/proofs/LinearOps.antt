@@ -18,7 +18,7 @@ use Rattle.pg_read_grammar.specs.GrammarOps.{plain_op, simple_op, no_op, op}
 use Rattle.pg_read_grammar.specs.GrammarItems.{metadata, line_of, result_name, op_line, debug_line, part}
 use Rattle.pg_read_ast.specs.Syntax.{Ty, Incoming, Case, Count, Written}
 use Rattle.pg_read_ast.specs.Syntax as syntax
-use Rattle.pg_read_grammar.proofs.Past.{past}
+use Rattle.pg_read_grammar.proofs.ChoicesPast.{past}
 use Rattle.pg_read_grammar.proofs.Linear.{Linear, linear_give, linear_one, linear_refused, linear_then, linear_or, linear_many}
 use Rattle.pg_read_grammar.proofs.LinearRows.{linear_it, linear_case, linear_drop, linear_separated, linear_listed, linear_type, linear_skip, linear_attributes, linear_flags, linear_typed}
 use Rattle.pg_read_grammar.proofs.LinearRows.{linear_value, linear_argument}

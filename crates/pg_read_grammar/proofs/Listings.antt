@@ -16,7 +16,7 @@ use Rattle.pg_read_grammar.proofs.Pieces.{Piece, Item, Gets, Marked}
 use Rattle.pg_read_grammar.proofs.Rules.{next, give_it, recast, within_self, within_or_false, item_first, item_then, alike}
 use Rattle.pg_read_grammar.proofs.StateLoops.{loop, loops, loop_piece}
 use Rattle.pg_read_grammar.proofs.Linear.{Linear, linear_one, linear_then, linear_many}
-use Rattle.pg_read_grammar.proofs.Only.{only, only_at, only_item, run_same, read_as}
+use Rattle.pg_read_grammar.proofs.FirstTokenLists.{only, only_at, only_item, run_same, read_as}
 use Rattle.pg_read_grammar.proofs.Gathered.{gather, gathered, snoc, added, added_nothing, to_many, from_many}
 
 abbrev step_by : {A : Type 0} → Gram A → List A → Bool → Gram (Listing A)

@@ -27,7 +27,7 @@ use Rattle.pg_read_grammar.proofs.LinearOps.{linear_part, linear_op, linear_resu
 use Rattle.pg_read_grammar.proofs.LinearItems.{linear_body, linear_param, linear_node_tail, linear_global_head, linear_tails, linear_declare_head, linear_type_whole, linear_attributes_whole}
 use Rattle.pg_read_grammar.proofs.LinearItems.{linear_text_whole, linear_define_whole, linear_item}
 use Rattle.pg_read_grammar.proofs.ItemLoops.{program_piece}
-use Rattle.pg_read_grammar.proofs.Whole.{has_end}
+use Rattle.pg_read_grammar.proofs.ReadToEnd.{has_end}
 use Rattle.pg_read_grammar.proofs.NamePlaces.{From, Within, within_both, within_more, within_on, within_order, within_ascends, Places, places_weaken, places_any, places_give, places_one}
 use Rattle.pg_read_grammar.proofs.NamePlaces.{places_refused, places_or, places_then, places_many, tokens_ordered}
 

@@ -12,7 +12,7 @@ use Rattle.pg_read_grammar.proofs.ClassTests.{within, apart}
 use Rattle.pg_read_grammar.proofs.Pieces.{Piece, Gets, Marked}
 use Rattle.pg_read_grammar.proofs.Rules.{next, many_items, unless_it, alike}
 use Rattle.pg_read_grammar.proofs.Linear.{Linear}
-use Rattle.pg_read_grammar.proofs.Only.{only, only_item, repeat_only, read_as}
+use Rattle.pg_read_grammar.proofs.FirstTokenLists.{only, only_item, repeat_only, read_as}
 
 pub many_refusing : {A B : Type 0} {r : List Token → Read A} {g : Gram A} {fi ma av : Class → Bool} {f : List A → List Token → Read B} {h : List A → Gram B} {fj mb : Class → Bool}
     (aw : Class → Bool)

@@ -9,7 +9,7 @@ use Rattle.pg_read_grammar.specs.declared.class.Class.TheVariants.{OpenSquare, C
 use Rattle.pg_read_grammar.specs.declared.token.Fault.TheVariants.{Unsupported}
 use Rattle.pg_read_grammar.specs.Classes.{is, none, ◌∪◌}
 use Rattle.pg_read_grammar.specs.Language.{Lang, Gram, give}
-use Rattle.pg_read_grammar.proofs.Rests.{gep_rest, certain_value}
+use Rattle.pg_read_grammar.proofs.RowRests.{gep_rest, certain_value}
 use Rattle.pg_read_grammar.specs.Grammar.{name_of, global_name, separated, listed, no_type, opens_type, simple_type, type_in, opens, plain, skip_to, flags, plain_value, named_value, typed_in}
 use Rattle.pg_read_grammar.specs.Grammar.{other_value_in, value_in, opens_value, simple_const_in, const_in, attribute_word, attribute_name, metadata_name, attribute, attributes, gep_tail}
 use Rattle.pg_read_grammar.specs.Grammar.{int_to_ptr_tail}

@@ -23,7 +23,7 @@ use Rattle.pg_read_grammar.specs.Answers.{Answers, ended}
 use Rattle.pg_read_grammar.specs.Words.{classified}
 use Rattle.pg_read_grammar.specs.Accepted.{IsModule, IsRefused, IsUnread, place_of}
 use Rattle.pg_read_grammar.specs.Told.{told, lexical_of, IsTold}
-use Rattle.pg_read_grammar.proofs.Whole.{whole}
+use Rattle.pg_read_grammar.proofs.ReadToEnd.{whole}
 use Rattle.pg_read_grammar.proofs.ItemRows.{anything}
 use Rattle.pg_read_grammar.proofs.ItemLoops.{program_piece}
 

@@ -12,7 +12,7 @@ use Rattle.pg_read_grammar.specs.Grammar.{no_type, name_of, type_in, flags, othe
 use Rattle.pg_read_ast.specs.Syntax.{Ty, Val}
 use Rattle.pg_read_ast.specs.Syntax as syntax
 use Rattle.pg_read_grammar.proofs.ClassTests.{apart, apart_is}
-use Rattle.pg_read_grammar.proofs.Rests.{certain_value}
+use Rattle.pg_read_grammar.proofs.RowRests.{certain_value}
 
 -- a token isn't of two sets that are apart
 differ : (p q : Class → Bool) → apart p q ≡ true → (t u : Token) (ts us : List Token) → t ∷ ts ≡ u ∷ us → IsTrue (p t.class) → IsTrue (q u.class) → ⊥

@@ -14,9 +14,9 @@ use Rattle.pg_num.specs.declared.width.Width.TheVariants.{W64}
 use Rattle.pg_ir.specs.Program.{types_of, function_of, first_of, end_of}
 use Rattle.pg_ir.specs.Edges as edges
 use Rattle.pg_region_accesses.specs.Accesses.{RootedList, block_accesses, block_sets, set_accesses}
-use Rattle.pg_region_accesses.proofs.Ascending.{shorter}
+use Rattle.pg_region_accesses.proofs.AscendingSets.{shorter}
 use Rattle.pg_region_paths.proofs.Elements.{here, there, cases, only_here}
-use Rattle.pg_region_accesses.proofs.Passes.{set_quiet}
+use Rattle.pg_region_accesses.proofs.QuietInstructions.{set_quiet}
 use Rattle.pg_region.specs.Regions.{flow_of, IsJoin, IsSmaller}
 use Rattle.pg_region.specs.Examples.{loop_program, loop_flow, loop_accesses, no_summary, LoopHasRegion, GatedLoopHasNone}
 

@@ -1,8 +1,8 @@
-pub mod Parts
+pub mod AscendingParts
 pub mod Joins
-pub mod Leasts
-pub mod Flows
-pub mod Finds
-pub mod Stays
-pub mod Within
+pub mod LeastRegions
+pub mod FlowGraphs
+pub mod PreparedFinders
+pub mod EdgesBeforeJoin
+pub mod NestedRegions
 pub mod Examples

@@ -1,8 +1,8 @@
-pub mod Counts
-pub mod Fewer
-pub mod Passes
-pub mod Gathers
-pub mod Blocks
-pub mod Sets
-pub mod Louds
-pub mod Ascending
+pub mod BlockCounts
+pub mod QuietInParts
+pub mod QuietInstructions
+pub mod AddedAccesses
+pub mod BlockInstructions
+pub mod SetTables
+pub mod LoudBlocks
+pub mod AscendingSets

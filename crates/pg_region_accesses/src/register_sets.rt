@@ -12,7 +12,7 @@ use pg_num::limits::FUNCTION_REGISTER_LIMIT;
 use std::alloc::{AllocError, Global};
 
 /// Adds a number to a set, if there is one.
-#[tactic(auto, using(crate::proofs::Sets::added_one, crate::proofs::Sets::added_none))]
+#[tactic(auto, using(crate::proofs::SetTables::added_one, crate::proofs::SetTables::added_none))]
 pub fn add_set(set: &mut Vec<bool>, register: Option<u32>)
     requires { IfSome register (λ r. r < length set.old.items) }
     ensures sets { (r : ℕ) → in_table set.new.items r ≡ (is_register register r || in_table set.old.items r) }

@@ -57,7 +57,7 @@ fn count_block(p: &Program, sums: &[Option<Summary>], b: BlockNo, before: usize)
     Some(count)
 }
 
-#[tactic(auto, using(crate::proofs::Counted::few_more, crate::proofs::Counted::counted_more, crate::proofs::Counted::counted_over, crate::proofs::Counted::counted_all))]
+#[tactic(auto, using(crate::proofs::AccessCounts::few_more, crate::proofs::AccessCounts::counted_more, crate::proofs::AccessCounts::counted_over, crate::proofs::AccessCounts::counted_all))]
 /// Whether these blocks, if all is quiet, have as few accesses as a summary may have.
 pub(crate) fn has_few(p: &Program, sums: &[Option<Summary>], blocks: &[u32]) -> bool
     requires { All (λ b. b < length p.now.blocks) blocks.now }

@@ -114,7 +114,7 @@ impl Work {
     }
 
     /// Works the functions whose calls reach so many.
-    #[tactic(auto, using(crate::proofs::Worked::round_over))]
+    #[tactic(auto, using(crate::proofs::WorkOrder::round_over))]
     fn work_all(
         &self,
         alloc: Global,

@@ -18,8 +18,8 @@ use Rattle.pg_run.specs.State.{State, initial, next_of}
 use Rattle.pg_run.specs.MachineStep.{Answered, Stepped, Did, Trapped, happening_of, settled, step, step_told, trap_of, turn_with, ready}
 use Rattle.pg_run.specs.Guided.{GuidedRun, Walk, all_left, due, ended_at, guided, guided_of, is_turn, on_due, on_event, on_step, trap_or, walk}
 use Rattle.pg_run.specs.Runs.{IsRun, Takes, event_of, events}
-use Rattle.pg_run.proofs.Dues.{due_ready}
-use Rattle.pg_run.proofs.Told.{event_told_is}
+use Rattle.pg_run.proofs.OwnersMayStep.{due_ready}
+use Rattle.pg_run.proofs.ToldTurns.{event_told_is}
 
 -- ---- runs one behind the other
 

@@ -31,9 +31,9 @@ use Rattle.pg_run.specs.State.{State, action_in, id_in, instr_of, next_of}
 use Rattle.pg_run.specs.MachineStep.{Answered, answered, happening_of, instr_told, is_gated, kind_told, library_told, local_after, number_in, on_applied, op_told, operands_in, requested}
 use Rattle.pg_run.specs.MachineStep.{settled, step, step_told, taken, turn_of, turn_with, write_told}
 use Rattle.pg_run.specs.Named.{IsNamed, IsRequestNamed}
-use Rattle.pg_run.proofs.Asks.{same_local}
-use Rattle.pg_run.proofs.Named.{next_named, place_is}
-use Rattle.pg_run.proofs.Told.{event_told_is}
+use Rattle.pg_run.proofs.StepsBegin.{same_local}
+use Rattle.pg_run.proofs.ActionPlaces.{next_named, place_is}
+use Rattle.pg_run.proofs.ToldTurns.{event_told_is}
 use Rattle.pg_run.proofs.Threads.{set_own, set_other}
 
 -- ---- the other threads

@@ -20,7 +20,7 @@ use Rattle.pg_run_thread.specs.declared.action.Action.TheVariants as actions
 use Rattle.pg_run_thread.specs.LocalState.{LocalState, fresh}
 use Rattle.pg_run_thread.specs.Step.{next, after}
 use Rattle.pg_run_thread.specs.States.{IsOf, CanStep}
-use Rattle.pg_run_thread.proofs.Still.{fresh_of}
+use Rattle.pg_run_thread.proofs.StepsKeepStates.{fresh_of}
 use Rattle.pg_run.specs.Fits.{ActionFits, RequestFits}
 use Rattle.pg_run.specs.Phases.{Going, phase_before, phase_after, stage_phase, request_after}
 use Rattle.pg_run.specs.State.{State, initial}
@@ -28,7 +28,7 @@ use Rattle.pg_run.specs.MachineStep.{Answered, may_act, answered, requested, ans
 use Rattle.pg_run.specs.Machine.{IsMachine, StartsWhole, phase_in}
 use Rattle.pg_run.proofs.Effects.{Moved, MakesNone, moved, made_one}
 use Rattle.pg_run.proofs.FitActions.{action_fits}
-use Rattle.pg_run.proofs.Keeps.{all_at, own_phase, kept, kept_create, fresh_phase, fresh_whole, all_one}
+use Rattle.pg_run.proofs.StepsKeepStates.{all_at, own_phase, kept, kept_create, fresh_phase, fresh_whole, all_one}
 use Rattle.pg_run.proofs.Threads.{stage_at, set_length}
 
 -- ---- the first state

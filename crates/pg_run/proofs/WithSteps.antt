@@ -23,9 +23,9 @@ use Rattle.pg_run.specs.Taken.{state_with, steps_with, trapped_in}
 use Rattle.pg_run.specs.Walked.{EndsAs}
 use Rattle.pg_run.specs.Went.{Went, WentRecorded, kind_of}
 use Rattle.pg_run.specs.WithSteps.{EndsBefore, OwnerDid, OwnerStepped, RunEnds, WalkEnds, told_by, with_steps}
-use Rattle.pg_run.proofs.Dues.{due_does}
+use Rattle.pg_run.proofs.OwnersMayStep.{due_does}
 use Rattle.pg_run.proofs.Walks.{IsOn, IsAlong, at_walk, none_left, run_more, run_over, run_stop, starts_along, walk_more, walk_start, walk_stop, walk_spent, walk_turn}
-use Rattle.pg_run.proofs.Follows.{walk_full}
+use Rattle.pg_run.proofs.RecordedWalks.{walk_full}
 
 -- ---- recordings
 

@@ -37,7 +37,7 @@ pub(crate) fn listed<T: Copy + Drop>(alloc: Global, items: &[T]) -> Result<Vec<T
 }
 
 /// Marks an instruction, if there is a mark for it.
-#[tactic(auto, using(crate::proofs::Marks::set_past))]
+#[tactic(auto, using(crate::proofs::GatedMarks::set_past))]
 fn mark(marks: &mut Vec<bool>, id: InstrId)
     ensures { marks.new.items ≡ slice_set marks.old.items id.0 true }
 {
@@ -48,7 +48,7 @@ fn mark(marks: &mut Vec<bool>, id: InstrId)
 }
 
 /// A mark for each number below `count` that is among these.
-#[tactic(auto, using(crate::proofs::Marks::no_marks, crate::proofs::Marks::all_marks))]
+#[tactic(auto, using(crate::proofs::GatedMarks::no_marks, crate::proofs::GatedMarks::all_marks))]
 fn marked(alloc: Global, count: usize, ids: &[InstrId]) -> Result<Vec<bool>, AllocError>
     ensures { IfOk result (λ v. (i : ℕ) → i < length v.items → slice_get v.items i ≡ Some (is_gated ids.now i)) }
 {

@@ -1,7 +1,7 @@
 pub mod Broadcasts
-pub mod Counts
-pub mod Maps
-pub mod Rooms
-pub mod Statuses
-pub mod Tables
+pub mod WaiterCounts
+pub mod ObjectMaps
+pub mod CheckedRequests
+pub mod ThreadStatuses
+pub mod ObjectTables
 pub mod Waits

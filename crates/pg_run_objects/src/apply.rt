@@ -10,7 +10,7 @@ use pg_ir::{Request, ThreadNo};
 
 impl SyncState {
     /// Does what a thread asks, if the checks hold and what it waits for has come.
-    #[tactic(auto, unfolding(crate::specs::Sync::done, crate::specs::Sync::check), using(crate::proofs::Rooms::room_one, crate::proofs::Rooms::room_two, crate::proofs::Rooms::asks_when_unsignalled, crate::proofs::Rooms::wakes_when_signalled, crate::proofs::Rooms::asks_when_made, crate::proofs::Rooms::joined_when_made, crate::proofs::Rooms::holds))]
+    #[tactic(auto, unfolding(crate::specs::Sync::done, crate::specs::Sync::check), using(crate::proofs::CheckedRequests::room_one, crate::proofs::CheckedRequests::room_two, crate::proofs::CheckedRequests::asks_when_unsignalled, crate::proofs::CheckedRequests::wakes_when_signalled, crate::proofs::CheckedRequests::asks_when_made, crate::proofs::CheckedRequests::joined_when_made, crate::proofs::CheckedRequests::holds))]
     fn done(&mut self, t: ThreadNo, r: &Request) -> Reply
         requires asks { may_ask (stage_of self.old t.0) r.now ≡ true }
         requires checks { check self.old t.0 r.now ≡ None }

@@ -29,7 +29,7 @@ impl SyncState {
     }
 
     /// The thread is the last to arrive: all that have arrived are released, and the round begins again.
-    #[tactic(auto, using(crate::proofs::Rooms::released_in))]
+    #[tactic(auto, using(crate::proofs::CheckedRequests::released_in))]
     fn arrive_last(&mut self, t: ThreadNo, place: u32, count: u32)
         requires room { is_missing (object_at place self.old.objects) ≡ true → length self.old.objects < OBJECT_LIMIT }
         requires waits { is_unsignalled (stage_of self.old t.0) ≡ false }

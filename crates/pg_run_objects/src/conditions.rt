@@ -23,7 +23,7 @@ impl SyncState {
     }
 
     /// A condition and a mutex are in the table, the mutex as given.
-    #[tactic(auto, using(crate::proofs::Rooms::room_first, crate::proofs::Rooms::room_second))]
+    #[tactic(auto, using(crate::proofs::CheckedRequests::room_first, crate::proofs::CheckedRequests::room_second))]
     fn put_both(&mut self, condition: u32, mutex: u32, holder: Option<ThreadNo>)
         requires { room_for self.old (missing_of self.old condition mutex) ≡ None }
         ensures { self.new ≡ record self.old { objects = put_object mutex (Object.Mutex holder) (put_object condition Object.Condition self.old.objects) } }

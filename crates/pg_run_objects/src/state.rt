@@ -138,7 +138,7 @@ impl SyncState {
     }
 
     /// A thread that doesn't wait for a signal comes to a stage.
-    #[tactic(auto, using(crate::proofs::Counts::kept_at_stage, crate::proofs::Counts::kept_with_room))]
+    #[tactic(auto, using(crate::proofs::WaiterCounts::kept_at_stage, crate::proofs::WaiterCounts::kept_with_room))]
     pub(crate) fn come_to(&mut self, t: ThreadNo, stage: Stage)
         requires { is_unsignalled (stage_of self.old t.0) ≡ false }
         ensures { self.new ≡ record self.old { threads = at_stage t.0 stage self.old.threads } }
@@ -147,7 +147,7 @@ impl SyncState {
     }
 
     /// A thread begins to wait, after all that wait so far.
-    #[tactic(auto, using(crate::proofs::Counts::kept_by_wait, crate::proofs::Counts::kept_with_room, crate::proofs::Counts::room_of_waiter))]
+    #[tactic(auto, using(crate::proofs::WaiterCounts::kept_by_wait, crate::proofs::WaiterCounts::kept_with_room, crate::proofs::WaiterCounts::room_of_waiter))]
     pub(crate) fn begin_wait(&mut self, t: ThreadNo, condition: u32)
         requires made { t.0 < length self.old.threads }
         requires waits { is_unsignalled (stage_of self.old t.0) ≡ false }
@@ -164,7 +164,7 @@ impl SyncState {
     }
 
     /// The one that has waited longest on a condition is signalled, and leaves the waiters.
-    #[tactic(auto, using(crate::proofs::Counts::kept_by_signal, crate::proofs::Waits::nobody_leaves, crate::proofs::Counts::kept_with_room))]
+    #[tactic(auto, using(crate::proofs::WaiterCounts::kept_by_signal, crate::proofs::Waits::nobody_leaves, crate::proofs::WaiterCounts::kept_with_room))]
     pub(crate) fn signal_first(&mut self, condition: u32) -> bool
         ensures state { self.new ≡ signal self.old condition }
         ensures found { result ≡ is_some (find (waits_on condition) self.old.waiters) }
@@ -190,7 +190,7 @@ impl SyncState {
         while self.signal_first(condition) {}
     }
 
-    #[tactic(auto, using(crate::proofs::Counts::kept_by_release, crate::proofs::Counts::kept_with_room))]
+    #[tactic(auto, using(crate::proofs::WaiterCounts::kept_by_release, crate::proofs::WaiterCounts::kept_with_room))]
     pub(crate) fn release_all(&mut self, barrier: u32)
         ensures { self.new ≡ record self.old { threads = map (release barrier) self.old.threads } }
     {
@@ -198,7 +198,7 @@ impl SyncState {
     }
 
     /// Another thread has joined thread `n`, whose number it gives.
-    #[tactic(auto, using(crate::proofs::Counts::kept_by_join, crate::proofs::Counts::kept_with_room))]
+    #[tactic(auto, using(crate::proofs::WaiterCounts::kept_by_join, crate::proofs::WaiterCounts::kept_with_room))]
     pub(crate) fn mark_joined(&mut self, n: u64) -> ThreadNo
         requires { n < length self.old.threads }
         ensures state { self.new ≡ record self.old { threads = slice_set self.old.threads n (joined_in (slice_get self.old.threads n)) } }
@@ -208,7 +208,7 @@ impl SyncState {
         ThreadNo(n as u8)
     }
 
-    #[tactic(auto, using(crate::proofs::Counts::kept_by_create, crate::proofs::Counts::kept_with_room, crate::proofs::Counts::room_of_thread))]
+    #[tactic(auto, using(crate::proofs::WaiterCounts::kept_by_create, crate::proofs::WaiterCounts::kept_with_room, crate::proofs::WaiterCounts::room_of_thread))]
     pub(crate) fn add_thread(&mut self)
         requires { length self.old.threads < THREAD_LIMIT }
         ensures { self.new ≡ record self.old { threads = self.old.threads ++ made ∷ [] } }

@@ -99,7 +99,7 @@ impl ObjectTable {
         let _entries = &self.entries;
     }
 
-    #[tactic(auto, using(crate::proofs::Tables::lookup_is))]
+    #[tactic(auto, using(crate::proofs::ObjectTables::lookup_is))]
     pub(crate) fn get(&self, place: u32) -> Option<Object>
         ensures { result ≡ object_at place self.now }
     {
@@ -108,7 +108,7 @@ impl ObjectTable {
     }
 
     /// Puts an object at a place, in the room that was reserved.
-    #[tactic(auto, using(crate::proofs::Tables::put_same, crate::proofs::Tables::put_new, crate::proofs::Tables::ascending_put, crate::proofs::Tables::length_put))]
+    #[tactic(auto, using(crate::proofs::ObjectTables::put_same, crate::proofs::ObjectTables::put_new, crate::proofs::ObjectTables::ascending_put, crate::proofs::ObjectTables::length_put))]
     pub(crate) fn put(&mut self, place: u32, object: Object)
         requires room { is_missing (object_at place self.old) ≡ true → length self.old < OBJECT_LIMIT }
         ensures { self.new ≡ put_object place object self.old }
@@ -123,7 +123,7 @@ impl ObjectTable {
     }
 
     /// Takes the object at a place away, if there is one.
-    #[tactic(auto, using(crate::proofs::Tables::drop_same, crate::proofs::Tables::drop_missing, crate::proofs::Tables::ascending_drop, crate::proofs::Tables::length_drop_object))]
+    #[tactic(auto, using(crate::proofs::ObjectTables::drop_same, crate::proofs::ObjectTables::drop_missing, crate::proofs::ObjectTables::ascending_drop, crate::proofs::ObjectTables::length_drop_object))]
     pub(crate) fn take(&mut self, place: u32)
         ensures { self.new ≡ drop_object place self.old }
     {

@@ -10,10 +10,10 @@ use Rattle.pg_run_thread.specs.Operands.{argument, operands_of}
 use Rattle.pg_run_thread.specs.Compute.{computed_if, computes}
 use Rattle.pg_run_thread.specs.Step.{next, after, if_local, result_number, on_top, stepped, top_registers, total}
 use Rattle.pg_run_thread.specs.Told.{id_of}
-use Rattle.pg_run_thread.proofs.Nexts.{next_at}
-use Rattle.pg_run_thread.proofs.Afters.{after_at}
-use Rattle.pg_run_thread.proofs.Straight.{straight_state}
-use Rattle.pg_run_thread.proofs.Ties.{tie, computes_straight}
+use Rattle.pg_run_thread.proofs.NextActions.{next_at}
+use Rattle.pg_run_thread.proofs.StatesAfter.{after_at}
+use Rattle.pg_run_thread.proofs.RegisterSteps.{straight_state}
+use Rattle.pg_run_thread.proofs.OperationSteps.{tie, computes_straight}
 
 local_some : (a : Action) (m n : ℕ) → if_local a m ≡ Some n → (a ≡ actions.Local) × (m ≡ n)
 local_some actions.Local m n e = (refl, cc)

@@ -15,8 +15,8 @@ use Rattle.pg_ir.specs.declared.instr.Instr.{Instr}
 use Rattle.pg_ir.specs.Program.{NumberedProgram, types_of, function_of, result_of, entry_of, parameter_count}
 use Rattle.pg_ir.specs.Edges.{is_terminator, is_phi, phis_of, body_of, incoming_of}
 use Rattle.pg_ir.specs.WellFormed.{IsProgram, FitsOp, FitsIncoming, HaveTypes, IsInFunction, StandsIn, parameter_types, type_at, width_of}
-use Rattle.pg_ir.proofs.Blocks.{IsNoPhi, IsPhiOf, phis_are, body_stands, body_no_phi, entry_no_phi, goes_on_no_phi}
-use Rattle.pg_ir.proofs.Places.{entry_stands, goes_on, first_in_function, within_blocks}
+use Rattle.pg_ir.proofs.BlockParts.{IsNoPhi, IsPhiOf, phis_are, body_stands, body_no_phi, entry_no_phi, goes_on_no_phi}
+use Rattle.pg_ir.proofs.FunctionPlaces.{entry_stands, goes_on, first_in_function, within_blocks}
 use Rattle.pg_run_thread.specs.LocalState.{Frame}
 use Rattle.pg_run_thread.specs.Operands.{operand, optional_operand}
 use Rattle.pg_run_thread.specs.EdgeStep.{incoming_from, phi_value, phi_values, set_register, set_each, over_edge}

@@ -76,7 +76,7 @@ fn told_of(op: &Op, operand: u64, number: u64) -> LocalStep
 
 impl Fiber {
     /// Takes a branch, by the number of its condition.
-    #[tactic(auto, using(crate::proofs::Goes::taken_enters), unfolding(crate::specs::Step::edge_action))]
+    #[tactic(auto, using(crate::proofs::BranchTargets::taken_enters), unfolding(crate::specs::Step::edge_action))]
     fn branch(&mut self, p: &Program, instr: &Instr, n: u64, told: LocalStep) -> Advance
         requires present { IsPresent p.now self.old instr.now }
         requires branch { IsBranch instr.now.op }
@@ -154,7 +154,7 @@ impl Fiber {
     /// Does the next step if only the thread's own state decides and sees it, with one look at the
     /// instruction, and gives what is told of it; else nothing changes, and it gives what the step asks, for
     /// which `resume` takes the answer.
-    #[tactic(auto, using(crate::proofs::Presents::place_below, crate::proofs::Presents::is_present, crate::proofs::Rooms::can_do), unfolding(crate::specs::Advance::advanced))]
+    #[tactic(auto, using(crate::proofs::PresentInstructions::place_below, crate::proofs::PresentInstructions::is_present, crate::proofs::StepRooms::can_do), unfolding(crate::specs::Advance::advanced))]
     pub fn advance(&mut self, p: &Program) -> Advance
         requires { IsOf p.now self.old }
         ensures step { (self.new, result) ≡ advanced p.now self.old }

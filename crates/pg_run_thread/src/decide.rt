@@ -92,7 +92,7 @@ fn divide_action(
 
 /// The action of a branch, by the number of its condition: the `phi`s of the block that is entered are
 /// read at the branch.
-#[tactic(auto, using(crate::proofs::Along::along_set, crate::proofs::Along::along_reads, crate::proofs::Goes::taken_enters), unfolding(crate::specs::Step::edge_action))]
+#[tactic(auto, using(crate::proofs::EdgeValues::along_set, crate::proofs::EdgeValues::along_reads, crate::proofs::BranchTargets::taken_enters), unfolding(crate::specs::Step::edge_action))]
 fn branch_action(p: &Program, registers: &[Option<u64>], instr: &Instr, n: u64) -> Action
     requires branch { IsBranch instr.now.op }
     requires ends { EndsBlock p.now instr.now }

@@ -84,7 +84,7 @@ fn assign(p: &Program, registers: &mut [Option<u64>], phis: &[Instr], values: &[
 
 /// Takes an edge, if each `phi` of the block that is entered has a value: they take their values together.
 /// Says whether each has one; else no register changes.
-#[tactic(auto, using(crate::proofs::Along::along_values, crate::proofs::Along::along_set, crate::proofs::Along::along_reads, crate::proofs::Along::along_few, pg_ir::proofs::Prepared::values_count), unfolding(crate::specs::EdgeStep::over_edge))]
+#[tactic(auto, using(crate::proofs::EdgeValues::along_values, crate::proofs::EdgeValues::along_set, crate::proofs::EdgeValues::along_reads, crate::proofs::EdgeValues::along_few, pg_ir::proofs::GrowingTables::values_count), unfolding(crate::specs::EdgeStep::over_edge))]
 pub(crate) fn take_edge(
     p: &Program,
     registers: &mut [Option<u64>],

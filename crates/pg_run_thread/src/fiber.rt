@@ -102,7 +102,7 @@ impl Fiber {
     }
 
     /// A thread that will begin with this function: main, or one from a pointer to a pointer.
-    #[tactic(auto, using(crate::proofs::Still::fresh_of, pg_ir::proofs::Places::starts_within))]
+    #[tactic(auto, using(crate::proofs::StepsKeepStates::fresh_of, pg_ir::proofs::FunctionPlaces::starts_within))]
     pub fn new(alloc: Global, p: &Program, t: ThreadNo, f: u32) -> Result<Fiber, AllocError>
         requires thread { t.0 < THREAD_LIMIT }
         requires function { StartsAs p.now f }
@@ -267,7 +267,7 @@ impl Fiber {
 
     /// Goes on to another block of the function, if each `phi` there has a value; else nothing changes.
     /// Says whether it goes on.
-    #[tactic(auto, using(crate::proofs::Along::along_values, crate::proofs::Along::along_set, crate::proofs::Along::along_reads, crate::proofs::Along::along_few), unfolding(crate::specs::Stack::frames_of, crate::specs::EdgeStep::over_edge))]
+    #[tactic(auto, using(crate::proofs::EdgeValues::along_values, crate::proofs::EdgeValues::along_set, crate::proofs::EdgeValues::along_reads, crate::proofs::EdgeValues::along_few), unfolding(crate::specs::Stack::frames_of, crate::specs::EdgeStep::over_edge))]
     pub(crate) fn go(&mut self, p: &Program, from: BlockNo, edge: Edge) -> bool
         requires going { 0 < length self.old.frames }
         requires from { from.0 < length p.now.blocks }

@@ -26,7 +26,7 @@ use pg_ir::{Instr, LibraryCall, Op, Program, Request, Value};
 
 impl Fiber {
     /// Goes back to the caller, whose register gets the number.
-    #[tactic(auto, using(crate::proofs::Leaves::caller_below), unfolding(crate::specs::Told::id_of))]
+    #[tactic(auto, using(crate::proofs::ReturnTargets::caller_below), unfolding(crate::specs::Told::id_of))]
     fn leave(&mut self, p: &Program, n: u64)
         requires depth { 2 ≤ length self.old.frames }
         requires caller { CallerFits p.now (under_top self.old.frames) }
@@ -39,7 +39,7 @@ impl Fiber {
     }
 
     /// Returns from the present function; from the thread's first this ends the thread.
-    #[tactic(auto, using(crate::proofs::Leaves::alone))]
+    #[tactic(auto, using(crate::proofs::ReturnTargets::alone))]
     fn finish(&mut self, p: &Program, value: Option<Value>)
         requires going { 0 < length self.old.frames }
         requires operand { CanReadReturned p.now (length (top_registers self.old.frames)) value }
@@ -67,7 +67,7 @@ impl Fiber {
     }
 
     /// Does a call of a known function.
-    #[tactic(auto, using(crate::proofs::Leaves::or_zero_zero))]
+    #[tactic(auto, using(crate::proofs::ReturnTargets::or_zero_zero))]
     fn act_known(
         &mut self,
         p: &Program,
@@ -116,7 +116,7 @@ impl Fiber {
     }
 
     /// Does the present instruction, and gives the number that its own register got.
-    #[tactic(auto, using(crate::proofs::Leaves::or_zero_zero, crate::proofs::Goes::taken_enters))]
+    #[tactic(auto, using(crate::proofs::ReturnTargets::or_zero_zero, crate::proofs::BranchTargets::taken_enters))]
     pub(crate) fn act(&mut self, p: &Program, instr: &Instr, reply: u64) -> u64
         requires present { IsPresent p.now self.old instr.now }
         requires room { CanDo p.now self.old instr.now.op }
@@ -167,7 +167,7 @@ impl Fiber {
     }
 
     /// What the next step is.
-    #[tactic(auto, using(crate::proofs::Nexts::next_at, crate::proofs::Presents::place_below, crate::proofs::Presents::is_present), unfolding(crate::specs::Step::next))]
+    #[tactic(auto, using(crate::proofs::NextActions::next_at, crate::proofs::PresentInstructions::place_below, crate::proofs::PresentInstructions::is_present), unfolding(crate::specs::Step::next))]
     pub fn next(&self, p: &Program) -> Action
         requires { IsOf p.now self.now }
         ensures action { result ≡ next p.now self.now }
@@ -185,7 +185,7 @@ impl Fiber {
 
     /// The values of the first four operands of the present step in text order, 0 for one that is
     /// missing or was never set. A start has none.
-    #[tactic(auto, using(crate::proofs::Nexts::operands_at, crate::proofs::Presents::place_below, crate::proofs::Presents::is_present), unfolding(crate::specs::Told::operand_values))]
+    #[tactic(auto, using(crate::proofs::NextActions::operands_at, crate::proofs::PresentInstructions::place_below, crate::proofs::PresentInstructions::is_present), unfolding(crate::specs::Told::operand_values))]
     pub fn operands(&self, p: &Program) -> [u64; 4]
         requires { IsOf p.now self.now }
         ensures values { result ≡ operand_values p.now self.now }
@@ -199,7 +199,7 @@ impl Fiber {
     }
 
     /// Does the first step.
-    #[tactic(auto, using(crate::proofs::Presents::function_below, crate::proofs::Presents::parameters_fit, crate::proofs::Afters::after_start))]
+    #[tactic(auto, using(crate::proofs::PresentInstructions::function_below, crate::proofs::PresentInstructions::parameters_fit, crate::proofs::StatesAfter::after_start))]
     fn start(&mut self, p: &Program, argument: u64)
         requires of { IsOf p.now self.old }
         requires going { 0 < length self.old.frames }
@@ -213,7 +213,7 @@ impl Fiber {
 
     /// Does the step with the answer to it, and gives the number that the instruction's own register
     /// got in it, 0 where it got none.
-    #[tactic(auto, using(crate::proofs::Nexts::can_go, crate::proofs::Presents::place_below, crate::proofs::Presents::is_present, crate::proofs::Rooms::can_do, crate::proofs::Rooms::can_take, crate::proofs::Afters::after_at, crate::proofs::Afters::number_of, crate::proofs::Still::still_of), unfolding(crate::specs::Step::after, crate::specs::Told::number_given))]
+    #[tactic(auto, using(crate::proofs::NextActions::can_go, crate::proofs::PresentInstructions::place_below, crate::proofs::PresentInstructions::is_present, crate::proofs::StepRooms::can_do, crate::proofs::StepRooms::can_take, crate::proofs::StatesAfter::after_at, crate::proofs::StatesAfter::number_of, crate::proofs::StepsKeepStates::still_of), unfolding(crate::specs::Step::after, crate::specs::Told::number_given))]
     pub fn resume(&mut self, p: &Program, reply: u64) -> u64
         requires of { IsOf p.now self.old }
         requires can { CanStep (next p.now self.old) }

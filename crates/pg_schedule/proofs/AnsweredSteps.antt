@@ -9,17 +9,17 @@ use Rattle.pg_num.specs.Places.{ByteRange}
 use Rattle.pg_ir.specs.declared.ids.ThreadNo.{ThreadNo}
 use Rattle.pg_law_threads.specs.Steps.{View, EachPair}
 use Rattle.pg_law_threads.specs.Intervals.{AreTurns, Timed, done_after, did_of, owners, times}
-use Rattle.pg_law_threads.proofs.Lists.{all_map, all_right, pairs_after, pairs_before}
-use Rattle.pg_law_threads.proofs.Turns.{next_from_end}
-use Rattle.pg_law_threads.proofs.Times.{did_times, low_high, low_up, within_after}
-use Rattle.pg_law_threads.proofs.Owners.{own_turns}
+use Rattle.pg_law_threads.proofs.DoneLists.{all_map, all_right, pairs_after, pairs_before}
+use Rattle.pg_law_threads.proofs.LastAndNextTurn.{next_from_end}
+use Rattle.pg_law_threads.proofs.TimedSteps.{did_times, low_high, low_up, within_after}
+use Rattle.pg_law_threads.proofs.OwnTurns.{own_turns}
 use Rattle.pg_run_trace.specs.declared.step.Access.{Access}
 use Rattle.pg_run_trace.specs.declared.step.Step.{Step}
 use Rattle.pg_run_trace.specs.Steps.{access_of, range_of}
 use Rattle.pg_run_trace.specs.Races.{accesses_conflict, conflict, is_unordered, overlap, share, timed_by}
 use Rattle.pg_schedule.specs.declared.interval.Interval.{Interval}
 use Rattle.pg_schedule.specs.Intervals.{interval_of}
-use Rattle.pg_law_threads.proofs.Walks.{drop_get}
+use Rattle.pg_law_threads.proofs.ListPlaces.{drop_get}
 use Rattle.pg_schedule.specs.Touches.{answers}
 use Rattle.pg_schedule.proofs.TableWalk.{before_get, behind_get}
 use Rattle.pg_schedule.specs.Touching.{backward, beside, forward, touch_with}

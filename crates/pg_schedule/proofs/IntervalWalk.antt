@@ -7,14 +7,14 @@ use Rattle.std.proofs.lemmas.Bool.{cases_eq}
 use Rattle.std.proofs.lemmas.List.{get_or-set_same, get_or-set_other, length-set, map-append}
 use Rattle.pg_law_threads.specs.Steps.{View}
 use Rattle.pg_law_threads.specs.Intervals.{last_before, next_from, done_after, turns_done, timed, times, AreTurns, owners}
-use Rattle.pg_law_threads.proofs.Turns.{last_own, last_other, next_up, next_own, next_other, next_from_end, owner_below}
-use Rattle.pg_law_threads.proofs.Times.{turns_right_of, done_append}
-use Rattle.pg_law_threads.proofs.Owners.{own_turns, owners_done, times_append, times_length}
+use Rattle.pg_law_threads.proofs.LastAndNextTurn.{last_own, last_other, next_up, next_own, next_other, next_from_end, owner_below}
+use Rattle.pg_law_threads.proofs.TimedSteps.{turns_right_of, done_append}
+use Rattle.pg_law_threads.proofs.OwnTurns.{own_turns, owners_done, times_append, times_length}
 use Rattle.pg_run_trace.specs.declared.step.Step.{Step}
 use Rattle.pg_run_trace.specs.Races.{timed_by}
 use Rattle.pg_schedule.specs.declared.interval.Interval.{Interval}
 use Rattle.pg_schedule.specs.Intervals.{from_low, interval_of}
-use Rattle.pg_law_threads.proofs.Walks.{drop_get, take_get}
+use Rattle.pg_law_threads.proofs.ListPlaces.{drop_get, take_get}
 
 -- ---- lists
 

@@ -7,20 +7,20 @@ use Rattle.std.specs.Option.{option_to_list}
 use Rattle.std.proofs.lemmas.Bool.{true≢false, cases_eq, eqb-true, eq-eqb, ne_eqb, and_from, and_left, and_parts, and_right, not_from_true}
 use Rattle.std.proofs.lemmas.List.{drop_all, get_or-set_same, get_or-set_other}
 use Rattle.pg_law_threads.specs.Intervals.{Timed, did_of, owners}
-use Rattle.pg_law_threads.proofs.Times.{did_times}
+use Rattle.pg_law_threads.proofs.TimedSteps.{did_times}
 use Rattle.pg_run_trace.specs.declared.step.Step.{Step}
 use Rattle.pg_run_trace.specs.Steps.{access_of}
 use Rattle.pg_run_trace.specs.Races.{accesses_conflict, asked, conflict, instrs_in, is_access, is_racing, is_unordered, overlap, race_at, race_in, races_below, races_of, timed_by}
-use Rattle.pg_law_threads.proofs.Walks.{drop_get}
+use Rattle.pg_law_threads.proofs.ListPlaces.{drop_get}
 use Rattle.pg_law_threads.specs.Steps.{View}
 use Rattle.pg_schedule.specs.Intervals.{interval_of}
-use Rattle.pg_schedule.proofs.Positions.{timed_get, timed_length}
+use Rattle.pg_schedule.proofs.StepPositions.{timed_get, timed_length}
 use Rattle.pg_schedule.proofs.TableWalk.{before_length, behind_length}
 use Rattle.pg_schedule.specs.Firsts.{AreFirst, before_of, behind_of, is_raced}
 use Rattle.pg_schedule.specs.Touching.{backward, forward}
 use Rattle.pg_schedule.proofs.AnsweredSteps.{all_within, before_at, behind_at, either_side, lows_below}
-use Rattle.pg_schedule.proofs.Steps.{length_map}
-use Rattle.pg_schedule.proofs.Below.{below_more, below_none}
+use Rattle.pg_schedule.proofs.NumberedSteps.{length_map}
+use Rattle.pg_schedule.proofs.LoopsSoFar.{below_more, below_none}
 
 -- ---- positions
 

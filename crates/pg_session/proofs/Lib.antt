@@ -1,8 +1,8 @@
-pub mod Kept
-pub mod Numbers
-pub mod Steps
-pub mod Ends
-pub mod Tallies
-pub mod Pieces
-pub mod Taken
-pub mod Faults
+pub mod KeptEntries
+pub mod LineNumbers
+pub mod SessionSteps
+pub mod WrittenSessions
+pub mod TrialCounts
+pub mod PieceBytes
+pub mod TakenBytes
+pub mod SessionEnds

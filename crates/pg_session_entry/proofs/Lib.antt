@@ -1,4 +1,4 @@
-pub mod Bounds
-pub mod Followed
-pub mod Lists
-pub mod Serves
+pub mod RaceInstructions
+pub mod FollowedSchedules
+pub mod MappedLists
+pub mod EntryParts

@@ -16,7 +16,7 @@ ghost use Rattle.pg_law_runs.specs.Cuts.{CanRun};
 ghost use Rattle.pg_law_runs.specs.LastTurns.{IsRecorded};
 ghost use Rattle.pg_session_entry.specs.Entries.{IsSliced};
 
-use pg_law_order::law_a::a_permitted_run_goes_on;
+use pg_law_order::permitted_runs::a_permitted_run_goes_on;
 use pg_law_order::recorded::{
     a_recorded_run_is_ordered_up_to_its_last_turns, the_schedule_of_a_recorded_run_is_good,
 };

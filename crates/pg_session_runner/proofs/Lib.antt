@@ -1,6 +1,6 @@
-pub mod Turns
-pub mod Kept
-pub mod Reused
-pub mod Recorded
-pub mod Lines
-pub mod Recordings
+pub mod TurnCounts
+pub mod KeptInsertions
+pub mod ReusedEntries
+pub mod RecordedEntries
+pub mod ReusedLines
+pub mod RecordedLines

@@ -1,4 +1,4 @@
-pub mod Owed
-pub mod Spreading
-pub mod Timing
+pub mod FixedByRules
+pub mod MoreDecisions
+pub mod TimedSteps
 pub mod RegionBounds

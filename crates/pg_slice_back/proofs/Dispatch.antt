@@ -25,7 +25,7 @@ use Rattle.pg_slice_rules.specs.Extents.{edge_in}
 use Rattle.pg_slice_rules.specs.Known.{Reference, RunShadow, Seen, Taken, caller_target, has, is_branch}
 use Rattle.pg_slice_rules.specs.Rules.{has_region}
 use Rattle.pg_law_least.specs.Keeps.{is_branching, may_write}
-use Rattle.pg_law_least.proofs.Likes.{Likes}
+use Rattle.pg_law_least.proofs.LikeValues.{Likes}
 use Rattle.pg_law_least.specs.Keeps.{every}
 use Rattle.pg_slice_replay.specs.declared.run.ReferenceRun.{ReferenceRun}
 use Rattle.pg_slice_replay.specs.Kept.{landmark_at}
@@ -34,10 +34,10 @@ use Rattle.pg_slice_passes.specs.Given.{is_op}
 use Rattle.pg_law_demands.specs.Cells.{IsMet}
 use Rattle.pg_law_demands.specs.Back.{back_branch, back_edge, back_freed, back_op, byte_demand, fixing, is_target, of_bytes, of_operand, of_optional, of_value, only, register_demand}
 use Rattle.pg_law_demands.specs.Demands.{instr_demands, kind_demands, region_demands, step_pins}
-use Rattle.pg_law_demands.proofs.Back.{live_before, seen_with}
-use Rattle.pg_law_demands.proofs.Own.{pins_own, step_own}
-use Rattle.pg_law_demands.proofs.Steps.{Asks}
-use Rattle.pg_law_demands.proofs.Walk.{Closes, closes}
+use Rattle.pg_law_demands.proofs.StepBack.{live_before, seen_with}
+use Rattle.pg_law_demands.proofs.OwnDemands.{pins_own, step_own}
+use Rattle.pg_law_demands.proofs.DemandsBack.{Asks}
+use Rattle.pg_law_demands.proofs.WalkBack.{Closes, closes}
 use Rattle.pg_slice_demands.specs.declared.demanded.Demanded.{Demanded}
 use Rattle.pg_slice_back.specs.declared.call.Call.{Call}
 use Rattle.pg_slice_back.specs.declared.registers.Counts.{Counts}
@@ -50,12 +50,13 @@ use Rattle.pg_slice_back.specs.Met.{AreMet}
 use Rattle.pg_slice_back.specs.Owed.{IsPinDue}
 use Rattle.pg_slice_back.specs.Sets.{AsksRegion}
 use Rattle.pg_slice_back.specs.Steps.{IsCallOf, IsLiveStep}
-use Rattle.pg_slice_back.proofs.At.{of_those, the_link}
-use Rattle.pg_slice_back.proofs.Stands as live
-use Rattle.pg_slice_back.proofs.Accesses.{access_leaves, load_leaves, load_moves, store_fixes, store_leaves, store_moves}
-use Rattle.pg_slice_back.proofs.Happenings.{event_leaves, print_moves, thread_leaves}
-use Rattle.pg_slice_back.proofs.Operating.{bytes_same, call_leaves, call_moves, edge_is, edge_op_leaves, edge_op_moves, freed_back, result_leaves, result_moves, return_leaves, return_moves, top_back}
-use Rattle.pg_slice_back.proofs.Meets.{all_left, all_right, without_met}
+use Rattle.pg_slice_back.proofs.KnownBefore.{of_those, the_link}
+use Rattle.pg_slice_back.proofs.KnownBackOverSteps as live
+use Rattle.pg_slice_back.proofs.LiveAccesses.{access_leaves, load_leaves, load_moves, store_fixes, store_leaves, store_moves}
+use Rattle.pg_slice_back.proofs.LiveEvents.{event_leaves, print_moves, thread_leaves}
+use Rattle.pg_slice_back.proofs.LiveOperations.{bytes_same, call_leaves, call_moves, edge_is, edge_op_leaves, edge_op_moves, freed_back, result_leaves, result_moves, return_leaves, return_moves}
+use Rattle.pg_slice_back.proofs.LiveOperations.{top_back}
+use Rattle.pg_slice_back.proofs.NeedsBackOverSteps.{all_left, all_right, without_met}
 
 some_is : {A : Type 0} (x y : A) → Some x ≡ Some y → x ≡ y
 some_is x y q = cc

@@ -1,5 +1,5 @@
-pub mod Added
-pub mod Operands
-pub mod Tests
-pub mod Events
-pub mod Paths
+pub mod OneNeedMore
+pub mod OneOperand
+pub mod AskedByCases
+pub mod EventOperands
+pub mod PathLoads

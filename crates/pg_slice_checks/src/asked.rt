@@ -40,7 +40,7 @@ impl Asked {
     /// # Errors
     ///
     /// Where no memory is left.
-    #[tactic(auto, using(crate::proofs::Added::one_check, crate::proofs::Added::one_missing))]
+    #[tactic(auto, using(crate::proofs::OneNeedMore::one_check, crate::proofs::OneNeedMore::one_missing))]
     pub fn need_value(&mut self, s: Source, test: Test) -> Result<(), AllocError>
         ensures { IfOk result (λ u. (ns : NodeList) → IsSource (length ns) s → Adds ns (Value (shadow_by ns s) (test ∷ []) ∷ []) self.old self.new) }
     {
@@ -56,7 +56,7 @@ impl Asked {
     /// # Errors
     ///
     /// Where no memory is left.
-    #[tactic(auto, using(crate::proofs::Added::one_check, crate::proofs::Added::one_missing))]
+    #[tactic(auto, using(crate::proofs::OneNeedMore::one_check, crate::proofs::OneNeedMore::one_missing))]
     pub fn need_bounds(&mut self, s: Source, word: u64) -> Result<(), AllocError>
         ensures { IfOk result (λ u. (ns : NodeList) → IsSource (length ns) s → Adds ns (Bounds (shadow_by ns s) (same_bounds word) ∷ []) self.old self.new) }
     {
@@ -76,7 +76,7 @@ impl Asked {
     /// # Errors
     ///
     /// Where no memory is left.
-    #[tactic(auto, using(crate::proofs::Added::one_missing, crate::proofs::Added::many_checks))]
+    #[tactic(auto, using(crate::proofs::OneNeedMore::one_missing, crate::proofs::OneNeedMore::many_checks))]
     pub fn need_none(&mut self, s: Source, cases: &[Case]) -> Result<(), AllocError>
         ensures { IfOk result (λ u. (ns : NodeList) → IsSource (length ns) s → Adds ns (Value (shadow_by ns s) (map (λ (c : ACase). test.Ne c.value) cases.now) ∷ []) self.old self.new) }
     {

@@ -107,7 +107,7 @@ fn is_malloc(op: &Op) -> bool
     )
 }
 
-#[tactic(auto, using(crate::proofs::Operands::operand_at, crate::proofs::Operands::source_at))]
+#[tactic(auto, using(crate::proofs::OneOperand::operand_at, crate::proofs::OneOperand::source_at))]
 /// What is known of the operand with this index.
 fn operand(operands: &[Source], k: usize) -> Source
     requires { k < length operands.now }
@@ -131,7 +131,7 @@ fn branch_needs(asked: &mut Asked, op: &Op, on: Source, condition: u64) -> Resul
     Ok(())
 }
 
-#[tactic(auto, using(crate::proofs::Added::adds_none, crate::proofs::Added::adds_then))]
+#[tactic(auto, using(crate::proofs::OneNeedMore::adds_none, crate::proofs::OneNeedMore::adds_then))]
 /// What an event asks of the first operands.
 fn equal_needs(
     asked: &mut Asked,
@@ -157,7 +157,7 @@ fn is_start(kind: TurnKind) -> bool
     matches!(kind, TurnKind::Start)
 }
 
-#[tactic(auto, using(crate::proofs::Added::adds_none, crate::proofs::Events::started))]
+#[tactic(auto, using(crate::proofs::OneNeedMore::adds_none, crate::proofs::EventOperands::started))]
 /// What an event asks of its operands.
 fn event_needs(
     asked: &mut Asked,
@@ -177,7 +177,7 @@ fn event_needs(
     Ok(())
 }
 
-#[tactic(auto, using(crate::proofs::Added::adds_none))]
+#[tactic(auto, using(crate::proofs::OneNeedMore::adds_none))]
 /// The values that a step asks for.
 fn value_needs(
     asked: &mut Asked,
@@ -239,7 +239,7 @@ fn access_index(op: &Op, kind: &StepKind) -> usize
     }
 }
 
-#[tactic(auto, using(crate::proofs::Added::adds_none, crate::proofs::Tests::bounds_of_access, crate::proofs::Tests::bounds_of_none, crate::proofs::Tests::index_of_access))]
+#[tactic(auto, using(crate::proofs::OneNeedMore::adds_none, crate::proofs::AskedByCases::bounds_of_access, crate::proofs::AskedByCases::bounds_of_none, crate::proofs::AskedByCases::index_of_access))]
 /// The bounds that a step asks for.
 fn bounds_needs(
     asked: &mut Asked,
@@ -258,7 +258,7 @@ fn bounds_needs(
     Ok(())
 }
 
-#[tactic(auto, using(crate::proofs::Added::adds_then))]
+#[tactic(auto, using(crate::proofs::OneNeedMore::adds_then))]
 /// What a live step asks for, by what is known of the operands of its instruction: that a pinned condition, an exact
 /// address, an event's address, the size of a `malloc` and the checked operands of a pthread call are known, and are
 /// what they were; and that an access has known bounds. A step is fixed where it is pinned or exact.

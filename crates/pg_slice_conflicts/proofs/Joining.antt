@@ -10,8 +10,8 @@ use Rattle.pg_slice_conflicts.specs.declared.places.Placed.{Placed}
 use Rattle.pg_slice_conflicts.specs.declared.pass.Touch.{Touch}
 use Rattle.pg_slice_conflicts.specs.Ranks.{gives}
 use Rattle.pg_slice_conflicts.specs.Passes.{answers, share, answers_along, answers_in, before_by, pass_of}
-use Rattle.pg_slice_conflicts.proofs.Tests.{any_none, any_or}
-use Rattle.pg_law_threads.proofs.Walks.{drop_get, take_get}
+use Rattle.pg_slice_conflicts.proofs.ListTests.{any_none, any_or}
+use Rattle.pg_law_threads.proofs.ListPlaces.{drop_get, take_get}
 
 drop_set : (xs : List Bool) (i : ℕ) (b : Bool) → drop (i + 1) (slice_set xs i b) ≡ drop (i + 1) xs
 drop_set [] i b = refl

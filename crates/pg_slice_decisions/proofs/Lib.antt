@@ -1,2 +1,2 @@
-pub mod Tables
-pub mod Opens
+pub mod NumberTables
+pub mod OpenExtents

@@ -24,7 +24,7 @@ pub(crate) fn none(alloc: Global, bound: usize) -> Result<Vec<bool>, AllocError>
     vec![in alloc; false; bound]
 }
 
-#[tactic(auto, using(crate::proofs::Tables::put_left))]
+#[tactic(auto, using(crate::proofs::NumberTables::put_left))]
 /// Puts a number into the set.
 pub(crate) fn put(set: &mut Vec<bool>, n: usize)
     requires { n < length set.old.items }
@@ -35,7 +35,7 @@ pub(crate) fn put(set: &mut Vec<bool>, n: usize)
     set[n] = true;
 }
 
-#[tactic(auto, using(crate::proofs::Tables::none_in, crate::proofs::Tables::or_moves, crate::proofs::Tables::or_none))]
+#[tactic(auto, using(crate::proofs::NumberTables::none_in, crate::proofs::NumberTables::or_moves, crate::proofs::NumberTables::or_none))]
 /// The set of these numbers, of those below a bound.
 pub(crate) fn of(alloc: Global, bound: usize, numbers: &[usize]) -> Result<Vec<bool>, AllocError>
     requires { AllByRecursion (λ n. n < bound) numbers.now }
@@ -49,7 +49,7 @@ pub(crate) fn of(alloc: Global, bound: usize, numbers: &[usize]) -> Result<Vec<b
     Ok(set)
 }
 
-#[tactic(auto, using(crate::proofs::Tables::same_members))]
+#[tactic(auto, using(crate::proofs::NumberTables::same_members))]
 /// The numbers of the set, ascending.
 pub(crate) fn members(alloc: Global, set: &[bool]) -> Result<Vec<usize>, AllocError>
     ensures list { IfOk result (λ v. v.items ≡ members_from 0 set.now) }

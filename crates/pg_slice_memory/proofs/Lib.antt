@@ -1,6 +1,6 @@
-pub mod Changing
-pub mod Shown
-pub mod Grows
-pub mod Loading
-pub mod Digits
-pub mod Reading
+pub mod ByteChanges
+pub mod KnownAfterChanges
+pub mod ByteNodes
+pub mod LoadedNumbers
+pub mod ByteNumbers
+pub mod ReadBytes

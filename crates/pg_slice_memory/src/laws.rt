@@ -13,7 +13,7 @@ ghost use Rattle.pg_slice_memory.specs.Changes.{AreSources, Changes, shadows_of}
 ghost use Rattle.pg_slice_values.specs.Sources.{Grew};
 
 /// Nodes that are added change nothing of what is known of the bytes.
-#[tactic(auto, using(crate::proofs::Grows::names_more))]
+#[tactic(auto, using(crate::proofs::ByteNodes::names_more))]
 pub fn more_nodes_change_nothing()
     ensures shadow { (p : NumberedProgram) (old new : NodeList) (cs : Changes) → Grew old new → AreSources (length old) cs → shadows_of p new cs ≡ shadows_of p old cs }
     ensures names { (m n : ℕ) (cs : Changes) → m ≤ n → AreSources m cs → AreSources n cs }

@@ -13,8 +13,8 @@ use Rattle.pg_slice_decisions.specs.declared.steps.DecisionSet.{DecisionSet}
 use Rattle.pg_slice_decisions.specs.Marks.{members_from}
 use Rattle.pg_slice_decisions.specs.Steps.{AreOf, step_of, taken_by}
 use Rattle.pg_law_least.specs.Keeps.{ExtentsKeep}
-use Rattle.pg_law_least.proofs.Larger.{asks_above}
-use Rattle.pg_law_least.proofs.Missing.{asks_new}
+use Rattle.pg_law_least.proofs.InLargerClosedSets.{asks_above}
+use Rattle.pg_law_least.proofs.AskedAreMissing.{asks_new}
 use Rattle.pg_precondition.specs.Names.{AreNeeded}
 use Rattle.pg_precondition.specs.Nodes.{Conditions}
 use Rattle.pg_precondition.specs.Values.{is_admitted}
@@ -22,7 +22,7 @@ use Rattle.pg_slice_replay.specs.declared.run.ReferenceRun.{ReferenceRun}
 use Rattle.pg_slice_passes.specs.declared.slice.Slice.{Slice}
 use Rattle.pg_slice_passes.specs.Given.{HasLandmarks, reference_of}
 use Rattle.pg_slice_passes.specs.Sliced.{IsSliceOf}
-use Rattle.pg_slice_passes.proofs.Meeting.{as_many}
+use Rattle.pg_slice_passes.proofs.AllAsked.{as_many}
 use Rattle.pg_slice_passes.proofs.Slicing.{all_below, closed_where_none, same_taken, stays_within}
 
 -- what is taken so far is in each closed set, whatever the run's regions, its loads and stores that are turns and its input are

@@ -14,9 +14,9 @@ use Rattle.pg_slice_decisions.specs.Marks.{members_from}
 use Rattle.pg_slice_decisions.specs.Steps as steps
 use Rattle.pg_law_least.specs.Keeps.{ExtentsKeep}
 use Rattle.pg_law_least.specs.Laws.{AsksAreAbove, AsksAreNew, AsksAreOfSteps, step_in}
-use Rattle.pg_law_least.proofs.Closes.{closed_if}
+use Rattle.pg_law_least.proofs.ClosedDecisions.{closed_if}
 use Rattle.pg_region_paths.proofs.Elements.{cases as cases_in, here, none_in, there}
-use Rattle.pg_law_threads.proofs.Walks.{take_get}
+use Rattle.pg_law_threads.proofs.ListPlaces.{take_get}
 
 -- sets with the same decisions are the same
 pub same_taken : (d e : Taken) → ((x : Decision) → has d x ≡ has e x) → d ≡ e

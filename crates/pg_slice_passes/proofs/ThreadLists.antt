@@ -16,8 +16,8 @@ use Rattle.pg_slice_decisions.specs.Places.{open_at}
 use Rattle.pg_slice_values.specs.Sources.{Grew}
 use Rattle.pg_slice_registers.specs.Sourced.{AreCalls, AreSources, CallList, calls_by, registers_by, top_sources}
 use Rattle.pg_slice_registers.specs.Threads.{AreThreads, thread_by, threads_by}
-use Rattle.pg_slice_registers.proofs.Calls.{top_are, top_by}
-use Rattle.pg_slice_registers.proofs.Threading.{on_one, threads_kept}
+use Rattle.pg_slice_registers.proofs.ThreadCalls.{top_are, top_by}
+use Rattle.pg_slice_registers.proofs.ThreadsMade.{on_one, threads_kept}
 use Rattle.pg_slice_passes.specs.State.{EachOpen, KnowsThreads, extents_in}
 
 -- ---- lists of which one member is set

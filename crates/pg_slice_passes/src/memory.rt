@@ -118,7 +118,7 @@ fn written(nodes: &mut Nodes, e: &Event, w: Write, words: &[Source]) -> Result<S
 }
 
 /// Memory after a live event.
-#[tactic(auto, using(pg_slice_values::proofs::Grows::grew_none))]
+#[tactic(auto, using(pg_slice_values::proofs::GrowingNodes::grew_none))]
 pub(crate) fn write(
     nodes: &mut Nodes,
     memory: &mut ShadowMemory,

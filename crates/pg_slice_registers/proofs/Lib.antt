@@ -1,8 +1,8 @@
-pub mod Kept
-pub mod Sets
-pub mod Gathered
-pub mod Calls
-pub mod Gives
-pub mod Happens
-pub mod Threading
-pub mod Functions
+pub mod KeptValues
+pub mod SetRegisters
+pub mod GatheredLists
+pub mod ThreadCalls
+pub mod DefinedSteps
+pub mod DefinedEvents
+pub mod ThreadsMade
+pub mod MissingFunctions

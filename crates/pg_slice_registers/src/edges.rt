@@ -82,7 +82,7 @@ fn enter(
 }
 
 /// The registers of a call after an edge, if one is taken.
-#[tactic(auto, using(pg_slice_values::proofs::Grows::grew_none))]
+#[tactic(auto, using(pg_slice_values::proofs::GrowingNodes::grew_none))]
 pub(crate) fn along_edge(
     alloc: Global,
     nodes: &mut Nodes,

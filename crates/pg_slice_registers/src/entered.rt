@@ -15,7 +15,7 @@ use pg_slice_values::{Source, unset};
 use std::alloc::{AllocError, Global};
 
 /// How many registers a function has, none where there is no such function.
-#[tactic(auto, unfolding(pg_ir::specs::Program::types_of), using(crate::proofs::Functions::no_types))]
+#[tactic(auto, unfolding(pg_ir::specs::Program::types_of), using(crate::proofs::MissingFunctions::no_types))]
 pub fn register_count(p: &Program, f: u32) -> usize
     ensures { result ≡ length (types_of p.now f) }
 {
@@ -48,7 +48,7 @@ fn push_unset(nodes: &mut Nodes, sources: &mut Vec<Source>, count: usize) -> Res
 }
 
 /// The registers of a call that begins, by the sources of its arguments.
-#[tactic(auto, using(pg_slice_values::proofs::Grows::grew_then))]
+#[tactic(auto, using(pg_slice_values::proofs::GrowingNodes::grew_then))]
 pub(crate) fn entered(
     alloc: Global,
     nodes: &mut Nodes,

@@ -12,7 +12,7 @@ use pg_slice_values::{Source, constant};
 use std::alloc::AllocError;
 
 /// How many parameters a function has, none where there is no such function.
-#[tactic(auto, unfolding(pg_ir::specs::Program::parameter_count), using(crate::proofs::Functions::no_parameters))]
+#[tactic(auto, unfolding(pg_ir::specs::Program::parameter_count), using(crate::proofs::MissingFunctions::no_parameters))]
 fn parameter_count(p: &Program, f: u32) -> u32
     ensures { result ≡ parameter_count p.now f }
 {
@@ -40,7 +40,7 @@ impl ThreadSources {
     ghost use Rattle.pg_slice_registers.specs.Events.{HasOperands, IsLibraryCall};
 
     /// A start: the first parameter, if there is one, is the thread's argument.
-    #[tactic(auto, using(crate::proofs::Happens::starts, crate::proofs::Happens::starts_not))]
+    #[tactic(auto, using(crate::proofs::DefinedEvents::starts, crate::proofs::DefinedEvents::starts_not))]
     fn begin(&mut self, parameters: u32, argument: Source)
         ensures value { (ns : NodeList) → calls_by ns self.new ≡ with_top (started parameters (shadow_by ns argument)) (calls_by ns self.old) }
         ensures is { (n : ℕ) → AreCalls n self.old → IsSource n argument → AreCalls n self.new }
@@ -88,7 +88,7 @@ impl ThreadSources {
     /// # Errors
     ///
     /// Where no memory is left. Nodes may have been added; the calls are as before.
-    #[tactic(auto, using(pg_slice_values::proofs::Grows::grew_none))]
+    #[tactic(auto, using(pg_slice_values::proofs::GrowingNodes::grew_none))]
     pub fn after_event(
         &mut self,
         nodes: &mut Nodes,

@@ -18,7 +18,7 @@ use pg_slice_values::{Source, constant, from_input, input_length, low_byte, valu
 use std::alloc::{AllocError, Global};
 
 /// An argument of a call, by the registers of its frame; where there is none, one that was never set.
-#[tactic(auto, using(crate::proofs::Gives::argument_is))]
+#[tactic(auto, using(crate::proofs::DefinedSteps::argument_is))]
 fn argument(
     nodes: &mut Nodes,
     p: &Program,
@@ -64,7 +64,7 @@ pub fn operand(
 }
 
 /// The number that is printed.
-#[tactic(auto, using(pg_slice_values::proofs::Grows::grew_then, crate::proofs::Gives::call_asked))]
+#[tactic(auto, using(pg_slice_values::proofs::GrowingNodes::grew_then, crate::proofs::DefinedSteps::call_asked))]
 pub(crate) fn printed(
     nodes: &mut Nodes,
     p: &Program,
@@ -82,7 +82,7 @@ pub(crate) fn printed(
 }
 
 /// The number that is read from the input.
-#[tactic(auto, using(pg_slice_values::proofs::Grows::grew_then))]
+#[tactic(auto, using(pg_slice_values::proofs::GrowingNodes::grew_then))]
 fn read_input(
     nodes: &mut Nodes,
     p: &Program,
@@ -99,7 +99,7 @@ fn read_input(
 }
 
 /// What the call of a known function gives its register.
-#[tactic(auto, using(pg_slice_values::proofs::Grows::grew_none))]
+#[tactic(auto, using(pg_slice_values::proofs::GrowingNodes::grew_none))]
 fn known_given(
     nodes: &mut Nodes,
     p: &Program,

@@ -13,7 +13,7 @@ use pg_slice_rules::Decision;
 use pg_slice_values::Source;
 
 /// Puts a source in its place; past the end there is none.
-#[tactic(auto, using(crate::proofs::Sets::set_past))]
+#[tactic(auto, using(crate::proofs::SetRegisters::set_past))]
 fn put(registers: &mut [Source], r: usize, s: Source)
     ensures { registers.new ≡ slice_set registers.old r s }
 {
@@ -23,7 +23,7 @@ fn put(registers: &mut [Source], r: usize, s: Source)
 }
 
 /// Sets a register, if there is one to set.
-#[tactic(auto, using(crate::proofs::Sets::set_by, crate::proofs::Sets::set_sources))]
+#[tactic(auto, using(crate::proofs::SetRegisters::set_by, crate::proofs::SetRegisters::set_sources))]
 pub(crate) fn set(registers: &mut [Source], target: Option<u32>, s: Source)
     ensures value { (ns : NodeList) → registers_by ns registers.new ≡ set_shadow target (shadow_by ns s) (registers_by ns registers.old) }
     ensures is { (n : ℕ) → AreSources n registers.old → IsSource n s → AreSources n registers.new }
@@ -55,7 +55,7 @@ fn unless_marked(sets: &[bool], r: usize, by: Decision, s: Source) -> Source
 }
 
 /// Forgets the registers that a table marks; the decision is blamed.
-#[tactic(auto, using(crate::proofs::Sets::forgotten_by, crate::proofs::Sets::forgotten_sources))]
+#[tactic(auto, using(crate::proofs::SetRegisters::forgotten_by, crate::proofs::SetRegisters::forgotten_sources))]
 pub(crate) fn forget(registers: &mut [Source], sets: &[bool], by: Decision)
     ensures value { (ns : NodeList) → registers_by ns registers.new ≡ forgotten_from 0 (marked sets.now) by (registers_by ns registers.old) }
     ensures is { (n : ℕ) → AreSources n registers.old → AreSources n registers.new }

@@ -24,7 +24,7 @@ impl ThreadSources {
     ghost use Rattle.pg_slice_registers.specs.Steps.{IsStepAt, branched, given_shadow, is_plain, is_straight, set_given};
 
     /// Gives a register of the present call what an instruction gives, if there is a register and something is given.
-    #[tactic(auto, using(crate::proofs::Gives::nothing_given))]
+    #[tactic(auto, using(crate::proofs::DefinedSteps::nothing_given))]
     fn set_given(&mut self, target: Option<u32>, s: Option<Source>)
         ensures value { (ns : NodeList) → calls_by ns self.new ≡ with_top (set_given target (option_map (shadow_by ns) s)) (calls_by ns self.old) }
         ensures is { (n : ℕ) → AreCalls n self.old → IfSome s (IsSource n) → AreCalls n self.new }
@@ -58,7 +58,7 @@ impl ThreadSources {
 
     /// The step of a conditional branch or a switch: where its region is an instance, the registers that it may set are
     /// forgotten.
-    #[tactic(auto, using(pg_slice_values::proofs::Grows::grew_none))]
+    #[tactic(auto, using(pg_slice_values::proofs::GrowingNodes::grew_none))]
     fn branch(
         &mut self,
         alloc: Global,

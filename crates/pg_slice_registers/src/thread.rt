@@ -86,7 +86,7 @@ impl ThreadSources {
     }
 
     /// Takes an edge in the present call, if one is taken.
-    #[tactic(auto, using(pg_slice_values::proofs::Grows::grew_none, crate::proofs::Calls::ended_same, crate::proofs::Calls::ended_are))]
+    #[tactic(auto, using(pg_slice_values::proofs::GrowingNodes::grew_none, crate::proofs::ThreadCalls::ended_same, crate::proofs::ThreadCalls::ended_are))]
     pub(crate) fn along_edge(
         &mut self,
         alloc: Global,

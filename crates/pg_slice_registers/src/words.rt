@@ -60,7 +60,7 @@ fn exit_source(
 }
 
 /// Puts a word in its place; past the end there is none.
-#[tactic(auto, using(crate::proofs::Sets::set_past))]
+#[tactic(auto, using(crate::proofs::SetRegisters::set_past))]
 fn put_word(words: &mut Vec<Source>, thread: usize, s: Source)
     ensures { words.new.items ≡ slice_set words.old.items thread s }
 {
@@ -74,7 +74,7 @@ fn put_word(words: &mut Vec<Source>, thread: usize, s: Source)
 /// # Errors
 ///
 /// Where no memory is left. Nodes may have been added; the words are as before.
-#[tactic(auto, using(pg_slice_values::proofs::Grows::grew_none))]
+#[tactic(auto, using(pg_slice_values::proofs::GrowingNodes::grew_none))]
 pub fn words_after(
     nodes: &mut Nodes,
     p: &Program,

@@ -22,8 +22,8 @@ use Rattle.pg_slice_replay.specs.Kept.{FitsRow, landmark_in}
 use Rattle.pg_slice_replay.specs.Landmarks.{Landmark, landmark_with, moment_in, told_along}
 use Rattle.pg_slice_replay.specs.Sought.{IsFreed}
 use Rattle.pg_slice_replay.specs.Targets.{AreTargets, target_in}
-use Rattle.pg_slice_replay.proofs.Kept.{fits_next, row_is, rows_next, rows_whole, takes_next}
-use Rattle.pg_slice_replay.proofs.Present.{present}
+use Rattle.pg_slice_replay.proofs.KeptLandmarks.{fits_next, row_is, rows_next, rows_whole, takes_next}
+use Rattle.pg_slice_replay.proofs.PresentInstructions.{present}
 use Rattle.pg_slice_replay.proofs.Steps.{state_in}
 
 -- the machine m has taken the first i steps of the trace, from the machine `first` on, and these rows are kept of them

@@ -15,7 +15,7 @@ use Rattle.pg_run.specs.Readers.{depth_of, frames_of}
 use Rattle.pg_run.specs.Runs.{Takes}
 use Rattle.pg_run.specs.State.{State}
 use Rattle.pg_slice_replay.specs.Targets.{AreTargets, with_target}
-use Rattle.pg_slice_replay.proofs.Present.{present, within}
+use Rattle.pg_slice_replay.proofs.PresentInstructions.{present, within}
 use Rattle.pg_slice_replay.proofs.TargetsKept.{targets_after}
 
 abbrev pub state_in : steps.Stepped → State → State

@@ -32,13 +32,13 @@ use Rattle.pg_run.specs.MachineStep.{Did, Stepped, step}
 use Rattle.pg_run.specs.Readers.{frames_in, frames_of}
 use Rattle.pg_run.specs.Runs.{Takes}
 use Rattle.pg_run.specs.State.{State, initial, next_of}
-use Rattle.pg_run.proofs.Asks.{next_is}
+use Rattle.pg_run.proofs.StepsBegin.{next_is}
 use Rattle.pg_run.proofs.Threads.{last_other, last_own, set_length, set_other, set_own}
 use Rattle.pg_law_effects.specs.Effect.{answer_to, effect, effect_of, local_set, locals_with, own_after, request_effect}
-use Rattle.pg_law_effects.proofs.Effects.{has_effect}
+use Rattle.pg_law_effects.proofs.StepEffects.{has_effect}
 use Rattle.pg_slice_rules.specs.Known.{caller_target, target_of}
 use Rattle.pg_slice_replay.specs.Targets.{AreTargets, AreTargetsOf, place_of, target_in, with_target}
-use Rattle.pg_slice_replay.proofs.Present.{IsPresent, did_can, present}
+use Rattle.pg_slice_replay.proofs.PresentInstructions.{IsPresent, did_can, present}
 
 -- ---- what is read
 

@@ -177,7 +177,7 @@ impl ReferenceRun {
 }
 
 /// How many accesses of a region there are whose paths lead somewhere.
-#[tactic(auto, using(crate::proofs::Counts::counted))]
+#[tactic(auto, using(crate::proofs::RegionAccessCounts::counted))]
 fn count_in(accesses: &[Rooted], ats: &[At]) -> usize
     ensures { result ≡ length (accesses_with accesses.now ats.now) }
 {

@@ -1,7 +1,7 @@
-pub mod Grows
+pub mod GrowingNodes
 pub mod Widths
 pub mod Operands
-pub mod Forms
-pub mod Moves
+pub mod OneNodeOperations
+pub mod PointerMoves
 pub mod Indices
 pub mod Registers

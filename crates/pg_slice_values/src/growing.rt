@@ -15,7 +15,7 @@ use std::alloc::AllocError;
 /// # Errors
 ///
 /// Where no memory is left for it.
-#[tactic(auto, using(crate::proofs::Grows::grew_one, crate::proofs::Grows::grew_none, crate::proofs::Grows::number_of_new, crate::proofs::Grows::length_more))]
+#[tactic(auto, using(crate::proofs::GrowingNodes::grew_one, crate::proofs::GrowingNodes::grew_none, crate::proofs::GrowingNodes::number_of_new, crate::proofs::GrowingNodes::length_more))]
 pub fn added(nodes: &mut Nodes, node: Node) -> Result<u32, AllocError>
     requires { IsNode (length nodes.old) node }
     ensures grew { Grew nodes.old nodes.new }

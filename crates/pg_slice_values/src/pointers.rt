@@ -19,7 +19,7 @@ use pg_precondition::{CastKind, Node, Nodes, Operation};
 use std::alloc::AllocError;
 
 /// The node of an index, read with its sign, times its scale.
-#[tactic(auto, using(crate::proofs::Grows::grew_then, crate::proofs::Grows::grew_length, crate::proofs::Grows::number_kept, crate::proofs::Widths::within_64))]
+#[tactic(auto, using(crate::proofs::GrowingNodes::grew_then, crate::proofs::GrowingNodes::grew_length, crate::proofs::GrowingNodes::number_kept, crate::proofs::Widths::within_64))]
 fn scaled(nodes: &mut Nodes, width: Width, scale: u64, index: u32) -> Result<u32, AllocError>
     requires { index < length nodes.old }
     ensures grew { Grew nodes.old nodes.new }
@@ -50,7 +50,7 @@ fn scaled(nodes: &mut Nodes, width: Width, scale: u64, index: u32) -> Result<u32
 }
 
 /// The node of a constant that has a number only where the index has one.
-#[tactic(auto, using(crate::proofs::Grows::grew_then, crate::proofs::Grows::grew_length, crate::proofs::Grows::number_kept))]
+#[tactic(auto, using(crate::proofs::GrowingNodes::grew_then, crate::proofs::GrowingNodes::grew_length, crate::proofs::GrowingNodes::number_kept))]
 fn fixed(nodes: &mut Nodes, bytes: u64, index: u32) -> Result<u32, AllocError>
     requires { index < length nodes.old }
     ensures grew { Grew nodes.old nodes.new }
@@ -82,7 +82,7 @@ fn distance(nodes: &mut Nodes, index: Index, node: u32) -> Result<u32, AllocErro
 }
 
 /// The node of a word that is moved by an index.
-#[tactic(auto, using(crate::proofs::Grows::grew_then, crate::proofs::Grows::grew_length, crate::proofs::Grows::number_kept))]
+#[tactic(auto, using(crate::proofs::GrowingNodes::grew_then, crate::proofs::GrowingNodes::grew_length, crate::proofs::GrowingNodes::number_kept))]
 fn moved_once(nodes: &mut Nodes, word: u32, index: Index, node: u32) -> Result<u32, AllocError>
     requires word { word < length nodes.old }
     requires index { node < length nodes.old }
@@ -95,7 +95,7 @@ fn moved_once(nodes: &mut Nodes, word: u32, index: Index, node: u32) -> Result<u
 }
 
 /// The node of the first operand's word, moved along indices, whose nodes are those of the operands behind it.
-#[tactic(auto, using(crate::proofs::Grows::grew_none, crate::proofs::Grows::grew_then, crate::proofs::Grows::grew_length, crate::proofs::Operands::known_below))]
+#[tactic(auto, using(crate::proofs::GrowingNodes::grew_none, crate::proofs::GrowingNodes::grew_then, crate::proofs::GrowingNodes::grew_length, crate::proofs::Operands::known_below))]
 pub(crate) fn moved_along(
     nodes: &mut Nodes,
     indices: &[Index],

@@ -34,7 +34,7 @@ pub fn constant(nodes: &mut Nodes, n: u64) -> Result<Source, AllocError>
 /// # Errors
 ///
 /// Where no memory is left for its nodes. Some of them may have been added.
-#[tactic(auto, using(crate::proofs::Grows::grew_then))]
+#[tactic(auto, using(crate::proofs::GrowingNodes::grew_then))]
 pub fn unset(nodes: &mut Nodes) -> Result<Source, AllocError>
     ensures grew { Grew nodes.old nodes.new }
     ensures is { IfOk result (IsSource (length nodes.new)) }
@@ -53,7 +53,7 @@ pub fn unset(nodes: &mut Nodes) -> Result<Source, AllocError>
 }
 
 /// A number that is the same on each input, or has none on any.
-#[tactic(auto, using(crate::proofs::Grows::grew_none))]
+#[tactic(auto, using(crate::proofs::GrowingNodes::grew_none))]
 fn fixed(nodes: &mut Nodes, n: Option<u64>) -> Result<Source, AllocError>
     ensures grew { Grew nodes.old nodes.new }
     ensures is { IfOk result (IsSource (length nodes.new)) }
@@ -66,7 +66,7 @@ fn fixed(nodes: &mut Nodes, n: Option<u64>) -> Result<Source, AllocError>
 }
 
 /// The source of a register; one that isn't there was never set.
-#[tactic(auto, using(crate::proofs::Grows::grew_none, crate::proofs::Registers::register_at, crate::proofs::Registers::register_is, crate::proofs::Registers::no_register))]
+#[tactic(auto, using(crate::proofs::GrowingNodes::grew_none, crate::proofs::Registers::register_at, crate::proofs::Registers::register_is, crate::proofs::Registers::no_register))]
 fn register(nodes: &mut Nodes, r: u32, registers: &[Source]) -> Result<Source, AllocError>
     requires { AllByRecursion (IsSource (length nodes.old)) registers.now }
     ensures grew { Grew nodes.old nodes.new }
@@ -109,7 +109,7 @@ pub fn value(
 /// # Errors
 ///
 /// Where no memory is left for its node.
-#[tactic(auto, using(crate::proofs::Grows::grew_none, crate::proofs::Widths::within_64))]
+#[tactic(auto, using(crate::proofs::GrowingNodes::grew_none, crate::proofs::Widths::within_64))]
 pub fn within(nodes: &mut Nodes, w: Width, s: Source) -> Result<Source, AllocError>
     requires { IsSource (length nodes.old) s }
     ensures grew { Grew nodes.old nodes.new }
@@ -149,7 +149,7 @@ pub fn low_byte(nodes: &mut Nodes, s: Source) -> Result<Source, AllocError>
 /// # Errors
 ///
 /// Where no memory is left for its nodes. Some of them may have been added.
-#[tactic(auto, using(crate::proofs::Grows::grew_none, crate::proofs::Grows::grew_then))]
+#[tactic(auto, using(crate::proofs::GrowingNodes::grew_none, crate::proofs::GrowingNodes::grew_then))]
 pub fn offset(nodes: &mut Nodes, k: u64, s: Source) -> Result<Source, AllocError>
     requires { IsSource (length nodes.old) s }
     ensures grew { Grew nodes.old nodes.new }
@@ -163,7 +163,7 @@ pub fn offset(nodes: &mut Nodes, k: u64, s: Source) -> Result<Source, AllocError
 }
 
 /// The value of a node's word, moved by so many bytes, with the bounds of another node's word.
-#[tactic(auto, using(crate::proofs::Grows::grew_then, crate::proofs::Grows::grew_length))]
+#[tactic(auto, using(crate::proofs::GrowingNodes::grew_then, crate::proofs::GrowingNodes::grew_length))]
 fn moved_word(nodes: &mut Nodes, k: u64, base: u32, bounds: u32) -> Result<Source, AllocError>
     requires base { base < length nodes.old }
     requires bounds { bounds < length nodes.old }
@@ -181,7 +181,7 @@ fn moved_word(nodes: &mut Nodes, k: u64, base: u32, bounds: u32) -> Result<Sourc
 /// # Errors
 ///
 /// Where no memory is left for its node.
-#[tactic(auto, using(crate::proofs::Grows::grew_none))]
+#[tactic(auto, using(crate::proofs::GrowingNodes::grew_none))]
 pub fn from_input(nodes: &mut Nodes, s: Source) -> Result<Source, AllocError>
     requires { IsSource (length nodes.old) s }
     ensures grew { Grew nodes.old nodes.new }

@@ -1,4 +1,4 @@
-use Rattle.pg_law_own_input.proofs.Truths.{all_true}
+use Rattle.pg_law_own_input.proofs.KnownIsTrue.{all_true}
 use Rattle.pg_law_own_input.proofs.what_is_known_is_true.Goals as goal
 
 pub returns : goal.returns

@@ -1,4 +1,4 @@
-use Rattle.pg_law_runs.proofs.Ends.{ends}
+use Rattle.pg_law_runs.proofs.FullRunEnds.{ends}
 use Rattle.pg_law_runs.proofs.a_full_run_is_maximal.Goals as goal
 
 pub returns : goal.returns

@@ -1,4 +1,4 @@
-use Rattle.pg_law_runs.proofs.CutRun as law
+use Rattle.pg_law_runs.proofs.CutRuns as law
 use Rattle.pg_law_runs.proofs.a_permitted_run_is_one_of_deeds.Goals as goal
 
 pub returns-clause-permitted : goal.returns-clause-permitted

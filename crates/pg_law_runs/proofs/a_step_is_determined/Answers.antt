@@ -1,4 +1,4 @@
-use Rattle.pg_law_runs.proofs.Deeds.{determined}
+use Rattle.pg_law_runs.proofs.DeedDependence.{determined}
 use Rattle.pg_law_runs.proofs.a_step_is_determined.Goals as goal
 
 pub returns : goal.returns

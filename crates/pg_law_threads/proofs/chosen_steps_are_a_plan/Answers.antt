@@ -1,5 +1,5 @@
 use Rattle.pg_law_threads.specs.Effects.{deeds}
-use Rattle.pg_law_threads.proofs.Chosen.{plan_filter}
+use Rattle.pg_law_threads.proofs.ChosenSteps.{plan_filter}
 use Rattle.pg_law_threads.proofs.chosen_steps_are_a_plan.Goals as goal
 
 pub returns : goal.returns

@@ -1,4 +1,4 @@
-use Rattle.pg_law_threads.proofs.Counts.{cut_marked, marked_counts}
+use Rattle.pg_law_threads.proofs.CutCounts.{cut_marked, marked_counts}
 use Rattle.pg_law_threads.proofs.cuts_are_counts.Goals as goal
 
 pub returns-clause-these : goal.returns-clause-these

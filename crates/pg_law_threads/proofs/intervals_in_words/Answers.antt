@@ -1,4 +1,4 @@
-use Rattle.pg_law_threads.proofs.Words.{in_words}
+use Rattle.pg_law_threads.proofs.IntervalWords.{in_words}
 use Rattle.pg_law_threads.proofs.intervals_in_words.Goals as goal
 
 pub returns : goal.returns

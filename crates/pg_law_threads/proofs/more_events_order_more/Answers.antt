@@ -1,4 +1,4 @@
-use Rattle.pg_law_threads.proofs.Chains.{ordered_finer}
+use Rattle.pg_law_threads.proofs.EventChains.{ordered_finer}
 use Rattle.pg_law_threads.proofs.more_events_order_more.Goals as goal
 
 pub returns : goal.returns

@@ -1,5 +1,5 @@
 use Rattle.std.proofs.Common.{arith}
-use Rattle.pg_law_threads.proofs.Chains.{chained, ordered_of_chained}
+use Rattle.pg_law_threads.proofs.EventChains.{chained, ordered_of_chained}
 use Rattle.pg_law_threads.proofs.ordered_steps_have_chains.Goals as goal
 
 pub returns : goal.returns

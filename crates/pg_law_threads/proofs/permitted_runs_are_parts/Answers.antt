@@ -1,4 +1,4 @@
-use Rattle.pg_law_threads.proofs.Runs.{law_of_runs}
+use Rattle.pg_law_threads.proofs.PermittedRunLaw.{law_of_runs}
 use Rattle.pg_law_threads.proofs.permitted_runs_are_parts.Goals as goal
 
 pub returns : goal.returns

@@ -1,4 +1,4 @@
-use Rattle.pg_law_threads.proofs.Next.{goes}
+use Rattle.pg_law_threads.proofs.StepsAtCuts.{goes}
 use Rattle.pg_law_threads.proofs.steps_find_and_leave.Goals as goal
 
 pub returns : goal.returns

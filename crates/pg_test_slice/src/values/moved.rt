@@ -40,7 +40,7 @@ fn pointer(alloc: Global) -> Result<Op, AllocError>
 }
 
 /// The pointer to the first byte of sixteen from granule 9 on, moved by the input's first number.
-#[tactic(auto, using(pg_slice_values::proofs::Grows::source_more, pg_slice_values::proofs::Grows::grew_length))]
+#[tactic(auto, using(pg_slice_values::proofs::GrowingNodes::source_more, pg_slice_values::proofs::GrowingNodes::grew_length))]
 fn moved(alloc: Global, nodes: &mut Nodes) -> Result<Source, AllocError>
     ensures { IfOk result (IsSource (length nodes.new)) }
 {

@@ -4,7 +4,7 @@ use Rattle.pg_read_ast.specs.Views.{ty_of, count_of}
 use Rattle.pg_check_rules.specs.Written.{asks, count_demands}
 use Rattle.pg_check_values.specs.declared.type_tests.TypeTest.TheVariants.{NotVoid}
 use Rattle.pg_check_values.specs.Tests.{test_of}
-use Rattle.pg_check_values.proofs.Joined.{two_demands}
+use Rattle.pg_check_values.proofs.JoinedRows.{two_demands}
 use Rattle.pg_check_lines.proofs.demands.unmet_alloca.Goals as goal
 
 pub returns : goal.returns

@@ -2,7 +2,7 @@ use Rattle.std.proofs.Common.{[], ◌∷◌}
 use Rattle.pg_read_ast.specs.Views.{ty_of, typed_of}
 use Rattle.pg_check_types.specs.Resolved.{resolved}
 use Rattle.pg_check_rules.specs.Written.{asks, asks_typed, cast_from, cast_to}
-use Rattle.pg_check_values.proofs.Joined.{two_demands}
+use Rattle.pg_check_values.proofs.JoinedRows.{two_demands}
 use Rattle.pg_check_lines.proofs.demands.unmet_cast.Goals as goal
 
 pub returns : goal.returns

@@ -5,7 +5,7 @@ use Rattle.pg_check_types.specs.Kinds.{is_as}
 use Rattle.pg_check_rules.specs.Written.{asks_typed}
 use Rattle.pg_check_values.specs.declared.type_tests.TypeTest.TheVariants.{Scalar}
 use Rattle.pg_check_values.specs.Tests.{test_of}
-use Rattle.pg_check_values.proofs.Joined.{two_demands}
+use Rattle.pg_check_values.proofs.JoinedRows.{two_demands}
 use Rattle.pg_check_lines.proofs.demands.unmet_choices.Goals as goal
 
 pub returns : goal.returns

@@ -2,7 +2,7 @@ use Rattle.pg_read_ast.specs.Views.{ty_of, incoming_of}
 use Rattle.pg_check_rules.specs.Numbered.{incoming_at}
 use Rattle.pg_check_program.specs.ScopeNames.{scope_in}
 use Rattle.pg_check_program.specs.ScopeSizes.{IncomingIsSmall}
-use Rattle.pg_check_program.proofs.Places.{one_fits}
+use Rattle.pg_check_program.proofs.BoundedNumbers.{one_fits}
 use Rattle.pg_check_rules.proofs.MappedLists.{mapped_more, mapped_all}
 use Rattle.pg_check_program.proofs.edges.add_incomings.Goals as goal
 

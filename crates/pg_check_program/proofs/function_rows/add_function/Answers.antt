@@ -6,7 +6,7 @@ use Rattle.pg_check_rules.specs.Names.{registers_of, labels_of}
 use Rattle.pg_check_program.specs.LineRows.{name_in}
 use Rattle.pg_check_program.proofs.NamePlaces.{register_names}
 use Rattle.pg_check_program.proofs.OwnScopes.{map_count, function_added}
-use Rattle.pg_check_program.proofs.Places.{have_room, labels_few}
+use Rattle.pg_check_program.proofs.BoundedNumbers.{have_room, labels_few}
 use Rattle.pg_check_program.proofs.function_rows.add_function.Goals as goal
 
 pub invariant_of-scope-clause-register_room : goal.invariant_of-scope-clause-register_room

@@ -4,7 +4,7 @@ use Rattle.pg_check_rules.specs.Numbered.{indices_at}
 use Rattle.pg_check_program.specs.ScopeNames.{scope_in}
 use Rattle.pg_check_program.proofs.IndexLists.{index_step, indices_end}
 use Rattle.pg_check_program.specs.ScopeSizes.{TypedIsSmall}
-use Rattle.pg_check_program.proofs.Places.{one_fits}
+use Rattle.pg_check_program.proofs.BoundedNumbers.{one_fits}
 use Rattle.pg_check_program.proofs.index_operands.scaled_indices.Goals as goal
 
 pub index_at-requires-clause-value : goal.index_at-requires-clause-value

@@ -5,7 +5,7 @@ use Rattle.pg_check_program.specs.ScopeNames.{scope_in}
 use Rattle.pg_check_program.proofs.LineSteps.{block_lines_step, block_lines_end}
 use Rattle.pg_check_program.specs.Room.{Each, LineFits, BlockFits}
 use Rattle.pg_check_program.specs.ScopeSizes.{types_in}
-use Rattle.pg_check_program.proofs.Places.{one_fits}
+use Rattle.pg_check_program.proofs.BoundedNumbers.{one_fits}
 use Rattle.pg_check_program.proofs.line_rows.add_block_lines.Goals as goal
 
 pub add_lines-requires-clause-fits : goal.add_lines-requires-clause-fits

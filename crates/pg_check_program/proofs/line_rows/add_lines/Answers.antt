@@ -6,7 +6,7 @@ use Rattle.pg_check_program.specs.LineRows.{lines_by, names_after}
 use Rattle.pg_check_program.proofs.LineSteps.{line_step, line_names_step, lines_end, line_names_end}
 use Rattle.pg_check_program.specs.Room.{LineFits}
 use Rattle.pg_check_program.specs.ScopeSizes.{types_in}
-use Rattle.pg_check_program.proofs.Places.{one_fits}
+use Rattle.pg_check_program.proofs.BoundedNumbers.{one_fits}
 use Rattle.pg_check_program.proofs.line_rows.add_lines.Goals as goal
 
 pub op_instr-requires-clause-fits : goal.op_instr-requires-clause-fits

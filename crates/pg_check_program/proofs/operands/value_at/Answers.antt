@@ -1,7 +1,7 @@
 use Rattle.std.proofs.Common.{sym, subst}
 use Rattle.pg_read_ast.specs.Views.{tree_of}
 use Rattle.pg_check_program.specs.Room.{IsShort}
-use Rattle.pg_check_program.proofs.Places.{symbol_short}
+use Rattle.pg_check_program.proofs.BoundedNumbers.{symbol_short}
 use Rattle.pg_check_program.proofs.operands.value_at.Goals as goal
 
 pub symbol_value-requires : goal.symbol_value-requires

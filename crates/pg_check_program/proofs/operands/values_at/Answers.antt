@@ -3,7 +3,7 @@ use Rattle.pg_read_ast.specs.Views.{typed_of}
 use Rattle.pg_check_rules.specs.Numbered.{typed_value}
 use Rattle.pg_check_program.specs.ScopeNames.{scope_in}
 use Rattle.pg_check_program.specs.ScopeSizes.{TypedIsSmall}
-use Rattle.pg_check_program.proofs.Places.{one_fits}
+use Rattle.pg_check_program.proofs.BoundedNumbers.{one_fits}
 use Rattle.pg_check_rules.proofs.MappedLists.{mapped_more, mapped_all}
 use Rattle.pg_check_program.proofs.operands.values_at.Goals as goal
 

@@ -5,7 +5,7 @@ use Rattle.pg_read_ast.specs.Views.{block_of, define_of}
 use Rattle.pg_check_rules.specs.Names.{first_line}
 use Rattle.pg_check_rules.specs.Numbered.{blocks_from}
 use Rattle.pg_check_program.specs.FunctionRows.{block_row}
-use Rattle.pg_check_program.proofs.Rows.{rows_pushed, rows_all, first_line_step, lines_room}
+use Rattle.pg_check_program.proofs.ProgramRows.{rows_pushed, rows_all, first_line_step, lines_room}
 use Rattle.pg_check_program.proofs.program.blocks_of.Goals as goal
 
 pub add_blocks-requires : goal.add_blocks-requires

@@ -4,8 +4,8 @@ use Rattle.pg_read_ast.specs.Views.{define_of, tree_of}
 use Rattle.pg_check_rules.specs.Numbered.{function_instrs}
 use Rattle.pg_check_program.specs.FunctionRows.{instr_row, numbered_item}
 use Rattle.pg_check_program.specs.Room.{FunctionFits}
-use Rattle.pg_check_program.proofs.Places.{one_fits}
-use Rattle.pg_check_program.proofs.Rows.{rows_pushed, rows_all, first_block_step, blocks_room}
+use Rattle.pg_check_program.proofs.BoundedNumbers.{one_fits}
+use Rattle.pg_check_program.proofs.ProgramRows.{rows_pushed, rows_all, first_block_step, blocks_room}
 use Rattle.pg_check_program.proofs.program.instrs_of.Goals as goal
 
 pub add_function-requires-clause-fits : goal.add_function-requires-clause-fits

@@ -1,6 +1,6 @@
 use Rattle.std.proofs.Common.{◌+◌, ◌<◌, length, IfSome, sym, subst, arith}
 use Rattle.pg_check_program.specs.FunctionRows.{is_main_item}
-use Rattle.pg_check_program.proofs.Places.{place_below}
+use Rattle.pg_check_program.proofs.BoundedNumbers.{place_below}
 use Rattle.pg_check_program.proofs.program.main_number.Goals as goal
 
 pub overflow_cast-result : goal.overflow_cast-result

@@ -1,5 +1,5 @@
 use Rattle.pg_read_ast.specs.Views.{tree_of}
-use Rattle.pg_check_program.proofs.Accepted.{program_fits}
+use Rattle.pg_check_program.proofs.AcceptedNumbers.{program_fits}
 use Rattle.pg_check_program.proofs.program.program_parts.Goals as goal
 
 pub parts_of-requires-clause-fits : goal.parts_of-requires-clause-fits

@@ -1,4 +1,4 @@
-use Rattle.pg_check_values.proofs.Places.{both}
+use Rattle.pg_check_values.proofs.EarliestPlaces.{both}
 use Rattle.pg_check_values.proofs.names.unknown_values.Goals as goal
 
 pub returns : goal.returns

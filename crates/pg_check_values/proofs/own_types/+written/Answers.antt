@@ -5,7 +5,7 @@ use Rattle.pg_check_rules.specs.Nodes.{tys_behind}
 use Rattle.pg_check_rules.specs.Written.{Use, own_types, inner_uses}
 use Rattle.pg_check_values.specs.Steps.{type_row}
 use Rattle.pg_check_values.proofs.TypeRows.{on_ok, three_rows, two_rows, row_added}
-use Rattle.pg_check_values.proofs.Inner.{gep_rows}
+use Rattle.pg_check_values.proofs.InnerValues.{gep_rows}
 use Rattle.pg_check_values.proofs.TypedViews.{typed_value}
 use Rattle.pg_check_values.proofs.own_types.+written.Goals as goal
 

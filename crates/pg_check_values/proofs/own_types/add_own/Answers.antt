@@ -4,7 +4,7 @@ use Rattle.pg_read_ast.specs.Views.{ty_of, val_of, typed_of}
 use Rattle.pg_check_rules.specs.Nodes.{tys_behind}
 use Rattle.pg_check_rules.specs.Written.{own_types}
 use Rattle.pg_check_values.proofs.TypeRows.{on_ok, with_others}
-use Rattle.pg_check_values.proofs.Inner.{gep_types}
+use Rattle.pg_check_values.proofs.InnerValues.{gep_types}
 use Rattle.pg_check_values.proofs.own_types.add_own.Goals as goal
 
 pub returns-in_ok-add_two-in-GetElementPtr : goal.returns-in_ok-add_two-in-GetElementPtr

@@ -5,7 +5,7 @@ use Rattle.pg_check_types.proofs.Resolutions.{if_ok}
 use Rattle.pg_check_rules.specs.TypeConditions.{unmet}
 use Rattle.pg_check_rules.specs.Written.{asks}
 use Rattle.pg_check_values.specs.Tests.{test_of}
-use Rattle.pg_check_values.proofs.Joined.{one_row}
+use Rattle.pg_check_values.proofs.JoinedRows.{one_row}
 use Rattle.pg_check_values.proofs.typed_tests.unmet_one.Goals as goal
 
 pub returns : goal.returns

@@ -7,8 +7,8 @@ use Rattle.pg_check_rules.specs.Earliest.{earliest}
 use Rattle.pg_check_rules.proofs.Parts.{no_place}
 use Rattle.pg_check_rules.proofs.Rows.{row_step}
 use Rattle.pg_check_values.specs.Steps.{index_row}
-use Rattle.pg_check_values.proofs.Places.{both}
-use Rattle.pg_check_values.proofs.Inner.{gep_rows}
+use Rattle.pg_check_values.proofs.EarliestPlaces.{both}
+use Rattle.pg_check_values.proofs.InnerValues.{gep_rows}
 use Rattle.pg_check_values.proofs.TypedViews.{typed_ty, typed_value}
 use Rattle.pg_check_values.proofs.uses.+wrong.Goals as goal
 

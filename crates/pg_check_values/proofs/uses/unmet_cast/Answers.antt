@@ -1,4 +1,4 @@
-use Rattle.pg_check_values.proofs.Places.{both_end}
+use Rattle.pg_check_values.proofs.EarliestPlaces.{both_end}
 use Rattle.pg_check_values.proofs.uses.unmet_cast.Goals as goal
 
 pub returns : goal.returns

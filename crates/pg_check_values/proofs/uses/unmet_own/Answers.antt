@@ -8,7 +8,7 @@ use Rattle.pg_check_rules.specs.Written.{asks, isnt_void, own_demands}
 use Rattle.pg_check_rules.specs.TypeConditions.{unmet}
 use Rattle.pg_check_rules.specs.Earliest.{earliest}
 use Rattle.pg_check_values.specs.Uses.{integer_row}
-use Rattle.pg_check_values.proofs.Inner.{gep_demands}
+use Rattle.pg_check_values.proofs.InnerValues.{gep_demands}
 use Rattle.pg_check_values.proofs.uses.unmet_own.Goals as goal
 
 pub returns-in-GetElementPtr : goal.returns-in-GetElementPtr

@@ -4,7 +4,7 @@ use Rattle.pg_check_types.specs.NumberedTypes.{named_types}
 use Rattle.pg_check_types.proofs.Resolutions.{if_ok}
 use Rattle.pg_check_rules.specs.ValueConditions.{wrong_indices, inner_indices}
 use Rattle.pg_check_rules.specs.Earliest.{earliest}
-use Rattle.pg_check_values.proofs.Inner.{gep_indices}
+use Rattle.pg_check_values.proofs.InnerValues.{gep_indices}
 use Rattle.pg_check_values.proofs.uses.wrong_own_indices.Goals as goal
 
 pub returns-in-GetElementPtr : goal.returns-in-GetElementPtr

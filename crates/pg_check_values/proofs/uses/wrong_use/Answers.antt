@@ -5,7 +5,7 @@ use Rattle.pg_check_rules.specs.Written.{own_demands}
 use Rattle.pg_check_rules.specs.TypeConditions.{unmet}
 use Rattle.pg_check_rules.specs.ValueConditions.{inner_indices, wrong_use}
 use Rattle.pg_check_rules.specs.Earliest.{earliest}
-use Rattle.pg_check_values.proofs.Places.{both}
+use Rattle.pg_check_values.proofs.EarliestPlaces.{both}
 use Rattle.pg_check_values.proofs.uses.wrong_use.Goals as goal
 
 pub returns : goal.returns

@@ -1,5 +1,5 @@
 use Rattle.std.proofs.Common.{refl}
-use Rattle.pg_commands.proofs.Endings.{handed_on}
+use Rattle.pg_commands.proofs.CommandEnds.{handed_on}
 use Rattle.pg_commands.proofs.OnceEnds.{once_written}
 use Rattle.pg_commands.proofs.once.once.Goals as goal
 

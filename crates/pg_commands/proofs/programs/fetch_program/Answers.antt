@@ -1,6 +1,6 @@
 use Rattle.std.proofs.Common.{rules, inr}
 use Rattle.pg_commands.proofs.LongTexts.{long_text}
-use Rattle.pg_commands.proofs.Shelves.{all_stay}
+use Rattle.pg_commands.proofs.ShelfFaults.{all_stay}
 use Rattle.pg_commands.proofs.programs.fetch_program.Goals as goal
 
 pub returns-in_err-load-in-Ok-clause-counts : goal.returns-in_err-load-in-Ok-clause-counts

@@ -1,5 +1,5 @@
 use Rattle.std.proofs.Common.{refl}
-use Rattle.pg_commands.proofs.Endings.{stayed, takes_none}
+use Rattle.pg_commands.proofs.CommandEnds.{stayed, takes_none}
 use Rattle.pg_commands.proofs.ServeEnds.{of_runner, serve_done, serve_line, serve_stopped}
 use Rattle.pg_commands.proofs.serve.serve.Goals as goal
 

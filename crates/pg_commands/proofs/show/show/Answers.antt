@@ -1,5 +1,5 @@
 use Rattle.std.proofs.Common.{refl}
-use Rattle.pg_commands.proofs.Endings.{handed_on, stayed, takes_none}
+use Rattle.pg_commands.proofs.CommandEnds.{handed_on, stayed, takes_none}
 use Rattle.pg_commands.proofs.ShowEnds.{show_written}
 use Rattle.pg_commands.proofs.show.show.Goals as goal
 

@@ -1,5 +1,5 @@
 use Rattle.std.proofs.Common.{refl}
-use Rattle.pg_commands.proofs.Endings.{handed_on, takes_none}
+use Rattle.pg_commands.proofs.CommandEnds.{handed_on, takes_none}
 use Rattle.pg_commands.proofs.TrialEnds.{trial_written}
 use Rattle.pg_commands.proofs.trial.trial.Goals as goal
 

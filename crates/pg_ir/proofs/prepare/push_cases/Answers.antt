@@ -1,4 +1,4 @@
-use Rattle.pg_ir.proofs.Prepared.{values_front, cases_end}
+use Rattle.pg_ir.proofs.GrowingTables.{values_front, cases_end}
 use Rattle.pg_ir.proofs.prepare.push_cases.Goals as goal
 
 pub returns-clause-front : goal.returns-clause-front

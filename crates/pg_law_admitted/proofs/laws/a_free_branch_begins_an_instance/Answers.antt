@@ -1,4 +1,4 @@
-use Rattle.pg_law_admitted.proofs.Guided.{begins}
+use Rattle.pg_law_admitted.proofs.AdmittedGuidedRun.{begins}
 use Rattle.pg_law_admitted.proofs.laws.a_free_branch_begins_an_instance.Goals as goal
 
 pub returns : goal.returns

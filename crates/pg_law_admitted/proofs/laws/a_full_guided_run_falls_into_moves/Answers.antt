@@ -1,4 +1,4 @@
-use Rattle.pg_law_admitted.proofs.Guided.{fallen}
+use Rattle.pg_law_admitted.proofs.AdmittedGuidedRun.{fallen}
 use Rattle.pg_law_admitted.proofs.laws.a_full_guided_run_falls_into_moves.Goals as goal
 
 pub returns : goal.returns

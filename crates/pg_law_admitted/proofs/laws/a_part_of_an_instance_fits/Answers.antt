@@ -1,9 +1,9 @@
 use Rattle.pg_law_plan.specs.Units.{units_of}
-use Rattle.pg_law_plan.proofs.Along.{IsUnit, all_units}
-use Rattle.pg_law_plan.proofs.Members.{all_has}
+use Rattle.pg_law_plan.proofs.EachUnit.{IsUnit, all_units}
+use Rattle.pg_law_plan.proofs.ListMembers.{all_has}
 use Rattle.pg_law_admitted.specs.Recorded.{recording}
-use Rattle.pg_law_admitted.proofs.Recorded.{ordered_run}
-use Rattle.pg_law_admitted.proofs.Whole as law
+use Rattle.pg_law_admitted.proofs.RecordedRuns.{ordered_run}
+use Rattle.pg_law_admitted.proofs.InstanceFits as law
 use Rattle.pg_law_admitted.proofs.laws.a_part_of_an_instance_fits.Goals as goal
 
 pub returns : goal.returns

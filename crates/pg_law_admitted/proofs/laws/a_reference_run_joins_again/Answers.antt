@@ -1,4 +1,4 @@
-use Rattle.pg_law_admitted.proofs.Joins.{units_again}
+use Rattle.pg_law_admitted.proofs.ReferenceRunJoins.{units_again}
 use Rattle.pg_law_admitted.proofs.laws.a_reference_run_joins_again.Goals as goal
 
 pub returns : goal.returns

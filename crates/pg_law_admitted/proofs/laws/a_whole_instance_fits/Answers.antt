@@ -1,12 +1,12 @@
 use Rattle.std.proofs.Common.{◌≡◌, true}
 use Rattle.pg_law_plan.specs.Units.{PlanUnit, is_instance, units_of}
-use Rattle.pg_law_plan.proofs.Along.{IsUnit, all_units}
-use Rattle.pg_law_plan.proofs.Members.{all_has}
+use Rattle.pg_law_plan.proofs.EachUnit.{IsUnit, all_units}
+use Rattle.pg_law_plan.proofs.ListMembers.{all_has}
 use Rattle.pg_law_admitted.specs.Free.{JoinsAgain}
 use Rattle.pg_law_admitted.specs.Recorded.{recording}
-use Rattle.pg_law_admitted.proofs.Joins.{units_again}
-use Rattle.pg_law_admitted.proofs.Recorded.{ordered_run}
-use Rattle.pg_law_admitted.proofs.Whole as law
+use Rattle.pg_law_admitted.proofs.ReferenceRunJoins.{units_again}
+use Rattle.pg_law_admitted.proofs.RecordedRuns.{ordered_run}
+use Rattle.pg_law_admitted.proofs.InstanceFits as law
 use Rattle.pg_law_admitted.proofs.laws.a_whole_instance_fits.Goals as goal
 
 pub returns : goal.returns

@@ -1,4 +1,4 @@
-use Rattle.pg_law_admitted.proofs.Guided.{all_replies, at_cut, full, permitted_ordered}
+use Rattle.pg_law_admitted.proofs.AdmittedGuidedRun.{all_replies, at_cut, full, permitted_ordered}
 use Rattle.pg_law_admitted.proofs.laws.an_admitted_input_has_an_ordered_full_run.Goals as goal
 
 pub returns-clause-full : goal.returns-clause-full

@@ -1,4 +1,4 @@
-use Rattle.pg_law_admitted.proofs.Guided.{ordered, replies}
+use Rattle.pg_law_admitted.proofs.AdmittedGuidedRun.{ordered, replies}
 use Rattle.pg_law_admitted.proofs.laws.an_admitted_input_keeps_order_and_replies.Goals as goal
 
 pub returns : goal.returns

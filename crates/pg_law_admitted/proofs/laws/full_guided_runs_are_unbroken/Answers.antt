@@ -1,4 +1,4 @@
-use Rattle.pg_law_admitted.proofs.Unbroken.{full_unbroken}
+use Rattle.pg_law_admitted.proofs.GuidedRunsUnbroken.{full_unbroken}
 use Rattle.pg_law_admitted.proofs.laws.full_guided_runs_are_unbroken.Goals as goal
 
 pub returns : goal.returns

@@ -1,9 +1,9 @@
-use Rattle.pg_law_plan.proofs.Made.{starts_are_fresh}
-use Rattle.pg_law_plan.proofs.Remembered.{plan_remembers}
+use Rattle.pg_law_plan.proofs.UnbegunThreads.{starts_are_fresh}
+use Rattle.pg_law_plan.proofs.KnownBeforeUnits.{plan_remembers}
 use Rattle.pg_law_admitted.specs.Recorded.{recording}
-use Rattle.pg_law_admitted.proofs.Following as law
-use Rattle.pg_law_admitted.proofs.Joins.{units_again}
-use Rattle.pg_law_admitted.proofs.Recorded.{ordered_run, plain, same_owners}
+use Rattle.pg_law_admitted.proofs.MovesFollowPlan as law
+use Rattle.pg_law_admitted.proofs.ReferenceRunJoins.{units_again}
+use Rattle.pg_law_admitted.proofs.RecordedRuns.{ordered_run, plain, same_owners}
 use Rattle.pg_law_admitted.proofs.laws.moves_follow_the_plan.Goals as goal
 
 pub returns : goal.returns

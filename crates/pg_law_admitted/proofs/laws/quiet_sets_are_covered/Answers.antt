@@ -1,4 +1,4 @@
-use Rattle.pg_law_admitted.proofs.Covered.{quiet_covered}
+use Rattle.pg_law_admitted.proofs.CoveredPaths.{quiet_covered}
 use Rattle.pg_law_admitted.proofs.laws.quiet_sets_are_covered.Goals as goal
 
 pub returns : goal.returns

@@ -1,4 +1,4 @@
-use Rattle.pg_law_admitted.proofs.Fronts.{prefix_keeps}
+use Rattle.pg_law_admitted.proofs.GuidedPrefixes.{prefix_keeps}
 use Rattle.pg_law_admitted.proofs.prefixes.each_prefix_keeps_the_invariant.Goals as goal
 
 pub returns : goal.returns

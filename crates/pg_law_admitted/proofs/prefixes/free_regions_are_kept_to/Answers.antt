@@ -1,4 +1,4 @@
-use Rattle.pg_law_threads.proofs.Lists.{all_map}
+use Rattle.pg_law_threads.proofs.DoneLists.{all_map}
 use Rattle.pg_law_admitted.proofs.prefixes.free_regions_are_kept_to.Goals as goal
 
 pub returns : goal.returns

@@ -1,4 +1,4 @@
-use Rattle.pg_law_admitted.proofs.Values.{values}
+use Rattle.pg_law_admitted.proofs.KnownValues.{values}
 use Rattle.pg_law_admitted.proofs.prefixes.known_values_are_kept.Goals as goal
 
 pub returns : goal.returns

@@ -1,4 +1,4 @@
-use Rattle.pg_law_admitted.proofs.Memory.{memory}
+use Rattle.pg_law_admitted.proofs.MemoryFromSources.{memory}
 use Rattle.pg_law_admitted.proofs.prefixes.memory_is_from_its_sources.Goals as goal
 
 pub returns : goal.returns

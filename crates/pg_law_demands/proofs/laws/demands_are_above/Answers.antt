@@ -1,5 +1,5 @@
-use Rattle.pg_law_demands.proofs.Due.{demanded_within}
-use Rattle.pg_law_demands.proofs.Walk.{demands_above}
+use Rattle.pg_law_demands.proofs.DueDemands.{demanded_within}
+use Rattle.pg_law_demands.proofs.WalkBack.{demands_above}
 use Rattle.pg_law_demands.proofs.laws.demands_are_above.Goals as goal
 
 pub returns-clause-above : goal.returns-clause-above

@@ -1,4 +1,4 @@
-use Rattle.pg_law_demands.proofs.Due.{due_before}
+use Rattle.pg_law_demands.proofs.DueDemands.{due_before}
 use Rattle.pg_law_demands.proofs.laws.demands_go_back.Goals as goal
 
 pub returns : goal.returns

@@ -1,4 +1,4 @@
-use Rattle.pg_law_demands.proofs.Due.{more_due, some_due}
+use Rattle.pg_law_demands.proofs.DueDemands.{more_due, some_due}
 use Rattle.pg_law_demands.proofs.laws.some_demands_are_due.Goals as goal
 
 pub returns-clause-some : goal.returns-clause-some

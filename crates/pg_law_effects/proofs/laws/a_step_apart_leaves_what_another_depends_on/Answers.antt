@@ -1,5 +1,5 @@
 use Rattle.pg_law_effects.specs.Effect.{effect_of}
-use Rattle.pg_law_effects.proofs.Apart.{agree_behind, ready_alike}
+use Rattle.pg_law_effects.proofs.StepsApart.{agree_behind, ready_alike}
 use Rattle.pg_law_effects.proofs.laws.a_step_apart_leaves_what_another_depends_on.Goals as goal
 
 pub returns-clause-agrees : goal.returns-clause-agrees

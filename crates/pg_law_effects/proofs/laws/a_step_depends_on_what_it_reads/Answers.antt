@@ -1,5 +1,5 @@
-use Rattle.pg_law_effects.proofs.Agrees.{effect_alike}
-use Rattle.pg_law_effects.proofs.Tells.{tells_alike}
+use Rattle.pg_law_effects.proofs.StepDependence.{effect_alike}
+use Rattle.pg_law_effects.proofs.TellDependence.{tells_alike}
 use Rattle.pg_law_effects.proofs.laws.a_step_depends_on_what_it_reads.Goals as goal
 
 pub returns-clause-effects : goal.returns-clause-effects

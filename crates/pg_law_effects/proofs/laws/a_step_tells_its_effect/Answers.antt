@@ -1,4 +1,4 @@
-use Rattle.pg_law_effects.proofs.Threads.{tells_access, tells_request}
+use Rattle.pg_law_effects.proofs.ToldByStep.{tells_access, tells_request}
 use Rattle.pg_law_effects.proofs.laws.a_step_tells_its_effect.Goals as goal
 
 pub returns-clause-access : goal.returns-clause-access

@@ -1,4 +1,4 @@
-use Rattle.pg_law_effects.proofs.Cross.{effects_cross}
+use Rattle.pg_law_effects.proofs.EffectsApart.{effects_cross}
 use Rattle.pg_law_effects.proofs.laws.effects_apart_change_places.Goals as goal
 
 pub returns : goal.returns

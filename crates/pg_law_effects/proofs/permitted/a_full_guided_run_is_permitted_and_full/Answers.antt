@@ -1,5 +1,5 @@
 use Rattle.pg_run.specs.Guided.{guided_of}
-use Rattle.pg_law_effects.proofs.FullEnds.{full_is}
+use Rattle.pg_law_effects.proofs.FullGuidedRun.{full_is}
 use Rattle.pg_law_effects.proofs.permitted.a_full_guided_run_is_permitted_and_full.Goals as goal
 use Rattle.std.proofs.Common.{sym, ◌∙◌}
 

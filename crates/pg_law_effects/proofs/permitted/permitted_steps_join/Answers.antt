@@ -1,4 +1,4 @@
-use Rattle.pg_law_effects.proofs.Permits.{steps_join}
+use Rattle.pg_law_effects.proofs.PermittedStepByStep.{steps_join}
 use Rattle.pg_law_effects.proofs.permitted.permitted_steps_join.Goals as goal
 
 pub returns : goal.returns

@@ -1,4 +1,4 @@
-use Rattle.pg_law_effects.proofs.Reaches.{reached_run, reached_step}
+use Rattle.pg_law_effects.proofs.ReachedStates.{reached_run, reached_step}
 use Rattle.pg_law_effects.proofs.reached.a_step_stays_reached.Goals as goal
 
 pub returns-clause-step : goal.returns-clause-step

@@ -1,4 +1,4 @@
-use Rattle.pg_law_effects.proofs.Along.{run_effects}
+use Rattle.pg_law_effects.proofs.RunsByThreads.{run_effects}
 use Rattle.pg_law_effects.proofs.runs.a_run_has_its_effects.Goals as goal
 
 pub returns : goal.returns

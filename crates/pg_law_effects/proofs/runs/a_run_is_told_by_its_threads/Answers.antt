@@ -1,4 +1,4 @@
-use Rattle.pg_law_effects.proofs.Along.{run_of_is}
+use Rattle.pg_law_effects.proofs.RunsByThreads.{run_of_is}
 use Rattle.pg_law_effects.proofs.runs.a_run_is_told_by_its_threads.Goals as goal
 
 pub returns : goal.returns

@@ -1,4 +1,4 @@
-use Rattle.pg_law_effects.proofs.Along.{same_runs, state_is}
+use Rattle.pg_law_effects.proofs.RunsByThreads.{same_runs, state_is}
 use Rattle.pg_law_effects.proofs.runs.a_run_leaves_one_state.Goals as goal
 
 pub returns-clause-steps : goal.returns-clause-steps

@@ -1,4 +1,4 @@
-use Rattle.pg_law_effects.proofs.Along.{run_splits, runs_join}
+use Rattle.pg_law_effects.proofs.RunsByThreads.{run_splits, runs_join}
 use Rattle.pg_law_effects.proofs.runs.runs_join.Goals as goal
 
 pub returns : goal.returns

@@ -1,4 +1,4 @@
-use Rattle.pg_law_instances.proofs.Machine.{step_stays}
+use Rattle.pg_law_instances.proofs.MachineSteps.{step_stays}
 use Rattle.pg_law_instances.proofs.laws.a_step_inside_stays.Goals as goal
 
 pub returns : goal.returns

@@ -1,4 +1,4 @@
-use Rattle.pg_law_instances.proofs.Alike.{alike_begins}
+use Rattle.pg_law_instances.proofs.AlikePaths.{alike_begins}
 use Rattle.pg_law_instances.proofs.laws.alike_states_begin_instances.Goals as goal
 
 pub returns : goal.returns

@@ -1,4 +1,4 @@
-use Rattle.pg_law_instances.proofs.Together.{exited}
+use Rattle.pg_law_instances.proofs.NextStepsOfThread.{exited}
 use Rattle.pg_law_instances.proofs.laws.extents_stand_together.Goals as goal
 
 pub returns : goal.returns

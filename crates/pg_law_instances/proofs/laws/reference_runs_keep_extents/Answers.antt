@@ -1,4 +1,4 @@
-use Rattle.pg_law_instances.proofs.References.{extents_keep}
+use Rattle.pg_law_instances.proofs.ReferenceExtents.{extents_keep}
 use Rattle.pg_law_instances.proofs.laws.reference_runs_keep_extents.Goals as goal
 
 pub returns : goal.returns

@@ -1,4 +1,4 @@
-use Rattle.pg_law_instances.proofs.Instances.{has_instance}
+use Rattle.pg_law_instances.proofs.FirstInstance.{has_instance}
 use Rattle.pg_law_instances.proofs.laws.runs_have_instances.Goals as goal
 
 pub returns : goal.returns

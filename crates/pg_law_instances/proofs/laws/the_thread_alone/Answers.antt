@@ -1,4 +1,4 @@
-use Rattle.pg_law_instances.proofs.Alone.{thread_alone}
+use Rattle.pg_law_instances.proofs.RunsOfOneThread.{thread_alone}
 use Rattle.pg_law_instances.proofs.laws.the_thread_alone.Goals as goal
 
 pub returns : goal.returns

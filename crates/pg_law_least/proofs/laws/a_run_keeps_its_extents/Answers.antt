@@ -1,6 +1,6 @@
 use Rattle.pg_law_least.specs.Kept.{kept}
-use Rattle.pg_law_least.proofs.Example.{kept_goes}
-use Rattle.pg_law_least.proofs.Goes.{goes_keep}
+use Rattle.pg_law_least.proofs.ExampleExtents.{kept_goes}
+use Rattle.pg_law_least.proofs.HeldAlongMoments.{goes_keep}
 use Rattle.pg_law_least.proofs.laws.a_run_keeps_its_extents.Goals as goal
 
 pub returns-clause-along : goal.returns-clause-along

@@ -1,4 +1,4 @@
-use Rattle.pg_law_least.proofs.Closes.{all_closed}
+use Rattle.pg_law_least.proofs.ClosedDecisions.{all_closed}
 use Rattle.pg_law_least.proofs.laws.all_decisions_are_closed.Goals as goal
 
 pub returns : goal.returns

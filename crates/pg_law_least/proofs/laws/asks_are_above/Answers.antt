@@ -1,4 +1,4 @@
-use Rattle.pg_law_least.proofs.Larger.{asks_above}
+use Rattle.pg_law_least.proofs.InLargerClosedSets.{asks_above}
 use Rattle.pg_law_least.proofs.laws.asks_are_above.Goals as goal
 
 pub returns : goal.returns

@@ -1,4 +1,4 @@
-use Rattle.pg_law_least.proofs.Missing.{asks_new}
+use Rattle.pg_law_least.proofs.AskedAreMissing.{asks_new}
 use Rattle.pg_law_least.proofs.laws.asks_are_new.Goals as goal
 
 pub returns-clause-new : goal.returns-clause-new

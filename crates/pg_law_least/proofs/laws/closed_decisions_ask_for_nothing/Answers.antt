@@ -1,4 +1,4 @@
-use Rattle.pg_law_least.proofs.Closes.{asks_none, closed_where}
+use Rattle.pg_law_least.proofs.ClosedDecisions.{asks_none, closed_where}
 use Rattle.pg_law_least.proofs.laws.closed_decisions_ask_for_nothing.Goals as goal
 
 pub returns : goal.returns

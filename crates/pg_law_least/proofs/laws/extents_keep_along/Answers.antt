@@ -1,4 +1,4 @@
-use Rattle.pg_law_least.proofs.Goes.{goes_keep}
+use Rattle.pg_law_least.proofs.HeldAlongMoments.{goes_keep}
 use Rattle.pg_law_least.proofs.laws.extents_keep_along.Goals as goal
 
 pub returns : goal.returns

@@ -1,6 +1,6 @@
 use Rattle.pg_law_least.specs.Keeps.{every}
-use Rattle.pg_law_least.proofs.Closes.{in_every}
-use Rattle.pg_law_least.proofs.Whole.{same_in}
+use Rattle.pg_law_least.proofs.ClosedDecisions.{in_every}
+use Rattle.pg_law_least.proofs.EachStep.{same_in}
 use Rattle.pg_law_least.proofs.laws.extents_rest_on_no_decision.Goals as goal
 
 pub returns : goal.returns

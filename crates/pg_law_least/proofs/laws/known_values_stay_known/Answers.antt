@@ -1,4 +1,4 @@
-use Rattle.pg_law_least.proofs.Admits.{known_stays}
+use Rattle.pg_law_least.proofs.SmallerAdmitsMore.{known_stays}
 use Rattle.pg_law_least.proofs.laws.known_values_stay_known.Goals as goal
 
 pub returns : goal.returns

@@ -1,4 +1,4 @@
-use Rattle.pg_law_least.proofs.Admits.{admits_more}
+use Rattle.pg_law_least.proofs.SmallerAdmitsMore.{admits_more}
 use Rattle.pg_law_least.proofs.laws.smaller_decisions_admit_more.Goals as goal
 
 pub returns : goal.returns

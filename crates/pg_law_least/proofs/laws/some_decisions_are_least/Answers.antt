@@ -1,5 +1,5 @@
-use Rattle.pg_law_least.proofs.Closes.{one_slice}
-use Rattle.pg_law_least.proofs.Slices.{has_slice}
+use Rattle.pg_law_least.proofs.ClosedDecisions.{one_slice}
+use Rattle.pg_law_least.proofs.LeastClosedSet.{has_slice}
 use Rattle.pg_law_least.proofs.laws.some_decisions_are_least.Goals as goal
 
 pub returns-clause-some : goal.returns-clause-some

@@ -1,6 +1,6 @@
 use Rattle.pg_slice_rules.specs.Known.{seen_in}
 use Rattle.pg_slice_rules.specs.Moments.{moments_of}
-use Rattle.pg_law_least.proofs.Ordered.{footprints_order, steps_order}
+use Rattle.pg_law_least.proofs.FootprintsInOrder.{footprints_order, steps_order}
 use Rattle.pg_law_least.proofs.laws.steps_in_order.Goals as goal
 
 pub returns : goal.returns

@@ -1,4 +1,4 @@
-use Rattle.pg_law_least.proofs.Whole.{plain_in}
+use Rattle.pg_law_least.proofs.EachStep.{plain_in}
 use Rattle.pg_law_least.proofs.laws.steps_left_out_are_no_events.Goals as goal
 
 pub returns : goal.returns

@@ -1,4 +1,4 @@
-use Rattle.pg_law_order.proofs.Strays.{strays_late}
+use Rattle.pg_law_order.proofs.LateStraying.{strays_late}
 use Rattle.pg_law_order.proofs.guided.a_guided_run_strays_late.Goals as goal
 
 pub returns : goal.returns

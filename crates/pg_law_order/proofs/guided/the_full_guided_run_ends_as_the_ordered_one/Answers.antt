@@ -1,7 +1,7 @@
 use Rattle.std.proofs.Common.{sym, ◌∙◌}
 use Rattle.pg_run.specs.FullGuided.{full_guided_of}
-use Rattle.pg_law_effects.proofs.FullEnds.{full_is}
-use Rattle.pg_law_runs.proofs.Permitted as law
+use Rattle.pg_law_effects.proofs.FullGuidedRun.{full_is}
+use Rattle.pg_law_runs.proofs.PermittedRuns as law
 use Rattle.pg_law_order.proofs.guided.the_full_guided_run_ends_as_the_ordered_one.Goals as goal
 
 pub returns-clause-run : goal.returns-clause-run

@@ -1,4 +1,4 @@
-use Rattle.pg_law_order.proofs.Schedules.{up_to}
+use Rattle.pg_law_order.proofs.RecordedSchedules.{up_to}
 use Rattle.pg_law_order.proofs.recorded.a_recorded_run_is_ordered_up_to_its_last_turns.Goals as goal
 
 pub returns : goal.returns

@@ -1,4 +1,4 @@
-use Rattle.pg_law_order.proofs.Schedules.{guides_as}
+use Rattle.pg_law_order.proofs.RecordedSchedules.{guides_as}
 use Rattle.pg_law_order.proofs.recorded.the_schedule_of_a_recorded_run_is_good.Goals as goal
 
 pub returns : goal.returns

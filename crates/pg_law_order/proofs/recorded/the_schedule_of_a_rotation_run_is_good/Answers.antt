@@ -1,6 +1,6 @@
 use Rattle.pg_run.specs.Rotation.{rotation_of}
-use Rattle.pg_law_order.proofs.Schedules.{guides_as}
-use Rattle.pg_law_order.proofs.Rotated.{rotation_recorded}
+use Rattle.pg_law_order.proofs.RecordedSchedules.{guides_as}
+use Rattle.pg_law_order.proofs.RotationRuns.{rotation_recorded}
 use Rattle.pg_law_order.proofs.recorded.the_schedule_of_a_rotation_run_is_good.Goals as goal
 
 pub returns-clause-recorded : goal.returns-clause-recorded

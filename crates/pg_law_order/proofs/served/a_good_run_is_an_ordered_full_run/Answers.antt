@@ -1,4 +1,4 @@
-use Rattle.pg_law_order.proofs.Serves.{whole}
+use Rattle.pg_law_order.proofs.GoodRunsServe.{whole}
 use Rattle.pg_law_order.proofs.served.a_good_run_is_an_ordered_full_run.Goals as goal
 
 pub returns : goal.returns

@@ -1,4 +1,4 @@
-use Rattle.pg_law_order.proofs.Serves.{serves}
+use Rattle.pg_law_order.proofs.GoodRunsServe.{serves}
 use Rattle.pg_law_order.proofs.served.a_good_run_serves.Goals as goal
 
 pub returns : goal.returns

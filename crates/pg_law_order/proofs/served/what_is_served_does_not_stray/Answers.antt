@@ -1,4 +1,4 @@
-use Rattle.pg_law_order.proofs.Serves.{follows}
+use Rattle.pg_law_order.proofs.GoodRunsServe.{follows}
 use Rattle.pg_law_order.proofs.served.what_is_served_does_not_stray.Goals as goal
 
 pub returns-clause-end : goal.returns-clause-end

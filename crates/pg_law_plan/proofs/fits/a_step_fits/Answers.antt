@@ -1,4 +1,4 @@
-use Rattle.pg_law_plan.proofs.Made.{starts_are_fresh}
+use Rattle.pg_law_plan.proofs.UnbegunThreads.{starts_are_fresh}
 use Rattle.pg_law_plan.proofs.StepFits as law
 use Rattle.pg_law_plan.proofs.fits.a_step_fits.Goals as goal
 

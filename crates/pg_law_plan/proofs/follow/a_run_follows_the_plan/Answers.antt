@@ -1,6 +1,6 @@
-use Rattle.pg_law_plan.proofs.Made.{starts_are_fresh}
-use Rattle.pg_law_plan.proofs.Remembered.{plan_remembers, units_single}
-use Rattle.pg_law_plan.proofs.Obeying as law
+use Rattle.pg_law_plan.proofs.UnbegunThreads.{starts_are_fresh}
+use Rattle.pg_law_plan.proofs.KnownBeforeUnits.{plan_remembers, units_single}
+use Rattle.pg_law_plan.proofs.RunFollowsPlan as law
 use Rattle.pg_law_plan.proofs.follow.a_run_follows_the_plan.Goals as goal
 
 pub returns : goal.returns

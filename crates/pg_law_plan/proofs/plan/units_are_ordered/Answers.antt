@@ -1,4 +1,4 @@
-use Rattle.pg_law_plan.proofs.Settled as law
+use Rattle.pg_law_plan.proofs.UnitsArePlan as law
 use Rattle.pg_law_plan.proofs.plan.units_are_ordered.Goals as goal
 
 pub returns : goal.returns

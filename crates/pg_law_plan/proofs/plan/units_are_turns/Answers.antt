@@ -1,4 +1,4 @@
-use Rattle.pg_law_plan.proofs.Turns as law
+use Rattle.pg_law_plan.proofs.UnitTurns as law
 use Rattle.pg_law_plan.proofs.plan.units_are_turns.Goals as goal
 
 pub returns-clause-turns : goal.returns-clause-turns

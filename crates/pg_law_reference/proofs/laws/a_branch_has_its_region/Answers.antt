@@ -1,5 +1,5 @@
-use Rattle.pg_law_reference.proofs.Short.{short_calls}
-use Rattle.pg_law_reference.proofs.Regions.{region_of}
+use Rattle.pg_law_reference.proofs.ShortSummaries.{short_calls}
+use Rattle.pg_law_reference.proofs.RegionsExist.{region_of}
 use Rattle.pg_law_reference.proofs.laws.a_branch_has_its_region.Goals as goal
 
 pub returns : goal.returns

@@ -1,4 +1,4 @@
-use Rattle.pg_law_reference.proofs.Summaries.{summaries}
+use Rattle.pg_law_reference.proofs.SummariesExist.{summaries}
 use Rattle.pg_law_reference.proofs.laws.summaries_exist.Goals as goal
 
 pub returns : goal.returns

@@ -3,10 +3,10 @@ use Rattle.std.specs.Prelude.{slice_index, if◌then◌else◌}
 use Rattle.std.proofs.lemmas.List.{append-nil}
 use Rattle.pg_precondition.specs.Nodes.{IsNode}
 use Rattle.pg_precondition.specs.Kept.{kept, renamed}
-use Rattle.pg_precondition.proofs.Keeping.{node_up, renamed_is_node}
-use Rattle.pg_precondition.proofs.Lists.{get_some}
-use Rattle.pg_precondition.proofs.Marking.{names_below}
-use Rattle.pg_precondition.proofs.Placing.{kept_length, kept_more, place_lt}
+use Rattle.pg_precondition.proofs.RenamedNodes.{node_up, renamed_is_node}
+use Rattle.pg_precondition.proofs.NumberedLists.{get_some}
+use Rattle.pg_precondition.proofs.NeededMarks.{names_below}
+use Rattle.pg_precondition.proofs.MarkPlaces.{kept_length, kept_more, place_lt}
 use Rattle.pg_precondition.proofs.kept.keep.Goals as goal
 
 pub renamed-requires : goal.renamed-requires

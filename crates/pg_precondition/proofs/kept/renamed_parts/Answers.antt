@@ -1,6 +1,6 @@
 use Rattle.std.proofs.Common.{arith, ap, ◌∙◌}
 use Rattle.std.specs.Prelude.{slice_index, slice_set}
-use Rattle.pg_precondition.proofs.Keeping.{part_next}
+use Rattle.pg_precondition.proofs.RenamedNodes.{part_next}
 use Rattle.pg_precondition.proofs.kept.renamed_parts.Goals as goal
 
 pub loop-i-preserved : goal.loop-i-preserved

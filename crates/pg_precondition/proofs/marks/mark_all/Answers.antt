@@ -2,9 +2,9 @@ use Rattle.std.proofs.Common.{◌≡◌, ◌+◌, ◌-◌, ◌<◌, length, arit
 use Rattle.std.specs.Prelude.{slice_get}
 use Rattle.pg_precondition.specs.Nodes.{AreNodes}
 use Rattle.pg_precondition.specs.Marks.{AreMarks, Marked, is_set, names_if}
-use Rattle.pg_precondition.proofs.Lists.{get_some}
-use Rattle.pg_precondition.proofs.Marking.{marks_more}
-use Rattle.pg_precondition.proofs.Numbers.{node_at}
+use Rattle.pg_precondition.proofs.NumberedLists.{get_some}
+use Rattle.pg_precondition.proofs.NeededMarks.{marks_more}
+use Rattle.pg_precondition.proofs.KeptNumbers.{node_at}
 use Rattle.pg_precondition.proofs.marks.mark_all.Goals as goal
 
 pub loop-k-preserved : goal.loop-k-preserved

@@ -1,5 +1,5 @@
 use Rattle.std.proofs.Common.{arith}
-use Rattle.pg_precondition.proofs.Marking.{checks_next, checks_whole, marked_none}
+use Rattle.pg_precondition.proofs.NeededMarks.{checks_next, checks_whole, marked_none}
 use Rattle.pg_precondition.proofs.marks.mark_checks.Goals as goal
 
 pub loop-i-init : goal.loop-i-init

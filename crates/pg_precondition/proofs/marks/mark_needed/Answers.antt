@@ -1,7 +1,7 @@
 use Rattle.std.proofs.Common.{length, map, ap, ◌∙◌, subst, false}
 use Rattle.std.proofs.lemmas.List.{length-replicate}
 use Rattle.pg_precondition.specs.Marks.{Marked, node_of}
-use Rattle.pg_precondition.proofs.Marking.{marks_begin}
+use Rattle.pg_precondition.proofs.NeededMarks.{marks_begin}
 use Rattle.pg_precondition.proofs.marks.mark_needed.Goals as goal
 
 pub mark_all-requires : goal.mark_all-requires

@@ -1,6 +1,6 @@
 use Rattle.std.proofs.Common.{◌≡◌, arith, subst, take}
 use Rattle.pg_precondition.specs.Marks.{Marked}
-use Rattle.pg_precondition.proofs.Marking.{marked_none, parts_next}
+use Rattle.pg_precondition.proofs.NeededMarks.{marked_none, parts_next}
 use Rattle.pg_precondition.proofs.marks.mark_parts.Goals as goal
 
 pub loop-i-init : goal.loop-i-init

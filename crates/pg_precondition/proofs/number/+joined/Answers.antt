@@ -1,4 +1,4 @@
-use Rattle.pg_precondition.proofs.Joins.{bound_next}
+use Rattle.pg_precondition.proofs.JoinedBytes.{bound_next}
 use Rattle.pg_precondition.proofs.number.+joined.Goals as goal
 
 pub returns-clause-bound : goal.returns-clause-bound

@@ -2,7 +2,7 @@ use Rattle.std.proofs.Common.{◌≡◌, ℕ, ◌+◌, ◌<◌, arith, ap, ◌�
 use Rattle.std.specs.Prelude.{slice_index}
 use Rattle.std.proofs.lemmas.List.{length_push}
 use Rattle.pg_precondition.specs.Marks.{place}
-use Rattle.pg_precondition.proofs.Placing.{count_next, place_le, place_zero, places_next}
+use Rattle.pg_precondition.proofs.MarkPlaces.{count_next, place_le, place_zero, places_next}
 use Rattle.pg_precondition.proofs.places.places_of.Goals as goal
 
 pub counted-place-requires : goal.counted-place-requires

@@ -6,8 +6,8 @@ use Rattle.pg_precondition.specs.Values.{is_admitted}
 use Rattle.pg_precondition.specs.Marks.{AreMarks, ArePlaces}
 use Rattle.pg_precondition.specs.Names.{AreNeeded, IsNeededPart}
 use Rattle.pg_precondition.specs.Kept.{renamed_check}
-use Rattle.pg_precondition.proofs.Numbers.{checks_same}
-use Rattle.pg_precondition.proofs.Reaching.{all_needed, each_marked}
+use Rattle.pg_precondition.proofs.KeptNumbers.{checks_same}
+use Rattle.pg_precondition.proofs.KeptAreNeeded.{all_needed, each_marked}
 use Rattle.pg_precondition.proofs.pruned.needed.Goals as goal
 
 pub returns : goal.returns

@@ -4,7 +4,7 @@ use Rattle.std.proofs.lemmas.List.{map_push}
 use Rattle.pg_precondition.specs.Nodes.{Conditions}
 use Rattle.pg_precondition.specs.declared.check.Check.{Check}
 use Rattle.pg_precondition.specs.Kept.{renamed_check}
-use Rattle.pg_precondition.proofs.Lists.{take_get}
+use Rattle.pg_precondition.proofs.NumberedLists.{take_get}
 use Rattle.pg_precondition.proofs.pruned.with_checks.Goals as goal
 
 pub push-requires : goal.push-requires

@@ -2,7 +2,7 @@ use Rattle.std.proofs.Common.{◌<◌, length, sym, ap, ◌∙◌, subst}
 use Rattle.std.specs.Prelude.{IfSome, slice_get, slice_index}
 use Rattle.pg_precondition.specs.declared.check.Check.{Check}
 use Rattle.pg_precondition.specs.Kept.{kept}
-use Rattle.pg_precondition.proofs.Reaching.{checks_fit}
+use Rattle.pg_precondition.proofs.KeptAreNeeded.{checks_fit}
 use Rattle.pg_precondition.proofs.pruned.with_marks.Goals as goal
 
 pub with_checks-requires-clause-places : goal.with_checks-requires-clause-places

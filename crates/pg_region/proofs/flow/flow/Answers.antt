@@ -1,7 +1,7 @@
 use Rattle.std.proofs.Common.{◌≡◌, length, sym, ap, subst, arith}
 use Rattle.pg_cfg.specs.Graphs.{EdgeLists, IsClosed}
 use Rattle.pg_region.specs.Regions.{flow_of}
-use Rattle.pg_region.proofs.Flows.{flow_whole, flow_closed, flow_size}
+use Rattle.pg_region.proofs.FlowGraphs.{flow_whole, flow_closed, flow_size}
 use Rattle.pg_region.proofs.flow.flow.Goals as goal
 
 pub returns-clause-flow : goal.returns-clause-flow

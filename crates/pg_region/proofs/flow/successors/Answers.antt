@@ -1,6 +1,6 @@
 use Rattle.std.proofs.Common.{◌∙◌, arith}
-use Rattle.pg_region.proofs.Flows.{successors_are}
-use Rattle.pg_region.proofs.Finds.{if_ok}
+use Rattle.pg_region.proofs.FlowGraphs.{successors_are}
+use Rattle.pg_region.proofs.PreparedFinders.{if_ok}
 use Rattle.pg_region.proofs.flow.successors.Goals as goal
 
 pub overflow_add-last : goal.overflow_add-last

@@ -1,4 +1,4 @@
-use Rattle.pg_region.proofs.Stays as stays
+use Rattle.pg_region.proofs.EdgesBeforeJoin as stays
 use Rattle.pg_region.proofs.laws.edges_stay.Goals as goal
 
 pub returns : goal.returns

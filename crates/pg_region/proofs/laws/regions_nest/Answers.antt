@@ -1,4 +1,4 @@
-use Rattle.pg_region.proofs.Within as within
+use Rattle.pg_region.proofs.NestedRegions as within
 use Rattle.pg_region.proofs.laws.regions_nest.Goals as goal
 
 pub returns : goal.returns

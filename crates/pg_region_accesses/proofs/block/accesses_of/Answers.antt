@@ -2,8 +2,8 @@ use Rattle.std.proofs.Common.{None, Some, sym, arith}
 use Rattle.pg_region_paths.specs.RootPaths.{set_in}
 use Rattle.pg_region_accesses.specs.Accesses.{block_accesses, summary_of}
 use Rattle.pg_region_accesses.specs.Tables.{in_table}
-use Rattle.pg_region_accesses.proofs.Gathers.{stops_at, ends_at}
-use Rattle.pg_region_accesses.proofs.Louds.{by_table}
+use Rattle.pg_region_accesses.proofs.AddedAccesses.{stops_at, ends_at}
+use Rattle.pg_region_accesses.proofs.LoudBlocks.{by_table}
 use Rattle.pg_region_accesses.proofs.block.accesses_of.Goals as goal
 
 pub returns-then-not-branch : goal.returns-then-not-branch

@@ -2,7 +2,7 @@ use Rattle.std.proofs.Common.{◌∙◌}
 use Rattle.pg_num.specs.declared.limits.TheConstants.{FUNCTION_REGISTER_LIMIT}
 use Rattle.pg_region_accesses.specs.Accesses.{summary_of}
 use Rattle.pg_region_accesses.specs.Tables.{in_table}
-use Rattle.pg_region_accesses.proofs.Louds.{size_more, loud_more, quiet_more}
+use Rattle.pg_region_accesses.proofs.LoudBlocks.{size_more, loud_more, quiet_more}
 use Rattle.pg_region_accesses.proofs.block.loud_blocks.Goals as goal
 
 pub loop-b-preserved : goal.loop-b-preserved

@@ -7,7 +7,7 @@ use Rattle.pg_region_paths.specs.Registers.{is_register, has_pointer, path_by}
 use Rattle.pg_region_accesses.specs.Accesses.{block_accesses, summary_of}
 use Rattle.pg_region_accesses.specs.Appends.{Appends}
 use Rattle.pg_region_accesses.specs.Tables.{in_table}
-use Rattle.pg_region_accesses.proofs.Blocks.{instr_at, result_small, gep_fits, types_are, paths_more, block_more, block_none, block_all}
+use Rattle.pg_region_accesses.proofs.BlockInstructions.{instr_at, result_small, gep_fits, types_are, paths_more, block_more, block_none, block_all}
 use Rattle.pg_region_accesses.proofs.block.push_block.Goals as goal
 
 pub overflow_add-id : goal.overflow_add-id

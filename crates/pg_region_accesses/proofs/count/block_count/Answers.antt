@@ -1,5 +1,5 @@
 use Rattle.std.proofs.Common.{arith}
-use Rattle.pg_region_accesses.proofs.Counts.{counted}
+use Rattle.pg_region_accesses.proofs.BlockCounts.{counted}
 use Rattle.pg_region_accesses.proofs.count.block_count.Goals as goal
 
 pub returns-clause-count : goal.returns-clause-count

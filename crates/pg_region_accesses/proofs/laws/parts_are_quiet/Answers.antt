@@ -1,4 +1,4 @@
-use Rattle.pg_region_accesses.proofs.Fewer.{quiet_part, same_part}
+use Rattle.pg_region_accesses.proofs.QuietInParts.{quiet_part, same_part}
 use Rattle.pg_region_accesses.proofs.laws.parts_are_quiet.Goals as goal
 
 pub returns : goal.returns

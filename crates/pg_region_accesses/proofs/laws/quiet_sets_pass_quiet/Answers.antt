@@ -1,4 +1,4 @@
-use Rattle.pg_region_accesses.proofs.Passes.{set_quiet}
+use Rattle.pg_region_accesses.proofs.QuietInstructions.{set_quiet}
 use Rattle.pg_region_accesses.proofs.laws.quiet_sets_pass_quiet.Goals as goal
 
 pub returns : goal.returns

@@ -1,4 +1,4 @@
-use Rattle.pg_region_accesses.proofs.Passes.{set_outside}
+use Rattle.pg_region_accesses.proofs.QuietInstructions.{set_outside}
 use Rattle.pg_region_accesses.proofs.laws.roots_are_outside.Goals as goal
 
 pub returns : goal.returns

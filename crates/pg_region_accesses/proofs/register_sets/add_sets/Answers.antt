@@ -1,8 +1,8 @@
 use Rattle.std.proofs.Common.{◌+◌, ◌||◌, length, ap, ◌∙◌, arith}
 use Rattle.pg_ir.specs.Edges.{instrs_of}
 use Rattle.pg_region_accesses.specs.Tables.{in_table}
-use Rattle.pg_region_accesses.proofs.Blocks.{instr_at, result_small}
-use Rattle.pg_region_accesses.proofs.Sets.{set_more, sets_all}
+use Rattle.pg_region_accesses.proofs.BlockInstructions.{instr_at, result_small}
+use Rattle.pg_region_accesses.proofs.SetTables.{set_more, sets_all}
 use Rattle.pg_region_accesses.proofs.register_sets.add_sets.Goals as goal
 
 pub overflow_add-block : goal.overflow_add-block

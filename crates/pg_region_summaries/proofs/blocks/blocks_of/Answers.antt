@@ -1,7 +1,7 @@
 use Rattle.std.proofs.Common.{◌≡◌, ◌<◌, length, arith}
 use Rattle.std.proofs.lemmas.List.Elements.{All-push, All-nil}
 use Rattle.pg_ir.specs.Program.{function_of}
-use Rattle.pg_region_summaries.proofs.Ranges.{kept, passed, before_span, behind_span, function_is}
+use Rattle.pg_region_summaries.proofs.BlockSpans.{kept, passed, before_span, behind_span, function_is}
 use Rattle.pg_region_summaries.proofs.blocks.blocks_of.Goals as goal
 use Rattle.pg_region_summaries.proofs.blocks.blocks_of.Goals.{then-block-f+in_ok-push, else-block-f}
 

@@ -1,5 +1,5 @@
 use Rattle.std.proofs.Common.{arith}
-use Rattle.pg_region_summaries.proofs.Listed.{block_listed, all_listed}
+use Rattle.pg_region_summaries.proofs.CalledFunctions.{block_listed, all_listed}
 use Rattle.pg_region_summaries.proofs.callees.callees.Goals as goal
 
 pub loop-b-preserved : goal.loop-b-preserved

@@ -1,6 +1,6 @@
 use Rattle.std.proofs.Common.{◌≡◌, arith, ◌∙◌}
 use Rattle.pg_region_summaries.specs.Callees.{calls_of}
-use Rattle.pg_region_summaries.proofs.Places.{graph_is, graph_closed}
+use Rattle.pg_region_summaries.proofs.InstructionPlaces.{graph_is, graph_closed}
 use Rattle.pg_region_summaries.proofs.callees.calls.Goals as goal
 
 pub returns-clause-calls : goal.returns-clause-calls

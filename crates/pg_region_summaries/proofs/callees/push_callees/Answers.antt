@@ -1,8 +1,8 @@
 use Rattle.std.proofs.Common.{◌≡◌, Some, arith}
 use Rattle.std.specs.Prelude.{slice_get}
 use Rattle.pg_ir.specs.Edges.{instrs_of}
-use Rattle.pg_region_accesses.proofs.Blocks.{instr_at}
-use Rattle.pg_region_summaries.proofs.Listed.{instr_pushed, block_pushed}
+use Rattle.pg_region_accesses.proofs.BlockInstructions.{instr_at}
+use Rattle.pg_region_summaries.proofs.CalledFunctions.{instr_pushed, block_pushed}
 use Rattle.pg_region_summaries.proofs.callees.push_callees.Goals as goal
 
 pub loop-k-preserved : goal.loop-k-preserved

@@ -2,9 +2,9 @@ use Rattle.std.proofs.Common.{◌≡◌, ◌+◌, drop, Some, None, arith, rules
 use Rattle.std.specs.Prelude.{slice_get}
 use Rattle.pg_ir.specs.Edges.{instrs_of}
 use Rattle.pg_region_accesses.specs.Accesses.{summary_of}
-use Rattle.pg_region_accesses.proofs.Blocks.{instr_at, instrs_end}
+use Rattle.pg_region_accesses.proofs.BlockInstructions.{instr_at, instrs_end}
 use Rattle.pg_region_summaries.specs.Counts.{instrs_count, block_count, within_limit}
-use Rattle.pg_region_summaries.proofs.Counted.{instr_more, some_within, none_within, within_none, count_is, limit_at}
+use Rattle.pg_region_summaries.proofs.AccessCounts.{instr_more, some_within, none_within, within_none, count_is, limit_at}
 use Rattle.pg_region_summaries.proofs.count.count_block.Goals as goal
 
 pub returns-in_err-count : goal.returns-in_err-count

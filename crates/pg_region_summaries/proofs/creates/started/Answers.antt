@@ -1,6 +1,6 @@
 use Rattle.std.proofs.Common.{arith, ◌∙◌}
 use Rattle.pg_region_accesses.specs.Tables.{in_table}
-use Rattle.pg_region_summaries.proofs.Named.{started_more, started_all}
+use Rattle.pg_region_summaries.proofs.ThreadFunctions.{started_more, started_all}
 use Rattle.pg_region_summaries.proofs.creates.started.Goals as goal
 
 pub loop-i-preserved : goal.loop-i-preserved

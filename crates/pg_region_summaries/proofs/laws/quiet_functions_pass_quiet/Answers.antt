@@ -1,4 +1,4 @@
-use Rattle.pg_region_summaries.proofs.Lawful.{passes_quiet}
+use Rattle.pg_region_summaries.proofs.SummaryFacts.{passes_quiet}
 use Rattle.pg_region_summaries.proofs.laws.quiet_functions_pass_quiet.Goals as goal
 
 pub returns : goal.returns

@@ -1,4 +1,4 @@
-use Rattle.pg_region_summaries.proofs.Lawful.{reaches_quiet}
+use Rattle.pg_region_summaries.proofs.SummaryFacts.{reaches_quiet}
 use Rattle.pg_region_summaries.proofs.laws.quiet_functions_reach_quiet.Goals as goal
 
 pub returns : goal.returns

@@ -1,4 +1,4 @@
-use Rattle.pg_region_summaries.proofs.Lawful.{is_few, all_seen}
+use Rattle.pg_region_summaries.proofs.SummaryFacts.{is_few, all_seen}
 use Rattle.pg_region_summaries.proofs.laws.summaries_are_seen.Goals as goal
 
 pub returns : goal.returns

@@ -2,8 +2,8 @@ use Rattle.std.proofs.Common.{◌≡◌, ◌<◌, ◌^◌, length, arith, ◌∙
 use Rattle.std.proofs.Math.ListN.{length-set}
 use Rattle.pg_ir.specs.Program.{function_of}
 use Rattle.pg_region_summaries.specs.Spans.{span_at, extended}
-use Rattle.pg_region_summaries.proofs.Ranges.{function_is}
-use Rattle.pg_region_summaries.proofs.Spanned.{one_more}
+use Rattle.pg_region_summaries.proofs.BlockSpans.{function_is}
+use Rattle.pg_region_summaries.proofs.FunctionSpans.{one_more}
 use Rattle.pg_region_summaries.proofs.span.spans.Goals as goal
 
 pub loop-b-preserved : goal.loop-b-preserved

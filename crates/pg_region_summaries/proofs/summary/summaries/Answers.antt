@@ -2,8 +2,8 @@ use Rattle.std.proofs.Common.{◌<◌, ◌≤◌, ◌+◌, ℕ, length, arith}
 use Rattle.pg_region_accesses.specs.Accesses.{is_gated, summary_of}
 use Rattle.pg_region_accesses.specs.Tables.{in_table}
 use Rattle.pg_region_summaries.specs.Reaches.{reach_at}
-use Rattle.pg_region_summaries.proofs.Prepared.{by_table}
-use Rattle.pg_region_summaries.proofs.Worked.{all_worked}
+use Rattle.pg_region_summaries.proofs.PreparedSummaries.{by_table}
+use Rattle.pg_region_summaries.proofs.WorkOrder.{all_worked}
 use Rattle.pg_region_summaries.proofs.summary.summaries.Goals as goal
 
 pub returns-clause-summaries : goal.returns-clause-summaries

@@ -6,8 +6,8 @@ use Rattle.pg_region_summaries.specs.declared.limits.TheConstants.{SUMMARY_LIMIT
 use Rattle.pg_region_summaries.specs.Blocks.{blocks_of}
 use Rattle.pg_region_summaries.specs.Counts.{blocks_count}
 use Rattle.pg_region_summaries.specs.Summaries.{if_few, seen, summary_by}
-use Rattle.pg_region_summaries.proofs.Counted.{over}
-use Rattle.pg_region_summaries.proofs.Prepared.{params_are, by_accesses}
+use Rattle.pg_region_summaries.proofs.AccessCounts.{over}
+use Rattle.pg_region_summaries.proofs.PreparedSummaries.{params_are, by_accesses}
 use Rattle.pg_region_summaries.proofs.summary.summary_by.Goals as goal
 
 pub returns-then-not-has_few : goal.returns-then-not-has_few

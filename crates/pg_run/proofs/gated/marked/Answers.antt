@@ -1,5 +1,5 @@
 use Rattle.std.proofs.Common.{refl}
-use Rattle.pg_run.proofs.Marks.{marks_more}
+use Rattle.pg_run.proofs.GatedMarks.{marks_more}
 use Rattle.pg_run.proofs.gated.marked.Goals as goal
 
 pub loop-id-preserved : goal.loop-id-preserved

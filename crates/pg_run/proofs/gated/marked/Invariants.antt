@@ -1,4 +1,4 @@
-use Rattle.pg_run.proofs.Marks.{AreMarked}
+use Rattle.pg_run.proofs.GatedMarks.{AreMarked}
 use Rattle.pg_run.proofs.gated.marked.Given as goal
 
 abbrev pub invariant-loop-id : goal.invariant-loop-id

@@ -1,4 +1,4 @@
-use Rattle.pg_run.proofs.Wents.{recorded_asks, recorded_done}
+use Rattle.pg_run.proofs.OwnSteps.{recorded_asks, recorded_done}
 use Rattle.pg_run.proofs.recording.record_own.Goals as goal
 
 pub returns-in-Asks-clause-step : goal.returns-in-Asks-clause-step

@@ -2,8 +2,8 @@ use Rattle.std.proofs.Common.{◌∙◌, ap}
 use Rattle.pg_run.specs.Answer.{answer_in}
 use Rattle.pg_run.specs.MachineStep.{Stepped}
 use Rattle.pg_run.specs.Taken.{state_with, steps_with, trapped_in}
-use Rattle.pg_run.proofs.Goes.{did_is, trapped_step}
-use Rattle.pg_run.proofs.Told.{step_filled}
+use Rattle.pg_run.proofs.StatesAfterAnswers.{did_is, trapped_step}
+use Rattle.pg_run.proofs.ToldTurns.{step_filled}
 use Rattle.pg_run.proofs.recording.record_step.Goals as goal
 
 pub returns-in-Err-clause-trap : goal.returns-in-Err-clause-trap

@@ -1,7 +1,7 @@
 use Rattle.std.proofs.Common.{◌∙◌, ap, refl}
 use Rattle.pg_run.specs.Answer.{answer_in}
 use Rattle.pg_run.specs.Taken.{state_with, trapped_in}
-use Rattle.pg_run.proofs.Goes.{did_is, trapped_step}
+use Rattle.pg_run.proofs.StatesAfterAnswers.{did_is, trapped_step}
 use Rattle.pg_run.proofs.recording.step_on.Goals as goal
 
 pub returns-in-Err-clause-trap : goal.returns-in-Err-clause-trap

@@ -1,5 +1,5 @@
 use Rattle.std.proofs.Common.{arith}
-use Rattle.pg_run_objects.proofs.Tables.{below_up_to, stops_at}
+use Rattle.pg_run_objects.proofs.ObjectTables.{below_up_to, stops_at}
 use Rattle.pg_run_objects.proofs.table.position.Goals as goal
 
 pub loop-low-preserved-then-entries-middle : goal.loop-low-preserved-then-entries-middle

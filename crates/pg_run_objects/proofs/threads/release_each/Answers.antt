@@ -2,7 +2,7 @@ use Rattle.std.proofs.Common.{◌∙◌, arith, ap, length-set}
 use Rattle.std.specs.Prelude.{slice_set}
 use Rattle.pg_run_objects.specs.Sync.{release}
 use Rattle.pg_run_objects.specs.declared.status.Status.{Status}
-use Rattle.pg_run_objects.proofs.Statuses.{map_step}
+use Rattle.pg_run_objects.proofs.ThreadStatuses.{map_step}
 use Rattle.pg_run_objects.proofs.threads.release_each.Goals as goal
 
 pub loop-i-preserved : goal.loop-i-preserved

@@ -1,5 +1,5 @@
-use Rattle.pg_run_thread.proofs.Along.{along_reads}
-use Rattle.pg_run_thread.proofs.Goes.{taken_enters}
+use Rattle.pg_run_thread.proofs.EdgeValues.{along_reads}
+use Rattle.pg_run_thread.proofs.BranchTargets.{taken_enters}
 use Rattle.pg_run_thread.proofs.decide.branch_action.Goals as goal
 
 pub have_values-requires : goal.have_values-requires

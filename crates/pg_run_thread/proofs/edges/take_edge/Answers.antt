@@ -1,7 +1,7 @@
 use Rattle.std.proofs.Common.{◌∙◌, ap, sym, length}
 use Rattle.std.proofs.lemmas.List.{length-map}
-use Rattle.pg_ir.proofs.Prepared.{values_count}
-use Rattle.pg_run_thread.proofs.Along.{along_reads}
+use Rattle.pg_ir.proofs.GrowingTables.{values_count}
+use Rattle.pg_run_thread.proofs.EdgeValues.{along_reads}
 use Rattle.pg_run_thread.proofs.edges.take_edge.Goals as goal
 
 pub gather-given-requires-clause-fits : goal.gather-given-requires-clause-fits

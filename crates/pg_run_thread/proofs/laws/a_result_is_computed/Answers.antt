@@ -1,4 +1,4 @@
-use Rattle.pg_run_thread.proofs.Ties.{tie}
+use Rattle.pg_run_thread.proofs.OperationSteps.{tie}
 use Rattle.pg_run_thread.proofs.ComputedSteps.{computed_step, not_computed}
 use Rattle.pg_run_thread.proofs.laws.a_result_is_computed.Goals as goal
 

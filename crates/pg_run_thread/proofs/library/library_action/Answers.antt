@@ -1,6 +1,6 @@
 use Rattle.std.proofs.Common.{◌∙◌, rules}
 use Rattle.pg_run_thread.specs.Needs.{NamesObject}
-use Rattle.pg_run_thread.proofs.Named.{object_is}
+use Rattle.pg_run_thread.proofs.NamedObjects.{object_is}
 use Rattle.pg_run_thread.proofs.library.library_action.Goals as goal
 
 pub returns-in_default : goal.returns-in_default

@@ -1,8 +1,8 @@
 use Rattle.std.proofs.Common.{◌+◌, ◌++◌, take, drop, sym, ap, ◌∙◌, subst}
 use Rattle.pg_schedule.specs.Cells.{Keeps, cell_at}
 use Rattle.pg_schedule.specs.Touches.{before_in}
-use Rattle.pg_schedule.proofs.Greatest.{met}
-use Rattle.pg_schedule.proofs.Notes.{keeps_push}
+use Rattle.pg_schedule.proofs.GreatestRanks.{met}
+use Rattle.pg_schedule.proofs.NotedTouches.{keeps_push}
 use Rattle.pg_schedule.proofs.TableWalk.{before_more, before_step}
 use Rattle.pg_schedule.proofs.answered.answered_before.Goals as goal
 

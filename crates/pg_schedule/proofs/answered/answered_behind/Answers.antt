@@ -1,7 +1,7 @@
 use Rattle.std.proofs.Common.{◌-◌, drop, length, arith, sym, ◌∙◌, subst}
 use Rattle.pg_schedule.specs.Cells.{Keeps, cell_at}
-use Rattle.pg_schedule.proofs.Greatest.{met}
-use Rattle.pg_schedule.proofs.Notes.{keeps_cons}
+use Rattle.pg_schedule.proofs.GreatestRanks.{met}
+use Rattle.pg_schedule.proofs.NotedTouches.{keeps_cons}
 use Rattle.pg_schedule.proofs.TableWalk.{behind_end, behind_last, behind_step}
 use Rattle.pg_schedule.proofs.answered.answered_behind.Goals as goal
 

@@ -3,7 +3,7 @@ use Rattle.std.specs.Prelude.{◌&&◌, not, max, if◌then◌else◌}
 use Rattle.pg_run_trace.specs.Best.{other}
 use Rattle.pg_schedule.specs.Cells.{cell_at}
 use Rattle.pg_schedule.specs.Touches.{rank_if}
-use Rattle.pg_schedule.proofs.Notes.{noted_more}
+use Rattle.pg_schedule.proofs.NotedTouches.{noted_more}
 use Rattle.pg_schedule.proofs.answered.note.Goals as goal
 
 pub loop-i-preserved : goal.loop-i-preserved

@@ -1,10 +1,10 @@
 use Rattle.std.proofs.Common.{[], map, length, sym, ap, ◌∙◌}
 use Rattle.pg_run_trace.specs.Races as defs
-use Rattle.pg_schedule.proofs.Positions.{timed_length}
+use Rattle.pg_schedule.proofs.StepPositions.{timed_length}
 use Rattle.pg_schedule.specs.Touches.{before_in, behind_in}
 use Rattle.pg_schedule.specs.Touching.{backward, forward}
 use Rattle.pg_schedule.proofs.AnsweredSteps.{beside_own}
-use Rattle.pg_schedule.proofs.Earlier.{intervals_length_of, intervals_within}
+use Rattle.pg_schedule.proofs.UnorderedSearch.{intervals_length_of, intervals_within}
 use Rattle.pg_schedule.proofs.fast.first_steps.Goals as goal
 
 pub touches-requires-clause-as_many : goal.touches-requires-clause-as_many

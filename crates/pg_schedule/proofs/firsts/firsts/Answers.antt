@@ -1,6 +1,6 @@
 use Rattle.std.proofs.Common.{◌-◌, None, length, arith, ap, ◌∙◌}
 use Rattle.pg_run_trace.specs.Races as races
-use Rattle.pg_schedule.proofs.Positions.{timed_length}
+use Rattle.pg_schedule.proofs.StepPositions.{timed_length}
 use Rattle.pg_schedule.proofs.RaceTable.{length_same, no_firsts}
 use Rattle.pg_schedule.proofs.firsts.firsts.Goals as goal
 

@@ -1,8 +1,8 @@
 use Rattle.std.proofs.Common.{◌<◌, length, rules, arith, sym, ap, ◌∙◌}
 use Rattle.pg_run_trace.specs.Races as races
-use Rattle.pg_schedule.proofs.Positions.{timed_length}
+use Rattle.pg_schedule.proofs.StepPositions.{timed_length}
 use Rattle.pg_schedule.specs.Firsts.{is_raced}
-use Rattle.pg_schedule.proofs.Steps.{get_some}
+use Rattle.pg_schedule.proofs.NumberedSteps.{get_some}
 use Rattle.pg_schedule.proofs.RaceTable.{at_step, first_kept, first_noted, instr_below, step_at}
 use Rattle.pg_schedule.proofs.firsts.note.Goals as goal
 

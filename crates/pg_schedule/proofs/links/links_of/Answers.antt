@@ -1,6 +1,6 @@
 use Rattle.std.proofs.Common.{◌≡◌, ◌-◌, ◌+◌, Some, None, refl, sym, ◌∙◌, arith, subst, length, drop}
 use Rattle.pg_schedule.specs.Links.{AreListed, accesses_byte, numbers_of}
-use Rattle.pg_schedule.proofs.Linked.{listed_start, listed_next, listed_end}
+use Rattle.pg_schedule.proofs.ByteLinks.{listed_start, listed_next, listed_end}
 use Rattle.pg_schedule.proofs.links.links_of.Goals as goal
 use Rattle.pg_schedule.proofs.links.links_of.Goals.{in-Some+in_ok-note, in_default}
 

@@ -2,7 +2,7 @@ use Rattle.std.proofs.Common.{◌≡◌, arith, subst}
 use Rattle.pg_run_trace.specs.Races.{is_in}
 use Rattle.pg_run_trace.specs.Steps.{range_of}
 use Rattle.pg_schedule.specs.Links.{AreListed, with_step}
-use Rattle.pg_schedule.proofs.Linked.{noted_none, noted_byte}
+use Rattle.pg_schedule.proofs.ByteLinks.{noted_none, noted_byte}
 use Rattle.pg_schedule.proofs.links.note.Goals as goal
 
 pub loop-k-init : goal.loop-k-init

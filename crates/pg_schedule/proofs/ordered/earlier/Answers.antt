@@ -3,8 +3,8 @@ use Rattle.std.specs.List.{position_from}
 use Rattle.pg_run_trace.specs.Races as races
 use Rattle.pg_schedule.specs.declared.interval.Turns.TheVariants as turns
 use Rattle.pg_schedule.specs.Unordered.{timed_of}
-use Rattle.pg_schedule.proofs.Positions.{found, none_more}
-use Rattle.pg_schedule.proofs.Earlier.{get_take, intervals_length_of, take_less}
+use Rattle.pg_schedule.proofs.StepPositions.{found, none_more}
+use Rattle.pg_schedule.proofs.UnorderedSearch.{get_take, intervals_length_of, take_less}
 use Rattle.pg_schedule.proofs.ordered.earlier.Goals as goal
 
 pub timed-y-requires-clause-as_many : goal.timed-y-requires-clause-as_many

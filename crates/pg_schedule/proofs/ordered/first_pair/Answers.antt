@@ -1,10 +1,10 @@
 use Rattle.std.proofs.Common.{◌+◌, drop, take, arith, sym, ap, ◌∙◌}
 use Rattle.std.specs.Prelude.{slice_get}
 use Rattle.pg_run_trace.specs.Races as races
-use Rattle.pg_schedule.proofs.Positions.{timed_length}
+use Rattle.pg_schedule.proofs.StepPositions.{timed_length}
 use Rattle.pg_schedule.specs.Partners.{earlier_of}
-use Rattle.pg_schedule.proofs.Earlier.{none_unmarked, pairs_end, pairs_next}
-use Rattle.pg_schedule.proofs.Steps.{get_some}
+use Rattle.pg_schedule.proofs.UnorderedSearch.{none_unmarked, pairs_end, pairs_next}
+use Rattle.pg_schedule.proofs.NumberedSteps.{get_some}
 use Rattle.pg_schedule.proofs.RaceTable.{marks_before}
 use Rattle.pg_schedule.proofs.ordered.first_pair.Goals as goal
 use Rattle.pg_schedule.proofs.ordered.first_pair.Goals.{then-mark_at+in_default, else-mark_at}

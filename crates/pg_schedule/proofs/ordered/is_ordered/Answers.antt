@@ -3,7 +3,7 @@ use Rattle.pg_run_trace.specs.Races as races
 use Rattle.pg_schedule.specs.Touches.{before_in}
 use Rattle.pg_schedule.specs.Touching.{forward}
 use Rattle.pg_schedule.proofs.AnsweredSteps.{beside_own}
-use Rattle.pg_schedule.proofs.Earlier.{intervals_length_of, intervals_within}
+use Rattle.pg_schedule.proofs.UnorderedSearch.{intervals_length_of, intervals_within}
 use Rattle.pg_schedule.proofs.ordered.is_ordered.Goals as goal
 
 pub touches-requires-clause-as_many : goal.touches-requires-clause-as_many

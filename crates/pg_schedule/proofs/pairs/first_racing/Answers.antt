@@ -1,9 +1,9 @@
 use Rattle.std.proofs.Common.{◌≡◌, None, length, take, arith, sym, ap, ◌∙◌, subst}
 use Rattle.std.specs.List.{position_from}
 use Rattle.pg_run_trace.specs.Races as races
-use Rattle.pg_schedule.proofs.Positions.{found, none_all, none_more, timed_length}
+use Rattle.pg_schedule.proofs.StepPositions.{found, none_all, none_more, timed_length}
 use Rattle.pg_schedule.specs.Partners.{is_racing_at}
-use Rattle.pg_schedule.proofs.Steps.{get_some}
+use Rattle.pg_schedule.proofs.NumberedSteps.{get_some}
 use Rattle.pg_schedule.proofs.pairs.first_racing.Goals as goal
 
 pub returns-then-is_racing-clause-position : goal.returns-then-is_racing-clause-position

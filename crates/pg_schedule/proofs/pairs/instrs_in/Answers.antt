@@ -1,6 +1,6 @@
 use Rattle.std.proofs.Common.{◌≡◌, ◌-◌, Some, rules, arith, ◌∙◌, subst}
 use Rattle.std.specs.Prelude.{slice_get}
-use Rattle.pg_schedule.proofs.Below.{instrs_more}
+use Rattle.pg_schedule.proofs.LoopsSoFar.{instrs_more}
 use Rattle.pg_schedule.proofs.pairs.instrs_in.Goals as goal
 
 pub loop-k-preserved : goal.loop-k-preserved

@@ -1,6 +1,6 @@
 use Rattle.std.proofs.Common.{sym, ap, ◌∙◌}
 use Rattle.std.specs.Prelude.{is_some}
-use Rattle.pg_schedule.proofs.Steps.{racing_true, racing_false}
+use Rattle.pg_schedule.proofs.NumberedSteps.{racing_true, racing_false}
 use Rattle.pg_schedule.proofs.pairs.is_racing.Goals as goal
 
 pub returns-then-is_access_of : goal.returns-then-is_access_of

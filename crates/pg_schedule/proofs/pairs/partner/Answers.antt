@@ -3,8 +3,8 @@ use Rattle.std.specs.List.{position_from}
 use Rattle.pg_run_trace.specs.Races as races
 use Rattle.pg_schedule.specs.declared.interval.Turns.TheVariants as turns
 use Rattle.pg_schedule.specs.Unordered.{timed_of}
-use Rattle.pg_schedule.proofs.Positions.{found, none_all, none_more, timed_length}
-use Rattle.pg_schedule.proofs.Steps.{intervals_length}
+use Rattle.pg_schedule.proofs.StepPositions.{found, none_all, none_more, timed_length}
+use Rattle.pg_schedule.proofs.NumberedSteps.{intervals_length}
 use Rattle.pg_schedule.proofs.pairs.partner.Goals as goal
 
 pub timed-x-requires-clause-as_many : goal.timed-x-requires-clause-as_many

@@ -1,7 +1,7 @@
 use Rattle.std.proofs.Common.{◌∷◌, [], ◌++◌, sym, ap, ◌∙◌, append-nil}
 use Rattle.std.specs.Option.{option_to_list}
 use Rattle.pg_run_trace.specs.Races as races
-use Rattle.pg_schedule.proofs.Below.{below_none, below_more}
+use Rattle.pg_schedule.proofs.LoopsSoFar.{below_none, below_more}
 use Rattle.pg_schedule.proofs.pairs.races_by_pairs.Goals as goal
 use Rattle.pg_schedule.proofs.pairs.races_by_pairs.Goals.{in-Some+in_ok-push, in_default}
 

@@ -2,13 +2,13 @@ use Rattle.std.proofs.Common.{◌+◌, refl, sym, ap, ap₂, ◌∙◌, false}
 use Rattle.std.specs.Prelude.{◌&&◌}
 use Rattle.std.specs.List.{find}
 use Rattle.pg_law_threads.specs.Intervals.{Timed, owners}
-use Rattle.pg_law_threads.proofs.Times.{did_times}
+use Rattle.pg_law_threads.proofs.TimedSteps.{did_times}
 use Rattle.pg_schedule.specs.Unordered.{timed_of}
 use Rattle.pg_run_trace.specs.Races as races
 use Rattle.pg_run_trace.specs.Steps.{range_of}
 use Rattle.pg_run_trace.specs.declared.step.Step.{Step}
 use Rattle.pg_schedule.specs.Links.{accesses_byte, head_at, is_unordered_at, lesser, linked}
-use Rattle.pg_schedule.proofs.Linked.{byte_first, first_of_byte, none_first}
+use Rattle.pg_schedule.proofs.ByteLinks.{byte_first, first_of_byte, none_first}
 use Rattle.pg_schedule.proofs.partners.first_at.Goals as goal
 
 pub loop-k-init : goal.loop-k-init

@@ -4,8 +4,8 @@ use Rattle.pg_schedule.specs.Unordered.{timed_of}
 use Rattle.pg_schedule.specs.declared.interval.Turns.TheVariants as turns
 use Rattle.pg_run_trace.specs.Races as races
 use Rattle.pg_schedule.specs.Links.{is_unordered_at, is_unordered_with, linked}
-use Rattle.pg_schedule.proofs.Steps.{intervals_length}
-use Rattle.pg_schedule.proofs.Linked.{linked_at, walk_end, walk_found, walk_missed}
+use Rattle.pg_schedule.proofs.NumberedSteps.{intervals_length}
+use Rattle.pg_schedule.proofs.ByteLinks.{linked_at, walk_end, walk_found, walk_missed}
 use Rattle.pg_schedule.proofs.partners.first_linked.Goals as goal
 
 pub timed-y-requires-clause-as_many : goal.timed-y-requires-clause-as_many

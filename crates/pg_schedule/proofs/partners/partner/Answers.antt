@@ -9,8 +9,8 @@ use Rattle.pg_run_trace.specs.Steps.{range_of}
 use Rattle.pg_run_trace.specs.declared.step.Step.{Step}
 use Rattle.pg_schedule.specs.Links.{accesses_byte}
 use Rattle.pg_schedule.specs.Partners.{partner_of}
-use Rattle.pg_schedule.proofs.Steps.{intervals_length}
-use Rattle.pg_schedule.proofs.Linked.{any_is_whole, none_first, none_is_unordered, same_first}
+use Rattle.pg_schedule.proofs.NumberedSteps.{intervals_length}
+use Rattle.pg_schedule.proofs.ByteLinks.{any_is_whole, none_first, none_is_unordered, same_first}
 use Rattle.pg_schedule.proofs.partners.partner.Goals as goal
 
 pub timed-x-requires-clause-as_many : goal.timed-x-requires-clause-as_many

@@ -2,7 +2,7 @@ use Rattle.std.proofs.Common.{◌∷◌, [], ◌++◌, sym, ap, ◌∙◌}
 use Rattle.pg_run_trace.specs.declared.step.Step.{Step}
 use Rattle.pg_run_trace.specs.Races.{reply_in, with_gated}
 use Rattle.pg_run_trace.specs.Steps.{event_of}
-use Rattle.pg_schedule.proofs.Chosen.{chosen_some, chosen_none}
+use Rattle.pg_schedule.proofs.ChosenSteps.{chosen_some, chosen_none}
 use Rattle.pg_schedule.proofs.schedule.turns.Goals as goal
 use Rattle.pg_schedule.proofs.schedule.turns.Goals.{in-Some+in_ok-push, in_default}
 

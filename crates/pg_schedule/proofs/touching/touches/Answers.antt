@@ -1,6 +1,6 @@
 use Rattle.std.proofs.Common.{◌∷◌, [], ◌++◌, length, arith, ap, ◌∙◌}
 use Rattle.pg_schedule.specs.Touching.{touch_for}
-use Rattle.pg_schedule.proofs.Earlier.{touched_all, touched_more}
+use Rattle.pg_schedule.proofs.UnorderedSearch.{touched_all, touched_more}
 use Rattle.pg_schedule.proofs.touching.touches.Goals as goal
 
 pub touch_for-requires : goal.touch_for-requires

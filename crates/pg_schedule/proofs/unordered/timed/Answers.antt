@@ -1,5 +1,5 @@
 use Rattle.pg_schedule.specs.Intervals.{view_of}
-use Rattle.pg_schedule.proofs.Positions.{timed_get}
+use Rattle.pg_schedule.proofs.StepPositions.{timed_get}
 use Rattle.pg_schedule.proofs.unordered.timed.Goals as goal
 
 pub returns : goal.returns

@@ -4,7 +4,7 @@ use Rattle.pg_cache.specs.Kept.{Kept}
 use Rattle.pg_session.specs.Progress.{Stands}
 use Rattle.pg_session.specs.Sessions.{Answers, admits_by, found}
 use Rattle.pg_session.specs.Views.{answer_of}
-use Rattle.pg_session.proofs.Kept.{on_err, search_stays}
+use Rattle.pg_session.proofs.KeptEntries.{on_err, search_stays}
 use Rattle.pg_session.proofs.answers.answer_to.Goals as goal
 
 pub reused-requires-clause-stands : goal.reused-requires-clause-stands

@@ -1,7 +1,7 @@
 use Rattle.std.proofs.Common.{◌∙◌, ap, sym, subst}
 use Rattle.std.specs.Option.{option_copied}
 use Rattle.pg_session.specs.Sessions.{IsEntryOf, admits_by}
-use Rattle.pg_session.proofs.Kept.{entry_of, kept_value, same_some, some_apart}
+use Rattle.pg_session.proofs.KeptEntries.{entry_of, kept_value, same_some, some_apart}
 use Rattle.pg_session.proofs.answers.reused.Goals as goal
 
 pub unreachable-requires : goal.unreachable-requires

@@ -1,6 +1,6 @@
 use Rattle.std.proofs.Common.{◌≡◌, ℤ, ◌+◌, List, [], ◌∷◌, ◌++◌, drop, sym, ap, ◌∙◌, subst, rules, Some, FitsSigned, w64, to_z-of_z}
 use Rattle.pg_session.specs.Lines.{number_of, numbers_of}
-use Rattle.pg_session.proofs.Numbers.{Told, to_end, told_blank, told_last, told_plain, words_some}
+use Rattle.pg_session.proofs.LineNumbers.{Told, to_end, told_blank, told_last, told_plain, words_some}
 use Rattle.pg_session.proofs.lines.numbers_of.Goals as goal
 use Rattle.pg_session.proofs.lines.numbers_of.Goals.{then-is_blank+in-Some+in_ok-push, else-is_blank}
 

@@ -1,4 +1,4 @@
-use Rattle.pg_session.proofs.Numbers.{Told}
+use Rattle.pg_session.proofs.LineNumbers.{Told}
 use Rattle.pg_session.proofs.lines.numbers_of.Given as goal
 
 abbrev pub invariant-loop-at : goal.invariant-loop-at

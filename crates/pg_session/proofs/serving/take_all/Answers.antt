@@ -1,7 +1,7 @@
 use Rattle.std.proofs.Common.{◌∙◌, arith, inr}
-use Rattle.pg_session.proofs.Ends.{all_of, all_of_full, answered_of, front_of, limit_of, taken_of}
-use Rattle.pg_session.proofs.Faults.{no_fault, no_faults, rose_from, same_count, same_fault, same_faults, takes_then, takes_within}
-use Rattle.pg_session.proofs.Taken.{not-fault}
+use Rattle.pg_session.proofs.WrittenSessions.{all_of, all_of_full, answered_of, front_of, limit_of, taken_of}
+use Rattle.pg_session.proofs.SessionEnds.{no_fault, no_faults, rose_from, same_count, same_fault, same_faults, takes_then, takes_within}
+use Rattle.pg_session.proofs.TakenBytes.{not-fault}
 use Rattle.pg_session.proofs.serving.take_all.Goals as goal
 
 -- a piece could not be taken

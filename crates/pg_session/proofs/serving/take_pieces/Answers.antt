@@ -1,7 +1,7 @@
 use Rattle.std.proofs.Common.{◌≡◌, ◌∙◌, ◌++◌, ap, arith, rules, drop, take, inr}
 use Rattle.std.proofs.lemmas.Grind.{common_steps}
-use Rattle.pg_session.proofs.Faults.{no_fault, no_limit, no_read, of_write, read_cuts_none, rose_from, write_count}
-use Rattle.pg_session.proofs.Taken.{far_begin, far_cut, far_ended, far_few, far_full, far_kept, far_line, far_more, far_read, far_stands, far_takes, none_taken, not-fault}
+use Rattle.pg_session.proofs.SessionEnds.{no_fault, no_limit, no_read, of_write, read_cuts_none, rose_from, write_count}
+use Rattle.pg_session.proofs.TakenBytes.{far_begin, far_cut, far_ended, far_few, far_full, far_kept, far_line, far_more, far_read, far_stands, far_takes, none_taken, not-fault}
 use Rattle.pg_session.proofs.serving.take_pieces.Goals as goal
 
 pub loop-taken-init : goal.loop-taken-init

@@ -1,7 +1,7 @@
 use Rattle.std.proofs.Common.{◌≡◌, ◌≤◌, ◌-◌}
 use Rattle.pg_num.specs.declared.limits.TheConstants.{SESSION_INPUT_LIMIT}
 use Rattle.pg_session.specs.Sessions.{admits_by}
-use Rattle.pg_session.proofs.Taken.{SoFar}
+use Rattle.pg_session.proofs.TakenBytes.{SoFar}
 use Rattle.pg_session.proofs.serving.take_pieces.Given as goal
 
 abbrev pub invariant-loop-taken : goal.invariant-loop-taken

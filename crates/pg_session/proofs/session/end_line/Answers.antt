@@ -1,4 +1,4 @@
-use Rattle.pg_session.proofs.Steps.{answered_reply, cut_reply, on_any_err}
+use Rattle.pg_session.proofs.SessionSteps.{answered_reply, cut_reply, on_any_err}
 use Rattle.pg_session.proofs.session.end_line.Goals as goal
 
 pub returns-in_err-write_all-clause-cut : goal.returns-in_err-write_all-clause-cut

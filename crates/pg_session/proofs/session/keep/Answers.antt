@@ -1,5 +1,5 @@
 use Rattle.std.proofs.Common.{◌∙◌, arith}
-use Rattle.pg_session.proofs.Steps.{keep_long, keep_short}
+use Rattle.pg_session.proofs.SessionSteps.{keep_long, keep_short}
 use Rattle.pg_session.proofs.session.keep.Goals as goal
 
 pub returns-in_ok-push : goal.returns-in_ok-push

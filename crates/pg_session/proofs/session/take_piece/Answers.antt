@@ -1,8 +1,8 @@
 use Rattle.std.proofs.Common.{◌≤◌, ◌+◌, ◌∙◌, ap, arith, get_or, length, length-take, subst, sym, take}
 use Rattle.pg_session.specs.Progress.{Stands}
-use Rattle.pg_session.proofs.Pieces.{begun_ended, begun_longer, byte_kept, inserted_within, keep_within, line_cut, line_ends, piece_cut, stands_answered}
-use Rattle.pg_session.proofs.Steps.{on_any_err}
-use Rattle.pg_session.proofs.Taken.{not-fault}
+use Rattle.pg_session.proofs.PieceBytes.{begun_ended, begun_longer, byte_kept, inserted_within, keep_within, line_cut, line_ends, piece_cut, stands_answered}
+use Rattle.pg_session.proofs.SessionSteps.{on_any_err}
+use Rattle.pg_session.proofs.TakenBytes.{not-fault}
 use Rattle.pg_session.proofs.session.take_piece.Goals.{then-byte-eq10+in_ok-end_line, else-byte-eq10+in_ok-keep}
 use Rattle.pg_session.proofs.session.take_piece.Goals as goal
 

@@ -1,7 +1,7 @@
 use Rattle.std.proofs.Common.{◌≡◌, ◌∙◌, ◌++◌, ap, codes}
 use Rattle.pg_session_trial.specs.declared.line.TheConstants.{TRIAL_LINES}
 use Rattle.pg_session.specs.Trials.{count_line, sum_line}
-use Rattle.pg_session.proofs.Tallies.{seven_joined}
+use Rattle.pg_session.proofs.TrialCounts.{seven_joined}
 use Rattle.pg_session.proofs.trials.counts_text.Goals as goal
 
 pub returns : goal.returns

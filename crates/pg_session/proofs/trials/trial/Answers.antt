@@ -6,7 +6,7 @@ use Rattle.pg_session.specs.Progress.{Stands}
 use Rattle.pg_session.specs.Sessions.{Answers, admits_by}
 use Rattle.pg_session.specs.Trials.{IsTrialText, counts_text}
 use Rattle.pg_session.specs.Views.{answer_of}
-use Rattle.pg_session.proofs.Tallies.{few_numbers, if_ok, tallied_all, tallied_more}
+use Rattle.pg_session.proofs.TrialCounts.{few_numbers, if_ok, tallied_all, tallied_more}
 use Rattle.pg_session.proofs.trials.trial.Goals as goal
 
 pub answer_to-requires-clause-few : goal.answer_to-requires-clause-few

@@ -1,6 +1,6 @@
 use Rattle.std.proofs.Common.{◌≡◌}
 use Rattle.pg_session.specs.Sessions.{admits_by}
-use Rattle.pg_session.proofs.Tallies.{Tallied}
+use Rattle.pg_session.proofs.TrialCounts.{Tallied}
 use Rattle.pg_session.proofs.trials.trial.Given as goal
 
 abbrev pub invariant-loop-i : goal.invariant-loop-i

@@ -1,5 +1,5 @@
 use Rattle.std.proofs.Common.{◌+◌, sym, subst}
-use Rattle.pg_session.proofs.Tallies.{Summed, summed_line, summed_plain}
+use Rattle.pg_session.proofs.TrialCounts.{Summed, summed_line, summed_plain}
 use Rattle.pg_session.proofs.trials.with_printed.Goals as goal
 use Rattle.pg_session.proofs.trials.with_printed.Goals.{then-output-at-eq10, else-output-at-eq10}
 

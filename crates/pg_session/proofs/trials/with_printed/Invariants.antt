@@ -1,4 +1,4 @@
-use Rattle.pg_session.proofs.Tallies.{Summed}
+use Rattle.pg_session.proofs.TrialCounts.{Summed}
 use Rattle.pg_session.proofs.trials.with_printed.Given as goal
 
 abbrev pub invariant-loop-at : goal.invariant-loop-at

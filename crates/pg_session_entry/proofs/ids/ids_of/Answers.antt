@@ -1,6 +1,6 @@
 use Rattle.std.proofs.Common.{◌∷◌, [], ◌++◌, sym, ap, ◌∙◌}
 use Rattle.pg_run_trace.specs.declared.step.Step.{Step}
-use Rattle.pg_session_entry.proofs.Lists.{one_more}
+use Rattle.pg_session_entry.proofs.MappedLists.{one_more}
 use Rattle.pg_session_entry.proofs.ids.ids_of.Goals as goal
 
 pub loop-i-preserved : goal.loop-i-preserved

@@ -1,5 +1,5 @@
 use Rattle.std.proofs.Common.{[]}
-use Rattle.pg_session_entry.proofs.Bounds.{races_within}
+use Rattle.pg_session_entry.proofs.RaceInstructions.{races_within}
 use Rattle.pg_session_entry.proofs.laws.races_are_at_instructions.Goals as goal
 
 pub returns : goal.returns

@@ -3,7 +3,7 @@ use Rattle.pg_num.specs.declared.limits.TheConstants.{RECORDING_STEP_LIMIT}
 use Rattle.pg_run_trace.specs.Races.{schedule_of}
 use Rattle.pg_run.specs.Guided.{guided_of}
 use Rattle.pg_law_order.specs.Schedules.{along}
-use Rattle.pg_session_entry.proofs.Followed.{along_fewer, follows}
+use Rattle.pg_session_entry.proofs.FollowedSchedules.{along_fewer, follows}
 use Rattle.pg_session_entry.proofs.laws.the_schedule_of_a_recorded_run_is_followed.Goals as goal
 
 pub returns : goal.returns

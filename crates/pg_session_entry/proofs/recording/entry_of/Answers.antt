@@ -7,7 +7,7 @@ use Rattle.pg_run_trace.specs.declared.turn.Race.{Race}
 use Rattle.pg_run_trace.specs.Races.{races_of, schedule_by, schedule_of}
 use Rattle.pg_run.specs.Guided.{guided_of}
 use Rattle.pg_run.specs.State.{exit_value_of}
-use Rattle.pg_session_entry.proofs.Serves.{along_made, made}
+use Rattle.pg_session_entry.proofs.EntryParts.{along_made, made}
 use Rattle.pg_session_entry.proofs.recording.entry_of.Goals as goal
 
 -- the schedule that is made of a trace's races, which are handed on

@@ -1,5 +1,5 @@
 use Rattle.pg_run.specs.Rotation.{rotation_of}
-use Rattle.pg_session_entry.proofs.Serves.{recorded_so, recording}
+use Rattle.pg_session_entry.proofs.EntryParts.{recorded_so, recording}
 use Rattle.pg_session_entry.proofs.recording.record.Goals as goal
 
 pub record_of-requires-clause-recording : goal.record_of-requires-clause-recording

@@ -3,7 +3,7 @@ use Rattle.pg_ir.specs.declared.ids.InstrId.{InstrId}
 use Rattle.pg_slice_rules.specs.Sets.{taken}
 use Rattle.pg_law_reference.specs.Sliceable.{CanBeSliced}
 use Rattle.pg_session_entry.specs.Entries.{IsSliced}
-use Rattle.pg_session_entry.proofs.Serves.{serves}
+use Rattle.pg_session_entry.proofs.EntryParts.{serves}
 use Rattle.pg_session_entry.proofs.reference.entry_along.Goals as goal
 
 pub sliced-requires-clause-can : goal.sliced-requires-clause-can

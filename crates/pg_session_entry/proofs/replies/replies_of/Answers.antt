@@ -1,7 +1,7 @@
 use Rattle.std.proofs.Common.{◌∷◌, [], ◌++◌, sym, ap, ◌∙◌}
 use Rattle.pg_run_trace.specs.declared.step.Step.{Step}
 use Rattle.pg_run_trace.specs.Races.{reply_in}
-use Rattle.pg_session_entry.proofs.Lists.{chosen_some, chosen_none}
+use Rattle.pg_session_entry.proofs.MappedLists.{chosen_some, chosen_none}
 use Rattle.pg_session_entry.proofs.replies.replies_of.Goals as goal
 use Rattle.pg_session_entry.proofs.replies.replies_of.Goals.{in-Some+in_ok-push, in_default}
 

@@ -2,7 +2,7 @@ use Rattle.std.proofs.Common.{◌<◌, ◌∙◌, List, length, subst, sym}
 use Rattle.std.specs.Prelude.{All}
 use Rattle.pg_ir.specs.declared.ids.InstrId.{InstrId}
 use Rattle.pg_run.specs.Follow.{Exits}
-use Rattle.pg_session_entry.proofs.Serves.{exits_along}
+use Rattle.pg_session_entry.proofs.EntryParts.{exits_along}
 use Rattle.pg_session_entry.proofs.turns.from_turns.Goals as goal
 
 pub entry_along-requires-clause-gated : goal.entry_along-requires-clause-gated

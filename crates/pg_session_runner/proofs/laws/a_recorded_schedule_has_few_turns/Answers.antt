@@ -1,5 +1,5 @@
 use Rattle.pg_run.specs.Rotation.{rotation_of}
-use Rattle.pg_session_runner.proofs.Turns.{few_turns}
+use Rattle.pg_session_runner.proofs.TurnCounts.{few_turns}
 use Rattle.pg_session_runner.proofs.laws.a_recorded_schedule_has_few_turns.Goals as goal
 
 pub returns : goal.returns

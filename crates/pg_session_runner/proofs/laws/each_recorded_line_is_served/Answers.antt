@@ -1,4 +1,4 @@
-use Rattle.pg_session_runner.proofs.Recordings.{line_is_served}
+use Rattle.pg_session_runner.proofs.RecordedLines.{line_is_served}
 use Rattle.pg_session_runner.proofs.laws.each_recorded_line_is_served.Goals as goal
 
 pub returns : goal.returns

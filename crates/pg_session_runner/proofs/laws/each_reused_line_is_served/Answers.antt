@@ -1,4 +1,4 @@
-use Rattle.pg_session_runner.proofs.Lines.{line_is_served}
+use Rattle.pg_session_runner.proofs.ReusedLines.{line_is_served}
 use Rattle.pg_session_runner.proofs.laws.each_reused_line_is_served.Goals as goal
 
 pub returns : goal.returns

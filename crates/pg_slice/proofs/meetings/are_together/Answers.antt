@@ -1,7 +1,7 @@
 use Rattle.std.proofs.Common.{sym, ◌∙◌, arith}
-use Rattle.pg_law_demands.proofs.Steps.{eq_false}
-use Rattle.pg_slice_passes.proofs.Passing.{intervals_length}
-use Rattle.pg_slice.proofs.Timing.{are_together}
+use Rattle.pg_law_demands.proofs.DemandsBack.{eq_false}
+use Rattle.pg_slice_passes.proofs.OneStepMore.{intervals_length}
+use Rattle.pg_slice.proofs.TimedSteps.{are_together}
 use Rattle.pg_slice.proofs.meetings.are_together.Goals as goal
 
 pub interval_at-i-requires : goal.interval_at-i-requires

@@ -3,8 +3,8 @@ use Rattle.pg_run_trace.specs.Steps.{access_of}
 use Rattle.pg_slice_rules.specs.Rules.{any_conflict, footprint_of, footprints_in}
 use Rattle.pg_slice_replay.specs.Kept.{landmark_at}
 use Rattle.pg_slice_replay.specs.Landmarks.{Landmark}
-use Rattle.pg_slice.proofs.Timing.{disturbs_by}
-use Rattle.pg_slice.proofs.Spreading.{both_some}
+use Rattle.pg_slice.proofs.TimedSteps.{disturbs_by}
+use Rattle.pg_slice.proofs.MoreDecisions.{both_some}
 use Rattle.pg_slice.proofs.meetings.disturbs.Goals as goal
 
 pub returns : goal.returns

@@ -1,5 +1,5 @@
 use Rattle.std.proofs.Common.{sym, ◌∙◌}
-use Rattle.pg_slice.proofs.Timing.{shares_by}
+use Rattle.pg_slice.proofs.TimedSteps.{shares_by}
 use Rattle.pg_slice.proofs.meetings.shares.Goals as goal
 
 pub returns : goal.returns

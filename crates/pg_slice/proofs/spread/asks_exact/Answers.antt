@@ -2,8 +2,8 @@ use Rattle.std.proofs.Common.{◌≡◌, ◌<◌, false, true, length, sym, subs
 use Rattle.std.specs.Prelude.{slice_index_or}
 use Rattle.pg_slice_decisions.specs.Steps.{taken_by}
 use Rattle.pg_slice.specs.Settled.{AreLive, Shares}
-use Rattle.pg_slice.proofs.Spreading.{some_of}
-use Rattle.pg_slice.proofs.Timing.{exact_by}
+use Rattle.pg_slice.proofs.MoreDecisions.{some_of}
+use Rattle.pg_slice.proofs.TimedSteps.{exact_by}
 use Rattle.pg_slice.proofs.spread.asks_exact.Goals as goal
 
 pub returns-in-Some : goal.returns-in-Some

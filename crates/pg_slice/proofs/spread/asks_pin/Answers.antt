@@ -4,8 +4,8 @@ use Rattle.pg_slice_decisions.specs.Steps.{taken_by}
 use Rattle.pg_slice_replay.specs.Kept.{landmark_at}
 use Rattle.pg_slice_replay.specs.Landmarks.{Landmark}
 use Rattle.pg_slice.specs.Settled.{AreLive, Disturbs}
-use Rattle.pg_slice.proofs.Spreading.{some_of}
-use Rattle.pg_slice.proofs.Timing.{owed_bound, pin_by}
+use Rattle.pg_slice.proofs.MoreDecisions.{some_of}
+use Rattle.pg_slice.proofs.TimedSteps.{owed_bound, pin_by}
 use Rattle.pg_slice.proofs.spread.asks_pin.Goals as goal
 
 pub returns-then-not-is_free : goal.returns-then-not-is_free

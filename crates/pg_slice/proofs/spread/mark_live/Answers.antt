@@ -1,4 +1,4 @@
-use Rattle.pg_slice.proofs.Spreading.{live_set}
+use Rattle.pg_slice.proofs.MoreDecisions.{live_set}
 use Rattle.pg_slice.proofs.spread.mark_live.Goals as goal
 
 pub returns-clause-live : goal.returns-clause-live

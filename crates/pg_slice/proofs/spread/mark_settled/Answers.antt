@@ -1,6 +1,6 @@
 use Rattle.std.proofs.Common.{sym, ◌∙◌}
 use Rattle.pg_slice_decisions.specs.Steps.{taken_by}
-use Rattle.pg_slice_walk.proofs.Pinned.{settled_set}
+use Rattle.pg_slice_walk.proofs.SettledWithMore.{settled_set}
 use Rattle.pg_slice.proofs.spread.mark_settled.Goals as goal
 
 pub returns-then-is_pinned-clause-settled : goal.returns-then-is_pinned-clause-settled

@@ -1,6 +1,6 @@
 use Rattle.std.proofs.Common.{arith}
 use Rattle.pg_slice_decisions.specs.Steps.{taken_by}
-use Rattle.pg_slice.proofs.Spreading.{widens_none, widens_then}
+use Rattle.pg_slice.proofs.MoreDecisions.{widens_none, widens_then}
 use Rattle.pg_slice.proofs.spread.spread_along.Goals as goal
 
 pub loop-n-init : goal.loop-n-init

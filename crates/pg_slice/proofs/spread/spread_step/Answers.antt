@@ -3,8 +3,8 @@ use Rattle.std.specs.Prelude.{slice_index_or}
 use Rattle.pg_slice_decisions.specs.Steps.{taken_by}
 use Rattle.pg_slice.specs.Settled.{AreLive}
 use Rattle.pg_slice_walk.specs.Settled.{ArePinned, AreSettled}
-use Rattle.pg_slice.proofs.Spreading.{live_stays}
-use Rattle.pg_slice_walk.proofs.Pinned.{pinned_more, settled_stays}
+use Rattle.pg_slice.proofs.MoreDecisions.{live_stays}
+use Rattle.pg_slice_walk.proofs.SettledWithMore.{pinned_more, settled_stays}
 use Rattle.pg_slice.proofs.spread.spread_step.Goals as goal
 
 pub take_asked-requires-clause-asked : goal.take_asked-requires-clause-asked

@@ -1,5 +1,5 @@
-use Rattle.pg_slice.proofs.Spreading.{none_live}
-use Rattle.pg_slice_walk.proofs.Pinned.{none_settled}
+use Rattle.pg_slice.proofs.MoreDecisions.{none_live}
+use Rattle.pg_slice_walk.proofs.SettledWithMore.{none_settled}
 use Rattle.pg_slice.proofs.spread.start.Goals as goal
 
 pub returns-clause-live : goal.returns-clause-live

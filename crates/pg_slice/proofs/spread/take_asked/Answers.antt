@@ -1,7 +1,7 @@
 use Rattle.std.specs.Prelude.{slice_index_or}
 use Rattle.pg_slice_decisions.specs.Steps.{taken_by}
-use Rattle.pg_slice.proofs.Spreading.{live_stays}
-use Rattle.pg_slice_walk.proofs.Pinned.{pinned_more}
+use Rattle.pg_slice.proofs.MoreDecisions.{live_stays}
+use Rattle.pg_slice_walk.proofs.SettledWithMore.{pinned_more}
 use Rattle.pg_slice.proofs.spread.take_asked.Goals as goal
 
 pub asks_exact-exact-requires : goal.asks_exact-exact-requires

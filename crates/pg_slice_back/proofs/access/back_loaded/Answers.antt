@@ -1,6 +1,6 @@
 use Rattle.pg_law_demands.specs.Back.{is_target}
 use Rattle.pg_slice_back.specs.Leaves.{none}
-use Rattle.pg_slice_back.proofs.Meets.{without_met}
+use Rattle.pg_slice_back.proofs.NeedsBackOverSteps.{without_met}
 use Rattle.pg_slice_back.proofs.access.back_loaded.Goals as goal
 
 pub returns-in_ok-put_bytes-in-Some-clause-met : goal.returns-in_ok-put_bytes-in-Some-clause-met

@@ -3,7 +3,7 @@ use Rattle.pg_slice_rules.specs.Shadows.{is_within}
 use Rattle.pg_run_trace.specs.Steps.{range_of}
 use Rattle.pg_slice_back.specs.Bytes.{is_in}
 use Rattle.pg_slice_back.specs.Leaves.{none}
-use Rattle.pg_slice_back.proofs.Meets.{leaves_like}
+use Rattle.pg_slice_back.proofs.NeedsBackOverSteps.{leaves_like}
 use Rattle.pg_slice_back.proofs.access.back_store.Goals as goal
 
 pub returns-clause-met : goal.returns-clause-met

@@ -1,6 +1,6 @@
 use Rattle.pg_slice_back.specs.Bytes.{is_in}
 use Rattle.pg_slice_back.specs.Leaves.{none}
-use Rattle.pg_slice_back.proofs.Meets.{cleared, in_is, none_stored, without_met}
+use Rattle.pg_slice_back.proofs.NeedsBackOverSteps.{cleared, in_is, none_stored, without_met}
 use Rattle.pg_slice_back.proofs.access.back_stored.Goals as goal
 
 pub returns-in_ok-put_value-in-Some : goal.returns-in_ok-put_value-in-Some

@@ -1,5 +1,5 @@
 use Rattle.std.proofs.Common.{◌+◌, arith}
-use Rattle.pg_slice_back.proofs.Meets.{byte_met, byte_of}
+use Rattle.pg_slice_back.proofs.NeedsBackOverSteps.{byte_met, byte_of}
 use Rattle.pg_slice_back.proofs.access.put_bytes.Goals as goal
 
 pub loop-i-preserved : goal.loop-i-preserved

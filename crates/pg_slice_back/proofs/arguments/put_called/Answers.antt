@@ -1,7 +1,7 @@
 use Rattle.std.proofs.Common.{List, sym, ◌∙◌, subst}
 use Rattle.std.specs.List.{AllByRecursion}
 use Rattle.pg_law_demands.specs.Cells.{Demand, IsMet}
-use Rattle.pg_slice_back.proofs.Asking.{called}
+use Rattle.pg_slice_back.proofs.EventOperands.{called}
 use Rattle.pg_slice_back.proofs.arguments.put_called.Goals as goal
 
 pub returns : goal.returns

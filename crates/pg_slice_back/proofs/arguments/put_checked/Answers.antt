@@ -2,8 +2,8 @@ use Rattle.std.proofs.Common.{true, arith}
 use Rattle.pg_slice_rules.specs.Rules.{checked_of}
 use Rattle.pg_law_demands.specs.Cells.{IsMet}
 use Rattle.pg_law_demands.specs.Demands.{operand_demands}
-use Rattle.pg_slice_back.proofs.Asking.{number_in, operand_there}
-use Rattle.pg_slice_back.proofs.Meets.{each_of}
+use Rattle.pg_slice_back.proofs.EventOperands.{number_in, operand_there}
+use Rattle.pg_slice_back.proofs.NeedsBackOverSteps.{each_of}
 use Rattle.pg_slice_back.proofs.arguments.put_checked.Goals as goal
 
 pub loop-i-preserved : goal.loop-i-preserved

@@ -1,7 +1,7 @@
 use Rattle.pg_run_trace.specs.Steps.{access_by}
 use Rattle.pg_law_demands.specs.Cells.{IsMet}
 use Rattle.pg_law_demands.specs.Demands.{checked_demands, write_demands}
-use Rattle.pg_slice_back.proofs.Meets.{all_left, all_right}
+use Rattle.pg_slice_back.proofs.NeedsBackOverSteps.{all_left, all_right}
 use Rattle.pg_slice_back.proofs.arguments.put_event.Goals as goal
 
 pub returns : goal.returns

@@ -6,7 +6,7 @@ use Rattle.pg_run_trace.specs.Steps.{access_by}
 use Rattle.pg_law_demands.specs.Demands.{write_demands}
 use Rattle.pg_law_demands.specs.Back.{of_operand}
 use Rattle.pg_slice_rules.specs.Rules.{write_index}
-use Rattle.pg_slice_back.proofs.Asking.{operand_there}
+use Rattle.pg_slice_back.proofs.EventOperands.{operand_there}
 use Rattle.pg_slice_back.proofs.arguments.put_written.Goals as goal
 
 pub returns-in_ok-put_argument-in-Some : goal.returns-in_ok-put_argument-in-Some

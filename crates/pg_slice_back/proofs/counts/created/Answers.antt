@@ -1,5 +1,5 @@
 use Rattle.std.proofs.Common.{arith}
-use Rattle.pg_slice_back.proofs.Stacking.{no_types}
+use Rattle.pg_slice_back.proofs.ThreadRegisterCounts.{no_types}
 use Rattle.pg_slice_back.proofs.counts.created.Goals as goal
 
 pub returns-else-f-function_count : goal.returns-else-f-function_count

@@ -1,7 +1,7 @@
 use Rattle.std.proofs.Common.{◌≡◌, ℕ, suc, ◌∷◌, [], List, length, ap, sym, ◌∙◌, subst}
 use Rattle.pg_slice_back.specs.declared.counts.Held.{Held}
 use Rattle.pg_slice_back.specs.Stacks.{IsStack}
-use Rattle.pg_slice_back.proofs.Stacking.{long_push, stack_more, stack_push}
+use Rattle.pg_slice_back.proofs.ThreadRegisterCounts.{long_push, stack_more, stack_push}
 use Rattle.pg_slice_back.proofs.counts.push.Goals as goal
 
 pub returns-clause-stack : goal.returns-clause-stack

@@ -2,7 +2,7 @@ use Rattle.std.proofs.Common.{ℕ, ◌-◌, ◌≤◌, [], Option, length, refl,
 use Rattle.std.specs.Prelude.{slice_index_or}
 use Rattle.pg_slice_back.specs.Lens.{lens_some}
 use Rattle.pg_slice_back.specs.Stacks.{IsStack}
-use Rattle.pg_slice_back.proofs.Stacking.{made_stack}
+use Rattle.pg_slice_back.proofs.ThreadRegisterCounts.{made_stack}
 use Rattle.pg_slice_back.proofs.counts.push_made.Goals as goal
 
 pub returns-in_ok-push-in-Some-clause-made : goal.returns-in_ok-push-in-Some-clause-made

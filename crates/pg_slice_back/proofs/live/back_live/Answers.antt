@@ -4,7 +4,7 @@ use Rattle.pg_slice_decisions.specs.Steps.{AreOf, step_of, taken_by}
 use Rattle.pg_slice_rules.specs.declared.decision.Decision.{Decision}
 use Rattle.pg_slice_replay.specs.Landmarks.{landmark_of}
 use Rattle.pg_law_demands.specs.Along.{known_at}
-use Rattle.pg_law_demands.proofs.Back.{seen_with}
+use Rattle.pg_law_demands.proofs.StepBack.{seen_with}
 use Rattle.pg_slice_back.proofs.Dispatch.{call_is, landmark_is, own_met, region_met}
 use Rattle.pg_slice_back.proofs.live.back_live.Goals as goal
 

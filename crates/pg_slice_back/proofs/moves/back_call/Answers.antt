@@ -3,7 +3,7 @@ use Rattle.pg_law_demands.specs.Back.{is_target}
 use Rattle.pg_slice_back.specs.declared.moves.Wanted.{Wanted}
 use Rattle.pg_slice_back.specs.Leaves.{none}
 use Rattle.pg_slice_back.specs.Wanted.{AreWanted}
-use Rattle.pg_slice_back.proofs.Meets.{less_met, without_met}
+use Rattle.pg_slice_back.proofs.NeedsBackOverSteps.{less_met, without_met}
 use Rattle.pg_slice_back.proofs.moves.back_call.Goals as goal
 
 pub returns : goal.returns

@@ -1,6 +1,6 @@
 use Rattle.pg_law_demands.specs.Back.{is_target}
 use Rattle.pg_slice_back.specs.Leaves.{none}
-use Rattle.pg_slice_back.proofs.Meets.{without_met}
+use Rattle.pg_slice_back.proofs.NeedsBackOverSteps.{without_met}
 use Rattle.pg_slice_back.proofs.moves.back_result.Goals as goal
 
 pub returns-in_ok-put_operands-in-Some : goal.returns-in_ok-put_operands-in-Some

@@ -1,7 +1,7 @@
 use Rattle.std.proofs.Common.{◌-◌}
 use Rattle.pg_law_demands.specs.Back.{is_target}
 use Rattle.pg_slice_back.specs.Leaves.{none}
-use Rattle.pg_slice_back.proofs.Meets.{without_met}
+use Rattle.pg_slice_back.proofs.NeedsBackOverSteps.{without_met}
 use Rattle.pg_slice_back.proofs.moves.back_return.Goals as goal
 
 pub returns-in_ok-put_optional-in-Some : goal.returns-in_ok-put_optional-in-Some

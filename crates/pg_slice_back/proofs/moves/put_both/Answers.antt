@@ -2,7 +2,7 @@ use Rattle.std.proofs.Common.{true}
 use Rattle.pg_law_demands.specs.Cells.{IsMet}
 use Rattle.pg_law_demands.specs.Back.{of_value, of_values}
 use Rattle.pg_slice_back.specs.Made.{index_values}
-use Rattle.pg_slice_back.proofs.Meets.{all_left, all_right}
+use Rattle.pg_slice_back.proofs.NeedsBackOverSteps.{all_left, all_right}
 use Rattle.pg_slice_back.proofs.moves.put_both.Goals as goal
 
 pub returns : goal.returns

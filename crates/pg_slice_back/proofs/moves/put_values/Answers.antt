@@ -1,7 +1,7 @@
 use Rattle.std.proofs.Common.{true}
 use Rattle.pg_law_demands.specs.Cells.{IsMet}
 use Rattle.pg_law_demands.specs.Back.{of_value}
-use Rattle.pg_slice_back.proofs.Meets.{each_of}
+use Rattle.pg_slice_back.proofs.NeedsBackOverSteps.{each_of}
 use Rattle.pg_slice_back.proofs.moves.put_values.Goals as goal
 
 pub loop-i-preserved : goal.loop-i-preserved

@@ -2,7 +2,7 @@ use Rattle.std.specs.List.{AllByRecursion}
 use Rattle.pg_law_demands.specs.Cells.{IsMet}
 use Rattle.pg_law_demands.specs.Back.{of_value}
 use Rattle.pg_slice_back.specs.declared.moves.Wanted.{Wanted}
-use Rattle.pg_slice_back.proofs.Meets.{one_of_all}
+use Rattle.pg_slice_back.proofs.NeedsBackOverSteps.{one_of_all}
 use Rattle.pg_slice_back.proofs.moves.put_wanted.Goals as goal
 
 pub loop-i-preserved : goal.loop-i-preserved

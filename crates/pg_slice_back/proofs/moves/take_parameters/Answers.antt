@@ -1,4 +1,4 @@
-use Rattle.pg_slice_back.proofs.Meets.{less_met, less_then}
+use Rattle.pg_slice_back.proofs.NeedsBackOverSteps.{less_met, less_then}
 use Rattle.pg_slice_back.proofs.moves.take_parameters.Goals as goal
 
 pub loop-i-preserved : goal.loop-i-preserved

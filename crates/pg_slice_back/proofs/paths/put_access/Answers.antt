@@ -5,7 +5,7 @@ use Rattle.pg_region_paths.specs.Paths.{offsets_of}
 use Rattle.pg_law_demands.specs.Cells.{IsMet}
 use Rattle.pg_law_demands.specs.Demands.{root_demands}
 use Rattle.pg_slice_back.specs.Cells.{AreCellsMet}
-use Rattle.pg_slice_back.proofs.Following.{path_cells, path_root}
+use Rattle.pg_slice_back.proofs.RegionPathNeeds.{path_cells, path_root}
 use Rattle.pg_slice_back.proofs.paths.put_access.Goals as goal
 
 pub returns : goal.returns

@@ -1,8 +1,8 @@
 use Rattle.pg_slice_replay.specs.Given.{access_as}
 use Rattle.pg_law_demands.specs.Cells.{IsMet}
 use Rattle.pg_law_demands.specs.Demands.{free_access_demands}
-use Rattle.pg_slice_back.proofs.Meets.{each_of}
-use Rattle.pg_slice_back.proofs.Following.{got_access}
+use Rattle.pg_slice_back.proofs.NeedsBackOverSteps.{each_of}
+use Rattle.pg_slice_back.proofs.RegionPathNeeds.{got_access}
 use Rattle.pg_slice_back.proofs.paths.put_one.Goals as goal
 
 pub returns-in-Some : goal.returns-in-Some

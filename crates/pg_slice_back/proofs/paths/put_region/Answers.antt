@@ -3,7 +3,7 @@ use Rattle.std.specs.List.{AllByRecursion}
 use Rattle.pg_slice_rules.specs.Freeable.{FreeRegion}
 use Rattle.pg_law_demands.specs.Cells.{IsMet}
 use Rattle.pg_law_demands.specs.Demands.{region_demands}
-use Rattle.pg_slice_back.proofs.Following.{region_there}
+use Rattle.pg_slice_back.proofs.RegionPathNeeds.{region_there}
 use Rattle.pg_slice_back.proofs.paths.put_region.Goals as goal
 
 pub loop-k-preserved : goal.loop-k-preserved

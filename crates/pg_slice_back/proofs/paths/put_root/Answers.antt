@@ -1,5 +1,5 @@
-use Rattle.pg_slice_back.proofs.Meets.{register_met}
-use Rattle.pg_slice_back.proofs.Following.{root_is}
+use Rattle.pg_slice_back.proofs.NeedsBackOverSteps.{register_met}
+use Rattle.pg_slice_back.proofs.RegionPathNeeds.{root_is}
 use Rattle.pg_slice_back.proofs.paths.put_root.Goals as goal
 
 pub returns-in_ok-put_register-in-Register : goal.returns-in_ok-put_register-in-Register

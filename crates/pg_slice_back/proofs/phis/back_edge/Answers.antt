@@ -5,7 +5,7 @@ use Rattle.pg_law_demands.specs.Cells.{IsMet}
 use Rattle.pg_law_demands.specs.Back.{back_edge}
 use Rattle.pg_slice_back.specs.Edges.{edge_sets, phis_set}
 use Rattle.pg_slice_back.specs.Leaves.{Leaves, none}
-use Rattle.pg_slice_back.proofs.Entering.{edge_phis}
+use Rattle.pg_slice_back.proofs.EnteredPhis.{edge_phis}
 use Rattle.pg_slice_back.proofs.phis.back_edge.Goals as goal
 
 pub returns-in_ok-back_phis-in-Some : goal.returns-in_ok-back_phis-in-Some

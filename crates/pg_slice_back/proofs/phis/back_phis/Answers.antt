@@ -4,9 +4,9 @@ use Rattle.pg_slice_back.specs.declared.moves.Wanted.{Wanted}
 use Rattle.pg_slice_back.specs.Edges.{phis_set}
 use Rattle.pg_slice_back.specs.Leaves.{Without, none}
 use Rattle.pg_slice_back.specs.Wanted.{AreWanted}
-use Rattle.pg_slice_back.proofs.Accesses.{target_is}
-use Rattle.pg_slice_back.proofs.Entering.{not_removed, set_more, this_last, without_both}
-use Rattle.pg_slice_back.proofs.Meets.{without_met}
+use Rattle.pg_slice_back.proofs.LiveAccesses.{target_is}
+use Rattle.pg_slice_back.proofs.EnteredPhis.{not_removed, set_more, this_last, without_both}
+use Rattle.pg_slice_back.proofs.NeedsBackOverSteps.{without_met}
 use Rattle.pg_slice_back.proofs.phis.back_phis.Goals as goal
 
 pub loop-j-preserved : goal.loop-j-preserved

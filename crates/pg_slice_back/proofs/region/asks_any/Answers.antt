@@ -1,6 +1,6 @@
 use Rattle.std.proofs.Common.{false}
 use Rattle.pg_slice_replay.specs.Kept.{landmark_at}
-use Rattle.pg_slice_back.proofs.Regions.{few_next, few_none, none_written, silent}
+use Rattle.pg_slice_back.proofs.RegionWrites.{few_next, few_none, none_written, silent}
 use Rattle.pg_slice_back.proofs.region.asks_any.Goals as goal
 
 pub loop-k-init : goal.loop-k-init

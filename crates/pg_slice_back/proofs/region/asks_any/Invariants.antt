@@ -1,5 +1,5 @@
 use Rattle.pg_slice_replay.specs.Kept.{landmark_at}
-use Rattle.pg_slice_back.proofs.Regions.{FewAsked}
+use Rattle.pg_slice_back.proofs.RegionWrites.{FewAsked}
 use Rattle.pg_slice_back.proofs.region.asks_any.Given as goal
 
 abbrev pub invariant-loop-k : goal.invariant-loop-k

@@ -1,6 +1,6 @@
 use Rattle.std.proofs.Common.{◌-◌}
 use Rattle.pg_region_accesses.specs.Tables.{in_table}
-use Rattle.pg_slice_back.proofs.Regions.{Unasked}
+use Rattle.pg_slice_back.proofs.RegionWrites.{Unasked}
 use Rattle.pg_slice_back.proofs.region.asks_marked.Given as goal
 
 abbrev pub invariant-loop-register : goal.invariant-loop-register

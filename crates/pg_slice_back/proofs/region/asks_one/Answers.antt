@@ -1,4 +1,4 @@
-use Rattle.pg_slice_back.proofs.Regions.{none_asks, one_asks}
+use Rattle.pg_slice_back.proofs.RegionWrites.{none_asks, one_asks}
 use Rattle.pg_slice_back.proofs.region.asks_one.Goals as goal
 
 pub returns-in-Some-clause-some : goal.returns-in-Some-clause-some

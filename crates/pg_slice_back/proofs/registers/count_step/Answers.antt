@@ -4,7 +4,7 @@ use Rattle.pg_run_trace.specs.declared.step.Step.{Step}
 use Rattle.pg_law_demands.specs.Along.{known_at}
 use Rattle.pg_slice_back.specs.Counted.{AreCountsOf}
 use Rattle.pg_slice_back.specs.Stacks.{AreStacks}
-use Rattle.pg_slice_back.proofs.Counting.{begun_at, counted_more, next_is}
+use Rattle.pg_slice_back.proofs.RegisterCounts.{begun_at, counted_more, next_is}
 use Rattle.pg_slice_back.proofs.registers.count_step.Goals as goal
 
 pub returns-clause-counted : goal.returns-clause-counted

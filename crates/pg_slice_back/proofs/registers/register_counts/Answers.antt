@@ -4,12 +4,12 @@ use Rattle.pg_run_trace.specs.declared.step.Step.{Step}
 use Rattle.pg_slice_rules.specs.Moments.{instr_in}
 use Rattle.pg_law_least.specs.Keeps.{every}
 use Rattle.pg_slice_passes.specs.Given.{reference_of}
-use Rattle.pg_slice_passes.proofs.Meeting.{as_many}
+use Rattle.pg_slice_passes.proofs.AllAsked.{as_many}
 use Rattle.pg_law_demands.specs.Along.{known_at}
 use Rattle.pg_slice_back.specs.declared.registers.Counts.{Counts}
 use Rattle.pg_slice_back.specs.Counted.{AreCountedTo}
 use Rattle.pg_slice_back.specs.Stacks.{AreStacks}
-use Rattle.pg_slice_back.proofs.Counting.{all_counted, first_known, has_at, none_counted, step_fits}
+use Rattle.pg_slice_back.proofs.RegisterCounts.{all_counted, first_known, has_at, none_counted, step_fits}
 use Rattle.pg_slice_back.proofs.registers.register_counts.Goals as goal
 
 pub instr-requires : goal.instr-requires

@@ -1,10 +1,10 @@
 use Rattle.std.proofs.Common.{◌≡◌, ◌+◌, suc, arith, length, sym, subst}
 use Rattle.pg_slice_rules.specs.Rules.{path_needs}
 use Rattle.pg_slice_values.specs.Sources.{shadow_by}
-use Rattle.pg_slice_values.proofs.Grows.{grew_length, grew_then, source_more}
+use Rattle.pg_slice_values.proofs.GrowingNodes.{grew_length, grew_then, source_more}
 use Rattle.pg_slice_memory.specs.Changes.{shadows_of}
 use Rattle.pg_slice_checks.specs.Asks.{Adds}
-use Rattle.pg_slice_checks.proofs.Paths.{loads_more, path_ends, sources_more}
+use Rattle.pg_slice_checks.proofs.PathLoads.{loads_more, path_ends, sources_more}
 use Rattle.pg_slice_checks.proofs.path.path_needs.Goals as goal
 
 pub loop-i-preserved : goal.loop-i-preserved

@@ -2,7 +2,7 @@ use Rattle.std.proofs.Common.{map, ◌∙◌, sym, ap}
 use Rattle.pg_run_trace.specs.Steps.{access_in}
 use Rattle.pg_slice_values.specs.Sources.{shadow_by}
 use Rattle.pg_slice_checks.specs.Steps.{access_index, at}
-use Rattle.pg_slice_checks.proofs.Tests.{bounds_of_access}
+use Rattle.pg_slice_checks.proofs.AskedByCases.{bounds_of_access}
 use Rattle.pg_slice_checks.proofs.step.bounds_needs.Goals as goal
 
 pub returns-in_ok-need_bounds : goal.returns-in_ok-need_bounds

@@ -3,7 +3,7 @@ use Rattle.pg_precondition.specs.declared.check.Test.TheVariants as test
 use Rattle.pg_slice_rules.specs.Rules.{Value, edge_tests, is_case}
 use Rattle.pg_slice_values.specs.Sources.{shadow_by}
 use Rattle.pg_slice_checks.specs.Asks.{Adds}
-use Rattle.pg_slice_checks.proofs.Tests.{case_tests, default_tests, other_tests}
+use Rattle.pg_slice_checks.proofs.AskedByCases.{case_tests, default_tests, other_tests}
 use Rattle.pg_slice_checks.proofs.step.branch_needs.Goals as goal
 use Rattle.pg_slice_checks.proofs.step.branch_needs.Goals.{in-Switch+else-not-is_case, in_default}
 

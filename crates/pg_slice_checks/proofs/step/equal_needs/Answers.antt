@@ -4,8 +4,8 @@ use Rattle.pg_slice_rules.specs.Rules.{Value}
 use Rattle.pg_slice_values.specs.Sources.{shadow_by}
 use Rattle.pg_slice_checks.specs.Asks.{Adds}
 use Rattle.pg_slice_checks.specs.Steps.{at, below, equal_needs}
-use Rattle.pg_slice_checks.proofs.Added.{adds_then}
-use Rattle.pg_slice_checks.proofs.Events.{below_more}
+use Rattle.pg_slice_checks.proofs.OneNeedMore.{adds_then}
+use Rattle.pg_slice_checks.proofs.EventOperands.{below_more}
 use Rattle.pg_slice_checks.proofs.step.equal_needs.Goals as goal
 
 pub loop-k-preserved : goal.loop-k-preserved

@@ -2,7 +2,7 @@ use Rattle.std.proofs.Common.{map, ap, subst, sym, ◌∙◌}
 use Rattle.pg_slice_values.specs.Sources.{shadow_by}
 use Rattle.pg_slice_checks.specs.Asks.{Adds}
 use Rattle.pg_slice_checks.specs.Steps.{equal_needs}
-use Rattle.pg_slice_checks.proofs.Events.{enough, event_by, few}
+use Rattle.pg_slice_checks.proofs.EventOperands.{enough, event_by, few}
 use Rattle.pg_slice_checks.proofs.step.event_needs.Goals as goal
 
 pub equal_needs-requires-clause-few : goal.equal_needs-requires-clause-few

@@ -1,7 +1,7 @@
 use Rattle.std.proofs.Common.{map}
 use Rattle.pg_slice_values.specs.Sources.{shadow_by}
 use Rattle.pg_slice_checks.specs.Steps.{bounds_needs, value_needs}
-use Rattle.pg_slice_checks.proofs.Added.{adds_then}
+use Rattle.pg_slice_checks.proofs.OneNeedMore.{adds_then}
 use Rattle.pg_slice_checks.proofs.step.step_needs.Goals as goal
 
 pub returns : goal.returns

@@ -4,7 +4,7 @@ use Rattle.pg_slice_rules.specs.Rules.{Value, address_index, edge_tests}
 use Rattle.pg_slice_values.specs.Sources.{shadow_by}
 use Rattle.pg_slice_checks.specs.Asks.{Adds}
 use Rattle.pg_slice_checks.specs.Steps.{at}
-use Rattle.pg_slice_checks.proofs.Tests.{or_either}
+use Rattle.pg_slice_checks.proofs.AskedByCases.{or_either}
 use Rattle.pg_slice_checks.proofs.step.value_needs.Goals as goal
 
 pub returns-in_ok-branch_needs-in-Branch : goal.returns-in_ok-branch_needs-in-Branch

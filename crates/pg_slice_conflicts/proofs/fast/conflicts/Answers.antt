@@ -1,7 +1,7 @@
 use Rattle.std.proofs.Common.{◌<◌, length, map, sym, ap, ◌∙◌, subst, All}
 use Rattle.pg_slice_conflicts.specs.Meets.{InOrder, is_met}
 use Rattle.pg_slice_conflicts.specs.Merged.{StandAt}
-use Rattle.pg_slice_conflicts.proofs.Merging.{all_met, kept_in_order, numbers_within}
+use Rattle.pg_slice_conflicts.proofs.MergedLists.{all_met, kept_in_order, numbers_within}
 use Rattle.pg_slice_conflicts.proofs.fast.conflicts.Goals as goal
 
 pub conflicts_of_all-requires : goal.conflicts_of_all-requires

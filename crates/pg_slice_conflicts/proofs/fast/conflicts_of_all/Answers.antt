@@ -3,7 +3,7 @@ use Rattle.std.specs.Prelude.{reverse}
 use Rattle.std.proofs.lemmas.List.{length-reverse, take_at}
 use Rattle.pg_slice_conflicts.specs.Joined.{or_each}
 use Rattle.pg_slice_conflicts.specs.Passes.{answers_along, before_by}
-use Rattle.pg_slice_conflicts.proofs.Answered.{all_answered}
+use Rattle.pg_slice_conflicts.proofs.AnsweredByPasses.{all_answered}
 use Rattle.pg_slice_conflicts.proofs.Joining.{before_length}
 use Rattle.pg_slice_conflicts.proofs.fast.conflicts_of_all.Goals as goal
 

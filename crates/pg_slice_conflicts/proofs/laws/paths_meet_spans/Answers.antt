@@ -1,4 +1,4 @@
-use Rattle.pg_slice_conflicts.proofs.Meeting.{meeting}
+use Rattle.pg_slice_conflicts.proofs.SpansMeetPaths.{meeting}
 use Rattle.pg_slice_conflicts.proofs.laws.paths_meet_spans.Goals as goal
 
 pub returns : goal.returns

@@ -1,8 +1,8 @@
 use Rattle.std.proofs.Common.{◌+◌, ◌∷◌, [], ◌++◌, take, length, sym, subst}
 use Rattle.std.specs.Prelude.{nat_lt}
 use Rattle.pg_slice_conflicts.specs.Merged.{IsMerged}
-use Rattle.pg_slice_conflicts.proofs.Merging.{merged_more, merged_none}
-use Rattle.pg_law_threads.proofs.Walks.{take_get}
+use Rattle.pg_slice_conflicts.proofs.MergedLists.{merged_more, merged_none}
+use Rattle.pg_law_threads.proofs.ListPlaces.{take_get}
 use Rattle.pg_slice_conflicts.proofs.merged.merge_by.Goals as goal
 
 pub loop-i-init : goal.loop-i-init

@@ -1,5 +1,5 @@
 use Rattle.std.proofs.Common.{arith}
-use Rattle.pg_slice_conflicts.proofs.Notes.{noted_none, span_next, span_whole}
+use Rattle.pg_slice_conflicts.proofs.NotedRanks.{noted_none, span_next, span_whole}
 use Rattle.pg_slice_conflicts.proofs.nodes.note_span.Goals as goal
 
 pub loop-level-preserved : goal.loop-level-preserved

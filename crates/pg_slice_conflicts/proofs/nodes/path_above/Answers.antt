@@ -1,5 +1,5 @@
 use Rattle.std.proofs.Common.{arith, sym, ◌∙◌}
-use Rattle.pg_slice_conflicts.proofs.Notes.{path_passed}
+use Rattle.pg_slice_conflicts.proofs.NotedRanks.{path_passed}
 use Rattle.pg_slice_conflicts.proofs.nodes.path_above.Goals as goal
 
 pub loop-level-preserved : goal.loop-level-preserved

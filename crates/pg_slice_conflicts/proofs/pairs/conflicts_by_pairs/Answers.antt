@@ -1,6 +1,6 @@
 use Rattle.std.proofs.Common.{◌∷◌, [], ◌++◌, ap, ◌∙◌}
 use Rattle.pg_slice_conflicts.specs.Meets.{is_met}
-use Rattle.pg_slice_conflicts.proofs.Walk.{mapped_more}
+use Rattle.pg_slice_conflicts.proofs.ListWalks.{mapped_more}
 use Rattle.pg_slice_conflicts.proofs.pairs.conflicts_by_pairs.Goals as goal
 
 pub loop-i-preserved : goal.loop-i-preserved

@@ -3,8 +3,8 @@ use Rattle.std.proofs.lemmas.List.{map_push}
 use Rattle.std.proofs.lemmas.List.Elements.{All-push}
 use Rattle.std.proofs.lemmas.List.Sorted.{Contains-permutation}
 use Rattle.pg_slice_conflicts.specs.Places.{IsPlaced, footprint_of, start_of}
-use Rattle.pg_slice_conflicts.proofs.Walk.{contains_at, map_get}
-use Rattle.pg_law_threads.proofs.Walks.{take_get}
+use Rattle.pg_slice_conflicts.proofs.ListWalks.{contains_at, map_get}
+use Rattle.pg_law_threads.proofs.ListPlaces.{take_get}
 use Rattle.pg_slice_conflicts.proofs.places.placed_among.Goals as goal
 
 pub placed_at-requires-clause-start : goal.placed_at-requires-clause-start

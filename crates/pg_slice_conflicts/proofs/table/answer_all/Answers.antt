@@ -4,9 +4,9 @@ use Rattle.std.proofs.lemmas.List.Elements.{All-take, recursion_from_All}
 use Rattle.pg_slice_conflicts.specs.Passes.{answers, before_by}
 use Rattle.pg_slice_conflicts.specs.Tables.{IsWithin, Keeps, spanned, started}
 use Rattle.pg_slice_conflicts.proofs.Joining.{answer_all, answer_more}
-use Rattle.pg_slice_conflicts.proofs.Keeping.{keeps_none, keeps_push, met}
-use Rattle.pg_slice_conflicts.proofs.Walk.{all_at}
-use Rattle.pg_law_threads.proofs.Walks.{take_get}
+use Rattle.pg_slice_conflicts.proofs.TableAnswers.{keeps_none, keeps_push, met}
+use Rattle.pg_slice_conflicts.proofs.ListWalks.{all_at}
+use Rattle.pg_law_threads.proofs.ListPlaces.{take_get}
 use Rattle.pg_slice_conflicts.proofs.table.answer_all.Goals as goal
 
 pub is_answered-requires-clause-within : goal.is_answered-requires-clause-within

@@ -1,6 +1,6 @@
 use Rattle.std.proofs.Common.{[], arith, sym, ◌∙◌}
 use Rattle.pg_slice_conflicts.proofs.Joining.{none_asked}
-use Rattle.pg_slice_conflicts.proofs.Powers.{few_leaves}
+use Rattle.pg_slice_conflicts.proofs.SmallTrees.{few_leaves}
 use Rattle.pg_slice_conflicts.proofs.table.answered_before.Goals as goal
 
 pub overflow_mul-tree : goal.overflow_mul-tree

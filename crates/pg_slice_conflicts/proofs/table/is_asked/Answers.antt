@@ -1,7 +1,7 @@
 use Rattle.std.proofs.Common.{sym}
 use Rattle.std.proofs.lemmas.Map.Keys.{any_passes_from_place}
 use Rattle.pg_slice_conflicts.specs.declared.pass.Touch.{Touch}
-use Rattle.pg_slice_conflicts.proofs.Walk.{any_more}
+use Rattle.pg_slice_conflicts.proofs.ListWalks.{any_more}
 use Rattle.pg_slice_conflicts.proofs.table.is_asked.Goals as goal
 
 pub returns-then-touch_at : goal.returns-then-touch_at

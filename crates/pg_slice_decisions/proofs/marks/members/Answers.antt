@@ -1,5 +1,5 @@
 use Rattle.std.proofs.Common.{length, arith}
-use Rattle.pg_slice_decisions.proofs.Tables.{all_members, same_members}
+use Rattle.pg_slice_decisions.proofs.NumberTables.{all_members, same_members}
 use Rattle.pg_slice_decisions.proofs.marks.members.Goals as goal
 
 pub returns-clause-same : goal.returns-clause-same

@@ -1,7 +1,7 @@
 use Rattle.std.proofs.Common.{arith, sym, ◌+◌, ◌-◌}
 use Rattle.pg_run_memory.specs.Initial.{initial_byte}
-use Rattle.pg_slice_memory.proofs.Digits.{digit_next, digit_small, digits_small}
-use Rattle.pg_slice_memory.proofs.Loading.{bytes_none}
+use Rattle.pg_slice_memory.proofs.ByteNumbers.{digit_next, digit_small, digits_small}
+use Rattle.pg_slice_memory.proofs.LoadedNumbers.{bytes_none}
 use Rattle.pg_slice_memory.proofs.initial.initial_number.Goals as goal
 
 pub loop-k-init : goal.loop-k-init

@@ -1,4 +1,4 @@
-use Rattle.pg_slice_memory.proofs.Shown.{bounded_stored}
+use Rattle.pg_slice_memory.proofs.KnownAfterChanges.{bounded_stored}
 use Rattle.pg_slice_memory.proofs.laws.bounds_give_no_bytes.Goals as goal
 
 pub returns : goal.returns

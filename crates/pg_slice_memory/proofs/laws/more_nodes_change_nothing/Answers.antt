@@ -1,4 +1,4 @@
-use Rattle.pg_slice_memory.proofs.Grows.{shadows_kept}
+use Rattle.pg_slice_memory.proofs.ByteNodes.{shadows_kept}
 use Rattle.pg_slice_memory.proofs.laws.more_nodes_change_nothing.Goals as goal
 
 pub returns-clause-shadow : goal.returns-clause-shadow

@@ -2,7 +2,7 @@ use Rattle.std.proofs.Common.{arith, sym, subst}
 use Rattle.pg_slice_memory.specs.declared.source.ByteSource.{ByteSource}
 use Rattle.pg_slice_memory.specs.Loads.{IsByteNode}
 use Rattle.pg_slice_memory.specs.Sources.{byte_shadow}
-use Rattle.pg_slice_memory.proofs.Reading.{initial_node, ok_both, part_node}
+use Rattle.pg_slice_memory.proofs.ReadBytes.{initial_node, ok_both, part_node}
 use Rattle.pg_slice_memory.proofs.load.byte_node.Goals as goal
 
 pub returns-in-Initial-clause-node : goal.returns-in-Initial-clause-node

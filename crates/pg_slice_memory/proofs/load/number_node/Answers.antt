@@ -3,13 +3,13 @@ use mathlib.Core.Path.{fun_ext}
 use Rattle.std.proofs.lemmas.Result.{IfOk-weaker}
 use Rattle.pg_slice_rules.specs.Shadows.{valued}
 use Rattle.std.specs.Prelude.{Some}
-use Rattle.pg_slice_memory.proofs.Loading.{initial_loaded, whole_loaded}
+use Rattle.pg_slice_memory.proofs.LoadedNumbers.{initial_loaded, whole_loaded}
 use Rattle.std.proofs.Math.ListN.{length-set}
 use Rattle.pg_slice_memory.specs.Loads.{IsByteNode, source_in}
 use Rattle.pg_slice_memory.specs.Sources.{byte_shadow}
-use Rattle.pg_slice_memory.proofs.Grows.{byte_kept}
-use Rattle.pg_slice_values.proofs.Grows.{grew_then}
-use Rattle.pg_slice_memory.proofs.Reading.{join_read, nodes_next}
+use Rattle.pg_slice_memory.proofs.ByteNodes.{byte_kept}
+use Rattle.pg_slice_values.proofs.GrowingNodes.{grew_then}
+use Rattle.pg_slice_memory.proofs.ReadBytes.{join_read, nodes_next}
 use Rattle.pg_slice_memory.proofs.load.number_node.Goals as goal
 
 pub returns-in-Some-clause-value : goal.returns-in-Some-clause-value

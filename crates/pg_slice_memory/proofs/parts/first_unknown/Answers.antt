@@ -1,5 +1,5 @@
 use Rattle.std.proofs.Common.{arith}
-use Rattle.pg_slice_memory.proofs.Loading.{first_blamed}
+use Rattle.pg_slice_memory.proofs.LoadedNumbers.{first_blamed}
 use Rattle.pg_slice_memory.proofs.parts.first_unknown.Goals as goal
 
 pub returns-in-Unknown-clause-some : goal.returns-in-Unknown-clause-some

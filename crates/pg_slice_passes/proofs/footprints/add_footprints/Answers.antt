@@ -1,10 +1,10 @@
 use Rattle.std.proofs.Common.{◌++◌, ◌∙◌}
 use Rattle.pg_law_least.specs.Footprints.{access_footprints, region_footprints}
 use Rattle.pg_slice_passes.specs.Footprints.{owners_at}
-use Rattle.pg_slice_passes.proofs.Passing.{no_owners_at, no_footprints_at}
-use Rattle.pg_slice_passes.proofs.Ordering.{adds_nothing}
+use Rattle.pg_slice_passes.proofs.OneStepMore.{no_owners_at, no_footprints_at}
+use Rattle.pg_slice_passes.proofs.FootprintOrder.{adds_nothing}
 use Rattle.pg_slice_passes.proofs.RegionFootprints.{none_added}
-use Rattle.pg_slice_passes.proofs.Reading.{live_is, region_told}
+use Rattle.pg_slice_passes.proofs.StepReads.{live_is, region_told}
 use Rattle.pg_slice_passes.proofs.footprints.add_footprints.Goals as goal
 
 pub returns-then-not-is_live-clause-footprints : goal.returns-then-not-is_live-clause-footprints

@@ -2,7 +2,7 @@ use Rattle.std.proofs.Common.{◌≡◌, ℕ, suc, ◌+◌, ◌++◌, ◌∷◌,
 use Rattle.pg_slice_rules.specs.Known.{after_step, start_of}
 use Rattle.pg_law_demands.specs.Along.{known_at}
 use Rattle.pg_slice_passes.specs.Along.{first_steps, step_from}
-use Rattle.pg_slice_passes.proofs.Along.{known_more, steps_more}
+use Rattle.pg_slice_passes.proofs.RunSteps.{known_more, steps_more}
 use Rattle.pg_slice_passes.proofs.laws.one_step_more.Goals as goal
 
 pub returns-clause-known : goal.returns-clause-known

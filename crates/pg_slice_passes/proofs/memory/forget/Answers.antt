@@ -2,8 +2,8 @@ use Rattle.std.proofs.Common.{◌≤◌, length, refl, sym, ◌∙◌, arith}
 use Rattle.pg_slice_rules.specs.declared.decision.Decision.TheVariants.{Pinned}
 use Rattle.pg_slice_replay.specs.Kept.{landmark_at}
 use Rattle.pg_slice_memory.specs.Changes.{shadows_of}
-use Rattle.pg_slice_passes.proofs.Bytes.{none_left}
-use Rattle.pg_slice_passes.proofs.Kept.{if_some_all, if_some_from}
+use Rattle.pg_slice_passes.proofs.StoredBytes.{none_left}
+use Rattle.pg_slice_passes.proofs.KeptKnowledge.{if_some_all, if_some_from}
 use Rattle.pg_slice_passes.proofs.memory.forget.Goals as goal
 
 pub loop-k-init : goal.loop-k-init

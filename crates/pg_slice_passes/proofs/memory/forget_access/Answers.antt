@@ -4,7 +4,7 @@ use Rattle.pg_slice_rules.specs.Freeable.{bounds_of}
 use Rattle.pg_slice_rules.specs.Shadows.{spoiled}
 use Rattle.pg_slice_rules.specs.declared.decision.Decision.TheVariants.{Pinned}
 use Rattle.pg_slice_memory.specs.Changes.{shadows_of}
-use Rattle.pg_slice_passes.proofs.Bytes.{bounds_spoiled}
+use Rattle.pg_slice_passes.proofs.StoredBytes.{bounds_spoiled}
 use Rattle.pg_slice_passes.proofs.memory.forget_access.Goals as goal
 
 pub returns-then-access-clause-value : goal.returns-then-access-clause-value

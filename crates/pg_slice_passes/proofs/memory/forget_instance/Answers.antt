@@ -1,8 +1,8 @@
 use Rattle.std.proofs.Common.{sym, ◌∙◌}
 use Rattle.pg_slice_replay.specs.Kept.{landmark_at}
 use Rattle.pg_slice_memory.specs.Changes.{shadows_of}
-use Rattle.pg_slice_passes.proofs.Bytes.{instance_freed, none_freed}
-use Rattle.pg_slice_passes.proofs.Kept.{if_some_from}
+use Rattle.pg_slice_passes.proofs.StoredBytes.{instance_freed, none_freed}
+use Rattle.pg_slice_passes.proofs.KeptKnowledge.{if_some_from}
 use Rattle.pg_slice_passes.proofs.memory.forget_instance.Goals as goal
 
 pub returns-then-is_instance-clause-value : goal.returns-then-is_instance-clause-value

@@ -4,11 +4,11 @@ use Rattle.pg_ir.specs.declared.instr.Op.TheVariants as op
 use Rattle.pg_slice_rules.specs.Known.{bytes_stored}
 use Rattle.pg_slice_rules.specs.Shadows.{shadow_of}
 use Rattle.pg_slice_rules.specs.declared.decision.Decision.TheVariants.{Exact}
-use Rattle.pg_slice_values.proofs.Grows.{grew_length}
+use Rattle.pg_slice_values.proofs.GrowingNodes.{grew_length}
 use Rattle.pg_slice_memory.specs.Changes.{shadows_of}
-use Rattle.pg_slice_memory.proofs.Grows.{names_more}
+use Rattle.pg_slice_memory.proofs.ByteNodes.{names_more}
 use Rattle.pg_slice_registers.specs.Sourced.{registers_by}
-use Rattle.pg_slice_passes.proofs.Bytes.{bounds_spoiled, number_stored}
+use Rattle.pg_slice_passes.proofs.StoredBytes.{bounds_spoiled, number_stored}
 use Rattle.pg_slice_passes.proofs.memory.store.Goals as goal
 
 pub returns-in_ok-s-clause-is : goal.returns-in_ok-s-clause-is

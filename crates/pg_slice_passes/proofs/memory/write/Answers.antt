@@ -1,11 +1,11 @@
 use Rattle.std.proofs.Common.{Option, length, ap, sym, ◌∙◌}
 use Rattle.std.proofs.lemmas.Result.{on_ok_weaker}
 use Rattle.pg_slice_rules.specs.Known.{bytes_by, written_shadow}
-use Rattle.pg_slice_values.proofs.Grows.{grew_length}
+use Rattle.pg_slice_values.proofs.GrowingNodes.{grew_length}
 use Rattle.pg_slice_memory.specs.Changes.{shadows_of}
-use Rattle.pg_slice_memory.proofs.Grows.{names_more}
+use Rattle.pg_slice_memory.proofs.ByteNodes.{names_more}
 use Rattle.pg_slice_registers.specs.Sourced.{registers_by}
-use Rattle.pg_slice_passes.proofs.Bytes.{number_stored}
+use Rattle.pg_slice_passes.proofs.StoredBytes.{number_stored}
 use Rattle.pg_run_trace.specs.declared.step.Write.{Write}
 use Rattle.pg_slice_passes.proofs.memory.write.Goals as goal
 

@@ -3,11 +3,11 @@ use Rattle.pg_slice_rules.specs.Rules.{root_shadow}
 use Rattle.pg_slice_rules.specs.Shadows.{Shadow}
 use Rattle.pg_slice_replay.specs.Paths.{cells_of}
 use Rattle.pg_slice_memory.specs.Changes as bytes
-use Rattle.pg_slice_memory.proofs.Grows.{names_more}
+use Rattle.pg_slice_memory.proofs.ByteNodes.{names_more}
 use Rattle.pg_slice_registers.specs.Sourced.{registers_by}
 use Rattle.pg_slice_values.specs.Sources.{shadow_by}
-use Rattle.pg_slice_values.proofs.Grows.{grew_length, grew_then}
-use Rattle.pg_slice_passes.proofs.Adding.{cells_are, later, path_adds}
+use Rattle.pg_slice_values.proofs.GrowingNodes.{grew_length, grew_then}
+use Rattle.pg_slice_passes.proofs.AddedNodes.{cells_are, later, path_adds}
 use Rattle.pg_slice_passes.proofs.needs.access_needs.Goals as goal
 
 pub path_needs-requires-clause-names : goal.path_needs-requires-clause-names

@@ -7,8 +7,8 @@ use Rattle.pg_slice_checks.specs.Steps.{AreEnough, step_needs}
 use Rattle.pg_slice_registers.specs.Sourced.{registers_by}
 use Rattle.pg_slice_values.specs.Sources.{shadow_by}
 use Rattle.pg_run_trace.specs.declared.step.StepKind.{StepKind}
-use Rattle.pg_slice_passes.proofs.Adding.{is_later, later}
-use Rattle.pg_slice_passes.proofs.Needing.{access_enough, access_same}
+use Rattle.pg_slice_passes.proofs.AddedNodes.{is_later, later}
+use Rattle.pg_slice_passes.proofs.OperandNeeds.{access_enough, access_same}
 use Rattle.pg_slice_passes.proofs.needs.at_needs.Goals as goal
 
 pub address-requires-clause-access : goal.address-requires-clause-access

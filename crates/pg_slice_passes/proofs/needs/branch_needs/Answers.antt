@@ -4,12 +4,12 @@ use Rattle.pg_slice_rules.specs.Rules.{Need}
 use Rattle.pg_slice_rules.specs.Shadows.{Shadow}
 use Rattle.pg_slice_checks.specs.Asks.{Adds}
 use Rattle.pg_slice_checks.specs.Steps.{AreEnough, step_needs}
-use Rattle.pg_slice_checks.proofs.Added.{adds_none}
+use Rattle.pg_slice_checks.proofs.OneNeedMore.{adds_none}
 use Rattle.pg_slice_registers.specs.Sourced.{registers_by}
 use Rattle.pg_slice_values.specs.Sources.{shadow_by}
 use Rattle.pg_run_trace.specs.declared.step.StepKind.{StepKind}
-use Rattle.pg_slice_passes.proofs.Adding.{is_later, later}
-use Rattle.pg_slice_passes.proofs.Needing.{branch_asked, branch_same}
+use Rattle.pg_slice_passes.proofs.AddedNodes.{is_later, later}
+use Rattle.pg_slice_passes.proofs.OperandNeeds.{branch_asked, branch_same}
 use Rattle.pg_slice_passes.proofs.needs.branch_needs.Goals as goal
 
 pub returns-then-not-fixed-clause-adds : goal.returns-then-not-fixed-clause-adds

@@ -5,13 +5,13 @@ use Rattle.pg_slice_rules.specs.Shadows.{Shadow}
 use Rattle.pg_slice_checks.specs.Asks.{Adds}
 use Rattle.pg_slice_checks.specs.Steps.{AreEnough, step_needs}
 use Rattle.pg_slice_registers.specs.Sourced.{registers_by}
-use Rattle.pg_slice_registers.proofs.Kept.{sources_kept}
+use Rattle.pg_slice_registers.proofs.KeptValues.{sources_kept}
 use Rattle.pg_slice_values.specs.Sources.{shadow_by}
-use Rattle.pg_slice_values.proofs.Grows.{grew_then}
+use Rattle.pg_slice_values.proofs.GrowingNodes.{grew_then}
 use Rattle.pg_run_trace.specs.declared.step.StepKind.{StepKind}
-use Rattle.pg_slice_passes.proofs.Adding.{is_later, later}
-use Rattle.pg_slice_registers.proofs.Gives.{call_asked}
-use Rattle.pg_slice_passes.proofs.Needing.{call_enough, event_asks_same}
+use Rattle.pg_slice_passes.proofs.AddedNodes.{is_later, later}
+use Rattle.pg_slice_registers.proofs.DefinedSteps.{call_asked}
+use Rattle.pg_slice_passes.proofs.OperandNeeds.{call_enough, event_asks_same}
 use Rattle.pg_slice_passes.proofs.needs.call_needs.Goals as goal
 
 pub operand-requires-clause-asked : goal.operand-requires-clause-asked

@@ -3,10 +3,10 @@ use Rattle.pg_slice_rules.specs.Known.{operand_shadows}
 use Rattle.pg_slice_rules.specs.Rules.{Need}
 use Rattle.pg_slice_checks.specs.Asks.{Adds}
 use Rattle.pg_slice_checks.specs.Steps.{step_needs}
-use Rattle.pg_slice_checks.proofs.Added.{adds_none}
+use Rattle.pg_slice_checks.proofs.OneNeedMore.{adds_none}
 use Rattle.pg_slice_registers.specs.Sourced.{registers_by}
 use Rattle.pg_run_trace.specs.declared.step.StepKind.{StepKind}
-use Rattle.pg_slice_passes.proofs.Needing.{is_call, no_call}
+use Rattle.pg_slice_passes.proofs.OperandNeeds.{is_call, no_call}
 use Rattle.pg_slice_passes.proofs.needs.event_needs.Goals as goal
 
 pub call_needs-requires-clause-call : goal.call_needs-requires-clause-call

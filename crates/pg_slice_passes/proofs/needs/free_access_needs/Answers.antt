@@ -9,7 +9,7 @@ use Rattle.pg_slice_replay.specs.Kept.{landmark_at}
 use Rattle.pg_slice_memory.specs.Changes as bytes
 use Rattle.pg_slice_registers.specs.Sourced.{registers_by}
 use Rattle.pg_slice_values.specs.Sources.{Grew}
-use Rattle.pg_slice_passes.proofs.Adding.{each_region, same_some}
+use Rattle.pg_slice_passes.proofs.AddedNodes.{each_region, same_some}
 use Rattle.pg_slice_passes.proofs.RegionFootprints.{not_there, taken_out}
 use Rattle.pg_slice_passes.proofs.needs.free_access_needs.Goals as goal
 

@@ -11,18 +11,18 @@ use Rattle.pg_precondition.specs.Nodes.{NodeList}
 use Rattle.pg_slice_replay.specs.Kept.{landmark_at}
 use Rattle.pg_slice_replay.specs.Landmarks.{Landmark, landmark_of}
 use Rattle.pg_slice_memory.specs.Changes as bytes
-use Rattle.pg_slice_memory.proofs.Grows.{names_more}
+use Rattle.pg_slice_memory.proofs.ByteNodes.{names_more}
 use Rattle.pg_slice_registers.specs.Sourced.{AreSources, registers_by}
-use Rattle.pg_slice_registers.proofs.Kept.{sources_kept}
+use Rattle.pg_slice_registers.proofs.KeptValues.{sources_kept}
 use Rattle.pg_slice_values.specs.declared.source.Source.{Source}
-use Rattle.pg_slice_values.proofs.Grows.{grew_length, grew_none, grew_then}
+use Rattle.pg_slice_values.proofs.GrowingNodes.{grew_length, grew_none, grew_then}
 use Rattle.pg_run_trace.specs.declared.step.Step.{Step}
 use Rattle.pg_slice_passes.specs.Along.{needs_at, own_asks}
 use Rattle.pg_slice_passes.specs.Passes.{IsAt}
 use Rattle.pg_slice_passes.specs.State.{sources_in}
-use Rattle.pg_slice_passes.proofs.Passing.{named_more}
+use Rattle.pg_slice_passes.proofs.OneStepMore.{named_more}
 use Rattle.pg_slice_passes.proofs.RegionFootprints.{is_there, none_added}
-use Rattle.pg_slice_passes.proofs.Reading.{checks_at, checks_dead, live_adds, live_is, named_by, nothing_own, own_live, region_of_it, sources_at, told_at}
+use Rattle.pg_slice_passes.proofs.StepReads.{checks_at, checks_dead, live_adds, live_is, named_by, nothing_own, own_live, region_of_it, sources_at, told_at}
 use Rattle.pg_slice_passes.proofs.needs.needs.Goals as goal
 
 pub returns-then-not-is_live-clause-missing : goal.returns-then-not-is_live-clause-missing

@@ -8,12 +8,12 @@ use Rattle.pg_precondition.specs.Nodes.{NodeList}
 use Rattle.pg_slice_replay.specs.Kept.{landmark_at}
 use Rattle.pg_slice_replay.specs.Landmarks.{Landmark}
 use Rattle.pg_slice_memory.specs.Changes as bytes
-use Rattle.pg_slice_memory.proofs.Grows.{names_more}
+use Rattle.pg_slice_memory.proofs.ByteNodes.{names_more}
 use Rattle.pg_slice_registers.specs.Sourced.{registers_by}
-use Rattle.pg_slice_registers.proofs.Kept.{sources_kept}
+use Rattle.pg_slice_registers.proofs.KeptValues.{sources_kept}
 use Rattle.pg_slice_values.specs.Sources.{Grew}
-use Rattle.pg_slice_values.proofs.Grows.{grew_length, grew_none, grew_then}
-use Rattle.pg_slice_passes.proofs.Adding.{access_more, access_there, accesses_end, at_none, at_some, no_region_adds, region_adds, said_of}
+use Rattle.pg_slice_values.proofs.GrowingNodes.{grew_length, grew_none, grew_then}
+use Rattle.pg_slice_passes.proofs.AddedNodes.{access_more, access_there, accesses_end, at_none, at_some, no_region_adds, region_adds, said_of}
 use Rattle.pg_slice_passes.proofs.RegionFootprints.{is_there}
 use Rattle.pg_slice_passes.proofs.needs.region_needs.Goals as goal
 

@@ -4,8 +4,8 @@ use Rattle.pg_slice_checks.specs.Asks.{AreNamed}
 use Rattle.pg_slice_passes.specs.declared.pass.Gathered.{Gathered}
 use Rattle.pg_slice_passes.specs.Given.{reference_of}
 use Rattle.pg_slice_passes.specs.Passes.{HasPassed}
-use Rattle.pg_slice_passes.proofs.Ordering.{earlier_none}
-use Rattle.pg_slice_passes.proofs.Passing.{none_named, passed_none}
+use Rattle.pg_slice_passes.proofs.FootprintOrder.{earlier_none}
+use Rattle.pg_slice_passes.proofs.OneStepMore.{none_named, passed_none}
 use Rattle.pg_slice_passes.proofs.pass.gather.Goals as goal
 
 pub loop-n-init : goal.loop-n-init

@@ -1,6 +1,6 @@
 use Rattle.std.proofs.Common.{◌∙◌}
 use Rattle.pg_slice_decisions.specs.Steps.{taken_by}
-use Rattle.pg_slice_passes.proofs.Meeting.{admitted_is, missing_is}
+use Rattle.pg_slice_passes.proofs.AllAsked.{admitted_is, missing_is}
 use Rattle.pg_slice_passes.proofs.pass.pass_over.Goals as goal
 
 pub returns-clause-missing : goal.returns-clause-missing

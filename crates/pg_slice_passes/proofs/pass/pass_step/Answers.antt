@@ -1,15 +1,15 @@
 use Rattle.std.proofs.Common.{length, arith, refl}
 use Rattle.pg_slice_decisions.specs.Steps.{taken_by}
-use Rattle.pg_slice_values.proofs.Grows.{grew_length, grew_then}
+use Rattle.pg_slice_values.proofs.GrowingNodes.{grew_length, grew_then}
 use Rattle.pg_slice_values.proofs.Widths.{casts_fit}
 use Rattle.pg_slice_passes.specs.declared.pass.Gathered.{Gathered}
 use Rattle.pg_law_demands.specs.Along.{known_at}
 use Rattle.pg_slice_passes.specs.Along.{step_from}
 use Rattle.pg_slice_passes.specs.Given.{reference_of}
 use Rattle.pg_slice_passes.specs.Passes.{IsTimed}
-use Rattle.pg_slice_passes.proofs.Filling.{fits_at, kind_at}
-use Rattle.pg_slice_passes.proofs.Ordering.{earlier_more}
-use Rattle.pg_slice_passes.proofs.Passing.{are_kept, few_turns, has_moment, intervals_length, is_at, knows_kept, named_more, passed_more}
+use Rattle.pg_slice_passes.proofs.TraceSteps.{fits_at, kind_at}
+use Rattle.pg_slice_passes.proofs.FootprintOrder.{earlier_more}
+use Rattle.pg_slice_passes.proofs.OneStepMore.{are_kept, few_turns, has_moment, intervals_length, is_at, knows_kept, named_more, passed_more}
 use Rattle.pg_slice_passes.proofs.pass.pass_step.Goals as goal
 
 pub instr-x-requires : goal.instr-x-requires

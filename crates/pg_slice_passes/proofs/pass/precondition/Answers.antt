@@ -1,8 +1,8 @@
 use Rattle.std.proofs.Common.{◌≡◌, ◌++◌, ◌∷◌, [], length, ap, sym, ◌∙◌, arith}
-use Rattle.pg_law_threads.proofs.Walks.{take_get}
+use Rattle.pg_law_threads.proofs.ListPlaces.{take_get}
 use Rattle.pg_slice_checks.specs.Asks.{all_hold}
 use Rattle.pg_precondition.specs.Nodes.{Conditions}
-use Rattle.pg_slice_passes.proofs.Passing.{check_in, taken_all}
+use Rattle.pg_slice_passes.proofs.OneStepMore.{check_in, taken_all}
 use Rattle.pg_slice_passes.proofs.pass.precondition.Goals as goal
 
 pub push-requires : goal.push-requires

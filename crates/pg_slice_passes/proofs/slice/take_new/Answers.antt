@@ -3,7 +3,7 @@ use Rattle.std.specs.Prelude.{Contains}
 use Rattle.pg_slice_decisions.specs.Steps.{left_by, taken_by}
 use Rattle.std.proofs.lemmas.Bool.{false≢true}
 use Rattle.pg_region_paths.proofs.Elements.{none_in}
-use Rattle.pg_slice_passes.proofs.Passing.{taken_all}
+use Rattle.pg_slice_passes.proofs.OneStepMore.{taken_all}
 use Rattle.pg_slice_passes.proofs.Slicing.{first_false, got_in, or_less, second_false, taken_more}
 use Rattle.pg_slice_passes.proofs.slice.take_new.Goals as goal
 

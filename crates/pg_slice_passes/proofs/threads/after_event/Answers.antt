@@ -4,7 +4,7 @@ use Rattle.pg_slice_rules.specs.Known.{on_thread, with_top}
 use Rattle.pg_slice_rules.specs.Known as along
 use Rattle.pg_slice_values.specs.Sources.{shadow_by}
 use Rattle.pg_slice_registers.specs.Sourced.{CallList, calls_by}
-use Rattle.pg_slice_registers.proofs.Threading.{threads_stay}
+use Rattle.pg_slice_registers.proofs.ThreadsMade.{threads_stay}
 use Rattle.pg_slice_passes.proofs.ThreadLists.{at_any, one_changes, set_threads}
 use Rattle.pg_slice_passes.proofs.threads.after_event.Goals as goal
 

@@ -5,7 +5,7 @@ use Rattle.pg_slice_rules.specs.Shadows.{Shadow}
 use Rattle.pg_slice_rules.specs.Known.{phi_shadow, set_phis}
 use Rattle.pg_slice_values.specs.declared.source.Source.{Source}
 use Rattle.pg_slice_registers.specs.Sourced.{AreSources, registers_by}
-use Rattle.pg_slice_registers.proofs.Kept.{registers_kept, sources_kept}
+use Rattle.pg_slice_registers.proofs.KeptValues.{registers_kept, sources_kept}
 use Rattle.pg_slice_registers.proofs.edges.enter.Goals as goal
 
 pub set_phis-requires : goal.set_phis-requires

@@ -3,10 +3,10 @@ use Rattle.pg_ir.specs.declared.instr.Instr.{Instr}
 use Rattle.pg_ir.specs.declared.value.Value.{Value}
 use Rattle.pg_slice_rules.specs.Shadows.{Shadow}
 use Rattle.pg_slice_rules.specs.Known.{optional_shadow, phi_shadow}
-use Rattle.pg_slice_values.proofs.Grows.{grew_then}
+use Rattle.pg_slice_values.proofs.GrowingNodes.{grew_then}
 use Rattle.pg_slice_registers.specs.Sourced.{registers_by}
-use Rattle.pg_slice_registers.proofs.Kept.{registers_kept}
-use Rattle.pg_slice_registers.proofs.Gathered.{one_pushed}
+use Rattle.pg_slice_registers.proofs.KeptValues.{registers_kept}
+use Rattle.pg_slice_registers.proofs.GatheredLists.{one_pushed}
 use Rattle.pg_slice_registers.proofs.edges.phi_sources.Goals as goal
 
 pub loop-i-preserved : goal.loop-i-preserved

@@ -3,8 +3,8 @@ use Rattle.std.proofs.lemmas.Result.{on_ok_weaker}
 use Rattle.pg_slice_rules.specs.Shadows.{Shadow, unset}
 use Rattle.pg_slice_values.specs.declared.source.Source.{Source}
 use Rattle.pg_slice_registers.specs.Sourced.{AreSources, registers_by}
-use Rattle.pg_slice_registers.proofs.Kept.{registers_kept, sources_kept}
-use Rattle.pg_slice_registers.proofs.Calls.{blanks_are, blanks_by}
+use Rattle.pg_slice_registers.proofs.KeptValues.{registers_kept, sources_kept}
+use Rattle.pg_slice_registers.proofs.ThreadCalls.{blanks_are, blanks_by}
 use Rattle.pg_slice_registers.proofs.entered.push_unset.Goals as goal
 
 pub returns-clause-is : goal.returns-clause-is

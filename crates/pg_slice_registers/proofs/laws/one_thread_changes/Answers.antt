@@ -1,4 +1,4 @@
-use Rattle.pg_slice_registers.proofs.Threading.{on_one}
+use Rattle.pg_slice_registers.proofs.ThreadsMade.{on_one}
 use Rattle.pg_slice_registers.proofs.laws.one_thread_changes.Goals as goal
 
 pub returns : goal.returns

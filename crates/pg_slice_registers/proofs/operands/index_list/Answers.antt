@@ -4,7 +4,7 @@ use Rattle.pg_ir.specs.declared.value.Index.{Index}
 use Rattle.pg_ir.specs.declared.value.Scale.TheVariants.{Times}
 use Rattle.pg_ir.specs.declared.value.Value.{Value}
 use Rattle.pg_ir.specs.declared.value.Value.TheVariants.{Register}
-use Rattle.pg_slice_registers.proofs.Gathered.{all_pushed, one_pushed}
+use Rattle.pg_slice_registers.proofs.GatheredLists.{all_pushed, one_pushed}
 use Rattle.pg_slice_registers.proofs.operands.index_list.Goals as goal
 
 pub loop-index-init : goal.loop-index-init

@@ -2,7 +2,7 @@ use Rattle.std.proofs.Common.{◌∷◌, [], ◌++◌, List, ap, ◌∙◌}
 use Rattle.pg_slice_rules.specs.Shadows.{Shadow}
 use Rattle.pg_slice_values.specs.Sources.{shadow_by}
 use Rattle.pg_slice_registers.specs.Sourced.{registers_by}
-use Rattle.pg_slice_registers.proofs.Kept.{registers_kept, registers_push}
+use Rattle.pg_slice_registers.proofs.KeptValues.{registers_kept, registers_push}
 use Rattle.pg_slice_registers.proofs.operands.push_optional.Goals as goal
 
 pub returns-clause-value : goal.returns-clause-value

@@ -1,6 +1,6 @@
 use Rattle.std.proofs.Common.{length}
 use Rattle.pg_slice_registers.specs.Sourced.{registers_by}
-use Rattle.pg_slice_registers.proofs.Kept.{registers_kept, sources_kept}
+use Rattle.pg_slice_registers.proofs.KeptValues.{registers_kept, sources_kept}
 use Rattle.pg_slice_registers.proofs.operands.result.Goals as goal
 
 pub returns-clause-is : goal.returns-clause-is

@@ -1,10 +1,10 @@
 use Rattle.std.proofs.Common.{◌∷◌, [], ◌++◌, List, length, slice_index_or, ap, ◌∙◌}
 use Rattle.pg_ir.specs.declared.value.Value.TheVariants.{Register}
 use Rattle.pg_slice_rules.specs.Shadows.{Shadow, shadow_of}
-use Rattle.pg_slice_values.proofs.Grows.{grew_then}
+use Rattle.pg_slice_values.proofs.GrowingNodes.{grew_then}
 use Rattle.pg_slice_registers.specs.Sourced.{registers_by}
-use Rattle.pg_slice_registers.proofs.Kept.{registers_kept}
-use Rattle.pg_slice_registers.proofs.Gathered.{one_pushed}
+use Rattle.pg_slice_registers.proofs.KeptValues.{registers_kept}
+use Rattle.pg_slice_registers.proofs.GatheredLists.{one_pushed}
 use Rattle.pg_slice_registers.proofs.operands.values.Goals as goal
 
 pub loop-arg-preserved : goal.loop-arg-preserved

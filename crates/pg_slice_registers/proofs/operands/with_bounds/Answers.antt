@@ -1,4 +1,4 @@
-use Rattle.pg_slice_registers.proofs.Sets.{source_got}
+use Rattle.pg_slice_registers.proofs.SetRegisters.{source_got}
 use Rattle.pg_slice_registers.proofs.operands.with_bounds.Goals as goal
 
 pub returns-in-Some-clause-is : goal.returns-in-Some-clause-is

@@ -1,7 +1,7 @@
 use Rattle.std.proofs.Common.{◌≡◌, ◌∙◌, ap, sym, arith, List, subst}
 use Rattle.pg_slice_values.specs.declared.source.Source.{Source}
 use Rattle.pg_slice_registers.specs.Sourced.{AreSources, marked, registers_by}
-use Rattle.pg_slice_registers.proofs.Sets.{all_done, forgotten, forgotten_by, forgotten_sources, one_more}
+use Rattle.pg_slice_registers.proofs.SetRegisters.{all_done, forgotten, forgotten_by, forgotten_sources, one_more}
 use Rattle.pg_slice_registers.proofs.registers.forget.Goals as goal
 
 pub loop-i-preserved : goal.loop-i-preserved

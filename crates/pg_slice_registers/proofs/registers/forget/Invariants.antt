@@ -1,6 +1,6 @@
 use Rattle.std.proofs.Common.{◌≡◌, ◌++◌, take, drop}
 use Rattle.pg_slice_registers.specs.Sourced.{marked}
-use Rattle.pg_slice_registers.proofs.Sets.{forgotten}
+use Rattle.pg_slice_registers.proofs.SetRegisters.{forgotten}
 use Rattle.pg_slice_registers.proofs.registers.forget.Given as goal
 
 abbrev pub invariant-loop-i : goal.invariant-loop-i

@@ -1,6 +1,6 @@
 use Rattle.std.proofs.Common.{◌∙◌, sym, arith, length, ◌<◌}
 use Rattle.pg_slice_registers.specs.Sourced.{registers_by}
-use Rattle.pg_slice_registers.proofs.Sets.{one_phi, phis_done, source_at}
+use Rattle.pg_slice_registers.proofs.SetRegisters.{one_phi, phis_done, source_at}
 use Rattle.pg_slice_registers.proofs.registers.set_phis.Goals as goal
 
 pub loop-i-preserved : goal.loop-i-preserved

@@ -1,7 +1,7 @@
 use Rattle.std.proofs.Common.{◌∙◌}
 use Rattle.std.proofs.lemmas.Result.{on_ok_weaker}
 use Rattle.pg_slice_registers.specs.Threads.{threads_by}
-use Rattle.pg_slice_registers.proofs.Threading.{create_is}
+use Rattle.pg_slice_registers.proofs.ThreadsMade.{create_is}
 use Rattle.pg_slice_registers.proofs.threads.after_create.Goals as goal
 
 pub returns-clause-value : goal.returns-clause-value

@@ -3,7 +3,7 @@ use Rattle.pg_slice_rules.specs.Shadows.{Shadow}
 use Rattle.pg_slice_rules.specs.Known.{ThreadShadow}
 use Rattle.pg_slice_registers.specs.Sourced.{CallList}
 use Rattle.pg_slice_registers.specs.Threads.{AreThreads, thread_by, threads_by}
-use Rattle.pg_slice_registers.proofs.Threading.{one_thread, threads_kept, threads_push, threads_stay}
+use Rattle.pg_slice_registers.proofs.ThreadsMade.{one_thread, threads_kept, threads_push, threads_stay}
 use Rattle.pg_slice_registers.proofs.threads.push_thread.Goals as goal
 
 pub returns-clause-is : goal.returns-clause-is

@@ -6,9 +6,9 @@ use Rattle.pg_slice_values.specs.declared.source.Source.{Source}
 use Rattle.pg_slice_values.specs.Sources.{shadow_by}
 use Rattle.pg_slice_registers.specs.Events.{HasOperands}
 use Rattle.pg_slice_registers.specs.Sourced.{AreSources, registers_by}
-use Rattle.pg_slice_registers.proofs.Kept.{registers_kept, registers_push, sources_kept, sources_push}
-use Rattle.pg_slice_registers.proofs.Gives.{call_asked}
-use Rattle.pg_slice_registers.proofs.Sets.{set_by, set_sources}
+use Rattle.pg_slice_registers.proofs.KeptValues.{registers_kept, registers_push, sources_kept, sources_push}
+use Rattle.pg_slice_registers.proofs.DefinedSteps.{call_asked}
+use Rattle.pg_slice_registers.proofs.SetRegisters.{set_by, set_sources}
 use Rattle.pg_slice_registers.proofs.words.words_after.Goals as goal
 
 pub operand-requires-clause-asked : goal.operand-requires-clause-asked

@@ -1,5 +1,5 @@
 use Rattle.pg_slice_replay.specs.Paths.{accesses_with}
-use Rattle.pg_slice_replay.proofs.Aparts.{stored_is}
+use Rattle.pg_slice_replay.proofs.FramesApart.{stored_is}
 use Rattle.pg_slice_replay.proofs.apart.store_on_loads.Goals as goal
 
 pub loop-i-init : goal.loop-i-init

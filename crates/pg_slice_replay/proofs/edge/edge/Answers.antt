@@ -1,4 +1,4 @@
-use Rattle.pg_run_thread.proofs.Along.{ends_block}
+use Rattle.pg_run_thread.proofs.EdgeValues.{ends_block}
 use Rattle.pg_slice_replay.proofs.edge.edge.Goals as goal
 
 pub edge_by-requires : goal.edge_by-requires

@@ -1,7 +1,7 @@
 use Rattle.std.proofs.Common.{◌∙◌, ap, option_map}
 use Rattle.pg_region_paths.specs.Paths.{offsets_of}
 use Rattle.pg_slice_replay.specs.Paths.{along}
-use Rattle.pg_slice_replay.proofs.Follows.{followed_next, followed_none}
+use Rattle.pg_slice_replay.proofs.FollowedPaths.{followed_next, followed_none}
 use Rattle.pg_slice_replay.proofs.follow.follow_each.Goals as goal
 
 pub returns-in-None : goal.returns-in-None

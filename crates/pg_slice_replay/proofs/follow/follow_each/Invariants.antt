@@ -1,4 +1,4 @@
-use Rattle.pg_slice_replay.proofs.Follows.{FollowedTo}
+use Rattle.pg_slice_replay.proofs.FollowedPaths.{FollowedTo}
 use Rattle.pg_slice_replay.proofs.follow.follow_each.Given as goal
 
 abbrev pub invariant-loop-i : goal.invariant-loop-i

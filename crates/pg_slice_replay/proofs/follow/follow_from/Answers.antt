@@ -2,7 +2,7 @@ use Rattle.std.proofs.Common.{slice_index, ◌∙◌, arith}
 use Rattle.std.proofs.lemmas.List.{length-set}
 use Rattle.std.proofs.lemmas.Option.{slice_get-get_or}
 use Rattle.pg_run_memory.specs.Memory.{read}
-use Rattle.pg_slice_replay.proofs.Follows.{led_end, led_next}
+use Rattle.pg_slice_replay.proofs.FollowedPaths.{led_end, led_next}
 use Rattle.pg_slice_replay.proofs.follow.follow_from.Goals as goal
 
 pub loop-i-preserved : goal.loop-i-preserved

@@ -1,6 +1,6 @@
 use Rattle.std.proofs.Common.{◌≡◌, length}
 use Rattle.pg_run_memory.specs.Memory.{read}
-use Rattle.pg_slice_replay.proofs.Follows.{Led}
+use Rattle.pg_slice_replay.proofs.FollowedPaths.{Led}
 use Rattle.pg_slice_replay.proofs.follow.follow_from.Given as goal
 
 abbrev pub invariant-loop-i : goal.invariant-loop-i

@@ -1,5 +1,5 @@
 use Rattle.std.proofs.Common.{◌∙◌}
-use Rattle.pg_slice_replay.proofs.Frees.{apart_added, apart_cut}
+use Rattle.pg_slice_replay.proofs.FreeableSteps.{apart_added, apart_cut}
 use Rattle.pg_slice_replay.proofs.free.follow_apart.Goals as goal
 
 pub try_apart-requires : goal.try_apart-requires

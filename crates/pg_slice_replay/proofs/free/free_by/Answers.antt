@@ -1,7 +1,7 @@
 use Rattle.std.proofs.Common.{ℕ, ◌∙◌, ap, subst, sym}
 use Rattle.std.specs.Option.{option_copied}
 use Rattle.pg_slice_replay.specs.Shared.{IsShared}
-use Rattle.pg_slice_replay.proofs.Frees.{freed_missing, freed_none, freed_shared, freed_some}
+use Rattle.pg_slice_replay.proofs.FreeableSteps.{freed_missing, freed_none, freed_shared, freed_some}
 use Rattle.pg_slice_replay.proofs.free.free_by.Goals as goal
 
 pub returns-in-None : goal.returns-in-None

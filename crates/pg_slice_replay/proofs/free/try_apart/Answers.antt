@@ -1,5 +1,5 @@
 use Rattle.std.proofs.Common.{◌∙◌, ap, drop}
-use Rattle.pg_slice_replay.proofs.Frees.{added_count, tried, tried_none}
+use Rattle.pg_slice_replay.proofs.FreeableSteps.{added_count, tried, tried_none}
 use Rattle.pg_slice_replay.proofs.free.try_apart.Goals as goal
 
 pub returns-then-not-followed : goal.returns-then-not-followed

@@ -2,7 +2,7 @@ use Rattle.std.proofs.Common.{◌≡◌, ℕ, ◌<◌, Some, ap, sym, subst, ◌
 use Rattle.std.specs.Prelude.{IfSome, slice_get}
 use Rattle.std.proofs.lemmas.Option.{slice_get-get_or}
 use Rattle.pg_ir.specs.Edges.{phis_of}
-use Rattle.pg_slice_replay.proofs.Phis.{phi_small}
+use Rattle.pg_slice_replay.proofs.PhiRegisters.{phi_small}
 use Rattle.pg_slice_replay.proofs.may_set.add_phis.Goals as goal
 
 pub add_set-requires : goal.add_set-requires

@@ -1,5 +1,5 @@
 use Rattle.std.proofs.Common.{◌≤◌}
-use Rattle.pg_slice_replay.proofs.Shorts.{NoneFrom}
+use Rattle.pg_slice_replay.proofs.ShortSets.{NoneFrom}
 use Rattle.pg_slice_replay.proofs.may_set.end_of.Given as goal
 
 abbrev pub invariant-loop-i : goal.invariant-loop-i

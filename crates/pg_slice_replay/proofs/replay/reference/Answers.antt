@@ -1,5 +1,5 @@
 use Rattle.pg_region_accesses.specs.Accesses.{is_gated, summary_of}
-use Rattle.pg_slice_replay.proofs.Told.{landmark_each, row_count}
+use Rattle.pg_slice_replay.proofs.ToldLandmarks.{landmark_each, row_count}
 use Rattle.pg_slice_replay.proofs.replay.reference.Goals as goal
 
 pub returns-clause-landmarks : goal.returns-clause-landmarks

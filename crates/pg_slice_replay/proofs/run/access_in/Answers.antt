@@ -1,5 +1,5 @@
 use Rattle.std.proofs.Common.{◌∙◌, Some, ap, sym}
-use Rattle.pg_slice_replay.proofs.Rows.{with_at, without_access, without_at}
+use Rattle.pg_slice_replay.proofs.AddedRows.{with_at, without_access, without_at}
 use Rattle.pg_slice_replay.proofs.run.access_in.Goals as goal
 
 pub returns-in-Some-at_if : goal.returns-in-Some-at_if

@@ -1,6 +1,6 @@
 use Rattle.std.proofs.Common.{ap, ◌∙◌, replicate}
 use Rattle.pg_slice_replay.specs.declared.found.Sought.TheVariants.{Unsought}
-use Rattle.pg_slice_replay.proofs.Seeks.{none_found}
+use Rattle.pg_slice_replay.proofs.SoughtRegions.{none_found}
 use Rattle.pg_slice_replay.proofs.seek.none_known.Goals as goal
 
 pub returns : goal.returns

@@ -4,7 +4,7 @@ use Rattle.pg_region_accesses.specs.Accesses.{summary_of}
 use Rattle.pg_region_accesses.specs.Tables.{in_table}
 use Rattle.pg_region.specs.Regions.{RegionOf, block_in, block_of}
 use Rattle.pg_slice_replay.specs.Sought.{was_sought}
-use Rattle.pg_slice_replay.proofs.Seeks.{region_within, seek_kept, seek_more, seek_own}
+use Rattle.pg_slice_replay.proofs.SoughtRegions.{region_within, seek_kept, seek_more, seek_own}
 use Rattle.pg_slice_replay.proofs.seek.seek.Goals as goal
 
 pub add_region-requires : goal.add_region-requires

@@ -1,7 +1,7 @@
 use Rattle.std.proofs.Common.{List, ◌∙◌, ap, arith, sym}
 use Rattle.std.specs.Prelude.{slice_get}
 use Rattle.pg_slice_replay.specs.declared.at.At.{At}
-use Rattle.pg_slice_replay.proofs.Frees.{alike_next}
+use Rattle.pg_slice_replay.proofs.FreeableSteps.{alike_next}
 use Rattle.pg_slice_replay.proofs.share.are_alike.Goals as goal
 
 pub loop-k-preserved : goal.loop-k-preserved

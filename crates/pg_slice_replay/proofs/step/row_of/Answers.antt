@@ -1,4 +1,4 @@
-use Rattle.pg_slice_replay.proofs.Frees.{function_at}
+use Rattle.pg_slice_replay.proofs.FreeableSteps.{function_at}
 use Rattle.pg_slice_replay.proofs.step.row_of.Goals as goal
 
 pub returns-clause-function : goal.returns-clause-function

@@ -1,5 +1,5 @@
 use Rattle.std.proofs.Common.{length}
-use Rattle.pg_slice_values.proofs.Grows.{grew_length, shadow_kept, source_more}
+use Rattle.pg_slice_values.proofs.GrowingNodes.{grew_length, shadow_kept, source_more}
 use Rattle.pg_slice_values.proofs.laws.sources_stay.Goals as goal
 
 pub returns-clause-same : goal.returns-clause-same

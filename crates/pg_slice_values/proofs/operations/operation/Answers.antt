@@ -9,7 +9,7 @@ use Rattle.pg_precondition.specs.declared.node.Node.{Node}
 use Rattle.pg_precondition.specs.Nodes.{IsNode}
 use Rattle.pg_precondition.specs.Values.{node_number, numbers_of}
 use Rattle.pg_slice_values.specs.Sources.{number_by, shadow_by}
-use Rattle.pg_slice_values.proofs.Forms.{formed, node_fits}
+use Rattle.pg_slice_values.proofs.OneNodeOperations.{formed, node_fits}
 use Rattle.pg_slice_values.proofs.Indices.{gep_count, gep_is}
 use Rattle.pg_slice_values.proofs.Operands.{all_blamed}
 use Rattle.pg_slice_values.proofs.operations.operation.Goals as goal

@@ -1,7 +1,7 @@
 use Rattle.std.proofs.Common.{◌≡◌, ℕ, ◌%◌, ◌==◌, Option, Some, None, ◌∙◌, ap, refl, cond, Bool, true, false}
 use Rattle.std.proofs.lemmas.Result.{IfOk-weaker}
 use Rattle.pg_precondition.specs.Values.{chosen, with_one}
-use Rattle.pg_slice_values.proofs.Grows.{number_kept}
+use Rattle.pg_slice_values.proofs.GrowingNodes.{number_kept}
 use Rattle.pg_slice_values.proofs.pointers.fixed.Goals as goal
 
 same_ways : (b : Bool) (x : Option ℕ) → cond b x x ≡ x

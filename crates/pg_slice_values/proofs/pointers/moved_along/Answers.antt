@@ -5,7 +5,7 @@ use Rattle.pg_ir.specs.declared.value.Scale.TheVariants.{Times}
 use Rattle.pg_ir.specs.declared.value.Value.TheVariants.{Register}
 use Rattle.pg_slice_values.specs.Sources.{number_by}
 use Rattle.pg_slice_values.specs.Forms.{node_at, numbers_from}
-use Rattle.pg_slice_values.proofs.Grows.{grew_then, number_kept}
+use Rattle.pg_slice_values.proofs.GrowingNodes.{grew_then, number_kept}
 use Rattle.pg_slice_values.proofs.Operands.{known_below, number_from, numbers_length}
 use Rattle.pg_slice_values.proofs.Indices.{one_index, with_number}
 use Rattle.pg_slice_values.proofs.pointers.moved_along.Goals as goal

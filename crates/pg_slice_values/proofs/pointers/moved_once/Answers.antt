@@ -2,8 +2,8 @@ use Rattle.std.proofs.Common.{◌∙◌, ap}
 use Rattle.std.proofs.lemmas.Result.{IfOk-weaker}
 use Rattle.pg_slice_values.specs.Sources.{number_by}
 use Rattle.pg_slice_values.specs.Forms.{moved_if}
-use Rattle.pg_slice_values.proofs.Grows.{number_kept}
-use Rattle.pg_slice_values.proofs.Moves.{moved_is}
+use Rattle.pg_slice_values.proofs.GrowingNodes.{number_kept}
+use Rattle.pg_slice_values.proofs.PointerMoves.{moved_is}
 use Rattle.pg_slice_values.proofs.pointers.moved_once.Goals as goal
 
 pub returns-clause-value : goal.returns-clause-value

@@ -4,7 +4,7 @@ use Rattle.pg_num.specs.Numbers.{product_of, sign_extended, truncated}
 use Rattle.pg_num.specs.declared.width.Width.{Width}
 use Rattle.pg_num.specs.declared.width.Width.TheVariants.{W64}
 use Rattle.pg_precondition.specs.Values.{with_both, with_one}
-use Rattle.pg_slice_values.proofs.Grows.{number_kept}
+use Rattle.pg_slice_values.proofs.GrowingNodes.{number_kept}
 use Rattle.pg_slice_values.proofs.pointers.scaled.Goals as goal
 
 times : (w : Width) (s : ℕ) (n wide scale : Option ℕ) → wide ≡ with_one n (λ m. Some (sign_extended w W64 (truncated w m))) → scale ≡ Some s →

@@ -1,6 +1,6 @@
 use Rattle.std.proofs.Common.{sym, ◌∙◌, subst, eqb-true}
 use Rattle.pg_slice_walk.specs.Settled.{ArePinned}
-use Rattle.pg_slice_walk.proofs.Pinned.{none_held, settled_at}
+use Rattle.pg_slice_walk.proofs.SettledWithMore.{none_held, settled_at}
 use Rattle.pg_slice_walk.proofs.extents.is_settled.Goals as goal
 
 pub returns-then-holder-eq0-clause-pinned : goal.returns-then-holder-eq0-clause-pinned

@@ -1,5 +1,5 @@
 use Rattle.std.specs.Prelude.{slice_index_or}
-use Rattle.pg_slice_walk.proofs.Settling.{leads_push}
+use Rattle.pg_slice_walk.proofs.SettledExtents.{leads_push}
 use Rattle.pg_slice_walk.proofs.extents.unsettled.Goals as goal
 
 pub loop-list-preserved : goal.loop-list-preserved

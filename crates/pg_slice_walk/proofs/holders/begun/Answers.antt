@@ -1,4 +1,4 @@
-use Rattle.pg_slice_walk.proofs.Chained.{begun_is, begun_not}
+use Rattle.pg_slice_walk.proofs.OpenExtents.{begun_is, begun_not}
 use Rattle.pg_slice_walk.proofs.holders.begun.Goals as goal
 
 pub returns-then-is_free-clause-first : goal.returns-then-is_free-clause-first

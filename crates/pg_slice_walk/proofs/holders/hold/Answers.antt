@@ -2,7 +2,7 @@ use Rattle.std.proofs.Common.{◌≡◌, ◌≤◌, ◌+◌, ℕ, List, length, 
 use Rattle.std.specs.Prelude.{slice_index_or}
 use Rattle.std.proofs.lemmas.List.{length-set}
 use Rattle.pg_slice_walk.specs.Chains.{AreHeld}
-use Rattle.pg_slice_walk.proofs.Chained.{hold_is, older_next, tops_next}
+use Rattle.pg_slice_walk.proofs.OpenExtents.{hold_is, older_next, tops_next}
 use Rattle.pg_slice_walk.proofs.holders.hold.Goals as goal
 
 before_is : (tops shown : List ℕ) (t before : ℕ) → shown ≡ tops → before ≡ slice_index_or shown t 0 → before ≡ slice_index_or tops t 0

@@ -2,10 +2,10 @@ use Rattle.std.proofs.Common.{◌≡◌, ℕ, List, length, sym, ap, ◌∙◌, 
 use Rattle.std.proofs.lemmas.List.{length-replicate}
 use Rattle.pg_run_trace.specs.declared.step.Step.{Step}
 use Rattle.pg_slice_passes.specs.Given.{reference_of}
-use Rattle.pg_slice_passes.proofs.Meeting.{as_many}
+use Rattle.pg_slice_passes.proofs.AllAsked.{as_many}
 use Rattle.pg_slice_walk.specs.Chains.{AreHeld, AreOlder}
-use Rattle.pg_slice_walk.proofs.Chained.{all_held, held_first, none_older, none_on_top}
-use Rattle.pg_slice_walk.proofs.Moments.{has_at}
+use Rattle.pg_slice_walk.proofs.OpenExtents.{all_held, held_first, none_older, none_on_top}
+use Rattle.pg_slice_walk.proofs.StepMoments.{has_at}
 use Rattle.pg_slice_walk.proofs.holders.holders.Goals as goal
 
 pub loop-n-init : goal.loop-n-init

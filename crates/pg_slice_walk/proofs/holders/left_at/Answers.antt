@@ -1,5 +1,5 @@
 use Rattle.std.proofs.Common.{◌-◌, Some, refl, sym, ◌∙◌, arith}
-use Rattle.pg_slice_walk.proofs.Chained.{left_ends, left_none, left_stays}
+use Rattle.pg_slice_walk.proofs.OpenExtents.{left_ends, left_none, left_stays}
 use Rattle.pg_slice_walk.proofs.holders.left_at.Goals as goal
 
 pub loop-left-init : goal.loop-left-init

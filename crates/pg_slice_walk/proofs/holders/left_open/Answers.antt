@@ -1,4 +1,4 @@
-use Rattle.pg_slice_walk.proofs.Chained.{none_leave}
+use Rattle.pg_slice_walk.proofs.OpenExtents.{none_leave}
 use Rattle.pg_slice_walk.proofs.holders.left_open.Goals as goal
 
 pub returns-in-None-clause-left : goal.returns-in-None-clause-left

@@ -4,8 +4,8 @@ use Rattle.pg_slice_decisions.specs.Steps.{AreOf, taken_by}
 use Rattle.pg_run_trace.specs.declared.step.Step.{Step}
 use Rattle.pg_slice_walk.specs.Settled.{ArePinned}
 use Rattle.pg_slice_walk.specs.Walks.{Walks}
-use Rattle.pg_slice_walk.proofs.Along.{if_none, live_walks, same_step}
-use Rattle.pg_slice_walk.proofs.Pinned.{settled_stays}
+use Rattle.pg_slice_walk.proofs.WalkSteps.{if_none, live_walks, same_step}
+use Rattle.pg_slice_walk.proofs.SettledWithMore.{settled_stays}
 use Rattle.pg_slice_walk.proofs.walk.back.Goals as goal
 
 pub settle_open-requires-clause-size : goal.settle_open-requires-clause-size

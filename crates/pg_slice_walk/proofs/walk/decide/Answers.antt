@@ -5,8 +5,8 @@ use Rattle.pg_slice_rules.specs.declared.decision.Decision.TheVariants.{Pinned}
 use Rattle.pg_slice_rules.specs.Known.{Taken, has}
 use Rattle.pg_slice_rules.specs.Closed.{AreWithin}
 use Rattle.pg_slice_walk.specs.Sets.{SetsAt}
-use Rattle.pg_slice_back.proofs.Meets.{less_then}
-use Rattle.pg_slice_walk.proofs.Setting.{asks_none, asks_some, less_itself, passes_by, sets_less}
+use Rattle.pg_slice_back.proofs.NeedsBackOverSteps.{less_then}
+use Rattle.pg_slice_walk.proofs.RegionSettings.{asks_none, asks_some, less_itself, passes_by, sets_less}
 use Rattle.pg_slice_walk.proofs.walk.decide.Goals as goal
 
 pub returns-then-is_pinned-clause-less : goal.returns-then-is_pinned-clause-less

@@ -5,8 +5,8 @@ use Rattle.pg_slice_rules.specs.Known.{Taken}
 use Rattle.pg_slice_decisions.specs.Steps.{taken_by}
 use Rattle.pg_slice_walk.specs.Chains.{AreOlder}
 use Rattle.pg_slice_walk.specs.Settled.{ArePinned, AreSettled, Leads}
-use Rattle.pg_slice_walk.proofs.Pinned.{pinned_here, pinned_more, settled_set, settled_stays}
-use Rattle.pg_slice_walk.proofs.Settling.{decided, leads_down, leads_last, passed_over}
+use Rattle.pg_slice_walk.proofs.SettledWithMore.{pinned_here, pinned_more, settled_set, settled_stays}
+use Rattle.pg_slice_walk.proofs.SettledExtents.{decided, leads_down, leads_last, passed_over}
 use Rattle.pg_slice_walk.proofs.walk.settle_open.Goals as goal
 
 -- the oldest of those that are left

@@ -3,9 +3,9 @@ use Rattle.pg_slice_decisions.specs.Steps.{taken_by}
 use Rattle.pg_slice_passes.specs.Given.{reference_of}
 use Rattle.pg_run_trace.specs.declared.step.Step.{Step}
 use Rattle.pg_slice_walk.specs.Walks.{Walks}
-use Rattle.pg_slice_walk.proofs.Along.{none_met}
-use Rattle.pg_slice_walk.proofs.Moments.{get_there, has_at}
-use Rattle.pg_slice_walk.proofs.Pinned.{none_settled}
+use Rattle.pg_slice_walk.proofs.WalkSteps.{none_met}
+use Rattle.pg_slice_walk.proofs.StepMoments.{get_there, has_at}
+use Rattle.pg_slice_walk.proofs.SettledWithMore.{none_settled}
 use Rattle.pg_slice_walk.proofs.walk.widen.Goals as goal
 
 pub loop-n-init : goal.loop-n-init

@@ -2,7 +2,7 @@ use Rattle.std.proofs.Common.{◌≡◌, ℕ, arith, subst, length}
 use Rattle.pg_ir.specs.declared.tables.BlockTable.{BlockTable}
 use Rattle.pg_ir.specs.Edges.{successors}
 use Rattle.pg_ir.specs.Tables.{FitsTable, HaveRows, HasCases, block_cases}
-use Rattle.pg_ir.proofs.Prepared.{tables_pushed}
+use Rattle.pg_ir.proofs.GrowingTables.{tables_pushed}
 use Rattle.pg_ir.proofs.parts.Parts.push_block.Goals as goal
 
 pub returns-clause-tables : goal.returns-clause-tables

@@ -3,7 +3,7 @@ use Rattle.std.specs.Prelude.{slice_get}
 use Rattle.std.proofs.lemmas.Option.{slice_get_within}
 use Rattle.pg_ir.specs.Edges.{successors}
 use Rattle.pg_ir.specs.Tables.{IsRow}
-use Rattle.pg_ir.proofs.Prepared.{front_refl, front_trans, values_front, rows_pushed}
+use Rattle.pg_ir.proofs.GrowingTables.{front_refl, front_trans, values_front, rows_pushed}
 use Rattle.pg_ir.proofs.parts.Parts.push_edges.Goals as goal
 
 pub loop-k-init : goal.loop-k-init

@@ -1,7 +1,7 @@
 use Rattle.std.proofs.Common.{◌≡◌, ℕ, sym, subst, arith, length}
 use Rattle.pg_ir.specs.Edges.{values_along}
 use Rattle.pg_ir.specs.Tables.{AreEntered, HasRow}
-use Rattle.pg_ir.proofs.Prepared.{front_refl, values_front, values_end, entered_set}
+use Rattle.pg_ir.proofs.GrowingTables.{front_refl, values_front, values_end, entered_set}
 use Rattle.pg_ir.proofs.parts.Parts.row_of.Goals as goal
 
 pub returns-in-Some-clause-front : goal.returns-in-Some-clause-front

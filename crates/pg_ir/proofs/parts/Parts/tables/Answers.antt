@@ -1,4 +1,4 @@
-use Rattle.pg_ir.proofs.Prepared.{none_entered, no_tables}
+use Rattle.pg_ir.proofs.GrowingTables.{none_entered, no_tables}
 use Rattle.pg_ir.proofs.parts.Parts.tables.Goals as goal
 
 pub push_blocks-requires-clause-entered : goal.push_blocks-requires-clause-entered

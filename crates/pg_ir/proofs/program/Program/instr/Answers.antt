@@ -2,8 +2,8 @@ use Rattle.std.proofs.Common.{◌≡◌, Some, arith}
 use Rattle.std.specs.Prelude.{slice_get}
 use Rattle.std.proofs.lemmas.Grind.{common_steps}
 use Rattle.std.proofs.lemmas.Option.{gets}
-use Rattle.pg_ir.proofs.Blocks.{can_go_on}
-use Rattle.pg_ir.proofs.Operand.{instr_reads}
+use Rattle.pg_ir.proofs.BlockParts.{can_go_on}
+use Rattle.pg_ir.proofs.ReadableOperands.{instr_reads}
 use Rattle.pg_ir.proofs.program.Program.instr.Goals as goal
 
 pub returns-clause-fits : goal.returns-clause-fits

@@ -1,4 +1,4 @@
-use Rattle.pg_ir.proofs.Prepared.{phis_read}
+use Rattle.pg_ir.proofs.GrowingTables.{phis_read}
 use Rattle.pg_ir.proofs.program.Program.phis.Goals as goal
 
 pub first_phis-requires : goal.first_phis-requires

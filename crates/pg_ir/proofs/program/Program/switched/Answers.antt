@@ -1,4 +1,4 @@
-use Rattle.pg_ir.proofs.Prepared.{cases_read}
+use Rattle.pg_ir.proofs.GrowingTables.{cases_read}
 use Rattle.pg_ir.proofs.program.Program.switched.Goals as goal
 
 pub rows_at-rows-requires : goal.rows_at-rows-requires

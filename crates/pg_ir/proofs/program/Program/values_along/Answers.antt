@@ -1,7 +1,7 @@
 use Rattle.std.proofs.Common.{◌≡◌, ◌∙◌, ℕ, ◌+◌, ◌<◌, arith, ap, length, take, drop}
 use Rattle.std.proofs.lemmas.Option.{slice_get_within}
 use Rattle.pg_ir.specs.Edges.{values_along}
-use Rattle.pg_ir.proofs.Prepared.{edge_read, count_read}
+use Rattle.pg_ir.proofs.GrowingTables.{edge_read, count_read}
 use Rattle.pg_ir.proofs.program.Program.values_along.Goals as goal
 
 pub overflow_add-left : goal.overflow_add-left

@@ -1,7 +1,7 @@
 use Rattle.std.proofs.Common.{List, length, arith, subst, sym}
 use Rattle.pg_precondition.specs.declared.node.Node.{Node}
 use Rattle.pg_precondition.specs.Nodes.{IsNode, AreNodes}
-use Rattle.pg_precondition.proofs.Added.{one_more}
+use Rattle.pg_precondition.proofs.AddedNodes.{one_more}
 use Rattle.pg_precondition.proofs.nodes.Nodes.push.Goals as goal
 
 pub invariant_of-self-2 : goal.invariant_of-self-2

@@ -1,7 +1,7 @@
 use Rattle.std.proofs.Common.{length, ap, ◌∙◌}
 use Rattle.pg_cfg.specs.Graphs.{EdgeLists}
-use Rattle.pg_region_summaries.proofs.Places.{graph_size}
-use Rattle.pg_region_summaries.proofs.Prepared.{few_functions, reached_in}
+use Rattle.pg_region_summaries.proofs.InstructionPlaces.{graph_size}
+use Rattle.pg_region_summaries.proofs.PreparedSummaries.{few_functions, reached_in}
 use Rattle.pg_region_summaries.proofs.summary.Work.new.Goals as goal
 
 pub reaches-requires-clause-few : goal.reaches-requires-clause-few

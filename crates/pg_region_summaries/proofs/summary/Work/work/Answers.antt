@@ -8,8 +8,8 @@ use Rattle.pg_region_summaries.specs.declared.reaches.Reach.{Reach}
 use Rattle.pg_region_summaries.specs.Reaches.{reach_at}
 use Rattle.pg_region_summaries.specs.Summaries.{summary_by}
 use Rattle.pg_region_summaries.specs.Work.{may_be_quiet}
-use Rattle.pg_region_summaries.proofs.Prepared.{put_same, put_other}
-use Rattle.pg_region_summaries.proofs.Worked.{worked_more}
+use Rattle.pg_region_summaries.proofs.PreparedSummaries.{put_same, put_other}
+use Rattle.pg_region_summaries.proofs.WorkOrder.{worked_more}
 use Rattle.pg_region_summaries.proofs.summary.Work.work.Goals as goal
 
 pub returns-clause-sums : goal.returns-clause-sums

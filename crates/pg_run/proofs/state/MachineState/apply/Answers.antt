@@ -1,4 +1,4 @@
-use Rattle.pg_run.proofs.Asks.{room_of}
+use Rattle.pg_run.proofs.StepsBegin.{room_of}
 use Rattle.pg_run.proofs.state.MachineState.apply.Goals as goal
 
 pub returns-clause-room : goal.returns-clause-room

@@ -1,4 +1,4 @@
-use Rattle.pg_run.proofs.Dues.{ready_if_due}
+use Rattle.pg_run.proofs.OwnersMayStep.{ready_if_due}
 use Rattle.pg_run.proofs.state.MachineState.due.Goals as goal
 
 pub returns-clause-ready : goal.returns-clause-ready

@@ -1,6 +1,6 @@
 use Rattle.std.proofs.Common.{refl}
 use Rattle.std.specs.Prelude.{slice_get}
-use Rattle.pg_run.proofs.Wents.{goes_in, stays_in}
+use Rattle.pg_run.proofs.OwnSteps.{goes_in, stays_in}
 use Rattle.pg_run.proofs.state.MachineState.go_on.Goals as goal
 
 pub returns-clause-step : goal.returns-clause-step

@@ -1,7 +1,7 @@
 use Rattle.std.proofs.Common.{ap, sym, refl}
 use Rattle.pg_run.specs.Answer.{answer_in}
-use Rattle.pg_run.proofs.Goes.{did_is, trapped_step}
-use Rattle.pg_run.proofs.Told.{step_filled}
+use Rattle.pg_run.proofs.StatesAfterAnswers.{did_is, trapped_step}
+use Rattle.pg_run.proofs.ToldTurns.{step_filled}
 use Rattle.pg_run.proofs.state.MachineState.step.Goals as goal
 
 pub returns-in-Err-clause-step : goal.returns-in-Err-clause-step

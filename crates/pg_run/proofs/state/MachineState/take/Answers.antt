@@ -1,8 +1,8 @@
 use Rattle.std.proofs.Common.{rules, Ok, refl, ◌<◌, ◌^◌, ap, length, arith}
 use Rattle.pg_run.specs.State.{next_of}
-use Rattle.pg_run.proofs.Asks.{may_do, ready_made}
+use Rattle.pg_run.proofs.StepsBegin.{may_do, ready_made}
 use Rattle.pg_run.proofs.Steps.{trapped_is}
-use Rattle.pg_run.proofs.Goes.{local_is, seen, may_go_on, stands, taken_is, taken_more}
+use Rattle.pg_run.proofs.StatesAfterAnswers.{local_is, seen, may_go_on, stands, taken_is, taken_more}
 use Rattle.pg_run.proofs.state.MachineState.take.Goals as goal
 
 pub answer-requires : goal.answer-requires

@@ -1,6 +1,6 @@
 use Rattle.std.proofs.Common.{length, ap, arith}
 use Rattle.pg_run_objects.specs.Sync.{Sync}
-use Rattle.pg_run_objects.proofs.Counts.{number_is_small}
+use Rattle.pg_run_objects.proofs.WaiterCounts.{number_is_small}
 use Rattle.pg_run_objects.proofs.state.SyncState.mark_joined.Goals as goal
 
 pub overflow_cast-result : goal.overflow_cast-result

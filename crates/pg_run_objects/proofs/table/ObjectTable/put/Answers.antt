@@ -2,7 +2,7 @@ use Rattle.std.proofs.Common.{◌≡◌, ◌<◌, ◌∙◌, sym, arith, length,
 use Rattle.std.specs.Prelude.{slice_get, None}
 use Rattle.pg_run_objects.specs.Objects.{object_at, is_missing}
 use Rattle.pg_run_objects.specs.Places.{place_is}
-use Rattle.pg_run_objects.proofs.Tables.{lookup_missing}
+use Rattle.pg_run_objects.proofs.ObjectTables.{lookup_missing}
 use Rattle.pg_run_objects.proofs.table.ObjectTable.put.Goals as goal
 
 pub unreachable-requires : goal.unreachable-requires

@@ -3,7 +3,7 @@ use Rattle.pg_run_thread.specs.LocalState.{own_memory}
 use Rattle.pg_run_thread.specs.Step.{result_number, top_registers}
 use Rattle.pg_run_thread.specs.Told.{or_zero}
 use Rattle.pg_run_thread.specs.Needs.{IsStraight}
-use Rattle.pg_run_thread.proofs.Straight.{goes_straight, straight_state}
+use Rattle.pg_run_thread.proofs.RegisterSteps.{goes_straight, straight_state}
 use Rattle.pg_run_thread.proofs.fiber.Fiber.act.Goals as goal
 
 pub returns-in_default : goal.returns-in_default

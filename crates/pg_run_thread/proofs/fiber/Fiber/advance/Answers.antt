@@ -1,9 +1,9 @@
 use Rattle.std.proofs.Common.{◌≡◌, ◌<◌, ◌∙◌, true, false, arith, length, sym, subst}
 use Rattle.pg_run_thread.specs.States.{CanStep}
-use Rattle.pg_run_thread.proofs.Nexts.{next_at}
-use Rattle.pg_run_thread.proofs.Presents.{is_present}
-use Rattle.pg_run_thread.proofs.Rooms.{can_do}
-use Rattle.pg_run_thread.proofs.Advances.{advanced_ended, advanced_start, advanced_at, advanced_of}
+use Rattle.pg_run_thread.proofs.NextActions.{next_at}
+use Rattle.pg_run_thread.proofs.PresentInstructions.{is_present}
+use Rattle.pg_run_thread.proofs.StepRooms.{can_do}
+use Rattle.pg_run_thread.proofs.PresentSteps.{advanced_ended, advanced_start, advanced_at, advanced_of}
 use Rattle.pg_run_thread.proofs.fiber.Fiber.advance.Goals as goal
 
 pub returns-then-is_ended-clause-step : goal.returns-then-is_ended-clause-step

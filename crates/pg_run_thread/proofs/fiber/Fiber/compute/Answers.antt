@@ -3,7 +3,7 @@ use Rattle.pg_run_thread.specs.declared.action.Action.{Action}
 use Rattle.pg_run_thread.specs.declared.advance.Advance.TheVariants.{Done, Asks}
 use Rattle.pg_run_thread.specs.declared.advance.LocalStep.TheVariants.{Other}
 use Rattle.pg_run_thread.specs.LocalState.{LocalState}
-use Rattle.pg_run_thread.proofs.Ties.{computes_done, computes_asks}
+use Rattle.pg_run_thread.proofs.OperationSteps.{computes_done, computes_asks}
 use Rattle.pg_run_thread.proofs.fiber.Fiber.compute.Goals as goal
 
 pub returns-in-Some : goal.returns-in-Some

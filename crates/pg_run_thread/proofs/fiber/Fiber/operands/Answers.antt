@@ -1,5 +1,5 @@
 use Rattle.std.proofs.Common.{◌<◌, arith, length}
-use Rattle.pg_run_thread.proofs.Presents.{is_present}
+use Rattle.pg_run_thread.proofs.PresentInstructions.{is_present}
 use Rattle.pg_run_thread.proofs.fiber.Fiber.operands.Goals as goal
 
 pub operand_numbers-requires : goal.operand_numbers-requires

@@ -1,5 +1,5 @@
-use Rattle.pg_run_thread.proofs.Presents.{is_present}
-use Rattle.pg_run_thread.proofs.Nexts.{can_go}
+use Rattle.pg_run_thread.proofs.PresentInstructions.{is_present}
+use Rattle.pg_run_thread.proofs.NextActions.{can_go}
 use Rattle.pg_run_thread.proofs.fiber.Fiber.resume.Goals as goal
 
 pub act-requires-clause-present : goal.act-requires-clause-present

@@ -3,7 +3,7 @@ use Rattle.std.specs.Prelude.{slice_index_or}
 use Rattle.pg_run_trace.specs.declared.step.Step.{Step}
 use Rattle.pg_slice_back.specs.declared.counts.Calls.{Calls}
 use Rattle.pg_slice_back.specs.Stacks.{IsStack}
-use Rattle.pg_slice_back.proofs.Stacking.{pass_is}
+use Rattle.pg_slice_back.proofs.ThreadRegisterCounts.{pass_is}
 use Rattle.pg_slice_back.proofs.counts.Calls.pass.Goals as goal
 
 pub returns : goal.returns

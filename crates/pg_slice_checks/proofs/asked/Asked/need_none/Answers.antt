@@ -1,7 +1,7 @@
 use Rattle.std.proofs.Common.{ap, length}
 use Rattle.pg_slice_values.specs.declared.source.Source.TheVariants as source
 use Rattle.pg_slice_values.specs.Sources.{IsSource, number_by}
-use Rattle.pg_slice_checks.proofs.Added.{many_checks}
+use Rattle.pg_slice_checks.proofs.OneNeedMore.{many_checks}
 use Rattle.pg_slice_checks.proofs.asked.Asked.need_none.Goals as goal
 
 pub returns-in_ok-check_others-in-Known : goal.returns-in_ok-check_others-in-Known

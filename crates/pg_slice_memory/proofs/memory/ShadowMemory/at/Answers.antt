@@ -3,7 +3,7 @@ use Rattle.pg_slice_memory.specs.Stamped.{IsLast}
 use Rattle.pg_slice_memory.specs.Changes.{Changes}
 use Rattle.pg_slice_memory.specs.declared.change.Change.{Change}
 use Rattle.pg_slice_memory.specs.declared.source.Held.TheVariants as held
-use Rattle.pg_slice_memory.proofs.Changing.{last_is_in}
+use Rattle.pg_slice_memory.proofs.ByteChanges.{last_is_in}
 use Rattle.pg_slice_memory.proofs.memory.ShadowMemory.at.Goals as goal
 
 -- what an index outside of the list would give

@@ -1,5 +1,5 @@
 use Rattle.std.proofs.Common.{arith}
-use Rattle.pg_slice_memory.proofs.Changing.{more_stamps}
+use Rattle.pg_slice_memory.proofs.ByteChanges.{more_stamps}
 use Rattle.pg_slice_memory.proofs.memory.ShadowMemory.change.Goals as goal
 
 pub invariant_of-self-in-Ok : goal.invariant_of-self-in-Ok

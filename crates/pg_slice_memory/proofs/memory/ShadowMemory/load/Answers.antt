@@ -1,5 +1,5 @@
 use Rattle.std.proofs.Common.{sym, ◌∙◌}
-use Rattle.pg_slice_memory.proofs.Reading.{read_same}
+use Rattle.pg_slice_memory.proofs.ReadBytes.{read_same}
 use Rattle.pg_slice_memory.proofs.memory.ShadowMemory.load.Goals as goal
 
 pub returns-in-Some-clause-value : goal.returns-in-Some-clause-value

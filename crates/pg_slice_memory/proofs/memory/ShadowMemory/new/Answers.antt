@@ -2,7 +2,7 @@ use Rattle.std.proofs.Common.{ap}
 use mathlib.Core.Path.{fun_ext}
 use Rattle.pg_slice_memory.specs.declared.source.ByteSource.{ByteSource}
 use Rattle.pg_slice_memory.specs.Sources.{byte_shadow}
-use Rattle.pg_slice_memory.proofs.Changing.{no_stamps, sources_none}
+use Rattle.pg_slice_memory.proofs.ByteChanges.{no_stamps, sources_none}
 use Rattle.pg_slice_memory.proofs.memory.ShadowMemory.new.Goals as goal
 
 pub invariant_of-result : goal.invariant_of-result

@@ -3,7 +3,7 @@ use Rattle.std.proofs.Math.ListN.{length-set}
 use Rattle.pg_slice_memory.specs.declared.source.ByteSource.TheVariants as byte
 use Rattle.pg_slice_memory.specs.Changes.{sources_of}
 use Rattle.pg_slice_memory.specs.Sources.{IsPart}
-use Rattle.pg_slice_memory.proofs.Reading.{set_next}
+use Rattle.pg_slice_memory.proofs.ReadBytes.{set_next}
 use Rattle.pg_slice_memory.proofs.memory.ShadowMemory.sources.Goals as goal
 
 pub loop-k-preserved : goal.loop-k-preserved

@@ -4,8 +4,8 @@ use Rattle.pg_num.specs.Places.{ByteRange}
 use Rattle.pg_slice_memory.specs.declared.source.Held.TheVariants.{Unknown}
 use Rattle.pg_slice_memory.specs.Sources.{changed}
 use Rattle.pg_slice_memory.specs.Changes.{sources_of}
-use Rattle.pg_slice_memory.proofs.Changing.{sources_more}
-use Rattle.pg_slice_memory.proofs.Shown.{names_kept, spoil_shown}
+use Rattle.pg_slice_memory.proofs.ByteChanges.{sources_more}
+use Rattle.pg_slice_memory.proofs.KnownAfterChanges.{names_kept, spoil_shown}
 use Rattle.pg_slice_memory.proofs.memory.ShadowMemory.spoil.Goals as goal
 
 abbrev spoiled_range : goal.After-change → ByteRange

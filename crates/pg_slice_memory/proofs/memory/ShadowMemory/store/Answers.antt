@@ -3,8 +3,8 @@ use Rattle.std.proofs.lemmas.Result.{on_ok_weaker}
 use Rattle.pg_num.specs.Places.{ByteRange}
 use Rattle.pg_slice_memory.specs.Sources.{changed}
 use Rattle.pg_slice_memory.specs.Changes.{sources_of}
-use Rattle.pg_slice_memory.proofs.Changing.{sources_more}
-use Rattle.pg_slice_memory.proofs.Shown.{names_kept, store_shown}
+use Rattle.pg_slice_memory.proofs.ByteChanges.{sources_more}
+use Rattle.pg_slice_memory.proofs.KnownAfterChanges.{names_kept, store_shown}
 use Rattle.pg_slice_memory.proofs.memory.ShadowMemory.store.Goals as goal
 
 abbrev stored_range : goal.After-change → ByteRange

@@ -6,8 +6,8 @@ use Rattle.pg_slice_replay.specs.Given.{access_as}
 use Rattle.pg_slice_replay.specs.Kept.{landmark_at}
 use Rattle.pg_slice_passes.specs.Passes.{IsTimed}
 use Rattle.pg_slice_passes.specs.Footprints.{footprint_by}
-use Rattle.pg_slice_passes.proofs.Adding.{each_region, same_some}
-use Rattle.pg_slice_passes.proofs.Ordering.{adds_nothing}
+use Rattle.pg_slice_passes.proofs.AddedNodes.{each_region, same_some}
+use Rattle.pg_slice_passes.proofs.FootprintOrder.{adds_nothing}
 use Rattle.pg_slice_passes.proofs.RegionFootprints.{not_there, footprint_is, taken_out}
 use Rattle.pg_slice_passes.proofs.footprints.Footprints.add_free.Goals as goal
 

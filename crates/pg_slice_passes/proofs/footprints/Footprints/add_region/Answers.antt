@@ -8,8 +8,8 @@ use Rattle.pg_slice_replay.specs.Kept.{landmark_at}
 use Rattle.pg_slice_replay.specs.Landmarks.{Landmark}
 use Rattle.pg_slice_passes.specs.Passes.{IsTimed}
 use Rattle.pg_slice_passes.specs.Footprints.{footprint_by}
-use Rattle.pg_slice_passes.proofs.Adding.{access_there, said_of}
-use Rattle.pg_slice_passes.proofs.Ordering.{adds_both, adds_nothing}
+use Rattle.pg_slice_passes.proofs.AddedNodes.{access_there, said_of}
+use Rattle.pg_slice_passes.proofs.FootprintOrder.{adds_both, adds_nothing}
 use Rattle.pg_slice_passes.proofs.RegionFootprints.{a_region, all_done, each_owned, is_there, marked, no_footprints, no_region, none_added, one_more, footprints_of_region}
 use Rattle.pg_slice_passes.proofs.footprints.Footprints.add_region.Goals as goal
 

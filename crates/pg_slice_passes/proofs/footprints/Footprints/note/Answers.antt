@@ -1,6 +1,6 @@
 use Rattle.std.proofs.Common.{◌++◌, ◌∷◌, [], ap, ◌∙◌}
 use Rattle.pg_slice_conflicts.specs.declared.footprint.Footprint.{Footprint}
-use Rattle.pg_slice_passes.proofs.Ordering.{adds_one}
+use Rattle.pg_slice_passes.proofs.FootprintOrder.{adds_one}
 use Rattle.pg_slice_passes.proofs.footprints.Footprints.note.Goals as goal
 
 pub returns-clause-timed : goal.returns-clause-timed

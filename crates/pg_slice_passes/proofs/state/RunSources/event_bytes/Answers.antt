@@ -4,9 +4,9 @@ use Rattle.pg_slice_rules.specs.Known.{bytes_by}
 use Rattle.pg_slice_rules.specs.Shadows.{Shadow}
 use Rattle.pg_slice_memory.specs.Changes.{shadows_of}
 use Rattle.pg_slice_registers.specs.Sourced.{registers_by}
-use Rattle.pg_slice_registers.proofs.Kept.{sources_kept}
-use Rattle.pg_slice_registers.proofs.Threading.{threads_stay}
-use Rattle.pg_slice_passes.proofs.Kept.{bytes_in, bytes_known, on_ok_each}
+use Rattle.pg_slice_registers.proofs.KeptValues.{sources_kept}
+use Rattle.pg_slice_registers.proofs.ThreadsMade.{threads_stay}
+use Rattle.pg_slice_passes.proofs.KeptKnowledge.{bytes_in, bytes_known, on_ok_each}
 use Rattle.pg_slice_passes.proofs.state.RunSources.event_bytes.Goals as goal
 
 pub returns-clause-is : goal.returns-clause-is

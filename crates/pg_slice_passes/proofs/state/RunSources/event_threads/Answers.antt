@@ -1,11 +1,11 @@
 use Rattle.std.proofs.Common.{length, refl}
 use Rattle.std.proofs.lemmas.Result.{on_ok_weaker}
 use Rattle.pg_slice_rules.specs.Known.{after_event, on_thread, threads_after}
-use Rattle.pg_slice_memory.proofs.Grows.{names_more}
+use Rattle.pg_slice_memory.proofs.ByteNodes.{names_more}
 use Rattle.pg_slice_values.specs.Sources.{shadow_by}
-use Rattle.pg_slice_values.proofs.Grows.{grew_length, grew_then}
-use Rattle.pg_slice_registers.proofs.Kept.{sources_kept}
-use Rattle.pg_slice_passes.proofs.Kept.{threads_in, threads_known}
+use Rattle.pg_slice_values.proofs.GrowingNodes.{grew_length, grew_then}
+use Rattle.pg_slice_registers.proofs.KeptValues.{sources_kept}
+use Rattle.pg_slice_passes.proofs.KeptKnowledge.{threads_in, threads_known}
 use Rattle.pg_slice_passes.proofs.state.RunSources.event_threads.Goals as goal
 
 pub returns-clause-grew : goal.returns-clause-grew

@@ -2,13 +2,13 @@ use Rattle.std.proofs.Common.{◌≡◌, [], List, length, slice_index_or, refl,
 use Rattle.std.proofs.lemmas.Result.{on_ok_weaker}
 use Rattle.pg_slice_rules.specs.Known as along
 use Rattle.pg_slice_rules.specs.Shadows.{Shadow}
-use Rattle.pg_slice_memory.proofs.Grows.{names_more}
+use Rattle.pg_slice_memory.proofs.ByteNodes.{names_more}
 use Rattle.pg_slice_values.specs.declared.source.Source.{Source}
-use Rattle.pg_slice_values.proofs.Grows.{grew_length}
+use Rattle.pg_slice_values.proofs.GrowingNodes.{grew_length}
 use Rattle.pg_slice_registers.specs.Sourced.{AreSources, CallList, registers_by, top_sources}
-use Rattle.pg_slice_registers.proofs.Threading.{threads_stay}
+use Rattle.pg_slice_registers.proofs.ThreadsMade.{threads_stay}
 use Rattle.pg_slice_passes.specs.State.{sources_in}
-use Rattle.pg_slice_passes.proofs.Kept.{registers_in, words_known}
+use Rattle.pg_slice_passes.proofs.KeptKnowledge.{registers_in, words_known}
 use Rattle.pg_slice_passes.proofs.ThreadLists.{registers_are}
 use Rattle.pg_slice_passes.proofs.state.RunSources.event_words.Goals as goal
 

@@ -6,7 +6,7 @@ use Rattle.pg_slice_decisions.specs.Steps.{taken_by}
 use Rattle.pg_run_trace.specs.declared.step.Step.{Step}
 use Rattle.pg_run_trace.specs.declared.step.StepKind.TheVariants as kinds
 use Rattle.pg_slice_passes.specs.State.{Knows}
-use Rattle.pg_slice_passes.proofs.Lives.{live_is}
+use Rattle.pg_slice_passes.proofs.LiveSteps.{live_is}
 use Rattle.pg_slice_passes.proofs.state.RunSources.live.Goals as goal
 
 pub returns-in-Access-clause-value : goal.returns-in-Access-clause-value

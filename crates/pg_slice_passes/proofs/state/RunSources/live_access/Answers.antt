@@ -6,17 +6,17 @@ use Rattle.pg_num.specs.declared.width.Width.{Width}
 use Rattle.pg_slice_rules.specs.Known.{after_access, bytes_stored, load_of, on_thread, with_top}
 use Rattle.pg_slice_rules.specs.Shadows.{Shadow}
 use Rattle.pg_slice_memory.specs.Changes.{shadows_of}
-use Rattle.pg_slice_memory.proofs.Grows.{names_more}
+use Rattle.pg_slice_memory.proofs.ByteNodes.{names_more}
 use Rattle.pg_slice_values.specs.declared.source.Source.{Source}
 use Rattle.pg_slice_values.specs.Sources.{shadow_by}
-use Rattle.pg_slice_values.proofs.Grows.{grew_length}
+use Rattle.pg_slice_values.proofs.GrowingNodes.{grew_length}
 use Rattle.pg_slice_registers.specs.Sourced.{AreSources, CallList, registers_by, top_sources}
-use Rattle.pg_slice_registers.proofs.Kept.{sources_kept}
-use Rattle.pg_slice_registers.proofs.Threading.{threads_stay}
+use Rattle.pg_slice_registers.proofs.KeptValues.{sources_kept}
+use Rattle.pg_slice_registers.proofs.ThreadsMade.{threads_stay}
 use Rattle.pg_slice_rules.specs.Moments.{thread_in}
 use Rattle.pg_slice_passes.specs.State.{KnowsThreads, sources_in}
-use Rattle.pg_slice_passes.proofs.Kept.{bytes_in, knows_more, on_ok_each, threads_in}
-use Rattle.pg_slice_passes.proofs.Lives.{load_known, store_known}
+use Rattle.pg_slice_passes.proofs.KeptKnowledge.{bytes_in, knows_more, on_ok_each, threads_in}
+use Rattle.pg_slice_passes.proofs.LiveSteps.{load_known, store_known}
 use Rattle.pg_slice_passes.proofs.ThreadLists.{registers_are}
 use Rattle.pg_slice_passes.proofs.state.RunSources.live_access.Goals as goal
 

@@ -5,10 +5,10 @@ use Rattle.pg_slice_rules.specs.Shadows.{Shadow, unset}
 use Rattle.pg_slice_values.specs.declared.source.Source.{Source}
 use Rattle.pg_slice_values.specs.Sources.{shadow_by}
 use Rattle.pg_slice_registers.specs.Sourced.{registers_by}
-use Rattle.pg_slice_values.proofs.Grows.{grew_length, grew_then, shadow_kept, source_more}
+use Rattle.pg_slice_values.proofs.GrowingNodes.{grew_length, grew_then, shadow_kept, source_more}
 use Rattle.pg_slice_passes.specs.State.{Knows}
-use Rattle.pg_slice_passes.proofs.Kept.{kept_more, knows_more}
-use Rattle.pg_slice_passes.proofs.Lives.{event_is, has_operands}
+use Rattle.pg_slice_passes.proofs.KeptKnowledge.{kept_more, knows_more}
+use Rattle.pg_slice_passes.proofs.LiveSteps.{event_is, has_operands}
 use Rattle.pg_slice_passes.proofs.state.RunSources.live_event.Goals as goal
 
 pub event_bytes-requires : goal.event_bytes-requires

@@ -6,7 +6,7 @@ use Rattle.pg_slice_rules.specs.Moments.{thread_in}
 use Rattle.pg_slice_decisions.specs.Steps.{taken_by}
 use Rattle.pg_run_trace.specs.declared.step.Step.{Step}
 use Rattle.pg_slice_passes.specs.State.{Knows}
-use Rattle.pg_slice_passes.proofs.Lives.{live_if}
+use Rattle.pg_slice_passes.proofs.LiveSteps.{live_if}
 use Rattle.pg_slice_passes.proofs.state.RunSources.live_if.Goals as goal
 
 pub returns-then-is_live-clause-value : goal.returns-then-is_live-clause-value

@@ -6,11 +6,11 @@ use Rattle.pg_slice_rules.specs.Moments.{instr_in}
 use Rattle.pg_slice_rules.specs.Shadows.{Shadow}
 use Rattle.pg_slice_decisions.specs.Steps.{taken_by}
 use Rattle.pg_slice_memory.specs.Changes.{shadows_of}
-use Rattle.pg_slice_memory.proofs.Grows.{names_more}
-use Rattle.pg_slice_values.proofs.Grows.{grew_length}
-use Rattle.pg_slice_registers.proofs.Kept.{sources_kept}
-use Rattle.pg_slice_passes.proofs.Kept.{bytes_in, knows_more, on_ok_each, threads_in}
-use Rattle.pg_slice_passes.proofs.Lives.{edge_stands, op_known, step_at}
+use Rattle.pg_slice_memory.proofs.ByteNodes.{names_more}
+use Rattle.pg_slice_values.proofs.GrowingNodes.{grew_length}
+use Rattle.pg_slice_registers.proofs.KeptValues.{sources_kept}
+use Rattle.pg_slice_passes.proofs.KeptKnowledge.{bytes_in, knows_more, on_ok_each, threads_in}
+use Rattle.pg_slice_passes.proofs.LiveSteps.{edge_stands, op_known, step_at}
 use Rattle.pg_slice_passes.proofs.state.RunSources.live_op.Goals as goal
 
 pub after_op-requires-clause-block : goal.after_op-requires-clause-block

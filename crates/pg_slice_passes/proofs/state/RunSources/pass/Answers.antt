@@ -2,8 +2,8 @@ use Rattle.std.proofs.Common.{refl}
 use Rattle.std.proofs.lemmas.Result.{on_ok_weaker}
 use Rattle.pg_slice_decisions.specs.Steps.{taken_by}
 use Rattle.pg_slice_replay.specs.Kept.{landmark_at}
-use Rattle.pg_slice_passes.proofs.Kept.{if_some_from}
-use Rattle.pg_slice_passes.proofs.Lives.{passed_known}
+use Rattle.pg_slice_passes.proofs.KeptKnowledge.{if_some_from}
+use Rattle.pg_slice_passes.proofs.LiveSteps.{passed_known}
 use Rattle.pg_slice_passes.proofs.state.RunSources.pass.Goals as goal
 
 pub returns-clause-value : goal.returns-clause-value

@@ -1,9 +1,9 @@
 use Rattle.std.proofs.Common.{ℕ, length, ap, sym, ◌∙◌}
 use Rattle.pg_slice_rules.specs.Known.{start_of}
 use Rattle.pg_slice_rules.specs.Shadows.{Shadow}
-use Rattle.pg_slice_values.proofs.Grows.{grew_then}
-use Rattle.pg_slice_registers.proofs.Kept.{registers_kept, sources_kept}
-use Rattle.pg_slice_passes.proofs.Kept.{knows_by}
+use Rattle.pg_slice_values.proofs.GrowingNodes.{grew_then}
+use Rattle.pg_slice_registers.proofs.KeptValues.{registers_kept, sources_kept}
+use Rattle.pg_slice_passes.proofs.KeptKnowledge.{knows_by}
 use Rattle.pg_slice_passes.proofs.state.RunSources.start.Goals as goal
 
 pub returns-clause-grew : goal.returns-clause-grew

@@ -7,7 +7,7 @@ use Rattle.pg_slice_decisions.specs.Steps.{taken_by}
 use Rattle.pg_slice_replay.specs.Landmarks.{landmark_of}
 use Rattle.pg_run_trace.specs.declared.step.Step.{Step}
 use Rattle.pg_slice_passes.specs.State.{Knows}
-use Rattle.pg_slice_passes.proofs.Lives.{live_if, step_is}
+use Rattle.pg_slice_passes.proofs.LiveSteps.{live_if, step_is}
 use Rattle.pg_slice_passes.proofs.state.RunSources.step.Goals as goal
 
 pub returns-clause-is : goal.returns-clause-is

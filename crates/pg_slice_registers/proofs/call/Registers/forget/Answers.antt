@@ -2,7 +2,7 @@ use Rattle.std.proofs.Common.{◌≡◌, ◌++◌, List, length, take, drop, ap,
 use Rattle.pg_slice_rules.specs.Known.{forgotten_from}
 use Rattle.pg_slice_values.specs.declared.source.Source.{Source}
 use Rattle.pg_slice_registers.specs.Sourced.{AreSources, marked, registers_by}
-use Rattle.pg_slice_registers.proofs.Sets.{lent}
+use Rattle.pg_slice_registers.proofs.SetRegisters.{lent}
 use Rattle.pg_slice_registers.proofs.call.Registers.forget.Goals as goal
 
 pub returns-clause-value : goal.returns-clause-value

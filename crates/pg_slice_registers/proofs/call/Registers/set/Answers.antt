@@ -1,7 +1,7 @@
 use Rattle.std.proofs.Common.{◌≡◌, ◌++◌, List, length, take, drop, ◌∙◌, arith, subst, sym}
 use Rattle.pg_slice_values.specs.declared.source.Source.{Source}
 use Rattle.pg_slice_registers.specs.Sourced.{AreSources}
-use Rattle.pg_slice_registers.proofs.Sets.{lent}
+use Rattle.pg_slice_registers.proofs.SetRegisters.{lent}
 use Rattle.pg_slice_registers.proofs.call.Registers.set.Goals as goal
 
 pub returns-clause-is : goal.returns-clause-is

@@ -2,7 +2,7 @@ use Rattle.std.proofs.Common.{length, ◌∙◌}
 use Rattle.std.proofs.lemmas.Result.{on_ok_weaker}
 use Rattle.pg_slice_values.specs.Sources.{shadow_by}
 use Rattle.pg_slice_registers.specs.Sourced.{calls_by}
-use Rattle.pg_slice_registers.proofs.Happens.{print_is}
+use Rattle.pg_slice_registers.proofs.DefinedEvents.{print_is}
 use Rattle.pg_slice_registers.proofs.thread.ThreadSources.after_event.Goals as goal
 
 pub returns-in-Putchar-clause-value : goal.returns-in-Putchar-clause-value

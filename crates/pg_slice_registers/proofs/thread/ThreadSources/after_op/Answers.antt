@@ -3,7 +3,7 @@ use Rattle.std.proofs.lemmas.Result.{on_ok_weaker}
 use Rattle.pg_ir.specs.declared.value.Value.{Value}
 use Rattle.pg_ir.specs.declared.instr.Op.TheVariants as op
 use Rattle.pg_slice_registers.specs.Sourced.{calls_by}
-use Rattle.pg_slice_registers.proofs.Gives.{br_is, call_is, cond_is, ret_is, switch_is}
+use Rattle.pg_slice_registers.proofs.DefinedSteps.{br_is, call_is, cond_is, ret_is, switch_is}
 use Rattle.pg_slice_registers.proofs.thread.ThreadSources.after_op.Goals as goal
 
 pub returns-in-Br-clause-value : goal.returns-in-Br-clause-value

@@ -2,7 +2,7 @@ use Rattle.std.proofs.Common.{length, ap, ◌∙◌, subst, sym}
 use Rattle.std.proofs.lemmas.Result.{on_ok_weaker}
 use Rattle.pg_slice_rules.specs.Known.{along_edge, with_top}
 use Rattle.pg_slice_registers.specs.Sourced.{AreCalls, CallList, calls_by}
-use Rattle.pg_slice_registers.proofs.Calls.{across, across_are}
+use Rattle.pg_slice_registers.proofs.ThreadCalls.{across, across_are}
 use Rattle.pg_slice_registers.proofs.thread.ThreadSources.along_edge.Goals as goal
 
 pub returns-else-self-clause-is : goal.returns-else-self-clause-is

@@ -3,7 +3,7 @@ use Rattle.pg_slice_rules.specs.Shadows.{Shadow}
 use Rattle.pg_slice_rules.specs.Known.{set_shadow, with_top}
 use Rattle.pg_slice_values.specs.Sources.{shadow_by}
 use Rattle.pg_slice_registers.specs.Sourced.{calls_by}
-use Rattle.pg_slice_registers.proofs.Calls.{calls_kept, calls_stay}
+use Rattle.pg_slice_registers.proofs.ThreadCalls.{calls_kept, calls_stay}
 use Rattle.pg_slice_registers.proofs.thread.ThreadSources.answer.Goals as goal
 
 pub returns-clause-is : goal.returns-clause-is

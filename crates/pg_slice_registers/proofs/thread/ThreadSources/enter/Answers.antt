@@ -3,7 +3,7 @@ use Rattle.std.proofs.lemmas.Result.{on_ok_weaker}
 use Rattle.pg_slice_rules.specs.Shadows.{Shadow, shadow_of}
 use Rattle.pg_slice_rules.specs.Known.{entered, top_of}
 use Rattle.pg_slice_registers.specs.Sourced.{AreCalls, CallList, calls_by, registers_by}
-use Rattle.pg_slice_registers.proofs.Calls.{calls_kept, calls_stay, top_by}
+use Rattle.pg_slice_registers.proofs.ThreadCalls.{calls_kept, calls_stay, top_by}
 use Rattle.pg_slice_registers.proofs.thread.ThreadSources.enter.Goals as goal
 
 pub returns-clause-is : goal.returns-clause-is

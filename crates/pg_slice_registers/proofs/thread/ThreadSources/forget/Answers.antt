@@ -1,7 +1,7 @@
 use Rattle.std.proofs.Common.{ap, ◌∙◌, subst, sym}
 use Rattle.pg_slice_rules.specs.Known.{forgotten_from, with_top}
 use Rattle.pg_slice_registers.specs.Sourced.{AreCalls, CallList, calls_by, marked}
-use Rattle.pg_slice_registers.proofs.Calls.{with_top_are, with_top_by}
+use Rattle.pg_slice_registers.proofs.ThreadCalls.{with_top_are, with_top_by}
 use Rattle.pg_slice_registers.proofs.thread.ThreadSources.forget.Goals as goal
 
 pub returns-clause-value : goal.returns-clause-value

@@ -3,7 +3,7 @@ use Rattle.pg_slice_rules.specs.Shadows.{Shadow}
 use Rattle.pg_slice_rules.specs.Known.{optional_shadow, set_shadow, top_of, under_top, with_top}
 use Rattle.pg_slice_values.specs.declared.source.Source.{Source}
 use Rattle.pg_slice_registers.specs.Sourced.{AreSources, calls_by, registers_by}
-use Rattle.pg_slice_registers.proofs.Calls.{calls_kept, calls_stay, top_are, top_by}
+use Rattle.pg_slice_registers.proofs.ThreadCalls.{calls_kept, calls_stay, top_are, top_by}
 use Rattle.pg_slice_registers.proofs.thread.ThreadSources.give_back.Goals as goal
 
 pub optional-requires : goal.optional-requires

@@ -2,7 +2,7 @@ use Rattle.std.proofs.Common.{ap, ◌∙◌, subst, sym}
 use Rattle.pg_slice_rules.specs.Known.{set_shadow, with_top}
 use Rattle.pg_slice_values.specs.Sources.{shadow_by}
 use Rattle.pg_slice_registers.specs.Sourced.{AreCalls, CallList, calls_by}
-use Rattle.pg_slice_registers.proofs.Calls.{under_are, under_by}
+use Rattle.pg_slice_registers.proofs.ThreadCalls.{under_are, under_by}
 use Rattle.pg_slice_registers.proofs.thread.ThreadSources.leave.Goals as goal
 
 pub returns-clause-value : goal.returns-clause-value

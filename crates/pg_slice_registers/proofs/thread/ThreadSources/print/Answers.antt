@@ -4,8 +4,8 @@ use Rattle.pg_slice_rules.specs.Known.{low_byte, operand_at, set_shadow, with_to
 use Rattle.pg_slice_values.specs.declared.source.Source.{Source}
 use Rattle.pg_slice_values.specs.Sources.{shadow_by}
 use Rattle.pg_slice_registers.specs.Sourced.{AreSources, calls_by, registers_by}
-use Rattle.pg_slice_registers.proofs.Calls.{calls_kept, calls_stay, top_are, top_by}
-use Rattle.pg_slice_registers.proofs.Happens.{at_top_set}
+use Rattle.pg_slice_registers.proofs.ThreadCalls.{calls_kept, calls_stay, top_are, top_by}
+use Rattle.pg_slice_registers.proofs.DefinedEvents.{at_top_set}
 use Rattle.pg_slice_registers.proofs.thread.ThreadSources.print.Goals as goal
 
 pub printed-requires-clause-sources : goal.printed-requires-clause-sources

@@ -6,8 +6,8 @@ use Rattle.pg_slice_values.specs.declared.source.Source.{Source}
 use Rattle.pg_slice_values.specs.Sources.{shadow_by}
 use Rattle.pg_slice_registers.specs.Sourced.{AreSources, calls_by, registers_by}
 use Rattle.pg_slice_registers.specs.Steps.{given_shadow, set_given}
-use Rattle.pg_slice_registers.proofs.Calls.{calls_kept, calls_stay, top_are, top_by}
-use Rattle.pg_slice_registers.proofs.Gives.{at_top}
+use Rattle.pg_slice_registers.proofs.ThreadCalls.{calls_kept, calls_stay, top_are, top_by}
+use Rattle.pg_slice_registers.proofs.DefinedSteps.{at_top}
 use Rattle.pg_slice_registers.proofs.thread.ThreadSources.straight.Goals as goal
 
 pub given-requires-clause-sources : goal.given-requires-clause-sources

@@ -1,5 +1,5 @@
 use Rattle.pg_run.specs.Rotation.{rotation_of}
-use Rattle.pg_session_entry.proofs.Serves.{recording}
+use Rattle.pg_session_entry.proofs.EntryParts.{recording}
 use Rattle.pg_test_session.proofs.entries.recorded.recorded_before.Goals as goal
 
 pub from_recorded-requires-clause-recording : goal.from_recorded-requires-clause-recording

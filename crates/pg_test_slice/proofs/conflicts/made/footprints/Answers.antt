@@ -1,6 +1,6 @@
 use Rattle.std.proofs.Common.{◌+◌, arith, sym, subst}
 use Rattle.pg_slice_conflicts.specs.Meets.{InOrder}
-use Rattle.pg_test_slice.proofs.Ordered.{AreUpTo, order_push, up_push}
+use Rattle.pg_test_slice.proofs.FootprintsInOrder.{AreUpTo, order_push, up_push}
 use Rattle.pg_test_slice.proofs.conflicts.made.footprints.Goals as goal
 
 pub loop-k-init : goal.loop-k-init

@@ -1,6 +1,6 @@
 use Rattle.std.proofs.Common.{◌/◌}
 use Rattle.pg_slice_conflicts.specs.Meets.{InOrder}
-use Rattle.pg_test_slice.proofs.Ordered.{AreUpTo}
+use Rattle.pg_test_slice.proofs.FootprintsInOrder.{AreUpTo}
 use Rattle.pg_test_slice.proofs.conflicts.made.repeated.Given as goal
 
 abbrev pub invariant-loop-k : goal.invariant-loop-k

@@ -1,5 +1,0 @@
-use Rattle.pg_law_runs.proofs.Permitted as law
-use Rattle.pg_law_order.proofs.law_a.a_full_run_ends_as_the_ordered_one.Goals as goal
-
-pub returns : goal.returns
-returns c p input turns gated full xs w z can o h f = law.ends p input turns gated can full w o xs z h f

@@ -1,5 +1,0 @@
-use Rattle.pg_law_runs.proofs.Permitted as law
-use Rattle.pg_law_order.proofs.law_a.a_permitted_run_is_ordered.Goals as goal
-
-pub returns : goal.returns
-returns c p input turns gated full xs w z can o h = law.ordered p input turns gated can full w o xs z h

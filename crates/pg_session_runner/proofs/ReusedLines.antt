@@ -1,0 +1,87 @@
+-- What is said of a line that is answered by reuse, for the runs of a program.
+use Rattle.std.proofs.Common.{◌≡◌, ◌⊎◌, ℕ, ℤ, Bool, true, false, cond, List, length, Option, Some, None, sym, ap, ◌∙◌, arith, inl, inr}
+use Rattle.std.specs.Prelude.{nat_lt, slice_get}
+use Rattle.pg_cache.specs.Kept.{Kept, oldest, value_of}
+use Rattle.pg_ir.specs.Program.{NumberedProgram}
+use Rattle.pg_run_trace.specs.declared.step.Step.{Step}
+use Rattle.pg_run_trace.specs.declared.turn.Turn.{Turn}
+use Rattle.pg_run.specs.declared.guided_end.GuidedEnd.{GuidedEnd}
+use Rattle.pg_run.specs.Permitted.{full_end}
+use Rattle.pg_run.specs.Runs.{events}
+use Rattle.pg_run.specs.State.{State}
+use Rattle.pg_session_texts.specs.declared.reply.EndLine.{EndLine}
+use Rattle.pg_session_texts.specs.declared.reply.ReplyKind.TheVariants.{Reused}
+use Rattle.pg_session_entry.specs.Entries.{EntryParts}
+use Rattle.pg_law_order.specs.Served.{EndsAsGuided, RunsAsGuided, guided_along}
+use Rattle.pg_session.specs.Sessions.{Answer, AnswersAll, begin}
+use Rattle.pg_session_runner.specs.Headline.{GoesOn, IsAsReplied, IsRecordedLine, IsReusedLine}
+use Rattle.pg_session_runner.specs.Runs.{RunsAlong, end_line_of, entry_admits, runs_of}
+use Rattle.pg_session_runner.proofs.KeptInsertions.{Fits}
+use Rattle.pg_session_runner.proofs.ReusedEntries.{Made, Reuses, reuses}
+use Rattle.pg_session_runner.proofs.TurnCounts.{turns_taken}
+
+pub goes_on : (p : NumberedProgram) (input : List ℤ) (e : EntryParts) (xs : List Step) (z : State) → RunsAsGuided p input e.schedule xs z → GoesOn p input e.schedule xs z
+goes_on p input e xs z h = record { ordered = h.ordered; goes_on = h.goes_on; steps = h.steps }
+
+as_replied : (p : NumberedProgram) (input : List ℤ) (e : EntryParts) (output : List ℕ) (end : EndLine) (xs : List Step) (z : State)
+    → RunsAlong p e input output end → EndsAsGuided p input e.schedule xs z → IsAsReplied p e.schedule xs z output end
+as_replied p input e output end xs z r h =
+    let turns : length (events xs) ≡ (guided_along p input e.schedule).turns = ap (λ (us : List Turn). length us) h.turns ∙ turns_taken p input e.schedule.turns e.schedule.gated in
+    record {
+      printed = h.output ∙ sym r.printed;
+      ends = ap (λ (n : ℕ). end_line_of n (full_end p e.schedule.turns xs z)) turns ∙ ap (λ (f : GuidedEnd). end_line_of (guided_along p input e.schedule).turns f) h.end ∙ r.ends;
+    }
+
+-- nothing is kept at first
+none_kept : (n : ℕ) (e : EntryParts) → value_of (begin {M = EntryParts}) n ≡ Some e → ⊥
+none_kept n e h = go (nat_lt n (oldest (begin {M = EntryParts}))) h
+  where
+    go : (b : Bool) → cond b None None ≡ Some e → ⊥
+    go true k = absurd cc
+    go false k = absurd cc
+
+-- ---- a line
+
+module _ (p : NumberedProgram) (quantum : ℕ) (inputs : List (Option (List ℤ))) (answers : List Answer) (line number : ℕ) where
+  recorded_line : (entry : EntryParts) (m : Made entry_admits (runs_of p quantum) 0 inputs answers line number entry) → IsRecordedLine p quantum inputs answers m.earlier number entry
+  recorded_line entry m = record {
+    input = m.reply.input;
+    is_input = m.reply.is_input;
+    output = m.reply.output;
+    end = m.reply.end;
+    is_answer = m.reply.is_answer;
+    numbered = let n = m.numbered in omega (arith, n);
+    recording = m.recording;
+  }
+
+  made : (entry : EntryParts) → (value_of (begin {M = EntryParts}) number ≡ Some entry) ⊎ Made entry_admits (runs_of p quantum) 0 inputs answers line number entry
+      → Made entry_admits (runs_of p quantum) 0 inputs answers line number entry
+  made entry (inl h) = absurd (none_kept number entry h)
+  made entry (inr m) = m
+
+  reused_line : Reuses entry_admits (runs_of p quantum) begin inputs answers line number → IsReusedLine p quantum inputs answers line number
+  reused_line r =
+      let m = made r.entry r.origin in
+      record {
+        input = r.reply.input;
+        is_input = r.reply.is_input;
+        output = r.reply.output;
+        end = r.reply.end;
+        is_answer = r.reply.is_answer;
+        entry = r.entry;
+        earlier = m.earlier;
+        before = m.before;
+        made = recorded_line r.entry m;
+        admitted = r.admitted;
+        printed = r.run.printed;
+        ends = r.run.ends;
+        goes_on = λ xs z permitted. goes_on p r.reply.input r.entry xs z (r.run.served.runs xs z permitted);
+        full = λ xs z permitted is_full. as_replied p r.reply.input r.entry r.reply.output r.reply.end xs z r.run (r.run.served.full xs z permitted is_full);
+        served = r.run.served;
+      }
+
+  pub line_is_served : (kept : Kept EntryParts) → AnswersAll entry_admits (runs_of p quantum) begin inputs answers kept
+      → (a : Answer) → slice_get answers line ≡ Some a → a.kind ≡ Reused number → IsReusedLine p quantum inputs answers line number
+  line_is_served kept h a g k =
+      let fits : Fits (begin {M = EntryParts}) = omega arith in
+      reused_line (reuses entry_admits (runs_of p quantum) begin kept inputs answers fits h line number a g k)
