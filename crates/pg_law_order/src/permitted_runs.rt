@@ -1,6 +1,6 @@
 //! Runs along turns of which one full run is ordered: each law is the clause of a function that does nothing.
 
-ghost use Rattle.std.specs.Prelude.{◌≡◌, ◌≤◌, ◌<◌, ◌⊎◌, ◌∷◌, ℕ, ℤ, List, false, length};
+ghost use Rattle.std.specs.Prelude.{◌≡◌, ◌≤◌, ◌<◌, ◌⊎◌, ◌||◌, ◌∷◌, ℕ, ℤ, List, false, length, true};
 ghost use Rattle.pg_ir.specs.declared.ids.InstrId.{InstrId};
 ghost use Rattle.pg_ir.specs.Program.{NumberedProgram};
 ghost use Rattle.pg_run_trace.specs.declared.step.Step.{Step};
@@ -8,7 +8,7 @@ ghost use Rattle.pg_run_trace.specs.declared.turn.Turn.{Turn};
 ghost use Rattle.pg_run.specs.State.{State};
 ghost use Rattle.pg_run.specs.Runs.{events};
 ghost use Rattle.pg_run.specs.Permitted.{IsFull, IsPermitted, full_end, has_spent, traps, turns_left};
-ghost use Rattle.pg_law_runs.specs.Cuts.{CanRun, CanStep, EndsAs, IsAtCut, IsOrderedAlong, IsOrderedFull};
+ghost use Rattle.pg_law_runs.specs.Cuts.{CanRun, CanStep, EndsAs, HasEndedAs, IsAtCut, IsOrderedAlong, IsOrderedFull};
 
 /// Each permitted run stands at a cut of the ordered full run: each thread has done the first of its steps in that
 /// run, with the same local states after them; the turns that are done are those below one number; and the state is
@@ -57,4 +57,12 @@ pub fn two_full_runs_end_alike()
     ensures { (p : NumberedProgram) (input : List ℤ) (turns : List Turn) (gated : List InstrId) (full xs ys : List Step) (w z v : State) → CanRun p input
         → IsOrderedFull p input turns gated full w → IsPermitted p input turns gated xs z → IsFull gated p turns xs z → IsPermitted p input turns gated ys v → IsFull gated p turns ys v
         → (z ≡ v) × (z.printed ≡ v.printed) × (full_end p turns xs z ≡ full_end p turns ys v) }
+{}
+
+/// A permitted run whose next turn's owner traps or has spent its steps has come as far as others see as the ordered full run: it
+/// did the same turns, printed the same bytes, main has the same value, and it ends alike, whatever steps other threads still take.
+pub fn a_held_run_has_ended()
+    ensures { (p : NumberedProgram) (input : List ℤ) (turns later : List Turn) (next : Turn) (gated : List InstrId) (full xs : List Step) (w z : State) → CanRun p input
+        → IsOrderedFull p input turns gated full w → IsPermitted p input turns gated xs z → turns_left turns xs ≡ next ∷ later
+        → (traps p z next.thread.0 || has_spent xs next.thread.0) ≡ true → HasEndedAs p turns full w xs z }
 {}

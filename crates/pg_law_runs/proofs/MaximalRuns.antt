@@ -66,6 +66,23 @@ drop_end zero us e = rw e (omega arith)
 drop_end (suc g) [] e = omega arith
 drop_end (suc g) (u ∷ us) e = let k = drop_end g us e in omega (arith, k)
 
+-- a thread that may step doesn't trap, and has steps left
+module _ (gated : List InstrId) (p : NumberedProgram) (input : List ℤ) (turns : List Turn) (xs : List Step) (z : State) (a : Seen) (reached : IsReached p z)
+    (sees : Same a (seen z (λ t. steps_of t xs))) (t : ℕ) (m : May (rules gated p) (owners_of turns) a (length (events xs)) t) where
+  pub steps : Steps gated p input t z
+  steps = steps_of_may gated p input z (λ i. steps_of i xs) a reached sees turns (length (events xs)) t m
+
+  pub no_traps : traps p z t ≡ false
+  no_traps = subst (λ (v : ℕ). traps p z v ≡ false) steps.own
+      (ap is_some (no_trap z steps.told.thread.0 (next_of p z steps.told.thread.0) (did_allowed gated p input z steps.takes.after steps.told.thread.0 steps.told steps.takes.is_step)))
+
+  left : nat_lt (steps_of t xs) GUIDED_STEP_LIMIT ≡ true
+  left = (and_parts (local_goes p (a.locals t).local) (nat_lt (steps_of t xs) GUIDED_STEP_LIMIT)
+      (ap (λ (n : ℕ). local_goes p (a.locals t).local && nat_lt n GUIDED_STEP_LIMIT) (ap (λ (l : Thread). l.taken) (sym (sees.locals t))) ∙ m.can)).1
+
+  pub not_spent : has_spent xs t ≡ false
+  not_spent = let l = left in grind (arith, nat_tests)
+
 module _ (gated : List InstrId) (p : NumberedProgram) (input : List ℤ) (turns : List Turn) (xs : List Step) (z : State) (a : Seen) (reached : IsReached p z)
     (sees : Same a (seen z (λ t. steps_of t xs))) (full : IsFull gated p turns xs z) where
   abbrev done : ℕ
@@ -86,21 +103,16 @@ module _ (gated : List InstrId) (p : NumberedProgram) (input : List ℤ) (turns 
   held t u us e h m = go (t == u.thread.0) refl
     where
       k : Steps gated p input t z
-      k = steps_of_may gated p input z (λ i. steps_of i xs) a reached sees turns (length (events xs)) t m
+      k = steps gated p input turns xs z a reached sees t m
 
       taken : Takes gated p input z k.told
       taken = k.takes
 
-      no_traps : traps p z t ≡ false
-      no_traps = subst (λ (v : ℕ). traps p z v ≡ false) k.own
-          (ap is_some (no_trap z k.told.thread.0 (next_of p z k.told.thread.0) (did_allowed gated p input z taken.after k.told.thread.0 k.told taken.is_step)))
+      steady : traps p z t ≡ false
+      steady = no_traps gated p input turns xs z a reached sees t m
 
-      left : nat_lt (steps_of t xs) GUIDED_STEP_LIMIT ≡ true
-      left = (and_parts (local_goes p (a.locals t).local) (nat_lt (steps_of t xs) GUIDED_STEP_LIMIT)
-          (ap (λ (n : ℕ). local_goes p (a.locals t).local && nat_lt n GUIDED_STEP_LIMIT) (ap (λ (l : Thread). l.taken) (sym (sees.locals t))) ∙ m.can)).1
-
-      not_spent : has_spent xs t ≡ false
-      not_spent = let l = left in grind (arith, nat_tests)
+      unspent : has_spent xs t ≡ false
+      unspent = not_spent gated p input turns xs z a reached sees t m
 
       goes : is_ended (next_of p z t) ≡ false
       goes = subst (λ (v : ℕ). is_ended (next_of p z v) ≡ false) k.own (not_ended z k.told.thread.0 (next_of p z k.told.thread.0) (ready_acts p z k.told.thread.0 taken.is_ready))
@@ -124,13 +136,13 @@ module _ (gated : List InstrId) (p : NumberedProgram) (input : List ℤ) (turns 
       own : t ≡ u.thread.0 → ⊥
       own q =
           let w : (traps p z t || has_spent xs t) ≡ true = subst (λ (v : ℕ). (traps p z v || has_spent xs v) ≡ true) (sym q) h.owner in
-          let n : true ≡ false = sym w ∙ rw (no_traps, not_spent) refl in
+          let n : true ≡ false = sym w ∙ rw (steady, unspent) refl in
           absurd cc
 
       by_event : (b : Bool) → is_some (turn_of gated p z t) ≡ b → (t ≡ u.thread.0 → ⊥) → ⊥
       by_event false v ne =
           let w : rests gated p xs z t ≡ true = h.others t ne (later ne) in
-          let n : true ≡ false = sym w ∙ rw (goes, no_traps, not_spent, v) refl in
+          let n : true ≡ false = sym w ∙ rw (goes, steady, unspent, v) refl in
           absurd cc
       by_event true v ne =
           let i : is_some (event_of k.told) ≡ true = ap is_some (event_is gated p input z taken.after k.told.thread.0 k.told taken.is_step)

@@ -43,7 +43,7 @@ starts_fresh : (p : NumberedProgram) (t f : ℕ) → start_of (fresh p t f) ≡ 
 unfolding fresh
 starts_fresh p t f = refl
 
-instr_is : (s : State) (t : ℕ) (l : LocalState) → slice_get s.locals t ≡ Some l → instr_of s t ≡ id_of l
+pub instr_is : (s : State) (t : ℕ) (l : LocalState) → slice_get s.locals t ≡ Some l → instr_of s t ≡ id_of l
 unfolding instr_of
 instr_is s t l e = ap id_in e
 

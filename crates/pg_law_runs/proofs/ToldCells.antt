@@ -175,6 +175,20 @@ module _ (gated : List InstrId) (p : NumberedProgram) (input : List ℤ) where
         (subst (λ (v : State). IsRun gated p input v xs z) (left_by gated p input s h.0.after x.thread.0 x h.0.is_step) h.1),
   )
 
+-- a step that is no event writes no word
+abbrev pub KeepsWords : Deed' → Type 0
+KeepsWords d = deeds.is_event d ≡ false → (b : ℕ) → MEMORY_BYTES ≤ b → is_some (d.writes b) ≡ false
+
+pub all_keep_words : (xs : List Step) (ds : List Deed') → Paired recorded deeds IsTold xs ds → AllOf KeepsWords ds
+all_keep_words [] [] h = tt
+all_keep_words [] (d ∷ ds) h = absurd h
+all_keep_words (x ∷ xs) [] h = absurd h
+all_keep_words (x ∷ xs) (d ∷ ds) h = ((λ e b l. go e b l (is_some (d.writes b)) refl), all_keep_words xs ds h.1)
+  where
+    go : deeds.is_event d ≡ false → (b : ℕ) → MEMORY_BYTES ≤ b → (c : Bool) → is_some (d.writes b) ≡ c → c ≡ false
+    go e b l true w = absurd (let k : true ≡ false = sym (h.0.word_written b l w) ∙ e in cc)
+    go e b l false w = refl
+
 -- ---- conflicts
 
 meets_same : (w r v q w' r' v' q' : Bool) → w ≡ w' → r ≡ r' → v ≡ v' → q ≡ q' → ((w && (q || v)) || ((r || w) && v)) ≡ ((w' && (q' || v')) || ((r' || w') && v'))

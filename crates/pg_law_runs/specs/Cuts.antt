@@ -82,3 +82,11 @@ pub record EndsAs (p : NumberedProgram) (input : List ℤ) (turns : List Turn) (
   pub locals : (t : ℕ) → locals_by p input (initial p) t xs ≡ locals_by p input (initial p) t full
   pub number : length xs ≡ length full
   pub end : full_end p turns xs z ≡ full_end p turns full w
+
+-- the run xs to z, which the owner of the next turn holds, has come as far as others see as the run full to w: it did the same
+-- turns, printed the same, main has the same value, and it ends alike
+pub record HasEndedAs (p : NumberedProgram) (turns : List Turn) (full : List Step) (w : State) (xs : List Step) (z : State) : Type 0 where
+  pub events : events xs ≡ events full
+  pub printed : z.printed ≡ w.printed
+  pub value : z.value ≡ w.value
+  pub end : full_end p turns xs z ≡ full_end p turns full w
