@@ -8,15 +8,10 @@ ghost use Rattle.pg_read_ast.specs.Views.{define_of, tree_of};
 ghost use Rattle.pg_check_rules.specs.Earliest.{IsFirstIn};
 ghost use Rattle.pg_check_rules.specs.Conditions.{main_name, has_main, main_refused};
 
+use pg_check_program::is_main;
 use pg_check_rules::{CheckKind, CheckRefusal, place_if, refusal_at};
 use pg_read_ast::{DefineItem, Module};
 use pg_read_lex::Span;
-
-fn is_main(item: &DefineItem) -> bool
-    ensures { result ≡ bytes_eq item.now.name.text main_name }
-{
-    item.name.text.as_slice() == b"main".as_slice()
-}
 
 /// Whether one of the functions is the one with which a program begins.
 fn has_main(items: &[DefineItem]) -> bool

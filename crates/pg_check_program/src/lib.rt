@@ -14,4 +14,4 @@ mod operations;
 mod program;
 mod scope;
 
-pub use program::{ProgramParts, program_parts};
+pub use program::{ProgramParts, is_main, program_parts};

@@ -103,7 +103,7 @@ fn instrs_of(
 }
 
 /// Whether a function is `main`.
-fn is_main(item: &DefineItem) -> bool
+pub fn is_main(item: &DefineItem) -> bool
     ensures { result ≡ is_main_item item.now }
 {
     item.name.text.as_slice() == b"main".as_slice()

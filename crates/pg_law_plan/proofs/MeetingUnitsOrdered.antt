@@ -320,8 +320,15 @@ module _ (d : Taken) (all : List Seen) where
     accesses_ordered ne o b f h a c i j w =
         let u = footprint_has x b f fx a i in
         let v = footprint_has y b h fy c j in
-        let m : Meeting (access_footprint x) (access_footprint y) b = record { first = u.0; second = v.0; has_first = u.1; has_second = v.1;
-          in_first = u.2; in_second = v.2; writes = rw (u.3, v.3) w } in
+        let m : Meeting (access_footprint x) (access_footprint y) b = record {
+          first = u.0;
+          second = v.0;
+          has_first = u.1;
+          has_second = v.1;
+          in_first = u.2;
+          in_second = v.2;
+          writes = rw (u.3, v.3) w;
+        } in
         let p = fixed x y fx fy ne o (meeting_conflict (access_footprint x) (access_footprint y) b m) a.access a.is in
         let q = fixed y x fy fx (λ e. ne (sym e)) (overlap_back x.moment.did y.moment.did o)
         (meeting_conflict (access_footprint y) (access_footprint x) b (turned (access_footprint x) (access_footprint y) b m)) c.access c.is in

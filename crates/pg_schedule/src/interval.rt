@@ -1,6 +1,6 @@
 //! The interval of each step among the turns.
 
-ghost use Rattle.std.specs.Prelude.{◌≡◌, IfOk, map};
+ghost use Rattle.std.specs.Prelude.{◌≡◌, ◌<◌, IfOk, Some, length, map, slice_get, slice_index_or};
 ghost use Rattle.pg_schedule.specs.Intervals.{from_low, intervals_of, view_of};
 ghost use Rattle.pg_law_threads.specs.Intervals.{turns_done};
 ghost use Rattle.pg_run_trace.specs.Races.{timed_by};
@@ -26,6 +26,15 @@ pub enum Turns {
 pub struct Interval {
     pub low: usize,
     pub high: usize,
+}
+
+/// The interval of the step with this number.
+pub fn interval_at(intervals: &[Interval], n: usize) -> Interval
+    requires { n < length intervals.now }
+    ensures is { slice_get intervals.now n ≡ Some result }
+    ensures or_any { result ≡ slice_index_or intervals.now n result }
+{
+    intervals[n]
 }
 
 impl Turns {

@@ -21,7 +21,7 @@ mod unordered;
 pub use answered::{answered_before, answered_behind};
 pub use fast::races;
 pub use gates::reply_in;
-pub use interval::{Interval, Turns, intervals};
+pub use interval::{Interval, Turns, interval_at, intervals};
 pub use ordered::is_ordered;
 pub use pairs::races_by_pairs;
 pub use schedule::hybrid;

@@ -1,9 +1,9 @@
 //! Steps as touches of bytes.
 
-ghost use Rattle.std.specs.Prelude.{◌≡◌, ◌<◌, IfOk, Some, length, map, slice_get};
+ghost use Rattle.std.specs.Prelude.{◌≡◌, ◌<◌, IfOk, Some, length, map};
 ghost use Rattle.pg_schedule.specs.Touching.{AreWithin, IsWithin, beside, touch_for, touch_of};
 
-use crate::interval::Interval;
+use crate::interval::{Interval, interval_at};
 use crate::touch::Touch;
 use pg_run_trace::{Step, Trace};
 use std::alloc::{AllocError, Global};
@@ -31,14 +31,6 @@ fn touch_of(step: &Step, rank: u64, need: u64) -> Touch
             need,
         },
     }
-}
-
-/// The interval with this number.
-fn interval_at(intervals: &[Interval], i: usize) -> Interval
-    requires { i < length intervals.now }
-    ensures { slice_get intervals.now i ≡ Some result }
-{
-    intervals[i]
 }
 
 /// The way in which a pass goes over the steps.

@@ -76,8 +76,12 @@ module _ (xs : List Step) (intervals : List Interval) (are : intervals ≡ inter
         subst (λ (o : Option Landmark). IfSome o (λ (k : Landmark). any_conflict (footprints_in (region_in R m)) (footprint_of (access_of z) ++ footprints_in k.region) ≡ true)) f
         (subst (λ (o : Option Landmark). IfSome o (λ (l : Landmark). IfSome (landmark_at r y) (λ (k : Landmark).
         any_conflict (footprints_in l.region) (footprint_of (access_of z) ++ footprints_in k.region) ≡ true))) e meet) in
-        record { apart = t.0; together = t.1; meet = subst (λ (w : Step). any_conflict (footprints_in (region_in R m)) (footprint_of (access_of w) ++ footprints_in (region_in R my)) ≡ true)
-          (sym b) c };
+        record {
+          apart = t.0;
+          together = t.1;
+          meet = subst (λ (w : Step). any_conflict (footprints_in (region_in R m)) (footprint_of (access_of w) ++ footprints_in (region_in R my)) ≡ true)
+              (sym b) c;
+        };
   }
 
   pub shares_by : (n y : ℕ) (x z : Step) → slice_get xs n ≡ Some x → slice_get xs y ≡ Some z → AreTogether xs n y → is_plain x.kind ≡ true →

@@ -9,7 +9,7 @@ ghost use Rattle.pg_slice.specs.Settled.{AreTogether, Disturbs, Shares};
 use crate::footprints::{accesses_meet, region_meets};
 use crate::rivals::{Places, Rivals, places_of};
 use pg_run_trace::{Step, StepKind, Trace};
-use pg_schedule::Interval;
+use pg_schedule::{Interval, interval_at};
 use pg_slice_passes::GivenRun;
 use pg_slice_walk::marks::mark_at;
 
@@ -18,14 +18,6 @@ fn overlap(x: Interval, y: Interval) -> bool
     ensures { result ≡ (not (nat_lt x.high y.low) && not (nat_lt y.high x.low)) }
 {
     !(x.high < y.low) && !(y.high < x.low)
-}
-
-/// The interval of a step.
-fn interval_at(intervals: &[Interval], n: usize) -> Interval
-    requires { n < length intervals.now }
-    ensures { result ≡ slice_index_or intervals.now n result }
-{
-    intervals[n]
 }
 
 /// Whether two steps are of different threads, in overlapping intervals.

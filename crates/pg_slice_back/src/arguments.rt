@@ -15,14 +15,13 @@ ghost use Rattle.pg_law_demands.specs.Back.{of_operand};
 ghost use Rattle.pg_law_demands.specs.Demands.{checked_demands, kind_demands, operand_demands, write_demands};
 ghost use Rattle.pg_slice_rules.specs.Known.{Taken};
 ghost use Rattle.pg_slice_back.specs.Arguments.{is_start};
-ghost use Rattle.pg_slice_checks.specs.Steps.{below};
 ghost use Rattle.pg_slice_back.specs.Met.{AreMet};
 
 use crate::call::Call;
 use crate::moves::put_optional;
 use pg_ir::{Instr, LibraryCall, Op, Value};
 use pg_run_trace::{Event, TurnKind, Write};
-use pg_slice_checks::checked;
+use pg_slice_checks::checked_of;
 use pg_slice_demands::Demanded;
 use pg_slice_passes::is_malloc;
 use std::alloc::AllocError;
@@ -58,23 +57,13 @@ pub(crate) fn put_argument(
     Ok(())
 }
 
-/// How many of the first operands of an event's operation are checked.
-fn checked_count(op: &Op) -> usize
-    ensures { rules.checked_of op.now ≡ below result }
-{
-    match op {
-        Op::CallLibrary { function, .. } => checked(*function),
-        _ => 0,
-    }
-}
-
 /// The operands of an event that are checked have to be known.
 fn put_checked(w: &mut Demanded, at: Call, x: &Instr) -> Result<(), AllocError>
     ensures { OnOk result ((s : RunShadow) (y : Seen) → thread_in y.moment ≡ at.thread → depth_of y ≡ at.depth
         → AllByRecursion (IsMet s) (all_of (operand_demands y x.now true) (rules.checked_of x.now.op))
         → AreMet s w.old → AreMet s w.new) }
 {
-    for i in 0..checked_count(&x.op) {
+    for i in 0..checked_of(&x.op) {
         put_argument(w, at, &x.op, i, true)?;
     }
     Ok(())

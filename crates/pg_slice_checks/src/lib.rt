@@ -7,4 +7,4 @@ mod step;
 
 pub use asked::Asked;
 pub use path::path_needs;
-pub use step::{checked, step_needs};
+pub use step::{checked_of, step_needs};

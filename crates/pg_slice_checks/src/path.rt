@@ -2,7 +2,7 @@
 
 ghost use Rattle.std.specs.Prelude.{◌≡◌, ◌<◌, ◌+◌, ◌≤◌, ◌∷◌, [], pos, List, length, IfOk};
 ghost use Rattle.pg_num.specs.Places.{ByteRange};
-ghost use Rattle.pg_num.specs.Pointers.{byte_place, moved_by};
+ghost use Rattle.pg_num.specs.Pointers.{moved_by};
 ghost use Rattle.pg_precondition.specs.Nodes.{NodeList};
 ghost use Rattle.pg_slice_rules.specs.Rules as rules;
 ghost use Rattle.pg_slice_rules.specs.Shadows.{loaded};
@@ -14,10 +14,9 @@ ghost use Rattle.pg_slice_checks.specs.Paths.{AreCells};
 
 use crate::asked::Asked;
 use pg_ir::Program;
-use pg_num::layout::GRANULE_BYTES;
-use pg_num::{move_by, unpack};
+use pg_num::move_by;
 use pg_precondition::{Nodes, Test};
-use pg_slice_memory::{Held, ShadowMemory};
+use pg_slice_memory::{Held, ShadowMemory, place_of};
 use pg_slice_values::{Source, offset};
 use std::alloc::AllocError;
 
@@ -26,15 +25,6 @@ fn move_word(word: u64, bytes: u64) -> u64
     ensures { result ≡ moved_by word (pos bytes) }
 {
     move_by(word, (bytes % 0x20_0000) as i64)
-}
-
-/// The place of the byte to which a word points.
-fn place_of(word: u64) -> u64
-    ensures place { result ≡ byte_place word }
-    ensures within { result + 8 ≤ PLACE_COUNT }
-{
-    let pointer = unpack(word);
-    GRANULE_BYTES as u64 * pointer.start as u64 + pointer.offset as u64
 }
 
 /// What is known of eight bytes of memory.

@@ -32,11 +32,11 @@ fn is_case(n: u64, cases: &[Case]) -> bool
     false
 }
 
-/// How many of a known function's operands are checked: the first ones.
-pub fn checked(known: LibraryCall) -> usize
-    ensures { rules.checked known ≡ below result }
+/// How many of a library call's operands are checked: the first ones.
+fn checked(function: LibraryCall) -> usize
+    ensures { rules.checked function ≡ below result }
 {
-    match known {
+    match function {
         LibraryCall::PthreadCreate | LibraryCall::PthreadBarrierInit => 3,
         LibraryCall::PthreadJoin
         | LibraryCall::PthreadMutexInit
@@ -62,7 +62,7 @@ pub fn checked(known: LibraryCall) -> usize
 }
 
 /// How many of an instruction's operands are checked at an event: the first ones.
-fn checked_of(op: &Op) -> usize
+pub fn checked_of(op: &Op) -> usize
     ensures { rules.checked_of op.now ≡ below result }
 {
     match op {

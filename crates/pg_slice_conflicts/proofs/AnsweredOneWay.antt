@@ -100,7 +100,7 @@ module _ (bytes : List ℕ) (x y : Placed) (p : IsPlaced bytes x) (q : IsPlaced 
       (ap (λ t. not t && nat_lt (need_of b y.footprint) (rank_of b x.footprint)) (eqb_turn x.footprint.thread.0 y.footprint.thread.0)
       ∙ apart (y.footprint.thread.0 == x.footprint.thread.0) (nat_lt (need_of b y.footprint) (rank_of b x.footprint)) (overlap y.footprint x.footprint) refl e)
       ∙ parts (y.footprint.writes || x.footprint.writes) (y.footprint.of_region || not x.footprint.of_region) (races.share (bytes_of y.footprint) (bytes_of x.footprint))
-        (not (y.footprint.thread.0 == x.footprint.thread.0))
+      (not (y.footprint.thread.0 == x.footprint.thread.0))
       (overlap y.footprint x.footprint)
     where
       share_turn : (nat_lt (max x.first y.first) x.end && nat_lt (max x.first y.first) y.end) ≡ races.share (bytes_of y.footprint) (bytes_of x.footprint)

@@ -8,8 +8,10 @@ pub mod laws;
 mod load;
 mod memory;
 mod parts;
+mod places;
 mod source;
 
 pub use change::Change;
 pub use memory::ShadowMemory;
+pub use places::place_of;
 pub use source::{ByteSource, Held};

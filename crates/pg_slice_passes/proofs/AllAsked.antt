@@ -300,7 +300,7 @@ same_admitted R d ys input e = ap (λ (l : List Seen). all_met (all_of (conditio
 pub missing_is : (p : NumberedProgram) (regions : Regions) (gated : List InstrId) (input : List ℤ) (xs : List Step) (d : Taken) (ns : NodeList) (g : Gathered) (whole : List Decision)
     → HasPassed (reference_of p regions gated input xs) d (length xs) ns g →
     whole ≡ g.asked.missing.items ++ asks_of_met d g.footprints.footprints.items g.footprints.owners.items (map (is_met g.footprints.footprints.items) g.footprints.footprints.items)
-      → (z : Decision) → Contains whole z
+    → (z : Decision) → Contains whole z
     ↔ Contains (asks (reference_of p regions gated input xs) d) z
 missing_is p regions gated input xs d ns g whole a e z =
     let R = reference_of p regions gated input xs in

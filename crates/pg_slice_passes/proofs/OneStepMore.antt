@@ -110,7 +110,7 @@ and_both f (x ∷ xs) ys = go (f x) (and_both f xs ys)
 
 pub no_footprints_at : (x : Seen) → x.live ≡ false → access_footprints x ++ region_footprints x ≡ []
 no_footprints_at x l = ap (λ (b : Bool). map (of_step false x) (if b then rules.footprint_of (access_in (rules.kind_in x)) else [])
-      ++ map (of_step true x) (if b then rules.footprints_in x.region else [])) l
+    ++ map (of_step true x) (if b then rules.footprints_in x.region else [])) l
 
 pub no_owners_at : (x : Seen) → x.live ≡ false → owners_at x ≡ []
 no_owners_at x l = ap (λ (ps : List Footprint). map (λ (f : Footprint). owner x) ps) (no_footprints_at x l)

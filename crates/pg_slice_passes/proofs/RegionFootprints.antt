@@ -81,8 +81,15 @@ footprint_is x step i a word writes t w e = rw (t.did, t.low, t.high, w, e) refl
 
 -- that of its access
 pub footprint_of_access : (x : Seen) (step : Step) (i : Interval) (a : Access) → IsTimed x step i → x.live ≡ true → access_in step.kind ≡ Some a →
-    access_footprints x ≡ record { thread = step.thread; low = i.low; high = i.high; start = (bounds_of a.pointer).start;
-      bytes = (bounds_of a.pointer).bytes; writes = a.writes; of_region = false } ∷ []
+    access_footprints x ≡ record {
+      thread = step.thread;
+      low = i.low;
+      high = i.high;
+      start = (bounds_of a.pointer).start;
+      bytes = (bounds_of a.pointer).bytes;
+      writes = a.writes;
+      of_region = false;
+    } ∷ []
 footprint_of_access x step i a t l e =
     ap (λ (b : Bool). map (of_step false x) (if b then rules.footprint_of (access_in (rules.kind_in x)) else [])) l
     ∙ ap (λ (y : Step). map (of_step false x) (rules.footprint_of (access_in y.kind))) t.did

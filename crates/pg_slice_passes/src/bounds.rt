@@ -1,7 +1,6 @@
 //! Places of memory, and values that are stored.
 
 ghost use Rattle.std.specs.Prelude.{◌≡◌, ◌+◌, ◌≤◌, ℕ, length};
-ghost use Rattle.pg_num.specs.Pointers.{byte_place};
 ghost use Rattle.pg_precondition.specs.Nodes.{NodeList};
 ghost use Rattle.pg_slice_rules.specs.Freeable.{bounds_of};
 ghost use Rattle.pg_slice_rules.specs.Shadows.{byte_in};
@@ -32,15 +31,6 @@ pub fn bounds(word: u64) -> Bounds
         start: GRANULE_BYTES as u64 * pointer.start as u64,
         bytes: pointer.length as u64,
     }
-}
-
-/// The place of the byte to which a pointer points.
-pub(crate) fn place(word: u64) -> u64
-    ensures place { result ≡ byte_place word }
-    ensures within { result + 8 ≤ PLACE_COUNT }
-{
-    let pointer = unpack(word);
-    GRANULE_BYTES as u64 * pointer.start as u64 + pointer.offset as u64
 }
 
 /// A value as memory keeps it, which knows no bounds of a number that isn't known.

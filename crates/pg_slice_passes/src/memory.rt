@@ -15,12 +15,12 @@ ghost use Rattle.pg_slice_values.specs.Sources.{Grew, IsSource, shadow_by};
 ghost use Rattle.pg_slice_memory.specs.Changes as bytes;
 ghost use Rattle.pg_slice_registers.specs.Sourced.{AreSources, registers_by};
 
-use crate::bounds::{bounds, held, loaded, place};
+use crate::bounds::{bounds, held, loaded};
 use pg_ir::{Program, Value};
 use pg_num::Width;
 use pg_precondition::Nodes;
 use pg_run_trace::{Access, Event, TurnKind, Write};
-use pg_slice_memory::ShadowMemory;
+use pg_slice_memory::{ShadowMemory, place_of};
 use pg_slice_registers::OpStep;
 use pg_slice_replay::{FreeAccess, ReferenceRun};
 use pg_slice_rules::Decision;
@@ -72,7 +72,7 @@ pub(crate) fn load(
     if !exact {
         return Ok(Source::Unknown(Decision::Exact(n)));
     }
-    let number = memory.load(p, nodes, place(a.pointer), a.bytes)?;
+    let number = memory.load(p, nodes, place_of(a.pointer), a.bytes)?;
     within(nodes, width, loaded(number))
 }
 
@@ -97,7 +97,7 @@ pub(crate) fn store(
 {
     if known {
         let s = value(nodes, p, v, registers)?;
-        memory.store(place(a.pointer), a.bytes, held(s))
+        memory.store(place_of(a.pointer), a.bytes, held(s))
     } else {
         let f = bounds(a.pointer);
         memory.spoil(f.start, f.bytes, Decision::Exact(n))
@@ -135,7 +135,7 @@ pub(crate) fn write(
     match e.write {
         Some(w) => {
             let s = written(nodes, e, w, words)?;
-            memory.store(place(w.pointer), 8, held(s))
+            memory.store(place_of(w.pointer), 8, held(s))
         }
         None => Ok(()),
     }

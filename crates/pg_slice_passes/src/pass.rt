@@ -1,6 +1,6 @@
 //! One pass over a reference run.
 
-ghost use Rattle.std.specs.Prelude.{◌≡◌, ◌<◌, ◌+◌, ◌↔◌, ℤ, List, [], Contains, Some, length, slice_get, slice_index_or, IfOk, OnOk};
+ghost use Rattle.std.specs.Prelude.{◌≡◌, ◌<◌, ◌+◌, ◌↔◌, ℤ, List, [], Contains, Some, length, slice_get, IfOk, OnOk};
 ghost use Rattle.pg_ir.specs.declared.ids.InstrId.{InstrId};
 ghost use Rattle.pg_slice_rules.specs.Closed.{admits, asks};
 ghost use Rattle.pg_slice_rules.specs.declared.decision.Decision.{Decision as ADecision};
@@ -24,7 +24,7 @@ use crate::needs::needs;
 use crate::state::RunSources;
 use crate::step::StepAt;
 use pg_precondition::{Check, Nodes, Precondition, needed};
-use pg_schedule::Interval;
+use pg_schedule::interval_at;
 use pg_slice_checks::Asked;
 use pg_slice_conflicts::conflicts;
 use pg_slice_decisions::DecisionSet;
@@ -67,14 +67,6 @@ fn precondition(alloc: Global, nodes: Nodes, checks: &[Check]) -> Result<Precond
     }
     let r = needed(alloc, &c)?;
     Ok(r)
-}
-
-/// The interval of a step.
-fn interval_at(intervals: &[Interval], n: usize) -> Interval
-    requires { n < length intervals.now }
-    ensures { result ≡ slice_index_or intervals.now n result }
-{
-    intervals[n]
 }
 
 /// Step n of a pass.

@@ -12,4 +12,5 @@ interval_at-j-requires c = let l = intervals_length c.args.t.now.steps c.args.in
 
 pub returns : goal.returns
 returns c = λ q. are_together c.args.t.now.steps c.args.intervals.now c.requires.intervals c.args.n c.args.y c.step-x.result c.step-z.result c.interval_at-i.result c.interval_at-j.result
-    c.step-x.ensures c.step-z.ensures c.interval_at-i.ensures c.interval_at-j.ensures (eq_false c.step-x.result.thread.0 c.step-z.result.thread.0 c.if-x-z.false) (sym c.overlap.ensures ∙ q)
+    c.step-x.ensures c.step-z.ensures c.interval_at-i.ensures.or_any c.interval_at-j.ensures.or_any
+    (eq_false c.step-x.result.thread.0 c.step-z.result.thread.0 c.if-x-z.false) (sym c.overlap.ensures ∙ q)

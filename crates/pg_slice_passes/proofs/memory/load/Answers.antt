@@ -18,5 +18,5 @@ returns-clause-value c =
     IfOk-weaker c.within.result _ _ (λ r e.
     e
     ∙ ap (λ (x : shadows.Shadow). shadows.cut (λ k. k % modulus w) x)
-    (c.loaded.ensures.value c.load.new.nodes ∙ c.in_ok-number.ensures.value ∙ ap (λ (s : ℕ). shadows.loaded memory s a.bytes) c.place.ensures.place)
+    (c.loaded.ensures.value c.load.new.nodes ∙ c.in_ok-number.ensures.value ∙ ap (λ (s : ℕ). shadows.loaded memory s a.bytes) c.place_of.ensures.place)
     ∙ sym (ap (λ (b : Bool). load_of b c.args.n w a memory) c.if-not-exact.false)) c.within.ensures.value

@@ -27,8 +27,8 @@ returns-in_ok-s-clause-value c w at b =
     let rs = registers_by old c.args.registers.now in
     let before = shadows_of p old c.args.memory.now in
     on_ok_weaker c.store.result (λ f.
-    number_stored p old new c.args.memory.now c.store.new.self c.place.result _ a.bytes c.held.result c.in_ok-s.s (shadow_of p rs c.args.v) b c.value.ensures.grew c.requires.names
-    (f p new) c.place.ensures.place (c.held.ensures.bytes new) c.in_ok-s.ensures.value
+    number_stored p old new c.args.memory.now c.store.new.self c.place_of.result _ a.bytes c.held.result c.in_ok-s.s (shadow_of p rs c.args.v) b c.value.ensures.grew c.requires.names
+    (f p new) c.place_of.ensures.place (c.held.ensures.bytes new) c.in_ok-s.ensures.value
     ∙ sym (ap (λ (k : Bool). bytes_stored p k c.args.n a rs (op.Store w c.args.v at) before b) c.if-known.true)) c.store.ensures.shadow
 
 pub returns-else-known-clause-is : goal.returns-else-known-clause-is

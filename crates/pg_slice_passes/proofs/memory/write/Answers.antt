@@ -22,7 +22,7 @@ returns-in_ok-s-in-Some-clause-value c p b =
     let new = c.written.new.nodes in
     let e = c.args.e.now in
     on_ok_weaker c.store.result (λ f.
-    number_stored p old new c.args.memory.now c.store.new.self c.place.result _ 8 c.held.result c.in_ok-s-in-Some.s
-    (written_shadow e c.in-Some.w e.kind (registers_by old c.args.words.now)) b c.written.ensures.grew c.requires.names (f p new) c.place.ensures.place
+    number_stored p old new c.args.memory.now c.store.new.self c.place_of.result _ 8 c.held.result c.in_ok-s-in-Some.s
+    (written_shadow e c.in-Some.w e.kind (registers_by old c.args.words.now)) b c.written.ensures.grew c.requires.names (f p new) c.place_of.ensures.place
     (c.held.ensures.bytes new) c.in_ok-s-in-Some.ensures.value
     ∙ sym (ap (λ (o : Option Write). bytes_by e o (registers_by old c.args.words.now) (shadows_of p old c.args.memory.now) b) c.in-Some.is)) c.store.ensures.shadow

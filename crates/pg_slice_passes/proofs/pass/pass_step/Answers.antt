@@ -26,14 +26,14 @@ needs-requires-clause-fits c =
 pub add_footprints-requires-clause-low : goal.add_footprints-requires-clause-low
 add_footprints-requires-clause-low c =
     let f = few_turns c.args.run.now.t.now.steps c.args.run.now.intervals.now c.args.n c.step-step.result c.interval_at-interval.result c.requires.given.intervals c.step-step.ensures
-    c.interval_at-interval.ensures in
+    c.interval_at-interval.ensures.or_any in
     let l = f.0 in
     omega (arith, l, c.requires.given.few)
 
 pub add_footprints-requires-clause-high : goal.add_footprints-requires-clause-high
 add_footprints-requires-clause-high c =
     let f = few_turns c.args.run.now.t.now.steps c.args.run.now.intervals.now c.args.n c.step-step.result c.interval_at-interval.result c.requires.given.intervals c.step-step.ensures
-    c.interval_at-interval.ensures in
+    c.interval_at-interval.ensures.or_any in
     let l = f.1 in
     omega (arith, l, c.requires.given.few)
 
@@ -57,7 +57,7 @@ returns-clause-grew c = grew_then c.args.nodes.now c.needs.new.nodes c.step.new.
 pub returns-clause-earlier : goal.returns-clause-earlier
 returns-clause-earlier c =
     earlier_more c.args.run.now.t.now.steps c.args.run.now.intervals.now c.args.n c.step-step.result c.interval_at-interval.result c.args.g.now.footprints c.add_footprints.new.footprints
-    c.requires.given.intervals c.step-step.ensures c.interval_at-interval.ensures c.in_ok-add_footprints.ensures.timed
+    c.requires.given.intervals c.step-step.ensures c.interval_at-interval.ensures.or_any c.in_ok-add_footprints.ensures.timed
 
 pub returns-clause-named : goal.returns-clause-named
 returns-clause-named c = λ h.
@@ -80,7 +80,7 @@ returns-clause-passed c = λ regions gated input marks before.
     let g1 = c.needs.ensures.grew in
     let g2 = c.step.ensures.grew in
     let s = c.args.g.now.sources in
-    let m = has_moment gated p input xs n x v c.args.run.now.intervals.now c.requires.given.intervals c.step-step.ensures c.interval_at-interval.ensures in
+    let m = has_moment gated p input xs n x v c.args.run.now.intervals.now c.requires.given.intervals c.step-step.ensures c.interval_at-interval.ensures.or_any in
     let k = known_at R d n in
     let y = step_from R d n k m.moment in
     let at = is_at R d r n x i old s m.moment marks m.stands m.did c.instr-x.ensures.at before.known in

@@ -6,7 +6,7 @@ use Rattle.pg_slice_passes.proofs.footprints.Footprints.add.Goals as goal
 pub returns-clause-footprints : goal.returns-clause-footprints
 returns-clause-footprints c = λ x t l q.
     then_added c.args.self.now.footprints.items c.add_access.new.self.footprints.items c.add_region.new.self.footprints.items (access_footprints x) (region_footprints x)
-      (c.in_ok-add_access.ensures.footprints x t l)
+    (c.in_ok-add_access.ensures.footprints x t l)
     (c.in_ok-add_region.ensures.footprints x t l q)
 
 pub returns-clause-owners : goal.returns-clause-owners
