@@ -15,19 +15,19 @@ use pg_slice_values::Source;
 
 /// The bytes within bounds: the first one, and how many there are.
 #[derive(Clone, Copy)]
-pub struct Bounds {
+pub struct ByteBounds {
     pub start: u64,
     pub bytes: u64,
 }
 
 /// The bounds of a pointer.
-pub fn bounds(word: u64) -> Bounds
+pub fn bounds(word: u64) -> ByteBounds
     ensures start { result.start ≡ (bounds_of word).start }
     ensures bytes { result.bytes ≡ (bounds_of word).bytes }
     ensures within { result.start + result.bytes ≤ PLACE_COUNT }
 {
     let pointer = unpack(word);
-    Bounds {
+    ByteBounds {
         start: GRANULE_BYTES as u64 * pointer.start as u64,
         bytes: pointer.length as u64,
     }

@@ -16,7 +16,7 @@ mod state;
 mod step;
 mod threads;
 
-pub use bounds::{Bounds, bounds};
+pub use bounds::{ByteBounds, bounds};
 pub use given::GivenRun;
 pub use needs::is_malloc;
 pub use pass::{Passed, pass_over};
