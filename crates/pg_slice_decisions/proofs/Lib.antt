@@ -1,2 +1,2 @@
 pub mod NumberTables
-pub mod OpenExtents
+pub mod OpenedExtents

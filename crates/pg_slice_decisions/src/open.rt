@@ -66,7 +66,7 @@ impl OpenExtents {
         }
     }
 
-    #[tactic(auto, using(crate::proofs::OpenExtents::live_by))]
+    #[tactic(auto, using(crate::proofs::OpenedExtents::live_by))]
     /// Whether each open extent is that of a pinned step.
     pub fn is_live(&self) -> bool
         ensures { (pinned : ℕ → Bool) (es : List Extent) → AreOpen pinned es (open_at self.now) → result ≡ defs.is_live pinned es }
@@ -86,7 +86,7 @@ impl OpenExtents {
         Ok(())
     }
 
-    #[tactic(auto, using(crate::proofs::OpenExtents::entered_by))]
+    #[tactic(auto, using(crate::proofs::OpenedExtents::entered_by))]
     /// The extents that end at this block, if one is entered, are open no more.
     fn enter(&mut self, alloc: Global, depth: u32, block: Option<u32>) -> Result<(), AllocError>
         ensures { IfOk result (λ u. EntersBlock depth block (open_at self.old) (open_at self.new)) }
@@ -99,7 +99,7 @@ impl OpenExtents {
         Ok(())
     }
 
-    #[tactic(auto, using(crate::proofs::OpenExtents::passed))]
+    #[tactic(auto, using(crate::proofs::OpenedExtents::passed))]
     /// What a step leaves open, in a thread with so many calls: `free` is the join of its region where the step is
     /// freeable and isn't pinned, `edge` the block that it enters, if it takes an edge.
     ///

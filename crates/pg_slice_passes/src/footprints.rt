@@ -19,7 +19,7 @@ ghost use Rattle.pg_slice_rules.specs.Freeable.{FreeAccess as AnAccess};
 ghost use Rattle.std.specs.Prelude.{Some, map, slice_get};
 ghost use Rattle.pg_slice_conflicts.specs.declared.footprint.Footprint.{Footprint as AFootprint};
 
-use crate::bounds::bounds;
+use crate::byte_bounds::bounds;
 use crate::state::RunSources;
 use pg_run_trace::{Step, StepKind};
 use pg_schedule::Interval;

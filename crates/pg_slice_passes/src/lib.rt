@@ -2,7 +2,7 @@
 //! missing and what an input must give, until none is missing.
 #![tactic(auto)]
 
-mod bounds;
+mod byte_bounds;
 pub mod fits;
 mod footprints;
 mod given;
@@ -16,7 +16,7 @@ mod state;
 mod step;
 mod threads;
 
-pub use bounds::{ByteBounds, bounds};
+pub use byte_bounds::{ByteBounds, bounds};
 pub use given::GivenRun;
 pub use needs::is_malloc;
 pub use pass::{Passed, pass_over};

@@ -15,7 +15,7 @@ ghost use Rattle.pg_slice_values.specs.Sources.{Grew, IsSource, shadow_by};
 ghost use Rattle.pg_slice_memory.specs.Changes as bytes;
 ghost use Rattle.pg_slice_registers.specs.Sourced.{AreSources, registers_by};
 
-use crate::bounds::{bounds, held, loaded};
+use crate::byte_bounds::{bounds, held, loaded};
 use pg_ir::{Program, Value};
 use pg_num::Width;
 use pg_precondition::Nodes;

@@ -1,7 +1,7 @@
 use Rattle.std.proofs.Common.{◌∙◌, ap, not}
 use Rattle.std.specs.List.{filter}
 use Rattle.pg_slice_decisions.specs.Places.{is_at}
-use Rattle.pg_slice_decisions.proofs.OpenExtents.{entered_by}
+use Rattle.pg_slice_decisions.proofs.OpenedExtents.{entered_by}
 use Rattle.pg_slice_decisions.proofs.open.OpenExtents.enter.Goals as goal
 
 pub returns-in_ok-self : goal.returns-in_ok-self
