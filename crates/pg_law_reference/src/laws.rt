@@ -46,9 +46,8 @@ pub fn exiting_runs_are_reference_runs()
 
 /// Where the guided run of a program along turns exits, its steps can be sliced.
 pub fn exiting_runs_can_be_sliced()
-    ensures { (p : NumberedProgram) (input : List ℤ) (turns : List Turn) (gated : List InstrId) (xs : List Step) (printed : List ℕ) (value : ℤ) → IsProgram p → HoldBytes p.globals
-        → length input < 2 ^ 64
-        → following_of p input turns gated ≡ Exits xs printed value → CanBeSliced p input gated xs }
+    ensures { (p : NumberedProgram) (input : List ℤ) (turns : List Turn) (gated : List InstrId) (xs : List Step) (printed : List ℕ) (value : ℤ) → IsProgram p
+        → HoldBytes p.globals → length input < 2 ^ 64 → following_of p input turns gated ≡ Exits xs printed value → CanBeSliced p input gated xs }
 {}
 
 /// Each edge of a replay leads to a block of the program.

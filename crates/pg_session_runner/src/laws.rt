@@ -50,8 +50,8 @@ pub fn each_reused_line_is_served()
 /// permit.
 pub fn each_recorded_line_is_served()
     ensures { (p : NumberedProgram) (quantum : ℕ) (inputs : List (Option (List ℤ))) (answers : List Answer) (kept : Kept EntryParts)
-        → AnswersAll entry_admits (runs_of p quantum) begin inputs answers kept
-        → (line number : ℕ) (answer : Answer) → slice_get answers line ≡ Some answer → answer.kind ≡ Recorded number
+        → AnswersAll entry_admits (runs_of p quantum) begin inputs answers kept → (line number : ℕ) (answer : Answer)
+        → slice_get answers line ≡ Some answer → answer.kind ≡ Recorded number
         → IsServedRecording p quantum inputs answers line number }
 {
     the_schedule_of_a_rotation_run_is_good();
