@@ -104,5 +104,5 @@ module _ (p : NumberedProgram) (gated : ℕ → Bool) (sums : ℕ → Option Roo
       go (FourTimes i j k n) e = some (no_never (FourTimes i j k n) e (λ k. cc))
 
   pub alike_begins : IsAtBranch (instance_of p gated sums r q s l f fs)
-  alike_begins = at_branch p gated sums r q s l f fs x h.program h.summaries h.begun h.bounds h.is h.kind h.function (h.program.instrs f.place x h.is).block h.join access_leads
+  alike_begins = at_branch p gated sums r q s l f fs x h.program h.summaries h.begun h.frames h.is h.kind h.function (h.program.instrs f.place x h.is).block h.join access_leads
       (apart_at q.accesses h.apart)

@@ -42,7 +42,7 @@ pub record IsAlikeBranch (p : NumberedProgram) (gated : ℕ → Bool) (sums : �
   pub program : IsProgram p
   pub summaries : AreSummaries p gated sums
   pub begun : l.begun ≡ true
-  pub bounds : l.bounds ≡ f ∷ fs
+  pub frames : l.frames ≡ f ∷ fs
   pub is : slice_get p.instrs f.place ≡ Some x
   pub kind : IsBranch x.op
   pub function : function_of p x.block.0 ≡ f.function
