@@ -18,17 +18,15 @@ padded_zeros (suc n) = ap (λ ws. 0 ∷ ws) (padded_zeros n)
 pub padded_none : (ws : Words) (n : ℕ) → ws ≡ [] → padded n ws ≡ replicate n 0
 padded_none ws n e = rw e (padded_zeros n)
 
-pub padded_all : (n : ℕ) (ws : Words) → n ≤ length ws → padded n ws ≡ ws
+-- zeros more
+pub padded_more : (n k : ℕ) (ws : Words) → length ws + k ≤ n → padded n (ws ++ replicate k 0) ≡ padded n ws
 unfolding padded
-padded_all zero ws h = refl
-padded_all (suc n) [] h = absurd (omega arith)
-padded_all (suc n) (w ∷ ws) h = ap (λ vs. w ∷ vs) (padded_all n ws (omega arith))
-
-pub padded_more : (n : ℕ) (ws : Words) → length ws < n → padded n (ws ++ 0 ∷ []) ≡ padded n ws
-unfolding padded
-padded_more zero ws h = absurd (omega arith)
-padded_more (suc n) [] h = refl
-padded_more (suc n) (w ∷ ws) h = ap (λ vs. w ∷ vs) (padded_more n ws (omega arith))
+padded_more zero zero [] h = refl
+padded_more zero (suc k) [] h = absurd (omega arith)
+padded_more zero k (w ∷ ws) h = absurd (omega arith)
+padded_more (suc n) zero [] h = refl
+padded_more (suc n) (suc k) [] h = ap (λ vs. 0 ∷ vs) (padded_more n k [] (omega arith))
+padded_more (suc n) k (w ∷ ws) h = ap (λ vs. w ∷ vs) (padded_more n k ws (omega arith))
 
 pub padded_length : (n : ℕ) (ws : Words) → length ws ≤ n → length (padded n ws) ≡ n
 unfolding padded
@@ -36,13 +34,6 @@ padded_length zero [] h = refl
 padded_length zero (w ∷ ws) h = absurd (omega arith)
 padded_length (suc n) [] h = ap suc (padded_length n [] (omega arith))
 padded_length (suc n) (w ∷ ws) h = ap suc (padded_length n ws (omega arith))
-
-pub padded_within : (i n : ℕ) (ws : Words) → length ws ≤ n → i ≤ n → length (padded i ws) ≤ n
-unfolding padded
-padded_within zero n ws h k = h
-padded_within (suc i) zero ws h k = absurd (omega arith)
-padded_within (suc i) (suc n) [] h k = let r = padded_within i n [] (omega arith) (omega arith) in omega (arith, r)
-padded_within (suc i) (suc n) (w ∷ ws) h k = let r = padded_within i n ws (omega arith) (omega arith) in omega (arith, r)
 
 pub padded_get : (n i : ℕ) (ws : Words) → slice_index (padded n ws) i ≡ slice_index ws i
 unfolding padded
@@ -52,37 +43,12 @@ padded_get (suc n) (suc i) [] = padded_get n i []
 padded_get (suc n) zero (w ∷ ws) = refl
 padded_get (suc n) (suc i) (w ∷ ws) = padded_get n i ws
 
-pub padded_set : (n i : ℕ) (ws : Words) (v : ℕ) → i < n → padded n (slice_set (padded (suc i) ws) i v) ≡ slice_set (padded n ws) i v
+pub set_padded : (n i v : ℕ) (ws : Words) → i < length ws → padded n (slice_set ws i v) ≡ slice_set (padded n ws) i v
 unfolding padded
-padded_set zero i ws v h = absurd (omega arith)
-padded_set (suc n) zero [] v h = refl
-padded_set (suc n) zero (w ∷ ws) v h = refl
-padded_set (suc n) (suc i) [] v h = ap (λ vs. 0 ∷ vs) (padded_set n i [] v (omega arith))
-padded_set (suc n) (suc i) (w ∷ ws) v h = ap (λ vs. w ∷ vs) (padded_set n i ws v (omega arith))
-
--- the words from which a word is set
-
-padded_least : (n : ℕ) (ws : Words) → n ≤ length (padded n ws)
-unfolding padded
-padded_least zero ws = omega arith
-padded_least (suc n) [] = let r = padded_least n [] in omega (arith, r)
-padded_least (suc n) (w ∷ ws) = let r = padded_least n ws in omega (arith, r)
-
-pub set_within : (i m : ℕ) (ws : Words) → m ≡ i + 1 → i < length (padded m ws)
-set_within i m ws e = let r = padded_least m ws in omega (arith, e, r)
-
-pub set_fits : (n i m v : ℕ) (ws : Words) → m ≡ i + 1 → length ws ≤ n → i < length (padded n ws) → length (slice_set (padded m ws) i v) ≤ n
-set_fits n i m v ws e h k =
-    let l = padded_length n ws h in
-    let r = padded_within m n ws h (omega (arith, e, k, l)) in
-    let q = length-set (padded m ws) i v in
-    omega (arith, r, q)
-
-pub set_padded : (n i m v : ℕ) (ws : Words) → m ≡ i + 1 → length ws ≤ n → i < length (padded n ws) → padded n (slice_set (padded m ws) i v) ≡ slice_set (padded n ws) i v
-set_padded n i m v ws e h k =
-    let l = padded_length n ws h in
-    let z : m ≡ suc i = omega (arith, e) in
-    rw z (padded_set n i ws v (omega (arith, k, l)))
+set_padded zero i v ws h = refl
+set_padded (suc n) i v [] h = absurd (omega arith)
+set_padded (suc n) zero v (w ∷ ws) h = refl
+set_padded (suc n) (suc i) v (w ∷ ws) h = ap (λ vs. w ∷ vs) (set_padded n i v ws (omega arith))
 
 -- ---- two parts
 

@@ -26,15 +26,23 @@ impl Model for LazyWords {
     ghost invariant = { λ l. (length l.words.items ≤ l.count) × (l.count ≤ vec_capacity l.words) };
 }
 
-/// Adds zeros up to a length, where there is room for them.
-#[tactic(auto, using(crate::proofs::Padding::padded_all, crate::proofs::Padding::padded_more))]
-fn fill(words: &mut Vec<u64>, count: usize)
-    requires { count ≤ vec_capacity words.old }
-    ensures words { words.new.items ≡ padded count words.old.items }
-    ensures room { vec_capacity words.old ≤ vec_capacity words.new }
+/// How many words become zero at a time, so that words that are written in order don't each ask for that.
+const CHUNK_WORDS: usize = 128;
+
+/// Adds zeros until a list has the index, and some more, up to as many as it has room for.
+fn reach(words: &mut Vec<u64>, index: usize, count: usize)
+    requires within { index < count }
+    requires fits { length words.old.items ≤ count }
+    requires room { count ≤ vec_capacity words.old }
+    ensures words { padded count words.new.items ≡ padded count words.old.items }
+    ensures reached { index < length words.new.items }
+    ensures fits { length words.new.items ≤ count }
+    ensures room { count ≤ vec_capacity words.new }
 {
-    'zeros: while words.len() < count {
-        words.push_reserved(0);
+    if words.len() <= index {
+        let length = index + CHUNK_WORDS.min(count - index);
+        // there is room, so this doesn't fail
+        let _ = words.resize(length, 0);
     }
 }
 
@@ -62,12 +70,12 @@ impl LazyWords {
     }
 
     /// Puts a word at an index. Takes no memory.
-    #[tactic(auto, using(crate::proofs::Padding::set_within, crate::proofs::Padding::set_fits, crate::proofs::Padding::set_padded))]
+    #[tactic(auto, using(crate::proofs::Padding::set_padded))]
     pub(crate) fn set(&mut self, index: usize, word: u64)
         requires { index < length self.old }
         ensures { self.new ≡ slice_set self.old index word }
     {
-        fill(&mut self.words, index + 1);
+        reach(&mut self.words, index, self.count);
         self.words[index] = word;
     }
 }
