@@ -68,7 +68,7 @@ pub none_ready : (p : NumberedProgram) (s : State) (u : ℕ) → first_true (λ 
 none_ready p s u e t = elim (cases_lt t (length s.locals)) [
   | inl less ↦
       let r = round (length s.locals) (u + 1) t less in
-      subst (λ (i : ℕ). ready p s i ≡ false) r.2.1 (none_before (λ d. ready p s (around s u d)) (length s.locals) e r.0 r.2.0)
+      subst (λ (i : ℕ). ready p s i ≡ false) r.2 (none_before (λ d. ready p s (around s u d)) (length s.locals) e r.0 r.1)
   | inr more ↦ unmade p s t more
 ]
 
