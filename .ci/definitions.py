@@ -12,7 +12,9 @@ import re
 # a word, an operator, or the dot before a field or a name of a module: the dot behind a lambda's names has a blank behind it
 WORD = re.compile(r"[^\W\d][\w'-]*|[^\s\w(){}\[\];,.\"λ]+|(?<=[\w')])\.(?=[^\W\d])")
 DEFINITION = re.compile(r"(?:(?:abbrev|unfoldable|opaque|pub|record|data)\s+)*(◌?[^\s(){};.◌]+◌?)(?=\s|$)")
-KEYWORDS = {"module", "mutual", "infixl", "infixr", "infix", "use", "where", "unfolding"}
+KEYWORDS = {"infixl", "infixr", "infix"}
+# a block of definitions, each further in by two blanks
+BLOCK = re.compile(r"(?:\w+ )*(?:module|mutual)\b")
 CONSTRUCTOR = re.compile(r"^\s+(?:pub )?([^\W\d][\w']*)\s*:", re.M)
 IMPORT = re.compile(r"^\s*(pub )?(?:ghost )?use ([\w:.]+?)(?:(?:\.|::)\{([^}]*)\}| as (\w+))?;?\s*$", re.M)
 DECLARATION = re.compile(r"^(?:pub(?:\([^)]*\))? )?(struct|enum|trait|const|type) (\w+)", re.M)
@@ -56,8 +58,11 @@ class Texts:
         self.specs = {}
         # of each file of src/, by (crate, module): its path and its text
         self.sources = {}
-        # where a crate declares a type, a constant or a trait of this name
+        # where a crate declares a type, a constant or a trait of this name, and those of other crates that it passes on
         self.declared = {}
+        self.passed_on = {}
+        # the names that a file imports and that weren't found: with any, less may be found than is needed
+        self.missing = set()
         for crate in sorted(os.listdir(os.path.join(top, "crates"))):
             for kind, ending in (("specs", ".antt"), ("src", ".rt")):
                 for path, module in self.files_of(crate, kind, ending):
@@ -82,7 +87,7 @@ class Texts:
         inside = False
         for line in text.split("\n"):
             if line and not line[0].isspace():
-                inside = line.startswith(("module ", "mutual"))
+                inside = BLOCK.match(line) is not None
                 header = line if inside else ""
                 if inside:
                     now = None
@@ -92,18 +97,22 @@ class Texts:
             found = DEFINITION.match(line)
             if line.startswith(("use ", "pub use ")):
                 now = None
-            elif found and not line[0].isspace() and found.group(1).split()[0] not in KEYWORDS:
+            elif found and not line[0].isspace() and found.group(1) not in KEYWORDS:
                 now = bare(found.group(1))
                 definitions.setdefault(now, [header] if header else [])
             if now and line.strip():
                 definitions[now].append(line)
-        self.specs[crate, module] = (path, self.imports_of(crate, text), {name: "\n".join(lines) for name, lines in definitions.items()})
+        definitions = {name: "\n".join(lines) for name, lines in definitions.items()}
+        self.specs[crate, module] = (path, self.imports_of(crate, text), definitions)
 
     def add_source(self, crate, module, path):
         text = without_comments(read(os.path.join(self.top, path)))
         self.sources[crate, module] = (path, text)
         for found in DECLARATION.finditer(text):
             self.declared.setdefault((crate, found.group(2)), (module, found.group(1), found.start()))
+        for name, item in self.imports_of(crate, text)[2].items():
+            if item[0] != crate:
+                self.passed_on[crate, name] = item
 
     # ---- names
 
@@ -126,6 +135,8 @@ class Texts:
                 word = alias or parts[-1]
                 if into is self.of_source:
                     names[word] = (parts[0], None, parts[-1])
+                    if is_public:
+                        public[word] = names[word]
                 elif "declared" in parts:
                     names[word] = into(parts, None)
                 else:
@@ -143,6 +154,8 @@ class Texts:
     def of_specs(parts, name):
         """The item that a path of specs names: a definition of a module, a type with its variants and views, or a constant."""
         crate, rest = parts[0], parts[2:]
+        if rest[:1] == ["contracts"] and name == "the_type":
+            return (crate, None, rest[-1])
         if rest[:1] != ["declared"]:
             return (crate, ".".join(rest), name)
         if rest[-1] == "TheConstants":
@@ -156,10 +169,12 @@ class Texts:
         return (parts[0], None, name)
 
     def item_of(self, item):
-        """The item as it stands: a definition by its file, one that a file only passes on by its own file, a variant by its type."""
+        """The item as it stands: a name that a file only passes on is that of its own file, and a variant is its type."""
         crate, module, name = item
         if module is None:
             found = self.declared.get((crate, name))
+            if not found and (crate, name) in self.passed_on:
+                return self.item_of(self.passed_on[crate, name])
             return found and ("src", crate, found[0], name)
         if (crate, module) not in self.specs:
             return None
@@ -176,7 +191,8 @@ class Texts:
     # ---- what an item names
 
     def words_of(self, text):
-        """The words of a text, each with the word before its dot, if it has one; a field's name where it is set or declared is none."""
+        """The words of a text, each with the word before its dot, if it has one. The name of a field that is set or
+        declared is none."""
         text = re.sub(r"(?m)^(\s+pub )[^\W\d][\w']*(\s*:)", r"\1\2", text)
         text = re.sub(r"([{;]\s*)[^\W\d][\w']*(\s*=[^=])", r"\1\2", text)
         words = WORD.findall(text)
@@ -197,6 +213,8 @@ class Texts:
                 item = self.item_of((crate, module, word))
             elif word in names:
                 item = self.item_of(names[word])
+                if item is None:
+                    self.missing.add(f"{crate}, {module or 'a contract'}: {word}")
             else:
                 continue
             if item:
