@@ -19,7 +19,7 @@ use crate::fields::size_or_none;
 use crate::globals::Globals;
 use crate::initialisers::add_const;
 use pg_check_rules::granules_for;
-use pg_check_types::KnownTypes;
+use pg_check_types::{KnownTypes, TypeNumbers};
 use pg_ir::{Bytes, GlobalInfo};
 use pg_read_ast::{ConstNode, GlobalItem};
 use std::alloc::AllocError;
@@ -28,9 +28,11 @@ use std::alloc::AllocError;
 fn initial_bytes(
     globals: &Globals<'_>,
     known: &KnownTypes<'_>,
+    types: &TypeNumbers<'_>,
     number: Option<usize>,
     value: &ConstNode,
 ) -> Result<Vec<u8>, AllocError>
+    requires items { types.now.items ≡ globals.now.symbols.tree.now.types.items }
     requires within { IsWithin (table_of known.now) number }
     requires ty { IfSome (denoted (table_of known.now) number) AllFit }
     requires value { ConstFits (tree_of globals.now.symbols.tree.now).types (const_of value.now) }
@@ -39,7 +41,7 @@ fn initial_bytes(
     let mut bytes = Vec::new(globals.alloc);
     match number {
         Some(number) => {
-            add_const(globals, known, &mut bytes, number, value)?;
+            add_const(globals, known, types, &mut bytes, number, value)?;
             Ok(bytes)
         }
         None => Ok(bytes),
@@ -57,14 +59,20 @@ fn without_zeros(all: Vec<u8>) -> Vec<u8>
 }
 
 /// A global that starts at a granule.
-fn info_from(globals: &Globals<'_>, start: u32, item: &GlobalItem) -> Result<GlobalInfo, AllocError>
-    requires { GlobalFits (tree_of globals.now.symbols.tree.now).types (global_of item.now) }
+fn info_from(
+    globals: &Globals<'_>,
+    types: &TypeNumbers<'_>,
+    start: u32,
+    item: &GlobalItem,
+) -> Result<GlobalInfo, AllocError>
+    requires items { types.now.items ≡ globals.now.symbols.tree.now.types.items }
+    requires fits { GlobalFits (tree_of globals.now.symbols.tree.now).types (global_of item.now) }
     ensures info { IfOk result (λ g. g ≡ info_from (tree_of globals.now.symbols.tree.now) start (global_of item.now)) }
 {
-    let mut known = KnownTypes::new(globals.types);
+    let mut known = KnownTypes::new(types);
     let number = known.number(&item.ty)?;
     let size = size_or_none(&known, number);
-    let bytes = initial_bytes(globals, &known, number, &item.value)?;
+    let bytes = initial_bytes(globals, &known, types, number, &item.value)?;
     Ok(GlobalInfo {
         start,
         size,
@@ -82,7 +90,12 @@ fn granule_behind(start: u32, size: u32) -> u32
 }
 
 /// The globals of a program, where these are its variables.
-fn infos(globals: &Globals<'_>, variables: &[GlobalItem]) -> Result<Vec<GlobalInfo>, AllocError>
+fn infos(
+    globals: &Globals<'_>,
+    types: &TypeNumbers<'_>,
+    variables: &[GlobalItem],
+) -> Result<Vec<GlobalInfo>, AllocError>
+    requires items { types.now.items ≡ globals.now.symbols.tree.now.types.items }
     requires variables { variables.now ≡ globals.now.symbols.tree.now.globals.items }
     requires fits { GlobalsFit (tree_of globals.now.symbols.tree.now).types (tree_of globals.now.symbols.tree.now).globals }
     ensures rows { IfOk result (λ v. v.items ≡ map (λ (v : ℕ × Variable). global_at (tree_of globals.now.symbols.tree.now) v.0 v.1)
@@ -91,7 +104,7 @@ fn infos(globals: &Globals<'_>, variables: &[GlobalItem]) -> Result<Vec<GlobalIn
     let mut rows = Vec::new(globals.alloc);
     let mut start = 1;
     for item in variables {
-        let row = info_from(globals, start, item)?;
+        let row = info_from(globals, types, start, item)?;
         start = granule_behind(start, row.size);
         rows.push(row)?;
     }
@@ -99,10 +112,14 @@ fn infos(globals: &Globals<'_>, variables: &[GlobalItem]) -> Result<Vec<GlobalIn
 }
 
 /// The globals of a program in text order, whose types and constants keep within the limits of sizes.
-pub fn add_globals(globals: &Globals<'_>) -> Result<Vec<GlobalInfo>, AllocError>
-    requires { GlobalsFit (tree_of globals.now.symbols.tree.now).types (tree_of globals.now.symbols.tree.now).globals }
+pub fn add_globals(
+    globals: &Globals<'_>,
+    types: &TypeNumbers<'_>,
+) -> Result<Vec<GlobalInfo>, AllocError>
+    requires items { types.now.items ≡ globals.now.symbols.tree.now.types.items }
+    requires fits { GlobalsFit (tree_of globals.now.symbols.tree.now).types (tree_of globals.now.symbols.tree.now).globals }
     ensures rows { IfOk result (λ v. v.items ≡ map (λ (v : ℕ × Variable). global_at (tree_of globals.now.symbols.tree.now) v.0 v.1)
         (enumerate_from 0 (tree_of globals.now.symbols.tree.now).globals)) }
 {
-    infos(globals, globals.symbols.tree.globals.as_slice())
+    infos(globals, types, globals.symbols.tree.globals.as_slice())
 }

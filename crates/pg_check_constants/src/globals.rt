@@ -17,15 +17,13 @@ use pg_num::{Pointer, pack};
 use pg_read_ast::{GlobalItem, Module};
 use std::alloc::{AllocError, Global};
 
-/// The globals of a module: what its types and its global names stand for, and the words of the pointers to its variables;
-/// and what allocates what is made of them.
+/// The globals of a module: what its global names stand for, and the words of the pointers to its variables; and what
+/// allocates what is made of them.
 #[derive(Drop)]
 pub struct Globals<'a> {
     pub alloc: Global,
-    pub types: &'a TypeNumbers<'a>,
     pub symbols: Symbols<'a>,
     words: Vec<u64>,
-    ghost own_types: { types.now.items ≡ symbols.tree.now.types.items },
     ghost known: { words.items ≡ words_from (tree_of symbols.tree.now).types 1 (tree_of symbols.tree.now).globals },
 }
 
@@ -67,7 +65,7 @@ fn global_words(
 /// The globals of a module, whose types and constants keep within the limits of sizes.
 pub fn index_globals<'a>(
     alloc: Global,
-    types: &'a TypeNumbers<'a>,
+    types: &TypeNumbers<'_>,
     tree: &'a Module,
 ) -> Result<Globals<'a>, AllocError>
     requires items { types.now.items ≡ tree.now.types.items }
@@ -78,7 +76,6 @@ pub fn index_globals<'a>(
     let words = global_words(alloc, types, tree.globals.as_slice())?;
     Ok(Globals {
         alloc,
-        types,
         symbols,
         words,
     })

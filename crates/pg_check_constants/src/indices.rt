@@ -160,7 +160,6 @@ pub(crate) fn moved_along(word: u64, scales: &[Scale], indices: &[Option<i64>]) 
     ensures { result ≡ moved_by word (moves_of scales.now indices.now) }
 {
     let mut offset = 0;
-    // By place: of `zip` it would have to be proved that it ends.
     for place in 0..scales.len() {
         offset = moved_offset(offset, scales[place], indices[place]);
     }

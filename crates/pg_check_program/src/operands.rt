@@ -2,6 +2,7 @@
 
 ghost use Rattle.std.specs.Prelude.{◌≡◌, IfOk, map};
 ghost use Rattle.pg_read_ast.specs.Views.{ty_of, val_of, typed_of, tree_of};
+ghost use Rattle.pg_check_types.specs.NumberedTypes.{named_types};
 ghost use Rattle.pg_check_rules.specs.Numbered.{symbol_value, value_at, typed_value, type_in, width_in};
 ghost use Rattle.pg_check_types.specs.Layout.{size_or_none};
 ghost use Rattle.pg_check_rules.specs.Symbols.{symbol_of};
@@ -18,7 +19,7 @@ use crate::function_scope::FunctionScope;
 use crate::scope::register_number;
 use pg_check_constants::{Globals, kind_word, size_or_none};
 use pg_check_rules::{SymbolNode, symbol};
-use pg_check_types::{KnownTypes, TypeKind};
+use pg_check_types::{KnownTypes, TypeKind, TypeNumbers};
 use pg_ir::Value;
 use pg_num::Width;
 use pg_read_ast::{TypeNode, TypedVal, ValNode};
@@ -38,13 +39,19 @@ fn symbol_value(symbol: SymbolNode<'_>) -> Value
 
 /// A constant of a type.
 #[tactic(auto, using(crate::proofs::KindWords::word_of_kind))]
-fn constant_at(globals: &Globals<'_>, ty: &TypeNode, value: &ValNode) -> Result<Value, AllocError>
-    requires { ValFits (tree_of globals.now.symbols.tree.now).types (val_of value.now) }
+fn constant_at(
+    globals: &Globals<'_>,
+    types: &TypeNumbers<'_>,
+    ty: &TypeNode,
+    value: &ValNode,
+) -> Result<Value, AllocError>
+    requires items { types.now.items ≡ globals.now.symbols.tree.now.types.items }
+    requires fits { ValFits (tree_of globals.now.symbols.tree.now).types (val_of value.now) }
     ensures constant { IfOk result (λ v. v ≡ Const (constant_word (tree_of globals.now.symbols.tree.now)
-        (resolved (tree_of globals.now.symbols.tree.now).types (ty_of ty.now)) (val_of value.now))) }
+        (resolved (named_types types.now) (ty_of ty.now)) (val_of value.now))) }
 {
-    let kind = globals.types.kind(ty)?;
-    let word = kind_word(globals, kind, value)?;
+    let kind = types.kind(ty)?;
+    let word = kind_word(globals, types, kind, value)?;
     Ok(Value::Const(word))
 }
 
@@ -52,10 +59,12 @@ fn constant_at(globals: &Globals<'_>, ty: &TypeNode, value: &ValNode) -> Result<
 #[tactic(auto, unfolding(pg_check_rules::specs::Numbered::value_of))]
 pub(crate) fn value_at(
     scope: &FunctionScope<'_>,
+    types: &TypeNumbers<'_>,
     ty: &TypeNode,
     value: &ValNode,
 ) -> Result<Value, AllocError>
-    requires { ValIsSmall scope.now (val_of value.now) }
+    requires items { types.now.items ≡ scope.now.globals.now.symbols.tree.now.types.items }
+    requires value { ValIsSmall scope.now (val_of value.now) }
     ensures value { (names : ScopeNames scope.now) →
         IfOk result (λ v. v ≡ value_at (scope_in scope.now names) (ty_of ty.now) (val_of value.now)) }
 {
@@ -65,17 +74,22 @@ pub(crate) fn value_at(
             &scope.globals.symbols,
             name.text.as_slice(),
         ))),
-        _ => constant_at(scope.globals, ty, value),
+        _ => constant_at(scope.globals, types, ty, value),
     }
 }
 
 /// A value at the type that is written before it.
-pub(crate) fn typed_value(scope: &FunctionScope<'_>, value: &TypedVal) -> Result<Value, AllocError>
-    requires { TypedIsSmall scope.now (typed_of value.now) }
+pub(crate) fn typed_value(
+    scope: &FunctionScope<'_>,
+    types: &TypeNumbers<'_>,
+    value: &TypedVal,
+) -> Result<Value, AllocError>
+    requires items { types.now.items ≡ scope.now.globals.now.symbols.tree.now.types.items }
+    requires value { TypedIsSmall scope.now (typed_of value.now) }
     ensures value { (names : ScopeNames scope.now) →
         IfOk result (λ v. v ≡ typed_value (scope_in scope.now names) (typed_of value.now)) }
 {
-    value_at(scope, &value.ty, &value.value)
+    value_at(scope, types, &value.ty, &value.value)
 }
 
 fn kind_width(kind: Option<TypeKind>) -> Width
@@ -89,29 +103,44 @@ fn kind_width(kind: Option<TypeKind>) -> Width
 
 /// The width of a type's values: of an integer its own, and else 64 bits.
 #[tactic(auto, using(crate::proofs::KindWords::width_of_kind))]
-pub(crate) fn width_at(scope: &FunctionScope<'_>, ty: &TypeNode) -> Result<Width, AllocError>
+pub(crate) fn width_at(
+    scope: &FunctionScope<'_>,
+    types: &TypeNumbers<'_>,
+    ty: &TypeNode,
+) -> Result<Width, AllocError>
+    requires { types.now.items ≡ scope.now.globals.now.symbols.tree.now.types.items }
     ensures width { (names : ScopeNames scope.now) →
         IfOk result (λ w. w ≡ width_in (type_in (scope_in scope.now names) (ty_of ty.now))) }
 {
-    let kind = scope.globals.types.kind(ty)?;
+    let kind = types.kind(ty)?;
     Ok(kind_width(kind))
 }
 
 /// The width of the type that is written before a value.
-pub(crate) fn typed_width(scope: &FunctionScope<'_>, value: &TypedVal) -> Result<Width, AllocError>
+pub(crate) fn typed_width(
+    scope: &FunctionScope<'_>,
+    types: &TypeNumbers<'_>,
+    value: &TypedVal,
+) -> Result<Width, AllocError>
+    requires { types.now.items ≡ scope.now.globals.now.symbols.tree.now.types.items }
     ensures width { (names : ScopeNames scope.now) →
         IfOk result (λ w. w ≡ width_in (type_in (scope_in scope.now names) (typed_of value.now).ty)) }
 {
-    width_at(scope, &value.ty)
+    width_at(scope, types, &value.ty)
 }
 
 /// The size of a type in bytes, and 0 of one that is none.
-pub(crate) fn size_at(scope: &FunctionScope<'_>, ty: &TypeNode) -> Result<u32, AllocError>
-    requires { TyIsSmall scope.now (ty_of ty.now) }
+pub(crate) fn size_at(
+    scope: &FunctionScope<'_>,
+    types: &TypeNumbers<'_>,
+    ty: &TypeNode,
+) -> Result<u32, AllocError>
+    requires items { types.now.items ≡ scope.now.globals.now.symbols.tree.now.types.items }
+    requires ty { TyIsSmall scope.now (ty_of ty.now) }
     ensures size { (names : ScopeNames scope.now) →
         IfOk result (λ n. n ≡ size_or_none (type_in (scope_in scope.now names) (ty_of ty.now))) }
 {
-    let mut known = KnownTypes::new(scope.globals.types);
+    let mut known = KnownTypes::new(types);
     let number = known.number(ty)?;
     Ok(size_or_none(&known, number))
 }
@@ -119,15 +148,17 @@ pub(crate) fn size_at(scope: &FunctionScope<'_>, ty: &TypeNode) -> Result<u32, A
 /// The values of arguments.
 pub(crate) fn values_at(
     scope: &FunctionScope<'_>,
+    types: &TypeNumbers<'_>,
     values: &[TypedVal],
 ) -> Result<Vec<Value>, AllocError>
-    requires { Each (TypedIsSmall scope.now) (map typed_of values.now) }
+    requires items { types.now.items ≡ scope.now.globals.now.symbols.tree.now.types.items }
+    requires values { Each (TypedIsSmall scope.now) (map typed_of values.now) }
     ensures values { (names : ScopeNames scope.now) →
         IfOk result (λ v. v.items ≡ map (typed_value (scope_in scope.now names)) (map typed_of values.now)) }
 {
     let mut found = Vec::new(scope.globals.alloc);
     for value in values {
-        let one = typed_value(scope, value)?;
+        let one = typed_value(scope, types, value)?;
         found.push(one)?;
     }
     Ok(found)

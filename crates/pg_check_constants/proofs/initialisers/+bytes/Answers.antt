@@ -28,10 +28,13 @@ add_const-add_elements-requires t c =
     let table = table_of c.args.known.now in (
       search (rules, the_lemmas),
       (
-        c.in-Some.ensures.within,
+        c.requires.items,
         (
-          element_there table (type_at table c.args.number) c.in-Some.element c.in-Some.ensures.within c.in-Some.ensures.element c.requires.ty,
-          elements_fit m.types c.args.value.now c.in-Array.field-0 c.in-Array.parts c.as_slice-in-Some.result.now c.in-Array.is c.as_slice-in-Some.ensures.value c.requires.fits,
+          c.in-Some.ensures.within,
+          (
+            element_there table (type_at table c.args.number) c.in-Some.element c.in-Some.ensures.within c.in-Some.ensures.element c.requires.ty,
+            elements_fit m.types c.args.value.now c.in-Array.field-0 c.in-Array.parts c.as_slice-in-Some.result.now c.in-Array.is c.as_slice-in-Some.ensures.value c.requires.fits,
+          ),
         ),
       ),
     )
@@ -41,10 +44,13 @@ add_const-add_fields-requires t c =
     let m = tree_of c.args.globals.now.symbols.tree.now in (
       search (rules, the_lemmas),
       (
-        c.requires.within,
+        c.requires.items,
         (
-          c.requires.ty,
-          fields_fit m.types c.args.value.now c.in-Struct.field-0 c.in-Struct.parts c.as_slice-in-Struct.result.now c.in-Struct.is c.as_slice-in-Struct.ensures.value c.requires.fits,
+          c.requires.within,
+          (
+            c.requires.ty,
+            fields_fit m.types c.args.value.now c.in-Struct.field-0 c.in-Struct.parts c.as_slice-in-Struct.result.now c.in-Struct.is c.as_slice-in-Struct.ensures.value c.requires.fits,
+          ),
         ),
       ),
     )
@@ -54,10 +60,13 @@ add_elements-add_part-requires t c =
     let m = tree_of c.args.globals.now.symbols.tree.now in (
       search (rules, the_lemmas),
       (
-        c.requires.within,
+        c.requires.items,
         (
-          c.requires.ty,
-          (parts_next m.types c.args.parts.now c.loop-part.part-index c.part-item.result _ c.loop-part-test.true c.part-item.is c.loop-part.invariant.fits).0,
+          c.requires.within,
+          (
+            c.requires.ty,
+            (parts_next m.types c.args.parts.now c.loop-part.part-index c.part-item.result _ c.loop-part-test.true c.part-item.is c.loop-part.invariant.fits).0,
+          ),
         ),
       ),
     )
@@ -87,10 +96,13 @@ add_fields-add_part-requires t c =
     let ts = field_list (type_at table c.args.number) in (
       search (rules, the_lemmas),
       (
-        c.in-Some.ensures.within,
+        c.requires.items,
         (
-          field_there (type_at table c.args.number) (type_at table c.in-Some.field) c.loop-place.place (drop (c.loop-place.place + 1) ts) c.requires.ty c.in-Some.ensures.field.rest,
-          (parts_next m.types c.args.parts.now c.loop-place.place c.index-parts-place.result _ c.loop-place-test.true c.index-parts-place.is c.loop-place.invariant.fits).0,
+          c.in-Some.ensures.within,
+          (
+            field_there (type_at table c.args.number) (type_at table c.in-Some.field) c.loop-place.place (drop (c.loop-place.place + 1) ts) c.requires.ty c.in-Some.ensures.field.rest,
+            (parts_next m.types c.args.parts.now c.loop-place.place c.index-parts-place.result _ c.loop-place-test.true c.index-parts-place.is c.loop-place.invariant.fits).0,
+          ),
         ),
       ),
     )

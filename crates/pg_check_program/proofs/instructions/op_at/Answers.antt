@@ -73,60 +73,60 @@ returns-in-Store c = record {
 
 pub binary_at-requires-clause-left : goal.binary_at-requires-clause-left
 unfolding OpFits
-binary_at-requires-clause-left c = (fits_as (types_in c.args.scope.now) c.in-Binary.is c.requires).0
+binary_at-requires-clause-left c = (fits_as (types_in c.args.scope.now) c.in-Binary.is c.requires.fits).0
 
 pub binary_at-requires-clause-right : goal.binary_at-requires-clause-right
 unfolding OpFits
-binary_at-requires-clause-right c = (fits_as (types_in c.args.scope.now) c.in-Binary.is c.requires).1
+binary_at-requires-clause-right c = (fits_as (types_in c.args.scope.now) c.in-Binary.is c.requires.fits).1
 
 pub compare_at-requires-clause-left : goal.compare_at-requires-clause-left
 unfolding OpFits
-compare_at-requires-clause-left c = (fits_as (types_in c.args.scope.now) c.in-Icmp.is c.requires).0
+compare_at-requires-clause-left c = (fits_as (types_in c.args.scope.now) c.in-Icmp.is c.requires.fits).0
 
 pub compare_at-requires-clause-right : goal.compare_at-requires-clause-right
 unfolding OpFits
-compare_at-requires-clause-right c = (fits_as (types_in c.args.scope.now) c.in-Icmp.is c.requires).1
+compare_at-requires-clause-right c = (fits_as (types_in c.args.scope.now) c.in-Icmp.is c.requires.fits).1
 
-pub cast_at-requires : goal.cast_at-requires
+pub cast_at-requires-clause-value : goal.cast_at-requires-clause-value
 unfolding OpFits
-cast_at-requires c = fits_as (types_in c.args.scope.now) c.in-Cast.is c.requires
+cast_at-requires-clause-value c = fits_as (types_in c.args.scope.now) c.in-Cast.is c.requires.fits
 
 pub select_at-requires-clause-cond : goal.select_at-requires-clause-cond
 unfolding OpFits
-select_at-requires-clause-cond c = (fits_as (types_in c.args.scope.now) c.in-Select.is c.requires).0
+select_at-requires-clause-cond c = (fits_as (types_in c.args.scope.now) c.in-Select.is c.requires.fits).0
 
 pub select_at-requires-clause-first : goal.select_at-requires-clause-first
 unfolding OpFits
-select_at-requires-clause-first c = (fits_as (types_in c.args.scope.now) c.in-Select.is c.requires).1
+select_at-requires-clause-first c = (fits_as (types_in c.args.scope.now) c.in-Select.is c.requires.fits).1
 
 pub select_at-requires-clause-second : goal.select_at-requires-clause-second
 unfolding OpFits
-select_at-requires-clause-second c = (fits_as (types_in c.args.scope.now) c.in-Select.is c.requires).2
+select_at-requires-clause-second c = (fits_as (types_in c.args.scope.now) c.in-Select.is c.requires.fits).2
 
-pub conditional_branch_at-requires : goal.conditional_branch_at-requires
+pub conditional_branch_at-requires-clause-cond : goal.conditional_branch_at-requires-clause-cond
 unfolding OpFits
-conditional_branch_at-requires c = fits_as (types_in c.args.scope.now) c.in-CondBr.is c.requires
+conditional_branch_at-requires-clause-cond c = fits_as (types_in c.args.scope.now) c.in-CondBr.is c.requires.fits
 
-pub switch_at-requires : goal.switch_at-requires
+pub switch_at-requires-clause-value : goal.switch_at-requires-clause-value
 unfolding OpFits
-switch_at-requires c = fits_as (types_in c.args.scope.now) c.in-Switch.is c.requires
+switch_at-requires-clause-value c = fits_as (types_in c.args.scope.now) c.in-Switch.is c.requires.fits
 
-pub return_at-requires : goal.return_at-requires
+pub return_at-requires-clause-value : goal.return_at-requires-clause-value
 unfolding OpFits
-return_at-requires c = fits_as (types_in c.args.scope.now) c.in-Ret.is c.requires
+return_at-requires-clause-value c = fits_as (types_in c.args.scope.now) c.in-Ret.is c.requires.fits
 
-pub alloca_at-requires : goal.alloca_at-requires
+pub alloca_at-requires-clause-ty : goal.alloca_at-requires-clause-ty
 unfolding OpFits
-alloca_at-requires c = fits_as (types_in c.args.scope.now) c.in-Alloca.is c.requires
+alloca_at-requires-clause-ty c = fits_as (types_in c.args.scope.now) c.in-Alloca.is c.requires.fits
 
-pub load_at-requires : goal.load_at-requires
+pub load_at-requires-clause-pointer : goal.load_at-requires-clause-pointer
 unfolding OpFits
-load_at-requires c = fits_as (types_in c.args.scope.now) c.in-Load.is c.requires
+load_at-requires-clause-pointer c = fits_as (types_in c.args.scope.now) c.in-Load.is c.requires.fits
 
 pub store_at-requires-clause-value : goal.store_at-requires-clause-value
 unfolding OpFits
-store_at-requires-clause-value c = (fits_as (types_in c.args.scope.now) c.in-Store.is c.requires).0
+store_at-requires-clause-value c = (fits_as (types_in c.args.scope.now) c.in-Store.is c.requires.fits).0
 
 pub store_at-requires-clause-pointer : goal.store_at-requires-clause-pointer
 unfolding OpFits
-store_at-requires-clause-pointer c = (fits_as (types_in c.args.scope.now) c.in-Store.is c.requires).1
+store_at-requires-clause-pointer c = (fits_as (types_in c.args.scope.now) c.in-Store.is c.requires.fits).1
