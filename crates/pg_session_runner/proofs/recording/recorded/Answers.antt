@@ -1,4 +1,4 @@
-use Rattle.std.proofs.Common.{subst, sym, ◌≡◌, ◌<◌, ◌^◌, ℤ, List, length, true}
+use Rattle.std.proofs.Common.{rules, subst, ◌≡◌, ℤ, List, true}
 use Rattle.pg_precondition.specs.Values.{is_admitted}
 use Rattle.pg_run.specs.Rotation.{rotation_of}
 use Rattle.pg_session_entry.specs.Records.{IsRecord}
@@ -23,7 +23,7 @@ returns-in-Kept c =
       exits = k.0;
       is_entry = k.2;
       printed = k.1;
-      ends = c.end_along-end.ensures;
+      ends = search rules;
       served = c.an_entry_serves_what_it_admits.ensures.served p input input run.trace run.state c.in-Kept.entry c.requires.can_run
-          (c.the_schedule_of_a_rotation_run_is_good.ensures.recorded p c.args.quantum input c.in-Kept.value k.0).0 k.2 c.requires.can_run.small admitted;
+          (c.the_schedule_of_a_rotation_run_is_good.ensures.recorded p input c.args.quantum c.in-Kept.value k.0).0 k.2 c.requires.can_run.small admitted;
     }
