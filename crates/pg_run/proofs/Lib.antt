@@ -15,6 +15,7 @@ pub mod Marks
 pub mod Named
 pub mod OwnTurns
 pub mod PhaseActions
+pub mod Recordings
 pub mod Rotations
 pub mod Runs
 pub mod Steps

@@ -57,7 +57,7 @@ unfolding next_share
 over_ready p q s u v true h = absurd cc
 over_ready p q s u v false h = share_ready p q s u v (ready p s u.thread.0) (nat_lt 0 u.left) refl h
 
-chosen_ready : (p : NumberedProgram) (q : ℕ) (s : State) (u v : Share) → chosen p q s u ≡ Ok v → ready p s v.thread.0 ≡ true
+pub chosen_ready : (p : NumberedProgram) (q : ℕ) (s : State) (u v : Share) → chosen p q s u ≡ Ok v → ready p s v.thread.0 ≡ true
 unfolding chosen
 chosen_ready p q s u v h = over_ready p q s u v (sync.over s.sync) h
 

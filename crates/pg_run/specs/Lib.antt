@@ -13,6 +13,7 @@ pub mod Named
 pub mod Permitted
 pub mod Phases
 pub mod Readers
+pub mod Recordings
 pub mod Rotation
 pub mod Runs
 pub mod State

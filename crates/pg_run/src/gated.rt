@@ -10,7 +10,7 @@ use std::marker::Model;
 /// The loads and stores that are events, with a mark for each instruction of a program that is among
 /// them.
 #[derive(Drop)]
-pub(crate) struct Gated {
+pub struct Gated {
     ids: Vec<InstrId>,
     marks: Vec<bool>,
 }
@@ -61,8 +61,12 @@ fn marked(alloc: Global, count: usize, ids: &[InstrId]) -> Result<Vec<bool>, All
 
 impl Gated {
     /// These instructions of a program.
-    pub(crate) fn new(alloc: Global, p: &Program, ids: &[InstrId]) -> Result<Gated, AllocError>
-        ensures { IfOk result (λ g. g ≡ ids.now) }
+    ///
+    /// # Errors
+    ///
+    /// Where no memory is left for it.
+    pub fn new(alloc: Global, p: &Program, ids: &[InstrId]) -> Result<Gated, AllocError>
+        ensures gated { IfOk result (λ g. g ≡ ids.now) }
     {
         Ok(Gated {
             ids: listed(alloc, ids)?,
@@ -71,8 +75,8 @@ impl Gated {
     }
 
     /// No instructions.
-    pub(crate) fn none(alloc: Global) -> Gated
-        ensures { result ≡ [] }
+    pub fn none(alloc: Global) -> Gated
+        ensures gated { result ≡ [] }
     {
         Gated {
             ids: Vec::new(alloc),
@@ -80,9 +84,9 @@ impl Gated {
         }
     }
 
-    /// Whether an instruction is among them.
-    pub(crate) fn has(&self, id: InstrId) -> bool
-        ensures { result ≡ is_gated self.now id.0 }
+    /// Whether an instruction is among them, so that its loads and stores are events.
+    pub fn has(&self, id: InstrId) -> bool
+        ensures gated { result ≡ is_gated self.now id.0 }
     {
         match self.marks.get(id.0 as usize) {
             Some(&is_marked) => is_marked,

@@ -42,7 +42,7 @@ pub(crate) fn guide_along(
     ensures run { IfOk result (λ o. IfSome o (λ r. RunEnds (guided_of run.now.program.now run.now.input.now turns.now run.now.gated.now) r.state r.turns r.end records trace.old trace.new)) }
     ensures full { IfOk result (λ o. IfNone o
         ((records ≡ true) × (trace.old.room < length trace.old.steps + length (guided_of run.now.program.now run.now.input.now turns.now run.now.gated.now).trace))) }
-    ensures room { OnOk result (trace.new.room ≡ trace.old.room) }
+    ensures room { trace.new.room ≡ trace.old.room }
     ensures fits { OnOk result (length trace.new.steps ≤ trace.new.room) }
 {
     let mut state = MachineState::new(run.alloc, run.program)?;

@@ -57,7 +57,7 @@ fn answer(run: Stopped) -> FollowEnd
 }
 
 /// As `follow`, with its steps in a trace that is there, which has room for as many as a recording may have.
-/// The steps that it had are gone.
+/// The steps that it had are gone; its room stays, also where no memory is left.
 ///
 /// # Errors
 ///
@@ -72,7 +72,7 @@ pub fn follow_into(
 ) -> Result<FollowEnd, AllocError>
     requires room { trace.old.room ≡ RECORDING_STEP_LIMIT }
     ensures followed { IfOk result (λ f. end_as f trace.new.steps ≡ following_of p.now input.now s.now.turns s.now.gated) }
-    ensures room { OnOk result (trace.new.room ≡ RECORDING_STEP_LIMIT) }
+    ensures room { trace.new.room ≡ RECORDING_STEP_LIMIT }
 {
     let gated = Gated::new(alloc, p, s.gated.as_slice())?;
     let run = Run {

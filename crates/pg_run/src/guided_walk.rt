@@ -1,6 +1,6 @@
 //! The walk of a thread to its next turn.
 
-ghost use Rattle.std.specs.Prelude.{◌≡◌, ◌<◌, ◌≤◌, ◌-◌, length, false, true, IfNone, IfOk, IfSome, OnOk};
+ghost use Rattle.std.specs.Prelude.{◌≡◌, ◌<◌, ◌≤◌, ◌-◌, length, false, true, IfNone, IfOk, IfSome, OnErr, OnOk};
 ghost use Rattle.pg_run.specs.Machine.{IsMachine};
 ghost use Rattle.pg_run.specs.State.{next_of};
 ghost use Rattle.pg_run.specs.Guided.{behind, walk};
@@ -50,6 +50,7 @@ fn asked_step(
     requires room { records ≡ true → length trace.old.steps < trace.old.room }
     ensures step { IfOk result (OwnerStepped run.now.gated.now run.now.program.now run.now.input.now turn.now state.old state.new records trace.old trace.new) }
     ensures of { OnOk result (IsMachine run.now.program.now state.new) }
+    ensures kept { OnErr result (trace.new ≡ trace.old) }
 {
     match state.due(run.program, run.gated, turn, action) {
         Err(end) => Ok(Err(end)),
@@ -74,6 +75,7 @@ fn owner_step(
     requires room { records ≡ true → length trace.old.steps < trace.old.room }
     ensures step { IfOk result (OwnerStepped run.now.gated.now run.now.program.now run.now.input.now turn.now state.old state.new records trace.old trace.new) }
     ensures of { OnOk result (IsMachine run.now.program.now state.new) }
+    ensures kept { OnErr result (trace.new ≡ trace.old) }
 {
     if state.is_over() {
         return Ok(Err(GuidedEnd::Strayed));
@@ -117,7 +119,7 @@ pub(crate) fn walk(
         ((records ≡ true) × (trace.old.room < length (behind trace.old.steps (walk left run.now.gated.now run.now.program.now run.now.input.now turn.now state.old)).trace))) }
     ensures less { IfOk result (λ o. IfSome o (λ w. IfNone w.end (w.left < left))) }
     ensures of { OnOk result (IsMachine run.now.program.now state.new) }
-    ensures room { OnOk result (trace.new.room ≡ trace.old.room) }
+    ensures room { trace.new.room ≡ trace.old.room }
     ensures fits { OnOk result (length trace.new.steps ≤ trace.new.room) }
 {
     for spent in 0..left {

@@ -5,6 +5,7 @@ ghost use Rattle.pg_ir.specs.declared.ids.InstrId.{InstrId};
 ghost use Rattle.pg_ir.specs.Program.{NumberedProgram};
 ghost use Rattle.pg_run.specs.State.{State, initial, next_of};
 ghost use Rattle.pg_run.specs.MachineStep.{step, turn_of};
+ghost use Rattle.pg_run.specs.Recordings.{IsRecording};
 ghost use Rattle.pg_run.specs.Rotation.{rotation_of};
 ghost use Rattle.pg_run.specs.Locality.{Agree, AreAlike, AsTold, IfDid, LeavesRest, is_request};
 ghost use Rattle.pg_run.specs.Runs.{IsRun};
@@ -38,7 +39,8 @@ pub fn a_step_depends_on_little()
         → slice_get s.locals t ≡ slice_get z.locals t → Agree (next_of p s t) t s z → AreAlike t (step gated p input s t) (step gated p input z t) }
 {}
 
-/// The rotation run is a list of steps of the machine from its first state on.
+/// The rotation run is a list of steps of the machine from its first state on, and with its end it is a recording.
 pub fn a_rotation_is_a_run()
-    ensures { (p : NumberedProgram) (input : List ℤ) (q : ℕ) → IsRun [] p input (initial p) (rotation_of p input q).trace (rotation_of p input q).state }
+    ensures run { (p : NumberedProgram) (input : List ℤ) (q : ℕ) → IsRun [] p input (initial p) (rotation_of p input q).trace (rotation_of p input q).state }
+    ensures recording { (p : NumberedProgram) (input : List ℤ) (q : ℕ) → IsRecording p input (rotation_of p input q).trace (rotation_of p input q).state (rotation_of p input q).end }
 {}

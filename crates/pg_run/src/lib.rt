@@ -22,7 +22,7 @@ mod state;
 mod tell;
 
 pub use answer::number_at;
-pub use gated::is_among;
+pub use gated::{Gated, is_among};
 pub use guided::{Guided, guide};
 pub use guided_end::GuidedEnd;
 pub use guided_follow::{FollowEnd, Followed, follow, follow_into};

@@ -1,16 +1,19 @@
 //! One step of the machine.
 
-ghost use Rattle.std.specs.Prelude.{◌≡◌, ◌≤◌, length, true, IfOk, OnErr, OnOk};
-ghost use Rattle.std.specs.List.{All};
-ghost use Rattle.pg_run_thread.specs.States.{IsOf};
-ghost use Rattle.pg_run.specs.State.{exit_value_of, initial, next_of};
+ghost use Rattle.std.specs.Prelude.{◌≡◌, ℕ, false, length, option_map, true, IfNone, IfOk, IfSome, OnErr, OnOk};
+ghost use Rattle.pg_ir.specs.declared.ids.ThreadNo.{ThreadNo as AThreadNo};
+ghost use Rattle.pg_run_objects.specs.Sync.{over};
+ghost use Rattle.pg_run.specs.State.{exit_value_of, initial};
 ghost use Rattle.pg_run_memory.specs.Memory.{read};
 ghost use Rattle.pg_run.specs.Readers.{depth_of, register_of};
 ghost use Rattle.pg_run.specs.MachineStep.{is_gated, ready, step};
 ghost use Rattle.pg_run.specs.Machine.{IsMachine};
+ghost use Rattle.pg_run.specs.Rotation.{deadlock_of, first_true};
 ghost use Rattle.pg_run.specs.Bound.{next_by, next_step, stepped_as, IfTrapped};
 
 use crate::gated::{Gated, listed};
+use crate::outcome::Outcome;
+use crate::rotation::{deadlock, first_ready};
 use crate::run::Run;
 use crate::state::MachineState;
 use pg_ir::{InstrId, Program, ThreadNo, TrapName};
@@ -184,5 +187,47 @@ impl Machine {
         ensures value { result ≡ exit_value_of self.now.state }
     {
         self.state.exit_value()
+    }
+    /// Whether the run is over.
+    pub fn is_over(&self) -> bool
+        ensures over { result ≡ over self.now.state.sync }
+    {
+        self.state.is_over()
+    }
+
+    /// How many threads were made.
+    pub fn count(&self) -> usize
+        ensures count { result ≡ length self.now.state.locals }
+    {
+        self.state.count()
+    }
+
+    /// The lowest-numbered thread that is ready; none where no thread is.
+    #[tactic(auto, using(crate::proofs::Recordings::none_from))]
+    pub fn first_ready(&self, p: &Program) -> Option<ThreadNo>
+        requires of { IsMachine p.now self.now.state }
+        ensures least { option_map (λ (t : AThreadNo). t.0) result ≡ first_true (ready p.now self.now.state) (length self.now.state.locals) }
+        ensures ready { IfSome result (λ t. ready p.now self.now.state t.0 ≡ true) }
+        ensures none { IfNone result ((t : ℕ) → ready p.now self.now.state t ≡ false) }
+    {
+        match first_ready(&self.state, p) {
+            None => None,
+            Some(t) => Some(ThreadNo(t as u8)),
+        }
+    }
+
+    /// The end of a run that isn't over and in which no thread is ready.
+    pub fn deadlock(&self, p: &Program) -> Outcome
+        requires of { IsMachine p.now self.now.state }
+        ensures end { result ≡ deadlock_of p.now self.now.state }
+    {
+        deadlock(&self.state, p)
+    }
+
+    /// The bytes that were printed.
+    pub fn into_output(self) -> Vec<u8>
+        ensures bytes { result.items ≡ self.state.printed }
+    {
+        self.state.into_printed()
     }
 }

@@ -1,6 +1,6 @@
 //! Steps that are recorded as they are done.
 
-ghost use Rattle.std.specs.Prelude.{◌≡◌, ◌<◌, ◌≤◌, ◌+◌, ◌∷◌, [], length, false, true, List, Some, IfNone, IfOk, IfSome, OnOk};
+ghost use Rattle.std.specs.Prelude.{◌≡◌, ◌<◌, ◌≤◌, ◌+◌, ◌∷◌, [], length, false, true, List, Some, IfNone, IfOk, IfSome, OnErr, OnOk};
 ghost use Rattle.pg_ir.specs.declared.ids.InstrId.{InstrId};
 ghost use Rattle.pg_run_objects.specs.Sync.{over};
 ghost use Rattle.pg_run.specs.Machine.{IsMachine};
@@ -79,6 +79,7 @@ pub(crate) fn record_step(
     ensures state { OnOk result (state.new ≡ state_with state.old (step run.now.gated.now run.now.program.now run.now.input.now state.old t.0)) }
     ensures of { OnOk result (IsMachine run.now.program.now state.new) }
     ensures few { OnOk result (length trace.new.steps ≤ length trace.old.steps + 1) }
+    ensures kept { OnErr result (trace.new ≡ trace.old) }
     ensures more { IfOk result (λ o. IfNone o (length trace.old.steps < length trace.new.steps)) }
 {
     let id = state.id(t);
@@ -133,6 +134,7 @@ pub(crate) fn take_step(
     ensures trace { OnOk result (trace.new ≡ with_steps records trace.old (told_by (step run.now.gated.now run.now.program.now run.now.input.now state.old t.0))) }
     ensures state { OnOk result (state.new ≡ state_with state.old (step run.now.gated.now run.now.program.now run.now.input.now state.old t.0)) }
     ensures of { OnOk result (IsMachine run.now.program.now state.new) }
+    ensures kept { OnErr result (trace.new ≡ trace.old) }
 {
     if records {
         record_step(run, state, trace, t, action)

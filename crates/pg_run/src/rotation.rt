@@ -63,6 +63,23 @@ fn next_ready(state: &MachineState, p: &Program, t: ThreadNo) -> Option<usize>
     None
 }
 
+/// The lowest-numbered thread that is ready.
+#[tactic(auto, using(crate::proofs::Rotations::first_none, crate::proofs::Rotations::first_found, crate::proofs::Rotations::first_past, crate::proofs::Rotations::first_zero))]
+pub(crate) fn first_ready(state: &MachineState, p: &Program) -> Option<usize>
+    requires { IsMachine p.now state.now }
+    ensures bound { IfSome result (λ t. t < length state.now.locals) }
+    ensures ready { IfSome result (λ t. ready p.now state.now t ≡ true) }
+    ensures least { result ≡ first_true (ready p.now state.now) (length state.now.locals) }
+{
+    let n = state.count();
+    for t in 0..n {
+        if state.ready(p, ThreadNo(t as u8)) {
+            return Some(t);
+        }
+    }
+    None
+}
+
 /// The lowest-numbered thread that hasn't ended.
 #[tactic(auto, using(crate::proofs::Rotations::first_none, crate::proofs::Rotations::first_found, crate::proofs::Rotations::first_past, crate::proofs::Rotations::first_zero))]
 fn first_going(state: &MachineState, p: &Program) -> Option<usize>
@@ -106,7 +123,7 @@ fn next_share(state: &MachineState, p: &Program, q: u32, u: Share) -> Option<Sha
 
 /// The end where no thread is ready.
 #[tactic(auto, unfolding(crate::specs::Rotation::deadlock_of))]
-fn deadlock(state: &MachineState, p: &Program) -> Outcome
+pub(crate) fn deadlock(state: &MachineState, p: &Program) -> Outcome
     requires { IsMachine p.now state.now }
     ensures { result ≡ deadlock_of p.now state.now }
 {
@@ -172,7 +189,7 @@ fn step_of(
     ensures turn { IfOk result (λ r. (more : State → Share → RunResult)
         → onto trace.old.steps (on_step state.old u (step [] run.now.program.now run.now.input.now state.old u.thread.0) more) ≡ on_turn r trace.new.steps state.new more) }
     ensures of { OnOk result (IsMachine run.now.program.now state.new) }
-    ensures room { OnOk result (trace.new.room ≡ trace.old.room) }
+    ensures room { trace.new.room ≡ trace.old.room }
     ensures more { OnOk result (length trace.new.steps ≤ length trace.old.steps + 1) }
 {
     match record_step(run, state, trace, u.thread, action)? {
@@ -201,7 +218,7 @@ fn asked_turn(
     ensures turn { IfOk result (λ r. (n : ℕ)
         → onto trace.old.steps (run_from (suc n) run.now.program.now run.now.input.now q state.old u) ≡ on_turn r trace.new.steps state.new (run_from n run.now.program.now run.now.input.now q)) }
     ensures of { OnOk result (IsMachine run.now.program.now state.new) }
-    ensures room { OnOk result (trace.new.room ≡ trace.old.room) }
+    ensures room { trace.new.room ≡ trace.old.room }
     ensures more { OnOk result (length trace.new.steps ≤ length trace.old.steps + 1) }
 {
     if state.can_take(run.program, u.thread, action) && 0 < u.left {
@@ -233,7 +250,7 @@ fn turn(
     ensures turn { IfOk result (λ r. (n : ℕ)
         → onto trace.old.steps (run_from (suc n) run.now.program.now run.now.input.now q state.old u) ≡ on_turn r trace.new.steps state.new (run_from n run.now.program.now run.now.input.now q)) }
     ensures of { OnOk result (IsMachine run.now.program.now state.new) }
-    ensures room { OnOk result (trace.new.room ≡ trace.old.room) }
+    ensures room { trace.new.room ≡ trace.old.room }
     ensures more { OnOk result (length trace.new.steps ≤ length trace.old.steps + 1) }
 {
     if u.left == 0 || state.is_over() {
@@ -264,7 +281,7 @@ fn rotate_within(
     requires some { 0 < q }
     requires empty { trace.old ≡ empty_with limit }
     ensures run { IfOk result (λ r. run_from limit p.now input.now q (initial p.now) (first_share q) ≡ record { trace = trace.new.steps; state = r.state; end = r.end }) }
-    ensures room { OnOk result (trace.new.room ≡ limit) }
+    ensures room { trace.new.room ≡ limit }
 {
     let mut state = MachineState::new(alloc, p)?;
     let gated = Gated::none(alloc);
@@ -291,7 +308,7 @@ fn rotate_within(
 }
 
 /// As `rotate`, with its steps in a trace that is there, which has room for as many as a recording may have.
-/// The steps that it had are gone.
+/// The steps that it had are gone; its room stays, also where no memory is left.
 ///
 /// # Errors
 ///
@@ -311,7 +328,7 @@ pub fn rotate_into(
     ensures run { OnOk result (IsRun [] p.now input.now (initial p.now) trace.new.steps (rotation_of p.now input.now q).state) }
     ensures output { IfOk result (λ r. r.output.items ≡ (rotation_of p.now input.now q).state.printed) }
     ensures end { IfOk result (λ r. r.end ≡ (rotation_of p.now input.now q).end) }
-    ensures room { OnOk result (trace.new.room ≡ RECORDING_STEP_LIMIT) }
+    ensures room { trace.new.room ≡ RECORDING_STEP_LIMIT }
 {
     trace.clear();
     let Rotated { state, end } = rotate_within(alloc, p, input, q, RECORDING_STEP_LIMIT, trace)?;
@@ -334,6 +351,7 @@ pub fn rotate(alloc: Global, p: &Program, input: &[i64], q: u32) -> Result<Recor
     ensures run { IfOk result (λ r. IsRun [] p.now input.now (initial p.now) r.trace.steps (rotation_of p.now input.now q).state) }
     ensures output { IfOk result (λ r. r.output.items ≡ (rotation_of p.now input.now q).state.printed) }
     ensures end { IfOk result (λ r. r.end ≡ (rotation_of p.now input.now q).end) }
+    ensures room { IfOk result (λ r. r.trace.room ≡ RECORDING_STEP_LIMIT) }
 {
     let mut trace = Trace::with_room(alloc, RECORDING_STEP_LIMIT as usize)?;
     let Ended { output, end } = rotate_into(alloc, p, input, q, &mut trace)?;

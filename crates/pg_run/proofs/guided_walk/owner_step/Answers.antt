@@ -30,3 +30,9 @@ returns-in-Some-clause-step c =
     let w = subst (WentRecorded c.args.run.now.program.now c.args.state.now c.record_own.new.state c.args.turn.now.thread.0 c.args.records c.args.trace.now c.record_own.new.trace) c.in-Some.is
     c.record_own.ensures.step in
     rw (w.1, w.2) at c.asked_step.ensures.step
+
+pub returns-in-Some-clause-kept : goal.returns-in-Some-clause-kept
+returns-in-Some-clause-kept c =
+    let w = subst (WentRecorded c.args.run.now.program.now c.args.state.now c.record_own.new.state c.args.turn.now.thread.0 c.args.records c.args.trace.now c.record_own.new.trace) c.in-Some.is
+    c.record_own.ensures.step in
+    rw w.2 at c.asked_step.ensures.kept
