@@ -1,5 +1,6 @@
 //! The entry of given turns.
 ghost use Rattle.std.specs.Prelude.{◌≡◌, ◌<◌, ℕ, ℤ, All, List, length, None, IfErr, IfOk, OnOk};
+ghost use Rattle.std.specs.Result.{result_err};
 ghost use Rattle.pg_ir.specs.declared.ids.InstrId.{InstrId as AnInstrId};
 ghost use Rattle.pg_run_trace.specs.declared.step.Step.{Step};
 ghost use Rattle.pg_run_trace.specs.Races.{first_unordered};
@@ -8,7 +9,7 @@ ghost use Rattle.pg_law_runs.specs.Cuts.{CanRun};
 ghost use Rattle.pg_law_reference.specs.Sliceable.{CanBeSliced};
 ghost use Rattle.pg_session_entry.specs.declared.turns.FromFault.TheVariants.{OutOfMemory};
 ghost use Rattle.pg_session_entry.specs.Entries.{IsEntryOfTurns};
-ghost use Rattle.pg_session_entry.specs.Faults.{IsFault};
+ghost use Rattle.pg_session_entry.specs.Faults.{IsFault, fault_of};
 
 use crate::entry::Entry;
 use crate::reference::entry_along;
@@ -63,10 +64,11 @@ fn schedule_with(
     })
 }
 
-/// What the end of a guided run is a fault of, unless it exits.
+/// What the end of a guided run is a fault of, unless it exits. It takes no memory.
 fn exits(end: FollowEnd) -> Result<(), FromFault>
     ensures exit { OnOk result ((xs : List Step) → (printed : List ℕ) × (value : ℤ) × (end_as end xs ≡ Exits xs printed value)) }
     ensures fault { IfErr result (λ e. (xs : List Step) → IsFault e (end_as end xs)) }
+    ensures exact { (xs : List Step) → result_err result ≡ fault_of (end_as end xs) }
 {
     match end {
         FollowEnd::Exit { .. } => Ok(()),
