@@ -5,7 +5,7 @@ ghost use Rattle.pg_session.specs.Sessions.{Runs, IsEntryOf};
 ghost use Rattle.pg_session.specs.Recordings.{IsRecording};
 
 use pg_cache::Admits;
-use pg_ir::{InstrId, TrapName};
+use pg_run::Refusal;
 use pg_session_texts::EndLine;
 use std::alloc::{AllocError, Global};
 
@@ -14,15 +14,6 @@ use std::alloc::{AllocError, Global};
 pub struct Run {
     pub output: Vec<u8>,
     pub end: EndLine,
-}
-
-/// Why a recording gives no entry.
-#[derive(Clone, Copy, Debug, PartialEq, Eq)]
-pub enum Refusal {
-    /// It ended by this trap, at this instruction.
-    Trap(TrapName, InstrId),
-    /// It took all the steps that a recording may take.
-    Budget,
 }
 
 /// What came of recording an input.

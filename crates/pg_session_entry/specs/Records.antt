@@ -16,11 +16,7 @@ use Rattle.pg_session_entry.specs.declared.recorded.Record.TheVariants as record
 abbrev pub IsRecording : NumberedProgram → List ℤ → List Step → State → Outcome → Type 0
 IsRecording p input xs z end = (value : ℤ) → end ≡ ends.Exit value → IsRecorded p input xs z × (value ≡ exit_value_of z)
 
-abbrev pub IsExit : Outcome → Type 0
-IsExit (ends.Exit value) = Unit {0}
-IsExit end = ⊥
-
 -- the record of this run: where it exits its entry and its value, else its end; and what it printed
 abbrev pub IsRecord : NumberedProgram → List ℤ → RunResult → Record → Type 0
 IsRecord p input run (records.Kept entry output value) = (run.end ≡ ends.Exit value) × (output.items ≡ run.state.printed) × IsEntry p input run.trace run.state entry
-IsRecord p input run (records.Refused end output) = (run.end ≡ end) × (output.items ≡ run.state.printed) × (IsExit end → ⊥)
+IsRecord p input run (records.Refused refusal output) = (run.end ≡ ends.Refused refusal) × (output.items ≡ run.state.printed)

@@ -17,7 +17,7 @@ use crate::reference::entry_along;
 use pg_ir::Program;
 use pg_law_order::recorded::the_schedule_of_a_rotation_run_is_good;
 use pg_num::limits::RECORDING_STEP_LIMIT;
-use pg_run::{Ended, FollowEnd, Outcome, Recorded, follow_into, rotate_into};
+use pg_run::{Ended, Followed, Outcome, Recorded, follow_into, rotate_into};
 use pg_run_trace::{Schedule, Trace};
 use pg_schedule::{hybrid, races};
 use std::alloc::{AllocError, Global};
@@ -36,7 +36,7 @@ fn followed(
         → following_of p.now input.now schedule.now.turns schedule.now.gated ≡ Exits trace.new.steps printed value) }
 {
     match follow_into(alloc, p, input, schedule, trace)? {
-        FollowEnd::Exit { .. } => Ok(()),
+        Followed::Exit { .. } => Ok(()),
         _ => unreachable!(),
     }
 }
@@ -87,14 +87,7 @@ fn record_of(
                 value,
             })
         }
-        Outcome::Trap(name, id) => Ok(Record::Refused {
-            end: Outcome::Trap(name, id),
-            output,
-        }),
-        Outcome::Budget => Ok(Record::Refused {
-            end: Outcome::Budget,
-            output,
-        }),
+        Outcome::Refused(refusal) => Ok(Record::Refused { refusal, output }),
     }
 }
 
