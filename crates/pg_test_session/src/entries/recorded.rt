@@ -5,8 +5,8 @@ ghost use Rattle.pg_num.specs.declared.limits.TheConstants.{QUANTUM_LIMIT};
 use pg_cache::Admits;
 use pg_ir::{InstrId, Program, TrapName};
 use pg_law_order::can_run;
-use pg_law_order::recorded::the_schedule_of_a_rotation_run_is_good;
 use pg_num::limits::RECORDING_STEP_LIMIT;
+use pg_run::laws::a_rotation_is_a_run;
 use pg_run::{Ended, Recorded, Refusal, rotate_into};
 use pg_run_trace::Trace;
 use pg_session_entry::{Entry, Record, from_recorded, record};
@@ -168,7 +168,7 @@ fn elements_that_may_meet_are_counted(rt: HostRuntime) -> Result<(), Fail> {
 /// The record of a rotation run that is made before.
 fn recorded_before(alloc: Global, p: &Program, input: &[i64]) -> Result<Record, AllocError> {
     can_run(p, input);
-    the_schedule_of_a_rotation_run_is_good();
+    a_rotation_is_a_run();
     let mut trace = Trace::with_room(alloc, RECORDING_STEP_LIMIT as usize)?;
     let ended = rotate_into(alloc, p, input, 100, &mut trace)?;
     let Ended { output, end } = ended;
