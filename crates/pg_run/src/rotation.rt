@@ -131,10 +131,7 @@ pub(crate) fn deadlock(state: &MachineState, p: &Program) -> Outcome
         Some(t) => t as u8,
         None => 0,
     };
-    Outcome::Refused(Refusal::Trap(
-        TrapName::Deadlock,
-        state.id(ThreadNo(lowest)),
-    ))
+    Outcome::Refused(Refusal::Trap(TrapName::Deadlock, state.id(ThreadNo(lowest))))
 }
 
 /// The end where the run is over.

@@ -45,7 +45,7 @@ pub record IsReused {M : Type 0} (admits : M → List ℤ → Bool) (runs : Runs
   pub stays : next ≡ kept
 
 -- no entry admits the input, and recording it gives one: it is kept under the next number
-pub record IsRecorded {M : Type 0} (admits : M → List ℤ → Bool) (runs : Runs M) (kept : Kept M) (input : List ℤ) (answer : Answer) (next : Kept M) : Type 0 where
+pub record IsKeptRecording {M : Type 0} (admits : M → List ℤ → Bool) (runs : Runs M) (kept : Kept M) (input : List ℤ) (answer : Answer) (next : Kept M) : Type 0 where
   pub entry : M
   pub end : EndLine
   pub none : found admits kept input ≡ None
@@ -66,7 +66,7 @@ pub record IsRefused {M : Type 0} (admits : M → List ℤ → Bool) (runs : Run
 -- what is answered to an input, from what is kept, and what is kept then
 pub data Answers {M : Type 0} (admits : M → List ℤ → Bool) (runs : Runs M) (kept : Kept M) (input : List ℤ) (answer : Answer) (next : Kept M) : Type 0 where
   by_reuse : IsReused admits runs kept input answer next → Answers admits runs kept input answer next
-  by_recording : IsRecorded admits runs kept input answer next → Answers admits runs kept input answer next
+  by_recording : IsKeptRecording admits runs kept input answer next → Answers admits runs kept input answer next
   by_refusal : IsRefused admits runs kept input answer next → Answers admits runs kept input answer next
 
 abbrev pub refused_line : Answer

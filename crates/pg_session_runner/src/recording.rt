@@ -2,7 +2,7 @@
 ghost use Rattle.std.specs.Prelude.{◌≡◌, ◌≤◌, ◌<◌, ◌^◌, length, IfOk};
 ghost use Rattle.pg_num.specs.declared.limits.TheConstants.{QUANTUM_LIMIT};
 ghost use Rattle.pg_law_runs.specs.Cuts.{CanRun};
-ghost use Rattle.pg_session.specs.Recordings.{IsRecording};
+ghost use Rattle.pg_session.specs.Recordings.{ComesOfRecording};
 ghost use Rattle.pg_session_runner.specs.Runs.{runs_of};
 
 use crate::laws::a_recorded_schedule_has_few_turns;
@@ -38,7 +38,7 @@ pub(crate) fn recorded(
     requires can_run { CanRun p.now input.now }
     requires least { 1 ≤ quantum }
     requires most { quantum ≤ QUANTUM_LIMIT }
-    ensures { IfOk result (IsRecording (runs_of p.now quantum) input.now) }
+    ensures { IfOk result (ComesOfRecording (runs_of p.now quantum) input.now) }
 {
     a_recorded_schedule_has_few_turns();
     the_schedule_of_a_rotation_run_is_good();

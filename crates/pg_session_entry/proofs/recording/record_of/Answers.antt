@@ -11,6 +11,9 @@ entry_of-requires-clause-recorded c =
 
 pub returns-in_ok-entry-in-Exit : goal.returns-in_ok-entry-in-Exit
 returns-in_ok-entry-in-Exit c = λ z recording printed.
-    let same : c.args.ended.end ≡ ends.Exit c.in-Exit.value = search rules in
-    (search rules, printed, c.in_ok-entry-in-Exit.ensures z
-        (recorded_of c.args.p.now c.args.input.now c.args.trace.now.steps z c.args.ended.end c.in-Exit.value same recording))
+    let same : c.args.ended.end ≡ ends.Exit c.in-Exit.value = search rules in (
+      search rules,
+      printed,
+      c.in_ok-entry-in-Exit.ensures z
+          (recorded_of c.args.p.now c.args.input.now c.args.trace.now.steps z c.args.ended.end c.in-Exit.value same recording),
+    )
