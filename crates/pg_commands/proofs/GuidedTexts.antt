@@ -15,6 +15,7 @@ use Rattle.pg_run_trace.specs.declared.turn.Turn.{Turn}
 use Rattle.pg_run_trace.specs.Races.{schedule_of}
 use Rattle.pg_run.specs.declared.outcome.Outcome.{Outcome}
 use Rattle.pg_run.specs.declared.outcome.Outcome.TheVariants as outcomes
+use Rattle.pg_run.specs.declared.outcome.Refusal.TheVariants as refusals
 use Rattle.pg_run.specs.declared.guided_end.GuidedEnd.{GuidedEnd}
 use Rattle.pg_run.specs.declared.guided_end.GuidedEnd.TheVariants as ends
 use Rattle.pg_run.specs.State.{State, exit_value_of, next_of}
@@ -91,8 +92,8 @@ once_is p quantum input runs_as = by (rotation_of p input quantum).end refl
         let k = runs_as value h in
         ap₂ (λ (xs ys : List ℕ). xs ++ ys) k.printed
         (ap₂ (λ (n : ℕ) (e : GuidedEnd). guided_line n e) k.turns k.end)
-    by (outcomes.Trap name id) h = refl
-    by outcomes.Budget h = refl
+    by (outcomes.Refused (refusals.Trap name id)) h = refl
+    by (outcomes.Refused refusals.Budget) h = refl
 
 -- ---- which programs can run
 

@@ -15,7 +15,8 @@ use Rattle.pg_run_trace.specs.Races.{schedule_of}
 use Rattle.pg_run.specs.Rotation.{RunResult, rotation_of}
 use Rattle.pg_run.specs.Guided.{GuidedRun, guided_of}
 use Rattle.pg_run.specs.declared.outcome.Outcome.{Outcome}
-use Rattle.pg_run.specs.declared.outcome.Outcome.TheVariants.{Exit, Trap, Budget}
+use Rattle.pg_run.specs.declared.outcome.Outcome.TheVariants.{Exit, Refused}
+use Rattle.pg_run.specs.declared.outcome.Refusal.TheVariants.{Trap, Budget}
 use Rattle.pg_run.specs.declared.guided_end.GuidedEnd.{GuidedEnd}
 use Rattle.pg_run.specs.declared.guided_end.GuidedEnd.TheVariants as guided
 use Rattle.pg_commands.specs.declared.refusals.TextRefusal.{TextRefusal}
@@ -54,8 +55,8 @@ trap_line name id = codes "trap " ++ (trap_text name ++ (codes " at " ++ (decima
 -- printed, and then its end
 abbrev pub text_by : NumberedProgram → List ℤ → RunResult → Outcome → List ℕ
 text_by p input r (Exit value) = guided_text (run_along p input r.trace)
-text_by p input r (Trap name id) = r.state.printed ++ trap_line name id
-text_by p input r Budget = r.state.printed ++ codes "budget\n"
+text_by p input r (Refused (Trap name id)) = r.state.printed ++ trap_line name id
+text_by p input r (Refused Budget) = r.state.printed ++ codes "budget\n"
 
 -- the text of `once` for a program, a quantum and an input
 unfoldable pub once_text : NumberedProgram → ℕ → List ℤ → List ℕ

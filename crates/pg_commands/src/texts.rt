@@ -8,7 +8,7 @@ ghost use Rattle.pg_commands.specs.Texts.{once_text};
 
 use crate::laws::the_guided_run_of_once_exits;
 use pg_ir::Program;
-use pg_run::{Outcome, Recorded, rotate};
+use pg_run::{Outcome, Recorded, Refusal, rotate};
 use pg_run_trace::Trace;
 use pg_schedule::{hybrid, races};
 use std::alloc::{AllocError, Global};
@@ -31,11 +31,11 @@ fn end_line(alloc: Global, trace: &Trace, end: Outcome) -> Result<String, AllocE
             let turns = turn_count(alloc, trace)?;
             format!(in alloc; "exit {value} after {turns} turns\n")
         }
-        Outcome::Trap(name, id) => {
+        Outcome::Refused(Refusal::Trap(name, id)) => {
             let number = id.0;
             format!(in alloc; "trap {name} at {number}\n")
         }
-        Outcome::Budget => format!(in alloc; "budget\n"),
+        Outcome::Refused(Refusal::Budget) => format!(in alloc; "budget\n"),
     }
 }
 

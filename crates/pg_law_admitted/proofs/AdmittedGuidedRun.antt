@@ -56,7 +56,7 @@ use Rattle.pg_law_plan.proofs.SameReplies.{fit_answers, map_join, plan_answer, p
 use Rattle.pg_law_plan.proofs.UnitsArePlan.{at_units, is_plan}
 use Rattle.pg_law_admitted.specs.Falls.{FallIntoMoves}
 use Rattle.pg_law_admitted.specs.Free.{BeginsInstance, IsAnyMove, ReadsPaths}
-use Rattle.pg_law_admitted.specs.Recorded.{Admits, IsRecording, recording}
+use Rattle.pg_law_admitted.specs.Recorded.{Admits, IsOrderedReference, recording}
 use Rattle.pg_law_admitted.proofs.AdmittedInputs.{IsAdmitted}
 use Rattle.pg_law_admitted.proofs.InstanceStarts as begin
 use Rattle.pg_law_admitted.proofs.RunsFallIntoMoves.{run_falls}
@@ -72,7 +72,7 @@ use Rattle.pg_law_admitted.proofs.AskedTurns.{answers_length}
 use Rattle.pg_law_admitted.proofs.GuidedRunsUnbroken.{full_unbroken}
 
 module _ (p : NumberedProgram) (recorded_input input : List ℤ) (s : Schedule) (sums : ℕ → Option RootedList) (regions : Regions) (xs : List Step) (d : Taken)
-    (k : IsRecording p recorded_input s sums regions xs) (q : Admits p recorded_input s regions xs d input) where
+    (k : IsOrderedReference p recorded_input s sums regions xs) (q : Admits p recorded_input s regions xs d input) where
   abbrev r : ReferenceRun
   r = recording p recorded_input s regions xs
 

@@ -20,7 +20,7 @@ use Rattle.pg_slice_rules.specs.Freeable.{Regions}
 use Rattle.pg_slice_rules.specs.Known.{Taken}
 use Rattle.pg_law_plan.specs.Units.{ReferenceRun}
 use Rattle.pg_law_admitted.specs.Invariant.{Invariant}
-use Rattle.pg_law_admitted.specs.Recorded.{Admits, IsRecording, recording}
+use Rattle.pg_law_admitted.specs.Recorded.{Admits, IsOrderedReference, recording}
 use Rattle.pg_law_admitted.specs.Unbroken.{BeginsWith, IsUnbroken}
 use Rattle.pg_law_admitted.proofs.AdmittedGuidedRun.{is_admitted}
 use Rattle.pg_law_admitted.proofs.InvariantKept.{keeps}
@@ -58,7 +58,7 @@ permitted_front gated p input us counts s z (x ∷ xs) ys h =
 -- ---- the full guided run
 
 module _ (p : NumberedProgram) (recorded_input input : List ℤ) (s : Schedule) (sums : ℕ → Option RootedList) (regions : Regions) (xs : List Step) (d : Taken)
-    (k : IsRecording p recorded_input s sums regions xs) (q : Admits p recorded_input s regions xs d input) where
+    (k : IsOrderedReference p recorded_input s sums regions xs) (q : Admits p recorded_input s regions xs d input) where
   abbrev r : ReferenceRun
   r = recording p recorded_input s regions xs
 

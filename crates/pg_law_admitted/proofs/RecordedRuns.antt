@@ -24,14 +24,14 @@ use Rattle.pg_law_runs.specs.Deeds.{owners_of}
 use Rattle.pg_law_plan.specs.Order.{IsOrderedRun}
 use Rattle.pg_law_plan.specs.Units.{ExtentsArePlain, ReferenceRun, is_event_at, reference_of}
 use Rattle.pg_law_order.proofs.ExitsHaveAllTurns.{Exited, all_done, all_turns, exited, owners_events}
-use Rattle.pg_law_admitted.specs.Recorded.{IsRecording, recording}
+use Rattle.pg_law_admitted.specs.Recorded.{IsOrderedReference, recording}
 
 pub plain_events : (xs : List Seen) → AllOf IsPlain xs → AllOf (λ (x : Seen). x.live ≡ false → is_event_at x ≡ false) xs
 plain_events [] h = tt
 plain_events (x ∷ xs) h = (λ e. ap is_some (h.0 e), plain_events xs h.1)
 
 module _ (p : NumberedProgram) (recorded_input : List ℤ) (s : Schedule) (sums : ℕ → Option RootedList) (regions : Regions) (xs : List Step) (d : Taken)
-    (k : IsRecording p recorded_input s sums regions xs) where
+    (k : IsOrderedReference p recorded_input s sums regions xs) where
   abbrev pub r : ReferenceRun
   r = recording p recorded_input s regions xs
 

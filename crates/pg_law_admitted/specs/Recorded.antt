@@ -13,7 +13,7 @@ use Rattle.pg_law_order.specs.Good.{replies_of}
 use Rattle.pg_law_plan.specs.Units.{ReferenceRun, reference_of}
 
 -- the guided run along the schedule on the recorded input exits with the steps xs, which are ordered and have its replies
-pub record IsRecording (p : NumberedProgram) (recorded : List ℤ) (s : Schedule) (sums : ℕ → Option RootedList) (regions : Regions) (xs : List Step) : Type 0 where
+pub record IsOrderedReference (p : NumberedProgram) (recorded : List ℤ) (s : Schedule) (sums : ℕ → Option RootedList) (regions : Regions) (xs : List Step) : Type 0 where
   pub reference : IsReferenceRun p recorded s.turns s.gated sums regions xs
   pub ordered : IsOrderedAlong s.turns xs
   pub replies : replies_of xs ≡ s.replies

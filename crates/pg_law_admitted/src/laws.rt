@@ -30,14 +30,14 @@ ghost use Rattle.pg_law_plan.specs.Units.{PlanUnit, deed_of, is_instance, plan_o
 ghost use Rattle.pg_law_admitted.specs.Covered.{QuietSetsAreCovered};
 ghost use Rattle.pg_law_admitted.specs.Falls.{FallIntoMoves};
 ghost use Rattle.pg_law_admitted.specs.Free.{BeginsInstance, IsAnyMove, IsPartMove, IsWholeMove, UnitsJoinAgain};
-ghost use Rattle.pg_law_admitted.specs.Recorded.{Admits, IsRecording, recording};
+ghost use Rattle.pg_law_admitted.specs.Recorded.{Admits, IsOrderedReference, recording};
 ghost use Rattle.pg_law_admitted.specs.Unbroken.{IsUnbroken};
 
 /// On an input that closed decisions on a recording admit, the full guided run along the recording's schedule doesn't stray, is
 /// ordered, ends by no trap of a check on the objects, and has at each turn that it does the schedule's reply.
 pub fn an_admitted_input_has_a_good_run()
     ensures { (p : NumberedProgram) (recorded input : List ℤ) (s : Schedule) (sums : ℕ → Option RootedList) (regions : Regions) (xs : List Step) (d : Taken)
-        → IsRecording p recorded s sums regions xs → Admits p recorded s regions xs d input → IsGoodRun p input s }
+        → IsOrderedReference p recorded s sums regions xs → Admits p recorded s regions xs d input → IsGoodRun p input s }
 {}
 
 /// In a reference run the thread of a branch step that is left free comes to the join of its region, in the branch's call, and its
@@ -60,7 +60,7 @@ pub fn quiet_sets_are_covered()
 pub fn a_free_branch_begins_an_instance()
     ensures { (p : NumberedProgram) (recorded input : List ℤ) (s : Schedule) (sums : ℕ → Option RootedList) (regions : Regions) (xs : List Step) (d : Taken) (u : PlanUnit) (a : RunState)
         (z : State) (moves : ℕ → ℕ)
-        → IsRecording p recorded s sums regions xs → Admits p recorded s regions xs d input
+        → IsOrderedReference p recorded s sums regions xs → Admits p recorded s regions xs d input
         → Has (units_of (recording p recorded s regions xs) d) u → is_instance d u.seen ≡ true → IsAlikeFor input d u a → LooksTo (thread_in u.seen.moment) a (moved z moves)
         → IsReached p z
         → BeginsInstance (recording p recorded s regions xs) sums u z }
@@ -71,7 +71,8 @@ pub fn a_free_branch_begins_an_instance()
 pub fn a_whole_instance_fits()
     ensures { (p : NumberedProgram) (recorded input : List ℤ) (s : Schedule) (sums : ℕ → Option RootedList) (regions : Regions) (xs : List Step) (d : Taken) (u : PlanUnit) (a : RunState)
         (g : ℕ) (e : RunDeed)
-        → IsRecording p recorded s sums regions xs → length input < 2 ^ 64 → Has (units_of (recording p recorded s regions xs) d) u → is_instance d u.seen ≡ true → IsAlikeFor input d u a
+        → IsOrderedReference p recorded s sums regions xs
+        → length input < 2 ^ 64 → Has (units_of (recording p recorded s regions xs) d) u → is_instance d u.seen ≡ true → IsAlikeFor input d u a
         → IsWholeMove (recording p recorded s regions xs) input sums s.turns u a g e → Fits (like input) (deed_of d u) e }
 {}
 
@@ -80,7 +81,7 @@ pub fn a_whole_instance_fits()
 pub fn a_part_of_an_instance_fits()
     ensures { (p : NumberedProgram) (recorded input : List ℤ) (s : Schedule) (sums : ℕ → Option RootedList) (regions : Regions) (xs : List Step) (d : Taken) (u : PlanUnit) (a : RunState)
         (g : ℕ) (e : RunDeed)
-        → IsRecording p recorded s sums regions xs → Has (units_of (recording p recorded s regions xs) d) u → is_instance d u.seen ≡ true → IsAlikeFor input d u a
+        → IsOrderedReference p recorded s sums regions xs → Has (units_of (recording p recorded s regions xs) d) u → is_instance d u.seen ≡ true → IsAlikeFor input d u a
         → IsPartMove (recording p recorded s regions xs) input sums s.turns u a g e → Fits (like input) (deed_of d u) e }
 {}
 
@@ -91,7 +92,7 @@ pub fn a_part_of_an_instance_fits()
 /// turn.
 pub fn moves_follow_the_plan()
     ensures { (p : NumberedProgram) (recorded input : List ℤ) (s : Schedule) (sums : ℕ → Option RootedList) (regions : Regions) (xs : List Step) (d : Taken) (a : RunState) (ds : List RunDeed)
-        → IsRecording p recorded s sums regions xs → Admits p recorded s regions xs d input
+        → IsOrderedReference p recorded s sums regions xs → Admits p recorded s regions xs d input
         → Alike (like input) (plan_start (recording p recorded s regions xs)) a → Moves (IsAnyMove (recording p recorded s regions xs) d input sums s.turns) a 0 ds
         → (cut : Follows (like input) (turns_of (recording p recorded s regions xs)) (plan_start (recording p recorded s regions xs)) (plan_of (recording p recorded s regions xs) d)
         (turns_done deeds 0 ds) (effects a ds))
@@ -109,14 +110,14 @@ pub fn full_guided_runs_are_unbroken()
 /// thread's last move a part of it.
 pub fn a_full_guided_run_falls_into_moves()
     ensures { (p : NumberedProgram) (recorded input : List ℤ) (s : Schedule) (sums : ℕ → Option RootedList) (regions : Regions) (xs : List Step) (d : Taken)
-        → IsRecording p recorded s sums regions xs → Admits p recorded s regions xs d input
+        → IsOrderedReference p recorded s sums regions xs → Admits p recorded s regions xs d input
         → FallIntoMoves (recording p recorded s regions xs) d input sums s.turns (full_guided_of p input s.turns s.gated).trace }
 {}
 
 /// That run is ordered, and has at each turn that it does the schedule's reply.
 pub fn an_admitted_input_keeps_order_and_replies()
     ensures { (p : NumberedProgram) (recorded input : List ℤ) (s : Schedule) (sums : ℕ → Option RootedList) (regions : Regions) (xs : List Step) (d : Taken)
-        → IsRecording p recorded s sums regions xs → Admits p recorded s regions xs d input
+        → IsOrderedReference p recorded s sums regions xs → Admits p recorded s regions xs d input
         → IsOrderedAlong s.turns (full_guided_of p input s.turns s.gated).trace × IsFrontOf (replies_of (full_guided_of p input s.turns s.gated).trace) s.replies }
 {}
 
@@ -124,13 +125,13 @@ pub fn an_admitted_input_keeps_order_and_replies()
 /// schedule's turns stands at a cut of it, and is ordered.
 pub fn an_admitted_input_has_an_ordered_full_run()
     ensures full { (p : NumberedProgram) (recorded input : List ℤ) (s : Schedule) (sums : ℕ → Option RootedList) (regions : Regions) (xs : List Step) (d : Taken)
-        → IsRecording p recorded s sums regions xs → Admits p recorded s regions xs d input
+        → IsOrderedReference p recorded s sums regions xs → Admits p recorded s regions xs d input
         → IsOrderedFull p input s.turns s.gated (full_guided_of p input s.turns s.gated).trace (full_guided_of p input s.turns s.gated).state }
     ensures permitted { (p : NumberedProgram) (recorded input : List ℤ) (s : Schedule) (sums : ℕ → Option RootedList) (regions : Regions) (xs : List Step) (d : Taken) (ys : List Step)
         (z : State)
-        → IsRecording p recorded s sums regions xs → Admits p recorded s regions xs d input → IsPermitted p input s.turns s.gated ys z
+        → IsOrderedReference p recorded s sums regions xs → Admits p recorded s regions xs d input → IsPermitted p input s.turns s.gated ys z
         → IsAtCut p input s.turns s.gated (full_guided_of p input s.turns s.gated).trace ys z × IsOrderedAlong s.turns ys }
     ensures exits { (p : NumberedProgram) (recorded input : List ℤ) (s : Schedule) (sums : ℕ → Option RootedList) (regions : Regions) (xs : List Step) (d : Taken) (value : ℤ)
-        → IsRecording p recorded s sums regions xs → Admits p recorded s regions xs d input → (full_guided_of p input s.turns s.gated).end ≡ GuidedEnd.Exit value
+        → IsOrderedReference p recorded s sums regions xs → Admits p recorded s regions xs d input → (full_guided_of p input s.turns s.gated).end ≡ GuidedEnd.Exit value
         → replies_of (full_guided_of p input s.turns s.gated).trace ≡ s.replies }
 {}

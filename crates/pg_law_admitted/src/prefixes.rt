@@ -16,14 +16,14 @@ ghost use Rattle.pg_law_runs.specs.Cuts.{IsOrderedAlong};
 ghost use Rattle.pg_law_plan.specs.Units.{ReferenceRun};
 ghost use Rattle.pg_law_admitted.specs.Invariant.{Invariant};
 ghost use Rattle.pg_law_admitted.specs.Prefixes.{KeepsMemory, KeepsRegions, KeepsValues};
-ghost use Rattle.pg_law_admitted.specs.Recorded.{Admits, IsRecording, recording};
+ghost use Rattle.pg_law_admitted.specs.Recorded.{Admits, IsOrderedReference, recording};
 
 /// On an input that closed decisions on a recording admit, each prefix of the full guided run along the recording's schedule falls
 /// into portions: each does one live step of the recording, from a state in which all is alike that this step rests on, or an
 /// instance of a region, whole or in part; and these are done in the recording's order, but for what doesn't meet.
 pub fn each_prefix_keeps_the_invariant()
     ensures { (p : NumberedProgram) (recorded input : List ℤ) (s : Schedule) (sums : ℕ → Option RootedList) (regions : Regions) (xs : List Step) (d : Taken) (front rest : List Step) (z : State)
-        → IsRecording p recorded s sums regions xs → Admits p recorded s regions xs d input
+        → IsOrderedReference p recorded s sums regions xs → Admits p recorded s regions xs d input
         → (full_guided_of p input s.turns s.gated).trace ≡ front ++ rest → IsRun s.gated p input (initial p) front z
         → Invariant (recording p recorded s regions xs) d input sums s.turns front z }
 {}

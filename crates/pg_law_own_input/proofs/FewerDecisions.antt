@@ -6,12 +6,12 @@ use Rattle.pg_slice_rules.specs.Known.{Taken}
 use Rattle.pg_law_least.specs.Keeps.{ExtentsKeep, every}
 use Rattle.pg_law_least.proofs.SmallerAdmitsMore.{admits_more}
 use Rattle.pg_law_plan.specs.Units.{ReferenceRun, reference_of}
-use Rattle.pg_law_own_input.specs.OwnInput.{IsRecorded}
+use Rattle.pg_law_own_input.specs.OwnInput.{IsMachineRun}
 use Rattle.pg_law_own_input.proofs.KnownAlongRun.{all_admit}
 
 pub within_every : (d : Taken) → AreWithin d every
 within_every d (Pinned n) h = refl
 within_every d (Exact n) h = refl
 
-pub any_admit : (r : ReferenceRun) → IsRecorded r → ExtentsKeep (reference_of r) → (d : Taken) → admits (reference_of r) d r.input ≡ true
+pub any_admit : (r : ReferenceRun) → IsMachineRun r → ExtentsKeep (reference_of r) → (d : Taken) → admits (reference_of r) d r.input ≡ true
 any_admit r o keeps d = admits_more (reference_of r) keeps d every (within_every d) r.input (all_admit r o)

@@ -45,7 +45,7 @@ use Rattle.pg_law_plan.proofs.UnitsArePlan.{none_asked}
 use Rattle.pg_law_plan.proofs.ThreadStartFits.{start_fits}
 use Rattle.pg_law_plan.proofs.WordsBeforeUnits.{first_words}
 use Rattle.pg_law_plan.proofs.ThreadWords.{words_kept}
-use Rattle.pg_law_own_input.specs.OwnInput.{IsRecorded}
+use Rattle.pg_law_own_input.specs.OwnInput.{IsMachineRun}
 use Rattle.pg_law_own_input.proofs.AskedValues.{admitted_by}
 use Rattle.pg_law_own_input.proofs.StepAsks.{good_both, good_start, none_bound}
 
@@ -216,7 +216,7 @@ module _ (r : ReferenceRun) (program : IsProgram r.program) (small : length r.in
 
 -- ---- before the first step
 
-module _ (r : ReferenceRun) (o : IsRecorded r) where
+module _ (r : ReferenceRun) (o : IsMachineRun r) where
   first_true : IsTrue r (start_of r.program) (initial r.program)
   first_true = record {
     reached = reached_first r.program o.can.program o.can.bytes;

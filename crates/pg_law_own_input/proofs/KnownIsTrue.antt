@@ -24,7 +24,7 @@ use Rattle.pg_law_plan.specs.Likes.{AreLike, IsLike}
 use Rattle.pg_law_plan.specs.Units.{ReferenceRun, reference_of}
 use Rattle.pg_law_plan.proofs.LikeOperands.{operand_like, unset_like}
 use Rattle.pg_law_plan.proofs.AlikeThreads.{Beginning, Both}
-use Rattle.pg_law_own_input.specs.OwnInput.{IsRecorded, IsTrueOn}
+use Rattle.pg_law_own_input.specs.OwnInput.{IsMachineRun, IsTrueOn}
 use Rattle.pg_law_own_input.proofs.KnownAlongRun.{AsksNothing, IsTrue, begins, bytes_like, each_step, live, met, seen_at}
 use Rattle.pg_law_own_input.proofs.FewerDecisions.{within_every}
 use Rattle.pg_law_own_input.proofs.StepAsks.{registers_alike}
@@ -38,7 +38,7 @@ fresh_calls : (p : NumberedProgram) (t f : ℕ) → registers_in (calls_of (Some
 unfolding fresh
 fresh_calls p t f = refl
 
-module _ (r : ReferenceRun) (o : IsRecorded r) where
+module _ (r : ReferenceRun) (o : IsMachineRun r) where
   told : (n : ℕ) (m : Moment) (known : RunShadow) (s : State) → Takes r.gated r.program r.input s m.did.did → IsTrue r known s → m.calls ≡ calls_of (slice_get s.locals (thread_in m))
       → m.bytes ≡ byte_at s.memory → AsksNothing r (seen_at r n m known) → IsTold r.input (seen_at r n m known)
   told n m known s h holds calls bytes asks = record {
@@ -80,6 +80,6 @@ module _ (r : ReferenceRun) (d : Taken) where
   each_true (x ∷ xs) [] h k = absurd h
   each_true (x ∷ xs) (y ∷ ys) h k = (one_true x y h.0 k.0, each_true xs ys h.1 k.1)
 
-  pub all_true : IsRecorded r → ExtentsKeep (reference_of r) → AllOf (IsTrueOn r.input) (seen_in (reference_of r) d)
+  pub all_true : IsMachineRun r → ExtentsKeep (reference_of r) → AllOf (IsTrueOn r.input) (seen_in (reference_of r) d)
   all_true o keeps = each_true (seen_in (reference_of r) d) (seen_in (reference_of r) every)
       (run_like (reference_of r) keeps d every (Likes every) (likes_link d every _ (within_every d))) (all_told r o)

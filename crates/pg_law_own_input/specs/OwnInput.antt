@@ -15,18 +15,18 @@ use Rattle.pg_law_runs.specs.Cuts.{CanRun}
 use Rattle.pg_law_plan.specs.Units.{ReferenceRun, reference_of}
 
 -- steps of the machine on an input from its first state on, in any order of the threads
-pub record IsRecorded (r : ReferenceRun) : Type 0 where
+pub record IsMachineRun (r : ReferenceRun) : Type 0 where
   pub can : CanRun r.program r.input
   pub last : State
   pub run : IsRun r.gated r.program r.input (initial r.program) r.steps last
 
 -- all decisions together admit the run's own input
 abbrev pub AllAdmitOwn : Type 0
-AllAdmitOwn = (r : ReferenceRun) → IsRecorded r → admits (reference_of r) every r.input ≡ true
+AllAdmitOwn = (r : ReferenceRun) → IsMachineRun r → admits (reference_of r) every r.input ≡ true
 
 -- so do any decisions, where the steps in extents keep to their regions
 abbrev pub AnyAdmitOwn : Type 0
-AnyAdmitOwn = (r : ReferenceRun) → IsRecorded r → ExtentsKeep (reference_of r) → (d : Taken) → admits (reference_of r) d r.input ≡ true
+AnyAdmitOwn = (r : ReferenceRun) → IsMachineRun r → ExtentsKeep (reference_of r) → (d : Taken) → admits (reference_of r) d r.input ≡ true
 
 -- what is known before a step of the registers of its thread's present call, where the step is live, and of the bytes of memory
 -- is, on this input, what the machine had there
@@ -36,4 +36,4 @@ pub record IsTrueOn (input : List ℤ) (x : Seen) : Type 0 where
 
 -- before each step of a run on its own input, under any decisions
 abbrev pub KnownIsTrue : Type 0
-KnownIsTrue = (r : ReferenceRun) → IsRecorded r → ExtentsKeep (reference_of r) → (d : Taken) → AllByRecursion (IsTrueOn r.input) (seen_in (reference_of r) d)
+KnownIsTrue = (r : ReferenceRun) → IsMachineRun r → ExtentsKeep (reference_of r) → (d : Taken) → AllByRecursion (IsTrueOn r.input) (seen_in (reference_of r) d)

@@ -28,7 +28,7 @@ use Rattle.pg_law_order.specs.Schedules.{along}
 use Rattle.pg_law_order.proofs.UnorderedPairs.{ordered_none}
 use Rattle.pg_law_order.proofs.RecordedSchedules.{guides_as, up_to}
 use Rattle.pg_law_order.proofs.ExitsHaveAllTurns.{all_turns, exited, owners_events}
-use Rattle.pg_law_admitted.specs.Recorded.{IsRecording}
+use Rattle.pg_law_admitted.specs.Recorded.{IsOrderedReference}
 use Rattle.pg_law_admitted.proofs.AdmittedGuidedRun.{good_run}
 use Rattle.pg_session_entry.specs.Entries.{EntryParts, IsEntry, IsEntryOfTurns, IsSliced, decisions_of}
 use Rattle.pg_law_order.proofs.FirstEvents.{fronts_same, replies_first, until_replies}
@@ -41,7 +41,7 @@ module _ (p : NumberedProgram) (own : List ℤ) (s : Schedule) (steps : List Ste
   some : (regions : Regions) × AreRegions p (is_gated s.gated) sliced.sums regions
   some = regions_are p (is_gated s.gated) sliced.sums can.program sliced.summaries
 
-  recording_is : IsRecording p own s sliced.sums some.0 steps
+  recording_is : IsOrderedReference p own s sliced.sums some.0 steps
   recording_is = record {
     reference = record { program = can.program; bytes = can.bytes; small = can.small; summaries = sliced.summaries; regions_are = some.1; printed = printed; value = value; exits = exits };
     ordered = ordered;

@@ -12,6 +12,7 @@ use Rattle.pg_run_trace.specs.declared.step.Step.{Step}
 use Rattle.pg_num.specs.declared.limits.TheConstants.{RECORDING_STEP_LIMIT}
 use Rattle.pg_run.specs.declared.outcome.Outcome.{Outcome}
 use Rattle.pg_run.specs.declared.outcome.Outcome.TheVariants as ends
+use Rattle.pg_run.specs.declared.outcome.Refusal.TheVariants as refusals
 use Rattle.pg_run.specs.declared.share.Share.{Share}
 use Rattle.pg_run.specs.State.{State, action_in, initial, next_of}
 use Rattle.pg_run.specs.MachineStep.{Stepped, Did, Trapped, may_act, ready, step}
@@ -92,8 +93,8 @@ deadlocked p q s u None e g h k limit input xs = by e (ap (err_or e) k)
 
     by : (x : Outcome) → deadlock_of p s ≡ x → EndsBy limit p input xs s x
     by (ends.Exit value) i = absurd cc
-    by (ends.Trap name id) i = inr (record { going = g; none_ready = none_ready p s u h; is_trap = sym i })
-    by ends.Budget i = absurd cc
+    by (ends.Refused (refusals.Trap name id)) i = inr (record { going = g; none_ready = none_ready p s u h; is_trap = sym i })
+    by (ends.Refused refusals.Budget) i = absurd cc
 
 pub chosen_ends : (p : NumberedProgram) (q : ℕ) (s : State) (u : Share) (e : Outcome) → chosen p q s u ≡ Err e → (limit : ℕ) (input : List ℤ) (xs : List Step) → EndsBy limit p input xs s e
 unfolding chosen next_share
@@ -120,14 +121,14 @@ EndsWithin n p input r = (length r.trace ≤ n) × EndsBy n p input r.trace r.st
 
 one_more : (n : ℕ) (p : NumberedProgram) (input : List ℤ) (x : Step) (xs : List Step) (z : State) (e : Outcome) → EndsBy n p input xs z e → EndsBy (suc n) p input (x ∷ xs) z e
 one_more n p input x xs z (ends.Exit value) h = h
-one_more n p input x xs z (ends.Trap name id) h = h
-one_more n p input x xs z ends.Budget h = record { all = ap suc h.all; thread = h.thread; is_ready = h.is_ready }
+one_more n p input x xs z (ends.Refused (refusals.Trap name id)) h = h
+one_more n p input x xs z (ends.Refused refusals.Budget) h = record { all = ap suc h.all; thread = h.thread; is_ready = h.is_ready }
 
 pub run_ends : (n : ℕ) (p : NumberedProgram) (input : List ℤ) (q : ℕ) (s : State) (u : Share) → EndsWithin n p input (run n p input q s u)
 unfolding run
 run_ends zero p input q s u = go (chosen p q s u) refl
   where
-    go : (o : Result Share Outcome) → chosen p q s u ≡ o → EndsWithin zero p input (on_chosen s o (λ v. stop s ends.Budget))
+    go : (o : Result Share Outcome) → chosen p q s u ≡ o → EndsWithin zero p input (on_chosen s o (λ v. stop s (ends.Refused refusals.Budget)))
     go (Err e) h = (omega arith, chosen_ends p q s u e h zero input [])
     go (Ok v) h = (omega arith, record { all = refl; thread = v.thread.0; is_ready = chosen_ready p q s u v h })
 run_ends (suc n) p input q s u = go (λ t w. run_ends n p input q t w) (chosen p q s u) refl

@@ -10,6 +10,7 @@ use Rattle.pg_ir.specs.Program.{NumberedProgram}
 use Rattle.pg_run_trace.specs.declared.step.Step.{Step}
 use Rattle.pg_run.specs.declared.outcome.Outcome.{Outcome}
 use Rattle.pg_run.specs.declared.outcome.Outcome.TheVariants as ends
+use Rattle.pg_run.specs.declared.outcome.Refusal.TheVariants as refusals
 use Rattle.pg_run.specs.declared.share.Share.{Share}
 use Rattle.pg_run.specs.State.{State}
 use Rattle.pg_run.specs.MachineStep.{Stepped, Did, Trapped, ready, step}
@@ -114,11 +115,11 @@ step_goes s v (Did x t) ts more e = onto_onto ts (x ∷ []) (more t (record { th
 step_goes s v (Trapped name id) ts more e = absurd cc
 
 pub step_ends : (s : State) (v : Share) (o : Stepped) (name : TrapName) (at : InstrId) (ts : List Step) (more : State → Share → RunResult) → trapped_in o ≡ Some (name, at)
-    → onto ts (on_step s v o more) ≡ record { trace = steps_with ts o; state = state_with s o; end = ends.Trap name at }
+    → onto ts (on_step s v o more) ≡ record { trace = steps_with ts o; state = state_with s o; end = ends.Refused (refusals.Trap name at) }
 step_ends s v (Did x t) name at ts more e = absurd cc
 step_ends s v (Trapped n id) name at ts more e =
     let same : Path (TrapName × InstrId) (n, record { 0 = id }) (name, at) = same_Some _ _ e in
-    onto_stop ts s (ends.Trap n (record { 0 = id })) ∙ ap (λ (x : TrapName × InstrId). record { trace = ts; state = s; end = ends.Trap x.0 x.1 }) same
+    onto_stop ts s (ends.Refused (refusals.Trap n (record { 0 = id }))) ∙ ap (λ (x : TrapName × InstrId). record { trace = ts; state = s; end = ends.Refused (refusals.Trap x.0 x.1) }) same
 
 -- ---- the loop
 

@@ -7,6 +7,7 @@ use Rattle.pg_run_objects.specs.Sync as sync
 use Rattle.pg_run_trace.specs.declared.step.Step.{Step}
 use Rattle.pg_run.specs.declared.outcome.Outcome.{Outcome}
 use Rattle.pg_run.specs.declared.outcome.Outcome.TheVariants as ends
+use Rattle.pg_run.specs.declared.outcome.Refusal.TheVariants as refusals
 use Rattle.pg_run.specs.declared.share.Share.{Share}
 use Rattle.pg_run.specs.State.{State, initial}
 use Rattle.pg_run.specs.MachineStep.{Answered, Stepped, Did, Trapped, answered, ready, settled, step, taken}
@@ -93,7 +94,7 @@ pub run_runs : (n : ℕ) (p : NumberedProgram) (input : List ℤ) (q : ℕ) (s :
 unfolding run takes
 run_runs zero p input q s u = go (chosen p q s u)
   where
-    go : (o : Result Share Outcome) → RunsFrom p input s (on_chosen s o (λ v. stop s ends.Budget))
+    go : (o : Result Share Outcome) → RunsFrom p input s (on_chosen s o (λ v. stop s (ends.Refused refusals.Budget)))
     go (Err e) = refl
     go (Ok v) = refl
 run_runs (suc n) p input q s u = go (λ t w. run_runs n p input q t w) (chosen p q s u) refl

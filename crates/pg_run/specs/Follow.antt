@@ -8,8 +8,6 @@ use Rattle.pg_run_trace.specs.declared.turn.Turn.{Turn}
 use Rattle.pg_run_trace.specs.declared.step.Step.{Step}
 use Rattle.pg_run.specs.declared.guided_end.GuidedEnd.{GuidedEnd}
 use Rattle.pg_run.specs.declared.guided_end.GuidedEnd.TheVariants as ends
-use Rattle.pg_run.specs.declared.guided_follow.FollowEnd.{FollowEnd}
-use Rattle.pg_run.specs.declared.guided_follow.FollowEnd.TheVariants as follow
 use Rattle.pg_run.specs.declared.guided_follow.Followed.{Followed}
 use Rattle.pg_run.specs.declared.guided_follow.Followed.TheVariants as answers
 use Rattle.pg_run.specs.Guided.{GuidedRun, guided_of}
@@ -33,14 +31,8 @@ following r = if nat_lt RECORDING_STEP_LIMIT (length r.trace) then Breaks else r
 unfoldable pub following_of : NumberedProgram → List ℤ → List Turn → List InstrId → Following
 following_of p input turns gated = following (guided_of p input turns gated)
 
--- how an answer reads
-abbrev pub followed_as : Followed → Following
-followed_as (answers.Exit trace output value) = Exits trace.steps output.items value
-followed_as (answers.Strayed k) = Strays k
-followed_as answers.Unfinished = Breaks
-
 -- how an answer with these steps reads
-abbrev pub end_as : FollowEnd → List Step → Following
-end_as (follow.Exit output value) xs = Exits xs output.items value
-end_as (follow.Strayed k) xs = Strays k
-end_as follow.Unfinished xs = Breaks
+abbrev pub followed_as : Followed → List Step → Following
+followed_as (answers.Exit output value) xs = Exits xs output.items value
+followed_as (answers.Strayed k) xs = Strays k
+followed_as answers.Unfinished xs = Breaks

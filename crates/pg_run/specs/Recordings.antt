@@ -8,6 +8,7 @@ use Rattle.pg_run_objects.specs.Sync as sync
 use Rattle.pg_run_trace.specs.declared.step.Step.{Step}
 use Rattle.pg_run.specs.declared.outcome.Outcome.{Outcome}
 use Rattle.pg_run.specs.declared.outcome.Outcome.TheVariants as ends
+use Rattle.pg_run.specs.declared.outcome.Refusal.TheVariants as refusals
 use Rattle.pg_run.specs.MachineStep.{Trapped, ready, step}
 use Rattle.pg_run.specs.Rotation.{deadlock_of}
 use Rattle.pg_run.specs.Runs.{IsRun}
@@ -23,7 +24,7 @@ pub record ReadyTraps (p : NumberedProgram) (input : List ℤ) (z : State) (name
 pub record IsDeadlock (p : NumberedProgram) (z : State) (name : TrapName) (id : InstrId) : Type 0 where
   pub going : sync.over z.sync ≡ false
   pub none_ready : (t : ℕ) → ready p z t ≡ false
-  pub is_trap : ends.Trap name id ≡ deadlock_of p z
+  pub is_trap : ends.Refused (refusals.Trap name id) ≡ deadlock_of p z
 
 -- all steps that a run may have were done, and a thread is ready
 pub record IsSpent (limit : ℕ) (p : NumberedProgram) (xs : List Step) (z : State) : Type 0 where
@@ -34,8 +35,8 @@ pub record IsSpent (limit : ℕ) (p : NumberedProgram) (xs : List Step) (z : Sta
 -- how steps that lead to the state z end, where a run has at most so many steps
 abbrev pub EndsBy : ℕ → NumberedProgram → List ℤ → List Step → State → Outcome → Type 0
 EndsBy limit p input xs z (ends.Exit value) = (sync.over z.sync ≡ true) × (value ≡ exit_value_of z)
-EndsBy limit p input xs z (ends.Trap name id) = ReadyTraps p input z name id ⊎ IsDeadlock p z name id
-EndsBy limit p input xs z ends.Budget = IsSpent limit p xs z
+EndsBy limit p input xs z (ends.Refused (refusals.Trap name id)) = ReadyTraps p input z name id ⊎ IsDeadlock p z name id
+EndsBy limit p input xs z (ends.Refused refusals.Budget) = IsSpent limit p xs z
 
 -- a recording of a program on an input: steps of threads that are ready, one after another from the first state to
 -- the state z, as many as a recording may have at most, and their end

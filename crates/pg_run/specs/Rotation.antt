@@ -8,6 +8,7 @@ use Rattle.pg_run_objects.specs.Sync as sync
 use Rattle.pg_run_trace.specs.declared.step.Step.{Step}
 use Rattle.pg_run.specs.declared.outcome.Outcome.{Outcome}
 use Rattle.pg_run.specs.declared.outcome.Outcome.TheVariants as ends
+use Rattle.pg_run.specs.declared.outcome.Refusal.TheVariants as refusals
 use Rattle.pg_run.specs.declared.share.Share.{Share}
 use Rattle.pg_run.specs.State.{State, initial, exit_value_of, next_of, instr_of}
 use Rattle.pg_run.specs.MachineStep.{Stepped, Did, Trapped, is_ended, ready, step}
@@ -51,7 +52,7 @@ hasnt_ended p s t = not (is_ended (next_of p s t))
 
 -- no thread is ready: the next instruction of the lowest-numbered thread that hasn't ended
 unfoldable pub deadlock_of : NumberedProgram → State → Outcome
-deadlock_of p s = ends.Trap Deadlock (record { 0 = instr_of s (lowest (first_true (hasnt_ended p s) (length s.locals))) })
+deadlock_of p s = ends.Refused (refusals.Trap Deadlock (record { 0 = instr_of s (lowest (first_true (hasnt_ended p s) (length s.locals))) }))
 
 -- ---- the run
 
@@ -79,12 +80,12 @@ on_chosen s (Err e) more = stop s e
 on_chosen s (Ok u) more = more u
 
 abbrev pub on_step : State → Share → Stepped → (State → Share → RunResult) → RunResult
-on_step s u (Trapped name id) more = stop s (ends.Trap name (record { 0 = id }))
+on_step s u (Trapped name id) more = stop s (ends.Refused (refusals.Trap name (record { 0 = id })))
 on_step s u (Did x t) more = onto (x ∷ []) (more t (record { thread = u.thread; left = u.left - 1 }))
 
 -- a run of at most n further steps: after the ends of `chosen` comes the budget, and then a trap
 unfoldable pub run : ℕ → NumberedProgram → List ℤ → ℕ → State → Share → RunResult
-run zero p input q s u = on_chosen s (chosen p q s u) (λ v. stop s ends.Budget)
+run zero p input q s u = on_chosen s (chosen p q s u) (λ v. stop s (ends.Refused refusals.Budget))
 run (suc n) p input q s u = on_chosen s (chosen p q s u) (λ v. on_step s v (step [] p input s v.thread.0) (λ t w. run n p input q t w))
 
 -- thread 0 begins

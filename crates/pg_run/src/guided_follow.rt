@@ -3,7 +3,7 @@
 ghost use Rattle.std.specs.Prelude.{◌≡◌, List, IfOk, OnOk};
 ghost use Rattle.pg_num.specs.declared.limits.TheConstants.{RECORDING_STEP_LIMIT};
 ghost use Rattle.pg_run_trace.specs.declared.step.Step.{Step};
-ghost use Rattle.pg_run.specs.Follow.{end_as, followed_as, following_of, reached};
+ghost use Rattle.pg_run.specs.Follow.{followed_as, following_of, reached};
 
 use crate::gated::Gated;
 use crate::guided::{Stopped, guide_along};
@@ -14,25 +14,9 @@ use pg_num::limits::RECORDING_STEP_LIMIT;
 use pg_run_trace::{Schedule, Trace};
 use std::alloc::{AllocError, Global};
 
-/// What following a schedule gives.
-#[derive(Drop)]
-pub enum Followed {
-    /// The guided run exits: its steps, what it printed, and main's value.
-    Exit {
-        trace: Trace,
-        output: Vec<u8>,
-        value: i32,
-    },
-    /// The guided run strays at this turn.
-    Strayed(u32),
-    /// The guided run ends by a trap or a spent budget, or would take one step more than a recording may
-    /// have.
-    Unfinished,
-}
-
 /// What following a schedule gives beside its steps.
 #[derive(Drop)]
-pub enum FollowEnd {
+pub enum Followed {
     /// The guided run exits: what it printed, and main's value.
     Exit { output: Vec<u8>, value: i32 },
     /// The guided run strays at this turn.
@@ -43,16 +27,16 @@ pub enum FollowEnd {
 }
 
 /// What a guided run of few enough steps gives.
-fn answer(run: Stopped) -> FollowEnd
-    ensures { (xs : List Step) → end_as result xs ≡ reached xs run.state.printed run.turns run.end }
+fn answer(run: Stopped) -> Followed
+    ensures { (xs : List Step) → followed_as result xs ≡ reached xs run.state.printed run.turns run.end }
 {
     match run.end {
-        GuidedEnd::Exit(value) => FollowEnd::Exit {
+        GuidedEnd::Exit(value) => Followed::Exit {
             output: run.state.into_printed(),
             value,
         },
-        GuidedEnd::Strayed => FollowEnd::Strayed(run.turns),
-        _ => FollowEnd::Unfinished,
+        GuidedEnd::Strayed => Followed::Strayed(run.turns),
+        _ => Followed::Unfinished,
     }
 }
 
@@ -69,9 +53,9 @@ pub fn follow_into(
     input: &[i64],
     s: &Schedule,
     trace: &mut Trace,
-) -> Result<FollowEnd, AllocError>
+) -> Result<Followed, AllocError>
     requires room { trace.old.room ≡ RECORDING_STEP_LIMIT }
-    ensures followed { IfOk result (λ f. end_as f trace.new.steps ≡ following_of p.now input.now s.now.turns s.now.gated) }
+    ensures followed { IfOk result (λ f. followed_as f trace.new.steps ≡ following_of p.now input.now s.now.turns s.now.gated) }
     ensures room { trace.new.room ≡ RECORDING_STEP_LIMIT }
 {
     let gated = Gated::new(alloc, p, s.gated.as_slice())?;
@@ -84,22 +68,7 @@ pub fn follow_into(
     trace.clear();
     match guide_along(&run, s.turns.as_slice(), trace, true)? {
         Some(stopped) => Ok(answer(stopped)),
-        None => Ok(FollowEnd::Unfinished),
-    }
-}
-
-/// What following gives, with its steps.
-fn with_trace(end: FollowEnd, trace: Trace) -> Followed
-    ensures { followed_as result ≡ end_as end trace.steps }
-{
-    match end {
-        FollowEnd::Exit { output, value } => Followed::Exit {
-            trace,
-            output,
-            value,
-        },
-        FollowEnd::Strayed(turns) => Followed::Strayed(turns),
-        FollowEnd::Unfinished => Followed::Unfinished,
+        None => Ok(Followed::Unfinished),
     }
 }
 
@@ -115,10 +84,10 @@ pub fn follow(
     p: &Program,
     input: &[i64],
     s: &Schedule,
-) -> Result<Followed, AllocError>
-    ensures followed { IfOk result (λ f. followed_as f ≡ following_of p.now input.now s.now.turns s.now.gated) }
+) -> Result<(Followed, Trace), AllocError>
+    ensures followed { IfOk result (λ f. followed_as f.0 f.1.steps ≡ following_of p.now input.now s.now.turns s.now.gated) }
 {
     let mut trace = Trace::with_room(alloc, RECORDING_STEP_LIMIT as usize)?;
-    let end = follow_into(alloc, p, input, s, &mut trace)?;
-    Ok(with_trace(end, trace))
+    let followed = follow_into(alloc, p, input, s, &mut trace)?;
+    Ok((followed, trace))
 }

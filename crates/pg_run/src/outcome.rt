@@ -2,13 +2,20 @@
 
 use pg_ir::{InstrId, TrapName};
 
+/// Why a run gives nothing to be used again.
+#[derive(Clone, Copy, Debug, PartialEq, Eq)]
+pub enum Refusal {
+    /// It ended by this trap, at this instruction.
+    Trap(TrapName, InstrId),
+    /// It took all the steps that a recording may take.
+    Budget,
+}
+
 /// How a run ends.
 #[derive(Clone, Copy, Debug, PartialEq, Eq)]
 pub enum Outcome {
     /// The run is over, with main's value.
     Exit(i32),
-    /// A step trapped at this instruction.
-    Trap(TrapName, InstrId),
-    /// The steps of a run were spent.
-    Budget,
+    /// By a trap, or by its last step.
+    Refused(Refusal),
 }

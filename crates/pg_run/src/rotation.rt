@@ -12,7 +12,7 @@ ghost use Rattle.pg_run.specs.Rotation.{around, chosen, deadlock_of, exit_of, fi
 ghost use Rattle.pg_run.specs.Rotation.{stop, RunResult};
 
 use crate::gated::Gated;
-use crate::outcome::Outcome;
+use crate::outcome::{Outcome, Refusal};
 use crate::recording::{record_own, record_step};
 use crate::run::Run;
 use crate::share::Share;
@@ -131,7 +131,7 @@ pub(crate) fn deadlock(state: &MachineState, p: &Program) -> Outcome
         Some(t) => t as u8,
         None => 0,
     };
-    Outcome::Trap(TrapName::Deadlock, state.id(ThreadNo(lowest)))
+    Outcome::Refused(Refusal::Trap(TrapName::Deadlock, state.id(ThreadNo(lowest))))
 }
 
 /// The end where the run is over.
@@ -167,7 +167,7 @@ fn at_limit(state: &MachineState, p: &Program, input: &[i64], q: u32, u: Share) 
     ensures { run_from 0 p.now input.now q state.now u ≡ stop state.now result }
 {
     match choose(state, p, q, u) {
-        Ok(_) => Outcome::Budget,
+        Ok(_) => Outcome::Refused(Refusal::Budget),
         Err(end) => end,
     }
 }
@@ -193,7 +193,7 @@ fn step_of(
     ensures more { OnOk result (length trace.new.steps ≤ length trace.old.steps + 1) }
 {
     match record_step(run, state, trace, u.thread, action)? {
-        Some((name, id)) => Ok(Err(Outcome::Trap(name, id))),
+        Some((name, id)) => Ok(Err(Outcome::Refused(Refusal::Trap(name, id)))),
         None => Ok(Ok(Share {
             thread: u.thread,
             left: u.left - 1,

@@ -4,6 +4,6 @@ use Rattle.pg_session.specs.declared.runner.Recording.{Recording}
 use Rattle.pg_session.specs.declared.runner.Recording.TheVariants.{Kept, Refused}
 use Rattle.pg_session.specs.Sessions.{Runs}
 
-abbrev pub IsRecording : {V : Type 0} → Runs V → List ℤ → Recording V → Type 0
-IsRecording runs input (Kept entry run) = runs.recorded input entry run.output.items run.end
-IsRecording runs input (Refused refusal output) = runs.refused input refusal output.items
+abbrev pub ComesOfRecording : {V : Type 0} → Runs V → List ℤ → Recording V → Type 0
+ComesOfRecording runs input (Kept entry run) = runs.recorded input entry run.output.items run.end
+ComesOfRecording runs input (Refused refusal output) = runs.refused input refusal output.items

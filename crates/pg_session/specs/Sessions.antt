@@ -3,11 +3,10 @@ use Rattle.std.specs.Prelude.{◌≡◌, ℕ, ℤ, Bool, List, [], ◌∷◌, fl
 use Rattle.pg_cache.specs.Kept.{Kept, first_from, oldest, value_of, with_value, nothing}
 use Rattle.pg_num.specs.declared.limits.TheConstants.{CACHE_LIMIT}
 use Rattle.pg_session_texts.specs.declared.reply.ReplyKind.{ReplyKind}
-use Rattle.pg_session_texts.specs.declared.reply.ReplyKind.TheVariants.{Recorded, Reused, RefusedLine, RefusedTrap, RefusedBudget}
+use Rattle.pg_session_texts.specs.declared.reply.ReplyKind.TheVariants.{Recorded, Reused, RefusedLine}
 use Rattle.pg_session_texts.specs.declared.reply.EndLine.{EndLine}
-use Rattle.pg_session_texts.specs.Replies.{reply_text}
-use Rattle.pg_session.specs.declared.runner.Refusal.{Refusal}
-use Rattle.pg_session.specs.declared.runner.Refusal.TheVariants as refusals
+use Rattle.pg_session_texts.specs.Replies.{kind_of, reply_text}
+use Rattle.pg_run.specs.declared.outcome.Refusal.{Refusal}
 
 -- what a session asks of the runs of a program. M is the type of entries
 pub record Runs (M : Type 0) : Type 1 where
@@ -29,10 +28,6 @@ pub record Answer : Type 0 where
 abbrev pub answer_text : Answer → List ℕ
 answer_text a = reply_text a.kind a.output a.end
 
-abbrev pub kind_of : Refusal → ReplyKind
-kind_of (refusals.Trap name id) = RefusedTrap name id
-kind_of refusals.Budget = RefusedBudget
-
 -- the least number of an entry that is kept and admits the input
 abbrev pub found : {M : Type 0} → (M → List ℤ → Bool) → Kept M → List ℤ → Option ℕ
 found admits kept input = first_from (oldest kept) (map (λ m. admits m input) kept.values)
@@ -50,7 +45,7 @@ pub record IsReused {M : Type 0} (admits : M → List ℤ → Bool) (runs : Runs
   pub stays : next ≡ kept
 
 -- no entry admits the input, and recording it gives one: it is kept under the next number
-pub record IsRecorded {M : Type 0} (admits : M → List ℤ → Bool) (runs : Runs M) (kept : Kept M) (input : List ℤ) (answer : Answer) (next : Kept M) : Type 0 where
+pub record IsKeptRecording {M : Type 0} (admits : M → List ℤ → Bool) (runs : Runs M) (kept : Kept M) (input : List ℤ) (answer : Answer) (next : Kept M) : Type 0 where
   pub entry : M
   pub end : EndLine
   pub none : found admits kept input ≡ None
@@ -71,7 +66,7 @@ pub record IsRefused {M : Type 0} (admits : M → List ℤ → Bool) (runs : Run
 -- what is answered to an input, from what is kept, and what is kept then
 pub data Answers {M : Type 0} (admits : M → List ℤ → Bool) (runs : Runs M) (kept : Kept M) (input : List ℤ) (answer : Answer) (next : Kept M) : Type 0 where
   by_reuse : IsReused admits runs kept input answer next → Answers admits runs kept input answer next
-  by_recording : IsRecorded admits runs kept input answer next → Answers admits runs kept input answer next
+  by_recording : IsKeptRecording admits runs kept input answer next → Answers admits runs kept input answer next
   by_refusal : IsRefused admits runs kept input answer next → Answers admits runs kept input answer next
 
 abbrev pub refused_line : Answer

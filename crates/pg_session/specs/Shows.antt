@@ -1,9 +1,9 @@
 -- What `show` writes of an input.
 use Rattle.std.specs.Prelude.{◌≡◌, ℕ, ℤ, List, None}
 use Rattle.pg_session_texts.specs.declared.reply.EndLine.{EndLine}
-use Rattle.pg_session_texts.specs.Replies.{reply_text}
-use Rattle.pg_session.specs.Sessions.{Runs, kind_of}
-use Rattle.pg_session.specs.declared.runner.Refusal.{Refusal}
+use Rattle.pg_session_texts.specs.Replies.{kind_of, reply_text}
+use Rattle.pg_session.specs.Sessions.{Runs}
+use Rattle.pg_run.specs.declared.outcome.Refusal.{Refusal}
 
 -- a recording gives an entry: what is shown of it, with what the run along its schedule printed and how that ended
 pub record ShowsEntry {M : Type 0} (runs : Runs M) (shown : M → List ℕ → EndLine → List ℕ) (input : List ℤ) (text : List ℕ) : Type 0 where

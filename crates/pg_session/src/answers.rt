@@ -3,10 +3,10 @@ ghost use Rattle.std.specs.Prelude.{◌≡◌, ◌≤◌, ◌<◌, ◌-◌, ◌^
 ghost use Rattle.pg_num.specs.declared.limits.TheConstants.{NUMBERS_LIMIT};
 ghost use Rattle.pg_session_texts.specs.Replies.{HasEnd};
 ghost use Rattle.pg_session.specs.Progress.{Stands};
-ghost use Rattle.pg_session.specs.Sessions.{Answers, IsExact, admits_by, found, kind_of};
+ghost use Rattle.pg_session.specs.Sessions.{Answers, IsExact, admits_by, found};
 ghost use Rattle.pg_session.specs.Views.{answer_of};
 
-use crate::runner::{Recording, Refusal, Runner};
+use crate::runner::{Recording, Runner};
 use pg_cache::Cache;
 use pg_session_texts::{EndLine, ReplyKind};
 use std::alloc::{AllocError, Global};
@@ -17,16 +17,6 @@ pub(crate) struct Answer {
     pub(crate) kind: ReplyKind,
     pub(crate) output: Vec<u8>,
     pub(crate) end: Option<EndLine>,
-}
-
-/// The kind of a reply to an input whose recording gives no entry.
-fn refused_kind(refusal: Refusal) -> ReplyKind
-    ensures { result ≡ kind_of refusal }
-{
-    match refusal {
-        Refusal::Trap(name, id) => ReplyKind::RefusedTrap(name, id),
-        Refusal::Budget => ReplyKind::RefusedBudget,
-    }
 }
 
 /// The answer by the entry of this number, which admits the input.
@@ -81,7 +71,7 @@ fn recorded<R: Runner>(
             })
         }
         Recording::Refused(refusal, output) => Ok(Answer {
-            kind: refused_kind(refusal),
+            kind: ReplyKind::from(refusal),
             output,
             end: None,
         }),

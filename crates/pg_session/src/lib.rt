@@ -11,6 +11,6 @@ mod session;
 mod trials;
 
 pub use fault::ServeFault;
-pub use runner::{Recording, Refusal, Run, Runner};
+pub use runner::{Recording, Run, Runner};
 pub use serving::serve;
 pub use trials::trial;

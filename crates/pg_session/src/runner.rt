@@ -2,10 +2,10 @@
 ghost use Rattle.std.specs.Prelude.{◌≡◌, ◌≤◌, true, length, IfOk};
 ghost use Rattle.pg_num.specs.declared.limits.TheConstants.{NUMBERS_LIMIT};
 ghost use Rattle.pg_session.specs.Sessions.{Runs, IsEntryOf};
-ghost use Rattle.pg_session.specs.Recordings.{IsRecording};
+ghost use Rattle.pg_session.specs.Recordings.{ComesOfRecording};
 
 use pg_cache::Admits;
-use pg_ir::{InstrId, TrapName};
+use pg_run::Refusal;
 use pg_session_texts::EndLine;
 use std::alloc::{AllocError, Global};
 
@@ -14,15 +14,6 @@ use std::alloc::{AllocError, Global};
 pub struct Run {
     pub output: Vec<u8>,
     pub end: EndLine,
-}
-
-/// Why a recording gives no entry.
-#[derive(Clone, Copy, Debug, PartialEq, Eq)]
-pub enum Refusal {
-    /// It ended by this trap, at this instruction.
-    Trap(TrapName, InstrId),
-    /// It took all the steps that a recording may take.
-    Budget,
 }
 
 /// What came of recording an input.
@@ -50,7 +41,7 @@ pub trait Runner {
     /// Records a run on an input.
     fn record(&mut self, alloc: Global, input: &[i64]) -> Result<Recording<Self::Entry>, AllocError>
         requires { length input.now ≤ NUMBERS_LIMIT }
-        ensures gives { IfOk result (IsRecording (runs (subject self.old)) input.now) }
+        ensures gives { IfOk result (ComesOfRecording (runs (subject self.old)) input.now) }
         ensures stays { subject self.new ≡ subject self.old };
 
     /// Runs along the schedule of an entry of the same program, which admits the input.

@@ -1,6 +1,7 @@
 -- An entry is put together of what is kept of its guided run.
 use Rattle.std.proofs.Common.{◌≡◌, ℕ, ℤ, List, length, map, true, sym, subst, ◌∙◌, ap}
 use Rattle.std.proofs.lemmas.List.{length-map}
+use Rattle.pg_num.specs.declared.limits.TheConstants.{RECORDING_STEP_LIMIT}
 use Rattle.pg_ir.specs.declared.ids.InstrId.{InstrId}
 use Rattle.pg_ir.specs.Program.{NumberedProgram}
 use Rattle.pg_precondition.specs.Nodes.{Conditions}
@@ -11,14 +12,17 @@ use Rattle.pg_run_trace.specs.declared.turn.Race.{Race}
 use Rattle.pg_run_trace.specs.declared.turn.Turn.{Turn}
 use Rattle.pg_run_trace.specs.Races.{races_of, schedule_by, schedule_of}
 use Rattle.pg_run.specs.declared.outcome.Outcome.{Outcome}
+use Rattle.pg_run.specs.declared.outcome.Outcome.TheVariants as ends
 use Rattle.pg_run.specs.Follow.{Exits, Following, following_of}
 use Rattle.pg_run.specs.Guided.{guided_of}
+use Rattle.pg_run.specs.Recordings.{EndsBy, IsRecording}
 use Rattle.pg_run.specs.Rotation.{RunResult}
 use Rattle.pg_run.specs.State.{State, exit_value_of}
+use Rattle.pg_law_runs.specs.LastTurns.{IsRecorded}
 use Rattle.pg_slice_rules.specs.Sets.{taken}
 use Rattle.pg_session_entry.specs.declared.recorded.Record.{Record}
 use Rattle.pg_session_entry.specs.Entries.{AreOfSet, IsSliced, ServesAlong}
-use Rattle.pg_session_entry.specs.Records.{IsRecord, IsRecording}
+use Rattle.pg_session_entry.specs.Records.{IsRecord}
 
 -- of a copy of the input
 pub serves : (p : NumberedProgram) (steps : List Step) (printed : List ℕ) (value : ℤ) (input : List ℤ) (s : Schedule) (races : List Race)
@@ -54,6 +58,13 @@ along_made p input xs s z same h = subst (λ (r : Schedule). following_of p inpu
 pub recording : (p : NumberedProgram) (input : List ℤ) (run : RunResult) (xs : List Step) (end : Outcome) → xs ≡ run.trace → end ≡ run.end
     → IsRecording p input run.trace run.state run.end → IsRecording p input xs run.state end
 recording p input run xs end a b h = subst (λ (l : List Step). IsRecording p input l run.state end) (sym a) (subst (λ (f : Outcome). IsRecording p input run.trace run.state f) (sym b) h)
+
+-- a recording that exits is one of a run that exits
+pub recorded_of : (p : NumberedProgram) (input : List ℤ) (xs : List Step) (z : State) (end : Outcome) (v : ℤ) → end ≡ ends.Exit v → IsRecording p input xs z end
+    → IsRecorded p input xs z
+recorded_of p input xs z end v e h =
+    let o = subst (EndsBy RECORDING_STEP_LIMIT p input xs z) e h.ends in
+    record { run = h.run; over = o.0; short = h.short }
 
 pub recorded_so : (p : NumberedProgram) (input : List ℤ) (run : RunResult) (xs : List Step) (end : Outcome) (r : Record) → xs ≡ run.trace → end ≡ run.end
     → IsRecord p input (record { trace = xs; state = run.state; end = end }) r → IsRecord p input run r

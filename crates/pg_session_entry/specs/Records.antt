@@ -1,26 +1,25 @@
 -- What comes of recording a run.
-use Rattle.std.specs.Prelude.{◌≡◌, ℤ, List}
+use Rattle.std.specs.Prelude.{◌≡◌, ℕ, ℤ, List}
 use Rattle.pg_ir.specs.Program.{NumberedProgram}
 use Rattle.pg_run_trace.specs.declared.step.Step.{Step}
 use Rattle.pg_run.specs.declared.outcome.Outcome.{Outcome}
 use Rattle.pg_run.specs.declared.outcome.Outcome.TheVariants as ends
+use Rattle.pg_run.specs.Recordings.{IsRecording}
 use Rattle.pg_run.specs.Rotation.{RunResult}
-use Rattle.pg_run.specs.State.{State, exit_value_of}
-use Rattle.pg_law_runs.specs.LastTurns.{IsRecorded}
+use Rattle.pg_run.specs.State.{State}
 use Rattle.pg_session_entry.specs.Entries.{IsEntry}
 use Rattle.pg_session_entry.specs.declared.recorded.Record.{Record}
 use Rattle.pg_session_entry.specs.declared.recorded.Record.TheVariants as records
 
--- where steps that lead to the state z end by an exit, they are a run of the program that exits with this value, in any order of
--- the threads that are ready
-abbrev pub IsRecording : NumberedProgram → List ℤ → List Step → State → Outcome → Type 0
-IsRecording p input xs z end = (value : ℤ) → end ≡ ends.Exit value → IsRecorded p input xs z × (value ≡ exit_value_of z)
-
-abbrev pub IsExit : Outcome → Type 0
-IsExit (ends.Exit value) = Unit {0}
-IsExit end = ⊥
-
 -- the record of this run: where it exits its entry and its value, else its end; and what it printed
 abbrev pub IsRecord : NumberedProgram → List ℤ → RunResult → Record → Type 0
 IsRecord p input run (records.Kept entry output value) = (run.end ≡ ends.Exit value) × (output.items ≡ run.state.printed) × IsEntry p input run.trace run.state entry
-IsRecord p input run (records.Refused end output) = (run.end ≡ end) × (output.items ≡ run.state.printed) × (IsExit end → ⊥)
+IsRecord p input run (records.Refused refusal output) = (run.end ≡ ends.Refused refusal) × (output.items ≡ run.state.printed)
+
+-- a recording of these steps that ends so printed this
+abbrev pub IsPrinted : NumberedProgram → List ℤ → List Step → Outcome → List ℕ → Type 0
+IsPrinted p input xs end printed = (z : State) × IsRecording p input xs z end × (printed ≡ z.printed)
+
+-- so it did, and this is its record
+abbrev pub IsRecordOf : NumberedProgram → List ℤ → List Step → Outcome → List ℕ → Record → Type 0
+IsRecordOf p input xs end printed r = (z : State) × IsRecording p input xs z end × (printed ≡ z.printed) × IsRecord p input (record { trace = xs; state = z; end = end }) r

@@ -1,7 +1,7 @@
 //! What comes of recording a run.
 
 use crate::entry::Entry;
-use pg_run::Outcome;
+use pg_run::Refusal;
 
 /// What comes of recording a run.
 #[derive(Drop)]
@@ -14,7 +14,7 @@ pub enum Record {
     },
     /// The run ends by a trap, or has taken all the steps that a recording may have: its end, and what it printed.
     Refused {
-        end: Outcome,
+        refusal: Refusal,
         output: Vec<u8>,
     },
 }

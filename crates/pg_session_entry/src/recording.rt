@@ -3,21 +3,22 @@ ghost use Rattle.std.specs.Prelude.{◌≡◌, ◌≤◌, ℕ, ℤ, List, IfOk, 
 ghost use Rattle.pg_num.specs.declared.limits.TheConstants.{QUANTUM_LIMIT, RECORDING_STEP_LIMIT};
 ghost use Rattle.pg_run_trace.specs.declared.step.Step.{Step};
 ghost use Rattle.pg_run.specs.Follow.{Exits, following_of};
+ghost use Rattle.pg_run.specs.Recordings.{IsRecording};
 ghost use Rattle.pg_run.specs.Rotation.{rotation_of};
 ghost use Rattle.pg_run.specs.State.{State};
 ghost use Rattle.pg_law_runs.specs.Cuts.{CanRun};
 ghost use Rattle.pg_law_runs.specs.LastTurns.{IsRecorded};
 ghost use Rattle.pg_session_entry.specs.Entries.{IsEntry};
-ghost use Rattle.pg_session_entry.specs.Records.{IsRecord, IsRecording};
+ghost use Rattle.pg_session_entry.specs.Records.{IsPrinted, IsRecord, IsRecordOf};
 
 use crate::entry::Entry;
 use crate::laws::{races_are_at_instructions, the_schedule_of_a_recorded_run_is_followed};
 use crate::recorded::Record;
 use crate::reference::entry_along;
 use pg_ir::Program;
-use pg_law_order::recorded::the_schedule_of_a_rotation_run_is_good;
 use pg_num::limits::RECORDING_STEP_LIMIT;
-use pg_run::{Ended, FollowEnd, Outcome, Recorded, follow_into, rotate_into};
+use pg_run::laws::a_rotation_is_a_run;
+use pg_run::{Ended, Followed, Outcome, Recorded, follow_into, rotate_into};
 use pg_run_trace::{Schedule, Trace};
 use pg_schedule::{hybrid, races};
 use std::alloc::{AllocError, Global};
@@ -36,7 +37,7 @@ fn followed(
         → following_of p.now input.now schedule.now.turns schedule.now.gated ≡ Exits trace.new.steps printed value) }
 {
     match follow_into(alloc, p, input, schedule, trace)? {
-        FollowEnd::Exit { .. } => Ok(()),
+        Followed::Exit { .. } => Ok(()),
         _ => unreachable!(),
     }
 }
@@ -87,19 +88,12 @@ fn record_of(
                 value,
             })
         }
-        Outcome::Trap(name, id) => Ok(Record::Refused {
-            end: Outcome::Trap(name, id),
-            output,
-        }),
-        Outcome::Budget => Ok(Record::Refused {
-            end: Outcome::Budget,
-            output,
-        }),
+        Outcome::Refused(refusal) => Ok(Record::Refused { refusal, output }),
     }
 }
 
-/// The record of a run of a program on an input that was recorded in another way than by `record`, with threads in any order in
-/// which they are ready: where it exits its entry, else its end.
+/// The record of a recording of a program on an input, with threads in any order in which they are ready: where it exits its
+/// entry, else its end.
 ///
 /// # Errors
 ///
@@ -111,10 +105,9 @@ pub fn from_recorded(
     r: Recorded,
 ) -> Result<Record, AllocError>
     requires can_run { CanRun p.now input.now }
-    requires recording { (z : State) × IsRecording p.now input.now r.trace.steps z r.end }
+    requires recording { IsPrinted p.now input.now r.trace.steps r.end r.output.items }
     requires room { r.trace.room ≡ RECORDING_STEP_LIMIT }
-    ensures { IfOk result (λ k. (z : State) → IsRecording p.now input.now r.trace.steps z r.end → r.output.items ≡ z.printed
-        → IsRecord p.now input.now (record { trace = r.trace.steps; state = z; end = r.end }) k) }
+    ensures { IfOk result (IsRecordOf p.now input.now r.trace.steps r.end r.output.items) }
 {
     let Recorded { trace, output, end } = r;
     let mut trace = trace;
@@ -134,7 +127,7 @@ pub fn record(alloc: Global, p: &Program, input: &[i64], quantum: u32) -> Result
     requires most { quantum ≤ QUANTUM_LIMIT }
     ensures { IfOk result (IsRecord p.now input.now (rotation_of p.now input.now quantum)) }
 {
-    the_schedule_of_a_rotation_run_is_good();
+    a_rotation_is_a_run();
     let mut trace = Trace::with_room(alloc, RECORDING_STEP_LIMIT as usize)?;
     let ended = rotate_into(alloc, p, input, quantum, &mut trace)?;
     let made = record_of(alloc, p, input, &mut trace, ended)?;

@@ -4,7 +4,7 @@ ghost use Rattle.std.specs.Result.{result_err};
 ghost use Rattle.pg_ir.specs.declared.ids.InstrId.{InstrId as AnInstrId};
 ghost use Rattle.pg_run_trace.specs.declared.step.Step.{Step};
 ghost use Rattle.pg_run_trace.specs.Races.{first_unordered};
-ghost use Rattle.pg_run.specs.Follow.{Exits, end_as, following_of};
+ghost use Rattle.pg_run.specs.Follow.{Exits, followed_as, following_of};
 ghost use Rattle.pg_law_runs.specs.Cuts.{CanRun};
 ghost use Rattle.pg_law_reference.specs.Sliceable.{CanBeSliced};
 ghost use Rattle.pg_session_entry.specs.declared.turns.FromFault.TheVariants.{OutOfMemory};
@@ -18,7 +18,7 @@ use pg_ir::{InstrId, Program};
 use pg_law_order::can_run;
 use pg_law_reference::laws::exiting_runs_can_be_sliced;
 use pg_num::limits::RECORDING_STEP_LIMIT;
-use pg_run::{FollowEnd, follow_into};
+use pg_run::{Followed, follow_into};
 use pg_run_trace::{InstrIds, Replies, Schedule, Trace, Turn, Turns};
 use pg_schedule::{is_ordered, races};
 use std::alloc::{AllocError, Global};
@@ -65,15 +65,15 @@ fn schedule_with(
 }
 
 /// What the end of a guided run is a fault of, unless it exits. It takes no memory.
-fn exits(end: FollowEnd) -> Result<(), FromFault>
-    ensures exit { OnOk result ((xs : List Step) → (printed : List ℕ) × (value : ℤ) × (end_as end xs ≡ Exits xs printed value)) }
-    ensures fault { IfErr result (λ e. (xs : List Step) → IsFault e (end_as end xs)) }
-    ensures exact { (xs : List Step) → result_err result ≡ fault_of (end_as end xs) }
+fn exits(end: Followed) -> Result<(), FromFault>
+    ensures exit { OnOk result ((xs : List Step) → (printed : List ℕ) × (value : ℤ) × (followed_as end xs ≡ Exits xs printed value)) }
+    ensures fault { IfErr result (λ e. (xs : List Step) → IsFault e (followed_as end xs)) }
+    ensures exact { (xs : List Step) → result_err result ≡ fault_of (followed_as end xs) }
 {
     match end {
-        FollowEnd::Exit { .. } => Ok(()),
-        FollowEnd::Strayed(turn) => Err(FromFault::Strayed(turn)),
-        FollowEnd::Unfinished => Err(FromFault::Unfinished),
+        Followed::Exit { .. } => Ok(()),
+        Followed::Strayed(turn) => Err(FromFault::Strayed(turn)),
+        Followed::Unfinished => Err(FromFault::Unfinished),
     }
 }
 

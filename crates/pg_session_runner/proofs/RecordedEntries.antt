@@ -5,9 +5,10 @@ use Rattle.std.proofs.lemmas.List.Sums.{sum_by-cons}
 use Rattle.pg_cache.specs.Kept.{Kept}
 use Rattle.pg_session_texts.specs.declared.reply.ReplyKind.{ReplyKind}
 use Rattle.pg_session_texts.specs.declared.reply.ReplyKind.TheVariants.{Recorded, Reused, RefusedLine}
-use Rattle.pg_session.specs.declared.runner.Refusal.{Refusal}
-use Rattle.pg_session.specs.declared.runner.Refusal.TheVariants as refusals
-use Rattle.pg_session.specs.Sessions.{Answer, AnswersAll, AnswersLine, Runs, by_recording, by_refusal, by_reuse, kind_of}
+use Rattle.pg_run.specs.declared.outcome.Refusal.{Refusal}
+use Rattle.pg_run.specs.declared.outcome.Refusal.TheVariants as refusals
+use Rattle.pg_session_texts.specs.Replies.{kind_of}
+use Rattle.pg_session.specs.Sessions.{Answer, AnswersAll, AnswersLine, Runs, by_recording, by_refusal, by_reuse}
 use Rattle.pg_session_runner.proofs.ReusedEntries.{Replied, inserts, is_new, none_answered, replied_behind, same_value, told_so}
 
 same_number : (m n : ℕ) → Path ReplyKind (Recorded m) (Recorded n) → m ≡ n

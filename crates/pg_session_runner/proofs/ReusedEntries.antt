@@ -7,9 +7,10 @@ use Rattle.pg_cache.specs.Kept.{Kept, value_of}
 use Rattle.pg_session_texts.specs.declared.reply.EndLine.{EndLine}
 use Rattle.pg_session_texts.specs.declared.reply.ReplyKind.{ReplyKind}
 use Rattle.pg_session_texts.specs.declared.reply.ReplyKind.TheVariants.{Recorded, Reused, RefusedLine}
-use Rattle.pg_session.specs.declared.runner.Refusal.{Refusal}
-use Rattle.pg_session.specs.declared.runner.Refusal.TheVariants as refusals
-use Rattle.pg_session.specs.Sessions.{Answer, AnswersAll, AnswersLine, Runs, by_recording, by_refusal, by_reuse, kind_of}
+use Rattle.pg_run.specs.declared.outcome.Refusal.{Refusal}
+use Rattle.pg_run.specs.declared.outcome.Refusal.TheVariants as refusals
+use Rattle.pg_session_texts.specs.Replies.{kind_of}
+use Rattle.pg_session.specs.Sessions.{Answer, AnswersAll, AnswersLine, Runs, by_recording, by_refusal, by_reuse}
 use Rattle.pg_session.specs.Trials.{is_recorded}
 use Rattle.pg_session.proofs.KeptEntries.{kept_value}
 use Rattle.pg_session_runner.proofs.KeptInsertions.{Fits, fits_with, value_with}

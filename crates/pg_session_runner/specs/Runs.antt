@@ -5,7 +5,6 @@ use Rattle.pg_ir.specs.Program.{NumberedProgram}
 use Rattle.pg_precondition.specs.Values.{is_admitted}
 use Rattle.pg_run.specs.declared.guided_end.GuidedEnd.{GuidedEnd}
 use Rattle.pg_run.specs.declared.guided_end.GuidedEnd.TheVariants as guided
-use Rattle.pg_run.specs.declared.outcome.Outcome.{Outcome}
 use Rattle.pg_run.specs.declared.outcome.Outcome.TheVariants as outcomes
 use Rattle.pg_run.specs.Rotation.{rotation_of}
 use Rattle.pg_law_runs.specs.Cuts.{CanRun}
@@ -14,8 +13,7 @@ use Rattle.pg_session_texts.specs.declared.reply.EndLine.TheVariants as ends
 use Rattle.pg_session_texts.specs.Shows.{show_text}
 use Rattle.pg_session_entry.specs.Entries.{EntryParts, IsEntry}
 use Rattle.pg_law_order.specs.Served.{IsServed, guided_along}
-use Rattle.pg_session.specs.declared.runner.Refusal.{Refusal}
-use Rattle.pg_session.specs.declared.runner.Refusal.TheVariants as refusals
+use Rattle.pg_run.specs.declared.outcome.Refusal.{Refusal}
 use Rattle.pg_session.specs.Sessions.{Runs}
 
 -- ---- recording
@@ -32,14 +30,9 @@ pub record IsKept (p : NumberedProgram) (quantum : ℕ) (input : List ℤ) (entr
   -- has printed the same and ends in the same way
   pub served : IsServed p input entry.schedule
 
--- how a run ends that isn't kept
-abbrev pub outcome_of : Refusal → Outcome
-outcome_of (refusals.Trap name id) = outcomes.Trap name id
-outcome_of refusals.Budget = outcomes.Budget
-
 -- the rotation run of the program on the input ends so, and this is what it printed
 pub record IsNotKept (p : NumberedProgram) (quantum : ℕ) (input : List ℤ) (refusal : Refusal) (output : List ℕ) : Type 0 where
-  pub ends : (rotation_of p input quantum).end ≡ outcome_of refusal
+  pub ends : (rotation_of p input quantum).end ≡ outcomes.Refused refusal
   pub printed : output ≡ (rotation_of p input quantum).state.printed
 
 -- ---- runs along an entry's schedule

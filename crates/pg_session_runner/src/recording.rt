@@ -2,31 +2,17 @@
 ghost use Rattle.std.specs.Prelude.{◌≡◌, ◌≤◌, ◌<◌, ◌^◌, length, IfOk};
 ghost use Rattle.pg_num.specs.declared.limits.TheConstants.{QUANTUM_LIMIT};
 ghost use Rattle.pg_law_runs.specs.Cuts.{CanRun};
-ghost use Rattle.pg_session_entry.specs.Records.{IsExit};
-ghost use Rattle.pg_session.specs.Recordings.{IsRecording};
-ghost use Rattle.pg_session_runner.specs.Runs.{outcome_of, runs_of};
+ghost use Rattle.pg_session.specs.Recordings.{ComesOfRecording};
+ghost use Rattle.pg_session_runner.specs.Runs.{runs_of};
 
 use crate::laws::a_recorded_schedule_has_few_turns;
 use pg_ir::Program;
 use pg_law_order::recorded::the_schedule_of_a_rotation_run_is_good;
 use pg_law_reuse::laws::an_entry_serves_what_it_admits;
-use pg_run::Outcome;
-use pg_session::{Recording, Refusal, Run};
+use pg_session::{Recording, Run};
 use pg_session_entry::{Entry, Record, record};
 use pg_session_texts::EndLine;
 use std::alloc::{AllocError, Global};
-
-/// Why a run that doesn't exit isn't kept.
-fn refusal_of(end: Outcome) -> Refusal
-    requires { IsExit end → ⊥ }
-    ensures { outcome_of result ≡ end }
-{
-    match end {
-        Outcome::Trap(name, id) => Refusal::Trap(name, id),
-        Outcome::Budget => Refusal::Budget,
-        Outcome::Exit(_) => unreachable!(),
-    }
-}
 
 /// The end of the run along an entry's schedule that exits with this value: it does all turns.
 fn end_along(entry: &Entry, value: i32) -> EndLine
@@ -52,7 +38,7 @@ pub(crate) fn recorded(
     requires can_run { CanRun p.now input.now }
     requires least { 1 ≤ quantum }
     requires most { quantum ≤ QUANTUM_LIMIT }
-    ensures { IfOk result (IsRecording (runs_of p.now quantum) input.now) }
+    ensures { IfOk result (ComesOfRecording (runs_of p.now quantum) input.now) }
 {
     a_recorded_schedule_has_few_turns();
     the_schedule_of_a_rotation_run_is_good();
@@ -66,6 +52,6 @@ pub(crate) fn recorded(
             let end = end_along(&entry, value);
             Ok(Recording::Kept(entry, Run { output, end }))
         }
-        Record::Refused { end, output } => Ok(Recording::Refused(refusal_of(end), output)),
+        Record::Refused { refusal, output } => Ok(Recording::Refused(refusal, output)),
     }
 }

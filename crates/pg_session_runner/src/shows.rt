@@ -1,13 +1,13 @@
 //! What is shown of the recording of an input.
 ghost use Rattle.std.specs.Prelude.{◌≡◌, ◌≤◌, ◌<◌, length, All, IfOk, None};
 ghost use Rattle.pg_num.specs.declared.limits.TheConstants.{NUMBERS_LIMIT};
-ghost use Rattle.pg_session_texts.specs.Replies.{reply_text};
-ghost use Rattle.pg_session.specs.Sessions.{kind_of};
+ghost use Rattle.pg_session_texts.specs.Replies.{kind_of, reply_text};
 ghost use Rattle.pg_session.specs.Shows.{IsShowText};
 ghost use Rattle.pg_session_runner.specs.Runs.{exit_value, runs_of, shown};
 
 use crate::runner::ProgramRunner;
-use pg_session::{Recording, Refusal, Run, Runner};
+use pg_run::Refusal;
+use pg_session::{Recording, Run, Runner};
 use pg_session_entry::Entry;
 use pg_session_texts::{EndLine, ReplyKind, reply_text, show_text};
 use std::alloc::{AllocError, Global};
@@ -40,21 +40,11 @@ fn entry_text(alloc: Global, entry: &Entry, run: &Run) -> Result<Vec<u8>, AllocE
     )
 }
 
-/// The kind of a reply to an input that isn't kept.
-fn kind_of(refusal: Refusal) -> ReplyKind
-    ensures { result ≡ kind_of refusal }
-{
-    match refusal {
-        Refusal::Trap(name, id) => ReplyKind::RefusedTrap(name, id),
-        Refusal::Budget => ReplyKind::RefusedBudget,
-    }
-}
-
 /// The reply to an input that isn't kept, of which this was printed.
 fn refusal_text(alloc: Global, refusal: Refusal, output: &[u8]) -> Result<Vec<u8>, AllocError>
     ensures { IfOk result (λ text. text.items ≡ reply_text (kind_of refusal) output.now None) }
 {
-    reply_text(alloc, &kind_of(refusal), output, None)
+    reply_text(alloc, &ReplyKind::from(refusal), output, None)
 }
 
 /// What a session would record of an input as its first line: the turns, the races, the decisions, what was printed, and the end;

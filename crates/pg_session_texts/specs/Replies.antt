@@ -2,10 +2,17 @@
 use Rattle.std.specs.Prelude.{◌≡◌, ℕ, Bool, true, false, List, [], ◌++◌, codes, Option, Some, None, is_some}
 use Rattle.std.specs.Fmt.{decimal, signed_decimal}
 use Rattle.pg_ir.specs.TrapNames.{trap_text}
+use Rattle.pg_run.specs.declared.outcome.Refusal.{Refusal}
+use Rattle.pg_run.specs.declared.outcome.Refusal.TheVariants as refusals
 use Rattle.pg_session_texts.specs.declared.reply.ReplyKind.{ReplyKind}
 use Rattle.pg_session_texts.specs.declared.reply.ReplyKind.TheVariants.{Recorded, Reused, RefusedLine, RefusedTrap, RefusedBudget}
 use Rattle.pg_session_texts.specs.declared.reply.EndLine.{EndLine}
 use Rattle.pg_session_texts.specs.declared.reply.EndLine.TheVariants.{Exit, Trap, Budget}
+
+-- the kind of the reply to an input whose recording gives no entry
+abbrev pub kind_of : Refusal → ReplyKind
+kind_of (refusals.Trap name id) = RefusedTrap name id
+kind_of refusals.Budget = RefusedBudget
 
 -- what came of the line of input
 abbrev pub reply_line : ReplyKind → List ℕ

@@ -1,9 +1,10 @@
 //! What is said of one line of input.
 ghost use Rattle.std.specs.Prelude.{◌≡◌, IfOk, OnOk, ◌++◌, string_bytes};
 ghost use Rattle.std.specs.Option.{option_map};
-ghost use Rattle.pg_session_texts.specs.Replies.{HasEnd, end_line, end_text, reply_line, reply_text};
+ghost use Rattle.pg_session_texts.specs.Replies.{HasEnd, end_line, end_text, kind_of, reply_line, reply_text};
 
 use pg_ir::{InstrId, ThreadNo, TrapName};
+use pg_run::Refusal;
 use std::alloc::{AllocError, Global};
 
 /// What came of a line of input.
@@ -19,6 +20,17 @@ pub enum ReplyKind {
     RefusedTrap(TrapName, InstrId),
     /// Its recording took all the steps that one may take.
     RefusedBudget,
+}
+
+impl From<Refusal> for ReplyKind {
+    ghost from_gives = { λ r kind. kind ≡ kind_of r };
+
+    fn from(refusal: Refusal) -> ReplyKind {
+        match refusal {
+            Refusal::Trap(name, id) => ReplyKind::RefusedTrap(name, id),
+            Refusal::Budget => ReplyKind::RefusedBudget,
+        }
+    }
 }
 
 /// How a run along a schedule ended, and after how many turns.

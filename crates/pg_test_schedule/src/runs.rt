@@ -56,9 +56,10 @@ fn the_run_along_its_schedule_is_ordered(rt: HostRuntime) -> Result<(), Fail> {
     let found = races(alloc, &run.trace)?;
     let s = hybrid(alloc, &run.trace, found.as_slice())?;
     let p = Sample::RacingStores.program(alloc)?;
-    match &follow(alloc, &p, &[0], &s)? {
-        Followed::Exit { trace, .. } => {
-            assert_eq!(rt; is_ordered(alloc, trace)?, None);
+    let (followed, trace) = follow(alloc, &p, &[0], &s)?;
+    match &followed {
+        Followed::Exit { .. } => {
+            assert_eq!(rt; is_ordered(alloc, &trace)?, None);
             Ok(())
         }
         _ => Err("no exit".into()),

@@ -32,7 +32,7 @@ fn racing_schedule(alloc: Global) -> Result<Schedule, AllocError> {
 }
 
 /// The run of the racing stores along a schedule.
-fn raced(alloc: Global, s: &Schedule) -> Result<Followed, Fail> {
+fn raced(alloc: Global, s: &Schedule) -> Result<(Followed, Trace), Fail> {
     let p = Sample::RacingStores.program(alloc)?;
     Ok(follow(alloc, &p, &[0], s)?)
 }
@@ -47,16 +47,12 @@ fn expect_turns(rt: &impl Abort, alloc: Global, trace: &Trace, turns: &[Turn]) -
 #[test]
 fn a_run_with_its_trace(rt: HostRuntime) -> Result<(), Fail> {
     let s = racing_schedule(rt.alloc())?;
-    let run = raced(rt.alloc(), &s)?;
+    let (run, trace) = raced(rt.alloc(), &s)?;
     match &run {
-        Followed::Exit {
-            trace,
-            output,
-            value,
-        } => {
+        Followed::Exit { output, value } => {
             assert_eq!(rt; output.as_slice(), b"100\n".as_slice());
             assert_eq!(rt; *value, 0);
-            expect_turns(&rt, rt.alloc(), trace, s.turns.as_slice())
+            expect_turns(&rt, rt.alloc(), &trace, s.turns.as_slice())
         }
         _ => Err("no exit".into()),
     }
@@ -71,7 +67,8 @@ fn followed(
 ) -> Result<Followed, Fail> {
     let p = sample.program(alloc)?;
     let s = recorded(alloc, &p, &[], 100, kept, then)?;
-    Ok(follow(alloc, &p, &[], &s)?)
+    let (run, _trace) = follow(alloc, &p, &[], &s)?;
+    Ok(run)
 }
 
 #[test]

@@ -6,7 +6,7 @@ ghost use Rattle.pg_num.specs.declared.limits.TheConstants.{QUANTUM_LIMIT};
 use crate::runs::recorded::digits;
 use pg_ir::{InstrId, TrapName};
 use pg_num::limits::QUANTUM_LIMIT;
-use pg_run::{Outcome, Recorded, rotate};
+use pg_run::{Outcome, Recorded, Refusal, rotate};
 use pg_test_samples::Sample;
 use std::alloc::Global;
 use std::process::Abort;
@@ -46,7 +46,7 @@ const ROWS: [Row; 23] = [
         quantum: 100,
         output: b"",
         events: 1,
-        end: Outcome::Budget,
+        end: Outcome::Refused(Refusal::Budget),
     },
     Row {
         sample: Sample::SkippedBlock,
@@ -54,7 +54,7 @@ const ROWS: [Row; 23] = [
         quantum: 100,
         output: b"",
         events: 1,
-        end: Outcome::Trap(TrapName::Unset, InstrId(3)),
+        end: Outcome::Refused(Refusal::Trap(TrapName::Unset, InstrId(3))),
     },
     Row {
         sample: Sample::Recursion,
@@ -62,7 +62,7 @@ const ROWS: [Row; 23] = [
         quantum: 100,
         output: b"",
         events: 1,
-        end: Outcome::Trap(TrapName::CallDepth, InstrId(0)),
+        end: Outcome::Refused(Refusal::Trap(TrapName::CallDepth, InstrId(0))),
     },
     Row {
         sample: Sample::PlaceByNumber,
@@ -94,7 +94,7 @@ const ROWS: [Row; 23] = [
         quantum: 100,
         output: b"",
         events: 2,
-        end: Outcome::Trap(TrapName::Deadlock, InstrId(1)),
+        end: Outcome::Refused(Refusal::Trap(TrapName::Deadlock, InstrId(1))),
     },
     Row {
         sample: Sample::EmptyBarrier,
@@ -198,7 +198,7 @@ const ROWS: [Row; 23] = [
         quantum: 100,
         output: b"",
         events: 164,
-        end: Outcome::Trap(TrapName::TooManyThreads, InstrId(4)),
+        end: Outcome::Refused(Refusal::Trap(TrapName::TooManyThreads, InstrId(4))),
     },
     Row {
         sample: Sample::FourThreads,

@@ -5,9 +5,9 @@ ghost use Rattle.pg_num.specs.declared.limits.TheConstants.{QUANTUM_LIMIT};
 use pg_cache::Admits;
 use pg_ir::{InstrId, Program, TrapName};
 use pg_law_order::can_run;
-use pg_law_order::recorded::the_schedule_of_a_rotation_run_is_good;
 use pg_num::limits::RECORDING_STEP_LIMIT;
-use pg_run::{Ended, Outcome, Recorded, rotate_into};
+use pg_run::laws::a_rotation_is_a_run;
+use pg_run::{Ended, Recorded, Refusal, rotate_into};
 use pg_run_trace::Trace;
 use pg_session_entry::{Entry, Record, from_recorded, record};
 use pg_test_samples::Sample;
@@ -168,7 +168,7 @@ fn elements_that_may_meet_are_counted(rt: HostRuntime) -> Result<(), Fail> {
 /// The record of a rotation run that is made before.
 fn recorded_before(alloc: Global, p: &Program, input: &[i64]) -> Result<Record, AllocError> {
     can_run(p, input);
-    the_schedule_of_a_rotation_run_is_good();
+    a_rotation_is_a_run();
     let mut trace = Trace::with_room(alloc, RECORDING_STEP_LIMIT as usize)?;
     let ended = rotate_into(alloc, p, input, 100, &mut trace)?;
     let Ended { output, end } = ended;
@@ -176,15 +176,15 @@ fn recorded_before(alloc: Global, p: &Program, input: &[i64]) -> Result<Record, 
     Ok(made)
 }
 
-/// How a run that is refused ended, and what it printed.
-fn refused(made: Record) -> Option<(Outcome, Vec<u8>)> {
+/// Why a run that is refused is, and what it printed.
+fn refused(made: Record) -> Option<(Refusal, Vec<u8>)> {
     match made {
         Record::Kept {
             entry: _entry,
             output: _output,
             value: _value,
         } => None,
-        Record::Refused { end, output } => Some((end, output)),
+        Record::Refused { refusal, output } => Some((refusal, output)),
     }
 }
 
@@ -192,10 +192,10 @@ fn refused(made: Record) -> Option<(Outcome, Vec<u8>)> {
 fn a_trap_is_refused(rt: HostRuntime) -> Result<(), Fail> {
     let p = Sample::LockTwice.program(rt.alloc())?;
     let made = recorded_before(rt.alloc(), &p, &[])?;
-    let Some((end, output)) = refused(made) else {
+    let Some((refusal, output)) = refused(made) else {
         return Err("kept".into());
     };
-    assert_eq!(&rt; end, Outcome::Trap(TrapName::Deadlock, InstrId(1)));
+    assert_eq!(&rt; refusal, Refusal::Trap(TrapName::Deadlock, InstrId(1)));
     assert!(&rt; output.is_empty());
     Ok(())
 }

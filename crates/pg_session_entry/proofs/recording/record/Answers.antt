@@ -9,7 +9,7 @@ record_of-requires-clause-recording c =
     let run = rotation_of p input c.args.quantum in (
       run.state,
       recording p input run c.rotate_into.new.trace.steps c.in_ok-ended.ended.end c.in_ok-ended.ensures.trace c.in_ok-ended.ensures.end
-          (c.the_schedule_of_a_rotation_run_is_good.ensures.recorded p input c.args.quantum),
+          (c.a_rotation_is_a_run.ensures.recording p input c.args.quantum),
     )
 
 pub returns : goal.returns
@@ -18,6 +18,6 @@ returns c =
     let input = c.args.input.now in
     let run = rotation_of p input c.args.quantum in
     let rec = recording p input run c.rotate_into.new.trace.steps c.in_ok-ended.ended.end c.in_ok-ended.ensures.trace c.in_ok-ended.ensures.end
-    (c.the_schedule_of_a_rotation_run_is_good.ensures.recorded p input c.args.quantum) in
+    (c.a_rotation_is_a_run.ensures.recording p input c.args.quantum) in
     recorded_so p input run c.rotate_into.new.trace.steps c.in_ok-ended.ended.end c.in_ok-made.made c.in_ok-ended.ensures.trace c.in_ok-ended.ensures.end
     (c.in_ok-made.ensures run.state rec c.in_ok-ended.ensures.output)

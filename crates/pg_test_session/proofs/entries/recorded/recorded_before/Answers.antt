@@ -9,5 +9,6 @@ from_recorded-requires-clause-recording c =
     let run = rotation_of p input 100 in (
       run.state,
       recording p input run c.rotate_into.new.trace.steps c.in_ok-ended.ended.end c.in_ok-ended.ensures.trace c.in_ok-ended.ensures.end
-          (c.the_schedule_of_a_rotation_run_is_good.ensures.recorded p input 100),
+          (c.a_rotation_is_a_run.ensures.recording p input 100),
+      c.in_ok-ended.ensures.output,
     )
