@@ -3,4 +3,4 @@ use Rattle.pg_run_memory.proofs.memory.zero_parts.Goals as goal
 
 pub invariant_of-result : goal.invariant_of-result
 invariant_of-result c =
-    zero_parts c.in_ok-zeros.field-0 c.in_ok-zeros-2.field-0 c.args.globals c.args.regions c.in_ok-zeros.ensures c.in_ok-zeros-2.ensures c.requires.globals c.requires.regions
+    zero_parts c.in_ok-zeros.field-0 c.in_ok-zeros-2.field-0 c.args.globals c.args.threads c.in_ok-zeros.ensures c.in_ok-zeros-2.ensures c.requires.globals c.requires.threads
