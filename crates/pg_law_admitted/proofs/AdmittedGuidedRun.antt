@@ -180,7 +180,7 @@ module _ (p : NumberedProgram) (recorded_input input : List ℤ) (s : Schedule) 
   pub good_run : IsGoodRun p input s
   good_run = record { arrives = λ e. no_stray (sym end_is ∙ e); ordered = ordered; objects = objects; replies = replies }
 
-  -- ---- by Law A
+  -- ---- by the laws on permitted runs
 
   can : CanRun p input
   can = record { program = o.can.program; bytes = o.can.bytes; small = q.small }
