@@ -1,21 +1,11 @@
 -- A text to be written and the status once it is, for a program text.
-use Rattle.std.specs.Prelude.{◌≡◌, ℕ, ◌⊎◌, List, Option, Some, None}
+use Rattle.std.specs.Prelude.{◌≡◌, ℕ, ◌⊎◌, List, Option}
 use Rattle.std.specs.Io.KnownBytes.{Appends}
 use Rattle.pg_io.specs.Faults.{Rose}
 use Rattle.pg_io.specs.Streams.{AppendsFront}
-use Rattle.pg_io.specs.declared.streams.ReadAllFault.{ReadAllFault}
-use Rattle.pg_io.specs.declared.streams.ReadAllFault.TheVariants as reads
-use Rattle.pg_commands.specs.declared.once.NoReply.{NoReply}
-use Rattle.pg_commands.specs.declared.once.NoReply.TheVariants.{OutOfMemory, ReadFault}
 use Rattle.pg_commands.specs.declared.status.Status.{Status}
 use Rattle.pg_commands.specs.declared.status.Status.TheVariants.{Done, ProgramRefused, WriteFault}
 use Rattle.pg_commands.specs.Texts.{IsRefusalLine}
-
--- why there is no reply where a read gave no text; none where the text is too long, since that has a reply
-abbrev pub unread : ReadAllFault → Option NoReply
-unread reads.Failed = Some ReadFault
-unread reads.TooLong = None
-unread reads.OutOfMemory = Some OutOfMemory
 
 -- this was said of the program, where the text is accepted; else it is the line that refuses the text
 abbrev pub IsReply : (List ℕ → Type 0) → List ℕ → Status → List ℕ → Type 0

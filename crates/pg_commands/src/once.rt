@@ -1,10 +1,10 @@
 //! The command `once`: one run in rotation.
-ghost use Rattle.std.specs.Prelude.{◌≡◌, ◌≤◌, ◌<◌, ◌+◌, ◌⊎◌, ℕ, List, length, Option, IfNone, IfOk, IfSome, IsErrOf, OnOk};
+ghost use Rattle.std.specs.Prelude.{◌≡◌, ◌≤◌, ◌<◌, ◌+◌, ◌⊎◌, ℕ, List, length, Option, IfOk, IfSome, IsErrOf, OnOk};
 ghost use Rattle.pg_io.specs.Faults.{Rose};
 ghost use Rattle.pg_io.specs.Streams.{TakesAtMost};
 ghost use Rattle.pg_num.specs.declared.limits.TheConstants.{PROGRAM_TEXT_LIMIT, QUANTUM_LIMIT};
 ghost use Rattle.pg_commands.specs.Commands.{EndsAs, world};
-ghost use Rattle.pg_commands.specs.Replies.{IsReply, IsReplyStatus, unread};
+ghost use Rattle.pg_commands.specs.Replies.{IsReply, IsReplyStatus};
 ghost use Rattle.pg_commands.specs.Texts.{IsOnceText};
 ghost use Rattle.pg_commands.specs.declared.once.NoReply.TheVariants.{OutOfMemory};
 ghost use Rattle.pg_commands_words.specs.Commands.{once};
@@ -55,20 +55,6 @@ fn reply_to(alloc: Global, text: &[u8], command: &Once) -> Result<Reply, AllocEr
     }
 }
 
-/// Why there is no reply where a read gave no text; none where the text is too long, since that has a reply.
-fn unread(fault: ReadAllFault) -> Option<NoReply>
-    ensures cause { result ≡ unread fault }
-    ensures too_long { IfNone result (fault ≡ ReadAllFault.TooLong) }
-    ensures failed { IfSome result (λ c. c ≡ NoReply.ReadFault → fault ≡ ReadAllFault.Failed) }
-    ensures memory { IfSome result (λ c. c ≡ NoReply.OutOfMemory → fault ≡ ReadAllFault.OutOfMemory) }
-{
-    match fault {
-        ReadAllFault::TooLong => None,
-        ReadAllFault::Failed => Some(NoReply::ReadFault),
-        ReadAllFault::OutOfMemory => Some(NoReply::OutOfMemory),
-    }
-}
-
 /// Reads the program text, and gives the reply to it.
 fn read_reply<S: Source>(alloc: Global, command: &Once, src: &mut S) -> Result<Reply, NoReply>
     requires least { 1 ≤ command.now.quantum }
@@ -84,13 +70,12 @@ fn read_reply<S: Source>(alloc: Global, command: &Once, src: &mut S) -> Result<R
 {
     match read_all(alloc, src, PROGRAM_TEXT_LIMIT) {
         Ok(text) => Ok(reply_to(alloc, &text, command)?),
-        Err(fault) => match unread(fault) {
-            Some(cause) => Err(cause),
-            None => Ok(Reply {
-                status: Status::ProgramRefused,
-                text: too_long_line(alloc)?,
-            }),
-        },
+        Err(ReadAllFault::TooLong) => Ok(Reply {
+            status: Status::ProgramRefused,
+            text: too_long_line(alloc)?,
+        }),
+        Err(ReadAllFault::Failed) => Err(NoReply::ReadFault),
+        Err(ReadAllFault::OutOfMemory) => Err(NoReply::OutOfMemory),
     }
 }
 

@@ -1,9 +1,9 @@
 //! What a program text gives: its program, or the line that refuses it.
-ghost use Rattle.std.specs.Prelude.{◌≡◌, ◌≤◌, ◌<◌, ◌⊎◌, ℕ, List, length, IfNone, IfOk, IfSome, IsErrOf};
+ghost use Rattle.std.specs.Prelude.{◌≡◌, ◌≤◌, ◌<◌, ◌⊎◌, ℕ, List, length, IfOk, IsErrOf};
 ghost use Rattle.pg_io.specs.Faults.{Rose};
 ghost use Rattle.pg_num.specs.declared.limits.TheConstants.{PROGRAM_TEXT_LIMIT};
 ghost use Rattle.pg_commands.specs.Commands.{Fetched};
-ghost use Rattle.pg_commands.specs.Programs.{IsLoaded, unfetched};
+ghost use Rattle.pg_commands.specs.Programs.{IsLoaded};
 ghost use Rattle.pg_commands.specs.Texts.{IsRefusalLine};
 ghost use Rattle.pg_commands.specs.declared.programs.NoProgram.TheVariants.{OutOfMemory};
 
@@ -64,19 +64,6 @@ pub(crate) fn too_long_line(alloc: Global) -> Result<Vec<u8>, AllocError>
     Ok(line)
 }
 
-/// Why there is no program text where a fetch gave none; none where the text is too long, since that is refused.
-fn unfetched(fault: FetchFault) -> Option<NoProgram>
-    ensures cause { result ≡ unfetched fault }
-    ensures too_long { IfNone result (fault ≡ FetchFault.TooLong) }
-    ensures failed { IfSome result (λ c. (c ≡ NoProgram.ShelfFault → fault ≡ FetchFault.Failed) × (fault ≡ FetchFault.Failed → c ≡ NoProgram.ShelfFault)) }
-{
-    match fault {
-        FetchFault::TooLong => None,
-        FetchFault::Failed => Some(NoProgram::ShelfFault),
-        FetchFault::OutOfMemory => Some(NoProgram::OutOfMemory),
-    }
-}
-
 /// What the program text of this name gives.
 pub(crate) fn fetch_program<F: Shelf>(
     alloc: Global,
@@ -90,9 +77,8 @@ pub(crate) fn fetch_program<F: Shelf>(
 {
     match shelf.fetch(alloc, file, PROGRAM_TEXT_LIMIT) {
         Ok(text) => Ok(load(alloc, &text)?),
-        Err(fault) => match unfetched(fault) {
-            Some(cause) => Err(cause),
-            None => Ok(Loaded::Refused(too_long_line(alloc)?)),
-        },
+        Err(FetchFault::TooLong) => Ok(Loaded::Refused(too_long_line(alloc)?)),
+        Err(FetchFault::Failed) => Err(NoProgram::ShelfFault),
+        Err(FetchFault::OutOfMemory) => Err(NoProgram::OutOfMemory),
     }
 }
