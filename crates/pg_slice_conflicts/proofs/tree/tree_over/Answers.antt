@@ -10,8 +10,7 @@ next_level leaves (suc n) count l e h =
     let a : suc n + 1 ≡ suc (suc n) = omega arith in
     let b : suc n + 1 - 2 ≡ n = omega arith in
     let p = pow-succ' 2 (suc n) in
-    let q = pow-succ' 2 n in
-    (
+    let q = pow-succ' 2 n in (
       (let t : 2 * (leaves * 2) ≡ 2 ^ suc (suc n) = omega (arith, e, p, q) in t ∙ ap (λ (k : ℕ). 2 ^ k) (sym a)),
       inr (subst (λ (k : ℕ). 2 ^ k < count) (sym b) (omega (arith, e, q, h))),
     )
