@@ -1,5 +1,5 @@
 //! Live steps that disturb a freeable one, or share the access of a load or a store.
-ghost use Rattle.std.specs.Prelude.{◌≡◌, ◌<◌, ◌+◌, ◌&&◌, true, false, not, nat_lt, IfSome, length, slice_index_or};
+ghost use Rattle.std.specs.Prelude.{◌≡◌, ◌<◌, ◌&&◌, true, false, not, nat_lt, IfSome, length, slice_index_or};
 ghost use Rattle.pg_slice_rules.specs.Rules as rules;
 ghost use Rattle.pg_schedule.specs.Intervals.{intervals_of};
 ghost use Rattle.pg_schedule.specs.declared.interval.Turns.TheVariants.{Recorded};
@@ -7,7 +7,7 @@ ghost use Rattle.pg_slice_replay.specs.Kept.{step_count};
 ghost use Rattle.pg_slice.specs.Settled.{AreTogether, Disturbs, Shares};
 
 use crate::footprints::{accesses_meet, region_meets};
-use crate::rivals::{Places, Rivals, places_of};
+use crate::rivals::Rivals;
 use pg_run_trace::{Step, StepKind, Trace};
 use pg_schedule::{Interval, interval_at};
 use pg_slice_passes::GivenRun;
@@ -80,15 +80,6 @@ fn shares(t: &Trace, intervals: &[Interval], n: usize, y: usize) -> bool
     accesses_meet(&x, &z)
 }
 
-/// The place behind one that lies before another.
-fn behind(place: u64, to: u64) -> u64
-    requires { place < to }
-    ensures { result ≡ place + 1 }
-{
-    let _end = to;
-    place + 1
-}
-
 /// Whether a step is live and disturbs a freeable one.
 fn is_disturbing(run: &GivenRun, live: &[bool], n: usize, y: usize) -> bool
     requires count { step_count run.now.r.now ≡ length run.now.t.now.steps }
@@ -105,25 +96,26 @@ fn is_disturbing(run: &GivenRun, live: &[bool], n: usize, y: usize) -> bool
     disturbs(run, n, y)
 }
 
-/// A live step among those at these places that disturbs a freeable one.
+/// A live step that may access what begins where a pointer's bounds begin, and that disturbs a freeable one.
 fn disturbing_at(
     rivals: &Rivals,
     run: &GivenRun,
     live: &[bool],
     n: usize,
-    places: Places,
+    word: u64,
 ) -> Option<usize>
     requires count { step_count run.now.r.now ≡ length run.now.t.now.steps }
     requires intervals { run.now.intervals.now ≡ intervals_of Recorded run.now.t.now.steps }
     requires number { n < length run.now.t.now.steps }
     ensures { IfSome result (λ y. (y < length run.now.t.now.steps) × (slice_index_or live.now y false ≡ true) × Disturbs run.now.r.now run.now.t.now.steps n y) }
 {
-    let mut places = places;
-    while let Some(rival) = rivals.first_in(places) {
-        if is_disturbing(run, live, n, rival.step) {
-            return Some(rival.step);
+    for (accessor, step) in rivals.from(word) {
+        if !accessor.begins_at(word) {
+            return None;
         }
-        places.from = behind(rival.place, places.to);
+        if is_disturbing(run, live, n, *step) {
+            return Some(*step);
+        }
     }
     None
 }
@@ -142,7 +134,7 @@ fn disturbing_one(
     ensures { IfSome result (λ y. (y < length run.now.t.now.steps) × (slice_index_or live.now y false ≡ true) × Disturbs run.now.r.now run.now.t.now.steps n y) }
 {
     match run.r.access(n, k) {
-        Some(access) => disturbing_at(rivals, run, live, n, places_of(access.last)),
+        Some(access) => disturbing_at(rivals, run, live, n, access.last),
         None => None,
     }
 }
@@ -190,12 +182,13 @@ pub(crate) fn sharing(
     requires number { n < length t.now.steps }
     ensures { IfSome result (λ y. (y < length t.now.steps) × (slice_index_or live.now y false ≡ true) × Shares t.now.steps n y) }
 {
-    let mut places = places_of(word);
-    while let Some(rival) = rivals.first_in(places) {
-        if is_sharing(t, intervals, live, n, rival.step) {
-            return Some(rival.step);
+    for (accessor, step) in rivals.from(word) {
+        if !accessor.begins_at(word) {
+            return None;
         }
-        places.from = behind(rival.place, places.to);
+        if is_sharing(t, intervals, live, n, *step) {
+            return Some(*step);
+        }
     }
     None
 }

@@ -1,41 +1,30 @@
 //! Steps that may meet another.
-ghost use Rattle.std.specs.Prelude.{◌<◌, ◌≤◌, IfSome};
 
+use pg_ir::ThreadNo;
 use pg_num::unpack;
 use std::alloc::{AllocError, Global};
 use std::collections::BTreeMap;
+use std::collections::btree_map::Range;
 
-/// The last steps so far that may access what lies within bounds: of each thread, and by whether they write.
+/// By what steps are told apart: the granule at which the bounds begin of what they may access, their thread, and whether
+/// they may write.
+#[derive(Clone, Copy, Debug, PartialEq, Eq, PartialOrd, Ord)]
+pub(crate) struct Accessor {
+    start: u32,
+    thread: ThreadNo,
+    writes: bool,
+}
+
+/// The last step so far of each accessor.
 #[derive(Drop)]
 pub(crate) struct Rivals {
-    last: BTreeMap<u64, usize>,
+    last: BTreeMap<Accessor, usize>,
 }
 
-/// Where the steps of a thread stand that may access what lies within bounds, those that write and those that don't.
-fn place(word: u64, thread: u8, writes: bool) -> u64 {
-    (unpack(word).start as u64 * 256 + thread as u64) * 2 + writes as u64
-}
-
-/// A step with its place.
-#[derive(Clone, Copy)]
-pub(crate) struct Rival {
-    pub(crate) place: u64,
-    pub(crate) step: usize,
-}
-
-/// The places from one on to before another.
-#[derive(Clone, Copy)]
-pub(crate) struct Places {
-    pub(crate) from: u64,
-    pub(crate) to: u64,
-}
-
-/// The places of the steps that may access what lies within bounds.
-pub(crate) fn places_of(word: u64) -> Places {
-    let from = place(word, 0, false);
-    Places {
-        from,
-        to: from.saturating_add(512),
+impl Accessor {
+    /// Whether what it may access begins where a pointer's bounds begin.
+    pub(crate) fn begins_at(&self, word: u64) -> bool {
+        self.start == unpack(word).start
     }
 }
 
@@ -47,31 +36,33 @@ impl Rivals {
         }
     }
 
-    /// A step may access what lies within bounds.
+    /// A step may access what lies within a pointer's bounds.
     pub(crate) fn note(
         &mut self,
         word: u64,
-        thread: u8,
+        thread: ThreadNo,
         writes: bool,
         n: usize,
     ) -> Result<(), AllocError> {
-        self.last.insert(place(word, thread, writes), n)?;
+        let start = unpack(word).start;
+        self.last.insert(
+            Accessor {
+                start,
+                thread,
+                writes,
+            },
+            n,
+        )?;
         Ok(())
     }
 
-    /// The first of these steps, if there is one.
-    pub(crate) fn first_in(&self, places: Places) -> Option<Rival>
-        ensures { IfSome result (λ q. (places.from ≤ q.place) × (q.place < places.to)) }
-    {
-        if places.from >= places.to {
-            return None;
-        }
-        match self.last.range(places.from..places.to).next() {
-            Some((place, step)) => Some(Rival {
-                place: *place,
-                step: *step,
-            }),
-            None => None,
-        }
+    /// The steps of the accessors from those on whose bounds begin where a pointer's do.
+    pub(crate) fn from(&self, word: u64) -> Range<'_, Accessor, usize> {
+        let first = Accessor {
+            start: unpack(word).start,
+            thread: ThreadNo(0),
+            writes: false,
+        };
+        self.last.range(first..)
     }
 }

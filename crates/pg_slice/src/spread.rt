@@ -118,7 +118,7 @@ fn note_one(
     k: usize,
 ) -> Result<(), AllocError> {
     if let Some(access) = r.access(n, k) {
-        rivals.note(access.last, step.thread.0, access.writes, n)?;
+        rivals.note(access.last, step.thread, access.writes, n)?;
     }
     Ok(())
 }
@@ -126,7 +126,7 @@ fn note_one(
 /// Notes the bounds of a live step.
 fn note(rivals: &mut Rivals, step: &Step, r: &ReferenceRun, n: usize) -> Result<(), AllocError> {
     if let Some(access) = step.access() {
-        rivals.note(access.pointer, step.thread.0, access.writes, n)?;
+        rivals.note(access.pointer, step.thread, access.writes, n)?;
     }
     for k in 0..r.access_count(n) {
         note_one(rivals, step, r, n, k)?;
